@@ -1,0 +1,11 @@
+pub mod Bank
+pub mod Opcodes
+pub mod Instruction
+pub mod Memory
+pub mod Signals
+pub mod Keys
+pub mod Board
+pub mod Run
+pub mod Pictures
+pub mod Schedule
+pub mod Ranges

@@ -1,0 +1,56 @@
+-- The pictures that the CDP1861 shows in a run (data sheet, "Display"; the places in a frame are this project's profile): 128 lines
+-- of 8 bytes, made of the bytes that the DMA cycles put on the bus.
+use Rattle.std.specs.Prelude.{ℕ, zero, suc, ◌+◌, ◌-◌, ◌*◌, ◌/◌, ◌==◌, ◌&&◌, ◌||◌, not, nat_lt, Bool, true, false, List, [], ◌∷◌, ◌++◌, length, filter, map, replicate}
+use Rattle.std.specs.List.{list_all}
+use Rattle.machine.specs.Board.{Machine, Case, case_of, dma_byte, length_of}
+use Rattle.machine.specs.Board.Case.{Dma}
+
+-- the cycles of a frame
+abbrev pub frame : ℕ
+frame = 262 * 14
+
+-- The cycle of frame m in which its interrupt starts, the first of line 78, and the cycle at which its window has ended, that of the
+-- end of line 207.
+abbrev pub interrupt_at : ℕ → ℕ
+interrupt_at m = frame * m + 78 * 14
+
+abbrev pub window_end : ℕ → ℕ
+window_end m = frame * m + 208 * 14
+
+-- how many windows have ended by a cycle
+abbrev pub windows_ended : ℕ → ℕ
+windows_ended cycle = (cycle + (frame - 208 * 14)) / frame
+
+abbrev pub is_dma : Case → Bool
+is_dma Dma = true
+is_dma _ = false
+
+-- the state makes a DMA cycle in this line, counted since reset
+abbrev pub is_dma_in : ℕ → Machine → Bool
+is_dma_in line b = is_dma (case_of b) && b.cycle / 14 == line
+
+-- eight bytes: those given, followed by 00
+abbrev pub filled : List ℕ → List ℕ
+filled bytes = bytes ++ replicate (8 - length bytes) 0
+
+module _ (rom : List ℕ) (run : List Machine) where
+  -- the bytes of a line: those of its DMA cycles, in order
+  abbrev pub line_bytes : ℕ → List ℕ
+  line_bytes line = filled (map (dma_byte rom) (filter (is_dma_in line) run))
+
+  -- so many lines from this one on
+  abbrev pub lines_from : ℕ → ℕ → List (List ℕ)
+  lines_from line zero = []
+  lines_from line (suc n) = line_bytes line ∷ lines_from (line + 1) n
+
+  -- the picture of frame m: its lines 80 to 207
+  unfoldable pub picture_of : ℕ → List (List ℕ)
+  picture_of m = lines_from (262 * m + 80) 128
+
+  -- the move of a state has a cycle between the interrupt's cycle of frame m and the end of its window
+  abbrev pub is_within : ℕ → Machine → Bool
+  is_within m b = nat_lt b.cycle (window_end m) && nat_lt (interrupt_at m) (b.cycle + length_of rom b)
+
+  -- Frame m has a picture where the display is on in each of these cycles. A move's cycles have the switch that its state has.
+  unfoldable pub is_shown : ℕ → Bool
+  is_shown m = list_all (λ b. b.on || not (is_within m b)) run
