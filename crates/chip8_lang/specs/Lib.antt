@@ -1,0 +1,10 @@
+pub mod Editions
+pub mod Screen
+pub mod Decode
+pub mod State
+pub mod Step
+pub mod Ticks
+pub mod Between
+pub mod Bounds
+pub mod Places
+pub mod Events
