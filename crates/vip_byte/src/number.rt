@@ -1,0 +1,107 @@
+//! Reading a number from a text of digits.
+
+ghost use Rattle.std.specs.Prelude.{◌≡◌, ◌+◌, ◌*◌, ◌≤◌, IfOk, MatchOption};
+ghost use Rattle.std.specs.Option.{SomeIff};
+ghost use Rattle.vip_byte.specs.Number.{decimal_number, hex_number, number};
+
+use thiserror::Error;
+
+/// Why a text is no number, or not one that is asked for.
+#[derive(Clone, Copy, Debug, PartialEq, Eq, Error)]
+pub enum NumFault {
+    /// The text has no bytes.
+    #[error("Empty")]
+    Empty,
+    /// Some byte is no digit of the base; a sign and a blank are none.
+    #[error("BadDigit")]
+    BadDigit,
+    /// All bytes are digits, and the value is above the greatest that is allowed.
+    #[error("TooLarge")]
+    TooLarge,
+}
+
+/// The value of a text of decimal digits, the highest first, of any length and with any number of leading zeros, where it
+/// is at most `most`; else the first fault of `NumFault` in its order.
+pub fn read_decimal(text: &[u8], most: u64) -> Result<u64, NumFault>
+    ensures value { result ≡ decimal_number text.now most }
+    ensures within { IfOk result (λ value. value ≤ most) }
+{
+    read_number(text, 10, most)
+}
+
+/// As `read_decimal` for hexadecimal digits, whose letters may be of either case.
+pub fn read_hex(text: &[u8], most: u64) -> Result<u64, NumFault>
+    ensures value { result ≡ hex_number text.now most }
+    ensures within { IfOk result (λ value. value ≤ most) }
+{
+    read_number(text, 16, most)
+}
+
+// All digits are looked at, also where the value is too large already, since a byte that is no digit comes first.
+fn read_number(text: &[u8], base: u32, most: u64) -> Result<u64, NumFault>
+    requires least_base { 2 ≤ base }
+    requires most_base { base ≤ 36 }
+    ensures value { result ≡ number base text.now most }
+    ensures within { IfOk result (λ value. value ≤ most) }
+{
+    if text.is_empty() {
+        return Err(NumFault::Empty);
+    }
+    let mut value = Some(0);
+    for byte in text {
+        let Some(digit) = char::from(*byte).to_digit(base) else {
+            return Err(NumFault::BadDigit);
+        };
+        value = with_digit(value, base, digit, most);
+    }
+    value.ok_or(NumFault::TooLarge)
+}
+
+// The value with one digit more behind it, where that is at most `most`; none stays none.
+fn with_digit(value: Option<u64>, base: u32, digit: u32, most: u64) -> Option<u64>
+    ensures { MatchOption value (result ≡ None)
+        (λ before. SomeIff result (before * base + digit ≤ most) (before * base + digit)) }
+{
+    let value = value?
+        .checked_mul(u64::from(base))?
+        .checked_add(u64::from(digit))?;
+    if value <= most { Some(value) } else { None }
+}
+
+#[cfg(test)]
+mod tests {
+    use super::*;
+
+    #[test]
+    fn reads_decimal(rt: HostRuntime) {
+        let rows: [(&[u8], u64, Result<u64, NumFault>); 9] = [
+            (b"", 9, Err(NumFault::Empty)),
+            (b"007", 7, Ok(7)),
+            (b"12x", 99, Err(NumFault::BadDigit)),
+            (b"10", 9, Err(NumFault::TooLarge)),
+            (b"+1", 9, Err(NumFault::BadDigit)),
+            (b"a", 99, Err(NumFault::BadDigit)),
+            (b"18446744073709551615", u64::MAX, Ok(u64::MAX)),
+            (b"18446744073709551616", u64::MAX, Err(NumFault::TooLarge)),
+            (b"99999999999999999999x", u64::MAX, Err(NumFault::BadDigit)),
+        ];
+        for (text, most, want) in rows {
+            assert_eq!(rt; read_decimal(text, most), want);
+        }
+    }
+
+    #[test]
+    fn reads_hex(rt: HostRuntime) {
+        let rows: [(&[u8], u64, Result<u64, NumFault>); 6] = [
+            (b"", 9, Err(NumFault::Empty)),
+            (b"00aB", 0xAB, Ok(0xAB)),
+            (b"AB", 0xAA, Err(NumFault::TooLarge)),
+            (b"0g", 0xFF, Err(NumFault::BadDigit)),
+            (b"FFFFFFFFFFFFFFFF", u64::MAX, Ok(u64::MAX)),
+            (b"10000000000000000", u64::MAX, Err(NumFault::TooLarge)),
+        ];
+        for (text, most, want) in rows {
+            assert_eq!(rt; read_hex(text, most), want);
+        }
+    }
+}

@@ -1,0 +1,62 @@
+//! The halves and sums of machine words, and their hexadecimal digits.
+
+ghost use Rattle.std.specs.Prelude.{◌≡◌, ◌+◌, ◌/◌, ◌%◌};
+ghost use Rattle.vip_byte.specs.HexText as text;
+
+/// The high four bits of a byte, as a number below 16.
+pub fn high(byte: u8) -> u8
+    ensures { result ≡ byte / 16 }
+{
+    byte >> 4
+}
+
+/// The low four bits of a byte, as a number below 16.
+pub fn low(byte: u8) -> u8
+    ensures { result ≡ byte % 16 }
+{
+    byte & 0x0F
+}
+
+/// The sum modulo 65536, as the machine's 16-bit registers and addresses add.
+pub fn add16(a: u16, b: u16) -> u16
+    ensures { result ≡ (a + b) % 65536 }
+{
+    a.wrapping_add(b)
+}
+
+/// The two hexadecimal digits of a byte, the highest first, with upper-case letters.
+pub fn hex2(value: u8) -> [u8; 2]
+    ensures { result ≡ text.hex2 value }
+{
+    let mut digits = [0; 2];
+    hex::encode_to_slice([value], &mut digits).unwrap();
+    digits.make_ascii_uppercase();
+    digits
+}
+
+/// The four hexadecimal digits of a word, the highest first, with upper-case letters.
+pub fn hex4(value: u16) -> [u8; 4]
+    ensures { result ≡ text.hex4 value }
+{
+    let [high_byte, low_byte] = value.to_be_bytes();
+    let [first, second] = hex2(high_byte);
+    let [third, fourth] = hex2(low_byte);
+    [first, second, third, fourth]
+}
+
+#[cfg(test)]
+mod tests {
+    use super::*;
+
+    #[test]
+    fn writes_upper_case_digits(rt: HostRuntime) {
+        assert_eq!(rt; hex2(0x0A), *b"0A");
+        assert_eq!(rt; hex4(0xB07F), *b"B07F");
+    }
+
+    #[test]
+    fn takes_halves_and_sums(rt: HostRuntime) {
+        assert_eq!(rt; (high(0xA5), low(0xA5)), (0x0A, 0x05));
+        assert_eq!(rt; add16(0xFFFF, 2), 1);
+    }
+}
