@@ -7,7 +7,7 @@
 #![tactic(auto)]
 
 /// The kinds of instruction of the CDP1802, one for each mnemonic of its data sheet. `Undefined` is opcode 68, which has none.
-#[derive(Clone, Copy)]
+#[derive(Clone, Copy, Debug, PartialEq, Eq)]
 pub enum Kind {
     Idl,
     Ldn,
