@@ -8,3 +8,4 @@ pub mod Between
 pub mod Bounds
 pub mod Places
 pub mod Events
+pub mod View

@@ -1,5 +1,5 @@
 -- Where a language state lies in the machine.
-use Rattle.std.specs.Prelude.{◌≡◌, ℕ, zero, suc, ◌+◌, ◌-◌, ◌*◌, ◌/◌, ◌%◌, ◌≤◌, ◌&&◌, true, false, nat_lt, List, [], ◌∷◌, length, slice_index, slice_range}
+use Rattle.std.specs.Prelude.{min, ◌≡◌, ℕ, zero, suc, ◌+◌, ◌-◌, ◌*◌, ◌/◌, ◌%◌, ◌&&◌, true, false, nat_lt, List, [], ◌∷◌, length, slice_index, slice_range}
 use Rattle.machine.specs.Bank.{word_of, value}
 use Rattle.machine.specs.Board.{Machine}
 use Rattle.chip8_lang.specs.declared.view.Edition.{Edition}
@@ -25,6 +25,10 @@ abbrev pub addresses : List ℕ → ℕ → ℕ → List ℕ
 addresses ram low zero = []
 addresses ram low (suc n) = (slice_index ram (low - 1) * 256 + slice_index ram low) ∷ addresses ram (low - 2) n
 
+-- the most addresses on the stack
+abbrev pub most_addresses : ℕ
+most_addresses = 12
+
 -- The language state that is read off a machine: V0 to VF, game memory, the random byte and the screen lie in RAM; I is RA, pc is R5,
 -- the timers are the halves of R8, n is R9, the tone is Q, and the stack lies above R2.
 unfoldable pub state_of : Edition → Machine → Lang
@@ -33,7 +37,7 @@ state_of e b =
       v = slice_range b.ram (variables e) (variables e + 16);
       i = value b.regs.r.ra;
       pc = value b.regs.r.r5;
-      stack = addresses b.ram (stack_top e) ((stack_top e - value b.regs.r.r2) / 2);
+      stack = addresses b.ram (stack_top e) (min most_addresses ((stack_top e - value b.regs.r.r2) / 2));
       memory = slice_range b.ram memory_start (memory_end e);
       dt = b.regs.r.r8.hi;
       st = b.regs.r.r8.lo;
@@ -43,12 +47,11 @@ state_of e b =
       screen = pixels (rows_of e) (slice_range b.ram (screen_start e) 0x1000);
     }
 
--- The state s lies in the machine, whose main code runs: R2 is two bytes below the top for each address on the stack, of which there are
--- at most 12; the latch is clear, interrupts are enabled, and the processor doesn't idle.
+-- The state s lies in the machine, whose main code runs: R2 is two bytes below the top for each address on the stack;
+-- the latch is clear, interrupts are enabled, and the processor doesn't idle.
 pub record Lies (e : Edition) (b : Machine) (s : Lang) : Type 0 where
   pub is : state_of e b ≡ s
   pub stack : value b.regs.r.r2 + 2 * length s.stack ≡ stack_top e
-  pub depth : length s.stack ≤ 12
   pub latch : b.latch ≡ false
   pub enabled : b.regs.ie ≡ true
   pub awake : b.regs.idle ≡ false
