@@ -1,0 +1,48 @@
+//! The line that names a stop.
+
+ghost use Rattle.std.specs.Prelude.{◌≡◌, ◌+◌, ◌≤◌, ◌++◌, [], length};
+ghost use Rattle.arrayvec.specs.ArrayVec.{array_vec_len};
+ghost use Rattle.vip_text.specs.Stops.{opcode_part, stop_line, stop_name};
+
+use crate::write::put;
+use chip8_lang::{Stop, StopRecord};
+use vip_byte::{Buffer, hex4};
+
+/// Writes the line of a stop into an empty buffer: its name, its opcode where it has one, and its pc.
+pub fn stop_text(stop: &StopRecord, into: &mut Buffer)
+    requires { into.old.items ≡ [] }
+    ensures { into.new.items ≡ stop_line stop.now.stop stop.now.pc stop.now.opcode }
+{
+    put(into, b"stopped ");
+    put(into, name(stop.stop).as_bytes());
+    put_opcode(into, stop.opcode);
+    put(into, b" at ");
+    put(into, &hex4(stop.pc));
+    put(into, b"\n");
+}
+
+fn name(stop: Stop) -> &'static str
+    ensures text { result.now ≡ stop_name stop }
+    ensures len { length result.now ≤ 12 }
+{
+    match stop {
+        Stop::MachineCall => "MachineCall",
+        Stop::Unknown => "Unknown",
+        Stop::FetchOutside => "FetchOutside",
+        Stop::ReadOutside => "ReadOutside",
+        Stop::WriteOutside => "WriteOutside",
+        Stop::StackFull => "StackFull",
+        Stop::StackEmpty => "StackEmpty",
+    }
+}
+
+fn put_opcode(into: &mut Buffer, opcode: Option<u16>)
+    requires { array_vec_len into.old + 5 ≤ 4352 }
+    ensures items { into.new.items ≡ into.old.items ++ opcode_part opcode }
+    ensures len { array_vec_len into.new ≤ array_vec_len into.old + 5 }
+{
+    if let Some(opcode) = opcode {
+        put(into, b" ");
+        put(into, &hex4(opcode));
+    }
+}

@@ -1,0 +1,77 @@
+//! The line of a trace.
+
+ghost use Rattle.std.specs.Prelude.{◌≡◌, ◌+◌, ◌≤◌, ◌++◌, [], length};
+ghost use Rattle.arrayvec.specs.ArrayVec.{array_vec_len};
+ghost use Rattle.chip8_lang.specs.View.{seen};
+ghost use Rattle.vip_text.specs.Traces.{bit_text, opcode_text, time_text, timers_text, trace_line};
+
+use crate::write::{put, put_bytes, put_words};
+use chip8_lang::StateView;
+use itoa::Buffer as Digits;
+use vip_byte::{Buffer, hex2, hex4};
+
+/// Writes the line of a state into an empty buffer, with the count of ticks and the cycle where `with_cycle` asks for them.
+pub fn trace_text(view: &StateView, with_cycle: bool, into: &mut Buffer)
+    requires { into.old.items ≡ [] }
+    ensures { into.new.items ≡ trace_line with_cycle (seen view.now) }
+{
+    put(into, &hex4(view.pc));
+    put(into, b" ");
+    put_opcode(into, view.opcode);
+    put(into, b" V");
+    put_bytes(into, &view.v);
+    put(into, b" I ");
+    put(into, &hex4(view.i));
+    put_timers(into, view);
+    put(into, b" S");
+    put_words(into, view.stack.as_slice());
+    put_time(into, view, with_cycle);
+    put(into, b"\n");
+}
+
+fn put_opcode(into: &mut Buffer, opcode: Option<u16>)
+    requires { array_vec_len into.old + 4 ≤ 4352 }
+    ensures items { into.new.items ≡ into.old.items ++ opcode_text opcode }
+    ensures len { array_vec_len into.new ≤ array_vec_len into.old + 4 }
+{
+    match opcode {
+        Some(opcode) => put(into, &hex4(opcode)),
+        None => put(into, b"----"),
+    }
+}
+
+fn put_bit(into: &mut Buffer, bit: bool)
+    requires { array_vec_len into.old + 1 ≤ 4352 }
+    ensures items { into.new.items ≡ into.old.items ++ bit_text bit }
+    ensures len { array_vec_len into.new ≤ array_vec_len into.old + 1 }
+{
+    put(into, if bit { b"1" } else { b"0" });
+}
+
+fn put_timers(into: &mut Buffer, view: &StateView)
+    requires { array_vec_len into.old + 16 ≤ 4352 }
+    ensures items { into.new.items ≡ into.old.items ++ timers_text (seen view.now) }
+    ensures len { array_vec_len into.new ≤ array_vec_len into.old + 16 }
+{
+    put(into, b" DT ");
+    put(into, &hex2(view.dt));
+    put(into, b" ST ");
+    put(into, &hex2(view.st));
+    put(into, b" Q ");
+    put_bit(into, view.tone);
+}
+
+fn put_time(into: &mut Buffer, view: &StateView, with_cycle: bool)
+    requires { array_vec_len into.old + 51 ≤ 4352 }
+    ensures items { into.new.items ≡ into.old.items ++ time_text with_cycle (seen view.now) }
+    ensures len { array_vec_len into.new ≤ array_vec_len into.old + 51 }
+{
+    if !with_cycle {
+        return;
+    }
+    let mut digits = Digits::new();
+    put(into, b" N ");
+    put(into, &hex4(view.n));
+    put(into, b" AT ");
+    put(into, digits.format(view.cycle).as_bytes());
+}
