@@ -1,0 +1,5 @@
+pub mod Bit
+pub mod Parts
+pub mod Cycle
+pub mod Acts
+pub mod Groups

@@ -1,0 +1,335 @@
+//! What an instruction does after its fetch, by the groups of the data sheet's "Instruction Summary".
+//!
+//! Each function does the rows of its group, with the flags and the memory that the bus has now.
+
+ghost use Rattle.std.specs.Prelude.{◌≡◌, true, false};
+ghost use Rattle.machine.specs.Bank.{value, get, up};
+ghost use Rattle.machine.specs.Instruction.{effect, inputs, at, stepped, branched, long_branched};
+ghost use Rattle.vip_isa.specs.Rows.{IsValid};
+ghost use Rattle.vip_cpu.specs.Groups.{group_of};
+ghost use Rattle.vip_cpu.specs.Acts.{Acts};
+
+use crate::bus::Bus;
+use crate::group::{Group, group_of};
+use crate::registers::Registers;
+use machine::Kind;
+use vip_isa::Op;
+
+/// M(R(X)).
+fn operand<B: Bus>(s: &Registers, bus: &B) -> u8
+    ensures { result ≡ B.byte bus.now (at s.now s.now.x) }
+{
+    bus.read(s.data_pointer())
+}
+
+/// The next byte, and R(P) + 1.
+fn immediate<B: Bus>(s: &mut Registers, bus: &B) -> u8
+    ensures byte { result ≡ B.byte bus.now (at s.old s.old.p) }
+    ensures over { s.new ≡ stepped s.old s.old.p }
+{
+    let byte = bus.read(s.program_counter());
+    s.increment(s.p());
+    byte
+}
+
+fn branch<B: Bus>(s: &mut Registers, bus: &B, taken: bool)
+    ensures { s.new ≡ branched s.old taken (B.byte bus.now (at s.old s.old.p)) }
+{
+    let next = bus.read(s.program_counter());
+    s.branch(taken, next);
+}
+
+fn branch_far<B: Bus>(s: &mut Registers, bus: &B, taken: bool)
+    ensures { s.new ≡ long_branched s.old taken (B.byte bus.now (at s.old s.old.p)) (B.byte bus.now (value (up (get s.old.r s.old.p)))) }
+{
+    let address = s.program_counter();
+    let high = bus.read(address);
+    let low = bus.read(address.wrapping_add(1));
+    s.long_branch(taken, high, low);
+}
+
+fn memory_reference<B: Bus>(s: &mut Registers, bus: &mut B, op: Op)
+    requires valid { IsValid op }
+    requires group { group_of op.kind ≡ Group.Memory }
+    ensures regs { s.new ≡ (effect op.kind op.n s.old (inputs s.old (B.byte bus.old) (B.flags bus.old) 0)).regs }
+    ensures acts { let e = effect op.kind op.n s.old (inputs s.old (B.byte bus.old) (B.flags bus.old) 0) in Acts B.writes B.sends B.receives e 0 bus.old bus.new }
+{
+    match op.kind {
+        Kind::Ldn => {
+            let byte = bus.read(s.r(op.n));
+            s.load(byte);
+        }
+        Kind::Lda => {
+            let byte = bus.read(s.r(op.n));
+            s.increment(op.n);
+            s.load(byte);
+        }
+        Kind::Ldx => {
+            let byte = operand(s, bus);
+            s.load(byte);
+        }
+        Kind::Ldxa => {
+            let byte = operand(s, bus);
+            s.increment(s.x());
+            s.load(byte);
+        }
+        Kind::Ldi => {
+            let byte = immediate(s, bus);
+            s.load(byte);
+        }
+        Kind::Str => bus.write(s.r(op.n), s.d()),
+        Kind::Stxd => {
+            let address = s.data_pointer();
+            s.decrement(s.x());
+            bus.write(address, s.d());
+        }
+        _ => unreachable!(),
+    }
+}
+
+fn register_operation<B: Bus>(s: &mut Registers, bus: &B, op: Op)
+    requires valid { IsValid op }
+    requires group { group_of op.kind ≡ Group.Register }
+    ensures { s.new ≡ (effect op.kind op.n s.old (inputs s.old (B.byte bus.now) (B.flags bus.now) 0)).regs }
+{
+    match op.kind {
+        Kind::Inc => s.increment(op.n),
+        Kind::Dec => s.decrement(op.n),
+        Kind::Irx => s.increment(s.x()),
+        Kind::Glo => s.load(s.low(op.n)),
+        Kind::Plo => s.put_low(op.n),
+        Kind::Ghi => s.load(s.high(op.n)),
+        Kind::Phi => s.put_high(op.n),
+        _ => unreachable!(),
+    }
+}
+
+#[tactic(auto, using(crate::proofs::Words::of_bits))]
+fn logic_operation<B: Bus>(s: &mut Registers, bus: &B, op: Op)
+    requires { group_of op.kind ≡ Group.Logic }
+    ensures { s.new ≡ (effect op.kind op.n s.old (inputs s.old (B.byte bus.now) (B.flags bus.now) 0)).regs }
+{
+    match op.kind {
+        Kind::Or => {
+            let byte = operand(s, bus);
+            s.load(s.d() | byte);
+        }
+        Kind::Ori => {
+            let byte = immediate(s, bus);
+            s.load(s.d() | byte);
+        }
+        Kind::Xor => {
+            let byte = operand(s, bus);
+            s.load(s.d() ^ byte);
+        }
+        Kind::Xri => {
+            let byte = immediate(s, bus);
+            s.load(s.d() ^ byte);
+        }
+        Kind::And => {
+            let byte = operand(s, bus);
+            s.load(s.d() & byte);
+        }
+        Kind::Ani => {
+            let byte = immediate(s, bus);
+            s.load(s.d() & byte);
+        }
+        Kind::Shr => s.shift_right(false),
+        Kind::Shrc => s.shift_right(s.df()),
+        Kind::Shl => s.shift_left(false),
+        Kind::Shlc => s.shift_left(s.df()),
+        _ => unreachable!(),
+    }
+}
+
+#[tactic(auto, using(crate::proofs::Words::of_bits))]
+fn arithmetic_operation<B: Bus>(s: &mut Registers, bus: &B, op: Op)
+    requires { group_of op.kind ≡ Group.Arithmetic }
+    ensures { s.new ≡ (effect op.kind op.n s.old (inputs s.old (B.byte bus.now) (B.flags bus.now) 0)).regs }
+{
+    match op.kind {
+        Kind::Add => {
+            let byte = operand(s, bus);
+            s.add(byte, s.d(), false);
+        }
+        Kind::Adi => {
+            let byte = immediate(s, bus);
+            s.add(s.d(), byte, false);
+        }
+        Kind::Adc => {
+            let byte = operand(s, bus);
+            s.add(byte, s.d(), s.df());
+        }
+        Kind::Adci => {
+            let byte = immediate(s, bus);
+            s.add(byte, s.d(), s.df());
+        }
+        Kind::Sd => {
+            let byte = operand(s, bus);
+            s.subtract(byte, s.d(), false);
+        }
+        Kind::Sdi => {
+            let byte = immediate(s, bus);
+            s.subtract(byte, s.d(), false);
+        }
+        Kind::Sdb => {
+            let byte = operand(s, bus);
+            s.subtract(byte, s.d(), !s.df());
+        }
+        Kind::Sdbi => {
+            let byte = immediate(s, bus);
+            s.subtract(byte, s.d(), !s.df());
+        }
+        Kind::Sm => {
+            let byte = operand(s, bus);
+            s.subtract(s.d(), byte, false);
+        }
+        Kind::Smi => {
+            let byte = immediate(s, bus);
+            s.subtract(s.d(), byte, false);
+        }
+        Kind::Smb => {
+            let byte = operand(s, bus);
+            s.subtract(s.d(), byte, !s.df());
+        }
+        Kind::Smbi => {
+            let byte = immediate(s, bus);
+            s.subtract(s.d(), byte, !s.df());
+        }
+        _ => unreachable!(),
+    }
+}
+
+fn short_branch<B: Bus>(s: &mut Registers, bus: &B, op: Op)
+    requires { group_of op.kind ≡ Group.ShortBranch }
+    ensures { s.new ≡ (effect op.kind op.n s.old (inputs s.old (B.byte bus.now) (B.flags bus.now) 0)).regs }
+{
+    match op.kind {
+        Kind::Br => branch(s, bus, true),
+        Kind::Bz => branch(s, bus, s.d() == 0),
+        Kind::Bnz => branch(s, bus, s.d() != 0),
+        Kind::Bdf => branch(s, bus, s.df()),
+        Kind::Bnf => branch(s, bus, !s.df()),
+        Kind::Bq => branch(s, bus, s.q()),
+        Kind::Bnq => branch(s, bus, !s.q()),
+        Kind::B1 => branch(s, bus, bus.ef(1)),
+        Kind::Bn1 => branch(s, bus, !bus.ef(1)),
+        Kind::B2 => branch(s, bus, bus.ef(2)),
+        Kind::Bn2 => branch(s, bus, !bus.ef(2)),
+        Kind::B3 => branch(s, bus, bus.ef(3)),
+        Kind::Bn3 => branch(s, bus, !bus.ef(3)),
+        Kind::B4 => branch(s, bus, bus.ef(4)),
+        Kind::Bn4 => branch(s, bus, !bus.ef(4)),
+        _ => unreachable!(),
+    }
+}
+
+fn long_branch<B: Bus>(s: &mut Registers, bus: &B, op: Op)
+    requires { group_of op.kind ≡ Group.LongBranch }
+    ensures { s.new ≡ (effect op.kind op.n s.old (inputs s.old (B.byte bus.now) (B.flags bus.now) 0)).regs }
+{
+    match op.kind {
+        Kind::Lbr => branch_far(s, bus, true),
+        Kind::Lbz => branch_far(s, bus, s.d() == 0),
+        Kind::Lbnz => branch_far(s, bus, s.d() != 0),
+        Kind::Lbdf => branch_far(s, bus, s.df()),
+        Kind::Lbnf => branch_far(s, bus, !s.df()),
+        Kind::Lbq => branch_far(s, bus, s.q()),
+        Kind::Lbnq => branch_far(s, bus, !s.q()),
+        _ => unreachable!(),
+    }
+}
+
+fn skip<B: Bus>(s: &mut Registers, bus: &B, op: Op)
+    requires { group_of op.kind ≡ Group.Skip }
+    ensures { s.new ≡ (effect op.kind op.n s.old (inputs s.old (B.byte bus.now) (B.flags bus.now) 0)).regs }
+{
+    match op.kind {
+        Kind::Skp => s.increment(s.p()),
+        Kind::Lskp => s.skip(true),
+        Kind::Lsz => s.skip(s.d() == 0),
+        Kind::Lsnz => s.skip(s.d() != 0),
+        Kind::Lsdf => s.skip(s.df()),
+        Kind::Lsnf => s.skip(!s.df()),
+        Kind::Lsq => s.skip(s.q()),
+        Kind::Lsnq => s.skip(!s.q()),
+        Kind::Lsie => s.skip(s.ie()),
+        _ => unreachable!(),
+    }
+}
+
+fn control<B: Bus>(s: &mut Registers, bus: &mut B, op: Op)
+    requires valid { IsValid op }
+    requires group { group_of op.kind ≡ Group.Control }
+    ensures regs { s.new ≡ (effect op.kind op.n s.old (inputs s.old (B.byte bus.old) (B.flags bus.old) 0)).regs }
+    ensures acts { let e = effect op.kind op.n s.old (inputs s.old (B.byte bus.old) (B.flags bus.old) 0) in Acts B.writes B.sends B.receives e 0 bus.old bus.new }
+{
+    match op.kind {
+        Kind::Idl => s.start_idling(),
+        Kind::Nop | Kind::Undefined => {}
+        Kind::Sep => s.set_p(op.n),
+        Kind::Sex => s.set_x(op.n),
+        Kind::Seq => s.set_q(true),
+        Kind::Req => s.set_q(false),
+        Kind::Sav => bus.write(s.data_pointer(), s.t()),
+        Kind::Mark => {
+            let address = s.r(2);
+            let xp = s.mark();
+            bus.write(address, xp);
+        }
+        Kind::Ret => {
+            let byte = operand(s, bus);
+            s.return_to(byte, true);
+        }
+        Kind::Dis => {
+            let byte = operand(s, bus);
+            s.return_to(byte, false);
+        }
+        _ => unreachable!(),
+    }
+}
+
+/// Answers the byte that INP took from the bus, and 0 for OUT.
+fn input_output<B: Bus>(s: &mut Registers, bus: &mut B, op: Op) -> u8
+    requires valid { IsValid op }
+    requires group { group_of op.kind ≡ Group.InputOutput }
+    ensures regs { s.new ≡ (effect op.kind op.n s.old (inputs s.old (B.byte bus.old) (B.flags bus.old) result)).regs }
+    ensures acts { let e = effect op.kind op.n s.old (inputs s.old (B.byte bus.old) (B.flags bus.old) result) in Acts B.writes B.sends B.receives e result bus.old bus.new }
+{
+    match op.kind {
+        Kind::Out => {
+            let byte = operand(s, bus);
+            s.increment(s.x());
+            bus.out(op.n, byte);
+            0
+        }
+        Kind::Inp => {
+            let address = s.data_pointer();
+            let byte = bus.inp(op.n);
+            s.load(byte);
+            bus.write(address, byte);
+            byte
+        }
+        _ => unreachable!(),
+    }
+}
+
+/// An instruction without its fetch. Answers the byte that INP took from the bus, and 0 for all other instructions.
+pub fn execute<B: Bus>(s: &mut Registers, bus: &mut B, op: Op) -> u8
+    requires { IsValid op }
+    ensures regs { s.new ≡ (effect op.kind op.n s.old (inputs s.old (B.byte bus.old) (B.flags bus.old) result)).regs }
+    ensures acts { let e = effect op.kind op.n s.old (inputs s.old (B.byte bus.old) (B.flags bus.old) result) in Acts B.writes B.sends B.receives e result bus.old bus.new }
+{
+    match group_of(op.kind) {
+        Group::Memory => memory_reference(s, bus, op),
+        Group::Register => register_operation(s, bus, op),
+        Group::Logic => logic_operation(s, bus, op),
+        Group::Arithmetic => arithmetic_operation(s, bus, op),
+        Group::ShortBranch => short_branch(s, bus, op),
+        Group::LongBranch => long_branch(s, bus, op),
+        Group::Skip => skip(s, bus, op),
+        Group::Control => control(s, bus, op),
+        Group::InputOutput => return input_output(s, bus, op),
+    }
+    0
+}
