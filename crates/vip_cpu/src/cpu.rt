@@ -1,6 +1,7 @@
 //! The processor by machine cycles.
 
 ghost use Rattle.std.specs.Prelude.{◌≡◌, ◌<◌, ◌↔◌, ℕ, IsTrue};
+ghost use Rattle.machine.specs.Bank.{get, word_of};
 ghost use Rattle.machine.specs.Instruction.{at, regs_after_reset};
 ghost use Rattle.vip_cpu.specs.Acts.{Acts};
 ghost use Rattle.vip_cpu.specs.Bit.{bit};
@@ -144,7 +145,8 @@ impl Cpu {
     /// R(n), for n below 16.
     pub fn r(&self, n: u8) -> u16
         requires { n < 16 }
-        ensures { result ≡ at self.now.regs n }
+        ensures number { result ≡ at self.now.regs n }
+        ensures word { get self.now.regs.r n ≡ word_of result }
     {
         self.registers.r(n)
     }

@@ -171,6 +171,7 @@ impl Memory {
     pub fn page(&self, high: u8) -> Option<&[u8]>
         ensures there { IsSome result ↔ ((high < 0x10) ⊎ ((0x80 ≤ high) × (high < 0x88))) }
         ensures bytes { IfSome result (λ s. s.now ≡ page_of self.now high) }
+        ensures size { IfSome result (λ s. length s.now ≡ 256) }
     {
         match high {
             0x00..=0x0F => Some(&self.ram[high as usize]),
