@@ -1,0 +1,27 @@
+-- What the processor's calls make of the wires of the board.
+use Rattle.std.specs.Prelude.{ℕ, Option, Some}
+use Rattle.machine.specs.Instruction.{Port}
+use Rattle.machine.specs.Memory.{written}
+use Rattle.machine.specs.Board.{on_after, key_after, latch_after, ram_after}
+use Rattle.vip_board.specs.declared.wires.Wires.{Wires}
+
+-- after an action at a port, and after a write
+abbrev pub after_port : Port → Wires → Wires
+after_port p w =
+    record w {
+      video = record w.video { on = on_after (Some p) w.video.on };
+      key = key_after (Some p) w.key;
+      memory = record w.memory { latch = latch_after (Some p) w.memory.latch };
+    }
+
+abbrev pub after_write : ℕ → ℕ → Wires → Wires
+after_write address value w = record w { memory = record w.memory { ram = written w.memory.latch w.memory.ram address value } }
+
+-- after at most one of each: the write goes by the latch before
+abbrev pub after_calls : Option Port → Option (ℕ × ℕ) → Wires → Wires
+after_calls port write w =
+    record w {
+      video = record w.video { on = on_after port w.video.on };
+      key = key_after port w.key;
+      memory = record w.memory { latch = latch_after port w.memory.latch; ram = ram_after write w.memory.latch w.memory.ram };
+    }

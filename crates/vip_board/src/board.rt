@@ -1,0 +1,185 @@
+//! The board.
+
+ghost use Rattle.std.specs.Prelude.{◌≡◌, ◌+◌, ◌-◌, ◌≤◌, ◌<◌, ◌^◌, ◌↔◌, ℕ, IsTrue, IfOk, length};
+ghost use Rattle.machine.specs.Instruction.{at};
+
+use crate::wires::Wires;
+use std::alloc::{AllocError, Global};
+use std::marker::Model;
+use vip_cpu::{Bus, Cpu, Did, Phase};
+use vip_isa::cycles;
+use vip_memory::Memory;
+use vip_video::Video;
+
+/// A move, the atomic step of the board: one DMA cycle, one interrupt cycle, one idle cycle, or one whole instruction with the address
+/// of its opcode.
+#[derive(Clone, Copy, Debug, PartialEq, Eq)]
+pub enum Move {
+    Dma,
+    Interrupt,
+    Idle,
+    Instruction(u16),
+}
+
+/// What `to_boundary` did: it made a move, or the next move would have ended after the limit.
+#[derive(Clone, Copy, Debug, PartialEq, Eq)]
+pub enum Moved {
+    Done(Move),
+    End,
+}
+
+/// A board with its ROM.
+#[derive(Drop)]
+pub struct Board {
+    cpu: Cpu,
+    wires: Wires,
+}
+
+impl Model for Board {
+    ghost use Rattle.vip_board.specs.Seen.{Seen};
+
+    ghost Value = { Seen };
+
+    ghost view = { λ a. record { machine = record { regs = a.cpu.regs; ram = a.wires.memory.ram; latch = a.wires.memory.latch; on = a.wires.video.on; key = a.wires.key; cycle = a.wires.video.t }; rom = a.wires.memory.rom; phase = a.cpu.phase } };
+}
+
+impl Board {
+    ghost use Rattle.machine.specs.Board.{after_reset};
+    ghost use Rattle.vip_memory.specs.Contents.{loaded};
+    ghost use Rattle.vip_board.specs.Seen.{cycle_of, cycled};
+
+    /// A board after reset, at a boundary, with a ROM of 2,048 bytes.
+    pub fn reset(alloc: Global, rom: &[u8]) -> Result<Board, AllocError>
+        requires { length rom.now ≡ 0x800 }
+        ensures { IfOk result (λ b. b ≡ record { machine = after_reset; rom = rom.now; phase = Phase.Boundary }) }
+    {
+        let memory = Memory::new(alloc, rom)?;
+        let wires = Wires {
+            memory,
+            video: Video::new(),
+            key: 0,
+            efx: false,
+            held: false,
+        };
+        Ok(Board {
+            cpu: Cpu::reset(),
+            wires,
+        })
+    }
+
+    /// Puts bytes into RAM from an address on, whatever the latch is. They have to fit below address 1000.
+    pub fn load(&mut self, address: u16, bytes: &[u8])
+        requires { address + length bytes.now ≤ 0x1000 }
+        ensures { self.new ≡ record self.old { machine = record self.old.machine { ram = loaded self.old.machine.ram address bytes.now } } }
+    {
+        self.wires.memory.load(address, bytes);
+    }
+
+    /// The number of machine cycles since reset.
+    pub fn now(&self) -> u64
+        ensures { result ≡ self.now.machine.cycle }
+    {
+        self.wires.video.now()
+    }
+
+    /// The processor.
+    pub fn cpu(&self) -> &Cpu
+        ensures { result.now ≡ record { regs = self.now.machine.regs; phase = self.now.phase } }
+    {
+        &self.cpu
+    }
+
+    /// The memory.
+    pub fn memory(&self) -> &Memory
+        ensures { result.now ≡ record { ram = self.now.machine.ram; rom = self.now.rom; latch = self.now.machine.latch } }
+    {
+        &self.wires.memory
+    }
+
+    /// One machine cycle, the next one of the move that the board is in or starts. Answers what kind of cycle it was.
+    pub fn cycle(&mut self) -> Did
+        requires { self.old.machine.cycle + 1 < 2 ^ 64 }
+        ensures board { self.new ≡ cycled self.old }
+        ensures did { result ≡ (cycle_of self.old).did }
+    {
+        let signals = self.wires.video.signals();
+        self.wires.efx = signals.efx;
+        self.wires.held = false;
+        let did = self.cpu.cycle(&mut self.wires, signals.dma, signals.int);
+        self.wires.video.end_cycle();
+        did
+    }
+}
+
+impl Board {
+    ghost use Rattle.machine.specs.Board.{move, length_of};
+    ghost use Rattle.vip_board.specs.Seen.{no_keys};
+    ghost use Rattle.vip_board.specs.Moves.{name_of, IfDone, StartsInstruction};
+
+    /// Whether the next move is an instruction. The board is at a boundary.
+    pub fn next_is_instruction(&self) -> bool
+        requires { self.now.phase ≡ Phase.Boundary }
+        ensures { IsTrue result ↔ StartsInstruction self.now.machine }
+    {
+        let signals = self.wires.video.signals();
+        !signals.dma && !(self.cpu.ie() && signals.int) && !self.cpu.idle()
+    }
+
+    /// The address of the next opcode, R(P).
+    fn counter(&self) -> u16
+        ensures { result ≡ at self.now.machine.regs self.now.machine.regs.p }
+    {
+        self.cpu.r(self.cpu.p())
+    }
+
+    /// The machine cycles of the next move.
+    fn next_length(&self) -> u64
+        ensures { result ≡ length_of self.now.rom self.now.machine }
+    {
+        let signals = self.wires.video.signals();
+        if signals.dma || (self.cpu.ie() && signals.int) || self.cpu.idle() {
+            return 1;
+        }
+        u64::from(cycles(self.wires.read(self.counter())))
+    }
+
+    /// Makes the next move, which takes so many cycles, and names it.
+    fn make(&mut self, length: u64) -> Move
+        requires boundary { self.old.phase ≡ Phase.Boundary }
+        requires long { length ≡ length_of self.old.rom self.old.machine }
+        requires fits { self.old.machine.cycle + length < 2 ^ 64 }
+        ensures moved { self.new ≡ record self.old { machine = move self.old.rom no_keys self.old.machine } }
+        ensures named { result ≡ name_of self.old.machine }
+    {
+        let address = self.counter();
+        match self.cycle() {
+            Did::Dma(_) => Move::Dma,
+            Did::Interrupt => Move::Interrupt,
+            Did::Idle => Move::Idle,
+            Did::Fetch => {
+                if length == 3 {
+                    self.cycle();
+                }
+                self.cycle();
+                Move::Instruction(address)
+            }
+            Did::Execute => unreachable!(),
+        }
+    }
+
+    /// Makes the next move and names it, or answers `End` where it would end after cycle `limit` and changes nothing. The board is at a
+    /// boundary, before and after.
+    pub fn to_boundary(&mut self, limit: u64) -> Moved
+        requires { self.old.phase ≡ Phase.Boundary }
+        ensures end { (result ≡ Moved.End) ↔ (limit < self.old.machine.cycle + length_of self.old.rom self.old.machine) }
+        ensures rests { self.new.phase ≡ Phase.Boundary }
+        ensures kept { result ≡ Moved.End → self.new ≡ self.old }
+        ensures moved { IfDone result (λ m. (self.new ≡ record self.old { machine = move self.old.rom no_keys self.old.machine }) × (m ≡ name_of self.old.machine)) }
+    {
+        let length = self.next_length();
+        if length > limit || self.now() > limit - length {
+            return Moved::End;
+        }
+        Moved::Done(self.make(length))
+    }
+}

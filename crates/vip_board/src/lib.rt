@@ -1,0 +1,22 @@
+//! The whole board of the COSMAC VIP, cycle by cycle and move by move (RCA's instruction manual of the COSMAC VIP, "Logic"; ports and
+//! addresses that the manual leaves open are this project's profile).
+//!
+//! ```text
+//!                      ┌───────────┐  EF1 = EFX, INT, DMA out   ┌───────────┐
+//!                      │  CDP1802  │ ◀───────────────────────── │  CDP1861  │  INP 1 on, OUT 1 off
+//!                      └─────┬─────┘                            └───────────┘
+//!     OUT 4 clears           │ bus                  EF3 = the latched key is down
+//!     the boot latch  ┌──────┴──────┐               OUT 2 latches a key
+//!                     │  RAM   ROM  │
+//!                     └─────────────┘
+//! ```
+//!
+//! It stands on the processor, the memory and the video chip, each through its contract alone. The layer above may rely on this: for
+//! every ROM of 2,048 bytes `to_boundary` makes exactly one move of the board as `machine` defines it and names it, or answers that
+//! the move would end after the limit and changes nothing; `cycle` makes the next machine cycle of that move.
+#![tactic(auto)]
+
+mod board;
+mod wires;
+
+pub use board::{Board, Move, Moved};

@@ -1,0 +1,74 @@
+//! What the processor is wired to.
+
+ghost use Rattle.std.specs.Prelude.{◌≡◌};
+
+use vip_cpu::Bus;
+use vip_memory::Memory;
+use vip_video::Video;
+
+/// Memory, the video chip's switch, the latched key, and the flags of the present cycle: EFX, and whether the latched key is down.
+#[derive(Drop)]
+pub struct Wires {
+    pub memory: Memory,
+    pub video: Video,
+    pub key: u8,
+    pub efx: bool,
+    pub held: bool,
+}
+
+impl Bus for Wires {
+    ghost use Rattle.std.specs.Prelude.{◌≡◌};
+    ghost use Rattle.machine.specs.Instruction.Port.{Send, Receive};
+    ghost use Rattle.machine.specs.Memory.{read};
+    ghost use Rattle.machine.specs.Board.{flags_of};
+    ghost use Rattle.vip_board.specs.Wired.{after_port, after_write};
+    ghost use Rattle.vip_board.specs.Laws.{write-keeps, write-puts, receive-keeps};
+
+    ghost byte = { λ w. read w.memory.rom w.memory.latch w.memory.ram };
+
+    ghost flags = { λ w. flags_of w.efx w.held };
+
+    ghost writes = { λ w address value after. after ≡ after_write address value w };
+
+    ghost sends = { λ w port value after. after ≡ after_port (Send port value) w };
+
+    ghost receives = { λ w port value after. (value ≡ 0) × (after ≡ after_port (Receive port) w) };
+
+    ghost write_keeps = { write-keeps };
+
+    ghost write_puts = { write-puts };
+
+    ghost inp_keeps = { receive-keeps };
+
+    fn read(&self, address: u16) -> u8 {
+        self.memory.read(address)
+    }
+
+    fn write(&mut self, address: u16, value: u8) {
+        self.memory.write(address, value);
+    }
+
+    fn out(&mut self, port: u8, value: u8) {
+        match port {
+            1 => self.video.turn(false),
+            2 => self.key = value % 16,
+            4 => self.memory.clear_latch(),
+            _ => {}
+        }
+    }
+
+    fn inp(&mut self, port: u8) -> u8 {
+        if port == 1 {
+            self.video.turn(true);
+        }
+        0
+    }
+
+    fn ef(&self, flag: u8) -> bool {
+        match flag {
+            1 => self.efx,
+            3 => self.held,
+            _ => false,
+        }
+    }
+}
