@@ -65,7 +65,7 @@ module _ {s : Regs} (f : FitsRegs s) where
   reg_fits : (n : ℕ) (w : Word) → FitsWord w → FitsRegs (with_reg s n w)
   reg_fits n w g = record { r = put_fits n s.r w f.r g; d = f.d; df = f.df; p = f.p; x = f.x; t = f.t }
 
-  stepped_fits : (n : ℕ) → FitsRegs (stepped s n)
+  pub stepped_fits : (n : ℕ) → FitsRegs (stepped s n)
   stepped_fits n = reg_fits n (up (get s.r n)) (up_fits (get s.r n))
 
   stepped_back_fits : (n : ℕ) → FitsRegs (stepped_back s n)
