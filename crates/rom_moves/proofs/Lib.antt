@@ -1,0 +1,5 @@
+pub mod Registers
+pub mod Passing
+pub mod Moves
+pub mod Ticks
+pub mod Ranges
