@@ -1,0 +1,287 @@
+-- The rows of a ROM are kept by main moves and by ticks, where each block comes to what it should.
+use Rattle.std.proofs.Common.{◌≡◌, ℕ, zero, suc, ◌+◌, ◌*◌, ◌<◌, ◌≤◌, ◌⊎◌, inl, inr, refl, sym, ◌∙◌, ap, subst, arith, Bool, true, false, T, not, List, [], ◌∷◌, ◌++◌, length}
+use Rattle.std.proofs.lemmas.Bool.{cases_eq}
+use Rattle.machine.specs.Opcodes.{cycles_of}
+use Rattle.machine.specs.Board.{Machine, opcode_of}
+use Rattle.machine.specs.Keys.{Keys}
+use Rattle.machine.specs.Schedule.{Tick}
+use Rattle.machine.specs.Ranges.{FitsMachine, FitsRom}
+use Rattle.chip8_lang.specs.State.{Lang}
+use Rattle.chip8_lang.specs.Ticks.{ticks}
+use Rattle.chip8_lang.specs.Between.{Between}
+use Rattle.rom_moves.specs.Code.{Code, Input, moved, run, is_event}
+use Rattle.rom_moves.specs.Later.{After}
+use Rattle.rom_moves.proofs.Moves.{AllGood, Calm, Fine, quicks, Reaches, reaches_good, reaches_run, reaches_quicks, quicks_are, quicks_idle, quicks_clear, quicks_full, quicks_on, quicks_enabled, after_quick, after_cycles}
+use Rattle.rom_moves.proofs.Ranges.{main_move_fits, tick_fits}
+use Rattle.rom_moves.proofs.Ticks.{after_none}
+use Rattle.rom_moves.proofs.Ticks.{after_tick as later_tick}
+use Rattle.rom_law.specs.Program.{Program, code, Dispatches, Halts}
+use Rattle.rom_law.specs.Rows.{Since, Grows, Ready, Pieces, InBlock, Row, Starts, Ends, Outcome, dispatched, after_main, after_tick, after_ticks}
+use Rattle.rom_law.specs.Rows.Ends.{Continues, Steps, Fails}
+use Rattle.rom_law.specs.Rows.Row.{Inside, Alone}
+use Rattle.rom_law.specs.Rows.Starts.{Enters, Meets}
+use Rattle.rom_law.specs.Rows.Outcome.{Still, Dispatched, Halted}
+use Rattle.rom_law.proofs.Language.{ticks_add, between_ticks}
+use Rattle.rom_law.proofs.Later.{dispatches_after, halts_after}
+
+-- ---- the first of several moves
+
+none : (k : ℕ) → k ≤ 0 → 0 ≡ k
+none k l = omega arith
+
+module _ (x : Code) where
+  -- the first k of m moves
+  prefix : (k m : ℕ) (b : Machine) → k ≤ m → AllGood x m b → AllGood x k b
+  prefix k zero b l g = subst (λ z. AllGood x z b) (none k l) tt
+  prefix k (suc m) b l g = go (cases_eq k (suc m)) (λ e. prefix k m b e g.0)
+    where
+      go : (k ≡ suc m) ⊎ (k ≡ suc m → ⊥) → (k ≤ m → AllGood x k b) → AllGood x k b
+      go (inl e) f = subst (λ z. AllGood x z b) (sym e) g
+      go (inr e) f = f (omega arith)
+
+  pub at_move : (k m : ℕ) (b : Machine) → k < m → AllGood x m b → Fine x (quicks x k b)
+  at_move k m b l g = (prefix (suc k) m b l g).1.0
+
+  -- no event between
+  calm_in : (k m : ℕ) (b : Machine) → suc k < m → AllGood x m b → Calm x (quicks x (suc k) b)
+  calm_in k m b l g = (prefix (suc (suc k)) m b l g).1.1
+
+  run_is : (k m : ℕ) (b : Machine) → k ≤ m → AllGood x m b → quicks x k b ≡ run x k b
+  run_is k m b l g = quicks_are x k b (prefix k m b l g)
+
+  -- a main move of a state after n ticks of the k-th state is one of the next
+  moved_in : (u : Input) (k m n : ℕ) (start b : Machine) → start.latch ≡ false → length start.ram ≡ 4096 → AllGood x m start → k < m → After x.low n (run x k start) b → After x.low n (run x (suc k) start) (moved x u b)
+  moved_in u k m n start b clear full g l h =
+      subst (λ z. After x.low n z (moved x u b)) (run_is (suc k) m start l g)
+      (after_quick x u n (quicks x k start) b (at_move k m start l g) (quicks_clear x k start clear) (quicks_full x k start full) (subst (λ z. After x.low n z b) (sym (run_is k m start (omega arith) g)) h))
+
+  run_fits : FitsRom x.rom → (k : ℕ) (b : Machine) → FitsMachine b → FitsMachine (run x k b)
+  run_fits r zero b f = f
+  run_fits r (suc k) b f = main_move_fits x.rom r false (λ k. false) (run x k b) (run_fits r k b f)
+
+quiet : (t : Bool) → T (not t) → t ≡ false
+quiet true h = absurd h
+quiet false h = refl
+
+-- ---- what the pieces of a ROM come to
+
+-- At the head of a block main code runs; after its instructions, through which ticks may pass, it comes to a machine at which, with
+-- whatever keys the moves had, there is a next piece, a dispatch or a stop.
+pub record Comes (x : Program) (t : Pieces) (l : t.Block) (b : Machine) (h : Since) : Type 0 where
+  pub runs : Ready x b
+  pub awake : b.regs.idle ≡ false
+  pub some : 0 < t.moves l h
+  pub end : Machine
+  pub reaches : Reaches (code x) (t.moves l h) b end
+  pub ends : (h' : Since) → Grows h (t.moves l h) 0 h' → Ends x t end h'
+
+-- At a place main code runs or waits. Where it runs, a main move of two cycles comes to a next piece, a dispatch or a stop, and what is
+-- known there outlasts ticks; where it waits, a tick comes to a next piece.
+pub record Holds (x : Program) (t : Pieces) (l : t.Place) (b : Machine) (h : Since) : Type 0 where
+  pub runs : Ready x b
+  pub moves : b.regs.idle ≡ false → (u : Input) → Ends x t (moved (code x) u b) (after_main u h)
+  pub cycles : b.regs.idle ≡ false → cycles_of (opcode_of x.interpreter.rom b) ≡ 2
+  pub later : b.regs.idle ≡ false → (n : ℕ) (c : Machine) → After (code x).low n b c → t.At l c (after_ticks n h)
+  pub wakes : b.regs.idle ≡ true → (c : Machine) → Tick (code x).low b c → Starts t c (after_tick h)
+
+-- the proof of a ROM: at a dispatch a piece begins, and each piece comes to what it should
+pub record Proved (x : Program) (t : Pieces) : Type 0 where
+  pub fetch : (cycle : ℕ) (b : Machine) (s : Lang) → FitsMachine b → Dispatches x b s → Starts t b (dispatched cycle s)
+  pub rom : FitsRom x.interpreter.rom
+  pub blocks : (l : t.Block) (b : Machine) (h : Since) → FitsMachine b → t.Head l b h → Comes x t l b h
+  pub places : (l : t.Place) (b : Machine) (h : Since) → FitsMachine b → t.At l b h → Holds x t l b h
+
+-- ---- records of what came
+
+append_none : (l : List Keys) → l ≡ l ++ []
+append_none [] = refl
+append_none (k ∷ l) = ap (λ m. k ∷ m) (append_none l)
+
+append_more : (l m : List Keys) (k : Keys) → (l ++ m) ++ k ∷ [] ≡ l ++ (m ++ k ∷ [])
+append_more [] m k = refl
+append_more (j ∷ l) m k = ap (λ z. j ∷ z) (append_more l m k)
+
+length_more : (m : List Keys) (k : Keys) → length (m ++ k ∷ []) ≡ suc (length m)
+length_more [] k = refl
+length_more (j ∷ m) k = ap suc (length_more m k)
+
+pub grows_none : (h : Since) → Grows h 0 0 h
+grows_none h = record { from = refl; state = refl; ticks = omega arith; spent = omega arith; more = []; keys = append_none h.keys; count = refl }
+
+grows_main : (h : Since) (k n : ℕ) (h' : Since) (u : Input) → Grows h k n h' → Grows h (suc k) n (after_main u h')
+grows_main h k n h' u g =
+    record {
+      from = g.from;
+      state = g.state;
+      ticks = g.ticks;
+      spent = omega (arith, g.spent);
+      more = g.more ++ u.held ∷ [];
+      keys = ap (λ l. l ++ u.held ∷ []) g.keys ∙ append_more h.keys g.more u.held;
+      count = length_more g.more u.held ∙ ap suc g.count;
+    }
+
+grows_tick : (h : Since) (k n : ℕ) (h' : Since) → Grows h k n h' → Grows h k (suc n) (after_tick h')
+grows_tick h k n h' g = record { from = g.from; state = g.state; ticks = omega (arith, g.ticks); spent = g.spent; more = g.more; keys = g.keys; count = g.count }
+
+-- the record before the n ticks
+abbrev unticked : Since → Since → Since
+unticked h h' = record h' { ticks = h.ticks }
+
+grows_back : (h : Since) (k n : ℕ) (h' : Since) → Grows h k n h' → Grows h k 0 (unticked h h')
+grows_back h k n h' g = record { from = g.from; state = g.state; ticks = omega arith; spent = g.spent; more = g.more; keys = g.keys; count = g.count }
+
+grows_on : (h : Since) (k n : ℕ) (h' : Since) → Grows h k n h' → Grows (unticked h h') 0 n h'
+grows_on h k n h' g = record { from = refl; state = refl; ticks = g.ticks; spent = omega arith; more = []; keys = append_none h'.keys; count = refl }
+
+-- ---- the rows are kept
+
+module _ (x : Program) (t : Pieces) (proved : Proved x t) where
+  -- a block begins
+  begins : (l : t.Block) (b : Machine) (h : Since) → FitsMachine b → t.Head l b h → InBlock x t l b h
+  begins l b h f head = record { start = b; since = h; k = 0; n = 0; inside = (proved.blocks l b h f head).some; grows = grows_none h; fits = f; head = head; after = after_none (code x).low b }
+
+  -- a piece begins
+  pub row_starts : (b : Machine) (h : Since) → FitsMachine b → Starts t b h → Row x t b h
+  row_starts b h f (Enters l head) = Inside l (begins l b h f head)
+  row_starts b h f (Meets l at) = Alone l at
+
+  -- the same, n ticks later
+  starts_later : (c b : Machine) (h : Since) (k n : ℕ) (h' : Since) → Grows h k n h' → FitsMachine c → c.regs.idle ≡ false → After (code x).low n c b → Starts t c (unticked h h') → Row x t b h'
+  starts_later c b h k n h' g f i a (Enters l head) =
+      Inside l
+      (record { start = c; since = unticked h h'; k = 0; n = n; inside = (proved.blocks l c (unticked h h') f head).some; grows = grows_on h k n h' g; fits = f; head = head; after = a })
+  starts_later c b h k n h' g f i a (Meets l at) = Alone l (subst (λ m. t.At l b (record h' { ticks = m })) (sym g.ticks) ((proved.places l c (unticked h h') f at).later i n b a))
+
+  -- the end of a block, with n ticks since
+  ended : (c b : Machine) (h : Since) (k n : ℕ) (h' : Since) → Grows h k n h' → FitsMachine c → c.regs.idle ≡ false → After (code x).low n c b → Ends x t c (unticked h h') → Outcome x t b h'
+  ended c b h k n h' g f i a (Continues calm s) = Still (ap (is_event (code x)) a.is ∙ calm) (starts_later c b h k n h' g f i a s)
+  ended c b h k n h' g f i a (Steps s st) =
+      Dispatched (ticks n s)
+      (record {
+        runs = st.runs;
+        between = subst (λ m. Between x.edition h'.state m h'.keys (ticks n s)) (sym g.ticks) (between_ticks n x.edition h'.state h.ticks h'.keys s st.between);
+        stands = dispatches_after x n c b a f s st.stands;
+      })
+  ended c b h k n h' g f i a (Fails stop st) =
+      Halted stop
+      (record {
+        fits = st.fits;
+        halts = subst (λ z. Halts x b z stop) (ticks_add n h.ticks h'.state ∙ ap (λ m. ticks m h'.state) (sym g.ticks)) (halts_after x n c b a f (ticks h.ticks h'.state) stop st.halts);
+      })
+
+  module _ {l : t.Block} {b : Machine} {h : Since} (r : InBlock x t l b h) where
+    comes : Comes x t l r.start r.since
+    comes = proved.blocks l r.start r.since r.fits r.head
+
+    good : AllGood (code x) (t.moves l r.since) r.start
+    unfolding comes
+    good = reaches_good (code x) (t.moves l r.since) r.start comes.end comes.reaches
+
+    is_quicks : quicks (code x) r.k r.start ≡ run (code x) r.k r.start
+    is_quicks = run_is (code x) r.k (t.moves l r.since) r.start (omega (arith, r.inside)) good
+
+    good_k : AllGood (code x) r.k r.start
+    good_k = prefix (code x) r.k (t.moves l r.since) r.start (omega (arith, r.inside)) good
+
+    -- main code runs inside a block
+    pub block_awake : b.regs.idle ≡ false
+    block_awake = ap (λ (z : Machine). z.regs.idle) r.after.is ∙ sym (ap (λ (z : Machine). z.regs.idle) is_quicks) ∙ quicks_idle (code x) r.k r.start good_k ∙ comes.awake
+
+    block_runs : Ready x b
+    block_runs =
+        record {
+          latch = ap (λ (z : Machine). z.latch) r.after.is ∙ sym (ap (λ (z : Machine). z.latch) is_quicks) ∙ quicks_clear (code x) r.k r.start comes.runs.latch;
+          enabled = ap (λ (z : Machine). z.regs.ie) r.after.is ∙ sym (ap (λ (z : Machine). z.regs.ie) is_quicks) ∙ quicks_enabled (code x) r.k r.start good_k ∙ comes.runs.enabled;
+          on = ap (λ (z : Machine). z.on) r.after.is ∙ sym (ap (λ (z : Machine). z.on) is_quicks) ∙ quicks_on (code x) r.k r.start good_k ∙ comes.runs.on;
+        }
+
+    -- the opcode is that of a two-cycle instruction
+    block_cycles : cycles_of (opcode_of x.interpreter.rom b) ≡ 2
+    block_cycles = after_cycles (code x) r.n (quicks (code x) r.k r.start) b (at_move (code x) r.k (t.moves l r.since) r.start r.inside good) (quicks_clear (code x) r.k r.start comes.runs.latch) (subst (λ z. After (code x).low r.n z b) (sym is_quicks) r.after)
+
+    -- how much main code has spent
+    pub block_spent : h.spent < r.since.spent + 2 * t.moves l r.since
+    block_spent = omega (arith, r.grows.spent, r.inside)
+
+    -- a main move of a state after n ticks of the k-th state is one of the next
+    next : (u : Input) → After (code x).low r.n (run (code x) (suc r.k) r.start) (moved (code x) u b)
+    next u = moved_in (code x) u r.k (t.moves l r.since) r.n r.start b comes.runs.latch r.fits.size good r.inside r.after
+
+    -- the block's last move
+    last : (u : Input) → suc r.k ≡ t.moves l r.since → Outcome x t (moved (code x) u b) (after_main u h)
+    last u e =
+        ended comes.end (moved (code x) u b) r.since (suc r.k) r.n (after_main u h) grown (subst FitsMachine there (run_fits (code x) proved.rom (suc r.k) r.start r.fits)) awake
+        (subst (λ z. After (code x).low r.n z (moved (code x) u b)) there (next u))
+        (comes.ends (unticked r.since (after_main u h)) (subst (λ m. Grows r.since m 0 (unticked r.since (after_main u h))) e (grows_back r.since (suc r.k) r.n (after_main u h) grown)))
+      where
+        grown : Grows r.since (suc r.k) r.n (after_main u h)
+        grown = grows_main r.since r.k r.n h u r.grows
+
+        there : run (code x) (suc r.k) r.start ≡ comes.end
+        there = ap (λ m. run (code x) m r.start) e ∙ reaches_run (code x) (t.moves l r.since) r.start comes.end comes.reaches
+
+        awake : comes.end.regs.idle ≡ false
+        awake = ap (λ (z : Machine). z.regs.idle) (sym (reaches_quicks (code x) (t.moves l r.since) r.start comes.end comes.reaches)) ∙ quicks_idle (code x) (t.moves l r.since) r.start good ∙ comes.awake
+
+    -- a move inside the block
+    within : (u : Input) → (suc r.k ≡ t.moves l r.since → ⊥) → Outcome x t (moved (code x) u b) (after_main u h)
+    within u e =
+        Still calm
+        (Inside l (record { start = r.start; since = r.since; k = suc r.k; n = r.n; inside = more; grows = grows_main r.since r.k r.n h u r.grows; fits = r.fits; head = r.head; after = next u }))
+      where
+        more : suc r.k < t.moves l r.since
+        more = omega (arith, r.inside, e)
+
+        calm : is_event (code x) (moved (code x) u b) ≡ false
+        calm = ap (is_event (code x)) (next u).is ∙ ap (is_event (code x)) (sym (run_is (code x) (suc r.k) (t.moves l r.since) r.start (omega (arith, r.inside)) good)) ∙ quiet _ (calm_in (code x) r.k (t.moves l r.since) r.start more good)
+
+    pub block_moves : (u : Input) → Outcome x t (moved (code x) u b) (after_main u h)
+    block_moves u = go (cases_eq (suc r.k) (t.moves l r.since))
+      where
+        go : (suc r.k ≡ t.moves l r.since) ⊎ (suc r.k ≡ t.moves l r.since → ⊥) → Outcome x t (moved (code x) u b) (after_main u h)
+        go (inl e) = last u e
+        go (inr e) = within u e
+
+    pub block_ticks : (c : Machine) → Tick (code x).low b c → Row x t c (after_tick h)
+    block_ticks c k = Inside l (record { start = r.start; since = r.since; k = r.k; n = suc r.n; inside = r.inside; grows = grows_tick r.since r.k r.n h r.grows; fits = r.fits; head = r.head; after = later_tick (code x).low r.n (run (code x) r.k r.start) b c idle r.after k })
+      where
+        idle : (run (code x) r.k r.start).regs.idle ≡ false
+        idle = sym (ap (λ (z : Machine). z.regs.idle) is_quicks) ∙ quicks_idle (code x) r.k r.start good_k ∙ comes.awake
+
+  -- what a place comes to, at once
+  place_ended : (b : Machine) (h : Since) → FitsMachine b → Ends x t b h → Outcome x t b h
+  place_ended b h f (Continues calm s) = Still calm (row_starts b h f s)
+  place_ended b h f (Steps s st) = Dispatched s st
+  place_ended b h f (Fails stop st) = Halted stop st
+
+  place_ticks : (l : t.Place) (b c : Machine) (h : Since) → FitsMachine b → Tick (code x).low b c → t.At l b h → Row x t c (after_tick h)
+  place_ticks l b c h f k at = go b.regs.idle refl
+    where
+      holds : Holds x t l b h
+      holds = proved.places l b h f at
+
+      more : h.ticks + 1 ≡ suc h.ticks
+      more = omega arith
+
+      go : (i : Bool) → b.regs.idle ≡ i → Row x t c (after_tick h)
+      go false e = Alone l (subst (λ m. t.At l c (record h { ticks = m })) more (holds.later e 1 c (later_tick (code x).low 0 b b c e (after_none (code x).low b) k)))
+      go true e = row_starts c (after_tick h) (tick_fits (code x).low b c f k) (holds.wakes e c k)
+
+  -- every main move keeps the rows
+  pub row_moves : (u : Input) (b : Machine) (h : Since) → FitsMachine b → b.regs.idle ≡ false → Row x t b h → Outcome x t (moved (code x) u b) (after_main u h)
+  row_moves u b h f i (Inside l r) = block_moves r u
+  row_moves u b h f i (Alone l at) = place_ended (moved (code x) u b) (after_main u h) (main_move_fits x.interpreter.rom proved.rom u.efx u.held b f) ((proved.places l b h f at).moves i u)
+
+  -- and so does every tick
+  pub row_ticks : (b c : Machine) (h : Since) → FitsMachine b → Tick (code x).low b c → Row x t b h → Row x t c (after_tick h)
+  row_ticks b c h f k (Inside l r) = block_ticks r c k
+  row_ticks b c h f k (Alone l at) = place_ticks l b c h f k at
+
+  -- in every row main code runs or waits, and the instruction takes two cycles
+  pub row_runs : (b : Machine) (h : Since) → FitsMachine b → Row x t b h → Ready x b
+  row_runs b h f (Inside l r) = block_runs r
+  row_runs b h f (Alone l at) = (proved.places l b h f at).runs
+
+  pub row_cycles : (b : Machine) (h : Since) → FitsMachine b → b.regs.idle ≡ false → Row x t b h → cycles_of (opcode_of x.interpreter.rom b) ≡ 2
+  row_cycles b h f i (Inside l r) = block_cycles r
+  row_cycles b h f i (Alone l at) = (proved.places l b h f at).cycles i

@@ -1,0 +1,9 @@
+pub mod Language
+pub mod Places
+pub mod Later
+pub mod Kept
+pub mod Schedules
+pub mod Runs
+pub mod NoDisplay
+pub mod First
+pub mod Steps
