@@ -10,6 +10,8 @@
 //! stop at most 96.
 #![tactic(auto)]
 
+pub mod laws;
+
 /// The address of the fetch loop: a dispatch point is an instruction there with P = 4.
 pub const THIN_FETCH: u16 = 0x8024;
 
@@ -19,7 +21,7 @@ pub const THIN_HALT: u16 = 0x811C;
 /// The ROM, at 8000 to 87FF: each line an instruction, with its address, its label and its mnemonic in the words of the data sheet.
 /// R3 is the program counter of the routines and R4 that of the fetch loop; RC holds the opcode, and RD is scratch.
 pub const THIN: [u8; 2048] = [
-    // Boot. Out of reset P and X are 0 and R0 is 0000, and the boot latch is set, so the code runs at the low addresses.
+    // Boot. After reset P, X and R0 are 0 and the boot latch is set, so that the code runs at the low addresses.
     0xf8, 0x80, // 8000  boot:    LDI 80            R3 = 8007, the next part at its own address
     0xb3, //       8002           PHI R3
     0xf8, 0x07, // 8003           LDI low go
@@ -48,17 +50,17 @@ pub const THIN: [u8; 2048] = [
     0xac, //       8022           PLO RC
     0xd3, //       8023           SEP 3
     // Fetch: the opcode at R5 into RC, R5 past it, R6 at VX and R7 at VY. P is 4.
-    0xf8, 0x0e, // 8024  fetch:   LDI 0E            the page of V0 to VF
-    0xb6, //       8026           PHI R6
-    0xb7, //       8027           PHI R7
-    0x95, //       8028           GHI R5
-    0xff, 0x02, // 8029           SMI 02
-    0x3b, 0x1a, // 802B           BNF outside       pc is below 0200
-    0x85, //       802D           GLO R5
-    0xfd, 0x9e, // 802E           SDI 9E
-    0x95, //       8030           GHI R5
-    0x7d, 0x0e, // 8031           SDBI 0E
-    0x3b, 0x1a, // 8033           BNF outside       pc is above 0E9E, so pc + 1 is above 0E9F
+    0x95, //       8024  fetch:   GHI R5
+    0xff, 0x02, // 8025           SMI 02
+    0x3b, 0x1a, // 8027           BNF outside       pc is below 0200
+    0x85, //       8029           GLO R5
+    0xfd, 0x9e, // 802A           SDI 9E
+    0x95, //       802C           GHI R5
+    0x7d, 0x0e, // 802D           SDBI 0E
+    0x3b, 0x1a, // 802F           BNF outside       pc is above 0E9E, so pc + 1 is above 0E9F
+    0xf8, 0x0e, // 8031           LDI 0E            the page of V0 to VF
+    0xb6, //       8033           PHI R6
+    0xb7, //       8034           PHI R7
     0x45, //       8035           LDA R5
     0xbc, //       8036           PHI RC            RC.1 = the opcode's high byte
     0xfa, 0x0f, // 8037           ANI 0F
