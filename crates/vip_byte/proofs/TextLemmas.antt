@@ -7,7 +7,7 @@ use Rattle.std.proofs.Math.Seq.{drop-cons, drop-length, take-length}
 use Rattle.std.proofs.lemmas.Bool.{cases_Bool, cases_lt, ne_eqb}
 use Rattle.std.proofs.lemmas.List.{drop-drop, length-take-le, nil_from_length, take_rest}
 use Rattle.std.proofs.lemmas.List.Splits.{slice_split_none, slice_split_first, length-slice_split, slice_split-cons_yes}
-use Rattle.std.proofs.lemmas.List.Sums.{fails_before_first, passes_at_first, prefix_len_stops}
+use Rattle.std.proofs.lemmas.List.Sums.{count_by-le-length, fails_before_first, passes_at_first, prefix_len_stops}
 use Rattle.vip_byte.specs.Text.{is_blank, words}
 
 -- a part that is a word
@@ -126,3 +126,15 @@ pub words_split : (line trimmed word rest : List ℕ) (end : ℕ) → trimmed �
     → words line ≡ word ∷ words rest
 words_split line trimmed word rest end cut at within front back some =
     words_blanks line ∙ rw (front, back, ← cut) (words_first trimmed end at some within)
+
+-- no more lines than parts
+length-lines_of_parts : (parts : List (List ℕ)) → length (lines_of_parts parts) ≤ length parts
+length-lines_of_parts [] = omega arith
+length-lines_of_parts (part ∷ []) = elim (cases_Bool (eqb (length part) 0)) [ | inl empty ↦ rw empty (omega arith) | inr some ↦ rw some (omega arith) ]
+length-lines_of_parts (part ∷ next ∷ parts) = let rest = length-lines_of_parts (next ∷ parts) in omega (arith, rest)
+
+-- a text has at most one line more than bytes
+pub length-lines : (text : List ℕ) → length (lines text) ≤ length text + 1
+length-lines text =
+    let parts = slice_split (λ byte. eqb byte 10) text in
+    omega (arith, length-lines_of_parts parts, length-slice_split (λ byte. eqb byte 10) text, count_by-le-length (λ byte. eqb byte 10) text)
