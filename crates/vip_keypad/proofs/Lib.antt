@@ -1,0 +1,3 @@
+pub mod KeySetLemmas
+pub mod EntriesLemmas
+pub mod ScriptLemmas

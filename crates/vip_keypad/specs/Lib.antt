@@ -1,0 +1,4 @@
+pub mod KeySet
+pub mod KeyScript
+pub mod KeypadState
+pub mod Entries

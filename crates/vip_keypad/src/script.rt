@@ -1,0 +1,340 @@
+//! Key scripts: how they are read, and which keys their events hold down.
+
+ghost use Rattle.std.specs.Prelude.{◌≡◌, ℕ, ◌+◌, ◌<◌, ◌≤◌, ◌⊎◌, true, false, nat_le, [], ◌∷◌, ◌++◌, length, map, Some, OnOk, OnErr, IfOk, IfErr};
+ghost use Rattle.std.specs.List.{AllWithin};
+ghost use Rattle.std.specs.List.Sorted.{IsNonDecreasingBy};
+ghost use Rattle.std.specs.Option.{ForSome, option_to_list};
+ghost use Rattle.std.specs.Result.{result_err};
+ghost use Rattle.machine.specs.Keys.{held_at};
+ghost use Rattle.vip_keypad.specs.Entries.{AreSearchable, event_of_entry, held_after};
+ghost use Rattle.vip_keypad.specs.KeySet.{has_key};
+ghost use Rattle.vip_keypad.specs.KeyScript.{cause_after, last_cycle, said, script_of};
+
+use crate::key_set::KeySet;
+use crate::line::{Event, read_line};
+use std::alloc::{AllocError, Global};
+use std::marker::Model;
+use thiserror::Error;
+use vip_byte::Lines;
+
+/// Why a line of a key script is no event, in the order in which the causes are looked for.
+#[derive(Clone, Copy, Debug, PartialEq, Eq, Error)]
+pub enum ScriptCause {
+    /// The line has not exactly three words, or the second is neither `down` nor `up`.
+    #[error("BadLine")]
+    BadLine,
+    /// The first word is no decimal number from 0 to 4,000,000,000.
+    #[error("BadCycle")]
+    BadCycle,
+    /// The third word is not one hexadecimal digit.
+    #[error("BadKey")]
+    BadKey,
+    /// The cycle is below that of the event before.
+    #[error("OutOfOrder")]
+    OutOfOrder,
+    /// The line has event 100,001.
+    #[error("TooMany")]
+    TooMany,
+}
+
+/// Why a key script was not read.
+#[derive(Clone, Copy, Debug, PartialEq, Eq, Error)]
+pub enum ScriptFault {
+    /// The first faulty line, counted from 1, and the first cause in it.
+    #[error("line {line}: {cause}")]
+    Fault { line: u32, cause: ScriptCause },
+    /// No memory was left for the events.
+    #[error("NoMemory")]
+    NoMemory,
+}
+
+impl From<AllocError> for ScriptFault {
+    ghost use Rattle.std.specs.Prelude.{◌≡◌};
+    ghost use Rattle.vip_keypad.specs.declared.script.ScriptFault.TheVariants.{NoMemory};
+
+    ghost from_gives = { λ _ fault. fault ≡ NoMemory };
+
+    fn from(_error: AllocError) -> ScriptFault {
+        ScriptFault::NoMemory
+    }
+}
+
+// The most events of a script.
+const MOST_EVENTS: usize = 100_000;
+
+// An event, and the keys that are down after it.
+#[derive(Clone, Copy)]
+struct Entry {
+    cycle: u32,
+    key: u8,
+    down: bool,
+    keys: KeySet,
+}
+
+/// The events of a key script: which key goes down or up at which machine cycle, counted from reset, in the order of the script, in which
+/// the cycles never fall. A clause sees the list of its events.
+#[derive(Drop)]
+pub struct Script {
+    // With each event stand the keys that are down after it, so that those at any cycle are found by halving.
+    entries: Vec<Entry>,
+}
+
+impl Model for Script {
+    ghost use Rattle.std.specs.Prelude.{List, map};
+    ghost use Rattle.machine.specs.Keys.{Event};
+    ghost use Rattle.vip_keypad.specs.Entries.{AreSearchable, event_of_entry};
+
+    ghost Value = { List Event };
+
+    ghost view = { λ inside. map event_of_entry inside.entries.items };
+
+    ghost invariant = { λ inside. AreSearchable inside.entries.items };
+}
+
+impl Script {
+    /// A script without events. It takes no memory.
+    pub fn empty(alloc: Global) -> Script
+        ensures { result ≡ [] }
+    {
+        Script {
+            entries: Vec::new(alloc),
+        }
+    }
+
+    /// How many events it has.
+    pub fn len(&self) -> usize
+        ensures { result ≡ length self.now }
+    {
+        self.entries.len()
+    }
+
+    // Whether the key is held down at cycle t.
+    pub(crate) fn is_held(&self, t: u64, key: u8) -> bool
+        requires { key < 16 }
+        ensures { result ≡ held_at self.now t key }
+    {
+        keys_at(self.entries.as_slice(), t).contains(key)
+    }
+
+    // A copy of the script.
+    pub(crate) fn copied(&self, alloc: Global) -> Result<Script, AllocError>
+        ensures { IfOk result (λ script. script ≡ self.now) }
+    {
+        Ok(Script {
+            entries: Vec::from_slice(alloc, self.entries.as_slice())?,
+        })
+    }
+
+    // The cycle of the last event, or 0.
+    fn last_cycle(&self) -> u32
+        ensures { result ≡ last_cycle self.now }
+    {
+        match self.entries.last() {
+            Some(entry) => entry.cycle,
+            None => 0,
+        }
+    }
+
+    // Adds an event behind the others.
+    fn push(&mut self, event: Event) -> Result<(), AllocError>
+        requires { last_cycle self.old ≤ event.cycle }
+        ensures ok { OnOk result (self.new ≡ self.old ++ event ∷ []) }
+        ensures err { OnErr result (self.new ≡ self.old) }
+    {
+        let keys = self.last_keys().after(event.key, event.down);
+        self.entries.push(Entry {
+            cycle: event.cycle,
+            key: event.key,
+            down: event.down,
+            keys,
+        })?;
+        Ok(())
+    }
+
+    // Adds the event that a line says, if it says one, behind the others.
+    fn extend(&mut self, event: Option<Event>) -> Result<(), AllocError>
+        requires { ForSome event (λ event. last_cycle self.old ≤ event.cycle) }
+        ensures ok { OnOk result (self.new ≡ self.old ++ option_to_list event) }
+        ensures err { OnErr result (self.new ≡ self.old) }
+    {
+        match event {
+            Some(event) => self.push(event),
+            None => Ok(()),
+        }
+    }
+
+    // The keys that are down after all events.
+    fn last_keys(&self) -> KeySet
+        ensures { (k : ℕ) → k < 16 → has_key result.bits k ≡ held_after self.now k }
+    {
+        match self.entries.last() {
+            Some(entry) => entry.keys,
+            None => KeySet::empty(),
+        }
+    }
+}
+
+// The keys that are held down at cycle t: those after the last entry at or before it.
+fn keys_at(entries: &[Entry], t: u64) -> KeySet
+    requires { AreSearchable entries.now }
+    ensures { (k : ℕ) → k < 16
+        → has_key result.bits k ≡ held_at (map event_of_entry entries.now) t k }
+{
+    match count_until(entries, t) {
+        0 => KeySet::empty(),
+        count => entries[count - 1].keys,
+    }
+}
+
+// How many entries stand at or before cycle t, found by halving.
+fn count_until(entries: &[Entry], t: u64) -> usize
+    requires { IsNonDecreasingBy (λ entry. entry.cycle) entries.now }
+    ensures within { result ≤ length entries.now }
+    ensures past { AllWithin (λ entry. nat_le entry.cycle t ≡ true) entries.now 0 result }
+    ensures future { AllWithin (λ entry. nat_le entry.cycle t ≡ false) entries.now result (length entries.now) }
+{
+    entries.partition_point(|entry| u64::from(entry.cycle) <= t)
+}
+
+/// Reads a key script of at most 1,048,576 bytes (this project's format).
+///
+/// | A line | Says |
+/// |---|---|
+/// | no word, or a first word that begins with `#` | nothing |
+/// | `CYCLE down KEY` | the key goes down at the machine cycle |
+/// | `CYCLE up KEY` | it goes up |
+///
+/// Lines end with a newline, a carriage return directly before which is dropped; what stands behind the last newline is a line too. Words
+/// are separated by spaces and tabs. CYCLE is a decimal number up to 4,000,000,000, and never below that of the event before. KEY is one
+/// hexadecimal digit. There are at most 100,000 events. An event may repeat a key's state, and of two events of a key at one cycle the later
+/// one counts.
+///
+/// The answer is the list of the events, or the first fault, which is the first cause in the first faulty line; or memory was wanting.
+pub fn read_script(alloc: Global, text: &[u8]) -> Result<Script, ScriptFault>
+    requires { length text.now ≤ 1_048_576 }
+    ensures events { IfOk result (λ script. script_of text.now ≡ Ok script) }
+    ensures fault { IfErr result
+        (λ fault. (fault ≡ ScriptFault.NoMemory) ⊎ (script_of text.now ≡ Err fault)) }
+{
+    let mut script = Script::empty(alloc);
+    let mut number = 0;
+    for line in Lines::new(text) {
+        number += 1;
+        match next_event(&script, line) {
+            Ok(event) => script.extend(event)?,
+            Err(cause) => return Err(ScriptFault::Fault {
+                line: number,
+                cause,
+            }),
+        }
+    }
+    Ok(script)
+}
+
+// What a line says behind the events before it, or the first cause for which it is refused.
+#[tactic(auto, unfolding(crate::specs::KeyScript::cause_after))]
+fn next_event(before: &Script, line: &[u8]) -> Result<Option<Event>, ScriptCause>
+    ensures refused { result_err result ≡ cause_after before.now (said line.now) }
+    ensures event { IfOk result (λ event. said line.now ≡ Ok event) }
+    ensures in_order { IfOk result
+        (λ event. ForSome event (λ event. last_cycle before.now ≤ event.cycle)) }
+{
+    let Some(event) = read_line(line)? else {
+        return Ok(None);
+    };
+    if event.cycle < before.last_cycle() {
+        return Err(ScriptCause::OutOfOrder);
+    }
+    if before.len() >= MOST_EVENTS {
+        return Err(ScriptCause::TooMany);
+    }
+    Ok(Some(event))
+}
+
+#[cfg(test)]
+mod tests {
+    use super::*;
+    use std::test::Fail;
+
+    const MOST_BYTES: usize = 1_048_576;
+
+    #[test]
+    fn finds_the_first_fault(rt: HostRuntime) {
+        let rows: [(&[u8], u32, ScriptCause); 16] = [
+            (b"5 down 1\n4 up 1\n", 2, ScriptCause::OutOfOrder),
+            (b"5 push 1", 1, ScriptCause::BadLine),
+            (b"5 down 10", 1, ScriptCause::BadKey),
+            (b"x down 1", 1, ScriptCause::BadCycle),
+            (b"5 down", 1, ScriptCause::BadLine),
+            (b"4000000001 down 1", 1, ScriptCause::BadCycle),
+            (b"5 down AB", 1, ScriptCause::BadKey),
+            (b"5 down 1 2", 1, ScriptCause::BadLine),
+            (b"5 Down 1", 1, ScriptCause::BadLine),
+            (b"x push g", 1, ScriptCause::BadLine),
+            (b"x down g", 1, ScriptCause::BadCycle),
+            (b"+5 down 1", 1, ScriptCause::BadCycle),
+            (b"5 down g", 1, ScriptCause::BadKey),
+            (b"5 up 1\r\n\r\n# 4\n4 down g", 4, ScriptCause::BadKey),
+            (b"5 up 1\r\r\n", 1, ScriptCause::BadKey),
+            (b"5 up 1 # x", 1, ScriptCause::BadLine),
+        ];
+        for (text, line, cause) in rows {
+            assert!(rt; text.len() <= MOST_BYTES);
+            let fault = read_script(rt.alloc(), text).err();
+            assert_eq!(rt; fault, Some(ScriptFault::Fault { line, cause }));
+        }
+    }
+
+    #[test]
+    fn counts_events(rt: HostRuntime) {
+        let rows: [(&[u8], usize); 5] = [
+            (b"", 0),
+            (b"# x\n\n5 down a", 1),
+            (b" \t\n\t# 1 down 1\r\n#\xFF\x80\n", 0),
+            (b"0 down 0\n0 down 0\n", 2),
+            (b"\t4000000000  up\tF \r\n", 1),
+        ];
+        for (text, want) in rows {
+            assert!(rt; text.len() <= MOST_BYTES);
+            let count = read_script(rt.alloc(), text).map(|script| script.len());
+            assert_eq!(rt; count, Ok(want));
+        }
+    }
+
+    #[test]
+    fn reads_at_most_100_000_events(rt: HostRuntime) -> Result<(), Fail> {
+        let mut text = Vec::new(rt.alloc());
+        for _ in 0..100_000 {
+            text.extend_from_slice(b"0 up 5\n")?;
+        }
+        assert!(rt; text.len() <= MOST_BYTES);
+        let count = read_script(rt.alloc(), &text).map(|script| script.len());
+        assert_eq!(rt; count, Ok(100_000));
+
+        text.extend_from_slice(b"0 up 5\n")?;
+        assert!(rt; text.len() <= MOST_BYTES);
+        let fault = read_script(rt.alloc(), &text).err();
+        let cause = ScriptCause::TooMany;
+        assert_eq!(rt;
+            fault,
+            Some(ScriptFault::Fault {
+                line: 100_001,
+                cause
+            })
+        );
+        Ok(())
+    }
+
+    #[test]
+    fn shows_faults(rt: HostRuntime) -> Result<(), Fail> {
+        let cause = ScriptCause::OutOfOrder;
+        let fault = ScriptFault::Fault { line: 2, cause };
+        assert_eq!(rt;
+            format!(in rt.alloc(); "{fault}")?.as_str(),
+            "line 2: OutOfOrder"
+        );
+        let no_memory = ScriptFault::NoMemory;
+        assert_eq!(rt; format!(in rt.alloc(); "{no_memory}")?.as_str(), "NoMemory");
+        Ok(())
+    }
+}
