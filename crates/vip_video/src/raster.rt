@@ -1,0 +1,112 @@
+//! The picture that is drawn and the last one that was finished.
+
+ghost use Rattle.std.specs.Prelude.{◌≡◌, ◌+◌, ◌-◌, ◌%◌, ◌≤◌, ◌<◌, ◌^◌, ◌↔◌, ◌&&◌, ◌||◌, not, ℕ, [], length, slice_index_or, IfSome, IsSome};
+ghost use Rattle.std.specs.Option.{option_map};
+ghost use Rattle.machine.specs.Signals.{line_of};
+ghost use Rattle.vip_video.specs.Place.{place_of};
+ghost use Rattle.vip_video.specs.Chip.{is_in_window, nothing_yet, drawn, passed, framed, finished};
+
+use crate::buffer::{FrameBuffer, Picture};
+use crate::place::Place;
+use std::marker::Model;
+
+/// What the chip has of pictures.
+#[derive(Drop)]
+pub struct Raster {
+    // the display was on in each cycle of the window of this frame so far
+    shown: bool,
+    buffer: FrameBuffer,
+    // how many pictures are finished, and the last of them
+    count: u64,
+    finished: Picture,
+}
+
+impl Model for Raster {
+    ghost use Rattle.vip_video.specs.Chip.{Pictures};
+
+    ghost Value = { Pictures };
+
+    ghost use Rattle.vip_video.specs.Kept.{pictures_of};
+
+    ghost view = { pictures_of };
+}
+
+/// Whether the display is on in a cycle at this place, or the place lies outside the window.
+fn is_shown(place: &Place, on: bool) -> bool
+    ensures { (t : ℕ) → place.now ≡ place_of t → result ≡ (on || not (is_in_window t)) }
+{
+    on || !place.is_in_window()
+}
+
+impl Raster {
+    /// No picture yet, at the start of a frame.
+    pub fn new() -> Raster
+        ensures { result ≡ nothing_yet }
+    {
+        Raster {
+            shown: true,
+            buffer: FrameBuffer::new(),
+            count: 0,
+            finished: Picture::blank(),
+        }
+    }
+
+    /// A cycle at a place, with its display switch and the byte of its DMA cycle, if it is one. The byte needs a line of the picture
+    /// that has fewer than eight.
+    pub fn draw(&mut self, place: &Place, on: bool, byte: Option<u8>)
+        requires { IfSome byte (λ _. (place.now.line < 208) × (length (slice_index_or self.old.lines (place.now.line - 80) []) < 8)) }
+        ensures { (t : ℕ) → place.now ≡ place_of t → self.new ≡ drawn t on byte self.old }
+    {
+        if !is_shown(place, on) {
+            self.shown = false;
+        }
+        self.buffer.draw(place.line.saturating_sub(80), byte);
+    }
+
+    /// What the start of a line does: a picture is finished after the window, and the lines begin anew with the frame.
+    pub fn begin_line(&mut self, line: u16)
+        requires { self.old.count + 1 < 2 ^ 64 }
+        ensures { (t : ℕ) → t % 14 ≡ 0 → line_of t ≡ line → self.new ≡ passed t self.old }
+    {
+        if line == 0 {
+            self.begin_frame();
+        }
+        if line == 208 && self.shown {
+            self.finish();
+        }
+    }
+
+    fn begin_frame(&mut self)
+        ensures { self.new ≡ framed self.old }
+    {
+        self.shown = true;
+        self.buffer.clear();
+    }
+
+    fn finish(&mut self)
+        requires { self.old.count + 1 < 2 ^ 64 }
+        ensures { self.new ≡ finished self.old }
+    {
+        self.count += 1;
+        self.finished = *self.buffer.picture();
+    }
+
+    /// The number of pictures finished so far.
+    pub fn count(&self) -> u64
+        ensures { result ≡ self.now.count }
+    {
+        self.count
+    }
+
+    /// Lends the last finished picture. None comes exactly where there is none.
+    pub fn finished(&self) -> Option<&Picture>
+        ensures there { IsSome result ↔ (0 < self.now.count) }
+        ensures picture { option_map (λ p. p.now.lines) result ≡ self.now.finished }
+    {
+        if self.count == 0 {
+            None
+        } else {
+            Some(&self.finished)
+        }
+    }
+}

@@ -1,0 +1,110 @@
+//! The video chip.
+
+ghost use Rattle.std.specs.Prelude.{◌≡◌, ◌+◌, ◌<◌, ◌^◌, ◌↔◌, IsSome, IsTrue};
+ghost use Rattle.std.specs.Option.{option_map};
+ghost use Rattle.machine.specs.Signals.{int_at, dma_at, efx_at};
+ghost use Rattle.vip_video.specs.Chip.{at_start, ended};
+
+use crate::buffer::Picture;
+use crate::place::{Place, Signals};
+use crate::raster::Raster;
+use std::marker::Model;
+
+/// A CDP1861 with the picture that it draws and the last one that it finished.
+#[derive(Drop)]
+pub struct Video {
+    // the machine cycles ended so far, and the place of the present one
+    cycles: u64,
+    place: Place,
+    // the display switch now, and as it stood when the last cycle ended
+    on: bool,
+    cycle_on: bool,
+    raster: Raster,
+}
+
+impl Model for Video {
+    ghost use Rattle.std.specs.Prelude.{◌≡◌, ◌≤◌};
+    ghost use Rattle.vip_video.specs.Chip.{Chip};
+    ghost use Rattle.vip_video.specs.Place.{place_of};
+    ghost use Rattle.vip_video.specs.Kept.{HasRoom};
+
+    ghost Value = { Chip };
+
+    ghost view = { λ a. record { cycles = a.cycles; on = a.on; cycle_on = a.cycle_on; pictures = a.raster } };
+
+    ghost invariant = { λ a. record { place : a.place ≡ place_of a.cycles; count : a.raster.count ≤ a.cycles; room : HasRoom a.cycles a.raster.lines } };
+}
+
+impl Video {
+    /// A chip before machine cycle 0, with the display off and no picture.
+    pub fn new() -> Video
+        ensures { result ≡ at_start }
+    {
+        Video {
+            cycles: 0,
+            place: Place { line: 0, column: 0 },
+            on: false,
+            cycle_on: false,
+            raster: Raster::new(),
+        }
+    }
+
+    /// The signals of machine cycle t, with the switch as it stands now.
+    pub fn signals(&self, t: u64) -> Signals
+        ensures int { result.int ≡ int_at t self.now.on }
+        ensures dma { result.dma ≡ dma_at t self.now.on }
+        ensures efx { result.efx ≡ efx_at t self.now.on }
+    {
+        if t == self.cycles {
+            self.place.signals(self.on)
+        } else {
+            Place::of(t).signals(self.on)
+        }
+    }
+
+    /// Ends machine cycle t, which has to be the number of cycles ended so far. The cycle has the switch that stood when the cycle
+    /// before it ended. `byte` is the byte that its DMA cycle put on the bus, and may be given only where `signals(t)` has `dma`.
+    pub fn end_cycle(&mut self, t: u64, byte: Option<u8>)
+        requires present { t ≡ self.old.cycles }
+        requires fits { t + 1 < 2 ^ 64 }
+        requires wanted { IsSome byte → IsTrue (dma_at t self.old.on) }
+        ensures { self.new ≡ ended byte self.old }
+    {
+        self.raster.draw(&self.place, self.cycle_on, byte);
+        self.cycle_on = self.on;
+        self.cycles = t + 1;
+        self.place = self.place.next();
+        if self.place.column == 0 {
+            self.raster.begin_line(self.place.line);
+        }
+    }
+
+    /// Turns the display on or off. The present cycle keeps the switch that it has; the next one has the new one.
+    pub fn turn(&mut self, on: bool)
+        ensures { self.new ≡ record self.old { on = on } }
+    {
+        self.on = on;
+    }
+
+    /// Whether the display is on.
+    pub fn is_on(&self) -> bool
+        ensures { result ≡ self.now.on }
+    {
+        self.on
+    }
+
+    /// The number of pictures finished so far.
+    pub fn count(&self) -> u64
+        ensures { result ≡ self.now.pictures.count }
+    {
+        self.raster.count()
+    }
+
+    /// Lends the last finished picture. None comes exactly where there is none.
+    pub fn finished(&self) -> Option<&Picture>
+        ensures there { IsSome result ↔ (0 < self.now.pictures.count) }
+        ensures picture { option_map (λ p. p.now.lines) result ≡ self.now.pictures.finished }
+    {
+        self.raster.finished()
+    }
+}
