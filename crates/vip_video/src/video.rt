@@ -49,6 +49,13 @@ impl Video {
         }
     }
 
+    /// The number of machine cycles ended so far, which is that of the present cycle.
+    pub fn now(&self) -> u64
+        ensures { result ≡ self.now.cycles }
+    {
+        self.cycles
+    }
+
     /// The signals of machine cycle t, with the switch as it stands now.
     pub fn signals(&self, t: u64) -> Signals
         ensures int { result.int ≡ int_at t self.now.on }
