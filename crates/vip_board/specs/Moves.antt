@@ -1,8 +1,10 @@
--- How a move is named, and what an answer says.
-use Rattle.std.specs.Prelude.{◌≡◌}
+-- How a move is named, what it makes of the board, and what an answer says.
+use Rattle.std.specs.Prelude.{◌≡◌, ℕ, zero, suc, ◌+◌, Bool, List, Option, Some, None}
 use Rattle.machine.specs.Instruction.{at}
-use Rattle.machine.specs.Board.{Machine, Case, case_of}
+use Rattle.machine.specs.Board.{Machine, Case, case_of, length_of, dma_byte, move}
 use Rattle.machine.specs.Board.Case.{Dma as DmaCase, Interrupt as InterruptCase, Idle as IdleCase, Instruction as InstructionCase}
+use Rattle.vip_video.specs.Chip.{Pictures, scanned}
+use Rattle.vip_board.specs.Seen.{Seen, held_by}
 use Rattle.vip_board.specs.declared.board.Move.{Move}
 use Rattle.vip_board.specs.declared.board.Move.TheVariants.{Dma, Interrupt, Idle, Instruction}
 use Rattle.vip_board.specs.declared.board.Moved.{Moved}
@@ -21,6 +23,25 @@ name_in InstructionCase b = Instruction (at b.regs b.regs.p)
 
 abbrev pub name_of : Machine → Move
 name_of b = name_in (case_of b) b
+
+-- the byte that a move puts on the bus
+abbrev pub bus_byte_in : Case → List ℕ → Machine → Option ℕ
+bus_byte_in DmaCase rom b = Some (dma_byte rom b)
+bus_byte_in _ rom b = None
+
+-- the pictures after so many cycles with one switch, from cycle t on, the first of them with a byte
+abbrev pub scanned_over : ℕ → ℕ → Bool → Option ℕ → Pictures → Pictures
+scanned_over zero t on byte p = p
+scanned_over (suc n) t on byte p = scanned_over n (t + 1) on None (scanned t on byte p)
+
+-- the pictures after a move of machine b: all its cycles have the switch that b has
+unfoldable pub pictures_after : List ℕ → Machine → Pictures → Pictures
+pictures_after rom b p = scanned_over (length_of rom b) b.cycle b.on (bus_byte_in (case_of b) rom b) p
+
+-- the board after its next move
+abbrev pub moved : Seen → Seen
+moved s =
+    record s { machine = move s.rom (held_by s) s.machine; pictures = pictures_after s.rom s.machine s.pictures }
 
 abbrev pub IfDone : Moved → (Move → Type 0) → Type 0
 IfDone (Done m) P = P m

@@ -1,9 +1,30 @@
--- What the processor's calls make of the wires of the board.
-use Rattle.std.specs.Prelude.{ℕ, Option, Some}
+-- The wires of the board: how the board is seen, and what the processor's calls make of it.
+use Rattle.std.specs.Prelude.{ℕ, Option, Some, []}
 use Rattle.machine.specs.Instruction.{Port}
 use Rattle.machine.specs.Memory.{written}
 use Rattle.machine.specs.Board.{on_after, key_after, latch_after, ram_after}
+use Rattle.vip_cpu.specs.Cycle.{Processor}
+use Rattle.vip_board.specs.Seen.{Seen}
 use Rattle.vip_board.specs.declared.wires.Wires.{Wires}
+
+-- the board of a processor and what it is wired to
+abbrev pub seen_of : Processor → Wires → Seen
+seen_of cpu w =
+    record {
+      machine =
+        record {
+          regs = cpu.regs;
+          ram = w.memory.ram;
+          latch = w.memory.latch;
+          on = w.video.on;
+          key = w.key;
+          cycle = w.video.cycles;
+        };
+      phase = cpu.phase;
+      pictures = w.video.pictures;
+      rom = w.memory.rom;
+      script = [];
+    }
 
 -- after an action at a port, and after a write
 abbrev pub after_port : Port → Wires → Wires

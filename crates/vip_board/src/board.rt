@@ -1,7 +1,9 @@
 //! The board.
 
-ghost use Rattle.std.specs.Prelude.{◌≡◌, ◌+◌, ◌-◌, ◌≤◌, ◌<◌, ◌^◌, ◌↔◌, ℕ, IsTrue, IfOk, length};
+ghost use Rattle.std.specs.Prelude.{◌≡◌, ◌+◌, ◌-◌, ◌≤◌, ◌<◌, ◌^◌, ◌↔◌, ℕ, [], IsTrue, IfOk, length};
 ghost use Rattle.machine.specs.Instruction.{at};
+ghost use Rattle.machine.specs.Signals.{int_at, dma_at};
+ghost use Rattle.vip_board.specs.Seen.{byte_in};
 
 use crate::wires::Wires;
 use std::alloc::{AllocError, Global};
@@ -9,7 +11,7 @@ use std::marker::Model;
 use vip_cpu::{Bus, Cpu, Did, Phase};
 use vip_isa::cycles;
 use vip_memory::Memory;
-use vip_video::Video;
+use vip_video::{Signals, Video};
 
 /// A move, the atomic step of the board: one DMA cycle, one interrupt cycle, one idle cycle, or one whole instruction with the address
 /// of its opcode.
@@ -28,6 +30,16 @@ pub enum Moved {
     End,
 }
 
+/// The byte that a DMA cycle put on the bus.
+fn byte_in(did: Did) -> Option<u8>
+    ensures { result ≡ byte_in did }
+{
+    match did {
+        Did::Dma(byte) => Some(byte),
+        _ => None,
+    }
+}
+
 /// A board with its ROM.
 #[derive(Drop)]
 pub struct Board {
@@ -36,30 +48,34 @@ pub struct Board {
 }
 
 impl Model for Board {
+    ghost use Rattle.std.specs.Prelude.{◌≡◌};
     ghost use Rattle.vip_board.specs.Seen.{Seen};
 
     ghost Value = { Seen };
 
-    ghost view = { λ a. record { machine = record { regs = a.cpu.regs; ram = a.wires.memory.ram; latch = a.wires.memory.latch; on = a.wires.video.on; key = a.wires.key; cycle = a.wires.video.t }; rom = a.wires.memory.rom; phase = a.cpu.phase } };
+    ghost use Rattle.vip_board.specs.Wired.{seen_of};
+
+    ghost view = { λ a. seen_of a.cpu a.wires };
+
+    ghost invariant = { λ a. a.wires.video.cycle_on ≡ a.wires.video.on };
 }
 
 impl Board {
     ghost use Rattle.machine.specs.Board.{after_reset};
     ghost use Rattle.vip_memory.specs.Contents.{loaded};
+    ghost use Rattle.vip_video.specs.Chip.{nothing_yet};
     ghost use Rattle.vip_board.specs.Seen.{cycle_of, cycled};
 
     /// A board after reset, at a boundary, with a ROM of 2,048 bytes.
     pub fn reset(alloc: Global, rom: &[u8]) -> Result<Board, AllocError>
         requires { length rom.now ≡ 0x800 }
-        ensures { IfOk result (λ b. b ≡ record { machine = after_reset; rom = rom.now; phase = Phase.Boundary }) }
+        ensures { IfOk result (λ b. b ≡ record { machine = after_reset; phase = Phase.Boundary; pictures = nothing_yet; rom = rom.now; script = [] }) }
     {
         let memory = Memory::new(alloc, rom)?;
         let wires = Wires {
             memory,
             video: Video::new(),
             key: 0,
-            efx: false,
-            held: false,
         };
         Ok(Board {
             cpu: Cpu::reset(),
@@ -96,32 +112,45 @@ impl Board {
         &self.wires.memory
     }
 
+    /// The video chip.
+    pub fn video(&self) -> &Video
+        ensures { result.now ≡ record { cycles = self.now.machine.cycle; on = self.now.machine.on; cycle_on = self.now.machine.on; pictures = self.now.pictures } }
+    {
+        &self.wires.video
+    }
+
     /// One machine cycle, the next one of the move that the board is in or starts. Answers what kind of cycle it was.
     pub fn cycle(&mut self) -> Did
         requires { self.old.machine.cycle + 1 < 2 ^ 64 }
         ensures board { self.new ≡ cycled self.old }
         ensures did { result ≡ (cycle_of self.old).did }
     {
-        let signals = self.wires.video.signals();
-        self.wires.efx = signals.efx;
-        self.wires.held = false;
+        let now = self.wires.video.now();
+        let signals = self.wires.video.signals(now);
         let did = self.cpu.cycle(&mut self.wires, signals.dma, signals.int);
-        self.wires.video.end_cycle();
+        self.wires.video.end_cycle(now, byte_in(did));
         did
     }
 }
 
 impl Board {
-    ghost use Rattle.machine.specs.Board.{move, length_of};
-    ghost use Rattle.vip_board.specs.Seen.{no_keys};
-    ghost use Rattle.vip_board.specs.Moves.{name_of, IfDone, StartsInstruction};
+    ghost use Rattle.machine.specs.Board.{length_of};
+    ghost use Rattle.vip_board.specs.Moves.{name_of, moved, IfDone, StartsInstruction};
+
+    /// The signals of the present cycle.
+    fn signals(&self) -> Signals
+        ensures int { result.int ≡ int_at self.now.machine.cycle self.now.machine.on }
+        ensures dma { result.dma ≡ dma_at self.now.machine.cycle self.now.machine.on }
+    {
+        self.wires.video.signals(self.wires.video.now())
+    }
 
     /// Whether the next move is an instruction. The board is at a boundary.
     pub fn next_is_instruction(&self) -> bool
         requires { self.now.phase ≡ Phase.Boundary }
         ensures { IsTrue result ↔ StartsInstruction self.now.machine }
     {
-        let signals = self.wires.video.signals();
+        let signals = self.signals();
         !signals.dma && !(self.cpu.ie() && signals.int) && !self.cpu.idle()
     }
 
@@ -136,7 +165,7 @@ impl Board {
     fn next_length(&self) -> u64
         ensures { result ≡ length_of self.now.rom self.now.machine }
     {
-        let signals = self.wires.video.signals();
+        let signals = self.signals();
         if signals.dma || (self.cpu.ie() && signals.int) || self.cpu.idle() {
             return 1;
         }
@@ -148,7 +177,7 @@ impl Board {
         requires boundary { self.old.phase ≡ Phase.Boundary }
         requires long { length ≡ length_of self.old.rom self.old.machine }
         requires fits { self.old.machine.cycle + length < 2 ^ 64 }
-        ensures moved { self.new ≡ record self.old { machine = move self.old.rom no_keys self.old.machine } }
+        ensures moved { self.new ≡ moved self.old }
         ensures named { result ≡ name_of self.old.machine }
     {
         let address = self.counter();
@@ -174,7 +203,7 @@ impl Board {
         ensures end { (result ≡ Moved.End) ↔ (limit < self.old.machine.cycle + length_of self.old.rom self.old.machine) }
         ensures rests { self.new.phase ≡ Phase.Boundary }
         ensures kept { result ≡ Moved.End → self.new ≡ self.old }
-        ensures moved { IfDone result (λ m. (self.new ≡ record self.old { machine = move self.old.rom no_keys self.old.machine }) × (m ≡ name_of self.old.machine)) }
+        ensures moved { IfDone result (λ m. (self.new ≡ moved self.old) × (m ≡ name_of self.old.machine)) }
     {
         let length = self.next_length();
         if length > limit || self.now() > limit - length {

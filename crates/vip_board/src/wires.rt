@@ -6,18 +6,19 @@ use vip_cpu::Bus;
 use vip_memory::Memory;
 use vip_video::Video;
 
-/// Memory, the video chip's switch, the latched key, and the flags of the present cycle: EFX, and whether the latched key is down.
+/// Memory, the video chip, and the latched key. The flags are those of the present cycle: EF1 is EFX, and EF3 is whether the latched
+/// key is held down.
 #[derive(Drop)]
 pub struct Wires {
     pub memory: Memory,
     pub video: Video,
     pub key: u8,
-    pub efx: bool,
-    pub held: bool,
 }
 
 impl Bus for Wires {
-    ghost use Rattle.std.specs.Prelude.{◌≡◌};
+    ghost use Rattle.std.specs.Prelude.{◌≡◌, []};
+    ghost use Rattle.machine.specs.Keys.{held_at};
+    ghost use Rattle.machine.specs.Signals.{efx_at};
     ghost use Rattle.machine.specs.Instruction.Port.{Send, Receive};
     ghost use Rattle.machine.specs.Memory.{read};
     ghost use Rattle.machine.specs.Board.{flags_of};
@@ -26,7 +27,7 @@ impl Bus for Wires {
 
     ghost byte = { λ w. read w.memory.rom w.memory.latch w.memory.ram };
 
-    ghost flags = { λ w. flags_of w.efx w.held };
+    ghost flags = { λ w. flags_of (efx_at w.video.cycles w.video.on) (held_at [] w.video.cycles w.key) };
 
     ghost writes = { λ w address value after. after ≡ after_write address value w };
 
@@ -66,8 +67,7 @@ impl Bus for Wires {
 
     fn ef(&self, flag: u8) -> bool {
         match flag {
-            1 => self.efx,
-            3 => self.held,
+            1 => self.video.signals(self.video.now()).efx,
             _ => false,
         }
     }

@@ -3,6 +3,8 @@ use Rattle.machine.specs.Instruction.{at}
 use Rattle.vip_board.specs.Seen.{Seen, cycled}
 use Rattle.vip_board.specs.declared.board.Move.TheVariants.{Instruction}
 use Rattle.vip_board.proofs.Whole.{fetches_of, name_of-fetch, make_two, make_three}
+use Rattle.machine.specs.Board.Case.{Dma as DmaCase, Interrupt as InterruptCase, Idle as IdleCase}
+use Rattle.vip_board.proofs.Cases.{dma-move, interrupt-move, idle-move, name-in}
 use Rattle.vip_board.proofs.board.Board.make.Goals as goal
 use Rattle.vip_board.proofs.board.Board.make.Goals.{then-length-eq3, else-length-eq3}
 
@@ -27,3 +29,30 @@ returns-after-length-eq3-clause-named c =
     let is_fetch = sym c.cycle.ensures.did ∙ c.in-Fetch.is in
     ap Instruction
     (c.counter-address.ensures) ∙ sym (name_of-fetch s.machine (fetches_of s c.requires.boundary is_fetch))
+
+pub returns-in-Dma-clause-moved : goal.returns-in-Dma-clause-moved
+returns-in-Dma-clause-moved c =
+    c.cycle.ensures.board ∙ (dma-move c.args.self.now c.in-Dma.field-0 c.requires.boundary (sym c.cycle.ensures.did ∙ c.in-Dma.is)).whole
+
+pub returns-in-Dma-clause-named : goal.returns-in-Dma-clause-named
+returns-in-Dma-clause-named c =
+    let is = dma-move c.args.self.now c.in-Dma.field-0 c.requires.boundary (sym c.cycle.ensures.did ∙ c.in-Dma.is) in
+    sym (name-in c.args.self.now.machine DmaCase is.case)
+
+pub returns-in-Interrupt-clause-moved : goal.returns-in-Interrupt-clause-moved
+returns-in-Interrupt-clause-moved c =
+    c.cycle.ensures.board ∙ (interrupt-move c.args.self.now c.requires.boundary (sym c.cycle.ensures.did ∙ c.in-Interrupt.is)).whole
+
+pub returns-in-Interrupt-clause-named : goal.returns-in-Interrupt-clause-named
+returns-in-Interrupt-clause-named c =
+    let is = interrupt-move c.args.self.now c.requires.boundary (sym c.cycle.ensures.did ∙ c.in-Interrupt.is) in
+    sym (name-in c.args.self.now.machine InterruptCase is.case)
+
+pub returns-in-Idle-clause-moved : goal.returns-in-Idle-clause-moved
+returns-in-Idle-clause-moved c =
+    c.cycle.ensures.board ∙ (idle-move c.args.self.now c.requires.boundary (sym c.cycle.ensures.did ∙ c.in-Idle.is)).whole
+
+pub returns-in-Idle-clause-named : goal.returns-in-Idle-clause-named
+returns-in-Idle-clause-named c =
+    let is = idle-move c.args.self.now c.requires.boundary (sym c.cycle.ensures.did ∙ c.in-Idle.is) in
+    sym (name-in c.args.self.now.machine IdleCase is.case)
