@@ -1,0 +1,277 @@
+-- One machine cycle of the video chip, over what is known of frames and lines: which frames are shown so far, and the bytes of each line.
+use Rattle.std.proofs.Common.{◌≡◌, ◌≢◌, ◌⊎◌, inl, inr, ◌+◌, ◌-◌, ◌*◌, ◌/◌, ◌%◌, ◌<◌, ◌≤◌, ℕ, zero, suc, Bool, true, false, not, cond, List, [], ◌∷◌, ◌++◌, length, get_or, set, map, replicate, ap, subst, sym, ◌∙◌, refl, arith, append-nil, add-one}
+use Rattle.std.proofs.Math.Bool.{◌&&◌, ◌||◌}
+use Rattle.std.specs.Prelude.{Option, Some, None, IsSome, nat_lt, nat_le, slice_get}
+use Rattle.std.specs.Option.{option_map, option_to_list}
+use Rattle.std.proofs.lemmas.Bool.Decides.{nat_tests}
+use Rattle.std.proofs.lemmas.Bool.{lt-ltb, le-ltb}
+use Rattle.machine.specs.Signals.{line_of}
+use Rattle.machine.specs.Pictures.{frame, interrupt_at, window_end, windows_ended, filled}
+use Rattle.vip_video.specs.Chip.{Pictures, blank, is_in_window, begins_frame, follows_window, with_byte, drawn, passed, scanned, framed, finished}
+use Rattle.vip_board.specs.Shown.{bytes_from, window_bytes, shown_frames}
+
+-- the picture of the bytes of a frame
+abbrev pub picture : (ℕ → List ℕ) → ℕ → List (List ℕ)
+picture bytes m = map filled (window_bytes bytes m)
+
+pub record Drawn (shown : ℕ → Bool) (bytes : ℕ → List ℕ) (t : ℕ) (p : Pictures) : Type 0 where
+  pub present : p.shown ≡ shown (t / frame)
+  pub lines : p.lines ≡ window_bytes bytes (t / frame)
+  pub count : p.count ≡ length (shown_frames shown (windows_ended t))
+  pub finished : p.finished ≡ option_map (picture bytes) (slice_get (shown_frames shown (windows_ended t)) 0)
+  pub later_frames : (m : ℕ) → t ≤ interrupt_at m → shown m ≡ true
+  pub later_lines : (line : ℕ) → t ≤ 14 * line → bytes line ≡ []
+
+-- cycle t lies in the window of frame m
+abbrev pub covers : ℕ → ℕ → Bool
+covers m t = nat_lt t (window_end m) && nat_lt (interrupt_at m) (t + 1)
+
+-- what is known after cycle t, with its switch and byte
+pub record Next (shown : ℕ → Bool) (bytes : ℕ → List ℕ) (t : ℕ) (on : Bool) (byte : Option ℕ) (shown' : ℕ → Bool) (bytes' : ℕ → List ℕ) : Type 0 where
+  pub frames : (m : ℕ) → shown' m ≡ (shown m && (on || not (covers m t)))
+  pub here : bytes' (t / 14) ≡ bytes (t / 14) ++ option_to_list byte
+  pub elsewhere : (line : ℕ) → line ≢ t / 14 → bytes' line ≡ bytes line
+  pub from : IsSome byte → 80 ≤ line_of t
+  pub to : IsSome byte → line_of t < 208
+
+-- ---- lists of lines
+
+bytes_from-same : (bytes bytes' : ℕ → List ℕ) (line n : ℕ) → ((k : ℕ) → line ≤ k → k < line + n → bytes' k ≡ bytes k) → bytes_from bytes' line n ≡ bytes_from bytes line n
+bytes_from-same bytes bytes' line zero h = refl
+bytes_from-same bytes bytes' line (suc n) h =
+    ap (λ l. l ∷ bytes_from bytes' (line + 1) n) (h line (omega arith) (omega arith))
+    ∙ ap (λ ls. bytes line ∷ ls) (bytes_from-same bytes bytes' (line + 1) n (λ k a b. h k (omega arith) (omega arith)))
+
+bytes_from-none : (bytes : ℕ → List ℕ) (line n : ℕ) → ((k : ℕ) → line ≤ k → bytes k ≡ []) → bytes_from bytes line n ≡ replicate n []
+bytes_from-none bytes line zero h = refl
+bytes_from-none bytes line (suc n) h =
+    ap (λ l. l ∷ bytes_from bytes (line + 1) n) (h line (omega arith))
+    ∙ ap (λ ls. [] ∷ ls) (bytes_from-none bytes (line + 1) n (λ k a. h k (omega arith)))
+
+-- one more byte in line `line + k`
+bytes_from-more : (bytes bytes' : ℕ → List ℕ) (line n k at b : ℕ) → at ≡ line + k → k < n → bytes' at ≡ bytes at ++ b ∷ [] → ((l : ℕ) → l ≢ at → bytes' l ≡ bytes l) → with_byte k (Some b) (bytes_from bytes line n) ≡ bytes_from bytes' line n
+bytes_from-more bytes bytes' line zero k at b e l h o = absurd (omega arith)
+bytes_from-more bytes bytes' line (suc n) zero at b e l h o =
+    let here : at ≡ line = omega arith in
+    let H : ℕ → Type 0 = λ x. bytes' x ≡ bytes x ++ b ∷ [] in
+    ap (λ x. x ∷ bytes_from bytes (line + 1) n) (sym (subst H here h))
+    ∙ ap (λ ls. bytes' line ∷ ls) (sym (bytes_from-same bytes bytes' (line + 1) n (λ j a c. o j (omega arith))))
+bytes_from-more bytes bytes' line (suc n) (suc k) at b e l h o =
+    ap (λ ls. bytes line ∷ ls) (bytes_from-more bytes bytes' (line + 1) n k at b (omega arith) (omega arith) h o)
+    ∙ ap (λ x. x ∷ bytes_from bytes' (line + 1) n) (sym (o line (omega arith)))
+
+-- ---- places
+
+same_or_not : (k n : ℕ) → (k ≡ n) ⊎ (k ≢ n)
+same_or_not k n = grind arith
+
+either : (b : Bool) → (b ≡ true) ⊎ (b ≡ false)
+either true = inl refl
+either false = inr refl
+
+same_bool : (x y : Bool) → (x ≡ true → y ≡ true) → (y ≡ true → x ≡ true) → x ≡ y
+same_bool true true f g = refl
+same_bool true false f g = sym (f refl)
+same_bool false true f g = g refl
+same_bool false false f g = refl
+
+covers-in : (t : ℕ) → covers (t / frame) t ≡ true → is_in_window t ≡ true
+covers-in t h = grind (arith, nat_tests, h)
+
+in-covers : (t : ℕ) → is_in_window t ≡ true → covers (t / frame) t ≡ true
+in-covers t h = grind (arith, nat_tests, h)
+
+covers-window : (t : ℕ) → covers (t / frame) t ≡ is_in_window t
+covers-window t = same_bool (covers (t / frame) t) (is_in_window t) (covers-in t) (in-covers t)
+
+covers-past : (m t : ℕ) → window_end m ≤ t → covers m t ≡ false
+covers-past m t h = rw (le-ltb t (window_end m) h)
+
+covers-later : (m t : ℕ) → t + 1 ≤ interrupt_at m → covers m t ≡ false
+covers-later m t h = grind (arith, nat_tests)
+
+and-true : (x : Bool) → (x && true) ≡ x
+and-true true = refl
+and-true false = refl
+
+or-true : (x : Bool) → (x || true) ≡ true
+or-true true = refl
+or-true false = refl
+
+stays : (x on c : Bool) → c ≡ false → (x && (on || not c)) ≡ x
+stays x on c h = rw (h, or-true on, and-true x)
+
+module _ (shown : ℕ → Bool) (bytes : ℕ → List ℕ) (t : ℕ) (on : Bool) (byte : Option ℕ) (shown' : ℕ → Bool) (bytes' : ℕ → List ℕ) (p : Pictures) (d : Drawn shown bytes t p) (x : Next shown bytes t on byte shown' bytes') where
+  frame-stays : (m : ℕ) → covers m t ≡ false → shown' m ≡ shown m
+  frame-stays m h = x.frames m ∙ stays (shown m) on (covers m t) h
+
+  -- the frames that have ended stay
+  frames-stay : (n : ℕ) → n ≤ windows_ended t → shown_frames shown' n ≡ shown_frames shown n
+  frames-stay zero h = refl
+  frames-stay (suc n) h =
+      let same : shown' n ≡ shown n = frame-stays n (covers-past n t (omega arith)) in
+      ap (λ b. cond b (n ∷ shown_frames shown' n) (shown_frames shown' n)) same
+      ∙ ap (λ l. cond (shown n) (n ∷ l) l) (frames-stay n (omega arith))
+
+  window-stays : (m : ℕ) → m < windows_ended t → window_bytes bytes' m ≡ window_bytes bytes m
+  unfolding window_bytes
+  window-stays m h = bytes_from-same bytes bytes' (262 * m + 80) 128 (λ k a b. x.elsewhere k (omega arith))
+
+  drawn-present : (drawn t on byte p).shown ≡ shown' (t / frame)
+  drawn-present =
+      ap (λ s. s && (on || not (is_in_window t))) d.present
+      ∙ ap (λ c. shown (t / frame) && (on || not c)) (sym (covers-window t))
+      ∙ sym (x.frames (t / frame))
+
+  everywhere : bytes' (t / 14) ≡ bytes (t / 14) ++ [] → (k : ℕ) → bytes' k ≡ bytes k
+  everywhere h k =
+      let Same : ℕ → Type 0 = λ l. bytes' l ≡ bytes l in
+      elim (same_or_not k (t / 14)) [ inl e ↦ subst Same (sym e) (h ∙ append-nil (bytes (t / 14))) | inr n ↦ x.elsewhere k n ]
+
+  lines-of : (o : Option ℕ) → bytes' (t / 14) ≡ bytes (t / 14) ++ option_to_list o → (IsSome o → 80 ≤ line_of t) → (IsSome o → line_of t < 208) → with_byte (line_of t - 80) o (window_bytes bytes (t / frame)) ≡ window_bytes bytes' (t / frame)
+  unfolding window_bytes
+  lines-of None h f g = sym (bytes_from-same bytes bytes' (262 * (t / frame) + 80) 128 (λ k a b. everywhere h k))
+  lines-of (Some b) h f g =
+      bytes_from-more bytes bytes' (262 * (t / frame) + 80) 128 (line_of t - 80) (t / 14) b (omega (arith, f refl)) (omega (arith, f refl, g refl)) h x.elsewhere
+
+  drawn-lines : (drawn t on byte p).lines ≡ window_bytes bytes' (t / frame)
+  drawn-lines = ap (with_byte (line_of t - 80) byte) d.lines ∙ lines-of byte x.here x.from x.to
+
+  later_frames' : (m : ℕ) → t + 1 ≤ interrupt_at m → shown' m ≡ true
+  later_frames' m h = frame-stays m (covers-later m t h) ∙ d.later_frames m (omega arith)
+
+  later_lines' : (line : ℕ) → t + 1 ≤ 14 * line → bytes' line ≡ []
+  later_lines' line h = x.elsewhere line (omega arith) ∙ d.later_lines line (omega arith)
+
+  -- the last picture stays where no window ends
+  picks : (b : Bool) (n : ℕ) → n < windows_ended t → option_map (picture bytes') (slice_get (shown_frames shown n) 0) ≡ option_map (picture bytes) (slice_get (shown_frames shown n) 0) → option_map (picture bytes') (slice_get (cond b (n ∷ shown_frames shown n) (shown_frames shown n)) 0) ≡ option_map (picture bytes) (slice_get (cond b (n ∷ shown_frames shown n) (shown_frames shown n)) 0)
+  picks true n h e = ap (λ w. Some (map filled w)) (window-stays n h)
+  picks false n h e = e
+
+  picture-stays : (n : ℕ) → n ≤ windows_ended t → option_map (picture bytes') (slice_get (shown_frames shown n) 0) ≡ option_map (picture bytes) (slice_get (shown_frames shown n) 0)
+  picture-stays zero h = refl
+  picture-stays (suc n) h = picks (shown n) n (omega arith) (picture-stays n (omega arith))
+
+  count-stays : (n : ℕ) → n ≡ windows_ended t → p.count ≡ length (shown_frames shown' n)
+  count-stays n e =
+      d.count ∙ ap (λ k. length (shown_frames shown k)) (sym e) ∙ ap length (sym (frames-stay n (omega arith)))
+
+  finished-stays : (n : ℕ) → n ≡ windows_ended t → p.finished ≡ option_map (picture bytes') (slice_get (shown_frames shown' n) 0)
+  finished-stays n e =
+      d.finished
+      ∙ ap (λ k. option_map (picture bytes) (slice_get (shown_frames shown k) 0)) (sym e)
+      ∙ sym (picture-stays n (omega arith))
+      ∙ ap (λ l. option_map (picture bytes') (slice_get l 0)) (sym (frames-stay n (omega arith)))
+
+  abbrev q : Pictures
+  q = drawn t on byte p
+
+  -- a cycle in the middle of a frame and of its window, or outside it
+  goes-on : (t + 1) / frame ≡ t / frame → windows_ended (t + 1) ≡ windows_ended t → Drawn shown' bytes' (t + 1) q
+  goes-on f w =
+      record {
+        present = drawn-present ∙ ap shown' (sym f);
+        lines = drawn-lines ∙ ap (window_bytes bytes') (sym f);
+        count = count-stays (windows_ended (t + 1)) w;
+        finished = finished-stays (windows_ended (t + 1)) w;
+        later_frames = later_frames';
+        later_lines = later_lines';
+      }
+
+  new-lines : (t + 1) % 3668 ≡ 0 → blank ≡ window_bytes bytes' ((t + 1) / frame)
+  unfolding window_bytes
+  new-lines h = sym (bytes_from-none bytes' (262 * ((t + 1) / frame) + 80) 128 (λ k a. later_lines' k (omega arith)))
+
+  -- the last cycle of a frame
+  begins : (t + 1) % 3668 ≡ 0 → Drawn shown' bytes' (t + 1) (framed q)
+  begins h =
+      let same : windows_ended (t + 1) ≡ windows_ended t = omega arith in
+      record {
+        present = sym (later_frames' ((t + 1) / frame) (omega arith));
+        lines = new-lines h;
+        count = count-stays (windows_ended (t + 1)) same;
+        finished = finished-stays (windows_ended (t + 1)) same;
+        later_frames = later_frames';
+        later_lines = later_lines';
+      }
+
+  -- the last cycle of a window whose frame is shown, or isn't
+  frames-more : (b : Bool) (n m : ℕ) → n ≡ suc m → shown' m ≡ b → shown_frames shown' n ≡ cond b (m ∷ shown_frames shown' m) (shown_frames shown' m)
+  frames-more b n m e h = rw (e, h)
+
+  ends-shown : (t + 1) % 3668 ≡ 2912 → q.shown ≡ true → Drawn shown' bytes' (t + 1) (finished q)
+  ends-shown h s =
+      let m = t / frame in
+      let f : (t + 1) / frame ≡ t / frame = omega arith in
+      let w : t / frame ≡ windows_ended t = omega arith in
+      let n : windows_ended (t + 1) ≡ suc (t / frame) = omega arith in
+      let more = frames-more true (windows_ended (t + 1)) (t / frame) n (sym drawn-present ∙ s) in
+      record {
+        present = drawn-present ∙ ap shown' (sym f);
+        lines = drawn-lines ∙ ap (window_bytes bytes') (sym f);
+        count = ap (λ k. k + 1) (count-stays (t / frame) w) ∙ add-one _ ∙ ap length (sym more);
+        finished = ap (λ l. Some (map filled l)) drawn-lines ∙ ap (λ l. option_map (picture bytes') (slice_get l 0)) (sym more);
+        later_frames = later_frames';
+        later_lines = later_lines';
+      }
+
+  ends-hidden : (t + 1) % 3668 ≡ 2912 → q.shown ≡ false → Drawn shown' bytes' (t + 1) q
+  ends-hidden h s =
+      let f : (t + 1) / frame ≡ t / frame = omega arith in
+      let w : t / frame ≡ windows_ended t = omega arith in
+      let n : windows_ended (t + 1) ≡ suc (t / frame) = omega arith in
+      let more = frames-more false (windows_ended (t + 1)) (t / frame) n (sym drawn-present ∙ s) in
+      record {
+        present = drawn-present ∙ ap shown' (sym f);
+        lines = drawn-lines ∙ ap (window_bytes bytes') (sym f);
+        count = count-stays (t / frame) w ∙ ap length (sym more);
+        finished = finished-stays (t / frame) w ∙ ap (λ l. option_map (picture bytes') (slice_get l 0)) (sym more);
+        later_frames = later_frames';
+        later_lines = later_lines';
+      }
+
+  abbrev D : Pictures → Type 0
+  D r = Drawn shown' bytes' (t + 1) r
+
+  is-finished : follows_window (t + 1) ≡ true → q.shown ≡ true → begins_frame (t + 1) ≡ false → passed (t + 1) q ≡ finished q
+  is-finished a s b = rw (b, a, s)
+
+  is-hidden : follows_window (t + 1) ≡ true → q.shown ≡ false → begins_frame (t + 1) ≡ false → passed (t + 1) q ≡ q
+  is-hidden a s b = rw (b, a, s)
+
+  is-same : follows_window (t + 1) ≡ false → begins_frame (t + 1) ≡ false → passed (t + 1) q ≡ q
+  is-same a b = rw (b, a)
+
+  is-framed : begins_frame (t + 1) ≡ true → passed (t + 1) q ≡ framed q
+  is-framed b = rw b
+
+  begins-at : begins_frame (t + 1) ≡ true → (t + 1) % 3668 ≡ 0
+  begins-at b = grind (arith, nat_tests, b)
+
+  begins-not : begins_frame (t + 1) ≡ false → (t + 1) % 3668 ≢ 0
+  begins-not b = grind (arith, nat_tests, b)
+
+  follows-at : follows_window (t + 1) ≡ true → (t + 1) % 3668 ≡ 2912
+  follows-at b = grind (arith, nat_tests, b)
+
+  follows-not : follows_window (t + 1) ≡ false → (t + 1) % 3668 ≢ 2912
+  follows-not b = grind (arith, nat_tests, b)
+
+  in-frame : begins_frame (t + 1) ≡ false → D (passed (t + 1) q)
+  in-frame b =
+      let nb = begins-not b in
+      elim (either (follows_window (t + 1))) [
+        | inr a ↦ (let na = follows-not a in subst D (sym (is-same a b)) (goes-on (omega arith) (omega arith)))
+        | inl a ↦
+            elim (either q.shown) [
+              | inl s ↦ subst D (sym (is-finished a s b)) (ends-shown (follows-at a) s)
+              | inr s ↦ subst D (sym (is-hidden a s b)) (ends-hidden (follows-at a) s)
+            ]
+      ]
+
+  pub after-cycle : Drawn shown' bytes' (t + 1) (scanned t on byte p)
+  after-cycle =
+      elim (either (begins_frame (t + 1))) [
+        | inl b ↦ subst D (sym (is-framed b)) (begins (begins-at b))
+        | inr b ↦ in-frame b
+      ]

@@ -1,0 +1,37 @@
+-- What the video chip of a board has of pictures, by the moves made so far: what the definition of pictures says of them.
+use Rattle.std.specs.Prelude.{◌≡◌, ◌≤◌, ℕ, zero, suc, ◌+◌, ◌*◌, ◌/◌, if◌then◌else◌, Bool, true, List, [], ◌∷◌, length, filter, map, slice_get}
+use Rattle.std.specs.Option.{option_map}
+use Rattle.machine.specs.Board.{Machine, dma_byte}
+use Rattle.machine.specs.Pictures.{frame, interrupt_at, windows_ended, is_dma_in, picture_of, is_shown}
+use Rattle.vip_video.specs.Chip.{Pictures}
+
+-- the bytes of the DMA cycles of a line so far, the line counted since reset
+abbrev pub dma_bytes : List ℕ → List Machine → ℕ → List ℕ
+dma_bytes rom run line = map (dma_byte rom) (filter (is_dma_in line) run)
+
+-- those of so many lines from this one on
+abbrev pub bytes_from : (ℕ → List ℕ) → ℕ → ℕ → List (List ℕ)
+bytes_from bytes line zero = []
+bytes_from bytes line (suc n) = bytes line ∷ bytes_from bytes (line + 1) n
+
+-- those of lines 80 to 207 of frame m
+unfoldable pub window_bytes : (ℕ → List ℕ) → ℕ → List (List ℕ)
+window_bytes bytes m = bytes_from bytes (262 * m + 80) 128
+
+-- those of the first n frames that have a picture, the last one first
+abbrev pub shown_frames : (ℕ → Bool) → ℕ → List ℕ
+shown_frames shown zero = []
+shown_frames shown (suc n) = if shown n then n ∷ shown_frames shown n else shown_frames shown n
+
+-- The moves of `run` have been made, and `cycle` is the number of the present machine cycle. A frame whose window hasn't ended is shown
+-- so far where the display was on in each of its cycles that has passed.
+pub record Shows (rom : List ℕ) (run : List Machine) (cycle : ℕ) (p : Pictures) : Type 0 where
+  -- the present frame
+  pub shown : p.shown ≡ is_shown rom run (cycle / frame)
+  pub lines : p.lines ≡ window_bytes (dma_bytes rom run) (cycle / frame)
+  -- the frames whose windows have ended
+  pub count : p.count ≡ length (shown_frames (is_shown rom run) (windows_ended cycle))
+  pub finished : p.finished ≡ option_map (picture_of rom run) (slice_get (shown_frames (is_shown rom run) (windows_ended cycle)) 0)
+  -- the frames and lines to come
+  pub later_frames : (m : ℕ) → cycle ≤ interrupt_at m → is_shown rom run m ≡ true
+  pub later_lines : (line : ℕ) → cycle ≤ 14 * line → dma_bytes rom run line ≡ []
