@@ -1,9 +1,10 @@
 -- What the video chip of a board has of pictures, by the moves made so far: what the definition of pictures says of them.
-use Rattle.std.specs.Prelude.{◌≡◌, ◌≤◌, ℕ, zero, suc, ◌+◌, ◌*◌, ◌/◌, if◌then◌else◌, Bool, true, List, [], ◌∷◌, length, filter, map, slice_get}
+use Rattle.std.specs.Prelude.{◌≡◌, ◌≤◌, ℕ, zero, suc, ◌+◌, ◌*◌, ◌/◌, if◌then◌else◌, Bool, true, List, [], ◌∷◌, ◌++◌, length, filter, map, slice_get}
 use Rattle.std.specs.Option.{option_map}
 use Rattle.machine.specs.Board.{Machine, dma_byte}
 use Rattle.machine.specs.Pictures.{frame, interrupt_at, windows_ended, is_dma_in, picture_of, is_shown}
 use Rattle.vip_video.specs.Chip.{Pictures}
+use Rattle.vip_board.specs.Seen.{Seen}
 
 -- the bytes of the DMA cycles of a line so far, the line counted since reset
 abbrev pub dma_bytes : List ℕ → List Machine → ℕ → List ℕ
@@ -35,3 +36,8 @@ pub record Shows (rom : List ℕ) (run : List Machine) (cycle : ℕ) (p : Pictur
   -- the frames and lines to come
   pub later_frames : (m : ℕ) → cycle ≤ interrupt_at m → is_shown rom run m ≡ true
   pub later_lines : (line : ℕ) → cycle ≤ 14 * line → dma_bytes rom run line ≡ []
+
+-- where a board has the pictures of the moves made so far, it has them with one move more after that move
+abbrev pub CarriesOn : Seen → Seen → Type 0
+CarriesOn s v =
+    (run : List Machine) → Shows s.rom run s.machine.cycle s.pictures → Shows v.rom (run ++ s.machine ∷ []) v.machine.cycle v.pictures

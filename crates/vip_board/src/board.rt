@@ -2,7 +2,9 @@
 
 ghost use Rattle.std.specs.Prelude.{◌≡◌, ◌+◌, ◌-◌, ◌≤◌, ◌<◌, ◌^◌, ◌↔◌, ℕ, [], IsTrue, IfOk, length};
 ghost use Rattle.machine.specs.Instruction.{at};
+ghost use Rattle.machine.specs.Ranges.{FitsMachine, FitsRom};
 ghost use Rattle.machine.specs.Signals.{int_at, dma_at};
+ghost use Rattle.vip_board.specs.Shown.{Shows, CarriesOn};
 ghost use Rattle.vip_board.specs.Seen.{byte_in};
 
 use crate::wires::Wires;
@@ -69,7 +71,9 @@ impl Board {
     /// A board after reset, at a boundary, with a ROM of 2,048 bytes.
     pub fn reset(alloc: Global, rom: &[u8]) -> Result<Board, AllocError>
         requires { length rom.now ≡ 0x800 }
-        ensures { IfOk result (λ b. b ≡ record { machine = after_reset; phase = Phase.Boundary; pictures = nothing_yet; rom = rom.now; script = [] }) }
+        ensures board { IfOk result (λ b. b ≡ record { machine = after_reset; phase = Phase.Boundary; pictures = nothing_yet; rom = rom.now; script = [] }) }
+        ensures pictures { IfOk result (λ b. Shows b.rom [] b.machine.cycle b.pictures) }
+        ensures fits { IfOk result (λ b. FitsMachine b.machine × FitsRom b.rom) }
     {
         let memory = Memory::new(alloc, rom)?;
         let wires = Wires {
@@ -204,6 +208,8 @@ impl Board {
         ensures rests { self.new.phase ≡ Phase.Boundary }
         ensures kept { result ≡ Moved.End → self.new ≡ self.old }
         ensures moved { IfDone result (λ m. (self.new ≡ moved self.old) × (m ≡ name_of self.old.machine)) }
+        ensures pictures { IfDone result (λ _. CarriesOn self.old self.new) }
+        ensures fits { FitsRom self.old.rom → FitsMachine self.old.machine → FitsMachine self.new.machine }
     {
         let length = self.next_length();
         if length > limit || self.now() > limit - length {
