@@ -1,9 +1,8 @@
 -- What holds of each of the 256 opcodes, by computing it for all of them.
-use Rattle.std.proofs.Common.{◌≡◌, ◌<◌, ◌≤◌, ◌%◌, ℕ, Bool, true, refl, subst, eqb, leb, eqb-true, leb-true}
-use Rattle.machine.specs.declared.Kind.{Kind}
-use Rattle.machine.specs.declared.Kind.TheVariants.{Inp}
+use Rattle.std.proofs.Common.{◌≡◌, ◌<◌, ℕ, get_or, refl, eqb, leb, eqb-true, leb-true}
 use Rattle.machine.specs.Opcodes.{kind_of, number_of}
 use Rattle.vip_isa.specs.Rows.{least_of, greatest_of, decoded, opcode_of, IsValid}
+use Rattle.vip_isa.specs.declared.table.TheConstants.{NUMBERS}
 use Rattle.vip_isa.proofs.Below.{at-passes_below}
 
 pub opcode_of-decoded : (byte : ℕ) → byte < 256 → opcode_of (decoded byte) ≡ byte
@@ -16,12 +15,6 @@ decoded_is_valid byte h =
       to_greatest = leb-true _ _ (at-passes_below (λ b. leb (number_of b) (greatest_of (kind_of b))) 256 refl byte h);
     }
 
--- a test at INP alone
-abbrev at_inp : Kind → Bool → Bool
-at_inp Inp test = test
-at_inp _ test = true
-
--- the ports of INP stand at 9 to F
-pub eight_below_inp : (byte : ℕ) → byte < 256 → kind_of byte ≡ Inp → 8 ≤ byte % 16
-eight_below_inp byte h is_inp =
-    leb-true _ _ (subst (λ k. at_inp k (leb 8 (byte % 16)) ≡ true) is_inp (at-passes_below (λ b. at_inp (kind_of b) (leb 8 (b % 16))) 256 refl byte h))
+-- the code's table of numbers holds the number of each opcode
+pub numbers-at : (byte : ℕ) → byte < 256 → get_or NUMBERS byte 0 ≡ number_of byte
+numbers-at byte h = eqb-true _ _ (at-passes_below (λ b. eqb (get_or NUMBERS b 0) (number_of b)) 256 refl byte h)

@@ -1,9 +1,11 @@
-//! The 256 opcodes of the CDP1802: what each byte means as an instruction, how it is written, and how long it is and takes.
+//! The 256 opcodes of the CDP1802: what each byte means as an instruction, how it is written, how
+//! long it is and how long it takes.
 //!
-//! It stands on `machine`, whose tables say of each opcode its kind, its number and its machine cycles. The layers above may rely on
-//! this: `decode` and `encode` are inverse to each other over all 256 opcodes, and `cycles`, `size` and `mnemonic` are those of the
-//! rows in `specs/Rows.antt`. The source is the "Instruction Summary" of RCA's data sheet of the CDP1802. Opcode 68, which the data
-//! sheet leaves out, is `Undefined`: one byte, two cycles, written `DB` (this project's profile).
+//! The crate stands on `machine`, whose tables say of each opcode its kind, its number and its
+//! machine cycles. The layers above may rely on this: `encode(&decode(byte)) == byte` for each byte,
+//! and `cycles`, `size` and `mnemonic` are those of the rows in `specs/Rows.antt`. The source is the
+//! "Instruction Summary" of RCA's data sheet of the CDP1802. Opcode 68, which the data sheet leaves
+//! out, is `Undefined`: one byte, two cycles, written `DB` (this project's profile).
 #![tactic(auto)]
 
 ghost use Rattle.std.specs.Prelude.{◌≡◌, ◌↔◌, IsTrue};
@@ -14,7 +16,7 @@ mod rows;
 mod table;
 
 use crate::rows::{first_opcode, greatest, least, mnemonic_in, size_in};
-use crate::table::{kind_at, number_in};
+use crate::table::{kind_at, number_at};
 pub use machine::Kind;
 
 /// An opcode by its parts.
@@ -22,13 +24,14 @@ pub use machine::Kind;
 pub struct Op {
     /// What the opcode does.
     pub kind: Kind,
-    /// The number in the opcode's low half: N of R(N) for the kinds that name a register, the port 1 to 7 for OUT and INP, else 0.
+    /// The number in the opcode's low half: N for the kinds that name the register R(N), the port
+    /// 1 to 7 for OUT and INP, else 0.
     pub n: u8,
 }
 
 impl Op {
-    /// Whether the number is one that the kind can have: 0 to 15 for the kinds that name a register, where LDN has no 0, 1 to 7 for OUT
-    /// and INP, and 0 for all others.
+    /// Whether the number is one that the kind can have: 1 to 15 for LDN, 0 to 15 for the other kinds
+    /// that name a register, 1 to 7 for OUT and INP, and 0 for all others.
     pub fn valid(&self) -> bool
         ensures { IsTrue result ↔ IsValid self.now }
     {
@@ -42,10 +45,9 @@ pub fn decode(byte: u8) -> Op
     ensures valid { IsValid result }
     ensures opcode { opcode_of result ≡ byte }
 {
-    let kind = kind_at(byte);
     Op {
-        kind,
-        n: number_in(kind, byte),
+        kind: kind_at(byte),
+        n: number_at(byte),
     }
 }
 
@@ -76,4 +78,57 @@ pub fn mnemonic(byte: u8) -> &'static str
     ensures { result.now ≡ mnemonic_of (kind_of byte) }
 {
     mnemonic_in(kind_at(byte))
+}
+
+#[cfg(test)]
+mod tests {
+    use super::*;
+
+    // Rows of the data sheet's table: opcode, mnemonic, number, bytes, machine cycles.
+    #[test]
+    fn rows_of_the_data_sheet(rt: HostRuntime) {
+        let rows = [
+            (0x00, "IDL", 0, 1, 2),
+            (0x07, "LDN", 7, 1, 2),
+            (0x30, "BR", 0, 2, 2),
+            (0x38, "SKP", 0, 1, 2),
+            (0x67, "OUT", 7, 1, 2),
+            (0x68, "DB", 0, 1, 2),
+            (0x6C, "INP", 4, 1, 2),
+            (0x7F, "SMBI", 0, 2, 2),
+            (0xAB, "PLO", 11, 1, 2),
+            (0xC2, "LBZ", 0, 3, 3),
+            (0xC4, "NOP", 0, 1, 3),
+            (0xFE, "SHL", 0, 1, 2),
+        ];
+        for (byte, name, n, bytes, time) in rows {
+            let op = decode(byte);
+            assert!(rt; mnemonic(byte) == name, "at {byte}");
+            assert_eq!(rt;
+                (op.n, size(byte), cycles(byte)),
+                (n, bytes, time),
+                "at {byte}"
+            );
+            assert_eq!(rt; encode(&op), byte);
+        }
+    }
+
+    #[test]
+    fn numbers_that_a_kind_can_have(rt: HostRuntime) {
+        let rows = [
+            (Kind::Idl, 0, true),
+            (Kind::Idl, 1, false),
+            (Kind::Ldn, 0, false),
+            (Kind::Ldn, 15, true),
+            (Kind::Sex, 0, true),
+            (Kind::Sex, 16, false),
+            (Kind::Out, 0, false),
+            (Kind::Out, 7, true),
+            (Kind::Inp, 1, true),
+            (Kind::Inp, 8, false),
+        ];
+        for (kind, n, valid) in rows {
+            assert_eq!(rt; Op { kind, n }.valid(), valid, "at {n}");
+        }
+    }
 }

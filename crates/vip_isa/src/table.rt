@@ -1,10 +1,11 @@
-//! The table of the 256 opcodes, and the number in an opcode.
+//! The tables of the 256 opcodes. They are statics, since a constant would be copied at each look-up.
 
 ghost use Rattle.std.specs.Prelude.{◌≡◌};
-ghost use Rattle.machine.specs.Opcodes.{kind_of, number_in};
+ghost use Rattle.machine.specs.Opcodes.{kind_of, number_of};
 
 use machine::Kind;
 
+/// The kind of each opcode.
 static KINDS: [Kind; 256] = [
     Kind::Idl,
     Kind::Ldn,
@@ -264,6 +265,19 @@ static KINDS: [Kind; 256] = [
     Kind::Smi,
 ];
 
+/// The number in each opcode.
+static NUMBERS: [u8; 256] = [
+    0, 1, 2, 3, 4, 5, 6, 7, 8, 9, 10, 11, 12, 13, 14, 15, 0, 1, 2, 3, 4, 5, 6, 7, 8, 9, 10, 11, 12,
+    13, 14, 15, 0, 1, 2, 3, 4, 5, 6, 7, 8, 9, 10, 11, 12, 13, 14, 15, 0, 0, 0, 0, 0, 0, 0, 0, 0, 0,
+    0, 0, 0, 0, 0, 0, 0, 1, 2, 3, 4, 5, 6, 7, 8, 9, 10, 11, 12, 13, 14, 15, 0, 1, 2, 3, 4, 5, 6, 7,
+    8, 9, 10, 11, 12, 13, 14, 15, 0, 1, 2, 3, 4, 5, 6, 7, 0, 1, 2, 3, 4, 5, 6, 7, 0, 0, 0, 0, 0, 0,
+    0, 0, 0, 0, 0, 0, 0, 0, 0, 0, 0, 1, 2, 3, 4, 5, 6, 7, 8, 9, 10, 11, 12, 13, 14, 15, 0, 1, 2, 3,
+    4, 5, 6, 7, 8, 9, 10, 11, 12, 13, 14, 15, 0, 1, 2, 3, 4, 5, 6, 7, 8, 9, 10, 11, 12, 13, 14, 15,
+    0, 1, 2, 3, 4, 5, 6, 7, 8, 9, 10, 11, 12, 13, 14, 15, 0, 0, 0, 0, 0, 0, 0, 0, 0, 0, 0, 0, 0, 0,
+    0, 0, 0, 1, 2, 3, 4, 5, 6, 7, 8, 9, 10, 11, 12, 13, 14, 15, 0, 1, 2, 3, 4, 5, 6, 7, 8, 9, 10,
+    11, 12, 13, 14, 15, 0, 0, 0, 0, 0, 0, 0, 0, 0, 0, 0, 0, 0, 0, 0, 0,
+];
+
 /// The kind of an opcode.
 pub fn kind_at(byte: u8) -> Kind
     ensures { result ≡ kind_of byte }
@@ -271,25 +285,9 @@ pub fn kind_at(byte: u8) -> Kind
     KINDS[byte as usize]
 }
 
-/// The number in an opcode of this kind.
-pub fn number_in(kind: Kind, byte: u8) -> u8
-    requires { kind ≡ kind_of byte }
-    ensures { result ≡ number_in kind byte }
+/// The number in an opcode.
+pub fn number_at(byte: u8) -> u8
+    ensures { result ≡ number_of byte }
 {
-    match kind {
-        Kind::Ldn
-        | Kind::Inc
-        | Kind::Dec
-        | Kind::Lda
-        | Kind::Str
-        | Kind::Glo
-        | Kind::Ghi
-        | Kind::Plo
-        | Kind::Phi
-        | Kind::Sep
-        | Kind::Sex
-        | Kind::Out => byte % 16,
-        Kind::Inp => byte % 16 - 8,
-        _ => 0,
-    }
+    NUMBERS[byte as usize]
 }
