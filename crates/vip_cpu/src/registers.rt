@@ -1,7 +1,7 @@
 //! The registers of the CDP1802, and what instructions, DMA and interrupts make of them.
 
-ghost use Rattle.std.specs.Prelude.{◌≡◌, ℕ, ◌+◌, ◌-◌, ◌*◌, ◌/◌, ◌%◌, ◌<◌, ◌==◌, true, false};
-ghost use Rattle.machine.specs.Bank.{word, word_of, get};
+ghost use Rattle.std.specs.Prelude.{◌≡◌, ℕ, ◌+◌, ◌-◌, ◌*◌, ◌/◌, ◌%◌, ◌<◌, ◌==◌, if◌then◌else◌, true, false};
+ghost use Rattle.machine.specs.Bank.{word, word_of, up, get};
 ghost use Rattle.machine.specs.Instruction.{Regs, at, with_reg, stepped, stepped_back, loaded, df_d, regs_after_reset, after_dma, interrupted, branched, long_branched, skipped, returned, marked};
 ghost use Rattle.vip_cpu.specs.Bit.{bit};
 ghost use Rattle.vip_cpu.specs.Parts.{regs_of};
@@ -33,6 +33,19 @@ impl Model for Registers {
     ghost view = { λ a. record { r = a.r; d = a.d; df = bit a.df; p = a.p; x = a.x; t = a.t; q = a.q; ie = a.ie; idle = a.idle } };
 
     ghost invariant = { λ a. (a.p < 16) × (a.x < 16) };
+}
+
+/// Where a short branch whose second byte is at this address goes on. The sum says it by a distance, since clang 22.1.8 loses the high
+/// byte of a number with a new low byte where it chooses between that and another.
+fn branch_target(address: u16, taken: bool, next: u8) -> u16
+    ensures { word_of result ≡ (if taken then word (word_of address).hi next else up (word_of address)) }
+{
+    let distance = if taken {
+        (next as u16).wrapping_sub(address % 256)
+    } else {
+        1
+    };
+    address.wrapping_add(distance)
 }
 
 #[tactic(auto, using(crate::proofs::Words::of_words))]
@@ -293,12 +306,8 @@ impl Registers {
     pub fn branch(&mut self, taken: bool, next: u8)
         ensures { self.new ≡ branched self.old taken next }
     {
-        if taken {
-            let high = self.high(self.p);
-            self.set_bytes(self.p, high, next);
-        } else {
-            self.increment(self.p);
-        }
+        let address = self.r(self.p);
+        self.set(self.p, branch_target(address, taken, next));
     }
 
     /// A long branch: R(P) = (next, after) where it is taken, else R(P) + 2.

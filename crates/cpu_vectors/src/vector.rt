@@ -1,0 +1,218 @@
+//! One vector: an instruction, with the state before and after it.
+
+ghost use Rattle.std.specs.Prelude.{◌<◌};
+
+use hex::{FromHex, FromHexError};
+use std::alloc::{AllocFailed, Global};
+use std::str::SplitWhitespace;
+use thiserror::Error;
+use vip_cpu::{Cpu, Parts};
+
+/// Why a line gave no vector.
+#[derive(Clone, Copy, Debug, PartialEq, Eq, Error)]
+pub enum VectorFault {
+    #[error("not a vector")]
+    NotAVector,
+    #[error("no memory")]
+    NoMemory,
+}
+
+impl From<FromHexError> for VectorFault {
+    fn from(_: FromHexError) -> VectorFault {
+        VectorFault::NotAVector
+    }
+}
+
+impl<T: Drop> From<AllocFailed<T>> for VectorFault {
+    fn from(_: AllocFailed<T>) -> VectorFault {
+        VectorFault::NoMemory
+    }
+}
+
+/// The registers of a processor at a boundary.
+#[derive(Clone, Copy, PartialEq, Eq)]
+pub struct State {
+    pub r: [u16; 16],
+    pub d: u8,
+    pub t: u8,
+    /// X and P as the halves of a byte, as T holds them.
+    pub xp: u8,
+    /// 4 * IE + 2 * Q + DF.
+    pub bits: u8,
+}
+
+/// A call of a processor that changes its bus.
+#[derive(Clone, Copy, PartialEq, Eq)]
+pub enum Call {
+    Write(u16, u8),
+    Out(u8, u8),
+    Inp(u8),
+}
+
+#[derive(Drop)]
+pub struct Vector {
+    pub is_board: bool,
+    pub before: State,
+    pub after: State,
+    /// EF1 to EF4.
+    pub flags: [bool; 4],
+    /// The byte that an INP takes.
+    pub taken: u8,
+    /// The two bytes of an address and the byte there.
+    pub memory: Vec<[u8; 3]>,
+    /// What the instruction does on the bus, the port first.
+    pub calls: Vec<Call>,
+    pub cycles: u8,
+}
+
+impl State {
+    /// The state of a processor at a boundary.
+    pub fn of(cpu: &Cpu) -> State {
+        let mut r = [0; 16];
+        for n in 0..16u8 {
+            r[n as usize] = cpu.r(n);
+        }
+        State {
+            r,
+            d: cpu.d(),
+            t: cpu.t(),
+            xp: cpu.x() * 16 + cpu.p(),
+            bits: 4 * cpu.ie() as u8 + 2 * cpu.q() as u8 + cpu.df() as u8,
+        }
+    }
+
+    /// The parts of a processor in this state, but for IE.
+    pub fn parts(&self) -> Parts
+        ensures x { result.x < 16 }
+        ensures p { result.p < 16 }
+    {
+        Parts {
+            r: self.r,
+            d: self.d,
+            t: self.t,
+            x: self.xp / 16,
+            p: self.xp % 16,
+            df: self.bits % 2 == 1,
+            q: self.bits / 2 % 2 == 1,
+        }
+    }
+
+    pub fn ie(&self) -> bool {
+        self.bits / 4 % 2 == 1
+    }
+
+    fn read(registers: &str, others: &str) -> Result<State, VectorFault> {
+        let bytes = <[u8; 32]>::from_hex(registers)?;
+        let [d, t, xp, bits] = <[u8; 4]>::from_hex(others)?;
+        let mut r = [0; 16];
+        for n in 0..16 {
+            r[n] = word(bytes[2 * n], bytes[2 * n + 1]);
+        }
+        Ok(State { r, d, t, xp, bits })
+    }
+
+    /// Puts a number into the register of this name, as in the seventh field of a vector. False where there is no such name.
+    fn change(&mut self, name: u8, high: u8, low: u8) -> bool {
+        match name {
+            0x00..=0x0F => self.r[name as usize] = word(high, low),
+            0x10 => self.d = low,
+            0x11 => self.t = low,
+            0x12 => self.xp = low,
+            0x13 => self.bits = low,
+            _ => return false,
+        }
+        true
+    }
+}
+
+fn word(high: u8, low: u8) -> u16 {
+    high as u16 * 256 + low as u16
+}
+
+/// A list of three bytes each, without separators; `-` is the empty list.
+fn read_list(alloc: Global, text: &str) -> Result<Vec<[u8; 3]>, VectorFault> {
+    let mut list = Vec::new(alloc);
+    if text == "-" {
+        return Ok(list);
+    }
+    for digits in text.as_bytes().chunks(6) {
+        let bytes = <[u8; 3]>::from_hex(digits)?;
+        list.push(bytes)?;
+    }
+    Ok(list)
+}
+
+/// The call at a port: N, 1 to 7 for OUT and 9 to F for INP, and the byte sent; `-` is none.
+fn read_port(text: &str) -> Result<Option<Call>, VectorFault> {
+    if text == "-" {
+        return Ok(None);
+    }
+    let [n, byte] = <[u8; 2]>::from_hex(text)?;
+    match n {
+        1..=7 => Ok(Some(Call::Out(n, byte))),
+        9..=15 => Ok(Some(Call::Inp(n - 8))),
+        _ => Err(VectorFault::NotAVector),
+    }
+}
+
+/// The writes to memory, after the call at a port if there is one.
+fn read_calls(alloc: Global, writes: &str, port: &str) -> Result<Vec<Call>, VectorFault> {
+    let mut calls = Vec::new(alloc);
+    if let Some(call) = read_port(port)? {
+        calls.push(call)?;
+    }
+    for &[high, low, byte] in read_list(alloc, writes)?.iter() {
+        calls.push(Call::Write(word(high, low), byte))?;
+    }
+    Ok(calls)
+}
+
+/// The state after some changes.
+fn read_changes(alloc: Global, before: &State, text: &str) -> Result<State, VectorFault> {
+    let mut after = *before;
+    for &[name, high, low] in read_list(alloc, text)?.iter() {
+        if !after.change(name, high, low) {
+            return Err(VectorFault::NotAVector);
+        }
+    }
+    Ok(after)
+}
+
+/// The flags EF1 to EF4 of the bits 0 to 3.
+fn flags_of(bits: u8) -> [bool; 4] {
+    [
+        bits % 2 == 1,
+        bits / 2 % 2 == 1,
+        bits / 4 % 2 == 1,
+        bits / 8 % 2 == 1,
+    ]
+}
+
+fn next<'a>(fields: &mut SplitWhitespace<'a>) -> Result<&'a str, VectorFault> {
+    fields.next().ok_or(VectorFault::NotAVector)
+}
+
+impl Vector {
+    /// The vector of a line.
+    pub fn read(alloc: Global, line: &str) -> Result<Vector, VectorFault> {
+        let mut fields = line.split_whitespace();
+        let _id = next(&mut fields)?;
+        let is_board = next(&mut fields)? == "b";
+        let before = State::read(next(&mut fields)?, next(&mut fields)?)?;
+        let [flags, taken] = <[u8; 2]>::from_hex(next(&mut fields)?)?;
+        let memory = read_list(alloc, next(&mut fields)?)?;
+        let after = read_changes(alloc, &before, next(&mut fields)?)?;
+        let calls = read_calls(alloc, next(&mut fields)?, next(&mut fields)?)?;
+        let cycles = if next(&mut fields)? == "3" { 3 } else { 2 };
+        Ok(Vector {
+            is_board,
+            before,
+            after,
+            flags: flags_of(flags),
+            taken,
+            memory,
+            calls,
+            cycles,
+        })
+    }
+}
