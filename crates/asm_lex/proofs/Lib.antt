@@ -1,0 +1,6 @@
+pub mod Splits
+pub mod Sums
+pub mod Opcodes
+pub mod Many
+pub mod Texts
+pub mod Statements

@@ -1,0 +1,15 @@
+use Rattle.std.proofs.Common.{arith, sym, ap, ◌∙◌, ◌≡◌, false, below_more}
+use Rattle.asm_lex.specs.Words.{spells, mnemonic_at}
+use Rattle.asm_lex.proofs.Opcodes.{named_first, named_none}
+use Rattle.asm_lex.proofs.words.opcode.Goals as goal
+
+pub returns-then-spells : goal.returns-then-spells
+returns-then-spells c = sym (named_first c.args.word.now c.loop-opcode.opcode (omega arith) c.loop-opcode.invariant
+    (ap (spells c.args.word.now) (sym c.mnemonic_at.ensures) ∙ sym c.spells.ensures ∙ c.if-spells.true))
+
+pub returns-else-spells : goal.returns-else-spells
+returns-else-spells c =
+    let here : spells c.args.word.now (mnemonic_at c.loop-opcode.opcode) ≡ false =
+    ap (spells c.args.word.now) (sym c.mnemonic_at.ensures) ∙ sym c.spells.ensures ∙ c.if-spells.false in
+    let all = below_more (λ k. spells c.args.word.now (mnemonic_at k) ≡ false) c.loop-opcode.opcode c.loop-opcode.invariant here in
+    sym (named_none c.args.word.now (λ k below. all k (omega arith)))

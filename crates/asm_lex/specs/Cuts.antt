@@ -1,0 +1,20 @@
+-- The bytes at which a text is cut.
+use Rattle.std.specs.Prelude.{ℕ, Bool, List, [], Option, None, Some}
+use Rattle.std.specs.List.{slice_split}
+use Rattle.asm_lex.specs.Bytes.{is_semicolon, is_colon, is_comma, is_blank, ends_name}
+use Rattle.asm_lex.specs.Expressions.{is_sign}
+use Rattle.asm_lex.specs.declared.cuts.Stop.{Stop}
+use Rattle.asm_lex.specs.declared.cuts.Stop.TheVariants.{Semicolon, Colon, Comma, Blank, Sign, EndOfName}
+
+abbrev pub stops : Stop → ℕ → Bool
+stops Semicolon byte = is_semicolon byte
+stops Colon byte = is_colon byte
+stops Comma byte = is_comma byte
+stops Blank byte = is_blank byte
+stops Sign byte = is_sign byte
+stops EndOfName byte = ends_name byte
+
+-- the parts of what is left of a text that is cut
+abbrev pub parts_of : (ℕ → Bool) → Option (List ℕ) → List (List ℕ)
+parts_of stop None = []
+parts_of stop (Some rest) = slice_split stop rest

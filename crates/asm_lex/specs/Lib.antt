@@ -1,0 +1,9 @@
+pub mod Bytes
+pub mod Parts
+pub mod Expressions
+pub mod Cuts
+pub mod Looks
+pub mod Left
+pub mod Spans
+pub mod Words
+pub mod Lines

@@ -1,0 +1,230 @@
+//! Expressions: whether a text is one, and its value.
+
+ghost use Rattle.std.specs.Prelude.{◌≡◌, ◌≤◌, ◌+◌, ◌∷◌, ◌&&◌, ◌==◌, ◌≤ℤ◌, ◌+ℤ◌, ◌-ℤ◌, ℕ, pos, nat_abs, int_le, List, length, min, Option, IsTrue, IfSome, slice_index, is_none, false, if◌then◌else◌, Ok, Err};
+ghost use Rattle.std.specs.Option.{option_map};
+ghost use Rattle.vip_byte.specs.Number.{number};
+ghost use Rattle.asm_lex.specs.Bytes.{is_name};
+ghost use Rattle.asm_lex.specs.Expressions.{sum_in, number_in, hexadecimal_of, number_of, is_here, is_term, is_expression, is_large, has_large_number, term_value, terms_of, signed_terms, sum_of, value_of, prefixed, has_undefined};
+ghost use Rattle.asm_lex.specs.Looks.{TakesNames, AnswersAs, TakesTerm, AnswersTermAs};
+ghost use Rattle.asm_lex.specs.Left.{left, left_terms, left_signed, left_length};
+
+use crate::ValueFault;
+use crate::cuts::{Stop, cut, position};
+use crate::text::is_name;
+use vip_byte::{NumFault, read_decimal, read_hex};
+
+/// The greatest number that an expression may hold.
+const GREATEST: u32 = 65_535;
+
+// A number that was read with `GREATEST` as its bound, or one more than that for each greater one.
+#[tactic(auto, unfolding(crate::specs::Expressions::number_in, vip_byte::specs::Number::number))]
+fn capped(read: Result<u64, NumFault>) -> Option<u32>
+    ensures { (base : ℕ) (digits : List ℕ) → read ≡ number base digits 65535 → result ≡ option_map (λ number. min number 65536) (number_in base digits) }
+{
+    match read {
+        Ok(number) => u32::try_from(number).ok(),
+        Err(NumFault::TooLarge) => Some(GREATEST + 1),
+        Err(_) => None,
+    }
+}
+
+fn hexadecimal(term: &[u8]) -> Option<u32>
+    ensures { result ≡ option_map (λ number. min number 65536) (hexadecimal_of term.now) }
+{
+    match term {
+        [b'0', b'x', digits @ ..] => capped(read_hex(digits, u64::from(GREATEST))),
+        _ => None,
+    }
+}
+
+/// The value of a number, or 65536 for each one above 65535; none where the term is no number.
+#[tactic(auto, unfolding(crate::specs::Expressions::number_of))]
+fn number(term: &[u8]) -> Option<u32>
+    ensures { result ≡ option_map (λ number. min number 65536) (number_of term.now) }
+{
+    match capped(read_decimal(term, u64::from(GREATEST))) {
+        Some(number) => Some(number),
+        None => hexadecimal(term),
+    }
+}
+
+#[tactic(auto, unfolding(crate::specs::Expressions::is_here))]
+fn is_here(term: &[u8]) -> bool
+    ensures { result ≡ is_here term.now }
+{
+    matches!(term, [b'$'])
+}
+
+fn is_term(term: &[u8]) -> bool
+    ensures { result ≡ is_term term.now }
+{
+    number(term).is_some() || is_here(term) || is_name(term)
+}
+
+fn is_large(term: &[u8]) -> bool
+    ensures { result ≡ is_large term.now }
+{
+    match number(term) {
+        Some(number) => number > GREATEST,
+        None => false,
+    }
+}
+
+#[tactic(auto, unfolding(crate::specs::Expressions::sum_in))]
+fn without_prefix(text: &[u8]) -> &[u8]
+    ensures value { result.now ≡ sum_in text.now }
+    ensures within { length result.now ≤ length text.now }
+{
+    match text {
+        [b'<' | b'>', sum @ ..] => sum,
+        _ => text,
+    }
+}
+
+/// Whether a text is an expression.
+pub(crate) fn is_expression(text: &[u8]) -> bool
+    ensures { result ≡ is_expression text.now }
+{
+    let mut rest = Some(without_prefix(text));
+    while let Some(sum) = rest {
+        let (term, more) = cut(sum, Stop::Sign);
+        if !is_term(term) {
+            return false;
+        }
+        rest = more;
+    }
+    true
+}
+
+/// Whether a number above 65535 is written in an expression.
+pub fn has_large_number(text: &[u8]) -> bool
+    ensures { result ≡ has_large_number text.now }
+{
+    let mut rest = Some(without_prefix(text));
+    while let Some(sum) = rest {
+        let (term, more) = cut(sum, Stop::Sign);
+        if is_large(term) {
+            return true;
+        }
+        rest = more;
+    }
+    false
+}
+
+// The value of a term that isn't too large a number; none for a name that has no value.
+#[tactic(auto, unfolding(crate::specs::Expressions::term_value))]
+fn term_value<F: Fn(&[u8]) -> Option<u16>>(term: &[u8], here: u32, look: &F) -> Option<u32>
+    requires term { IsTrue (is_term term.now) }
+    requires here { here ≤ 65536 }
+    requires look { TakesTerm F.Fn look.now term.now }
+    ensures variant { (names : List ℕ → Option ℕ) → AnswersTermAs F.Fn look.now term.now names →
+        is_none result ≡ is_none (term_value names here term.now) }
+    ensures value { (names : List ℕ → Option ℕ) → AnswersTermAs F.Fn look.now term.now names →
+        is_large term.now ≡ false → result ≡ term_value names here term.now }
+    ensures within { IfSome result (λ value. value ≤ 65536) }
+{
+    match number(term) {
+        Some(number) => Some(number),
+        None if is_here(term) => Some(here),
+        None => look(term).map(u32::from),
+    }
+}
+
+// The first term of a sum, and what stands behind it: a sign and the terms that follow.
+fn first_term(sum: &[u8]) -> (&[u8], Option<(u8, &[u8])>)
+    ensures terms { terms_of sum.now ≡ result.0.now ∷ left_terms (left result.1) }
+    ensures signed { (sign : ℕ) → signed_terms sign sum.now ≡ (sign, result.0.now) ∷ left_signed (left result.1) }
+    ensures shorter { left_length (left result.1) ≤ length sum.now }
+{
+    let end = position(sum, Stop::Sign);
+    if end == sum.len() {
+        (sum, None)
+    } else {
+        (&sum[..end], Some((sum[end], &sum[end + 1..])))
+    }
+}
+
+// A sum and one more term. No more than 256 terms come together.
+fn with_term(sum: i64, sign: u8, value: u32) -> i64
+    requires lowest { pos 0 ≤ℤ (sum +ℤ pos 16777216) }
+    requires highest { sum ≤ℤ pos 16777216 }
+    requires term { value ≤ 65536 }
+    ensures value { result ≡ (if sign == 45 then sum -ℤ pos value else sum +ℤ pos value) }
+    ensures low { sum ≤ℤ (result +ℤ pos 65536) }
+    ensures high { result ≤ℤ (sum +ℤ pos 65536) }
+{
+    if sign == b'-' {
+        sum - i64::from(value)
+    } else {
+        sum + i64::from(value)
+    }
+}
+
+// The sum of an expression without a large number; none where a name in it has no value.
+fn sum<F: Fn(&[u8]) -> Option<u16>>(text: &[u8], here: u32, look: &F) -> Option<i64>
+    requires expression { IsTrue (is_expression text.now) }
+    requires short { length text.now ≤ 255 }
+    requires here { here ≤ 65536 }
+    requires look { TakesNames F.Fn look.now text.now }
+    ensures undefined { (names : List ℕ → Option ℕ) → AnswersAs F.Fn look.now text.now names →
+        is_none result ≡ has_undefined names here text.now }
+    ensures value { (names : List ℕ → Option ℕ) → AnswersAs F.Fn look.now text.now names →
+        has_large_number text.now ≡ false → IfSome result (λ sum. sum ≡ sum_of names here text.now) }
+{
+    let mut rest = Some((b'+', without_prefix(text)));
+    let mut sum = 0;
+    while let Some((sign, terms)) = rest {
+        let (term, more) = first_term(terms);
+        let Some(value) = term_value(term, here, look) else {
+            return None;
+        };
+        sum = with_term(sum, sign, value);
+        rest = more;
+    }
+    Some(sum)
+}
+
+// A sum that a prefix may be applied to.
+fn word(sum: i64) -> Result<u16, ValueFault>
+    ensures { result ≡ (if int_le (pos 0) sum && int_le sum (pos 65535) then Ok (nat_abs sum) else Err ValueFault.Range) }
+{
+    if 0 <= sum && sum <= i64::from(GREATEST) {
+        Ok(sum as u16)
+    } else {
+        Err(ValueFault::Range)
+    }
+}
+
+fn prefixed(text: &[u8], sum: i64) -> Result<i64, ValueFault>
+    ensures { result ≡ prefixed (slice_index text.now 0) sum }
+{
+    match text {
+        [b'<', ..] => word(sum).map(|word| i64::from(word % 256)),
+        [b'>', ..] => word(sum).map(|word| i64::from(word / 256)),
+        _ => Ok(sum),
+    }
+}
+
+/// The value of an expression of at most 255 bytes in a line that begins at the address `here`, at most 65536, or its first fault.
+/// `look` answers the value of a name, or nothing where it has none; it must take each name in the expression.
+#[tactic(auto, unfolding(crate::specs::Expressions::value_of))]
+pub fn value<F: Fn(&[u8]) -> Option<u16>>(
+    text: &[u8],
+    here: u32,
+    look: F,
+) -> Result<i64, ValueFault>
+    requires expression { IsTrue (is_expression text.now) }
+    requires short { length text.now ≤ 255 }
+    requires here { here ≤ 65536 }
+    requires look { TakesNames F.Fn look text.now }
+    // Whatever values of names the answers of `look` are.
+    ensures { (names : List ℕ → Option ℕ) → AnswersAs F.Fn look text.now names → result ≡ value_of names here text.now }
+{
+    let Some(sum) = sum(text, here, &look) else {
+        return Err(ValueFault::Undefined);
+    };
+    if has_large_number(text) {
+        return Err(ValueFault::Range);
+    }
+    prefixed(text, sum)
+}

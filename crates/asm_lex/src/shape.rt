@@ -1,0 +1,68 @@
+//! What a line is taken apart into, and its faults.
+
+use arrayvec::ArrayVec;
+use thiserror::Error;
+
+/// A part of a line: the bytes from the place `from` up to, and without, the place `to`.
+#[derive(Clone, Copy, Debug, Default, PartialEq, Eq)]
+pub struct Span {
+    /// The place of the first byte.
+    pub from: u16,
+    /// The place behind the last byte.
+    pub to: u16,
+}
+
+/// What the word of a line means.
+#[derive(Clone, Copy, Debug, PartialEq, Eq)]
+pub enum Word {
+    /// A mnemonic: the whole opcode byte, with the register or the port that the operand names.
+    Code(u8),
+    /// The address becomes the operand's value.
+    Org,
+    /// The line's label has the operand's value.
+    Equ,
+    /// The operands' values as bytes.
+    Db,
+    /// The operands' values as two bytes each, the high one first.
+    Dw,
+    /// As many bytes 00 as the operand's value.
+    Ds,
+    /// The address becomes the next multiple of 256, or stays where it is one.
+    Page,
+}
+
+/// The parts of a line, which lie in it in this order.
+#[derive(Debug, Drop)]
+pub struct Line {
+    /// The name that the line defines.
+    pub label: Option<Span>,
+    /// What the word means.
+    pub word: Option<Word>,
+    /// The operands, without the blanks around them. An operand of `Code` that is a register or a port stands in the opcode too.
+    pub operands: ArrayVec<Span, 128>,
+}
+
+/// The first fault of a line by itself, in the order of the variants.
+#[derive(Clone, Copy, Debug, PartialEq, Eq, Error)]
+pub enum LexFault {
+    /// A byte that isn't allowed, more than 255 bytes, a label that isn't a name, or a name of more than 32 characters.
+    #[error("BadText")]
+    BadText,
+    /// A word that is neither a mnemonic nor a directive.
+    #[error("UnknownMnemonic")]
+    UnknownMnemonic,
+    /// A wrong number or kind of operands, a text that is no expression, a register in an expression, LDN R0, or EQU without a label.
+    #[error("BadOperand")]
+    BadOperand,
+}
+
+/// The first fault of an expression's value, in the order of the variants.
+#[derive(Clone, Copy, Debug, PartialEq, Eq, Error)]
+pub enum ValueFault {
+    /// A name that has no value.
+    #[error("Undefined")]
+    Undefined,
+    /// A number above 65535, or a prefix on a sum outside 0 to 65535.
+    #[error("Range")]
+    Range,
+}
