@@ -1,0 +1,169 @@
+-- What is read from the matches is what the rules give.
+use Rattle.std.proofs.Common.{◌≡◌, ◌≢◌, ◌∙◌, ap, sym, subst, refl, arith, ◌<◌, ◌≤◌, ℕ, List, [], ◌∷◌, Bool, true, false, Option, Some, None, String, ◌-◌, drop, length, length-drop, take, map, string_bytes, codes}
+use Rattle.std.proofs.lemmas.Bool.{eqb-true}
+use Rattle.std.proofs.lemmas.List.{take_all}
+use Rattle.std.specs.List.{list_all}
+use Rattle.std.specs.Prelude.{if◌then◌else◌, option_and_then, slice_get, option_map}
+use Rattle.clap.specs.Kinds.{Kinds}
+use Rattle.clap.specs.Matches.{first_value, one_text}
+use Rattle.clap.specs.Values.{read_as}
+use Rattle.clap.specs.Walk.{Row, Text, rows_of}
+use Rattle.clap.specs.declared.parser.matches.Found.{Found}
+use Rattle.clap.proofs.WalkLemmas.{first_value-rows, one_text-rows}
+use Rattle.vip_words.specs.Command.{command_faults, command_rows}
+use Rattle.vip_words.specs.Given.{given_of, words_in}
+use Rattle.vip_words.specs.Rules.{Given, Word, given_by, is_known, positional_words}
+use Rattle.vip_words.specs.declared.table.Usage.{Usage}
+use Rattle.vip_words.proofs.Ends.{Shows, flag_end}
+use Rattle.vip_words.proofs.Known.{known_of_all, strings_known}
+use Rattle.vip_words.proofs.Rows.{Seen, both_true, first_of-look, look, one_of-look}
+use Rattle.vip_words.proofs.Shown.{flag_in, word_seen}
+use Rattle.vip_words.proofs.Steps.{At, First, Flag, Screen, Second, Third, flag_name}
+use Rattle.vip_words.proofs.Walks.{Agrees, all_given, command_agrees, is_well_formed}
+
+-- the options of a usage, and whether it knows the words
+abbrev options_of : Usage → List Word
+options_of usage = map (λ option. option.now) usage.options.now
+
+abbrev are_known : {Z : Type 0} → Usage → List (String Z) → Bool
+are_known usage words = list_all (λ word. is_known (options_of usage) (string_bytes word)) words
+
+-- all the words after the first
+pub after_first : {T : Type 0} (words : List T) → take (length words - 1) (drop 1 words) ≡ drop 1 words
+after_first words = take_all (length words - 1) (drop 1 words) (simp length-drop (omega arith))
+
+-- ---- words that are refused
+
+-- words that the verb doesn't know give nothing
+pub unknown_give_none : {Z : Type 0} (usage : Usage) (words : List (String Z)) → are_known usage words ≡ false
+    → given_of usage (map string_bytes words) ≡ None
+unknown_give_none usage words unknown = rw (sym (strings_known (options_of usage) words) ∙ unknown) refl
+
+given_known : (count : ℕ) (options words : List Word) → list_all (is_known options) words ≡ true
+    → given_by count options words ≡ (if is_well_formed count words then Some (all_given words) else None)
+given_known count options words known = rw known refl
+
+refused_test : (b : Bool) (faults : Kinds) (rows : List Row) (given : Given) → Agrees b faults rows given → faults ≢ [] → b ≡ false
+refused_test true faults rows given agrees bad = absurd (bad agrees.0)
+refused_test false faults rows given agrees bad = refl
+
+-- nor do words that the command refuses
+pub refused_give_none : {Z : Type 0} (usage : Usage) (name : Text) (words : List (String Z)) → 0 < length words
+    → are_known usage (drop 1 words) ≡ true → command_faults name usage.places (map string_bytes words) ≢ []
+    → given_of usage (map string_bytes (drop 1 words)) ≡ None
+refused_give_none usage name [] some known bad = absurd (omega arith)
+refused_give_none usage name (verb ∷ rest) some known bad =
+    let words : List Word = map string_bytes rest in
+    let own : list_all (is_known (options_of usage)) words ≡ true = sym (strings_known (options_of usage) rest) ∙ known in
+    let all = known_of_all usage.options.now usage.known_options words own in
+    let agrees = command_agrees name usage.places usage.few_places (string_bytes verb) words all in
+    given_known usage.places (options_of usage) words own ∙ rw (refused_test _ _ _ _ agrees bad) refl
+
+-- ---- words that are taken
+
+-- a flag that is read as its text says
+pub record FlagRead (found : Found) (id : Text) (result : Bool) : Type 0 where
+  pub on : one_text found id ≡ Some (codes "true") → result ≡ true
+  pub off : one_text found id ≡ Some (codes "false") → result ≡ false
+
+-- what is read from the matches
+pub record ReadFrom (found : Found) (given : Given) : Type 0 where
+  pub positional : given.positional
+      ≡ words_in (first_value found (codes "first")) (first_value found (codes "second")) (first_value found (codes "third"))
+  pub keys : given.keys ≡ first_value found (codes "keys")
+  pub at : FlagRead found (codes "at") given.at
+  pub screen : FlagRead found (codes "screen") given.screen
+
+-- the word in a row
+abbrev word_of : Option Seen → Option Text
+word_of = option_and_then (λ seen. slice_get seen.0 0)
+
+word_of-seen : (o : Option Text) → word_of (word_seen o) ≡ o
+word_of-seen None = refl
+word_of-seen (Some word) = refl
+
+word_read : (found : Found) (id : Text) (o : Option Text) → look id (rows_of found) ≡ word_seen o → first_value found id ≡ o
+word_read found id o is = first_value-rows found id ∙ (first_of-look id (rows_of found) ∙ (ap word_of is ∙ word_of-seen o))
+
+-- the text of a flag's row
+abbrev text_of : Option Seen → Option Text
+text_of = option_and_then (λ seen. option_map (read_as seen.2) (slice_get seen.0 0))
+
+abbrev flag_text : Bool → Text
+flag_text true = codes "true"
+flag_text false = codes "false"
+
+text_of-flag : (b : Bool) → text_of (flag_end b) ≡ Some (flag_text b)
+text_of-flag true = refl
+text_of-flag false = refl
+
+flag_read : (found : Found) (given : Given) (flag : Flag) (result : Bool) → Shows (rows_of found) given
+    → FlagRead found (flag_name flag) result → flag_in given flag ≡ result
+flag_read found given flag result shows reads =
+    by_flag (flag_in given flag) (one_text-rows found (flag_name flag)
+    ∙ (one_of-look (flag_name flag) (rows_of found) ∙ (ap text_of (shows.flags_are flag) ∙ text_of-flag (flag_in given flag))))
+  where
+    by_flag : (b : Bool) → one_text found (flag_name flag) ≡ Some (flag_text b) → b ≡ result
+    by_flag true text = sym (reads.on text)
+    by_flag false text = sym (reads.off text)
+
+-- a few words are the words in their places
+words_in_places : (words : List Text) → length words ≤ 3 → words_in (slice_get words 0) (slice_get words 1) (slice_get words 2) ≡ words
+words_in_places [] few = refl
+words_in_places (a ∷ []) few = refl
+words_in_places (a ∷ b ∷ []) few = refl
+words_in_places (a ∷ b ∷ d ∷ []) few = refl
+words_in_places (a ∷ b ∷ d ∷ e ∷ words) few = absurd (omega arith)
+
+words_read : (found : Found) (given : Given) → length given.positional ≤ 3 → Shows (rows_of found) given
+    → words_in (first_value found (codes "first")) (first_value found (codes "second")) (first_value found (codes "third")) ≡
+    given.positional
+words_read found given few shows =
+    rw (
+      word_read found (codes "first") (slice_get given.positional 0) (shows.places First),
+      word_read found (codes "second") (slice_get given.positional 1) (shows.places Second),
+      word_read found (codes "third") (slice_get given.positional 2) (shows.places Third),
+    ) (words_in_places given.positional few)
+
+same_given : (given given' : Given) → given.positional ≡ given'.positional → given.keys ≡ given'.keys → given.at ≡ given'.at
+    → given.screen ≡ given'.screen → given ≡ given'
+same_given given given' positional keys at screen =
+    ap (λ x. record given { positional = x }) positional
+    ∙ (ap (λ x. record given { positional = given'.positional; keys = x }) keys
+    ∙ (ap (λ x. record given' { at = x; screen = given.screen }) at ∙ ap (λ x. record given' { screen = x }) screen))
+
+-- what is read is what the rows show
+read_shown : (found : Found) (given given' : Given) → length given.positional ≤ 3 → Shows (rows_of found) given → ReadFrom found given'
+    → given ≡ given'
+read_shown found given given' few shows reads =
+    same_given given given'
+    (sym (reads.positional ∙ words_read found given few shows))
+    (sym (reads.keys ∙ word_read found (codes "keys") given.keys shows.keys_is))
+    (flag_read found given At given'.at shows reads.at)
+    (flag_read found given Screen given'.screen shows reads.screen)
+
+count_of : (count : ℕ) (words : List Word) → is_well_formed count words ≡ true → length (positional_words false words) ≡ count
+count_of count words fit = eqb-true (length (positional_words false words)) count (both_true _ _ (both_true _ _ fit).1).1
+
+taken_test : (b : Bool) (faults : Kinds) (rows : List Row) (given : Given) → Agrees b faults rows given → faults ≡ []
+    → (b ≡ true) × Shows rows given
+taken_test true faults rows given agrees quiet = (refl, agrees.1)
+taken_test false faults rows given agrees quiet = absurd (agrees quiet)
+
+-- words that the command takes give what is read from the matches
+pub taken_give : {Z : Type 0} (usage : Usage) (name : Text) (words : List (String Z)) (found : Found) (given : Given) → 0 < length words
+    → are_known usage (drop 1 words) ≡ true → command_faults name usage.places (map string_bytes words) ≡ []
+    → rows_of found ≡ command_rows name usage.places (map string_bytes words) → ReadFrom found given
+    → given_of usage (map string_bytes (drop 1 words)) ≡ Some given
+taken_give usage name [] found given some known quiet rows reads = absurd (omega arith)
+taken_give usage name (verb ∷ rest) found given some known quiet rows reads =
+    let words : List Word = map string_bytes rest in
+    let own : list_all (is_known (options_of usage)) words ≡ true = sym (strings_known (options_of usage) rest) ∙ known in
+    let all = known_of_all usage.options.now usage.known_options words own in
+    let taken = taken_test _ _ _ _ (command_agrees name usage.places usage.few_places (string_bytes verb) words all) quiet in
+    let shows : Shows (rows_of found) (all_given words) = subst (λ rs. Shows rs (all_given words)) (sym rows) taken.1 in
+    let few : length (positional_words false words) ≤ 3 =
+    let count = count_of usage.places words taken.0 in let most = usage.few_places in omega arith in
+    given_known usage.places (options_of usage) words own
+    ∙ (ap (λ b. if b then Some (all_given words) else None) taken.0
+    ∙ ap (λ g. Some g) (read_shown found (all_given words) given few shows reads))

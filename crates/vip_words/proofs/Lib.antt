@@ -1,0 +1,10 @@
+mod Answered
+mod Ends
+mod Known
+mod Parses
+mod Places
+mod Rows
+mod Shown
+mod Steps
+mod Walks
+mod Whole

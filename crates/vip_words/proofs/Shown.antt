@@ -1,0 +1,215 @@
+-- What the rows show between two words: what the words up to there give.
+use Rattle.std.proofs.Common.{◌≡◌, ◌∙◌, ap, refl, arith, ◌<◌, ◌≤◌, ℕ, List, [], ◌∷◌, ◌++◌, Bool, true, false, Option, Some, None, length, codes}
+use Rattle.std.proofs.lemmas.Option.{slice_get_past}
+use Rattle.std.specs.Prelude.{bytes_eq, slice_get}
+use Rattle.clap.specs.Faults.{use_fault}
+use Rattle.clap.specs.Walk.{Row, Text, used}
+use Rattle.clap.specs.declared.builder.value_parser.Reading.TheVariants.{AsWritten}
+use Rattle.clap.specs.declared.parser.matches.ValueSource.TheVariants.{CommandLine}
+use Rattle.vip_words.proofs.Rows.{Seen, has_row-look, look, look-other, look-use, new_row, or_first, or_first-none, shown}
+use Rattle.vip_words.proofs.Steps.{At, First, Flag, Pending, Place, Screen, Second, Third, flag_argument, flag_name, place_at, place_by_id, place_name, settled_after, settles}
+use Rattle.vip_words.specs.Rules.{Given}
+
+-- the flag is given
+abbrev pub flag_in : Given → Flag → Bool
+flag_in given At = given.at
+flag_in given Screen = given.screen
+
+abbrev pub with_flag : Flag → Given → Given
+with_flag At given = record given { at = true }
+with_flag Screen given = record given { screen = true }
+
+abbrev pub with_word : Text → Given → Given
+with_word word given = record given { positional = given.positional ++ word ∷ [] }
+
+abbrev pub with_keys : Text → Given → Given
+with_keys word given = record given { keys = Some word }
+
+-- a word in its row
+abbrev pub word_seen : Option Text → Option Seen
+word_seen None = None
+word_seen (Some word) = Some (word ∷ [], true, AsWritten)
+
+-- a flag that was met in its row
+abbrev pub flag_seen : Bool → Option Seen
+flag_seen false = None
+flag_seen true = Some (codes "true" ∷ [], true, AsWritten)
+
+-- the rows show what was given
+pub record Facts (rows : List Row) (given : Given) : Type 0 where
+  pub places : (place : Place) → look (place_name place) rows ≡ word_seen (slice_get given.positional (place_at place))
+  pub keys_is : look (codes "keys") rows ≡ word_seen given.keys
+  pub flags_are : (flag : Flag) → look (flag_name flag) rows ≡ flag_seen (flag_in given flag)
+
+-- so they do once the pending word is settled, which is no fault
+pub record Idle (count : ℕ) (rows : List Row) (pending : Pending) (given : Given) : Type 0 where
+  pub settled_well : settles count rows pending ≡ []
+  pub facts : Facts (settled_after count pending rows) given
+
+-- ---- no two arguments have one name
+
+place_differs_keys : (place : Place) → bytes_eq (place_name place) (codes "keys") ≡ false
+place_differs_keys First = refl
+place_differs_keys Second = refl
+place_differs_keys Third = refl
+
+place_differs_flag : (place : Place) (flag : Flag) → bytes_eq (place_name place) (flag_name flag) ≡ false
+place_differs_flag First At = refl
+place_differs_flag First Screen = refl
+place_differs_flag Second At = refl
+place_differs_flag Second Screen = refl
+place_differs_flag Third At = refl
+place_differs_flag Third Screen = refl
+
+keys_differs_place : (place : Place) → bytes_eq (codes "keys") (place_name place) ≡ false
+keys_differs_place First = refl
+keys_differs_place Second = refl
+keys_differs_place Third = refl
+
+keys_differs_flag : (flag : Flag) → bytes_eq (codes "keys") (flag_name flag) ≡ false
+keys_differs_flag At = refl
+keys_differs_flag Screen = refl
+
+flag_differs_place : (flag : Flag) (place : Place) → bytes_eq (flag_name flag) (place_name place) ≡ false
+flag_differs_place At First = refl
+flag_differs_place At Second = refl
+flag_differs_place At Third = refl
+flag_differs_place Screen First = refl
+flag_differs_place Screen Second = refl
+flag_differs_place Screen Third = refl
+
+flag_differs_keys : (flag : Flag) → bytes_eq (flag_name flag) (codes "keys") ≡ false
+flag_differs_keys At = refl
+flag_differs_keys Screen = refl
+
+-- ---- a positional word
+
+abbrev pub one_word : Text → Text → Pending
+one_word id word = Some (id, word ∷ [])
+
+-- the word is shown at its place, and no other place changes
+placed : (place shows : Place) (words : List Text) (word : Text) → length words ≡ place_at place
+    → or_first (word_seen (slice_get words (place_at shows)))
+    (shown (place_name shows) (new_row (place_name place) AsWritten CommandLine (word ∷ [])))
+    ≡ word_seen (slice_get (words ++ word ∷ []) (place_at shows))
+placed First First [] word is = refl
+placed First Second [] word is = refl
+placed First Third [] word is = refl
+placed First shows (a ∷ rest) word is = absurd (omega arith)
+placed Second shows [] word is = absurd (omega arith)
+placed Second First (a ∷ []) word is = refl
+placed Second Second (a ∷ []) word is = refl
+placed Second Third (a ∷ []) word is = refl
+placed Second shows (a ∷ b ∷ rest) word is = absurd (omega arith)
+placed Third shows [] word is = absurd (omega arith)
+placed Third shows (a ∷ []) word is = absurd (omega arith)
+placed Third First (a ∷ b ∷ []) word is = refl
+placed Third Second (a ∷ b ∷ []) word is = refl
+placed Third Third (a ∷ b ∷ []) word is = refl
+placed Third shows (a ∷ b ∷ d ∷ rest) word is = absurd (omega arith)
+
+pub place_idle : (count : ℕ) (place : Place) → count ≤ 3 → place_at place < count → (rows : List Row) (given : Given) (word : Text)
+    → length given.positional ≡ place_at place → Facts rows given → Idle count rows (one_word (place_name place) word)
+    (with_word word given)
+place_idle count place few within rows given word is facts =
+    let absent : look (place_name place) rows ≡ None =
+    facts.places place ∙ ap word_seen (slice_get_past given.positional (place_at place) (omega arith)) in
+    let other : (id : Text) → bytes_eq (place_name place) id ≡ false
+    → look id (settled_after count (one_word (place_name place) word) rows) ≡ look id rows =
+    λ id differs. rw (place_by_id count place few within)
+    (look-other (place_name place) id AsWritten CommandLine (word ∷ []) rows absent differs) in
+    record {
+      settled_well = rw (place_by_id count place few within, has_row-look (place_name place) rows, absent) refl;
+      facts = record {
+        places = λ shows. rw (
+          place_by_id count place few within,
+          look-use (place_name place) (place_name shows) AsWritten CommandLine (word ∷ []) rows absent,
+          facts.places shows,
+        ) (placed place shows given.positional word is);
+        keys_is = other (codes "keys") (place_differs_keys place) ∙ facts.keys_is;
+        flags_are = λ flag. other (flag_name flag) (place_differs_flag place flag) ∙ facts.flags_are flag;
+      };
+    }
+
+-- ---- a value of `--keys`
+
+pub keys_idle : (count : ℕ) (rows : List Row) (given : Given) (word : Text) → given.keys ≡ None → Facts rows given
+    → Idle count rows (one_word (codes "keys") word) (with_keys word given)
+keys_idle count rows given word none facts =
+    let absent : look (codes "keys") rows ≡ None = facts.keys_is ∙ ap word_seen none in
+    let other : (id : Text) → bytes_eq (codes "keys") id ≡ false
+    → look id (settled_after count (one_word (codes "keys") word) rows) ≡ look id rows =
+    λ id differs. look-other (codes "keys") id AsWritten CommandLine (word ∷ []) rows absent differs in
+    record {
+      settled_well = rw (has_row-look (codes "keys") rows, absent) refl;
+      facts = record {
+        places = λ place. other (place_name place) (keys_differs_place place) ∙ facts.places place;
+        keys_is = look-use (codes "keys") (codes "keys") AsWritten CommandLine (word ∷ []) rows absent ∙ rw absent refl;
+        flags_are = λ flag. other (flag_name flag) (keys_differs_flag flag) ∙ facts.flags_are flag;
+      };
+    }
+
+-- a second value is a fault
+pub keys_again : (count : ℕ) (rows : List Row) (word : Text) (x : Seen) → look (codes "keys") rows ≡ Some x
+    → settles count rows (one_word (codes "keys") word) ≡ [] → ⊥
+keys_again count rows word x there = rw (has_row-look (codes "keys") rows, there) (λ e. cc)
+
+-- ---- a flag
+
+-- the flag is shown, and no other flag changes
+flag_shown : (new flag : Flag) (given : Given)
+    → or_first (flag_seen (flag_in given flag)) (shown (flag_name flag) (new_row (flag_name new) AsWritten CommandLine (codes "true" ∷ [])))
+    ≡ flag_seen (flag_in (with_flag new given) flag)
+flag_shown At At given = elim given.at as (λ b. or_first (flag_seen b) (flag_seen true) ≡ flag_seen true) [ true ↦ refl | false ↦ refl ]
+flag_shown At Screen given = or_first-none (flag_seen given.screen)
+flag_shown Screen At given = or_first-none (flag_seen given.at)
+flag_shown Screen Screen given =
+    elim given.screen as (λ b. or_first (flag_seen b) (flag_seen true) ≡ flag_seen true) [ true ↦ refl | false ↦ refl ]
+
+-- a flag changes no word
+flag_words : (new : Flag) (given : Given) → ((with_flag new given).positional ≡ given.positional) ×
+    ((with_flag new given).keys ≡ given.keys)
+flag_words At given = (refl, refl)
+flag_words Screen given = (refl, refl)
+
+pub flag_idle : (count : ℕ) (new : Flag) (rows : List Row) (given : Given) → flag_in given new ≡ false → Facts rows given
+    → Idle count (used (flag_argument new) [] rows) None (with_flag new given)
+flag_idle count new rows given off facts =
+    let absent : look (flag_name new) rows ≡ None = facts.flags_are new ∙ ap flag_seen off in
+    let other : (id : Text) → bytes_eq (flag_name new) id ≡ false → look id (used (flag_argument new) [] rows) ≡ look id rows =
+    λ id differs. look-other (flag_name new) id AsWritten CommandLine (codes "true" ∷ []) rows absent differs in
+    record {
+      settled_well = refl;
+      facts = record {
+        places = λ place. rw (flag_words new given).0 (other (place_name place) (flag_differs_place new place) ∙ facts.places place);
+        keys_is = rw (flag_words new given).1 (other (codes "keys") (flag_differs_keys new) ∙ facts.keys_is);
+        flags_are = λ flag. rw (
+          look-use (flag_name new) (flag_name flag) AsWritten CommandLine (codes "true" ∷ []) rows absent,
+          facts.flags_are flag,
+        ) (flag_shown new flag given);
+      };
+    }
+
+pub flag_use : (new : Flag) (rows : List Row) → look (flag_name new) rows ≡ None → use_fault false (flag_argument new) [] rows ≡ []
+flag_use new rows absent = rw (has_row-look (flag_name new) rows, absent) refl
+
+-- a second use is a fault
+pub flag_again : (new : Flag) (rows : List Row) (x : Seen) → look (flag_name new) rows ≡ Some x
+    → use_fault false (flag_argument new) [] rows ≡ [] → ⊥
+flag_again new rows x there = rw (has_row-look (flag_name new) rows, there) (λ e. cc)
+
+-- ---- the start
+
+abbrev pub nothing_given : Given
+nothing_given = record { positional = []; keys = None; at = false; screen = false }
+
+pub no_rows : Facts [] nothing_given
+no_rows = record {
+  places = λ place. elim place as (λ p. look (place_name p) [] ≡ word_seen (slice_get [] (place_at p))) [
+    | First ↦ refl
+    | Second ↦ refl
+    | Third ↦ refl
+  ];
+  keys_is = refl;
+  flags_are = λ flag. elim flag as (λ f. look (flag_name f) [] ≡ flag_seen (flag_in nothing_given f)) [ At ↦ refl | Screen ↦ refl ];
+}

@@ -1,0 +1,17 @@
+use Rattle.std.proofs.Common.{◌∙◌, ap, ap₂, refl, arith}
+use Rattle.clap.specs.Words.{with_rule}
+use Rattle.vip_words.specs.Command.{command_app}
+use Rattle.vip_words.proofs.Places.{next_place, all_places}
+use Rattle.vip_words.proofs.command.make_command.Goals as goal
+
+pub loop-place-preserved : goal.loop-place-preserved
+loop-place-preserved c =
+    c.in_ok-command-2.ensures.shape c.make_place.ensures.own
+    ∙ (ap₂ with_rule c.loop-place.invariant c.make_place.ensures.rule
+    ∙ next_place c.args.verb.now c.args.places c.loop-place.place-index _ _ _ _ refl refl refl c.requires (omega arith))
+
+pub returns : goal.returns
+returns c =
+    c.loop-place.invariant
+    ∙ ap (λ n. command_app c.args.verb.now n)
+    (all_places c.args.places c.loop-place.place-index _ _ _ c.requires c.loop-place-test.false c.loop-place.auto.place-index-end)

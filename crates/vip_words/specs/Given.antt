@@ -1,0 +1,33 @@
+-- What the program holds of what the words after a verb give.
+use Rattle.std.specs.Prelude.{List, [], ◌∷◌, Option, Some, None, option_map}
+use Rattle.vip_words.specs.Rules as rules
+use Rattle.vip_words.specs.Usage.{row_of}
+use Rattle.vip_words.specs.declared.given.Given.{Given}
+use Rattle.vip_words.specs.declared.given.Positional.{Positional}
+use Rattle.vip_words.specs.declared.given.Positional.TheVariants.{Empty, One, Two, Three}
+use Rattle.vip_words.specs.declared.table.Usage.{Usage}
+
+abbrev pub positional_of : Positional → List rules.Word
+positional_of Empty = []
+positional_of (One first) = first.now ∷ []
+positional_of (Two first second) = first.now ∷ second.now ∷ []
+positional_of (Three first second third) = first.now ∷ second.now ∷ third.now ∷ []
+
+abbrev pub seen_given : Given → rules.Given
+seen_given given = record {
+  positional = positional_of given.positional;
+  keys = option_map (λ word. word.now) given.keys;
+  at = given.at;
+  screen = given.screen;
+}
+
+-- what the words after a verb with this usage give, or nothing where they are refused
+abbrev pub given_of : Usage → List rules.Word → Option rules.Given
+given_of usage words = rules.given_by (row_of usage).places (row_of usage).options words
+
+-- the words up to the first place that stands empty
+abbrev pub words_in : Option rules.Word → Option rules.Word → Option rules.Word → List rules.Word
+words_in None second third = []
+words_in (Some first) None third = first ∷ []
+words_in (Some first) (Some second) None = first ∷ second ∷ []
+words_in (Some first) (Some second) (Some third) = first ∷ second ∷ third ∷ []
