@@ -1,0 +1,9 @@
+pub mod Count
+pub mod Files
+pub mod Sink
+pub mod Pieces
+pub mod FileTree
+pub mod MemFiles
+pub mod MemSink
+pub mod StdSink
+pub mod RealFiles

@@ -1,0 +1,47 @@
+-- Files in memory, and exactly what a read of them does.
+use Rattle.std.specs.Prelude.{◌≡◌, ℕ, ◌^◌, ◌==◌, Bool, true, false, List, [], Option, Some, None, Result, Ok, Err, refl}
+use Rattle.std.specs.List.{list_any}
+use Rattle.std.specs.FinMap as finite
+use Rattle.std.specs.Coded.{Coded, code_by, coded×, coded_ℕ, coded_list, coded_option}
+use Rattle.vip_outside.specs.Count.{raised}
+use Rattle.vip_outside.specs.Files.{FileMap, FilesMeaning}
+use Rattle.vip_outside.specs.declared.files.Loaded.{Loaded}
+use Rattle.vip_outside.specs.declared.files.ReadFail.{ReadFail}
+use Rattle.vip_outside.specs.declared.files.ReadFail.TheVariants.{Absent, Failed, NoMemory}
+
+-- named: the reads that are named to fail, by their numbers from 0; reads: how many there were
+pub record FilesInMemory : Type 0 where
+  pub files : FileMap
+  pub named : List ℕ
+  pub reads : ℕ
+  pub faults : ℕ
+  pub failed : Option (List ℕ)
+
+-- their code: that of the tuple of the fields
+abbrev pub files_code : Coded FilesInMemory
+files_code =
+    code_by (FileMap × (List ℕ × (ℕ × (ℕ × Option (List ℕ))))) (coded× (finite.code (coded_list coded_ℕ) (coded_list coded_ℕ)) (coded× (coded_list coded_ℕ) (coded× coded_ℕ (coded× coded_ℕ (coded_option (coded_list coded_ℕ)))))) (λ s. (s.files, (s.named, (s.reads, (s.faults, s.failed))))) (λ t. record { files = t.0; named = t.1.0; reads = t.1.1.0; faults = t.1.1.1.0; failed = t.1.1.1.1 }) (λ _. refl)
+
+-- they tell their map
+abbrev pub meaning_of : FilesInMemory → FilesMeaning
+meaning_of s = record { told = Some s.files; faults = s.faults; failed = s.failed }
+
+-- no files
+abbrev pub no_files : FilesInMemory
+no_files = record { files = finite.empty; named = []; reads = 0; faults = 0; failed = None }
+
+-- whether the next read is named to fail
+abbrev pub is_named : FilesInMemory → Bool
+is_named s = list_any (λ call. call == s.reads) s.named
+
+-- a named read fails, and no other one does, but for want of memory
+abbrev pub FailsWhereNamed : Bool → Result Loaded ReadFail → Type 0
+FailsWhereNamed named (Ok _) = named ≡ false
+FailsWhereNamed named (Err Absent) = named ≡ false
+FailsWhereNamed named (Err Failed) = named ≡ true
+FailsWhereNamed named (Err NoMemory) = Unit {0}
+
+-- what a read of a name leaves: one more read, and at a fault one more fault and the name
+abbrev pub after_read : FilesInMemory → List ℕ → Result Loaded ReadFail → FilesInMemory
+after_read s name (Err Failed) = record s { reads = raised (2 ^ 64) s.reads; faults = raised (2 ^ 64) s.faults; failed = Some name }
+after_read s name _ = record s { reads = raised (2 ^ 64) s.reads }

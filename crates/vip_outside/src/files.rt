@@ -1,0 +1,78 @@
+ghost use Rattle.std.specs.Prelude.{◌≡◌};
+ghost use Rattle.vip_outside.specs.Files.{FilesMeaning, ReadAnswers};
+ghost use Rattle.vip_outside.specs.declared.files.ReadFail.TheVariants.{NoMemory};
+
+use std::alloc::{AllocError, Global};
+use thiserror::Error;
+
+/// What a read gave: the start of a file.
+#[derive(Debug, Drop)]
+pub struct Loaded {
+    /// The first bytes of the file, at most as many as were asked for.
+    pub bytes: Vec<u8>,
+
+    /// Whether the file has more bytes than these.
+    pub more: bool,
+}
+
+/// Why a read gave nothing. Each text is the name of the variant.
+#[derive(Clone, Copy, Debug, PartialEq, Eq, Error)]
+pub enum ReadFail {
+    /// The files tell their map, and it has no such name.
+    #[error("Absent")]
+    Absent,
+
+    /// A fault, which the files count.
+    #[error("Failed")]
+    Failed,
+
+    /// No memory was found.
+    #[error("NoMemory")]
+    NoMemory,
+}
+
+impl From<AllocError> for ReadFail {
+    ghost from_gives = { λ _ fail. fail ≡ NoMemory };
+
+    fn from(_: AllocError) -> ReadFail {
+        ReadFail::NoMemory
+    }
+}
+
+/// Files that are read by name.
+pub trait Files {
+    /// The map from names to bytes, where it is told, the count of faults, which never falls, and
+    /// the failed name: the name of the last read that failed, or none.
+    ghost meaning: { Self → FilesMeaning };
+
+    /// Reads the first `most` bytes of the file of this name, or all where it has no more.
+    ///
+    /// [`ReadFail::Absent`] comes only where the map is told and the name isn't in it.
+    /// [`ReadFail::Failed`] comes only where the count of faults rose in this call or stood at the
+    /// greatest `u64`; the failed name is then `name`. [`ReadFail::NoMemory`] may come at any call.
+    /// No other answer than `Failed` changes the count or the failed name, and none changes the map.
+    fn read(&mut self, alloc: Global, name: &str, most: usize) -> Result<Loaded, ReadFail>
+        ensures answer { ReadAnswers name.now most (meaning self.old) (meaning self.new) result };
+}
+
+#[cfg(test)]
+mod tests {
+    use super::*;
+    use crate::sink::Failed;
+    use std::test::Fail;
+
+    #[test]
+    fn texts_are_the_names(rt: HostRuntime) -> Result<(), Fail> {
+        let alloc = rt.alloc();
+        let rows = [
+            (ReadFail::Absent, "Absent"),
+            (ReadFail::Failed, "Failed"),
+            (ReadFail::NoMemory, "NoMemory"),
+        ];
+        for (fail, text) in rows {
+            assert_eq!(rt; format!(in alloc; "{fail}")?.as_str(), text);
+        }
+        assert_eq!(rt; format!(in alloc; "{Failed}")?.as_str(), "Failed");
+        Ok(())
+    }
+}

@@ -1,0 +1,162 @@
+ghost use Rattle.std.specs.Prelude.{◌≡◌, ◌≤◌, length, IfOk, OnOk, OnErr, option_map};
+ghost use Rattle.std.specs.FinMap as finite;
+ghost use Rattle.vip_outside.specs.Files.{IsStartOf, ReadAnswers};
+ghost use Rattle.vip_outside.specs.MemFiles.{FilesInMemory, meaning_of, no_files, is_named, FailsWhereNamed, after_read};
+
+use crate::files::{Files, Loaded, ReadFail};
+use arrayvec::ArrayVec;
+use std::alloc::{AllocError, Global};
+use std::collections::BTreeMap;
+use std::marker::Model;
+
+/// Files in memory. They tell their map, and calls of `read` can be named that fail.
+///
+/// Clauses see them as a `FilesInMemory`: the map, the named calls, and what was counted so far.
+#[derive(Debug, Drop)]
+pub struct MemFiles {
+    alloc: Global,
+    files: BTreeMap<String, Vec<u8>>,
+    named: ArrayVec<u32, 8>,
+    reads: u64,
+    faults: u64,
+    failed: Option<String>,
+}
+
+impl Model for MemFiles {
+    ghost use Rattle.std.specs.Prelude.{option_map, string_bytes};
+    ghost use Rattle.vip_outside.specs.MemFiles.{FilesInMemory, files_code};
+
+    ghost Value = { FilesInMemory };
+
+    ghost coded = { files_code };
+
+    ghost use Rattle.vip_outside.specs.FileTree.{map_of};
+
+    ghost view = { λ s. record { files = map_of s.files; named = s.named.items; reads = s.reads; faults = s.faults; failed = option_map string_bytes s.failed } };
+}
+
+impl MemFiles {
+    /// No files, no call named, nothing counted.
+    pub fn new(alloc: Global) -> Result<MemFiles, AllocError>
+        ensures { IfOk result (λ s. s ≡ no_files) }
+    {
+        Ok(MemFiles {
+            alloc,
+            files: BTreeMap::new(alloc),
+            named: ArrayVec::new(),
+            reads: 0,
+            faults: 0,
+            failed: None,
+        })
+    }
+
+    /// Adds a file, in place of one of the same name. Where no memory is found it changes nothing.
+    pub fn add(&mut self, name: &str, bytes: &[u8]) -> Result<(), AllocError>
+        ensures ok { OnOk result (self.new ≡ record self.old { files = finite.insert self.old.files name.now bytes.now }) }
+        ensures err { OnErr result (self.new ≡ self.old) }
+    {
+        let name = String::from_str(self.alloc, name)?;
+        let bytes = Vec::from_slice(self.alloc, bytes)?;
+        self.files.insert(name, bytes)?;
+        Ok(())
+    }
+
+    /// Names the calls of `read` that fail, at most 8, counted from 0 over all calls so far. They
+    /// take the place of those named before. It takes no memory.
+    pub fn fail_at(&mut self, calls: &[u32])
+        requires { length calls.now ≤ 8 }
+        ensures { self.new ≡ record self.old { named = calls.now } }
+    {
+        self.named.clear();
+        self.named.try_extend_from_slice(calls).unwrap();
+    }
+
+    /// Whether the next read is named to fail.
+    fn is_named(&self) -> bool
+        ensures { result ≡ is_named self.now }
+    {
+        self.named
+            .as_slice()
+            .iter()
+            .any(|call| u64::from(*call) == self.reads)
+    }
+
+    /// The bytes of the file of this name.
+    fn get(&self, name: &str) -> Option<&[u8]>
+        ensures { option_map (λ file. file.now) result ≡ finite.get self.now.files name.now }
+    {
+        let file = self.files.get(name)?;
+        Some(file.as_slice())
+    }
+}
+
+/// The first `most` bytes of a file.
+fn start_of(alloc: Global, file: &[u8], most: usize) -> Result<Loaded, AllocError>
+    ensures { IfOk result (IsStartOf file.now most) }
+{
+    let start = &file[..most.min(file.len())];
+    let bytes = Vec::from_slice(alloc, start)?;
+    Ok(Loaded {
+        bytes,
+        more: most < file.len(),
+    })
+}
+
+impl Files for MemFiles {
+    ghost meaning = { meaning_of };
+
+    /// A read fails exactly where its call is named, but for want of memory. Each call counts,
+    /// whatever it answers.
+    fn read(&mut self, alloc: Global, name: &str, most: usize) -> Result<Loaded, ReadFail>
+        ensures answer { ReadAnswers name.now most (meaning_of self.old) (meaning_of self.new) result }
+        ensures named { FailsWhereNamed (is_named self.old) result }
+        ensures after { self.new ≡ after_read self.old name.now result }
+    {
+        let named = self.is_named();
+        self.reads = self.reads.saturating_add(1);
+        let copy = String::from_str(self.alloc, name)?;
+        if named {
+            self.faults = self.faults.saturating_add(1);
+            self.failed = Some(copy);
+            return Err(ReadFail::Failed);
+        }
+        let Some(file) = self.get(name) else {
+            return Err(ReadFail::Absent);
+        };
+        Ok(start_of(alloc, file, most)?)
+    }
+}
+
+#[cfg(test)]
+mod tests {
+    use super::*;
+    use std::test::Fail;
+
+    #[test]
+    fn reads_and_fails_as_told(rt: HostRuntime) -> Result<(), Fail> {
+        let alloc = rt.alloc();
+        let mut files = MemFiles::new(alloc)?;
+        files.add("game", b"old")?;
+        files.add("empty", b"")?;
+        files.add("game", b"abcd")?;
+        files.fail_at(&[1, 6]);
+        let rows = [
+            ("game", 3, "Ok(Loaded { bytes: [97, 98, 99], more: true })"),
+            ("game", 3, "Err(Failed)"),
+            ("gam", 3, "Err(Absent)"),
+            ("empty", 9, "Ok(Loaded { bytes: [], more: false })"),
+            (
+                "game",
+                4,
+                "Ok(Loaded { bytes: [97, 98, 99, 100], more: false })",
+            ),
+            ("game", 0, "Ok(Loaded { bytes: [], more: true })"),
+            ("absent", 1, "Err(Failed)"),
+        ];
+        for (name, most, text) in rows {
+            let answer = files.read(alloc, name, most);
+            assert_eq!(rt; format!(in alloc; "{answer:?}")?.as_str(), text);
+        }
+        Ok(())
+    }
+}

@@ -1,0 +1,176 @@
+ghost use Rattle.std.specs.Prelude.{◌≡◌, ◌≤◌, length, IfOk, is_err};
+ghost use Rattle.vip_outside.specs.Sink.{PutAnswers};
+ghost use Rattle.vip_outside.specs.MemSink.{SinkInMemory, meaning_of, empty_sink, room_left, named_kept, is_fault, most_kept, after_put};
+
+use crate::sink::{Failed, Sink};
+use arrayvec::ArrayVec;
+use std::alloc::{AllocError, Global};
+use std::marker::Model;
+
+/// A sink in memory. It has a fixed room and tells all that it holds and how often it was called,
+/// and calls of `put` can be named that fail.
+///
+/// Clauses see it as a `SinkInMemory`: the bytes, the room, the named calls, and what was counted so
+/// far.
+#[derive(Debug, Drop)]
+pub struct MemSink {
+    bytes: Vec<u8>,
+    room: usize,
+    named: ArrayVec<(u32, usize), 8>,
+    calls: u32,
+    faults: u64,
+}
+
+impl Model for MemSink {
+    ghost use Rattle.std.specs.Prelude.{◌≤◌, vec_len, vec_capacity};
+    ghost use Rattle.vip_outside.specs.MemSink.{SinkInMemory};
+
+    ghost Value = { SinkInMemory };
+
+    ghost view = { λ s. record { held = s.bytes.items; room = s.room; named = s.named.items; calls = s.calls; faults = s.faults } };
+
+    ghost invariant = { λ s. (vec_len s.bytes ≤ s.room) × (s.room ≤ vec_capacity s.bytes) };
+}
+
+impl MemSink {
+    /// An empty sink with room for so many bytes, which it reserves here and never extends.
+    pub fn new(alloc: Global, room: usize) -> Result<MemSink, AllocError>
+        ensures { IfOk result (λ s. s ≡ empty_sink room) }
+    {
+        let bytes = Vec::with_capacity(alloc, room)?;
+        Ok(MemSink {
+            bytes,
+            room,
+            named: ArrayVec::new(),
+            calls: 0,
+            faults: 0,
+        })
+    }
+
+    /// Names the calls of `put` that fail where their piece isn't empty, at most 8, counted from 0
+    /// over all calls so far, and how many bytes of its piece each keeps; a shorter piece is kept
+    /// whole. They take the place of those named before. It takes no memory.
+    pub fn fail_at(&mut self, calls: &[(u32, usize)])
+        requires { length calls.now ≤ 8 }
+        ensures { self.new ≡ record self.old { named = calls.now } }
+    {
+        self.named.clear();
+        self.named.try_extend_from_slice(calls).unwrap();
+    }
+
+    /// The bytes that it holds, in the order in which they were put.
+    pub fn bytes(&self) -> &[u8]
+        ensures { result.now ≡ self.now.held }
+    {
+        self.bytes.as_slice()
+    }
+
+    /// How many calls of `put` there were, those that failed and those of empty pieces too.
+    pub fn calls(&self) -> u32
+        ensures { result ≡ self.now.calls }
+    {
+        self.calls
+    }
+}
+
+impl MemSink {
+    /// How many bytes of its piece the next call keeps, where it is named.
+    fn named_kept(&self) -> Option<usize>
+        ensures { result ≡ named_kept self.now }
+    {
+        let entry = self
+            .named
+            .as_slice()
+            .iter()
+            .find(|entry| entry.0 == self.calls)?;
+        Some(entry.1)
+    }
+
+    /// Whether the next put of a piece is a fault.
+    fn is_fault(&self, piece: &[u8]) -> bool
+        ensures { result ≡ is_fault self.now piece.now }
+    {
+        let left = self.room - self.bytes.len();
+        self.calls == u32::MAX
+            || (!piece.is_empty() && (self.named_kept().is_some() || left < piece.len()))
+    }
+
+    /// The most bytes of a piece that the next put keeps.
+    fn most_kept(&self) -> usize
+        ensures value { result ≡ most_kept self.now }
+        ensures fits { result ≤ room_left self.now }
+    {
+        let left = self.room - self.bytes.len();
+        if self.calls == u32::MAX {
+            0
+        } else {
+            self.named_kept().unwrap_or(left).min(left)
+        }
+    }
+}
+
+impl Sink for MemSink {
+    ghost meaning = { meaning_of };
+
+    /// A put is a fault exactly where the number of calls stands at the greatest `u32`, or the piece
+    /// isn't empty and the call is named or the piece doesn't fit into the room. It keeps as many
+    /// bytes as were named, and never more than fit. It takes no memory.
+    fn put(&mut self, piece: &[u8]) -> Result<(), Failed>
+        ensures answer { PutAnswers piece.now (meaning_of self.old) (meaning_of self.new) result }
+        ensures fault { is_err result ≡ is_fault self.old piece.now }
+        ensures after { self.new ≡ after_put self.old piece.now }
+    {
+        let fault = self.is_fault(piece);
+        let kept = self.most_kept().min(piece.len());
+        self.bytes.extend_from_slice(&piece[..kept]).unwrap();
+        self.calls = self.calls.saturating_add(1);
+        if fault {
+            self.faults = self.faults.saturating_add(1);
+            return Err(Failed);
+        }
+        Ok(())
+    }
+}
+
+#[cfg(test)]
+mod tests {
+    use super::*;
+    use std::process::Abort;
+    use std::test::Fail;
+
+    /// Whether a put is Ok. It is counted in any case.
+    fn is_put(rt: &impl Abort, sink: &mut MemSink, piece: &[u8]) -> bool {
+        let calls = sink.calls();
+        let answer = sink.put(piece);
+        assert!(rt; sink.calls() == calls.saturating_add(1));
+        answer.is_ok()
+    }
+
+    #[test]
+    fn takes_and_fails_as_told(rt: HostRuntime) -> Result<(), Fail> {
+        // The room, the named call, which of four puts are Ok, and what is held then.
+        let rows = [
+            (6, (9, 0), [true, true, true, true], "abcdef"),
+            (6, (1, 0), [true, false, true, true], "abf"),
+            (6, (1, 1), [true, false, true, true], "abcf"),
+            (6, (1, 9), [true, false, true, true], "abcdef"),
+            (6, (2, 0), [true, true, true, true], "abcdef"),
+            (4, (9, 0), [true, false, true, false], "abcd"),
+            (4, (1, 3), [true, false, true, false], "abcd"),
+            (0, (9, 0), [false, false, true, false], ""),
+        ];
+        for (room, named, answers, held) in rows {
+            let mut sink = MemSink::new(rt.alloc(), room)?;
+            sink.fail_at(&[named]);
+            let got = [
+                is_put(&rt, &mut sink, b"ab"),
+                is_put(&rt, &mut sink, b"cde"),
+                is_put(&rt, &mut sink, b""),
+                is_put(&rt, &mut sink, b"f"),
+            ];
+            assert!(rt; got == answers, "{held}");
+            assert!(rt; sink.bytes() == held.as_bytes(), "{held}");
+        }
+        Ok(())
+    }
+}

@@ -1,0 +1,124 @@
+ghost use Rattle.std.specs.Prelude.{◌≡◌, ◌≤◌, length, None, IfOk, IfErr, IfSome};
+ghost use Rattle.vip_outside.specs.Files.{IsStartOf};
+ghost use Rattle.vip_outside.specs.RealFiles.{meaning_of, IsNotAbsent};
+
+use crate::files::{Files, Loaded, ReadFail};
+use std::alloc::Global;
+use std::io::{Error, ErrorKind, Read};
+use std::marker::Model;
+use std::{fs, rt};
+
+/// The most bytes of one read of the system.
+const BLOCK: usize = 4096;
+
+/// The files of the system, named as the system names them. They tell no map, so an absent file is
+/// a fault.
+///
+/// Clauses see them as a `SystemFiles`: the count of faults and the failed name.
+#[derive(Drop)]
+pub struct RealFiles<R: rt::Files> {
+    runtime: R,
+    alloc: Global,
+    faults: u64,
+    failed: Option<String>,
+}
+
+impl<R: rt::Files> Model for RealFiles<R> {
+    ghost use Rattle.std.specs.Prelude.{option_map, string_bytes};
+    ghost use Rattle.vip_outside.specs.RealFiles.{SystemFiles};
+
+    ghost Value = { SystemFiles };
+
+    ghost view = { λ s. record { faults = s.faults; failed = option_map string_bytes s.failed } };
+}
+
+impl<R: rt::Files> RealFiles<R> {
+    /// The files that a runtime opens, with no fault and no failed name. The names that fail are kept
+    /// by `alloc`.
+    pub fn new(runtime: R, alloc: Global) -> RealFiles<R>
+        ensures { result ≡ record { faults = 0; failed = None } }
+    {
+        RealFiles {
+            runtime,
+            alloc,
+            faults: 0,
+            failed: None,
+        }
+    }
+}
+
+/// What an error of the system is to a read: want of memory, or a fault.
+fn read_fail(error: Error) -> ReadFail
+    ensures { IsNotAbsent result }
+{
+    match error.kind() {
+        ErrorKind::OutOfMemory => ReadFail::NoMemory,
+        _ => ReadFail::Failed,
+    }
+}
+
+/// Reads the first `most` bytes that a reader has left, and whether it has more. Each read takes at
+/// least one byte or is the last, and any error of the reader ends it.
+fn read_start<R: Read>(alloc: Global, reader: &mut R, most: usize) -> Result<Loaded, ReadFail>
+    ensures start { IfOk result (λ loaded. IfSome (R.remaining reader.old) (λ file. IsStartOf file most loaded)) }
+    ensures bound { IfOk result (λ loaded. length loaded.bytes.items ≤ most) }
+    ensures err { IfErr result IsNotAbsent }
+{
+    let mut bytes = Vec::new(alloc);
+    let mut block = [0u8; BLOCK];
+    loop {
+        let count = reader.read(&mut block).map_err(read_fail)?;
+        let room = most - bytes.len();
+        bytes.extend_from_slice(&block[..count.min(room)])?;
+        if count == 0 || room < count {
+            let more = room < count;
+            return Ok(Loaded { bytes, more });
+        }
+    }
+}
+
+impl<R: rt::Files> Files for RealFiles<R> {
+    ghost meaning = { meaning_of };
+
+    /// A file that can't be opened and any error while it is read are faults, but for want of memory.
+    /// The name is copied before the file is opened.
+    fn read(&mut self, alloc: Global, name: &str, most: usize) -> Result<Loaded, ReadFail> {
+        let copy = String::from_str(self.alloc, name)?;
+        let answer = match fs::open(&self.runtime, name) {
+            Ok(mut file) => read_start(alloc, &mut file, most),
+            Err(error) => Err(read_fail(error)),
+        };
+        if matches!(&answer, Err(ReadFail::Failed)) {
+            self.faults = self.faults.saturating_add(1);
+            self.failed = Some(copy);
+        }
+        answer
+    }
+}
+
+#[cfg(test)]
+mod tests {
+    use super::*;
+    use std::test::Fail;
+
+    #[test]
+    fn reads_the_start_of_a_file(rt: HostRuntime) -> Result<(), Fail> {
+        let alloc = rt.alloc();
+        fs::write(&rt, "read.bin", "abc")?;
+        let mut files = RealFiles::new(&rt, alloc);
+        let rows = [
+            (0, "Ok(Loaded { bytes: [], more: true })"),
+            (2, "Ok(Loaded { bytes: [97, 98], more: true })"),
+            (3, "Ok(Loaded { bytes: [97, 98, 99], more: false })"),
+            (9, "Ok(Loaded { bytes: [97, 98, 99], more: false })"),
+        ];
+        for (most, text) in rows {
+            let answer = files.read(alloc, "read.bin", most);
+            assert_eq!(rt; format!(in alloc; "{answer:?}")?.as_str(), text);
+        }
+        fs::remove_file(&rt, "read.bin")?;
+        let absent = files.read(alloc, "read.bin", 9);
+        assert!(rt; matches!(absent, Err(ReadFail::Failed)));
+        Ok(())
+    }
+}

@@ -1,0 +1,135 @@
+ghost use Rattle.std.specs.Prelude.{◌≡◌, ◌<◌, ◌≤◌, length, IfOk};
+ghost use Rattle.std.specs.Io.KnownBytes.{WriteAppends};
+ghost use Rattle.vip_outside.specs.Sink.{PutAnswers};
+ghost use Rattle.vip_outside.specs.StdSink.{meaning_of, WriteAnswers};
+
+use crate::sink::{Failed, Sink};
+use std::io::Write;
+use std::marker::Model;
+
+/// A sink over a stream of the system, as standard output. Of the bytes and the calls it tells
+/// nothing.
+///
+/// Clauses see it as a `StreamSink`: the count of faults, and what the stream itself tells of the
+/// bytes that it took, which is nothing at a stream of the system.
+#[derive(Drop)]
+pub struct StdSink<W: Write> {
+    stream: W,
+    faults: u64,
+}
+
+impl<W: Write> Model for StdSink<W> {
+    ghost use Rattle.vip_outside.specs.StdSink.{StreamSink};
+
+    ghost Value = { StreamSink };
+
+    ghost view = { λ s. record { written = W.contents s.stream; faults = s.faults } };
+}
+
+impl<W: Write> StdSink<W> {
+    /// A sink over this stream, with no fault.
+    pub fn new(stream: W) -> StdSink<W>
+        ensures { result ≡ record { written = W.contents stream; faults = 0 } }
+    {
+        StdSink { stream, faults: 0 }
+    }
+}
+
+/// Writes some bytes of a piece that isn't empty, at least one, and answers how many. A write that
+/// takes none is a fault, as any error of the stream.
+fn write_some<W: Write>(stream: &mut W, piece: &[u8]) -> Result<usize, Failed>
+    ensures some { IfOk result (λ count. 0 < count × count ≤ length piece.now) }
+    ensures bytes { WriteAppends (W.contents stream.old) (W.contents stream.new) result piece.now }
+{
+    match stream.write(piece) {
+        Ok(0) | Err(_) => Err(Failed),
+        Ok(count) => Ok(count),
+    }
+}
+
+/// Writes a whole piece, in as many writes as the stream needs, and then flushes the stream.
+fn write_whole<W: Write>(stream: &mut W, piece: &[u8]) -> Result<(), Failed>
+    ensures { WriteAnswers piece.now (W.contents stream.old) (W.contents stream.new) result }
+{
+    let mut rest = piece;
+    while !rest.is_empty() {
+        let count = write_some(stream, rest)?;
+        rest = &rest[count..];
+    }
+    stream.flush().map_err(|_| Failed)
+}
+
+impl<W: Write> Sink for StdSink<W> {
+    ghost meaning = { meaning_of };
+
+    /// A piece that isn't empty is written whole and then flushed. A write that takes nothing, and any
+    /// error of a write or of the flush, is a fault. To the stream goes what the answer says.
+    fn put(&mut self, piece: &[u8]) -> Result<(), Failed>
+        ensures answer { PutAnswers piece.now (meaning_of self.old) (meaning_of self.new) result }
+        ensures written { WriteAnswers piece.now self.old.written self.new.written result }
+    {
+        if piece.is_empty() {
+            return Ok(());
+        }
+        let answer = write_whole(&mut self.stream, piece);
+        if answer.is_err() {
+            self.faults = self.faults.saturating_add(1);
+        }
+        answer
+    }
+}
+
+#[cfg(test)]
+mod tests {
+    use super::*;
+    use std::io::ErrorKind;
+    use std::test::Fail;
+    use std::{fs, io};
+
+    /// A stream that takes at most so many bytes at each write, and may fail to flush.
+    #[derive(Drop)]
+    struct Slow {
+        step: usize,
+        flushes: bool,
+    }
+
+    impl Write for Slow {
+        fn write(&mut self, piece: &[u8]) -> io::Result<usize> {
+            Ok(self.step.min(piece.len()))
+        }
+
+        fn flush(&mut self) -> io::Result<()> {
+            if self.flushes {
+                Ok(())
+            } else {
+                Err(io::Error::from(ErrorKind::Other))
+            }
+        }
+    }
+
+    #[test]
+    fn fails_where_the_stream_does(rt: HostRuntime) {
+        for (step, flushes, answer) in [
+            (1, true, true),
+            (9, true, true),
+            (0, true, false),
+            (9, false, false),
+        ] {
+            let mut sink = StdSink::new(Slow { step, flushes });
+            assert_eq!(rt; sink.put(b"abc").is_ok(), answer, "{step} {flushes}");
+            assert!(rt; sink.put(b"").is_ok(), "{step} {flushes}");
+        }
+    }
+
+    #[test]
+    fn writes_to_a_file(rt: HostRuntime) -> Result<(), Fail> {
+        let mut sink = StdSink::new(fs::create(&rt, "written.bin")?);
+        for piece in ["ab", "", "c"] {
+            assert!(rt; sink.put(piece.as_bytes()).is_ok(), "{piece}");
+        }
+        let text = fs::read_to_string(&rt, "written.bin")?;
+        fs::remove_file(&rt, "written.bin")?;
+        assert_eq!(rt; text.as_str(), "abc");
+        Ok(())
+    }
+}
