@@ -133,14 +133,14 @@ pub reset-fits : FitsMachine after_reset
 reset-fits =
     record {
       regs =
-        record {
-          r = record { r0 = zero-word; r1 = zero-word; r2 = zero-word; r3 = zero-word; r4 = zero-word; r5 = zero-word; r6 = zero-word; r7 = zero-word; r8 = zero-word; r9 = zero-word; ra = zero-word; rb = zero-word; rc = zero-word; rd = zero-word; re = zero-word; rf = zero-word };
-          d = lit< tt;
-          df = omega arith;
-          p = lit< tt;
-          x = lit< tt;
-          t = lit< tt;
-        };
+          record {
+            r = record { r0 = zero-word; r1 = zero-word; r2 = zero-word; r3 = zero-word; r4 = zero-word; r5 = zero-word; r6 = zero-word; r7 = zero-word; r8 = zero-word; r9 = zero-word; ra = zero-word; rb = zero-word; rc = zero-word; rd = zero-word; re = zero-word; rf = zero-word };
+            d = lit< tt;
+            df = omega arith;
+            p = lit< tt;
+            x = lit< tt;
+            t = lit< tt;
+          };
       ram = zeros-fit 0x1000;
       size = length-replicate {A = ℕ} 0x1000 0;
       key = lit< tt;

@@ -85,9 +85,9 @@ module _ (rom : List ℕ) (script : List Event) (b : Machine) (p : Pictures) (f 
   last_of_three n e h =
       let later : b.cycle + 1 + 1 + 1 ≡ b.cycle + 3 = omega arith in
       let same =
-        executed-flags (opcode_of rom b) h (stepped b.regs b.regs.p) (byte_of rom b)
-        (flags_of (efx_at (b.cycle + 1 + 1) b.on) (held_at script (b.cycle + 1 + 1) b.key))
-        (flags_of (efx_at (b.cycle + 1) b.on) (held_at script (b.cycle + 1) b.key)) 0 in
+      executed-flags (opcode_of rom b) h (stepped b.regs b.regs.p) (byte_of rom b)
+      (flags_of (efx_at (b.cycle + 1 + 1) b.on) (held_at script (b.cycle + 1 + 1) b.key))
+      (flags_of (efx_at (b.cycle + 1) b.on) (held_at script (b.cycle + 1) b.key)) 0 in
       rw e
       (ap (λ (x : Effect). resting rom script (record (acted x (fetched rom b)) { cycle = b.cycle + 1 + 1 + 1 }) (scanned_over 3 b.cycle b.on None p)) same
       ∙ ap (λ t. record (made 3) { machine = record (made 3).machine { cycle = t } }) later)

@@ -12,14 +12,14 @@ abbrev pub seen_of : Processor → Wires → Seen
 seen_of cpu w =
     record {
       machine =
-        record {
-          regs = cpu.regs;
-          ram = w.memory.ram;
-          latch = w.memory.latch;
-          on = w.video.on;
-          key = w.key;
-          cycle = w.video.cycles;
-        };
+          record {
+            regs = cpu.regs;
+            ram = w.memory.ram;
+            latch = w.memory.latch;
+            on = w.video.on;
+            key = w.key;
+            cycle = w.video.cycles;
+          };
       phase = cpu.phase;
       pictures = w.video.pictures;
       rom = w.memory.rom;

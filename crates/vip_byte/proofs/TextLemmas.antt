@@ -130,7 +130,7 @@ words_split line trimmed word rest end cut at within front back some =
 -- no more lines than parts
 length-lines_of_parts : (parts : List (List ℕ)) → length (lines_of_parts parts) ≤ length parts
 length-lines_of_parts [] = omega arith
-length-lines_of_parts (part ∷ []) = elim (cases_Bool (eqb (length part) 0)) [ | inl empty ↦ rw empty (omega arith) | inr some ↦ rw some (omega arith) ]
+length-lines_of_parts (part ∷ []) = elim (cases_Bool (eqb (length part) 0)) [ inl empty ↦ rw empty (omega arith) | inr some ↦ rw some (omega arith) ]
 length-lines_of_parts (part ∷ next ∷ parts) = let rest = length-lines_of_parts (next ∷ parts) in omega (arith, rest)
 
 -- a text has at most one line more than bytes
