@@ -71,7 +71,8 @@ set_sound_put:  PLO     R8
 set_sound_end:  SEP     R4
 
 ; FX0A: VX is a key that was down and then up. The keys are tested in turn until one is down, and then that one until it
-; is up. A turn takes 7 instructions, so each key is tested again after 112.
+; is up. A turn takes 7 instructions, so each key is tested again after 112: up to key_count, where K has 400 sets, no
+; key is in all of the last 400.
 ;   wait_key        @92        entered, FX0A
 ;   key_next        @key       entered, FX0A; RD = WORK, X = RD; key RE.0 mod 16 is to be tested
 ;   key_test        @key       the same; that key is latched
