@@ -7,3 +7,6 @@ pub mod Runs
 pub mod NoDisplay
 pub mod First
 pub mod Steps
+pub mod Boots
+pub mod Stack
+pub mod Whole

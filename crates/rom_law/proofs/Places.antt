@@ -281,3 +281,66 @@ module _ {x : Program} {p : Places} {s : Lang} (h : Holding x p s) where
         entry = h.entry;
         page = h.page;
       }
+
+  -- ---- registers
+
+  -- I is changed: RA
+  pub i_set : (w : Word) (a : ℕ) → value w ≡ a → Holding x (record p { ra = w }) (record s { i = a })
+  i_set w a e =
+      record {
+        is = (λ j. record (lies_in x.edition p) { i = e j }) ∙ ap (λ (z : Lang). record z { i = a }) h.is;
+        stack = h.stack;
+        size = h.size;
+        latch = h.latch;
+        enabled = h.enabled;
+        awake = h.awake;
+        on = h.on;
+        entry = h.entry;
+        page = h.page;
+      }
+
+  -- the timers are changed: the halves of R8
+  pub timers_set : (w : Word) → Holding x (record p { r8 = w }) (record s { dt = w.hi; st = w.lo })
+  timers_set w =
+      record {
+        is = ap (λ (z : Lang). record z { dt = w.hi; st = w.lo }) h.is;
+        stack = h.stack;
+        size = h.size;
+        latch = h.latch;
+        enabled = h.enabled;
+        awake = h.awake;
+        on = h.on;
+        entry = h.entry;
+        page = h.page;
+      }
+
+  -- ---- RAM
+
+  memory_set_at : (k y : ℕ) → memory_start + k < memory_end x.edition → Holding x (record p { ram = written p.latch p.ram (memory_start + k) y }) (record s { memory = slice_set s.memory k y })
+  memory_set_at k y lt =
+      ram_set (memory_start + k) y _ (omega (arith, lt, memory_room)) refl
+      ((λ i. record (lies_in x.edition p) {
+        v = range_past (variables x.edition) (variables x.edition + 16) p.ram (memory_start + k) y (inl (omega (arith, lt, stack_below x.edition, stack_room x.edition))) i;
+        stack = stack_past (memory_start + k) y (inl lt) i;
+        memory = range_set memory_start (memory_end x.edition) p.ram k y (omega (arith, lt)) (omega (arith, h.size, memory_room)) i;
+        b = get_or-set_other p.ram (memory_start + k) random_cell y 0 (λ e. omega (arith, e)) i;
+        screen = pixels (rows_of x.edition) (range_past (screen_start x.edition) 0x1000 p.ram (memory_start + k) y (inl (omega (arith, lt, stack_below x.edition, stack_room x.edition, variables_below x.edition))) i);
+      })
+      ∙ ap (λ (z : Lang). record z { memory = slice_set z.memory k y }) h.is)
+
+  -- a byte of game memory is written
+  pub memory_set : (a k y : ℕ) → a ≡ memory_start + k → memory_start + k < memory_end x.edition → Holding x (record p { ram = written p.latch p.ram a y }) (record s { memory = slice_set s.memory k y })
+  memory_set a k y e lt = subst (λ z. Holding x (record p { ram = written p.latch p.ram z y }) (record s { memory = slice_set s.memory k y })) (sym e) (memory_set_at k y lt)
+
+  -- the random byte is written
+  pub random_set : (y : ℕ) → Holding x (record p { ram = written p.latch p.ram random_cell y }) (record s { b = y })
+  random_set y =
+      ram_set random_cell y _ (omega arith) refl
+      ((λ i. record (lies_in x.edition p) {
+        v = range_past (variables x.edition) (variables x.edition + 16) p.ram random_cell y (inl (omega (arith, stack_below x.edition, stack_room x.edition, memory_above x.edition))) i;
+        stack = stack_past random_cell y (inl (omega (arith, memory_above x.edition))) i;
+        memory = range_past memory_start (memory_end x.edition) p.ram random_cell y (inl (omega arith)) i;
+        b = get_or-set_same p.ram random_cell y 0 (omega (arith, h.size)) i;
+        screen = pixels (rows_of x.edition) (range_past (screen_start x.edition) 0x1000 p.ram random_cell y (inl (omega (arith, stack_below x.edition, stack_room x.edition, memory_above x.edition, variables_below x.edition))) i);
+      })
+      ∙ ap (λ (z : Lang). record z { b = y }) h.is)

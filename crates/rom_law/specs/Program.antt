@@ -1,12 +1,14 @@
 -- A ROM under proof, and where a language state lies in a machine that runs it.
-use Rattle.std.specs.Prelude.{◌≡◌, ℕ, Bool, Option, slice_index}
+use Rattle.std.specs.Prelude.{◌≡◌, ℕ, ◌/◌, Bool, true, Option, slice_index}
 use Rattle.machine.specs.Bank.{Word, word_of}
 use Rattle.machine.specs.Board.{Machine}
 use Rattle.chip8_lang.specs.declared.view.Edition.{Edition}
 use Rattle.chip8_lang.specs.declared.view.Stop.{Stop}
-use Rattle.chip8_lang.specs.Editions.{memory_end, stop_cell}
+use Rattle.chip8_lang.specs.Editions.{memory_end, screen_start, stop_cell}
 use Rattle.chip8_lang.specs.State.{Lang}
-use Rattle.chip8_lang.specs.Step.{number_of}
+use Rattle.chip8_lang.specs.Step.{number_of, stop_of}
+use Rattle.chip8_lang.specs.Between.{ticks_between}
+use Rattle.chip8_lang.specs.Bounds.{bound_of}
 use Rattle.chip8_lang.specs.Places.{Interpreter, Lies}
 use Rattle.rom_moves.specs.Code.{Code}
 
@@ -46,3 +48,18 @@ pub record Halts (x : Program) (b : Machine) (s : Lang) (stop : Stop) : Type 0 w
   pub p : b.regs.p ≡ 3
   pub r3 : b.regs.r.r3 ≡ word_of x.interpreter.halt
   pub number : slice_index b.ram stop_cell ≡ number_of stop
+
+-- An interpreter of the whole language: boot turns the display on, and leaves the interrupt routine in R1 and the page of the screen in
+-- RB.1. `Dispatches` is then `Stands`, and `Halts` is `Halted`.
+abbrev pub whole : Edition → Interpreter → Program
+whole e i =
+    record {
+      edition = e;
+      interpreter = i;
+      on = true;
+      entry = word_of i.entry;
+      page = screen_start e / 256;
+      stop_of = stop_of e;
+      bound_of = bound_of e;
+      ticks_between = ticks_between;
+    }
