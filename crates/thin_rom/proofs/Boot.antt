@@ -1,6 +1,5 @@
 -- Boot, from reset to the first dispatch.
 use Rattle.std.proofs.Common.{◌≡◌, ℕ, ◌<◌, ◌≤◌, refl, true, false, List, length}
-use Rattle.std.proofs.lemmas.Bool.{agree_below_at}
 use Rattle.machine.specs.Bank.{word, zeros}
 use Rattle.machine.specs.Memory.{read}
 use Rattle.machine.specs.Board.{Machine, start, after_reset}
@@ -8,9 +7,9 @@ use Rattle.machine.specs.Keys.{Keys}
 use Rattle.machine.specs.Run.{after_moves}
 use Rattle.chip8_lang.specs.declared.view.Edition.TheVariants.{Usual}
 use Rattle.chip8_lang.specs.State.{first, memory_size}
-use Rattle.chip8_lang.specs.Events.{is_dispatch, is_stop}
 use Rattle.rom_law.specs.Program.{Dispatches}
 use Rattle.rom_law.proofs.First.{first_lies}
+use Rattle.rom_law.proofs.Boots.{is_quiet, Quiet, quiet_moves}
 use Rattle.thin_rom.specs.Thin.{thin}
 
 module _ (held : ℕ → Keys) (ram : List ℕ) where
@@ -34,13 +33,12 @@ module _ (held : ℕ → Keys) (ram : List ℕ) where
   unfolding read
   boot_ends = refl
 
-  pub no_dispatch : (m : ℕ) → m < 18 → is_dispatch thin.interpreter (booting m) ≡ false
+  quiet : is_quiet thin.interpreter held 18 (booting 0) ≡ true
   unfolding read
-  no_dispatch m l = agree_below_at (λ k. is_dispatch thin.interpreter (booting k)) (λ k. false) 18 m refl l
+  quiet = refl
 
-  pub no_stop : (m : ℕ) → m < 18 → is_stop thin.interpreter (booting m) ≡ false
-  unfolding read
-  no_stop m l = agree_below_at (λ k. is_stop thin.interpreter (booting k)) (λ k. false) 18 m refl l
+  pub no_event : (m : ℕ) → m < 18 → Quiet thin.interpreter held (booting m)
+  no_event m l = quiet_moves thin.interpreter held 18 (booting 0) quiet m l
 
 -- the first state lies there
 pub booted_stands : (held : ℕ → Keys) (game : List ℕ) → length game ≤ memory_size Usual → Dispatches thin (booted held (start game).ram) (first Usual game)

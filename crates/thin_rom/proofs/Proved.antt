@@ -26,7 +26,7 @@ use Rattle.thin_rom.proofs.Pieces.{Block, Head, Place, moves, before, pieces}
 use Rattle.thin_rom.proofs.Pieces.Block.{Fetch, Check, Read, Outside, JumpTo, LoadByte, AddByte, Unknown, Store}
 use Rattle.thin_rom.proofs.Fetch.{fetch_comes, check_comes, read_comes}
 use Rattle.thin_rom.proofs.Routines.{jump_comes, load_comes, add_comes, unknown_comes, outside_comes, store_comes}
-use Rattle.thin_rom.proofs.Boot.{booting, booted, boot_ends, no_dispatch, no_stop, booted_stands}
+use Rattle.thin_rom.proofs.Boot.{booting, booted, boot_ends, no_event, booted_stands}
 
 -- ---- the ROM is proved
 
@@ -110,7 +110,7 @@ module _ (game : List ℕ) (room : length game ≤ memory_size Usual) (bytes : (
   boots =
       record {
         moves = 18;
-        quiet = λ m l. (no_dispatch (held_at []) (start game).ram m l, no_stop (held_at []) (start game).ram m l);
+        quiet = no_event (held_at []) (start game).ram;
         soon = subst (λ (b : Machine). b.cycle ≤ 1000) (sym ends) (omega arith);
         dispatch = subst (λ b. is_dispatch thin.interpreter b ≡ true) (sym ends) refl;
         runs = subst (λ b. is_stop thin.interpreter b ≡ false) (sym ends) refl;
