@@ -91,12 +91,13 @@ acted-fits e b f g =
     let ram = ram_after-fits e.write b.latch b.ram (record { bytes = g.ram; size = g.size }) f.write in
     record { regs = f.regs; ram = ram.bytes; size = ram.size; key = key_after-fits e.port b.key g.key }
 
-module _ (rom : List ℕ) (held : ℕ → Keys) (f : FitsRom rom) where
-  main-fits : (efx : Bool) (keys : Keys) (b : Machine) → FitsMachine b → FitsMachine (main_move rom efx keys b)
+module _ (rom : List ℕ) (f : FitsRom rom) where
+  pub main-fits : (efx : Bool) (keys : Keys) (b : Machine) → FitsMachine b → FitsMachine (main_move rom efx keys b)
   main-fits efx keys b g =
       acted-fits (instruction b.regs (byte_of rom b) (flags_of efx (keys b.key)) 0) b
       (instruction-fits b.regs (byte_of rom b) (flags_of efx (keys b.key)) 0 g.regs (λ a. read-fits rom b.ram b.latch a f.bytes g.ram) (lit< tt)) g
 
+module _ (rom : List ℕ) (held : ℕ → Keys) (f : FitsRom rom) where
   moved-fits : (k : Case) (b : Machine) → FitsMachine b → FitsMachine (moved_in k rom held b)
   moved-fits Dma b g =
       let s = stepped-fits b.regs 0 g.regs in
@@ -115,7 +116,7 @@ module _ (rom : List ℕ) (held : ℕ → Keys) (f : FitsRom rom) where
       }
   moved-fits Idle b g = record { regs = g.regs; ram = g.ram; size = g.size; key = g.key }
   moved-fits Instruction b g =
-      let m = main-fits (efx_at (b.cycle + 1) b.on) (held (b.cycle + 1)) b g in
+      let m = main-fits rom f (efx_at (b.cycle + 1) b.on) (held (b.cycle + 1)) b g in
       record { regs = m.regs; ram = m.ram; size = m.size; key = m.key }
 
   pub move-fits : (b : Machine) → FitsMachine b → FitsMachine (move rom held b)
