@@ -7,14 +7,14 @@ use Rattle.machine.specs.Bank.{value, word}
 use Rattle.machine.specs.Board.{Machine, start}
 use Rattle.machine.specs.Keys.{Keys}
 use Rattle.machine.specs.Run.{after_moves}
-use Rattle.machine.specs.Ranges.{FitsWord, FitsMachine, FitsRom}
+use Rattle.machine.specs.Ranges.{FitsMachine, FitsRom}
 use Rattle.chip8_lang.specs.declared.view.Edition.{Edition}
 use Rattle.chip8_lang.specs.declared.view.Edition.TheVariants.{Usual, Tall}
 use Rattle.chip8_lang.specs.Editions.{memory_start, memory_end, stack_top, variables, screen_start, rows_of, random_cell}
 use Rattle.chip8_lang.specs.Screen.{is_set, empty}
 use Rattle.chip8_lang.specs.State.{first, memory_size}
 use Rattle.chip8_lang.specs.Places.{Lies, state_of, pixels, addresses}
-use Rattle.rom_moves.proofs.Ranges.{move_fits}
+use Rattle.machine.proofs.Fits.{move-fits, reset-fits}
 use Rattle.rom_law.proofs.Places.{depth, range_get, range_length, stack_below, variables_below, screen_below, stack_room}
 
 -- ---- lists of zeros
@@ -156,24 +156,8 @@ module _ (e : Edition) (game : List ℕ) (room : length game ≤ memory_size e) 
 -- ---- the ranges along a run
 
 pub start_fits : (game : List ℕ) → length game ≤ 0xe00 → ((i : ℕ) → slice_index game i < 256) → FitsMachine (start game)
-start_fits game room bytes =
-    record {
-      regs = record {
-        r = record { r0 = none; r1 = none; r2 = none; r3 = none; r4 = none; r5 = none; r6 = none; r7 = none; r8 = none; r9 = none; ra = none; rb = none; rc = none; rd = none; re = none; rf = none };
-        d = lit< tt;
-        df = omega arith;
-        p = lit< tt;
-        x = lit< tt;
-        t = lit< tt;
-      };
-      ram = ram_fits 0x1000 0x200 game bytes;
-      size = ram_length 0x1000 0x200 game (omega (arith, room));
-      key = lit< tt;
-    }
-  where
-    none : FitsWord (word 0 0)
-    none = record { hi = lit< tt; lo = lit< tt }
+start_fits game room bytes = record { regs = reset-fits.regs; ram = ram_fits 0x1000 0x200 game bytes; size = ram_length 0x1000 0x200 game (omega (arith, room)); key = reset-fits.key }
 
 pub moves_fit : (rom : List ℕ) → FitsRom rom → (held : ℕ → Keys) (b : Machine) → FitsMachine b → (n : ℕ) → FitsMachine (after_moves rom held b n)
 moves_fit rom r held b f zero = f
-moves_fit rom r held b f (suc n) = move_fits rom r held (after_moves rom held b n) (moves_fit rom r held b f n)
+moves_fit rom r held b f (suc n) = move-fits rom held r (after_moves rom held b n) (moves_fit rom r held b f n)

@@ -12,7 +12,8 @@ use Rattle.chip8_lang.specs.Between.{Between}
 use Rattle.rom_moves.specs.Code.{Code, Input, moved, run, is_event}
 use Rattle.rom_moves.specs.Later.{After}
 use Rattle.rom_moves.proofs.Moves.{AllGood, Calm, Fine, quicks, Reaches, reaches_good, reaches_run, reaches_quicks, quicks_are, quicks_idle, quicks_clear, quicks_full, quicks_on, quicks_enabled, after_quick, after_cycles}
-use Rattle.rom_moves.proofs.Ranges.{main_move_fits, tick_fits}
+use Rattle.machine.proofs.Fits.{main-fits}
+use Rattle.rom_moves.proofs.Ranges.{tick_fits}
 use Rattle.rom_moves.proofs.Ticks.{after_none}
 use Rattle.rom_moves.proofs.Ticks.{after_tick as later_tick}
 use Rattle.rom_law.specs.Program.{Program, code, Dispatches, Halts}
@@ -57,7 +58,7 @@ module _ (x : Code) where
 
   run_fits : FitsRom x.rom → (k : ℕ) (b : Machine) → FitsMachine b → FitsMachine (run x k b)
   run_fits r zero b f = f
-  run_fits r (suc k) b f = main_move_fits x.rom r false (λ k. false) (run x k b) (run_fits r k b f)
+  run_fits r (suc k) b f = main-fits x.rom r false (λ k. false) (run x k b) (run_fits r k b f)
 
 quiet : (t : Bool) → T (not t) → t ≡ false
 quiet true h = absurd h
@@ -270,7 +271,7 @@ module _ (x : Program) (t : Pieces) (proved : Proved x t) where
   -- every main move keeps the rows
   pub row_moves : (u : Input) (b : Machine) (h : Since) → FitsMachine b → b.regs.idle ≡ false → Row x t b h → Outcome x t (moved (code x) u b) (after_main u h)
   row_moves u b h f i (Inside l r) = block_moves r u
-  row_moves u b h f i (Alone l at) = place_ended (moved (code x) u b) (after_main u h) (main_move_fits x.interpreter.rom proved.rom u.efx u.held b f) ((proved.places l b h f at).moves i u)
+  row_moves u b h f i (Alone l at) = place_ended (moved (code x) u b) (after_main u h) (main-fits x.interpreter.rom proved.rom u.efx u.held b f) ((proved.places l b h f at).moves i u)
 
   -- and so does every tick
   pub row_ticks : (b c : Machine) (h : Since) → FitsMachine b → Tick (code x).low b c → Row x t b h → Row x t c (after_tick h)

@@ -16,7 +16,7 @@ use Rattle.chip8_lang.specs.Between.{Between, keys_from, keys_between}
 use Rattle.chip8_lang.specs.Events.{is_instruction, is_at}
 use Rattle.rom_moves.specs.Code.{Input, moved, is_by}
 use Rattle.rom_moves.specs.Later.{After}
-use Rattle.rom_moves.proofs.Ranges.{main_move_fits}
+use Rattle.machine.proofs.Fits.{main-fits}
 use Rattle.rom_moves.proofs.Ticks.{after_none}
 use Rattle.rom_law.specs.Program.{Program, code, Dispatches, Halts}
 use Rattle.rom_law.specs.Rows.{Since, Ready, Pieces, Row, Outcome, now, dispatched, after_main}
@@ -175,7 +175,7 @@ module _ (x : Program) (t : Pieces) (proved : Proved x t) (off : x.on ≡ false)
 
     fits' : FitsMachine c
     unfolding c u
-    fits' = main_move_fits x.interpreter.rom proved.rom u.efx u.held (record b { cycle = b.cycle + 2 }) (record { regs = r.fits.regs; ram = r.fits.ram; size = r.fits.size; key = r.fits.key })
+    fits' = main-fits x.interpreter.rom proved.rom u.efx u.held (record b { cycle = b.cycle + 2 }) (record { regs = r.fits.regs; ram = r.fits.ram; size = r.fits.size; key = r.fits.key })
 
     cycle' : c.cycle ≡ h.from + (h.spent + 2)
     unfolding c u

@@ -13,7 +13,8 @@ use Rattle.chip8_lang.specs.Ticks.{ticks}
 use Rattle.chip8_lang.specs.Between.{Between}
 use Rattle.rom_moves.specs.Code.{Input, moved, is_by, is_event}
 use Rattle.rom_moves.specs.Later.{After}
-use Rattle.rom_moves.proofs.Ranges.{main_move_fits, tick_fits}
+use Rattle.machine.proofs.Fits.{main-fits}
+use Rattle.rom_moves.proofs.Ranges.{tick_fits}
 use Rattle.rom_moves.proofs.Ticks.{after_none}
 use Rattle.rom_moves.proofs.Ticks.{after_tick as later_tick}
 use Rattle.rom_law.specs.Program.{Program, code, Dispatches, Halts}
@@ -72,7 +73,7 @@ module _ (x : Program) (t : Pieces) (proved : Proved x t) (b : Machine) (s : Lan
     range : FitsMachine c
 
   known_main : (n : ℕ) (sets : List Keys) (c : Machine) (u : Input) (k : Known n sets c) → is_event (code x) (moved (code x) u c) ≡ false → Outcome x t (moved (code x) u c) (after_main u k.since) → Known n (sets ++ u.held ∷ []) (moved (code x) u c)
-  known_main n sets c u k e (Still calm row) = record { since = after_main u k.since; state = k.state; ticks = k.ticks; keys = ap (λ l. l ++ u.held ∷ []) k.keys; row = row; range = main_move_fits x.interpreter.rom proved.rom u.efx u.held c k.range }
+  known_main n sets c u k e (Still calm row) = record { since = after_main u k.since; state = k.state; ticks = k.ticks; keys = ap (λ l. l ++ u.held ∷ []) k.keys; row = row; range = main-fits x.interpreter.rom proved.rom u.efx u.held c k.range }
   known_main n sets c u k e (Arrived z st) = differ (dispatch_event x (moved (code x) u c) z st.stands) e
   known_main n sets c u k e (Halted stop st) = differ (halt_event x (moved (code x) u c) (now (after_main u k.since)) stop st.halts) e
 
@@ -103,4 +104,4 @@ every_schedule x t proved b s fits stands n sets c l efx held d m v j e k = go (
     u = record { efx = efx; held = held }
 
     go : Known x t proved b s fits stands n sets c → Follows x s (n + j) (sets ++ held ∷ []) e
-    go r = follows x t proved b s fits stands n sets c r u j e (main_move_fits x.interpreter.rom proved.rom efx held c r.range) (subst (λ z. Ticked x z j e) m.moved k) (subst (λ z. is_event (code x) z ≡ true) m.moved v) (row_moves x t proved u c r.since r.range m.awake r.row)
+    go r = follows x t proved b s fits stands n sets c r u j e (main-fits x.interpreter.rom proved.rom efx held c r.range) (subst (λ z. Ticked x z j e) m.moved k) (subst (λ z. is_event (code x) z ≡ true) m.moved v) (row_moves x t proved u c r.since r.range m.awake r.row)
