@@ -1,4 +1,4 @@
-//! One vector: an instruction, with the state before and after it.
+//! One vector: an instruction or a move that a signal wants, with the state before and after it.
 
 ghost use Rattle.std.specs.Prelude.{◌<◌};
 
@@ -62,7 +62,16 @@ pub struct Vector {
     pub memory: Vec<[u8; 3]>,
     /// What the instruction does on the bus, the port first.
     pub calls: Vec<Call>,
-    pub cycles: u8,
+    /// It begins with an instruction, and not with a move that a signal wants.
+    pub has_instruction: bool,
+    /// INT is active after the instruction, with IE = 0.
+    pub ignores_int: bool,
+    /// An interrupt cycle comes after the instruction.
+    pub takes_int: bool,
+    /// How many DMA cycles come after the instruction.
+    pub dma_cycles: u16,
+    /// All machine cycles, those of idling too.
+    pub cycles: u16,
 }
 
 impl State {
@@ -188,6 +197,17 @@ fn flags_of(bits: u8) -> [bool; 4] {
     ]
 }
 
+/// How often D stands among the moves after an instruction.
+fn dma_cycles_of(moves: &str) -> u16 {
+    let mut count = 0u16;
+    for letter in moves.bytes() {
+        if letter == b'D' {
+            count = count.saturating_add(1);
+        }
+    }
+    count
+}
+
 fn next<'a>(fields: &mut SplitWhitespace<'a>) -> Result<&'a str, VectorFault> {
     fields.next().ok_or(VectorFault::NotAVector)
 }
@@ -197,21 +217,28 @@ impl Vector {
     pub fn read(alloc: Global, line: &str) -> Result<Vector, VectorFault> {
         let mut fields = line.split_whitespace();
         let _id = next(&mut fields)?;
-        let is_board = next(&mut fields)? == "b";
+        let kind = next(&mut fields)?;
         let before = State::read(next(&mut fields)?, next(&mut fields)?)?;
         let [flags, taken] = <[u8; 2]>::from_hex(next(&mut fields)?)?;
         let memory = read_list(alloc, next(&mut fields)?)?;
         let after = read_changes(alloc, &before, next(&mut fields)?)?;
         let calls = read_calls(alloc, next(&mut fields)?, next(&mut fields)?)?;
-        let cycles = if next(&mut fields)? == "3" { 3 } else { 2 };
+        let Ok(cycles) = next(&mut fields)?.parse::<u16>() else {
+            return Err(VectorFault::NotAVector);
+        };
+        let moves = next(&mut fields)?;
         Ok(Vector {
-            is_board,
+            is_board: kind != "f",
             before,
             after,
             flags: flags_of(flags),
             taken,
             memory,
             calls,
+            has_instruction: kind != "m",
+            ignores_int: moves.starts_with('i'),
+            takes_int: moves.starts_with('I'),
+            dma_cycles: dma_cycles_of(moves),
             cycles,
         })
     }
