@@ -5,6 +5,7 @@ ghost use Rattle.vip_cpu.specs.Groups.{group_of};
 
 use machine::Kind;
 
+/// A group of instructions.
 #[derive(Clone, Copy)]
 pub enum Group {
     /// Memory reference.
@@ -27,6 +28,7 @@ pub enum Group {
     InputOutput,
 }
 
+/// The group of a kind.
 pub fn group_of(kind: Kind) -> Group
     ensures { result ≡ group_of kind }
 {

@@ -10,6 +10,7 @@ use crate::parts::Parts;
 use crate::scratchpad::Scratchpad;
 use std::marker::Model;
 
+/// All registers of the processor, and whether it idles.
 #[derive(Drop)]
 pub struct Registers {
     r: Scratchpad,

@@ -5,6 +5,7 @@ ghost use Rattle.machine.specs.Bank.{word_of, get, put, zeros, bank_of};
 
 use std::marker::Model;
 
+/// R(0) to R(F), seen as words of two bytes.
 #[derive(Drop)]
 pub struct Scratchpad {
     numbers: [u16; 16],
