@@ -1,5 +1,5 @@
 -- The calls of a machine cycle make of the wires what the cycle's effect makes of the machine.
-use Rattle.std.proofs.Common.{◌≡◌, ◌+◌, ◌-◌, ◌∙◌, ℕ, Bool, true, false, ◌&&◌, if◌then◌else◌, List, [], refl, sym, ap, subst}
+use Rattle.std.proofs.Common.{◌≡◌, ◌+◌, ◌-◌, ◌∙◌, ℕ, Bool, true, false, ◌&&◌, if◌then◌else◌, List, refl, sym, ap, subst}
 use Rattle.std.specs.Prelude.{◌==◌, Option, Some, None}
 use Rattle.machine.specs.Opcodes.{kind_of, number_of, cycles_of}
 use Rattle.machine.specs.Instruction.{Regs, Effect, Port, at, stepped, interrupted, inputs}
@@ -65,7 +65,7 @@ abbrev bytes : Wires → ℕ → ℕ
 bytes w = read w.memory.rom w.memory.latch w.memory.ram
 
 abbrev flags : Wires → ℕ → Bool
-flags w = flags_of (efx_at w.video.cycles w.video.on) (held_at [] w.video.cycles w.key)
+flags w = flags_of (efx_at w.video.cycles w.video.on) (held_at w.keypad.script w.video.cycles w.keypad.latched)
 
 -- what the processor's cycle makes
 pub record Made (cpu : Processor) (w : Wires) (p : Processor) (v : Wires) (d : Did) : Type 0 where
@@ -88,11 +88,11 @@ made_at cpu w p v did h =
       wires = calls.1 ∙ ap (λ n. after_calls (with_byte n).effect.port (with_byte n).effect.write w) calls.0;
     }
 
-pub made : (cpu : Processor) (w : Wires) (dma int : Bool) (p : Processor) (v : Wires) (did : Did) → dma ≡ dma_at w.video.cycles w.video.on → int ≡ int_at w.video.cycles w.video.on → Answers cpu w dma int p v did → Made cpu w p v did
-made cpu w dma int p v did d i h =
+pub made : (cpu : Processor) (w : Wires) (now : ℕ) (dma int : Bool) (p : Processor) (v : Wires) (did : Did) → now ≡ w.video.cycles → dma ≡ dma_at now w.video.on → int ≡ int_at now w.video.on → Answers cpu w dma int p v did → Made cpu w p v did
+made cpu w now dma int p v did n d i h =
     let D : Bool → Type 0 = λ x. Answers cpu w x int p v did in
     let I : Bool → Type 0 = λ x. Answers cpu w (dma_at w.video.cycles w.video.on) x p v did in
-    made_at cpu w p v did (subst I i (subst D d h))
+    made_at cpu w p v did (subst I (i ∙ ap (λ t. int_at t w.video.on) n) (subst D (d ∙ ap (λ t. dma_at t w.video.on) n) h))
 
 -- the video chip ends the cycle
 pub seen_after : (cpu : Processor) (w : Wires) (p : Processor) (v : Wires) (did : Did) (byte : Option ℕ) (chip : Chip) → w.video.cycle_on ≡ w.video.on → Made cpu w p v did → byte ≡ byte_in did → chip ≡ video_ended byte v.video → seen_of p (record v { video = chip }) ≡ cycled (seen_of cpu w)

@@ -1,5 +1,5 @@
 -- The wires of the board: how the board is seen, and what the processor's calls make of it.
-use Rattle.std.specs.Prelude.{ℕ, Option, Some, []}
+use Rattle.std.specs.Prelude.{ℕ, Option, Some}
 use Rattle.machine.specs.Instruction.{Port}
 use Rattle.machine.specs.Memory.{written}
 use Rattle.machine.specs.Board.{on_after, key_after, latch_after, ram_after}
@@ -17,13 +17,13 @@ seen_of cpu w =
             ram = w.memory.ram;
             latch = w.memory.latch;
             on = w.video.on;
-            key = w.key;
+            key = w.keypad.latched;
             cycle = w.video.cycles;
           };
       phase = cpu.phase;
       pictures = w.video.pictures;
       rom = w.memory.rom;
-      script = [];
+      script = w.keypad.script;
     }
 
 -- after an action at a port, and after a write
@@ -31,7 +31,7 @@ abbrev pub after_port : Port → Wires → Wires
 after_port p w =
     record w {
       video = record w.video { on = on_after (Some p) w.video.on };
-      key = key_after (Some p) w.key;
+      keypad = record w.keypad { latched = key_after (Some p) w.keypad.latched };
       memory = record w.memory { latch = latch_after (Some p) w.memory.latch };
     }
 
@@ -43,6 +43,6 @@ abbrev pub after_calls : Option Port → Option (ℕ × ℕ) → Wires → Wires
 after_calls port write w =
     record w {
       video = record w.video { on = on_after port w.video.on };
-      key = key_after port w.key;
+      keypad = record w.keypad { latched = key_after port w.keypad.latched };
       memory = record w.memory { latch = latch_after port w.memory.latch; ram = ram_after write w.memory.latch w.memory.ram };
     }

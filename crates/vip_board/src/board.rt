@@ -12,6 +12,7 @@ use std::alloc::{AllocError, Global};
 use std::marker::Model;
 use vip_cpu::{Bus, Cpu, Did, Phase};
 use vip_isa::cycles;
+use vip_keypad::{Keypad, Script};
 use vip_memory::Memory;
 use vip_video::{Signals, Video};
 
@@ -42,7 +43,7 @@ fn byte_in(did: Did) -> Option<u8>
     }
 }
 
-/// A board with its ROM.
+/// A board with its ROM and its key script.
 #[derive(Drop)]
 pub struct Board {
     cpu: Cpu,
@@ -68,22 +69,24 @@ impl Board {
     ghost use Rattle.vip_video.specs.Chip.{nothing_yet};
     ghost use Rattle.vip_board.specs.Seen.{cycle_of, cycled};
 
-    /// A board after reset, at a boundary, with a ROM of 2,048 bytes.
-    pub fn reset(alloc: Global, rom: &[u8]) -> Result<Board, AllocError>
+    /// A board after reset, at a boundary, with a ROM of 2,048 bytes and a key script.
+    pub fn reset(alloc: Global, rom: &[u8], script: &Script) -> Result<Board, AllocError>
         requires { length rom.now ≡ 0x800 }
-        ensures board { IfOk result (λ b. b ≡ record { machine = after_reset; phase = Phase.Boundary; pictures = nothing_yet; rom = rom.now; script = [] }) }
+        ensures board { IfOk result (λ b. b ≡ record { machine = after_reset; phase = Phase.Boundary; pictures = nothing_yet; rom = rom.now; script = script.now }) }
         ensures pictures { IfOk result (λ b. Shows b.rom [] b.machine.cycle b.pictures) }
         ensures fits { IfOk result (λ b. FitsMachine b.machine × FitsRom b.rom) }
     {
         let memory = Memory::new(alloc, rom)?;
-        let wires = Wires {
-            memory,
-            video: Video::new(),
-            key: 0,
-        };
+        let keypad = Keypad::new(alloc, script)?;
+        let video = Video::new();
+        let cpu = Cpu::reset();
         Ok(Board {
-            cpu: Cpu::reset(),
-            wires,
+            cpu,
+            wires: Wires {
+                memory,
+                video,
+                keypad,
+            },
         })
     }
 
@@ -116,6 +119,13 @@ impl Board {
         &self.wires.memory
     }
 
+    /// The keypad.
+    pub fn keypad(&self) -> &Keypad
+        ensures { result.now ≡ record { script = self.now.script; latched = self.now.machine.key } }
+    {
+        &self.wires.keypad
+    }
+
     /// The video chip.
     pub fn video(&self) -> &Video
         ensures { result.now ≡ record { cycles = self.now.machine.cycle; on = self.now.machine.on; cycle_on = self.now.machine.on; pictures = self.now.pictures } }
@@ -123,7 +133,8 @@ impl Board {
         &self.wires.video
     }
 
-    /// One machine cycle, the next one of the move that the board is in or starts. Answers what kind of cycle it was.
+    /// Makes one machine cycle, the next one of the move that the board is in or starts. Answers what kind of cycle it
+    /// was.
     pub fn cycle(&mut self) -> Did
         requires { self.old.machine.cycle + 1 < 2 ^ 64 }
         ensures board { self.new ≡ cycled self.old }
@@ -201,7 +212,7 @@ impl Board {
     }
 
     /// Makes the next move and names it, or answers `End` where it would end after cycle `limit` and changes nothing. The board is at a
-    /// boundary, before and after.
+    /// boundary, before and after. Where the video chip had the pictures of the moves made so far, it has them after this move too.
     pub fn to_boundary(&mut self, limit: u64) -> Moved
         requires { self.old.phase ≡ Phase.Boundary }
         ensures end { (result ≡ Moved.End) ↔ (limit < self.old.machine.cycle + length_of self.old.rom self.old.machine) }

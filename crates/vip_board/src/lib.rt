@@ -11,12 +11,18 @@
 //!                     └─────────────┘
 //! ```
 //!
-//! It stands on the processor, the memory and the video chip, each through its contract alone. The layer above may rely on this: for
-//! every ROM of 2,048 bytes `to_boundary` makes exactly one move of the board as `machine` defines it and names it, or answers that
-//! the move would end after the limit and changes nothing; `cycle` makes the next machine cycle of that move.
+//! It stands on the processor, the memory, the video chip and the keypad, each through its contract alone. The layer above may rely on
+//! this, for every ROM of 2,048 bytes, every key script and any number of cycles below the greatest u64:
+//!
+//! - `to_boundary` makes exactly one move of the board as `machine` defines it and names it, or answers that the move would end after
+//!   the limit and changes nothing; `cycle` makes the next machine cycle of that move.
+//! - What the video chip has of pictures is what the definition of pictures says of the moves made so far (`specs/Shown.antt`).
+//! - The registers, RAM and the latched key stay in their ranges.
 #![tactic(auto)]
 
 mod board;
+#[cfg(test)]
+mod tests;
 mod wires;
 
 pub use board::{Board, Move, Moved};

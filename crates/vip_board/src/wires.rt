@@ -3,20 +3,21 @@
 ghost use Rattle.std.specs.Prelude.{◌≡◌};
 
 use vip_cpu::Bus;
+use vip_keypad::Keypad;
 use vip_memory::Memory;
 use vip_video::Video;
 
-/// Memory, the video chip, and the latched key. The flags are those of the present cycle: EF1 is EFX, and EF3 is whether the latched
+/// Memory, the video chip, and the keypad. The flags are those of the present cycle: EF1 is EFX, and EF3 is whether the latched
 /// key is held down.
 #[derive(Drop)]
 pub struct Wires {
     pub memory: Memory,
     pub video: Video,
-    pub key: u8,
+    pub keypad: Keypad,
 }
 
 impl Bus for Wires {
-    ghost use Rattle.std.specs.Prelude.{◌≡◌, []};
+    ghost use Rattle.std.specs.Prelude.{◌≡◌};
     ghost use Rattle.machine.specs.Keys.{held_at};
     ghost use Rattle.machine.specs.Signals.{efx_at};
     ghost use Rattle.machine.specs.Instruction.Port.{Send, Receive};
@@ -27,7 +28,7 @@ impl Bus for Wires {
 
     ghost byte = { λ w. read w.memory.rom w.memory.latch w.memory.ram };
 
-    ghost flags = { λ w. flags_of (efx_at w.video.cycles w.video.on) (held_at [] w.video.cycles w.key) };
+    ghost flags = { λ w. flags_of (efx_at w.video.cycles w.video.on) (held_at w.keypad.script w.video.cycles w.keypad.latched) };
 
     ghost writes = { λ w address value after. after ≡ after_write address value w };
 
@@ -52,7 +53,7 @@ impl Bus for Wires {
     fn out(&mut self, port: u8, value: u8) {
         match port {
             1 => self.video.turn(false),
-            2 => self.key = value % 16,
+            2 => self.keypad.latch(value),
             4 => self.memory.clear_latch(),
             _ => {}
         }
@@ -68,6 +69,7 @@ impl Bus for Wires {
     fn ef(&self, flag: u8) -> bool {
         match flag {
             1 => self.video.signals(self.video.now()).efx,
+            3 => self.keypad.down(self.video.now(), self.keypad.latched()),
             _ => false,
         }
     }

@@ -9,9 +9,9 @@ use Rattle.vip_board.proofs.board.Board.reset.Goals as goal
 pub returns-clause-pictures : goal.returns-clause-pictures
 returns-clause-pictures c =
     let S : Chip → Type 0 = λ v. Shows c.in_ok-memory.memory.rom [] v.cycles v.pictures in
-    subst S (sym c.new-2.ensures) (shows-nothing _)
+    subst S (sym c.new-video.ensures) (shows-nothing _)
 
 pub returns-clause-fits : goal.returns-clause-fits
 returns-clause-fits c =
-    rw (c.reset.ensures, c.in_ok-memory.ensures, c.new-2.ensures)
+    rw (c.reset-cpu.ensures, c.in_ok-memory.ensures, c.in_ok-keypad.ensures, c.new-video.ensures)
     (reset-fits, record { size = c.requires; bytes = λ a. omega (arith, c.type_inv.rom a) })
