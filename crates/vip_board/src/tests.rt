@@ -117,7 +117,8 @@ fn a_picture_needs_the_display_on_in_its_whole_window(rt: HostRuntime) -> Result
         run(&mut board, on);
         assert_eq!(rt; board.now(), on);
         assert!(rt; board.video().is_on());
-        run(&mut board, 2_912);
+        // the move that ends the window ends in it, or up to two cycles later
+        run(&mut board, 2_914);
         assert_eq!(rt; board.video().count(), pictures, "on from {on} on");
         let line = board.video().finished().map(|picture| picture.lines[0]);
         assert_eq!(rt; line.unwrap_or([0; 8]), first, "on from {on} on");
