@@ -38,7 +38,7 @@ impl Model for MemFiles {
 impl MemFiles {
     /// No files, no call named, nothing counted.
     pub fn new(alloc: Global) -> Result<MemFiles, AllocError>
-        ensures { IfOk result (λ s. s ≡ no_files) }
+        ensures empty { IfOk result (λ files. files ≡ no_files) }
     {
         Ok(MemFiles {
             alloc,
@@ -64,8 +64,8 @@ impl MemFiles {
     /// Names the calls of `read` that fail, at most 8, counted from 0 over all calls so far. They
     /// take the place of those named before. It takes no memory.
     pub fn fail_at(&mut self, calls: &[u32])
-        requires { length calls.now ≤ 8 }
-        ensures { self.new ≡ record self.old { named = calls.now } }
+        requires few { length calls.now ≤ 8 }
+        ensures named { self.new ≡ record self.old { named = calls.now } }
     {
         self.named.clear();
         self.named.try_extend_from_slice(calls).unwrap();

@@ -35,7 +35,7 @@ impl Model for MemSink {
 impl MemSink {
     /// An empty sink with room for so many bytes, which it reserves here and never extends.
     pub fn new(alloc: Global, room: usize) -> Result<MemSink, AllocError>
-        ensures { IfOk result (λ s. s ≡ empty_sink room) }
+        ensures empty { IfOk result (λ sink. sink ≡ empty_sink room) }
     {
         let bytes = Vec::with_capacity(alloc, room)?;
         Ok(MemSink {
@@ -51,8 +51,8 @@ impl MemSink {
     /// over all calls so far, and how many bytes of its piece each keeps; a shorter piece is kept
     /// whole. They take the place of those named before. It takes no memory.
     pub fn fail_at(&mut self, calls: &[(u32, usize)])
-        requires { length calls.now ≤ 8 }
-        ensures { self.new ≡ record self.old { named = calls.now } }
+        requires few { length calls.now ≤ 8 }
+        ensures named { self.new ≡ record self.old { named = calls.now } }
     {
         self.named.clear();
         self.named.try_extend_from_slice(calls).unwrap();
@@ -60,14 +60,14 @@ impl MemSink {
 
     /// The bytes that it holds, in the order in which they were put.
     pub fn bytes(&self) -> &[u8]
-        ensures { result.now ≡ self.now.held }
+        ensures value { result.now ≡ self.now.held }
     {
         self.bytes.as_slice()
     }
 
     /// How many calls of `put` there were, those that failed and those of empty pieces too.
     pub fn calls(&self) -> u32
-        ensures { result ≡ self.now.calls }
+        ensures value { result ≡ self.now.calls }
     {
         self.calls
     }

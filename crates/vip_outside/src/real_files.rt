@@ -36,7 +36,7 @@ impl<R: rt::Files> RealFiles<R> {
     /// The files that a runtime opens, with no fault and no failed name. The names that fail are kept
     /// by `alloc`.
     pub fn new(runtime: R, alloc: Global) -> RealFiles<R>
-        ensures { result ≡ record { faults = 0; failed = None } }
+        ensures unused { result ≡ record { faults = 0; failed = None } }
     {
         RealFiles {
             runtime,

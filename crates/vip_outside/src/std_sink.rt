@@ -29,7 +29,7 @@ impl<W: Write> Model for StdSink<W> {
 impl<W: Write> StdSink<W> {
     /// A sink over this stream, with no fault.
     pub fn new(stream: W) -> StdSink<W>
-        ensures { result ≡ record { written = W.contents stream; faults = 0 } }
+        ensures unused { result ≡ record { written = W.contents stream; faults = 0 } }
     {
         StdSink { stream, faults: 0 }
     }
