@@ -4,3 +4,4 @@ pub mod Opcodes
 pub mod Many
 pub mod Texts
 pub mod Statements
+pub mod Takes

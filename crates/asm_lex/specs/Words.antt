@@ -1,5 +1,5 @@
 -- Words: the mnemonics of the CDP1802 and the directives, in letters of either case, and the operands that each one takes.
-use Rattle.std.specs.Prelude.{◌-◌, ◌==◌, ◌&&◌, ℕ, Bool, false, not, List, [], ◌∷◌, length, map, find, nat_le, codes, if◌then◌else◌, Option, Some, None, is_some, option_and_then, option_map}
+use Rattle.std.specs.Prelude.{◌≡◌, ◌-◌, ◌==◌, ◌&&◌, ℕ, Bool, false, not, List, [], ◌∷◌, length, map, find, nat_le, codes, if◌then◌else◌, Option, Some, None, IsTrue, is_some, option_and_then, option_map}
 use Rattle.std.specs.Str.{bytes_eq}
 use Rattle.std.specs.List.{list_all, range_with_len}
 use Rattle.std.specs.Char.{to_ascii_uppercase}
@@ -129,3 +129,18 @@ entry_of word = if is_some (directive_of word) then option_map Directive (direct
 unfoldable pub meaning_of : Entry → Bool → List (List ℕ) → Option Word
 meaning_of (Directive directive) has_label operands = if takes directive has_label operands then Some directive else None
 meaning_of (Mnemonic opcode) has_label operands = option_map Code (coded (kind_of opcode) operands)
+
+-- the size in bytes of an instruction with this opcode
+unfoldable pub size_at : ℕ → ℕ
+size_at opcode = size_of (kind_of opcode)
+
+-- the operands that a word has: where bytes stand behind an opcode, they are one expression
+abbrev pub HasItsOperands : Option Word → List (List ℕ) → Type 0
+HasItsOperands None operands = operands ≡ []
+HasItsOperands (Some (Code opcode)) operands = (size_at opcode ≡ 1 → ⊥) → IsTrue (is_one_expression operands)
+HasItsOperands (Some Org) operands = IsTrue (is_one_expression operands)
+HasItsOperands (Some Equ) operands = IsTrue (is_one_expression operands)
+HasItsOperands (Some Db) operands = IsTrue (are_expressions operands)
+HasItsOperands (Some Dw) operands = IsTrue (are_expressions operands)
+HasItsOperands (Some Ds) operands = IsTrue (is_one_expression operands)
+HasItsOperands (Some Page) operands = Unit {0}

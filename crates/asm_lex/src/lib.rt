@@ -6,10 +6,11 @@
 //! RCA's data sheet of the CDP1802; the language of the lines is this project's profile.
 #![tactic(auto)]
 
-ghost use Rattle.std.specs.Prelude.{◌≡◌, ◌≤◌, ◌<◌, ℕ, Bool, List, length, map, IfSome, IfOk, MatchResult, Ok, Err};
+ghost use Rattle.std.specs.Prelude.{◌≡◌, ◌≤◌, ◌<◌, ℕ, Bool, List, length, map, IfSome, IfOk, OnOk, MatchResult, Ok, Err};
 ghost use Rattle.asm_lex.specs.Lines.{parsed, shown, spans_of, has_bad_bytes, has_bad_name, word_meaning};
 ghost use Rattle.asm_lex.specs.Parts.{label_of, statement_of, behind_word, operands_in};
 ghost use Rattle.asm_lex.specs.Spans.{text_at, IsWithin, AreInOrder};
+ghost use Rattle.asm_lex.specs.Words.{HasItsOperands};
 ghost use Rattle.std.specs.Option.{option_map};
 
 mod cuts;
@@ -21,7 +22,8 @@ mod words;
 
 pub use crate::expression::{has_large_number, value};
 pub use crate::shape::{LexFault, Line, Span, ValueFault, Word};
-use crate::spans::{operands, parts_of, text};
+pub use crate::spans::text_at;
+use crate::spans::{operands, parts_of};
 use crate::text::{are_allowed, has_long_name, is_name};
 use crate::words::{entry_of, meaning};
 use arrayvec::ArrayVec;
@@ -45,10 +47,10 @@ fn has_bad_name(line: &[u8], label: Option<Span>, operands: Span) -> bool
         result ≡ has_bad_name code }
 {
     let bad_label = match label {
-        Some(label) => !is_name(text(line, label)),
+        Some(label) => !is_name(text_at(line, label)),
         None => false,
     };
-    bad_label || has_long_name(text(line, operands))
+    bad_label || has_long_name(text_at(line, operands))
 }
 
 // A word that may be absent, and its operands.
@@ -73,8 +75,9 @@ fn read_statement(
         × (word_meaning has_label (operands_in (text_at line.now behind)) (text_at line.now word) ≡ Ok statement.word))
         (λ fault. word_meaning has_label (operands_in (text_at line.now behind)) (text_at line.now word) ≡ Err fault) }
     ensures order { IfOk result (λ statement. AreInOrder behind.from statement.operands.items behind.to) }
+    ensures operands { IfOk result (λ statement. HasItsOperands statement.word (map (text_at line.now) statement.operands.items)) }
 {
-    let word = text(line, word);
+    let word = text_at(line, word);
     let Some(operands) = operands(line, behind) else {
         return Err(fault_of_many(word));
     };
@@ -111,6 +114,9 @@ fn fault_of_many(word: &[u8]) -> LexFault
 pub fn line(bytes: &[u8]) -> Result<Line, LexFault>
     ensures parsed { MatchResult result (λ line. parsed bytes.now ≡ Ok (shown bytes.now line)) (λ fault. parsed bytes.now ≡ Err fault) }
     ensures order { IfOk result (λ line. AreInOrder 0 (spans_of line) (length bytes.now)) }
+    // What the layer above may rely on: a line is short, and its operands are those that its word takes.
+    ensures short { OnOk result (length bytes.now ≤ 255) }
+    ensures operands { IfOk result (λ line. HasItsOperands line.word (shown bytes.now line).operands) }
 {
     if has_bad_bytes(bytes) {
         return Err(LexFault::BadText);

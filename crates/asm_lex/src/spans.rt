@@ -11,8 +11,8 @@ use crate::Span;
 use crate::cuts::{Stop, end_without_blanks, leading_blanks, position};
 use arrayvec::ArrayVec;
 
-/// The bytes of the line in a span.
-pub(crate) fn text(line: &[u8], span: Span) -> &[u8]
+/// The bytes of the line in one of its spans.
+pub fn text_at(line: &[u8], span: Span) -> &[u8]
     requires { IsWithin line.now span }
     ensures { result.now ≡ text_at line.now span }
 {
@@ -41,7 +41,7 @@ fn without_leading_blanks(line: &[u8], span: Span) -> Span
     ensures within { (span.from ≤ result.from) × (result.from ≤ result.to) }
     ensures to { result.to ≡ span.to }
 {
-    let text = text(line, span);
+    let text = text_at(line, span);
     let blanks = leading_blanks(text);
     part(span, blanks, text.len() - blanks)
 }
@@ -54,7 +54,7 @@ fn trimmed(line: &[u8], span: Span) -> Span
     ensures within { (span.from ≤ result.from) × (result.from ≤ result.to) × (result.to ≤ span.to) }
 {
     let span = without_leading_blanks(line, span);
-    part(span, 0, end_without_blanks(text(line, span)))
+    part(span, 0, end_without_blanks(text_at(line, span)))
 }
 
 // What stands in a span before the first byte at which it is cut.
@@ -64,7 +64,7 @@ fn before(line: &[u8], span: Span, stop: Stop) -> Span
     ensures from { result.from ≡ span.from }
     ensures within { (result.from ≤ result.to) × (result.to ≤ span.to) }
 {
-    part(span, 0, position(text(line, span), stop))
+    part(span, 0, position(text_at(line, span), stop))
 }
 
 // The first part of a span that is cut, and what stands behind the byte at which it is cut, if there is one.
@@ -77,7 +77,7 @@ fn cut(line: &[u8], span: Span, stop: Stop) -> (Span, Option<Span>)
     ensures within { (result.0.from ≡ span.from) × (result.0.from ≤ result.0.to) × (result.0.to ≤ span.to) }
     ensures order { IfSome result.1 (λ rest. (result.0.to < rest.from) × (rest.from ≤ rest.to) × (rest.to ≡ span.to)) }
 {
-    let text = text(line, span);
+    let text = text_at(line, span);
     let end = position(text, stop);
     let first = part(span, 0, end);
     if end == text.len() {

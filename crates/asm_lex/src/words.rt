@@ -6,7 +6,7 @@ ghost use Rattle.machine.specs.Opcodes.{kind_of};
 ghost use Rattle.asm_lex.specs.Spans.{text_at, AreWithin};
 
 use crate::expression::is_expression;
-use crate::spans::text;
+use crate::spans::text_at;
 use crate::text::{register, spells};
 use crate::{Span, Word};
 use vip_isa::{Kind, Op, decode, encode, mnemonic, size};
@@ -100,7 +100,7 @@ fn one_register(line: &[u8], operands: &[Span]) -> Option<u8>
     ensures { result ≡ one_register (map (text_at line.now) operands.now) }
 {
     match operands {
-        [operand] => register(text(line, *operand)),
+        [operand] => register(text_at(line, *operand)),
         _ => None,
     }
 }
@@ -119,7 +119,7 @@ fn one_port(line: &[u8], operands: &[Span]) -> Option<u8>
     ensures { result ≡ one_port (map (text_at line.now) operands.now) }
 {
     match operands {
-        [operand] => port(text(line, *operand)),
+        [operand] => port(text_at(line, *operand)),
         _ => None,
     }
 }
@@ -129,7 +129,7 @@ fn is_one_expression(line: &[u8], operands: &[Span]) -> bool
     ensures { result ≡ is_one_expression (map (text_at line.now) operands.now) }
 {
     match operands {
-        [operand] => is_expression(text(line, *operand)),
+        [operand] => is_expression(text_at(line, *operand)),
         _ => false,
     }
 }
@@ -139,7 +139,7 @@ fn are_expressions(line: &[u8], operands: &[Span]) -> bool
     ensures { result ≡ are_expressions (map (text_at line.now) operands.now) }
 {
     for operand in operands {
-        if !is_expression(text(line, *operand)) {
+        if !is_expression(text_at(line, *operand)) {
             return false;
         }
     }

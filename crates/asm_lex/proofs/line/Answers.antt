@@ -61,3 +61,6 @@ returns-in-Err-clause-parsed c =
     ∙ c.in-Err.ensures.parts in
     parsed-statement bytes (sym c.has_bad_bytes.ensures ∙ c.if-has_bad_bytes.false)
     (sym (c.has_bad_name.ensures code c.parts_of-parts.ensures.label c.parts_of-parts.ensures.operands) ∙ c.if-has_bad_name.false) (Err c.in-Err.fault) meaning
+
+pub returns-in-Ok-clause-short : goal.returns-in-Ok-clause-short
+returns-in-Ok-clause-short c = short_line c.args.bytes.now (sym c.has_bad_bytes.ensures ∙ c.if-has_bad_bytes.false)
