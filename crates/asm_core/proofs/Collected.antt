@@ -1,0 +1,37 @@
+-- The values of operands while they are collected.
+use Rattle.std.proofs.Common.{◌≡◌, ℕ, refl, Bool, List, [], ◌∷◌, ◌++◌, ap, true, false, cond, Ok, Err, Result}
+use Rattle.std.specs.Prelude.{map, not, ◌||◌, is_err}
+use Rattle.std.specs.List.{list_any}
+use Rattle.std.specs.Result.{result_unwrap_or}
+use Rattle.std.proofs.lemmas.List.{append_assoc, append-nil}
+use Rattle.asm_lex.specs.declared.shape.ValueFault.{ValueFault}
+use Rattle.asm_lex.specs.declared.shape.ValueFault.TheVariants.{Undefined, Range}
+use Rattle.asm_core.specs.Encoding.{is_undefined, collected}
+
+abbrev pub values_in : List (Result ℕ ValueFault) → List ℕ
+values_in results = map (λ result. result_unwrap_or result 0) results
+
+-- all values, where those so far and whether each of them was in its range are known
+abbrev pub collect_from : Bool → List ℕ → List (Result ℕ ValueFault) → Result (List ℕ) ValueFault
+collect_from in_range values results = cond (list_any is_undefined results) (Err Undefined) (cond (not in_range || list_any is_err results) (Err Range) (Ok (values ++ values_in results)))
+
+pub collect_none : (results : List (Result ℕ ValueFault)) → collect_from true [] results ≡ collected results
+unfolding collected
+collect_none results = refl
+
+pub collect_ok : (in_range : Bool) (values : List ℕ) (value : ℕ) (results : List (Result ℕ ValueFault)) → collect_from in_range (values ++ value ∷ []) results ≡ collect_from in_range values (Ok value ∷ results)
+collect_ok in_range values value results =
+    ap (λ all. cond (list_any is_undefined results) (Err Undefined) (cond (not in_range || list_any is_err results) (Err Range) (Ok all))) (append_assoc values (value ∷ []) (values_in results))
+
+pub collect_range : (in_range : Bool) (values : List ℕ) (results : List (Result ℕ ValueFault)) → collect_from false values results ≡ collect_from in_range values (Err Range ∷ results)
+collect_range true values results = refl
+collect_range false values results = refl
+
+pub collect_undefined : (in_range : Bool) (values : List ℕ) (results : List (Result ℕ ValueFault)) → collect_from in_range values (Err Undefined ∷ results) ≡ Err Undefined
+collect_undefined in_range values results = refl
+
+pub collect_all : (values : List ℕ) → collect_from true values [] ≡ Ok values
+collect_all values = ap Ok (append-nil values)
+
+pub collect_late : (values : List ℕ) → collect_from false values [] ≡ Err Range
+collect_late values = refl

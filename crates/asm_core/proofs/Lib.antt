@@ -1,0 +1,7 @@
+pub mod Symbols
+pub mod Lines
+pub mod Collected
+pub mod Cells
+pub mod LaidOut
+pub mod PassOne
+pub mod PassTwo

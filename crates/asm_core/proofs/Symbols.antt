@@ -1,0 +1,73 @@
+-- A tree of names, seen as the list of its entries.
+use Rattle.std.proofs.Common.{◌≡◌, ℕ, refl, Bool, List, [], ◌∷◌, sym, ◌∙◌, ap, true, false, cond, Some, Global}
+use Rattle.std.specs.Prelude.{map, Vec}
+use Rattle.std.specs.List.{AllByRecursion}
+use Rattle.std.specs.List.Sorted.{IsStrictlySortedBy}
+use Rattle.std.specs.Map.{lookup, keys_of, KeepsOthers}
+use Rattle.std.specs.Ordering.{is_eq, nat_cmp, eq_by_cmp}
+use Rattle.std.specs.Cmp.Lexicographic.{slice_cmp}
+use Rattle.std.specs.declared.cmp.Ordering.{Ordering}
+use Rattle.std.specs.declared.cmp.Ordering.TheVariants.{Less}
+use Rattle.std.specs.Str.{bytes_eq}
+use Rattle.std.proofs.lemmas.Map.Text.{is_eq-slice_cmp}
+use Rattle.std.proofs.lemmas.Bool.{and_parts, and_from, eqb-true, eq-eqb, false_from_ne_true, both_ways}
+use Rattle.asm_core.specs.Names.{value_in, with_name}
+
+pub bytes_same : (xs ys : List ℕ) → bytes_eq xs ys ≡ true → xs ≡ ys
+bytes_same [] [] e = refl
+bytes_same [] (y ∷ ys) e = absurd (cc)
+bytes_same (x ∷ xs) [] e = absurd (cc)
+bytes_same (x ∷ xs) (y ∷ ys) e = ap (λ z. z ∷ xs) (eqb-true x y (and_parts _ _ e).0) ∙ ap (λ zs. y ∷ zs) (bytes_same xs ys (and_parts _ _ e).1)
+
+pub bytes_self : (xs : List ℕ) → bytes_eq xs xs ≡ true
+bytes_self [] = refl
+bytes_self (x ∷ xs) = and_from _ _ (eq-eqb x x refl) (bytes_self xs)
+
+pub bytes_apart : (xs ys : List ℕ) → bytes_eq xs ys ≡ false → bytes_eq ys xs ≡ false
+bytes_apart xs ys e = false_from_ne_true (bytes_eq ys xs) (λ same.
+    both_ways (bytes_eq xs ys) e (ap (bytes_eq xs) (bytes_same ys xs same) ∙ bytes_self xs))
+
+-- a name as it is kept
+abbrev pub Key : Type 0
+Key = Vec ℕ Global
+
+abbrev pub key_cmp : Key → Key → Ordering
+key_cmp x y = slice_cmp nat_cmp x.items y.items
+
+-- whether a key has these bytes
+abbrev pub has_bytes : List ℕ → Key → Bool
+has_bytes bytes key = is_eq (slice_cmp nat_cmp bytes key.items)
+
+abbrev pub shown : List (Key × ℕ) → List (List ℕ × ℕ)
+shown entries = map {B = List ℕ × ℕ} (λ (entry : Key × ℕ). (entry.0.items, entry.1)) entries
+
+pub value_in-shown : (entries : List (Key × ℕ)) (name : List ℕ) → value_in (shown entries) name ≡ lookup (has_bytes name) entries
+value_in-shown [] name = refl
+value_in-shown (e ∷ entries) name =
+    ap (λ rest. cond (bytes_eq name e.0.items) (Some e.1) rest) (value_in-shown entries name)
+    ∙ ap (λ b. cond b (Some e.1) (lookup (has_bytes name) entries)) (sym (is_eq-slice_cmp name e.0.items))
+
+pub value_in-defined : (old new : List (Key × ℕ)) (key : Key) (value : ℕ) (other : List ℕ)
+    → lookup (has_bytes key.items) new ≡ Some value
+    → KeepsOthers (eq_by_cmp key_cmp) (has_bytes key.items) old new
+    → value_in (shown new) other ≡ with_name (value_in (shown old)) key.items value other
+unfolding KeepsOthers
+value_in-defined old new key value other here others =
+    value_in-shown new other ∙
+    elim (bytes_eq key.items other) as (λ b. bytes_eq key.items other ≡ b → lookup (has_bytes other) new ≡ cond b (Some value) (value_in (shown old) other)) [
+      | true ↦ λ e. ap (λ bytes. lookup (has_bytes bytes) new) (sym (bytes_same key.items other e)) ∙ here
+      | false ↦ λ e.
+          others (has_bytes other)
+          (λ x y is. ap (λ bytes. is_eq (slice_cmp nat_cmp bytes y.items)) (bytes_same other x.items (sym (is_eq-slice_cmp other x.items) ∙ is)))
+          (λ k is. is_eq-slice_cmp other k.items ∙ ap (bytes_eq other) (sym (bytes_same key.items k.items (sym (is_eq-slice_cmp key.items k.items) ∙ is))) ∙ bytes_apart key.items other e)
+          ∙ sym (value_in-shown old other)
+    ] refl
+
+below_all : (key : Key) (entries : List (Key × ℕ)) → AllByRecursion (λ other. key_cmp key other ≡ Less) (keys_of entries) → AllByRecursion (λ other. slice_cmp nat_cmp key.items other ≡ Less) (keys_of (shown entries))
+below_all key [] below = tt
+below_all key (e ∷ entries) below = (below.0, below_all key entries below.1)
+
+pub shown_in_order : (entries : List (Key × ℕ)) → IsStrictlySortedBy key_cmp (keys_of entries) → IsStrictlySortedBy (slice_cmp nat_cmp) (keys_of (shown entries))
+unfolding IsStrictlySortedBy
+shown_in_order [] order = tt
+shown_in_order (e ∷ entries) order = (below_all e.0 entries order.0, shown_in_order entries order.1)

@@ -1,0 +1,57 @@
+use Rattle.std.proofs.Common.{arith, sym, ap, subst, ◌∙◌, ◌≡◌, ◌++◌, ◌∷◌, [], ◌+◌, List, length, refl, ℕ}
+use Rattle.std.specs.Prelude.{is_ok, not}
+use Rattle.std.proofs.lemmas.Bool.{cond-true}
+use Rattle.asm_core.specs.Names.{value_in}
+use Rattle.asm_core.specs.Layout.{laid_out}
+use Rattle.asm_core.specs.Sources.{source_lines, fault_1, Known}
+use Rattle.asm_core.specs.Passes.{LaysOut}
+use Rattle.asm_core.proofs.PassOne.{line_here, no_line, known_at-first, lays_out_none, lays_out_more, next_address, first_fault, first_in, first_addresses}
+use Rattle.asm_core.proofs.passes.pass_1.Goals as goal
+
+pub loop-line-init : goal.loop-line-init
+loop-line-init c =
+    let source = source_lines c.args.text.now in
+    record {
+      rest = refl;
+      found = lays_out_none source c.new-names.result c.push.new.self.items c.new-names.ensures
+          (c.push.ensures.items
+          ∙ cond-true (is_ok c.push.result) (c.new-addresses.result.items ++ first_addresses) c.new-addresses.result.items (c.is_err.ensures.negation ∙ ap not c.if-is_err.false)
+          ∙ ap (λ items. items ++ first_addresses) c.new-addresses.ensures.items);
+      place = sym (ap (λ (known : Known). known.at) (known_at-first source));
+      few = omega arith;
+    }
+
+pub loop-line-preserved : goal.loop-line-preserved
+loop-line-preserved c =
+    let source = source_lines c.args.text.now in
+    let number = c.loop-line.number in
+    let here = line_here source number c.in-Some.line.now (source_lines c.in-Some.more.now) (sym c.loop-line.invariant.rest ∙ c.in-Some.ensures.lines) in
+    let items : c.push-in-Some.new.self.items ≡ c.loop-line.addresses.items ++ c.in-Ok.next ∷ [] =
+    c.push-in-Some.ensures.items
+    ∙ cond-true (is_ok c.push-in-Some.result) (c.loop-line.addresses.items ++ c.in-Ok.next ∷ []) c.loop-line.addresses.items (c.is_err-in-Some.ensures.negation ∙ ap not c.if-is_err-2.false) in
+    let P : List ℕ → Type 0 = λ items. LaysOut source (number + 1) c.add_line.new.names items in
+    record {
+      rest = sym here.2;
+      found = subst P (sym items)
+          (lays_out_more source number c.loop-line.names c.loop-line.addresses.items c.loop-line.invariant.found c.loop-line.at c.in-Ok.next c.in-Some.line.now c.add_line.new.names
+          here.0 c.loop-line.invariant.place here.1 c.in-Ok.ensures.ok);
+      place = next_address source number c.loop-line.names c.loop-line.addresses.items c.loop-line.invariant.found c.loop-line.at c.in-Ok.next c.in-Some.line.now c.add_line.new.names
+          here.0 c.loop-line.invariant.place here.1 c.in-Ok.ensures.ok;
+      few = omega (arith, c.in-Some.ensures.shorter, c.loop-line.invariant.few);
+    }
+
+pub returns-in-Err-clause-err : goal.returns-in-Err-clause-err
+returns-in-Err-clause-err c =
+    let source = source_lines c.args.text.now in
+    let number = c.loop-line.number in
+    let here = line_here source number c.in-Some.line.now (source_lines c.in-Some.more.now) (sym c.loop-line.invariant.rest ∙ c.in-Some.ensures.lines) in
+    first_in (laid_out (value_in c.loop-line.names) c.loop-line.at c.in-Some.line.now) (fault_1 source) (length source) number c.in-Err.fault c.in-Err.ensures.err
+    (λ cause is. first_fault source number c.loop-line.names c.loop-line.addresses.items c.loop-line.invariant.found c.loop-line.at c.in-Some.line.now cause
+    here.0 c.loop-line.invariant.place here.1 is)
+
+pub returns-clause-ok : goal.returns-clause-ok
+returns-clause-ok c =
+    let source = source_lines c.args.text.now in
+    let all = no_line source c.loop-line.number (sym c.loop-line.invariant.rest ∙ c.in_default.ensures.lines) c.loop-line.invariant.found.inside in
+    let P : ℕ → Type 0 = λ count. LaysOut source count c.loop-line.names c.loop-line.addresses.items in
+    subst P all c.loop-line.invariant.found

@@ -1,0 +1,70 @@
+-- Pass 2 over one line: its bytes.
+use Rattle.std.specs.Prelude.{◌+◌, ◌-◌, ◌/◌, ◌%◌, ◌==◌, ℕ, Bool, true, false, List, [], ◌∷◌, map, flat_map, replicate, if◌then◌else◌, Option, None, Some, Result, Ok, Err, is_err}
+use Rattle.std.specs.List.{list_any}
+use Rattle.std.specs.Result.{result_map_both, result_unwrap_or}
+use Rattle.asm_lex.specs.declared.shape.Word.{Word}
+use Rattle.asm_lex.specs.declared.shape.Word.TheVariants.{Code, Org, Equ, Db, Dw, Ds, Page}
+use Rattle.asm_lex.specs.declared.shape.ValueFault.{ValueFault}
+use Rattle.asm_lex.specs.declared.shape.ValueFault.TheVariants as value
+use Rattle.asm_lex.specs.Lines.{parsed}
+use Rattle.asm_lex.specs.Words.{size_at}
+use Rattle.asm_core.specs.declared.fault.AsmCause.{AsmCause}
+use Rattle.asm_core.specs.declared.fault.AsmCause.TheVariants.{OffPage}
+use Rattle.asm_core.specs.Names.{Names, operand_value, first_operand}
+use Rattle.asm_core.specs.Layout.{value_cause, from_parts}
+
+-- a word's bytes, the high one first
+abbrev pub word_bytes : ℕ → List ℕ
+word_bytes word = word / 256 ∷ word % 256 ∷ []
+
+abbrev pub is_undefined : Result ℕ ValueFault → Bool
+is_undefined (Ok value) = false
+is_undefined (Err value.Undefined) = true
+is_undefined (Err value.Range) = false
+
+-- the values of several operands, or the first fault in the order of the causes
+unfoldable pub collected : List (Result ℕ ValueFault) → Result (List ℕ) ValueFault
+collected results =
+    if list_any is_undefined results then Err value.Undefined
+    else if list_any is_err results then Err value.Range
+    else Ok (map (λ result. result_unwrap_or result 0) results)
+
+unfoldable pub values_of : Names → ℕ → ℕ → List (List ℕ) → Result (List ℕ) ValueFault
+values_of names here most operands = collected (map (operand_value names here most) operands)
+
+-- a branch or an immediate instruction with the value of its operand: a short branch stays in the page of its second byte
+abbrev pub long_branch : ℕ → Result ℕ ValueFault → Result (List ℕ) AsmCause
+long_branch opcode value = result_map_both (λ target. opcode ∷ word_bytes target) value_cause value
+
+abbrev pub to_page : ℕ → ℕ → ℕ → Result (List ℕ) AsmCause
+to_page at opcode target = if target / 256 == (at + 1) / 256 then Ok (opcode ∷ target % 256 ∷ []) else Err OffPage
+
+abbrev pub short_branch : ℕ → ℕ → Result ℕ ValueFault → Result (List ℕ) AsmCause
+short_branch at opcode (Ok target) = to_page at opcode target
+short_branch at opcode (Err fault) = Err (value_cause fault)
+
+abbrev pub immediate : ℕ → Result ℕ ValueFault → Result (List ℕ) AsmCause
+immediate opcode value = result_map_both (λ byte. opcode ∷ byte ∷ []) value_cause value
+
+-- the opcodes 30 to 3F, but for SKP, are short branches
+unfoldable pub instruction : Names → ℕ → ℕ → List ℕ → Result (List ℕ) AsmCause
+instruction names at opcode operand =
+    if size_at opcode == 1 then Ok (opcode ∷ [])
+    else if size_at opcode == 3 then long_branch opcode (operand_value names at 65535 operand)
+    else if opcode / 16 == 3 then short_branch at opcode (operand_value names at 65535 operand)
+    else immediate opcode (operand_value names at 255 operand)
+
+-- the bytes of a line by its parts, which stands from the address `at` up to `next`
+unfoldable pub encoded_parts : Names → ℕ → ℕ → Option Word → List (List ℕ) → Result (List ℕ) AsmCause
+encoded_parts names at next None operands = Ok []
+encoded_parts names at next (Some (Code opcode)) operands = instruction names at opcode (first_operand operands)
+encoded_parts names at next (Some Org) operands = Ok []
+encoded_parts names at next (Some Equ) operands = Ok []
+encoded_parts names at next (Some Db) operands = result_map_both (λ bytes. bytes) value_cause (values_of names at 255 operands)
+encoded_parts names at next (Some Dw) operands = result_map_both (flat_map word_bytes) value_cause (values_of names at 65535 operands)
+encoded_parts names at next (Some Ds) operands = Ok (replicate (next - at) 0)
+encoded_parts names at next (Some Page) operands = Ok []
+
+-- pass 2 over a line, where `names` are those of all lines
+unfoldable pub encoded : Names → ℕ → ℕ → List ℕ → Result (List ℕ) AsmCause
+encoded names at next line = from_parts (λ line. encoded_parts names at next line.word line.operands) (parsed line)

@@ -1,0 +1,25 @@
+//! The two-pass assembler: a source text becomes bytes at addresses, names with their values, or its first fault.
+//!
+//! It stands on `asm_lex`, which takes one line apart. The layers above may rely on this: `assemble` answers what `IsAssembly` in
+//! `specs/Made.antt` says, or the first fault as `HasFirstFault` in `specs/Sources.antt` says, want of memory aside, and the readers
+//! of `Assembly` show it. Pass 1 gives each line its address and each name its value, pass 2 the bytes. The instructions are those of
+//! RCA's data sheet of the CDP1802; the language of the lines is this project's profile.
+#![tactic(auto)]
+
+mod assembly;
+mod encode;
+mod fault;
+mod layout;
+mod names;
+mod passes;
+mod source;
+mod table;
+mod values;
+
+pub use crate::assembly::Assembly;
+pub use crate::fault::{AsmCause, AsmFault};
+pub use crate::passes::assemble;
+pub use crate::source::next_line;
+
+#[cfg(test)]
+mod tests;
