@@ -1,0 +1,4 @@
+pub mod ReadingLemmas
+pub mod TraceLemmas
+pub mod TopLemmas
+pub mod LanguageLemmas

@@ -1,0 +1,58 @@
+//! The program `vip`: its words, its run, its reports and its status.
+//!
+//! ```text
+//!     words ──▶ vip_words ──▶ files ──▶ board with the ROM ──▶ a line for each dispatch point ──▶ out
+//!                  │             │                                       │
+//!                  └─────────────┴──────────── report ◀──────────────────┘ ──▶ err, status
+//! ```
+//!
+//! `vip_main` is the one call that the process makes; its contract says what goes to `out` and `err` for every answer, byte by byte and
+//! put by put. It stands on every layer below through their contracts alone.
+#![tactic(auto)]
+
+mod opening;
+mod report;
+mod status;
+#[cfg(test)]
+mod tests;
+mod top;
+mod trace;
+mod view;
+
+use status::Status;
+use std::alloc::Global;
+use std::env;
+use std::io::ErrorKind;
+use std::process::ExitCode;
+use top::vip_main;
+use vip_outside::{RealFiles, StdSink};
+
+/// The words after the program's name.
+fn words_after_name(alloc: Global, args: env::Args) -> Result<Vec<String>, Status> {
+    let mut words = Vec::new(alloc);
+    for word in args.skip(1) {
+        if words.push(word).is_err() {
+            return Err(Status::NoMemory);
+        }
+    }
+    Ok(words)
+}
+
+/// A word that isn't UTF-8 is a faulty command line.
+fn run(rt: &HostRuntime) -> Result<Status, Status> {
+    let alloc = rt.alloc();
+    let mut files = RealFiles::new(rt, alloc);
+    let mut out = StdSink::new(rt.stdout());
+    let mut err = StdSink::new(rt.stderr());
+    let words = match env::args(rt) {
+        Ok(args) => words_after_name(alloc, args)?,
+        Err(e) if e.kind() == ErrorKind::OutOfMemory => return Err(Status::NoMemory),
+        Err(_) => return Err(Status::Usage),
+    };
+    Ok(vip_main(alloc, words.as_slice(), &mut files, &mut out, &mut err))
+}
+
+fn main(rt: HostRuntime) -> ExitCode {
+    let (Ok(status) | Err(status)) = run(&rt);
+    ExitCode::from(status.number())
+}
