@@ -92,6 +92,16 @@ pub record Proved (x : Program) (t : Pieces) : Type 0 where
   pub blocks : (l : t.Block) (b : Machine) (h : Since) → FitsMachine b → t.Head l b h → Comes x t l b h
   pub places : (l : t.Place) (b : Machine) (h : Since) → FitsMachine b → t.At l b h → Holds x t l b h
 
+-- What lets one group of pieces be proved apart from the others: the bytes of the ROM are in range, each block has an instruction, and
+-- what is known at a place where main code runs outlasts ticks.
+pub record Sound (x : Program) (t : Pieces) : Type 0 where
+  pub rom : FitsRom x.interpreter.rom
+  pub some : (l : t.Block) (b : Machine) (h : Since) → FitsMachine b → t.Head l b h → 0 < t.moves l h
+  pub later : (l : t.Place) (b : Machine) (h : Since) → FitsMachine b → t.At l b h → b.regs.idle ≡ false → (n : ℕ) (c : Machine) → After (code x).low n b c → t.At l c (after_ticks n h)
+
+pub sound_of : (x : Program) (t : Pieces) → Proved x t → Sound x t
+sound_of x t p = record { rom = p.rom; some = λ l b h f head. (p.blocks l b h f head).some; later = λ l b h f at. (p.places l b h f at).later }
+
 -- ---- records of what came
 
 append_none : (l : List Keys) → l ≡ l ++ []
@@ -136,22 +146,22 @@ grows_on h k n h' g = record { from = refl; state = refl; ticks = g.ticks; spent
 
 -- ---- the rows are kept
 
-module _ (x : Program) (t : Pieces) (proved : Proved x t) where
+module _ (x : Program) (t : Pieces) (sound : Sound x t) where
   -- a block begins
   begins : (l : t.Block) (b : Machine) (h : Since) → FitsMachine b → t.Head l b h → InBlock x t l b h
-  begins l b h f head = record { start = b; since = h; k = 0; n = 0; inside = (proved.blocks l b h f head).some; grows = grows_none h; fits = f; head = head; after = after_none (code x).low b }
+  begins l b h f head = record { start = b; since = h; k = 0; n = 0; inside = sound.some l b h f head; grows = grows_none h; fits = f; head = head; after = after_none (code x).low b }
 
   -- a piece begins
-  pub row_starts : (b : Machine) (h : Since) → FitsMachine b → Starts t b h → Row x t b h
-  row_starts b h f (Enters l head) = Inside l (begins l b h f head)
-  row_starts b h f (Meets l at) = Alone l at
+  starts_row : (b : Machine) (h : Since) → FitsMachine b → Starts t b h → Row x t b h
+  starts_row b h f (Enters l head) = Inside l (begins l b h f head)
+  starts_row b h f (Meets l at) = Alone l at
 
   -- the same, n ticks later
   starts_later : (c b : Machine) (h : Since) (k n : ℕ) (h' : Since) → Grows h k n h' → FitsMachine c → c.regs.idle ≡ false → After (code x).low n c b → Starts t c (unticked h h') → Row x t b h'
   starts_later c b h k n h' g f i a (Enters l head) =
       Inside l
-      (record { start = c; since = unticked h h'; k = 0; n = n; inside = (proved.blocks l c (unticked h h') f head).some; grows = grows_on h k n h' g; fits = f; head = head; after = a })
-  starts_later c b h k n h' g f i a (Meets l at) = Alone l (subst (λ m. t.At l b (record h' { ticks = m })) (sym g.ticks) ((proved.places l c (unticked h h') f at).later i n b a))
+      (record { start = c; since = unticked h h'; k = 0; n = n; inside = sound.some l c (unticked h h') f head; grows = grows_on h k n h' g; fits = f; head = head; after = a })
+  starts_later c b h k n h' g f i a (Meets l at) = Alone l (subst (λ m. t.At l b (record h' { ticks = m })) (sym g.ticks) (sound.later l c (unticked h h') f at i n b a))
 
   -- the end of a block, with n ticks since
   ended : (c b : Machine) (h : Since) (k n : ℕ) (h' : Since) → Grows h k n h' → FitsMachine c → c.regs.idle ≡ false → After (code x).low n c b → Ends x t c (unticked h h') → Outcome x t b h'
@@ -170,12 +180,8 @@ module _ (x : Program) (t : Pieces) (proved : Proved x t) where
         halts = subst (λ z. Halts x b z stop) (ticks_add n h.ticks h'.state ∙ ap (λ m. ticks m h'.state) (sym g.ticks)) (halts_after x n c b a f (ticks h.ticks h'.state) stop st.halts);
       })
 
-  module _ {l : t.Block} {b : Machine} {h : Since} (r : InBlock x t l b h) where
-    comes : Comes x t l r.start r.since
-    comes = proved.blocks l r.start r.since r.fits r.head
-
+  module _ {l : t.Block} {b : Machine} {h : Since} (r : InBlock x t l b h) (comes : Comes x t l r.start r.since) where
     good : AllGood (code x) (t.moves l r.since) r.start
-    unfolding comes
     good = reaches_good (code x) (t.moves l r.since) r.start comes.end comes.reaches
 
     is_quicks : quicks (code x) r.k r.start ≡ run (code x) r.k r.start
@@ -185,8 +191,8 @@ module _ (x : Program) (t : Pieces) (proved : Proved x t) where
     good_k = prefix (code x) r.k (t.moves l r.since) r.start (omega (arith, r.inside)) good
 
     -- main code runs inside a block
-    pub block_awake : b.regs.idle ≡ false
-    block_awake = ap (λ (z : Machine). z.regs.idle) r.after.is ∙ sym (ap (λ (z : Machine). z.regs.idle) is_quicks) ∙ quicks_idle (code x) r.k r.start good_k ∙ comes.awake
+    awake_in : b.regs.idle ≡ false
+    awake_in = ap (λ (z : Machine). z.regs.idle) r.after.is ∙ sym (ap (λ (z : Machine). z.regs.idle) is_quicks) ∙ quicks_idle (code x) r.k r.start good_k ∙ comes.awake
 
     block_runs : Ready x b
     block_runs =
@@ -200,10 +206,6 @@ module _ (x : Program) (t : Pieces) (proved : Proved x t) where
     block_cycles : cycles_of (opcode_of x.interpreter.rom b) ≡ 2
     block_cycles = after_cycles (code x) r.n (quicks (code x) r.k r.start) b (at_move (code x) r.k (t.moves l r.since) r.start r.inside good) (quicks_clear (code x) r.k r.start comes.runs.latch) (subst (λ z. After (code x).low r.n z b) (sym is_quicks) r.after)
 
-    -- how much main code has spent
-    pub block_spent : h.spent < r.since.spent + 2 * t.moves l r.since
-    block_spent = omega (arith, r.grows.spent, r.inside)
-
     -- a main move of a state after n ticks of the k-th state is one of the next
     next : (u : Input) → After (code x).low r.n (run (code x) (suc r.k) r.start) (moved (code x) u b)
     next u = moved_in (code x) u r.k (t.moves l r.since) r.n r.start b comes.runs.latch r.fits.size good r.inside r.after
@@ -211,7 +213,7 @@ module _ (x : Program) (t : Pieces) (proved : Proved x t) where
     -- the block's last move
     last : (u : Input) → suc r.k ≡ t.moves l r.since → Outcome x t (moved (code x) u b) (after_main u h)
     last u e =
-        ended comes.end (moved (code x) u b) r.since (suc r.k) r.n (after_main u h) grown (subst FitsMachine there (run_fits (code x) proved.rom (suc r.k) r.start r.fits)) awake
+        ended comes.end (moved (code x) u b) r.since (suc r.k) r.n (after_main u h) grown (subst FitsMachine there (run_fits (code x) sound.rom (suc r.k) r.start r.fits)) awake
         (subst (λ z. After (code x).low r.n z (moved (code x) u b)) there (next u))
         (comes.ends (unticked r.since (after_main u h)) (subst (λ m. Grows r.since m 0 (unticked r.since (after_main u h))) e (grows_back r.since (suc r.k) r.n (after_main u h) grown)))
       where
@@ -243,7 +245,7 @@ module _ (x : Program) (t : Pieces) (proved : Proved x t) where
         go (inl e) = last u e
         go (inr e) = within u e
 
-    pub block_ticks : (c : Machine) → Tick (code x).low b c → Row x t c (after_tick h)
+    block_ticks : (c : Machine) → Tick (code x).low b c → Row x t c (after_tick h)
     block_ticks c k = Inside l (record { start = r.start; since = r.since; k = r.k; n = suc r.n; inside = r.inside; grows = grows_tick r.since r.k r.n h r.grows; fits = r.fits; head = r.head; after = later_tick (code x).low r.n (run (code x) r.k r.start) b c idle r.after k })
       where
         idle : (run (code x) r.k r.start).regs.idle ≡ false
@@ -251,38 +253,55 @@ module _ (x : Program) (t : Pieces) (proved : Proved x t) where
 
   -- what a place comes to, at once
   place_ended : (b : Machine) (h : Since) → FitsMachine b → Ends x t b h → Outcome x t b h
-  place_ended b h f (Continues calm s) = Still calm (row_starts b h f s)
+  place_ended b h f (Continues calm s) = Still calm (starts_row b h f s)
   place_ended b h f (Steps s st) = Dispatched s st
   place_ended b h f (Fails stop st) = Halted stop st
 
-  place_ticks : (l : t.Place) (b c : Machine) (h : Since) → FitsMachine b → Tick (code x).low b c → t.At l b h → Row x t c (after_tick h)
-  place_ticks l b c h f k at = go b.regs.idle refl
-    where
-      holds : Holds x t l b h
-      holds = proved.places l b h f at
+  pub place_moves : (l : t.Place) (b : Machine) (h : Since) → FitsMachine b → Holds x t l b h → b.regs.idle ≡ false → (u : Input) → Outcome x t (moved (code x) u b) (after_main u h)
+  place_moves l b h f holds i u = place_ended (moved (code x) u b) (after_main u h) (main-fits x.interpreter.rom sound.rom u.efx u.held b f) (holds.moves i u)
 
+  place_ticks : (l : t.Place) (b c : Machine) (h : Since) → FitsMachine b → Tick (code x).low b c → t.At l b h → Holds x t l b h → Row x t c (after_tick h)
+  place_ticks l b c h f k at holds = go b.regs.idle refl
+    where
       more : h.ticks + 1 ≡ suc h.ticks
       more = omega arith
 
       go : (i : Bool) → b.regs.idle ≡ i → Row x t c (after_tick h)
       go false e = Alone l (subst (λ m. t.At l c (record h { ticks = m })) more (holds.later e 1 c (later_tick (code x).low 0 b b c e (after_none (code x).low b) k)))
-      go true e = row_starts c (after_tick h) (tick_fits (code x).low b c f k) (holds.wakes e c k)
+      go true e = starts_row c (after_tick h) (tick_fits (code x).low b c f k) (holds.wakes e c k)
+
+module _ (x : Program) (t : Pieces) (proved : Proved x t) where
+  abbrev sound : Sound x t
+  sound = sound_of x t proved
+
+  comes : {l : t.Block} {b : Machine} {h : Since} (r : InBlock x t l b h) → Comes x t l r.start r.since
+  comes r = proved.blocks _ r.start r.since r.fits r.head
+
+  pub row_starts : (b : Machine) (h : Since) → FitsMachine b → Starts t b h → Row x t b h
+  row_starts = starts_row x t sound
 
   -- every main move keeps the rows
   pub row_moves : (u : Input) (b : Machine) (h : Since) → FitsMachine b → b.regs.idle ≡ false → Row x t b h → Outcome x t (moved (code x) u b) (after_main u h)
-  row_moves u b h f i (Inside l r) = block_moves r u
-  row_moves u b h f i (Alone l at) = place_ended (moved (code x) u b) (after_main u h) (main-fits x.interpreter.rom proved.rom u.efx u.held b f) ((proved.places l b h f at).moves i u)
+  row_moves u b h f i (Inside l r) = block_moves x t sound r (comes r) u
+  row_moves u b h f i (Alone l at) = place_moves x t sound l b h f (proved.places l b h f at) i u
 
   -- and so does every tick
   pub row_ticks : (b c : Machine) (h : Since) → FitsMachine b → Tick (code x).low b c → Row x t b h → Row x t c (after_tick h)
-  row_ticks b c h f k (Inside l r) = block_ticks r c k
-  row_ticks b c h f k (Alone l at) = place_ticks l b c h f k at
+  row_ticks b c h f k (Inside l r) = block_ticks x t sound r (comes r) c k
+  row_ticks b c h f k (Alone l at) = place_ticks x t sound l b c h f k at (proved.places l b h f at)
+
+  -- main code runs inside a block, and this much was spent
+  pub block_awake : {l : t.Block} {b : Machine} {h : Since} → InBlock x t l b h → b.regs.idle ≡ false
+  block_awake r = awake_in x t sound r (comes r)
+
+  pub block_spent : {l : t.Block} {b : Machine} {h : Since} (r : InBlock x t l b h) → h.spent < r.since.spent + 2 * t.moves l r.since
+  block_spent r = omega (arith, r.grows.spent, r.inside)
 
   -- in every row main code runs or waits, and the instruction takes two cycles
   pub row_runs : (b : Machine) (h : Since) → FitsMachine b → Row x t b h → Ready x b
-  row_runs b h f (Inside l r) = block_runs r
+  row_runs b h f (Inside l r) = block_runs x t sound r (comes r)
   row_runs b h f (Alone l at) = (proved.places l b h f at).runs
 
   pub row_cycles : (b : Machine) (h : Since) → FitsMachine b → b.regs.idle ≡ false → Row x t b h → cycles_of (opcode_of x.interpreter.rom b) ≡ 2
-  row_cycles b h f i (Inside l r) = block_cycles r
+  row_cycles b h f i (Inside l r) = block_cycles x t sound r (comes r)
   row_cycles b h f i (Alone l at) = (proved.places l b h f at).cycles i

@@ -1,4 +1,5 @@
 pub mod Program
+pub mod Holding
 pub mod Rows
 pub mod Schedules
 pub mod Runs
