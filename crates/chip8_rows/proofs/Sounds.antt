@@ -1,0 +1,109 @@
+-- The table is such that each group can be proved apart: each block has an instruction, and what is known at a place outlasts ticks. So a
+-- block's rows are kept by main moves where the block comes to what it should.
+use Rattle.std.proofs.Common.{◌≡◌, ℕ, ◌+◌, ◌<◌, arith, subst, ◌∙◌}
+use Rattle.machine.specs.Board.{Machine}
+use Rattle.machine.specs.Ranges.{FitsMachine}
+use Rattle.chip8_lang.specs.declared.view.Edition.{Edition}
+use Rattle.chip8_lang.specs.State.{Lang}
+use Rattle.chip8_lang.specs.Ticks.{ticks}
+use Rattle.rom_moves.specs.Later.{After}
+use Rattle.rom_law.specs.Program.{code}
+use Rattle.rom_law.specs.Rows.{Since, now, after_ticks}
+use Rattle.rom_law.proofs.Language.{ticks_add}
+use Rattle.rom_law.proofs.Kept.{Comes, Sound, block_moves}
+use Rattle.chip8_rows.specs.Rom.{image, program_of}
+use Rattle.chip8_rows.specs.FetchBlocks.{FetchBlock, fetch_moves}
+use Rattle.chip8_rows.specs.FetchBlocks.FetchBlock.{Fetch, Upper, Inside, Outside, Misc, Unknown83, Leave, Stop, Stopped}
+use Rattle.chip8_rows.specs.JumpBlocks.{JumpBlock, jump_moves}
+use Rattle.chip8_rows.specs.JumpBlocks.JumpBlock.{System, SystemLow, SystemBack, MachineCode, Return, ReturnTake, Empty, JumpTo, Call, CallPut, Full, JumpPlus}
+use Rattle.chip8_rows.specs.ArithBlocks.{ArithBlock, arith_moves}
+use Rattle.chip8_rows.specs.ArithBlocks.ArithBlock.{Load, Add, SkipEq, SkipNe, SkipSame, SkipDiffer, Arith}
+use Rattle.chip8_rows.specs.MemoryBlocks.{MemoryBlock, memory_moves}
+use Rattle.chip8_rows.specs.MemoryBlocks.MemoryBlock.{Index, AddIndex, Digit, Decimal, Store, Restore}
+use Rattle.chip8_rows.specs.SpriteBlocks.{SpriteBlock, sprite_moves}
+use Rattle.chip8_rows.specs.SpriteBlocks.SpriteBlock.{Draw, Clear}
+use Rattle.chip8_rows.specs.TimerBlocks.{TimerBlock, timer_moves, timer_place_at}
+use Rattle.chip8_rows.specs.TimerBlocks.TimerBlock.{Random, SetDelay, SetSound}
+use Rattle.chip8_rows.specs.TimerBlocks.TimerPlace.{GetDelay}
+use Rattle.chip8_rows.specs.KeyBlocks.{KeyBlock, key_moves}
+use Rattle.chip8_rows.specs.KeyBlocks.KeyBlock.{KeySkip, WaitKey}
+use Rattle.chip8_rows.specs.Table.{Block, Place, Head, At, moves, pieces, BlockRows}
+use Rattle.chip8_rows.specs.Table.Block.{OfFetch, OfJump, OfArith, OfMemory, OfSprite, OfTimer, OfKey}
+use Rattle.chip8_rows.specs.Table.Place.{AtTimer}
+use Rattle.chip8_rows.proofs.Bytes.{both, both_is, both_fits, quick}
+use Rattle.chip8_rows.proofs.Later.{enters_later, ticks_low}
+
+fetch_some : (l : FetchBlock) → 0 < fetch_moves l
+fetch_some Fetch = omega arith
+fetch_some Upper = omega arith
+fetch_some Inside = omega arith
+fetch_some Outside = omega arith
+fetch_some (Misc i) = omega arith
+fetch_some Unknown83 = omega arith
+fetch_some (Leave i) = omega arith
+fetch_some Stop = omega arith
+fetch_some Stopped = omega arith
+
+jump_some : (l : JumpBlock) → 0 < jump_moves l
+jump_some System = omega arith
+jump_some SystemLow = omega arith
+jump_some SystemBack = omega arith
+jump_some MachineCode = omega arith
+jump_some Return = omega arith
+jump_some ReturnTake = omega arith
+jump_some Empty = omega arith
+jump_some JumpTo = omega arith
+jump_some Call = omega arith
+jump_some CallPut = omega arith
+jump_some Full = omega arith
+jump_some JumpPlus = omega arith
+
+arith_some : (l : ArithBlock) → 0 < arith_moves l
+arith_some Load = omega arith
+arith_some Add = omega arith
+arith_some SkipEq = omega arith
+arith_some SkipNe = omega arith
+arith_some SkipSame = omega arith
+arith_some SkipDiffer = omega arith
+arith_some Arith = omega arith
+
+memory_some : (l : MemoryBlock) → 0 < memory_moves l
+memory_some Index = omega arith
+memory_some AddIndex = omega arith
+memory_some Digit = omega arith
+memory_some Decimal = omega arith
+memory_some Store = omega arith
+memory_some Restore = omega arith
+
+sprite_some : (l : SpriteBlock) → 0 < sprite_moves l
+sprite_some Draw = omega arith
+sprite_some Clear = omega arith
+
+timer_some : (l : TimerBlock) → 0 < timer_moves l
+timer_some Random = omega arith
+timer_some SetDelay = omega arith
+timer_some SetSound = omega arith
+
+key_some : (l : KeyBlock) → 0 < key_moves l
+key_some KeySkip = omega arith
+key_some WaitKey = omega arith
+
+some : (l : Block) → 0 < moves l
+some (OfFetch l) = fetch_some l
+some (OfJump l) = jump_some l
+some (OfArith l) = arith_some l
+some (OfMemory l) = memory_some l
+some (OfSprite l) = sprite_some l
+some (OfTimer l) = timer_some l
+some (OfKey l) = key_some l
+
+module _ (e : Edition) where
+  later : (l : Place) (b : Machine) (h : Since) → FitsMachine b → At (quick e) l b h → (n : ℕ) (c : Machine) → After (code (quick e)).low n b c → At (quick e) l c (after_ticks n h)
+  later (AtTimer GetDelay) b h f o n c k = (subst (timer_place_at (quick e) GetDelay c) (ticks_add n h.ticks h.state) (enters_later (quick e) n k f (now h) _ _ o.0.0, ticks_low n (now h) ∙ o.0.1), o.1)
+
+  pub sound : Sound (quick e) (pieces (quick e))
+  sound = record { rom = both_fits e; some = λ l b h f head. some l; later = λ l b h f at i n c k. later l b h f at n c k }
+
+  -- the rows of a block, where each machine at its head comes to what it should
+  pub block_rows : (l : Block) → ((b : Machine) (h : Since) → FitsMachine b → Head (quick e) l b h → Comes (quick e) (pieces (quick e)) l b h) → BlockRows (program_of e (image e)) l
+  block_rows l comes = subst (λ rom. BlockRows (program_of e rom) l) (both_is e) (λ u b h r. block_moves (quick e) (pieces (quick e)) sound r (comes r.start r.since r.fits r.head) u)

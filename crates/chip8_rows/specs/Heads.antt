@@ -1,0 +1,86 @@
+-- What is known of a machine at the heads of the interpreter's blocks. In all of them s is the language state at the dispatch point,
+-- after the ticks that came since.
+use Rattle.std.specs.Prelude.{◌≡◌, ℕ, ◌+◌, ◌/◌, ◌%◌, ◌≤◌, true, Some}
+use Rattle.machine.specs.Bank.{word, word_of}
+use Rattle.machine.specs.Board.{Machine}
+use Rattle.chip8_lang.specs.declared.view.Edition.{Edition}
+use Rattle.chip8_lang.specs.declared.view.Edition.TheVariants.{Usual, Tall}
+use Rattle.chip8_lang.specs.declared.view.Stop.{Stop}
+use Rattle.chip8_lang.specs.State.{Lang, memory_byte, is_fetchable}
+use Rattle.chip8_lang.specs.Step.{next, number_of}
+use Rattle.chip8_image.specs.Labels.{at_fetch}
+use Rattle.rom_law.specs.Program.{Program}
+use Rattle.rom_law.specs.Rows.{Since}
+use Rattle.rom_law.specs.Holding.{places, Holding}
+
+-- ---- time
+
+-- the main cycles from the dispatch to a head: so many for every opcode, or so many at most
+pub data Time : Type 0 where
+  Exactly : ℕ → Time
+  AtMost : ℕ → Time
+
+abbrev pub Within : Time → Since → Type 0
+Within (Exactly n) h = h.spent ≡ n
+Within (AtMost n) h = h.spent ≤ n
+
+-- ---- parts of a state
+
+-- the bytes of the opcode at pc
+abbrev pub high_byte : Lang → ℕ
+high_byte s = memory_byte s s.pc
+
+abbrev pub low_byte : Lang → ℕ
+low_byte s = memory_byte s (s.pc + 1)
+
+-- a byte that differs in the editions
+abbrev pub by_edition : Edition → ℕ → ℕ → ℕ
+by_edition Usual usual tall = usual
+by_edition Tall usual tall = tall
+
+-- the page of the end of game memory, of the stack, of the sprite work and of V0 to VF
+abbrev pub page_of : Edition → ℕ
+page_of e = by_edition e 0x0e 0x0d
+
+-- ---- the heads
+
+-- in the fetch, at a, with program counter R4: s is in its places
+pub record Fetching (x : Program) (a : ℕ) (b : Machine) (s : Lang) : Type 0 where
+  pub holds : Holding x (places b) s
+  pub p : b.regs.p ≡ 4
+  pub r4 : b.regs.r.r4 ≡ word_of a
+
+-- In a routine, at a, with program counter R3 and with R4 at the fetch: s is in its places but for pc, which has gone past the opcode.
+-- The opcode is in RC, R6 points to VX, and R7 to VY.
+pub record Entered (x : Program) (a : ℕ) (b : Machine) (s : Lang) : Type 0 where
+  pub holds : Holding x (places b) (next s)
+  pub inside : is_fetchable x.edition s ≡ true
+  pub p : b.regs.p ≡ 3
+  pub r3 : b.regs.r.r3 ≡ word_of a
+  pub r4 : b.regs.r.r4 ≡ word_of at_fetch
+  pub r6 : b.regs.r.r6 ≡ word (page_of x.edition) (0xf0 + high_byte s % 16)
+  pub r7 : b.regs.r.r7 ≡ word (page_of x.edition) (0xf0 + low_byte s / 16)
+  pub rc : b.regs.r.rc ≡ word (high_byte s) (low_byte s)
+
+-- the same at the routine for a first digit
+pub record Enters (x : Program) (a d : ℕ) (b : Machine) (s : Lang) : Type 0 where
+  pub entered : Entered x a b s
+  pub digit : high_byte s / 16 ≡ d
+
+-- s stops, and the number of its stop is in D: at a page's way to the stops, with pc past the opcode
+pub record Leaving (x : Program) (a : ℕ) (b : Machine) (s : Lang) : Type 0 where
+  pub holds : Holding x (places b) (next s)
+  pub p : b.regs.p ≡ 3
+  pub r3 : b.regs.r.r3 ≡ word_of a
+  pub stop : Stop
+  pub fits : x.stop_of s ≡ Some stop
+  pub number : b.regs.d ≡ number_of stop
+
+-- s stops, the number of its stop is in RE.0, and z is in its places: s, or s with pc past the opcode
+pub record Stopping (x : Program) (a : ℕ) (z : Lang → Lang) (b : Machine) (s : Lang) : Type 0 where
+  pub holds : Holding x (places b) (z s)
+  pub p : b.regs.p ≡ 3
+  pub r3 : b.regs.r.r3 ≡ word_of a
+  pub stop : Stop
+  pub fits : x.stop_of s ≡ Some stop
+  pub number : b.regs.r.re.lo ≡ number_of stop

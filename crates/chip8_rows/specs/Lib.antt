@@ -1,0 +1,10 @@
+pub mod Rom
+pub mod Heads
+pub mod FetchBlocks
+pub mod JumpBlocks
+pub mod ArithBlocks
+pub mod MemoryBlocks
+pub mod SpriteBlocks
+pub mod TimerBlocks
+pub mod KeyBlocks
+pub mod Table

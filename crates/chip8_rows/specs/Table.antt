@@ -1,0 +1,63 @@
+-- The row table: the blocks and places of main code of all groups, and what a group's law says.
+use Rattle.std.specs.Prelude.{ℕ}
+use Rattle.machine.specs.Board.{Machine}
+use Rattle.machine.specs.Ranges.{FitsMachine}
+use Rattle.chip8_lang.specs.declared.view.Edition.{Edition}
+use Rattle.rom_moves.specs.Code.{Input, moved}
+use Rattle.rom_law.specs.Program.{Program, code}
+use Rattle.rom_law.specs.Rows.{Since, Pieces, InBlock, Outcome, now, after_main}
+use Rattle.chip8_rows.specs.Rom.{vip}
+use Rattle.chip8_rows.specs.Heads.{Within}
+use Rattle.chip8_rows.specs.FetchBlocks.{FetchBlock, fetch_at, fetch_moves, fetch_time}
+use Rattle.chip8_rows.specs.JumpBlocks.{JumpBlock, jump_at, jump_moves, jump_time}
+use Rattle.chip8_rows.specs.ArithBlocks.{ArithBlock, arith_at, arith_moves, arith_time}
+use Rattle.chip8_rows.specs.MemoryBlocks.{MemoryBlock, memory_at, memory_moves, memory_time}
+use Rattle.chip8_rows.specs.SpriteBlocks.{SpriteBlock, sprite_at, sprite_moves, sprite_time}
+use Rattle.chip8_rows.specs.TimerBlocks.{TimerBlock, TimerPlace, timer_at, timer_place_at, timer_moves, timer_time, timer_place_time}
+use Rattle.chip8_rows.specs.KeyBlocks.{KeyBlock, key_at, key_moves, key_time}
+
+pub data Block : Type 0 where
+  OfFetch : (l : FetchBlock) → Block
+  OfJump : (l : JumpBlock) → Block
+  OfArith : (l : ArithBlock) → Block
+  OfMemory : (l : MemoryBlock) → Block
+  OfSprite : (l : SpriteBlock) → Block
+  OfTimer : (l : TimerBlock) → Block
+  OfKey : (l : KeyBlock) → Block
+
+pub data Place : Type 0 where
+  AtTimer : (l : TimerPlace) → Place
+
+-- what is known at the first instruction of a block
+abbrev pub Head : Program → Block → Machine → Since → Type 0
+Head x (OfFetch l) b h = fetch_at x l b (now h) × Within (fetch_time l) h
+Head x (OfJump l) b h = jump_at x l b (now h) × Within (jump_time l) h
+Head x (OfArith l) b h = arith_at x l b (now h) × Within (arith_time l) h
+Head x (OfMemory l) b h = memory_at x l b (now h) × Within (memory_time l) h
+Head x (OfSprite l) b h = sprite_at x l b (now h) × Within (sprite_time l) h
+Head x (OfTimer l) b h = timer_at x l b (now h) × Within (timer_time l) h
+Head x (OfKey l) b h = key_at x l b (now h) × Within (key_time l) h
+
+-- the instructions of a block
+abbrev pub moves : Block → ℕ
+moves (OfFetch l) = fetch_moves l
+moves (OfJump l) = jump_moves l
+moves (OfArith l) = arith_moves l
+moves (OfMemory l) = memory_moves l
+moves (OfSprite l) = sprite_moves l
+moves (OfTimer l) = timer_moves l
+moves (OfKey l) = key_moves l
+
+-- what is known at a place
+abbrev pub At : Program → Place → Machine → Since → Type 0
+At x (AtTimer l) b h = timer_place_at x l b (now h) × Within (timer_place_time l) h
+
+abbrev pub pieces : Program → Pieces
+pieces x = record { Block = Block; Head = Head x; moves = λ l h. moves l; Place = Place; At = At x }
+
+-- From each state in the row of a block a main move comes to a row without an event, to a dispatch or to a stop.
+abbrev pub BlockRows : Program → Block → Type 0
+BlockRows x l =
+    (u : Input) (b : Machine) (h : Since)
+    → InBlock x (pieces x) l b h
+    → Outcome x (pieces x) (moved (code x) u b) (after_main u h)

@@ -1,0 +1,2 @@
+//! The rows of the whole interpreter's ROM.
+#![tactic(auto)]

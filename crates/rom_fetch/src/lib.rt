@@ -1,0 +1,2 @@
+//! The rows of the fetch and the dispatch.
+#![tactic(auto)]
