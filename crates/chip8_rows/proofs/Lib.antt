@@ -1,4 +1,5 @@
 pub mod Bytes
+pub mod Bits
 pub mod Digits
 pub mod Entry
 pub mod Later

@@ -1,2 +1,6 @@
 pub mod Fetch
 pub mod Dispatch
+pub mod Stops
+pub mod Misc
+pub mod Boot
+pub mod Law
