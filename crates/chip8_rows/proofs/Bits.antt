@@ -1,8 +1,8 @@
 -- The tests of bytes that the interpreter makes.
-use Rattle.std.proofs.Common.{◌≡◌, ℕ, ◌+◌, ◌*◌, ◌<◌, ◌⊎◌, inl, inr, refl, arith, Bool, true, false, cond, not, bit_and}
+use Rattle.std.proofs.Common.{◌≡◌, ℕ, refl, arith, Bool, true, false, cond}
 use Rattle.std.specs.Prelude.{◌==◌, bit_xor}
 use Rattle.std.specs.Int.Bits.{xor_self, xor_add_and}
-use Rattle.std.proofs.lemmas.Bool.{cases_eq, ne_eqb}
+use Rattle.std.proofs.lemmas.Bool.{ne_eqb}
 use Rattle.std.proofs.lemmas.Nat.{and_le_l, and_le_r}
 use Rattle.machine.specs.Bank.{Word}
 

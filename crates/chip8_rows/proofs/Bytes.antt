@@ -9,7 +9,7 @@ use Rattle.chip8_lang.specs.declared.view.Edition.TheVariants.{Usual, Tall}
 use Rattle.chip8_lang.specs.Editions.{memory_end, stack_top, variables}
 use Rattle.chip8_image.specs.declared.image.TheConstants.{IMAGE, TALL}
 use Rattle.rom_law.specs.Program.{Program}
-use Rattle.chip8_rows.specs.Rom.{image, program_of, vip}
+use Rattle.chip8_rows.specs.Rom.{image, program_of}
 use Rattle.chip8_rows.specs.Heads.{by_edition, page_of}
 
 abbrev pub joined : Edition → List ℕ → List ℕ → List ℕ

@@ -1,5 +1,5 @@
 -- A fact on each of the sixteen digits.
-use Rattle.std.proofs.Common.{ℕ, zero, suc, ◌+◌, ◌<◌, arith}
+use Rattle.std.proofs.Common.{ℕ, zero, suc, ◌<◌, arith}
 
 module _ (P : ℕ → Type 0) (p0 : P 0) (p1 : P 1) (p2 : P 2) (p3 : P 3) (p4 : P 4) (p5 : P 5) (p6 : P 6) (p7 : P 7) (p8 : P 8) (p9 : P 9) (p10 : P 10) (p11 : P 11) (p12 : P 12) (p13 : P 13) (p14 : P 14) (p15 : P 15) where
   pub by_digit : (d : ℕ) → d < 16 → P d

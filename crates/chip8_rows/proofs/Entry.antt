@@ -1,5 +1,5 @@
 -- The machine at the heads of blocks, with what is known of it filled in.
-use Rattle.std.proofs.Common.{◌≡◌, ℕ, ◌+◌, ◌/◌, ◌%◌, ◌<◌, ◌≤◌, refl, sym, subst, arith, true}
+use Rattle.std.proofs.Common.{◌≡◌, ℕ, ◌+◌, ◌/◌, ◌%◌, ◌<◌, ◌≤◌, arith, true}
 use Rattle.std.proofs.lemmas.Bool.{and_parts, leb-true}
 use Rattle.machine.specs.Bank.{Word, word, word_of}
 use Rattle.machine.specs.Board.{Machine}
@@ -7,16 +7,11 @@ use Rattle.machine.specs.Ranges.{FitsMachine}
 use Rattle.chip8_lang.specs.declared.view.Edition.{Edition}
 use Rattle.chip8_lang.specs.Editions.{memory_end}
 use Rattle.chip8_lang.specs.State.{Lang, is_fetchable}
-use Rattle.chip8_lang.specs.Step.{next}
 use Rattle.chip8_image.specs.Labels.{at_fetch}
-use Rattle.rom_moves.specs.Code.{is_event}
-use Rattle.rom_law.specs.Program.{Program, code}
+use Rattle.rom_law.specs.Program.{Program}
 use Rattle.rom_law.specs.Holding.{places, Holding}
-use Rattle.rom_law.specs.Rows.{Since, Grows, Ready, Ends, Starts, now}
-use Rattle.rom_law.specs.Rows.Ends.{Continues}
-use Rattle.rom_law.specs.Rows.Starts.{Enters as EntersBlock, Meets}
+use Rattle.rom_law.specs.Rows.{Ready}
 use Rattle.rom_law.proofs.Places.{memory_fits}
-use Rattle.rom_law.proofs.Steps.{now_same}
 use Rattle.chip8_rows.specs.Heads.{high_byte, low_byte, page_of, Fetching, Entered}
 use Rattle.chip8_rows.proofs.Bytes.{quick}
 

@@ -6,3 +6,4 @@ pub mod Later
 pub mod Steps
 pub mod Follows
 pub mod Sounds
+pub mod Straight

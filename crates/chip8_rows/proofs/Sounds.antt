@@ -1,11 +1,9 @@
 -- The table is such that each group can be proved apart: each block has an instruction, and what is known at a place outlasts ticks. So a
 -- block's rows are kept by main moves where the block comes to what it should.
-use Rattle.std.proofs.Common.{◌≡◌, ℕ, ◌+◌, ◌<◌, arith, subst, ◌∙◌}
+use Rattle.std.proofs.Common.{ℕ, ◌<◌, arith, subst, ◌∙◌}
 use Rattle.machine.specs.Board.{Machine}
 use Rattle.machine.specs.Ranges.{FitsMachine}
 use Rattle.chip8_lang.specs.declared.view.Edition.{Edition}
-use Rattle.chip8_lang.specs.State.{Lang}
-use Rattle.chip8_lang.specs.Ticks.{ticks}
 use Rattle.rom_moves.specs.Later.{After}
 use Rattle.rom_law.specs.Program.{code}
 use Rattle.rom_law.specs.Rows.{Since, now, after_ticks}
@@ -30,7 +28,7 @@ use Rattle.chip8_rows.specs.KeyBlocks.KeyBlock.{KeySkip, WaitKey}
 use Rattle.chip8_rows.specs.Table.{Block, Place, Head, At, moves, pieces, BlockRows}
 use Rattle.chip8_rows.specs.Table.Block.{OfFetch, OfJump, OfArith, OfMemory, OfSprite, OfTimer, OfKey}
 use Rattle.chip8_rows.specs.Table.Place.{AtTimer}
-use Rattle.chip8_rows.proofs.Bytes.{both, both_is, both_fits, quick}
+use Rattle.chip8_rows.proofs.Bytes.{both_is, both_fits, quick}
 use Rattle.chip8_rows.proofs.Later.{enters_later, ticks_low}
 
 fetch_some : (l : FetchBlock) → 0 < fetch_moves l
@@ -88,7 +86,7 @@ key_some : (l : KeyBlock) → 0 < key_moves l
 key_some KeySkip = omega arith
 key_some WaitKey = omega arith
 
-some : (l : Block) → 0 < moves l
+pub some : (l : Block) → 0 < moves l
 some (OfFetch l) = fetch_some l
 some (OfJump l) = jump_some l
 some (OfArith l) = arith_some l

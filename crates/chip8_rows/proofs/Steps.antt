@@ -6,7 +6,6 @@ use Rattle.machine.specs.Board.{Machine}
 use Rattle.chip8_lang.specs.declared.instr.Instr.{Instr}
 use Rattle.chip8_lang.specs.declared.instr.Instr.TheVariants.{Clear, Return, Call, Draw, SkipDown, SkipUp, WaitKey, Decimal, Store, Fetch}
 use Rattle.chip8_lang.specs.declared.view.Edition.{Edition}
-use Rattle.chip8_lang.specs.declared.view.Stop.{Stop}
 use Rattle.chip8_lang.specs.declared.view.Stop.TheVariants.{FetchOutside}
 use Rattle.chip8_lang.specs.State.{Lang, instr_at, is_fetchable}
 use Rattle.chip8_lang.specs.Step.{stop_of, stop_of_instr, step, done_by}

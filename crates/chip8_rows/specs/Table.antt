@@ -1,12 +1,9 @@
 -- The row table: the blocks and places of main code of all groups, and what a group's law says.
 use Rattle.std.specs.Prelude.{ℕ}
 use Rattle.machine.specs.Board.{Machine}
-use Rattle.machine.specs.Ranges.{FitsMachine}
-use Rattle.chip8_lang.specs.declared.view.Edition.{Edition}
 use Rattle.rom_moves.specs.Code.{Input, moved}
 use Rattle.rom_law.specs.Program.{Program, code}
 use Rattle.rom_law.specs.Rows.{Since, Pieces, InBlock, Outcome, now, after_main}
-use Rattle.chip8_rows.specs.Rom.{vip}
 use Rattle.chip8_rows.specs.Heads.{Within}
 use Rattle.chip8_rows.specs.FetchBlocks.{FetchBlock, fetch_at, fetch_moves, fetch_time}
 use Rattle.chip8_rows.specs.JumpBlocks.{JumpBlock, jump_at, jump_moves, jump_time}

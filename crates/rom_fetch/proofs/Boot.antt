@@ -7,7 +7,7 @@ use Rattle.machine.specs.Keys.{Keys}
 use Rattle.machine.specs.Run.{after_moves}
 use Rattle.chip8_lang.specs.declared.view.Edition.{Edition}
 use Rattle.chip8_lang.specs.declared.view.Edition.TheVariants.{Usual, Tall}
-use Rattle.chip8_lang.specs.Editions.{stack_top, screen_start}
+use Rattle.chip8_lang.specs.Editions.{screen_start}
 use Rattle.chip8_lang.specs.State.{first, memory_size}
 use Rattle.chip8_image.specs.Labels.{at_entry, at_fetch}
 use Rattle.rom_law.specs.Program.{Dispatches}

@@ -1,5 +1,5 @@
 -- The opcode is read, and its routine entered by the table.
-use Rattle.std.proofs.Common.{◌≡◌, ℕ, zero, suc, ◌+◌, ◌-◌, ◌*◌, ◌/◌, ◌%◌, ◌<◌, ◌≤◌, refl, ◌∙◌, ap, ap₂, subst, arith, true, false, bit_and, slice_index, List, [], ◌∷◌}
+use Rattle.std.proofs.Common.{◌≡◌, ℕ, ◌+◌, ◌*◌, ◌/◌, ◌%◌, ◌<◌, refl, ◌∙◌, ap, ap₂, arith, true, false, bit_and, slice_index, List, [], ◌∷◌}
 use Rattle.std.specs.Prelude.{◌==◌}
 use Rattle.std.proofs.lemmas.Bool.{agree_below_at, eqb-true}
 use Rattle.std.proofs.lemmas.Nat.{and_mask}
@@ -8,9 +8,8 @@ use Rattle.machine.specs.Memory.{read}
 use Rattle.machine.specs.Board.{Machine}
 use Rattle.machine.specs.Ranges.{FitsMachine}
 use Rattle.chip8_lang.specs.declared.view.Edition.{Edition}
-use Rattle.chip8_lang.specs.Editions.{memory_end, stack_top}
-use Rattle.chip8_lang.specs.State.{Lang, is_fetchable}
-use Rattle.chip8_image.specs.Labels.{at_fetch, at_inside, at_table, at_halt, at_system, at_jump, at_call, at_skip_eq, at_skip_ne, at_skip_same, at_load, at_add, at_arith, at_skip_differ, at_index, at_jump_plus, at_random, at_draw, at_key_skip, at_misc}
+use Rattle.chip8_lang.specs.State.{is_fetchable}
+use Rattle.chip8_image.specs.Labels.{at_inside, at_table, at_halt, at_system, at_jump, at_call, at_skip_eq, at_skip_ne, at_skip_same, at_load, at_add, at_arith, at_skip_differ, at_index, at_jump_plus, at_random, at_draw, at_key_skip, at_misc}
 use Rattle.rom_moves.specs.Code.{is_event}
 use Rattle.rom_moves.proofs.Moves.{quicks, Reaches, reaches_in, reaches_from, rom_at, read_rom}
 use Rattle.rom_law.specs.Program.{code}

@@ -1,10 +1,7 @@
 -- The laws of the fetch.
-use Rattle.std.proofs.Common.{◌≡◌, ℕ, ◌<◌, ◌≤◌, refl, sym, ap, subst, arith, List, length}
-use Rattle.machine.specs.Board.{Machine, start}
-use Rattle.machine.specs.Keys.{Keys}
+use Rattle.machine.specs.Board.{Machine}
 use Rattle.machine.specs.Ranges.{FitsMachine}
 use Rattle.chip8_lang.specs.declared.view.Edition.{Edition}
-use Rattle.chip8_lang.specs.State.{memory_size}
 use Rattle.chip8_rows.specs.FetchBlocks.{FetchBlock}
 use Rattle.chip8_rows.specs.FetchBlocks.FetchBlock.{Fetch, Upper, Inside, Outside, Misc, Unknown83, Leave, Stop, Stopped}
 use Rattle.chip8_rows.specs.Table.{Head, pieces}

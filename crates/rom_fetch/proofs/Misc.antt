@@ -1,22 +1,19 @@
 -- FXKK: its nine tests in turn, and the stop of an opcode that none of them finds.
-use Rattle.std.proofs.Common.{◌≡◌, ℕ, zero, suc, ◌+◌, ◌*◌, ◌/◌, ◌%◌, ◌<◌, ◌≤◌, ◌⊎◌, inl, inr, refl, sym, ◌∙◌, ap, subst, arith, slice_index, cond, false}
+use Rattle.std.proofs.Common.{◌≡◌, ℕ, zero, suc, ◌+◌, ◌*◌, ◌<◌, ◌⊎◌, inl, inr, refl, sym, subst, arith, slice_index, cond}
 use Rattle.std.specs.Prelude.{◌==◌, bit_xor, Some}
 use Rattle.std.proofs.lemmas.Bool.{cases_eq, ne_eqb}
-use Rattle.machine.specs.Bank.{Word, word, word_of, value}
+use Rattle.machine.specs.Bank.{Word, word_of}
 use Rattle.machine.specs.Board.{Machine}
 use Rattle.machine.specs.Ranges.{FitsMachine}
-use Rattle.chip8_lang.specs.declared.instr.Instr.TheVariants.{Unknown}
 use Rattle.chip8_lang.specs.declared.view.Edition.{Edition}
 use Rattle.chip8_lang.specs.declared.view.Stop.TheVariants.{Unknown as UnknownOpcode}
-use Rattle.chip8_lang.specs.State.{Lang, instr_at}
-use Rattle.chip8_lang.specs.Step.{next, stop_of, stop_of_instr}
-use Rattle.chip8_image.specs.Labels.{at_fetch, at_misc, at_misc_0A, at_misc_15, at_misc_18, at_misc_1E, at_misc_29, at_misc_33, at_misc_55, at_misc_65, at_unknown83, at_get_delay, at_wait_key, at_set_delay, at_set_sound, at_add_index, at_digit, at_decimal, at_store, at_restore, at_halt}
-use Rattle.rom_moves.specs.Code.{is_event}
+use Rattle.chip8_lang.specs.Step.{stop_of}
+use Rattle.chip8_image.specs.Labels.{at_misc_0A, at_misc_15, at_misc_18, at_misc_1E, at_misc_29, at_misc_33, at_misc_55, at_misc_65, at_unknown83, at_get_delay, at_wait_key, at_set_delay, at_set_sound, at_add_index, at_digit, at_decimal, at_store, at_restore}
 use Rattle.rom_moves.proofs.Moves.{quicks, Reaches, reaches_in, reaches_from}
 use Rattle.rom_law.specs.Program.{code}
 use Rattle.rom_law.specs.Rows.{Since, Grows, Ends, now}
 use Rattle.rom_law.proofs.Kept.{Comes}
-use Rattle.chip8_rows.specs.Heads.{high_byte, low_byte, page_of, Enters}
+use Rattle.chip8_rows.specs.Heads.{high_byte, low_byte, Enters}
 use Rattle.chip8_rows.specs.FetchBlocks.{NoneOf, misc_labels, misc_codes}
 use Rattle.chip8_rows.specs.FetchBlocks.FetchBlock.{Misc, Unknown83, Leave}
 use Rattle.chip8_rows.specs.MemoryBlocks.MemoryBlock.{AddIndex, Digit, Decimal, Store, Restore}

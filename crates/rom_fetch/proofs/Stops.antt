@@ -1,7 +1,7 @@
 -- The stops: a pc outside game memory, each page's way to the stops, and the stop code.
 use Rattle.std.proofs.Common.{◌≡◌, ℕ, zero, suc, ◌+◌, ◌*◌, ◌<◌, ◌≤◌, refl, sym, ◌∙◌, ap, subst, arith}
 use Rattle.std.specs.Prelude.{Some}
-use Rattle.machine.specs.Bank.{Word, word, word_of, value, down}
+use Rattle.machine.specs.Bank.{word, word_of, value, down}
 use Rattle.machine.specs.Board.{Machine}
 use Rattle.machine.specs.Ranges.{FitsMachine}
 use Rattle.chip8_lang.specs.declared.view.Edition.{Edition}
