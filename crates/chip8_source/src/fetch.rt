@@ -7,8 +7,8 @@ pub(crate) const TEXT: &str = "
 
 ; Boot. The boot latch lets the addresses from 0000 on read the ROM, until OUT 4. RAM stays as it is.
 ;   boot            cycle 0    after reset: P = 0, all registers are 0, the boot latch is set, the display is off
-;   start           cycle 10   P = 3, R0 = 0009, R3 = start, D = 0A; else as at boot
-;   mapped          cycle 14   P = 3, R0 = 0009, R3 = mapped, X = 4, R4 = 0001, D = 0A; the boot latch is clear; else
+;   start           cycle 10   P = 3, R0 = 0007, R3 = start, D = 07; else as at boot
+;   mapped          cycle 14   P = 3, R0 = 0007, R3 = mapped, X = 4, R4 = 0001, D = 07; the boot latch is clear; else
 ;                              as at boot
                 ORG     0x8000
 boot:           LDI     >start
