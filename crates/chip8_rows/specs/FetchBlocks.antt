@@ -1,8 +1,7 @@
 -- The blocks of the fetch and the dispatch, of which FXKK an opcode is, and of the stops: for each one its addresses, what is known at its
 -- first instruction, how many instructions it has, and the main cycles before it.
-use Rattle.std.specs.Prelude.{◌≡◌, ℕ, ◌+◌, ◌*◌, ◌<◌, ◌≤◌, List, [], ◌∷◌, true, slice_index, Some}
+use Rattle.std.specs.Prelude.{◌≡◌, ℕ, ◌+◌, ◌*◌, ◌<◌, ◌≤◌, List, [], ◌∷◌, true, false, slice_index}
 use Rattle.machine.specs.Board.{Machine}
-use Rattle.chip8_lang.specs.declared.view.Stop.TheVariants.{FetchOutside}
 use Rattle.chip8_lang.specs.State.{Lang, is_fetchable}
 use Rattle.chip8_lang.specs.Step.{next}
 use Rattle.chip8_image.specs.Labels.{at_outside, at_fetch, at_upper, at_inside, at_stop, at_stopped, at_misc, at_misc_0A, at_misc_15, at_misc_18, at_misc_1E, at_misc_29, at_misc_33, at_misc_55, at_misc_65, at_unknown83, at_leave81}
@@ -41,7 +40,7 @@ abbrev pub fetch_at : Program → FetchBlock → Machine → Lang → Type 0
 fetch_at x Fetch b s = Fetching x at_fetch b s
 fetch_at x Upper b s = Fetching x at_upper b s × (0x200 ≤ s.pc)
 fetch_at x Inside b s = Fetching x at_inside b s × (is_fetchable x.edition s ≡ true)
-fetch_at x Outside b s = Fetching x at_outside b s × (x.stop_of s ≡ Some FetchOutside)
+fetch_at x Outside b s = Fetching x at_outside b s × (is_fetchable x.edition s ≡ false)
 fetch_at x (Misc i) b s = Enters x (slice_index misc_labels i) 15 b s × NoneOf i (low_byte s) × (i < 9)
 fetch_at x Unknown83 b s = Enters x at_unknown83 15 b s × NoneOf 9 (low_byte s)
 fetch_at x (Leave i) b s = Leaving x (at_leave81 + 0x100 * i) b s × (i < 4)

@@ -1,15 +1,12 @@
 -- The fetch: from the dispatch point to where pc is known to lie in game memory.
-use Rattle.std.proofs.Common.{◌≡◌, ℕ, ◌+◌, ◌-◌, ◌/◌, ◌<◌, ◌≤◌, ◌⊎◌, inl, inr, refl, arith, false, cond, not}
-use Rattle.std.specs.Prelude.{◌==◌, Some}
+use Rattle.std.proofs.Common.{◌≡◌, ℕ, ◌+◌, ◌-◌, ◌/◌, ◌<◌, ◌≤◌, ◌⊎◌, inl, inr, refl, arith, cond, not}
+use Rattle.std.specs.Prelude.{◌==◌}
 use Rattle.std.proofs.lemmas.Bool.{le-leb, lt-leb, cases_lt}
 use Rattle.machine.specs.Bank.{Word, word_of, value}
 use Rattle.machine.specs.Board.{Machine}
 use Rattle.machine.specs.Ranges.{FitsMachine}
 use Rattle.chip8_lang.specs.declared.view.Edition.{Edition}
-use Rattle.chip8_lang.specs.declared.view.Stop.TheVariants.{FetchOutside}
 use Rattle.chip8_lang.specs.Editions.{memory_end}
-use Rattle.chip8_lang.specs.State.{Lang, is_fetchable}
-use Rattle.chip8_lang.specs.Step.{stop_of}
 use Rattle.chip8_image.specs.Labels.{at_outside, at_fetch, at_upper, at_inside}
 use Rattle.rom_moves.proofs.Moves.{quicks, Reaches, reaches_in, reaches_from}
 use Rattle.rom_law.specs.Program.{code}
@@ -30,9 +27,6 @@ taken n a c e = rw e refl
 
 passed : (n : ℕ) (a c : Word) → n ≡ 1 → cond (not (n == 1)) a c ≡ c
 passed n a c e = rw e refl
-
-outside_stop : (e : Edition) (s : Lang) → is_fetchable e s ≡ false → stop_of e s ≡ Some FetchOutside
-outside_stop e s h = rw h refl
 
 -- ---- pc is 0200 at least
 
@@ -62,7 +56,7 @@ module _ (e : Edition) (b : Machine) (h : Since) (f : FitsMachine b) (o : Fetchi
         some = omega arith;
         end = end (word_of at_outside);
         reaches = reaches (word_of at_outside) (taken _ (word_of at_outside) (word_of at_upper) (omega (arith, l, pc, f.regs.r.r5.lo, f.regs.r.r5.hi)));
-        ends = λ h' g. to_fetch (quick e) g (end (word_of at_outside)) refl Outside (fetching at_outside, outside_stop e (now h) (rw (lt-leb 0x200 (now h).pc l) refl)) (omega (arith, spent, g.spent));
+        ends = λ h' g. to_fetch (quick e) g (end (word_of at_outside)) refl Outside (fetching at_outside, rw (lt-leb 0x200 (now h).pc l) refl) (omega (arith, spent, g.spent));
       }
       go (inr l) = record {
         runs = ready o.holds;
@@ -113,7 +107,7 @@ module _ (e : Edition) (b : Machine) (h : Since) (f : FitsMachine b) (o : Fetchi
         some = omega arith;
         end = checked (word_of at_outside);
         reaches = check_reaches (word_of at_outside) (taken carry (word_of at_outside) (word_of at_inside) (too_high l));
-        ends = λ h' g. to_fetch (quick e) g (checked (word_of at_outside)) refl Outside (checking at_outside, outside_stop e (now h) (rw (le-leb 0x200 (now h).pc low, lt-leb ((now h).pc + 2) (memory_end e) l) refl)) (omega (arith, spent, g.spent));
+        ends = λ h' g. to_fetch (quick e) g (checked (word_of at_outside)) refl Outside (checking at_outside, rw (le-leb 0x200 (now h).pc low, lt-leb ((now h).pc + 2) (memory_end e) l) refl) (omega (arith, spent, g.spent));
       }
       go (inr l) = record {
         runs = ready o.holds;

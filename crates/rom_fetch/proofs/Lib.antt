@@ -4,3 +4,4 @@ pub mod Stops
 pub mod Misc
 pub mod Boot
 pub mod Law
+pub mod Time

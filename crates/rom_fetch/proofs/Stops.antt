@@ -1,5 +1,5 @@
 -- The stops: a pc outside game memory, each page's way to the stops, and the stop code.
-use Rattle.std.proofs.Common.{◌≡◌, ℕ, zero, suc, ◌+◌, ◌*◌, ◌<◌, ◌≤◌, refl, sym, ◌∙◌, ap, subst, arith}
+use Rattle.std.proofs.Common.{◌≡◌, ℕ, zero, suc, ◌+◌, ◌*◌, ◌<◌, ◌≤◌, refl, sym, ◌∙◌, ap, subst, arith, false}
 use Rattle.std.specs.Prelude.{Some}
 use Rattle.machine.specs.Bank.{word, word_of, value, down}
 use Rattle.machine.specs.Board.{Machine}
@@ -7,6 +7,7 @@ use Rattle.machine.specs.Ranges.{FitsMachine}
 use Rattle.chip8_lang.specs.declared.view.Edition.{Edition}
 use Rattle.chip8_lang.specs.declared.view.Stop.TheVariants.{FetchOutside}
 use Rattle.chip8_lang.specs.Editions.{stop_cell}
+use Rattle.chip8_lang.specs.State.{Lang, is_fetchable}
 use Rattle.chip8_lang.specs.Step.{next, stop_of}
 use Rattle.chip8_image.specs.Labels.{at_outside, at_stop, at_stopped, at_leave81}
 use Rattle.rom_moves.proofs.Moves.{quicks, Reaches, reaches_in, reaches_from}
@@ -26,15 +27,18 @@ use Rattle.chip8_rows.proofs.Entry.{ready, on_4, is_on_4, on_3, is_on_3}
 use Rattle.chip8_rows.proofs.Follows.{to_fetch}
 use Rattle.chip8_rows.proofs.Steps.{stop_ticks}
 
+outside_stop : (e : Edition) (s : Lang) → is_fetchable e s ≡ false → stop_of e s ≡ Some FetchOutside
+outside_stop e s h = rw h refl
+
 module _ (e : Edition) (b : Machine) (h : Since) (f : FitsMachine b) where
-  pub outside_comes : Fetching (quick e) at_outside b (now h) → stop_of e (now h) ≡ Some FetchOutside → h.spent ≤ 16 → Comes (quick e) (pieces (quick e)) (OfFetch Outside) b h
-  outside_comes o stop spent = record {
+  pub outside_comes : Fetching (quick e) at_outside b (now h) → is_fetchable e (now h) ≡ false → h.spent ≤ 16 → Comes (quick e) (pieces (quick e)) (OfFetch Outside) b h
+  outside_comes o out spent = record {
     runs = ready o.holds;
     awake = o.holds.awake;
     some = omega arith;
     end = quicks (code (quick e)) 7 (on_4 (word_of at_outside) b);
     reaches = reaches_from (code (quick e)) 7 b _ _ (is_on_4 o) (reaches_in (code (quick e)) 7 _ _ (omega arith) refl);
-    ends = λ h' g. to_fetch (quick e) g (quicks (code (quick e)) 7 (on_4 (word_of at_outside) b)) refl Stopped (record { holds = o.holds; p = refl; r3 = refl; stop = FetchOutside; fits = stop; number = refl }) (omega (arith, spent, g.spent));
+    ends = λ h' g. to_fetch (quick e) g (quicks (code (quick e)) 7 (on_4 (word_of at_outside) b)) refl Stopped (record { holds = o.holds; p = refl; r3 = refl; stop = FetchOutside; fits = outside_stop e (now h) out; number = refl }) (omega (arith, spent, g.spent));
   }
 
   -- at a page's way to the stops, D goes into RE.0

@@ -210,6 +210,13 @@ module _ (x : Program) (t : Pieces) (sound : Sound x t) where
     next : (u : Input) → After (code x).low r.n (run (code x) (suc r.k) r.start) (moved (code x) u b)
     next u = moved_in (code x) u r.k (t.moves l r.since) r.n r.start b comes.runs.latch r.fits.size good r.inside r.after
 
+    -- the number of the program counter, and what it is after a move
+    pub block_p : b.regs.p ≡ (quicks (code x) r.k r.start).regs.p
+    block_p = ap (λ (z : Machine). z.regs.p) r.after.is ∙ sym (ap (λ (z : Machine). z.regs.p) is_quicks)
+
+    pub moved_p : (u : Input) → (moved (code x) u b).regs.p ≡ (quicks (code x) (suc r.k) r.start).regs.p
+    moved_p u = ap (λ (z : Machine). z.regs.p) (next u).is ∙ sym (ap (λ (z : Machine). z.regs.p) (run_is (code x) (suc r.k) (t.moves l r.since) r.start (omega (arith, r.inside)) good))
+
     -- the block's last move
     last : (u : Input) → suc r.k ≡ t.moves l r.since → Outcome x t (moved (code x) u b) (after_main u h)
     last u e =
