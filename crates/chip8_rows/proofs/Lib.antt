@@ -7,3 +7,4 @@ pub mod Steps
 pub mod Follows
 pub mod Sounds
 pub mod Straight
+pub mod Branches
