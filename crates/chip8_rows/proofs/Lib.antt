@@ -8,3 +8,4 @@ pub mod Follows
 pub mod Sounds
 pub mod Straight
 pub mod Branches
+pub mod Addresses

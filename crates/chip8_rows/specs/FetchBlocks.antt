@@ -1,12 +1,14 @@
 -- The blocks of the fetch and the dispatch, of which FXKK an opcode is, and of the stops: for each one its addresses, what is known at its
 -- first instruction, how many instructions it has, and the main cycles before it.
-use Rattle.std.specs.Prelude.{◌≡◌, ℕ, ◌+◌, ◌*◌, ◌<◌, ◌≤◌, List, [], ◌∷◌, true, false, slice_index}
+use Rattle.std.specs.Prelude.{◌≡◌, ℕ, ◌+◌, ◌*◌, ◌<◌, ◌≤◌, List, [], ◌∷◌, ◌++◌, true, false, slice_index}
 use Rattle.machine.specs.Board.{Machine}
 use Rattle.chip8_lang.specs.State.{Lang, is_fetchable}
 use Rattle.chip8_lang.specs.Step.{next}
-use Rattle.chip8_image.specs.Labels.{at_outside, at_fetch, at_upper, at_inside, at_stop, at_stopped, at_misc, at_misc_0A, at_misc_15, at_misc_18, at_misc_1E, at_misc_29, at_misc_33, at_misc_55, at_misc_65, at_unknown83, at_leave81}
+use Rattle.chip8_image.specs.declared.parts.Part.TheVariants.{Fetch as IsFetch}
+use Rattle.chip8_image.specs.Labels.{at_outside, at_dispatch, at_fetch, at_upper, at_inside, at_stop, at_stopped, at_misc, at_misc_0A, at_misc_15, at_misc_18, at_misc_1E, at_misc_29, at_misc_33, at_misc_55, at_misc_65, at_unknown83, at_leave81}
+use Rattle.chip8_image.specs.Parts.{Area, area}
 use Rattle.rom_law.specs.Program.{Program}
-use Rattle.chip8_rows.specs.Heads.{Time, low_byte, Fetching, Enters, Leaving, Stopping}
+use Rattle.chip8_rows.specs.Heads.{Time, from, low_byte, Fetching, Enters, Leaving, Stopping}
 use Rattle.chip8_rows.specs.Heads.Time.{Exactly, AtMost}
 
 pub data FetchBlock : Type 0 where
@@ -68,3 +70,30 @@ fetch_time Unknown83 = Exactly 134
 fetch_time (Leave i) = AtMost 210
 fetch_time Stop = AtMost 216
 fetch_time Stopped = AtMost 220
+
+-- where its instructions begin
+abbrev pub fetch_addresses : FetchBlock → List ℕ
+fetch_addresses Fetch = from at_fetch (0 ∷ 1 ∷ 3 ∷ [])
+fetch_addresses Upper = from at_upper (0 ∷ 1 ∷ 3 ∷ 4 ∷ 6 ∷ [])
+fetch_addresses Inside =
+    from at_inside
+    (0 ∷ 2 ∷ 3 ∷ 4 ∷ 5 ∷ 6 ∷ 8 ∷ 10 ∷ 11 ∷ 12 ∷ 13 ∷ 14 ∷ 15 ∷ 16 ∷ 17 ∷ 19 ∷ 20 ∷ 22 ∷ 23 ∷ 24 ∷ 25 ∷ 26 ∷ 27 ∷ 28 ∷ 29 ∷ 31 ∷ 32 ∷ 33 ∷ 34 ∷ 35 ∷ 36 ∷ [])
+    ++ at_dispatch ∷ []
+fetch_addresses Outside = from at_outside (0 ∷ 2 ∷ 3 ∷ 5 ∷ 6 ∷ 8 ∷ 9 ∷ [])
+fetch_addresses (Misc i) = from (slice_index misc_labels i) (0 ∷ 1 ∷ 3 ∷ [])
+fetch_addresses Unknown83 = from at_unknown83 (0 ∷ 2 ∷ [])
+fetch_addresses (Leave i) = from (at_leave81 + 0x100 * i) (0 ∷ 1 ∷ 3 ∷ [])
+fetch_addresses Stop = from at_stop (0 ∷ 1 ∷ [])
+fetch_addresses Stopped = from at_stopped (0 ∷ 2 ∷ 3 ∷ 5 ∷ 6 ∷ 7 ∷ [])
+
+-- the fetch, the dispatch, the stops, the ways to them, and the tests of FXKK
+abbrev pub fetch_areas : List Area
+fetch_areas =
+    area 0x8027 0x8063 IsFetch ∷
+    area 0x80f4 0x80fd IsFetch ∷
+    area 0x81f0 0x81f3 IsFetch ∷
+    area 0x82f0 0x82f3 IsFetch ∷
+    area 0x8300 0x8330 IsFetch ∷
+    area 0x83f0 0x83f3 IsFetch ∷
+    area 0x84f0 0x84f3 IsFetch ∷
+    []

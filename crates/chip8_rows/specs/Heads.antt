@@ -1,6 +1,6 @@
 -- What is known of a machine at the heads of the interpreter's blocks. In all of them s is the language state at the dispatch point,
 -- after the ticks that came since.
-use Rattle.std.specs.Prelude.{◌≡◌, ℕ, ◌+◌, ◌/◌, ◌%◌, ◌≤◌, true, Some}
+use Rattle.std.specs.Prelude.{◌≡◌, ℕ, ◌+◌, ◌/◌, ◌%◌, ◌≤◌, true, List, [], ◌∷◌, Some}
 use Rattle.machine.specs.Bank.{word, word_of}
 use Rattle.machine.specs.Board.{Machine}
 use Rattle.chip8_lang.specs.declared.view.Edition.{Edition}
@@ -23,6 +23,13 @@ pub data Time : Type 0 where
 abbrev pub Within : Time → Since → Type 0
 Within (Exactly n) h = h.spent ≡ n
 Within (AtMost n) h = h.spent ≤ n
+
+-- ---- addresses
+
+-- the addresses so far past a label
+abbrev pub from : ℕ → List ℕ → List ℕ
+from a [] = []
+from a (offset ∷ offsets) = (a + offset) ∷ from a offsets
 
 -- ---- parts of a state
 

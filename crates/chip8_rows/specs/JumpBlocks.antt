@@ -1,11 +1,13 @@
 -- The blocks of 0MMM, of jumps and of calls.
-use Rattle.std.specs.Prelude.{◌≡◌, ℕ, ◌<◌, length, Some}
+use Rattle.std.specs.Prelude.{◌≡◌, ℕ, ◌<◌, List, [], ◌∷◌, length, Some}
 use Rattle.machine.specs.Board.{Machine}
 use Rattle.chip8_lang.specs.declared.view.Stop.TheVariants.{MachineCall, StackEmpty, StackFull}
 use Rattle.chip8_lang.specs.State.{Lang}
+use Rattle.chip8_image.specs.declared.parts.Part.TheVariants.{Arith as IsArith}
 use Rattle.chip8_image.specs.Labels.{at_system, at_system_low, at_system_back, at_machine, at_return, at_return_take, at_empty, at_jump, at_call, at_call_put, at_full, at_jump_plus}
+use Rattle.chip8_image.specs.Parts.{Area, area}
 use Rattle.rom_law.specs.Program.{Program}
-use Rattle.chip8_rows.specs.Heads.{Time, high_byte, low_byte, Entered, Enters}
+use Rattle.chip8_rows.specs.Heads.{Time, from, high_byte, low_byte, Entered, Enters}
 use Rattle.chip8_rows.specs.Heads.Time.{Exactly, AtMost}
 
 pub data JumpBlock : Type 0 where
@@ -68,3 +70,22 @@ jump_time Call = Exactly 80
 jump_time CallPut = AtMost 86
 jump_time Full = AtMost 86
 jump_time JumpPlus = Exactly 80
+
+-- where its instructions begin
+abbrev pub jump_addresses : JumpBlock → List ℕ
+jump_addresses System = from at_system (0 ∷ 1 ∷ [])
+jump_addresses SystemLow = from at_system_low (0 ∷ 1 ∷ 3 ∷ [])
+jump_addresses SystemBack = from at_system_back (0 ∷ 1 ∷ 3 ∷ [])
+jump_addresses MachineCode = from at_machine (0 ∷ 2 ∷ [])
+jump_addresses Return = from at_return (0 ∷ 1 ∷ 3 ∷ [])
+jump_addresses ReturnTake = from at_return_take (0 ∷ 1 ∷ 2 ∷ 3 ∷ 4 ∷ 5 ∷ 6 ∷ 7 ∷ 8 ∷ 9 ∷ 10 ∷ 11 ∷ [])
+jump_addresses Empty = from at_empty (0 ∷ 2 ∷ [])
+jump_addresses JumpTo = from at_jump (0 ∷ 1 ∷ 3 ∷ 4 ∷ 5 ∷ 6 ∷ [])
+jump_addresses Call = from at_call (0 ∷ 1 ∷ 3 ∷ [])
+jump_addresses CallPut = from at_call_put (0 ∷ 1 ∷ 2 ∷ 3 ∷ 4 ∷ 5 ∷ 6 ∷ 8 ∷ 9 ∷ 10 ∷ 11 ∷ [])
+jump_addresses Full = from at_full (0 ∷ 2 ∷ [])
+jump_addresses JumpPlus = from at_jump_plus (0 ∷ 2 ∷ 3 ∷ 5 ∷ 6 ∷ 7 ∷ 8 ∷ 9 ∷ 10 ∷ 11 ∷ 13 ∷ 15 ∷ 16 ∷ [])
+
+-- 0MMM, 00EE, jumps and calls
+abbrev pub jump_areas : List Area
+jump_areas = area 0x8100 0x8152 IsArith ∷ []

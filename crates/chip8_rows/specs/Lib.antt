@@ -8,3 +8,4 @@ pub mod SpriteBlocks
 pub mod TimerBlocks
 pub mod KeyBlocks
 pub mod Table
+pub mod Addresses

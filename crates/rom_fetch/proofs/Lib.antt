@@ -5,3 +5,4 @@ pub mod Misc
 pub mod Boot
 pub mod Law
 pub mod Time
+pub mod Addresses

@@ -11,9 +11,10 @@ use Rattle.rom_moves.specs.Code.{Input, moved}
 use Rattle.rom_law.specs.Program.{code, Dispatches}
 use Rattle.rom_law.specs.Rows.{Since, InBlock, after_main}
 use Rattle.chip8_rows.specs.Rom.{image, vip}
-use Rattle.chip8_rows.specs.FetchBlocks.{FetchBlock}
+use Rattle.chip8_rows.specs.FetchBlocks.{FetchBlock, fetch_moves, fetch_addresses, fetch_areas}
 use Rattle.chip8_rows.specs.Table.{pieces, BlockRows}
 use Rattle.chip8_rows.specs.Table.Block.{OfFetch}
+use Rattle.chip8_rows.specs.Addresses.{RunsAt, Covers}
 
 -- every main move keeps the rows of the fetch, of the dispatch and of the stops
 abbrev pub FetchRows : Type 0
@@ -28,6 +29,14 @@ DispatchTime =
     → b.regs.p ≡ 4
     → (moved (code (vip e)) u b).regs.p ≡ 3
     → (after_main u h).spent ≡ DISPATCH
+
+-- in those rows the program counter is at the block's addresses in turn
+abbrev pub FetchAddresses : Type 0
+FetchAddresses = (e : Edition) (l : FetchBlock) → RunsAt (vip e) (OfFetch l) (fetch_addresses l)
+
+-- and each instruction of that code is in some block
+abbrev pub FetchCovers : Type 0
+FetchCovers = Covers FetchBlock fetch_moves fetch_addresses fetch_areas
 
 -- the moves of boot
 abbrev pub boot_moves : ℕ

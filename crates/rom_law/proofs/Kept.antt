@@ -1,7 +1,9 @@
 -- The rows of a ROM are kept by main moves and by ticks, where each block comes to what it should.
 use Rattle.std.proofs.Common.{◌≡◌, ℕ, zero, suc, ◌+◌, ◌*◌, ◌<◌, ◌≤◌, ◌⊎◌, inl, inr, refl, sym, ◌∙◌, ap, subst, arith, Bool, true, false, T, not, List, [], ◌∷◌, ◌++◌, length}
 use Rattle.std.proofs.lemmas.Bool.{cases_eq}
+use Rattle.machine.specs.Bank.{value}
 use Rattle.machine.specs.Opcodes.{cycles_of}
+use Rattle.machine.specs.Instruction.{at}
 use Rattle.machine.specs.Board.{Machine, opcode_of}
 use Rattle.machine.specs.Keys.{Keys}
 use Rattle.machine.specs.Schedule.{Tick}
@@ -11,7 +13,7 @@ use Rattle.chip8_lang.specs.Ticks.{ticks}
 use Rattle.chip8_lang.specs.Between.{Between}
 use Rattle.rom_moves.specs.Code.{Code, Input, moved, run, is_event}
 use Rattle.rom_moves.specs.Later.{After}
-use Rattle.rom_moves.proofs.Moves.{AllGood, Calm, Fine, quicks, Reaches, reaches_good, reaches_run, reaches_quicks, quicks_are, quicks_idle, quicks_clear, quicks_full, quicks_on, quicks_enabled, after_quick, after_cycles}
+use Rattle.rom_moves.proofs.Moves.{AllGood, Calm, Fine, quicks, Reaches, reaches_good, reaches_run, reaches_quicks, quicks_are, quicks_idle, quicks_clear, quicks_full, quicks_on, quicks_enabled, after_quick, after_counter, after_cycles}
 use Rattle.machine.proofs.Fits.{main-fits}
 use Rattle.rom_moves.proofs.Ranges.{tick_fits}
 use Rattle.rom_moves.proofs.Ticks.{after_none}
@@ -202,9 +204,19 @@ module _ (x : Program) (t : Pieces) (sound : Sound x t) where
           on = ap (λ (z : Machine). z.on) r.after.is ∙ sym (ap (λ (z : Machine). z.on) is_quicks) ∙ quicks_on (code x) r.k r.start good_k ∙ comes.runs.on;
         }
 
+    fine : Fine (code x) (quicks (code x) r.k r.start)
+    fine = at_move (code x) r.k (t.moves l r.since) r.start r.inside good
+
+    later : After (code x).low r.n (quicks (code x) r.k r.start) b
+    later = subst (λ z. After (code x).low r.n z b) (sym is_quicks) r.after
+
     -- the opcode is that of a two-cycle instruction
     block_cycles : cycles_of (opcode_of x.interpreter.rom b) ≡ 2
-    block_cycles = after_cycles (code x) r.n (quicks (code x) r.k r.start) b (at_move (code x) r.k (t.moves l r.since) r.start r.inside good) (quicks_clear (code x) r.k r.start comes.runs.latch) (subst (λ z. After (code x).low r.n z b) (sym is_quicks) r.after)
+    block_cycles = after_cycles (code x) r.n (quicks (code x) r.k r.start) b fine later
+
+    -- the address at the program counter
+    pub block_at : at b.regs b.regs.p ≡ at (quicks (code x) r.k r.start).regs (quicks (code x) r.k r.start).regs.p
+    block_at = ap value (after_counter (code x) r.n (quicks (code x) r.k r.start) b fine later)
 
     -- a main move of a state after n ticks of the k-th state is one of the next
     next : (u : Input) → After (code x).low r.n (run (code x) (suc r.k) r.start) (moved (code x) u b)

@@ -343,18 +343,20 @@ module _ (x : Code) where
   pub after_quick : (u : Input) (n : ℕ) (b c : Machine) → Fine x b → b.latch ≡ false → length b.ram ≡ 4096 → After x.low n b c → After x.low n (quick x b) (moved x u c)
   after_quick u n b c g l f h = subst (λ z. After x.low n z (moved x u c)) (quick_by_is x u b (rom_from x b (second_of _ _ g)) ∙ sym (quick_is x u b g)) (after_move u n b c (second_of _ _ g) l f h)
 
--- the opcode is the same after ticks, so that it takes as many cycles
-pub after_cycles : (x : Code) (n : ℕ) (b c : Machine) → Fine x b → b.latch ≡ false → After x.low n b c → cycles_of (opcode_of x.rom c) ≡ 2
-after_cycles x n b c g clear h = ap cycles_of (sym (opcode_is x c inside) ∙ ap (λ w. rom_at x.rom (value w)) same ∙ opcode_is x b (rom_from x b (second_of _ _ g))) ∙ fine_cycles x b g
-  where
-    pass : Passable x b
-    pass = second_of (is_straight (kind_of (opcode_in x b)) (number_of (opcode_in x b)) && cycles_of (opcode_in x b) == 2) (Passable x b) g
+module _ (x : Code) (n : ℕ) (b c : Machine) (g : Fine x b) (h : After x.low n b c) where
+  pass : Passable x b
+  pass = second_of (is_straight (kind_of (opcode_in x b)) (number_of (opcode_in x b)) && cycles_of (opcode_in x b) == 2) (Passable x b) g
 
-    same : get c.regs.r c.regs.p ≡ get b.regs.r b.regs.p
-    same = ap (λ (z : Machine). get z.regs.r z.regs.p) h.is ∙ get-later b.regs.p n c.regs.r.r0 c.regs.r.rf b.regs.r (kept_of_plain b.regs.p (plain_from x b pass))
+  -- the program counter is the same after ticks
+  pub after_counter : get c.regs.r c.regs.p ≡ get b.regs.r b.regs.p
+  after_counter = ap (λ (z : Machine). get z.regs.r z.regs.p) h.is ∙ get-later b.regs.p n c.regs.r.r0 c.regs.r.rf b.regs.r (kept_of_plain b.regs.p (plain_from x b pass))
 
-    inside : in_rom (get c.regs.r c.regs.p) ≡ true
-    inside = ap in_rom same ∙ rom_from x b pass
+  inside_rom : in_rom (get c.regs.r c.regs.p) ≡ true
+  inside_rom = ap in_rom after_counter ∙ rom_from x b pass
+
+  -- and so is the opcode, so that it takes as many cycles
+  pub after_cycles : cycles_of (opcode_of x.rom c) ≡ 2
+  after_cycles = ap cycles_of (sym (opcode_is x c inside_rom) ∙ ap (λ w. rom_at x.rom (value w)) after_counter ∙ opcode_is x b (rom_from x b (second_of _ _ g))) ∙ fine_cycles x b g
 
 -- ---- several moves
 
