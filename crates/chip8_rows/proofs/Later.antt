@@ -4,7 +4,7 @@ use Rattle.machine.specs.Bank.{word}
 use Rattle.machine.specs.Board.{Machine}
 use Rattle.machine.specs.Ranges.{FitsMachine}
 use Rattle.chip8_lang.specs.declared.view.Edition.{Edition}
-use Rattle.chip8_lang.specs.State.{Lang, is_fetchable}
+use Rattle.chip8_lang.specs.State.{Lang, variable, is_fetchable}
 use Rattle.chip8_lang.specs.Step.{next}
 use Rattle.chip8_lang.specs.Ticks.{tick, ticks}
 use Rattle.rom_moves.specs.Later.{After}
@@ -12,6 +12,7 @@ use Rattle.rom_law.specs.Program.{Program, code}
 use Rattle.rom_law.specs.Holding.{places, Holding}
 use Rattle.rom_law.proofs.Later.{holding_after}
 use Rattle.chip8_rows.specs.Heads.{high_byte, low_byte, page_of, Entered, Enters}
+use Rattle.chip8_rows.specs.TimerBlocks.{Mixes}
 
 -- ticks leave pc and the opcode
 pub ticks_next : (n : ℕ) (s : Lang) → ticks n (next s) ≡ next (ticks n s)
@@ -30,6 +31,10 @@ pub ticks_low : (n : ℕ) (s : Lang) → low_byte (ticks n s) ≡ low_byte s
 ticks_low zero s = refl
 ticks_low (suc n) s = ticks_low n s
 
+pub ticks_variable : (n k : ℕ) (s : Lang) → variable (ticks n s) k ≡ variable s k
+ticks_variable zero k s = refl
+ticks_variable (suc n) k s = ticks_variable n k s
+
 module _ (x : Program) (n : ℕ) {b c : Machine} (k : After (code x).low n b c) (f : FitsMachine b) (s : Lang) where
   pub entered_later : (a : ℕ) → Entered x a b s → Entered x a c (ticks n s)
   entered_later a o =
@@ -46,3 +51,10 @@ module _ (x : Program) (n : ℕ) {b c : Machine} (k : After (code x).low n b c) 
 
   pub enters_later : (a d : ℕ) → Enters x a d b s → Enters x a d c (ticks n s)
   enters_later a d o = record { entered = entered_later a o.entered; digit = ap (λ y. y / 16) (ticks_high n s) ∙ o.digit }
+
+  -- D was loaded with VX
+  pub loaded_later : b.regs.d ≡ variable s (high_byte s % 16) → c.regs.d ≡ variable (ticks n s) (high_byte (ticks n s) % 16)
+  loaded_later d = ap (λ (z : Machine). z.regs.d) k.is ∙ d ∙ sym (ticks_variable n (high_byte s % 16) s) ∙ ap (λ y. variable (ticks n s) (y % 16)) (sym (ticks_high n s))
+
+  pub mixes_later : Mixes b → Mixes c
+  mixes_later o = record { rd = ap (λ (z : Machine). z.regs.r.rd) k.is ∙ o.rd; x = ap (λ (z : Machine). z.regs.x) k.is ∙ o.x }

@@ -9,3 +9,4 @@ pub mod Sounds
 pub mod Straight
 pub mod Branches
 pub mod Addresses
+pub mod Alone

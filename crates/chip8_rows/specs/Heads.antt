@@ -7,7 +7,8 @@ use Rattle.chip8_lang.specs.declared.view.Edition.{Edition}
 use Rattle.chip8_lang.specs.declared.view.Edition.TheVariants.{Usual, Tall}
 use Rattle.chip8_lang.specs.declared.view.Stop.{Stop}
 use Rattle.chip8_lang.specs.State.{Lang, memory_byte, is_fetchable}
-use Rattle.chip8_lang.specs.Step.{next, number_of}
+use Rattle.chip8_lang.specs.Step.{next, number_of, step}
+use Rattle.chip8_lang.specs.Step.KeyInput.{Nothing}
 use Rattle.chip8_image.specs.Labels.{at_fetch}
 use Rattle.rom_law.specs.Program.{Program}
 use Rattle.rom_law.specs.Rows.{Since}
@@ -73,6 +74,14 @@ pub record Entered (x : Program) (a : ℕ) (b : Machine) (s : Lang) : Type 0 whe
 pub record Enters (x : Program) (a d : ℕ) (b : Machine) (s : Lang) : Type 0 where
   pub entered : Entered x a b s
   pub digit : high_byte s / 16 ≡ d
+
+-- in a routine, at a, where the step was made but for the way to the dispatch: no key was taken
+pub record Done (x : Program) (a : ℕ) (b : Machine) (s : Lang) : Type 0 where
+  pub holds : Holding x (places b) (step x.edition Nothing s)
+  pub inside : is_fetchable x.edition s ≡ true
+  pub p : b.regs.p ≡ 3
+  pub r3 : b.regs.r.r3 ≡ word_of a
+  pub r4 : b.regs.r.r4 ≡ word_of at_fetch
 
 -- s stops, and the number of its stop is in D: at a page's way to the stops, with pc past the opcode
 pub record Leaving (x : Program) (a : ℕ) (b : Machine) (s : Lang) : Type 0 where

@@ -1,6 +1,7 @@
 -- The row table: the blocks and places of main code of all groups, and what a group's law says.
 use Rattle.std.specs.Prelude.{ℕ}
 use Rattle.machine.specs.Board.{Machine}
+use Rattle.machine.specs.Ranges.{FitsMachine}
 use Rattle.rom_moves.specs.Code.{Input, moved}
 use Rattle.rom_law.specs.Program.{Program, code}
 use Rattle.rom_law.specs.Rows.{Since, Pieces, InBlock, Outcome, now, after_main}
@@ -57,4 +58,12 @@ abbrev pub BlockRows : Program → Block → Type 0
 BlockRows x l =
     (u : Input) (b : Machine) (h : Since)
     → InBlock x (pieces x) l b h
+    → Outcome x (pieces x) (moved (code x) u b) (after_main u h)
+
+-- the same from each state at a place
+abbrev pub PlaceRows : Program → Place → Type 0
+PlaceRows x l =
+    (u : Input) (b : Machine) (h : Since)
+    → FitsMachine b
+    → At x l b h
     → Outcome x (pieces x) (moved (code x) u b) (after_main u h)

@@ -248,7 +248,7 @@ module _ (x : Code) where
       after : rom_at x.rom (value (up (up w))) ≡ m (value (up (get (put s.r s.p (up w)) s.p)))
       after = sym (read_rom x.rom b.latch b.ram (value (up (up w))) (omega (arith, i)) (omega (arith, i))) ∙ ap (λ z. m (value (up z))) (sym pc)
 
-  opcode_is : (b : Machine) → in_rom (get b.regs.r b.regs.p) ≡ true → opcode_in x b ≡ opcode_of x.rom b
+  pub opcode_is : (b : Machine) → in_rom (get b.regs.r b.regs.p) ≡ true → opcode_in x b ≡ opcode_of x.rom b
   opcode_is b e = let i = rom_parts (get b.regs.r b.regs.p) e in sym (read_rom x.rom b.latch b.ram (value (get b.regs.r b.regs.p)) (omega (arith, i)) (omega (arith, i)))
 
   fine_kind : (b : Machine) → Fine x b → is_straight (kind_of (opcode_in x b)) (number_of (opcode_in x b)) ≡ true
