@@ -18,7 +18,7 @@ use Rattle.chip8_rows.specs.FetchBlocks.FetchBlock.{Fetch, Upper, Inside, Outsid
 use Rattle.chip8_rows.specs.JumpBlocks.{JumpBlock, jump_moves}
 use Rattle.chip8_rows.specs.JumpBlocks.JumpBlock.{System, SystemLow, SystemBack, MachineCode, Return, ReturnTake, Empty, JumpTo, Call, CallPut, Full, JumpPlus}
 use Rattle.chip8_rows.specs.ArithBlocks.{ArithBlock, arith_moves}
-use Rattle.chip8_rows.specs.ArithBlocks.ArithBlock.{Load, Add, SkipEq, SkipNe, SkipSame, SkipDiffer, Arith}
+use Rattle.chip8_rows.specs.ArithBlocks.ArithBlock.{Load, Add, SkipEq, SkipNe, SkipSame, SameTest, SkipDiffer, DifferTest, NoSkip, Skip, Unknown81, Arith, Operation, Flag, Unknown82}
 use Rattle.chip8_rows.specs.MemoryBlocks.{MemoryBlock, memory_moves}
 use Rattle.chip8_rows.specs.MemoryBlocks.MemoryBlock.{Index, AddIndex, Digit, Decimal, Store, Restore}
 use Rattle.chip8_rows.specs.SpriteBlocks.{SpriteBlock, sprite_moves}
@@ -65,8 +65,16 @@ arith_some Add = omega arith
 arith_some SkipEq = omega arith
 arith_some SkipNe = omega arith
 arith_some SkipSame = omega arith
+arith_some SameTest = omega arith
 arith_some SkipDiffer = omega arith
+arith_some DifferTest = omega arith
+arith_some (NoSkip i) = omega arith
+arith_some Skip = omega arith
+arith_some Unknown81 = omega arith
 arith_some Arith = omega arith
+arith_some (Operation n) = omega arith
+arith_some Flag = omega arith
+arith_some Unknown82 = omega arith
 
 memory_some : (l : MemoryBlock) → 0 < memory_moves l
 memory_some Index = omega arith
