@@ -1,9 +1,9 @@
 -- 8XYN.
-use Rattle.std.proofs.Common.{◌≡◌, ℕ, zero, suc, ◌+◌, ◌-◌, ◌*◌, ◌/◌, ◌%◌, ◌<◌, ◌≤◌, refl, sym, ◌∙◌, ap, ap₂, arith, subst, true, false, bit_and}
-use Rattle.std.specs.Prelude.{◌==◌, bit_or, bit_xor, Some, None}
+use Rattle.std.proofs.Common.{◌≡◌, ℕ, ◌+◌, ◌-◌, ◌*◌, ◌/◌, ◌%◌, ◌<◌, ◌≤◌, refl, sym, ◌∙◌, ap₂, arith, subst, true, false, bit_and}
+use Rattle.std.specs.Prelude.{bit_or, bit_xor, Some}
 use Rattle.std.proofs.lemmas.Bool.{ne_eqb}
 use Rattle.std.proofs.lemmas.Nat.{and_mask, and_comm, or_comm, xor_comm, and_le_l, or_lt, xor_lt}
-use Rattle.machine.specs.Bank.{word, word_of, value}
+use Rattle.machine.specs.Bank.{word}
 use Rattle.machine.specs.Memory.{written}
 use Rattle.machine.specs.Board.{Machine}
 use Rattle.machine.specs.Ranges.{FitsMachine}
@@ -13,7 +13,7 @@ use Rattle.chip8_lang.specs.declared.view.Stop.TheVariants.{Unknown}
 use Rattle.chip8_lang.specs.State.{variable, instr_at}
 use Rattle.chip8_lang.specs.Step.{set, set_with_flag, stop_of, step}
 use Rattle.chip8_lang.specs.Step.KeyInput.{Nothing}
-use Rattle.chip8_image.specs.Labels.{at_arith, at_slot0, at_flag, at_unknown81, at_unknown82, at_halt}
+use Rattle.chip8_image.specs.Labels.{at_arith, at_slot0, at_flag, at_unknown82, at_halt}
 use Rattle.rom_moves.specs.Code.{is_event}
 use Rattle.rom_moves.proofs.Moves.{quicks, Reaches, reaches_in, reaches_from}
 use Rattle.rom_law.specs.Program.{code}
@@ -24,7 +24,7 @@ use Rattle.rom_law.proofs.Kept.{Comes}
 use Rattle.chip8_rows.specs.Heads.{high_byte, low_byte, page_of, Entered, Enters}
 use Rattle.chip8_rows.specs.FetchBlocks.FetchBlock.{Leave}
 use Rattle.chip8_rows.specs.ArithBlocks.{has_shared_end, Ending, arith_moves}
-use Rattle.chip8_rows.specs.ArithBlocks.ArithBlock.{Unknown81, Arith, Operation, Flag, Unknown82}
+use Rattle.chip8_rows.specs.ArithBlocks.ArithBlock.{Arith, Operation, Flag, Unknown82}
 use Rattle.chip8_rows.specs.Table.{pieces}
 use Rattle.chip8_rows.specs.Table.Block.{OfArith}
 use Rattle.chip8_rows.proofs.Digits.{by_digit}
@@ -143,9 +143,9 @@ module _ (e : Edition) (b : Machine) (h : Since) (f : FitsMachine b) where
   unfolding pointed
   other n o nibble by_r6 spent one reach stop = operation n o nibble by_r6 spent _ reach (λ h' g. to_arith (quick e) g _ refl Unknown82 (goes o.entered at_unknown82 _ _, stop) (omega (arith, spent, one, g.spent)))
 
-  pub operation_comes : (n : ℕ) → n < 16 → Case n
+  pub operation_comes : (n : ℕ) → Case n
   unfolding pointed
-  operation_comes = by_digit Case copy vx_or vx_and vx_xor sum less right from (λ o n by_r6 spent. other 8 o n by_r6 spent refl (reaches_in (code (quick e)) 1 _ _ (omega arith) refl) (rw (o.entered.inside, o.digit, n) refl)) (λ o n by_r6 spent. other 9 o n by_r6 spent refl (reaches_in (code (quick e)) 1 _ _ (omega arith) refl) (rw (o.entered.inside, o.digit, n) refl)) (λ o n by_r6 spent. other 10 o n by_r6 spent refl (reaches_in (code (quick e)) 1 _ _ (omega arith) refl) (rw (o.entered.inside, o.digit, n) refl)) (λ o n by_r6 spent. other 11 o n by_r6 spent refl (reaches_in (code (quick e)) 1 _ _ (omega arith) refl) (rw (o.entered.inside, o.digit, n) refl)) (λ o n by_r6 spent. other 12 o n by_r6 spent refl (reaches_in (code (quick e)) 1 _ _ (omega arith) refl) (rw (o.entered.inside, o.digit, n) refl)) (λ o n by_r6 spent. other 13 o n by_r6 spent refl (reaches_in (code (quick e)) 1 _ _ (omega arith) refl) (rw (o.entered.inside, o.digit, n) refl)) left (λ o n by_r6 spent. other 15 o n by_r6 spent refl (reaches_in (code (quick e)) 1 _ _ (omega arith) refl) (rw (o.entered.inside, o.digit, n) refl))
+  operation_comes n o nibble = by_digit Case copy vx_or vx_and vx_xor sum less right from (λ o n by_r6 spent. other 8 o n by_r6 spent refl (reaches_in (code (quick e)) 1 _ _ (omega arith) refl) (rw (o.entered.inside, o.digit, n) refl)) (λ o n by_r6 spent. other 9 o n by_r6 spent refl (reaches_in (code (quick e)) 1 _ _ (omega arith) refl) (rw (o.entered.inside, o.digit, n) refl)) (λ o n by_r6 spent. other 10 o n by_r6 spent refl (reaches_in (code (quick e)) 1 _ _ (omega arith) refl) (rw (o.entered.inside, o.digit, n) refl)) (λ o n by_r6 spent. other 11 o n by_r6 spent refl (reaches_in (code (quick e)) 1 _ _ (omega arith) refl) (rw (o.entered.inside, o.digit, n) refl)) (λ o n by_r6 spent. other 12 o n by_r6 spent refl (reaches_in (code (quick e)) 1 _ _ (omega arith) refl) (rw (o.entered.inside, o.digit, n) refl)) (λ o n by_r6 spent. other 13 o n by_r6 spent refl (reaches_in (code (quick e)) 1 _ _ (omega arith) refl) (rw (o.entered.inside, o.digit, n) refl)) left (λ o n by_r6 spent. other 15 o n by_r6 spent refl (reaches_in (code (quick e)) 1 _ _ (omega arith) refl) (rw (o.entered.inside, o.digit, n) refl)) n (omega (arith, nibble)) o nibble
 
   -- ---- the ends
 
@@ -155,8 +155,5 @@ module _ (e : Edition) (b : Machine) (h : Since) (f : FitsMachine b) where
       flag : (0 * 2 + b.regs.df) % 256 ≡ b.regs.df
       flag = omega (arith, f.regs.df)
 
-  pub unknown81_comes : Entered (quick e) at_unknown81 b (now h) → stop_of e (now h) ≡ Some Unknown → h.spent ≤ 86 → Comes (quick e) (pieces (quick e)) (OfArith Unknown81) b h
-  unknown81_comes o stop spent = routine (OfArith Unknown81) o _ (omega arith) refl (λ h' g. to_fetch (quick e) g (quicks (code (quick e)) 2 (entered e at_unknown81 high low b)) refl (Leave 0) (record { holds = o.holds; p = refl; r3 = refl; stop = Unknown; fits = stop; number = refl }, omega arith) (omega (arith, spent, g.spent)))
-
   pub unknown82_comes : Entered (quick e) at_unknown82 b (now h) → stop_of e (now h) ≡ Some Unknown → h.spent ≤ 94 → Comes (quick e) (pieces (quick e)) (OfArith Unknown82) b h
-  unknown82_comes o stop spent = routine (OfArith Unknown82) o _ (omega arith) refl (λ h' g. to_fetch (quick e) g (quicks (code (quick e)) 2 (entered e at_unknown82 high low b)) refl (Leave 1) (record { holds = o.holds; p = refl; r3 = refl; stop = Unknown; fits = stop; number = refl }, omega arith) (omega (arith, spent, g.spent)))
+  unknown82_comes o stop spent = routine (OfArith Unknown82) o _ (omega arith) refl (λ h' g. to_fetch (quick e) g _ refl (Leave 1) (record { holds = o.holds; p = refl; r3 = refl; stop = Unknown; fits = stop; number = refl }, omega arith) (omega (arith, spent, g.spent)))

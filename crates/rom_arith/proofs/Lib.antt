@@ -4,3 +4,4 @@ pub mod Shared
 pub mod Loads
 pub mod Skips
 pub mod Arithmetic
+pub mod ArithLaw

@@ -1,6 +1,6 @@
 -- What loads, skips and 8XYN share: VX and VY, and the step at an end of several instructions.
-use Rattle.std.proofs.Common.{◌≡◌, ℕ, ◌+◌, ◌*◌, ◌/◌, ◌%◌, ◌<◌, refl, sym, arith, subst, true, cond}
-use Rattle.std.specs.Prelude.{Some, None}
+use Rattle.std.proofs.Common.{◌≡◌, ℕ, ◌+◌, ◌*◌, ◌/◌, ◌%◌, refl, sym, arith, subst, true}
+use Rattle.std.specs.Prelude.{None}
 use Rattle.machine.specs.Bank.{word_of}
 use Rattle.machine.specs.Memory.{read}
 use Rattle.machine.specs.Board.{Machine}
@@ -8,7 +8,6 @@ use Rattle.machine.specs.Ranges.{FitsMachine}
 use Rattle.chip8_lang.specs.declared.instr.Instr.{Instr}
 use Rattle.chip8_lang.specs.declared.instr.Instr.TheVariants.{Clear, Return, Machine as MachineCode, Call, Draw, SkipDown, SkipUp, WaitKey, Decimal, Store, Fetch, Unknown}
 use Rattle.chip8_lang.specs.declared.view.Edition.{Edition}
-use Rattle.chip8_lang.specs.declared.view.Stop.TheVariants.{FetchOutside}
 use Rattle.chip8_lang.specs.State.{Lang, variable, instr_at}
 use Rattle.chip8_lang.specs.Step.{stop_of, stop_of_instr}
 use Rattle.chip8_image.specs.Labels.{at_fetch}

@@ -1,9 +1,10 @@
--- What is proved of the jumps and calls.
+-- What is proved of jumps and calls, of loads, of skips and of 8XYN.
 use Rattle.chip8_lang.specs.declared.view.Edition.{Edition}
 use Rattle.chip8_rows.specs.Rom.{vip}
 use Rattle.chip8_rows.specs.JumpBlocks.{JumpBlock, jump_moves, jump_addresses, jump_areas}
+use Rattle.chip8_rows.specs.ArithBlocks.{ArithBlock}
 use Rattle.chip8_rows.specs.Table.{BlockRows}
-use Rattle.chip8_rows.specs.Table.Block.{OfJump}
+use Rattle.chip8_rows.specs.Table.Block.{OfJump, OfArith}
 use Rattle.chip8_rows.specs.Addresses.{RunsAt, Covers}
 
 -- every main move keeps the rows of 0MMM, of jumps and of calls
@@ -17,3 +18,7 @@ JumpAddresses = (e : Edition) (l : JumpBlock) → RunsAt (vip e) (OfJump l) (jum
 -- and each instruction of that code is in some block
 abbrev pub JumpCovers : Type 0
 JumpCovers = Covers JumpBlock jump_moves jump_addresses jump_areas
+
+-- every main move keeps the rows of loads, of skips and of 8XYN
+abbrev pub ArithRows : Type 0
+ArithRows = (e : Edition) (l : ArithBlock) → BlockRows (vip e) (OfArith l)

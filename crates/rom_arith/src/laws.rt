@@ -1,6 +1,6 @@
-//! What is proved of jumps and calls, each law the contract of a function without parameters.
+//! What is proved of jumps and calls, of loads, of skips and of 8XYN, each law the contract of a function without parameters.
 
-ghost use Rattle.rom_arith.specs.Laws.{JumpRows, JumpAddresses, JumpCovers};
+ghost use Rattle.rom_arith.specs.Laws.{JumpRows, JumpAddresses, JumpCovers, ArithRows};
 
 /// From every state in a row of 0MMM, of 00EE, of 1MMM, of 2MMM and of BMMM, a main move comes to a row of the table, to the next dispatch
 /// or to a stop, and carries on the record of what came since the last dispatch.
@@ -16,4 +16,10 @@ pub fn jump_addresses()
 /// Every instruction of 0MMM, of 00EE, of jumps and of calls is in one of these blocks.
 pub fn jump_covers()
     ensures { JumpCovers }
+{}
+
+/// The same of every row of 3XKK to 7XKK, of 8XYN and of 9XYN: the skips, the operations with their flag, and the stops of 5XYN, 8XYN and
+/// 9XYN with an N that is no instruction's.
+pub fn arith_rows()
+    ensures { ArithRows }
 {}

@@ -1,4 +1,4 @@
-//! The whole interpreter's jumps and calls, proved for both editions.
+//! The whole interpreter's jumps and calls, loads, skips and 8XYN, proved for both editions.
 //!
 //! It stands on the row table of `chip8_rows` and on the theory of rows of `rom_law`. The layer above may rely on the laws below alone: it
 //! needs no line of the ROM, and where code moves, only labels change.
