@@ -1,21 +1,21 @@
 -- 8XYN.
-use Rattle.std.proofs.Common.{◌≡◌, ℕ, ◌+◌, ◌-◌, ◌*◌, ◌/◌, ◌%◌, ◌<◌, ◌≤◌, refl, sym, ◌∙◌, ap₂, arith, subst, true, false, bit_and}
-use Rattle.std.specs.Prelude.{bit_or, bit_xor, Some}
+use Rattle.std.proofs.Common.{◌≡◌, ℕ, ◌+◌, ◌-◌, ◌*◌, ◌/◌, ◌%◌, ◌<◌, ◌≤◌, refl, sym, ◌∙◌, ap, ap₂, arith, subst, true, false, bit_and}
+use Rattle.std.specs.Prelude.{◌==◌, bit_or, bit_xor, Some}
 use Rattle.std.proofs.lemmas.Bool.{ne_eqb}
 use Rattle.std.proofs.lemmas.Nat.{and_mask, and_comm, or_comm, xor_comm, and_le_l, or_lt, xor_lt}
-use Rattle.machine.specs.Bank.{word}
+use Rattle.machine.specs.Bank.{word, value}
 use Rattle.machine.specs.Memory.{written}
 use Rattle.machine.specs.Board.{Machine}
 use Rattle.machine.specs.Ranges.{FitsMachine}
-use Rattle.chip8_lang.specs.declared.instr.Instr.TheVariants.{Copy}
+use Rattle.chip8_lang.specs.declared.instr.Instr.TheVariants.{Copy, Unknown as IsUnknown}
 use Rattle.chip8_lang.specs.declared.view.Edition.{Edition}
 use Rattle.chip8_lang.specs.declared.view.Stop.TheVariants.{Unknown}
+use Rattle.chip8_lang.specs.Decode.{arithmetic}
 use Rattle.chip8_lang.specs.State.{variable, instr_at}
-use Rattle.chip8_lang.specs.Step.{set, set_with_flag, stop_of, step}
+use Rattle.chip8_lang.specs.Step.{set, set_with_flag, stop_of, done_by}
 use Rattle.chip8_lang.specs.Step.KeyInput.{Nothing}
 use Rattle.chip8_image.specs.Labels.{at_arith, at_slot0, at_flag, at_unknown82, at_halt}
-use Rattle.rom_moves.specs.Code.{is_event}
-use Rattle.rom_moves.proofs.Moves.{quicks, Reaches, reaches_in, reaches_from}
+use Rattle.rom_moves.proofs.Moves.{AllGood, quicks, reaches_in, reaches_from}
 use Rattle.rom_law.specs.Program.{code}
 use Rattle.rom_law.specs.Holding.{places, Holding}
 use Rattle.rom_law.specs.Rows.{Since, Grows, Ends, now}
@@ -66,13 +66,20 @@ module _ (e : Edition) (b : Machine) (h : Since) (f : FitsMachine b) where
   -- ---- the branch by N
 
   pub arith_comes : Enters (quick e) at_arith 8 b (now h) → h.spent ≡ 80 → Comes (quick e) (pieces (quick e)) (OfArith Arith) b h
-  arith_comes o spent = routine (OfArith Arith) o.entered (quicks (code (quick e)) 6 (entered e at_arith high low b)) (omega arith) refl (λ h' g. to_arith (quick e) g (quicks (code (quick e)) 6 (entered e at_arith high low b)) calm (Operation (low % 16)) (record { entered = record { holds = o.entered.holds; inside = o.entered.inside; p = refl; r3 = ap₂ word (omega arith) slot; r4 = refl; r6 = refl; r7 = refl; rc = refl }; digit = o.digit }, refl, refl) (omega (arith, spent, g.spent)))
+  arith_comes o spent = routine (OfArith Arith) o.entered _ (omega arith) refl (λ h' g. to_arith (quick e) g _ calm (Operation (low % 16)) (
+    record {
+      entered = record { holds = o.entered.holds; inside = o.entered.inside; p = refl; r3 = ap₂ word (omega arith) branch; r4 = refl; r6 = refl; r7 = refl; rc = refl };
+      digit = o.digit;
+    },
+    refl,
+    refl,
+  ) (omega (arith, spent, g.spent)))
     where
-      slot : (bit_and low 15 * 2 % 256 + 8) % 256 ≡ (at_slot0 + 2 * (low % 16)) % 256
-      slot = rw (and_mask low 4) (omega arith)
+      branch : (bit_and low 15 * 2 % 256 + 8) % 256 ≡ (at_slot0 + 2 * (low % 16)) % 256
+      branch = rw (and_mask low 4) (omega arith)
 
-      calm : is_event (code (quick e)) (quicks (code (quick e)) 6 (entered e at_arith high low b)) ≡ false
-      calm = ne_eqb (130 * 256 + (bit_and low 15 * 2 % 256 + 8) % 256) at_halt (λ k. omega (arith, k))
+      calm : (130 * 256 + (bit_and low 15 * 2 % 256 + 8) % 256 == at_halt) ≡ false
+      calm = ne_eqb _ at_halt (λ k. omega (arith, k))
 
   -- ---- the operations
 
@@ -80,72 +87,96 @@ module _ (e : Edition) (b : Machine) (h : Since) (f : FitsMachine b) where
   abbrev Case : ℕ → Type 0
   Case n = Enters (quick e) (at_slot0 + 2 * n) 8 b (now h) → low % 16 ≡ n → b.regs.x ≡ 6 → h.spent ≡ 92 → Comes (quick e) (pieces (quick e)) (OfArith (Operation n)) b h
 
-  module _ (n : ℕ) (o : Enters (quick e) (at_slot0 + 2 * n) 8 b (now h)) (nibble : low % 16 ≡ n) (by_r6 : b.regs.x ≡ 6) (spent : h.spent ≡ 92) where
-    is_pointed : b ≡ pointed (at_slot0 + 2 * n) b.regs.d b.regs.df
+  -- V0 to VF lie above the byte at R2
+  abbrev Room : Type 0
+  Room = value b.regs.r.r2 < page_of e * 256 + 0xf0
+
+  room : {a : ℕ} → Entered (quick e) a b (now h) → Room
+  room o = omega (arith, o.holds.stack, stack_top_is e)
+
+  module _ (n : ℕ) where
+    abbrev slot : Machine
+    slot = pointed (at_slot0 + 2 * n) b.regs.d b.regs.df
+
+    is_slot : Enters (quick e) (at_slot0 + 2 * n) 8 b (now h) → b.regs.x ≡ 6 → b ≡ slot
     unfolding pointed
-    is_pointed = is_entered o.entered ∙ (λ i. record (entered e (at_slot0 + 2 * n) high low b) { regs = record (entered e (at_slot0 + 2 * n) high low b).regs { x = by_r6 i } })
+    is_slot o by_r6 = is_entered o.entered ∙ (λ i. record (entered e (at_slot0 + 2 * n) high low b) { regs = record (entered e (at_slot0 + 2 * n) high low b).regs { x = by_r6 i } })
 
-    -- its instructions lead to c
-    operation : (c : Machine) → Reaches (code (quick e)) (arith_moves (Operation n)) (pointed (at_slot0 + 2 * n) b.regs.d b.regs.df) c → ((h' : Since) → Grows h (arith_moves (Operation n)) 0 h' → Ends (quick e) (pieces (quick e)) c h') → Comes (quick e) (pieces (quick e)) (OfArith (Operation n)) b h
-    operation c reach ends = record { runs = ready o.entered.holds; awake = o.entered.holds.awake; some = some (OfArith (Operation n)); end = c; reaches = reaches_from (code (quick e)) (arith_moves (Operation n)) b _ _ is_pointed reach; ends = ends }
+    decoded : Enters (quick e) (at_slot0 + 2 * n) 8 b (now h) → low % 16 ≡ n → instr_at (now h) ≡ arithmetic n (high % 16) (low / 16) (high * 256 + low)
+    decoded o nibble = rw (o.digit, nibble) refl
 
-    -- it leaves a value of VX and VY in D, and a flag in DF
-    flagged : (d df : ℕ → ℕ → ℕ) → has_shared_end (instr_at (now h)) ≡ true → step e Nothing (now h) ≡ set_with_flag (high % 16) (d vx vy) (df vx vy) (now h) → arith_moves (Operation n) ≤ 5
-        → Reaches (code (quick e)) (arith_moves (Operation n)) (pointed (at_slot0 + 2 * n) b.regs.d b.regs.df) (pointed at_flag (d (byte_x e b (now h)) (byte_y e b (now h))) (df (byte_x e b (now h)) (byte_y e b (now h))))
-        → Comes (quick e) (pieces (quick e)) (OfArith (Operation n)) b h
+    -- its instructions lead to c; what follows there is given
+    operation : (c : Machine) → (Room → AllGood (code (quick e)) (arith_moves (Operation n)) slot) → quicks (code (quick e)) (arith_moves (Operation n)) slot ≡ c → (Enters (quick e) (at_slot0 + 2 * n) 8 b (now h) → instr_at (now h) ≡ arithmetic n (high % 16) (low / 16) (high * 256 + low) → h.spent ≡ 92 → (h' : Since) → Grows h (arith_moves (Operation n)) 0 h' → Ends (quick e) (pieces (quick e)) c h') → Case n
+    operation c good is ends o nibble by_r6 spent = record {
+      runs = ready o.entered.holds;
+      awake = o.entered.holds.awake;
+      some = some (OfArith (Operation n));
+      end = c;
+      reaches = reaches_from (code (quick e)) (arith_moves (Operation n)) b _ _ (is_slot o by_r6) (reaches_in (code (quick e)) (arith_moves (Operation n)) _ _ (good (room o.entered)) is);
+      ends = ends o (decoded o nibble) spent;
+    }
+
+    -- The instruction has a flag: it puts value of VX and VY into VX, and flag of them into VF.
+    abbrev Flagged : (value flag : ℕ → ℕ → ℕ) → Type 0
+    Flagged value flag = let i = arithmetic n (high % 16) (low / 16) (high * 256 + low) in Entered (quick e) (at_slot0 + 2 * n) b (now h) → (has_shared_end i ≡ true) × (done_by e i Nothing (now h) ≡ set_with_flag (high % 16) (value vx vy) (flag vx vy) (now h))
+
+    -- its code leaves them in D and DF
+    flagged : (value flag : ℕ → ℕ → ℕ) → Flagged value flag → arith_moves (Operation n) ≤ 5 → (Room → AllGood (code (quick e)) (arith_moves (Operation n)) slot) → quicks (code (quick e)) (arith_moves (Operation n)) slot ≡ pointed at_flag (value (byte_x e b (now h)) (byte_y e b (now h))) (flag (byte_x e b (now h)) (byte_y e b (now h))) → Case n
     unfolding pointed
-    flagged d df shared makes short reach = operation _ reach (λ h' g. to_arith (quick e) g _ refl Flag (record { entered = goes o.entered at_flag _ _; shared = shared; makes = makes ∙ ap₂ (λ x y. set_with_flag (high % 16) (d x y) (df x y) (now h)) (sym (is_vx o.entered)) (sym (is_vy o.entered f)) }) (omega (arith, spent, short, g.spent)))
+    flagged value flag does short good is = operation _ good is (λ o instr spent h' g. to_arith (quick e) g _ refl Flag (record {
+      entered = goes o.entered at_flag _ _;
+      shared = ap has_shared_end instr ∙ (does o.entered).0;
+      makes = ap (λ i. done_by e i Nothing (now h)) instr ∙ (does o.entered).1 ∙ ap₂ (λ x y. set_with_flag (high % 16) (value x y) (flag x y) (now h)) (sym (is_vx o.entered)) (sym (is_vy o.entered f));
+    }) (omega (arith, spent, short, g.spent)))
 
-    -- it leaves a value of VY and VX in D, and 0 is added
-    combined : (op : ℕ → ℕ → ℕ) → ((v w : ℕ) → op v w ≡ op w v) → op vy vx < 256 → has_shared_end (instr_at (now h)) ≡ true → step e Nothing (now h) ≡ set_with_flag (high % 16) (op vx vy) 0 (now h) → arith_moves (Operation n) ≤ 5
-        → Reaches (code (quick e)) (arith_moves (Operation n)) (pointed (at_slot0 + 2 * n) b.regs.d b.regs.df) (pointed at_flag ((op (byte_y e b (now h)) (byte_x e b (now h)) + 0) % 256) ((op (byte_y e b (now h)) (byte_x e b (now h)) + 0) / 256))
-        → Comes (quick e) (pieces (quick e)) (OfArith (Operation n)) b h
-    combined op comm fits shared makes = flagged (λ x y. (op y x + 0) % 256) (λ x y. (op y x + 0) / 256) shared (makes ∙ ap₂ (λ y c. set_with_flag (high % 16) y c (now h)) (omega (arith, comm vx vy, fits)) (omega (arith, fits)))
+  -- the same of a byte z and of no flag, where 0 is added to z
+  cleared : (v z : ℕ) → v ≡ z → z < 256 → set_with_flag (high % 16) v 0 (now h) ≡ set_with_flag (high % 16) ((z + 0) % 256) ((z + 0) / 256) (now h)
+  cleared v z same fits = ap₂ (λ y c. set_with_flag (high % 16) y c (now h)) (omega (arith, same, fits)) (omega (arith, fits))
 
   copy : Case 0
   unfolding pointed
-  copy o n by_r6 spent = operation 0 o n by_r6 spent _ (reaches_in (code (quick e)) 4 _ _ (omega (arith, o.entered.holds.stack, stack_top_is e)) refl) (λ h' g. steps e g (Copy (high % 16) (low / 16)) (rw (o.digit, n) refl) refl (rw (o.entered.inside, o.digit, n) refl) _ (subst (λ y. Holding (quick e) (record (places b) { ram = written b.latch b.ram (page_of e * 256 + (240 + high % 16)) (byte_y e b (now h)) }) (set (high % 16) y (now h))) (is_vy o.entered f) (v_set o.entered.holds _ (high % 16) _ (omega (arith, variables_is e)) (omega arith))) refl refl)
+  copy = operation 0 _ (λ r. omega (arith, r)) refl (λ o instr spent h' g. steps e g (Copy (high % 16) (low / 16)) instr refl (rw (o.entered.inside, instr) refl) _ (subst (λ y. Holding (quick e) (record (places b) { ram = written b.latch b.ram (page_of e * 256 + (240 + high % 16)) (byte_y e b (now h)) }) (set (high % 16) y (now h))) (is_vy o.entered f) (v_set o.entered.holds _ (high % 16) _ (omega (arith, variables_is e)) (omega arith))) refl refl)
 
   vx_or : Case 1
   unfolding pointed
-  vx_or o n by_r6 spent = combined 1 o n by_r6 spent bit_or or_comm (or_lt 8 vy vx (y_fits o.entered) (x_fits o.entered)) (rw (o.digit, n) refl) (rw (o.digit, n) refl) (omega arith) (reaches_in (code (quick e)) 5 _ _ (omega (arith, o.entered.holds.stack, stack_top_is e)) refl)
+  vx_or = flagged 1 (λ x y. (bit_or y x + 0) % 256) (λ x y. (bit_or y x + 0) / 256) (λ o. (refl, cleared (bit_or vx vy) (bit_or vy vx) (or_comm vx vy) (or_lt 8 vy vx (y_fits o) (x_fits o)))) (omega arith) (λ r. omega (arith, r)) refl
 
   vx_and : Case 2
   unfolding pointed
-  vx_and o n by_r6 spent = combined 2 o n by_r6 spent bit_and and_comm (omega (arith, and_le_l vy vx, y_fits o.entered)) (rw (o.digit, n) refl) (rw (o.digit, n) refl) (omega arith) (reaches_in (code (quick e)) 5 _ _ (omega (arith, o.entered.holds.stack, stack_top_is e)) refl)
+  vx_and = flagged 2 (λ x y. (bit_and y x + 0) % 256) (λ x y. (bit_and y x + 0) / 256) (λ o. (refl, cleared (bit_and vx vy) (bit_and vy vx) (and_comm vx vy) (omega (arith, and_le_l vy vx, y_fits o)))) (omega arith) (λ r. omega (arith, r)) refl
 
   vx_xor : Case 3
   unfolding pointed
-  vx_xor o n by_r6 spent = combined 3 o n by_r6 spent bit_xor xor_comm (xor_lt 8 vy vx (y_fits o.entered) (x_fits o.entered)) (rw (o.digit, n) refl) (rw (o.digit, n) refl) (omega arith) (reaches_in (code (quick e)) 5 _ _ (omega (arith, o.entered.holds.stack, stack_top_is e)) refl)
+  vx_xor = flagged 3 (λ x y. (bit_xor y x + 0) % 256) (λ x y. (bit_xor y x + 0) / 256) (λ o. (refl, cleared (bit_xor vx vy) (bit_xor vy vx) (xor_comm vx vy) (xor_lt 8 vy vx (y_fits o) (x_fits o)))) (omega arith) (λ r. omega (arith, r)) refl
 
   sum : Case 4
   unfolding pointed
-  sum o n by_r6 spent = flagged 4 o n by_r6 spent (λ x y. (x + y) % 256) (λ x y. (x + y) / 256) (rw (o.digit, n) refl) (rw (o.digit, n) refl) (omega arith) (reaches_in (code (quick e)) 4 _ _ (omega (arith, o.entered.holds.stack, stack_top_is e)) refl)
+  sum = flagged 4 (λ x y. (x + y) % 256) (λ x y. (x + y) / 256) (λ o. (refl, refl)) (omega arith) (λ r. omega (arith, r)) refl
 
   less : Case 5
   unfolding pointed
-  less o n by_r6 spent = flagged 5 o n by_r6 spent (λ x y. (x + 256 - y) % 256) (λ x y. (x + 256 - y) / 256) (rw (o.digit, n) refl) (rw (o.digit, n) refl) (omega arith) (reaches_in (code (quick e)) 4 _ _ (omega (arith, o.entered.holds.stack, stack_top_is e)) refl)
+  less = flagged 5 (λ x y. (x + 256 - y) % 256) (λ x y. (x + 256 - y) / 256) (λ o. (refl, refl)) (omega arith) (λ r. omega (arith, r)) refl
 
   right : Case 6
   unfolding pointed
-  right o n by_r6 spent = flagged 6 o n by_r6 spent (λ x y. y / 2) (λ x y. y % 2) (rw (o.digit, n) refl) (rw (o.digit, n) refl) (omega arith) (reaches_in (code (quick e)) 4 _ _ (omega (arith, o.entered.holds.stack, stack_top_is e)) refl)
+  right = flagged 6 (λ x y. y / 2) (λ x y. y % 2) (λ o. (refl, refl)) (omega arith) (λ r. omega (arith, r)) refl
 
   from : Case 7
   unfolding pointed
-  from o n by_r6 spent = flagged 7 o n by_r6 spent (λ x y. (y + 256 - x) % 256) (λ x y. (y + 256 - x) / 256) (rw (o.digit, n) refl) (rw (o.digit, n) refl) (omega arith) (reaches_in (code (quick e)) 4 _ _ (omega (arith, o.entered.holds.stack, stack_top_is e)) refl)
+  from = flagged 7 (λ x y. (y + 256 - x) % 256) (λ x y. (y + 256 - x) / 256) (λ o. (refl, refl)) (omega arith) (λ r. omega (arith, r)) refl
 
   left : Case 14
   unfolding pointed
-  left o n by_r6 spent = flagged 14 o n by_r6 spent (λ x y. y * 2 % 256) (λ x y. y * 2 / 256) (rw (o.digit, n) refl) (rw (o.digit, n) refl) (omega arith) (reaches_in (code (quick e)) 4 _ _ (omega (arith, o.entered.holds.stack, stack_top_is e)) refl)
+  left = flagged 14 (λ x y. y * 2 % 256) (λ x y. y * 2 / 256) (λ o. (refl, refl)) (omega arith) (λ r. omega (arith, r)) refl
 
-  -- where N is none of these, the opcode is unknown
-  other : (n : ℕ) (o : Enters (quick e) (at_slot0 + 2 * n) 8 b (now h)) → low % 16 ≡ n → b.regs.x ≡ 6 → h.spent ≡ 92 → arith_moves (Operation n) ≡ 1 → Reaches (code (quick e)) (arith_moves (Operation n)) (pointed (at_slot0 + 2 * n) b.regs.d b.regs.df) (pointed at_unknown82 b.regs.d b.regs.df) → stop_of e (now h) ≡ Some Unknown → Comes (quick e) (pieces (quick e)) (OfArith (Operation n)) b h
+  -- where N is no instruction's
+  other : (n : ℕ) → arith_moves (Operation n) ≡ 1 → AllGood (code (quick e)) (arith_moves (Operation n)) (slot n) → quicks (code (quick e)) (arith_moves (Operation n)) (slot n) ≡ pointed at_unknown82 b.regs.d b.regs.df → ((x y o : ℕ) → arithmetic n x y o ≡ IsUnknown o) → Case n
   unfolding pointed
-  other n o nibble by_r6 spent one reach stop = operation n o nibble by_r6 spent _ reach (λ h' g. to_arith (quick e) g _ refl Unknown82 (goes o.entered at_unknown82 _ _, stop) (omega (arith, spent, one, g.spent)))
+  other n one good is unknown = operation n _ (λ r. good) is (λ o instr spent h' g. to_arith (quick e) g _ refl Unknown82 (goes o.entered at_unknown82 _ _, rw (o.entered.inside, instr, unknown (high % 16) (low / 16) (high * 256 + low)) refl) (omega (arith, spent, one, g.spent)))
 
   pub operation_comes : (n : ℕ) → Case n
   unfolding pointed
-  operation_comes n o nibble = by_digit Case copy vx_or vx_and vx_xor sum less right from (λ o n by_r6 spent. other 8 o n by_r6 spent refl (reaches_in (code (quick e)) 1 _ _ (omega arith) refl) (rw (o.entered.inside, o.digit, n) refl)) (λ o n by_r6 spent. other 9 o n by_r6 spent refl (reaches_in (code (quick e)) 1 _ _ (omega arith) refl) (rw (o.entered.inside, o.digit, n) refl)) (λ o n by_r6 spent. other 10 o n by_r6 spent refl (reaches_in (code (quick e)) 1 _ _ (omega arith) refl) (rw (o.entered.inside, o.digit, n) refl)) (λ o n by_r6 spent. other 11 o n by_r6 spent refl (reaches_in (code (quick e)) 1 _ _ (omega arith) refl) (rw (o.entered.inside, o.digit, n) refl)) (λ o n by_r6 spent. other 12 o n by_r6 spent refl (reaches_in (code (quick e)) 1 _ _ (omega arith) refl) (rw (o.entered.inside, o.digit, n) refl)) (λ o n by_r6 spent. other 13 o n by_r6 spent refl (reaches_in (code (quick e)) 1 _ _ (omega arith) refl) (rw (o.entered.inside, o.digit, n) refl)) left (λ o n by_r6 spent. other 15 o n by_r6 spent refl (reaches_in (code (quick e)) 1 _ _ (omega arith) refl) (rw (o.entered.inside, o.digit, n) refl)) n (omega (arith, nibble)) o nibble
+  operation_comes n o nibble = by_digit Case copy vx_or vx_and vx_xor sum less right from (other 8 refl (omega arith) refl (λ x y o. refl)) (other 9 refl (omega arith) refl (λ x y o. refl)) (other 10 refl (omega arith) refl (λ x y o. refl)) (other 11 refl (omega arith) refl (λ x y o. refl)) (other 12 refl (omega arith) refl (λ x y o. refl)) (other 13 refl (omega arith) refl (λ x y o. refl)) left (other 15 refl (omega arith) refl (λ x y o. refl)) n (omega (arith, nibble)) o nibble
 
   -- ---- the ends
 
