@@ -17,9 +17,9 @@ use Rattle.rom_law.specs.Program.{code}
 use Rattle.rom_law.specs.Rows.{Since, now}
 use Rattle.rom_law.proofs.Places.{pc_is, pc_set}
 use Rattle.rom_law.proofs.Kept.{Comes}
-use Rattle.chip8_rows.specs.Heads.{high_byte, low_byte, Entered, Enters}
+use Rattle.chip8_rows.specs.Heads.{Within, high_byte, low_byte, Entered, Enters}
 use Rattle.chip8_rows.specs.FetchBlocks.FetchBlock.{Leave}
-use Rattle.chip8_rows.specs.ArithBlocks.{ArithBlock, no_skip_labels, has_shared_end, Ending, arith_moves}
+use Rattle.chip8_rows.specs.ArithBlocks.{ArithBlock, no_skip_labels, has_shared_end, Ending, arith_at, arith_moves, arith_time}
 use Rattle.chip8_rows.specs.ArithBlocks.ArithBlock.{SkipEq, SkipNe, SkipSame, SameTest, SkipDiffer, DifferTest, NoSkip, Skip, Unknown81}
 use Rattle.chip8_rows.specs.Table.{pieces}
 use Rattle.chip8_rows.specs.Table.Block.{OfArith}
@@ -102,15 +102,17 @@ module _ (e : Edition) (b : Machine) (h : Since) (f : FitsMachine b) where
   n_other : not (bit_and low 15 == 0) ≡ true → low % 16 ≡ 0 → ⊥
   n_other k n = nonzero (bit_and low 15) k (and_mask low 4 ∙ n)
 
+  -- the block l tests N, and where it is 0 goes on at the block m, at w
+  n_test : (l m : ArithBlock) (w : ℕ) {a d : ℕ} → (o : Enters (quick e) a d b (now h)) → h.spent + 2 * arith_moves l ≡ 86 → ((low % 16 ≡ 0 → ⊥) → stop_of e (now h) ≡ Some Unknown) → ((h' : Since) → h'.spent ≡ 86 → Within (arith_time m) h') → ((c : Machine) → Enters (quick e) w d c (now h) × (low % 16 ≡ 0) → arith_at (quick e) m c (now h)) → (value (word_of w) == at_halt) ≡ false → AllGood (code (quick e)) (arith_moves l) (entered e a high low b) → quicks (code (quick e)) (arith_moves l) (entered e a high low b) ≡ looked e high low b (bit_and low 15) (cond (not (bit_and low 15 == 0)) (word_of at_unknown81) (word_of w)) → Comes (quick e) (pieces (quick e)) (OfArith l) b h
+  n_test l m w o spent unknown time at calm good is = branch (OfArith l) o.entered (looked e high low b (bit_and low 15)) (not (bit_and low 15 == 0)) at_unknown81 w good is
+      (λ k h' g. to_arith (quick e) g _ refl Unknown81 (looks (bit_and low 15) at_unknown81 o.entered, unknown (n_other k)) (omega (arith, spent, g.spent)))
+      (λ k h' g. to_arith (quick e) g _ calm m (at _ (record { entered = looks (bit_and low 15) w o.entered; digit = o.digit }, n_zero k)) (time h' (omega (arith, spent, g.spent))))
+
   pub skip_same_comes : Enters (quick e) at_skip_same 5 b (now h) → h.spent ≡ 80 → Comes (quick e) (pieces (quick e)) (OfArith SkipSame) b h
-  skip_same_comes o spent = branch (OfArith SkipSame) o.entered (looked e high low b (bit_and low 15)) (not (bit_and low 15 == 0)) at_unknown81 at_skip_same_test (omega arith) refl
-      (λ k h' g. to_arith (quick e) g _ refl Unknown81 (looks (bit_and low 15) at_unknown81 o.entered, rw (o.entered.inside, o.digit, ne_eqb (low % 16) 0 (n_other k)) refl) (omega (arith, spent, g.spent)))
-      (λ k h' g. to_arith (quick e) g _ refl SameTest (record { entered = looks (bit_and low 15) at_skip_same_test o.entered; digit = o.digit }, n_zero k) (omega (arith, spent, g.spent)))
+  skip_same_comes o spent = n_test SkipSame SameTest at_skip_same_test o (omega (arith, spent)) (λ d. rw (o.entered.inside, o.digit, ne_eqb (low % 16) 0 d) refl) (λ h' t. t) (λ c z. z) refl (omega arith) refl
 
   pub skip_differ_comes : Enters (quick e) at_skip_differ 9 b (now h) → h.spent ≡ 80 → Comes (quick e) (pieces (quick e)) (OfArith SkipDiffer) b h
-  skip_differ_comes o spent = branch (OfArith SkipDiffer) o.entered (looked e high low b (bit_and low 15)) (not (bit_and low 15 == 0)) at_unknown81 at_differ_test (omega arith) refl
-      (λ k h' g. to_arith (quick e) g _ refl Unknown81 (looks (bit_and low 15) at_unknown81 o.entered, rw (o.entered.inside, o.digit, ne_eqb (low % 16) 0 (n_other k)) refl) (omega (arith, spent, g.spent)))
-      (λ k h' g. to_arith (quick e) g _ refl DifferTest (record { entered = looks (bit_and low 15) at_differ_test o.entered; digit = o.digit }, n_zero k) (omega (arith, spent, g.spent)))
+  skip_differ_comes o spent = n_test SkipDiffer DifferTest at_differ_test o (omega (arith, spent)) (λ d. rw (o.entered.inside, o.digit, ne_eqb (low % 16) 0 d) refl) (λ h' t. t) (λ c z. z) refl (omega arith) refl
 
   -- ---- the ends
 
