@@ -1,5 +1,5 @@
 -- The blocks of loads, of skips and of 8XYN.
-use Rattle.std.specs.Prelude.{◌≡◌, ℕ, suc, ◌+◌, ◌*◌, ◌%◌, ◌<◌, Bool, true, false, List, [], ◌∷◌, slice_index, Some}
+use Rattle.std.specs.Prelude.{◌≡◌, ℕ, suc, ◌+◌, ◌*◌, ◌%◌, ◌<◌, Bool, true, false, List, [], ◌∷◌, ◌++◌, slice_index, Some}
 use Rattle.machine.specs.Board.{Machine}
 use Rattle.chip8_lang.specs.declared.instr.Instr.{Instr}
 use Rattle.chip8_lang.specs.declared.instr.Instr.TheVariants.{SkipEq as IsSkipEq, SkipNe as IsSkipNe, SkipSame as IsSkipSame, SkipDiffer as IsSkipDiffer, Or, And, Xor, Sum, Less, Right, From, Left}
@@ -7,9 +7,11 @@ use Rattle.chip8_lang.specs.declared.view.Stop.TheVariants.{Unknown}
 use Rattle.chip8_lang.specs.State.{Lang, instr_at}
 use Rattle.chip8_lang.specs.Step.{skip_if, set_with_flag, step}
 use Rattle.chip8_lang.specs.Step.KeyInput.{Nothing}
-use Rattle.chip8_image.specs.Labels.{at_load, at_add, at_skip_eq, at_skip_eq_no, at_skip_ne, at_skip_ne_no, at_skip_same, at_skip_same_test, at_skip_same_no, at_skip_differ, at_differ_test, at_differ_no, at_skip, at_unknown81, at_arith, at_slot0, at_flag, at_unknown82}
+use Rattle.chip8_image.specs.declared.parts.Part.TheVariants.{Arith as IsArith}
+use Rattle.chip8_image.specs.Labels.{at_load, at_add, at_skip_eq, at_skip_eq_no, at_skip_ne, at_skip_ne_no, at_skip_same, at_skip_same_test, at_skip_same_no, at_skip_differ, at_differ_test, at_differ_no, at_skip, at_unknown81, at_arith, at_slot0, at_copy, at_vx_or, at_vx_and, at_vx_xor, at_sum, at_less, at_right, at_from, at_left, at_no_flag, at_flag, at_unknown82}
+use Rattle.chip8_image.specs.Parts.{Area, area}
 use Rattle.rom_law.specs.Program.{Program}
-use Rattle.chip8_rows.specs.Heads.{Time, high_byte, low_byte, Entered, Enters}
+use Rattle.chip8_rows.specs.Heads.{Time, from, high_byte, low_byte, Entered, Enters}
 use Rattle.chip8_rows.specs.Heads.Time.{Exactly, AtMost}
 
 pub data ArithBlock : Type 0 where
@@ -113,3 +115,32 @@ arith_time (Operation n) = Exactly 92
 arith_time Flag = AtMost 102
 arith_time Unknown82 = AtMost 94
 arith_time _ = Exactly 80
+
+-- where the code of each of 8XY0 to 8XYF begins
+abbrev pub operation_labels : List ℕ
+operation_labels =
+    at_copy ∷ at_vx_or ∷ at_vx_and ∷ at_vx_xor ∷ at_sum ∷ at_less ∷ at_right ∷ at_from ∷
+    at_unknown82 ∷ at_unknown82 ∷ at_unknown82 ∷ at_unknown82 ∷ at_unknown82 ∷ at_unknown82 ∷ at_left ∷ at_unknown82 ∷
+    []
+
+-- where a block's instructions begin
+abbrev pub arith_addresses : ArithBlock → List ℕ
+arith_addresses Load = from at_load (0 ∷ 1 ∷ 2 ∷ [])
+arith_addresses Add = from at_add (0 ∷ 1 ∷ 2 ∷ 3 ∷ 4 ∷ [])
+arith_addresses SkipEq = from at_skip_eq (0 ∷ 1 ∷ 2 ∷ 3 ∷ [])
+arith_addresses SkipNe = from at_skip_ne (0 ∷ 1 ∷ 2 ∷ 3 ∷ [])
+arith_addresses SkipSame = from at_skip_same (0 ∷ 1 ∷ 3 ∷ [])
+arith_addresses SameTest = from at_skip_same_test (0 ∷ 1 ∷ 2 ∷ 3 ∷ [])
+arith_addresses SkipDiffer = from at_skip_differ (0 ∷ 1 ∷ 3 ∷ [])
+arith_addresses DifferTest = from at_differ_test (0 ∷ 1 ∷ 2 ∷ 3 ∷ [])
+arith_addresses (NoSkip i) = slice_index no_skip_labels i ∷ []
+arith_addresses Skip = from at_skip (0 ∷ 1 ∷ 2 ∷ [])
+arith_addresses Unknown81 = from at_unknown81 (0 ∷ 2 ∷ [])
+arith_addresses Arith = from at_arith (0 ∷ 1 ∷ 2 ∷ 4 ∷ 5 ∷ 7 ∷ [])
+arith_addresses (Operation n) = (at_slot0 + 2 * n) ∷ from (slice_index operation_labels n) (0 ∷ 1 ∷ 2 ∷ []) ++ at_no_flag ∷ []
+arith_addresses Flag = from at_flag (0 ∷ 1 ∷ 3 ∷ 4 ∷ 6 ∷ 7 ∷ 9 ∷ 10 ∷ 11 ∷ [])
+arith_addresses Unknown82 = from at_unknown82 (0 ∷ 2 ∷ [])
+
+-- loads and skips, and 8XYN
+abbrev pub arith_areas : List Area
+arith_areas = area 0x8153 0x8183 IsArith ∷ area 0x8200 0x825c IsArith ∷ []

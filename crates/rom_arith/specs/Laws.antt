@@ -2,7 +2,7 @@
 use Rattle.chip8_lang.specs.declared.view.Edition.{Edition}
 use Rattle.chip8_rows.specs.Rom.{vip}
 use Rattle.chip8_rows.specs.JumpBlocks.{JumpBlock, jump_moves, jump_addresses, jump_areas}
-use Rattle.chip8_rows.specs.ArithBlocks.{ArithBlock}
+use Rattle.chip8_rows.specs.ArithBlocks.{ArithBlock, arith_moves, arith_addresses, arith_areas}
 use Rattle.chip8_rows.specs.Table.{BlockRows}
 use Rattle.chip8_rows.specs.Table.Block.{OfJump, OfArith}
 use Rattle.chip8_rows.specs.Addresses.{RunsAt, Covers}
@@ -22,3 +22,9 @@ JumpCovers = Covers JumpBlock jump_moves jump_addresses jump_areas
 -- every main move keeps the rows of loads, of skips and of 8XYN
 abbrev pub ArithRows : Type 0
 ArithRows = (e : Edition) (l : ArithBlock) → BlockRows (vip e) (OfArith l)
+
+abbrev pub ArithAddresses : Type 0
+ArithAddresses = (e : Edition) (l : ArithBlock) → RunsAt (vip e) (OfArith l) (arith_addresses l)
+
+abbrev pub ArithCovers : Type 0
+ArithCovers = Covers ArithBlock arith_moves arith_addresses arith_areas
