@@ -129,7 +129,7 @@ module _ (e : Edition) (b : Machine) (h : Since) (f : FitsMachine b) where
       makes = ap (λ i. done_by e i Nothing (now h)) instr ∙ (does o.entered).1 ∙ ap₂ (λ x y. set_with_flag (high % 16) (value x y) (flag x y) (now h)) (sym (is_vx o.entered)) (sym (is_vy o.entered f));
     }) (omega (arith, spent, short, g.spent)))
 
-  -- the same of a byte z and of no flag, where 0 is added to z
+  -- a byte z to which 0 is added stays in D, and DF is 0
   cleared : (v z : ℕ) → v ≡ z → z < 256 → set_with_flag (high % 16) v 0 (now h) ≡ set_with_flag (high % 16) ((z + 0) % 256) ((z + 0) / 256) (now h)
   cleared v z same fits = ap₂ (λ y c. set_with_flag (high % 16) y c (now h)) (omega (arith, same, fits)) (omega (arith, fits))
 
@@ -169,7 +169,7 @@ module _ (e : Edition) (b : Machine) (h : Since) (f : FitsMachine b) where
   unfolding pointed
   left = flagged 14 (λ x y. y * 2 % 256) (λ x y. y * 2 / 256) (λ o. (refl, refl)) (omega arith) (λ r. omega (arith, r)) refl
 
-  -- where N is no instruction's
+  -- where N is that of no instruction, the opcode is unknown
   other : (n : ℕ) → arith_moves (Operation n) ≡ 1 → AllGood (code (quick e)) (arith_moves (Operation n)) (slot n) → quicks (code (quick e)) (arith_moves (Operation n)) (slot n) ≡ pointed at_unknown82 b.regs.d b.regs.df → ((x y o : ℕ) → arithmetic n x y o ≡ IsUnknown o) → Case n
   unfolding pointed
   other n one good is unknown = operation n _ (λ r. good) is (λ o instr spent h' g. to_arith (quick e) g _ refl Unknown82 (goes o.entered at_unknown82 _ _, rw (o.entered.inside, instr, unknown (high % 16) (low / 16) (high * 256 + low)) refl) (omega (arith, spent, one, g.spent)))
