@@ -35,6 +35,13 @@ nonzero n k = eqb-false n 0 (not_true (n == 0) k)
 pub is_zero : (n : ℕ) → not (n == 0) ≡ false → n ≡ 0
 is_zero n k = eqb-true n 0 (not_false (n == 0) k)
 
+-- BNF
+pub borrowed : (n : ℕ) → not (n == 1) ≡ true → n ≡ 1 → ⊥
+borrowed n k = eqb-false n 1 (not_true (n == 1) k)
+
+pub not_borrowed : (n : ℕ) → not (n == 1) ≡ false → n ≡ 1
+not_borrowed n k = eqb-true n 1 (not_false (n == 1) k)
+
 -- a branch
 pub taken : (t : Bool) (a c : Word) → t ≡ true → cond t a c ≡ a
 taken t a c e = rw e refl

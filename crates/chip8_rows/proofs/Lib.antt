@@ -10,3 +10,5 @@ pub mod Straight
 pub mod Branches
 pub mod Addresses
 pub mod Alone
+pub mod Ways
+pub mod Font

@@ -19,10 +19,11 @@ use Rattle.chip8_rows.specs.JumpBlocks.{JumpBlock, jump_moves}
 use Rattle.chip8_rows.specs.JumpBlocks.JumpBlock.{System, SystemLow, SystemBack, MachineCode, Return, ReturnTake, Empty, JumpTo, Call, CallPut, Full, JumpPlus}
 use Rattle.chip8_rows.specs.ArithBlocks.{ArithBlock, arith_moves}
 use Rattle.chip8_rows.specs.ArithBlocks.ArithBlock.{Load, Add, SkipEq, SkipNe, SkipSame, SameTest, SkipDiffer, DifferTest, NoSkip, Skip, Unknown81, Arith, Operation, Flag, Unknown82}
+use Rattle.chip8_rows.specs.Checks.Answer.{InGame, InFont, Nowhere}
 use Rattle.chip8_rows.specs.MemoryBlocks.{MemoryBlock, memory_moves}
-use Rattle.chip8_rows.specs.MemoryBlocks.MemoryBlock.{Index, AddIndex, Digit, Decimal, Store, Restore}
+use Rattle.chip8_rows.specs.MemoryBlocks.MemoryBlock.{Index, AddIndex, Digit, Check, CheckGame, CheckFont, CheckLow, Answering, Decimal, DecimalFound, Hundreds, HundredsEnd, Tens, TensEnd, Store, StoreFound, StoreByte, StoreEnd, Restore, RestoreFound, RestoreByte, RestoreEnd}
 use Rattle.chip8_rows.specs.SpriteBlocks.{SpriteBlock, sprite_moves}
-use Rattle.chip8_rows.specs.SpriteBlocks.SpriteBlock.{Draw, Clear}
+use Rattle.chip8_rows.specs.SpriteBlocks.SpriteBlock.{Draw, DrawFound, Clear}
 use Rattle.chip8_rows.specs.TimerBlocks.{TimerBlock, TimerPlace, timer_moves, timer_place_at, timer_place_time}
 use Rattle.chip8_rows.specs.TimerBlocks.TimerBlock.{Random, RandomMix, GetDelayPut, SetDelay, SetDelayEnd, SetSound, SetSoundEnd}
 use Rattle.chip8_rows.specs.TimerBlocks.TimerPlace.{RandomCount, GetDelay, SetDelayPut, SetSoundPut}
@@ -80,12 +81,35 @@ memory_some : (l : MemoryBlock) → 0 < memory_moves l
 memory_some Index = omega arith
 memory_some AddIndex = omega arith
 memory_some Digit = omega arith
+memory_some (Check c) = omega arith
+memory_some (CheckGame c) = omega arith
+memory_some (CheckFont c) = omega arith
+memory_some (CheckLow c) = omega arith
+memory_some (Answering c answer) = omega arith
 memory_some Decimal = omega arith
+memory_some (DecimalFound InGame) = omega arith
+memory_some (DecimalFound InFont) = omega arith
+memory_some (DecimalFound Nowhere) = omega arith
+memory_some (Hundreds k) = omega arith
+memory_some HundredsEnd = omega arith
+memory_some (Tens k) = omega arith
+memory_some TensEnd = omega arith
 memory_some Store = omega arith
+memory_some (StoreFound InGame) = omega arith
+memory_some (StoreFound InFont) = omega arith
+memory_some (StoreFound Nowhere) = omega arith
+memory_some (StoreByte k) = omega arith
+memory_some StoreEnd = omega arith
 memory_some Restore = omega arith
+memory_some (RestoreFound InGame) = omega arith
+memory_some (RestoreFound InFont) = omega arith
+memory_some (RestoreFound Nowhere) = omega arith
+memory_some (RestoreByte k) = omega arith
+memory_some RestoreEnd = omega arith
 
 sprite_some : (l : SpriteBlock) → 0 < sprite_moves l
 sprite_some Draw = omega arith
+sprite_some (DrawFound answer) = omega arith
 sprite_some Clear = omega arith
 
 timer_some : (l : TimerBlock) → 0 < timer_moves l

@@ -3,6 +3,7 @@ pub mod Heads
 pub mod FetchBlocks
 pub mod JumpBlocks
 pub mod ArithBlocks
+pub mod Checks
 pub mod MemoryBlocks
 pub mod SpriteBlocks
 pub mod TimerBlocks

@@ -120,6 +120,9 @@ module _ {x : Program} {p : Places} {s : Lang} (h : Holding x p s) where
   pub pc_is : value p.r5 ≡ s.pc
   pc_is = ap (λ (z : Lang). z.pc) h.is
 
+  pub i_is : value p.ra ≡ s.i
+  i_is = ap (λ (z : Lang). z.i) h.is
+
   pub read_is : (a : ℕ) → a < 4096 → read x.interpreter.rom p.latch p.ram a ≡ slice_index p.ram a
   read_is a l = rw h.latch (read_ram x.interpreter.rom p.ram a l)
 
@@ -200,6 +203,29 @@ module _ {x : Program} {p : Places} {s : Lang} (h : Holding x p s) where
 
   pub cell_is : (a y : ℕ) → a < memory_start → slice_index (written p.latch p.ram a y) a ≡ y
   cell_is a y l = ap (λ r. slice_index r a) (write_is a y (omega arith)) ∙ get_or-set_same p.ram a y 0 (omega (arith, h.size))
+
+  -- a byte between the stack and V0 is written: the language state stays
+  pub work_set : (a y : ℕ) → stack_top x.edition < a → a < variables x.edition → Holding x (record p { ram = written p.latch p.ram a y }) s
+  work_set a y above below =
+      ram_set a y s (omega (arith, below, variables_below x.edition, screen_below x.edition)) refl
+      ((λ i. record (lies_in x.edition p) {
+        v = range_past (variables x.edition) (variables x.edition + 16) p.ram a y (inl below) i;
+        stack = stack_past a y (inr above) i;
+        memory = range_past memory_start (memory_end x.edition) p.ram a y (inr (omega (arith, above, stack_room x.edition))) i;
+        b = get_or-set_other p.ram a random_cell y 0 (λ e. omega (arith, e, above, stack_room x.edition, memory_above x.edition)) i;
+        screen = pixels (rows_of x.edition) (range_past (screen_start x.edition) 0x1000 p.ram a y (inl (omega (arith, below, variables_below x.edition))) i);
+      })
+      ∙ h.is)
+
+  -- and it is read again
+  pub work_is : (a y : ℕ) → a < variables x.edition → slice_index (written p.latch p.ram a y) a ≡ y
+  work_is a y below = ap (λ r. slice_index r a) (write_is a y small) ∙ get_or-set_same p.ram a y 0 (omega (arith, h.size, small))
+    where
+      small : a < 4096
+      small = omega (arith, below, variables_below x.edition, screen_below x.edition)
+
+  pub work_get : (a y : ℕ) → a < variables x.edition → read x.interpreter.rom p.latch (written p.latch p.ram a y) a ≡ y
+  work_get a y below = subst (λ t. read x.interpreter.rom t (written p.latch p.ram a y) a ≡ slice_index (written p.latch p.ram a y) a) (sym h.latch) (read_ram x.interpreter.rom (written p.latch p.ram a y) a (omega (arith, below, variables_below x.edition, screen_below x.edition))) ∙ work_is a y below
 
   -- R5 is changed
   pub pc_set : (w : Word) (a : ℕ) → value w ≡ a → Holding x (record p { r5 = w }) (record s { pc = a })
