@@ -1,5 +1,5 @@
 -- The range check.
-use Rattle.std.proofs.Common.{◌≡◌, ℕ, ◌+◌, ◌-◌, ◌*◌, ◌/◌, ◌%◌, ◌<◌, ◌≤◌, ◌⊎◌, inl, inr, refl, sym, ◌∙◌, ap, subst, arith, true, false, slice_index}
+use Rattle.std.proofs.Common.{◌≡◌, ℕ, ◌+◌, ◌-◌, ◌/◌, ◌%◌, ◌<◌, ◌≤◌, ◌⊎◌, inl, inr, refl, sym, ◌∙◌, ap, arith, true, false, slice_index}
 use Rattle.std.specs.Prelude.{◌==◌, not, bit_xor}
 use Rattle.std.proofs.lemmas.Bool.{eq-eqb, eqb-true, eqb-false, le-leb, lt-leb, cases_lt}
 use Rattle.machine.specs.Bank.{Word, word, word_of, value}
@@ -10,17 +10,15 @@ use Rattle.chip8_lang.specs.declared.view.Edition.{Edition}
 use Rattle.chip8_lang.specs.declared.view.Edition.TheVariants.{Usual, Tall}
 use Rattle.chip8_lang.specs.Editions.{memory_start, memory_end, stack_top, variables, sprite_work}
 use Rattle.chip8_lang.specs.State.{Lang, is_in_memory, is_in_font}
-use Rattle.chip8_lang.specs.Step.{next}
 use Rattle.chip8_image.specs.Labels.{at_halt, at_check, at_check_game, at_check_font, at_check_low, at_in_game, at_in_font, at_nowhere}
 use Rattle.rom_moves.specs.Code.{is_event}
 use Rattle.rom_moves.proofs.Moves.{quicks, Reaches, reaches_in}
 use Rattle.rom_law.specs.Program.{code}
-use Rattle.rom_law.specs.Holding.{places, Holding}
 use Rattle.rom_law.specs.Rows.{Since, Grows, Ends, now}
 use Rattle.rom_law.proofs.Places.{i_is, read_is, work_set, work_is}
 use Rattle.rom_law.proofs.Kept.{Comes}
-use Rattle.chip8_rows.specs.Heads.{high_byte, low_byte, page_of}
-use Rattle.chip8_rows.specs.Checks.{Caller, Calls, count_of, return_of, call_time, Answer, answer_number, IsAnswer, Called, Checking, Comparing, Checked}
+use Rattle.chip8_rows.specs.Heads.{page_of}
+use Rattle.chip8_rows.specs.Checks.{Caller, Calls, count_of, return_of, call_time, Answer, answer_number, IsAnswer, Checking, Comparing, Checked}
 use Rattle.chip8_rows.specs.Checks.Caller.{ForDecimal, ForStore, ForRestore, ForDraw}
 use Rattle.chip8_rows.specs.Checks.Answer.{InGame, InFont, Nowhere}
 use Rattle.chip8_rows.specs.MemoryBlocks.{answer_label}

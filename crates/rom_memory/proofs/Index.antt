@@ -12,7 +12,7 @@ use Rattle.chip8_lang.specs.Editions.{font_start, stack_top, variables}
 use Rattle.chip8_lang.specs.State.{Lang, instr_at}
 use Rattle.chip8_lang.specs.Step.{next, stop_of}
 use Rattle.chip8_image.specs.Labels.{at_index, at_add_index, at_digit}
-use Rattle.rom_law.specs.Holding.{Places, places, Holding}
+use Rattle.rom_law.specs.Holding.{Places, Holding}
 use Rattle.rom_law.specs.Rows.{Since, now}
 use Rattle.rom_law.proofs.Places.{v_get, v_byte, i_is, i_set, work_set, work_get}
 use Rattle.rom_law.proofs.Kept.{Comes}
@@ -21,7 +21,7 @@ use Rattle.chip8_rows.specs.MemoryBlocks.{variable_x}
 use Rattle.chip8_rows.specs.MemoryBlocks.MemoryBlock.{Index, AddIndex, Digit}
 use Rattle.chip8_rows.specs.Table.{pieces}
 use Rattle.chip8_rows.specs.Table.Block.{OfMemory}
-use Rattle.chip8_rows.proofs.Bytes.{both, quick, variables_is, stack_top_is, page_fits}
+use Rattle.chip8_rows.proofs.Bytes.{both, quick, variables_is, stack_top_is}
 use Rattle.chip8_rows.proofs.Straight.{routine}
 use Rattle.chip8_rows.proofs.Steps.{steps}
 

@@ -1,2 +1,7 @@
 pub mod Index
 pub mod Check
+pub mod Found
+pub mod Decimal
+pub mod Lists
+pub mod Copies
+pub mod Law

@@ -1,4 +1,5 @@
+use Rattle.rom_memory.proofs.Law.{memory_rows}
 use Rattle.rom_memory.proofs.laws.main_rows.Goals as goal
 
 pub returns : goal.returns
-returns c = ?
+returns c = memory_rows
