@@ -34,15 +34,12 @@ use Rattle.chip8_rows.proofs.Straight.{routine}
 use Rattle.chip8_rows.proofs.Ways.{straight, forks}
 use Rattle.chip8_rows.proofs.Steps.{steps}
 use Rattle.rom_memory.proofs.Index.{vx_get, vx_fits}
+use Rattle.rom_memory.proofs.Digits.{taken, counted}
 use Rattle.rom_memory.proofs.Found.{is_resumed, refused}
 
 -- three bytes of game memory are written
 pub three_set : {x : Program} {p : Places} {s : Lang} (o : Holding x p s) (k : ℕ) (a b c y z w : ℕ) → a ≡ memory_start + k → b ≡ memory_start + (k + 1) → c ≡ memory_start + (k + 1 + 1) → memory_start + (k + 2) < memory_end x.edition → Holding x (record p { ram = written p.latch (written p.latch (written p.latch p.ram a y) b z) c w }) (record s { memory = stored s.memory k (y ∷ z ∷ w ∷ []) })
 three_set o k a b c y z w first second third room = memory_set (memory_set (memory_set o a k y first (omega (arith, room))) b (k + 1) z second (omega (arith, room))) c (k + 1 + 1) w third (omega (arith, room))
-
--- R3 is changed
-abbrev pub on_r3 : Machine → Word → Machine
-on_r3 b w = record b { regs = record b.regs { r = record b.regs.r { r3 = w } } }
 
 module _ (e : Edition) (b : Machine) (h : Since) (f : FitsMachine b) where
   abbrev high : ℕ
@@ -79,25 +76,25 @@ module _ (e : Edition) (b : Machine) (h : Since) (f : FitsMachine b) where
     abbrev lessened : ℕ → ℕ
     lessened w = b.regs.d + 256 - w
 
-    abbrev counted : ℕ → Word → Word → Word → Machine
-    counted w rd re at = record b { regs = record b.regs { d = lessened w % 256; df = lessened w / 256; p = 3; r = record b.regs.r { r3 = at; rd = rd; re = re } } }
+    abbrev lowered : ℕ → Word → Word → Word → Machine
+    lowered w rd re at = record b { regs = record b.regs { d = lessened w % 256; df = lessened w / 256; p = 3; r = record b.regs.r { r3 = at; rd = rd; re = re } } }
 
-    goes_on : (w : ℕ) (rd re : Word) (a' n' m' d' : ℕ) → rd.lo ≡ n' → re.lo ≡ m' → lessened w % 256 ≡ d' → Dividing (quick e) a' n' m' d' (counted w rd re (word_of a')) (now h)
+    goes_on : (w : ℕ) (rd re : Word) (a' n' m' d' : ℕ) → rd.lo ≡ n' → re.lo ≡ m' → lessened w % 256 ≡ d' → Dividing (quick e) a' n' m' d' (lowered w rd re (word_of a')) (now h)
     goes_on w rd re a' n' m' d' is_rd is_re is_d = record { called = record { holds = o.called.holds; inside = o.called.inside; calls = o.called.calls; r4 = o.called.r4; r6 = o.called.r6; r7 = o.called.r7 }; fits = o.fits; p = refl; r3 = refl; rc = o.rc; rd = is_rd; re = is_re; d = is_d }
 
-  pub hundreds_comes : (k : ℕ) → Dividing (quick e) at_hundreds k 0 (vx - 100 * k) b (now h) → 100 * k ≤ vx → h.spent ≤ 204 + 6 * k → Comes (quick e) (pieces (quick e)) (OfMemory (Hundreds k)) b h
-  hundreds_comes k o left spent = forks (OfMemory (Hundreds k)) o.called.holds (on_3 at_hundreds b) (is_on_3 at_hundreds b o.p o.r3) (counted o 100 (up b.regs.r.rd) b.regs.r.re) (lessened o 100 / 256 == 1) at_hundreds at_hundreds_end (omega arith) refl
-      (λ t h' g. to_memory (quick e) g _ refl (Hundreds (suc k)) (goes_on o 100 _ _ at_hundreds (suc k) 0 (vx - 100 * suc k) (omega (arith, o.rd, left, fits o)) o.re (omega (arith, o.d, eqb-true (lessened o 100 / 256) 1 t, left, fits o)), omega (arith, o.d, eqb-true (lessened o 100 / 256) 1 t, left, fits o)) (omega (arith, spent, g.spent)))
-      (λ t h' g. to_memory (quick e) g _ refl HundredsEnd (goes_on o 100 _ _ at_hundreds_end (vx / 100 + 1) 0 (vx % 100 + 156) (omega (arith, o.rd, o.d, eqb-false (lessened o 100 / 256) 1 t, left, fits o)) o.re (omega (arith, o.d, eqb-false (lessened o 100 / 256) 1 t, left, fits o))) (omega (arith, spent, g.spent, left, fits o)))
+  pub hundreds_comes : (k : ℕ) → Dividing (quick e) at_hundreds k 0 (vx - k * 100) b (now h) → k * 100 ≤ vx → h.spent ≤ 204 + 6 * k → Comes (quick e) (pieces (quick e)) (OfMemory (Hundreds k)) b h
+  hundreds_comes k o left spent = forks (OfMemory (Hundreds k)) o.called.holds (on_3 at_hundreds b) (is_on_3 at_hundreds b o.p o.r3) (lowered o 100 (up b.regs.r.rd) b.regs.r.re) (lessened o 100 / 256 == 1) at_hundreds at_hundreds_end (omega arith) refl
+      (λ t h' g. let more = taken vx 100 k b.regs.d (fits o) (omega arith) (omega arith) left o.d (eqb-true (lessened o 100 / 256) 1 t) in to_memory (quick e) g _ refl (Hundreds (suc k)) (goes_on o 100 _ _ at_hundreds (suc k) 0 (vx - suc k * 100) (omega (arith, o.rd, left, fits o)) o.re more.1, more.0) (omega (arith, spent, g.spent)))
+      (λ t h' g. let all = counted vx 100 k b.regs.d (fits o) (omega arith) (omega arith) left o.d (eqb-false (lessened o 100 / 256) 1 t) in to_memory (quick e) g _ refl HundredsEnd (goes_on o 100 _ _ at_hundreds_end (vx / 100 + 1) 0 (vx % 100 + 156) (omega (arith, o.rd, all.0, fits o)) o.re (omega (arith, all.1))) (omega (arith, spent, g.spent, left, fits o)))
 
   pub hundreds_end_comes : Dividing (quick e) at_hundreds_end (vx / 100 + 1) 0 (vx % 100 + 156) b (now h) → h.spent ≤ 222 → Comes (quick e) (pieces (quick e)) (OfMemory HundredsEnd) b h
   hundreds_end_comes o spent = straight (OfMemory HundredsEnd) o.called.holds (on_3 at_hundreds_end b) (is_on_3 at_hundreds_end b o.p o.r3) _ (omega arith) refl
       (λ h' g. to_memory (quick e) g _ refl (Tens 0) (record { called = record { holds = o.called.holds; inside = o.called.inside; calls = o.called.calls; r4 = o.called.r4; r6 = o.called.r6; r7 = o.called.r7 }; fits = o.fits; p = refl; r3 = refl; rc = o.rc; rd = omega (arith, o.rd, fits o); re = o.re; d = omega (arith, o.d) }, omega arith) (omega (arith, spent, g.spent)))
 
-  pub tens_comes : (k : ℕ) → Dividing (quick e) at_tens (vx / 100) k (vx % 100 - 10 * k) b (now h) → 10 * k ≤ vx % 100 → h.spent ≤ 226 + 6 * k → Comes (quick e) (pieces (quick e)) (OfMemory (Tens k)) b h
-  tens_comes k o left spent = forks (OfMemory (Tens k)) o.called.holds (on_3 at_tens b) (is_on_3 at_tens b o.p o.r3) (counted o 10 b.regs.r.rd (up b.regs.r.re)) (lessened o 10 / 256 == 1) at_tens at_tens_end (omega arith) refl
-      (λ t h' g. to_memory (quick e) g _ refl (Tens (suc k)) (goes_on o 10 _ _ at_tens (vx / 100) (suc k) (vx % 100 - 10 * suc k) o.rd (omega (arith, o.re, left)) (omega (arith, o.d, eqb-true (lessened o 10 / 256) 1 t, left)), omega (arith, o.d, eqb-true (lessened o 10 / 256) 1 t, left)) (omega (arith, spent, g.spent)))
-      (λ t h' g. to_memory (quick e) g _ refl TensEnd (goes_on o 10 _ _ at_tens_end (vx / 100) (vx / 10 % 10 + 1) (vx % 10 + 246) o.rd (omega (arith, o.re, o.d, eqb-false (lessened o 10 / 256) 1 t, left)) (omega (arith, o.d, eqb-false (lessened o 10 / 256) 1 t, left))) (omega (arith, spent, g.spent, left)))
+  pub tens_comes : (k : ℕ) → Dividing (quick e) at_tens (vx / 100) k (vx % 100 - k * 10) b (now h) → k * 10 ≤ vx % 100 → h.spent ≤ 226 + 6 * k → Comes (quick e) (pieces (quick e)) (OfMemory (Tens k)) b h
+  tens_comes k o left spent = forks (OfMemory (Tens k)) o.called.holds (on_3 at_tens b) (is_on_3 at_tens b o.p o.r3) (lowered o 10 b.regs.r.rd (up b.regs.r.re)) (lessened o 10 / 256 == 1) at_tens at_tens_end (omega arith) refl
+      (λ t h' g. let more = taken (vx % 100) 10 k b.regs.d (omega arith) (omega arith) (omega arith) left o.d (eqb-true (lessened o 10 / 256) 1 t) in to_memory (quick e) g _ refl (Tens (suc k)) (goes_on o 10 _ _ at_tens (vx / 100) (suc k) (vx % 100 - suc k * 10) o.rd (omega (arith, o.re, left)) more.1, more.0) (omega (arith, spent, g.spent)))
+      (λ t h' g. let all = counted (vx % 100) 10 k b.regs.d (omega arith) (omega arith) (omega arith) left o.d (eqb-false (lessened o 10 / 256) 1 t) in to_memory (quick e) g _ refl TensEnd (goes_on o 10 _ _ at_tens_end (vx / 100) (vx / 10 % 10 + 1) (vx % 10 + 246) o.rd (omega (arith, o.re, all.0)) (omega (arith, all.1))) (omega (arith, spent, g.spent, left)))
 
   -- ---- the digits are written
 
