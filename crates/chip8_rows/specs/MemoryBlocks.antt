@@ -1,14 +1,16 @@
 -- The blocks of what sets I, of FX33, FX55 and FX65, and of the range check.
-use Rattle.std.specs.Prelude.{◌≡◌, ℕ, ◌+◌, ◌-◌, ◌*◌, ◌/◌, ◌%◌, ◌≤◌, true, false, take, drop, ◌++◌}
+use Rattle.std.specs.Prelude.{◌≡◌, ℕ, ◌+◌, ◌-◌, ◌*◌, ◌/◌, ◌%◌, ◌≤◌, true, false, List, [], ◌∷◌, ◌++◌, take, drop}
 use Rattle.machine.specs.Bank.{word, word_of}
 use Rattle.machine.specs.Board.{Machine}
 use Rattle.chip8_lang.specs.Editions.{memory_start}
 use Rattle.chip8_lang.specs.State.{Lang, variable, is_in_memory, is_fetchable}
 use Rattle.chip8_lang.specs.Step.{is_readable, next, stored, bytes_from}
-use Rattle.chip8_image.specs.Labels.{at_fetch, at_index, at_add_index, at_digit, at_decimal, at_hundreds, at_hundreds_end, at_tens, at_tens_end, at_store, at_store_byte, at_store_end, at_restore, at_restore_byte, at_restore_end, at_check, at_check_game, at_check_font, at_check_low, at_in_game, at_in_font, at_nowhere}
+use Rattle.chip8_image.specs.declared.parts.Part.TheVariants.{Memory as IsMemory}
+use Rattle.chip8_image.specs.Labels.{at_fetch, at_index, at_add_index, at_digit, at_decimal, at_decimal_found, at_hundreds, at_hundreds_end, at_tens, at_tens_end, at_store, at_store_found, at_store_byte, at_store_end, at_restore, at_restore_found, at_restore_byte, at_restore_end, at_write_outside, at_read_outside, at_check, at_check_game, at_check_font, at_check_low, at_in_game, at_in_font, at_nowhere}
+use Rattle.chip8_image.specs.Parts.{Area, area}
 use Rattle.rom_law.specs.Program.{Program}
 use Rattle.rom_law.specs.Holding.{places, Holding}
-use Rattle.chip8_rows.specs.Heads.{Time, high_byte, low_byte, page_of, Enters}
+use Rattle.chip8_rows.specs.Heads.{Time, from, high_byte, low_byte, page_of, Enters}
 use Rattle.chip8_rows.specs.Heads.Time.{Exactly, AtMost}
 use Rattle.chip8_rows.specs.Checks.{Caller, Calls, count_of, call_time, Answer, IsAnswer, Called, Checking, Comparing, Checked}
 use Rattle.chip8_rows.specs.Checks.Caller.{ForDecimal, ForStore, ForRestore}
@@ -171,3 +173,35 @@ memory_time Restore = Exactly 134
 memory_time (RestoreFound answer) = AtMost 202
 memory_time (RestoreByte k) = AtMost (214 + 12 * k)
 memory_time RestoreEnd = AtMost 406
+
+-- where its instructions begin
+abbrev pub memory_addresses : MemoryBlock → List ℕ
+memory_addresses Index = from at_index (0 ∷ 1 ∷ 3 ∷ 4 ∷ 5 ∷ 6 ∷ [])
+memory_addresses AddIndex = from at_add_index (0 ∷ 1 ∷ 2 ∷ 3 ∷ 4 ∷ 5 ∷ 7 ∷ 8 ∷ [])
+memory_addresses Digit = from at_digit (0 ∷ 2 ∷ 3 ∷ 5 ∷ 6 ∷ 7 ∷ 8 ∷ 10 ∷ 11 ∷ 12 ∷ 13 ∷ 14 ∷ 15 ∷ 17 ∷ 18 ∷ [])
+memory_addresses (Check c) = from at_check (0 ∷ 2 ∷ 3 ∷ 5 ∷ 6 ∷ 7 ∷ 8 ∷ 9 ∷ 10 ∷ 12 ∷ [])
+memory_addresses (CheckGame c) = from at_check_game (0 ∷ 1 ∷ 3 ∷ 4 ∷ 5 ∷ 7 ∷ [])
+memory_addresses (CheckFont c) = from at_check_font (0 ∷ 1 ∷ 3 ∷ [])
+memory_addresses (CheckLow c) = from at_check_low (0 ∷ 1 ∷ 3 ∷ 4 ∷ [])
+memory_addresses (Answering c answer) = from (answer_label answer) (0 ∷ 2 ∷ [])
+memory_addresses Decimal = from at_decimal (0 ∷ 2 ∷ 3 ∷ 5 ∷ 6 ∷ 8 ∷ 9 ∷ [])
+memory_addresses (DecimalFound InGame) = from at_decimal_found (0 ∷ 2 ∷ 3 ∷ 4 ∷ 5 ∷ 6 ∷ 8 ∷ 9 ∷ 10 ∷ [])
+memory_addresses (DecimalFound answer) = at_decimal_found ∷ from at_write_outside (0 ∷ 2 ∷ [])
+memory_addresses (Hundreds k) = from at_hundreds (0 ∷ 1 ∷ 3 ∷ [])
+memory_addresses HundredsEnd = from at_hundreds_end (0 ∷ 1 ∷ [])
+memory_addresses (Tens k) = from at_tens (0 ∷ 1 ∷ 3 ∷ [])
+memory_addresses TensEnd = from at_tens_end (0 ∷ 1 ∷ 3 ∷ 4 ∷ 5 ∷ 6 ∷ 7 ∷ 8 ∷ 9 ∷ 10 ∷ 11 ∷ 12 ∷ [])
+memory_addresses Store = from at_store (0 ∷ 1 ∷ 3 ∷ 5 ∷ 6 ∷ 8 ∷ 9 ∷ 11 ∷ 12 ∷ [])
+memory_addresses (StoreFound InGame) = from at_store_found (0 ∷ 2 ∷ 4 ∷ 5 ∷ 7 ∷ [])
+memory_addresses (StoreFound answer) = at_store_found ∷ from at_write_outside (0 ∷ 2 ∷ [])
+memory_addresses (StoreByte k) = from at_store_byte (0 ∷ 1 ∷ 2 ∷ 3 ∷ 4 ∷ 5 ∷ [])
+memory_addresses StoreEnd = at_store_end ∷ []
+memory_addresses Restore = from at_restore (0 ∷ 1 ∷ 3 ∷ 5 ∷ 6 ∷ 8 ∷ 9 ∷ 11 ∷ 12 ∷ [])
+memory_addresses (RestoreFound Nowhere) = from at_restore_found (0 ∷ 2 ∷ []) ++ from at_read_outside (0 ∷ 2 ∷ [])
+memory_addresses (RestoreFound answer) = from at_restore_found (0 ∷ 2 ∷ 4 ∷ 6 ∷ 7 ∷ 9 ∷ [])
+memory_addresses (RestoreByte k) = from at_restore_byte (0 ∷ 1 ∷ 2 ∷ 3 ∷ 4 ∷ 5 ∷ [])
+memory_addresses RestoreEnd = at_restore_end ∷ []
+
+-- AMMM, FX1E, FX29, FX33, FX55 and FX65, and the range check
+abbrev pub memory_areas : List Area
+memory_areas = area 0x8354 0x83e9 IsMemory ∷ area 0x8500 0x852a IsMemory ∷ []

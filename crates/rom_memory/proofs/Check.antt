@@ -13,7 +13,7 @@ use Rattle.chip8_lang.specs.State.{Lang, is_in_memory, is_in_font}
 use Rattle.chip8_image.specs.Labels.{at_halt, at_check, at_check_game, at_check_font, at_check_low, at_in_game, at_in_font, at_nowhere}
 use Rattle.rom_moves.specs.Code.{is_event}
 use Rattle.rom_moves.proofs.Moves.{quicks, Reaches, reaches_in}
-use Rattle.rom_law.specs.Program.{code}
+use Rattle.rom_law.specs.Program.{Program, code}
 use Rattle.rom_law.specs.Rows.{Since, Grows, Ends, now}
 use Rattle.rom_law.proofs.Places.{i_is, read_is, work_set, work_is}
 use Rattle.rom_law.proofs.Kept.{Comes}
@@ -84,11 +84,17 @@ no_halt ForDraw = refl
 
 -- ---- the machine in the check
 
-abbrev checking : ℕ → Machine → Machine
+abbrev pub checking : ℕ → Machine → Machine
 checking a b = record b { regs = record b.regs { p = 13; r = record b.regs.r { rd = word_of a } } }
 
-abbrev comparing : Edition → ℕ → Machine → Machine
+abbrev pub comparing : Edition → ℕ → Machine → Machine
 comparing e a b = record b { regs = record b.regs { p = 13; x = 12; r = record b.regs.r { rc = word (page_of e) 0xd0; rd = word_of a } } }
+
+pub is_checking : {x : Program} {c : Caller} {a : ℕ} {b : Machine} {s : Lang} → Checking x c a b s → b ≡ checking a b
+is_checking {b = b} o = λ j. record b { regs = record b.regs { p = o.p j; r = record b.regs.r { rd = o.rd j } } }
+
+pub is_comparing : {e : Edition} {c : Caller} {a : ℕ} {b : Machine} {s : Lang} → Comparing (quick e) c a b s → b ≡ comparing e a b
+is_comparing {b = b} o = λ j. record b { regs = record b.regs { p = o.checking.p j; x = o.pointer j; r = record b.regs.r { rc = o.rc j; rd = o.checking.rd j } } }
 
 -- RD is changed
 abbrev on_at : Machine → Word → Machine
@@ -131,16 +137,13 @@ module _ (e : Edition) (b : Machine) (h : Since) (f : FitsMachine b) (c : Caller
     checked_on a = record { called = record { holds = work_set o.called.holds work b.regs.r.ra.lo above below; inside = o.called.inside; calls = o.called.calls; r4 = o.called.r4; r6 = o.called.r6; r7 = o.called.r7 }; p = refl; rd = refl; r3 = o.r3; count = o.count }
 
     pub check_comes : h.spent ≤ call_time c → Comes (quick e) (pieces (quick e)) (OfMemory (Check c)) b h
-    check_comes spent = forks (OfMemory (Check c)) o.called.holds (checking at_check b) (λ j. record b { regs = record b.regs { p = o.p j; r = record b.regs.r { rd = o.rd j } } }) compared (not (first_df == 1)) at_nowhere at_check_game (omega arith) refl
+    check_comes spent = forks (OfMemory (Check c)) o.called.holds (checking at_check b) (is_checking o) compared (not (first_df == 1)) at_nowhere at_check_game (omega arith) refl
         (λ k h' g. to_memory (quick e) g _ refl (Answering c Nowhere) (checked_on at_nowhere, below_all e i asked (omega (arith, borrowed first_df k, i_is o.called.holds, f.regs.r.ra.hi, f.regs.r.ra.lo))) (omega (arith, spent, g.spent)))
         (λ k h' g. to_memory (quick e) g _ refl (CheckGame c) (record { checking = checked_on at_check_game; pointer = refl; rc = refl; low = ap (slice_index (compared (word_of at_check_game)).ram) work_there ∙ work_is o.called.holds work b.regs.r.ra.lo below }, omega (arith, not_borrowed first_df k, i_is o.called.holds)) (omega (arith, spent, g.spent)))
 
   -- ---- do the bytes lie in game memory, or in the font
 
   module _ {a : ℕ} (o : Comparing (quick e) c a b (now h)) where
-    filled : b ≡ comparing e a b
-    filled = λ j. record b { regs = record b.regs { p = o.checking.p j; x = o.pointer j; r = record b.regs.r { rc = o.rc j; rd = o.checking.rd j } } }
-
     -- the byte in the sprite work is read
     low_is : read (both e) b.latch b.ram work ≡ b.regs.r.ra.lo
     low_is = read_is o.checking.called.holds work (omega (arith, page_fits e)) ∙ ap (slice_index b.ram) (sym work_there) ∙ o.low
@@ -169,7 +172,7 @@ module _ (e : Edition) (b : Machine) (h : Since) (f : FitsMachine b) (c : Caller
   game_high = page_of e + 256 - b.regs.r.ra.hi - (1 - game_low / 256)
 
   pub check_game_comes : (o : Comparing (quick e) c at_check_game b (now h)) → memory_start ≤ i → h.spent ≤ call_time c + 20 → Comes (quick e) (pieces (quick e)) (OfMemory (CheckGame c)) b h
-  check_game_comes o first spent = forks (OfMemory (CheckGame c)) o.checking.called.holds _ (filled o) (left o (game_high % 256) (game_high / 256)) (game_high / 256 == 1) at_in_game at_check_font (omega (arith, steady o)) refl
+  check_game_comes o first spent = forks (OfMemory (CheckGame c)) o.checking.called.holds _ (is_comparing o) (left o (game_high % 256) (game_high / 256)) (game_high / 256 == 1) at_in_game at_check_font (omega (arith, steady o)) refl
       (λ k h' g. to_memory (quick e) g _ refl (Answering c InGame) ((leaves o (game_high % 256) (game_high / 256) at_in_game).checking, in_memory e i asked first (omega (arith, eqb-true (game_high / 256) 1 k, low_is o, o.checking.count, few o, place o, memory_end_is e, page_fits e, f.regs.r.ra.hi, f.regs.r.ra.lo))) (omega (arith, spent, g.spent)))
       (λ k h' g. to_memory (quick e) g _ refl (CheckFont c) (leaves o (game_high % 256) (game_high / 256) at_check_font, past_memory e i asked first (omega (arith, eqb-false (game_high / 256) 1 k, low_is o, o.checking.count, few o, place o, memory_end_is e, page_fits e, f.regs.r.ra.hi, f.regs.r.ra.lo))) (omega (arith, spent, g.spent)))
 
@@ -181,7 +184,7 @@ module _ (e : Edition) (b : Machine) (h : Since) (f : FitsMachine b) (c : Caller
   high_is o = omega (arith, place o, f.regs.r.ra.lo)
 
   pub check_font_comes : (o : Comparing (quick e) c at_check_font b (now h)) → is_in_memory e i asked ≡ false → h.spent ≤ call_time c + 32 → Comes (quick e) (pieces (quick e)) (OfMemory (CheckFont c)) b h
-  check_font_comes o outside spent = forks (OfMemory (CheckFont c)) o.checking.called.holds _ (filled o) (left o page_xor b.regs.df) (not (page_xor == 0)) at_nowhere at_check_low (omega arith) refl
+  check_font_comes o outside spent = forks (OfMemory (CheckFont c)) o.checking.called.holds _ (is_comparing o) (left o page_xor b.regs.df) (not (page_xor == 0)) at_nowhere at_check_low (omega arith) refl
       (λ k h' g. to_memory (quick e) g _ refl (Answering c Nowhere) ((leaves o page_xor b.regs.df at_nowhere).checking, (outside, other_page i asked (few o).0 (λ z. nonzero page_xor k (omega (arith, eqb-true page_xor 0 (same_xor b.regs.r.ra.hi 0x87 (sym (high_is o) ∙ z))))))) (omega (arith, spent, g.spent)))
       (λ k h' g. to_memory (quick e) g _ refl (CheckLow c) (leaves o page_xor b.regs.df at_check_low, outside, high_is o ∙ xor_same b.regs.r.ra.hi 0x87 (eq-eqb page_xor 0 (is_zero page_xor k))) (omega (arith, spent, g.spent)))
 
@@ -190,7 +193,7 @@ module _ (e : Edition) (b : Machine) (h : Since) (f : FitsMachine b) (c : Caller
   font_low = (0x50 + 256 - b.regs.r.re.lo) % 256 + 256 - read (both e) b.latch b.ram work
 
   pub check_low_comes : (o : Comparing (quick e) c at_check_low b (now h)) → is_in_memory e i asked ≡ false → i / 256 ≡ 0x87 → h.spent ≤ call_time c + 38 → Comes (quick e) (pieces (quick e)) (OfMemory (CheckLow c)) b h
-  check_low_comes o outside page spent = forks (OfMemory (CheckLow c)) o.checking.called.holds _ (filled o) (left o (font_low % 256) (font_low / 256)) (not (font_low / 256 == 1)) at_nowhere at_in_font (omega (arith, steady o)) refl
+  check_low_comes o outside page spent = forks (OfMemory (CheckLow c)) o.checking.called.holds _ (is_comparing o) (left o (font_low % 256) (font_low / 256)) (not (font_low / 256 == 1)) at_nowhere at_in_font (omega (arith, steady o)) refl
       (λ k h' g. to_memory (quick e) g _ refl (Answering c Nowhere) ((leaves o (font_low % 256) (font_low / 256) at_nowhere).checking, (outside, past_font i asked (omega (arith, page)) (omega (arith, borrowed (font_low / 256) k, low_is o, o.checking.count, few o, place o, page, f.regs.r.ra.lo)))) (omega (arith, spent, g.spent)))
       (λ k h' g. to_memory (quick e) g _ refl (Answering c InFont) ((leaves o (font_low % 256) (font_low / 256) at_in_font).checking, (outside, in_font i asked (omega (arith, page)) (omega (arith, not_borrowed (font_low / 256) k, low_is o, o.checking.count, few o, place o, page, f.regs.r.ra.lo)))) (omega (arith, spent, g.spent)))
 

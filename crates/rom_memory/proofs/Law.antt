@@ -16,7 +16,7 @@ use Rattle.rom_memory.proofs.Check.{check_comes, check_game_comes, check_font_co
 use Rattle.rom_memory.proofs.Decimal.{decimal_comes, decimal_found_comes, hundreds_comes, hundreds_end_comes, tens_comes, tens_end_comes}
 use Rattle.rom_memory.proofs.Copies.{store_comes, store_found_comes, store_byte_comes, store_end_comes, restore_comes, restore_found_comes, restore_byte_comes, restore_end_comes}
 
-memory_block : (e : Edition) (l : MemoryBlock) (b : Machine) (h : Since) → FitsMachine b → Head (quick e) (OfMemory l) b h → Comes (quick e) (pieces (quick e)) (OfMemory l) b h
+pub memory_block : (e : Edition) (l : MemoryBlock) (b : Machine) (h : Since) → FitsMachine b → Head (quick e) (OfMemory l) b h → Comes (quick e) (pieces (quick e)) (OfMemory l) b h
 memory_block e Index b h f o = index_comes e b h f o.0
 memory_block e AddIndex b h f o = add_index_comes e b h f o.0.0 o.0.1
 memory_block e Digit b h f o = digit_comes e b h f o.0.0 o.0.1

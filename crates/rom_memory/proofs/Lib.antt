@@ -6,3 +6,4 @@ pub mod Decimal
 pub mod Lists
 pub mod Copies
 pub mod Law
+pub mod Addresses
