@@ -1,2 +1,4 @@
 pub mod Dump
 pub mod Row
+pub mod Disassembly
+pub mod Operands

@@ -1,0 +1,37 @@
+use Rattle.std.proofs.Common.{◌≡◌, ◌≤◌, ◌<◌, ◌+◌, ◌++◌, List, ℕ, [], ◌∷◌, length, drop, ap, sym, ◌∙◌, arith, refl}
+use Rattle.std.specs.Prelude.{codes}
+use Rattle.std.proofs.lemmas.List.{take_rest, length-drop}
+use Rattle.vip_byte.specs.HexText.{hex4}
+use Rattle.asm_listing.specs.Disassembly.{taken, starts, lines_from, disassembly, origin, ended_line}
+use Rattle.asm_listing.specs.Dump.{newline}
+use Rattle.asm_listing.proofs.Starts.{lines-next, disassembly-first}
+use Rattle.asm_listing.proofs.instruction.disassemble.Goals as goal
+
+pub loop-rest-init : goal.loop-rest-init
+loop-rest-init c =
+    let one : c.append.new.text.items ≡ codes " ORG 0x" = c.in_ok-append.ensures ∙ ap (λ t. t ++ codes " ORG 0x") c.new-text.ensures.items in
+    let two : c.append-2.new.text.items ≡ origin c.args.address = c.in_ok-append-2.ensures ∙ ap (λ t. t ++ c.hex4.result) one ∙ ap (λ digits. codes " ORG 0x" ++ digits) c.hex4.ensures in
+    let three : c.append-3.new.text.items ≡ origin c.args.address ++ newline = c.in_ok-append-3.ensures ∙ ap (λ t. t ++ newline) two in
+    record {
+      text = ap (λ t. t ++ lines_from (starts 0 c.from-at.result c.args.bytes.now)) three
+          ∙ ap (λ a. (origin c.args.address ++ newline) ++ lines_from (starts 0 a c.args.bytes.now)) c.from-at.ensures
+          ∙ disassembly-first c.args.address c.args.bytes.now;
+      fits = omega (arith, c.from-at.ensures, c.requires);
+    }
+
+pub loop-rest-preserved : goal.loop-rest-preserved
+loop-rest-preserved c =
+    let at = c.loop-rest.at in
+    let rest = c.loop-rest.rest.now in
+    let shown = c.in_ok-shown.shown in
+    let is : shown ≡ taken rest = c.in_ok-shown.ensures.taken in
+    let left : c.from.result ≡ shown = c.from.ensures in
+    record {
+      text = ap (λ left. c.append_line.new.text.items ++ lines_from (starts 0 (at + c.from-at-in-loop-rest.result) left)) (take_rest rest c.from.result)
+          ∙ ap (λ t. t ++ lines_from (starts 0 (at + c.from-at-in-loop-rest.result) (drop c.from.result rest))) c.in_ok-shown.ensures.line
+          ∙ ap (λ n. (c.loop-rest.text.items ++ ended_line at rest) ++ lines_from (starts 0 (at + n) (drop c.from.result rest))) (c.from-at-in-loop-rest.ensures ∙ is)
+          ∙ ap (λ n. (c.loop-rest.text.items ++ ended_line at rest) ++ lines_from (starts 0 (at + taken rest) (drop n rest))) (left ∙ is)
+          ∙ lines-next c.loop-rest.text.items rest at (omega (arith, is, c.in_ok-shown.ensures.least)) (omega (arith, is, c.in_ok-shown.ensures.most))
+          ∙ c.loop-rest.invariant.text;
+      fits = omega (arith, c.loop-rest.invariant.fits, c.in_ok-shown.ensures.most, c.from-at-in-loop-rest.ensures, left, ap length (take_rest rest c.from.result), length-drop c.from.result rest);
+    }

@@ -1,0 +1,247 @@
+//! The disassembly of bytes.
+
+ghost use Rattle.std.specs.Prelude.{◌≡◌, ◌≤◌, ◌<◌, ◌+◌, ◌++◌, List, ℕ, [], length, take, IfOk, OnOk};
+ghost use Rattle.arrayvec.specs.ArrayVec.{array_vec_len};
+ghost use Rattle.machine.specs.Opcodes.{kind_of};
+ghost use Rattle.vip_isa.specs.Rows.{mnemonic_of};
+ghost use Rattle.asm_lex.specs.Words.{mnemonic_at, size_at};
+ghost use Rattle.asm_listing.specs.Disassembly.{data_text, disassembly, ended_line, expression_at, instruction_text, is_data, opcode_in, operand_at, operand_of_size, operand_text, taken};
+ghost use Rattle.asm_listing.specs.Dump.{newline};
+ghost use Rattle.asm_listing.specs.Operands.{HasOneDigit};
+
+use crate::write::append;
+use arrayvec::ArrayVec;
+use std::alloc::{AllocError, Global};
+use vip_byte::{hex2, hex4};
+use vip_isa::{Kind, decode, mnemonic, size};
+
+/// The opcode that is no instruction of the CDP1802.
+const UNDEFINED: u8 = 0x68;
+
+/// What stands behind a mnemonic.
+#[derive(Clone, Copy)]
+enum Operand {
+    Nothing,
+    /// The number of a register.
+    Register(u8),
+    /// The number of a port.
+    Port(u8),
+    /// The byte of an immediate instruction.
+    Byte(u8),
+    /// The address that a branch goes to.
+    Target(u16),
+}
+
+// Appends bytes to a line that has room.
+fn put(into: &mut ArrayVec<u8, 48>, bytes: &[u8])
+    requires { array_vec_len into.old + length bytes.now ≤ 48 }
+    ensures items { into.new.items ≡ into.old.items ++ bytes.now }
+    ensures len { array_vec_len into.new ≡ array_vec_len into.old + length bytes.now }
+{
+    let _ = into.try_extend_from_slice(bytes);
+}
+
+// The size of an instruction with this opcode.
+#[tactic(auto, unfolding(asm_lex::specs::Words::size_at))]
+fn size_at(opcode: u8) -> u8
+    ensures size { result ≡ size_at opcode }
+    ensures least { 1 ≤ result }
+    ensures most { result ≤ 3 }
+{
+    size(opcode)
+}
+
+// The operand that the bytes behind an opcode are.
+#[tactic(auto, unfolding(crate::specs::Disassembly::expression_at))]
+fn expression_at(bytes: &[u8], address: u16) -> Operand
+    requires longer { 2 ≤ size_at (opcode_in bytes.now) }
+    requires whole { size_at (opcode_in bytes.now) ≤ length bytes.now }
+    requires fits { address + length bytes.now ≤ 65536 }
+    ensures operand { result ≡ expression_at address bytes.now }
+    ensures digit { HasOneDigit result }
+{
+    if size_at(bytes[0]) == 3 {
+        Operand::Target(u16::from(bytes[1]) * 256 + u16::from(bytes[2]))
+    } else if bytes[0] / 16 == 3 {
+        Operand::Target((address + 1) / 256 * 256 + u16::from(bytes[1]))
+    } else {
+        Operand::Byte(bytes[1])
+    }
+}
+
+fn operand_of_size(bytes: &[u8], address: u16) -> Operand
+    requires some { 0 < length bytes.now }
+    requires whole { size_at (opcode_in bytes.now) ≤ length bytes.now }
+    requires fits { address + length bytes.now ≤ 65536 }
+    ensures operand { result ≡ operand_of_size (size_at (opcode_in bytes.now)) address bytes.now }
+    ensures digit { HasOneDigit result }
+{
+    if size_at(bytes[0]) == 1 {
+        Operand::Nothing
+    } else {
+        expression_at(bytes, address)
+    }
+}
+
+// The operand of an instruction that stands at an address.
+#[tactic(auto, unfolding(crate::specs::Disassembly::operand_at))]
+fn operand_at(bytes: &[u8], address: u16) -> Operand
+    requires some { 0 < length bytes.now }
+    requires whole { size_at (opcode_in bytes.now) ≤ length bytes.now }
+    requires fits { address + length bytes.now ≤ 65536 }
+    ensures operand { result ≡ operand_at address bytes.now }
+    ensures digit { HasOneDigit result }
+{
+    let op = decode(bytes[0]);
+    match op.kind {
+        Kind::Ldn
+        | Kind::Inc
+        | Kind::Dec
+        | Kind::Lda
+        | Kind::Str
+        | Kind::Glo
+        | Kind::Ghi
+        | Kind::Plo
+        | Kind::Phi
+        | Kind::Sep
+        | Kind::Sex => Operand::Register(op.n),
+        Kind::Out | Kind::Inp => Operand::Port(op.n),
+        _ => operand_of_size(bytes, address),
+    }
+}
+
+fn put_operand(into: &mut ArrayVec<u8, 48>, operand: Operand)
+    requires digit { HasOneDigit operand }
+    requires room { array_vec_len into.old + 7 ≤ 48 }
+    ensures items { into.new.items ≡ into.old.items ++ operand_text operand }
+    ensures len { array_vec_len into.new ≤ array_vec_len into.old + 7 }
+{
+    match operand {
+        Operand::Nothing => {}
+        Operand::Register(number) => {
+            put(into, b" R");
+            put(into, &hex2(number)[1..]);
+        }
+        Operand::Port(number) => {
+            put(into, b" ");
+            put(into, &hex2(number)[1..]);
+        }
+        Operand::Byte(value) => {
+            put(into, b" 0x");
+            put(into, &hex2(value));
+        }
+        Operand::Target(target) => {
+            put(into, b" 0x");
+            put(into, &hex4(target));
+        }
+    }
+}
+
+// A mnemonic, which is short.
+#[tactic(auto, unfolding(asm_lex::specs::Words::mnemonic_at))]
+fn mnemonic_at(opcode: u8) -> &'static str
+    ensures text { result.now ≡ mnemonic_at opcode }
+    ensures len { length result.now ≤ 4 }
+{
+    mnemonic(opcode)
+}
+
+#[tactic(auto, unfolding(crate::specs::Disassembly::instruction_text))]
+fn put_instruction(into: &mut ArrayVec<u8, 48>, bytes: &[u8], address: u16)
+    requires some { 0 < length bytes.now }
+    requires whole { size_at (opcode_in bytes.now) ≤ length bytes.now }
+    requires fits { address + length bytes.now ≤ 65536 }
+    requires empty { into.old.items ≡ [] }
+    ensures items { into.new.items ≡ instruction_text address bytes.now ++ newline }
+{
+    put(into, b" ");
+    put(into, mnemonic_at(bytes[0]).as_bytes());
+    put_operand(into, operand_at(bytes, address));
+    put(into, b"\n");
+}
+
+#[tactic(auto, unfolding(crate::specs::Disassembly::data_text))]
+fn put_data(into: &mut ArrayVec<u8, 48>, byte: u8)
+    requires empty { into.old.items ≡ [] }
+    ensures items { into.new.items ≡ data_text byte ++ newline }
+{
+    put(into, b" DB 0x");
+    put(into, &hex2(byte));
+    put(into, b"\n");
+}
+
+// Whether the bytes don't begin with a whole instruction.
+#[tactic(auto, unfolding(crate::specs::Disassembly::is_data))]
+fn is_data(bytes: &[u8]) -> bool
+    requires { 0 < length bytes.now }
+    ensures { result ≡ is_data bytes.now }
+{
+    bytes[0] == UNDEFINED || bytes.len() < usize::from(size_at(bytes[0]))
+}
+
+// Writes the first line of the disassembly of bytes that stand from an address on, and answers how many of them it shows.
+#[tactic(auto, unfolding(crate::specs::Disassembly::taken, crate::specs::Disassembly::first_line, crate::specs::Disassembly::is_data))]
+fn put_line(into: &mut ArrayVec<u8, 48>, bytes: &[u8], address: u16) -> u8
+    requires some { 0 < length bytes.now }
+    requires fits { address + length bytes.now ≤ 65536 }
+    requires empty { into.old.items ≡ [] }
+    ensures line { into.new.items ≡ ended_line address bytes.now }
+    ensures taken { result ≡ taken bytes.now }
+    ensures least { 1 ≤ result }
+    ensures most { result ≤ length bytes.now }
+{
+    if is_data(bytes) {
+        put_data(into, bytes[0]);
+        1
+    } else {
+        put_instruction(into, bytes, address);
+        size_at(bytes[0])
+    }
+}
+
+/// Writes one line of the disassembly of the first `have` bytes, 1 to 3, which stand from an address on, into an empty buffer, and
+/// answers how many of the bytes it shows. The line ends with a newline.
+pub fn one_line(three: [u8; 3], have: u8, address: u16, into: &mut ArrayVec<u8, 48>) -> u8
+    requires some { 1 ≤ have }
+    requires most { have ≤ 3 }
+    requires fits { address + have ≤ 65536 }
+    requires empty { into.old.items ≡ [] }
+    ensures line { into.new.items ≡ ended_line address (take have three) }
+    ensures taken { result ≡ taken (take have three) }
+{
+    put_line(into, &three[..usize::from(have)], address)
+}
+
+fn append_line(text: &mut Vec<u8>, bytes: &[u8], address: u16) -> Result<u8, AllocError>
+    requires some { 0 < length bytes.now }
+    requires fits { address + length bytes.now ≤ 65536 }
+    ensures line { OnOk result (text.new.items ≡ text.old.items ++ ended_line address bytes.now) }
+    ensures taken { IfOk result (λ shown. shown ≡ taken bytes.now) }
+    ensures least { IfOk result (λ shown. 1 ≤ shown) }
+    ensures most { IfOk result (λ shown. shown ≤ length bytes.now) }
+{
+    let mut line = ArrayVec::new();
+    let taken = put_line(&mut line, bytes, address);
+    append(text, line.as_slice())?;
+    Ok(taken)
+}
+
+/// The disassembly of bytes that stand from an address on: a line that sets the address, then one line for each instruction. Opcode 68,
+/// and an opcode whose further bytes are missing at the end, stands as a byte of data. Answers an error where memory is refused.
+pub fn disassemble(alloc: Global, bytes: &[u8], address: u16) -> Result<Vec<u8>, AllocError>
+    requires { address + length bytes.now ≤ 65536 }
+    ensures { IfOk result (λ text. text.items ≡ disassembly address bytes.now) }
+{
+    let mut text = Vec::new(alloc);
+    append(&mut text, b" ORG 0x")?;
+    append(&mut text, &hex4(address))?;
+    append(&mut text, b"\n")?;
+    let mut at = u32::from(address);
+    let mut rest = bytes;
+    while !rest.is_empty() {
+        let shown = append_line(&mut text, rest, at as u16)?;
+        at += u32::from(shown);
+        rest = &rest[usize::from(shown)..];
+    }
+    Ok(text)
+}
