@@ -2,3 +2,4 @@ pub mod Dump
 pub mod Row
 pub mod Disassembly
 pub mod Operands
+pub mod WayBack

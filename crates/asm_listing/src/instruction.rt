@@ -6,8 +6,10 @@ ghost use Rattle.machine.specs.Opcodes.{kind_of};
 ghost use Rattle.vip_isa.specs.Rows.{mnemonic_of};
 ghost use Rattle.asm_lex.specs.Words.{mnemonic_at, size_at};
 ghost use Rattle.asm_listing.specs.Disassembly.{data_text, disassembly, ended_line, expression_at, instruction_text, is_data, opcode_in, operand_at, operand_of_size, operand_text, taken};
+ghost use Rattle.asm_core.specs.Sources.{source_lines};
 ghost use Rattle.asm_listing.specs.Dump.{newline};
 ghost use Rattle.asm_listing.specs.Operands.{HasOneDigit};
+ghost use Rattle.asm_listing.specs.WayBack.{AssemblesTo};
 
 use crate::write::append;
 use arrayvec::ArrayVec;
@@ -227,10 +229,12 @@ fn append_line(text: &mut Vec<u8>, bytes: &[u8], address: u16) -> Result<u8, All
 }
 
 /// The disassembly of bytes that stand from an address on: a line that sets the address, then one line for each instruction. Opcode 68,
-/// and an opcode whose further bytes are missing at the end, stands as a byte of data. Answers an error where memory is refused.
+/// and an opcode whose further bytes are missing at the end, stands as a byte of data. Assembling the text gives the bytes at their
+/// addresses, and no others. Answers an error where memory is refused.
 pub fn disassemble(alloc: Global, bytes: &[u8], address: u16) -> Result<Vec<u8>, AllocError>
     requires { address + length bytes.now ≤ 65536 }
-    ensures { IfOk result (λ text. text.items ≡ disassembly address bytes.now) }
+    ensures text { IfOk result (λ text. text.items ≡ disassembly address bytes.now) }
+    ensures way_back { IfOk result (λ text. AssemblesTo (source_lines text.items) address bytes.now) }
 {
     let mut text = Vec::new(alloc);
     append(&mut text, b" ORG 0x")?;

@@ -77,7 +77,7 @@ fn disassembles(rt: HostRuntime) {
         (
             0,
             b"\xC0\x12",
-            b" ORG 0x0000\n DB 0xC0\n DB 0x12\n",
+            b" ORG 0x0000\n DB 0xC0\n INC R2\n",
         ),
         (0x01FE, b"\x3A\x00\xC4", b" ORG 0x01FE\n BNZ 0x0100\n NOP\n"),
     ];

@@ -1,10 +1,15 @@
-use Rattle.std.proofs.Common.{◌≡◌, ◌≤◌, ◌<◌, ◌+◌, ◌++◌, List, ℕ, [], ◌∷◌, length, drop, ap, sym, ◌∙◌, arith, refl}
+use Rattle.std.proofs.Common.{◌≡◌, ◌≤◌, ◌<◌, ◌+◌, ◌++◌, List, ℕ, [], ◌∷◌, length, drop, ap, sym, ◌∙◌, arith, refl, subst}
 use Rattle.std.specs.Prelude.{codes}
-use Rattle.std.proofs.lemmas.List.{take_rest, length-drop}
+use Rattle.std.proofs.lemmas.List.{take_rest, length-drop, get_or_default}
+use Rattle.std.proofs.lemmas.Bool.{eqb-true}
 use Rattle.vip_byte.specs.HexText.{hex4}
 use Rattle.asm_listing.specs.Disassembly.{taken, starts, lines_from, disassembly, origin, ended_line}
 use Rattle.asm_listing.specs.Dump.{newline}
-use Rattle.asm_listing.proofs.Starts.{lines-next, disassembly-first}
+use Rattle.asm_listing.proofs.Starts.{lines-next, lines-none, disassembly-first}
+use Rattle.asm_core.specs.Sources.{source_lines}
+use Rattle.asm_listing.specs.WayBack.{AssemblesTo}
+use Rattle.asm_listing.proofs.Assembled.{AreBytes}
+use Rattle.asm_listing.proofs.WayBack.{comes_back}
 use Rattle.asm_listing.proofs.instruction.disassemble.Goals as goal
 
 pub loop-rest-init : goal.loop-rest-init
@@ -35,3 +40,13 @@ loop-rest-preserved c =
           ∙ c.loop-rest.invariant.text;
       fits = omega (arith, c.loop-rest.invariant.fits, c.in_ok-shown.ensures.most, c.from-at-in-loop-rest.ensures, left, ap length (take_rest rest c.from.result), length-drop c.from.result rest);
     }
+
+pub returns-clause-way_back : goal.returns-clause-way_back
+returns-clause-way_back c =
+    let bytes = c.args.bytes.now in
+    let none : length c.loop-rest.rest.now ≡ 0 = eqb-true (length c.loop-rest.rest.now) 0 (sym c.loop-rest-test.ensures) in
+    let whole : c.loop-rest.text.items ≡ disassembly c.args.address bytes =
+    lines-none c.loop-rest.text.items c.loop-rest.rest.now c.loop-rest.at none ∙ c.loop-rest.invariant.text in
+    let low : AreBytes bytes = λ k d below. omega (arith, get_or_default bytes k d 0 below, c.type_inv.bytes k) in
+    subst (λ text. AssemblesTo (source_lines text) c.args.address bytes) (sym whole)
+    (comes_back c.args.address bytes low c.requires (omega (arith, c.ranges.address)))

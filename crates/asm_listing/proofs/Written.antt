@@ -1,0 +1,218 @@
+-- What the mnemonics and operands of a disassembly mean to the assembler.
+use Rattle.std.proofs.Common.{◌≡◌, ◌+◌, ◌-◌, ◌*◌, ◌/◌, ◌%◌, ◌<◌, ◌≤◌, ℕ, zero, suc, refl, Bool, List, [], ◌∷◌, ◌++◌, length, sym, ◌∙◌, ap, subst, arith, true, false, Some, None, Option, Ok, Err, Result, cond, leb, eqb, eqb-true, leb-true}
+use Rattle.std.specs.Prelude.{◌&&◌, ◌||◌, ◌==◌, not, nat_le, nat_lt, codes, slice_index}
+use Rattle.std.specs.Option.{option_map, option_map_or, option_and_then, ok_or}
+use Rattle.std.specs.List.{list_all, list_any}
+use Rattle.std.proofs.lemmas.Bool.{cond-true, cond-false, and_parts, and_from, le-leb, lt-ltb, ltb-true}
+use Rattle.std.proofs.lemmas.List.{append-nil}
+use Rattle.machine.specs.declared.Kind.{Kind}
+use Rattle.machine.specs.declared.Kind.TheVariants.{Idl, Ldn, Inc, Dec, Br, Lda, Str, Out, Inp, Undefined, Glo, Ghi, Plo, Phi, Sep, Sex}
+use Rattle.machine.specs.Opcodes.{kind_of, number_of}
+use Rattle.vip_isa.specs.Rows.{first_of, least_of, greatest_of, opcode_of, decoded, size_of, mnemonic_of}
+use Rattle.vip_isa.proofs.Below.{passes_below, at-passes_below}
+use Rattle.vip_isa.proofs.Opcodes.{opcode_of-decoded, decoded_is_valid}
+use Rattle.vip_byte.specs.HexText.{hex_digit, hex2, hex4}
+use Rattle.asm_lex.specs.declared.shape.Word.{Word}
+use Rattle.asm_lex.specs.declared.shape.Word.TheVariants.{Code, Org, Db}
+use Rattle.asm_lex.specs.declared.shape.LexFault.{LexFault}
+use Rattle.asm_lex.specs.declared.shape.LexFault.TheVariants.{BadOperand}
+use Rattle.asm_lex.specs.Bytes.{register_of}
+use Rattle.asm_lex.specs.Expressions.{sum_in, number_in, number_of as value_written, has_large_number}
+use Rattle.asm_lex.specs.Words.{size_at, mnemonic_at, directive_of, spells, opcodes, opcode_named, entry_of, meaning_of, coded, operands_of, operands_by_size, number_written, with_number, port_of, is_one_expression, are_expressions}
+use Rattle.asm_lex.specs.Lines.{Parsed, entry_meaning, word_meaning, parsed}
+use Rattle.asm_listing.specs.declared.instruction.Operand.{Operand}
+use Rattle.asm_listing.specs.declared.instruction.Operand.TheVariants.{Nothing, Register, Port, Byte, Target}
+use Rattle.asm_listing.specs.Disassembly.{opcode_in, expression_at, operand_of_size, operand_by, operand_at, operand_text}
+use Rattle.asm_listing.proofs.Plain.{IsPlain, is_plain, parts_of, parsed-alone, parsed-with}
+use Rattle.asm_listing.proofs.Values.{hex_text, digit_plain, byte_plain, word_plain, byte_number, word_number, one_number, small_number}
+
+-- the mnemonics are short words of plain characters
+abbrev is_short_word : List ℕ → Bool
+is_short_word word = list_all is_plain word && (nat_lt 0 (length word) && nat_le (length word) 4)
+
+short_mnemonic : (kind : Kind) → is_short_word (mnemonic_of kind) ≡ true
+short_mnemonic Idl = refl
+short_mnemonic _ = refl
+
+-- what a mnemonic means with these operands
+abbrev meaning_by : Kind → List (List ℕ) → Result (Option Word) LexFault
+meaning_by Undefined operands = ok_or (option_map Some (cond (are_expressions operands) (Some Db) None)) BadOperand
+meaning_by kind operands = ok_or (option_map Some (option_map Code (coded kind operands))) BadOperand
+
+pub mnemonic_means : (kind : Kind) (operands : List (List ℕ)) → word_meaning false operands (mnemonic_of kind) ≡ meaning_by kind operands
+unfolding word_meaning entry_meaning meaning_of entry_of directive_of opcode_named spells opcodes mnemonic_at
+mnemonic_means Undefined operands = refl
+mnemonic_means _ operands = refl
+
+pub org_means : (operands : List (List ℕ)) → word_meaning false operands (codes "ORG") ≡ ok_or (option_map Some (cond (is_one_expression operands) (Some Org) None)) BadOperand
+unfolding word_meaning entry_meaning meaning_of entry_of directive_of opcode_named spells opcodes mnemonic_at
+org_means operands = refl
+
+-- an operand as the assembler reads it
+abbrev pub operand_list : Operand → List (List ℕ)
+operand_list Nothing = []
+operand_list (Register number) = (82 ∷ hex_digit number ∷ []) ∷ []
+operand_list (Port number) = (hex_digit number ∷ []) ∷ []
+operand_list (Byte value) = hex_text (hex2 value) ∷ []
+operand_list (Target address) = hex_text (hex4 address) ∷ []
+
+-- its numbers are in their ranges
+abbrev pub IsInRange : Operand → Type 0
+IsInRange Nothing = Unit {0}
+IsInRange (Register number) = number < 16
+IsInRange (Port number) = number < 8
+IsInRange (Byte value) = value < 256
+IsInRange (Target address) = address < 65536
+
+is_false : (b : Bool) → not b ≡ true → b ≡ false
+is_false true e = absurd (cc)
+is_false false e = refl
+
+found : (o : Option ℕ) (n : ℕ) → option_map_or (λ m. eqb m n) o false ≡ true → o ≡ Some n
+found None n e = absurd (cc)
+found (Some m) n e = ap Some (eqb-true m n e)
+
+register_is : (n : ℕ) → n < 16 → register_of (82 ∷ hex_digit n ∷ []) ≡ Some n
+register_is n below = found _ n (at-passes_below (λ n. option_map_or (λ m. eqb m n) (register_of (82 ∷ hex_digit n ∷ [])) false) 16 refl n below)
+
+port_is : (n : ℕ) → 1 ≤ n → n ≤ 7 → port_of (hex_digit n ∷ []) ≡ Some n
+port_is n some most =
+    let k : n - 1 < 7 = omega arith in
+    let at : n - 1 + 1 ≡ n = omega arith in
+    let test : option_map_or (λ m. eqb m (n - 1 + 1)) (port_of (hex_digit (n - 1 + 1) ∷ [])) false ≡ true =
+    at-passes_below (λ k. option_map_or (λ m. eqb m (k + 1)) (port_of (hex_digit (k + 1) ∷ [])) false) 7 refl (n - 1) k in
+    subst (λ n. port_of (hex_digit n ∷ []) ≡ Some n) at (found _ (n - 1 + 1) test)
+
+-- a register or a port is no large number
+small_register : (n : ℕ) → n < 16 → has_large_number (82 ∷ hex_digit n ∷ []) ≡ false
+unfolding has_large_number sum_in value_written number_in
+small_register n below = is_false (has_large_number (82 ∷ hex_digit n ∷ [])) (at-passes_below (λ n. not (has_large_number (82 ∷ hex_digit n ∷ []))) 16 refl n below)
+
+small_port : (n : ℕ) → n < 16 → has_large_number (hex_digit n ∷ []) ≡ false
+unfolding has_large_number sum_in value_written number_in
+small_port n below = is_false (has_large_number (hex_digit n ∷ [])) (at-passes_below (λ n. not (has_large_number (hex_digit n ∷ []))) 16 refl n below)
+
+pub small_operands : (operand : Operand) → IsInRange operand → list_any has_large_number (operand_list operand) ≡ false
+small_operands Nothing low = refl
+small_operands (Register n) low = ap (λ b. b || false) (small_register n low)
+small_operands (Port n) low = ap (λ b. b || false) (small_port n (omega arith))
+small_operands (Byte b) low = ap (λ b. b || false) (small_number (hex_text (hex2 b)) (byte_plain b low) (omega arith) b (byte_number b low) (omega arith))
+small_operands (Target t) low = ap (λ b. b || false) (small_number (hex_text (hex4 t)) (word_plain t low) (omega arith) t (word_number t low) (omega arith))
+
+-- the bytes behind an opcode are written as one expression
+pub by_expression : (P : Operand → Type 0) (at : ℕ) (bytes : List ℕ) → ((t : ℕ) → P (Target t)) → ((b : ℕ) → P (Byte b)) → P (expression_at at bytes)
+unfolding expression_at
+by_expression P at bytes target byte =
+    elim (size_at (opcode_in bytes) == 3) as (λ b. P (cond b (Target (slice_index bytes 1 * 256 + slice_index bytes 2)) (cond (opcode_in bytes / 16 == 3) (Target ((at + 1) / 256 * 256 + slice_index bytes 1)) (Byte (slice_index bytes 1))))) [
+      | true ↦ target (slice_index bytes 1 * 256 + slice_index bytes 2)
+      | false ↦ elim (opcode_in bytes / 16 == 3) as (λ b. P (cond b (Target ((at + 1) / 256 * 256 + slice_index bytes 1)) (Byte (slice_index bytes 1)))) [
+        | true ↦ target ((at + 1) / 256 * 256 + slice_index bytes 1)
+        | false ↦ byte (slice_index bytes 1)
+      ]
+    ]
+
+is_written : (at : ℕ) (bytes : List ℕ) → IsInRange (expression_at at bytes) → is_one_expression (operand_list (expression_at at bytes)) ≡ true
+is_written at bytes = by_expression (λ o. IsInRange o → is_one_expression (operand_list o) ≡ true) at bytes
+    (λ t low. one_number (hex_text (hex4 t)) (word_plain t low) (omega arith) t (word_number t low))
+    (λ b low. one_number (hex_text (hex2 b)) (byte_plain b low) (omega arith) b (byte_number b low))
+
+module _ (at : ℕ) (bytes : List ℕ) where
+  abbrev n : ℕ
+  n = number_of (opcode_in bytes)
+
+  by_size : (kind : Kind) (size : ℕ) → size ≡ size_of kind → n ≡ 0 → IsInRange (operand_of_size size at bytes) → number_written (operands_by_size kind) (operand_list (operand_of_size size at bytes)) ≡ Some n
+  by_size kind size same none low =
+      let at_kind : IsInRange (operand_of_size (size_of kind) at bytes) = subst (λ size. IsInRange (operand_of_size size at bytes)) same low in
+      ap (λ size. number_written (operands_by_size kind) (operand_list (operand_of_size size at bytes))) same
+      ∙ elim (size_of kind == 1) as (λ b. IsInRange (cond b Nothing (expression_at at bytes)) → number_written (cond b (operands_by_size Idl) (operands_by_size Br)) (operand_list (cond b Nothing (expression_at at bytes))) ≡ Some n) [
+        | true ↦ λ h. ap Some (sym none)
+        | false ↦ λ h. cond-true (is_one_expression (operand_list (expression_at at bytes))) (Some 0) None (is_written at bytes h) ∙ ap Some (sym none)
+      ] at_kind
+
+  -- the number that an instruction's operand writes into the opcode
+  written : (kind : Kind) → least_of kind ≤ n → n ≤ greatest_of kind → size_at (opcode_in bytes) ≡ size_of kind → kind_of (opcode_in bytes) ≡ kind → IsInRange (operand_by kind at bytes)
+      → number_written (operands_of kind) (operand_list (operand_by kind at bytes)) ≡ Some n
+  written Ldn least most size is low = register_is n low
+  written Inc least most size is low = register_is n low
+  written Dec least most size is low = register_is n low
+  written Lda least most size is low = register_is n low
+  written Str least most size is low = register_is n low
+  written Glo least most size is low = register_is n low
+  written Ghi least most size is low = register_is n low
+  written Plo least most size is low = register_is n low
+  written Phi least most size is low = register_is n low
+  written Sep least most size is low = register_is n low
+  written Sex least most size is low = register_is n low
+  written Out least most size is low = port_is n least most
+  written Inp least most size is low = port_is n least most
+  written kind least most size is low = by_size kind (size_at (opcode_in bytes)) size (omega arith) low
+
+  size_is : size_at (opcode_in bytes) ≡ size_of (kind_of (opcode_in bytes))
+  unfolding size_at
+  size_is = refl
+
+  module _ (low : opcode_in bytes < 256) (ranged : IsInRange (operand_at at bytes)) where
+    least : least_of (kind_of (opcode_in bytes)) ≤ n
+    least = (decoded_is_valid (opcode_in bytes) low).from_least
+
+    most : n ≤ greatest_of (kind_of (opcode_in bytes))
+    most = (decoded_is_valid (opcode_in bytes) low).to_greatest
+
+    number_is : number_written (operands_of (kind_of (opcode_in bytes))) (operand_list (operand_at at bytes)) ≡ Some n
+    unfolding operand_at
+    number_is = written (kind_of (opcode_in bytes)) least most size_is refl ranged
+
+    numbered : with_number (kind_of (opcode_in bytes)) n ≡ Some (opcode_in bytes)
+    numbered =
+        cond-true (nat_le (least_of (kind_of (opcode_in bytes))) n && nat_le n (greatest_of (kind_of (opcode_in bytes)))) (Some (opcode_of (decoded (opcode_in bytes)))) None
+        (and_from _ _ (le-leb _ _ least) (le-leb _ _ most))
+        ∙ ap Some (opcode_of-decoded (opcode_in bytes) low)
+
+    -- the mnemonic with the operand is the opcode
+    pub coded_is : coded (kind_of (opcode_in bytes)) (operand_list (operand_at at bytes)) ≡ Some (opcode_in bytes)
+    unfolding coded
+    coded_is = ap (option_and_then (with_number (kind_of (opcode_in bytes)))) number_is ∙ numbered
+
+-- opcode 68 alone has no mnemonic
+undefined_opcode : (opcode : ℕ) (kind : Kind) → opcode < 256 → kind_of opcode ≡ kind → kind ≡ Undefined → opcode ≡ 104
+undefined_opcode opcode kind low is undefined =
+    let kind_is : kind_of opcode ≡ Undefined = is ∙ undefined in
+    let whole : opcode_of (decoded opcode) ≡ opcode = opcode_of-decoded opcode low in
+    let none : number_of opcode ≤ greatest_of (kind_of opcode) = (decoded_is_valid opcode low).to_greatest in
+    let first : first_of (kind_of opcode) ≡ 104 = ap first_of kind_is in
+    let last : greatest_of (kind_of opcode) ≡ 0 = ap greatest_of kind_is in
+    omega (arith, whole, none, first, last)
+
+meaning_coded : (kind : Kind) (operands : List (List ℕ)) → (kind ≡ Undefined → ⊥) → meaning_by kind operands ≡ ok_or (option_map Some (option_map Code (coded kind operands))) BadOperand
+meaning_coded Undefined operands other = absurd (other refl)
+meaning_coded Idl operands other = refl
+meaning_coded _ operands other = refl
+
+pub instruction_means : (at : ℕ) (bytes : List ℕ) → opcode_in bytes < 256 → (opcode_in bytes ≡ 104 → ⊥) → IsInRange (operand_at at bytes)
+    → word_meaning false (operand_list (operand_at at bytes)) (mnemonic_at (opcode_in bytes)) ≡ Ok (Some (Code (opcode_in bytes)))
+unfolding mnemonic_at
+instruction_means at bytes low other ranged =
+    mnemonic_means (kind_of (opcode_in bytes)) (operand_list (operand_at at bytes))
+    ∙ meaning_coded (kind_of (opcode_in bytes)) (operand_list (operand_at at bytes)) (λ e. other (undefined_opcode (opcode_in bytes) (kind_of (opcode_in bytes)) low refl e))
+    ∙ ap (λ o. ok_or (option_map Some (option_map Code o)) BadOperand) (coded_is at bytes low ranged)
+
+-- a line of a word and an operand
+pub operand_parsed : (w : List ℕ) → IsPlain w → 0 < length w → length w ≤ 4 → (operand : Operand) → IsInRange operand → (meaning : Word) → word_meaning false (operand_list operand) w ≡ Ok (Some meaning)
+    → parsed (32 ∷ (w ++ operand_text operand)) ≡ Ok (parts_of meaning (operand_list operand))
+operand_parsed w plain there short Nothing low meaning meant = ap (λ t. parsed (32 ∷ t)) (append-nil w) ∙ parsed-alone w plain there short meaning meant
+operand_parsed w plain there short (Register n) low meaning meant =
+    parsed-with w plain there short (82 ∷ hex_digit n ∷ []) (and_from _ _ refl (and_from _ _ (digit_plain n low) refl)) (omega arith) (omega arith) meaning meant
+operand_parsed w plain there short (Port n) low meaning meant =
+    parsed-with w plain there short (hex_digit n ∷ []) (and_from _ _ (digit_plain n (omega arith)) refl) (omega arith) (omega arith) meaning meant
+operand_parsed w plain there short (Byte b) low meaning meant =
+    parsed-with w plain there short (hex_text (hex2 b)) (byte_plain b low) (omega arith) (omega arith) meaning meant
+operand_parsed w plain there short (Target t) low meaning meant =
+    parsed-with w plain there short (hex_text (hex4 t)) (word_plain t low) (omega arith) (omega arith) meaning meant
+
+pub mnemonic_parsed : (opcode : ℕ) (operand : Operand) → IsInRange operand → (meaning : Word) → word_meaning false (operand_list operand) (mnemonic_at opcode) ≡ Ok (Some meaning)
+    → parsed (32 ∷ (mnemonic_at opcode ++ operand_text operand)) ≡ Ok (parts_of meaning (operand_list operand))
+unfolding mnemonic_at
+mnemonic_parsed opcode operand low meaning meant =
+    let short = and_parts _ _ (short_mnemonic (kind_of opcode)) in
+    let sized = and_parts _ _ short.1 in
+    operand_parsed (mnemonic_of (kind_of opcode)) short.0 (ltb-true 0 (length (mnemonic_of (kind_of opcode))) sized.0) (leb-true (length (mnemonic_of (kind_of opcode))) 4 sized.1) operand low meaning meant
