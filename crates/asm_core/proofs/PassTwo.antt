@@ -1,10 +1,10 @@
 -- Pass 2, line by line.
 use Rattle.std.proofs.Common.{◌≡◌, ◌+◌, ◌-◌, ◌*◌, ◌/◌, ◌%◌, ◌<◌, ◌≤◌, ℕ, suc, refl, Bool, List, [], ◌∷◌, length, sym, ◌∙◌, ap, arith, true, false, cond, Some, None, Option, Ok, Err, Result, inl, inr, below_more}
-use Rattle.std.specs.Prelude.{map, flat_map, replicate, ◌==◌, nat_le, is_some, is_err}
+use Rattle.std.specs.Prelude.{◌&&◌, map, flat_map, replicate, ◌==◌, nat_le, is_some, is_err}
 use Rattle.std.specs.Option.{option_or}
 use Rattle.std.specs.List.{list_any}
 use Rattle.std.specs.Result.{result_err, result_unwrap_or, result_map_both}
-use Rattle.std.proofs.lemmas.Bool.{leb-true, eqb-true, eqb-false}
+use Rattle.std.proofs.lemmas.Bool.{and_parts, cond-true, leb-true, eqb-true, eqb-false, eq-eqb}
 use Rattle.std.proofs.lemmas.List.{length-map, length-replicate}
 use Rattle.machine.specs.declared.Kind.{Kind}
 use Rattle.machine.specs.declared.Kind.TheVariants.{Idl}
@@ -23,9 +23,9 @@ use Rattle.asm_core.specs.declared.table.Cell.{Cell}
 use Rattle.asm_core.specs.declared.fault.AsmCause.{AsmCause}
 use Rattle.asm_core.specs.declared.fault.AsmCause.TheVariants.{Overlap, Duplicate, OffPage, TooLarge}
 use Rattle.asm_core.specs.Names.{Names, value_in, operand_value, first_operand}
-use Rattle.asm_core.specs.Layout.{laid, laid_out, label_in, laid_parts, from_parts, judged, placed, is_duplicate, is_too_large, value_cause}
+use Rattle.asm_core.specs.Layout.{laid, laid_out, label_in, laid_parts, from_parts, judged, placed, is_duplicate, is_too_large, page_above, value_cause}
 use Rattle.asm_core.specs.Encoding.{word_bytes, is_undefined, collected, values_of, long_branch, to_page, short_branch, immediate, instruction, encoded_parts, encoded}
-use Rattle.asm_core.specs.Sources.{Known, known_after, known_at, address_of, all_names, line_at, fault_1, fault_2, bytes_of, cell_of, cell_in, cell_before, fault_with, NoFault, IsFirstFault}
+use Rattle.asm_core.specs.Sources.{Known, known_after, known_at, address_of, all_names, line_at, fault_1, fault_2, value_from, label_value, bytes_of, cell_of, cell_in, cell_before, fault_with, NoFault, IsFirstFault}
 use Rattle.asm_core.specs.Made.{Made, IsAssembly, IsFirstOf}
 use Rattle.asm_core.specs.Passes.{LaysOut, PutsLine, HasBytes, IsCauseOf, IsFirstIn}
 use Rattle.asm_core.specs.declared.fault.AsmFault.{AsmFault}
@@ -33,14 +33,16 @@ use Rattle.asm_core.specs.declared.fault.AsmFault.TheVariants.{Fault, NoMemory}
 use Rattle.asm_core.proofs.PassOne.{known_at-next}
 use Rattle.asm_core.proofs.Cells.{entry}
 
--- an instruction has a byte at least
-some_size : (kind : Kind) → nat_le 1 (size_of kind) ≡ true
+-- an instruction has one byte, two or three
+some_size : (kind : Kind) → (nat_le 1 (size_of kind) && nat_le (size_of kind) 3) ≡ true
 some_size Idl = refl
 some_size _ = refl
 
-size_at-some : (opcode : ℕ) → 1 ≤ size_at opcode
+size_at-some : (opcode : ℕ) → (1 ≤ size_at opcode) × (size_at opcode ≤ 3)
 unfolding size_at
-size_at-some opcode = leb-true 1 (size_of (kind_of opcode)) (some_size (kind_of opcode))
+size_at-some opcode =
+    let both = and_parts _ _ (some_size (kind_of opcode)) in
+    (leb-true 1 (size_of (kind_of opcode)) both.0, leb-true (size_of (kind_of opcode)) 3 both.1)
 
 -- what a result was made from
 mapped_ok : {X Y E F : Type 0} (f : X → Y) (g : E → F) (r : Result X E) (y : Y) → result_map_both f g r ≡ Ok y → (x : X) × (r ≡ Ok x) × (f x ≡ y)
@@ -77,48 +79,87 @@ short_length : (at opcode : ℕ) (r : Result ℕ ValueFault) (bytes : List ℕ) 
 short_length at opcode (Ok target) bytes e = to_page_length at opcode target bytes e
 short_length at opcode (Err fault) bytes e = absurd (cc)
 
-instruction_length : (names : Names) (at opcode : ℕ) (operand : List ℕ) (bytes : List ℕ) → instruction names at opcode operand ≡ Ok bytes → length bytes ≤ size_at opcode
+instruction_length : (names : Names) (at opcode : ℕ) (operand : List ℕ) (bytes : List ℕ) → instruction names at opcode operand ≡ Ok bytes → length bytes ≡ size_at opcode
 unfolding instruction
 instruction_length names at opcode operand bytes e =
     let word : Result ℕ ValueFault = operand_value names at 65535 operand in
     let byte : Result ℕ ValueFault = operand_value names at 255 operand in
     let rest_2 : Result (List ℕ) AsmCause = cond (opcode / 16 == 3) (short_branch at opcode word) (immediate opcode byte) in
     let rest_3 : Result (List ℕ) AsmCause = cond (size_at opcode == 3) (long_branch opcode word) rest_2 in
-    elim (size_at opcode == 1) as (λ b. (size_at opcode == 1) ≡ b → cond b (Ok (opcode ∷ [])) rest_3 ≡ Ok bytes → length bytes ≤ size_at opcode) [
+    elim (size_at opcode == 1) as (λ b. (size_at opcode == 1) ≡ b → cond b (Ok (opcode ∷ [])) rest_3 ≡ Ok bytes → length bytes ≡ size_at opcode) [
       | true ↦ λ one h. let same : (opcode ∷ []) ≡ bytes = cc in omega (arith, ap length same, eqb-true (size_at opcode) 1 one)
-      | false ↦ λ not_one h. elim (size_at opcode == 3) as (λ b. (size_at opcode == 3) ≡ b → cond b (long_branch opcode word) rest_2 ≡ Ok bytes → length bytes ≤ size_at opcode) [
+      | false ↦ λ not_one h. elim (size_at opcode == 3) as (λ b. (size_at opcode == 3) ≡ b → cond b (long_branch opcode word) rest_2 ≡ Ok bytes → length bytes ≡ size_at opcode) [
         | true ↦ λ three k. let found = mapped_ok (λ target. opcode ∷ word_bytes target) value_cause word bytes k in omega (arith, ap length found.2, eqb-true (size_at opcode) 3 three)
         | false ↦ λ not_three k.
             let two : length bytes ≡ 2 = elim (opcode / 16 == 3) as (λ b. cond b (short_branch at opcode word) (immediate opcode byte) ≡ Ok bytes → length bytes ≡ 2) [
               | true ↦ λ m. short_length at opcode word bytes m
               | false ↦ λ m. let found = mapped_ok (λ byte. opcode ∷ byte ∷ []) value_cause byte bytes m in sym (ap length found.2)
             ] k in
-            omega (arith, size_at-some opcode, eqb-false (size_at opcode) 1 not_one)
+            omega (arith, two, (size_at-some opcode).0, (size_at-some opcode).1, eqb-false (size_at opcode) 1 not_one, eqb-false (size_at opcode) 3 not_three)
       ] refl h
     ] refl e
 
--- the bytes of a line by its parts end where the line does
-parts_fit : (before after : Names) (at : ℕ) (word : Option Word) (operands : List (List ℕ)) (found : Laid) (bytes : List ℕ) → at ≤ 65536 → found.next ≤ 65536
-    → placed before at word operands ≡ Ok found → encoded_parts after at found.next word operands ≡ Ok bytes → at + length bytes ≤ 65536
+-- how many bytes a line has: those up to the next address, unless it moves the address or gives its label another value
+abbrev pub count_between : ℕ → ℕ → ℕ → ℕ
+count_between value at next = cond (value == at) (next - at) 0
+
+count_placed : (at next : ℕ) → next - at ≡ count_between at at next
+count_placed at next = sym (cond-true (at == at) (next - at) 0 (eq-eqb at at refl))
+
+count_moved : (at next : ℕ) → 0 ≡ count_between next at next
+count_moved at next = elim (next == at) as (λ b. (next == at) ≡ b → 0 ≡ cond b (next - at) 0) [
+  | true ↦ λ e. omega (arith, eqb-true next at e)
+  | false ↦ λ e. refl
+] refl
+
+count_equal : (value at : ℕ) → 0 ≡ count_between value at at
+count_equal value at = elim (value == at) as (λ b. 0 ≡ cond b (at - at) 0) [
+  | true ↦ omega arith
+  | false ↦ refl
+]
+
+abbrev count_in : ℕ → Laid → ℕ
+count_in at laid = count_between laid.value at laid.next
+
+parts_count : (before after : Names) (at : ℕ) (word : Option Word) (operands : List (List ℕ)) (found : Laid) (bytes : List ℕ)
+    → placed before at word operands ≡ Ok found → encoded_parts after at found.next word operands ≡ Ok bytes → length bytes ≡ count_in at found
 unfolding placed encoded_parts
-parts_fit before after at None operands found bytes low high p e = let same : [] ≡ bytes = cc in omega (arith, ap length same)
-parts_fit before after at (Some (Code opcode)) operands found bytes low high p e =
+parts_count before after at None operands found bytes p e =
+    let none : [] ≡ bytes = cc in
+    let same : laid at at ≡ found = cc in
+    sym (ap length none) ∙ count_equal at at ∙ ap (count_in at) same
+parts_count before after at (Some (Code opcode)) operands found bytes p e =
     let same : laid at (at + size_at opcode) ≡ found = cc in
-    omega (arith, ap (λ (l : Laid). l.next) same, instruction_length after at opcode (first_operand operands) bytes e)
-parts_fit before after at (Some Org) operands found bytes low high p e = let same : [] ≡ bytes = cc in omega (arith, ap length same)
-parts_fit before after at (Some Equ) operands found bytes low high p e = let same : [] ≡ bytes = cc in omega (arith, ap length same)
-parts_fit before after at (Some Db) operands found bytes low high p e =
+    let count : at + size_at opcode - at ≡ size_at opcode = omega arith in
+    instruction_length after at opcode (first_operand operands) bytes e ∙ sym count ∙ count_placed at (at + size_at opcode) ∙ ap (count_in at) same
+parts_count before after at (Some Org) operands found bytes p e =
+    let none : [] ≡ bytes = cc in
+    let from = mapped_ok (λ address. laid address address) (λ (fault : ValueFault). fault) (operand_value before at 65535 (first_operand operands)) found p in
+    sym (ap length none) ∙ count_moved at from.0 ∙ ap (count_in at) from.2
+parts_count before after at (Some Equ) operands found bytes p e =
+    let none : [] ≡ bytes = cc in
+    let from = mapped_ok (λ value. laid value at) (λ (fault : ValueFault). fault) (operand_value before at 65535 (first_operand operands)) found p in
+    sym (ap length none) ∙ count_equal from.0 at ∙ ap (count_in at) from.2
+parts_count before after at (Some Db) operands found bytes p e =
     let same : laid at (at + length operands) ≡ found = cc in
     let values = mapped_ok (λ (bytes : List ℕ). bytes) value_cause (values_of after at 255 operands) bytes e in
-    omega (arith, ap (λ (l : Laid). l.next) same, ap length values.2, values_length after at 255 operands values.0 values.1)
-parts_fit before after at (Some Dw) operands found bytes low high p e =
+    let count : length bytes ≡ at + length operands - at = omega (arith, ap length values.2, values_length after at 255 operands values.0 values.1) in
+    count ∙ count_placed at (at + length operands) ∙ ap (count_in at) same
+parts_count before after at (Some Dw) operands found bytes p e =
     let same : laid at (at + 2 * length operands) ≡ found = cc in
     let values = mapped_ok (flat_map word_bytes) value_cause (values_of after at 65535 operands) bytes e in
-    omega (arith, ap (λ (l : Laid). l.next) same, ap length values.2, length-words values.0, values_length after at 65535 operands values.0 values.1)
-parts_fit before after at (Some Ds) operands found bytes low high p e =
-    let same : replicate (found.next - at) 0 ≡ bytes = cc in
-    omega (arith, ap length same, length-replicate {A = ℕ} (found.next - at) 0)
-parts_fit before after at (Some Page) operands found bytes low high p e = let same : [] ≡ bytes = cc in omega (arith, ap length same)
+    let count : length bytes ≡ at + 2 * length operands - at = omega (arith, ap length values.2, length-words values.0, values_length after at 65535 operands values.0 values.1) in
+    count ∙ count_placed at (at + 2 * length operands) ∙ ap (count_in at) same
+parts_count before after at (Some Ds) operands found bytes p e =
+    let from = mapped_ok (λ count. laid at (at + count)) (λ (fault : ValueFault). fault) (operand_value before at 65535 (first_operand operands)) found p in
+    let zeros : replicate (found.next - at) 0 ≡ bytes = cc in
+    let next : at + from.0 ≡ found.next = ap (λ (l : Laid). l.next) from.2 in
+    let count : length bytes ≡ at + from.0 - at = sym (ap length zeros) ∙ length-replicate {A = ℕ} (found.next - at) 0 ∙ ap (λ n. n - at) (sym next) in
+    count ∙ count_placed at (at + from.0) ∙ ap (count_in at) from.2
+parts_count before after at (Some Page) operands found bytes p e =
+    let none : [] ≡ bytes = cc in
+    let same : laid (page_above at) (page_above at) ≡ found = cc in
+    sym (ap length none) ∙ count_moved at (page_above at) ∙ ap (count_in at) same
 
 chosen_ok : (large : Bool) (l found : Laid) → cond {A = Result Laid AsmCause} large (Err TooLarge) (Ok l) ≡ Ok found → l ≡ found
 chosen_ok true l found e = absurd (cc)
@@ -138,33 +179,60 @@ laid_parts_ok names at parts found e =
       | false ↦ λ h. judged_ok (is_some parts.label) (list_any has_large_number parts.operands) (placed names at parts.word parts.operands) found h
     ] e
 
-from_parts_fit : (before after : Names) (at : ℕ) (r : Result Parsed LexFault) (found : Laid) (bytes : List ℕ) → at ≤ 65536 → found.next ≤ 65536
-    → from_parts (laid_parts before at) r ≡ Ok found → from_parts (λ line. encoded_parts after at found.next line.word line.operands) r ≡ Ok bytes → at + length bytes ≤ 65536
-from_parts_fit before after at (Err fault) found bytes low high l e = absurd (cc)
-from_parts_fit before after at (Ok parts) found bytes low high l e = parts_fit before after at parts.word parts.operands found bytes low high (laid_parts_ok before at parts found l) e
+from_parts_count : (before after : Names) (at : ℕ) (r : Result Parsed LexFault) (found : Laid) (bytes : List ℕ)
+    → from_parts (laid_parts before at) r ≡ Ok found → from_parts (λ line. encoded_parts after at found.next line.word line.operands) r ≡ Ok bytes → length bytes ≡ count_in at found
+from_parts_count before after at (Err fault) found bytes l e = absurd (cc)
+from_parts_count before after at (Ok parts) found bytes l e = parts_count before after at parts.word parts.operands found bytes (laid_parts_ok before at parts found l) e
+
+line_count : (before after : Names) (at : ℕ) (line : List ℕ) (found : Laid) (bytes : List ℕ)
+    → laid_out before at line ≡ Ok found → encoded after at found.next line ≡ Ok bytes → length bytes ≡ count_in at found
+unfolding laid_out encoded
+line_count before after at line found bytes l e = from_parts_count before after at (parsed line) found bytes l e
+
+-- so they end where the line does
+count_fits : (value at next : ℕ) → at ≤ 65536 → next ≤ 65536 → at + count_between value at next ≤ 65536
+count_fits value at next low high = elim (value == at) as (λ b. at + cond b (next - at) 0 ≤ 65536) [
+  | true ↦ omega arith
+  | false ↦ omega arith
+]
 
 line_fits : (before after : Names) (at : ℕ) (line : List ℕ) (found : Laid) (bytes : List ℕ) → at ≤ 65536 → found.next ≤ 65536
     → laid_out before at line ≡ Ok found → encoded after at found.next line ≡ Ok bytes → at + length bytes ≤ 65536
-unfolding laid_out encoded
-line_fits before after at line found bytes low high l e = from_parts_fit before after at (parsed line) found bytes low high l e
+line_fits before after at line found bytes low high l e = omega (arith, line_count before after at line found bytes l e, count_fits found.value at found.next low high)
 
 no_error : {X : Type 0} (r : Result X AsmCause) → result_err r ≡ None → (x : X) × (r ≡ Ok x)
 no_error (Ok x) e = (x, refl)
 no_error (Err cause) e = absurd (cc)
 
 module _ (source : List (List ℕ)) where
+  -- how many bytes a line has
+  pub bytes_count : NoFault (fault_1 source) (length source) → (number : ℕ) → number < length source → (bytes : List ℕ) → bytes_of source number ≡ Ok bytes
+      → length bytes ≡ count_between (label_value source number) (address_of source number) (address_of source (number + 1))
+  unfolding fault_1 bytes_of label_value
+  bytes_count faultless number below bytes e =
+      let at : ℕ = address_of source number in
+      let found = no_error (laid_out (known_at source number).names at (line_at source number)) (faultless number below) in
+      let next : address_of source (number + 1) ≡ found.0.next =
+      ap (λ (k : Known). k.at) (known_at-next source number below ∙ ap (known_after (known_at source number) (label_in (line_at source number))) found.1) in
+      let step : suc number ≡ number + 1 = omega arith in
+      let value : value_from (laid_out (known_at source number).names at (line_at source number)) ≡ found.0.value = ap value_from found.1 in
+      line_count (known_at source number).names (all_names source) at (line_at source number) found.0 bytes found.1
+      (ap (λ n. encoded (all_names source) at n (line_at source number)) (sym (ap (λ n. address_of source n) step ∙ next)) ∙ e)
+      ∙ ap (λ v. count_between v at found.0.next) (sym value)
+      ∙ ap (λ n. count_between (value_from (laid_out (known_at source number).names at (line_at source number))) at n) (sym next)
+
   -- the bytes of a line end at address 65536 at most
-  pub bytes_fit : (names : List (List ℕ × ℕ)) (addresses : List ℕ) → LaysOut source (length source) names addresses → (number : ℕ) → number < length source → (after : Names) (bytes : List ℕ)
+  pub bytes_fit : (names : List (List ℕ × ℕ)) (addresses values : List ℕ) → LaysOut source (length source) names addresses values → (number : ℕ) → number < length source → (after : Names) (bytes : List ℕ)
       → encoded after (address_of source number) (address_of source (number + 1)) (line_at source number) ≡ Ok bytes → address_of source number + length bytes ≤ 65536
   unfolding fault_1
-  bytes_fit names addresses plan number below after bytes e =
+  bytes_fit names addresses values plan number below after bytes e =
       let found = no_error (laid_out (known_at source number).names (address_of source number) (line_at source number)) (plan.faultless number below) in
       let next : address_of source (number + 1) ≡ found.0.next =
       ap (λ (k : Known). k.at) (known_at-next source number below ∙ ap (known_after (known_at source number) (label_in (line_at source number))) found.1) in
       line_fits (known_at source number).names after (address_of source number) (line_at source number) found.0 bytes (plan.low number (omega arith)) (omega (arith, next, plan.low (number + 1) (omega arith))) found.1
       (ap (λ n. encoded after (address_of source number) n (line_at source number)) (sym next) ∙ e)
 
-  module _ (names : List (List ℕ × ℕ)) (addresses : List ℕ) (plan : LaysOut source (length source) names addresses) (number : ℕ) (below : number < length source) where
+  module _ (names : List (List ℕ × ℕ)) (addresses values : List ℕ) (plan : LaysOut source (length source) names addresses values) (number : ℕ) (below : number < length source) where
     all_same : value_in names ≡ all_names source
     all_same = λ i name. plan.named name i
 
@@ -227,13 +295,15 @@ first_in_2 found fault count number (Fault line cause) is first = (number, is.0,
 first_in_2 found fault count number NoMemory is first = tt
 
 -- both passes give the assembly
-pub is_assembly : (source : List (List ℕ)) (made : Made) → LaysOut source (length source) made.names made.addresses → HasBytes source (length source) made.cells → IsAssembly source made
+pub is_assembly : (source : List (List ℕ)) (made : Made) → LaysOut source (length source) made.names made.addresses made.values → HasBytes source (length source) made.cells → IsAssembly source made
 is_assembly source made plan has = record {
   no_fault_1 = plan.faultless;
   no_fault_2 = has.faultless;
   cells = λ address below. has.bytes address;
   names = plan.named;
   addresses = plan.placed;
+  count = plan.values_count;
+  values = plan.valued;
 }
 
 pub first_of_1 : (source : List (List ℕ)) (f : AsmFault) → IsFirstIn (fault_1 source) (length source) f → IsFirstOf source f

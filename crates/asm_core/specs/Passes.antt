@@ -1,5 +1,5 @@
 -- What the passes have found of the lines before a line.
-use Rattle.std.specs.Prelude.{◌≡◌, ◌+◌, ◌≤◌, ℕ, false, List, length, slice_index, slice_index_or, Option, None, Some, Result, Err}
+use Rattle.std.specs.Prelude.{◌≡◌, ◌+◌, ◌<◌, ◌≤◌, ℕ, false, List, length, slice_index, slice_index_or, Option, None, Some, Result, Err}
 use Rattle.asm_core.specs.declared.layout.Laid.{Laid}
 use Rattle.asm_core.specs.declared.table.Cell.{Cell}
 use Rattle.std.specs.Option.{option_or}
@@ -9,7 +9,7 @@ use Rattle.asm_core.specs.declared.fault.AsmFault.{AsmFault}
 use Rattle.asm_core.specs.declared.fault.AsmFault.TheVariants.{Fault, NoMemory}
 use Rattle.asm_core.specs.Names.{value_in, with_label}
 use Rattle.asm_core.specs.Layout.{laid_out, label_in}
-use Rattle.asm_core.specs.Sources.{NoFault, IsFirstFault, fault_1, fault_2, known_at, address_of, overlaps, cell_in, cell_before}
+use Rattle.asm_core.specs.Sources.{NoFault, IsFirstFault, fault_1, fault_2, known_at, address_of, label_value, overlaps, cell_in, cell_before}
 
 -- a fault has the cause of a line with this number
 abbrev pub IsFaultOf : {X : Type 0} → Result X AsmCause → ℕ → AsmFault → Type 0
@@ -22,21 +22,21 @@ IsFirstIn fault count (Fault line cause) = (i : ℕ) × (line ≡ i + 1) × IsFi
 IsFirstIn fault count NoMemory = Unit {0}
 
 -- a line in pass 1 leads from the names before it to those behind it, and to the next address
-pub record AddsLine (old : List (List ℕ × ℕ)) (at : ℕ) (line : List ℕ) (new : List (List ℕ × ℕ)) (next : ℕ) : Type 0 where
-  pub laid : Laid
+pub record AddsLine (old : List (List ℕ × ℕ)) (at : ℕ) (line : List ℕ) (new : List (List ℕ × ℕ)) (laid : Laid) : Type 0 where
   pub is : laid_out (value_in old) at line ≡ Ok laid
-  pub next_is : next ≡ laid.next
   pub names : (name : List ℕ) → value_in new name ≡ with_label (value_in old) (label_in line) laid.value name
-  pub low : next ≤ 65536
+  pub low : laid.next ≤ 65536
 
--- pass 1 over the first lines found no fault, and these names and addresses
-pub record LaysOut (source : List (List ℕ)) (count : ℕ) (names : List (List ℕ × ℕ)) (addresses : List ℕ) : Type 0 where
+-- pass 1 over the first lines found no fault, and these names, addresses and values
+pub record LaysOut (source : List (List ℕ)) (count : ℕ) (names : List (List ℕ × ℕ)) (addresses values : List ℕ) : Type 0 where
   pub inside : count ≤ length source
   pub faultless : NoFault (fault_1 source) count
   pub named : (name : List ℕ) → value_in names name ≡ (known_at source count).names name
   pub count_is : length addresses ≡ count + 1
   pub placed : (i : ℕ) → i ≤ count → slice_index addresses i ≡ address_of source i
   pub low : (i : ℕ) → i ≤ count → address_of source i ≤ 65536
+  pub values_count : length values ≡ count
+  pub valued : (i : ℕ) → i < count → slice_index values i ≡ label_value source i
 
 -- a fault is the cause that was found in a line with this number
 abbrev pub IsCauseOf : Option AsmCause → ℕ → AsmFault → Type 0

@@ -52,6 +52,14 @@ all_names source = (known_at source (length source)).names
 unfoldable pub fault_1 : List (List ℕ) → ℕ → Option AsmCause
 fault_1 source i = result_err (laid_out (known_at source i).names (address_of source i) (line_at source i))
 
+-- the value that a label of line i has, or would have: that of EQU, the new address for ORG and PAGE, else the line's own address
+abbrev pub value_from : Result Laid AsmCause → ℕ
+value_from (Ok laid) = laid.value
+value_from (Err cause) = 0
+
+unfoldable pub label_value : List (List ℕ) → ℕ → ℕ
+label_value source i = value_from (laid_out (known_at source i).names (address_of source i) (line_at source i))
+
 -- the bytes of line i; byte j of it has the address of the line, and j
 unfoldable pub bytes_of : List (List ℕ) → ℕ → Result (List ℕ) AsmCause
 bytes_of source i = encoded (all_names source) (address_of source i) (address_of source (suc i)) (line_at source i)

@@ -3,7 +3,7 @@
 ghost use Rattle.std.specs.Prelude.{◌≡◌};
 ghost use Rattle.asm_core.specs.Names.{value_in};
 
-use crate::names::Symbols;
+use crate::names::{SymbolIter, Symbols};
 use crate::table::Cell;
 use std::marker::Model;
 
@@ -13,33 +13,56 @@ pub struct Assembly {
     cells: Vec<Option<Cell>>,
     names: Symbols,
     addresses: Vec<u32>,
+    values: Vec<u32>,
+}
+
+/// Where a line of a source stands.
+#[derive(Clone, Copy, Debug, PartialEq, Eq)]
+pub struct LinePlace {
+    /// The value that a label of the line has or would have: that of EQU, the new address for ORG and PAGE, else `at`.
+    pub value: u32,
+    /// The address at which the line begins, at most 65,536.
+    pub at: u32,
+    /// The address behind the line, at most 65,536.
+    pub next: u32,
 }
 
 impl Model for Assembly {
-    ghost use Rattle.std.specs.Prelude.{◌≡◌, length};
+    ghost use Rattle.std.specs.Prelude.{◌≡◌, ◌+◌, length};
     ghost use Rattle.asm_core.specs.Made.{Made, made_code};
 
     ghost Value = { Made };
 
     ghost coded = { made_code };
 
-    ghost view = { λ made. record { cells = made.cells.items; names = made.names; addresses = made.addresses.items } };
+    ghost view = { λ made. record { cells = made.cells.items; names = made.names; addresses = made.addresses.items; values = made.values.items } };
 
-    ghost invariant = { λ made. length made.cells.items ≡ 65536 };
+    ghost invariant = { λ made. (length made.cells.items ≡ 65536) × (length made.addresses.items ≡ length made.values.items + 1) };
 }
 
 impl Assembly {
-    ghost use Rattle.std.specs.Prelude.{◌≡◌, option_map, length};
-    ghost use Rattle.asm_core.specs.Made.{cell_at};
+    ghost use Rattle.std.specs.Prelude.{◌≡◌, ◌+◌, ◌<◌, option_map, length};
+    ghost use Rattle.std.specs.List.Sorted.{IsStrictlySortedBy};
+    ghost use Rattle.std.specs.Map.{keys_of};
+    ghost use Rattle.std.specs.Ordering.{nat_cmp};
+    ghost use Rattle.std.specs.Cmp.Lexicographic.{slice_cmp};
+    ghost use Rattle.asm_core.specs.Made.{cell_at, line_place};
 
-    pub(crate) fn new(cells: Vec<Option<Cell>>, names: Symbols, addresses: Vec<u32>) -> Self
-        requires { length cells.items ≡ 65536 }
-        ensures { result ≡ record { cells = cells.items; names = names; addresses = addresses.items } }
+    pub(crate) fn new(
+        cells: Vec<Option<Cell>>,
+        names: Symbols,
+        addresses: Vec<u32>,
+        values: Vec<u32>,
+    ) -> Self
+        requires cells { length cells.items ≡ 65536 }
+        requires lines { length addresses.items ≡ length values.items + 1 }
+        ensures { result ≡ record { cells = cells.items; names = names; addresses = addresses.items; values = values.items } }
     {
         Assembly {
             cells,
             names,
             addresses,
+            values,
         }
     }
 
@@ -68,5 +91,32 @@ impl Assembly {
         ensures { result ≡ value_in self.now.names name.now }
     {
         self.names.get(name.as_bytes())
+    }
+
+    /// How many lines the source has.
+    pub fn line_count(&self) -> usize
+        ensures { result ≡ length self.now.values }
+    {
+        self.values.len()
+    }
+
+    /// Where a line stands, by its place among the lines, counted from 0.
+    pub fn line_place(&self, index: usize) -> LinePlace
+        requires { index < length self.now.values }
+        ensures { result ≡ line_place self.now index }
+    {
+        LinePlace {
+            value: self.values[index],
+            at: self.addresses[index],
+            next: self.addresses[index + 1],
+        }
+    }
+
+    /// The names with their values, in the order of their bytes.
+    pub fn symbols(&self) -> SymbolIter<'_>
+        ensures names { result ≡ self.now.names }
+        ensures ordered { IsStrictlySortedBy (slice_cmp nat_cmp) (keys_of self.now.names) }
+    {
+        self.names.iter()
     }
 }

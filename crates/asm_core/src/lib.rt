@@ -16,8 +16,9 @@ mod source;
 mod table;
 mod values;
 
-pub use crate::assembly::Assembly;
+pub use crate::assembly::{Assembly, LinePlace};
 pub use crate::fault::{AsmCause, AsmFault};
+pub use crate::names::SymbolIter;
 pub use crate::passes::assemble;
 pub use crate::source::next_line;
 

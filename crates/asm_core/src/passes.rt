@@ -11,30 +11,32 @@ ghost use Rattle.asm_core.specs.Made.{IsAssembly, IsFirstOf};
 use crate::assembly::Assembly;
 use crate::encode::encoded;
 use crate::fault::{AsmCause, AsmFault};
-use crate::layout::laid_out;
+use crate::layout::{Laid, laid_out};
 use crate::names::Symbols;
 use crate::source::next_line;
 use crate::table::{Cell, empty_table, place};
 use asm_lex::text_at;
 use std::alloc::Global;
 
-// The names of all lines, and the address at which each line begins, with the address behind the last one.
+// The names of all lines, the address at which each line begins, with the address behind the last one, and the value that the label of
+// each line has or would have.
 #[derive(Drop)]
 struct Plan {
     names: Symbols,
     addresses: Vec<u32>,
+    values: Vec<u32>,
 }
 
-// One line in pass 1: answers the address behind it.
+// One line in pass 1.
 fn add_line(
     alloc: Global,
     names: &mut Symbols,
     number: u32,
     at: u32,
     line: &[u8],
-) -> Result<u32, AsmFault>
+) -> Result<Laid, AsmFault>
     requires { at ≤ 65536 }
-    ensures ok { IfOk result (λ next. AddsLine names.old at line.now names.new next) }
+    ensures ok { IfOk result (λ laid. AddsLine names.old at line.now names.new laid) }
     ensures err { IfErr result (λ fault. IsFaultOf (laid_out (value_in names.old) at line.now) number fault) }
 {
     let placed = match laid_out(names, at, line) {
@@ -50,16 +52,17 @@ fn add_line(
             return Err(AsmFault::NoMemory);
         }
     }
-    Ok(placed.laid.next)
+    Ok(placed.laid)
 }
 
 fn pass_1(alloc: Global, text: &[u8]) -> Result<Plan, AsmFault>
     requires { length text.now ≤ 1048576 }
-    ensures ok { IfOk result (λ plan. LaysOut (source_lines text.now) (length (source_lines text.now)) plan.names plan.addresses.items) }
+    ensures ok { IfOk result (λ plan. LaysOut (source_lines text.now) (length (source_lines text.now)) plan.names plan.addresses.items plan.values.items) }
     ensures err { IfErr result (λ fault. IsFirstIn (fault_1 (source_lines text.now)) (length (source_lines text.now)) fault) }
 {
     let mut names = Symbols::new(alloc);
     let mut addresses = Vec::new(alloc);
+    let mut values = Vec::new(alloc);
     let mut at = 0;
     if addresses.push(at).is_err() {
         return Err(AsmFault::NoMemory);
@@ -67,17 +70,25 @@ fn pass_1(alloc: Global, text: &[u8]) -> Result<Plan, AsmFault>
     let mut number: u32 = 0;
     let mut rest = text;
     while let Some((line, more)) = next_line(rest) {
-        at = match add_line(alloc, &mut names, number + 1, at, line) {
-            Ok(next) => next,
+        let laid = match add_line(alloc, &mut names, number + 1, at, line) {
+            Ok(laid) => laid,
             Err(fault) => return Err(fault),
         };
+        at = laid.next;
         if addresses.push(at).is_err() {
+            return Err(AsmFault::NoMemory);
+        }
+        if values.push(laid.value).is_err() {
             return Err(AsmFault::NoMemory);
         }
         number += 1;
         rest = more;
     }
-    Ok(Plan { names, addresses })
+    Ok(Plan {
+        names,
+        addresses,
+        values,
+    })
 }
 
 // One line in pass 2, which stands from the address `at` up to `next`.
@@ -115,7 +126,7 @@ fn put_line(
 
 fn pass_2(alloc: Global, text: &[u8], plan: &Plan) -> Result<Vec<Option<Cell>>, AsmFault>
     requires text { length text.now ≤ 1048576 }
-    requires plan { LaysOut (source_lines text.now) (length (source_lines text.now)) plan.now.names plan.now.addresses.items }
+    requires plan { LaysOut (source_lines text.now) (length (source_lines text.now)) plan.now.names plan.now.addresses.items plan.now.values.items }
     ensures count { IfOk result (λ cells. length cells.items ≡ 65536) }
     ensures ok { IfOk result (λ cells. HasBytes (source_lines text.now) (length (source_lines text.now)) cells.items) }
     ensures err { IfErr result (λ fault. IsFirstIn (fault_2 (source_lines text.now)) (length (source_lines text.now)) fault) }
@@ -153,6 +164,10 @@ pub fn assemble(alloc: Global, text: &[u8]) -> Result<Assembly, AsmFault>
         Ok(cells) => cells,
         Err(fault) => return Err(fault),
     };
-    let Plan { names, addresses } = plan;
-    Ok(Assembly::new(cells, names, addresses))
+    let Plan {
+        names,
+        addresses,
+        values,
+    } = plan;
+    Ok(Assembly::new(cells, names, addresses, values))
 }

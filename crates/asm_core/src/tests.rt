@@ -1,4 +1,4 @@
-use crate::{AsmCause, AsmFault, Assembly, assemble};
+use crate::{AsmCause, AsmFault, Assembly, LinePlace, assemble};
 use std::alloc::Global;
 use std::test::Fail;
 
@@ -130,6 +130,33 @@ fn gives_lines_and_symbols(rt: HostRuntime) -> Result<(), Fail> {
         ),
         (None, Some(5), Some(5), None)
     );
+    Ok(())
+}
+
+#[test]
+fn tells_where_lines_stand(rt: HostRuntime) -> Result<(), Fail> {
+    let text = b"o: ORG 5\np: PAGE\nb: EQU 9\na: DW b, 2\nDS\n";
+    assert!(rt; assembled(rt.alloc(), text).is_none());
+    let text = b"o: ORG 5\np: PAGE\nb: EQU 9\na: DW b, 2\n DS 65276";
+    let made = assembled(rt.alloc(), text).ok_or("assembled")?;
+    assert_eq!(rt; made.line_count(), 5);
+    let rows = [
+        (5, 0, 5),
+        (256, 5, 256),
+        (9, 256, 256),
+        (256, 256, 260),
+        (260, 260, 65_536),
+    ];
+    for (index, (value, at, next)) in rows.into_iter().enumerate() {
+        if index < made.line_count() {
+            assert_eq!(rt; made.line_place(index), LinePlace { value, at, next });
+        }
+    }
+    let mut symbols = made.symbols();
+    for (name, value) in [(b"a", 256), (b"b", 9), (b"o", 5), (b"p", 256)] {
+        assert!(rt; symbols.next() == Some((name.as_slice(), value)));
+    }
+    assert!(rt; symbols.next().is_none());
     Ok(())
 }
 

@@ -13,10 +13,11 @@ loop-line-init c =
     let source = source_lines c.args.text.now in
     record {
       rest = refl;
-      found = lays_out_none source c.new-names.result c.push.new.self.items c.new-names.ensures
+      found = lays_out_none source c.new-names.result c.push.new.self.items c.new-values.result.items c.new-names.ensures
           (c.push.ensures.items
           ∙ cond-true (is_ok c.push.result) (c.new-addresses.result.items ++ first_addresses) c.new-addresses.result.items (c.is_err.ensures.negation ∙ ap not c.if-is_err.false)
-          ∙ ap (λ items. items ++ first_addresses) c.new-addresses.ensures.items);
+          ∙ ap (λ items. items ++ first_addresses) c.new-addresses.ensures.items)
+          c.new-values.ensures.items;
       place = sym (ap (λ (known : Known). known.at) (known_at-first source));
       few = omega arith;
     }
@@ -26,16 +27,21 @@ loop-line-preserved c =
     let source = source_lines c.args.text.now in
     let number = c.loop-line.number in
     let here = line_here source number c.in-Some.line.now (source_lines c.in-Some.more.now) (sym c.loop-line.invariant.rest ∙ c.in-Some.ensures.lines) in
-    let items : c.push-in-Some.new.self.items ≡ c.loop-line.addresses.items ++ c.in-Ok.next ∷ [] =
+    let laid = c.in-Ok.laid in
+    let items : c.push-in-Some.new.self.items ≡ c.loop-line.addresses.items ++ laid.next ∷ [] =
     c.push-in-Some.ensures.items
-    ∙ cond-true (is_ok c.push-in-Some.result) (c.loop-line.addresses.items ++ c.in-Ok.next ∷ []) c.loop-line.addresses.items (c.is_err-in-Some.ensures.negation ∙ ap not c.if-is_err-2.false) in
-    let P : List ℕ → Type 0 = λ items. LaysOut source (number + 1) c.add_line.new.names items in
+    ∙ cond-true (is_ok c.push-in-Some.result) (c.loop-line.addresses.items ++ laid.next ∷ []) c.loop-line.addresses.items (c.is_err-in-Some.ensures.negation ∙ ap not c.if-is_err-2.false) in
+    let values : c.push-in-Some-2.new.self.items ≡ c.loop-line.values.items ++ laid.value ∷ [] =
+    c.push-in-Some-2.ensures.items
+    ∙ cond-true (is_ok c.push-in-Some-2.result) (c.loop-line.values.items ++ laid.value ∷ []) c.loop-line.values.items (c.is_err-in-Some-2.ensures.negation ∙ ap not c.if-is_err-3.false) in
+    let P : List ℕ → Type 0 = λ items. LaysOut source (number + 1) c.add_line.new.names items c.push-in-Some-2.new.self.items in
+    let Q : List ℕ → Type 0 = λ values. LaysOut source (number + 1) c.add_line.new.names (c.loop-line.addresses.items ++ laid.next ∷ []) values in
     record {
       rest = sym here.2;
-      found = subst P (sym items)
-          (lays_out_more source number c.loop-line.names c.loop-line.addresses.items c.loop-line.invariant.found c.loop-line.at c.in-Ok.next c.in-Some.line.now c.add_line.new.names
-          here.0 c.loop-line.invariant.place here.1 c.in-Ok.ensures.ok);
-      place = next_address source number c.loop-line.names c.loop-line.addresses.items c.loop-line.invariant.found c.loop-line.at c.in-Ok.next c.in-Some.line.now c.add_line.new.names
+      found = subst P (sym items) (subst Q (sym values)
+          (lays_out_more source number c.loop-line.names c.loop-line.addresses.items c.loop-line.values.items c.loop-line.invariant.found c.loop-line.at c.in-Some.line.now c.add_line.new.names laid
+          here.0 c.loop-line.invariant.place here.1 c.in-Ok.ensures.ok));
+      place = next_address source number c.loop-line.names c.loop-line.addresses.items c.loop-line.values.items c.loop-line.invariant.found c.loop-line.at c.in-Some.line.now c.add_line.new.names laid
           here.0 c.loop-line.invariant.place here.1 c.in-Ok.ensures.ok;
       few = omega (arith, c.in-Some.ensures.shorter, c.loop-line.invariant.few);
     }
@@ -46,12 +52,12 @@ returns-in-Err-clause-err c =
     let number = c.loop-line.number in
     let here = line_here source number c.in-Some.line.now (source_lines c.in-Some.more.now) (sym c.loop-line.invariant.rest ∙ c.in-Some.ensures.lines) in
     first_in (laid_out (value_in c.loop-line.names) c.loop-line.at c.in-Some.line.now) (fault_1 source) (length source) number c.in-Err.fault c.in-Err.ensures.err
-    (λ cause is. first_fault source number c.loop-line.names c.loop-line.addresses.items c.loop-line.invariant.found c.loop-line.at c.in-Some.line.now cause
+    (λ cause is. first_fault source number c.loop-line.names c.loop-line.addresses.items c.loop-line.values.items c.loop-line.invariant.found c.loop-line.at c.in-Some.line.now cause
     here.0 c.loop-line.invariant.place here.1 is)
 
 pub returns-clause-ok : goal.returns-clause-ok
 returns-clause-ok c =
     let source = source_lines c.args.text.now in
     let all = no_line source c.loop-line.number (sym c.loop-line.invariant.rest ∙ c.in_default.ensures.lines) c.loop-line.invariant.found.inside in
-    let P : ℕ → Type 0 = λ count. LaysOut source count c.loop-line.names c.loop-line.addresses.items in
+    let P : ℕ → Type 0 = λ count. LaysOut source count c.loop-line.names c.loop-line.addresses.items c.loop-line.values.items in
     subst P all c.loop-line.invariant.found

@@ -7,7 +7,7 @@ use Rattle.asm_core.proofs.passes.pass_1.Given as goal
 abbrev pub invariant-loop-line : goal.invariant-loop-line
 invariant-loop-line l = record {
   rest : source_lines l.rest ≡ drop l.number (source_lines l.fn.text);
-  found : LaysOut (source_lines l.fn.text) l.number l.names l.addresses.items;
+  found : LaysOut (source_lines l.fn.text) l.number l.names l.addresses.items l.values.items;
   place : l.at ≡ address_of (source_lines l.fn.text) l.number;
   few : l.number + length l.rest ≤ length l.fn.text;
 }
