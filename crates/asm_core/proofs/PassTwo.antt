@@ -190,7 +190,7 @@ unfolding laid_out encoded
 line_count before after at line found bytes l e = from_parts_count before after at (parsed line) found bytes l e
 
 -- so they end where the line does
-count_fits : (value at next : ℕ) → at ≤ 65536 → next ≤ 65536 → at + count_between value at next ≤ 65536
+pub count_fits : (value at next : ℕ) → at ≤ 65536 → next ≤ 65536 → at + count_between value at next ≤ 65536
 count_fits value at next low high = elim (value == at) as (λ b. at + cond b (next - at) 0 ≤ 65536) [
   | true ↦ omega arith
   | false ↦ omega arith
@@ -302,6 +302,7 @@ is_assembly source made plan has = record {
   cells = λ address below. has.bytes address;
   names = plan.named;
   addresses = plan.placed;
+  low = plan.low;
   count = plan.values_count;
   values = plan.valued;
 }

@@ -42,6 +42,7 @@ pub record IsAssembly (source : List (List ℕ)) (made : Made) : Type 0 where
   pub cells : (address : ℕ) → address < 65536 → cell_at made address ≡ cell_before source (length source) address
   pub names : (name : List ℕ) → value_in made.names name ≡ all_names source name
   pub addresses : (i : ℕ) → i ≤ length source → slice_index made.addresses i ≡ address_of source i
+  pub low : (i : ℕ) → i ≤ length source → address_of source i ≤ 65536
   pub count : length made.values ≡ length source
   pub values : (i : ℕ) → i < length source → slice_index made.values i ≡ label_value source i
 
