@@ -314,7 +314,7 @@ module _ (names : Names) (at : ℕ) (bytes : List ℕ) (bytes_low : AreBytes byt
   line_makes some fits =
       let opcode : ℕ = opcode_in bytes in
       elim ((opcode == 0x68) || nat_lt (length bytes) (size_at opcode)) as (λ b. ((opcode == 0x68) || nat_lt (length bytes) (size_at opcode)) ≡ b
-        → Makes names at (cond b (data_text opcode) (instruction_text at bytes)) at (at + cond b 1 (size_at opcode)) (take (cond b 1 (size_at opcode)) bytes)) [
+      → Makes names at (cond b (data_text opcode) (instruction_text at bytes)) at (at + cond b 1 (size_at opcode)) (take (cond b 1 (size_at opcode)) bytes)) [
         | true ↦ λ is. subst (λ xs. Makes names at (data_text opcode) at (at + 1) xs) (sym (take_1 bytes some)) (data_makes names at opcode (byte_low bytes bytes_low 0) (omega arith))
         | false ↦ λ is.
             let parts = or_parts _ _ is in

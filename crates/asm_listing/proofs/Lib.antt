@@ -6,3 +6,4 @@ pub mod Values
 pub mod Written
 pub mod Assembled
 pub mod WayBack
+pub mod Listings

@@ -3,3 +3,5 @@ pub mod Row
 pub mod Disassembly
 pub mod Operands
 pub mod WayBack
+pub mod Listing
+pub mod Shown
