@@ -1,3 +1,7 @@
+ghost use Rattle.std.specs.Prelude.{IfSome};
+ghost use Rattle.asm_core.specs.Made.{IsAssembly};
+ghost use Rattle.asm_core.specs.Sources.{source_lines};
+
 use crate::{disassemble, dump, listing, one_line};
 use arrayvec::ArrayVec;
 use asm_core::{Assembly, assemble};
@@ -6,7 +10,9 @@ use std::alloc::Global;
 /// The most bytes of a source.
 const LONGEST_SOURCE: usize = 1_048_576;
 
-fn assembled(alloc: Global, text: &[u8]) -> Option<Assembly> {
+fn assembled(alloc: Global, text: &[u8]) -> Option<Assembly>
+    ensures { IfSome result (λ made. IsAssembly (source_lines text.now) made) }
+{
     if text.len() > LONGEST_SOURCE {
         return None;
     }
