@@ -1,12 +1,12 @@
 -- What the assembler makes of each line of a disassembly.
-use Rattle.std.proofs.Common.{◌≡◌, ◌+◌, ◌-◌, ◌*◌, ◌/◌, ◌%◌, ◌<◌, ◌≤◌, ℕ, zero, suc, refl, Bool, List, [], ◌∷◌, ◌++◌, length, take, get_or, sym, ◌∙◌, ap, subst, arith, true, false, Some, None, Option, Ok, Err, Result, cond}
-use Rattle.std.specs.Prelude.{◌&&◌, ◌||◌, ◌==◌, not, nat_lt, codes, slice_index, is_some, is_err, map, All}
+use Rattle.std.proofs.Common.{◌≡◌, ◌+◌, ◌*◌, ◌/◌, ◌%◌, ◌<◌, ◌≤◌, ℕ, zero, suc, refl, List, [], ◌∷◌, length, take, sym, ◌∙◌, ap, subst, arith, true, false, Some, None, Ok, Err, Result, cond}
+use Rattle.std.specs.Prelude.{◌&&◌, ◌||◌, ◌==◌, nat_lt, codes, slice_index, is_err, map, All}
 use Rattle.std.specs.Option.{option_map, ok_or}
 use Rattle.std.specs.Result.{result_map_both, result_unwrap_or}
 use Rattle.std.specs.List.{list_any}
 use Rattle.std.proofs.lemmas.Bool.{cond-true, cond-false, or_parts, eqb-true, eqb-false, ltb-false, le-ltb, eq-eqb, ne_eqb}
 use Rattle.machine.specs.declared.Kind.{Kind}
-use Rattle.machine.specs.declared.Kind.TheVariants.{Idl, Ldn, Inc, Dec, Br, Lda, Str, Out, Inp, Undefined, Glo, Ghi, Plo, Phi, Sep, Sex}
+use Rattle.machine.specs.declared.Kind.TheVariants.{Idl, Ldn, Inc, Dec, Lda, Str, Out, Inp, Undefined, Glo, Ghi, Plo, Phi, Sep, Sex}
 use Rattle.machine.specs.Opcodes.{kind_of, number_of}
 use Rattle.vip_isa.specs.Rows.{greatest_of, size_of}
 use Rattle.vip_isa.proofs.Opcodes.{decoded_is_valid}
@@ -14,19 +14,18 @@ use Rattle.vip_byte.specs.HexText.{hex2, hex4}
 use Rattle.asm_lex.specs.declared.shape.Word.{Word}
 use Rattle.asm_lex.specs.declared.shape.Word.TheVariants.{Code, Org, Db}
 use Rattle.asm_lex.specs.declared.shape.LexFault.TheVariants.{BadOperand}
-use Rattle.asm_lex.specs.declared.shape.ValueFault.{ValueFault}
 use Rattle.asm_lex.specs.declared.shape.ValueFault.TheVariants.{Undefined as NoValue, Range}
 use Rattle.asm_lex.specs.Expressions.{has_large_number}
-use Rattle.asm_lex.specs.Words.{size_at, mnemonic_at}
+use Rattle.asm_lex.specs.Words.{size_at}
 use Rattle.asm_lex.specs.Lines.{parsed}
 use Rattle.asm_core.specs.declared.fault.AsmCause.{AsmCause}
 use Rattle.asm_core.specs.declared.fault.AsmCause.TheVariants.{OffPage, TooLarge}
 use Rattle.asm_core.specs.Names.{Names, operand_value, first_operand}
 use Rattle.asm_core.specs.Layout.{laid, laid_out, laid_parts, placed, judged, is_too_large, label_in, label_from, from_parts, value_cause}
-use Rattle.asm_core.specs.Encoding.{word_bytes, long_branch, short_branch, to_page, immediate, instruction, encoded, encoded_parts, values_of, collected, is_undefined}
+use Rattle.asm_core.specs.Encoding.{long_branch, short_branch, immediate, instruction, encoded, encoded_parts, values_of, collected, is_undefined}
 use Rattle.asm_listing.specs.declared.instruction.Operand.{Operand}
-use Rattle.asm_listing.specs.declared.instruction.Operand.TheVariants.{Nothing, Register, Port, Byte, Target}
-use Rattle.asm_listing.specs.Disassembly.{opcode_in, is_data, taken, expression_at, operand_of_size, operand_by, operand_at, operand_text, instruction_text, data_text, first_line, origin}
+use Rattle.asm_listing.specs.declared.instruction.Operand.TheVariants.{Nothing, Byte, Target}
+use Rattle.asm_listing.specs.Disassembly.{opcode_in, is_data, taken, expression_at, operand_of_size, operand_by, operand_at, instruction_text, data_text, first_line, origin}
 use Rattle.asm_listing.proofs.Plain.{parts_of}
 use Rattle.asm_listing.proofs.Values.{hex_text, byte_plain, word_plain, byte_number, word_number, one_number, number_operand}
 use Rattle.asm_listing.proofs.Written.{operand_list, IsInRange, small_operands, mnemonic_means, org_means, instruction_means, mnemonic_parsed, operand_parsed}

@@ -1,5 +1,5 @@
 -- A dump while it is written: a row that stands before the places that are left.
-use Rattle.std.proofs.Common.{◌≡◌, ◌+◌, ◌-◌, ◌*◌, ◌/◌, ◌<◌, ◌≤◌, ℕ, zero, suc, refl, Bool, List, [], ◌∷◌, ◌++◌, length, take, drop, get_or, sym, ◌∙◌, ap, arith, true, false, cond, Some, None, Option}
+use Rattle.std.proofs.Common.{◌≡◌, ◌+◌, ◌-◌, ◌*◌, ◌/◌, ◌<◌, ◌≤◌, ℕ, zero, suc, refl, List, [], ◌∷◌, ◌++◌, length, take, drop, get_or, sym, ◌∙◌, ap, arith, true, false, cond, Some, None, Option}
 use Rattle.std.specs.Prelude.{map, filter, flat_map, not, ◌==◌, All, option_map}
 use Rattle.std.specs.List.{slice_split, onto_first, range_with_len, enumerate_from}
 use Rattle.std.proofs.lemmas.Bool.{cond-true, cond-false, eq-eqb, ne_eqb}
@@ -10,15 +10,7 @@ use Rattle.asm_core.specs.Made.{Made, cell_at}
 use Rattle.asm_listing.specs.Dump.{Place, addresses, place_at, places_of, has_no_byte, is_some_run, runs, piece, pieces, byte_text, line_text, dump_of, dump_text, newline}
 use Rattle.asm_listing.specs.Row.{bytes_text, row_before, row_text}
 use Rattle.vip_byte.specs.HexText.{hex2, hex4}
-
-length-range : (n a : ℕ) → length (range_with_len a n) ≡ n
-length-range zero a = refl
-length-range (suc n) a = ap suc (length-range n (a + 1))
-
-get_or-range : (n a k : ℕ) → k < n → get_or (range_with_len a n) k 0 ≡ a + k
-get_or-range zero a k below = absurd (omega arith)
-get_or-range (suc n) a zero below = omega arith
-get_or-range (suc n) a (suc k) below = get_or-range n (a + 1) k (omega arith) ∙ omega arith
+use Rattle.asm_listing.proofs.Ranges.{length-range, get_or-range}
 
 length-addresses : length addresses ≡ 65536
 unfolding addresses
@@ -26,7 +18,7 @@ length-addresses = length-range 65536 0
 
 get_or-addresses : (k : ℕ) → k < 65536 → get_or addresses k 0 ≡ k
 unfolding addresses
-get_or-addresses k below = get_or-range 65536 0 k below ∙ omega arith
+get_or-addresses k below = get_or-range 65536 0 k 0 below ∙ omega arith
 
 -- places that all have a byte
 abbrev AllHaveBytes : List Place → Type 0

@@ -1,4 +1,5 @@
 pub mod Texts
+pub mod Ranges
 pub mod Dumps
 pub mod Starts
 pub mod Plain

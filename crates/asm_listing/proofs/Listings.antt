@@ -1,57 +1,24 @@
 -- The lines of a listing, read off an assembly.
-use Rattle.std.proofs.Common.{◌≡◌, ◌+◌, ◌-◌, ◌*◌, ◌/◌, ◌%◌, ◌<◌, ◌≤◌, ℕ, zero, suc, refl, Bool, List, [], ◌∷◌, ◌++◌, length, take, drop, get_or, sym, ◌∙◌, ap, subst, arith, true, false, Some, None, Option, Ok, Err, Result, cond, inl, inr, min}
-use Rattle.std.specs.Prelude.{map, flat_map, ◌==◌, nat_le, slice_index, slice_get, is_some, option_map, replicate, codes, decimal}
+use Rattle.std.proofs.Common.{◌≡◌, ◌+◌, ◌-◌, ◌*◌, ◌/◌, ◌%◌, ◌<◌, ◌≤◌, ℕ, zero, suc, refl, Bool, List, [], ◌∷◌, ◌++◌, length, take, get_or, sym, ◌∙◌, ap, arith, true, false, Some, None, Option, Ok, Err, Result, cond, inl, inr, min}
+use Rattle.std.specs.Prelude.{map, flat_map, nat_le, slice_index, slice_get, is_some, option_map, codes}
 use Rattle.std.specs.Option.{option_or, option_map_or}
 use Rattle.std.specs.Result.{result_unwrap_or}
-use Rattle.std.specs.List.{range_with_len, list_any}
-use Rattle.std.proofs.lemmas.Bool.{cond-true, cond-false, le-leb, both_ways, cases_lt, cases_eq, eqb-true}
+use Rattle.std.specs.List.{range_with_len}
+use Rattle.std.proofs.lemmas.Bool.{cond-true, le-leb, both_ways, cases_eq}
 use Rattle.std.proofs.lemmas.List.{append_assoc, append-nil, length-map, map-append, take-map, drop-map, get_or-map, get_or_default, flat_map_more, same_lists}
 use Rattle.std.proofs.lemmas.List.Concat.{flat_map-append}
 use Rattle.std.proofs.lemmas.List.Folds.{list_any_at}
 use Rattle.asm_core.specs.declared.table.Cell.{Cell}
 use Rattle.asm_core.specs.declared.fault.AsmCause.{AsmCause}
 use Rattle.asm_core.specs.declared.fault.AsmCause.TheVariants.{Overlap}
-use Rattle.asm_core.specs.Made.{Made, cell_at, line_place, IsAssembly}
-use Rattle.asm_core.specs.Sources.{line_at, address_of, all_names, label_value, fault_2, fault_with, bytes_of, cell_in, cell_of, cell_before, overlaps}
+use Rattle.asm_core.specs.Made.{Made, line_place, IsAssembly}
+use Rattle.asm_core.specs.Sources.{line_at, address_of, label_value, fault_2, fault_with, bytes_of, cell_in, cell_of, cell_before, overlaps}
 use Rattle.asm_core.proofs.PassTwo.{count_between, bytes_count, count_fits}
 use Rattle.vip_byte.specs.HexText.{hex2, hex4}
 use Rattle.asm_listing.specs.Dump.{newline}
-use Rattle.asm_listing.specs.Listing.{blanks, digits_of, three_at, further_line, further_lines, first_digits, number_text, line_listing, listed, lines_text, symbol_line, symbols_text, IsListing}
+use Rattle.asm_listing.specs.Listing.{blanks, digits_of, three_at, further_line, further_lines, first_digits, number_text, line_listing, listed, lines_text}
 use Rattle.asm_listing.specs.Shown.{byte_count, byte_at, bytes_from}
-
--- numbers in a row
-length-range : (n a : ℕ) → length (range_with_len a n) ≡ n
-length-range zero a = refl
-length-range (suc n) a = ap suc (length-range n (a + 1))
-
-get_or-range : (n a k d : ℕ) → k < n → get_or (range_with_len a n) k d ≡ a + k
-get_or-range zero a k d below = absurd (omega arith)
-get_or-range (suc n) a zero d below = omega arith
-get_or-range (suc n) a (suc k) d below = get_or-range n (a + 1) k d (omega arith) ∙ omega arith
-
-range_push : (n a : ℕ) → range_with_len a (n + 1) ≡ range_with_len a n ++ (a + n) ∷ []
-range_push zero a = ap (λ x. x ∷ []) (omega arith)
-range_push (suc n) a =
-    let step : suc n + 1 ≡ suc (n + 1) = omega arith in
-    ap (range_with_len a) step ∙ ap (λ xs. a ∷ xs) (range_push n (a + 1)) ∙ ap (λ x. a ∷ (range_with_len (a + 1) n ++ x ∷ [])) (omega arith)
-
-take-range : (m n a : ℕ) → take m (range_with_len a n) ≡ range_with_len a (min m n)
-take-range zero n a = let none : 0 ≡ min 0 n = omega arith in ap (range_with_len a) none
-take-range (suc m) zero a = let none : 0 ≡ min (suc m) 0 = omega arith in ap (range_with_len a) none
-take-range (suc m) (suc n) a =
-    let step : suc (min m n) ≡ min (suc m) (suc n) = omega arith in
-    ap (λ xs. a ∷ xs) (take-range m n (a + 1)) ∙ ap (range_with_len a) step
-
-drop-range : (m n a : ℕ) → drop m (range_with_len a n) ≡ range_with_len (a + m) (n - m)
-drop-range zero n a =
-    let start : a ≡ a + 0 = omega arith in
-    let count : n ≡ n - 0 = omega arith in
-    ap (λ b. range_with_len b n) start ∙ ap (range_with_len (a + 0)) count
-drop-range (suc m) zero a = let none : 0 ≡ 0 - suc m = omega arith in ap (range_with_len (a + suc m)) none
-drop-range (suc m) (suc n) a =
-    let start : a + 1 + m ≡ a + suc m = omega arith in
-    let count : n - m ≡ suc n - suc m = omega arith in
-    drop-range m n (a + 1) ∙ ap (λ b. range_with_len b (n - m)) start ∙ ap (range_with_len (a + suc m)) count
+use Rattle.asm_listing.proofs.Ranges.{length-range, get_or-range, range_push, take-range, drop-range}
 
 module _ (made : Made) where
   -- no bytes, and one more

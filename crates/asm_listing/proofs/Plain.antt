@@ -1,8 +1,8 @@
 -- A line of assembly that is a blank, a word and perhaps an operand, both of characters that stand in names and numbers alone.
-use Rattle.std.proofs.Common.{◌≡◌, ◌+◌, ◌-◌, ◌<◌, ◌≤◌, ℕ, zero, suc, refl, Bool, List, [], ◌∷◌, ◌++◌, length, take, drop, get_or, sym, ◌∙◌, ap, arith, true, false, Some, None, Option, Ok, cond}
-use Rattle.std.specs.Prelude.{◌&&◌, ◌||◌, ◌==◌, not, is_some, map, All, slice_index, nat_lt}
+use Rattle.std.proofs.Common.{◌≡◌, ◌+◌, ◌-◌, ◌<◌, ◌≤◌, ℕ, zero, suc, refl, Bool, List, [], ◌∷◌, ◌++◌, length, take, drop, get_or, ◌∙◌, ap, arith, true, false, Some, None, Option, Ok}
+use Rattle.std.specs.Prelude.{◌&&◌, ◌||◌, ◌==◌, not, is_some, map, All, slice_index}
 use Rattle.std.specs.List.{list_all, list_any, slice_split, prefix_len, suffix_len, position_or_len}
-use Rattle.std.proofs.lemmas.Bool.{cond-true, cond-false, and_parts, and_from, false_from_ne_true, le-ltb, ne_eqb}
+use Rattle.std.proofs.lemmas.Bool.{cond-false, and_parts, and_from, le-ltb, ne_eqb}
 use Rattle.std.specs.Option.{option_map_or}
 use Rattle.std.proofs.lemmas.List.{take_all, take_at, drop_at, drop_all, length-append, get_or_append_left, get_or_at}
 use Rattle.std.proofs.lemmas.List.Sums.{suffix_len_is, position_or_len_is}

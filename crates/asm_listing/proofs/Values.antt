@@ -1,19 +1,16 @@
 -- The values of hexadecimal numbers that stand as operands.
-use Rattle.std.proofs.Common.{◌≡◌, ◌+◌, ◌-◌, ◌*◌, ◌/◌, ◌%◌, ◌<◌, ◌≤◌, ℕ, zero, suc, refl, Bool, List, [], ◌∷◌, ◌++◌, length, drop, get_or, sym, ◌∙◌, ap, arith, true, false, Some, None, Option, Ok, Err, Result, cond, ℤ, pos, ◌+ℤ◌, leb, eqb, eqb-true, leb-true}
-use Rattle.std.specs.Prelude.{◌&&◌, ◌||◌, ◌==◌, is_some, is_none, nat_abs, int_le, nat_lt, fold, unwrap_or, slice_index}
+use Rattle.std.proofs.Common.{◌≡◌, ◌+◌, ◌*◌, ◌/◌, ◌%◌, ◌<◌, ◌≤◌, ℕ, refl, Bool, List, [], ◌∷◌, length, ◌∙◌, ap, arith, true, false, Some, None, Option, Ok, Err, cond, pos, ◌+ℤ◌, leb, eqb, eqb-true}
+use Rattle.std.specs.Prelude.{◌&&◌, ◌||◌, is_some, is_none, nat_lt, fold, unwrap_or, slice_index}
 use Rattle.std.specs.Option.{option_map_or}
-use Rattle.std.specs.List.{list_all, list_any, position_or_len}
+use Rattle.std.specs.List.{list_all, list_any}
 use Rattle.std.specs.Char.{digit_value, is_digit}
 use Rattle.std.specs.Str.Parse.{digits_value}
-use Rattle.std.proofs.lemmas.Bool.{cond-true, cond-false, and_parts, and_from, le-ltb, le-leb, lt-ltb}
-use Rattle.std.proofs.lemmas.Int.{ints}
-use Rattle.std.proofs.lemmas.List.Sums.{position_or_len_is}
+use Rattle.std.proofs.lemmas.Bool.{cond-true, cond-false, and_from, le-ltb, le-leb, lt-ltb}
 use Rattle.vip_byte.specs.HexText.{hex_digit, hex2, hex4}
-use Rattle.vip_isa.proofs.Below.{passes_below, at-passes_below}
-use Rattle.asm_lex.specs.declared.shape.ValueFault.{ValueFault}
+use Rattle.vip_isa.proofs.Below.{at-passes_below}
 use Rattle.asm_lex.specs.declared.shape.ValueFault.TheVariants.{Undefined, Range}
 use Rattle.asm_lex.specs.Bytes.{is_name}
-use Rattle.asm_lex.specs.Expressions.{is_sign, is_prefix, is_here, is_term, sum_in, terms_of, signed_terms, number_in, hexadecimal_of, number_of, is_expression, is_large, has_large_number, term_value, has_undefined, with_term, sum_of, prefixed, value_of}
+use Rattle.asm_lex.specs.Expressions.{is_prefix, is_here, is_term, signed_terms, number_in, hexadecimal_of, number_of, is_expression, is_large, has_large_number, term_value, has_undefined, with_term, sum_of, value_of}
 use Rattle.asm_lex.specs.Words.{is_one_expression}
 use Rattle.asm_lex.proofs.Splits.{signed_whole}
 use Rattle.asm_core.specs.Names.{Names, within, operand_value}

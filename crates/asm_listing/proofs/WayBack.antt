@@ -1,31 +1,31 @@
 -- A disassembly is assembled line by line.
-use Rattle.std.proofs.Common.{◌≡◌, ◌+◌, ◌-◌, ◌<◌, ◌≤◌, ℕ, zero, suc, refl, Bool, List, [], ◌∷◌, ◌++◌, length, take, drop, get_or, sym, ◌∙◌, ap, subst, arith, true, false, Some, None, Option, Ok, Err, Result, cond, inl, inr, below_more}
-use Rattle.std.specs.Prelude.{◌&&◌, ◌||◌, ◌==◌, not, map, flat_map, nat_le, nat_lt, slice_index, slice_get, is_some, option_map, All}
+use Rattle.std.proofs.Common.{◌≡◌, ◌+◌, ◌-◌, ◌<◌, ◌≤◌, ℕ, zero, suc, refl, List, [], ◌∷◌, ◌++◌, length, take, drop, get_or, sym, ◌∙◌, ap, subst, arith, true, false, Some, None, Option, Ok, Err, cond, inl, inr, below_more}
+use Rattle.std.specs.Prelude.{◌||◌, ◌==◌, not, map, nat_le, nat_lt, slice_index, slice_get, is_some, option_map}
 use Rattle.std.specs.Option.{option_or}
 use Rattle.std.specs.Result.{result_err, result_unwrap_or}
-use Rattle.std.specs.List.{list_all, list_any, range_with_len, position_or_len}
+use Rattle.std.specs.List.{list_all, range_with_len, position_or_len}
 use Rattle.std.specs.Str.Lines.{strip_carriage_return}
-use Rattle.std.proofs.lemmas.Bool.{cond-true, cond-false, eqb-true, eqb-false, le-leb, lt-leb, leb-true, cases_lt, and_parts}
+use Rattle.std.proofs.lemmas.Bool.{cond-true, cond-false, eqb-true, le-leb, lt-leb, cases_lt, and_parts}
 use Rattle.std.proofs.lemmas.List.{append_assoc, append-nil, take-append-drop, length-append, length-take-le, length-drop, take_at, drop_at, get_or_append_left, get_or_at, nil_from_length}
 use Rattle.std.proofs.lemmas.List.Sums.{position_or_len_is}
-use Rattle.std.proofs.lemmas.List.Folds.{list_any_none, list_all_at}
+use Rattle.std.proofs.lemmas.List.Folds.{list_any_none}
 use Rattle.asm_lex.specs.Bytes.{is_allowed}
 use Rattle.asm_lex.specs.declared.shape.LexFault.TheVariants.{BadText}
 use Rattle.asm_lex.specs.Lines.{has_bad_bytes, parsed_code, parsed}
 use Rattle.asm_lex.specs.Parts.{code_of}
 use Rattle.asm_core.specs.declared.table.Cell.{Cell}
-use Rattle.asm_core.specs.declared.fault.AsmCause.{AsmCause}
 use Rattle.asm_core.specs.declared.fault.AsmCause.TheVariants.{Overlap}
 use Rattle.asm_core.specs.Cuts.{is_newline}
-use Rattle.asm_core.specs.Names.{Names, with_label}
+use Rattle.asm_core.specs.Names.{Names}
 use Rattle.asm_core.specs.Layout.{laid, laid_out, laid_parts, label_in, from_parts}
 use Rattle.asm_core.specs.Encoding.{encoded}
 use Rattle.asm_core.specs.Sources.{source_lines, Known, known_after, known_at, address_of, all_names, line_at, NoFault, fault_1, fault_2, fault_with, bytes_of, cell_in, cell_of, cell_before, overlaps}
 use Rattle.asm_core.proofs.Lines.{source_lines-empty, source_lines-next}
 use Rattle.asm_core.proofs.PassOne.{line_here, no_line, known_at-first, known_at-next}
 use Rattle.asm_listing.specs.Dump.{newline}
-use Rattle.asm_listing.specs.Disassembly.{taken, first_line, ended_line, starts, lines_from, origin, disassembly}
+use Rattle.asm_listing.specs.Disassembly.{taken, first_line, starts, lines_from, origin, disassembly}
 use Rattle.asm_listing.specs.WayBack.{byte_in, AssemblesTo}
+use Rattle.asm_listing.proofs.Ranges.{length-range, get_or-range}
 use Rattle.asm_listing.proofs.Starts.{starts-first}
 use Rattle.asm_listing.proofs.Assembled.{AreBytes, Makes, origin_makes, line_makes, taken_some, taken_within}
 
@@ -196,15 +196,6 @@ byte_of-or (Some cell) p = refl
 no_cell : (o : Option Cell) → byte_of o ≡ None → is_some o ≡ false
 no_cell None e = refl
 no_cell (Some cell) e = absurd (cc)
-
-length-range : (n a : ℕ) → length (range_with_len a n) ≡ n
-length-range zero a = refl
-length-range (suc n) a = ap suc (length-range n (a + 1))
-
-get_or-range : (n a k d : ℕ) → k < n → get_or (range_with_len a n) k d ≡ a + k
-get_or-range zero a k d below = absurd (omega arith)
-get_or-range (suc n) a zero d below = omega arith
-get_or-range (suc n) a (suc k) d below = get_or-range n (a + 1) k d (omega arith) ∙ omega arith
 
 module _ (source : List (List ℕ)) (start : ℕ) where
   -- the lines before line k have no fault, and gave these bytes

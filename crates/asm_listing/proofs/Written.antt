@@ -1,15 +1,15 @@
 -- What the mnemonics and operands of a disassembly mean to the assembler.
-use Rattle.std.proofs.Common.{◌≡◌, ◌+◌, ◌-◌, ◌*◌, ◌/◌, ◌%◌, ◌<◌, ◌≤◌, ℕ, zero, suc, refl, Bool, List, [], ◌∷◌, ◌++◌, length, sym, ◌∙◌, ap, subst, arith, true, false, Some, None, Option, Ok, Err, Result, cond, leb, eqb, eqb-true, leb-true}
+use Rattle.std.proofs.Common.{◌≡◌, ◌+◌, ◌-◌, ◌*◌, ◌/◌, ◌<◌, ◌≤◌, ℕ, refl, Bool, List, [], ◌∷◌, ◌++◌, length, sym, ◌∙◌, ap, subst, arith, true, false, Some, None, Option, Ok, Result, cond, eqb, eqb-true, leb-true}
 use Rattle.std.specs.Prelude.{◌&&◌, ◌||◌, ◌==◌, not, nat_le, nat_lt, codes, slice_index}
 use Rattle.std.specs.Option.{option_map, option_map_or, option_and_then, ok_or}
 use Rattle.std.specs.List.{list_all, list_any}
-use Rattle.std.proofs.lemmas.Bool.{cond-true, cond-false, and_parts, and_from, le-leb, lt-ltb, ltb-true}
+use Rattle.std.proofs.lemmas.Bool.{cond-true, and_parts, and_from, le-leb, ltb-true}
 use Rattle.std.proofs.lemmas.List.{append-nil}
 use Rattle.machine.specs.declared.Kind.{Kind}
 use Rattle.machine.specs.declared.Kind.TheVariants.{Idl, Ldn, Inc, Dec, Br, Lda, Str, Out, Inp, Undefined, Glo, Ghi, Plo, Phi, Sep, Sex}
 use Rattle.machine.specs.Opcodes.{kind_of, number_of}
 use Rattle.vip_isa.specs.Rows.{first_of, least_of, greatest_of, opcode_of, decoded, size_of, mnemonic_of}
-use Rattle.vip_isa.proofs.Below.{passes_below, at-passes_below}
+use Rattle.vip_isa.proofs.Below.{at-passes_below}
 use Rattle.vip_isa.proofs.Opcodes.{opcode_of-decoded, decoded_is_valid}
 use Rattle.vip_byte.specs.HexText.{hex_digit, hex2, hex4}
 use Rattle.asm_lex.specs.declared.shape.Word.{Word}
@@ -19,7 +19,7 @@ use Rattle.asm_lex.specs.declared.shape.LexFault.TheVariants.{BadOperand}
 use Rattle.asm_lex.specs.Bytes.{register_of}
 use Rattle.asm_lex.specs.Expressions.{sum_in, number_in, number_of as value_written, has_large_number}
 use Rattle.asm_lex.specs.Words.{size_at, mnemonic_at, directive_of, spells, opcodes, opcode_named, entry_of, meaning_of, coded, operands_of, operands_by_size, number_written, with_number, port_of, is_one_expression, are_expressions}
-use Rattle.asm_lex.specs.Lines.{Parsed, entry_meaning, word_meaning, parsed}
+use Rattle.asm_lex.specs.Lines.{entry_meaning, word_meaning, parsed}
 use Rattle.asm_listing.specs.declared.instruction.Operand.{Operand}
 use Rattle.asm_listing.specs.declared.instruction.Operand.TheVariants.{Nothing, Register, Port, Byte, Target}
 use Rattle.asm_listing.specs.Disassembly.{opcode_in, expression_at, operand_of_size, operand_by, operand_at, operand_text}

@@ -2,7 +2,7 @@ use Rattle.std.proofs.Common.{◌≡◌, ◌++◌, [], ◌∷◌, ap, sym, ◌�
 use Rattle.std.proofs.lemmas.Bool.{eqb-false}
 use Rattle.vip_byte.specs.HexText.{hex4}
 use Rattle.asm_listing.specs.Dump.{newline}
-use Rattle.asm_listing.specs.Row.{bytes_text, row_text}
+use Rattle.asm_listing.specs.Row.{bytes_text}
 use Rattle.asm_listing.proofs.Texts.{on_ok, all_appended}
 use Rattle.asm_listing.proofs.Dumps.{row_text-some}
 use Rattle.asm_listing.proofs.hex_dump.append_row.Goals as goal

@@ -1,6 +1,6 @@
-use Rattle.std.proofs.Common.{◌≡◌, ◌+◌, ◌++◌, ◌∷◌, [], drop, length, ap, sym, ◌∙◌, List, ℕ, arith, refl}
+use Rattle.std.proofs.Common.{◌≡◌, ◌+◌, ◌++◌, ◌∷◌, [], drop, length, ap, sym, ◌∙◌, arith}
 use Rattle.std.proofs.lemmas.List.{length_push}
-use Rattle.asm_listing.specs.Dump.{dump_of, dump_text, places_of}
+use Rattle.asm_listing.specs.Dump.{dump_of, places_of}
 use Rattle.asm_listing.specs.Row.{row_before, row_text}
 use Rattle.asm_listing.proofs.Dumps.{dump-first, dump-byte, dump-none, dump-last}
 use Rattle.asm_listing.proofs.hex_dump.dump.Goals.{in-Some+in_ok-make_room-in-Some, in-None+in_ok-append_row-in-None}

@@ -1,6 +1,6 @@
-use Rattle.std.proofs.Common.{◌≡◌, ◌++◌, [], ap, sym, ◌∙◌, List, ℕ, arith, length}
+use Rattle.std.proofs.Common.{◌++◌, [], ap, sym, ◌∙◌, ℕ, length}
 use Rattle.std.proofs.lemmas.Bool.{eqb-true}
-use Rattle.asm_listing.specs.Dump.{Place, dump_of}
+use Rattle.asm_listing.specs.Dump.{dump_of}
 use Rattle.asm_listing.specs.Row.{row_before, row_text}
 use Rattle.asm_listing.proofs.Dumps.{room-full}
 use Rattle.asm_listing.proofs.hex_dump.make_room.Goals as goal

@@ -1,8 +1,7 @@
-use Rattle.std.proofs.Common.{◌≡◌, ◌≤◌, ◌<◌, ◌+◌, ◌++◌, List, ℕ, [], ◌∷◌, length, drop, ap, sym, ◌∙◌, arith, refl, subst}
+use Rattle.std.proofs.Common.{◌≡◌, ◌+◌, ◌++◌, length, drop, ap, sym, ◌∙◌, arith, subst}
 use Rattle.std.specs.Prelude.{codes}
 use Rattle.std.proofs.lemmas.List.{take_rest, length-drop, get_or_default}
 use Rattle.std.proofs.lemmas.Bool.{eqb-true}
-use Rattle.vip_byte.specs.HexText.{hex4}
 use Rattle.asm_listing.specs.Disassembly.{taken, starts, lines_from, disassembly, origin, ended_line}
 use Rattle.asm_listing.specs.Dump.{newline}
 use Rattle.asm_listing.proofs.Starts.{lines-next, lines-none, disassembly-first}

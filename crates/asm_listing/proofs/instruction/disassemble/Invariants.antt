@@ -1,5 +1,4 @@
 use Rattle.std.proofs.Common.{◌≡◌, ◌≤◌, ◌+◌, ◌++◌, length}
-use Rattle.std.specs.Prelude.{flat_map}
 use Rattle.asm_listing.specs.Disassembly.{starts, disassembly, lines_from}
 use Rattle.asm_listing.proofs.instruction.disassemble.Given as goal
 

@@ -1,6 +1,6 @@
-use Rattle.std.proofs.Common.{◌≡◌, ◌-◌, ◌*◌, ◌++◌, ℕ, List, min, sym, ap, ◌∙◌, arith}
+use Rattle.std.proofs.Common.{◌≡◌, ◌-◌, ◌*◌, ◌++◌, min, ap, ◌∙◌, arith}
 use Rattle.std.proofs.lemmas.List.{append_assoc}
-use Rattle.asm_listing.specs.Listing.{blanks, digits_of, first_digits}
+use Rattle.asm_listing.specs.Listing.{blanks, digits_of}
 use Rattle.asm_listing.specs.Shown.{bytes_from}
 use Rattle.asm_listing.proofs.Texts.{on_ok}
 use Rattle.asm_listing.proofs.Listings.{first-bytes}

@@ -1,4 +1,4 @@
-use Rattle.std.proofs.Common.{◌≡◌, ◌+◌, ◌-◌, ◌/◌, ◌++◌, ℕ, List, length, sym, ap, ◌∙◌, arith}
+use Rattle.std.proofs.Common.{◌≡◌, ◌+◌, ◌-◌, ◌/◌, ◌++◌, length, sym, ap, ◌∙◌, arith}
 use Rattle.asm_listing.specs.Listing.{further_line}
 use Rattle.asm_listing.specs.Shown.{bytes_from}
 use Rattle.asm_listing.proofs.Listings.{length-bytes, further-none, further-more, further-all}

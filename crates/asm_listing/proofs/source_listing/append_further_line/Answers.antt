@@ -1,4 +1,4 @@
-use Rattle.std.proofs.Common.{◌≡◌, ◌+◌, ◌-◌, ◌*◌, ◌++◌, [], ◌∷◌, ℕ, List, min, sym, ap, ◌∙◌, arith}
+use Rattle.std.proofs.Common.{◌≡◌, ◌+◌, ◌-◌, ◌*◌, ◌++◌, [], ◌∷◌, ℕ, min, sym, ap, ◌∙◌, arith}
 use Rattle.vip_byte.specs.HexText.{hex4}
 use Rattle.asm_listing.specs.Dump.{newline}
 use Rattle.asm_listing.specs.Listing.{blanks, digits_of, three_at}

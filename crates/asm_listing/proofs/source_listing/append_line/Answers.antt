@@ -1,4 +1,4 @@
-use Rattle.std.proofs.Common.{◌≡◌, ◌+◌, ◌%◌, ◌++◌, [], ◌∷◌, ℕ, List, sym, ap, ◌∙◌, arith}
+use Rattle.std.proofs.Common.{◌≡◌, ◌%◌, ◌++◌, [], ◌∷◌, ℕ, List, ap, ◌∙◌}
 use Rattle.vip_byte.specs.HexText.{hex4}
 use Rattle.asm_listing.specs.Dump.{newline}
 use Rattle.asm_listing.specs.Listing.{number_text, first_digits, further_lines, line_listing}

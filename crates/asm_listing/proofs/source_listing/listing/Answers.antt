@@ -1,9 +1,8 @@
-use Rattle.std.proofs.Common.{◌≡◌, ◌≤◌, ◌+◌, ◌%◌, ◌++◌, ℕ, List, length, drop, refl, sym, ap, subst, ◌∙◌, arith}
-use Rattle.asm_core.specs.Made.{Made, line_place}
-use Rattle.asm_core.specs.Sources.{source_lines, line_at}
+use Rattle.std.proofs.Common.{◌≤◌, ◌+◌, ◌%◌, ◌++◌, refl, sym, ap, subst, ◌∙◌, arith}
+use Rattle.asm_core.specs.Sources.{source_lines}
 use Rattle.asm_core.specs.declared.assembly.LinePlace.{LinePlace}
 use Rattle.asm_core.proofs.PassOne.{line_here, no_line}
-use Rattle.asm_listing.specs.Listing.{line_listing, listed, lines_text, symbols_text, IsListing}
+use Rattle.asm_listing.specs.Listing.{line_listing, listed, lines_text, symbols_text}
 use Rattle.asm_listing.specs.Shown.{byte_count, bytes_from}
 use Rattle.asm_listing.proofs.Listings.{lines-start, lines-more, line-listed, place_fits}
 use Rattle.asm_listing.proofs.source_listing.listing.Goals as goal
