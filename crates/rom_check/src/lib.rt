@@ -1,0 +1,16 @@
+//! The comparison of a ROM's source with its bytes: does the text assemble, and to exactly this image?
+//!
+//! It stands on `asm_core`, which assembles, on `chip8_source`, which has the text of the CHIP-8 interpreter for both editions, and on
+//! `chip8_image`, which has the bytes. The layer above may rely on this: each answer is what `Compares` in `specs/Compared.antt` says,
+//! which is the first fault of the assembly, else the least address that differs, else fine. A program that calls `check_image` before
+//! it runs the image runs what the text says. The profile of the assembly and of the ROM is this project's own.
+#![tactic(auto)]
+
+mod comparison;
+mod fault;
+
+pub use crate::comparison::{check_image, check_tall, compare};
+pub use crate::fault::ImageFault;
+
+#[cfg(test)]
+mod tests;
