@@ -1,8 +1,8 @@
 -- The calls of a machine cycle make of the wires what the cycle's effect makes of the machine.
-use Rattle.std.proofs.Common.{◌≡◌, ◌+◌, ◌-◌, ◌∙◌, ℕ, Bool, true, false, ◌&&◌, if◌then◌else◌, List, refl, sym, ap, subst}
+use Rattle.std.proofs.Common.{◌≡◌, ◌-◌, ◌∙◌, ℕ, Bool, true, false, ◌&&◌, if◌then◌else◌, refl, ap, subst}
 use Rattle.std.specs.Prelude.{◌==◌, Option, Some, None}
 use Rattle.machine.specs.Opcodes.{kind_of, number_of, cycles_of}
-use Rattle.machine.specs.Instruction.{Regs, Effect, Port, at, stepped, interrupted, inputs}
+use Rattle.machine.specs.Instruction.{Regs, Effect, Port, at, stepped, inputs}
 use Rattle.machine.specs.Instruction.Port.{Send, Receive}
 use Rattle.machine.specs.Memory.{read}
 use Rattle.machine.specs.Keys.{held_at}
@@ -10,13 +10,13 @@ use Rattle.machine.specs.Signals.{int_at, dma_at, efx_at}
 use Rattle.machine.specs.Board.{flags_of}
 use Rattle.machine.proofs.Ports.{send-writes_nothing}
 use Rattle.vip_cpu.specs.Acts.{Calls, Acts}
-use Rattle.vip_cpu.specs.Cycle.{Processor, Cycle, after, quiet, begun, ended, cycle_in, cycle}
+use Rattle.vip_cpu.specs.Cycle.{Processor, Cycle, after, quiet, ended, cycle_in, cycle}
 use Rattle.vip_cpu.specs.declared.cpu.Phase.{Phase}
 use Rattle.vip_cpu.specs.declared.cpu.Phase.TheVariants.{Boundary, Middle}
 use Rattle.vip_cpu.specs.declared.cpu.Did.{Did}
-use Rattle.vip_cpu.specs.declared.cpu.Did.TheVariants.{Fetch, Execute, Interrupt, Idle, Dma}
+use Rattle.vip_cpu.specs.declared.cpu.Did.TheVariants.{Fetch, Execute}
 use Rattle.vip_video.specs.Chip.{Chip, ended as video_ended}
-use Rattle.vip_board.specs.Seen.{Seen, byte_in, cycle_of, cycled}
+use Rattle.vip_board.specs.Seen.{byte_in, cycle_of, cycled}
 use Rattle.vip_board.specs.Wired.{seen_of, after_port, after_write, after_calls}
 use Rattle.vip_board.specs.declared.wires.Wires.{Wires}
 

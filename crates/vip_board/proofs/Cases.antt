@@ -1,8 +1,7 @@
 -- A move that is one machine cycle: a DMA cycle, an interrupt and an idle cycle.
-use Rattle.std.proofs.Common.{◌≡◌, ◌+◌, ◌-◌, ℕ, List, Bool, true, false, ◌&&◌, cond, if◌then◌else◌, refl, sym, ap, ◌∙◌}
-use Rattle.std.specs.Prelude.{Some, None}
+use Rattle.std.proofs.Common.{◌≡◌, ◌-◌, ℕ, List, Bool, true, false, ◌&&◌, if◌then◌else◌, refl, sym, ap, ◌∙◌}
 use Rattle.machine.specs.Opcodes.{cycles_of}
-use Rattle.machine.specs.Instruction.{Regs, at, stepped, after_dma, interrupted}
+use Rattle.machine.specs.Instruction.{at, stepped, after_dma, interrupted}
 use Rattle.machine.specs.Keys.{Event, held_at}
 use Rattle.machine.specs.Signals.{dma_at, int_at}
 use Rattle.machine.specs.Board.{Machine, Case, case_of, moved_in, length_in, byte_of}
@@ -14,7 +13,6 @@ use Rattle.vip_cpu.specs.declared.cpu.Did.TheVariants.{Fetch, Interrupt, Idle, D
 use Rattle.vip_video.specs.Chip.{Pictures}
 use Rattle.vip_board.specs.Seen.{Seen, cycled, cycle_of}
 use Rattle.vip_board.specs.Moves.{name_of, name_in, moved, pictures_after, scanned_over, bus_byte_in}
-use Rattle.vip_board.specs.declared.board.Move.TheVariants.{Dma as DmaMove, Interrupt as InterruptMove, Idle as IdleMove}
 
 -- ---- a board at a boundary
 

@@ -1,10 +1,10 @@
 -- One machine cycle of the video chip, over what is known of frames and lines: which frames are shown so far, and the bytes of each line.
-use Rattle.std.proofs.Common.{◌≡◌, ◌≢◌, ◌⊎◌, inl, inr, ◌+◌, ◌-◌, ◌*◌, ◌/◌, ◌%◌, ◌<◌, ◌≤◌, ℕ, zero, suc, Bool, true, false, not, cond, List, [], ◌∷◌, ◌++◌, length, get_or, set, map, replicate, ap, subst, sym, ◌∙◌, refl, arith, append-nil, add-one}
+use Rattle.std.proofs.Common.{◌≡◌, ◌≢◌, ◌⊎◌, inl, inr, ◌+◌, ◌-◌, ◌*◌, ◌/◌, ◌%◌, ◌<◌, ◌≤◌, ℕ, zero, suc, Bool, true, false, not, cond, List, [], ◌∷◌, ◌++◌, length, map, replicate, ap, subst, sym, ◌∙◌, refl, arith, append-nil, add-one}
 use Rattle.std.proofs.Math.Bool.{◌&&◌, ◌||◌}
-use Rattle.std.specs.Prelude.{Option, Some, None, IsSome, nat_lt, nat_le, slice_get}
+use Rattle.std.specs.Prelude.{Option, Some, None, IsSome, nat_lt, slice_get}
 use Rattle.std.specs.Option.{option_map, option_to_list}
 use Rattle.std.proofs.lemmas.Bool.Decides.{nat_tests}
-use Rattle.std.proofs.lemmas.Bool.{lt-ltb, le-ltb}
+use Rattle.std.proofs.lemmas.Bool.{le-ltb}
 use Rattle.machine.specs.Signals.{line_of}
 use Rattle.machine.specs.Pictures.{frame, interrupt_at, window_end, windows_ended, filled}
 use Rattle.vip_video.specs.Chip.{Pictures, blank, is_in_window, begins_frame, follows_window, with_byte, drawn, passed, scanned, framed, finished}

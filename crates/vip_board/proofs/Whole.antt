@@ -3,7 +3,7 @@ use Rattle.std.proofs.Common.{◌≡◌, ◌+◌, ◌-◌, ◌/◌, ℕ, List, B
 use Rattle.std.specs.Prelude.{◌==◌, None}
 use Rattle.machine.specs.Opcodes.{cycles_of}
 use Rattle.machine.specs.Instruction.{Regs, Effect, at, stepped, interrupted}
-use Rattle.machine.specs.Board.{Machine, case_of, acted, main_move, move, moved_in, length_of, opcode_of, byte_of, flags_of}
+use Rattle.machine.specs.Board.{Machine, case_of, acted, main_move, length_of, opcode_of, byte_of, flags_of}
 use Rattle.machine.specs.Board.Case.{Instruction as InstructionCase}
 use Rattle.vip_cpu.specs.Cycle.{begun, quiet, Cycle}
 use Rattle.vip_cpu.specs.declared.cpu.Phase.TheVariants.{Boundary, Middle}
@@ -12,9 +12,9 @@ use Rattle.machine.specs.Keys.{Event, held_at}
 use Rattle.vip_video.specs.Chip.{Pictures, scanned}
 use Rattle.vip_board.specs.Seen.{Seen, cycled, cycle_of}
 use Rattle.machine.specs.Signals.{dma_at, int_at, efx_at}
-use Rattle.vip_board.specs.Moves.{name_of, moved, pictures_after, scanned_over}
+use Rattle.vip_board.specs.Moves.{name_of, moved, scanned_over}
 use Rattle.vip_board.specs.declared.board.Move.TheVariants.{Instruction}
-use Rattle.machine.proofs.Moves.{case_instruction, move_in, length_of_in}
+use Rattle.machine.proofs.Moves.{case_instruction, length_of_in}
 use Rattle.vip_board.proofs.Flags.{executed-flags}
 use Rattle.vip_board.proofs.Cases.{resting, rests, moved-rests, moved-in}
 

@@ -140,6 +140,7 @@ impl Board {
         ensures board { self.new ≡ cycled self.old }
         ensures did { result ≡ (cycle_of self.old).did }
     {
+        self.wires.seek();
         let now = self.wires.video.now();
         let signals = self.wires.video.signals(now);
         let did = self.cpu.cycle(&mut self.wires, signals.dma, signals.int);

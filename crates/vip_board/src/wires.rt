@@ -16,6 +16,15 @@ pub struct Wires {
     pub keypad: Keypad,
 }
 
+impl Wires {
+    /// Finds the events about the present cycle, so that EF3 is read without a search.
+    pub fn seek(&mut self)
+        ensures { self.new ≡ self.old }
+    {
+        self.keypad.seek(self.video.now());
+    }
+}
+
 impl Bus for Wires {
     ghost use Rattle.std.specs.Prelude.{◌≡◌};
     ghost use Rattle.machine.specs.Keys.{held_at};

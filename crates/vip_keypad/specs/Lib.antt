@@ -1,4 +1,5 @@
 pub mod KeySet
 pub mod KeyScript
 pub mod KeypadState
+pub mod Stretches
 pub mod Entries

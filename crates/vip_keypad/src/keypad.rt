@@ -4,6 +4,7 @@ ghost use Rattle.std.specs.Prelude.{◌≡◌, ◌%◌, ◌<◌, IfOk};
 ghost use Rattle.machine.specs.Keys.{held_at};
 
 use crate::script::Script;
+use crate::stretch::Stretch;
 use std::alloc::{AllocError, Global};
 use std::marker::Model;
 
@@ -12,17 +13,20 @@ use std::marker::Model;
 pub struct Keypad {
     script: Script,
     latched: u8,
+    // the cycles whose keys were looked up last
+    stretch: Stretch,
 }
 
 impl Model for Keypad {
     ghost use Rattle.std.specs.Prelude.{◌<◌};
     ghost use Rattle.vip_keypad.specs.KeypadState.{KeypadState};
+    ghost use Rattle.vip_keypad.specs.Stretches.{HoldsIn};
 
     ghost Value = { KeypadState };
 
     ghost view = { λ inside. record { script = inside.script; latched = inside.latched } };
 
-    ghost invariant = { λ inside. inside.latched < 16 };
+    ghost invariant = { λ inside. record { latched : inside.latched < 16; stretch : HoldsIn inside.script inside.stretch } };
 }
 
 impl Keypad {
@@ -33,6 +37,7 @@ impl Keypad {
         Ok(Keypad {
             script: script.copied(alloc)?,
             latched: 0,
+            stretch: Stretch::empty(),
         })
     }
 
@@ -41,7 +46,21 @@ impl Keypad {
         requires { key < 16 }
         ensures { result ≡ held_at self.now.script t key }
     {
-        self.script.is_held(t, key)
+        if self.stretch.contains(t) {
+            self.stretch.keys.contains(key)
+        } else {
+            self.script.is_held(t, key)
+        }
+    }
+
+    /// Finds the events about machine cycle t, so that `down` needs no search from the last event at or before t up to the next one.
+    /// It changes no answer.
+    pub fn seek(&mut self, t: u64)
+        ensures { self.new ≡ self.old }
+    {
+        if !self.stretch.contains(t) {
+            self.stretch = self.script.stretch_at(t);
+        }
     }
 
     /// Latches the low four bits of a byte as the key number, as OUT 2 does.
@@ -66,12 +85,10 @@ mod tests {
     use crate::script::read_script;
     use std::test::Fail;
 
-    #[test]
-    fn tells_keys_by_cycle(rt: HostRuntime) -> Result<(), Fail> {
-        let text = b"10 down a\n10 up A\n10 down B\n20 down b\n20 up 3\n30 up B\n";
-        let script = read_script(rt.alloc(), text)?;
-        let keypad = Keypad::new(rt.alloc(), &script)?;
+    // The first of some rows that the keypad tells otherwise.
+    fn told_otherwise(keypad: &Keypad) -> Option<(u64, u8)> {
         let rows = [
+            (9, 0xA, false),
             (9, 0xB, false),
             (10, 0xA, false),
             (10, 0xB, true),
@@ -82,8 +99,22 @@ mod tests {
             (u64::MAX, 0xB, false),
         ];
         for (t, key, want) in rows {
-            assert!(rt; key < 16);
-            assert_eq!(rt; keypad.down(t, key), want, "key {key} at {t}");
+            if key < 16 && keypad.down(t, key) != want {
+                return Some((t, key));
+            }
+        }
+        None
+    }
+
+    #[test]
+    fn tells_keys_by_cycle(rt: HostRuntime) -> Result<(), Fail> {
+        let text = b"10 down a\n10 up A\n10 down B\n20 down b\n20 up 3\n30 up B\n";
+        let script = read_script(rt.alloc(), text)?;
+        let mut keypad = Keypad::new(rt.alloc(), &script)?;
+        assert_eq!(rt; told_otherwise(&keypad), None);
+        for t in [0, 9, 10, 15, 29, 30, u64::MAX, 20] {
+            keypad.seek(t);
+            assert_eq!(rt; told_otherwise(&keypad), None, "after seek({t})");
         }
         Ok(())
     }

@@ -6,13 +6,15 @@
 //!
 //! The crate stands on the definitions of `machine`, on `vip_byte` and on the kit's `thiserror`. The layers above may rely on this: a
 //! script that was read is the list of its events, or its first fault; `Keypad::down` is `held_at` of `machine` over that whole list; the
-//! latched key is the low four bits of the byte that was latched last.
+//! latched key is the low four bits of the byte that was latched last. `Keypad::seek` saves `down` the search among the events, at all
+//! cycles up to the next event, and changes no answer.
 #![tactic(auto)]
 
 mod key_set;
 mod keypad;
 mod line;
 mod script;
+mod stretch;
 
 pub use keypad::Keypad;
 pub use script::{Script, ScriptCause, ScriptFault, read_script};

@@ -1,6 +1,6 @@
 //! Key scripts: how they are read, and which keys their events hold down.
 
-ghost use Rattle.std.specs.Prelude.{◌≡◌, ℕ, ◌+◌, ◌<◌, ◌≤◌, ◌⊎◌, true, false, nat_le, [], ◌∷◌, ◌++◌, length, map, Some, OnOk, OnErr, IfOk, IfErr};
+ghost use Rattle.std.specs.Prelude.{◌≡◌, ℕ, ◌+◌, ◌<◌, ◌≤◌, ◌⊎◌, true, false, nat_le, [], ◌∷◌, ◌++◌, length, map, take, Some, OnOk, OnErr, IfOk, IfErr};
 ghost use Rattle.std.specs.List.{AllWithin};
 ghost use Rattle.std.specs.List.Sorted.{IsNonDecreasingBy};
 ghost use Rattle.std.specs.Option.{ForSome, option_to_list};
@@ -9,9 +9,11 @@ ghost use Rattle.machine.specs.Keys.{held_at};
 ghost use Rattle.vip_keypad.specs.Entries.{AreSearchable, event_of_entry, held_after};
 ghost use Rattle.vip_keypad.specs.KeySet.{has_key};
 ghost use Rattle.vip_keypad.specs.KeyScript.{cause_after, last_cycle, said, script_of};
+ghost use Rattle.vip_keypad.specs.Stretches.{HoldsIn};
 
 use crate::key_set::KeySet;
 use crate::line::{Event, read_line};
+use crate::stretch::Stretch;
 use std::alloc::{AllocError, Global};
 use std::marker::Model;
 use thiserror::Error;
@@ -116,6 +118,13 @@ impl Script {
         keys_at(self.entries.as_slice(), t).contains(key)
     }
 
+    // The stretch of cycles about cycle t, from the last event at or before it up to the next one.
+    pub(crate) fn stretch_at(&self, t: u64) -> Stretch
+        ensures { HoldsIn self.now result }
+    {
+        stretch_about(self.entries.as_slice(), t)
+    }
+
     // A copy of the script.
     pub(crate) fn copied(&self, alloc: Global) -> Result<Script, AllocError>
         ensures { IfOk result (λ script. script ≡ self.now) }
@@ -180,9 +189,57 @@ fn keys_at(entries: &[Entry], t: u64) -> KeySet
     ensures { (k : ℕ) → k < 16
         → has_key result.bits k ≡ held_at (map event_of_entry entries.now) t k }
 {
-    match count_until(entries, t) {
+    keys_after(entries, count_until(entries, t))
+}
+
+// The stretch from the last entry at or before cycle t up to the next one.
+fn stretch_about(entries: &[Entry], t: u64) -> Stretch
+    requires { AreSearchable entries.now }
+    ensures { HoldsIn (map event_of_entry entries.now) result }
+{
+    let count = count_until(entries, t);
+    Stretch {
+        from: start_after(entries, count),
+        until: end_after(entries, count),
+        keys: keys_after(entries, count),
+    }
+}
+
+// The keys that are down after so many entries.
+fn keys_after(entries: &[Entry], count: usize) -> KeySet
+    requires searchable { AreSearchable entries.now }
+    requires within { count ≤ length entries.now }
+    ensures { (k : ℕ) → k < 16
+        → has_key result.bits k ≡ held_after (map event_of_entry (take count entries.now)) k }
+{
+    match count {
         0 => KeySet::empty(),
         count => entries[count - 1].keys,
+    }
+}
+
+// The first cycle at which so many entries stand at or before it.
+fn start_after(entries: &[Entry], count: usize) -> u64
+    requires in_order { IsNonDecreasingBy (λ entry. entry.cycle) entries.now }
+    requires within { count ≤ length entries.now }
+    ensures { (t : ℕ) → result ≤ t
+        → AllWithin (λ entry. nat_le entry.cycle t ≡ true) entries.now 0 count }
+{
+    match count {
+        0 => 0,
+        count => u64::from(entries[count - 1].cycle),
+    }
+}
+
+// The cycle of the entry behind so many, or the greatest number.
+fn end_after(entries: &[Entry], count: usize) -> u64
+    requires in_order { IsNonDecreasingBy (λ entry. entry.cycle) entries.now }
+    ensures { (t : ℕ) → t < result
+        → AllWithin (λ entry. nat_le entry.cycle t ≡ false) entries.now count (length entries.now) }
+{
+    match entries.get(count) {
+        Some(entry) => u64::from(entry.cycle),
+        None => u64::MAX,
     }
 }
 

@@ -1,23 +1,27 @@
-use Rattle.std.proofs.Common.{◌∙◌, sym, ap}
+use Rattle.std.proofs.Common.{◌≡◌, ◌∙◌, sym, subst, ap}
 use Rattle.vip_board.specs.Seen.{cycled}
+use Rattle.vip_board.specs.Wired.{seen_of}
 use Rattle.vip_board.specs.declared.wires.Wires.{Wires}
-use Rattle.vip_board.proofs.Calls.{Made, made, seen_after}
+use Rattle.vip_board.proofs.Calls.{made, seen_after}
 use Rattle.vip_board.proofs.board.Board.cycle.Goals as goal
 
 pub end_cycle-requires-clause-present : goal.end_cycle-requires-clause-present
 end_cycle-requires-clause-present c =
     let m =
-    made c.self.inside.cpu c.self.inside.wires c.now-now.result c.signals-signals.result.dma c.signals-signals.result.int
+    made c.self.inside.cpu c.seek.new.self c.now-now.result c.signals-signals.result.dma c.signals-signals.result.int
     c.cycle-did.new.self c.cycle-did.new.bus c.cycle-did.result
     c.now-now.ensures c.signals-signals.ensures.dma c.signals-signals.ensures.int c.cycle-did.ensures in
     c.now-now.ensures ∙ sym (ap (λ (w : Wires). w.video.cycles) m.wires)
 
 pub returns-clause-board : goal.returns-clause-board
 returns-clause-board c =
+    let cpu = c.self.inside.cpu in
     let m =
-    made c.self.inside.cpu c.self.inside.wires c.now-now.result c.signals-signals.result.dma c.signals-signals.result.int
+    made cpu c.seek.new.self c.now-now.result c.signals-signals.result.dma c.signals-signals.result.int
     c.cycle-did.new.self c.cycle-did.new.bus c.cycle-did.result
     c.now-now.ensures c.signals-signals.ensures.dma c.signals-signals.ensures.int c.cycle-did.ensures in
-    seen_after c.self.inside.cpu c.self.inside.wires c.cycle-did.new.self c.cycle-did.new.bus c.cycle-did.result c.byte_in.result c.end_cycle.new.self
-    c.self.invariant m c.byte_in.ensures c.end_cycle.ensures
+    let On : Wires → Type 0 = λ w. w.video.cycle_on ≡ w.video.on in
+    seen_after cpu c.seek.new.self c.cycle-did.new.self c.cycle-did.new.bus c.cycle-did.result c.byte_in.result c.end_cycle.new.self
+    (subst On (sym c.seek.ensures) c.self.invariant) m c.byte_in.ensures c.end_cycle.ensures
+    ∙ ap (λ w. cycled (seen_of cpu w)) c.seek.ensures
     ∙ ap cycled c.self.view_is

@@ -1,6 +1,5 @@
 use Rattle.std.proofs.Common.{sym, ap, ◌∙◌}
-use Rattle.machine.specs.Instruction.{at}
-use Rattle.vip_board.specs.Seen.{Seen, cycled}
+use Rattle.vip_board.specs.Seen.{cycled}
 use Rattle.vip_board.specs.declared.board.Move.TheVariants.{Instruction}
 use Rattle.vip_board.proofs.Whole.{fetches_of, name_of-fetch, make_two, make_three}
 use Rattle.machine.specs.Board.Case.{Dma as DmaCase, Interrupt as InterruptCase, Idle as IdleCase}

@@ -1,5 +1,4 @@
-use Rattle.std.proofs.Common.{◌≡◌, ◌∙◌, sym, subst, ap, ℕ, List, [], arith}
-use Rattle.machine.specs.Ranges.{FitsMachine, FitsRom}
+use Rattle.std.proofs.Common.{sym, subst, [], arith}
 use Rattle.machine.proofs.Fits.{reset-fits}
 use Rattle.vip_video.specs.Chip.{Chip}
 use Rattle.vip_board.specs.Shown.{Shows}

@@ -1,4 +1,4 @@
-use Rattle.std.proofs.Common.{◌≡◌, sym, subst}
+use Rattle.std.proofs.Common.{sym, subst}
 use Rattle.machine.specs.Ranges.{FitsMachine}
 use Rattle.machine.proofs.Fits.{move-fits}
 use Rattle.vip_board.specs.Seen.{Seen, held_by}
