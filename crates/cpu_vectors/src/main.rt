@@ -3,14 +3,14 @@
 //! The vectors in `data/vectors.txt` were measured on MAME 0.251, driver vip, core cdp1802; the head of that file says what its
 //! fields are. There are vectors of all opcodes but 68, and of interrupts, DMA cycles and idling. For each of them a processor is put
 //! into the state before, over a plain memory, and makes one instruction, and then the moves that the signals of the vector want. Its
-//! registers, its calls on the bus and its machine cycles must be those of the vector. The program writes each vector that differs,
-//! and then the counts.
+//! registers, its calls on the bus and its machine cycles must be those of the vector. The vectors that were measured with the display
+//! on run on a whole board of `vip_board` too, whose video chip gives the signals. The program writes each vector that differs, and
+//! then the counts.
 //!
-//! It is a test of `vip_cpu`'s definitions, which no proof can judge: nothing here is proved but that it is safe.
+//! It is a test of the definitions of `machine`, which no proof can judge: nothing here is proved but that it is safe.
 #![tactic(auto)]
 
-ghost use Rattle.std.specs.Prelude.{◌<◌};
-
+mod on_board;
 mod test_bus;
 mod vector;
 
@@ -18,32 +18,6 @@ use crate::test_bus::TestBus;
 use crate::vector::{State, Vector};
 use std::fs;
 use vip_cpu::{Cpu, Did};
-
-const DIS: u8 = 0x71;
-
-/// A processor in a state, at a boundary. One that was just made has IE = 1. Where the state has IE = 0, it comes from there by DIS,
-/// which takes X and P from the byte at R(X) and adds 1 to R(P) and to R(X).
-fn processor_in(state: &State, bus: &mut TestBus) -> Cpu {
-    let mut parts = state.parts();
-    if state.ie() {
-        return Cpu::from_parts(&parts);
-    }
-    step_back(&mut parts.r, parts.p);
-    step_back(&mut parts.r, parts.x);
-    let mut cpu = Cpu::from_parts(&parts);
-    bus.fill(DIS);
-    let _ = cpu.cycle(bus, false, false);
-    bus.fill(state.xp);
-    let _ = cpu.cycle(bus, false, false);
-    cpu
-}
-
-/// R(n) - 1.
-fn step_back(r: &mut [u16; 16], n: u8)
-    requires { n < 16 }
-{
-    r[n as usize] = r[n as usize].wrapping_sub(1);
-}
 
 /// Runs a processor up to its next boundary. Answers the machine cycles, or 0 where they are more than 3.
 fn run_instruction(cpu: &mut Cpu, bus: &mut TestBus) -> u16 {
@@ -75,7 +49,7 @@ fn makes_moves(cpu: &mut Cpu, bus: &mut TestBus, vector: &Vector, idle: u16) -> 
 }
 
 fn passes(vector: &Vector, bus: &mut TestBus) -> bool {
-    let mut cpu = processor_in(&vector.before, bus);
+    let mut cpu = Cpu::from_parts(&vector.before.parts());
     bus.prepare(vector);
     let mut cycles = vector.dma_cycles.saturating_add(vector.takes_int as u16);
     if vector.has_instruction {
@@ -88,24 +62,68 @@ fn passes(vector: &Vector, bus: &mut TestBus) -> bool {
         && (!vector.ignores_int || cpu.cycle(bus, false, true) == Did::Fetch)
 }
 
+/// How many vectors passed and failed.
+#[derive(Clone, Copy)]
+struct Counts {
+    passed: u32,
+    failed: u32,
+}
+
+impl Counts {
+    fn none() -> Counts {
+        Counts {
+            passed: 0,
+            failed: 0,
+        }
+    }
+
+    fn add(&mut self, passes: bool) {
+        if passes {
+            self.passed = self.passed.saturating_add(1);
+        } else {
+            self.failed = self.failed.saturating_add(1);
+        }
+    }
+
+    fn all(&self) -> u32 {
+        self.passed.saturating_add(self.failed)
+    }
+}
+
 fn main(rt: HostRuntime) -> anyhow::Result<()> {
     let text = fs::read_to_string(&rt, "vectors.txt")?;
     let mut bus = TestBus::new(rt.alloc())?;
-    let mut passed = 0u32;
-    let mut failed = 0u32;
+    let mut counts = Counts::none();
+    let mut on_board = Counts::none();
     for line in text.lines() {
         if line.starts_with('#') {
             continue;
         }
         let vector = Vector::read(rt.alloc(), line)?;
-        if passes(&vector, &mut bus) {
-            passed = passed.saturating_add(1);
-        } else {
-            failed = failed.saturating_add(1);
+        let passes = passes(&vector, &mut bus);
+        counts.add(passes);
+        if !passes {
             println!(rt; "differs: {line}")?;
         }
+        if vector.has_display {
+            let passes = on_board::passes(rt.alloc(), &vector)?;
+            on_board.add(passes);
+            if !passes {
+                println!(rt; "differs on the board: {line}")?;
+            }
+        }
     }
-    let all = passed.saturating_add(failed);
-    println!(rt; "{all} vectors: {passed} passed, {failed} failed")?;
+    println!(rt;
+        "{} vectors: {} passed, {} failed",
+        counts.all(),
+        counts.passed,
+        counts.failed
+    )?;
+    println!(rt;
+        "{} of them on the board: {} passed, {} failed",
+        on_board.all(),
+        on_board.passed,
+        on_board.failed
+    )?;
     Ok(())
 }

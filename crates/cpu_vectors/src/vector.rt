@@ -3,7 +3,7 @@
 ghost use Rattle.std.specs.Prelude.{◌<◌};
 
 use hex::{FromHex, FromHexError};
-use std::alloc::{AllocFailed, Global};
+use std::alloc::{AllocError, AllocFailed, Global};
 use std::str::SplitWhitespace;
 use thiserror::Error;
 use vip_cpu::{Cpu, Parts};
@@ -20,6 +20,12 @@ pub enum VectorFault {
 impl From<FromHexError> for VectorFault {
     fn from(_: FromHexError) -> VectorFault {
         VectorFault::NotAVector
+    }
+}
+
+impl From<AllocError> for VectorFault {
+    fn from(_: AllocError) -> VectorFault {
+        VectorFault::NoMemory
     }
 }
 
@@ -51,7 +57,10 @@ pub enum Call {
 
 #[derive(Drop)]
 pub struct Vector {
+    /// Memory is that of the board.
     pub is_board: bool,
+    /// It was measured with the display on.
+    pub has_display: bool,
     pub before: State,
     pub after: State,
     /// EF1 to EF4.
@@ -90,7 +99,7 @@ impl State {
         }
     }
 
-    /// The parts of a processor in this state, but for IE.
+    /// The parts of a processor in this state.
     pub fn parts(&self) -> Parts
         ensures x { result.x < 16 }
         ensures p { result.p < 16 }
@@ -103,11 +112,9 @@ impl State {
             p: self.xp % 16,
             df: self.bits % 2 == 1,
             q: self.bits / 2 % 2 == 1,
+            ie: self.bits / 4 % 2 == 1,
+            idle: false,
         }
-    }
-
-    pub fn ie(&self) -> bool {
-        self.bits / 4 % 2 == 1
     }
 
     fn read(registers: &str, others: &str) -> Result<State, VectorFault> {
@@ -229,6 +236,7 @@ impl Vector {
         let moves = next(&mut fields)?;
         Ok(Vector {
             is_board: kind != "f",
+            has_display: kind == "s" || kind == "m",
             before,
             after,
             flags: flags_of(flags),

@@ -1,10 +1,11 @@
 -- A move of the board keeps that its video chip has the pictures of the moves made so far.
-use Rattle.std.proofs.Common.{◌≡◌, ◌≢◌, ◌+◌, ◌-◌, ◌*◌, ◌/◌, ◌≤◌, ℕ, zero, suc, Bool, true, false, not, cond, List, [], ◌∷◌, ◌++◌, length, map, filter, ap, subst, sym, ◌∙◌, refl, arith, append-nil, eq-eqb}
+use Rattle.std.proofs.Common.{◌≡◌, ◌≢◌, ◌+◌, ◌-◌, ◌*◌, ◌/◌, ◌%◌, ◌≤◌, ℕ, zero, suc, Bool, true, false, not, cond, List, [], ◌∷◌, ◌++◌, length, map, filter, ap, subst, sym, ◌∙◌, refl, arith, append-nil, eq-eqb}
 use Rattle.std.proofs.Math.Bool.{◌&&◌, ◌||◌}
-use Rattle.std.specs.Prelude.{Option, Some, None, IsSome, nat_lt, slice_get, if◌then◌else◌, ◌==◌}
+use Rattle.std.specs.Prelude.{Option, Some, None, IsSome, nat_lt, nat_le, slice_get, if◌then◌else◌, ◌==◌}
 use Rattle.std.specs.List.{list_all}
 use Rattle.std.specs.Option.{option_map, option_to_list}
 use Rattle.std.proofs.lemmas.Bool.Decides.{nat_tests}
+use Rattle.std.proofs.lemmas.Bool.{le-leb, lt-leb}
 use Rattle.std.proofs.lemmas.List.{map-append}
 use Rattle.std.proofs.lemmas.List.Elements.{filter-append}
 use Rattle.std.proofs.lemmas.List.Folds.{list_all-append}
@@ -14,11 +15,11 @@ use Rattle.machine.specs.Board.{Machine, Case, case_of, dma_byte, length_in, len
 use Rattle.machine.specs.Board.Case.{Dma, Interrupt, Idle, Instruction}
 use Rattle.machine.specs.Pictures.{frame, interrupt_at, window_end, windows_ended, filled, is_dma, is_dma_in, lines_from, picture_of, is_within, is_shown}
 use Rattle.machine.proofs.Runs.{cycle-move}
-use Rattle.vip_video.specs.Chip.{Pictures, nothing_yet, scanned}
+use Rattle.vip_video.specs.Chip.{Pictures, nothing_before, scanned}
 use Rattle.vip_video.proofs.Room.{IsDmaPlace, dma-place}
 use Rattle.vip_board.specs.Moves.{moved, pictures_after, scanned_over, bus_byte_in}
 use Rattle.vip_board.specs.Seen.{Seen, held_by}
-use Rattle.vip_board.specs.Shown.{dma_bytes, bytes_from, window_bytes, shown_frames, Shows, CarriesOn}
+use Rattle.vip_board.specs.Shown.{dma_bytes, bytes_from, window_bytes, shown_frames, shown_since, ShowsSince, CarriesOn}
 use Rattle.vip_board.proofs.Drawn.{picture, Drawn, Next, covers, after-cycle}
 
 -- ---- pictures by the bytes of their lines
@@ -35,8 +36,8 @@ last-is : (rom : List ℕ) (run : List Machine) (o : Option ℕ) → option_map 
 last-is rom run None = refl
 last-is rom run (Some m) = ap Some (picture-is rom run m)
 
-to-drawn : (rom : List ℕ) (run : List Machine) (t : ℕ) (p : Pictures) → Shows rom run t p → Drawn (is_shown rom run) (dma_bytes rom run) t p
-to-drawn rom run t p s =
+to-drawn : (from : ℕ) (rom : List ℕ) (run : List Machine) (t : ℕ) (p : Pictures) → ShowsSince from rom run t p → Drawn (shown_since from rom run) (dma_bytes rom run) t p
+to-drawn from rom run t p s =
     record {
       present = s.shown;
       lines = s.lines;
@@ -52,9 +53,9 @@ frames-same shown shown' h (suc n) =
     ap (λ b. cond b (n ∷ shown_frames shown' n) (shown_frames shown' n)) (h n)
     ∙ ap (λ l. cond (shown n) (n ∷ l) l) (frames-same shown shown' h n)
 
-from-drawn : (rom : List ℕ) (run : List Machine) (shown : ℕ → Bool) (t : ℕ) (p : Pictures) → ((m : ℕ) → is_shown rom run m ≡ shown m) → Drawn shown (dma_bytes rom run) t p → Shows rom run t p
-from-drawn rom run shown t p h d =
-    let same = frames-same shown (is_shown rom run) h (windows_ended t) in
+from-drawn : (from : ℕ) (rom : List ℕ) (run : List Machine) (shown : ℕ → Bool) (t : ℕ) (p : Pictures) → ((m : ℕ) → shown_since from rom run m ≡ shown m) → Drawn shown (dma_bytes rom run) t p → ShowsSince from rom run t p
+from-drawn from rom run shown t p h d =
+    let same = frames-same shown (shown_since from rom run) h (windows_ended t) in
     record {
       shown = d.present ∙ sym (h (t / frame));
       lines = d.lines;
@@ -88,16 +89,20 @@ and-true : (x : Bool) → (x && true) ≡ x
 and-true true = refl
 and-true false = refl
 
+and-and : (x y z : Bool) → (x && (y && z)) ≡ ((x && y) && z)
+and-and true y z = refl
+and-and false y z = refl
+
 differs : {a b : ℕ} → a ≢ b → (b == a) ≡ false
 differs n = grind (arith, nat_tests)
 
-module _ (rom : List ℕ) (run : List Machine) (b : Machine) where
+module _ (from : ℕ) (rom : List ℕ) (run : List Machine) (b : Machine) where
   -- the first j cycles of the move have a cycle in the window of frame m
   abbrev within : ℕ → ℕ → Bool
   within j m = nat_lt b.cycle (window_end m) && nat_lt (interrupt_at m) (b.cycle + j)
 
   abbrev shown_after : ℕ → ℕ → Bool
-  shown_after j m = is_shown rom run m && (b.on || not (within j m))
+  shown_after j m = shown_since from rom run m && (b.on || not (within j m))
 
   abbrev bytes_after : ℕ → List ℕ
   bytes_after = dma_bytes rom (run ++ b ∷ [])
@@ -106,15 +111,17 @@ module _ (rom : List ℕ) (run : List Machine) (b : Machine) where
   within-more j m u e h = grind (arith, nat_tests)
 
   shown-more : (j m u : ℕ) → u ≡ b.cycle + j → 1 ≤ j → shown_after (j + 1) m ≡ (shown_after j m && (b.on || not (covers m u)))
-  shown-more j m u e h = grown (is_shown rom run m) b.on (within j m) (covers m u) (within (j + 1) m) (within-more j m u e h)
+  shown-more j m u e h = grown (shown_since from rom run m) b.on (within j m) (covers m u) (within (j + 1) m) (within-more j m u e h)
 
   -- the whole move
   list_all-one : (p : Machine → Bool) → list_all p (run ++ b ∷ []) ≡ (list_all p run && p b)
   list_all-one p = list_all-append p run (b ∷ []) ∙ ap (λ x. list_all p run && x) (and-true (p b))
 
-  shown-whole : (m : ℕ) → is_shown rom (run ++ b ∷ []) m ≡ shown_after (length_of rom b) m
+  shown-whole : (m : ℕ) → shown_since from rom (run ++ b ∷ []) m ≡ shown_after (length_of rom b) m
   unfolding is_shown
-  shown-whole m = list_all-one (λ s. s.on || not (is_within rom run m s))
+  shown-whole m =
+      ap (λ x. nat_le from (interrupt_at m) && x) (list_all-one (λ s. s.on || not (is_within rom run m s)))
+      ∙ and-and (nat_le from (interrupt_at m)) (is_shown rom run m) (b.on || not (within (length_of rom b) m))
 
   -- the bytes of a line after the move
   bytes-one : (line : ℕ) → bytes_after line ≡ dma_bytes rom run line ++ map (dma_byte rom) (filter (is_dma_in line) (b ∷ []))
@@ -147,7 +154,7 @@ module _ (rom : List ℕ) (run : List Machine) (b : Machine) where
   place h =
       dma-place b.cycle b.on (case-is (dma_at b.cycle b.on) (b.regs.ie && int_at b.cycle b.on) b.regs.idle (by_byte (case_of b) rom b h))
 
-  first : Next (is_shown rom run) (dma_bytes rom run) b.cycle b.on (bus_byte_in (case_of b) rom b) (shown_after 1) bytes_after
+  first : Next (shown_since from rom run) (dma_bytes rom run) b.cycle b.on (bus_byte_in (case_of b) rom b) (shown_after 1) bytes_after
   first =
       record {
         frames = λ m. refl;
@@ -188,27 +195,47 @@ module _ (rom : List ℕ) (run : List Machine) (b : Machine) where
   some_length Interrupt = omega arith
   some_length Idle = omega arith
 
-  whole : (n k : ℕ) (p : Pictures) → n ≡ suc k → Shows rom run b.cycle p → Drawn (shown_after n) bytes_after (b.cycle + n) (scanned_over n b.cycle b.on (bus_byte_in (case_of b) rom b) p)
+  whole : (n k : ℕ) (p : Pictures) → n ≡ suc k → ShowsSince from rom run b.cycle p → Drawn (shown_after n) bytes_after (b.cycle + n) (scanned_over n b.cycle b.on (bus_byte_in (case_of b) rom b) p)
   whole n k p e s =
       let N : ℕ → Type 0 = λ x. Drawn (shown_after x) bytes_after (b.cycle + x) (scanned_over x b.cycle b.on (bus_byte_in (case_of b) rom b) p) in
       subst N (sym e)
       (others k 1 (b.cycle + 1) (suc k) (b.cycle + suc k) (scanned b.cycle b.on (bus_byte_in (case_of b) rom b) p) refl (omega arith) (omega arith) (omega arith)
-      (after-cycle (is_shown rom run) (dma_bytes rom run) b.cycle b.on (bus_byte_in (case_of b) rom b) (shown_after 1) bytes_after p (to-drawn rom run b.cycle p s) first))
+      (after-cycle (shown_since from rom run) (dma_bytes rom run) b.cycle b.on (bus_byte_in (case_of b) rom b) (shown_after 1) bytes_after p (to-drawn from rom run b.cycle p s) first))
 
-  pub shows-move : (p : Pictures) → Shows rom run b.cycle p → Shows rom (run ++ b ∷ []) (b.cycle + length_of rom b) (pictures_after rom b p)
+  pub shows-move : (p : Pictures) → ShowsSince from rom run b.cycle p → ShowsSince from rom (run ++ b ∷ []) (b.cycle + length_of rom b) (pictures_after rom b p)
   unfolding pictures_after
   shows-move p s =
       let one : 1 ≤ length_of rom b = some_length (case_of b) in
-      from-drawn rom (run ++ b ∷ []) (shown_after (length_of rom b)) (b.cycle + length_of rom b) _ shown-whole
+      from-drawn from rom (run ++ b ∷ []) (shown_after (length_of rom b)) (b.cycle + length_of rom b) _ shown-whole
       (whole (length_of rom b) (length_of rom b - 1) p (omega arith) s)
 
 -- ---- before the first move
 
-pub shows-nothing : (rom : List ℕ) → Shows rom [] 0 nothing_yet
+-- no frame whose window has ended by then is shown
+none-shown : (rom : List ℕ) (t n : ℕ) → n ≤ windows_ended t → shown_frames (shown_since t rom []) n ≡ []
+unfolding is_shown
+none-shown rom t zero h = refl
+none-shown rom t (suc n) h =
+    rw (lt-leb t (interrupt_at n) (omega arith), none-shown rom t n (omega arith))
+
+-- the window of the present frame begins at or after cycle t
+begins-later : (t : ℕ) → nat_le (t % frame) (78 * 14) ≡ nat_le t (interrupt_at (t / frame))
+begins-later t = grind (arith, nat_tests)
+
+pub shows-nothing : (rom : List ℕ) (t : ℕ) → ShowsSince t rom [] t (nothing_before t)
 unfolding is_shown window_bytes
-shows-nothing rom = record { shown = refl; lines = refl; count = refl; finished = refl; later_frames = λ m h. refl; later_lines = λ line h. refl }
+shows-nothing rom t =
+    let none = none-shown rom t (windows_ended t) (omega arith) in
+    record {
+      shown = begins-later t ∙ sym (and-true (nat_le t (interrupt_at (t / frame))));
+      lines = refl;
+      count = ap length (sym none);
+      finished = ap (λ l. option_map (picture_of rom []) (slice_get l 0)) (sym none);
+      later_frames = λ m h. rw (le-leb t (interrupt_at m) h);
+      later_lines = λ line h. refl;
+    }
 
 pub carries-on : (s : Seen) → CarriesOn s (moved s)
-carries-on s run h =
-    let Cycle : ℕ → Type 0 = λ t. Shows s.rom (run ++ s.machine ∷ []) t (pictures_after s.rom s.machine s.pictures) in
-    subst Cycle (sym (cycle-move s.rom (held_by s) s.machine)) (shows-move s.rom run s.machine s.pictures h)
+carries-on s from run h =
+    let Cycle : ℕ → Type 0 = λ t. ShowsSince from s.rom (run ++ s.machine ∷ []) t (pictures_after s.rom s.machine s.pictures) in
+    subst Cycle (sym (cycle-move s.rom (held_by s) s.machine)) (shows-move from s.rom run s.machine s.pictures h)

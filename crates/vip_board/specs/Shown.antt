@@ -1,5 +1,5 @@
 -- What the video chip of a board has of pictures, by the moves made so far: what the definition of pictures says of them.
-use Rattle.std.specs.Prelude.{◌≡◌, ◌≤◌, ℕ, zero, suc, ◌+◌, ◌*◌, ◌/◌, if◌then◌else◌, Bool, true, List, [], ◌∷◌, ◌++◌, length, filter, map, slice_get}
+use Rattle.std.specs.Prelude.{◌≡◌, ◌≤◌, ℕ, zero, suc, ◌+◌, ◌*◌, ◌/◌, ◌&&◌, if◌then◌else◌, Bool, true, nat_le, List, [], ◌∷◌, ◌++◌, length, filter, map, slice_get}
 use Rattle.std.specs.Option.{option_map}
 use Rattle.machine.specs.Board.{Machine, dma_byte}
 use Rattle.machine.specs.Pictures.{frame, interrupt_at, windows_ended, is_dma_in, picture_of, is_shown}
@@ -24,20 +24,30 @@ abbrev pub shown_frames : (ℕ → Bool) → ℕ → List ℕ
 shown_frames shown zero = []
 shown_frames shown (suc n) = if shown n then n ∷ shown_frames shown n else shown_frames shown n
 
--- The moves of `run` have been made, and `cycle` is the number of the present machine cycle. A frame whose window hasn't ended is shown
--- so far where the display was on in each of its cycles that has passed.
-pub record Shows (rom : List ℕ) (run : List Machine) (cycle : ℕ) (p : Pictures) : Type 0 where
+-- Of a board whose first cycle is `from`, only a frame whose window begins at or after it has a picture. Such a frame has one where the
+-- display is on in each cycle of its window.
+abbrev pub shown_since : ℕ → List ℕ → List Machine → ℕ → Bool
+shown_since from rom run m = nat_le from (interrupt_at m) && is_shown rom run m
+
+-- The moves of `run` have been made since cycle `from`, and `cycle` is the number of the present machine cycle. A frame whose window
+-- hasn't ended is shown so far where the display was on in each of its cycles that has passed.
+pub record ShowsSince (from : ℕ) (rom : List ℕ) (run : List Machine) (cycle : ℕ) (p : Pictures) : Type 0 where
   -- the present frame
-  pub shown : p.shown ≡ is_shown rom run (cycle / frame)
+  pub shown : p.shown ≡ shown_since from rom run (cycle / frame)
   pub lines : p.lines ≡ window_bytes (dma_bytes rom run) (cycle / frame)
   -- the frames whose windows have ended
-  pub count : p.count ≡ length (shown_frames (is_shown rom run) (windows_ended cycle))
-  pub finished : p.finished ≡ option_map (picture_of rom run) (slice_get (shown_frames (is_shown rom run) (windows_ended cycle)) 0)
+  pub count : p.count ≡ length (shown_frames (shown_since from rom run) (windows_ended cycle))
+  pub finished : p.finished ≡ option_map (picture_of rom run) (slice_get (shown_frames (shown_since from rom run) (windows_ended cycle)) 0)
   -- the frames and lines to come
-  pub later_frames : (m : ℕ) → cycle ≤ interrupt_at m → is_shown rom run m ≡ true
+  pub later_frames : (m : ℕ) → cycle ≤ interrupt_at m → shown_since from rom run m ≡ true
   pub later_lines : (line : ℕ) → cycle ≤ 14 * line → dma_bytes rom run line ≡ []
+
+-- the same since reset
+abbrev pub Shows : List ℕ → List Machine → ℕ → Pictures → Type 0
+Shows = ShowsSince 0
 
 -- where a board has the pictures of the moves made so far, it has them with one move more after that move
 abbrev pub CarriesOn : Seen → Seen → Type 0
 CarriesOn s v =
-    (run : List Machine) → Shows s.rom run s.machine.cycle s.pictures → Shows v.rom (run ++ s.machine ∷ []) v.machine.cycle v.pictures
+    (from : ℕ) (run : List Machine) → ShowsSince from s.rom run s.machine.cycle s.pictures
+    → ShowsSince from v.rom (run ++ s.machine ∷ []) v.machine.cycle v.pictures

@@ -1,16 +1,16 @@
 //! The board.
 
-ghost use Rattle.std.specs.Prelude.{◌≡◌, ◌+◌, ◌-◌, ◌≤◌, ◌<◌, ◌^◌, ◌↔◌, ℕ, [], IsTrue, IfOk, length};
+ghost use Rattle.std.specs.Prelude.{◌≡◌, ◌+◌, ◌-◌, ◌≤◌, ◌<◌, ◌^◌, ◌↔◌, ℕ, true, false, [], IsTrue, IfOk, length};
 ghost use Rattle.machine.specs.Instruction.{at};
 ghost use Rattle.machine.specs.Ranges.{FitsMachine, FitsRom};
 ghost use Rattle.machine.specs.Signals.{int_at, dma_at};
-ghost use Rattle.vip_board.specs.Shown.{Shows, CarriesOn};
+ghost use Rattle.vip_board.specs.Shown.{Shows, ShowsSince, CarriesOn};
 ghost use Rattle.vip_board.specs.Seen.{byte_in};
 
 use crate::wires::Wires;
 use std::alloc::{AllocError, Global};
 use std::marker::Model;
-use vip_cpu::{Bus, Cpu, Did, Phase};
+use vip_cpu::{Bus, Cpu, Did, Parts, Phase};
 use vip_isa::cycles;
 use vip_keypad::{Keypad, Script};
 use vip_memory::Memory;
@@ -66,7 +66,8 @@ impl Model for Board {
 impl Board {
     ghost use Rattle.machine.specs.Board.{after_reset};
     ghost use Rattle.vip_memory.specs.Contents.{loaded};
-    ghost use Rattle.vip_video.specs.Chip.{nothing_yet};
+    ghost use Rattle.vip_cpu.specs.Parts.{regs_of};
+    ghost use Rattle.vip_video.specs.Chip.{nothing_yet, nothing_before};
     ghost use Rattle.vip_board.specs.Seen.{cycle_of, cycled};
 
     /// A board after reset, at a boundary, with a ROM of 2,048 bytes and a key script.
@@ -80,6 +81,44 @@ impl Board {
         let keypad = Keypad::new(alloc, script)?;
         let video = Video::new();
         let cpu = Cpu::reset();
+        Ok(Board {
+            cpu,
+            wires: Wires {
+                memory,
+                video,
+                keypad,
+            },
+        })
+    }
+
+    /// A board at a boundary before machine cycle t, whose processor has these parts: with a ROM of 2,048 bytes, a key script, 4,096
+    /// bytes of RAM and a latched key. The boot latch is clear, and the display is on. There is no picture yet, and the frame that is
+    /// under way has one only where its window begins at or after t.
+    pub fn restore(
+        alloc: Global,
+        rom: &[u8],
+        script: &Script,
+        parts: &Parts,
+        ram: &[u8],
+        key: u8,
+        t: u64,
+    ) -> Result<Board, AllocError>
+        requires rom { length rom.now ≡ 0x800 }
+        requires ram { length ram.now ≡ 0x1000 }
+        requires key { key < 16 }
+        requires p { parts.now.p < 16 }
+        requires x { parts.now.x < 16 }
+        ensures board { IfOk result (λ b. b ≡ record { machine = record { regs = regs_of parts.now; ram = ram.now; latch = false; on = true; key = key; cycle = t }; phase = Phase.Boundary; pictures = nothing_before t; rom = rom.now; script = script.now }) }
+        ensures pictures { IfOk result (λ b. ShowsSince t b.rom [] b.machine.cycle b.pictures) }
+        ensures fits { IfOk result (λ b. FitsMachine b.machine × FitsRom b.rom) }
+    {
+        let mut memory = Memory::new(alloc, rom)?;
+        memory.load(0, ram);
+        memory.clear_latch();
+        let mut keypad = Keypad::new(alloc, script)?;
+        keypad.latch(key);
+        let video = Video::at(t, true);
+        let cpu = Cpu::from_parts(parts);
         Ok(Board {
             cpu,
             wires: Wires {

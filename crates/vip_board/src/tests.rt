@@ -5,7 +5,7 @@ ghost use Rattle.std.specs.Prelude.{◌≡◌, ◌<◌, ◌≤◌, ◌^◌, IfOk
 use super::*;
 use std::alloc::{AllocError, Global};
 use std::test::Fail;
-use vip_cpu::{Did, Phase};
+use vip_cpu::{Did, Parts, Phase};
 use vip_keypad::{Script, read_script};
 
 // A ROM that begins with some code and is filled with one byte.
@@ -187,6 +187,39 @@ fn moves_and_cycles_are_named(rt: HostRuntime) -> Result<(), Fail> {
     ] {
         assert!(rt; board.now() < 2_000);
         assert_eq!(rt; board.cycle(), did);
+    }
+    Ok(())
+}
+
+#[test]
+fn a_restored_board_goes_on_from_its_parts(rt: HostRuntime) -> Result<(), Fail> {
+    // BN3 to itself, SEQ, and IDL from there on
+    let mut ram = vec![in rt.alloc(); 0; 0x1000]?;
+    ram[0x300..0x303].copy_from_slice(&[0x3E, 0x00, 0x7B]);
+    let rom = rom(rt.alloc(), &[], 0x00)?;
+    let script = read_script(rt.alloc(), b"2006 down 5\n")?;
+    let mut r = [0; 16];
+    r[3] = 0x0300;
+    let parts = Parts {
+        r,
+        d: 0,
+        t: 0,
+        x: 2,
+        p: 3,
+        df: false,
+        q: false,
+        ie: false,
+        idle: false,
+    };
+    // cycle 2,000 is the last but one of line 142, and 2,004 to 2,011 are the DMA cycles of line 143
+    let mut board = Board::restore(rt.alloc(), &rom, &script, &parts, &ram, 5, 2_000)?;
+    assert!(rt; !board.memory().latch_set());
+    run(&mut board, 2_016);
+    assert_eq!(rt; board.now(), 2_016);
+    assert_eq!(rt; (board.cpu().q(), board.cpu().r(0)), (true, 8));
+    for (limit, pictures) in [(2_912, 0), (3_668 + 2_911, 0), (3_668 + 2_912, 1)] {
+        run(&mut board, limit);
+        assert_eq!(rt; board.video().count(), pictures, "up to {limit}");
     }
     Ok(())
 }

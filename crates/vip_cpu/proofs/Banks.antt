@@ -1,6 +1,7 @@
 -- The list of sixteen numbers that the code keeps, seen as the registers R(0) to R(F).
 use Rattle.std.proofs.Common.{◌≡◌, ℕ, zero, suc, ◌<◌, List, [], ◌∷◌, length, replicate, slice_index, slice_set, refl, arith}
 use Rattle.machine.specs.Bank.{word_of, Bank, get, put, bank_of, zeros}
+use Rattle.machine.specs.Ranges.{FitsWord, FitsBank}
 
 -- what holds of 0 to 14, and of all numbers from 15 on, holds of each number
 by_register : (P : ℕ → Type 0) → P 0 → P 1 → P 2 → P 3 → P 4 → P 5 → P 6 → P 7 → P 8 → P 9 → P 10 → P 11 → P 12 → P 13 → P 14 → ((n : ℕ) → P (suc (suc (suc (suc (suc (suc (suc (suc (suc (suc (suc (suc (suc (suc (suc n)))))))))))))))) → (n : ℕ) → P n
@@ -47,3 +48,29 @@ pub ruleset of_banks = (get_bank_of, put_bank_of, bank_of_zeros)
 -- putting back what is there
 pub put_get : (r : Bank) (n : ℕ) → put r n (get r n) ≡ r
 put_get r = by_register (λ n. put r n (get r n) ≡ r) refl refl refl refl refl refl refl refl refl refl refl refl refl refl refl (λ n. refl)
+
+-- numbers of 16 bits are words of bytes
+word-fits : (a : ℕ) → a < 65536 → FitsWord (word_of a)
+word-fits a h = record { hi = omega arith; lo = omega arith }
+
+pub bank-fits : (l : List ℕ) → ((k : ℕ) → slice_index l k < 65536) → FitsBank (bank_of l)
+unfolding bank_of
+bank-fits l h =
+    record {
+      r0 = word-fits _ (h 0);
+      r1 = word-fits _ (h 1);
+      r2 = word-fits _ (h 2);
+      r3 = word-fits _ (h 3);
+      r4 = word-fits _ (h 4);
+      r5 = word-fits _ (h 5);
+      r6 = word-fits _ (h 6);
+      r7 = word-fits _ (h 7);
+      r8 = word-fits _ (h 8);
+      r9 = word-fits _ (h 9);
+      ra = word-fits _ (h 10);
+      rb = word-fits _ (h 11);
+      rc = word-fits _ (h 12);
+      rd = word-fits _ (h 13);
+      re = word-fits _ (h 14);
+      rf = word-fits _ (h 15);
+    }

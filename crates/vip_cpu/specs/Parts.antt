@@ -1,5 +1,4 @@
 -- The registers that a processor is made of.
-use Rattle.std.specs.Prelude.{true, false}
 use Rattle.machine.specs.Bank.{bank_of}
 use Rattle.machine.specs.Instruction.{Regs}
 use Rattle.vip_cpu.specs.declared.parts.Parts.{Parts}
@@ -15,6 +14,6 @@ regs_of parts =
       x = parts.x;
       t = parts.t;
       q = parts.q;
-      ie = true;
-      idle = false;
+      ie = parts.ie;
+      idle = parts.idle;
     }

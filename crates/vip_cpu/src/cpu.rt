@@ -3,6 +3,7 @@
 ghost use Rattle.std.specs.Prelude.{◌≡◌, ◌<◌, ◌↔◌, ℕ, IsTrue};
 ghost use Rattle.machine.specs.Bank.{get, word_of};
 ghost use Rattle.machine.specs.Instruction.{at, regs_after_reset};
+ghost use Rattle.machine.specs.Ranges.{FitsRegs};
 ghost use Rattle.vip_cpu.specs.Acts.{Acts};
 ghost use Rattle.vip_cpu.specs.Bit.{bit};
 ghost use Rattle.vip_cpu.specs.Parts.{regs_of};
@@ -68,11 +69,12 @@ impl Cpu {
         }
     }
 
-    /// A processor with these registers, IE = 1 and not idling, at a boundary. X and P are below 16.
+    /// A processor with these parts, at a boundary. X and P are below 16.
     pub fn from_parts(parts: &Parts) -> Cpu
         requires p { parts.now.p < 16 }
         requires x { parts.now.x < 16 }
-        ensures { result ≡ record { regs = regs_of parts.now; phase = Phase.Boundary } }
+        ensures processor { result ≡ record { regs = regs_of parts.now; phase = Phase.Boundary } }
+        ensures fits { FitsRegs result.regs }
     {
         Cpu {
             registers: Registers::of(parts),

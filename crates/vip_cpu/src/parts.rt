@@ -1,6 +1,6 @@
 //! What a processor is made of.
 
-/// The registers of a processor at a boundary, with IE = 1 and not idling.
+/// All registers of a processor at a boundary, and whether it idles.
 #[derive(Clone, Copy, Debug, PartialEq, Eq)]
 pub struct Parts {
     /// R(0) to R(F).
@@ -17,4 +17,8 @@ pub struct Parts {
     pub df: bool,
     /// Q, the output flip-flop.
     pub q: bool,
+    /// IE, the interrupt enable flip-flop.
+    pub ie: bool,
+    /// It idles, from IDL on up to the next DMA or interrupt cycle.
+    pub idle: bool,
 }

@@ -3,6 +3,7 @@
 ghost use Rattle.std.specs.Prelude.{◌≡◌, ℕ, ◌+◌, ◌-◌, ◌*◌, ◌/◌, ◌%◌, ◌<◌, ◌==◌, if◌then◌else◌, true, false};
 ghost use Rattle.machine.specs.Bank.{word, word_of, up, get};
 ghost use Rattle.machine.specs.Instruction.{Regs, at, with_reg, stepped, stepped_back, loaded, df_d, regs_after_reset, after_dma, interrupted, branched, long_branched, skipped, returned, marked};
+ghost use Rattle.machine.specs.Ranges.{FitsRegs};
 ghost use Rattle.vip_cpu.specs.Bit.{bit};
 ghost use Rattle.vip_cpu.specs.Parts.{regs_of};
 
@@ -49,6 +50,14 @@ fn branch_target(address: u16, taken: bool, next: u8) -> u16
     address.wrapping_add(distance)
 }
 
+/// A byte is below 256.
+fn byte(value: u8) -> u8
+    ensures value { result ≡ value }
+    ensures below { result < 256 }
+{
+    value
+}
+
 #[tactic(auto, using(crate::proofs::Words::of_words))]
 impl Registers {
     /// After reset.
@@ -68,22 +77,23 @@ impl Registers {
         }
     }
 
-    /// With these registers, IE = 1 and not idling.
+    /// With these parts.
     pub fn of(parts: &Parts) -> Registers
         requires p { parts.now.p < 16 }
         requires x { parts.now.x < 16 }
-        ensures { result ≡ regs_of parts.now }
+        ensures registers { result ≡ regs_of parts.now }
+        ensures fits { FitsRegs result }
     {
         Registers {
             r: Scratchpad::of(parts.r),
-            d: parts.d,
-            t: parts.t,
+            d: byte(parts.d),
+            t: byte(parts.t),
             p: parts.p,
             x: parts.x,
             df: parts.df,
             q: parts.q,
-            ie: true,
-            idle: false,
+            ie: parts.ie,
+            idle: parts.idle,
         }
     }
 

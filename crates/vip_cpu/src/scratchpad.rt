@@ -2,6 +2,7 @@
 
 ghost use Rattle.std.specs.Prelude.{◌≡◌, ◌<◌};
 ghost use Rattle.machine.specs.Bank.{word_of, get, put, zeros, bank_of};
+ghost use Rattle.machine.specs.Ranges.{FitsBank};
 
 use std::marker::Model;
 
@@ -22,6 +23,11 @@ impl Model for Scratchpad {
     ghost invariant = { λ a. length a.numbers ≡ 16 };
 }
 
+/// Numbers of 16 bits are words of two bytes.
+fn words(numbers: &[u16])
+    ensures { FitsBank (bank_of numbers.now) }
+{}
+
 #[tactic(auto, using(crate::proofs::Banks::of_banks))]
 impl Scratchpad {
     /// All 0.
@@ -33,8 +39,10 @@ impl Scratchpad {
 
     /// The sixteen numbers, R(0) first.
     pub fn of(numbers: [u16; 16]) -> Scratchpad
-        ensures { result ≡ bank_of numbers }
+        ensures bank { result ≡ bank_of numbers }
+        ensures fits { FitsBank result }
     {
+        words(&numbers);
         Scratchpad { numbers }
     }
 

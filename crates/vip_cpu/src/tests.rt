@@ -74,6 +74,8 @@ fn parts() -> Parts
         p: 0,
         df: false,
         q: false,
+        ie: true,
+        idle: false,
     }
 }
 
@@ -170,6 +172,21 @@ fn dma_before_interrupt(rt: HostRuntime) {
     assert_eq!(rt; (cpu.r(0), cpu.idle()), (2, false));
     assert_eq!(rt; cpu.cycle(&mut bus, false, true), Did::Interrupt);
     assert_eq!(rt; (cpu.t(), cpu.p(), cpu.x(), cpu.ie()), (0x00, 1, 2, false));
+}
+
+// A processor that idles, made with IE = 1 and with IE = 0.
+#[test]
+fn made_idling(rt: HostRuntime) {
+    for (ie, did) in [(true, Did::Interrupt), (false, Did::Idle)] {
+        let mut cpu = Cpu::from_parts(&Parts {
+            ie,
+            idle: true,
+            ..parts()
+        });
+        let mut bus = bus([0xC4, 0, 0, 0]);
+        assert_eq!(rt; cpu.cycle(&mut bus, false, false), Did::Idle);
+        assert_eq!(rt; cpu.cycle(&mut bus, false, true), did);
+    }
 }
 
 // The flags of a short branch are those of the cycle after its fetch.

@@ -39,12 +39,12 @@ fn is_shown(place: &Place, on: bool) -> bool
 }
 
 impl Raster {
-    /// No picture yet, at the start of a frame.
-    pub fn new() -> Raster
-        ensures { result ≡ nothing_yet }
+    /// No picture yet, and no byte of a frame, which may have one later or not.
+    pub fn new(shown: bool) -> Raster
+        ensures { result ≡ record nothing_yet { shown = shown } }
     {
         Raster {
-            shown: true,
+            shown,
             buffer: FrameBuffer::new(),
             count: 0,
             finished: Picture::blank(),

@@ -94,3 +94,29 @@ fn a_line_with_fewer_than_eight_bytes_ends_in_00(rt: HostRuntime) -> Result<(), 
     assert_eq!(rt; picture.lines[127], [207, 207, 207, 207, 207, 207, 207, 0]);
     Ok(())
 }
+
+// The pictures of a chip that is made in cycle t with the display on and runs up to the end of the second frame.
+fn pictures_from(t: u64) -> u64 {
+    let mut video = Video::at(t, true);
+    for now in t..7_336 {
+        video.end_cycle(now, None);
+    }
+    video.count()
+}
+
+#[test]
+fn a_chip_made_in_the_window_has_no_picture_of_it(rt: HostRuntime) {
+    for (t, pictures) in [
+        (0, 2),
+        (1_091, 2),
+        (1_092, 2),
+        (1_093, 1),
+        (2_911, 1),
+        (2_912, 1),
+        (4_760, 1),
+        (4_761, 0),
+    ] {
+        assert_eq!(rt; Video::at(t, true).count(), 0);
+        assert_eq!(rt; pictures_from(t), pictures, "from {t} on");
+    }
+}

@@ -3,12 +3,17 @@
 ghost use Rattle.std.specs.Prelude.{◌≡◌, ◌+◌, ◌<◌, ◌^◌, ◌↔◌, IsSome, IsTrue};
 ghost use Rattle.std.specs.Option.{option_map};
 ghost use Rattle.machine.specs.Signals.{int_at, dma_at, efx_at};
-ghost use Rattle.vip_video.specs.Chip.{at_start, ended};
+ghost use Rattle.vip_video.specs.Chip.{at_start, at_cycle, ended};
 
 use crate::buffer::Picture;
 use crate::place::{Place, Signals};
 use crate::raster::Raster;
 use std::marker::Model;
+
+// The machine cycles of a frame, and its cycle in which the window begins.
+const FRAME: u64 = 262 * 14;
+
+const WINDOW: u64 = 78 * 14;
 
 /// A CDP1861 with the picture that it draws and the last one that it finished.
 #[derive(Drop)]
@@ -40,12 +45,20 @@ impl Video {
     pub fn new() -> Video
         ensures { result ≡ at_start }
     {
+        Video::at(0, false)
+    }
+
+    /// A chip before machine cycle t, with the display on or off, also in that cycle, and no picture. The frame that is under way has a
+    /// picture only where its window begins at or after t.
+    pub fn at(t: u64, on: bool) -> Video
+        ensures { result ≡ at_cycle t on }
+    {
         Video {
-            cycles: 0,
-            place: Place { line: 0, column: 0 },
-            on: false,
-            cycle_on: false,
-            raster: Raster::new(),
+            cycles: t,
+            place: Place::of(t),
+            on,
+            cycle_on: on,
+            raster: Raster::new(t % FRAME <= WINDOW),
         }
     }
 

@@ -8,7 +8,7 @@ use Rattle.vip_board.proofs.board.Board.reset.Goals as goal
 pub returns-clause-pictures : goal.returns-clause-pictures
 returns-clause-pictures c =
     let S : Chip → Type 0 = λ v. Shows c.in_ok-memory.memory.rom [] v.cycles v.pictures in
-    subst S (sym c.new-video.ensures) (shows-nothing _)
+    subst S (sym c.new-video.ensures) (shows-nothing _ 0)
 
 pub returns-clause-fits : goal.returns-clause-fits
 returns-clause-fits c =

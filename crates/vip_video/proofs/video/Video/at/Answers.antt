@@ -1,0 +1,7 @@
+use Rattle.std.proofs.Common.{refl, arith}
+use Rattle.vip_video.proofs.Room.{room-blank}
+use Rattle.vip_video.proofs.video.Video.at.Goals as goal
+
+pub invariant_of-result : goal.invariant_of-result
+invariant_of-result c =
+    rw (c.of.ensures, c.new.ensures) (record { place = refl; count = omega arith; room = room-blank c.args.t })

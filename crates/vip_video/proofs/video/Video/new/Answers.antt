@@ -1,6 +1,0 @@
-use Rattle.std.proofs.Common.{refl, arith}
-use Rattle.vip_video.proofs.Room.{room-blank}
-use Rattle.vip_video.proofs.video.Video.new.Goals as goal
-
-pub invariant_of-result : goal.invariant_of-result
-invariant_of-result c = rw c.new.ensures (record { place = refl; count = omega arith; room = room-blank 0 })
