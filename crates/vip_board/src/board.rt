@@ -92,8 +92,8 @@ impl Board {
     }
 
     /// A board at a boundary before machine cycle t, whose processor has these parts: with a ROM of 2,048 bytes, a key script, 4,096
-    /// bytes of RAM and a latched key. The boot latch is clear, and the display is on. There is no picture yet, and the frame that is
-    /// under way has one only where its window begins at or after t.
+    /// bytes of RAM and a latched key, below 16; X and P are below 16 too. The boot latch is clear, and the display is on. There is no
+    /// picture yet, and the frame that is under way has one only where its window begins at or after t.
     pub fn restore(
         alloc: Global,
         rom: &[u8],

@@ -16,7 +16,8 @@
 //! The crate stands on `machine`, which defines the signals by the number of the machine cycle. It knows nothing of the board: the
 //! caller ends each cycle by `end_cycle`, with the byte that a DMA cycle put on the bus. The layer above may rely on this: the signals
 //! are those of the definitions, and `specs/Chip.antt` says what each call makes of the chip. A frame has a picture exactly where the
-//! display was on in each cycle of its window; the picture holds the DMA bytes of each line in order, followed by 00 up to eight.
+//! display was on in each cycle of its window; the picture holds the DMA bytes of each line in order, followed by 00 up to eight. A chip
+//! may be made at any cycle; a frame whose window began before it has no picture.
 #![tactic(auto)]
 
 mod buffer;
