@@ -1,0 +1,114 @@
+//! The cycle bounds of the interpreter: the most machine cycles from one dispatch point to the next, DMA and interrupts counted, by the
+//! instruction, and the table of them as text.
+//!
+//! It stands on the definition of the bounds in `chip8_lang`. The layer above may rely on this: `bound` is that definition for every
+//! instruction, and `bounds_text` writes the same numbers. The bounds are this project's profile.
+#![tactic(auto)]
+
+ghost use Rattle.std.specs.Prelude.{◌≡◌, ◌+◌, ◌≤◌, ◌++◌, [], length};
+ghost use Rattle.arrayvec.specs.ArrayVec.{array_vec_len};
+ghost use Rattle.chip8_lang.specs.Bounds.{bound_of_instr};
+ghost use Rattle.vip_bounds.specs.Table.{bound_text, bound_line, bounds_table};
+
+use chip8_lang::Instr;
+use itoa::Buffer as Digits;
+use vip_byte::Buffer;
+
+/// The most machine cycles from reset to the first dispatch point.
+pub const BOOT: u32 = 1_000;
+
+/// The most machine cycles from a dispatch point to the stop point, where a stop fits the state.
+pub const STOP: u32 = 2_200;
+
+/// The most machine cycles from a dispatch point at an instruction to the next one. None comes exactly for FX0A, which waits for the
+/// player.
+pub fn bound(instr: &Instr) -> Option<u32>
+    ensures { result ≡ bound_of_instr instr.now }
+{
+    match instr {
+        Instr::Clear => Some(7_600),
+        Instr::Draw(..) => Some(14_672),
+        Instr::Decimal(_) | Instr::Store(_) | Instr::Fetch(_) => Some(2_600),
+        Instr::WaitKey(_) => None,
+        _ => Some(2_200),
+    }
+}
+
+/// Writes the table of bounds into an empty buffer, a line for each.
+pub fn bounds_text(into: &mut Buffer)
+    requires { into.old.items ≡ [] }
+    ensures { into.new.items ≡ bounds_table }
+{
+    put_line(into, b"boot", Some(BOOT));
+    put_line(into, b"00E0", bound(&Instr::Clear));
+    put_line(into, b"DXYN", bound(&Instr::Draw(0, 0, 0)));
+    put_line(into, b"FX0A", bound(&Instr::WaitKey(0)));
+    put_line(into, b"FX33", bound(&Instr::Decimal(0)));
+    put_line(into, b"FX55", bound(&Instr::Store(0)));
+    put_line(into, b"FX65", bound(&Instr::Fetch(0)));
+    put_line(into, b"other", bound(&Instr::Return));
+    put_line(into, b"stop", Some(STOP));
+}
+
+/// Appends a line, for which there is room.
+fn put_line(into: &mut Buffer, name: &[u8], bound: Option<u32>)
+    requires { array_vec_len into.old + length name.now + 16 ≤ 4352 }
+    ensures items { into.new.items ≡ into.old.items ++ bound_line name.now bound }
+    ensures len { array_vec_len into.new ≤ array_vec_len into.old + length name.now + 16 }
+{
+    put(into, name);
+    put(into, b" ");
+    put_bound(into, bound);
+    put(into, b"\n");
+}
+
+fn put_bound(into: &mut Buffer, bound: Option<u32>)
+    requires { array_vec_len into.old + 14 ≤ 4352 }
+    ensures items { into.new.items ≡ into.old.items ++ bound_text bound }
+    ensures len { array_vec_len into.new ≤ array_vec_len into.old + 14 }
+{
+    let mut digits = Digits::new();
+    match bound {
+        Some(cycles) => put(into, digits.format(cycles).as_bytes()),
+        None => put(into, b"key"),
+    }
+}
+
+/// Appends these bytes.
+fn put(into: &mut Buffer, bytes: &[u8])
+    requires { array_vec_len into.old + length bytes.now ≤ 4352 }
+    ensures items { into.new.items ≡ into.old.items ++ bytes.now }
+    ensures len { array_vec_len into.new ≡ array_vec_len into.old + length bytes.now }
+{
+    let _ = into.try_extend_from_slice(bytes);
+}
+
+#[cfg(test)]
+mod tests {
+    use super::*;
+    use std::test::Fail;
+
+    #[test]
+    fn the_table_is_printed(rt: HostRuntime) -> Result<(), Fail> {
+        let mut text = Buffer::new();
+        bounds_text(&mut text);
+        let table: &[u8] =
+            b"boot 1000\n00E0 7600\nDXYN 14672\nFX0A key\nFX33 2600\nFX55 2600\nFX65 2600\nother 2200\nstop 2200\n";
+        assert!(rt; text.as_slice() == table);
+        Ok(())
+    }
+
+    #[test]
+    fn only_a_wait_for_a_key_has_no_bound(rt: HostRuntime) -> Result<(), Fail> {
+        assert_eq!(rt; bound(&Instr::WaitKey(3)), None);
+        for (instr, cycles) in [
+            (Instr::Clear, 7_600),
+            (Instr::Draw(1, 2, 15), 14_672),
+            (Instr::Store(15), 2_600),
+            (Instr::Unknown(0xFFFF), STOP),
+        ] {
+            assert_eq!(rt; bound(&instr), Some(cycles));
+        }
+        Ok(())
+    }
+}
