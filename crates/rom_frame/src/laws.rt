@@ -1,0 +1,19 @@
+//! What is proved of the board's run, each law the contract of a function without parameters.
+
+ghost use Rattle.rom_frame.specs.Frame.{EveryMove, KeepsPlace, KeepsWaiting};
+
+/// Where the display is on and interrupts are enabled, outside of the window: the board makes the interrupt at cycle 1,092 of a frame, and
+/// there alone. Elsewhere it makes a main move, or an idle cycle where the processor waits.
+pub fn every_move()
+    ensures { EveryMove }
+{}
+
+/// A main move of two cycles from a place of main code other than that of the interrupt ends at a place of main code.
+pub fn keeps_place()
+    ensures { KeepsPlace }
+{}
+
+/// So does an idle cycle, at even and odd cycles.
+pub fn keeps_waiting()
+    ensures { KeepsWaiting }
+{}
