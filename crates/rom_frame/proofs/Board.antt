@@ -1,17 +1,17 @@
 -- The moves of the board inside the interrupt routine: instructions that read no flag, and DMA cycles.
-use Rattle.std.proofs.Common.{◌≡◌, ℕ, zero, suc, ◌+◌, ◌*◌, ◌/◌, ◌%◌, ◌<◌, ◌≤◌, ◌-◌, ◌⊎◌, inl, inr, refl, sym, ◌∙◌, ap, ap₂, subst, subst₂, arith, Bool, true, false, not, ◌&&◌, List}
+use Rattle.std.proofs.Common.{◌≡◌, ℕ, zero, suc, ◌+◌, ◌<◌, ◌≤◌, ◌-◌, ◌⊎◌, inl, inr, refl, sym, ◌∙◌, ap, ap₂, subst, subst₂, arith, Bool, true, false, not, ◌&&◌}
 use Rattle.std.specs.Prelude.{◌==◌}
 use Rattle.std.proofs.lemmas.Bool.{and_parts, not-true, eqb-true, cases_lt}
 use Rattle.machine.specs.Bank.{Word, word, word_of, up, get}
 use Rattle.machine.specs.Opcodes.{kind_of, cycles_of}
-use Rattle.machine.specs.Signals.{dma_at, int_at, efx_at}
-use Rattle.machine.specs.Board.{Machine, main_move, move, opcode_of, flags_of}
+use Rattle.machine.specs.Signals.{dma_at, efx_at}
+use Rattle.machine.specs.Board.{Machine, main_move, move, flags_of}
 use Rattle.machine.specs.Board.Case.{Dma, Instruction}
 use Rattle.machine.specs.Keys.{Keys}
 use Rattle.machine.specs.Run.{after_moves}
 use Rattle.machine.proofs.Flags.{reads_flags}
 use Rattle.machine.proofs.Moves.{case_dma, case_instruction, move_in}
-use Rattle.rom_moves.specs.Code.{Code, Input, moved}
+use Rattle.rom_moves.specs.Code.{Code, Input}
 use Rattle.rom_moves.proofs.Moves.{in_rom, opcode_in, opcode_is, quick, quicks, quick_by, quick_by_is, quick_any, plus}
 
 -- the machine at a cycle

@@ -1,10 +1,12 @@
 -- The signals at the places of a frame, and the move that the board makes there.
-use Rattle.std.proofs.Common.{◌≡◌, ℕ, ◌+◌, ◌*◌, ◌/◌, ◌<◌, ◌≤◌, ◌⊎◌, inl, inr, refl, ◌∙◌, ap, arith, Bool, true, false, ◌&&◌}
+use Rattle.std.proofs.Common.{List, ◌≡◌, ℕ, ◌+◌, ◌*◌, ◌/◌, ◌<◌, ◌≤◌, ◌⊎◌, inl, inr, refl, ◌∙◌, ap, arith, Bool, true, false, ◌&&◌}
 use Rattle.std.proofs.lemmas.Bool.{le-ltb, le-leb, lt-leb, cases_eq, cases_Bool}
+use Rattle.machine.specs.Instruction.{interrupted}
 use Rattle.machine.specs.Signals.{line_of, dma_at, int_at, efx_at}
 use Rattle.machine.specs.Opcodes.{cycles_of}
-use Rattle.machine.specs.Board.{move, main_move, opcode_of}
+use Rattle.machine.specs.Board.{Machine, move, main_move, opcode_of}
 use Rattle.machine.specs.Board.Case.{Interrupt, Idle, Instruction}
+use Rattle.machine.specs.Keys.{Keys}
 use Rattle.machine.proofs.Moves.{case_instruction, case_interrupt, case_idle, move_in}
 use Rattle.rom_frame.specs.Frame.{place, interrupt_place, window_place, IsOutside, Makes, EveryMove, KeepsPlace, KeepsWaiting}
 use Rattle.rom_frame.specs.Frame.Makes.{Runs, Waits, Accepts}
@@ -41,6 +43,10 @@ asked t h = rw (line_there t h) refl
 
 -- ---- the move
 
+-- the interrupt
+pub accepted : (rom : List ℕ) (held : ℕ → Keys) (b : Machine) → b.on ≡ true → b.regs.ie ≡ true → place b.cycle ≡ interrupt_place → move rom held b ≡ record b { regs = interrupted b.regs; cycle = b.cycle + 1 }
+accepted rom held b on ie e = move_in rom held b Interrupt (case_interrupt b (no_dma b.cycle b.on (inl (omega (arith, e)))) (rw (ie, on) (asked b.cycle e)))
+
 pub every_move : EveryMove
 every_move rom held b on ie out = go (cases_eq (place b.cycle) interrupt_place) (cases_Bool b.regs.idle)
   where
@@ -54,7 +60,7 @@ every_move rom held b on ie out = go (cases_eq (place b.cycle) interrupt_place) 
     at_place e = omega arith
 
     go : (place b.cycle ≡ interrupt_place) ⊎ (place b.cycle ≡ interrupt_place → ⊥) → (b.regs.idle ≡ true) ⊎ (b.regs.idle ≡ false) → Makes rom held b (move rom held b)
-    go (inl e) i = Accepts (at_place e) (move_in rom held b Interrupt (case_interrupt b dma (rw (ie, on) (asked b.cycle e))))
+    go (inl e) i = Accepts (at_place e) (accepted rom held b on ie e)
     go (inr d) (inl i) = Waits d i (move_in rom held b Idle (case_idle b dma (no_interrupt d) i))
     go (inr d) (inr i) = Runs d i (move_in rom held b Instruction (case_instruction b dma (no_interrupt d) i) ∙ ap (λ o. record (main_move rom (efx_at (b.cycle + 1) o) (held (b.cycle + 1)) b) { cycle = b.cycle + cycles_of (opcode_of rom b) }) on)
 

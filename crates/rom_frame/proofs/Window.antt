@@ -1,8 +1,8 @@
 -- The scan: in each line of the window the routine makes an instruction, eight DMA cycles, and two instructions.
-use Rattle.std.proofs.Common.{◌≡◌, ℕ, zero, suc, ◌+◌, ◌-◌, ◌*◌, ◌/◌, ◌%◌, ◌<◌, ◌≤◌, ◌⊎◌, inl, inr, refl, sym, ◌∙◌, ap, ap₂, subst, subst₂, arith, Bool, true, false, not, cond, ◌&&◌, List}
-use Rattle.std.specs.Prelude.{◌==◌, nat_le, bit_or}
+use Rattle.std.proofs.Common.{◌≡◌, ℕ, zero, suc, ◌+◌, ◌*◌, ◌/◌, ◌%◌, ◌<◌, ◌≤◌, refl, ◌∙◌, ap, ap₂, subst₂, arith, Bool, true, false, cond}
+use Rattle.std.specs.Prelude.{◌==◌, bit_or}
 use Rattle.std.proofs.lemmas.Bool.{lt-ltb, le-ltb, le-leb, lt-leb, and_left, and_right, eqb-true, agree_below_at}
-use Rattle.machine.specs.Bank.{Word, word, word_of, down}
+use Rattle.machine.specs.Bank.{word, word_of, down}
 use Rattle.machine.specs.Signals.{line_of, dma_at, efx_at}
 use Rattle.machine.specs.Board.{Machine, flags_of}
 use Rattle.machine.specs.Keys.{Keys}
@@ -15,7 +15,7 @@ use Rattle.rom_moves.proofs.Moves.{quicks, quick_by}
 use Rattle.rom_law.specs.Program.{code}
 use Rattle.chip8_rows.specs.Heads.{by_edition}
 use Rattle.chip8_rows.proofs.Bytes.{quick}
-use Rattle.rom_frame.proofs.Board.{timed, at_byte, Serves, serves_join, serves_to, NoDma, are_served, cycles_in, instructions, dmas, move_by, served, one}
+use Rattle.rom_frame.proofs.Board.{timed, at_byte, Serves, serves_join, serves_to, serves_none, are_served, cycles_in, instructions, dmas, move_by, served, one}
 
 -- ---- the signals in a line
 
@@ -182,3 +182,45 @@ module _ (e : Edition) (held : ℕ → Keys) where
         ends : (efx : Bool) → record (quick_by (code (quick e)) (flags_of efx (held (14 * l + 12 + 1) b.key)) at) { cycle = 14 * l + 12 + 2 } ≡ timed (14 * (l + 1)) (scanning b (cond efx at_delay at_scan) (a + step e) ((a + next e) % 256))
         ends true = λ i. timed (end i) (scanning b at_delay (bytes i) ((a + next e) % 256))
         ends false = λ i. timed (end i) (scanning b at_scan (bytes i) ((a + next e) % 256))
+
+  -- ---- four lines, and the whole window
+
+  turn : (b : Machine) (l a d : ℕ) (efx : Bool) → 80 ≤ l % 262 → l % 262 + 3 < 208 → IsRow e a → efx_at (14 * (l + 1 + 1 + 1) + 13) true ≡ efx → Serves (code (quick e)) held 44 (timed (14 * l) (scanning b at_scan a d)) (timed (14 * (l + 4)) (scanning b (cond efx at_delay at_scan) (a + step e) ((a + next e) % 256)))
+  turn b l a d efx low high row f =
+      serves_join (code (quick e)) held
+      (serves_join (code (quick e)) held
+      (serves_join (code (quick e)) held (line_0 b l a low (omega arith) row d) (line_1 b (l + 1) a (omega arith) (omega arith) row))
+      (line_2 b (l + 1 + 1) a (omega arith) (omega arith) row))
+      (serves_to (code (quick e)) held (ap (λ t. timed t (scanning b (cond efx at_delay at_scan) (a + step e) ((a + next e) % 256))) time) (line_3 b (l + 1 + 1 + 1) a (omega arith) (omega arith) row efx f))
+    where
+      time : 14 * (l + 1 + 1 + 1 + 1) ≡ 14 * (l + 4)
+      time = omega arith
+
+  -- D after so many turns
+  abbrev pub left : ℕ → ℕ → ℕ
+  left d zero = d
+  left d (suc g) = (shown e g + next e) % 256
+
+  turns : (b : Machine) (l d g : ℕ) → l % 262 ≡ 80 → g < 32 → Serves (code (quick e)) held (44 * g) (timed (14 * l) (scanning b at_scan (screen_start e) d)) (timed (14 * (l + 4 * g)) (scanning b at_scan (shown e g) (left d g)))
+  turns b l d zero h k = serves_to (code (quick e)) held (ap (λ t. timed t (scanning b at_scan (screen_start e) d)) time) (serves_none (code (quick e)) held (timed (14 * l) (scanning b at_scan (screen_start e) d)))
+    where
+      time : 14 * l ≡ 14 * (l + 4 * 0)
+      time = omega arith
+  turns b l d (suc g) h k =
+      subst₂ (λ n t. Serves (code (quick e)) held n (timed (14 * l) (scanning b at_scan (screen_start e) d)) (timed (14 * t) (scanning b at_scan (shown e (suc g)) (left d (suc g))))) count lines
+      (serves_join (code (quick e)) held (turns b l d g h (omega arith)) (turn b (l + 4 * g) (shown e g) (left d g) false (omega (arith, h)) (omega (arith, h)) (shown_row e g (omega arith)) (not_yet (14 * (l + 4 * g + 1 + 1 + 1) + 13) (omega (arith, h)) (omega (arith, h)))))
+    where
+      count : 44 * g + 44 ≡ 44 * suc g
+      count = omega arith
+
+      lines : l + 4 * g + 4 ≡ l + 4 * suc g
+      lines = omega arith
+
+  -- from the first line of a window to the end of its last one
+  pub window : (b : Machine) (l d : ℕ) → l % 262 ≡ 80 → Serves (code (quick e)) held 1408 (timed (14 * l) (scanning b at_scan (screen_start e) d)) (timed (14 * (l + 128)) (scanning b at_delay (shown e 32) (left d 32)))
+  window b l d h =
+      serves_to (code (quick e)) held (ap (λ t. timed (14 * t) (scanning b at_delay (shown e 32) (left d 32))) lines)
+      (serves_join (code (quick e)) held (turns b l d 31 h (omega arith)) (turn b (l + 4 * 31) (shown e 31) (left d 31) true (omega (arith, h)) (omega (arith, h)) (shown_row e 31 (omega arith)) (last_four (14 * (l + 4 * 31 + 1 + 1 + 1) + 13) (omega (arith, h)) (omega (arith, h)))))
+    where
+      lines : l + 4 * 31 + 4 ≡ l + 128
+      lines = omega arith
