@@ -64,6 +64,9 @@ NoDma t n = (u : ℕ) → t ≤ u → u < t + n → dma_at u true ≡ false
 abbrev pub at_byte : Word → Machine → Machine
 at_byte w b = record b { regs = record b.regs { r = record b.regs.r { r0 = w }; p = 1; idle = false }; on = true }
 
+pub up_is : (a : ℕ) → a < 0xffff → up (word_of a) ≡ word_of (a + 1)
+up_is a l = ap₂ word (omega arith) (omega arith)
+
 module _ (x : Code) (held : ℕ → Keys) where
   -- what the move is, with a value of EFX
   pub move_by : (efx : Bool) (b : Machine) → Served x b → dma_at b.cycle true ≡ false → efx_at (b.cycle + 1) true ≡ efx → move x.rom held b ≡ record (quick_by x (flags_of efx (held (b.cycle + 1) b.key)) b) { cycle = b.cycle + cycles_of (opcode_in x b) }
@@ -153,9 +156,6 @@ module _ (x : Code) (held : ℕ → Keys) where
       time = omega arith
 
   -- ---- DMA cycles
-
-  up_is : (a : ℕ) → a < 0xffff → up (word_of a) ≡ word_of (a + 1)
-  up_is a l = ap₂ word (omega arith) (omega arith)
 
   pub dmas : (k t a : ℕ) (b : Machine) → a + k < 0x10000 → ((u : ℕ) → t ≤ u → u < t + k → dma_at u true ≡ true) → Serves k (timed t (at_byte (word_of a) b)) (timed (t + k) (at_byte (word_of (a + k)) b))
   dmas zero t a b l d = subst₂ (λ z y. Serves 0 (timed t (at_byte (word_of a) b)) (timed z (at_byte (word_of y) b))) t0 a0 (serves_none (timed t (at_byte (word_of a) b)))

@@ -106,7 +106,7 @@ module _ (e : Edition) (m : ℕ) (b : Machine) (held : ℕ → Keys) (o : IsInte
       time : 14 * (262 * m + 80 + 128) ≡ 3668 * m + 2912
       time = omega arith
 
-  first : move (both e) held b ≡ timed (3668 * m + 1093) (taken b)
+  pub first : move (both e) held b ≡ timed (3668 * m + 1093) (taken b)
   first = accepted (both e) held b o.on o.enabled (omega (arith, o.cycle)) ∙ (λ i. record b { regs = record b.regs { r = record b.regs.r { r1 = o.entry i }; t = b.regs.x * 16 + b.regs.p; p = 1; x = 2; ie = false; idle = false }; latch = o.latch i; on = o.on i; cycle = time i })
     where
       time : b.cycle + 1 ≡ 3668 * m + 1093
@@ -141,7 +141,7 @@ module _ (e : Edition) (m : ℕ) (b : Machine) (held : ℕ → Keys) (o : IsInte
   shown_fits Usual = record { hi = lit< tt; lo = lit< tt }
   shown_fits Tall = record { hi = lit< tt; lo = lit< tt }
 
-  kept : (j : ℕ) → (IsFree (memory_end e) b j → ⊥) → slice_index (entered b).ram j ≡ slice_index b.ram j
+  pub kept : (j : ℕ) → (IsFree (memory_end e) b j → ⊥) → slice_index (entered b).ram j ≡ slice_index b.ram j
   unfolding a
   kept j h = ap (λ l. slice_index l j) ram_is ∙ others b.ram a xp b.regs.d o.fits.size room j (outside j h)
     where

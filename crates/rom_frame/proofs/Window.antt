@@ -1,5 +1,5 @@
 -- The scan: in each line of the window the routine makes an instruction, eight DMA cycles, and two instructions.
-use Rattle.std.proofs.Common.{◌≡◌, ℕ, zero, suc, ◌+◌, ◌*◌, ◌/◌, ◌%◌, ◌<◌, ◌≤◌, refl, ◌∙◌, ap, ap₂, subst₂, arith, Bool, true, false, cond}
+use Rattle.std.proofs.Common.{sym, nat_lt, ◌≡◌, ℕ, zero, suc, ◌+◌, ◌*◌, ◌/◌, ◌%◌, ◌<◌, ◌≤◌, refl, ◌∙◌, ap, ap₂, subst₂, arith, Bool, true, false, cond}
 use Rattle.std.specs.Prelude.{◌==◌, bit_or}
 use Rattle.std.proofs.lemmas.Bool.{lt-ltb, le-ltb, le-leb, lt-leb, and_left, and_right, eqb-true, agree_below_at}
 use Rattle.machine.specs.Bank.{word, word_of, down}
@@ -20,13 +20,13 @@ use Rattle.rom_frame.proofs.Board.{timed, at_byte, Serves, serves_join, serves_t
 -- ---- the signals in a line
 
 -- DMA is wanted in the cycles 2 to 9 of a line of the window alone
-early : (u : ℕ) → u % 14 < 2 → dma_at u true ≡ false
+pub early : (u : ℕ) → u % 14 < 2 → dma_at u true ≡ false
 early u h = and_left _ _ (and_right _ _ (lt-leb 2 (u % 14) h))
 
-late : (u : ℕ) → 10 ≤ u % 14 → dma_at u true ≡ false
+pub late : (u : ℕ) → 10 ≤ u % 14 → dma_at u true ≡ false
 late u h = and_right _ _ (le-ltb (u % 14) 10 h)
 
-wanted : (u : ℕ) → 80 ≤ line_of u → line_of u < 208 → 2 ≤ u % 14 → u % 14 < 10 → dma_at u true ≡ true
+pub wanted : (u : ℕ) → 80 ≤ line_of u → line_of u < 208 → 2 ≤ u % 14 → u % 14 < 10 → dma_at u true ≡ true
 wanted u l k h i = rw (le-leb 80 (line_of u) l, lt-ltb (line_of u) 208 k, le-leb 2 (u % 14) h, lt-ltb (u % 14) 10 i) refl
 
 -- EFX is active in the last four lines of the window, and in none of its others
@@ -54,11 +54,11 @@ abbrev pub shown : Edition → ℕ → ℕ
 shown e zero = screen_start e
 shown e (suc g) = shown e g + step e
 
-shown_usual : (g : ℕ) → shown Usual g ≡ 0xf00 + 8 * g
+pub shown_usual : (g : ℕ) → shown Usual g ≡ 0xf00 + 8 * g
 shown_usual zero = refl
 shown_usual (suc g) = omega (arith, shown_usual g)
 
-shown_tall : (g : ℕ) → shown Tall g ≡ 0xe00 + 16 * g
+pub shown_tall : (g : ℕ) → shown Tall g ≡ 0xe00 + 16 * g
 shown_tall zero = refl
 shown_tall (suc g) = omega (arith, shown_tall g)
 
@@ -224,3 +224,82 @@ module _ (e : Edition) (held : ℕ → Keys) where
     where
       lines : l + 4 * 31 + 4 ≡ l + 128
       lines = omega arith
+
+  -- ---- the DMA cycles of each line
+
+  -- the first DMA cycle of line l comes after so many moves from s, with the address in R0
+  pub record Begins (b s : Machine) (l address : ℕ) : Type 0 where
+    pub moves : ℕ
+    pub few : moves + 8 ≤ 1408
+    pub at : Machine
+    pub ram : at.ram ≡ b.ram
+    pub latch : at.latch ≡ b.latch
+    pub serves : Serves (code (quick e)) held moves s (timed (14 * l + 2) (at_byte (word_of address) at))
+
+  begin : (b s : Machine) (n l address : ℕ) (c d : Machine) → n ≤ 1399 → are_served (code (quick e)) 1 c ≡ true → cycles_in (code (quick e)) 1 c ≡ 2 → quicks (code (quick e)) 1 c ≡ at_byte (word_of address) d → d.ram ≡ b.ram → d.latch ≡ b.latch → Serves (code (quick e)) held n s (timed (14 * l) c) → Begins b s l address
+  begin b s n l address c d few h two is ram latch f =
+      record {
+        moves = n + 1;
+        few = omega arith;
+        at = d;
+        ram = ram;
+        latch = latch;
+        serves = serves_join (code (quick e)) held f (serves_to (code (quick e)) held (ap₂ timed (ap (λ z. 14 * l + z) two) is) (instructions (code (quick e)) held 1 (14 * l) c h (λ u m n. early u (omega (arith, n, two)))));
+      }
+
+  module _ (b : Machine) (l d g : ℕ) (top : l % 262 ≡ 80) (some : g < 32) where
+    abbrev a : ℕ
+    a = shown e g
+
+    abbrev s : Machine
+    s = timed (14 * l) (scanning b at_scan (screen_start e) d)
+
+    row : IsRow e (shown e g)
+    row = shown_row e g some
+
+    first_line : Serves (code (quick e)) held (44 * g) s (timed (14 * (l + 4 * g)) (scanning b at_scan a (left d g)))
+    first_line = turns b l d g top some
+
+    second_line : Serves (code (quick e)) held (44 * g + 11) s (timed (14 * (l + 4 * g + 1)) (scanning b at_scan1 a (a % 256)))
+    second_line = serves_join (code (quick e)) held first_line (line_0 b (l + 4 * g) a (omega (arith, top, some)) (omega (arith, top, some)) row (left d g))
+
+    third_line : Serves (code (quick e)) held (44 * g + 11 + 11) s (timed (14 * (l + 4 * g + 1 + 1)) (scanning b at_scan2 (a + next e) ((a + next e) % 256)))
+    third_line = serves_join (code (quick e)) held second_line (line_1 b (l + 4 * g + 1) a (omega (arith, top, some)) (omega (arith, top, some)) row)
+
+    fourth_line : Serves (code (quick e)) held (44 * g + 11 + 11 + 11) s (timed (14 * (l + 4 * g + 1 + 1 + 1)) (scanning b at_scan3 (a + next e) ((a + next e) % 256)))
+    fourth_line = serves_join (code (quick e)) held third_line (line_2 b (l + 4 * g + 1 + 1) a (omega (arith, top, some)) (omega (arith, top, some)) row)
+
+    pub begins_0 : Begins b s (l + 4 * g) a
+    begins_0 = begin b s (44 * g) (l + 4 * g) a (scanning b at_scan a (left d g)) (scanning b (at_scan + 1) a (a % 256)) (omega (arith, some)) refl refl refl refl refl first_line
+
+    pub begins_1 : Begins b s (l + 4 * g + 1) a
+    begins_1 = begin b s (44 * g + 11) (l + 4 * g + 1) a (scanning b at_scan1 a (a % 256)) (scanning b (at_scan1 + 2) a ((a + next e) % 256)) (omega (arith, some)) refl refl (ap (scanning b (at_scan1 + 2) a) row.or) refl refl second_line
+
+    pub begins_2 : Begins b s (l + 4 * g + 1 + 1) (a + next e)
+    begins_2 = begin b s (44 * g + 11 + 11) (l + 4 * g + 1 + 1) (a + next e) (scanning b at_scan2 (a + next e) ((a + next e) % 256)) (scanning b (at_scan2 + 1) (a + next e) ((a + next e) % 256)) (omega (arith, some)) refl refl refl refl refl third_line
+
+    pub begins_3 : Begins b s (l + 4 * g + 1 + 1 + 1) (a + next e)
+    begins_3 = begin b s (44 * g + 11 + 11 + 11) (l + 4 * g + 1 + 1 + 1) (a + next e) (scanning b at_scan3 (a + next e) ((a + next e) % 256)) (scanning b (at_scan3 + 1) (a + next e) ((a + next e) % 256)) (omega (arith, some)) refl refl refl refl refl fourth_line
+
+  -- each line of the window, with the address of its row
+  pub begins : (b : Machine) (l d k address : ℕ) → l % 262 ≡ 80 → k < 128 → cond (nat_lt (k % 4) 2) (shown e (k / 4)) (shown e (k / 4) + next e) ≡ address → Begins b (timed (14 * l) (scanning b at_scan (screen_start e) d)) (l + k) address
+  begins b l d k address top some is = go (k % 4) refl (omega arith)
+    where
+      go : (q : ℕ) → k % 4 ≡ q → q < 4 → Begins b (timed (14 * l) (scanning b at_scan (screen_start e) d)) (l + k) address
+      go zero h r = subst₂ (Begins b (timed (14 * l) (scanning b at_scan (screen_start e) d))) same (ap (λ z. cond (nat_lt z 2) (shown e (k / 4)) (shown e (k / 4) + next e)) (sym h) ∙ is) (begins_0 b l d (k / 4) top (omega arith))
+        where
+          same : l + 4 * (k / 4) ≡ l + k
+          same = omega (arith, h)
+      go (suc zero) h r = subst₂ (Begins b (timed (14 * l) (scanning b at_scan (screen_start e) d))) same (ap (λ z. cond (nat_lt z 2) (shown e (k / 4)) (shown e (k / 4) + next e)) (sym h) ∙ is) (begins_1 b l d (k / 4) top (omega arith))
+        where
+          same : l + 4 * (k / 4) + 1 ≡ l + k
+          same = omega (arith, h)
+      go (suc (suc zero)) h r = subst₂ (Begins b (timed (14 * l) (scanning b at_scan (screen_start e) d))) same (ap (λ z. cond (nat_lt z 2) (shown e (k / 4)) (shown e (k / 4) + next e)) (sym h) ∙ is) (begins_2 b l d (k / 4) top (omega arith))
+        where
+          same : l + 4 * (k / 4) + 1 + 1 ≡ l + k
+          same = omega (arith, h)
+      go (suc (suc (suc zero))) h r = subst₂ (Begins b (timed (14 * l) (scanning b at_scan (screen_start e) d))) same (ap (λ z. cond (nat_lt z 2) (shown e (k / 4)) (shown e (k / 4) + next e)) (sym h) ∙ is) (begins_3 b l d (k / 4) top (omega arith))
+        where
+          same : l + 4 * (k / 4) + 1 + 1 + 1 ≡ l + k
+          same = omega (arith, h)
+      go (suc (suc (suc (suc q)))) h r = absurd (omega arith)

@@ -2,6 +2,7 @@
 
 ghost use Rattle.rom_frame.specs.Frame.{EveryMove, KeepsPlace, KeepsWaiting};
 ghost use Rattle.rom_frame.specs.Routine.{RunTick};
+ghost use Rattle.rom_frame.specs.Scan.{RunScan};
 
 /// Where the display is on and interrupts are enabled, outside of the window: the board makes the interrupt at cycle 1,092 of a frame, and
 /// there alone. Elsewhere it makes a main move, or an idle cycle where the processor waits.
@@ -23,4 +24,9 @@ pub fn keeps_waiting()
 /// to the return of the routine: one timer tick was made, and nothing else. In between R1 is the program counter.
 pub fn run_tick()
     ensures { RunTick }
+{}
+
+/// In those moves each of the 128 lines of the window has eight DMA cycles, 1,024 in all, with the eight bytes of its row of the screen.
+pub fn run_scan()
+    ensures { RunScan }
 {}
