@@ -1,6 +1,6 @@
 -- What a place comes to: its one instruction is run by computing.
-use Rattle.std.proofs.Common.{◌≡◌, refl, sym, ◌∙◌, ap, subst, arith, true, false, [], ◌∷◌}
-use Rattle.machine.specs.Bank.{get}
+use Rattle.std.proofs.Common.{◌≡◌, ℕ, refl, sym, ◌∙◌, ap, subst, arith, Bool, true, false, cond, [], ◌∷◌}
+use Rattle.machine.specs.Bank.{Word, word_of, get}
 use Rattle.machine.specs.Opcodes.{kind_of, cycles_of}
 use Rattle.machine.specs.Board.{Machine, opcode_of}
 use Rattle.machine.specs.Ranges.{FitsMachine}
@@ -8,7 +8,7 @@ use Rattle.machine.proofs.Flags.{reads_flags}
 use Rattle.chip8_lang.specs.declared.view.Edition.{Edition}
 use Rattle.chip8_lang.specs.State.{Lang}
 use Rattle.rom_moves.specs.Code.{Input, moved}
-use Rattle.rom_moves.proofs.Moves.{opcode_in, in_rom, quicks, quick_any, opcode_is}
+use Rattle.rom_moves.proofs.Moves.{opcode_in, in_rom, quicks, quick_any, quick_by, quick_by_is, flags_in, opcode_is}
 use Rattle.rom_law.specs.Holding.{places, Holding}
 use Rattle.rom_law.specs.Program.{code}
 use Rattle.rom_law.specs.Rows.{Since, Grows, Ends, after_main}
@@ -35,3 +35,21 @@ alone {e = e} {b = b} {h = h} l f at o c is flags inside two ends =
   where
     sleeps : false ≡ true → ⊥
     sleeps k = cc
+
+-- The same, where the instruction is a branch on t, which a flag or the keys decide: the program counter is then one word or the other.
+pub alone_forks : {e : Edition} {b : Machine} {h : Since} {s : Lang} (l : Place) → FitsMachine b → At (quick e) l b h → Holding (quick e) (places b) s → (d : Machine) → b ≡ d → in_rom (get d.regs.r d.regs.p) ≡ true → cycles_of (opcode_in (code (quick e)) d) ≡ 2 → (c : Word → Machine) (t : Input → Bool) (target other : ℕ) → ((u : Input) → quick_by (code (quick e)) (flags_in u d) d ≡ c (cond (t u) (word_of target) (word_of other))) → ((u : Input) → t u ≡ true → Ends (quick e) (pieces (quick e)) (c (word_of target)) (after_main u h)) → ((u : Input) → t u ≡ false → Ends (quick e) (pieces (quick e)) (c (word_of other)) (after_main u h)) → Holds (quick e) (pieces (quick e)) l b h
+alone_forks {e = e} {b = b} {h = h} l f at o d is inside two c t target other goes on off =
+    record {
+      runs = ready o;
+      moves = λ i u. subst (λ z. Ends (quick e) (pieces (quick e)) z (after_main u h)) (sym (goes u) ∙ quick_by_is (code (quick e)) u d inside ∙ ap (moved (code (quick e)) u) (sym is)) (ends u (t u) refl);
+      cycles = λ i. subst (λ z. cycles_of (opcode_of (both e) z) ≡ 2) (sym is) (ap cycles_of (sym (opcode_is (code (quick e)) d inside)) ∙ two);
+      later = λ i n d k. (sound e).later l b h f at i n d k;
+      wakes = λ i d k. absurd (sleeps (sym o.awake ∙ i));
+    }
+  where
+    sleeps : false ≡ true → ⊥
+    sleeps k = cc
+
+    ends : (u : Input) (v : Bool) → t u ≡ v → Ends (quick e) (pieces (quick e)) (c (cond (t u) (word_of target) (word_of other))) (after_main u h)
+    ends u true k = subst (λ v. Ends (quick e) (pieces (quick e)) (c (cond v (word_of target) (word_of other))) (after_main u h)) (sym k) (on u k)
+    ends u false k = subst (λ v. Ends (quick e) (pieces (quick e)) (c (cond v (word_of target) (word_of other))) (after_main u h)) (sym k) (off u k)

@@ -14,10 +14,10 @@ use Rattle.chip8_rows.specs.ArithBlocks.{ArithBlock, arith_at, arith_time}
 use Rattle.chip8_rows.specs.MemoryBlocks.{MemoryBlock, memory_at, memory_time}
 use Rattle.chip8_rows.specs.SpriteBlocks.{SpriteBlock, sprite_at, sprite_time}
 use Rattle.chip8_rows.specs.TimerBlocks.{TimerBlock, TimerPlace, timer_at, timer_time, timer_place_at, timer_place_time}
-use Rattle.chip8_rows.specs.KeyBlocks.{KeyBlock, key_at, key_time}
+use Rattle.chip8_rows.specs.KeyBlocks.{KeyBlock, KeyPlace, key_at, key_time, key_place_at, key_place_time}
 use Rattle.chip8_rows.specs.Table.{pieces}
 use Rattle.chip8_rows.specs.Table.Block.{OfFetch, OfJump, OfArith, OfMemory, OfSprite, OfTimer, OfKey}
-use Rattle.chip8_rows.specs.Table.Place.{AtTimer}
+use Rattle.chip8_rows.specs.Table.Place.{AtTimer, AtKey}
 
 module _ (x : Program) {k : ℕ} {h h' : Since} (g : Grows h k 0 h') (c : Machine) (calm : is_event (code x) c ≡ false) where
   pub to_fetch : (l : FetchBlock) → fetch_at x l c (now h) → Within (fetch_time l) h' → Ends x (pieces x) c h'
@@ -41,5 +41,8 @@ module _ (x : Program) {k : ℕ} {h h' : Since} (g : Grows h k 0 h') (c : Machin
   pub to_timer_place : (l : TimerPlace) → timer_place_at x l c (now h) → Within (timer_place_time l) h' → Ends x (pieces x) c h'
   to_timer_place l at w = Continues calm (Meets (AtTimer l) (subst (timer_place_at x l c) (sym (now_same g)) at, w))
 
-  pub to_key : (l : KeyBlock) → key_at x l c (now h) → Within (key_time l) h' → Ends x (pieces x) c h'
-  to_key l at w = Continues calm (Enters (OfKey l) (subst (key_at x l c) (sym (now_same g)) at, w))
+  pub to_key : (l : KeyBlock) → key_at x l c (now h) h'.keys → Within (key_time l) h' → Ends x (pieces x) c h'
+  to_key l at w = Continues calm (Enters (OfKey l) (subst (λ s. key_at x l c s h'.keys) (sym (now_same g)) at, w))
+
+  pub to_key_place : (l : KeyPlace) → key_place_at x l c (now h) h'.keys → Within (key_place_time l) h' → Ends x (pieces x) c h'
+  to_key_place l at w = Continues calm (Meets (AtKey l) (subst (λ s. key_place_at x l c s h'.keys) (sym (now_same g)) at, w))

@@ -1,5 +1,5 @@
 -- What is known at the entry of a routine outlasts ticks.
-use Rattle.std.proofs.Common.{◌≡◌, ℕ, zero, suc, ◌+◌, ◌/◌, ◌%◌, refl, sym, ◌∙◌, ap, subst}
+use Rattle.std.proofs.Common.{◌≡◌, ℕ, zero, suc, ◌+◌, ◌/◌, ◌%◌, refl, sym, ◌∙◌, ap, subst, Bool}
 use Rattle.machine.specs.Bank.{word}
 use Rattle.machine.specs.Board.{Machine}
 use Rattle.machine.specs.Ranges.{FitsMachine}
@@ -13,6 +13,7 @@ use Rattle.rom_law.specs.Holding.{places, Holding}
 use Rattle.rom_law.proofs.Later.{holding_after}
 use Rattle.chip8_rows.specs.Heads.{high_byte, low_byte, page_of, Entered, Enters}
 use Rattle.chip8_rows.specs.TimerBlocks.{Mixes}
+use Rattle.chip8_rows.specs.KeyBlocks.{Skipping, Waiting, Turning, skip_key}
 
 -- ticks leave pc and the opcode
 pub ticks_next : (n : ℕ) (s : Lang) → ticks n (next s) ≡ next (ticks n s)
@@ -34,6 +35,9 @@ ticks_low (suc n) s = ticks_low n s
 pub ticks_variable : (n k : ℕ) (s : Lang) → variable (ticks n s) k ≡ variable s k
 ticks_variable zero k s = refl
 ticks_variable (suc n) k s = ticks_variable n k s
+
+pub skip_key_later : (n : ℕ) (s : Lang) → skip_key (ticks n s) ≡ skip_key s
+skip_key_later n s = ap (λ y. variable (ticks n s) (y % 16) % 16) (ticks_high n s) ∙ ap (λ y. y % 16) (ticks_variable n (high_byte s % 16) s)
 
 module _ (x : Program) (n : ℕ) {b c : Machine} (k : After (code x).low n b c) (f : FitsMachine b) (s : Lang) where
   pub entered_later : (a : ℕ) → Entered x a b s → Entered x a c (ticks n s)
@@ -58,3 +62,36 @@ module _ (x : Program) (n : ℕ) {b c : Machine} (k : After (code x).low n b c) 
 
   pub mixes_later : Mixes b → Mixes c
   mixes_later o = record { rd = ap (λ (z : Machine). z.regs.r.rd) k.is ∙ o.rd; x = ap (λ (z : Machine). z.regs.x) k.is ∙ o.x }
+
+  -- ---- the keys
+
+  -- the key stays latched, and a count stays in RE.0
+  pub latched_later : c.key ≡ b.key
+  latched_later = ap (λ (z : Machine). z.key) k.is
+
+  pub counted_later : c.regs.r.re.lo ≡ b.regs.r.re.lo
+  counted_later = ap (λ (z : Machine). z.regs.r.re.lo) k.is
+
+  pub skipping_later : (down : Bool) (a : ℕ) → Skipping x down a b s → Skipping x down a c (ticks n s)
+  skipping_later down a o =
+      record {
+        holds = subst (Holding x (places c)) (ticks_next n s) (holding_after x n b c (next s) k o.holds f.regs.r.r9);
+        inside = ticks_fetchable x.edition n s ∙ o.inside;
+        p = ap (λ (z : Machine). z.regs.p) k.is ∙ o.p;
+        r3 = ap (λ (z : Machine). z.regs.r.r3) k.is ∙ o.r3;
+        r4 = ap (λ (z : Machine). z.regs.r.r4) k.is ∙ o.r4;
+        digit = ap (λ y. y / 16) (ticks_high n s) ∙ o.digit;
+        low = ticks_low n s ∙ o.low;
+      }
+
+  pub waiting_later : (a : ℕ) → Waiting x a b s → Waiting x a c (ticks n s)
+  waiting_later a o = record { enters = enters_later a 15 o.enters; low = ticks_low n s ∙ o.low }
+
+  pub turning_later : (turn a : ℕ) → Turning x turn a b s → Turning x turn a c (ticks n s)
+  turning_later turn a o =
+      record {
+        waiting = waiting_later a o.waiting;
+        count = counted_later ∙ o.count;
+        pointer = ap (λ (z : Machine). z.regs.x) k.is ∙ o.pointer;
+        rd = ap (λ (z : Machine). z.regs.r.rd) k.is ∙ o.rd;
+      }

@@ -1,6 +1,6 @@
 -- The table is such that each group can be proved apart: each block has an instruction, and what is known at a place outlasts ticks. So a
 -- block's rows are kept by main moves where the block comes to what it should.
-use Rattle.std.proofs.Common.{◌≡◌, ℕ, ◌<◌, arith, subst, ◌∙◌, false}
+use Rattle.std.proofs.Common.{◌≡◌, ℕ, ◌<◌, arith, subst, sym, ap, ◌%◌, ◌∙◌, true, false}
 use Rattle.machine.specs.Board.{Machine}
 use Rattle.machine.specs.Ranges.{FitsMachine}
 use Rattle.chip8_lang.specs.declared.view.Edition.{Edition}
@@ -12,13 +12,13 @@ use Rattle.rom_law.proofs.Language.{ticks_add}
 use Rattle.rom_law.proofs.Kept.{Comes, Holds, Sound, block_moves, place_moves}
 use Rattle.chip8_rows.specs.Rom.{image, program_of}
 use Rattle.chip8_rows.specs.Heads.{Time, Within}
-use Rattle.chip8_rows.specs.Heads.Time.{Exactly, AtMost}
+use Rattle.chip8_rows.specs.Heads.Time.{Exactly, AtMost, Anytime}
 use Rattle.chip8_rows.specs.FetchBlocks.{FetchBlock, fetch_moves}
 use Rattle.chip8_rows.specs.FetchBlocks.FetchBlock.{Fetch, Upper, Inside, Outside, Misc, Unknown83, Leave, Stop, Stopped}
 use Rattle.chip8_rows.specs.JumpBlocks.{JumpBlock, jump_moves}
 use Rattle.chip8_rows.specs.JumpBlocks.JumpBlock.{System, SystemLow, SystemBack, MachineCode, Return, ReturnTake, Empty, JumpTo, Call, CallPut, Full, JumpPlus}
 use Rattle.chip8_rows.specs.ArithBlocks.{ArithBlock, arith_moves}
-use Rattle.chip8_rows.specs.ArithBlocks.ArithBlock.{Load, Add, SkipEq, SkipNe, SkipSame, SameTest, SkipDiffer, DifferTest, NoSkip, Skip, Unknown81, Arith, Operation, Flag, Unknown82}
+use Rattle.chip8_rows.specs.ArithBlocks.ArithBlock.{Load, Add, SkipEq, SkipNe, SkipSame, SameTest, SkipDiffer, DifferTest, NoSkip as PassesOn, Skip, Unknown81, Arith, Operation, Flag, Unknown82}
 use Rattle.chip8_rows.specs.Checks.Answer.{InGame, InFont, Nowhere}
 use Rattle.chip8_rows.specs.MemoryBlocks.{MemoryBlock, memory_moves}
 use Rattle.chip8_rows.specs.MemoryBlocks.MemoryBlock.{Index, AddIndex, Digit, Check, CheckGame, CheckFont, CheckLow, Answering, Decimal, DecimalFound, Hundreds, HundredsEnd, Tens, TensEnd, Store, StoreFound, StoreByte, StoreEnd, Restore, RestoreFound, RestoreByte, RestoreEnd}
@@ -27,13 +27,14 @@ use Rattle.chip8_rows.specs.SpriteBlocks.SpriteBlock.{Draw, DrawFound, Clear}
 use Rattle.chip8_rows.specs.TimerBlocks.{TimerBlock, TimerPlace, timer_moves, timer_place_at, timer_place_time}
 use Rattle.chip8_rows.specs.TimerBlocks.TimerBlock.{Random, RandomMix, GetDelayPut, SetDelay, SetDelayEnd, SetSound, SetSoundEnd}
 use Rattle.chip8_rows.specs.TimerBlocks.TimerPlace.{RandomCount, GetDelay, SetDelayPut, SetSoundPut}
-use Rattle.chip8_rows.specs.KeyBlocks.{KeyBlock, key_moves}
-use Rattle.chip8_rows.specs.KeyBlocks.KeyBlock.{KeySkip, WaitKey}
+use Rattle.chip8_rows.specs.KeyBlocks.{KeyBlock, KeyPlace, Last, key_moves, key_place_at, key_place_time}
+use Rattle.chip8_rows.specs.KeyBlocks.KeyBlock.{KeySkip, KeySkipUp, SkipLatch, NoSkip, Skip as KeyYes, WaitKey, KeyNext, KeyCount, KeyFreed}
+use Rattle.chip8_rows.specs.KeyBlocks.KeyPlace.{SkipTest, KeyTest, KeyHeld}
 use Rattle.chip8_rows.specs.Table.{Block, Place, Head, At, moves, pieces, BlockRows, PlaceRows}
 use Rattle.chip8_rows.specs.Table.Block.{OfFetch, OfJump, OfArith, OfMemory, OfSprite, OfTimer, OfKey}
-use Rattle.chip8_rows.specs.Table.Place.{AtTimer}
+use Rattle.chip8_rows.specs.Table.Place.{AtTimer, AtKey}
 use Rattle.chip8_rows.proofs.Bytes.{both_is, both_fits, quick}
-use Rattle.chip8_rows.proofs.Later.{enters_later, ticks_low, loaded_later, mixes_later}
+use Rattle.chip8_rows.proofs.Later.{enters_later, ticks_low, loaded_later, mixes_later, skip_key_later, skipping_later, waiting_later, turning_later, latched_later, counted_later}
 
 fetch_some : (l : FetchBlock) → 0 < fetch_moves l
 fetch_some Fetch = omega arith
@@ -69,7 +70,7 @@ arith_some SkipSame = omega arith
 arith_some SameTest = omega arith
 arith_some SkipDiffer = omega arith
 arith_some DifferTest = omega arith
-arith_some (NoSkip i) = omega arith
+arith_some (PassesOn i) = omega arith
 arith_some Skip = omega arith
 arith_some Unknown81 = omega arith
 arith_some Arith = omega arith
@@ -123,7 +124,14 @@ timer_some SetSoundEnd = omega arith
 
 key_some : (l : KeyBlock) → 0 < key_moves l
 key_some KeySkip = omega arith
+key_some KeySkipUp = omega arith
+key_some (SkipLatch down) = omega arith
+key_some (NoSkip down) = omega arith
+key_some (KeyYes down) = omega arith
 key_some WaitKey = omega arith
+key_some (KeyNext turn) = omega arith
+key_some (KeyCount turn) = omega arith
+key_some KeyFreed = omega arith
 
 pub some : (l : Block) → 0 < moves l
 some (OfFetch l) = fetch_some l
@@ -138,6 +146,7 @@ some (OfKey l) = key_some l
 within_later : (t : Time) (h : Since) (n : ℕ) → Within t h → Within t (after_ticks n h)
 within_later (Exactly m) h n w = w
 within_later (AtMost m) h n w = w
+within_later Anytime h n w = w
 
 module _ (e : Edition) where
   later : (l : Place) (b : Machine) (h : Since) → FitsMachine b → At (quick e) l b h → (n : ℕ) (c : Machine) → After (code (quick e)).low n b c → At (quick e) l c (after_ticks n h)
@@ -148,6 +157,13 @@ module _ (e : Edition) where
       timer_later GetDelay p = (enters_later (quick e) n k f (now h) _ _ p.0, ticks_low n (now h) ∙ p.1)
       timer_later SetDelayPut p = (enters_later (quick e) n k f (now h) _ _ p.0, ticks_low n (now h) ∙ p.1, loaded_later (quick e) n k f (now h) p.2)
       timer_later SetSoundPut p = (enters_later (quick e) n k f (now h) _ _ p.0, ticks_low n (now h) ∙ p.1, loaded_later (quick e) n k f (now h) p.2)
+
+  later (AtKey l) b h f o n c k = (subst (λ s. key_place_at (quick e) l c s h.keys) (ticks_add n h.ticks h.state) (key_later l o.0), within_later (key_place_time l) h n o.1)
+    where
+      key_later : (l : KeyPlace) → key_place_at (quick e) l b (now h) h.keys → key_place_at (quick e) l c (ticks n (now h)) h.keys
+      key_later (SkipTest down) p = (skipping_later (quick e) n k f (now h) down _ p.0, latched_later (quick e) n k f (now h) ∙ p.1 ∙ sym (skip_key_later n (now h)))
+      key_later (KeyTest turn) p = (turning_later (quick e) n k f (now h) turn _ p.0, latched_later (quick e) n k f (now h) ∙ p.1, p.2)
+      key_later KeyHeld p = (waiting_later (quick e) n k f (now h) _ p.0, latched_later (quick e) n k f (now h) ∙ p.1 ∙ ap (λ y. y % 16) (sym (counted_later (quick e) n k f (now h))), subst (λ y. Last h.keys (y % 16) true) (sym (counted_later (quick e) n k f (now h))) p.2)
 
   pub sound : Sound (quick e) (pieces (quick e))
   sound = record { rom = both_fits e; some = λ l b h f head. some l; later = λ l b h f at i n c k. later l b h f at n c k }

@@ -8,7 +8,7 @@ use Rattle.chip8_lang.specs.declared.instr.Instr.TheVariants.{Clear, Return, Cal
 use Rattle.chip8_lang.specs.declared.view.Edition.{Edition}
 use Rattle.chip8_lang.specs.declared.view.Stop.TheVariants.{FetchOutside}
 use Rattle.chip8_lang.specs.State.{Lang, instr_at, is_fetchable}
-use Rattle.chip8_lang.specs.Step.{stop_of, stop_of_instr, step, done_by}
+use Rattle.chip8_lang.specs.Step.{KeyInput, stop_of, stop_of_instr, step, done_by}
 use Rattle.chip8_lang.specs.Step.KeyInput.{Nothing}
 use Rattle.chip8_lang.specs.Ticks.{tick, ticks}
 use Rattle.chip8_lang.specs.Between.{Allows, WaitsWell}
@@ -57,17 +57,22 @@ no_wait Clear k n = cc
 no_wait (Draw x y m) k n = cc
 no_wait _ k n = tt
 
--- The step was made: the instruction i of a state that doesn't stop has left its result z in the places, and the machine is at the fetch.
-module _ (e : Edition) {k : ℕ} {h h' : Since} (g : Grows h k 0 h') (i : Instr) (is : instr_at (now h) ≡ i) (prompt : is_prompt i ≡ true) (runs : stop_of e (now h) ≡ None) where
+-- The step was made: the instruction i of a state that doesn't stop has left its result in the places, and the machine is at the fetch.
+module _ (e : Edition) {k : ℕ} {h h' : Since} (g : Grows h k 0 h') (i : Instr) (is : instr_at (now h) ≡ i) (runs : stop_of e (now h) ≡ None) where
   no_stop : stop_of e h'.state ≡ None
   no_stop = ap (stop_of e) g.state ∙ sym (stop_ticks e h.ticks h.state) ∙ runs
 
-  stepped : done_by e i Nothing (now h) ≡ step e Nothing (now h')
-  stepped = ap (λ j. done_by e j Nothing (now h)) (sym is) ∙ ap (step e Nothing) (sym (now_same g))
+  stepped : (key : KeyInput) → done_by e i key (now h) ≡ step e key (now h')
+  stepped key = ap (λ j. done_by e j key (now h)) (sym is) ∙ ap (step e key) (sym (now_same g))
 
-  pub steps : (c : Machine) → Holding (quick e) (places c) (done_by e i Nothing (now h)) → c.regs.p ≡ 4 → c.regs.r.r4 ≡ word_of at_fetch → Ends (quick e) (pieces (quick e)) c h'
-  steps c o p r4 = Steps (step e Nothing (now h')) (record {
+  -- what it took from the keypad is allowed
+  pub steps_with : (key : KeyInput) → Allows i h'.state h'.keys key → WaitsWell i h'.ticks 0 → (c : Machine) → Holding (quick e) (places c) (done_by e i key (now h)) → c.regs.p ≡ 4 → c.regs.r.r4 ≡ word_of at_fetch → Ends (quick e) (pieces (quick e)) c h'
+  steps_with key allowed waits c o p r4 = Steps (step e key (now h')) (record {
     runs = no_stop;
-    between = step_made e h' i Nothing no_stop (sym (instr_now h') ∙ ap instr_at (now_same g) ∙ is) (keyless i prompt h') (no_wait i prompt h'.ticks);
-    stands = record { keeps = keeping (quick e) c (step e Nothing (now h')) (subst (Holding (quick e) (places c)) stepped o); p = p; r4 = r4 };
+    between = step_made e h' i key no_stop (sym (instr_now h') ∙ ap instr_at (now_same g) ∙ is) allowed waits;
+    stands = record { keeps = keeping (quick e) c (step e key (now h')) (subst (Holding (quick e) (places c)) (stepped key) o); p = p; r4 = r4 };
   })
+
+-- the same, where it takes no key and doesn't wait
+pub steps : (e : Edition) {k : ℕ} {h h' : Since} (g : Grows h k 0 h') (i : Instr) (is : instr_at (now h) ≡ i) (prompt : is_prompt i ≡ true) (runs : stop_of e (now h) ≡ None) (c : Machine) → Holding (quick e) (places c) (done_by e i Nothing (now h)) → c.regs.p ≡ 4 → c.regs.r.r4 ≡ word_of at_fetch → Ends (quick e) (pieces (quick e)) c h'
+steps e {h' = h'} g i is prompt runs c o p r4 = steps_with e g i is runs Nothing (keyless i prompt h') (no_wait i prompt h'.ticks) c o p r4

@@ -16,14 +16,16 @@ use Rattle.rom_law.specs.Holding.{places, Holding}
 
 -- ---- time
 
--- the main cycles from the dispatch to a head: so many for every opcode, or so many at most
+-- the main cycles from the dispatch to a head: so many for every opcode, or so many at most, or any number, as behind a wait for a key
 pub data Time : Type 0 where
   Exactly : ℕ → Time
   AtMost : ℕ → Time
+  Anytime : Time
 
 abbrev pub Within : Time → Since → Type 0
 Within (Exactly n) h = h.spent ≡ n
 Within (AtMost n) h = h.spent ≤ n
+Within Anytime h = Unit {0}
 
 -- ---- addresses
 

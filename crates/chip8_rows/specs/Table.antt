@@ -12,7 +12,7 @@ use Rattle.chip8_rows.specs.ArithBlocks.{ArithBlock, arith_at, arith_moves, arit
 use Rattle.chip8_rows.specs.MemoryBlocks.{MemoryBlock, memory_at, memory_moves, memory_time}
 use Rattle.chip8_rows.specs.SpriteBlocks.{SpriteBlock, sprite_at, sprite_moves, sprite_time}
 use Rattle.chip8_rows.specs.TimerBlocks.{TimerBlock, TimerPlace, timer_at, timer_place_at, timer_moves, timer_time, timer_place_time}
-use Rattle.chip8_rows.specs.KeyBlocks.{KeyBlock, key_at, key_moves, key_time}
+use Rattle.chip8_rows.specs.KeyBlocks.{KeyBlock, KeyPlace, key_at, key_place_at, key_moves, key_time, key_place_time}
 
 pub data Block : Type 0 where
   OfFetch : (l : FetchBlock) → Block
@@ -25,6 +25,7 @@ pub data Block : Type 0 where
 
 pub data Place : Type 0 where
   AtTimer : (l : TimerPlace) → Place
+  AtKey : (l : KeyPlace) → Place
 
 -- what is known at the first instruction of a block
 abbrev pub Head : Program → Block → Machine → Since → Type 0
@@ -34,7 +35,7 @@ Head x (OfArith l) b h = arith_at x l b (now h) × Within (arith_time l) h
 Head x (OfMemory l) b h = memory_at x l b (now h) × Within (memory_time l) h
 Head x (OfSprite l) b h = sprite_at x l b (now h) × Within (sprite_time l) h
 Head x (OfTimer l) b h = timer_at x l b (now h) × Within (timer_time l) h
-Head x (OfKey l) b h = key_at x l b (now h) × Within (key_time l) h
+Head x (OfKey l) b h = key_at x l b (now h) h.keys × Within (key_time l) h
 
 -- the instructions of a block
 abbrev pub moves : Block → ℕ
@@ -49,6 +50,7 @@ moves (OfKey l) = key_moves l
 -- what is known at a place
 abbrev pub At : Program → Place → Machine → Since → Type 0
 At x (AtTimer l) b h = timer_place_at x l b (now h) × Within (timer_place_time l) h
+At x (AtKey l) b h = key_place_at x l b (now h) h.keys × Within (key_place_time l) h
 
 abbrev pub pieces : Program → Pieces
 pieces x = record { Block = Block; Head = Head x; moves = λ l h. moves l; Place = Place; At = At x }
