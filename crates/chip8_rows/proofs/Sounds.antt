@@ -157,7 +157,6 @@ module _ (e : Edition) where
       timer_later GetDelay p = (enters_later (quick e) n k f (now h) _ _ p.0, ticks_low n (now h) ∙ p.1)
       timer_later SetDelayPut p = (enters_later (quick e) n k f (now h) _ _ p.0, ticks_low n (now h) ∙ p.1, loaded_later (quick e) n k f (now h) p.2)
       timer_later SetSoundPut p = (enters_later (quick e) n k f (now h) _ _ p.0, ticks_low n (now h) ∙ p.1, loaded_later (quick e) n k f (now h) p.2)
-
   later (AtKey l) b h f o n c k = (subst (λ s. key_place_at (quick e) l c s h.keys) (ticks_add n h.ticks h.state) (key_later l o.0), within_later (key_place_time l) h n o.1)
     where
       key_later : (l : KeyPlace) → key_place_at (quick e) l b (now h) h.keys → key_place_at (quick e) l c (ticks n (now h)) h.keys

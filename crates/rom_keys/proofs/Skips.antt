@@ -1,5 +1,5 @@
 -- EX9E and EXA1.
-use Rattle.std.proofs.Common.{◌≡◌, ℕ, ◌+◌, ◌*◌, ◌/◌, ◌%◌, ◌≤◌, refl, sym, ◌∙◌, ap, subst, arith, Bool, true, false, not, [], ◌∷◌, ◌++◌}
+use Rattle.std.proofs.Common.{◌≡◌, ℕ, ◌+◌, ◌%◌, ◌≤◌, refl, sym, ◌∙◌, ap, subst, arith, Bool, true, false, not, [], ◌∷◌, ◌++◌}
 use Rattle.std.specs.Prelude.{◌==◌, bit_xor, Some, None}
 use Rattle.std.proofs.lemmas.Bool.{eqb-true, ne_eqb}
 use Rattle.machine.specs.Bank.{Word, word, word_of, value, up}
@@ -10,15 +10,13 @@ use Rattle.chip8_lang.specs.declared.instr.Instr.{Instr}
 use Rattle.chip8_lang.specs.declared.instr.Instr.TheVariants.{SkipDown, SkipUp}
 use Rattle.chip8_lang.specs.declared.view.Edition.{Edition}
 use Rattle.chip8_lang.specs.declared.view.Stop.TheVariants.{Unknown}
-use Rattle.chip8_lang.specs.State.{Lang, variable, instr_at}
+use Rattle.chip8_lang.specs.State.{variable, instr_at}
 use Rattle.chip8_lang.specs.Step.{stop_of}
 use Rattle.chip8_lang.specs.Step.KeyInput.{Held}
 use Rattle.chip8_lang.specs.Between.{SomeTime}
 use Rattle.chip8_image.specs.Labels.{at_key_skip, at_key_skip_up, at_skip_up, at_skip_down, at_unknown82, at_key_yes}
 use Rattle.rom_moves.specs.Code.{Input}
-use Rattle.rom_law.specs.Program.{code}
-use Rattle.rom_law.specs.Holding.{places}
-use Rattle.rom_law.specs.Rows.{Since, Grows, Ends, now, after_main}
+use Rattle.rom_law.specs.Rows.{Since, Grows, now}
 use Rattle.rom_law.proofs.Places.{v_get, pc_is, pc_set}
 use Rattle.rom_law.proofs.Steps.{now_same}
 use Rattle.rom_law.proofs.Kept.{Comes, Holds}

@@ -1,5 +1,5 @@
 -- FX0A.
-use Rattle.std.proofs.Common.{◌≡◌, ℕ, suc, ◌+◌, ◌-◌, ◌*◌, ◌/◌, ◌%◌, ◌<◌, ◌≤◌, ◌⊎◌, inl, inr, refl, sym, ◌∙◌, ap, subst, arith, true, false, List, [], ◌∷◌, ◌++◌, length, slice_set, bit_and}
+use Rattle.std.proofs.Common.{◌≡◌, ℕ, suc, ◌+◌, ◌*◌, ◌%◌, ◌<◌, ◌⊎◌, inl, inr, refl, sym, ◌∙◌, ap, subst, arith, true, false, List, [], ◌∷◌, ◌++◌, length, slice_set, bit_and}
 use Rattle.std.specs.Prelude.{None}
 use Rattle.std.proofs.lemmas.Bool.{cases_eq}
 use Rattle.std.proofs.lemmas.Nat.{and_mask}
@@ -15,14 +15,13 @@ use Rattle.chip8_lang.specs.State.{Lang, instr_at}
 use Rattle.chip8_lang.specs.Step.{next, stop_of}
 use Rattle.chip8_lang.specs.Step.KeyInput.{Chosen}
 use Rattle.chip8_lang.specs.Between.{IsAt, LetGo}
-use Rattle.chip8_image.specs.Labels.{at_fetch, at_wait_key, at_key_next, at_key_test, at_key_count, at_key_held, at_key_freed}
+use Rattle.chip8_image.specs.Labels.{at_wait_key, at_key_next, at_key_test, at_key_count, at_key_held, at_key_freed}
 use Rattle.rom_moves.specs.Code.{Input}
-use Rattle.rom_law.specs.Program.{code}
 use Rattle.rom_law.specs.Holding.{Places, places, Holding}
-use Rattle.rom_law.specs.Rows.{Since, Grows, Ends, now, after_main}
+use Rattle.rom_law.specs.Rows.{Since, Grows, now}
 use Rattle.rom_law.proofs.Places.{v_set, work_set, work_get}
 use Rattle.rom_law.proofs.Kept.{Comes, Holds}
-use Rattle.chip8_rows.specs.Heads.{high_byte, low_byte, page_of, Entered, Enters}
+use Rattle.chip8_rows.specs.Heads.{high_byte, low_byte, page_of, Enters}
 use Rattle.chip8_rows.specs.KeyBlocks.{Last, Turned, Waiting, Turning}
 use Rattle.chip8_rows.specs.KeyBlocks.KeyBlock.{WaitKey, KeyNext, KeyCount, KeyFreed}
 use Rattle.chip8_rows.specs.KeyBlocks.KeyPlace.{KeyTest, KeyHeld}
@@ -56,6 +55,13 @@ turned_on turn {h = h} {h' = h'} g t last = record { before = t.before; count = 
 turned_test : {turn : ℕ} (u : Input) (h : Since) → Turned turn 4 h.keys → Turned turn 5 (h.keys ++ u.held ∷ [])
 turned_test u h t = record { before = t.before; count = omega (arith, t.count, length_more h.keys (u.held ∷ [])); up = λ i l. is_at_more (u.held ∷ []) (t.up i l) }
 
+-- the machine in a turn of the loop
+abbrev pub turning : Edition → ℕ → ℕ → ℕ → Machine → Machine
+turning e a high low b = record (entered e a high low b) { regs = record (entered e a high low b).regs { x = 13; r = record (entered e a high low b).regs.r { rd = word (page_of e) 0xd0 } } }
+
+pub is_turning : {e : Edition} {turn a : ℕ} {b : Machine} {s : Lang} → Turning (quick e) turn a b s → b ≡ turning e a (high_byte s) (low_byte s) b
+is_turning {e = e} {a = a} {b = b} {s = s} o = is_entered o.waiting.enters.entered ∙ (λ i. record (entered e a (high_byte s) (low_byte s) b) { regs = record (entered e a (high_byte s) (low_byte s) b).regs { x = o.pointer i; r = record (entered e a (high_byte s) (low_byte s) b).regs.r { rd = o.rd i } } })
+
 module _ (e : Edition) (b : Machine) (h : Since) (f : FitsMachine b) where
   abbrev high : ℕ
   high = high_byte (now h)
@@ -68,13 +74,6 @@ module _ (e : Edition) (b : Machine) (h : Since) (f : FitsMachine b) where
       (λ h' g. to_key (quick e) g _ refl (KeyNext 0) (record { waiting = record { enters = record { entered = record { holds = o.entered.holds; inside = o.entered.inside; p = refl; r3 = refl; r4 = refl; r6 = refl; r7 = refl; rc = refl }; digit = o.digit }; low = kk }; count = refl; pointer = refl; rd = refl }, no_turns h'.keys) (omega (arith, spent, g.spent)))
 
   -- ---- a turn
-
-  -- the machine in a turn
-  abbrev turning : ℕ → Machine
-  turning a = record (entered e a high low b) { regs = record (entered e a high low b).regs { x = 13; r = record (entered e a high low b).regs.r { rd = word (page_of e) 0xd0 } } }
-
-  pub is_turning : {turn a : ℕ} → Turning (quick e) turn a b (now h) → b ≡ turning a
-  is_turning {a = a} o = is_entered o.waiting.enters.entered ∙ (λ i. record (entered e a high low b) { regs = record (entered e a high low b).regs { x = o.pointer i; r = record (entered e a high low b).regs.r { rd = o.rd i } } })
 
   -- RE.0 goes to the work area, and from there to the port
   abbrev work : ℕ
@@ -93,12 +92,12 @@ module _ (e : Edition) (b : Machine) (h : Since) (f : FitsMachine b) where
   words w p l hi lo = λ i. record { hi = hi i; lo = lo i }
 
   pub key_next_comes : (turn : ℕ) → Turning (quick e) turn at_key_next b (now h) → Turned turn 0 h.keys → h.spent ≡ 106 + 14 * turn → Comes (quick e) (pieces (quick e)) (OfKey (KeyNext turn)) b h
-  key_next_comes turn o t spent = straight (OfKey (KeyNext turn)) o.waiting.enters.entered.holds (turning at_key_next) (is_turning o) _ (omega (arith, o.waiting.enters.entered.holds.stack, stack_top_is e, page_fits e)) refl
+  key_next_comes turn o t spent = straight (OfKey (KeyNext turn)) o.waiting.enters.entered.holds (turning e at_key_next high low b) (is_turning o) _ (omega (arith, o.waiting.enters.entered.holds.stack, stack_top_is e, page_fits e)) refl
       (λ h' g. to_key_place (quick e) g _ refl (KeyTest turn) (record { waiting = record { enters = record { entered = record { holds = work_set o.waiting.enters.entered.holds work b.regs.r.re.lo above below; inside = o.waiting.enters.entered.inside; p = refl; r3 = refl; r4 = refl; r6 = refl; r7 = refl; rc = refl }; digit = o.waiting.enters.digit }; low = o.waiting.low }; count = o.count; pointer = refl; rd = words _ (page_of e) 0xd0 (omega (arith, page_fits e)) refl }, sent o, turned_grown g t) (omega (arith, spent, g.spent)))
 
   -- the machine behind a test of the key
   abbrev gone : Word → Machine
-  gone w = record (turning 0) { regs = record (turning 0).regs { r = record (turning 0).regs.r { r3 = w } } }
+  gone w = record (turning e 0 high low b) { regs = record (turning e 0 high low b).regs { r = record (turning e 0 high low b).regs.r { r3 = w } } }
 
   -- ---- a test
 
@@ -113,12 +112,12 @@ module _ (e : Edition) (b : Machine) (h : Since) (f : FitsMachine b) where
   digit_of o = omega (arith, o.count)
 
   pub key_test_holds : (turn : ℕ) → Turning (quick e) turn at_key_test b (now h) → b.key ≡ turn % 16 → Turned turn 4 h.keys → At (quick e) (AtKey (KeyTest turn)) b h → h.spent ≡ 114 + 14 * turn → Holds (quick e) (pieces (quick e)) (AtKey (KeyTest turn)) b h
-  key_test_holds turn o key t at spent = alone_forks (AtKey (KeyTest turn)) f at o.waiting.enters.entered.holds (turning at_key_test) (is_turning o) refl refl gone (λ u. u.held b.key) at_key_held at_key_count (λ u. refl)
+  key_test_holds turn o key t at spent = alone_forks (AtKey (KeyTest turn)) f at o.waiting.enters.entered.holds (turning e at_key_test high low b) (is_turning o) refl refl gone (λ u. u.held b.key) at_key_held at_key_count (λ u. refl)
       (λ u k. to_key_place (quick e) (one_more u h) _ refl KeyHeld (waits_on at_key_held o, key ∙ digit_of o, last_set h.keys u.held (b.regs.r.re.lo % 16) true (ap u.held (sym (key ∙ digit_of o)) ∙ k)) tt)
       (λ u k. to_key (quick e) (one_more u h) _ refl (KeyCount turn) (turns_on at_key_count o, turned_test u h t, last_set h.keys u.held (turn % 16) false (ap u.held (sym key) ∙ k)) (omega (arith, spent)))
 
   pub key_count_comes : (turn : ℕ) → Turning (quick e) turn at_key_count b (now h) → Turned turn 5 h.keys → Last h.keys (turn % 16) false → h.spent ≡ 116 + 14 * turn → Comes (quick e) (pieces (quick e)) (OfKey (KeyCount turn)) b h
-  key_count_comes turn o t last spent = straight (OfKey (KeyCount turn)) o.waiting.enters.entered.holds (turning at_key_count) (is_turning o) _ (omega arith) refl
+  key_count_comes turn o t last spent = straight (OfKey (KeyCount turn)) o.waiting.enters.entered.holds (turning e at_key_count high low b) (is_turning o) _ (omega arith) refl
       (λ h' g. to_key (quick e) g _ refl (KeyNext (suc turn)) (record { waiting = record { enters = record { entered = record { holds = o.waiting.enters.entered.holds; inside = o.waiting.enters.entered.inside; p = refl; r3 = refl; r4 = refl; r6 = refl; r7 = refl; rc = refl }; digit = o.waiting.enters.digit }; low = o.waiting.low }; count = counts; pointer = refl; rd = refl }, turned_on turn g t last) (omega (arith, spent, g.spent)))
     where
       counts : (b.regs.r.re.lo + 1) % 256 ≡ suc turn % 256

@@ -4,3 +4,4 @@
 //! needs no line of the ROM, and where code moves, only labels change.
 #![tactic(auto)]
 
+pub mod laws;
