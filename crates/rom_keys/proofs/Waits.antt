@@ -1,5 +1,5 @@
 -- FX0A.
-use Rattle.std.proofs.Common.{◌≡◌, ℕ, suc, ◌+◌, ◌*◌, ◌%◌, ◌<◌, ◌⊎◌, inl, inr, refl, sym, ◌∙◌, ap, subst, arith, true, false, List, [], ◌∷◌, ◌++◌, length, slice_set, bit_and}
+use Rattle.std.proofs.Common.{◌≡◌, ℕ, suc, ◌+◌, ◌*◌, ◌/◌, ◌%◌, ◌<◌, ◌⊎◌, inl, inr, refl, sym, ◌∙◌, ap, subst, arith, true, false, List, [], ◌∷◌, ◌++◌, length, slice_set, bit_and}
 use Rattle.std.specs.Prelude.{None}
 use Rattle.std.proofs.lemmas.Bool.{cases_eq}
 use Rattle.std.proofs.lemmas.Nat.{and_mask}
@@ -15,7 +15,7 @@ use Rattle.chip8_lang.specs.State.{Lang, instr_at}
 use Rattle.chip8_lang.specs.Step.{next, stop_of}
 use Rattle.chip8_lang.specs.Step.KeyInput.{Chosen}
 use Rattle.chip8_lang.specs.Between.{IsAt, LetGo}
-use Rattle.chip8_image.specs.Labels.{at_wait_key, at_key_next, at_key_test, at_key_count, at_key_held, at_key_freed}
+use Rattle.chip8_image.specs.Labels.{at_fetch, at_wait_key, at_key_next, at_key_test, at_key_count, at_key_held, at_key_freed}
 use Rattle.rom_moves.specs.Code.{Input}
 use Rattle.rom_law.specs.Holding.{Places, places, Holding}
 use Rattle.rom_law.specs.Rows.{Since, Grows, now}
@@ -69,9 +69,13 @@ module _ (e : Edition) (b : Machine) (h : Since) (f : FitsMachine b) where
   abbrev low : ℕ
   low = low_byte (now h)
 
+  -- FX0A goes on at w, in c
+  waits_in : {a : ℕ} (w : ℕ) (c : Machine) → Waiting (quick e) a b (now h) → Holding (quick e) (places c) (next (now h)) → c.regs.p ≡ 3 → c.regs.r.r3 ≡ word_of w → c.regs.r.r4 ≡ word_of at_fetch → c.regs.r.r6 ≡ word (page_of e) (240 + high % 16) → c.regs.r.r7 ≡ word (page_of e) (240 + low / 16) → c.regs.r.rc ≡ word high low → Waiting (quick e) w c (now h)
+  waits_in w c o holds p r3 r4 r6 r7 rc = record { enters = record { entered = record { holds = holds; inside = o.enters.entered.inside; p = p; r3 = r3; r4 = r4; r6 = r6; r7 = r7; rc = rc }; digit = o.enters.digit }; low = o.low }
+
   pub wait_key_comes : Enters (quick e) at_wait_key 15 b (now h) → low ≡ 0x0a → h.spent ≡ 92 → Comes (quick e) (pieces (quick e)) (OfKey WaitKey) b h
   wait_key_comes o kk spent = routine (OfKey WaitKey) o.entered _ (omega arith) refl
-      (λ h' g. to_key (quick e) g _ refl (KeyNext 0) (record { waiting = record { enters = record { entered = record { holds = o.entered.holds; inside = o.entered.inside; p = refl; r3 = refl; r4 = refl; r6 = refl; r7 = refl; rc = refl }; digit = o.digit }; low = kk }; count = refl; pointer = refl; rd = refl }, no_turns h'.keys) (omega (arith, spent, g.spent)))
+      (λ h' g. to_key (quick e) g _ refl (KeyNext 0) (record { waiting = waits_in at_key_next _ (record { enters = o; low = kk }) o.entered.holds refl refl refl refl refl refl; count = refl; pointer = refl; rd = refl }, no_turns h'.keys) (omega (arith, spent, g.spent)))
 
   -- ---- a turn
 
@@ -93,7 +97,7 @@ module _ (e : Edition) (b : Machine) (h : Since) (f : FitsMachine b) where
 
   pub key_next_comes : (turn : ℕ) → Turning (quick e) turn at_key_next b (now h) → Turned turn 0 h.keys → h.spent ≡ 106 + 14 * turn → Comes (quick e) (pieces (quick e)) (OfKey (KeyNext turn)) b h
   key_next_comes turn o t spent = straight (OfKey (KeyNext turn)) o.waiting.enters.entered.holds (turning e at_key_next high low b) (is_turning o) _ (omega (arith, o.waiting.enters.entered.holds.stack, stack_top_is e, page_fits e)) refl
-      (λ h' g. to_key_place (quick e) g _ refl (KeyTest turn) (record { waiting = record { enters = record { entered = record { holds = work_set o.waiting.enters.entered.holds work b.regs.r.re.lo above below; inside = o.waiting.enters.entered.inside; p = refl; r3 = refl; r4 = refl; r6 = refl; r7 = refl; rc = refl }; digit = o.waiting.enters.digit }; low = o.waiting.low }; count = o.count; pointer = refl; rd = words _ (page_of e) 0xd0 (omega (arith, page_fits e)) refl }, sent o, turned_grown g t) (omega (arith, spent, g.spent)))
+      (λ h' g. to_key_place (quick e) g _ refl (KeyTest turn) (record { waiting = waits_in at_key_test _ o.waiting (work_set o.waiting.enters.entered.holds work b.regs.r.re.lo above below) refl refl refl refl refl refl; count = o.count; pointer = refl; rd = words _ (page_of e) 0xd0 (omega (arith, page_fits e)) refl }, sent o, turned_grown g t) (omega (arith, spent, g.spent)))
 
   -- the machine behind a test of the key
   abbrev gone : Word → Machine
@@ -103,7 +107,7 @@ module _ (e : Edition) (b : Machine) (h : Since) (f : FitsMachine b) where
 
   -- what is known in a turn is known behind its test
   waits_on : {turn a : ℕ} (w : ℕ) → Turning (quick e) turn a b (now h) → Waiting (quick e) w (gone (word_of w)) (now h)
-  waits_on w o = record { enters = record { entered = record { holds = o.waiting.enters.entered.holds; inside = o.waiting.enters.entered.inside; p = refl; r3 = refl; r4 = refl; r6 = refl; r7 = refl; rc = refl }; digit = o.waiting.enters.digit }; low = o.waiting.low }
+  waits_on w o = waits_in w _ o.waiting o.waiting.enters.entered.holds refl refl refl refl refl refl
 
   turns_on : {turn a : ℕ} (w : ℕ) → Turning (quick e) turn a b (now h) → Turning (quick e) turn w (gone (word_of w)) (now h)
   turns_on w o = record { waiting = waits_on w o; count = o.count; pointer = refl; rd = refl }
@@ -118,7 +122,7 @@ module _ (e : Edition) (b : Machine) (h : Since) (f : FitsMachine b) where
 
   pub key_count_comes : (turn : ℕ) → Turning (quick e) turn at_key_count b (now h) → Turned turn 5 h.keys → Last h.keys (turn % 16) false → h.spent ≡ 116 + 14 * turn → Comes (quick e) (pieces (quick e)) (OfKey (KeyCount turn)) b h
   key_count_comes turn o t last spent = straight (OfKey (KeyCount turn)) o.waiting.enters.entered.holds (turning e at_key_count high low b) (is_turning o) _ (omega arith) refl
-      (λ h' g. to_key (quick e) g _ refl (KeyNext (suc turn)) (record { waiting = record { enters = record { entered = record { holds = o.waiting.enters.entered.holds; inside = o.waiting.enters.entered.inside; p = refl; r3 = refl; r4 = refl; r6 = refl; r7 = refl; rc = refl }; digit = o.waiting.enters.digit }; low = o.waiting.low }; count = counts; pointer = refl; rd = refl }, turned_on turn g t last) (omega (arith, spent, g.spent)))
+      (λ h' g. to_key (quick e) g _ refl (KeyNext (suc turn)) (record { waiting = waits_in at_key_next _ o.waiting o.waiting.enters.entered.holds refl refl refl refl refl refl; count = counts; pointer = refl; rd = refl }, turned_on turn g t last) (omega (arith, spent, g.spent)))
     where
       counts : (b.regs.r.re.lo + 1) % 256 ≡ suc turn % 256
       counts = omega (arith, o.count)
@@ -130,7 +134,7 @@ module _ (e : Edition) (b : Machine) (h : Since) (f : FitsMachine b) where
   waiting w = record (entered e 0 high low b) { regs = record (entered e 0 high low b).regs { r = record (entered e 0 high low b).regs.r { r3 = w } } }
 
   waits_more : {a : ℕ} (w : ℕ) → Waiting (quick e) a b (now h) → Waiting (quick e) w (waiting (word_of w)) (now h)
-  waits_more w o = record { enters = record { entered = record { holds = o.enters.entered.holds; inside = o.enters.entered.inside; p = refl; r3 = refl; r4 = refl; r6 = refl; r7 = refl; rc = refl }; digit = o.enters.digit }; low = o.low }
+  waits_more w o = waits_in w _ o o.enters.entered.holds refl refl refl refl refl refl
 
   -- the key that was down is up in a set more
   lets_go : {k : ℕ} (u : Input) → k < 16 → Last h.keys k true → u.held k ≡ false → LetGo (h.keys ++ u.held ∷ []) k
