@@ -12,7 +12,7 @@ use Rattle.chip8_image.specs.Parts.{Area, area}
 use Rattle.rom_law.specs.Program.{Program}
 use Rattle.rom_law.specs.Holding.{places, Holding}
 use Rattle.chip8_rows.specs.Heads.{Time, from, high_byte, low_byte, page_of, Enters}
-use Rattle.chip8_rows.specs.Heads.Time.{Exactly, AtMost, Anytime}
+use Rattle.chip8_rows.specs.Heads.Time.{Exactly, Anytime}
 
 -- Of the two skips, the one with `down` skips where its key is down, and the other where it is up.
 pub data KeyBlock : Type 0 where
@@ -127,19 +127,24 @@ key_moves (KeyNext turn) = 4
 key_moves (KeyCount turn) = 2
 key_moves KeyFreed = 4
 
+-- the main cycles before a skip
+abbrev pub skip_time : Bool → ℕ
+skip_time true = 88
+skip_time false = 94
+
 abbrev pub key_time : KeyBlock → Time
 key_time KeySkip = Exactly 80
 key_time KeySkipUp = Exactly 88
-key_time (SkipLatch down) = AtMost 94
-key_time (NoSkip down) = AtMost 98
-key_time (Skip down) = AtMost 98
+key_time (SkipLatch down) = Exactly (skip_time down)
+key_time (NoSkip down) = Exactly (skip_time down + 4)
+key_time (Skip down) = Exactly (skip_time down + 4)
 key_time WaitKey = Exactly 92
 key_time (KeyNext turn) = Exactly (106 + 14 * turn)
 key_time (KeyCount turn) = Exactly (116 + 14 * turn)
 key_time KeyFreed = Anytime
 
 abbrev pub key_place_time : KeyPlace → Time
-key_place_time (SkipTest down) = AtMost 96
+key_place_time (SkipTest down) = Exactly (skip_time down + 2)
 key_place_time (KeyTest turn) = Exactly (114 + 14 * turn)
 key_place_time KeyHeld = Anytime
 

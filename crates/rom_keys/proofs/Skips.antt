@@ -1,5 +1,5 @@
 -- EX9E and EXA1.
-use Rattle.std.proofs.Common.{◌≡◌, ℕ, ◌+◌, ◌%◌, ◌≤◌, refl, sym, ◌∙◌, ap, subst, arith, Bool, true, false, not, [], ◌∷◌, ◌++◌}
+use Rattle.std.proofs.Common.{◌≡◌, ℕ, ◌+◌, ◌%◌, refl, sym, ◌∙◌, ap, subst, arith, Bool, true, false, not, [], ◌∷◌, ◌++◌}
 use Rattle.std.specs.Prelude.{◌==◌, bit_xor, Some, None}
 use Rattle.std.proofs.lemmas.Bool.{eqb-true, ne_eqb}
 use Rattle.machine.specs.Bank.{Word, word, word_of, value, up}
@@ -22,7 +22,7 @@ use Rattle.rom_law.proofs.Steps.{now_same}
 use Rattle.rom_law.proofs.Kept.{Comes, Holds}
 use Rattle.chip8_rows.specs.Heads.{high_byte, low_byte, page_of, Entered, Enters}
 use Rattle.chip8_rows.specs.ArithBlocks.ArithBlock.{Unknown82}
-use Rattle.chip8_rows.specs.KeyBlocks.{skip_code, skip_key, skip_label, skip_test_label, no_skip_label, Skipping}
+use Rattle.chip8_rows.specs.KeyBlocks.{skip_code, skip_key, skip_label, skip_test_label, no_skip_label, skip_time, Skipping}
 use Rattle.chip8_rows.specs.KeyBlocks.KeyBlock.{KeySkip, KeySkipUp, SkipLatch, NoSkip, Skip}
 use Rattle.chip8_rows.specs.KeyBlocks.KeyPlace.{SkipTest}
 use Rattle.chip8_rows.specs.Table.{At, pieces}
@@ -80,7 +80,7 @@ module _ (e : Edition) (b : Machine) (h : Since) (f : FitsMachine b) where
   latched_is : {a : ℕ} → Entered (quick e) a b (now h) → read (both e) b.latch b.ram (value (word (page_of e) (240 + high % 16))) % 16 ≡ skip_key (now h)
   latched_is o = ap (λ y. y % 16) (v_get o.holds (value (word (page_of e) (240 + high % 16))) (high % 16) (omega (arith, variables_is e)) (omega arith))
 
-  pub skip_latch_comes : (down : Bool) → Enters (quick e) (skip_label down) 14 b (now h) → b.regs.x ≡ 6 → low ≡ skip_code down → h.spent ≤ 94 → Comes (quick e) (pieces (quick e)) (OfKey (SkipLatch down)) b h
+  pub skip_latch_comes : (down : Bool) → Enters (quick e) (skip_label down) 14 b (now h) → b.regs.x ≡ 6 → low ≡ skip_code down → h.spent ≡ skip_time down → Comes (quick e) (pieces (quick e)) (OfKey (SkipLatch down)) b h
   skip_latch_comes true o x kk spent = straight (OfKey (SkipLatch true)) o.entered.holds (pointing at_skip_down) (is_pointing o.entered x) _ (omega (arith, o.entered.holds.stack, stack_top_is e, page_fits e)) refl
       (λ h' g. to_key_place (quick e) g _ refl (SkipTest true) (record { holds = o.entered.holds; inside = o.entered.inside; p = refl; r3 = refl; r4 = refl; digit = o.digit; low = kk }, latched_is o.entered) (omega (arith, spent, g.spent)))
   skip_latch_comes false o x kk spent = straight (OfKey (SkipLatch false)) o.entered.holds (pointing at_skip_up) (is_pointing o.entered x) _ (omega (arith, o.entered.holds.stack, stack_top_is e, page_fits e)) refl
@@ -103,7 +103,7 @@ module _ (e : Edition) (b : Machine) (h : Since) (f : FitsMachine b) where
   opposite true u k = ap not k
   opposite false u k = ap not k
 
-  pub skip_test_holds : (down : Bool) → Skipping (quick e) down (skip_test_label down) b (now h) → b.key ≡ skip_key (now h) → At (quick e) (AtKey (SkipTest down)) b h → h.spent ≤ 96 → Holds (quick e) (pieces (quick e)) (AtKey (SkipTest down)) b h
+  pub skip_test_holds : (down : Bool) → Skipping (quick e) down (skip_test_label down) b (now h) → b.key ≡ skip_key (now h) → At (quick e) (AtKey (SkipTest down)) b h → h.spent ≡ skip_time down + 2 → Holds (quick e) (pieces (quick e)) (AtKey (SkipTest down)) b h
   skip_test_holds true o key at spent = alone_forks (AtKey (SkipTest true)) f at o.holds (on_3 (skip_test_label true) b) (is_on_3 (skip_test_label true) b o.p o.r3) refl refl gone (λ u. u.held b.key) at_key_yes (no_skip_label true) (λ u. refl)
       (λ u k. to_key (quick e) (one_more u h) _ refl (Skip true) (skips_on at_key_yes o, found u true key k) (omega (arith, spent)))
       (λ u k. to_key (quick e) (one_more u h) _ refl (NoSkip true) (skips_on (no_skip_label true) o, found u false key k) (omega (arith, spent)))
