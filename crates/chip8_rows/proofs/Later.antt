@@ -1,6 +1,6 @@
 -- What is known at the entry of a routine outlasts ticks.
 use Rattle.std.proofs.Common.{◌≡◌, ℕ, zero, suc, ◌+◌, ◌/◌, ◌%◌, refl, sym, ◌∙◌, ap, subst}
-use Rattle.machine.specs.Bank.{word}
+use Rattle.machine.specs.Bank.{word, value}
 use Rattle.machine.specs.Board.{Machine}
 use Rattle.machine.specs.Ranges.{FitsMachine}
 use Rattle.chip8_lang.specs.declared.view.Edition.{Edition}
@@ -12,6 +12,7 @@ use Rattle.rom_law.specs.Program.{Program, code}
 use Rattle.rom_law.specs.Holding.{places, Holding}
 use Rattle.rom_law.proofs.Later.{holding_after}
 use Rattle.chip8_rows.specs.Heads.{high_byte, low_byte, page_of, Entered, Enters}
+use Rattle.chip8_rows.specs.SpriteBlocks.{Clearing, cleared_to}
 use Rattle.chip8_rows.specs.TimerBlocks.{Mixes}
 
 -- ticks leave pc and the opcode
@@ -34,6 +35,10 @@ ticks_low (suc n) s = ticks_low n s
 pub ticks_variable : (n k : ℕ) (s : Lang) → variable (ticks n s) k ≡ variable s k
 ticks_variable zero k s = refl
 ticks_variable (suc n) k s = ticks_variable n k s
+
+ticks_cleared : (n m : ℕ) (s : Lang) → ticks n (cleared_to m s) ≡ cleared_to m (ticks n s)
+ticks_cleared zero m s = refl
+ticks_cleared (suc n) m s = ap tick (ticks_cleared n m s)
 
 module _ (x : Program) (n : ℕ) {b c : Machine} (k : After (code x).low n b c) (f : FitsMachine b) (s : Lang) where
   pub entered_later : (a : ℕ) → Entered x a b s → Entered x a c (ticks n s)
@@ -58,3 +63,16 @@ module _ (x : Program) (n : ℕ) {b c : Machine} (k : After (code x).low n b c) 
 
   pub mixes_later : Mixes b → Mixes c
   mixes_later o = record { rd = ap (λ (z : Machine). z.regs.r.rd) k.is ∙ o.rd; x = ap (λ (z : Machine). z.regs.x) k.is ∙ o.x }
+
+  pub clearing_later : (a m : ℕ) → Clearing x a m b s → Clearing x a m c (ticks n s)
+  clearing_later a m o =
+      record {
+        holds = subst (Holding x (places c)) (ticks_cleared n m s) (holding_after x n b c (cleared_to m s) k o.holds f.regs.r.r9);
+        inside = ticks_fetchable x.edition n s ∙ o.inside;
+        clears = (ticks_high n s ∙ o.clears.0, ticks_low n s ∙ o.clears.1);
+        p = ap (λ (z : Machine). z.regs.p) k.is ∙ o.p;
+        r3 = ap (λ (z : Machine). z.regs.r.r3) k.is ∙ o.r3;
+        r4 = ap (λ (z : Machine). z.regs.r.r4) k.is ∙ o.r4;
+        pointer = ap (λ (z : Machine). z.regs.x) k.is ∙ o.pointer;
+        rd = ap (λ (z : Machine). value z.regs.r.rd + 1) k.is ∙ o.rd;
+      }

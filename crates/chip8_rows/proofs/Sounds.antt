@@ -1,6 +1,6 @@
 -- The table is such that each group can be proved apart: each block has an instruction, and what is known at a place outlasts ticks. So a
 -- block's rows are kept by main moves where the block comes to what it should.
-use Rattle.std.proofs.Common.{◌≡◌, ℕ, ◌<◌, arith, subst, ◌∙◌, false}
+use Rattle.std.proofs.Common.{◌≡◌, ℕ, ◌<◌, arith, subst, sym, ◌∙◌, true, false}
 use Rattle.machine.specs.Board.{Machine}
 use Rattle.machine.specs.Ranges.{FitsMachine}
 use Rattle.chip8_lang.specs.declared.view.Edition.{Edition}
@@ -9,10 +9,10 @@ use Rattle.rom_moves.specs.Later.{After}
 use Rattle.rom_law.specs.Program.{code}
 use Rattle.rom_law.specs.Rows.{Since, now, after_ticks}
 use Rattle.rom_law.proofs.Language.{ticks_add}
-use Rattle.rom_law.proofs.Kept.{Comes, Holds, Sound, block_moves, place_moves}
+use Rattle.rom_law.proofs.Kept.{Comes, Holds, Sound, block_moves, place_moves, place_ticks}
 use Rattle.chip8_rows.specs.Rom.{image, program_of}
 use Rattle.chip8_rows.specs.Heads.{Time, Within}
-use Rattle.chip8_rows.specs.Heads.Time.{Exactly, AtMost}
+use Rattle.chip8_rows.specs.Heads.Time.{Exactly, AtMost, Waited}
 use Rattle.chip8_rows.specs.FetchBlocks.{FetchBlock, fetch_moves}
 use Rattle.chip8_rows.specs.FetchBlocks.FetchBlock.{Fetch, Upper, Inside, Outside, Misc, Unknown83, Leave, Stop, Stopped}
 use Rattle.chip8_rows.specs.JumpBlocks.{JumpBlock, jump_moves}
@@ -22,18 +22,19 @@ use Rattle.chip8_rows.specs.ArithBlocks.ArithBlock.{Load, Add, SkipEq, SkipNe, S
 use Rattle.chip8_rows.specs.Checks.Answer.{InGame, InFont, Nowhere}
 use Rattle.chip8_rows.specs.MemoryBlocks.{MemoryBlock, memory_moves}
 use Rattle.chip8_rows.specs.MemoryBlocks.MemoryBlock.{Index, AddIndex, Digit, Check, CheckGame, CheckFont, CheckLow, Answering, Decimal, DecimalFound, Hundreds, HundredsEnd, Tens, TensEnd, Store, StoreFound, StoreByte, StoreEnd, Restore, RestoreFound, RestoreByte, RestoreEnd}
-use Rattle.chip8_rows.specs.SpriteBlocks.{SpriteBlock, sprite_moves}
-use Rattle.chip8_rows.specs.SpriteBlocks.SpriteBlock.{Draw, DrawFound, Clear}
+use Rattle.chip8_rows.specs.SpriteBlocks.{SpriteBlock, SpritePlace, sprite_moves, sprite_place_at, sprite_place_time}
+use Rattle.chip8_rows.specs.SpriteBlocks.SpriteBlock.{Clear, Wipe, Wipe3, Wipe6, Wiped, Cleared, Draw, DrawFound}
+use Rattle.chip8_rows.specs.SpriteBlocks.SpritePlace.{ClearWait, ClearIdle}
 use Rattle.chip8_rows.specs.TimerBlocks.{TimerBlock, TimerPlace, timer_moves, timer_place_at, timer_place_time}
 use Rattle.chip8_rows.specs.TimerBlocks.TimerBlock.{Random, RandomMix, GetDelayPut, SetDelay, SetDelayEnd, SetSound, SetSoundEnd}
 use Rattle.chip8_rows.specs.TimerBlocks.TimerPlace.{RandomCount, GetDelay, SetDelayPut, SetSoundPut}
 use Rattle.chip8_rows.specs.KeyBlocks.{KeyBlock, key_moves}
 use Rattle.chip8_rows.specs.KeyBlocks.KeyBlock.{KeySkip, WaitKey}
-use Rattle.chip8_rows.specs.Table.{Block, Place, Head, At, moves, pieces, BlockRows, PlaceRows}
+use Rattle.chip8_rows.specs.Table.{Block, Place, Head, At, moves, pieces, BlockRows, PlaceRows, AwakeRows, TickRows}
 use Rattle.chip8_rows.specs.Table.Block.{OfFetch, OfJump, OfArith, OfMemory, OfSprite, OfTimer, OfKey}
-use Rattle.chip8_rows.specs.Table.Place.{AtTimer}
+use Rattle.chip8_rows.specs.Table.Place.{AtTimer, AtSprite}
 use Rattle.chip8_rows.proofs.Bytes.{both_is, both_fits, quick}
-use Rattle.chip8_rows.proofs.Later.{enters_later, ticks_low, loaded_later, mixes_later}
+use Rattle.chip8_rows.proofs.Later.{enters_later, ticks_low, loaded_later, mixes_later, clearing_later}
 
 fetch_some : (l : FetchBlock) → 0 < fetch_moves l
 fetch_some Fetch = omega arith
@@ -108,9 +109,14 @@ memory_some (RestoreByte k) = omega arith
 memory_some RestoreEnd = omega arith
 
 sprite_some : (l : SpriteBlock) → 0 < sprite_moves l
+sprite_some Clear = omega arith
+sprite_some (Wipe k) = omega arith
+sprite_some (Wipe3 k) = omega arith
+sprite_some (Wipe6 k) = omega arith
+sprite_some (Wiped k) = omega arith
+sprite_some Cleared = omega arith
 sprite_some Draw = omega arith
 sprite_some (DrawFound answer) = omega arith
-sprite_some Clear = omega arith
 
 timer_some : (l : TimerBlock) → 0 < timer_moves l
 timer_some Random = omega arith
@@ -138,19 +144,28 @@ some (OfKey l) = key_some l
 within_later : (t : Time) (h : Since) (n : ℕ) → Within t h → Within t (after_ticks n h)
 within_later (Exactly m) h n w = w
 within_later (AtMost m) h n w = w
+within_later (Waited m) h n w = (w.0, omega (arith, w.1))
 
 module _ (e : Edition) where
-  later : (l : Place) (b : Machine) (h : Since) → FitsMachine b → At (quick e) l b h → (n : ℕ) (c : Machine) → After (code (quick e)).low n b c → At (quick e) l c (after_ticks n h)
-  later (AtTimer l) b h f o n c k = (subst (timer_place_at (quick e) l c) (ticks_add n h.ticks h.state) (timer_later l o.0), within_later (timer_place_time l) h n o.1)
+  later : (l : Place) (b : Machine) (h : Since) → FitsMachine b → At (quick e) l b h → b.regs.idle ≡ false → (n : ℕ) (c : Machine) → After (code (quick e)).low n b c → At (quick e) l c (after_ticks n h)
+  later (AtTimer l) b h f o i n c k = (subst (timer_place_at (quick e) l c) (ticks_add n h.ticks h.state) (timer_later l o.0), within_later (timer_place_time l) h n o.1)
     where
       timer_later : (l : TimerPlace) → timer_place_at (quick e) l b (now h) → timer_place_at (quick e) l c (ticks n (now h))
       timer_later RandomCount p = (enters_later (quick e) n k f (now h) _ _ p.0, mixes_later (quick e) n k f (now h) p.1)
       timer_later GetDelay p = (enters_later (quick e) n k f (now h) _ _ p.0, ticks_low n (now h) ∙ p.1)
       timer_later SetDelayPut p = (enters_later (quick e) n k f (now h) _ _ p.0, ticks_low n (now h) ∙ p.1, loaded_later (quick e) n k f (now h) p.2)
       timer_later SetSoundPut p = (enters_later (quick e) n k f (now h) _ _ p.0, ticks_low n (now h) ∙ p.1, loaded_later (quick e) n k f (now h) p.2)
+  later (AtSprite l) b h f o i n c k = (subst (sprite_place_at (quick e) l c) (ticks_add n h.ticks h.state) (sprite_later l o.0), within_later (sprite_place_time l) h n o.1)
+    where
+      asleep : true ≡ false → ⊥
+      asleep r = cc
+
+      sprite_later : (l : SpritePlace) → sprite_place_at (quick e) l b (now h) → sprite_place_at (quick e) l c (ticks n (now h))
+      sprite_later ClearWait p = clearing_later (quick e) n k f (now h) _ _ p
+      sprite_later ClearIdle p = absurd (asleep (sym p.1 ∙ i))
 
   pub sound : Sound (quick e) (pieces (quick e))
-  sound = record { rom = both_fits e; some = λ l b h f head. some l; later = λ l b h f at i n c k. later l b h f at n c k }
+  sound = record { rom = both_fits e; some = λ l b h f head. some l; later = later }
 
   -- the rows of a block, where each machine at its head comes to what it should
   pub block_rows : (l : Block) → ((b : Machine) (h : Since) → FitsMachine b → Head (quick e) l b h → Comes (quick e) (pieces (quick e)) l b h) → BlockRows (program_of e (image e)) l
@@ -159,3 +174,11 @@ module _ (e : Edition) where
   -- the rows of a place, where each machine at it comes to what it should
   pub place_rows : (l : Place) → ((b : Machine) (h : Since) → FitsMachine b → At (quick e) l b h → Holds (quick e) (pieces (quick e)) l b h) → ((b : Machine) (h : Since) → At (quick e) l b h → b.regs.idle ≡ false) → PlaceRows (program_of e (image e)) l
   place_rows l holds awake = subst (λ rom. PlaceRows (program_of e rom) l) (both_is e) (λ u b h f at. place_moves (quick e) (pieces (quick e)) sound l b h f (holds b h f at) (awake b h at) u)
+
+  -- the rows of a place, where each machine at it comes to what it should
+  pub awake_rows : (l : Place) → ((b : Machine) (h : Since) → FitsMachine b → At (quick e) l b h → Holds (quick e) (pieces (quick e)) l b h) → AwakeRows (program_of e (image e)) l
+  awake_rows l holds = subst (λ rom. AwakeRows (program_of e rom) l) (both_is e) (λ u b h f i at. place_moves (quick e) (pieces (quick e)) sound l b h f (holds b h f at) i u)
+
+  -- and ticks there
+  pub tick_rows : (l : Place) → ((b : Machine) (h : Since) → FitsMachine b → At (quick e) l b h → Holds (quick e) (pieces (quick e)) l b h) → TickRows (program_of e (image e)) l
+  tick_rows l holds = subst (λ rom. TickRows (program_of e rom) l) (both_is e) (λ b c h f k at. place_ticks (quick e) (pieces (quick e)) sound l b c h f k at (holds b h f at))

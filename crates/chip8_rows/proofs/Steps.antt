@@ -1,5 +1,5 @@
 -- What the block lemmas of all groups use: the step at the end of a routine.
-use Rattle.std.proofs.Common.{◌≡◌, ℕ, zero, suc, refl, sym, ◌∙◌, ap, subst, Bool, true, false, cond}
+use Rattle.std.proofs.Common.{◌≡◌, ℕ, zero, suc, ◌≤◌, arith, refl, sym, ◌∙◌, ap, subst, Bool, true, false, cond}
 use Rattle.std.specs.Prelude.{Some, None}
 use Rattle.machine.specs.Bank.{word_of}
 use Rattle.machine.specs.Board.{Machine}
@@ -58,16 +58,32 @@ no_wait (Draw x y m) k n = cc
 no_wait _ k n = tt
 
 -- The step was made: the instruction i of a state that doesn't stop has left its result z in the places, and the machine is at the fetch.
-module _ (e : Edition) {k : ℕ} {h h' : Since} (g : Grows h k 0 h') (i : Instr) (is : instr_at (now h) ≡ i) (prompt : is_prompt i ≡ true) (runs : stop_of e (now h) ≡ None) where
+module _ (e : Edition) {k : ℕ} {h h' : Since} (g : Grows h k 0 h') (i : Instr) (is : instr_at (now h) ≡ i) (runs : stop_of e (now h) ≡ None) where
   no_stop : stop_of e h'.state ≡ None
   no_stop = ap (stop_of e) g.state ∙ sym (stop_ticks e h.ticks h.state) ∙ runs
 
   stepped : done_by e i Nothing (now h) ≡ step e Nothing (now h')
   stepped = ap (λ j. done_by e j Nothing (now h)) (sym is) ∙ ap (step e Nothing) (sym (now_same g))
 
-  pub steps : (c : Machine) → Holding (quick e) (places c) (done_by e i Nothing (now h)) → c.regs.p ≡ 4 → c.regs.r.r4 ≡ word_of at_fetch → Ends (quick e) (pieces (quick e)) c h'
-  steps c o p r4 = Steps (step e Nothing (now h')) (record {
+  stepping : Allows i h'.state h'.keys Nothing → WaitsWell i h'.ticks 0 → (c : Machine) → Holding (quick e) (places c) (done_by e i Nothing (now h)) → c.regs.p ≡ 4 → c.regs.r.r4 ≡ word_of at_fetch → Ends (quick e) (pieces (quick e)) c h'
+  stepping allowed waits c o p r4 = Steps (step e Nothing (now h')) (record {
     runs = no_stop;
-    between = step_made e h' i Nothing no_stop (sym (instr_now h') ∙ ap instr_at (now_same g) ∙ is) (keyless i prompt h') (no_wait i prompt h'.ticks);
+    between = step_made e h' i Nothing no_stop (sym (instr_now h') ∙ ap instr_at (now_same g) ∙ is) allowed waits;
     stands = record { keeps = keeping (quick e) c (step e Nothing (now h')) (subst (Holding (quick e) (places c)) stepped o); p = p; r4 = r4 };
   })
+
+-- for an instruction that takes no key and doesn't wait
+module _ (e : Edition) {k : ℕ} {h h' : Since} (g : Grows h k 0 h') (i : Instr) (is : instr_at (now h) ≡ i) (prompt : is_prompt i ≡ true) (runs : stop_of e (now h) ≡ None) where
+  pub steps : (c : Machine) → Holding (quick e) (places c) (done_by e i Nothing (now h)) → c.regs.p ≡ 4 → c.regs.r.r4 ≡ word_of at_fetch → Ends (quick e) (pieces (quick e)) c h'
+  steps c o p r4 = stepping e g i is runs (keyless i prompt h') (no_wait i prompt h'.ticks) c o p r4
+
+-- for 00E0 and DXYN, where a tick came
+module _ (e : Edition) {k : ℕ} {h h' : Since} (g : Grows h k 0 h') (tick : 1 ≤ h.ticks) (runs : stop_of e (now h) ≡ None) where
+  waited : 1 ≤ h'.ticks
+  waited = omega (arith, tick, g.ticks)
+
+  pub clears : instr_at (now h) ≡ Clear → (c : Machine) → Holding (quick e) (places c) (done_by e Clear Nothing (now h)) → c.regs.p ≡ 4 → c.regs.r.r4 ≡ word_of at_fetch → Ends (quick e) (pieces (quick e)) c h'
+  clears is c o p r4 = stepping e g Clear is runs tt (waited, refl) c o p r4
+
+  pub draws : {x y n : ℕ} → instr_at (now h) ≡ Draw x y n → (c : Machine) → Holding (quick e) (places c) (done_by e (Draw x y n) Nothing (now h)) → c.regs.p ≡ 4 → c.regs.r.r4 ≡ word_of at_fetch → Ends (quick e) (pieces (quick e)) c h'
+  draws {x = x} {y = y} {n = n} is c o p r4 = stepping e g (Draw x y n) is runs tt (waited, refl) c o p r4

@@ -16,14 +16,17 @@ use Rattle.rom_law.specs.Holding.{places, Holding}
 
 -- ---- time
 
--- the main cycles from the dispatch to a head: so many for every opcode, or so many at most
+-- the main cycles from the dispatch to a head: so many for every opcode, so many at most, or so many at most behind a wait, where a
+-- tick has come
 pub data Time : Type 0 where
   Exactly : ℕ → Time
   AtMost : ℕ → Time
+  Waited : ℕ → Time
 
 abbrev pub Within : Time → Since → Type 0
 Within (Exactly n) h = h.spent ≡ n
 Within (AtMost n) h = h.spent ≤ n
+Within (Waited n) h = (h.spent ≤ n) × (1 ≤ h.ticks)
 
 -- ---- addresses
 

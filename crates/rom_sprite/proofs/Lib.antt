@@ -1,0 +1,3 @@
+pub mod Screen
+pub mod Waits
+pub mod Clear
