@@ -1,3 +1,7 @@
 pub mod Screen
 pub mod Waits
 pub mod Clear
+pub mod Bits
+pub mod Bytes
+pub mod Dots
+pub mod Aim
