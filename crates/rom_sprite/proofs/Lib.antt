@@ -5,3 +5,4 @@ pub mod Bits
 pub mod Bytes
 pub mod Dots
 pub mod Aim
+pub mod Prepare
