@@ -17,7 +17,7 @@ use Rattle.rom_moves.specs.Code.{is_event}
 use Rattle.rom_moves.proofs.Moves.{AllGood, quicks, written_is}
 use Rattle.rom_law.specs.Program.{Program, code}
 use Rattle.rom_law.specs.Holding.{Places, places, Holding}
-use Rattle.rom_law.specs.Rows.{Since, now}
+use Rattle.rom_law.specs.Rows.{Since, Grows, Ends, now}
 use Rattle.rom_law.proofs.Places.{work_set}
 use Rattle.rom_law.proofs.Kept.{Comes}
 use Rattle.chip8_rows.specs.Heads.{page_of, low_byte}
@@ -148,3 +148,137 @@ module _ (e : Edition) (b : Machine) (h : Since) (f : FitsMachine b) (r : ℕ) w
             (λ h' g. to_sprite (quick e) g _ refl (Shifted r) (goes_on at_shifted, inside, subst (λ j. Shifting r j (loaded (word_of at_shifted)) (now h)) z (none_yet at_shifted)) (omega (arith, spent, g.spent)))
         go (inr z) = straight (OfSprite (RowByte r)) o.holds (on_3 at_row_byte b) (is_on_3 at_row_byte b o.p o.r3) (loaded (word_of (at_shift7 + 6 * (7 - k)))) steady (entered_at (at_shift7 + 6 * (7 - k)) refl)
             (λ h' g. to_sprite (quick e) g _ (no_stop (at_shift7 + 6 * (7 - k)) refl) (Shift r k) (goes_on (at_shift7 + 6 * (7 - k)), inside, none_yet (at_shift7 + 6 * (7 - k)), omega (arith, z), omega arith) (omega (arith, spent, g.spent)))
+
+  -- ---- a shift
+
+  abbrev hi : ℕ
+  hi = b.regs.r.rc.hi
+
+  abbrev lo : ℕ
+  lo = b.regs.r.rc.lo
+
+  -- the machine after it
+  abbrev halved : ℕ → Machine
+  halved a = record (on_3 a b) { regs = record (on_3 a b).regs { d = lo / 2 + 128 * (hi % 2); df = lo % 2; r = record (on_3 a b).regs.r { rc = word (hi / 2) (lo / 2 + 128 * (hi % 2)) } } }
+
+  module _ (j : ℕ) (o : Preparing (quick e) (at_shift7 + 6 * (7 - suc j)) r r (r + 1) b (now h)) (inside : r < rows) (shifts : Shifting r (suc j) b (now h)) (few : suc j ≤ k) (spent : h.spent ≤ 284 + 124 * r + 12 * (7 - suc j)) where
+    one_less : Shifting r j (halved at_shifted) (now h)
+    one_less = half ∙ ap (λ m. m / 2 ^ 1) shifts ∙ shr-shr (byte_of * 256) (k - suc j) 1 ∙ ap (λ z. byte_of * 256 / 2 ^ z) fewer
+      where
+        half : hi / 2 * 256 + (lo / 2 + 128 * (hi % 2)) ≡ (hi * 256 + lo) / 2 ^ 1
+        half = omega (arith, f.regs.r.rc.lo)
+
+        fewer : k - suc j + 1 ≡ k - j
+        fewer = omega (arith, few)
+
+    moves_on : (a : ℕ) → Preparing (quick e) a r r (r + 1) (halved a) (now h)
+    moves_on a = record { draws = o.draws; holds = o.holds; prepared = record { lefts = o.prepared.lefts; rights = o.prepared.rights }; p = refl; r3 = refl; r4 = o.r4; entry = o.entry; place = o.place; rows = o.rows; count = o.count; r7 = o.r7; rd = o.rd }
+
+    -- where a shift is computed
+    shifting : AllGood (code (quick e)) 6 (on_3 (at_shift7 + 6 * (7 - suc j)) b) → quicks (code (quick e)) 6 (on_3 (at_shift7 + 6 * (7 - suc j)) b) ≡ halved (at_shift7 + 6 * (7 - j)) → is_event (code (quick e)) (halved (at_shift7 + 6 * (7 - j))) ≡ false → Comes (quick e) (pieces (quick e)) (OfSprite (Shift r (suc j))) b h
+    shifting good runs calm = straight (OfSprite (Shift r (suc j))) o.holds (on_3 (at_shift7 + 6 * (7 - suc j)) b) (is_on_3 (at_shift7 + 6 * (7 - suc j)) b o.p o.r3) (halved (at_shift7 + 6 * (7 - j))) good runs
+        (λ h' g. go (cases_eq j 0) h' g)
+      where
+        go : (j ≡ 0) ⊎ (j ≡ 0 → ⊥) → (h' : Since) → Grows h 6 0 h' → Ends (quick e) (pieces (quick e)) (halved (at_shift7 + 6 * (7 - j))) h'
+        go (inl z) h' g = to_sprite (quick e) g _ calm (Shifted r) (subst (λ i. Preparing (quick e) at_shifted r r (r + 1) (halved i) (now h)) last (moves_on at_shifted), inside, subst (λ i. Shifting r i (halved at_shifted) (now h)) z one_less) (omega (arith, spent, g.spent, z))
+          where
+            last : at_shifted ≡ at_shift7 + 6 * (7 - j)
+            last = omega (arith, z)
+        go (inr z) h' g = to_sprite (quick e) g _ calm (Shift r j) (moves_on (at_shift7 + 6 * (7 - j)), inside, one_less, omega (arith, z), omega (arith, few)) (omega (arith, spent, g.spent, few))
+
+  pub shift_comes : (j : ℕ) → Preparing (quick e) (at_shift7 + 6 * (7 - j)) r r (r + 1) b (now h) → r < rows → Shifting r j b (now h) → 0 < j → j ≤ k → h.spent ≤ 284 + 124 * r + 12 * (7 - j) → Comes (quick e) (pieces (quick e)) (OfSprite (Shift r j)) b h
+  shift_comes zero o inside s some few spent = absurd (omega (arith, some))
+  shift_comes (suc zero) o inside s some few spent = shifting 0 o inside s few spent (omega arith) refl refl
+  shift_comes (suc (suc zero)) o inside s some few spent = shifting 1 o inside s few spent (omega arith) refl refl
+  shift_comes (suc (suc (suc zero))) o inside s some few spent = shifting 2 o inside s few spent (omega arith) refl refl
+  shift_comes (suc (suc (suc (suc zero)))) o inside s some few spent = shifting 3 o inside s few spent (omega arith) refl refl
+  shift_comes (suc (suc (suc (suc (suc zero))))) o inside s some few spent = shifting 4 o inside s few spent (omega arith) refl refl
+  shift_comes (suc (suc (suc (suc (suc (suc zero)))))) o inside s some few spent = shifting 5 o inside s few spent (omega arith) refl refl
+  shift_comes (suc (suc (suc (suc (suc (suc (suc zero))))))) o inside s some few spent = shifting 6 o inside s few spent (omega arith) refl refl
+  shift_comes (suc (suc (suc (suc (suc (suc (suc (suc j)))))))) o inside s some few spent = absurd (omega (arith, few))
+
+  -- ---- the two bytes of the row
+
+  abbrev first : ℕ
+  first = value (word (page_of e) (0xd0 + (r + r)))
+
+  abbrev last_column : ℕ
+  last_column = bit_xor (bit_and b.regs.r.rb.lo 7) 7
+
+  abbrev stored : Word → Machine
+  stored = on_at (quicks (code (quick e)) 7 (preparing e at_shifted (r + r) b))
+
+  module _ (o : Preparing (quick e) at_shifted r r (r + 1) b (now h)) (inside : r < rows) (shifts : Shifting r 0 b (now h)) where
+    word_is : hi * 256 + lo ≡ shifted (column (now h)) byte_of
+    word_is = shifts ∙ ap (λ z. byte_of * 256 / 2 ^ z) all
+      where
+        all : k - 0 ≡ k
+        all = omega arith
+
+    left_is : hi ≡ left (column (now h)) byte_of
+    left_is = omega (arith, word_is, f.regs.r.rc.lo)
+
+    column_is : bit_and b.regs.r.rb.lo 7 ≡ column (now h) / 8
+    column_is = and_mask b.regs.r.rb.lo 3 ∙ omega (arith, o.place, screen_is e)
+
+    at_edge_of : (last_column == 0) ≡ true → column (now h) / 8 ≡ 7
+    at_edge_of z = sym column_is ∙ xor_same (bit_and b.regs.r.rb.lo 7) 7 z
+
+    before_edge : (last_column == 0) ≡ false → column (now h) / 8 ≡ 7 → ⊥
+    before_edge z y = xor_other (bit_and b.regs.r.rb.lo 7) 7 z (column_is ∙ y)
+
+    right_none : (last_column == 0) ≡ true → last_column ≡ right (column (now h)) byte_of
+    right_none z = rw (eq-eqb (column (now h) / 8) 7 (at_edge_of z)) (eqb-true last_column 0 z)
+
+    right_is : (last_column == 0) ≡ false → lo ≡ right (column (now h)) byte_of
+    right_is z = rw (ne_eqb (column (now h) / 8) 7 (before_edge z)) (omega (arith, word_is, f.regs.r.rc.lo))
+
+    first_there : first ≡ sprite_work e + 2 * r
+    first_there = omega (arith, work_is e)
+
+    first_small : first < 4096
+    first_small = omega (arith, inside, few_rows_drawn, page_fits e)
+
+    goes_left : (a : ℕ) → Preparing (quick e) a (r + 1) r (r + 1) (stored (word_of a)) (now h)
+    goes_left a = record { draws = o.draws; holds = work_set o.holds first hi (omega (arith, stack_top_is e)) (omega (arith, variables_is e, inside, few_rows_drawn)); prepared = record { lefts = lefts; rights = λ j l. get_other b.latch b.ram _ first hi o.holds.latch first_small (λ z. omega (arith, z, first_there)) ∙ o.prepared.rights j l }; p = refl; r3 = refl; r4 = refl; entry = o.entry; place = o.place; rows = o.rows; count = o.count; r7 = ap₂ word (omega (arith, inside, few_rows_drawn, page_fits e)) (omega (arith, inside, few_rows_drawn)); rd = o.rd }
+      where
+        lefts : (j : ℕ) → j < r + 1 → slice_index (stored (word_of a)).ram (sprite_work e + 2 * j) ≡ left (column (now h)) (sprite_row (now h) j)
+        lefts j l = go (cases_eq j r)
+          where
+            go : (j ≡ r) ⊎ (j ≡ r → ⊥) → slice_index (stored (word_of a)).ram (sprite_work e + 2 * j) ≡ left (column (now h)) (sprite_row (now h) j)
+            go (inl z) = get_same b.latch b.ram (sprite_work e + 2 * j) first hi o.holds.latch o.holds.size first_small (omega (arith, z, first_there)) ∙ left_is ∙ ap (λ i. left (column (now h)) (sprite_row (now h) i)) (sym z)
+            go (inr z) = get_other b.latch b.ram (sprite_work e + 2 * j) first hi o.holds.latch first_small (λ y. omega (arith, z, y, first_there)) ∙ o.prepared.lefts j (omega (arith, z, l))
+
+    pub shifted_comes : h.spent ≤ 368 + 124 * r → Comes (quick e) (pieces (quick e)) (OfSprite (Shifted r)) b h
+    shifted_comes spent = forks (OfSprite (Shifted r)) o.holds (preparing e at_shifted (r + r) b) (is_preparing o) stored (last_column == 0) at_row_store at_row_right (omega (arith, o.holds.stack, stack_top_is e)) refl
+        (λ z h' g. to_sprite (quick e) g _ refl (RowStore r) (goes_left at_row_store, inside, right_none z) (omega (arith, spent, g.spent)))
+        (λ z h' g. to_sprite (quick e) g _ refl (RowRight r) (goes_left at_row_right, inside, right_is z) (omega (arith, spent, g.spent)))
+
+  pub row_right_comes : Preparing (quick e) at_row_right (r + 1) r (r + 1) b (now h) → r < rows → lo ≡ right (column (now h)) byte_of → h.spent ≤ 382 + 124 * r → Comes (quick e) (pieces (quick e)) (OfSprite (RowRight r)) b h
+  row_right_comes o inside is spent = straight (OfSprite (RowRight r)) o.holds (on_3 at_row_right b) (is_on_3 at_row_right b o.p o.r3) _ (omega arith) refl
+      (λ h' g. to_sprite (quick e) g _ refl (RowStore r) (record { draws = o.draws; holds = o.holds; prepared = record { lefts = o.prepared.lefts; rights = o.prepared.rights }; p = refl; r3 = refl; r4 = o.r4; entry = o.entry; place = o.place; rows = o.rows; count = o.count; r7 = o.r7; rd = o.rd }, inside, is) (omega (arith, spent, g.spent)))
+
+  -- ---- the second one is stored
+
+  abbrev second : ℕ
+  second = value (word (page_of e) (0xd0 + (r + 1 + r)))
+
+  pub row_store_comes : Preparing (quick e) at_row_store (r + 1) r (r + 1) b (now h) → r < rows → b.regs.d ≡ right (column (now h)) byte_of → h.spent ≤ 384 + 124 * r → Comes (quick e) (pieces (quick e)) (OfSprite (RowStore r)) b h
+  row_store_comes o inside is spent = straight (OfSprite (RowStore r)) o.holds (preparing e at_row_store (r + 1 + r) b) (is_preparing o) ended (omega arith) refl
+      (λ h' g. to_sprite (quick e) g ended refl (Row (r + 1)) (record { draws = o.draws; holds = work_set o.holds second b.regs.d (omega (arith, stack_top_is e)) (omega (arith, variables_is e, inside, few_rows_drawn)); prepared = record { lefts = λ j l. get_other b.latch b.ram _ second b.regs.d o.holds.latch second_small (λ z. omega (arith, z, second_there)) ∙ o.prepared.lefts j l; rights = rights }; p = refl; r3 = refl; r4 = refl; entry = o.entry; place = o.place; rows = o.rows; count = o.count; r7 = ap₂ word (omega (arith, inside, few_rows_drawn, page_fits e)) (omega (arith, inside, few_rows_drawn)); rd = o.rd }, omega (arith, inside)) (omega (arith, spent, g.spent)))
+    where
+      ended : Machine
+      ended = quicks (code (quick e)) 3 (preparing e at_row_store (r + 1 + r) b)
+
+      second_there : second ≡ sprite_work e + 2 * r + 1
+      second_there = omega (arith, work_is e)
+
+      second_small : second < 4096
+      second_small = omega (arith, inside, few_rows_drawn, page_fits e)
+
+      rights : (j : ℕ) → j < r + 1 → slice_index ended.ram (sprite_work e + 2 * j + 1) ≡ right (column (now h)) (sprite_row (now h) j)
+      rights j l = go (cases_eq j r)
+        where
+          go : (j ≡ r) ⊎ (j ≡ r → ⊥) → slice_index ended.ram (sprite_work e + 2 * j + 1) ≡ right (column (now h)) (sprite_row (now h) j)
+          go (inl z) = get_same b.latch b.ram (sprite_work e + 2 * j + 1) second b.regs.d o.holds.latch o.holds.size second_small (omega (arith, z, second_there)) ∙ is ∙ ap (λ i. right (column (now h)) (sprite_row (now h) i)) (sym z)
+          go (inr z) = get_other b.latch b.ram (sprite_work e + 2 * j + 1) second b.regs.d o.holds.latch second_small (λ y. omega (arith, z, y, second_there)) ∙ o.prepared.rights j (omega (arith, z, l))
