@@ -53,7 +53,7 @@ screen_page : (e : Edition) → by_edition e 15 14 ≡ page_of e + 1
 screen_page Usual = refl
 screen_page Tall = refl
 
-below_rows : (e : Edition) (v : ℕ) → v % rows_of e < rows_of e
+pub below_rows : (e : Edition) (v : ℕ) → v % rows_of e < rows_of e
 below_rows Usual v = omega arith
 below_rows Tall v = omega arith
 

@@ -6,3 +6,5 @@ pub mod Bytes
 pub mod Dots
 pub mod Aim
 pub mod Prepare
+pub mod Pixels
+pub mod Paint

@@ -50,7 +50,7 @@ get_other latch ram i a y e l f = rw (e, written_is ram a y l) (get_or-set_other
 
 -- ---- the bytes of a sprite
 
-readable_row : (e : Edition) (a n r : ℕ) → r < n → (n == 0 || (is_in_memory e a n || is_in_font a n)) ≡ true → Readable e (a + r)
+pub readable_row : (e : Edition) (a n r : ℕ) → r < n → (n == 0 || (is_in_memory e a n || is_in_font a n)) ≡ true → Readable e (a + r)
 readable_row e a n r l h = some (or_cases (n == 0) _ h)
   where
     lies : (is_in_memory e a n ≡ true) ⊎ (is_in_font a n ≡ true) → Readable e (a + r)
