@@ -1,6 +1,6 @@
 -- DXYN up to its first row: the range check, the rows above the bottom edge, the place on the screen, and the entry of the shifts.
-use Rattle.std.proofs.Common.{◌≡◌, ℕ, ◌+◌, ◌-◌, ◌*◌, ◌/◌, ◌%◌, ◌<◌, ◌≤◌, ◌⊎◌, inl, inr, refl, sym, ◌∙◌, ap, ap₂, subst, arith, true, false, List, bit_and, cond}
-use Rattle.std.specs.Prelude.{◌==◌, ◌||◌, not, Some, None}
+use Rattle.std.proofs.Common.{◌≡◌, ℕ, ◌+◌, ◌-◌, ◌*◌, ◌/◌, ◌%◌, ◌<◌, ◌≤◌, refl, sym, ◌∙◌, ap, arith, true, false, bit_and}
+use Rattle.std.specs.Prelude.{◌==◌, ◌||◌, not, Some}
 use Rattle.std.proofs.lemmas.Bool.{eqb-true, eqb-false, eq-eqb, ne_eqb, or_right}
 use Rattle.std.proofs.lemmas.Nat.{and_mask}
 use Rattle.machine.specs.Bank.{Word, word, word_of, value}
@@ -10,34 +10,34 @@ use Rattle.machine.specs.Ranges.{FitsMachine}
 use Rattle.chip8_lang.specs.declared.view.Edition.{Edition}
 use Rattle.chip8_lang.specs.declared.view.Edition.TheVariants.{Usual, Tall}
 use Rattle.chip8_lang.specs.declared.view.Stop.TheVariants.{ReadOutside}
-use Rattle.chip8_lang.specs.Editions.{screen_start, rows_of, stack_top, variables}
+use Rattle.chip8_lang.specs.Editions.{rows_of}
 use Rattle.chip8_lang.specs.State.{Lang, variable, is_in_memory, is_in_font, is_fetchable}
-use Rattle.chip8_lang.specs.Step.{next, stop_of, number_of}
-use Rattle.chip8_image.specs.Labels.{at_fetch, at_draw, at_draw_check, at_draw_found, at_place, at_edge, at_fits, at_angle, at_begin, at_row, at_leave84}
+use Rattle.chip8_lang.specs.Step.{next, stop_of}
+use Rattle.chip8_image.specs.Labels.{at_fetch, at_draw, at_draw_check, at_draw_found, at_place, at_edge, at_fits, at_angle, at_begin}
 use Rattle.rom_moves.proofs.Moves.{quicks}
 use Rattle.rom_law.specs.Program.{Program, code}
 use Rattle.rom_law.specs.Holding.{Places, places, Holding}
 use Rattle.rom_law.specs.Rows.{Since, now}
 use Rattle.rom_law.proofs.Places.{memory_fits, v_get, i_is, work_set, work_get}
 use Rattle.rom_law.proofs.Kept.{Comes}
-use Rattle.chip8_rows.specs.Heads.{by_edition, high_byte, low_byte, page_of, Entered, Enters}
-use Rattle.chip8_rows.specs.Checks.{Calls, Called, Checked, Answer, answer_number, IsAnswer}
+use Rattle.chip8_rows.specs.Heads.{by_edition, high_byte, low_byte, page_of, Enters}
+use Rattle.chip8_rows.specs.Checks.{Calls, Checked, Answer, answer_number}
 use Rattle.chip8_rows.specs.Checks.Caller.{ForDraw}
 use Rattle.chip8_rows.specs.Checks.Answer.{InGame, InFont, Nowhere}
 use Rattle.chip8_rows.specs.FetchBlocks.FetchBlock.{Leave}
 use Rattle.chip8_rows.specs.MemoryBlocks.MemoryBlock.{Check}
-use Rattle.chip8_rows.specs.SpriteBlocks.{Draws, Aiming, Summing, Aimed, Prepared, Preparing, column, top, asked, height, corner, entry_of}
+use Rattle.chip8_rows.specs.SpriteBlocks.{Aiming, Summing, Aimed, top, asked, height, corner, entry_of}
 use Rattle.chip8_rows.specs.SpriteBlocks.SpriteBlock.{Draw, DrawCheck, DrawFound, Place, Edge, Fits, Angle, Begin, Row}
 use Rattle.chip8_rows.specs.Table.{pieces}
 use Rattle.chip8_rows.specs.Table.Block.{OfSprite}
 use Rattle.chip8_rows.proofs.Bits.{borrowed, not_borrowed}
 use Rattle.chip8_rows.proofs.Branches.{branch}
-use Rattle.chip8_rows.proofs.Bytes.{both, quick, memory_end_is, variables_is, stack_top_is, page_fits, page_low}
-use Rattle.chip8_rows.proofs.Entry.{entered, is_entered, is_inside}
+use Rattle.chip8_rows.proofs.Bytes.{both, quick, variables_is, stack_top_is, page_fits, page_low}
+use Rattle.chip8_rows.proofs.Entry.{entered, is_inside}
 use Rattle.chip8_rows.proofs.Follows.{to_fetch, to_memory, to_sprite}
 use Rattle.chip8_rows.proofs.Straight.{routine}
 use Rattle.chip8_rows.proofs.Ways.{straight, forks}
-use Rattle.rom_sprite.proofs.Screen.{screen_is, screen_ends, some_rows, few_rows}
+use Rattle.rom_sprite.proofs.Screen.{screen_is, few_rows}
 
 -- ---- the editions
 

@@ -1,12 +1,12 @@
 -- The dots of one byte, and sets of dots that are apart.
-use Rattle.std.proofs.Common.{◌≡◌, ℕ, ◌+◌, ◌-◌, ◌*◌, ◌/◌, ◌%◌, ◌<◌, ◌≤◌, refl, sym, ◌∙◌, ap, Bool, true, false, cond, not, ◌&&◌, ◌||◌, ◌==◌, ◌⊎◌, inl, inr, arith, nat_lt, bit_and, bit_xor, List, length, slice_index, slice_set, get_or-set_same, get_or-set_other, length-set}
+use Rattle.std.proofs.Common.{◌≡◌, ℕ, ◌+◌, ◌-◌, ◌*◌, ◌/◌, ◌%◌, ◌<◌, ◌≤◌, refl, sym, ◌∙◌, ap, Bool, true, false, not, ◌&&◌, ◌||◌, ◌==◌, ◌⊎◌, inl, inr, arith, nat_lt, bit_and, bit_xor, List, length, slice_index, slice_set, get_or-set_same, get_or-set_other}
 use Rattle.std.specs.Bool.{Decides}
 use Rattle.std.specs.Int.{bit_at}
 use Rattle.std.proofs.lemmas.List.{get_or_past}
-use Rattle.std.proofs.lemmas.Bool.{cases_lt, cases_eq, cases_Bool, and_parts, and_from, or_cases, or_left, or_right, eqb-true, eq-eqb, ne_eqb, ltb-true, lt-ltb, false_from_ne_true, false≢true, true≢false}
+use Rattle.std.proofs.lemmas.Bool.{cases_lt, cases_eq, cases_Bool, and_parts, and_from, or_cases, or_left, or_right, eqb-true, eq-eqb, ne_eqb, ltb-true, lt-ltb, false_from_ne_true}
 use Rattle.std.proofs.lemmas.Bool.Decides.{same_from_decides}
 use Rattle.std.proofs.lemmas.Nat.Bits.{bit_at-zero}
-use Rattle.chip8_lang.specs.Screen.{Pixels, is_set, one_of, difference, either, meets, flag}
+use Rattle.chip8_lang.specs.Screen.{Pixels, is_set, one_of, difference, either, meets}
 use Rattle.chip8_lang.specs.Places.{pixels}
 use Rattle.chip8_rows.specs.Dots.{dots_of_byte}
 use Rattle.rom_sprite.proofs.Bits.{some_tells, xor_bit, and_tells}

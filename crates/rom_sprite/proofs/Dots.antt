@@ -1,11 +1,11 @@
 -- The dots of a sprite's rows are those of its bytes.
-use Rattle.std.proofs.Common.{◌≡◌, ℕ, zero, suc, ◌+◌, ◌-◌, ◌*◌, ◌/◌, ◌%◌, ◌<◌, ◌≤◌, refl, sym, ◌∙◌, ap, subst, Bool, true, false, ◌&&◌, ◌||◌, ◌==◌, ◌⊎◌, inl, inr, arith, nat_lt, List, length, slice_index}
+use Rattle.std.proofs.Common.{◌≡◌, ℕ, suc, ◌+◌, ◌-◌, ◌*◌, ◌/◌, ◌%◌, ◌<◌, ◌≤◌, refl, sym, ◌∙◌, ap, Bool, true, false, ◌&&◌, ◌||◌, ◌==◌, ◌⊎◌, inl, inr, arith, nat_lt}
 use Rattle.std.specs.Bool.{Decides}
-use Rattle.std.proofs.lemmas.Bool.{cases_lt, cases_eq, and_parts, and_from, or_cases, or_left, or_right, eqb-true, eq-eqb, ne_eqb, ltb-true, lt-ltb, false_from_ne_true, false≢true}
+use Rattle.std.proofs.lemmas.Bool.{cases_lt, cases_eq, and_parts, and_from, or_cases, or_left, or_right, eqb-true, eq-eqb, ne_eqb, ltb-true, lt-ltb}
 use Rattle.std.proofs.lemmas.Bool.Decides.{same_from_decides}
 use Rattle.std.proofs.lemmas.Nat.{shr_le}
 use Rattle.std.proofs.lemmas.Nat.Bits.{bit_at-zero}
-use Rattle.chip8_lang.specs.Screen.{Pixels, empty, is_set, either, meets, some_below, flag, dots_of_row, dots}
+use Rattle.chip8_lang.specs.Screen.{Pixels, is_set, either, some_below, dots_of_row, dots}
 use Rattle.chip8_rows.specs.Dots.{dots_of_byte, rows_drawn, shifted, left, right}
 use Rattle.rom_sprite.proofs.Bits.{some_tells, word_tells, word_upper, word_lower}
 use Rattle.rom_sprite.proofs.Bytes.{within, inside, Apart}

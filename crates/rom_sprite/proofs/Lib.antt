@@ -8,3 +8,5 @@ pub mod Aim
 pub mod Prepare
 pub mod Pixels
 pub mod Paint
+pub mod Law
+pub mod Addresses

@@ -1,33 +1,32 @@
 -- The rows of a sprite are prepared, one a turn.
-use Rattle.std.proofs.Common.{◌≡◌, ℕ, zero, suc, ◌+◌, ◌-◌, ◌*◌, ◌/◌, ◌%◌, ◌^◌, ◌<◌, ◌≤◌, ◌⊎◌, inl, inr, refl, sym, ◌∙◌, ap, ap₂, subst, arith, Bool, true, false, List, length, cond, slice_index, bit_and, get_or-set_same, get_or-set_other}
-use Rattle.std.specs.Prelude.{◌==◌, ◌||◌, bit_xor}
+use Rattle.std.proofs.Common.{◌≡◌, ℕ, zero, suc, ◌+◌, ◌-◌, ◌*◌, ◌/◌, ◌%◌, ◌^◌, ◌<◌, ◌≤◌, ◌⊎◌, inl, inr, refl, sym, ◌∙◌, ap, ap₂, subst, arith, Bool, true, false, List, length, slice_index, bit_and, get_or-set_same, get_or-set_other}
+use Rattle.std.specs.Prelude.{◌==◌, ◌||◌, nat_le, bit_xor}
 use Rattle.std.proofs.lemmas.Bool.{eqb-true, eqb-false, eq-eqb, ne_eqb, cases_eq, or_cases, and_parts, leb-true}
 use Rattle.std.proofs.lemmas.Nat.{and_mask, shr-shr}
-use Rattle.machine.specs.Bank.{Word, word, word_of, value, up, down}
+use Rattle.machine.specs.Bank.{Word, word, word_of, value}
 use Rattle.machine.specs.Memory.{read, written}
 use Rattle.machine.specs.Board.{Machine}
 use Rattle.machine.specs.Ranges.{FitsMachine}
 use Rattle.chip8_lang.specs.declared.view.Edition.{Edition}
 use Rattle.chip8_lang.specs.declared.view.Edition.TheVariants.{Usual, Tall}
-use Rattle.chip8_lang.specs.Editions.{memory_start, memory_end, font_start, font_end, screen_start, rows_of, stack_top, variables, sprite_work}
+use Rattle.chip8_lang.specs.Editions.{memory_start, memory_end, font_start, font_end, sprite_work}
 use Rattle.chip8_lang.specs.State.{Lang, is_in_memory, is_in_font}
-use Rattle.chip8_lang.specs.Step.{next, sprite_row}
+use Rattle.chip8_lang.specs.Step.{sprite_row}
 use Rattle.chip8_image.specs.Labels.{at_fetch, at_halt, at_row, at_row_byte, at_shift7, at_shifted, at_row_right, at_row_store, at_ready}
 use Rattle.rom_moves.specs.Code.{is_event}
 use Rattle.rom_moves.proofs.Moves.{AllGood, quicks, written_is}
-use Rattle.rom_law.specs.Program.{Program, code}
-use Rattle.rom_law.specs.Holding.{Places, places, Holding}
+use Rattle.rom_law.specs.Program.{code}
 use Rattle.rom_law.specs.Rows.{Since, Grows, Ends, now}
 use Rattle.rom_law.proofs.Places.{work_set}
 use Rattle.rom_law.proofs.Kept.{Comes}
-use Rattle.chip8_rows.specs.Heads.{page_of, low_byte}
+use Rattle.chip8_rows.specs.Heads.{page_of}
 use Rattle.chip8_rows.specs.Dots.{left, right, shifted}
-use Rattle.chip8_rows.specs.SpriteBlocks.{Draws, Prepared, Preparing, Shifting, column, asked, height, entry_of}
+use Rattle.chip8_rows.specs.SpriteBlocks.{Preparing, Shifting, column, asked, height}
 use Rattle.chip8_rows.specs.SpriteBlocks.SpriteBlock.{Row, RowByte, Shift, Shifted, RowRight, RowStore, Ready}
 use Rattle.chip8_rows.specs.Table.{pieces}
 use Rattle.chip8_rows.specs.Table.Block.{OfSprite}
 use Rattle.chip8_rows.proofs.Bits.{xor_same, xor_other}
-use Rattle.chip8_rows.proofs.Bytes.{both, quick, memory_end_is, variables_is, stack_top_is, page_fits, page_low}
+use Rattle.chip8_rows.proofs.Bytes.{both, quick, memory_end_is, variables_is, stack_top_is, page_fits}
 use Rattle.chip8_rows.proofs.Entry.{on_3, is_on_3}
 use Rattle.chip8_rows.proofs.Follows.{to_sprite}
 use Rattle.chip8_rows.proofs.Font.{Readable, readable_get}
@@ -54,8 +53,8 @@ pub readable_row : (e : Edition) (a n r : ℕ) → r < n → (n == 0 || (is_in_m
 readable_row e a n r l h = some (or_cases (n == 0) _ h)
   where
     lies : (is_in_memory e a n ≡ true) ⊎ (is_in_font a n ≡ true) → Readable e (a + r)
-    lies (inl y) = let p = and_parts _ _ y in inl (omega (arith, leb-true memory_start a p.0), omega (arith, leb-true (a + n) (memory_end e) p.1, l))
-    lies (inr y) = let p = and_parts _ _ y in inr (omega (arith, leb-true font_start a p.0), omega (arith, leb-true (a + n) font_end p.1, l))
+    lies (inl y) = let p = and_parts (nat_le memory_start a) (nat_le (a + n) (memory_end e)) y in inl (omega (arith, leb-true memory_start a p.0), omega (arith, leb-true (a + n) (memory_end e) p.1, l))
+    lies (inr y) = let p = and_parts (nat_le font_start a) (nat_le (a + n) font_end) y in inr (omega (arith, leb-true font_start a p.0), omega (arith, leb-true (a + n) font_end p.1, l))
 
     some : ((n == 0) ≡ true) ⊎ ((is_in_memory e a n || is_in_font a n) ≡ true) → Readable e (a + r)
     some (inl z) = absurd (omega (arith, eqb-true n 0 z, l))

@@ -5,3 +5,5 @@
 //! edges of the screen are this project's profile.
 #![tactic(auto)]
 
+
+pub mod laws;
