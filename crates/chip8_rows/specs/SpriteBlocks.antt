@@ -16,7 +16,7 @@ use Rattle.chip8_rows.specs.Heads.{Time, from, high_byte, low_byte, page_of, Ent
 use Rattle.chip8_rows.specs.Heads.Time.{Exactly, AtMost, Waited}
 use Rattle.chip8_rows.specs.Checks.{Answer, Checked}
 use Rattle.chip8_rows.specs.Checks.Caller.{ForDraw}
-use Rattle.chip8_rows.specs.Checks.Answer.{InGame, InFont, Nowhere}
+use Rattle.chip8_rows.specs.Checks.Answer.{Nowhere}
 use Rattle.chip8_rows.specs.Dots.{left, right, rows_drawn, dots_of_byte}
 
 pub data SpriteBlock : Type 0 where
