@@ -6,13 +6,14 @@ use Rattle.machine.specs.Ranges.{FitsMachine}
 use Rattle.chip8_lang.specs.declared.view.Edition.{Edition}
 use Rattle.chip8_lang.specs.Ticks.{ticks}
 use Rattle.rom_moves.specs.Later.{After}
+use Rattle.chip8_image.specs.Labels.{at_draw_wait}
 use Rattle.rom_law.specs.Program.{code}
 use Rattle.rom_law.specs.Rows.{Since, now, after_ticks}
 use Rattle.rom_law.proofs.Language.{ticks_add}
-use Rattle.rom_law.proofs.Kept.{Comes, Holds, Sound, block_moves, place_moves}
+use Rattle.rom_law.proofs.Kept.{Comes, Holds, Sound, block_moves, place_moves, place_ticks}
 use Rattle.chip8_rows.specs.Rom.{image, program_of}
 use Rattle.chip8_rows.specs.Heads.{Time, Within}
-use Rattle.chip8_rows.specs.Heads.Time.{Exactly, AtMost, Anytime}
+use Rattle.chip8_rows.specs.Heads.Time.{Exactly, AtMost, Anytime, Waited}
 use Rattle.chip8_rows.specs.FetchBlocks.{FetchBlock, fetch_moves}
 use Rattle.chip8_rows.specs.FetchBlocks.FetchBlock.{Fetch, Upper, Inside, Outside, Misc, Unknown83, Leave, Stop, Stopped}
 use Rattle.chip8_rows.specs.JumpBlocks.{JumpBlock, jump_moves}
@@ -22,19 +23,20 @@ use Rattle.chip8_rows.specs.ArithBlocks.ArithBlock.{Load, Add, SkipEq, SkipNe, S
 use Rattle.chip8_rows.specs.Checks.Answer.{InGame, InFont, Nowhere}
 use Rattle.chip8_rows.specs.MemoryBlocks.{MemoryBlock, memory_moves}
 use Rattle.chip8_rows.specs.MemoryBlocks.MemoryBlock.{Index, AddIndex, Digit, Check, CheckGame, CheckFont, CheckLow, Answering, Decimal, DecimalFound, Hundreds, HundredsEnd, Tens, TensEnd, Store, StoreFound, StoreByte, StoreEnd, Restore, RestoreFound, RestoreByte, RestoreEnd}
-use Rattle.chip8_rows.specs.SpriteBlocks.{SpriteBlock, sprite_moves}
-use Rattle.chip8_rows.specs.SpriteBlocks.SpriteBlock.{Draw, DrawFound, Clear}
+use Rattle.chip8_rows.specs.SpriteBlocks.{SpriteBlock, SpritePlace, sprite_moves, sprite_place_at, sprite_place_time}
+use Rattle.chip8_rows.specs.SpriteBlocks.SpriteBlock.{Clear, Wipe, Wipe3, Wipe6, Wiped, Cleared, Draw, DrawCheck, DrawFound, Place, Edge, Fits, Angle, Begin, Row, RowByte, Shift, Shifted, RowRight, RowStore, Ready, Line, LineLeft, LineRight, Drawn}
+use Rattle.chip8_rows.specs.SpriteBlocks.SpritePlace.{ClearWait, ClearIdle, DrawWait, DrawIdle}
 use Rattle.chip8_rows.specs.TimerBlocks.{TimerBlock, TimerPlace, timer_moves, timer_place_at, timer_place_time}
 use Rattle.chip8_rows.specs.TimerBlocks.TimerBlock.{Random, RandomMix, GetDelayPut, SetDelay, SetDelayEnd, SetSound, SetSoundEnd}
 use Rattle.chip8_rows.specs.TimerBlocks.TimerPlace.{RandomCount, GetDelay, SetDelayPut, SetSoundPut}
 use Rattle.chip8_rows.specs.KeyBlocks.{KeyBlock, KeyPlace, Last, key_moves, key_place_at, key_place_time}
 use Rattle.chip8_rows.specs.KeyBlocks.KeyBlock.{KeySkip, KeySkipUp, SkipLatch, NoSkip, Skip as KeyYes, WaitKey, KeyNext, KeyCount, KeyFreed}
 use Rattle.chip8_rows.specs.KeyBlocks.KeyPlace.{SkipTest, KeyTest, KeyHeld}
-use Rattle.chip8_rows.specs.Table.{Block, Place, Head, At, moves, pieces, BlockRows, PlaceRows}
+use Rattle.chip8_rows.specs.Table.{Block, Place, Head, At, moves, pieces, BlockRows, PlaceRows, Place as AnyPlace, AwakeRows, TickRows}
 use Rattle.chip8_rows.specs.Table.Block.{OfFetch, OfJump, OfArith, OfMemory, OfSprite, OfTimer, OfKey}
-use Rattle.chip8_rows.specs.Table.Place.{AtTimer, AtKey}
+use Rattle.chip8_rows.specs.Table.Place.{AtTimer, AtKey, AtSprite}
 use Rattle.chip8_rows.proofs.Bytes.{both_is, both_fits, quick}
-use Rattle.chip8_rows.proofs.Later.{enters_later, ticks_low, loaded_later, mixes_later, skip_key_later, skipping_later, waiting_later, turning_later, latched_later, counted_later}
+use Rattle.chip8_rows.proofs.Later.{enters_later, ticks_low, loaded_later, mixes_later, skip_key_later, skipping_later, waiting_later, turning_later, latched_later, counted_later, clearing_later, painting_later}
 
 fetch_some : (l : FetchBlock) → 0 < fetch_moves l
 fetch_some Fetch = omega arith
@@ -109,9 +111,33 @@ memory_some (RestoreByte k) = omega arith
 memory_some RestoreEnd = omega arith
 
 sprite_some : (l : SpriteBlock) → 0 < sprite_moves l
-sprite_some Draw = omega arith
-sprite_some (DrawFound answer) = omega arith
 sprite_some Clear = omega arith
+sprite_some (Wipe k) = omega arith
+sprite_some (Wipe3 k) = omega arith
+sprite_some (Wipe6 k) = omega arith
+sprite_some (Wiped k) = omega arith
+sprite_some Cleared = omega arith
+sprite_some Draw = omega arith
+sprite_some DrawCheck = omega arith
+sprite_some (DrawFound InGame) = omega arith
+sprite_some (DrawFound InFont) = omega arith
+sprite_some (DrawFound Nowhere) = omega arith
+sprite_some Place = omega arith
+sprite_some Edge = omega arith
+sprite_some Fits = omega arith
+sprite_some Angle = omega arith
+sprite_some Begin = omega arith
+sprite_some (Row r) = omega arith
+sprite_some (RowByte r) = omega arith
+sprite_some (Shift r j) = omega arith
+sprite_some (Shifted r) = omega arith
+sprite_some (RowRight r) = omega arith
+sprite_some (RowStore r) = omega arith
+sprite_some Ready = omega arith
+sprite_some (Line r) = omega arith
+sprite_some (LineLeft r) = omega arith
+sprite_some (LineRight r) = omega arith
+sprite_some Drawn = omega arith
 
 timer_some : (l : TimerBlock) → 0 < timer_moves l
 timer_some Random = omega arith
@@ -147,30 +173,49 @@ within_later : (t : Time) (h : Since) (n : ℕ) → Within t h → Within t (aft
 within_later (Exactly m) h n w = w
 within_later (AtMost m) h n w = w
 within_later Anytime h n w = w
+within_later (Waited m) h n w = (w.0, omega (arith, w.1))
 
 module _ (e : Edition) where
-  later : (l : Place) (b : Machine) (h : Since) → FitsMachine b → At (quick e) l b h → (n : ℕ) (c : Machine) → After (code (quick e)).low n b c → At (quick e) l c (after_ticks n h)
-  later (AtTimer l) b h f o n c k = (subst (timer_place_at (quick e) l c) (ticks_add n h.ticks h.state) (timer_later l o.0), within_later (timer_place_time l) h n o.1)
+  later : (l : AnyPlace) (b : Machine) (h : Since) → FitsMachine b → At (quick e) l b h → b.regs.idle ≡ false → (n : ℕ) (c : Machine) → After (code (quick e)).low n b c → At (quick e) l c (after_ticks n h)
+  later (AtTimer l) b h f o i n c k = (subst (timer_place_at (quick e) l c) (ticks_add n h.ticks h.state) (timer_later l o.0), within_later (timer_place_time l) h n o.1)
     where
       timer_later : (l : TimerPlace) → timer_place_at (quick e) l b (now h) → timer_place_at (quick e) l c (ticks n (now h))
       timer_later RandomCount p = (enters_later (quick e) n k f (now h) _ _ p.0, mixes_later (quick e) n k f (now h) p.1)
       timer_later GetDelay p = (enters_later (quick e) n k f (now h) _ _ p.0, ticks_low n (now h) ∙ p.1)
       timer_later SetDelayPut p = (enters_later (quick e) n k f (now h) _ _ p.0, ticks_low n (now h) ∙ p.1, loaded_later (quick e) n k f (now h) p.2)
       timer_later SetSoundPut p = (enters_later (quick e) n k f (now h) _ _ p.0, ticks_low n (now h) ∙ p.1, loaded_later (quick e) n k f (now h) p.2)
-  later (AtKey l) b h f o n c k = (subst (λ s. key_place_at (quick e) l c s h.keys) (ticks_add n h.ticks h.state) (key_later l o.0), within_later (key_place_time l) h n o.1)
+  later (AtKey l) b h f o i n c k = (subst (λ s. key_place_at (quick e) l c s h.keys) (ticks_add n h.ticks h.state) (key_later l o.0), within_later (key_place_time l) h n o.1)
     where
       key_later : (l : KeyPlace) → key_place_at (quick e) l b (now h) h.keys → key_place_at (quick e) l c (ticks n (now h)) h.keys
       key_later (SkipTest down) p = (skipping_later (quick e) n k f (now h) down _ p.0, latched_later (quick e) n k f (now h) ∙ p.1 ∙ sym (skip_key_later n (now h)))
       key_later (KeyTest turn) p = (turning_later (quick e) n k f (now h) turn _ p.0, latched_later (quick e) n k f (now h) ∙ p.1, p.2)
       key_later KeyHeld p = (waiting_later (quick e) n k f (now h) _ p.0, latched_later (quick e) n k f (now h) ∙ p.1 ∙ ap (λ y. y % 16) (sym (counted_later (quick e) n k f (now h))), subst (λ y. Last h.keys (y % 16) true) (sym (counted_later (quick e) n k f (now h))) p.2)
+  later (AtSprite l) b h f o i n c k = (subst (sprite_place_at (quick e) l c) (ticks_add n h.ticks h.state) (sprite_later l o.0), within_later (sprite_place_time l) h n o.1)
+    where
+      asleep : true ≡ false → ⊥
+      asleep r = cc
+
+      sprite_later : (l : SpritePlace) → sprite_place_at (quick e) l b (now h) → sprite_place_at (quick e) l c (ticks n (now h))
+      sprite_later ClearWait p = clearing_later (quick e) n k f (now h) _ _ p
+      sprite_later ClearIdle p = absurd (asleep (sym p.1 ∙ i))
+      sprite_later DrawWait p = painting_later (quick e) n k f (now h) at_draw_wait p
+      sprite_later DrawIdle p = absurd (asleep (sym p.1 ∙ i))
 
   pub sound : Sound (quick e) (pieces (quick e))
-  sound = record { rom = both_fits e; some = λ l b h f head. some l; later = λ l b h f at i n c k. later l b h f at n c k }
+  sound = record { rom = both_fits e; some = λ l b h f head. some l; later = later }
 
   -- the rows of a block, where each machine at its head comes to what it should
   pub block_rows : (l : Block) → ((b : Machine) (h : Since) → FitsMachine b → Head (quick e) l b h → Comes (quick e) (pieces (quick e)) l b h) → BlockRows (program_of e (image e)) l
   block_rows l comes = subst (λ rom. BlockRows (program_of e rom) l) (both_is e) (λ u b h r. block_moves (quick e) (pieces (quick e)) sound r (comes r.start r.since r.fits r.head) u)
 
   -- the rows of a place, where each machine at it comes to what it should
-  pub place_rows : (l : Place) → ((b : Machine) (h : Since) → FitsMachine b → At (quick e) l b h → Holds (quick e) (pieces (quick e)) l b h) → ((b : Machine) (h : Since) → At (quick e) l b h → b.regs.idle ≡ false) → PlaceRows (program_of e (image e)) l
+  pub place_rows : (l : AnyPlace) → ((b : Machine) (h : Since) → FitsMachine b → At (quick e) l b h → Holds (quick e) (pieces (quick e)) l b h) → ((b : Machine) (h : Since) → At (quick e) l b h → b.regs.idle ≡ false) → PlaceRows (program_of e (image e)) l
   place_rows l holds awake = subst (λ rom. PlaceRows (program_of e rom) l) (both_is e) (λ u b h f at. place_moves (quick e) (pieces (quick e)) sound l b h f (holds b h f at) (awake b h at) u)
+
+  -- the rows of a place, where each machine at it comes to what it should
+  pub awake_rows : (l : AnyPlace) → ((b : Machine) (h : Since) → FitsMachine b → At (quick e) l b h → Holds (quick e) (pieces (quick e)) l b h) → AwakeRows (program_of e (image e)) l
+  awake_rows l holds = subst (λ rom. AwakeRows (program_of e rom) l) (both_is e) (λ u b h f i at. place_moves (quick e) (pieces (quick e)) sound l b h f (holds b h f at) i u)
+
+  -- and ticks there
+  pub tick_rows : (l : AnyPlace) → ((b : Machine) (h : Since) → FitsMachine b → At (quick e) l b h → Holds (quick e) (pieces (quick e)) l b h) → TickRows (program_of e (image e)) l
+  tick_rows l holds = subst (λ rom. TickRows (program_of e rom) l) (both_is e) (λ b c h f k at. place_ticks (quick e) (pieces (quick e)) sound l b c h f k at (holds b h f at))

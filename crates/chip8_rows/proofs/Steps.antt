@@ -1,5 +1,5 @@
 -- What the block lemmas of all groups use: the step at the end of a routine.
-use Rattle.std.proofs.Common.{◌≡◌, ℕ, zero, suc, refl, sym, ◌∙◌, ap, subst, Bool, true, false, cond}
+use Rattle.std.proofs.Common.{◌≡◌, ℕ, zero, suc, ◌≤◌, arith, refl, sym, ◌∙◌, ap, subst, Bool, true, false, cond}
 use Rattle.std.specs.Prelude.{Some, None}
 use Rattle.machine.specs.Bank.{word_of}
 use Rattle.machine.specs.Board.{Machine}
@@ -76,3 +76,14 @@ module _ (e : Edition) {k : ℕ} {h h' : Since} (g : Grows h k 0 h') (i : Instr)
 -- the same, where it takes no key and doesn't wait
 pub steps : (e : Edition) {k : ℕ} {h h' : Since} (g : Grows h k 0 h') (i : Instr) (is : instr_at (now h) ≡ i) (prompt : is_prompt i ≡ true) (runs : stop_of e (now h) ≡ None) (c : Machine) → Holding (quick e) (places c) (done_by e i Nothing (now h)) → c.regs.p ≡ 4 → c.regs.r.r4 ≡ word_of at_fetch → Ends (quick e) (pieces (quick e)) c h'
 steps e {h' = h'} g i is prompt runs c o p r4 = steps_with e g i is runs Nothing (keyless i prompt h') (no_wait i prompt h'.ticks) c o p r4
+
+-- for 00E0 and DXYN, where a tick came
+module _ (e : Edition) {k : ℕ} {h h' : Since} (g : Grows h k 0 h') (tick : 1 ≤ h.ticks) (runs : stop_of e (now h) ≡ None) where
+  waited : 1 ≤ h'.ticks
+  waited = omega (arith, tick, g.ticks)
+
+  pub clears : instr_at (now h) ≡ Clear → (c : Machine) → Holding (quick e) (places c) (done_by e Clear Nothing (now h)) → c.regs.p ≡ 4 → c.regs.r.r4 ≡ word_of at_fetch → Ends (quick e) (pieces (quick e)) c h'
+  clears is c o p r4 = steps_with e g Clear is runs Nothing tt (waited, refl) c o p r4
+
+  pub draws : {x y n : ℕ} → instr_at (now h) ≡ Draw x y n → (c : Machine) → Holding (quick e) (places c) (done_by e (Draw x y n) Nothing (now h)) → c.regs.p ≡ 4 → c.regs.r.r4 ≡ word_of at_fetch → Ends (quick e) (pieces (quick e)) c h'
+  draws {x = x} {y = y} {n = n} is c o p r4 = steps_with e g (Draw x y n) is runs Nothing tt (waited, refl) c o p r4

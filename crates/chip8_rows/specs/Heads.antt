@@ -16,16 +16,19 @@ use Rattle.rom_law.specs.Holding.{places, Holding}
 
 -- ---- time
 
--- the main cycles from the dispatch to a head: so many for every opcode, or so many at most, or any number, as behind a wait for a key
+-- the main cycles from the dispatch to a head: so many for every opcode, so many at most, so many at most behind a wait, where a tick has
+-- come, or any number, as behind a wait for a key
 pub data Time : Type 0 where
   Exactly : ℕ → Time
   AtMost : ℕ → Time
+  Waited : ℕ → Time
   Anytime : Time
 
 abbrev pub Within : Time → Since → Type 0
 Within (Exactly n) h = h.spent ≡ n
 Within (AtMost n) h = h.spent ≤ n
 Within Anytime h = Unit {0}
+Within (Waited n) h = (h.spent ≤ n) × (1 ≤ h.ticks)
 
 -- ---- addresses
 

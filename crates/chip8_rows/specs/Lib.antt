@@ -4,6 +4,7 @@ pub mod FetchBlocks
 pub mod JumpBlocks
 pub mod ArithBlocks
 pub mod Checks
+pub mod Dots
 pub mod MemoryBlocks
 pub mod SpriteBlocks
 pub mod TimerBlocks

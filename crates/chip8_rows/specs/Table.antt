@@ -1,16 +1,17 @@
 -- The row table: the blocks and places of main code of all groups, and what a group's law says.
-use Rattle.std.specs.Prelude.{ℕ}
+use Rattle.std.specs.Prelude.{◌≡◌, ℕ, false}
 use Rattle.machine.specs.Board.{Machine}
 use Rattle.machine.specs.Ranges.{FitsMachine}
+use Rattle.machine.specs.Schedule.{Tick}
 use Rattle.rom_moves.specs.Code.{Input, moved}
 use Rattle.rom_law.specs.Program.{Program, code}
-use Rattle.rom_law.specs.Rows.{Since, Pieces, InBlock, Outcome, now, after_main}
+use Rattle.rom_law.specs.Rows.{Since, Pieces, InBlock, Row, Outcome, now, after_main, after_tick}
 use Rattle.chip8_rows.specs.Heads.{Within}
 use Rattle.chip8_rows.specs.FetchBlocks.{FetchBlock, fetch_at, fetch_moves, fetch_time}
 use Rattle.chip8_rows.specs.JumpBlocks.{JumpBlock, jump_at, jump_moves, jump_time}
 use Rattle.chip8_rows.specs.ArithBlocks.{ArithBlock, arith_at, arith_moves, arith_time}
 use Rattle.chip8_rows.specs.MemoryBlocks.{MemoryBlock, memory_at, memory_moves, memory_time}
-use Rattle.chip8_rows.specs.SpriteBlocks.{SpriteBlock, sprite_at, sprite_moves, sprite_time}
+use Rattle.chip8_rows.specs.SpriteBlocks.{SpriteBlock, SpritePlace, sprite_at, sprite_place_at, sprite_moves, sprite_time, sprite_place_time}
 use Rattle.chip8_rows.specs.TimerBlocks.{TimerBlock, TimerPlace, timer_at, timer_place_at, timer_moves, timer_time, timer_place_time}
 use Rattle.chip8_rows.specs.KeyBlocks.{KeyBlock, KeyPlace, key_at, key_place_at, key_moves, key_time, key_place_time}
 
@@ -26,6 +27,7 @@ pub data Block : Type 0 where
 pub data Place : Type 0 where
   AtTimer : (l : TimerPlace) → Place
   AtKey : (l : KeyPlace) → Place
+  AtSprite : (l : SpritePlace) → Place
 
 -- what is known at the first instruction of a block
 abbrev pub Head : Program → Block → Machine → Since → Type 0
@@ -51,6 +53,7 @@ moves (OfKey l) = key_moves l
 abbrev pub At : Program → Place → Machine → Since → Type 0
 At x (AtTimer l) b h = timer_place_at x l b (now h) × Within (timer_place_time l) h
 At x (AtKey l) b h = key_place_at x l b (now h) h.keys × Within (key_place_time l) h
+At x (AtSprite l) b h = sprite_place_at x l b (now h) × Within (sprite_place_time l) h
 
 abbrev pub pieces : Program → Pieces
 pieces x = record { Block = Block; Head = Head x; moves = λ l h. moves l; Place = Place; At = At x }
@@ -69,3 +72,21 @@ PlaceRows x l =
     → FitsMachine b
     → At x l b h
     → Outcome x (pieces x) (moved (code x) u b) (after_main u h)
+
+-- the same from each state at a place where main code runs
+abbrev pub AwakeRows : Program → Place → Type 0
+AwakeRows x l =
+    (u : Input) (b : Machine) (h : Since)
+    → FitsMachine b
+    → b.regs.idle ≡ false
+    → At x l b h
+    → Outcome x (pieces x) (moved (code x) u b) (after_main u h)
+
+-- From each state at a place, also where main code waits there, a tick comes to a row.
+abbrev pub TickRows : Program → Place → Type 0
+TickRows x l =
+    (b c : Machine) (h : Since)
+    → FitsMachine b
+    → Tick (code x).low b c
+    → At x l b h
+    → Row x (pieces x) c (after_tick h)

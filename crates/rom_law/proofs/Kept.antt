@@ -279,7 +279,8 @@ module _ (x : Program) (t : Pieces) (sound : Sound x t) where
   pub place_moves : (l : t.Place) (b : Machine) (h : Since) → FitsMachine b → Holds x t l b h → b.regs.idle ≡ false → (u : Input) → Outcome x t (moved (code x) u b) (after_main u h)
   place_moves l b h f holds i u = place_ended (moved (code x) u b) (after_main u h) (main-fits x.interpreter.rom sound.rom u.efx u.held b f) (holds.moves i u)
 
-  place_ticks : (l : t.Place) (b c : Machine) (h : Since) → FitsMachine b → Tick (code x).low b c → t.At l b h → Holds x t l b h → Row x t c (after_tick h)
+  -- a tick keeps the rows at a place
+  pub place_ticks : (l : t.Place) (b c : Machine) (h : Since) → FitsMachine b → Tick (code x).low b c → t.At l b h → Holds x t l b h → Row x t c (after_tick h)
   place_ticks l b c h f k at holds = go b.regs.idle refl
     where
       more : h.ticks + 1 ≡ suc h.ticks

@@ -304,3 +304,19 @@ module _ {x : Program} {p : Places} {s : Lang} (h : Holding x p s) where
         screen = pixels (rows_of x.edition) (range_past (screen_start x.edition) 0x1000 p.ram random_cell y (inl (omega (arith, stack_below x.edition, stack_room x.edition, memory_above x.edition, variables_below x.edition))) i);
       })
       ∙ ap (λ (z : Lang). record z { b = y }) h.is)
+
+  screen_set_at : (k y : ℕ) → screen_start x.edition + k < 0x1000 → Holding x (record p { ram = written p.latch p.ram (screen_start x.edition + k) y }) (record s { screen = pixels (rows_of x.edition) (slice_set (slice_range p.ram (screen_start x.edition) 0x1000) k y) })
+  screen_set_at k y lt =
+      ram_set (screen_start x.edition + k) y _ lt refl
+      ((λ i. record (lies_in x.edition p) {
+        v = range_past (variables x.edition) (variables x.edition + 16) p.ram (screen_start x.edition + k) y (inr (omega (arith, variables_below x.edition))) i;
+        stack = stack_past (screen_start x.edition + k) y (inr (omega (arith, stack_below x.edition, variables_below x.edition))) i;
+        memory = range_past memory_start (memory_end x.edition) p.ram (screen_start x.edition + k) y (inr (omega (arith, stack_below x.edition, stack_room x.edition, variables_below x.edition))) i;
+        b = get_or-set_other p.ram (screen_start x.edition + k) random_cell y 0 (λ e. omega (arith, e, stack_below x.edition, stack_room x.edition, memory_above x.edition, variables_below x.edition)) i;
+        screen = pixels (rows_of x.edition) (range_set (screen_start x.edition) 0x1000 p.ram k y (omega (arith, lt)) (omega (arith, h.size)) i);
+      })
+      ∙ ap (λ (z : Lang). record z { screen = pixels (rows_of x.edition) (slice_set (slice_range p.ram (screen_start x.edition) 0x1000) k y) }) h.is)
+
+  -- a byte of the screen is written
+  pub screen_set : (a k y : ℕ) → a ≡ screen_start x.edition + k → screen_start x.edition + k < 0x1000 → Holding x (record p { ram = written p.latch p.ram a y }) (record s { screen = pixels (rows_of x.edition) (slice_set (slice_range p.ram (screen_start x.edition) 0x1000) k y) })
+  screen_set a k y e lt = subst (λ z. Holding x (record p { ram = written p.latch p.ram z y }) (record s { screen = pixels (rows_of x.edition) (slice_set (slice_range p.ram (screen_start x.edition) 0x1000) k y) })) (sym e) (screen_set_at k y lt)
