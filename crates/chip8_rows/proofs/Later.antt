@@ -43,6 +43,7 @@ ticks_variable (suc n) k s = ticks_variable n k s
 
 pub skip_key_later : (n : ℕ) (s : Lang) → skip_key (ticks n s) ≡ skip_key s
 skip_key_later n s = ap (λ y. variable (ticks n s) (y % 16) % 16) (ticks_high n s) ∙ ap (λ y. y % 16) (ticks_variable n (high_byte s % 16) s)
+
 -- they change the timers, the tone and the count alone
 abbrev timed : Lang → Lang → Lang
 timed t s = record s { dt = t.dt; st = t.st; tone = t.tone; n = t.n }
@@ -119,6 +120,7 @@ module _ (x : Program) (n : ℕ) {b c : Machine} (k : After (code x).low n b c) 
         pointer = ap (λ (z : Machine). z.regs.x) k.is ∙ o.pointer;
         rd = ap (λ (z : Machine). z.regs.r.rd) k.is ∙ o.rd;
       }
+
   pub clearing_later : (a m : ℕ) → Clearing x a m b s → Clearing x a m c (ticks n s)
   clearing_later a m o =
       record {

@@ -32,7 +32,7 @@ use Rattle.chip8_rows.specs.TimerBlocks.TimerPlace.{RandomCount, GetDelay, SetDe
 use Rattle.chip8_rows.specs.KeyBlocks.{KeyBlock, KeyPlace, Last, key_moves, key_place_at, key_place_time}
 use Rattle.chip8_rows.specs.KeyBlocks.KeyBlock.{KeySkip, KeySkipUp, SkipLatch, NoSkip, Skip as KeyYes, WaitKey, KeyNext, KeyCount, KeyFreed}
 use Rattle.chip8_rows.specs.KeyBlocks.KeyPlace.{SkipTest, KeyTest, KeyHeld}
-use Rattle.chip8_rows.specs.Table.{Block, Place, Head, At, moves, pieces, BlockRows, PlaceRows, Place as AnyPlace, AwakeRows, TickRows}
+use Rattle.chip8_rows.specs.Table.{Block, Place as AnyPlace, Head, At, moves, pieces, BlockRows, PlaceRows, AwakeRows, TickRows}
 use Rattle.chip8_rows.specs.Table.Block.{OfFetch, OfJump, OfArith, OfMemory, OfSprite, OfTimer, OfKey}
 use Rattle.chip8_rows.specs.Table.Place.{AtTimer, AtKey, AtSprite}
 use Rattle.chip8_rows.proofs.Bytes.{both_is, both_fits, quick}

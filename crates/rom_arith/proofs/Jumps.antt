@@ -57,7 +57,7 @@ module _ (e : Edition) (b : Machine) (h : Since) (f : FitsMachine b) where
 
   pub system_low_comes : Entered (quick e) at_system_low b (now h) → high ≡ 0 → h.spent ≤ 84 → Comes (quick e) (pieces (quick e)) (OfJump SystemLow) b h
   system_low_comes o zero spent = branch (OfJump SystemLow) o (looked e high low b (bit_xor low 0xe0)) (bit_xor low 0xe0 == 0) at_clear at_system_back (omega arith) refl
-      (λ k h' g. to_sprite (quick e) g _ refl Clear (looks (bit_xor low 0xe0) at_clear o, zero, xor_same low 0xe0 k) (omega (arith, spent, g.spent)))
+      (λ k h' g. to_sprite (quick e) g _ refl Clear (looks (bit_xor low 0xe0) at_clear o, (zero, xor_same low 0xe0 k)) (omega (arith, spent, g.spent)))
       (λ k h' g. to_jump (quick e) g _ refl SystemBack (looks (bit_xor low 0xe0) at_system_back o, zero, xor_other low 0xe0 k) (omega (arith, spent, g.spent)))
 
   pub system_back_comes : Entered (quick e) at_system_back b (now h) → high ≡ 0 → (low ≡ 0xe0 → ⊥) → h.spent ≤ 90 → Comes (quick e) (pieces (quick e)) (OfJump SystemBack) b h

@@ -76,7 +76,14 @@ module _ (e : Edition) (b : Machine) (h : Since) (f : FitsMachine b) where
         draws = o.draws;
         holds = subst (λ z. Holding (quick e) (places b) (record (next (now h)) { screen = z })) (none_drawn (rows_of e) (sprite_row (now h)) (column (now h)) (top e (now h)) (now h).screen) o.holds;
         prepared = record { lefts = o.prepared.lefts; rights = o.prepared.rights };
-        p = refl; r3 = refl; r4 = refl; pointer = refl; r7 = ap₂ word (omega (arith, few, page_fits e)) refl; rd = o.place ∙ no_more (corner e (now h)); count = o.rows; few = omega arith;
+        p = refl;
+        r3 = refl;
+        r4 = refl;
+        pointer = refl;
+        r7 = ap₂ word (omega (arith, few, page_fits e)) refl;
+        rd = o.place ∙ no_more (corner e (now h));
+        count = o.rows;
+        few = omega arith;
         hit = none_met (rows_of e) (sprite_row (now h)) (column (now h)) (top e (now h)) (now h).screen;
       }) (omega (arith, spent, g.spent)))
 
@@ -129,7 +136,7 @@ module _ (e : Edition) (b : Machine) (h : Since) (f : FitsMachine b) where
     byte_holds : Holding (quick e) (record (places b) { ram = changed w }) (painted more_dots (now h))
     byte_holds = subst (λ k. Holding (quick e) (record (places b) { ram = written b.latch b.ram k (bit_xor (mine w) (read (both e) b.latch b.ram k)) }) (painted more_dots (now h))) (sym at)
         (subst (λ k. Holding (quick e) (record (places b) { ram = written b.latch b.ram (screen_start e + m) (bit_xor k (read (both e) b.latch b.ram (screen_start e + m))) }) (painted more_dots (now h))) (sym is)
-            (subst (λ z. Holding (quick e) (record (places b) { ram = written b.latch b.ram (screen_start e + m) (bit_xor q (read (both e) b.latch b.ram (screen_start e + m))) }) (record (next (now h)) { screen = z })) (difference_either (now h).screen d (dots_of_byte (rows_of e) m q) apart) (screen_put o.holds m q near small last)))
+        (subst (λ z. Holding (quick e) (record (places b) { ram = written b.latch b.ram (screen_start e + m) (bit_xor q (read (both e) b.latch b.ram (screen_start e + m))) }) (record (next (now h)) { screen = z })) (difference_either (now h).screen d (dots_of_byte (rows_of e) m q) apart) (screen_put o.holds m q near small last)))
 
     bits_fit : bit_and (mine w) theirs < 256
     bits_fit = omega (arith, is, small, and_le_l (mine w) theirs)
@@ -191,12 +198,23 @@ module _ (e : Edition) (b : Machine) (h : Since) (f : FitsMachine b) where
 
     pub line_left_comes : Painting (quick e) at_line_left (2 * r) (8 * r) (rows - r) (lit e r (now h)) b (now h) → h.spent ≤ 2158 + 58 * r → 1 ≤ h.ticks → Comes (quick e) (pieces (quick e)) (OfSprite (LineLeft r)) b h
     line_left_comes o spent tick = straight (OfSprite (LineLeft r)) o.holds (painting e at_line_left (2 * r) b) (is_painting o) painted_left (omega (arith, o.holds.stack, stack_top_is e, page_low e, o.rd, screen_is e)) refl
-        (λ h' g. to_sprite (quick e) g painted_left refl (LineRight r) (record {
-          draws = o.draws;
-          holds = byte_holds o at is near small last room apart;
-          prepared = record { lefts = byte_lefts o at is near small last room apart; rights = byte_rights o at is near small last room apart };
-          p = refl; r3 = refl; r4 = refl; pointer = refl; r7 = ap₂ word (omega (arith, inside, few, page_fits e)) (omega (arith, inside, few)); rd = omega (arith, o.rd, place_below, f.regs.r.rd.hi, f.regs.r.rd.lo); count = omega (arith, o.count, inside, few); few = byte_few o at is near small last room apart; hit = byte_hit o at is near small last room apart;
-        }, inside) (omega (arith, spent, g.spent), omega (arith, tick, g.ticks)))
+        (λ h' g. to_sprite (quick e) g painted_left refl (LineRight r) (
+          record {
+            draws = o.draws;
+            holds = byte_holds o at is near small last room apart;
+            prepared = record { lefts = byte_lefts o at is near small last room apart; rights = byte_rights o at is near small last room apart };
+            p = refl;
+            r3 = refl;
+            r4 = refl;
+            pointer = refl;
+            r7 = ap₂ word (omega (arith, inside, few, page_fits e)) (omega (arith, inside, few));
+            rd = omega (arith, o.rd, place_below, f.regs.r.rd.hi, f.regs.r.rd.lo);
+            count = omega (arith, o.count, inside, few);
+            few = byte_few o at is near small last room apart;
+            hit = byte_hit o at is near small last room apart;
+          },
+          inside,
+        ) (omega (arith, spent, g.spent), omega (arith, tick, g.ticks)))
       where
         at : value b.regs.r.rd ≡ screen_start e + place
         at = omega (arith, o.rd)
@@ -229,12 +247,23 @@ module _ (e : Edition) (b : Machine) (h : Since) (f : FitsMachine b) where
 
     pub line_right_comes : Painting (quick e) at_line_right (2 * r + 1) (8 * r + 1) (rows - (r + 1)) (half_lit e r (now h)) b (now h) → h.spent ≤ 2180 + 58 * r → 1 ≤ h.ticks → Comes (quick e) (pieces (quick e)) (OfSprite (LineRight r)) b h
     line_right_comes o spent tick = straight (OfSprite (LineRight r)) o.holds (painting e at_line_right (2 * r + 1) b) (is_painting o) painted_right (omega (arith, o.holds.stack, stack_top_is e, page_low e, o.rd, screen_is e)) refl
-        (λ h' g. to_sprite (quick e) g painted_right refl (Line (suc r)) (subst (λ z. Painting (quick e) at_line (2 * suc r) (8 * suc r) (rows - suc r) z painted_right (now h)) grown (record {
-          draws = o.draws;
-          holds = byte_holds o at is near small last room apart;
-          prepared = record { lefts = byte_lefts o at is near small last room apart; rights = byte_rights o at is near small last room apart };
-          p = refl; r3 = refl; r4 = refl; pointer = refl; r7 = ap₂ word (omega (arith, inside, few, page_fits e)) (omega (arith, inside, few)); rd = omega (arith, o.rd, place_below, f.regs.r.rd.hi, f.regs.r.rd.lo); count = omega (arith, o.count); few = omega (arith, byte_few o at is near small last room apart); hit = byte_hit o at is near small last room apart;
-        }), omega (arith, inside)) (omega (arith, spent, g.spent), omega (arith, tick, g.ticks)))
+        (λ h' g. to_sprite (quick e) g painted_right refl (Line (suc r)) (
+          subst (λ z. Painting (quick e) at_line (2 * suc r) (8 * suc r) (rows - suc r) z painted_right (now h)) grown (record {
+            draws = o.draws;
+            holds = byte_holds o at is near small last room apart;
+            prepared = record { lefts = byte_lefts o at is near small last room apart; rights = byte_rights o at is near small last room apart };
+            p = refl;
+            r3 = refl;
+            r4 = refl;
+            pointer = refl;
+            r7 = ap₂ word (omega (arith, inside, few, page_fits e)) (omega (arith, inside, few));
+            rd = omega (arith, o.rd, place_below, f.regs.r.rd.hi, f.regs.r.rd.lo);
+            count = omega (arith, o.count);
+            few = omega (arith, byte_few o at is near small last room apart);
+            hit = byte_hit o at is near small last room apart;
+          }),
+          omega (arith, inside),
+        ) (omega (arith, spent, g.spent), omega (arith, tick, g.ticks)))
       where
         at : value b.regs.r.rd ≡ screen_start e + (place + 1)
         at = omega (arith, o.rd)

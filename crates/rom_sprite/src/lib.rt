@@ -5,5 +5,4 @@
 //! edges of the screen are this project's profile.
 #![tactic(auto)]
 
-
 pub mod laws;
