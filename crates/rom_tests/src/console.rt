@@ -1,0 +1,173 @@
+//! A board with the interpreter's ROM and a game, move by move.
+
+ghost use Rattle.std.specs.Prelude.{◌≡◌};
+ghost use Rattle.vip_cpu.specs.declared.cpu.Phase.TheVariants.{Boundary};
+
+use crate::edition::{GAME, MOST_SCREEN, Places, RANDOM_CELL, STOP_CELL};
+use arrayvec::ArrayVec;
+use chip8_image::{IMAGE, TALL};
+use chip8_lang::{Edition, StateView};
+use std::alloc::{AllocError, Global};
+use vip_board::{Board, Moved};
+use vip_keypad::Script;
+use vip_video::Picture;
+
+/// The most bytes of a game, and of RAM from its first address on.
+const MOST_GAME: usize = 3_232;
+
+/// What the next move is for the interpreter.
+#[derive(Clone, Copy, PartialEq, Eq)]
+pub enum Next {
+    /// A DMA cycle, an interrupt cycle or an idle cycle.
+    Signal,
+    /// An instruction of the interrupt routine.
+    Routine,
+    /// The first instruction of the fetch: the board is at a dispatch point.
+    Dispatch,
+    /// The instruction of the halt: the board is at a stop point.
+    Stop,
+    /// Another instruction of main code, at this address with this P.
+    Main(u16, u8),
+}
+
+/// A board that runs a game.
+#[derive(Drop)]
+pub struct Console {
+    board: Board,
+    places: Places,
+    ghost at_boundary: { board.phase ≡ Boundary },
+}
+
+impl Console {
+    /// A board after reset with an edition's ROM. Of a game that is too long the rest is left out.
+    pub fn start(
+        alloc: Global,
+        edition: Edition,
+        game: &[u8],
+        keys: &Script,
+    ) -> Result<Console, AllocError> {
+        let rom = match edition {
+            Edition::Usual => IMAGE,
+            Edition::Tall => TALL,
+        };
+        let mut board = Board::reset(alloc, &rom, keys)?;
+        board.load(GAME, &game[..game.len().min(MOST_GAME)]);
+        Ok(Console {
+            board,
+            places: Places::of(edition),
+        })
+    }
+
+    pub fn places(&self) -> &Places {
+        &self.places
+    }
+
+    /// The number of machine cycles since reset.
+    pub fn now(&self) -> u64 {
+        self.board.now()
+    }
+
+    /// Makes the next move, unless it would end after a cycle.
+    pub fn step(&mut self, limit: u64) -> Moved {
+        self.board.to_boundary(limit)
+    }
+
+    /// What the next move is.
+    pub fn next(&self) -> Next {
+        if !self.board.next_is_instruction() {
+            return Next::Signal;
+        }
+        let cpu = self.board.cpu();
+        let p = cpu.p();
+        let address = cpu.r(p);
+        match p {
+            1 => Next::Routine,
+            3 if address == self.places.halt => Next::Stop,
+            4 if address == self.places.fetch => Next::Dispatch,
+            _ => Next::Main(address, p),
+        }
+    }
+
+    /// The processor waits for an interrupt.
+    pub fn waits(&self) -> bool {
+        self.board.cpu().idle()
+    }
+
+    /// How many pictures are finished, and the last one.
+    pub fn pictures(&self) -> (u64, Option<&Picture>) {
+        let video = self.board.video();
+        (video.count(), video.finished())
+    }
+
+    pub fn byte(&self, address: u16) -> u8 {
+        self.board.memory().read(address)
+    }
+
+    /// The number of the stop at a stop point.
+    pub fn stop_number(&self) -> u8 {
+        self.byte(STOP_CELL)
+    }
+
+    /// The bytes of the screen, and 00 behind them where it is smaller than the greatest.
+    pub fn screen(&self) -> [u8; MOST_SCREEN] {
+        let mut bytes = [0; MOST_SCREEN];
+        let memory = self.board.memory();
+        let pages = self.places.screen_page..=0x0F;
+        for (half, number) in bytes.chunks_mut(256).zip(pages) {
+            if let Some(page) = memory.page(number)
+                && page.len() == half.len()
+            {
+                half.copy_from_slice(page);
+            }
+        }
+        bytes
+    }
+
+    /// The language state that the board holds at a dispatch point.
+    pub fn view(&self) -> StateView {
+        let cpu = self.board.cpu();
+        let pc = cpu.r(5);
+        let timers = cpu.r(8);
+        let mut v = [0; 16];
+        for (byte, k) in v.iter_mut().zip(0u16..16) {
+            *byte = self.byte(self.places.variables.wrapping_add(k));
+        }
+        StateView {
+            v,
+            i: cpu.r(10),
+            pc,
+            opcode: self.opcode(pc),
+            stack: self.stack(cpu.r(2)),
+            dt: (timers / 256) as u8,
+            st: (timers % 256) as u8,
+            tone: cpu.q(),
+            n: cpu.r(9),
+            b: self.byte(RANDOM_CELL),
+            cycle: self.now(),
+        }
+    }
+
+    // The word whose high byte stands at an address.
+    fn word(&self, address: u16) -> u16 {
+        u16::from_be_bytes([self.byte(address), self.byte(address.wrapping_add(1))])
+    }
+
+    /// The opcode at pc, where both its bytes lie in game memory.
+    pub fn opcode(&self, pc: u16) -> Option<u16> {
+        if pc < GAME || pc >= self.places.game_end.saturating_sub(1) {
+            return None;
+        }
+        Some(self.word(pc))
+    }
+
+    // The addresses that lie above R2, the oldest first.
+    fn stack(&self, r2: u16) -> ArrayVec<u16, 12> {
+        let top = self.places.stack_top;
+        let depth = (top.saturating_sub(r2) / 2).min(12);
+        let mut addresses = ArrayVec::new();
+        for k in 0..depth {
+            let _ = addresses.try_push(self.word(top.wrapping_sub(2 * k + 1)));
+        }
+        addresses
+    }
+}

@@ -1,0 +1,84 @@
+//! Runs the whole interpreter's ROM on the board, in both editions, and says what it did.
+//!
+//! The source's form is looked at: which of its lines are data. Some thousand frames of random games and each instruction of
+//! `data/costs.txt` are measured: the most machine cycles of each kind of step, which `docs/MACHINE.md` sets beside the bounds, the place
+//! and the length of each interrupt, and each picture against the screen of the last dispatch point before it. Then the games of
+//! `data/rows.txt` are run, and what doesn't lead to what the rules of the language say is written. The stored output is what all of this
+//! must give.
+//!
+//! It stands on the board, the assembler and the ROM, and on nothing of the program that shows runs. It is a test of the ROM, which no
+//! proof judges yet: nothing here is proved but that it is safe.
+#![tactic(auto)]
+
+mod console;
+mod costs;
+mod demo;
+mod edition;
+mod phases;
+mod record;
+mod report;
+mod row;
+mod source;
+mod table;
+mod watch;
+
+use crate::edition::{EDITIONS, name};
+use crate::phases::{run_demos, run_instructions};
+use crate::report::{write_costs, write_form, write_frames};
+use crate::row::RowFault;
+use crate::source::Source;
+use crate::table::run_rows;
+use crate::watch::{KeyTests, Watch};
+use chip8_lang::Edition;
+use chip8_source::{source, tall_source};
+use std::fs;
+use vip_keypad::read_script;
+
+/// The key script under which instructions are measured.
+const MEASURED_KEYS: &[u8] = b"0 down F\n30000 up F\n";
+
+/// Looks at an edition's source, and writes its form. Answers where it tests keys.
+fn look_at_source(rt: &HostRuntime, edition: Edition) -> anyhow::Result<KeyTests> {
+    let text = match edition {
+        Edition::Usual => source(rt.alloc())?,
+        Edition::Tall => tall_source(rt.alloc())?,
+    };
+    let source = Source::new(rt.alloc(), text)?;
+    println!(rt; "{}, source:", name(edition))?;
+    write_form(rt, &source.form()?)?;
+    Ok(KeyTests {
+        first: source.label("key_test")?,
+        last: source.label("key_held")?,
+    })
+}
+
+/// Measures an edition, and writes what was seen.
+fn measure(
+    rt: &HostRuntime,
+    edition: Edition,
+    text: &str,
+    key_tests: KeyTests,
+) -> anyhow::Result<()> {
+    let Ok(keys) = read_script(rt.alloc(), MEASURED_KEYS) else {
+        return Err(RowFault::NotARow.into());
+    };
+    let mut watch = Watch::new(key_tests);
+    run_demos(rt.alloc(), edition, &mut watch)?;
+    println!(rt; "{}, random games:", name(edition))?;
+    write_frames(rt, &watch)?;
+    run_instructions(rt.alloc(), edition, text, &keys, &mut watch)?;
+    println!(rt; "{}, these and each instruction:", name(edition))?;
+    write_frames(rt, &watch)?;
+    write_costs(rt, &watch.costs)
+}
+
+fn main(rt: HostRuntime) -> anyhow::Result<()> {
+    let rows = fs::read_to_string(&rt, "rows.txt")?;
+    let costs = fs::read_to_string(&rt, "costs.txt")?;
+    let mut tests = KeyTests { first: 0, last: 0 };
+    for edition in EDITIONS {
+        tests = look_at_source(&rt, edition)?;
+        measure(&rt, edition, &costs, tests)?;
+    }
+    run_rows(&rt, &rows, &mut Watch::new(tests))
+}

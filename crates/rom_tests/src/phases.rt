@@ -1,0 +1,97 @@
+//! The runs that are measured: random games, and each instruction at every place of the frame.
+
+use crate::console::Console;
+use crate::demo::demo;
+use crate::edition::{GAME, Places};
+use crate::row::{RowFault, push_opcodes};
+use crate::watch::Watch;
+use chip8_lang::Edition;
+use std::alloc::Global;
+use vip_keypad::Script;
+
+/// The cycles of a run that measures an instruction.
+const MEASURED_CYCLES: u64 = 45_000;
+
+/// The cycles of a run of a random game, 250 frames.
+const DEMO_CYCLES: u64 = 917_000;
+
+/// How many dispatch points the random games have at least.
+const DEMO_DISPATCHES: u64 = 20_000;
+
+/// How many loads take as long as main code runs between two interrupts, twice over.
+const MOST_LOADS: usize = 44;
+
+/// Up to so many loads, a sprite behind them is prepared before the first interrupt or during it.
+const EARLY_LOADS: usize = 9;
+
+/// How many additions, each four cycles longer than a load, take as much longer as two loads.
+const MOST_ADDS: usize = 44;
+
+/// Runs random games, each from reset on, until they have enough dispatch points.
+pub fn run_demos(alloc: Global, edition: Edition, watch: &mut Watch) -> Result<(), RowFault> {
+    let keys = Script::empty(alloc);
+    let places = Places::of(edition);
+    let opcodes = usize::from(places.game_end.saturating_sub(GAME) / 2);
+    let enough = watch.dispatches.saturating_add(DEMO_DISPATCHES);
+    for number in 0..1_000 {
+        if watch.dispatches >= enough {
+            break;
+        }
+        let game = demo(alloc, number, opcodes)?;
+        let mut console = Console::start(alloc, edition, &game, &keys)?;
+        watch.run(&mut console, DEMO_CYCLES);
+    }
+    Ok(())
+}
+
+/// Runs each instruction of a table behind other instructions, so that the interrupt falls at each of its places. One that waits for the
+/// display is run at every even cycle in which the first interrupt can come while it is prepared.
+pub fn run_instructions(
+    alloc: Global,
+    edition: Edition,
+    text: &str,
+    keys: &Script,
+    watch: &mut Watch,
+) -> Result<(), RowFault> {
+    for line in text.lines() {
+        if line.starts_with('#') {
+            continue;
+        }
+        let waits = line.contains("| D") || line.contains("| 00E0");
+        for loads in 0..MOST_LOADS {
+            let adds = if waits && loads < EARLY_LOADS {
+                MOST_ADDS
+            } else {
+                1
+            };
+            for more in 0..adds {
+                let game = measured_game(alloc, line, loads, more)?;
+                let mut console = Console::start(alloc, edition, &game, keys)?;
+                watch.run(&mut console, MEASURED_CYCLES);
+            }
+        }
+    }
+    Ok(())
+}
+
+/// The game that measures an instruction: what prepares it, loads and additions, and its opcode.
+fn measured_game(
+    alloc: Global,
+    line: &str,
+    loads: usize,
+    adds: usize,
+) -> Result<Vec<u8>, RowFault> {
+    let Some((before, opcode)) = line.split_once('|') else {
+        return Err(RowFault::NotARow);
+    };
+    let mut game = Vec::new(alloc);
+    push_opcodes(&mut game, before.split_whitespace())?;
+    for _ in 0..loads {
+        game.extend_from_slice(&[0x6E, 0x00])?;
+    }
+    for _ in 0..adds {
+        game.extend_from_slice(&[0x7E, 0x00])?;
+    }
+    push_opcodes(&mut game, opcode.split_whitespace())?;
+    Ok(game)
+}

@@ -1,0 +1,71 @@
+//! What is written of measurements and of sources.
+
+use crate::costs::{Costs, Most};
+use crate::source::Form;
+use crate::watch::Watch;
+
+/// Writes what was found in a source.
+pub fn write_form(rt: &HostRuntime, form: &Form) -> anyhow::Result<()> {
+    println!(rt;
+        "  {} instructions, {} lines of data outside the font and the dispatch table",
+        form.instructions, form.stray
+    )?;
+    println!(rt;
+        "  {} of 16 routines in the dispatch table, {} of 7 shifts in line",
+        form.routines, form.shifts
+    )?;
+    Ok(())
+}
+
+/// Writes what was seen of frames.
+pub fn write_frames(rt: &HostRuntime, watch: &Watch) -> anyhow::Result<()> {
+    println!(rt;
+        "  {} dispatch points, {} frames, {} interrupts, {} of them not at cycle 1092",
+        watch.dispatches, watch.frames, watch.interrupts, watch.strays
+    )?;
+    println!(rt;
+        "  {} pictures, {} of them not the screen of the last dispatch point",
+        watch.pictures, watch.wrong_pictures
+    )?;
+    Ok(())
+}
+
+/// Writes the most cycles of each kind of step, beside its bound, and of its parts.
+pub fn write_costs(rt: &HostRuntime, costs: &Costs) -> anyhow::Result<()> {
+    write_most(rt, "boot", costs.boot, 1_000)?;
+    write_most(rt, "00E0", costs.clear, 7_600)?;
+    write_most(rt, "DXYN", costs.draw, 14_672)?;
+    write_most(rt, "FX33, FX55, FX65", costs.transfer, 2_600)?;
+    write_most(rt, "other instructions but FX0A", costs.ordinary, 2_200)?;
+    write_most(rt, "stops", costs.stop, 2_200)?;
+    println!(rt;
+        "  main code from a dispatch point to the routine of its opcode: {} to {} cycles",
+        costs.dispatch.least, costs.dispatch.most
+    )?;
+    println!(rt;
+        "  main code of DXYN up to the wait: {} of at most 2400 cycles",
+        costs.prepare
+    )?;
+    println!(rt;
+        "  main code after the wait: DXYN {}, 00E0 {} of at most 1700 cycles",
+        costs.drawn, costs.cleared
+    )?;
+    println!(rt;
+        "  main code of FX0A: up to its first test {}, after its last {} of at most 300 cycles",
+        costs.first_test, costs.after_test
+    )?;
+    println!(rt;
+        "  the interrupt routine: {} to {} of at most 1900 cycles",
+        costs.routine.least, costs.routine.most
+    )?;
+    Ok(())
+}
+
+/// Writes the most cycles of a kind of step.
+fn write_most(rt: &HostRuntime, what: &str, most: Most, bound: u64) -> anyhow::Result<()> {
+    println!(rt;
+        "  {what}: {} of at most {bound} cycles, {} of main code",
+        most.all, most.main
+    )?;
+    Ok(())
+}
