@@ -1,5 +1,5 @@
 -- The comparison of a source's assembly with the bytes of a ROM.
-use Rattle.std.specs.Prelude.{◌≡◌, ◌≢◌, ◌-◌, ◌<◌, ◌||◌, ℕ, List, length, nat_le, slice_get, if◌then◌else◌, Option, None, is_some, true, Bool, option_map, unwrap_or, Result, Ok, Err}
+use Rattle.std.specs.Prelude.{◌≡◌, ◌≢◌, ◌-◌, ◌<◌, ◌||◌, ◌⊎◌, ℕ, List, length, nat_le, slice_get, if◌then◌else◌, Option, None, is_some, true, Bool, option_map, unwrap_or, Result, Ok, Err}
 use Rattle.asm_core.specs.Sources.{cell_before, NoFault, HasFirstFault, fault_1, fault_2}
 use Rattle.rom_check.specs.declared.fault.ImageFault.{ImageFault}
 use Rattle.rom_check.specs.declared.fault.ImageFault.TheVariants.{BadRomSource, RomDiffers, NoMemory}
@@ -55,3 +55,9 @@ Compares source image (Err (BadRomSource line cause)) = HasFirstFault source lin
 Compares source image (Err (RomDiffers address assembled here)) = Assembles source × IsLeastDifference (source_bytes source) image address assembled here
 Compares source image (Ok _) = Assembles source × AgreesBelow 65536 (source_bytes source) image
 Compares source image (Err NoMemory) = Unit {0}
+
+-- Two answers to one comparison are the same, but for want of memory.
+abbrev pub OneAnswer : Type 0
+OneAnswer =
+    (source : List (List ℕ)) (image : List ℕ) (a b : Result Unit ImageFault)
+    → Compares source image a → Compares source image b → (a ≡ b) ⊎ (a ≡ Err NoMemory) ⊎ (b ≡ Err NoMemory)

@@ -1,5 +1,5 @@
 -- The bytes of an assembled source.
-use Rattle.std.specs.Prelude.{ℕ, option_map}
+use Rattle.std.specs.Prelude.{option_map}
 use Rattle.asm_core.specs.Made.{Made, cell_at}
 use Rattle.rom_check.specs.Compared.{Bytes}
 

@@ -2,12 +2,14 @@
 //!
 //! It stands on `asm_core`, which assembles, on `chip8_source`, which has the text of the CHIP-8 interpreter for both editions, and on
 //! `chip8_image`, which has the bytes. The layer above may rely on this: each answer is what `Compares` in `specs/Compared.antt` says,
-//! which is the first fault of the assembly, else the least address that differs, else fine. A program that calls `check_image` before
-//! it runs the image runs what the text says. The profile of the assembly and of the ROM is this project's own.
+//! which is the first fault of the assembly, else the least address that differs, else fine; and by `laws::one_answer` there is one answer,
+//! want of memory aside. A program that calls `check_image` before it runs the image runs what the text says. The assembly's language and
+//! the ROM are this project's own.
 #![tactic(auto)]
 
 mod comparison;
 mod fault;
+pub mod laws;
 
 pub use crate::comparison::{check_image, check_tall, compare};
 pub use crate::fault::ImageFault;

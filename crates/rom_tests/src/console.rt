@@ -47,10 +47,10 @@ impl Console {
         keys: &Script,
     ) -> Result<Console, AllocError> {
         let rom = match edition {
-            Edition::Usual => IMAGE,
-            Edition::Tall => TALL,
+            Edition::Usual => &IMAGE,
+            Edition::Tall => &TALL,
         };
-        let mut board = Board::reset(alloc, &rom, keys)?;
+        let mut board = Board::reset(alloc, rom, keys)?;
         board.load(GAME, &game[..game.len().min(MOST_GAME)]);
         Ok(Console {
             board,
