@@ -1,3 +1,4 @@
 pub mod Traces
 pub mod Stops
 pub mod Screens
+pub mod Summaries
