@@ -1,0 +1,194 @@
+-- A machine that runs a game, from a call's entry on: moves alone, up to the next event or the limit.
+use Rattle.std.proofs.Common.{◌≡◌, inl, ℕ, ◌+◌, ◌-◌, ◌<◌, ◌≤◌, Bool, true, false, List, [], ◌∷◌, ◌++◌, length, drop, refl, sym, ap, ◌∙◌, subst, arith, Some}
+use Rattle.machine.specs.Board.{length_of}
+use Rattle.machine.specs.Keys.{Event as KeyEvent}
+use Rattle.machine.specs.Pictures.{picture_of}
+use Rattle.chip8_lang.specs.Events.{Event, is_stop, events_of, game_run}
+use Rattle.chip8_lang.specs.Events.Event.{Picture, Dispatch, Stopped}
+use Rattle.std.proofs.lemmas.List.{length-drop}
+use Rattle.chip8_lang.specs.View.{view_at}
+use Rattle.vip_board.specs.Moves.{moved, name_of}
+use Rattle.vip_board.specs.Seen.{Seen}
+use Rattle.vip_board.specs.declared.board.Move.{Move}
+use Rattle.vip_relation.specs.State.{VipState, interpreter, events_to, events_left, events_waiting, run_of, moves_by, screen_bytes}
+use Rattle.vip_relation.specs.Interpreters.{interpreter_of}
+use Rattle.vip_relation.specs.Stops.{stop_record}
+use Rattle.vip_relation.specs.Follows.{Follows}
+use Rattle.vip_relation.specs.Meets.{IsSame, MeetsOne, TellsSame, MeetsNext, HasStopped, MovesOn, Rests}
+use Rattle.vip_relation.specs.Parts.{MeetsFirst, MeetsAll, Steps}
+use Rattle.vip_relation.specs.declared.vip.Met.{Met}
+use Rattle.vip_relation.specs.declared.vip.Met.TheVariants.{Picture as PictureMet, Dispatch as DispatchMet, Stopped as StoppedMet, End}
+use Rattle.vip_relation.proofs.Steps.{none-left, all-moves, none-before, moves-before, others-to}
+
+-- ---- within an advance
+
+-- v comes from the entry by moves alone, which end within the limit
+pub record Reaches (limit : ℕ) (entry v : VipState) : Type 0 where
+  pub same : v ≡ record entry { moves = v.moves; board = v.board }
+  pub script : v.board.script ≡ entry.board.script
+  pub order : entry.moves ≤ v.moves
+  pub within : v.board.machine.cycle ≤ limit
+  pub goes_on : HasStopped v → ⊥
+  pub follows : Follows v
+
+pub reaches-entry : (limit : ℕ) (v : VipState) → Follows v → (HasStopped v → ⊥) → v.board.machine.cycle ≤ limit → Reaches limit v v
+reaches-entry limit v follows goes_on within =
+    record { same = refl; script = refl; order = omega arith; within = within; goes_on = goes_on; follows = follows }
+
+pub reaches-next : (limit : ℕ) (entry v w : VipState) (name : Move) → Reaches limit entry v → Steps v w name → w.board.machine.cycle ≤ limit → Follows w → Reaches limit entry w
+reaches-next limit entry v w name r s within follows =
+    record {
+      same =
+          s.state
+          ∙ ap (λ (x : VipState). record x { moves = v.moves + 1; board = moved v.board }) r.same
+          ∙ ap (λ (x : VipState). record entry { moves = x.moves; board = x.board }) (sym s.state);
+      script = ap (λ (x : VipState). x.board.script) s.state ∙ r.script;
+      order = omega (arith, r.order, ap (λ (x : VipState). x.moves) s.state);
+      within = within;
+      goes_on = s.goes_on;
+      follows = follows;
+    }
+
+-- ---- what is said of v is said of the entry
+
+module _ (limit : ℕ) (entry v w : VipState) (r : Reaches limit entry v) where
+  abbrev left_by : List KeyEvent → List Event
+  left_by script = drop entry.met (events_of (interpreter entry) entry.game script limit)
+
+  left_same : events_left v limit ≡ events_left entry limit
+  left_same = ap (λ (x : VipState). events_left x limit) r.same ∙ ap left_by r.script
+
+  run_same : run_of v limit ≡ run_of entry limit
+  run_same = ap (λ (x : VipState). run_of x limit) r.same ∙ ap (λ script. game_run (interpreter entry) entry.game script limit) r.script
+
+  same_entry : IsSame v w → IsSame entry w
+  same_entry s =
+      record {
+        edition = s.edition ∙ ap (λ (x : VipState). x.edition) r.same;
+        game = s.game ∙ ap (λ (x : VipState). x.game) r.same;
+        script = s.script ∙ r.script;
+      }
+
+  told_entry : TellsSame v w → TellsSame entry w
+  told_entry t = record { last = t.last ∙ ap (λ (x : VipState). x.last) r.same; shown = t.shown ∙ ap (λ (x : VipState). x.shown) r.same }
+
+  one_entry : (others : List Event) → MeetsOne limit v w others → MeetsOne limit entry w others
+  one_entry others o = record { same = same_entry o.same; met = o.met ∙ ap (λ (x : VipState). x.met + 1) r.same; left = o.left; within = o.within }
+
+  by_case : (es : List Event) (answer : Met) → (es ≡ [] → ⊥) → MeetsNext limit v w es answer → MeetsNext limit entry w es answer
+  by_case [] answer some m = absurd (some refl)
+  by_case (Picture k ∷ es) PictureMet some m =
+      record {
+        one = one_entry es m.one;
+        told = told_entry m.told;
+        ended = m.ended;
+        first = m.first;
+        goes_on = m.goes_on;
+        picture =
+            m.picture
+            ∙ ap (λ (x : VipState). Some (picture_of (interpreter x).rom (run_of v limit) k)) r.same
+            ∙ ap (λ run. Some (picture_of (interpreter entry).rom run k)) run_same;
+      }
+  by_case (Picture k ∷ es) DispatchMet some m = absurd m
+  by_case (Picture k ∷ es) (StoppedMet stop) some m = absurd m
+  by_case (Picture k ∷ es) End some m = absurd m
+  by_case (Dispatch b ∷ es) PictureMet some m = absurd m
+  by_case (Dispatch b ∷ es) DispatchMet some m =
+      record {
+        one = one_entry es m.one;
+        machine = m.machine;
+        last = m.last ∙ ap (λ (x : VipState). Some (view_at x.edition b)) r.same;
+        shown = m.shown ∙ ap (λ (x : VipState). screen_bytes x.edition b) r.same;
+        goes_on = m.goes_on;
+      }
+  by_case (Dispatch b ∷ es) (StoppedMet stop) some m = absurd m
+  by_case (Dispatch b ∷ es) End some m = absurd m
+  by_case (Stopped b ∷ es) PictureMet some m = absurd m
+  by_case (Stopped b ∷ es) DispatchMet some m = absurd m
+  by_case (Stopped b ∷ es) (StoppedMet stop) some m =
+      record {
+        one = one_entry es m.one;
+        told = told_entry m.told;
+        machine = m.machine;
+        stop = m.stop ∙ ap (λ (x : VipState). stop_record x.last b) r.same;
+        stopped = m.stopped;
+      }
+  by_case (Stopped b ∷ es) End some m = absurd m
+
+  -- the next event is met
+  pub meets-entry : (answer : Met) → MeetsFirst v w answer → (events_left v limit ≡ [] → ⊥) → MeetsNext limit entry w (events_left entry limit) answer
+  meets-entry answer m some =
+      subst (λ es. MeetsNext limit entry w es answer) left_same
+      (by_case (events_left v limit) answer some (m.next limit r.within))
+
+-- the limit comes before the next move
+module _ (limit : ℕ) (entry v : VipState) (r : Reaches limit entry v) where
+  pub ends-entry : events_waiting v ≡ [] → limit < v.board.machine.cycle + length_of v.board.rom v.board.machine → MeetsNext limit entry v (events_left entry limit) End
+  ends-entry met over =
+      let left : events_left entry limit ≡ [] = sym (left_same limit entry v v r) ∙ none-left v r.follows limit r.within over ∙ met in
+      let moves : moves_by entry limit ≡ v.moves = ap (λ run. length run - 1) (sym (run_same limit entry v v r)) ∙ all-moves v r.follows limit r.within over in
+      subst (λ es. MeetsNext limit entry v es End) (sym left)
+      (record {
+        same = same_entry limit entry v v r (record { edition = refl; game = refl; script = refl });
+        told = told_entry limit entry v v r (record { last = refl; shown = refl });
+        met = ap (λ (x : VipState). x.met) r.same;
+        moves = omega (arith, moves, r.order);
+        goes_on = r.goes_on;
+      })
+
+-- it comes before the present state
+pub ends-before : (limit : ℕ) (v : VipState) → Follows v → limit < v.board.machine.cycle → (HasStopped v → ⊥) → MeetsNext limit v v (events_left v limit) End
+ends-before limit v follows over goes_on =
+    subst (λ es. MeetsNext limit v v es End) (sym (none-before v follows limit over))
+    (record {
+      same = record { edition = refl; game = refl; script = refl };
+      told = record { last = refl; shown = refl };
+      met = refl;
+      moves = omega (arith, moves-before v follows limit over);
+      goes_on = goes_on;
+    })
+
+-- some event is left, where one waits
+pub some-left : (limit : ℕ) (v w : VipState) (answer : Met) → MeetsFirst v w answer → Follows v → v.board.machine.cycle ≤ limit → events_left v limit ≡ [] → ⊥
+some-left limit v w answer m follows within none =
+    let o = others-to v follows limit within in
+    not_none (events_waiting v) o.others (omega (arith, m.waiting)) (sym o.left ∙ none)
+  where
+    not_none : (xs ys : List Event) → 1 ≤ length xs → xs ++ ys ≡ [] → ⊥
+    not_none [] ys l e = absurd (omega (arith, l))
+    not_none (x ∷ xs) ys l e = cc
+
+-- where no event waits and no stop was met, the state is no stop point
+pub no-stop : (v : VipState) → events_waiting v ≡ [] → (HasStopped v → ⊥) → is_stop (interpreter v) v.board.machine ≡ false
+no-stop v met goes_on = by_test (is_stop (interpreter v) v.board.machine) refl
+  where
+    by_test : (t : Bool) → is_stop (interpreter v) v.board.machine ≡ t → is_stop (interpreter v) v.board.machine ≡ false
+    by_test false h = h
+    by_test true h = absurd (goes_on (record { stop = h; met = met }))
+
+-- ---- one move
+
+-- a state with the same edition and board as one that doesn't rest
+pub moves-still : (limit : ℕ) (v w : VipState) → (Rests limit v → ⊥) → MeetsAll v w → is_stop (interpreter w) w.board.machine ≡ false
+moves-still limit v w moves m = by_test (is_stop (interpreter w) w.board.machine) refl
+  where
+    by_test : (t : Bool) → is_stop (interpreter w) w.board.machine ≡ t → is_stop (interpreter w) w.board.machine ≡ false
+    by_test false h = h
+    by_test true h =
+        absurd
+        (moves (inl (
+        ap (λ e. is_stop (interpreter_of e) v.board.machine) (sym m.edition)
+        ∙ ap (λ (s : Seen). is_stop (interpreter w) s.machine) (sym m.board)
+        ∙ h)))
+
+-- a move with all events met before it and after it
+pub moves-on : (u v w x : VipState) (name : Move) → MeetsAll u v → Steps v w name → MeetsAll w x → Follows x → MovesOn u x name
+moves-on u v w x name before step after follows =
+    record {
+      edition = after.edition ∙ ap (λ (s : VipState). s.edition) step.state ∙ before.edition;
+      game = after.game ∙ ap (λ (s : VipState). s.game) step.state ∙ before.game;
+      moves = after.moves ∙ ap (λ (s : VipState). s.moves) step.state ∙ ap (λ n. n + 1) before.moves;
+      board = after.board ∙ ap (λ (s : VipState). s.board) step.state ∙ ap moved before.board;
+      move = step.move ∙ ap (λ (s : Seen). name_of s.machine) before.board;
+      met = omega (arith, follows.within, sym (length-drop x.met (events_to x x.board.machine.cycle)) ∙ ap length after.met);
+    }

@@ -1,0 +1,8 @@
+mod Along
+mod Past
+pub mod Steps
+pub mod Meetings
+mod Reading
+mod Advances
+mod Closing
+pub mod Pieces

@@ -1,0 +1,323 @@
+-- The events of a run, state by state: those of the states before one, its pictures, and its point.
+use Rattle.std.proofs.Common.{◌≡◌, ◌⊎◌, inl, inr, ℕ, zero, suc, ◌+◌, ◌-◌, ◌*◌, ◌<◌, ◌≤◌, Bool, true, false, cond, List, [], ◌∷◌, ◌++◌, length, filter, map, refl, sym, ap, ◌∙◌, arith, append_assoc, append-nil, length-append, add-one, Option, Some}
+use Rattle.std.specs.Prelude.{◌&&◌, nat_le, if◌then◌else◌, slice_get}
+use Rattle.std.specs.Option.{option_map}
+use Rattle.std.proofs.lemmas.Bool.Decides.{nat_tests}
+use Rattle.std.proofs.lemmas.Bool.{le-leb}
+use Rattle.std.proofs.lemmas.List.{length-map}
+use Rattle.machine.specs.Board.{Machine, start}
+use Rattle.machine.specs.Keys.{Event as KeyEvent, held_at}
+use Rattle.machine.specs.Run.{states, run_to, after_moves}
+use Rattle.machine.specs.Pictures.{interrupt_at, window_end, windows_ended, picture_of, is_shown}
+use Rattle.machine.proofs.Runs.{later-move, run_to-next, run_to-past}
+use Rattle.chip8_lang.specs.Events.{Event, is_dispatch, is_stop, numbers_from, pictures_at, events_at, events_of, game_run}
+use Rattle.chip8_lang.specs.Events.Event.{Picture, Dispatch, Stopped}
+use Rattle.chip8_lang.specs.Places.{Interpreter}
+use Rattle.vip_board.specs.Shown.{Shows, shown_frames, shown_since}
+use Rattle.vip_video.specs.Chip.{Pictures}
+use Rattle.vip_relation.specs.Points.{point_of, point_events}
+use Rattle.vip_relation.specs.declared.point.Point.{Point}
+use Rattle.vip_relation.specs.declared.point.Point.TheVariants.{Dispatch as DispatchPoint, Stop as StopPoint, Other as OtherPoint}
+use Rattle.vip_relation.proofs.Along.{states-more, soon-move, run-split, Later, later-run, later-one, shown-later}
+
+-- ---- the pictures at a state
+
+-- the window of a frame among the first so many has ended
+pub ended : (m t : ℕ) → m < windows_ended t → window_end m ≤ t
+ended m t h = omega (arith, h)
+
+-- and that of the next one has not
+not_ended : (t : ℕ) → t < window_end (windows_ended t)
+not_ended t = omega arith
+
+filter_same : (p q : ℕ → Bool) (w n : ℕ) → ((m : ℕ) → m < w + n → p m ≡ q m) → filter p (numbers_from w n) ≡ filter q (numbers_from w n)
+filter_same p q w zero h = refl
+filter_same p q w (suc n) h =
+    ap (λ keep. cond keep (w ∷ filter p (numbers_from (w + 1) n)) (filter p (numbers_from (w + 1) n))) (h w (omega arith))
+    ∙ ap (λ others. cond (q w) (w ∷ others) others) (filter_same p q (w + 1) n (λ m l. h m (omega (arith, l))))
+
+-- they don't depend on the states from there on
+pub pictures-later : (i : Interpreter) (xs ys : List Machine) (before t : ℕ) → before ≤ t → Later t ys → pictures_at i (xs ++ ys) before t ≡ pictures_at i xs before t
+pictures-later i xs ys before t order later =
+    ap (map Picture)
+    (filter_same (is_shown i.rom (xs ++ ys)) (is_shown i.rom xs) (windows_ended before) (windows_ended t - windows_ended before)
+    (λ m l. shown-later i.rom t m xs ys (ended m t (omega (arith, l, order))) later))
+
+-- ---- state by state
+
+module _ (i : Interpreter) (game : List ℕ) (script : List KeyEvent) where
+  abbrev pub state : ℕ → Machine
+  state n = after_moves i.rom (held_at script) (start game) n
+
+  abbrev pub earlier : ℕ → List Machine
+  earlier n = states i.rom (held_at script) (start game) n
+
+  abbrev pub onward : ℕ → ℕ → List Machine
+  onward limit n = run_to i.rom (held_at script) (state n) limit
+
+  -- the cycle of the state before
+  abbrev pub before : ℕ → ℕ
+  before zero = 0
+  before (suc n) = (state n).cycle
+
+  abbrev pub pictures : ℕ → List Event
+  pictures n = pictures_at i (earlier n) (before n) (state n).cycle
+
+  abbrev pub point : ℕ → List Event
+  point n = point_events (point_of i (state n)) (state n)
+
+  -- the events of the first n states
+  unfoldable pub past : ℕ → List Event
+  past zero = []
+  past (suc n) = past n ++ pictures n ++ point n
+
+  -- none of the first n states is a stop point
+  abbrev pub Runs : ℕ → Type 0
+  Runs n = (k : ℕ) → k < n → is_stop i (state k) ≡ false
+
+  pub in-order : (n : ℕ) → before n ≤ (state n).cycle
+  in-order zero = omega arith
+  in-order (suc n) = omega (arith, later-move i.rom (held_at script) (state n))
+
+  -- ---- the events of the run up to a limit
+
+  goes_on : (stop dispatch : Bool) (b : Machine) (others : List Event) → stop ≡ false → (if stop then Stopped b ∷ [] else if dispatch then Dispatch b ∷ others else others) ≡ point_events (if stop then StopPoint else if dispatch then DispatchPoint else OtherPoint) b ++ others
+  goes_on true dispatch b others runs = cc
+  goes_on false true b others runs = refl
+  goes_on false false b others runs = refl
+
+  stops : (stop dispatch : Bool) (b : Machine) (others : List Event) → stop ≡ true → (if stop then Stopped b ∷ [] else if dispatch then Dispatch b ∷ others else others) ≡ point_events (if stop then StopPoint else if dispatch then DispatchPoint else OtherPoint) b
+  stops true dispatch b others runs = refl
+  stops false dispatch b others runs = cc
+
+  last_one : (stop dispatch : Bool) (b : Machine) → (if stop then Stopped b ∷ [] else if dispatch then Dispatch b ∷ [] else []) ≡ point_events (if stop then StopPoint else if dispatch then DispatchPoint else OtherPoint) b
+  last_one true dispatch b = refl
+  last_one false true b = refl
+  last_one false false b = refl
+
+  -- the events ahead, from the n-th state on
+  abbrev ahead : ℕ → ℕ → List Event
+  ahead limit n = events_at i (game_run i game script limit) (before n) (onward limit n)
+
+  -- the pictures at the n-th state are the same by the whole run
+  pictures_whole : (limit n : ℕ) → (state n).cycle ≤ limit → pictures_at i (game_run i game script limit) (before n) (state n).cycle ≡ pictures n
+  pictures_whole limit n within =
+      ap (λ run. pictures_at i run (before n) (state n).cycle) (run-split i.rom (held_at script) limit n (start game) within)
+      ∙ pictures-later i (earlier n) (onward limit n) (before n) (state n).cycle (in-order n) (later-run i.rom (held_at script) limit (state n))
+
+  -- at the n-th state: its pictures, its point, and the events ahead of it
+  ahead_here : (limit n : ℕ) → (state n).cycle ≤ limit → is_stop i (state n) ≡ false → ahead limit n ≡ pictures n ++ (point n ++ ahead limit (suc n))
+  ahead_here limit n within runs =
+      ap (events_at i (game_run i game script limit) (before n)) (run_to-next i.rom (held_at script) limit (state n) within)
+      ∙ ap (λ first. pictures_at i (game_run i game script limit) (before n) (state n).cycle ++ first) (goes_on (is_stop i (state n)) (is_dispatch i (state n)) (state n) (ahead limit (suc n)) runs)
+      ∙ ap (λ first. first ++ (point n ++ ahead limit (suc n))) (pictures_whole limit n within)
+
+  ahead_stop : (limit n : ℕ) → (state n).cycle ≤ limit → is_stop i (state n) ≡ true → ahead limit n ≡ pictures n ++ point n
+  ahead_stop limit n within stop =
+      ap (events_at i (game_run i game script limit) (before n)) (run_to-next i.rom (held_at script) limit (state n) within)
+      ∙ ap (λ first. pictures_at i (game_run i game script limit) (before n) (state n).cycle ++ first) (stops (is_stop i (state n)) (is_dispatch i (state n)) (state n) (ahead limit (suc n)) stop)
+      ∙ ap (λ first. first ++ point n) (pictures_whole limit n within)
+
+  ahead_last : (limit n : ℕ) → (state n).cycle ≤ limit → limit < (state (suc n)).cycle → ahead limit n ≡ pictures n ++ point n
+  ahead_last limit n within over =
+      ap (events_at i (game_run i game script limit) (before n)) (run_to-next i.rom (held_at script) limit (state n) within ∙ ap (λ tail. state n ∷ tail) (run_to-past i.rom (held_at script) limit (state (suc n)) over))
+      ∙ ap (λ first. pictures_at i (game_run i game script limit) (before n) (state n).cycle ++ first) (last_one (is_stop i (state n)) (is_dispatch i (state n)) (state n))
+      ∙ ap (λ first. first ++ point n) (pictures_whole limit n within)
+
+  regroup : (a b c d : List Event) → a ++ (b ++ (c ++ d)) ≡ (a ++ b ++ c) ++ d
+  regroup a b c d = simp append_assoc
+
+  all_ahead : (limit n : ℕ) → (state n).cycle ≤ limit → Runs n → events_of i game script limit ≡ past n ++ ahead limit n
+  unfolding past
+  all_ahead limit zero within runs = unfold events_of in refl
+  all_ahead limit (suc n) within runs =
+      let first : (state n).cycle ≤ limit = omega (arith, within, later-move i.rom (held_at script) (state n)) in
+      all_ahead limit n first (λ k l. runs k (omega (arith, l)))
+      ∙ ap (λ others. past n ++ others) (ahead_here limit n first (runs n (omega arith)))
+      ∙ regroup (past n) (pictures n) (point n) (ahead limit (suc n))
+
+  flat : (a b c : List Event) → a ++ (b ++ c) ≡ a ++ b ++ c
+  flat a b c = simp append_assoc
+
+  -- a run that ends at the n-th state
+  pub events-last : (limit n : ℕ) → (state n).cycle ≤ limit → limit < (state (suc n)).cycle → Runs n → events_of i game script limit ≡ past (suc n)
+  unfolding past
+  events-last limit n within over runs =
+      all_ahead limit n within runs ∙ ap (λ others. past n ++ others) (ahead_last limit n within over) ∙ flat (past n) (pictures n) (point n)
+
+  -- one that stops there
+  pub events-stop : (limit n : ℕ) → (state n).cycle ≤ limit → is_stop i (state n) ≡ true → Runs n → events_of i game script limit ≡ past (suc n)
+  unfolding past
+  events-stop limit n within stop runs =
+      all_ahead limit n within runs ∙ ap (λ others. past n ++ others) (ahead_stop limit n within stop) ∙ flat (past n) (pictures n) (point n)
+
+  -- one that goes on
+  pub events-on : (limit n : ℕ) → (state n).cycle ≤ limit → is_stop i (state n) ≡ false → Runs n → events_of i game script limit ≡ past (suc n) ++ ahead limit (suc n)
+  unfolding past
+  events-on limit n within runs_here runs =
+      all_ahead limit n within runs ∙ ap (λ others. past n ++ others) (ahead_here limit n within runs_here) ∙ regroup (past n) (pictures n) (point n) (ahead limit (suc n))
+
+  -- either way, those up to the n-th state come first, and a stop point is the last
+  pub record Goes (limit n : ℕ) : Type 0 where
+    pub others : List Event
+    pub is : events_of i game script limit ≡ past (suc n) ++ others
+    pub stop : is_stop i (state n) ≡ true → others ≡ []
+
+  goes_by : (limit n : ℕ) (stop : Bool) → is_stop i (state n) ≡ stop → (state n).cycle ≤ limit → Runs n → Goes limit n
+  goes_by limit n true h within runs = record { others = []; is = events-stop limit n within h runs ∙ sym (append-nil (past (suc n))); stop = λ e. refl }
+  goes_by limit n false h within runs = record { others = ahead limit (suc n); is = events-on limit n within h runs; stop = λ e. cc }
+
+  pub goes : (limit n : ℕ) → (state n).cycle ≤ limit → Runs n → Goes limit n
+  goes limit n within runs = goes_by limit n (is_stop i (state n)) refl within runs
+
+  -- up to a limit before the n-th state there are no more than those of the first n states
+  pub events-short : (limit n : ℕ) → limit < (state n).cycle → Runs n → length (events_of i game script limit) ≤ length (past n)
+  events-short limit zero over runs = absurd (omega (arith, over))
+  events-short limit (suc n) over runs = by_test (λ short. events-short limit n short (λ k l. runs k (omega (arith, l)))) (nat_le (state n).cycle limit) refl
+    where
+      by_test : (limit < (state n).cycle → length (events_of i game script limit) ≤ length (past n)) → (t : Bool) → nat_le (state n).cycle limit ≡ t → length (events_of i game script limit) ≤ length (past (suc n))
+      by_test shorter true h =
+          let within : (state n).cycle ≤ limit = grind (arith, nat_tests) in
+          rw (events-last limit n within over (λ k l. runs k (omega (arith, l)))) (omega arith)
+      by_test shorter false h =
+          let short : limit < (state n).cycle = grind (arith, nat_tests) in
+          let few : length (events_of i game script limit) ≤ length (past n) = shorter short in
+          let more : length (past (suc n)) ≡ length (past n) + length (pictures n) + length (point n) = unfold past in simp length-append in
+          omega (arith, few, more)
+
+  -- ---- at most one picture and one point at a state
+
+  -- what the video chip has of pictures at the next state, by what it had at this one
+  pub data Finishes (n count count' : ℕ) (finished' : Option (List (List ℕ))) : Type 0 where
+    NoPicture : count' ≡ count → pictures (suc n) ≡ [] → Finishes n count count' finished'
+    OnePicture : (m : ℕ) → count' ≡ count + 1 → pictures (suc n) ≡ Picture m ∷ [] → window_end m ≤ (state (suc n)).cycle → (state n).cycle < window_end m → finished' ≡ Some (picture_of i.rom (earlier (suc n)) m) → Finishes n count count' finished'
+
+  shown_same : (p q : ℕ → Bool) (w : ℕ) → ((m : ℕ) → m < w → p m ≡ q m) → shown_frames p w ≡ shown_frames q w
+  shown_same p q zero h = refl
+  shown_same p q (suc w) h =
+      ap (λ keep. cond keep (w ∷ shown_frames p w) (shown_frames p w)) (h w (omega arith))
+      ∙ ap (λ others. cond (q w) (w ∷ others) others) (shown_same p q w (λ m l. h m (omega (arith, l))))
+
+  -- one window at most ends in a move
+  windows : (n : ℕ) → (windows_ended (state (suc n)).cycle ≡ windows_ended (state n).cycle) ⊎ (windows_ended (state (suc n)).cycle ≡ suc (windows_ended (state n).cycle))
+  windows n = either (state n).cycle (state (suc n)).cycle (omega (arith, later-move i.rom (held_at script) (state n))) (soon-move i.rom (held_at script) (state n))
+    where
+      either : (c c' : ℕ) → c ≤ c' → c' ≤ c + 3 → (windows_ended c' ≡ windows_ended c) ⊎ (windows_ended c' ≡ suc (windows_ended c))
+      either c c' le soon = by_test (nat_le (windows_ended c') (windows_ended c)) refl
+        where
+          by_test : (t : Bool) → nat_le (windows_ended c') (windows_ended c) ≡ t → (windows_ended c' ≡ windows_ended c) ⊎ (windows_ended c' ≡ suc (windows_ended c))
+          by_test true h =
+              let low : windows_ended c' ≤ windows_ended c = grind (arith, nat_tests) in
+              inl (omega (arith, low, le))
+          by_test false h =
+              let high : windows_ended c < windows_ended c' = grind (arith, nat_tests) in
+              inr (omega (arith, high, soon))
+
+  -- the frames shown so far are the same by one state more
+  frames_kept : (n : ℕ) → shown_frames (is_shown i.rom (earlier (suc n))) (windows_ended (state n).cycle) ≡ shown_frames (is_shown i.rom (earlier n)) (windows_ended (state n).cycle)
+  frames_kept n =
+      shown_same (is_shown i.rom (earlier (suc n))) (is_shown i.rom (earlier n)) (windows_ended (state n).cycle)
+      (λ m l. ap (λ run. is_shown i.rom run m) (states-more i.rom (held_at script) n (start game)) ∙ shown-later i.rom (state n).cycle m (earlier n) (state n ∷ []) (ended m (state n).cycle l) (later-one (state n)))
+
+  -- n windows, or one more, by the frames and by the numbers of their pictures
+  none_more : (p : ℕ → Bool) (w w' : ℕ) → w' ≡ w → map Picture (filter p (numbers_from w (w' - w))) ≡ []
+  none_more p w w' same = ap (λ k. map Picture (filter p (numbers_from w k))) (nothing w w' same)
+    where
+      nothing : (w w' : ℕ) → w' ≡ w → w' - w ≡ 0
+      nothing w w' same = omega (arith, same)
+
+  one_more : (p : ℕ → Bool) (w w' : ℕ) → w' ≡ suc w → map Picture (filter p (numbers_from w (w' - w))) ≡ cond (p w) (Picture w ∷ []) []
+  one_more p w w' same = ap (λ k. map Picture (filter p (numbers_from w k))) (one w w' same) ∙ by_case (p w)
+    where
+      one : (w w' : ℕ) → w' ≡ suc w → w' - w ≡ 1
+      one w w' same = omega (arith, same)
+
+      by_case : (keep : Bool) → map Picture (cond keep (w ∷ []) []) ≡ cond keep (Picture w ∷ []) []
+      by_case true = refl
+      by_case false = refl
+
+  -- since reset every frame counts
+  since_reset : (rom : List ℕ) (run : List Machine) → shown_since 0 rom run ≡ is_shown rom run
+  since_reset rom run = λ i m. all_late (interrupt_at m) i && is_shown rom run m
+    where
+      all_late : (t : ℕ) → nat_le 0 t ≡ true
+      all_late t = le-leb 0 t (omega arith)
+
+  counted : (rom : List ℕ) (run : List Machine) (cycle : ℕ) (p : Pictures) → Shows rom run cycle p → p.count ≡ length (shown_frames (is_shown rom run) (windows_ended cycle))
+  counted rom run cycle p shows = shows.count ∙ ap (λ shown. length (shown_frames shown (windows_ended cycle))) (since_reset rom run)
+
+  last_finished : (rom : List ℕ) (run : List Machine) (cycle : ℕ) (p : Pictures) → Shows rom run cycle p → p.finished ≡ option_map (picture_of rom run) (slice_get (shown_frames (is_shown rom run) (windows_ended cycle)) 0)
+  last_finished rom run cycle p shows = shows.finished ∙ ap (λ shown. option_map (picture_of rom run) (slice_get (shown_frames shown (windows_ended cycle)) 0)) (since_reset rom run)
+
+  module _ (n : ℕ) (p p' : Pictures) (shows : Shows i.rom (earlier n) (state n).cycle p) (shows' : Shows i.rom (earlier (suc n)) (state (suc n)).cycle p') where
+    abbrev is_shown_next : ℕ → Bool
+    is_shown_next = is_shown i.rom (earlier (suc n))
+
+    -- the frames shown up to here
+    frames_here : p.count ≡ length (shown_frames is_shown_next (windows_ended (state n).cycle))
+    frames_here = counted i.rom (earlier n) (state n).cycle p shows ∙ ap length (sym (frames_kept n))
+
+    by_frame : (keep : Bool) → is_shown_next (windows_ended (state n).cycle) ≡ keep → windows_ended (state (suc n)).cycle ≡ suc (windows_ended (state n).cycle) → Finishes n p.count p'.count p'.finished
+    by_frame true shown next =
+        let w = windows_ended (state n).cycle in
+        let frames : shown_frames is_shown_next (windows_ended (state (suc n)).cycle) ≡ w ∷ shown_frames is_shown_next w =
+        ap (shown_frames is_shown_next) next ∙ ap (λ keep. cond keep (w ∷ shown_frames is_shown_next w) (shown_frames is_shown_next w)) shown in
+        OnePicture w
+        (counted i.rom (earlier (suc n)) (state (suc n)).cycle p' shows' ∙ ap length frames ∙ ap suc (sym frames_here) ∙ sym (add-one p.count))
+        (one_more is_shown_next w (windows_ended (state (suc n)).cycle) next ∙ ap (λ keep. cond keep (Picture w ∷ []) []) shown)
+        (ended w (state (suc n)).cycle (omega (arith, next)))
+        (not_ended (state n).cycle)
+        (last_finished i.rom (earlier (suc n)) (state (suc n)).cycle p' shows' ∙ ap (λ l. option_map (picture_of i.rom (earlier (suc n))) (slice_get l 0)) frames)
+    by_frame false shown next =
+        let w = windows_ended (state n).cycle in
+        let frames : shown_frames is_shown_next (windows_ended (state (suc n)).cycle) ≡ shown_frames is_shown_next w =
+        ap (shown_frames is_shown_next) next ∙ ap (λ keep. cond keep (w ∷ shown_frames is_shown_next w) (shown_frames is_shown_next w)) shown in
+        NoPicture
+        (counted i.rom (earlier (suc n)) (state (suc n)).cycle p' shows' ∙ ap length frames ∙ sym frames_here)
+        (one_more is_shown_next w (windows_ended (state (suc n)).cycle) next ∙ ap (λ keep. cond keep (Picture w ∷ []) []) shown)
+
+    by_window : (windows_ended (state (suc n)).cycle ≡ windows_ended (state n).cycle) ⊎ (windows_ended (state (suc n)).cycle ≡ suc (windows_ended (state n).cycle)) → Finishes n p.count p'.count p'.finished
+    by_window (inl same) =
+        NoPicture
+        (counted i.rom (earlier (suc n)) (state (suc n)).cycle p' shows' ∙ ap (λ w. length (shown_frames is_shown_next w)) same ∙ sym frames_here)
+        (none_more is_shown_next (windows_ended (state n).cycle) (windows_ended (state (suc n)).cycle) same)
+    by_window (inr next) = by_frame (is_shown_next (windows_ended (state n).cycle)) refl next
+
+    pub finishes : Finishes n p.count p'.count p'.finished
+    finishes = by_window (windows n)
+
+  -- ---- so a run has few events
+
+  short_map : (ms : List ℕ) (k : ℕ) → length ms ≤ k → length (map Picture ms) ≤ k
+  short_map ms k h = rw length-map h
+
+  short_filter : (p : ℕ → Bool) (w n : ℕ) → length (filter p (numbers_from w n)) ≤ n
+  short_filter p w zero = omega arith
+  short_filter p w (suc n) = by_case (p w) (short_filter p (w + 1) n)
+    where
+      by_case : (keep : Bool) → length (filter p (numbers_from (w + 1) n)) ≤ n → length (cond keep (w ∷ filter p (numbers_from (w + 1) n)) (filter p (numbers_from (w + 1) n))) ≤ suc n
+      by_case true h = omega (arith, h)
+      by_case false h = omega (arith, h)
+
+  few_pictures : (n : ℕ) → length (pictures n) ≤ 1
+  few_pictures zero = omega arith
+  few_pictures (suc n) = by_window (windows n)
+    where
+      by_window : (windows_ended (state (suc n)).cycle ≡ windows_ended (state n).cycle) ⊎ (windows_ended (state (suc n)).cycle ≡ suc (windows_ended (state n).cycle)) → length (pictures (suc n)) ≤ 1
+      by_window (inl same) = short_map _ 1 (omega (arith, same, short_filter (is_shown i.rom (earlier (suc n))) (windows_ended (state n).cycle) (windows_ended (state (suc n)).cycle - windows_ended (state n).cycle)))
+      by_window (inr next) = short_map _ 1 (omega (arith, next, short_filter (is_shown i.rom (earlier (suc n))) (windows_ended (state n).cycle) (windows_ended (state (suc n)).cycle - windows_ended (state n).cycle)))
+
+  few_points : (n : ℕ) → length (point n) ≤ 1
+  few_points n = by_case (point_of i (state n))
+    where
+      by_case : (p : Point) → length (point_events p (state n)) ≤ 1
+      by_case StopPoint = omega arith
+      by_case DispatchPoint = omega arith
+      by_case OtherPoint = omega arith
+
+  pub few-events : (n : ℕ) → length (past n) ≤ 2 * n
+  unfolding past
+  few-events zero = omega arith
+  few-events (suc n) =
+      let all : length (past n ++ pictures n ++ point n) ≡ length (past n) + length (pictures n) + length (point n) = simp length-append in
+      omega (arith, all, few-events n, few_pictures n, few_points n)

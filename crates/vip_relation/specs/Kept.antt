@@ -1,0 +1,46 @@
+-- What the fields of a machine that runs a game mean, and what holds of them.
+use Rattle.std.specs.Prelude.{length, ◌≡◌, ℕ, [], ◌∷◌, ◌<◌, ◌≤◌, Some}
+use Rattle.std.specs.Option.{option_map}
+use Rattle.machine.specs.Pictures.{window_end, picture_of}
+use Rattle.chip8_lang.specs.Events.Event.{Picture as PictureEvent}
+use Rattle.chip8_lang.specs.View.{seen}
+use Rattle.vip_relation.specs.Interpreters.{interpreter_of}
+use Rattle.vip_relation.specs.State.{screen_size, VipState, interpreter, events_waiting, state_after, states_before}
+use Rattle.vip_relation.specs.Follows.{Follows}
+use Rattle.vip_relation.specs.Points.{point_of, point_events}
+use Rattle.vip_relation.specs.declared.point.Point.{Point}
+use Rattle.vip_relation.specs.declared.vip.Waits.{Waits}
+use Rattle.vip_relation.specs.declared.vip.Waits.TheVariants.{Picture, Point as PointWaits, Nothing}
+use Rattle.vip_relation.specs.declared.vip.Vip.TheInside.{Inside}
+
+abbrev pub state_of : Inside → VipState
+state_of a =
+    record {
+      edition = a.edition;
+      game = a.game.items;
+      moves = a.moves;
+      met = a.met;
+      board = a.board;
+      last = option_map seen a.last;
+      shown = a.shown.items;
+    }
+
+-- the picture of a frame was finished by the last move, and its event waits with that of the point
+pub record PictureWaits (v : VipState) (point : Point) : Type 0 where
+  pub frame : ℕ
+  pub events : events_waiting v ≡ PictureEvent frame ∷ point_events point v.board.machine
+  pub ended : window_end frame ≤ v.board.machine.cycle
+  pub first : (k : ℕ) → k < v.moves → (state_after v k).cycle < window_end frame
+  pub finished : v.board.pictures.finished ≡ Some (picture_of (interpreter v).rom (states_before v v.moves) frame)
+
+-- the events that wait at the present state
+abbrev pub HasWaiting : Waits → VipState → Point → Type 0
+HasWaiting Picture v point = PictureWaits v point
+HasWaiting PointWaits v point = events_waiting v ≡ point_events point v.board.machine
+HasWaiting Nothing v point = events_waiting v ≡ []
+
+pub record IsKept (a : Inside) : Type 0 where
+  pub follows : Follows (state_of a)
+  pub point : a.point ≡ point_of (interpreter_of a.edition) a.board.machine
+  pub waiting : HasWaiting a.waits (state_of a) a.point
+  pub size : length a.shown.items ≡ screen_size a.edition

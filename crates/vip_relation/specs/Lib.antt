@@ -1,0 +1,10 @@
+pub mod Interpreters
+pub mod Stops
+pub mod Points
+pub mod State
+pub mod Follows
+pub mod Meets
+pub mod Parts
+pub mod Waiting
+pub mod Kept
+pub mod Reading

@@ -1,0 +1,114 @@
+-- What the calls answer, and what they make of a machine that runs a game.
+use Rattle.std.specs.Prelude.{◌≡◌, ℕ, ◌+◌, ◌<◌, ◌≤◌, ◌⊎◌, true, List, [], ◌∷◌, length, max, Some, Result, Ok, Err}
+use Rattle.machine.specs.Board.{Machine, length_of}
+use Rattle.machine.specs.Keys.{Event as KeyEvent}
+use Rattle.machine.specs.Pictures.{window_end, picture_of}
+use Rattle.chip8_lang.specs.declared.view.Edition.{Edition}
+use Rattle.chip8_lang.specs.declared.view.StopRecord.{StopRecord}
+use Rattle.chip8_lang.specs.Events.{Event, is_stop}
+use Rattle.chip8_lang.specs.Events.Event.{Picture, Dispatch, Stopped}
+use Rattle.chip8_lang.specs.State.{memory_size}
+use Rattle.chip8_lang.specs.View.{view_at}
+use Rattle.vip_board.specs.Moves.{moved, name_of}
+use Rattle.vip_board.specs.declared.board.Move.{Move}
+use Rattle.vip_relation.specs.State.{VipState, interpreter, events_to, events_left, events_waiting, run_of, moves_by, screen_bytes, started, state_after}
+use Rattle.vip_relation.specs.Stops.{stop_record}
+use Rattle.vip_relation.specs.declared.vip.Met.{Met}
+use Rattle.vip_relation.specs.declared.vip.Met.TheVariants.{Picture as PictureMet, Dispatch as DispatchMet, Stopped as StoppedMet, End}
+use Rattle.vip_relation.specs.declared.start.StartFault.{StartFault}
+use Rattle.vip_relation.specs.declared.start.StartFault.TheVariants.{GameTooLarge, NoMemory}
+
+-- ---- the start
+
+-- A game is too large exactly where it doesn't fit into game memory.
+abbrev pub StartAnswers : Edition → List ℕ → List KeyEvent → Result VipState StartFault → Type 0
+StartAnswers e game script (Ok v) = (length game ≤ memory_size e) × (v ≡ started e game script)
+StartAnswers e game script (Err (GameTooLarge n)) = (memory_size e < length game) × (n ≡ length game)
+StartAnswers e game script (Err NoMemory) = length game ≤ memory_size e
+
+-- a stop point was met, where the board stays
+pub record HasStopped (v : VipState) : Type 0 where
+  pub stop : is_stop (interpreter v) v.board.machine ≡ true
+  pub met : events_waiting v ≡ []
+
+-- ---- one event
+
+-- the same game of the same edition under the same script
+pub record IsSame (old new : VipState) : Type 0 where
+  pub edition : new.edition ≡ old.edition
+  pub game : new.game ≡ old.game
+  pub script : new.board.script ≡ old.board.script
+
+-- one event more is met, and these are left up to the limit
+pub record MeetsOne (limit : ℕ) (old new : VipState) (others : List Event) : Type 0 where
+  pub same : IsSame old new
+  pub met : new.met ≡ old.met + 1
+  pub left : events_left new limit ≡ others
+  pub within : new.board.machine.cycle ≤ limit
+
+-- what is told of the last dispatch point stays
+pub record TellsSame (old new : VipState) : Type 0 where
+  pub last : new.last ≡ old.last
+  pub shown : new.shown ≡ old.shown
+
+-- the picture of frame m is finished, in the first state at or after the end of its window, and is the last that the video chip finished
+pub record MeetsPicture (limit : ℕ) (old new : VipState) (m : ℕ) (left : List Event) : Type 0 where
+  pub one : MeetsOne limit old new left
+  pub told : TellsSame old new
+  pub ended : window_end m ≤ new.board.machine.cycle
+  pub first : (k : ℕ) → k < new.moves → (state_after new k).cycle < window_end m
+  pub picture : new.board.pictures.finished ≡ Some (picture_of (interpreter old).rom (run_of old limit) m)
+  pub goes_on : HasStopped new → ⊥
+
+-- the board is at dispatch point b, which is told of from now on
+pub record MeetsDispatch (limit : ℕ) (old new : VipState) (b : Machine) (left : List Event) : Type 0 where
+  pub one : MeetsOne limit old new left
+  pub machine : new.board.machine ≡ b
+  pub last : new.last ≡ Some (view_at old.edition b)
+  pub shown : new.shown ≡ screen_bytes old.edition b
+  pub goes_on : HasStopped new → ⊥
+
+-- the board is at stop point b, and stays there
+pub record MeetsStop (limit : ℕ) (old new : VipState) (b : Machine) (left : List Event) (answer : StopRecord) : Type 0 where
+  pub one : MeetsOne limit old new left
+  pub told : TellsSame old new
+  pub machine : new.board.machine ≡ b
+  pub stop : answer ≡ stop_record old.last b
+  pub stopped : HasStopped new
+
+-- no event is left up to the limit, and all moves that end by then are made
+pub record Ends (limit : ℕ) (old new : VipState) : Type 0 where
+  pub same : IsSame old new
+  pub told : TellsSame old new
+  pub met : new.met ≡ old.met
+  pub moves : new.moves ≡ max old.moves (moves_by old limit)
+  pub goes_on : HasStopped new → ⊥
+
+-- what an answer says, by the events that were left
+abbrev pub MeetsNext : ℕ → VipState → VipState → List Event → Met → Type 0
+MeetsNext limit old new [] End = Ends limit old new
+MeetsNext limit old new (Picture m ∷ left) PictureMet = MeetsPicture limit old new m left
+MeetsNext limit old new (Dispatch b ∷ left) DispatchMet = MeetsDispatch limit old new b left
+MeetsNext limit old new (Stopped b ∷ left) (StoppedMet stop) = MeetsStop limit old new b left stop
+MeetsNext limit old new _ _ = ⊥
+
+-- after a stop it is answered again
+pub record StopsAgain (old new : VipState) (met : Met) : Type 0 where
+  pub same : new ≡ old
+  pub stop : met ≡ StoppedMet (stop_record old.last old.board.machine)
+
+-- ---- one move
+
+-- there is no move to be made: the board is at a stop point, or the move would end after the limit
+abbrev pub Rests : ℕ → VipState → Type 0
+Rests limit v =
+    (is_stop (interpreter v) v.board.machine ≡ true) ⊎ (limit < v.board.machine.cycle + length_of v.board.rom v.board.machine)
+
+-- the board made its next move, and every event up to its cycle is met
+pub record MovesOn (old new : VipState) (name : Move) : Type 0 where
+  pub edition : new.edition ≡ old.edition
+  pub game : new.game ≡ old.game
+  pub moves : new.moves ≡ old.moves + 1
+  pub board : new.board ≡ moved old.board
+  pub move : name ≡ name_of old.board.machine
+  pub met : new.met ≡ length (events_to new new.board.machine.cycle)

@@ -1,0 +1,34 @@
+-- What the parts of a call make of a machine that runs a game.
+use Rattle.std.specs.Prelude.{◌≡◌, ℕ, ◌+◌, ◌<◌, ◌≤◌, [], length, Option, None, Some}
+use Rattle.vip_board.specs.Moves.{moved, name_of}
+use Rattle.vip_board.specs.declared.board.Move.{Move}
+use Rattle.vip_relation.specs.State.{VipState, events_left, events_waiting}
+use Rattle.vip_relation.specs.Meets.{IsSame, MeetsNext, HasStopped}
+use Rattle.vip_relation.specs.declared.vip.Met.{Met}
+
+-- the first event that waits at the present state is met, if there is one, and the board stays
+pub record MeetsFirst (old new : VipState) (answer : Met) : Type 0 where
+  pub next : (limit : ℕ) → old.board.machine.cycle ≤ limit → MeetsNext limit old new (events_left old limit) answer
+  pub same : IsSame old new
+  pub waiting : length (events_waiting old) ≡ length (events_waiting new) + 1
+  pub board : new.board ≡ old.board
+  pub moves : new.moves ≡ old.moves
+
+abbrev pub MeetsHere : VipState → VipState → Option Met → Type 0
+MeetsHere old new None = (events_waiting old ≡ []) × (new ≡ old)
+MeetsHere old new (Some met) = MeetsFirst old new met
+
+-- all events that wait at the present state are met, and the board stays
+pub record MeetsAll (old new : VipState) : Type 0 where
+  pub edition : new.edition ≡ old.edition
+  pub game : new.game ≡ old.game
+  pub board : new.board ≡ old.board
+  pub moves : new.moves ≡ old.moves
+  pub met : events_waiting new ≡ []
+
+-- the board made its next move, to a state whose events wait
+pub record Steps (old new : VipState) (name : Move) : Type 0 where
+  pub state : new ≡ record old { moves = old.moves + 1; board = moved old.board }
+  pub move : name ≡ name_of old.board.machine
+  pub later : old.board.machine.cycle < new.board.machine.cycle
+  pub goes_on : HasStopped new → ⊥

@@ -1,0 +1,17 @@
+//! A board that runs a game in the interpreter's ROM, from event to event: finished pictures, dispatch points, and the stop.
+//!
+//! It stands on the board, on the ROM's bytes and on the definition of the events of a run (`chip8_lang`), for both editions. The layer
+//! above may rely on this, for every game, key script and limit: after every call the board is the state of the defined run from reset
+//! after the moves made, its video chip has the pictures of these moves, and what `last` and `shown` tell is that of the last dispatch
+//! point met; `advance` answers exactly the next event of the run. No rule of the language stands here.
+#![tactic(auto)]
+
+mod point;
+mod start;
+#[cfg(test)]
+mod tests;
+mod view;
+mod vip;
+
+pub use start::StartFault;
+pub use vip::{Met, Vip};
