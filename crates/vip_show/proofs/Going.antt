@@ -1,0 +1,413 @@
+-- A run on its way: what was met is written, and what is left is to come.
+use Rattle.std.proofs.Common.{◌≡◌, ℕ, ◌+◌, ◌≤◌, List, [], ◌∷◌, ◌++◌, length, replicate, refl, sym, ap, ◌∙◌, subst, arith, Bool, true, false, append-nil, append_assoc}
+use Rattle.std.specs.Prelude.{if◌then◌else◌, Option, Some, None, Result, Ok, Err, IsErr, ◌<◌}
+use Rattle.std.specs.List.{flat_map}
+use Rattle.std.specs.Option.{option_map, option_map_or, option_to_list}
+use Rattle.std.proofs.lemmas.Grind.{flat_map-append}
+use Rattle.machine.specs.Board.{Machine}
+use Rattle.machine.specs.Pictures.{picture_of}
+use Rattle.machine.specs.Keys.{Event as KeyEvent}
+use Rattle.chip8_lang.specs.declared.view.Edition.{Edition}
+use Rattle.chip8_lang.specs.declared.view.StopRecord.{StopRecord}
+use Rattle.chip8_lang.specs.Events.{Event, events_of, game_run}
+use Rattle.chip8_lang.specs.Events.Event.{Picture, Dispatch, Stopped}
+use Rattle.chip8_lang.specs.Places.{state_of}
+use Rattle.chip8_lang.specs.View.{View, view_at}
+use Rattle.vip_outside.specs.Sink.{SinkMeaning, PutsWhole, PutFails, PutAnswers}
+use Rattle.vip_outside.specs.Pieces.{PutsAll, FailsWithin}
+use Rattle.vip_outside.specs.declared.sink.Failed.{Failed}
+use Rattle.vip_outside.proofs.PiecesLemmas.{PutsAll-nil, PutsAll-append, PutsAll-one, FailsWithin-snoc, FailsWithin-more}
+use Rattle.vip_text.specs.Summaries.{summary_line}
+use Rattle.vip_text.specs.Traces.{trace_line}
+use Rattle.vip_text.specs.Screens.{picture_file}
+use Rattle.vip_relation.specs.Follows.{Follows, last_dispatch, last_view, last_screen}
+use Rattle.vip_relation.proofs.Steps.{few-met}
+use Rattle.vip_relation.specs.Interpreters.{interpreter_of}
+use Rattle.vip_relation.specs.Meets.{IsSame, MeetsNext, MeetsPicture, MeetsDispatch, MeetsStop, Ends, HasStopped}
+use Rattle.vip_relation.specs.State.{VipState, interpreter, run_of, events_to, events_left, screen_size, screen_bytes}
+use Rattle.vip_relation.specs.Stops.{stop_record, pc_of, opcode_of, stop_at}
+use Rattle.vip_relation.specs.declared.vip.Met.{Met}
+use Rattle.vip_relation.specs.declared.vip.Met.TheVariants as met
+use Rattle.vip_show.specs.declared.run.RunEnd.{RunEnd}
+use Rattle.vip_show.specs.declared.run.RunEnd.TheVariants as run
+use Rattle.vip_show.specs.declared.run.Shown.{Shown}
+use Rattle.vip_show.specs.declared.run.Shown.TheVariants.{Lines, Pictures, Nothing}
+use Rattle.vip_show.specs.declared.run.Tally.{Tally}
+use Rattle.vip_show.specs.Answers.{IsFresh, ending_in, Shows, ShowAnswers, traced, pictured, summed}
+use Rattle.vip_show.specs.Endings.{Ending, ending_after, ending_of}
+use Rattle.vip_show.specs.Endings.Ending.{AtLimit, AtStop}
+use Rattle.vip_show.specs.Output.{count_of, is_dispatch_event, is_picture_event, trace_lines, picture_pieces, screen_piece, lit_at, summary}
+use Rattle.vip_show.specs.Run.{piece_of, pieces_of, event_piece, screen_told, lit_told, PieceAnswers, Ran, RunAnswers}
+use Rattle.vip_relation.proofs.Meetings.{last-dispatched, last-kept}
+use Rattle.vip_show.proofs.Lists.{count-more, counted, stop-last}
+
+-- ---- what an answer says of the events left
+
+pub record Dispatched (limit : ℕ) (v v' : VipState) (left : List Event) : Type 0 where
+  pub b : Machine
+  pub rest : List Event
+  pub split : left ≡ Dispatch b ∷ rest
+  pub meets : MeetsDispatch limit v v' b rest
+
+pub at_dispatch : (limit : ℕ) (v v' : VipState) (left : List Event) → MeetsNext limit v v' left met.Dispatch → Dispatched limit v v' left
+at_dispatch limit v v' [] m = absurd m
+at_dispatch limit v v' (Picture k ∷ rest) m = absurd m
+at_dispatch limit v v' (Dispatch b ∷ rest) m = record { b = b; rest = rest; split = refl; meets = m }
+at_dispatch limit v v' (Stopped b ∷ rest) m = absurd m
+
+pub record Pictured (limit : ℕ) (v v' : VipState) (left : List Event) : Type 0 where
+  pub m : ℕ
+  pub rest : List Event
+  pub split : left ≡ Picture m ∷ rest
+  pub meets : MeetsPicture limit v v' m rest
+
+pub at_picture : (limit : ℕ) (v v' : VipState) (left : List Event) → MeetsNext limit v v' left met.Picture → Pictured limit v v' left
+at_picture limit v v' [] m = absurd m
+at_picture limit v v' (Picture k ∷ rest) m = record { m = k; rest = rest; split = refl; meets = m }
+at_picture limit v v' (Dispatch b ∷ rest) m = absurd m
+at_picture limit v v' (Stopped b ∷ rest) m = absurd m
+
+pub record Halted (limit : ℕ) (v v' : VipState) (left : List Event) (stop : StopRecord) : Type 0 where
+  pub b : Machine
+  pub rest : List Event
+  pub split : left ≡ Stopped b ∷ rest
+  pub meets : MeetsStop limit v v' b rest stop
+
+pub at_stop : (limit : ℕ) (v v' : VipState) (left : List Event) (stop : StopRecord) → MeetsNext limit v v' left (met.Stopped stop) → Halted limit v v' left stop
+at_stop limit v v' [] stop m = absurd m
+at_stop limit v v' (Picture k ∷ rest) stop m = absurd m
+at_stop limit v v' (Dispatch b ∷ rest) stop m = absurd m
+at_stop limit v v' (Stopped b ∷ rest) stop m = record { b = b; rest = rest; split = refl; meets = m }
+
+pub record Ended (limit : ℕ) (v v' : VipState) (left : List Event) : Type 0 where
+  pub none : left ≡ []
+  pub ends : Ends limit v v'
+
+pub at_end : (limit : ℕ) (v v' : VipState) (left : List Event) → MeetsNext limit v v' left met.End → Ended limit v v' left
+at_end limit v v' [] m = record { none = refl; ends = m }
+at_end limit v v' (Picture k ∷ rest) m = absurd m
+at_end limit v v' (Dispatch b ∷ rest) m = absurd m
+at_end limit v v' (Stopped b ∷ rest) m = absurd m
+
+-- ---- the same run
+
+-- the run and the pieces of a machine with the same edition, game and script
+run_same : (limit : ℕ) (v v' : VipState) → v'.edition ≡ v.edition → v'.game ≡ v.game → v'.board.script ≡ v.board.script → run_of v' limit ≡ run_of v limit
+run_same limit v v' e g s =
+    ap (λ x. game_run (interpreter_of x) v'.game v'.board.script limit) e
+    ∙ ap (λ x. game_run (interpreter_of v.edition) x v'.board.script limit) g
+    ∙ ap (λ (x : List KeyEvent). game_run (interpreter_of v.edition) v.game x limit) s
+
+rom_same : (v v' : VipState) → v'.edition ≡ v.edition → (interpreter v').rom ≡ (interpreter v).rom
+rom_same v v' e = ap (λ x. (interpreter_of x).rom) e
+
+length-snoc : (es : List Event) (e : Event) → length (es ++ e ∷ []) ≡ length es + 1
+length-snoc [] e = refl
+length-snoc (x ∷ es) e = let same = length-snoc es e in omega (arith, same)
+
+plus-none : (n : ℕ) → n ≡ n + 0
+plus-none n = omega arith
+
+-- ---- on its way
+
+-- From a start up to v, with these counts: of the events up to the limit some are met and written.
+pub record Going (shown : Shown) (limit : ℕ) (start v : VipState) (out out' : SinkMeaning) (dispatches pictures : ℕ) : Type 0 where
+  pub edition : v.edition ≡ start.edition
+  pub game : v.game ≡ start.game
+  pub script : v.board.script ≡ start.board.script
+  pub done : List Event
+  pub split : events_to start limit ≡ done ++ events_left v limit
+  pub met : v.met ≡ length done
+  pub puts : PutsAll (pieces_of shown start limit done) out out'
+  pub dispatches_are : dispatches ≡ count_of is_dispatch_event done
+  pub pictures_are : pictures ≡ count_of is_picture_event done
+  pub last : v.last ≡ last_view start.edition done
+  pub screen : v.shown ≡ last_screen start.edition done
+  pub ends : ending_of start.edition (events_to start limit) ≡ ending_after start.edition (pc_of v.last) (opcode_of v.last) (events_left v limit)
+
+module _ (shown : Shown) (limit : ℕ) (start : VipState) (out : SinkMeaning) where
+  -- no event was met
+  pub going-first : IsFresh start → Going shown limit start start out out 0 0
+  going-first fresh = record {
+    edition = refl;
+    game = refl;
+    script = refl;
+    done = [];
+    split = rw fresh.met refl;
+    met = fresh.met;
+    puts = PutsAll-nil out;
+    dispatches_are = refl;
+    pictures_are = refl;
+    last = fresh.last;
+    screen = fresh.dark;
+    ends = rw (fresh.last, fresh.met) refl;
+  }
+
+  module _ (v v' : VipState) (out' out'' : SinkMeaning) (dispatches pictures : ℕ) (g : Going shown limit start v out out' dispatches pictures) where
+    -- what is left begins with this event: it is the next of all
+    next : (event : Event) (rest : List Event) → events_left v limit ≡ event ∷ rest → events_to start limit ≡ (g.done ++ event ∷ []) ++ rest
+    next event rest split = g.split ∙ ap (λ left. g.done ++ left) split ∙ sym (append_assoc g.done (event ∷ []) rest)
+
+    abbrev piece_here : Event → List (List ℕ)
+    piece_here event = piece_of shown start.edition (interpreter start).rom (run_of start limit) event
+
+    puts-next : (event : Event) → PutsAll (piece_here event) out' out'' → PutsAll (pieces_of shown start limit (g.done ++ event ∷ [])) out out''
+    puts-next event put =
+        rw (flat_map-append (piece_of shown start.edition (interpreter start).rom (run_of start limit)) g.done (event ∷ []), append-nil)
+        (PutsAll-append (pieces_of shown start limit g.done) (piece_here event) out out' out'' g.puts put)
+
+    -- a fault at the piece of this event
+    pub fails-next : (event : Event) (rest : List Event) (piece : List ℕ) → events_left v limit ≡ event ∷ rest → piece_here event ≡ piece ∷ [] → PutFails piece out' out'' → FailsWithin (pieces_of shown start limit (events_to start limit)) out out''
+    fails-next event rest piece split is fault =
+        rw (next event rest split, flat_map-append (piece_of shown start.edition (interpreter start).rom (run_of start limit)) (g.done ++ event ∷ []) rest, flat_map-append (piece_of shown start.edition (interpreter start).rom (run_of start limit)) g.done (event ∷ []), append-nil, is)
+        (FailsWithin-more (pieces_of shown start limit g.done ++ piece ∷ []) (pieces_of shown start limit rest) out out'' (FailsWithin-snoc (pieces_of shown start limit g.done) piece [] out out' out'' g.puts fault))
+
+    pub going-dispatch : (d : Dispatched limit v v' (events_left v limit)) → PutsAll (piece_here (Dispatch d.b)) out' out'' → Going shown limit start v' out out'' (dispatches + 1) pictures
+    going-dispatch d put = record {
+      edition = d.meets.one.same.edition ∙ g.edition;
+      game = d.meets.one.same.game ∙ g.game;
+      script = d.meets.one.same.script ∙ g.script;
+      done = g.done ++ Dispatch d.b ∷ [];
+      split = next (Dispatch d.b) d.rest d.split ∙ ap (λ left. (g.done ++ Dispatch d.b ∷ []) ++ left) (sym d.meets.one.left);
+      met = rw (d.meets.one.met, g.met) (sym (length-snoc g.done (Dispatch d.b)));
+      puts = puts-next (Dispatch d.b) put;
+      dispatches_are = rw (count-more is_dispatch_event g.done (Dispatch d.b)) (ap (λ n. n + 1) g.dispatches_are);
+      pictures_are = rw (count-more is_picture_event g.done (Dispatch d.b)) (g.pictures_are ∙ plus-none _);
+      last = last_is;
+      screen = d.meets.shown ∙ ap (λ e. screen_bytes e d.b) g.edition ∙ sym (ap (λ p. option_map_or (screen_bytes start.edition) p (replicate (screen_size start.edition) 0)) (last-dispatched g.done d.b));
+      ends = g.ends ∙ ap (ending_after start.edition (pc_of v.last) (opcode_of v.last)) d.split ∙ here ∙ ap (λ left. ending_after start.edition (pc_of v'.last) (opcode_of v'.last) left) (sym d.meets.one.left);
+    }
+      where
+        told : v'.last ≡ Some (view_at start.edition d.b)
+        told = d.meets.last ∙ ap (λ e. Some (view_at e d.b)) g.edition
+
+        last_is : v'.last ≡ last_view start.edition (g.done ++ Dispatch d.b ∷ [])
+        last_is = told ∙ sym (ap (λ p. option_map (view_at start.edition) p) (last-dispatched g.done d.b))
+
+        here : ending_after start.edition (pc_of v.last) (opcode_of v.last) (Dispatch d.b ∷ d.rest) ≡ ending_after start.edition (pc_of v'.last) (opcode_of v'.last) d.rest
+        here = unfold ending_after in rw told refl
+
+    pub going-picture : (d : Pictured limit v v' (events_left v limit)) → PutsAll (piece_here (Picture d.m)) out' out'' → Going shown limit start v' out out'' dispatches (pictures + 1)
+    going-picture d put = record {
+      edition = d.meets.one.same.edition ∙ g.edition;
+      game = d.meets.one.same.game ∙ g.game;
+      script = d.meets.one.same.script ∙ g.script;
+      done = g.done ++ Picture d.m ∷ [];
+      split = next (Picture d.m) d.rest d.split ∙ ap (λ left. (g.done ++ Picture d.m ∷ []) ++ left) (sym d.meets.one.left);
+      met = rw (d.meets.one.met, g.met) (sym (length-snoc g.done (Picture d.m)));
+      puts = puts-next (Picture d.m) put;
+      dispatches_are = rw (count-more is_dispatch_event g.done (Picture d.m)) (g.dispatches_are ∙ plus-none _);
+      pictures_are = rw (count-more is_picture_event g.done (Picture d.m)) (ap (λ n. n + 1) g.pictures_are);
+      last = d.meets.told.last ∙ g.last ∙ sym (ap (λ p. option_map (view_at start.edition) p) (last-kept g.done (Picture d.m) refl));
+      screen = d.meets.told.shown ∙ g.screen ∙ sym (ap (λ p. option_map_or (screen_bytes start.edition) p (replicate (screen_size start.edition) 0)) (last-kept g.done (Picture d.m) refl));
+      ends = g.ends ∙ ap (ending_after start.edition (pc_of v.last) (opcode_of v.last)) d.split ∙ here ∙ ap (λ left. ending_after start.edition (pc_of v'.last) (opcode_of v'.last) left) (sym d.meets.one.left);
+    }
+      where
+        here : ending_after start.edition (pc_of v.last) (opcode_of v.last) (Picture d.m ∷ d.rest) ≡ ending_after start.edition (pc_of v'.last) (opcode_of v'.last) d.rest
+        here = unfold ending_after in rw d.meets.told.last refl
+
+    -- the picture that is lent is that of the run
+    pub picture-lent : (d : Pictured limit v v' (events_left v limit)) → v'.board.pictures.finished ≡ Some (picture_of (interpreter start).rom (run_of start limit) d.m)
+    picture-lent d = d.meets.picture ∙ ap (λ rom. Some (picture_of rom (run_of v limit) d.m)) (rom_same start v g.edition) ∙ ap (λ run. Some (picture_of (interpreter start).rom run d.m)) (run_same limit start v g.edition g.game g.script)
+
+    -- at the limit all events are met
+    pub ran-end : (e : Ended limit v v' (events_left v limit)) → (tally : Tally) → tally.end ≡ run.AtLimit → tally.dispatches ≡ dispatches → tally.pictures ≡ pictures → Ran shown limit start v' out out' tally
+    ran-end e tally end ds ps = record {
+      puts = subst (λ events. PutsAll (pieces_of shown start limit events) out out') (sym all) g.puts;
+      ending = ap ending_in end ∙ sym (g.ends ∙ ap (ending_after start.edition (pc_of v.last) (opcode_of v.last)) e.none ∙ (unfold ending_after in refl));
+      dispatches = ds ∙ g.dispatches_are ∙ ap (count_of is_dispatch_event) (sym all);
+      pictures = ps ∙ g.pictures_are ∙ ap (count_of is_picture_event) (sym all);
+      edition = e.ends.same.edition ∙ g.edition;
+      last = e.ends.told.last ∙ g.last ∙ ap (last_view start.edition) (sym all);
+      screen = e.ends.told.shown ∙ g.screen ∙ ap (last_screen start.edition) (sym all);
+    }
+      where
+        all : events_to start limit ≡ g.done
+        all = g.split ∙ ap (λ left. g.done ++ left) e.none ∙ append-nil g.done
+
+-- ---- what was put
+
+-- a piece, or none
+puts-piece : (piece : Option (List ℕ)) (old new : SinkMeaning) (done : Unit {0}) → PieceAnswers piece old new (Ok done) → PutsAll (option_to_list piece) old new
+puts-piece None old new done put = rw put.1 (PutsAll-nil old)
+puts-piece (Some piece) old new done put = PutsAll-one piece old new put
+
+module _ (shown : Shown) (limit : ℕ) (start : VipState) (out : SinkMeaning) (v v' : VipState) (out' : SinkMeaning) (dispatches pictures : ℕ) (g : Going shown limit start v out out' dispatches pictures) where
+  dispatch_piece : (s : Shown) (d : Dispatched limit v v' (events_left v limit)) → option_to_list (event_piece s met.Dispatch v') ≡ piece_of s start.edition (interpreter start).rom (run_of start limit) (Dispatch d.b)
+  dispatch_piece (Lines with_time) d = rw (d.meets.last, g.edition) refl
+  dispatch_piece Pictures d = refl
+  dispatch_piece Nothing d = refl
+
+  picture_piece_is : (s : Shown) (d : Pictured limit v v' (events_left v limit)) → option_to_list (event_piece s met.Picture v') ≡ piece_of s start.edition (interpreter start).rom (run_of start limit) (Picture d.m)
+  picture_piece_is (Lines with_time) d = refl
+  picture_piece_is Pictures d = rw (picture-lent shown limit start out v v' out' out' dispatches pictures g d) refl
+  picture_piece_is Nothing d = refl
+
+  module _ (out'' : SinkMeaning) where
+    pub puts-dispatch : (d : Dispatched limit v v' (events_left v limit)) (done : Unit {0}) → PieceAnswers (event_piece shown met.Dispatch v') out' out'' (Ok done) → Going shown limit start v' out out'' (dispatches + 1) pictures
+    puts-dispatch d done put = going-dispatch shown limit start out v v' out' out'' dispatches pictures g d (rw (← dispatch_piece shown d) (puts-piece (event_piece shown met.Dispatch v') out' out'' done put))
+
+    pub puts-picture : (d : Pictured limit v v' (events_left v limit)) (done : Unit {0}) → PieceAnswers (event_piece shown met.Picture v') out' out'' (Ok done) → Going shown limit start v' out out'' dispatches (pictures + 1)
+    puts-picture d done put = going-picture shown limit start out v v' out' out'' dispatches pictures g d (rw (← picture_piece_is shown d) (puts-piece (event_piece shown met.Picture v') out' out'' done put))
+
+    fails : (event : Event) (rest : List Event) (piece : Option (List ℕ)) (e : Failed) → events_left v limit ≡ event ∷ rest → option_to_list piece ≡ piece_of shown start.edition (interpreter start).rom (run_of start limit) event → PieceAnswers piece out' out'' (Err e) → FailsWithin (pieces_of shown start limit (events_to start limit)) out out''
+    fails event rest None e split is fault = let bad = fault.0 in cc
+    fails event rest (Some piece) e split is fault = fails-next shown limit start out v v' out' out'' dispatches pictures g event rest piece split (sym is) fault
+
+    pub fails-dispatch : (d : Dispatched limit v v' (events_left v limit)) (e : Failed) → PieceAnswers (event_piece shown met.Dispatch v') out' out'' (Err e) → FailsWithin (pieces_of shown start limit (events_to start limit)) out out''
+    fails-dispatch d e fault = fails (Dispatch d.b) d.rest (event_piece shown met.Dispatch v') e d.split (dispatch_piece shown d) fault
+
+    pub fails-picture : (d : Pictured limit v v' (events_left v limit)) (e : Failed) → PieceAnswers (event_piece shown met.Picture v') out' out'' (Err e) → FailsWithin (pieces_of shown start limit (events_to start limit)) out out''
+    fails-picture d e fault = fails (Picture d.m) d.rest (event_piece shown met.Picture v') e d.split (picture_piece_is shown d) fault
+
+-- at whatever error is passed on
+pub run-fails : (shown : Shown) (limit : ℕ) (old new : VipState) (out out' : SinkMeaning) (r : Result Tally Failed) → IsErr r → FailsWithin (pieces_of shown old limit (events_to old limit)) out out' → RunAnswers shown limit old new out out' r
+run-fails shown limit old new out out' (Ok tally) bad fault = cc
+run-fails shown limit old new out out' (Err e) bad fault = fault
+
+-- the events left become fewer
+pub fewer-dispatch : (limit : ℕ) (v v' : VipState) (d : Dispatched limit v v' (events_left v limit)) → length (events_left v' limit) < length (events_left v limit)
+fewer-dispatch limit v v' d = rw (d.split, d.meets.one.left) (omega arith)
+
+pub fewer-picture : (limit : ℕ) (v v' : VipState) (d : Pictured limit v v' (events_left v limit)) → length (events_left v' limit) < length (events_left v limit)
+fewer-picture limit v v' d = rw (d.split, d.meets.one.left) (omega arith)
+
+-- ---- the end at a stop
+
+module _ (shown : Shown) (limit : ℕ) (start : VipState) (out : SinkMeaning) (v v' : VipState) (out' : SinkMeaning) (dispatches pictures : ℕ) (g : Going shown limit start v out out' dispatches pictures) where
+  pub ran-stop : (stop : StopRecord) (h : Halted limit v v' (events_left v limit) stop) (tally : Tally) → tally.end ≡ run.AtStop stop → tally.dispatches ≡ dispatches → tally.pictures ≡ pictures → Ran shown limit start v' out out' tally
+  ran-stop stop h tally end ds ps = record {
+    puts = subst (λ events. PutsAll (pieces_of shown start limit events) out out') (sym all) (rw (flat_map-append (piece_of shown start.edition (interpreter start).rom (run_of start limit)) g.done (Stopped h.b ∷ []), none shown, append-nil) g.puts);
+    ending = ap ending_in end ∙ sym (g.ends ∙ ap (ending_after start.edition (pc_of v.last) (opcode_of v.last)) h.split ∙ here);
+    dispatches = ds ∙ g.dispatches_are ∙ plus-none _ ∙ sym (count-more is_dispatch_event g.done (Stopped h.b)) ∙ ap (count_of is_dispatch_event) (sym all);
+    pictures = ps ∙ g.pictures_are ∙ plus-none _ ∙ sym (count-more is_picture_event g.done (Stopped h.b)) ∙ ap (count_of is_picture_event) (sym all);
+    edition = h.meets.one.same.edition ∙ g.edition;
+    last = h.meets.told.last ∙ g.last ∙ sym (ap (λ p. option_map (view_at start.edition) p) (last-kept g.done (Stopped h.b) refl)) ∙ ap (last_view start.edition) (sym all);
+    screen = h.meets.told.shown ∙ g.screen ∙ sym (ap (λ p. option_map_or (screen_bytes start.edition) p (replicate (screen_size start.edition) 0)) (last-kept g.done (Stopped h.b) refl)) ∙ ap (last_screen start.edition) (sym all);
+  }
+    where
+      so_far : events_to start limit ≡ g.done ++ Stopped h.b ∷ h.rest
+      so_far = g.split ∙ ap (λ left. g.done ++ left) h.split
+
+      all : events_to start limit ≡ g.done ++ Stopped h.b ∷ []
+      all = so_far ∙ ap (λ rest. g.done ++ Stopped h.b ∷ rest) (stop-last (interpreter start) start.game start.board.script limit g.done h.b h.rest so_far)
+
+      none : (s : Shown) → flat_map (piece_of s start.edition (interpreter start).rom (run_of start limit)) (Stopped h.b ∷ []) ≡ []
+      none (Lines with_time) = refl
+      none Pictures = refl
+      none Nothing = refl
+
+      here : ending_after start.edition (pc_of v.last) (opcode_of v.last) (Stopped h.b ∷ h.rest) ≡ AtStop stop.stop stop.pc stop.opcode
+      here = unfold ending_after in rw h.meets.stop refl
+
+-- a piece that was put, where there is one
+pub piece-put : {X : Type 0} (f : X → List ℕ) (found : Option X) (x : X) (bytes : List ℕ) (old new : SinkMeaning) (r : Result (Unit {0}) Failed) → found ≡ Some x → bytes ≡ f x → PutAnswers bytes old new r → PieceAnswers (option_map f found) old new r
+piece-put f found x bytes old new r is same put = rw is (subst (λ b. PutAnswers b old new r) same put)
+
+-- the counts and the events met are few
+pub counts-fit : (shown : Shown) (limit : ℕ) (start v v' : VipState) (out out' : SinkMeaning) (dispatches pictures : ℕ) → Going shown limit start v out out' dispatches pictures → Follows v' → v'.met ≡ v.met + 1 → (dispatches ≤ 8_000_000_001) × (pictures ≤ 8_000_000_001)
+counts-fit shown limit start v v' out out' dispatches pictures g follows one =
+    let few : v'.met ≤ 8_000_000_002 = few-met v' follows in
+    let ds : count_of is_dispatch_event g.done ≤ length g.done = counted is_dispatch_event g.done in
+    let ps : count_of is_picture_event g.done ≤ length g.done = counted is_picture_event g.done in
+    (omega (arith, few, one, g.met, ds, g.dispatches_are), omega (arith, few, one, g.met, ps, g.pictures_are))
+
+-- ---- what the whole run writes
+
+-- at whatever error is passed on
+pub show-fails : (v : VipState) (limit : ℕ) (pieces : List (List ℕ)) (out out' : SinkMeaning) (r : Result RunEnd Failed) → IsErr r → FailsWithin pieces out out' → ShowAnswers v limit pieces out out' r
+show-fails v limit pieces out out' (Ok end) bad fault = cc
+show-fails v limit pieces out out' (Err e) bad fault = fault
+
+pub pictures-are : (v : VipState) (limit : ℕ) → pieces_of Pictures v limit (events_to v limit) ≡ pictured v limit
+unfolding picture_pieces
+pictures-are v limit = refl
+
+pub lines-are : (with_time : Bool) (v : VipState) (limit : ℕ) → pieces_of (Lines with_time) v limit (events_to v limit) ≡ trace_lines v.edition with_time (events_to v limit)
+unfolding trace_lines
+lines-are with_time v limit = refl
+
+-- the screen that is told of is that of the last dispatch point
+screen_of : (e : Edition) (events : List Event) (last : Option Machine) (v : VipState) → v.edition ≡ e → v.last ≡ option_map (view_at e) last → v.shown ≡ option_map_or (screen_bytes e) last (replicate (screen_size e) 0) → option_to_list (screen_told v) ≡ screen_piece e last
+screen_of e events None v edition told shown = rw told refl
+screen_of e events (Some b) v edition told shown = rw (told, edition, shown) (unfold state_of in refl)
+
+lit_of : (e : Edition) (last : Option Machine) (v : VipState) → v.edition ≡ e → v.last ≡ option_map (view_at e) last → v.shown ≡ option_map_or (screen_bytes e) last (replicate (screen_size e) 0) → lit_told v ≡ lit_at e last
+lit_of e None v edition told shown = rw told refl
+lit_of e (Some b) v edition told shown = rw (told, edition, shown) (unfold state_of in refl)
+
+module _ (with_time : Bool) (limit : ℕ) (old new : VipState) (out out' out'' : SinkMeaning) (tally : Tally) (ran : Ran (Lines with_time) limit old new out out' tally) where
+  lines_out : PutsAll (trace_lines old.edition with_time (events_to old limit)) out out'
+  lines_out = subst (λ pieces. PutsAll pieces out out') (lines-are with_time old limit) ran.puts
+
+  screen : option_to_list (screen_told new) ≡ screen_piece old.edition (last_dispatch (events_to old limit))
+  screen = screen_of old.edition (events_to old limit) (last_dispatch (events_to old limit)) new ran.edition ran.last ran.screen
+
+  -- with the screen behind the lines
+  pub traced-whole : (done : Unit {0}) → PieceAnswers (screen_told new) out' out'' (Ok done) → Shows old limit (traced with_time true old limit) out out'' tally.end
+  traced-whole done put = record {
+    puts = PutsAll-append (trace_lines old.edition with_time (events_to old limit)) (screen_piece old.edition (last_dispatch (events_to old limit))) out out' out'' lines_out (rw (← screen) (puts-piece (screen_told new) out' out'' done put));
+    ending = ran.ending;
+  }
+
+  pub traced-lines : Shows old limit (traced with_time false old limit) out out' tally.end
+  traced-lines = record { puts = rw append-nil lines_out; ending = ran.ending }
+
+  fails_at : (piece : Option (List ℕ)) (e : Failed) → option_to_list piece ≡ screen_piece old.edition (last_dispatch (events_to old limit)) → PieceAnswers piece out' out'' (Err e) → FailsWithin (traced with_time true old limit) out out''
+  fails_at None e is fault = let bad = fault.0 in cc
+  fails_at (Some piece) e is fault = rw (← is) (FailsWithin-snoc (trace_lines old.edition with_time (events_to old limit)) piece [] out out' out'' lines_out fault)
+
+  pub traced-fails : (e : Failed) → PieceAnswers (screen_told new) out' out'' (Err e) → FailsWithin (traced with_time true old limit) out out''
+  traced-fails e fault = fails_at (screen_told new) e screen fault
+
+-- a fault among the lines
+pub traced-early : (with_time with_screen : Bool) (v : VipState) (limit : ℕ) (out out' : SinkMeaning) → FailsWithin (pieces_of (Lines with_time) v limit (events_to v limit)) out out' → FailsWithin (traced with_time with_screen v limit) out out'
+traced-early with_time with_screen v limit out out' fault =
+    FailsWithin-more (trace_lines v.edition with_time (events_to v limit)) (if with_screen then screen_piece v.edition (last_dispatch (events_to v limit)) else []) out out'
+    (subst (λ pieces. FailsWithin pieces out out') (lines-are with_time v limit) fault)
+
+-- ---- the line of summary
+
+module _ (number limit : ℕ) (old new : VipState) (out out' out'' : SinkMeaning) (tally : Tally) (ran : Ran Nothing limit old new out out' tally) where
+  none : (events : List Event) → pieces_of Nothing old limit events ≡ []
+  none [] = refl
+  none (event ∷ events) = none events
+
+  nothing_out : PutsAll [] out out'
+  nothing_out = subst (λ pieces. PutsAll pieces out out') (none (events_to old limit)) ran.puts
+
+  abbrev pub line_told : List ℕ
+  line_told = summary_line number tally.dispatches tally.pictures (lit_told new)
+
+  line_is : line_told ≡ summary old.edition number (events_to old limit)
+  line_is = rw (ran.dispatches, ran.pictures, lit_of old.edition (last_dispatch (events_to old limit)) new ran.edition ran.last ran.screen) refl
+
+  pub summed-whole : PutsWhole line_told out' out'' → Shows old limit (summed number old limit) out out'' tally.end
+  summed-whole put = record {
+    puts = PutsAll-append [] (summary old.edition number (events_to old limit) ∷ []) out out' out'' nothing_out (subst (λ line. PutsAll (line ∷ []) out' out'') line_is (PutsAll-one line_told out' out'' put));
+    ending = ran.ending;
+  }
+
+  pub summed-fails : PutFails line_told out' out'' → FailsWithin (summed number old limit) out out''
+  summed-fails fault = subst (λ line. FailsWithin (line ∷ []) out out'') line_is (FailsWithin-snoc [] line_told [] out out' out'' nothing_out fault)
+
+pub summed-early : (number : ℕ) (v : VipState) (limit : ℕ) (out out' : SinkMeaning) → FailsWithin (pieces_of Nothing v limit (events_to v limit)) out out' → FailsWithin (summed number v limit) out out'
+summed-early number v limit out out' fault = absurd (never _ (no_pieces (events_to v limit)) fault.before fault.piece fault.after fault.place)
+  where
+    no_pieces : (events : List Event) → pieces_of Nothing v limit events ≡ []
+    no_pieces [] = refl
+    no_pieces (event ∷ events) = no_pieces events
+
+    never : (pieces : List (List ℕ)) → pieces ≡ [] → (before : List (List ℕ)) (piece : List ℕ) (after : List (List ℕ)) → pieces ≡ before ++ piece ∷ after → ⊥
+    never pieces none [] piece after place = let bad : piece ∷ after ≡ [] = sym place ∙ none in cc
+    never pieces none (b ∷ before) piece after place = let bad : b ∷ (before ++ piece ∷ after) ≡ [] = sym place ∙ none in cc
+
+-- the line that is put
+pub line-put : (number dispatches pictures lit lit' : ℕ) (bytes text : List ℕ) → bytes ≡ text → text ≡ summary_line number dispatches pictures lit → lit ≡ lit' → bytes ≡ summary_line number dispatches pictures lit'
+line-put number dispatches pictures lit lit' bytes text is same told = is ∙ same ∙ ap (summary_line number dispatches pictures) told
+
+pub puts-line : (line line' : List ℕ) (old new : SinkMeaning) → line ≡ line' → PutsWhole line old new → PutsWhole line' old new
+puts-line line line' old new same put = subst (λ l. PutsWhole l old new) same put
+
+pub fails-line : (line line' : List ℕ) (old new : SinkMeaning) → line ≡ line' → PutFails line old new → PutFails line' old new
+fails-line line line' old new same fault = subst (λ l. PutFails l old new) same fault

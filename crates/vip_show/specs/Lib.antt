@@ -1,0 +1,4 @@
+pub mod Endings
+pub mod Output
+pub mod Answers
+pub mod Run

@@ -1,0 +1,108 @@
+//! A run from event to event.
+
+ghost use Rattle.std.specs.Prelude.{◌≤◌};
+ghost use Rattle.std.specs.Option.{option_map};
+ghost use Rattle.vip_text.specs.Screens.{picture_file};
+ghost use Rattle.vip_text.specs.Traces.{trace_line};
+ghost use Rattle.vip_show.specs.Answers.{IsFresh};
+ghost use Rattle.vip_show.specs.Run.{PieceAnswers, event_piece, RunAnswers};
+
+use chip8_lang::StopRecord;
+use vip_byte::Buffer;
+use vip_outside::{Failed, Sink};
+use vip_relation::{Met, Vip};
+use vip_text::{picture_text, trace_text};
+
+/// How a run ended.
+#[derive(Clone, Copy, Debug, PartialEq, Eq)]
+pub enum RunEnd {
+    /// Every event up to the limit was met.
+    AtLimit,
+    /// It came to its stop point.
+    AtStop(StopRecord),
+}
+
+/// What is written of each event.
+#[derive(Clone, Copy)]
+pub enum Shown {
+    /// A line for each dispatch point, with the count of ticks and the cycle where they are asked for.
+    Lines { with_time: bool },
+    /// A file for each picture.
+    Pictures,
+    Nothing,
+}
+
+/// How a run ended, and how many dispatch points and pictures it had.
+#[derive(Clone, Copy)]
+pub struct Tally {
+    pub end: RunEnd,
+    pub dispatches: u64,
+    pub pictures: u64,
+}
+
+/// Puts the line of the last dispatch point met, where there is one.
+fn put_line<O: Sink>(vip: &Vip, with_time: bool, out: &mut O) -> Result<(), Failed>
+    ensures { PieceAnswers (option_map (trace_line with_time) vip.now.last) (O.meaning out.old) (O.meaning out.new) result }
+{
+    let Some(view) = vip.last() else {
+        return Ok(());
+    };
+    let mut text = Buffer::new();
+    trace_text(view, with_time, &mut text);
+    out.put(text.as_slice())
+}
+
+/// Puts the last picture that was finished, where there is one.
+fn put_picture<O: Sink>(vip: &Vip, out: &mut O) -> Result<(), Failed>
+    ensures { PieceAnswers (option_map picture_file vip.now.board.pictures.finished) (O.meaning out.old) (O.meaning out.new) result }
+{
+    let Some(picture) = vip.board().video().finished() else {
+        return Ok(());
+    };
+    let mut text = Buffer::new();
+    picture_text(picture, &mut text);
+    out.put(text.as_slice())
+}
+
+/// Puts what is shown of an event that was just met.
+fn put_event<O: Sink>(vip: &Vip, met: &Met, shown: Shown, out: &mut O) -> Result<(), Failed>
+    ensures { PieceAnswers (event_piece shown met.now vip.now) (O.meaning out.old) (O.meaning out.new) result }
+{
+    match (shown, met) {
+        (Shown::Lines { with_time }, Met::Dispatch) => put_line(vip, with_time, out),
+        (Shown::Pictures, Met::Picture) => put_picture(vip, out),
+        _ => Ok(()),
+    }
+}
+
+/// Runs a machine that begins up to its limit or its stop point, and puts what is shown of each event, each as one piece.
+pub fn run<O: Sink>(vip: &mut Vip, limit: u64, shown: Shown, out: &mut O) -> Result<Tally, Failed>
+    requires fresh { IsFresh vip.old }
+    requires limit { limit ≤ 4_000_000_000 }
+    ensures { RunAnswers shown limit vip.old vip.new (O.meaning out.old) (O.meaning out.new) result }
+{
+    let mut dispatches = 0u64;
+    let mut pictures = 0u64;
+    loop {
+        let met = vip.advance(limit);
+        let end = match met {
+            Met::Dispatch => {
+                dispatches += 1;
+                put_event(vip, &met, shown, out)?;
+                continue;
+            }
+            Met::Picture => {
+                pictures += 1;
+                put_event(vip, &met, shown, out)?;
+                continue;
+            }
+            Met::Stopped(stop) => RunEnd::AtStop(stop),
+            Met::End => RunEnd::AtLimit,
+        };
+        return Ok(Tally {
+            end,
+            dispatches,
+            pictures,
+        });
+    }
+}
