@@ -21,7 +21,7 @@ use Rattle.rom_arith.proofs.Loads.{load_comes, add_comes}
 use Rattle.rom_arith.proofs.Skips.{eq_comes, ne_comes, skip_same_comes, same_comes, skip_differ_comes, differ_comes, no_skip_comes, skip_comes, unknown81_comes}
 use Rattle.rom_arith.proofs.Arithmetic.{arith_comes, operation_comes, flag_comes, unknown82_comes}
 
-arith_block : (e : Edition) (l : ArithBlock) (b : Machine) (h : Since) → FitsMachine b → Head (quick e) (OfArith l) b h → Comes (quick e) (pieces (quick e)) (OfArith l) b h
+pub arith_block : (e : Edition) (l : ArithBlock) (b : Machine) (h : Since) → FitsMachine b → Head (quick e) (OfArith l) b h → Comes (quick e) (pieces (quick e)) (OfArith l) b h
 arith_block e Load b h f o = load_comes e b h f o.0
 arith_block e Add b h f o = add_comes e b h f o.0
 arith_block e SkipEq b h f o = eq_comes e b h f o.0 o.1

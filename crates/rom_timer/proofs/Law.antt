@@ -29,7 +29,7 @@ timer_block e SetSoundEnd b h f o = set_sound_end_comes e b h f o.0
 pub timer_rows : TimerRows
 timer_rows e l = block_rows e (OfTimer l) (timer_block e l)
 
-timer_place : (e : Edition) (l : TimerPlace) (b : Machine) (h : Since) → FitsMachine b → At (quick e) (AtTimer l) b h → Holds (quick e) (pieces (quick e)) (AtTimer l) b h
+pub timer_place : (e : Edition) (l : TimerPlace) (b : Machine) (h : Since) → FitsMachine b → At (quick e) (AtTimer l) b h → Holds (quick e) (pieces (quick e)) (AtTimer l) b h
 timer_place e RandomCount b h f o = random_count_holds e b h f o.0.0 o.0.1 o o.1
 timer_place e GetDelay b h f o = get_delay_holds e b h f o.0.0 o.0.1 o o.1
 timer_place e SetDelayPut b h f o = set_delay_put_holds e b h f o.0.0 o.0.1 o.0.2 o o.1
