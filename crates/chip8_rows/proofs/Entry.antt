@@ -17,7 +17,7 @@ use Rattle.chip8_rows.proofs.Bytes.{quick}
 
 -- main code runs
 pub ready : {e : Edition} {b : Machine} {s : Lang} → Holding (quick e) (places b) s → Ready (quick e) b
-ready h = record { latch = h.latch; enabled = h.enabled; on = h.on }
+ready h = record { latch = h.latch; enabled = h.enabled; on = h.on; entry = h.entry }
 
 -- in the fetch
 abbrev pub on_4 : Word → Machine → Machine

@@ -4,7 +4,7 @@ use Rattle.std.proofs.lemmas.Bool.{le-ltb, le-leb, lt-leb, cases_eq, cases_Bool}
 use Rattle.machine.specs.Instruction.{interrupted}
 use Rattle.machine.specs.Signals.{line_of, dma_at, int_at, efx_at}
 use Rattle.machine.specs.Opcodes.{cycles_of}
-use Rattle.machine.specs.Board.{Machine, move, main_move, opcode_of}
+use Rattle.machine.specs.Board.{Machine, case_of, move, main_move, opcode_of}
 use Rattle.machine.specs.Board.Case.{Interrupt, Idle, Instruction}
 use Rattle.machine.specs.Keys.{Keys}
 use Rattle.machine.proofs.Moves.{case_instruction, case_interrupt, case_idle, move_in}
@@ -43,26 +43,37 @@ asked t h = rw (line_there t h) refl
 
 -- ---- the move
 
+-- where the display is on and interrupts are enabled
+module _ (b : Machine) (on : b.on ≡ true) (ie : b.regs.ie ≡ true) where
+  no_wish : IsOutside b.cycle → dma_at b.cycle b.on ≡ false
+  no_wish out = no_dma b.cycle b.on out
+
+  no_interrupt : IsOutside b.cycle → (place b.cycle ≡ interrupt_place → ⊥) → (b.regs.ie && int_at b.cycle b.on) ≡ false
+  no_interrupt out d = rw (ie, on) (calm b.cycle out d)
+
+  pub case_accepts : place b.cycle ≡ interrupt_place → case_of b ≡ Interrupt
+  case_accepts e = case_interrupt b (no_wish (inl (omega (arith, e)))) (rw (ie, on) (asked b.cycle e))
+
+  pub case_runs : IsOutside b.cycle → (place b.cycle ≡ interrupt_place → ⊥) → b.regs.idle ≡ false → case_of b ≡ Instruction
+  case_runs out d i = case_instruction b (no_wish out) (no_interrupt out d) i
+
+  case_waits : IsOutside b.cycle → (place b.cycle ≡ interrupt_place → ⊥) → b.regs.idle ≡ true → case_of b ≡ Idle
+  case_waits out d i = case_idle b (no_wish out) (no_interrupt out d) i
+
 -- the interrupt
 pub accepted : (rom : List ℕ) (held : ℕ → Keys) (b : Machine) → b.on ≡ true → b.regs.ie ≡ true → place b.cycle ≡ interrupt_place → move rom held b ≡ record b { regs = interrupted b.regs; cycle = b.cycle + 1 }
-accepted rom held b on ie e = move_in rom held b Interrupt (case_interrupt b (no_dma b.cycle b.on (inl (omega (arith, e)))) (rw (ie, on) (asked b.cycle e)))
+accepted rom held b on ie e = move_in rom held b Interrupt (case_accepts b on ie e)
 
 pub every_move : EveryMove
 every_move rom held b on ie out = go (cases_eq (place b.cycle) interrupt_place) (cases_Bool b.regs.idle)
   where
-    dma : dma_at b.cycle b.on ≡ false
-    dma = no_dma b.cycle b.on out
-
-    no_interrupt : (place b.cycle ≡ interrupt_place → ⊥) → (b.regs.ie && int_at b.cycle b.on) ≡ false
-    no_interrupt d = rw (ie, on) (calm b.cycle out d)
-
     at_place : place b.cycle ≡ interrupt_place → b.cycle ≡ 3668 * (b.cycle / 3668) + 78 * 14
     at_place e = omega arith
 
     go : (place b.cycle ≡ interrupt_place) ⊎ (place b.cycle ≡ interrupt_place → ⊥) → (b.regs.idle ≡ true) ⊎ (b.regs.idle ≡ false) → Makes rom held b (move rom held b)
     go (inl e) i = Accepts (at_place e) (accepted rom held b on ie e)
-    go (inr d) (inl i) = Waits d i (move_in rom held b Idle (case_idle b dma (no_interrupt d) i))
-    go (inr d) (inr i) = Runs d i (move_in rom held b Instruction (case_instruction b dma (no_interrupt d) i) ∙ ap (λ o. record (main_move rom (efx_at (b.cycle + 1) o) (held (b.cycle + 1)) b) { cycle = b.cycle + cycles_of (opcode_of rom b) }) on)
+    go (inr d) (inl i) = Waits d i (move_in rom held b Idle (case_waits b on ie out d i))
+    go (inr d) (inr i) = Runs d i (move_in rom held b Instruction (case_runs b on ie out d i) ∙ ap (λ o. record (main_move rom (efx_at (b.cycle + 1) o) (held (b.cycle + 1)) b) { cycle = b.cycle + cycles_of (opcode_of rom b) }) on)
 
 -- ---- the places that follow
 

@@ -1,5 +1,5 @@
 -- The interval since the last dispatch point, as the board's moves go on: its ticks and its keys, and the room on the stack.
-use Rattle.std.proofs.Common.{get_or, nat_lt, cond, false, ◌≡◌, ℕ, zero, suc, ◌+◌, ◌-◌, ◌/◌, ◌%◌, ◌<◌, ◌≤◌, ◌⊎◌, inl, inr, refl, sym, ◌∙◌, ap, arith, min, List, [], ◌∷◌, ◌++◌, length}
+use Rattle.std.proofs.Common.{get_or, nat_lt, cond, false, ◌≡◌, ℕ, zero, suc, ◌+◌, ◌-◌, ◌/◌, ◌%◌, ◌<◌, ◌≤◌, ◌⊎◌, inl, inr, refl, sym, ◌∙◌, ap, arith, List, [], ◌∷◌, ◌++◌, length}
 use Rattle.std.specs.Prelude.{Some, slice_get}
 use Rattle.std.proofs.lemmas.Bool.{cases_lt, lt-ltb, le-ltb}
 use Rattle.std.proofs.lemmas.Option.{slice_get_within, slice_get-get_or}
@@ -12,9 +12,11 @@ use Rattle.chip8_lang.specs.declared.view.Edition.{Edition}
 use Rattle.chip8_lang.specs.Editions.{memory_end, stack_top}
 use Rattle.chip8_lang.specs.State.{Lang}
 use Rattle.chip8_lang.specs.Between.{ticks_between, keys_from, keys_between}
-use Rattle.chip8_lang.specs.Places.{Lies, state_of, addresses, most_addresses}
-use Rattle.rom_law.specs.Program.{Keeps}
-use Rattle.rom_law.proofs.Language.{Embeds}
+use Rattle.rom_law.specs.Holding.{Places, places, Holding}
+use Rattle.rom_law.specs.Program.{Program, Keeps}
+use Rattle.rom_law.specs.Rows.{Embeds}
+use Rattle.rom_law.proofs.Language.{keys_from_get, last_or_before}
+use Rattle.rom_law.proofs.Places.{holding, stack_most, stack_below}
 use Rattle.chip8_rows.specs.Rom.{vip}
 use Rattle.chip8_rows.proofs.Bytes.{memory_end_is, stack_top_is}
 use Rattle.rom_frame.specs.Frame.{place, interrupt_place}
@@ -33,22 +35,12 @@ ticks_served a m l = omega arith
 
 -- ---- the room on the stack
 
-length_addresses : (ram : List ℕ) (low n : ℕ) → length (addresses ram low n) ≡ n
-length_addresses ram low zero = refl
-length_addresses ram low (suc n) = ap suc (length_addresses ram (low - 2) n)
+module _ {x : Program} {p : Places} {s : Lang} (o : Holding x p s) where
+  -- 21 bytes may be pushed besides the two of an interrupt
+  pub has_room : memory_end x.edition + 23 ≤ value p.r2
+  has_room = omega (arith, stack_most o, o.stack, memory_end_is x.edition, stack_top_is x.edition)
 
-module _ (e : Edition) (b : Machine) (s : Lang) (o : Lies e b s) where
-  depth_is : length s.stack ≡ min most_addresses ((stack_top e - value b.regs.r.r2) / 2)
-  unfolding state_of
-  depth_is = ap (λ (z : Lang). length z.stack) (sym o.is) ∙ length_addresses b.ram (stack_top e) _
-
-  pub few : length s.stack ≤ 12
-  few = omega (arith, depth_is)
-
-  pub has_room : memory_end e + 2 ≤ value b.regs.r.r2
-  has_room = omega (arith, few, o.stack, memory_end_is e, stack_top_is e)
-
-  pub in_stack : value b.regs.r.r2 ≤ stack_top e
+  pub in_stack : value p.r2 ≤ stack_top x.edition
   in_stack = omega (arith, o.stack)
 
 -- where a language state lies in the machine in the cycle of an interrupt, the routine comes to a tick
@@ -61,44 +53,23 @@ keeps_interrupted e m b s f k c =
       latch = k.lies.latch;
       entry = k.entry;
       fits = f;
-      room = has_room e b s k.lies;
-      top = in_stack e b s k.lies;
+      room = omega (arith, has_room o);
+      top = omega (arith, in_stack o, stack_below e);
     }
+  where
+    o : Holding (vip e) (places b) s
+    o = holding (vip e) b s f.size k
 
 -- ---- keys
 
-last_or_before : (l : List Keys) (k : Keys) (u : ℕ) (held : Keys) → slice_get (l ++ k ∷ []) u ≡ Some held → (slice_get l u ≡ Some held) ⊎ ((u ≡ length l) × (held ≡ k))
-last_or_before [] k zero held h = inr (refl, is h)
-  where
-    is : Some k ≡ Some held → held ≡ k
-    is e = cc
-last_or_before [] k (suc u) held h = cc
-last_or_before (j ∷ l) k zero held h = inl h
-last_or_before (j ∷ l) k (suc u) held h = go (last_or_before l k u held h)
-  where
-    go : (slice_get l u ≡ Some held) ⊎ ((u ≡ length l) × (held ≡ k)) → (slice_get l u ≡ Some held) ⊎ ((suc u ≡ suc (length l)) × (held ≡ k))
-    go (inl e) = inl e
-    go (inr e) = inr (ap suc e.0, e.1)
-
 module _ (script : List Event) where
-  keys_get : (n a u : ℕ) → u < n → slice_get (keys_from script a n) u ≡ Some (held_at script (a + u))
-  keys_get zero a u l = absurd (omega arith)
-  keys_get (suc n) a zero l = ap (λ b. Some (held_at script b)) same
-    where
-      same : a ≡ a + 0
-      same = omega arith
-  keys_get (suc n) a (suc u) l = keys_get n (a + 1) u (omega arith) ∙ ap (λ b. Some (held_at script b)) same
-    where
-      same : a + 1 + u ≡ a + suc u
-      same = omega arith
-
   keys_length : (n a : ℕ) → length (keys_from script a n) ≡ n
   keys_length zero a = refl
   keys_length (suc n) a = ap suc (keys_length n (a + 1))
 
   -- a longer interval has the same sets, and more
   pub keys_longer : (a n n' u : ℕ) (k : Keys) → n ≤ n' → slice_get (keys_from script a n) u ≡ Some k → slice_get (keys_from script a n') u ≡ Some k
-  keys_longer a n n' u k l h = keys_get n' a u (omega (arith, inside)) ∙ sym (keys_get n a u inside) ∙ h
+  keys_longer a n n' u k l h = keys_from_get script n' a u (omega (arith, inside)) ∙ sym (keys_from_get script n a u inside) ∙ h
     where
       inside : u < n
       inside = omega (arith, slice_get_within (keys_from script a n) u k h, keys_length n a)
@@ -130,7 +101,7 @@ module _ (script : List Event) where
       where
         go : (slice_get sets u ≡ Some k) ⊎ ((u ≡ length sets) × (k ≡ held_at script (t + 1))) → slice_get (keys_between script a (t + 2)) (place_more u) ≡ Some k
         go (inl f) = ap (slice_get (keys_between script a (t + 2))) (place_old u (slice_get_within sets u k f)) ∙ keys_longer a (t - a) (t + 2 - a) (m.place u) k (omega arith) (m.there u k f)
-        go (inr f) = ap (slice_get (keys_between script a (t + 2))) (place_new u (omega (arith, f.0)) ∙ last) ∙ keys_get (t + 2 - a) a (t + 1 - a) (omega arith) ∙ ap Some (ap (held_at script) at ∙ sym f.1)
+        go (inr f) = ap (slice_get (keys_between script a (t + 2))) (place_new u (omega (arith, f.0)) ∙ last) ∙ keys_from_get script (t + 2 - a) a (t + 1 - a) (omega arith) ∙ ap Some (ap (held_at script) at ∙ sym f.1)
           where
             last : t + 1 - a + (u - length sets) ≡ t + 1 - a
             last = omega (arith, f.0)

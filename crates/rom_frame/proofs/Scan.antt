@@ -9,9 +9,10 @@ use Rattle.machine.specs.Keys.{Keys}
 use Rattle.machine.specs.Run.{states, after_moves}
 use Rattle.chip8_lang.specs.declared.view.Edition.{Edition}
 use Rattle.chip8_lang.specs.declared.view.Edition.TheVariants.{Usual, Tall}
-use Rattle.chip8_lang.specs.Editions.{memory_end, stack_top, screen_start, lines_of}
+use Rattle.chip8_lang.specs.Editions.{memory_end, screen_start, lines_of}
 use Rattle.chip8_image.specs.Labels.{at_scan}
 use Rattle.rom_law.specs.Program.{code}
+use Rattle.rom_law.proofs.Places.{variables_below}
 use Rattle.chip8_rows.proofs.Bytes.{both, both_is, quick}
 use Rattle.rom_frame.specs.Routine.{IsInterrupted, routine_moves}
 use Rattle.rom_frame.specs.Scan.{fetched, RunScan}
@@ -38,10 +39,6 @@ row_of Tall k = go (cases_lt (k % 4) 2)
 row_fits : (e : Edition) (k : ℕ) → k < 128 → screen_start e + 8 * (k / lines_of e) + 8 ≤ 0x1000
 row_fits Usual k h = omega arith
 row_fits Tall k h = omega arith
-
-stack_below : (e : Edition) → stack_top e < screen_start e
-stack_below Usual = lit< tt
-stack_below Tall = lit< tt
 
 module _ (e : Edition) (m : ℕ) (b : Machine) (held : ℕ → Keys) (o : IsInterrupted e m b) (k : ℕ) (some : k < 128) where
   abbrev address : ℕ
@@ -109,7 +106,7 @@ module _ (e : Edition) (m : ℕ) (b : Machine) (held : ℕ → Keys) (o : IsInte
   same j l = ap (λ r. slice_index r j) begun.ram ∙ kept e m b held o j free
     where
       free : IsFree (memory_end e) b j → ⊥
-      free f = omega (arith, f.1, o.top, stack_below e)
+      free f = omega (arith, f.1, o.top, variables_below e)
 
   bytes : fetched (both e) line (states (both e) held c 8) ≡ slice_range b.ram address (address + 8)
   unfolding c

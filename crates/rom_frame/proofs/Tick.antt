@@ -15,7 +15,7 @@ use Rattle.chip8_lang.specs.declared.view.Edition.TheVariants.{Usual, Tall}
 use Rattle.chip8_lang.specs.Editions.{memory_end}
 use Rattle.chip8_image.specs.Labels.{at_delay, at_resume}
 use Rattle.rom_law.specs.Program.{code}
-use Rattle.chip8_rows.proofs.Bytes.{both, both_is, quick, memory_end_is, stack_top_is, page_fits, page_low}
+use Rattle.chip8_rows.proofs.Bytes.{both, both_is, quick, memory_end_is, variables_is, page_fits, page_low}
 use Rattle.rom_frame.specs.Frame.{IsMainPlace}
 use Rattle.rom_frame.specs.Routine.{IsInterrupted, RunTick, routine_moves}
 use Rattle.rom_frame.proofs.Frame.{accepted}
@@ -36,7 +36,7 @@ module _ (e : Edition) (m : ℕ) (b : Machine) (held : ℕ → Keys) (o : IsInte
 
   room : a + 1 < 0x1000
   unfolding a
-  room = omega (arith, o.top, stack_top_is e, page_fits e, o.room)
+  room = omega (arith, o.top, variables_is e, page_fits e, o.room)
 
   at_high : value (down b.regs.r.r2) ≡ a + 1
   unfolding a

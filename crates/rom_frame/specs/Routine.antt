@@ -8,12 +8,13 @@ use Rattle.machine.specs.Schedule.{Tick}
 use Rattle.machine.specs.Ranges.{FitsMachine}
 use Rattle.machine.specs.Pictures.{interrupt_at}
 use Rattle.chip8_lang.specs.declared.view.Edition.{Edition}
-use Rattle.chip8_lang.specs.Editions.{memory_end, stack_top}
+use Rattle.chip8_lang.specs.Editions.{memory_end, variables}
 use Rattle.chip8_image.specs.declared.TheConstants.{ENTRY}
 use Rattle.chip8_rows.specs.Rom.{image}
 use Rattle.rom_frame.specs.Frame.{IsMainPlace}
 
--- Main code runs or waits in the cycle of frame m's interrupt, and the stack has room for the two bytes that the routine pushes.
+-- Main code runs or waits in the cycle of frame m's interrupt, and between game memory and V0 there is room for the two bytes that the
+-- routine pushes.
 pub record IsInterrupted (e : Edition) (m : ℕ) (b : Machine) : Type 0 where
   pub cycle : b.cycle ≡ interrupt_at m
   pub on : b.on ≡ true
@@ -22,7 +23,7 @@ pub record IsInterrupted (e : Edition) (m : ℕ) (b : Machine) : Type 0 where
   pub entry : b.regs.r.r1 ≡ word_of ENTRY
   pub fits : FitsMachine b
   pub room : memory_end e + 2 ≤ value b.regs.r.r2
-  pub top : value b.regs.r.r2 ≤ stack_top e
+  pub top : value b.regs.r.r2 < variables e
 
 -- the moves from that cycle to the return, 1,024 of them DMA cycles, and the machine cycles that they take
 abbrev pub routine_moves : ℕ

@@ -13,7 +13,7 @@ use Rattle.chip8_lang.specs.Ticks.{ticks}
 use Rattle.chip8_lang.specs.Between.{Between}
 use Rattle.rom_moves.specs.Code.{Code, Input, moved, run, is_event}
 use Rattle.rom_moves.specs.Later.{After}
-use Rattle.rom_moves.proofs.Moves.{AllGood, Calm, Fine, quicks, Reaches, reaches_good, reaches_run, reaches_quicks, quicks_are, quicks_idle, quicks_clear, quicks_full, quicks_on, quicks_enabled, after_quick, after_counter, after_cycles}
+use Rattle.rom_moves.proofs.Moves.{AllGood, Calm, Fine, quicks, Reaches, reaches_good, reaches_run, reaches_quicks, quicks_are, quicks_idle, quicks_clear, quicks_full, quicks_on, quicks_enabled, quicks_entry, after_quick, after_counter, after_cycles}
 use Rattle.machine.proofs.Fits.{main-fits}
 use Rattle.rom_moves.proofs.Ranges.{tick_fits}
 use Rattle.rom_moves.proofs.Ticks.{after_none}
@@ -183,7 +183,7 @@ module _ (x : Program) (t : Pieces) (sound : Sound x t) where
       })
 
   module _ {l : t.Block} {b : Machine} {h : Since} (r : InBlock x t l b h) (comes : Comes x t l r.start r.since) where
-    good : AllGood (code x) (t.moves l r.since) r.start
+    pub good : AllGood (code x) (t.moves l r.since) r.start
     good = reaches_good (code x) (t.moves l r.since) r.start comes.end comes.reaches
 
     is_quicks : quicks (code x) r.k r.start ≡ run (code x) r.k r.start
@@ -201,6 +201,7 @@ module _ (x : Program) (t : Pieces) (sound : Sound x t) where
         record {
           latch = ap (λ (z : Machine). z.latch) r.after.is ∙ sym (ap (λ (z : Machine). z.latch) is_quicks) ∙ quicks_clear (code x) r.k r.start comes.runs.latch;
           enabled = ap (λ (z : Machine). z.regs.ie) r.after.is ∙ sym (ap (λ (z : Machine). z.regs.ie) is_quicks) ∙ quicks_enabled (code x) r.k r.start good_k ∙ comes.runs.enabled;
+          entry = ap (λ (z : Machine). z.regs.r.r1) r.after.is ∙ sym (ap (λ (z : Machine). z.regs.r.r1) is_quicks) ∙ quicks_entry (code x) r.k r.start good_k ∙ comes.runs.entry;
           on = ap (λ (z : Machine). z.on) r.after.is ∙ sym (ap (λ (z : Machine). z.on) is_quicks) ∙ quicks_on (code x) r.k r.start good_k ∙ comes.runs.on;
         }
 
@@ -217,6 +218,10 @@ module _ (x : Program) (t : Pieces) (sound : Sound x t) where
     -- the address at the program counter
     pub block_at : at b.regs b.regs.p ≡ at (quicks (code x) r.k r.start).regs (quicks (code x) r.k r.start).regs.p
     block_at = ap value (after_counter (code x) r.n (quicks (code x) r.k r.start) b fine later)
+
+    -- R2
+    pub block_r2 : b.regs.r.r2 ≡ (quicks (code x) r.k r.start).regs.r.r2
+    block_r2 = ap (λ (z : Machine). z.regs.r.r2) r.after.is ∙ sym (ap (λ (z : Machine). z.regs.r.r2) is_quicks)
 
     -- a main move of a state after n ticks of the k-th state is one of the next
     next : (u : Input) → After (code x).low r.n (run (code x) (suc r.k) r.start) (moved (code x) u b)
@@ -325,3 +330,14 @@ module _ (x : Program) (t : Pieces) (proved : Proved x t) where
   pub row_cycles : (b : Machine) (h : Since) → FitsMachine b → b.regs.idle ≡ false → Row x t b h → cycles_of (opcode_of x.interpreter.rom b) ≡ 2
   row_cycles b h f i (Inside l r) = block_cycles x t sound r (comes r)
   row_cycles b h f i (Alone l at) = (proved.places l b h f at).cycles i
+
+  -- a row of main code that runs says nothing of the cycle number
+  at_cycle : (n : ℕ) (b c : Machine) (k : ℕ) → After (code x).low n b c → After (code x).low n b (record c { cycle = k })
+  at_cycle n b c k a = record { is = ap (λ (z : Machine). record z { cycle = k }) a.is; size = a.size; ram = a.ram }
+
+  pub row_cycle : (b : Machine) (h : Since) (k : ℕ) → FitsMachine b → b.regs.idle ≡ false → Row x t b h → Row x t (record b { cycle = k }) h
+  row_cycle b h k f i (Inside l r) = Inside l (record { start = r.start; since = r.since; k = r.k; n = r.n; inside = r.inside; grows = r.grows; fits = r.fits; head = r.head; after = at_cycle r.n _ b k r.after })
+  row_cycle b h k f i (Alone l at) = Alone l (subst (λ m. t.At l (record b { cycle = k }) (record h { ticks = m })) same ((proved.places l b h f at).later i 0 (record b { cycle = k }) (at_cycle 0 b b k (after_none (code x).low b))))
+    where
+      same : h.ticks + 0 ≡ h.ticks
+      same = omega arith

@@ -1,7 +1,7 @@
 -- What lies between two dispatch points grows with each tick and with each set of keys.
-use Rattle.std.proofs.Common.{◌≡◌, ℕ, zero, suc, ◌+◌, ◌<◌, refl, sym, ◌∙◌, ap, subst, arith, Bool, List, [], ◌∷◌, ◌++◌}
+use Rattle.std.proofs.Common.{◌≡◌, ℕ, zero, suc, ◌+◌, ◌<◌, refl, sym, ◌∙◌, ap, subst, arith, Bool, List, [], ◌∷◌, ◌++◌, ◌⊎◌, inl, inr, length}
 use Rattle.std.specs.Prelude.{slice_get, Some}
-use Rattle.machine.specs.Keys.{Keys}
+use Rattle.machine.specs.Keys.{Event, Keys, held_at}
 use Rattle.chip8_lang.specs.declared.instr.Instr.{Instr}
 use Rattle.chip8_lang.specs.declared.instr.Instr.TheVariants.{Clear, Draw, SkipDown, SkipUp, WaitKey}
 use Rattle.chip8_lang.specs.declared.view.Edition.{Edition}
@@ -9,7 +9,8 @@ use Rattle.chip8_lang.specs.State.{Lang, instr_at}
 use Rattle.chip8_lang.specs.Step.{KeyInput, step, done_by}
 use Rattle.chip8_lang.specs.Step.KeyInput.{Nothing, Held, Chosen}
 use Rattle.chip8_lang.specs.Ticks.{tick, ticks}
-use Rattle.chip8_lang.specs.Between.{Between, Allows, WaitsWell, IsAt, SomeTime, LetGo}
+use Rattle.chip8_lang.specs.Between.{Between, Allows, WaitsWell, IsAt, SomeTime, LetGo, keys_from}
+use Rattle.rom_law.specs.Rows.{Embeds}
 
 -- ---- ticks
 
@@ -82,12 +83,6 @@ between_ticks (suc m) e s n sets z h = subst (λ k. Between e s k sets (ticks (s
 
 -- ---- keys
 
--- every set of the first list is in the second one, in the same order
-pub record Embeds (few many : List Keys) : Type 0 where
-  pub place : ℕ → ℕ
-  pub there : (u : ℕ) (held : Keys) → slice_get few u ≡ Some held → slice_get many (place u) ≡ Some held
-  pub order : (u w : ℕ) → u < w → place u < place w
-
 module _ {few many : List Keys} (f : Embeds few many) where
   is_at : (u k : ℕ) (down : Bool) → IsAt few u k down → IsAt many (f.place u) k down
   is_at u k down h = record { held = h.held; there = f.there u h.held h.there; is = h.is }
@@ -140,3 +135,30 @@ get_append (k ∷ l) m (suc u) held h = get_append l m u held h
 
 pub embeds_append : (l m : List Keys) → Embeds l (l ++ m)
 embeds_append l m = record { place = λ u. u; there = get_append l m; order = λ u w h. h }
+
+-- ---- the keys of an interval
+
+pub keys_from_get : (script : List Event) (n a u : ℕ) → u < n → slice_get (keys_from script a n) u ≡ Some (held_at script (a + u))
+keys_from_get script zero a u l = absurd (omega arith)
+keys_from_get script (suc n) a zero l = ap (λ b. Some (held_at script b)) same
+  where
+    same : a ≡ a + 0
+    same = omega arith
+keys_from_get script (suc n) a (suc u) l = keys_from_get script n (a + 1) u (omega arith) ∙ ap (λ b. Some (held_at script b)) same
+  where
+    same : a + 1 + u ≡ a + suc u
+    same = omega arith
+
+-- a set of a list with one more at its end is one of the list, or the last
+pub last_or_before : (l : List Keys) (k : Keys) (u : ℕ) (held : Keys) → slice_get (l ++ k ∷ []) u ≡ Some held → (slice_get l u ≡ Some held) ⊎ ((u ≡ length l) × (held ≡ k))
+last_or_before [] k zero held h = inr (refl, is h)
+  where
+    is : Some k ≡ Some held → held ≡ k
+    is e = cc
+last_or_before [] k (suc u) held h = cc
+last_or_before (j ∷ l) k zero held h = inl h
+last_or_before (j ∷ l) k (suc u) held h = go (last_or_before l k u held h)
+  where
+    go : (slice_get l u ≡ Some held) ⊎ ((u ≡ length l) × (held ≡ k)) → (slice_get l u ≡ Some held) ⊎ ((suc u ≡ suc (length l)) × (held ≡ k))
+    go (inl e) = inl e
+    go (inr e) = inr (ap suc e.0, e.1)

@@ -2,6 +2,8 @@ pub mod Language
 pub mod Places
 pub mod Later
 pub mod Kept
+pub mod Events
+pub mod Room
 pub mod Schedules
 pub mod Runs
 pub mod NoDisplay

@@ -12,52 +12,27 @@ use Rattle.machine.specs.Ranges.{FitsMachine}
 use Rattle.machine.proofs.Moves.{case_instruction, move_in}
 use Rattle.chip8_lang.specs.State.{Lang}
 use Rattle.chip8_lang.specs.Ticks.{ticks}
-use Rattle.chip8_lang.specs.Between.{Between, keys_from, keys_between}
-use Rattle.chip8_lang.specs.Events.{is_instruction, is_at}
+use Rattle.chip8_lang.specs.Between.{Between, keys_between}
+use Rattle.chip8_lang.specs.Events.{is_at}
 use Rattle.rom_moves.specs.Code.{Input, moved, is_by}
-use Rattle.rom_moves.specs.Later.{After}
 use Rattle.machine.proofs.Fits.{main-fits}
-use Rattle.rom_moves.proofs.Ticks.{after_none}
 use Rattle.rom_law.specs.Program.{Program, code, Dispatches, Halts}
-use Rattle.rom_law.specs.Rows.{Since, Ready, Pieces, Row, Outcome, now, dispatched, after_main}
+use Rattle.rom_law.specs.Rows.{Since, Embeds, Ready, Pieces, Row, Outcome, now, dispatched, after_main}
 use Rattle.rom_law.specs.Rows.Outcome.{Still, Dispatched, Halted}
 use Rattle.rom_law.specs.Rows.Row.{Inside, Alone}
 use Rattle.rom_law.specs.Runs.{state_at}
-use Rattle.rom_law.proofs.Language.{Embeds, between_more}
+use Rattle.rom_law.proofs.Events.{at_instruction, neither, other_pc}
+use Rattle.rom_law.proofs.Language.{between_more, keys_from_get, last_or_before}
 use Rattle.rom_law.proofs.Schedules.{dispatch_by, halt_by}
-use Rattle.rom_law.proofs.Kept.{Proved, row_starts, row_moves, row_runs, row_cycles, block_awake}
+use Rattle.rom_law.proofs.Kept.{Proved, row_starts, row_moves, row_runs, row_cycle, row_cycles, block_awake}
 use Rattle.rom_law.proofs.Runs.{Moves, Carries}
 use Rattle.rom_law.proofs.Runs.Moves.{Still as Quiet, Arrived, Halted as Stops}
 
 -- ---- the sets of keys
 
-keys_from_get : (script : List KeyEvent) (n a u : ℕ) → u < n → slice_get (keys_from script a n) u ≡ Some (held_at script (a + u))
-keys_from_get script zero a u l = absurd (omega arith)
-keys_from_get script (suc n) a zero l = ap (λ b. Some (held_at script b)) same
-  where
-    same : a ≡ a + 0
-    same = omega arith
-keys_from_get script (suc n) a (suc u) l = keys_from_get script n (a + 1) u (omega arith) ∙ ap (λ b. Some (held_at script b)) same
-  where
-    same : a + 1 + u ≡ a + suc u
-    same = omega arith
-
 -- the sets of n main moves of two cycles each, from cycle a on: that of a move is the one in the cycle after its fetch
 pub record Sampled (script : List KeyEvent) (a : ℕ) (sets : List Keys) : Type 0 where
   pub set : (u : ℕ) (held : Keys) → slice_get sets u ≡ Some held → held ≡ held_at script (a + 2 * u + 1)
-
-last_or_before : (l : List Keys) (k : Keys) (u : ℕ) (held : Keys) → slice_get (l ++ k ∷ []) u ≡ Some held → (slice_get l u ≡ Some held) ⊎ ((u ≡ length l) × (held ≡ k))
-last_or_before [] k zero held h = inr (refl, is h)
-  where
-    is : Some k ≡ Some held → held ≡ k
-    is e = cc
-last_or_before [] k (suc u) held h = cc
-last_or_before (j ∷ l) k zero held h = inl h
-last_or_before (j ∷ l) k (suc u) held h = go (last_or_before l k u held h)
-  where
-    go : (slice_get l u ≡ Some held) ⊎ ((u ≡ length l) × (held ≡ k)) → (slice_get l u ≡ Some held) ⊎ ((suc u ≡ suc (length l)) × (held ≡ k))
-    go (inl e) = inl e
-    go (inr e) = inr (ap suc e.0, e.1)
 
 sampled_more : (script : List KeyEvent) (a : ℕ) (sets : List Keys) (k : Keys) → k ≡ held_at script (a + 2 * length sets + 1) → Sampled script a sets → Sampled script a (sets ++ k ∷ [])
 sampled_more script a sets k e s = record { set = λ u held h. go u held (last_or_before sets k u held h) }
@@ -81,18 +56,6 @@ sets_more : (l : List Keys) (k : Keys) → length (l ++ k ∷ []) ≡ suc (lengt
 sets_more [] k = refl
 sets_more (j ∷ l) k = ap suc (sets_more l k)
 
--- ---- events
-
-and_false : (t u v : Bool) → t ≡ true → (t && u && v) ≡ (u && v)
-and_false t u v e = rw e refl
-
-neither : (t u : Bool) → (t || u) ≡ false → (t ≡ false) × (u ≡ false)
-neither true u e = cc
-neither false u e = (refl, e)
-
-other_pc : (t : Bool) {n m : ℕ} (k : ℕ) → n ≡ m → (m == k) ≡ false → ((n == k) && t) ≡ false
-other_pc t k e d = rw (e, d) refl
-
 module _ (x : Program) (off : x.on ≡ false) where
   module _ (b : Machine) (on : b.on ≡ x.on) (awake : b.regs.idle ≡ false) where
     dark : b.on ≡ false
@@ -113,7 +76,7 @@ module _ (x : Program) (off : x.on ≡ false) where
 
     -- a state is a dispatch or stop point where the program counter says so
     by_pc : (p a : ℕ) → is_at p a b ≡ is_by p a b
-    by_pc p a = and_false (is_instruction (case_of b)) (b.regs.p == p) _ (ap is_instruction instruction)
+    by_pc p a = at_instruction b instruction p a
 
     -- the board's move is a main move, of an instruction with so many cycles
     input : (ℕ → Keys) → Input
@@ -129,17 +92,6 @@ module _ (x : Program) (t : Pieces) (proved : Proved x t) (off : x.on ≡ false)
   row_awake : (b : Machine) (h : Since) → Row x t b h → b.regs.idle ≡ false
   row_awake b h (Inside l r) = block_awake x t proved r
   row_awake b h (Alone l at) = awake l b h at
-
-  -- a row says nothing of the cycle number
-  at_cycle : (n : ℕ) (b c : Machine) (k : ℕ) → After (code x).low n b c → After (code x).low n b (record c { cycle = k })
-  at_cycle n b c k a = record { is = ap (λ (z : Machine). record z { cycle = k }) a.is; size = a.size; ram = a.ram }
-
-  row_cycle : (b : Machine) (h : Since) (k : ℕ) → FitsMachine b → Row x t b h → Row x t (record b { cycle = k }) h
-  row_cycle b h k f (Inside l r) = Inside l (record { start = r.start; since = r.since; k = r.k; n = r.n; inside = r.inside; grows = r.grows; fits = r.fits; head = r.head; after = at_cycle r.n _ b k r.after })
-  row_cycle b h k f (Alone l at) = Alone l (subst (λ m. t.At l (record b { cycle = k }) (record h { ticks = m })) same ((proved.places l b h f at).later (awake l b h at) 0 (record b { cycle = k }) (at_cycle 0 b b k (after_none (code x).low b))))
-    where
-      same : h.ticks + 0 ≡ h.ticks
-      same = omega arith
 
   -- what is known of the board while main code runs
   pub record Running (script : List KeyEvent) (b : Machine) (h : Since) : Type 0 where
@@ -198,7 +150,7 @@ module _ (x : Program) (t : Pieces) (proved : Proved x t) (off : x.on ≡ false)
 
     outcome : Outcome x t c h'
     unfolding c u h'
-    outcome = row_moves x t proved u (record b { cycle = b.cycle + 2 }) h (record { regs = r.fits.regs; ram = r.fits.ram; size = r.fits.size; key = r.fits.key }) idle (row_cycle b h (b.cycle + 2) r.fits r.row)
+    outcome = row_moves x t proved u (record b { cycle = b.cycle + 2 }) h (record { regs = r.fits.regs; ram = r.fits.ram; size = r.fits.size; key = r.fits.key }) idle (row_cycle x t proved b h (b.cycle + 2) r.fits idle r.row)
 
     go : Outcome x t c h' → Moves x script (Running script) h c
     unfolding h'

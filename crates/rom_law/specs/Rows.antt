@@ -1,5 +1,5 @@
 -- The rows of main code: what is known of a machine at each instruction, with a record of what came since the last dispatch.
-use Rattle.std.specs.Prelude.{◌≡◌, ℕ, suc, ◌+◌, ◌*◌, ◌<◌, true, false, List, [], ◌∷◌, ◌++◌, length, Some, None}
+use Rattle.std.specs.Prelude.{◌≡◌, ℕ, suc, ◌+◌, ◌*◌, ◌<◌, true, false, List, [], ◌∷◌, ◌++◌, length, slice_get, Some, None}
 use Rattle.machine.specs.Board.{Machine}
 use Rattle.machine.specs.Keys.{Keys}
 use Rattle.machine.specs.Ranges.{FitsMachine}
@@ -19,6 +19,12 @@ pub record Since : Type 0 where
   pub ticks : ℕ
   pub spent : ℕ
   pub keys : List Keys
+
+-- every set of the first list is in the second one, in the same order
+pub record Embeds (few many : List Keys) : Type 0 where
+  pub place : ℕ → ℕ
+  pub there : (u : ℕ) (held : Keys) → slice_get few u ≡ Some held → slice_get many (place u) ≡ Some held
+  pub order : (u w : ℕ) → u < w → place u < place w
 
 -- nothing yet
 abbrev pub dispatched : ℕ → Lang → Since
@@ -48,11 +54,12 @@ pub record Grows (h : Since) (k n : ℕ) (h' : Since) : Type 0 where
   pub keys : h'.keys ≡ h.keys ++ more
   pub count : length more ≡ k
 
--- main code runs or waits: the latch is clear, interrupts are enabled, and the display is as boot left it
+-- main code runs or waits: the latch is clear, interrupts are enabled, and the display and R1 are as boot left them
 pub record Ready (x : Program) (b : Machine) : Type 0 where
   pub latch : b.latch ≡ false
   pub enabled : b.regs.ie ≡ true
   pub on : b.on ≡ x.on
+  pub entry : b.regs.r.r1 ≡ x.entry
 
 -- The pieces of a ROM's main code. A block is straight code that ticks may pass: `Head` says what is known at its first instruction, and
 -- `moves` how many instructions it has. A place is one instruction that uses the timers, the tone, the count of ticks or a flag, or a

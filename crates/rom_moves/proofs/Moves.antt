@@ -14,8 +14,8 @@ use Rattle.machine.specs.Board.{Machine, acted, flags_of, on_after, latch_after,
 use Rattle.machine.proofs.Flags.{reads_flags, effect_flags}
 use Rattle.rom_moves.specs.Code.{Code, Input, nothing, moved, run, is_event}
 use Rattle.rom_moves.specs.Later.{Steady, After, later_bank, later_regs, later, tones}
-use Rattle.rom_moves.proofs.Registers.{is_plain, kept_of_plain, get-later, put-later, put-r2, put-r8, get_put}
-use Rattle.rom_moves.proofs.Passing.{when, first_of, second_of, Passes, passes, stack_of, Written, idle_of, enabled_of, later_effect}
+use Rattle.rom_moves.proofs.Registers.{is_plain, kept_of_plain, get-later, put-later, put-r1, put-r2, put-r8, get_put}
+use Rattle.rom_moves.proofs.Passing.{when, first_of, second_of, Passes, passes, stack_of, Written, idle_of, enabled_of, entry_of, later_effect}
 
 -- ---- bytes of the ROM and of RAM
 
@@ -387,6 +387,13 @@ module _ (x : Code) where
   pub quicks_enabled : (k : ℕ) (b : Machine) → AllGood x k b → (quicks x k b).regs.ie ≡ b.regs.ie
   quicks_enabled zero b g = refl
   quicks_enabled (suc k) b g = enabled_of x.low (kind_of (opcode_in x (quicks x k b))) (number_of (opcode_in x (quicks x k b))) (stepped (quicks x k b).regs (quicks x k b).regs.p) (rom_inputs x (quicks x k b) (λ k. false)) (second_of _ _ (second_of _ _ g.1.0)) ∙ quicks_enabled k b g.0
+
+  quick_entry : (b : Machine) → Fine x b → (quick x b).regs.r.r1 ≡ b.regs.r.r1
+  quick_entry b g = entry_of x.low (stepped b.regs b.regs.p) (rom_inputs x b (λ k. false)) (number_of (opcode_in x b)) (kind_of (opcode_in x b)) (second_of _ _ (second_of _ _ g)) ∙ put-r1 b.regs.p b.regs.r (up (get b.regs.r b.regs.p)) (kept_of_plain b.regs.p (plain_from x b (second_of _ _ g)))
+
+  pub quicks_entry : (k : ℕ) (b : Machine) → AllGood x k b → (quicks x k b).regs.r.r1 ≡ b.regs.r.r1
+  quicks_entry zero b g = refl
+  quicks_entry (suc k) b g = quick_entry (quicks x k b) g.1.0 ∙ quicks_entry k b g.0
 
   pub quicks_on : (k : ℕ) (b : Machine) → AllGood x k b → (quicks x k b).on ≡ b.on
   quicks_on zero b g = refl

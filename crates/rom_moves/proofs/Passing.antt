@@ -6,7 +6,7 @@ use Rattle.machine.specs.declared.Kind.TheVariants.{Idl, Ldn, Inc, Dec, Br, Bq, 
 use Rattle.machine.specs.Bank.{Word, word, value, up, down, get, put}
 use Rattle.machine.specs.Instruction.{Regs, Inputs, Effect, effect, at}
 use Rattle.rom_moves.specs.Later.{Steady, later_bank, later_regs, tones}
-use Rattle.rom_moves.proofs.Registers.{is_kept, is_plain, kept_of_plain, get-later, put-later, put-r2, put-r8, of_r2, r2_grows, r2_falls}
+use Rattle.rom_moves.proofs.Registers.{is_kept, is_plain, kept_of_plain, get-later, put-later, put-r1, put-r2, put-r8, of_r2, r2_grows, r2_falls}
 
 -- a condition, so that it computes to what is left to show: nothing, or that an address that is read is kept
 abbrev pub when : Bool → Type 0 → Type 0
@@ -292,3 +292,64 @@ pub enabled_of : (low : ℕ) (k : Kind) (m : ℕ) (s : Regs) (i : Inputs) → Pa
 enabled_of low Ret m s i h = absurd h
 enabled_of low Dis m s i h = absurd h
 enabled_of low _ m s i h = refl
+
+-- nor do they change R1
+module _ (low : ℕ) (s : Regs) (i : Inputs) (m : ℕ) where
+  plain_r1 : (k : ℕ) (y : Word) → T (is_plain k) → (put s.r k y).r1 ≡ s.r.r1
+  plain_r1 k y h = put-r1 k s.r y (kept_of_plain k (true_from _ h))
+
+  pub entry_of : (k : Kind) → Passes low k m s → (effect k m s i).regs.r.r1 ≡ s.r.r1
+  entry_of Inc h = put-r1 m s.r _ (first_of _ _ h)
+  entry_of Lda h = put-r1 m s.r _ (first_of _ _ h)
+  entry_of Irx h = put-r1 s.x s.r _ (first_of _ _ h)
+  entry_of Out h = put-r1 s.x s.r _ (first_of _ _ h)
+  entry_of Ldxa h = put-r1 s.x s.r _ (first_of _ _ h)
+  entry_of Stxd h = put-r1 s.x s.r _ (first_of _ _ h)
+  entry_of Dec h = plain_r1 m _ h
+  entry_of Plo h = plain_r1 m _ h
+  entry_of Phi h = plain_r1 m _ h
+  entry_of Br h = plain_r1 s.p _ h
+  entry_of Bz h = plain_r1 s.p _ h
+  entry_of Bdf h = plain_r1 s.p _ h
+  entry_of B1 h = plain_r1 s.p _ h
+  entry_of B2 h = plain_r1 s.p _ h
+  entry_of B3 h = plain_r1 s.p _ h
+  entry_of B4 h = plain_r1 s.p _ h
+  entry_of Skp h = plain_r1 s.p _ h
+  entry_of Bnz h = plain_r1 s.p _ h
+  entry_of Bnf h = plain_r1 s.p _ h
+  entry_of Bn1 h = plain_r1 s.p _ h
+  entry_of Bn2 h = plain_r1 s.p _ h
+  entry_of Bn3 h = plain_r1 s.p _ h
+  entry_of Bn4 h = plain_r1 s.p _ h
+  entry_of Adci h = plain_r1 s.p _ h
+  entry_of Sdbi h = plain_r1 s.p _ h
+  entry_of Smbi h = plain_r1 s.p _ h
+  entry_of Lbr h = plain_r1 s.p _ h
+  entry_of Lbz h = plain_r1 s.p _ h
+  entry_of Lbdf h = plain_r1 s.p _ h
+  entry_of Lsnz h = plain_r1 s.p _ h
+  entry_of Lsnf h = plain_r1 s.p _ h
+  entry_of Lskp h = plain_r1 s.p _ h
+  entry_of Lbnz h = plain_r1 s.p _ h
+  entry_of Lbnf h = plain_r1 s.p _ h
+  entry_of Lsie h = plain_r1 s.p _ h
+  entry_of Lsz h = plain_r1 s.p _ h
+  entry_of Lsdf h = plain_r1 s.p _ h
+  entry_of Ldi h = plain_r1 s.p _ h
+  entry_of Ori h = plain_r1 s.p _ h
+  entry_of Ani h = plain_r1 s.p _ h
+  entry_of Xri h = plain_r1 s.p _ h
+  entry_of Adi h = plain_r1 s.p _ h
+  entry_of Sdi h = plain_r1 s.p _ h
+  entry_of Smi h = plain_r1 s.p _ h
+  entry_of Bq h = absurd h
+  entry_of Bnq h = absurd h
+  entry_of Ret h = absurd h
+  entry_of Dis h = absurd h
+  entry_of Mark h = absurd h
+  entry_of Lbq h = absurd h
+  entry_of Lbnq h = absurd h
+  entry_of Lsq h = absurd h
+  entry_of Lsnq h = absurd h
+  entry_of _ h = refl

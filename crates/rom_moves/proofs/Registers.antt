@@ -4,11 +4,11 @@ use Rattle.std.proofs.lemmas.Bool.{cases_eq, cases_lt}
 use Rattle.machine.specs.Bank.{Word, value, Bank, get, put}
 use Rattle.rom_moves.specs.Later.{later_bank}
 
--- ---- registers that ticks leave
+-- ---- registers that ticks leave, but for R1, which main code doesn't use; and those of them but R2
 
 abbrev pub is_kept : ℕ → Bool
 is_kept zero = false
-is_kept (suc zero) = true
+is_kept (suc zero) = false
 is_kept (suc (suc zero)) = true
 is_kept (suc (suc (suc zero))) = true
 is_kept (suc (suc (suc (suc zero)))) = true
@@ -26,7 +26,7 @@ is_kept (suc (suc (suc (suc (suc (suc (suc (suc (suc (suc (suc (suc (suc (suc (s
 
 abbrev pub is_plain : ℕ → Bool
 is_plain zero = false
-is_plain (suc zero) = true
+is_plain (suc zero) = false
 is_plain (suc (suc zero)) = false
 is_plain (suc (suc (suc zero))) = true
 is_plain (suc (suc (suc (suc zero)))) = true
@@ -47,7 +47,7 @@ false≢true e = absurd (true≢false (sym e))
 
 pub kept_of_plain : (k : ℕ) → is_plain k ≡ true → is_kept k ≡ true
 kept_of_plain zero e = false≢true e
-kept_of_plain (suc zero) e = refl
+kept_of_plain (suc zero) e = false≢true e
 kept_of_plain (suc (suc zero)) e = false≢true e
 kept_of_plain (suc (suc (suc zero))) e = refl
 kept_of_plain (suc (suc (suc (suc zero)))) e = refl
@@ -134,6 +134,11 @@ put-r8 (suc (suc (suc (suc (suc (suc (suc (suc (suc (suc (suc (suc zero)))))))))
 put-r8 (suc (suc (suc (suc (suc (suc (suc (suc (suc (suc (suc (suc (suc zero))))))))))))) r y e = refl
 put-r8 (suc (suc (suc (suc (suc (suc (suc (suc (suc (suc (suc (suc (suc (suc zero)))))))))))))) r y e = refl
 put-r8 (suc (suc (suc (suc (suc (suc (suc (suc (suc (suc (suc (suc (suc (suc (suc m))))))))))))))) r y e = false≢true e
+
+pub put-r1 : (k : ℕ) (r : Bank) (y : Word) → is_kept k ≡ true → (put r k y).r1 ≡ r.r1
+put-r1 (suc zero) r y e = false≢true e
+put-r1 (suc (suc (suc (suc (suc (suc (suc (suc (suc (suc (suc (suc (suc (suc (suc m))))))))))))))) r y e = refl
+put-r1 _ r y e = refl
 
 -- what is asked of R2, where the register is R2
 abbrev pub of_r2 : ℕ → Type 0 → Type 0

@@ -28,7 +28,7 @@ pub is_on_4 : (a : Word) (b : Machine) (s : Lang) → Fetching a b s → b ≡ o
 is_on_4 a b s e = λ i. record b { regs = record b.regs { p = e.p i; r = record b.regs.r { r4 = e.r4 i } } }
 
 pub ready : {b : Machine} {s : Lang} → Holding thin (places b) s → Ready thin b
-ready h = record { latch = h.latch; enabled = h.enabled; on = h.on }
+ready h = record { latch = h.latch; enabled = h.enabled; on = h.on; entry = h.entry }
 
 -- the branch on DF = 0
 taken : (n : ℕ) (a c : Word) → n ≡ 0 → cond (not (n == 1)) a c ≡ a

@@ -1,0 +1,298 @@
+-- Each move of the board keeps what is known of it.
+use Rattle.std.proofs.Common.{◌≡◌, ℕ, zero, suc, ◌+◌, ◌*◌, ◌/◌, ◌%◌, ◌<◌, ◌≤◌, ◌⊎◌, inl, inr, refl, sym, ◌∙◌, ap, subst, subst₂, arith, true, false, List, [], length, le_refl}
+use Rattle.std.specs.Prelude.{Some, slice_get}
+use Rattle.std.proofs.lemmas.Bool.{cases_eq}
+use Rattle.machine.specs.Opcodes.{cycles_of}
+use Rattle.machine.specs.Signals.{efx_at}
+use Rattle.machine.specs.Board.{Machine, case_of, move, opcode_of, main_move}
+use Rattle.machine.specs.Board.Case.{Interrupt, Instruction}
+use Rattle.machine.specs.Keys.{Keys, Event, held_at}
+use Rattle.machine.specs.Run.{after_moves}
+use Rattle.machine.specs.Schedule.{Tick}
+use Rattle.machine.specs.Ranges.{FitsMachine}
+use Rattle.machine.specs.Pictures.{interrupt_at}
+use Rattle.machine.proofs.Fits.{main-fits}
+use Rattle.chip8_lang.specs.declared.view.Edition.{Edition}
+use Rattle.chip8_lang.specs.Editions.{memory_end}
+use Rattle.chip8_lang.specs.State.{Lang}
+use Rattle.chip8_lang.specs.Ticks.{ticks}
+use Rattle.chip8_lang.specs.Between.{Between, ticks_between, keys_between}
+use Rattle.chip8_lang.specs.Events.{is_instruction, is_at, is_dispatch, is_stop}
+use Rattle.rom_moves.specs.Code.{Input, moved, is_event}
+use Rattle.rom_moves.specs.Later.{After}
+use Rattle.rom_moves.proofs.Ranges.{tick_fits}
+use Rattle.rom_moves.proofs.Ticks.{after_none}
+use Rattle.rom_moves.proofs.Ticks.{after_tick as one_tick}
+use Rattle.rom_law.specs.Program.{Program, Keeps, code, Dispatches, Halts}
+use Rattle.rom_law.specs.Rows.{Since, Embeds, Ready, Row, Outcome, Stepped, Stopped, now, dispatched, after_main, after_tick}
+use Rattle.rom_law.specs.Rows.Outcome.{Still as Calm, Dispatched, Halted as Failed}
+use Rattle.rom_law.specs.Runs.{state_at}
+use Rattle.rom_law.proofs.Events.{at_instruction, at_other, calm_points, other_pc}
+use Rattle.rom_law.proofs.Kept.{Proved, row_starts, row_moves, row_ticks, row_runs, row_cycle, row_cycles}
+use Rattle.rom_law.proofs.Language.{between_more, between_ticks}
+use Rattle.rom_law.proofs.Later.{dispatches_after, halts_after}
+use Rattle.rom_law.proofs.Runs.{Moves}
+use Rattle.rom_law.proofs.Runs.Moves.{Still, Arrived, Halted}
+use Rattle.rom_law.proofs.Schedules.{dispatch_by, halt_by}
+use Rattle.chip8_rows.specs.Rom.{image, vip}
+use Rattle.chip8_rows.specs.Table.{pieces}
+use Rattle.rom_frame.specs.Frame.{place, interrupt_place, IsOutside, IsMainPlace, Makes}
+use Rattle.rom_frame.specs.Frame.Makes.{Runs, Waits, Accepts}
+use Rattle.rom_frame.specs.Routine.{IsInterrupted, IsTick, routine_moves, routine_cycles}
+use Rattle.rom_frame.proofs.Frame.{accepted, case_accepts, case_runs, every_move, keeps_place, keeps_waiting}
+use Rattle.rom_frame.proofs.Interval.{ticks_main, ticks_wait, ticks_served, keeps_interrupted, embeds_longer, embeds_more}
+use Rattle.rom_frame.proofs.Tick.{run_tick}
+use Rattle.rom_run.specs.Running.{Interval, Counted, Due, Outside, Serving, Running}
+use Rattle.rom_run.specs.Running.Counted.{NoEvent, Renewed}
+use Rattle.rom_run.specs.Running.Due.{Arrives, Ends}
+use Rattle.rom_run.specs.Running.Outside.{AtRow, AtEvent}
+use Rattle.rom_run.specs.Running.Running.{InMain, InRoutine}
+use Rattle.rom_run.proofs.Proved.{proved}
+use Rattle.rom_run.proofs.Room.{Room, row_room}
+use Rattle.rom_run.proofs.Waits.{timed, idle_cycle}
+
+module _ (e : Edition) (script : List Event) where
+  abbrev x : Program
+  x = vip e
+
+  abbrev held : ℕ → Keys
+  held = held_at script
+
+  abbrev Goes : Machine → Since → Type 0
+  Goes = Running e script
+
+  abbrev Comes : Since → Machine → Type 0
+  Comes = Moves x script Goes
+
+  -- ---- events
+
+  -- at a dispatch or a stop the board is interrupted, or it is an event of the run
+  module _ (c : Machine) (s : Lang) (k : Keeps x c s) where
+    pub runs_there : IsOutside c.cycle → (place c.cycle ≡ interrupt_place → ⊥) → case_of c ≡ Instruction
+    runs_there out d = case_runs c k.on k.lies.enabled out d k.lies.awake
+
+    interrupted_there : place c.cycle ≡ interrupt_place → (p a : ℕ) → is_at p a c ≡ false
+    interrupted_there i p a = at_other c (ap is_instruction (case_accepts c k.on k.lies.enabled i)) p a
+
+  pub dispatch_there : (c : Machine) (s : Lang) → Dispatches x c s → IsOutside c.cycle → (place c.cycle ≡ interrupt_place → ⊥) → (is_dispatch x.interpreter c ≡ true) × (is_stop x.interpreter c ≡ false)
+  dispatch_there c s st out d = (at_instruction c (runs_there c s st.keeps out d) 4 x.interpreter.fetch ∙ dispatch_by x c s st, at_instruction c (runs_there c s st.keeps out d) 3 x.interpreter.halt ∙ other_pc _ 3 st.p refl)
+
+  stop_there : (c : Machine) (h : Since) {stop : _} → Halts x c (now h) stop → IsOutside c.cycle → (place c.cycle ≡ interrupt_place → ⊥) → is_stop x.interpreter c ≡ true
+  stop_there c h st out d = at_instruction c (runs_there c (now h) st.keeps out d) 3 x.interpreter.halt ∙ halt_by x c (now h) _ st
+
+  -- ---- a dispatch point
+
+  none_yet : (a : ℕ) → 0 ≡ ticks_between a a
+  none_yet a = omega arith
+
+  embeds_none : (sets : List Keys) → Embeds [] sets
+  embeds_none sets = record { place = λ u. u; there = λ u k h. never u k h; order = λ u w l. l }
+    where
+      never : (u : ℕ) (k : Keys) → slice_get [] u ≡ Some k → slice_get sets u ≡ Some k
+      never u k h = cc
+
+  -- the record begins anew
+  pub renewed : (c : Machine) (s : Lang) → FitsMachine c → Dispatches x c s → IsMainPlace c.cycle → (place c.cycle ≡ interrupt_place → ⊥) → Goes c (dispatched c.cycle s)
+  renewed c s f d p i =
+      InMain (
+      AtRow
+      (record { fits = f; outside = p.outside; even = λ a. p.even; from = le_refl c.cycle; begun = i; ticks = none_yet c.cycle; keys = embeds_none (keys_between script c.cycle c.cycle) })
+      (row_starts x (pieces x) (proved e) c (dispatched c.cycle s) f ((proved e).fetch c.cycle c s f d))
+      (Renewed d.keeps.lies.awake i)
+      )
+
+  -- ---- what a state comes to that a dispatch or a stop has made
+
+  module _ (c : Machine) (h : Since) (t : Interval script c h) (p : IsMainPlace c.cycle) where
+    arrives : (s : Lang) → Stepped x c h s → Comes h c
+    arrives s st = go (cases_eq (place c.cycle) interrupt_place)
+      where
+        here : Dispatches x c (state_at x c)
+        here = subst (Dispatches x c) (sym st.stands.keeps.lies.is) st.stands
+
+        go : (place c.cycle ≡ interrupt_place) ⊎ (place c.cycle ≡ interrupt_place → ⊥) → Comes h c
+        go (inl i) = Still h refl refl (interrupted_there c s st.stands.keeps i 4 x.interpreter.fetch) (interrupted_there c s st.stands.keeps i 3 x.interpreter.halt) (InMain (AtEvent t i (Arrives s st)))
+        go (inr d) =
+            Arrived (dispatch_there c s st.stands t.outside d).0 (dispatch_there c s st.stands t.outside d).1 st.runs
+            (subst₂ (λ n z. Between e h.state n (keys_between script h.from c.cycle) z) t.ticks (sym st.stands.keeps.lies.is) (between_more t.keys e h.state h.ticks s st.between))
+            here
+            (renewed c (state_at x c) t.fits here p d)
+
+    ends : (stop : _) → Stopped x c h stop → Comes h c
+    ends stop st = go (cases_eq (place c.cycle) interrupt_place)
+      where
+        go : (place c.cycle ≡ interrupt_place) ⊎ (place c.cycle ≡ interrupt_place → ⊥) → Comes h c
+        go (inl i) = Still h refl refl (interrupted_there c (now h) st.halts.keeps i 4 x.interpreter.fetch) (interrupted_there c (now h) st.halts.keeps i 3 x.interpreter.halt) (InMain (AtEvent t i (Ends stop st)))
+        go (inr d) = Halted (stop_there c h st.halts t.outside d) stop st.fits (subst (λ n. Halts x c (ticks n h.state) stop) t.ticks st.halts)
+
+  -- what comes of a record comes of what it was before
+  carried : (h : Since) (spent n : ℕ) (sets : List Keys) (c : Machine) → Comes (record h { spent = spent; ticks = n; keys = sets }) c → Comes h c
+  carried h spent n sets c (Still g f s d z r) = Still g f s d z r
+  carried h spent n sets c (Arrived d z a b st r) = Arrived d z a b st r
+  carried h spent n sets c (Halted z stop a st) = Halted z stop a st
+
+  -- ---- a main move
+
+  module _ (b : Machine) (h : Since) (t : Interval script b h) (row : Row x (pieces x) b h) (i : place b.cycle ≡ interrupt_place → ⊥) (awake : b.regs.idle ≡ false) where
+    u : Input
+    u = record { efx = efx_at (b.cycle + 1) true; held = held (b.cycle + 1) }
+
+    c : Machine
+    c = moved (code x) u (record b { cycle = b.cycle + 2 })
+
+    h' : Since
+    h' = after_main u h
+
+    main_is : move x.interpreter.rom held b ≡ record (main_move x.interpreter.rom (efx_at (b.cycle + 1) true) (held (b.cycle + 1)) b) { cycle = b.cycle + cycles_of (opcode_of x.interpreter.rom b) } → move x.interpreter.rom held b ≡ c
+    unfolding c u
+    main_is m = m ∙ ap (λ n. record (main_move x.interpreter.rom (efx_at (b.cycle + 1) true) (held (b.cycle + 1)) b) { cycle = b.cycle + n }) (row_cycles x (pieces x) (proved e) b h t.fits awake row)
+
+    there : IsMainPlace (b.cycle + 2)
+    there = keeps_place b.cycle (record { outside = t.outside; even = t.even awake }) i
+
+    fits : FitsMachine c
+    unfolding c u
+    fits = main-fits x.interpreter.rom (proved e).rom u.efx u.held (record b { cycle = b.cycle + 2 }) (record { regs = t.fits.regs; ram = t.fits.ram; size = t.fits.size; key = t.fits.key })
+
+    outcome : Outcome x (pieces x) c h'
+    unfolding c u h'
+    outcome = row_moves x (pieces x) (proved e) u (record b { cycle = b.cycle + 2 }) h (record { regs = t.fits.regs; ram = t.fits.ram; size = t.fits.size; key = t.fits.key }) awake (row_cycle x (pieces x) (proved e) b h (b.cycle + 2) t.fits awake row)
+
+    interval : Interval script c h'
+    unfolding c u h'
+    interval =
+        record {
+          fits = fits;
+          outside = there.outside;
+          even = λ a. there.even;
+          from = omega (arith, t.from);
+          begun = t.begun;
+          ticks = t.ticks ∙ sym (ticks_main h.from b.cycle (t.even awake) i);
+          keys = embeds_more script h.from b.cycle t.from h.keys t.keys;
+        }
+
+    main_place : IsMainPlace c.cycle
+    unfolding c u
+    main_place = there
+
+    run_on : Outcome x (pieces x) c h' → Comes h c
+    unfolding h'
+    run_on (Calm calm r) = Still h' refl refl (calm_points c x calm).0 (calm_points c x calm).1 (InMain (AtRow interval r (NoEvent calm)))
+    run_on (Dispatched s st) = carried h h'.spent h'.ticks h'.keys c (arrives c h' interval main_place s st)
+    run_on (Failed stop st) = carried h h'.spent h'.ticks h'.keys c (ends c h' interval main_place stop st)
+
+    main_comes : move x.interpreter.rom held b ≡ record (main_move x.interpreter.rom (efx_at (b.cycle + 1) true) (held (b.cycle + 1)) b) { cycle = b.cycle + cycles_of (opcode_of x.interpreter.rom b) } → Comes h (move x.interpreter.rom held b)
+    main_comes m = subst (Comes h) (sym (main_is m)) (run_on outcome)
+
+  -- ---- an idle cycle
+
+  sleeps : true ≡ false → ⊥
+  sleeps k = cc
+
+  uncounted : (b : Machine) → Counted e b → (b.regs.idle ≡ true) ⊎ (place b.cycle ≡ interrupt_place) → is_event (code x) b ≡ false
+  uncounted b (NoEvent m) k = m
+  uncounted b (Renewed a d) (inl i) = absurd (sleeps (sym i ∙ a))
+  uncounted b (Renewed a d) (inr p) = absurd (d p)
+
+  idle_interval : (b : Machine) (h : Since) → Interval script b h → (place b.cycle ≡ interrupt_place → ⊥) → b.regs.idle ≡ true → Interval script (timed (b.cycle + 1) b) h
+  idle_interval b h t i idle =
+      record {
+        fits = record { regs = t.fits.regs; ram = t.fits.ram; size = t.fits.size; key = t.fits.key };
+        outside = keeps_waiting b.cycle t.outside i;
+        even = λ a. absurd (sleeps (sym idle ∙ a));
+        from = omega (arith, t.from);
+        begun = t.begun;
+        ticks = t.ticks ∙ sym (ticks_wait h.from b.cycle i);
+        keys = embeds_longer script h.from b.cycle (b.cycle + 1) h.keys (omega arith) t.keys;
+      }
+
+  idle_comes : (b : Machine) (h : Since) → Interval script b h → Row x (pieces x) b h → Counted e b → (place b.cycle ≡ interrupt_place → ⊥) → b.regs.idle ≡ true → Comes h (timed (b.cycle + 1) b)
+  idle_comes b h t row n i idle = let calm = uncounted b n (inl idle) in Still h refl refl (calm_points (timed (b.cycle + 1) b) x calm).0 (calm_points (timed (b.cycle + 1) b) x calm).1 (InMain (AtRow (idle_interval b h t i idle) (idle_cycle e b h (b.cycle + 1) idle row) (NoEvent calm)))
+
+  -- ---- the interrupt routine
+
+  -- main code is interrupted with all that the routine wants
+  interrupted : (b : Machine) (h : Since) (m : ℕ) → Outside e script b h → b.cycle ≡ interrupt_at m → IsInterrupted e m b
+  interrupted b h m (AtRow t row n) i =
+      let ready = row_runs x (pieces x) (proved e) b h t.fits row in
+      let r = row_room e b h row in
+      record { cycle = i; on = ready.on; enabled = ready.enabled; latch = ready.latch; entry = ready.entry; fits = t.fits; room = r.low; top = r.high }
+  interrupted b h m (AtEvent t p (Arrives s st)) i = keeps_interrupted e m b s t.fits st.stands.keeps i
+  interrupted b h m (AtEvent t p (Ends stop st)) i = keeps_interrupted e m b (now h) t.fits st.halts.keeps i
+
+  -- in the routine the program counter is R1
+  by_r1 : (c : Machine) → c.regs.p ≡ 1 → (is_dispatch x.interpreter c ≡ false) × (is_stop x.interpreter c ≡ false)
+  by_r1 c p = calm_points c x (rw p refl)
+
+  -- c is where it returns: one tick was made
+  module _ (b : Machine) (h : Since) (m : ℕ) (cycle : b.cycle ≡ interrupt_at m) (c : Machine) (k : Tick (memory_end e) b c) (at : c.cycle ≡ interrupt_at m + routine_cycles) (p : IsMainPlace c.cycle) where
+    tick_interval : Interval script b h → Interval script c (after_tick h)
+    tick_interval t =
+        record {
+          fits = tick_fits (memory_end e) b c t.fits k;
+          outside = p.outside;
+          even = λ a. p.even;
+          from = omega (arith, t.from, cycle, at);
+          begun = t.begun;
+          ticks = ap suc (t.ticks ∙ ap (ticks_between h.from) cycle) ∙ sym (ticks_served h.from m (omega (arith, t.from, cycle, t.begun))) ∙ ap (ticks_between h.from) (sym at);
+          keys = embeds_longer script h.from b.cycle c.cycle h.keys (omega (arith, cycle, at)) t.keys;
+        }
+
+    ticked : b.regs.idle ≡ false → After (memory_end e) 1 b c
+    ticked awake = one_tick (memory_end e) 0 b b c awake (after_none (memory_end e) b) k
+
+    in_place : place b.cycle ≡ interrupt_place
+    in_place = omega (arith, cycle)
+
+    more : h.ticks + 1 ≡ suc h.ticks
+    more = omega arith
+
+    returned : Outside e script b h → Comes h c
+    returned (AtRow t row n) =
+        let calm = ap (is_event (code x)) k.is ∙ uncounted b n (inr in_place) in
+        Still (after_tick h) refl refl (calm_points c x calm).0 (calm_points c x calm).1 (InMain (AtRow (tick_interval t) (row_ticks x (pieces x) (proved e) b c h t.fits k row) (NoEvent calm)))
+    returned (AtEvent t _ (Arrives s st)) =
+        carried h h.spent (suc h.ticks) h.keys c (
+        arrives c (after_tick h) (tick_interval t) p (ticks 1 s) (
+        record {
+          runs = st.runs;
+          between = subst (λ n. Between e h.state n h.keys (ticks 1 s)) more (between_ticks 1 e h.state h.ticks h.keys s st.between);
+          stands = dispatches_after x 1 b c (ticked st.stands.keeps.lies.awake) t.fits s st.stands;
+        }
+        )
+        )
+    returned (AtEvent t _ (Ends stop st)) =
+        carried h h.spent (suc h.ticks) h.keys c (ends c (after_tick h) (tick_interval t) p stop (record { fits = st.fits; halts = halts_after x 1 b c (ticked st.halts.keeps.lies.awake) t.fits (now h) stop st.halts }))
+
+  module _ (b : Machine) (h : Since) (m : ℕ) (o : Outside e script b h) (cycle : b.cycle ≡ interrupt_at m) where
+    tick : IsTick e m b held
+    tick = run_tick e m b held (interrupted b h m o cycle)
+
+    -- so many moves on, still in the routine
+    serves : (k : ℕ) → suc k < routine_moves → Comes h (after_moves (image e) held b (suc k))
+    serves k l = let quiet = by_r1 (after_moves (image e) held b (suc k)) (tick.inside (suc k) (omega arith) l) in Still h refl refl quiet.0 quiet.1 (InRoutine (record { start = b; outside = o; m = m; cycle = cycle; k = suc k; some = omega arith; inside = l; is = refl }))
+
+    returns : Comes h (after_moves (image e) held b routine_moves)
+    returns = returned b h m cycle (after_moves (image e) held b routine_moves) tick.tick tick.cycle tick.place o
+
+    routine_comes : (k : ℕ) → k < routine_moves → Comes h (after_moves (image e) held b (suc k))
+    routine_comes k l = go (cases_eq (suc k) routine_moves)
+      where
+        go : (suc k ≡ routine_moves) ⊎ (suc k ≡ routine_moves → ⊥) → Comes h (after_moves (image e) held b (suc k))
+        go (inl last) = subst (λ n. Comes h (after_moves (image e) held b n)) (sym last) returns
+        go (inr d) = serves k (omega (arith, l, d))
+
+  -- ---- every move
+
+  row_comes : (b : Machine) (h : Since) (t : Interval script b h) (row : Row x (pieces x) b h) (n : Counted e b) → Makes (image e) held b (move (image e) held b) → Comes h (move (image e) held b)
+  row_comes b h t row n (Runs d i m) = main_comes b h t row d i m
+  row_comes b h t row n (Waits d i m) = subst (Comes h) (sym m) (idle_comes b h t row n d i)
+  row_comes b h t row n (Accepts i m) = routine_comes b h _ (AtRow t row n) i 0 (omega arith)
+
+  pub board_moves : (b : Machine) (h : Since) → Goes b h → Comes h (move (image e) held b)
+  board_moves b h (InMain (AtRow t row n)) = let ready = row_runs x (pieces x) (proved e) b h t.fits row in row_comes b h t row n (every_move (image e) held b ready.on ready.enabled t.outside)
+  board_moves b h (InMain (AtEvent t p d)) = routine_comes b h (b.cycle / 3668) (AtEvent t p d) at 0 (omega arith)
+    where
+      at : b.cycle ≡ interrupt_at (b.cycle / 3668)
+      at = omega (arith, p)
+  board_moves b h (InRoutine s) = subst (λ z. Comes h (move (image e) held z)) (sym s.is) (routine_comes s.start h s.m s.outside s.cycle s.k s.inside)

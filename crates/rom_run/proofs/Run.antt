@@ -1,0 +1,99 @@
+-- Boot comes to the first dispatch point, and from there on each move keeps what is known of the board: so the law of every run holds.
+use Rattle.std.proofs.Common.{◌≡◌, ℕ, ◌+◌, ◌<◌, ◌≤◌, inl, sym, subst, arith, lit<, true, false, List, length, slice_index}
+use Rattle.machine.specs.Board.{Machine, start}
+use Rattle.machine.specs.Keys.{Event, held_at}
+use Rattle.machine.specs.Run.{after_moves}
+use Rattle.machine.specs.Ranges.{FitsMachine}
+use Rattle.chip8_lang.specs.declared.view.Edition.{Edition}
+use Rattle.chip8_lang.specs.declared.view.Edition.TheVariants.{Usual, Tall}
+use Rattle.chip8_lang.specs.State.{Lang, first, memory_size}
+use Rattle.chip8_lang.specs.Bounds.{boot_bound}
+use Rattle.chip8_lang.specs.Events.{is_dispatch, is_stop}
+use Rattle.rom_law.specs.Program.{Program, Dispatches, Halts}
+use Rattle.rom_law.specs.Rows.{Since, dispatched}
+use Rattle.rom_law.specs.Runs.{LanguageRun, state_at}
+use Rattle.rom_law.proofs.First.{start_fits, moves_fit}
+use Rattle.rom_law.proofs.Kept.{Proved}
+use Rattle.rom_law.proofs.Runs.{Moves, Carries, Boots, language_run}
+use Rattle.rom_law.proofs.Runs.Moves.{Still, Arrived, Halted}
+use Rattle.chip8_rows.specs.Rom.{image, vip}
+use Rattle.rom_fetch.specs.Laws.{Boot, boot_moves}
+use Rattle.rom_fetch.proofs.Boot.{every_boot}
+use Rattle.rom_frame.specs.Frame.{place, interrupt_place, IsMainPlace}
+use Rattle.rom_run.specs.Laws.{EveryRun, unbounded}
+use Rattle.rom_run.specs.Running.{Running}
+use Rattle.rom_run.proofs.Moves.{board_moves, dispatch_there, renewed}
+use Rattle.rom_run.proofs.Proved.{proved}
+
+-- ---- the first dispatch point
+
+-- what is to be said of the state at cycle 56
+record Begins (e : Edition) (script : List Event) (game : List ℕ) (c : Machine) : Type 0 where
+  soon : c.cycle ≤ boot_bound
+  dispatch : is_dispatch (vip e).interpreter c ≡ true
+  runs : is_stop (vip e).interpreter c ≡ false
+  running : Running e script c (dispatched c.cycle (state_at (vip e) c))
+
+begins : (e : Edition) (script : List Event) (game : List ℕ) (c : Machine) → FitsMachine c → c.cycle ≡ 56 → Dispatches (vip e) c (first e game) → Begins e script game c
+begins e script game c f at st =
+    record {
+      soon = omega (arith, at);
+      dispatch = (dispatch_there e script c (first e game) st p.outside d).0;
+      runs = (dispatch_there e script c (first e game) st p.outside d).1;
+      running = renewed e script c (state_at (vip e) c) f (subst (Dispatches (vip e) c) (sym st.keeps.lies.is) st) p d;
+    }
+  where
+    p : IsMainPlace c.cycle
+    p = record { outside = inl (omega (arith, at)); even = omega (arith, at) }
+
+    d : place c.cycle ≡ interrupt_place → ⊥
+    d i = omega (arith, at, i)
+
+room : (e : Edition) → memory_size e ≤ 0xe00
+room Usual = omega arith
+room Tall = omega arith
+
+-- ---- a program whose steps have no bounds
+
+module _ (e : Edition) where
+  free_dispatches : (c : Machine) (s : Lang) → Dispatches (vip e) c s → Dispatches (unbounded e) c s
+  free_dispatches c s d = record { keeps = record { lies = d.keeps.lies; on = d.keeps.on; entry = d.keeps.entry; page = d.keeps.page }; p = d.p; r4 = d.r4 }
+
+  free_moves : (script : List Event) (h : Since) (c : Machine) → Moves (vip e) script (Running e script) h c → Moves (unbounded e) script (Running e script) h c
+  free_moves script h c (Still h' f s d z r) = Still h' f s d z r
+  free_moves script h c (Arrived d z a b st r) = Arrived d z a b (free_dispatches c _ st) r
+  free_moves script h c (Halted z stop a d) = Halted z stop a (record { keeps = record { lies = d.keeps.lies; on = d.keeps.on; entry = d.keeps.entry; page = d.keeps.page }; p = d.p; r3 = d.r3; number = d.number })
+
+  carries : (script : List Event) → Carries (unbounded e) script (Running e script)
+  carries script =
+      record {
+        moves = λ b h r. free_moves script h _ (board_moves e script b h r);
+        timely = λ b h bound r none. cc;
+      }
+
+module _ (e : Edition) (game : List ℕ) (small : length game ≤ memory_size e) (bytes : (i : ℕ) → slice_index game i < 256) (script : List Event) where
+  boot : Boot e (held_at script) game
+  boot = every_boot e (held_at script) game small
+
+  c : Machine
+  c = after_moves (image e) (held_at script) (start game) boot_moves
+
+  begun : Begins e script game c
+  unfolding c
+  begun = begins e script game (after_moves (image e) (held_at script) (start game) boot_moves) (moves_fit (image e) (proved e).rom (held_at script) (start game) (start_fits game (omega (arith, small, room e)) bytes) boot_moves) boot.cycle boot.stands
+
+  boots : Boots (unbounded e) game script (Running e script)
+  unfolding c
+  boots =
+      record {
+        moves = boot_moves;
+        quiet = boot.quiet;
+        soon = begun.soon;
+        dispatch = begun.dispatch;
+        runs = begun.runs;
+        stands = free_dispatches e _ _ boot.stands;
+        running = begun.running;
+      }
+
+pub every_run : EveryRun
+every_run e game small bytes script limit = language_run (unbounded e) game script limit (Running e script) (carries e script) (boots e game small bytes script)

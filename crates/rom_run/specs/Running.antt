@@ -1,0 +1,61 @@
+-- What is known of the board along its run, from the first dispatch point up to the stop, with the record of what came since the last
+-- dispatch point.
+use Rattle.std.specs.Prelude.{◌≡◌, ℕ, ◌+◌, ◌%◌, ◌<◌, ◌≤◌, ◌⊎◌, false, List}
+use Rattle.machine.specs.Board.{Machine}
+use Rattle.machine.specs.Keys.{Event, held_at}
+use Rattle.machine.specs.Run.{after_moves}
+use Rattle.machine.specs.Ranges.{FitsMachine}
+use Rattle.machine.specs.Pictures.{interrupt_at}
+use Rattle.chip8_lang.specs.declared.view.Edition.{Edition}
+use Rattle.chip8_lang.specs.declared.view.Stop.{Stop}
+use Rattle.chip8_lang.specs.State.{Lang}
+use Rattle.chip8_lang.specs.Between.{ticks_between, keys_between}
+use Rattle.rom_moves.specs.Code.{is_event}
+use Rattle.rom_law.specs.Program.{code}
+use Rattle.rom_law.specs.Rows.{Since, Embeds, Row, Stepped, Stopped}
+use Rattle.chip8_rows.specs.Rom.{image, vip}
+use Rattle.chip8_rows.specs.Table.{pieces}
+use Rattle.rom_frame.specs.Frame.{place, interrupt_place, IsOutside}
+use Rattle.rom_frame.specs.Routine.{routine_moves}
+
+-- The interval from the last dispatch point up to b, where main code runs or waits: its interrupts were the ticks, and the sets of keys of
+-- its main moves were held down in its cycles, in order. Where main code runs, the cycle is even.
+pub record Interval (script : List Event) (b : Machine) (h : Since) : Type 0 where
+  pub fits : FitsMachine b
+  pub outside : IsOutside b.cycle
+  pub even : b.regs.idle ≡ false → b.cycle % 2 ≡ 0
+  pub from : h.from ≤ b.cycle
+  pub begun : place h.from ≡ interrupt_place → ⊥
+  pub ticks : h.ticks ≡ ticks_between h.from b.cycle
+  pub keys : Embeds h.keys (keys_between script h.from b.cycle)
+
+-- b is at no dispatch and at no stop, or it is the dispatch point at which the record begins
+pub data Counted (e : Edition) (b : Machine) : Type 0 where
+  NoEvent : is_event (code (vip e)) b ≡ false → Counted e b
+  Renewed : b.regs.idle ≡ false → (place b.cycle ≡ interrupt_place → ⊥) → Counted e b
+
+-- a dispatch or a stop
+pub data Due (e : Edition) (b : Machine) (h : Since) : Type 0 where
+  Arrives : (s : Lang) → Stepped (vip e) b h s → Due e b h
+  Ends : (stop : Stop) → Stopped (vip e) b h stop → Due e b h
+
+-- Outside of the interrupt routine the machine is in a row. Or a dispatch or a stop came in the cycle of an interrupt: then the board makes
+-- the interrupt first, and the event is the state after the routine.
+pub data Outside (e : Edition) (script : List Event) (b : Machine) (h : Since) : Type 0 where
+  AtRow : Interval script b h → Row (vip e) (pieces (vip e)) b h → Counted e b → Outside e script b h
+  AtEvent : Interval script b h → place b.cycle ≡ interrupt_place → Due e b h → Outside e script b h
+
+-- in the routine of frame m, k moves past the cycle of the interrupt
+pub record Serving (e : Edition) (script : List Event) (b : Machine) (h : Since) : Type 0 where
+  pub start : Machine
+  pub outside : Outside e script start h
+  pub m : ℕ
+  pub cycle : start.cycle ≡ interrupt_at m
+  pub k : ℕ
+  pub some : 0 < k
+  pub inside : k < routine_moves
+  pub is : b ≡ after_moves (image e) (held_at script) start k
+
+pub data Running (e : Edition) (script : List Event) (b : Machine) (h : Since) : Type 0 where
+  InMain : Outside e script b h → Running e script b h
+  InRoutine : Serving e script b h → Running e script b h
