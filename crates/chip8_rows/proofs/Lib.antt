@@ -12,3 +12,4 @@ pub mod Addresses
 pub mod Alone
 pub mod Ways
 pub mod Font
+pub mod Waited

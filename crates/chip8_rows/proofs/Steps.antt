@@ -14,7 +14,7 @@ use Rattle.chip8_lang.specs.Ticks.{tick, ticks}
 use Rattle.chip8_lang.specs.Between.{Allows, WaitsWell}
 use Rattle.chip8_image.specs.Labels.{at_fetch}
 use Rattle.rom_law.specs.Holding.{places, Holding}
-use Rattle.rom_law.specs.Rows.{Since, Grows, Ends, now}
+use Rattle.rom_law.specs.Rows.{Since, Grows, Pieces, Ends, now}
 use Rattle.rom_law.specs.Rows.Ends.{Steps}
 use Rattle.rom_law.proofs.Places.{keeping}
 use Rattle.rom_law.proofs.Steps.{now_same, step_made, instr_now}
@@ -66,7 +66,7 @@ module _ (e : Edition) {k : ℕ} {h h' : Since} (g : Grows h k 0 h') (i : Instr)
   stepped key = ap (λ j. done_by e j key (now h)) (sym is) ∙ ap (step e key) (sym (now_same g))
 
   -- what it took from the keypad is allowed
-  pub steps_with : (key : KeyInput) → Allows i h'.state h'.keys key → WaitsWell i h'.ticks 0 → (c : Machine) → Holding (quick e) (places c) (done_by e i key (now h)) → c.regs.p ≡ 4 → c.regs.r.r4 ≡ word_of at_fetch → Ends (quick e) (pieces (quick e)) c h'
+  pub steps_with : {t : Pieces} (key : KeyInput) → Allows i h'.state h'.keys key → WaitsWell i h'.ticks 0 → (c : Machine) → Holding (quick e) (places c) (done_by e i key (now h)) → c.regs.p ≡ 4 → c.regs.r.r4 ≡ word_of at_fetch → Ends (quick e) t c h'
   steps_with key allowed waits c o p r4 = Steps (step e key (now h')) (record {
     runs = no_stop;
     between = step_made e h' i key no_stop (sym (instr_now h') ∙ ap instr_at (now_same g) ∙ is) allowed waits;
@@ -82,8 +82,8 @@ module _ (e : Edition) {k : ℕ} {h h' : Since} (g : Grows h k 0 h') (tick : 1 �
   waited : 1 ≤ h'.ticks
   waited = omega (arith, tick, g.ticks)
 
-  pub clears : instr_at (now h) ≡ Clear → (c : Machine) → Holding (quick e) (places c) (done_by e Clear Nothing (now h)) → c.regs.p ≡ 4 → c.regs.r.r4 ≡ word_of at_fetch → Ends (quick e) (pieces (quick e)) c h'
+  pub clears : {t : Pieces} → instr_at (now h) ≡ Clear → (c : Machine) → Holding (quick e) (places c) (done_by e Clear Nothing (now h)) → c.regs.p ≡ 4 → c.regs.r.r4 ≡ word_of at_fetch → Ends (quick e) t c h'
   clears is c o p r4 = steps_with e g Clear is runs Nothing tt (waited, refl) c o p r4
 
-  pub draws : {x y n : ℕ} → instr_at (now h) ≡ Draw x y n → (c : Machine) → Holding (quick e) (places c) (done_by e (Draw x y n) Nothing (now h)) → c.regs.p ≡ 4 → c.regs.r.r4 ≡ word_of at_fetch → Ends (quick e) (pieces (quick e)) c h'
+  pub draws : {t : Pieces} {x y n : ℕ} → instr_at (now h) ≡ Draw x y n → (c : Machine) → Holding (quick e) (places c) (done_by e (Draw x y n) Nothing (now h)) → c.regs.p ≡ 4 → c.regs.r.r4 ≡ word_of at_fetch → Ends (quick e) t c h'
   draws {x = x} {y = y} {n = n} is c o p r4 = steps_with e g (Draw x y n) is runs Nothing tt (waited, refl) c o p r4

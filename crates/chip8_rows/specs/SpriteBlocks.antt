@@ -300,6 +300,19 @@ sprite_place_time ClearIdle = AtMost 102
 sprite_place_time DrawWait = AtMost 2152
 sprite_place_time DrawIdle = AtMost 2154
 
+-- the blocks behind the wait
+abbrev pub IsWaited : SpriteBlock → Type 0
+IsWaited (Wipe k) = Unit {0}
+IsWaited (Wipe3 k) = Unit {0}
+IsWaited (Wipe6 k) = Unit {0}
+IsWaited (Wiped k) = Unit {0}
+IsWaited Cleared = Unit {0}
+IsWaited (Line r) = Unit {0}
+IsWaited (LineLeft r) = Unit {0}
+IsWaited (LineRight r) = Unit {0}
+IsWaited Drawn = Unit {0}
+IsWaited _ = ⊥
+
 -- where a block's instructions begin, and where a place's one does
 abbrev pub sprite_addresses : SpriteBlock → List ℕ
 sprite_addresses Clear = from at_clear (0 ∷ 2 ∷ 3 ∷ 5 ∷ 6 ∷ [])

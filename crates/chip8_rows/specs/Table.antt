@@ -11,7 +11,7 @@ use Rattle.chip8_rows.specs.FetchBlocks.{FetchBlock, fetch_at, fetch_moves, fetc
 use Rattle.chip8_rows.specs.JumpBlocks.{JumpBlock, jump_at, jump_moves, jump_time}
 use Rattle.chip8_rows.specs.ArithBlocks.{ArithBlock, arith_at, arith_moves, arith_time}
 use Rattle.chip8_rows.specs.MemoryBlocks.{MemoryBlock, memory_at, memory_moves, memory_time}
-use Rattle.chip8_rows.specs.SpriteBlocks.{SpriteBlock, SpritePlace, sprite_at, sprite_place_at, sprite_moves, sprite_time, sprite_place_time}
+use Rattle.chip8_rows.specs.SpriteBlocks.{SpriteBlock, SpritePlace, IsWaited, sprite_at, sprite_place_at, sprite_moves, sprite_time, sprite_place_time}
 use Rattle.chip8_rows.specs.TimerBlocks.{TimerBlock, TimerPlace, timer_at, timer_place_at, timer_moves, timer_time, timer_place_time}
 use Rattle.chip8_rows.specs.KeyBlocks.{KeyBlock, KeyPlace, key_at, key_place_at, key_moves, key_time, key_place_time}
 
@@ -57,6 +57,10 @@ At x (AtSprite l) b h = sprite_place_at x l b (now h) × Within (sprite_place_ti
 
 abbrev pub pieces : Program → Pieces
 pieces x = record { Block = Block; Head = Head x; moves = λ l h. moves l; Place = Place; At = At x }
+
+-- The blocks behind the waits of 00E0 and DXYN as pieces of their own: main code stays in them up to the dispatch.
+abbrev pub waited_pieces : Program → Pieces
+waited_pieces x = record { Block = (l : SpriteBlock) × IsWaited l; Head = λ l. Head x (OfSprite l.0); moves = λ l h. sprite_moves l.0; Place = ⊥; At = λ l b h. ⊥ }
 
 -- From each state in the row of a block a main move comes to a row without an event, to a dispatch or to a stop.
 abbrev pub BlockRows : Program → Block → Type 0

@@ -154,7 +154,7 @@ module _ (x : Program) (t : Pieces) (sound : Sound x t) where
   begins l b h f head = record { start = b; since = h; k = 0; n = 0; inside = sound.some l b h f head; grows = grows_none h; fits = f; head = head; after = after_none (code x).low b }
 
   -- a piece begins
-  starts_row : (b : Machine) (h : Since) → FitsMachine b → Starts t b h → Row x t b h
+  pub starts_row : (b : Machine) (h : Since) → FitsMachine b → Starts t b h → Row x t b h
   starts_row b h f (Enters l head) = Inside l (begins l b h f head)
   starts_row b h f (Meets l at) = Alone l at
 
@@ -269,11 +269,18 @@ module _ (x : Program) (t : Pieces) (sound : Sound x t) where
         go (inl e) = last u e
         go (inr e) = within u e
 
-    block_ticks : (c : Machine) → Tick (code x).low b c → Row x t c (after_tick h)
+    pub block_ticks : (c : Machine) → Tick (code x).low b c → Row x t c (after_tick h)
     block_ticks c k = Inside l (record { start = r.start; since = r.since; k = r.k; n = suc r.n; inside = r.inside; grows = grows_tick r.since r.k r.n h r.grows; fits = r.fits; head = r.head; after = later_tick (code x).low r.n (run (code x) r.k r.start) b c idle r.after k })
       where
         idle : (run (code x) r.k r.start).regs.idle ≡ false
         idle = sym (ap (λ (z : Machine). z.regs.idle) is_quicks) ∙ quicks_idle (code x) r.k r.start good_k ∙ comes.awake
+
+  -- a block's row says nothing of the cycle number
+  pub at_cycle : (n : ℕ) (b c : Machine) (k : ℕ) → After (code x).low n b c → After (code x).low n b (record c { cycle = k })
+  at_cycle n b c k a = record { is = ap (λ (z : Machine). record z { cycle = k }) a.is; size = a.size; ram = a.ram }
+
+  pub block_cycle : {l : t.Block} (b : Machine) (h : Since) (k : ℕ) → InBlock x t l b h → InBlock x t l (record b { cycle = k }) h
+  block_cycle b h k r = record { start = r.start; since = r.since; k = r.k; n = r.n; inside = r.inside; grows = r.grows; fits = r.fits; head = r.head; after = at_cycle r.n _ b k r.after }
 
   -- what a place comes to, at once
   place_ended : (b : Machine) (h : Since) → FitsMachine b → Ends x t b h → Outcome x t b h
@@ -332,12 +339,9 @@ module _ (x : Program) (t : Pieces) (proved : Proved x t) where
   row_cycles b h f i (Alone l at) = (proved.places l b h f at).cycles i
 
   -- a row of main code that runs says nothing of the cycle number
-  at_cycle : (n : ℕ) (b c : Machine) (k : ℕ) → After (code x).low n b c → After (code x).low n b (record c { cycle = k })
-  at_cycle n b c k a = record { is = ap (λ (z : Machine). record z { cycle = k }) a.is; size = a.size; ram = a.ram }
-
   pub row_cycle : (b : Machine) (h : Since) (k : ℕ) → FitsMachine b → b.regs.idle ≡ false → Row x t b h → Row x t (record b { cycle = k }) h
-  row_cycle b h k f i (Inside l r) = Inside l (record { start = r.start; since = r.since; k = r.k; n = r.n; inside = r.inside; grows = r.grows; fits = r.fits; head = r.head; after = at_cycle r.n _ b k r.after })
-  row_cycle b h k f i (Alone l at) = Alone l (subst (λ m. t.At l (record b { cycle = k }) (record h { ticks = m })) same ((proved.places l b h f at).later i 0 (record b { cycle = k }) (at_cycle 0 b b k (after_none (code x).low b))))
+  row_cycle b h k f i (Inside l r) = Inside l (block_cycle x t sound b h k r)
+  row_cycle b h k f i (Alone l at) = Alone l (subst (λ m. t.At l (record b { cycle = k }) (record h { ticks = m })) same ((proved.places l b h f at).later i 0 (record b { cycle = k }) (at_cycle x t sound 0 b b k (after_none (code x).low b))))
     where
       same : h.ticks + 0 ≡ h.ticks
       same = omega arith

@@ -25,8 +25,9 @@ use Rattle.rom_law.proofs.Events.{at_instruction, neither, other_pc}
 use Rattle.rom_law.proofs.Language.{between_more, keys_from_get, last_or_before}
 use Rattle.rom_law.proofs.Schedules.{dispatch_by, halt_by}
 use Rattle.rom_law.proofs.Kept.{Proved, row_starts, row_moves, row_runs, row_cycle, row_cycles, block_awake}
-use Rattle.rom_law.proofs.Runs.{Moves, Carries}
-use Rattle.rom_law.proofs.Runs.Moves.{Still as Quiet, Arrived, Halted as Stops}
+use Rattle.rom_law.specs.Runs.{Moves}
+use Rattle.rom_law.proofs.Runs.{Carries}
+use Rattle.rom_law.specs.Runs.Moves.{Still as Quiet, Arrived, Halted as Stops}
 
 -- ---- the sets of keys
 

@@ -17,15 +17,10 @@ use Rattle.chip8_lang.specs.Events.{Event, events_at, events_of, numbers_from, i
 use Rattle.chip8_lang.specs.Events.Event.{Picture, Dispatch, Stopped}
 use Rattle.rom_law.specs.Program.{Program, Dispatches, Halts}
 use Rattle.rom_law.specs.Rows.{Since, dispatched}
-use Rattle.rom_law.specs.Runs.{is_point, points_of, cycle_of, state_at, IsFirst, IsStep, IsStop, IsNext, LanguageRun}
+use Rattle.rom_law.specs.Runs.{is_point, points_of, cycle_of, state_at, IsFirst, IsStep, IsStop, IsNext, Moves, LanguageRun}
+use Rattle.rom_law.specs.Runs.Moves.{Still, Arrived, Halted}
 
 -- ---- what is asked of a ROM
-
--- what a move of the board comes to, from a state of which `Running` holds: no event, a dispatch or a stop
-pub data Moves (x : Program) (script : List KeyEvent) (Running : Machine → Since → Type 0) (h : Since) (c : Machine) : Type 0 where
-  Still : (h' : Since) → h'.from ≡ h.from → h'.state ≡ h.state → is_dispatch x.interpreter c ≡ false → is_stop x.interpreter c ≡ false → Running c h' → Moves x script Running h c
-  Arrived : is_dispatch x.interpreter c ≡ true → is_stop x.interpreter c ≡ false → x.stop_of h.state ≡ None → Between x.edition h.state (x.ticks_between h.from c.cycle) (keys_between script h.from c.cycle) (state_at x c) → Dispatches x c (state_at x c) → Running c (dispatched c.cycle (state_at x c)) → Moves x script Running h c
-  Halted : is_stop x.interpreter c ≡ true → (stop : Stop) → x.stop_of h.state ≡ Some stop → Halts x c (ticks (x.ticks_between h.from c.cycle) h.state) stop → Moves x script Running h c
 
 -- each move comes to what it should, in time
 pub record Carries (x : Program) (script : List KeyEvent) (Running : Machine → Since → Type 0) : Type 0 where

@@ -10,9 +10,10 @@ use Rattle.chip8_lang.specs.Ticks.{ticks}
 use Rattle.chip8_lang.specs.Between.{Between, keys_between}
 use Rattle.chip8_lang.specs.Bounds.{boot_bound}
 use Rattle.chip8_lang.specs.Places.{state_of}
-use Rattle.chip8_lang.specs.Events.{Event, events_of}
+use Rattle.chip8_lang.specs.Events.{Event, events_of, is_dispatch, is_stop}
 use Rattle.chip8_lang.specs.Events.Event.{Picture, Dispatch, Stopped}
 use Rattle.rom_law.specs.Program.{Program, Dispatches, Halts}
+use Rattle.rom_law.specs.Rows.{Since, dispatched}
 
 -- ---- the points of a run
 
@@ -58,6 +59,17 @@ abbrev pub IsNext : Program → List KeyEvent → Machine → Event → Type 0
 IsNext x script b (Dispatch c) = IsStep x script b c
 IsNext x script b (Stopped c) = IsStop x b c
 IsNext x script b (Picture m) = ⊥
+
+-- ---- a move
+
+-- What a move of the board comes to, from a state of which `Running` holds with the record h: no event, and a record that goes on; a
+-- dispatch, from which a new record begins; or a stop.
+pub data Moves (x : Program) (script : List KeyEvent) (Running : Machine → Since → Type 0) (h : Since) (c : Machine) : Type 0 where
+  Still : (h' : Since) → h'.from ≡ h.from → h'.state ≡ h.state → is_dispatch x.interpreter c ≡ false → is_stop x.interpreter c ≡ false → Running c h' → Moves x script Running h c
+  Arrived : is_dispatch x.interpreter c ≡ true → is_stop x.interpreter c ≡ false → x.stop_of h.state ≡ None → Between x.edition h.state (x.ticks_between h.from c.cycle) (keys_between script h.from c.cycle) (state_at x c) → Dispatches x c (state_at x c) → Running c (dispatched c.cycle (state_at x c)) → Moves x script Running h c
+  Halted : is_stop x.interpreter c ≡ true → (stop : Stop) → x.stop_of h.state ≡ Some stop → Halts x c (ticks (x.ticks_between h.from c.cycle) h.state) stop → Moves x script Running h c
+
+-- ---- a run
 
 -- The law of one run up to a limit. Where the limit leaves time for it, the first point comes within the bound of boot, and each next
 -- one within the bound of the state before it.

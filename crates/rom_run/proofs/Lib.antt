@@ -1,5 +1,9 @@
 pub mod Proved
 pub mod Room
 pub mod Waits
+pub mod Ticks
+pub mod Behind
+pub mod Time
 pub mod Moves
+pub mod Bound
 pub mod Run

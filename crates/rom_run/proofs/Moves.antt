@@ -13,6 +13,7 @@ use Rattle.machine.specs.Ranges.{FitsMachine}
 use Rattle.machine.specs.Pictures.{interrupt_at}
 use Rattle.machine.proofs.Fits.{main-fits}
 use Rattle.chip8_lang.specs.declared.view.Edition.{Edition}
+use Rattle.chip8_lang.specs.declared.view.Stop.{Stop}
 use Rattle.chip8_lang.specs.Editions.{memory_end}
 use Rattle.chip8_lang.specs.State.{Lang}
 use Rattle.chip8_lang.specs.Ticks.{ticks}
@@ -31,25 +32,30 @@ use Rattle.rom_law.proofs.Events.{at_instruction, at_other, calm_points, other_p
 use Rattle.rom_law.proofs.Kept.{Proved, row_starts, row_moves, row_ticks, row_runs, row_cycle, row_cycles}
 use Rattle.rom_law.proofs.Language.{between_more, between_ticks}
 use Rattle.rom_law.proofs.Later.{dispatches_after, halts_after}
-use Rattle.rom_law.proofs.Runs.{Moves}
-use Rattle.rom_law.proofs.Runs.Moves.{Still, Arrived, Halted}
+use Rattle.rom_law.specs.Runs.{Moves}
+use Rattle.rom_law.specs.Runs.Moves.{Still, Arrived, Halted}
 use Rattle.rom_law.proofs.Schedules.{dispatch_by, halt_by}
 use Rattle.chip8_rows.specs.Rom.{image, vip}
-use Rattle.chip8_rows.specs.Table.{pieces}
+use Rattle.chip8_rows.specs.Table.{pieces, waited_pieces}
+use Rattle.chip8_rows.proofs.Waited.{row_joined}
 use Rattle.rom_frame.specs.Frame.{place, interrupt_place, IsOutside, IsMainPlace, Makes}
 use Rattle.rom_frame.specs.Frame.Makes.{Runs, Waits, Accepts}
 use Rattle.rom_frame.specs.Routine.{IsInterrupted, IsTick, routine_moves, routine_cycles}
 use Rattle.rom_frame.proofs.Frame.{accepted, case_accepts, case_runs, every_move, keeps_place, keeps_waiting}
 use Rattle.rom_frame.proofs.Interval.{ticks_main, ticks_wait, ticks_served, keeps_interrupted, embeds_longer, embeds_more}
 use Rattle.rom_frame.proofs.Tick.{run_tick}
-use Rattle.rom_run.specs.Running.{Interval, Counted, Due, Outside, Serving, Running}
+use Rattle.rom_run.specs.Running.{Interval, Counted, Due, Spends, Timed, InTime, Outside, Serving, Running, most_wait}
 use Rattle.rom_run.specs.Running.Counted.{NoEvent, Renewed}
 use Rattle.rom_run.specs.Running.Due.{Arrives, Ends}
 use Rattle.rom_run.specs.Running.Outside.{AtRow, AtEvent}
+use Rattle.rom_run.specs.Running.Timed.{Before, Waiting, Behind}
 use Rattle.rom_run.specs.Running.Running.{InMain, InRoutine}
 use Rattle.rom_run.proofs.Proved.{proved}
 use Rattle.rom_run.proofs.Room.{Room, row_room}
-use Rattle.rom_run.proofs.Waits.{timed, idle_cycle}
+use Rattle.rom_run.proofs.Behind.{waited_moves, waited_ticks, waited_cycle, waited_awake, row_wakes}
+use Rattle.rom_run.proofs.Ticks.{waits_more, waits_most}
+use Rattle.rom_run.proofs.Time.{fewer, row_in_time}
+use Rattle.rom_run.proofs.Waits.{timed, sleeps, idle_cycle}
 
 module _ (e : Edition) (script : List Event) where
   abbrev x : Program
@@ -77,7 +83,7 @@ module _ (e : Edition) (script : List Event) where
   pub dispatch_there : (c : Machine) (s : Lang) → Dispatches x c s → IsOutside c.cycle → (place c.cycle ≡ interrupt_place → ⊥) → (is_dispatch x.interpreter c ≡ true) × (is_stop x.interpreter c ≡ false)
   dispatch_there c s st out d = (at_instruction c (runs_there c s st.keeps out d) 4 x.interpreter.fetch ∙ dispatch_by x c s st, at_instruction c (runs_there c s st.keeps out d) 3 x.interpreter.halt ∙ other_pc _ 3 st.p refl)
 
-  stop_there : (c : Machine) (h : Since) {stop : _} → Halts x c (now h) stop → IsOutside c.cycle → (place c.cycle ≡ interrupt_place → ⊥) → is_stop x.interpreter c ≡ true
+  stop_there : (c : Machine) (h : Since) {stop : Stop} → Halts x c (now h) stop → IsOutside c.cycle → (place c.cycle ≡ interrupt_place → ⊥) → is_stop x.interpreter c ≡ true
   stop_there c h st out d = at_instruction c (runs_there c (now h) st.keeps out d) 3 x.interpreter.halt ∙ halt_by x c (now h) _ st
 
   -- ---- a dispatch point
@@ -99,11 +105,12 @@ module _ (e : Edition) (script : List Event) where
       (record { fits = f; outside = p.outside; even = λ a. p.even; from = le_refl c.cycle; begun = i; ticks = none_yet c.cycle; keys = embeds_none (keys_between script c.cycle c.cycle) })
       (row_starts x (pieces x) (proved e) c (dispatched c.cycle s) f ((proved e).fetch c.cycle c s f d))
       (Renewed d.keeps.lies.awake i)
+      (Before (omega arith))
       )
 
   -- ---- what a state comes to that a dispatch or a stop has made
 
-  module _ (c : Machine) (h : Since) (t : Interval script c h) (p : IsMainPlace c.cycle) where
+  module _ (c : Machine) (h : Since) (t : Interval script c h) (p : IsMainPlace c.cycle) (soon : InTime e c h) where
     arrives : (s : Lang) → Stepped x c h s → Comes h c
     arrives s st = go (cases_eq (place c.cycle) interrupt_place)
       where
@@ -111,18 +118,18 @@ module _ (e : Edition) (script : List Event) where
         here = subst (Dispatches x c) (sym st.stands.keeps.lies.is) st.stands
 
         go : (place c.cycle ≡ interrupt_place) ⊎ (place c.cycle ≡ interrupt_place → ⊥) → Comes h c
-        go (inl i) = Still h refl refl (interrupted_there c s st.stands.keeps i 4 x.interpreter.fetch) (interrupted_there c s st.stands.keeps i 3 x.interpreter.halt) (InMain (AtEvent t i (Arrives s st)))
+        go (inl i) = Still h refl refl (interrupted_there c s st.stands.keeps i 4 x.interpreter.fetch) (interrupted_there c s st.stands.keeps i 3 x.interpreter.halt) (InMain (AtEvent t i (Arrives s st) soon))
         go (inr d) =
             Arrived (dispatch_there c s st.stands t.outside d).0 (dispatch_there c s st.stands t.outside d).1 st.runs
             (subst₂ (λ n z. Between e h.state n (keys_between script h.from c.cycle) z) t.ticks (sym st.stands.keeps.lies.is) (between_more t.keys e h.state h.ticks s st.between))
             here
             (renewed c (state_at x c) t.fits here p d)
 
-    ends : (stop : _) → Stopped x c h stop → Comes h c
+    ends : (stop : Stop) → Stopped x c h stop → Comes h c
     ends stop st = go (cases_eq (place c.cycle) interrupt_place)
       where
         go : (place c.cycle ≡ interrupt_place) ⊎ (place c.cycle ≡ interrupt_place → ⊥) → Comes h c
-        go (inl i) = Still h refl refl (interrupted_there c (now h) st.halts.keeps i 4 x.interpreter.fetch) (interrupted_there c (now h) st.halts.keeps i 3 x.interpreter.halt) (InMain (AtEvent t i (Ends stop st)))
+        go (inl i) = Still h refl refl (interrupted_there c (now h) st.halts.keeps i 4 x.interpreter.fetch) (interrupted_there c (now h) st.halts.keeps i 3 x.interpreter.halt) (InMain (AtEvent t i (Ends stop st) soon))
         go (inr d) = Halted (stop_there c h st.halts t.outside d) stop st.fits (subst (λ n. Halts x c (ticks n h.state) stop) t.ticks st.halts)
 
   -- what comes of a record comes of what it was before
@@ -133,7 +140,7 @@ module _ (e : Edition) (script : List Event) where
 
   -- ---- a main move
 
-  module _ (b : Machine) (h : Since) (t : Interval script b h) (row : Row x (pieces x) b h) (i : place b.cycle ≡ interrupt_place → ⊥) (awake : b.regs.idle ≡ false) where
+  module _ (b : Machine) (h : Since) (t : Interval script b h) (row : Row x (pieces x) b h) (i : place b.cycle ≡ interrupt_place → ⊥) (awake : b.regs.idle ≡ false) (time : Timed e b h) where
     u : Input
     u = record { efx = efx_at (b.cycle + 1) true; held = held (b.cycle + 1) }
 
@@ -158,6 +165,19 @@ module _ (e : Edition) (script : List Event) where
     unfolding c u h'
     outcome = row_moves x (pieces x) (proved e) u (record b { cycle = b.cycle + 2 }) h (record { regs = t.fits.regs; ram = t.fits.ram; size = t.fits.size; key = t.fits.key }) awake (row_cycle x (pieces x) (proved e) b h (b.cycle + 2) t.fits awake row)
 
+    -- behind a wait it comes to a row behind it
+    behind : Row x (waited_pieces x) b h → Outcome x (waited_pieces x) c h'
+    unfolding c u h'
+    behind r = waited_moves e u (record b { cycle = b.cycle + 2 }) h (waited_cycle e b h (b.cycle + 2) r)
+
+    spends : (n : ℕ) → Spends b h n → Spends c h' n
+    unfolding c u h'
+    spends n s = omega (arith, s)
+
+    soon : InTime e c h'
+    unfolding h'
+    soon = let s = row_in_time e script b h t row time in record { waited = s.waited; spends = spends s.waited s.spends; suffices = λ bound k. fewer bound _ _ (omega arith) (s.suffices bound k) }
+
     interval : Interval script c h'
     unfolding c u h'
     interval =
@@ -175,19 +195,37 @@ module _ (e : Edition) (script : List Event) where
     unfolding c u
     main_place = there
 
-    run_on : Outcome x (pieces x) c h' → Comes h c
+    stays : is_event (code x) c ≡ false → Row x (pieces x) c h' → Timed e c h' → Comes h c
     unfolding h'
-    run_on (Calm calm r) = Still h' refl refl (calm_points c x calm).0 (calm_points c x calm).1 (InMain (AtRow interval r (NoEvent calm)))
-    run_on (Dispatched s st) = carried h h'.spent h'.ticks h'.keys c (arrives c h' interval main_place s st)
-    run_on (Failed stop st) = carried h h'.spent h'.ticks h'.keys c (ends c h' interval main_place stop st)
+    stays calm r later = Still h' refl refl (calm_points c x calm).0 (calm_points c x calm).1 (InMain (AtRow interval r (NoEvent calm) later))
+
+    steps : (s : Lang) → Stepped x c h' s → Comes h c
+    unfolding h'
+    steps s st = carried h h'.spent h'.ticks h'.keys c (arrives c h' interval main_place soon s st)
+
+    stops : (stop : Stop) → Stopped x c h' stop → Comes h c
+    unfolding h'
+    stops stop st = carried h h'.spent h'.ticks h'.keys c (ends c h' interval main_place soon stop st)
+
+    run_on : Spends b h 0 → Outcome x (pieces x) c h' → Comes h c
+    run_on s (Calm calm r) = stays calm r (Before (spends 0 s))
+    run_on s (Dispatched z st) = steps z st
+    run_on s (Failed stop st) = stops stop st
+
+    run_behind : (n : ℕ) → Spends b h n → n ≤ most_wait → Outcome x (waited_pieces x) c h' → Comes h c
+    run_behind n s l (Calm calm r) = stays calm (row_joined x c h' r) (Behind n (spends n s) l r)
+    run_behind n s l (Dispatched z st) = steps z st
+    run_behind n s l (Failed stop st) = stops stop st
+
+    main_run : Timed e b h → Comes h c
+    main_run (Before s) = run_on s outcome
+    main_run (Waiting n s l idle) = absurd (sleeps (sym idle ∙ awake))
+    main_run (Behind n s l r) = run_behind n s l (behind r)
 
     main_comes : move x.interpreter.rom held b ≡ record (main_move x.interpreter.rom (efx_at (b.cycle + 1) true) (held (b.cycle + 1)) b) { cycle = b.cycle + cycles_of (opcode_of x.interpreter.rom b) } → Comes h (move x.interpreter.rom held b)
-    main_comes m = subst (Comes h) (sym (main_is m)) (run_on outcome)
+    main_comes m = subst (Comes h) (sym (main_is m)) (main_run time)
 
   -- ---- an idle cycle
-
-  sleeps : true ≡ false → ⊥
-  sleeps k = cc
 
   uncounted : (b : Machine) → Counted e b → (b.regs.idle ≡ true) ⊎ (place b.cycle ≡ interrupt_place) → is_event (code x) b ≡ false
   uncounted b (NoEvent m) k = m
@@ -206,19 +244,24 @@ module _ (e : Edition) (script : List Event) where
         keys = embeds_longer script h.from b.cycle (b.cycle + 1) h.keys (omega arith) t.keys;
       }
 
-  idle_comes : (b : Machine) (h : Since) → Interval script b h → Row x (pieces x) b h → Counted e b → (place b.cycle ≡ interrupt_place → ⊥) → b.regs.idle ≡ true → Comes h (timed (b.cycle + 1) b)
-  idle_comes b h t row n i idle = let calm = uncounted b n (inl idle) in Still h refl refl (calm_points (timed (b.cycle + 1) b) x calm).0 (calm_points (timed (b.cycle + 1) b) x calm).1 (InMain (AtRow (idle_interval b h t i idle) (idle_cycle e b h (b.cycle + 1) idle row) (NoEvent calm)))
+  idle_timed : (b : Machine) (h : Since) → Interval script b h → (place b.cycle ≡ interrupt_place → ⊥) → b.regs.idle ≡ true → Timed e b h → Timed e (timed (b.cycle + 1) b) h
+  idle_timed b h t i idle (Before s) = Waiting 1 (omega (arith, s)) (omega (arith, waits_more b.cycle t.outside i)) idle
+  idle_timed b h t i idle (Waiting n s l _) = Waiting (n + 1) (omega (arith, s)) (omega (arith, l, waits_more b.cycle t.outside i)) idle
+  idle_timed b h t i idle (Behind n s l r) = absurd (sleeps (sym idle ∙ waited_awake e b h r))
+
+  idle_comes : (b : Machine) (h : Since) → Interval script b h → Row x (pieces x) b h → Counted e b → Timed e b h → (place b.cycle ≡ interrupt_place → ⊥) → b.regs.idle ≡ true → Comes h (timed (b.cycle + 1) b)
+  idle_comes b h t row n time i idle = let calm = uncounted b n (inl idle) in Still h refl refl (calm_points (timed (b.cycle + 1) b) x calm).0 (calm_points (timed (b.cycle + 1) b) x calm).1 (InMain (AtRow (idle_interval b h t i idle) (idle_cycle e b h (b.cycle + 1) idle row) (NoEvent calm) (idle_timed b h t i idle time)))
 
   -- ---- the interrupt routine
 
   -- main code is interrupted with all that the routine wants
-  interrupted : (b : Machine) (h : Since) (m : ℕ) → Outside e script b h → b.cycle ≡ interrupt_at m → IsInterrupted e m b
-  interrupted b h m (AtRow t row n) i =
+  pub interrupted : (b : Machine) (h : Since) (m : ℕ) → Outside e script b h → b.cycle ≡ interrupt_at m → IsInterrupted e m b
+  interrupted b h m (AtRow t row n time) i =
       let ready = row_runs x (pieces x) (proved e) b h t.fits row in
       let r = row_room e b h row in
       record { cycle = i; on = ready.on; enabled = ready.enabled; latch = ready.latch; entry = ready.entry; fits = t.fits; room = r.low; top = r.high }
-  interrupted b h m (AtEvent t p (Arrives s st)) i = keeps_interrupted e m b s t.fits st.stands.keeps i
-  interrupted b h m (AtEvent t p (Ends stop st)) i = keeps_interrupted e m b (now h) t.fits st.halts.keeps i
+  interrupted b h m (AtEvent t p (Arrives s st) late) i = keeps_interrupted e m b s t.fits st.stands.keeps i
+  interrupted b h m (AtEvent t p (Ends stop st) late) i = keeps_interrupted e m b (now h) t.fits st.halts.keeps i
 
   -- in the routine the program counter is R1
   by_r1 : (c : Machine) → c.regs.p ≡ 1 → (is_dispatch x.interpreter c ≡ false) × (is_stop x.interpreter c ≡ false)
@@ -247,13 +290,24 @@ module _ (e : Edition) (script : List Event) where
     more : h.ticks + 1 ≡ suc h.ticks
     more = omega arith
 
+    tick_spends : (n : ℕ) → Spends b h n → Spends c (after_tick h) n
+    tick_spends n s = omega (arith, s, cycle, at)
+
+    tick_timed : Interval script b h → Row x (pieces x) b h → Timed e b h → Timed e c (after_tick h)
+    tick_timed t row (Before s) = Before (tick_spends 0 s)
+    tick_timed t row (Waiting n s l i) = Behind n (tick_spends n s) (omega (arith, l, waits_most b.cycle t.outside)) (row_wakes e b c h t.fits i k row)
+    tick_timed t row (Behind n s l r) = Behind n (tick_spends n s) l (waited_ticks e b c h k r)
+
+    tick_soon : InTime e b h → InTime e c (after_tick h)
+    tick_soon s = record { waited = s.waited; spends = tick_spends s.waited s.spends; suffices = s.suffices }
+
     returned : Outside e script b h → Comes h c
-    returned (AtRow t row n) =
+    returned (AtRow t row n time) =
         let calm = ap (is_event (code x)) k.is ∙ uncounted b n (inr in_place) in
-        Still (after_tick h) refl refl (calm_points c x calm).0 (calm_points c x calm).1 (InMain (AtRow (tick_interval t) (row_ticks x (pieces x) (proved e) b c h t.fits k row) (NoEvent calm)))
-    returned (AtEvent t _ (Arrives s st)) =
+        Still (after_tick h) refl refl (calm_points c x calm).0 (calm_points c x calm).1 (InMain (AtRow (tick_interval t) (row_ticks x (pieces x) (proved e) b c h t.fits k row) (NoEvent calm) (tick_timed t row time)))
+    returned (AtEvent t _ (Arrives s st) late) =
         carried h h.spent (suc h.ticks) h.keys c (
-        arrives c (after_tick h) (tick_interval t) p (ticks 1 s) (
+        arrives c (after_tick h) (tick_interval t) p (tick_soon late) (ticks 1 s) (
         record {
           runs = st.runs;
           between = subst (λ n. Between e h.state n h.keys (ticks 1 s)) more (between_ticks 1 e h.state h.ticks h.keys s st.between);
@@ -261,8 +315,8 @@ module _ (e : Edition) (script : List Event) where
         }
         )
         )
-    returned (AtEvent t _ (Ends stop st)) =
-        carried h h.spent (suc h.ticks) h.keys c (ends c (after_tick h) (tick_interval t) p stop (record { fits = st.fits; halts = halts_after x 1 b c (ticked st.halts.keeps.lies.awake) t.fits (now h) stop st.halts }))
+    returned (AtEvent t _ (Ends stop st) late) =
+        carried h h.spent (suc h.ticks) h.keys c (ends c (after_tick h) (tick_interval t) p (tick_soon late) stop (record { fits = st.fits; halts = halts_after x 1 b c (ticked st.halts.keeps.lies.awake) t.fits (now h) stop st.halts }))
 
   module _ (b : Machine) (h : Since) (m : ℕ) (o : Outside e script b h) (cycle : b.cycle ≡ interrupt_at m) where
     tick : IsTick e m b held
@@ -284,14 +338,14 @@ module _ (e : Edition) (script : List Event) where
 
   -- ---- every move
 
-  row_comes : (b : Machine) (h : Since) (t : Interval script b h) (row : Row x (pieces x) b h) (n : Counted e b) → Makes (image e) held b (move (image e) held b) → Comes h (move (image e) held b)
-  row_comes b h t row n (Runs d i m) = main_comes b h t row d i m
-  row_comes b h t row n (Waits d i m) = subst (Comes h) (sym m) (idle_comes b h t row n d i)
-  row_comes b h t row n (Accepts i m) = routine_comes b h _ (AtRow t row n) i 0 (omega arith)
+  row_comes : (b : Machine) (h : Since) (t : Interval script b h) (row : Row x (pieces x) b h) (n : Counted e b) (time : Timed e b h) → Makes (image e) held b (move (image e) held b) → Comes h (move (image e) held b)
+  row_comes b h t row n time (Runs d i m) = main_comes b h t row d i time m
+  row_comes b h t row n time (Waits d i m) = subst (Comes h) (sym m) (idle_comes b h t row n time d i)
+  row_comes b h t row n time (Accepts i m) = routine_comes b h _ (AtRow t row n time) i 0 (omega arith)
 
   pub board_moves : (b : Machine) (h : Since) → Goes b h → Comes h (move (image e) held b)
-  board_moves b h (InMain (AtRow t row n)) = let ready = row_runs x (pieces x) (proved e) b h t.fits row in row_comes b h t row n (every_move (image e) held b ready.on ready.enabled t.outside)
-  board_moves b h (InMain (AtEvent t p d)) = routine_comes b h (b.cycle / 3668) (AtEvent t p d) at 0 (omega arith)
+  board_moves b h (InMain (AtRow t row n time)) = let ready = row_runs x (pieces x) (proved e) b h t.fits row in row_comes b h t row n time (every_move (image e) held b ready.on ready.enabled t.outside)
+  board_moves b h (InMain (AtEvent t p d late)) = routine_comes b h (b.cycle / 3668) (AtEvent t p d late) at 0 (omega arith)
     where
       at : b.cycle ≡ interrupt_at (b.cycle / 3668)
       at = omega (arith, p)

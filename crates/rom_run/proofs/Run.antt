@@ -6,22 +6,22 @@ use Rattle.machine.specs.Run.{after_moves}
 use Rattle.machine.specs.Ranges.{FitsMachine}
 use Rattle.chip8_lang.specs.declared.view.Edition.{Edition}
 use Rattle.chip8_lang.specs.declared.view.Edition.TheVariants.{Usual, Tall}
-use Rattle.chip8_lang.specs.State.{Lang, first, memory_size}
+use Rattle.chip8_lang.specs.State.{first, memory_size}
 use Rattle.chip8_lang.specs.Bounds.{boot_bound}
 use Rattle.chip8_lang.specs.Events.{is_dispatch, is_stop}
-use Rattle.rom_law.specs.Program.{Program, Dispatches, Halts}
-use Rattle.rom_law.specs.Rows.{Since, dispatched}
-use Rattle.rom_law.specs.Runs.{LanguageRun, state_at}
+use Rattle.rom_law.specs.Program.{Dispatches}
+use Rattle.rom_law.specs.Rows.{dispatched}
+use Rattle.rom_law.specs.Runs.{state_at}
 use Rattle.rom_law.proofs.First.{start_fits, moves_fit}
 use Rattle.rom_law.proofs.Kept.{Proved}
-use Rattle.rom_law.proofs.Runs.{Moves, Carries, Boots, language_run}
-use Rattle.rom_law.proofs.Runs.Moves.{Still, Arrived, Halted}
+use Rattle.rom_law.proofs.Runs.{Carries, Boots, language_run}
 use Rattle.chip8_rows.specs.Rom.{image, vip}
 use Rattle.rom_fetch.specs.Laws.{Boot, boot_moves}
 use Rattle.rom_fetch.proofs.Boot.{every_boot}
 use Rattle.rom_frame.specs.Frame.{place, interrupt_place, IsMainPlace}
-use Rattle.rom_run.specs.Laws.{EveryRun, unbounded}
+use Rattle.rom_run.specs.Laws.{EveryRun}
 use Rattle.rom_run.specs.Running.{Running}
+use Rattle.rom_run.proofs.Bound.{timely}
 use Rattle.rom_run.proofs.Moves.{board_moves, dispatch_there, renewed}
 use Rattle.rom_run.proofs.Proved.{proved}
 
@@ -53,23 +53,10 @@ room : (e : Edition) → memory_size e ≤ 0xe00
 room Usual = omega arith
 room Tall = omega arith
 
--- ---- a program whose steps have no bounds
+-- ---- the run
 
-module _ (e : Edition) where
-  free_dispatches : (c : Machine) (s : Lang) → Dispatches (vip e) c s → Dispatches (unbounded e) c s
-  free_dispatches c s d = record { keeps = record { lies = d.keeps.lies; on = d.keeps.on; entry = d.keeps.entry; page = d.keeps.page }; p = d.p; r4 = d.r4 }
-
-  free_moves : (script : List Event) (h : Since) (c : Machine) → Moves (vip e) script (Running e script) h c → Moves (unbounded e) script (Running e script) h c
-  free_moves script h c (Still h' f s d z r) = Still h' f s d z r
-  free_moves script h c (Arrived d z a b st r) = Arrived d z a b (free_dispatches c _ st) r
-  free_moves script h c (Halted z stop a d) = Halted z stop a (record { keeps = record { lies = d.keeps.lies; on = d.keeps.on; entry = d.keeps.entry; page = d.keeps.page }; p = d.p; r3 = d.r3; number = d.number })
-
-  carries : (script : List Event) → Carries (unbounded e) script (Running e script)
-  carries script =
-      record {
-        moves = λ b h r. free_moves script h _ (board_moves e script b h r);
-        timely = λ b h bound r none. cc;
-      }
+carries : (e : Edition) (script : List Event) → Carries (vip e) script (Running e script)
+carries e script = record { moves = board_moves e script; timely = timely e script }
 
 module _ (e : Edition) (game : List ℕ) (small : length game ≤ memory_size e) (bytes : (i : ℕ) → slice_index game i < 256) (script : List Event) where
   boot : Boot e (held_at script) game
@@ -82,7 +69,7 @@ module _ (e : Edition) (game : List ℕ) (small : length game ≤ memory_size e)
   unfolding c
   begun = begins e script game (after_moves (image e) (held_at script) (start game) boot_moves) (moves_fit (image e) (proved e).rom (held_at script) (start game) (start_fits game (omega (arith, small, room e)) bytes) boot_moves) boot.cycle boot.stands
 
-  boots : Boots (unbounded e) game script (Running e script)
+  boots : Boots (vip e) game script (Running e script)
   unfolding c
   boots =
       record {
@@ -91,9 +78,9 @@ module _ (e : Edition) (game : List ℕ) (small : length game ≤ memory_size e)
         soon = begun.soon;
         dispatch = begun.dispatch;
         runs = begun.runs;
-        stands = free_dispatches e _ _ boot.stands;
+        stands = boot.stands;
         running = begun.running;
       }
 
 pub every_run : EveryRun
-every_run e game small bytes script limit = language_run (unbounded e) game script limit (Running e script) (carries e script) (boots e game small bytes script)
+every_run e game small bytes script limit = language_run (vip e) game script limit (Running e script) (carries e script) (boots e game small bytes script)

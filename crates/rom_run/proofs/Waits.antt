@@ -24,17 +24,17 @@ use Rattle.rom_run.proofs.Proved.{proved}
 abbrev pub timed : ℕ → Machine → Machine
 timed t b = record b { cycle = t }
 
-sleeps : true ≡ false → ⊥
+pub sleeps : true ≡ false → ⊥
 sleeps k = cc
 
 module _ (x : Program) (b : Machine) (s : Lang) where
-  timer_awake : (l : TimerPlace) → timer_place_at x l b s → b.regs.idle ≡ false
+  pub timer_awake : (l : TimerPlace) → timer_place_at x l b s → b.regs.idle ≡ false
   timer_awake RandomCount o = o.0.entered.holds.awake
   timer_awake GetDelay o = o.0.entered.holds.awake
   timer_awake SetDelayPut o = o.0.entered.holds.awake
   timer_awake SetSoundPut o = o.0.entered.holds.awake
 
-  key_awake : (l : KeyPlace) (sets : List Keys) → key_place_at x l b s sets → b.regs.idle ≡ false
+  pub key_awake : (l : KeyPlace) (sets : List Keys) → key_place_at x l b s sets → b.regs.idle ≡ false
   key_awake (SkipTest down) sets o = o.0.holds.awake
   key_awake (KeyTest turn) sets o = o.0.waiting.enters.entered.holds.awake
   key_awake KeyHeld sets o = o.0.enters.entered.holds.awake

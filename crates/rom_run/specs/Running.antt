@@ -1,22 +1,23 @@
 -- What is known of the board along its run, from the first dispatch point up to the stop, with the record of what came since the last
 -- dispatch point.
-use Rattle.std.specs.Prelude.{◌≡◌, ℕ, ◌+◌, ◌%◌, ◌<◌, ◌≤◌, ◌⊎◌, false, List}
+use Rattle.std.specs.Prelude.{◌≡◌, ℕ, ◌+◌, ◌-◌, ◌*◌, ◌%◌, ◌<◌, ◌≤◌, true, false, List, Some}
 use Rattle.machine.specs.Board.{Machine}
 use Rattle.machine.specs.Keys.{Event, held_at}
 use Rattle.machine.specs.Run.{after_moves}
 use Rattle.machine.specs.Ranges.{FitsMachine}
-use Rattle.machine.specs.Pictures.{interrupt_at}
+use Rattle.machine.specs.Pictures.{frame, interrupt_at}
 use Rattle.chip8_lang.specs.declared.view.Edition.{Edition}
 use Rattle.chip8_lang.specs.declared.view.Stop.{Stop}
 use Rattle.chip8_lang.specs.State.{Lang}
+use Rattle.chip8_lang.specs.Bounds.{bound_of}
 use Rattle.chip8_lang.specs.Between.{ticks_between, keys_between}
 use Rattle.rom_moves.specs.Code.{is_event}
 use Rattle.rom_law.specs.Program.{code}
 use Rattle.rom_law.specs.Rows.{Since, Embeds, Row, Stepped, Stopped}
 use Rattle.chip8_rows.specs.Rom.{image, vip}
-use Rattle.chip8_rows.specs.Table.{pieces}
-use Rattle.rom_frame.specs.Frame.{place, interrupt_place, IsOutside}
-use Rattle.rom_frame.specs.Routine.{routine_moves}
+use Rattle.chip8_rows.specs.Table.{pieces, waited_pieces}
+use Rattle.rom_frame.specs.Frame.{place, interrupt_place, window_place, IsOutside}
+use Rattle.rom_frame.specs.Routine.{routine_moves, routine_cycles}
 
 -- The interval from the last dispatch point up to b, where main code runs or waits: its interrupts were the ticks, and the sets of keys of
 -- its main moves were held down in its cycles, in order. Where main code runs, the cycle is even.
@@ -39,11 +40,44 @@ pub data Due (e : Edition) (b : Machine) (h : Since) : Type 0 where
   Arrives : (s : Lang) → Stepped (vip e) b h s → Due e b h
   Ends : (stop : Stop) → Stopped (vip e) b h stop → Due e b h
 
+-- ---- time
+
+-- The cycles of the interval: those of main code, those of the routine for each tick, and n in which main code waited.
+abbrev pub Spends : Machine → Since → ℕ → Type 0
+Spends b h n = b.cycle ≡ h.from + h.spent + routine_cycles * h.ticks + n
+
+-- how long ago the window ended, and how long at most until the next interrupt
+abbrev pub since_window : ℕ → ℕ
+since_window t = (t + (frame - window_place)) % frame
+
+abbrev pub most_wait : ℕ
+most_wait = frame - window_place + interrupt_place
+
+-- Main code hasn't waited; it waits, since the window ended at most; or it has waited, and is behind the wait of 00E0 or DXYN.
+pub data Timed (e : Edition) (b : Machine) (h : Since) : Type 0 where
+  Before : Spends b h 0 → Timed e b h
+  Waiting : (n : ℕ) → Spends b h n → n ≤ since_window b.cycle → b.regs.idle ≡ true → Timed e b h
+  Behind : (n : ℕ) → Spends b h n → n ≤ most_wait → Row (vip e) (waited_pieces (vip e)) b h → Timed e b h
+
+-- m cycles of main code and of waiting end within the bound: so many interrupts at most come in them, each with a run of the routine
+pub record Suffices (bound m : ℕ) : Type 0 where
+  pub interrupts : ℕ
+  pub few : m + most_wait ≤ (frame - routine_cycles) * (interrupts + 1)
+  pub all : m + routine_cycles * interrupts ≤ bound
+
+-- an event in the cycle of an interrupt comes within the bound of its instruction
+pub record InTime (e : Edition) (b : Machine) (h : Since) : Type 0 where
+  pub waited : ℕ
+  pub spends : Spends b h waited
+  pub suffices : (bound : ℕ) → bound_of e h.state ≡ Some bound → Suffices bound (h.spent + waited)
+
+-- ---- the board
+
 -- Outside of the interrupt routine the machine is in a row. Or a dispatch or a stop came in the cycle of an interrupt: then the board makes
 -- the interrupt first, and the event is the state after the routine.
 pub data Outside (e : Edition) (script : List Event) (b : Machine) (h : Since) : Type 0 where
-  AtRow : Interval script b h → Row (vip e) (pieces (vip e)) b h → Counted e b → Outside e script b h
-  AtEvent : Interval script b h → place b.cycle ≡ interrupt_place → Due e b h → Outside e script b h
+  AtRow : Interval script b h → Row (vip e) (pieces (vip e)) b h → Counted e b → Timed e b h → Outside e script b h
+  AtEvent : Interval script b h → place b.cycle ≡ interrupt_place → Due e b h → InTime e b h → Outside e script b h
 
 -- in the routine of frame m, k moves past the cycle of the interrupt
 pub record Serving (e : Edition) (script : List Event) (b : Machine) (h : Since) : Type 0 where

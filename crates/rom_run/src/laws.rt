@@ -1,6 +1,6 @@
 //! What is proved of the whole interpreter's ROM, each law the contract of a function without parameters.
 
-ghost use Rattle.rom_run.specs.Laws.{AnySchedule, EveryRun};
+ghost use Rattle.rom_run.specs.Laws.{AnySchedule, MainRows, Timely, EveryRun};
 
 /// The law of every schedule, for both editions: from a dispatch point on, whenever timer ticks come and whatever keys are held down, the
 /// first main move that comes to the fetch loop or to the stop has made one step of the language, or has come to the stop of the state.
@@ -8,10 +8,21 @@ pub fn any_schedule()
     ensures { AnySchedule }
 {}
 
+/// The board's own moves, for both editions: from a state of which `Running` holds, each one comes to such a state, to a dispatch point with
+/// the step, the timer ticks and the keys of the cycles since the last one, or to the stop of the state.
+pub fn main_rows()
+    ensures { MainRows }
+{}
+
+/// Each of these moves ends within the bound of the instruction at the last dispatch point, where that has one: FX0A has none.
+pub fn timely()
+    ensures { Timely }
+{}
+
 /// The law of every run of the board from reset, for both editions, every game that fits into game memory, every key script and every limit:
-/// the first dispatch point, which comes within 1,000 machine cycles, has the game's first state; each next one has the state after one
-/// step, with the timer ticks and the keys of the cycles between; and a stop is that of the last state, with its number in 01F0. When the
-/// next one comes it doesn't say.
+/// the first dispatch point, which comes within 1,000 machine cycles, has the game's first state; each next one comes within the bound of the
+/// state before it, and has the state after one step, with the timer ticks and the keys of the cycles between; and a stop is that of the last
+/// state, with its number in 01F0.
 pub fn every_run()
     ensures { EveryRun }
 {}

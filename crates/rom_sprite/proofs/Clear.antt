@@ -17,14 +17,15 @@ use Rattle.rom_moves.proofs.Moves.{quicks}
 use Rattle.rom_moves.proofs.Ticks.{after_wait}
 use Rattle.rom_law.specs.Program.{Program, code}
 use Rattle.rom_law.specs.Holding.{places, Holding}
-use Rattle.rom_law.specs.Rows.{Since, now}
+use Rattle.machine.specs.Schedule.{Tick}
+use Rattle.rom_law.specs.Rows.{Since, Starts, now, after_tick}
 use Rattle.rom_law.specs.Rows.Starts.{Enters}
 use Rattle.rom_law.proofs.Kept.{Comes, Holds}
 use Rattle.chip8_rows.specs.Heads.{page_of, Entered, Done}
 use Rattle.chip8_rows.specs.SpriteBlocks.{Clears, Clearing, cleared_to, woken}
 use Rattle.chip8_rows.specs.SpriteBlocks.SpriteBlock.{Clear, Wipe, Wipe3, Wipe6, Wiped, Cleared}
 use Rattle.chip8_rows.specs.SpriteBlocks.SpritePlace.{ClearWait, ClearIdle}
-use Rattle.chip8_rows.specs.Table.{At, pieces}
+use Rattle.chip8_rows.specs.Table.{At, pieces, waited_pieces}
 use Rattle.chip8_rows.specs.Table.Block.{OfSprite}
 use Rattle.chip8_rows.specs.Table.Place.{AtSprite}
 use Rattle.chip8_rows.proofs.Alone.{alone, one_more}
@@ -35,7 +36,8 @@ use Rattle.chip8_rows.proofs.Follows.{to_sprite, to_sprite_place}
 use Rattle.chip8_rows.proofs.Later.{clearing_later}
 use Rattle.chip8_rows.proofs.Steps.{clears}
 use Rattle.chip8_rows.proofs.Straight.{routine}
-use Rattle.chip8_rows.proofs.Ways.{straight, forks}
+use Rattle.chip8_rows.proofs.Waited.{to_waited, starts_joined}
+use Rattle.chip8_rows.proofs.Ways.{straight_on, forks_on}
 use Rattle.rom_sprite.proofs.Screen.{screen_is, screen_ends, some_rows, few_rows, all_left, none_left, cleared_one}
 use Rattle.rom_sprite.proofs.Waits.{waking, woken_fits, waits}
 
@@ -62,9 +64,12 @@ module _ (e : Edition) (b : Machine) (h : Since) (f : FitsMachine b) where
   clear_wait_holds o at spent = alone (AtSprite ClearWait) f at o.holds (clearing at_clear_wait b) (is_clearing o) refl refl refl
       (λ u. to_sprite_place (quick e) (one_more u h) _ refl ClearIdle (record { holds = waking o.holds; inside = o.inside; clears = o.clears; p = refl; r3 = refl; r4 = refl; pointer = refl; rd = o.rd }, refl) (omega (arith, spent)))
 
+  pub clear_wakes : Clearing (quick e) at_wipe (8 * rows_of e) (woken b) (now h) → h.spent ≤ 102 → (c : Machine) → Tick (code (quick e)).low b c → Starts (waited_pieces (quick e)) c (after_tick h)
+  clear_wakes o spent c k = Enters (Wipe (rows_of e - 1), tt) ((recounted (8 * rows_of e) (8 * (rows_of e - 1) + 8) (omega (arith, some_rows e)) (clearing_later (quick e) 1 (after_wait (code (quick e)).low b c k) (woken_fits b f) (now h) at_wipe (8 * rows_of e) o), omega (arith, some_rows e)), (omega (arith, spent, few_rows e, some_rows e), omega arith))
+
   pub clear_idle_holds : Clearing (quick e) at_wipe (8 * rows_of e) (woken b) (now h) → b.regs.idle ≡ true → h.spent ≤ 102 → Holds (quick e) (pieces (quick e)) (AtSprite ClearIdle) b h
   clear_idle_holds o idle spent = waits (AtSprite ClearIdle) o.holds idle
-      (λ c k. Enters (OfSprite (Wipe (rows_of e - 1))) ((recounted (8 * rows_of e) (8 * (rows_of e - 1) + 8) (omega (arith, some_rows e)) (clearing_later (quick e) 1 (after_wait (code (quick e)).low b c k) (woken_fits b f) (now h) at_wipe (8 * rows_of e) o), omega (arith, some_rows e)), (omega (arith, spent, few_rows e, some_rows e), omega arith)))
+      (λ c k. starts_joined (quick e) c (after_tick h) (clear_wakes o spent c k))
 
   -- ---- a row: eight bytes, three at most in a block
 
@@ -95,17 +100,17 @@ module _ (e : Edition) (b : Machine) (h : Since) (f : FitsMachine b) where
   is_zeroed : {a n : ℕ} → Clearing (quick e) a n b (now h) → b.regs.d ≡ 0 → b ≡ zeroed a
   is_zeroed {a = a} o d = is_clearing o ∙ (λ i. record (clearing a b) { regs = record (clearing a b).regs { d = d i } })
 
-  pub wipe_comes : (k : ℕ) → Clearing (quick e) at_wipe (8 * k + 8) b (now h) → k < rows_of e → h.spent ≤ 102 + 24 * (63 - k) → 1 ≤ h.ticks → Comes (quick e) (pieces (quick e)) (OfSprite (Wipe k)) b h
-  wipe_comes k o inside spent tick = straight (OfSprite (Wipe k)) o.holds (clearing at_wipe b) (is_clearing o) _ (omega arith) refl
-      (λ h' g. to_sprite (quick e) g _ refl (Wipe3 k) (record { holds = two o (8 * k + 6) (omega arith) (omega (arith, inside)); inside = o.inside; clears = o.clears; p = refl; r3 = refl; r4 = refl; pointer = refl; rd = omega (arith, third o (8 * k + 6) (omega arith), screen_is e) }, inside, refl) (omega (arith, spent, g.spent), omega (arith, tick, g.ticks)))
+  pub wipe_comes : (k : ℕ) → Clearing (quick e) at_wipe (8 * k + 8) b (now h) → k < rows_of e → h.spent ≤ 102 + 24 * (63 - k) → 1 ≤ h.ticks → Comes (quick e) (waited_pieces (quick e)) (Wipe k, tt) b h
+  wipe_comes k o inside spent tick = straight_on (Wipe k) tt o.holds (clearing at_wipe b) (is_clearing o) _ (omega arith) refl
+      (λ h' g. to_waited (quick e) g _ refl (Wipe3 k) tt (record { holds = two o (8 * k + 6) (omega arith) (omega (arith, inside)); inside = o.inside; clears = o.clears; p = refl; r3 = refl; r4 = refl; pointer = refl; rd = omega (arith, third o (8 * k + 6) (omega arith), screen_is e) }, inside, refl) (omega (arith, spent, g.spent), omega (arith, tick, g.ticks)))
 
-  pub wipe3_comes : (k : ℕ) → Clearing (quick e) at_wipe3 (8 * k + 6) b (now h) → k < rows_of e → b.regs.d ≡ 0 → h.spent ≤ 108 + 24 * (63 - k) → 1 ≤ h.ticks → Comes (quick e) (pieces (quick e)) (OfSprite (Wipe3 k)) b h
-  wipe3_comes k o inside d spent tick = straight (OfSprite (Wipe3 k)) o.holds (zeroed at_wipe3) (is_zeroed o d) _ (omega arith) refl
-      (λ h' g. to_sprite (quick e) g _ refl (Wipe6 k) (record { holds = three o (8 * k + 3) (omega arith) (omega (arith, inside)); inside = o.inside; clears = o.clears; p = refl; r3 = refl; r4 = refl; pointer = refl; rd = omega (arith, fourth o (8 * k + 3) (omega arith), screen_is e) }, inside, refl) (omega (arith, spent, g.spent), omega (arith, tick, g.ticks)))
+  pub wipe3_comes : (k : ℕ) → Clearing (quick e) at_wipe3 (8 * k + 6) b (now h) → k < rows_of e → b.regs.d ≡ 0 → h.spent ≤ 108 + 24 * (63 - k) → 1 ≤ h.ticks → Comes (quick e) (waited_pieces (quick e)) (Wipe3 k, tt) b h
+  wipe3_comes k o inside d spent tick = straight_on (Wipe3 k) tt o.holds (zeroed at_wipe3) (is_zeroed o d) _ (omega arith) refl
+      (λ h' g. to_waited (quick e) g _ refl (Wipe6 k) tt (record { holds = three o (8 * k + 3) (omega arith) (omega (arith, inside)); inside = o.inside; clears = o.clears; p = refl; r3 = refl; r4 = refl; pointer = refl; rd = omega (arith, fourth o (8 * k + 3) (omega arith), screen_is e) }, inside, refl) (omega (arith, spent, g.spent), omega (arith, tick, g.ticks)))
 
-  pub wipe6_comes : (k : ℕ) → Clearing (quick e) at_wipe6 (8 * k + 3) b (now h) → k < rows_of e → b.regs.d ≡ 0 → h.spent ≤ 114 + 24 * (63 - k) → 1 ≤ h.ticks → Comes (quick e) (pieces (quick e)) (OfSprite (Wipe6 k)) b h
-  wipe6_comes k o inside d spent tick = straight (OfSprite (Wipe6 k)) o.holds (zeroed at_wipe6) (is_zeroed o d) _ (omega arith) refl
-      (λ h' g. to_sprite (quick e) g _ refl (Wiped k) (record { holds = three o (8 * k) (omega arith) (omega (arith, inside)); inside = o.inside; clears = o.clears; p = refl; r3 = refl; r4 = refl; pointer = refl; rd = omega (arith, fourth o (8 * k) (omega arith), screen_is e) }, inside) (omega (arith, spent, g.spent), omega (arith, tick, g.ticks)))
+  pub wipe6_comes : (k : ℕ) → Clearing (quick e) at_wipe6 (8 * k + 3) b (now h) → k < rows_of e → b.regs.d ≡ 0 → h.spent ≤ 114 + 24 * (63 - k) → 1 ≤ h.ticks → Comes (quick e) (waited_pieces (quick e)) (Wipe6 k, tt) b h
+  wipe6_comes k o inside d spent tick = straight_on (Wipe6 k) tt o.holds (zeroed at_wipe6) (is_zeroed o d) _ (omega arith) refl
+      (λ h' g. to_waited (quick e) g _ refl (Wiped k) tt (record { holds = three o (8 * k) (omega arith) (omega (arith, inside)); inside = o.inside; clears = o.clears; p = refl; r3 = refl; r4 = refl; pointer = refl; rd = omega (arith, fourth o (8 * k) (omega arith), screen_is e) }, inside) (omega (arith, spent, g.spent), omega (arith, tick, g.ticks)))
 
   -- ---- is RD below the screen
 
@@ -132,13 +137,13 @@ module _ (e : Edition) (b : Machine) (h : Since) (f : FitsMachine b) where
       empty_now : 8 * k ≡ 0
       empty_now = omega (arith, none)
 
-  pub wiped_comes : (k : ℕ) → Clearing (quick e) at_wiped (8 * k) b (now h) → k < rows_of e → h.spent ≤ 120 + 24 * (63 - k) → 1 ≤ h.ticks → Comes (quick e) (pieces (quick e)) (OfSprite (Wiped k)) b h
-  wiped_comes k o inside spent tick = forks (OfSprite (Wiped k)) o.holds (clearing at_wiped b) (is_clearing o) (on_at (quicks (code (quick e)) 3 (clearing at_wiped b))) (not (below == 0)) at_wipe at_cleared (omega arith) refl
-      (λ n h' g. to_sprite (quick e) g _ refl (Wipe (k - 1)) (recounted (8 * k) (8 * (k - 1) + 8) (omega (arith, on_screen o n)) (record { holds = o.holds; inside = o.inside; clears = o.clears; p = refl; r3 = refl; r4 = refl; pointer = refl; rd = o.rd }), omega (arith, inside)) (omega (arith, spent, g.spent, inside, on_screen o n, few_rows e), omega (arith, tick, g.ticks)))
-      (λ n h' g. to_sprite (quick e) g _ refl Cleared (record { holds = empties o (past_screen o n); inside = o.inside; p = refl; r3 = refl; r4 = refl }, o.clears) (omega (arith, spent, g.spent, past_screen o n), omega (arith, tick, g.ticks)))
+  pub wiped_comes : (k : ℕ) → Clearing (quick e) at_wiped (8 * k) b (now h) → k < rows_of e → h.spent ≤ 120 + 24 * (63 - k) → 1 ≤ h.ticks → Comes (quick e) (waited_pieces (quick e)) (Wiped k, tt) b h
+  wiped_comes k o inside spent tick = forks_on (Wiped k) tt o.holds (clearing at_wiped b) (is_clearing o) (on_at (quicks (code (quick e)) 3 (clearing at_wiped b))) (not (below == 0)) at_wipe at_cleared (omega arith) refl
+      (λ n h' g. to_waited (quick e) g _ refl (Wipe (k - 1)) tt (recounted (8 * k) (8 * (k - 1) + 8) (omega (arith, on_screen o n)) (record { holds = o.holds; inside = o.inside; clears = o.clears; p = refl; r3 = refl; r4 = refl; pointer = refl; rd = o.rd }), omega (arith, inside)) (omega (arith, spent, g.spent, inside, on_screen o n, few_rows e), omega (arith, tick, g.ticks)))
+      (λ n h' g. to_waited (quick e) g _ refl Cleared tt (record { holds = empties o (past_screen o n); inside = o.inside; p = refl; r3 = refl; r4 = refl }, o.clears) (omega (arith, spent, g.spent, past_screen o n), omega (arith, tick, g.ticks)))
 
-  pub cleared_comes : Done (quick e) at_cleared b (now h) → Clears (now h) → 1 ≤ h.ticks → Comes (quick e) (pieces (quick e)) (OfSprite Cleared) b h
-  cleared_comes o is tick = straight (OfSprite Cleared) o.holds (on_3 at_cleared b) (is_on_3 at_cleared b o.p o.r3) _ (omega arith) refl
+  pub cleared_comes : Done (quick e) at_cleared b (now h) → Clears (now h) → 1 ≤ h.ticks → Comes (quick e) (waited_pieces (quick e)) (Cleared, tt) b h
+  cleared_comes o is tick = straight_on Cleared tt o.holds (on_3 at_cleared b) (is_on_3 at_cleared b o.p o.r3) _ (omega arith) refl
       (λ h' g. clears e g tick runs (clear_is is) _ (subst (λ j. Holding (quick e) (places b) (done_by e j Nothing (now h))) (clear_is is) o.holds) refl o.r4)
     where
       runs : stop_of e (now h) ≡ None

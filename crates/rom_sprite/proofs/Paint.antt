@@ -19,7 +19,8 @@ use Rattle.rom_moves.proofs.Moves.{quicks, read_rom}
 use Rattle.rom_moves.proofs.Ticks.{after_wait}
 use Rattle.rom_law.specs.Program.{code}
 use Rattle.rom_law.specs.Holding.{Places, places, Holding}
-use Rattle.rom_law.specs.Rows.{Since, now}
+use Rattle.machine.specs.Schedule.{Tick}
+use Rattle.rom_law.specs.Rows.{Since, Starts, now, after_tick}
 use Rattle.rom_law.specs.Rows.Starts.{Enters}
 use Rattle.rom_law.proofs.Places.{read_is, v_set}
 use Rattle.rom_law.proofs.Kept.{Comes, Holds}
@@ -28,7 +29,7 @@ use Rattle.chip8_rows.specs.Dots.{left, right, dots_of_byte}
 use Rattle.chip8_rows.specs.SpriteBlocks.{Draws, Preparing, Painting, painted, column, top, asked, height, corner, lit, half_lit, woken}
 use Rattle.chip8_rows.specs.SpriteBlocks.SpriteBlock.{Ready, Line, LineLeft, LineRight, Drawn}
 use Rattle.chip8_rows.specs.SpriteBlocks.SpritePlace.{DrawWait, DrawIdle}
-use Rattle.chip8_rows.specs.Table.{At, pieces}
+use Rattle.chip8_rows.specs.Table.{At, pieces, waited_pieces}
 use Rattle.chip8_rows.specs.Table.Block.{OfSprite}
 use Rattle.chip8_rows.specs.Table.Place.{AtSprite}
 use Rattle.chip8_rows.proofs.Alone.{alone, one_more}
@@ -39,7 +40,8 @@ use Rattle.chip8_rows.proofs.Follows.{to_sprite, to_sprite_place}
 use Rattle.chip8_rows.proofs.Font.{Readable, readable_get}
 use Rattle.chip8_rows.proofs.Later.{painting_later}
 use Rattle.chip8_rows.proofs.Steps.{draws}
-use Rattle.chip8_rows.proofs.Ways.{straight, forks}
+use Rattle.chip8_rows.proofs.Waited.{to_waited, starts_joined}
+use Rattle.chip8_rows.proofs.Ways.{straight, forks, straight_on, forks_on}
 use Rattle.rom_sprite.proofs.Aim.{on_at}
 use Rattle.rom_sprite.proofs.Bytes.{Apart, difference_either, meets_either}
 use Rattle.rom_sprite.proofs.Dots.{apart_left, apart_right, left_small, right_small, right_last, rows_grow, bottom}
@@ -93,16 +95,19 @@ module _ (e : Edition) (b : Machine) (h : Since) (f : FitsMachine b) where
   draw_wait_holds o at spent = alone (AtSprite DrawWait) f at o.holds (painting e at_draw_wait 0 b) (is_painting o) refl refl refl
       (λ u. to_sprite_place (quick e) (one_more u h) _ refl DrawIdle (record { draws = o.draws; holds = waking o.holds; prepared = record { lefts = o.prepared.lefts; rights = o.prepared.rights }; p = refl; r3 = refl; r4 = refl; pointer = refl; r7 = refl; rd = o.rd; count = o.count; few = o.few; hit = o.hit }, refl) (omega (arith, spent)))
 
+  pub draw_wakes : Painting (quick e) at_line 0 0 rows (lit e 0 (now h)) (woken b) (now h) → h.spent ≤ 2154 → (c : Machine) → Tick (code (quick e)).low b c → Starts (waited_pieces (quick e)) c (after_tick h)
+  draw_wakes o spent c k = Enters (Line 0, tt) ((subst (λ n. Painting (quick e) at_line 0 0 n (lit e 0 (tick (now h))) c (tick (now h))) (no_less (height e (tick (now h)))) (painting_later (quick e) 1 (after_wait (code (quick e)).low b c k) (woken_fits b f) (now h) at_line o), omega arith), (omega (arith, spent), omega arith))
+
   pub draw_idle_holds : Painting (quick e) at_line 0 0 rows (lit e 0 (now h)) (woken b) (now h) → b.regs.idle ≡ true → h.spent ≤ 2154 → Holds (quick e) (pieces (quick e)) (AtSprite DrawIdle) b h
   draw_idle_holds o idle spent = waits (AtSprite DrawIdle) o.holds idle
-      (λ c k. Enters (OfSprite (Line 0)) ((subst (λ n. Painting (quick e) at_line 0 0 n (lit e 0 (tick (now h))) c (tick (now h))) (no_less (height e (tick (now h)))) (painting_later (quick e) 1 (after_wait (code (quick e)).low b c k) (woken_fits b f) (now h) at_line o), omega arith), (omega (arith, spent), omega arith)))
+      (λ c k. starts_joined (quick e) c (after_tick h) (draw_wakes o spent c k))
 
   -- ---- are all rows drawn
 
-  pub line_comes : (r : ℕ) → Painting (quick e) at_line (2 * r) (8 * r) (rows - r) (lit e r (now h)) b (now h) → r ≤ rows → h.spent ≤ 2154 + 58 * r → 1 ≤ h.ticks → Comes (quick e) (pieces (quick e)) (OfSprite (Line r)) b h
-  line_comes r o inside spent tick = forks (OfSprite (Line r)) o.holds (on_3 at_line b) (is_on_3 at_line b o.p o.r3) (on_at (quicks (code (quick e)) 2 (on_3 at_line b))) (b.regs.r.re.lo == 0) at_drawn at_line_left (omega arith) refl
-      (λ k h' g. to_sprite (quick e) g _ refl Drawn (subst (λ z. Painting (quick e) at_drawn (2 * z) (8 * z) 0 (lit e z (now h)) (on_at (quicks (code (quick e)) 2 (on_3 at_line b)) (word_of at_drawn)) (now h)) (all k) (goes at_drawn 0 (eqb-true b.regs.r.re.lo 0 k))) (omega (arith, spent, g.spent, few, all k), omega (arith, tick, g.ticks)))
-      (λ k h' g. to_sprite (quick e) g _ refl (LineLeft r) (goes at_line_left (rows - r) o.count, more k) (omega (arith, spent, g.spent), omega (arith, tick, g.ticks)))
+  pub line_comes : (r : ℕ) → Painting (quick e) at_line (2 * r) (8 * r) (rows - r) (lit e r (now h)) b (now h) → r ≤ rows → h.spent ≤ 2154 + 58 * r → 1 ≤ h.ticks → Comes (quick e) (waited_pieces (quick e)) (Line r, tt) b h
+  line_comes r o inside spent tick = forks_on (Line r) tt o.holds (on_3 at_line b) (is_on_3 at_line b o.p o.r3) (on_at (quicks (code (quick e)) 2 (on_3 at_line b))) (b.regs.r.re.lo == 0) at_drawn at_line_left (omega arith) refl
+      (λ k h' g. to_waited (quick e) g _ refl Drawn tt (subst (λ z. Painting (quick e) at_drawn (2 * z) (8 * z) 0 (lit e z (now h)) (on_at (quicks (code (quick e)) 2 (on_3 at_line b)) (word_of at_drawn)) (now h)) (all k) (goes at_drawn 0 (eqb-true b.regs.r.re.lo 0 k))) (omega (arith, spent, g.spent, few, all k), omega (arith, tick, g.ticks)))
+      (λ k h' g. to_waited (quick e) g _ refl (LineLeft r) tt (goes at_line_left (rows - r) o.count, more k) (omega (arith, spent, g.spent), omega (arith, tick, g.ticks)))
     where
       all : (b.regs.r.re.lo == 0) ≡ true → r ≡ rows
       all k = omega (arith, eqb-true b.regs.r.re.lo 0 k, o.count, inside)
@@ -196,9 +201,9 @@ module _ (e : Edition) (b : Machine) (h : Since) (f : FitsMachine b) where
     abbrev painted_left : Machine
     painted_left = quicks (code (quick e)) 11 (painting e at_line_left (2 * r) b)
 
-    pub line_left_comes : Painting (quick e) at_line_left (2 * r) (8 * r) (rows - r) (lit e r (now h)) b (now h) → h.spent ≤ 2158 + 58 * r → 1 ≤ h.ticks → Comes (quick e) (pieces (quick e)) (OfSprite (LineLeft r)) b h
-    line_left_comes o spent tick = straight (OfSprite (LineLeft r)) o.holds (painting e at_line_left (2 * r) b) (is_painting o) painted_left (omega (arith, o.holds.stack, stack_top_is e, page_low e, o.rd, screen_is e)) refl
-        (λ h' g. to_sprite (quick e) g painted_left refl (LineRight r) (
+    pub line_left_comes : Painting (quick e) at_line_left (2 * r) (8 * r) (rows - r) (lit e r (now h)) b (now h) → h.spent ≤ 2158 + 58 * r → 1 ≤ h.ticks → Comes (quick e) (waited_pieces (quick e)) (LineLeft r, tt) b h
+    line_left_comes o spent tick = straight_on (LineLeft r) tt o.holds (painting e at_line_left (2 * r) b) (is_painting o) painted_left (omega (arith, o.holds.stack, stack_top_is e, page_low e, o.rd, screen_is e)) refl
+        (λ h' g. to_waited (quick e) g painted_left refl (LineRight r) tt (
           record {
             draws = o.draws;
             holds = byte_holds o at is near small last room apart;
@@ -245,9 +250,9 @@ module _ (e : Edition) (b : Machine) (h : Since) (f : FitsMachine b) where
     abbrev painted_right : Machine
     painted_right = quicks (code (quick e)) 16 (painting e at_line_right (2 * r + 1) b)
 
-    pub line_right_comes : Painting (quick e) at_line_right (2 * r + 1) (8 * r + 1) (rows - (r + 1)) (half_lit e r (now h)) b (now h) → h.spent ≤ 2180 + 58 * r → 1 ≤ h.ticks → Comes (quick e) (pieces (quick e)) (OfSprite (LineRight r)) b h
-    line_right_comes o spent tick = straight (OfSprite (LineRight r)) o.holds (painting e at_line_right (2 * r + 1) b) (is_painting o) painted_right (omega (arith, o.holds.stack, stack_top_is e, page_low e, o.rd, screen_is e)) refl
-        (λ h' g. to_sprite (quick e) g painted_right refl (Line (suc r)) (
+    pub line_right_comes : Painting (quick e) at_line_right (2 * r + 1) (8 * r + 1) (rows - (r + 1)) (half_lit e r (now h)) b (now h) → h.spent ≤ 2180 + 58 * r → 1 ≤ h.ticks → Comes (quick e) (waited_pieces (quick e)) (LineRight r, tt) b h
+    line_right_comes o spent tick = straight_on (LineRight r) tt o.holds (painting e at_line_right (2 * r + 1) b) (is_painting o) painted_right (omega (arith, o.holds.stack, stack_top_is e, page_low e, o.rd, screen_is e)) refl
+        (λ h' g. to_waited (quick e) g painted_right refl (Line (suc r)) tt (
           subst (λ z. Painting (quick e) at_line (2 * suc r) (8 * suc r) (rows - suc r) z painted_right (now h)) grown (record {
             draws = o.draws;
             holds = byte_holds o at is near small last room apart;
@@ -301,8 +306,8 @@ module _ (e : Edition) (b : Machine) (h : Since) (f : FitsMachine b) where
   abbrev drawn_by : Pixels → Lang
   drawn_by d = record (next (now h)) { screen = difference (now h).screen d; v = slice_set (now h).v 15 (flag (meets (rows_of e) (now h).screen d)) }
 
-  pub drawn_comes : Painting (quick e) at_drawn (2 * rows) (8 * rows) 0 (lit e rows (now h)) b (now h) → 1 ≤ h.ticks → Comes (quick e) (pieces (quick e)) (OfSprite Drawn) b h
-  drawn_comes o tick = straight (OfSprite Drawn) o.holds (painting e at_drawn (2 * rows) b) (is_painting o) (quicks (code (quick e)) 10 (painting e at_drawn (2 * rows) b)) (omega (arith, o.holds.stack, stack_top_is e, page_low e)) refl
+  pub drawn_comes : Painting (quick e) at_drawn (2 * rows) (8 * rows) 0 (lit e rows (now h)) b (now h) → 1 ≤ h.ticks → Comes (quick e) (waited_pieces (quick e)) (Drawn, tt) b h
+  drawn_comes o tick = straight_on Drawn tt o.holds (painting e at_drawn (2 * rows) b) (is_painting o) (quicks (code (quick e)) 10 (painting e at_drawn (2 * rows) b)) (omega (arith, o.holds.stack, stack_top_is e, page_low e)) refl
       (λ h' g. draws e g tick runs instr _ puts refl refl)
     where
       instr : instr_at (now h) ≡ IsDraw (high_byte (now h) % 16) (low_byte (now h) / 16) (low_byte (now h) % 16)

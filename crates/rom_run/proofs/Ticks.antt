@@ -1,0 +1,56 @@
+-- The time since the last dispatch point: how many interrupts fall into it, and that the next event comes within its bound.
+use Rattle.std.proofs.Common.{◌≡◌, ℕ, zero, suc, ◌+◌, ◌-◌, ◌*◌, ◌/◌, ◌%◌, ◌<◌, ◌≤◌, ◌⊎◌, inl, inr, sym, ap, subst, arith, List, le_refl}
+use Rattle.std.proofs.lemmas.Bool.{cases_eq}
+use Rattle.machine.specs.Board.{Machine, move}
+use Rattle.machine.specs.Keys.{Keys}
+use Rattle.machine.specs.Pictures.{frame, interrupt_at}
+use Rattle.machine.specs.Run.{after_moves}
+use Rattle.machine.proofs.Runs.{later-move}
+use Rattle.chip8_lang.specs.Between.{ticks_between}
+use Rattle.rom_law.specs.Rows.{Since}
+use Rattle.rom_frame.specs.Frame.{place, interrupt_place, window_place, IsOutside}
+use Rattle.rom_frame.specs.Routine.{routine_cycles}
+use Rattle.rom_run.specs.Running.{Spends, Suffices, since_window, most_wait}
+
+-- the last interrupt before c was so long ago
+window_passed : (c k : ℕ) → IsOutside c → k ≡ (c - 1 + 2576) / 3668 → 0 < k → 3668 * k ≤ c + 756
+window_passed c k (inl h) e some = omega arith
+window_passed c k (inr h) e some = omega arith
+
+-- q interrupts, in a time of which m cycles are none of the routine
+few_ticks : (a c q m : ℕ) → q ≡ ticks_between a c → IsOutside c → c ≡ a + m + routine_cycles * q → (frame - routine_cycles) * q < m + most_wait
+few_ticks a c q m e out is = go (cases_eq q 0)
+  where
+    go : (q ≡ 0) ⊎ (q ≡ 0 → ⊥) → (frame - routine_cycles) * q < m + most_wait
+    go (inl z) = omega (arith, z)
+    go (inr d) = omega (arith, is, e, d, window_passed c ((c - 1 + 2576) / 3668) out refl_is (omega (arith, e, d)))
+      where
+        refl_is : (c - 1 + 2576) / 3668 ≡ (c - 1 + 2576) / 3668
+        refl_is = omega arith
+
+-- so the end of that time is within the bound
+pub within : (a c q m bound : ℕ) → q ≡ ticks_between a c → IsOutside c → c ≡ a + m + routine_cycles * q → Suffices bound m → c ≤ a + bound
+within a c q m bound e out is s = omega (arith, is, s.all, at_most)
+  where
+    at_most : q ≤ s.interrupts
+    at_most = omega (arith, few_ticks a c q m e out is, s.few)
+
+pub waits_more : (t : ℕ) → IsOutside t → (place t ≡ interrupt_place → ⊥) → since_window (t + 1) ≡ since_window t + 1
+waits_more t (inl h) d = omega (arith, h, d)
+waits_more t (inr h) d = omega (arith, h)
+
+pub waits_most : (t : ℕ) → IsOutside t → since_window t ≤ most_wait
+waits_most t (inl h) = omega (arith, h)
+waits_most t (inr h) = omega (arith, h)
+
+-- a later state has no earlier cycle
+pub later_cycle : (rom : List ℕ) (held : ℕ → Keys) (b : Machine) (k m : ℕ) → k ≤ m → (after_moves rom held b k).cycle ≤ (after_moves rom held b m).cycle
+later_cycle rom held b k zero l = subst (λ j. (after_moves rom held b j).cycle ≤ b.cycle) (sym none) (le_refl b.cycle)
+  where
+    none : k ≡ 0
+    none = omega (arith, l)
+later_cycle rom held b k (suc m) l = go (cases_eq k (suc m)) (λ d. later_cycle rom held b k m d)
+  where
+    go : (k ≡ suc m) ⊎ (k ≡ suc m → ⊥) → (k ≤ m → (after_moves rom held b k).cycle ≤ (after_moves rom held b m).cycle) → (after_moves rom held b k).cycle ≤ (after_moves rom held b (suc m)).cycle
+    go (inl e) f = subst (λ j. (after_moves rom held b j).cycle ≤ (after_moves rom held b (suc m)).cycle) (sym e) (le_refl (after_moves rom held b (suc m)).cycle)
+    go (inr d) f = omega (arith, f (omega (arith, l, d)), later-move rom held (after_moves rom held b m))
