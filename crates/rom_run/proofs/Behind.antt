@@ -15,7 +15,7 @@ use Rattle.chip8_rows.specs.Table.{pieces, waited_pieces}
 use Rattle.chip8_rows.specs.Table.Place.{AtTimer, AtKey, AtSprite}
 use Rattle.chip8_rows.proofs.Bytes.{quick, both_is}
 use Rattle.chip8_rows.proofs.Waited.{waited_sound, joined}
-use Rattle.rom_sprite.proofs.Law.{sprite_waited, sprite_wakes}
+use Rattle.sprite_blocks.proofs.Law.{sprite_waited, sprite_wakes}
 use Rattle.rom_run.proofs.Proved.{proved_quick}
 use Rattle.rom_run.proofs.Waits.{timed, sleeps, timer_awake, key_awake}
 

@@ -7,3 +7,6 @@ pub mod Time
 pub mod Moves
 pub mod Bound
 pub mod Run
+pub mod Parts
+pub mod Apart
+pub mod Dispatch

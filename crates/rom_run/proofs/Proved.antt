@@ -14,13 +14,13 @@ use Rattle.chip8_rows.specs.Table.{Block, Place, Head, At, pieces}
 use Rattle.chip8_rows.specs.Table.Block.{OfFetch, OfJump, OfArith, OfMemory, OfSprite, OfTimer, OfKey}
 use Rattle.chip8_rows.specs.Table.Place.{AtTimer, AtKey, AtSprite}
 use Rattle.chip8_rows.proofs.Bytes.{both_is, both_fits, quick}
-use Rattle.rom_fetch.proofs.Law.{fetch_block}
-use Rattle.rom_arith.proofs.JumpLaw.{jump_block}
-use Rattle.rom_arith.proofs.ArithLaw.{arith_block}
-use Rattle.rom_memory.proofs.Law.{memory_block}
-use Rattle.rom_sprite.proofs.Law.{sprite_block, sprite_place}
-use Rattle.rom_timer.proofs.Law.{timer_block, timer_place}
-use Rattle.rom_keys.proofs.Law.{key_block, key_place}
+use Rattle.fetch_blocks.proofs.Law.{fetch_block}
+use Rattle.arith_blocks.proofs.JumpLaw.{jump_block}
+use Rattle.arith_blocks.proofs.ArithLaw.{arith_block}
+use Rattle.memory_blocks.proofs.Law.{memory_block}
+use Rattle.sprite_blocks.proofs.Law.{sprite_block, sprite_place}
+use Rattle.timer_blocks.proofs.Law.{timer_block, timer_place}
+use Rattle.key_blocks.proofs.Law.{key_block, key_place}
 use Rattle.rom_run.specs.Laws.{AnySchedule}
 
 pub block : (e : Edition) (l : Block) (b : Machine) (h : Since) → FitsMachine b → Head (quick e) l b h → Comes (quick e) (pieces (quick e)) l b h

@@ -16,8 +16,8 @@ use Rattle.rom_law.proofs.First.{start_fits, moves_fit}
 use Rattle.rom_law.proofs.Kept.{Proved}
 use Rattle.rom_law.proofs.Runs.{Carries, Boots, language_run}
 use Rattle.chip8_rows.specs.Rom.{image, vip}
-use Rattle.rom_fetch.specs.Laws.{Boot, boot_moves}
-use Rattle.rom_fetch.proofs.Boot.{every_boot}
+use Rattle.fetch_blocks.specs.Laws.{Boot, boot_moves}
+use Rattle.fetch_blocks.proofs.Boot.{every_boot}
 use Rattle.rom_frame.specs.Frame.{place, interrupt_place, IsMainPlace}
 use Rattle.rom_run.specs.Laws.{EveryRun}
 use Rattle.rom_run.specs.Running.{Running}
@@ -28,11 +28,11 @@ use Rattle.rom_run.proofs.Proved.{proved}
 -- ---- the first dispatch point
 
 -- what is to be said of the state at cycle 56
-record Begins (e : Edition) (script : List Event) (game : List ℕ) (c : Machine) : Type 0 where
-  soon : c.cycle ≤ boot_bound
-  dispatch : is_dispatch (vip e).interpreter c ≡ true
-  runs : is_stop (vip e).interpreter c ≡ false
-  running : Running e script c (dispatched c.cycle (state_at (vip e) c))
+pub record Begins (e : Edition) (script : List Event) (game : List ℕ) (c : Machine) : Type 0 where
+  pub soon : c.cycle ≤ boot_bound
+  pub dispatch : is_dispatch (vip e).interpreter c ≡ true
+  pub runs : is_stop (vip e).interpreter c ≡ false
+  pub running : Running e script c (dispatched c.cycle (state_at (vip e) c))
 
 begins : (e : Edition) (script : List Event) (game : List ℕ) (c : Machine) → FitsMachine c → c.cycle ≡ 56 → Dispatches (vip e) c (first e game) → Begins e script game c
 begins e script game c f at st =
@@ -59,18 +59,13 @@ carries : (e : Edition) (script : List Event) → Carries (vip e) script (Runnin
 carries e script = record { moves = board_moves e script; timely = timely e script }
 
 module _ (e : Edition) (game : List ℕ) (small : length game ≤ memory_size e) (bytes : (i : ℕ) → slice_index game i < 256) (script : List Event) where
-  boot : Boot e (held_at script) game
+  pub boot : Boot e (held_at script) game
   boot = every_boot e (held_at script) game small
 
-  c : Machine
-  c = after_moves (image e) (held_at script) (start game) boot_moves
-
-  begun : Begins e script game c
-  unfolding c
+  pub begun : Begins e script game (after_moves (image e) (held_at script) (start game) boot_moves)
   begun = begins e script game (after_moves (image e) (held_at script) (start game) boot_moves) (moves_fit (image e) (proved e).rom (held_at script) (start game) (start_fits game (omega (arith, small, room e)) bytes) boot_moves) boot.cycle boot.stands
 
   boots : Boots (vip e) game script (Running e script)
-  unfolding c
   boots =
       record {
         moves = boot_moves;

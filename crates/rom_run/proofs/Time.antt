@@ -45,7 +45,7 @@ use Rattle.chip8_rows.specs.Table.Block.{OfFetch, OfJump, OfArith, OfMemory, OfS
 use Rattle.chip8_rows.specs.Table.Place.{AtTimer, AtKey, AtSprite}
 use Rattle.chip8_rows.proofs.Steps.{stop_ticks}
 use Rattle.rom_law.proofs.Places.{v_byte}
-use Rattle.rom_sprite.proofs.Screen.{few_rows}
+use Rattle.sprite_blocks.proofs.Screen.{few_rows}
 use Rattle.rom_run.specs.Running.{Suffices, Spends, Interval, Timed, most_wait}
 use Rattle.rom_run.specs.Running.Timed.{Before, Waiting, Behind}
 use Rattle.rom_run.proofs.Ticks.{waits_most}

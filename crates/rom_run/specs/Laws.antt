@@ -1,15 +1,24 @@
 -- What is proved of the whole interpreter's ROM.
-use Rattle.std.specs.Prelude.{◌≡◌, ℕ, ◌+◌, ◌<◌, ◌≤◌, List, length, slice_index, Some}
+use Rattle.std.specs.Prelude.{◌≡◌, ℕ, ◌+◌, ◌<◌, ◌≤◌, true, false, List, length, slice_index, Some}
+use Rattle.machine.specs.Instruction.{at}
 use Rattle.machine.specs.Board.{Machine, move}
 use Rattle.machine.specs.Keys.{Event, held_at}
+use Rattle.machine.specs.Ranges.{FitsMachine}
+use Rattle.chip8_image.specs.declared.parts.Part.{Part}
+use Rattle.chip8_image.specs.declared.TheConstants.{DISPATCH}
+use Rattle.chip8_image.specs.declared.parts.Part.TheVariants.{Fetch}
+use Rattle.chip8_image.specs.Parts.{part_of}
 use Rattle.chip8_lang.specs.declared.view.Edition.{Edition}
 use Rattle.chip8_lang.specs.Bounds.{bound_of}
-use Rattle.chip8_lang.specs.State.{memory_size}
+use Rattle.chip8_lang.specs.State.{memory_size, is_fetchable}
+use Rattle.rom_moves.specs.Code.{Input, moved}
+use Rattle.rom_law.specs.Program.{code}
 use Rattle.rom_law.specs.Runs.{Moves, LanguageRun}
-use Rattle.rom_law.specs.Rows.{Since}
+use Rattle.rom_law.specs.Rows.{Since, Row, Outcome, after_main}
 use Rattle.rom_law.specs.Schedules.{EverySchedule}
 use Rattle.chip8_rows.specs.Rom.{image, vip}
-use Rattle.rom_run.specs.Running.{Running}
+use Rattle.chip8_rows.specs.Table.{pieces}
+use Rattle.rom_run.specs.Running.{Running, Booting, FromBoot}
 
 -- whenever timer ticks come, main code does what the language says
 abbrev pub AnySchedule : Type 0
@@ -39,3 +48,47 @@ Timely =
     → Running e script b h
     → bound_of e h.state ≡ Some bound
     → (move (image e) (held_at script) b).cycle ≤ h.from + bound
+
+-- ---- a part of the ROM
+
+-- the next address lies in the part
+abbrev pub IsIn : Part → Machine → Type 0
+IsIn p b = part_of (at b.regs b.regs.p) ≡ p
+
+-- From each state in a row whose next address lies there a main move, with a value of EFX and some keys, comes to a row without an event, to a
+-- dispatch or to a stop, with the record carried on.
+abbrev pub RowsIn : Part → Type 0
+RowsIn p =
+    (e : Edition) (u : Input) (b : Machine) (h : Since)
+    → FitsMachine b
+    → b.regs.idle ≡ false
+    → IsIn p b
+    → Row (vip e) (pieces (vip e)) b h
+    → Outcome (vip e) (pieces (vip e)) (moved (code (vip e)) u b) (after_main u h)
+
+-- The same of the board's own move, where `Running` holds.
+abbrev pub MovesIn : Part → Type 0
+MovesIn p =
+    (e : Edition) (script : List Event) (b : Machine) (h : Since)
+    → Running e script b h
+    → IsIn p b
+    → Moves (vip e) script (Running e script) h (move (image e) (held_at script) b)
+
+-- and of those of boot
+abbrev pub BootRows : Type 0
+BootRows =
+    (e : Edition) (script : List Event) (game : List ℕ) (b : Machine)
+    → Booting e script game b
+    → FromBoot e script game (move (image e) (held_at script) b)
+
+-- Where a move of the fetch takes P from 4 to 3 for an opcode in game memory, exactly DISPATCH main cycles have passed since the dispatch
+-- point.
+abbrev pub DispatchIn : Type 0
+DispatchIn =
+    (e : Edition) (script : List Event) (b : Machine) (h : Since)
+    → Running e script b h
+    → IsIn Fetch b
+    → is_fetchable e h.state ≡ true
+    → b.regs.p ≡ 4
+    → (move (image e) (held_at script) b).regs.p ≡ 3
+    → h.spent + 2 ≡ DISPATCH

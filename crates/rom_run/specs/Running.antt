@@ -1,21 +1,23 @@
 -- What is known of the board along its run, from the first dispatch point up to the stop, with the record of what came since the last
 -- dispatch point.
-use Rattle.std.specs.Prelude.{◌≡◌, ℕ, ◌+◌, ◌-◌, ◌*◌, ◌%◌, ◌<◌, ◌≤◌, true, false, List, Some}
-use Rattle.machine.specs.Board.{Machine}
+use Rattle.std.specs.Prelude.{◌≡◌, ℕ, ◌+◌, ◌-◌, ◌*◌, ◌%◌, ◌<◌, ◌≤◌, true, false, List, length, slice_index, Some}
+use Rattle.machine.specs.Board.{Machine, start}
 use Rattle.machine.specs.Keys.{Event, held_at}
 use Rattle.machine.specs.Run.{after_moves}
 use Rattle.machine.specs.Ranges.{FitsMachine}
 use Rattle.machine.specs.Pictures.{frame, interrupt_at}
 use Rattle.chip8_lang.specs.declared.view.Edition.{Edition}
 use Rattle.chip8_lang.specs.declared.view.Stop.{Stop}
-use Rattle.chip8_lang.specs.State.{Lang}
-use Rattle.chip8_lang.specs.Bounds.{bound_of}
+use Rattle.chip8_lang.specs.State.{Lang, first, memory_size}
+use Rattle.chip8_lang.specs.Bounds.{bound_of, boot_bound}
+use Rattle.chip8_lang.specs.Events.{is_dispatch, is_stop}
 use Rattle.chip8_lang.specs.Between.{ticks_between, keys_between}
 use Rattle.rom_moves.specs.Code.{is_event}
-use Rattle.rom_law.specs.Program.{code}
-use Rattle.rom_law.specs.Rows.{Since, Embeds, Row, Stepped, Stopped}
+use Rattle.rom_law.specs.Program.{code, Dispatches}
+use Rattle.rom_law.specs.Rows.{Since, Embeds, Row, Stepped, Stopped, dispatched}
 use Rattle.chip8_rows.specs.Rom.{image, vip}
 use Rattle.chip8_rows.specs.Table.{pieces, waited_pieces}
+use Rattle.fetch_blocks.specs.Laws.{boot_moves}
 use Rattle.rom_frame.specs.Frame.{place, interrupt_place, window_place, IsOutside}
 use Rattle.rom_frame.specs.Routine.{routine_moves, routine_cycles}
 
@@ -93,3 +95,19 @@ pub record Serving (e : Edition) (script : List Event) (b : Machine) (h : Since)
 pub data Running (e : Edition) (script : List Event) (b : Machine) (h : Since) : Type 0 where
   InMain : Outside e script b h → Running e script b h
   InRoutine : Serving e script b h → Running e script b h
+
+-- ---- boot
+
+-- so many moves past reset, before the first dispatch point
+pub record Booting (e : Edition) (script : List Event) (game : List ℕ) (b : Machine) : Type 0 where
+  pub room : length game ≤ memory_size e
+  pub bytes : (i : ℕ) → slice_index game i < 256
+  pub k : ℕ
+  pub inside : k < boot_moves
+  pub is : b ≡ after_moves (image e) (held_at script) (start game) k
+
+-- What a move of boot comes to: boot goes on, with no event; or the first dispatch point, where the game's first state lies and a record
+-- begins.
+pub data FromBoot (e : Edition) (script : List Event) (game : List ℕ) (c : Machine) : Type 0 where
+  Boots : is_dispatch (vip e).interpreter c ≡ false → is_stop (vip e).interpreter c ≡ false → Booting e script game c → FromBoot e script game c
+  Begins : is_dispatch (vip e).interpreter c ≡ true → is_stop (vip e).interpreter c ≡ false → c.cycle ≤ boot_bound → Dispatches (vip e) c (first e game) → Running e script c (dispatched c.cycle (first e game)) → FromBoot e script game c

@@ -1,29 +1,12 @@
-//! What is proved of CXKK, FX07, FX15 and FX18, each law the contract of a function without parameters.
+//! What is proved of this part of the ROM, over the definitions alone.
 
-ghost use Rattle.rom_timer.specs.Laws.{TimerRows, TimerPlaceRows, TimerAddresses, TimerPlaceAddresses, TimerCovers};
+ghost use Rattle.chip8_image.specs.declared.parts.Part.TheVariants.{Timer};
+ghost use Rattle.rom_run.specs.Laws.{RowsIn, MovesIn};
 
-/// From every state in a row of a block of CXKK, of FX07, of FX15 or of FX18, a main move comes to a row of the table or to the next
-/// dispatch, and carries on the record of what came since the last dispatch.
+/// For both editions: from every state in a row whose next address lies in the part of the interrupt routine, of the timers and of CXKK,
+/// a main move comes to a row, to a dispatch or to a stop, and carries on the record of what came since the last dispatch point. The same
+/// holds of the board's own move from every such state of which `Running` holds.
 pub fn main_rows()
-    ensures { TimerRows }
-{}
-
-/// The same from every state at one of their places, where the count of ticks or a timer is read or written.
-pub fn place_rows()
-    ensures { TimerPlaceRows }
-{}
-
-/// In a row of one of these blocks the program counter is at the addresses that the table gives the block, one after the other.
-pub fn addresses()
-    ensures { TimerAddresses }
-{}
-
-/// At a place it is at the place's address.
-pub fn place_addresses()
-    ensures { TimerPlaceAddresses }
-{}
-
-/// Every instruction of CXKK, of FX07, of FX15 and of FX18 is in one of these blocks or at one of these places.
-pub fn covers()
-    ensures { TimerCovers }
+    ensures rows { RowsIn Timer }
+    ensures moves { MovesIn Timer }
 {}

@@ -1,0 +1,5 @@
+use Rattle.key_blocks.proofs.Addresses.{addresses}
+use Rattle.key_blocks.proofs.laws.addresses.Goals as goal
+
+pub returns : goal.returns
+returns c = addresses

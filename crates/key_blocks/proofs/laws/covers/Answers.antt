@@ -1,0 +1,5 @@
+use Rattle.key_blocks.proofs.Addresses.{covered}
+use Rattle.key_blocks.proofs.laws.covers.Goals as goal
+
+pub returns : goal.returns
+returns c = covered

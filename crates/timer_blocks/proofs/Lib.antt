@@ -1,0 +1,4 @@
+pub mod Timers
+pub mod Randoms
+pub mod Law
+pub mod Addresses
