@@ -10,3 +10,4 @@ pub mod Run
 pub mod Parts
 pub mod Apart
 pub mod Dispatch
+pub mod Served

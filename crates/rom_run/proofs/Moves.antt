@@ -329,7 +329,7 @@ module _ (e : Edition) (script : List Event) where
     returns : Comes h (after_moves (image e) held b routine_moves)
     returns = returned b h m cycle (after_moves (image e) held b routine_moves) tick.tick tick.cycle tick.place o
 
-    routine_comes : (k : ℕ) → k < routine_moves → Comes h (after_moves (image e) held b (suc k))
+    pub routine_comes : (k : ℕ) → k < routine_moves → Comes h (after_moves (image e) held b (suc k))
     routine_comes k l = go (cases_eq (suc k) routine_moves)
       where
         go : (suc k ≡ routine_moves) ⊎ (suc k ≡ routine_moves → ⊥) → Comes h (after_moves (image e) held b (suc k))

@@ -1,0 +1,43 @@
+-- A run of the interrupt routine, as a whole: one tick, after which what is known of the running interpreter holds.
+use Rattle.std.proofs.Common.{◌≡◌, ℕ, suc, ◌+◌, ◌*◌, ◌%◌, ◌<◌, ◌≤◌, sym, ap, arith, List}
+use Rattle.machine.specs.Board.{Machine}
+use Rattle.machine.specs.Keys.{Event, Keys, held_at}
+use Rattle.machine.specs.Pictures.{interrupt_at}
+use Rattle.machine.specs.Run.{after_moves}
+use Rattle.machine.proofs.Runs.{later-move}
+use Rattle.chip8_lang.specs.declared.view.Edition.{Edition}
+use Rattle.rom_law.specs.Rows.{Since}
+use Rattle.rom_law.specs.Runs.{Moves}
+use Rattle.chip8_rows.specs.Rom.{image, vip}
+use Rattle.rom_frame.specs.Frame.{place, interrupt_place}
+use Rattle.rom_frame.specs.Routine.{IsTick, routine_moves, routine_cycles}
+use Rattle.rom_frame.proofs.Tick.{run_tick}
+use Rattle.rom_run.specs.Running.{Outside, Serving, Running}
+use Rattle.rom_run.specs.Running.Running.{InMain, InRoutine}
+use Rattle.rom_run.proofs.Moves.{interrupted, routine_comes}
+use Rattle.rom_run.proofs.Ticks.{later_cycle}
+
+-- a cycle between the interrupt and the return isn't that of an interrupt
+not_there : {a b c d e : ℕ} (m : ℕ) → a ≡ interrupt_at m → a < b → b ≤ c → c ≤ d → d ≡ interrupt_at m + routine_cycles → e ≡ c → place e ≡ interrupt_place → ⊥
+not_there m h k l n o q p = omega (arith, h, k, l, n, o, q, p)
+
+module _ (e : Edition) (script : List Event) where
+  abbrev held : ℕ → Keys
+  held = held_at script
+
+  tick_of : (b : Machine) (h : Since) (m : ℕ) → Outside e script b h → b.cycle ≡ interrupt_at m → IsTick e m b held
+  tick_of b h m o i = run_tick e m b held (interrupted e script b h m o i)
+
+  -- where the cycle is that of an interrupt, main code runs or waits
+  main_there : (b : Machine) (h : Since) → Running e script b h → place b.cycle ≡ interrupt_place → Outside e script b h
+  main_there b h (InMain o) p = o
+  main_there b h (InRoutine s) p = absurd (not_there s.m s.cycle (later-move (image e) held s.start) (later_cycle (image e) held s.start 1 s.k s.some) (later_cycle (image e) held s.start s.k routine_moves (less s.k s.inside)) (tick_of s.start h s.m s.outside s.cycle).cycle (ap (λ (z : Machine). z.cycle) s.is) p)
+    where
+      less : (k : ℕ) → k < routine_moves → k ≤ routine_moves
+      less k l = omega (arith, l)
+
+  pub whole_tick : (b : Machine) (h : Since) (m : ℕ) → Running e script b h → b.cycle ≡ interrupt_at m → IsTick e m b held
+  whole_tick b h m r i = tick_of b h m (main_there b h r (omega (arith, i))) i
+
+  pub tick_comes : (b : Machine) (h : Since) (m : ℕ) → Running e script b h → b.cycle ≡ interrupt_at m → Moves (vip e) script (Running e script) h (after_moves (image e) held b routine_moves)
+  tick_comes b h m r i = routine_comes e script b h m (main_there b h r (omega (arith, i))) i 1434 (omega arith)
