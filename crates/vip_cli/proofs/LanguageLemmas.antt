@@ -1,70 +1,34 @@
--- The report of a stop names the stop of the last state, by the law of the run.
-use Rattle.std.proofs.Common.{◌≡◌, ℕ, suc, ◌+◌, ◌<◌, ◌⊎◌, inl, inr, List, [], ◌∷◌, filter, length, Option, Some, None, slice_get, slice_index, refl, sym, ap, ◌∙◌, add-one}
+-- The run of a game is a run of CHIP-8, by the law of every run of the interpreter's ROM.
+use Rattle.std.proofs.Common.{◌≡◌, ℕ, suc, ◌+◌, ◌<◌, ◌≤◌, List, [], ◌∷◌, ◌++◌, filter, length, Some, IsSomeAnd, slice_get, slice_index, refl, sym, ap, subst, ◌∙◌, add-one, arith}
 use Rattle.machine.specs.Board.{Machine}
+use Rattle.machine.specs.Keys.{Event as KeyEvent}
 use Rattle.chip8_lang.specs.declared.view.Edition.TheVariants.{Usual}
 use Rattle.chip8_lang.specs.declared.view.Stop.{Stop}
 use Rattle.chip8_lang.specs.declared.view.Stop.TheVariants.{MachineCall, Unknown, FetchOutside, ReadOutside, WriteOutside, StackFull, StackEmpty}
-use Rattle.chip8_lang.specs.Events.{Event, events_of}
+use Rattle.chip8_lang.specs.Bounds.{boot_bound, bound_of}
+use Rattle.chip8_lang.specs.Events.{Event}
 use Rattle.chip8_lang.specs.Events.Event.{Picture, Dispatch, Stopped}
-use Rattle.chip8_lang.specs.Places.{state_of}
+use Rattle.chip8_lang.specs.State.{Lang, first}
 use Rattle.chip8_lang.specs.Step.{number_of}
 use Rattle.chip8_lang.specs.View.{opcode_at, view_at}
-use Rattle.rom_law.specs.Runs.{LanguageRun, IsStop, is_point, points_of}
-use Rattle.thin_rom.specs.Thin.{thin}
-use Rattle.vip_cli.specs.Output.{Ending, ending_after, ending_of, stop_at, stop_numbered}
-use Rattle.vip_cli.specs.Output.Ending.{AtLimit, AtStop}
-use Rattle.vip_cli.specs.Language.{NamesStop, Names, Speaks}
-
--- the last points of a run that ends at a stop: a dispatch point and then the stop point
-record Lasts (points : List Event) (stop : Stop) (pc : ℕ) (opcode : Option ℕ) : Type 0 where
-  k : ℕ
-  last : Machine
-  end : Machine
-  dispatch : slice_get points k ≡ Some (Dispatch last)
-  stopped : slice_get points (suc k) ≡ Some (Stopped end)
-  name : stop ≡ stop_at end
-  pc_is : pc ≡ (view_at Usual last).pc
-  opcode_is : opcode ≡ (view_at Usual last).opcode
-
--- or the stop point alone
-record Alone (points : List Event) (stop : Stop) (first : ℕ) (none : Option ℕ) (pc : ℕ) (opcode : Option ℕ) : Type 0 where
-  end : Machine
-  stopped : slice_get points 0 ≡ Some (Stopped end)
-  name : stop ≡ stop_at end
-  same_pc : pc ≡ first
-  same_opcode : opcode ≡ none
-
--- one more dispatch point before them
-before : (b : Machine) (points : List Event) (stop : Stop) (pc : ℕ) (opcode : Option ℕ) → Alone points stop (view_at Usual b).pc (view_at Usual b).opcode pc opcode ⊎ Lasts points stop pc opcode → Lasts (Dispatch b ∷ points) stop pc opcode
-before b points stop pc opcode (inl a) = record {
-  k = 0;
-  last = b;
-  end = a.end;
-  dispatch = refl;
-  stopped = a.stopped;
-  name = a.name;
-  pc_is = a.same_pc;
-  opcode_is = a.same_opcode;
-}
-before b points stop pc opcode (inr l) = record {
-  k = suc l.k;
-  last = l.last;
-  end = l.end;
-  dispatch = l.dispatch;
-  stopped = l.stopped;
-  name = l.name;
-  pc_is = l.pc_is;
-  opcode_is = l.opcode_is;
-}
-
-lasts : (events : List Event) (first : ℕ) (none : Option ℕ) (stop : Stop) (pc : ℕ) (opcode : Option ℕ) → ending_after Usual first none events ≡ AtStop stop pc opcode → Alone (filter is_point events) stop first none pc opcode ⊎ Lasts (filter is_point events) stop pc opcode
-unfolding ending_after
-lasts [] first none stop pc opcode ends = cc
-lasts (Picture m ∷ events) first none stop pc opcode ends = lasts events first none stop pc opcode ends
-lasts (Dispatch b ∷ events) first none stop pc opcode ends =
-    inr (before b (filter is_point events) stop pc opcode (lasts events (view_at Usual b).pc (view_at Usual b).opcode stop pc opcode ends))
-lasts (Stopped b ∷ events) first none stop pc opcode ends =
-    inl (record { end = b; stopped = refl; name = cc; same_pc = cc; same_opcode = cc })
+use Rattle.rom_law.specs.Program.{Dispatches, Halts}
+use Rattle.rom_law.specs.Runs.{LanguageRun, IsFirst, IsNext, IsStep, IsStop, is_point, cycle_of}
+use Rattle.chip8_rows.specs.Rom.{vip}
+use Rattle.rom_run.specs.Laws.{EveryRun}
+use Rattle.vip_relation.specs.Stops.{stop_at, stop_numbered}
+use Rattle.vip_show.specs.Endings.{ending_after, ending_of}
+use Rattle.vip_show.specs.Endings.Ending.{AtStop}
+use Rattle.vip_outside.specs.Files.{FilesMeaning}
+use Rattle.vip_words.specs.Asked.{Asked, trace, play, debug, demo, asm, list, dis, bounds}
+use Rattle.vip_cli.specs.Demo.{demo_game}
+use Rattle.vip_cli.specs.Files.{needed, most_game, HasAll}
+use Rattle.vip_cli.specs.Language.{state_at, StandsFor, HaltedWith, Steps, Stops, GoesOn, Goes, next_point, ComesBy, IsChip8, RunIsChip8, ShowsChip8}
+use Rattle.vip_cli.specs.Outcome.{Outcome, Comes, RunComes, events_in}
+use Rattle.vip_cli.specs.Outcome.Outcome.{Refused, Shown}
+use Rattle.vip_cli.specs.Outcome.RunComes.{FaultyScript, FaultyRom, Runs}
+use Rattle.vip_cli.specs.Top.{Call, SpeaksChip8}
+use Rattle.vip_cli.specs.declared.status.Status.{Status}
+use Rattle.vip_cli.proofs.DemoLemmas.{length-game, bytes-game}
 
 stop_numbered-number_of : (stop : Stop) → stop_numbered (number_of stop) ≡ stop
 stop_numbered-number_of MachineCall = refl
@@ -75,32 +39,134 @@ stop_numbered-number_of WriteOutside = refl
 stop_numbered-number_of StackFull = refl
 stop_numbered-number_of StackEmpty = refl
 
--- a stop point's number is that of the stop of the state before it
-stop_fits : (b c : Machine) → IsStop thin b c → thin.stop_of (state_of Usual b) ≡ Some (stop_at c)
-stop_fits b c is = is.fits ∙ ap Some (sym (ap stop_numbered is.halts.number ∙ stop_numbered-number_of is.stop))
+-- ---- the points of the law, in the words of the language
 
-module _ (game : List ℕ) (limit : ℕ) (run : LanguageRun thin game [] limit) where
-  from_lasts : (stop : Stop) (pc : ℕ) (opcode : Option ℕ) → Lasts (points_of thin game [] limit) stop pc opcode → NamesStop game limit stop pc opcode
-  from_lasts stop pc opcode l =
-      let stopped : slice_get (points_of thin game [] limit) (l.k + 1) ≡ Some (Stopped l.end) = rw add-one l.stopped in
-      record {
-        k = l.k;
-        last = l.last;
-        end = l.end;
-        dispatch = l.dispatch;
-        stopped = stopped;
-        fits = stop_fits l.last l.end (run.next l.k l.last (Stopped l.end) l.dispatch stopped) ∙ ap Some (sym l.name);
-        pc_is = unfold view_at in l.pc_is;
-        opcode_is = unfold view_at in l.opcode_is;
-      }
+stands : (b : Machine) (s : Lang) → Dispatches (vip Usual) b s → StandsFor b s
+stands b s is = record {
+  holds = record { lies = is.keeps.lies; on = is.keeps.on; entry = is.keeps.entry; page = is.keeps.page };
+  p = is.p;
+  r4 = is.r4;
+}
 
-  from_either : (stop : Stop) (pc : ℕ) (opcode : Option ℕ) → Alone (points_of thin game [] limit) stop 0 None pc opcode ⊎ Lasts (points_of thin game [] limit) stop pc opcode → NamesStop game limit stop pc opcode
-  from_either stop pc opcode (inl a) = absurd (run.first (Stopped a.end) a.stopped)
-  from_either stop pc opcode (inr l) = from_lasts stop pc opcode l
+halted : (b : Machine) (s : Lang) (stop : Stop) → Halts (vip Usual) b s stop → HaltedWith b s stop
+halted b s stop is = record {
+  holds = record { lies = is.keeps.lies; on = is.keeps.on; entry = is.keeps.entry; page = is.keeps.page };
+  p = is.p;
+  r3 = is.r3;
+  number = is.number;
+}
 
-  names : (ending : Ending) → ending_of Usual (events_of thin.interpreter game [] limit) ≡ ending → Names game limit ending
-  names AtLimit ends = tt
-  names (AtStop stop pc opcode) ends = from_either stop pc opcode (lasts (events_of thin.interpreter game [] limit) 0 None stop pc opcode ends)
+steps : (script : List KeyEvent) (b c : Machine) → IsStep (vip Usual) script b c → Steps script b c
+steps script b c is = record { stands = stands c (state_at c) is.stands; between = is.between }
 
-  pub speaks : Speaks game limit (ending_of Usual (events_of thin.interpreter game [] limit))
-  speaks = record { run = run; names = names (ending_of Usual (events_of thin.interpreter game [] limit)) refl }
+stops : (b c : Machine) → IsStop (vip Usual) b c → Stops b c (AtStop (stop_at c) (view_at Usual b).pc (view_at Usual b).opcode)
+unfolding view_at
+stops b c is = record {
+  stop = is.stop;
+  fits = is.fits;
+  halted = halted c _ is.stop is.halts;
+  named = ap (λ stop. AtStop stop (state_at b).pc (opcode_at Usual (state_at b))) (ap stop_numbered is.halts.number ∙ stop_numbered-number_of is.stop);
+}
+
+-- ---- the events of a run, by its points
+
+-- each next point comes from a dispatch point by the law
+abbrev AllNext : List KeyEvent → List Event → Type 0
+AllNext script points =
+    (k : ℕ) (b : Machine) (p : Event) → slice_get points k ≡ Some (Dispatch b) → slice_get points (suc k) ≡ Some p → IsNext (vip Usual) script b p
+
+goes_on : (script : List KeyEvent) (b : Machine) (events : List Event) → AllNext script (Dispatch b ∷ filter is_point events) → GoesOn script b events (ending_after Usual (view_at Usual b).pc (view_at Usual b).opcode events)
+unfolding ending_after
+goes_on script b [] next = refl
+goes_on script b (Picture m ∷ events) next = goes_on script b events next
+goes_on script b (Dispatch c ∷ events) next = (steps script b c (next 0 b (Dispatch c) refl refl), goes_on script c events (λ k. next (suc k)))
+goes_on script b (Stopped c ∷ events) next = stops b c (next 0 b (Stopped c) refl refl)
+
+-- the first point is as the law says
+abbrev FirstIs : List ℕ → List Event → Type 0
+FirstIs game points = (p : Event) → slice_get points 0 ≡ Some p → IsFirst (vip Usual) game p
+
+goes : (game : List ℕ) (script : List KeyEvent) (events : List Event) → FirstIs game (filter is_point events) → AllNext script (filter is_point events) → Goes game script events (ending_of Usual events)
+unfolding ending_after
+goes game script [] here next = refl
+goes game script (Picture m ∷ events) here next = goes game script events here next
+goes game script (Dispatch b ∷ events) here next = (stands b (first Usual game) (here (Dispatch b) refl), goes_on script b events next)
+goes game script (Stopped b ∷ events) here next = here (Stopped b) refl
+
+-- ---- when the next point comes
+
+comes_by : (events : List Event) (p : Event) → slice_get (filter is_point events) 0 ≡ Some p → (t : ℕ) → cycle_of p ≤ t → IsSomeAnd (next_point events) (λ c. c.cycle ≤ t)
+comes_by [] p is t low = absurd (cc)
+comes_by (Picture m ∷ events) p is t low = comes_by events p is t low
+comes_by (Dispatch b ∷ events) p is t low = let same : Dispatch b ≡ p = cc in subst (λ q. cycle_of q ≤ t) (sym same) low
+comes_by (Stopped b ∷ events) p is t low = let same : Stopped b ≡ p = cc in subst (λ q. cycle_of q ≤ t) (sym same) low
+
+-- behind each dispatch point the next point comes within the bound of the state there
+abbrev AllTimely : ℕ → List Event → Type 0
+AllTimely limit points =
+    (k : ℕ) (b : Machine) (bound : ℕ) → slice_get points k ≡ Some (Dispatch b) → bound_of Usual (state_at b) ≡ Some bound → b.cycle + bound ≤ limit
+    → (p : Event) × (slice_get points (suc k) ≡ Some p) × (cycle_of p ≤ b.cycle + bound)
+
+timely : (limit : ℕ) (before after : List Event) (b : Machine) (bound : ℕ) → AllTimely limit (filter is_point (before ++ Dispatch b ∷ after)) → bound_of Usual (state_at b) ≡ Some bound → ComesBy limit (b.cycle + bound) after
+timely limit [] after b bound all is room = let found = all 0 b bound refl is room in comes_by after found.0 found.1 (b.cycle + bound) found.2
+timely limit (Picture m ∷ before) after b bound all is room = timely limit before after b bound all is room
+timely limit (Dispatch c ∷ before) after b bound all is room = timely limit before after b bound (λ k. all (suc k)) is room
+timely limit (Stopped c ∷ before) after b bound all is room = timely limit before after b bound (λ k. all (suc k)) is room
+
+-- ---- a run
+
+module _ (game : List ℕ) (script : List KeyEvent) (limit : ℕ) (run : LanguageRun (vip Usual) game script limit) where
+  all_timely : AllTimely limit (filter is_point (events_in game script limit))
+  all_timely k b bound at is room = let found = run.bound k b bound at is room in (found.0, rw add-one at found.1, found.2)
+
+  by_law : IsChip8 game script limit (ending_of Usual (events_in game script limit))
+  by_law = record {
+    goes = goes game script (events_in game script limit) run.first (λ k b p at then. run.next k b p at (rw add-one then));
+    boot = λ room. let found = run.boot room in comes_by (events_in game script limit) found.0 found.1 boot_bound found.2;
+    bound = λ before after b bound at is. timely limit before after b bound (subst (λ events. AllTimely limit (filter is_point events)) at all_timely) is;
+  }
+
+module _ (law : EveryRun) where
+  is_chip8 : (game : List ℕ) (script : List KeyEvent) (limit : ℕ) → length game ≤ most_game → ((i : ℕ) → slice_index game i < 256) → IsChip8 game script limit (ending_of Usual (events_in game script limit))
+  is_chip8 game script limit fits bytes = by_law game script limit (law Usual game fits bytes script limit)
+
+  -- ---- a command
+
+  -- a run that comes to output
+  OfRun : List ℕ → List (List ℕ) → ℕ → Outcome → Type 0
+  OfRun game scripts limit (Refused status report) = Unit {0}
+  OfRun game scripts limit (Shown pieces status report) = RunIsChip8 game scripts limit status report
+
+  module _ (game : List ℕ) (fits : length game ≤ most_game) (bytes : (i : ℕ) → slice_index game i < 256) (limit : ℕ) (scripts : List (List ℕ)) (pieces : List KeyEvent → List (List ℕ)) where
+    run_shows : (o : Outcome) → RunComes game limit scripts pieces o → OfRun game scripts limit o
+    unfolding OfRun
+    run_shows _ (FaultyScript line cause is) = tt
+    run_shows _ (FaultyRom script fault is fault_is rom) = tt
+    run_shows _ (Runs script is rom) = record {
+      script = script;
+      reads = is;
+      ending = ending_of Usual (events_in game script limit);
+      run = is_chip8 game script limit fits bytes;
+      status_is = refl;
+      report_is = refl;
+    }
+
+  shows : (old : FilesMeaning) (asked : Asked) (contents pieces : List (List ℕ)) (status : Status) (report : List ℕ) → HasAll old (needed asked) contents → Comes asked contents (Shown pieces status report) → ShowsChip8 asked contents status report
+  unfolding OfRun
+  shows old (trace a) [] pieces status report read comes = tt
+  shows old (trace a) (game ∷ scripts) pieces status report read comes =
+      run_shows game read.0.fits read.0.bytes a.cycles scripts _ (Shown pieces status report) comes
+  shows old (play a) [] pieces status report read comes = tt
+  shows old (play a) (game ∷ scripts) pieces status report read comes =
+      run_shows game read.0.fits read.0.bytes a.cycles scripts _ (Shown pieces status report) comes
+  shows old (debug a) contents pieces status report read comes = tt
+  shows old (demo a) [] pieces status report read comes =
+      run_shows (demo_game a.number) (omega (arith, length-game a.number)) (bytes-game a.number) a.cycles [] _ (Shown pieces status report) comes
+  shows old (demo a) (c ∷ cs) pieces status report read comes = absurd comes
+  shows old (asm name) contents pieces status report read comes = tt
+  shows old (list name) contents pieces status report read comes = tt
+  shows old (dis a) contents pieces status report read comes = tt
+  shows old bounds contents pieces status report read comes = tt
+
+  pub speaks_chip8 : (call : Call) → SpeaksChip8 call
+  speaks_chip8 call asked contents pieces status report asks comes = shows call.files asked contents pieces status report asks.read comes

@@ -1,4 +1,7 @@
-pub mod ReadingLemmas
-pub mod TraceLemmas
+mod DemoLemmas
+pub mod CommandLemmas
+pub mod FilesLemmas
+mod LanguageLemmas
+mod ReportLemmas
 pub mod TopLemmas
-pub mod LanguageLemmas
+pub mod WordsLemmas

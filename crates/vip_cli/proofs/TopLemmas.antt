@@ -1,147 +1,389 @@
--- The laws of the answers, from what each answer says.
-use Rattle.std.proofs.Common.{◌≡◌, ℕ, ◌<◌, ◌≤◌, ◌⊎◌, inl, inr, List, Some, None, IfSome, IsSomeAnd, length, refl, sym, arith, ap, subst, ◌∙◌, Result, Ok, Err}
+-- The laws of the answers, from what each answer says, and what the steps of a call say together.
+use Rattle.std.proofs.Common.{◌≡◌, ℕ, ◌+◌, ◌<◌, ◌≤◌, ◌⊎◌, inl, inr, List, [], ◌∷◌, ◌++◌, Option, Some, None, IfSome, IsSomeAnd, length, ltb, false, true, refl, sym, ap, subst, ◌∙◌, arith, Result, Ok, Err}
+use Rattle.std.proofs.lemmas.Bool.{le-ltb, lt-ltb}
 use Rattle.std.specs.FinMap.{get}
+use Rattle.machine.specs.Keys.{Event as KeyEvent}
+use Rattle.chip8_image.specs.declared.image.TheConstants.{IMAGE}
+use Rattle.chip8_source.specs.Texts.{usual_text}
+use Rattle.asm_core.specs.Made.{Made, IsAssembly}
+use Rattle.asm_core.specs.Sources.{NoFault, IsFirstFault, HasFirstFault, source_lines}
+use Rattle.asm_core.specs.declared.fault.AsmCause.{AsmCause}
+use Rattle.rom_check.proofs.OneAnswer.{answers_agree}
+use Rattle.rom_check.specs.declared.fault.ImageFault.{ImageFault}
+use Rattle.rom_check.specs.declared.fault.ImageFault.TheVariants as image
 use Rattle.vip_outside.specs.Count.{Rose}
-use Rattle.vip_outside.specs.Files.{FilesMeaning, ReadFails, LacksName}
+use Rattle.vip_outside.specs.Files.{FileMap, FilesMeaning, LacksName, ReadFails}
 use Rattle.vip_outside.specs.Sink.{SinkMeaning, Gains, GainsPart, GainAnswers}
-use Rattle.vip_outside.specs.Pieces.{FailsWithin}
 use Rattle.vip_outside.specs.declared.sink.Failed.{Failed}
-use Rattle.vip_words.specs.Asked.{AskedTrace, asked_by}
-use Rattle.vip_words.specs.Asked.Asked.{trace}
+use Rattle.vip_show.specs.declared.run.RunEnd.TheVariants as run
+use Rattle.vip_words.specs.Asked.{Asked, trace, play, debug, demo, asm, list, dis, bounds}
+use Rattle.vip_cli.specs.Command.{ended_status, ended_report, Ends, Breaks, Rejected, OfWords, RefusesFile, CommandAnswers, UnderstoodAnswers, WordsAnswer}
+use Rattle.vip_cli.specs.Files.{Needed, needed, Has, HasAll, ComesTo, IsLarger, IsUnread, FilesAnswer}
+use Rattle.vip_cli.specs.Outcome.{Outcome, Comes, RunComes, SourceComes, RomIs, IsFault, script_in, understood}
+use Rattle.vip_cli.specs.Outcome.Outcome.{Refused, Shown}
+use Rattle.vip_cli.specs.Outcome.RunComes.{FaultyScript, FaultyRom, Runs}
+use Rattle.vip_cli.specs.Outcome.SourceComes.{FaultySource, Assembles}
+use Rattle.vip_cli.specs.Refusal.{image_status, status_of, too_large_status}
+use Rattle.vip_cli.specs.Report.{cannot_read, report_of, too_large_report}
+use Rattle.vip_cli.specs.Top.{Call, call_of, Reported, Refuses, Asks, Oversize, Rejects, Shows, Faulty, Says, IsQuiet, Reading, Lacks, Larger, Whole, with_content, reading_one, reading, Due, Lacking, TooLarge, Refusing, Showing, RefusesWords, Offers, GivesDue, AreRefused, Completes}
+use Rattle.vip_cli.specs.declared.command.Ended.{Ended}
+use Rattle.vip_cli.specs.declared.command.Ended.TheVariants.{Worked, Ran}
+use Rattle.vip_cli.specs.declared.refusal.Kind.{Kind}
+use Rattle.vip_cli.specs.declared.refusal.Kind.TheVariants as kind
+use Rattle.vip_cli.specs.declared.refusal.Refusal.{Refusal}
+use Rattle.vip_cli.specs.declared.refusal.Refusal.TheVariants as refusal
 use Rattle.vip_cli.specs.declared.status.Status.{Status}
-use Rattle.vip_cli.specs.declared.status.Status.TheVariants.{Done, Stopped, Usage, ReadFault, GameTooLarge, WriteFault, NoMemory}
-use Rattle.vip_cli.specs.Output.{Ending}
-use Rattle.vip_cli.specs.Output.Ending.{AtLimit, AtStop}
-use Rattle.vip_cli.specs.Top.{Call, Says, Asks, IsQuiet, RefusesWords, RefusesGame, Completes, Traces, most_game, status_of, ending_for, output_for, IsAtLimit, IsAtStop, Reported, Shows, Faulty}
-use Rattle.vip_cli.specs.Report.{end_report, write_fault}
-use Rattle.vip_cli.specs.Traced.{Traced, ending_in}
-use Rattle.vip_cli.specs.declared.trace.Ended.{Ended}
+use Rattle.vip_cli.specs.declared.status.Status.TheVariants.{Done, Stopped, Usage, ReadFault, GameTooLarge, ScriptTooLarge, BadScript, BadSource, BadRomSource, RomDiffers, WriteFault, NoMemory, SourceTooLarge}
 
--- words that are refused ask for nothing
-nothing_asked : (words : List (List ℕ)) (asked : AskedTrace) → asked_by words ≡ Some (trace asked) → asked_by words ≡ None → ⊥
-nothing_asked words asked some none = cc
+-- ---- one outcome
 
-pub refuses_words : (status : Status) (call : Call) → Says status call → RefusesWords status call
-refuses_words Done call says none = absurd (nothing_asked call.words says.asked says.traces.words none)
-refuses_words Stopped call says none = absurd (nothing_asked call.words says.asked says.traces.words none)
-refuses_words Usage call says none = inl refl
-refuses_words ReadFault call says none = absurd (nothing_asked call.words says.asked says.words none)
-refuses_words GameTooLarge call says none = absurd (nothing_asked call.words says.asked says.words none)
-refuses_words WriteFault call says none = absurd (nothing_asked call.words says.asked says.traces.words none)
-refuses_words NoMemory call says none = inr refl
+-- two outcomes are refusals with the same status, or output with the same status at its end
+abbrev Agree : Outcome → Outcome → Type 0
+Agree (Refused a r) (Refused b s) = a ≡ b
+Agree (Refused a r) (Shown p b s) = ⊥
+Agree (Shown p a r) (Refused b s) = ⊥
+Agree (Shown p a r) (Shown q b s) = a ≡ b
 
--- the words ask for one trace
-same_asked : (call : Call) (mine asked : AskedTrace) → asked_by call.words ≡ Some (trace mine) → asked_by call.words ≡ Some (trace asked) → mine ≡ asked
-same_asked call mine asked first second = let same : trace mine ≡ trace asked = cc in cc
+-- a fault of the ROM isn't want of memory
+not_memory : (f : ImageFault) → IsFault f → f ≡ image.NoMemory → ⊥
+not_memory image.NoMemory is none = is
+not_memory (image.BadRomSource line cause) is none = cc
+not_memory (image.RomDiffers address assembled here) is none = cc
 
--- and the game that ran is the one that the map has
-same_game : (call : Call) (mine asked : AskedTrace) (ran game : List ℕ) → Traces call mine ran → Asks call asked game → ran ≡ game
-same_game call mine asked ran game traces asks =
-    let same = same_asked call mine asked traces.words asks.words in
-    let there : get asks.files mine.game ≡ Some ran = rw asks.told at traces.found in
-    let found : get asks.files mine.game ≡ Some game = rw same asks.found in
-    let both : Some ran ≡ Some game = sym there ∙ found in
-    cc
+-- a ROM differs from what its source gives in one way, or not at all
+rom_is_one : (e f : ImageFault) → IsFault e → IsFault f → RomIs (Err e) → RomIs (Err f) → image_status e ≡ image_status f
+rom_is_one e f is_e is_f a b =
+    elim (answers_agree (source_lines usual_text) IMAGE (Err e) (Err f) a b) [
+      | inl same ↦ let faults : e ≡ f = cc in ap image_status faults
+      | inr (inl none) ↦ absurd (not_memory e is_e (cc))
+      | inr (inr none) ↦ absurd (not_memory f is_f (cc))
+    ]
+
+rom_is_fine_or_not : (f : ImageFault) → IsFault f → RomIs (Ok tt) → RomIs (Err f) → ⊥
+rom_is_fine_or_not f is a b =
+    elim (answers_agree (source_lines usual_text) IMAGE (Ok tt) (Err f) a b) [
+      | inl same ↦ cc
+      | inr (inl none) ↦ cc
+      | inr (inr none) ↦ not_memory f is (cc)
+    ]
+
+-- the runs of one game come to one outcome
+module _ (game : List ℕ) (limit : ℕ) (scripts : List (List ℕ)) (pieces : List KeyEvent → List (List ℕ)) where
+  runs_agree : (o p : Outcome) → RunComes game limit scripts pieces o → RunComes game limit scripts pieces p → Agree o p
+  runs_agree _ _ (FaultyScript l c a) (FaultyScript m d b) = refl
+  runs_agree _ _ (FaultyScript l c a) (FaultyRom t f b is rom) = cc
+  runs_agree _ _ (FaultyScript l c a) (Runs t b rom) = cc
+  runs_agree _ _ (FaultyRom s e a is rom) (FaultyScript m d b) = cc
+  runs_agree _ _ (FaultyRom s e a is rom) (FaultyRom t f b is' rom') = rom_is_one e f is is' rom rom'
+  runs_agree _ _ (FaultyRom s e a is rom) (Runs t b rom') = rom_is_fine_or_not e is rom' rom
+  runs_agree _ _ (Runs s a rom) (FaultyScript m d b) = cc
+  runs_agree _ _ (Runs s a rom) (FaultyRom t f b is rom') = rom_is_fine_or_not f is rom rom'
+  runs_agree _ _ (Runs s a rom) (Runs t b rom') = let same : s ≡ t = cc in cc
+
+no_fault : (f : ℕ → Option AsmCause) (n i : ℕ) (c : AsmCause) → NoFault f n → IsFirstFault f n i c → ⊥
+no_fault f n i c none first = let here = none i first.inside in let there = first.here in cc
+
+assembles_or_not : (source : List (List ℕ)) (made : Made) (line : ℕ) (cause : AsmCause) → IsAssembly source made → HasFirstFault source line cause → ⊥
+assembles_or_not source made line cause fine (i, at, inl first) = no_fault _ _ i cause fine.no_fault_1 first
+assembles_or_not source made line cause fine (i, at, inr first) = no_fault _ _ i cause fine.no_fault_2 first.1
+
+module _ (source : List ℕ) (IsText : Made → List ℕ → Type 0) where
+  sources_agree : (o p : Outcome) → SourceComes source IsText o → SourceComes source IsText p → Agree o p
+  sources_agree _ _ (FaultySource l c a) (FaultySource m d b) = refl
+  sources_agree _ _ (FaultySource l c a) (Assembles made text b is) = assembles_or_not (source_lines source) made l c b a
+  sources_agree _ _ (Assembles made text a is) (FaultySource m d b) = assembles_or_not (source_lines source) made m d a b
+  sources_agree _ _ (Assembles made text a is) (Assembles made' text' b is') = refl
+
+-- one text alone
+texts_agree : (q o p : Outcome) → Agree q q → o ≡ q → p ≡ q → Agree o p
+texts_agree q o p same a b = rw (a, b) same
+
+-- a command comes to one outcome by the contents of its files
+agree : (asked : Asked) (contents : List (List ℕ)) (o p : Outcome) → Comes asked contents o → Comes asked contents p → Agree o p
+agree (trace a) [] o p x y = absurd x
+agree (trace a) (game ∷ scripts) o p x y = runs_agree game a.cycles scripts _ o p x y
+agree (play a) [] o p x y = absurd x
+agree (play a) (game ∷ scripts) o p x y = runs_agree game a.cycles scripts _ o p x y
+agree (debug a) contents o p x y = absurd x
+agree (demo a) [] o p x y = runs_agree _ a.cycles [] _ o p x y
+agree (demo a) (c ∷ cs) o p x y = absurd x
+agree (asm name) [] o p x y = absurd x
+agree (asm name) (source ∷ []) o p x y = sources_agree source _ o p x y
+agree (asm name) (source ∷ c ∷ cs) o p x y = absurd x
+agree (list name) [] o p x y = absurd x
+agree (list name) (source ∷ []) o p x y = sources_agree source _ o p x y
+agree (list name) (source ∷ c ∷ cs) o p x y = absurd x
+agree (dis a) [] o p x y = absurd x
+agree (dis a) (bytes ∷ []) o p x y = texts_agree _ o p refl x y
+agree (dis a) (bytes ∷ c ∷ cs) o p x y = absurd x
+agree bounds [] o p x y = texts_agree _ o p refl x y
+agree bounds (c ∷ cs) o p x y = absurd x
+
+-- ---- one reading
+
+module _ (old : FilesMeaning) (files : FileMap) (told : old.told ≡ Some files) where
+  -- files that were read whole, before others
+  reads : (ns : List Needed) (cs : List (List ℕ)) → HasAll old ns cs → reading files ns ≡ Whole cs
+  reads [] [] h = refl
+  reads [] (c ∷ cs) h = absurd h
+  reads (n ∷ ns) [] h = absurd h
+  reads (n ∷ ns) (c ∷ cs) h =
+      let found : get files n.name ≡ Some c = rw told at h.0.found in
+      rw (found, le-ltb n.most (length c) h.0.fits, reads ns cs h.1) refl
+
+  -- a refusal behind them
+  behind : (r : Reading) → ((content : List ℕ) → with_content content r ≡ r) → (before : List Needed) (cs : List (List ℕ)) (rest : List Needed) → HasAll old before cs → reading files rest ≡ r → reading files (before ++ rest) ≡ r
+  behind r stays [] [] rest h e = e
+  behind r stays [] (c ∷ cs) rest h e = absurd h
+  behind r stays (n ∷ ns) [] rest h e = absurd h
+  behind r stays (n ∷ ns) (c ∷ cs) rest h e =
+      let found : get files n.name ≡ Some c = rw told at h.0.found in
+      rw (found, le-ltb n.most (length c) h.0.fits, behind r stays ns cs rest h.1 e) (stays c)
+
+  lacks : (n : Needed) (ns : List Needed) → IsSomeAnd old.told (λ fs. get fs n.name ≡ None) → reading files (n ∷ ns) ≡ Lacks
+  lacks n ns absent = let none : get files n.name ≡ None = rw told at absent in rw none refl
+
+  larger : (n : Needed) (ns : List Needed) → IsLarger old n → reading files (n ∷ ns) ≡ Larger n.kind
+  larger n ns large = go (get files n.name) refl (rw told at large)
+    where
+      go : (found : Option (List ℕ)) → get files n.name ≡ found → IsSomeAnd found (λ content. n.most < length content) → reading files (n ∷ ns) ≡ Larger n.kind
+      go None e h = absurd h
+      go (Some content) e h = rw (e, lt-ltb n.most (length content) h) refl
+
+-- ---- when the answers come
 
 -- no fault was counted, so there was none
 quiet : (old new : ℕ) → Rose old new → IsQuiet old new → ⊥
 quiet old new rose calm = omega (arith, rose.counted, calm.below, calm.same)
 
--- the map has the game that was asked for
-not_lacking : (call : Call) (mine asked : AskedTrace) (game : List ℕ) → asked_by call.words ≡ Some (trace mine) → LacksName mine.game call.files call.files' → Asks call asked game → ⊥
-not_lacking call mine asked game words lacks asks =
-    let same = same_asked call mine asked words asks.words in
-    let none : get asks.files mine.game ≡ None = rw asks.told at lacks.absent in
-    let some : get asks.files mine.game ≡ Some game = rw same asks.found in
-    cc
+-- words that are refused ask for nothing
+nothing_asked : (words : List (List ℕ)) (asked : Asked) → understood words ≡ Some asked → understood words ≡ None → ⊥
+nothing_asked words asked some none = cc
 
--- the game that was refused is above the size
-too_large : (call : Call) (mine asked : AskedTrace) (game : List ℕ) → asked_by call.words ≡ Some (trace mine) → IfSome call.files.told (λ files. IsSomeAnd (get files mine.game) (λ found. most_game < length found)) → Asks call asked game → most_game < length game
-too_large call mine asked game words above asks =
-    let same = same_asked call mine asked words asks.words in
-    let some : get asks.files mine.game ≡ Some game = rw same asks.found in
-    rw (asks.told, some) at above
+pub refuses_words : (status : Status) (call : Call) → Says status call → RefusesWords status call
+refuses_words Done call says none = absurd (nothing_asked call.words says.asked says.asks.words none)
+refuses_words Stopped call says none = absurd (nothing_asked call.words says.asked says.asks.words none)
+refuses_words Usage call says none = inl refl
+refuses_words ReadFault call says none = absurd (nothing_asked call.words says.asked says.words none)
+refuses_words GameTooLarge call says none = absurd (nothing_asked call.words says.asked says.words none)
+refuses_words ScriptTooLarge call says none = absurd (nothing_asked call.words says.asked says.words none)
+refuses_words BadScript call says none = absurd (nothing_asked call.words says.asked says.asks.words none)
+refuses_words BadSource call says none = absurd (nothing_asked call.words says.asked says.asks.words none)
+refuses_words BadRomSource call says none = absurd (nothing_asked call.words says.asked says.asks.words none)
+refuses_words RomDiffers call says none = absurd (nothing_asked call.words says.asked says.asks.words none)
+refuses_words WriteFault call says none = absurd (nothing_asked call.words says.asked says.asks.words none)
+refuses_words NoMemory call says none = inr refl
+refuses_words SourceTooLarge call says none = absurd (nothing_asked call.words says.asked says.words none)
 
--- a game that ran is not too large
-not_above : (call : Call) (mine asked : AskedTrace) (ran game : List ℕ) → Traces call mine ran → Asks call asked game → most_game < length game → ⊥
-not_above call mine asked ran game traces asks above = let same = same_game call mine asked ran game traces asks in omega (arith, traces.fits, ap length same)
+module _ (call : Call) (asked : Asked) (files : FileMap) (offers : Offers call asked files) where
+  same : (mine : Asked) → understood call.words ≡ Some mine → mine ≡ asked
+  same mine words = let there = offers.words in let both : Some mine ≡ Some asked = cc in cc
 
-pub refuses_game : (status : Status) (call : Call) → Says status call → RefusesGame status call
-refuses_game Done call says asked game asks above = absurd (not_above call says.asked asked says.game game says.traces asks above)
-refuses_game Stopped call says asked game asks above = absurd (not_above call says.asked asked says.game game says.traces asks above)
-refuses_game Usage call says asked game asks above = absurd (nothing_asked call.words asked asks.words says.words)
-refuses_game ReadFault call says asked game asks above =
-    elim says.cause [
-      | inl fails ↦ absurd (quiet _ _ fails.faults asks.read)
-      | inr lacks ↦ absurd (not_lacking call says.asked asked game says.words lacks asks)
-    ]
-refuses_game GameTooLarge call says asked game asks above = inl refl
-refuses_game WriteFault call says asked game asks above = absurd (not_above call says.asked asked says.game game says.traces asks above)
-refuses_game NoMemory call says asked game asks above = inr refl
+  -- what was read, what was larger, and that no name was lacking
+  whole : (mine : Asked) (contents : List (List ℕ)) → Asks call mine contents → reading files (needed asked) ≡ Whole contents
+  whole mine contents asks =
+      subst (λ a. reading files (needed a) ≡ Whole contents) (same mine asks.words) (reads call.files files offers.told (needed mine) contents asks.read)
 
-done_at : (end : Ending) → IsAtLimit end → Done ≡ status_of end
-done_at AtLimit at = refl
-done_at (AtStop stop pc opcode) at = absurd at
+  comes_here : (mine : Asked) (contents : List (List ℕ)) (o : Outcome) → Asks call mine contents → Comes mine contents o → Comes asked contents o
+  comes_here mine contents o asks comes = subst (λ a. Comes a contents o) (same mine asks.words) comes
 
-stopped_at : (end : Ending) → IsAtStop end → Stopped ≡ status_of end
-stopped_at AtLimit at = absurd at
-stopped_at (AtStop stop pc opcode) at = refl
+  -- what was refused at a file
+  refused_at : (Here : Needed → Type 0) (r : Reading) → ((content : List ℕ) → with_content content r ≡ r) → (mine : Asked) → understood call.words ≡ Some mine → (at : ComesTo call.files (needed mine) Here) → reading files (at.this ∷ at.after) ≡ r → reading files (needed asked) ≡ r
+  refused_at Here r stays mine words at e =
+      subst (λ a. reading files (needed a) ≡ r) (same mine words)
+      (rw at.place (behind call.files files offers.told r stays at.before at.contents (at.this ∷ at.after) at.read e))
 
--- the ending of what ran is that of what was asked for
-same_ending : (call : Call) (mine asked : AskedTrace) (ran game : List ℕ) → Traces call mine ran → Asks call asked game → status_of (ending_for mine ran) ≡ status_of (ending_for asked game)
-same_ending call mine asked ran game traces asks =
-    let words = same_asked call mine asked traces.words asks.words in
-    let same = same_game call mine asked ran game traces asks in
-    ap (λ a. status_of (ending_for a ran)) words ∙ ap (λ g. status_of (ending_for asked g)) same
+  -- what is due where a name lacks, and where a file is larger
+  due_lacks : (r : Reading) (due : Status) → Due call asked r due → r ≡ Lacks → due ≡ ReadFault
+  due_lacks _ _ Lacking e = refl
+  due_lacks _ _ (TooLarge k) e = cc
+  due_lacks _ _ (Refusing contents status report comes) e = cc
+  due_lacks _ _ (Showing contents pieces status report comes out err) e = cc
+
+  due_larger : (r : Reading) (due : Status) → Due call asked r due → (k : Kind) → r ≡ Larger k → due ≡ too_large_status k
+  due_larger _ _ Lacking k e = cc
+  due_larger _ _ (TooLarge j) k e = let kinds : j ≡ k = cc in ap too_large_status kinds
+  due_larger _ _ (Refusing contents status report comes) k e = cc
+  due_larger _ _ (Showing contents pieces status report comes out err) k e = cc
+
+  -- what is due where all contents came to an outcome
+  DueBy : Outcome → Status → Type 0
+  DueBy (Refused status report) due = due ≡ status
+  DueBy (Shown pieces status report) due = (due ≡ status) × IsQuiet call.out.faults call.out'.faults × IsQuiet call.err.faults call.err'.faults
+
+  due_refused : (status : Status) (report : List ℕ) (o : Outcome) → Agree (Refused status report) o → DueBy o status
+  unfolding DueBy
+  due_refused status report (Refused s r) e = e
+  due_refused status report (Shown p s r) e = absurd e
+
+  due_shown : (pieces : List (List ℕ)) (status : Status) (report : List ℕ) (o : Outcome) → IsQuiet call.out.faults call.out'.faults → IsQuiet call.err.faults call.err'.faults → Agree (Shown pieces status report) o → DueBy o status
+  unfolding DueBy
+  due_shown pieces status report (Refused s r) out err e = absurd e
+  due_shown pieces status report (Shown p s r) out err e = (e, out, err)
+
+  due_whole : (r : Reading) (due : Status) → Due call asked r due → (cs : List (List ℕ)) (o : Outcome) → r ≡ Whole cs → Comes asked cs o → DueBy o due
+  due_whole _ _ Lacking cs o e comes = absurd (cc)
+  due_whole _ _ (TooLarge k) cs o e comes = absurd (cc)
+  due_whole _ _ (Refusing contents status report given) cs o e comes =
+      let read : contents ≡ cs = cc in
+      due_refused status report o (agree asked cs (Refused status report) o (subst (λ c. Comes asked c (Refused status report)) read given) comes)
+  due_whole _ _ (Showing contents pieces status report given out err) cs o e comes =
+      let read : contents ≡ cs = cc in
+      due_shown pieces status report o out err (agree asked cs (Shown pieces status report) o (subst (λ c. Comes asked c (Shown pieces status report)) read given) comes)
+
+  module _ (due : Status) (given : Due call asked (reading files (needed asked)) due) where
+    shows_due : (status : Status) → Shows status call → (status ≡ due) ⊎ (status ≡ NoMemory)
+    unfolding DueBy
+    shows_due status says =
+        inl (sym (due_whole _ due given says.contents (Shown says.pieces status says.report) (whole says.asked says.contents says.asks) (comes_here says.asked says.contents _ says.asks says.comes)).0)
+
+    rejects_due : (status : Status) → Rejects status call → (status ≡ due) ⊎ (status ≡ NoMemory)
+    unfolding DueBy
+    rejects_due status says =
+        inl (sym (due_whole _ due given says.contents (Refused status says.report) (whole says.asked says.contents says.asks) (comes_here says.asked says.contents _ says.asks says.comes)))
+
+    faulty_due : Faulty call → ⊥
+    unfolding DueBy
+    faulty_due says =
+        let calm = due_whole _ due given says.contents (Shown says.pieces says.status says.report) (whole says.asked says.contents says.asks) (comes_here says.asked says.contents _ says.asks says.comes) in
+        elim says.fault [
+          | inl fails ↦ quiet _ _ fails.out.faults calm.1
+          | inr fails ↦ quiet _ _ fails.err.faults calm.2
+        ]
+
+  -- a file that could not be read lacks from the map; one that is larger is so there
+  unread_here : (says : Says ReadFault call) → reading files (needed asked) ≡ Lacks
+  unread_here says =
+      elim says.at.here.0 [
+        | inl fails ↦ absurd (quiet _ _ fails.faults offers.quiet)
+        | inr lack ↦ refused_at _ Lacks (λ content. refl) says.asked says.words says.at (lacks call.files files offers.told says.at.this says.at.after lack.absent)
+      ]
+
+  larger_here : (status : Status) (says : Oversize status call) → reading files (needed asked) ≡ Larger says.at.this.kind
+  larger_here status says =
+      refused_at _ (Larger says.at.this.kind) (λ content. refl) says.asked says.words says.at (larger call.files files offers.told says.at.this says.at.after says.at.here.0)
+
+  oversize_due : (due : Status) → Due call asked (reading files (needed asked)) due → (status : Status) → Oversize status call → (status ≡ due) ⊎ (status ≡ NoMemory)
+  oversize_due due given status says = inl (says.at.here.1 ∙ sym (due_larger _ due given says.at.this.kind (larger_here status says)))
+
+  due_is : (status : Status) → Says status call → (due : Status) → Due call asked (reading files (needed asked)) due → (status ≡ due) ⊎ (status ≡ NoMemory)
+  due_is Done says due given = shows_due due given Done says
+  due_is Stopped says due given = shows_due due given Stopped says
+  due_is Usage says due given = absurd (nothing_asked call.words asked offers.words says.words)
+  due_is ReadFault says due given = inl (sym (due_lacks _ due given (unread_here says)))
+  due_is GameTooLarge says due given = oversize_due due given GameTooLarge says
+  due_is ScriptTooLarge says due given = oversize_due due given ScriptTooLarge says
+  due_is BadScript says due given = rejects_due due given BadScript says
+  due_is BadSource says due given = rejects_due due given BadSource says
+  due_is BadRomSource says due given = rejects_due due given BadRomSource says
+  due_is RomDiffers says due given = rejects_due due given RomDiffers says
+  due_is WriteFault says due given = absurd (faulty_due due given says)
+  due_is NoMemory says due given = inr refl
+  due_is SourceTooLarge says due given = oversize_due due given SourceTooLarge says
+
+  module _ (contents : List (List ℕ)) (there : reading files (needed asked) ≡ Whole contents) (accepted : ¬ AreRefused asked contents) where
+    not_rejected : (status : Status) → Rejects status call → ⊥
+    not_rejected status says =
+        let read = whole says.asked says.contents says.asks in
+        let same_contents : says.contents ≡ contents = cc in
+        accepted (status, says.report, subst (λ c. Comes asked c (Refused status says.report)) same_contents (comes_here says.asked says.contents _ says.asks says.comes))
+
+    not_larger : (status : Status) → Oversize status call → ⊥
+    not_larger status says = let large = larger_here status says in cc
+
+    ends : (status : Status) → Says status call → IsQuiet call.out.faults call.out'.faults → IsQuiet call.err.faults call.err'.faults → (status ≡ Done) ⊎ (status ≡ Stopped) ⊎ (status ≡ NoMemory)
+    ends Done says out err = inl refl
+    ends Stopped says out err = inr (inl refl)
+    ends Usage says out err = absurd (nothing_asked call.words asked offers.words says.words)
+    ends ReadFault says out err = let none = unread_here says in absurd (cc)
+    ends GameTooLarge says out err = absurd (not_larger GameTooLarge says)
+    ends ScriptTooLarge says out err = absurd (not_larger ScriptTooLarge says)
+    ends BadScript says out err = absurd (not_rejected BadScript says)
+    ends BadSource says out err = absurd (not_rejected BadSource says)
+    ends BadRomSource says out err = absurd (not_rejected BadRomSource says)
+    ends RomDiffers says out err = absurd (not_rejected RomDiffers says)
+    ends WriteFault says out err =
+        elim says.fault [
+          | inl fails ↦ absurd (quiet _ _ fails.out.faults out)
+          | inr fails ↦ absurd (quiet _ _ fails.err.faults err)
+        ]
+    ends NoMemory says out err = inr (inr refl)
+    ends SourceTooLarge says out err = absurd (not_larger SourceTooLarge says)
+
+pub gives_due : (status : Status) (call : Call) → Says status call → GivesDue status call
+gives_due status call says asked files due offers given = due_is call asked files offers status says due given
 
 pub completes : (status : Status) (call : Call) → Says status call → Completes status call
-completes Done call says asked game asks fits out err =
-    inr (done_at _ says.ends ∙ same_ending call says.asked asked says.game game says.traces asks)
-completes Stopped call says asked game asks fits out err =
-    inr (stopped_at _ says.ends ∙ same_ending call says.asked asked says.game game says.traces asks)
-completes Usage call says asked game asks fits out err = absurd (nothing_asked call.words asked asks.words says.words)
-completes ReadFault call says asked game asks fits out err =
-    elim says.cause [
-      | inl fails ↦ absurd (quiet _ _ fails.faults asks.read)
-      | inr lacks ↦ absurd (not_lacking call says.asked asked game says.words lacks asks)
-    ]
-completes GameTooLarge call says asked game asks fits out err =
-    let above = too_large call says.asked asked game says.words says.game asks in absurd (omega arith)
-completes WriteFault call says asked game asks fits out err =
-    elim says.fault [
-      | inl fails ↦ absurd (quiet _ _ fails.out.faults out)
-      | inr fails ↦ absurd (quiet _ _ fails.err.faults err)
-    ]
-completes NoMemory call says asked game asks fits out err = inl refl
+completes status call says asked files contents offers there accepted out err = ends call asked files offers contents there accepted status says out err
 
--- ---- what the steps of a run say together
+-- ---- what the steps of a call say together
 
 -- the report, whether it went out whole or not
-pub reported : (report : List ℕ) (call : Call) (r : Result (Unit {0}) Failed) → GainAnswers report call.err call.err' r → Reported report call
-reported report call (Ok done) gains = inl gains
-reported report call (Err e) part = inr part
+reported : (report : List ℕ) (err err' : SinkMeaning) (r : Result (Unit {0}) Failed) → GainAnswers report err err' r → Gains report err err' ⊎ GainsPart report err err'
+reported report err err' (Ok done) gains = inl gains
+reported report err err' (Err e) part = inr part
 
-module _ (call : Call) (asked : AskedTrace) (game : List ℕ) (traces : Traces call asked game) where
-  pub shows : (Ends : Ending → Type 0) (ended : Ended) → Ends (ending_in ended) → Traced game asked.cycles asked.at call.out call.out' ended → Gains (end_report asked.cycles (ending_in ended)) call.err call.err' → Shows call Ends
-  shows Ends ended ends traced gains = record {
-    asked = asked;
-    game = game;
-    traces = traces;
-    ends = subst Ends traced.ending ends;
-    out = traced.lines;
-    err = subst (λ (end : Ending). Gains (end_report asked.cycles end) call.err call.err') traced.ending gains;
+-- what holds at the same file
+there_too : (old : FilesMeaning) (ns : List Needed) (Here There : Needed → Type 0) (at : ComesTo old ns Here) → There at.this → ComesTo old ns There
+there_too old ns Here There at that = record {
+  before = at.before;
+  this = at.this;
+  after = at.after;
+  place = at.place;
+  contents = at.contents;
+  read = at.read;
+  here = that;
+}
+
+module _ (words : List (List ℕ)) (files files' : FilesMeaning) (out out' err err' : SinkMeaning) where
+  rejected : (r : Refusal) → OfWords words files (λ asked contents. Rejected asked contents out out' r) → Gains (report_of r) err err' ⊎ GainsPart (report_of r) err err' → Rejects (status_of r) (call_of words files files' out out' err err')
+  rejected r given report = record {
+    asked = given.asked;
+    contents = given.contents;
+    asks = record { words = given.words_are; read = given.read };
+    report = report_of r;
+    comes = given.here.comes;
+    refused = record { out = given.here.out; err = report };
   }
 
-  pub report_fails : (ended : Ended) → Traced game asked.cycles asked.at call.out call.out' ended → GainsPart (end_report asked.cycles (ending_in ended)) call.err call.err' → Faulty call
-  report_fails ended traced part = record {
-    asked = asked;
-    game = game;
-    traces = traces;
-    fault = inr (record {
-      out = traced.lines;
-      err = subst (λ (end : Ending). GainsPart (end_report asked.cycles end) call.err call.err') traced.ending part;
-    });
+  oversize : (k : Kind) → WordsAnswer words files files' out out' (Err (refusal.TooLarge k)) → Gains (too_large_report k) err err' ⊎ GainsPart (too_large_report k) err err' → Oversize (too_large_status k) (call_of words files files' out out' err err')
+  oversize k given report = record {
+    asked = given.asked;
+    words = given.words_are;
+    at =
+        there_too files (needed given.asked) _ _ given.at
+        (given.at.here.1, ap too_large_status given.at.here.0, record { out = given.out; err = subst (λ j. Gains (too_large_report j) err err' ⊎ GainsPart (too_large_report j) err err') given.at.here.0 report });
   }
 
-  pub output_fails : FailsWithin (output_for asked game) call.out call.out' → Reported write_fault call → Faulty call
-  output_fails fails report = record { asked = asked; game = game; traces = traces; fault = inl (record { out = fails; err = report }) }
+  -- a refusal, or a fault of the output
+  refused_with : (r : Refusal) → WordsAnswer words files files' out out' (Err r) → Gains (report_of r) err err' ⊎ GainsPart (report_of r) err err' → Says (status_of r) (call_of words files files' out out' err err')
+  refused_with refusal.Usage given report = record { words = given.0; refused = record { out = given.1; err = report } }
+  refused_with (refusal.Unread name) given report = record {
+    asked = given.asked;
+    words = given.words_are;
+    at =
+        there_too files (needed given.asked) _ _ given.at
+        (given.at.here.1, record { out = given.out; err = subst (λ n. Gains (cannot_read n) err err' ⊎ GainsPart (cannot_read n) err err') given.at.here.0 report });
+  }
+  refused_with (refusal.TooLarge kind.Game) given report = oversize kind.Game given report
+  refused_with (refusal.TooLarge kind.Script) given report = oversize kind.Script given report
+  refused_with (refusal.TooLarge kind.Source) given report = oversize kind.Source given report
+  refused_with (refusal.Script line cause) given report = rejected (refusal.Script line cause) given report
+  refused_with (refusal.Source line cause) given report = rejected (refusal.Source line cause) given report
+  refused_with (refusal.Rom (image.BadRomSource line cause)) given report = rejected (refusal.Rom (image.BadRomSource line cause)) given report
+  refused_with (refusal.Rom (image.RomDiffers address assembled here)) given report = rejected (refusal.Rom (image.RomDiffers address assembled here)) given report
+  refused_with (refusal.Rom image.NoMemory) given report = record { out = given.here.out; err = report }
+  refused_with refusal.Write given report = record {
+    asked = given.asked;
+    contents = given.contents;
+    asks = record { words = given.words_are; read = given.read };
+    pieces = given.here.pieces;
+    status = given.here.status;
+    report = given.here.report;
+    comes = given.here.comes;
+    fault = inl (record { out = given.here.fails; err = report });
+  }
+  refused_with refusal.NoMemory given report = record { out = given; err = report }
+
+  pub says_refusal : (r : Refusal) (answer : Result (Unit {0}) Failed) → WordsAnswer words files files' out out' (Err r) → GainAnswers (report_of r) err err' answer → Says (status_of r) (call_of words files files' out out' err err')
+  says_refusal r answer given gains = refused_with r given (reported _ err err' answer gains)

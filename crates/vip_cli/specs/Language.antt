@@ -1,33 +1,104 @@
--- What the run of a game says of the language: it is a run of CHIP-8, as far as the ROM knows it, and a report of a stop names the stop of
--- its last state.
-use Rattle.std.specs.Prelude.{◌≡◌, ℕ, ◌+◌, List, [], Option, Some, slice_get}
+-- What the run of a game says of the language: it is a run of CHIP-8, and a stop names its instruction.
+use Rattle.std.specs.Prelude.{◌≡◌, ℕ, ◌+◌, ◌≤◌, List, [], ◌∷◌, ◌++◌, Option, Some, None, IsSomeAnd, Ok}
 use Rattle.machine.specs.Board.{Machine}
+use Rattle.machine.specs.Keys.{Event as KeyEvent}
 use Rattle.chip8_lang.specs.declared.view.Edition.TheVariants.{Usual}
 use Rattle.chip8_lang.specs.declared.view.Stop.{Stop}
-use Rattle.chip8_lang.specs.Events.Event.{Dispatch, Stopped}
-use Rattle.chip8_lang.specs.Places.{state_of}
+use Rattle.chip8_lang.specs.State.{Lang, first}
+use Rattle.chip8_lang.specs.Step.{stop_of}
+use Rattle.chip8_lang.specs.Ticks.{ticks}
+use Rattle.chip8_lang.specs.Between.{Between, ticks_between, keys_between}
+use Rattle.chip8_lang.specs.Bounds.{boot_bound, bound_of}
+use Rattle.chip8_lang.specs.Places.{state_of, Stands, Halted}
+use Rattle.chip8_lang.specs.Events.{Event}
+use Rattle.chip8_lang.specs.Events.Event.{Picture, Dispatch, Stopped}
 use Rattle.chip8_lang.specs.View.{opcode_at}
-use Rattle.rom_law.specs.Runs.{LanguageRun, points_of}
-use Rattle.thin_rom.specs.Thin.{thin}
-use Rattle.vip_cli.specs.Output.{Ending}
-use Rattle.vip_cli.specs.Output.Ending.{AtLimit, AtStop}
+use Rattle.vip_relation.specs.Interpreters.{interpreter_of}
+use Rattle.vip_show.specs.Endings.{Ending}
+use Rattle.vip_show.specs.Endings.Ending.{AtLimit, AtStop}
+use Rattle.vip_words.specs.Asked.{Asked, trace, play, demo}
+use Rattle.vip_cli.specs.Demo.{demo_game}
+use Rattle.vip_cli.specs.Outcome.{script_in, events_in, end_status}
+use Rattle.vip_cli.specs.Report.{end_report}
+use Rattle.vip_cli.specs.declared.status.Status.{Status}
 
--- the stop is the one that fits the language state at the last dispatch point, with the pc and the opcode of that state
-pub record NamesStop (game : List ℕ) (limit : ℕ) (stop : Stop) (pc : ℕ) (opcode : Option ℕ) : Type 0 where
-  pub k : ℕ
-  pub last : Machine
-  pub end : Machine
-  pub dispatch : slice_get (points_of thin game [] limit) k ≡ Some (Dispatch last)
-  pub stopped : slice_get (points_of thin game [] limit) (k + 1) ≡ Some (Stopped end)
-  pub fits : thin.stop_of (state_of Usual last) ≡ Some stop
-  pub pc_is : pc ≡ (state_of Usual last).pc
-  pub opcode_is : opcode ≡ opcode_at Usual (state_of Usual last)
+-- ---- from one event to the next
 
-abbrev pub Names : List ℕ → ℕ → Ending → Type 0
-Names game limit AtLimit = Unit {0}
-Names game limit (AtStop stop pc opcode) = NamesStop game limit stop pc opcode
+-- the language state that is read off the board
+abbrev pub state_at : Machine → Lang
+state_at b = state_of Usual b
 
--- the run of a game up to a limit, which ends so
-pub record Speaks (game : List ℕ) (limit : ℕ) (ending : Ending) : Type 0 where
-  pub run : LanguageRun thin game [] limit
-  pub names : Names game limit ending
+-- the board stands for this language state at a dispatch point, and it halted at a stop point with this one and this stop
+abbrev pub StandsFor : Machine → Lang → Type 0
+StandsFor b s = Stands Usual (interpreter_of Usual) b s
+
+abbrev pub HaltedWith : Machine → Lang → Stop → Type 0
+HaltedWith b s stop = Halted Usual (interpreter_of Usual) b s stop
+
+-- From the dispatch point b to the next, c, there is one step of the language, with the timer ticks and the sets of keys of the cycles
+-- between.
+pub record Steps (script : List KeyEvent) (b c : Machine) : Type 0 where
+  pub stands : StandsFor c (state_at c)
+  pub between : Between Usual (state_at b) (ticks_between b.cycle c.cycle) (keys_between script b.cycle c.cycle) (state_at c)
+
+-- Behind the dispatch point b the run stops at c: with the stop that fits the state at b, which lies there after the ticks between. The
+-- ending names that stop, with the pc and the opcode of that state; a state of which the opcode can't be fetched has none.
+pub record Stops (b c : Machine) (ending : Ending) : Type 0 where
+  pub stop : Stop
+  pub fits : stop_of Usual (state_at b) ≡ Some stop
+  pub halted : HaltedWith c (ticks (ticks_between b.cycle c.cycle) (state_at b)) stop
+  pub named : ending ≡ AtStop stop (state_at b).pc (opcode_at Usual (state_at b))
+
+-- ---- a run
+
+-- the events behind a dispatch point are those of a run of the language, with this ending
+abbrev pub GoesOn : List KeyEvent → Machine → List Event → Ending → Type 0
+GoesOn script b [] ending = ending ≡ AtLimit
+GoesOn script b (Picture m ∷ events) ending = GoesOn script b events ending
+GoesOn script b (Dispatch c ∷ events) ending = Steps script b c × GoesOn script c events ending
+GoesOn script b (Stopped c ∷ events) ending = Stops b c ending
+
+-- so are those from reset on: at the first dispatch point the board stands for the game's first state
+abbrev pub Goes : List ℕ → List KeyEvent → List Event → Ending → Type 0
+Goes game script [] ending = ending ≡ AtLimit
+Goes game script (Picture m ∷ events) ending = Goes game script events ending
+Goes game script (Dispatch b ∷ events) ending = StandsFor b (first Usual game) × GoesOn script b events ending
+Goes game script (Stopped b ∷ events) ending = ⊥
+
+-- ---- when the next point comes
+
+-- the board at the first dispatch or stop point among events
+abbrev pub next_point : List Event → Option Machine
+next_point [] = None
+next_point (Picture m ∷ events) = next_point events
+next_point (Dispatch b ∷ events) = Some b
+next_point (Stopped b ∷ events) = Some b
+
+-- where the limit leaves time for it, that point comes by this cycle
+abbrev pub ComesBy : ℕ → ℕ → List Event → Type 0
+ComesBy limit cycle events = cycle ≤ limit → IsSomeAnd (next_point events) (λ c. c.cycle ≤ cycle)
+
+-- The run of a game under a script up to a limit is a run of CHIP-8 with this ending. Its first dispatch point comes within the bound of
+-- boot, and each next point within the bound of the state before it, where that has one: a wait for a key has none.
+pub record IsChip8 (game : List ℕ) (script : List KeyEvent) (limit : ℕ) (ending : Ending) : Type 0 where
+  pub goes : Goes game script (events_in game script limit) ending
+  pub boot : ComesBy limit boot_bound (events_in game script limit)
+  pub bound : (before after : List Event) (b : Machine) (bound : ℕ) → events_in game script limit ≡ before ++ Dispatch b ∷ after → bound_of Usual (state_at b) ≡ Some bound → ComesBy limit (b.cycle + bound) after
+
+-- ---- a command
+
+-- a run whose end has this status and this report
+pub record RunIsChip8 (game : List ℕ) (scripts : List (List ℕ)) (limit : ℕ) (status : Status) (report : List ℕ) : Type 0 where
+  pub script : List KeyEvent
+  pub reads : script_in scripts ≡ Ok script
+  pub ending : Ending
+  pub run : IsChip8 game script limit ending
+  pub status_is : status ≡ end_status ending
+  pub report_is : report ≡ end_report limit ending
+
+-- what a command with these contents runs, where it runs a game
+abbrev pub ShowsChip8 : Asked → List (List ℕ) → Status → List ℕ → Type 0
+ShowsChip8 (trace a) (game ∷ scripts) status report = RunIsChip8 game scripts a.cycles status report
+ShowsChip8 (play a) (game ∷ scripts) status report = RunIsChip8 game scripts a.cycles status report
+ShowsChip8 (demo a) _ status report = RunIsChip8 (demo_game a.number) [] a.cycles status report
+ShowsChip8 _ _ status report = Unit {0}

@@ -1,8 +1,10 @@
 pub mod Status
-pub mod Open
-pub mod Reading
-pub mod Output
-pub mod Traced
+pub mod Refusal
+pub mod Files
+pub mod Demo
 pub mod Report
+pub mod Outcome
 pub mod Language
+pub mod Opening
+pub mod Command
 pub mod Top

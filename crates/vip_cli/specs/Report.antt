@@ -1,29 +1,95 @@
 -- The reports on the error output, each a line.
 use Rattle.std.specs.Prelude.{ℕ, List, ◌++◌, codes, decimal}
+use Rattle.vip_byte.specs.HexText.{hex2, hex4}
+use Rattle.asm_core.specs.declared.fault.AsmCause.{AsmCause}
+use Rattle.asm_core.specs.declared.fault.AsmCause.TheVariants as asm
+use Rattle.rom_check.specs.declared.fault.ImageFault.{ImageFault}
+use Rattle.rom_check.specs.declared.fault.ImageFault.TheVariants as image
+use Rattle.vip_keypad.specs.declared.script.ScriptCause.{ScriptCause}
+use Rattle.vip_keypad.specs.declared.script.ScriptCause.TheVariants as script
 use Rattle.vip_text.specs.Stops.{stop_line}
 use Rattle.vip_text.specs.Traces.{newline}
-use Rattle.vip_cli.specs.Output.{Ending}
-use Rattle.vip_cli.specs.Output.Ending.{AtLimit, AtStop}
+use Rattle.vip_show.specs.Endings.{Ending}
+use Rattle.vip_show.specs.Endings.Ending.{AtLimit, AtStop}
+use Rattle.vip_cli.specs.declared.refusal.Kind.{Kind}
+use Rattle.vip_cli.specs.declared.refusal.Kind.TheVariants.{Game, Script, Source}
+use Rattle.vip_cli.specs.declared.refusal.Refusal.{Refusal}
+use Rattle.vip_cli.specs.declared.refusal.Refusal.TheVariants as refusal
 
+-- ---- the end of a run
+
+abbrev pub done : ℕ → List ℕ
+done limit = codes "done " ++ (decimal limit ++ newline)
+
+abbrev pub end_report : ℕ → Ending → List ℕ
+end_report limit AtLimit = done limit
+end_report limit (AtStop stop pc opcode) = stop_line stop pc opcode
+
+-- ---- refusals
+
+abbrev pub asm_cause : AsmCause → List ℕ
+asm_cause asm.BadText = codes "BadText"
+asm_cause asm.UnknownMnemonic = codes "UnknownMnemonic"
+asm_cause asm.BadOperand = codes "BadOperand"
+asm_cause asm.Range = codes "Range"
+asm_cause asm.Duplicate = codes "Duplicate"
+asm_cause asm.Undefined = codes "Undefined"
+asm_cause asm.OffPage = codes "OffPage"
+asm_cause asm.Overlap = codes "Overlap"
+asm_cause asm.TooLarge = codes "TooLarge"
+
+abbrev pub script_cause : ScriptCause → List ℕ
+script_cause script.BadLine = codes "BadLine"
+script_cause script.BadCycle = codes "BadCycle"
+script_cause script.BadKey = codes "BadKey"
+script_cause script.OutOfOrder = codes "OutOfOrder"
+script_cause script.TooMany = codes "TooMany"
+
+-- the number of a line and what is wrong with it
+abbrev pub at_line : List ℕ → ℕ → List ℕ → List ℕ
+at_line text line cause = text ++ (decimal line ++ (codes ": " ++ (cause ++ newline)))
+
+abbrev pub too_large_report : Kind → List ℕ
+too_large_report Game = codes "vip: game larger than 3232 bytes" ++ newline
+too_large_report Script = codes "vip: key script larger than 1048576 bytes" ++ newline
+too_large_report Source = codes "vip: source too large" ++ newline
+
+-- the words are refused, or a file could not be read
 abbrev pub usage : List ℕ
 usage = codes "usage: vip trace, play, debug, demo, asm, list, dis or bounds" ++ newline
 
 abbrev pub cannot_read : List ℕ → List ℕ
 cannot_read name = codes "vip: cannot read " ++ (name ++ newline)
 
-abbrev pub game_too_large : List ℕ
-game_too_large = codes "vip: game larger than 3232 bytes" ++ newline
+-- the first fault of a script, and of a source
+abbrev pub bad_script : ℕ → ScriptCause → List ℕ
+bad_script line cause = at_line (codes "vip: key script line ") line (script_cause cause)
 
-abbrev pub write_fault : List ℕ
-write_fault = codes "vip: write fault" ++ newline
+abbrev pub bad_source : ℕ → AsmCause → List ℕ
+bad_source line cause = at_line (codes "vip: source line ") line (asm_cause cause)
 
 abbrev pub no_memory : List ℕ
 no_memory = codes "vip: no memory" ++ newline
 
-abbrev pub done : ℕ → List ℕ
-done limit = codes "done " ++ (decimal limit ++ newline)
+-- the ROM isn't what its source gives: the first byte that differs, from the source and in the ROM
+abbrev pub rom_differs : ℕ → ℕ → ℕ → List ℕ
+rom_differs address assembled here =
+    codes "vip: rom differs at " ++ (hex4 address ++ (codes ": source " ++ (hex2 assembled ++ (codes " image " ++ (hex2 here ++ newline)))))
 
--- the report at the end of a run
-abbrev pub end_report : ℕ → Ending → List ℕ
-end_report limit AtLimit = done limit
-end_report limit (AtStop stop pc opcode) = stop_line stop pc opcode
+abbrev pub image_report : ImageFault → List ℕ
+image_report (image.BadRomSource line cause) = at_line (codes "vip: rom source line ") line (asm_cause cause)
+image_report (image.RomDiffers address assembled here) = rom_differs address assembled here
+image_report image.NoMemory = no_memory
+
+abbrev pub write_fault : List ℕ
+write_fault = codes "vip: write fault" ++ newline
+
+abbrev pub report_of : Refusal → List ℕ
+report_of refusal.Usage = usage
+report_of (refusal.Unread name) = cannot_read name.now
+report_of (refusal.TooLarge kind) = too_large_report kind
+report_of (refusal.Script line cause) = bad_script line cause
+report_of (refusal.Source line cause) = bad_source line cause
+report_of (refusal.Rom fault) = image_report fault
+report_of refusal.Write = write_fault
+report_of refusal.NoMemory = no_memory

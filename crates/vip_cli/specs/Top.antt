@@ -1,20 +1,19 @@
 -- What each answer of the program says.
-use Rattle.std.specs.Prelude.{◌≡◌, ℕ, ◌+◌, ◌^◌, ◌<◌, ◌≤◌, ◌⊎◌, List, [], Option, Some, None, IfSome, IsSomeAnd, length, Result, Ok, Err}
+use Rattle.std.specs.Prelude.{◌≡◌, ℕ, ◌+◌, ◌^◌, ◌<◌, ◌≤◌, ◌⊎◌, List, [], ◌∷◌, Option, Some, None, length, nat_lt, if◌then◌else◌}
 use Rattle.std.specs.FinMap.{get}
-use Rattle.vip_outside.specs.Files.{FileMap, FilesMeaning, ReadFails, LacksName}
+use Rattle.vip_outside.specs.Files.{FileMap, FilesMeaning}
 use Rattle.vip_outside.specs.Sink.{SinkMeaning, Gains, GainsPart}
 use Rattle.vip_outside.specs.Pieces.{PutsAll, FailsWithin}
-use Rattle.vip_words.specs.Asked.{Asked, AskedTrace, asked_by}
-use Rattle.vip_words.specs.Asked.Asked.{trace}
-use Rattle.chip8_lang.specs.declared.view.Edition.TheVariants.{Usual}
-use Rattle.chip8_lang.specs.Events.{Event, events_of}
-use Rattle.thin_rom.specs.Thin.{thin}
+use Rattle.vip_words.specs.Asked.{Asked}
+use Rattle.vip_cli.specs.declared.refusal.Kind.{Kind}
 use Rattle.vip_cli.specs.declared.status.Status.{Status}
-use Rattle.vip_cli.specs.declared.status.Status.TheVariants.{Done, Stopped, Usage, ReadFault, GameTooLarge, WriteFault, NoMemory}
-use Rattle.vip_cli.specs.Output.{Ending, trace_output, ending_of}
-use Rattle.vip_cli.specs.Output.Ending.{AtLimit, AtStop}
-use Rattle.vip_cli.specs.Language.{Speaks}
-use Rattle.vip_cli.specs.Report.{usage, cannot_read, game_too_large, write_fault, no_memory, end_report}
+use Rattle.vip_cli.specs.declared.status.Status.TheVariants.{Done, Stopped, Usage, ReadFault, GameTooLarge, ScriptTooLarge, BadScript, BadSource, BadRomSource, RomDiffers, WriteFault, NoMemory, SourceTooLarge}
+use Rattle.vip_cli.specs.Files.{Needed, needed, HasAll, ComesTo, IsLarger, IsUnread}
+use Rattle.vip_cli.specs.Language.{ShowsChip8}
+use Rattle.vip_cli.specs.Outcome.{Comes, understood}
+use Rattle.vip_cli.specs.Outcome.Outcome.{Refused, Shown}
+use Rattle.vip_cli.specs.Refusal.{too_large_status}
+use Rattle.vip_cli.specs.Report.{usage, cannot_read, too_large_report, write_fault, no_memory}
 
 -- one call: its words, and what the outside meant before it and after it
 pub record Call : Type 0 where
@@ -30,138 +29,174 @@ abbrev pub call_of : List (List ℕ) → FilesMeaning → FilesMeaning → SinkM
 call_of words files files' out out' err err' =
     record { words = words; files = files; files' = files'; out = out; out' = out'; err = err; err' = err' }
 
--- the most bytes of a game
-abbrev pub most_game : ℕ
-most_game = 3232
+-- ---- refusals: nothing went to `out`, and the report to `err`
 
 -- the report went to `err`: the whole of it with no fault, or a prefix of it with a fault
 abbrev pub Reported : List ℕ → Call → Type 0
 Reported report call = Gains report call.err call.err' ⊎ GainsPart report call.err call.err'
 
--- nothing went to `out`, and the report to `err`
 pub record Refuses (report : List ℕ) (call : Call) : Type 0 where
   pub out : call.out' ≡ call.out
   pub err : Reported report call
 
--- ---- a run
-
--- the events of the run that is asked for
-abbrev pub events_for : AskedTrace → List ℕ → List Event
-events_for asked game = events_of thin.interpreter game [] asked.cycles
-
--- its output, piece by piece, and its report
-abbrev pub output_for : AskedTrace → List ℕ → List (List ℕ)
-output_for asked game = trace_output Usual asked.at (events_for asked game)
-
-abbrev pub ending_for : AskedTrace → List ℕ → Ending
-ending_for asked game = ending_of Usual (events_for asked game)
-
-abbrev pub report_for : AskedTrace → List ℕ → List ℕ
-report_for asked game = end_report asked.cycles (ending_for asked game)
-
--- the words ask for a trace of this game, which fits and is what the files have, and its run is a run of the language
-pub record Traces (call : Call) (asked : AskedTrace) (game : List ℕ) : Type 0 where
-  pub words : asked_by call.words ≡ Some (trace asked)
-  pub found : IfSome call.files.told (λ files. get files asked.game ≡ Some game)
-  pub fits : length game ≤ most_game
-  pub language : Speaks game asked.cycles (ending_for asked game)
-
-abbrev pub IsAtLimit : Ending → Type 0
-IsAtLimit AtLimit = Unit {0}
-IsAtLimit (AtStop stop pc opcode) = ⊥
-
-abbrev pub IsAtStop : Ending → Type 0
-IsAtStop AtLimit = ⊥
-IsAtStop (AtStop stop pc opcode) = Unit {0}
-
--- exact output: the run ends so, and its output went out whole, each piece by one put, and its report too
-pub record Shows (call : Call) (Ends : Ending → Type 0) : Type 0 where
-  pub asked : AskedTrace
-  pub game : List ℕ
-  pub traces : Traces call asked game
-  pub ends : Ends (ending_for asked game)
-  pub out : PutsAll (output_for asked game) call.out call.out'
-  pub err : Gains (report_for asked game) call.err call.err'
-
--- ---- the refusals
-
 -- the words are refused
 pub record Misused (call : Call) : Type 0 where
-  pub words : asked_by call.words ≡ None
+  pub words : understood call.words ≡ None
   pub refused : Refuses usage call
 
--- the game could not be read: a fault at its name, or the map lacks it
+-- a file could not be read, which the report names
 pub record Unread (call : Call) : Type 0 where
-  pub asked : AskedTrace
-  pub words : asked_by call.words ≡ Some (trace asked)
-  pub cause : ReadFails asked.game call.files call.files' ⊎ LacksName asked.game call.files call.files'
-  pub refused : Refuses (cannot_read asked.game) call
+  pub asked : Asked
+  pub words : understood call.words ≡ Some asked
+  pub at : ComesTo call.files (needed asked) (λ n. IsUnread call.files call.files' n × Refuses (cannot_read n.name) call)
 
--- the game has more bytes than fit
-pub record Oversize (call : Call) : Type 0 where
-  pub asked : AskedTrace
-  pub words : asked_by call.words ≡ Some (trace asked)
-  pub game : IfSome call.files.told (λ files. IsSomeAnd (get files asked.game) (λ game. most_game < length game))
-  pub refused : Refuses game_too_large call
+-- a file has more bytes than its kind may have
+pub record Oversize (status : Status) (call : Call) : Type 0 where
+  pub asked : Asked
+  pub words : understood call.words ≡ Some asked
+  pub at : ComesTo call.files (needed asked) (λ n. IsLarger call.files n × (status ≡ too_large_status n.kind) × Refuses (too_large_report n.kind) call)
+
+-- the words ask for this, and these are the contents of the files that it names
+pub record Asks (call : Call) (asked : Asked) (contents : List (List ℕ)) : Type 0 where
+  pub words : understood call.words ≡ Some asked
+  pub read : HasAll call.files (needed asked) contents
+
+-- the contents are refused
+pub record Rejects (status : Status) (call : Call) : Type 0 where
+  pub asked : Asked
+  pub contents : List (List ℕ)
+  pub asks : Asks call asked contents
+  pub report : List ℕ
+  pub comes : Comes asked contents (Refused status report)
+  pub refused : Refuses report call
+
+-- ---- output
+
+-- exact output: it went out whole, each piece by one put, and the report too
+pub record Shows (status : Status) (call : Call) : Type 0 where
+  pub asked : Asked
+  pub contents : List (List ℕ)
+  pub asks : Asks call asked contents
+  pub pieces : List (List ℕ)
+  pub report : List ℕ
+  pub comes : Comes asked contents (Shown pieces status report)
+  pub out : PutsAll pieces call.out call.out'
+  pub err : Gains report call.err call.err'
 
 -- a fault of `out`: the pieces before it went out whole, and then a prefix of one
-pub record OutFails (output : List (List ℕ)) (call : Call) : Type 0 where
-  pub out : FailsWithin output call.out call.out'
+pub record OutFails (pieces : List (List ℕ)) (call : Call) : Type 0 where
+  pub out : FailsWithin pieces call.out call.out'
   pub err : Reported write_fault call
 
 -- a fault of `err` alone, at the report
-pub record ErrFails (output : List (List ℕ)) (report : List ℕ) (call : Call) : Type 0 where
-  pub out : PutsAll output call.out call.out'
+pub record ErrFails (pieces : List (List ℕ)) (report : List ℕ) (call : Call) : Type 0 where
+  pub out : PutsAll pieces call.out call.out'
   pub err : GainsPart report call.err call.err'
 
--- a run of which not all went out
+-- output of which not all went out
 pub record Faulty (call : Call) : Type 0 where
-  pub asked : AskedTrace
-  pub game : List ℕ
-  pub traces : Traces call asked game
-  pub fault : OutFails (output_for asked game) call ⊎ ErrFails (output_for asked game) (report_for asked game) call
+  pub asked : Asked
+  pub contents : List (List ℕ)
+  pub asks : Asks call asked contents
+  pub pieces : List (List ℕ)
+  pub status : Status
+  pub report : List ℕ
+  pub comes : Comes asked contents (Shown pieces status report)
+  pub fault : OutFails pieces call ⊎ ErrFails pieces report call
 
 -- ---- the answers
 
 -- what each answer says
 abbrev pub Says : Status → Call → Type 0
-Says Done call = Shows call IsAtLimit
-Says Stopped call = Shows call IsAtStop
+Says Done call = Shows Done call
+Says Stopped call = Shows Stopped call
 Says Usage call = Misused call
 Says ReadFault call = Unread call
-Says GameTooLarge call = Oversize call
+Says GameTooLarge call = Oversize GameTooLarge call
+Says ScriptTooLarge call = Oversize ScriptTooLarge call
+Says BadScript call = Rejects BadScript call
+Says BadSource call = Rejects BadSource call
+Says BadRomSource call = Rejects BadRomSource call
+Says RomDiffers call = Rejects RomDiffers call
 Says WriteFault call = Faulty call
 Says NoMemory call = Refuses no_memory call
+Says SourceTooLarge call = Oversize SourceTooLarge call
+
+-- ---- when they come
 
 -- no fault was counted
 pub record IsQuiet (old new : ℕ) : Type 0 where
   pub below : old + 1 < 2 ^ 64
   pub same : new ≤ old
 
--- the words are accepted, the map that is told has the game, and it could be read
-pub record Asks (call : Call) (asked : AskedTrace) (game : List ℕ) : Type 0 where
-  pub words : asked_by call.words ≡ Some (trace asked)
-  pub files : FileMap
-  pub told : call.files.told ≡ Some files
-  pub found : get files asked.game ≡ Some game
-  pub read : IsQuiet call.files.faults call.files'.faults
+-- what the reading of files comes to, where the map is told: a name that it lacks, a file that is too large, or all contents
+pub data Reading : Type 0 where
+  Lacks : Reading
+  Larger : Kind → Reading
+  Whole : List (List ℕ) → Reading
+
+abbrev pub with_content : List ℕ → Reading → Reading
+with_content content Lacks = Lacks
+with_content content (Larger kind) = Larger kind
+with_content content (Whole contents) = Whole (content ∷ contents)
+
+abbrev pub reading_one : Needed → Option (List ℕ) → Reading → Reading
+reading_one n None rest = Lacks
+reading_one n (Some content) rest = if nat_lt n.most (length content) then Larger n.kind else with_content content rest
+
+abbrev pub reading : FileMap → List Needed → Reading
+reading files [] = Whole []
+reading files (n ∷ ns) = reading_one n (get files n.name) (reading files ns)
+
+-- The status that is due to what is asked, by the files of a told map: that of the first refusal in the order of the files, their
+-- contents and the ROM, or, where no write is a fault, that of the end.
+pub data Due (call : Call) (asked : Asked) : Reading → Status → Type 0 where
+  Lacking : Due call asked Lacks ReadFault
+  TooLarge : (kind : Kind) → Due call asked (Larger kind) (too_large_status kind)
+  Refusing : (contents : List (List ℕ)) (status : Status) (report : List ℕ) → Comes asked contents (Refused status report) → Due call asked (Whole contents) status
+  Showing : (contents : List (List ℕ)) (pieces : List (List ℕ)) (status : Status) (report : List ℕ) → Comes asked contents (Shown pieces status report) → IsQuiet call.out.faults call.out'.faults → IsQuiet call.err.faults call.err'.faults → Due call asked (Whole contents) status
 
 -- words that are refused give Usage, or want of memory
 abbrev pub RefusesWords : Status → Call → Type 0
-RefusesWords status call = asked_by call.words ≡ None → (status ≡ Usage) ⊎ (status ≡ NoMemory)
+RefusesWords status call = understood call.words ≡ None → (status ≡ Usage) ⊎ (status ≡ NoMemory)
 
--- a game that is too large gives GameTooLarge, or want of memory
-abbrev pub RefusesGame : Status → Call → Type 0
-RefusesGame status call =
-    (asked : AskedTrace) (game : List ℕ) → Asks call asked game → most_game < length game → (status ≡ GameTooLarge) ⊎ (status ≡ NoMemory)
+-- the words ask for this, the map of files is told, and no read was a fault
+pub record Offers (call : Call) (asked : Asked) (files : FileMap) : Type 0 where
+  pub words : understood call.words ≡ Some asked
+  pub told : call.files.told ≡ Some files
+  pub quiet : IsQuiet call.files.faults call.files'.faults
 
--- a game that fits is run, and where no fault is counted the answer is that of its ending, or want of memory
-abbrev pub status_of : Ending → Status
-status_of AtLimit = Done
-status_of (AtStop stop pc opcode) = Stopped
+-- Each refusal comes exactly where it is due, and so does each end: the answer is the status that is due, or want of memory.
+abbrev pub GivesDue : Status → Call → Type 0
+GivesDue status call =
+    (asked : Asked) (files : FileMap) (due : Status)
+    → Offers call asked files
+    → Due call asked (reading files (needed asked)) due
+    → (status ≡ due) ⊎ (status ≡ NoMemory)
 
+-- the contents of the files are refused: a script or a source has a fault, or the ROM isn't what its source gives
+abbrev pub AreRefused : Asked → List (List ℕ) → Type 0
+AreRefused asked contents = (status : Status) × (report : List ℕ) × Comes asked contents (Refused status report)
+
+-- Where the files are there with their sizes, their contents aren't refused and no fault is counted, the answer is Done or Stopped, or
+-- want of memory.
 abbrev pub Completes : Status → Call → Type 0
 Completes status call =
-    (asked : AskedTrace) (game : List ℕ) → Asks call asked game → length game ≤ most_game
-    → IsQuiet call.out.faults call.out'.faults → IsQuiet call.err.faults call.err'.faults
-    → (status ≡ NoMemory) ⊎ (status ≡ status_of (ending_for asked game))
+    (asked : Asked) (files : FileMap) (contents : List (List ℕ))
+    → Offers call asked files
+    → reading files (needed asked) ≡ Whole contents
+    → ¬ AreRefused asked contents
+    → IsQuiet call.out.faults call.out'.faults
+    → IsQuiet call.err.faults call.err'.faults
+    → (status ≡ Done) ⊎ (status ≡ Stopped) ⊎ (status ≡ NoMemory)
+
+-- ---- what the output says of the language
+
+-- Where the words and the contents of the files come to the output of a game's run, with this status and this report, it is that of a run
+-- of CHIP-8, which ends so. `Shows` and `Faulty` say that this output went out, whole or in part.
+abbrev pub SpeaksChip8 : Call → Type 0
+SpeaksChip8 call =
+    (asked : Asked) (contents pieces : List (List ℕ)) (status : Status) (report : List ℕ)
+    → Asks call asked contents
+    → Comes asked contents (Shown pieces status report)
+    → ShowsChip8 asked contents status report

@@ -10,14 +10,13 @@
 //! put by put. It stands on every layer below through their contracts alone.
 #![tactic(auto)]
 
-mod opening;
+mod command;
+mod demo;
+mod files;
+mod refusal;
 mod report;
 mod status;
-#[cfg(test)]
-mod tests;
 mod top;
-mod trace;
-mod view;
 
 use status::Status;
 use std::alloc::Global;

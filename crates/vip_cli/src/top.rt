@@ -1,33 +1,58 @@
 //! The one call that the program makes.
 
 ghost use Rattle.std.specs.Prelude.{◌≡◌, map, string_bytes};
-ghost use Rattle.vip_words.specs.Asked.Asked.{trace};
-ghost use Rattle.vip_words.specs.Request.{asked_of, asked_trace};
-ghost use Rattle.vip_cli.specs.Top.{call_of, Says, RefusesWords, RefusesGame, Completes};
+ghost use Rattle.vip_words.specs.Request.{asked_of};
+ghost use Rattle.vip_cli.specs.Command.{UnderstoodAnswers, UnlessDebugAnswers, WordsAnswer};
+ghost use Rattle.vip_cli.specs.Top.{call_of, Says, RefusesWords, GivesDue, Completes, SpeaksChip8};
 
-use crate::opening::{OpenFail, open_file};
-use crate::report::{put_cannot_read, put_ending, put_line};
+use crate::command::{Ended, work};
+use crate::files::{open_files, wanted_files};
+use crate::refusal::Refusal;
+use crate::report::{put_end, put_refusal};
 use crate::status::Status;
-use crate::trace::{Ended, run_trace, start};
+use rom_run::laws::every_run;
 use std::alloc::Global;
-use thin_rom::laws::every_run;
 use vip_outside::{Files, Sink};
-use vip_words::{Request, TraceRequest, WordsFail, read_words};
+use vip_words::{Request, WordsFail, read_words};
 
-/// The most bytes of a game.
-const MOST_GAME: usize = 3232;
-
-/// The trace that is asked for.
-fn trace_of<'a>(request: &Request<'a>) -> TraceRequest<'a>
-    ensures { asked_of request.now ≡ trace (asked_trace result) }
+/// The debugger isn't built yet, so its verb is refused.
+fn unless_debug(request: Request<'_>) -> Result<Request<'_>, Refusal<'_>>
+    ensures { UnlessDebugAnswers (asked_of request.entry) result }
 {
     match request {
-        Request::Trace(trace) => *trace,
+        Request::Debug(_) => Err(Refusal::Usage),
+        _ => Ok(request),
     }
 }
 
-/// Does what the words ask for, or refuses it, and reports it.
-fn run_words<F: Files, O: Sink, E: Sink>(
+/// What the words ask for.
+fn understood<'a>(alloc: Global, words: &'a [String]) -> Result<Request<'a>, Refusal<'a>>
+    ensures { UnderstoodAnswers (map string_bytes words.entry.now) result }
+{
+    match read_words(alloc, words) {
+        Ok(request) => unless_debug(request),
+        Err(WordsFail::Refused) => Err(Refusal::Usage),
+        Err(WordsFail::NoMemory) => Err(Refusal::NoMemory),
+    }
+}
+
+/// Does what the words ask for: reads the files that they name, and writes its output.
+fn run_words<'a, F: Files, O: Sink>(
+    alloc: Global,
+    words: &'a [String],
+    files: &mut F,
+    out: &mut O,
+) -> Result<Ended, Refusal<'a>>
+    ensures { WordsAnswer (map string_bytes words.entry.now) (F.meaning files.old) (F.meaning files.new) (O.meaning out.old) (O.meaning out.new) result }
+{
+    let request = understood(alloc, words)?;
+    let wanted = wanted_files(&request);
+    let contents = open_files(alloc, files, wanted.as_slice())?;
+    work(alloc, &request, contents.as_slice(), out)
+}
+
+/// Does it, and reports how it ended or why it was refused.
+fn run_and_report<F: Files, O: Sink, E: Sink>(
     alloc: Global,
     words: &[String],
     files: &mut F,
@@ -36,55 +61,20 @@ fn run_words<F: Files, O: Sink, E: Sink>(
 ) -> Status
     ensures { Says result (call_of (map string_bytes words.now) (F.meaning files.old) (F.meaning files.new) (O.meaning out.old) (O.meaning out.new) (E.meaning err.old) (E.meaning err.new)) }
 {
-    let request = match read_words(alloc, words) {
-        Ok(request) => trace_of(&request),
-        Err(WordsFail::Refused) => {
-            let _ = put_line(
-                err,
-                b"usage: vip trace, play, debug, demo, asm, list, dis or bounds\n",
-            );
-            return Status::Usage;
+    match run_words(alloc, words, files, out) {
+        Ok(ended) => match put_end(err, &ended) {
+            Ok(()) => ended.status(),
+            Err(_) => Status::WriteFault,
+        },
+        Err(refusal) => {
+            let _ = put_refusal(err, &refusal);
+            refusal.status()
         }
-        Err(WordsFail::NoMemory) => {
-            let _ = put_line(err, b"vip: no memory\n");
-            return Status::NoMemory;
-        }
-    };
-    let game = match open_file(alloc, files, request.game, MOST_GAME) {
-        Ok(game) => game,
-        Err(OpenFail::Unread) => {
-            let _ = put_cannot_read(err, request.game);
-            return Status::ReadFault;
-        }
-        Err(OpenFail::TooLarge) => {
-            let _ = put_line(err, b"vip: game larger than 3232 bytes\n");
-            return Status::GameTooLarge;
-        }
-        Err(OpenFail::NoMemory) => {
-            let _ = put_line(err, b"vip: no memory\n");
-            return Status::NoMemory;
-        }
-    };
-    every_run();
-    let Ok(mut board) = start(alloc, game.as_slice()) else {
-        let _ = put_line(err, b"vip: no memory\n");
-        return Status::NoMemory;
-    };
-    let Ok(ended) = run_trace(&mut board, request.cycles, request.at, out) else {
-        let _ = put_line(err, b"vip: write fault\n");
-        return Status::WriteFault;
-    };
-    let Ok(()) = put_ending(err, request.cycles, &ended) else {
-        return Status::WriteFault;
-    };
-    match ended {
-        Ended::AtLimit => Status::Done,
-        Ended::AtStop(_) => Status::Stopped,
     }
 }
 
-/// Runs the program on its words: what it writes goes to `out`, and one line of report to `err`. The answer is the status with which the
-/// process ends. No memory is taken once the run begins, and after a failed write nothing more goes to that sink.
+/// Runs the program on its words: what it writes goes to `out`, each piece by one put, and one line of report to `err`. The answer is the
+/// status with which the process ends. No memory is taken once a run begins, and after a failed write nothing more goes to that sink.
 pub fn vip_main<F: Files, O: Sink, E: Sink>(
     alloc: Global,
     words: &[String],
@@ -95,10 +85,14 @@ pub fn vip_main<F: Files, O: Sink, E: Sink>(
     // What each answer says: exact output for Done and Stopped, and each refusal's cause.
     ensures says { Says result (call_of (map string_bytes words.now) (F.meaning files.old) (F.meaning files.new) (O.meaning out.old) (O.meaning out.new) (E.meaning err.old) (E.meaning err.new)) }
 
-    // When the refusals come, and that there is no other.
+    // Where a game is run, that its run is one of CHIP-8, within the bounds, and that a stop names its instruction.
+    ensures language { SpeaksChip8 (call_of (map string_bytes words.now) (F.meaning files.old) (F.meaning files.new) (O.meaning out.old) (O.meaning out.new) (E.meaning err.old) (E.meaning err.new)) }
+
+    // When each answer is due, and that there is no other.
     ensures words { RefusesWords result (call_of (map string_bytes words.now) (F.meaning files.old) (F.meaning files.new) (O.meaning out.old) (O.meaning out.new) (E.meaning err.old) (E.meaning err.new)) }
-    ensures game { RefusesGame result (call_of (map string_bytes words.now) (F.meaning files.old) (F.meaning files.new) (O.meaning out.old) (O.meaning out.new) (E.meaning err.old) (E.meaning err.new)) }
+    ensures due { GivesDue result (call_of (map string_bytes words.now) (F.meaning files.old) (F.meaning files.new) (O.meaning out.old) (O.meaning out.new) (E.meaning err.old) (E.meaning err.new)) }
     ensures complete { Completes result (call_of (map string_bytes words.now) (F.meaning files.old) (F.meaning files.new) (O.meaning out.old) (O.meaning out.new) (E.meaning err.old) (E.meaning err.new)) }
 {
-    run_words(alloc, words, files, out, err)
+    every_run();
+    run_and_report(alloc, words, files, out, err)
 }

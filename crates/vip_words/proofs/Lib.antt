@@ -1,8 +1,8 @@
 mod Answered
+mod Commands
 mod Ends
 mod Known
 mod Parses
-mod Places
 mod Rows
 mod Shown
 mod Steps

@@ -241,23 +241,17 @@ flag_positional : (new : Flag) (given : Given) → (with_flag new given).positio
 flag_positional At given = refl
 flag_positional Screen given = refl
 
-never_once : (a b d : Bool) → (a && ((b && false) && d)) ≡ false
-never_once a true d = and_never a
-never_once a false d = and_never a
-
-never_twice : (a b d e : Bool) → (a && ((b && (d && false)) && e)) ≡ false
-never_twice a true true e = and_never a
-never_twice a true false e = and_never a
-never_twice a false d e = and_never a
+-- where a test in the middle fails
+never_all : (a b d : Bool) → b ≡ false → (a && (b && d)) ≡ false
+never_all a b d fails = rw fails (and_never a)
 
 flag_refused : (count before : ℕ) (given : Given) (new : Flag) (words : List Text) → flag_in given new ≡ true
     → passes count before false (is_some given.keys) given (flag_word new ∷ words) ≡ false
 flag_refused count before given At words on =
-    rw on (never_once (has_values false words) (once (is_some given.keys) (codes "--keys") words)
-    (before + length (positional_words false words) == count))
+    rw on (never_all (has_values false words) _ _ (and_never (once (is_some given.keys) (codes "--keys") words)))
 flag_refused count before given Screen words on =
-    rw on (never_twice (has_values false words) (once (is_some given.keys) (codes "--keys") words) (once given.at (codes "--at") words)
-    (before + length (positional_words false words) == count))
+    rw on (never_all (has_values false words) _ _
+    (never_and (once (is_some given.keys) (codes "--keys") words) (once given.at (codes "--at") words)))
 
 -- it is given once
 idle_flag : (name : Text) (count : ℕ) (words : List Text) (new : Flag) → AllAgree name count words

@@ -1,11 +1,11 @@
 -- What the words of a command line ask for.
-use Rattle.std.specs.Prelude.{ℕ, List, [], ◌∷◌, Bool, Option, None, option_map, option_and_then}
+use Rattle.std.specs.Prelude.{ℕ, List, [], ◌∷◌, Bool, Option, None, Some, option_map, option_and_then}
 use Rattle.std.specs.Result.{result_ok}
-use Rattle.vip_byte.specs.Number.{decimal_number}
+use Rattle.vip_byte.specs.Number.{decimal_number, hex_number}
 use Rattle.vip_words.specs.Rules.{Given, Word, given_by}
 use Rattle.vip_words.specs.Table.{usage_of}
 use Rattle.vip_words.specs.declared.table.Verb.{Verb}
-use Rattle.vip_words.specs.declared.table.Verb.TheVariants.{Trace}
+use Rattle.vip_words.specs.declared.table.Verb.TheVariants as verb
 
 -- a trace: the file of a game, how many machine cycles, the file of a key script, and whether each record says its cycle and the
 -- last screen is shown
@@ -16,12 +16,55 @@ pub record AskedTrace : Type 0 where
   pub at : Bool
   pub screen : Bool
 
+-- the pictures of a run
+pub record AskedPlay : Type 0 where
+  pub game : Word
+  pub cycles : ℕ
+  pub keys : Option Word
+
+-- a run under the debugger: also the file of its commands
+pub record AskedDebug : Type 0 where
+  pub game : Word
+  pub cycles : ℕ
+  pub commands : Word
+  pub keys : Option Word
+
+-- a run of the demonstration game of this number
+pub record AskedDemo : Type 0 where
+  pub number : ℕ
+  pub cycles : ℕ
+
+-- the disassembly of a file, whose first byte lies at this address
+pub record AskedDis : Type 0 where
+  pub file : Word
+  pub address : ℕ
+
+-- `asm` and `list` name the file of a source
 pub data Asked : Type 0 where
   trace : AskedTrace → Asked
+  play : AskedPlay → Asked
+  debug : AskedDebug → Asked
+  demo : AskedDemo → Asked
+  asm : Word → Asked
+  list : Word → Asked
+  dis : AskedDis → Asked
+  bounds : Asked
+
+-- ---- numbers
 
 -- a number of machine cycles: decimal, from 0 to 4,000,000,000
 abbrev pub cycles_of : Word → Option ℕ
 cycles_of word = result_ok (decimal_number word 4000000000)
+
+-- the number of a demonstration game: decimal, from 0 to 4,294,967,295
+abbrev pub number_of : Word → Option ℕ
+number_of word = result_ok (decimal_number word 4294967295)
+
+-- an address: hexadecimal, from 0 to FFFF
+abbrev pub address_of : Word → Option ℕ
+address_of word = result_ok (hex_number word 65535)
+
+-- ---- the positional words of each verb
 
 -- GAME CYCLES
 abbrev pub trace_by : List Word → Given → Option Asked
@@ -29,12 +72,48 @@ trace_by (game ∷ cycles ∷ []) given =
     option_map (λ n. trace (record { game = game; cycles = n; keys = given.keys; at = given.at; screen = given.screen })) (cycles_of cycles)
 trace_by _ given = None
 
-abbrev pub trace_of : Given → Option Asked
-trace_of given = trace_by given.positional given
+-- GAME CYCLES
+abbrev pub play_by : List Word → Given → Option Asked
+play_by (game ∷ cycles ∷ []) given = option_map (λ n. play (record { game = game; cycles = n; keys = given.keys })) (cycles_of cycles)
+play_by _ given = None
+
+-- GAME CYCLES COMMANDS
+abbrev pub debug_by : List Word → Given → Option Asked
+debug_by (game ∷ cycles ∷ commands ∷ []) given =
+    option_map (λ n. debug (record { game = game; cycles = n; commands = commands; keys = given.keys })) (cycles_of cycles)
+debug_by _ given = None
+
+-- NUMBER CYCLES
+abbrev pub demo_by : List Word → Option Asked
+demo_by (number ∷ cycles ∷ []) =
+    option_and_then (λ n. option_map (λ c. demo (record { number = n; cycles = c })) (cycles_of cycles)) (number_of number)
+demo_by _ = None
+
+-- FILE
+abbrev pub file_by : List Word → Option Word
+file_by (file ∷ []) = Some file
+file_by _ = None
+
+-- FILE AT
+abbrev pub dis_by : List Word → Option Asked
+dis_by (file ∷ at ∷ []) = option_map (λ a. dis (record { file = file; address = a })) (address_of at)
+dis_by _ = None
+
+-- none
+abbrev pub bounds_by : List Word → Option Asked
+bounds_by [] = Some bounds
+bounds_by _ = None
 
 -- what a verb asks for, where its words give this
 abbrev pub asked_of_verb : Verb → Given → Option Asked
-asked_of_verb Trace given = trace_of given
+asked_of_verb verb.Trace given = trace_by given.positional given
+asked_of_verb verb.Play given = play_by given.positional given
+asked_of_verb verb.Debug given = debug_by given.positional given
+asked_of_verb verb.Demo given = demo_by given.positional
+asked_of_verb verb.Asm given = option_map asm (file_by given.positional)
+asked_of_verb verb.List given = option_map list (file_by given.positional)
+asked_of_verb verb.Dis given = dis_by given.positional
+asked_of_verb verb.Bounds given = bounds_by given.positional
 
 -- what the words ask for, the verb first, or nothing where they are refused
 abbrev pub asked_by : List Word → Option Asked

@@ -1,5 +1,5 @@
 -- The command that `clap` gets for a verb with so many positional words, as `clap` reads it.
-use Rattle.std.specs.Prelude.{ℕ, List, [], ◌∷◌, map, take, Some, true, codes}
+use Rattle.std.specs.Prelude.{ℕ, List, [], ◌∷◌, ◌++◌, map, take, Some, true, codes}
 use Rattle.clap.specs.Faults.{fault_of}
 use Rattle.clap.specs.Kinds.{Kinds}
 use Rattle.clap.specs.Simple.{App, matches_of, new_rule, new_shape}
@@ -19,16 +19,20 @@ keys_rule = record (new_rule (codes "keys")) { long = Some (codes "keys"); actio
 abbrev pub flag_rule : Text → Rule
 flag_rule name = record (new_rule name) { long = Some name; action = Some SetTrue }
 
--- every option of the program, and so many positional words; no help flag, no version flag, no subcommand
-abbrev pub command_app : Text → ℕ → App
-command_app verb places = record {
-  top = record (new_shape verb) {
-    disable_help_flag = true;
-    disable_version_flag = true;
-    rules = keys_rule ∷ flag_rule (codes "at") ∷ flag_rule (codes "screen") ∷ map place_rule (take places place_names);
-  };
+-- the options that take no word, in order
+abbrev pub flag_names : List Text
+flag_names = codes "at" ∷ codes "screen" ∷ []
+
+-- a command with these arguments: no help flag, no version flag, no subcommand
+abbrev pub app_with : Text → List Rule → App
+app_with verb rules = record {
+  top = record (new_shape verb) { disable_help_flag = true; disable_version_flag = true; rules = rules };
   subs = [];
 }
+
+-- every option of the program, and so many positional words
+abbrev pub command_app : Text → ℕ → App
+command_app verb places = app_with verb (keys_rule ∷ map flag_rule flag_names ++ map place_rule (take places place_names))
 
 -- the faults that the command finds in the words, the verb first: none where it takes them
 unfoldable pub command_faults : Text → ℕ → List Text → Kinds

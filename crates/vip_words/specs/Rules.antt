@@ -11,9 +11,19 @@ use Rattle.std.specs.Prelude.{ℕ, List, [], ◌∷◌, Bool, true, false, not, 
 abbrev pub Word : Type 0
 Word = List ℕ
 
+-- the options as they are spelled
+abbrev pub keys_option : Word
+keys_option = codes "--keys"
+
+abbrev pub at_option : Word
+at_option = codes "--at"
+
+abbrev pub screen_option : Word
+screen_option = codes "--screen"
+
 -- every option of the program
 abbrev pub every_option : List Word
-every_option = codes "--keys" ∷ codes "--at" ∷ codes "--screen" ∷ []
+every_option = keys_option ∷ at_option ∷ screen_option ∷ []
 
 abbrev pub is_option : Word → Bool
 is_option word = list_any (bytes_eq word) every_option
@@ -29,7 +39,7 @@ is_known options word = is_plain word || list_any (bytes_eq word) options
 
 -- the option that takes the next word
 abbrev pub is_keys : Word → Bool
-is_keys word = bytes_eq word (codes "--keys")
+is_keys word = bytes_eq word keys_option
 
 -- each `--keys` has a plain word next; `after` says that these words stand right after one
 abbrev pub has_values : Bool → List Word → Bool
@@ -78,6 +88,6 @@ given_by places options words =
     if is_accepted places options words then Some (record {
       positional = positional_words false words;
       keys = keys_value words;
-      at = is_given (codes "--at") words;
-      screen = is_given (codes "--screen") words;
+      at = is_given at_option words;
+      screen = is_given screen_option words;
     }) else None

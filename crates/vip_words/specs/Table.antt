@@ -1,8 +1,8 @@
 -- The verbs, and what may follow each.
-use Rattle.std.specs.Prelude.{ℕ, List, [], Option, Some, None, bytes_eq, if◌then◌else◌, codes}
-use Rattle.vip_words.specs.Rules.{Word}
+use Rattle.std.specs.Prelude.{ℕ, List, [], ◌∷◌, Option, bytes_eq, codes, find, option_map}
+use Rattle.vip_words.specs.Rules.{Word, at_option, keys_option, screen_option}
 use Rattle.vip_words.specs.declared.table.Verb.{Verb}
-use Rattle.vip_words.specs.declared.table.Verb.TheVariants.{Trace}
+use Rattle.vip_words.specs.declared.table.Verb.TheVariants as verb
 
 -- a verb, how many positional words follow it, and its options
 pub record Row : Type 0 where
@@ -10,8 +10,22 @@ pub record Row : Type 0 where
   pub places : ℕ
   pub options : List Word
 
+abbrev pub row : Verb → ℕ → List Word → Row
+row verb places options = record { verb = verb; places = places; options = options }
+
+-- each verb as it is spelled, with its row
+abbrev pub table : List (Word × Row)
+table =
+    (codes "trace", row verb.Trace 2 (keys_option ∷ at_option ∷ screen_option ∷ []))
+    ∷ (codes "play", row verb.Play 2 (keys_option ∷ []))
+    ∷ (codes "debug", row verb.Debug 3 (keys_option ∷ []))
+    ∷ (codes "demo", row verb.Demo 2 [])
+    ∷ (codes "asm", row verb.Asm 1 [])
+    ∷ (codes "list", row verb.List 1 [])
+    ∷ (codes "dis", row verb.Dis 2 [])
+    ∷ (codes "bounds", row verb.Bounds 0 [])
+    ∷ []
+
 -- the row of the verb that a word spells
 abbrev pub usage_of : Word → Option Row
-usage_of word =
-    if bytes_eq word (codes "trace") then Some (record { verb = Trace; places = 2; options = [] })
-    else None
+usage_of word = option_map (λ line. line.1) (find (λ line. bytes_eq word line.0) table)

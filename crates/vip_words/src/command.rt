@@ -7,6 +7,9 @@ ghost use Rattle.vip_words.specs.Command.{command_app, flag_rule, keys_rule, pla
 use clap::{Arg, ArgAction, Command};
 use std::alloc::{AllocError, Global};
 
+// The options that take no word, in order.
+const FLAGS: [&str; 2] = ["at", "screen"];
+
 /// The names under which `clap` keeps the positional words, in order.
 pub const PLACES: [&str; 3] = ["first", "second", "third"];
 
@@ -38,12 +41,14 @@ fn make_flag<'a>(alloc: Global, name: &'a str) -> Arg<'a>
 fn make_options<'a>(alloc: Global, verb: &'a str) -> Result<Command<'a>, AllocError>
     ensures { IfOk result (λ command. app_of command ≡ command_app verb.entry.now 0) }
 {
-    Command::new(alloc, verb)
+    let mut command = Command::new(alloc, verb)
         .disable_help_flag(true)
         .disable_version_flag(true)
-        .arg(make_keys(alloc))?
-        .arg(make_flag(alloc, "at"))?
-        .arg(make_flag(alloc, "screen"))
+        .arg(make_keys(alloc))?;
+    for flag in &FLAGS {
+        command = command.arg(make_flag(alloc, flag))?;
+    }
+    Ok(command)
 }
 
 /// The command of a verb with so many positional words. It has every option of the program, so that one command serves all verbs with

@@ -13,14 +13,18 @@
 //! | options stand anywhere after the verb, each at most once | `clap` |
 //! | the other words are the positional ones, in order, and as many as the verb takes | `clap` |
 //! | a number of cycles is decimal and at most 4,000,000,000 | `vip_byte` |
+//! | the number of a demonstration game is decimal and at most 4,294,967,295 | `vip_byte` |
+//! | an address is hexadecimal and at most FFFF | `vip_byte` |
 //!
 //! The crate stands on the kit's `clap`, whose contracts say which words a simple command takes and what it finds in them, and on
 //! `vip_byte` for the numbers. The layer above may rely on `read_words`: it answers exactly the request that the rules of
 //! `specs/Rules.antt`, `specs/Table.antt` and `specs/Asked.antt` read in the words, and refuses exactly the words in which they read
 //! none; want of memory is its one other answer. The rules are this project's profile.
 //!
-//! A verb is added by its line in the table and its variant; an option of a verb, by its name in the verb's line. A new option has its
-//! argument in `make_options` too, and its line in the lemmas on flags.
+//! One `clap` command serves all verbs with as many positional words: it has every option, and a word that is an option of another verb
+//! doesn't come to it. So a verb is added by its line in the two tables (`src/table.rt`, `specs/Table.antt`), its variant and what its
+//! words ask for; an option of a verb, by its name in the verb's lines. A new option that takes no word is one name more among the flags
+//! (`src/command.rt`, `specs/Command.antt`), one field of what is given, and a line in each lemma on flags.
 #![tactic(auto)]
 
 mod command;
@@ -29,7 +33,10 @@ mod request;
 mod table;
 
 pub use given::WordsFail;
-pub use request::{Request, TraceRequest, read_words};
+pub use request::{
+    DebugRequest, DemoRequest, DisRequest, PlayRequest, Request, SourceRequest, TraceRequest,
+    read_words,
+};
 
 #[cfg(test)]
 mod tests;

@@ -1,14 +1,15 @@
 //! What the words of a command line ask for.
 
 ghost use Rattle.std.specs.Prelude.{◌≡◌, IfOk, IsErrOf, None, Some, map, option_map, string_bytes};
-ghost use Rattle.vip_words.specs.Asked.{asked_by, asked_of_verb, trace_of};
+ghost use Rattle.vip_words.specs.Asked.{address_of, asked_by, asked_of_verb, cycles_of, number_of};
 ghost use Rattle.vip_words.specs.Given.{seen_given};
 ghost use Rattle.vip_words.specs.Request.{asked_of};
+ghost use Rattle.vip_words.specs.declared.table.Verb.TheVariants as verb;
 
 use crate::given::{Given, Positional, WordsFail, read_given};
 use crate::table::{Usage, Verb};
 use std::alloc::Global;
-use vip_byte::read_decimal;
+use vip_byte::{read_decimal, read_hex};
 
 /// The most machine cycles that a run is asked for.
 const MOST_CYCLES: u64 = 4_000_000_000;
@@ -17,6 +18,16 @@ const MOST_CYCLES: u64 = 4_000_000_000;
 #[derive(Clone, Copy)]
 pub enum Request<'a> {
     Trace(TraceRequest<'a>),
+    Play(PlayRequest<'a>),
+    Debug(DebugRequest<'a>),
+    Demo(DemoRequest),
+    /// Assemble a source.
+    Asm(SourceRequest<'a>),
+    /// List a source with its bytes.
+    List(SourceRequest<'a>),
+    Dis(DisRequest<'a>),
+    /// The table of the bounds of each step.
+    Bounds,
 }
 
 /// A trace: the records of a run of a game.
@@ -34,20 +45,166 @@ pub struct TraceRequest<'a> {
     pub screen: bool,
 }
 
+/// The pictures of a run of a game.
+#[derive(Clone, Copy)]
+pub struct PlayRequest<'a> {
+    /// The name of the game's file.
+    pub game: &'a str,
+    /// How many machine cycles, from 0 to 4,000,000,000.
+    pub cycles: u64,
+    /// The name of the key script's file, where there is one.
+    pub keys: Option<&'a str>,
+}
+
+/// A run of a game under the debugger.
+#[derive(Clone, Copy)]
+pub struct DebugRequest<'a> {
+    /// The name of the game's file.
+    pub game: &'a str,
+    /// How many machine cycles at most, from 0 to 4,000,000,000.
+    pub cycles: u64,
+    /// The name of the file of the debugger's commands.
+    pub commands: &'a str,
+    /// The name of the key script's file, where there is one.
+    pub keys: Option<&'a str>,
+}
+
+/// The summary of a run of a demonstration game.
+#[derive(Clone, Copy)]
+pub struct DemoRequest {
+    /// The number of the game.
+    pub number: u32,
+    /// How many machine cycles, from 0 to 4,000,000,000.
+    pub cycles: u64,
+}
+
+/// The source of an assembly.
+#[derive(Clone, Copy)]
+pub struct SourceRequest<'a> {
+    /// The name of its file.
+    pub file: &'a str,
+}
+
+/// The disassembly of a file of bytes.
+#[derive(Clone, Copy)]
+pub struct DisRequest<'a> {
+    /// The name of the file.
+    pub file: &'a str,
+    /// The address of its first byte.
+    pub address: u16,
+}
+
+fn read_cycles(word: &str) -> Option<u64>
+    ensures { result ≡ cycles_of word.now }
+{
+    read_decimal(word.as_bytes(), MOST_CYCLES).ok()
+}
+
+fn read_demo_number(word: &str) -> Option<u32>
+    ensures { result ≡ number_of word.now }
+{
+    let number = read_decimal(word.as_bytes(), u32::MAX as u64).ok()?;
+    Some(number as u32)
+}
+
+fn read_address(word: &str) -> Option<u16>
+    ensures { result ≡ address_of word.now }
+{
+    let address = read_hex(word.as_bytes(), u16::MAX as u64).ok()?;
+    Some(address as u16)
+}
+
 fn trace_request<'a>(given: &Given<'a>) -> Option<Request<'a>>
-    ensures { option_map asked_of result ≡ trace_of (seen_given given.now) }
+    ensures { option_map asked_of result ≡ asked_of_verb verb.Trace (seen_given given.now) }
 {
     let Positional::Two(game, cycles) = given.positional else {
         return None;
     };
-    let cycles = read_decimal(cycles.as_bytes(), MOST_CYCLES).ok()?;
     Some(Request::Trace(TraceRequest {
         game,
-        cycles,
+        cycles: read_cycles(cycles)?,
         keys: given.keys,
         at: given.at,
         screen: given.screen,
     }))
+}
+
+fn play_request<'a>(given: &Given<'a>) -> Option<Request<'a>>
+    ensures { option_map asked_of result ≡ asked_of_verb verb.Play (seen_given given.now) }
+{
+    let Positional::Two(game, cycles) = given.positional else {
+        return None;
+    };
+    Some(Request::Play(PlayRequest {
+        game,
+        cycles: read_cycles(cycles)?,
+        keys: given.keys,
+    }))
+}
+
+fn debug_request<'a>(given: &Given<'a>) -> Option<Request<'a>>
+    ensures { option_map asked_of result ≡ asked_of_verb verb.Debug (seen_given given.now) }
+{
+    let Positional::Three(game, cycles, commands) = given.positional else {
+        return None;
+    };
+    Some(Request::Debug(DebugRequest {
+        game,
+        cycles: read_cycles(cycles)?,
+        commands,
+        keys: given.keys,
+    }))
+}
+
+fn demo_request<'a>(given: &Given<'a>) -> Option<Request<'a>>
+    ensures { option_map asked_of result ≡ asked_of_verb verb.Demo (seen_given given.now) }
+{
+    let Positional::Two(number, cycles) = given.positional else {
+        return None;
+    };
+    Some(Request::Demo(DemoRequest {
+        number: read_demo_number(number)?,
+        cycles: read_cycles(cycles)?,
+    }))
+}
+
+fn asm_request<'a>(given: &Given<'a>) -> Option<Request<'a>>
+    ensures { option_map asked_of result ≡ asked_of_verb verb.Asm (seen_given given.now) }
+{
+    match given.positional {
+        Positional::One(file) => Some(Request::Asm(SourceRequest { file })),
+        _ => None,
+    }
+}
+
+fn list_request<'a>(given: &Given<'a>) -> Option<Request<'a>>
+    ensures { option_map asked_of result ≡ asked_of_verb verb.List (seen_given given.now) }
+{
+    match given.positional {
+        Positional::One(file) => Some(Request::List(SourceRequest { file })),
+        _ => None,
+    }
+}
+
+fn dis_request<'a>(given: &Given<'a>) -> Option<Request<'a>>
+    ensures { option_map asked_of result ≡ asked_of_verb verb.Dis (seen_given given.now) }
+{
+    let Positional::Two(file, address) = given.positional else {
+        return None;
+    };
+    Some(Request::Dis(DisRequest {
+        file,
+        address: read_address(address)?,
+    }))
+}
+
+fn bounds_request<'a>(given: &Given<'a>) -> Option<Request<'a>>
+    ensures { option_map asked_of result ≡ asked_of_verb verb.Bounds (seen_given given.now) }
+{
+    match given.positional {
+        Positional::Empty => Some(Request::Bounds),
+        _ => None,
+    }
 }
 
 fn request_of<'a>(verb: Verb, given: &Given<'a>) -> Option<Request<'a>>
@@ -55,6 +212,13 @@ fn request_of<'a>(verb: Verb, given: &Given<'a>) -> Option<Request<'a>>
 {
     match verb {
         Verb::Trace => trace_request(given),
+        Verb::Play => play_request(given),
+        Verb::Debug => debug_request(given),
+        Verb::Demo => demo_request(given),
+        Verb::Asm => asm_request(given),
+        Verb::List => list_request(given),
+        Verb::Dis => dis_request(given),
+        Verb::Bounds => bounds_request(given),
     }
 }
 

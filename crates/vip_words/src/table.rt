@@ -1,6 +1,6 @@
 //! The table of the verbs.
 
-ghost use Rattle.std.specs.Prelude.{◌≡◌, ◌≤◌, IsTrue, option_map};
+ghost use Rattle.std.specs.Prelude.{◌≡◌, ◌≤◌, IsTrue, Some, map, option_map};
 ghost use Rattle.std.specs.List.{list_all};
 ghost use Rattle.vip_words.specs.Rules.{is_option};
 
@@ -8,6 +8,13 @@ ghost use Rattle.vip_words.specs.Rules.{is_option};
 #[derive(Clone, Copy)]
 pub enum Verb {
     Trace,
+    Play,
+    Debug,
+    Demo,
+    Asm,
+    List,
+    Dis,
+    Bounds,
 }
 
 /// What may follow a verb.
@@ -23,19 +30,35 @@ pub struct Usage {
 }
 
 impl Usage {
-    ghost use Rattle.vip_words.specs.Table.{usage_of};
+    ghost use Rattle.vip_words.specs.Table.{row, usage_of};
     ghost use Rattle.vip_words.specs.Usage.{row_of};
+
+    // A line of the table.
+    fn new(verb: Verb, places: usize, options: &'static [&'static str]) -> Usage
+        requires few_places { places ≤ 3 }
+        requires known_options { IsTrue (list_all (λ option. is_option option.now) options.now) }
+        ensures { row_of result ≡ row verb places (map (λ option. option.now) options.now) }
+    {
+        Usage {
+            verb,
+            places,
+            options,
+        }
+    }
 
     /// What may follow the verb that a word spells, or nothing where it spells none.
     pub fn of(word: &str) -> Option<Usage>
         ensures { option_map row_of result ≡ usage_of word.now }
     {
         match word {
-            "trace" => Some(Usage {
-                verb: Verb::Trace,
-                places: 2,
-                options: &[],
-            }),
+            "trace" => Some(Usage::new(Verb::Trace, 2, &["--keys", "--at", "--screen"])),
+            "play" => Some(Usage::new(Verb::Play, 2, &["--keys"])),
+            "debug" => Some(Usage::new(Verb::Debug, 3, &["--keys"])),
+            "demo" => Some(Usage::new(Verb::Demo, 2, &[])),
+            "asm" => Some(Usage::new(Verb::Asm, 1, &[])),
+            "list" => Some(Usage::new(Verb::List, 1, &[])),
+            "dis" => Some(Usage::new(Verb::Dis, 2, &[])),
+            "bounds" => Some(Usage::new(Verb::Bounds, 0, &[])),
             _ => None,
         }
     }
