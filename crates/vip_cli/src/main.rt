@@ -1,13 +1,15 @@
-//! The program `vip`: its words, its run, its reports and its status.
+//! The program `vip`: what its words ask for, the work of each command, its report and its status.
 //!
 //! ```text
-//!     words ──▶ vip_words ──▶ files ──▶ board with the ROM ──▶ a line for each dispatch point ──▶ out
-//!                  │             │                                       │
-//!                  └─────────────┴──────────── report ◀──────────────────┘ ──▶ err, status
+//!     words ──▶ vip_words ──▶ files ──┬──▶ key script ──▶ ROM check ──▶ vip_relation ──▶ vip_show ──┬──▶ out
+//!                   │           │     └──▶ assembler, listing, disassembly, bounds ─────────────────┤
+//!                   └───────────┴──────────────────▶ report ◀───────────────────────────────────────┘
+//!                                                       └──▶ err, status
 //! ```
 //!
 //! `vip_main` is the one call that the process makes; its contract says what goes to `out` and `err` for every answer, byte by byte and
-//! put by put. It stands on every layer below through their contracts alone.
+//! put by put. Before each run the ROM is compared with what its built-in source assembles to. The crate stands on every layer below
+//! through their contracts alone. Reports and statuses are this project's; a picture is a file of Netpbm's PBM, form P4.
 #![tactic(auto)]
 
 mod command;
