@@ -20,6 +20,8 @@ mod report;
 mod status;
 mod top;
 
+use refusal::Refusal;
+use report::put_refusal;
 use status::Status;
 use std::alloc::Global;
 use std::env;
@@ -29,31 +31,40 @@ use top::vip_main;
 use vip_outside::{RealFiles, StdSink};
 
 /// The words after the program's name.
-fn words_after_name(alloc: Global, args: env::Args) -> Result<Vec<String>, Status> {
+fn words_after_name(alloc: Global, args: env::Args) -> Result<Vec<String>, Refusal<'static>> {
     let mut words = Vec::new(alloc);
     for word in args.skip(1) {
         if words.push(word).is_err() {
-            return Err(Status::NoMemory);
+            return Err(Refusal::NoMemory);
         }
     }
     Ok(words)
 }
 
-/// A word that isn't UTF-8 is a faulty command line.
-fn run(rt: &HostRuntime) -> Result<Status, Status> {
+/// The words of the command line. One that isn't UTF-8 is a faulty command line.
+fn words_of(rt: &HostRuntime) -> Result<Vec<String>, Refusal<'static>> {
+    match env::args(rt) {
+        Ok(args) => words_after_name(rt.alloc(), args),
+        Err(e) if e.kind() == ErrorKind::OutOfMemory => Err(Refusal::NoMemory),
+        Err(_) => Err(Refusal::Usage),
+    }
+}
+
+/// Runs the program on the real outside.
+fn run(rt: &HostRuntime) -> Status {
     let alloc = rt.alloc();
     let mut files = RealFiles::new(rt, alloc);
     let mut out = StdSink::new(rt.stdout());
     let mut err = StdSink::new(rt.stderr());
-    let words = match env::args(rt) {
-        Ok(args) => words_after_name(alloc, args)?,
-        Err(e) if e.kind() == ErrorKind::OutOfMemory => return Err(Status::NoMemory),
-        Err(_) => return Err(Status::Usage),
-    };
-    Ok(vip_main(alloc, words.as_slice(), &mut files, &mut out, &mut err))
+    match words_of(rt) {
+        Ok(words) => vip_main(alloc, words.as_slice(), &mut files, &mut out, &mut err),
+        Err(refusal) => {
+            let _ = put_refusal(&mut err, &refusal);
+            refusal.status()
+        }
+    }
 }
 
 fn main(rt: HostRuntime) -> ExitCode {
-    let (Ok(status) | Err(status)) = run(&rt);
-    ExitCode::from(status.number())
+    ExitCode::from(run(&rt).number())
 }
