@@ -1,7 +1,7 @@
+mod CommandLemmas
 mod DemoLemmas
-pub mod CommandLemmas
-pub mod FilesLemmas
+mod FilesLemmas
 mod LanguageLemmas
 mod ReportLemmas
-pub mod TopLemmas
-pub mod WordsLemmas
+mod TopLemmas
+mod WordsLemmas

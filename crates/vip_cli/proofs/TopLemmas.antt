@@ -1,5 +1,5 @@
 -- The laws of the answers, from what each answer says, and what the steps of a call say together.
-use Rattle.std.proofs.Common.{◌≡◌, ℕ, ◌+◌, ◌<◌, ◌≤◌, ◌⊎◌, inl, inr, List, [], ◌∷◌, ◌++◌, Option, Some, None, IfSome, IsSomeAnd, length, ltb, false, true, refl, sym, ap, subst, ◌∙◌, arith, Result, Ok, Err}
+use Rattle.std.proofs.Common.{◌≡◌, ℕ, ◌<◌, ◌⊎◌, inl, inr, List, [], ◌∷◌, ◌++◌, Option, Some, None, IsSomeAnd, length, refl, sym, ap, subst, ◌∙◌, arith, Result, Ok, Err}
 use Rattle.std.proofs.lemmas.Bool.{le-ltb, lt-ltb}
 use Rattle.std.specs.FinMap.{get}
 use Rattle.machine.specs.Keys.{Event as KeyEvent}
@@ -12,22 +12,19 @@ use Rattle.rom_check.proofs.OneAnswer.{answers_agree}
 use Rattle.rom_check.specs.declared.fault.ImageFault.{ImageFault}
 use Rattle.rom_check.specs.declared.fault.ImageFault.TheVariants as image
 use Rattle.vip_outside.specs.Count.{Rose}
-use Rattle.vip_outside.specs.Files.{FileMap, FilesMeaning, LacksName, ReadFails}
+use Rattle.vip_outside.specs.Files.{FileMap, FilesMeaning}
 use Rattle.vip_outside.specs.Sink.{SinkMeaning, Gains, GainsPart, GainAnswers}
 use Rattle.vip_outside.specs.declared.sink.Failed.{Failed}
-use Rattle.vip_show.specs.declared.run.RunEnd.TheVariants as run
 use Rattle.vip_words.specs.Asked.{Asked, trace, play, debug, demo, asm, list, dis, bounds}
-use Rattle.vip_cli.specs.Command.{ended_status, ended_report, Ends, Breaks, Rejected, OfWords, RefusesFile, CommandAnswers, UnderstoodAnswers, WordsAnswer}
-use Rattle.vip_cli.specs.Files.{Needed, needed, Has, HasAll, ComesTo, IsLarger, IsUnread, FilesAnswer}
-use Rattle.vip_cli.specs.Outcome.{Outcome, Comes, RunComes, SourceComes, RomIs, IsFault, script_in, understood}
+use Rattle.vip_cli.specs.Command.{Rejected, OfWords, WordsAnswer}
+use Rattle.vip_cli.specs.Files.{Needed, needed, HasAll, ComesTo, IsLarger}
+use Rattle.vip_cli.specs.Outcome.{Outcome, Comes, RunComes, SourceComes, RomIs, IsFault, understood}
 use Rattle.vip_cli.specs.Outcome.Outcome.{Refused, Shown}
 use Rattle.vip_cli.specs.Outcome.RunComes.{FaultyScript, FaultyRom, Runs}
 use Rattle.vip_cli.specs.Outcome.SourceComes.{FaultySource, Assembles}
 use Rattle.vip_cli.specs.Refusal.{image_status, status_of, too_large_status}
 use Rattle.vip_cli.specs.Report.{cannot_read, report_of, too_large_report}
-use Rattle.vip_cli.specs.Top.{Call, call_of, Reported, Refuses, Asks, Oversize, Rejects, Shows, Faulty, Says, IsQuiet, Reading, Lacks, Larger, Whole, with_content, reading_one, reading, Due, Lacking, TooLarge, Refusing, Showing, RefusesWords, Offers, GivesDue, AreRefused, Completes}
-use Rattle.vip_cli.specs.declared.command.Ended.{Ended}
-use Rattle.vip_cli.specs.declared.command.Ended.TheVariants.{Worked, Ran}
+use Rattle.vip_cli.specs.Top.{Call, call_of, Asks, Oversize, Rejects, Shows, Faulty, Says, IsQuiet, Reading, Lacks, Larger, Whole, with_content, reading, Due, Lacking, TooLarge, Refusing, Showing, RefusesWords, Offers, GivesDue, AreRefused, Completes}
 use Rattle.vip_cli.specs.declared.refusal.Kind.{Kind}
 use Rattle.vip_cli.specs.declared.refusal.Kind.TheVariants as kind
 use Rattle.vip_cli.specs.declared.refusal.Refusal.{Refusal}

@@ -5,7 +5,6 @@ use Rattle.std.specs.Result.{result_ok}
 use Rattle.std.specs.Str.Parse.{digits_value}
 use Rattle.std.proofs.lemmas.Bool.{ltb-false}
 use Rattle.vip_byte.specs.Number.{number, are_digits}
-use Rattle.vip_byte.specs.declared.number.NumFault.{NumFault}
 use Rattle.vip_byte.specs.declared.number.NumFault.TheVariants.{Empty, BadDigit, TooLarge}
 use Rattle.vip_words.specs.Asked.{Asked, trace, play, debug, demo, asm, list, dis, bounds, asked_by, asked_of_verb, cycles_of, number_of, address_of, trace_by, play_by, debug_by, demo_by, file_by, dis_by, bounds_by}
 use Rattle.vip_words.specs.Rules.{Word, Given, given_by}
