@@ -55,7 +55,13 @@ pub fn show_summary<O: Sink>(
 {
     let tally = run(vip, limit, Shown::Nothing, out)?;
     let mut text = Buffer::new();
-    summary_text(number, tally.dispatches, tally.pictures, lit(vip), &mut text);
+    summary_text(
+        number,
+        tally.dispatches,
+        tally.pictures,
+        lit(vip),
+        &mut text,
+    );
     out.put(text.as_slice())?;
     Ok(tally.end)
 }
