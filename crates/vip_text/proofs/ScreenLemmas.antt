@@ -4,7 +4,7 @@ use Rattle.std.specs.List.{flat_map}
 use Rattle.std.proofs.lemmas.Grind.{flat_map-append}
 use Rattle.chip8_lang.specs.Events.{numbers_from}
 use Rattle.chip8_lang.specs.Screen.{Pixels}
-use Rattle.vip_text.specs.Screens.{dot, row_text, screen_lines}
+use Rattle.vip_text.specs.Screens.{row_text, screen_lines}
 
 -- one number more at the end
 numbers_from-suc : (a n : ℕ) → numbers_from a (suc n) ≡ numbers_from a n ++ (a + n) ∷ []

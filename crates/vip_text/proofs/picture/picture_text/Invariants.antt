@@ -1,5 +1,4 @@
-use Rattle.std.proofs.Common.{◌≡◌, ◌+◌, ◌*◌, ◌++◌, length, take, codes}
-use Rattle.std.specs.List.{flat_map}
+use Rattle.std.proofs.Common.{◌≡◌, ◌+◌, ◌*◌, length, take}
 use Rattle.vip_text.specs.Screens.{picture_file}
 use Rattle.vip_text.proofs.picture.picture_text.Given as goal
 

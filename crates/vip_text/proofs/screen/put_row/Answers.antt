@@ -1,4 +1,4 @@
-use Rattle.std.proofs.Common.{◌≡◌, ◌/◌, ◌∷◌, [], ◌++◌, length, map, arith, ap, ◌∙◌, append_assoc, sym}
+use Rattle.std.proofs.Common.{◌≡◌, ◌/◌, ◌∷◌, [], ◌++◌, length, map, arith, ap, ◌∙◌, append_assoc}
 use Rattle.chip8_lang.specs.Events.{numbers_from}
 use Rattle.chip8_lang.specs.Places.{pixels}
 use Rattle.vip_text.specs.Screens.{dot}
