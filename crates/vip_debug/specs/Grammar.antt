@@ -1,0 +1,160 @@
+-- The commands of the debugger: a text with one command a line (this project's format). Its lines, its words and its remarks are those of
+-- a key script.
+use Rattle.std.specs.Prelude.{ℕ, ◌+◌, if◌then◌else◌, nat_lt, List, [], ◌∷◌, length, slice_index_or, codes, Option, Some, None, Result, Ok, Err, ok_or}
+use Rattle.std.specs.List.{filter_map, range_with_len}
+use Rattle.std.specs.Option.{option_map}
+use Rattle.std.specs.Result.{result_err, result_ok, result_unwrap_or}
+use Rattle.std.specs.Str.{bytes_eq}
+use Rattle.std.specs.Str.Lines.{lines}
+use Rattle.vip_byte.specs.declared.number.NumFault.{NumFault}
+use Rattle.vip_byte.specs.declared.number.NumFault.TheVariants.{TooLarge}
+use Rattle.vip_byte.specs.Number.{decimal_number, hex_number}
+use Rattle.vip_byte.specs.Text.{words}
+use Rattle.vip_keypad.specs.KeyScript.{is_silent}
+use Rattle.vip_debug.specs.declared.command.Command.{Command}
+use Rattle.vip_debug.specs.declared.command.Command.TheVariants.{Step, To, Next, Break, Regs, State, Mem, Dis, Screen}
+use Rattle.vip_debug.specs.declared.command.CommandCause.{CommandCause}
+use Rattle.vip_debug.specs.declared.command.CommandCause.TheVariants.{BadWord, BadCount, BadNumber, Range}
+use Rattle.vip_debug.specs.declared.command.CommandFault.{CommandFault}
+use Rattle.vip_debug.specs.declared.command.CommandFault.TheVariants.{Fault}
+
+-- the most moves or dispatch points of one command, and the most bytes or lines
+abbrev pub most_steps : ℕ
+most_steps = 1_000_000
+
+abbrev pub most_shown : ℕ
+most_shown = 4_096
+
+-- ---- the words of a command
+
+-- the second step, if the first gave a value
+infixl 10 ◌>>=◌
+abbrev pub ◌>>=◌ : {A B : Type 0} → Result A CommandCause → (A → Result B CommandCause) → Result B CommandCause
+Ok value >>= next = next value
+Err cause >>= next = Err cause
+
+-- so many operands
+abbrev pub no_operand : Command → List (List ℕ) → Result Command CommandCause
+no_operand command [] = Ok command
+no_operand command operands = Err BadCount
+
+abbrev pub one_operand : List (List ℕ) → Result (List ℕ) CommandCause
+one_operand (word ∷ []) = Ok word
+one_operand operands = Err BadCount
+
+abbrev pub two_operands : List (List ℕ) → Result (List ℕ × List ℕ) CommandCause
+two_operands (first ∷ second ∷ []) = Ok (first, second)
+two_operands operands = Err BadCount
+
+-- a number that is too large is out of its range
+abbrev pub cause_of : NumFault → CommandCause
+cause_of TooLarge = Range
+cause_of fault = BadNumber
+
+abbrev pub no_less_than : ℕ → Result ℕ NumFault → Result ℕ CommandCause
+no_less_than least (Ok number) = if nat_lt number least then Err Range else Ok number
+no_less_than least (Err fault) = Err (cause_of fault)
+
+-- a decimal number in these bounds
+unfoldable pub decimal_within : ℕ → ℕ → List ℕ → Result ℕ CommandCause
+decimal_within least most word = no_less_than least (decimal_number word most)
+
+-- one to four hexadecimal digits
+unfoldable pub address_of : List ℕ → Result ℕ CommandCause
+address_of word = if nat_lt 4 (length word) then Err BadNumber else ok_or (result_ok (hex_number word 0xffff)) BadNumber
+
+-- bytes that end at FFFF at the latest
+abbrev pub bytes_within : ℕ → ℕ → Result Command CommandCause
+bytes_within address count = if nat_lt 0x10000 (address + count) then Err Range else Ok (Mem address count)
+
+-- ---- the commands
+
+unfoldable pub step_of : List (List ℕ) → Result Command CommandCause
+step_of operands = do
+  word ← one_operand operands
+  moves ← decimal_within 1 most_steps word
+  Ok (Step moves)
+
+-- up to a cycle that is at most the limit
+unfoldable pub to_of : ℕ → List (List ℕ) → Result Command CommandCause
+to_of limit operands = do
+  word ← one_operand operands
+  cycle ← decimal_within 0 limit word
+  Ok (To cycle)
+
+unfoldable pub next_of : List (List ℕ) → Result Command CommandCause
+next_of operands = do
+  word ← one_operand operands
+  points ← decimal_within 1 most_steps word
+  Ok (Next points)
+
+unfoldable pub break_of : List (List ℕ) → Result Command CommandCause
+break_of operands = do
+  word ← one_operand operands
+  address ← address_of word
+  Ok (Break address)
+
+unfoldable pub mem_of : List (List ℕ) → Result Command CommandCause
+mem_of operands = do
+  pair ← two_operands operands
+  address ← address_of pair.0
+  count ← decimal_within 1 most_shown pair.1
+  bytes_within address count
+
+unfoldable pub dis_of : List (List ℕ) → Result Command CommandCause
+dis_of operands = do
+  pair ← two_operands operands
+  address ← address_of pair.0
+  count ← decimal_within 1 most_shown pair.1
+  Ok (Dis address count)
+
+-- the command that a word and its operands say, or the first cause for which they say none: one that shows, and any
+unfoldable pub showing_of : List ℕ → List (List ℕ) → Result Command CommandCause
+showing_of word operands =
+    if bytes_eq word (codes "screen") then no_operand Screen operands
+    else if bytes_eq word (codes "regs") then no_operand Regs operands
+    else if bytes_eq word (codes "state") then no_operand State operands
+    else if bytes_eq word (codes "mem") then mem_of operands
+    else if bytes_eq word (codes "dis") then dis_of operands
+    else Err BadWord
+
+unfoldable pub command_of : ℕ → List ℕ → List (List ℕ) → Result Command CommandCause
+command_of limit word operands =
+    if bytes_eq word (codes "step") then step_of operands
+    else if bytes_eq word (codes "to") then to_of limit operands
+    else if bytes_eq word (codes "next") then next_of operands
+    else if bytes_eq word (codes "break") then break_of operands
+    else showing_of word operands
+
+-- ---- the lines
+
+abbrev pub some_command : ℕ → List (List ℕ) → Result (Option Command) CommandCause
+some_command limit [] = Ok None
+some_command limit (word ∷ operands) = do
+  command ← command_of limit word operands
+  Ok (Some command)
+
+-- what a line says: nothing, or one command
+unfoldable pub said : ℕ → List ℕ → Result (Option Command) CommandCause
+said limit line = if is_silent (words line) then Ok None else some_command limit (words line)
+
+-- the commands of some lines
+unfoldable pub commands_in : ℕ → List (List ℕ) → List Command
+commands_in limit lines = filter_map (λ line. result_unwrap_or (said limit line) None) lines
+
+-- the fault of line i, counted from 0; a fault names its line counted from 1
+abbrev pub fault_at : ℕ → List (List ℕ) → ℕ → Option CommandFault
+fault_at limit lines i = option_map (Fault (i + 1)) (result_err (said limit (slice_index_or lines i [])))
+
+-- the faults of all lines, first to last
+unfoldable pub faults_of : ℕ → List (List ℕ) → List CommandFault
+faults_of limit lines = filter_map (fault_at limit lines) (range_with_len 0 (length lines))
+
+-- the commands, or the first fault where there is one
+abbrev pub unless_faulty : List Command → List CommandFault → Result (List Command) CommandFault
+unless_faulty commands [] = Ok commands
+unless_faulty commands (fault ∷ others) = Err fault
+
+-- what a text of commands says: the list of its commands, or its first fault
+unfoldable pub commands_of : ℕ → List ℕ → Result (List Command) CommandFault
+commands_of limit text = unless_faulty (commands_in limit (lines text)) (faults_of limit (lines text))
