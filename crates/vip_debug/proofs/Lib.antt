@@ -1,1 +1,9 @@
 pub mod TextLemmas
+pub mod Places
+pub mod Settling
+pub mod Passing
+pub mod Moving
+pub mod Lines
+pub mod Disassembling
+pub mod Answering
+pub mod Folding

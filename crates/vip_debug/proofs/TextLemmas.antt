@@ -22,7 +22,7 @@ pub record IsReadUpTo (limit : ℕ) (text : List ℕ) (done left : List (List �
   pub count : number ≡ length done
 
 -- a range in two parts
-range_with_len-add : (a n m : ℕ) → range_with_len a (n + m) ≡ range_with_len a n ++ range_with_len (a + n) m
+pub range_with_len-add : (a n m : ℕ) → range_with_len a (n + m) ≡ range_with_len a n ++ range_with_len (a + n) m
 range_with_len-add a zero m = rw (zero-add, add-zero) refl
 range_with_len-add a (suc n) m =
     let more : suc n + m ≡ suc (n + m) = omega arith in

@@ -12,7 +12,10 @@ use Rattle.vip_byte.specs.Number.{decimal_number, hex_number}
 use Rattle.vip_byte.specs.Text.{words}
 use Rattle.vip_keypad.specs.KeyScript.{is_silent}
 use Rattle.vip_debug.specs.declared.command.Command.{Command}
-use Rattle.vip_debug.specs.declared.command.Command.TheVariants.{Step, To, Next, Break, Regs, State, Mem, Dis, Screen}
+use Rattle.vip_debug.specs.declared.command.Command.TheVariants.{Runs, Shows}
+use Rattle.vip_debug.specs.declared.command.Running.TheVariants.{Step, To, Next, Break}
+use Rattle.vip_debug.specs.declared.command.Showing.{Showing}
+use Rattle.vip_debug.specs.declared.command.Showing.TheVariants.{Regs, State, Mem, Dis, Screen}
 use Rattle.vip_debug.specs.declared.command.CommandCause.{CommandCause}
 use Rattle.vip_debug.specs.declared.command.CommandCause.TheVariants.{BadWord, BadCount, BadNumber, Range}
 use Rattle.vip_debug.specs.declared.command.CommandFault.{CommandFault}
@@ -34,9 +37,9 @@ Ok value >>= next = next value
 Err cause >>= next = Err cause
 
 -- so many operands
-abbrev pub no_operand : Command → List (List ℕ) → Result Command CommandCause
-no_operand command [] = Ok command
-no_operand command operands = Err BadCount
+abbrev pub no_operand : Showing → List (List ℕ) → Result Command CommandCause
+no_operand showing [] = Ok (Shows showing)
+no_operand showing operands = Err BadCount
 
 abbrev pub one_operand : List (List ℕ) → Result (List ℕ) CommandCause
 one_operand (word ∷ []) = Ok word
@@ -65,7 +68,7 @@ address_of word = if nat_lt 4 (length word) then Err BadNumber else ok_or (resul
 
 -- bytes that end at FFFF at the latest
 abbrev pub bytes_within : ℕ → ℕ → Result Command CommandCause
-bytes_within address count = if nat_lt 0x10000 (address + count) then Err Range else Ok (Mem address count)
+bytes_within address count = if nat_lt 0x10000 (address + count) then Err Range else Ok (Shows (Mem address count))
 
 -- ---- the commands
 
@@ -73,26 +76,26 @@ unfoldable pub step_of : List (List ℕ) → Result Command CommandCause
 step_of operands = do
   word ← one_operand operands
   moves ← decimal_within 1 most_steps word
-  Ok (Step moves)
+  Ok (Runs (Step moves))
 
 -- up to a cycle that is at most the limit
 unfoldable pub to_of : ℕ → List (List ℕ) → Result Command CommandCause
 to_of limit operands = do
   word ← one_operand operands
   cycle ← decimal_within 0 limit word
-  Ok (To cycle)
+  Ok (Runs (To cycle))
 
 unfoldable pub next_of : List (List ℕ) → Result Command CommandCause
 next_of operands = do
   word ← one_operand operands
   points ← decimal_within 1 most_steps word
-  Ok (Next points)
+  Ok (Runs (Next points))
 
 unfoldable pub break_of : List (List ℕ) → Result Command CommandCause
 break_of operands = do
   word ← one_operand operands
   address ← address_of word
-  Ok (Break address)
+  Ok (Runs (Break address))
 
 unfoldable pub mem_of : List (List ℕ) → Result Command CommandCause
 mem_of operands = do
@@ -106,7 +109,7 @@ dis_of operands = do
   pair ← two_operands operands
   address ← address_of pair.0
   count ← decimal_within 1 most_shown pair.1
-  Ok (Dis address count)
+  Ok (Shows (Dis address count))
 
 -- the command that a word and its operands say, or the first cause for which they say none: one that shows, and any
 unfoldable pub showing_of : List ℕ → List (List ℕ) → Result Command CommandCause

@@ -1,1 +1,4 @@
 pub mod Grammar
+pub mod Shown
+pub mod Answers
+pub mod Parts

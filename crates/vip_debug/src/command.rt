@@ -10,9 +10,16 @@ use std::marker::Model;
 use thiserror::Error;
 use vip_byte::Lines;
 
-/// A command. The first four run the board, up to its stop point or the limit at the latest; the others show what it holds and leave it.
+/// A command: it runs the board, or shows what it holds.
 #[derive(Clone, Copy, Debug, PartialEq, Eq)]
 pub enum Command {
+    Runs(Running),
+    Shows(Showing),
+}
+
+/// A command that runs the board, up to its stop point or the limit at the latest.
+#[derive(Clone, Copy, Debug, PartialEq, Eq)]
+pub enum Running {
     /// Makes so many moves.
     Step(u32),
     /// Makes the moves that end at or before a machine cycle.
@@ -21,15 +28,20 @@ pub enum Command {
     Next(u32),
     /// Runs to the next dispatch point with this pc.
     Break(u16),
-    /// Shows the registers of the processor.
+}
+
+/// A command that shows what the board holds, and leaves it.
+#[derive(Clone, Copy, Debug, PartialEq, Eq)]
+pub enum Showing {
+    /// The registers of the processor.
     Regs,
-    /// Shows the language state at the last dispatch point met.
+    /// The language state at the last dispatch point met.
     State,
-    /// Shows so many bytes from an address on.
+    /// So many bytes from an address on.
     Mem(u16, u32),
-    /// Shows so many lines of the disassembly of the bytes from an address on.
+    /// So many lines of the disassembly of the bytes from an address on.
     Dis(u16, u32),
-    /// Shows the screen at the last dispatch point met.
+    /// The screen at the last dispatch point met.
     Screen,
 }
 

@@ -3,7 +3,7 @@
 ghost use Rattle.std.specs.Prelude.{◌≡◌, ◌≤◌, ◌∷◌, [], Ok, Err, IfOk, MatchResult};
 ghost use Rattle.vip_debug.specs.Grammar.{address_of, break_of, bytes_within, command_of, decimal_within, dis_of, mem_of, next_of, no_operand, one_operand, said, showing_of, step_of, to_of, two_operands};
 
-use crate::command::{Command, CommandCause};
+use crate::command::{Command, CommandCause, Running, Showing};
 use vip_byte::{NumFault, Words, read_decimal, read_hex};
 
 /// The most moves or dispatch points of one command.
@@ -48,9 +48,9 @@ fn read_showing(word: &[u8], operands: Words) -> Result<Command, CommandCause>
     ensures { result ≡ showing_of word.now operands.entry }
 {
     match word {
-        word if word == b"screen".as_slice() => alone(Command::Screen, operands),
-        b"regs" => alone(Command::Regs, operands),
-        b"state" => alone(Command::State, operands),
+        word if word == b"screen".as_slice() => alone(Showing::Screen, operands),
+        b"regs" => alone(Showing::Regs, operands),
+        b"state" => alone(Showing::State, operands),
         b"mem" => read_mem(operands),
         b"dis" => read_dis(operands),
         _ => Err(CommandCause::BadWord),
@@ -62,7 +62,7 @@ fn read_step(operands: Words) -> Result<Command, CommandCause>
     ensures { result ≡ step_of operands.entry }
 {
     let moves = read_within(one(operands)?, 1, MOST_STEPS)?;
-    Ok(Command::Step(moves as u32))
+    Ok(Command::Runs(Running::Step(moves as u32)))
 }
 
 #[tactic(auto, unfolding(crate::specs::Grammar::to_of))]
@@ -70,7 +70,7 @@ fn read_to(operands: Words, limit: u64) -> Result<Command, CommandCause>
     ensures { result ≡ to_of limit operands.entry }
 {
     let cycle = read_within(one(operands)?, 0, limit)?;
-    Ok(Command::To(cycle))
+    Ok(Command::Runs(Running::To(cycle)))
 }
 
 #[tactic(auto, unfolding(crate::specs::Grammar::next_of))]
@@ -78,7 +78,7 @@ fn read_next(operands: Words) -> Result<Command, CommandCause>
     ensures { result ≡ next_of operands.entry }
 {
     let points = read_within(one(operands)?, 1, MOST_STEPS)?;
-    Ok(Command::Next(points as u32))
+    Ok(Command::Runs(Running::Next(points as u32)))
 }
 
 #[tactic(auto, unfolding(crate::specs::Grammar::break_of))]
@@ -86,7 +86,7 @@ fn read_break(operands: Words) -> Result<Command, CommandCause>
     ensures { result ≡ break_of operands.entry }
 {
     let address = read_address(one(operands)?)?;
-    Ok(Command::Break(address))
+    Ok(Command::Runs(Running::Break(address)))
 }
 
 #[tactic(auto, unfolding(crate::specs::Grammar::mem_of))]
@@ -106,7 +106,7 @@ fn mem_within(address: u16, count: u64) -> Result<Command, CommandCause>
     if u64::from(address) + count > 0x10000 {
         return Err(CommandCause::Range);
     }
-    Ok(Command::Mem(address, count as u32))
+    Ok(Command::Shows(Showing::Mem(address, count as u32)))
 }
 
 #[tactic(auto, unfolding(crate::specs::Grammar::dis_of))]
@@ -116,16 +116,16 @@ fn read_dis(operands: Words) -> Result<Command, CommandCause>
     let (first, second) = two(operands)?;
     let address = read_address(first)?;
     let count = read_within(second, 1, MOST_SHOWN)?;
-    Ok(Command::Dis(address, count as u32))
+    Ok(Command::Shows(Showing::Dis(address, count as u32)))
 }
 
-// A command without operands.
-fn alone(command: Command, mut operands: Words) -> Result<Command, CommandCause>
-    ensures { result ≡ no_operand command operands.entry }
+// A command that shows, without operands.
+fn alone(showing: Showing, mut operands: Words) -> Result<Command, CommandCause>
+    ensures { result ≡ no_operand showing operands.entry }
 {
     match operands.next() {
         Some(_) => Err(CommandCause::BadCount),
-        None => Ok(command),
+        None => Ok(Command::Shows(showing)),
     }
 }
 
