@@ -18,6 +18,8 @@ mod files;
 mod refusal;
 mod report;
 mod status;
+#[cfg(test)]
+mod tests;
 mod top;
 
 use refusal::Refusal;
