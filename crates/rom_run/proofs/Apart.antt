@@ -1,5 +1,5 @@
 -- A row whose next address lies in the part of the fetch is that of a block of the fetch: the other blocks and places lie in other parts.
-use Rattle.std.proofs.Common.{◌≡◌, ℕ, zero, suc, ◌+◌, ◌*◌, ◌-◌, ◌%◌, ◌<◌, ◌≤◌, refl, sym, ◌∙◌, ap, arith, Bool, true, false, not, ◌&&◌, List, [], ◌∷◌, slice_index}
+use Rattle.std.proofs.Common.{◌≡◌, ℕ, zero, suc, refl, sym, ◌∙◌, ap, arith, Bool, true, false, not, ◌&&◌, List, [], ◌∷◌, slice_index}
 use Rattle.std.proofs.lemmas.Bool.{agree_below_at, and_parts, not-true}
 use Rattle.machine.specs.Instruction.{at}
 use Rattle.machine.specs.Board.{Machine}
@@ -28,7 +28,7 @@ use Rattle.chip8_rows.specs.TimerBlocks.TimerPlace.{RandomCount, GetDelay, SetDe
 use Rattle.chip8_rows.specs.KeyBlocks.KeyPlace.{SkipTest, KeyTest, KeyHeld}
 use Rattle.chip8_rows.specs.SpriteBlocks.SpritePlace.{ClearWait, ClearIdle, DrawWait, DrawIdle}
 use Rattle.chip8_rows.specs.Rom.{vip}
-use Rattle.chip8_rows.specs.Table.{Block, Place, Head, At, pieces}
+use Rattle.chip8_rows.specs.Table.{Head, pieces}
 use Rattle.chip8_rows.specs.Table.Block.{OfFetch, OfJump, OfArith, OfMemory, OfSprite, OfTimer, OfKey}
 use Rattle.chip8_rows.specs.Table.Place.{AtTimer, AtKey, AtSprite}
 use Rattle.arith_blocks.proofs.JumpLaw.{jump_addresses_run}

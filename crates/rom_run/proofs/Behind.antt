@@ -6,7 +6,7 @@ use Rattle.machine.specs.Schedule.{Tick}
 use Rattle.chip8_lang.specs.declared.view.Edition.{Edition}
 use Rattle.rom_moves.specs.Code.{Input, moved}
 use Rattle.rom_moves.proofs.Ranges.{tick_fits}
-use Rattle.rom_law.specs.Program.{Program, code}
+use Rattle.rom_law.specs.Program.{code}
 use Rattle.rom_law.specs.Rows.{Since, Row, Outcome, now, after_main, after_tick}
 use Rattle.rom_law.specs.Rows.Row.{Inside, Alone}
 use Rattle.rom_law.proofs.Kept.{block_awake, block_moves, block_ticks, block_cycle, starts_row}

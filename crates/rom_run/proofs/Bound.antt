@@ -1,5 +1,5 @@
 -- Each move of the board ends within the bound of the instruction at the last dispatch point.
-use Rattle.std.proofs.Common.{◌≡◌, ℕ, zero, suc, ◌+◌, ◌*◌, ◌/◌, ◌%◌, ◌<◌, ◌≤◌, inr, sym, ◌∙◌, ap, subst, arith, List}
+use Rattle.std.proofs.Common.{◌≡◌, ℕ, suc, ◌+◌, ◌*◌, ◌/◌, ◌%◌, ◌<◌, ◌≤◌, inr, sym, ◌∙◌, ap, subst, arith, List}
 use Rattle.std.specs.Prelude.{Some}
 use Rattle.machine.specs.Board.{Machine, move}
 use Rattle.machine.specs.Keys.{Keys, Event, held_at}
@@ -25,7 +25,7 @@ use Rattle.rom_run.specs.Running.Running.{InMain, InRoutine}
 use Rattle.rom_run.proofs.Moves.{interrupted}
 use Rattle.rom_run.proofs.Proved.{proved}
 use Rattle.rom_run.proofs.Ticks.{within, later_cycle}
-use Rattle.rom_run.proofs.Time.{fewer, Soon, row_in_time}
+use Rattle.rom_run.proofs.Time.{fewer, row_in_time}
 
 chain : {a b c d : ℕ} → a ≤ b → b ≡ c → c ≤ d → a ≤ d
 chain l e m = omega (arith, l, e, m)

@@ -1,17 +1,14 @@
 -- The board's own move that goes to a routine ends DISPATCH main cycles after the dispatch point.
-use Rattle.std.proofs.Common.{◌≡◌, ℕ, suc, ◌+◌, ◌/◌, ◌%◌, ◌<◌, sym, ◌∙◌, ap, subst, arith, true, List}
+use Rattle.std.proofs.Common.{◌≡◌, ℕ, ◌+◌, ◌/◌, sym, ◌∙◌, ap, arith, true, List}
 use Rattle.machine.specs.Board.{Machine, move, main_move}
 use Rattle.machine.specs.Keys.{Event, Keys, held_at}
 use Rattle.machine.specs.Pictures.{interrupt_at}
-use Rattle.machine.specs.Run.{after_moves}
 use Rattle.machine.specs.Signals.{efx_at}
 use Rattle.chip8_image.specs.declared.TheConstants.{DISPATCH}
 use Rattle.chip8_image.specs.declared.parts.Part.TheVariants.{Fetch}
 use Rattle.chip8_lang.specs.declared.view.Edition.{Edition}
 use Rattle.chip8_lang.specs.State.{is_fetchable}
-use Rattle.rom_moves.specs.Code.{Input, moved}
-use Rattle.rom_law.specs.Program.{code}
-use Rattle.rom_law.specs.Rows.{Since, InBlock, Row, after_main}
+use Rattle.rom_law.specs.Rows.{Since, InBlock, Row}
 use Rattle.rom_law.proofs.Kept.{row_runs}
 use Rattle.chip8_rows.specs.FetchBlocks.{FetchBlock}
 use Rattle.chip8_rows.specs.Rom.{image, vip}
@@ -20,7 +17,6 @@ use Rattle.chip8_rows.specs.Table.Block.{OfFetch}
 use Rattle.fetch_blocks.proofs.Time.{dispatch_time}
 use Rattle.rom_frame.specs.Frame.{Makes}
 use Rattle.rom_frame.specs.Frame.Makes.{Runs, Waits, Accepts}
-use Rattle.rom_frame.specs.Routine.{routine_moves}
 use Rattle.rom_frame.proofs.Frame.{every_move}
 use Rattle.rom_frame.proofs.Tick.{run_tick}
 use Rattle.rom_run.specs.Laws.{IsIn, DispatchIn}

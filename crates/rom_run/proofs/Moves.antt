@@ -1,11 +1,11 @@
 -- Each move of the board keeps what is known of it.
-use Rattle.std.proofs.Common.{◌≡◌, ℕ, zero, suc, ◌+◌, ◌*◌, ◌/◌, ◌%◌, ◌<◌, ◌≤◌, ◌⊎◌, inl, inr, refl, sym, ◌∙◌, ap, subst, subst₂, arith, true, false, List, [], length, le_refl}
+use Rattle.std.proofs.Common.{◌≡◌, ℕ, suc, ◌+◌, ◌/◌, ◌<◌, ◌≤◌, ◌⊎◌, inl, inr, refl, sym, ◌∙◌, ap, subst, subst₂, arith, true, false, List, [], le_refl}
 use Rattle.std.specs.Prelude.{Some, slice_get}
 use Rattle.std.proofs.lemmas.Bool.{cases_eq}
 use Rattle.machine.specs.Opcodes.{cycles_of}
 use Rattle.machine.specs.Signals.{efx_at}
 use Rattle.machine.specs.Board.{Machine, case_of, move, opcode_of, main_move}
-use Rattle.machine.specs.Board.Case.{Interrupt, Instruction}
+use Rattle.machine.specs.Board.Case.{Instruction}
 use Rattle.machine.specs.Keys.{Keys, Event, held_at}
 use Rattle.machine.specs.Run.{after_moves}
 use Rattle.machine.specs.Schedule.{Tick}
@@ -25,11 +25,11 @@ use Rattle.rom_moves.proofs.Ranges.{tick_fits}
 use Rattle.rom_moves.proofs.Ticks.{after_none}
 use Rattle.rom_moves.proofs.Ticks.{after_tick as one_tick}
 use Rattle.rom_law.specs.Program.{Program, Keeps, code, Dispatches, Halts}
-use Rattle.rom_law.specs.Rows.{Since, Embeds, Ready, Row, Outcome, Stepped, Stopped, now, dispatched, after_main, after_tick}
+use Rattle.rom_law.specs.Rows.{Since, Embeds, Row, Outcome, Stepped, Stopped, now, dispatched, after_main, after_tick}
 use Rattle.rom_law.specs.Rows.Outcome.{Still as Calm, Dispatched, Halted as Failed}
 use Rattle.rom_law.specs.Runs.{state_at}
 use Rattle.rom_law.proofs.Events.{at_instruction, at_other, calm_points, other_pc}
-use Rattle.rom_law.proofs.Kept.{Proved, row_starts, row_moves, row_ticks, row_runs, row_cycle, row_cycles}
+use Rattle.rom_law.proofs.Kept.{row_starts, row_moves, row_ticks, row_runs, row_cycle, row_cycles}
 use Rattle.rom_law.proofs.Language.{between_more, between_ticks}
 use Rattle.rom_law.proofs.Later.{dispatches_after, halts_after}
 use Rattle.rom_law.specs.Runs.{Moves}
@@ -41,17 +41,17 @@ use Rattle.chip8_rows.proofs.Waited.{row_joined}
 use Rattle.rom_frame.specs.Frame.{place, interrupt_place, IsOutside, IsMainPlace, Makes}
 use Rattle.rom_frame.specs.Frame.Makes.{Runs, Waits, Accepts}
 use Rattle.rom_frame.specs.Routine.{IsInterrupted, IsTick, routine_moves, routine_cycles}
-use Rattle.rom_frame.proofs.Frame.{accepted, case_accepts, case_runs, every_move, keeps_place, keeps_waiting}
+use Rattle.rom_frame.proofs.Frame.{case_accepts, case_runs, every_move, keeps_place, keeps_waiting}
 use Rattle.rom_frame.proofs.Interval.{ticks_main, ticks_wait, ticks_served, keeps_interrupted, embeds_longer, embeds_more}
 use Rattle.rom_frame.proofs.Tick.{run_tick}
-use Rattle.rom_run.specs.Running.{Interval, Counted, Due, Spends, Timed, InTime, Outside, Serving, Running, most_wait}
+use Rattle.rom_run.specs.Running.{Interval, Counted, Spends, Timed, InTime, Outside, Running, most_wait}
 use Rattle.rom_run.specs.Running.Counted.{NoEvent, Renewed}
 use Rattle.rom_run.specs.Running.Due.{Arrives, Ends}
 use Rattle.rom_run.specs.Running.Outside.{AtRow, AtEvent}
 use Rattle.rom_run.specs.Running.Timed.{Before, Waiting, Behind}
 use Rattle.rom_run.specs.Running.Running.{InMain, InRoutine}
 use Rattle.rom_run.proofs.Proved.{proved}
-use Rattle.rom_run.proofs.Room.{Room, row_room}
+use Rattle.rom_run.proofs.Room.{row_room}
 use Rattle.rom_run.proofs.Behind.{waited_moves, waited_ticks, waited_cycle, waited_awake, row_wakes}
 use Rattle.rom_run.proofs.Ticks.{waits_more, waits_most}
 use Rattle.rom_run.proofs.Time.{fewer, row_in_time}

@@ -1,21 +1,19 @@
 -- The laws of rows and of moves, part by part.
-use Rattle.std.proofs.Common.{◌≡◌, ℕ, suc, ◌+◌, ◌<◌, ◌≤◌, ◌⊎◌, inl, inr, sym, ◌∙◌, subst, arith, refl, List, length, slice_index}
+use Rattle.std.proofs.Common.{◌≡◌, suc, ◌<◌, ◌⊎◌, inl, inr, sym, subst, arith, refl}
 use Rattle.std.proofs.lemmas.Bool.{cases_eq}
 use Rattle.machine.specs.Board.{Machine, move, start}
-use Rattle.machine.specs.Keys.{Event, held_at}
+use Rattle.machine.specs.Keys.{held_at}
 use Rattle.machine.specs.Run.{after_moves}
 use Rattle.chip8_image.specs.declared.parts.Part.{Part}
-use Rattle.chip8_lang.specs.declared.view.Edition.{Edition}
 use Rattle.chip8_lang.specs.State.{first}
 use Rattle.rom_law.specs.Program.{Dispatches}
 use Rattle.rom_law.specs.Rows.{dispatched}
-use Rattle.rom_law.specs.Runs.{state_at}
 use Rattle.rom_law.proofs.Kept.{row_moves}
 use Rattle.chip8_rows.specs.Rom.{image, vip}
 use Rattle.chip8_rows.specs.Table.{pieces}
 use Rattle.fetch_blocks.specs.Laws.{Boot, boot_moves}
 use Rattle.rom_run.specs.Laws.{RowsIn, MovesIn, BootRows}
-use Rattle.rom_run.specs.Running.{Running, Booting, FromBoot}
+use Rattle.rom_run.specs.Running.{Running, FromBoot}
 use Rattle.rom_run.specs.Running.FromBoot.{Boots, Begins}
 use Rattle.rom_run.proofs.Moves.{board_moves}
 use Rattle.rom_run.proofs.Proved.{proved}

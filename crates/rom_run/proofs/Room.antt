@@ -1,16 +1,14 @@
 -- In each row the stack has room for what an interrupt pushes.
-use Rattle.std.proofs.Common.{◌≡◌, ℕ, ◌+◌, ◌*◌, ◌-◌, ◌<◌, ◌≤◌, ◌⊎◌, inl, inr, refl, sym, ◌∙◌, ap, subst, arith, List, true, slice_index}
+use Rattle.std.proofs.Common.{◌≡◌, ℕ, ◌+◌, ◌-◌, ◌<◌, ◌≤◌, ◌⊎◌, inl, inr, refl, ◌∙◌, ap, subst, arith, List, true, slice_index}
 use Rattle.std.specs.Prelude.{nat_le}
 use Rattle.std.proofs.lemmas.Bool.{agree_below_at, leb-true, cases_lt}
-use Rattle.machine.specs.Bank.{Word, value, word_of}
+use Rattle.machine.specs.Bank.{value, word_of}
 use Rattle.machine.specs.Board.{Machine}
 use Rattle.machine.specs.Keys.{Keys}
-use Rattle.machine.specs.Ranges.{FitsMachine}
 use Rattle.chip8_lang.specs.declared.view.Edition.{Edition}
-use Rattle.chip8_lang.specs.Editions.{memory_end, stack_top, variables}
+use Rattle.chip8_lang.specs.Editions.{memory_end, variables}
 use Rattle.chip8_lang.specs.State.{Lang}
 use Rattle.chip8_image.specs.Labels.{at_inside}
-use Rattle.rom_moves.specs.Code.{Code}
 use Rattle.rom_moves.proofs.Moves.{quicks}
 use Rattle.rom_law.specs.Holding.{Places, places, Holding}
 use Rattle.rom_law.specs.Program.{Program, code}

@@ -1,5 +1,5 @@
 -- Boot comes to the first dispatch point, and from there on each move keeps what is known of the board: so the law of every run holds.
-use Rattle.std.proofs.Common.{◌≡◌, ℕ, ◌+◌, ◌<◌, ◌≤◌, inl, sym, subst, arith, lit<, true, false, List, length, slice_index}
+use Rattle.std.proofs.Common.{◌≡◌, ℕ, ◌<◌, ◌≤◌, inl, sym, subst, arith, true, false, List, length, slice_index}
 use Rattle.machine.specs.Board.{Machine, start}
 use Rattle.machine.specs.Keys.{Event, held_at}
 use Rattle.machine.specs.Run.{after_moves}
@@ -13,7 +13,6 @@ use Rattle.rom_law.specs.Program.{Dispatches}
 use Rattle.rom_law.specs.Rows.{dispatched}
 use Rattle.rom_law.specs.Runs.{state_at}
 use Rattle.rom_law.proofs.First.{start_fits, moves_fit}
-use Rattle.rom_law.proofs.Kept.{Proved}
 use Rattle.rom_law.proofs.Runs.{Carries, Boots, language_run}
 use Rattle.chip8_rows.specs.Rom.{image, vip}
 use Rattle.fetch_blocks.specs.Laws.{Boot, boot_moves}

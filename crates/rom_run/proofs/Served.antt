@@ -1,5 +1,5 @@
 -- A run of the interrupt routine, as a whole: one tick, after which what is known of the running interpreter holds.
-use Rattle.std.proofs.Common.{◌≡◌, ℕ, suc, ◌+◌, ◌*◌, ◌%◌, ◌<◌, ◌≤◌, sym, ap, arith, List}
+use Rattle.std.proofs.Common.{◌≡◌, ℕ, ◌+◌, ◌<◌, ◌≤◌, ap, arith, List}
 use Rattle.machine.specs.Board.{Machine}
 use Rattle.machine.specs.Keys.{Event, Keys, held_at}
 use Rattle.machine.specs.Pictures.{interrupt_at}
@@ -12,7 +12,7 @@ use Rattle.chip8_rows.specs.Rom.{image, vip}
 use Rattle.rom_frame.specs.Frame.{place, interrupt_place}
 use Rattle.rom_frame.specs.Routine.{IsTick, routine_moves, routine_cycles}
 use Rattle.rom_frame.proofs.Tick.{run_tick}
-use Rattle.rom_run.specs.Running.{Outside, Serving, Running}
+use Rattle.rom_run.specs.Running.{Outside, Running}
 use Rattle.rom_run.specs.Running.Running.{InMain, InRoutine}
 use Rattle.rom_run.proofs.Moves.{interrupted, routine_comes}
 use Rattle.rom_run.proofs.Ticks.{later_cycle}

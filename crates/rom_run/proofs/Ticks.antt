@@ -1,16 +1,15 @@
 -- The time since the last dispatch point: how many interrupts fall into it, and that the next event comes within its bound.
-use Rattle.std.proofs.Common.{◌≡◌, ℕ, zero, suc, ◌+◌, ◌-◌, ◌*◌, ◌/◌, ◌%◌, ◌<◌, ◌≤◌, ◌⊎◌, inl, inr, sym, ap, subst, arith, List, le_refl}
+use Rattle.std.proofs.Common.{◌≡◌, ℕ, zero, suc, ◌+◌, ◌-◌, ◌*◌, ◌/◌, ◌<◌, ◌≤◌, ◌⊎◌, inl, inr, sym, subst, arith, List, le_refl}
 use Rattle.std.proofs.lemmas.Bool.{cases_eq}
-use Rattle.machine.specs.Board.{Machine, move}
+use Rattle.machine.specs.Board.{Machine}
 use Rattle.machine.specs.Keys.{Keys}
-use Rattle.machine.specs.Pictures.{frame, interrupt_at}
+use Rattle.machine.specs.Pictures.{frame}
 use Rattle.machine.specs.Run.{after_moves}
 use Rattle.machine.proofs.Runs.{later-move}
 use Rattle.chip8_lang.specs.Between.{ticks_between}
-use Rattle.rom_law.specs.Rows.{Since}
-use Rattle.rom_frame.specs.Frame.{place, interrupt_place, window_place, IsOutside}
+use Rattle.rom_frame.specs.Frame.{place, interrupt_place, IsOutside}
 use Rattle.rom_frame.specs.Routine.{routine_cycles}
-use Rattle.rom_run.specs.Running.{Spends, Suffices, since_window, most_wait}
+use Rattle.rom_run.specs.Running.{Suffices, since_window, most_wait}
 
 -- the last interrupt before c was so long ago
 window_passed : (c k : ℕ) → IsOutside c → k ≡ (c - 1 + 2576) / 3668 → 0 < k → 3668 * k ≤ c + 756

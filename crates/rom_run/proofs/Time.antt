@@ -1,6 +1,6 @@
 -- In each row main code has spent so little since the dispatch point that the next event comes within the bound of the instruction.
-use Rattle.std.proofs.Common.{◌≡◌, ℕ, ◌+◌, ◌*◌, ◌-◌, ◌/◌, ◌%◌, ◌<◌, ◌≤◌, refl, sym, ◌∙◌, ap, ap₂, subst, arith, Bool, true, false, ◌||◌, List, slice_index}
-use Rattle.std.specs.Prelude.{◌==◌, nat_le, Option, Some, None}
+use Rattle.std.proofs.Common.{◌≡◌, ℕ, ◌+◌, ◌*◌, ◌/◌, ◌%◌, ◌<◌, ◌≤◌, refl, sym, ◌∙◌, ap, ap₂, arith, Bool, true, false, List, slice_index}
+use Rattle.std.specs.Prelude.{nat_le, Option, Some, None}
 use Rattle.std.proofs.lemmas.Bool.{agree_below_at, leb-true}
 use Rattle.machine.specs.Board.{Machine}
 use Rattle.machine.specs.Keys.{Event}
@@ -10,7 +10,6 @@ use Rattle.chip8_lang.specs.declared.instr.Instr.TheVariants.{Clear as IsClear, 
 use Rattle.chip8_lang.specs.declared.view.Edition.{Edition}
 use Rattle.chip8_lang.specs.declared.view.Stop.{Stop}
 use Rattle.chip8_lang.specs.Bounds.{bound_of, bound_by}
-use Rattle.chip8_lang.specs.Editions.{rows_of}
 use Rattle.chip8_lang.specs.State.{Lang, is_fetchable}
 use Rattle.chip8_lang.specs.Ticks.{ticks}
 use Rattle.rom_law.specs.Program.{Program}
@@ -30,11 +29,11 @@ use Rattle.chip8_rows.specs.ArithBlocks.{ArithBlock, operation_lengths, arith_mo
 use Rattle.chip8_rows.specs.ArithBlocks.ArithBlock.{Load, Add, SkipEq, SkipNe, SkipSame, SameTest, SkipDiffer, DifferTest, NoSkip as PassesOn, Skip as SkipOn, Unknown81, Arith, Operation, Flag, Unknown82}
 use Rattle.chip8_rows.specs.MemoryBlocks.{MemoryBlock, memory_moves}
 use Rattle.chip8_rows.specs.MemoryBlocks.MemoryBlock.{Index, AddIndex, Digit, Check, CheckGame, CheckFont, CheckLow, Answering, Decimal, DecimalFound, Hundreds, HundredsEnd, Tens, TensEnd, Store, StoreFound, StoreByte, StoreEnd, Restore, RestoreFound, RestoreByte, RestoreEnd}
-use Rattle.chip8_rows.specs.SpriteBlocks.{SpriteBlock, SpritePlace, IsWaited, Clears, Draws, height, sprite_moves}
+use Rattle.chip8_rows.specs.SpriteBlocks.{SpriteBlock, IsWaited, Clears, Draws, height, sprite_moves}
 use Rattle.chip8_rows.specs.SpriteBlocks.SpriteBlock.{Clear, Wipe, Wipe3, Wipe6, Wiped, Cleared, Draw, DrawCheck, DrawFound, Place as PlaceOf, Edge, Fits, Angle, Begin, Row as RowTest, RowByte, Shift, Shifted, RowRight, RowStore, Ready, Line, LineLeft, LineRight, Drawn}
-use Rattle.chip8_rows.specs.TimerBlocks.{TimerBlock, TimerPlace, timer_moves}
+use Rattle.chip8_rows.specs.TimerBlocks.{TimerBlock, timer_moves}
 use Rattle.chip8_rows.specs.TimerBlocks.TimerBlock.{Random, RandomMix, GetDelayPut, SetDelay, SetDelayEnd, SetSound, SetSoundEnd}
-use Rattle.chip8_rows.specs.KeyBlocks.{KeyBlock, KeyPlace, key_moves, skip_time}
+use Rattle.chip8_rows.specs.KeyBlocks.{KeyBlock, key_moves, skip_time}
 use Rattle.chip8_rows.specs.KeyBlocks.KeyBlock.{KeySkip, KeySkipUp, SkipLatch, NoSkip, Skip, WaitKey, KeyNext, KeyCount, KeyFreed}
 use Rattle.chip8_rows.specs.TimerBlocks.TimerPlace.{RandomCount, GetDelay, SetDelayPut, SetSoundPut}
 use Rattle.chip8_rows.specs.KeyBlocks.KeyPlace.{SkipTest, KeyTest, KeyHeld}

@@ -12,7 +12,7 @@ use Rattle.rom_law.proofs.Kept.{block_awake}
 use Rattle.chip8_rows.specs.KeyBlocks.{KeyPlace, key_place_at}
 use Rattle.chip8_rows.specs.KeyBlocks.KeyPlace.{SkipTest, KeyTest, KeyHeld}
 use Rattle.chip8_rows.specs.Rom.{vip}
-use Rattle.chip8_rows.specs.SpriteBlocks.{SpritePlace, Clearing, Prepared, Painting, sprite_place_at, woken}
+use Rattle.chip8_rows.specs.SpriteBlocks.{SpritePlace, Clearing, Painting, sprite_place_at, woken}
 use Rattle.chip8_rows.specs.SpriteBlocks.SpritePlace.{ClearWait, ClearIdle, DrawWait, DrawIdle}
 use Rattle.chip8_rows.specs.Table.{pieces}
 use Rattle.chip8_rows.specs.Table.Place.{AtTimer, AtKey, AtSprite}
