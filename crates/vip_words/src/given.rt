@@ -18,10 +18,10 @@ use thiserror::Error;
 #[derive(Clone, Copy, Debug, PartialEq, Eq, Error)]
 pub enum WordsFail {
     /// The rules refuse the words.
-    #[error("no command line of this program")]
+    #[error("Refused")]
     Refused,
     /// There was no memory to read them.
-    #[error("no memory")]
+    #[error("NoMemory")]
     NoMemory,
 }
 
