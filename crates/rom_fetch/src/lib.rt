@@ -16,9 +16,9 @@ use vip_board::{Board, Moved};
 
 pub mod laws;
 
-/// Makes the next move and names it, or answers `End` where it would end after cycle `limit` and changes nothing:
-/// of a board that runs the interpreter and whose next address lies in this part of the ROM, or that is in boot. What is known of a running
-/// interpreter holds afterwards. The move that goes to a routine ends exactly 80 main cycles after the dispatch point, for every opcode.
+/// Makes the next move of a board that runs the interpreter and whose next address lies in this part of the ROM, or that is in boot, and
+/// names it; or answers `End` where the move would end after cycle `limit`, and changes nothing. What is known of a running interpreter
+/// holds afterwards. The move that goes to a routine ends exactly 80 main cycles after the dispatch point, for every opcode.
 pub fn one_move(board: &mut Board, limit: u64) -> Moved
     requires boundary { board.old.phase ≡ Boundary }
     requires here { (RunsIn Fetch board.old) ⊎ IsBooting board.old }

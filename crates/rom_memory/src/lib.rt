@@ -16,9 +16,8 @@ use vip_board::{Board, Moved};
 
 pub mod laws;
 
-/// Makes the next move and names it, or answers `End` where it would end after cycle `limit` and changes nothing:
-/// of a board that runs the interpreter and whose next address lies in this part of the ROM. What is known of a running interpreter holds
-/// afterwards.
+/// Makes the next move of a board that runs the interpreter and whose next address lies in this part of the ROM, and names it; or answers
+/// `End` where the move would end after cycle `limit`, and changes nothing. What is known of a running interpreter holds afterwards.
 pub fn one_move(board: &mut Board, limit: u64) -> Moved
     requires boundary { board.old.phase ≡ Boundary }
     requires here { RunsIn Memory board.old }
