@@ -7,7 +7,7 @@ use Rattle.vip_outside.specs.Files.{FileMap, FilesMeaning, IsStartOf, ReadsStart
 use Rattle.vip_outside.specs.declared.files.Loaded.{Loaded}
 use Rattle.vip_cli.specs.declared.files.Wanted.{Wanted}
 use Rattle.vip_cli.specs.declared.refusal.Refusal.{Refusal}
-use Rattle.vip_cli.specs.declared.refusal.Refusal.TheVariants.{Usage, Unread, TooLarge, Script, Source, Rom, Write, NoMemory}
+use Rattle.vip_cli.specs.declared.refusal.Refusal.TheVariants.{Usage, Unread, TooLarge, Script, Command, Source, Rom, Write, NoMemory}
 use Rattle.vip_cli.specs.Files.{Needed, Has, HasAll, FitAll, ComesTo, FileAnswers, FilesAnswer, seen_wanted}
 
 has-suc : (old : FilesMeaning) (ws : List Wanted) (k : ℕ) (d : Wanted) (cs : List (List ℕ)) (c : List ℕ) → k < length ws → HasAll old (map seen_wanted (take k ws)) cs → Has old (seen_wanted (get_or ws k d)) c → HasAll old (map seen_wanted (take (suc k) ws)) (cs ++ c ∷ [])
@@ -45,6 +45,7 @@ module _ (Z : Type 0) where
   refuses old new ws k d cs (Unread name) low had here = comes_to old ws k d cs _ low had here
   refuses old new ws k d cs (TooLarge kind) low had here = comes_to old ws k d cs _ low had here
   refuses old new ws k d cs (Script line cause) low had here = absurd here
+  refuses old new ws k d cs (Command line cause) low had here = absurd here
   refuses old new ws k d cs (Source line cause) low had here = absurd here
   refuses old new ws k d cs (Rom fault) low had here = absurd here
   refuses old new ws k d cs Write low had here = absurd here

@@ -1,5 +1,5 @@
 -- The run of a game is a run of CHIP-8, by the law of every run of the interpreter's ROM.
-use Rattle.std.proofs.Common.{◌≡◌, ℕ, suc, ◌+◌, ◌<◌, ◌≤◌, List, [], ◌∷◌, ◌++◌, filter, length, Some, IsSomeAnd, slice_get, slice_index, refl, sym, ap, subst, ◌∙◌, add-one, arith}
+use Rattle.std.proofs.Common.{◌≡◌, ℕ, suc, ◌+◌, ◌<◌, ◌≤◌, List, [], ◌∷◌, ◌++◌, filter, length, Some, Result, Ok, Err, IsSomeAnd, slice_get, slice_index, refl, sym, ap, subst, ◌∙◌, add-one, arith}
 use Rattle.machine.specs.Board.{Machine}
 use Rattle.machine.specs.Keys.{Event as KeyEvent}
 use Rattle.chip8_lang.specs.declared.view.Edition.TheVariants.{Usual}
@@ -16,14 +16,18 @@ use Rattle.rom_law.specs.Runs.{LanguageRun, IsFirst, IsNext, IsStep, IsStop, is_
 use Rattle.chip8_rows.specs.Rom.{vip}
 use Rattle.rom_run.specs.Laws.{EveryRun}
 use Rattle.vip_relation.specs.Stops.{stop_at, stop_numbered}
-use Rattle.vip_show.specs.Endings.{ending_after, ending_of}
+use Rattle.vip_show.specs.Endings.{Ending, ending_after, ending_of}
 use Rattle.vip_show.specs.Endings.Ending.{AtStop}
+use Rattle.vip_debug.specs.Grammar.{commands_of}
+use Rattle.vip_debug.specs.declared.command.Command.{Command}
+use Rattle.vip_debug.specs.declared.command.CommandFault.{CommandFault}
+use Rattle.vip_debug.specs.declared.command.CommandFault.TheVariants.{Fault, NoMemory}
 use Rattle.vip_outside.specs.Files.{FilesMeaning}
 use Rattle.vip_words.specs.Asked.{Asked, trace, play, debug, demo, asm, list, dis, bounds}
 use Rattle.vip_cli.specs.Demo.{demo_game}
 use Rattle.vip_cli.specs.Files.{needed, most_game, HasAll}
-use Rattle.vip_cli.specs.Language.{state_at, StandsFor, HaltedWith, Steps, Stops, GoesOn, Goes, next_point, ComesBy, IsChip8, RunIsChip8, ShowsChip8}
-use Rattle.vip_cli.specs.Outcome.{Outcome, Comes, RunComes, events_in}
+use Rattle.vip_cli.specs.Language.{state_at, StandsFor, HaltedWith, Steps, Stops, GoesOn, Goes, next_point, ComesBy, IsChip8, RunIsChip8, DebugsChip8, ShowsChip8}
+use Rattle.vip_cli.specs.Outcome.{Outcome, Comes, RunComes, DebugComes, events_in, run_ending}
 use Rattle.vip_cli.specs.Outcome.Outcome.{Refused, Shown}
 use Rattle.vip_cli.specs.Outcome.RunComes.{FaultyScript, FaultyRom, Runs}
 use Rattle.vip_cli.specs.Top.{Call, SpeaksChip8}
@@ -137,29 +141,50 @@ module _ (law : EveryRun) where
   OfRun game scripts limit (Refused status report) = Unit {0}
   OfRun game scripts limit (Shown pieces status report) = RunIsChip8 game scripts limit status report
 
+  -- a run under the debugger that does
+  OfDebug : List ℕ → List (List ℕ) → ℕ → Outcome → Type 0
+  OfDebug game scripts limit (Refused status report) = Unit {0}
+  OfDebug game scripts limit (Shown pieces status report) = DebugsChip8 game scripts limit
+
   module _ (game : List ℕ) (fits : length game ≤ most_game) (bytes : (i : ℕ) → slice_index game i < 256) (limit : ℕ) (scripts : List (List ℕ)) (pieces : List KeyEvent → List (List ℕ)) where
-    run_shows : (o : Outcome) → RunComes game limit scripts pieces o → OfRun game scripts limit o
+    run_shows : (o : Outcome) → RunComes limit scripts pieces (run_ending game limit) o → OfRun game scripts limit o
     unfolding OfRun
     run_shows _ (FaultyScript line cause is) = tt
     run_shows _ (FaultyRom script fault is fault_is rom) = tt
     run_shows _ (Runs script is rom) = record {
       script = script;
       reads = is;
-      ending = ending_of Usual (events_in game script limit);
+      ending = run_ending game limit script;
       run = is_chip8 game script limit fits bytes;
       status_is = refl;
       report_is = refl;
     }
 
+    debug_shows : (ending : List KeyEvent → Ending) (o : Outcome) → RunComes limit scripts pieces ending o → OfDebug game scripts limit o
+    unfolding OfDebug
+    debug_shows ending _ (FaultyScript line cause is) = tt
+    debug_shows ending _ (FaultyRom script fault is fault_is rom) = tt
+    debug_shows ending _ (Runs script is rom) = record { script = script; reads = is; run = is_chip8 game script limit fits bytes }
+
+  module _ (game : List ℕ) (fits : length game ≤ most_game) (bytes : (i : ℕ) → slice_index game i < 256) (limit : ℕ) (scripts : List (List ℕ)) where
+    debug_read : (read : Result (List Command) CommandFault) (o : Outcome) → DebugComes game limit scripts read o → OfDebug game scripts limit o
+    unfolding OfDebug
+    debug_read (Ok commands) o comes = debug_shows game fits bytes limit scripts _ _ o comes
+    debug_read (Err (Fault line cause)) o comes = rw comes tt
+    debug_read (Err NoMemory) o comes = absurd comes
+
   shows : (old : FilesMeaning) (asked : Asked) (contents pieces : List (List ℕ)) (status : Status) (report : List ℕ) → HasAll old (needed asked) contents → Comes asked contents (Shown pieces status report) → ShowsChip8 asked contents status report
-  unfolding OfRun
+  unfolding OfRun OfDebug
   shows old (trace a) [] pieces status report read comes = tt
   shows old (trace a) (game ∷ scripts) pieces status report read comes =
       run_shows game read.0.fits read.0.bytes a.cycles scripts _ (Shown pieces status report) comes
   shows old (play a) [] pieces status report read comes = tt
   shows old (play a) (game ∷ scripts) pieces status report read comes =
       run_shows game read.0.fits read.0.bytes a.cycles scripts _ (Shown pieces status report) comes
-  shows old (debug a) contents pieces status report read comes = tt
+  shows old (debug a) [] pieces status report read comes = tt
+  shows old (debug a) (game ∷ []) pieces status report read comes = tt
+  shows old (debug a) (game ∷ text ∷ scripts) pieces status report read comes =
+      debug_read game read.0.fits read.0.bytes a.cycles scripts (commands_of a.cycles text) (Shown pieces status report) comes
   shows old (demo a) [] pieces status report read comes =
       run_shows (demo_game a.number) (omega (arith, length-game a.number)) (bytes-game a.number) a.cycles [] _ (Shown pieces status report) comes
   shows old (demo a) (c ∷ cs) pieces status report read comes = absurd comes

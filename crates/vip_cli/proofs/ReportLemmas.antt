@@ -1,11 +1,8 @@
 -- The line that says where the ROM differs from its source, part by part.
-use Rattle.std.proofs.Common.{◌≡◌, ◌∙◌, ℕ, List, [], ◌∷◌, ◌++◌, ap, Result, Ok, Err, IsErr, append_assoc}
-use Rattle.std.specs.Prelude.{codes}
-use Rattle.vip_byte.specs.HexText.{hex2, hex4}
+use Rattle.std.proofs.Common.{◌≡◌, ◌∙◌, ℕ, List, ◌++◌, ap, Result, IsErr, append_assoc}
 use Rattle.vip_outside.specs.Sink.{SinkMeaning, Gains, GainsPart, GainAnswers}
 use Rattle.vip_outside.specs.declared.sink.Failed.{Failed}
 use Rattle.vip_outside.proofs.SinkLemmas.{GainAnswers-append, GainsPart-append, GainAnswers-err}
-use Rattle.vip_text.specs.Traces.{newline}
 
 -- three parts, and then more
 three-more : (a b c rest : List ℕ) → (a ++ (b ++ c)) ++ rest ≡ a ++ (b ++ (c ++ rest))

@@ -11,14 +11,19 @@ use Rattle.asm_core.specs.declared.fault.AsmCause.{AsmCause}
 use Rattle.rom_check.proofs.OneAnswer.{answers_agree}
 use Rattle.rom_check.specs.declared.fault.ImageFault.{ImageFault}
 use Rattle.rom_check.specs.declared.fault.ImageFault.TheVariants as image
+use Rattle.vip_debug.specs.Grammar.{commands_of}
+use Rattle.vip_debug.specs.declared.command.Command.{Command}
+use Rattle.vip_debug.specs.declared.command.CommandFault.{CommandFault}
+use Rattle.vip_debug.specs.declared.command.CommandFault.TheVariants as debug_fault
 use Rattle.vip_outside.specs.Count.{Rose}
 use Rattle.vip_outside.specs.Files.{FileMap, FilesMeaning}
 use Rattle.vip_outside.specs.Sink.{SinkMeaning, Gains, GainsPart, GainAnswers}
 use Rattle.vip_outside.specs.declared.sink.Failed.{Failed}
-use Rattle.vip_words.specs.Asked.{Asked, trace, play, debug, demo, asm, list, dis, bounds}
+use Rattle.vip_show.specs.Endings.{Ending}
+use Rattle.vip_words.specs.Asked.{Asked, trace, play, debug, demo, asm, list, dis, bounds, asked_by}
 use Rattle.vip_cli.specs.Command.{Rejected, OfWords, WordsAnswer}
 use Rattle.vip_cli.specs.Files.{Needed, needed, HasAll, ComesTo, IsLarger}
-use Rattle.vip_cli.specs.Outcome.{Outcome, Comes, RunComes, SourceComes, RomIs, IsFault, understood}
+use Rattle.vip_cli.specs.Outcome.{Outcome, Comes, RunComes, DebugComes, SourceComes, RomIs, IsFault}
 use Rattle.vip_cli.specs.Outcome.Outcome.{Refused, Shown}
 use Rattle.vip_cli.specs.Outcome.RunComes.{FaultyScript, FaultyRom, Runs}
 use Rattle.vip_cli.specs.Outcome.SourceComes.{FaultySource, Assembles}
@@ -30,7 +35,7 @@ use Rattle.vip_cli.specs.declared.refusal.Kind.TheVariants as kind
 use Rattle.vip_cli.specs.declared.refusal.Refusal.{Refusal}
 use Rattle.vip_cli.specs.declared.refusal.Refusal.TheVariants as refusal
 use Rattle.vip_cli.specs.declared.status.Status.{Status}
-use Rattle.vip_cli.specs.declared.status.Status.TheVariants.{Done, Stopped, Usage, ReadFault, GameTooLarge, ScriptTooLarge, BadScript, BadSource, BadRomSource, RomDiffers, WriteFault, NoMemory, SourceTooLarge}
+use Rattle.vip_cli.specs.declared.status.Status.TheVariants.{Done, Stopped, Usage, ReadFault, GameTooLarge, ScriptTooLarge, BadScript, BadSource, BadRomSource, RomDiffers, WriteFault, NoMemory, BadCommand, SourceTooLarge, CommandsTooLarge}
 
 -- ---- one outcome
 
@@ -65,8 +70,8 @@ rom_is_fine_or_not f is a b =
     ]
 
 -- the runs of one game come to one outcome
-module _ (game : List ℕ) (limit : ℕ) (scripts : List (List ℕ)) (pieces : List KeyEvent → List (List ℕ)) where
-  runs_agree : (o p : Outcome) → RunComes game limit scripts pieces o → RunComes game limit scripts pieces p → Agree o p
+module _ (limit : ℕ) (scripts : List (List ℕ)) (pieces : List KeyEvent → List (List ℕ)) (ending : List KeyEvent → Ending) where
+  runs_agree : (o p : Outcome) → RunComes limit scripts pieces ending o → RunComes limit scripts pieces ending p → Agree o p
   runs_agree _ _ (FaultyScript l c a) (FaultyScript m d b) = refl
   runs_agree _ _ (FaultyScript l c a) (FaultyRom t f b is rom) = cc
   runs_agree _ _ (FaultyScript l c a) (Runs t b rom) = cc
@@ -91,18 +96,25 @@ module _ (source : List ℕ) (IsText : Made → List ℕ → Type 0) where
   sources_agree _ _ (Assembles made text a is) (FaultySource m d b) = assembles_or_not (source_lines source) made m d a b
   sources_agree _ _ (Assembles made text a is) (Assembles made' text' b is') = refl
 
--- one text alone
-texts_agree : (q o p : Outcome) → Agree q q → o ≡ q → p ≡ q → Agree o p
-texts_agree q o p same a b = rw (a, b) same
+-- one outcome alone
+alone_agree : (q o p : Outcome) → Agree q q → o ≡ q → p ≡ q → Agree o p
+alone_agree q o p same a b = rw (a, b) same
+
+debugs_agree : (game : List ℕ) (limit : ℕ) (scripts : List (List ℕ)) (read : Result (List Command) CommandFault) (o p : Outcome) → DebugComes game limit scripts read o → DebugComes game limit scripts read p → Agree o p
+debugs_agree game limit scripts (Ok commands) o p x y = runs_agree limit scripts _ _ o p x y
+debugs_agree game limit scripts (Err (debug_fault.Fault line cause)) o p x y = alone_agree _ o p refl x y
+debugs_agree game limit scripts (Err debug_fault.NoMemory) o p x y = absurd x
 
 -- a command comes to one outcome by the contents of its files
 agree : (asked : Asked) (contents : List (List ℕ)) (o p : Outcome) → Comes asked contents o → Comes asked contents p → Agree o p
 agree (trace a) [] o p x y = absurd x
-agree (trace a) (game ∷ scripts) o p x y = runs_agree game a.cycles scripts _ o p x y
+agree (trace a) (game ∷ scripts) o p x y = runs_agree a.cycles scripts _ _ o p x y
 agree (play a) [] o p x y = absurd x
-agree (play a) (game ∷ scripts) o p x y = runs_agree game a.cycles scripts _ o p x y
-agree (debug a) contents o p x y = absurd x
-agree (demo a) [] o p x y = runs_agree _ a.cycles [] _ o p x y
+agree (play a) (game ∷ scripts) o p x y = runs_agree a.cycles scripts _ _ o p x y
+agree (debug a) [] o p x y = absurd x
+agree (debug a) (game ∷ []) o p x y = absurd x
+agree (debug a) (game ∷ text ∷ scripts) o p x y = debugs_agree game a.cycles scripts (commands_of a.cycles text) o p x y
+agree (demo a) [] o p x y = runs_agree a.cycles [] _ _ o p x y
 agree (demo a) (c ∷ cs) o p x y = absurd x
 agree (asm name) [] o p x y = absurd x
 agree (asm name) (source ∷ []) o p x y = sources_agree source _ o p x y
@@ -111,9 +123,9 @@ agree (list name) [] o p x y = absurd x
 agree (list name) (source ∷ []) o p x y = sources_agree source _ o p x y
 agree (list name) (source ∷ c ∷ cs) o p x y = absurd x
 agree (dis a) [] o p x y = absurd x
-agree (dis a) (bytes ∷ []) o p x y = texts_agree _ o p refl x y
+agree (dis a) (bytes ∷ []) o p x y = alone_agree _ o p refl x y
 agree (dis a) (bytes ∷ c ∷ cs) o p x y = absurd x
-agree bounds [] o p x y = texts_agree _ o p refl x y
+agree bounds [] o p x y = alone_agree _ o p refl x y
 agree bounds (c ∷ cs) o p x y = absurd x
 
 -- ---- one reading
@@ -154,7 +166,7 @@ quiet : (old new : ℕ) → Rose old new → IsQuiet old new → ⊥
 quiet old new rose calm = omega (arith, rose.counted, calm.below, calm.same)
 
 -- words that are refused ask for nothing
-nothing_asked : (words : List (List ℕ)) (asked : Asked) → understood words ≡ Some asked → understood words ≡ None → ⊥
+nothing_asked : (words : List (List ℕ)) (asked : Asked) → asked_by words ≡ Some asked → asked_by words ≡ None → ⊥
 nothing_asked words asked some none = cc
 
 pub refuses_words : (status : Status) (call : Call) → Says status call → RefusesWords status call
@@ -170,10 +182,12 @@ refuses_words BadRomSource call says none = absurd (nothing_asked call.words say
 refuses_words RomDiffers call says none = absurd (nothing_asked call.words says.asked says.asks.words none)
 refuses_words WriteFault call says none = absurd (nothing_asked call.words says.asked says.asks.words none)
 refuses_words NoMemory call says none = inr refl
+refuses_words BadCommand call says none = absurd (nothing_asked call.words says.asked says.asks.words none)
 refuses_words SourceTooLarge call says none = absurd (nothing_asked call.words says.asked says.words none)
+refuses_words CommandsTooLarge call says none = absurd (nothing_asked call.words says.asked says.words none)
 
 module _ (call : Call) (asked : Asked) (files : FileMap) (offers : Offers call asked files) where
-  same : (mine : Asked) → understood call.words ≡ Some mine → mine ≡ asked
+  same : (mine : Asked) → asked_by call.words ≡ Some mine → mine ≡ asked
   same mine words = let there = offers.words in let both : Some mine ≡ Some asked = cc in cc
 
   -- what was read, what was larger, and that no name was lacking
@@ -185,7 +199,7 @@ module _ (call : Call) (asked : Asked) (files : FileMap) (offers : Offers call a
   comes_here mine contents o asks comes = subst (λ a. Comes a contents o) (same mine asks.words) comes
 
   -- what was refused at a file
-  refused_at : (Here : Needed → Type 0) (r : Reading) → ((content : List ℕ) → with_content content r ≡ r) → (mine : Asked) → understood call.words ≡ Some mine → (at : ComesTo call.files (needed mine) Here) → reading files (at.this ∷ at.after) ≡ r → reading files (needed asked) ≡ r
+  refused_at : (Here : Needed → Type 0) (r : Reading) → ((content : List ℕ) → with_content content r ≡ r) → (mine : Asked) → asked_by call.words ≡ Some mine → (at : ComesTo call.files (needed mine) Here) → reading files (at.this ∷ at.after) ≡ r → reading files (needed asked) ≡ r
   refused_at Here r stays mine words at e =
       subst (λ a. reading files (needed a) ≡ r) (same mine words)
       (rw at.place (behind call.files files offers.told r stays at.before at.contents (at.this ∷ at.after) at.read e))
@@ -276,7 +290,9 @@ module _ (call : Call) (asked : Asked) (files : FileMap) (offers : Offers call a
   due_is RomDiffers says due given = rejects_due due given RomDiffers says
   due_is WriteFault says due given = absurd (faulty_due due given says)
   due_is NoMemory says due given = inr refl
+  due_is BadCommand says due given = rejects_due due given BadCommand says
   due_is SourceTooLarge says due given = oversize_due due given SourceTooLarge says
+  due_is CommandsTooLarge says due given = oversize_due due given CommandsTooLarge says
 
   module _ (contents : List (List ℕ)) (there : reading files (needed asked) ≡ Whole contents) (accepted : ¬ AreRefused asked contents) where
     not_rejected : (status : Status) → Rejects status call → ⊥
@@ -305,7 +321,9 @@ module _ (call : Call) (asked : Asked) (files : FileMap) (offers : Offers call a
           | inr fails ↦ absurd (quiet _ _ fails.err.faults err)
         ]
     ends NoMemory says out err = inr (inr refl)
+    ends BadCommand says out err = absurd (not_rejected BadCommand says)
     ends SourceTooLarge says out err = absurd (not_larger SourceTooLarge says)
+    ends CommandsTooLarge says out err = absurd (not_larger CommandsTooLarge says)
 
 pub gives_due : (status : Status) (call : Call) → Says status call → GivesDue status call
 gives_due status call says asked files due offers given = due_is call asked files offers status says due given
@@ -364,8 +382,10 @@ module _ (words : List (List ℕ)) (files files' : FilesMeaning) (out out' err e
   }
   refused_with (refusal.TooLarge kind.Game) given report = oversize kind.Game given report
   refused_with (refusal.TooLarge kind.Script) given report = oversize kind.Script given report
+  refused_with (refusal.TooLarge kind.Commands) given report = oversize kind.Commands given report
   refused_with (refusal.TooLarge kind.Source) given report = oversize kind.Source given report
   refused_with (refusal.Script line cause) given report = rejected (refusal.Script line cause) given report
+  refused_with (refusal.Command line cause) given report = rejected (refusal.Command line cause) given report
   refused_with (refusal.Source line cause) given report = rejected (refusal.Source line cause) given report
   refused_with (refusal.Rom (image.BadRomSource line cause)) given report = rejected (refusal.Rom (image.BadRomSource line cause)) given report
   refused_with (refusal.Rom (image.RomDiffers address assembled here)) given report = rejected (refusal.Rom (image.RomDiffers address assembled here)) given report

@@ -1,21 +1,17 @@
 -- The machine cycles that the words ask for are at most 4,000,000,000.
-use Rattle.std.proofs.Common.{◌≡◌, ℕ, ◌≤◌, List, [], ◌∷◌, Option, Some, None, Result, Ok, Err, Bool, true, false, length, ltb, refl, sym, subst, arith}
+use Rattle.std.proofs.Common.{◌≡◌, ℕ, ◌≤◌, List, [], ◌∷◌, Option, Some, None, Ok, Err, Bool, true, false, length, ltb, refl, sym, subst, arith}
 use Rattle.std.specs.Prelude.{option_map, option_and_then, if◌then◌else◌, ◌==◌, not}
 use Rattle.std.specs.Result.{result_ok}
 use Rattle.std.specs.Str.Parse.{digits_value}
 use Rattle.std.proofs.lemmas.Bool.{ltb-false}
 use Rattle.vip_byte.specs.Number.{number, are_digits}
 use Rattle.vip_byte.specs.declared.number.NumFault.TheVariants.{Empty, BadDigit, TooLarge}
-use Rattle.vip_words.specs.Asked.{Asked, trace, play, debug, demo, asm, list, dis, bounds, asked_by, asked_of_verb, cycles_of, number_of, address_of, trace_by, play_by, debug_by, demo_by, file_by, dis_by, bounds_by}
+use Rattle.vip_words.specs.Asked.{Asked, demo, asm, list, bounds, asked_by, asked_of_verb, cycles_of, number_of, address_of, trace_by, play_by, debug_by, demo_by, file_by, dis_by, bounds_by}
 use Rattle.vip_words.specs.Rules.{Word, Given, given_by}
 use Rattle.vip_words.specs.Table.{Row, usage_of}
-use Rattle.vip_words.specs.declared.request.Request.{Request}
 use Rattle.vip_words.specs.declared.table.Verb.{Verb}
 use Rattle.vip_words.specs.declared.table.Verb.TheVariants as verb
-use Rattle.vip_cli.specs.Command.{UnlessDebugAnswers, UnderstoodAnswers}
-use Rattle.vip_cli.specs.declared.refusal.Refusal.{Refusal}
-use Rattle.vip_cli.specs.declared.refusal.Refusal.TheVariants as refusal
-use Rattle.vip_cli.specs.Outcome.{cycles_in, understood, unless_debug}
+use Rattle.vip_cli.specs.Outcome.{cycles_in}
 
 -- a number that was read is no greater than the most
 number-low : (base : ℕ) (text : List ℕ) (most n : ℕ) → result_ok (number base text most) ≡ Some n → n ≤ most
@@ -67,7 +63,7 @@ debug-low : (words : List Word) (given : Given) (asked : Asked) → debug_by wor
 debug-low [] given asked h = absurd (cc)
 debug-low (game ∷ []) given asked h = absurd (cc)
 debug-low (game ∷ cycles ∷ []) given asked h = absurd (cc)
-debug-low (game ∷ cycles ∷ commands ∷ []) given asked h = by_none (cycles_of cycles) _ asked (λ n. refl) h
+debug-low (game ∷ cycles ∷ commands ∷ []) given asked h = by_cycles cycles _ asked (λ n. refl) h
 debug-low (game ∷ cycles ∷ commands ∷ more ∷ words) given asked h = absurd (cc)
 
 demo-low : (words : List Word) (asked : Asked) → demo_by words ≡ Some asked → IsLow asked
@@ -108,45 +104,6 @@ row-low : (o : Option Row) (given : Row → Option Given) (asked : Asked) → op
 row-low None given asked h = absurd (cc)
 row-low (Some row) given asked h = given-low row.verb (given row) asked h
 
-asked-low : (words : List Word) (asked : Asked) → asked_by words ≡ Some asked → IsLow asked
+pub asked-low : (words : List Word) (asked : Asked) → asked_by words ≡ Some asked → cycles_in asked ≤ 4000000000
 asked-low [] asked h = absurd (cc)
 asked-low (verb ∷ words) asked h = row-low (usage_of verb) (λ row. given_by row.places row.options words) asked h
-
--- a verb that isn't refused asks for what its words do
-unless-debug : (mine asked : Asked) → unless_debug mine ≡ Some asked → mine ≡ asked
-unless-debug (trace a) asked h = cc
-unless-debug (play a) asked h = cc
-unless-debug (debug a) asked h = cc
-unless-debug (demo a) asked h = cc
-unless-debug (asm name) asked h = cc
-unless-debug (list name) asked h = cc
-unless-debug (dis a) asked h = cc
-unless-debug bounds asked h = cc
-
-pub understood-low : (words : List Word) (asked : Asked) → understood words ≡ Some asked → cycles_in asked ≤ 4000000000
-unfolding understood
-understood-low words asked h = go (asked_by words) refl h
-  where
-    go : (o : Option Asked) → asked_by words ≡ o → option_and_then unless_debug o ≡ Some asked → IsLow asked
-    go None e h = absurd (cc)
-    go (Some mine) e h = subst IsLow (unless-debug mine asked h) (asked-low words mine e)
-
--- what is understood of words that were read
-pub understood_is : (words : List Word) (mine : Asked) (answer : Option Asked) → asked_by words ≡ Some mine → unless_debug mine ≡ answer → understood words ≡ answer
-unfolding understood
-understood_is words mine answer reads is = rw reads is
-
-pub understood_none : (words : List Word) → asked_by words ≡ None → understood words ≡ None
-unfolding understood
-understood_none words none = rw none refl
-
-pub understands : (words : List Word) (mine : Asked) (answer : Result Request Refusal) → asked_by words ≡ Some mine → UnlessDebugAnswers mine answer → UnderstoodAnswers words answer
-understands words mine (Ok request) reads h = understood_is words mine _ reads h
-understands words mine (Err refusal.Usage) reads h = understood_is words mine _ reads h
-understands words mine (Err (refusal.Unread name)) reads h = absurd h
-understands words mine (Err (refusal.TooLarge kind)) reads h = absurd h
-understands words mine (Err (refusal.Script line cause)) reads h = absurd h
-understands words mine (Err (refusal.Source line cause)) reads h = absurd h
-understands words mine (Err (refusal.Rom fault)) reads h = absurd h
-understands words mine (Err refusal.Write) reads h = absurd h
-understands words mine (Err refusal.NoMemory) reads h = absurd h

@@ -3,7 +3,7 @@ use Rattle.std.specs.Prelude.{◌≡◌, ℕ, List, [], Some, None, Result, Ok, 
 use Rattle.vip_outside.specs.Files.{FilesMeaning}
 use Rattle.vip_outside.specs.Sink.{SinkMeaning}
 use Rattle.vip_outside.specs.Pieces.{PutsAll, FailsWithin}
-use Rattle.vip_words.specs.Asked.{Asked}
+use Rattle.vip_words.specs.Asked.{Asked, asked_by}
 use Rattle.vip_words.specs.Request.{asked_of}
 use Rattle.vip_words.specs.declared.request.Request.{Request}
 use Rattle.vip_show.specs.Answers.{ending_in}
@@ -14,7 +14,7 @@ use Rattle.vip_cli.specs.declared.refusal.Refusal.TheVariants.{Usage, Unread, To
 use Rattle.vip_cli.specs.declared.status.Status.{Status}
 use Rattle.vip_cli.specs.declared.status.Status.TheVariants.{Done}
 use Rattle.vip_cli.specs.Files.{Needed, needed, HasAll, ComesTo, IsLarger, IsUnread}
-use Rattle.vip_cli.specs.Outcome.{Comes, end_status, understood, unless_debug}
+use Rattle.vip_cli.specs.Outcome.{Comes, end_status}
 use Rattle.vip_cli.specs.Outcome.Outcome.{Refused, Shown}
 use Rattle.vip_cli.specs.Refusal.{status_of}
 use Rattle.vip_cli.specs.Report.{end_report, report_of}
@@ -62,35 +62,29 @@ CommandAnswers asked contents old new (Err refusal) = Rejected asked contents ol
 pub record OfWords (words : List (List ℕ)) (files : FilesMeaning) (Here : Asked → List (List ℕ) → Type 0) : Type 0 where
   pub asked : Asked
   pub contents : List (List ℕ)
-  pub words_are : understood words ≡ Some asked
+  pub words_are : asked_by words ≡ Some asked
   pub read : HasAll files (needed asked) contents
   pub here : Here asked contents
 
 -- a file is refused, and nothing was written
 pub record RefusesFile (words : List (List ℕ)) (files : FilesMeaning) (Here : Needed → Type 0) (old new : SinkMeaning) : Type 0 where
   pub asked : Asked
-  pub words_are : understood words ≡ Some asked
+  pub words_are : asked_by words ≡ Some asked
   pub at : ComesTo files (needed asked) Here
   pub out : new ≡ old
 
 abbrev pub WordsAnswer : List (List ℕ) → FilesMeaning → FilesMeaning → SinkMeaning → SinkMeaning → Result Ended Refusal → Type 0
 WordsAnswer words files files' old new (Ok ended) = OfWords words files (λ asked contents. Ends asked contents old new ended)
-WordsAnswer words files files' old new (Err Usage) = (understood words ≡ None) × (new ≡ old)
+WordsAnswer words files files' old new (Err Usage) = (asked_by words ≡ None) × (new ≡ old)
 WordsAnswer words files files' old new (Err (Unread name)) = RefusesFile words files (λ n. (name.now ≡ n.name) × IsUnread files files' n) old new
 WordsAnswer words files files' old new (Err (TooLarge kind)) = RefusesFile words files (λ n. (kind ≡ n.kind) × IsLarger files n) old new
 WordsAnswer words files files' old new (Err Write) = OfWords words files (λ asked contents. Breaks asked contents old new)
 WordsAnswer words files files' old new (Err NoMemory) = new ≡ old
 WordsAnswer words files files' old new (Err refusal) = OfWords words files (λ asked contents. Rejected asked contents old new refusal)
 
--- the debugger's verb is refused
-abbrev pub UnlessDebugAnswers : Asked → Result Request Refusal → Type 0
-UnlessDebugAnswers asked (Ok request) = unless_debug asked ≡ Some (asked_of request)
-UnlessDebugAnswers asked (Err Usage) = unless_debug asked ≡ None
-UnlessDebugAnswers asked (Err _) = ⊥
-
 -- what is understood
 abbrev pub UnderstoodAnswers : List (List ℕ) → Result Request Refusal → Type 0
-UnderstoodAnswers words (Ok request) = understood words ≡ Some (asked_of request)
-UnderstoodAnswers words (Err Usage) = understood words ≡ None
+UnderstoodAnswers words (Ok request) = asked_by words ≡ Some (asked_of request)
+UnderstoodAnswers words (Err Usage) = asked_by words ≡ None
 UnderstoodAnswers words (Err NoMemory) = Unit {0}
 UnderstoodAnswers words (Err _) = ⊥

@@ -5,7 +5,7 @@ use Rattle.vip_outside.specs.Files.{FilesMeaning, ReadFails, LacksName}
 use Rattle.vip_words.specs.Asked.{Asked, trace, play, debug, demo, asm, list, dis, bounds}
 use Rattle.vip_cli.specs.declared.files.Wanted.{Wanted}
 use Rattle.vip_cli.specs.declared.refusal.Kind.{Kind}
-use Rattle.vip_cli.specs.declared.refusal.Kind.TheVariants.{Game, Script, Source}
+use Rattle.vip_cli.specs.declared.refusal.Kind.TheVariants.{Game, Script, Commands, Source}
 use Rattle.vip_cli.specs.declared.refusal.Refusal.{Refusal}
 use Rattle.vip_cli.specs.declared.refusal.Refusal.TheVariants.{Unread, TooLarge, NoMemory}
 
@@ -33,12 +33,12 @@ script_file (Some name) = file Script most_text name ∷ []
 abbrev pub needed : Asked → List Needed
 needed (trace a) = file Game most_game a.game ∷ script_file a.keys
 needed (play a) = file Game most_game a.game ∷ script_file a.keys
+needed (debug a) = file Game most_game a.game ∷ file Commands most_text a.commands ∷ script_file a.keys
 needed (demo a) = []
 needed (asm name) = file Source most_text name ∷ []
 needed (list name) = file Source most_text name ∷ []
 needed (dis a) = file Source (65536 - a.address) a.file ∷ []
 needed bounds = []
-needed (debug a) = []
 
 abbrev pub seen_wanted : Wanted → Needed
 seen_wanted w = record { name = w.name.now; most = w.most; kind = w.kind }

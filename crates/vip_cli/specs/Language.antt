@@ -16,9 +16,9 @@ use Rattle.chip8_lang.specs.View.{opcode_at}
 use Rattle.vip_relation.specs.Interpreters.{interpreter_of}
 use Rattle.vip_show.specs.Endings.{Ending}
 use Rattle.vip_show.specs.Endings.Ending.{AtLimit, AtStop}
-use Rattle.vip_words.specs.Asked.{Asked, trace, play, demo}
+use Rattle.vip_words.specs.Asked.{Asked, trace, play, debug, demo}
 use Rattle.vip_cli.specs.Demo.{demo_game}
-use Rattle.vip_cli.specs.Outcome.{script_in, events_in, end_status}
+use Rattle.vip_cli.specs.Outcome.{script_in, events_in, run_ending, end_status}
 use Rattle.vip_cli.specs.Report.{end_report}
 use Rattle.vip_cli.specs.declared.status.Status.{Status}
 
@@ -96,9 +96,16 @@ pub record RunIsChip8 (game : List ℕ) (scripts : List (List ℕ)) (limit : ℕ
   pub status_is : status ≡ end_status ending
   pub report_is : report ≡ end_report limit ending
 
+-- a run that the debugger goes along; its report isn't of the run's end, but of where the commands end
+pub record DebugsChip8 (game : List ℕ) (scripts : List (List ℕ)) (limit : ℕ) : Type 0 where
+  pub script : List KeyEvent
+  pub reads : script_in scripts ≡ Ok script
+  pub run : IsChip8 game script limit (run_ending game limit script)
+
 -- what a command with these contents runs, where it runs a game
 abbrev pub ShowsChip8 : Asked → List (List ℕ) → Status → List ℕ → Type 0
 ShowsChip8 (trace a) (game ∷ scripts) status report = RunIsChip8 game scripts a.cycles status report
 ShowsChip8 (play a) (game ∷ scripts) status report = RunIsChip8 game scripts a.cycles status report
+ShowsChip8 (debug a) (game ∷ commands ∷ scripts) status report = DebugsChip8 game scripts a.cycles
 ShowsChip8 (demo a) _ status report = RunIsChip8 (demo_game a.number) [] a.cycles status report
 ShowsChip8 _ _ status report = Unit {0}

@@ -4,11 +4,14 @@ use Rattle.machine.specs.Keys.{Event as KeyEvent}
 use Rattle.chip8_lang.specs.declared.view.Edition.TheVariants.{Usual}
 use Rattle.asm_core.specs.Made.{Made, IsAssembly}
 use Rattle.asm_core.specs.Sources.{source_lines, HasFirstFault}
+use Rattle.vip_debug.specs.Grammar.{commands_of}
+use Rattle.vip_debug.specs.declared.command.Command.{Command as DebugCommand}
+use Rattle.vip_debug.specs.declared.command.CommandFault.TheVariants as command
 use Rattle.vip_keypad.specs.declared.script.ScriptFault.TheVariants.{Fault}
 use Rattle.vip_relation.specs.Meets.{HasStopped}
 use Rattle.vip_relation.specs.State.{VipState, started}
 use Rattle.vip_cli.specs.declared.refusal.Refusal.{Refusal}
-use Rattle.vip_cli.specs.declared.refusal.Refusal.TheVariants.{Script, Source, Rom, NoMemory}
+use Rattle.vip_cli.specs.declared.refusal.Refusal.TheVariants.{Script, Command, Source, Rom, NoMemory}
 use Rattle.vip_cli.specs.Files.{most_text}
 use Rattle.vip_cli.specs.Outcome.{script_in, RomIs, IsFault}
 
@@ -23,6 +26,13 @@ KeysAnswer scripts (Ok script) = script_in scripts ≡ Ok script
 KeysAnswer scripts (Err (Script line cause)) = script_in scripts ≡ Err (Fault line cause)
 KeysAnswer scripts (Err NoMemory) = Unit {0}
 KeysAnswer scripts (Err _) = ⊥
+
+-- the debugger's commands are read
+abbrev pub DebugCommandsAnswer : ℕ → List ℕ → Result (List DebugCommand) Refusal → Type 0
+DebugCommandsAnswer limit text (Ok commands) = commands_of limit text ≡ Ok commands
+DebugCommandsAnswer limit text (Err (Command line cause)) = commands_of limit text ≡ Err (command.Fault line cause)
+DebugCommandsAnswer limit text (Err NoMemory) = Unit {0}
+DebugCommandsAnswer limit text (Err _) = ⊥
 
 -- the ROM is what its source gives
 abbrev pub RomAnswers : Result (Unit {0}) Refusal → Type 0

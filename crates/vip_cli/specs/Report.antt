@@ -7,12 +7,14 @@ use Rattle.rom_check.specs.declared.fault.ImageFault.{ImageFault}
 use Rattle.rom_check.specs.declared.fault.ImageFault.TheVariants as image
 use Rattle.vip_keypad.specs.declared.script.ScriptCause.{ScriptCause}
 use Rattle.vip_keypad.specs.declared.script.ScriptCause.TheVariants as script
+use Rattle.vip_debug.specs.declared.command.CommandCause.{CommandCause}
+use Rattle.vip_debug.specs.declared.command.CommandCause.TheVariants as command
 use Rattle.vip_text.specs.Stops.{stop_line}
 use Rattle.vip_text.specs.Traces.{newline}
 use Rattle.vip_show.specs.Endings.{Ending}
 use Rattle.vip_show.specs.Endings.Ending.{AtLimit, AtStop}
 use Rattle.vip_cli.specs.declared.refusal.Kind.{Kind}
-use Rattle.vip_cli.specs.declared.refusal.Kind.TheVariants.{Game, Script, Source}
+use Rattle.vip_cli.specs.declared.refusal.Kind.TheVariants.{Game, Script, Commands, Source}
 use Rattle.vip_cli.specs.declared.refusal.Refusal.{Refusal}
 use Rattle.vip_cli.specs.declared.refusal.Refusal.TheVariants as refusal
 
@@ -45,6 +47,12 @@ script_cause script.BadKey = codes "BadKey"
 script_cause script.OutOfOrder = codes "OutOfOrder"
 script_cause script.TooMany = codes "TooMany"
 
+abbrev pub command_cause : CommandCause → List ℕ
+command_cause command.BadWord = codes "BadWord"
+command_cause command.BadCount = codes "BadCount"
+command_cause command.BadNumber = codes "BadNumber"
+command_cause command.Range = codes "Range"
+
 -- the number of a line and what is wrong with it
 abbrev pub at_line : List ℕ → ℕ → List ℕ → List ℕ
 at_line text line cause = text ++ (decimal line ++ (codes ": " ++ (cause ++ newline)))
@@ -52,6 +60,7 @@ at_line text line cause = text ++ (decimal line ++ (codes ": " ++ (cause ++ newl
 abbrev pub too_large_report : Kind → List ℕ
 too_large_report Game = codes "vip: game larger than 3232 bytes" ++ newline
 too_large_report Script = codes "vip: key script larger than 1048576 bytes" ++ newline
+too_large_report Commands = codes "vip: commands larger than 1048576 bytes" ++ newline
 too_large_report Source = codes "vip: source too large" ++ newline
 
 -- the words are refused, or a file could not be read
@@ -61,9 +70,12 @@ usage = codes "usage: vip trace, play, debug, demo, asm, list, dis or bounds" ++
 abbrev pub cannot_read : List ℕ → List ℕ
 cannot_read name = codes "vip: cannot read " ++ (name ++ newline)
 
--- the first fault of a script, and of a source
+-- the first fault of a script, of the debugger's commands, and of a source
 abbrev pub bad_script : ℕ → ScriptCause → List ℕ
 bad_script line cause = at_line (codes "vip: key script line ") line (script_cause cause)
+
+abbrev pub bad_command : ℕ → CommandCause → List ℕ
+bad_command line cause = at_line (codes "vip: commands line ") line (command_cause cause)
 
 abbrev pub bad_source : ℕ → AsmCause → List ℕ
 bad_source line cause = at_line (codes "vip: source line ") line (asm_cause cause)
@@ -89,6 +101,7 @@ report_of refusal.Usage = usage
 report_of (refusal.Unread name) = cannot_read name.now
 report_of (refusal.TooLarge kind) = too_large_report kind
 report_of (refusal.Script line cause) = bad_script line cause
+report_of (refusal.Command line cause) = bad_command line cause
 report_of (refusal.Source line cause) = bad_source line cause
 report_of (refusal.Rom fault) = image_report fault
 report_of refusal.Write = write_fault

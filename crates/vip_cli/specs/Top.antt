@@ -4,13 +4,13 @@ use Rattle.std.specs.FinMap.{get}
 use Rattle.vip_outside.specs.Files.{FileMap, FilesMeaning}
 use Rattle.vip_outside.specs.Sink.{SinkMeaning, Gains, GainsPart}
 use Rattle.vip_outside.specs.Pieces.{PutsAll, FailsWithin}
-use Rattle.vip_words.specs.Asked.{Asked}
+use Rattle.vip_words.specs.Asked.{Asked, asked_by}
 use Rattle.vip_cli.specs.declared.refusal.Kind.{Kind}
 use Rattle.vip_cli.specs.declared.status.Status.{Status}
-use Rattle.vip_cli.specs.declared.status.Status.TheVariants.{Done, Stopped, Usage, ReadFault, GameTooLarge, ScriptTooLarge, BadScript, BadSource, BadRomSource, RomDiffers, WriteFault, NoMemory, SourceTooLarge}
+use Rattle.vip_cli.specs.declared.status.Status.TheVariants.{Done, Stopped, Usage, ReadFault, GameTooLarge, ScriptTooLarge, BadScript, BadSource, BadRomSource, RomDiffers, WriteFault, NoMemory, BadCommand, SourceTooLarge, CommandsTooLarge}
 use Rattle.vip_cli.specs.Files.{Needed, needed, HasAll, ComesTo, IsLarger, IsUnread}
 use Rattle.vip_cli.specs.Language.{ShowsChip8}
-use Rattle.vip_cli.specs.Outcome.{Comes, understood}
+use Rattle.vip_cli.specs.Outcome.{Comes}
 use Rattle.vip_cli.specs.Outcome.Outcome.{Refused, Shown}
 use Rattle.vip_cli.specs.Refusal.{too_large_status}
 use Rattle.vip_cli.specs.Report.{usage, cannot_read, too_large_report, write_fault, no_memory}
@@ -41,24 +41,24 @@ pub record Refuses (report : List ℕ) (call : Call) : Type 0 where
 
 -- the words are refused
 pub record Misused (call : Call) : Type 0 where
-  pub words : understood call.words ≡ None
+  pub words : asked_by call.words ≡ None
   pub refused : Refuses usage call
 
 -- a file could not be read, which the report names
 pub record Unread (call : Call) : Type 0 where
   pub asked : Asked
-  pub words : understood call.words ≡ Some asked
+  pub words : asked_by call.words ≡ Some asked
   pub at : ComesTo call.files (needed asked) (λ n. IsUnread call.files call.files' n × Refuses (cannot_read n.name) call)
 
 -- a file has more bytes than its kind may have
 pub record Oversize (status : Status) (call : Call) : Type 0 where
   pub asked : Asked
-  pub words : understood call.words ≡ Some asked
+  pub words : asked_by call.words ≡ Some asked
   pub at : ComesTo call.files (needed asked) (λ n. IsLarger call.files n × (status ≡ too_large_status n.kind) × Refuses (too_large_report n.kind) call)
 
 -- the words ask for this, and these are the contents of the files that it names
 pub record Asks (call : Call) (asked : Asked) (contents : List (List ℕ)) : Type 0 where
-  pub words : understood call.words ≡ Some asked
+  pub words : asked_by call.words ≡ Some asked
   pub read : HasAll call.files (needed asked) contents
 
 -- the contents are refused
@@ -120,7 +120,9 @@ Says BadRomSource call = Rejects BadRomSource call
 Says RomDiffers call = Rejects RomDiffers call
 Says WriteFault call = Faulty call
 Says NoMemory call = Refuses no_memory call
+Says BadCommand call = Rejects BadCommand call
 Says SourceTooLarge call = Oversize SourceTooLarge call
+Says CommandsTooLarge call = Oversize CommandsTooLarge call
 
 -- ---- when they come
 
@@ -158,11 +160,11 @@ pub data Due (call : Call) (asked : Asked) : Reading → Status → Type 0 where
 
 -- words that are refused give Usage, or want of memory
 abbrev pub RefusesWords : Status → Call → Type 0
-RefusesWords status call = understood call.words ≡ None → (status ≡ Usage) ⊎ (status ≡ NoMemory)
+RefusesWords status call = asked_by call.words ≡ None → (status ≡ Usage) ⊎ (status ≡ NoMemory)
 
 -- the words ask for this, the map of files is told, and no read was a fault
 pub record Offers (call : Call) (asked : Asked) (files : FileMap) : Type 0 where
-  pub words : understood call.words ≡ Some asked
+  pub words : asked_by call.words ≡ Some asked
   pub told : call.files.told ≡ Some files
   pub quiet : IsQuiet call.files.faults call.files'.faults
 
@@ -174,7 +176,7 @@ GivesDue status call =
     → Due call asked (reading files (needed asked)) due
     → (status ≡ due) ⊎ (status ≡ NoMemory)
 
--- the contents of the files are refused: a script or a source has a fault, or the ROM isn't what its source gives
+-- the contents of the files are refused: commands, a script or a source have a fault, or the ROM isn't what its source gives
 abbrev pub AreRefused : Asked → List (List ℕ) → Type 0
 AreRefused asked contents = (status : Status) × (report : List ℕ) × Comes asked contents (Refused status report)
 

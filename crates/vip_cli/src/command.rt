@@ -1,12 +1,12 @@
 //! The work of each command.
 
 ghost use Rattle.std.specs.Prelude.{◌≡◌, ◌-◌, ◌≤◌, ◌∷◌, [], ℕ, List, length};
-ghost use Rattle.vip_words.specs.Asked.Asked.{trace, play, demo, asm, list, dis, bounds};
-ghost use Rattle.vip_words.specs.Request.{asked_of, asked_trace, asked_play, asked_demo, asked_dis};
+ghost use Rattle.vip_words.specs.Asked.Asked.{trace, play, debug, demo, asm, list, dis, bounds};
+ghost use Rattle.vip_words.specs.Request.{asked_of, asked_trace, asked_play, asked_debug, asked_demo, asked_dis};
 ghost use Rattle.vip_cli.specs.Files.{needed, FitAll, contents_of};
 ghost use Rattle.vip_cli.specs.Command.{ended_status, CommandAnswers};
 ghost use Rattle.vip_cli.specs.Outcome.{cycles_in};
-ghost use Rattle.vip_cli.specs.Opening.{SmallScripts, KeysAnswer, RomAnswers, StartAnswers, SourceAnswers};
+ghost use Rattle.vip_cli.specs.Opening.{SmallScripts, KeysAnswer, DebugCommandsAnswer, RomAnswers, StartAnswers, SourceAnswers};
 
 use crate::demo::demo_game;
 use crate::refusal::{Kind, Refusal};
@@ -17,11 +17,12 @@ use rom_check::{ImageFault, check_image};
 use std::alloc::Global;
 use vip_bounds::bounds_text;
 use vip_byte::Buffer;
+use vip_debug::{CommandFault, Commands, DebugEnd, read_commands, run_commands};
 use vip_keypad::{Script, ScriptFault, read_script};
 use vip_outside::Sink;
 use vip_relation::{StartFault, Vip};
 use vip_show::{RunEnd, show_pictures, show_summary, show_trace};
-use vip_words::{DemoRequest, DisRequest, PlayRequest, Request, TraceRequest};
+use vip_words::{DebugRequest, DemoRequest, DisRequest, PlayRequest, Request, TraceRequest};
 
 /// How a command ended.
 #[derive(Clone, Copy, Debug, PartialEq, Eq)]
@@ -56,6 +57,18 @@ fn read_keys<'a>(alloc: Global, scripts: &[Vec<u8>]) -> Result<Script, Refusal<'
         Ok(script) => Ok(script),
         Err(ScriptFault::Fault { line, cause }) => Err(Refusal::Script { line, cause }),
         Err(ScriptFault::NoMemory) => Err(Refusal::NoMemory),
+    }
+}
+
+/// The commands of the debugger.
+fn read_debugging<'a>(alloc: Global, text: &[u8], limit: u64) -> Result<Commands, Refusal<'a>>
+    requires { length text.now ≤ 1_048_576 }
+    ensures { DebugCommandsAnswer limit text.now result }
+{
+    match read_commands(alloc, text, limit) {
+        Ok(commands) => Ok(commands),
+        Err(CommandFault::Fault { line, cause }) => Err(Refusal::Command { line, cause }),
+        Err(CommandFault::NoMemory) => Err(Refusal::NoMemory),
     }
 }
 
@@ -113,6 +126,26 @@ fn play<'a, O: Sink>(
     let mut vip = start(alloc, contents[0].as_slice(), &contents[1..])?;
     let end = show_pictures(&mut vip, wish.cycles, out)?;
     Ok(Ended::Ran(wish.cycles, end))
+}
+
+/// The commands are read before the key script, so that of two faults theirs counts.
+fn debug<'a, O: Sink>(
+    alloc: Global,
+    wish: &DebugRequest<'a>,
+    contents: &[Vec<u8>],
+    out: &mut O,
+) -> Result<Ended, Refusal<'a>>
+    requires limit { wish.now.cycles ≤ 4_000_000_000 }
+    requires sizes { FitAll (needed (debug (asked_debug wish.now))) (contents_of contents.now) }
+    ensures { CommandAnswers (debug (asked_debug wish.now)) (contents_of contents.now) (O.meaning out.old) (O.meaning out.new) result }
+{
+    let commands = read_debugging(alloc, contents[1].as_slice(), wish.cycles)?;
+    let mut vip = start(alloc, contents[0].as_slice(), &contents[2..])?;
+    match run_commands(&mut vip, &commands, wish.cycles, out) {
+        DebugEnd::Done => Ok(Ended::Ran(wish.cycles, RunEnd::AtLimit)),
+        DebugEnd::Stopped(stop) => Ok(Ended::Ran(wish.cycles, RunEnd::AtStop(stop))),
+        DebugEnd::WriteFault => Err(Refusal::Write),
+    }
 }
 
 fn demo<'a, O: Sink>(alloc: Global, wish: &DemoRequest, out: &mut O) -> Result<Ended, Refusal<'a>>
@@ -194,11 +227,11 @@ pub fn work<'a, O: Sink>(
     match request {
         Request::Trace(wish) => trace(alloc, wish, contents, out),
         Request::Play(wish) => play(alloc, wish, contents, out),
+        Request::Debug(wish) => debug(alloc, wish, contents, out),
         Request::Demo(wish) => demo(alloc, wish, out),
         Request::Asm(_) => asm(alloc, contents[0].as_slice(), out),
         Request::List(_) => list(alloc, contents[0].as_slice(), out),
         Request::Dis(wish) => dis(alloc, wish, contents[0].as_slice(), out),
         Request::Bounds => bounds(out),
-        Request::Debug(_) => Err(Refusal::NoMemory),
     }
 }

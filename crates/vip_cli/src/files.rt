@@ -2,8 +2,8 @@
 
 ghost use Rattle.std.specs.Prelude.{◌≡◌, ◌<◌, ◌∷◌, [], ℕ, map, option_map, slice_index};
 ghost use Rattle.vip_words.specs.Request.{asked_of};
-ghost use Rattle.vip_cli.specs.declared.refusal.Kind.TheVariants.{Game, Source};
-ghost use Rattle.vip_cli.specs.Files.{needed, file, script_file, most_game, seen_wanted, FileAnswers, FilesAnswer};
+ghost use Rattle.vip_cli.specs.declared.refusal.Kind.TheVariants.{Game, Commands, Source};
+ghost use Rattle.vip_cli.specs.Files.{needed, file, script_file, most_game, most_text, seen_wanted, FileAnswers, FilesAnswer};
 
 use crate::refusal::{Kind, Refusal};
 use arrayvec::ArrayVec;
@@ -14,7 +14,7 @@ use vip_words::Request;
 /// The most bytes of a game.
 const MOST_GAME: usize = 3232;
 
-/// The most bytes of a key script or of a source.
+/// The most bytes of a key script, of the debugger's commands or of a source.
 const MOST_TEXT: usize = 1_048_576;
 
 /// The bytes that addresses name.
@@ -29,7 +29,7 @@ pub struct Wanted<'a> {
 }
 
 /// The files of a run: the game, and the key script where one is named.
-fn run_files<'a>(game: &'a str, keys: Option<&'a str>) -> ArrayVec<Wanted<'a>, 2>
+fn run_files<'a>(game: &'a str, keys: Option<&'a str>) -> ArrayVec<Wanted<'a>, 3>
     ensures { map seen_wanted result.items ≡ file Game most_game game.now ∷ script_file (option_map (λ name. name.now) keys.entry) }
 {
     let mut wanted = ArrayVec::new();
@@ -48,8 +48,28 @@ fn run_files<'a>(game: &'a str, keys: Option<&'a str>) -> ArrayVec<Wanted<'a>, 2
     wanted
 }
 
+/// The files of a run under the debugger: the game, the commands, and the key script where one is named.
+fn debug_files<'a>(
+    game: &'a str,
+    commands: &'a str,
+    keys: Option<&'a str>,
+) -> ArrayVec<Wanted<'a>, 3>
+    ensures { map seen_wanted result.items ≡ file Game most_game game.now ∷ file Commands most_text commands.now ∷ script_file (option_map (λ name. name.now) keys.entry) }
+{
+    let mut wanted = run_files(game, keys);
+    wanted.insert(
+        1,
+        Wanted {
+            name: commands,
+            most: MOST_TEXT,
+            kind: Kind::Commands,
+        },
+    );
+    wanted
+}
+
 /// A source or bytes, alone.
-fn source_file<'a>(name: &'a str, most: usize) -> ArrayVec<Wanted<'a>, 2>
+fn source_file<'a>(name: &'a str, most: usize) -> ArrayVec<Wanted<'a>, 3>
     ensures { map seen_wanted result.items ≡ file Source most name.now ∷ [] }
 {
     let mut wanted = ArrayVec::new();
@@ -62,16 +82,17 @@ fn source_file<'a>(name: &'a str, most: usize) -> ArrayVec<Wanted<'a>, 2>
 }
 
 /// The files of a command, in the order in which they are read.
-pub fn wanted_files<'a>(request: &Request<'a>) -> ArrayVec<Wanted<'a>, 2>
+pub fn wanted_files<'a>(request: &Request<'a>) -> ArrayVec<Wanted<'a>, 3>
     ensures { map seen_wanted result.items ≡ needed (asked_of request.now) }
 {
     match request {
         Request::Trace(wish) => run_files(wish.game, wish.keys),
         Request::Play(wish) => run_files(wish.game, wish.keys),
+        Request::Debug(wish) => debug_files(wish.game, wish.commands, wish.keys),
         Request::Asm(wish) => source_file(wish.file, MOST_TEXT),
         Request::List(wish) => source_file(wish.file, MOST_TEXT),
         Request::Dis(wish) => source_file(wish.file, ADDRESSES - usize::from(wish.address)),
-        Request::Debug(_) | Request::Demo(_) | Request::Bounds => ArrayVec::new(),
+        Request::Demo(_) | Request::Bounds => ArrayVec::new(),
     }
 }
 

@@ -1,9 +1,9 @@
 //! The program `vip`: what its words ask for, the work of each command, its report and its status.
 //!
 //! ```text
-//!     words ──▶ vip_words ──▶ files ──┬──▶ key script ──▶ ROM check ──▶ vip_relation ──▶ vip_show ──┬──▶ out
-//!                   │           │     └──▶ assembler, listing, disassembly, bounds ─────────────────┤
-//!                   └───────────┴──────────────────▶ report ◀───────────────────────────────────────┘
+//!     words ──▶ vip_words ──▶ files ──┬──▶ commands, key script ──▶ ROM check ──▶ vip_relation ──▶ vip_show, vip_debug ──┬──▶ out
+//!                   │           │     └──▶ assembler, listing, disassembly, bounds ─────────────────────────────────────┤
+//!                   └───────────┴──────────────────▶ report ◀───────────────────────────────────────────────────────────┘
 //!                                                       └──▶ err, status
 //! ```
 //!

@@ -7,6 +7,7 @@ use crate::status::Status;
 use asm_core::AsmCause;
 use rom_check::ImageFault;
 use std::alloc::AllocError;
+use vip_debug::CommandCause;
 use vip_keypad::ScriptCause;
 use vip_outside::Failed;
 
@@ -18,6 +19,8 @@ pub enum Kind {
     Game,
     /// A key script, at most 1,048,576 bytes.
     Script,
+    /// The commands of the debugger, at most 1,048,576 bytes.
+    Commands,
     /// A source to assemble, at most 1,048,576 bytes, or bytes to disassemble, which have to end by address FFFF.
     Source,
 }
@@ -33,6 +36,8 @@ pub enum Refusal<'a> {
     TooLarge(Kind),
     /// The first fault of the key script, in this line, counted from 1.
     Script { line: u32, cause: ScriptCause },
+    /// The first fault of the debugger's commands, in this line, counted from 1.
+    Command { line: u32, cause: CommandCause },
     /// The first fault of the source, in this line, counted from 1.
     Source { line: u32, cause: AsmCause },
     /// The built-in source doesn't give the ROM.
@@ -52,8 +57,10 @@ impl Refusal<'_> {
             Refusal::Unread(_) => Status::ReadFault,
             Refusal::TooLarge(Kind::Game) => Status::GameTooLarge,
             Refusal::TooLarge(Kind::Script) => Status::ScriptTooLarge,
+            Refusal::TooLarge(Kind::Commands) => Status::CommandsTooLarge,
             Refusal::TooLarge(Kind::Source) => Status::SourceTooLarge,
             Refusal::Script { .. } => Status::BadScript,
+            Refusal::Command { .. } => Status::BadCommand,
             Refusal::Source { .. } => Status::BadSource,
             Refusal::Rom(ImageFault::BadRomSource { .. }) => Status::BadRomSource,
             Refusal::Rom(ImageFault::RomDiffers { .. }) => Status::RomDiffers,

@@ -3,7 +3,7 @@
 ghost use Rattle.std.specs.Prelude.{◌≡◌, ◌++◌};
 ghost use Rattle.vip_outside.specs.Sink.{GainAnswers};
 ghost use Rattle.vip_cli.specs.Command.{ended_report};
-ghost use Rattle.vip_cli.specs.Report.{asm_cause, script_cause, at_line, report_of, image_report, rom_differs, too_large_report, done};
+ghost use Rattle.vip_cli.specs.Report.{asm_cause, script_cause, command_cause, at_line, report_of, image_report, rom_differs, too_large_report, done};
 
 use crate::command::Ended;
 use crate::refusal::{Kind, Refusal};
@@ -11,6 +11,7 @@ use asm_core::AsmCause;
 use itoa::Buffer as Digits;
 use rom_check::ImageFault;
 use vip_byte::{Buffer, hex2, hex4};
+use vip_debug::CommandCause;
 use vip_keypad::ScriptCause;
 use vip_outside::{Failed, Sink};
 use vip_show::RunEnd;
@@ -60,6 +61,17 @@ fn script_cause(cause: ScriptCause) -> &'static str
     }
 }
 
+fn command_cause(cause: CommandCause) -> &'static str
+    ensures { result.now ≡ command_cause cause }
+{
+    match cause {
+        CommandCause::BadWord => "BadWord",
+        CommandCause::BadCount => "BadCount",
+        CommandCause::BadNumber => "BadNumber",
+        CommandCause::Range => "Range",
+    }
+}
+
 /// Reports the number of a line and what is wrong with it.
 fn put_at_line<S: Sink>(sink: &mut S, text: &[u8], line: u32, cause: &str) -> Result<(), Failed>
     ensures { GainAnswers (at_line text.now line cause.now) (S.meaning sink.old) (S.meaning sink.new) result }
@@ -76,6 +88,7 @@ fn put_too_large<S: Sink>(sink: &mut S, kind: Kind) -> Result<(), Failed>
     match kind {
         Kind::Game => put_line(sink, b"vip: game larger than 3232 bytes\n"),
         Kind::Script => put_line(sink, b"vip: key script larger than 1048576 bytes\n"),
+        Kind::Commands => put_line(sink, b"vip: commands larger than 1048576 bytes\n"),
         Kind::Source => put_line(sink, b"vip: source too large\n"),
     }
 }
@@ -124,6 +137,9 @@ pub fn put_refusal<S: Sink>(sink: &mut S, refusal: &Refusal<'_>) -> Result<(), F
         Refusal::TooLarge(kind) => put_too_large(sink, kind),
         Refusal::Script { line, cause } => {
             put_at_line(sink, b"vip: key script line ", line, script_cause(cause))
+        }
+        Refusal::Command { line, cause } => {
+            put_at_line(sink, b"vip: commands line ", line, command_cause(cause))
         }
         Refusal::Source { line, cause } => {
             put_at_line(sink, b"vip: source line ", line, asm_cause(cause))

@@ -29,8 +29,12 @@ pub enum Status {
     /// Not all of the output or the report could be written.
     WriteFault,
     NoMemory,
+    /// The debugger's commands have a fault.
+    BadCommand,
     /// A file to assemble, list or disassemble has too many bytes.
     SourceTooLarge,
+    /// The debugger's commands have more than 1,048,576 bytes.
+    CommandsTooLarge,
 }
 
 impl Status {
@@ -51,7 +55,9 @@ impl Status {
             Status::RomDiffers => 9,
             Status::WriteFault => 10,
             Status::NoMemory => 11,
+            Status::BadCommand => 12,
             Status::SourceTooLarge => 13,
+            Status::CommandsTooLarge => 14,
         }
     }
 }

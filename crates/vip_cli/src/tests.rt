@@ -115,7 +115,7 @@ fn commands_write_their_texts_and_reports(rt: HostRuntime) -> Result<(), Fail> {
         ("trace g 5 --keys=k", b"", Status::Usage, USAGE, ""),
         ("trace g 4000000001", b"", Status::Usage, USAGE, ""),
         ("demo 4294967296 5", b"", Status::Usage, USAGE, ""),
-        ("debug g 100000 g", b"", Status::Usage, USAGE, ""),
+        ("debug g 100000", b"", Status::Usage, USAGE, ""),
         (
             "trace absent 5",
             b"",

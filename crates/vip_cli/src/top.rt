@@ -2,7 +2,7 @@
 
 ghost use Rattle.std.specs.Prelude.{◌≡◌, map, string_bytes};
 ghost use Rattle.vip_words.specs.Request.{asked_of};
-ghost use Rattle.vip_cli.specs.Command.{UnderstoodAnswers, UnlessDebugAnswers, WordsAnswer};
+ghost use Rattle.vip_cli.specs.Command.{UnderstoodAnswers, WordsAnswer};
 ghost use Rattle.vip_cli.specs.Top.{call_of, Says, RefusesWords, GivesDue, Completes, SpeaksChip8};
 
 use crate::command::{Ended, work};
@@ -15,22 +15,12 @@ use std::alloc::Global;
 use vip_outside::{Files, Sink};
 use vip_words::{Request, WordsFail, read_words};
 
-/// The debugger isn't built yet, so its verb is refused.
-fn unless_debug(request: Request<'_>) -> Result<Request<'_>, Refusal<'_>>
-    ensures { UnlessDebugAnswers (asked_of request.entry) result }
-{
-    match request {
-        Request::Debug(_) => Err(Refusal::Usage),
-        _ => Ok(request),
-    }
-}
-
 /// What the words ask for.
 fn understood<'a>(alloc: Global, words: &'a [String]) -> Result<Request<'a>, Refusal<'a>>
     ensures { UnderstoodAnswers (map string_bytes words.entry.now) result }
 {
     match read_words(alloc, words) {
-        Ok(request) => unless_debug(request),
+        Ok(request) => Ok(request),
         Err(WordsFail::Refused) => Err(Refusal::Usage),
         Err(WordsFail::NoMemory) => Err(Refusal::NoMemory),
     }

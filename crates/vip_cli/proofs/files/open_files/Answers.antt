@@ -1,4 +1,4 @@
-use Rattle.std.proofs.Common.{◌≡◌, ◌∙◌, ap, arith, not, Global}
+use Rattle.std.proofs.Common.{◌∙◌, ap, arith, not, Global}
 use Rattle.vip_cli.proofs.FilesLemmas.{refused, has-more, pushed}
 use Rattle.vip_cli.proofs.files.open_files.Goals as goal
 

@@ -1,4 +1,4 @@
-use Rattle.std.proofs.Common.{◌≡◌, ◌∙◌}
+use Rattle.std.proofs.Common.{◌∙◌}
 use Rattle.vip_outside.proofs.SinkLemmas.{GainAnswers-append, GainsPart-append, GainAnswers-err}
 use Rattle.vip_cli.proofs.report.put_at_line.Goals as goal
 

@@ -1,4 +1,4 @@
-use Rattle.std.proofs.Common.{◌≡◌, ◌++◌}
+use Rattle.std.proofs.Common.{◌++◌}
 use Rattle.std.specs.Prelude.{codes}
 use Rattle.vip_byte.specs.HexText.{hex2, hex4}
 use Rattle.vip_text.specs.Traces.{newline}

@@ -1,4 +1,3 @@
-use Rattle.std.proofs.Common.{◌≡◌}
 use Rattle.vip_cli.proofs.report.put_image_fault.Goals as goal
 
 pub returns-in-BadRomSource : goal.returns-in-BadRomSource

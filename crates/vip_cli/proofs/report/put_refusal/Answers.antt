@@ -1,4 +1,3 @@
-use Rattle.std.proofs.Common.{◌≡◌}
 use Rattle.vip_cli.proofs.report.put_refusal.Goals as goal
 
 pub returns-in-Unread : goal.returns-in-Unread
@@ -6,6 +5,9 @@ returns-in-Unread g c = rw c.in-Unread.is (rw c.as_bytes.ensures.value at c.put_
 
 pub returns-in-Script : goal.returns-in-Script
 returns-in-Script g c = rw c.in-Script.is (rw c.script_cause.ensures at c.put_at_line.ensures)
+
+pub returns-in-Command : goal.returns-in-Command
+returns-in-Command g c = rw c.in-Command.is (rw c.command_cause.ensures at c.put_at_line-in-Command.ensures)
 
 pub returns-in-Source : goal.returns-in-Source
 returns-in-Source g c = rw c.in-Source.is (rw c.asm_cause.ensures at c.put_at_line-in-Source.ensures)
