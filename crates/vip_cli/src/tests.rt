@@ -228,6 +228,119 @@ fn commands_write_their_texts_and_reports(rt: HostRuntime) -> Result<(), Fail> {
     Ok(())
 }
 
+/// The registers after reset, as the debugger shows them.
+const RESET: &str = concat!(
+    "cycle 0 P 0 X 0 D 00 DF 0 Q 0 IE 1 T 00 IDL 0\n",
+    "R 0000 0000 0000 0000 0000 0000 0000 0000 0000 0000 0000 0000 0000 0000 0000 0000\n",
+);
+
+#[test]
+fn commands_of_the_debugger_are_answered(rt: HostRuntime) -> Result<(), Fail> {
+    let rows: [(&[u8], &[u8], Status, &str, &str); 8] = [
+        (
+            JUMPS,
+            b"to 7\nstep 2\n",
+            Status::Done,
+            "done 100000\n",
+            "cycle 6\ncycle 10\n",
+        ),
+        (JUMPS, b"regs\n", Status::Done, "done 100000\n", RESET),
+        (
+            SUM,
+            b"next 1\nmem 0200 4\nmem 0FFF 2\ndis 0200 2\n",
+            Status::Done,
+            "done 100000\n",
+            concat!(
+                "0200 6A02 V 00 00 00 00 00 00 00 00 00 00 00 00 00 00 00 00 I 0000 DT 00 ST 00 Q 0 S\n",
+                "0200 6A 02 6B 0C\n0FFF 00 FF\n INP 2\n LDN R2\n",
+            ),
+        ),
+        (
+            SUM,
+            b"break 0204\nnext 5\n",
+            Status::Stopped,
+            "stopped MachineCall 0000 at 0206\n",
+            concat!(
+                "0204 8AB4 V 00 00 00 00 00 00 00 00 00 00 02 0C 00 00 00 00 I 0000 DT 00 ST 00 Q 0 S\n",
+                "stopped MachineCall 0000 at 0206\n",
+            ),
+        ),
+        (
+            SUM,
+            b"jump 5\n",
+            Status::BadCommand,
+            "vip: commands line 1: BadWord\n",
+            "",
+        ),
+        (
+            SUM,
+            b"regs\nstep\n",
+            Status::BadCommand,
+            "vip: commands line 2: BadCount\n",
+            "",
+        ),
+        (
+            SUM,
+            b"step 1x\n",
+            Status::BadCommand,
+            "vip: commands line 1: BadNumber\n",
+            "",
+        ),
+        (
+            SUM,
+            b"to 100001\n",
+            Status::BadCommand,
+            "vip: commands line 1: Range\n",
+            "",
+        ),
+    ];
+    for (game, commands, status, report, text) in rows {
+        let got = run(
+            rt.alloc(),
+            "debug g 100000 c",
+            &[("g", game), ("c", commands)],
+        )?;
+        assert!(rt; got.status == status, "{report}");
+        assert!(rt; got.err.bytes() == report.as_bytes(), "{report}");
+        assert!(rt; got.out.bytes() == text.as_bytes(), "{report}");
+    }
+    let large = vec![in rt.alloc(); b'\n'; 1_048_577]?;
+    let faults: [(&[u8], &[u8], Status, &str); 4] = [
+        (
+            large.as_slice(),
+            large.as_slice(),
+            Status::CommandsTooLarge,
+            "vip: commands larger than 1048576 bytes\n",
+        ),
+        (
+            b"jump 5\n",
+            large.as_slice(),
+            Status::ScriptTooLarge,
+            "vip: key script larger than 1048576 bytes\n",
+        ),
+        (
+            b"jump 5\n",
+            b"5 push 1\n",
+            Status::BadCommand,
+            "vip: commands line 1: BadWord\n",
+        ),
+        (
+            b"regs\n",
+            b"5 push 1\n",
+            Status::BadScript,
+            "vip: key script line 1: BadLine\n",
+        ),
+    ];
+    for (commands, script, status, report) in faults {
+        let files = [("g", SUM), ("c", commands), ("k", script)];
+        let got = run(rt.alloc(), "debug g 100000 c --keys k", &files)?;
+        assert!(rt; got.status == status, "{report}");
+        assert!(rt; got.err.bytes() == report.as_bytes(), "{report}");
+        assert!(rt; got.out.calls() == 0, "{report}");
+    }
+    Ok(())
+}
+
 #[test]
 fn games_come_to_their_stops(rt: HostRuntime) -> Result<(), Fail> {
     let rows: [(&[u16], &str, &str); 24] = [
