@@ -12,6 +12,7 @@ use Rattle.machine.specs.Run.{after_moves}
 use Rattle.machine.proofs.Flags.{reads_flags}
 use Rattle.machine.proofs.Moves.{case_dma, case_instruction, move_in}
 use Rattle.rom_moves.specs.Code.{Code, Input}
+use Rattle.rom_frame.specs.Routine.{RunsRoutine}
 use Rattle.rom_moves.proofs.Moves.{in_rom, opcode_in, opcode_is, quick, quicks, quick_by, quick_by_is, quick_any, plus}
 
 -- the machine at a cycle
@@ -62,7 +63,7 @@ NoDma t n = (u : ℕ) → t ≤ u → u < t + n → dma_at u true ≡ false
 
 -- the routine with R0 = w
 abbrev pub at_byte : Word → Machine → Machine
-at_byte w b = record b { regs = record b.regs { r = record b.regs.r { r0 = w }; p = 1; idle = false }; on = true }
+at_byte w b = record b { regs = record b.regs { r = record b.regs.r { r0 = w }; p = 1; ie = false; idle = false }; on = true }
 
 pub up_is : (a : ℕ) → a < 0xffff → up (word_of a) ≡ word_of (a + 1)
 up_is a l = ap₂ word (omega arith) (omega arith)
@@ -86,10 +87,10 @@ module _ (x : Code) (held : ℕ → Keys) where
 
   -- ---- several moves
 
-  -- The board comes from b to c in n moves, and its program counter is R1 in all states before c.
+  -- The board comes from b to c in n moves, and the routine runs in all states before c.
   pub record Serves (n : ℕ) (b c : Machine) : Type 0 where
     pub ends : after_moves x.rom held b n ≡ c
-    pub by_r1 : (j : ℕ) → j < n → (after_moves x.rom held b j).regs.p ≡ 1
+    pub inside : (j : ℕ) → j < n → RunsRoutine (after_moves x.rom held b j)
 
   moves_join : (k m : ℕ) (b : Machine) → after_moves x.rom held b (plus k m) ≡ after_moves x.rom held (after_moves x.rom held b m) k
   moves_join zero m b = refl
@@ -99,23 +100,23 @@ module _ (x : Code) (held : ℕ → Keys) where
   moves_more k m b c e = ap (after_moves x.rom held b) (sym (plus_is k m)) ∙ moves_join k m b ∙ ap (λ z. after_moves x.rom held z k) e
 
   pub serves_join : {n m : ℕ} {b c d : Machine} → Serves n b c → Serves m c d → Serves (n + m) b d
-  serves_join {n = n} {m = m} {b = b} {c = c} {d = d} f g = record { ends = moves_more m n b c f.ends ∙ g.ends; by_r1 = λ j l. go j l (cases_lt j n) }
+  serves_join {n = n} {m = m} {b = b} {c = c} {d = d} f g = record { ends = moves_more m n b c f.ends ∙ g.ends; inside = λ j l. go j l (cases_lt j n) }
     where
-      go : (j : ℕ) → j < n + m → (j < n) ⊎ (n ≤ j) → (after_moves x.rom held b j).regs.p ≡ 1
-      go j l (inl k) = f.by_r1 j k
-      go j l (inr k) = ap (λ i. (after_moves x.rom held b i).regs.p) split ∙ ap (λ (z : Machine). z.regs.p) (moves_more (j - n) n b c f.ends) ∙ g.by_r1 (j - n) (omega arith)
+      go : (j : ℕ) → j < n + m → (j < n) ⊎ (n ≤ j) → RunsRoutine (after_moves x.rom held b j)
+      go j l (inl k) = f.inside j k
+      go j l (inr k) = subst RunsRoutine (sym (ap (after_moves x.rom held b) split ∙ moves_more (j - n) n b c f.ends)) (g.inside (j - n) (omega arith))
         where
           split : j ≡ n + (j - n)
           split = omega arith
 
   pub serves_none : (b : Machine) → Serves 0 b b
-  serves_none b = record { ends = refl; by_r1 = λ j l. absurd (omega arith) }
+  serves_none b = record { ends = refl; inside = λ j l. absurd (omega arith) }
 
   pub serves_to : {n : ℕ} {b c d : Machine} → c ≡ d → Serves n b c → Serves n b d
   serves_to {n = n} {b = b} e s = subst (Serves n b) e s
 
-  pub one : (b c : Machine) → b.regs.p ≡ 1 → move x.rom held b ≡ c → Serves 1 b c
-  one b c p e = record { ends = e; by_r1 = λ j l. ap (λ i. (after_moves x.rom held b i).regs.p) (first j l) ∙ p }
+  pub one : (b c : Machine) → RunsRoutine b → move x.rom held b ≡ c → Serves 1 b c
+  one b c r e = record { ends = e; inside = λ j l. subst (λ i. RunsRoutine (after_moves x.rom held b i)) (sym (first j l)) r }
     where
       first : (j : ℕ) → j < 1 → j ≡ 0
       first j l = omega arith
@@ -132,7 +133,7 @@ module _ (x : Code) (held : ℕ → Keys) where
       same = omega arith
   instructions (suc k) t b h d =
       subst₂ (λ i z. Serves i (timed t b) (timed z (quicks x (suc k) b))) count time
-      (serves_join (instructions k t b p.0 (λ u l m. d u l (omega (arith, m)))) (one at _ s.p (move_quick at s (not-true _ q.1) (d (t + cycles_in x k b) (omega arith) (omega (arith, some_cycles (opcode_in x c)))))))
+      (serves_join (instructions k t b p.0 (λ u l m. d u l (omega (arith, m)))) (one at _ (record { by_r1 = s.p; disabled = s.ie }) (move_quick at s (not-true _ q.1) (d (t + cycles_in x k b) (omega arith) (omega (arith, some_cycles (opcode_in x c)))))))
     where
       c : Machine
       c = quicks x k b
@@ -168,7 +169,7 @@ module _ (x : Code) (held : ℕ → Keys) where
   dmas (suc k) t a b l d =
       subst₂ (λ i z. Serves i (timed t (at_byte (word_of a) b)) (timed z (at_byte (word_of (a + suc k)) b))) count time
       (serves_join (dmas k t a b (omega arith) (λ u m n. d u m (omega arith)))
-      (one at _ refl (move_in x.rom held at Dma (case_dma at (d (t + k) (omega arith) (omega arith))) ∙ ap (λ w. timed (t + k + 1) (at_byte w b)) (up_is (a + k) (omega arith) ∙ ap word_of next))))
+      (one at _ (record { by_r1 = refl; disabled = refl }) (move_in x.rom held at Dma (case_dma at (d (t + k) (omega arith) (omega arith))) ∙ ap (λ w. timed (t + k + 1) (at_byte w b)) (up_is (a + k) (omega arith) ∙ ap word_of next))))
     where
       at : Machine
       at = timed (t + k) (at_byte (word_of (a + k)) b)

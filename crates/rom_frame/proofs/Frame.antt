@@ -57,7 +57,7 @@ module _ (b : Machine) (on : b.on ≡ true) (ie : b.regs.ie ≡ true) where
   pub case_runs : IsOutside b.cycle → (place b.cycle ≡ interrupt_place → ⊥) → b.regs.idle ≡ false → case_of b ≡ Instruction
   case_runs out d i = case_instruction b (no_wish out) (no_interrupt out d) i
 
-  case_waits : IsOutside b.cycle → (place b.cycle ≡ interrupt_place → ⊥) → b.regs.idle ≡ true → case_of b ≡ Idle
+  pub case_waits : IsOutside b.cycle → (place b.cycle ≡ interrupt_place → ⊥) → b.regs.idle ≡ true → case_of b ≡ Idle
   case_waits out d i = case_idle b (no_wish out) (no_interrupt out d) i
 
 -- the interrupt

@@ -17,7 +17,7 @@ use Rattle.chip8_image.specs.Labels.{at_delay, at_resume}
 use Rattle.rom_law.specs.Program.{code}
 use Rattle.chip8_rows.proofs.Bytes.{both, both_is, quick, memory_end_is, variables_is, page_fits, page_low}
 use Rattle.rom_frame.specs.Frame.{IsMainPlace}
-use Rattle.rom_frame.specs.Routine.{IsInterrupted, RunTick, routine_moves}
+use Rattle.rom_frame.specs.Routine.{IsInterrupted, RunsRoutine, RunTick, routine_moves}
 use Rattle.rom_frame.proofs.Frame.{accepted}
 use Rattle.rom_frame.proofs.Board.{timed, at_byte, Serves, serves_join, serves_to, moves_more}
 use Rattle.rom_frame.proofs.Pushed.{pushed, as_long, read_low, read_high, others, bytes_fit}
@@ -115,8 +115,8 @@ module _ (e : Edition) (m : ℕ) (b : Machine) (held : ℕ → Keys) (o : IsInte
   ends : after_moves (both e) held b routine_moves ≡ end
   ends = moves_more (code (quick e)) held 1434 1 b (timed (3668 * m + 1093) (taken b)) first ∙ serves.ends
 
-  by_r1 : (k : ℕ) → 0 < k → k < routine_moves → (after_moves (both e) held b k).regs.p ≡ 1
-  by_r1 k l h = ap (λ i. (after_moves (both e) held b i).regs.p) split ∙ ap (λ (z : Machine). z.regs.p) (moves_more (code (quick e)) held (k - 1) 1 b (timed (3668 * m + 1093) (taken b)) first) ∙ serves.by_r1 (k - 1) (omega arith)
+  inside : (k : ℕ) → 0 < k → k < routine_moves → RunsRoutine (after_moves (both e) held b k)
+  inside k l h = subst RunsRoutine (sym (ap (after_moves (both e) held b) split ∙ moves_more (code (quick e)) held (k - 1) 1 b (timed (3668 * m + 1093) (taken b)) first)) (serves.inside (k - 1) (omega arith))
     where
       split : k ≡ 1 + (k - 1)
       split = omega arith
@@ -195,10 +195,10 @@ TickBy e m b held rom =
     Tick (memory_end e) b (after_moves rom held b routine_moves)
     × ((after_moves rom held b routine_moves).cycle ≡ interrupt_at m + 1846)
     × IsMainPlace (after_moves rom held b routine_moves).cycle
-    × ((k : ℕ) → 0 < k → k < routine_moves → (after_moves rom held b k).regs.p ≡ 1)
+    × ((k : ℕ) → 0 < k → k < routine_moves → RunsRoutine (after_moves rom held b k))
 
 tick_by : (e : Edition) (m : ℕ) (b : Machine) (held : ℕ → Keys) → IsInterrupted e m b → TickBy e m b held (both e)
-tick_by e m b held o = (subst (Tick (memory_end e) b) (sym (ends e m b held o)) (is_tick e m b held o), ap (λ (z : Machine). z.cycle) (ends e m b held o) ∙ time_is e m b held o, subst (λ (z : Machine). IsMainPlace z.cycle) (sym (ends e m b held o)) (place_is e m b held o), by_r1 e m b held o)
+tick_by e m b held o = (subst (Tick (memory_end e) b) (sym (ends e m b held o)) (is_tick e m b held o), ap (λ (z : Machine). z.cycle) (ends e m b held o) ∙ time_is e m b held o, subst (λ (z : Machine). IsMainPlace z.cycle) (sym (ends e m b held o)) (place_is e m b held o), inside e m b held o)
 
 pub run_tick : RunTick
 run_tick e m b held o = let t = subst (TickBy e m b held) (both_is e) (tick_by e m b held o) in record { tick = t.0; cycle = t.1; place = t.2; inside = t.3 }

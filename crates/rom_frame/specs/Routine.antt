@@ -32,12 +32,17 @@ routine_moves = 1435
 abbrev pub routine_cycles : ℕ
 routine_cycles = 1846
 
--- The routine is one tick, after which main code goes on, at an even cycle behind the window. In between the program counter is R1.
+-- while the routine runs, the program counter is R1 and interrupts are disabled
+pub record RunsRoutine (b : Machine) : Type 0 where
+  pub by_r1 : b.regs.p ≡ 1
+  pub disabled : b.regs.ie ≡ false
+
+-- The routine is one tick, after which main code goes on, at an even cycle behind the window.
 pub record IsTick (e : Edition) (m : ℕ) (b : Machine) (held : ℕ → Keys) : Type 0 where
   pub tick : Tick (memory_end e) b (after_moves (image e) held b routine_moves)
   pub cycle : (after_moves (image e) held b routine_moves).cycle ≡ interrupt_at m + routine_cycles
   pub place : IsMainPlace (after_moves (image e) held b routine_moves).cycle
-  pub inside : (k : ℕ) → 0 < k → k < routine_moves → (after_moves (image e) held b k).regs.p ≡ 1
+  pub inside : (k : ℕ) → 0 < k → k < routine_moves → RunsRoutine (after_moves (image e) held b k)
 
 abbrev pub RunTick : Type 0
 RunTick = (e : Edition) (m : ℕ) (b : Machine) (held : ℕ → Keys) → IsInterrupted e m b → IsTick e m b held

@@ -5,6 +5,7 @@ pub mod Kept
 pub mod Events
 pub mod Room
 pub mod Schedules
+pub mod Carried
 pub mod Runs
 pub mod NoDisplay
 pub mod First

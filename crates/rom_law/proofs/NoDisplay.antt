@@ -1,6 +1,6 @@
 -- A board whose display is off makes main moves alone, so its runs follow from the rows.
-use Rattle.std.proofs.Common.{◌≡◌, ℕ, zero, suc, ◌+◌, ◌-◌, ◌*◌, ◌<◌, ◌≤◌, ◌⊎◌, inl, inr, refl, sym, ◌∙◌, ap, subst, subst₂, arith, Bool, true, false, ◌||◌, ◌&&◌, List, [], ◌∷◌, ◌++◌, length}
-use Rattle.std.specs.Prelude.{Some, slice_get, ◌==◌}
+use Rattle.std.proofs.Common.{◌≡◌, ℕ, suc, ◌+◌, ◌-◌, ◌*◌, ◌≤◌, ◌⊎◌, inl, inr, refl, sym, ◌∙◌, ap, subst, subst₂, arith, Bool, true, false, ◌&&◌, List, [], ◌∷◌, ◌++◌, length}
+use Rattle.std.specs.Prelude.{Some, slice_get}
 use Rattle.std.proofs.lemmas.Option.{slice_get_within}
 use Rattle.machine.specs.Opcodes.{cycles_of}
 use Rattle.machine.specs.Signals.{int_at, dma_at, efx_at}
@@ -11,18 +11,18 @@ use Rattle.machine.specs.Keys.{Event as KeyEvent}
 use Rattle.machine.specs.Ranges.{FitsMachine}
 use Rattle.machine.proofs.Moves.{case_instruction, move_in}
 use Rattle.chip8_lang.specs.State.{Lang}
-use Rattle.chip8_lang.specs.Ticks.{ticks}
-use Rattle.chip8_lang.specs.Between.{Between, keys_between}
+use Rattle.chip8_lang.specs.Between.{keys_between}
 use Rattle.chip8_lang.specs.Events.{is_at}
 use Rattle.rom_moves.specs.Code.{Input, moved, is_by}
 use Rattle.machine.proofs.Fits.{main-fits}
-use Rattle.rom_law.specs.Program.{Program, code, Dispatches, Halts}
-use Rattle.rom_law.specs.Rows.{Since, Embeds, Ready, Pieces, Row, Outcome, now, dispatched, after_main}
+use Rattle.rom_law.specs.Program.{Program, code, Dispatches}
+use Rattle.rom_law.specs.Rows.{Since, Embeds, Ready, Pieces, Row, Outcome, Stepped, now, dispatched, after_main}
 use Rattle.rom_law.specs.Rows.Outcome.{Still, Dispatched, Halted}
 use Rattle.rom_law.specs.Rows.Row.{Inside, Alone}
-use Rattle.rom_law.specs.Runs.{state_at}
+use Rattle.rom_law.specs.Runs.{state_at, carried, Covers}
+use Rattle.rom_law.proofs.Carried.{carried_main}
 use Rattle.rom_law.proofs.Events.{at_instruction, neither, other_pc}
-use Rattle.rom_law.proofs.Language.{between_more, keys_from_get, last_or_before}
+use Rattle.rom_law.proofs.Language.{keys_from_get, last_or_before}
 use Rattle.rom_law.proofs.Schedules.{dispatch_by, halt_by}
 use Rattle.rom_law.proofs.Kept.{Proved, row_starts, row_moves, row_runs, row_cycle, row_cycles, block_awake}
 use Rattle.rom_law.specs.Runs.{Moves}
@@ -149,14 +149,18 @@ module _ (x : Program) (t : Pieces) (proved : Proved x t) (off : x.on ≡ false)
     unfolding h' c
     embeds = sampled_embeds script h'.from c.cycle h'.keys (omega (arith, cycle', count')) keys'
 
+    covers : Covers x script c h'
+    unfolding h'
+    covers = record { ticks = r.ticks ∙ sym (never h.from c.cycle); keys = embeds }
+
     outcome : Outcome x t c h'
     unfolding c u h'
     outcome = row_moves x t proved u (record b { cycle = b.cycle + 2 }) h (record { regs = r.fits.regs; ram = r.fits.ram; size = r.fits.size; key = r.fits.key }) idle (row_cycle x t proved b h (b.cycle + 2) r.fits idle r.row)
 
-    go : Outcome x t c h' → Moves x script (Running script) h c
+    go : Outcome x t c h' → Moves x script (Running script) h' c
     unfolding h'
     go (Still calm row) =
-        Quiet h' refl refl
+        Quiet
         (by_pc x off c at_on at_idle 4 x.interpreter.fetch ∙ (neither _ _ calm).0)
         (by_pc x off c at_on at_idle 3 x.interpreter.halt ∙ (neither _ _ calm).1)
         (record { row = row; fits = fits'; cycle = cycle'; ticks = r.ticks; count = count'; keys = keys' })
@@ -170,21 +174,22 @@ module _ (x : Program) (t : Pieces) (proved : Proved x t) (off : x.on ≡ false)
         Arrived
         (by_pc x off c st.stands.keeps.on st.stands.keeps.lies.awake 4 x.interpreter.fetch ∙ dispatch_by x c s st.stands)
         (by_pc x off c st.stands.keeps.on st.stands.keeps.lies.awake 3 x.interpreter.halt ∙ other_pc _ 3 st.stands.p refl)
-        st.runs
-        (subst₂ (λ n z. Between x.edition h.state n (keys_between script h.from c.cycle) z) (r.ticks ∙ sym (never h.from c.cycle)) (sym st.stands.keeps.lies.is) (between_more embeds x.edition h.state h.ticks s st.between))
-        here
-        (running_first script c (state_at x c) fits' here)
+        covers here
+        (running_first script c (state_at x c) fits' here.stands)
       where
-        here : Dispatches x c (state_at x c)
-        here = subst (Dispatches x c) (sym st.stands.keeps.lies.is) st.stands
+        here : Stepped x c h' (state_at x c)
+        here = subst (Stepped x c h') (sym st.stands.keeps.lies.is) st
     go (Halted stop st) =
         Stops
         (by_pc x off c st.halts.keeps.on st.halts.keeps.lies.awake 3 x.interpreter.halt ∙ halt_by x c (now h') stop st.halts)
-        stop st.fits
-        (subst (λ n. Halts x c (ticks n h.state) stop) (r.ticks ∙ sym (never h.from c.cycle)) st.halts)
+        covers stop st
 
-    board_moves : Moves x script (Running script) h (move x.interpreter.rom (held_at script) b)
-    board_moves = subst (Moves x script (Running script) h) (sym board_move) (go outcome)
+    carried_is : carried x.interpreter.rom (held_at script) b h ≡ h'
+    unfolding h' u input
+    carried_is = carried_main x.interpreter.rom (held_at script) b h (instruction x off b ready.on idle) ready.enabled (row_cycles x t proved b h r.fits idle r.row)
+
+    board_moves : Moves x script (Running script) (carried x.interpreter.rom (held_at script) b h) (move x.interpreter.rom (held_at script) b)
+    board_moves = subst₂ (Moves x script (Running script)) (sym carried_is) (sym board_move) (go outcome)
 
   -- With the display off each move comes to what it should, in time where the rows say so.
   pub carries : (script : List KeyEvent) → ((a e : ℕ) → x.ticks_between a e ≡ 0) → ((b : Machine) (h : Since) (bound : ℕ) → FitsMachine b → Row x t b h → x.bound_of h.state ≡ Some bound → h.spent + 2 ≤ bound) → Carries x script (Running script)

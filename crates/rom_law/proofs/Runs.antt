@@ -1,6 +1,6 @@
 -- The law of a run holds where each move of the board comes to what it should, and boot comes to a first dispatch.
 use Rattle.std.proofs.Common.{◌≡◌, ℕ, zero, suc, ◌+◌, ◌-◌, ◌<◌, ◌≤◌, ◌⊎◌, inl, inr, refl, sym, ◌∙◌, ap, subst, subst₂, arith, add-one, le_refl, true, false, List, [], ◌∷◌, ◌++◌, filter, map}
-use Rattle.std.specs.Prelude.{Some, None, slice_get}
+use Rattle.std.specs.Prelude.{Some, slice_get}
 use Rattle.std.proofs.lemmas.Bool.{cases_lt}
 use Rattle.machine.specs.Board.{Machine, move, start}
 use Rattle.machine.specs.Keys.{held_at}
@@ -8,7 +8,6 @@ use Rattle.machine.specs.Keys.{Event as KeyEvent}
 use Rattle.machine.specs.Run.{run_to, after_moves}
 use Rattle.machine.specs.Pictures.{windows_ended, is_shown}
 use Rattle.machine.proofs.Runs.{later-move, run_to-next, run_to-past}
-use Rattle.chip8_lang.specs.declared.view.Stop.{Stop}
 use Rattle.chip8_lang.specs.State.{first}
 use Rattle.chip8_lang.specs.Ticks.{ticks}
 use Rattle.chip8_lang.specs.Between.{Between, keys_between}
@@ -17,14 +16,15 @@ use Rattle.chip8_lang.specs.Events.{Event, events_at, events_of, numbers_from, i
 use Rattle.chip8_lang.specs.Events.Event.{Picture, Dispatch, Stopped}
 use Rattle.rom_law.specs.Program.{Program, Dispatches, Halts}
 use Rattle.rom_law.specs.Rows.{Since, dispatched}
-use Rattle.rom_law.specs.Runs.{is_point, points_of, cycle_of, state_at, IsFirst, IsStep, IsStop, IsNext, Moves, LanguageRun}
+use Rattle.rom_law.specs.Runs.{is_point, points_of, cycle_of, state_at, carried, IsFirst, IsStep, IsStop, IsNext, Moves, LanguageRun}
+use Rattle.rom_law.proofs.Carried.{carried_from, carried_state, covers_between}
 use Rattle.rom_law.specs.Runs.Moves.{Still, Arrived, Halted}
 
 -- ---- what is asked of a ROM
 
--- each move comes to what it should, in time
+-- each move comes to what it should, with the record carried on, in time
 pub record Carries (x : Program) (script : List KeyEvent) (Running : Machine → Since → Type 0) : Type 0 where
-  pub moves : (b : Machine) (h : Since) → Running b h → Moves x script Running h (move x.interpreter.rom (held_at script) b)
+  pub moves : (b : Machine) (h : Since) → Running b h → Moves x script Running (carried x.interpreter.rom (held_at script) b h) (move x.interpreter.rom (held_at script) b)
   pub timely : (b : Machine) (h : Since) (bound : ℕ) → Running b h → x.bound_of h.state ≡ Some bound → (move x.interpreter.rom (held_at script) b).cycle ≤ h.from + bound
 
 -- boot comes to a first dispatch, with no event before
@@ -141,30 +141,46 @@ module _ (x : Program) (script : List KeyEvent) (limit : ℕ) (Running : Machine
   Chained fuel = (b c : Machine) (h : Since) → h.from ≡ b.cycle → h.state ≡ state_at x b → Running c h → limit < c.cycle + fuel → Chain x script limit b (points x whole c.cycle (rest (next c)))
 
   module _ (b c : Machine) (h : Since) (f : h.from ≡ b.cycle) (s : h.state ≡ state_at x b) (r : Running c h) where
-    moved : (fuel : ℕ) → Chained fuel → limit < c.cycle + suc fuel → Moves x script Running h (next c) → Chain x script limit b (points x whole c.cycle (next c ∷ rest (next (next c))))
-    moved fuel on enough (Still h' f' s' d z r') =
+    -- the record as the move carries it on
+    h' : Since
+    h' = carried x.interpreter.rom (held_at script) c h
+
+    from_b : h'.from ≡ b.cycle
+    unfolding h'
+    from_b = carried_from x.interpreter.rom (held_at script) c h ∙ f
+
+    state_b : h'.state ≡ state_at x b
+    unfolding h'
+    state_b = carried_state x.interpreter.rom (held_at script) c h ∙ s
+
+    moved : (fuel : ℕ) → Chained fuel → limit < c.cycle + suc fuel → Moves x script Running h' (next c) → Chain x script limit b (points x whole c.cycle (next c ∷ rest (next (next c))))
+    moved fuel on enough (Still d z r') =
         subst (Chain x script limit b) (sym (points_quiet x whole c.cycle (next c) (rest (next (next c))) d z))
-        (on b (next c) h' (f' ∙ f) (s' ∙ s) r' (omega (arith, enough, later c)))
-    moved fuel on enough (Arrived d z free bt st r') =
+        (on b (next c) h' from_b state_b r' (omega (arith, enough, later c)))
+    moved fuel on enough (Arrived d z i st r') =
         subst (Chain x script limit b) (sym (points_dispatch x whole c.cycle (next c) (rest (next (next c))) d z)) (
           record {
-            runs = ap x.stop_of (sym s) ∙ free;
-            between = subst (λ y. Between x.edition y (x.ticks_between b.cycle (next c).cycle) (keys_between script b.cycle (next c).cycle) (state_at x (next c))) s (subst (λ a. Between x.edition h.state (x.ticks_between a (next c).cycle) (keys_between script a (next c).cycle) (state_at x (next c))) f bt);
-            stands = st;
+            runs = ap x.stop_of (sym state_b) ∙ st.runs;
+            between = subst₂ (λ y a. Between x.edition y (x.ticks_between a (next c).cycle) (keys_between script a (next c).cycle) (state_at x (next c))) state_b from_b (covers_between x script (next c) h' (state_at x (next c)) i st);
+            stands = st.stands;
           },
           in_time b c h f s r,
           on (next c) (next c) (dispatched (next c).cycle (state_at x (next c))) refl refl r' (omega (arith, enough, later c)),
         )
-    moved fuel on enough (Halted z stop e st) =
+    moved fuel on enough (Halted z i stop st) =
         subst (Chain x script limit b) (sym (points_stop x whole c.cycle (next c) (rest (next (next c))) z)) (
           record {
             stop = stop;
-            fits = ap x.stop_of (sym s) ∙ e;
-            halts = subst (λ y. Halts x (next c) (ticks (x.ticks_between b.cycle (next c).cycle) y) stop) s (subst (λ a. Halts x (next c) (ticks (x.ticks_between a (next c).cycle) h.state) stop) f st);
+            fits = ap x.stop_of (sym state_b) ∙ st.fits;
+            halts = subst₂ (λ y a. Halts x (next c) (ticks (x.ticks_between a (next c).cycle) y) stop) state_b from_b (subst (λ n. Halts x (next c) (ticks n h'.state) stop) i.ticks st.halts);
           },
           in_time b c h f s r,
           refl,
         )
+
+    moves_on : Running c h → Moves x script Running h' (next c)
+    unfolding h'
+    moves_on r = carries.moves c h r
 
     -- the limit comes before the next state
     past_limit : limit < (next c).cycle → Chain x script limit b (points x whole c.cycle (rest (next c)))
@@ -172,7 +188,7 @@ module _ (x : Program) (script : List KeyEvent) (limit : ℕ) (Running : Machine
 
     chain_on : (fuel : ℕ) → Chained fuel → limit < c.cycle + suc fuel → (limit < (next c).cycle) ⊎ ((next c).cycle ≤ limit) → Chain x script limit b (points x whole c.cycle (rest (next c)))
     chain_on fuel on enough (inl past) = past_limit past
-    chain_on fuel on enough (inr here) = subst (λ l. Chain x script limit b (points x whole c.cycle l)) (sym (run_to-next x.interpreter.rom (held_at script) limit (next c) here)) (moved fuel on enough (carries.moves c h r))
+    chain_on fuel on enough (inr here) = subst (λ l. Chain x script limit b (points x whole c.cycle l)) (sym (run_to-next x.interpreter.rom (held_at script) limit (next c) here)) (moved fuel on enough (moves_on r))
 
   chain : (fuel : ℕ) → Chained fuel
   chain zero b c h f s r enough = past_limit b c h f s r (omega (arith, enough, later c))

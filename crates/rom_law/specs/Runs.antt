@@ -1,7 +1,10 @@
 -- The law of every run: the dispatch points of a run are a run of the language, each next one comes within its bound, and a stop is that
 -- of the last state.
-use Rattle.std.specs.Prelude.{◌≡◌, ℕ, ◌+◌, ◌≤◌, Bool, true, false, List, filter, slice_get, Some, None}
-use Rattle.machine.specs.Board.{Machine}
+use Rattle.std.specs.Prelude.{◌≡◌, ℕ, ◌+◌, ◌≤◌, Bool, true, false, if◌then◌else◌, List, [], ◌∷◌, ◌++◌, filter, slice_get, Some, None}
+use Rattle.machine.specs.Opcodes.{cycles_of}
+use Rattle.machine.specs.Board.{Machine, Case, case_of, opcode_of}
+use Rattle.machine.specs.Board.Case.{Interrupt, Instruction}
+use Rattle.machine.specs.Keys.{Keys}
 use Rattle.machine.specs.Keys.{Event as KeyEvent}
 use Rattle.machine.specs.Pictures.{window_end}
 use Rattle.chip8_lang.specs.declared.view.Stop.{Stop}
@@ -13,7 +16,7 @@ use Rattle.chip8_lang.specs.Places.{state_of}
 use Rattle.chip8_lang.specs.Events.{Event, events_of, is_dispatch, is_stop}
 use Rattle.chip8_lang.specs.Events.Event.{Picture, Dispatch, Stopped}
 use Rattle.rom_law.specs.Program.{Program, Dispatches, Halts}
-use Rattle.rom_law.specs.Rows.{Since, dispatched}
+use Rattle.rom_law.specs.Rows.{Since, Embeds, Stepped, Stopped as StoppedBy, after_tick, dispatched}
 
 -- ---- the points of a run
 
@@ -62,12 +65,30 @@ IsNext x script b (Picture m) = ⊥
 
 -- ---- a move
 
--- What a move of the board comes to, from a state of which `Running` holds with the record h: no event, and a record that goes on; a
--- dispatch, from which a new record begins; or a stop.
+-- The record after the board's next move. An interrupt is one tick more. An instruction of main code, which runs with interrupts enabled, adds
+-- its cycles and the set of keys that are held down in the cycle after its fetch. Idle cycles, DMA cycles and the instructions of an interrupt
+-- routine, which runs with interrupts disabled, add nothing.
+abbrev pub carried_by : Case → List ℕ → (ℕ → Keys) → Machine → Since → Since
+carried_by Interrupt rom held b h = after_tick h
+carried_by Instruction rom held b h =
+    if b.regs.ie then record h { spent = h.spent + cycles_of (opcode_of rom b); keys = h.keys ++ held (b.cycle + 1) ∷ [] } else h
+carried_by _ rom held b h = h
+
+abbrev pub carried : List ℕ → (ℕ → Keys) → Machine → Since → Since
+carried rom held b h = carried_by (case_of b) rom held b h
+
+-- The record covers the interval from its dispatch point up to c: its ticks are the interrupts between the two, and its sets of keys were held
+-- down in the cycles between, in order.
+pub record Covers (x : Program) (script : List KeyEvent) (c : Machine) (h : Since) : Type 0 where
+  pub ticks : h.ticks ≡ x.ticks_between h.from c.cycle
+  pub keys : Embeds h.keys (keys_between script h.from c.cycle)
+
+-- What a move of the board comes to, from a state of which `Running` holds, where h is its record as the move carries it on: no event; a
+-- dispatch, with the step made, from which a new record begins; or the stop of the state.
 pub data Moves (x : Program) (script : List KeyEvent) (Running : Machine → Since → Type 0) (h : Since) (c : Machine) : Type 0 where
-  Still : (h' : Since) → h'.from ≡ h.from → h'.state ≡ h.state → is_dispatch x.interpreter c ≡ false → is_stop x.interpreter c ≡ false → Running c h' → Moves x script Running h c
-  Arrived : is_dispatch x.interpreter c ≡ true → is_stop x.interpreter c ≡ false → x.stop_of h.state ≡ None → Between x.edition h.state (x.ticks_between h.from c.cycle) (keys_between script h.from c.cycle) (state_at x c) → Dispatches x c (state_at x c) → Running c (dispatched c.cycle (state_at x c)) → Moves x script Running h c
-  Halted : is_stop x.interpreter c ≡ true → (stop : Stop) → x.stop_of h.state ≡ Some stop → Halts x c (ticks (x.ticks_between h.from c.cycle) h.state) stop → Moves x script Running h c
+  Still : is_dispatch x.interpreter c ≡ false → is_stop x.interpreter c ≡ false → Running c h → Moves x script Running h c
+  Arrived : is_dispatch x.interpreter c ≡ true → is_stop x.interpreter c ≡ false → Covers x script c h → Stepped x c h (state_at x c) → Running c (dispatched c.cycle (state_at x c)) → Moves x script Running h c
+  Halted : is_stop x.interpreter c ≡ true → Covers x script c h → (stop : Stop) → StoppedBy x c h stop → Moves x script Running h c
 
 -- ---- a run
 

@@ -1,5 +1,5 @@
 -- Each move of the board ends within the bound of the instruction at the last dispatch point.
-use Rattle.std.proofs.Common.{◌≡◌, ℕ, suc, ◌+◌, ◌*◌, ◌/◌, ◌%◌, ◌<◌, ◌≤◌, inr, sym, ◌∙◌, ap, subst, arith, List}
+use Rattle.std.proofs.Common.{◌≡◌, ℕ, suc, ◌+◌, ◌*◌, ◌/◌, ◌%◌, ◌<◌, ◌≤◌, inr, sym, ◌∙◌, ap, subst, subst₂, arith, List}
 use Rattle.std.specs.Prelude.{Some}
 use Rattle.machine.specs.Board.{Machine, move}
 use Rattle.machine.specs.Keys.{Keys, Event, held_at}
@@ -37,17 +37,17 @@ module _ (e : Edition) (script : List Event) where
   abbrev held : ℕ → Keys
   held = held_at script
 
-  module _ (b : Machine) (h : Since) (t : Interval script b h) (n bound : ℕ) (s : Spends b h n) where
+  module _ (b : Machine) (h : Since) (t : Interval e script b h) (n bound : ℕ) (s : Spends b h n) where
     -- at the end of the routine
     after_routine : (m : ℕ) → b.cycle ≡ interrupt_at m → Suffices bound (h.spent + n) → interrupt_at m + routine_cycles ≤ h.from + bound
-    after_routine m i most = within h.from (interrupt_at m + routine_cycles) (suc h.ticks) (h.spent + n) bound (ap suc (t.ticks ∙ ap (ticks_between h.from) i) ∙ sym (ticks_served h.from m (omega (arith, t.from, i, t.begun)))) (inr (omega arith)) (omega (arith, s, i)) most
+    after_routine m i most = within h.from (interrupt_at m + routine_cycles) (suc h.ticks) (h.spent + n) bound (ap suc (t.covers.ticks ∙ ap (ticks_between h.from) i) ∙ sym (ticks_served h.from m (omega (arith, t.from, i, t.begun)))) (inr (omega arith)) (omega (arith, s, i)) most
 
     -- after a main move, and after an idle cycle
     after_main : (place b.cycle ≡ interrupt_place → ⊥) → b.cycle % 2 ≡ 0 → Suffices bound (h.spent + 2 * 1 + n) → b.cycle + 2 ≤ h.from + bound
-    after_main d even most = within h.from (b.cycle + 2) h.ticks (h.spent + 2 * 1 + n) bound (t.ticks ∙ sym (ticks_main h.from b.cycle even d)) (keeps_place b.cycle (record { outside = t.outside; even = even }) d).outside (omega (arith, s)) most
+    after_main d even most = within h.from (b.cycle + 2) h.ticks (h.spent + 2 * 1 + n) bound (t.covers.ticks ∙ sym (ticks_main h.from b.cycle even d)) (keeps_place b.cycle (record { outside = t.outside; even = even }) d).outside (omega (arith, s)) most
 
     after_idle : (place b.cycle ≡ interrupt_place → ⊥) → Suffices bound (h.spent + 2 * 1 + n) → b.cycle + 1 ≤ h.from + bound
-    after_idle d most = within h.from (b.cycle + 1) h.ticks (h.spent + n + 1) bound (t.ticks ∙ sym (ticks_wait h.from b.cycle d)) (keeps_waiting b.cycle t.outside d) (omega (arith, s)) (fewer bound _ _ (omega arith) most)
+    after_idle d most = within h.from (b.cycle + 1) h.ticks (h.spent + n + 1) bound (t.covers.ticks ∙ sym (ticks_wait h.from b.cycle d)) (keeps_waiting b.cycle t.outside d) (omega (arith, s)) (fewer bound _ _ (omega arith) most)
 
   served : (b : Machine) (h : Since) (m bound : ℕ) → Outside e script b h → b.cycle ≡ interrupt_at m → bound_of e h.state ≡ Some bound → interrupt_at m + routine_cycles ≤ h.from + bound
   served b h m bound (AtRow t row n time) i k = let s = row_in_time e script b h t row time in after_routine b h t s.waited bound s.spends m i (fewer bound _ _ (omega arith) (s.suffices bound k))
@@ -57,7 +57,7 @@ module _ (e : Edition) (script : List Event) where
   in_routine : (b : Machine) (h : Since) (m k bound : ℕ) → Outside e script b h → b.cycle ≡ interrupt_at m → k < routine_moves → bound_of e h.state ≡ Some bound → (after_moves (image e) held b (suc k)).cycle ≤ h.from + bound
   in_routine b h m k bound o i l known = chain (later_cycle (image e) held b (suc k) routine_moves (omega (arith, l))) (run_tick e m b held (interrupted e script b h m o i)).cycle (served b h m bound o i known)
 
-  row_timely : (b : Machine) (h : Since) (bound : ℕ) (t : Interval script b h) (row : Row x (pieces x) b h) (n : Counted e b) (time : Timed e b h) → bound_of e h.state ≡ Some bound → Makes (image e) held b (move (image e) held b) → (move (image e) held b).cycle ≤ h.from + bound
+  row_timely : (b : Machine) (h : Since) (bound : ℕ) (t : Interval e script b h) (row : Row x (pieces x) b h) (n : Counted e b) (time : Timed e b h) → bound_of e h.state ≡ Some bound → Makes (image e) held b (move (image e) held b) → (move (image e) held b).cycle ≤ h.from + bound
   row_timely b h bound t row n time k (Runs d i m) =
       let s = row_in_time e script b h t row time in
       subst (λ z. z ≤ h.from + bound) (sym (ap (λ (z : Machine). z.cycle) m ∙ ap (λ z. b.cycle + z) (row_cycles x (pieces x) (proved e) b h t.fits i row))) (after_main b h t s.waited bound s.spends d (t.even i) (s.suffices bound k))
@@ -72,4 +72,6 @@ module _ (e : Edition) (script : List Event) where
     where
       at : b.cycle ≡ interrupt_at (b.cycle / 3668)
       at = omega (arith, p)
-  timely b h bound (InRoutine s) k = subst (λ z. (move (image e) held z).cycle ≤ h.from + bound) (sym s.is) (in_routine s.start h s.m s.k bound s.outside s.cycle s.inside k)
+  timely b h bound (InRoutine s) k =
+      subst₂ (λ z (y : Since). (move (image e) held z).cycle ≤ y.from + bound) (sym s.is) (sym s.counted)
+      (in_routine s.start s.before s.m s.k bound s.outside s.cycle s.inside (ap (λ (z : Since). bound_of e z.state) (sym s.counted) ∙ k))

@@ -27,12 +27,12 @@ use Rattle.rom_moves.proofs.Ticks.{after_tick as one_tick}
 use Rattle.rom_law.specs.Program.{Program, Keeps, code, Dispatches, Halts}
 use Rattle.rom_law.specs.Rows.{Since, Embeds, Row, Outcome, Stepped, Stopped, now, dispatched, after_main, after_tick}
 use Rattle.rom_law.specs.Rows.Outcome.{Still as Calm, Dispatched, Halted as Failed}
-use Rattle.rom_law.specs.Runs.{state_at}
+use Rattle.rom_law.specs.Runs.{state_at, carried, Moves}
+use Rattle.rom_law.proofs.Carried.{main_more, carried_main, carried_interrupt, carried_idle, carried_disabled}
 use Rattle.rom_law.proofs.Events.{at_instruction, at_other, calm_points, other_pc}
 use Rattle.rom_law.proofs.Kept.{row_starts, row_moves, row_ticks, row_runs, row_cycle, row_cycles}
-use Rattle.rom_law.proofs.Language.{between_more, between_ticks}
+use Rattle.rom_law.proofs.Language.{between_ticks}
 use Rattle.rom_law.proofs.Later.{dispatches_after, halts_after}
-use Rattle.rom_law.specs.Runs.{Moves}
 use Rattle.rom_law.specs.Runs.Moves.{Still, Arrived, Halted}
 use Rattle.rom_law.proofs.Schedules.{dispatch_by, halt_by}
 use Rattle.chip8_rows.specs.Rom.{image, vip}
@@ -41,7 +41,7 @@ use Rattle.chip8_rows.proofs.Waited.{row_joined}
 use Rattle.rom_frame.specs.Frame.{place, interrupt_place, IsOutside, IsMainPlace, Makes}
 use Rattle.rom_frame.specs.Frame.Makes.{Runs, Waits, Accepts}
 use Rattle.rom_frame.specs.Routine.{IsInterrupted, IsTick, routine_moves, routine_cycles}
-use Rattle.rom_frame.proofs.Frame.{case_accepts, case_runs, every_move, keeps_place, keeps_waiting}
+use Rattle.rom_frame.proofs.Frame.{case_accepts, case_runs, case_waits, every_move, keeps_place, keeps_waiting}
 use Rattle.rom_frame.proofs.Interval.{ticks_main, ticks_wait, ticks_served, keeps_interrupted, embeds_longer, embeds_more}
 use Rattle.rom_frame.proofs.Tick.{run_tick}
 use Rattle.rom_run.specs.Running.{Interval, Counted, Spends, Timed, InTime, Outside, Running, most_wait}
@@ -102,7 +102,7 @@ module _ (e : Edition) (script : List Event) where
   renewed c s f d p i =
       InMain (
       AtRow
-      (record { fits = f; outside = p.outside; even = λ a. p.even; from = le_refl c.cycle; begun = i; ticks = none_yet c.cycle; keys = embeds_none (keys_between script c.cycle c.cycle) })
+      (record { fits = f; outside = p.outside; even = λ a. p.even; from = le_refl c.cycle; begun = i; covers = record { ticks = none_yet c.cycle; keys = embeds_none (keys_between script c.cycle c.cycle) } })
       (row_starts x (pieces x) (proved e) c (dispatched c.cycle s) f ((proved e).fetch c.cycle c s f d))
       (Renewed d.keeps.lies.awake i)
       (Before (omega arith))
@@ -110,37 +110,33 @@ module _ (e : Edition) (script : List Event) where
 
   -- ---- what a state comes to that a dispatch or a stop has made
 
-  module _ (c : Machine) (h : Since) (t : Interval script c h) (p : IsMainPlace c.cycle) (soon : InTime e c h) where
+  module _ (c : Machine) (h : Since) (t : Interval e script c h) (p : IsMainPlace c.cycle) (soon : InTime e c h) where
     arrives : (s : Lang) → Stepped x c h s → Comes h c
     arrives s st = go (cases_eq (place c.cycle) interrupt_place)
       where
-        here : Dispatches x c (state_at x c)
-        here = subst (Dispatches x c) (sym st.stands.keeps.lies.is) st.stands
+        here : Stepped x c h (state_at x c)
+        here = subst (Stepped x c h) (sym st.stands.keeps.lies.is) st
 
         go : (place c.cycle ≡ interrupt_place) ⊎ (place c.cycle ≡ interrupt_place → ⊥) → Comes h c
-        go (inl i) = Still h refl refl (interrupted_there c s st.stands.keeps i 4 x.interpreter.fetch) (interrupted_there c s st.stands.keeps i 3 x.interpreter.halt) (InMain (AtEvent t i (Arrives s st) soon))
-        go (inr d) =
-            Arrived (dispatch_there c s st.stands t.outside d).0 (dispatch_there c s st.stands t.outside d).1 st.runs
-            (subst₂ (λ n z. Between e h.state n (keys_between script h.from c.cycle) z) t.ticks (sym st.stands.keeps.lies.is) (between_more t.keys e h.state h.ticks s st.between))
-            here
-            (renewed c (state_at x c) t.fits here p d)
+        go (inl i) = Still (interrupted_there c s st.stands.keeps i 4 x.interpreter.fetch) (interrupted_there c s st.stands.keeps i 3 x.interpreter.halt) (InMain (AtEvent t i (Arrives s st) soon))
+        go (inr d) = Arrived (dispatch_there c s st.stands t.outside d).0 (dispatch_there c s st.stands t.outside d).1 t.covers here (renewed c (state_at x c) t.fits here.stands p d)
 
     ends : (stop : Stop) → Stopped x c h stop → Comes h c
     ends stop st = go (cases_eq (place c.cycle) interrupt_place)
       where
         go : (place c.cycle ≡ interrupt_place) ⊎ (place c.cycle ≡ interrupt_place → ⊥) → Comes h c
-        go (inl i) = Still h refl refl (interrupted_there c (now h) st.halts.keeps i 4 x.interpreter.fetch) (interrupted_there c (now h) st.halts.keeps i 3 x.interpreter.halt) (InMain (AtEvent t i (Ends stop st) soon))
-        go (inr d) = Halted (stop_there c h st.halts t.outside d) stop st.fits (subst (λ n. Halts x c (ticks n h.state) stop) t.ticks st.halts)
-
-  -- what comes of a record comes of what it was before
-  carried : (h : Since) (spent n : ℕ) (sets : List Keys) (c : Machine) → Comes (record h { spent = spent; ticks = n; keys = sets }) c → Comes h c
-  carried h spent n sets c (Still g f s d z r) = Still g f s d z r
-  carried h spent n sets c (Arrived d z a b st r) = Arrived d z a b st r
-  carried h spent n sets c (Halted z stop a st) = Halted z stop a st
+        go (inl i) = Still (interrupted_there c (now h) st.halts.keeps i 4 x.interpreter.fetch) (interrupted_there c (now h) st.halts.keeps i 3 x.interpreter.halt) (InMain (AtEvent t i (Ends stop st) soon))
+        go (inr d) = Halted (stop_there c h st.halts t.outside d) t.covers stop st
 
   -- ---- a main move
 
-  module _ (b : Machine) (h : Since) (t : Interval script b h) (row : Row x (pieces x) b h) (i : place b.cycle ≡ interrupt_place → ⊥) (awake : b.regs.idle ≡ false) (time : Timed e b h) where
+  -- it adds two cycles and its set of keys
+  pub counts_main : (b : Machine) (h : Since) → Interval e script b h → Row x (pieces x) b h → (place b.cycle ≡ interrupt_place → ⊥) → b.regs.idle ≡ false → carried (image e) held b h ≡ main_more (image e) held b h 2
+  counts_main b h t row i awake =
+      let ready = row_runs x (pieces x) (proved e) b h t.fits row in
+      carried_main (image e) held b h (case_runs b ready.on ready.enabled t.outside i awake) ready.enabled (row_cycles x (pieces x) (proved e) b h t.fits awake row)
+
+  module _ (b : Machine) (h : Since) (t : Interval e script b h) (row : Row x (pieces x) b h) (i : place b.cycle ≡ interrupt_place → ⊥) (awake : b.regs.idle ≡ false) (time : Timed e b h) where
     u : Input
     u = record { efx = efx_at (b.cycle + 1) true; held = held (b.cycle + 1) }
 
@@ -178,7 +174,11 @@ module _ (e : Edition) (script : List Event) where
     unfolding h'
     soon = let s = row_in_time e script b h t row time in record { waited = s.waited; spends = spends s.waited s.spends; suffices = λ bound k. fewer bound _ _ (omega arith) (s.suffices bound k) }
 
-    interval : Interval script c h'
+    carried_is : carried x.interpreter.rom held b h ≡ h'
+    unfolding h' u
+    carried_is = counts_main b h t row i awake
+
+    interval : Interval e script c h'
     unfolding c u h'
     interval =
         record {
@@ -187,43 +187,33 @@ module _ (e : Edition) (script : List Event) where
           even = λ a. there.even;
           from = omega (arith, t.from);
           begun = t.begun;
-          ticks = t.ticks ∙ sym (ticks_main h.from b.cycle (t.even awake) i);
-          keys = embeds_more script h.from b.cycle t.from h.keys t.keys;
+          covers = record { ticks = t.covers.ticks ∙ sym (ticks_main h.from b.cycle (t.even awake) i); keys = embeds_more script h.from b.cycle t.from h.keys t.covers.keys };
         }
 
     main_place : IsMainPlace c.cycle
     unfolding c u
     main_place = there
 
-    stays : is_event (code x) c ≡ false → Row x (pieces x) c h' → Timed e c h' → Comes h c
-    unfolding h'
-    stays calm r later = Still h' refl refl (calm_points c x calm).0 (calm_points c x calm).1 (InMain (AtRow interval r (NoEvent calm) later))
+    stays : is_event (code x) c ≡ false → Row x (pieces x) c h' → Timed e c h' → Comes h' c
+    stays calm r later = Still (calm_points c x calm).0 (calm_points c x calm).1 (InMain (AtRow interval r (NoEvent calm) later))
 
-    steps : (s : Lang) → Stepped x c h' s → Comes h c
-    unfolding h'
-    steps s st = carried h h'.spent h'.ticks h'.keys c (arrives c h' interval main_place soon s st)
-
-    stops : (stop : Stop) → Stopped x c h' stop → Comes h c
-    unfolding h'
-    stops stop st = carried h h'.spent h'.ticks h'.keys c (ends c h' interval main_place soon stop st)
-
-    run_on : Spends b h 0 → Outcome x (pieces x) c h' → Comes h c
+    run_on : Spends b h 0 → Outcome x (pieces x) c h' → Comes h' c
     run_on s (Calm calm r) = stays calm r (Before (spends 0 s))
-    run_on s (Dispatched z st) = steps z st
-    run_on s (Failed stop st) = stops stop st
+    run_on s (Dispatched z st) = arrives c h' interval main_place soon z st
+    run_on s (Failed stop st) = ends c h' interval main_place soon stop st
 
-    run_behind : (n : ℕ) → Spends b h n → n ≤ most_wait → Outcome x (waited_pieces x) c h' → Comes h c
+    run_behind : (n : ℕ) → Spends b h n → n ≤ most_wait → Outcome x (waited_pieces x) c h' → Comes h' c
     run_behind n s l (Calm calm r) = stays calm (row_joined x c h' r) (Behind n (spends n s) l r)
-    run_behind n s l (Dispatched z st) = steps z st
-    run_behind n s l (Failed stop st) = stops stop st
+    run_behind n s l (Dispatched z st) = arrives c h' interval main_place soon z st
+    run_behind n s l (Failed stop st) = ends c h' interval main_place soon stop st
 
-    main_run : Timed e b h → Comes h c
+    main_run : Timed e b h → Comes h' c
     main_run (Before s) = run_on s outcome
     main_run (Waiting n s l idle) = absurd (sleeps (sym idle ∙ awake))
     main_run (Behind n s l r) = run_behind n s l (behind r)
 
-    main_comes : move x.interpreter.rom held b ≡ record (main_move x.interpreter.rom (efx_at (b.cycle + 1) true) (held (b.cycle + 1)) b) { cycle = b.cycle + cycles_of (opcode_of x.interpreter.rom b) } → Comes h (move x.interpreter.rom held b)
-    main_comes m = subst (Comes h) (sym (main_is m)) (main_run time)
+    main_comes : move x.interpreter.rom held b ≡ record (main_move x.interpreter.rom (efx_at (b.cycle + 1) true) (held (b.cycle + 1)) b) { cycle = b.cycle + cycles_of (opcode_of x.interpreter.rom b) } → Comes (carried x.interpreter.rom held b h) (move x.interpreter.rom held b)
+    main_comes m = subst₂ Comes (sym carried_is) (sym (main_is m)) (main_run time)
 
   -- ---- an idle cycle
 
@@ -232,7 +222,7 @@ module _ (e : Edition) (script : List Event) where
   uncounted b (Renewed a d) (inl i) = absurd (sleeps (sym i ∙ a))
   uncounted b (Renewed a d) (inr p) = absurd (d p)
 
-  idle_interval : (b : Machine) (h : Since) → Interval script b h → (place b.cycle ≡ interrupt_place → ⊥) → b.regs.idle ≡ true → Interval script (timed (b.cycle + 1) b) h
+  idle_interval : (b : Machine) (h : Since) → Interval e script b h → (place b.cycle ≡ interrupt_place → ⊥) → b.regs.idle ≡ true → Interval e script (timed (b.cycle + 1) b) h
   idle_interval b h t i idle =
       record {
         fits = record { regs = t.fits.regs; ram = t.fits.ram; size = t.fits.size; key = t.fits.key };
@@ -240,17 +230,16 @@ module _ (e : Edition) (script : List Event) where
         even = λ a. absurd (sleeps (sym idle ∙ a));
         from = omega (arith, t.from);
         begun = t.begun;
-        ticks = t.ticks ∙ sym (ticks_wait h.from b.cycle i);
-        keys = embeds_longer script h.from b.cycle (b.cycle + 1) h.keys (omega arith) t.keys;
+        covers = record { ticks = t.covers.ticks ∙ sym (ticks_wait h.from b.cycle i); keys = embeds_longer script h.from b.cycle (b.cycle + 1) h.keys (omega arith) t.covers.keys };
       }
 
-  idle_timed : (b : Machine) (h : Since) → Interval script b h → (place b.cycle ≡ interrupt_place → ⊥) → b.regs.idle ≡ true → Timed e b h → Timed e (timed (b.cycle + 1) b) h
+  idle_timed : (b : Machine) (h : Since) → Interval e script b h → (place b.cycle ≡ interrupt_place → ⊥) → b.regs.idle ≡ true → Timed e b h → Timed e (timed (b.cycle + 1) b) h
   idle_timed b h t i idle (Before s) = Waiting 1 (omega (arith, s)) (omega (arith, waits_more b.cycle t.outside i)) idle
   idle_timed b h t i idle (Waiting n s l _) = Waiting (n + 1) (omega (arith, s)) (omega (arith, l, waits_more b.cycle t.outside i)) idle
   idle_timed b h t i idle (Behind n s l r) = absurd (sleeps (sym idle ∙ waited_awake e b h r))
 
-  idle_comes : (b : Machine) (h : Since) → Interval script b h → Row x (pieces x) b h → Counted e b → Timed e b h → (place b.cycle ≡ interrupt_place → ⊥) → b.regs.idle ≡ true → Comes h (timed (b.cycle + 1) b)
-  idle_comes b h t row n time i idle = let calm = uncounted b n (inl idle) in Still h refl refl (calm_points (timed (b.cycle + 1) b) x calm).0 (calm_points (timed (b.cycle + 1) b) x calm).1 (InMain (AtRow (idle_interval b h t i idle) (idle_cycle e b h (b.cycle + 1) idle row) (NoEvent calm) (idle_timed b h t i idle time)))
+  idle_comes : (b : Machine) (h : Since) → Interval e script b h → Row x (pieces x) b h → Counted e b → Timed e b h → (place b.cycle ≡ interrupt_place → ⊥) → b.regs.idle ≡ true → Comes h (timed (b.cycle + 1) b)
+  idle_comes b h t row n time i idle = let calm = uncounted b n (inl idle) in Still (calm_points (timed (b.cycle + 1) b) x calm).0 (calm_points (timed (b.cycle + 1) b) x calm).1 (InMain (AtRow (idle_interval b h t i idle) (idle_cycle e b h (b.cycle + 1) idle row) (NoEvent calm) (idle_timed b h t i idle time)))
 
   -- ---- the interrupt routine
 
@@ -269,7 +258,7 @@ module _ (e : Edition) (script : List Event) where
 
   -- c is where it returns: one tick was made
   module _ (b : Machine) (h : Since) (m : ℕ) (cycle : b.cycle ≡ interrupt_at m) (c : Machine) (k : Tick (memory_end e) b c) (at : c.cycle ≡ interrupt_at m + routine_cycles) (p : IsMainPlace c.cycle) where
-    tick_interval : Interval script b h → Interval script c (after_tick h)
+    tick_interval : Interval e script b h → Interval e script c (after_tick h)
     tick_interval t =
         record {
           fits = tick_fits (memory_end e) b c t.fits k;
@@ -277,8 +266,11 @@ module _ (e : Edition) (script : List Event) where
           even = λ a. p.even;
           from = omega (arith, t.from, cycle, at);
           begun = t.begun;
-          ticks = ap suc (t.ticks ∙ ap (ticks_between h.from) cycle) ∙ sym (ticks_served h.from m (omega (arith, t.from, cycle, t.begun))) ∙ ap (ticks_between h.from) (sym at);
-          keys = embeds_longer script h.from b.cycle c.cycle h.keys (omega (arith, cycle, at)) t.keys;
+          covers =
+              record {
+                ticks = ap suc (t.covers.ticks ∙ ap (ticks_between h.from) cycle) ∙ sym (ticks_served h.from m (omega (arith, t.from, cycle, t.begun))) ∙ ap (ticks_between h.from) (sym at);
+                keys = embeds_longer script h.from b.cycle c.cycle h.keys (omega (arith, cycle, at)) t.covers.keys;
+              };
         }
 
     ticked : b.regs.idle ≡ false → After (memory_end e) 1 b c
@@ -293,7 +285,7 @@ module _ (e : Edition) (script : List Event) where
     tick_spends : (n : ℕ) → Spends b h n → Spends c (after_tick h) n
     tick_spends n s = omega (arith, s, cycle, at)
 
-    tick_timed : Interval script b h → Row x (pieces x) b h → Timed e b h → Timed e c (after_tick h)
+    tick_timed : Interval e script b h → Row x (pieces x) b h → Timed e b h → Timed e c (after_tick h)
     tick_timed t row (Before s) = Before (tick_spends 0 s)
     tick_timed t row (Waiting n s l i) = Behind n (tick_spends n s) (omega (arith, l, waits_most b.cycle t.outside)) (row_wakes e b c h t.fits i k row)
     tick_timed t row (Behind n s l r) = Behind n (tick_spends n s) l (waited_ticks e b c h k r)
@@ -301,12 +293,11 @@ module _ (e : Edition) (script : List Event) where
     tick_soon : InTime e b h → InTime e c (after_tick h)
     tick_soon s = record { waited = s.waited; spends = tick_spends s.waited s.spends; suffices = s.suffices }
 
-    returned : Outside e script b h → Comes h c
+    returned : Outside e script b h → Comes (after_tick h) c
     returned (AtRow t row n time) =
         let calm = ap (is_event (code x)) k.is ∙ uncounted b n (inr in_place) in
-        Still (after_tick h) refl refl (calm_points c x calm).0 (calm_points c x calm).1 (InMain (AtRow (tick_interval t) (row_ticks x (pieces x) (proved e) b c h t.fits k row) (NoEvent calm) (tick_timed t row time)))
+        Still (calm_points c x calm).0 (calm_points c x calm).1 (InMain (AtRow (tick_interval t) (row_ticks x (pieces x) (proved e) b c h t.fits k row) (NoEvent calm) (tick_timed t row time)))
     returned (AtEvent t _ (Arrives s st) late) =
-        carried h h.spent (suc h.ticks) h.keys c (
         arrives c (after_tick h) (tick_interval t) p (tick_soon late) (ticks 1 s) (
         record {
           runs = st.runs;
@@ -314,39 +305,47 @@ module _ (e : Edition) (script : List Event) where
           stands = dispatches_after x 1 b c (ticked st.stands.keeps.lies.awake) t.fits s st.stands;
         }
         )
-        )
     returned (AtEvent t _ (Ends stop st) late) =
-        carried h h.spent (suc h.ticks) h.keys c (ends c (after_tick h) (tick_interval t) p (tick_soon late) stop (record { fits = st.fits; halts = halts_after x 1 b c (ticked st.halts.keeps.lies.awake) t.fits (now h) stop st.halts }))
+        ends c (after_tick h) (tick_interval t) p (tick_soon late) stop (record { fits = st.fits; halts = halts_after x 1 b c (ticked st.halts.keeps.lies.awake) t.fits (now h) stop st.halts })
 
   module _ (b : Machine) (h : Since) (m : ℕ) (o : Outside e script b h) (cycle : b.cycle ≡ interrupt_at m) where
     tick : IsTick e m b held
     tick = run_tick e m b held (interrupted b h m o cycle)
 
     -- so many moves on, still in the routine
-    serves : (k : ℕ) → suc k < routine_moves → Comes h (after_moves (image e) held b (suc k))
-    serves k l = let quiet = by_r1 (after_moves (image e) held b (suc k)) (tick.inside (suc k) (omega arith) l) in Still h refl refl quiet.0 quiet.1 (InRoutine (record { start = b; outside = o; m = m; cycle = cycle; k = suc k; some = omega arith; inside = l; is = refl }))
+    serves : (k : ℕ) → suc k < routine_moves → Comes (after_tick h) (after_moves (image e) held b (suc k))
+    serves k l =
+        let quiet = by_r1 (after_moves (image e) held b (suc k)) (tick.inside (suc k) (omega arith) l).by_r1 in
+        Still quiet.0 quiet.1 (InRoutine (record { start = b; before = h; counted = refl; outside = o; m = m; cycle = cycle; k = suc k; some = omega arith; inside = l; is = refl }))
 
-    returns : Comes h (after_moves (image e) held b routine_moves)
+    returns : Comes (after_tick h) (after_moves (image e) held b routine_moves)
     returns = returned b h m cycle (after_moves (image e) held b routine_moves) tick.tick tick.cycle tick.place o
 
-    pub routine_comes : (k : ℕ) → k < routine_moves → Comes h (after_moves (image e) held b (suc k))
+    pub routine_comes : (k : ℕ) → k < routine_moves → Comes (after_tick h) (after_moves (image e) held b (suc k))
     routine_comes k l = go (cases_eq (suc k) routine_moves)
       where
-        go : (suc k ≡ routine_moves) ⊎ (suc k ≡ routine_moves → ⊥) → Comes h (after_moves (image e) held b (suc k))
-        go (inl last) = subst (λ n. Comes h (after_moves (image e) held b n)) (sym last) returns
+        go : (suc k ≡ routine_moves) ⊎ (suc k ≡ routine_moves → ⊥) → Comes (after_tick h) (after_moves (image e) held b (suc k))
+        go (inl last) = subst (λ n. Comes (after_tick h) (after_moves (image e) held b n)) (sym last) returns
         go (inr d) = serves k (omega (arith, l, d))
 
   -- ---- every move
 
-  row_comes : (b : Machine) (h : Since) (t : Interval script b h) (row : Row x (pieces x) b h) (n : Counted e b) (time : Timed e b h) → Makes (image e) held b (move (image e) held b) → Comes h (move (image e) held b)
-  row_comes b h t row n time (Runs d i m) = main_comes b h t row d i time m
-  row_comes b h t row n time (Waits d i m) = subst (Comes h) (sym m) (idle_comes b h t row n time d i)
-  row_comes b h t row n time (Accepts i m) = routine_comes b h _ (AtRow t row n time) i 0 (omega arith)
+  -- the interrupt is one tick
+  accepts : (b : Machine) (h : Since) → b.on ≡ true → b.regs.ie ≡ true → b.cycle ≡ interrupt_at (b.cycle / 3668) → carried (image e) held b h ≡ after_tick h
+  accepts b h on ie i = carried_interrupt (image e) held b h (case_accepts b on ie (omega (arith, i)))
 
-  pub board_moves : (b : Machine) (h : Since) → Goes b h → Comes h (move (image e) held b)
-  board_moves b h (InMain (AtRow t row n time)) = let ready = row_runs x (pieces x) (proved e) b h t.fits row in row_comes b h t row n time (every_move (image e) held b ready.on ready.enabled t.outside)
-  board_moves b h (InMain (AtEvent t p d late)) = routine_comes b h (b.cycle / 3668) (AtEvent t p d late) at 0 (omega arith)
+  row_comes : (b : Machine) (h : Since) (t : Interval e script b h) (row : Row x (pieces x) b h) (n : Counted e b) (time : Timed e b h) → b.on ≡ true → b.regs.ie ≡ true → Makes (image e) held b (move (image e) held b) → Comes (carried (image e) held b h) (move (image e) held b)
+  row_comes b h t row n time on ie (Runs d i m) = main_comes b h t row d i time m
+  row_comes b h t row n time on ie (Waits d i m) = subst₂ Comes (sym (carried_idle (image e) held b h (case_waits b on ie t.outside d i))) (sym m) (idle_comes b h t row n time d i)
+  row_comes b h t row n time on ie (Accepts i m) = subst (λ z. Comes z (move (image e) held b)) (sym (accepts b h on ie i)) (routine_comes b h _ (AtRow t row n time) i 0 (omega arith))
+
+  pub board_moves : (b : Machine) (h : Since) → Goes b h → Comes (carried (image e) held b h) (move (image e) held b)
+  board_moves b h (InMain (AtRow t row n time)) = let ready = row_runs x (pieces x) (proved e) b h t.fits row in row_comes b h t row n time ready.on ready.enabled (every_move (image e) held b ready.on ready.enabled t.outside)
+  board_moves b h (InMain (AtEvent t p d late)) = let o = interrupted b h (b.cycle / 3668) (AtEvent t p d late) at in subst (λ z. Comes z (move (image e) held b)) (sym (accepts b h o.on o.enabled at)) (routine_comes b h (b.cycle / 3668) (AtEvent t p d late) at 0 (omega arith))
     where
       at : b.cycle ≡ interrupt_at (b.cycle / 3668)
       at = omega (arith, p)
-  board_moves b h (InRoutine s) = subst (λ z. Comes h (move (image e) held z)) (sym s.is) (routine_comes s.start h s.m s.outside s.cycle s.k s.inside)
+  board_moves b h (InRoutine s) = subst₂ Comes (sym s.counted ∙ sym (carried_disabled (image e) held b h disabled)) (ap (move (image e) held) (sym s.is)) (routine_comes s.start s.before s.m s.outside s.cycle s.k s.inside)
+    where
+      disabled : b.regs.ie ≡ false
+      disabled = ap (λ (z : Machine). z.regs.ie) s.is ∙ ((tick s.start s.before s.m s.outside s.cycle).inside s.k s.some s.inside).disabled

@@ -6,7 +6,7 @@ use Rattle.machine.specs.Pictures.{interrupt_at}
 use Rattle.machine.specs.Run.{after_moves}
 use Rattle.machine.proofs.Runs.{later-move}
 use Rattle.chip8_lang.specs.declared.view.Edition.{Edition}
-use Rattle.rom_law.specs.Rows.{Since}
+use Rattle.rom_law.specs.Rows.{Since, after_tick}
 use Rattle.rom_law.specs.Runs.{Moves}
 use Rattle.chip8_rows.specs.Rom.{image, vip}
 use Rattle.rom_frame.specs.Frame.{place, interrupt_place}
@@ -31,7 +31,7 @@ module _ (e : Edition) (script : List Event) where
   -- where the cycle is that of an interrupt, main code runs or waits
   main_there : (b : Machine) (h : Since) → Running e script b h → place b.cycle ≡ interrupt_place → Outside e script b h
   main_there b h (InMain o) p = o
-  main_there b h (InRoutine s) p = absurd (not_there s.m s.cycle (later-move (image e) held s.start) (later_cycle (image e) held s.start 1 s.k s.some) (later_cycle (image e) held s.start s.k routine_moves (less s.k s.inside)) (tick_of s.start h s.m s.outside s.cycle).cycle (ap (λ (z : Machine). z.cycle) s.is) p)
+  main_there b h (InRoutine s) p = absurd (not_there s.m s.cycle (later-move (image e) held s.start) (later_cycle (image e) held s.start 1 s.k s.some) (later_cycle (image e) held s.start s.k routine_moves (less s.k s.inside)) (tick_of s.start s.before s.m s.outside s.cycle).cycle (ap (λ (z : Machine). z.cycle) s.is) p)
     where
       less : (k : ℕ) → k < routine_moves → k ≤ routine_moves
       less k l = omega (arith, l)
@@ -39,5 +39,5 @@ module _ (e : Edition) (script : List Event) where
   pub whole_tick : (b : Machine) (h : Since) (m : ℕ) → Running e script b h → b.cycle ≡ interrupt_at m → IsTick e m b held
   whole_tick b h m r i = tick_of b h m (main_there b h r (omega (arith, i))) i
 
-  pub tick_comes : (b : Machine) (h : Since) (m : ℕ) → Running e script b h → b.cycle ≡ interrupt_at m → Moves (vip e) script (Running e script) h (after_moves (image e) held b routine_moves)
+  pub tick_comes : (b : Machine) (h : Since) (m : ℕ) → Running e script b h → b.cycle ≡ interrupt_at m → Moves (vip e) script (Running e script) (after_tick h) (after_moves (image e) held b routine_moves)
   tick_comes b h m r i = routine_comes e script b h m (main_there b h r (omega (arith, i))) i 1434 (omega arith)

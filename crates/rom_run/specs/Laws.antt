@@ -13,7 +13,7 @@ use Rattle.chip8_lang.specs.Bounds.{bound_of}
 use Rattle.chip8_lang.specs.State.{memory_size, is_fetchable}
 use Rattle.rom_moves.specs.Code.{Input, moved}
 use Rattle.rom_law.specs.Program.{code}
-use Rattle.rom_law.specs.Runs.{Moves, LanguageRun}
+use Rattle.rom_law.specs.Runs.{Moves, LanguageRun, carried}
 use Rattle.rom_law.specs.Rows.{Since, Row, Outcome, after_main}
 use Rattle.rom_law.specs.Schedules.{EverySchedule}
 use Rattle.chip8_rows.specs.Rom.{image, vip}
@@ -33,13 +33,13 @@ EveryRun =
     → (script : List Event) (limit : ℕ)
     → LanguageRun (vip e) game script limit
 
--- Each move of the board keeps what is known of it: from a state with the record h it comes to no event, with h carried on; to a dispatch,
--- with what lies between the two, and the record begins anew; or to the stop of the state.
+-- Each move of the board keeps what is known of it, and carries its record on: it comes to no event; to a dispatch, with what lies between the
+-- two, and the record begins anew; or to the stop of the state.
 abbrev pub MainRows : Type 0
 MainRows =
     (e : Edition) (script : List Event) (b : Machine) (h : Since)
     → Running e script b h
-    → Moves (vip e) script (Running e script) h (move (image e) (held_at script) b)
+    → Moves (vip e) script (Running e script) (carried (image e) (held_at script) b h) (move (image e) (held_at script) b)
 
 -- and it ends within the bound of the instruction, where that has one
 abbrev pub Timely : Type 0
@@ -72,7 +72,7 @@ MovesIn p =
     (e : Edition) (script : List Event) (b : Machine) (h : Since)
     → Running e script b h
     → IsIn p b
-    → Moves (vip e) script (Running e script) h (move (image e) (held_at script) b)
+    → Moves (vip e) script (Running e script) (carried (image e) (held_at script) b h) (move (image e) (held_at script) b)
 
 -- and of those of boot
 abbrev pub BootRows : Type 0
@@ -81,8 +81,8 @@ BootRows =
     → Booting e script game b
     → FromBoot e script game (move (image e) (held_at script) b)
 
--- Where a move of the fetch takes P from 4 to 3 for an opcode in game memory, exactly DISPATCH main cycles have passed since the dispatch
--- point.
+-- Where a move of the fetch takes P from 4 to 3 for an opcode in game memory, exactly DISPATCH main cycles have passed since the dispatch point
+-- when it ends.
 abbrev pub DispatchIn : Type 0
 DispatchIn =
     (e : Edition) (script : List Event) (b : Machine) (h : Since)
@@ -91,4 +91,4 @@ DispatchIn =
     → is_fetchable e h.state ≡ true
     → b.regs.p ≡ 4
     → (move (image e) (held_at script) b).regs.p ≡ 3
-    → h.spent + 2 ≡ DISPATCH
+    → (carried (image e) (held_at script) b h).spent ≡ DISPATCH

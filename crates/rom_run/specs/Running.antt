@@ -11,26 +11,25 @@ use Rattle.chip8_lang.specs.declared.view.Stop.{Stop}
 use Rattle.chip8_lang.specs.State.{Lang, first, memory_size}
 use Rattle.chip8_lang.specs.Bounds.{bound_of, boot_bound}
 use Rattle.chip8_lang.specs.Events.{is_dispatch, is_stop}
-use Rattle.chip8_lang.specs.Between.{ticks_between, keys_between}
 use Rattle.rom_moves.specs.Code.{is_event}
 use Rattle.rom_law.specs.Program.{code, Dispatches}
-use Rattle.rom_law.specs.Rows.{Since, Embeds, Row, Stepped, Stopped, dispatched}
+use Rattle.rom_law.specs.Rows.{Since, Row, Stepped, Stopped, after_tick, dispatched}
+use Rattle.rom_law.specs.Runs.{Covers}
 use Rattle.chip8_rows.specs.Rom.{image, vip}
 use Rattle.chip8_rows.specs.Table.{pieces, waited_pieces}
 use Rattle.fetch_blocks.specs.Laws.{boot_moves}
 use Rattle.rom_frame.specs.Frame.{place, interrupt_place, window_place, IsOutside}
 use Rattle.rom_frame.specs.Routine.{routine_moves, routine_cycles}
 
--- The interval from the last dispatch point up to b, where main code runs or waits: its interrupts were the ticks, and the sets of keys of
--- its main moves were held down in its cycles, in order. Where main code runs, the cycle is even.
-pub record Interval (script : List Event) (b : Machine) (h : Since) : Type 0 where
+-- The interval from the last dispatch point up to b, where main code runs or waits, which the record covers. Where main code runs, the cycle is
+-- even.
+pub record Interval (e : Edition) (script : List Event) (b : Machine) (h : Since) : Type 0 where
   pub fits : FitsMachine b
   pub outside : IsOutside b.cycle
   pub even : b.regs.idle ≡ false → b.cycle % 2 ≡ 0
   pub from : h.from ≤ b.cycle
   pub begun : place h.from ≡ interrupt_place → ⊥
-  pub ticks : h.ticks ≡ ticks_between h.from b.cycle
-  pub keys : Embeds h.keys (keys_between script h.from b.cycle)
+  pub covers : Covers (vip e) script b h
 
 -- b is at no dispatch and at no stop, or it is the dispatch point at which the record begins
 pub data Counted (e : Edition) (b : Machine) : Type 0 where
@@ -78,13 +77,15 @@ pub record InTime (e : Edition) (b : Machine) (h : Since) : Type 0 where
 -- Outside of the interrupt routine the machine is in a row. Or a dispatch or a stop came in the cycle of an interrupt: then the board makes
 -- the interrupt first, and the event is the state after the routine.
 pub data Outside (e : Edition) (script : List Event) (b : Machine) (h : Since) : Type 0 where
-  AtRow : Interval script b h → Row (vip e) (pieces (vip e)) b h → Counted e b → Timed e b h → Outside e script b h
-  AtEvent : Interval script b h → place b.cycle ≡ interrupt_place → Due e b h → InTime e b h → Outside e script b h
+  AtRow : Interval e script b h → Row (vip e) (pieces (vip e)) b h → Counted e b → Timed e b h → Outside e script b h
+  AtEvent : Interval e script b h → place b.cycle ≡ interrupt_place → Due e b h → InTime e b h → Outside e script b h
 
--- in the routine of frame m, k moves past the cycle of the interrupt
+-- in the routine of frame m, k moves past the cycle of the interrupt, which was counted as a tick
 pub record Serving (e : Edition) (script : List Event) (b : Machine) (h : Since) : Type 0 where
   pub start : Machine
-  pub outside : Outside e script start h
+  pub before : Since
+  pub counted : h ≡ after_tick before
+  pub outside : Outside e script start before
   pub m : ℕ
   pub cycle : start.cycle ≡ interrupt_at m
   pub k : ℕ

@@ -9,6 +9,7 @@ use Rattle.machine.specs.Schedule.{Tick}
 use Rattle.machine.proofs.Runs.{cycle-move, later-move}
 use Rattle.chip8_lang.specs.declared.view.Edition.{Edition}
 use Rattle.chip8_lang.specs.Editions.{memory_end}
+use Rattle.rom_law.specs.Rows.{after_tick}
 use Rattle.rom_law.specs.Runs.{Moves}
 use Rattle.chip8_rows.specs.Rom.{image, vip}
 use Rattle.rom_frame.specs.Routine.{IsTick, routine_cycles}
@@ -78,7 +79,7 @@ module _ (old new : Seen) (r : Ran old new 1435) where
   takes o = ap (λ (z : Machine). z.cycle) (machine_is o.edition o.runs.0) ∙ (tick_there o).cycle ∙ ap (λ z. z + routine_cycles) (sym o.cycle)
 
   pub makes : IsInterrupted old → MakesTick old new
-  makes o e h k = record { tick = subst (Tick (memory_end e) old.machine) (sym (machine_is e k.0)) (whole_tick e old.script old.machine h o.m k.1 o.cycle).tick; comes = subst (Moves (vip e) old.script (Running e old.script) h) (sym (machine_is e k.0)) (tick_comes e old.script old.machine h o.m k.1 o.cycle) }
+  makes o e h k = record { tick = subst (Tick (memory_end e) old.machine) (sym (machine_is e k.0)) (whole_tick e old.script old.machine h o.m k.1 o.cycle).tick; comes = subst (Moves (vip e) old.script (Running e old.script) (after_tick h)) (sym (machine_is e k.0)) (tick_comes e old.script old.machine h o.m k.1 o.cycle) }
 
 -- the loop has ended
 pub last : (n : ℕ) → n ≤ 1435 → 1435 ≤ n → n ≡ 1435

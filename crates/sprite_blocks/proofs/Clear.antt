@@ -32,7 +32,7 @@ use Rattle.chip8_rows.proofs.Alone.{alone, one_more}
 use Rattle.chip8_rows.proofs.Bits.{same_xor, xor_same, nonzero, is_zero}
 use Rattle.chip8_rows.proofs.Bytes.{quick}
 use Rattle.chip8_rows.proofs.Entry.{is_on_3, on_3}
-use Rattle.chip8_rows.proofs.Follows.{to_sprite, to_sprite_place}
+use Rattle.chip8_rows.proofs.Follows.{to_sprite_place}
 use Rattle.chip8_rows.proofs.Later.{clearing_later}
 use Rattle.chip8_rows.proofs.Steps.{clears}
 use Rattle.chip8_rows.proofs.Straight.{routine}

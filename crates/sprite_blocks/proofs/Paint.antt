@@ -36,12 +36,12 @@ use Rattle.chip8_rows.proofs.Alone.{alone, one_more}
 use Rattle.chip8_rows.proofs.Bits.{nonzero, is_zero}
 use Rattle.chip8_rows.proofs.Bytes.{both, both_fits, quick, memory_end_is, variables_is, stack_top_is, page_fits, page_low}
 use Rattle.chip8_rows.proofs.Entry.{on_3, is_on_3}
-use Rattle.chip8_rows.proofs.Follows.{to_sprite, to_sprite_place}
+use Rattle.chip8_rows.proofs.Follows.{to_sprite_place}
 use Rattle.chip8_rows.proofs.Font.{Readable, readable_get}
 use Rattle.chip8_rows.proofs.Later.{painting_later}
 use Rattle.chip8_rows.proofs.Steps.{draws}
 use Rattle.chip8_rows.proofs.Waited.{to_waited, starts_joined}
-use Rattle.chip8_rows.proofs.Ways.{straight, forks, straight_on, forks_on}
+use Rattle.chip8_rows.proofs.Ways.{straight, straight_on, forks_on}
 use Rattle.sprite_blocks.proofs.Aim.{on_at}
 use Rattle.sprite_blocks.proofs.Bytes.{Apart, difference_either, meets_either}
 use Rattle.sprite_blocks.proofs.Dots.{apart_left, apart_right, left_small, right_small, right_last, rows_grow, bottom}
