@@ -6,3 +6,4 @@ mod Reading
 mod Advances
 mod Closing
 pub mod Pieces
+pub mod Waits

@@ -47,14 +47,16 @@ fn events_come_in_order_and_the_stop_again(rt: HostRuntime) -> Result<(), Fail> 
         let mut vip = begin(rt.alloc(), edition, &STOPS)?;
         assert!(rt; vip.edition() == edition);
         assert!(rt; vip.last().is_none());
-        for (met, now) in [
-            (Met::Dispatch, 56),
-            (Met::Dispatch, 142),
-            (Met::Stopped(STOP), 264),
-            (Met::Stopped(STOP), 264),
+        assert!(rt; vip.stop().is_none());
+        for (met, now, stop) in [
+            (Met::Dispatch, 56, None),
+            (Met::Dispatch, 142, None),
+            (Met::Stopped(STOP), 264, Some(STOP)),
+            (Met::Stopped(STOP), 264, Some(STOP)),
         ] {
             assert_eq!(rt; vip.advance(1_000), met);
             assert_eq!(rt; vip.board().now(), now);
+            assert_eq!(rt; vip.stop(), stop);
         }
         assert_eq!(rt; vip.advance(5), Met::Stopped(STOP));
         let last = vip.last().ok_or("no dispatch point")?;

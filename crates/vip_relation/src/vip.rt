@@ -1,6 +1,6 @@
 //! A board that runs a game.
 
-ghost use Rattle.std.specs.Prelude.{◌≡◌, ◌+◌, ◌<◌, ◌≤◌, ◌⊎◌, ◌↔◌, ℕ, [], IsTrue, IfOk, length, true, false};
+ghost use Rattle.std.specs.Prelude.{◌≡◌, ◌+◌, ◌<◌, ◌≤◌, ◌⊎◌, ◌↔◌, ℕ, [], IsTrue, IfOk, Some, None, if◌then◌else◌, length, true, false};
 ghost use Rattle.std.specs.Option.{option_map};
 ghost use Rattle.chip8_lang.specs.View.{seen};
 ghost use Rattle.vip_relation.specs.Interpreters.{interpreter_of};
@@ -140,6 +140,16 @@ impl Vip {
         ensures size { length result.now ≡ screen_size self.now.edition }
     {
         self.shown.as_slice()
+    }
+
+    /// The stop where the board is at a stop point, met or not; None elsewhere.
+    pub fn stop(&self) -> Option<StopRecord>
+        ensures { result ≡ (if is_stop (interpreter self.now) self.now.board.machine then Some (stop_record self.now.last self.now.board.machine) else None) }
+    {
+        match self.point {
+            Point::Stop => Some(self.stop_record()),
+            _ => None,
+        }
     }
 
     /// Makes moves up to the first event that wasn't met yet and whose cycle is at most `limit`, and answers it. After a stop it answers
