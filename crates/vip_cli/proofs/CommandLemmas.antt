@@ -6,7 +6,7 @@ use Rattle.chip8_lang.specs.declared.view.StopRecord.{StopRecord}
 use Rattle.chip8_lang.specs.Events.{is_stop}
 use Rattle.asm_core.specs.Made.{Made, IsAssembly}
 use Rattle.asm_core.specs.Sources.{source_lines}
-use Rattle.vip_debug.specs.Answers.{begun, moves_after, written, DebugAnswers}
+use Rattle.vip_debug.specs.Answers.{begun, at_start, place_of, place_after, written, DebugAnswers}
 use Rattle.vip_debug.specs.Grammar.{commands_of}
 use Rattle.vip_debug.specs.declared.command.Command.{Command as DebugCommand}
 use Rattle.vip_debug.specs.declared.run.DebugEnd.{DebugEnd}
@@ -149,7 +149,7 @@ module _ (asked : Asked) (contents : List (List ℕ)) where
     commands-fail old refusal r is answer = passed old refusal r is (refused-commands old refusal answer)
 
     -- they are, so it comes to what a run comes to
-    pub as-run : (commands : List DebugCommand) → commands_of limit text ≡ Ok commands → (o : Outcome) → RunComes limit scripts (λ script. written (started Usual game script) limit commands 0) (λ script. debug_ending (started Usual game script) limit commands) o → Comes asked contents o
+    pub as-run : (commands : List DebugCommand) → commands_of limit text ≡ Ok commands → (o : Outcome) → RunComes limit scripts (λ script. written (started Usual game script) limit commands at_start) (λ script. debug_ending (started Usual game script) limit commands) o → Comes asked contents o
     as-run commands read o come = fits o (rw read come)
 
 -- how a run ends by its events
@@ -160,24 +160,24 @@ ended_by limit v = ending_of v.edition (events_to v limit)
 
 module _ (game : List ℕ) (scripts : List (List ℕ)) (limit : ℕ) (commands : List DebugCommand) (v w : VipState) (old new : SinkMeaning) (begins : Begins game scripts v) where
   -- it begins before the first move, and the limit isn't in its past
-  from-start : (end : DebugEnd) → DebugAnswers (begun v) (max limit v.board.machine.cycle) commands v.moves w old new end → DebugAnswers v limit commands 0 w old new end
+  from-start : (end : DebugEnd) → DebugAnswers (begun v) (max limit v.board.machine.cycle) commands (place_of v) w old new end → DebugAnswers v limit commands at_start w old new end
   from-start end =
-      subst (λ u. DebugAnswers (begun u) (max limit u.board.machine.cycle) commands u.moves w old new end → DebugAnswers u limit commands 0 w old new end) (sym begins.is)
+      subst (λ u. DebugAnswers (begun u) (max limit u.board.machine.cycle) commands (place_of u) w old new end → DebugAnswers u limit commands at_start w old new end) (sym begins.is)
       (λ answers. rw max-zero at answers)
 
-  pub debug-done : DebugAnswers (begun v) (max limit v.board.machine.cycle) commands v.moves w old new debug.Done → (AtLimit ≡ debug_ending v limit commands) × PutsAll (written v limit commands 0) old new
+  pub debug-done : DebugAnswers (begun v) (max limit v.board.machine.cycle) commands (place_of v) w old new debug.Done → (AtLimit ≡ debug_ending v limit commands) × PutsAll (written v limit commands at_start) old new
   debug-done answers =
       let here = from-start debug.Done answers in
-      let runs : is_stop (interpreter v) (state_after v (moves_after v limit commands 0)) ≡ false = rw here.0.stands.machine at here.1 in
+      let runs : is_stop (interpreter v) (state_after v (place_after v limit commands at_start).moves) ≡ false = rw here.0.stands.machine at here.1 in
       (rw runs refl, here.0.puts)
 
-  pub debug-stopped : (stop : StopRecord) → DebugAnswers (begun v) (max limit v.board.machine.cycle) commands v.moves w old new (debug.Stopped stop) → (stopped_by stop ≡ debug_ending v limit commands) × PutsAll (written v limit commands 0) old new
+  pub debug-stopped : (stop : StopRecord) → DebugAnswers (begun v) (max limit v.board.machine.cycle) commands (place_of v) w old new (debug.Stopped stop) → (stopped_by stop ≡ debug_ending v limit commands) × PutsAll (written v limit commands at_start) old new
   debug-stopped stop answers =
       let here = from-start (debug.Stopped stop) answers in
-      let stops : is_stop (interpreter v) (state_after v (moves_after v limit commands 0)) ≡ true = rw here.0.stands.machine at here.1 in
+      let stops : is_stop (interpreter v) (state_after v (place_after v limit commands at_start).moves) ≡ true = rw here.0.stands.machine at here.1 in
       (rw stops (ap stopped_by here.2), here.0.puts)
 
-  pub debug-fails : DebugAnswers (begun v) (max limit v.board.machine.cycle) commands v.moves w old new debug.WriteFault → FailsWithin (written v limit commands 0) old new
+  pub debug-fails : DebugAnswers (begun v) (max limit v.board.machine.cycle) commands (place_of v) w old new debug.WriteFault → FailsWithin (written v limit commands at_start) old new
   debug-fails answers = (from-start debug.WriteFault answers).0
 
 -- a demonstration runs the game of its number

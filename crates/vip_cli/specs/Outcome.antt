@@ -17,7 +17,7 @@ use Rattle.rom_check.specs.Compared.{Compares}
 use Rattle.rom_check.specs.declared.fault.ImageFault.{ImageFault}
 use Rattle.rom_check.specs.declared.fault.ImageFault.TheVariants.{NoMemory}
 use Rattle.vip_bounds.specs.Table.{bounds_table}
-use Rattle.vip_debug.specs.Answers.{moves_after, stop_by, written}
+use Rattle.vip_debug.specs.Answers.{at_start, place_after, stop_by, written}
 use Rattle.vip_debug.specs.Grammar.{commands_of}
 use Rattle.vip_debug.specs.declared.command.Command.{Command}
 use Rattle.vip_debug.specs.declared.command.CommandFault.{CommandFault}
@@ -91,11 +91,11 @@ abbrev pub ending_where : VipState → ℕ → Ending
 ending_where v moves = if is_stop (interpreter v) (state_after v moves) then stopped_by (stop_by v moves) else AtLimit
 
 abbrev pub debug_ending : VipState → ℕ → List Command → Ending
-debug_ending v limit commands = ending_where v (moves_after v limit commands 0)
+debug_ending v limit commands = ending_where v (place_after v limit commands at_start).moves
 
 -- It comes to the first fault of its commands, or else, as other runs do, to the answers of the commands on a board that begins.
 abbrev pub DebugComes : List ℕ → ℕ → List (List ℕ) → Result (List Command) CommandFault → Outcome → Type 0
-DebugComes game limit scripts (Ok commands) o = RunComes limit scripts (λ script. written (started Usual game script) limit commands 0) (λ script. debug_ending (started Usual game script) limit commands) o
+DebugComes game limit scripts (Ok commands) o = RunComes limit scripts (λ script. written (started Usual game script) limit commands at_start) (λ script. debug_ending (started Usual game script) limit commands) o
 DebugComes game limit scripts (Err (command.Fault line cause)) o = o ≡ Refused BadCommand (bad_command line cause)
 DebugComes game limit scripts (Err command.NoMemory) o = ⊥
 

@@ -1,40 +1,38 @@
 -- Commands one after another.
-use Rattle.std.proofs.Common.{◌≡◌, ℕ, zero, suc, ◌<◌, ◌≤◌, Bool, true, false, List, [], ◌∷◌, ◌++◌, length, take, drop, get_or, refl, sym, ap, ◌∙◌, subst, arith, append_assoc, append-nil, Some, None, Option}
+use Rattle.std.proofs.Common.{◌≡◌, ℕ, zero, suc, ◌<◌, ◌≤◌, Bool, true, false, List, [], ◌∷◌, ◌++◌, length, take, drop, get_or, refl, sym, ap, ◌∙◌, subst, arith, append_assoc, append-nil, Some, None}
 use Rattle.std.proofs.lemmas.List.{take-append-drop}
 use Rattle.std.proofs.Math.Seq.{drop-cons}
-use Rattle.machine.specs.Board.{Machine}
 use Rattle.chip8_lang.specs.declared.view.StopRecord.{StopRecord}
 use Rattle.chip8_lang.specs.Events.{is_stop}
 use Rattle.vip_outside.specs.Sink.{SinkMeaning}
 use Rattle.vip_outside.specs.Pieces.{PutsAll, FailsWithin}
 use Rattle.vip_outside.proofs.PiecesLemmas.{PutsAll-nil, PutsAll-append, FailsWithin-append, FailsWithin-more}
-use Rattle.vip_relation.specs.State.{VipState, interpreter, events_waiting}
-use Rattle.vip_relation.specs.Follows.{Follows, last_view}
+use Rattle.vip_relation.specs.State.{VipState, interpreter}
+use Rattle.vip_relation.specs.Follows.{Follows}
 use Rattle.vip_relation.specs.Meets.{IsSame}
-use Rattle.vip_relation.specs.Stops.{stop_record}
 use Rattle.vip_debug.specs.declared.command.Command.{Command}
 use Rattle.vip_debug.specs.declared.run.DebugEnd.TheVariants.{Done, Stopped, WriteFault}
-use Rattle.vip_debug.specs.Answers.{begun, pieces, moves_with, moves_after, written, RunsWhole, DebugAnswers, events_by}
-use Rattle.vip_debug.specs.Parts.{Makes, Settles, SettleAnswers}
-use Rattle.vip_debug.proofs.Places.{same-trans, begun-same}
-use Rattle.vip_debug.proofs.Answering.{stands, last-settled}
+use Rattle.vip_debug.specs.Answers.{begun, Place, place_of, pieces, stop_by, place_with, place_after, written, RunsWhole, DebugAnswers}
+use Rattle.vip_debug.specs.Parts.{Makes}
+use Rattle.vip_debug.proofs.Places.{same-refl, same-trans, begun-same}
+use Rattle.vip_debug.proofs.Answering.{stands, stop_here, runs-here, stops-here, stop-is}
 
 -- ---- one command more
 
 module _ (start : VipState) (limit : ℕ) where
-  moves_more : (cs : List Command) (c : Command) (m : ℕ) → moves_after start limit (cs ++ c ∷ []) m ≡ moves_with start limit c (moves_after start limit cs m)
-  moves_more [] c m = refl
-  moves_more (x ∷ cs) c m = moves_more cs c (moves_with start limit x m)
+  place_more : (cs : List Command) (c : Command) (p : Place) → place_after start limit (cs ++ c ∷ []) p ≡ place_with start limit c (place_after start limit cs p)
+  place_more [] c p = refl
+  place_more (x ∷ cs) c p = place_more cs c (place_with start limit x p)
 
-  written_more : (cs : List Command) (c : Command) (rest : List Command) (m : ℕ)
-      → written start limit (cs ++ c ∷ rest) m ≡ written start limit cs m ++ (pieces start limit c (moves_after start limit cs m) ++ written start limit rest (moves_with start limit c (moves_after start limit cs m)))
-  written_more [] c rest m = refl
-  written_more (x ∷ cs) c rest m =
-      ap (λ more. pieces start limit x m ++ more) (written_more cs c rest (moves_with start limit x m))
-      ∙ sym (append_assoc (pieces start limit x m) (written start limit cs (moves_with start limit x m)) (pieces start limit c (moves_after start limit cs (moves_with start limit x m)) ++ written start limit rest (moves_with start limit c (moves_after start limit cs (moves_with start limit x m)))))
+  written_more : (cs : List Command) (c : Command) (rest : List Command) (p : Place)
+      → written start limit (cs ++ c ∷ rest) p ≡ written start limit cs p ++ (pieces start limit c (place_after start limit cs p) ++ written start limit rest (place_with start limit c (place_after start limit cs p)))
+  written_more [] c rest p = refl
+  written_more (x ∷ cs) c rest p =
+      ap (λ more. pieces start limit x p ++ more) (written_more cs c rest (place_with start limit x p))
+      ∙ sym (append_assoc (pieces start limit x p) (written start limit cs (place_with start limit x p)) (pieces start limit c (place_after start limit cs (place_with start limit x p)) ++ written start limit rest (place_with start limit c (place_after start limit cs (place_with start limit x p)))))
 
-  written_last : (cs : List Command) (c : Command) (m : ℕ) → written start limit (cs ++ c ∷ []) m ≡ written start limit cs m ++ pieces start limit c (moves_after start limit cs m)
-  written_last cs c m = written_more cs c [] m ∙ ap (λ more. written start limit cs m ++ more) (append-nil (pieces start limit c (moves_after start limit cs m)))
+  written_last : (cs : List Command) (c : Command) (p : Place) → written start limit (cs ++ c ∷ []) p ≡ written start limit cs p ++ pieces start limit c (place_after start limit cs p)
+  written_last cs c p = written_more cs c [] p ∙ ap (λ more. written start limit cs p ++ more) (append-nil (pieces start limit c (place_after start limit cs p)))
 
 -- ---- on the way
 
@@ -42,64 +40,47 @@ module _ (start : VipState) (limit : ℕ) where
 pub record Debugs (limit : ℕ) (old v : VipState) (done : List Command) (out out' : SinkMeaning) : Type 0 where
   pub begins : Follows old
   pub follows : Follows v
-  pub settled : events_waiting v ≡ []
   pub same : IsSame old v
-  pub made : v.moves ≡ moves_after (begun old) limit done old.moves
+  pub place : place_of v ≡ place_after (begun old) limit done (place_of old)
   pub within : v.board.machine.cycle ≤ limit
-  pub puts : PutsAll (written (begun old) limit done old.moves) out out'
+  pub puts : PutsAll (written (begun old) limit done (place_of old)) out out'
 
-pub debugs-first : (limit : ℕ) (old v : VipState) (stop : Option StopRecord) (out : SinkMeaning) → Follows old → Follows v → old.board.machine.cycle ≤ limit → SettleAnswers old v stop → Debugs limit old v [] out out
-debugs-first limit old v stop out f g within s = by_answer stop s
-  where
-    by_settled : Settles old v → Debugs limit old v [] out out
-    by_settled s =
-        record {
-          begins = f;
-          follows = g;
-          settled = s.met;
-          same = s.same;
-          made = s.moves;
-          within = subst (λ (b : Machine). b.cycle ≤ limit) (sym s.machine) within;
-          puts = PutsAll-nil out;
-        }
+pub debugs-first : (limit : ℕ) (old : VipState) (out : SinkMeaning) → Follows old → old.board.machine.cycle ≤ limit → Debugs limit old old [] out out
+debugs-first limit old out f within =
+    record { begins = f; follows = f; same = same-refl old; place = refl; within = within; puts = PutsAll-nil out }
 
-    by_answer : (stop : Option StopRecord) → SettleAnswers old v stop → Debugs limit old v [] out out
-    by_answer None s = by_settled s.0
-    by_answer (Some stop) s = by_settled s.0
-
-module _ (limit : ℕ) (old v v' : VipState) (done : List Command) (c : Command) (out out' out'' : SinkMeaning) (d : Debugs limit old v done out out') (g : Follows v') (settled : events_waiting v' ≡ []) (makes : Makes limit v v' (moves_with (begun v) limit c v.moves)) where
-  from_here : {X : Type 0} (f : VipState → ℕ → X) → f (begun v) v.moves ≡ f (begun old) (moves_after (begun old) limit done old.moves)
-  from_here f = ap (λ x. f x v.moves) (begun-same old v d.same) ∙ ap (f (begun old)) d.made
+module _ (limit : ℕ) (old v v' : VipState) (done : List Command) (c : Command) (out out' out'' : SinkMeaning) (d : Debugs limit old v done out out') (g : Follows v') (makes : Makes limit v v' (place_with (begun v) limit c (place_of v))) where
+  from_here : {X : Type 0} (f : VipState → Place → X) → f (begun v) (place_of v) ≡ f (begun old) (place_after (begun old) limit done (place_of old))
+  from_here f = ap (λ x. f x (place_of v)) (begun-same old v d.same) ∙ ap (f (begun old)) d.place
 
   same_next : IsSame old v'
   same_next = same-trans old v v' d.same makes.same
 
-  made_next : v'.moves ≡ moves_after (begun old) limit (done ++ c ∷ []) old.moves
-  made_next = makes.made ∙ from_here (λ x m. moves_with x limit c m) ∙ sym (moves_more (begun old) limit done c old.moves)
+  place_next : place_of v' ≡ place_after (begun old) limit (done ++ c ∷ []) (place_of old)
+  place_next = makes.place ∙ from_here (λ x p. place_with x limit c p) ∙ sym (place_more (begun old) limit done c (place_of old))
 
-  pieces_are : pieces (begun v) limit c v.moves ≡ pieces (begun old) limit c (moves_after (begun old) limit done old.moves)
-  pieces_are = from_here (λ x m. pieces x limit c m)
+  pieces_are : pieces (begun v) limit c (place_of v) ≡ pieces (begun old) limit c (place_after (begun old) limit done (place_of old))
+  pieces_are = from_here (λ x p. pieces x limit c p)
 
-  pub debugs-next : PutsAll (pieces (begun v) limit c v.moves) out' out'' → Debugs limit old v' (done ++ c ∷ []) out out''
+  pub debugs-next : PutsAll (pieces (begun v) limit c (place_of v)) out' out'' → Debugs limit old v' (done ++ c ∷ []) out out''
   debugs-next put =
       record {
         begins = d.begins;
         follows = g;
-        settled = settled;
         same = same_next;
-        made = made_next;
+        place = place_next;
         within = makes.within;
         puts =
-            subst (λ all. PutsAll all out out'') (sym (written_last (begun old) limit done c old.moves))
-            (PutsAll-append (written (begun old) limit done old.moves) (pieces (begun old) limit c (moves_after (begun old) limit done old.moves)) out out' out'' d.puts (subst (λ ps. PutsAll ps out' out'') pieces_are put));
+            subst (λ all. PutsAll all out out'') (sym (written_last (begun old) limit done c (place_of old)))
+            (PutsAll-append (written (begun old) limit done (place_of old)) (pieces (begun old) limit c (place_after (begun old) limit done (place_of old))) out out' out'' d.puts (subst (λ ps. PutsAll ps out' out'') pieces_are put));
       }
 
-  pub debugs-fail : (all rest : List Command) → all ≡ done ++ c ∷ rest → FailsWithin (pieces (begun v) limit c v.moves) out' out'' → DebugAnswers (begun old) limit all old.moves v' out out'' WriteFault
+  pub debugs-fail : (all rest : List Command) → all ≡ done ++ c ∷ rest → FailsWithin (pieces (begun v) limit c (place_of v)) out' out'' → DebugAnswers (begun old) limit all (place_of old) v' out out'' WriteFault
   debugs-fail all rest split fault =
-      let here : FailsWithin (pieces (begun old) limit c (moves_after (begun old) limit done old.moves)) out' out'' = subst (λ ps. FailsWithin ps out' out'') pieces_are fault in
-      let more = FailsWithin-more (pieces (begun old) limit c (moves_after (begun old) limit done old.moves)) (written (begun old) limit rest (moves_with (begun old) limit c (moves_after (begun old) limit done old.moves))) out' out'' here in (
-        subst (λ ps. FailsWithin ps out out'') (sym (ap (λ cs. written (begun old) limit cs old.moves) split ∙ written_more (begun old) limit done c rest old.moves))
-            (FailsWithin-append (written (begun old) limit done old.moves) (pieces (begun old) limit c (moves_after (begun old) limit done old.moves) ++ written (begun old) limit rest (moves_with (begun old) limit c (moves_after (begun old) limit done old.moves))) out out' out'' d.puts more),
+      let here : FailsWithin (pieces (begun old) limit c (place_after (begun old) limit done (place_of old))) out' out'' = subst (λ ps. FailsWithin ps out' out'') pieces_are fault in
+      let more = FailsWithin-more (pieces (begun old) limit c (place_after (begun old) limit done (place_of old))) (written (begun old) limit rest (place_with (begun old) limit c (place_after (begun old) limit done (place_of old)))) out' out'' here in (
+        subst (λ ps. FailsWithin ps out out'') (sym (ap (λ cs. written (begun old) limit cs (place_of old)) split ∙ written_more (begun old) limit done c rest (place_of old)))
+            (FailsWithin-append (written (begun old) limit done (place_of old)) (pieces (begun old) limit c (place_after (begun old) limit done (place_of old)) ++ written (begun old) limit rest (place_with (begun old) limit c (place_after (begun old) limit done (place_of old)))) out out' out'' d.puts more),
         record {
           before = done;
           command = c;
@@ -108,37 +89,30 @@ module _ (limit : ℕ) (old v v' : VipState) (done : List Command) (c : Command)
           middle = out';
           whole = d.puts;
           fails = here;
-          stands = stands old v' (moves_after (begun old) limit (done ++ c ∷ []) old.moves) d.begins g same_next made_next settled;
+          stands = stands old v' (place_after (begun old) limit (done ++ c ∷ []) (place_of old)) d.begins g same_next place_next;
         },
       )
 
 -- ---- the end
 
-module _ (limit : ℕ) (old v v' : VipState) (all : List Command) (out out' : SinkMeaning) (d : Debugs limit old v all out out') (g : Follows v') where
-  whole : Settles v v' → RunsWhole (begun old) limit all old.moves v' out out'
-  whole s =
-      record {
-        puts = d.puts;
-        stands = stands old v' (moves_after (begun old) limit all old.moves) d.begins g (same-trans old v v' d.same s.same) (s.moves ∙ d.made) s.met;
-      }
+module _ (limit : ℕ) (old v : VipState) (all : List Command) (out out' : SinkMeaning) (d : Debugs limit old v all out out') where
+  whole : RunsWhole (begun old) limit all (place_of old) v out out'
+  whole = record { puts = d.puts; stands = stands old v (place_after (begun old) limit all (place_of old)) d.begins d.follows d.same d.place }
 
-  stop_is : (t : Bool) → Settles v v' → is_stop (interpreter v) v.board.machine ≡ t → is_stop (interpreter (begun old)) v'.board.machine ≡ t
-  stop_is t s e = ap (is_stop (interpreter (begun old))) s.machine ∙ ap (λ (x : VipState). is_stop (interpreter x) v.board.machine) (sym (begun-same old v d.same)) ∙ e
+  stop_test : (t : Bool) → is_stop (interpreter v) v.board.machine ≡ t → is_stop (interpreter (begun old)) v.board.machine ≡ t
+  stop_test t e = ap (λ (x : VipState). is_stop (interpreter x) v.board.machine) (sym (begun-same old v d.same)) ∙ e
 
-  pub debugged-done : SettleAnswers v v' None → DebugAnswers (begun old) limit all old.moves v' out out' Done
-  debugged-done s = (whole s.0, stop_is false s.0 s.1)
+  pub debugged-done : None ≡ stop_here v → DebugAnswers (begun old) limit all (place_of old) v out out' Done
+  debugged-done is = (whole, stop_test false (runs-here v is))
 
-  pub debugged-stop : (stop : StopRecord) → SettleAnswers v v' (Some stop) → DebugAnswers (begun old) limit all old.moves v' out out' (Stopped stop)
-  debugged-stop stop s =
-      let w = whole s.0 in
-      let m : ℕ = moves_after (begun old) limit all old.moves in
-      let same : IsSame old v' = same-trans old v v' d.same s.0.same in (
-        w,
-        stop_is true s.0 s.1,
-        s.2
-            ∙ ap (λ last. stop_record last v'.board.machine) (last-settled v' g s.0.met ∙ ap (λ (x : VipState). last_view x.edition (events_by x v'.moves)) (begun-same old v' same) ∙ ap (λ n. last_view (begun old).edition (events_by (begun old) n)) w.stands.made)
-            ∙ ap (stop_record (last_view (begun old).edition (events_by (begun old) m))) w.stands.machine,
-      )
+  pub debugged-stop : (stop : StopRecord) → Some stop ≡ stop_here v → DebugAnswers (begun old) limit all (place_of old) v out out' (Stopped stop)
+  debugged-stop stop is = (
+    whole,
+    stop_test true (stops-here v stop is),
+    stop-is v d.follows stop is
+        ∙ ap (λ (x : VipState). stop_by x v.moves) (begun-same old v d.same)
+        ∙ ap (λ (p : Place). stop_by (begun old) p.moves) d.place,
+  )
 
 -- ---- by a place in all commands
 

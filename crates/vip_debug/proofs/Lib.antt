@@ -1,6 +1,5 @@
 pub mod TextLemmas
 pub mod Places
-pub mod Settling
 pub mod Passing
 pub mod Moving
 pub mod Lines

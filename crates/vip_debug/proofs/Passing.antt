@@ -3,16 +3,29 @@ use Rattle.std.proofs.Common.{◌≡◌, ◌⊎◌, inl, inr, ℕ, zero, suc, �
 use Rattle.std.specs.Prelude.{filter_map, find, slice_get}
 use Rattle.machine.specs.Board.{Machine}
 use Rattle.chip8_lang.specs.declared.view.StopRecord.{StopRecord}
+use Rattle.chip8_lang.specs.Events.Event.{Dispatch}
 use Rattle.chip8_lang.specs.View.{view_at}
-use Rattle.vip_relation.specs.State.{VipState, events_left, run_of, moves_by}
+use Rattle.vip_relation.specs.State.{VipState, events_to, events_left, run_of, moves_by}
 use Rattle.vip_relation.specs.Follows.{Follows, dispatch_of}
 use Rattle.vip_relation.specs.Meets.{IsSame, MeetsNext, HasStopped, StopsAgain}
 use Rattle.vip_relation.specs.declared.vip.Met.TheVariants as met
 use Rattle.vip_relation.proofs.Steps.{Others, others-to}
+use Rattle.vip_relation.proofs.Waits.{none-behind-dispatch}
 use Rattle.vip_show.proofs.Going.{Dispatched, Pictured, Halted, Ended, at_stop}
 use Rattle.vip_debug.specs.Answers.{begun, moves_until, has_pc}
 use Rattle.vip_debug.specs.Parts.{points_left, Passes, PassesNone, PassAnswers, FindAnswers}
-use Rattle.vip_debug.proofs.Places.{same-refl, same-trans, made-most, made-few, made-all, all-within, some-run, until-same, begun-same, decided}
+use Rattle.vip_debug.proofs.Places.{same-refl, same-trans, made-most, made-few, made-all, all-within, some-run, none-left-stays, events-same, until-same, begun-same, decided}
+
+-- ---- what an answer says of whether a stop was met before
+
+pub dispatch-runs : (v v' : VipState) → (HasStopped v → StopsAgain v v' met.Dispatch) → HasStopped v → ⊥
+dispatch-runs v v' again h = let e = (again h).stop in cc
+
+pub picture-runs : (v v' : VipState) → (HasStopped v → StopsAgain v v' met.Picture) → HasStopped v → ⊥
+picture-runs v v' again h = let e = (again h).stop in cc
+
+pub end-runs : (v v' : VipState) → (HasStopped v → StopsAgain v v' met.End) → HasStopped v → ⊥
+end-runs v v' again h = let e = (again h).stop in cc
 
 -- ---- to the next one
 
@@ -49,6 +62,9 @@ module _ (limit : ℕ) (old v v' : VipState) (s : Passing limit old v) (f : Foll
       record {
         same = same-trans old v v' s.same d.meets.one.same;
         first = s.points ∙ ap (filter_map dispatch_of) d.split ∙ ap (λ b. b ∷ filter_map dispatch_of d.rest) (sym d.meets.machine) ∙ ap (λ es. v'.board.machine ∷ filter_map dispatch_of es) (sym d.meets.one.left);
+        met =
+            none-behind-dispatch v' f limit v.met d.rest d.meets.one.within d.meets.one.met
+            (ap (drop v.met) (events-same v v' s.follows f d.meets.one.same limit) ∙ d.split ∙ ap (λ b. Dispatch b ∷ d.rest) (sym d.meets.machine));
         told = d.meets.last ∙ ap (λ b. Some (view_at v.edition b)) (sym d.meets.machine) ∙ ap (λ e. Some (view_at e v'.board.machine)) (sym d.meets.one.same.edition);
         within = d.meets.one.within;
       }
@@ -63,6 +79,7 @@ module _ (limit : ℕ) (old v v' : VipState) (s : Passing limit old v) (f : Foll
         same = s.same;
         none = s.points ∙ ap (filter_map dispatch_of) (nothing_left limit v s.follows s.within h);
         made = made-all v s.follows limit s.within (inl h.stop) ∙ until-same old v s.begins s.follows s.same limit;
+        met = h.met;
         within = s.within;
       })
 
@@ -73,6 +90,7 @@ module _ (limit : ℕ) (old v v' : VipState) (s : Passing limit old v) (f : Foll
         same = same;
         none = s.points ∙ ap (filter_map dispatch_of) d.split ∙ ap (filter_map dispatch_of) (sym d.meets.one.left ∙ nothing_left limit v' f d.meets.one.within d.meets.stopped);
         made = made-all v' f limit d.meets.one.within (inl d.meets.stopped.stop) ∙ until_old same;
+        met = d.meets.stopped.met;
         within = d.meets.one.within;
       }
 
@@ -97,6 +115,9 @@ module _ (limit : ℕ) (old v v' : VipState) (s : Passing limit old v) (f : Foll
         same = same;
         none = s.points ∙ ap (filter_map dispatch_of) d.none;
         made = omega (arith, most', few', all, ap length runs, until_old same);
+        met =
+            none-left-stays v' f limit within
+            (ap (λ n. drop n (events_to v' limit)) d.ends.met ∙ ap (drop v.met) (events-same v v' s.follows f d.ends.same limit) ∙ d.none);
         within = within;
       }
 
@@ -145,12 +166,12 @@ module _ (limit : ℕ) (old v v' : VipState) (passed : ℕ) (s : PassingPoints l
   pub found-none : (n : ℕ) → passed ≤ n → PassesNone limit v v' → FindAnswers limit old v' (slice_get (points_left old limit) n) false
   found-none n within p =
       rw (drop_none passed n (points_left old limit) (s.points ∙ p.none) within)
-      (record { same = same-trans old v v' s.same p.same; made = p.made ∙ until-same old v s.begins s.follows s.same limit; within = p.within })
+      (record { same = same-trans old v v' s.same p.same; made = p.made ∙ until-same old v s.begins s.follows s.same limit; met = p.met; within = p.within })
 
   pub found : Passes limit v v' → FindAnswers limit old v' (slice_get (points_left old limit) passed) true
   found p =
       rw (drop_get passed (points_left old limit) v'.board.machine (points_left v' limit) (s.points ∙ p.first))
-      (record { same = same-trans old v v' s.same p.same; machine = refl; told = p.told; within = p.within })
+      (record { same = same-trans old v v' s.same p.same; machine = refl; met = p.met; told = p.told; within = p.within })
 
   pub found-last : (answer : Bool) → PassAnswers limit v v' answer → FindAnswers limit old v' (slice_get (points_left old limit) passed) answer
   found-last true p = found p
@@ -193,12 +214,12 @@ module _ (limit pc : ℕ) (old v v' : VipState) (s : Looking limit pc old v) (f 
   looked-found p this =
       let same : IsSame old v' = same-trans old v v' s.same p.same in
       rw (s.points ∙ ap (find (has_pc old pc)) p.first ∙ find_first (has_pc old pc) v'.board.machine (points_left v' limit) (has_same same v'.board.machine ∙ this))
-      (record { same = same; machine = refl; told = p.told; within = p.within })
+      (record { same = same; machine = refl; met = p.met; told = p.told; within = p.within })
 
   pub looked-none : PassesNone limit v v' → FindAnswers limit old v' (find (has_pc old pc) (points_left old limit)) false
   looked-none p =
       rw (s.points ∙ ap (find (has_pc old pc)) p.none)
-      (record { same = same-trans old v v' s.same p.same; made = p.made ∙ until-same old v s.begins s.follows s.same limit; within = p.within })
+      (record { same = same-trans old v v' s.same p.same; made = p.made ∙ until-same old v s.begins s.follows s.same limit; met = p.met; within = p.within })
 
 -- the points left become fewer
 pub fewer-points : (limit : ℕ) (v v' : VipState) → Passes limit v v' → length (points_left v' limit) < length (points_left v limit)

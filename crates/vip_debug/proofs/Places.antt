@@ -1,6 +1,7 @@
 -- How many moves a board makes up to a cycle, by the state of the run in which it is.
 use Rattle.std.proofs.Common.{◌≡◌, ◌⊎◌, inl, inr, ℕ, zero, suc, ◌+◌, ◌-◌, ◌<◌, ◌≤◌, Bool, true, false, List, [], ◌∷◌, ◌++◌, length, drop, refl, sym, ap, ◌∙◌, arith}
-use Rattle.std.specs.Prelude.{if◌then◌else◌}
+use Rattle.std.specs.Prelude.{◌==◌, if◌then◌else◌}
+use Rattle.std.proofs.lemmas.Bool.Decides.{nat_tests}
 use Rattle.std.proofs.lemmas.Bool.{cases_lt}
 use Rattle.std.proofs.lemmas.List.{length-drop}
 use Rattle.machine.specs.Board.{Machine, length_of, start}
@@ -11,9 +12,9 @@ use Rattle.chip8_lang.specs.Events.{Event, is_stop}
 use Rattle.chip8_lang.specs.Places.{Interpreter}
 use Rattle.vip_relation.specs.State.{VipState, interpreter, events_to, events_left, events_waiting, run_of, moves_by, state_after, started}
 use Rattle.vip_relation.specs.Follows.{Follows}
-use Rattle.vip_relation.specs.Meets.{IsSame, MeetsOne, HasStopped, Rests}
+use Rattle.vip_relation.specs.Meets.{IsSame, HasStopped, Rests}
 use Rattle.vip_relation.proofs.Steps.{Others, others-to, moves-before}
-use Rattle.vip_debug.specs.Answers.{up_to_stop, begun, moves_until, events_by}
+use Rattle.vip_debug.specs.Answers.{up_to_stop, begun, moves_until, Place, place_of, all_met, moved_to}
 
 -- ---- the same game
 
@@ -28,6 +29,22 @@ begun-same old new s =
     ap (λ e. started e new.game new.board.script) s.edition
     ∙ ap (λ g. started old.edition g new.board.script) s.game
     ∙ ap (λ (k : List KeyEvent). started old.edition old.game k) s.script
+
+-- ---- places
+
+-- without a move the place stays
+pub place-stays : (v : VipState) (p : Place) → p ≡ moved_to v p.moves p
+place-stays v p = sym (ap (λ t. if t then p else all_met v p.moves) (same p.moves))
+  where
+    same : (n : ℕ) → (n == n) ≡ true
+    same n = grind (arith, nat_tests)
+
+-- with one every event up to there is met
+pub place-moved : (v : VipState) (moves : ℕ) (p : Place) → p.moves < moves → all_met v moves ≡ moved_to v moves p
+place-moved v moves p more = sym (ap (λ t. if t then p else all_met v moves) (differ moves p.moves more))
+  where
+    differ : (m n : ℕ) → n < m → (m == n) ≡ false
+    differ m n more = grind (arith, nat_tests)
 
 -- ---- the states up to the stop point
 
@@ -193,12 +210,15 @@ module _ (v : VipState) (f : Follows v) where
   pub made-now : v.moves ≡ moves_until (begun v) now
   made-now = made-all now (omega arith) (inr longer)
 
-  -- all events up to here are met
-  pub all-met : events_waiting v ≡ [] → v.met ≡ length (events_by (begun v) v.moves)
-  all-met none =
+  -- where all events up to here are met, the moves made say the place
+  pub all-here : v.met ≡ length (events_to v now) → place_of v ≡ all_met (begun v) v.moves
+  all-here all = ap (λ n. record { moves = v.moves; met = n }) (all ∙ ap (λ (b : Machine). length (events_to v b.cycle)) f.machine)
+
+  -- so it is where no event waits
+  pub none-waits : events_waiting v ≡ [] → place_of v ≡ all_met (begun v) v.moves
+  none-waits none =
       let most : length (events_to v now) ≤ v.met = nothing v.met (events_to v now) none in
-      let all : v.met ≡ length (events_to v now) = omega (arith, most, f.within) in
-      all ∙ ap (λ (b : Machine). length (events_to v b.cycle)) f.machine
+      all-here (omega (arith, most, f.within))
     where
       nothing : (n : ℕ) (xs : List Event) → drop n xs ≡ [] → length xs ≤ n
       nothing n xs e = omega (arith, sym (length-drop n xs) ∙ ap length e)
@@ -215,28 +235,6 @@ module _ (u v : VipState) (f : Follows u) (g : Follows v) (s : IsSame u v) where
   pub until-same : (t : ℕ) → moves_until (begun v) t ≡ moves_until (begun u) t
   until-same t = ap (λ (x : VipState). moves_until x t) (begun-same u v s)
 
-  pub stop-same : (b : Machine) → is_stop (interpreter v) b ≡ is_stop (interpreter u) b
-  stop-same b = ap (λ (x : VipState). is_stop (interpreter x) b) (begun-same u v s)
-
-  -- the same number of moves leads to the same machine
-  pub machine-same : v.moves ≡ u.moves → v.board.machine ≡ u.board.machine
-  machine-same made = g.machine ∙ state-same v.moves ∙ ap (state_after u) made ∙ sym f.machine
-
-  -- the same cycle means the same number of moves
-  pub moves-same : v.board.machine.cycle ≡ u.board.machine.cycle → v.moves ≡ u.moves
-  moves-same cycle = made-now v g ∙ until-same v.board.machine.cycle ∙ ap (moves_until (begun u)) cycle ∙ sym (made-now u f)
-
--- an event that is met up to the present cycle leaves the board where it is
-pub one-stays : (u v : VipState) (others : List Event) → Follows u → Follows v → MeetsOne u.board.machine.cycle u v others → v.moves ≡ u.moves
-one-stays u v others f g one = moves-same u v f g one.same (not_before (cases_lt v.board.machine.cycle u.board.machine.cycle))
-  where
-    not_before : (v.board.machine.cycle < u.board.machine.cycle) ⊎ (u.board.machine.cycle ≤ v.board.machine.cycle) → v.board.machine.cycle ≡ u.board.machine.cycle
-    not_before (inl earlier) =
-        let few : length (events_to u v.board.machine.cycle) ≤ u.met = f.behind v.board.machine.cycle earlier in
-        let same : events_to v v.board.machine.cycle ≡ events_to u v.board.machine.cycle = events-same u v f g one.same v.board.machine.cycle in
-        absurd (omega (arith, few, ap length same, g.within, one.met))
-    not_before (inr later) = omega (arith, later, one.within)
-
 -- ---- a stop that was met
 
 pub decided : (v : VipState) → HasStopped v ⊎ (HasStopped v → ⊥)
@@ -246,10 +244,3 @@ decided v = by_test (is_stop (interpreter v) v.board.machine) (events_waiting v)
     by_test true [] h none = inl (record { stop = h; met = none })
     by_test true (e ∷ es) h some = inr (λ stopped. let e : _ ∷ _ ≡ [] = sym some ∙ stopped.met in cc)
     by_test false es h left = inr (λ stopped. let e : true ≡ false = sym stopped.stop ∙ h in cc)
-
-pub runs-on : (v : VipState) → events_waiting v ≡ [] → (HasStopped v → ⊥) → is_stop (interpreter v) v.board.machine ≡ false
-runs-on v met goes_on = by_test (is_stop (interpreter v) v.board.machine) refl
-  where
-    by_test : (t : Bool) → is_stop (interpreter v) v.board.machine ≡ t → is_stop (interpreter v) v.board.machine ≡ false
-    by_test false h = h
-    by_test true h = absurd (goes_on (record { stop = h; met = met }))

@@ -1,6 +1,6 @@
--- What commands write of a run, and where they leave the board: a fold over the commands. Its state is the number of moves made, which says the
--- machine and its cycle; the events met are those up to that cycle.
-use Rattle.std.specs.Prelude.{◌≡◌, ℕ, ◌+◌, ◌-◌, ◌==◌, if◌then◌else◌, Bool, true, false, min, max, nat_le, List, [], ◌∷◌, ◌++◌, length, drop, find, filter_map, Option, Some, None, codes, slice_get}
+-- What commands write of a run, and where they leave the board: a fold over the commands. Its state is the place of the board in the run: how
+-- many moves were made, which says the machine and its cycle, and how many events were met.
+use Rattle.std.specs.Prelude.{◌≡◌, ℕ, ◌+◌, ◌-◌, ◌==◌, if◌then◌else◌, Bool, true, false, min, max, nat_le, List, [], ◌∷◌, ◌++◌, length, take, drop, find, filter_map, Option, Some, None, codes, slice_get}
 use Rattle.machine.specs.Board.{Machine, byte_of}
 use Rattle.chip8_lang.specs.declared.view.StopRecord.{StopRecord}
 use Rattle.chip8_lang.specs.Events.{Event, is_stop}
@@ -37,37 +37,60 @@ begun v = started v.edition v.game v.board.script
 unfoldable pub moves_until : VipState → ℕ → ℕ
 moves_until v cycle = length (up_to_stop (interpreter v) (run_of v cycle)) - 1
 
--- the events up to the state after so many moves, and those behind it up to the limit
+-- the events up to the state after so many moves
 abbrev pub events_by : VipState → ℕ → List Event
 events_by v moves = events_to v (state_after v moves).cycle
 
-abbrev pub events_behind : VipState → ℕ → ℕ → List Event
-events_behind v limit moves = drop (length (events_by v moves)) (events_to v limit)
+-- ---- a place in the run
 
--- the dispatch points behind it
-abbrev pub points_behind : VipState → ℕ → ℕ → List Machine
-points_behind v limit moves = filter_map dispatch_of (events_behind v limit moves)
+-- how many moves were made, and how many events were met
+pub record Place : Type 0 where
+  pub moves : ℕ
+  pub met : ℕ
+
+abbrev pub place_of : VipState → Place
+place_of v = record { moves = v.moves; met = v.met }
+
+-- before the first move
+abbrev pub at_start : Place
+at_start = record { moves = 0; met = 0 }
+
+-- after so many moves, with every event up to there met
+abbrev pub all_met : VipState → ℕ → Place
+all_met v moves = record { moves = moves; met = length (events_by v moves) }
+
+-- the events that are met at a place, and the dispatch points up to the limit that aren't
+abbrev pub met_at : VipState → Place → List Event
+met_at v p = take p.met (events_by v p.moves)
+
+abbrev pub points_ahead : VipState → ℕ → Place → List Machine
+points_ahead v limit p = filter_map dispatch_of (drop p.met (events_to v limit))
 
 -- ---- where a command that runs comes to
 
--- after so many moves, and whether the command is completed there
+-- a place, and whether the command is completed there
 pub record Arrival : Type 0 where
-  pub moves : ℕ
+  pub place : Place
   pub completed : Bool
 
--- at a dispatch point, or at the end of the run where there is none
+-- with so many moves made in all: a board that makes one meets every event up to its new cycle, and one that makes none meets none
+abbrev pub moved_to : VipState → ℕ → Place → Place
+moved_to v moves p = if moves == p.moves then p else all_met v moves
+
+-- at a dispatch point, or at the end of the run where there is none; every event up to there is met
 abbrev pub at_point : VipState → ℕ → Option Machine → Arrival
-at_point v limit (Some b) = record { moves = moves_until v b.cycle; completed = true }
-at_point v limit None = record { moves = moves_until v limit; completed = false }
+at_point v limit (Some b) = record { place = all_met v (moves_until v b.cycle); completed = true }
+at_point v limit None = record { place = all_met v (moves_until v limit); completed = false }
 
 abbrev pub has_pc : VipState → ℕ → Machine → Bool
 has_pc v pc b = (view_at v.edition b).pc == pc
 
-abbrev pub arrival : VipState → ℕ → Running → ℕ → Arrival
-arrival v limit (Step n) moves = record { moves = min (moves + n) (moves_until v limit); completed = nat_le (moves + n) (moves_until v limit) }
-arrival v limit (To cycle) moves = record { moves = max moves (moves_until v (min cycle limit)); completed = nat_le cycle limit }
-arrival v limit (Next n) moves = at_point v limit (slice_get (points_behind v limit moves) (n - 1))
-arrival v limit (Break pc) moves = at_point v limit (find (has_pc v pc) (points_behind v limit moves))
+abbrev pub arrival : VipState → ℕ → Running → Place → Arrival
+arrival v limit (Step n) p =
+    record { place = moved_to v (min (p.moves + n) (moves_until v limit)) p; completed = nat_le (p.moves + n) (moves_until v limit) }
+arrival v limit (To cycle) p = record { place = moved_to v (max p.moves (moves_until v (min cycle limit))) p; completed = nat_le cycle limit }
+arrival v limit (Next n) p = at_point v limit (slice_get (points_ahead v limit p) (n - 1))
+arrival v limit (Break pc) p = at_point v limit (find (has_pc v pc) (points_ahead v limit p))
 
 -- ---- what is written
 
@@ -88,67 +111,67 @@ completed_line v (Break pc) b = trace_line false (view_at v.edition b)
 -- at a stop point the stop is named, and else a command that isn't completed says so
 unfoldable pub running_line : VipState → Running → Arrival → List ℕ
 running_line v running a =
-    if is_stop (interpreter v) (state_after v a.moves) then stop_text (stop_by v a.moves)
-    else if a.completed then completed_line v running (state_after v a.moves)
+    if is_stop (interpreter v) (state_after v a.place.moves) then stop_text (stop_by v a.place.moves)
+    else if a.completed then completed_line v running (state_after v a.place.moves)
     else codes "end" ++ newline
 
 -- each line is a piece of its own, but a screen is one
-unfoldable pub shown_pieces : VipState → Showing → ℕ → List (List ℕ)
-shown_pieces v Regs moves = regs_lines (state_after v moves)
-shown_pieces v State moves = state_line (last_view v.edition (events_by v moves)) ∷ []
-shown_pieces v (Mem address count) moves = mem_lines (byte_of (interpreter v).rom (state_after v moves)) address count
-shown_pieces v (Dis address count) moves = dis_lines (byte_of (interpreter v).rom (state_after v moves)) address count
-shown_pieces v Screen moves = screen_text v.edition (last_screen v.edition (events_by v moves)) ∷ []
+unfoldable pub shown_pieces : VipState → Showing → Place → List (List ℕ)
+shown_pieces v Regs p = regs_lines (state_after v p.moves)
+shown_pieces v State p = state_line (last_view v.edition (met_at v p)) ∷ []
+shown_pieces v (Mem address count) p = mem_lines (byte_of (interpreter v).rom (state_after v p.moves)) address count
+shown_pieces v (Dis address count) p = dis_lines (byte_of (interpreter v).rom (state_after v p.moves)) address count
+shown_pieces v Screen p = screen_text v.edition (last_screen v.edition (met_at v p)) ∷ []
 
-abbrev pub pieces : VipState → ℕ → Command → ℕ → List (List ℕ)
-pieces v limit (Runs running) moves = running_line v running (arrival v limit running moves) ∷ []
-pieces v limit (Shows showing) moves = shown_pieces v showing moves
+abbrev pub pieces : VipState → ℕ → Command → Place → List (List ℕ)
+pieces v limit (Runs running) p = running_line v running (arrival v limit running p) ∷ []
+pieces v limit (Shows showing) p = shown_pieces v showing p
 
--- how many moves are made after a command
-abbrev pub moves_with : VipState → ℕ → Command → ℕ → ℕ
-moves_with v limit (Runs running) moves = (arrival v limit running moves).moves
-moves_with v limit (Shows showing) moves = moves
+-- the place after a command
+abbrev pub place_with : VipState → ℕ → Command → Place → Place
+place_with v limit (Runs running) p = (arrival v limit running p).place
+place_with v limit (Shows showing) p = p
 
 -- ---- all commands
 
-abbrev pub moves_after : VipState → ℕ → List Command → ℕ → ℕ
-moves_after v limit [] moves = moves
-moves_after v limit (command ∷ commands) moves = moves_after v limit commands (moves_with v limit command moves)
+abbrev pub place_after : VipState → ℕ → List Command → Place → Place
+place_after v limit [] p = p
+place_after v limit (command ∷ commands) p = place_after v limit commands (place_with v limit command p)
 
-abbrev pub written : VipState → ℕ → List Command → ℕ → List (List ℕ)
-written v limit [] moves = []
-written v limit (command ∷ commands) moves = pieces v limit command moves ++ written v limit commands (moves_with v limit command moves)
+abbrev pub written : VipState → ℕ → List Command → Place → List (List ℕ)
+written v limit [] p = []
+written v limit (command ∷ commands) p = pieces v limit command p ++ written v limit commands (place_with v limit command p)
 
--- the board is in the state after so many moves of the run of `start`, and all events up to there are met
-pub record StandsAt (start : VipState) (moves : ℕ) (v : VipState) : Type 0 where
+-- the board is at a place of the run of `start`
+pub record StandsAt (start : VipState) (p : Place) (v : VipState) : Type 0 where
   pub same : IsSame start v
-  pub made : v.moves ≡ moves
-  pub machine : v.board.machine ≡ state_after start moves
-  pub met : v.met ≡ length (events_by start moves)
+  pub made : v.moves ≡ p.moves
+  pub met : v.met ≡ p.met
+  pub machine : v.board.machine ≡ state_after start p.moves
 
 -- the commands before one went out whole, and a put of its pieces failed; the board is where that command leaves it
-pub record Faults (start : VipState) (limit : ℕ) (commands : List Command) (moves : ℕ) (v : VipState) (old new : SinkMeaning) : Type 0 where
+pub record Faults (start : VipState) (limit : ℕ) (commands : List Command) (p : Place) (v : VipState) (old new : SinkMeaning) : Type 0 where
   pub before : List Command
   pub command : Command
   pub after : List Command
   pub place : commands ≡ before ++ command ∷ after
   pub middle : SinkMeaning
-  pub whole : PutsAll (written start limit before moves) old middle
-  pub fails : FailsWithin (pieces start limit command (moves_after start limit before moves)) middle new
-  pub stands : StandsAt start (moves_after start limit (before ++ command ∷ []) moves) v
+  pub whole : PutsAll (written start limit before p) old middle
+  pub fails : FailsWithin (pieces start limit command (place_after start limit before p)) middle new
+  pub stands : StandsAt start (place_after start limit (before ++ command ∷ []) p) v
 
 -- all pieces went out whole, and the board is where the commands leave it
-pub record RunsWhole (start : VipState) (limit : ℕ) (commands : List Command) (moves : ℕ) (v : VipState) (old new : SinkMeaning) : Type 0 where
-  pub puts : PutsAll (written start limit commands moves) old new
-  pub stands : StandsAt start (moves_after start limit commands moves) v
+pub record RunsWhole (start : VipState) (limit : ℕ) (commands : List Command) (p : Place) (v : VipState) (old new : SinkMeaning) : Type 0 where
+  pub puts : PutsAll (written start limit commands p) old new
+  pub stands : StandsAt start (place_after start limit commands p) v
 
--- what all commands answer, from the state after so many moves on; it is a stop exactly where the board is at a stop point in the end
-abbrev pub DebugAnswers : VipState → ℕ → List Command → ℕ → VipState → SinkMeaning → SinkMeaning → DebugEnd → Type 0
-DebugAnswers start limit commands moves v old new Done =
-    RunsWhole start limit commands moves v old new × (is_stop (interpreter start) v.board.machine ≡ false)
-DebugAnswers start limit commands moves v old new (Stopped stop) =
-    RunsWhole start limit commands moves v old new
+-- what all commands answer, from a place on; it is a stop exactly where the board is at a stop point in the end
+abbrev pub DebugAnswers : VipState → ℕ → List Command → Place → VipState → SinkMeaning → SinkMeaning → DebugEnd → Type 0
+DebugAnswers start limit commands p v old new Done =
+    RunsWhole start limit commands p v old new × (is_stop (interpreter start) v.board.machine ≡ false)
+DebugAnswers start limit commands p v old new (Stopped stop) =
+    RunsWhole start limit commands p v old new
     × (is_stop (interpreter start) v.board.machine ≡ true)
-    × (stop ≡ stop_by start (moves_after start limit commands moves))
-DebugAnswers start limit commands moves v old new WriteFault =
-    FailsWithin (written start limit commands moves) old new × Faults start limit commands moves v old new
+    × (stop ≡ stop_by start (place_after start limit commands p).moves)
+DebugAnswers start limit commands p v old new WriteFault =
+    FailsWithin (written start limit commands p) old new × Faults start limit commands p v old new

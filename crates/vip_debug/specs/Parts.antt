@@ -1,49 +1,32 @@
 -- What the parts of a command make of a machine that runs a game.
-use Rattle.std.specs.Prelude.{◌≡◌, ℕ, ◌-◌, ◌≤◌, Bool, true, false, List, [], ◌∷◌, ◌++◌, codes, filter_map, Option, Some, None, Result, Ok, Err}
+use Rattle.std.specs.Prelude.{◌≡◌, ℕ, ◌-◌, ◌≤◌, Bool, true, false, List, [], ◌∷◌, Option, Some, None, Result, Ok, Err}
 use Rattle.machine.specs.Memory.{read}
 use Rattle.machine.specs.Board.{Machine}
-use Rattle.chip8_lang.specs.declared.view.StopRecord.{StopRecord}
-use Rattle.chip8_lang.specs.Events.{is_stop}
 use Rattle.chip8_lang.specs.View.{view_at}
-use Rattle.vip_text.specs.Traces.{newline}
 use Rattle.vip_memory.specs.Contents.{Contents}
 use Rattle.vip_outside.specs.Sink.{SinkMeaning, PutsWhole, PutFails}
 use Rattle.vip_outside.specs.declared.sink.Failed.{Failed}
 use Rattle.asm_listing.specs.Disassembly.{ended_line, taken}
-use Rattle.vip_relation.specs.State.{VipState, interpreter, events_left, events_waiting}
-use Rattle.vip_relation.specs.Follows.{dispatch_of}
+use Rattle.vip_relation.specs.State.{VipState, events_waiting}
 use Rattle.vip_relation.specs.Meets.{IsSame}
-use Rattle.vip_relation.specs.Stops.{stop_record}
 use Rattle.vip_debug.specs.declared.command.Running.{Running}
 use Rattle.vip_debug.specs.declared.command.Running.TheVariants.{Step, To, Next, Break}
 use Rattle.vip_debug.specs.Shown.{bytes_from}
-use Rattle.vip_debug.specs.Answers.{begun, moves_until, arrival, stop_text, completed_line}
+use Rattle.vip_debug.specs.Answers.{begun, moves_until, Place, place_of, points_ahead, arrival}
 
 -- what is told is the present state
 abbrev pub TellsPresent : VipState → Type 0
 TellsPresent v = v.last ≡ Some (view_at v.edition v.board.machine)
 
--- all events at the present state are met, and the board stays
-pub record Settles (old new : VipState) : Type 0 where
-  pub same : IsSame old new
-  pub moves : new.moves ≡ old.moves
-  pub machine : new.board.machine ≡ old.board.machine
-  pub met : events_waiting new ≡ []
-  pub told : TellsPresent old → TellsPresent new
-
-abbrev pub SettleAnswers : VipState → VipState → Option StopRecord → Type 0
-SettleAnswers old new None = Settles old new × (is_stop (interpreter old) old.board.machine ≡ false)
-SettleAnswers old new (Some stop) =
-    Settles old new × (is_stop (interpreter old) old.board.machine ≡ true) × (stop ≡ stop_record new.last new.board.machine)
-
 -- the dispatch points that aren't met yet
 abbrev pub points_left : VipState → ℕ → List Machine
-points_left v limit = filter_map dispatch_of (events_left v limit)
+points_left v limit = points_ahead (begun v) limit (place_of v)
 
--- the board is at the first of them
+-- the board is at the first of them, and no event waits behind it
 pub record Passes (limit : ℕ) (old new : VipState) : Type 0 where
   pub same : IsSame old new
   pub first : points_left old limit ≡ new.board.machine ∷ points_left new limit
+  pub met : events_waiting new ≡ []
   pub told : TellsPresent new
   pub within : new.board.machine.cycle ≤ limit
 
@@ -52,6 +35,7 @@ pub record PassesNone (limit : ℕ) (old new : VipState) : Type 0 where
   pub same : IsSame old new
   pub none : points_left old limit ≡ []
   pub made : new.moves ≡ moves_until (begun old) limit
+  pub met : events_waiting new ≡ []
   pub within : new.board.machine.cycle ≤ limit
 
 abbrev pub PassAnswers : ℕ → VipState → VipState → Bool → Type 0
@@ -62,12 +46,14 @@ PassAnswers limit old new false = PassesNone limit old new
 pub record ComesTo (limit : ℕ) (old new : VipState) (b : Machine) : Type 0 where
   pub same : IsSame old new
   pub machine : new.board.machine ≡ b
+  pub met : events_waiting new ≡ []
   pub told : TellsPresent new
   pub within : new.board.machine.cycle ≤ limit
 
 pub record ComesToEnd (limit : ℕ) (old new : VipState) : Type 0 where
   pub same : IsSame old new
   pub made : new.moves ≡ moves_until (begun old) limit
+  pub met : events_waiting new ≡ []
   pub within : new.board.machine.cycle ≤ limit
 
 abbrev pub FindAnswers : ℕ → VipState → VipState → Option Machine → Bool → Type 0
@@ -75,10 +61,10 @@ FindAnswers limit old new (Some b) true = ComesTo limit old new b
 FindAnswers limit old new None false = ComesToEnd limit old new
 FindAnswers limit old new found answer = ⊥
 
--- the board made these moves, or those up to the limit and its stop point
-pub record Makes (limit : ℕ) (old new : VipState) (moves : ℕ) : Type 0 where
+-- the board came to a place within the limit
+pub record Makes (limit : ℕ) (old new : VipState) (p : Place) : Type 0 where
   pub same : IsSame old new
-  pub made : new.moves ≡ moves
+  pub place : place_of new ≡ p
   pub within : new.board.machine.cycle ≤ limit
 
 -- what a completed command tells of
@@ -88,16 +74,10 @@ IsTold (To cycle) v = Unit {0}
 IsTold (Next n) v = TellsPresent v
 IsTold (Break pc) v = TellsPresent v
 
--- the line that is written, by whether the command is completed, and by the stop at which the board is
-abbrev pub answer_line : VipState → Running → Bool → Option StopRecord → Machine → List ℕ
-answer_line v running completed (Some stop) b = stop_text stop
-answer_line v running true None b = completed_line v running b
-answer_line v running false None b = codes "end" ++ newline
-
 -- the board is where a command comes to
 pub record Arrives (limit : ℕ) (running : Running) (old new : VipState) (answer : Bool) : Type 0 where
-  pub makes : Makes limit old new (arrival (begun old) limit running old.moves).moves
-  pub completed : answer ≡ (arrival (begun old) limit running old.moves).completed
+  pub makes : Makes limit old new (arrival (begun old) limit running (place_of old)).place
+  pub completed : answer ≡ (arrival (begun old) limit running (place_of old)).completed
   pub told : answer ≡ true → IsTold running new
 
 -- ---- bytes

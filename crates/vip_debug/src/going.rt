@@ -1,33 +1,14 @@
 //! The commands that run the board.
 
-ghost use Rattle.std.specs.Prelude.{◌≡◌, ◌+◌, ◌-◌, ◌≤◌, [], Bool, find, slice_get, max, min, nat_le, true};
+ghost use Rattle.std.specs.Prelude.{◌≡◌, ◌+◌, ◌-◌, ◌≤◌, Bool, find, slice_get, max, min, nat_le, true};
 ghost use Rattle.chip8_lang.specs.View.{view_at};
 ghost use Rattle.vip_relation.specs.Follows.{Follows};
-ghost use Rattle.vip_relation.specs.State.{events_waiting};
-ghost use Rattle.vip_debug.specs.Answers.{begun, has_pc, moves_until};
-ghost use Rattle.vip_debug.specs.Parts.{Arrives, FindAnswers, Makes, PassAnswers, SettleAnswers, TellsPresent, points_left};
+ghost use Rattle.vip_debug.specs.Answers.{begun, has_pc, moved_to, moves_until, place_of};
+ghost use Rattle.vip_debug.specs.Parts.{Arrives, FindAnswers, Makes, PassAnswers, TellsPresent, points_left};
 
 use crate::command::Running;
-use chip8_lang::StopRecord;
 use vip_board::Moved;
 use vip_relation::{Met, Vip};
-
-/// Meets all events at the present state. Answers the stop where that is a stop point.
-pub fn settle(vip: &mut Vip) -> Option<StopRecord>
-    requires { Follows vip.old }
-    ensures follows { Follows vip.new }
-    ensures answer { SettleAnswers vip.old vip.new result }
-{
-    let now = vip.board().now();
-    loop {
-        match vip.advance(now) {
-            Met::Dispatch => {}
-            Met::Picture => {}
-            Met::Stopped(stop) => return Some(stop),
-            Met::End => return None,
-        }
-    }
-}
 
 /// Runs to the next dispatch point, past pictures, or to the end of the run. Answers whether there is one.
 fn pass(vip: &mut Vip, limit: u64) -> bool
@@ -96,7 +77,7 @@ fn make_moves(vip: &mut Vip, moves: u32, limit: u64) -> bool
     requires limit { limit ≤ 4_000_000_000 }
     requires within { vip.old.board.machine.cycle ≤ limit }
     ensures follows { Follows vip.new }
-    ensures makes { Makes limit vip.old vip.new (min (vip.old.moves + moves) (moves_until (begun vip.old) limit)) }
+    ensures makes { Makes limit vip.old vip.new (moved_to (begun vip.old) (min (vip.old.moves + moves) (moves_until (begun vip.old) limit)) (place_of vip.old)) }
     ensures all { result ≡ nat_le (vip.old.moves + moves) (moves_until (begun vip.old) limit) }
 {
     for _move in 0..moves {
@@ -112,7 +93,7 @@ fn make_moves_until(vip: &mut Vip, cycle: u64)
     requires follows { Follows vip.old }
     requires limit { cycle ≤ 4_000_000_000 }
     ensures follows { Follows vip.new }
-    ensures makes { Makes (max vip.old.board.machine.cycle cycle) vip.old vip.new (max vip.old.moves (moves_until (begun vip.old) cycle)) }
+    ensures makes { Makes (max vip.old.board.machine.cycle cycle) vip.old vip.new (moved_to (begun vip.old) (max vip.old.moves (moves_until (begun vip.old) cycle)) (place_of vip.old)) }
 {
     while let Moved::Done(_) = vip.one_move(cycle) {}
 }
@@ -120,7 +101,6 @@ fn make_moves_until(vip: &mut Vip, cycle: u64)
 /// Runs the board as a command says. Answers whether the command is completed.
 pub fn go(vip: &mut Vip, running: Running, limit: u64) -> bool
     requires follows { Follows vip.old }
-    requires settled { events_waiting vip.old ≡ [] }
     requires limit { limit ≤ 4_000_000_000 }
     requires within { vip.old.board.machine.cycle ≤ limit }
     ensures follows { Follows vip.new }

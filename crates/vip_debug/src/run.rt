@@ -4,13 +4,12 @@ ghost use Rattle.std.specs.Prelude.{◌≡◌, ◌≤◌, [], max, true};
 ghost use Rattle.vip_outside.specs.Sink.{PutAnswers};
 ghost use Rattle.vip_outside.specs.Pieces.{StreamAnswers};
 ghost use Rattle.vip_relation.specs.Follows.{Follows};
-ghost use Rattle.vip_relation.specs.State.{events_waiting};
-ghost use Rattle.vip_debug.specs.Answers.{DebugAnswers, arrival, begun, completed_line, moves_with, pieces, running_line, shown_pieces};
-ghost use Rattle.vip_debug.specs.Parts.{IsTold, Makes, answer_line};
+ghost use Rattle.vip_debug.specs.Answers.{DebugAnswers, arrival, begun, completed_line, pieces, place_of, place_with, running_line, shown_pieces};
+ghost use Rattle.vip_debug.specs.Parts.{IsTold, Makes};
 
 use crate::bytes::{put_dis, put_mem};
 use crate::command::{Command, Commands, Running, Showing};
-use crate::going::{go, settle};
+use crate::going::go;
 use crate::show::{put_cycle, put_regs, put_screen, put_state};
 use crate::write::put;
 use chip8_lang::StopRecord;
@@ -46,18 +45,13 @@ fn completed_text(vip: &Vip, running: Running, into: &mut Buffer)
 }
 
 /// Writes the line of a command that ran into an empty buffer.
-fn answer_text(
-    vip: &Vip,
-    running: Running,
-    completed: bool,
-    stop: Option<StopRecord>,
-    into: &mut Buffer,
-)
+fn answer_text(vip: &Vip, running: Running, completed: bool, into: &mut Buffer)
+    requires follows { Follows vip.now }
     requires told { completed ≡ true → IsTold running vip.now }
     requires empty { into.old.items ≡ [] }
-    ensures { into.new.items ≡ answer_line (begun vip.now) running completed stop vip.now.board.machine }
+    ensures { into.new.items ≡ running_line (begun vip.now) running (record { place = place_of vip.now; completed = completed }) }
 {
-    match stop {
+    match vip.stop() {
         Some(stop) => stop_text(&stop, into),
         None if completed => completed_text(vip, running, into),
         None => put(into, b"end\n"),
@@ -72,26 +66,22 @@ fn put_running<O: Sink>(
     out: &mut O,
 ) -> Result<(), Failed>
     requires follows { Follows vip.old }
-    requires settled { events_waiting vip.old ≡ [] }
     requires limit { limit ≤ 4_000_000_000 }
     requires within { vip.old.board.machine.cycle ≤ limit }
     ensures follows { Follows vip.new }
-    ensures settled { events_waiting vip.new ≡ [] }
-    ensures makes { Makes limit vip.old vip.new (arrival (begun vip.old) limit running vip.old.moves).moves }
-    ensures line { PutAnswers (running_line (begun vip.old) running (arrival (begun vip.old) limit running vip.old.moves)) (O.meaning out.old) (O.meaning out.new) result }
+    ensures makes { Makes limit vip.old vip.new (arrival (begun vip.old) limit running (place_of vip.old)).place }
+    ensures line { PutAnswers (running_line (begun vip.old) running (arrival (begun vip.old) limit running (place_of vip.old))) (O.meaning out.old) (O.meaning out.new) result }
 {
     let completed = go(vip, running, limit);
-    let stop = settle(vip);
     let mut text = Buffer::new();
-    answer_text(vip, running, completed, stop, &mut text);
+    answer_text(vip, running, completed, &mut text);
     out.put(text.as_slice())
 }
 
 /// Puts what a command shows.
 fn put_showing<O: Sink>(vip: &Vip, showing: Showing, out: &mut O) -> Result<(), Failed>
     requires follows { Follows vip.now }
-    requires settled { events_waiting vip.now ≡ [] }
-    ensures { StreamAnswers (shown_pieces (begun vip.now) showing vip.now.moves) (O.meaning out.old) (O.meaning out.new) result }
+    ensures { StreamAnswers (shown_pieces (begun vip.now) showing (place_of vip.now)) (O.meaning out.old) (O.meaning out.new) result }
 {
     match showing {
         Showing::Regs => put_regs(vip.board(), out),
@@ -110,13 +100,11 @@ fn run_command<O: Sink>(
     out: &mut O,
 ) -> Result<(), Failed>
     requires follows { Follows vip.old }
-    requires settled { events_waiting vip.old ≡ [] }
     requires limit { limit ≤ 4_000_000_000 }
     requires within { vip.old.board.machine.cycle ≤ limit }
     ensures follows { Follows vip.new }
-    ensures settled { events_waiting vip.new ≡ [] }
-    ensures makes { Makes limit vip.old vip.new (moves_with (begun vip.old) limit command vip.old.moves) }
-    ensures pieces { StreamAnswers (pieces (begun vip.old) limit command vip.old.moves) (O.meaning out.old) (O.meaning out.new) result }
+    ensures makes { Makes limit vip.old vip.new (place_with (begun vip.old) limit command (place_of vip.old)) }
+    ensures pieces { StreamAnswers (pieces (begun vip.old) limit command (place_of vip.old)) (O.meaning out.old) (O.meaning out.new) result }
 {
     match command {
         Command::Runs(running) => put_running(vip, running, limit, out),
@@ -126,9 +114,10 @@ fn run_command<O: Sink>(
 
 /// Runs commands of a machine that runs a game, and puts their answers, each line as one piece, and a screen as one.
 ///
-/// No move ends after the limit, nor after the present cycle where that is later. The events up to the present cycle count as met. A
-/// command that can't be completed because of the limit leaves the board after the last move up to it and writes `end`. One that comes
-/// to a stop point, or begins at one, stays there and writes the stop.
+/// No move ends after the limit, nor after the present cycle where that is later. Nothing is met before the first command. A command that
+/// makes a move meets every event up to its new cycle; `next` and `break` look for a dispatch point that isn't met yet, which may wait at the
+/// present state, and meet every event up to where they come. A command that can't be completed because of the limit leaves the board after
+/// the last move up to it and writes `end`. One that comes to a stop point, or begins at one, stays there and writes the stop.
 ///
 /// A put that fails ends the run: the board is where the command of that line leaves it. No memory is taken.
 pub fn run_commands<O: Sink>(
@@ -139,16 +128,15 @@ pub fn run_commands<O: Sink>(
 ) -> DebugEnd
     requires { limit ≤ 4_000_000_000 }
     ensures follows { Follows vip.new }
-    ensures answer { DebugAnswers (begun vip.old) (max limit vip.old.board.machine.cycle) commands.now vip.old.moves vip.new (O.meaning out.old) (O.meaning out.new) result }
+    ensures answer { DebugAnswers (begun vip.old) (max limit vip.old.board.machine.cycle) commands.now (place_of vip.old) vip.new (O.meaning out.old) (O.meaning out.new) result }
 {
     let limit = limit.max(vip.board().now());
-    let _stop = settle(vip);
     for command in commands.as_slice() {
         if let Err(_) = run_command(vip, *command, limit, out) {
             return DebugEnd::WriteFault;
         }
     }
-    match settle(vip) {
+    match vip.stop() {
         Some(stop) => DebugEnd::Stopped(stop),
         None => DebugEnd::Done,
     }

@@ -6,7 +6,7 @@ use std::alloc::Global;
 use std::test::Fail;
 use vip_keypad::Script;
 use vip_outside::MemSink;
-use vip_relation::Vip;
+use vip_relation::{Met, Vip};
 
 const LIMIT: u64 = 100_000;
 
@@ -25,14 +25,24 @@ const WAITS: [u8; 2] = [0xD0, 0x10];
 /// A game, commands, and the lines that they write.
 type Row = (&'static [u8], &'static [u8], &'static [u8]);
 
-/// Runs commands of a game from reset, with any text that they have.
-fn debug(alloc: Global, game: &[u8], text: &[u8], out: &mut MemSink) -> Result<DebugEnd, Fail> {
+/// Runs commands from where a board stands, with any text that they have.
+fn debug_on(
+    alloc: Global,
+    vip: &mut Vip,
+    text: &[u8],
+    out: &mut MemSink,
+) -> Result<DebugEnd, Fail> {
     if text.len() > 1_048_576 {
         return Err("too long")?;
     }
     let commands = read_commands(alloc, text, LIMIT)?;
+    Ok(run_commands(vip, &commands, LIMIT, out))
+}
+
+/// Runs commands of a game from reset.
+fn debug(alloc: Global, game: &[u8], text: &[u8], out: &mut MemSink) -> Result<DebugEnd, Fail> {
     let mut vip = Vip::start(alloc, game, &Script::empty(alloc))?;
-    Ok(run_commands(&mut vip, &commands, LIMIT, out))
+    debug_on(alloc, &mut vip, text, out)
 }
 
 #[test]
@@ -117,6 +127,74 @@ fn stays_at_a_stop(rt: HostRuntime) -> Result<(), Fail> {
         let record = usize::from(text.starts_with(b"break 0206"));
         assert_eq!(rt; lines, times + record);
         assert!(rt; matches!(end, DebugEnd::Stopped(_)));
+    }
+    Ok(())
+}
+
+#[test]
+fn begins_where_the_board_stands(rt: HostRuntime) -> Result<(), Fail> {
+    // Events that are met, commands, what they write, and the cycle of the next dispatch point. Twelve points come from 56 to 1,068, then a
+    // picture at 2,912, and the next point at 3,006. The ROM finishes each picture inside its interrupt routine, so that no point waits there.
+    let rows: [(u32, &[u8], &[u8], u64); 7] = [
+        (0, b"", b"", 56),
+        (1, b"", b"", 148),
+        (
+            1,
+            b"next 1\nto 60",
+            b"0200 1200 V 00 00 00 00 00 00 00 00 00 00 00 00 00 00 00 00 I 0000 DT 00 ST 00 Q 0 S\ncycle 148\n",
+            240,
+        ),
+        (13, b"", b"", 3_006),
+        (
+            13,
+            b"state\nto 2800",
+            b"0200 1200 V 00 00 00 00 00 00 00 00 00 00 00 00 00 00 00 00 I 0000 DT 00 ST 00 Q 0 S N 0000 AT 1068\ncycle 2912\n",
+            3_006,
+        ),
+        (
+            13,
+            b"next 1\nstate",
+            b"0200 1200 V 00 00 00 00 00 00 00 00 00 00 00 00 00 00 00 00 I 0000 DT 00 ST 00 Q 0 S\n0200 1200 V 00 00 00 00 00 00 00 00 00 00 00 00 00 00 00 00 I 0000 DT 00 ST 00 Q 0 S N 0001 AT 3006\n",
+            3_098,
+        ),
+        (13, b"to 3006", b"cycle 3006\n", 3_098),
+    ];
+    for (events, text, want, next) in rows {
+        let mut out = MemSink::new(rt.alloc(), 2_000)?;
+        let mut vip = Vip::start(rt.alloc(), &JUMPS, &Script::empty(rt.alloc()))?;
+        for event in 1..=events {
+            let met = vip.advance(LIMIT);
+            assert_eq!(rt; met == Met::Picture, event == 13);
+        }
+        let end = debug_on(rt.alloc(), &mut vip, text, &mut out)?;
+        assert!(rt; end == DebugEnd::Done);
+        assert_eq!(rt; out.bytes(), want);
+        assert_eq!(rt; vip.advance(LIMIT), Met::Dispatch);
+        assert_eq!(rt; vip.board().now(), next);
+    }
+    Ok(())
+}
+
+#[test]
+fn names_a_stop_that_was_met(rt: HostRuntime) -> Result<(), Fail> {
+    for (text, want) in [
+        (b"".as_slice(), b"".as_slice()),
+        (
+            b"step 1\nto 5",
+            b"stopped MachineCall 0000 at 0202\nstopped MachineCall 0000 at 0202\n",
+        ),
+    ] {
+        let mut out = MemSink::new(rt.alloc(), 2_000)?;
+        let mut vip = Vip::start(rt.alloc(), &LOADS, &Script::empty(rt.alloc()))?;
+        for _point in 0..2 {
+            assert_eq!(rt; vip.advance(LIMIT), Met::Dispatch);
+        }
+        let met = vip.advance(LIMIT);
+        let stop = vip.stop().ok_or("no stop")?;
+        assert_eq!(rt; met, Met::Stopped(stop));
+        let end = debug_on(rt.alloc(), &mut vip, text, &mut out)?;
+        assert!(rt; end == DebugEnd::Stopped(stop));
+        assert_eq!(rt; out.bytes(), want);
     }
     Ok(())
 }

@@ -6,14 +6,14 @@ pub returns-in-To-clause-arrives : goal.returns-in-To-clause-arrives
 returns-in-To-clause-arrives c =
     let makes = rw c.min.ensures at c.make_moves_until.ensures.makes in
     rw c.in-To.is
-    (arrives-to _ _ _ c.requires.follows c.make_moves_until.ensures.follows c.requires.settled c.in-To.cycle _ c.requires.within makes refl)
+    (arrives-to _ _ _ c.requires.follows c.make_moves_until.ensures.follows c.in-To.cycle _ c.requires.within makes refl)
 
 pub returns-in-Next-clause-arrives : goal.returns-in-Next-clause-arrives
 returns-in-Next-clause-arrives c =
     rw c.in-Next.is
-    (arrives-next _ _ _ c.requires.follows c.pass_points.ensures.follows c.requires.settled c.in-Next.points _ c.pass_points.ensures.answer)
+    (arrives-next _ _ _ c.requires.follows c.pass_points.ensures.follows c.in-Next.points _ c.pass_points.ensures.answer)
 
 pub returns-in-Break-clause-arrives : goal.returns-in-Break-clause-arrives
 returns-in-Break-clause-arrives c =
     rw c.in-Break.is
-    (arrives-break _ _ _ c.requires.follows c.pass_to_pc.ensures.follows c.requires.settled c.in-Break.pc _ c.pass_to_pc.ensures.answer)
+    (arrives-break _ _ _ c.requires.follows c.pass_to_pc.ensures.follows c.in-Break.pc _ c.pass_to_pc.ensures.answer)

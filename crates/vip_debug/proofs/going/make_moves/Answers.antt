@@ -1,5 +1,5 @@
 use Rattle.std.proofs.Common.{◌≡◌, refl, arith, subst, min, ◌+◌}
-use Rattle.vip_debug.specs.Answers.{begun, moves_until}
+use Rattle.vip_debug.specs.Answers.{begun, moves_until, moved_to, place_of}
 use Rattle.vip_debug.specs.Parts.{Makes}
 use Rattle.vip_debug.proofs.Moving.{moving-next, rests-early, is-early, makes-all, is-all}
 use Rattle.vip_debug.proofs.going.make_moves.Goals as goal
@@ -19,7 +19,7 @@ pub returns-clause-makes : goal.returns-clause-makes
 returns-clause-makes c =
     let all : c.loop-move._move ≡ c.args.moves = omega arith in
     let n = makes-all _ _ _ _ c.loop-move.invariant in
-    subst (λ m. Makes c.args.limit c.args.vip.now c.loop-move.vip (min (c.args.vip.now.moves + m) (moves_until (begun c.args.vip.now) c.args.limit))) all n
+    subst (λ m. Makes c.args.limit c.args.vip.now c.loop-move.vip (moved_to (begun c.args.vip.now) (min (c.args.vip.now.moves + m) (moves_until (begun c.args.vip.now) c.args.limit)) (place_of c.args.vip.now))) all n
 
 pub returns-clause-all : goal.returns-clause-all
 returns-clause-all c =

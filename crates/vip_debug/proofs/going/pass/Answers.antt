@@ -1,6 +1,5 @@
 use Rattle.vip_show.proofs.Going.{at_dispatch, at_picture, at_end, fewer-picture}
-use Rattle.vip_debug.proofs.Settling.{dispatch-runs, picture-runs, end-runs}
-use Rattle.vip_debug.proofs.Passing.{passing-picture, passed, passed-at-stop, passed-end}
+use Rattle.vip_debug.proofs.Passing.{dispatch-runs, picture-runs, end-runs, passing-picture, passed, passed-at-stop, passed-end}
 use Rattle.vip_debug.proofs.going.pass.Goals as goal
 
 pub returns-in-Dispatch-clause-answer : goal.returns-in-Dispatch-clause-answer

@@ -14,7 +14,7 @@ pub returns-in-State : goal.returns-in-State
 returns-in-State g c =
     rw c.in-State.is
     (subst (λ pieces. StreamAnswers pieces (g.O.Sink.meaning c.args.out.now) (g.O.Sink.meaning c.put_state.new.out) c.put_state.result)
-    (state-shown c.args.vip.now c.requires.follows c.requires.settled) (StreamAnswers-one _ _ _ _ c.put_state.ensures))
+    (state-shown c.args.vip.now c.requires.follows) (StreamAnswers-one _ _ _ _ c.put_state.ensures))
 
 pub returns-in-Mem : goal.returns-in-Mem
 returns-in-Mem g c =
@@ -32,4 +32,4 @@ pub returns-in-Screen : goal.returns-in-Screen
 returns-in-Screen g c =
     rw c.in-Screen.is
     (subst (λ pieces. StreamAnswers pieces (g.O.Sink.meaning c.args.out.now) (g.O.Sink.meaning c.put_screen.new.out) c.put_screen.result)
-    (screen-shown c.args.vip.now c.requires.follows c.requires.settled) (StreamAnswers-one _ _ _ _ c.put_screen.ensures))
+    (screen-shown c.args.vip.now c.requires.follows) (StreamAnswers-one _ _ _ _ c.put_screen.ensures))
