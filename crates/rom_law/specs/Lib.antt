@@ -3,3 +3,4 @@ pub mod Holding
 pub mod Rows
 pub mod Schedules
 pub mod Runs
+pub mod Pictures
