@@ -1,5 +1,5 @@
 -- Each line of the window gets the eight bytes of its row of the screen.
-use Rattle.std.proofs.Common.{lit<, ◌≡◌, ℕ, ◌+◌, ◌-◌, ◌*◌, ◌/◌, ◌%◌, ◌<◌, ◌≤◌, ◌⊎◌, inl, inr, ◌∙◌, ap, ap₂, subst, arith, Bool, true, false, cond, nat_lt, [], ◌++◌, slice_index, slice_range}
+use Rattle.std.proofs.Common.{◌≡◌, ℕ, ◌+◌, ◌-◌, ◌*◌, ◌/◌, ◌%◌, ◌<◌, ◌≤◌, ◌⊎◌, inl, inr, ◌∙◌, ap, ap₂, subst, arith, Bool, true, false, cond, nat_lt, [], ◌++◌, slice_index, slice_range}
 use Rattle.std.proofs.lemmas.Bool.{cases_eq, cases_lt, lt-ltb, le-ltb, ne_eqb}
 use Rattle.std.proofs.lemmas.List.{append-nil}
 use Rattle.machine.specs.Bank.{word_of}
@@ -36,7 +36,7 @@ row_of Tall k = go (cases_lt (k % 4) 2)
     go (inl h) = rw (lt-ltb (k % 4) 2 h) (omega (arith, shown_tall (k / 4)))
     go (inr h) = rw (le-ltb (k % 4) 2 h) (omega (arith, shown_tall (k / 4)))
 
-row_fits : (e : Edition) (k : ℕ) → k < 128 → screen_start e + 8 * (k / lines_of e) + 8 ≤ 0x1000
+pub row_fits : (e : Edition) (k : ℕ) → k < 128 → screen_start e + 8 * (k / lines_of e) + 8 ≤ 0x1000
 row_fits Usual k h = omega arith
 row_fits Tall k h = omega arith
 

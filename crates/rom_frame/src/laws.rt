@@ -2,7 +2,7 @@
 
 ghost use Rattle.rom_frame.specs.Frame.{EveryMove, KeepsPlace, KeepsWaiting};
 ghost use Rattle.rom_frame.specs.Routine.{RunTick};
-ghost use Rattle.rom_frame.specs.Scan.{RunScan};
+ghost use Rattle.rom_frame.specs.Scan.{RunPicture, RunScan};
 
 /// Where the display is on and interrupts are enabled, outside of the window: the board makes the interrupt at cycle 1,092 of a frame, and
 /// there alone. Elsewhere it makes a main move, or an idle cycle where the processor waits.
@@ -29,4 +29,9 @@ pub fn run_tick()
 /// In those moves each of the 128 lines of the window has eight DMA cycles, 1,024 in all, with the eight bytes of its row of the screen.
 pub fn run_scan()
     ensures { RunScan }
+{}
+
+/// So the picture of a frame shows the screen that lies in RAM when its interrupt comes, in every run that goes on to the end of the window.
+pub fn run_picture()
+    ensures { RunPicture }
 {}
