@@ -7,6 +7,7 @@ pub mod Room
 pub mod Schedules
 pub mod Carried
 pub mod Runs
+pub mod Shown
 pub mod NoDisplay
 pub mod First
 pub mod Steps
