@@ -7,7 +7,7 @@ use Rattle.chip8_image.specs.Labels.{at_slot0}
 use Rattle.chip8_rows.specs.Heads.{Entered, low_byte}
 use Rattle.chip8_rows.specs.ArithBlocks.{ArithBlock, no_skip_labels, arith_moves, arith_addresses, arith_areas}
 use Rattle.chip8_rows.specs.ArithBlocks.ArithBlock.{Load, Add, SkipEq, SkipNe, SkipSame, SameTest, SkipDiffer, DifferTest, NoSkip, Skip, Unknown81, Arith, Operation, Flag, Unknown82}
-use Rattle.chip8_rows.specs.Table.{Head, pieces}
+use Rattle.chip8_rows.specs.Table.{Head, calm_pieces}
 use Rattle.chip8_rows.specs.Table.Block.{OfArith}
 use Rattle.rom_law.specs.Rows.{Since, now}
 use Rattle.rom_law.proofs.Kept.{Comes}
@@ -21,7 +21,7 @@ use Rattle.arith_blocks.proofs.Loads.{load_comes, add_comes}
 use Rattle.arith_blocks.proofs.Skips.{eq_comes, ne_comes, skip_same_comes, same_comes, skip_differ_comes, differ_comes, no_skip_comes, skip_comes, unknown81_comes}
 use Rattle.arith_blocks.proofs.Arithmetic.{arith_comes, operation_comes, flag_comes, unknown82_comes}
 
-pub arith_block : (e : Edition) (l : ArithBlock) (b : Machine) (h : Since) → FitsMachine b → Head (quick e) (OfArith l) b h → Comes (quick e) (pieces (quick e)) (OfArith l) b h
+pub arith_block : (e : Edition) (l : ArithBlock) (b : Machine) (h : Since) → FitsMachine b → Head (quick e) (OfArith l) b h → Comes (quick e) (calm_pieces (quick e)) (OfArith l) b h
 arith_block e Load b h f o = load_comes e b h f o.0
 arith_block e Add b h f o = add_comes e b h f o.0
 arith_block e SkipEq b h f o = eq_comes e b h f o.0 o.1

@@ -25,7 +25,7 @@ use Rattle.chip8_rows.specs.Heads.{high_byte, low_byte, page_of, Entered, Enters
 use Rattle.chip8_rows.specs.FetchBlocks.FetchBlock.{Leave}
 use Rattle.chip8_rows.specs.ArithBlocks.{has_shared_end, Ending, arith_moves}
 use Rattle.chip8_rows.specs.ArithBlocks.ArithBlock.{Arith, Operation, Flag, Unknown82}
-use Rattle.chip8_rows.specs.Table.{pieces}
+use Rattle.chip8_rows.specs.Table.{calm_pieces, calm_top}
 use Rattle.chip8_rows.specs.Table.Block.{OfArith}
 use Rattle.chip8_rows.proofs.Digits.{by_digit}
 use Rattle.chip8_rows.proofs.Bytes.{quick, stack_top_is, variables_is}
@@ -65,7 +65,7 @@ module _ (e : Edition) (b : Machine) (h : Since) (f : FitsMachine b) where
 
   -- ---- the branch by N
 
-  pub arith_comes : Enters (quick e) at_arith 8 b (now h) → h.spent ≡ 80 → Comes (quick e) (pieces (quick e)) (OfArith Arith) b h
+  pub arith_comes : Enters (quick e) at_arith 8 b (now h) → h.spent ≡ 80 → Comes (quick e) (calm_pieces (quick e)) (OfArith Arith) b h
   arith_comes o spent = routine (OfArith Arith) o.entered _ (omega arith) refl (λ h' g. to_arith (quick e) g _ calm (Operation (low % 16)) (
     record {
       entered = record { holds = o.entered.holds; inside = o.entered.inside; p = refl; r3 = ap₂ word (omega arith) branch; r4 = refl; r6 = refl; r7 = refl; rc = refl };
@@ -85,7 +85,7 @@ module _ (e : Edition) (b : Machine) (h : Since) (f : FitsMachine b) where
 
   -- 8XYN with this n
   abbrev Case : ℕ → Type 0
-  Case n = Enters (quick e) (at_slot0 + 2 * n) 8 b (now h) → low % 16 ≡ n → b.regs.x ≡ 6 → h.spent ≡ 92 → Comes (quick e) (pieces (quick e)) (OfArith (Operation n)) b h
+  Case n = Enters (quick e) (at_slot0 + 2 * n) 8 b (now h) → low % 16 ≡ n → b.regs.x ≡ 6 → h.spent ≡ 92 → Comes (quick e) (calm_pieces (quick e)) (OfArith (Operation n)) b h
 
   -- V0 to VF lie above the byte at R2
   abbrev Room : Type 0
@@ -106,13 +106,13 @@ module _ (e : Edition) (b : Machine) (h : Since) (f : FitsMachine b) where
     decoded o nibble = rw (o.digit, nibble) refl
 
     -- its instructions lead to c; what follows there is given
-    operation : (c : Machine) → (Room → AllGood (code (quick e)) (arith_moves (Operation n)) slot) → quicks (code (quick e)) (arith_moves (Operation n)) slot ≡ c → (Enters (quick e) (at_slot0 + 2 * n) 8 b (now h) → instr_at (now h) ≡ arithmetic n (high % 16) (low / 16) (high * 256 + low) → h.spent ≡ 92 → (h' : Since) → Grows h (arith_moves (Operation n)) 0 h' → Ends (quick e) (pieces (quick e)) c h') → Case n
+    operation : (c : Machine) → (Room → AllGood (code (quick e)) (calm_top e) (arith_moves (Operation n)) slot) → quicks (code (quick e)) (arith_moves (Operation n)) slot ≡ c → (Enters (quick e) (at_slot0 + 2 * n) 8 b (now h) → instr_at (now h) ≡ arithmetic n (high % 16) (low / 16) (high * 256 + low) → h.spent ≡ 92 → (h' : Since) → Grows h (arith_moves (Operation n)) 0 h' → Ends (quick e) (calm_pieces (quick e)) c h') → Case n
     operation c good is ends o nibble by_r6 spent = record {
       runs = ready o.entered.holds;
       awake = o.entered.holds.awake;
       some = some (OfArith (Operation n));
       end = c;
-      reaches = reaches_from (code (quick e)) (arith_moves (Operation n)) b _ _ (is_slot o by_r6) (reaches_in (code (quick e)) (arith_moves (Operation n)) _ _ (good (room o.entered)) is);
+      reaches = reaches_from (code (quick e)) (calm_top e) (arith_moves (Operation n)) b _ _ (is_slot o by_r6) (reaches_in (code (quick e)) (calm_top e) (arith_moves (Operation n)) _ _ (good (room o.entered)) is);
       ends = ends o (decoded o nibble) spent;
     }
 
@@ -121,7 +121,7 @@ module _ (e : Edition) (b : Machine) (h : Since) (f : FitsMachine b) where
     Flagged value flag = let i = arithmetic n (high % 16) (low / 16) (high * 256 + low) in Entered (quick e) (at_slot0 + 2 * n) b (now h) → (has_shared_end i ≡ true) × (done_by e i Nothing (now h) ≡ set_with_flag (high % 16) (value vx vy) (flag vx vy) (now h))
 
     -- its code leaves them in D and DF
-    flagged : (value flag : ℕ → ℕ → ℕ) → Flagged value flag → arith_moves (Operation n) ≤ 5 → (Room → AllGood (code (quick e)) (arith_moves (Operation n)) slot) → quicks (code (quick e)) (arith_moves (Operation n)) slot ≡ pointed at_flag (value (byte_x e b (now h)) (byte_y e b (now h))) (flag (byte_x e b (now h)) (byte_y e b (now h))) → Case n
+    flagged : (value flag : ℕ → ℕ → ℕ) → Flagged value flag → arith_moves (Operation n) ≤ 5 → (Room → AllGood (code (quick e)) (calm_top e) (arith_moves (Operation n)) slot) → quicks (code (quick e)) (arith_moves (Operation n)) slot ≡ pointed at_flag (value (byte_x e b (now h)) (byte_y e b (now h))) (flag (byte_x e b (now h)) (byte_y e b (now h))) → Case n
     unfolding pointed
     flagged value flag does short good is = operation _ good is (λ o instr spent h' g. to_arith (quick e) g _ refl Flag (record {
       entered = goes o.entered at_flag _ _;
@@ -170,7 +170,7 @@ module _ (e : Edition) (b : Machine) (h : Since) (f : FitsMachine b) where
   left = flagged 14 (λ x y. y * 2 % 256) (λ x y. y * 2 / 256) (λ o. (refl, refl)) (omega arith) (λ r. omega (arith, r)) refl
 
   -- where N is that of no instruction, the opcode is unknown
-  other : (n : ℕ) → arith_moves (Operation n) ≡ 1 → AllGood (code (quick e)) (arith_moves (Operation n)) (slot n) → quicks (code (quick e)) (arith_moves (Operation n)) (slot n) ≡ pointed at_unknown82 b.regs.d b.regs.df → ((x y o : ℕ) → arithmetic n x y o ≡ IsUnknown o) → Case n
+  other : (n : ℕ) → arith_moves (Operation n) ≡ 1 → AllGood (code (quick e)) (calm_top e) (arith_moves (Operation n)) (slot n) → quicks (code (quick e)) (arith_moves (Operation n)) (slot n) ≡ pointed at_unknown82 b.regs.d b.regs.df → ((x y o : ℕ) → arithmetic n x y o ≡ IsUnknown o) → Case n
   unfolding pointed
   other n one good is unknown = operation n _ (λ r. good) is (λ o instr spent h' g. to_arith (quick e) g _ refl Unknown82 (goes o.entered at_unknown82 _ _, rw (o.entered.inside, instr, unknown (high % 16) (low / 16) (high * 256 + low)) refl) (omega (arith, spent, one, g.spent)))
 
@@ -180,11 +180,11 @@ module _ (e : Edition) (b : Machine) (h : Since) (f : FitsMachine b) where
 
   -- ---- the ends
 
-  pub flag_comes : Ending (quick e) at_flag (set_with_flag (high % 16) b.regs.d b.regs.df (now h)) b (now h) → Comes (quick e) (pieces (quick e)) (OfArith Flag) b h
+  pub flag_comes : Ending (quick e) at_flag (set_with_flag (high % 16) b.regs.d b.regs.df (now h)) b (now h) → Comes (quick e) (calm_pieces (quick e)) (OfArith Flag) b h
   flag_comes o = ending (OfArith Flag) o _ (omega arith) refl (rw flag (v_set (v_set o.entered.holds (page_of e * 256 + (240 + high % 16)) (high % 16) b.regs.d (omega (arith, variables_is e)) (omega arith)) _ 15 _ (omega (arith, variables_is e)) (omega arith))) refl refl
     where
       flag : (0 * 2 + b.regs.df) % 256 ≡ b.regs.df
       flag = omega (arith, f.regs.df)
 
-  pub unknown82_comes : Entered (quick e) at_unknown82 b (now h) → stop_of e (now h) ≡ Some Unknown → h.spent ≤ 94 → Comes (quick e) (pieces (quick e)) (OfArith Unknown82) b h
+  pub unknown82_comes : Entered (quick e) at_unknown82 b (now h) → stop_of e (now h) ≡ Some Unknown → h.spent ≤ 94 → Comes (quick e) (calm_pieces (quick e)) (OfArith Unknown82) b h
   unknown82_comes o stop spent = routine (OfArith Unknown82) o _ (omega arith) refl (λ h' g. to_fetch (quick e) g _ refl (Leave 1) (record { holds = o.holds; p = refl; r3 = refl; stop = Unknown; fits = stop; number = refl }, omega arith) (omega (arith, spent, g.spent)))

@@ -5,7 +5,7 @@ use Rattle.machine.specs.Ranges.{FitsMachine}
 use Rattle.chip8_lang.specs.declared.view.Edition.{Edition}
 use Rattle.chip8_rows.specs.JumpBlocks.{JumpBlock, jump_moves, jump_addresses, jump_areas}
 use Rattle.chip8_rows.specs.JumpBlocks.JumpBlock.{System, SystemLow, SystemBack, MachineCode, Return, ReturnTake, Empty, JumpTo, Call, CallPut, Full, JumpPlus}
-use Rattle.chip8_rows.specs.Table.{Head, pieces}
+use Rattle.chip8_rows.specs.Table.{Head, calm_pieces}
 use Rattle.chip8_rows.specs.Table.Block.{OfJump}
 use Rattle.rom_law.specs.Rows.{Since}
 use Rattle.rom_law.proofs.Kept.{Comes}
@@ -16,7 +16,7 @@ use Rattle.chip8_rows.proofs.Sounds.{block_rows}
 use Rattle.arith_blocks.specs.Laws.{JumpRows, JumpAddresses, JumpCovers}
 use Rattle.arith_blocks.proofs.Jumps.{system_comes, system_low_comes, system_back_comes, machine_comes, return_comes, return_take_comes, empty_comes, jump_comes, call_comes, call_put_comes, full_comes, jump_plus_comes}
 
-pub jump_block : (e : Edition) (l : JumpBlock) (b : Machine) (h : Since) → FitsMachine b → Head (quick e) (OfJump l) b h → Comes (quick e) (pieces (quick e)) (OfJump l) b h
+pub jump_block : (e : Edition) (l : JumpBlock) (b : Machine) (h : Since) → FitsMachine b → Head (quick e) (OfJump l) b h → Comes (quick e) (calm_pieces (quick e)) (OfJump l) b h
 jump_block e System b h f o = system_comes e b h f o.0 o.1
 jump_block e SystemLow b h f o = system_low_comes e b h f o.0.0 o.0.1 o.1
 jump_block e SystemBack b h f o = system_back_comes e b h f o.0.0 o.0.1 o.0.2 o.1

@@ -13,8 +13,9 @@ use Rattle.rom_law.specs.Program.{code}
 use Rattle.rom_law.specs.Rows.{Since}
 use Rattle.rom_law.proofs.Kept.{Comes, block_at}
 use Rattle.chip8_rows.specs.Rom.{vip, program_of}
-use Rattle.chip8_rows.specs.Table.{Block, Head, moves, pieces}
+use Rattle.chip8_rows.specs.Table.{Block, Head, moves, pieces, calm_pieces}
 use Rattle.chip8_rows.specs.Addresses.{RunsAt, IsIn, begins, Covers}
+use Rattle.chip8_rows.proofs.Calm.{comes_calm}
 use Rattle.chip8_rows.proofs.Bytes.{both_is, quick}
 use Rattle.chip8_rows.proofs.Sounds.{sound}
 
@@ -42,8 +43,12 @@ pub record Follows (e : Edition) (l : Block) (addresses : List ℕ) (b : Machine
   pub is : b ≡ same
   pub follows : follows (code (quick e)) addresses (moves l) same ≡ true
 
-pub runs_at : (e : Edition) (l : Block) (addresses : List ℕ) → ((b : Machine) (h : Since) → FitsMachine b → Head (quick e) l b h → Comes (quick e) (pieces (quick e)) l b h) → ((b : Machine) (h : Since) → Head (quick e) l b h → Follows e l addresses b) → RunsAt (vip e) l addresses
-runs_at e l addresses comes goes = subst (λ rom. RunsAt (program_of e rom) l addresses) (both_is e) (λ b h r. let w = goes r.start r.since r.head in block_at (quick e) (pieces (quick e)) (sound e) r (comes r.start r.since r.fits r.head) ∙ ap (λ z. at (quicks (code (quick e)) r.k z).regs (quicks (code (quick e)) r.k z).regs.p) w.is ∙ follows_at (code (quick e)) addresses (moves l) w.same w.follows r.k r.inside)
+pub runs_at_in : (e : Edition) (l : Block) (addresses : List ℕ) → ((b : Machine) (h : Since) → FitsMachine b → Head (quick e) l b h → Comes (quick e) (pieces (quick e)) l b h) → ((b : Machine) (h : Since) → Head (quick e) l b h → Follows e l addresses b) → RunsAt (vip e) l addresses
+runs_at_in e l addresses comes goes = subst (λ rom. RunsAt (program_of e rom) l addresses) (both_is e) (λ b h r. let w = goes r.start r.since r.head in block_at (quick e) (pieces (quick e)) (sound e) r (comes r.start r.since r.fits r.head) ∙ ap (λ z. at (quicks (code (quick e)) r.k z).regs (quicks (code (quick e)) r.k z).regs.p) w.is ∙ follows_at (code (quick e)) addresses (moves l) w.same w.follows r.k r.inside)
+
+-- the same of the calm pieces
+pub runs_at : (e : Edition) (l : Block) (addresses : List ℕ) → ((b : Machine) (h : Since) → FitsMachine b → Head (quick e) l b h → Comes (quick e) (calm_pieces (quick e)) l b h) → ((b : Machine) (h : Since) → Head (quick e) l b h → Follows e l addresses b) → RunsAt (vip e) l addresses
+runs_at e l addresses comes goes = runs_at_in e l addresses (λ b h f head. comes_calm (comes b h f head)) goes
 
 -- ---- the block of an address
 

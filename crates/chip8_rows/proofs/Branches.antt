@@ -9,17 +9,17 @@ use Rattle.rom_law.specs.Program.{code}
 use Rattle.rom_law.specs.Rows.{Since, Grows, Ends, now}
 use Rattle.rom_law.proofs.Kept.{Comes}
 use Rattle.chip8_rows.specs.Heads.{high_byte, low_byte, Entered}
-use Rattle.chip8_rows.specs.Table.{Block, moves, pieces}
+use Rattle.chip8_rows.specs.Table.{Block, moves, calm_top, calm_pieces}
 use Rattle.chip8_rows.proofs.Bytes.{quick}
 use Rattle.chip8_rows.proofs.Entry.{entered}
 use Rattle.chip8_rows.proofs.Straight.{routine}
 
 -- The block l begins in a routine, at a, and ends in a branch on t, which leads to c with one or the other address in R3. What follows at
 -- each of them is given.
-pub branch : {e : Edition} {b : Machine} {h : Since} {a : ℕ} (l : Block) → Entered (quick e) a b (now h) → (c : Word → Machine) (t : Bool) (there on : ℕ) → AllGood (code (quick e)) (moves l) (entered e a (high_byte (now h)) (low_byte (now h)) b) → quicks (code (quick e)) (moves l) (entered e a (high_byte (now h)) (low_byte (now h)) b) ≡ c (cond t (word_of there) (word_of on)) → (t ≡ true → (h' : Since) → Grows h (moves l) 0 h' → Ends (quick e) (pieces (quick e)) (c (word_of there)) h') → (t ≡ false → (h' : Since) → Grows h (moves l) 0 h' → Ends (quick e) (pieces (quick e)) (c (word_of on)) h') → Comes (quick e) (pieces (quick e)) l b h
+pub branch : {e : Edition} {b : Machine} {h : Since} {a : ℕ} (l : Block) → Entered (quick e) a b (now h) → (c : Word → Machine) (t : Bool) (there on : ℕ) → AllGood (code (quick e)) (calm_top e) (moves l) (entered e a (high_byte (now h)) (low_byte (now h)) b) → quicks (code (quick e)) (moves l) (entered e a (high_byte (now h)) (low_byte (now h)) b) ≡ c (cond t (word_of there) (word_of on)) → (t ≡ true → (h' : Since) → Grows h (moves l) 0 h' → Ends (quick e) (calm_pieces (quick e)) (c (word_of there)) h') → (t ≡ false → (h' : Since) → Grows h (moves l) 0 h' → Ends (quick e) (calm_pieces (quick e)) (c (word_of on)) h') → Comes (quick e) (calm_pieces (quick e)) l b h
 branch {e = e} {b = b} {h = h} l o c t there on good is met other = go t refl
   where
-    go : (u : Bool) → t ≡ u → Comes (quick e) (pieces (quick e)) l b h
+    go : (u : Bool) → t ≡ u → Comes (quick e) (calm_pieces (quick e)) l b h
     go true k = routine l o (c (word_of there)) good (is ∙ ap (λ u. c (cond u (word_of there) (word_of on))) k) (met k)
     go false k = routine l o (c (word_of on)) good (is ∙ ap (λ u. c (cond u (word_of there) (word_of on))) k) (other k)
 

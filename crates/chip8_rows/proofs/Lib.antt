@@ -5,6 +5,7 @@ pub mod Entry
 pub mod Later
 pub mod Steps
 pub mod Follows
+pub mod Calm
 pub mod Sounds
 pub mod Straight
 pub mod Branches
@@ -13,3 +14,4 @@ pub mod Alone
 pub mod Ways
 pub mod Font
 pub mod Waited
+pub mod Screens

@@ -32,9 +32,10 @@ use Rattle.chip8_rows.specs.TimerBlocks.TimerPlace.{RandomCount, GetDelay, SetDe
 use Rattle.chip8_rows.specs.KeyBlocks.{KeyBlock, KeyPlace, Last, key_moves, key_place_at, key_place_time}
 use Rattle.chip8_rows.specs.KeyBlocks.KeyBlock.{KeySkip, KeySkipUp, SkipLatch, NoSkip, Skip as KeyYes, WaitKey, KeyNext, KeyCount, KeyFreed}
 use Rattle.chip8_rows.specs.KeyBlocks.KeyPlace.{SkipTest, KeyTest, KeyHeld}
-use Rattle.chip8_rows.specs.Table.{Block, Place as AnyPlace, Head, At, moves, pieces, BlockRows, PlaceRows, AwakeRows, TickRows}
+use Rattle.chip8_rows.specs.Table.{Block, Place as AnyPlace, Head, At, moves, pieces, calm_pieces, BlockRows, PlaceRows, AwakeRows, TickRows}
 use Rattle.chip8_rows.specs.Table.Block.{OfFetch, OfJump, OfArith, OfMemory, OfSprite, OfTimer, OfKey}
 use Rattle.chip8_rows.specs.Table.Place.{AtTimer, AtKey, AtSprite}
+use Rattle.chip8_rows.proofs.Calm.{comes_calm, holds_calm}
 use Rattle.chip8_rows.proofs.Bytes.{both_is, both_fits, quick}
 use Rattle.chip8_rows.proofs.Later.{enters_later, ticks_low, loaded_later, mixes_later, skip_key_later, skipping_later, waiting_later, turning_later, latched_later, counted_later, clearing_later, painting_later}
 
@@ -204,18 +205,32 @@ module _ (e : Edition) where
   pub sound : Sound (quick e) (pieces (quick e))
   sound = record { rom = both_fits e; some = λ l b h f head. some l; later = later }
 
+  pub calm_sound : Sound (quick e) (calm_pieces (quick e))
+  calm_sound = record { rom = both_fits e; some = λ l b h f head. some l; later = later }
+
   -- the rows of a block, where each machine at its head comes to what it should
-  pub block_rows : (l : Block) → ((b : Machine) (h : Since) → FitsMachine b → Head (quick e) l b h → Comes (quick e) (pieces (quick e)) l b h) → BlockRows (program_of e (image e)) l
-  block_rows l comes = subst (λ rom. BlockRows (program_of e rom) l) (both_is e) (λ u b h r. block_moves (quick e) (pieces (quick e)) sound r (comes r.start r.since r.fits r.head) u)
+  pub block_rows_in : (l : Block) → ((b : Machine) (h : Since) → FitsMachine b → Head (quick e) l b h → Comes (quick e) (pieces (quick e)) l b h) → BlockRows (program_of e (image e)) l
+  block_rows_in l comes = subst (λ rom. BlockRows (program_of e rom) l) (both_is e) (λ u b h r. block_moves (quick e) (pieces (quick e)) sound r (comes r.start r.since r.fits r.head) u)
 
   -- the rows of a place, where each machine at it comes to what it should
-  pub place_rows : (l : AnyPlace) → ((b : Machine) (h : Since) → FitsMachine b → At (quick e) l b h → Holds (quick e) (pieces (quick e)) l b h) → ((b : Machine) (h : Since) → At (quick e) l b h → b.regs.idle ≡ false) → PlaceRows (program_of e (image e)) l
-  place_rows l holds awake = subst (λ rom. PlaceRows (program_of e rom) l) (both_is e) (λ u b h f at. place_moves (quick e) (pieces (quick e)) sound l b h f (holds b h f at) (awake b h at) u)
+  pub place_rows_in : (l : AnyPlace) → ((b : Machine) (h : Since) → FitsMachine b → At (quick e) l b h → Holds (quick e) (pieces (quick e)) l b h) → ((b : Machine) (h : Since) → At (quick e) l b h → b.regs.idle ≡ false) → PlaceRows (program_of e (image e)) l
+  place_rows_in l holds awake = subst (λ rom. PlaceRows (program_of e rom) l) (both_is e) (λ u b h f at. place_moves (quick e) (pieces (quick e)) sound l b h f (holds b h f at) (awake b h at) u)
 
   -- the rows of a place, where each machine at it comes to what it should
-  pub awake_rows : (l : AnyPlace) → ((b : Machine) (h : Since) → FitsMachine b → At (quick e) l b h → Holds (quick e) (pieces (quick e)) l b h) → AwakeRows (program_of e (image e)) l
-  awake_rows l holds = subst (λ rom. AwakeRows (program_of e rom) l) (both_is e) (λ u b h f i at. place_moves (quick e) (pieces (quick e)) sound l b h f (holds b h f at) i u)
+  pub awake_rows_in : (l : AnyPlace) → ((b : Machine) (h : Since) → FitsMachine b → At (quick e) l b h → Holds (quick e) (pieces (quick e)) l b h) → AwakeRows (program_of e (image e)) l
+  awake_rows_in l holds = subst (λ rom. AwakeRows (program_of e rom) l) (both_is e) (λ u b h f i at. place_moves (quick e) (pieces (quick e)) sound l b h f (holds b h f at) i u)
 
   -- and ticks there
-  pub tick_rows : (l : AnyPlace) → ((b : Machine) (h : Since) → FitsMachine b → At (quick e) l b h → Holds (quick e) (pieces (quick e)) l b h) → TickRows (program_of e (image e)) l
-  tick_rows l holds = subst (λ rom. TickRows (program_of e rom) l) (both_is e) (λ b c h f k at. place_ticks (quick e) (pieces (quick e)) sound l b c h f k at (holds b h f at))
+  pub tick_rows_in : (l : AnyPlace) → ((b : Machine) (h : Since) → FitsMachine b → At (quick e) l b h → Holds (quick e) (pieces (quick e)) l b h) → TickRows (program_of e (image e)) l
+  tick_rows_in l holds = subst (λ rom. TickRows (program_of e rom) l) (both_is e) (λ b c h f k at. place_ticks (quick e) (pieces (quick e)) sound l b c h f k at (holds b h f at))
+
+  -- ---- of the calm pieces
+
+  pub block_rows : (l : Block) → ((b : Machine) (h : Since) → FitsMachine b → Head (quick e) l b h → Comes (quick e) (calm_pieces (quick e)) l b h) → BlockRows (program_of e (image e)) l
+  block_rows l comes = block_rows_in l (λ b h f head. comes_calm (comes b h f head))
+
+  pub place_rows : (l : AnyPlace) → ((b : Machine) (h : Since) → FitsMachine b → At (quick e) l b h → Holds (quick e) (calm_pieces (quick e)) l b h) → ((b : Machine) (h : Since) → At (quick e) l b h → b.regs.idle ≡ false) → PlaceRows (program_of e (image e)) l
+  place_rows l holds awake = place_rows_in l (λ b h f at. holds_calm (holds b h f at)) awake
+
+  pub tick_rows : (l : AnyPlace) → ((b : Machine) (h : Since) → FitsMachine b → At (quick e) l b h → Holds (quick e) (calm_pieces (quick e)) l b h) → TickRows (program_of e (image e)) l
+  tick_rows l holds = tick_rows_in l (λ b h f at. holds_calm (holds b h f at))

@@ -18,7 +18,7 @@ use Rattle.rom_law.specs.Rows.{Since, Grows, Pieces, Ends, now}
 use Rattle.rom_law.specs.Rows.Ends.{Steps}
 use Rattle.rom_law.proofs.Places.{keeping}
 use Rattle.rom_law.proofs.Steps.{now_same, step_made, instr_now}
-use Rattle.chip8_rows.specs.Table.{pieces}
+use Rattle.chip8_rows.specs.Table.{calm_pieces}
 use Rattle.chip8_rows.proofs.Bytes.{quick}
 
 -- ticks leave the stop
@@ -74,7 +74,7 @@ module _ (e : Edition) {k : ℕ} {h h' : Since} (g : Grows h k 0 h') (i : Instr)
   })
 
 -- the same, where it takes no key and doesn't wait
-pub steps : (e : Edition) {k : ℕ} {h h' : Since} (g : Grows h k 0 h') (i : Instr) (is : instr_at (now h) ≡ i) (prompt : is_prompt i ≡ true) (runs : stop_of e (now h) ≡ None) (c : Machine) → Holding (quick e) (places c) (done_by e i Nothing (now h)) → c.regs.p ≡ 4 → c.regs.r.r4 ≡ word_of at_fetch → Ends (quick e) (pieces (quick e)) c h'
+pub steps : (e : Edition) {k : ℕ} {h h' : Since} (g : Grows h k 0 h') (i : Instr) (is : instr_at (now h) ≡ i) (prompt : is_prompt i ≡ true) (runs : stop_of e (now h) ≡ None) (c : Machine) → Holding (quick e) (places c) (done_by e i Nothing (now h)) → c.regs.p ≡ 4 → c.regs.r.r4 ≡ word_of at_fetch → Ends (quick e) (calm_pieces (quick e)) c h'
 steps e {h' = h'} g i is prompt runs c o p r4 = steps_with e g i is runs Nothing (keyless i prompt h') (no_wait i prompt h'.ticks) c o p r4
 
 -- for 00E0 and DXYN, where a tick came

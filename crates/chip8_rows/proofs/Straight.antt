@@ -7,19 +7,19 @@ use Rattle.rom_law.specs.Program.{code}
 use Rattle.rom_law.specs.Rows.{Since, Grows, Ends, now}
 use Rattle.rom_law.proofs.Kept.{Comes}
 use Rattle.chip8_rows.specs.Heads.{high_byte, low_byte, Entered}
-use Rattle.chip8_rows.specs.Table.{Block, moves, pieces}
+use Rattle.chip8_rows.specs.Table.{Block, moves, calm_top, calm_pieces}
 use Rattle.chip8_rows.proofs.Bytes.{quick}
 use Rattle.chip8_rows.proofs.Entry.{ready, entered, is_entered}
 use Rattle.chip8_rows.proofs.Sounds.{some}
 
 -- The block l begins in a routine, at a. Ticks may pass its instructions, which lead to c; what follows there is given.
-pub routine : {e : Edition} {b : Machine} {h : Since} {a : ℕ} (l : Block) → Entered (quick e) a b (now h) → (c : Machine) → AllGood (code (quick e)) (moves l) (entered e a (high_byte (now h)) (low_byte (now h)) b) → quicks (code (quick e)) (moves l) (entered e a (high_byte (now h)) (low_byte (now h)) b) ≡ c → ((h' : Since) → Grows h (moves l) 0 h' → Ends (quick e) (pieces (quick e)) c h') → Comes (quick e) (pieces (quick e)) l b h
+pub routine : {e : Edition} {b : Machine} {h : Since} {a : ℕ} (l : Block) → Entered (quick e) a b (now h) → (c : Machine) → AllGood (code (quick e)) (calm_top e) (moves l) (entered e a (high_byte (now h)) (low_byte (now h)) b) → quicks (code (quick e)) (moves l) (entered e a (high_byte (now h)) (low_byte (now h)) b) ≡ c → ((h' : Since) → Grows h (moves l) 0 h' → Ends (quick e) (calm_pieces (quick e)) c h') → Comes (quick e) (calm_pieces (quick e)) l b h
 routine {e = e} {b = b} l o c good is ends =
     record {
       runs = ready o.holds;
       awake = o.holds.awake;
       some = some l;
       end = c;
-      reaches = reaches_from (code (quick e)) (moves l) b _ c (is_entered o) (reaches_in (code (quick e)) (moves l) _ c good is);
+      reaches = reaches_from (code (quick e)) (calm_top e) (moves l) b _ c (is_entered o) (reaches_in (code (quick e)) (calm_top e) (moves l) _ c good is);
       ends = ends;
     }

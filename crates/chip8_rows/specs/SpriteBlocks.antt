@@ -313,6 +313,19 @@ IsWaited (LineRight r) = Unit {0}
 IsWaited Drawn = Unit {0}
 IsWaited _ = ⊥
 
+-- the other ones, of 00E0 and DXYN before they wait
+abbrev pub IsEarly : SpriteBlock → Type 0
+IsEarly (Wipe k) = ⊥
+IsEarly (Wipe3 k) = ⊥
+IsEarly (Wipe6 k) = ⊥
+IsEarly (Wiped k) = ⊥
+IsEarly Cleared = ⊥
+IsEarly (Line r) = ⊥
+IsEarly (LineLeft r) = ⊥
+IsEarly (LineRight r) = ⊥
+IsEarly Drawn = ⊥
+IsEarly _ = Unit {0}
+
 -- where a block's instructions begin, and where a place's one does
 abbrev pub sprite_addresses : SpriteBlock → List ℕ
 sprite_addresses Clear = from at_clear (0 ∷ 2 ∷ 3 ∷ 5 ∷ 6 ∷ [])

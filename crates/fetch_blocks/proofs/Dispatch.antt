@@ -24,7 +24,7 @@ use Rattle.chip8_rows.specs.MemoryBlocks.MemoryBlock.{Index}
 use Rattle.chip8_rows.specs.SpriteBlocks.SpriteBlock.{Draw}
 use Rattle.chip8_rows.specs.TimerBlocks.TimerBlock.{Random}
 use Rattle.chip8_rows.specs.KeyBlocks.KeyBlock.{KeySkip}
-use Rattle.chip8_rows.specs.Table.{pieces}
+use Rattle.chip8_rows.specs.Table.{calm_pieces, calm_top}
 use Rattle.chip8_rows.specs.Table.Block.{OfFetch}
 use Rattle.chip8_rows.proofs.Digits.{by_digit}
 use Rattle.chip8_rows.proofs.Bytes.{both, quick, memory_end_is, stack_top_is, page_fits}
@@ -84,9 +84,9 @@ module _ (e : Edition) (b : Machine) (h : Since) (f : FitsMachine b) (o : Fetchi
   entered : Machine
   entered = quicks (code (quick e)) 32 (on_4 (word_of at_inside) b)
 
-  reaches : Reaches (code (quick e)) 32 b entered
+  reaches : Reaches (code (quick e)) (calm_top e) 32 b entered
   unfolding entered
-  reaches = reaches_from (code (quick e)) 32 b _ _ (is_on_4 o) (reaches_in (code (quick e)) 32 _ _ (omega (arith, o.holds.stack, stack_top_is e, page_fits e, pc, one_on, is_inside e (now h) ins)) refl)
+  reaches = reaches_from (code (quick e)) (calm_top e) 32 b _ _ (is_on_4 o) (reaches_in (code (quick e)) (calm_top e) 32 _ _ (omega (arith, o.holds.stack, stack_top_is e, page_fits e, pc, one_on, is_inside e (now h) ins)) refl)
 
   -- RD.0 at the table
   offset : ℕ
@@ -133,8 +133,8 @@ module _ (e : Edition) (b : Machine) (h : Since) (f : FitsMachine b) (o : Fetchi
   calm : is_event (code (quick e)) entered ≡ false
   calm = let o = enters (high / 16) refl in rw (o.entered.p, o.entered.r3) (no_halt (high / 16) digit_fits)
 
-  ends : (h' : Since) → Grows h 32 0 h' → Ends (quick e) (pieces (quick e)) entered h'
-  ends h' g = by_digit (λ d. high / 16 ≡ d → Ends (quick e) (pieces (quick e)) entered h')
+  ends : (h' : Since) → Grows h 32 0 h' → Ends (quick e) (calm_pieces (quick e)) entered h'
+  ends h' g = by_digit (λ d. high / 16 ≡ d → Ends (quick e) (calm_pieces (quick e)) entered h')
       (λ is. to_jump (quick e) g entered calm System (enters 0 is) (omega (arith, spent, g.spent)))
       (λ is. to_jump (quick e) g entered calm JumpTo (enters 1 is) (omega (arith, spent, g.spent)))
       (λ is. to_jump (quick e) g entered calm Call (enters 2 is) (omega (arith, spent, g.spent)))
@@ -148,10 +148,10 @@ module _ (e : Edition) (b : Machine) (h : Since) (f : FitsMachine b) (o : Fetchi
       (λ is. to_memory (quick e) g entered calm Index (enters 10 is) (omega (arith, spent, g.spent)))
       (λ is. to_jump (quick e) g entered calm JumpPlus (enters 11 is) (omega (arith, spent, g.spent)))
       (λ is. to_timer (quick e) g entered calm Random (enters 12 is) (omega (arith, spent, g.spent)))
-      (λ is. to_sprite (quick e) g entered calm Draw (enters 13 is) (omega (arith, spent, g.spent)))
+      (λ is. to_sprite (quick e) g entered calm Draw tt (enters 13 is) (omega (arith, spent, g.spent)))
       (λ is. to_key (quick e) g entered calm KeySkip (enters 14 is) (omega (arith, spent, g.spent)))
       (λ is. to_fetch (quick e) g entered calm (Misc 0) (enters 15 is, λ j k. absurd (omega (arith, k)), omega arith) (omega (arith, spent, g.spent)))
       (high / 16) digit_fits refl
 
-  pub inside_comes : Comes (quick e) (pieces (quick e)) (OfFetch Inside) b h
+  pub inside_comes : Comes (quick e) (calm_pieces (quick e)) (OfFetch Inside) b h
   inside_comes = record { runs = ready o.holds; awake = o.holds.awake; some = omega arith; end = entered; reaches = reaches; ends = ends }

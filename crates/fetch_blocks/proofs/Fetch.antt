@@ -15,7 +15,7 @@ use Rattle.rom_law.proofs.Places.{pc_is}
 use Rattle.rom_law.proofs.Kept.{Comes}
 use Rattle.chip8_rows.specs.Heads.{page_of, Fetching}
 use Rattle.chip8_rows.specs.FetchBlocks.FetchBlock.{Fetch, Upper, Inside, Outside}
-use Rattle.chip8_rows.specs.Table.{pieces}
+use Rattle.chip8_rows.specs.Table.{calm_pieces, calm_top}
 use Rattle.chip8_rows.specs.Table.Block.{OfFetch}
 use Rattle.chip8_rows.proofs.Bytes.{quick, memory_end_is, page_fits}
 use Rattle.chip8_rows.proofs.Entry.{ready, on_4, is_on_4}
@@ -37,19 +37,19 @@ module _ (e : Edition) (b : Machine) (h : Since) (f : FitsMachine b) (o : Fetchi
   end : Word → Machine
   end a = on_4 a (quicks (code (quick e)) 3 (on_4 (word_of at_fetch) b))
 
-  reaches : (a : Word) → cond (not ((b.regs.r.r5.hi + 256 - 2) / 256 == 1)) (word_of at_outside) (word_of at_upper) ≡ a → Reaches (code (quick e)) 3 b (end a)
+  reaches : (a : Word) → cond (not ((b.regs.r.r5.hi + 256 - 2) / 256 == 1)) (word_of at_outside) (word_of at_upper) ≡ a → Reaches (code (quick e)) (calm_top e) 3 b (end a)
   unfolding end
-  reaches a i = reaches_from (code (quick e)) 3 b _ _ (is_on_4 o) (reaches_in (code (quick e)) 3 _ _ (omega arith) (λ j. on_4 (i j) (quicks (code (quick e)) 3 (on_4 (word_of at_fetch) b))))
+  reaches a i = reaches_from (code (quick e)) (calm_top e) 3 b _ _ (is_on_4 o) (reaches_in (code (quick e)) (calm_top e) 3 _ _ (omega arith) (λ j. on_4 (i j) (quicks (code (quick e)) 3 (on_4 (word_of at_fetch) b))))
 
   fetching : (a : ℕ) → Fetching (quick e) a (end (word_of a)) (now h)
   unfolding end
   fetching a = record { holds = o.holds; p = refl; r4 = refl }
 
-  pub fetch_comes : Comes (quick e) (pieces (quick e)) (OfFetch Fetch) b h
+  pub fetch_comes : Comes (quick e) (calm_pieces (quick e)) (OfFetch Fetch) b h
   unfolding end
   fetch_comes = go (cases_lt (now h).pc 0x200)
     where
-      go : ((now h).pc < 0x200) ⊎ (0x200 ≤ (now h).pc) → Comes (quick e) (pieces (quick e)) (OfFetch Fetch) b h
+      go : ((now h).pc < 0x200) ⊎ (0x200 ≤ (now h).pc) → Comes (quick e) (calm_pieces (quick e)) (OfFetch Fetch) b h
       go (inl l) = record {
         runs = ready o.holds;
         awake = o.holds.awake;
@@ -80,9 +80,9 @@ module _ (e : Edition) (b : Machine) (h : Since) (f : FitsMachine b) (o : Fetchi
   checked : Word → Machine
   checked a = on_4 a (quicks (code (quick e)) 5 (on_4 (word_of at_upper) b))
 
-  check_reaches : (a : Word) → cond (not (carry == 1)) (word_of at_outside) (word_of at_inside) ≡ a → Reaches (code (quick e)) 5 b (checked a)
+  check_reaches : (a : Word) → cond (not (carry == 1)) (word_of at_outside) (word_of at_inside) ≡ a → Reaches (code (quick e)) (calm_top e) 5 b (checked a)
   unfolding checked carry
-  check_reaches a i = reaches_from (code (quick e)) 5 b _ _ (is_on_4 o) (reaches_in (code (quick e)) 5 _ _ (omega arith) (λ j. on_4 (i j) (quicks (code (quick e)) 5 (on_4 (word_of at_upper) b))))
+  check_reaches a i = reaches_from (code (quick e)) (calm_top e) 5 b _ _ (is_on_4 o) (reaches_in (code (quick e)) (calm_top e) 5 _ _ (omega arith) (λ j. on_4 (i j) (quicks (code (quick e)) 5 (on_4 (word_of at_upper) b))))
 
   checking : (a : ℕ) → Fetching (quick e) a (checked (word_of a)) (now h)
   unfolding checked
@@ -96,11 +96,11 @@ module _ (e : Edition) (b : Machine) (h : Since) (f : FitsMachine b) (o : Fetchi
   unfolding carry
   low_enough l = omega (arith, l, pc2, memory_end_is e, page_fits e, f.regs.r.r5.lo, f.regs.r.r5.hi)
 
-  pub upper_comes : Comes (quick e) (pieces (quick e)) (OfFetch Upper) b h
+  pub upper_comes : Comes (quick e) (calm_pieces (quick e)) (OfFetch Upper) b h
   unfolding checked
   upper_comes = go (cases_lt (memory_end e) ((now h).pc + 2))
     where
-      go : (memory_end e < (now h).pc + 2) ⊎ ((now h).pc + 2 ≤ memory_end e) → Comes (quick e) (pieces (quick e)) (OfFetch Upper) b h
+      go : (memory_end e < (now h).pc + 2) ⊎ ((now h).pc + 2 ≤ memory_end e) → Comes (quick e) (calm_pieces (quick e)) (OfFetch Upper) b h
       go (inl l) = record {
         runs = ready o.holds;
         awake = o.holds.awake;

@@ -4,7 +4,7 @@ use Rattle.machine.specs.Ranges.{FitsMachine}
 use Rattle.chip8_lang.specs.declared.view.Edition.{Edition}
 use Rattle.chip8_rows.specs.FetchBlocks.{FetchBlock}
 use Rattle.chip8_rows.specs.FetchBlocks.FetchBlock.{Fetch, Upper, Inside, Outside, Misc, Unknown83, Leave, Stop, Stopped}
-use Rattle.chip8_rows.specs.Table.{Head, pieces}
+use Rattle.chip8_rows.specs.Table.{Head, calm_pieces}
 use Rattle.chip8_rows.specs.Table.Block.{OfFetch}
 use Rattle.rom_law.specs.Rows.{Since}
 use Rattle.rom_law.proofs.Kept.{Comes}
@@ -16,7 +16,7 @@ use Rattle.fetch_blocks.proofs.Dispatch.{inside_comes}
 use Rattle.fetch_blocks.proofs.Misc.{misc_comes, unknown_comes}
 use Rattle.fetch_blocks.proofs.Stops.{outside_comes, leave_comes, stop_comes, stopped_comes}
 
-pub fetch_block : (e : Edition) (l : FetchBlock) (b : Machine) (h : Since) → FitsMachine b → Head (quick e) (OfFetch l) b h → Comes (quick e) (pieces (quick e)) (OfFetch l) b h
+pub fetch_block : (e : Edition) (l : FetchBlock) (b : Machine) (h : Since) → FitsMachine b → Head (quick e) (OfFetch l) b h → Comes (quick e) (calm_pieces (quick e)) (OfFetch l) b h
 fetch_block e Fetch b h f o = fetch_comes e b h f o.0 o.1
 fetch_block e Upper b h f o = upper_comes e b h f o.0.0 o.0.1 o.1
 fetch_block e Inside b h f o = inside_comes e b h f o.0.0 o.0.1 o.1

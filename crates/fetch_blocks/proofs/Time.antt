@@ -19,6 +19,7 @@ use Rattle.chip8_rows.specs.FetchBlocks.FetchBlock.{Fetch, Upper, Inside, Outsid
 use Rattle.chip8_rows.specs.Table.{pieces}
 use Rattle.chip8_rows.specs.Table.Block.{OfFetch}
 use Rattle.chip8_rows.proofs.Bytes.{both, both_is, quick}
+use Rattle.chip8_rows.proofs.Calm.{comes_calm}
 use Rattle.chip8_rows.proofs.Entry.{on_4, is_on_4, on_3, is_on_3}
 use Rattle.chip8_rows.proofs.Later.{ticks_fetchable}
 use Rattle.chip8_rows.proofs.Sounds.{sound}
@@ -53,7 +54,7 @@ TimeBy e rom l =
 
 module _ (e : Edition) {l : FetchBlock} (u : Input) (b : Machine) (h : Since) (r : InBlock (quick e) (pieces (quick e)) (OfFetch l) b h) where
   comes : Comes (quick e) (pieces (quick e)) (OfFetch l) r.start r.since
-  comes = fetch_block e l r.start r.since r.fits r.head
+  comes = comes_calm (fetch_block e l r.start r.since r.fits r.head)
 
   -- where the block's machines have P = 3, P isn't 4
   late : (c : Machine) (m : ℕ) → r.start ≡ c → stays (code (quick e)) 3 m c ≡ true → r.k < m → b.regs.p ≡ 4 → ⊥

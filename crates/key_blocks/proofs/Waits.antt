@@ -25,7 +25,7 @@ use Rattle.chip8_rows.specs.Heads.{high_byte, low_byte, page_of, Enters}
 use Rattle.chip8_rows.specs.KeyBlocks.{Last, Turned, Waiting, Turning}
 use Rattle.chip8_rows.specs.KeyBlocks.KeyBlock.{WaitKey, KeyNext, KeyCount, KeyFreed}
 use Rattle.chip8_rows.specs.KeyBlocks.KeyPlace.{KeyTest, KeyHeld}
-use Rattle.chip8_rows.specs.Table.{At, pieces}
+use Rattle.chip8_rows.specs.Table.{At, calm_pieces}
 use Rattle.chip8_rows.specs.Table.Block.{OfKey}
 use Rattle.chip8_rows.specs.Table.Place.{AtKey}
 use Rattle.chip8_rows.proofs.Alone.{alone_forks, one_more}
@@ -73,7 +73,7 @@ module _ (e : Edition) (b : Machine) (h : Since) (f : FitsMachine b) where
   waits_in : {a : ℕ} (w : ℕ) (c : Machine) → Waiting (quick e) a b (now h) → Holding (quick e) (places c) (next (now h)) → c.regs.p ≡ 3 → c.regs.r.r3 ≡ word_of w → c.regs.r.r4 ≡ word_of at_fetch → c.regs.r.r6 ≡ word (page_of e) (240 + high % 16) → c.regs.r.r7 ≡ word (page_of e) (240 + low / 16) → c.regs.r.rc ≡ word high low → Waiting (quick e) w c (now h)
   waits_in w c o holds p r3 r4 r6 r7 rc = record { enters = record { entered = record { holds = holds; inside = o.enters.entered.inside; p = p; r3 = r3; r4 = r4; r6 = r6; r7 = r7; rc = rc }; digit = o.enters.digit }; low = o.low }
 
-  pub wait_key_comes : Enters (quick e) at_wait_key 15 b (now h) → low ≡ 0x0a → h.spent ≡ 92 → Comes (quick e) (pieces (quick e)) (OfKey WaitKey) b h
+  pub wait_key_comes : Enters (quick e) at_wait_key 15 b (now h) → low ≡ 0x0a → h.spent ≡ 92 → Comes (quick e) (calm_pieces (quick e)) (OfKey WaitKey) b h
   wait_key_comes o kk spent = routine (OfKey WaitKey) o.entered _ (omega arith) refl
       (λ h' g. to_key (quick e) g _ refl (KeyNext 0) (record { waiting = waits_in at_key_next _ (record { enters = o; low = kk }) o.entered.holds refl refl refl refl refl refl; count = refl; pointer = refl; rd = refl }, no_turns h'.keys) (omega (arith, spent, g.spent)))
 
@@ -95,7 +95,7 @@ module _ (e : Edition) (b : Machine) (h : Since) (f : FitsMachine b) where
   words : (w : Word) (p l : ℕ) → w.hi ≡ p → w.lo ≡ l → w ≡ word p l
   words w p l hi lo = λ i. record { hi = hi i; lo = lo i }
 
-  pub key_next_comes : (turn : ℕ) → Turning (quick e) turn at_key_next b (now h) → Turned turn 0 h.keys → h.spent ≡ 106 + 14 * turn → Comes (quick e) (pieces (quick e)) (OfKey (KeyNext turn)) b h
+  pub key_next_comes : (turn : ℕ) → Turning (quick e) turn at_key_next b (now h) → Turned turn 0 h.keys → h.spent ≡ 106 + 14 * turn → Comes (quick e) (calm_pieces (quick e)) (OfKey (KeyNext turn)) b h
   key_next_comes turn o t spent = straight (OfKey (KeyNext turn)) o.waiting.enters.entered.holds (turning e at_key_next high low b) (is_turning o) _ (omega (arith, o.waiting.enters.entered.holds.stack, stack_top_is e, page_fits e)) refl
       (λ h' g. to_key_place (quick e) g _ refl (KeyTest turn) (record { waiting = waits_in at_key_test _ o.waiting (work_set o.waiting.enters.entered.holds work b.regs.r.re.lo above below) refl refl refl refl refl refl; count = o.count; pointer = refl; rd = words _ (page_of e) 0xd0 (omega (arith, page_fits e)) refl }, sent o, turned_grown g t) (omega (arith, spent, g.spent)))
 
@@ -115,12 +115,12 @@ module _ (e : Edition) (b : Machine) (h : Since) (f : FitsMachine b) where
   digit_of : {turn a : ℕ} → Turning (quick e) turn a b (now h) → turn % 16 ≡ b.regs.r.re.lo % 16
   digit_of o = omega (arith, o.count)
 
-  pub key_test_holds : (turn : ℕ) → Turning (quick e) turn at_key_test b (now h) → b.key ≡ turn % 16 → Turned turn 4 h.keys → At (quick e) (AtKey (KeyTest turn)) b h → h.spent ≡ 114 + 14 * turn → Holds (quick e) (pieces (quick e)) (AtKey (KeyTest turn)) b h
+  pub key_test_holds : (turn : ℕ) → Turning (quick e) turn at_key_test b (now h) → b.key ≡ turn % 16 → Turned turn 4 h.keys → At (quick e) (AtKey (KeyTest turn)) b h → h.spent ≡ 114 + 14 * turn → Holds (quick e) (calm_pieces (quick e)) (AtKey (KeyTest turn)) b h
   key_test_holds turn o key t at spent = alone_forks (AtKey (KeyTest turn)) f at o.waiting.enters.entered.holds (turning e at_key_test high low b) (is_turning o) refl refl gone (λ u. u.held b.key) at_key_held at_key_count (λ u. refl)
       (λ u k. to_key_place (quick e) (one_more u h) _ refl KeyHeld (waits_on at_key_held o, key ∙ digit_of o, last_set h.keys u.held (b.regs.r.re.lo % 16) true (ap u.held (sym (key ∙ digit_of o)) ∙ k)) tt)
       (λ u k. to_key (quick e) (one_more u h) _ refl (KeyCount turn) (turns_on at_key_count o, turned_test u h t, last_set h.keys u.held (turn % 16) false (ap u.held (sym key) ∙ k)) (omega (arith, spent)))
 
-  pub key_count_comes : (turn : ℕ) → Turning (quick e) turn at_key_count b (now h) → Turned turn 5 h.keys → Last h.keys (turn % 16) false → h.spent ≡ 116 + 14 * turn → Comes (quick e) (pieces (quick e)) (OfKey (KeyCount turn)) b h
+  pub key_count_comes : (turn : ℕ) → Turning (quick e) turn at_key_count b (now h) → Turned turn 5 h.keys → Last h.keys (turn % 16) false → h.spent ≡ 116 + 14 * turn → Comes (quick e) (calm_pieces (quick e)) (OfKey (KeyCount turn)) b h
   key_count_comes turn o t last spent = straight (OfKey (KeyCount turn)) o.waiting.enters.entered.holds (turning e at_key_count high low b) (is_turning o) _ (omega arith) refl
       (λ h' g. to_key (quick e) g _ refl (KeyNext (suc turn)) (record { waiting = waits_in at_key_next _ o.waiting o.waiting.enters.entered.holds refl refl refl refl refl refl; count = counts; pointer = refl; rd = refl }, turned_on turn g t last) (omega (arith, spent, g.spent)))
     where
@@ -143,7 +143,7 @@ module _ (e : Edition) (b : Machine) (h : Since) (f : FitsMachine b) where
       up : Last (h.keys ++ u.held ∷ []) k false
       up = last_set h.keys u.held k false is
 
-  pub key_held_holds : Waiting (quick e) at_key_held b (now h) → b.key ≡ b.regs.r.re.lo % 16 → Last h.keys (b.regs.r.re.lo % 16) true → At (quick e) (AtKey KeyHeld) b h → Holds (quick e) (pieces (quick e)) (AtKey KeyHeld) b h
+  pub key_held_holds : Waiting (quick e) at_key_held b (now h) → b.key ≡ b.regs.r.re.lo % 16 → Last h.keys (b.regs.r.re.lo % 16) true → At (quick e) (AtKey KeyHeld) b h → Holds (quick e) (calm_pieces (quick e)) (AtKey KeyHeld) b h
   key_held_holds o key last at = alone_forks (AtKey KeyHeld) f at o.enters.entered.holds (entered e at_key_held high low b) (is_entered o.enters.entered) refl refl waiting (λ u. u.held b.key) at_key_held at_key_freed (λ u. refl)
       (λ u k. to_key_place (quick e) (one_more u h) _ refl KeyHeld (waits_more at_key_held o, key, last_set h.keys u.held (b.regs.r.re.lo % 16) true (ap u.held (sym key) ∙ k)) tt)
       (λ u k. to_key (quick e) (one_more u h) _ refl KeyFreed (waits_more at_key_freed o, lets_go u (omega arith) last (ap u.held (sym key) ∙ k), last_set h.keys u.held (b.regs.r.re.lo % 16) false (ap u.held (sym key) ∙ k)) tt)
@@ -153,7 +153,7 @@ module _ (e : Edition) (b : Machine) (h : Since) (f : FitsMachine b) where
   abbrev put : ℕ → Places
   put v = record (places b) { ram = written b.latch b.ram (value (word (page_of e) (240 + high % 16))) v }
 
-  pub key_freed_comes : Waiting (quick e) at_key_freed b (now h) → LetGo h.keys (b.regs.r.re.lo % 16) → Comes (quick e) (pieces (quick e)) (OfKey KeyFreed) b h
+  pub key_freed_comes : Waiting (quick e) at_key_freed b (now h) → LetGo h.keys (b.regs.r.re.lo % 16) → Comes (quick e) (calm_pieces (quick e)) (OfKey KeyFreed) b h
   key_freed_comes o freed = routine (OfKey KeyFreed) o.enters.entered _ (omega (arith, o.enters.entered.holds.stack, stack_top_is e, page_fits e)) refl
       (λ h' g. steps_with e g (IsWaitKey (high % 16)) is runs (Chosen (b.regs.r.re.lo % 16)) (let_go_grown g freed) tt _ puts refl refl)
     where

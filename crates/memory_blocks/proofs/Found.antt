@@ -15,7 +15,7 @@ use Rattle.rom_law.proofs.Kept.{Comes}
 use Rattle.chip8_rows.specs.Heads.{high_byte, page_of}
 use Rattle.chip8_rows.specs.FetchBlocks.FetchBlock.{Leave}
 use Rattle.chip8_rows.specs.Checks.{Caller, return_of, Answer, answer_number, Checked}
-use Rattle.chip8_rows.specs.Table.{Block, moves, pieces}
+use Rattle.chip8_rows.specs.Table.{Block, moves, calm_pieces, calm_top}
 use Rattle.chip8_rows.proofs.Bytes.{quick}
 use Rattle.chip8_rows.proofs.Follows.{to_fetch}
 use Rattle.chip8_rows.proofs.Ways.{reached}
@@ -33,5 +33,5 @@ module _ {e : Edition} {b : Machine} {c : Caller} {answer : Answer} where
   is_resumed o = λ j. record b { regs = record b.regs { d = o.d j; p = o.p j; r = record b.regs.r { r3 = o.r3 j; r4 = o.called.r4 j; r6 = o.called.r6 j } } }
 
   -- the bytes may not be used
-  pub refused : {h : Since} (l : Block) (stop : Stop) → Checked (quick e) c answer b (now h) → stop_of e (now h) ≡ Some stop → Reaches (code (quick e)) (moves l) (resumed e c (high_byte (now h)) (answer_number answer) b) (refusing e c (high_byte (now h)) stop b) → h.spent + 2 * moves l ≤ 210 → Comes (quick e) (pieces (quick e)) l b h
+  pub refused : {h : Since} (l : Block) (stop : Stop) → Checked (quick e) c answer b (now h) → stop_of e (now h) ≡ Some stop → Reaches (code (quick e)) (calm_top e) (moves l) (resumed e c (high_byte (now h)) (answer_number answer) b) (refusing e c (high_byte (now h)) stop b) → h.spent + 2 * moves l ≤ 210 → Comes (quick e) (calm_pieces (quick e)) l b h
   refused l stop o fits reaches spent = reached l o.called.holds _ (is_resumed o) _ reaches (λ h' g. to_fetch (quick e) g _ refl (Leave 2) (record { holds = o.called.holds; p = refl; r3 = refl; stop = stop; fits = fits; number = refl }, omega arith) (omega (arith, spent, g.spent)))

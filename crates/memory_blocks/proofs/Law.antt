@@ -6,7 +6,7 @@ use Rattle.rom_law.specs.Rows.{Since}
 use Rattle.rom_law.proofs.Kept.{Comes}
 use Rattle.chip8_rows.specs.MemoryBlocks.{MemoryBlock}
 use Rattle.chip8_rows.specs.MemoryBlocks.MemoryBlock.{Index, AddIndex, Digit, Check, CheckGame, CheckFont, CheckLow, Answering, Decimal, DecimalFound, Hundreds, HundredsEnd, Tens, TensEnd, Store, StoreFound, StoreByte, StoreEnd, Restore, RestoreFound, RestoreByte, RestoreEnd}
-use Rattle.chip8_rows.specs.Table.{Head, pieces}
+use Rattle.chip8_rows.specs.Table.{Head, calm_pieces}
 use Rattle.chip8_rows.specs.Table.Block.{OfMemory}
 use Rattle.chip8_rows.proofs.Bytes.{quick}
 use Rattle.chip8_rows.proofs.Sounds.{block_rows}
@@ -16,7 +16,7 @@ use Rattle.memory_blocks.proofs.Check.{check_comes, check_game_comes, check_font
 use Rattle.memory_blocks.proofs.Decimal.{decimal_comes, decimal_found_comes, hundreds_comes, hundreds_end_comes, tens_comes, tens_end_comes}
 use Rattle.memory_blocks.proofs.Copies.{store_comes, store_found_comes, store_byte_comes, store_end_comes, restore_comes, restore_found_comes, restore_byte_comes, restore_end_comes}
 
-pub memory_block : (e : Edition) (l : MemoryBlock) (b : Machine) (h : Since) → FitsMachine b → Head (quick e) (OfMemory l) b h → Comes (quick e) (pieces (quick e)) (OfMemory l) b h
+pub memory_block : (e : Edition) (l : MemoryBlock) (b : Machine) (h : Since) → FitsMachine b → Head (quick e) (OfMemory l) b h → Comes (quick e) (calm_pieces (quick e)) (OfMemory l) b h
 memory_block e Index b h f o = index_comes e b h f o.0
 memory_block e AddIndex b h f o = add_index_comes e b h f o.0.0 o.0.1
 memory_block e Digit b h f o = digit_comes e b h f o.0.0 o.0.1

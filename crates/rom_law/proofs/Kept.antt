@@ -1,5 +1,5 @@
 -- The rows of a ROM are kept by main moves and by ticks, where each block comes to what it should.
-use Rattle.std.proofs.Common.{◌≡◌, ℕ, zero, suc, ◌+◌, ◌*◌, ◌<◌, ◌≤◌, ◌⊎◌, inl, inr, refl, sym, ◌∙◌, ap, subst, arith, Bool, true, false, T, not, List, [], ◌∷◌, ◌++◌, length}
+use Rattle.std.proofs.Common.{Option, Some, slice_index, ◌≡◌, ℕ, zero, suc, ◌+◌, ◌*◌, ◌<◌, ◌≤◌, ◌⊎◌, inl, inr, refl, sym, ◌∙◌, ap, subst, arith, Bool, true, false, T, not, List, [], ◌∷◌, ◌++◌, length}
 use Rattle.std.proofs.lemmas.Bool.{cases_eq}
 use Rattle.machine.specs.Bank.{value}
 use Rattle.machine.specs.Opcodes.{cycles_of}
@@ -13,7 +13,7 @@ use Rattle.chip8_lang.specs.Ticks.{ticks}
 use Rattle.chip8_lang.specs.Between.{Between}
 use Rattle.rom_moves.specs.Code.{Code, Input, moved, run, is_event}
 use Rattle.rom_moves.specs.Later.{After}
-use Rattle.rom_moves.proofs.Moves.{AllGood, Calm, Fine, quicks, Reaches, reaches_good, reaches_run, reaches_quicks, quicks_are, quicks_idle, quicks_clear, quicks_full, quicks_on, quicks_enabled, quicks_entry, after_quick, after_counter, after_cycles}
+use Rattle.rom_moves.proofs.Moves.{AllGood, Calm, Fine, quicks, Reaches, reaches_good, reaches_run, reaches_quicks, quicks_are, quicks_idle, quicks_clear, quicks_full, quicks_on, quicks_enabled, quicks_entry, quicks_above, after_quick, after_counter, after_cycles}
 use Rattle.machine.proofs.Fits.{main-fits}
 use Rattle.rom_moves.proofs.Ranges.{tick_fits}
 use Rattle.rom_moves.proofs.Ticks.{after_none}
@@ -32,32 +32,33 @@ use Rattle.rom_law.proofs.Later.{dispatches_after, halts_after}
 none : (k : ℕ) → k ≤ 0 → 0 ≡ k
 none k l = omega arith
 
-module _ (x : Code) where
+module _ (x : Code) (top : Option ℕ) where
   -- the first k of m moves
-  prefix : (k m : ℕ) (b : Machine) → k ≤ m → AllGood x m b → AllGood x k b
-  prefix k zero b l g = subst (λ z. AllGood x z b) (none k l) tt
+  prefix : (k m : ℕ) (b : Machine) → k ≤ m → AllGood x top m b → AllGood x top k b
+  prefix k zero b l g = subst (λ z. AllGood x top z b) (none k l) tt
   prefix k (suc m) b l g = go (cases_eq k (suc m)) (λ e. prefix k m b e g.0)
     where
-      go : (k ≡ suc m) ⊎ (k ≡ suc m → ⊥) → (k ≤ m → AllGood x k b) → AllGood x k b
-      go (inl e) f = subst (λ z. AllGood x z b) (sym e) g
+      go : (k ≡ suc m) ⊎ (k ≡ suc m → ⊥) → (k ≤ m → AllGood x top k b) → AllGood x top k b
+      go (inl e) f = subst (λ z. AllGood x top z b) (sym e) g
       go (inr e) f = f (omega arith)
 
-  pub at_move : (k m : ℕ) (b : Machine) → k < m → AllGood x m b → Fine x (quicks x k b)
+  pub at_move : (k m : ℕ) (b : Machine) → k < m → AllGood x top m b → Fine x (quicks x k b)
   at_move k m b l g = (prefix (suc k) m b l g).1.0
 
   -- no event between
-  calm_in : (k m : ℕ) (b : Machine) → suc k < m → AllGood x m b → Calm x (quicks x (suc k) b)
+  calm_in : (k m : ℕ) (b : Machine) → suc k < m → AllGood x top m b → Calm x (quicks x (suc k) b)
   calm_in k m b l g = (prefix (suc (suc k)) m b l g).1.1
 
-  run_is : (k m : ℕ) (b : Machine) → k ≤ m → AllGood x m b → quicks x k b ≡ run x k b
-  run_is k m b l g = quicks_are x k b (prefix k m b l g)
+  run_is : (k m : ℕ) (b : Machine) → k ≤ m → AllGood x top m b → quicks x k b ≡ run x k b
+  run_is k m b l g = quicks_are x top k b (prefix k m b l g)
 
   -- a main move of a state after n ticks of the k-th state is one of the next
-  moved_in : (u : Input) (k m n : ℕ) (start b : Machine) → start.latch ≡ false → length start.ram ≡ 4096 → AllGood x m start → k < m → After x.low n (run x k start) b → After x.low n (run x (suc k) start) (moved x u b)
+  moved_in : (u : Input) (k m n : ℕ) (start b : Machine) → start.latch ≡ false → length start.ram ≡ 4096 → AllGood x top m start → k < m → After x.low n (run x k start) b → After x.low n (run x (suc k) start) (moved x u b)
   moved_in u k m n start b clear full g l h =
       subst (λ z. After x.low n z (moved x u b)) (run_is (suc k) m start l g)
       (after_quick x u n (quicks x k start) b (at_move k m start l g) (quicks_clear x k start clear) (quicks_full x k start full) (subst (λ z. After x.low n z b) (sym (run_is k m start (omega arith) g)) h))
 
+module _ (x : Code) where
   run_fits : FitsRom x.rom → (k : ℕ) (b : Machine) → FitsMachine b → FitsMachine (run x k b)
   run_fits r zero b f = f
   run_fits r (suc k) b f = main-fits x.rom r false (λ k. false) (run x k b) (run_fits r k b f)
@@ -75,7 +76,7 @@ pub record Comes (x : Program) (t : Pieces) (l : t.Block) (b : Machine) (h : Sin
   pub awake : b.regs.idle ≡ false
   pub some : 0 < t.moves l h
   pub end : Machine
-  pub reaches : Reaches (code x) (t.moves l h) b end
+  pub reaches : Reaches (code x) t.top (t.moves l h) b end
   pub ends : (h' : Since) → Grows h (t.moves l h) 0 h' → Ends x t end h'
 
 -- At a place main code runs or waits. Where it runs, a main move of two cycles comes to a next piece, a dispatch or a stop, and what is
@@ -183,30 +184,30 @@ module _ (x : Program) (t : Pieces) (sound : Sound x t) where
       })
 
   module _ {l : t.Block} {b : Machine} {h : Since} (r : InBlock x t l b h) (comes : Comes x t l r.start r.since) where
-    pub good : AllGood (code x) (t.moves l r.since) r.start
-    good = reaches_good (code x) (t.moves l r.since) r.start comes.end comes.reaches
+    pub good : AllGood (code x) t.top (t.moves l r.since) r.start
+    good = reaches_good (code x) t.top (t.moves l r.since) r.start comes.end comes.reaches
 
     is_quicks : quicks (code x) r.k r.start ≡ run (code x) r.k r.start
-    is_quicks = run_is (code x) r.k (t.moves l r.since) r.start (omega (arith, r.inside)) good
+    is_quicks = run_is (code x) t.top r.k (t.moves l r.since) r.start (omega (arith, r.inside)) good
 
-    good_k : AllGood (code x) r.k r.start
-    good_k = prefix (code x) r.k (t.moves l r.since) r.start (omega (arith, r.inside)) good
+    good_k : AllGood (code x) t.top r.k r.start
+    good_k = prefix (code x) t.top r.k (t.moves l r.since) r.start (omega (arith, r.inside)) good
 
     -- main code runs inside a block
     awake_in : b.regs.idle ≡ false
-    awake_in = ap (λ (z : Machine). z.regs.idle) r.after.is ∙ sym (ap (λ (z : Machine). z.regs.idle) is_quicks) ∙ quicks_idle (code x) r.k r.start good_k ∙ comes.awake
+    awake_in = ap (λ (z : Machine). z.regs.idle) r.after.is ∙ sym (ap (λ (z : Machine). z.regs.idle) is_quicks) ∙ quicks_idle (code x) t.top r.k r.start good_k ∙ comes.awake
 
     block_runs : Ready x b
     block_runs =
         record {
           latch = ap (λ (z : Machine). z.latch) r.after.is ∙ sym (ap (λ (z : Machine). z.latch) is_quicks) ∙ quicks_clear (code x) r.k r.start comes.runs.latch;
-          enabled = ap (λ (z : Machine). z.regs.ie) r.after.is ∙ sym (ap (λ (z : Machine). z.regs.ie) is_quicks) ∙ quicks_enabled (code x) r.k r.start good_k ∙ comes.runs.enabled;
-          entry = ap (λ (z : Machine). z.regs.r.r1) r.after.is ∙ sym (ap (λ (z : Machine). z.regs.r.r1) is_quicks) ∙ quicks_entry (code x) r.k r.start good_k ∙ comes.runs.entry;
-          on = ap (λ (z : Machine). z.on) r.after.is ∙ sym (ap (λ (z : Machine). z.on) is_quicks) ∙ quicks_on (code x) r.k r.start good_k ∙ comes.runs.on;
+          enabled = ap (λ (z : Machine). z.regs.ie) r.after.is ∙ sym (ap (λ (z : Machine). z.regs.ie) is_quicks) ∙ quicks_enabled (code x) t.top r.k r.start good_k ∙ comes.runs.enabled;
+          entry = ap (λ (z : Machine). z.regs.r.r1) r.after.is ∙ sym (ap (λ (z : Machine). z.regs.r.r1) is_quicks) ∙ quicks_entry (code x) t.top r.k r.start good_k ∙ comes.runs.entry;
+          on = ap (λ (z : Machine). z.on) r.after.is ∙ sym (ap (λ (z : Machine). z.on) is_quicks) ∙ quicks_on (code x) t.top r.k r.start good_k ∙ comes.runs.on;
         }
 
     fine : Fine (code x) (quicks (code x) r.k r.start)
-    fine = at_move (code x) r.k (t.moves l r.since) r.start r.inside good
+    fine = at_move (code x) t.top r.k (t.moves l r.since) r.start r.inside good
 
     later : After (code x).low r.n (quicks (code x) r.k r.start) b
     later = subst (λ z. After (code x).low r.n z b) (sym is_quicks) r.after
@@ -223,16 +224,29 @@ module _ (x : Program) (t : Pieces) (sound : Sound x t) where
     pub block_r2 : b.regs.r.r2 ≡ (quicks (code x) r.k r.start).regs.r.r2
     block_r2 = ap (λ (z : Machine). z.regs.r.r2) r.after.is ∙ sym (ap (λ (z : Machine). z.regs.r.r2) is_quicks)
 
+    -- RAM from the top on, above R2, is as it was at the head of the block
+    pub block_above : (top a : ℕ) → t.top ≡ Some top → top ≤ a → value b.regs.r.r2 < a → slice_index b.ram a ≡ slice_index r.start.ram a
+    block_above top a is l above =
+        r.after.ram a (λ k. subst (λ w. value w < a) (block_r2 ∙ ap (λ (z : Machine). z.regs.r.r2) is_quicks) above)
+        ∙ ap (λ (z : Machine). slice_index z.ram a) (sym is_quicks)
+        ∙ quicks_above (code x) top r.k r.start (subst (λ y. AllGood (code x) y r.k r.start) is good_k) a l
+
     -- a main move of a state after n ticks of the k-th state is one of the next
     next : (u : Input) → After (code x).low r.n (run (code x) (suc r.k) r.start) (moved (code x) u b)
-    next u = moved_in (code x) u r.k (t.moves l r.since) r.n r.start b comes.runs.latch r.fits.size good r.inside r.after
+    next u = moved_in (code x) t.top u r.k (t.moves l r.since) r.n r.start b comes.runs.latch r.fits.size good r.inside r.after
+
+    pub block_above_next : (u : Input) (top a : ℕ) → t.top ≡ Some top → top ≤ a → value (moved (code x) u b).regs.r.r2 < a → slice_index (moved (code x) u b).ram a ≡ slice_index r.start.ram a
+    block_above_next u top a is low above =
+        (next u).ram a (λ k. subst (λ w. value w < a) (ap (λ (z : Machine). z.regs.r.r2) (next u).is) above)
+        ∙ ap (λ (z : Machine). slice_index z.ram a) (sym (run_is (code x) t.top (suc r.k) (t.moves l r.since) r.start (omega (arith, r.inside)) good))
+        ∙ quicks_above (code x) top (suc r.k) r.start (subst (λ y. AllGood (code x) y (suc r.k) r.start) is (prefix (code x) t.top (suc r.k) (t.moves l r.since) r.start (omega (arith, r.inside)) good)) a low
 
     -- the number of the program counter, and what it is after a move
     pub block_p : b.regs.p ≡ (quicks (code x) r.k r.start).regs.p
     block_p = ap (λ (z : Machine). z.regs.p) r.after.is ∙ sym (ap (λ (z : Machine). z.regs.p) is_quicks)
 
     pub moved_p : (u : Input) → (moved (code x) u b).regs.p ≡ (quicks (code x) (suc r.k) r.start).regs.p
-    moved_p u = ap (λ (z : Machine). z.regs.p) (next u).is ∙ sym (ap (λ (z : Machine). z.regs.p) (run_is (code x) (suc r.k) (t.moves l r.since) r.start (omega (arith, r.inside)) good))
+    moved_p u = ap (λ (z : Machine). z.regs.p) (next u).is ∙ sym (ap (λ (z : Machine). z.regs.p) (run_is (code x) t.top (suc r.k) (t.moves l r.since) r.start (omega (arith, r.inside)) good))
 
     -- the block's last move
     last : (u : Input) → suc r.k ≡ t.moves l r.since → Outcome x t (moved (code x) u b) (after_main u h)
@@ -245,10 +259,10 @@ module _ (x : Program) (t : Pieces) (sound : Sound x t) where
         grown = grows_main r.since r.k r.n h u r.grows
 
         there : run (code x) (suc r.k) r.start ≡ comes.end
-        there = ap (λ m. run (code x) m r.start) e ∙ reaches_run (code x) (t.moves l r.since) r.start comes.end comes.reaches
+        there = ap (λ m. run (code x) m r.start) e ∙ reaches_run (code x) t.top (t.moves l r.since) r.start comes.end comes.reaches
 
         awake : comes.end.regs.idle ≡ false
-        awake = ap (λ (z : Machine). z.regs.idle) (sym (reaches_quicks (code x) (t.moves l r.since) r.start comes.end comes.reaches)) ∙ quicks_idle (code x) (t.moves l r.since) r.start good ∙ comes.awake
+        awake = ap (λ (z : Machine). z.regs.idle) (sym (reaches_quicks (code x) t.top (t.moves l r.since) r.start comes.end comes.reaches)) ∙ quicks_idle (code x) t.top (t.moves l r.since) r.start good ∙ comes.awake
 
     -- a move inside the block
     within : (u : Input) → (suc r.k ≡ t.moves l r.since → ⊥) → Outcome x t (moved (code x) u b) (after_main u h)
@@ -260,7 +274,7 @@ module _ (x : Program) (t : Pieces) (sound : Sound x t) where
         more = omega (arith, r.inside, e)
 
         calm : is_event (code x) (moved (code x) u b) ≡ false
-        calm = ap (is_event (code x)) (next u).is ∙ ap (is_event (code x)) (sym (run_is (code x) (suc r.k) (t.moves l r.since) r.start (omega (arith, r.inside)) good)) ∙ quiet _ (calm_in (code x) r.k (t.moves l r.since) r.start more good)
+        calm = ap (is_event (code x)) (next u).is ∙ ap (is_event (code x)) (sym (run_is (code x) t.top (suc r.k) (t.moves l r.since) r.start (omega (arith, r.inside)) good)) ∙ quiet _ (calm_in (code x) t.top r.k (t.moves l r.since) r.start more good)
 
     pub block_moves : (u : Input) → Outcome x t (moved (code x) u b) (after_main u h)
     block_moves u = go (cases_eq (suc r.k) (t.moves l r.since))
@@ -273,7 +287,7 @@ module _ (x : Program) (t : Pieces) (sound : Sound x t) where
     block_ticks c k = Inside l (record { start = r.start; since = r.since; k = r.k; n = suc r.n; inside = r.inside; grows = grows_tick r.since r.k r.n h r.grows; fits = r.fits; head = r.head; after = later_tick (code x).low r.n (run (code x) r.k r.start) b c idle r.after k })
       where
         idle : (run (code x) r.k r.start).regs.idle ≡ false
-        idle = sym (ap (λ (z : Machine). z.regs.idle) is_quicks) ∙ quicks_idle (code x) r.k r.start good_k ∙ comes.awake
+        idle = sym (ap (λ (z : Machine). z.regs.idle) is_quicks) ∙ quicks_idle (code x) t.top r.k r.start good_k ∙ comes.awake
 
   -- a block's row says nothing of the cycle number
   pub at_cycle : (n : ℕ) (b c : Machine) (k : ℕ) → After (code x).low n b c → After (code x).low n b (record c { cycle = k })

@@ -1,5 +1,5 @@
 -- An instruction of main code moves R2 by one at most, so a block leaves the stack pointer near where it was.
-use Rattle.std.proofs.Common.{◌≡◌, ℕ, zero, suc, ◌+◌, ◌-◌, ◌<◌, ◌≤◌, ◌⊎◌, inl, inr, refl, sym, subst, arith, true, false, T}
+use Rattle.std.proofs.Common.{Option, ◌≡◌, ℕ, zero, suc, ◌+◌, ◌-◌, ◌<◌, ◌≤◌, ◌⊎◌, inl, inr, refl, sym, subst, arith, true, false, T}
 use Rattle.std.proofs.lemmas.Bool.{and_parts, cases_eq}
 use Rattle.machine.specs.declared.Kind.{Kind}
 use Rattle.machine.specs.declared.Kind.TheVariants.{Inc, Dec, Br, Bq, Bz, Bdf, B1, B2, B3, B4, Skp, Bnq, Bnz, Bnf, Bn1, Bn2, Bn3, Bn4, Lda, Irx, Out, Ret, Dis, Ldxa, Stxd, Mark, Adci, Sdbi, Smbi, Plo, Phi, Lbr, Lbq, Lbz, Lbdf, Lsnq, Lsnz, Lsnf, Lskp, Lbnq, Lbnz, Lbnf, Lsie, Lsq, Lsz, Lsdf, Ldi, Ori, Ani, Xri, Adi, Sdi, Smi}
@@ -115,16 +115,16 @@ module _ (x : Code) where
       r2 = put-r2 b.regs.p b.regs.r (up (get b.regs.r b.regs.p)) (plain b (passed b h))
 
   -- from the j-th to the k-th of m instructions
-  pub near_quicks : (m : ℕ) (b : Machine) → AllGood x m b → (j : ℕ) → m ≤ value (quicks x j b).regs.r.r2 → value (quicks x j b).regs.r.r2 + m < 65535 → (k : ℕ) → j ≤ k → k < m → Near (k - j) (value (quicks x j b).regs.r.r2) (value (quicks x k b).regs.r.r2)
-  near_quicks m b g j some room zero l h = subst (λ z. Near (0 - j) (value (quicks x z b).regs.r.r2) (value b.regs.r.r2)) (sym none) (record { above = omega arith; below = omega arith })
+  pub near_quicks : (top : Option ℕ) (m : ℕ) (b : Machine) → AllGood x top m b → (j : ℕ) → m ≤ value (quicks x j b).regs.r.r2 → value (quicks x j b).regs.r.r2 + m < 65535 → (k : ℕ) → j ≤ k → k < m → Near (k - j) (value (quicks x j b).regs.r.r2) (value (quicks x k b).regs.r.r2)
+  near_quicks top m b g j some room zero l h = subst (λ z. Near (0 - j) (value (quicks x z b).regs.r.r2) (value b.regs.r.r2)) (sym none) (record { above = omega arith; below = omega arith })
     where
       none : j ≡ 0
       none = omega (arith, l)
-  near_quicks m b g j some room (suc k) l h = go (cases_eq j (suc k)) (λ d. near_quicks m b g j some room k d (omega (arith, h)))
+  near_quicks top m b g j some room (suc k) l h = go (cases_eq j (suc k)) (λ d. near_quicks top m b g j some room k d (omega (arith, h)))
     where
       go : (j ≡ suc k) ⊎ (j ≡ suc k → ⊥) → (j ≤ k → Near (k - j) (value (quicks x j b).regs.r.r2) (value (quicks x k b).regs.r.r2)) → Near (suc k - j) (value (quicks x j b).regs.r.r2) (value (quicks x (suc k) b).regs.r.r2)
       go (inl e) f = subst (λ z. Near (suc k - z) (value (quicks x z b).regs.r.r2) (value (quicks x (suc k) b).regs.r.r2)) (sym e) (record { above = omega arith; below = omega arith })
       go (inr d) f = joined (f (omega (arith, l, d)))
         where
           joined : Near (k - j) (value (quicks x j b).regs.r.r2) (value (quicks x k b).regs.r.r2) → Near (suc k - j) (value (quicks x j b).regs.r.r2) (value (quicks x (suc k) b).regs.r.r2)
-          joined n = let o = near_quick (quicks x k b) (at_move x k m b (omega (arith, h)) g) (omega (arith, n.above, n.below, some, h, l, d)) (omega (arith, n.above, n.below, room, h, l, d)) in record { above = omega (arith, n.above, o.above, l, d); below = omega (arith, n.below, o.below, l, d) }
+          joined n = let o = near_quick (quicks x k b) (at_move x top k m b (omega (arith, h)) g) (omega (arith, n.above, n.below, some, h, l, d)) (omega (arith, n.above, n.below, room, h, l, d)) in record { above = omega (arith, n.above, o.above, l, d); below = omega (arith, n.below, o.below, l, d) }

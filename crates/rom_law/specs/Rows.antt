@@ -1,5 +1,5 @@
 -- The rows of main code: what is known of a machine at each instruction, with a record of what came since the last dispatch.
-use Rattle.std.specs.Prelude.{◌≡◌, ℕ, suc, ◌+◌, ◌*◌, ◌<◌, true, false, List, [], ◌∷◌, ◌++◌, length, slice_get, Some, None}
+use Rattle.std.specs.Prelude.{◌≡◌, ℕ, suc, ◌+◌, ◌*◌, ◌<◌, true, false, List, [], ◌∷◌, ◌++◌, length, slice_get, Option, Some, None}
 use Rattle.machine.specs.Board.{Machine}
 use Rattle.machine.specs.Keys.{Keys}
 use Rattle.machine.specs.Ranges.{FitsMachine}
@@ -63,11 +63,12 @@ pub record Ready (x : Program) (b : Machine) : Type 0 where
 
 -- The pieces of a ROM's main code. A block is straight code that ticks may pass: `Head` says what is known at its first instruction, and
 -- `moves` how many instructions it has. A place is one instruction that uses the timers, the tone, the count of ticks or a flag, or a
--- wait: `At` says what is known there, ticks included.
+-- wait: `At` says what is known there, ticks included. `top`, where it is given, is an address below which the blocks write.
 pub record Pieces : Type 1 where
   pub Block : Type 0
   pub Head : Block → Machine → Since → Type 0
   pub moves : Block → Since → ℕ
+  pub top : Option ℕ
   pub Place : Type 0
   pub At : Place → Machine → Since → Type 0
 

@@ -114,6 +114,11 @@ latch_clear (Some (Send n y)) = both (n == 4)
 pub latch_stays : (p : Option Port) (l : Bool) → l ≡ false → latch_after p l ≡ false
 latch_stays p l e = ap (latch_after p) e ∙ latch_clear p
 
+-- what an instruction writes lies below an address, where one is given
+abbrev pub Below : Option ℕ → Option (ℕ × ℕ) → Type 0
+Below (Some top) (Some w) = w.0 < top
+Below _ _ = Unit {0}
+
 -- ---- one move
 
 -- it reads no flag, and doesn't switch the display
@@ -197,10 +202,14 @@ module _ (x : Code) where
   CalmAfter zero b = Unit {0}
   CalmAfter (suc k) b = Calm b
 
-  -- ticks may pass each of the next k instructions, and there is no dispatch or stop between them
-  abbrev pub AllGood : ℕ → Machine → Type 0
-  AllGood zero b = Unit {0}
-  AllGood (suc k) b = AllGood k b × (Fine (quicks k b) × CalmAfter k (quicks k b))
+  abbrev quick_effect : Machine → Effect
+  quick_effect b = executed (opcode_in b) (stepped b.regs b.regs.p) (rom_inputs b (λ k. false))
+
+  -- Ticks may pass each of the next k instructions, there is no dispatch or stop between them, and what they write lies below `top`, where that
+  -- is given.
+  abbrev pub AllGood : Option ℕ → ℕ → Machine → Type 0
+  AllGood top zero b = Unit {0}
+  AllGood top (suc k) b = AllGood top k b × (Fine (quicks k b) × CalmAfter k (quicks k b)) × Below top (quick_effect (quicks k b)).write
 
 rom_parts : (w : Word) → in_rom w ≡ true → (0x7fff < value w) × (value w < 0x87fe) × (w.lo < 256) × (w.hi < 0x88)
 rom_parts w e =
@@ -365,47 +374,13 @@ plus zero m = m
 plus (suc k) m = suc (plus k m)
 
 module _ (x : Code) where
-  abbrev quick_effect : Machine → Effect
-  quick_effect b = executed (opcode_in x b) (stepped b.regs b.regs.p) (rom_inputs x b (λ k. false))
-
-  pub quicks_are : (k : ℕ) (b : Machine) → AllGood x k b → quicks x k b ≡ run x k b
-  quicks_are zero b g = refl
-  quicks_are (suc k) b g = quick_is x nothing (quicks x k b) g.1.0 ∙ ap (moved x nothing) (quicks_are k b g.0)
-
   pub quicks_clear : (k : ℕ) (b : Machine) → b.latch ≡ false → (quicks x k b).latch ≡ false
   quicks_clear zero b e = e
-  quicks_clear (suc k) b e = latch_stays (quick_effect (quicks x k b)).port (quicks x k b).latch (quicks_clear k b e)
+  quicks_clear (suc k) b e = latch_stays (quick_effect x (quicks x k b)).port (quicks x k b).latch (quicks_clear k b e)
 
   pub quicks_full : (k : ℕ) (b : Machine) → length b.ram ≡ 4096 → length (quicks x k b).ram ≡ 4096
   quicks_full zero b e = e
-  quicks_full (suc k) b e = length_after (quick_effect (quicks x k b)).write (quicks x k b).latch (quicks x k b).ram ∙ quicks_full k b e
-
-  pub quicks_idle : (k : ℕ) (b : Machine) → AllGood x k b → (quicks x k b).regs.idle ≡ b.regs.idle
-  quicks_idle zero b g = refl
-  quicks_idle (suc k) b g = idle_of x.low (kind_of (opcode_in x (quicks x k b))) (number_of (opcode_in x (quicks x k b))) (stepped (quicks x k b).regs (quicks x k b).regs.p) (rom_inputs x (quicks x k b) (λ k. false)) (second_of _ _ (second_of _ _ g.1.0)) ∙ quicks_idle k b g.0
-
-  pub quicks_enabled : (k : ℕ) (b : Machine) → AllGood x k b → (quicks x k b).regs.ie ≡ b.regs.ie
-  quicks_enabled zero b g = refl
-  quicks_enabled (suc k) b g = enabled_of x.low (kind_of (opcode_in x (quicks x k b))) (number_of (opcode_in x (quicks x k b))) (stepped (quicks x k b).regs (quicks x k b).regs.p) (rom_inputs x (quicks x k b) (λ k. false)) (second_of _ _ (second_of _ _ g.1.0)) ∙ quicks_enabled k b g.0
-
-  quick_entry : (b : Machine) → Fine x b → (quick x b).regs.r.r1 ≡ b.regs.r.r1
-  quick_entry b g = entry_of x.low (stepped b.regs b.regs.p) (rom_inputs x b (λ k. false)) (number_of (opcode_in x b)) (kind_of (opcode_in x b)) (second_of _ _ (second_of _ _ g)) ∙ put-r1 b.regs.p b.regs.r (up (get b.regs.r b.regs.p)) (kept_of_plain b.regs.p (plain_from x b (second_of _ _ g)))
-
-  pub quicks_entry : (k : ℕ) (b : Machine) → AllGood x k b → (quicks x k b).regs.r.r1 ≡ b.regs.r.r1
-  quicks_entry zero b g = refl
-  quicks_entry (suc k) b g = quick_entry (quicks x k b) g.1.0 ∙ quicks_entry k b g.0
-
-  pub quicks_on : (k : ℕ) (b : Machine) → AllGood x k b → (quicks x k b).on ≡ b.on
-  quicks_on zero b g = refl
-  quicks_on (suc k) b g = straight_on (kind_of (opcode_in x (quicks x k b))) (number_of (opcode_in x (quicks x k b))) (stepped (quicks x k b).regs (quicks x k b).regs.p) (rom_inputs x (quicks x k b) (λ k. false)) (quicks x k b).on (fine_kind x (quicks x k b) g.1.0) ∙ quicks_on k b g.0
-
-  -- from b, main code comes to c in k moves that ticks may pass
-  pub Reaches : ℕ → Machine → Machine → Type 0
-  Reaches k b c = AllGood x k b × (quicks x k b ≡ c)
-
-  pub reaches_in : (k : ℕ) (b c : Machine) → AllGood x k b → quicks x k b ≡ c → Reaches k b c
-  unfolding Reaches
-  reaches_in k b c g e = (g, e)
+  quicks_full (suc k) b e = length_after (quick_effect x (quicks x k b)).write (quicks x k b).latch (quicks x k b).ram ∙ quicks_full k b e
 
   quicks_join : (k m : ℕ) (b : Machine) → quicks x (plus k m) b ≡ quicks x k (quicks x m b)
   quicks_join zero m b = refl
@@ -415,20 +390,52 @@ module _ (x : Code) where
   calm_after zero b c = tt
   calm_after (suc k) b c = c
 
-  good_join : (k m : ℕ) (b : Machine) → Calm x (quicks x m b) → AllGood x m b → AllGood x k (quicks x m b) → AllGood x (plus k m) b
+module _ (x : Code) (top : Option ℕ) where
+  pub quicks_are : (k : ℕ) (b : Machine) → AllGood x top k b → quicks x k b ≡ run x k b
+  quicks_are zero b g = refl
+  quicks_are (suc k) b g = quick_is x nothing (quicks x k b) g.1.0 ∙ ap (moved x nothing) (quicks_are k b g.0)
+
+  pub quicks_idle : (k : ℕ) (b : Machine) → AllGood x top k b → (quicks x k b).regs.idle ≡ b.regs.idle
+  quicks_idle zero b g = refl
+  quicks_idle (suc k) b g = idle_of x.low (kind_of (opcode_in x (quicks x k b))) (number_of (opcode_in x (quicks x k b))) (stepped (quicks x k b).regs (quicks x k b).regs.p) (rom_inputs x (quicks x k b) (λ k. false)) (second_of _ _ (second_of _ _ g.1.0)) ∙ quicks_idle k b g.0
+
+  pub quicks_enabled : (k : ℕ) (b : Machine) → AllGood x top k b → (quicks x k b).regs.ie ≡ b.regs.ie
+  quicks_enabled zero b g = refl
+  quicks_enabled (suc k) b g = enabled_of x.low (kind_of (opcode_in x (quicks x k b))) (number_of (opcode_in x (quicks x k b))) (stepped (quicks x k b).regs (quicks x k b).regs.p) (rom_inputs x (quicks x k b) (λ k. false)) (second_of _ _ (second_of _ _ g.1.0)) ∙ quicks_enabled k b g.0
+
+  quick_entry : (b : Machine) → Fine x b → (quick x b).regs.r.r1 ≡ b.regs.r.r1
+  quick_entry b g = entry_of x.low (stepped b.regs b.regs.p) (rom_inputs x b (λ k. false)) (number_of (opcode_in x b)) (kind_of (opcode_in x b)) (second_of _ _ (second_of _ _ g)) ∙ put-r1 b.regs.p b.regs.r (up (get b.regs.r b.regs.p)) (kept_of_plain b.regs.p (plain_from x b (second_of _ _ g)))
+
+  pub quicks_entry : (k : ℕ) (b : Machine) → AllGood x top k b → (quicks x k b).regs.r.r1 ≡ b.regs.r.r1
+  quicks_entry zero b g = refl
+  quicks_entry (suc k) b g = quick_entry (quicks x k b) g.1.0 ∙ quicks_entry k b g.0
+
+  pub quicks_on : (k : ℕ) (b : Machine) → AllGood x top k b → (quicks x k b).on ≡ b.on
+  quicks_on zero b g = refl
+  quicks_on (suc k) b g = straight_on (kind_of (opcode_in x (quicks x k b))) (number_of (opcode_in x (quicks x k b))) (stepped (quicks x k b).regs (quicks x k b).regs.p) (rom_inputs x (quicks x k b) (λ k. false)) (quicks x k b).on (fine_kind x (quicks x k b) g.1.0) ∙ quicks_on k b g.0
+
+  -- from b, main code comes to c in k moves that ticks may pass
+  pub Reaches : ℕ → Machine → Machine → Type 0
+  Reaches k b c = AllGood x top k b × (quicks x k b ≡ c)
+
+  pub reaches_in : (k : ℕ) (b c : Machine) → AllGood x top k b → quicks x k b ≡ c → Reaches k b c
+  unfolding Reaches
+  reaches_in k b c g e = (g, e)
+
+  good_join : (k m : ℕ) (b : Machine) → Calm x (quicks x m b) → AllGood x top m b → AllGood x top k (quicks x m b) → AllGood x top (plus k m) b
   good_join zero m b c g h = g
-  good_join (suc zero) m b c g h = (g, (h.1.0, calm_after m (quicks x m b) c))
-  good_join (suc (suc k)) m b c g h = (good_join (suc k) m b c g h.0, subst (λ z. Fine x z × Calm x z) (sym (quicks_join (suc k) m b)) h.1)
+  good_join (suc zero) m b c g h = (g, (h.1.0, calm_after x m (quicks x m b) c), h.2)
+  good_join (suc (suc k)) m b c g h = (good_join (suc k) m b c g h.0, subst (λ z. Fine x z × Calm x z) (sym (quicks_join x (suc k) m b)) h.1, subst (λ z. Below top (quick_effect x z).write) (sym (quicks_join x (suc k) m b)) h.2)
 
   pub reaches_join : (k m : ℕ) (b c d : Machine) → Calm x c → Reaches m b c → Reaches k c d → Reaches (plus k m) b d
   unfolding Reaches
-  reaches_join k m b c d calm f g = (good_join k m b (subst (Calm x) (sym f.1) calm) f.0 (subst (AllGood x k) (sym f.1) g.0), quicks_join k m b ∙ ap (quicks x k) f.1 ∙ g.1)
+  reaches_join k m b c d calm f g = (good_join k m b (subst (Calm x) (sym f.1) calm) f.0 (subst (AllGood x top k) (sym f.1) g.0), quicks_join x k m b ∙ ap (quicks x k) f.1 ∙ g.1)
 
   pub reaches_run : (k : ℕ) (b c : Machine) → Reaches k b c → run x k b ≡ c
   unfolding Reaches
   reaches_run k b c f = sym (quicks_are k b f.0) ∙ f.1
 
-  pub reaches_good : (k : ℕ) (b c : Machine) → Reaches k b c → AllGood x k b
+  pub reaches_good : (k : ℕ) (b c : Machine) → Reaches k b c → AllGood x top k b
   unfolding Reaches
   reaches_good k b c f = f.0
 
@@ -438,3 +445,37 @@ module _ (x : Code) where
 
   pub reaches_from : (k : ℕ) (b b' c : Machine) → b ≡ b' → Reaches k b' c → Reaches k b c
   reaches_from k b b' c e f = subst (λ z. Reaches k z c) (sym e) f
+
+-- what reaches a machine reaches it, wherever it writes
+good_any : (x : Code) (top : Option ℕ) (k : ℕ) (b : Machine) → AllGood x top k b → AllGood x None k b
+good_any x top zero b g = g
+good_any x top (suc k) b g = (good_any x top k b g.0, g.1, anywhere (quick_effect x (quicks x k b)).write)
+  where
+    anywhere : (w : Option (ℕ × ℕ)) → Below None w
+    anywhere None = tt
+    anywhere (Some w) = tt
+
+pub reaches_any : (x : Code) (top : Option ℕ) (k : ℕ) (b c : Machine) → Reaches x top k b c → Reaches x None k b c
+unfolding Reaches
+reaches_any x top k b c f = (good_any x top k b f.0, f.1)
+
+-- ---- what they write
+
+above_cond : (t : Bool) (ram ram' : List ℕ) (a : ℕ) → slice_index ram' a ≡ slice_index ram a → slice_index (cond t ram' ram) a ≡ slice_index ram a
+above_cond true ram ram' a e = e
+above_cond false ram ram' a e = refl
+
+above_written : (latch : Bool) (ram : List ℕ) (j y a : ℕ) → j < a → slice_index (written latch ram j y) a ≡ slice_index ram a
+unfolding written
+above_written true ram j y a l = refl
+above_written false ram j y a l = above_cond (nat_lt j 4096) ram (slice_set ram j y) a (get_or-set_other ram j a y 0 (λ e. omega (arith, e, l)))
+
+-- code that writes below an address leaves RAM from there on
+module _ (x : Code) (top : ℕ) where
+  above_after : (w : Option (ℕ × ℕ)) (latch : Bool) (ram : List ℕ) (a : ℕ) → top ≤ a → Below (Some top) w → slice_index (ram_after w latch ram) a ≡ slice_index ram a
+  above_after None latch ram a l h = refl
+  above_after (Some w) latch ram a l h = above_written latch ram w.0 w.1 a (omega (arith, l, h))
+
+  pub quicks_above : (k : ℕ) (b : Machine) → AllGood x (Some top) k b → (a : ℕ) → top ≤ a → slice_index (quicks x k b).ram a ≡ slice_index b.ram a
+  quicks_above zero b g a l = refl
+  quicks_above (suc k) b g a l = above_after (quick_effect x (quicks x k b)).write (quicks x k b).latch (quicks x k b).ram a l g.2 ∙ quicks_above k b g.0 a l

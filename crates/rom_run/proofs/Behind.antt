@@ -1,4 +1,4 @@
--- Behind a wait for the display main code stays behind it, also under ticks, up to the dispatch.
+-- Behind a wait for the display main code stays behind it, up to the dispatch.
 use Rattle.std.proofs.Common.{◌≡◌, ℕ, sym, ◌∙◌, subst, true, false}
 use Rattle.machine.specs.Board.{Machine}
 use Rattle.machine.specs.Ranges.{FitsMachine}
@@ -9,7 +9,7 @@ use Rattle.rom_moves.proofs.Ranges.{tick_fits}
 use Rattle.rom_law.specs.Program.{code}
 use Rattle.rom_law.specs.Rows.{Since, Row, Outcome, now, after_main, after_tick}
 use Rattle.rom_law.specs.Rows.Row.{Inside, Alone}
-use Rattle.rom_law.proofs.Kept.{block_awake, block_moves, block_ticks, block_cycle, starts_row}
+use Rattle.rom_law.proofs.Kept.{block_awake, block_moves, block_cycle, starts_row}
 use Rattle.chip8_rows.specs.Rom.{vip, program_of}
 use Rattle.chip8_rows.specs.Table.{pieces, waited_pieces}
 use Rattle.chip8_rows.specs.Table.Place.{AtTimer, AtKey, AtSprite}
@@ -25,10 +25,6 @@ module _ (e : Edition) where
   quick_moves : (u : Input) (b : Machine) (h : Since) → Row (quick e) (waited_pieces (quick e)) b h → Outcome (quick e) (waited_pieces (quick e)) (moved (code (quick e)) u b) (after_main u h)
   quick_moves u b h (Inside l r) = block_moves (quick e) (waited_pieces (quick e)) (waited_sound e) r (sprite_waited e l.0 l.1 r.start r.since r.fits r.head) u
   quick_moves u b h (Alone l o) = absurd o
-
-  quick_ticks : (b c : Machine) (h : Since) → Tick (code (quick e)).low b c → Row (quick e) (waited_pieces (quick e)) b h → Row (quick e) (waited_pieces (quick e)) c (after_tick h)
-  quick_ticks b c h k (Inside l r) = block_ticks (quick e) (waited_pieces (quick e)) (waited_sound e) r (sprite_waited e l.0 l.1 r.start r.since r.fits r.head) c k
-  quick_ticks b c h k (Alone l o) = absurd o
 
   quick_cycle : (b : Machine) (h : Since) (t : ℕ) → Row (quick e) (waited_pieces (quick e)) b h → Row (quick e) (waited_pieces (quick e)) (timed t b) h
   quick_cycle b h t (Inside l r) = Inside l (block_cycle (quick e) (waited_pieces (quick e)) (waited_sound e) b h t r)
@@ -49,9 +45,6 @@ module _ (e : Edition) where
 module _ (e : Edition) where
   pub waited_moves : (u : Input) (b : Machine) (h : Since) → Row (vip e) (waited_pieces (vip e)) b h → Outcome (vip e) (waited_pieces (vip e)) (moved (code (vip e)) u b) (after_main u h)
   waited_moves = subst (λ rom. (u : Input) (b : Machine) (h : Since) → Row (program_of e rom) (waited_pieces (program_of e rom)) b h → Outcome (program_of e rom) (waited_pieces (program_of e rom)) (moved (code (program_of e rom)) u b) (after_main u h)) (both_is e) (quick_moves e)
-
-  pub waited_ticks : (b c : Machine) (h : Since) → Tick (code (vip e)).low b c → Row (vip e) (waited_pieces (vip e)) b h → Row (vip e) (waited_pieces (vip e)) c (after_tick h)
-  waited_ticks = subst (λ rom. (b c : Machine) (h : Since) → Tick (code (program_of e rom)).low b c → Row (program_of e rom) (waited_pieces (program_of e rom)) b h → Row (program_of e rom) (waited_pieces (program_of e rom)) c (after_tick h)) (both_is e) (quick_ticks e)
 
   pub waited_cycle : (b : Machine) (h : Since) (t : ℕ) → Row (vip e) (waited_pieces (vip e)) b h → Row (vip e) (waited_pieces (vip e)) (timed t b) h
   waited_cycle = subst (λ rom. (b : Machine) (h : Since) (t : ℕ) → Row (program_of e rom) (waited_pieces (program_of e rom)) b h → Row (program_of e rom) (waited_pieces (program_of e rom)) (timed t b) h) (both_is e) (quick_cycle e)

@@ -51,7 +51,7 @@ module _ (e : Edition) (script : List Event) where
 
   served : (b : Machine) (h : Since) (m bound : ℕ) → Outside e script b h → b.cycle ≡ interrupt_at m → bound_of e h.state ≡ Some bound → interrupt_at m + routine_cycles ≤ h.from + bound
   served b h m bound (AtRow t row n time) i k = let s = row_in_time e script b h t row time in after_routine b h t s.waited bound s.spends m i (fewer bound _ _ (omega arith) (s.suffices bound k))
-  served b h m bound (AtEvent t p d soon) i k = after_routine b h t soon.waited bound soon.spends m i (soon.suffices bound k)
+  served b h m bound (AtEvent t p d soon y) i k = after_routine b h t soon.waited bound soon.spends m i (soon.suffices bound k)
 
   -- a move of the routine
   in_routine : (b : Machine) (h : Since) (m k bound : ℕ) → Outside e script b h → b.cycle ≡ interrupt_at m → k < routine_moves → bound_of e h.state ≡ Some bound → (after_moves (image e) held b (suc k)).cycle ≤ h.from + bound
@@ -68,7 +68,7 @@ module _ (e : Edition) (script : List Event) where
 
   pub timely : (b : Machine) (h : Since) (bound : ℕ) → Running e script b h → bound_of e h.state ≡ Some bound → (move (image e) held b).cycle ≤ h.from + bound
   timely b h bound (InMain (AtRow t row n time)) k = let ready = row_runs x (pieces x) (proved e) b h t.fits row in row_timely b h bound t row n time k (every_move (image e) held b ready.on ready.enabled t.outside)
-  timely b h bound (InMain (AtEvent t p d soon)) k = in_routine b h (b.cycle / 3668) 0 bound (AtEvent t p d soon) at (omega arith) k
+  timely b h bound (InMain (AtEvent t p d soon y)) k = in_routine b h (b.cycle / 3668) 0 bound (AtEvent t p d soon y) at (omega arith) k
     where
       at : b.cycle ≡ interrupt_at (b.cycle / 3668)
       at = omega (arith, p)

@@ -52,7 +52,7 @@ module _ (e : Edition) (script : List Event) where
 
   time : (b : Machine) (h : Since) → Running e script b h → IsIn Fetch b → is_fetchable e h.state ≡ true → b.regs.p ≡ 4 → (move (image e) held b).regs.p ≡ 3 → IsTimed b h
   time b h (InMain (AtRow t row n z)) at inside p q = let ready = row_runs (vip e) (pieces (vip e)) (proved e) b h t.fits row in row_time b h (AtRow t row n z) t row at inside p q (every_move (image e) held b ready.on ready.enabled t.outside)
-  time b h (InMain (AtEvent t i d s)) at inside p q = differ (after_interrupt b h (b.cycle / 3668) (AtEvent t i d s) there) q (λ k. omega (arith, k))
+  time b h (InMain (AtEvent t i d s y)) at inside p q = differ (after_interrupt b h (b.cycle / 3668) (AtEvent t i d s y) there) q (λ k. omega (arith, k))
     where
       there : b.cycle ≡ interrupt_at (b.cycle / 3668)
       there = omega (arith, i)

@@ -3,7 +3,9 @@ pub mod Room
 pub mod Waits
 pub mod Ticks
 pub mod Behind
+pub mod Calm
 pub mod Time
+pub mod Woken
 pub mod Moves
 pub mod Bound
 pub mod Run
@@ -11,3 +13,4 @@ pub mod Parts
 pub mod Apart
 pub mod Dispatch
 pub mod Served
+pub mod Pictures

@@ -1,7 +1,8 @@
 -- Each move of the board keeps what is known of it.
 use Rattle.std.proofs.Common.{◌≡◌, ℕ, suc, ◌+◌, ◌/◌, ◌<◌, ◌≤◌, ◌⊎◌, inl, inr, refl, sym, ◌∙◌, ap, subst, subst₂, arith, true, false, List, [], le_refl}
 use Rattle.std.specs.Prelude.{Some, slice_get}
-use Rattle.std.proofs.lemmas.Bool.{cases_eq}
+use Rattle.std.proofs.lemmas.Bool.{cases_eq, cases_Bool}
+use Rattle.machine.specs.Bank.{value}
 use Rattle.machine.specs.Opcodes.{cycles_of}
 use Rattle.machine.specs.Signals.{efx_at}
 use Rattle.machine.specs.Board.{Machine, case_of, move, opcode_of, main_move}
@@ -14,7 +15,7 @@ use Rattle.machine.specs.Pictures.{interrupt_at}
 use Rattle.machine.proofs.Fits.{main-fits}
 use Rattle.chip8_lang.specs.declared.view.Edition.{Edition}
 use Rattle.chip8_lang.specs.declared.view.Stop.{Stop}
-use Rattle.chip8_lang.specs.Editions.{memory_end}
+use Rattle.chip8_lang.specs.Editions.{memory_end, screen_start}
 use Rattle.chip8_lang.specs.State.{Lang}
 use Rattle.chip8_lang.specs.Ticks.{ticks}
 use Rattle.chip8_lang.specs.Between.{Between, ticks_between, keys_between}
@@ -30,13 +31,14 @@ use Rattle.rom_law.specs.Rows.Outcome.{Still as Calm, Dispatched, Halted as Fail
 use Rattle.rom_law.specs.Runs.{state_at, carried, Moves}
 use Rattle.rom_law.proofs.Carried.{main_more, carried_main, carried_interrupt, carried_idle, carried_disabled}
 use Rattle.rom_law.proofs.Events.{at_instruction, at_other, calm_points, other_pc}
-use Rattle.rom_law.proofs.Kept.{row_starts, row_moves, row_ticks, row_runs, row_cycle, row_cycles}
+use Rattle.rom_law.proofs.Kept.{row_starts, row_ticks, row_runs, row_cycles}
 use Rattle.rom_law.proofs.Language.{between_ticks}
 use Rattle.rom_law.proofs.Later.{dispatches_after, halts_after}
 use Rattle.rom_law.specs.Runs.Moves.{Still, Arrived, Halted}
 use Rattle.rom_law.proofs.Schedules.{dispatch_by, halt_by}
 use Rattle.chip8_rows.specs.Rom.{image, vip}
-use Rattle.chip8_rows.specs.Table.{pieces, waited_pieces}
+use Rattle.chip8_rows.specs.Table.{pieces, calm_pieces, waited_pieces}
+use Rattle.chip8_rows.proofs.Calm.{row_calm}
 use Rattle.chip8_rows.proofs.Waited.{row_joined}
 use Rattle.rom_frame.specs.Frame.{place, interrupt_place, IsOutside, IsMainPlace, Makes}
 use Rattle.rom_frame.specs.Frame.Makes.{Runs, Waits, Accepts}
@@ -44,7 +46,7 @@ use Rattle.rom_frame.specs.Routine.{IsInterrupted, IsTick, routine_moves, routin
 use Rattle.rom_frame.proofs.Frame.{case_accepts, case_runs, case_waits, every_move, keeps_place, keeps_waiting}
 use Rattle.rom_frame.proofs.Interval.{ticks_main, ticks_wait, ticks_served, keeps_interrupted, embeds_longer, embeds_more}
 use Rattle.rom_frame.proofs.Tick.{run_tick}
-use Rattle.rom_run.specs.Running.{Interval, Counted, Spends, Timed, InTime, Outside, Running, most_wait}
+use Rattle.rom_run.specs.Running.{Interval, Counted, Spends, Woken, Timed, InTime, Showing, Outside, Running, most_wait}
 use Rattle.rom_run.specs.Running.Counted.{NoEvent, Renewed}
 use Rattle.rom_run.specs.Running.Due.{Arrives, Ends}
 use Rattle.rom_run.specs.Running.Outside.{AtRow, AtEvent}
@@ -52,7 +54,9 @@ use Rattle.rom_run.specs.Running.Timed.{Before, Waiting, Behind}
 use Rattle.rom_run.specs.Running.Running.{InMain, InRoutine}
 use Rattle.rom_run.proofs.Proved.{proved}
 use Rattle.rom_run.proofs.Room.{row_room}
-use Rattle.rom_run.proofs.Behind.{waited_moves, waited_ticks, waited_cycle, waited_awake, row_wakes}
+use Rattle.rom_run.proofs.Behind.{waited_moves, waited_cycle, waited_awake, row_wakes}
+use Rattle.rom_run.proofs.Calm.{calm_moves, calm_ticks, calm_cycle, calm_idle, calm_starts, calm_move_shows, below_screen}
+use Rattle.rom_run.proofs.Woken.{row_waits, woken_apart, wakes, calm_row}
 use Rattle.rom_run.proofs.Ticks.{waits_more, waits_most}
 use Rattle.rom_run.proofs.Time.{fewer, row_in_time}
 use Rattle.rom_run.proofs.Waits.{timed, sleeps, idle_cycle}
@@ -105,12 +109,12 @@ module _ (e : Edition) (script : List Event) where
       (record { fits = f; outside = p.outside; even = λ a. p.even; from = le_refl c.cycle; begun = i; covers = record { ticks = none_yet c.cycle; keys = embeds_none (keys_between script c.cycle c.cycle) } })
       (row_starts x (pieces x) (proved e) c (dispatched c.cycle s) f ((proved e).fetch c.cycle c s f d))
       (Renewed d.keeps.lies.awake i)
-      (Before (omega arith))
+      (Before (omega arith) (calm_starts e c.cycle c s f d))
       )
 
   -- ---- what a state comes to that a dispatch or a stop has made
 
-  module _ (c : Machine) (h : Since) (t : Interval e script c h) (p : IsMainPlace c.cycle) (soon : InTime e c h) where
+  module _ (c : Machine) (h : Since) (t : Interval e script c h) (p : IsMainPlace c.cycle) (soon : InTime e c h) (shows : place c.cycle ≡ interrupt_place → Showing e c h) where
     arrives : (s : Lang) → Stepped x c h s → Comes h c
     arrives s st = go (cases_eq (place c.cycle) interrupt_place)
       where
@@ -118,14 +122,14 @@ module _ (e : Edition) (script : List Event) where
         here = subst (Stepped x c h) (sym st.stands.keeps.lies.is) st
 
         go : (place c.cycle ≡ interrupt_place) ⊎ (place c.cycle ≡ interrupt_place → ⊥) → Comes h c
-        go (inl i) = Still (interrupted_there c s st.stands.keeps i 4 x.interpreter.fetch) (interrupted_there c s st.stands.keeps i 3 x.interpreter.halt) (InMain (AtEvent t i (Arrives s st) soon))
+        go (inl i) = Still (interrupted_there c s st.stands.keeps i 4 x.interpreter.fetch) (interrupted_there c s st.stands.keeps i 3 x.interpreter.halt) (InMain (AtEvent t i (Arrives s st) soon (shows i)))
         go (inr d) = Arrived (dispatch_there c s st.stands t.outside d).0 (dispatch_there c s st.stands t.outside d).1 t.covers here (renewed c (state_at x c) t.fits here.stands p d)
 
     ends : (stop : Stop) → Stopped x c h stop → Comes h c
     ends stop st = go (cases_eq (place c.cycle) interrupt_place)
       where
         go : (place c.cycle ≡ interrupt_place) ⊎ (place c.cycle ≡ interrupt_place → ⊥) → Comes h c
-        go (inl i) = Still (interrupted_there c (now h) st.halts.keeps i 4 x.interpreter.fetch) (interrupted_there c (now h) st.halts.keeps i 3 x.interpreter.halt) (InMain (AtEvent t i (Ends stop st) soon))
+        go (inl i) = Still (interrupted_there c (now h) st.halts.keeps i 4 x.interpreter.fetch) (interrupted_there c (now h) st.halts.keeps i 3 x.interpreter.halt) (InMain (AtEvent t i (Ends stop st) soon (shows i)))
         go (inr d) = Halted (stop_there c h st.halts t.outside d) t.covers stop st
 
   -- ---- a main move
@@ -157,14 +161,32 @@ module _ (e : Edition) (script : List Event) where
     unfolding c u
     fits = main-fits x.interpreter.rom (proved e).rom u.efx u.held (record b { cycle = b.cycle + 2 }) (record { regs = t.fits.regs; ram = t.fits.ram; size = t.fits.size; key = t.fits.key })
 
-    outcome : Outcome x (pieces x) c h'
-    unfolding c u h'
-    outcome = row_moves x (pieces x) (proved e) u (record b { cycle = b.cycle + 2 }) h (record { regs = t.fits.regs; ram = t.fits.ram; size = t.fits.size; key = t.fits.key }) awake (row_cycle x (pieces x) (proved e) b h (b.cycle + 2) t.fits awake row)
+    fits_there : FitsMachine (record b { cycle = b.cycle + 2 })
+    fits_there = record { regs = t.fits.regs; ram = t.fits.ram; size = t.fits.size; key = t.fits.key }
 
-    -- behind a wait it comes to a row behind it
+    -- before a wait it comes to a row before it, and behind a wait to one behind it
+    before : Row x (calm_pieces x) b h → Outcome x (calm_pieces x) c h'
+    unfolding c u h'
+    before r = calm_moves e u (record b { cycle = b.cycle + 2 }) h fits_there awake (calm_cycle e b h (b.cycle + 2) t.fits awake r)
+
     behind : Row x (waited_pieces x) b h → Outcome x (waited_pieces x) c h'
     unfolding c u h'
     behind r = waited_moves e u (record b { cycle = b.cycle + 2 }) h (waited_cycle e b h (b.cycle + 2) r)
+
+    -- before a wait it leaves the screen
+    shows_on : Row x (calm_pieces x) b h → value c.regs.r.r2 < screen_start e → Showing e c h'
+    unfolding c u h'
+    shows_on r below = calm_move_shows e u (record b { cycle = b.cycle + 2 }) h fits_there awake fits below (calm_cycle e b h (b.cycle + 2) t.fits awake r)
+
+    -- behind a wait it stays in the row of the latest wait
+    woken_on : is_event (code x) c ≡ false → Woken e b h → Woken e c h'
+    unfolding c u h'
+    woken_on calm w = record { woke = w.woke; return = w.return; base = w.base; waits = w.waits; late = w.late + 2; since = omega (arith, w.since); least = omega (arith, w.least); row = calm_row e c (after_main u (record h { spent = w.late })) calm (waited_moves e u (record b { cycle = b.cycle + 2 }) (record h { spent = w.late }) (waited_cycle e b (record h { spent = w.late }) (b.cycle + 2) w.row)) }
+
+    -- and the board isn't interrupted
+    apart : Woken e b h → place c.cycle ≡ interrupt_place → Showing e c h'
+    unfolding c u
+    apart w i = absurd (woken_apart e b h 2 (omega arith) w i)
 
     spends : (n : ℕ) → Spends b h n → Spends c h' n
     unfolding c u h'
@@ -197,20 +219,20 @@ module _ (e : Edition) (script : List Event) where
     stays : is_event (code x) c ≡ false → Row x (pieces x) c h' → Timed e c h' → Comes h' c
     stays calm r later = Still (calm_points c x calm).0 (calm_points c x calm).1 (InMain (AtRow interval r (NoEvent calm) later))
 
-    run_on : Spends b h 0 → Outcome x (pieces x) c h' → Comes h' c
-    run_on s (Calm calm r) = stays calm r (Before (spends 0 s))
-    run_on s (Dispatched z st) = arrives c h' interval main_place soon z st
-    run_on s (Failed stop st) = ends c h' interval main_place soon stop st
+    run_on : Spends b h 0 → Row x (calm_pieces x) b h → Outcome x (calm_pieces x) c h' → Comes h' c
+    run_on s r (Calm calm r') = stays calm (row_calm x c h' r') (Before (spends 0 s) r')
+    run_on s r (Dispatched z st) = arrives c h' interval main_place soon (λ i. shows_on r (below_screen e c z st.stands.keeps.lies.stack)) z st
+    run_on s r (Failed stop st) = ends c h' interval main_place soon (λ i. shows_on r (below_screen e c (now h') st.halts.keeps.lies.stack)) stop st
 
-    run_behind : (n : ℕ) → Spends b h n → n ≤ most_wait → Outcome x (waited_pieces x) c h' → Comes h' c
-    run_behind n s l (Calm calm r) = stays calm (row_joined x c h' r) (Behind n (spends n s) l r)
-    run_behind n s l (Dispatched z st) = arrives c h' interval main_place soon z st
-    run_behind n s l (Failed stop st) = ends c h' interval main_place soon stop st
+    run_behind : (n : ℕ) → Spends b h n → n ≤ most_wait → Woken e b h → Outcome x (waited_pieces x) c h' → Comes h' c
+    run_behind n s l w (Calm calm r) = stays calm (row_joined x c h' r) (Behind n (spends n s) l r (woken_on calm w))
+    run_behind n s l w (Dispatched z st) = arrives c h' interval main_place soon (apart w) z st
+    run_behind n s l w (Failed stop st) = ends c h' interval main_place soon (apart w) stop st
 
     main_run : Timed e b h → Comes h' c
-    main_run (Before s) = run_on s outcome
-    main_run (Waiting n s l idle) = absurd (sleeps (sym idle ∙ awake))
-    main_run (Behind n s l r) = run_behind n s l (behind r)
+    main_run (Before s r) = run_on s r (before r)
+    main_run (Waiting n s l idle r) = absurd (sleeps (sym idle ∙ awake))
+    main_run (Behind n s l r w) = run_behind n s l w (behind r)
 
     main_comes : move x.interpreter.rom held b ≡ record (main_move x.interpreter.rom (efx_at (b.cycle + 1) true) (held (b.cycle + 1)) b) { cycle = b.cycle + cycles_of (opcode_of x.interpreter.rom b) } → Comes (carried x.interpreter.rom held b h) (move x.interpreter.rom held b)
     main_comes m = subst₂ Comes (sym carried_is) (sym (main_is m)) (main_run time)
@@ -234,9 +256,9 @@ module _ (e : Edition) (script : List Event) where
       }
 
   idle_timed : (b : Machine) (h : Since) → Interval e script b h → (place b.cycle ≡ interrupt_place → ⊥) → b.regs.idle ≡ true → Timed e b h → Timed e (timed (b.cycle + 1) b) h
-  idle_timed b h t i idle (Before s) = Waiting 1 (omega (arith, s)) (omega (arith, waits_more b.cycle t.outside i)) idle
-  idle_timed b h t i idle (Waiting n s l _) = Waiting (n + 1) (omega (arith, s)) (omega (arith, l, waits_more b.cycle t.outside i)) idle
-  idle_timed b h t i idle (Behind n s l r) = absurd (sleeps (sym idle ∙ waited_awake e b h r))
+  idle_timed b h t i idle (Before s r) = Waiting 1 (omega (arith, s)) (omega (arith, waits_more b.cycle t.outside i)) idle (calm_idle e b h (b.cycle + 1) idle r)
+  idle_timed b h t i idle (Waiting n s l _ r) = Waiting (n + 1) (omega (arith, s)) (omega (arith, l, waits_more b.cycle t.outside i)) idle (calm_idle e b h (b.cycle + 1) idle r)
+  idle_timed b h t i idle (Behind n s l r w) = absurd (sleeps (sym idle ∙ waited_awake e b h r))
 
   idle_comes : (b : Machine) (h : Since) → Interval e script b h → Row x (pieces x) b h → Counted e b → Timed e b h → (place b.cycle ≡ interrupt_place → ⊥) → b.regs.idle ≡ true → Comes h (timed (b.cycle + 1) b)
   idle_comes b h t row n time i idle = let calm = uncounted b n (inl idle) in Still (calm_points (timed (b.cycle + 1) b) x calm).0 (calm_points (timed (b.cycle + 1) b) x calm).1 (InMain (AtRow (idle_interval b h t i idle) (idle_cycle e b h (b.cycle + 1) idle row) (NoEvent calm) (idle_timed b h t i idle time)))
@@ -249,8 +271,8 @@ module _ (e : Edition) (script : List Event) where
       let ready = row_runs x (pieces x) (proved e) b h t.fits row in
       let r = row_room e b h row in
       record { cycle = i; on = ready.on; enabled = ready.enabled; latch = ready.latch; entry = ready.entry; fits = t.fits; room = r.low; top = r.high }
-  interrupted b h m (AtEvent t p (Arrives s st) late) i = keeps_interrupted e m b s t.fits st.stands.keeps i
-  interrupted b h m (AtEvent t p (Ends stop st) late) i = keeps_interrupted e m b (now h) t.fits st.halts.keeps i
+  interrupted b h m (AtEvent t p (Arrives s st) late y) i = keeps_interrupted e m b s t.fits st.stands.keeps i
+  interrupted b h m (AtEvent t p (Ends stop st) late y) i = keeps_interrupted e m b (now h) t.fits st.halts.keeps i
 
   -- in the routine the program counter is R1
   by_r1 : (c : Machine) → c.regs.p ≡ 1 → (is_dispatch x.interpreter c ≡ false) × (is_stop x.interpreter c ≡ false)
@@ -285,28 +307,42 @@ module _ (e : Edition) (script : List Event) where
     tick_spends : (n : ℕ) → Spends b h n → Spends c (after_tick h) n
     tick_spends n s = omega (arith, s, cycle, at)
 
+    -- a wait ends
+    tick_wakes : (n : ℕ) → Interval e script b h → Row x (pieces x) b h → Spends b h n → n ≤ most_wait → b.regs.idle ≡ true → Timed e c (after_tick h)
+    tick_wakes n t row s l i =
+        let w = row_waits e b h i row in
+        Behind n (tick_spends n s) l (row_wakes e b c h t.fits i k row) (wakes e b c h m w (row_wakes e b c (record h { spent = w.base }) t.fits i k w.row) at)
+
     tick_timed : Interval e script b h → Row x (pieces x) b h → Timed e b h → Timed e c (after_tick h)
-    tick_timed t row (Before s) = Before (tick_spends 0 s)
-    tick_timed t row (Waiting n s l i) = Behind n (tick_spends n s) (omega (arith, l, waits_most b.cycle t.outside)) (row_wakes e b c h t.fits i k row)
-    tick_timed t row (Behind n s l r) = Behind n (tick_spends n s) l (waited_ticks e b c h k r)
+    tick_timed t row (Before s r) = go (cases_Bool b.regs.idle)
+      where
+        go : (b.regs.idle ≡ true) ⊎ (b.regs.idle ≡ false) → Timed e c (after_tick h)
+        go (inl i) = tick_wakes 0 t row s (omega arith) i
+        go (inr i) = Before (tick_spends 0 s) (calm_ticks e b c h t.fits i k r)
+    tick_timed t row (Waiting n s l i r) = tick_wakes n t row s (omega (arith, l, waits_most b.cycle t.outside)) i
+    tick_timed t row (Behind n s l r w) = absurd (woken_apart e b h 0 (omega arith) w (omega (arith, in_place)))
 
     tick_soon : InTime e b h → InTime e c (after_tick h)
     tick_soon s = record { waited = s.waited; spends = tick_spends s.waited s.spends; suffices = s.suffices }
+
+    -- it isn't interrupted at once
+    behind_it : place c.cycle ≡ interrupt_place → Showing e c (after_tick h)
+    behind_it i = absurd (omega (arith, at, i))
 
     returned : Outside e script b h → Comes (after_tick h) c
     returned (AtRow t row n time) =
         let calm = ap (is_event (code x)) k.is ∙ uncounted b n (inr in_place) in
         Still (calm_points c x calm).0 (calm_points c x calm).1 (InMain (AtRow (tick_interval t) (row_ticks x (pieces x) (proved e) b c h t.fits k row) (NoEvent calm) (tick_timed t row time)))
-    returned (AtEvent t _ (Arrives s st) late) =
-        arrives c (after_tick h) (tick_interval t) p (tick_soon late) (ticks 1 s) (
+    returned (AtEvent t _ (Arrives s st) late y) =
+        arrives c (after_tick h) (tick_interval t) p (tick_soon late) behind_it (ticks 1 s) (
         record {
           runs = st.runs;
           between = subst (λ n. Between e h.state n h.keys (ticks 1 s)) more (between_ticks 1 e h.state h.ticks h.keys s st.between);
           stands = dispatches_after x 1 b c (ticked st.stands.keeps.lies.awake) t.fits s st.stands;
         }
         )
-    returned (AtEvent t _ (Ends stop st) late) =
-        ends c (after_tick h) (tick_interval t) p (tick_soon late) stop (record { fits = st.fits; halts = halts_after x 1 b c (ticked st.halts.keeps.lies.awake) t.fits (now h) stop st.halts })
+    returned (AtEvent t _ (Ends stop st) late y) =
+        ends c (after_tick h) (tick_interval t) p (tick_soon late) behind_it stop (record { fits = st.fits; halts = halts_after x 1 b c (ticked st.halts.keeps.lies.awake) t.fits (now h) stop st.halts })
 
   module _ (b : Machine) (h : Since) (m : ℕ) (o : Outside e script b h) (cycle : b.cycle ≡ interrupt_at m) where
     tick : IsTick e m b held
@@ -341,7 +377,7 @@ module _ (e : Edition) (script : List Event) where
 
   pub board_moves : (b : Machine) (h : Since) → Goes b h → Comes (carried (image e) held b h) (move (image e) held b)
   board_moves b h (InMain (AtRow t row n time)) = let ready = row_runs x (pieces x) (proved e) b h t.fits row in row_comes b h t row n time ready.on ready.enabled (every_move (image e) held b ready.on ready.enabled t.outside)
-  board_moves b h (InMain (AtEvent t p d late)) = let o = interrupted b h (b.cycle / 3668) (AtEvent t p d late) at in subst (λ z. Comes z (move (image e) held b)) (sym (accepts b h o.on o.enabled at)) (routine_comes b h (b.cycle / 3668) (AtEvent t p d late) at 0 (omega arith))
+  board_moves b h (InMain (AtEvent t p d late y)) = let o = interrupted b h (b.cycle / 3668) (AtEvent t p d late y) at in subst (λ z. Comes z (move (image e) held b)) (sym (accepts b h o.on o.enabled at)) (routine_comes b h (b.cycle / 3668) (AtEvent t p d late y) at 0 (omega arith))
     where
       at : b.cycle ≡ interrupt_at (b.cycle / 3668)
       at = omega (arith, p)

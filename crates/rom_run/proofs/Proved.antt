@@ -1,5 +1,5 @@
 -- The ROM of each edition is proved: at a dispatch the fetch begins, and each block and each place comes to what it should.
-use Rattle.std.proofs.Common.{refl, subst}
+use Rattle.std.proofs.Common.{◌≡◌, false, refl, subst}
 use Rattle.machine.specs.Board.{Machine}
 use Rattle.machine.specs.Ranges.{FitsMachine}
 use Rattle.chip8_lang.specs.declared.view.Edition.{Edition}
@@ -10,32 +10,52 @@ use Rattle.rom_law.proofs.Places.{holding}
 use Rattle.rom_law.proofs.Schedules.{every_schedule}
 use Rattle.chip8_rows.specs.FetchBlocks.FetchBlock.{Fetch}
 use Rattle.chip8_rows.specs.Rom.{vip, program_of}
-use Rattle.chip8_rows.specs.Table.{Block, Place, Head, At, pieces}
+use Rattle.chip8_rows.specs.Table.{Block, Place, Head, At, pieces, calm_pieces, IsBefore}
 use Rattle.chip8_rows.specs.Table.Block.{OfFetch, OfJump, OfArith, OfMemory, OfSprite, OfTimer, OfKey}
 use Rattle.chip8_rows.specs.Table.Place.{AtTimer, AtKey, AtSprite}
+use Rattle.chip8_rows.proofs.Calm.{comes_calm, holds_calm}
 use Rattle.chip8_rows.proofs.Bytes.{both_is, both_fits, quick}
 use Rattle.fetch_blocks.proofs.Law.{fetch_block}
 use Rattle.arith_blocks.proofs.JumpLaw.{jump_block}
 use Rattle.arith_blocks.proofs.ArithLaw.{arith_block}
 use Rattle.memory_blocks.proofs.Law.{memory_block}
-use Rattle.sprite_blocks.proofs.Law.{sprite_block, sprite_place}
+use Rattle.sprite_blocks.proofs.Law.{sprite_block, sprite_any, sprite_place, sprite_place_early}
 use Rattle.timer_blocks.proofs.Law.{timer_block, timer_place}
 use Rattle.key_blocks.proofs.Law.{key_block, key_place}
 use Rattle.rom_run.specs.Laws.{AnySchedule}
 
-pub block : (e : Edition) (l : Block) (b : Machine) (h : Since) → FitsMachine b → Head (quick e) l b h → Comes (quick e) (pieces (quick e)) l b h
-block e (OfFetch l) = fetch_block e l
-block e (OfJump l) = jump_block e l
-block e (OfArith l) = arith_block e l
-block e (OfMemory l) = memory_block e l
-block e (OfSprite l) = sprite_block e l
-block e (OfTimer l) = timer_block e l
-block e (OfKey l) = key_block e l
+-- ---- the blocks and places before a wait
 
-pub place : (e : Edition) (l : Place) (b : Machine) (h : Since) → FitsMachine b → At (quick e) l b h → Holds (quick e) (pieces (quick e)) l b h
-place e (AtTimer l) = timer_place e l
-place e (AtKey l) = key_place e l
-place e (AtSprite l) = sprite_place e l
+pub calm_block : (e : Edition) (l : Block) → IsBefore l → (b : Machine) (h : Since) → FitsMachine b → Head (quick e) l b h → Comes (quick e) (calm_pieces (quick e)) l b h
+calm_block e (OfFetch l) w = fetch_block e l
+calm_block e (OfJump l) w = jump_block e l
+calm_block e (OfArith l) w = arith_block e l
+calm_block e (OfMemory l) w = memory_block e l
+calm_block e (OfSprite l) w = sprite_block e l w
+calm_block e (OfTimer l) w = timer_block e l
+calm_block e (OfKey l) w = key_block e l
+
+-- where main code runs
+pub calm_place : (e : Edition) (l : Place) (b : Machine) (h : Since) → FitsMachine b → b.regs.idle ≡ false → At (quick e) l b h → Holds (quick e) (calm_pieces (quick e)) l b h
+calm_place e (AtTimer l) b h f i = timer_place e l b h f
+calm_place e (AtKey l) b h f i = key_place e l b h f
+calm_place e (AtSprite l) b h f i = sprite_place_early e l b h f i
+
+-- ---- all of them
+
+pub block : (e : Edition) (l : Block) (b : Machine) (h : Since) → FitsMachine b → Head (quick e) l b h → Comes (quick e) (pieces (quick e)) l b h
+block e (OfFetch l) b h f o = comes_calm (fetch_block e l b h f o)
+block e (OfJump l) b h f o = comes_calm (jump_block e l b h f o)
+block e (OfArith l) b h f o = comes_calm (arith_block e l b h f o)
+block e (OfMemory l) b h f o = comes_calm (memory_block e l b h f o)
+block e (OfSprite l) b h f o = sprite_any e l b h f o
+block e (OfTimer l) b h f o = comes_calm (timer_block e l b h f o)
+block e (OfKey l) b h f o = comes_calm (key_block e l b h f o)
+
+place : (e : Edition) (l : Place) (b : Machine) (h : Since) → FitsMachine b → At (quick e) l b h → Holds (quick e) (pieces (quick e)) l b h
+place e (AtTimer l) b h f o = holds_calm (timer_place e l b h f o)
+place e (AtKey l) b h f o = holds_calm (key_place e l b h f o)
+place e (AtSprite l) b h f o = sprite_place e l b h f o
 
 pub proved_quick : (e : Edition) → Proved (quick e) (pieces (quick e))
 proved_quick e =

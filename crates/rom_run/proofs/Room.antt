@@ -1,5 +1,5 @@
 -- In each row the stack has room for what an interrupt pushes.
-use Rattle.std.proofs.Common.{◌≡◌, ℕ, ◌+◌, ◌-◌, ◌<◌, ◌≤◌, ◌⊎◌, inl, inr, refl, ◌∙◌, ap, subst, arith, List, true, slice_index}
+use Rattle.std.proofs.Common.{None, ◌≡◌, ℕ, ◌+◌, ◌-◌, ◌<◌, ◌≤◌, ◌⊎◌, inl, inr, refl, ◌∙◌, ap, subst, arith, List, true, slice_index}
 use Rattle.std.specs.Prelude.{nat_le}
 use Rattle.std.proofs.lemmas.Bool.{agree_below_at, leb-true, cases_lt}
 use Rattle.machine.specs.Bank.{value, word_of}
@@ -240,7 +240,7 @@ module _ (e : Edition) {l : Block} {b : Machine} {h : Since} (r : InBlock (quick
       is = ap value (block_r2 (quick e) (pieces (quick e)) (sound e) r comes)
 
       n : Near (r.k - j) (value (quicks (code (quick e)) j r.start).regs.r.r2) (value (quicks (code (quick e)) r.k r.start).regs.r.r2)
-      n = near_quicks (code (quick e)) (moves l) r.start (good (quick e) (pieces (quick e)) (sound e) r comes) j (omega (arith, at, has_room o, few, memory_end_is e, page_low e)) (omega (arith, at, in_stack o, few, stack_top_is e, page_fits e)) r.k from r.inside
+      n = near_quicks (code (quick e)) None (moves l) r.start (good (quick e) (pieces (quick e)) (sound e) r comes) j (omega (arith, at, has_room o, few, memory_end_is e, page_low e)) (omega (arith, at, in_stack o, few, stack_top_is e, page_fits e)) r.k from r.inside
 
 -- the one long block leaves R2 for its first 16 instructions
 inside_r2 : (e : Edition) (b : Machine) → (quicks (code (quick e)) 16 (on_4 (word_of at_inside) b)).regs.r.r2 ≡ b.regs.r.r2

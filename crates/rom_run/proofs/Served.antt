@@ -29,7 +29,7 @@ module _ (e : Edition) (script : List Event) where
   tick_of b h m o i = run_tick e m b held (interrupted e script b h m o i)
 
   -- where the cycle is that of an interrupt, main code runs or waits
-  main_there : (b : Machine) (h : Since) → Running e script b h → place b.cycle ≡ interrupt_place → Outside e script b h
+  pub main_there : (b : Machine) (h : Since) → Running e script b h → place b.cycle ≡ interrupt_place → Outside e script b h
   main_there b h (InMain o) p = o
   main_there b h (InRoutine s) p = absurd (not_there s.m s.cycle (later-move (image e) held s.start) (later_cycle (image e) held s.start 1 s.k s.some) (later_cycle (image e) held s.start s.k routine_moves (less s.k s.inside)) (tick_of s.start s.before s.m s.outside s.cycle).cycle (ap (λ (z : Machine). z.cycle) s.is) p)
     where

@@ -1,11 +1,13 @@
 -- The time since the last dispatch point: how many interrupts fall into it, and that the next event comes within its bound.
 use Rattle.std.proofs.Common.{◌≡◌, ℕ, zero, suc, ◌+◌, ◌-◌, ◌*◌, ◌/◌, ◌<◌, ◌≤◌, ◌⊎◌, inl, inr, sym, subst, arith, List, le_refl}
 use Rattle.std.proofs.lemmas.Bool.{cases_eq}
-use Rattle.machine.specs.Board.{Machine}
+use Rattle.machine.specs.Opcodes.{cycles_of}
+use Rattle.machine.specs.Board.{Machine, Case, case_of, move, length_in}
+use Rattle.machine.specs.Board.Case.{Instruction}
 use Rattle.machine.specs.Keys.{Keys}
 use Rattle.machine.specs.Pictures.{frame}
 use Rattle.machine.specs.Run.{after_moves}
-use Rattle.machine.proofs.Runs.{later-move}
+use Rattle.machine.proofs.Runs.{later-move, cycle-move}
 use Rattle.chip8_lang.specs.Between.{ticks_between}
 use Rattle.rom_frame.specs.Frame.{place, interrupt_place, IsOutside}
 use Rattle.rom_frame.specs.Routine.{routine_cycles}
@@ -53,3 +55,14 @@ later_cycle rom held b k (suc m) l = go (cases_eq k (suc m)) (λ d. later_cycle 
     go : (k ≡ suc m) ⊎ (k ≡ suc m → ⊥) → (k ≤ m → (after_moves rom held b k).cycle ≤ (after_moves rom held b m).cycle) → (after_moves rom held b k).cycle ≤ (after_moves rom held b (suc m)).cycle
     go (inl e) f = subst (λ j. (after_moves rom held b j).cycle ≤ (after_moves rom held b (suc m)).cycle) (sym e) (le_refl (after_moves rom held b (suc m)).cycle)
     go (inr d) f = omega (arith, f (omega (arith, l, d)), later-move rom held (after_moves rom held b m))
+
+-- a move takes three cycles at most
+few_cycles : (byte : ℕ) → cycles_of byte ≤ 3
+few_cycles byte = grind arith
+
+pub few_in : (k : Case) (rom : List ℕ) (b : Machine) → length_in k rom b ≤ 3
+few_in Instruction rom b = few_cycles _
+few_in _ rom b = omega arith
+
+pub few_later : (rom : List ℕ) (held : ℕ → Keys) (b : Machine) → (move rom held b).cycle ≤ b.cycle + 3
+few_later rom held b = omega (arith, cycle-move rom held b, few_in (case_of b) rom b)

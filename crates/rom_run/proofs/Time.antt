@@ -102,7 +102,7 @@ skip_most : (down : Bool) → skip_time down ≤ 94
 skip_most true = omega arith
 skip_most false = omega arith
 
-few : (e : Edition) (s : Lang) → height e s ≤ 15
+pub few : (e : Edition) (s : Lang) → height e s ≤ 15
 few e s = omega arith
 
 module _ (e : Edition) where
@@ -315,6 +315,6 @@ pub record Soon (e : Edition) (b : Machine) (h : Since) : Type 0 where
   pub suffices : Budget e h waited 1
 
 pub row_in_time : (e : Edition) (script : List Event) (b : Machine) (h : Since) → Interval e script b h → Row (vip e) (pieces (vip e)) b h → Timed e b h → Soon e b h
-row_in_time e script b h t row (Before s) = record { waited = 0; spends = s; suffices = row_soon e b h row }
-row_in_time e script b h t row (Waiting n s l i) = record { waited = n; spends = s; suffices = idle_soon e b h n (omega (arith, l, waits_most b.cycle t.outside)) i row }
-row_in_time e script b h t row (Behind n s l r) = record { waited = n; spends = s; suffices = waited_soon e b h n l r }
+row_in_time e script b h t row (Before s z) = record { waited = 0; spends = s; suffices = row_soon e b h row }
+row_in_time e script b h t row (Waiting n s l i z) = record { waited = n; spends = s; suffices = idle_soon e b h n (omega (arith, l, waits_most b.cycle t.outside)) i row }
+row_in_time e script b h t row (Behind n s l r w) = record { waited = n; spends = s; suffices = waited_soon e b h n l r }

@@ -59,7 +59,7 @@ module _ (x : Program) (b : Machine) (s : Lang) where
         hit = o.hit;
       }
 
-  sprite_timed : (t : ℕ) (l : SpritePlace) → b.regs.idle ≡ true → sprite_place_at x l b s → sprite_place_at x l (timed t b) s
+  pub sprite_timed : (t : ℕ) (l : SpritePlace) → b.regs.idle ≡ true → sprite_place_at x l b s → sprite_place_at x l (timed t b) s
   sprite_timed t ClearWait i o = absurd (sleeps (sym i ∙ o.holds.awake))
   sprite_timed t ClearIdle i o = (clearing_timed t _ _ o.0, o.1)
   sprite_timed t DrawWait i o = absurd (sleeps (sym i ∙ o.holds.awake))

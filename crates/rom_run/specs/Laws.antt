@@ -13,6 +13,7 @@ use Rattle.chip8_lang.specs.Bounds.{bound_of}
 use Rattle.chip8_lang.specs.State.{memory_size, is_fetchable}
 use Rattle.rom_moves.specs.Code.{Input, moved}
 use Rattle.rom_law.specs.Program.{code}
+use Rattle.rom_law.specs.Pictures.{PictureRun}
 use Rattle.rom_law.specs.Runs.{Moves, LanguageRun, carried}
 use Rattle.rom_law.specs.Rows.{Since, Row, Outcome, after_main}
 use Rattle.rom_law.specs.Schedules.{EverySchedule}
@@ -32,6 +33,15 @@ EveryRun =
     → ((i : ℕ) → slice_index game i < 256)
     → (script : List Event) (limit : ℕ)
     → LanguageRun (vip e) game script limit
+
+-- each picture of such a run is the screen at the last dispatch point before it
+abbrev pub EveryPicture : Type 0
+EveryPicture =
+    (e : Edition) (game : List ℕ)
+    → length game ≤ memory_size e
+    → ((i : ℕ) → slice_index game i < 256)
+    → (script : List Event) (limit : ℕ)
+    → PictureRun (vip e) game script limit
 
 -- Each move of the board keeps what is known of it, and carries its record on: it comes to no event; to a dispatch, with what lies between the
 -- two, and the record begins anew; or to the stop of the state.

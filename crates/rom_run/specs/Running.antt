@@ -1,6 +1,6 @@
 -- What is known of the board along its run, from the first dispatch point up to the stop, with the record of what came since the last
 -- dispatch point.
-use Rattle.std.specs.Prelude.{◌≡◌, ℕ, ◌+◌, ◌-◌, ◌*◌, ◌%◌, ◌<◌, ◌≤◌, true, false, List, length, slice_index, Some}
+use Rattle.std.specs.Prelude.{◌≡◌, ℕ, ◌+◌, ◌-◌, ◌*◌, ◌/◌, ◌%◌, ◌<◌, ◌≤◌, true, false, List, length, slice_index, Some}
 use Rattle.machine.specs.Board.{Machine, start}
 use Rattle.machine.specs.Keys.{Event, held_at}
 use Rattle.machine.specs.Run.{after_moves}
@@ -8,6 +8,8 @@ use Rattle.machine.specs.Ranges.{FitsMachine}
 use Rattle.machine.specs.Pictures.{frame, interrupt_at}
 use Rattle.chip8_lang.specs.declared.view.Edition.{Edition}
 use Rattle.chip8_lang.specs.declared.view.Stop.{Stop}
+use Rattle.chip8_lang.specs.Editions.{rows_of}
+use Rattle.chip8_lang.specs.Places.{state_of}
 use Rattle.chip8_lang.specs.State.{Lang, first, memory_size}
 use Rattle.chip8_lang.specs.Bounds.{bound_of, boot_bound}
 use Rattle.chip8_lang.specs.Events.{is_dispatch, is_stop}
@@ -16,7 +18,8 @@ use Rattle.rom_law.specs.Program.{code, Dispatches}
 use Rattle.rom_law.specs.Rows.{Since, Row, Stepped, Stopped, after_tick, dispatched}
 use Rattle.rom_law.specs.Runs.{Covers}
 use Rattle.chip8_rows.specs.Rom.{image, vip}
-use Rattle.chip8_rows.specs.Table.{pieces, waited_pieces}
+use Rattle.chip8_rows.specs.Heads.{high_byte}
+use Rattle.chip8_rows.specs.Table.{pieces, calm_pieces, waited_pieces}
 use Rattle.fetch_blocks.specs.Laws.{boot_moves}
 use Rattle.rom_frame.specs.Frame.{place, interrupt_place, window_place, IsOutside}
 use Rattle.rom_frame.specs.Routine.{routine_moves, routine_cycles}
@@ -54,11 +57,28 @@ since_window t = (t + (frame - window_place)) % frame
 abbrev pub most_wait : ℕ
 most_wait = frame - window_place + interrupt_place
 
+-- the most main cycles after which 00E0 and DXYN wait
+pub data WaitsBy (s : Lang) : ℕ → Type 0 where
+  ToClear : high_byte s ≡ 0 → WaitsBy s 102
+  ToDraw : high_byte s / 16 ≡ 13 → WaitsBy s 2154
+
+-- Behind a wait: main code went on in the cycle `woke`, where the interrupt routine returned. It is in a row too if the wait came after `base`
+-- main cycles, so that the row says how many it has spent since, `late` less `base`.
+pub record Woken (e : Edition) (b : Machine) (h : Since) : Type 0 where
+  pub woke : ℕ
+  pub return : place woke ≡ interrupt_place + routine_cycles
+  pub base : ℕ
+  pub waits : WaitsBy h.state base
+  pub late : ℕ
+  pub since : b.cycle + base ≡ woke + late
+  pub least : base ≤ late
+  pub row : Row (vip e) (waited_pieces (vip e)) b (record h { spent = late })
+
 -- Main code hasn't waited; it waits, since the window ended at most; or it has waited, and is behind the wait of 00E0 or DXYN.
 pub data Timed (e : Edition) (b : Machine) (h : Since) : Type 0 where
-  Before : Spends b h 0 → Timed e b h
-  Waiting : (n : ℕ) → Spends b h n → n ≤ since_window b.cycle → b.regs.idle ≡ true → Timed e b h
-  Behind : (n : ℕ) → Spends b h n → n ≤ most_wait → Row (vip e) (waited_pieces (vip e)) b h → Timed e b h
+  Before : Spends b h 0 → Row (vip e) (calm_pieces (vip e)) b h → Timed e b h
+  Waiting : (n : ℕ) → Spends b h n → n ≤ since_window b.cycle → b.regs.idle ≡ true → Row (vip e) (calm_pieces (vip e)) b h → Timed e b h
+  Behind : (n : ℕ) → Spends b h n → n ≤ most_wait → Row (vip e) (waited_pieces (vip e)) b h → Woken e b h → Timed e b h
 
 -- m cycles of main code and of waiting end within the bound: so many interrupts at most come in them, each with a run of the routine
 pub record Suffices (bound m : ℕ) : Type 0 where
@@ -72,13 +92,19 @@ pub record InTime (e : Edition) (b : Machine) (h : Since) : Type 0 where
   pub spends : Spends b h waited
   pub suffices : (bound : ℕ) → bound_of e h.state ≡ Some bound → Suffices bound (h.spent + waited)
 
+-- ---- the screen
+
+-- the screen in RAM is that of the language state at the last dispatch point
+abbrev pub Showing : Edition → Machine → Since → Type 0
+Showing e b h = (px py : ℕ) → px < 64 → py < rows_of e → (state_of e b).screen px py ≡ h.state.screen px py
+
 -- ---- the board
 
 -- Outside of the interrupt routine the machine is in a row. Or a dispatch or a stop came in the cycle of an interrupt: then the board makes
--- the interrupt first, and the event is the state after the routine.
+-- the interrupt first, and the event is the state after the routine; the screen hasn't changed since the last dispatch point.
 pub data Outside (e : Edition) (script : List Event) (b : Machine) (h : Since) : Type 0 where
   AtRow : Interval e script b h → Row (vip e) (pieces (vip e)) b h → Counted e b → Timed e b h → Outside e script b h
-  AtEvent : Interval e script b h → place b.cycle ≡ interrupt_place → Due e b h → InTime e b h → Outside e script b h
+  AtEvent : Interval e script b h → place b.cycle ≡ interrupt_place → Due e b h → InTime e b h → Showing e b h → Outside e script b h
 
 -- in the routine of frame m, k moves past the cycle of the interrupt, which was counted as a tick
 pub record Serving (e : Edition) (script : List Event) (b : Machine) (h : Since) : Type 0 where

@@ -1,6 +1,6 @@
 //! What is proved of the whole interpreter's ROM, each law the contract of a function without parameters.
 
-ghost use Rattle.rom_run.specs.Laws.{AnySchedule, MainRows, Timely, EveryRun};
+ghost use Rattle.rom_run.specs.Laws.{AnySchedule, MainRows, Timely, EveryRun, EveryPicture};
 
 /// The law of every schedule, for both editions: from a dispatch point on, whenever timer ticks come and whatever keys are held down, the
 /// first main move that comes to the fetch loop or to the stop has made one step of the language, or has come to the stop of the state.
@@ -25,4 +25,10 @@ pub fn timely()
 /// state, with its number in 01F0.
 pub fn every_run()
     ensures { EveryRun }
+{}
+
+/// The law of the pictures of these runs: dot x of line k of each is lit exactly where pixel (x, k / 4) is, in the tall edition (x, k / 2), in the
+/// screen of the language state at the last dispatch point that precedes the picture among the events, and there is one.
+pub fn every_picture()
+    ensures { EveryPicture }
 {}

@@ -1,9 +1,7 @@
 -- So many moves of a board.
-use Rattle.std.proofs.Common.{◌≡◌, ℕ, suc, ◌+◌, ◌*◌, ◌<◌, ◌≤◌, ◌↔◌, refl, sym, ◌∙◌, ap, subst, arith, List}
-use Rattle.machine.specs.Board.{Machine, Case, case_of, move, length_in, length_of}
-use Rattle.machine.specs.Board.Case.{Instruction}
+use Rattle.std.proofs.Common.{◌≡◌, ℕ, suc, ◌+◌, ◌*◌, ◌<◌, ◌≤◌, ◌↔◌, refl, sym, ◌∙◌, ap, subst, arith}
+use Rattle.machine.specs.Board.{Machine, case_of, move, length_of}
 use Rattle.machine.specs.Keys.{held_at}
-use Rattle.machine.specs.Opcodes.{cycles_of}
 use Rattle.machine.specs.Run.{after_moves}
 use Rattle.machine.specs.Schedule.{Tick}
 use Rattle.machine.proofs.Runs.{cycle-move, later-move}
@@ -15,19 +13,13 @@ use Rattle.chip8_rows.specs.Rom.{image, vip}
 use Rattle.rom_frame.specs.Routine.{IsTick, routine_cycles}
 use Rattle.rom_run.specs.Running.{Running}
 use Rattle.rom_run.proofs.Served.{whole_tick, tick_comes}
+use Rattle.rom_run.proofs.Ticks.{few_in}
 use Rattle.rom_timer.specs.Ticks.{IsInterrupted, MakesTick}
 use Rattle.vip_board.specs.Moves.{IfDone, moved, name_of}
 use Rattle.vip_board.specs.Seen.{Seen}
 use Rattle.vip_board.specs.declared.board.Moved.{Moved}
 use Rattle.vip_board.specs.declared.board.Moved.TheVariants.{Done, End}
 use Rattle.vip_cpu.specs.declared.cpu.Phase.TheVariants.{Boundary}
-
-few_cycles : (byte : ℕ) → cycles_of byte ≤ 3
-few_cycles byte = grind arith
-
-few : (k : Case) (rom : List ℕ) (b : Machine) → length_in k rom b ≤ 3
-few Instruction rom b = few_cycles _
-few _ rom b = omega arith
 
 -- i moves of the board `old` made the board `now`
 pub record Ran (old now : Seen) (i : ℕ) : Type 0 where
@@ -55,7 +47,7 @@ module _ (old now new : Seen) (i : ℕ) (r : Ran old now i) where
   one_more = omega arith
 
   pub ran_more : (result : Moved) → old.machine.cycle ≤ 4000000000 → i < 1435 → (result ≡ End) ↔ (18446744073709551615 < now.machine.cycle + length_of now.rom now.machine) → IfDone result (λ m. (new ≡ moved now) × (m ≡ name_of now.machine)) → new.phase ≡ Boundary → Ran old new (i + 1)
-  ran_more End early inside end d p = absurd (omega (arith, early, inside, end.0 refl, r.soon, few (case_of now.machine) now.rom now.machine))
+  ran_more End early inside end d p = absurd (omega (arith, early, inside, end.0 refl, r.soon, few_in (case_of now.machine) now.rom now.machine))
   ran_more (Done m) early inside end d p =
       record {
         phase = p;
@@ -63,7 +55,7 @@ module _ (old now new : Seen) (i : ℕ) (r : Ran old now i) where
         script = ap (λ (s : Seen). s.script) d.0 ∙ r.script;
         machine = step_is d.0 ∙ ap (after_moves old.rom (held_at old.script) old.machine) one_more;
         from = omega (arith, r.from, cycle_later d.0);
-        soon = omega (arith, r.soon, cycle_is d.0, few (case_of now.machine) now.rom now.machine);
+        soon = omega (arith, r.soon, cycle_is d.0, few_in (case_of now.machine) now.rom now.machine);
       }
 
 -- ---- the whole routine

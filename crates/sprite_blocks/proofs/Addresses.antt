@@ -12,14 +12,14 @@ use Rattle.chip8_rows.specs.SpriteBlocks.SpriteBlock.{Clear, Wipe, Wipe3, Wipe6,
 use Rattle.chip8_rows.specs.SpriteBlocks.SpritePlace.{ClearWait, ClearIdle, DrawWait, DrawIdle}
 use Rattle.chip8_rows.specs.Table.{Head}
 use Rattle.chip8_rows.specs.Table.Block.{OfSprite}
-use Rattle.chip8_rows.proofs.Addresses.{Follows, runs_at, covers}
+use Rattle.chip8_rows.proofs.Addresses.{Follows, runs_at_in, covers}
 use Rattle.chip8_rows.proofs.Bytes.{quick}
 use Rattle.chip8_rows.proofs.Entry.{is_entered, on_3, is_on_3}
 use Rattle.sprite_blocks.specs.Laws.{SpriteAddresses, SpritePlaceAddresses, SpriteCovers, SpritePiece, piece_moves, piece_addresses}
 use Rattle.sprite_blocks.specs.Laws.SpritePiece.{InBlock, AtPlace}
 use Rattle.sprite_blocks.proofs.Aim.{is_aiming, is_summing, is_resumed}
 use Rattle.sprite_blocks.proofs.Clear.{is_clearing}
-use Rattle.sprite_blocks.proofs.Law.{sprite_block}
+use Rattle.sprite_blocks.proofs.Law.{sprite_any}
 use Rattle.sprite_blocks.proofs.Paint.{is_painting}
 use Rattle.sprite_blocks.proofs.Prepare.{is_preparing}
 
@@ -67,7 +67,7 @@ sprite_follows e (LineRight r) b h o = record { same = _; is = is_painting o.0.0
 sprite_follows e Drawn b h o = record { same = _; is = is_painting o.0; follows = refl }
 
 pub addresses : SpriteAddresses
-addresses e l = runs_at e (OfSprite l) (sprite_addresses l) (sprite_block e l) (sprite_follows e l)
+addresses e l = runs_at_in e (OfSprite l) (sprite_addresses l) (sprite_any e l) (sprite_follows e l)
 
 pub place_addresses : SpritePlaceAddresses
 place_addresses e ClearWait b h o = ap (at b.regs) o.0.p ∙ ap value o.0.r3

@@ -28,7 +28,7 @@ use Rattle.chip8_rows.specs.FetchBlocks.FetchBlock.{Leave}
 use Rattle.chip8_rows.specs.MemoryBlocks.MemoryBlock.{Check}
 use Rattle.chip8_rows.specs.SpriteBlocks.{Aiming, Summing, Aimed, top, asked, height, corner, entry_of}
 use Rattle.chip8_rows.specs.SpriteBlocks.SpriteBlock.{Draw, DrawCheck, DrawFound, Place, Edge, Fits, Angle, Begin, Row}
-use Rattle.chip8_rows.specs.Table.{pieces}
+use Rattle.chip8_rows.specs.Table.{calm_pieces}
 use Rattle.chip8_rows.specs.Table.Block.{OfSprite}
 use Rattle.chip8_rows.proofs.Bits.{borrowed, not_borrowed}
 use Rattle.chip8_rows.proofs.Branches.{branch}
@@ -98,15 +98,15 @@ module _ (e : Edition) (b : Machine) (h : Since) (f : FitsMachine b) where
   none_asked : asked (now h) ≡ 0 → (asked (now h) == 0) ≡ true
   none_asked n = eq-eqb _ _ n
 
-  pub draw_comes : Enters (quick e) at_draw 13 b (now h) → h.spent ≡ 80 → Comes (quick e) (pieces (quick e)) (OfSprite Draw) b h
+  pub draw_comes : Enters (quick e) at_draw 13 b (now h) → h.spent ≡ 80 → Comes (quick e) (calm_pieces (quick e)) (OfSprite Draw) b h
   draw_comes o spent = branch (OfSprite Draw) o.entered (on_at (quicks (code (quick e)) 4 (entered e at_draw high low b))) (bit_and low 15 == 0) at_place at_draw_check (omega arith) refl
-      (λ k h' g. to_sprite (quick e) g _ refl Place (record { draws = record { inside = o.entered.inside; digit = o.digit; readable = rw (none_asked (sym (and_mask low 4) ∙ eqb-true _ _ k)) refl }; holds = o.entered.holds; p = refl; r3 = refl; r4 = refl; r6 = refl; r7 = refl; count = and_mask low 4 }) (omega (arith, spent, g.spent)))
-      (λ k h' g. to_sprite (quick e) g _ refl DrawCheck (record { entered = record { holds = o.entered.holds; inside = o.entered.inside; p = refl; r3 = refl; r4 = refl; r6 = refl; r7 = refl; rc = refl }; digit = o.digit }, and_mask low 4, some k) (omega (arith, spent, g.spent)))
+      (λ k h' g. to_sprite (quick e) g _ refl Place tt (record { draws = record { inside = o.entered.inside; digit = o.digit; readable = rw (none_asked (sym (and_mask low 4) ∙ eqb-true _ _ k)) refl }; holds = o.entered.holds; p = refl; r3 = refl; r4 = refl; r6 = refl; r7 = refl; count = and_mask low 4 }) (omega (arith, spent, g.spent)))
+      (λ k h' g. to_sprite (quick e) g _ refl DrawCheck tt (record { entered = record { holds = o.entered.holds; inside = o.entered.inside; p = refl; r3 = refl; r4 = refl; r6 = refl; r7 = refl; rc = refl }; digit = o.digit }, and_mask low 4, some k) (omega (arith, spent, g.spent)))
     where
       some : (bit_and low 15 == 0) ≡ false → 0 < low % 16
       some k = omega (arith, and_mask low 4, eqb-false (bit_and low 15) 0 k)
 
-  pub draw_check_comes : Enters (quick e) at_draw_check 13 b (now h) → b.regs.r.re.lo ≡ asked (now h) → 0 < asked (now h) → h.spent ≤ 88 → Comes (quick e) (pieces (quick e)) (OfSprite DrawCheck) b h
+  pub draw_check_comes : Enters (quick e) at_draw_check 13 b (now h) → b.regs.r.re.lo ≡ asked (now h) → 0 < asked (now h) → h.spent ≤ 88 → Comes (quick e) (calm_pieces (quick e)) (OfSprite DrawCheck) b h
   draw_check_comes o count some spent = routine (OfSprite DrawCheck) o.entered _ (omega arith) refl
       (λ h' g. to_memory (quick e) g _ refl (Check ForDraw) (record { called = record { holds = o.entered.holds; inside = o.entered.inside; calls = (o.digit, some); r4 = refl; r6 = refl; r7 = refl }; p = refl; rd = refl; r3 = refl; count = count }) (omega (arith, spent, g.spent)))
 
@@ -117,9 +117,9 @@ module _ (e : Edition) (b : Machine) (h : Since) (f : FitsMachine b) where
   found : {answer : Answer} → Checked (quick e) ForDraw answer b (now h) → (is_in_memory e (now h).i (low % 16) || is_in_font (now h).i (low % 16)) ≡ true → (c : Machine) → Holding (quick e) (places c) (next (now h)) → c.regs.p ≡ 3 → c.regs.r.r3 ≡ word_of at_place → c.regs.r.r4 ≡ word_of at_fetch → c.regs.r.r6 ≡ word (page_of e) (0xf0 + high % 16) → c.regs.r.r7 ≡ word (page_of e) (0xf0 + low / 16) → c.regs.r.re.lo ≡ b.regs.r.re.lo → Aiming (quick e) at_place (asked (now h)) c (now h)
   found o fits c holds p r3 r4 r6 r7 re = record { draws = record { inside = o.called.inside; digit = o.called.calls.0; readable = or_right (asked (now h) == 0) _ fits }; holds = holds; p = p; r3 = r3; r4 = r4; r6 = r6; r7 = r7; count = re ∙ o.count }
 
-  pub draw_found_comes : (answer : Answer) → Checked (quick e) ForDraw answer b (now h) → h.spent ≤ 148 → Comes (quick e) (pieces (quick e)) (OfSprite (DrawFound answer)) b h
-  draw_found_comes InGame o spent = straight (OfSprite (DrawFound InGame)) o.called.holds _ (is_resumed o) _ (omega arith) refl (λ h' g. to_sprite (quick e) g _ refl Place (found o (rw o.is refl) _ o.called.holds refl refl refl refl refl refl) (omega (arith, spent, g.spent)))
-  draw_found_comes InFont o spent = straight (OfSprite (DrawFound InFont)) o.called.holds _ (is_resumed o) _ (omega arith) refl (λ h' g. to_sprite (quick e) g _ refl Place (found o (rw (o.is.0, o.is.1) refl) _ o.called.holds refl refl refl refl refl refl) (omega (arith, spent, g.spent)))
+  pub draw_found_comes : (answer : Answer) → Checked (quick e) ForDraw answer b (now h) → h.spent ≤ 148 → Comes (quick e) (calm_pieces (quick e)) (OfSprite (DrawFound answer)) b h
+  draw_found_comes InGame o spent = straight (OfSprite (DrawFound InGame)) o.called.holds _ (is_resumed o) _ (omega arith) refl (λ h' g. to_sprite (quick e) g _ refl Place tt (found o (rw o.is refl) _ o.called.holds refl refl refl refl refl refl) (omega (arith, spent, g.spent)))
+  draw_found_comes InFont o spent = straight (OfSprite (DrawFound InFont)) o.called.holds _ (is_resumed o) _ (omega arith) refl (λ h' g. to_sprite (quick e) g _ refl Place tt (found o (rw (o.is.0, o.is.1) refl) _ o.called.holds refl refl refl refl refl refl) (omega (arith, spent, g.spent)))
   draw_found_comes Nowhere o spent = straight (OfSprite (DrawFound Nowhere)) o.called.holds _ (is_resumed o) _ (omega arith) refl (λ h' g. to_fetch (quick e) g _ refl (Leave 3) (record { holds = o.called.holds; p = refl; r3 = refl; stop = ReadOutside; fits = draw_stops o.called.inside o.called.calls o.is.0 o.is.1; number = refl }, omega arith) (omega (arith, spent, g.spent)))
 
   -- ---- VX, VY and the work
@@ -175,10 +175,10 @@ module _ (e : Edition) (b : Machine) (h : Since) (f : FitsMachine b) where
   abbrev more_df : ℕ
   more_df = (b.regs.r.re.lo + 256 - again down_to) / 256
 
-  pub place_comes : Aiming (quick e) at_place (asked (now h)) b (now h) → h.spent ≤ 152 → Comes (quick e) (pieces (quick e)) (OfSprite Place) b h
+  pub place_comes : Aiming (quick e) at_place (asked (now h)) b (now h) → h.spent ≤ 152 → Comes (quick e) (calm_pieces (quick e)) (OfSprite Place) b h
   place_comes o spent = forks (OfSprite Place) o.holds (aiming e at_place high low b) (is_aiming o) (on_at (quicks (code (quick e)) 12 (aiming e at_place high low b))) (not (more_df == 1)) at_fits at_edge (omega (arith, stack_there o, page_low e)) refl
-      (λ k h' g. to_sprite (quick e) g _ refl Fits (record { draws = o.draws; holds = works o down_to; p = refl; r3 = refl; r4 = refl; r6 = refl; r7 = refl; count = omega (arith, less k, o.count) }, record { rd = refl; pointer = refl }) (omega (arith, spent, g.spent)))
-      (λ k h' g. to_sprite (quick e) g _ refl Edge (record { draws = o.draws; holds = works o down_to; p = refl; r3 = refl; r4 = refl; r6 = refl; r7 = refl; count = o.count }, record { rd = refl; pointer = refl }, omega (arith, more k)) (omega (arith, spent, g.spent)))
+      (λ k h' g. to_sprite (quick e) g _ refl Fits tt (record { draws = o.draws; holds = works o down_to; p = refl; r3 = refl; r4 = refl; r6 = refl; r7 = refl; count = omega (arith, less k, o.count) }, record { rd = refl; pointer = refl }) (omega (arith, spent, g.spent)))
+      (λ k h' g. to_sprite (quick e) g _ refl Edge tt (record { draws = o.draws; holds = works o down_to; p = refl; r3 = refl; r4 = refl; r6 = refl; r7 = refl; count = o.count }, record { rd = refl; pointer = refl }, omega (arith, more k)) (omega (arith, spent, g.spent)))
     where
       less : not (more_df == 1) ≡ true → asked (now h) < rows_of e - top e (now h)
       less k = omega (arith, borrowed more_df k, again_is o down_to, down_is o, o.count, f.regs.r.re.lo, few_rows e)
@@ -186,9 +186,9 @@ module _ (e : Edition) (b : Machine) (h : Since) (f : FitsMachine b) where
       more : not (more_df == 1) ≡ false → rows_of e - top e (now h) ≤ asked (now h)
       more k = omega (arith, not_borrowed more_df k, again_is o down_to, down_is o, o.count, few_rows e)
 
-  pub edge_comes : Aiming (quick e) at_edge (asked (now h)) b (now h) → Summing (quick e) b → rows_of e ≤ top e (now h) + asked (now h) → h.spent ≤ 176 → Comes (quick e) (pieces (quick e)) (OfSprite Edge) b h
+  pub edge_comes : Aiming (quick e) at_edge (asked (now h)) b (now h) → Summing (quick e) b → rows_of e ≤ top e (now h) + asked (now h) → h.spent ≤ 176 → Comes (quick e) (calm_pieces (quick e)) (OfSprite Edge) b h
   edge_comes o w past spent = straight (OfSprite Edge) o.holds (summing e at_edge high low b) (is_summing o w) _ (omega (arith, stack_there o, page_low e)) refl
-      (λ h' g. to_sprite (quick e) g _ refl Fits (record { draws = o.draws; holds = o.holds; p = refl; r3 = refl; r4 = refl; r6 = refl; r7 = refl; count = omega (arith, down_is o, past) }, record { rd = refl; pointer = refl }) (omega (arith, spent, g.spent)))
+      (λ h' g. to_sprite (quick e) g _ refl Fits tt (record { draws = o.draws; holds = o.holds; p = refl; r3 = refl; r4 = refl; r6 = refl; r7 = refl; count = omega (arith, down_is o, past) }, record { rd = refl; pointer = refl }) (omega (arith, spent, g.spent)))
 
   -- ---- the place on the screen
 
@@ -205,9 +205,9 @@ module _ (e : Edition) (b : Machine) (h : Since) (f : FitsMachine b) where
   abbrev fitted : Machine
   fitted = quicks (code (quick e)) 20 (summing e at_fits high low b)
 
-  pub fits_comes : Aiming (quick e) at_fits (height e (now h)) b (now h) → Summing (quick e) b → h.spent ≤ 184 → Comes (quick e) (pieces (quick e)) (OfSprite Fits) b h
+  pub fits_comes : Aiming (quick e) at_fits (height e (now h)) b (now h) → Summing (quick e) b → h.spent ≤ 184 → Comes (quick e) (calm_pieces (quick e)) (OfSprite Fits) b h
   fits_comes o w spent = straight (OfSprite Fits) o.holds (summing e at_fits high low b) (is_summing o w) fitted (omega (arith, stack_there o, page_low e)) refl
-      (λ h' g. to_sprite (quick e) g fitted refl Angle (record { draws = o.draws; holds = low_set (works o x8) ((again x8 + y8) % 256); p = refl; r3 = refl; r4 = refl; r6 = refl; r7 = refl; count = o.count }, record { rd = refl; pointer = refl }, record { rows = o.count; place = there }) (omega (arith, spent, g.spent)))
+      (λ h' g. to_sprite (quick e) g fitted refl Angle tt (record { draws = o.draws; holds = low_set (works o x8) ((again x8 + y8) % 256); p = refl; r3 = refl; r4 = refl; r6 = refl; r7 = refl; count = o.count }, record { rd = refl; pointer = refl }, record { rows = o.count; place = there }) (omega (arith, spent, g.spent)))
     where
       sum : (by_edition e 15 14 + 0 + y8_df) % 256 * 256 + (again x8 + y8) % 256 ≡ corner e (now h)
       sum = omega (arith, screen_page e, screen_is e, page_fits e, again_is o x8, top_is o, few_rows e, below_rows e (variable (now h) (low / 16)), and_mask vx 6, x_is o)
@@ -220,9 +220,9 @@ module _ (e : Edition) (b : Machine) (h : Since) (f : FitsMachine b) where
   abbrev left_out : ℕ
   left_out = (7 + 256 - bit_and vx 7) % 256
 
-  pub angle_comes : Aiming (quick e) at_angle (height e (now h)) b (now h) → Summing (quick e) b → Aimed (quick e) b (now h) → h.spent ≤ 224 → Comes (quick e) (pieces (quick e)) (OfSprite Angle) b h
+  pub angle_comes : Aiming (quick e) at_angle (height e (now h)) b (now h) → Summing (quick e) b → Aimed (quick e) b (now h) → h.spent ≤ 224 → Comes (quick e) (calm_pieces (quick e)) (OfSprite Angle) b h
   angle_comes o w z spent = straight (OfSprite Angle) o.holds (summing e at_angle high low b) (is_summing o w) _ (omega (arith, stack_there o, page_low e)) refl
-      (λ h' g. to_sprite (quick e) g _ refl Begin (record { draws = o.draws; holds = works o left_out; p = refl; r3 = refl; r4 = refl; r6 = refl; r7 = refl; count = o.count }, record { rows = z.rows; place = z.place }, entry) (omega (arith, spent, g.spent)))
+      (λ h' g. to_sprite (quick e) g _ refl Begin tt (record { draws = o.draws; holds = works o left_out; p = refl; r3 = refl; r4 = refl; r6 = refl; r7 = refl; count = o.count }, record { rows = z.rows; place = z.place }, entry) (omega (arith, spent, g.spent)))
     where
       entry : ((again left_out + left_out * 2 % 256) % 256 * 2 % 256 + 0x65) % 256 ≡ entry_of (now h)
       entry = omega (arith, again_is o left_out, and_mask vx 3, x_is o)
@@ -235,6 +235,6 @@ module _ (e : Edition) (b : Machine) (h : Since) (f : FitsMachine b) where
   no_less : (n : ℕ) → n ≡ n - 0
   no_less n = omega arith
 
-  pub begin_comes : Aiming (quick e) at_begin (height e (now h)) b (now h) → Aimed (quick e) b (now h) → b.regs.r.rc.lo ≡ entry_of (now h) → h.spent ≤ 242 → Comes (quick e) (pieces (quick e)) (OfSprite Begin) b h
+  pub begin_comes : Aiming (quick e) at_begin (height e (now h)) b (now h) → Aimed (quick e) b (now h) → b.regs.r.rc.lo ≡ entry_of (now h) → h.spent ≤ 242 → Comes (quick e) (calm_pieces (quick e)) (OfSprite Begin) b h
   begin_comes o z entry spent = straight (OfSprite Begin) o.holds (aiming e at_begin high low b) (is_aiming o) _ (omega arith) refl
-      (λ h' g. to_sprite (quick e) g _ refl (Row 0) (record { draws = o.draws; holds = o.holds; prepared = record { lefts = λ j l. absurd (omega (arith, l)); rights = λ j l. absurd (omega (arith, l)) }; p = refl; r3 = refl; r4 = refl; entry = entry; place = z.place; rows = z.rows; count = o.count ∙ no_less (height e (now h)); r7 = refl; rd = i_is o.holds ∙ no_more (now h).i }, omega arith) (omega (arith, spent, g.spent)))
+      (λ h' g. to_sprite (quick e) g _ refl (Row 0) tt (record { draws = o.draws; holds = o.holds; prepared = record { lefts = λ j l. absurd (omega (arith, l)); rights = λ j l. absurd (omega (arith, l)) }; p = refl; r3 = refl; r4 = refl; entry = entry; place = z.place; rows = z.rows; count = o.count ∙ no_less (height e (now h)); r7 = refl; rd = i_is o.holds ∙ no_more (now h).i }, omega arith) (omega (arith, spent, g.spent)))

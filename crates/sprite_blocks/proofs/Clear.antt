@@ -25,7 +25,7 @@ use Rattle.chip8_rows.specs.Heads.{page_of, Entered, Done}
 use Rattle.chip8_rows.specs.SpriteBlocks.{Clears, Clearing, cleared_to, woken}
 use Rattle.chip8_rows.specs.SpriteBlocks.SpriteBlock.{Clear, Wipe, Wipe3, Wipe6, Wiped, Cleared}
 use Rattle.chip8_rows.specs.SpriteBlocks.SpritePlace.{ClearWait, ClearIdle}
-use Rattle.chip8_rows.specs.Table.{At, pieces, waited_pieces}
+use Rattle.chip8_rows.specs.Table.{At, pieces, waited_pieces, calm_pieces}
 use Rattle.chip8_rows.specs.Table.Block.{OfSprite}
 use Rattle.chip8_rows.specs.Table.Place.{AtSprite}
 use Rattle.chip8_rows.proofs.Alone.{alone, one_more}
@@ -54,13 +54,13 @@ recounted {x = x} {a = a} {b = b} {s = s} m n e o = subst (λ k. Clearing x a k 
 module _ (e : Edition) (b : Machine) (h : Since) (f : FitsMachine b) where
   -- ---- up to the wait
 
-  pub clear_comes : Entered (quick e) at_clear b (now h) → Clears (now h) → h.spent ≤ 90 → Comes (quick e) (pieces (quick e)) (OfSprite Clear) b h
+  pub clear_comes : Entered (quick e) at_clear b (now h) → Clears (now h) → h.spent ≤ 90 → Comes (quick e) (calm_pieces (quick e)) (OfSprite Clear) b h
   clear_comes o is spent = routine (OfSprite Clear) o _ (omega arith) refl
       (λ h' g. to_sprite_place (quick e) g _ refl ClearWait (record { holds = subst (λ z. Holding (quick e) (places b) (record (next (now h)) { screen = z })) (all_left o.holds) o.holds; inside = o.inside; clears = is; p = refl; r3 = refl; r4 = refl; pointer = refl; rd = omega (arith, screen_ends e) }) (omega (arith, spent, g.spent)))
 
   -- ---- the wait
 
-  pub clear_wait_holds : Clearing (quick e) at_clear_wait (8 * rows_of e) b (now h) → At (quick e) (AtSprite ClearWait) b h → h.spent ≤ 100 → Holds (quick e) (pieces (quick e)) (AtSprite ClearWait) b h
+  pub clear_wait_holds : Clearing (quick e) at_clear_wait (8 * rows_of e) b (now h) → At (quick e) (AtSprite ClearWait) b h → h.spent ≤ 100 → Holds (quick e) (calm_pieces (quick e)) (AtSprite ClearWait) b h
   clear_wait_holds o at spent = alone (AtSprite ClearWait) f at o.holds (clearing at_clear_wait b) (is_clearing o) refl refl refl
       (λ u. to_sprite_place (quick e) (one_more u h) _ refl ClearIdle (record { holds = waking o.holds; inside = o.inside; clears = o.clears; p = refl; r3 = refl; r4 = refl; pointer = refl; rd = o.rd }, refl) (omega (arith, spent)))
 

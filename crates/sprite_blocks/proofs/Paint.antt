@@ -29,7 +29,7 @@ use Rattle.chip8_rows.specs.Dots.{left, right, dots_of_byte}
 use Rattle.chip8_rows.specs.SpriteBlocks.{Draws, Preparing, Painting, painted, column, top, asked, height, corner, lit, half_lit, woken}
 use Rattle.chip8_rows.specs.SpriteBlocks.SpriteBlock.{Ready, Line, LineLeft, LineRight, Drawn}
 use Rattle.chip8_rows.specs.SpriteBlocks.SpritePlace.{DrawWait, DrawIdle}
-use Rattle.chip8_rows.specs.Table.{At, pieces, waited_pieces}
+use Rattle.chip8_rows.specs.Table.{At, pieces, waited_pieces, calm_pieces}
 use Rattle.chip8_rows.specs.Table.Block.{OfSprite}
 use Rattle.chip8_rows.specs.Table.Place.{AtSprite}
 use Rattle.chip8_rows.proofs.Alone.{alone, one_more}
@@ -72,7 +72,7 @@ module _ (e : Edition) (b : Machine) (h : Since) (f : FitsMachine b) where
   no_less : (n : ℕ) → n ≡ n - 0
   no_less n = omega arith
 
-  pub ready_comes : Preparing (quick e) at_ready rows rows rows b (now h) → h.spent ≤ 2130 → Comes (quick e) (pieces (quick e)) (OfSprite Ready) b h
+  pub ready_comes : Preparing (quick e) at_ready rows rows rows b (now h) → h.spent ≤ 2130 → Comes (quick e) (calm_pieces (quick e)) (OfSprite Ready) b h
   ready_comes o spent = straight (OfSprite Ready) o.holds (preparing e at_ready (rows + rows) b) (is_preparing o) _ (omega arith) refl
       (λ h' g. to_sprite_place (quick e) g _ refl DrawWait (record {
         draws = o.draws;
@@ -91,7 +91,7 @@ module _ (e : Edition) (b : Machine) (h : Since) (f : FitsMachine b) where
 
   -- ---- the wait
 
-  pub draw_wait_holds : Painting (quick e) at_draw_wait 0 0 rows (lit e 0 (now h)) b (now h) → At (quick e) (AtSprite DrawWait) b h → h.spent ≤ 2152 → Holds (quick e) (pieces (quick e)) (AtSprite DrawWait) b h
+  pub draw_wait_holds : Painting (quick e) at_draw_wait 0 0 rows (lit e 0 (now h)) b (now h) → At (quick e) (AtSprite DrawWait) b h → h.spent ≤ 2152 → Holds (quick e) (calm_pieces (quick e)) (AtSprite DrawWait) b h
   draw_wait_holds o at spent = alone (AtSprite DrawWait) f at o.holds (painting e at_draw_wait 0 b) (is_painting o) refl refl refl
       (λ u. to_sprite_place (quick e) (one_more u h) _ refl DrawIdle (record { draws = o.draws; holds = waking o.holds; prepared = record { lefts = o.prepared.lefts; rights = o.prepared.rights }; p = refl; r3 = refl; r4 = refl; pointer = refl; r7 = refl; rd = o.rd; count = o.count; few = o.few; hit = o.hit }, refl) (omega (arith, spent)))
 

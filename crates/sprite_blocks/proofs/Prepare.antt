@@ -23,7 +23,7 @@ use Rattle.chip8_rows.specs.Heads.{page_of}
 use Rattle.chip8_rows.specs.Dots.{left, right, shifted}
 use Rattle.chip8_rows.specs.SpriteBlocks.{Preparing, Shifting, column, asked, height}
 use Rattle.chip8_rows.specs.SpriteBlocks.SpriteBlock.{Row, RowByte, Shift, Shifted, RowRight, RowStore, Ready}
-use Rattle.chip8_rows.specs.Table.{pieces}
+use Rattle.chip8_rows.specs.Table.{calm_pieces, calm_top}
 use Rattle.chip8_rows.specs.Table.Block.{OfSprite}
 use Rattle.chip8_rows.proofs.Bits.{xor_same, xor_other}
 use Rattle.chip8_rows.proofs.Bytes.{both, quick, memory_end_is, variables_is, stack_top_is, page_fits}
@@ -83,10 +83,10 @@ module _ (e : Edition) (b : Machine) (h : Since) (f : FitsMachine b) (r : ℕ) w
 
   -- ---- are all rows prepared
 
-  pub row_comes : Preparing (quick e) at_row r r r b (now h) → r ≤ rows → h.spent ≤ 266 + 124 * r → Comes (quick e) (pieces (quick e)) (OfSprite (Row r)) b h
+  pub row_comes : Preparing (quick e) at_row r r r b (now h) → r ≤ rows → h.spent ≤ 266 + 124 * r → Comes (quick e) (calm_pieces (quick e)) (OfSprite (Row r)) b h
   row_comes o inside spent = forks (OfSprite (Row r)) o.holds (on_3 at_row b) (is_on_3 at_row b o.p o.r3) (on_at (quicks (code (quick e)) 2 (on_3 at_row b))) (b.regs.r.re.lo == 0) at_ready at_row_byte (omega arith) refl
-      (λ k h' g. to_sprite (quick e) g _ refl Ready (subst (λ z. Preparing (quick e) at_ready z z z (on_at (quicks (code (quick e)) 2 (on_3 at_row b)) (word_of at_ready)) (now h)) (all k) (goes at_ready)) (omega (arith, spent, g.spent, few_rows_drawn, all k)))
-      (λ k h' g. to_sprite (quick e) g _ refl (RowByte r) (goes at_row_byte, more k) (omega (arith, spent, g.spent)))
+      (λ k h' g. to_sprite (quick e) g _ refl Ready tt (subst (λ z. Preparing (quick e) at_ready z z z (on_at (quicks (code (quick e)) 2 (on_3 at_row b)) (word_of at_ready)) (now h)) (all k) (goes at_ready)) (omega (arith, spent, g.spent, few_rows_drawn, all k)))
+      (λ k h' g. to_sprite (quick e) g _ refl (RowByte r) tt (goes at_row_byte, more k) (omega (arith, spent, g.spent)))
     where
       all : (b.regs.r.re.lo == 0) ≡ true → r ≡ rows
       all k = omega (arith, eqb-true b.regs.r.re.lo 0 k, o.count, inside)
@@ -136,17 +136,17 @@ module _ (e : Edition) (b : Machine) (h : Since) (f : FitsMachine b) (r : ℕ) w
     no_stop : (a : ℕ) → a ≡ at_shift7 + 6 * (7 - k) → is_event (code (quick e)) (loaded (word_of a)) ≡ false
     no_stop a is = rw (ne_eqb (value (word_of a)) at_halt (λ z. omega (arith, z, is))) refl
 
-    pub row_byte_comes : h.spent ≤ 270 + 124 * r → Comes (quick e) (pieces (quick e)) (OfSprite (RowByte r)) b h
+    pub row_byte_comes : h.spent ≤ 270 + 124 * r → Comes (quick e) (calm_pieces (quick e)) (OfSprite (RowByte r)) b h
     row_byte_comes spent = go (cases_eq k 0)
       where
-        steady : AllGood (code (quick e)) 7 (on_3 at_row_byte b)
+        steady : AllGood (code (quick e)) (calm_top e) 7 (on_3 at_row_byte b)
         steady = omega (arith, o.holds.stack, stack_top_is e, memory_end_is e, page_fits e, o.rd, readable)
 
-        go : (k ≡ 0) ⊎ (k ≡ 0 → ⊥) → Comes (quick e) (pieces (quick e)) (OfSprite (RowByte r)) b h
+        go : (k ≡ 0) ⊎ (k ≡ 0 → ⊥) → Comes (quick e) (calm_pieces (quick e)) (OfSprite (RowByte r)) b h
         go (inl z) = straight (OfSprite (RowByte r)) o.holds (on_3 at_row_byte b) (is_on_3 at_row_byte b o.p o.r3) (loaded (word_of at_shifted)) steady (entered_at at_shifted (omega (arith, z)))
-            (λ h' g. to_sprite (quick e) g _ refl (Shifted r) (goes_on at_shifted, inside, subst (λ j. Shifting r j (loaded (word_of at_shifted)) (now h)) z (none_yet at_shifted)) (omega (arith, spent, g.spent)))
+            (λ h' g. to_sprite (quick e) g _ refl (Shifted r) tt (goes_on at_shifted, inside, subst (λ j. Shifting r j (loaded (word_of at_shifted)) (now h)) z (none_yet at_shifted)) (omega (arith, spent, g.spent)))
         go (inr z) = straight (OfSprite (RowByte r)) o.holds (on_3 at_row_byte b) (is_on_3 at_row_byte b o.p o.r3) (loaded (word_of (at_shift7 + 6 * (7 - k)))) steady (entered_at (at_shift7 + 6 * (7 - k)) refl)
-            (λ h' g. to_sprite (quick e) g _ (no_stop (at_shift7 + 6 * (7 - k)) refl) (Shift r k) (goes_on (at_shift7 + 6 * (7 - k)), inside, none_yet (at_shift7 + 6 * (7 - k)), omega (arith, z), omega arith) (omega (arith, spent, g.spent)))
+            (λ h' g. to_sprite (quick e) g _ (no_stop (at_shift7 + 6 * (7 - k)) refl) (Shift r k) tt (goes_on (at_shift7 + 6 * (7 - k)), inside, none_yet (at_shift7 + 6 * (7 - k)), omega (arith, z), omega arith) (omega (arith, spent, g.spent)))
 
   -- ---- a shift
 
@@ -174,18 +174,18 @@ module _ (e : Edition) (b : Machine) (h : Since) (f : FitsMachine b) (r : ℕ) w
     moves_on a = record { draws = o.draws; holds = o.holds; prepared = record { lefts = o.prepared.lefts; rights = o.prepared.rights }; p = refl; r3 = refl; r4 = o.r4; entry = o.entry; place = o.place; rows = o.rows; count = o.count; r7 = o.r7; rd = o.rd }
 
     -- where a shift is computed
-    shifting : AllGood (code (quick e)) 6 (on_3 (at_shift7 + 6 * (7 - suc j)) b) → quicks (code (quick e)) 6 (on_3 (at_shift7 + 6 * (7 - suc j)) b) ≡ halved (at_shift7 + 6 * (7 - j)) → is_event (code (quick e)) (halved (at_shift7 + 6 * (7 - j))) ≡ false → Comes (quick e) (pieces (quick e)) (OfSprite (Shift r (suc j))) b h
+    shifting : AllGood (code (quick e)) (calm_top e) 6 (on_3 (at_shift7 + 6 * (7 - suc j)) b) → quicks (code (quick e)) 6 (on_3 (at_shift7 + 6 * (7 - suc j)) b) ≡ halved (at_shift7 + 6 * (7 - j)) → is_event (code (quick e)) (halved (at_shift7 + 6 * (7 - j))) ≡ false → Comes (quick e) (calm_pieces (quick e)) (OfSprite (Shift r (suc j))) b h
     shifting good runs calm = straight (OfSprite (Shift r (suc j))) o.holds (on_3 (at_shift7 + 6 * (7 - suc j)) b) (is_on_3 (at_shift7 + 6 * (7 - suc j)) b o.p o.r3) (halved (at_shift7 + 6 * (7 - j))) good runs
         (λ h' g. go (cases_eq j 0) h' g)
       where
-        go : (j ≡ 0) ⊎ (j ≡ 0 → ⊥) → (h' : Since) → Grows h 6 0 h' → Ends (quick e) (pieces (quick e)) (halved (at_shift7 + 6 * (7 - j))) h'
-        go (inl z) h' g = to_sprite (quick e) g _ calm (Shifted r) (subst (λ i. Preparing (quick e) at_shifted r r (r + 1) (halved i) (now h)) last (moves_on at_shifted), inside, subst (λ i. Shifting r i (halved at_shifted) (now h)) z one_less) (omega (arith, spent, g.spent, z))
+        go : (j ≡ 0) ⊎ (j ≡ 0 → ⊥) → (h' : Since) → Grows h 6 0 h' → Ends (quick e) (calm_pieces (quick e)) (halved (at_shift7 + 6 * (7 - j))) h'
+        go (inl z) h' g = to_sprite (quick e) g _ calm (Shifted r) tt (subst (λ i. Preparing (quick e) at_shifted r r (r + 1) (halved i) (now h)) last (moves_on at_shifted), inside, subst (λ i. Shifting r i (halved at_shifted) (now h)) z one_less) (omega (arith, spent, g.spent, z))
           where
             last : at_shifted ≡ at_shift7 + 6 * (7 - j)
             last = omega (arith, z)
-        go (inr z) h' g = to_sprite (quick e) g _ calm (Shift r j) (moves_on (at_shift7 + 6 * (7 - j)), inside, one_less, omega (arith, z), omega (arith, few)) (omega (arith, spent, g.spent, few))
+        go (inr z) h' g = to_sprite (quick e) g _ calm (Shift r j) tt (moves_on (at_shift7 + 6 * (7 - j)), inside, one_less, omega (arith, z), omega (arith, few)) (omega (arith, spent, g.spent, few))
 
-  pub shift_comes : (j : ℕ) → Preparing (quick e) (at_shift7 + 6 * (7 - j)) r r (r + 1) b (now h) → r < rows → Shifting r j b (now h) → 0 < j → j ≤ k → h.spent ≤ 284 + 124 * r + 12 * (7 - j) → Comes (quick e) (pieces (quick e)) (OfSprite (Shift r j)) b h
+  pub shift_comes : (j : ℕ) → Preparing (quick e) (at_shift7 + 6 * (7 - j)) r r (r + 1) b (now h) → r < rows → Shifting r j b (now h) → 0 < j → j ≤ k → h.spent ≤ 284 + 124 * r + 12 * (7 - j) → Comes (quick e) (calm_pieces (quick e)) (OfSprite (Shift r j)) b h
   shift_comes zero o inside s some few spent = absurd (omega (arith, some))
   shift_comes (suc zero) o inside s some few spent = shifting 0 o inside s few spent (omega arith) refl refl
   shift_comes (suc (suc zero)) o inside s some few spent = shifting 1 o inside s few spent (omega arith) refl refl
@@ -248,23 +248,23 @@ module _ (e : Edition) (b : Machine) (h : Since) (f : FitsMachine b) (r : ℕ) w
             go (inl z) = get_same b.latch b.ram (sprite_work e + 2 * j) first hi o.holds.latch o.holds.size first_small (omega (arith, z, first_there)) ∙ left_is ∙ ap (λ i. left (column (now h)) (sprite_row (now h) i)) (sym z)
             go (inr z) = get_other b.latch b.ram (sprite_work e + 2 * j) first hi o.holds.latch first_small (λ y. omega (arith, z, y, first_there)) ∙ o.prepared.lefts j (omega (arith, z, l))
 
-    pub shifted_comes : h.spent ≤ 368 + 124 * r → Comes (quick e) (pieces (quick e)) (OfSprite (Shifted r)) b h
+    pub shifted_comes : h.spent ≤ 368 + 124 * r → Comes (quick e) (calm_pieces (quick e)) (OfSprite (Shifted r)) b h
     shifted_comes spent = forks (OfSprite (Shifted r)) o.holds (preparing e at_shifted (r + r) b) (is_preparing o) stored (last_column == 0) at_row_store at_row_right (omega (arith, o.holds.stack, stack_top_is e)) refl
-        (λ z h' g. to_sprite (quick e) g _ refl (RowStore r) (goes_left at_row_store, inside, right_none z) (omega (arith, spent, g.spent)))
-        (λ z h' g. to_sprite (quick e) g _ refl (RowRight r) (goes_left at_row_right, inside, right_is z) (omega (arith, spent, g.spent)))
+        (λ z h' g. to_sprite (quick e) g _ refl (RowStore r) tt (goes_left at_row_store, inside, right_none z) (omega (arith, spent, g.spent)))
+        (λ z h' g. to_sprite (quick e) g _ refl (RowRight r) tt (goes_left at_row_right, inside, right_is z) (omega (arith, spent, g.spent)))
 
-  pub row_right_comes : Preparing (quick e) at_row_right (r + 1) r (r + 1) b (now h) → r < rows → lo ≡ right (column (now h)) byte_of → h.spent ≤ 382 + 124 * r → Comes (quick e) (pieces (quick e)) (OfSprite (RowRight r)) b h
+  pub row_right_comes : Preparing (quick e) at_row_right (r + 1) r (r + 1) b (now h) → r < rows → lo ≡ right (column (now h)) byte_of → h.spent ≤ 382 + 124 * r → Comes (quick e) (calm_pieces (quick e)) (OfSprite (RowRight r)) b h
   row_right_comes o inside is spent = straight (OfSprite (RowRight r)) o.holds (on_3 at_row_right b) (is_on_3 at_row_right b o.p o.r3) _ (omega arith) refl
-      (λ h' g. to_sprite (quick e) g _ refl (RowStore r) (record { draws = o.draws; holds = o.holds; prepared = record { lefts = o.prepared.lefts; rights = o.prepared.rights }; p = refl; r3 = refl; r4 = o.r4; entry = o.entry; place = o.place; rows = o.rows; count = o.count; r7 = o.r7; rd = o.rd }, inside, is) (omega (arith, spent, g.spent)))
+      (λ h' g. to_sprite (quick e) g _ refl (RowStore r) tt (record { draws = o.draws; holds = o.holds; prepared = record { lefts = o.prepared.lefts; rights = o.prepared.rights }; p = refl; r3 = refl; r4 = o.r4; entry = o.entry; place = o.place; rows = o.rows; count = o.count; r7 = o.r7; rd = o.rd }, inside, is) (omega (arith, spent, g.spent)))
 
   -- ---- the second one is stored
 
   abbrev second : ℕ
   second = value (word (page_of e) (0xd0 + (r + 1 + r)))
 
-  pub row_store_comes : Preparing (quick e) at_row_store (r + 1) r (r + 1) b (now h) → r < rows → b.regs.d ≡ right (column (now h)) byte_of → h.spent ≤ 384 + 124 * r → Comes (quick e) (pieces (quick e)) (OfSprite (RowStore r)) b h
+  pub row_store_comes : Preparing (quick e) at_row_store (r + 1) r (r + 1) b (now h) → r < rows → b.regs.d ≡ right (column (now h)) byte_of → h.spent ≤ 384 + 124 * r → Comes (quick e) (calm_pieces (quick e)) (OfSprite (RowStore r)) b h
   row_store_comes o inside is spent = straight (OfSprite (RowStore r)) o.holds (preparing e at_row_store (r + 1 + r) b) (is_preparing o) ended (omega arith) refl
-      (λ h' g. to_sprite (quick e) g ended refl (Row (r + 1)) (record { draws = o.draws; holds = work_set o.holds second b.regs.d (omega (arith, stack_top_is e)) (omega (arith, variables_is e, inside, few_rows_drawn)); prepared = record { lefts = λ j l. get_other b.latch b.ram _ second b.regs.d o.holds.latch second_small (λ z. omega (arith, z, second_there)) ∙ o.prepared.lefts j l; rights = rights }; p = refl; r3 = refl; r4 = refl; entry = o.entry; place = o.place; rows = o.rows; count = o.count; r7 = ap₂ word (omega (arith, inside, few_rows_drawn, page_fits e)) (omega (arith, inside, few_rows_drawn)); rd = o.rd }, omega (arith, inside)) (omega (arith, spent, g.spent)))
+      (λ h' g. to_sprite (quick e) g ended refl (Row (r + 1)) tt (record { draws = o.draws; holds = work_set o.holds second b.regs.d (omega (arith, stack_top_is e)) (omega (arith, variables_is e, inside, few_rows_drawn)); prepared = record { lefts = λ j l. get_other b.latch b.ram _ second b.regs.d o.holds.latch second_small (λ z. omega (arith, z, second_there)) ∙ o.prepared.lefts j l; rights = rights }; p = refl; r3 = refl; r4 = refl; entry = o.entry; place = o.place; rows = o.rows; count = o.count; r7 = ap₂ word (omega (arith, inside, few_rows_drawn, page_fits e)) (omega (arith, inside, few_rows_drawn)); rd = o.rd }, omega (arith, inside)) (omega (arith, spent, g.spent)))
     where
       ended : Machine
       ended = quicks (code (quick e)) 3 (preparing e at_row_store (r + 1 + r) b)

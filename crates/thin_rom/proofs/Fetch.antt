@@ -1,5 +1,5 @@
 -- The fetch and the dispatch, from the dispatch point to a routine's entry.
-use Rattle.std.proofs.Common.{◌≡◌, ℕ, ◌+◌, ◌-◌, ◌*◌, ◌/◌, ◌%◌, ◌<◌, ◌≤◌, ◌⊎◌, inl, inr, refl, ◌∙◌, ap, ap₂, subst, arith, true, false, cond, not, bit_and, bit_or}
+use Rattle.std.proofs.Common.{None, ◌≡◌, ℕ, ◌+◌, ◌-◌, ◌*◌, ◌/◌, ◌%◌, ◌<◌, ◌≤◌, ◌⊎◌, inl, inr, refl, ◌∙◌, ap, ap₂, subst, arith, true, false, cond, not, bit_and, bit_or}
 use Rattle.std.specs.Prelude.{◌==◌, Some}
 use Rattle.std.proofs.lemmas.Bool.{and_parts, leb-true, le-leb, lt-leb, ne_eqb, eqb-true, agree_below_at, cases_lt, cases_eq}
 use Rattle.std.proofs.lemmas.Nat.{and_mask, or_comm, or_shifted}
@@ -49,9 +49,9 @@ module _ (b : Machine) (h : Since) (f : FitsMachine b) (e : Fetching at_fetch b 
   end : Word → Machine
   end a = on_4 a (quicks (code thin) 3 (on_4 at_fetch b))
 
-  reaches : (a : Word) → cond (not ((b.regs.r.r5.hi + 256 - 2) / 256 == 1)) at_outside at_check ≡ a → Reaches (code thin) 3 b (end a)
+  reaches : (a : Word) → cond (not ((b.regs.r.r5.hi + 256 - 2) / 256 == 1)) at_outside at_check ≡ a → Reaches (code thin) None 3 b (end a)
   unfolding end
-  reaches a i = reaches_from (code thin) 3 b _ _ (is_on_4 at_fetch b (now h) e) (reaches_in (code thin) 3 _ _ (omega arith) (λ j. on_4 (i j) (quicks (code thin) 3 (on_4 at_fetch b))))
+  reaches a i = reaches_from (code thin) None 3 b _ _ (is_on_4 at_fetch b (now h) e) (reaches_in (code thin) None 3 _ _ (omega arith) (λ j. on_4 (i j) (quicks (code thin) 3 (on_4 at_fetch b))))
 
   fetching : (a : Word) → Fetching a (end a) (now h)
   unfolding end
@@ -92,9 +92,9 @@ module _ (b : Machine) (h : Since) (f : FitsMachine b) (e : Fetching at_check b 
   checked : Word → Machine
   checked a = on_4 a (quicks (code thin) 5 (on_4 at_check b))
 
-  check_reaches : (a : Word) → cond (not (carry == 1)) at_outside at_read ≡ a → Reaches (code thin) 5 b (checked a)
+  check_reaches : (a : Word) → cond (not (carry == 1)) at_outside at_read ≡ a → Reaches (code thin) None 5 b (checked a)
   unfolding checked carry
-  check_reaches a i = reaches_from (code thin) 5 b _ _ (is_on_4 at_check b (now h) e) (reaches_in (code thin) 5 _ _ (omega arith) (λ j. on_4 (i j) (quicks (code thin) 5 (on_4 at_check b))))
+  check_reaches a i = reaches_from (code thin) None 5 b _ _ (is_on_4 at_check b (now h) e) (reaches_in (code thin) None 5 _ _ (omega arith) (λ j. on_4 (i j) (quicks (code thin) 5 (on_4 at_check b))))
 
   checking : (a : Word) → Fetching a (checked a) (now h)
   unfolding checked
@@ -185,9 +185,9 @@ module _ (b : Machine) (h : Since) (f : FitsMachine b) (e : Fetching at_read b (
   entered : Machine
   entered = quicks (code thin) 30 (on_4 at_read b)
 
-  read_reaches : Reaches (code thin) 30 b entered
+  read_reaches : Reaches (code thin) None 30 b entered
   unfolding entered
-  read_reaches = reaches_from (code thin) 30 b _ _ (is_on_4 at_read b (now h) e) (reaches_in (code thin) 30 _ _ (omega (arith, e.holds.stack, pc3, one_on, within)) refl)
+  read_reaches = reaches_from (code thin) None 30 b _ _ (is_on_4 at_read b (now h) e) (reaches_in (code thin) None 30 _ _ (omega (arith, e.holds.stack, pc3, one_on, within)) refl)
 
   -- RD at the table
   offset : ℕ

@@ -1,6 +1,6 @@
 -- The blocks of THIN: what is known at the first instruction of each one, how many instructions it has, and how many main cycles came
 -- before it at most.
-use Rattle.std.proofs.Common.{◌≡◌, ℕ, ◌+◌, ◌*◌, ◌/◌, ◌%◌, ◌≤◌, sym, subst, arith, true, false}
+use Rattle.std.proofs.Common.{None, ◌≡◌, ℕ, ◌+◌, ◌*◌, ◌/◌, ◌%◌, ◌≤◌, sym, subst, arith, true, false}
 use Rattle.std.specs.Prelude.{Some}
 use Rattle.machine.specs.Bank.{Word, word}
 use Rattle.machine.specs.Board.{Machine}
@@ -150,7 +150,7 @@ Head l b h = At l b (now h) × (h.spent ≤ before l)
 pub data Place : Type 0 where
 
 abbrev pub pieces : Pieces
-pieces = record { Block = Block; Head = Head; moves = λ l h. moves l; Place = Place; At = λ l b h. ⊥ }
+pieces = record { Block = Block; Head = Head; moves = λ l h. moves l; top = None; Place = Place; At = λ l b h. ⊥ }
 
 -- a block follows another one
 pub goes_on : (l m : Block) (c : Machine) (h h' : Since) → h.spent ≤ before l → before l + 2 * moves l ≤ before m → is_event (code thin) c ≡ false → At m c (now h) → Grows h (moves l) 0 h' → Ends thin pieces c h'

@@ -1,5 +1,5 @@
 -- The routines and the stop code.
-use Rattle.std.proofs.Common.{◌≡◌, ℕ, ◌+◌, ◌*◌, ◌%◌, ◌<◌, ◌≤◌, refl, sym, ◌∙◌, ap, subst, arith, true, bit_and}
+use Rattle.std.proofs.Common.{None, ◌≡◌, ℕ, ◌+◌, ◌*◌, ◌%◌, ◌<◌, ◌≤◌, refl, sym, ◌∙◌, ap, subst, arith, true, bit_and}
 use Rattle.std.specs.Prelude.{Some, None}
 use Rattle.std.proofs.lemmas.Bool.{and_parts, leb-true}
 use Rattle.std.proofs.lemmas.Nat.{and_mask}
@@ -95,7 +95,7 @@ module _ (b : Machine) (h : Since) (f : FitsMachine b) where
     awake = e.holds.awake;
     some = omega arith;
     end = quicks (code thin) 7 (entered at_jump high kk b);
-    reaches = reaches_from (code thin) 7 b _ _ (is_entered e) (reaches_in (code thin) 7 _ _ (omega arith) refl);
+    reaches = reaches_from (code thin) None 7 b _ _ (is_entered e) (reaches_in (code thin) None 7 _ _ (omega arith) refl);
     ends = λ h' g. steps h (Jump (high % 16 * 256 + kk)) e.inside (decode_jump high kk 1 e.digit refl) refl (quicks (code thin) 7 (entered at_jump high kk b)) 7 h' g (pc_set e.holds (word (bit_and high 15) kk) (high % 16 * 256 + kk) target) refl refl;
   }
     where
@@ -108,7 +108,7 @@ module _ (b : Machine) (h : Since) (f : FitsMachine b) where
     awake = e.holds.awake;
     some = omega arith;
     end = quicks (code thin) 4 (entered at_load high kk b);
-    reaches = reaches_from (code thin) 4 b _ _ (is_entered e) (reaches_in (code thin) 4 _ _ (omega arith) refl);
+    reaches = reaches_from (code thin) None 4 b _ _ (is_entered e) (reaches_in (code thin) None 4 _ _ (omega arith) refl);
     ends = λ h' g. steps h (Load (high % 16) kk) e.inside (decode_load high kk 6 e.digit refl) refl (quicks (code thin) 4 (entered at_load high kk b)) 4 h' g (v_set e.holds _ (high % 16) kk (omega arith) (omega arith)) refl refl;
   }
 
@@ -118,7 +118,7 @@ module _ (b : Machine) (h : Since) (f : FitsMachine b) where
     awake = e.holds.awake;
     some = omega arith;
     end = quicks (code thin) 6 (entered at_add high kk b);
-    reaches = reaches_from (code thin) 6 b _ _ (is_entered e) (reaches_in (code thin) 6 _ _ (omega (arith, e.holds.stack)) refl);
+    reaches = reaches_from (code thin) None 6 b _ _ (is_entered e) (reaches_in (code thin) None 6 _ _ (omega (arith, e.holds.stack)) refl);
     ends = λ h' g. steps h (Add (high % 16) kk) e.inside (decode_add high kk 7 e.digit refl) refl (quicks (code thin) 6 (entered at_add high kk b)) 6 h' g (rw sum (v_set e.holds _ (high % 16) _ (omega arith) (omega arith))) refl refl;
   }
     where
@@ -133,7 +133,7 @@ module _ (b : Machine) (h : Since) (f : FitsMachine b) where
     awake = e.entered.holds.awake;
     some = omega arith;
     end = quicks (code thin) 4 (entered at_unknown high kk b);
-    reaches = reaches_from (code thin) 4 b _ _ (is_entered e.entered) (reaches_in (code thin) 4 _ _ (omega arith) refl);
+    reaches = reaches_from (code thin) None 4 b _ _ (is_entered e.entered) (reaches_in (code thin) None 4 _ _ (omega arith) refl);
     ends = λ h' g. goes_on Unknown Store (quicks (code thin) 4 (entered at_unknown high kk b)) h h' spent (omega arith) refl (record {
       holds = pc_set e.entered.holds (down (down b.regs.r.r5)) (now h).pc back;
       stop = UnknownOpcode;
@@ -153,7 +153,7 @@ module _ (b : Machine) (h : Since) (f : FitsMachine b) where
     awake = e.holds.awake;
     some = omega arith;
     end = quicks (code thin) 7 (on_4 at_outside b);
-    reaches = reaches_from (code thin) 7 b _ _ (is_on_4 at_outside b (now h) e) (reaches_in (code thin) 7 _ _ (omega arith) refl);
+    reaches = reaches_from (code thin) None 7 b _ _ (is_on_4 at_outside b (now h) e) (reaches_in (code thin) None 7 _ _ (omega arith) refl);
     ends = λ h' g. goes_on Outside Store (quicks (code thin) 7 (on_4 at_outside b)) h h' spent (omega arith) refl (record { holds = e.holds; stop = FetchOutside; fits = stop; p = refl; r3 = refl; number = refl }) g;
   }
 
@@ -166,7 +166,7 @@ module _ (b : Machine) (h : Since) (f : FitsMachine b) where
     awake = e.holds.awake;
     some = omega arith;
     end = quicks (code thin) 6 storing;
-    reaches = reaches_from (code thin) 6 b _ _ (λ i. record b { regs = record b.regs { p = e.p i; r = record b.regs.r { r3 = e.r3 i } } }) (reaches_in (code thin) 6 _ _ (omega arith) refl);
+    reaches = reaches_from (code thin) None 6 b _ _ (λ i. record b { regs = record b.regs { p = e.p i; r = record b.regs.r { r3 = e.r3 i } } }) (reaches_in (code thin) None 6 _ _ (omega arith) refl);
     ends = λ h' g. Fails e.stop (record {
       fits = ap thin_stop g.state ∙ sym (stop_ticks h.ticks h.state) ∙ e.fits;
       halts = record {

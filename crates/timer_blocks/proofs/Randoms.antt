@@ -22,7 +22,7 @@ use Rattle.chip8_rows.specs.Heads.{high_byte, low_byte, page_of, Entered, Enters
 use Rattle.chip8_rows.specs.TimerBlocks.{Mixes}
 use Rattle.chip8_rows.specs.TimerBlocks.TimerBlock.{Random, RandomMix}
 use Rattle.chip8_rows.specs.TimerBlocks.TimerPlace.{RandomCount}
-use Rattle.chip8_rows.specs.Table.{At, pieces}
+use Rattle.chip8_rows.specs.Table.{At, calm_pieces, calm_top}
 use Rattle.chip8_rows.specs.Table.Block.{OfTimer}
 use Rattle.chip8_rows.specs.Table.Place.{AtTimer}
 use Rattle.chip8_rows.proofs.Alone.{alone, one_more}
@@ -39,7 +39,7 @@ module _ (e : Edition) (b : Machine) (h : Since) (f : FitsMachine b) where
   abbrev low : ℕ
   low = low_byte (now h)
 
-  pub random_comes : Enters (quick e) at_random 12 b (now h) → h.spent ≡ 80 → Comes (quick e) (pieces (quick e)) (OfTimer Random) b h
+  pub random_comes : Enters (quick e) at_random 12 b (now h) → h.spent ≡ 80 → Comes (quick e) (calm_pieces (quick e)) (OfTimer Random) b h
   random_comes o spent = routine (OfTimer Random) o.entered _ (omega arith) refl
       (λ h' g. to_timer_place (quick e) g _ refl RandomCount (record { entered = record { holds = o.entered.holds; inside = o.entered.inside; p = refl; r3 = refl; r4 = refl; r6 = refl; r7 = refl; rc = refl }; digit = o.digit }, record { rd = refl; x = refl }) (omega (arith, spent, g.spent)))
 
@@ -50,7 +50,7 @@ module _ (e : Edition) (b : Machine) (h : Since) (f : FitsMachine b) where
   is_mixing : {a : ℕ} → Entered (quick e) a b (now h) → Mixes b → b ≡ mixing a
   is_mixing {a = a} o m = is_entered o ∙ (λ i. record (entered e a high low b) { regs = record (entered e a high low b).regs { x = m.x i; r = record (entered e a high low b).regs.r { rd = m.rd i } } })
 
-  pub random_count_holds : Enters (quick e) at_random_count 12 b (now h) → Mixes b → At (quick e) (AtTimer RandomCount) b h → h.spent ≡ 90 → Holds (quick e) (pieces (quick e)) (AtTimer RandomCount) b h
+  pub random_count_holds : Enters (quick e) at_random_count 12 b (now h) → Mixes b → At (quick e) (AtTimer RandomCount) b h → h.spent ≡ 90 → Holds (quick e) (calm_pieces (quick e)) (AtTimer RandomCount) b h
   random_count_holds o m at spent = alone (AtTimer RandomCount) f at o.entered.holds (mixing at_random_count) (is_mixing o.entered m) refl refl refl
       (λ u. to_timer (quick e) (one_more u h) _ refl RandomMix (record { entered = record { holds = o.entered.holds; inside = o.entered.inside; p = refl; r3 = refl; r4 = refl; r6 = refl; r7 = refl; rc = refl }; digit = o.digit }, record { rd = refl; x = refl }, omega (arith, ap (λ (z : Lang). z.n) o.entered.holds.is, f.regs.r.r9.lo)) (omega (arith, spent)))
 
@@ -84,13 +84,13 @@ module _ (e : Edition) (b : Machine) (h : Since) (f : FitsMachine b) where
   abbrev put : Places
   put = record (places b) { ram = written b.latch stored (value (word (page_of e) (240 + high % 16))) byte }
 
-  pub random_mix_comes : Enters (quick e) at_random_mix 12 b (now h) → Mixes b → b.regs.d ≡ (now h).n % 256 → Comes (quick e) (pieces (quick e)) (OfTimer RandomMix) b h
+  pub random_mix_comes : Enters (quick e) at_random_mix 12 b (now h) → Mixes b → b.regs.d ≡ (now h).n % 256 → Comes (quick e) (calm_pieces (quick e)) (OfTimer RandomMix) b h
   random_mix_comes o m d = record {
     runs = ready o.entered.holds;
     awake = o.entered.holds.awake;
     some = omega arith;
     end = quicks (code (quick e)) 11 (mixing at_random_mix);
-    reaches = reaches_from (code (quick e)) 11 b _ _ (is_mixing o.entered m) (reaches_in (code (quick e)) 11 _ _ (omega (arith, o.entered.holds.stack, stack_top_is e, memory_end_is e, page_fits e, page_low e)) refl);
+    reaches = reaches_from (code (quick e)) (calm_top e) 11 b _ _ (is_mixing o.entered m) (reaches_in (code (quick e)) (calm_top e) 11 _ _ (omega (arith, o.entered.holds.stack, stack_top_is e, memory_end_is e, page_fits e, page_low e)) refl);
     ends = λ h' g. steps e g (RandomByte (high % 16) low) (random_is o) refl (random_runs o) _ puts refl refl;
   }
     where

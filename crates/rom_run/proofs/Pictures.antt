@@ -1,0 +1,187 @@
+-- Each picture is the screen of the language state at the last dispatch point before it: it shows the screen in RAM at the interrupt of its frame,
+-- which is that screen, since none comes while main code changes it.
+use Rattle.std.proofs.Common.{◌≡◌, ℕ, suc, ◌+◌, ◌*◌, ◌/◌, ◌%◌, ◌<◌, ◌≤◌, ◌⊎◌, inl, inr, refl, sym, ◌∙◌, ap, subst, arith, false, List, length, slice_index}
+use Rattle.std.specs.Prelude.{slice_get, Some}
+use Rattle.std.proofs.lemmas.Bool.{cases_eq, cases_lt}
+use Rattle.std.proofs.lemmas.Option.{slice_get_within}
+use Rattle.machine.specs.Board.{Machine, move, start}
+use Rattle.machine.specs.Keys.{Keys, Event, held_at}
+use Rattle.machine.specs.Run.{after_moves, run_to}
+use Rattle.machine.specs.Pictures.{interrupt_at, window_end, picture_of}
+use Rattle.machine.specs.Ranges.{FitsMachine}
+use Rattle.machine.proofs.Runs.{later-move}
+use Rattle.chip8_lang.specs.declared.view.Edition.{Edition}
+use Rattle.chip8_lang.specs.declared.view.Edition.TheVariants.{Usual, Tall}
+use Rattle.chip8_lang.specs.Editions.{rows_of, lines_of, variables, screen_start}
+use Rattle.chip8_lang.specs.Places.{state_of}
+use Rattle.chip8_lang.specs.State.{Lang, memory_size}
+use Rattle.rom_law.specs.Program.{Program}
+use Rattle.rom_law.specs.Pictures.{ShowsScreen}
+use Rattle.rom_law.specs.Rows.{Since, Row, dispatched}
+use Rattle.rom_law.specs.Runs.{Moves, carried, state_at}
+use Rattle.rom_law.specs.Runs.Moves.{Still, Arrived, Halted}
+use Rattle.rom_law.proofs.Carried.{carried_state}
+use Rattle.rom_law.proofs.Kept.{row_runs, row_cycles}
+use Rattle.rom_law.proofs.Runs.{Carries, Boots}
+use Rattle.rom_law.proofs.Shown.{picture_run}
+use Rattle.chip8_rows.specs.Rom.{image, vip}
+use Rattle.chip8_rows.specs.Table.{pieces}
+use Rattle.fetch_blocks.specs.Laws.{boot_moves}
+use Rattle.rom_frame.specs.Frame.{place, interrupt_place, Makes}
+use Rattle.rom_frame.specs.Frame.Makes.{Runs, Waits, Accepts}
+use Rattle.rom_frame.specs.Routine.{routine_moves, routine_cycles}
+use Rattle.rom_frame.proofs.Frame.{every_move}
+use Rattle.rom_frame.proofs.Picture.{run_picture}
+use Rattle.rom_frame.proofs.Tick.{run_tick}
+use Rattle.rom_run.specs.Laws.{EveryPicture}
+use Rattle.rom_run.specs.Running.{Showing, Outside, Running}
+use Rattle.rom_run.specs.Running.Timed.{Before, Waiting, Behind}
+use Rattle.rom_run.specs.Running.Outside.{AtRow, AtEvent}
+use Rattle.rom_run.specs.Running.Running.{InMain, InRoutine}
+use Rattle.rom_run.proofs.Bound.{timely}
+use Rattle.rom_run.proofs.Calm.{calm_shows}
+use Rattle.rom_run.proofs.Moves.{board_moves, interrupted}
+use Rattle.rom_run.proofs.Proved.{proved}
+use Rattle.rom_run.proofs.Room.{row_room}
+use Rattle.rom_run.proofs.Run.{boot, begun}
+use Rattle.rom_run.proofs.Served.{main_there}
+use Rattle.rom_run.proofs.Ticks.{later_cycle, few_later}
+use Rattle.rom_run.proofs.Woken.{woken_apart}
+
+module _ (e : Edition) (script : List Event) where
+  abbrev x : Program
+  x = vip e
+
+  abbrev held : ℕ → Keys
+  held = held_at script
+
+  abbrev next : Machine → Machine
+  next b = move (image e) held b
+
+  -- ---- the cycle of an interrupt isn't passed over
+
+  main_before : (b : Machine) (h : Since) (m : ℕ) (row : Row x (pieces x) b h) → (b.regs.idle ≡ false → b.cycle % 2 ≡ 0) → FitsMachine b → Makes (image e) held b (next b) → b.cycle < interrupt_at m → (next b).cycle ≤ interrupt_at m
+  main_before b h m row even f (Runs d i k) l = omega (arith, ap (λ (z : Machine). z.cycle) k, row_cycles x (pieces x) (proved e) b h f i row, even i, l)
+  main_before b h m row even f (Waits d i k) l = omega (arith, ap (λ (z : Machine). z.cycle) k, l)
+  main_before b h m row even f (Accepts i k) l = omega (arith, ap (λ (z : Machine). z.cycle) k, l)
+
+  stops_before : (b : Machine) (h : Since) (m : ℕ) → Running e script b h → b.cycle < interrupt_at m → (next b).cycle ≤ interrupt_at m
+  stops_before b h m (InMain (AtRow t row n time)) l = let ready = row_runs x (pieces x) (proved e) b h t.fits row in main_before b h m row t.even t.fits (every_move (image e) held b ready.on ready.enabled t.outside) l
+  stops_before b h m (InMain (AtEvent t p d late y)) l = omega (arith, few_later (image e) held b, p, l)
+  stops_before b h m (InRoutine s) l = subst (λ (z : Machine). (next z).cycle ≤ interrupt_at m) (sym s.is) (omega (arith, ends, starts, s.cycle, ap (λ (z : Machine). z.cycle) s.is, l))
+    where
+      ends : (after_moves (image e) held s.start (suc s.k)).cycle ≤ interrupt_at s.m + routine_cycles
+      ends = omega (arith, later_cycle (image e) held s.start (suc s.k) routine_moves (omega (arith, s.inside)), (run_tick e s.m s.start held (interrupted e script s.start s.before s.m s.outside s.cycle)).cycle)
+
+      starts : s.start.cycle < (after_moves (image e) held s.start s.k).cycle
+      starts = omega (arith, later-move (image e) held s.start, later_cycle (image e) held s.start 1 s.k s.some)
+
+  -- ---- where the interrupt comes, the screen is that of the last dispatch point
+
+  screen_above : (e : Edition) → variables e < screen_start e
+  screen_above Usual = omega arith
+  screen_above Tall = omega arith
+
+  outside_shows : (b : Machine) (h : Since) → Outside e script b h → place b.cycle ≡ interrupt_place → Showing e b h
+  outside_shows b h (AtRow t row n (Before s r)) p = calm_shows e b h t.fits (omega (arith, (row_room e b h row).high, screen_above e)) r
+  outside_shows b h (AtRow t row n (Waiting k s l i r)) p = calm_shows e b h t.fits (omega (arith, (row_room e b h row).high, screen_above e)) r
+  outside_shows b h (AtRow t row n (Behind k s l r w)) p = absurd (woken_apart e b h 0 (omega arith) w (omega (arith, p)))
+  outside_shows b h (AtEvent t q d late y) p = y
+
+  -- ---- a board in the run of a game
+
+  module _ (game : List ℕ) where
+    abbrev booted : ℕ → Machine
+    booted i = after_moves (image e) held (start game) i
+
+    -- the state of the run in which frame m's interrupt came
+    record Interrupted (m : ℕ) (h : Since) : Type 0 where
+      i : ℕ
+      before : Since
+      outside : Outside e script (booted i) before
+      cycle : (booted i).cycle ≡ interrupt_at m
+      same : h.state ≡ before.state
+
+    -- The board is a state of the run. Between the interrupt and the end of the window the run tells in which state it was interrupted.
+    record RunsFrom (b : Machine) (h : Since) : Type 0 where
+      i : ℕ
+      is : b ≡ booted i
+      running : Running e script b h
+      came : (m : ℕ) → interrupt_at m < b.cycle → b.cycle < window_end m → Interrupted m h
+
+    came_next : (b : Machine) (h : Since) (r : RunsFrom b h) (m : ℕ) → interrupt_at m < (next b).cycle → (next b).cycle < window_end m → Interrupted m (carried (image e) held b h)
+    came_next b h r m l u = go (cases_lt b.cycle (interrupt_at m)) (cases_eq b.cycle (interrupt_at m))
+      where
+        go : (b.cycle < interrupt_at m) ⊎ (interrupt_at m ≤ b.cycle) → (b.cycle ≡ interrupt_at m) ⊎ (b.cycle ≡ interrupt_at m → ⊥) → Interrupted m (carried (image e) held b h)
+        go (inl k) d = absurd (omega (arith, stops_before b h m r.running k, l))
+        go (inr k) (inl d) =
+            record {
+              i = r.i;
+              before = h;
+              outside = subst (λ z. Outside e script z h) r.is (main_there e script b h r.running (omega (arith, d)));
+              cycle = ap (λ (z : Machine). z.cycle) (sym r.is) ∙ d;
+              same = carried_state (image e) held b h;
+            }
+        go (inr k) (inr d) =
+            let o = r.came m (omega (arith, k, d)) (omega (arith, later-move (image e) held b, u)) in
+            record { i = o.i; before = o.before; outside = o.outside; cycle = o.cycle; same = carried_state (image e) held b h ∙ o.same }
+
+    -- at a dispatch point no window is scanned
+    none_came : (c : Machine) (t : ℕ) (m : ℕ) → Running e script c (dispatched t (state_at x c)) → interrupt_at m < c.cycle → c.cycle < window_end m → Interrupted m (dispatched t (state_at x c))
+    none_came c t m (InMain (AtRow i row n time)) l u = absurd (outside_window c.cycle m i.outside l u)
+      where
+        outside_window : (cycle m : ℕ) → (place cycle ≤ interrupt_place) ⊎ (208 * 14 ≤ place cycle) → interrupt_at m < cycle → cycle < window_end m → ⊥
+        outside_window cycle m (inl k) l u = omega (arith, k, l, u)
+        outside_window cycle m (inr k) l u = omega (arith, k, l, u)
+    none_came c t m (InMain (AtEvent i p d late y)) l u = absurd (omega (arith, p, l, u))
+    none_came c t m (InRoutine s) l u = absurd (never (ap (λ (z : Since). z.ticks) s.counted))
+      where
+        never : {n : ℕ} → 0 ≡ suc n → ⊥
+        never k = cc
+
+    moves_on : (b : Machine) (h : Since) (r : RunsFrom b h) → Moves x script (Running e script) (carried (image e) held b h) (next b) → Moves x script RunsFrom (carried (image e) held b h) (next b)
+    moves_on b h r (Still d z k) = Still d z (record { i = suc r.i; is = ap next r.is; running = k; came = came_next b h r })
+    moves_on b h r (Arrived d z i st k) = Arrived d z i st (record { i = suc r.i; is = ap next r.is; running = k; came = λ m. none_came (next b) (next b).cycle m k })
+    moves_on b h r (Halted z i stop st) = Halted z i stop st
+
+    carries : Carries x script RunsFrom
+    carries = record { moves = λ b h r. moves_on b h r (board_moves e script b h r.running); timely = λ b h bound r. timely e script b h bound r.running }
+
+    module _ (small : length game ≤ memory_size e) (bytes : (i : ℕ) → slice_index game i < 256) where
+      boots : Boots x game script RunsFrom
+      boots =
+          let starts = boot e game small bytes script in
+          let first = begun e game small bytes script in
+          record {
+            moves = boot_moves;
+            quiet = starts.quiet;
+            soon = first.soon;
+            dispatch = first.dispatch;
+            runs = first.runs;
+            stands = starts.stands;
+            running = record { i = boot_moves; is = refl; running = first.running; came = λ m l u. absurd (omega (arith, first.soon, l)) };
+          }
+
+      -- ---- the picture
+
+      shows : (limit : ℕ) (b : Machine) (h : Since) (m : ℕ) → RunsFrom b h → b.cycle < window_end m → window_end m ≤ (next b).cycle → (next b).cycle ≤ limit → ShowsScreen e (picture_of (image e) (run_to (image e) held (start game) limit) m) h.state.screen
+      shows limit b h m r u n l = record { lines = scanned.lines; dots = λ k px line get inside. scanned.dots k px line get inside ∙ seen px (k / lines_of e) inside (high k line get) ∙ ap (λ (z : Lang). z.screen px (k / lines_of e)) (sym o.same) }
+        where
+          o : Interrupted m h
+          o = r.came m (omega (arith, few_later (image e) held b, n)) u
+
+          scanned : ShowsScreen e (picture_of (image e) (run_to (image e) held (start game) limit) m) (state_of e (booted o.i)).screen
+          scanned = run_picture e m o.i limit held (start game) (interrupted e script (booted o.i) o.before m o.outside o.cycle) (omega (arith, n, l))
+
+          seen : Showing e (booted o.i) o.before
+          seen = outside_shows (booted o.i) o.before o.outside (omega (arith, o.cycle))
+
+          rows : (e : Edition) (k : ℕ) → k < 128 → k / lines_of e < rows_of e
+          rows Usual k h = omega (arith, h)
+          rows Tall k h = omega (arith, h)
+
+          high : (k : ℕ) (line : List ℕ) → slice_get (picture_of (image e) (run_to (image e) held (start game) limit) m) k ≡ Some line → k / lines_of e < rows_of e
+          high k line get = rows e k (omega (arith, slice_get_within (picture_of (image e) (run_to (image e) held (start game) limit) m) k line get, scanned.lines))
+
+pub every_picture : EveryPicture
+every_picture e game small bytes script limit = picture_run (vip e) game script limit (RunsFrom e script game) (carries e script game) (boots e script game small bytes) (record { shown = shows e script game small bytes limit })

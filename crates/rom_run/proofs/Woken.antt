@@ -1,0 +1,106 @@
+-- Behind a wait main code is done before the next interrupt: so none comes while the screen is changed.
+use Rattle.std.proofs.Common.{◌-◌, ◌≡◌, ℕ, ◌+◌, ◌*◌, ◌/◌, ◌<◌, ◌≤◌, refl, sym, ◌∙◌, ap, arith, true, false}
+use Rattle.machine.specs.Board.{Machine}
+use Rattle.machine.specs.Pictures.{interrupt_at}
+use Rattle.chip8_lang.specs.declared.view.Edition.{Edition}
+use Rattle.chip8_lang.specs.State.{Lang}
+use Rattle.rom_moves.specs.Code.{is_event}
+use Rattle.rom_law.specs.Program.{code}
+use Rattle.rom_law.specs.Rows.{Since, Row, Outcome, now, after_tick}
+use Rattle.rom_law.specs.Rows.Row.{Inside, Alone}
+use Rattle.rom_law.specs.Rows.Outcome.{Still, Dispatched, Halted}
+use Rattle.rom_law.proofs.Events.{neither}
+use Rattle.rom_law.proofs.Kept.{block_awake}
+use Rattle.rom_law.proofs.Schedules.{dispatch_by, halt_by}
+use Rattle.chip8_rows.specs.Heads.{high_byte}
+use Rattle.chip8_rows.specs.Rom.{vip}
+use Rattle.chip8_rows.specs.SpriteBlocks.{SpriteBlock, IsWaited, sprite_moves}
+use Rattle.chip8_rows.specs.SpriteBlocks.SpriteBlock.{Wipe, Wipe3, Wipe6, Wiped, Cleared, Line, LineLeft, LineRight, Drawn}
+use Rattle.chip8_rows.specs.SpriteBlocks.SpritePlace.{ClearWait, ClearIdle, DrawWait, DrawIdle}
+use Rattle.chip8_rows.specs.Table.{Head, pieces, waited_pieces}
+use Rattle.chip8_rows.specs.Table.Block.{OfSprite}
+use Rattle.chip8_rows.specs.Table.Place.{AtTimer, AtKey, AtSprite}
+use Rattle.chip8_rows.proofs.Later.{ticks_high}
+use Rattle.rom_frame.specs.Frame.{place, interrupt_place}
+use Rattle.rom_frame.specs.Routine.{routine_cycles}
+use Rattle.rom_run.specs.Running.{WaitsBy, Woken}
+use Rattle.rom_run.specs.Running.WaitsBy.{ToClear, ToDraw}
+use Rattle.rom_run.proofs.Proved.{proved}
+use Rattle.rom_run.proofs.Time.{few}
+use Rattle.rom_run.proofs.Waits.{sleeps, timer_awake, key_awake}
+
+-- ---- where main code waits
+
+-- it is in a row too if the wait came after the most main cycles
+pub record Waits (e : Edition) (b : Machine) (h : Since) : Type 0 where
+  pub base : ℕ
+  pub waits : WaitsBy h.state base
+  pub row : Row (vip e) (pieces (vip e)) b (record h { spent = base })
+
+high_then : (h : Since) → high_byte (now h) ≡ high_byte h.state
+high_then h = ticks_high h.ticks h.state
+
+pub row_waits : (e : Edition) (b : Machine) (h : Since) → b.regs.idle ≡ true → Row (vip e) (pieces (vip e)) b h → Waits e b h
+row_waits e b h i (Inside l r) = absurd (sleeps (sym i ∙ block_awake (vip e) (pieces (vip e)) (proved e) r))
+row_waits e b h i (Alone (AtTimer l) o) = absurd (sleeps (sym i ∙ timer_awake (vip e) b (now h) l o.0))
+row_waits e b h i (Alone (AtKey l) o) = absurd (sleeps (sym i ∙ key_awake (vip e) b (now h) l h.keys o.0))
+row_waits e b h i (Alone (AtSprite ClearWait) o) = absurd (sleeps (sym i ∙ o.0.holds.awake))
+row_waits e b h i (Alone (AtSprite ClearIdle) o) = record { base = 102; waits = ToClear (sym (high_then h) ∙ o.0.0.clears.0); row = Alone (AtSprite ClearIdle) (o.0, omega arith) }
+row_waits e b h i (Alone (AtSprite DrawWait) o) = absurd (sleeps (sym i ∙ o.0.holds.awake))
+row_waits e b h i (Alone (AtSprite DrawIdle) o) = record { base = 2154; waits = ToDraw (ap (λ y. y / 16) (sym (high_then h)) ∙ o.0.0.draws.digit); row = Alone (AtSprite DrawIdle) (o.0, omega arith) }
+
+-- ---- behind the wait
+
+-- the screen is changed in so many main cycles at most
+abbrev pub most_changing : ℕ
+most_changing = 1560
+
+-- of a block behind the wait the head says how late it is
+clearing : (s : Lang) (base late n : ℕ) → WaitsBy s base → high_byte s ≡ 0 → late ≤ 102 + n → n ≤ most_changing → late ≤ base + most_changing
+clearing s base late n (ToClear h) c l m = omega (arith, l, m)
+clearing s base late n (ToDraw d) c l m = absurd (omega (arith, d, c))
+
+drawing : (s : Lang) (base late n : ℕ) → WaitsBy s base → high_byte s / 16 ≡ 13 → late ≤ 2154 + n → n ≤ most_changing → late ≤ base + most_changing
+drawing s base late n (ToClear h) d l m = absurd (omega (arith, d, h))
+drawing s base late n (ToDraw h) d l m = omega (arith, l, m)
+
+module _ (e : Edition) where
+  -- the instruction at the last dispatch point is the block's
+  high_at : (g h : Since) → h.state ≡ g.state → high_byte (now g) ≡ high_byte h.state
+  high_at g h same = high_then g ∙ ap high_byte (sym same)
+
+  head_few : (l : SpriteBlock) → IsWaited l → (c : Machine) (g h : Since) (base k : ℕ) → h.state ≡ g.state → WaitsBy h.state base → k < sprite_moves l → Head (vip e) (OfSprite l) c g → g.spent + 2 * k ≤ base + most_changing
+  head_few (Wipe k) w c g h base j same t i o = clearing h.state base (g.spent + 2 * j) (24 * (63 - k) + 4) t (sym (high_at g h same) ∙ o.0.0.clears.0) (omega (arith, o.1.0, i)) (omega arith)
+  head_few (Wipe3 k) w c g h base j same t i o = clearing h.state base (g.spent + 2 * j) (24 * (63 - k) + 10) t (sym (high_at g h same) ∙ o.0.0.clears.0) (omega (arith, o.1.0, i)) (omega arith)
+  head_few (Wipe6 k) w c g h base j same t i o = clearing h.state base (g.spent + 2 * j) (24 * (63 - k) + 16) t (sym (high_at g h same) ∙ o.0.0.clears.0) (omega (arith, o.1.0, i)) (omega arith)
+  head_few (Wiped k) w c g h base j same t i o = clearing h.state base (g.spent + 2 * j) (24 * (63 - k) + 22) t (sym (high_at g h same) ∙ o.0.0.clears.0) (omega (arith, o.1.0, i)) (omega arith)
+  head_few Cleared w c g h base j same t i o = clearing h.state base (g.spent + 2 * j) 1536 t (sym (high_at g h same) ∙ o.0.1.0) (omega (arith, o.1.0, i)) (omega arith)
+  head_few (Line r) w c g h base j same t i o = drawing h.state base (g.spent + 2 * j) (58 * r + 2) t (ap (λ y. y / 16) (sym (high_at g h same)) ∙ o.0.0.draws.digit) (omega (arith, o.1.0, i)) (omega (arith, o.0.1, few e (now g)))
+  head_few (LineLeft r) w c g h base j same t i o = drawing h.state base (g.spent + 2 * j) (58 * r + 24) t (ap (λ y. y / 16) (sym (high_at g h same)) ∙ o.0.0.draws.digit) (omega (arith, o.1.0, i)) (omega (arith, o.0.1, few e (now g)))
+  head_few (LineRight r) w c g h base j same t i o = drawing h.state base (g.spent + 2 * j) (58 * r + 56) t (ap (λ y. y / 16) (sym (high_at g h same)) ∙ o.0.0.draws.digit) (omega (arith, o.1.0, i)) (omega (arith, o.0.1, few e (now g)))
+  head_few Drawn w c g h base j same t i o = drawing h.state base (g.spent + 2 * j) 892 t (ap (λ y. y / 16) (sym (high_at g h same)) ∙ o.0.draws.digit) (omega (arith, o.1.0, i)) (omega arith)
+  head_few _ w c g h base j same t i o = absurd w
+
+  row_few : (b : Machine) (h : Since) (base late : ℕ) → WaitsBy h.state base → Row (vip e) (waited_pieces (vip e)) b (record h { spent = late }) → late ≤ base + most_changing
+  row_few b h base late t (Inside l r) = omega (arith, head_few l.0 l.1 r.start r.since h base r.k r.grows.state t r.inside r.head, r.grows.spent)
+  row_few b h base late t (Alone l o) = absurd o
+
+  pub woken_few : (b : Machine) (h : Since) (w : Woken e b h) → w.late ≤ w.base + most_changing
+  woken_few b h w = row_few b h w.base w.late w.waits w.row
+
+  -- so it isn't interrupted there, nor after a main move more
+  pub woken_apart : (b : Machine) (h : Since) (n : ℕ) → n ≤ 2 → Woken e b h → place (b.cycle + n) ≡ interrupt_place → ⊥
+  woken_apart b h n l w i = apart b.cycle n w.base w.woke w.late l w.return w.since w.least (woken_few b h w) i
+    where
+      apart : (cycle n base woke late : ℕ) → n ≤ 2 → place woke ≡ interrupt_place + routine_cycles → cycle + base ≡ woke + late → base ≤ late → late ≤ base + most_changing → place (cycle + n) ≡ interrupt_place → ⊥
+      apart cycle n base woke late l r s m k i = omega (arith, l, r, s, m, k, i)
+
+  -- where a main move comes to no event, it comes to a row behind the wait
+  pub calm_row : (c : Machine) (h : Since) → is_event (code (vip e)) c ≡ false → Outcome (vip e) (waited_pieces (vip e)) c h → Row (vip e) (waited_pieces (vip e)) c h
+  calm_row c h calm (Still k r) = r
+  calm_row c h calm (Dispatched s st) = absurd (sleeps (sym (dispatch_by (vip e) c s st.stands) ∙ (neither _ _ calm).0))
+  calm_row c h calm (Halted stop st) = absurd (sleeps (sym (halt_by (vip e) c (now h) stop st.halts) ∙ (neither _ _ calm).1))
+
+  -- the interrupt routine has returned
+  pub wakes : (b c : Machine) (h : Since) (m : ℕ) (t : Waits e b h) → Row (vip e) (waited_pieces (vip e)) c (after_tick (record h { spent = t.base })) → c.cycle ≡ interrupt_at m + routine_cycles → Woken e c (after_tick h)
+  wakes b c h m t row at = record { woke = c.cycle; return = omega (arith, at); base = t.base; waits = t.waits; late = t.base; since = refl; least = omega arith; row = row }
