@@ -11,10 +11,11 @@ use Rattle.chip8_lang.specs.Events.Event.{Picture, Dispatch, Stopped}
 use Rattle.chip8_lang.specs.State.{Lang, first}
 use Rattle.chip8_lang.specs.Step.{number_of}
 use Rattle.chip8_lang.specs.View.{opcode_at, view_at}
+use Rattle.rom_law.specs.Pictures.{ShowsBehind, ShowsAll, PictureRun}
 use Rattle.rom_law.specs.Program.{Dispatches, Halts}
 use Rattle.rom_law.specs.Runs.{LanguageRun, IsFirst, IsNext, IsStep, IsStop, is_point, cycle_of}
 use Rattle.chip8_rows.specs.Rom.{vip}
-use Rattle.rom_run.specs.Laws.{EveryRun}
+use Rattle.rom_run.specs.Laws.{EveryRun, EveryPicture}
 use Rattle.vip_relation.specs.Stops.{stop_at, stop_numbered}
 use Rattle.vip_show.specs.Endings.{Ending, ending_after, ending_of}
 use Rattle.vip_show.specs.Endings.Ending.{AtStop}
@@ -27,7 +28,7 @@ use Rattle.vip_words.specs.Asked.{Asked, trace, play, debug, demo, asm, list, di
 use Rattle.vip_cli.specs.Demo.{demo_game}
 use Rattle.vip_cli.specs.Files.{needed, most_game, HasAll}
 use Rattle.vip_cli.specs.Language.{state_at, StandsFor, HaltedWith, Steps, Stops, GoesOn, Goes, next_point, ComesBy, IsChip8, RunIsChip8, DebugsChip8, ShowsChip8}
-use Rattle.vip_cli.specs.Outcome.{Outcome, Comes, RunComes, DebugComes, events_in, run_ending}
+use Rattle.vip_cli.specs.Outcome.{Outcome, Comes, RunComes, DebugComes, run_of, events_in, run_ending}
 use Rattle.vip_cli.specs.Outcome.Outcome.{Refused, Shown}
 use Rattle.vip_cli.specs.Outcome.RunComes.{FaultyScript, FaultyRom, Runs}
 use Rattle.vip_cli.specs.Top.{Call, SpeaksChip8}
@@ -79,23 +80,25 @@ abbrev AllNext : List KeyEvent → List Event → Type 0
 AllNext script points =
     (k : ℕ) (b : Machine) (p : Event) → slice_get points k ≡ Some (Dispatch b) → slice_get points (suc k) ≡ Some p → IsNext (vip Usual) script b p
 
-goes_on : (script : List KeyEvent) (b : Machine) (events : List Event) → AllNext script (Dispatch b ∷ filter is_point events) → GoesOn script b events (ending_after Usual (view_at Usual b).pc (view_at Usual b).opcode events)
+goes_on : (states : List Machine) (script : List KeyEvent) (b : Machine) (events : List Event) → AllNext script (Dispatch b ∷ filter is_point events) → ShowsBehind (vip Usual) states b events
+    → GoesOn states script b events (ending_after Usual (view_at Usual b).pc (view_at Usual b).opcode events)
 unfolding ending_after
-goes_on script b [] next = refl
-goes_on script b (Picture m ∷ events) next = goes_on script b events next
-goes_on script b (Dispatch c ∷ events) next = (steps script b c (next 0 b (Dispatch c) refl refl), goes_on script c events (λ k. next (suc k)))
-goes_on script b (Stopped c ∷ events) next = stops b c (next 0 b (Stopped c) refl refl)
+goes_on states script b [] next shown = refl
+goes_on states script b (Picture m ∷ events) next shown = (shown.0, goes_on states script b events next shown.1)
+goes_on states script b (Dispatch c ∷ events) next shown = (steps script b c (next 0 b (Dispatch c) refl refl), goes_on states script c events (λ k. next (suc k)) shown)
+goes_on states script b (Stopped c ∷ events) next shown = stops b c (next 0 b (Stopped c) refl refl)
 
 -- the first point is as the law says
 abbrev FirstIs : List ℕ → List Event → Type 0
 FirstIs game points = (p : Event) → slice_get points 0 ≡ Some p → IsFirst (vip Usual) game p
 
-goes : (game : List ℕ) (script : List KeyEvent) (events : List Event) → FirstIs game (filter is_point events) → AllNext script (filter is_point events) → Goes game script events (ending_of Usual events)
+goes : (states : List Machine) (game : List ℕ) (script : List KeyEvent) (events : List Event) → FirstIs game (filter is_point events) → AllNext script (filter is_point events) → ShowsAll (vip Usual) states events
+    → Goes states game script events (ending_of Usual events)
 unfolding ending_after
-goes game script [] here next = refl
-goes game script (Picture m ∷ events) here next = goes game script events here next
-goes game script (Dispatch b ∷ events) here next = (stands b (first Usual game) (here (Dispatch b) refl), goes_on script b events next)
-goes game script (Stopped b ∷ events) here next = here (Stopped b) refl
+goes states game script [] here next shown = refl
+goes states game script (Picture m ∷ events) here next shown = shown
+goes states game script (Dispatch b ∷ events) here next shown = (stands b (first Usual game) (here (Dispatch b) refl), goes_on states script b events next shown)
+goes states game script (Stopped b ∷ events) here next shown = here (Stopped b) refl
 
 -- ---- when the next point comes
 
@@ -119,20 +122,20 @@ timely limit (Stopped c ∷ before) after b bound all is room = timely limit bef
 
 -- ---- a run
 
-module _ (game : List ℕ) (script : List KeyEvent) (limit : ℕ) (run : LanguageRun (vip Usual) game script limit) where
+module _ (game : List ℕ) (script : List KeyEvent) (limit : ℕ) (run : LanguageRun (vip Usual) game script limit) (pictures : PictureRun (vip Usual) game script limit) where
   all_timely : AllTimely limit (filter is_point (events_in game script limit))
   all_timely k b bound at is room = let found = run.bound k b bound at is room in (found.0, rw add-one at found.1, found.2)
 
   by_law : IsChip8 game script limit (ending_of Usual (events_in game script limit))
   by_law = record {
-    goes = goes game script (events_in game script limit) run.first (λ k b p at then. run.next k b p at (rw add-one then));
+    goes = goes (run_of game script limit) game script (events_in game script limit) run.first (λ k b p at then. run.next k b p at (rw add-one then)) pictures;
     boot = λ room. let found = run.boot room in comes_by (events_in game script limit) found.0 found.1 boot_bound found.2;
     bound = λ before after b bound at is. timely limit before after b bound (subst (λ events. AllTimely limit (filter is_point events)) at all_timely) is;
   }
 
-module _ (law : EveryRun) where
+module _ (law : EveryRun) (pictures : EveryPicture) where
   is_chip8 : (game : List ℕ) (script : List KeyEvent) (limit : ℕ) → length game ≤ most_game → ((i : ℕ) → slice_index game i < 256) → IsChip8 game script limit (ending_of Usual (events_in game script limit))
-  is_chip8 game script limit fits bytes = by_law game script limit (law Usual game fits bytes script limit)
+  is_chip8 game script limit fits bytes = by_law game script limit (law Usual game fits bytes script limit) (pictures Usual game fits bytes script limit)
 
   -- ---- a command
 

@@ -1,7 +1,8 @@
--- What the run of a game says of the language: it is a run of CHIP-8, and a stop names its instruction.
+-- What the run of a game says of the language: it is a run of CHIP-8, each picture is its screen, and a stop names its instruction.
 use Rattle.std.specs.Prelude.{◌≡◌, ℕ, ◌+◌, ◌≤◌, List, [], ◌∷◌, ◌++◌, Option, Some, None, IsSomeAnd, Ok}
 use Rattle.machine.specs.Board.{Machine}
 use Rattle.machine.specs.Keys.{Event as KeyEvent}
+use Rattle.machine.specs.Pictures.{picture_of}
 use Rattle.chip8_lang.specs.declared.view.Edition.TheVariants.{Usual}
 use Rattle.chip8_lang.specs.declared.view.Stop.{Stop}
 use Rattle.chip8_lang.specs.State.{Lang, first}
@@ -13,12 +14,13 @@ use Rattle.chip8_lang.specs.Places.{state_of, Stands, Halted}
 use Rattle.chip8_lang.specs.Events.{Event}
 use Rattle.chip8_lang.specs.Events.Event.{Picture, Dispatch, Stopped}
 use Rattle.chip8_lang.specs.View.{opcode_at}
+use Rattle.rom_law.specs.Pictures.{ShowsScreen}
 use Rattle.vip_relation.specs.Interpreters.{interpreter_of}
 use Rattle.vip_show.specs.Endings.{Ending}
 use Rattle.vip_show.specs.Endings.Ending.{AtLimit, AtStop}
 use Rattle.vip_words.specs.Asked.{Asked, trace, play, debug, demo}
 use Rattle.vip_cli.specs.Demo.{demo_game}
-use Rattle.vip_cli.specs.Outcome.{script_in, events_in, run_ending, end_status}
+use Rattle.vip_cli.specs.Outcome.{script_in, run_of, events_in, run_ending, end_status}
 use Rattle.vip_cli.specs.Report.{end_report}
 use Rattle.vip_cli.specs.declared.status.Status.{Status}
 
@@ -49,21 +51,26 @@ pub record Stops (b c : Machine) (ending : Ending) : Type 0 where
   pub halted : HaltedWith c (ticks (ticks_between b.cycle c.cycle) (state_at b)) stop
   pub named : ending ≡ AtStop stop (state_at b).pc (opcode_at Usual (state_at b))
 
+-- the picture of frame m in these states of the run is the screen of the language state at the dispatch point b
+abbrev pub ShowsFrame : List Machine → Machine → ℕ → Type 0
+ShowsFrame states b m = ShowsScreen Usual (picture_of (interpreter_of Usual).rom states m) (state_at b).screen
+
 -- ---- a run
 
--- the events behind a dispatch point are those of a run of the language, with this ending
-abbrev pub GoesOn : List KeyEvent → Machine → List Event → Ending → Type 0
-GoesOn script b [] ending = ending ≡ AtLimit
-GoesOn script b (Picture m ∷ events) ending = GoesOn script b events ending
-GoesOn script b (Dispatch c ∷ events) ending = Steps script b c × GoesOn script c events ending
-GoesOn script b (Stopped c ∷ events) ending = Stops b c ending
+-- The events behind a dispatch point are those of a run of the language, with this ending: each picture shows the screen at the last dispatch
+-- point before it.
+abbrev pub GoesOn : List Machine → List KeyEvent → Machine → List Event → Ending → Type 0
+GoesOn states script b [] ending = ending ≡ AtLimit
+GoesOn states script b (Picture m ∷ events) ending = ShowsFrame states b m × GoesOn states script b events ending
+GoesOn states script b (Dispatch c ∷ events) ending = Steps script b c × GoesOn states script c events ending
+GoesOn states script b (Stopped c ∷ events) ending = Stops b c ending
 
--- so are those from reset on: at the first dispatch point the board stands for the game's first state
-abbrev pub Goes : List ℕ → List KeyEvent → List Event → Ending → Type 0
-Goes game script [] ending = ending ≡ AtLimit
-Goes game script (Picture m ∷ events) ending = Goes game script events ending
-Goes game script (Dispatch b ∷ events) ending = StandsFor b (first Usual game) × GoesOn script b events ending
-Goes game script (Stopped b ∷ events) ending = ⊥
+-- so are those from reset on: the first of them is a dispatch point, where the board stands for the game's first state
+abbrev pub Goes : List Machine → List ℕ → List KeyEvent → List Event → Ending → Type 0
+Goes states game script [] ending = ending ≡ AtLimit
+Goes states game script (Picture m ∷ events) ending = ⊥
+Goes states game script (Dispatch b ∷ events) ending = StandsFor b (first Usual game) × GoesOn states script b events ending
+Goes states game script (Stopped b ∷ events) ending = ⊥
 
 -- ---- when the next point comes
 
@@ -81,7 +88,7 @@ ComesBy limit cycle events = cycle ≤ limit → IsSomeAnd (next_point events) (
 -- The run of a game under a script up to a limit is a run of CHIP-8 with this ending. Its first dispatch point comes within the bound of
 -- boot, and each next point within the bound of the state before it, where that has one: a wait for a key has none.
 pub record IsChip8 (game : List ℕ) (script : List KeyEvent) (limit : ℕ) (ending : Ending) : Type 0 where
-  pub goes : Goes game script (events_in game script limit) ending
+  pub goes : Goes (run_of game script limit) game script (events_in game script limit) ending
   pub boot : ComesBy limit boot_bound (events_in game script limit)
   pub bound : (before after : List Event) (b : Machine) (bound : ℕ) → events_in game script limit ≡ before ++ Dispatch b ∷ after → bound_of Usual (state_at b) ≡ Some bound → ComesBy limit (b.cycle + bound) after
 
