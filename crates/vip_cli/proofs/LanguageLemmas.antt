@@ -16,8 +16,9 @@ use Rattle.rom_law.specs.Program.{Dispatches, Halts}
 use Rattle.rom_law.specs.Runs.{LanguageRun, IsFirst, IsNext, IsStep, IsStop, is_point, cycle_of}
 use Rattle.chip8_rows.specs.Rom.{vip}
 use Rattle.rom_run.specs.Laws.{EveryRun, EveryPicture}
+use Rattle.vip_relation.specs.State.{started}
 use Rattle.vip_relation.specs.Stops.{stop_at, stop_numbered}
-use Rattle.vip_show.specs.Endings.{Ending, ending_after, ending_of}
+use Rattle.vip_show.specs.Endings.{ending_after, ending_of}
 use Rattle.vip_show.specs.Endings.Ending.{AtStop}
 use Rattle.vip_debug.specs.Grammar.{commands_of}
 use Rattle.vip_debug.specs.declared.command.Command.{Command}
@@ -28,11 +29,12 @@ use Rattle.vip_words.specs.Asked.{Asked, trace, play, debug, demo, asm, list, di
 use Rattle.vip_cli.specs.Demo.{demo_game}
 use Rattle.vip_cli.specs.Files.{needed, most_game, HasAll}
 use Rattle.vip_cli.specs.Language.{state_at, StandsFor, HaltedWith, Steps, Stops, GoesOn, Goes, next_point, ComesBy, IsChip8, RunIsChip8, DebugsChip8, ShowsChip8}
-use Rattle.vip_cli.specs.Outcome.{Outcome, Comes, RunComes, DebugComes, run_of, events_in, run_ending}
+use Rattle.vip_cli.specs.Outcome.{Outcome, Comes, RunComes, DebugComes, run_of, events_in, run_ending, debug_ending}
 use Rattle.vip_cli.specs.Outcome.Outcome.{Refused, Shown}
 use Rattle.vip_cli.specs.Outcome.RunComes.{FaultyScript, FaultyRom, Runs}
 use Rattle.vip_cli.specs.Top.{Call, SpeaksChip8}
 use Rattle.vip_cli.specs.declared.status.Status.{Status}
+use Rattle.vip_cli.proofs.DebugLemmas.{debug_ends}
 use Rattle.vip_cli.proofs.DemoLemmas.{length-game, bytes-game}
 
 stop_numbered-number_of : (stop : Stop) → stop_numbered (number_of stop) ≡ stop
@@ -147,7 +149,7 @@ module _ (law : EveryRun) (pictures : EveryPicture) where
   -- a run under the debugger that does
   OfDebug : List ℕ → List (List ℕ) → ℕ → Outcome → Type 0
   OfDebug game scripts limit (Refused status report) = Unit {0}
-  OfDebug game scripts limit (Shown pieces status report) = DebugsChip8 game scripts limit
+  OfDebug game scripts limit (Shown pieces status report) = DebugsChip8 game scripts limit status report
 
   module _ (game : List ℕ) (fits : length game ≤ most_game) (bytes : (i : ℕ) → slice_index game i < 256) (limit : ℕ) (scripts : List (List ℕ)) (pieces : List KeyEvent → List (List ℕ)) where
     run_shows : (o : Outcome) → RunComes limit scripts pieces (run_ending game limit) o → OfRun game scripts limit o
@@ -163,16 +165,24 @@ module _ (law : EveryRun) (pictures : EveryPicture) where
       report_is = refl;
     }
 
-    debug_shows : (ending : List KeyEvent → Ending) (o : Outcome) → RunComes limit scripts pieces ending o → OfDebug game scripts limit o
+    debug_shows : (commands : List Command) (o : Outcome) → RunComes limit scripts pieces (λ script. debug_ending (started Usual game script) limit commands) o → OfDebug game scripts limit o
     unfolding OfDebug
-    debug_shows ending _ (FaultyScript line cause is) = tt
-    debug_shows ending _ (FaultyRom script fault is fault_is rom) = tt
-    debug_shows ending _ (Runs script is rom) = record { script = script; reads = is; run = is_chip8 game script limit fits bytes }
+    debug_shows commands _ (FaultyScript line cause is) = tt
+    debug_shows commands _ (FaultyRom script fault is fault_is rom) = tt
+    debug_shows commands _ (Runs script is rom) = record {
+      script = script;
+      reads = is;
+      run = is_chip8 game script limit fits bytes;
+      ending = debug_ending (started Usual game script) limit commands;
+      ends = debug_ends game script limit commands;
+      status_is = refl;
+      report_is = refl;
+    }
 
   module _ (game : List ℕ) (fits : length game ≤ most_game) (bytes : (i : ℕ) → slice_index game i < 256) (limit : ℕ) (scripts : List (List ℕ)) where
     debug_read : (read : Result (List Command) CommandFault) (o : Outcome) → DebugComes game limit scripts read o → OfDebug game scripts limit o
     unfolding OfDebug
-    debug_read (Ok commands) o comes = debug_shows game fits bytes limit scripts _ _ o comes
+    debug_read (Ok commands) o comes = debug_shows game fits bytes limit scripts _ commands o comes
     debug_read (Err (Fault line cause)) o comes = rw comes tt
     debug_read (Err NoMemory) o comes = absurd comes
 

@@ -1,4 +1,5 @@
 mod CommandLemmas
+mod DebugLemmas
 mod DemoLemmas
 mod FilesLemmas
 mod LanguageLemmas

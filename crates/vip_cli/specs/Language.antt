@@ -1,5 +1,5 @@
 -- What the run of a game says of the language: it is a run of CHIP-8, each picture is its screen, and a stop names its instruction.
-use Rattle.std.specs.Prelude.{◌≡◌, ℕ, ◌+◌, ◌≤◌, List, [], ◌∷◌, ◌++◌, Option, Some, None, IsSomeAnd, Ok}
+use Rattle.std.specs.Prelude.{◌≡◌, ℕ, ◌+◌, ◌≤◌, ◌⊎◌, List, [], ◌∷◌, ◌++◌, Option, Some, None, IsSomeAnd, Ok}
 use Rattle.machine.specs.Board.{Machine}
 use Rattle.machine.specs.Keys.{Event as KeyEvent}
 use Rattle.machine.specs.Pictures.{picture_of}
@@ -103,16 +103,21 @@ pub record RunIsChip8 (game : List ℕ) (scripts : List (List ℕ)) (limit : ℕ
   pub status_is : status ≡ end_status ending
   pub report_is : report ≡ end_report limit ending
 
--- a run that the debugger goes along; its report isn't of the run's end, but of where the commands end
-pub record DebugsChip8 (game : List ℕ) (scripts : List (List ℕ)) (limit : ℕ) : Type 0 where
+-- A run that the debugger goes along. The status and the report are those of where the commands end: with the stop of this run, where that
+-- is a stop point, and else as at the limit.
+pub record DebugsChip8 (game : List ℕ) (scripts : List (List ℕ)) (limit : ℕ) (status : Status) (report : List ℕ) : Type 0 where
   pub script : List KeyEvent
   pub reads : script_in scripts ≡ Ok script
   pub run : IsChip8 game script limit (run_ending game limit script)
+  pub ending : Ending
+  pub ends : (ending ≡ AtLimit) ⊎ (ending ≡ run_ending game limit script)
+  pub status_is : status ≡ end_status ending
+  pub report_is : report ≡ end_report limit ending
 
 -- what a command with these contents runs, where it runs a game
 abbrev pub ShowsChip8 : Asked → List (List ℕ) → Status → List ℕ → Type 0
 ShowsChip8 (trace a) (game ∷ scripts) status report = RunIsChip8 game scripts a.cycles status report
 ShowsChip8 (play a) (game ∷ scripts) status report = RunIsChip8 game scripts a.cycles status report
-ShowsChip8 (debug a) (game ∷ commands ∷ scripts) status report = DebugsChip8 game scripts a.cycles
+ShowsChip8 (debug a) (game ∷ commands ∷ scripts) status report = DebugsChip8 game scripts a.cycles status report
 ShowsChip8 (demo a) _ status report = RunIsChip8 (demo_game a.number) [] a.cycles status report
 ShowsChip8 _ _ status report = Unit {0}

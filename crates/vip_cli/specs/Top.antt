@@ -195,8 +195,8 @@ Completes status call =
 -- ---- what the output says of the language
 
 -- Where the words and the contents of the files come to the output of a game's run, with this status and this report, it is that of a run
--- of CHIP-8, which ends so; under the debugger it ends where the commands do. `Shows` and `Faulty` say that this output went out, whole or
--- in part.
+-- of CHIP-8, which ends so; under the debugger it ends where the commands do, and a stop there is that of the run. `Shows` and `Faulty` say
+-- that this output went out, whole or in part.
 abbrev pub SpeaksChip8 : Call → Type 0
 SpeaksChip8 call =
     (asked : Asked) (contents pieces : List (List ℕ)) (status : Status) (report : List ℕ)
