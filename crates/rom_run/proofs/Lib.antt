@@ -13,4 +13,5 @@ pub mod Parts
 pub mod Apart
 pub mod Dispatch
 pub mod Served
+pub mod Display
 pub mod Pictures

@@ -12,7 +12,7 @@ use Rattle.machine.specs.Ranges.{FitsMachine}
 use Rattle.machine.proofs.Runs.{later-move}
 use Rattle.chip8_lang.specs.declared.view.Edition.{Edition}
 use Rattle.chip8_lang.specs.declared.view.Edition.TheVariants.{Usual, Tall}
-use Rattle.chip8_lang.specs.Editions.{rows_of, lines_of, variables, screen_start}
+use Rattle.chip8_lang.specs.Editions.{rows_of, lines_of}
 use Rattle.chip8_lang.specs.Places.{state_of}
 use Rattle.chip8_lang.specs.State.{Lang, memory_size}
 use Rattle.rom_law.specs.Program.{Program}
@@ -35,18 +35,15 @@ use Rattle.rom_frame.proofs.Picture.{run_picture}
 use Rattle.rom_frame.proofs.Tick.{run_tick}
 use Rattle.rom_run.specs.Laws.{EveryPicture}
 use Rattle.rom_run.specs.Running.{Showing, Outside, Running}
-use Rattle.rom_run.specs.Running.Timed.{Before, Waiting, Behind}
 use Rattle.rom_run.specs.Running.Outside.{AtRow, AtEvent}
 use Rattle.rom_run.specs.Running.Running.{InMain, InRoutine}
 use Rattle.rom_run.proofs.Bound.{timely}
-use Rattle.rom_run.proofs.Calm.{calm_shows}
+use Rattle.rom_run.proofs.Display.{outside_shows}
 use Rattle.rom_run.proofs.Moves.{board_moves, interrupted}
 use Rattle.rom_run.proofs.Proved.{proved}
-use Rattle.rom_run.proofs.Room.{row_room}
 use Rattle.rom_run.proofs.Run.{boot, begun}
 use Rattle.rom_run.proofs.Served.{main_there}
 use Rattle.rom_run.proofs.Ticks.{later_cycle, few_later}
-use Rattle.rom_run.proofs.Woken.{woken_apart}
 
 module _ (e : Edition) (script : List Event) where
   abbrev x : Program
@@ -75,18 +72,6 @@ module _ (e : Edition) (script : List Event) where
 
       starts : s.start.cycle < (after_moves (image e) held s.start s.k).cycle
       starts = omega (arith, later-move (image e) held s.start, later_cycle (image e) held s.start 1 s.k s.some)
-
-  -- ---- where the interrupt comes, the screen is that of the last dispatch point
-
-  screen_above : (e : Edition) → variables e < screen_start e
-  screen_above Usual = omega arith
-  screen_above Tall = omega arith
-
-  outside_shows : (b : Machine) (h : Since) → Outside e script b h → place b.cycle ≡ interrupt_place → Showing e b h
-  outside_shows b h (AtRow t row n (Before s r)) p = calm_shows e b h t.fits (omega (arith, (row_room e b h row).high, screen_above e)) r
-  outside_shows b h (AtRow t row n (Waiting k s l i r)) p = calm_shows e b h t.fits (omega (arith, (row_room e b h row).high, screen_above e)) r
-  outside_shows b h (AtRow t row n (Behind k s l r w)) p = absurd (woken_apart e b h 0 (omega arith) w (omega (arith, p)))
-  outside_shows b h (AtEvent t q d late y) p = y
 
   -- ---- a board in the run of a game
 
@@ -174,7 +159,7 @@ module _ (e : Edition) (script : List Event) where
           scanned = run_picture e m o.i limit held (start game) (interrupted e script (booted o.i) o.before m o.outside o.cycle) (omega (arith, n, l))
 
           seen : Showing e (booted o.i) o.before
-          seen = outside_shows (booted o.i) o.before o.outside (omega (arith, o.cycle))
+          seen = outside_shows e script (booted o.i) o.before o.outside (omega (arith, o.cycle))
 
           rows : (e : Edition) (k : ℕ) → k < 128 → k / lines_of e < rows_of e
           rows Usual k h = omega (arith, h)

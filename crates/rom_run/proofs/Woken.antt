@@ -23,7 +23,7 @@ use Rattle.chip8_rows.specs.Table.Place.{AtTimer, AtKey, AtSprite}
 use Rattle.chip8_rows.proofs.Later.{ticks_high}
 use Rattle.rom_frame.specs.Frame.{place, interrupt_place}
 use Rattle.rom_frame.specs.Routine.{routine_cycles}
-use Rattle.rom_run.specs.Running.{WaitsBy, Woken}
+use Rattle.rom_run.specs.Running.{WaitsBy, Woken, most_changing}
 use Rattle.rom_run.specs.Running.WaitsBy.{ToClear, ToDraw}
 use Rattle.rom_run.proofs.Proved.{proved}
 use Rattle.rom_run.proofs.Time.{few}
@@ -37,7 +37,7 @@ pub record Waits (e : Edition) (b : Machine) (h : Since) : Type 0 where
   pub waits : WaitsBy h.state base
   pub row : Row (vip e) (pieces (vip e)) b (record h { spent = base })
 
-high_then : (h : Since) → high_byte (now h) ≡ high_byte h.state
+pub high_then : (h : Since) → high_byte (now h) ≡ high_byte h.state
 high_then h = ticks_high h.ticks h.state
 
 pub row_waits : (e : Edition) (b : Machine) (h : Since) → b.regs.idle ≡ true → Row (vip e) (pieces (vip e)) b h → Waits e b h
@@ -50,10 +50,6 @@ row_waits e b h i (Alone (AtSprite DrawWait) o) = absurd (sleeps (sym i ∙ o.0.
 row_waits e b h i (Alone (AtSprite DrawIdle) o) = record { base = 2154; waits = ToDraw (ap (λ y. y / 16) (sym (high_then h)) ∙ o.0.0.draws.digit); row = Alone (AtSprite DrawIdle) (o.0, omega arith) }
 
 -- ---- behind the wait
-
--- the screen is changed in so many main cycles at most
-abbrev pub most_changing : ℕ
-most_changing = 1560
 
 -- of a block behind the wait the head says how late it is
 clearing : (s : Lang) (base late n : ℕ) → WaitsBy s base → high_byte s ≡ 0 → late ≤ 102 + n → n ≤ most_changing → late ≤ base + most_changing

@@ -19,7 +19,8 @@ use Rattle.rom_law.specs.Rows.{Since, Row, Outcome, after_main}
 use Rattle.rom_law.specs.Schedules.{EverySchedule}
 use Rattle.chip8_rows.specs.Rom.{image, vip}
 use Rattle.chip8_rows.specs.Table.{pieces}
-use Rattle.rom_run.specs.Running.{Running, Booting, FromBoot}
+use Rattle.rom_frame.specs.Frame.{place, interrupt_place}
+use Rattle.rom_run.specs.Running.{Running, Booting, FromBoot, Showing, WaitsBy, since_return, most_changing}
 
 -- whenever timer ticks come, main code does what the language says
 abbrev pub AnySchedule : Type 0
@@ -58,6 +59,41 @@ Timely =
     → Running e script b h
     → bound_of e h.state ≡ Some bound
     → (move (image e) (held_at script) b).cycle ≤ h.from + bound
+
+-- ---- the display
+
+-- No interrupt comes while the screen is changed: in the cycle of each one the screen in RAM is that of the last dispatch point.
+abbrev pub Undisturbed : Type 0
+Undisturbed =
+    (e : Edition) (script : List Event) (b : Machine) (h : Since)
+    → Running e script b h
+    → place b.cycle ≡ interrupt_place
+    → Showing e b h
+
+-- the instruction at the last dispatch point is 00E0 or DXYN, which waits after `most` main cycles at the latest
+pub record Display (h : Since) (Here : ℕ → Type 0) : Type 0 where
+  pub most : ℕ
+  pub waits : WaitsBy h.state most
+  pub here : Here most
+
+-- Where main code waits, that is so: it waits for the display.
+abbrev pub WaitsSoon : Type 0
+WaitsSoon =
+    (e : Edition) (script : List Event) (b : Machine) (h : Since)
+    → Running e script b h
+    → b.regs.ie ≡ true
+    → b.regs.idle ≡ true
+    → Display h (λ most. h.spent ≤ most)
+
+-- Where the screen in RAM isn't that of the last dispatch point, it is so too, and the interrupt routine that ended the wait returned at most
+-- 1,560 cycles ago: no interrupt has come since, so these are cycles of main code.
+abbrev pub ChangesSoon : Type 0
+ChangesSoon =
+    (e : Edition) (script : List Event) (b : Machine) (h : Since)
+    → Running e script b h
+    → b.regs.ie ≡ true
+    → ¬ Showing e b h
+    → Display h (λ most. since_return b.cycle ≤ most_changing)
 
 -- ---- a part of the ROM
 

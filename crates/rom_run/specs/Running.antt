@@ -50,6 +50,10 @@ pub data Due (e : Edition) (b : Machine) (h : Since) : Type 0 where
 abbrev pub Spends : Machine → Since → ℕ → Type 0
 Spends b h n = b.cycle ≡ h.from + h.spent + routine_cycles * h.ticks + n
 
+-- how long ago the interrupt routine returned
+abbrev pub since_return : ℕ → ℕ
+since_return t = (t + (frame - (interrupt_place + routine_cycles))) % frame
+
 -- how long ago the window ended, and how long at most until the next interrupt
 abbrev pub since_window : ℕ → ℕ
 since_window t = (t + (frame - window_place)) % frame
@@ -61,6 +65,10 @@ most_wait = frame - window_place + interrupt_place
 pub data WaitsBy (s : Lang) : ℕ → Type 0 where
   ToClear : high_byte s ≡ 0 → WaitsBy s 102
   ToDraw : high_byte s / 16 ≡ 13 → WaitsBy s 2154
+
+-- and in which they change the screen behind the wait
+abbrev pub most_changing : ℕ
+most_changing = 1560
 
 -- Behind a wait: main code went on in the cycle `woke`, where the interrupt routine returned. It is in a row too if the wait came after `base`
 -- main cycles, so that the row says how many it has spent since, `late` less `base`.

@@ -1,6 +1,6 @@
 //! What is proved of the whole interpreter's ROM, each law the contract of a function without parameters.
 
-ghost use Rattle.rom_run.specs.Laws.{AnySchedule, MainRows, Timely, EveryRun, EveryPicture};
+ghost use Rattle.rom_run.specs.Laws.{AnySchedule, MainRows, Timely, Undisturbed, WaitsSoon, ChangesSoon, EveryRun, EveryPicture};
 
 /// The law of every schedule, for both editions: from a dispatch point on, whenever timer ticks come and whatever keys are held down, the
 /// first main move that comes to the fetch loop or to the stop has made one step of the language, or has come to the stop of the state.
@@ -17,6 +17,22 @@ pub fn main_rows()
 /// Each of these moves ends within the bound of the instruction at the last dispatch point, where that has one: FX0A has none.
 pub fn timely()
     ensures { Timely }
+{}
+
+/// No interrupt comes while 00E0 or DXYN changes the screen: in the cycle of each one the screen in RAM is that of the last dispatch point.
+pub fn undisturbed()
+    ensures { Undisturbed }
+{}
+
+/// Main code waits for the display alone: in 00E0 after at most 102 main cycles from the dispatch point on, and in DXYN after at most 2,154, in
+/// which the sprite is prepared.
+pub fn waits_soon()
+    ensures { WaitsSoon }
+{}
+
+/// Where the screen in RAM isn't that of the last dispatch point, the interrupt routine that ended the wait returned at most 1,560 cycles ago.
+pub fn changes_soon()
+    ensures { ChangesSoon }
 {}
 
 /// The law of every run of the board from reset, for both editions, every game that fits into game memory, every key script and every limit:

@@ -1,0 +1,101 @@
+-- The display: no interrupt comes while the screen is changed, and how long 00E0 and DXYN prepare their work and change the screen.
+use Rattle.std.proofs.Common.{◌≡◌, ℕ, ◌+◌, ◌-◌, ◌*◌, ◌/◌, ◌%◌, ◌<◌, ◌≤◌, sym, ◌∙◌, ap, arith, true, List}
+use Rattle.machine.specs.Board.{Machine}
+use Rattle.machine.specs.Keys.{Event, held_at}
+use Rattle.chip8_lang.specs.declared.view.Edition.{Edition}
+use Rattle.chip8_lang.specs.declared.view.Edition.TheVariants.{Usual, Tall}
+use Rattle.chip8_lang.specs.Editions.{variables, screen_start}
+use Rattle.rom_law.specs.Rows.{Since, Row, now}
+use Rattle.rom_law.specs.Rows.Row.{Inside, Alone}
+use Rattle.rom_law.proofs.Kept.{block_awake}
+use Rattle.chip8_rows.specs.Rom.{vip}
+use Rattle.chip8_rows.specs.SpriteBlocks.SpritePlace.{ClearWait, ClearIdle, DrawWait, DrawIdle}
+use Rattle.chip8_rows.specs.Table.{pieces}
+use Rattle.chip8_rows.specs.Table.Place.{AtTimer, AtKey, AtSprite}
+use Rattle.rom_frame.specs.Frame.{place, interrupt_place}
+use Rattle.rom_frame.specs.Routine.{routine_cycles}
+use Rattle.rom_frame.proofs.Tick.{run_tick}
+use Rattle.rom_run.specs.Laws.{Undisturbed, WaitsSoon, ChangesSoon, Display}
+use Rattle.rom_run.specs.Running.{Due, Outside, Running, Serving, Showing, Woken, since_return, most_changing}
+use Rattle.rom_run.specs.Running.Due.{Arrives, Ends}
+use Rattle.rom_run.specs.Running.Timed.{Before, Waiting, Behind}
+use Rattle.rom_run.specs.Running.Outside.{AtRow, AtEvent}
+use Rattle.rom_run.specs.Running.Running.{InMain, InRoutine}
+use Rattle.rom_run.specs.Running.WaitsBy.{ToClear, ToDraw}
+use Rattle.rom_run.proofs.Calm.{calm_shows}
+use Rattle.rom_run.proofs.Moves.{interrupted}
+use Rattle.rom_run.proofs.Proved.{proved}
+use Rattle.rom_run.proofs.Room.{row_room}
+use Rattle.rom_run.proofs.Served.{main_there}
+use Rattle.rom_run.proofs.Waits.{sleeps, timer_awake, key_awake}
+use Rattle.rom_run.proofs.Woken.{high_then, woken_apart, woken_few}
+
+screen_above : (e : Edition) → variables e < screen_start e
+screen_above Usual = omega arith
+screen_above Tall = omega arith
+
+module _ (e : Edition) (script : List Event) where
+  -- ---- the screen, at an interrupt and elsewhere
+
+  pub outside_shows : (b : Machine) (h : Since) → Outside e script b h → place b.cycle ≡ interrupt_place → Showing e b h
+  outside_shows b h (AtRow t row n (Before s r)) p = calm_shows e b h t.fits (omega (arith, (row_room e b h row).high, screen_above e)) r
+  outside_shows b h (AtRow t row n (Waiting k s l i r)) p = calm_shows e b h t.fits (omega (arith, (row_room e b h row).high, screen_above e)) r
+  outside_shows b h (AtRow t row n (Behind k s l r w)) p = absurd (woken_apart e b h 0 (omega arith) w (omega (arith, p)))
+  outside_shows b h (AtEvent t q d late y) p = y
+
+  -- behind a wait the routine returned in the cycle `woke`
+  woken_since : (b : Machine) (h : Since) (w : Woken e b h) → since_return b.cycle ≤ most_changing
+  woken_since b h w = since b.cycle w.base w.woke w.late w.return w.since w.least (woken_few e b h w)
+    where
+      since : (cycle base woke late : ℕ) → place woke ≡ interrupt_place + routine_cycles → cycle + base ≡ woke + late → base ≤ late → late ≤ base + most_changing → since_return cycle ≤ most_changing
+      since cycle base woke late r s l m = omega (arith, r, s, l, m)
+
+  outside_changes : (b : Machine) (h : Since) → Outside e script b h → ¬ Showing e b h → Display h (λ most. since_return b.cycle ≤ most_changing)
+  outside_changes b h (AtRow t row n (Before s r)) c = absurd (c (calm_shows e b h t.fits (omega (arith, (row_room e b h row).high, screen_above e)) r))
+  outside_changes b h (AtRow t row n (Waiting k s l i r)) c = absurd (c (calm_shows e b h t.fits (omega (arith, (row_room e b h row).high, screen_above e)) r))
+  outside_changes b h (AtRow t row n (Behind k s l r w)) c = record { most = w.base; waits = w.waits; here = woken_since b h w }
+  outside_changes b h (AtEvent t q d late y) c = absurd (c y)
+
+  -- ---- a wait
+
+  row_soon : (b : Machine) (h : Since) → b.regs.idle ≡ true → Row (vip e) (pieces (vip e)) b h → Display h (λ most. h.spent ≤ most)
+  row_soon b h i (Inside l r) = absurd (sleeps (sym i ∙ block_awake (vip e) (pieces (vip e)) (proved e) r))
+  row_soon b h i (Alone (AtTimer l) o) = absurd (sleeps (sym i ∙ timer_awake (vip e) b (now h) l o.0))
+  row_soon b h i (Alone (AtKey l) o) = absurd (sleeps (sym i ∙ key_awake (vip e) b (now h) l h.keys o.0))
+  row_soon b h i (Alone (AtSprite ClearWait) o) = absurd (sleeps (sym i ∙ o.0.holds.awake))
+  row_soon b h i (Alone (AtSprite ClearIdle) o) = record { most = 102; waits = ToClear (sym (high_then h) ∙ o.0.0.clears.0); here = o.1 }
+  row_soon b h i (Alone (AtSprite DrawWait) o) = absurd (sleeps (sym i ∙ o.0.holds.awake))
+  row_soon b h i (Alone (AtSprite DrawIdle) o) = record { most = 2154; waits = ToDraw (ap (λ y. y / 16) (sym (high_then h)) ∙ o.0.0.draws.digit); here = o.1 }
+
+  due_awake : (b : Machine) (h : Since) → b.regs.idle ≡ true → Due e b h → ⊥
+  due_awake b h i (Arrives s st) = sleeps (sym i ∙ st.stands.keeps.lies.awake)
+  due_awake b h i (Ends stop st) = sleeps (sym i ∙ st.halts.keeps.lies.awake)
+
+  outside_soon : (b : Machine) (h : Since) → b.regs.idle ≡ true → Outside e script b h → Display h (λ most. h.spent ≤ most)
+  outside_soon b h i (AtRow t row n time) = row_soon b h i row
+  outside_soon b h i (AtEvent t q d late y) = absurd (due_awake b h i d)
+
+  -- ---- in the interrupt routine interrupts are disabled
+
+  apart_from : (b : Machine) (h : Since) → Serving e script b h → b.regs.ie ≡ true → ⊥
+  apart_from b h s enabled =
+      sleeps (sym enabled ∙ ap (λ (z : Machine). z.regs.ie) s.is ∙ ((run_tick e s.m s.start (held_at script) (interrupted e script s.start s.before s.m s.outside s.cycle)).inside s.k s.some s.inside).disabled)
+
+  changes : (b : Machine) (h : Since) → Running e script b h → b.regs.ie ≡ true → ¬ Showing e b h → Display h (λ most. since_return b.cycle ≤ most_changing)
+  changes b h (InMain o) enabled c = outside_changes b h o c
+  changes b h (InRoutine s) enabled c = absurd (apart_from b h s enabled)
+
+  soon : (b : Machine) (h : Since) → Running e script b h → b.regs.ie ≡ true → b.regs.idle ≡ true → Display h (λ most. h.spent ≤ most)
+  soon b h (InMain o) enabled i = outside_soon b h i o
+  soon b h (InRoutine s) enabled i = absurd (apart_from b h s enabled)
+
+-- ---- the laws
+
+pub undisturbed : Undisturbed
+undisturbed e script b h r p = outside_shows e script b h (main_there e script b h r p) p
+
+pub waits_soon : WaitsSoon
+waits_soon e script b h r enabled i = soon e script b h r enabled i
+
+pub changes_soon : ChangesSoon
+changes_soon e script b h r enabled c = changes e script b h r enabled c
