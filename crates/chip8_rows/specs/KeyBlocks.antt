@@ -3,7 +3,7 @@ use Rattle.std.specs.Prelude.{◌≡◌, ℕ, suc, ◌+◌, ◌*◌, ◌/◌, �
 use Rattle.machine.specs.Bank.{word, word_of}
 use Rattle.machine.specs.Board.{Machine}
 use Rattle.machine.specs.Keys.{Keys}
-use Rattle.chip8_lang.specs.Between.{IsAt, SomeTime, LetGo}
+use Rattle.chip8_lang.specs.Between.{IsAt, SomeTime}
 use Rattle.chip8_lang.specs.State.{Lang, variable, is_fetchable}
 use Rattle.chip8_lang.specs.Step.{next}
 use Rattle.chip8_image.specs.declared.parts.Part.TheVariants.{Keys as IsKeys}
@@ -46,6 +46,13 @@ pub record Last (sets : List Keys) (k : ℕ) (down : Bool) : Type 0 where
   pub time : ℕ
   pub last : suc time ≡ length sets
   pub at : IsAt sets time k down
+
+-- key k is down in the set before the last one of K, and up in the last one
+pub record JustUp (sets : List Keys) (k : ℕ) : Type 0 where
+  pub time : ℕ
+  pub last : 2 + time ≡ length sets
+  pub down : IsAt sets time k true
+  pub up : IsAt sets (suc time) k false
 
 -- Turn t of the loop tests key t mod 16. So many sets lie before the loop, then seven for each turn, and `more` for this one. In the fifth
 -- set of each turn before, that turn's key is up.
@@ -109,7 +116,7 @@ key_at x (Skip down) b s sets = Skipping x down at_key_yes b s × SomeTime sets 
 key_at x WaitKey b s sets = Enters x at_wait_key 15 b s × (low_byte s ≡ 0x0a)
 key_at x (KeyNext turn) b s sets = Turning x turn at_key_next b s × Turned turn 0 sets
 key_at x (KeyCount turn) b s sets = Turning x turn at_key_count b s × Turned turn 5 sets × Last sets (turn % 16) false
-key_at x KeyFreed b s sets = Waiting x at_key_freed b s × LetGo sets (b.regs.r.re.lo % 16) × Last sets (b.regs.r.re.lo % 16) false
+key_at x KeyFreed b s sets = Waiting x at_key_freed b s × JustUp sets (b.regs.r.re.lo % 16)
 
 abbrev pub key_place_at : Program → KeyPlace → Machine → Lang → List Keys → Type 0
 key_place_at x (SkipTest down) b s sets = Skipping x down (skip_test_label down) b s × (b.key ≡ skip_key s)

@@ -1,11 +1,11 @@
 -- The sets of keys of a run of main moves grow at their end.
-use Rattle.std.proofs.Common.{◌≡◌, ℕ, ◌+◌, refl, sym, ap, subst, arith, Bool, List, [], ◌∷◌, ◌++◌, length}
+use Rattle.std.proofs.Common.{◌≡◌, ℕ, suc, ◌+◌, ◌<◌, refl, sym, ap, subst, arith, Bool, List, [], ◌∷◌, ◌++◌, length}
 use Rattle.std.specs.Prelude.{slice_get, Some}
 use Rattle.machine.specs.Keys.{Keys}
 use Rattle.chip8_lang.specs.Between.{IsAt, SomeTime, LetGo}
 use Rattle.rom_law.specs.Rows.{Since, Grows}
 use Rattle.rom_law.proofs.Language.{get_append}
-use Rattle.chip8_rows.specs.KeyBlocks.{Last, Turned}
+use Rattle.chip8_rows.specs.KeyBlocks.{Last, JustUp, Turned}
 
 -- ---- one set more
 
@@ -13,7 +13,7 @@ pub length_more : (l : List Keys) (m : List Keys) → length (l ++ m) ≡ length
 length_more [] m = omega arith
 length_more (k ∷ l) m = omega (arith, length_more l m)
 
-get_last : (l : List Keys) (k : Keys) → slice_get (l ++ k ∷ []) (length l) ≡ Some k
+pub get_last : (l : List Keys) (k : Keys) → slice_get (l ++ k ∷ []) (length l) ≡ Some k
 get_last [] k = refl
 get_last (j ∷ l) k = get_last l k
 
@@ -22,6 +22,9 @@ last_set l held k down is = record { time = length l; last = omega (arith, lengt
 
 pub some_last : {l : List Keys} {k : ℕ} {down : Bool} → Last l k down → SomeTime l k down
 some_last t = record { time = t.time; at = t.at }
+
+pub let_go : {l : List Keys} {k : ℕ} → JustUp l k → k < 16 → LetGo l k
+let_go t fits = record { fits = fits; pressed = t.time; released = suc t.time; order = omega arith; down = t.down; up = t.up }
 
 -- ---- the sets at the end of a block
 

@@ -14,7 +14,7 @@ use Rattle.chip8_lang.specs.Editions.{stack_top, variables}
 use Rattle.chip8_lang.specs.State.{Lang, instr_at}
 use Rattle.chip8_lang.specs.Step.{next, stop_of}
 use Rattle.chip8_lang.specs.Step.KeyInput.{Chosen}
-use Rattle.chip8_lang.specs.Between.{IsAt, LetGo}
+use Rattle.chip8_lang.specs.Between.{IsAt}
 use Rattle.chip8_image.specs.Labels.{at_fetch, at_wait_key, at_key_next, at_key_test, at_key_count, at_key_held, at_key_freed}
 use Rattle.rom_moves.specs.Code.{Input}
 use Rattle.rom_law.specs.Holding.{Places, places, Holding}
@@ -22,7 +22,7 @@ use Rattle.rom_law.specs.Rows.{Since, Grows, now}
 use Rattle.rom_law.proofs.Places.{v_set, work_set, work_get}
 use Rattle.rom_law.proofs.Kept.{Comes, Holds}
 use Rattle.chip8_rows.specs.Heads.{high_byte, low_byte, page_of, Enters}
-use Rattle.chip8_rows.specs.KeyBlocks.{Last, Turned, Waiting, Turning}
+use Rattle.chip8_rows.specs.KeyBlocks.{Last, JustUp, Turned, Waiting, Turning}
 use Rattle.chip8_rows.specs.KeyBlocks.KeyBlock.{WaitKey, KeyNext, KeyCount, KeyFreed}
 use Rattle.chip8_rows.specs.KeyBlocks.KeyPlace.{KeyTest, KeyHeld}
 use Rattle.chip8_rows.specs.Table.{At, calm_pieces}
@@ -35,7 +35,7 @@ use Rattle.chip8_rows.proofs.Follows.{to_key, to_key_place}
 use Rattle.chip8_rows.proofs.Straight.{routine}
 use Rattle.chip8_rows.proofs.Steps.{steps_with}
 use Rattle.chip8_rows.proofs.Ways.{straight}
-use Rattle.key_blocks.proofs.Sets.{at_grown, let_go_grown, length_grown, turned_grown, last_set, length_more, is_at_more}
+use Rattle.key_blocks.proofs.Sets.{at_grown, let_go, let_go_grown, length_grown, turned_grown, last_set, length_more, is_at_more}
 
 -- ---- the sets of a turn
 
@@ -137,8 +137,8 @@ module _ (e : Edition) (b : Machine) (h : Since) (f : FitsMachine b) where
   waits_more w o = waits_in w _ o o.enters.entered.holds refl refl refl refl refl refl
 
   -- the key that was down is up in a set more
-  lets_go : {k : ℕ} (u : Input) → k < 16 → Last h.keys k true → u.held k ≡ false → LetGo (h.keys ++ u.held ∷ []) k
-  lets_go {k = k} u l last is = record { fits = l; pressed = last.time; released = up.time; order = omega (arith, last.last, up.last, length_more h.keys (u.held ∷ [])); down = is_at_more (u.held ∷ []) last.at; up = up.at }
+  lets_go : {k : ℕ} (u : Input) → Last h.keys k true → u.held k ≡ false → JustUp (h.keys ++ u.held ∷ []) k
+  lets_go {k = k} u last is = record { time = last.time; last = omega (arith, last.last, length_more h.keys (u.held ∷ [])); down = is_at_more (u.held ∷ []) last.at; up = subst (λ z. IsAt (h.keys ++ u.held ∷ []) z k false) (omega (arith, last.last, up.last, length_more h.keys (u.held ∷ []))) up.at }
     where
       up : Last (h.keys ++ u.held ∷ []) k false
       up = last_set h.keys u.held k false is
@@ -146,16 +146,16 @@ module _ (e : Edition) (b : Machine) (h : Since) (f : FitsMachine b) where
   pub key_held_holds : Waiting (quick e) at_key_held b (now h) → b.key ≡ b.regs.r.re.lo % 16 → Last h.keys (b.regs.r.re.lo % 16) true → At (quick e) (AtKey KeyHeld) b h → Holds (quick e) (calm_pieces (quick e)) (AtKey KeyHeld) b h
   key_held_holds o key last at = alone_forks (AtKey KeyHeld) f at o.enters.entered.holds (entered e at_key_held high low b) (is_entered o.enters.entered) refl refl waiting (λ u. u.held b.key) at_key_held at_key_freed (λ u. refl)
       (λ u k. to_key_place (quick e) (one_more u h) _ refl KeyHeld (waits_more at_key_held o, key, last_set h.keys u.held (b.regs.r.re.lo % 16) true (ap u.held (sym key) ∙ k)) tt)
-      (λ u k. to_key (quick e) (one_more u h) _ refl KeyFreed (waits_more at_key_freed o, lets_go u (omega arith) last (ap u.held (sym key) ∙ k), last_set h.keys u.held (b.regs.r.re.lo % 16) false (ap u.held (sym key) ∙ k)) tt)
+      (λ u k. to_key (quick e) (one_more u h) _ refl KeyFreed (waits_more at_key_freed o, lets_go u last (ap u.held (sym key) ∙ k)) tt)
 
   -- ---- VX is that key
 
   abbrev put : ℕ → Places
   put v = record (places b) { ram = written b.latch b.ram (value (word (page_of e) (240 + high % 16))) v }
 
-  pub key_freed_comes : Waiting (quick e) at_key_freed b (now h) → LetGo h.keys (b.regs.r.re.lo % 16) → Comes (quick e) (calm_pieces (quick e)) (OfKey KeyFreed) b h
+  pub key_freed_comes : Waiting (quick e) at_key_freed b (now h) → JustUp h.keys (b.regs.r.re.lo % 16) → Comes (quick e) (calm_pieces (quick e)) (OfKey KeyFreed) b h
   key_freed_comes o freed = routine (OfKey KeyFreed) o.enters.entered _ (omega (arith, o.enters.entered.holds.stack, stack_top_is e, page_fits e)) refl
-      (λ h' g. steps_with e g (IsWaitKey (high % 16)) is runs (Chosen (b.regs.r.re.lo % 16)) (let_go_grown g freed) tt _ puts refl refl)
+      (λ h' g. steps_with e g (IsWaitKey (high % 16)) is runs (Chosen (b.regs.r.re.lo % 16)) (let_go_grown g (let_go freed (omega arith))) tt _ puts refl refl)
     where
       is : instr_at (now h) ≡ IsWaitKey (high % 16)
       is = rw (o.enters.digit, o.low) refl

@@ -75,22 +75,30 @@ pub record Lately (n : ℕ) (sets : List Keys) (k : ℕ) (down : Bool) : Type 0 
   pub late : length sets ≤ time + n
   pub at : IsAt sets time k down
 
+-- in one of the n sets from the p-th on it is so
+pub record Within (p n : ℕ) (sets : List Keys) (k : ℕ) (down : Bool) : Type 0 where
+  pub time : ℕ
+  pub from : p ≤ time
+  pub before : time < p + n
+  pub at : IsAt sets time k down
+
 -- FX0A waits for a key to go down: a row of a turn, up to the test or behind it, or the test itself
 pub data Scans (x : Program) (b : Machine) (h : Since) : Type 0 where
   UpTo : (turn : ℕ) → InBlock x (pieces x) (OfKey (KeyNext turn)) b h → Scans x b h
   AtTest : (turn : ℕ) → At x (AtKey (KeyTest turn)) b h → Scans x b h
   Behind : (turn : ℕ) → InBlock x (pieces x) (OfKey (KeyCount turn)) b h → Scans x b h
 
--- There, once K has 400 sets, no key is down in all of the last 400.
+-- There no key is down in all of any 400 successive sets of K.
 abbrev pub NoneStays : Type 0
 NoneStays =
     (e : Edition) (b : Machine) (h : Since)
     → Scans (vip e) b h
     → Counted h
-    → 400 ≤ length h.keys
+    → (p : ℕ)
+    → p + 400 ≤ length h.keys
     → (k : ℕ)
     → k < 16
-    → Lately 400 h.keys k false
+    → Within p 400 h.keys k false
 
 -- Where FX0A waits for the latched key to go up, that key is down in the last set of K.
 abbrev pub StaysDown : Type 0
@@ -99,8 +107,8 @@ StaysDown =
     → At (vip e) (AtKey KeyHeld) b h
     → Lately 1 h.keys b.key true
 
--- Behind its last test, its key is down in some set of K and up in some later one, and up in one of the last four.
+-- Behind its last test, its key is down in some set of K and up in some later one: down in one of the last five, and up in one of the last four.
 abbrev pub GoesUp : Type 0
 GoesUp =
     (e : Edition) (b : Machine) (h : Since) (r : InBlock (vip e) (pieces (vip e)) (OfKey KeyFreed) b h)
-    → LetGo h.keys (r.start.regs.r.re.lo % 16) × Lately 4 h.keys (r.start.regs.r.re.lo % 16) false
+    → LetGo h.keys (r.start.regs.r.re.lo % 16) × Lately 5 h.keys (r.start.regs.r.re.lo % 16) true × Lately 4 h.keys (r.start.regs.r.re.lo % 16) false

@@ -33,7 +33,7 @@ pub fn counts()
     ensures { CountsOn }
 {}
 
-/// In the rows where FX0A waits for a key to go down, no key is down in all of the last 400 sets of keys, once there are as many.
+/// In the rows where FX0A waits for a key to go down, no key is down in all of any 400 successive sets of keys.
 pub fn none_stays()
     ensures { NoneStays }
 {}
@@ -43,7 +43,7 @@ pub fn stays_down()
     ensures { StaysDown }
 {}
 
-/// In the rows behind its last test its key is down in a set and up in a later one, and up in one of the last four.
+/// In the rows behind its last test its key is down in a set and up in a later one: down in one of the last five, and up in one of the last four.
 pub fn goes_up()
     ensures { GoesUp }
 {}

@@ -8,6 +8,7 @@ pub mod Schedules
 pub mod Carried
 pub mod Runs
 pub mod Shown
+pub mod Keys
 pub mod NoDisplay
 pub mod First
 pub mod Steps

@@ -8,7 +8,7 @@ use Rattle.machine.specs.Keys.{Event as KeyEvent}
 use Rattle.machine.specs.Run.{run_to, after_moves}
 use Rattle.machine.specs.Pictures.{windows_ended, is_shown}
 use Rattle.machine.proofs.Runs.{later-move, run_to-next, run_to-past}
-use Rattle.chip8_lang.specs.State.{first}
+use Rattle.chip8_lang.specs.State.{Lang, first}
 use Rattle.chip8_lang.specs.Ticks.{ticks}
 use Rattle.chip8_lang.specs.Between.{Between, keys_between}
 use Rattle.chip8_lang.specs.Bounds.{boot_bound}
@@ -26,6 +26,11 @@ use Rattle.rom_law.specs.Runs.Moves.{Still, Arrived, Halted}
 pub record Carries (x : Program) (script : List KeyEvent) (Running : Machine → Since → Type 0) : Type 0 where
   pub moves : (b : Machine) (h : Since) → Running b h → Moves x script Running (carried x.interpreter.rom (held_at script) b h) (move x.interpreter.rom (held_at script) b)
   pub timely : (b : Machine) (h : Since) (bound : ℕ) → Running b h → x.bound_of h.state ≡ Some bound → (move x.interpreter.rom (held_at script) b).cycle ≤ h.from + bound
+
+-- the same, where `Due` says by which cycles the next point is due, by the cycle and the state of the last dispatch point
+pub record CarriesBy (x : Program) (script : List KeyEvent) (Due : ℕ → Lang → ℕ → Type 0) (Running : Machine → Since → Type 0) : Type 0 where
+  pub moves : (b : Machine) (h : Since) → Running b h → Moves x script Running (carried x.interpreter.rom (held_at script) b h) (move x.interpreter.rom (held_at script) b)
+  pub timely : (b : Machine) (h : Since) (t : ℕ) → Running b h → Due h.from h.state t → (move x.interpreter.rom (held_at script) b).cycle ≤ t
 
 -- boot comes to a first dispatch, with no event before
 pub record Boots (x : Program) (game : List ℕ) (script : List KeyEvent) (Running : Machine → Since → Type 0) : Type 0 where
@@ -62,21 +67,22 @@ module _ (x : Program) (whole : List Machine) where
 
 -- ---- the points after a dispatch point
 
-module _ (x : Program) (script : List KeyEvent) (limit : ℕ) where
+nothing_there : {X : Type 0} (ps : List Event) (k : ℕ) (p : Event) → ps ≡ [] → slice_get ps k ≡ Some p → X
+nothing_there ps k p e h = absurd (go (subst (λ z. slice_get z k ≡ Some p) e h))
+  where
+    go : slice_get [] k ≡ Some p → ⊥
+    go f = cc
+
+-- `Due` says by which cycles the next point is due, by the cycle and the state of a dispatch point.
+module _ (x : Program) (script : List KeyEvent) (limit : ℕ) (Due : ℕ → Lang → ℕ → Type 0) where
   abbrev InTime : Machine → Machine → Type 0
-  InTime b c = (bound : ℕ) → x.bound_of (state_at x b) ≡ Some bound → c.cycle ≤ b.cycle + bound
+  InTime b c = (t : ℕ) → Due b.cycle (state_at x b) t → c.cycle ≤ t
 
   abbrev Chain : Machine → List Event → Type 0
-  Chain b [] = (bound : ℕ) → x.bound_of (state_at x b) ≡ Some bound → b.cycle + bound ≤ limit → ⊥
+  Chain b [] = (t : ℕ) → Due b.cycle (state_at x b) t → t ≤ limit → ⊥
   Chain b (Picture m ∷ ps) = ⊥
   Chain b (Dispatch c ∷ ps) = IsStep x script b c × InTime b c × Chain c ps
   Chain b (Stopped c ∷ ps) = IsStop x b c × InTime b c × (ps ≡ [])
-
-  nothing_there : {X : Type 0} (ps : List Event) (k : ℕ) (p : Event) → ps ≡ [] → slice_get ps k ≡ Some p → X
-  nothing_there ps k p e h = absurd (go (subst (λ z. slice_get z k ≡ Some p) e h))
-    where
-      go : slice_get [] k ≡ Some p → ⊥
-      go f = cc
 
   chain_next : (k : ℕ) (a : Machine) (ps : List Event) → Chain a ps → (b : Machine) (p : Event) → slice_get (Dispatch a ∷ ps) k ≡ Some (Dispatch b) → slice_get (Dispatch a ∷ ps) (suc k) ≡ Some p → IsNext x script b p
   chain_next zero a [] h b p f g = cc
@@ -101,29 +107,29 @@ module _ (x : Program) (script : List KeyEvent) (limit : ℕ) where
   chain_next (suc zero) a (Stopped c ∷ ps) h b p f g = cc
   chain_next (suc (suc k)) a (Stopped c ∷ ps) h b p f g = nothing_there ps k _ h.2 f
 
-  abbrev Soon : List Event → ℕ → Machine → ℕ → Type 0
-  Soon ps k b bound = (p : Event) × (slice_get ps k ≡ Some p) × (cycle_of p ≤ b.cycle + bound)
+  abbrev Soon : List Event → ℕ → ℕ → Type 0
+  Soon ps k t = (p : Event) × (slice_get ps k ≡ Some p) × (cycle_of p ≤ t)
 
-  chain_bound : (k : ℕ) (a : Machine) (ps : List Event) → Chain a ps → (b : Machine) (bound : ℕ) → slice_get (Dispatch a ∷ ps) k ≡ Some (Dispatch b) → x.bound_of (state_at x b) ≡ Some bound → b.cycle + bound ≤ limit → Soon (Dispatch a ∷ ps) (suc k) b bound
-  chain_bound zero a ps h b bound f e l = subst (λ z. Soon (Dispatch a ∷ ps) 1 z bound) (is_same f) (here ps h (subst (λ z. x.bound_of (state_at x z) ≡ Some bound) (sym (is_same f)) e) (subst (λ (z : Machine). z.cycle + bound ≤ limit) (sym (is_same f)) l))
+  chain_due : (k : ℕ) (a : Machine) (ps : List Event) → Chain a ps → (b : Machine) (t : ℕ) → slice_get (Dispatch a ∷ ps) k ≡ Some (Dispatch b) → Due b.cycle (state_at x b) t → t ≤ limit → Soon (Dispatch a ∷ ps) (suc k) t
+  chain_due zero a ps h b t f e l = here ps h (subst (λ (z : Machine). Due z.cycle (state_at x z) t) (sym (is_same f)) e)
     where
       is_same : Some (Dispatch a) ≡ Some (Dispatch b) → a ≡ b
       is_same e = cc
 
-      here : (ps : List Event) → Chain a ps → x.bound_of (state_at x a) ≡ Some bound → a.cycle + bound ≤ limit → Soon (Dispatch a ∷ ps) 1 a bound
-      here [] h e l = absurd (h bound e l)
-      here (Picture m ∷ ps) h e l = absurd h
-      here (Dispatch c ∷ ps) h e l = (Dispatch c, refl, h.1 bound e)
-      here (Stopped c ∷ ps) h e l = (Stopped c, refl, h.1 bound e)
-  chain_bound (suc k) a [] h b bound f e l = cc
-  chain_bound (suc k) a (Picture m ∷ ps) h b bound f e l = absurd h
-  chain_bound (suc k) a (Dispatch c ∷ ps) h b bound f e l = chain_bound k c ps h.2 b bound f e l
-  chain_bound (suc zero) a (Stopped c ∷ ps) h b bound f e l = cc
-  chain_bound (suc (suc k)) a (Stopped c ∷ ps) h b bound f e l = nothing_there ps k _ h.2 f
+      here : (ps : List Event) → Chain a ps → Due a.cycle (state_at x a) t → Soon (Dispatch a ∷ ps) 1 t
+      here [] h e = absurd (h t e l)
+      here (Picture m ∷ ps) h e = absurd h
+      here (Dispatch c ∷ ps) h e = (Dispatch c, refl, h.1 t e)
+      here (Stopped c ∷ ps) h e = (Stopped c, refl, h.1 t e)
+  chain_due (suc k) a [] h b t f e l = cc
+  chain_due (suc k) a (Picture m ∷ ps) h b t f e l = absurd h
+  chain_due (suc k) a (Dispatch c ∷ ps) h b t f e l = chain_due k c ps h.2 b t f e l
+  chain_due (suc zero) a (Stopped c ∷ ps) h b t f e l = cc
+  chain_due (suc (suc k)) a (Stopped c ∷ ps) h b t f e l = nothing_there ps k _ h.2 f
 
 -- ---- a run from a state of which `Running` holds
 
-module _ (x : Program) (script : List KeyEvent) (limit : ℕ) (Running : Machine → Since → Type 0) (carries : Carries x script Running) (whole : List Machine) where
+module _ (x : Program) (script : List KeyEvent) (limit : ℕ) (Due : ℕ → Lang → ℕ → Type 0) (Running : Machine → Since → Type 0) (carries : CarriesBy x script Due Running) (whole : List Machine) where
   abbrev next : Machine → Machine
   next b = move x.interpreter.rom (held_at script) b
 
@@ -133,12 +139,12 @@ module _ (x : Program) (script : List KeyEvent) (limit : ℕ) (Running : Machine
   later : (b : Machine) → b.cycle < (next b).cycle
   later b = later-move x.interpreter.rom (held_at script) b
 
-  in_time : (b c : Machine) (h : Since) → h.from ≡ b.cycle → h.state ≡ state_at x b → Running c h → InTime x script limit b (next c)
-  in_time b c h f s r bound e = subst (λ a. (next c).cycle ≤ a + bound) f (carries.timely c h bound r (ap x.bound_of s ∙ e))
+  in_time : (b c : Machine) (h : Since) → h.from ≡ b.cycle → h.state ≡ state_at x b → Running c h → InTime x script limit Due b (next c)
+  in_time b c h f s r t e = carries.timely c h t r (subst₂ (λ a y. Due a y t) (sym f) (sym s) e)
 
   -- c is in the run, and b is the last dispatch point before its move
   abbrev Chained : ℕ → Type 0
-  Chained fuel = (b c : Machine) (h : Since) → h.from ≡ b.cycle → h.state ≡ state_at x b → Running c h → limit < c.cycle + fuel → Chain x script limit b (points x whole c.cycle (rest (next c)))
+  Chained fuel = (b c : Machine) (h : Since) → h.from ≡ b.cycle → h.state ≡ state_at x b → Running c h → limit < c.cycle + fuel → Chain x script limit Due b (points x whole c.cycle (rest (next c)))
 
   module _ (b c : Machine) (h : Since) (f : h.from ≡ b.cycle) (s : h.state ≡ state_at x b) (r : Running c h) where
     -- the record as the move carries it on
@@ -153,12 +159,12 @@ module _ (x : Program) (script : List KeyEvent) (limit : ℕ) (Running : Machine
     unfolding h'
     state_b = carried_state x.interpreter.rom (held_at script) c h ∙ s
 
-    moved : (fuel : ℕ) → Chained fuel → limit < c.cycle + suc fuel → Moves x script Running h' (next c) → Chain x script limit b (points x whole c.cycle (next c ∷ rest (next (next c))))
+    moved : (fuel : ℕ) → Chained fuel → limit < c.cycle + suc fuel → Moves x script Running h' (next c) → Chain x script limit Due b (points x whole c.cycle (next c ∷ rest (next (next c))))
     moved fuel on enough (Still d z r') =
-        subst (Chain x script limit b) (sym (points_quiet x whole c.cycle (next c) (rest (next (next c))) d z))
+        subst (Chain x script limit Due b) (sym (points_quiet x whole c.cycle (next c) (rest (next (next c))) d z))
         (on b (next c) h' from_b state_b r' (omega (arith, enough, later c)))
     moved fuel on enough (Arrived d z i st r') =
-        subst (Chain x script limit b) (sym (points_dispatch x whole c.cycle (next c) (rest (next (next c))) d z)) (
+        subst (Chain x script limit Due b) (sym (points_dispatch x whole c.cycle (next c) (rest (next (next c))) d z)) (
           record {
             runs = ap x.stop_of (sym state_b) ∙ st.runs;
             between = subst₂ (λ y a. Between x.edition y (x.ticks_between a (next c).cycle) (keys_between script a (next c).cycle) (state_at x (next c))) state_b from_b (covers_between x script (next c) h' (state_at x (next c)) i st);
@@ -168,7 +174,7 @@ module _ (x : Program) (script : List KeyEvent) (limit : ℕ) (Running : Machine
           on (next c) (next c) (dispatched (next c).cycle (state_at x (next c))) refl refl r' (omega (arith, enough, later c)),
         )
     moved fuel on enough (Halted z i stop st) =
-        subst (Chain x script limit b) (sym (points_stop x whole c.cycle (next c) (rest (next (next c))) z)) (
+        subst (Chain x script limit Due b) (sym (points_stop x whole c.cycle (next c) (rest (next (next c))) z)) (
           record {
             stop = stop;
             fits = ap x.stop_of (sym state_b) ∙ st.fits;
@@ -183,12 +189,12 @@ module _ (x : Program) (script : List KeyEvent) (limit : ℕ) (Running : Machine
     moves_on r = carries.moves c h r
 
     -- the limit comes before the next state
-    past_limit : limit < (next c).cycle → Chain x script limit b (points x whole c.cycle (rest (next c)))
-    past_limit past = subst (λ l. Chain x script limit b (points x whole c.cycle l)) (sym (run_to-past x.interpreter.rom (held_at script) limit (next c) past)) (λ bound e l. omega (arith, past, l, in_time b c h f s r bound e))
+    past_limit : limit < (next c).cycle → Chain x script limit Due b (points x whole c.cycle (rest (next c)))
+    past_limit past = subst (λ l. Chain x script limit Due b (points x whole c.cycle l)) (sym (run_to-past x.interpreter.rom (held_at script) limit (next c) past)) (λ t e l. omega (arith, past, l, in_time b c h f s r t e))
 
-    chain_on : (fuel : ℕ) → Chained fuel → limit < c.cycle + suc fuel → (limit < (next c).cycle) ⊎ ((next c).cycle ≤ limit) → Chain x script limit b (points x whole c.cycle (rest (next c)))
+    chain_on : (fuel : ℕ) → Chained fuel → limit < c.cycle + suc fuel → (limit < (next c).cycle) ⊎ ((next c).cycle ≤ limit) → Chain x script limit Due b (points x whole c.cycle (rest (next c)))
     chain_on fuel on enough (inl past) = past_limit past
-    chain_on fuel on enough (inr here) = subst (λ l. Chain x script limit b (points x whole c.cycle l)) (sym (run_to-next x.interpreter.rom (held_at script) limit (next c) here)) (moved fuel on enough (moves_on r))
+    chain_on fuel on enough (inr here) = subst (λ l. Chain x script limit Due b (points x whole c.cycle l)) (sym (run_to-next x.interpreter.rom (held_at script) limit (next c) here)) (moved fuel on enough (moves_on r))
 
   chain : (fuel : ℕ) → Chained fuel
   chain zero b c h f s r enough = past_limit b c h f s r (omega (arith, enough, later c))
@@ -202,7 +208,7 @@ module _ (x : Program) (script : List KeyEvent) (limit : ℕ) (Running : Machine
 
     -- the points are none, where the limit comes first, or the first dispatch and those after it
     abbrev Begun : List Event → Type 0
-    Begun ps = ((ps ≡ []) × (limit < (booted boots.moves).cycle)) ⊎ ((rest : List Event) × (ps ≡ Dispatch (booted boots.moves) ∷ rest) × Chain x script limit (booted boots.moves) rest)
+    Begun ps = ((ps ≡ []) × (limit < (booted boots.moves).cycle)) ⊎ ((rest : List Event) × (ps ≡ Dispatch (booted boots.moves) ∷ rest) × Chain x script limit Due (booted boots.moves) rest)
 
     begins : (m : ℕ) → m ≡ boots.moves → (before : ℕ) → Begun (points x whole before (rest (booted m)))
     begins m e before = subst (λ k. Begun (points x whole before (rest (booted k)))) (sym e) (go (cases_lt limit (booted boots.moves).cycle))
@@ -233,38 +239,61 @@ module _ (x : Program) (script : List KeyEvent) (limit : ℕ) (Running : Machine
         same = omega (arith, e)
     boot (suc r) m e before = boot_on m before (omega (arith, e)) (boot r (suc m) (omega (arith, e)) (booted m).cycle)
 
--- the law
-module _ (x : Program) (game : List ℕ) (script : List KeyEvent) (limit : ℕ) (Running : Machine → Since → Type 0) (carries : Carries x script Running) (boots : Boots x game script Running) where
+-- ---- the points of a run
+
+module _ (x : Program) (game : List ℕ) (script : List KeyEvent) (limit : ℕ) (Due : ℕ → Lang → ℕ → Type 0) (Running : Machine → Since → Type 0) (carries : CarriesBy x script Due Running) (boots : Boots x game script Running) where
   abbrev whole : List Machine
   whole = run_to x.interpreter.rom (held_at script) (start game) limit
 
   abbrev found : Type 0
-  found = Begun x script limit Running carries whole game boots (points_of x game script limit)
+  found = Begun x script limit Due Running carries whole game boots (points_of x game script limit)
 
   begun : found
   unfolding events_of
-  begun = (boot x script limit Running carries whole game boots boots.moves 0 (omega arith) 0).1
+  begun = (boot x script limit Due Running carries whole game boots boots.moves 0 (omega arith) 0).1
+
+  -- where the limit leaves time for it, there is a next point by each cycle by which it is due
+  pub point_due : (k : ℕ) (b : Machine) (t : ℕ) → slice_get (points_of x game script limit) k ≡ Some (Dispatch b) → Due b.cycle (state_at x b) t → t ≤ limit → (p : Event) × (slice_get (points_of x game script limit) (k + 1) ≡ Some p) × (cycle_of p ≤ t)
+  point_due k b t e due l = go begun
+    where
+      go : found → (p : Event) × (slice_get (points_of x game script limit) (k + 1) ≡ Some p) × (cycle_of p ≤ t)
+      go (inl (none, past)) = nothing_there (points_of x game script limit) k (Dispatch b) none e
+      go (inr (rest, is, chained)) =
+          let r = chain_due x script limit Due k _ rest chained b t (subst (λ ps. slice_get ps k ≡ Some (Dispatch b)) is e) due l in
+          (r.0, subst₂ (λ ps j. slice_get ps j ≡ Some r.0) (sym is) (sym (add-one k)) r.1, r.2)
+
+-- ---- the law
+
+-- a state with a bound is followed within it
+record InBound (x : Program) (from : ℕ) (s : Lang) (t : ℕ) : Type 0 where
+  bound : ℕ
+  is : x.bound_of s ≡ Some bound
+  by : from + bound ≡ t
+
+module _ (x : Program) (game : List ℕ) (script : List KeyEvent) (limit : ℕ) (Running : Machine → Since → Type 0) (carries : Carries x script Running) (boots : Boots x game script Running) where
+  in_bound : CarriesBy x script (InBound x) Running
+  in_bound = record { moves = carries.moves; timely = λ b h t r due. subst (λ z. (move x.interpreter.rom (held_at script) b).cycle ≤ z) due.by (carries.timely b h due.bound r due.is) }
 
   pub language_run : LanguageRun x game script limit
-  language_run = go begun
+  language_run = go (begun x game script limit (InBound x) Running in_bound boots)
     where
       b : Machine
       b = after_moves x.interpreter.rom (held_at script) (start game) boots.moves
 
-      go : found → LanguageRun x game script limit
+      go : found x game script limit (InBound x) Running in_bound boots → LanguageRun x game script limit
       go (inl (none, past)) =
           record {
-            first = λ p e. nothing_there x script limit (points_of x game script limit) 0 p none e;
-            next = λ k c p e f. nothing_there x script limit (points_of x game script limit) k (Dispatch c) none e;
+            first = λ p e. nothing_there (points_of x game script limit) 0 p none e;
+            next = λ k c p e f. nothing_there (points_of x game script limit) k (Dispatch c) none e;
             boot = λ l. absurd (omega (arith, l, past, boots.soon));
-            bound = λ k c bound e f l. nothing_there x script limit (points_of x game script limit) k (Dispatch c) none e;
+            bound = λ k c bound e f l. nothing_there (points_of x game script limit) k (Dispatch c) none e;
           }
       go (inr (rest, is, chained)) =
           record {
             first = λ p e. first_is p (subst (λ ps. slice_get ps 0 ≡ Some p) is e);
-            next = λ k c p e f. chain_next x script limit k b rest chained c p (subst (λ ps. slice_get ps k ≡ Some (Dispatch c)) is e) (subst₂ (λ ps j. slice_get ps j ≡ Some p) is (add-one k) f);
+            next = λ k c p e f. chain_next x script limit (InBound x) k b rest chained c p (subst (λ ps. slice_get ps k ≡ Some (Dispatch c)) is e) (subst₂ (λ ps j. slice_get ps j ≡ Some p) is (add-one k) f);
             boot = λ l. (Dispatch b, ap (λ ps. slice_get ps 0) is, boots.soon);
-            bound = λ k c bound e f l. let r = chain_bound x script limit k b rest chained c bound (subst (λ ps. slice_get ps k ≡ Some (Dispatch c)) is e) f l in (r.0, subst₂ (λ ps j. slice_get ps j ≡ Some r.0) (sym is) (sym (add-one k)) r.1, r.2);
+            bound = λ k c bound e f l. let r = point_due x game script limit (InBound x) Running in_bound boots k c (c.cycle + bound) e (record { bound = bound; is = f; by = refl }) l in (r.0, r.1, r.2);
           }
         where
           first_is : (p : Event) → Some (Dispatch b) ≡ Some p → IsFirst x game p

@@ -4,3 +4,4 @@ pub mod Rows
 pub mod Schedules
 pub mod Runs
 pub mod Pictures
+pub mod Keys

@@ -1,7 +1,7 @@
 -- The display: no interrupt comes while the screen is changed, and how long 00E0 and DXYN prepare their work and change the screen.
-use Rattle.std.proofs.Common.{◌≡◌, ℕ, ◌+◌, ◌-◌, ◌*◌, ◌/◌, ◌%◌, ◌<◌, ◌≤◌, sym, ◌∙◌, ap, arith, true, List}
+use Rattle.std.proofs.Common.{◌≡◌, ℕ, ◌+◌, ◌/◌, ◌<◌, ◌≤◌, sym, ◌∙◌, ap, arith, true, List}
 use Rattle.machine.specs.Board.{Machine}
-use Rattle.machine.specs.Keys.{Event, held_at}
+use Rattle.machine.specs.Keys.{Event}
 use Rattle.chip8_lang.specs.declared.view.Edition.{Edition}
 use Rattle.chip8_lang.specs.declared.view.Edition.TheVariants.{Usual, Tall}
 use Rattle.chip8_lang.specs.Editions.{variables, screen_start}
@@ -14,7 +14,6 @@ use Rattle.chip8_rows.specs.Table.{pieces}
 use Rattle.chip8_rows.specs.Table.Place.{AtTimer, AtKey, AtSprite}
 use Rattle.rom_frame.specs.Frame.{place, interrupt_place}
 use Rattle.rom_frame.specs.Routine.{routine_cycles}
-use Rattle.rom_frame.proofs.Tick.{run_tick}
 use Rattle.rom_run.specs.Laws.{Undisturbed, WaitsSoon, ChangesSoon, Display}
 use Rattle.rom_run.specs.Running.{Due, Outside, Running, Serving, Showing, Woken, since_return, most_changing}
 use Rattle.rom_run.specs.Running.Due.{Arrives, Ends}
@@ -23,10 +22,9 @@ use Rattle.rom_run.specs.Running.Outside.{AtRow, AtEvent}
 use Rattle.rom_run.specs.Running.Running.{InMain, InRoutine}
 use Rattle.rom_run.specs.Running.WaitsBy.{ToClear, ToDraw}
 use Rattle.rom_run.proofs.Calm.{calm_shows}
-use Rattle.rom_run.proofs.Moves.{interrupted}
 use Rattle.rom_run.proofs.Proved.{proved}
 use Rattle.rom_run.proofs.Room.{row_room}
-use Rattle.rom_run.proofs.Served.{main_there}
+use Rattle.rom_run.proofs.Served.{main_there, served_disabled}
 use Rattle.rom_run.proofs.Waits.{sleeps, timer_awake, key_awake}
 use Rattle.rom_run.proofs.Woken.{high_then, woken_apart, woken_few}
 
@@ -79,7 +77,7 @@ module _ (e : Edition) (script : List Event) where
 
   apart_from : (b : Machine) (h : Since) → Serving e script b h → b.regs.ie ≡ true → ⊥
   apart_from b h s enabled =
-      sleeps (sym enabled ∙ ap (λ (z : Machine). z.regs.ie) s.is ∙ ((run_tick e s.m s.start (held_at script) (interrupted e script s.start s.before s.m s.outside s.cycle)).inside s.k s.some s.inside).disabled)
+      sleeps (sym enabled ∙ served_disabled e script b h s)
 
   changes : (b : Machine) (h : Since) → Running e script b h → b.regs.ie ≡ true → ¬ Showing e b h → Display h (λ most. since_return b.cycle ≤ most_changing)
   changes b h (InMain o) enabled c = outside_changes b h o c

@@ -15,3 +15,6 @@ pub mod Dispatch
 pub mod Served
 pub mod Display
 pub mod Pictures
+pub mod Cycles
+pub mod Endless
+pub mod Keys

@@ -1,6 +1,6 @@
 -- Each picture is the screen of the language state at the last dispatch point before it: it shows the screen in RAM at the interrupt of its frame,
 -- which is that screen, since none comes while main code changes it.
-use Rattle.std.proofs.Common.{◌≡◌, ℕ, suc, ◌+◌, ◌*◌, ◌/◌, ◌%◌, ◌<◌, ◌≤◌, ◌⊎◌, inl, inr, refl, sym, ◌∙◌, ap, subst, arith, false, List, length, slice_index}
+use Rattle.std.proofs.Common.{◌≡◌, ℕ, suc, ◌*◌, ◌/◌, ◌%◌, ◌<◌, ◌≤◌, ◌⊎◌, inl, inr, refl, sym, ◌∙◌, ap, subst, arith, false, List, length, slice_index}
 use Rattle.std.specs.Prelude.{slice_get, Some}
 use Rattle.std.proofs.lemmas.Bool.{cases_eq, cases_lt}
 use Rattle.std.proofs.lemmas.Option.{slice_get_within}
@@ -29,10 +29,8 @@ use Rattle.chip8_rows.specs.Table.{pieces}
 use Rattle.fetch_blocks.specs.Laws.{boot_moves}
 use Rattle.rom_frame.specs.Frame.{place, interrupt_place, Makes}
 use Rattle.rom_frame.specs.Frame.Makes.{Runs, Waits, Accepts}
-use Rattle.rom_frame.specs.Routine.{routine_moves, routine_cycles}
 use Rattle.rom_frame.proofs.Frame.{every_move}
 use Rattle.rom_frame.proofs.Picture.{run_picture}
-use Rattle.rom_frame.proofs.Tick.{run_tick}
 use Rattle.rom_run.specs.Laws.{EveryPicture}
 use Rattle.rom_run.specs.Running.{Showing, Outside, Running}
 use Rattle.rom_run.specs.Running.Outside.{AtRow, AtEvent}
@@ -42,8 +40,8 @@ use Rattle.rom_run.proofs.Display.{outside_shows}
 use Rattle.rom_run.proofs.Moves.{board_moves, interrupted}
 use Rattle.rom_run.proofs.Proved.{proved}
 use Rattle.rom_run.proofs.Run.{boot, begun}
-use Rattle.rom_run.proofs.Served.{main_there}
-use Rattle.rom_run.proofs.Ticks.{later_cycle, few_later}
+use Rattle.rom_run.proofs.Served.{main_there, served_within}
+use Rattle.rom_run.proofs.Ticks.{few_later}
 
 module _ (e : Edition) (script : List Event) where
   abbrev x : Program
@@ -65,13 +63,7 @@ module _ (e : Edition) (script : List Event) where
   stops_before : (b : Machine) (h : Since) (m : ℕ) → Running e script b h → b.cycle < interrupt_at m → (next b).cycle ≤ interrupt_at m
   stops_before b h m (InMain (AtRow t row n time)) l = let ready = row_runs x (pieces x) (proved e) b h t.fits row in main_before b h m row t.even t.fits (every_move (image e) held b ready.on ready.enabled t.outside) l
   stops_before b h m (InMain (AtEvent t p d late y)) l = omega (arith, few_later (image e) held b, p, l)
-  stops_before b h m (InRoutine s) l = subst (λ (z : Machine). (next z).cycle ≤ interrupt_at m) (sym s.is) (omega (arith, ends, starts, s.cycle, ap (λ (z : Machine). z.cycle) s.is, l))
-    where
-      ends : (after_moves (image e) held s.start (suc s.k)).cycle ≤ interrupt_at s.m + routine_cycles
-      ends = omega (arith, later_cycle (image e) held s.start (suc s.k) routine_moves (omega (arith, s.inside)), (run_tick e s.m s.start held (interrupted e script s.start s.before s.m s.outside s.cycle)).cycle)
-
-      starts : s.start.cycle < (after_moves (image e) held s.start s.k).cycle
-      starts = omega (arith, later-move (image e) held s.start, later_cycle (image e) held s.start 1 s.k s.some)
+  stops_before b h m (InRoutine s) l = let i = served_within e script b h s in omega (arith, i.0, i.1, l)
 
   -- ---- a board in the run of a game
 

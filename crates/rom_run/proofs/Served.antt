@@ -1,6 +1,6 @@
 -- A run of the interrupt routine, as a whole: one tick, after which what is known of the running interpreter holds.
-use Rattle.std.proofs.Common.{◌≡◌, ℕ, ◌+◌, ◌<◌, ◌≤◌, ap, arith, List}
-use Rattle.machine.specs.Board.{Machine}
+use Rattle.std.proofs.Common.{◌≡◌, ℕ, suc, ◌+◌, ◌<◌, ◌≤◌, sym, ◌∙◌, ap, subst, arith, false, List}
+use Rattle.machine.specs.Board.{Machine, move}
 use Rattle.machine.specs.Keys.{Event, Keys, held_at}
 use Rattle.machine.specs.Pictures.{interrupt_at}
 use Rattle.machine.specs.Run.{after_moves}
@@ -12,7 +12,7 @@ use Rattle.chip8_rows.specs.Rom.{image, vip}
 use Rattle.rom_frame.specs.Frame.{place, interrupt_place}
 use Rattle.rom_frame.specs.Routine.{IsTick, routine_moves, routine_cycles}
 use Rattle.rom_frame.proofs.Tick.{run_tick}
-use Rattle.rom_run.specs.Running.{Outside, Running}
+use Rattle.rom_run.specs.Running.{Outside, Running, Serving}
 use Rattle.rom_run.specs.Running.Running.{InMain, InRoutine}
 use Rattle.rom_run.proofs.Moves.{interrupted, routine_comes}
 use Rattle.rom_run.proofs.Ticks.{later_cycle}
@@ -41,3 +41,10 @@ module _ (e : Edition) (script : List Event) where
 
   pub tick_comes : (b : Machine) (h : Since) (m : ℕ) → Running e script b h → b.cycle ≡ interrupt_at m → Moves (vip e) script (Running e script) (after_tick h) (after_moves (image e) held b routine_moves)
   tick_comes b h m r i = routine_comes e script b h m (main_there b h r (omega (arith, i))) i 1434 (omega arith)
+
+  -- a state of the routine and the next one, in the time from the interrupt to the return
+  pub served_within : (b : Machine) (h : Since) (s : Serving e script b h) → (interrupt_at s.m < b.cycle) × ((move (image e) held b).cycle ≤ interrupt_at s.m + routine_cycles)
+  served_within b h s = subst (λ (z : Machine). (interrupt_at s.m < z.cycle) × ((move (image e) held z).cycle ≤ interrupt_at s.m + routine_cycles)) (sym s.is) (omega (arith, s.cycle, later-move (image e) held s.start, later_cycle (image e) held s.start 1 s.k s.some), omega (arith, later_cycle (image e) held s.start (suc s.k) routine_moves (omega (arith, s.inside)), (tick_of s.start s.before s.m s.outside s.cycle).cycle))
+
+  pub served_disabled : (b : Machine) (h : Since) → Serving e script b h → b.regs.ie ≡ false
+  served_disabled b h s = ap (λ (z : Machine). z.regs.ie) s.is ∙ ((tick_of s.start s.before s.m s.outside s.cycle).inside s.k s.some s.inside).disabled

@@ -1,5 +1,5 @@
 -- In each row main code has spent so little since the dispatch point that the next event comes within the bound of the instruction.
-use Rattle.std.proofs.Common.{◌≡◌, ℕ, ◌+◌, ◌*◌, ◌/◌, ◌%◌, ◌<◌, ◌≤◌, refl, sym, ◌∙◌, ap, ap₂, arith, Bool, true, false, List, slice_index}
+use Rattle.std.proofs.Common.{◌≡◌, ℕ, ◌+◌, ◌*◌, ◌/◌, ◌%◌, ◌<◌, ◌≤◌, ◌⊎◌, inl, inr, refl, sym, ◌∙◌, ap, ap₂, subst, arith, Bool, true, false, List, slice_index}
 use Rattle.std.specs.Prelude.{nat_le, Option, Some, None}
 use Rattle.std.proofs.lemmas.Bool.{agree_below_at, leb-true}
 use Rattle.machine.specs.Board.{Machine}
@@ -86,8 +86,21 @@ key_bound e s inside digit low = rw (inside, digit, low) refl
 abbrev pub Budget : Edition → Since → ℕ → ℕ → Type 0
 Budget e h n m = (bound : ℕ) → bound_of e h.state ≡ Some bound → Suffices bound (h.spent + 2 * m + n)
 
+-- So they do under the bound of the state, or else something holds that says why none is needed.
+pub data Pace (e : Edition) (Else : Type 0) (h : Since) (n m : ℕ) : Type 0 where
+  Bounded : (bound : ℕ) → bound_of e h.state ≡ Some bound → Suffices bound (h.spent + 2 * m + n) → Pace e Else h n m
+  Otherwise : Else → Pace e Else h n m
+
+-- Main code has spent so little that there is time enough under any bound; or there is none, in a piece that stands in `Endless`.
+pub data Free (e : Edition) (Endless : Type 0) (h : Since) (m : ℕ) : Type 0 where
+  Brief : h.spent + 2 * m ≤ 354 → Free e Endless h m
+  Boundless : bound_of e h.state ≡ None → Endless → Free e Endless h m
+
 pub fewer : (bound m k : ℕ) → k ≤ m → Suffices bound m → Suffices bound k
 fewer bound m k l s = record { interrupts = s.interrupts; few = omega (arith, s.few, l); all = omega (arith, s.all, l) }
+
+no_bound : {bound : ℕ} {o : Option ℕ} → o ≡ None → o ≡ Some bound → ⊥
+no_bound k l = cc
 
 call_most : (c : Caller) → call_time c ≤ 152
 call_most ForDecimal = omega arith
@@ -109,29 +122,64 @@ module _ (e : Edition) where
   abbrev x : Program
   x = vip e
 
-  known : (h : Since) (b : ℕ) → bound_of e (now h) ≡ Some b → (bound : ℕ) → bound_of e h.state ≡ Some bound → b ≡ bound
-  known h b is bound k = some_is (sym is ∙ ticks_bound e h.ticks h.state ∙ k)
+  -- the bound of the last dispatch point's state
+  before_ticks : (h : Since) {o : Option ℕ} → bound_of e (now h) ≡ o → bound_of e h.state ≡ o
+  before_ticks h is = sym (ticks_bound e h.ticks h.state) ∙ is
 
   -- the most that leaves time enough under each bound
-  quick : (h : Since) (m : ℕ) → h.spent + 2 * m ≤ 354 → Budget e h 0 m
-  quick h m l bound k = record { interrupts = 1; few = omega (arith, l); all = omega (arith, l, least_by _ _ bound k) }
+  quick : {Endless : Type 0} (h : Since) (m : ℕ) → h.spent + 2 * m ≤ 354 → Pace e (Free e Endless h m) h 0 m
+  quick h m l = Otherwise (Brief l)
 
-  long : (h : Since) (m : ℕ) → h.spent + 2 * m ≤ 754 → bound_of e (now h) ≡ Some 2600 → Budget e h 0 m
-  long h m l is bound k = record { interrupts = 1; few = omega (arith, l); all = omega (arith, l, known h 2600 is bound k) }
+  endless : {Endless : Type 0} (h : Since) (m : ℕ) → Endless → bound_of e (now h) ≡ None → Pace e (Free e Endless h m) h 0 m
+  endless h m o is = Otherwise (Boundless (before_ticks h is) o)
 
-  endless : (h : Since) (m : ℕ) → bound_of e (now h) ≡ None → Budget e h 0 m
-  endless h m is bound k = absurd (never (sym is ∙ ticks_bound e h.ticks h.state ∙ k))
+  long : {Else : Type 0} (h : Since) (m : ℕ) → h.spent + 2 * m ≤ 754 → bound_of e (now h) ≡ Some 2600 → Pace e Else h 0 m
+  long h m l is = Bounded 2600 (before_ticks h is) (record { interrupts = 1; few = omega (arith, l); all = omega (arith, l) })
+
+  clearing : {Else : Type 0} (h : Since) (n m : ℕ) → h.spent + 2 * m ≤ 1650 → n ≤ most_wait → bound_of e (now h) ≡ Some 7600 → Pace e Else h n m
+  clearing h n m l w is = Bounded 7600 (before_ticks h is) (record { interrupts = 2; few = omega (arith, l, w); all = omega (arith, l, w) })
+
+  drawing : {Else : Type 0} (h : Since) (n m : ℕ) → h.spent + 2 * m ≤ 3100 → n ≤ most_wait → bound_of e (now h) ≡ Some 14672 → Pace e Else h n m
+  drawing h n m l w is = Bounded 14672 (before_ticks h is) (record { interrupts = 3; few = omega (arith, l, w); all = omega (arith, l, w) })
+
+  -- ---- what a pace says
+
+  budget : {Else : Type 0} {h : Since} {n m : ℕ} → (Else → Budget e h n m) → Pace e Else h n m → Budget e h n m
+  budget f (Otherwise o) bound k = f o bound k
+  budget {h = h} {n = n} {m = m} f (Bounded b is s) bound k = subst (λ z. Suffices z (h.spent + 2 * m + n)) (some_is (sym is ∙ k)) s
+
+  free_budget : {Endless : Type 0} {h : Since} {m : ℕ} → Free e Endless h m → Budget e h 0 m
+  free_budget (Brief l) bound k = record { interrupts = 1; few = omega (arith, l); all = omega (arith, l, least_by _ _ bound k) }
+  free_budget (Boundless is o) bound k = absurd (no_bound is k)
+
+  -- where there is no bound
+  pub unbounded : {Else : Type 0} {h : Since} {n m : ℕ} → Pace e Else h n m → bound_of e h.state ≡ None → Else
+  unbounded (Bounded b is s) k = absurd (no_bound k is)
+  unbounded (Otherwise o) k = o
+
+  pub is_free : {Endless : Type 0} {h : Since} {n m : ℕ} → Pace e (Free e Endless h m) h n m → bound_of e h.state ≡ None → (h.spent + 2 * m ≤ 354) ⊎ Endless
+  is_free {Endless = Endless} {h = h} {m = m} p k = go (unbounded p k)
     where
-      never : None ≡ Some bound → ⊥
-      never z = cc
+      go : Free e Endless h m → (h.spent + 2 * m ≤ 354) ⊎ Endless
+      go (Brief l) = inl l
+      go (Boundless is o) = inr o
 
-  clearing : (h : Since) (n m : ℕ) → h.spent + 2 * m ≤ 1650 → n ≤ most_wait → bound_of e (now h) ≡ Some 7600 → Budget e h n m
-  clearing h n m l w is bound k = record { interrupts = 2; few = omega (arith, l, w); all = omega (arith, l, w, known h 7600 is bound k) }
+  -- the loop of FX0A and what comes behind it may take forever
+  abbrev pub IsEndless : Block → Type 0
+  IsEndless (OfKey (KeyNext turn)) = Unit {0}
+  IsEndless (OfKey (KeyCount turn)) = Unit {0}
+  IsEndless (OfKey KeyFreed) = Unit {0}
+  IsEndless _ = ⊥
 
-  drawing : (h : Since) (n m : ℕ) → h.spent + 2 * m ≤ 3100 → n ≤ most_wait → bound_of e (now h) ≡ Some 14672 → Budget e h n m
-  drawing h n m l w is bound k = record { interrupts = 3; few = omega (arith, l, w); all = omega (arith, l, w, known h 14672 is bound k) }
+  abbrev pub IsEndlessAt : Place → Type 0
+  IsEndlessAt (AtKey (KeyTest turn)) = Unit {0}
+  IsEndlessAt (AtKey KeyHeld) = Unit {0}
+  IsEndlessAt _ = ⊥
 
-  fetch_soon : (l : FetchBlock) (b : Machine) (h : Since) → FitsMachine b → Head x (OfFetch l) b h → Budget e h 0 (fetch_moves l)
+  abbrev pub Paced : Block → Since → Type 0
+  Paced l h = Pace e (Free e (IsEndless l) h (moves l)) h 0 (moves l)
+
+  fetch_soon : (l : FetchBlock) (b : Machine) (h : Since) → FitsMachine b → Head x (OfFetch l) b h → Paced (OfFetch l) h
   fetch_soon Fetch b h f o = quick h (fetch_moves Fetch) (omega (arith, o.1))
   fetch_soon Upper b h f o = quick h (fetch_moves Upper) (omega (arith, o.1))
   fetch_soon Outside b h f o = quick h (fetch_moves Outside) (omega (arith, o.1))
@@ -142,7 +190,7 @@ module _ (e : Edition) where
   fetch_soon Stopped b h f o = quick h (fetch_moves Stopped) (omega (arith, o.1))
   fetch_soon Inside b h f o = quick h (fetch_moves Inside) (omega (arith, o.1))
 
-  jump_soon : (l : JumpBlock) (b : Machine) (h : Since) → FitsMachine b → Head x (OfJump l) b h → Budget e h 0 (jump_moves l)
+  jump_soon : (l : JumpBlock) (b : Machine) (h : Since) → FitsMachine b → Head x (OfJump l) b h → Paced (OfJump l) h
   jump_soon System b h f o = quick h (jump_moves System) (omega (arith, o.1))
   jump_soon SystemLow b h f o = quick h (jump_moves SystemLow) (omega (arith, o.1))
   jump_soon SystemBack b h f o = quick h (jump_moves SystemBack) (omega (arith, o.1))
@@ -156,7 +204,7 @@ module _ (e : Edition) where
   jump_soon Full b h f o = quick h (jump_moves Full) (omega (arith, o.1))
   jump_soon JumpPlus b h f o = quick h (jump_moves JumpPlus) (omega (arith, o.1))
 
-  arith_soon : (l : ArithBlock) (b : Machine) (h : Since) → FitsMachine b → Head x (OfArith l) b h → Budget e h 0 (arith_moves l)
+  arith_soon : (l : ArithBlock) (b : Machine) (h : Since) → FitsMachine b → Head x (OfArith l) b h → Paced (OfArith l) h
   arith_soon Load b h f o = quick h (arith_moves Load) (omega (arith, o.1))
   arith_soon Add b h f o = quick h (arith_moves Add) (omega (arith, o.1))
   arith_soon SkipEq b h f o = quick h (arith_moves SkipEq) (omega (arith, o.1))
@@ -173,7 +221,7 @@ module _ (e : Edition) where
   arith_soon Flag b h f o = quick h (arith_moves Flag) (omega (arith, o.1))
   arith_soon Unknown82 b h f o = quick h (arith_moves Unknown82) (omega (arith, o.1))
 
-  memory_soon : (l : MemoryBlock) (b : Machine) (h : Since) → FitsMachine b → Head x (OfMemory l) b h → Budget e h 0 (memory_moves l)
+  memory_soon : (l : MemoryBlock) (b : Machine) (h : Since) → FitsMachine b → Head x (OfMemory l) b h → Paced (OfMemory l) h
   memory_soon Index b h f o = quick h (memory_moves Index) (omega (arith, o.1))
   memory_soon AddIndex b h f o = quick h (memory_moves AddIndex) (omega (arith, o.1))
   memory_soon Digit b h f o = quick h (memory_moves Digit) (omega (arith, o.1))
@@ -203,7 +251,7 @@ module _ (e : Edition) where
   memory_soon (RestoreByte k) b h f o = long h (memory_moves (RestoreByte k)) (omega (arith, o.1, o.0.1.left)) (rw (o.0.0.inside, o.0.0.calls.0, o.0.0.calls.1, o.0.2) refl)
   memory_soon RestoreEnd b h f o = long h (memory_moves RestoreEnd) (omega (arith, o.1)) (rw (o.0.0.inside, o.0.0.calls.0, o.0.0.calls.1, o.0.1) refl)
 
-  waited_time : (l : SpriteBlock) → IsWaited l → (b : Machine) (h : Since) (n : ℕ) → n ≤ most_wait → Head x (OfSprite l) b h → Budget e h n (sprite_moves l)
+  waited_time : {Else : Type 0} (l : SpriteBlock) → IsWaited l → (b : Machine) (h : Since) (n : ℕ) → n ≤ most_wait → Head x (OfSprite l) b h → Pace e Else h n (sprite_moves l)
   waited_time (Wipe k) w b h n l o = clearing h n (sprite_moves (Wipe k)) (omega (arith, o.1.0, o.0.1, few_rows e)) l (clears_bound e (now h) o.0.0.inside o.0.0.clears)
   waited_time (Wipe3 k) w b h n l o = clearing h n (sprite_moves (Wipe3 k)) (omega (arith, o.1.0, o.0.1, few_rows e)) l (clears_bound e (now h) o.0.0.inside o.0.0.clears)
   waited_time (Wipe6 k) w b h n l o = clearing h n (sprite_moves (Wipe6 k)) (omega (arith, o.1.0, o.0.1, few_rows e)) l (clears_bound e (now h) o.0.0.inside o.0.0.clears)
@@ -215,7 +263,7 @@ module _ (e : Edition) where
   waited_time Drawn w b h n l o = drawing h n (sprite_moves Drawn) (omega (arith, o.1.0)) l (draws_bound e (now h) o.0.draws)
   waited_time _ w b h n l o = absurd w
 
-  sprite_soon : (l : SpriteBlock) (b : Machine) (h : Since) → FitsMachine b → Head x (OfSprite l) b h → Budget e h 0 (sprite_moves l)
+  sprite_soon : (l : SpriteBlock) (b : Machine) (h : Since) → FitsMachine b → Head x (OfSprite l) b h → Paced (OfSprite l) h
   sprite_soon Clear b h f o = quick h (sprite_moves Clear) (omega (arith, o.1))
   sprite_soon (Wipe k) b h f o = waited_time (Wipe k) tt b h 0 (omega arith) o
   sprite_soon (Wipe3 k) b h f o = waited_time (Wipe3 k) tt b h 0 (omega arith) o
@@ -244,7 +292,7 @@ module _ (e : Edition) where
   sprite_soon (LineRight r) b h f o = waited_time (LineRight r) tt b h 0 (omega arith) o
   sprite_soon Drawn b h f o = waited_time Drawn tt b h 0 (omega arith) o
 
-  timer_soon : (l : TimerBlock) (b : Machine) (h : Since) → FitsMachine b → Head x (OfTimer l) b h → Budget e h 0 (timer_moves l)
+  timer_soon : (l : TimerBlock) (b : Machine) (h : Since) → FitsMachine b → Head x (OfTimer l) b h → Paced (OfTimer l) h
   timer_soon Random b h f o = quick h (timer_moves Random) (omega (arith, o.1))
   timer_soon RandomMix b h f o = quick h (timer_moves RandomMix) (omega (arith, o.1))
   timer_soon GetDelayPut b h f o = quick h (timer_moves GetDelayPut) (omega (arith, o.1))
@@ -253,18 +301,18 @@ module _ (e : Edition) where
   timer_soon SetSound b h f o = quick h (timer_moves SetSound) (omega (arith, o.1))
   timer_soon SetSoundEnd b h f o = quick h (timer_moves SetSoundEnd) (omega (arith, o.1))
 
-  key_soon : (l : KeyBlock) (b : Machine) (h : Since) → FitsMachine b → Head x (OfKey l) b h → Budget e h 0 (key_moves l)
+  key_soon : (l : KeyBlock) (b : Machine) (h : Since) → FitsMachine b → Head x (OfKey l) b h → Paced (OfKey l) h
   key_soon KeySkip b h f o = quick h (key_moves KeySkip) (omega (arith, o.1))
   key_soon KeySkipUp b h f o = quick h (key_moves KeySkipUp) (omega (arith, o.1))
   key_soon (SkipLatch down) b h f o = quick h (key_moves (SkipLatch down)) (omega (arith, o.1, skip_most down))
   key_soon (NoSkip down) b h f o = quick h (key_moves (NoSkip down)) (omega (arith, o.1, skip_most down))
   key_soon (Skip down) b h f o = quick h (key_moves (Skip down)) (omega (arith, o.1, skip_most down))
-  key_soon WaitKey b h f o = endless h (key_moves WaitKey) (key_bound e (now h) o.0.0.entered.inside o.0.0.digit o.0.1)
-  key_soon (KeyNext turn) b h f o = endless h (key_moves (KeyNext turn)) (key_bound e (now h) o.0.0.waiting.enters.entered.inside o.0.0.waiting.enters.digit o.0.0.waiting.low)
-  key_soon (KeyCount turn) b h f o = endless h (key_moves (KeyCount turn)) (key_bound e (now h) o.0.0.waiting.enters.entered.inside o.0.0.waiting.enters.digit o.0.0.waiting.low)
-  key_soon KeyFreed b h f o = endless h (key_moves KeyFreed) (key_bound e (now h) o.0.0.enters.entered.inside o.0.0.enters.digit o.0.0.low)
+  key_soon WaitKey b h f o = quick h (key_moves WaitKey) (omega (arith, o.1))
+  key_soon (KeyNext turn) b h f o = endless h (key_moves (KeyNext turn)) tt (key_bound e (now h) o.0.0.waiting.enters.entered.inside o.0.0.waiting.enters.digit o.0.0.waiting.low)
+  key_soon (KeyCount turn) b h f o = endless h (key_moves (KeyCount turn)) tt (key_bound e (now h) o.0.0.waiting.enters.entered.inside o.0.0.waiting.enters.digit o.0.0.waiting.low)
+  key_soon KeyFreed b h f o = endless h (key_moves KeyFreed) tt (key_bound e (now h) o.0.0.enters.entered.inside o.0.0.enters.digit o.0.0.low)
 
-  head_soon : (l : Block) (b : Machine) (h : Since) → FitsMachine b → Head x l b h → Budget e h 0 (moves l)
+  pub head_soon : (l : Block) (b : Machine) (h : Since) → FitsMachine b → Head x l b h → Paced l h
   head_soon (OfFetch l) b h f o = fetch_soon l b h f o
   head_soon (OfJump l) b h f o = jump_soon l b h f o
   head_soon (OfArith l) b h f o = arith_soon l b h f o
@@ -273,14 +321,14 @@ module _ (e : Edition) where
   head_soon (OfTimer l) b h f o = timer_soon l b h f o
   head_soon (OfKey l) b h f o = key_soon l b h f o
 
-  at_soon : (l : Place) (b : Machine) (h : Since) → At x l b h → Budget e h 0 1
+  pub at_soon : (l : Place) (b : Machine) (h : Since) → At x l b h → Pace e (Free e (IsEndlessAt l) h 1) h 0 1
   at_soon (AtTimer RandomCount) b h o = quick h 1 (omega (arith, o.1))
   at_soon (AtTimer GetDelay) b h o = quick h 1 (omega (arith, o.1))
   at_soon (AtTimer SetDelayPut) b h o = quick h 1 (omega (arith, o.1))
   at_soon (AtTimer SetSoundPut) b h o = quick h 1 (omega (arith, o.1))
   at_soon (AtKey (SkipTest down)) b h o = quick h 1 (omega (arith, o.1, skip_most down))
-  at_soon (AtKey (KeyTest turn)) b h o = endless h 1 (key_bound e (now h) o.0.0.waiting.enters.entered.inside o.0.0.waiting.enters.digit o.0.0.waiting.low)
-  at_soon (AtKey KeyHeld) b h o = endless h 1 (key_bound e (now h) o.0.0.enters.entered.inside o.0.0.enters.digit o.0.0.low)
+  at_soon (AtKey (KeyTest turn)) b h o = endless h 1 tt (key_bound e (now h) o.0.0.waiting.enters.entered.inside o.0.0.waiting.enters.digit o.0.0.waiting.low)
+  at_soon (AtKey KeyHeld) b h o = endless h 1 tt (key_bound e (now h) o.0.0.enters.entered.inside o.0.0.enters.digit o.0.0.low)
   at_soon (AtSprite ClearWait) b h o = quick h 1 (omega (arith, o.1))
   at_soon (AtSprite ClearIdle) b h o = quick h 1 (omega (arith, o.1))
   at_soon (AtSprite DrawWait) b h o = drawing h 0 1 (omega (arith, o.1)) (omega arith) (draws_bound e (now h) o.0.draws)
@@ -290,23 +338,27 @@ module _ (e : Edition) where
 
   -- where main code doesn't wait and hasn't waited
   pub row_soon : (b : Machine) (h : Since) → Row x (pieces x) b h → Budget e h 0 1
-  row_soon b h (InRow l r) bound k = fewer bound _ _ (omega (arith, r.grows.spent, r.inside)) (head_soon l r.start r.since r.fits r.head bound (ap (bound_of e) (sym r.grows.state) ∙ k))
-  row_soon b h (Alone l o) bound k = at_soon l b h o bound k
+  row_soon b h (InRow l r) bound k = fewer bound _ _ (omega (arith, r.grows.spent, r.inside)) (budget free_budget (head_soon l r.start r.since r.fits r.head) bound (ap (bound_of e) (sym r.grows.state) ∙ k))
+  row_soon b h (Alone l o) bound k = budget free_budget (at_soon l b h o) bound k
 
   -- where it waits
-  pub idle_soon : (b : Machine) (h : Since) (n : ℕ) → n ≤ most_wait → b.regs.idle ≡ true → Row x (pieces x) b h → Budget e h n 1
-  idle_soon b h n w i (InRow l r) = absurd (sleeps (sym i ∙ block_awake x (pieces x) (proved e) r))
-  idle_soon b h n w i (Alone (AtTimer l) o) = absurd (sleeps (sym i ∙ timer_awake x b (now h) l o.0))
-  idle_soon b h n w i (Alone (AtKey l) o) = absurd (sleeps (sym i ∙ key_awake x b (now h) l h.keys o.0))
-  idle_soon b h n w i (Alone (AtSprite ClearWait) o) = clearing h n 1 (omega (arith, o.1)) w (clears_bound e (now h) o.0.inside o.0.clears)
-  idle_soon b h n w i (Alone (AtSprite ClearIdle) o) = clearing h n 1 (omega (arith, o.1)) w (clears_bound e (now h) o.0.0.inside o.0.0.clears)
-  idle_soon b h n w i (Alone (AtSprite DrawWait) o) = drawing h n 1 (omega (arith, o.1)) w (draws_bound e (now h) o.0.draws)
-  idle_soon b h n w i (Alone (AtSprite DrawIdle) o) = drawing h n 1 (omega (arith, o.1)) w (draws_bound e (now h) o.0.0.draws)
+  pub idle_pace : (b : Machine) (h : Since) (n : ℕ) → n ≤ most_wait → b.regs.idle ≡ true → Row x (pieces x) b h → Pace e ⊥ h n 1
+  idle_pace b h n w i (InRow l r) = absurd (sleeps (sym i ∙ block_awake x (pieces x) (proved e) r))
+  idle_pace b h n w i (Alone (AtTimer l) o) = absurd (sleeps (sym i ∙ timer_awake x b (now h) l o.0))
+  idle_pace b h n w i (Alone (AtKey l) o) = absurd (sleeps (sym i ∙ key_awake x b (now h) l h.keys o.0))
+  idle_pace b h n w i (Alone (AtSprite ClearWait) o) = clearing h n 1 (omega (arith, o.1)) w (clears_bound e (now h) o.0.inside o.0.clears)
+  idle_pace b h n w i (Alone (AtSprite ClearIdle) o) = clearing h n 1 (omega (arith, o.1)) w (clears_bound e (now h) o.0.0.inside o.0.0.clears)
+  idle_pace b h n w i (Alone (AtSprite DrawWait) o) = drawing h n 1 (omega (arith, o.1)) w (draws_bound e (now h) o.0.draws)
+  idle_pace b h n w i (Alone (AtSprite DrawIdle) o) = drawing h n 1 (omega (arith, o.1)) w (draws_bound e (now h) o.0.0.draws)
 
   -- and behind a wait
-  pub waited_soon : (b : Machine) (h : Since) (n : ℕ) → n ≤ most_wait → Row x (waited_pieces x) b h → Budget e h n 1
-  waited_soon b h n w (InRow l r) bound k = fewer bound _ _ (omega (arith, r.grows.spent, r.inside)) (waited_time l.0 l.1 r.start r.since n w r.head bound (ap (bound_of e) (sym r.grows.state) ∙ k))
-  waited_soon b h n w (Alone l o) bound k = absurd o
+  pub waited_pace : (b : Machine) (h : Since) (n : ℕ) → n ≤ most_wait → Row x (waited_pieces x) b h → Pace e ⊥ h n 1
+  waited_pace b h n w (InRow l r) = go (waited_time l.0 l.1 r.start r.since n w r.head)
+    where
+      go : Pace e ⊥ r.since n (sprite_moves l.0) → Pace e ⊥ h n 1
+      go (Bounded bound is s) = Bounded bound (ap (bound_of e) r.grows.state ∙ is) (fewer bound _ _ (omega (arith, r.grows.spent, r.inside)) s)
+      go (Otherwise o) = absurd o
+  waited_pace b h n w (Alone l o) = absurd o
 
 -- a machine at a row: how long it has waited, and that a main move more leaves time enough
 pub record Soon (e : Edition) (b : Machine) (h : Since) : Type 0 where
@@ -316,5 +368,5 @@ pub record Soon (e : Edition) (b : Machine) (h : Since) : Type 0 where
 
 pub row_in_time : (e : Edition) (script : List Event) (b : Machine) (h : Since) → Interval e script b h → Row (vip e) (pieces (vip e)) b h → Timed e b h → Soon e b h
 row_in_time e script b h t row (Before s z) = record { waited = 0; spends = s; suffices = row_soon e b h row }
-row_in_time e script b h t row (Waiting n s l i z) = record { waited = n; spends = s; suffices = idle_soon e b h n (omega (arith, l, waits_most b.cycle t.outside)) i row }
-row_in_time e script b h t row (Behind n s l r w) = record { waited = n; spends = s; suffices = waited_soon e b h n l r }
+row_in_time e script b h t row (Waiting n s l i z) = record { waited = n; spends = s; suffices = budget e absurd (idle_pace e b h n (omega (arith, l, waits_most b.cycle t.outside)) i row) }
+row_in_time e script b h t row (Behind n s l r w) = record { waited = n; spends = s; suffices = budget e absurd (waited_pace e b h n l r) }

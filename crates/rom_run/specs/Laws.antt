@@ -3,6 +3,7 @@ use Rattle.std.specs.Prelude.{◌≡◌, ℕ, ◌+◌, ◌<◌, ◌≤◌, true,
 use Rattle.machine.specs.Instruction.{at}
 use Rattle.machine.specs.Board.{Machine, move}
 use Rattle.machine.specs.Keys.{Event, held_at}
+use Rattle.machine.specs.Pictures.{frame}
 use Rattle.machine.specs.Ranges.{FitsMachine}
 use Rattle.chip8_image.specs.declared.parts.Part.{Part}
 use Rattle.chip8_image.specs.declared.TheConstants.{DISPATCH}
@@ -12,6 +13,7 @@ use Rattle.chip8_lang.specs.declared.view.Edition.{Edition}
 use Rattle.chip8_lang.specs.Bounds.{bound_of}
 use Rattle.chip8_lang.specs.State.{memory_size, is_fetchable}
 use Rattle.rom_moves.specs.Code.{Input, moved}
+use Rattle.rom_law.specs.Keys.{KeyRun}
 use Rattle.rom_law.specs.Program.{code}
 use Rattle.rom_law.specs.Pictures.{PictureRun}
 use Rattle.rom_law.specs.Runs.{Moves, LanguageRun, carried}
@@ -43,6 +45,19 @@ EveryPicture =
     → ((i : ℕ) → slice_index game i < 256)
     → (script : List Event) (limit : ℕ)
     → PictureRun (vip e) game script limit
+
+-- How long a key has to be down, and then all keys up, for FX0A to end: a frame's cycles each.
+abbrev pub key_cycles : ℕ
+key_cycles = frame
+
+-- In such a run the next dispatch point after FX0A comes before the last of these cycles is over.
+abbrev pub EveryKeyWait : Type 0
+EveryKeyWait =
+    (e : Edition) (game : List ℕ)
+    → length game ≤ memory_size e
+    → ((i : ℕ) → slice_index game i < 256)
+    → (script : List Event) (limit : ℕ)
+    → KeyRun (vip e) key_cycles game script limit
 
 -- Each move of the board keeps what is known of it, and carries its record on: it comes to no event; to a dispatch, with what lies between the
 -- two, and the record begins anew; or to the stop of the state.

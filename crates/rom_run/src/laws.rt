@@ -1,6 +1,6 @@
 //! What is proved of the whole interpreter's ROM, each law the contract of a function without parameters.
 
-ghost use Rattle.rom_run.specs.Laws.{AnySchedule, MainRows, Timely, Undisturbed, WaitsSoon, ChangesSoon, EveryRun, EveryPicture};
+ghost use Rattle.rom_run.specs.Laws.{AnySchedule, MainRows, Timely, Undisturbed, WaitsSoon, ChangesSoon, EveryRun, EveryKeyWait, EveryPicture};
 
 /// The law of every schedule, for both editions: from a dispatch point on, whenever timer ticks come and whatever keys are held down, the
 /// first main move that comes to the fetch loop or to the stop has made one step of the language, or has come to the stop of the state.
@@ -41,6 +41,12 @@ pub fn changes_soon()
 /// state, with its number in 01F0.
 pub fn every_run()
     ensures { EveryRun }
+{}
+
+/// FX0A in these runs: where one key is down in each of 3,668 cycles after its dispatch point, and behind those all keys are up in each of 3,668
+/// cycles from cycle w on, the next dispatch point comes before cycle w + 3,668, if the limit leaves time for it.
+pub fn every_key_wait()
+    ensures { EveryKeyWait }
 {}
 
 /// The law of the pictures of these runs: dot x of line k of each is lit exactly where pixel (x, k / 4) is, in the tall edition (x, k / 2), in the

@@ -1,0 +1,52 @@
+-- In which rows main code is where the state has no bound: those of FX0A.
+use Rattle.std.proofs.Common.{◌≡◌, ◌+◌, ◌*◌, ◌≤◌, ◌⊎◌, inl, inr, sym, ◌∙◌, ap, arith, List}
+use Rattle.std.specs.Prelude.{None}
+use Rattle.machine.specs.Board.{Machine}
+use Rattle.machine.specs.Keys.{Event}
+use Rattle.chip8_lang.specs.declared.view.Edition.{Edition}
+use Rattle.chip8_lang.specs.Bounds.{bound_of}
+use Rattle.rom_law.specs.Rows.{Since, InBlock, Row}
+use Rattle.rom_law.specs.Rows.Row.{Inside, Alone}
+use Rattle.chip8_rows.specs.KeyBlocks.KeyBlock.{KeyNext, KeyCount, KeyFreed}
+use Rattle.chip8_rows.specs.KeyBlocks.KeyPlace.{KeyTest, KeyHeld}
+use Rattle.chip8_rows.specs.Rom.{vip}
+use Rattle.chip8_rows.specs.Table.{Block, Place, At, moves, pieces}
+use Rattle.chip8_rows.specs.Table.Block.{OfKey}
+use Rattle.chip8_rows.specs.Table.Place.{AtKey}
+use Rattle.key_blocks.specs.Laws.{Scans}
+use Rattle.key_blocks.specs.Laws.Scans.{UpTo, AtTest, Behind as BehindTest}
+use Rattle.rom_run.specs.Running.{Interval, Spends, Timed}
+use Rattle.rom_run.specs.Running.Timed.{Before, Waiting, Behind}
+use Rattle.rom_run.proofs.Ticks.{waits_most}
+use Rattle.rom_run.proofs.Time.{IsEndless, IsEndlessAt, unbounded, is_free, head_soon, at_soon, idle_pace, waited_pace}
+
+-- on the way to its loop; in the loop that waits for a key to go down; where it waits for that key to go up; or behind that
+pub data KeyRow (e : Edition) (b : Machine) (h : Since) : Type 0 where
+  Comes : h.spent ≤ 354 → KeyRow e b h
+  Seeks : Scans (vip e) b h → KeyRow e b h
+  Holds : At (vip e) (AtKey KeyHeld) b h → KeyRow e b h
+  Leaves : InBlock (vip e) (pieces (vip e)) (OfKey KeyFreed) b h → KeyRow e b h
+
+module _ (e : Edition) (b : Machine) (h : Since) (free : bound_of e h.state ≡ None) where
+  block_row : (l : Block) (r : InBlock (vip e) (pieces (vip e)) l b h) → (r.since.spent + 2 * moves l ≤ 354) ⊎ IsEndless e l → KeyRow e b h
+  block_row l r (inl s) = Comes (omega (arith, s, r.grows.spent, r.inside))
+  block_row (OfKey (KeyNext turn)) r (inr o) = Seeks (UpTo turn r)
+  block_row (OfKey (KeyCount turn)) r (inr o) = Seeks (BehindTest turn r)
+  block_row (OfKey KeyFreed) r (inr o) = Leaves r
+  block_row _ r (inr o) = absurd o
+
+  place_row : (l : Place) → At (vip e) l b h → (h.spent + 2 * 1 ≤ 354) ⊎ IsEndlessAt e l → KeyRow e b h
+  place_row l o (inl s) = Comes (omega (arith, s))
+  place_row (AtKey (KeyTest turn)) o (inr _) = Seeks (AtTest turn o)
+  place_row (AtKey KeyHeld) o (inr _) = Holds o
+  place_row _ o (inr n) = absurd n
+
+  pub key_row : Row (vip e) (pieces (vip e)) b h → KeyRow e b h
+  key_row (Inside l r) = block_row l r (is_free e (head_soon e l r.start r.since r.fits r.head) (ap (bound_of e) (sym r.grows.state) ∙ free))
+  key_row (Alone l o) = place_row l o (is_free e (at_soon e l b h o) free)
+
+  -- and it doesn't wait for the display
+  pub never_waited : (script : List Event) → Interval e script b h → Row (vip e) (pieces (vip e)) b h → Timed e b h → Spends b h 0
+  never_waited script t row (Before s r) = s
+  never_waited script t row (Waiting n s l i r) = absurd (unbounded e (idle_pace e b h n (omega (arith, l, waits_most b.cycle t.outside)) i row) free)
+  never_waited script t row (Behind n s l r w) = absurd (unbounded e (waited_pace e b h n l r) free)

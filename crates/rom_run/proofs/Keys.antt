@@ -1,0 +1,241 @@
+-- FX0A ends in time: the sets of keys of its main moves are those of cycles of the run, so that its loop finds a key that is down for long enough, and
+-- then that this key is up.
+use Rattle.std.proofs.Common.{◌≡◌, ℕ, ◌+◌, ◌/◌, ◌%◌, ◌<◌, ◌≤◌, ◌⊎◌, inl, inr, sym, ◌∙◌, ap, ap₂, subst, subst₂, arith, le_refl, true, false, List, [], ◌∷◌, ◌++◌, length, slice_index}
+use Rattle.std.specs.Prelude.{slice_get, Option, Some, None}
+use Rattle.std.proofs.lemmas.Bool.{cases_eq, cases_lt}
+use Rattle.std.proofs.lemmas.Option.{slice_get_within}
+use Rattle.machine.specs.Board.{Machine, move}
+use Rattle.machine.specs.Keys.{Keys, Event, held_at}
+use Rattle.machine.proofs.Runs.{later-move}
+use Rattle.chip8_lang.specs.declared.view.Edition.{Edition}
+use Rattle.chip8_lang.specs.Bounds.{bound_of, bound_by}
+use Rattle.chip8_lang.specs.State.{Lang, memory_size}
+use Rattle.rom_law.specs.Keys.{Pressed, WaitsForKey}
+use Rattle.rom_law.specs.Program.{Program}
+use Rattle.rom_law.specs.Rows.{Since, Row, dispatched, after_tick}
+use Rattle.rom_law.specs.Runs.{Moves, carried}
+use Rattle.rom_law.specs.Runs.Moves.{Still, Arrived, Halted}
+use Rattle.rom_law.proofs.Carried.{main_more, carried_from, carried_state, carried_interrupt, carried_idle, carried_disabled}
+use Rattle.rom_law.proofs.Keys.{Keyed, key_run}
+use Rattle.rom_law.proofs.Kept.{row_runs, row_cycles}
+use Rattle.rom_law.proofs.Language.{get_append}
+use Rattle.rom_law.proofs.Runs.{Carries, Boots}
+use Rattle.chip8_rows.specs.Rom.{image, vip}
+use Rattle.chip8_rows.specs.Table.{pieces}
+use Rattle.fetch_blocks.specs.Laws.{boot_moves}
+use Rattle.key_blocks.specs.Laws.{Counted, Lately, Scans, Within}
+use Rattle.key_blocks.proofs.Counts.{none_stays, stays_down, goes_up}
+use Rattle.key_blocks.proofs.Sets.{get_last, length_more}
+use Rattle.rom_frame.specs.Frame.{Makes}
+use Rattle.rom_frame.specs.Frame.Makes.{Runs, Waits, Accepts}
+use Rattle.rom_frame.proofs.Frame.{accepted, case_accepts, case_waits, every_move}
+use Rattle.rom_run.specs.Laws.{EveryKeyWait, key_cycles}
+use Rattle.rom_run.specs.Running.{Interval, Spends, Timed, Running}
+use Rattle.rom_run.specs.Running.Outside.{AtRow, AtEvent}
+use Rattle.rom_run.specs.Running.Running.{InMain, InRoutine}
+use Rattle.rom_run.proofs.Bound.{timely}
+use Rattle.rom_run.proofs.Cycles.{Passed, Soon, Next, soon_first, soon_interrupt, soon_routine, soon_main, soon_next, few_passed, next_main, moves_to, from_u, while_down, all_made}
+use Rattle.rom_run.proofs.Endless.{KeyRow, key_row, never_waited}
+use Rattle.rom_run.proofs.Endless.KeyRow.{Comes, Seeks, Holds, Leaves}
+use Rattle.rom_run.proofs.Moves.{board_moves, counts_main, interrupted}
+use Rattle.rom_run.proofs.Proved.{proved}
+use Rattle.rom_run.proofs.Run.{boot, begun}
+use Rattle.rom_run.proofs.Served.{served_within, served_disabled}
+
+-- a set of keys can't have a key down and up
+clash : (o : Option Keys) (a c : Keys) (k : ℕ) → o ≡ Some a → o ≡ Some c → a k ≡ true → c k ≡ false → ⊥
+clash o a c k f g down up = differ (sym down ∙ ap (λ z. z k) (same (sym f ∙ g)) ∙ up)
+  where
+    differ : true ≡ false → ⊥
+    differ z = cc
+
+    same : Some a ≡ Some c → a ≡ c
+    same z = cc
+
+module _ (e : Edition) (script : List Event) where
+  abbrev x : Program
+  x = vip e
+
+  abbrev held : ℕ → Keys
+  held = held_at script
+
+  abbrev next : Machine → Machine
+  next b = move (image e) held b
+
+  -- ---- what is known besides `Running`
+
+  -- set j was held down in the cycle after the fetch of a main move, with j main moves before it
+  record Sample (sets : List Keys) (from end j : ℕ) : Type 0 where
+    cycle : ℕ
+    made : Passed from j cycle
+    before : cycle < end
+    there : slice_get sets j ≡ Some (held (cycle + 1))
+
+  -- the state at the last dispatch point has no bound, and since then a key was pressed long enough
+  record Pressing (from : ℕ) (s : Lang) (u w : ℕ) : Type 0 where
+    free : bound_of e s ≡ None
+    since : from ≤ u
+    pressed : Pressed script key_cycles u w
+
+  -- In cycle t: each main move took two cycles; without a bound each set of keys is that of a cycle of the run, since main code didn't wait for the
+  -- display; and where a key was pressed for long enough, time is left.
+  record Known (t : ℕ) (h : Since) : Type 0 where
+    counted : Counted h
+    sampled : bound_of e h.state ≡ None → (j : ℕ) → j < length h.keys → Sample h.keys h.from t j
+    soon : (u w : ℕ) → Pressing h.from h.state u w → Soon t w
+
+  -- at a dispatch point
+  begins : (t : ℕ) (s : Lang) → Known t (dispatched t s)
+  begins t s = record { counted = omega arith; sampled = λ k j l. absurd (omega (arith, l)); soon = λ u w q. soon_first t u w q.since q.pressed.behind }
+
+  -- the keys stay
+  passes : (t n : ℕ) (h : Since) → t ≤ n → Known t h → ((u w : ℕ) → Pressing h.from h.state u w → Soon n w) → Known n h
+  passes t n h l k soon = record { counted = k.counted; sampled = λ f j i. let s = k.sampled f j i in record { cycle = s.cycle; made = s.made; before = omega (arith, s.before, l); there = s.there }; soon = soon }
+
+  ticked : (t : ℕ) (h : Since) → Known t h → Known t (after_tick h)
+  ticked t h k = record { counted = k.counted; sampled = k.sampled; soon = k.soon }
+
+  -- ---- where main code runs
+
+  module _ (b : Machine) (h : Since) (t : Interval e script b h) (row : Row x (pieces x) b h) (time : Timed e b h) (known : Known b.cycle h) where
+    module _ (free : bound_of e h.state ≡ None) where
+      spends : Spends b h 0
+      spends = never_waited e b h free script t row time
+
+      made : Passed h.from (length h.keys) b.cycle
+      made = record { outside = t.outside; after = t.from; count = omega (arith, spends, known.counted, t.covers.ticks) }
+
+    -- no more than six main moves have been made since a cycle before w
+    record Early (w : ℕ) : Type 0 where
+      j : ℕ
+      cycle : ℕ
+      passed : Passed h.from j cycle
+      few : length h.keys ≤ j + 6
+      order : cycle ≤ b.cycle
+      early : cycle < w
+
+    module _ (u w : ℕ) (q : Pressing h.from h.state u w) where
+      here : b.cycle < w + key_cycles
+      here = (known.soon u w q).here
+
+      now_early : b.cycle < w → Early w
+      now_early l = record { j = length h.keys; cycle = b.cycle; passed = made q.free; few = omega arith; order = le_refl b.cycle; early = l }
+
+      -- a key was down in one of the last six sets
+      key_late : (n k : ℕ) → n ≤ 6 → k < 16 → Lately n h.keys k true → Early w
+      key_late n k six fits l = go (cases_lt s.cycle w)
+        where
+          s : Sample h.keys h.from b.cycle l.time
+          s = known.sampled q.free l.time (slice_get_within h.keys l.time l.at.held l.at.there)
+
+          go : (s.cycle < w) ⊎ (w ≤ s.cycle) → Early w
+          go (inl early) = record { j = l.time; cycle = s.cycle; passed = s.made; few = omega (arith, l.late, six); order = omega (arith, s.before); early = early }
+          go (inr late) = absurd (clash (slice_get h.keys l.time) l.at.held (held (s.cycle + 1)) k l.at.there s.there l.at.is (q.pressed.up (s.cycle + 1) k (omega (arith, late)) (omega (arith, s.before, here)) fits))
+
+      -- the loop finds the key while it is down
+      finds : Scans x b h → w ≤ b.cycle → ⊥
+      finds scans late = clash (slice_get h.keys up.time) (held (s.cycle + 1)) up.at.held q.pressed.key s.there up.at.there (q.pressed.down (s.cycle + 1) (omega (arith, from_u h.from u v.0 up.time s.cycle q.since s.made v.1 up.from)) (while_down h.from u v.0 up.time s.cycle q.since s.made v.1 up.before)) up.at.is
+        where
+          v : (v : ℕ) × Next u v
+          v = next_main u
+
+          up : Within (moves_to h.from v.0) 400 h.keys q.pressed.key false
+          up = none_stays e b h scans known.counted (moves_to h.from v.0) (all_made h.from u v.0 (length h.keys) b.cycle q.since (made q.free) v.1 (omega (arith, q.pressed.behind, late))) q.pressed.key q.pressed.fits
+
+          s : Sample h.keys h.from b.cycle up.time
+          s = known.sampled q.free up.time (slice_get_within h.keys up.time up.at.held up.at.there)
+
+      early_by : KeyRow e b h → Early w
+      early_by (Comes l) = now_early (omega (arith, few_passed h.from (length h.keys) b.cycle u (made q.free) (omega (arith, l, known.counted)) q.since, q.pressed.behind))
+      early_by (Seeks scans) = go (cases_lt b.cycle w)
+        where
+          go : (b.cycle < w) ⊎ (w ≤ b.cycle) → Early w
+          go (inl l) = now_early l
+          go (inr late) = absurd (finds scans late)
+      early_by (Holds o) = key_late 1 b.key (omega arith) t.fits.key (stays_down e b h o)
+      early_by (Leaves r) = key_late 5 (r.start.regs.r.re.lo % 16) (omega arith) (omega arith) (goes_up e b h r).1
+
+      soon_by : Soon (b.cycle + 2) w × Soon (b.cycle + 1) w
+      soon_by = let o = early_by (key_row e b h q.free row) in (soon_main h.from o.j o.cycle (length h.keys) b.cycle w o.passed (made q.free) o.few o.order o.early, soon_next h.from o.j o.cycle (length h.keys) b.cycle w o.passed (made q.free) o.few o.order o.early)
+
+    -- a main move adds its set
+    abbrev set : Keys
+    set = held (b.cycle + 1)
+
+    new_sample : bound_of e h.state ≡ None → (j : ℕ) → j < length (h.keys ++ set ∷ []) → Sample (h.keys ++ set ∷ []) h.from (b.cycle + 2) j
+    new_sample free j l = go (cases_eq j (length h.keys))
+      where
+        go : (j ≡ length h.keys) ⊎ (j ≡ length h.keys → ⊥) → Sample (h.keys ++ set ∷ []) h.from (b.cycle + 2) j
+        go (inl is) = subst (Sample (h.keys ++ set ∷ []) h.from (b.cycle + 2)) (sym is) (record { cycle = b.cycle; made = made free; before = omega arith; there = get_last h.keys set })
+        go (inr d) = let s = known.sampled free j (omega (arith, l, d, length_more h.keys (set ∷ []))) in record { cycle = s.cycle; made = s.made; before = omega (arith, s.before); there = get_append h.keys (set ∷ []) j _ s.there }
+
+    main_known : Known (b.cycle + 2) (main_more (image e) held b h 2)
+    main_known = record { counted = omega (arith, known.counted, length_more h.keys (set ∷ [])); sampled = new_sample; soon = λ u w q. (soon_by u w q).0 }
+
+    next_known : Known (b.cycle + 1) h
+    next_known = passes b.cycle (b.cycle + 1) h (omega arith) known (λ u w q. (soon_by u w q).1)
+
+    row_known : b.on ≡ true → b.regs.ie ≡ true → Makes (image e) held b (next b) → Known (next b).cycle (carried (image e) held b h)
+    row_known on ie (Runs d i m) = subst₂ Known (sym (ap (λ (z : Machine). z.cycle) m ∙ ap (λ z. b.cycle + z) (row_cycles x (pieces x) (proved e) b h t.fits i row))) (sym (counts_main e script b h t row d i)) main_known
+    row_known on ie (Waits d i m) = subst₂ Known (sym (ap (λ (z : Machine). z.cycle) m)) (sym (carried_idle (image e) held b h (case_waits b on ie t.outside d i))) next_known
+    row_known on ie (Accepts i m) = subst₂ Known (sym (ap (λ (z : Machine). z.cycle) m)) (sym (carried_interrupt (image e) held b h (case_accepts b on ie (omega (arith, i))))) (ticked (b.cycle + 1) h next_known)
+
+  -- ---- every move
+
+  known_on : (b : Machine) (h : Since) → Running e script b h → Known b.cycle h → Known (next b).cycle (carried (image e) held b h)
+  known_on b h (InMain (AtRow t row n time)) k = let ready = row_runs x (pieces x) (proved e) b h t.fits row in row_known b h t row time k ready.on ready.enabled (every_move (image e) held b ready.on ready.enabled t.outside)
+  known_on b h (InMain (AtEvent t p d late y)) k =
+      let o = interrupted e script b h (b.cycle / 3668) (AtEvent t p d late y) (omega (arith, p)) in
+      subst₂ Known (sym (ap (λ (z : Machine). z.cycle) (accepted (image e) held b o.on o.enabled p))) (sym (carried_interrupt (image e) held b h (case_accepts b o.on o.enabled p)))
+      (ticked (b.cycle + 1) h (passes b.cycle (b.cycle + 1) h (omega arith) k (λ u w q. soon_interrupt b.cycle w (k.soon u w q) p)))
+  known_on b h (InRoutine s) k =
+      let i = served_within e script b h s in
+      subst (Known (next b).cycle) (sym (carried_disabled (image e) held b h (served_disabled e script b h s)))
+      (passes b.cycle (next b).cycle h (omega (arith, later-move (image e) held b)) k (λ u w q. soon_routine s.m b.cycle (next b).cycle w (k.soon u w q) i.0 (omega (arith, later-move (image e) held b, i.1)) (later-move (image e) held b) i.1))
+
+  -- ---- a run
+
+  record RunsFrom (b : Machine) (h : Since) : Type 0 where
+    running : Running e script b h
+    known : Known b.cycle h
+
+  moves_on : (c : Machine) (h : Since) → Known c.cycle h → Moves x script (Running e script) h c → Moves x script RunsFrom h c
+  moves_on c h k (Still d z r) = Still d z (record { running = r; known = k })
+  moves_on c h k (Arrived d z i st r) = Arrived d z i st (record { running = r; known = begins c.cycle _ })
+  moves_on c h k (Halted z i stop st) = Halted z i stop st
+
+  carries : Carries x script RunsFrom
+  carries = record { moves = λ b h r. moves_on (next b) (carried (image e) held b h) (known_on b h r.running r.known) (board_moves e script b h r.running); timely = λ b h bound r. timely e script b h bound r.running }
+
+  unbounded : (s : Lang) → WaitsForKey x s → bound_of e s ≡ None
+  unbounded s w = ap₂ bound_by w.runs w.is
+
+  keyed : Keyed x key_cycles script RunsFrom
+  keyed =
+      record {
+        some = omega arith;
+        timely = λ b h u w r waits since pressed. ((known_on b h r.running r.known).soon u w (
+            record {
+              free = ap (bound_of e) (carried_state (image e) held b h) ∙ unbounded h.state waits;
+              since = subst (λ z. z ≤ u) (sym (carried_from (image e) held b h)) since;
+              pressed = pressed;
+            }
+            )).here;
+      }
+
+  boots : (game : List ℕ) → length game ≤ memory_size e → ((i : ℕ) → slice_index game i < 256) → Boots x game script RunsFrom
+  boots game small bytes =
+      let starts = boot e game small bytes script in
+      let first = begun e game small bytes script in
+      record {
+        moves = boot_moves;
+        quiet = starts.quiet;
+        soon = first.soon;
+        dispatch = first.dispatch;
+        runs = first.runs;
+        stands = starts.stands;
+        running = record { running = first.running; known = begins _ _ };
+      }
+
+pub every_key_wait : EveryKeyWait
+every_key_wait e game small bytes script limit = key_run (vip e) key_cycles game script limit (RunsFrom e script) (carries e script) (keyed e script) (boots e script game small bytes)
