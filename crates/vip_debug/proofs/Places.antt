@@ -97,6 +97,28 @@ module _ (i : Interpreter) (game : List ℕ) (script : List KeyEvent) (limit : �
   last-here n within over =
       ap length (here n within ∙ ap (λ bs. if is_stop i (at_move n) then at_move n ∷ [] else at_move n ∷ bs) (past (suc n) over)) ∙ one (is_stop i (at_move n)) (at_move n)
 
+  -- a state that comes by the limit, with no stop point before it
+  pub record Reached (n : ℕ) : Type 0 where
+    pub within : (at_move n).cycle ≤ limit
+    pub runs : (k : ℕ) → k < n → is_stop i (at_move k) ≡ false
+
+  pub reached-next : (n : ℕ) → Reached n → is_stop i (at_move n) ≡ false → (at_move (suc n)).cycle ≤ limit → Reached (suc n)
+  reached-next n r runs within = record { within = within; runs = λ k l. by_case k l (cases_lt k n) }
+    where
+      by_case : (k : ℕ) → k < suc n → (k < n) ⊎ (n ≤ k) → is_stop i (at_move k) ≡ false
+      by_case k l (inl below) = r.runs k below
+      by_case k l (inr above) = let same : k ≡ n = omega (arith, above, l) in ap (λ m. is_stop i (at_move m)) same ∙ runs
+
+  -- each of the states up to the stop point is one
+  pub reached : (n : ℕ) → n < length (from_move 0) → Reached n
+  reached zero some = record { within = omega arith; runs = λ k l. absurd (omega (arith, l)) }
+  reached (suc n) some = on (reached n (omega (arith, some))) (is_stop i (at_move n)) refl (cases_lt limit (at_move (suc n)).cycle)
+    where
+      on : Reached n → (stop : Bool) → is_stop i (at_move n) ≡ stop → (limit < (at_move (suc n)).cycle) ⊎ ((at_move (suc n)).cycle ≤ limit) → Reached (suc n)
+      on r true stop far = absurd (omega (arith, some, all-moves n r.within r.runs, stop-here n r.within stop))
+      on r false runs (inl over) = absurd (omega (arith, some, all-moves n r.within r.runs, last-here n r.within over))
+      on r false runs (inr within) = reached-next n r runs within
+
   fewer : (i : Interpreter) (bs : List Machine) → length (up_to_stop i bs) ≤ length bs
   unfolding up_to_stop
   fewer i [] = omega arith

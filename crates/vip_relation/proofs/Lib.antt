@@ -1,5 +1,5 @@
-mod Along
-mod Past
+pub mod Along
+pub mod Past
 pub mod Steps
 pub mod Meetings
 mod Reading

@@ -1,12 +1,12 @@
 -- Which events may wait at the present state. Its picture comes first, and then its point: so none waits behind a dispatch point that was met
 -- there, and at a stop point no dispatch point waits.
-use Rattle.std.proofs.Common.{◌≡◌, ℕ, zero, suc, ◌+◌, ◌-◌, ◌<◌, ◌≤◌, Bool, true, false, List, [], ◌∷◌, ◌++◌, length, drop, filter, map, refl, sym, ap, ◌∙◌, arith, append-nil, append_assoc}
+use Rattle.std.proofs.Common.{◌≡◌, ℕ, zero, suc, ◌+◌, ◌-◌, ◌<◌, ◌≤◌, Bool, true, false, List, [], ◌∷◌, ◌++◌, length, drop, filter, map, refl, sym, ap, ◌∙◌, subst, arith, append-nil, append_assoc, Some}
 use Rattle.std.specs.Prelude.{filter_map, slice_get, if◌then◌else◌}
 use Rattle.std.specs.Option.{option_map}
 use Rattle.std.proofs.lemmas.List.{drop_all, take-append-drop}
 use Rattle.std.proofs.lemmas.List.Elements.{filter_map-append}
 use Rattle.machine.specs.Board.{Machine}
-use Rattle.machine.specs.Keys.{held_at}
+use Rattle.machine.specs.Keys.{Event as KeyEvent, held_at}
 use Rattle.machine.specs.Pictures.{windows_ended, is_shown}
 use Rattle.machine.proofs.Runs.{later-move}
 use Rattle.chip8_lang.specs.Events.{Event, is_dispatch, is_stop, numbers_from}
@@ -24,7 +24,7 @@ use Rattle.vip_relation.proofs.Steps.{Others, others-to, events-here}
 -- ---- dispatch points before a cycle
 
 -- each dispatch point among some events comes before cycle t
-Earlier : ℕ → List Event → Type 0
+pub Earlier : ℕ → List Event → Type 0
 Earlier t [] = Unit {0}
 Earlier t (Picture m ∷ es) = Earlier t es
 Earlier t (Dispatch b ∷ es) = (b.cycle < t) × Earlier t es
@@ -54,6 +54,40 @@ unfolding Earlier
 earlier_point t DispatchPoint b before = (before, tt)
 earlier_point t StopPoint b before = tt
 earlier_point t OtherPoint b before = tt
+
+pub earlier-drop : (t n : ℕ) (es : List Event) → Earlier t es → Earlier t (drop n es)
+unfolding Earlier
+earlier-drop t zero es h = h
+earlier-drop t (suc n) [] h = tt
+earlier-drop t (suc n) (Picture m ∷ es) h = earlier-drop t n es h
+earlier-drop t (suc n) (Dispatch b ∷ es) h = earlier-drop t n es h.1
+earlier-drop t (suc n) (Stopped b ∷ es) h = earlier-drop t n es h
+
+-- any of them does
+pub earlier-at : (t : ℕ) (es : List Event) → Earlier t es → (k : ℕ) (b : Machine) → slice_get (filter_map dispatch_of es) k ≡ Some b → b.cycle < t
+unfolding Earlier
+earlier-at t [] h k b at = cc
+earlier-at t (Picture m ∷ es) h k b at = earlier-at t es h k b at
+earlier-at t (Dispatch c ∷ es) h zero b at = let same : c ≡ b = cc in subst (λ (x : Machine). x.cycle < t) same h.0
+earlier-at t (Dispatch c ∷ es) h (suc k) b at = earlier-at t es h.1 k b at
+earlier-at t (Stopped c ∷ es) h k b at = earlier-at t es h k b at
+
+-- so are those of the states up to one before that cycle
+module _ (i : Interpreter) (game : List ℕ) (script : List KeyEvent) where
+  earlier_with : (t n : ℕ) → (state i game script n).cycle < t → Earlier (state i game script n).cycle (past i game script n) → Earlier t (past i game script (suc n))
+  unfolding past
+  earlier_with t n low others =
+      earlier_append t (past i game script n ++ pictures i game script n) (point i game script n)
+      (earlier_append t (past i game script n) (pictures i game script n) (earlier_on (state i game script n).cycle t (past i game script n) (omega (arith, low)) others) (earlier_pictures t _))
+      (earlier_point t (point_of i (state i game script n)) (state i game script n) low)
+
+  earlier_past : (n : ℕ) → Earlier (state i game script n).cycle (past i game script n)
+  unfolding past Earlier
+  earlier_past zero = tt
+  earlier_past (suc n) = earlier_with (state i game script (suc n)).cycle n (later-move i.rom (held_at script) (state i game script n)) (earlier_past n)
+
+  pub earlier-next : (t n : ℕ) → (state i game script n).cycle < t → Earlier t (past i game script (suc n))
+  earlier-next t n low = earlier_with t n low (earlier_past n)
 
 few_points : (p : Point) (b : Machine) → length (point_events p b) ≤ 1
 few_points DispatchPoint b = omega arith
@@ -129,15 +163,6 @@ module _ (v : VipState) (f : Follows v) where
   abbrev point_of_state : ℕ → List Event
   point_of_state n = point i v.game v.board.script n
 
-  earlier_past : (n : ℕ) → Earlier (at_state n).cycle (past_of n)
-  unfolding past Earlier
-  earlier_past zero = tt
-  earlier_past (suc n) =
-      let next : (at_state n).cycle < (at_state (suc n)).cycle = later-move i.rom (held_at v.board.script) (at_state n) in
-      earlier_append (at_state (suc n)).cycle (past_of n ++ pictures_of n) (point_of_state n)
-      (earlier_append (at_state (suc n)).cycle (past_of n) (pictures_of n) (earlier_on (at_state n).cycle (at_state (suc n)).cycle (past_of n) (omega (arith, next)) (earlier_past n)) (earlier_pictures (at_state (suc n)).cycle (frames_of n)))
-      (earlier_point (at_state (suc n)).cycle (point_of i (at_state n)) (at_state n) next)
-
   here : events_to v now ≡ (past_of v.moves ++ pictures_of v.moves) ++ point_of_state v.moves
   unfolding past
   here = events-here v f
@@ -148,7 +173,7 @@ module _ (v : VipState) (f : Follows v) where
       let o : Others v f limit = others-to v f limit within in
       let n : ℕ = v.moves in
       let cycle : now ≡ (at_state n).cycle = ap (λ (b : Machine). b.cycle) f.machine in
-      let early : Earlier (at_state n).cycle (past_of n ++ pictures_of n) = earlier_append (at_state n).cycle (past_of n) (pictures_of n) (earlier_past n) (earlier_pictures (at_state n).cycle (frames_of n)) in
+      let early : Earlier (at_state n).cycle (past_of n ++ pictures_of n) = earlier_append (at_state n).cycle (past_of n) (pictures_of n) (earlier_past i v.game v.board.script n) (earlier_pictures (at_state n).cycle (frames_of n)) in
       let all : length ((past_of n ++ pictures_of n) ++ point_of_state n) ≤ k + 1 =
       last_one (at_state n).cycle k (past_of n ++ pictures_of n) (point_of_state n) o.others v.board.machine rest early (few_points (point_of i (at_state n)) (at_state n)) (omega (arith, f.within, met, ap length here)) (omega (arith, cycle))
       (ap (λ es. drop k (es ++ o.others)) (sym here) ∙ ap (drop k) (sym o.all) ∙ is) in
