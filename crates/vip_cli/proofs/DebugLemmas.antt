@@ -30,7 +30,7 @@ use Rattle.vip_debug.specs.declared.command.Command.TheVariants as command
 use Rattle.vip_debug.specs.declared.command.Running.{Running}
 use Rattle.vip_debug.specs.declared.command.Running.TheVariants.{Step, To, Next, Break}
 use Rattle.vip_debug.proofs.Places.{Reached, reached, reached-next, some-here, all-moves}
-use Rattle.vip_cli.specs.Outcome.{run_ending, stopped_by, debug_ending}
+use Rattle.vip_verbs.specs.Outcome.{run_ending, stopped_by, debug_ending}
 
 -- ---- the ending by some events
 

@@ -11,7 +11,7 @@ use Rattle.vip_words.specs.Rules.{Word, Given, given_by}
 use Rattle.vip_words.specs.Table.{Row, usage_of}
 use Rattle.vip_words.specs.declared.table.Verb.{Verb}
 use Rattle.vip_words.specs.declared.table.Verb.TheVariants as verb
-use Rattle.vip_cli.specs.Outcome.{cycles_in}
+use Rattle.vip_verbs.specs.Outcome.{cycles_in}
 
 -- a number that was read is no greater than the most
 number-low : (base : ℕ) (text : List ℕ) (most n : ℕ) → result_ok (number base text most) ≡ Some n → n ≤ most

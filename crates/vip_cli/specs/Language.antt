@@ -19,10 +19,11 @@ use Rattle.vip_relation.specs.Interpreters.{interpreter_of}
 use Rattle.vip_show.specs.Endings.{Ending}
 use Rattle.vip_show.specs.Endings.Ending.{AtLimit, AtStop}
 use Rattle.vip_words.specs.Asked.{Asked, trace, play, debug, demo}
-use Rattle.vip_cli.specs.Demo.{demo_game}
-use Rattle.vip_cli.specs.Outcome.{script_in, run_of, events_in, run_ending, end_status}
-use Rattle.vip_cli.specs.Report.{end_report}
-use Rattle.vip_cli.specs.declared.status.Status.{Status}
+use Rattle.vip_verbs.specs.Demo.{demo_game}
+use Rattle.vip_report.specs.Status.{end_status}
+use Rattle.vip_verbs.specs.Outcome.{script_in, run_of, events_in, run_ending}
+use Rattle.vip_report.specs.Report.{end_report}
+use Rattle.vip_report.specs.declared.status.Status.{Status}
 
 -- ---- from one event to the next
 

@@ -1,10 +1,3 @@
-pub mod Status
-pub mod Refusal
-pub mod Files
-pub mod Demo
-pub mod Report
-pub mod Outcome
+pub mod Words
 pub mod Language
-pub mod Opening
-pub mod Command
 pub mod Top

@@ -5,15 +5,15 @@ use Rattle.vip_outside.specs.Files.{FileMap, FilesMeaning}
 use Rattle.vip_outside.specs.Sink.{SinkMeaning, Gains, GainsPart}
 use Rattle.vip_outside.specs.Pieces.{PutsAll, FailsWithin}
 use Rattle.vip_words.specs.Asked.{Asked, asked_by}
-use Rattle.vip_cli.specs.declared.refusal.Kind.{Kind}
-use Rattle.vip_cli.specs.declared.status.Status.{Status}
-use Rattle.vip_cli.specs.declared.status.Status.TheVariants.{Done, Stopped, Usage, ReadFault, GameTooLarge, ScriptTooLarge, BadScript, BadSource, BadRomSource, RomDiffers, WriteFault, NoMemory, BadCommand, SourceTooLarge, CommandsTooLarge}
-use Rattle.vip_cli.specs.Files.{Needed, needed, HasAll, ComesTo, IsLarger, IsUnread}
+use Rattle.vip_report.specs.declared.refusal.Kind.{Kind}
+use Rattle.vip_report.specs.declared.status.Status.{Status}
+use Rattle.vip_report.specs.declared.status.Status.TheVariants.{Done, Stopped, Usage, ReadFault, GameTooLarge, ScriptTooLarge, BadScript, BadSource, BadRomSource, RomDiffers, WriteFault, NoMemory, BadCommand, SourceTooLarge, CommandsTooLarge}
+use Rattle.vip_verbs.specs.Files.{Needed, needed, HasAll, ComesTo, IsLarger, IsUnread}
 use Rattle.vip_cli.specs.Language.{ShowsChip8}
-use Rattle.vip_cli.specs.Outcome.{Comes}
-use Rattle.vip_cli.specs.Outcome.Outcome.{Refused, Shown}
-use Rattle.vip_cli.specs.Refusal.{too_large_status}
-use Rattle.vip_cli.specs.Report.{usage, cannot_read, too_large_report, write_fault, no_memory}
+use Rattle.vip_verbs.specs.Outcome.{Comes}
+use Rattle.vip_verbs.specs.Outcome.Outcome.{Refused, Shown}
+use Rattle.vip_report.specs.Refusal.{too_large_status}
+use Rattle.vip_report.specs.Report.{usage, cannot_read, too_large_report, write_fault, no_memory}
 
 -- one call: its words, and what the outside meant before it and after it
 pub record Call : Type 0 where

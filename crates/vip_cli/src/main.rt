@@ -1,36 +1,27 @@
-//! The program `vip`: what its words ask for, the work of each command, its report and its status.
+//! The program `vip`: from the words of its command line to its output, its report and its status.
 //!
 //! ```text
-//!     words ──▶ vip_words ──▶ files ──┬──▶ commands, key script ──▶ ROM check ──▶ vip_relation ──▶ vip_show, vip_debug ──┬──▶ out
-//!                   │           │     └──▶ assembler, listing, disassembly, bounds ─────────────────────────────────────┤
-//!                   └───────────┴──────────────────▶ report ◀───────────────────────────────────────────────────────────┘
-//!                                                       └──▶ err, status
+//!     words ──▶ vip_words ──▶ vip_verbs: files, work ──▶ out
+//!                   │              │
+//!                   └──────────────┴──▶ vip_report ──▶ err, status
 //! ```
 //!
 //! `vip_main` is the one call that the process makes; its contract says what goes to `out` and `err` for every answer, byte by byte and
-//! put by put. Before each run the ROM is compared with what its built-in source assembles to. The crate stands on every layer below
-//! through their contracts alone. Reports and statuses are this project's; a picture is a file of Netpbm's PBM, form P4.
+//! put by put, and what that says of CHIP-8, by the laws of the ROM's runs in `rom_run`. The crate stands on every layer below through
+//! their contracts alone. Reports and statuses are this project's; a picture is a file of Netpbm's PBM, form P4.
 #![tactic(auto)]
 
-mod command;
-mod demo;
-mod files;
-mod refusal;
-mod report;
-mod status;
 #[cfg(test)]
 mod tests;
 mod top;
 
-use refusal::Refusal;
-use report::put_refusal;
-use status::Status;
 use std::alloc::Global;
 use std::env;
 use std::io::ErrorKind;
 use std::process::ExitCode;
 use top::vip_main;
 use vip_outside::{RealFiles, StdSink};
+use vip_report::{Refusal, Status, put_refusal};
 
 /// The words after the program's name.
 fn words_after_name(alloc: Global, args: env::Args) -> Result<Vec<String>, Refusal<'static>> {

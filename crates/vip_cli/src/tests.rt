@@ -1,15 +1,13 @@
 //! The program from its words and files to its output, its report and its status. What is expected was worked out by hand from the rules
 //! of the language, the board, the assembler and the texts.
 
-use crate::demo::demo_game;
-use crate::status::Status;
 use crate::top::vip_main;
-use asm_core::AsmCause;
 use std::alloc::Global;
 use std::test::Fail;
-use vip_byte::{NumFault, read_decimal, read_hex};
-use vip_keypad::ScriptCause;
-use vip_outside::{Failed, MemFiles, MemSink};
+use vip_byte::{read_decimal, read_hex};
+use vip_outside::{MemFiles, MemSink};
+use vip_report::Status;
+use vip_verbs::demo_game;
 
 /// What a call wrote.
 #[derive(Drop)]
@@ -944,51 +942,5 @@ fn games_of_any_bytes_come_to_an_end(rt: HostRuntime) -> Result<(), Fail> {
     let got = run(rt.alloc(), "trace g 200000", &[("g", game.as_slice())])?;
     assert!(rt; got.status == Status::Done);
     assert!(rt; got.err.bytes() == b"done 200000\n".as_slice());
-    Ok(())
-}
-
-#[test]
-fn errors_are_shown_by_their_names(rt: HostRuntime) -> Result<(), Fail> {
-    let alloc = rt.alloc();
-    let numbers = format!(in alloc;
-        "{} {} {}",
-        NumFault::Empty,
-        NumFault::BadDigit,
-        NumFault::TooLarge
-    )?;
-    assert_eq!(rt; numbers.as_str(), "Empty BadDigit TooLarge");
-    let scripts = format!(in alloc;
-        "{} {} {} {} {}",
-        ScriptCause::BadLine,
-        ScriptCause::BadCycle,
-        ScriptCause::BadKey,
-        ScriptCause::OutOfOrder,
-        ScriptCause::TooMany
-    )?;
-    assert_eq!(rt;
-        scripts.as_str(),
-        "BadLine BadCycle BadKey OutOfOrder TooMany"
-    );
-    let first = format!(in alloc;
-        "{} {} {} {}",
-        AsmCause::BadText,
-        AsmCause::UnknownMnemonic,
-        AsmCause::BadOperand,
-        AsmCause::Range
-    )?;
-    assert_eq!(rt; first.as_str(), "BadText UnknownMnemonic BadOperand Range");
-    let others = format!(in alloc;
-        "{} {} {} {} {}",
-        AsmCause::Duplicate,
-        AsmCause::Undefined,
-        AsmCause::OffPage,
-        AsmCause::Overlap,
-        AsmCause::TooLarge
-    )?;
-    assert_eq!(rt;
-        others.as_str(),
-        "Duplicate Undefined OffPage Overlap TooLarge"
-    );
-    assert_eq!(rt; format!(in alloc; "{}", Failed)?.as_str(), "Failed");
     Ok(())
 }

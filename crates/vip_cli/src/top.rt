@@ -2,17 +2,14 @@
 
 ghost use Rattle.std.specs.Prelude.{◌≡◌, map, string_bytes};
 ghost use Rattle.vip_words.specs.Request.{asked_of};
-ghost use Rattle.vip_cli.specs.Command.{UnderstoodAnswers, WordsAnswer};
+ghost use Rattle.vip_cli.specs.Words.{UnderstoodAnswers, WordsAnswer};
 ghost use Rattle.vip_cli.specs.Top.{call_of, Says, RefusesWords, GivesDue, Completes, SpeaksChip8};
 
-use crate::command::{Ended, work};
-use crate::files::{open_files, wanted_files};
-use crate::refusal::Refusal;
-use crate::report::{put_end, put_refusal};
-use crate::status::Status;
 use rom_run::laws::{every_picture, every_run};
 use std::alloc::Global;
 use vip_outside::{Files, Sink};
+use vip_report::{Ended, Refusal, Status, put_end, put_refusal};
+use vip_verbs::{open_files, wanted_files, work};
 use vip_words::{Request, WordsFail, read_words};
 
 /// What the words ask for.

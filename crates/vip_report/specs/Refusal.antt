@@ -1,0 +1,31 @@
+-- The status of each refusal.
+use Rattle.vip_report.specs.declared.refusal.Kind.{Kind}
+use Rattle.vip_report.specs.declared.refusal.Kind.TheVariants.{Game, Script, Commands, Source}
+use Rattle.vip_report.specs.declared.refusal.Refusal.{Refusal}
+use Rattle.vip_report.specs.declared.refusal.Refusal.TheVariants as refusal
+use Rattle.vip_report.specs.declared.status.Status.{Status}
+use Rattle.vip_report.specs.declared.status.Status.TheVariants.{Usage, ReadFault, GameTooLarge, ScriptTooLarge, BadScript, BadSource, BadRomSource, RomDiffers, WriteFault, NoMemory, BadCommand, SourceTooLarge, CommandsTooLarge}
+use Rattle.rom_check.specs.declared.fault.ImageFault.{ImageFault}
+use Rattle.rom_check.specs.declared.fault.ImageFault.TheVariants as image
+
+abbrev pub too_large_status : Kind → Status
+too_large_status Game = GameTooLarge
+too_large_status Script = ScriptTooLarge
+too_large_status Commands = CommandsTooLarge
+too_large_status Source = SourceTooLarge
+
+abbrev pub image_status : ImageFault → Status
+image_status (image.BadRomSource line cause) = BadRomSource
+image_status (image.RomDiffers address assembled here) = RomDiffers
+image_status image.NoMemory = NoMemory
+
+abbrev pub status_of : Refusal → Status
+status_of refusal.Usage = Usage
+status_of (refusal.Unread name) = ReadFault
+status_of (refusal.TooLarge kind) = too_large_status kind
+status_of (refusal.Script line cause) = BadScript
+status_of (refusal.Command line cause) = BadCommand
+status_of (refusal.Source line cause) = BadSource
+status_of (refusal.Rom fault) = image_status fault
+status_of refusal.Write = WriteFault
+status_of refusal.NoMemory = NoMemory

@@ -1,0 +1,116 @@
+-- The reports on the error output, each a line.
+use Rattle.std.specs.Prelude.{ℕ, List, [], ◌++◌, codes, decimal}
+use Rattle.vip_byte.specs.HexText.{hex2, hex4}
+use Rattle.asm_core.specs.declared.fault.AsmCause.{AsmCause}
+use Rattle.asm_core.specs.declared.fault.AsmCause.TheVariants as asm
+use Rattle.rom_check.specs.declared.fault.ImageFault.{ImageFault}
+use Rattle.rom_check.specs.declared.fault.ImageFault.TheVariants as image
+use Rattle.vip_keypad.specs.declared.script.ScriptCause.{ScriptCause}
+use Rattle.vip_keypad.specs.declared.script.ScriptCause.TheVariants as script
+use Rattle.vip_debug.specs.declared.command.CommandCause.{CommandCause}
+use Rattle.vip_debug.specs.declared.command.CommandCause.TheVariants as command
+use Rattle.vip_text.specs.Stops.{stop_line}
+use Rattle.vip_text.specs.Traces.{newline}
+use Rattle.vip_show.specs.Answers.{ending_in}
+use Rattle.vip_show.specs.Endings.{Ending}
+use Rattle.vip_show.specs.Endings.Ending.{AtLimit, AtStop}
+use Rattle.vip_report.specs.declared.ended.Ended.{Ended}
+use Rattle.vip_report.specs.declared.ended.Ended.TheVariants.{Worked, Ran}
+use Rattle.vip_report.specs.declared.refusal.Kind.{Kind}
+use Rattle.vip_report.specs.declared.refusal.Kind.TheVariants.{Game, Script, Commands, Source}
+use Rattle.vip_report.specs.declared.refusal.Refusal.{Refusal}
+use Rattle.vip_report.specs.declared.refusal.Refusal.TheVariants as refusal
+
+-- ---- the end of a run
+
+abbrev pub done : ℕ → List ℕ
+done limit = codes "done " ++ (decimal limit ++ newline)
+
+abbrev pub end_report : ℕ → Ending → List ℕ
+end_report limit AtLimit = done limit
+end_report limit (AtStop stop pc opcode) = stop_line stop pc opcode
+
+-- a verb whose text alone was written has no report
+abbrev pub ended_report : Ended → List ℕ
+ended_report Worked = []
+ended_report (Ran limit end) = end_report limit (ending_in end)
+
+-- ---- refusals
+
+abbrev pub asm_cause : AsmCause → List ℕ
+asm_cause asm.BadText = codes "BadText"
+asm_cause asm.UnknownMnemonic = codes "UnknownMnemonic"
+asm_cause asm.BadOperand = codes "BadOperand"
+asm_cause asm.Range = codes "Range"
+asm_cause asm.Duplicate = codes "Duplicate"
+asm_cause asm.Undefined = codes "Undefined"
+asm_cause asm.OffPage = codes "OffPage"
+asm_cause asm.Overlap = codes "Overlap"
+asm_cause asm.TooLarge = codes "TooLarge"
+
+abbrev pub script_cause : ScriptCause → List ℕ
+script_cause script.BadLine = codes "BadLine"
+script_cause script.BadCycle = codes "BadCycle"
+script_cause script.BadKey = codes "BadKey"
+script_cause script.OutOfOrder = codes "OutOfOrder"
+script_cause script.TooMany = codes "TooMany"
+
+abbrev pub command_cause : CommandCause → List ℕ
+command_cause command.BadWord = codes "BadWord"
+command_cause command.BadCount = codes "BadCount"
+command_cause command.BadNumber = codes "BadNumber"
+command_cause command.Range = codes "Range"
+
+-- the number of a line and what is wrong with it
+abbrev pub at_line : List ℕ → ℕ → List ℕ → List ℕ
+at_line text line cause = text ++ (decimal line ++ (codes ": " ++ (cause ++ newline)))
+
+abbrev pub too_large_report : Kind → List ℕ
+too_large_report Game = codes "vip: game larger than 3232 bytes" ++ newline
+too_large_report Script = codes "vip: key script larger than 1048576 bytes" ++ newline
+too_large_report Commands = codes "vip: commands larger than 1048576 bytes" ++ newline
+too_large_report Source = codes "vip: source too large" ++ newline
+
+-- the words are refused, or a file could not be read
+abbrev pub usage : List ℕ
+usage = codes "usage: vip trace, play, debug, demo, asm, list, dis or bounds" ++ newline
+
+abbrev pub cannot_read : List ℕ → List ℕ
+cannot_read name = codes "vip: cannot read " ++ (name ++ newline)
+
+-- the first fault of a script, of the debugger's commands, and of a source
+abbrev pub bad_script : ℕ → ScriptCause → List ℕ
+bad_script line cause = at_line (codes "vip: key script line ") line (script_cause cause)
+
+abbrev pub bad_command : ℕ → CommandCause → List ℕ
+bad_command line cause = at_line (codes "vip: commands line ") line (command_cause cause)
+
+abbrev pub bad_source : ℕ → AsmCause → List ℕ
+bad_source line cause = at_line (codes "vip: source line ") line (asm_cause cause)
+
+abbrev pub no_memory : List ℕ
+no_memory = codes "vip: no memory" ++ newline
+
+-- the ROM isn't what its source gives: the first byte that differs, from the source and in the ROM
+abbrev pub rom_differs : ℕ → ℕ → ℕ → List ℕ
+rom_differs address assembled here =
+    codes "vip: rom differs at " ++ (hex4 address ++ (codes ": source " ++ (hex2 assembled ++ (codes " image " ++ (hex2 here ++ newline)))))
+
+abbrev pub image_report : ImageFault → List ℕ
+image_report (image.BadRomSource line cause) = at_line (codes "vip: rom source line ") line (asm_cause cause)
+image_report (image.RomDiffers address assembled here) = rom_differs address assembled here
+image_report image.NoMemory = no_memory
+
+abbrev pub write_fault : List ℕ
+write_fault = codes "vip: write fault" ++ newline
+
+abbrev pub report_of : Refusal → List ℕ
+report_of refusal.Usage = usage
+report_of (refusal.Unread name) = cannot_read name.now
+report_of (refusal.TooLarge kind) = too_large_report kind
+report_of (refusal.Script line cause) = bad_script line cause
+report_of (refusal.Command line cause) = bad_command line cause
+report_of (refusal.Source line cause) = bad_source line cause
+report_of (refusal.Rom fault) = image_report fault
+report_of refusal.Write = write_fault
+report_of refusal.NoMemory = no_memory

@@ -1,0 +1,21 @@
+//! How the program ends: its statuses, its refusals, and the line of report of each.
+//!
+//! It stands on the crates whose faults it reports (`asm_core`, `rom_check`, `vip_keypad`, `vip_debug`), on `vip_show`, which says how a run
+//! ended, on `vip_text` and on the sinks of `vip_outside`. The layer above may rely on this: each refusal and each end has the status and
+//! the report of `specs/Status.antt`, `specs/Refusal.antt` and `specs/Report.antt`, and the report goes to a sink in order, up to the first
+//! put that fails.
+//!
+//! The statuses and the reports are this project's (`docs/FORMATS.md`).
+#![tactic(auto)]
+
+mod ended;
+mod refusal;
+mod report;
+mod status;
+#[cfg(test)]
+mod tests;
+
+pub use ended::Ended;
+pub use refusal::{Kind, Refusal};
+pub use report::{put_end, put_refusal};
+pub use status::Status;

@@ -1,0 +1,93 @@
+//! Why the program refuses a command.
+
+ghost use Rattle.std.specs.Prelude.{◌≡◌};
+ghost use Rattle.vip_report.specs.Refusal.{status_of};
+
+use crate::status::Status;
+use asm_core::AsmCause;
+use rom_check::ImageFault;
+use std::alloc::AllocError;
+use vip_debug::CommandCause;
+use vip_keypad::ScriptCause;
+use vip_outside::Failed;
+
+/// Files that are limited in their size.
+#[derive(Clone, Copy, Debug, Default, PartialEq, Eq)]
+pub enum Kind {
+    /// A game for the interpreter, at most 3,232 bytes.
+    #[default]
+    Game,
+    /// A key script, at most 1,048,576 bytes.
+    Script,
+    /// The commands of the debugger, at most 1,048,576 bytes.
+    Commands,
+    /// A source to assemble, at most 1,048,576 bytes, or bytes to disassemble, which have to end by address FFFF.
+    Source,
+}
+
+/// A refusal, or what ended a command early.
+#[derive(Clone, Copy, Debug, PartialEq, Eq)]
+pub enum Refusal<'a> {
+    /// The words of the command line.
+    Usage,
+    /// The file of this name could not be read.
+    Unread(&'a str),
+    /// A file has more bytes than its kind may have.
+    TooLarge(Kind),
+    /// The first fault of the key script, in this line, counted from 1.
+    Script { line: u32, cause: ScriptCause },
+    /// The first fault of the debugger's commands, in this line, counted from 1.
+    Command { line: u32, cause: CommandCause },
+    /// The first fault of the source, in this line, counted from 1.
+    Source { line: u32, cause: AsmCause },
+    /// The built-in source doesn't give the ROM.
+    Rom(ImageFault),
+    /// Not all of the output could be written.
+    Write,
+    NoMemory,
+}
+
+impl Refusal<'_> {
+    /// The status that says so.
+    pub fn status(&self) -> Status
+        ensures { result ≡ status_of self.now }
+    {
+        match self {
+            Refusal::Usage => Status::Usage,
+            Refusal::Unread(_) => Status::ReadFault,
+            Refusal::TooLarge(Kind::Game) => Status::GameTooLarge,
+            Refusal::TooLarge(Kind::Script) => Status::ScriptTooLarge,
+            Refusal::TooLarge(Kind::Commands) => Status::CommandsTooLarge,
+            Refusal::TooLarge(Kind::Source) => Status::SourceTooLarge,
+            Refusal::Script { .. } => Status::BadScript,
+            Refusal::Command { .. } => Status::BadCommand,
+            Refusal::Source { .. } => Status::BadSource,
+            Refusal::Rom(ImageFault::BadRomSource { .. }) => Status::BadRomSource,
+            Refusal::Rom(ImageFault::RomDiffers { .. }) => Status::RomDiffers,
+            Refusal::Write => Status::WriteFault,
+            Refusal::NoMemory | Refusal::Rom(ImageFault::NoMemory) => Status::NoMemory,
+        }
+    }
+}
+
+impl From<AllocError> for Refusal<'_> {
+    ghost use Rattle.std.specs.Prelude.{◌≡◌};
+    ghost use Rattle.vip_report.specs.declared.refusal.Refusal.TheVariants.{NoMemory};
+
+    ghost from_gives = { λ _ refusal. refusal ≡ NoMemory };
+
+    fn from(_error: AllocError) -> Self {
+        Refusal::NoMemory
+    }
+}
+
+impl From<Failed> for Refusal<'_> {
+    ghost use Rattle.std.specs.Prelude.{◌≡◌};
+    ghost use Rattle.vip_report.specs.declared.refusal.Refusal.TheVariants.{Write};
+
+    ghost from_gives = { λ _ refusal. refusal ≡ Write };
+
+    fn from(_error: Failed) -> Self {
+        Refusal::Write
+    }
+}

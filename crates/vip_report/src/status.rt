@@ -1,0 +1,63 @@
+//! How the program ends.
+
+ghost use Rattle.std.specs.Prelude.{◌≡◌};
+ghost use Rattle.vip_report.specs.Status.{number_of};
+
+/// The answers of the program.
+#[derive(Clone, Copy, Debug, PartialEq, Eq)]
+pub enum Status {
+    /// The run reached its limit, or the work was done.
+    Done,
+    /// The run came to its stop point.
+    Stopped,
+    /// The words of the command line are refused.
+    Usage,
+    /// A file that the words name could not be read.
+    ReadFault,
+    /// A game has more than 3,232 bytes.
+    GameTooLarge,
+    /// A key script has more than 1,048,576 bytes.
+    ScriptTooLarge,
+    /// A key script has a fault.
+    BadScript,
+    /// An assembler source has a fault.
+    BadSource,
+    /// The built-in source of the ROM has a fault.
+    BadRomSource,
+    /// The built-in source doesn't give the ROM.
+    RomDiffers,
+    /// Not all of the output or the report could be written.
+    WriteFault,
+    NoMemory,
+    /// The debugger's commands have a fault.
+    BadCommand,
+    /// A file to assemble, list or disassemble has too many bytes.
+    SourceTooLarge,
+    /// The debugger's commands have more than 1,048,576 bytes.
+    CommandsTooLarge,
+}
+
+impl Status {
+    /// The number that the process ends with.
+    pub fn number(&self) -> u8
+        ensures { result ≡ number_of self.now }
+    {
+        match self {
+            Status::Done => 0,
+            Status::Stopped => 1,
+            Status::Usage => 2,
+            Status::ReadFault => 3,
+            Status::GameTooLarge => 4,
+            Status::ScriptTooLarge => 5,
+            Status::BadScript => 6,
+            Status::BadSource => 7,
+            Status::BadRomSource => 8,
+            Status::RomDiffers => 9,
+            Status::WriteFault => 10,
+            Status::NoMemory => 11,
+            Status::BadCommand => 12,
+            Status::SourceTooLarge => 13,
+            Status::CommandsTooLarge => 14,
+        }
+    }
+}

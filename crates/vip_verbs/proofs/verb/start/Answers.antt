@@ -1,0 +1,10 @@
+use Rattle.vip_verbs.proofs.verb.start.Goals as goal
+
+pub returns-in-Ok : goal.returns-in-Ok
+returns-in-Ok c = record {
+  script = c.in_ok-script.script;
+  reads = c.in_ok-script.ensures;
+  rom = c.in_ok-check_rom.ensures;
+  is = c.in-Ok.ensures.answer.1;
+  runs = c.in-Ok.ensures.runs;
+}

@@ -1,0 +1,5 @@
+pub mod Files
+pub mod Demo
+pub mod Outcome
+pub mod Opening
+pub mod Work

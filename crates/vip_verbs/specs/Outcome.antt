@@ -1,0 +1,124 @@
+-- What a command comes to, by the contents of its files.
+use Rattle.std.specs.Prelude.{◌≡◌, ℕ, List, [], ◌∷◌, if◌then◌else◌, Result, Ok, Err}
+use Rattle.machine.specs.Board.{Machine}
+use Rattle.machine.specs.Keys.{Event as KeyEvent}
+use Rattle.chip8_image.specs.declared.image.TheConstants.{IMAGE}
+use Rattle.chip8_lang.specs.declared.view.Edition.TheVariants.{Usual}
+use Rattle.chip8_lang.specs.declared.view.StopRecord.{StopRecord}
+use Rattle.chip8_lang.specs.Events.{Event, events_of, game_run, is_stop}
+use Rattle.chip8_source.specs.Texts.{usual_text}
+use Rattle.asm_core.specs.Made.{Made, IsAssembly}
+use Rattle.asm_core.specs.Sources.{source_lines, HasFirstFault}
+use Rattle.asm_core.specs.declared.fault.AsmCause.{AsmCause}
+use Rattle.asm_listing.specs.Dump.{dump_text}
+use Rattle.asm_listing.specs.Listing.{IsListing}
+use Rattle.asm_listing.specs.Disassembly.{disassembly}
+use Rattle.rom_check.specs.Compared.{Compares}
+use Rattle.rom_check.specs.declared.fault.ImageFault.{ImageFault}
+use Rattle.rom_check.specs.declared.fault.ImageFault.TheVariants.{NoMemory}
+use Rattle.vip_bounds.specs.Table.{bounds_table}
+use Rattle.vip_debug.specs.Answers.{at_start, place_after, stop_by, written}
+use Rattle.vip_debug.specs.Grammar.{commands_of}
+use Rattle.vip_debug.specs.declared.command.Command.{Command}
+use Rattle.vip_debug.specs.declared.command.CommandFault.{CommandFault}
+use Rattle.vip_debug.specs.declared.command.CommandFault.TheVariants as command
+use Rattle.vip_keypad.specs.KeyScript.{script_of}
+use Rattle.vip_keypad.specs.declared.script.ScriptCause.{ScriptCause}
+use Rattle.vip_keypad.specs.declared.script.ScriptFault.{ScriptFault}
+use Rattle.vip_keypad.specs.declared.script.ScriptFault.TheVariants.{Fault}
+use Rattle.vip_relation.specs.Interpreters.{interpreter_of}
+use Rattle.vip_relation.specs.State.{VipState, interpreter, started, state_after}
+use Rattle.vip_show.specs.Endings.{Ending, ending_of}
+use Rattle.vip_show.specs.Endings.Ending.{AtLimit, AtStop}
+use Rattle.vip_show.specs.Output.{trace_pieces, picture_pieces, summary}
+use Rattle.vip_words.specs.Asked.{Asked, trace, play, debug, demo, asm, list, dis, bounds}
+use Rattle.vip_verbs.specs.Demo.{demo_game}
+use Rattle.vip_report.specs.Refusal.{image_status}
+use Rattle.vip_report.specs.Status.{end_status}
+use Rattle.vip_report.specs.Report.{bad_command, bad_script, bad_source, image_report, end_report}
+use Rattle.vip_report.specs.declared.status.Status.{Status}
+use Rattle.vip_report.specs.declared.status.Status.TheVariants.{Done, BadCommand, BadScript, BadSource}
+
+-- Refused, with a status and its report; or output, piece by piece, with the status and the report of its end.
+pub data Outcome : Type 0 where
+  Refused : (status : Status) (report : List ℕ) → Outcome
+  Shown : (pieces : List (List ℕ)) (status : Status) (report : List ℕ) → Outcome
+
+-- ---- a run
+
+-- the events of a script file, where there is one, or its first fault
+abbrev pub script_in : List (List ℕ) → Result (List KeyEvent) ScriptFault
+script_in [] = Ok []
+script_in (text ∷ _) = script_of text
+
+-- the run of a game under a script up to a limit, and its events
+abbrev pub run_of : List ℕ → List KeyEvent → ℕ → List Machine
+run_of game script limit = game_run (interpreter_of Usual) game script limit
+
+abbrev pub events_in : List ℕ → List KeyEvent → ℕ → List Event
+events_in game script limit = events_of (interpreter_of Usual) game script limit
+
+-- how it ends, by its events
+abbrev pub run_ending : List ℕ → ℕ → List KeyEvent → Ending
+run_ending game limit script = ending_of Usual (events_in game script limit)
+
+-- what the built-in source gives, compared with the ROM
+abbrev pub RomIs : Result (Unit {0}) ImageFault → Type 0
+RomIs answer = Compares (source_lines usual_text) IMAGE answer
+
+-- it isn't what its source gives
+abbrev pub IsFault : ImageFault → Type 0
+IsFault NoMemory = ⊥
+IsFault _ = Unit {0}
+
+-- A run up to a limit comes to the first fault of its script, to a ROM that isn't what its source gives, or to its output and its ending.
+pub data RunComes (limit : ℕ) (scripts : List (List ℕ)) (pieces : List KeyEvent → List (List ℕ)) (ending : List KeyEvent → Ending) : Outcome → Type 0 where
+  FaultyScript : (line : ℕ) (cause : ScriptCause) → script_in scripts ≡ Err (Fault line cause) → RunComes limit scripts pieces ending (Refused BadScript (bad_script line cause))
+  FaultyRom : (script : List KeyEvent) (fault : ImageFault) → script_in scripts ≡ Ok script → IsFault fault → RomIs (Err fault) → RunComes limit scripts pieces ending (Refused (image_status fault) (image_report fault))
+  Runs : (script : List KeyEvent) → script_in scripts ≡ Ok script → RomIs (Ok tt) → RunComes limit scripts pieces ending (Shown (pieces script) (end_status (ending script)) (end_report limit (ending script)))
+
+-- ---- a run under the debugger
+
+abbrev pub stopped_by : StopRecord → Ending
+stopped_by stop = AtStop stop.stop stop.pc stop.opcode
+
+-- It ends where its commands leave the board: with the stop, where that is a stop point, and else as at the limit.
+abbrev pub ending_where : VipState → ℕ → Ending
+ending_where v moves = if is_stop (interpreter v) (state_after v moves) then stopped_by (stop_by v moves) else AtLimit
+
+abbrev pub debug_ending : VipState → ℕ → List Command → Ending
+debug_ending v limit commands = ending_where v (place_after v limit commands at_start).moves
+
+-- It comes to the first fault of its commands, or else, as other runs do, to the answers of the commands on a board that begins.
+abbrev pub DebugComes : List ℕ → ℕ → List (List ℕ) → Result (List Command) CommandFault → Outcome → Type 0
+DebugComes game limit scripts (Ok commands) o = RunComes limit scripts (λ script. written (started Usual game script) limit commands at_start) (λ script. debug_ending (started Usual game script) limit commands) o
+DebugComes game limit scripts (Err (command.Fault line cause)) o = o ≡ Refused BadCommand (bad_command line cause)
+DebugComes game limit scripts (Err command.NoMemory) o = ⊥
+
+-- ---- a source
+
+pub data SourceComes (source : List ℕ) (IsText : Made → List ℕ → Type 0) : Outcome → Type 0 where
+  FaultySource : (line : ℕ) (cause : AsmCause) → HasFirstFault (source_lines source) line cause → SourceComes source IsText (Refused BadSource (bad_source line cause))
+  Assembles : (made : Made) (text : List ℕ) → IsAssembly (source_lines source) made → IsText made text → SourceComes source IsText (Shown (text ∷ []) Done [])
+
+-- ---- a command
+
+-- the machine cycles that are asked for
+abbrev pub cycles_in : Asked → ℕ
+cycles_in (trace a) = a.cycles
+cycles_in (play a) = a.cycles
+cycles_in (debug a) = a.cycles
+cycles_in (demo a) = a.cycles
+cycles_in _ = 0
+
+-- what a command comes to, by the contents of its files in their order
+abbrev pub Comes : Asked → List (List ℕ) → Outcome → Type 0
+Comes (trace a) (game ∷ scripts) o = RunComes a.cycles scripts (λ script. trace_pieces Usual a.at a.screen (events_in game script a.cycles)) (run_ending game a.cycles) o
+Comes (play a) (game ∷ scripts) o = RunComes a.cycles scripts (λ script. picture_pieces IMAGE (run_of game script a.cycles) (events_in game script a.cycles)) (run_ending game a.cycles) o
+Comes (debug a) (game ∷ commands ∷ scripts) o = DebugComes game a.cycles scripts (commands_of a.cycles commands) o
+Comes (demo a) [] o = RunComes a.cycles [] (λ script. summary Usual a.number (events_in (demo_game a.number) script a.cycles) ∷ []) (run_ending (demo_game a.number) a.cycles) o
+Comes (asm name) (source ∷ []) o = SourceComes source (λ made text. text ≡ dump_text made) o
+Comes (list name) (source ∷ []) o = SourceComes source (λ made text. IsListing (source_lines source) text) o
+Comes (dis a) (bytes ∷ []) o = o ≡ Shown (disassembly a.address bytes ∷ []) Done []
+Comes bounds [] o = o ≡ Shown (bounds_table ∷ []) Done []
+Comes _ _ o = ⊥

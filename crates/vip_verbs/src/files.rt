@@ -1,0 +1,143 @@
+//! The files that a verb reads.
+
+ghost use Rattle.std.specs.Prelude.{◌≡◌, ◌<◌, ◌∷◌, [], ℕ, map, option_map, slice_index};
+ghost use Rattle.vip_words.specs.Request.{asked_of};
+ghost use Rattle.vip_report.specs.declared.refusal.Kind.TheVariants.{Game, Commands, Source};
+ghost use Rattle.vip_verbs.specs.Files.{needed, file, script_file, most_game, most_text, seen_wanted, FileAnswers, FilesAnswer};
+
+use arrayvec::ArrayVec;
+use std::alloc::Global;
+use vip_outside::{Files, ReadFail};
+use vip_report::{Kind, Refusal};
+use vip_words::Request;
+
+/// The most bytes of a game.
+const MOST_GAME: usize = 3232;
+
+/// The most bytes of a key script, of the debugger's commands or of a source.
+const MOST_TEXT: usize = 1_048_576;
+
+/// The bytes that addresses name.
+const ADDRESSES: usize = 65536;
+
+/// A file that a verb reads, with the most bytes that it may have.
+#[derive(Clone, Copy, Default)]
+pub struct Wanted<'a> {
+    pub name: &'a str,
+    pub most: usize,
+    pub kind: Kind,
+}
+
+/// The files of a run: the game, and the key script where one is named.
+fn run_files<'a>(game: &'a str, keys: Option<&'a str>) -> ArrayVec<Wanted<'a>, 3>
+    ensures { map seen_wanted result.items ≡ file Game most_game game.now ∷ script_file (option_map (λ name. name.now) keys.entry) }
+{
+    let mut wanted = ArrayVec::new();
+    wanted.push(Wanted {
+        name: game,
+        most: MOST_GAME,
+        kind: Kind::Game,
+    });
+    if let Some(name) = keys {
+        wanted.push(Wanted {
+            name,
+            most: MOST_TEXT,
+            kind: Kind::Script,
+        });
+    }
+    wanted
+}
+
+/// The files of a run under the debugger: the game, the commands, and the key script where one is named.
+fn debug_files<'a>(
+    game: &'a str,
+    commands: &'a str,
+    keys: Option<&'a str>,
+) -> ArrayVec<Wanted<'a>, 3>
+    ensures { map seen_wanted result.items ≡ file Game most_game game.now ∷ file Commands most_text commands.now ∷ script_file (option_map (λ name. name.now) keys.entry) }
+{
+    let mut wanted = run_files(game, keys);
+    wanted.insert(
+        1,
+        Wanted {
+            name: commands,
+            most: MOST_TEXT,
+            kind: Kind::Commands,
+        },
+    );
+    wanted
+}
+
+/// A source or bytes, alone.
+fn source_file<'a>(name: &'a str, most: usize) -> ArrayVec<Wanted<'a>, 3>
+    ensures { map seen_wanted result.items ≡ file Source most name.now ∷ [] }
+{
+    let mut wanted = ArrayVec::new();
+    wanted.push(Wanted {
+        name,
+        most,
+        kind: Kind::Source,
+    });
+    wanted
+}
+
+/// The files of a request, in the order in which they are read.
+pub fn wanted_files<'a>(request: &Request<'a>) -> ArrayVec<Wanted<'a>, 3>
+    ensures { map seen_wanted result.items ≡ needed (asked_of request.now) }
+{
+    match request {
+        Request::Trace(wish) => run_files(wish.game, wish.keys),
+        Request::Play(wish) => run_files(wish.game, wish.keys),
+        Request::Debug(wish) => debug_files(wish.game, wish.commands, wish.keys),
+        Request::Asm(wish) => source_file(wish.file, MOST_TEXT),
+        Request::List(wish) => source_file(wish.file, MOST_TEXT),
+        Request::Dis(wish) => source_file(wish.file, ADDRESSES - usize::from(wish.address)),
+        Request::Demo(_) | Request::Bounds => ArrayVec::new(),
+    }
+}
+
+/// What its type says of a slice: its numbers are bytes. That is known of a parameter, not of a `Vec` that a read gave.
+fn are_bytes(bytes: &[u8])
+    ensures { (i : ℕ) → slice_index bytes.now i < 256 }
+{}
+
+/// Reads one file whole.
+fn open_file<'a, F: Files>(
+    alloc: Global,
+    files: &mut F,
+    wanted: &Wanted<'a>,
+) -> Result<Vec<u8>, Refusal<'a>>
+    ensures { FileAnswers (F.meaning files.old) (F.meaning files.new) (seen_wanted wanted.now) result }
+{
+    match files.read(alloc, wanted.name, wanted.most) {
+        Ok(loaded) if loaded.more => Err(Refusal::TooLarge(wanted.kind)),
+        Ok(loaded) => {
+            are_bytes(loaded.bytes.as_slice());
+            Ok(loaded.bytes)
+        }
+        Err(ReadFail::NoMemory) => Err(Refusal::NoMemory),
+        Err(_) => Err(Refusal::Unread(wanted.name)),
+    }
+}
+
+/// Reads files whole, in their order, up to the first that is refused.
+pub fn open_files<'a, F: Files>(
+    alloc: Global,
+    files: &mut F,
+    wanted: &[Wanted<'a>],
+) -> Result<Vec<Vec<u8>>, Refusal<'a>>
+    ensures { FilesAnswer (F.meaning files.old) (F.meaning files.new) (map seen_wanted wanted.now) result }
+{
+    let mut contents = Vec::new(alloc);
+    for file in wanted {
+        match open_file(alloc, files, file) {
+            Ok(content) => {
+                if contents.push(content).is_err() {
+                    return Err(Refusal::NoMemory);
+                }
+            }
+            Err(refusal) => return Err(refusal),
+        }
+    }
+    Ok(contents)
+}

@@ -1,0 +1,215 @@
+//! The work of each verb.
+
+ghost use Rattle.std.specs.Prelude.{◌≡◌, ◌-◌, ◌≤◌, ◌∷◌, [], ℕ, List, length};
+ghost use Rattle.vip_words.specs.Asked.Asked.{trace, play, debug, demo, asm, list, dis, bounds};
+ghost use Rattle.vip_words.specs.Request.{asked_of, asked_trace, asked_play, asked_debug, asked_demo, asked_dis};
+ghost use Rattle.vip_verbs.specs.Files.{needed, FitAll, contents_of};
+ghost use Rattle.vip_verbs.specs.Work.{WorkAnswers};
+ghost use Rattle.vip_verbs.specs.Outcome.{cycles_in};
+ghost use Rattle.vip_verbs.specs.Opening.{SmallScripts, KeysAnswer, DebugCommandsAnswer, RomAnswers, StartAnswers, SourceAnswers};
+
+use crate::demo::demo_game;
+use asm_core::{AsmFault, Assembly, assemble};
+use asm_listing::{disassemble, dump, listing};
+use rom_check::{ImageFault, check_image};
+use std::alloc::Global;
+use vip_bounds::bounds_text;
+use vip_byte::Buffer;
+use vip_debug::{CommandFault, Commands, DebugEnd, read_commands, run_commands};
+use vip_keypad::{Script, ScriptFault, read_script};
+use vip_outside::Sink;
+use vip_relation::{StartFault, Vip};
+use vip_report::{Ended, Kind, Refusal};
+use vip_show::{RunEnd, show_pictures, show_summary, show_trace};
+use vip_words::{DebugRequest, DemoRequest, DisRequest, PlayRequest, Request, TraceRequest};
+
+/// The key script of a run, which is empty where no file is given.
+fn read_keys<'a>(alloc: Global, scripts: &[Vec<u8>]) -> Result<Script, Refusal<'a>>
+    requires { SmallScripts (contents_of scripts.now) }
+    ensures { KeysAnswer (contents_of scripts.now) result }
+{
+    let Some(text) = scripts.first() else {
+        return Ok(Script::empty(alloc));
+    };
+    match read_script(alloc, text.as_slice()) {
+        Ok(script) => Ok(script),
+        Err(ScriptFault::Fault { line, cause }) => Err(Refusal::Script { line, cause }),
+        Err(ScriptFault::NoMemory) => Err(Refusal::NoMemory),
+    }
+}
+
+/// The commands of the debugger.
+fn read_debugging<'a>(alloc: Global, text: &[u8], limit: u64) -> Result<Commands, Refusal<'a>>
+    requires { length text.now ≤ 1_048_576 }
+    ensures { DebugCommandsAnswer limit text.now result }
+{
+    match read_commands(alloc, text, limit) {
+        Ok(commands) => Ok(commands),
+        Err(CommandFault::Fault { line, cause }) => Err(Refusal::Command { line, cause }),
+        Err(CommandFault::NoMemory) => Err(Refusal::NoMemory),
+    }
+}
+
+/// Compares the ROM with its built-in source.
+fn check_rom<'a>(alloc: Global) -> Result<(), Refusal<'a>>
+    ensures { RomAnswers result }
+{
+    match check_image(alloc) {
+        Ok(()) => Ok(()),
+        Err(ImageFault::NoMemory) => Err(Refusal::NoMemory),
+        Err(fault) => Err(Refusal::Rom(fault)),
+    }
+}
+
+/// A machine that begins to run a game under its script.
+fn start<'a>(alloc: Global, game: &[u8], scripts: &[Vec<u8>]) -> Result<Vip, Refusal<'a>>
+    requires game { length game.now ≤ 3232 }
+    requires scripts { SmallScripts (contents_of scripts.now) }
+    ensures { StartAnswers game.now (contents_of scripts.now) result }
+{
+    let script = read_keys(alloc, scripts)?;
+    check_rom(alloc)?;
+    match Vip::start(alloc, game, &script) {
+        Ok(vip) => Ok(vip),
+        Err(StartFault::GameTooLarge(_)) => Err(Refusal::TooLarge(Kind::Game)),
+        Err(StartFault::NoMemory) => Err(Refusal::NoMemory),
+    }
+}
+
+fn trace<'a, O: Sink>(
+    alloc: Global,
+    wish: &TraceRequest<'a>,
+    contents: &[Vec<u8>],
+    out: &mut O,
+) -> Result<Ended, Refusal<'a>>
+    requires limit { wish.now.cycles ≤ 4_000_000_000 }
+    requires sizes { FitAll (needed (trace (asked_trace wish.now))) (contents_of contents.now) }
+    ensures { WorkAnswers (trace (asked_trace wish.now)) (contents_of contents.now) (O.meaning out.old) (O.meaning out.new) result }
+{
+    let mut vip = start(alloc, contents[0].as_slice(), &contents[1..])?;
+    let end = show_trace(&mut vip, wish.cycles, wish.at, wish.screen, out)?;
+    Ok(Ended::Ran(wish.cycles, end))
+}
+
+fn play<'a, O: Sink>(
+    alloc: Global,
+    wish: &PlayRequest<'a>,
+    contents: &[Vec<u8>],
+    out: &mut O,
+) -> Result<Ended, Refusal<'a>>
+    requires limit { wish.now.cycles ≤ 4_000_000_000 }
+    requires sizes { FitAll (needed (play (asked_play wish.now))) (contents_of contents.now) }
+    ensures { WorkAnswers (play (asked_play wish.now)) (contents_of contents.now) (O.meaning out.old) (O.meaning out.new) result }
+{
+    let mut vip = start(alloc, contents[0].as_slice(), &contents[1..])?;
+    let end = show_pictures(&mut vip, wish.cycles, out)?;
+    Ok(Ended::Ran(wish.cycles, end))
+}
+
+/// The commands are read before the key script, so that of two faults theirs counts.
+fn debug<'a, O: Sink>(
+    alloc: Global,
+    wish: &DebugRequest<'a>,
+    contents: &[Vec<u8>],
+    out: &mut O,
+) -> Result<Ended, Refusal<'a>>
+    requires limit { wish.now.cycles ≤ 4_000_000_000 }
+    requires sizes { FitAll (needed (debug (asked_debug wish.now))) (contents_of contents.now) }
+    ensures { WorkAnswers (debug (asked_debug wish.now)) (contents_of contents.now) (O.meaning out.old) (O.meaning out.new) result }
+{
+    let commands = read_debugging(alloc, contents[1].as_slice(), wish.cycles)?;
+    let mut vip = start(alloc, contents[0].as_slice(), &contents[2..])?;
+    match run_commands(&mut vip, &commands, wish.cycles, out) {
+        DebugEnd::Done => Ok(Ended::Ran(wish.cycles, RunEnd::AtLimit)),
+        DebugEnd::Stopped(stop) => Ok(Ended::Ran(wish.cycles, RunEnd::AtStop(stop))),
+        DebugEnd::WriteFault => Err(Refusal::Write),
+    }
+}
+
+fn demo<'a, O: Sink>(alloc: Global, wish: &DemoRequest, out: &mut O) -> Result<Ended, Refusal<'a>>
+    requires limit { wish.now.cycles ≤ 4_000_000_000 }
+    ensures { WorkAnswers (demo (asked_demo wish.now)) [] (O.meaning out.old) (O.meaning out.new) result }
+{
+    let game = demo_game(alloc, wish.number)?;
+    let mut vip = start(alloc, game.as_slice(), &[])?;
+    let end = show_summary(&mut vip, wish.cycles, wish.number, out)?;
+    Ok(Ended::Ran(wish.cycles, end))
+}
+
+/// The assembly of a source.
+fn assembled<'a>(alloc: Global, source: &[u8]) -> Result<Assembly, Refusal<'a>>
+    requires { length source.now ≤ 1_048_576 }
+    ensures { SourceAnswers source.now result }
+{
+    match assemble(alloc, source) {
+        Ok(made) => Ok(made),
+        Err(AsmFault::Fault { line, cause }) => Err(Refusal::Source { line, cause }),
+        Err(AsmFault::NoMemory) => Err(Refusal::NoMemory),
+    }
+}
+
+fn asm<'a, O: Sink>(alloc: Global, source: &[u8], out: &mut O) -> Result<Ended, Refusal<'a>>
+    requires { length source.now ≤ 1_048_576 }
+    ensures { (name : List ℕ) → WorkAnswers (asm name) (source.now ∷ []) (O.meaning out.old) (O.meaning out.new) result }
+{
+    let made = assembled(alloc, source)?;
+    let text = dump(alloc, &made)?;
+    out.put(text.as_slice())?;
+    Ok(Ended::Worked)
+}
+
+fn list<'a, O: Sink>(alloc: Global, source: &[u8], out: &mut O) -> Result<Ended, Refusal<'a>>
+    requires { length source.now ≤ 1_048_576 }
+    ensures { (name : List ℕ) → WorkAnswers (list name) (source.now ∷ []) (O.meaning out.old) (O.meaning out.new) result }
+{
+    let made = assembled(alloc, source)?;
+    let text = listing(alloc, &made, source)?;
+    out.put(text.as_slice())?;
+    Ok(Ended::Worked)
+}
+
+fn dis<'a, O: Sink>(
+    alloc: Global,
+    wish: &DisRequest<'a>,
+    bytes: &[u8],
+    out: &mut O,
+) -> Result<Ended, Refusal<'a>>
+    requires { length bytes.now ≤ 65536 - wish.now.address }
+    ensures { WorkAnswers (dis (asked_dis wish.now)) (bytes.now ∷ []) (O.meaning out.old) (O.meaning out.new) result }
+{
+    let text = disassemble(alloc, bytes, wish.address)?;
+    out.put(text.as_slice())?;
+    Ok(Ended::Worked)
+}
+
+fn bounds<'a, O: Sink>(out: &mut O) -> Result<Ended, Refusal<'a>>
+    ensures { WorkAnswers bounds [] (O.meaning out.old) (O.meaning out.new) result }
+{
+    let mut text = Buffer::new();
+    bounds_text(&mut text);
+    out.put(text.as_slice())?;
+    Ok(Ended::Worked)
+}
+
+/// Does what is asked for with the contents of its files.
+pub fn work<'a, O: Sink>(
+    alloc: Global,
+    request: &Request<'a>,
+    contents: &[Vec<u8>],
+    out: &mut O,
+) -> Result<Ended, Refusal<'a>>
+    requires limit { cycles_in (asked_of request.now) ≤ 4_000_000_000 }
+    requires sizes { FitAll (needed (asked_of request.now)) (contents_of contents.now) }
+    ensures { WorkAnswers (asked_of request.now) (contents_of contents.now) (O.meaning out.old) (O.meaning out.new) result }
+{
+    match request {
+        Request::Trace(wish) => trace(alloc, wish, contents, out),
+        Request::Play(wish) => play(alloc, wish, contents, out),
+        Request::Debug(wish) => debug(alloc, wish, contents, out),
+        Request::Demo(wish) => demo(alloc, wish, out),
+        Request::Asm(_) => asm(alloc, contents[0].as_slice(), out),
+        Request::List(_) => list(alloc, contents[0].as_slice(), out),
+        Request::Dis(wish) => dis(alloc, wish, contents[0].as_slice(), out),
+        Request::Bounds => bounds(out),
+    }
+}
