@@ -1,21 +1,24 @@
 -- The run of a game is a run of CHIP-8, by the law of every run of the interpreter's ROM.
-use Rattle.std.proofs.Common.{◌≡◌, ℕ, suc, ◌+◌, ◌<◌, ◌≤◌, List, [], ◌∷◌, ◌++◌, filter, length, Some, Result, Ok, Err, IsSomeAnd, slice_get, slice_index, refl, sym, ap, subst, ◌∙◌, add-one, arith}
+use Rattle.std.proofs.Common.{◌≡◌, ℕ, suc, ◌+◌, ◌<◌, ◌≤◌, List, [], ◌∷◌, ◌++◌, filter, length, Option, Some, None, Result, Ok, Err, IsSomeAnd, slice_get, slice_index, refl, sym, ap, subst, ◌∙◌, add-one, arith}
 use Rattle.machine.specs.Board.{Machine}
 use Rattle.machine.specs.Keys.{Event as KeyEvent}
+use Rattle.chip8_lang.specs.declared.instr.Instr.{Instr}
+use Rattle.chip8_lang.specs.declared.instr.Instr.TheVariants.{WaitKey}
 use Rattle.chip8_lang.specs.declared.view.Edition.TheVariants.{Usual}
 use Rattle.chip8_lang.specs.declared.view.Stop.{Stop}
 use Rattle.chip8_lang.specs.declared.view.Stop.TheVariants.{MachineCall, Unknown, FetchOutside, ReadOutside, WriteOutside, StackFull, StackEmpty}
-use Rattle.chip8_lang.specs.Bounds.{boot_bound, bound_of}
+use Rattle.chip8_lang.specs.Bounds.{boot_bound, bound_by, bound_of}
 use Rattle.chip8_lang.specs.Events.{Event}
 use Rattle.chip8_lang.specs.Events.Event.{Picture, Dispatch, Stopped}
-use Rattle.chip8_lang.specs.State.{Lang, first}
-use Rattle.chip8_lang.specs.Step.{number_of}
+use Rattle.chip8_lang.specs.State.{Lang, first, instr_at}
+use Rattle.chip8_lang.specs.Step.{number_of, stop_of}
 use Rattle.chip8_lang.specs.View.{opcode_at, view_at}
+use Rattle.rom_law.specs.Keys.{KeyRun, Pressed, WaitsForKey}
 use Rattle.rom_law.specs.Pictures.{ShowsBehind, ShowsAll, PictureRun}
 use Rattle.rom_law.specs.Program.{Dispatches, Halts}
 use Rattle.rom_law.specs.Runs.{LanguageRun, IsFirst, IsNext, IsStep, IsStop, is_point, cycle_of}
 use Rattle.chip8_rows.specs.Rom.{vip}
-use Rattle.rom_run.specs.Laws.{EveryRun, EveryPicture}
+use Rattle.rom_run.specs.Laws.{EveryRun, EveryKeyWait, EveryPicture, key_cycles}
 use Rattle.vip_relation.specs.State.{started}
 use Rattle.vip_relation.specs.Stops.{stop_at, stop_numbered}
 use Rattle.vip_show.specs.Endings.{ending_after, ending_of}
@@ -28,7 +31,7 @@ use Rattle.vip_outside.specs.Files.{FilesMeaning}
 use Rattle.vip_words.specs.Asked.{Asked, trace, play, debug, demo, asm, list, dis, bounds}
 use Rattle.vip_verbs.specs.Demo.{demo_game}
 use Rattle.vip_verbs.specs.Files.{needed, most_game, HasAll}
-use Rattle.vip_cli.specs.Language.{state_at, StandsFor, HaltedWith, Steps, Stops, GoesOn, Goes, next_point, ComesBy, IsChip8, RunIsChip8, DebugsChip8, ShowsChip8}
+use Rattle.vip_cli.specs.Language.{state_at, StandsFor, HaltedWith, Steps, Stops, GoesOn, Goes, next_point, IsChip8, RunIsChip8, DebugsChip8, ShowsChip8}
 use Rattle.vip_verbs.specs.Outcome.{Outcome, Comes, RunComes, DebugComes, run_of, events_in, run_ending, debug_ending}
 use Rattle.vip_verbs.specs.Outcome.Outcome.{Refused, Shown}
 use Rattle.vip_verbs.specs.Outcome.RunComes.{FaultyScript, FaultyRom, Runs}
@@ -104,40 +107,59 @@ goes states game script (Stopped b ∷ events) here next shown = here (Stopped b
 
 -- ---- when the next point comes
 
-comes_by : (events : List Event) (p : Event) → slice_get (filter is_point events) 0 ≡ Some p → (t : ℕ) → cycle_of p ≤ t → IsSomeAnd (next_point events) (λ c. c.cycle ≤ t)
-comes_by [] p is t low = absurd (cc)
-comes_by (Picture m ∷ events) p is t low = comes_by events p is t low
-comes_by (Dispatch b ∷ events) p is t low = let same : Dispatch b ≡ p = cc in subst (λ q. cycle_of q ≤ t) (sym same) low
-comes_by (Stopped b ∷ events) p is t low = let same : Stopped b ≡ p = cc in subst (λ q. cycle_of q ≤ t) (sym same) low
+module _ (Soon : ℕ → Type 0) where
+  comes_soon : (events : List Event) (p : Event) → slice_get (filter is_point events) 0 ≡ Some p → Soon (cycle_of p) → IsSomeAnd (next_point events) (λ c. Soon c.cycle)
+  comes_soon [] p is soon = absurd (cc)
+  comes_soon (Picture m ∷ events) p is soon = comes_soon events p is soon
+  comes_soon (Dispatch b ∷ events) p is soon = let same : Dispatch b ≡ p = cc in subst (λ q. Soon (cycle_of q)) (sym same) soon
+  comes_soon (Stopped b ∷ events) p is soon = let same : Stopped b ≡ p = cc in subst (λ q. Soon (cycle_of q)) (sym same) soon
 
--- behind each dispatch point the next point comes within the bound of the state there
-abbrev AllTimely : ℕ → List Event → Type 0
-AllTimely limit points =
-    (k : ℕ) (b : Machine) (bound : ℕ) → slice_get points k ≡ Some (Dispatch b) → bound_of Usual (state_at b) ≡ Some bound → b.cycle + bound ≤ limit
-    → (p : Event) × (slice_get points (suc k) ≡ Some p) × (cycle_of p ≤ b.cycle + bound)
+  -- behind this dispatch point among these points the next one comes so
+  NextComes : Machine → List Event → Type 0
+  NextComes b points = (k : ℕ) → slice_get points k ≡ Some (Dispatch b) → (p : Event) × (slice_get points (suc k) ≡ Some p) × Soon (cycle_of p)
 
-timely : (limit : ℕ) (before after : List Event) (b : Machine) (bound : ℕ) → AllTimely limit (filter is_point (before ++ Dispatch b ∷ after)) → bound_of Usual (state_at b) ≡ Some bound → ComesBy limit (b.cycle + bound) after
-timely limit [] after b bound all is room = let found = all 0 b bound refl is room in comes_by after found.0 found.1 (b.cycle + bound) found.2
-timely limit (Picture m ∷ before) after b bound all is room = timely limit before after b bound all is room
-timely limit (Dispatch c ∷ before) after b bound all is room = timely limit before after b bound (λ k. all (suc k)) is room
-timely limit (Stopped c ∷ before) after b bound all is room = timely limit before after b bound (λ k. all (suc k)) is room
+  comes_behind : (before after : List Event) (b : Machine) → NextComes b (filter is_point (before ++ Dispatch b ∷ after)) → IsSomeAnd (next_point after) (λ c. Soon c.cycle)
+  unfolding NextComes
+  comes_behind [] after b next = let found = next 0 refl in comes_soon after found.0 found.1 found.2
+  comes_behind (Picture m ∷ before) after b next = comes_behind before after b next
+  comes_behind (Dispatch c ∷ before) after b next = comes_behind before after b (λ k. next (suc k))
+  comes_behind (Stopped c ∷ before) after b next = comes_behind before after b (λ k. next (suc k))
+
+-- FX0A alone has no bound
+waits_by : (stop : Option Stop) (i : Instr) → bound_by stop i ≡ None → (stop ≡ None) × (register : ℕ) × (i ≡ WaitKey register)
+waits_by (Some stop) i none = cc
+waits_by None (WaitKey register) none = (refl, register, refl)
+waits_by None _ none = cc
+
+waits : (s : Lang) → bound_of Usual s ≡ None → WaitsForKey (vip Usual) s
+waits s none = let is = waits_by (stop_of Usual s) (instr_at s) none in record { runs = is.0; register = is.1; is = is.2 }
 
 -- ---- a run
 
-module _ (game : List ℕ) (script : List KeyEvent) (limit : ℕ) (run : LanguageRun (vip Usual) game script limit) (pictures : PictureRun (vip Usual) game script limit) where
-  all_timely : AllTimely limit (filter is_point (events_in game script limit))
-  all_timely k b bound at is room = let found = run.bound k b bound at is room in (found.0, rw add-one at found.1, found.2)
+module _ (game : List ℕ) (script : List KeyEvent) (limit : ℕ) (run : LanguageRun (vip Usual) game script limit) (keys : KeyRun (vip Usual) key_cycles game script limit) (pictures : PictureRun (vip Usual) game script limit) where
+  in_bound : (b : Machine) (bound : ℕ) → bound_of Usual (state_at b) ≡ Some bound → b.cycle + bound ≤ limit → NextComes (λ t. t ≤ b.cycle + bound) b (filter is_point (events_in game script limit))
+  unfolding NextComes
+  in_bound b bound is room k at = let found = run.bound k b bound at is room in (found.0, rw add-one at found.1, found.2)
+
+  in_press : (b : Machine) (u w : ℕ) → bound_of Usual (state_at b) ≡ None → b.cycle ≤ u → Pressed script key_cycles u w → w + key_cycles ≤ limit → NextComes (λ t. t < w + key_cycles) b (filter is_point (events_in game script limit))
+  unfolding NextComes
+  in_press b u w none from pressed room k at = let found = keys k b u w at (waits (state_at b) none) from pressed room in (Dispatch found.0, rw add-one at found.1, found.2)
+
+  -- among these events
+  among : (Soon : ℕ → Type 0) (before after : List Event) (b : Machine) → events_in game script limit ≡ before ++ Dispatch b ∷ after → NextComes Soon b (filter is_point (events_in game script limit)) → IsSomeAnd (next_point after) (λ c. Soon c.cycle)
+  among Soon before after b at next = comes_behind Soon before after b (subst (λ events. NextComes Soon b (filter is_point events)) at next)
 
   by_law : IsChip8 game script limit (ending_of Usual (events_in game script limit))
   by_law = record {
     goes = goes (run_of game script limit) game script (events_in game script limit) run.first (λ k b p at then. run.next k b p at (rw add-one then)) pictures;
-    boot = λ room. let found = run.boot room in comes_by (events_in game script limit) found.0 found.1 boot_bound found.2;
-    bound = λ before after b bound at is. timely limit before after b bound (subst (λ events. AllTimely limit (filter is_point events)) at all_timely) is;
+    boot = λ room. let found = run.boot room in comes_soon (λ t. t ≤ boot_bound) (events_in game script limit) found.0 found.1 found.2;
+    bound = λ before after b bound at is room. among (λ t. t ≤ b.cycle + bound) before after b at (in_bound b bound is room);
+    keys = λ before after b u w at none from pressed room. among (λ t. t < w + key_cycles) before after b at (in_press b u w none from pressed room);
   }
 
-module _ (law : EveryRun) (pictures : EveryPicture) where
+module _ (law : EveryRun) (keys : EveryKeyWait) (pictures : EveryPicture) where
   is_chip8 : (game : List ℕ) (script : List KeyEvent) (limit : ℕ) → length game ≤ most_game → ((i : ℕ) → slice_index game i < 256) → IsChip8 game script limit (ending_of Usual (events_in game script limit))
-  is_chip8 game script limit fits bytes = by_law game script limit (law Usual game fits bytes script limit) (pictures Usual game fits bytes script limit)
+  is_chip8 game script limit fits bytes = by_law game script limit (law Usual game fits bytes script limit) (keys Usual game fits bytes script limit) (pictures Usual game fits bytes script limit)
 
   -- ---- a command
 

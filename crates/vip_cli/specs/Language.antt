@@ -1,5 +1,5 @@
 -- What the run of a game says of the language: it is a run of CHIP-8, each picture is its screen, and a stop names its instruction.
-use Rattle.std.specs.Prelude.{◌≡◌, ℕ, ◌+◌, ◌≤◌, ◌⊎◌, List, [], ◌∷◌, ◌++◌, Option, Some, None, IsSomeAnd, Ok}
+use Rattle.std.specs.Prelude.{◌≡◌, ℕ, ◌+◌, ◌<◌, ◌≤◌, ◌⊎◌, List, [], ◌∷◌, ◌++◌, Option, Some, None, IsSomeAnd, Ok}
 use Rattle.machine.specs.Board.{Machine}
 use Rattle.machine.specs.Keys.{Event as KeyEvent}
 use Rattle.machine.specs.Pictures.{picture_of}
@@ -14,7 +14,9 @@ use Rattle.chip8_lang.specs.Places.{state_of, Stands, Halted}
 use Rattle.chip8_lang.specs.Events.{Event}
 use Rattle.chip8_lang.specs.Events.Event.{Picture, Dispatch, Stopped}
 use Rattle.chip8_lang.specs.View.{opcode_at}
+use Rattle.rom_law.specs.Keys.{Pressed}
 use Rattle.rom_law.specs.Pictures.{ShowsScreen}
+use Rattle.rom_run.specs.Laws.{key_cycles}
 use Rattle.vip_relation.specs.Interpreters.{interpreter_of}
 use Rattle.vip_show.specs.Endings.{Ending}
 use Rattle.vip_show.specs.Endings.Ending.{AtLimit, AtStop}
@@ -87,11 +89,13 @@ abbrev pub ComesBy : ℕ → ℕ → List Event → Type 0
 ComesBy limit cycle events = cycle ≤ limit → IsSomeAnd (next_point events) (λ c. c.cycle ≤ cycle)
 
 -- The run of a game under a script up to a limit is a run of CHIP-8 with this ending. Its first dispatch point comes within the bound of
--- boot, and each next point within the bound of the state before it, where that has one: a wait for a key has none.
+-- boot, and each next point within the bound of the state before it, where that has one. A wait for a key has none: there the next point comes
+-- before the end of a frame's cycles in which all keys are up, behind as many in which a key is down.
 pub record IsChip8 (game : List ℕ) (script : List KeyEvent) (limit : ℕ) (ending : Ending) : Type 0 where
   pub goes : Goes (run_of game script limit) game script (events_in game script limit) ending
   pub boot : ComesBy limit boot_bound (events_in game script limit)
   pub bound : (before after : List Event) (b : Machine) (bound : ℕ) → events_in game script limit ≡ before ++ Dispatch b ∷ after → bound_of Usual (state_at b) ≡ Some bound → ComesBy limit (b.cycle + bound) after
+  pub keys : (before after : List Event) (b : Machine) (u w : ℕ) → events_in game script limit ≡ before ++ Dispatch b ∷ after → bound_of Usual (state_at b) ≡ None → b.cycle ≤ u → Pressed script key_cycles u w → w + key_cycles ≤ limit → IsSomeAnd (next_point after) (λ c. c.cycle < w + key_cycles)
 
 -- ---- a command
 

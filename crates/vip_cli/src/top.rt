@@ -5,7 +5,7 @@ ghost use Rattle.vip_words.specs.Request.{asked_of};
 ghost use Rattle.vip_cli.specs.Words.{UnderstoodAnswers, WordsAnswer};
 ghost use Rattle.vip_cli.specs.Top.{call_of, Says, RefusesWords, GivesDue, Completes, SpeaksChip8};
 
-use rom_run::laws::{every_picture, every_run};
+use rom_run::laws::{every_key_wait, every_picture, every_run};
 use std::alloc::Global;
 use vip_outside::{Files, Sink};
 use vip_report::{Ended, Refusal, Status, put_end, put_refusal};
@@ -72,8 +72,8 @@ pub fn vip_main<F: Files, O: Sink, E: Sink>(
     // What each answer says: exact output for Done and Stopped, and each refusal's cause.
     ensures says { Says result (call_of (map string_bytes words.now) (F.meaning files.old) (F.meaning files.new) (O.meaning out.old) (O.meaning out.new) (E.meaning err.old) (E.meaning err.new)) }
 
-    // Where a game is run, that its run is one of CHIP-8, within the bounds, that each picture is the screen at the last dispatch point, and
-    // that a stop names its instruction.
+    // Where a game is run, that its run is one of CHIP-8, within the bounds, also at a wait for a key, that each picture is the screen at the
+    // last dispatch point, and that a stop names its instruction.
     ensures language { SpeaksChip8 (call_of (map string_bytes words.now) (F.meaning files.old) (F.meaning files.new) (O.meaning out.old) (O.meaning out.new) (E.meaning err.old) (E.meaning err.new)) }
 
     // When each answer is due, and that there is no other.
@@ -82,6 +82,7 @@ pub fn vip_main<F: Files, O: Sink, E: Sink>(
     ensures complete { Completes result (call_of (map string_bytes words.now) (F.meaning files.old) (F.meaning files.new) (O.meaning out.old) (O.meaning out.new) (E.meaning err.old) (E.meaning err.new)) }
 {
     every_run();
+    every_key_wait();
     every_picture();
     run_and_report(alloc, words, files, out, err)
 }
