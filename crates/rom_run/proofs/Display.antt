@@ -1,32 +1,26 @@
 -- The display: no interrupt comes while the screen is changed, and how long 00E0 and DXYN prepare their work and change the screen.
-use Rattle.std.proofs.Common.{◌≡◌, ℕ, ◌+◌, ◌/◌, ◌<◌, ◌≤◌, sym, ◌∙◌, ap, arith, true, List}
+use Rattle.std.proofs.Common.{◌≡◌, ℕ, ◌+◌, ◌<◌, ◌≤◌, ◌⊎◌, inl, inr, sym, ◌∙◌, arith, true, List}
 use Rattle.machine.specs.Board.{Machine}
 use Rattle.machine.specs.Keys.{Event}
 use Rattle.chip8_lang.specs.declared.view.Edition.{Edition}
 use Rattle.chip8_lang.specs.declared.view.Edition.TheVariants.{Usual, Tall}
 use Rattle.chip8_lang.specs.Editions.{variables, screen_start}
-use Rattle.rom_law.specs.Rows.{Since, Row, now}
-use Rattle.rom_law.specs.Rows.Row.{Inside, Alone}
-use Rattle.rom_law.proofs.Kept.{block_awake}
+use Rattle.rom_law.specs.Rows.{Since, Row}
 use Rattle.chip8_rows.specs.Rom.{vip}
-use Rattle.chip8_rows.specs.SpriteBlocks.SpritePlace.{ClearWait, ClearIdle, DrawWait, DrawIdle}
-use Rattle.chip8_rows.specs.Table.{pieces}
-use Rattle.chip8_rows.specs.Table.Place.{AtTimer, AtKey, AtSprite}
+use Rattle.chip8_rows.specs.Table.{calm_pieces}
 use Rattle.rom_frame.specs.Frame.{place, interrupt_place}
 use Rattle.rom_frame.specs.Routine.{routine_cycles}
 use Rattle.rom_run.specs.Laws.{Undisturbed, WaitsSoon, ChangesSoon, Display}
-use Rattle.rom_run.specs.Running.{Due, Outside, Running, Serving, Showing, Woken, since_return, most_changing}
+use Rattle.rom_run.specs.Running.{Due, Outside, Running, Serving, Showing, Timed, Woken, since_return, most_changing}
 use Rattle.rom_run.specs.Running.Due.{Arrives, Ends}
 use Rattle.rom_run.specs.Running.Timed.{Before, Waiting, Behind}
 use Rattle.rom_run.specs.Running.Outside.{AtRow, AtEvent}
 use Rattle.rom_run.specs.Running.Running.{InMain, InRoutine}
-use Rattle.rom_run.specs.Running.WaitsBy.{ToClear, ToDraw}
 use Rattle.rom_run.proofs.Calm.{calm_shows}
-use Rattle.rom_run.proofs.Proved.{proved}
 use Rattle.rom_run.proofs.Room.{row_room}
 use Rattle.rom_run.proofs.Served.{main_there, served_disabled}
-use Rattle.rom_run.proofs.Waits.{sleeps, timer_awake, key_awake}
-use Rattle.rom_run.proofs.Woken.{high_then, woken_apart, woken_few}
+use Rattle.rom_run.proofs.Waits.{sleeps}
+use Rattle.rom_run.proofs.Woken.{row_waits, woken_apart, woken_few}
 
 screen_above : (e : Edition) → variables e < screen_start e
 screen_above Usual = omega arith
@@ -35,11 +29,26 @@ screen_above Tall = omega arith
 module _ (e : Edition) (script : List Event) where
   -- ---- the screen, at an interrupt and elsewhere
 
+  -- it is that of the last dispatch point, or main code is behind a wait
+  outside_where : (b : Machine) (h : Since) → Outside e script b h → Showing e b h ⊎ Woken e b h
+  outside_where b h (AtRow t row n time) = go time
+    where
+      calm : Row (vip e) (calm_pieces (vip e)) b h → Showing e b h
+      calm r = calm_shows e b h t.fits (omega (arith, (row_room e b h row).high, screen_above e)) r
+
+      go : Timed e b h → Showing e b h ⊎ Woken e b h
+      go (Before s r) = inl (calm r)
+      go (Waiting k s l i r) = inl (calm r)
+      go (Behind k s l r w) = inr w
+  outside_where b h (AtEvent t q d late y) = inl y
+
+  -- no interrupt comes behind one
   pub outside_shows : (b : Machine) (h : Since) → Outside e script b h → place b.cycle ≡ interrupt_place → Showing e b h
-  outside_shows b h (AtRow t row n (Before s r)) p = calm_shows e b h t.fits (omega (arith, (row_room e b h row).high, screen_above e)) r
-  outside_shows b h (AtRow t row n (Waiting k s l i r)) p = calm_shows e b h t.fits (omega (arith, (row_room e b h row).high, screen_above e)) r
-  outside_shows b h (AtRow t row n (Behind k s l r w)) p = absurd (woken_apart e b h 0 (omega arith) w (omega (arith, p)))
-  outside_shows b h (AtEvent t q d late y) p = y
+  outside_shows b h o p = go (outside_where b h o)
+    where
+      go : Showing e b h ⊎ Woken e b h → Showing e b h
+      go (inl shows) = shows
+      go (inr w) = absurd (woken_apart e b h 0 (omega arith) w (omega (arith, p)))
 
   -- behind a wait the routine returned in the cycle `woke`
   woken_since : (b : Machine) (h : Since) (w : Woken e b h) → since_return b.cycle ≤ most_changing
@@ -49,28 +58,20 @@ module _ (e : Edition) (script : List Event) where
       since cycle base woke late r s l m = omega (arith, r, s, l, m)
 
   outside_changes : (b : Machine) (h : Since) → Outside e script b h → ¬ Showing e b h → Display h (λ most. since_return b.cycle ≤ most_changing)
-  outside_changes b h (AtRow t row n (Before s r)) c = absurd (c (calm_shows e b h t.fits (omega (arith, (row_room e b h row).high, screen_above e)) r))
-  outside_changes b h (AtRow t row n (Waiting k s l i r)) c = absurd (c (calm_shows e b h t.fits (omega (arith, (row_room e b h row).high, screen_above e)) r))
-  outside_changes b h (AtRow t row n (Behind k s l r w)) c = record { most = w.base; waits = w.waits; here = woken_since b h w }
-  outside_changes b h (AtEvent t q d late y) c = absurd (c y)
+  outside_changes b h o other = go (outside_where b h o)
+    where
+      go : Showing e b h ⊎ Woken e b h → Display h (λ most. since_return b.cycle ≤ most_changing)
+      go (inl shows) = absurd (other shows)
+      go (inr w) = record { most = w.base; waits = w.waits; here = woken_since b h w }
 
   -- ---- a wait
-
-  row_soon : (b : Machine) (h : Since) → b.regs.idle ≡ true → Row (vip e) (pieces (vip e)) b h → Display h (λ most. h.spent ≤ most)
-  row_soon b h i (Inside l r) = absurd (sleeps (sym i ∙ block_awake (vip e) (pieces (vip e)) (proved e) r))
-  row_soon b h i (Alone (AtTimer l) o) = absurd (sleeps (sym i ∙ timer_awake (vip e) b (now h) l o.0))
-  row_soon b h i (Alone (AtKey l) o) = absurd (sleeps (sym i ∙ key_awake (vip e) b (now h) l h.keys o.0))
-  row_soon b h i (Alone (AtSprite ClearWait) o) = absurd (sleeps (sym i ∙ o.0.holds.awake))
-  row_soon b h i (Alone (AtSprite ClearIdle) o) = record { most = 102; waits = ToClear (sym (high_then h) ∙ o.0.0.clears.0); here = o.1 }
-  row_soon b h i (Alone (AtSprite DrawWait) o) = absurd (sleeps (sym i ∙ o.0.holds.awake))
-  row_soon b h i (Alone (AtSprite DrawIdle) o) = record { most = 2154; waits = ToDraw (ap (λ y. y / 16) (sym (high_then h)) ∙ o.0.0.draws.digit); here = o.1 }
 
   due_awake : (b : Machine) (h : Since) → b.regs.idle ≡ true → Due e b h → ⊥
   due_awake b h i (Arrives s st) = sleeps (sym i ∙ st.stands.keeps.lies.awake)
   due_awake b h i (Ends stop st) = sleeps (sym i ∙ st.halts.keeps.lies.awake)
 
   outside_soon : (b : Machine) (h : Since) → b.regs.idle ≡ true → Outside e script b h → Display h (λ most. h.spent ≤ most)
-  outside_soon b h i (AtRow t row n time) = row_soon b h i row
+  outside_soon b h i (AtRow t row n time) = let w = row_waits e b h i row in record { most = w.base; waits = w.waits; here = w.soon }
   outside_soon b h i (AtEvent t q d late y) = absurd (due_awake b h i d)
 
   -- ---- in the interrupt routine interrupts are disabled

@@ -31,13 +31,14 @@ use Rattle.rom_run.proofs.Waits.{sleeps, timer_awake, key_awake}
 
 -- ---- where main code waits
 
--- it is in a row too if the wait came after the most main cycles
+-- after at most so many main cycles; it is in a row too if the wait came after all of them
 pub record Waits (e : Edition) (b : Machine) (h : Since) : Type 0 where
   pub base : ℕ
   pub waits : WaitsBy h.state base
+  pub soon : h.spent ≤ base
   pub row : Row (vip e) (pieces (vip e)) b (record h { spent = base })
 
-pub high_then : (h : Since) → high_byte (now h) ≡ high_byte h.state
+high_then : (h : Since) → high_byte (now h) ≡ high_byte h.state
 high_then h = ticks_high h.ticks h.state
 
 pub row_waits : (e : Edition) (b : Machine) (h : Since) → b.regs.idle ≡ true → Row (vip e) (pieces (vip e)) b h → Waits e b h
@@ -45,9 +46,9 @@ row_waits e b h i (Inside l r) = absurd (sleeps (sym i ∙ block_awake (vip e) (
 row_waits e b h i (Alone (AtTimer l) o) = absurd (sleeps (sym i ∙ timer_awake (vip e) b (now h) l o.0))
 row_waits e b h i (Alone (AtKey l) o) = absurd (sleeps (sym i ∙ key_awake (vip e) b (now h) l h.keys o.0))
 row_waits e b h i (Alone (AtSprite ClearWait) o) = absurd (sleeps (sym i ∙ o.0.holds.awake))
-row_waits e b h i (Alone (AtSprite ClearIdle) o) = record { base = 102; waits = ToClear (sym (high_then h) ∙ o.0.0.clears.0); row = Alone (AtSprite ClearIdle) (o.0, omega arith) }
+row_waits e b h i (Alone (AtSprite ClearIdle) o) = record { base = 102; waits = ToClear (sym (high_then h) ∙ o.0.0.clears.0); soon = o.1; row = Alone (AtSprite ClearIdle) (o.0, omega arith) }
 row_waits e b h i (Alone (AtSprite DrawWait) o) = absurd (sleeps (sym i ∙ o.0.holds.awake))
-row_waits e b h i (Alone (AtSprite DrawIdle) o) = record { base = 2154; waits = ToDraw (ap (λ y. y / 16) (sym (high_then h)) ∙ o.0.0.draws.digit); row = Alone (AtSprite DrawIdle) (o.0, omega arith) }
+row_waits e b h i (Alone (AtSprite DrawIdle) o) = record { base = 2154; waits = ToDraw (ap (λ y. y / 16) (sym (high_then h)) ∙ o.0.0.draws.digit); soon = o.1; row = Alone (AtSprite DrawIdle) (o.0, omega arith) }
 
 -- ---- behind the wait
 
