@@ -1,43 +1,35 @@
-//! The program `vip`: from the words of its command line to its output, its report and its status.
-//!
-//! ```text
-//!     words ──▶ vip_words ──▶ vip_verbs: files, work ──▶ out
-//!                   │              │
-//!                   └──────────────┴──▶ vip_report ──▶ err, status
-//! ```
-//!
-//! `vip_main` is the one call that the process makes; its contract says what goes to `out` and `err` for every answer, byte by byte and
-//! put by put, and what that says of CHIP-8, by the laws of the ROM's runs in `rom_run`. The crate stands on every layer below through
-//! their contracts alone. Reports and statuses are this project's; a picture is a file of Netpbm's PBM, form P4.
+//! The program `vip`: it makes the one call of `vip_call` on the words of its command line, the files of the file system, and its standard
+//! output and standard error, and ends with the status that the call answers.
 #![tactic(auto)]
 
 #[cfg(test)]
 mod tests;
-mod top;
 
-use std::alloc::Global;
+ghost use Rattle.std.specs.Prelude.{◌≡◌, ◌⊎◌, IfOk, IfErr, drop};
+ghost use Rattle.std.specs.Vec.Iter.{into_iter_items};
+ghost use Rattle.vip_report.specs.declared.refusal.Refusal.TheVariants as Refusal;
+
+use std::alloc::{AllocError, Global};
 use std::env;
 use std::io::ErrorKind;
 use std::process::ExitCode;
-use top::vip_main;
+use vip_call::vip_main;
 use vip_outside::{RealFiles, StdSink};
 use vip_report::{Refusal, Status, put_refusal};
 
 /// The words after the program's name.
-fn words_after_name(alloc: Global, args: env::Args) -> Result<Vec<String>, Refusal<'static>> {
-    let mut words = Vec::new(alloc);
-    for word in args.skip(1) {
-        if words.push(word).is_err() {
-            return Err(Refusal::NoMemory);
-        }
-    }
-    Ok(words)
+fn words_after_name(alloc: Global, args: env::Args) -> Result<Vec<String>, AllocError>
+    ensures { IfOk result (λ words. words.items ≡ drop 1 (into_iter_items args)) }
+{
+    args.skip(1).collect(alloc)
 }
 
 /// The words of the command line. One that isn't UTF-8 is a faulty command line.
-fn words_of(rt: &HostRuntime) -> Result<Vec<String>, Refusal<'static>> {
+fn words_of(rt: &HostRuntime) -> Result<Vec<String>, Refusal<'static>>
+    ensures { IfErr result (λ refusal. (refusal ≡ Refusal.Usage) ⊎ (refusal ≡ Refusal.NoMemory)) }
+{
     match env::args(rt) {
-        Ok(args) => words_after_name(rt.alloc(), args),
+        Ok(args) => Ok(words_after_name(rt.alloc(), args)?),
         Err(e) if e.kind() == ErrorKind::OutOfMemory => Err(Refusal::NoMemory),
         Err(_) => Err(Refusal::Usage),
     }

@@ -1,10 +1,10 @@
 //! The program from its words and files to its output, its report and its status. What is expected was worked out by hand from the rules
 //! of the language, the board, the assembler and the texts.
 
-use crate::top::vip_main;
 use std::alloc::Global;
 use std::test::Fail;
 use vip_byte::{read_decimal, read_hex};
+use vip_call::vip_main;
 use vip_outside::{MemFiles, MemSink};
 use vip_report::Status;
 use vip_verbs::demo_game;

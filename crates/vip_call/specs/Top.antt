@@ -9,7 +9,7 @@ use Rattle.vip_report.specs.declared.refusal.Kind.{Kind}
 use Rattle.vip_report.specs.declared.status.Status.{Status}
 use Rattle.vip_report.specs.declared.status.Status.TheVariants.{Done, Stopped, Usage, ReadFault, GameTooLarge, ScriptTooLarge, BadScript, BadSource, BadRomSource, RomDiffers, WriteFault, NoMemory, BadCommand, SourceTooLarge, CommandsTooLarge}
 use Rattle.vip_verbs.specs.Files.{Needed, needed, HasAll, ComesTo, IsLarger, IsUnread}
-use Rattle.vip_cli.specs.Language.{ShowsChip8}
+use Rattle.vip_call.specs.Language.{ShowsChip8}
 use Rattle.vip_verbs.specs.Outcome.{Comes}
 use Rattle.vip_verbs.specs.Outcome.Outcome.{Refused, Shown}
 use Rattle.vip_report.specs.Refusal.{too_large_status}

@@ -22,7 +22,7 @@ use Rattle.vip_outside.specs.declared.sink.Failed.{Failed}
 use Rattle.vip_show.specs.Endings.{Ending}
 use Rattle.vip_words.specs.Asked.{Asked, trace, play, debug, demo, asm, list, dis, bounds, asked_by}
 use Rattle.vip_verbs.specs.Work.{Rejected}
-use Rattle.vip_cli.specs.Words.{OfWords, WordsAnswer}
+use Rattle.vip_call.specs.Words.{OfWords, WordsAnswer}
 use Rattle.vip_verbs.specs.Files.{Needed, needed, HasAll, ComesTo, IsLarger}
 use Rattle.vip_verbs.specs.Outcome.{Outcome, Comes, RunComes, DebugComes, SourceComes, RomIs, IsFault}
 use Rattle.vip_verbs.specs.Outcome.Outcome.{Refused, Shown}
@@ -30,7 +30,7 @@ use Rattle.vip_verbs.specs.Outcome.RunComes.{FaultyScript, FaultyRom, Runs}
 use Rattle.vip_verbs.specs.Outcome.SourceComes.{FaultySource, Assembles}
 use Rattle.vip_report.specs.Refusal.{image_status, status_of, too_large_status}
 use Rattle.vip_report.specs.Report.{cannot_read, report_of, too_large_report}
-use Rattle.vip_cli.specs.Top.{Call, call_of, Asks, Oversize, Rejects, Shows, Faulty, Says, IsQuiet, Reading, Lacks, Larger, Whole, with_content, reading, Due, Lacking, TooLarge, Refusing, Showing, RefusesWords, Offers, GivesDue, AreRefused, Completes}
+use Rattle.vip_call.specs.Top.{Call, call_of, Asks, Oversize, Rejects, Shows, Faulty, Says, IsQuiet, Reading, Lacks, Larger, Whole, with_content, reading, Due, Lacking, TooLarge, Refusing, Showing, RefusesWords, Offers, GivesDue, AreRefused, Completes}
 use Rattle.vip_report.specs.declared.refusal.Kind.{Kind}
 use Rattle.vip_report.specs.declared.refusal.Kind.TheVariants as kind
 use Rattle.vip_report.specs.declared.refusal.Refusal.{Refusal}

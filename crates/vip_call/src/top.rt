@@ -2,8 +2,8 @@
 
 ghost use Rattle.std.specs.Prelude.{◌≡◌, map, string_bytes};
 ghost use Rattle.vip_words.specs.Request.{asked_of};
-ghost use Rattle.vip_cli.specs.Words.{UnderstoodAnswers, WordsAnswer};
-ghost use Rattle.vip_cli.specs.Top.{call_of, Says, RefusesWords, GivesDue, Completes, SpeaksChip8};
+ghost use Rattle.vip_call.specs.Words.{UnderstoodAnswers, WordsAnswer};
+ghost use Rattle.vip_call.specs.Top.{call_of, Says, RefusesWords, GivesDue, Completes, SpeaksChip8};
 
 use rom_run::laws::{every_key_wait, every_picture, every_run};
 use std::alloc::Global;

@@ -31,13 +31,13 @@ use Rattle.vip_outside.specs.Files.{FilesMeaning}
 use Rattle.vip_words.specs.Asked.{Asked, trace, play, debug, demo, asm, list, dis, bounds}
 use Rattle.vip_verbs.specs.Demo.{demo_game}
 use Rattle.vip_verbs.specs.Files.{needed, most_game, HasAll}
-use Rattle.vip_cli.specs.Language.{state_at, StandsFor, HaltedWith, Steps, Stops, GoesOn, Goes, next_point, IsChip8, RunIsChip8, DebugsChip8, ShowsChip8}
+use Rattle.vip_call.specs.Language.{state_at, StandsFor, HaltedWith, Steps, Stops, GoesOn, Goes, next_point, IsChip8, RunIsChip8, DebugsChip8, ShowsChip8}
 use Rattle.vip_verbs.specs.Outcome.{Outcome, Comes, RunComes, DebugComes, run_of, events_in, run_ending, debug_ending}
 use Rattle.vip_verbs.specs.Outcome.Outcome.{Refused, Shown}
 use Rattle.vip_verbs.specs.Outcome.RunComes.{FaultyScript, FaultyRom, Runs}
-use Rattle.vip_cli.specs.Top.{Call, SpeaksChip8}
+use Rattle.vip_call.specs.Top.{Call, SpeaksChip8}
 use Rattle.vip_report.specs.declared.status.Status.{Status}
-use Rattle.vip_cli.proofs.DebugLemmas.{debug_ends}
+use Rattle.vip_call.proofs.DebugLemmas.{debug_ends}
 use Rattle.vip_verbs.proofs.DemoLemmas.{length-game, bytes-game}
 
 stop_numbered-number_of : (stop : Stop) → stop_numbered (number_of stop) ≡ stop
