@@ -7,7 +7,7 @@ use Rattle.std.proofs.lemmas.Bool.Decides.{nat_tests}
 use Rattle.std.proofs.lemmas.List.Folds.{find_at}
 use Rattle.machine.specs.Board.{Machine, start}
 use Rattle.machine.specs.Keys.{Event as KeyEvent, held_at}
-use Rattle.chip8_lang.specs.declared.view.Edition.TheVariants.{Usual}
+use Rattle.chip8_lang.specs.declared.view.Edition.{Edition}
 use Rattle.chip8_lang.specs.Events.{Event, is_dispatch, is_stop}
 use Rattle.chip8_lang.specs.Events.Event.{Picture, Stopped}
 use Rattle.chip8_lang.specs.Places.{Interpreter}
@@ -32,188 +32,193 @@ use Rattle.vip_debug.specs.declared.command.Running.TheVariants.{Step, To, Next,
 use Rattle.vip_debug.proofs.Places.{Reached, reached, reached-next, some-here, all-moves}
 use Rattle.vip_verbs.specs.Outcome.{run_ending, stopped_by, debug_ending}
 
--- ---- the ending by some events
+-- ---- the last dispatch point among some events
 
--- behind a last dispatch point: the ending by these events, and by the stop b
-abbrev ending_behind : Option Machine → List Event → Ending
-ending_behind last es = ending_after Usual (pc_of (option_map (view_at Usual) last)) (opcode_of (option_map (view_at Usual) last)) es
-
-abbrev stop_behind : Option Machine → Machine → Ending
-stop_behind last b = AtStop (stop_at b) (pc_of (option_map (view_at Usual) last)) (opcode_of (option_map (view_at Usual) last))
-
--- pictures don't matter to it, nor to the last dispatch point
-ending_on : (last : Option Machine) (ms : List ℕ) (es : List Event) → ending_behind last (map Picture ms ++ es) ≡ ending_behind last es
-unfolding ending_after
-ending_on last [] es = refl
-ending_on last (m ∷ ms) es = ending_on last ms es
-
+-- pictures don't matter to it
 last_on : (seen : List Event) (ms : List ℕ) → last_dispatch (seen ++ map Picture ms) ≡ last_dispatch seen
 last_on seen [] = ap last_dispatch (append-nil seen)
 last_on seen (m ∷ ms) = ap last_dispatch (sym (append_assoc seen (Picture m ∷ []) (map Picture ms))) ∙ last_on (seen ++ Picture m ∷ []) ms ∙ last-kept seen (Picture m) refl
 
--- at a point that is no stop
-ending_point : (stop dispatch : Bool) (b : Machine) (seen es : List Event) → stop ≡ false
-    → ending_behind (last_dispatch seen) (point_events (if stop then StopPoint else if dispatch then DispatchPoint else OtherPoint) b ++ es)
-    ≡ ending_behind (last_dispatch (seen ++ point_events (if stop then StopPoint else if dispatch then DispatchPoint else OtherPoint) b)) es
-unfolding ending_after
-ending_point true dispatch b seen es runs = cc
-ending_point false true b seen es runs = ap (λ last. ending_behind last es) (sym (last-dispatched seen b))
-ending_point false false b seen es runs = ap (λ xs. ending_behind (last_dispatch xs) es) (sym (append-nil seen))
-
--- at a stop point
-ending_stop : (stop dispatch : Bool) (b : Machine) (last : Option Machine) → stop ≡ true
-    → ending_behind last (point_events (if stop then StopPoint else if dispatch then DispatchPoint else OtherPoint) b) ≡ stop_behind last b
-unfolding ending_after
-ending_stop true dispatch b last stops = refl
-ending_stop false dispatch b last stops = cc
-
+-- nor does a stop point
 last_stop : (stop dispatch : Bool) (b : Machine) (seen : List Event) → stop ≡ true
     → last_dispatch (seen ++ point_events (if stop then StopPoint else if dispatch then DispatchPoint else OtherPoint) b) ≡ last_dispatch seen
 last_stop true dispatch b seen stops = last-kept seen (Stopped b) refl
 last_stop false dispatch b seen stops = cc
 
-module _ (game : List ℕ) (script : List KeyEvent) where
-  abbrev i : Interpreter
-  i = interpreter_of Usual
+module _ (e : Edition) where
+  -- ---- the ending by some events
 
-  abbrev v : VipState
-  v = started Usual game script
+  -- behind a last dispatch point: the ending by these events, and by the stop b
+  abbrev ending_behind : Option Machine → List Event → Ending
+  ending_behind last es = ending_after e (pc_of (option_map (view_at e) last)) (opcode_of (option_map (view_at e) last)) es
 
-  abbrev at_state : ℕ → Machine
-  at_state n = state i game script n
+  abbrev stop_behind : Option Machine → Machine → Ending
+  stop_behind last b = AtStop (stop_at b) (pc_of (option_map (view_at e) last)) (opcode_of (option_map (view_at e) last))
 
-  abbrev past_of : ℕ → List Event
-  past_of n = past i game script n
+  -- pictures don't matter to it
+  ending_on : (last : Option Machine) (ms : List ℕ) (es : List Event) → ending_behind last (map Picture ms ++ es) ≡ ending_behind last es
+  unfolding ending_after
+  ending_on last [] es = refl
+  ending_on last (m ∷ ms) es = ending_on last ms es
 
-  abbrev pictures_of : ℕ → List Event
-  pictures_of n = pictures i game script n
+  -- at a point that is no stop
+  ending_point : (stop dispatch : Bool) (b : Machine) (seen es : List Event) → stop ≡ false
+      → ending_behind (last_dispatch seen) (point_events (if stop then StopPoint else if dispatch then DispatchPoint else OtherPoint) b ++ es)
+      ≡ ending_behind (last_dispatch (seen ++ point_events (if stop then StopPoint else if dispatch then DispatchPoint else OtherPoint) b)) es
+  unfolding ending_after
+  ending_point true dispatch b seen es runs = cc
+  ending_point false true b seen es runs = ap (λ last. ending_behind last es) (sym (last-dispatched seen b))
+  ending_point false false b seen es runs = ap (λ xs. ending_behind (last_dispatch xs) es) (sym (append-nil seen))
 
-  abbrev point_of_state : ℕ → List Event
-  point_of_state n = point i game script n
+  -- at a stop point
+  ending_stop : (stop dispatch : Bool) (b : Machine) (last : Option Machine) → stop ≡ true
+      → ending_behind last (point_events (if stop then StopPoint else if dispatch then DispatchPoint else OtherPoint) b) ≡ stop_behind last b
+  unfolding ending_after
+  ending_stop true dispatch b last stops = refl
+  ending_stop false dispatch b last stops = cc
 
-  regroup : (a b c d : List Event) → (a ++ b ++ c) ++ d ≡ a ++ (b ++ (c ++ d))
-  regroup a b c d = simp append_assoc
+  module _ (game : List ℕ) (script : List KeyEvent) where
+    abbrev i : Interpreter
+    i = interpreter_of e
 
-  -- by the events of the first states, of which none is a stop point, and others
-  ending_past : (n : ℕ) → Runs i game script n → (es : List Event) → ending_behind None (past_of n ++ es) ≡ ending_behind (last_dispatch (past_of n)) es
-  unfolding past
-  ending_past zero runs es = refl
-  ending_past (suc n) runs es =
-      ap (ending_behind None) (regroup (past_of n) (pictures_of n) (point_of_state n) es)
-      ∙ ending_past n (λ k l. runs k (omega (arith, l))) (pictures_of n ++ (point_of_state n ++ es))
-      ∙ ending_on (last_dispatch (past_of n)) _ (point_of_state n ++ es)
-      ∙ ap (λ last. ending_behind last (point_of_state n ++ es)) (sym (last_on (past_of n) _))
-      ∙ ending_point (is_stop i (at_state n)) (is_dispatch i (at_state n)) (at_state n) (past_of n ++ pictures_of n) es (runs n (omega arith))
+    abbrev v : VipState
+    v = started e game script
 
-  -- by those up to the first stop point, which names the last dispatch point before it
-  ending_there : (n : ℕ) → Runs i game script n → is_stop i (at_state n) ≡ true → ending_behind None (past_of (suc n)) ≡ stop_behind (last_dispatch (past_of (suc n))) (at_state n)
-  unfolding past
-  ending_there n runs stop =
-      ap (ending_behind None) (append_assoc (past_of n) (pictures_of n) (point_of_state n))
-      ∙ ending_past n runs (pictures_of n ++ point_of_state n)
-      ∙ ending_on (last_dispatch (past_of n)) _ (point_of_state n)
-      ∙ ending_stop (is_stop i (at_state n)) (is_dispatch i (at_state n)) (at_state n) (last_dispatch (past_of n)) stop
-      ∙ ap (λ last. stop_behind last (at_state n)) (sym (last_stop (is_stop i (at_state n)) (is_dispatch i (at_state n)) (at_state n) (past_of n ++ pictures_of n) stop ∙ last_on (past_of n) _))
+    abbrev at_state : ℕ → Machine
+    at_state n = state i game script n
 
-  -- ---- where commands leave the board
+    abbrev past_of : ℕ → List Event
+    past_of n = past i game script n
 
-  -- the n-th state comes by cycle t, and none before it is a stop point
-  abbrev Comes : ℕ → ℕ → Type 0
-  Comes t n = Reached i game script t n
+    abbrev pictures_of : ℕ → List Event
+    pictures_of n = pictures i game script n
 
-  wider : (t u n : ℕ) → t ≤ u → Comes t n → Comes u n
-  wider t u n order r = record { within = omega (arith, order, r.within); runs = r.runs }
+    abbrev point_of_state : ℕ → List Event
+    point_of_state n = point i game script n
 
-  lower : (t n k : ℕ) → k ≤ n → Comes t n → Comes t k
-  lower t n k order r = record {
-    within = omega (arith, r.within, in-turn i.rom (held_at script) n k (start game) order);
-    runs = λ j l. r.runs j (omega (arith, l, order));
-  }
+    regroup : (a b c d : List Event) → (a ++ b ++ c) ++ d ≡ a ++ (b ++ (c ++ d))
+    regroup a b c d = simp append_assoc
 
-  -- so does the last of the states up to a cycle or to the first stop point
-  last_until : (t : ℕ) → Comes t (moves_until v t)
-  unfolding moves_until
-  last_until t = reached i game script t (moves_until v t) (omega (arith, some-here i game script t 0 (omega arith)))
+    -- by the events of the first states, of which none is a stop point, and others
+    ending_past : (n : ℕ) → Runs i game script n → (es : List Event) → ending_behind None (past_of n ++ es) ≡ ending_behind (last_dispatch (past_of n)) es
+    unfolding past
+    ending_past zero runs es = refl
+    ending_past (suc n) runs es =
+        ap (ending_behind None) (regroup (past_of n) (pictures_of n) (point_of_state n) es)
+        ∙ ending_past n (λ k l. runs k (omega (arith, l))) (pictures_of n ++ (point_of_state n ++ es))
+        ∙ ending_on (last_dispatch (past_of n)) _ (point_of_state n ++ es)
+        ∙ ap (λ last. ending_behind last (point_of_state n ++ es)) (sym (last_on (past_of n) _))
+        ∙ ending_point (is_stop i (at_state n)) (is_dispatch i (at_state n)) (at_state n) (past_of n ++ pictures_of n) es (runs n (omega arith))
 
-  -- it is a stop point, or the next one comes later: so the events up to that cycle are those of the states up to it
-  all_past : (t : ℕ) → events_to v t ≡ past_of (suc (moves_until v t))
-  unfolding moves_until
-  all_past t = by_test (is_stop i (at_state n)) refl (cases_lt t (at_state (suc n)).cycle)
-    where
-      n : ℕ
-      n = moves_until v t
+    -- by those up to the first stop point, which names the last dispatch point before it
+    ending_there : (n : ℕ) → Runs i game script n → is_stop i (at_state n) ≡ true → ending_behind None (past_of (suc n)) ≡ stop_behind (last_dispatch (past_of (suc n))) (at_state n)
+    unfolding past
+    ending_there n runs stop =
+        ap (ending_behind None) (append_assoc (past_of n) (pictures_of n) (point_of_state n))
+        ∙ ending_past n runs (pictures_of n ++ point_of_state n)
+        ∙ ending_on (last_dispatch (past_of n)) _ (point_of_state n)
+        ∙ ending_stop (is_stop i (at_state n)) (is_dispatch i (at_state n)) (at_state n) (last_dispatch (past_of n)) stop
+        ∙ ap (λ last. stop_behind last (at_state n)) (sym (last_stop (is_stop i (at_state n)) (is_dispatch i (at_state n)) (at_state n) (past_of n ++ pictures_of n) stop ∙ last_on (past_of n) _))
 
-      r : Comes t n
-      r = last_until t
+    -- ---- where commands leave the board
 
-      beyond : Comes t (suc n) → ⊥
-      beyond next = omega (arith, all-moves i game script t (suc n) next.within next.runs, some-here i game script t (suc n) next.within)
+    -- the n-th state comes by cycle t, and none before it is a stop point
+    abbrev Comes : ℕ → ℕ → Type 0
+    Comes t n = Reached i game script t n
 
-      by_test : (stop : Bool) → is_stop i (at_state n) ≡ stop → (t < (at_state (suc n)).cycle) ⊎ ((at_state (suc n)).cycle ≤ t) → events_to v t ≡ past_of (suc n)
-      by_test true stop far = events-stop i game script t n r.within stop r.runs
-      by_test false runs (inl over) = events-last i game script t n r.within over r.runs
-      by_test false runs (inr within) = absurd (beyond (reached-next i game script t n r runs within))
+    wider : (t u n : ℕ) → t ≤ u → Comes t n → Comes u n
+    wider t u n order r = record { within = omega (arith, order, r.within); runs = r.runs }
 
-  -- ---- a command
+    lower : (t n k : ℕ) → k ≤ n → Comes t n → Comes t k
+    lower t n k order r = record {
+      within = omega (arith, r.within, in-turn i.rom (held_at script) n k (start game) order);
+      runs = λ j l. r.runs j (omega (arith, l, order));
+    }
 
-  module _ (limit : ℕ) where
-    abbrev ahead : Place → List Event
-    ahead p = drop p.met (events_to v limit)
+    -- so does the last of the states up to a cycle or to the first stop point
+    last_until : (t : ℕ) → Comes t (moves_until v t)
+    unfolding moves_until
+    last_until t = reached i game script t (moves_until v t) (omega (arith, some-here i game script t 0 (omega arith)))
 
-    -- the dispatch points ahead come by the limit
-    ahead_earlier : (p : Place) → Earlier (limit + 1) (ahead p)
-    ahead_earlier p =
-        earlier-drop (limit + 1) p.met (events_to v limit)
-        (subst (Earlier (limit + 1)) (sym (all_past limit)) (earlier-next i game script (limit + 1) (moves_until v limit) (omega (arith, (last_until limit).within))))
-
-    moved : (n : ℕ) (p : Place) → Comes limit p.moves → Comes limit n → Comes limit (moved_to v n p).moves
-    moved n p old new = by_test (n == p.moves)
-      where
-        by_test : (same : Bool) → Comes limit (if same then p else all_met v n).moves
-        by_test true = old
-        by_test false = new
-
-    pointed : (p : Place) (k : ℕ) (found : Option Machine) → found ≡ slice_get (points_ahead v limit p) k → Comes limit (at_point v limit found).place.moves
-    pointed p k None is = last_until limit
-    pointed p k (Some b) is = wider b.cycle limit (moves_until v b.cycle) (omega (arith, earlier-at (limit + 1) (ahead p) (ahead_earlier p) k b (sym is))) (last_until b.cycle)
-
-    arrived : (running : Running) (p : Place) → Comes limit p.moves → Comes limit (arrival v limit running p).place.moves
-    arrived (Step n) p r = moved _ p r (lower limit (moves_until v limit) (min (p.moves + n) (moves_until v limit)) (omega arith) (last_until limit))
-    arrived (To cycle) p r = moved _ p r (either (nat_le p.moves (moves_until v (min cycle limit))) refl)
-      where
-        far : Comes limit (moves_until v (min cycle limit))
-        far = wider (min cycle limit) limit (moves_until v (min cycle limit)) (omega arith) (last_until (min cycle limit))
-
-        either : (test : Bool) → nat_le p.moves (moves_until v (min cycle limit)) ≡ test → Comes limit (max p.moves (moves_until v (min cycle limit)))
-        either true is = let same : max p.moves (moves_until v (min cycle limit)) ≡ moves_until v (min cycle limit) = grind (arith, nat_tests) in subst (Comes limit) (sym same) far
-        either false is = let same : max p.moves (moves_until v (min cycle limit)) ≡ p.moves = grind (arith, nat_tests) in subst (Comes limit) (sym same) r
-    arrived (Next n) p r = pointed p (n - 1) _ refl
-    arrived (Break pc) p r = pointed p _ _ (find_at (has_pc v pc) (points_ahead v limit p))
-
-    with_one : (command : Command) (p : Place) → Comes limit p.moves → Comes limit (place_with v limit command p).moves
-    with_one (command.Runs running) p r = arrived running p r
-    with_one (command.Shows showing) p r = r
-
-    after_all : (commands : List Command) (p : Place) → Comes limit p.moves → Comes limit (place_after v limit commands p).moves
-    after_all [] p r = r
-    after_all (command ∷ commands) p r = after_all commands (place_with v limit command p) (with_one command p r)
-
-    -- ---- a stop point
-
-    stop_is : (n : ℕ) → Comes limit n → is_stop i (at_state n) ≡ true → stopped_by (stop_by v n) ≡ run_ending game limit script
-    stop_is n r stop =
-        ap (λ es. stop_behind (last_dispatch es) (at_state n)) (events-stop i game script (at_state n).cycle n (omega arith) stop r.runs)
-        ∙ sym (ending_there n r.runs stop)
-        ∙ ap (ending_behind None) (sym (events-stop i game script limit n r.within stop r.runs))
-
-    -- A run under the debugger ends as at the limit, or as the whole run: where the commands leave the board at a stop point, no state before it
-    -- was one, so its last dispatch point is the run's.
-    pub debug_ends : (commands : List Command) → (debug_ending v limit commands ≡ AtLimit) ⊎ (debug_ending v limit commands ≡ run_ending game limit script)
-    debug_ends commands = by_test (is_stop i (at_state n)) refl
+    -- it is a stop point, or the next one comes later: so the events up to that cycle are those of the states up to it
+    all_past : (t : ℕ) → events_to v t ≡ past_of (suc (moves_until v t))
+    unfolding moves_until
+    all_past t = by_test (is_stop i (at_state n)) refl (cases_lt t (at_state (suc n)).cycle)
       where
         n : ℕ
-        n = (place_after v limit commands at_start).moves
+        n = moves_until v t
 
-        by_test : (stop : Bool) → is_stop i (at_state n) ≡ stop → ((if stop then stopped_by (stop_by v n) else AtLimit) ≡ AtLimit) ⊎ ((if stop then stopped_by (stop_by v n) else AtLimit) ≡ run_ending game limit script)
-        by_test true is = inr (stop_is n (after_all commands at_start (lower limit (moves_until v limit) 0 (omega arith) (last_until limit))) is)
-        by_test false is = inl refl
+        r : Comes t n
+        r = last_until t
+
+        beyond : Comes t (suc n) → ⊥
+        beyond next = omega (arith, all-moves i game script t (suc n) next.within next.runs, some-here i game script t (suc n) next.within)
+
+        by_test : (stop : Bool) → is_stop i (at_state n) ≡ stop → (t < (at_state (suc n)).cycle) ⊎ ((at_state (suc n)).cycle ≤ t) → events_to v t ≡ past_of (suc n)
+        by_test true stop far = events-stop i game script t n r.within stop r.runs
+        by_test false runs (inl over) = events-last i game script t n r.within over r.runs
+        by_test false runs (inr within) = absurd (beyond (reached-next i game script t n r runs within))
+
+    -- ---- a command
+
+    module _ (limit : ℕ) where
+      abbrev ahead : Place → List Event
+      ahead p = drop p.met (events_to v limit)
+
+      -- the dispatch points ahead come by the limit
+      ahead_earlier : (p : Place) → Earlier (limit + 1) (ahead p)
+      ahead_earlier p =
+          earlier-drop (limit + 1) p.met (events_to v limit)
+          (subst (Earlier (limit + 1)) (sym (all_past limit)) (earlier-next i game script (limit + 1) (moves_until v limit) (omega (arith, (last_until limit).within))))
+
+      moved : (n : ℕ) (p : Place) → Comes limit p.moves → Comes limit n → Comes limit (moved_to v n p).moves
+      moved n p old new = by_test (n == p.moves)
+        where
+          by_test : (same : Bool) → Comes limit (if same then p else all_met v n).moves
+          by_test true = old
+          by_test false = new
+
+      pointed : (p : Place) (k : ℕ) (found : Option Machine) → found ≡ slice_get (points_ahead v limit p) k → Comes limit (at_point v limit found).place.moves
+      pointed p k None is = last_until limit
+      pointed p k (Some b) is = wider b.cycle limit (moves_until v b.cycle) (omega (arith, earlier-at (limit + 1) (ahead p) (ahead_earlier p) k b (sym is))) (last_until b.cycle)
+
+      arrived : (running : Running) (p : Place) → Comes limit p.moves → Comes limit (arrival v limit running p).place.moves
+      arrived (Step n) p r = moved _ p r (lower limit (moves_until v limit) (min (p.moves + n) (moves_until v limit)) (omega arith) (last_until limit))
+      arrived (To cycle) p r = moved _ p r (either (nat_le p.moves (moves_until v (min cycle limit))) refl)
+        where
+          far : Comes limit (moves_until v (min cycle limit))
+          far = wider (min cycle limit) limit (moves_until v (min cycle limit)) (omega arith) (last_until (min cycle limit))
+
+          either : (test : Bool) → nat_le p.moves (moves_until v (min cycle limit)) ≡ test → Comes limit (max p.moves (moves_until v (min cycle limit)))
+          either true is = let same : max p.moves (moves_until v (min cycle limit)) ≡ moves_until v (min cycle limit) = grind (arith, nat_tests) in subst (Comes limit) (sym same) far
+          either false is = let same : max p.moves (moves_until v (min cycle limit)) ≡ p.moves = grind (arith, nat_tests) in subst (Comes limit) (sym same) r
+      arrived (Next n) p r = pointed p (n - 1) _ refl
+      arrived (Break pc) p r = pointed p _ _ (find_at (has_pc v pc) (points_ahead v limit p))
+
+      with_one : (command : Command) (p : Place) → Comes limit p.moves → Comes limit (place_with v limit command p).moves
+      with_one (command.Runs running) p r = arrived running p r
+      with_one (command.Shows showing) p r = r
+
+      after_all : (commands : List Command) (p : Place) → Comes limit p.moves → Comes limit (place_after v limit commands p).moves
+      after_all [] p r = r
+      after_all (command ∷ commands) p r = after_all commands (place_with v limit command p) (with_one command p r)
+
+      -- ---- a stop point
+
+      stop_is : (n : ℕ) → Comes limit n → is_stop i (at_state n) ≡ true → stopped_by (stop_by v n) ≡ run_ending e game limit script
+      stop_is n r stop =
+          ap (λ es. stop_behind (last_dispatch es) (at_state n)) (events-stop i game script (at_state n).cycle n (omega arith) stop r.runs)
+          ∙ sym (ending_there n r.runs stop)
+          ∙ ap (ending_behind None) (sym (events-stop i game script limit n r.within stop r.runs))
+
+      -- A run under the debugger ends as at the limit, or as the whole run: where the commands leave the board at a stop point, no state before it
+      -- was one, so its last dispatch point is the run's.
+      pub debug_ends : (commands : List Command) → (debug_ending v limit commands ≡ AtLimit) ⊎ (debug_ending v limit commands ≡ run_ending e game limit script)
+      debug_ends commands = by_test (is_stop i (at_state n)) refl
+        where
+          n : ℕ
+          n = (place_after v limit commands at_start).moves
+
+          by_test : (stop : Bool) → is_stop i (at_state n) ≡ stop → ((if stop then stopped_by (stop_by v n) else AtLimit) ≡ AtLimit) ⊎ ((if stop then stopped_by (stop_by v n) else AtLimit) ≡ run_ending e game limit script)
+          by_test true is = inr (stop_is n (after_all commands at_start (lower limit (moves_until v limit) 0 (omega arith) (last_until limit))) is)
+          by_test false is = inl refl

@@ -4,21 +4,24 @@ use Rattle.machine.specs.Board.{Machine}
 use Rattle.machine.specs.Keys.{Event as KeyEvent}
 use Rattle.chip8_lang.specs.declared.instr.Instr.{Instr}
 use Rattle.chip8_lang.specs.declared.instr.Instr.TheVariants.{WaitKey}
-use Rattle.chip8_lang.specs.declared.view.Edition.TheVariants.{Usual}
+use Rattle.chip8_lang.specs.declared.view.Edition.{Edition}
+use Rattle.chip8_lang.specs.declared.view.Edition.TheVariants.{Usual, Tall}
 use Rattle.chip8_lang.specs.declared.view.Stop.{Stop}
 use Rattle.chip8_lang.specs.declared.view.Stop.TheVariants.{MachineCall, Unknown, FetchOutside, ReadOutside, WriteOutside, StackFull, StackEmpty}
 use Rattle.chip8_lang.specs.Bounds.{boot_bound, bound_by, bound_of}
 use Rattle.chip8_lang.specs.Events.{Event}
 use Rattle.chip8_lang.specs.Events.Event.{Picture, Dispatch, Stopped}
-use Rattle.chip8_lang.specs.State.{Lang, first, instr_at}
+use Rattle.chip8_lang.specs.Places.{state_of}
+use Rattle.chip8_lang.specs.State.{Lang, first, instr_at, memory_size}
 use Rattle.chip8_lang.specs.Step.{number_of, stop_of}
 use Rattle.chip8_lang.specs.View.{opcode_at, view_at}
 use Rattle.rom_law.specs.Keys.{KeyRun, Pressed, WaitsForKey}
 use Rattle.rom_law.specs.Pictures.{ShowsBehind, ShowsAll, PictureRun}
-use Rattle.rom_law.specs.Program.{Dispatches, Halts}
+use Rattle.rom_law.specs.Program.{Program, Dispatches, Halts, whole}
 use Rattle.rom_law.specs.Runs.{LanguageRun, IsFirst, IsNext, IsStep, IsStop, is_point, cycle_of}
 use Rattle.chip8_rows.specs.Rom.{vip}
 use Rattle.rom_run.specs.Laws.{EveryRun, EveryKeyWait, EveryPicture, key_cycles}
+use Rattle.vip_relation.specs.Interpreters.{interpreter_of}
 use Rattle.vip_relation.specs.State.{started}
 use Rattle.vip_relation.specs.Stops.{stop_at, stop_numbered}
 use Rattle.vip_show.specs.Endings.{ending_after, ending_of}
@@ -30,8 +33,8 @@ use Rattle.vip_debug.specs.declared.command.CommandFault.TheVariants.{Fault, NoM
 use Rattle.vip_outside.specs.Files.{FilesMeaning}
 use Rattle.vip_words.specs.Asked.{Asked, trace, play, debug, demo, asm, list, dis, bounds}
 use Rattle.vip_verbs.specs.Demo.{demo_game}
-use Rattle.vip_verbs.specs.Files.{needed, most_game, HasAll}
-use Rattle.vip_call.specs.Language.{state_at, StandsFor, HaltedWith, Steps, Stops, GoesOn, Goes, next_point, IsChip8, RunIsChip8, DebugsChip8, ShowsChip8}
+use Rattle.vip_verbs.specs.Files.{needed, HasAll}
+use Rattle.vip_call.specs.Language.{StandsFor, HaltedWith, Steps, Stops, GoesOn, Goes, next_point, IsChip8, RunIsChip8, DebugsChip8, ShowsChip8}
 use Rattle.vip_verbs.specs.Outcome.{Outcome, Comes, RunComes, DebugComes, run_of, events_in, run_ending, debug_ending}
 use Rattle.vip_verbs.specs.Outcome.Outcome.{Refused, Shown}
 use Rattle.vip_verbs.specs.Outcome.RunComes.{FaultyScript, FaultyRom, Runs}
@@ -49,61 +52,15 @@ stop_numbered-number_of WriteOutside = refl
 stop_numbered-number_of StackFull = refl
 stop_numbered-number_of StackEmpty = refl
 
--- ---- the points of the law, in the words of the language
+-- ---- the ROM of the board
 
-stands : (b : Machine) (s : Lang) → Dispatches (vip Usual) b s → StandsFor b s
-stands b s is = record {
-  holds = record { lies = is.keeps.lies; on = is.keeps.on; entry = is.keeps.entry; page = is.keeps.page };
-  p = is.p;
-  r4 = is.r4;
-}
+-- as a program under proof
+abbrev program : Edition → Program
+program e = whole e (interpreter_of e)
 
-halted : (b : Machine) (s : Lang) (stop : Stop) → Halts (vip Usual) b s stop → HaltedWith b s stop
-halted b s stop is = record {
-  holds = record { lies = is.keeps.lies; on = is.keeps.on; entry = is.keeps.entry; page = is.keeps.page };
-  p = is.p;
-  r3 = is.r3;
-  number = is.number;
-}
-
-steps : (script : List KeyEvent) (b c : Machine) → IsStep (vip Usual) script b c → Steps script b c
-steps script b c is = record { stands = stands c (state_at c) is.stands; between = is.between }
-
-stops : (b c : Machine) → IsStop (vip Usual) b c → Stops b c (AtStop (stop_at c) (view_at Usual b).pc (view_at Usual b).opcode)
-unfolding view_at
-stops b c is = record {
-  stop = is.stop;
-  fits = is.fits;
-  halted = halted c _ is.stop is.halts;
-  named = ap (λ stop. AtStop stop (state_at b).pc (opcode_at Usual (state_at b))) (ap stop_numbered is.halts.number ∙ stop_numbered-number_of is.stop);
-}
-
--- ---- the events of a run, by its points
-
--- each next point comes from a dispatch point by the law
-abbrev AllNext : List KeyEvent → List Event → Type 0
-AllNext script points =
-    (k : ℕ) (b : Machine) (p : Event) → slice_get points k ≡ Some (Dispatch b) → slice_get points (suc k) ≡ Some p → IsNext (vip Usual) script b p
-
-goes_on : (states : List Machine) (script : List KeyEvent) (b : Machine) (events : List Event) → AllNext script (Dispatch b ∷ filter is_point events) → ShowsBehind (vip Usual) states b events
-    → GoesOn states script b events (ending_after Usual (view_at Usual b).pc (view_at Usual b).opcode events)
-unfolding ending_after
-goes_on states script b [] next shown = refl
-goes_on states script b (Picture m ∷ events) next shown = (shown.0, goes_on states script b events next shown.1)
-goes_on states script b (Dispatch c ∷ events) next shown = (steps script b c (next 0 b (Dispatch c) refl refl), goes_on states script c events (λ k. next (suc k)) shown)
-goes_on states script b (Stopped c ∷ events) next shown = stops b c (next 0 b (Stopped c) refl refl)
-
--- the first point is as the law says
-abbrev FirstIs : List ℕ → List Event → Type 0
-FirstIs game points = (p : Event) → slice_get points 0 ≡ Some p → IsFirst (vip Usual) game p
-
-goes : (states : List Machine) (game : List ℕ) (script : List KeyEvent) (events : List Event) → FirstIs game (filter is_point events) → AllNext script (filter is_point events) → ShowsAll (vip Usual) states events
-    → Goes states game script events (ending_of Usual events)
-unfolding ending_after
-goes states game script [] here next shown = refl
-goes states game script (Picture m ∷ events) here next shown = shown
-goes states game script (Dispatch b ∷ events) here next shown = (stands b (first Usual game) (here (Dispatch b) refl), goes_on states script b events next shown)
-goes states game script (Stopped b ∷ events) here next shown = here (Stopped b) refl
+is_program : (e : Edition) → vip e ≡ program e
+is_program Usual = refl
+is_program Tall = refl
 
 -- ---- when the next point comes
 
@@ -131,80 +88,141 @@ waits_by (Some stop) i none = cc
 waits_by None (WaitKey register) none = (refl, register, refl)
 waits_by None _ none = cc
 
-waits : (s : Lang) → bound_of Usual s ≡ None → WaitsForKey (vip Usual) s
-waits s none = let is = waits_by (stop_of Usual s) (instr_at s) none in record { runs = is.0; register = is.1; is = is.2 }
+module _ (e : Edition) where
+  -- ---- the points of the law, in the words of the language
 
--- ---- a run
-
-module _ (game : List ℕ) (script : List KeyEvent) (limit : ℕ) (run : LanguageRun (vip Usual) game script limit) (keys : KeyRun (vip Usual) key_cycles game script limit) (pictures : PictureRun (vip Usual) game script limit) where
-  in_bound : (b : Machine) (bound : ℕ) → bound_of Usual (state_at b) ≡ Some bound → b.cycle + bound ≤ limit → NextComes (λ t. t ≤ b.cycle + bound) b (filter is_point (events_in game script limit))
-  unfolding NextComes
-  in_bound b bound is room k at = let found = run.bound k b bound at is room in (found.0, rw add-one at found.1, found.2)
-
-  in_press : (b : Machine) (u w : ℕ) → bound_of Usual (state_at b) ≡ None → b.cycle ≤ u → Pressed script key_cycles u w → w + key_cycles ≤ limit → NextComes (λ t. t < w + key_cycles) b (filter is_point (events_in game script limit))
-  unfolding NextComes
-  in_press b u w none from pressed room k at = let found = keys k b u w at (waits (state_at b) none) from pressed room in (Dispatch found.0, rw add-one at found.1, found.2)
-
-  -- among these events
-  among : (Soon : ℕ → Type 0) (before after : List Event) (b : Machine) → events_in game script limit ≡ before ++ Dispatch b ∷ after → NextComes Soon b (filter is_point (events_in game script limit)) → IsSomeAnd (next_point after) (λ c. Soon c.cycle)
-  among Soon before after b at next = comes_behind Soon before after b (subst (λ events. NextComes Soon b (filter is_point events)) at next)
-
-  by_law : IsChip8 game script limit (ending_of Usual (events_in game script limit))
-  by_law = record {
-    goes = goes (run_of game script limit) game script (events_in game script limit) run.first (λ k b p at then. run.next k b p at (rw add-one then)) pictures;
-    boot = λ room. let found = run.boot room in comes_soon (λ t. t ≤ boot_bound) (events_in game script limit) found.0 found.1 found.2;
-    bound = λ before after b bound at is room. among (λ t. t ≤ b.cycle + bound) before after b at (in_bound b bound is room);
-    keys = λ before after b u w at none from pressed room. among (λ t. t < w + key_cycles) before after b at (in_press b u w none from pressed room);
+  stands : (b : Machine) (s : Lang) → Dispatches (program e) b s → StandsFor e b s
+  stands b s is = record {
+    holds = record { lies = is.keeps.lies; on = is.keeps.on; entry = is.keeps.entry; page = is.keeps.page };
+    p = is.p;
+    r4 = is.r4;
   }
 
+  halted : (b : Machine) (s : Lang) (stop : Stop) → Halts (program e) b s stop → HaltedWith e b s stop
+  halted b s stop is = record {
+    holds = record { lies = is.keeps.lies; on = is.keeps.on; entry = is.keeps.entry; page = is.keeps.page };
+    p = is.p;
+    r3 = is.r3;
+    number = is.number;
+  }
+
+  steps : (script : List KeyEvent) (b c : Machine) → IsStep (program e) script b c → Steps e script b c
+  steps script b c is = record { stands = stands c (state_of e c) is.stands; between = is.between }
+
+  stops : (b c : Machine) → IsStop (program e) b c → Stops e b c (AtStop (stop_at c) (view_at e b).pc (view_at e b).opcode)
+  unfolding view_at
+  stops b c is = record {
+    stop = is.stop;
+    fits = is.fits;
+    halted = halted c _ is.stop is.halts;
+    named = ap (λ stop. AtStop stop (state_of e b).pc (opcode_at e (state_of e b))) (ap stop_numbered is.halts.number ∙ stop_numbered-number_of is.stop);
+  }
+
+  -- ---- the events of a run, by its points
+
+  -- each next point comes from a dispatch point by the law
+  abbrev AllNext : List KeyEvent → List Event → Type 0
+  AllNext script points =
+      (k : ℕ) (b : Machine) (p : Event) → slice_get points k ≡ Some (Dispatch b) → slice_get points (suc k) ≡ Some p → IsNext (program e) script b p
+
+  goes_on : (states : List Machine) (script : List KeyEvent) (b : Machine) (events : List Event) → AllNext script (Dispatch b ∷ filter is_point events) → ShowsBehind (program e) states b events
+      → GoesOn e states script b events (ending_after e (view_at e b).pc (view_at e b).opcode events)
+  unfolding ending_after
+  goes_on states script b [] next shown = refl
+  goes_on states script b (Picture m ∷ events) next shown = (shown.0, goes_on states script b events next shown.1)
+  goes_on states script b (Dispatch c ∷ events) next shown = (steps script b c (next 0 b (Dispatch c) refl refl), goes_on states script c events (λ k. next (suc k)) shown)
+  goes_on states script b (Stopped c ∷ events) next shown = stops b c (next 0 b (Stopped c) refl refl)
+
+  -- the first point is as the law says
+  abbrev FirstIs : List ℕ → List Event → Type 0
+  FirstIs game points = (p : Event) → slice_get points 0 ≡ Some p → IsFirst (program e) game p
+
+  goes : (states : List Machine) (game : List ℕ) (script : List KeyEvent) (events : List Event) → FirstIs game (filter is_point events) → AllNext script (filter is_point events) → ShowsAll (program e) states events
+      → Goes e states game script events (ending_of e events)
+  unfolding ending_after
+  goes states game script [] here next shown = refl
+  goes states game script (Picture m ∷ events) here next shown = shown
+  goes states game script (Dispatch b ∷ events) here next shown = (stands b (first e game) (here (Dispatch b) refl), goes_on states script b events next shown)
+  goes states game script (Stopped b ∷ events) here next shown = here (Stopped b) refl
+
+  waits : (s : Lang) → bound_of e s ≡ None → WaitsForKey (program e) s
+  waits s none = let is = waits_by (stop_of e s) (instr_at s) none in record { runs = is.0; register = is.1; is = is.2 }
+
+  -- ---- a run
+
+  module _ (game : List ℕ) (script : List KeyEvent) (limit : ℕ) (run : LanguageRun (program e) game script limit) (keys : KeyRun (program e) key_cycles game script limit) (pictures : PictureRun (program e) game script limit) where
+    in_bound : (b : Machine) (bound : ℕ) → bound_of e (state_of e b) ≡ Some bound → b.cycle + bound ≤ limit → NextComes (λ t. t ≤ b.cycle + bound) b (filter is_point (events_in e game script limit))
+    unfolding NextComes
+    in_bound b bound is room k at = let found = run.bound k b bound at is room in (found.0, rw add-one at found.1, found.2)
+
+    in_press : (b : Machine) (u w : ℕ) → bound_of e (state_of e b) ≡ None → b.cycle ≤ u → Pressed script key_cycles u w → w + key_cycles ≤ limit → NextComes (λ t. t < w + key_cycles) b (filter is_point (events_in e game script limit))
+    unfolding NextComes
+    in_press b u w none from pressed room k at = let found = keys k b u w at (waits (state_of e b) none) from pressed room in (Dispatch found.0, rw add-one at found.1, found.2)
+
+    -- among these events
+    among : (Soon : ℕ → Type 0) (before after : List Event) (b : Machine) → events_in e game script limit ≡ before ++ Dispatch b ∷ after → NextComes Soon b (filter is_point (events_in e game script limit)) → IsSomeAnd (next_point after) (λ c. Soon c.cycle)
+    among Soon before after b at next = comes_behind Soon before after b (subst (λ events. NextComes Soon b (filter is_point events)) at next)
+
+    by_law : IsChip8 e game script limit (ending_of e (events_in e game script limit))
+    by_law = record {
+      goes = goes (run_of e game script limit) game script (events_in e game script limit) run.first (λ k b p at then. run.next k b p at (rw add-one then)) pictures;
+      boot = λ room. let found = run.boot room in comes_soon (λ t. t ≤ boot_bound) (events_in e game script limit) found.0 found.1 found.2;
+      bound = λ before after b bound at is room. among (λ t. t ≤ b.cycle + bound) before after b at (in_bound b bound is room);
+      keys = λ before after b u w at none from pressed room. among (λ t. t < w + key_cycles) before after b at (in_press b u w none from pressed room);
+    }
+
 module _ (law : EveryRun) (keys : EveryKeyWait) (pictures : EveryPicture) where
-  is_chip8 : (game : List ℕ) (script : List KeyEvent) (limit : ℕ) → length game ≤ most_game → ((i : ℕ) → slice_index game i < 256) → IsChip8 game script limit (ending_of Usual (events_in game script limit))
-  is_chip8 game script limit fits bytes = by_law game script limit (law Usual game fits bytes script limit) (keys Usual game fits bytes script limit) (pictures Usual game fits bytes script limit)
+  is_chip8 : (e : Edition) (game : List ℕ) (script : List KeyEvent) (limit : ℕ) → length game ≤ memory_size e → ((i : ℕ) → slice_index game i < 256) → IsChip8 e game script limit (ending_of e (events_in e game script limit))
+  is_chip8 e game script limit fits bytes =
+      by_law e game script limit
+      (subst (λ x. LanguageRun x game script limit) (is_program e) (law e game fits bytes script limit))
+      (subst (λ x. KeyRun x key_cycles game script limit) (is_program e) (keys e game fits bytes script limit))
+      (subst (λ x. PictureRun x game script limit) (is_program e) (pictures e game fits bytes script limit))
 
   -- ---- a command
 
   -- a run that comes to output
-  OfRun : List ℕ → List (List ℕ) → ℕ → Outcome → Type 0
-  OfRun game scripts limit (Refused status report) = Unit {0}
-  OfRun game scripts limit (Shown pieces status report) = RunIsChip8 game scripts limit status report
+  OfRun : Edition → List ℕ → List (List ℕ) → ℕ → Outcome → Type 0
+  OfRun e game scripts limit (Refused status report) = Unit {0}
+  OfRun e game scripts limit (Shown pieces status report) = RunIsChip8 e game scripts limit status report
 
   -- a run under the debugger that does
-  OfDebug : List ℕ → List (List ℕ) → ℕ → Outcome → Type 0
-  OfDebug game scripts limit (Refused status report) = Unit {0}
-  OfDebug game scripts limit (Shown pieces status report) = DebugsChip8 game scripts limit status report
+  OfDebug : Edition → List ℕ → List (List ℕ) → ℕ → Outcome → Type 0
+  OfDebug e game scripts limit (Refused status report) = Unit {0}
+  OfDebug e game scripts limit (Shown pieces status report) = DebugsChip8 e game scripts limit status report
 
-  module _ (game : List ℕ) (fits : length game ≤ most_game) (bytes : (i : ℕ) → slice_index game i < 256) (limit : ℕ) (scripts : List (List ℕ)) (pieces : List KeyEvent → List (List ℕ)) where
-    run_shows : (o : Outcome) → RunComes limit scripts pieces (run_ending game limit) o → OfRun game scripts limit o
+  module _ (e : Edition) (game : List ℕ) (fits : length game ≤ memory_size e) (bytes : (i : ℕ) → slice_index game i < 256) (limit : ℕ) (scripts : List (List ℕ)) (pieces : List KeyEvent → List (List ℕ)) where
+    run_shows : (o : Outcome) → RunComes e limit scripts pieces (run_ending e game limit) o → OfRun e game scripts limit o
     unfolding OfRun
     run_shows _ (FaultyScript line cause is) = tt
     run_shows _ (FaultyRom script fault is fault_is rom) = tt
     run_shows _ (Runs script is rom) = record {
       script = script;
       reads = is;
-      ending = run_ending game limit script;
-      run = is_chip8 game script limit fits bytes;
+      ending = run_ending e game limit script;
+      run = is_chip8 e game script limit fits bytes;
       status_is = refl;
       report_is = refl;
     }
 
-    debug_shows : (commands : List Command) (o : Outcome) → RunComes limit scripts pieces (λ script. debug_ending (started Usual game script) limit commands) o → OfDebug game scripts limit o
+    debug_shows : (commands : List Command) (o : Outcome) → RunComes e limit scripts pieces (λ script. debug_ending (started e game script) limit commands) o → OfDebug e game scripts limit o
     unfolding OfDebug
     debug_shows commands _ (FaultyScript line cause is) = tt
     debug_shows commands _ (FaultyRom script fault is fault_is rom) = tt
     debug_shows commands _ (Runs script is rom) = record {
       script = script;
       reads = is;
-      run = is_chip8 game script limit fits bytes;
-      ending = debug_ending (started Usual game script) limit commands;
-      ends = debug_ends game script limit commands;
+      run = is_chip8 e game script limit fits bytes;
+      ending = debug_ending (started e game script) limit commands;
+      ends = debug_ends e game script limit commands;
       status_is = refl;
       report_is = refl;
     }
 
-  module _ (game : List ℕ) (fits : length game ≤ most_game) (bytes : (i : ℕ) → slice_index game i < 256) (limit : ℕ) (scripts : List (List ℕ)) where
-    debug_read : (read : Result (List Command) CommandFault) (o : Outcome) → DebugComes game limit scripts read o → OfDebug game scripts limit o
+  module _ (e : Edition) (game : List ℕ) (fits : length game ≤ memory_size e) (bytes : (i : ℕ) → slice_index game i < 256) (limit : ℕ) (scripts : List (List ℕ)) where
+    debug_read : (read : Result (List Command) CommandFault) (o : Outcome) → DebugComes e game limit scripts read o → OfDebug e game scripts limit o
     unfolding OfDebug
-    debug_read (Ok commands) o comes = debug_shows game fits bytes limit scripts _ commands o comes
+    debug_read (Ok commands) o comes = debug_shows e game fits bytes limit scripts _ commands o comes
     debug_read (Err (Fault line cause)) o comes = rw comes tt
     debug_read (Err NoMemory) o comes = absurd comes
 
@@ -212,16 +230,16 @@ module _ (law : EveryRun) (keys : EveryKeyWait) (pictures : EveryPicture) where
   unfolding OfRun OfDebug
   shows old (trace a) [] pieces status report read comes = tt
   shows old (trace a) (game ∷ scripts) pieces status report read comes =
-      run_shows game read.0.fits read.0.bytes a.cycles scripts _ (Shown pieces status report) comes
+      run_shows a.edition game read.0.fits read.0.bytes a.cycles scripts _ (Shown pieces status report) comes
   shows old (play a) [] pieces status report read comes = tt
   shows old (play a) (game ∷ scripts) pieces status report read comes =
-      run_shows game read.0.fits read.0.bytes a.cycles scripts _ (Shown pieces status report) comes
+      run_shows a.edition game read.0.fits read.0.bytes a.cycles scripts _ (Shown pieces status report) comes
   shows old (debug a) [] pieces status report read comes = tt
   shows old (debug a) (game ∷ []) pieces status report read comes = tt
   shows old (debug a) (game ∷ text ∷ scripts) pieces status report read comes =
-      debug_read game read.0.fits read.0.bytes a.cycles scripts (commands_of a.cycles text) (Shown pieces status report) comes
+      debug_read a.edition game read.0.fits read.0.bytes a.cycles scripts (commands_of a.cycles text) (Shown pieces status report) comes
   shows old (demo a) [] pieces status report read comes =
-      run_shows (demo_game a.number) (omega (arith, length-game a.number)) (bytes-game a.number) a.cycles [] _ (Shown pieces status report) comes
+      run_shows Usual (demo_game a.number) (omega (arith, length-game a.number)) (bytes-game a.number) a.cycles [] _ (Shown pieces status report) comes
   shows old (demo a) (c ∷ cs) pieces status report read comes = absurd comes
   shows old (asm name) contents pieces status report read comes = tt
   shows old (list name) contents pieces status report read comes = tt

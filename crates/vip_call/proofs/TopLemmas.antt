@@ -3,8 +3,8 @@ use Rattle.std.proofs.Common.{◌≡◌, ℕ, ◌<◌, ◌⊎◌, inl, inr, List
 use Rattle.std.proofs.lemmas.Bool.{le-ltb, lt-ltb}
 use Rattle.std.specs.FinMap.{get}
 use Rattle.machine.specs.Keys.{Event as KeyEvent}
-use Rattle.chip8_image.specs.declared.image.TheConstants.{IMAGE}
-use Rattle.chip8_source.specs.Texts.{usual_text}
+use Rattle.chip8_lang.specs.declared.view.Edition.{Edition}
+use Rattle.chip8_lang.specs.declared.view.Edition.TheVariants.{Usual}
 use Rattle.asm_core.specs.Made.{Made, IsAssembly}
 use Rattle.asm_core.specs.Sources.{NoFault, IsFirstFault, HasFirstFault, source_lines}
 use Rattle.asm_core.specs.declared.fault.AsmCause.{AsmCause}
@@ -19,12 +19,13 @@ use Rattle.vip_outside.specs.Count.{Rose}
 use Rattle.vip_outside.specs.Files.{FileMap, FilesMeaning}
 use Rattle.vip_outside.specs.Sink.{SinkMeaning, Gains, GainsPart, GainAnswers}
 use Rattle.vip_outside.specs.declared.sink.Failed.{Failed}
+use Rattle.vip_relation.specs.Interpreters.{interpreter_of}
 use Rattle.vip_show.specs.Endings.{Ending}
 use Rattle.vip_words.specs.Asked.{Asked, trace, play, debug, demo, asm, list, dis, bounds, asked_by}
 use Rattle.vip_verbs.specs.Work.{Rejected}
 use Rattle.vip_call.specs.Words.{OfWords, WordsAnswer}
 use Rattle.vip_verbs.specs.Files.{Needed, needed, HasAll, ComesTo, IsLarger}
-use Rattle.vip_verbs.specs.Outcome.{Outcome, Comes, RunComes, DebugComes, SourceComes, RomIs, IsFault}
+use Rattle.vip_verbs.specs.Outcome.{Outcome, Comes, RunComes, DebugComes, SourceComes, RomIs, IsFault, rom_text}
 use Rattle.vip_verbs.specs.Outcome.Outcome.{Refused, Shown}
 use Rattle.vip_verbs.specs.Outcome.RunComes.{FaultyScript, FaultyRom, Runs}
 use Rattle.vip_verbs.specs.Outcome.SourceComes.{FaultySource, Assembles}
@@ -54,33 +55,33 @@ not_memory (image.BadRomSource line cause) is none = cc
 not_memory (image.RomDiffers address assembled here) is none = cc
 
 -- a ROM differs from what its source gives in one way, or not at all
-rom_is_one : (e f : ImageFault) → IsFault e → IsFault f → RomIs (Err e) → RomIs (Err f) → image_status e ≡ image_status f
-rom_is_one e f is_e is_f a b =
-    elim (answers_agree (source_lines usual_text) IMAGE (Err e) (Err f) a b) [
+rom_is_one : (d : Edition) (e f : ImageFault) → IsFault e → IsFault f → RomIs d (Err e) → RomIs d (Err f) → image_status e ≡ image_status f
+rom_is_one d e f is_e is_f a b =
+    elim (answers_agree (source_lines (rom_text d)) (interpreter_of d).rom (Err e) (Err f) a b) [
       | inl same ↦ let faults : e ≡ f = cc in ap image_status faults
       | inr (inl none) ↦ absurd (not_memory e is_e (cc))
       | inr (inr none) ↦ absurd (not_memory f is_f (cc))
     ]
 
-rom_is_fine_or_not : (f : ImageFault) → IsFault f → RomIs (Ok tt) → RomIs (Err f) → ⊥
-rom_is_fine_or_not f is a b =
-    elim (answers_agree (source_lines usual_text) IMAGE (Ok tt) (Err f) a b) [
+rom_is_fine_or_not : (d : Edition) (f : ImageFault) → IsFault f → RomIs d (Ok tt) → RomIs d (Err f) → ⊥
+rom_is_fine_or_not d f is a b =
+    elim (answers_agree (source_lines (rom_text d)) (interpreter_of d).rom (Ok tt) (Err f) a b) [
       | inl same ↦ cc
       | inr (inl none) ↦ cc
       | inr (inr none) ↦ not_memory f is (cc)
     ]
 
 -- the runs of one game come to one outcome
-module _ (limit : ℕ) (scripts : List (List ℕ)) (pieces : List KeyEvent → List (List ℕ)) (ending : List KeyEvent → Ending) where
-  runs_agree : (o p : Outcome) → RunComes limit scripts pieces ending o → RunComes limit scripts pieces ending p → Agree o p
-  runs_agree _ _ (FaultyScript l c a) (FaultyScript m d b) = refl
+module _ (d : Edition) (limit : ℕ) (scripts : List (List ℕ)) (pieces : List KeyEvent → List (List ℕ)) (ending : List KeyEvent → Ending) where
+  runs_agree : (o p : Outcome) → RunComes d limit scripts pieces ending o → RunComes d limit scripts pieces ending p → Agree o p
+  runs_agree _ _ (FaultyScript l c a) (FaultyScript m k b) = refl
   runs_agree _ _ (FaultyScript l c a) (FaultyRom t f b is rom) = cc
   runs_agree _ _ (FaultyScript l c a) (Runs t b rom) = cc
-  runs_agree _ _ (FaultyRom s e a is rom) (FaultyScript m d b) = cc
-  runs_agree _ _ (FaultyRom s e a is rom) (FaultyRom t f b is' rom') = rom_is_one e f is is' rom rom'
-  runs_agree _ _ (FaultyRom s e a is rom) (Runs t b rom') = rom_is_fine_or_not e is rom' rom
-  runs_agree _ _ (Runs s a rom) (FaultyScript m d b) = cc
-  runs_agree _ _ (Runs s a rom) (FaultyRom t f b is rom') = rom_is_fine_or_not f is rom rom'
+  runs_agree _ _ (FaultyRom s e a is rom) (FaultyScript m k b) = cc
+  runs_agree _ _ (FaultyRom s e a is rom) (FaultyRom t f b is' rom') = rom_is_one d e f is is' rom rom'
+  runs_agree _ _ (FaultyRom s e a is rom) (Runs t b rom') = rom_is_fine_or_not d e is rom' rom
+  runs_agree _ _ (Runs s a rom) (FaultyScript m k b) = cc
+  runs_agree _ _ (Runs s a rom) (FaultyRom t f b is rom') = rom_is_fine_or_not d f is rom rom'
   runs_agree _ _ (Runs s a rom) (Runs t b rom') = let same : s ≡ t = cc in cc
 
 no_fault : (f : ℕ → Option AsmCause) (n i : ℕ) (c : AsmCause) → NoFault f n → IsFirstFault f n i c → ⊥
@@ -101,21 +102,21 @@ module _ (source : List ℕ) (IsText : Made → List ℕ → Type 0) where
 alone_agree : (q o p : Outcome) → Agree q q → o ≡ q → p ≡ q → Agree o p
 alone_agree q o p same a b = rw (a, b) same
 
-debugs_agree : (game : List ℕ) (limit : ℕ) (scripts : List (List ℕ)) (read : Result (List Command) CommandFault) (o p : Outcome) → DebugComes game limit scripts read o → DebugComes game limit scripts read p → Agree o p
-debugs_agree game limit scripts (Ok commands) o p x y = runs_agree limit scripts _ _ o p x y
-debugs_agree game limit scripts (Err (debug_fault.Fault line cause)) o p x y = alone_agree _ o p refl x y
-debugs_agree game limit scripts (Err debug_fault.NoMemory) o p x y = absurd x
+debugs_agree : (d : Edition) (game : List ℕ) (limit : ℕ) (scripts : List (List ℕ)) (read : Result (List Command) CommandFault) (o p : Outcome) → DebugComes d game limit scripts read o → DebugComes d game limit scripts read p → Agree o p
+debugs_agree d game limit scripts (Ok commands) o p x y = runs_agree d limit scripts _ _ o p x y
+debugs_agree d game limit scripts (Err (debug_fault.Fault line cause)) o p x y = alone_agree _ o p refl x y
+debugs_agree d game limit scripts (Err debug_fault.NoMemory) o p x y = absurd x
 
 -- a command comes to one outcome by the contents of its files
 agree : (asked : Asked) (contents : List (List ℕ)) (o p : Outcome) → Comes asked contents o → Comes asked contents p → Agree o p
 agree (trace a) [] o p x y = absurd x
-agree (trace a) (game ∷ scripts) o p x y = runs_agree a.cycles scripts _ _ o p x y
+agree (trace a) (game ∷ scripts) o p x y = runs_agree a.edition a.cycles scripts _ _ o p x y
 agree (play a) [] o p x y = absurd x
-agree (play a) (game ∷ scripts) o p x y = runs_agree a.cycles scripts _ _ o p x y
+agree (play a) (game ∷ scripts) o p x y = runs_agree a.edition a.cycles scripts _ _ o p x y
 agree (debug a) [] o p x y = absurd x
 agree (debug a) (game ∷ []) o p x y = absurd x
-agree (debug a) (game ∷ text ∷ scripts) o p x y = debugs_agree game a.cycles scripts (commands_of a.cycles text) o p x y
-agree (demo a) [] o p x y = runs_agree a.cycles [] _ _ o p x y
+agree (debug a) (game ∷ text ∷ scripts) o p x y = debugs_agree a.edition game a.cycles scripts (commands_of a.cycles text) o p x y
+agree (demo a) [] o p x y = runs_agree Usual a.cycles [] _ _ o p x y
 agree (demo a) (c ∷ cs) o p x y = absurd x
 agree (asm name) [] o p x y = absurd x
 agree (asm name) (source ∷ []) o p x y = sources_agree source _ o p x y
@@ -382,6 +383,7 @@ module _ (words : List (List ℕ)) (files files' : FilesMeaning) (out out' err e
         (given.at.here.1, record { out = given.out; err = subst (λ n. Gains (cannot_read n) err err' ⊎ GainsPart (cannot_read n) err err') given.at.here.0 report });
   }
   refused_with (refusal.TooLarge kind.Game) given report = oversize kind.Game given report
+  refused_with (refusal.TooLarge kind.TallGame) given report = oversize kind.TallGame given report
   refused_with (refusal.TooLarge kind.Script) given report = oversize kind.Script given report
   refused_with (refusal.TooLarge kind.Commands) given report = oversize kind.Commands given report
   refused_with (refusal.TooLarge kind.Source) given report = oversize kind.Source given report

@@ -490,10 +490,10 @@ fn games_come_to_their_stops(rt: HostRuntime) -> Result<(), Fail> {
     Ok(())
 }
 
-/// The text of a screen whose lit pixels are these: a row, the first of them in it, and the one behind the last.
-fn screen_of(alloc: Global, lit: &[(u32, u32, u32)]) -> Result<Vec<u8>, Fail> {
+/// The text of a screen of so many rows whose lit pixels are these: a row, the first of them in it, and the one behind the last.
+fn screen_of(alloc: Global, rows: u32, lit: &[(u32, u32, u32)]) -> Result<Vec<u8>, Fail> {
     let mut text = Vec::new(alloc);
-    for y in 0u32..32 {
+    for y in 0..rows {
         for x in 0u32..64 {
             let is_lit = lit
                 .iter()
@@ -509,17 +509,58 @@ fn screen_of(alloc: Global, lit: &[(u32, u32, u32)]) -> Result<Vec<u8>, Fail> {
 fn traces_end_with_the_screen(rt: HostRuntime) -> Result<(), Fail> {
     let keys: &[u8] =
         b"100000 down 1\n150000 up 1\n200000 down A\n250000 up A\n300000 down 2\n350000 up 2\n";
-    let rows: [(&str, &[u16], &str, &[(u32, u32, u32)]); 4] = [
+    let rows: [(&str, &[u16], &str, u32, &[(u32, u32, u32)]); 7] = [
         (
             "trace g 200000 --screen",
             &[0x603F, 0x611F, 0x6209, 0xF229, 0xD015, 0x0000],
             "020A 0000 V 3F 1F 09 00 00 00 00 00 00 00 00 00 00 00 00 00 I 872D DT 00 ST 00 Q 0 S",
+            32,
             &[(31, 63, 64)],
+        ),
+        (
+            "trace g 200000 --screen --tall",
+            &[0x603F, 0x613F, 0x6209, 0xF229, 0xD015, 0x0000],
+            "020A 0000 V 3F 3F 09 00 00 00 00 00 00 00 00 00 00 00 00 00 I 872D DT 00 ST 00 Q 0 S",
+            64,
+            &[(63, 63, 64)],
+        ),
+        (
+            "trace --tall g 200000 --screen",
+            &[0x6000, 0x6120, 0xF029, 0xD015, 0x0000],
+            "0208 0000 V 00 20 00 00 00 00 00 00 00 00 00 00 00 00 00 00 I 8700 DT 00 ST 00 Q 0 S",
+            64,
+            &[
+                (32, 0, 4),
+                (33, 0, 1),
+                (33, 3, 4),
+                (34, 0, 1),
+                (34, 3, 4),
+                (35, 0, 1),
+                (35, 3, 4),
+                (36, 0, 4),
+            ],
+        ),
+        (
+            "trace g 200000 --screen",
+            &[0x6000, 0x6120, 0xF029, 0xD015, 0x0000],
+            "0208 0000 V 00 20 00 00 00 00 00 00 00 00 00 00 00 00 00 00 I 8700 DT 00 ST 00 Q 0 S",
+            32,
+            &[
+                (0, 0, 4),
+                (1, 0, 1),
+                (1, 3, 4),
+                (2, 0, 1),
+                (2, 3, 4),
+                (3, 0, 1),
+                (3, 3, 4),
+                (4, 0, 4),
+            ],
         ),
         (
             "trace g 200000 --screen",
             &[0x603F, 0x611F, 0x6209, 0xF229, 0xD015, 0xD015, 0x0000],
             "020C 0000 V 3F 1F 09 00 00 00 00 00 00 00 00 00 00 00 00 01 I 872D DT 00 ST 00 Q 0 S",
+            32,
             &[],
         ),
         (
@@ -529,14 +570,15 @@ fn traces_end_with_the_screen(rt: HostRuntime) -> Result<(), Fail> {
                 0x0000,
             ],
             "0214 0000 V 02 08 04 03 00 00 00 00 00 00 00 00 00 00 00 00 I 870A DT 00 ST 00 Q 0 S",
+            32,
             &[(4, 8, 12), (5, 11, 12), (6, 8, 12), (7, 8, 9), (8, 8, 12)],
         ),
-        ("trace g 0 --screen", &[0x1200], "", &[]),
+        ("trace g 0 --screen", &[0x1200], "", 32, &[]),
     ];
-    for (line, opcodes, last, lit) in rows {
+    for (line, opcodes, last, height, lit) in rows {
         let game = game_of(rt.alloc(), opcodes)?;
         let got = run(rt.alloc(), line, &[("g", game.as_slice()), ("k", keys)])?;
-        let screen = screen_of(rt.alloc(), lit)?;
+        let screen = screen_of(rt.alloc(), height, lit)?;
         let text = got.out.bytes();
         if last.is_empty() {
             assert!(rt; text.is_empty(), "{line}");
@@ -547,8 +589,11 @@ fn traces_end_with_the_screen(rt: HostRuntime) -> Result<(), Fail> {
             .strip_suffix(screen.as_slice())
             .ok_or("another screen")?;
         assert!(rt; last_line(records) == last.as_bytes(), "{line}");
-        // The 32 lines of the screen are one put.
-        assert!(rt; lines_in(text) == got.out.calls() as usize + 31, "{line}");
+        // Each record is one put, and the screen is one more.
+        assert!(rt;
+            lines_in(records).saturating_add(1) == got.out.calls() as usize,
+            "{line}"
+        );
     }
     Ok(())
 }
@@ -587,7 +632,7 @@ fn drawing_and_clearing_wait_for_a_tick(rt: HostRuntime) -> Result<(), Fail> {
         let (ticks, cycle) = time_of(line_at(got.out.bytes(), n), before).ok_or("no time")?;
         assert!(rt; least <= ticks && wait <= cycle, "{line}");
         assert!(rt; 1 < n || cycle <= 15_672, "{line}");
-        let screen = screen_of(rt.alloc(), &[])?;
+        let screen = screen_of(rt.alloc(), 32, &[])?;
         assert!(rt; got.out.bytes().ends_with(screen.as_slice()) == line.ends_with("screen"));
     }
     Ok(())
@@ -629,6 +674,67 @@ fn timers_and_keys_are_seen_by_games(rt: HostRuntime) -> Result<(), Fail> {
         assert!(rt; got.status == Status::Stopped, "{one}");
         assert!(rt; last == one.as_bytes() || last == other.as_bytes(), "{one}");
     }
+    Ok(())
+}
+
+#[test]
+fn games_have_less_memory_on_the_tall_edition(rt: HostRuntime) -> Result<(), Fail> {
+    let rows: [(&str, &[u16], usize, Status, &str); 5] = [
+        (
+            "trace g 200000 --tall",
+            &[0x1D9F],
+            2,
+            Status::Stopped,
+            "stopped FetchOutside at 0D9F\n",
+        ),
+        (
+            "trace g 200000 --tall",
+            &[0xAD9F, 0xF155],
+            4,
+            Status::Stopped,
+            "stopped WriteOutside F155 at 0202\n",
+        ),
+        (
+            "play g 2912 --tall",
+            &[0x1200],
+            2,
+            Status::Done,
+            "done 2912\n",
+        ),
+        (
+            "play g 2912 --tall",
+            &[0x1200],
+            2_976,
+            Status::Done,
+            "done 2912\n",
+        ),
+        (
+            "play g 2912 --tall",
+            &[0x1200],
+            2_977,
+            Status::GameTooLarge,
+            "vip: game larger than 2976 bytes\n",
+        ),
+    ];
+    for (line, opcodes, size, status, report) in rows {
+        let mut game = game_of(rt.alloc(), opcodes)?;
+        game.resize(size, 0)?;
+        let got = run(rt.alloc(), line, &[("g", game.as_slice())])?;
+        assert!(rt; got.status == status, "{report}");
+        assert!(rt; got.err.bytes() == report.as_bytes(), "{report}");
+        if status == Status::Done {
+            // One picture, which is dark.
+            let dots = got
+                .out
+                .bytes()
+                .strip_prefix(b"P4\n64 128\n")
+                .ok_or("no header")?;
+            assert!(rt; dots.len() == 1_024, "{size}");
+            assert!(rt; dots.iter().all(|byte| *byte == 0), "{size}");
+        }
+    }
+    let demo = run(rt.alloc(), "demo 0 5 --tall", &[])?;
+    assert!(rt; demo.status == Status::Usage);
     Ok(())
 }
 

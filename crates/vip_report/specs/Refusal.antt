@@ -1,6 +1,6 @@
 -- The status of each refusal.
 use Rattle.vip_report.specs.declared.refusal.Kind.{Kind}
-use Rattle.vip_report.specs.declared.refusal.Kind.TheVariants.{Game, Script, Commands, Source}
+use Rattle.vip_report.specs.declared.refusal.Kind.TheVariants.{Game, TallGame, Script, Commands, Source}
 use Rattle.vip_report.specs.declared.refusal.Refusal.{Refusal}
 use Rattle.vip_report.specs.declared.refusal.Refusal.TheVariants as refusal
 use Rattle.vip_report.specs.declared.status.Status.{Status}
@@ -10,6 +10,7 @@ use Rattle.rom_check.specs.declared.fault.ImageFault.TheVariants as image
 
 abbrev pub too_large_status : Kind → Status
 too_large_status Game = GameTooLarge
+too_large_status TallGame = GameTooLarge
 too_large_status Script = ScriptTooLarge
 too_large_status Commands = CommandsTooLarge
 too_large_status Source = SourceTooLarge

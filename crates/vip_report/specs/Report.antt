@@ -17,7 +17,7 @@ use Rattle.vip_show.specs.Endings.Ending.{AtLimit, AtStop}
 use Rattle.vip_report.specs.declared.ended.Ended.{Ended}
 use Rattle.vip_report.specs.declared.ended.Ended.TheVariants.{Worked, Ran}
 use Rattle.vip_report.specs.declared.refusal.Kind.{Kind}
-use Rattle.vip_report.specs.declared.refusal.Kind.TheVariants.{Game, Script, Commands, Source}
+use Rattle.vip_report.specs.declared.refusal.Kind.TheVariants.{Game, TallGame, Script, Commands, Source}
 use Rattle.vip_report.specs.declared.refusal.Refusal.{Refusal}
 use Rattle.vip_report.specs.declared.refusal.Refusal.TheVariants as refusal
 
@@ -67,6 +67,7 @@ at_line text line cause = text ++ (decimal line ++ (codes ": " ++ (cause ++ newl
 
 abbrev pub too_large_report : Kind → List ℕ
 too_large_report Game = codes "vip: game larger than 3232 bytes" ++ newline
+too_large_report TallGame = codes "vip: game larger than 2976 bytes" ++ newline
 too_large_report Script = codes "vip: key script larger than 1048576 bytes" ++ newline
 too_large_report Commands = codes "vip: commands larger than 1048576 bytes" ++ newline
 too_large_report Source = codes "vip: source too large" ++ newline

@@ -14,9 +14,11 @@ use vip_outside::Failed;
 /// Files that are limited in their size.
 #[derive(Clone, Copy, Debug, Default, PartialEq, Eq)]
 pub enum Kind {
-    /// A game for the interpreter, at most 3,232 bytes.
+    /// A game for the usual edition, at most 3,232 bytes.
     #[default]
     Game,
+    /// A game for the tall edition, at most 2,976 bytes.
+    TallGame,
     /// A key script, at most 1,048,576 bytes.
     Script,
     /// The commands of the debugger, at most 1,048,576 bytes.
@@ -55,7 +57,7 @@ impl Refusal<'_> {
         match self {
             Refusal::Usage => Status::Usage,
             Refusal::Unread(_) => Status::ReadFault,
-            Refusal::TooLarge(Kind::Game) => Status::GameTooLarge,
+            Refusal::TooLarge(Kind::Game | Kind::TallGame) => Status::GameTooLarge,
             Refusal::TooLarge(Kind::Script) => Status::ScriptTooLarge,
             Refusal::TooLarge(Kind::Commands) => Status::CommandsTooLarge,
             Refusal::TooLarge(Kind::Source) => Status::SourceTooLarge,

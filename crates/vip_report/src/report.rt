@@ -87,6 +87,7 @@ fn put_too_large<S: Sink>(sink: &mut S, kind: Kind) -> Result<(), Failed>
 {
     match kind {
         Kind::Game => put_line(sink, b"vip: game larger than 3232 bytes\n"),
+        Kind::TallGame => put_line(sink, b"vip: game larger than 2976 bytes\n"),
         Kind::Script => put_line(sink, b"vip: key script larger than 1048576 bytes\n"),
         Kind::Commands => put_line(sink, b"vip: commands larger than 1048576 bytes\n"),
         Kind::Source => put_line(sink, b"vip: source too large\n"),

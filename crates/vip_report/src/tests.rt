@@ -28,6 +28,11 @@ fn refusals_have_their_statuses_and_reports(rt: HostRuntime) -> Result<(), Fail>
             "vip: game larger than 3232 bytes\n",
         ),
         (
+            Refusal::TooLarge(Kind::TallGame),
+            4,
+            "vip: game larger than 2976 bytes\n",
+        ),
+        (
             Refusal::TooLarge(Kind::Script),
             5,
             "vip: key script larger than 1048576 bytes\n",

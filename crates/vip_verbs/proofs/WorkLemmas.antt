@@ -1,6 +1,7 @@
 -- What a command answers, from the answers of its parts.
 use Rattle.std.proofs.Common.{◌≡◌, ◌∙◌, ℕ, suc, ◌-◌, ◌≤◌, max, true, false, List, [], ◌∷◌, length, take, drop, get_or, take_all, refl, sym, ap, subst, arith, Result, Ok, Err, IsErrAnd, Vec}
 use Rattle.std.proofs.Math.Nat.{max-zero}
+use Rattle.chip8_lang.specs.declared.view.Edition.{Edition}
 use Rattle.chip8_lang.specs.declared.view.Edition.TheVariants.{Usual}
 use Rattle.chip8_lang.specs.declared.view.StopRecord.{StopRecord}
 use Rattle.chip8_lang.specs.Events.{is_stop}
@@ -87,9 +88,9 @@ module _ (asked : Asked) (contents : List (List ℕ)) where
   -- ---- a run
 
   module _
-      (game : List ℕ) (limit : ℕ) (scripts : List (List ℕ)) (shown : VipState → List (List ℕ)) (ending : VipState → Ending)
-      (fits : (o : Outcome) → RunComes limit scripts (λ script. shown (started Usual game script)) (λ script. ending (started Usual game script)) o → Comes asked contents o) where
-    refused-start : (old : SinkMeaning) (refusal : Refusal) → StartAnswers game scripts (Err refusal) → WorkAnswers asked contents old old (Err refusal)
+      (e : Edition) (game : List ℕ) (limit : ℕ) (scripts : List (List ℕ)) (shown : VipState → List (List ℕ)) (ending : VipState → Ending)
+      (fits : (o : Outcome) → RunComes e limit scripts (λ script. shown (started e game script)) (λ script. ending (started e game script)) o → Comes asked contents o) where
+    refused-start : (old : SinkMeaning) (refusal : Refusal) → StartAnswers e game scripts (Err refusal) → WorkAnswers asked contents old old (Err refusal)
     refused-start old Usage answer = absurd answer
     refused-start old (Unread name) answer = absurd answer
     refused-start old (TooLarge kind) answer = absurd answer
@@ -101,15 +102,15 @@ module _ (asked : Asked) (contents : List (List ℕ)) where
     refused-start old NoMemory answer = refl
 
     -- it doesn't begin
-    pub start-fails : (old : SinkMeaning) (refusal : Refusal) (r : Result Ended Refusal) → IsErrAnd r (λ e. e ≡ refusal) → StartAnswers game scripts (Err refusal) → WorkAnswers asked contents old old r
+    pub start-fails : (old : SinkMeaning) (refusal : Refusal) (r : Result Ended Refusal) → IsErrAnd r (λ e. e ≡ refusal) → StartAnswers e game scripts (Err refusal) → WorkAnswers asked contents old old r
     start-fails old refusal r is answer = passed old refusal r is (refused-start old refusal answer)
 
     -- its output, with its ending
-    run-comes : (v : VipState) → Begins game scripts v → Comes asked contents (Shown (shown v) (end_status (ending v)) (end_report limit (ending v)))
+    run-comes : (v : VipState) → Begins e game scripts v → Comes asked contents (Shown (shown v) (end_status (ending v)) (end_report limit (ending v)))
     run-comes v begins = subst (λ w. Comes asked contents (Shown (shown w) (end_status (ending w)) (end_report limit (ending w)))) (sym begins.is) (fits _ (Runs begins.script begins.reads begins.rom))
 
     -- it ran to its end
-    pub run-ends : (v : VipState) (old new : SinkMeaning) (end : RunEnd) → Begins game scripts v → ending_in end ≡ ending v → PutsAll (shown v) old new → Ends asked contents old new (Ran limit end)
+    pub run-ends : (v : VipState) (old new : SinkMeaning) (end : RunEnd) → Begins e game scripts v → ending_in end ≡ ending v → PutsAll (shown v) old new → Ends asked contents old new (Ran limit end)
     run-ends v old new end begins ends puts = record {
       pieces = shown v;
       comes = subst (λ e. Comes asked contents (Shown (shown v) (end_status e) (end_report limit e))) (sym ends) (run-comes v begins);
@@ -117,7 +118,7 @@ module _ (asked : Asked) (contents : List (List ℕ)) where
     }
 
     -- its output failed
-    pub breaks : (v : VipState) (old new : SinkMeaning) → Begins game scripts v → FailsWithin (shown v) old new → Breaks asked contents old new
+    pub breaks : (v : VipState) (old new : SinkMeaning) → Begins e game scripts v → FailsWithin (shown v) old new → Breaks asked contents old new
     breaks v old new begins fault = record {
       pieces = shown v;
       status = end_status (ending v);
@@ -126,14 +127,14 @@ module _ (asked : Asked) (contents : List (List ℕ)) where
       fails = fault;
     }
 
-    pub run-fails : (v : VipState) (old new : SinkMeaning) (r : Result Ended Refusal) → Begins game scripts v → IsErrAnd r (λ e. e ≡ Write) → FailsWithin (shown v) old new → WorkAnswers asked contents old new r
+    pub run-fails : (v : VipState) (old new : SinkMeaning) (r : Result Ended Refusal) → Begins e game scripts v → IsErrAnd r (λ e. e ≡ Write) → FailsWithin (shown v) old new → WorkAnswers asked contents old new r
     run-fails v old new r begins is fault = broken old new r is (breaks v old new begins fault)
 
   -- ---- a run under the debugger
 
   module _
-      (game : List ℕ) (limit : ℕ) (scripts : List (List ℕ)) (text : List ℕ)
-      (fits : (o : Outcome) → DebugComes game limit scripts (commands_of limit text) o → Comes asked contents o) where
+      (e : Edition) (game : List ℕ) (limit : ℕ) (scripts : List (List ℕ)) (text : List ℕ)
+      (fits : (o : Outcome) → DebugComes e game limit scripts (commands_of limit text) o → Comes asked contents o) where
     refused-commands : (old : SinkMeaning) (refusal : Refusal) → DebugCommandsAnswer limit text (Err refusal) → WorkAnswers asked contents old old (Err refusal)
     refused-commands old Usage answer = absurd answer
     refused-commands old (Unread name) answer = absurd answer
@@ -150,7 +151,7 @@ module _ (asked : Asked) (contents : List (List ℕ)) where
     commands-fail old refusal r is answer = passed old refusal r is (refused-commands old refusal answer)
 
     -- they are, so it comes to what a run comes to
-    pub as-run : (commands : List DebugCommand) → commands_of limit text ≡ Ok commands → (o : Outcome) → RunComes limit scripts (λ script. written (started Usual game script) limit commands at_start) (λ script. debug_ending (started Usual game script) limit commands) o → Comes asked contents o
+    pub as-run : (commands : List DebugCommand) → commands_of limit text ≡ Ok commands → (o : Outcome) → RunComes e limit scripts (λ script. written (started e game script) limit commands at_start) (λ script. debug_ending (started e game script) limit commands) o → Comes asked contents o
     as-run commands read o come = fits o (rw read come)
 
 -- how a run ends by its events
@@ -159,7 +160,7 @@ ended_by limit v = ending_of v.edition (events_to v limit)
 
 -- ---- what the debugger answers of a machine that begins
 
-module _ (game : List ℕ) (scripts : List (List ℕ)) (limit : ℕ) (commands : List DebugCommand) (v w : VipState) (old new : SinkMeaning) (begins : Begins game scripts v) where
+module _ (e : Edition) (game : List ℕ) (scripts : List (List ℕ)) (limit : ℕ) (commands : List DebugCommand) (v w : VipState) (old new : SinkMeaning) (begins : Begins e game scripts v) where
   -- it begins before the first move, and the limit isn't in its past
   from-start : (end : DebugEnd) → DebugAnswers (begun v) (max limit v.board.machine.cycle) commands (place_of v) w old new end → DebugAnswers v limit commands at_start w old new end
   from-start end =
@@ -182,8 +183,8 @@ module _ (game : List ℕ) (scripts : List (List ℕ)) (limit : ℕ) (commands :
   debug-fails answers = (from-start debug.WriteFault answers).0
 
 -- a demonstration runs the game of its number
-pub demo-comes : (number limit : ℕ) (game : List ℕ) → game ≡ demo_game number → (o : Outcome) → RunComes limit [] (λ script. summed number (started Usual game script) limit) (λ script. ended_by limit (started Usual game script)) o → RunComes limit [] (λ script. summed number (started Usual (demo_game number) script) limit) (run_ending (demo_game number) limit) o
-demo-comes number limit game is o come = subst (λ g. RunComes limit [] (λ script. summed number (started Usual g script) limit) (run_ending g limit) o) is come
+pub demo-comes : (number limit : ℕ) (game : List ℕ) → game ≡ demo_game number → (o : Outcome) → RunComes Usual limit [] (λ script. summed number (started Usual game script) limit) (λ script. ended_by limit (started Usual game script)) o → RunComes Usual limit [] (λ script. summed number (started Usual (demo_game number) script) limit) (run_ending Usual (demo_game number) limit) o
+demo-comes number limit game is o come = subst (λ g. RunComes Usual limit [] (λ script. summed number (started Usual g script) limit) (run_ending Usual g limit) o) is come
 
 -- ---- the files of a command, by their places
 

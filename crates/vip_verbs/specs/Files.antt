@@ -2,10 +2,13 @@
 use Rattle.std.specs.Prelude.{◌≡◌, ◌≤◌, ◌<◌, ◌-◌, ◌⊎◌, ℕ, List, [], ◌∷◌, ◌++◌, map, length, Option, Some, None, Result, Ok, Err, Vec, slice_index, IfSome, IsSomeAnd}
 use Rattle.std.specs.FinMap.{get}
 use Rattle.vip_outside.specs.Files.{FilesMeaning, ReadFails, LacksName}
+use Rattle.chip8_lang.specs.State.{memory_size}
+use Rattle.chip8_lang.specs.declared.view.Edition.{Edition}
+use Rattle.chip8_lang.specs.declared.view.Edition.TheVariants.{Usual, Tall}
 use Rattle.vip_words.specs.Asked.{Asked, trace, play, debug, demo, asm, list, dis, bounds}
 use Rattle.vip_verbs.specs.declared.files.Wanted.{Wanted}
 use Rattle.vip_report.specs.declared.refusal.Kind.{Kind}
-use Rattle.vip_report.specs.declared.refusal.Kind.TheVariants.{Game, Script, Commands, Source}
+use Rattle.vip_report.specs.declared.refusal.Kind.TheVariants.{Game, TallGame, Script, Commands, Source}
 use Rattle.vip_report.specs.declared.refusal.Refusal.{Refusal}
 use Rattle.vip_report.specs.declared.refusal.Refusal.TheVariants.{Unread, TooLarge, NoMemory}
 
@@ -15,14 +18,19 @@ pub record Needed : Type 0 where
   pub most : ℕ
   pub kind : Kind
 
-abbrev pub most_game : ℕ
-most_game = 3232
-
 abbrev pub most_text : ℕ
 most_text = 1_048_576
 
 abbrev pub file : Kind → ℕ → List ℕ → Needed
 file kind most name = record { name = name; most = most; kind = kind }
+
+-- a game, which has to fit into its edition's game memory
+abbrev pub game_kind : Edition → Kind
+game_kind Usual = Game
+game_kind Tall = TallGame
+
+abbrev pub game_file : Edition → List ℕ → Needed
+game_file e name = file (game_kind e) (memory_size e) name
 
 -- the key script, where one is named
 abbrev pub script_file : Option (List ℕ) → List Needed
@@ -31,9 +39,9 @@ script_file (Some name) = file Script most_text name ∷ []
 
 -- the files of a command, in the order in which they are read; bytes to disassemble have to end by address FFFF
 abbrev pub needed : Asked → List Needed
-needed (trace a) = file Game most_game a.game ∷ script_file a.keys
-needed (play a) = file Game most_game a.game ∷ script_file a.keys
-needed (debug a) = file Game most_game a.game ∷ file Commands most_text a.commands ∷ script_file a.keys
+needed (trace a) = game_file a.edition a.game ∷ script_file a.keys
+needed (play a) = game_file a.edition a.game ∷ script_file a.keys
+needed (debug a) = game_file a.edition a.game ∷ file Commands most_text a.commands ∷ script_file a.keys
 needed (demo a) = []
 needed (asm name) = file Source most_text name ∷ []
 needed (list name) = file Source most_text name ∷ []

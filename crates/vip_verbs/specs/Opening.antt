@@ -1,7 +1,7 @@
 -- What the opening of a run and of a source answers.
 use Rattle.std.specs.Prelude.{◌≡◌, ◌≤◌, ℕ, List, [], ◌∷◌, length, Result, Ok, Err}
 use Rattle.machine.specs.Keys.{Event as KeyEvent}
-use Rattle.chip8_lang.specs.declared.view.Edition.TheVariants.{Usual}
+use Rattle.chip8_lang.specs.declared.view.Edition.{Edition}
 use Rattle.asm_core.specs.Made.{Made, IsAssembly}
 use Rattle.asm_core.specs.Sources.{source_lines, HasFirstFault}
 use Rattle.vip_debug.specs.Grammar.{commands_of}
@@ -35,32 +35,32 @@ DebugCommandsAnswer limit text (Err NoMemory) = Unit {0}
 DebugCommandsAnswer limit text (Err _) = ⊥
 
 -- the ROM is what its source gives
-abbrev pub RomAnswers : Result (Unit {0}) Refusal → Type 0
-RomAnswers (Ok done) = RomIs (Ok done)
-RomAnswers (Err (Rom fault)) = IsFault fault × RomIs (Err fault)
-RomAnswers (Err NoMemory) = Unit {0}
-RomAnswers (Err _) = ⊥
+abbrev pub RomAnswers : Edition → Result (Unit {0}) Refusal → Type 0
+RomAnswers e (Ok done) = RomIs e (Ok done)
+RomAnswers e (Err (Rom fault)) = IsFault fault × RomIs e (Err fault)
+RomAnswers e (Err NoMemory) = Unit {0}
+RomAnswers e (Err _) = ⊥
 
 -- the ROM is refused behind a script that is read
-pub record RefusesRom (scripts : List (List ℕ)) (refusal : Refusal) : Type 0 where
+pub record RefusesRom (e : Edition) (scripts : List (List ℕ)) (refusal : Refusal) : Type 0 where
   pub script : List KeyEvent
   pub reads : script_in scripts ≡ Ok script
-  pub rom : RomAnswers (Err refusal)
+  pub rom : RomAnswers e (Err refusal)
 
 -- a machine that begins to run the game under its script
-pub record Begins (game : List ℕ) (scripts : List (List ℕ)) (v : VipState) : Type 0 where
+pub record Begins (e : Edition) (game : List ℕ) (scripts : List (List ℕ)) (v : VipState) : Type 0 where
   pub script : List KeyEvent
   pub reads : script_in scripts ≡ Ok script
-  pub rom : RomIs (Ok tt)
-  pub is : v ≡ started Usual game script
+  pub rom : RomIs e (Ok tt)
+  pub is : v ≡ started e game script
   pub runs : HasStopped v → ⊥
 
-abbrev pub StartAnswers : List ℕ → List (List ℕ) → Result VipState Refusal → Type 0
-StartAnswers game scripts (Ok v) = Begins game scripts v
-StartAnswers game scripts (Err (Script line cause)) = script_in scripts ≡ Err (Fault line cause)
-StartAnswers game scripts (Err (Rom fault)) = RefusesRom scripts (Rom fault)
-StartAnswers game scripts (Err NoMemory) = Unit {0}
-StartAnswers game scripts (Err _) = ⊥
+abbrev pub StartAnswers : Edition → List ℕ → List (List ℕ) → Result VipState Refusal → Type 0
+StartAnswers e game scripts (Ok v) = Begins e game scripts v
+StartAnswers e game scripts (Err (Script line cause)) = script_in scripts ≡ Err (Fault line cause)
+StartAnswers e game scripts (Err (Rom fault)) = RefusesRom e scripts (Rom fault)
+StartAnswers e game scripts (Err NoMemory) = Unit {0}
+StartAnswers e game scripts (Err _) = ⊥
 
 -- a source is assembled
 abbrev pub SourceAnswers : List ℕ → Result Made Refusal → Type 0

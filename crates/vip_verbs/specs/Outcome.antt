@@ -2,11 +2,11 @@
 use Rattle.std.specs.Prelude.{◌≡◌, ℕ, List, [], ◌∷◌, if◌then◌else◌, Result, Ok, Err}
 use Rattle.machine.specs.Board.{Machine}
 use Rattle.machine.specs.Keys.{Event as KeyEvent}
-use Rattle.chip8_image.specs.declared.image.TheConstants.{IMAGE}
-use Rattle.chip8_lang.specs.declared.view.Edition.TheVariants.{Usual}
+use Rattle.chip8_lang.specs.declared.view.Edition.{Edition}
+use Rattle.chip8_lang.specs.declared.view.Edition.TheVariants.{Usual, Tall}
 use Rattle.chip8_lang.specs.declared.view.StopRecord.{StopRecord}
 use Rattle.chip8_lang.specs.Events.{Event, events_of, game_run, is_stop}
-use Rattle.chip8_source.specs.Texts.{usual_text}
+use Rattle.chip8_source.specs.Texts.{usual_text, tall_text}
 use Rattle.asm_core.specs.Made.{Made, IsAssembly}
 use Rattle.asm_core.specs.Sources.{source_lines, HasFirstFault}
 use Rattle.asm_core.specs.declared.fault.AsmCause.{AsmCause}
@@ -51,20 +51,25 @@ abbrev pub script_in : List (List ℕ) → Result (List KeyEvent) ScriptFault
 script_in [] = Ok []
 script_in (text ∷ _) = script_of text
 
--- the run of a game under a script up to a limit, and its events
-abbrev pub run_of : List ℕ → List KeyEvent → ℕ → List Machine
-run_of game script limit = game_run (interpreter_of Usual) game script limit
+-- the run of an edition's game under a script up to a limit, and its events
+abbrev pub run_of : Edition → List ℕ → List KeyEvent → ℕ → List Machine
+run_of e game script limit = game_run (interpreter_of e) game script limit
 
-abbrev pub events_in : List ℕ → List KeyEvent → ℕ → List Event
-events_in game script limit = events_of (interpreter_of Usual) game script limit
+abbrev pub events_in : Edition → List ℕ → List KeyEvent → ℕ → List Event
+events_in e game script limit = events_of (interpreter_of e) game script limit
 
 -- how it ends, by its events
-abbrev pub run_ending : List ℕ → ℕ → List KeyEvent → Ending
-run_ending game limit script = ending_of Usual (events_in game script limit)
+abbrev pub run_ending : Edition → List ℕ → ℕ → List KeyEvent → Ending
+run_ending e game limit script = ending_of e (events_in e game script limit)
 
--- what the built-in source gives, compared with the ROM
-abbrev pub RomIs : Result (Unit {0}) ImageFault → Type 0
-RomIs answer = Compares (source_lines usual_text) IMAGE answer
+-- the built-in source of an edition's ROM
+abbrev pub rom_text : Edition → List ℕ
+rom_text Usual = usual_text
+rom_text Tall = tall_text
+
+-- what it gives, compared with the ROM
+abbrev pub RomIs : Edition → Result (Unit {0}) ImageFault → Type 0
+RomIs e answer = Compares (source_lines (rom_text e)) (interpreter_of e).rom answer
 
 -- it isn't what its source gives
 abbrev pub IsFault : ImageFault → Type 0
@@ -72,10 +77,10 @@ IsFault NoMemory = ⊥
 IsFault _ = Unit {0}
 
 -- A run up to a limit comes to the first fault of its script, to a ROM that isn't what its source gives, or to its output and its ending.
-pub data RunComes (limit : ℕ) (scripts : List (List ℕ)) (pieces : List KeyEvent → List (List ℕ)) (ending : List KeyEvent → Ending) : Outcome → Type 0 where
-  FaultyScript : (line : ℕ) (cause : ScriptCause) → script_in scripts ≡ Err (Fault line cause) → RunComes limit scripts pieces ending (Refused BadScript (bad_script line cause))
-  FaultyRom : (script : List KeyEvent) (fault : ImageFault) → script_in scripts ≡ Ok script → IsFault fault → RomIs (Err fault) → RunComes limit scripts pieces ending (Refused (image_status fault) (image_report fault))
-  Runs : (script : List KeyEvent) → script_in scripts ≡ Ok script → RomIs (Ok tt) → RunComes limit scripts pieces ending (Shown (pieces script) (end_status (ending script)) (end_report limit (ending script)))
+pub data RunComes (e : Edition) (limit : ℕ) (scripts : List (List ℕ)) (pieces : List KeyEvent → List (List ℕ)) (ending : List KeyEvent → Ending) : Outcome → Type 0 where
+  FaultyScript : (line : ℕ) (cause : ScriptCause) → script_in scripts ≡ Err (Fault line cause) → RunComes e limit scripts pieces ending (Refused BadScript (bad_script line cause))
+  FaultyRom : (script : List KeyEvent) (fault : ImageFault) → script_in scripts ≡ Ok script → IsFault fault → RomIs e (Err fault) → RunComes e limit scripts pieces ending (Refused (image_status fault) (image_report fault))
+  Runs : (script : List KeyEvent) → script_in scripts ≡ Ok script → RomIs e (Ok tt) → RunComes e limit scripts pieces ending (Shown (pieces script) (end_status (ending script)) (end_report limit (ending script)))
 
 -- ---- a run under the debugger
 
@@ -90,10 +95,10 @@ abbrev pub debug_ending : VipState → ℕ → List Command → Ending
 debug_ending v limit commands = ending_where v (place_after v limit commands at_start).moves
 
 -- It comes to the first fault of its commands, or else, as other runs do, to the answers of the commands on a board that begins.
-abbrev pub DebugComes : List ℕ → ℕ → List (List ℕ) → Result (List Command) CommandFault → Outcome → Type 0
-DebugComes game limit scripts (Ok commands) o = RunComes limit scripts (λ script. written (started Usual game script) limit commands at_start) (λ script. debug_ending (started Usual game script) limit commands) o
-DebugComes game limit scripts (Err (command.Fault line cause)) o = o ≡ Refused BadCommand (bad_command line cause)
-DebugComes game limit scripts (Err command.NoMemory) o = ⊥
+abbrev pub DebugComes : Edition → List ℕ → ℕ → List (List ℕ) → Result (List Command) CommandFault → Outcome → Type 0
+DebugComes e game limit scripts (Ok commands) o = RunComes e limit scripts (λ script. written (started e game script) limit commands at_start) (λ script. debug_ending (started e game script) limit commands) o
+DebugComes e game limit scripts (Err (command.Fault line cause)) o = o ≡ Refused BadCommand (bad_command line cause)
+DebugComes e game limit scripts (Err command.NoMemory) o = ⊥
 
 -- ---- a source
 
@@ -113,10 +118,10 @@ cycles_in _ = 0
 
 -- what a command comes to, by the contents of its files in their order
 abbrev pub Comes : Asked → List (List ℕ) → Outcome → Type 0
-Comes (trace a) (game ∷ scripts) o = RunComes a.cycles scripts (λ script. trace_pieces Usual a.at a.screen (events_in game script a.cycles)) (run_ending game a.cycles) o
-Comes (play a) (game ∷ scripts) o = RunComes a.cycles scripts (λ script. picture_pieces IMAGE (run_of game script a.cycles) (events_in game script a.cycles)) (run_ending game a.cycles) o
-Comes (debug a) (game ∷ commands ∷ scripts) o = DebugComes game a.cycles scripts (commands_of a.cycles commands) o
-Comes (demo a) [] o = RunComes a.cycles [] (λ script. summary Usual a.number (events_in (demo_game a.number) script a.cycles) ∷ []) (run_ending (demo_game a.number) a.cycles) o
+Comes (trace a) (game ∷ scripts) o = RunComes a.edition a.cycles scripts (λ script. trace_pieces a.edition a.at a.screen (events_in a.edition game script a.cycles)) (run_ending a.edition game a.cycles) o
+Comes (play a) (game ∷ scripts) o = RunComes a.edition a.cycles scripts (λ script. picture_pieces (interpreter_of a.edition).rom (run_of a.edition game script a.cycles) (events_in a.edition game script a.cycles)) (run_ending a.edition game a.cycles) o
+Comes (debug a) (game ∷ commands ∷ scripts) o = DebugComes a.edition game a.cycles scripts (commands_of a.cycles commands) o
+Comes (demo a) [] o = RunComes Usual a.cycles [] (λ script. summary Usual a.number (events_in Usual (demo_game a.number) script a.cycles) ∷ []) (run_ending Usual (demo_game a.number) a.cycles) o
 Comes (asm name) (source ∷ []) o = SourceComes source (λ made text. text ≡ dump_text made) o
 Comes (list name) (source ∷ []) o = SourceComes source (λ made text. IsListing (source_lines source) text) o
 Comes (dis a) (bytes ∷ []) o = o ≡ Shown (disassembly a.address bytes ∷ []) Done []

@@ -2,17 +2,15 @@
 
 ghost use Rattle.std.specs.Prelude.{◌≡◌, ◌<◌, ◌∷◌, [], ℕ, map, option_map, slice_index};
 ghost use Rattle.vip_words.specs.Request.{asked_of};
-ghost use Rattle.vip_report.specs.declared.refusal.Kind.TheVariants.{Game, Commands, Source};
-ghost use Rattle.vip_verbs.specs.Files.{needed, file, script_file, most_game, most_text, seen_wanted, FileAnswers, FilesAnswer};
+ghost use Rattle.vip_report.specs.declared.refusal.Kind.TheVariants.{Commands, Source};
+ghost use Rattle.vip_verbs.specs.Files.{needed, file, game_file, script_file, most_text, seen_wanted, FileAnswers, FilesAnswer};
 
 use arrayvec::ArrayVec;
+use chip8_lang::Edition;
 use std::alloc::Global;
 use vip_outside::{Files, ReadFail};
 use vip_report::{Kind, Refusal};
 use vip_words::Request;
-
-/// The most bytes of a game.
-const MOST_GAME: usize = 3232;
 
 /// The most bytes of a key script, of the debugger's commands or of a source.
 const MOST_TEXT: usize = 1_048_576;
@@ -28,16 +26,30 @@ pub struct Wanted<'a> {
     pub kind: Kind,
 }
 
+/// A game, which has to fit into its edition's game memory.
+fn game_file<'a>(edition: Edition, name: &'a str) -> Wanted<'a>
+    ensures { seen_wanted result ≡ game_file edition name.now }
+{
+    match edition {
+        Edition::Usual => Wanted {
+            name,
+            most: 3_232,
+            kind: Kind::Game,
+        },
+        Edition::Tall => Wanted {
+            name,
+            most: 2_976,
+            kind: Kind::TallGame,
+        },
+    }
+}
+
 /// The files of a run: the game, and the key script where one is named.
-fn run_files<'a>(game: &'a str, keys: Option<&'a str>) -> ArrayVec<Wanted<'a>, 3>
-    ensures { map seen_wanted result.items ≡ file Game most_game game.now ∷ script_file (option_map (λ name. name.now) keys.entry) }
+fn run_files<'a>(edition: Edition, game: &'a str, keys: Option<&'a str>) -> ArrayVec<Wanted<'a>, 3>
+    ensures { map seen_wanted result.items ≡ game_file edition game.now ∷ script_file (option_map (λ name. name.now) keys.entry) }
 {
     let mut wanted = ArrayVec::new();
-    wanted.push(Wanted {
-        name: game,
-        most: MOST_GAME,
-        kind: Kind::Game,
-    });
+    wanted.push(game_file(edition, game));
     if let Some(name) = keys {
         wanted.push(Wanted {
             name,
@@ -50,13 +62,14 @@ fn run_files<'a>(game: &'a str, keys: Option<&'a str>) -> ArrayVec<Wanted<'a>, 3
 
 /// The files of a run under the debugger: the game, the commands, and the key script where one is named.
 fn debug_files<'a>(
+    edition: Edition,
     game: &'a str,
     commands: &'a str,
     keys: Option<&'a str>,
 ) -> ArrayVec<Wanted<'a>, 3>
-    ensures { map seen_wanted result.items ≡ file Game most_game game.now ∷ file Commands most_text commands.now ∷ script_file (option_map (λ name. name.now) keys.entry) }
+    ensures { map seen_wanted result.items ≡ game_file edition game.now ∷ file Commands most_text commands.now ∷ script_file (option_map (λ name. name.now) keys.entry) }
 {
-    let mut wanted = run_files(game, keys);
+    let mut wanted = run_files(edition, game, keys);
     wanted.insert(
         1,
         Wanted {
@@ -86,9 +99,9 @@ pub fn wanted_files<'a>(request: &Request<'a>) -> ArrayVec<Wanted<'a>, 3>
     ensures { map seen_wanted result.items ≡ needed (asked_of request.now) }
 {
     match request {
-        Request::Trace(wish) => run_files(wish.game, wish.keys),
-        Request::Play(wish) => run_files(wish.game, wish.keys),
-        Request::Debug(wish) => debug_files(wish.game, wish.commands, wish.keys),
+        Request::Trace(wish) => run_files(wish.edition, wish.game, wish.keys),
+        Request::Play(wish) => run_files(wish.edition, wish.game, wish.keys),
+        Request::Debug(wish) => debug_files(wish.edition, wish.game, wish.commands, wish.keys),
         Request::Asm(wish) => source_file(wish.file, MOST_TEXT),
         Request::List(wish) => source_file(wish.file, MOST_TEXT),
         Request::Dis(wish) => source_file(wish.file, ADDRESSES - usize::from(wish.address)),

@@ -1,17 +1,19 @@
 //! The work of each verb.
 
 ghost use Rattle.std.specs.Prelude.{◌≡◌, ◌-◌, ◌≤◌, ◌∷◌, [], ℕ, List, length};
+ghost use Rattle.chip8_lang.specs.State.{memory_size};
 ghost use Rattle.vip_words.specs.Asked.Asked.{trace, play, debug, demo, asm, list, dis, bounds};
 ghost use Rattle.vip_words.specs.Request.{asked_of, asked_trace, asked_play, asked_debug, asked_demo, asked_dis};
 ghost use Rattle.vip_verbs.specs.Files.{needed, FitAll, contents_of};
 ghost use Rattle.vip_verbs.specs.Work.{WorkAnswers};
-ghost use Rattle.vip_verbs.specs.Outcome.{cycles_in};
+ghost use Rattle.vip_verbs.specs.Outcome.{RomIs, cycles_in};
 ghost use Rattle.vip_verbs.specs.Opening.{SmallScripts, KeysAnswer, DebugCommandsAnswer, RomAnswers, StartAnswers, SourceAnswers};
 
 use crate::demo::demo_game;
 use asm_core::{AsmFault, Assembly, assemble};
 use asm_listing::{disassemble, dump, listing};
-use rom_check::{ImageFault, check_image};
+use chip8_lang::Edition;
+use rom_check::{ImageFault, check_image, check_tall};
 use std::alloc::Global;
 use vip_bounds::bounds_text;
 use vip_byte::Buffer;
@@ -50,26 +52,41 @@ fn read_debugging<'a>(alloc: Global, text: &[u8], limit: u64) -> Result<Commands
     }
 }
 
-/// Compares the ROM with its built-in source.
-fn check_rom<'a>(alloc: Global) -> Result<(), Refusal<'a>>
-    ensures { RomAnswers result }
+/// Compares an edition's ROM with its built-in source.
+fn compared(alloc: Global, edition: Edition) -> Result<(), ImageFault>
+    ensures { RomIs edition result }
 {
-    match check_image(alloc) {
+    match edition {
+        Edition::Usual => check_image(alloc),
+        Edition::Tall => check_tall(alloc),
+    }
+}
+
+/// The refusal of a ROM that isn't what its source gives.
+fn check_rom<'a>(alloc: Global, edition: Edition) -> Result<(), Refusal<'a>>
+    ensures { RomAnswers edition result }
+{
+    match compared(alloc, edition) {
         Ok(()) => Ok(()),
         Err(ImageFault::NoMemory) => Err(Refusal::NoMemory),
         Err(fault) => Err(Refusal::Rom(fault)),
     }
 }
 
-/// A machine that begins to run a game under its script.
-fn start<'a>(alloc: Global, game: &[u8], scripts: &[Vec<u8>]) -> Result<Vip, Refusal<'a>>
-    requires game { length game.now ≤ 3232 }
+/// A machine of an edition that begins to run a game under its script.
+fn start<'a>(
+    alloc: Global,
+    edition: Edition,
+    game: &[u8],
+    scripts: &[Vec<u8>],
+) -> Result<Vip, Refusal<'a>>
+    requires game { length game.now ≤ memory_size edition }
     requires scripts { SmallScripts (contents_of scripts.now) }
-    ensures { StartAnswers game.now (contents_of scripts.now) result }
+    ensures { StartAnswers edition game.now (contents_of scripts.now) result }
 {
     let script = read_keys(alloc, scripts)?;
-    check_rom(alloc)?;
-    match Vip::start(alloc, game, &script) {
+    check_rom(alloc, edition)?;
+    match Vip::start_as(alloc, edition, game, &script) {
         Ok(vip) => Ok(vip),
         Err(StartFault::GameTooLarge(_)) => Err(Refusal::TooLarge(Kind::Game)),
         Err(StartFault::NoMemory) => Err(Refusal::NoMemory),
@@ -86,7 +103,7 @@ fn trace<'a, O: Sink>(
     requires sizes { FitAll (needed (trace (asked_trace wish.now))) (contents_of contents.now) }
     ensures { WorkAnswers (trace (asked_trace wish.now)) (contents_of contents.now) (O.meaning out.old) (O.meaning out.new) result }
 {
-    let mut vip = start(alloc, contents[0].as_slice(), &contents[1..])?;
+    let mut vip = start(alloc, wish.edition, contents[0].as_slice(), &contents[1..])?;
     let end = show_trace(&mut vip, wish.cycles, wish.at, wish.screen, out)?;
     Ok(Ended::Ran(wish.cycles, end))
 }
@@ -101,7 +118,7 @@ fn play<'a, O: Sink>(
     requires sizes { FitAll (needed (play (asked_play wish.now))) (contents_of contents.now) }
     ensures { WorkAnswers (play (asked_play wish.now)) (contents_of contents.now) (O.meaning out.old) (O.meaning out.new) result }
 {
-    let mut vip = start(alloc, contents[0].as_slice(), &contents[1..])?;
+    let mut vip = start(alloc, wish.edition, contents[0].as_slice(), &contents[1..])?;
     let end = show_pictures(&mut vip, wish.cycles, out)?;
     Ok(Ended::Ran(wish.cycles, end))
 }
@@ -118,7 +135,7 @@ fn debug<'a, O: Sink>(
     ensures { WorkAnswers (debug (asked_debug wish.now)) (contents_of contents.now) (O.meaning out.old) (O.meaning out.new) result }
 {
     let commands = read_debugging(alloc, contents[1].as_slice(), wish.cycles)?;
-    let mut vip = start(alloc, contents[0].as_slice(), &contents[2..])?;
+    let mut vip = start(alloc, wish.edition, contents[0].as_slice(), &contents[2..])?;
     match run_commands(&mut vip, &commands, wish.cycles, out) {
         DebugEnd::Done => Ok(Ended::Ran(wish.cycles, RunEnd::AtLimit)),
         DebugEnd::Stopped(stop) => Ok(Ended::Ran(wish.cycles, RunEnd::AtStop(stop))),
@@ -131,7 +148,7 @@ fn demo<'a, O: Sink>(alloc: Global, wish: &DemoRequest, out: &mut O) -> Result<E
     ensures { WorkAnswers (demo (asked_demo wish.now)) [] (O.meaning out.old) (O.meaning out.new) result }
 {
     let game = demo_game(alloc, wish.number)?;
-    let mut vip = start(alloc, game.as_slice(), &[])?;
+    let mut vip = start(alloc, Edition::Usual, game.as_slice(), &[])?;
     let end = show_summary(&mut vip, wish.cycles, wish.number, out)?;
     Ok(Ended::Ran(wish.cycles, end))
 }

@@ -18,7 +18,7 @@ use Rattle.vip_words.proofs.Ends.{Shows, flag_end}
 use Rattle.vip_words.proofs.Known.{known_of_all, strings_known}
 use Rattle.vip_words.proofs.Rows.{Seen, both_true, first_of-look, look, one_of-look}
 use Rattle.vip_words.proofs.Shown.{flag_in, word_seen}
-use Rattle.vip_words.proofs.Steps.{At, First, Flag, Screen, Second, Third, flag_name}
+use Rattle.vip_words.proofs.Steps.{At, First, Flag, Screen, Second, Tall, Third, flag_name}
 use Rattle.vip_words.proofs.Walks.{Agrees, all_given, command_agrees, is_well_formed}
 
 -- the options of a usage, and whether it knows the words
@@ -73,6 +73,7 @@ pub record ReadFrom (found : Found) (given : Given) : Type 0 where
   pub keys : given.keys ≡ first_value found (codes "keys")
   pub at : FlagRead found (codes "at") given.at
   pub screen : FlagRead found (codes "screen") given.screen
+  pub tall : FlagRead found (codes "tall") given.tall
 
 -- the word in a row
 abbrev word_of : Option Seen → Option Text
@@ -126,11 +127,12 @@ words_read found given few shows =
     ) (words_in_places given.positional few)
 
 same_given : (given given' : Given) → given.positional ≡ given'.positional → given.keys ≡ given'.keys → given.at ≡ given'.at
-    → given.screen ≡ given'.screen → given ≡ given'
-same_given given given' positional keys at screen =
+    → given.screen ≡ given'.screen → given.tall ≡ given'.tall → given ≡ given'
+same_given given given' positional keys at screen tall =
     ap (λ x. record given { positional = x }) positional
     ∙ (ap (λ x. record given { positional = given'.positional; keys = x }) keys
-    ∙ (ap (λ x. record given' { at = x; screen = given.screen }) at ∙ ap (λ x. record given' { screen = x }) screen))
+    ∙ (ap (λ x. record given' { at = x; screen = given.screen; tall = given.tall }) at
+    ∙ (ap (λ x. record given' { screen = x; tall = given.tall }) screen ∙ ap (λ x. record given' { tall = x }) tall)))
 
 -- what is read is what the rows show
 read_shown : (found : Found) (given given' : Given) → length given.positional ≤ 3 → Shows (rows_of found) given → ReadFrom found given'
@@ -141,6 +143,7 @@ read_shown found given given' few shows reads =
     (sym (reads.keys ∙ word_read found (codes "keys") given.keys shows.keys_is))
     (flag_read found given At given'.at shows reads.at)
     (flag_read found given Screen given'.screen shows reads.screen)
+    (flag_read found given Tall given'.tall shows reads.tall)
 
 count_of : (count : ℕ) (words : List Word) → is_well_formed count words ≡ true → length (positional_words false words) ≡ count
 count_of count words fit = eqb-true (length (positional_words false words)) count (both_true _ _ (both_true _ _ fit).1).1

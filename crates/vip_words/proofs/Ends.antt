@@ -10,7 +10,7 @@ use Rattle.clap.specs.Walk.{Row, Rule, Text, finished, with_default}
 use Rattle.clap.specs.declared.builder.value_parser.Reading.TheVariants.{AsWritten}
 use Rattle.vip_words.specs.Command.{place_names, place_rule}
 use Rattle.vip_words.proofs.Rows.{Seen, after_default, defaults-look, is_given-look, is_nil, look, no_default, or_first, or_first-none, quiet_defaults}
-use Rattle.vip_words.proofs.Steps.{At, First, Flag, Pending, Place, Screen, Second, Third, all_quiet, arguments, flag_name, held, missing_places, place_at, place_name, settled_after}
+use Rattle.vip_words.proofs.Steps.{At, First, Flag, Pending, Place, Screen, Second, Tall, Third, all_quiet, arguments, flag_name, held, missing_places, place_at, place_name, settled_after}
 use Rattle.vip_words.specs.Rules.{Given}
 use Rattle.vip_words.proofs.Shown.{Facts, Idle, flag_in, flag_seen, word_seen}
 use Rattle.vip_words.proofs.Whole.{ends_with}
@@ -51,6 +51,8 @@ flag_default count At true = no_default (codes "at") (flag_end true) (place_argu
 flag_default count At false = no_default (codes "at") (flag_end false) (place_arguments count) (no_place_default count)
 flag_default count Screen true = no_default (codes "screen") (flag_end true) (place_arguments count) (no_place_default count)
 flag_default count Screen false = no_default (codes "screen") (flag_end false) (place_arguments count) (no_place_default count)
+flag_default count Tall true = no_default (codes "tall") (flag_end true) (place_arguments count) (no_place_default count)
+flag_default count Tall false = no_default (codes "tall") (flag_end false) (place_arguments count) (no_place_default count)
 
 pub shows_end : (count : ℕ) (rows : List Row) (given : Given) → Facts rows given → Shows (fold with_default rows (arguments count)) given
 shows_end count rows given facts = record {

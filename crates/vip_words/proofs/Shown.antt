@@ -7,17 +7,19 @@ use Rattle.clap.specs.Walk.{Row, Text, used}
 use Rattle.clap.specs.declared.builder.value_parser.Reading.TheVariants.{AsWritten}
 use Rattle.clap.specs.declared.parser.matches.ValueSource.TheVariants.{CommandLine}
 use Rattle.vip_words.proofs.Rows.{Seen, has_row-look, look, look-other, look-use, new_row, or_first, or_first-none, shown}
-use Rattle.vip_words.proofs.Steps.{At, First, Flag, Pending, Place, Screen, Second, Third, flag_argument, flag_name, place_at, place_by_id, place_name, settled_after, settles}
+use Rattle.vip_words.proofs.Steps.{At, First, Flag, Pending, Place, Screen, Second, Tall, Third, flag_argument, flag_name, place_at, place_by_id, place_name, settled_after, settles}
 use Rattle.vip_words.specs.Rules.{Given}
 
 -- the flag is given
 abbrev pub flag_in : Given → Flag → Bool
 flag_in given At = given.at
 flag_in given Screen = given.screen
+flag_in given Tall = given.tall
 
 abbrev pub with_flag : Flag → Given → Given
 with_flag At given = record given { at = true }
 with_flag Screen given = record given { screen = true }
+with_flag Tall given = record given { tall = true }
 
 abbrev pub with_word : Text → Given → Given
 with_word word given = record given { positional = given.positional ++ word ∷ [] }
@@ -56,10 +58,13 @@ place_differs_keys Third = refl
 place_differs_flag : (place : Place) (flag : Flag) → bytes_eq (place_name place) (flag_name flag) ≡ false
 place_differs_flag First At = refl
 place_differs_flag First Screen = refl
+place_differs_flag First Tall = refl
 place_differs_flag Second At = refl
 place_differs_flag Second Screen = refl
+place_differs_flag Second Tall = refl
 place_differs_flag Third At = refl
 place_differs_flag Third Screen = refl
+place_differs_flag Third Tall = refl
 
 keys_differs_place : (place : Place) → bytes_eq (codes "keys") (place_name place) ≡ false
 keys_differs_place First = refl
@@ -69,6 +74,7 @@ keys_differs_place Third = refl
 keys_differs_flag : (flag : Flag) → bytes_eq (codes "keys") (flag_name flag) ≡ false
 keys_differs_flag At = refl
 keys_differs_flag Screen = refl
+keys_differs_flag Tall = refl
 
 flag_differs_place : (flag : Flag) (place : Place) → bytes_eq (flag_name flag) (place_name place) ≡ false
 flag_differs_place At First = refl
@@ -77,10 +83,14 @@ flag_differs_place At Third = refl
 flag_differs_place Screen First = refl
 flag_differs_place Screen Second = refl
 flag_differs_place Screen Third = refl
+flag_differs_place Tall First = refl
+flag_differs_place Tall Second = refl
+flag_differs_place Tall Third = refl
 
 flag_differs_keys : (flag : Flag) → bytes_eq (flag_name flag) (codes "keys") ≡ false
 flag_differs_keys At = refl
 flag_differs_keys Screen = refl
+flag_differs_keys Tall = refl
 
 -- ---- a positional word
 
@@ -162,15 +172,22 @@ flag_shown : (new flag : Flag) (given : Given)
     ≡ flag_seen (flag_in (with_flag new given) flag)
 flag_shown At At given = elim given.at as (λ b. or_first (flag_seen b) (flag_seen true) ≡ flag_seen true) [ true ↦ refl | false ↦ refl ]
 flag_shown At Screen given = or_first-none (flag_seen given.screen)
+flag_shown At Tall given = or_first-none (flag_seen given.tall)
 flag_shown Screen At given = or_first-none (flag_seen given.at)
 flag_shown Screen Screen given =
     elim given.screen as (λ b. or_first (flag_seen b) (flag_seen true) ≡ flag_seen true) [ true ↦ refl | false ↦ refl ]
+flag_shown Screen Tall given = or_first-none (flag_seen given.tall)
+flag_shown Tall At given = or_first-none (flag_seen given.at)
+flag_shown Tall Screen given = or_first-none (flag_seen given.screen)
+flag_shown Tall Tall given =
+    elim given.tall as (λ b. or_first (flag_seen b) (flag_seen true) ≡ flag_seen true) [ true ↦ refl | false ↦ refl ]
 
 -- a flag changes no word
 flag_words : (new : Flag) (given : Given) → ((with_flag new given).positional ≡ given.positional) ×
     ((with_flag new given).keys ≡ given.keys)
 flag_words At given = (refl, refl)
 flag_words Screen given = (refl, refl)
+flag_words Tall given = (refl, refl)
 
 pub flag_idle : (count : ℕ) (new : Flag) (rows : List Row) (given : Given) → flag_in given new ≡ false → Facts rows given
     → Idle count (used (flag_argument new) [] rows) None (with_flag new given)
@@ -201,7 +218,7 @@ flag_again new rows x there = rw (has_row-look (flag_name new) rows, there) (λ 
 -- ---- the start
 
 abbrev pub nothing_given : Given
-nothing_given = record { positional = []; keys = None; at = false; screen = false }
+nothing_given = record { positional = []; keys = None; at = false; screen = false; tall = false }
 
 pub no_rows : Facts [] nothing_given
 no_rows = record {
@@ -211,5 +228,5 @@ no_rows = record {
     | Third ↦ refl
   ];
   keys_is = refl;
-  flags_are = λ flag. elim flag as (λ f. look (flag_name f) [] ≡ flag_seen (flag_in nothing_given f)) [ At ↦ refl | Screen ↦ refl ];
+  flags_are = λ flag. elim flag as (λ f. look (flag_name f) [] ≡ flag_seen (flag_in nothing_given f)) [ At ↦ refl | Screen ↦ refl | Tall ↦ refl ];
 }

@@ -14,14 +14,17 @@ use Rattle.vip_words.proofs.Rows.{is_quiet}
 pub data Flag : Type 0 where
   At : Flag
   Screen : Flag
+  Tall : Flag
 
 abbrev pub flag_name : Flag → Text
 flag_name At = codes "at"
 flag_name Screen = codes "screen"
+flag_name Tall = codes "tall"
 
 abbrev pub flag_word : Flag → Text
 flag_word At = codes "--at"
 flag_word Screen = codes "--screen"
+flag_word Tall = codes "--tall"
 
 -- the places of the positional words
 pub data Place : Type 0 where
@@ -150,12 +153,14 @@ pub flag_step : (count : ℕ) (flag : Flag) (rows : List Row) (pending : Pending
 unfolding walked
 flag_step count At rows pending position = refl
 flag_step count Screen rows pending position = refl
+flag_step count Tall rows pending position = refl
 
 pub flag_turn : (name : Text) (count : ℕ) (flag : Flag) (rows : List Row) (pending : Pending) (position : ℕ)
     → turn_fault (shape name count) [] (stand rows pending idle position) (flag_word flag)
     ≡ or_else (or_else (settles count rows pending) (use_fault false (flag_argument flag) [] (settled_after count pending rows))) []
 flag_turn name count At rows pending position = refl
 flag_turn name count Screen rows pending position = refl
+flag_turn name count Tall rows pending position = refl
 
 pub keys_step : (count : ℕ) (rows : List Row) (pending : Pending) (position : ℕ)
     → walked (arguments count) [] (stand rows pending idle position) (codes "--keys")

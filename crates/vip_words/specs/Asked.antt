@@ -1,26 +1,30 @@
 -- What the words of a command line ask for.
-use Rattle.std.specs.Prelude.{ℕ, List, [], ◌∷◌, Bool, Option, None, Some, option_map, option_and_then}
+use Rattle.std.specs.Prelude.{ℕ, List, [], ◌∷◌, Bool, if◌then◌else◌, Option, None, Some, option_map, option_and_then}
 use Rattle.std.specs.Result.{result_ok}
+use Rattle.chip8_lang.specs.declared.view.Edition.{Edition}
+use Rattle.chip8_lang.specs.declared.view.Edition.TheVariants.{Usual, Tall}
 use Rattle.vip_byte.specs.Number.{decimal_number, hex_number}
 use Rattle.vip_words.specs.Rules.{Given, Word, given_by}
 use Rattle.vip_words.specs.Table.{usage_of}
 use Rattle.vip_words.specs.declared.table.Verb.{Verb}
 use Rattle.vip_words.specs.declared.table.Verb.TheVariants as verb
 
--- a trace: the file of a game, how many machine cycles, the file of a key script, and whether each record says its cycle and the
--- last screen is shown
+-- a trace: the file of a game, how many machine cycles, the file of a key script, whether each record says its cycle and the last
+-- screen is shown, and the edition
 pub record AskedTrace : Type 0 where
   pub game : Word
   pub cycles : ℕ
   pub keys : Option Word
   pub at : Bool
   pub screen : Bool
+  pub edition : Edition
 
 -- the pictures of a run
 pub record AskedPlay : Type 0 where
   pub game : Word
   pub cycles : ℕ
   pub keys : Option Word
+  pub edition : Edition
 
 -- a run under the debugger: also the file of its commands
 pub record AskedDebug : Type 0 where
@@ -28,6 +32,7 @@ pub record AskedDebug : Type 0 where
   pub cycles : ℕ
   pub commands : Word
   pub keys : Option Word
+  pub edition : Edition
 
 -- a run of the demonstration game of this number
 pub record AskedDemo : Type 0 where
@@ -64,23 +69,27 @@ number_of word = result_ok (decimal_number word 4294967295)
 abbrev pub address_of : Word → Option ℕ
 address_of word = result_ok (hex_number word 65535)
 
+-- the tall edition where it is asked for, and else the usual one
+abbrev pub edition_by : Bool → Edition
+edition_by tall = if tall then Tall else Usual
+
 -- ---- the positional words of each verb
 
 -- GAME CYCLES
 abbrev pub trace_by : List Word → Given → Option Asked
 trace_by (game ∷ cycles ∷ []) given =
-    option_map (λ n. trace (record { game = game; cycles = n; keys = given.keys; at = given.at; screen = given.screen })) (cycles_of cycles)
+    option_map (λ n. trace (record { game = game; cycles = n; keys = given.keys; at = given.at; screen = given.screen; edition = edition_by given.tall })) (cycles_of cycles)
 trace_by _ given = None
 
 -- GAME CYCLES
 abbrev pub play_by : List Word → Given → Option Asked
-play_by (game ∷ cycles ∷ []) given = option_map (λ n. play (record { game = game; cycles = n; keys = given.keys })) (cycles_of cycles)
+play_by (game ∷ cycles ∷ []) given = option_map (λ n. play (record { game = game; cycles = n; keys = given.keys; edition = edition_by given.tall })) (cycles_of cycles)
 play_by _ given = None
 
 -- GAME CYCLES COMMANDS
 abbrev pub debug_by : List Word → Given → Option Asked
 debug_by (game ∷ cycles ∷ commands ∷ []) given =
-    option_map (λ n. debug (record { game = game; cycles = n; commands = commands; keys = given.keys })) (cycles_of cycles)
+    option_map (λ n. debug (record { game = game; cycles = n; commands = commands; keys = given.keys; edition = edition_by given.tall })) (cycles_of cycles)
 debug_by _ given = None
 
 -- NUMBER CYCLES

@@ -19,6 +19,7 @@ seen_given given = record {
   keys = option_map (λ word. word.now) given.keys;
   at = given.at;
   screen = given.screen;
+  tall = given.tall;
 }
 
 -- what the words after a verb with this usage give, or nothing where they are refused

@@ -16,6 +16,7 @@ asked_trace request = record {
   keys = option_map (λ word. word.now) request.keys;
   at = request.at;
   screen = request.screen;
+  edition = request.edition;
 }
 
 abbrev pub asked_play : PlayRequest → AskedPlay
@@ -23,6 +24,7 @@ asked_play request = record {
   game = request.game.now;
   cycles = request.cycles;
   keys = option_map (λ word. word.now) request.keys;
+  edition = request.edition;
 }
 
 abbrev pub asked_debug : DebugRequest → AskedDebug
@@ -31,6 +33,7 @@ asked_debug request = record {
   cycles = request.cycles;
   commands = request.commands.now;
   keys = option_map (λ word. word.now) request.keys;
+  edition = request.edition;
 }
 
 abbrev pub asked_demo : DemoRequest → AskedDemo

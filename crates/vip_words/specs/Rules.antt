@@ -21,9 +21,12 @@ at_option = codes "--at"
 abbrev pub screen_option : Word
 screen_option = codes "--screen"
 
+abbrev pub tall_option : Word
+tall_option = codes "--tall"
+
 -- every option of the program
 abbrev pub every_option : List Word
-every_option = keys_option ∷ at_option ∷ screen_option ∷ []
+every_option = keys_option ∷ at_option ∷ screen_option ∷ tall_option ∷ []
 
 abbrev pub is_option : Word → Bool
 is_option word = list_any (bytes_eq word) every_option
@@ -81,6 +84,7 @@ pub record Given : Type 0 where
   pub keys : Option Word
   pub at : Bool
   pub screen : Bool
+  pub tall : Bool
 
 -- what they give after such a verb, or nothing where they are refused
 abbrev pub given_by : ℕ → List Word → List Word → Option Given
@@ -90,4 +94,5 @@ given_by places options words =
       keys = keys_value words;
       at = is_given at_option words;
       screen = is_given screen_option words;
+      tall = is_given tall_option words;
     }) else None

@@ -44,6 +44,8 @@ pub struct Given<'a> {
     pub at: bool,
     /// Whether `--screen` is.
     pub screen: bool,
+    /// Whether `--tall` is.
+    pub tall: bool,
 }
 
 // Neither empty nor begun by `-`.
@@ -143,5 +145,6 @@ pub fn read_given<'a>(
         keys: matches.get_str("keys"),
         at: matches.get_flag("at"),
         screen: matches.get_flag("screen"),
+        tall: matches.get_flag("tall"),
     })
 }

@@ -1,13 +1,14 @@
 //! What the words of a command line ask for.
 
 ghost use Rattle.std.specs.Prelude.{◌≡◌, IfOk, IsErrOf, None, Some, map, option_map, string_bytes};
-ghost use Rattle.vip_words.specs.Asked.{address_of, asked_by, asked_of_verb, cycles_of, number_of};
+ghost use Rattle.vip_words.specs.Asked.{address_of, asked_by, asked_of_verb, cycles_of, edition_by, number_of};
 ghost use Rattle.vip_words.specs.Given.{seen_given};
 ghost use Rattle.vip_words.specs.Request.{asked_of};
 ghost use Rattle.vip_words.specs.declared.table.Verb.TheVariants as verb;
 
 use crate::given::{Given, Positional, WordsFail, read_given};
 use crate::table::{Usage, Verb};
+use chip8_lang::Edition;
 use std::alloc::Global;
 use vip_byte::{read_decimal, read_hex};
 
@@ -43,6 +44,8 @@ pub struct TraceRequest<'a> {
     pub at: bool,
     /// Whether the last screen is shown.
     pub screen: bool,
+    /// The edition that the game runs on.
+    pub edition: Edition,
 }
 
 /// The pictures of a run of a game.
@@ -54,6 +57,8 @@ pub struct PlayRequest<'a> {
     pub cycles: u64,
     /// The name of the key script's file, where there is one.
     pub keys: Option<&'a str>,
+    /// The edition that the game runs on.
+    pub edition: Edition,
 }
 
 /// A run of a game under the debugger.
@@ -67,6 +72,8 @@ pub struct DebugRequest<'a> {
     pub commands: &'a str,
     /// The name of the key script's file, where there is one.
     pub keys: Option<&'a str>,
+    /// The edition that the game runs on.
+    pub edition: Edition,
 }
 
 /// The summary of a run of a demonstration game.
@@ -114,6 +121,13 @@ fn read_address(word: &str) -> Option<u16>
     Some(address as u16)
 }
 
+/// The tall edition where it is asked for, and else the usual one.
+fn edition_by(tall: bool) -> Edition
+    ensures { result ≡ edition_by tall }
+{
+    if tall { Edition::Tall } else { Edition::Usual }
+}
+
 fn trace_request<'a>(given: &Given<'a>) -> Option<Request<'a>>
     ensures { option_map asked_of result ≡ asked_of_verb verb.Trace (seen_given given.now) }
 {
@@ -126,6 +140,7 @@ fn trace_request<'a>(given: &Given<'a>) -> Option<Request<'a>>
         keys: given.keys,
         at: given.at,
         screen: given.screen,
+        edition: edition_by(given.tall),
     }))
 }
 
@@ -139,6 +154,7 @@ fn play_request<'a>(given: &Given<'a>) -> Option<Request<'a>>
         game,
         cycles: read_cycles(cycles)?,
         keys: given.keys,
+        edition: edition_by(given.tall),
     }))
 }
 
@@ -153,6 +169,7 @@ fn debug_request<'a>(given: &Given<'a>) -> Option<Request<'a>>
         cycles: read_cycles(cycles)?,
         commands,
         keys: given.keys,
+        edition: edition_by(given.tall),
     }))
 }
 

@@ -51,9 +51,9 @@ impl Usage {
         ensures { option_map row_of result ≡ usage_of word.now }
     {
         match word {
-            "trace" => Some(Usage::new(Verb::Trace, 2, &["--keys", "--at", "--screen"])),
-            "play" => Some(Usage::new(Verb::Play, 2, &["--keys"])),
-            "debug" => Some(Usage::new(Verb::Debug, 3, &["--keys"])),
+            "trace" => Some(Usage::new(Verb::Trace, 2, &["--keys", "--at", "--screen", "--tall"])),
+            "play" => Some(Usage::new(Verb::Play, 2, &["--keys", "--tall"])),
+            "debug" => Some(Usage::new(Verb::Debug, 3, &["--keys", "--tall"])),
             "demo" => Some(Usage::new(Verb::Demo, 2, &[])),
             "asm" => Some(Usage::new(Verb::Asm, 1, &[])),
             "list" => Some(Usage::new(Verb::List, 1, &[])),

@@ -1,6 +1,7 @@
 //! Lines of words, as the rules take or refuse them.
 
 use crate::{Request, WordsFail, read_words};
+use chip8_lang::Edition;
 use std::alloc::Global;
 use std::test::Fail;
 
@@ -13,22 +14,45 @@ fn words_of(alloc: Global, line: &str) -> Result<Vec<String>, Fail> {
     Ok(words)
 }
 
+fn name_of(edition: Edition) -> &'static str {
+    match edition {
+        Edition::Usual => "usual",
+        Edition::Tall => "tall",
+    }
+}
+
 // What a request holds, with `-` for no key script.
 fn text_of(alloc: Global, request: &Request) -> Result<String, Fail> {
     let text = match request {
         Request::Trace(r) => {
             let keys = r.keys.unwrap_or("-");
             format!(in alloc;
-                "trace {} {} {keys} {} {}",
-                r.game, r.cycles, r.at, r.screen
+                "trace {} {} {keys} {} {} {}",
+                r.game,
+                r.cycles,
+                r.at,
+                r.screen,
+                name_of(r.edition)
             )?
         }
         Request::Play(r) => {
-            format!(in alloc; "play {} {} {}", r.game, r.cycles, r.keys.unwrap_or("-"))?
+            let keys = r.keys.unwrap_or("-");
+            format!(in alloc;
+                "play {} {} {keys} {}",
+                r.game,
+                r.cycles,
+                name_of(r.edition)
+            )?
         }
         Request::Debug(r) => {
             let keys = r.keys.unwrap_or("-");
-            format!(in alloc; "debug {} {} {} {keys}", r.game, r.cycles, r.commands)?
+            format!(in alloc;
+                "debug {} {} {} {keys} {}",
+                r.game,
+                r.cycles,
+                r.commands,
+                name_of(r.edition)
+            )?
         }
         Request::Demo(r) => format!(in alloc; "demo {} {}", r.number, r.cycles)?,
         Request::Asm(r) => format!(in alloc; "asm {}", r.file)?,
@@ -42,17 +66,20 @@ fn text_of(alloc: Global, request: &Request) -> Result<String, Fail> {
 #[test]
 fn lines_that_the_rules_accept_are_read(rt: HostRuntime) -> Result<(), Fail> {
     for (line, wanted) in [
-        ("trace g 0", "trace g 0 - false false"),
-        ("trace g 4000000000", "trace g 4000000000 - false false"),
+        ("trace g 0", "trace g 0 - false false usual"),
+        (
+            "trace g 4000000000 --tall",
+            "trace g 4000000000 - false false tall",
+        ),
         (
             "trace --at g --keys k 007 --screen",
-            "trace g 7 k true true",
+            "trace g 7 k true true usual",
         ),
-        ("trace trace 5 --screen", "trace trace 5 - false true"),
-        ("play g 5", "play g 5 -"),
-        ("play --keys k g 5", "play g 5 k"),
-        ("debug g 5 c", "debug g 5 c -"),
-        ("debug g 5 --keys k c", "debug g 5 c k"),
+        ("trace trace 5 --screen", "trace trace 5 - false true usual"),
+        ("play g 5", "play g 5 - usual"),
+        ("play --tall --keys k g 5", "play g 5 k tall"),
+        ("debug g 5 --tall c", "debug g 5 c - tall"),
+        ("debug g 5 --keys k c", "debug g 5 c k usual"),
         ("demo 0 0", "demo 0 0"),
         ("demo 4294967295 5", "demo 4294967295 5"),
         ("asm f", "asm f"),
@@ -104,11 +131,12 @@ fn other_lines_are_refused(rt: HostRuntime) -> Result<(), Fail> {
         "bounds --version",
         "trace g 5 --keys=k",
         "trace g 5 --At",
-        "trace g 5 --tall",
+        "trace g 5 --tal",
         // an option of another verb
         "play g 5 --at",
         "debug g 5 c --screen",
         "demo 1 5 --keys k",
+        "demo 1 5 --tall",
         "asm f --at",
         "bounds --keys k",
         // no value, and an option twice
@@ -119,6 +147,7 @@ fn other_lines_are_refused(rt: HostRuntime) -> Result<(), Fail> {
         "trace --keys a g 5 --keys a",
         "trace --at g 5 --at",
         "trace --screen --screen g 5",
+        "play --tall g --tall 5",
         // too few or too many
         "trace",
         "trace g",

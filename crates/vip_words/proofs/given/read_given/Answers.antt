@@ -25,4 +25,5 @@ returns-clause-ok c =
       keys = c.get_str.ensures;
       at = record { on = c.get_flag.ensures.value; off = c.get_flag.ensures.other };
       screen = record { on = c.get_flag-2.ensures.value; off = c.get_flag-2.ensures.other };
+      tall = record { on = c.get_flag-3.ensures.value; off = c.get_flag-3.ensures.other };
     })
