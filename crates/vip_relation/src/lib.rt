@@ -13,5 +13,5 @@ mod tests;
 mod view;
 mod vip;
 
-pub use start::StartFault;
+pub use start::{StartFault, most_bytes};
 pub use vip::{Met, Vip};

@@ -3,12 +3,13 @@
 ghost use Rattle.std.specs.Prelude.{◌≡◌, ◌<◌, ◌∷◌, [], ℕ, map, option_map, slice_index};
 ghost use Rattle.vip_words.specs.Request.{asked_of};
 ghost use Rattle.vip_report.specs.declared.refusal.Kind.TheVariants.{Commands, Source};
-ghost use Rattle.vip_verbs.specs.Files.{needed, file, game_file, script_file, most_text, seen_wanted, FileAnswers, FilesAnswer};
+ghost use Rattle.vip_verbs.specs.Files.{needed, file, game_kind, game_file, script_file, most_text, seen_wanted, FileAnswers, FilesAnswer};
 
 use arrayvec::ArrayVec;
 use chip8_lang::Edition;
 use std::alloc::Global;
 use vip_outside::{Files, ReadFail};
+use vip_relation::most_bytes;
 use vip_report::{Kind, Refusal};
 use vip_words::Request;
 
@@ -26,21 +27,24 @@ pub struct Wanted<'a> {
     pub kind: Kind,
 }
 
+/// What the game of an edition is, where it is refused.
+pub fn game_kind(edition: Edition) -> Kind
+    ensures { result ≡ game_kind edition }
+{
+    match edition {
+        Edition::Usual => Kind::Game,
+        Edition::Tall => Kind::TallGame,
+    }
+}
+
 /// A game, which has to fit into its edition's game memory.
 fn game_file<'a>(edition: Edition, name: &'a str) -> Wanted<'a>
     ensures { seen_wanted result ≡ game_file edition name.now }
 {
-    match edition {
-        Edition::Usual => Wanted {
-            name,
-            most: 3_232,
-            kind: Kind::Game,
-        },
-        Edition::Tall => Wanted {
-            name,
-            most: 2_976,
-            kind: Kind::TallGame,
-        },
+    Wanted {
+        name,
+        most: most_bytes(edition),
+        kind: game_kind(edition),
     }
 }
 

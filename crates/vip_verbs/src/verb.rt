@@ -10,6 +10,7 @@ ghost use Rattle.vip_verbs.specs.Outcome.{RomIs, cycles_in};
 ghost use Rattle.vip_verbs.specs.Opening.{SmallScripts, KeysAnswer, DebugCommandsAnswer, RomAnswers, StartAnswers, SourceAnswers};
 
 use crate::demo::demo_game;
+use crate::files::game_kind;
 use asm_core::{AsmFault, Assembly, assemble};
 use asm_listing::{disassemble, dump, listing};
 use chip8_lang::Edition;
@@ -21,7 +22,7 @@ use vip_debug::{CommandFault, Commands, DebugEnd, read_commands, run_commands};
 use vip_keypad::{Script, ScriptFault, read_script};
 use vip_outside::Sink;
 use vip_relation::{StartFault, Vip};
-use vip_report::{Ended, Kind, Refusal};
+use vip_report::{Ended, Refusal};
 use vip_show::{RunEnd, show_pictures, show_summary, show_trace};
 use vip_words::{DebugRequest, DemoRequest, DisRequest, PlayRequest, Request, TraceRequest};
 
@@ -88,7 +89,7 @@ fn start<'a>(
     check_rom(alloc, edition)?;
     match Vip::start_as(alloc, edition, game, &script) {
         Ok(vip) => Ok(vip),
-        Err(StartFault::GameTooLarge(_)) => Err(Refusal::TooLarge(Kind::Game)),
+        Err(StartFault::GameTooLarge(_)) => Err(Refusal::TooLarge(game_kind(edition))),
         Err(StartFault::NoMemory) => Err(Refusal::NoMemory),
     }
 }
