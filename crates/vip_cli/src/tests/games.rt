@@ -241,7 +241,8 @@ fn games_have_less_memory_on_the_tall_edition(rt: HostRuntime) -> Result<(), Fai
         let game = game_of_size(rt.alloc(), opcodes, size)?;
         let got = run(rt.alloc(), line, &[("g", game.as_slice())])?;
         assert!(rt; got.ended(status, report), "{report}");
-        let is_shown = got.out.calls() == 1 && begins_dark(got.out.bytes());
+        // One picture, which is dark.
+        let is_shown = got.out.bytes().len() == 1_034 && begins_dark(got.out.bytes());
         assert!(rt; is_shown == (status == Status::Done), "{report}");
     }
     Ok(())
