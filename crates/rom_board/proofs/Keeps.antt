@@ -3,7 +3,7 @@ use Rattle.std.proofs.Common.{◌≡◌, sym, ◌∙◌, ap, subst}
 use Rattle.machine.specs.Board.{move}
 use Rattle.machine.specs.Keys.{held_at}
 use Rattle.rom_law.specs.Runs.{Moves, carried}
-use Rattle.chip8_rows.specs.Rom.{vip}
+use Rattle.rom_rows.specs.Rom.{vip}
 use Rattle.rom_run.specs.Running.{Running, FromBoot}
 use Rattle.rom_run.proofs.Dispatch.{dispatch_in}
 use Rattle.rom_run.proofs.Moves.{board_moves}

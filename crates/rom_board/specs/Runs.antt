@@ -7,7 +7,7 @@ use Rattle.chip8_lang.specs.declared.view.Edition.{Edition}
 use Rattle.chip8_lang.specs.State.{is_fetchable}
 use Rattle.rom_law.specs.Rows.{Since}
 use Rattle.rom_law.specs.Runs.{Moves, carried}
-use Rattle.chip8_rows.specs.Rom.{image, vip}
+use Rattle.rom_rows.specs.Rom.{image, vip}
 use Rattle.rom_run.specs.Laws.{IsIn}
 use Rattle.rom_run.specs.Running.{Running, Booting, FromBoot}
 use Rattle.vip_board.specs.Moves.{IfDone}

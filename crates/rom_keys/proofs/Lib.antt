@@ -1,0 +1,6 @@
+pub mod Sets
+pub mod Skips
+pub mod Waits
+pub mod Law
+pub mod Addresses
+pub mod Counts

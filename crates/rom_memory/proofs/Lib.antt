@@ -1,0 +1,9 @@
+pub mod Index
+pub mod Check
+pub mod Found
+pub mod Digits
+pub mod Decimal
+pub mod Lists
+pub mod Copies
+pub mod Law
+pub mod Addresses

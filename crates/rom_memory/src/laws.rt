@@ -1,12 +1,19 @@
-//! What is proved of this part of the ROM, over the definitions alone.
+//! What is proved of I and of game memory, each law the contract of a function without parameters.
 
-ghost use Rattle.chip8_image.specs.declared.parts.Part.TheVariants.{Memory};
-ghost use Rattle.rom_run.specs.Laws.{RowsIn, MovesIn};
+ghost use Rattle.rom_memory.specs.Laws.{MemoryRows, MemoryAddresses, MemoryCovers};
 
-/// For both editions: from every state in a row whose next address lies in the part of I and of game memory,
-/// a main move comes to a row, to a dispatch or to a stop, and carries on the record of what came since the last dispatch point. The same
-/// holds of the board's own move from every such state of which `Running` holds.
+/// From every state in a row of AMMM, FX1E, FX29, FX33, FX55, FX65 and of the range check, a main move comes to a row of the table, to the
+/// next dispatch or to a stop, and carries on the record of what came since the last dispatch.
 pub fn main_rows()
-    ensures rows { RowsIn Memory }
-    ensures moves { MovesIn Memory }
+    ensures { MemoryRows }
+{}
+
+/// In a row of one of these blocks the program counter is at the addresses that the table gives the block, one after the other.
+pub fn addresses()
+    ensures { MemoryAddresses }
+{}
+
+/// Every instruction of AMMM, FX1E, FX29, FX33, FX55, FX65 and of the range check is in one of these blocks.
+pub fn covers()
+    ensures { MemoryCovers }
 {}

@@ -10,33 +10,33 @@ use Rattle.chip8_lang.specs.declared.view.Edition.{Edition}
 use Rattle.rom_law.specs.Program.{Program}
 use Rattle.rom_law.specs.Rows.{Since, InBlock, Row}
 use Rattle.rom_law.specs.Rows.Row.{Inside as InRow, Alone}
-use Rattle.chip8_rows.specs.Checks.Answer.{InGame, InFont, Nowhere}
-use Rattle.chip8_rows.specs.FetchBlocks.{FetchBlock}
-use Rattle.chip8_rows.specs.JumpBlocks.{JumpBlock, jump_addresses}
-use Rattle.chip8_rows.specs.JumpBlocks.JumpBlock.{System, SystemLow, SystemBack, MachineCode, Return, ReturnTake, Empty, JumpTo, Call, CallPut, Full, JumpPlus}
-use Rattle.chip8_rows.specs.ArithBlocks.{ArithBlock, arith_addresses}
-use Rattle.chip8_rows.specs.ArithBlocks.ArithBlock.{Load, Add, SkipEq, SkipNe, SkipSame, SameTest, SkipDiffer, DifferTest, NoSkip as PassesOn, Skip as SkipOn, Unknown81, Arith, Operation, Flag, Unknown82}
-use Rattle.chip8_rows.specs.MemoryBlocks.{MemoryBlock, memory_addresses}
-use Rattle.chip8_rows.specs.MemoryBlocks.MemoryBlock.{Index, AddIndex, Digit, Check, CheckGame, CheckFont, CheckLow, Answering, Decimal, DecimalFound, Hundreds, HundredsEnd, Tens, TensEnd, Store, StoreFound, StoreByte, StoreEnd, Restore, RestoreFound, RestoreByte, RestoreEnd}
-use Rattle.chip8_rows.specs.SpriteBlocks.{SpriteBlock, SpritePlace, sprite_place_address, sprite_addresses}
-use Rattle.chip8_rows.specs.SpriteBlocks.SpriteBlock.{Clear, Wipe, Wipe3, Wipe6, Wiped, Cleared, Draw, DrawCheck, DrawFound, Place as PlaceOf, Edge, Fits, Angle, Begin, Row as RowTest, RowByte, Shift, Shifted, RowRight, RowStore, Ready, Line, LineLeft, LineRight, Drawn}
-use Rattle.chip8_rows.specs.TimerBlocks.{TimerBlock, TimerPlace, timer_place_address, timer_addresses}
-use Rattle.chip8_rows.specs.TimerBlocks.TimerBlock.{Random, RandomMix, GetDelayPut, SetDelay, SetDelayEnd, SetSound, SetSoundEnd}
-use Rattle.chip8_rows.specs.KeyBlocks.{KeyBlock, KeyPlace, key_place_address, key_addresses}
-use Rattle.chip8_rows.specs.KeyBlocks.KeyBlock.{KeySkip, KeySkipUp, SkipLatch, NoSkip, Skip, WaitKey, KeyNext, KeyCount, KeyFreed}
-use Rattle.chip8_rows.specs.TimerBlocks.TimerPlace.{RandomCount, GetDelay, SetDelayPut, SetSoundPut}
-use Rattle.chip8_rows.specs.KeyBlocks.KeyPlace.{SkipTest, KeyTest, KeyHeld}
-use Rattle.chip8_rows.specs.SpriteBlocks.SpritePlace.{ClearWait, ClearIdle, DrawWait, DrawIdle}
-use Rattle.chip8_rows.specs.Rom.{vip}
-use Rattle.chip8_rows.specs.Table.{Head, pieces}
-use Rattle.chip8_rows.specs.Table.Block.{OfFetch, OfJump, OfArith, OfMemory, OfSprite, OfTimer, OfKey}
-use Rattle.chip8_rows.specs.Table.Place.{AtTimer, AtKey, AtSprite}
-use Rattle.arith_blocks.proofs.JumpLaw.{jump_addresses_run}
-use Rattle.arith_blocks.proofs.ArithLaw.{arith_addresses_run}
-use Rattle.memory_blocks.proofs.Addresses.{memory_addresses_run}
-use Rattle.timer_blocks.proofs.Addresses.{addresses as timer_run, place_addresses as timer_place_run}
-use Rattle.key_blocks.proofs.Addresses.{addresses as key_run, place_addresses as key_place_run}
-use Rattle.sprite_blocks.proofs.Addresses.{addresses as sprite_run, place_addresses as sprite_place_run}
+use Rattle.rom_rows.specs.Checks.Answer.{InGame, InFont, Nowhere}
+use Rattle.rom_rows.specs.FetchBlocks.{FetchBlock}
+use Rattle.rom_rows.specs.JumpBlocks.{JumpBlock, jump_addresses}
+use Rattle.rom_rows.specs.JumpBlocks.JumpBlock.{System, SystemLow, SystemBack, MachineCode, Return, ReturnTake, Empty, JumpTo, Call, CallPut, Full, JumpPlus}
+use Rattle.rom_rows.specs.ArithBlocks.{ArithBlock, arith_addresses}
+use Rattle.rom_rows.specs.ArithBlocks.ArithBlock.{Load, Add, SkipEq, SkipNe, SkipSame, SameTest, SkipDiffer, DifferTest, NoSkip as PassesOn, Skip as SkipOn, Unknown81, Arith, Operation, Flag, Unknown82}
+use Rattle.rom_rows.specs.MemoryBlocks.{MemoryBlock, memory_addresses}
+use Rattle.rom_rows.specs.MemoryBlocks.MemoryBlock.{Index, AddIndex, Digit, Check, CheckGame, CheckFont, CheckLow, Answering, Decimal, DecimalFound, Hundreds, HundredsEnd, Tens, TensEnd, Store, StoreFound, StoreByte, StoreEnd, Restore, RestoreFound, RestoreByte, RestoreEnd}
+use Rattle.rom_rows.specs.SpriteBlocks.{SpriteBlock, SpritePlace, sprite_place_address, sprite_addresses}
+use Rattle.rom_rows.specs.SpriteBlocks.SpriteBlock.{Clear, Wipe, Wipe3, Wipe6, Wiped, Cleared, Draw, DrawCheck, DrawFound, Place as PlaceOf, Edge, Fits, Angle, Begin, Row as RowTest, RowByte, Shift, Shifted, RowRight, RowStore, Ready, Line, LineLeft, LineRight, Drawn}
+use Rattle.rom_rows.specs.TimerBlocks.{TimerBlock, TimerPlace, timer_place_address, timer_addresses}
+use Rattle.rom_rows.specs.TimerBlocks.TimerBlock.{Random, RandomMix, GetDelayPut, SetDelay, SetDelayEnd, SetSound, SetSoundEnd}
+use Rattle.rom_rows.specs.KeyBlocks.{KeyBlock, KeyPlace, key_place_address, key_addresses}
+use Rattle.rom_rows.specs.KeyBlocks.KeyBlock.{KeySkip, KeySkipUp, SkipLatch, NoSkip, Skip, WaitKey, KeyNext, KeyCount, KeyFreed}
+use Rattle.rom_rows.specs.TimerBlocks.TimerPlace.{RandomCount, GetDelay, SetDelayPut, SetSoundPut}
+use Rattle.rom_rows.specs.KeyBlocks.KeyPlace.{SkipTest, KeyTest, KeyHeld}
+use Rattle.rom_rows.specs.SpriteBlocks.SpritePlace.{ClearWait, ClearIdle, DrawWait, DrawIdle}
+use Rattle.rom_rows.specs.Rom.{vip}
+use Rattle.rom_rows.specs.Table.{Head, pieces}
+use Rattle.rom_rows.specs.Table.Block.{OfFetch, OfJump, OfArith, OfMemory, OfSprite, OfTimer, OfKey}
+use Rattle.rom_rows.specs.Table.Place.{AtTimer, AtKey, AtSprite}
+use Rattle.rom_arith.proofs.JumpLaw.{jump_addresses_run}
+use Rattle.rom_arith.proofs.ArithLaw.{arith_addresses_run}
+use Rattle.rom_memory.proofs.Addresses.{memory_addresses_run}
+use Rattle.rom_timer.proofs.Addresses.{addresses as timer_run, place_addresses as timer_place_run}
+use Rattle.rom_keys.proofs.Addresses.{addresses as key_run, place_addresses as key_place_run}
+use Rattle.rom_sprite.proofs.Addresses.{addresses as sprite_run, place_addresses as sprite_place_run}
 use Rattle.rom_run.specs.Laws.{IsIn}
 
 abbrev is_fetch : Part → Bool

@@ -10,12 +10,12 @@ use Rattle.rom_law.specs.Program.{code}
 use Rattle.rom_law.specs.Rows.{Since, Row, Outcome, now, after_main, after_tick}
 use Rattle.rom_law.specs.Rows.Row.{Inside, Alone}
 use Rattle.rom_law.proofs.Kept.{block_awake, block_moves, block_cycle, starts_row}
-use Rattle.chip8_rows.specs.Rom.{vip, program_of}
-use Rattle.chip8_rows.specs.Table.{pieces, waited_pieces}
-use Rattle.chip8_rows.specs.Table.Place.{AtTimer, AtKey, AtSprite}
-use Rattle.chip8_rows.proofs.Bytes.{quick, both_is}
-use Rattle.chip8_rows.proofs.Waited.{waited_sound, joined}
-use Rattle.sprite_blocks.proofs.Law.{sprite_waited, sprite_wakes}
+use Rattle.rom_rows.specs.Rom.{vip, program_of}
+use Rattle.rom_rows.specs.Table.{pieces, waited_pieces}
+use Rattle.rom_rows.specs.Table.Place.{AtTimer, AtKey, AtSprite}
+use Rattle.rom_rows.proofs.Bytes.{quick, both_is}
+use Rattle.rom_rows.proofs.Waited.{waited_sound, joined}
+use Rattle.rom_sprite.proofs.Law.{sprite_waited, sprite_wakes}
 use Rattle.rom_run.proofs.Proved.{proved_quick}
 use Rattle.rom_run.proofs.Waits.{timed, sleeps, timer_awake, key_awake}
 

@@ -11,14 +11,14 @@ use Rattle.chip8_lang.specs.Bounds.{bound_of}
 use Rattle.rom_law.specs.Program.{Program}
 use Rattle.rom_law.specs.Rows.{Since, Row}
 use Rattle.rom_law.proofs.Kept.{row_runs, row_cycles}
-use Rattle.chip8_rows.specs.Rom.{image, vip}
-use Rattle.chip8_rows.specs.Table.{pieces}
-use Rattle.rom_frame.specs.Frame.{place, interrupt_place, Makes}
-use Rattle.rom_frame.specs.Frame.Makes.{Runs, Waits, Accepts}
-use Rattle.rom_frame.specs.Routine.{routine_moves, routine_cycles}
-use Rattle.rom_frame.proofs.Frame.{every_move, keeps_place, keeps_waiting}
-use Rattle.rom_frame.proofs.Interval.{ticks_main, ticks_wait, ticks_served}
-use Rattle.rom_frame.proofs.Tick.{run_tick}
+use Rattle.rom_rows.specs.Rom.{image, vip}
+use Rattle.rom_rows.specs.Table.{pieces}
+use Rattle.rom_timer.specs.Frame.{place, interrupt_place, Makes}
+use Rattle.rom_timer.specs.Frame.Makes.{Runs, Waits, Accepts}
+use Rattle.rom_timer.specs.Routine.{routine_moves, routine_cycles}
+use Rattle.rom_timer.proofs.Frame.{every_move, keeps_place, keeps_waiting}
+use Rattle.rom_timer.proofs.Interval.{ticks_main, ticks_wait, ticks_served}
+use Rattle.rom_timer.proofs.Tick.{run_tick}
 use Rattle.rom_run.specs.Running.{Interval, Counted, Spends, Suffices, Timed, Outside, Running}
 use Rattle.rom_run.specs.Running.Outside.{AtRow, AtEvent}
 use Rattle.rom_run.specs.Running.Running.{InMain, InRoutine}

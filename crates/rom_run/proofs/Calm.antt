@@ -20,21 +20,21 @@ use Rattle.rom_law.specs.Rows.Row.{Inside, Alone}
 use Rattle.rom_law.specs.Rows.Starts.{Enters}
 use Rattle.rom_law.proofs.Kept.{Comes, starts_row, block_moves, block_ticks, block_cycle, block_above, block_above_next, block_awake, place_moves, place_ticks, at_cycle}
 use Rattle.rom_law.proofs.Places.{holding, range_same}
-use Rattle.chip8_rows.specs.FetchBlocks.FetchBlock.{Fetch}
-use Rattle.chip8_rows.specs.KeyBlocks.KeyPlace.{SkipTest, KeyTest, KeyHeld}
-use Rattle.chip8_rows.specs.KeyBlocks.{skip_test_label}
-use Rattle.chip8_rows.specs.SpriteBlocks.SpritePlace.{ClearWait, ClearIdle, DrawWait, DrawIdle}
-use Rattle.chip8_rows.specs.TimerBlocks.TimerPlace.{RandomCount, GetDelay, SetDelayPut, SetSoundPut}
-use Rattle.chip8_rows.specs.Heads.{page_of}
-use Rattle.chip8_rows.specs.Rom.{vip, program_of}
-use Rattle.chip8_rows.specs.Table.{Place, At, pieces, calm_pieces}
-use Rattle.chip8_rows.specs.Table.Block.{OfFetch}
-use Rattle.chip8_rows.specs.Table.Place.{AtTimer, AtKey, AtSprite}
-use Rattle.chip8_rows.proofs.Bytes.{quick, both_is}
-use Rattle.chip8_rows.proofs.Calm.{calm_in}
-use Rattle.chip8_rows.proofs.Entry.{on_3, is_on_3}
-use Rattle.chip8_rows.proofs.Screens.{SameScreen, head_screen, at_screen}
-use Rattle.chip8_rows.proofs.Sounds.{calm_sound}
+use Rattle.rom_rows.specs.FetchBlocks.FetchBlock.{Fetch}
+use Rattle.rom_rows.specs.KeyBlocks.KeyPlace.{SkipTest, KeyTest, KeyHeld}
+use Rattle.rom_rows.specs.KeyBlocks.{skip_test_label}
+use Rattle.rom_rows.specs.SpriteBlocks.SpritePlace.{ClearWait, ClearIdle, DrawWait, DrawIdle}
+use Rattle.rom_rows.specs.TimerBlocks.TimerPlace.{RandomCount, GetDelay, SetDelayPut, SetSoundPut}
+use Rattle.rom_rows.specs.Heads.{page_of}
+use Rattle.rom_rows.specs.Rom.{vip, program_of}
+use Rattle.rom_rows.specs.Table.{Place, At, pieces, calm_pieces}
+use Rattle.rom_rows.specs.Table.Block.{OfFetch}
+use Rattle.rom_rows.specs.Table.Place.{AtTimer, AtKey, AtSprite}
+use Rattle.rom_rows.proofs.Bytes.{quick, both_is}
+use Rattle.rom_rows.proofs.Calm.{calm_in}
+use Rattle.rom_rows.proofs.Entry.{on_3, is_on_3}
+use Rattle.rom_rows.proofs.Screens.{SameScreen, head_screen, at_screen}
+use Rattle.rom_rows.proofs.Sounds.{calm_sound}
 use Rattle.rom_run.specs.Running.{Showing}
 use Rattle.rom_run.proofs.Proved.{proved_quick, calm_block, calm_place}
 use Rattle.rom_run.proofs.Waits.{timed, sleeps, timer_awake, key_awake, sprite_timed}

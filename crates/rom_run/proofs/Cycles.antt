@@ -3,8 +3,8 @@ use Rattle.std.proofs.Common.{◌≡◌, ℕ, ◌+◌, ◌-◌, ◌*◌, ◌/◌
 use Rattle.std.proofs.lemmas.Bool.{cases_lt}
 use Rattle.machine.specs.Pictures.{interrupt_at}
 use Rattle.chip8_lang.specs.Between.{ticks_between}
-use Rattle.rom_frame.specs.Frame.{place, interrupt_place, IsOutside}
-use Rattle.rom_frame.specs.Routine.{routine_cycles}
+use Rattle.rom_timer.specs.Frame.{place, interrupt_place, IsOutside}
+use Rattle.rom_timer.specs.Routine.{routine_cycles}
 use Rattle.rom_run.specs.Laws.{key_cycles}
 
 -- main code runs in cycle c, with n main moves since a dispatch point in cycle `from`

@@ -11,15 +11,15 @@ use Rattle.chip8_lang.specs.State.{is_fetchable}
 use Rattle.rom_law.specs.Rows.{Since, InBlock, Row}
 use Rattle.rom_law.specs.Runs.{carried}
 use Rattle.rom_law.proofs.Kept.{row_runs}
-use Rattle.chip8_rows.specs.FetchBlocks.{FetchBlock}
-use Rattle.chip8_rows.specs.Rom.{image, vip}
-use Rattle.chip8_rows.specs.Table.{pieces}
-use Rattle.chip8_rows.specs.Table.Block.{OfFetch}
-use Rattle.fetch_blocks.proofs.Time.{dispatch_time}
-use Rattle.rom_frame.specs.Frame.{Makes}
-use Rattle.rom_frame.specs.Frame.Makes.{Runs, Waits, Accepts}
-use Rattle.rom_frame.proofs.Frame.{every_move}
-use Rattle.rom_frame.proofs.Tick.{run_tick}
+use Rattle.rom_rows.specs.FetchBlocks.{FetchBlock}
+use Rattle.rom_rows.specs.Rom.{image, vip}
+use Rattle.rom_rows.specs.Table.{pieces}
+use Rattle.rom_rows.specs.Table.Block.{OfFetch}
+use Rattle.rom_fetch.proofs.Time.{dispatch_time}
+use Rattle.rom_timer.specs.Frame.{Makes}
+use Rattle.rom_timer.specs.Frame.Makes.{Runs, Waits, Accepts}
+use Rattle.rom_timer.proofs.Frame.{every_move}
+use Rattle.rom_timer.proofs.Tick.{run_tick}
 use Rattle.rom_run.specs.Laws.{IsIn, DispatchIn}
 use Rattle.rom_run.specs.Running.{Interval, Outside, Running}
 use Rattle.rom_run.specs.Running.Outside.{AtRow, AtEvent}

@@ -6,10 +6,10 @@ use Rattle.chip8_lang.specs.declared.view.Edition.{Edition}
 use Rattle.chip8_lang.specs.declared.view.Edition.TheVariants.{Usual, Tall}
 use Rattle.chip8_lang.specs.Editions.{variables, screen_start}
 use Rattle.rom_law.specs.Rows.{Since, Row}
-use Rattle.chip8_rows.specs.Rom.{vip}
-use Rattle.chip8_rows.specs.Table.{calm_pieces}
-use Rattle.rom_frame.specs.Frame.{place, interrupt_place}
-use Rattle.rom_frame.specs.Routine.{routine_cycles}
+use Rattle.rom_rows.specs.Rom.{vip}
+use Rattle.rom_rows.specs.Table.{calm_pieces}
+use Rattle.rom_timer.specs.Frame.{place, interrupt_place}
+use Rattle.rom_timer.specs.Routine.{routine_cycles}
 use Rattle.rom_run.specs.Laws.{Undisturbed, WaitsSoon, ChangesSoon, Display}
 use Rattle.rom_run.specs.Running.{Due, Outside, Running, Serving, Showing, Timed, Woken, since_return, most_changing}
 use Rattle.rom_run.specs.Running.Due.{Arrives, Ends}

@@ -7,14 +7,14 @@ use Rattle.chip8_lang.specs.declared.view.Edition.{Edition}
 use Rattle.chip8_lang.specs.Bounds.{bound_of}
 use Rattle.rom_law.specs.Rows.{Since, InBlock, Row}
 use Rattle.rom_law.specs.Rows.Row.{Inside, Alone}
-use Rattle.chip8_rows.specs.KeyBlocks.KeyBlock.{KeyNext, KeyCount, KeyFreed}
-use Rattle.chip8_rows.specs.KeyBlocks.KeyPlace.{KeyTest, KeyHeld}
-use Rattle.chip8_rows.specs.Rom.{vip}
-use Rattle.chip8_rows.specs.Table.{Block, Place, At, moves, pieces}
-use Rattle.chip8_rows.specs.Table.Block.{OfKey}
-use Rattle.chip8_rows.specs.Table.Place.{AtKey}
-use Rattle.key_blocks.specs.Laws.{Scans}
-use Rattle.key_blocks.specs.Laws.Scans.{UpTo, AtTest, Behind as BehindTest}
+use Rattle.rom_rows.specs.KeyBlocks.KeyBlock.{KeyNext, KeyCount, KeyFreed}
+use Rattle.rom_rows.specs.KeyBlocks.KeyPlace.{KeyTest, KeyHeld}
+use Rattle.rom_rows.specs.Rom.{vip}
+use Rattle.rom_rows.specs.Table.{Block, Place, At, moves, pieces}
+use Rattle.rom_rows.specs.Table.Block.{OfKey}
+use Rattle.rom_rows.specs.Table.Place.{AtKey}
+use Rattle.rom_keys.specs.Laws.{Scans}
+use Rattle.rom_keys.specs.Laws.Scans.{UpTo, AtTest, Behind as BehindTest}
 use Rattle.rom_run.specs.Running.{Interval, Spends, Timed}
 use Rattle.rom_run.specs.Running.Timed.{Before, Waiting, Behind}
 use Rattle.rom_run.proofs.Ticks.{waits_most}

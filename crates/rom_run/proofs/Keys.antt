@@ -20,15 +20,15 @@ use Rattle.rom_law.proofs.Keys.{Keyed, key_run}
 use Rattle.rom_law.proofs.Kept.{row_runs, row_cycles}
 use Rattle.rom_law.proofs.Language.{get_append}
 use Rattle.rom_law.proofs.Runs.{Carries, Boots}
-use Rattle.chip8_rows.specs.Rom.{image, vip}
-use Rattle.chip8_rows.specs.Table.{pieces}
-use Rattle.fetch_blocks.specs.Laws.{boot_moves}
-use Rattle.key_blocks.specs.Laws.{Counted, Lately, Scans, Within}
-use Rattle.key_blocks.proofs.Counts.{none_stays, stays_down, goes_up}
-use Rattle.key_blocks.proofs.Sets.{get_last, length_more}
-use Rattle.rom_frame.specs.Frame.{Makes}
-use Rattle.rom_frame.specs.Frame.Makes.{Runs, Waits, Accepts}
-use Rattle.rom_frame.proofs.Frame.{accepted, case_accepts, case_waits, every_move}
+use Rattle.rom_rows.specs.Rom.{image, vip}
+use Rattle.rom_rows.specs.Table.{pieces}
+use Rattle.rom_fetch.specs.Laws.{boot_moves}
+use Rattle.rom_keys.specs.Laws.{Counted, Lately, Scans, Within}
+use Rattle.rom_keys.proofs.Counts.{none_stays, stays_down, goes_up}
+use Rattle.rom_keys.proofs.Sets.{get_last, length_more}
+use Rattle.rom_timer.specs.Frame.{Makes}
+use Rattle.rom_timer.specs.Frame.Makes.{Runs, Waits, Accepts}
+use Rattle.rom_timer.proofs.Frame.{accepted, case_accepts, case_waits, every_move}
 use Rattle.rom_run.specs.Laws.{EveryKeyWait, key_cycles}
 use Rattle.rom_run.specs.Running.{Interval, Spends, Timed, Running}
 use Rattle.rom_run.specs.Running.Outside.{AtRow, AtEvent}

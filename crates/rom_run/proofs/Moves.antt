@@ -36,16 +36,16 @@ use Rattle.rom_law.proofs.Language.{between_ticks}
 use Rattle.rom_law.proofs.Later.{dispatches_after, halts_after}
 use Rattle.rom_law.specs.Runs.Moves.{Still, Arrived, Halted}
 use Rattle.rom_law.proofs.Schedules.{dispatch_by, halt_by}
-use Rattle.chip8_rows.specs.Rom.{image, vip}
-use Rattle.chip8_rows.specs.Table.{pieces, calm_pieces, waited_pieces}
-use Rattle.chip8_rows.proofs.Calm.{row_calm}
-use Rattle.chip8_rows.proofs.Waited.{row_joined}
-use Rattle.rom_frame.specs.Frame.{place, interrupt_place, IsOutside, IsMainPlace, Makes}
-use Rattle.rom_frame.specs.Frame.Makes.{Runs, Waits, Accepts}
-use Rattle.rom_frame.specs.Routine.{IsInterrupted, IsTick, routine_moves, routine_cycles}
-use Rattle.rom_frame.proofs.Frame.{case_accepts, case_runs, case_waits, every_move, keeps_place, keeps_waiting}
-use Rattle.rom_frame.proofs.Interval.{ticks_main, ticks_wait, ticks_served, keeps_interrupted, embeds_longer, embeds_more}
-use Rattle.rom_frame.proofs.Tick.{run_tick}
+use Rattle.rom_rows.specs.Rom.{image, vip}
+use Rattle.rom_rows.specs.Table.{pieces, calm_pieces, waited_pieces}
+use Rattle.rom_rows.proofs.Calm.{row_calm}
+use Rattle.rom_rows.proofs.Waited.{row_joined}
+use Rattle.rom_timer.specs.Frame.{place, interrupt_place, IsOutside, IsMainPlace, Makes}
+use Rattle.rom_timer.specs.Frame.Makes.{Runs, Waits, Accepts}
+use Rattle.rom_timer.specs.Routine.{IsInterrupted, IsTick, routine_moves, routine_cycles}
+use Rattle.rom_timer.proofs.Frame.{case_accepts, case_runs, case_waits, every_move, keeps_place, keeps_waiting}
+use Rattle.rom_timer.proofs.Interval.{ticks_main, ticks_wait, ticks_served, keeps_interrupted, embeds_longer, embeds_more}
+use Rattle.rom_timer.proofs.Tick.{run_tick}
 use Rattle.rom_run.specs.Running.{Interval, Counted, Spends, Woken, Timed, InTime, Showing, Outside, Running, most_wait}
 use Rattle.rom_run.specs.Running.Counted.{NoEvent, Renewed}
 use Rattle.rom_run.specs.Running.Due.{Arrives, Ends}

@@ -24,13 +24,13 @@ use Rattle.rom_law.proofs.Carried.{carried_state}
 use Rattle.rom_law.proofs.Kept.{row_runs, row_cycles}
 use Rattle.rom_law.proofs.Runs.{Carries, Boots}
 use Rattle.rom_law.proofs.Shown.{picture_run}
-use Rattle.chip8_rows.specs.Rom.{image, vip}
-use Rattle.chip8_rows.specs.Table.{pieces}
-use Rattle.fetch_blocks.specs.Laws.{boot_moves}
-use Rattle.rom_frame.specs.Frame.{place, interrupt_place, Makes}
-use Rattle.rom_frame.specs.Frame.Makes.{Runs, Waits, Accepts}
-use Rattle.rom_frame.proofs.Frame.{every_move}
-use Rattle.rom_frame.proofs.Picture.{run_picture}
+use Rattle.rom_rows.specs.Rom.{image, vip}
+use Rattle.rom_rows.specs.Table.{pieces}
+use Rattle.rom_fetch.specs.Laws.{boot_moves}
+use Rattle.rom_timer.specs.Frame.{place, interrupt_place, Makes}
+use Rattle.rom_timer.specs.Frame.Makes.{Runs, Waits, Accepts}
+use Rattle.rom_timer.proofs.Frame.{every_move}
+use Rattle.rom_timer.proofs.Picture.{run_picture}
 use Rattle.rom_run.specs.Laws.{EveryPicture}
 use Rattle.rom_run.specs.Running.{Showing, Outside, Running}
 use Rattle.rom_run.specs.Running.Outside.{AtRow, AtEvent}

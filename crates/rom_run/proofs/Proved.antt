@@ -8,20 +8,20 @@ use Rattle.rom_law.specs.Rows.Starts.{Enters}
 use Rattle.rom_law.proofs.Kept.{Proved, Comes, Holds}
 use Rattle.rom_law.proofs.Places.{holding}
 use Rattle.rom_law.proofs.Schedules.{every_schedule}
-use Rattle.chip8_rows.specs.FetchBlocks.FetchBlock.{Fetch}
-use Rattle.chip8_rows.specs.Rom.{vip, program_of}
-use Rattle.chip8_rows.specs.Table.{Block, Place, Head, At, pieces, calm_pieces, IsBefore}
-use Rattle.chip8_rows.specs.Table.Block.{OfFetch, OfJump, OfArith, OfMemory, OfSprite, OfTimer, OfKey}
-use Rattle.chip8_rows.specs.Table.Place.{AtTimer, AtKey, AtSprite}
-use Rattle.chip8_rows.proofs.Calm.{comes_calm, holds_calm}
-use Rattle.chip8_rows.proofs.Bytes.{both_is, both_fits, quick}
-use Rattle.fetch_blocks.proofs.Law.{fetch_block}
-use Rattle.arith_blocks.proofs.JumpLaw.{jump_block}
-use Rattle.arith_blocks.proofs.ArithLaw.{arith_block}
-use Rattle.memory_blocks.proofs.Law.{memory_block}
-use Rattle.sprite_blocks.proofs.Law.{sprite_block, sprite_any, sprite_place, sprite_place_early}
-use Rattle.timer_blocks.proofs.Law.{timer_block, timer_place}
-use Rattle.key_blocks.proofs.Law.{key_block, key_place}
+use Rattle.rom_rows.specs.FetchBlocks.FetchBlock.{Fetch}
+use Rattle.rom_rows.specs.Rom.{vip, program_of}
+use Rattle.rom_rows.specs.Table.{Block, Place, Head, At, pieces, calm_pieces, IsBefore}
+use Rattle.rom_rows.specs.Table.Block.{OfFetch, OfJump, OfArith, OfMemory, OfSprite, OfTimer, OfKey}
+use Rattle.rom_rows.specs.Table.Place.{AtTimer, AtKey, AtSprite}
+use Rattle.rom_rows.proofs.Calm.{comes_calm, holds_calm}
+use Rattle.rom_rows.proofs.Bytes.{both_is, both_fits, quick}
+use Rattle.rom_fetch.proofs.Law.{fetch_block}
+use Rattle.rom_arith.proofs.JumpLaw.{jump_block}
+use Rattle.rom_arith.proofs.ArithLaw.{arith_block}
+use Rattle.rom_memory.proofs.Law.{memory_block}
+use Rattle.rom_sprite.proofs.Law.{sprite_block, sprite_any, sprite_place, sprite_place_early}
+use Rattle.rom_timer.proofs.Law.{timer_block, timer_place}
+use Rattle.rom_keys.proofs.Law.{key_block, key_place}
 use Rattle.rom_run.specs.Laws.{AnySchedule}
 
 -- ---- the blocks and places before a wait

@@ -17,33 +17,33 @@ use Rattle.rom_law.specs.Rows.Row.{Inside as InRow, Alone}
 use Rattle.rom_law.proofs.Kept.{Comes, good, block_r2}
 use Rattle.rom_law.proofs.Places.{stack_below}
 use Rattle.rom_law.proofs.Room.{Near, near_quicks}
-use Rattle.chip8_rows.specs.ArithBlocks.{operation_lengths}
-use Rattle.chip8_rows.specs.Checks.Answer.{InGame, InFont, Nowhere}
-use Rattle.chip8_rows.specs.FetchBlocks.{FetchBlock, fetch_at, fetch_moves}
-use Rattle.chip8_rows.specs.FetchBlocks.FetchBlock.{Fetch, Upper, Outside, Misc, Unknown83, Leave, Stop, Stopped, Inside}
-use Rattle.chip8_rows.specs.JumpBlocks.{JumpBlock, jump_at, jump_moves}
-use Rattle.chip8_rows.specs.JumpBlocks.JumpBlock.{System, SystemLow, SystemBack, MachineCode, Return, ReturnTake, Empty, JumpTo, Call, CallPut, Full, JumpPlus}
-use Rattle.chip8_rows.specs.ArithBlocks.{ArithBlock, arith_at, arith_moves}
-use Rattle.chip8_rows.specs.ArithBlocks.ArithBlock.{Load, Add, SkipEq, SkipNe, SkipSame, SameTest, SkipDiffer, DifferTest, NoSkip as PassesOn, Skip as SkipOn, Unknown81, Arith, Operation, Flag, Unknown82}
-use Rattle.chip8_rows.specs.MemoryBlocks.{MemoryBlock, memory_at, memory_moves}
-use Rattle.chip8_rows.specs.MemoryBlocks.MemoryBlock.{Index, AddIndex, Digit, Check, CheckGame, CheckFont, CheckLow, Answering, Decimal, DecimalFound, Hundreds, HundredsEnd, Tens, TensEnd, Store, StoreFound, StoreByte, StoreEnd, Restore, RestoreFound, RestoreByte, RestoreEnd}
-use Rattle.chip8_rows.specs.SpriteBlocks.{SpriteBlock, SpritePlace, sprite_at, sprite_moves, sprite_place_at}
-use Rattle.chip8_rows.specs.SpriteBlocks.SpriteBlock.{Clear, Wipe, Wipe3, Wipe6, Wiped, Cleared, Draw, DrawCheck, DrawFound, Place as PlaceOf, Edge, Fits, Angle, Begin, Row as RowTest, RowByte, Shift, Shifted, RowRight, RowStore, Ready, Line, LineLeft, LineRight, Drawn}
-use Rattle.chip8_rows.specs.TimerBlocks.{TimerBlock, TimerPlace, timer_at, timer_moves, timer_place_at}
-use Rattle.chip8_rows.specs.TimerBlocks.TimerBlock.{Random, RandomMix, GetDelayPut, SetDelay, SetDelayEnd, SetSound, SetSoundEnd}
-use Rattle.chip8_rows.specs.KeyBlocks.{KeyBlock, KeyPlace, key_at, key_moves, key_place_at}
-use Rattle.chip8_rows.specs.KeyBlocks.KeyBlock.{KeySkip, KeySkipUp, SkipLatch, NoSkip, Skip, WaitKey, KeyNext, KeyCount, KeyFreed}
-use Rattle.chip8_rows.specs.TimerBlocks.TimerPlace.{RandomCount, GetDelay, SetDelayPut, SetSoundPut}
-use Rattle.chip8_rows.specs.KeyBlocks.KeyPlace.{SkipTest, KeyTest, KeyHeld}
-use Rattle.chip8_rows.specs.SpriteBlocks.SpritePlace.{ClearWait, ClearIdle, DrawWait, DrawIdle}
-use Rattle.chip8_rows.specs.Rom.{vip, program_of}
-use Rattle.chip8_rows.specs.Table.{Block, Place, Head, At, moves, pieces}
-use Rattle.chip8_rows.specs.Table.Block.{OfFetch, OfJump, OfArith, OfMemory, OfSprite, OfTimer, OfKey}
-use Rattle.chip8_rows.specs.Table.Place.{AtTimer, AtKey, AtSprite}
-use Rattle.chip8_rows.proofs.Bytes.{both_is, quick, memory_end_is, stack_top_is, variables_is, page_fits, page_low}
-use Rattle.chip8_rows.proofs.Entry.{on_4, is_on_4}
-use Rattle.chip8_rows.proofs.Sounds.{sound}
-use Rattle.rom_frame.proofs.Interval.{has_room, in_stack}
+use Rattle.rom_rows.specs.ArithBlocks.{operation_lengths}
+use Rattle.rom_rows.specs.Checks.Answer.{InGame, InFont, Nowhere}
+use Rattle.rom_rows.specs.FetchBlocks.{FetchBlock, fetch_at, fetch_moves}
+use Rattle.rom_rows.specs.FetchBlocks.FetchBlock.{Fetch, Upper, Outside, Misc, Unknown83, Leave, Stop, Stopped, Inside}
+use Rattle.rom_rows.specs.JumpBlocks.{JumpBlock, jump_at, jump_moves}
+use Rattle.rom_rows.specs.JumpBlocks.JumpBlock.{System, SystemLow, SystemBack, MachineCode, Return, ReturnTake, Empty, JumpTo, Call, CallPut, Full, JumpPlus}
+use Rattle.rom_rows.specs.ArithBlocks.{ArithBlock, arith_at, arith_moves}
+use Rattle.rom_rows.specs.ArithBlocks.ArithBlock.{Load, Add, SkipEq, SkipNe, SkipSame, SameTest, SkipDiffer, DifferTest, NoSkip as PassesOn, Skip as SkipOn, Unknown81, Arith, Operation, Flag, Unknown82}
+use Rattle.rom_rows.specs.MemoryBlocks.{MemoryBlock, memory_at, memory_moves}
+use Rattle.rom_rows.specs.MemoryBlocks.MemoryBlock.{Index, AddIndex, Digit, Check, CheckGame, CheckFont, CheckLow, Answering, Decimal, DecimalFound, Hundreds, HundredsEnd, Tens, TensEnd, Store, StoreFound, StoreByte, StoreEnd, Restore, RestoreFound, RestoreByte, RestoreEnd}
+use Rattle.rom_rows.specs.SpriteBlocks.{SpriteBlock, SpritePlace, sprite_at, sprite_moves, sprite_place_at}
+use Rattle.rom_rows.specs.SpriteBlocks.SpriteBlock.{Clear, Wipe, Wipe3, Wipe6, Wiped, Cleared, Draw, DrawCheck, DrawFound, Place as PlaceOf, Edge, Fits, Angle, Begin, Row as RowTest, RowByte, Shift, Shifted, RowRight, RowStore, Ready, Line, LineLeft, LineRight, Drawn}
+use Rattle.rom_rows.specs.TimerBlocks.{TimerBlock, TimerPlace, timer_at, timer_moves, timer_place_at}
+use Rattle.rom_rows.specs.TimerBlocks.TimerBlock.{Random, RandomMix, GetDelayPut, SetDelay, SetDelayEnd, SetSound, SetSoundEnd}
+use Rattle.rom_rows.specs.KeyBlocks.{KeyBlock, KeyPlace, key_at, key_moves, key_place_at}
+use Rattle.rom_rows.specs.KeyBlocks.KeyBlock.{KeySkip, KeySkipUp, SkipLatch, NoSkip, Skip, WaitKey, KeyNext, KeyCount, KeyFreed}
+use Rattle.rom_rows.specs.TimerBlocks.TimerPlace.{RandomCount, GetDelay, SetDelayPut, SetSoundPut}
+use Rattle.rom_rows.specs.KeyBlocks.KeyPlace.{SkipTest, KeyTest, KeyHeld}
+use Rattle.rom_rows.specs.SpriteBlocks.SpritePlace.{ClearWait, ClearIdle, DrawWait, DrawIdle}
+use Rattle.rom_rows.specs.Rom.{vip, program_of}
+use Rattle.rom_rows.specs.Table.{Block, Place, Head, At, moves, pieces}
+use Rattle.rom_rows.specs.Table.Block.{OfFetch, OfJump, OfArith, OfMemory, OfSprite, OfTimer, OfKey}
+use Rattle.rom_rows.specs.Table.Place.{AtTimer, AtKey, AtSprite}
+use Rattle.rom_rows.proofs.Bytes.{both_is, quick, memory_end_is, stack_top_is, variables_is, page_fits, page_low}
+use Rattle.rom_rows.proofs.Entry.{on_4, is_on_4}
+use Rattle.rom_rows.proofs.Sounds.{sound}
+use Rattle.rom_timer.proofs.Interval.{has_room, in_stack}
 use Rattle.rom_run.proofs.Proved.{block}
 
 -- between game memory and V0, where the two bytes lie that an interrupt pushes

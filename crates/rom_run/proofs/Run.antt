@@ -14,10 +14,10 @@ use Rattle.rom_law.specs.Rows.{dispatched}
 use Rattle.rom_law.specs.Runs.{state_at}
 use Rattle.rom_law.proofs.First.{start_fits, moves_fit}
 use Rattle.rom_law.proofs.Runs.{Carries, Boots, language_run}
-use Rattle.chip8_rows.specs.Rom.{image, vip}
-use Rattle.fetch_blocks.specs.Laws.{Boot, boot_moves}
-use Rattle.fetch_blocks.proofs.Boot.{every_boot}
-use Rattle.rom_frame.specs.Frame.{place, interrupt_place, IsMainPlace}
+use Rattle.rom_rows.specs.Rom.{image, vip}
+use Rattle.rom_fetch.specs.Laws.{Boot, boot_moves}
+use Rattle.rom_fetch.proofs.Boot.{every_boot}
+use Rattle.rom_timer.specs.Frame.{place, interrupt_place, IsMainPlace}
 use Rattle.rom_run.specs.Laws.{EveryRun}
 use Rattle.rom_run.specs.Running.{Running}
 use Rattle.rom_run.proofs.Bound.{timely}

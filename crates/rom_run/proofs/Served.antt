@@ -8,10 +8,10 @@ use Rattle.machine.proofs.Runs.{later-move}
 use Rattle.chip8_lang.specs.declared.view.Edition.{Edition}
 use Rattle.rom_law.specs.Rows.{Since, after_tick}
 use Rattle.rom_law.specs.Runs.{Moves}
-use Rattle.chip8_rows.specs.Rom.{image, vip}
-use Rattle.rom_frame.specs.Frame.{place, interrupt_place}
-use Rattle.rom_frame.specs.Routine.{IsTick, routine_moves, routine_cycles}
-use Rattle.rom_frame.proofs.Tick.{run_tick}
+use Rattle.rom_rows.specs.Rom.{image, vip}
+use Rattle.rom_timer.specs.Frame.{place, interrupt_place}
+use Rattle.rom_timer.specs.Routine.{IsTick, routine_moves, routine_cycles}
+use Rattle.rom_timer.proofs.Tick.{run_tick}
 use Rattle.rom_run.specs.Running.{Outside, Running, Serving}
 use Rattle.rom_run.specs.Running.Running.{InMain, InRoutine}
 use Rattle.rom_run.proofs.Moves.{interrupted, routine_comes}

@@ -9,8 +9,8 @@ use Rattle.machine.specs.Pictures.{frame}
 use Rattle.machine.specs.Run.{after_moves}
 use Rattle.machine.proofs.Runs.{later-move, cycle-move}
 use Rattle.chip8_lang.specs.Between.{ticks_between}
-use Rattle.rom_frame.specs.Frame.{place, interrupt_place, IsOutside}
-use Rattle.rom_frame.specs.Routine.{routine_cycles}
+use Rattle.rom_timer.specs.Frame.{place, interrupt_place, IsOutside}
+use Rattle.rom_timer.specs.Routine.{routine_cycles}
 use Rattle.rom_run.specs.Running.{Suffices, since_window, most_wait}
 
 -- the last interrupt before c was so long ago

@@ -17,34 +17,34 @@ use Rattle.rom_law.specs.Rows.{Since, Row, now}
 use Rattle.rom_law.specs.Rows.Row.{Inside as InRow, Alone}
 use Rattle.rom_law.proofs.Kept.{block_awake}
 use Rattle.rom_law.proofs.Language.{ticks_instr}
-use Rattle.chip8_rows.specs.Checks.{Caller, call_time}
-use Rattle.chip8_rows.specs.Checks.Caller.{ForDecimal, ForStore, ForRestore, ForDraw}
-use Rattle.chip8_rows.specs.Checks.Answer.{InGame, InFont, Nowhere}
-use Rattle.chip8_rows.specs.Heads.{high_byte, low_byte}
-use Rattle.chip8_rows.specs.FetchBlocks.{FetchBlock, fetch_moves}
-use Rattle.chip8_rows.specs.FetchBlocks.FetchBlock.{Fetch, Upper, Outside, Misc, Unknown83, Leave, Stop as StopWay, Stopped, Inside}
-use Rattle.chip8_rows.specs.JumpBlocks.{JumpBlock, jump_moves}
-use Rattle.chip8_rows.specs.JumpBlocks.JumpBlock.{System, SystemLow, SystemBack, MachineCode, Return, ReturnTake, Empty, JumpTo, Call, CallPut, Full, JumpPlus}
-use Rattle.chip8_rows.specs.ArithBlocks.{ArithBlock, operation_lengths, arith_moves}
-use Rattle.chip8_rows.specs.ArithBlocks.ArithBlock.{Load, Add, SkipEq, SkipNe, SkipSame, SameTest, SkipDiffer, DifferTest, NoSkip as PassesOn, Skip as SkipOn, Unknown81, Arith, Operation, Flag, Unknown82}
-use Rattle.chip8_rows.specs.MemoryBlocks.{MemoryBlock, memory_moves}
-use Rattle.chip8_rows.specs.MemoryBlocks.MemoryBlock.{Index, AddIndex, Digit, Check, CheckGame, CheckFont, CheckLow, Answering, Decimal, DecimalFound, Hundreds, HundredsEnd, Tens, TensEnd, Store, StoreFound, StoreByte, StoreEnd, Restore, RestoreFound, RestoreByte, RestoreEnd}
-use Rattle.chip8_rows.specs.SpriteBlocks.{SpriteBlock, IsWaited, Clears, Draws, height, sprite_moves}
-use Rattle.chip8_rows.specs.SpriteBlocks.SpriteBlock.{Clear, Wipe, Wipe3, Wipe6, Wiped, Cleared, Draw, DrawCheck, DrawFound, Place as PlaceOf, Edge, Fits, Angle, Begin, Row as RowTest, RowByte, Shift, Shifted, RowRight, RowStore, Ready, Line, LineLeft, LineRight, Drawn}
-use Rattle.chip8_rows.specs.TimerBlocks.{TimerBlock, timer_moves}
-use Rattle.chip8_rows.specs.TimerBlocks.TimerBlock.{Random, RandomMix, GetDelayPut, SetDelay, SetDelayEnd, SetSound, SetSoundEnd}
-use Rattle.chip8_rows.specs.KeyBlocks.{KeyBlock, key_moves, skip_time}
-use Rattle.chip8_rows.specs.KeyBlocks.KeyBlock.{KeySkip, KeySkipUp, SkipLatch, NoSkip, Skip, WaitKey, KeyNext, KeyCount, KeyFreed}
-use Rattle.chip8_rows.specs.TimerBlocks.TimerPlace.{RandomCount, GetDelay, SetDelayPut, SetSoundPut}
-use Rattle.chip8_rows.specs.KeyBlocks.KeyPlace.{SkipTest, KeyTest, KeyHeld}
-use Rattle.chip8_rows.specs.SpriteBlocks.SpritePlace.{ClearWait, ClearIdle, DrawWait, DrawIdle}
-use Rattle.chip8_rows.specs.Rom.{vip}
-use Rattle.chip8_rows.specs.Table.{Block, Place, Head, At, moves, pieces, waited_pieces}
-use Rattle.chip8_rows.specs.Table.Block.{OfFetch, OfJump, OfArith, OfMemory, OfSprite, OfTimer, OfKey}
-use Rattle.chip8_rows.specs.Table.Place.{AtTimer, AtKey, AtSprite}
-use Rattle.chip8_rows.proofs.Steps.{stop_ticks}
+use Rattle.rom_rows.specs.Checks.{Caller, call_time}
+use Rattle.rom_rows.specs.Checks.Caller.{ForDecimal, ForStore, ForRestore, ForDraw}
+use Rattle.rom_rows.specs.Checks.Answer.{InGame, InFont, Nowhere}
+use Rattle.rom_rows.specs.Heads.{high_byte, low_byte}
+use Rattle.rom_rows.specs.FetchBlocks.{FetchBlock, fetch_moves}
+use Rattle.rom_rows.specs.FetchBlocks.FetchBlock.{Fetch, Upper, Outside, Misc, Unknown83, Leave, Stop as StopWay, Stopped, Inside}
+use Rattle.rom_rows.specs.JumpBlocks.{JumpBlock, jump_moves}
+use Rattle.rom_rows.specs.JumpBlocks.JumpBlock.{System, SystemLow, SystemBack, MachineCode, Return, ReturnTake, Empty, JumpTo, Call, CallPut, Full, JumpPlus}
+use Rattle.rom_rows.specs.ArithBlocks.{ArithBlock, operation_lengths, arith_moves}
+use Rattle.rom_rows.specs.ArithBlocks.ArithBlock.{Load, Add, SkipEq, SkipNe, SkipSame, SameTest, SkipDiffer, DifferTest, NoSkip as PassesOn, Skip as SkipOn, Unknown81, Arith, Operation, Flag, Unknown82}
+use Rattle.rom_rows.specs.MemoryBlocks.{MemoryBlock, memory_moves}
+use Rattle.rom_rows.specs.MemoryBlocks.MemoryBlock.{Index, AddIndex, Digit, Check, CheckGame, CheckFont, CheckLow, Answering, Decimal, DecimalFound, Hundreds, HundredsEnd, Tens, TensEnd, Store, StoreFound, StoreByte, StoreEnd, Restore, RestoreFound, RestoreByte, RestoreEnd}
+use Rattle.rom_rows.specs.SpriteBlocks.{SpriteBlock, IsWaited, Clears, Draws, height, sprite_moves}
+use Rattle.rom_rows.specs.SpriteBlocks.SpriteBlock.{Clear, Wipe, Wipe3, Wipe6, Wiped, Cleared, Draw, DrawCheck, DrawFound, Place as PlaceOf, Edge, Fits, Angle, Begin, Row as RowTest, RowByte, Shift, Shifted, RowRight, RowStore, Ready, Line, LineLeft, LineRight, Drawn}
+use Rattle.rom_rows.specs.TimerBlocks.{TimerBlock, timer_moves}
+use Rattle.rom_rows.specs.TimerBlocks.TimerBlock.{Random, RandomMix, GetDelayPut, SetDelay, SetDelayEnd, SetSound, SetSoundEnd}
+use Rattle.rom_rows.specs.KeyBlocks.{KeyBlock, key_moves, skip_time}
+use Rattle.rom_rows.specs.KeyBlocks.KeyBlock.{KeySkip, KeySkipUp, SkipLatch, NoSkip, Skip, WaitKey, KeyNext, KeyCount, KeyFreed}
+use Rattle.rom_rows.specs.TimerBlocks.TimerPlace.{RandomCount, GetDelay, SetDelayPut, SetSoundPut}
+use Rattle.rom_rows.specs.KeyBlocks.KeyPlace.{SkipTest, KeyTest, KeyHeld}
+use Rattle.rom_rows.specs.SpriteBlocks.SpritePlace.{ClearWait, ClearIdle, DrawWait, DrawIdle}
+use Rattle.rom_rows.specs.Rom.{vip}
+use Rattle.rom_rows.specs.Table.{Block, Place, Head, At, moves, pieces, waited_pieces}
+use Rattle.rom_rows.specs.Table.Block.{OfFetch, OfJump, OfArith, OfMemory, OfSprite, OfTimer, OfKey}
+use Rattle.rom_rows.specs.Table.Place.{AtTimer, AtKey, AtSprite}
+use Rattle.rom_rows.proofs.Steps.{stop_ticks}
 use Rattle.rom_law.proofs.Places.{v_byte}
-use Rattle.sprite_blocks.proofs.Screen.{few_rows}
+use Rattle.rom_sprite.proofs.Screen.{few_rows}
 use Rattle.rom_run.specs.Running.{Suffices, Spends, Interval, Timed, most_wait}
 use Rattle.rom_run.specs.Running.Timed.{Before, Waiting, Behind}
 use Rattle.rom_run.proofs.Ticks.{waits_most}

@@ -9,15 +9,15 @@ use Rattle.rom_law.specs.Program.{Program}
 use Rattle.rom_law.specs.Rows.{Since, Row, now}
 use Rattle.rom_law.specs.Rows.Row.{Inside, Alone}
 use Rattle.rom_law.proofs.Kept.{block_awake}
-use Rattle.chip8_rows.specs.KeyBlocks.{KeyPlace, key_place_at}
-use Rattle.chip8_rows.specs.KeyBlocks.KeyPlace.{SkipTest, KeyTest, KeyHeld}
-use Rattle.chip8_rows.specs.Rom.{vip}
-use Rattle.chip8_rows.specs.SpriteBlocks.{SpritePlace, Clearing, Painting, sprite_place_at, woken}
-use Rattle.chip8_rows.specs.SpriteBlocks.SpritePlace.{ClearWait, ClearIdle, DrawWait, DrawIdle}
-use Rattle.chip8_rows.specs.Table.{pieces}
-use Rattle.chip8_rows.specs.Table.Place.{AtTimer, AtKey, AtSprite}
-use Rattle.chip8_rows.specs.TimerBlocks.{TimerPlace, timer_place_at}
-use Rattle.chip8_rows.specs.TimerBlocks.TimerPlace.{RandomCount, GetDelay, SetDelayPut, SetSoundPut}
+use Rattle.rom_rows.specs.KeyBlocks.{KeyPlace, key_place_at}
+use Rattle.rom_rows.specs.KeyBlocks.KeyPlace.{SkipTest, KeyTest, KeyHeld}
+use Rattle.rom_rows.specs.Rom.{vip}
+use Rattle.rom_rows.specs.SpriteBlocks.{SpritePlace, Clearing, Painting, sprite_place_at, woken}
+use Rattle.rom_rows.specs.SpriteBlocks.SpritePlace.{ClearWait, ClearIdle, DrawWait, DrawIdle}
+use Rattle.rom_rows.specs.Table.{pieces}
+use Rattle.rom_rows.specs.Table.Place.{AtTimer, AtKey, AtSprite}
+use Rattle.rom_rows.specs.TimerBlocks.{TimerPlace, timer_place_at}
+use Rattle.rom_rows.specs.TimerBlocks.TimerPlace.{RandomCount, GetDelay, SetDelayPut, SetSoundPut}
 use Rattle.rom_run.proofs.Proved.{proved}
 
 -- the machine at another cycle

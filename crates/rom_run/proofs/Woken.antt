@@ -12,17 +12,17 @@ use Rattle.rom_law.specs.Rows.Outcome.{Still, Dispatched, Halted}
 use Rattle.rom_law.proofs.Events.{neither}
 use Rattle.rom_law.proofs.Kept.{block_awake}
 use Rattle.rom_law.proofs.Schedules.{dispatch_by, halt_by}
-use Rattle.chip8_rows.specs.Heads.{high_byte}
-use Rattle.chip8_rows.specs.Rom.{vip}
-use Rattle.chip8_rows.specs.SpriteBlocks.{SpriteBlock, IsWaited, sprite_moves}
-use Rattle.chip8_rows.specs.SpriteBlocks.SpriteBlock.{Wipe, Wipe3, Wipe6, Wiped, Cleared, Line, LineLeft, LineRight, Drawn}
-use Rattle.chip8_rows.specs.SpriteBlocks.SpritePlace.{ClearWait, ClearIdle, DrawWait, DrawIdle}
-use Rattle.chip8_rows.specs.Table.{Head, pieces, waited_pieces}
-use Rattle.chip8_rows.specs.Table.Block.{OfSprite}
-use Rattle.chip8_rows.specs.Table.Place.{AtTimer, AtKey, AtSprite}
-use Rattle.chip8_rows.proofs.Later.{ticks_high}
-use Rattle.rom_frame.specs.Frame.{place, interrupt_place}
-use Rattle.rom_frame.specs.Routine.{routine_cycles}
+use Rattle.rom_rows.specs.Heads.{high_byte}
+use Rattle.rom_rows.specs.Rom.{vip}
+use Rattle.rom_rows.specs.SpriteBlocks.{SpriteBlock, IsWaited, sprite_moves}
+use Rattle.rom_rows.specs.SpriteBlocks.SpriteBlock.{Wipe, Wipe3, Wipe6, Wiped, Cleared, Line, LineLeft, LineRight, Drawn}
+use Rattle.rom_rows.specs.SpriteBlocks.SpritePlace.{ClearWait, ClearIdle, DrawWait, DrawIdle}
+use Rattle.rom_rows.specs.Table.{Head, pieces, waited_pieces}
+use Rattle.rom_rows.specs.Table.Block.{OfSprite}
+use Rattle.rom_rows.specs.Table.Place.{AtTimer, AtKey, AtSprite}
+use Rattle.rom_rows.proofs.Later.{ticks_high}
+use Rattle.rom_timer.specs.Frame.{place, interrupt_place}
+use Rattle.rom_timer.specs.Routine.{routine_cycles}
 use Rattle.rom_run.specs.Running.{WaitsBy, Woken, most_changing}
 use Rattle.rom_run.specs.Running.WaitsBy.{ToClear, ToDraw}
 use Rattle.rom_run.proofs.Proved.{proved}

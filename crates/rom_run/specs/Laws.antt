@@ -19,9 +19,9 @@ use Rattle.rom_law.specs.Pictures.{PictureRun}
 use Rattle.rom_law.specs.Runs.{Moves, LanguageRun, carried}
 use Rattle.rom_law.specs.Rows.{Since, Row, Outcome, after_main}
 use Rattle.rom_law.specs.Schedules.{EverySchedule}
-use Rattle.chip8_rows.specs.Rom.{image, vip}
-use Rattle.chip8_rows.specs.Table.{pieces}
-use Rattle.rom_frame.specs.Frame.{place, interrupt_place}
+use Rattle.rom_rows.specs.Rom.{image, vip}
+use Rattle.rom_rows.specs.Table.{pieces}
+use Rattle.rom_timer.specs.Frame.{place, interrupt_place}
 use Rattle.rom_run.specs.Running.{Running, Booting, FromBoot, Showing, WaitsBy, since_return, most_changing}
 
 -- whenever timer ticks come, main code does what the language says

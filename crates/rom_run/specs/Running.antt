@@ -17,12 +17,12 @@ use Rattle.rom_moves.specs.Code.{is_event}
 use Rattle.rom_law.specs.Program.{code, Dispatches}
 use Rattle.rom_law.specs.Rows.{Since, Row, Stepped, Stopped, after_tick, dispatched}
 use Rattle.rom_law.specs.Runs.{Covers}
-use Rattle.chip8_rows.specs.Rom.{image, vip}
-use Rattle.chip8_rows.specs.Heads.{high_byte}
-use Rattle.chip8_rows.specs.Table.{pieces, calm_pieces, waited_pieces}
-use Rattle.fetch_blocks.specs.Laws.{boot_moves}
-use Rattle.rom_frame.specs.Frame.{place, interrupt_place, window_place, IsOutside}
-use Rattle.rom_frame.specs.Routine.{routine_moves, routine_cycles}
+use Rattle.rom_rows.specs.Rom.{image, vip}
+use Rattle.rom_rows.specs.Heads.{high_byte}
+use Rattle.rom_rows.specs.Table.{pieces, calm_pieces, waited_pieces}
+use Rattle.rom_fetch.specs.Laws.{boot_moves}
+use Rattle.rom_timer.specs.Frame.{place, interrupt_place, window_place, IsOutside}
+use Rattle.rom_timer.specs.Routine.{routine_moves, routine_cycles}
 
 -- The interval from the last dispatch point up to b, where main code runs or waits, which the record covers. Where main code runs, the cycle is
 -- even.

@@ -1,0 +1,12 @@
+pub mod Screen
+pub mod Waits
+pub mod Clear
+pub mod Bits
+pub mod Bytes
+pub mod Dots
+pub mod Aim
+pub mod Prepare
+pub mod Pixels
+pub mod Paint
+pub mod Law
+pub mod Addresses

@@ -1,12 +1,34 @@
-//! What is proved of this part of the ROM, over the definitions alone.
+//! What is proved of 00E0 and DXYN, each law the contract of a function without parameters.
 
-ghost use Rattle.chip8_image.specs.declared.parts.Part.TheVariants.{Sprite};
-ghost use Rattle.rom_run.specs.Laws.{RowsIn, MovesIn};
+ghost use Rattle.rom_sprite.specs.Laws.{SpriteRows, SpritePlaceRows, SpriteTicks, SpriteAddresses, SpritePlaceAddresses, SpriteCovers};
 
-/// For both editions: from every state in a row whose next address lies in the part of 00E0 and of DXYN,
-/// a main move comes to a row, to a dispatch or to a stop, and carries on the record of what came since the last dispatch point. The same
-/// holds of the board's own move from every such state of which `Running` holds.
+/// From every state in a row of a block of 00E0 or of DXYN, a main move comes to a row of the table, to the next dispatch or to a stop, and
+/// carries on the record of what came since the last dispatch.
 pub fn main_rows()
-    ensures rows { RowsIn Sprite }
-    ensures moves { MovesIn Sprite }
+    ensures { SpriteRows }
+{}
+
+/// The same from every state at one of their waits where main code runs.
+pub fn place_rows()
+    ensures { SpritePlaceRows }
+{}
+
+/// From every state at one of their waits, also where main code waits there, a tick comes to a row of the table.
+pub fn ticks()
+    ensures { SpriteTicks }
+{}
+
+/// In a row of one of these blocks the program counter is at the addresses that the table gives the block, one after the other.
+pub fn addresses()
+    ensures { SpriteAddresses }
+{}
+
+/// At a place it is at the place's address.
+pub fn place_addresses()
+    ensures { SpritePlaceAddresses }
+{}
+
+/// Every instruction of 00E0 and of DXYN is in one of these blocks or at one of these places.
+pub fn covers()
+    ensures { SpriteCovers }
 {}

@@ -1,1 +1,14 @@
-pub mod Ran
+pub mod Timers
+pub mod Randoms
+pub mod Law
+pub mod Addresses
+pub mod Frame
+pub mod Board
+pub mod Window
+pub mod Pushed
+pub mod Serving
+pub mod Tick
+pub mod Fetched
+pub mod Scan
+pub mod Picture
+pub mod Interval

@@ -1,1 +1,4 @@
-pub mod Ticks
+pub mod Laws
+pub mod Frame
+pub mod Routine
+pub mod Scan

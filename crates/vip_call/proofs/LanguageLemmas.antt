@@ -19,7 +19,7 @@ use Rattle.rom_law.specs.Keys.{KeyRun, Pressed, WaitsForKey}
 use Rattle.rom_law.specs.Pictures.{ShowsBehind, ShowsAll, PictureRun}
 use Rattle.rom_law.specs.Program.{Program, Dispatches, Halts, whole}
 use Rattle.rom_law.specs.Runs.{LanguageRun, IsFirst, IsNext, IsStep, IsStop, is_point, cycle_of}
-use Rattle.chip8_rows.specs.Rom.{vip}
+use Rattle.rom_rows.specs.Rom.{vip}
 use Rattle.rom_run.specs.Laws.{EveryRun, EveryKeyWait, EveryPicture, key_cycles}
 use Rattle.vip_relation.specs.Interpreters.{interpreter_of}
 use Rattle.vip_relation.specs.State.{started}

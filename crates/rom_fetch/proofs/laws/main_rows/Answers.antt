@@ -1,7 +1,5 @@
-use Rattle.chip8_image.specs.declared.parts.Part.TheVariants.{Fetch}
-use Rattle.rom_run.proofs.Dispatch.{dispatch_in}
-use Rattle.rom_run.proofs.Parts.{rows_in, moves_in, boot_rows}
+use Rattle.rom_fetch.proofs.Law.{fetch_rows}
 use Rattle.rom_fetch.proofs.laws.main_rows.Goals as goal
 
 pub returns : goal.returns
-returns c = record { rows = rows_in Fetch; moves = moves_in Fetch; boot = boot_rows; dispatch = dispatch_in }
+returns c = fetch_rows

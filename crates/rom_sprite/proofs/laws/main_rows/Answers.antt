@@ -1,6 +1,5 @@
-use Rattle.chip8_image.specs.declared.parts.Part.TheVariants.{Sprite}
-use Rattle.rom_run.proofs.Parts.{rows_in, moves_in}
+use Rattle.rom_sprite.proofs.Law.{sprite_rows}
 use Rattle.rom_sprite.proofs.laws.main_rows.Goals as goal
 
 pub returns : goal.returns
-returns c = record { rows = rows_in Sprite; moves = moves_in Sprite }
+returns c = sprite_rows

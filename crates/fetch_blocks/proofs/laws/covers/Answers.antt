@@ -1,5 +1,0 @@
-use Rattle.fetch_blocks.proofs.Addresses.{covered}
-use Rattle.fetch_blocks.proofs.laws.covers.Goals as goal
-
-pub returns : goal.returns
-returns c = covered

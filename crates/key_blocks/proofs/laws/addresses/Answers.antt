@@ -1,5 +1,0 @@
-use Rattle.key_blocks.proofs.Addresses.{addresses}
-use Rattle.key_blocks.proofs.laws.addresses.Goals as goal
-
-pub returns : goal.returns
-returns c = addresses

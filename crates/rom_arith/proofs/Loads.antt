@@ -1,0 +1,35 @@
+-- 6XKK and 7XKK.
+use Rattle.std.proofs.Common.{◌≡◌, ℕ, ◌+◌, ◌*◌, ◌%◌, refl, ap, arith}
+use Rattle.machine.specs.Memory.{read}
+use Rattle.machine.specs.Board.{Machine}
+use Rattle.machine.specs.Ranges.{FitsMachine}
+use Rattle.chip8_lang.specs.declared.instr.Instr.TheVariants.{Load as IsLoad, Add as IsAdd}
+use Rattle.chip8_lang.specs.declared.view.Edition.{Edition}
+use Rattle.chip8_lang.specs.State.{variable}
+use Rattle.chip8_image.specs.Labels.{at_load, at_add}
+use Rattle.rom_law.specs.Rows.{Since, now}
+use Rattle.rom_law.proofs.Places.{v_get, v_set}
+use Rattle.rom_law.proofs.Kept.{Comes}
+use Rattle.rom_rows.specs.Heads.{high_byte, low_byte, page_of, Enters}
+use Rattle.rom_rows.specs.ArithBlocks.ArithBlock.{Load, Add}
+use Rattle.rom_rows.specs.Table.{calm_pieces}
+use Rattle.rom_rows.specs.Table.Block.{OfArith}
+use Rattle.rom_rows.proofs.Bytes.{both, quick, stack_top_is, variables_is}
+use Rattle.rom_rows.proofs.Straight.{routine}
+use Rattle.rom_rows.proofs.Steps.{steps}
+
+module _ (e : Edition) (b : Machine) (h : Since) (f : FitsMachine b) where
+  abbrev high : ℕ
+  high = high_byte (now h)
+
+  abbrev low : ℕ
+  low = low_byte (now h)
+
+  pub load_comes : Enters (quick e) at_load 6 b (now h) → Comes (quick e) (calm_pieces (quick e)) (OfArith Load) b h
+  load_comes o = routine (OfArith Load) o.entered _ (omega arith) refl (λ h' g. steps e g (IsLoad (high % 16) low) (rw o.digit refl) refl (rw (o.entered.inside, o.digit) refl) _ (v_set o.entered.holds _ (high % 16) low (omega (arith, variables_is e)) (omega arith)) refl refl)
+
+  pub add_comes : Enters (quick e) at_add 7 b (now h) → Comes (quick e) (calm_pieces (quick e)) (OfArith Add) b h
+  add_comes o = routine (OfArith Add) o.entered _ (omega (arith, o.entered.holds.stack, stack_top_is e)) refl (λ h' g. steps e g (IsAdd (high % 16) low) (rw o.digit refl) refl (rw (o.entered.inside, o.digit) refl) _ (rw sum (v_set o.entered.holds _ (high % 16) _ (omega (arith, variables_is e)) (omega arith))) refl refl)
+    where
+      sum : read (both e) b.latch b.ram (page_of e * 256 + (240 + high % 16)) + low ≡ variable (now h) (high % 16) + low
+      sum = ap (λ v. v + low) (v_get o.entered.holds (page_of e * 256 + (240 + high % 16)) (high % 16) (omega (arith, variables_is e)) (omega arith))

@@ -1,6 +1,0 @@
-use Rattle.chip8_image.specs.declared.parts.Part.TheVariants.{Arith}
-use Rattle.rom_run.proofs.Parts.{rows_in, moves_in}
-use Rattle.rom_arith.proofs.laws.main_rows.Goals as goal
-
-pub returns : goal.returns
-returns c = record { rows = rows_in Arith; moves = moves_in Arith }

@@ -1,0 +1,41 @@
+-- The addresses of the fetch's blocks.
+use Rattle.std.proofs.Common.{◌+◌, ◌*◌, refl, true, List, [], ◌∷◌, slice_index}
+use Rattle.std.proofs.lemmas.Bool.{agree_below_at}
+use Rattle.machine.specs.Bank.{word_of}
+use Rattle.machine.specs.Board.{Machine}
+use Rattle.chip8_lang.specs.declared.view.Edition.{Edition}
+use Rattle.chip8_image.specs.Labels.{at_outside, at_fetch, at_upper, at_inside, at_stop, at_stopped, at_unknown83, at_leave81}
+use Rattle.rom_law.specs.Program.{code}
+use Rattle.rom_law.specs.Rows.{Since}
+use Rattle.rom_rows.specs.FetchBlocks.{FetchBlock, fetch_moves, fetch_addresses, fetch_areas, misc_labels}
+use Rattle.rom_rows.specs.FetchBlocks.FetchBlock.{Fetch, Upper, Inside, Outside, Misc, Unknown83, Leave, Stop, Stopped}
+use Rattle.rom_rows.specs.Table.{Head}
+use Rattle.rom_rows.specs.Table.Block.{OfFetch}
+use Rattle.rom_rows.proofs.Addresses.{follows, Follows, runs_at, covers}
+use Rattle.rom_rows.proofs.Bytes.{quick}
+use Rattle.rom_rows.proofs.Entry.{on_4, is_on_4, on_3, is_on_3}
+use Rattle.rom_fetch.specs.Laws.{FetchAddresses, FetchCovers}
+use Rattle.rom_fetch.proofs.Law.{fetch_block}
+
+fetch_follows : (e : Edition) (l : FetchBlock) (b : Machine) (h : Since) → Head (quick e) (OfFetch l) b h → Follows e (OfFetch l) (fetch_addresses l) b
+fetch_follows e Fetch b h o = record { same = on_4 (word_of at_fetch) b; is = is_on_4 o.0; follows = refl }
+fetch_follows e Upper b h o = record { same = on_4 (word_of at_upper) b; is = is_on_4 o.0.0; follows = refl }
+fetch_follows e Inside b h o = record { same = on_4 (word_of at_inside) b; is = is_on_4 o.0.0; follows = refl }
+fetch_follows e Outside b h o = record { same = on_4 (word_of at_outside) b; is = is_on_4 o.0.0; follows = refl }
+fetch_follows e (Misc i) b h o = record { same = on_3 (slice_index misc_labels i) b; is = is_on_3 (slice_index misc_labels i) b o.0.0.entered.p o.0.0.entered.r3; follows = agree_below_at (λ j. follows (code (quick e)) (fetch_addresses (Misc j)) 3 (on_3 (slice_index misc_labels j) b)) (λ j. true) 9 i refl o.0.2 }
+fetch_follows e Unknown83 b h o = record { same = on_3 at_unknown83 b; is = is_on_3 at_unknown83 b o.0.0.entered.p o.0.0.entered.r3; follows = refl }
+fetch_follows e (Leave i) b h o = record { same = on_3 (at_leave81 + 0x100 * i) b; is = is_on_3 (at_leave81 + 0x100 * i) b o.0.0.p o.0.0.r3; follows = agree_below_at (λ j. follows (code (quick e)) (fetch_addresses (Leave j)) 3 (on_3 (at_leave81 + 0x100 * j) b)) (λ j. true) 4 i refl o.0.1 }
+fetch_follows e Stop b h o = record { same = on_3 at_stop b; is = is_on_3 at_stop b o.0.p o.0.r3; follows = refl }
+fetch_follows e Stopped b h o = record { same = on_3 at_stopped b; is = is_on_3 at_stopped b o.0.p o.0.r3; follows = refl }
+
+pub addresses : FetchAddresses
+addresses e l = runs_at e (OfFetch l) (fetch_addresses l) (fetch_block e l) (fetch_follows e l)
+
+blocks : List FetchBlock
+blocks =
+    Fetch ∷ Upper ∷ Inside ∷ Outside ∷ Misc 0 ∷ Misc 1 ∷ Misc 2 ∷ Misc 3 ∷ Misc 4 ∷ Misc 5 ∷ Misc 6 ∷ Misc 7 ∷ Misc 8 ∷ Unknown83 ∷ Leave 0 ∷ Leave 1 ∷
+    Leave 2 ∷ Leave 3 ∷ Stop ∷ Stopped ∷ []
+
+pub covered : FetchCovers
+unfolding blocks
+covered = covers FetchBlock fetch_moves fetch_addresses blocks fetch_areas refl

@@ -1,0 +1,79 @@
+-- Boot, from reset to the first dispatch.
+use Rattle.std.proofs.Common.{◌≡◌, ℕ, ◌/◌, ◌<◌, ◌≤◌, refl, sym, ap, subst, true, false, List, length}
+use Rattle.machine.specs.Bank.{word, word_of, zeros}
+use Rattle.machine.specs.Memory.{read, written}
+use Rattle.machine.specs.Board.{Machine, start, after_reset}
+use Rattle.machine.specs.Keys.{Keys}
+use Rattle.machine.specs.Run.{after_moves}
+use Rattle.chip8_lang.specs.declared.view.Edition.{Edition}
+use Rattle.chip8_lang.specs.declared.view.Edition.TheVariants.{Usual, Tall}
+use Rattle.chip8_lang.specs.Editions.{screen_start}
+use Rattle.chip8_lang.specs.State.{first, memory_size}
+use Rattle.chip8_image.specs.Labels.{at_entry, at_fetch}
+use Rattle.rom_law.specs.Program.{Dispatches}
+use Rattle.rom_law.proofs.First.{first_lies}
+use Rattle.rom_law.proofs.Boots.{is_quiet, Quiet, quiet_moves}
+use Rattle.rom_rows.specs.Rom.{program_of}
+use Rattle.rom_rows.specs.Heads.{by_edition, page_of}
+use Rattle.rom_rows.proofs.Bytes.{both, both_is, quick, stack_top_is}
+use Rattle.rom_fetch.specs.Laws.{boot_moves, EveryBoot}
+
+module _ (e : Edition) (held : ℕ → Keys) (ram : List ℕ) where
+  -- after so many moves from reset, with this RAM
+  abbrev pub booting : ℕ → Machine
+  booting m = after_moves (both e) held (record after_reset { ram = ram }) m
+
+  -- the machine at the first dispatch
+  abbrev pub booted : Machine
+  booted =
+      record {
+        regs = record {
+          r = record zeros { r0 = word 0 7; r1 = word_of at_entry; r2 = word (page_of e) 0xcf; r3 = word 0x80 0x27; r4 = word_of at_fetch; r5 = word 2 0; rb = word (by_edition e 15 14) 0 };
+          d = 0;
+          df = 0;
+          p = 4;
+          x = 3;
+          t = 0;
+          q = false;
+          ie = true;
+          idle = false;
+        };
+        ram = ram;
+        latch = false;
+        on = true;
+        key = 0;
+        cycle = 56;
+      }
+
+  pub boot_ends : booting 28 ≡ booted
+  unfolding read written
+  boot_ends = refl
+
+  quiet : is_quiet (quick e).interpreter held 28 (booting 0) ≡ true
+  unfolding read written
+  quiet = refl
+
+  pub no_event : (m : ℕ) → m < 28 → Quiet (quick e).interpreter held (booting m)
+  no_event m l = quiet_moves (quick e).interpreter held 28 (booting 0) quiet m l
+
+-- the first state lies there
+booted_stands : (e : Edition) (held : ℕ → Keys) (game : List ℕ) → length game ≤ memory_size e → Dispatches (quick e) (booted e held (start game).ram) (first e game)
+booted_stands e held game room = record { keeps = record { lies = first_lies e game room (booted e held (start game).ram) refl refl (sym (stack_top_is e)) refl refl refl refl refl refl refl; on = refl; entry = refl; page = page e }; p = refl; r4 = refl }
+  where
+    page : (e : Edition) → by_edition e 15 14 ≡ screen_start e / 256
+    page Usual = refl
+    page Tall = refl
+
+-- the law over the joined bytes, and over the image
+abbrev BootBy : Edition → List ℕ → (ℕ → Keys) → List ℕ → Type 0
+BootBy e rom held game =
+    ((m : ℕ) → m < boot_moves → Quiet (program_of e rom).interpreter held (after_moves rom held (start game) m))
+    × ((after_moves rom held (start game) boot_moves).cycle ≡ 56)
+    × Dispatches (program_of e rom) (after_moves rom held (start game) boot_moves) (first e game)
+
+boot_by : (e : Edition) (held : ℕ → Keys) (game : List ℕ) → length game ≤ memory_size e → BootBy e (both e) held game
+boot_by e held game room =
+    (no_event e held (start game).ram, ap (λ (b : Machine). b.cycle) (boot_ends e held (start game).ram), subst (λ b. Dispatches (quick e) b (first e game)) (sym (boot_ends e held (start game).ram)) (booted_stands e held game room))
+
+pub every_boot : EveryBoot
+every_boot e held game room = let p = subst (λ rom. BootBy e rom held game) (both_is e) (boot_by e held game room) in record { quiet = p.0; cycle = p.1; stands = p.2 }

@@ -1,0 +1,56 @@
+-- The addresses of these blocks and places.
+use Rattle.std.proofs.Common.{◌≡◌, ℕ, refl, ◌∙◌, ap, true, false, List, [], ◌∷◌}
+use Rattle.machine.specs.Bank.{word_of, value}
+use Rattle.machine.specs.Instruction.{at}
+use Rattle.machine.specs.Board.{Machine}
+use Rattle.chip8_lang.specs.declared.view.Edition.{Edition}
+use Rattle.chip8_image.specs.Labels.{at_key_yes, at_key_test, at_key_held}
+use Rattle.rom_law.specs.Rows.{Since}
+use Rattle.rom_rows.specs.KeyBlocks.{KeyBlock, key_addresses, key_areas, skip_test_label, no_skip_label}
+use Rattle.rom_rows.specs.KeyBlocks.KeyBlock.{KeySkip, KeySkipUp, SkipLatch, NoSkip, Skip, WaitKey, KeyNext, KeyCount, KeyFreed}
+use Rattle.rom_rows.specs.KeyBlocks.KeyPlace.{SkipTest, KeyTest, KeyHeld}
+use Rattle.rom_rows.specs.Table.{Head}
+use Rattle.rom_rows.specs.Table.Block.{OfKey}
+use Rattle.rom_rows.proofs.Addresses.{Follows, runs_at, covers}
+use Rattle.rom_rows.proofs.Bytes.{quick}
+use Rattle.rom_rows.proofs.Entry.{is_entered, on_3, is_on_3}
+use Rattle.rom_keys.specs.Laws.{KeyAddresses, KeyPlaceAddresses, KeyCovers, KeyPiece, piece_moves, piece_addresses}
+use Rattle.rom_keys.specs.Laws.KeyPiece.{OfBlock, OfPlace}
+use Rattle.rom_keys.proofs.Law.{key_block}
+use Rattle.rom_keys.proofs.Waits.{is_turning}
+
+follows : (e : Edition) (l : KeyBlock) (b : Machine) (h : Since) → Head (quick e) (OfKey l) b h → Follows e (OfKey l) (key_addresses l) b
+follows e KeySkip b h o = record { same = _; is = is_entered o.0.entered; follows = refl }
+follows e KeySkipUp b h o = record { same = _; is = is_entered o.0.0.entered; follows = refl }
+follows e (SkipLatch true) b h o = record { same = _; is = is_entered o.0.0.entered; follows = refl }
+follows e (SkipLatch false) b h o = record { same = _; is = is_entered o.0.0.entered; follows = refl }
+follows e (NoSkip true) b h o = record { same = on_3 (no_skip_label true) b; is = is_on_3 (no_skip_label true) b o.0.0.p o.0.0.r3; follows = refl }
+follows e (NoSkip false) b h o = record { same = on_3 (no_skip_label false) b; is = is_on_3 (no_skip_label false) b o.0.0.p o.0.0.r3; follows = refl }
+follows e (Skip down) b h o = record { same = on_3 at_key_yes b; is = is_on_3 at_key_yes b o.0.0.p o.0.0.r3; follows = refl }
+follows e WaitKey b h o = record { same = _; is = is_entered o.0.0.entered; follows = refl }
+follows e (KeyNext turn) b h o = record { same = _; is = is_turning o.0.0; follows = refl }
+follows e (KeyCount turn) b h o = record { same = _; is = is_entered o.0.0.waiting.enters.entered; follows = refl }
+follows e KeyFreed b h o = record { same = _; is = is_entered o.0.0.enters.entered; follows = refl }
+
+pub addresses : KeyAddresses
+addresses e l = runs_at e (OfKey l) (key_addresses l) (key_block e l) (follows e l)
+
+-- the program counter where P is 3
+counter : (a : ℕ) (b : Machine) → b.regs.p ≡ 3 → b.regs.r.r3 ≡ word_of a → at b.regs b.regs.p ≡ value (word_of a)
+counter a b p r3 = ap (at b.regs) p ∙ ap value r3
+
+pub place_addresses : KeyPlaceAddresses
+place_addresses e (SkipTest true) b h o = counter (skip_test_label true) b o.0.0.p o.0.0.r3
+place_addresses e (SkipTest false) b h o = counter (skip_test_label false) b o.0.0.p o.0.0.r3
+place_addresses e (KeyTest turn) b h o = counter at_key_test b o.0.0.waiting.enters.entered.p o.0.0.waiting.enters.entered.r3
+place_addresses e KeyHeld b h o = counter at_key_held b o.0.0.enters.entered.p o.0.0.enters.entered.r3
+
+key_pieces : List KeyPiece
+key_pieces =
+    OfBlock KeySkip ∷ OfBlock KeySkipUp ∷ OfBlock (SkipLatch true) ∷ OfBlock (SkipLatch false) ∷ OfBlock (NoSkip true) ∷ OfBlock (NoSkip false) ∷
+    OfBlock (Skip true) ∷ OfBlock WaitKey ∷ OfBlock (KeyNext 0) ∷ OfBlock (KeyCount 0) ∷ OfBlock KeyFreed ∷
+    OfPlace (SkipTest true) ∷ OfPlace (SkipTest false) ∷ OfPlace (KeyTest 0) ∷ OfPlace KeyHeld ∷ []
+
+pub covered : KeyCovers
+unfolding key_pieces
+covered = covers KeyPiece piece_moves piece_addresses key_pieces key_areas refl

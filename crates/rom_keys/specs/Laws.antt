@@ -1,0 +1,114 @@
+-- What is proved of EX9E, EXA1 and FX0A. K is the sets of keys that were down at the main moves since the dispatch point.
+use Rattle.std.specs.Prelude.{◌≡◌, ℕ, ◌+◌, ◌*◌, ◌%◌, ◌<◌, ◌≤◌, Bool, true, false, List, [], ◌∷◌, length}
+use Rattle.machine.specs.Instruction.{at}
+use Rattle.machine.specs.Board.{Machine}
+use Rattle.machine.specs.Keys.{Keys}
+use Rattle.chip8_lang.specs.declared.view.Edition.{Edition}
+use Rattle.chip8_lang.specs.State.{Lang}
+use Rattle.chip8_lang.specs.Between.{IsAt, LetGo}
+use Rattle.rom_moves.specs.Code.{Input}
+use Rattle.rom_law.specs.Program.{Program}
+use Rattle.rom_law.specs.Rows.{Since, InBlock, dispatched, after_main, after_tick}
+use Rattle.rom_rows.specs.Rom.{vip}
+use Rattle.rom_rows.specs.KeyBlocks.{KeyBlock, KeyPlace, key_moves, key_addresses, key_place_address, key_areas}
+use Rattle.rom_rows.specs.KeyBlocks.KeyBlock.{KeyNext, KeyCount, KeyFreed}
+use Rattle.rom_rows.specs.KeyBlocks.KeyPlace.{KeyTest, KeyHeld}
+use Rattle.rom_rows.specs.Table.{At, BlockRows, PlaceRows, pieces}
+use Rattle.rom_rows.specs.Table.Block.{OfKey}
+use Rattle.rom_rows.specs.Table.Place.{AtKey}
+use Rattle.rom_rows.specs.Addresses.{RunsAt, Covers}
+
+-- ---- the rows
+
+-- every main move keeps the rows
+abbrev pub KeyRows : Type 0
+KeyRows = (e : Edition) (l : KeyBlock) → BlockRows (vip e) (OfKey l)
+
+abbrev pub KeyPlaceRows : Type 0
+KeyPlaceRows = (e : Edition) (l : KeyPlace) → PlaceRows (vip e) (AtKey l)
+
+-- ---- the addresses
+
+-- in the rows of a block the program counter is at the block's addresses in turn, and at a place at its address
+abbrev pub KeyAddresses : Type 0
+KeyAddresses = (e : Edition) (l : KeyBlock) → RunsAt (vip e) (OfKey l) (key_addresses l)
+
+abbrev pub KeyPlaceAddresses : Type 0
+KeyPlaceAddresses =
+    (e : Edition) (l : KeyPlace) (b : Machine) (h : Since)
+    → At (vip e) (AtKey l) b h
+    → at b.regs b.regs.p ≡ key_place_address l
+
+-- a block or a place
+pub data KeyPiece : Type 0 where
+  OfBlock : (l : KeyBlock) → KeyPiece
+  OfPlace : (l : KeyPlace) → KeyPiece
+
+-- how many instructions it has, and where they begin
+abbrev pub piece_moves : KeyPiece → ℕ
+piece_moves (OfBlock l) = key_moves l
+piece_moves (OfPlace l) = 1
+
+abbrev pub piece_addresses : KeyPiece → List ℕ
+piece_addresses (OfBlock l) = key_addresses l
+piece_addresses (OfPlace l) = key_place_address l ∷ []
+
+-- each instruction of that code is in some block or at some place
+abbrev pub KeyCovers : Type 0
+KeyCovers = Covers KeyPiece piece_moves piece_addresses key_areas
+
+-- ---- the sets of keys in FX0A
+
+-- each main move since the dispatch point took two cycles
+abbrev pub Counted : Since → Type 0
+Counted h = h.spent ≡ 2 * length h.keys
+
+-- it holds of the record of what came since a dispatch, whatever comes
+pub record CountsOn : Type 0 where
+  pub none : (cycle : ℕ) (s : Lang) → Counted (dispatched cycle s)
+  pub main : (u : Input) (h : Since) → Counted h → Counted (after_main u h)
+  pub tick : (h : Since) → Counted h → Counted (after_tick h)
+
+-- in one of the last n sets, key k is up or down as `down` says
+pub record Lately (n : ℕ) (sets : List Keys) (k : ℕ) (down : Bool) : Type 0 where
+  pub time : ℕ
+  pub late : length sets ≤ time + n
+  pub at : IsAt sets time k down
+
+-- in one of the n sets from the p-th on it is so
+pub record Within (p n : ℕ) (sets : List Keys) (k : ℕ) (down : Bool) : Type 0 where
+  pub time : ℕ
+  pub from : p ≤ time
+  pub before : time < p + n
+  pub at : IsAt sets time k down
+
+-- FX0A waits for a key to go down: a row of a turn, up to the test or behind it, or the test itself
+pub data Scans (x : Program) (b : Machine) (h : Since) : Type 0 where
+  UpTo : (turn : ℕ) → InBlock x (pieces x) (OfKey (KeyNext turn)) b h → Scans x b h
+  AtTest : (turn : ℕ) → At x (AtKey (KeyTest turn)) b h → Scans x b h
+  Behind : (turn : ℕ) → InBlock x (pieces x) (OfKey (KeyCount turn)) b h → Scans x b h
+
+-- There no key is down in all of any 400 successive sets of K.
+abbrev pub NoneStays : Type 0
+NoneStays =
+    (e : Edition) (b : Machine) (h : Since)
+    → Scans (vip e) b h
+    → Counted h
+    → (p : ℕ)
+    → p + 400 ≤ length h.keys
+    → (k : ℕ)
+    → k < 16
+    → Within p 400 h.keys k false
+
+-- Where FX0A waits for the latched key to go up, that key is down in the last set of K.
+abbrev pub StaysDown : Type 0
+StaysDown =
+    (e : Edition) (b : Machine) (h : Since)
+    → At (vip e) (AtKey KeyHeld) b h
+    → Lately 1 h.keys b.key true
+
+-- Behind its last test, its key is down in some set of K and up in some later one: down in one of the last five, and up in one of the last four.
+abbrev pub GoesUp : Type 0
+GoesUp =
+    (e : Edition) (b : Machine) (h : Since) (r : InBlock (vip e) (pieces (vip e)) (OfKey KeyFreed) b h)
+    → LetGo h.keys (r.start.regs.r.re.lo % 16) × Lately 5 h.keys (r.start.regs.r.re.lo % 16) true × Lately 4 h.keys (r.start.regs.r.re.lo % 16) false

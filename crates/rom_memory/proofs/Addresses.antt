@@ -1,0 +1,64 @@
+-- The addresses of these blocks.
+use Rattle.std.proofs.Common.{refl, List, [], ◌∷◌}
+use Rattle.machine.specs.Board.{Machine}
+use Rattle.chip8_lang.specs.declared.view.Edition.{Edition}
+use Rattle.chip8_image.specs.Labels.{at_hundreds, at_hundreds_end, at_tens, at_tens_end, at_store_byte, at_store_end, at_restore_byte, at_restore_end}
+use Rattle.rom_law.specs.Rows.{Since}
+use Rattle.rom_rows.specs.Checks.Caller.{ForDecimal}
+use Rattle.rom_rows.specs.Checks.Answer.{InGame, InFont, Nowhere}
+use Rattle.rom_rows.specs.MemoryBlocks.{MemoryBlock, memory_moves, memory_addresses, memory_areas}
+use Rattle.rom_rows.specs.MemoryBlocks.MemoryBlock.{Index, AddIndex, Digit, Check, CheckGame, CheckFont, CheckLow, Answering, Decimal, DecimalFound, Hundreds, HundredsEnd, Tens, TensEnd, Store, StoreFound, StoreByte, StoreEnd, Restore, RestoreFound, RestoreByte, RestoreEnd}
+use Rattle.rom_rows.specs.Table.{Head}
+use Rattle.rom_rows.specs.Table.Block.{OfMemory}
+use Rattle.rom_rows.proofs.Addresses.{Follows, runs_at, covers}
+use Rattle.rom_rows.proofs.Bytes.{quick}
+use Rattle.rom_rows.proofs.Entry.{is_entered, on_3, is_on_3}
+use Rattle.rom_memory.specs.Laws.{MemoryAddresses, MemoryCovers}
+use Rattle.rom_memory.proofs.Check.{is_checking, is_comparing}
+use Rattle.rom_memory.proofs.Found.{is_resumed}
+use Rattle.rom_memory.proofs.Law.{memory_block}
+
+follows : (e : Edition) (l : MemoryBlock) (b : Machine) (h : Since) → Head (quick e) (OfMemory l) b h → Follows e (OfMemory l) (memory_addresses l) b
+follows e Index b h o = record { same = _; is = is_entered o.0.entered; follows = refl }
+follows e AddIndex b h o = record { same = _; is = is_entered o.0.0.entered; follows = refl }
+follows e Digit b h o = record { same = _; is = is_entered o.0.0.entered; follows = refl }
+follows e (Check c) b h o = record { same = _; is = is_checking o.0; follows = refl }
+follows e (CheckGame c) b h o = record { same = _; is = is_comparing o.0.0; follows = refl }
+follows e (CheckFont c) b h o = record { same = _; is = is_comparing o.0.0; follows = refl }
+follows e (CheckLow c) b h o = record { same = _; is = is_comparing o.0.0; follows = refl }
+follows e (Answering c InGame) b h o = record { same = _; is = is_checking o.0.0; follows = refl }
+follows e (Answering c InFont) b h o = record { same = _; is = is_checking o.0.0; follows = refl }
+follows e (Answering c Nowhere) b h o = record { same = _; is = is_checking o.0.0; follows = refl }
+follows e Decimal b h o = record { same = _; is = is_entered o.0.0.entered; follows = refl }
+follows e (DecimalFound InGame) b h o = record { same = _; is = is_resumed o.0; follows = refl }
+follows e (DecimalFound InFont) b h o = record { same = _; is = is_resumed o.0; follows = refl }
+follows e (DecimalFound Nowhere) b h o = record { same = _; is = is_resumed o.0; follows = refl }
+follows e (Hundreds k) b h o = record { same = on_3 at_hundreds b; is = is_on_3 at_hundreds b o.0.0.p o.0.0.r3; follows = refl }
+follows e HundredsEnd b h o = record { same = on_3 at_hundreds_end b; is = is_on_3 at_hundreds_end b o.0.p o.0.r3; follows = refl }
+follows e (Tens k) b h o = record { same = on_3 at_tens b; is = is_on_3 at_tens b o.0.0.p o.0.0.r3; follows = refl }
+follows e TensEnd b h o = record { same = on_3 at_tens_end b; is = is_on_3 at_tens_end b o.0.p o.0.r3; follows = refl }
+follows e Store b h o = record { same = _; is = is_entered o.0.0.entered; follows = refl }
+follows e (StoreFound InGame) b h o = record { same = _; is = is_resumed o.0; follows = refl }
+follows e (StoreFound InFont) b h o = record { same = _; is = is_resumed o.0; follows = refl }
+follows e (StoreFound Nowhere) b h o = record { same = _; is = is_resumed o.0; follows = refl }
+follows e (StoreByte k) b h o = record { same = on_3 at_store_byte b; is = is_on_3 at_store_byte b o.0.0.p o.0.0.r3; follows = refl }
+follows e StoreEnd b h o = record { same = on_3 at_store_end b; is = is_on_3 at_store_end b o.0.0.p o.0.0.r3; follows = refl }
+follows e Restore b h o = record { same = _; is = is_entered o.0.0.entered; follows = refl }
+follows e (RestoreFound InGame) b h o = record { same = _; is = is_resumed o.0; follows = refl }
+follows e (RestoreFound InFont) b h o = record { same = _; is = is_resumed o.0; follows = refl }
+follows e (RestoreFound Nowhere) b h o = record { same = _; is = is_resumed o.0; follows = refl }
+follows e (RestoreByte k) b h o = record { same = on_3 at_restore_byte b; is = is_on_3 at_restore_byte b o.0.0.p o.0.0.r3; follows = refl }
+follows e RestoreEnd b h o = record { same = on_3 at_restore_end b; is = is_on_3 at_restore_end b o.0.0.p o.0.0.r3; follows = refl }
+
+pub memory_addresses_run : MemoryAddresses
+memory_addresses_run e l = runs_at e (OfMemory l) (memory_addresses l) (memory_block e l) (follows e l)
+
+blocks : List MemoryBlock
+blocks =
+    Index ∷ AddIndex ∷ Digit ∷ Check ForDecimal ∷ CheckGame ForDecimal ∷ CheckFont ForDecimal ∷ CheckLow ForDecimal ∷ Answering ForDecimal InGame ∷
+    Answering ForDecimal InFont ∷ Answering ForDecimal Nowhere ∷ Decimal ∷ DecimalFound InGame ∷ DecimalFound Nowhere ∷ Hundreds 0 ∷ HundredsEnd ∷ Tens 0 ∷
+    TensEnd ∷ Store ∷ StoreFound InGame ∷ StoreByte 0 ∷ StoreEnd ∷ Restore ∷ RestoreFound InGame ∷ RestoreFound Nowhere ∷ RestoreByte 0 ∷ RestoreEnd ∷ []
+
+pub memory_covered : MemoryCovers
+unfolding blocks
+memory_covered = covers MemoryBlock memory_moves memory_addresses blocks memory_areas refl

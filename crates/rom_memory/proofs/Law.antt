@@ -1,0 +1,44 @@
+-- The law of the rows of I and of game memory.
+use Rattle.machine.specs.Board.{Machine}
+use Rattle.machine.specs.Ranges.{FitsMachine}
+use Rattle.chip8_lang.specs.declared.view.Edition.{Edition}
+use Rattle.rom_law.specs.Rows.{Since}
+use Rattle.rom_law.proofs.Kept.{Comes}
+use Rattle.rom_rows.specs.MemoryBlocks.{MemoryBlock}
+use Rattle.rom_rows.specs.MemoryBlocks.MemoryBlock.{Index, AddIndex, Digit, Check, CheckGame, CheckFont, CheckLow, Answering, Decimal, DecimalFound, Hundreds, HundredsEnd, Tens, TensEnd, Store, StoreFound, StoreByte, StoreEnd, Restore, RestoreFound, RestoreByte, RestoreEnd}
+use Rattle.rom_rows.specs.Table.{Head, calm_pieces}
+use Rattle.rom_rows.specs.Table.Block.{OfMemory}
+use Rattle.rom_rows.proofs.Bytes.{quick}
+use Rattle.rom_rows.proofs.Sounds.{block_rows}
+use Rattle.rom_memory.specs.Laws.{MemoryRows}
+use Rattle.rom_memory.proofs.Index.{index_comes, add_index_comes, digit_comes}
+use Rattle.rom_memory.proofs.Check.{check_comes, check_game_comes, check_font_comes, check_low_comes, answering_comes}
+use Rattle.rom_memory.proofs.Decimal.{decimal_comes, decimal_found_comes, hundreds_comes, hundreds_end_comes, tens_comes, tens_end_comes}
+use Rattle.rom_memory.proofs.Copies.{store_comes, store_found_comes, store_byte_comes, store_end_comes, restore_comes, restore_found_comes, restore_byte_comes, restore_end_comes}
+
+pub memory_block : (e : Edition) (l : MemoryBlock) (b : Machine) (h : Since) → FitsMachine b → Head (quick e) (OfMemory l) b h → Comes (quick e) (calm_pieces (quick e)) (OfMemory l) b h
+memory_block e Index b h f o = index_comes e b h f o.0
+memory_block e AddIndex b h f o = add_index_comes e b h f o.0.0 o.0.1
+memory_block e Digit b h f o = digit_comes e b h f o.0.0 o.0.1
+memory_block e (Check c) b h f o = check_comes e b h f c o.0 o.1
+memory_block e (CheckGame c) b h f o = check_game_comes e b h f c o.0.0 o.0.1 o.1
+memory_block e (CheckFont c) b h f o = check_font_comes e b h f c o.0.0 o.0.1 o.1
+memory_block e (CheckLow c) b h f o = check_low_comes e b h f c o.0.0 o.0.1 o.0.2 o.1
+memory_block e (Answering c answer) b h f o = answering_comes e b h f c answer o.0.0 o.0.1 o.1
+memory_block e Decimal b h f o = decimal_comes e b h f o.0.0 o.0.1 o.1
+memory_block e (DecimalFound answer) b h f o = decimal_found_comes e b h f answer o.0 o.1
+memory_block e (Hundreds k) b h f o = hundreds_comes e b h f k o.0.0 o.0.1 o.1
+memory_block e HundredsEnd b h f o = hundreds_end_comes e b h f o.0 o.1
+memory_block e (Tens k) b h f o = tens_comes e b h f k o.0.0 o.0.1 o.1
+memory_block e TensEnd b h f o = tens_end_comes e b h f o.0
+memory_block e Store b h f o = store_comes e b h f o.0.0 o.0.1 o.1
+memory_block e (StoreFound answer) b h f o = store_found_comes e b h f answer o.0 o.1
+memory_block e (StoreByte k) b h f o = store_byte_comes e b h f k o.0.0 o.0.1 o.0.2 o.1
+memory_block e StoreEnd b h f o = store_end_comes e b h f o.0.0 o.0.1
+memory_block e Restore b h f o = restore_comes e b h f o.0.0 o.0.1 o.1
+memory_block e (RestoreFound answer) b h f o = restore_found_comes e b h f answer o.0 o.1
+memory_block e (RestoreByte k) b h f o = restore_byte_comes e b h f k o.0.0 o.0.1 o.0.2 o.1
+memory_block e RestoreEnd b h f o = restore_end_comes e b h f o.0.0 o.0.1
+
+pub memory_rows : MemoryRows
+memory_rows e l = block_rows e (OfMemory l) (memory_block e l)

@@ -1,0 +1,69 @@
+-- Both ROMs as one list, so that code is run by computing for both editions at once: a byte in which they differ is a choice by the
+-- edition.
+use Rattle.std.proofs.Common.{◌≡◌, ℕ, zero, suc, ◌+◌, ◌*◌, ◌<◌, refl, sym, subst, lit<, Bool, true, ◌&&◌, List, [], ◌∷◌, cond, slice_index, nat_lt}
+use Rattle.std.specs.Prelude.{◌==◌}
+use Rattle.std.proofs.lemmas.Bool.{and_parts, ltb-true}
+use Rattle.machine.specs.Ranges.{FitsRom}
+use Rattle.chip8_lang.specs.declared.view.Edition.{Edition}
+use Rattle.chip8_lang.specs.declared.view.Edition.TheVariants.{Usual, Tall}
+use Rattle.chip8_lang.specs.Editions.{memory_end, stack_top, variables}
+use Rattle.chip8_image.specs.declared.image.TheConstants.{IMAGE, TALL}
+use Rattle.rom_law.specs.Program.{Program}
+use Rattle.rom_rows.specs.Rom.{image, program_of}
+use Rattle.rom_rows.specs.Heads.{by_edition, page_of}
+
+abbrev pub joined : Edition → List ℕ → List ℕ → List ℕ
+joined e [] l = []
+joined e (a ∷ k) [] = []
+joined e (a ∷ k) (b ∷ l) = cond (a == b) a (by_edition e a b) ∷ joined e k l
+
+abbrev pub both : Edition → List ℕ
+both e = joined e IMAGE TALL
+
+pub both_is : (e : Edition) → both e ≡ image e
+both_is Usual = refl
+both_is Tall = refl
+
+-- the interpreter with these bytes
+abbrev pub quick : Edition → Program
+quick e = program_of e (both e)
+
+-- ---- the bytes are in range
+
+abbrev all_bytes : List ℕ → Bool
+all_bytes [] = true
+all_bytes (a ∷ l) = nat_lt a 256 && all_bytes l
+
+byte_fits : (l : List ℕ) → all_bytes l ≡ true → (i : ℕ) → slice_index l i < 256
+byte_fits [] h i = lit< tt
+byte_fits (a ∷ l) h zero = ltb-true a 256 (and_parts (nat_lt a 256) (all_bytes l) h).0
+byte_fits (a ∷ l) h (suc i) = byte_fits l (and_parts (nat_lt a 256) (all_bytes l) h).1 i
+
+image_fits : (e : Edition) → FitsRom (image e)
+image_fits Usual = record { size = refl; bytes = byte_fits IMAGE refl }
+image_fits Tall = record { size = refl; bytes = byte_fits TALL refl }
+
+pub both_fits : (e : Edition) → FitsRom (both e)
+both_fits e = subst FitsRom (sym (both_is e)) (image_fits e)
+
+-- ---- the places of an edition
+
+pub page_fits : (e : Edition) → page_of e < 15
+page_fits Usual = lit< tt
+page_fits Tall = lit< tt
+
+pub page_low : (e : Edition) → 12 < page_of e
+page_low Usual = lit< tt
+page_low Tall = lit< tt
+
+pub memory_end_is : (e : Edition) → memory_end e ≡ page_of e * 256 + 0xa0
+memory_end_is Usual = refl
+memory_end_is Tall = refl
+
+pub stack_top_is : (e : Edition) → stack_top e ≡ page_of e * 256 + 0xcf
+stack_top_is Usual = refl
+stack_top_is Tall = refl
+
+pub variables_is : (e : Edition) → variables e ≡ page_of e * 256 + 0xf0
+variables_is Usual = refl
+variables_is Tall = refl

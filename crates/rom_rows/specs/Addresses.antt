@@ -1,0 +1,42 @@
+-- At which addresses the instructions of blocks begin, and that those of a part of the ROM all do in some block.
+use Rattle.std.specs.Prelude.{◌≡◌, ℕ, zero, suc, ◌+◌, ◌-◌, ◌<◌, if◌then◌else◌, nat_le, List, [], ◌∷◌, ◌++◌, length, slice_index}
+use Rattle.machine.specs.Instruction.{at}
+use Rattle.machine.specs.Board.{Machine}
+use Rattle.machine.specs.Opcodes.{kind_of}
+use Rattle.vip_isa.specs.Rows.{size_of}
+use Rattle.chip8_image.specs.declared.image.TheConstants.{IMAGE}
+use Rattle.chip8_image.specs.Parts.{Area}
+use Rattle.rom_law.specs.Program.{Program}
+use Rattle.rom_law.specs.Rows.{Since, InBlock}
+use Rattle.rom_rows.specs.Table.{Block, pieces}
+
+-- in the rows of a block the program counter is in turn at these addresses
+abbrev pub RunsAt : Program → Block → List ℕ → Type 0
+RunsAt x l addresses =
+    (b : Machine) (h : Since)
+    → (r : InBlock x (pieces x) l b h)
+    → at b.regs b.regs.p ≡ slice_index addresses r.k
+
+-- The addresses of a straight piece of code at which an instruction begins: the first one, and each that lies past the instruction
+-- before. The editions have the same instructions at the same addresses.
+abbrev pub begins_from : ℕ → ℕ → ℕ → List ℕ
+begins_from zero a last = []
+begins_from (suc n) a last = if nat_le a last then a ∷ begins_from n (a + size_of (kind_of (slice_index IMAGE (a - 0x8000)))) last else []
+
+abbrev pub begins : List Area → List ℕ
+begins [] = []
+begins (a ∷ areas) = begins_from (a.last + 1 - a.first) a.first a.last ++ begins areas
+
+-- an address is that of some instruction of some block, where blocks have so many instructions at these addresses
+pub record IsIn (B : Type 0) (moves : B → ℕ) (addresses : B → List ℕ) (a : ℕ) : Type 0 where
+  pub block : B
+  pub k : ℕ
+  pub inside : k < moves block
+  pub is : slice_index (addresses block) k ≡ a
+
+-- every instruction of these areas is in some block
+abbrev pub Covers : (B : Type 0) → (B → ℕ) → (B → List ℕ) → List Area → Type 0
+Covers B moves addresses areas =
+    (i : ℕ)
+    → i < length (begins areas)
+    → IsIn B moves addresses (slice_index (begins areas) i)

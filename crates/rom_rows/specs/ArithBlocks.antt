@@ -1,0 +1,146 @@
+-- The blocks of loads, of skips and of 8XYN.
+use Rattle.std.specs.Prelude.{◌≡◌, ℕ, suc, ◌+◌, ◌*◌, ◌%◌, ◌<◌, Bool, true, false, List, [], ◌∷◌, ◌++◌, slice_index, Some}
+use Rattle.machine.specs.Board.{Machine}
+use Rattle.chip8_lang.specs.declared.instr.Instr.{Instr}
+use Rattle.chip8_lang.specs.declared.instr.Instr.TheVariants.{SkipEq as IsSkipEq, SkipNe as IsSkipNe, SkipSame as IsSkipSame, SkipDiffer as IsSkipDiffer, Or, And, Xor, Sum, Less, Right, From, Left}
+use Rattle.chip8_lang.specs.declared.view.Stop.TheVariants.{Unknown}
+use Rattle.chip8_lang.specs.State.{Lang, instr_at}
+use Rattle.chip8_lang.specs.Step.{skip_if, set_with_flag, step}
+use Rattle.chip8_lang.specs.Step.KeyInput.{Nothing}
+use Rattle.chip8_image.specs.declared.parts.Part.TheVariants.{Arith as IsArith}
+use Rattle.chip8_image.specs.Labels.{at_load, at_add, at_skip_eq, at_skip_eq_no, at_skip_ne, at_skip_ne_no, at_skip_same, at_skip_same_test, at_skip_same_no, at_skip_differ, at_differ_test, at_differ_no, at_skip, at_unknown81, at_arith, at_slot0, at_copy, at_vx_or, at_vx_and, at_vx_xor, at_sum, at_less, at_right, at_from, at_left, at_no_flag, at_flag, at_unknown82}
+use Rattle.chip8_image.specs.Parts.{Area, area}
+use Rattle.rom_law.specs.Program.{Program}
+use Rattle.rom_rows.specs.Heads.{Time, from, high_byte, low_byte, Entered, Enters}
+use Rattle.rom_rows.specs.Heads.Time.{Exactly, AtMost}
+
+pub data ArithBlock : Type 0 where
+  -- 6XKK and 7XKK: 8153 to 8155, and 8156 to 815A
+  Load : ArithBlock
+  Add : ArithBlock
+  -- 3XKK and 4XKK: 815B to 815F, and 8161 to 8165
+  SkipEq : ArithBlock
+  SkipNe : ArithBlock
+  -- 5XYN and 9XYN: 8167 to 816B, and 8172 to 8176; where N is 0, 816C to 8170, and 8177 to 817B
+  SkipSame : ArithBlock
+  SameTest : ArithBlock
+  SkipDiffer : ArithBlock
+  DifferTest : ArithBlock
+  -- behind skip i where it was not taken: 8160, 8166, 8171 and 817C
+  NoSkip : (i : ℕ) → ArithBlock
+  -- 817D to 817F
+  Skip : ArithBlock
+  -- 8180 to 8183
+  Unknown81 : ArithBlock
+  -- 8XYN: 8200 to 8207
+  Arith : ArithBlock
+  -- 8208 + 2n to 8209 + 2n, and from there on the code of operation n up to its end or to the flag, which lies from 8228 to 824C
+  Operation : (n : ℕ) → ArithBlock
+  -- 824D to 8258
+  Flag : ArithBlock
+  -- 8259 to 825C
+  Unknown82 : ArithBlock
+
+-- where 3XKK, 4XKK, 5XY0 and 9XY0 go on if they don't skip
+abbrev pub no_skip_labels : List ℕ
+no_skip_labels = at_skip_eq_no ∷ at_skip_ne_no ∷ at_skip_same_no ∷ at_differ_no ∷ []
+
+-- how many instructions each of 8XY0 to 8XYF has behind its branch, up to its end or to the flag
+abbrev pub operation_lengths : List ℕ
+operation_lengths = 3 ∷ 4 ∷ 4 ∷ 4 ∷ 3 ∷ 3 ∷ 3 ∷ 3 ∷ 0 ∷ 0 ∷ 0 ∷ 0 ∷ 0 ∷ 0 ∷ 3 ∷ 0 ∷ []
+
+-- the instructions that share an end: skips, and operations with a flag. None of them stops, waits or takes a key.
+abbrev pub has_shared_end : Instr → Bool
+has_shared_end (IsSkipEq x k) = true
+has_shared_end (IsSkipNe x k) = true
+has_shared_end (IsSkipSame x y) = true
+has_shared_end (IsSkipDiffer x y) = true
+has_shared_end (Or x y) = true
+has_shared_end (And x y) = true
+has_shared_end (Xor x y) = true
+has_shared_end (Sum x y) = true
+has_shared_end (Less x y) = true
+has_shared_end (Right x y) = true
+has_shared_end (From x y) = true
+has_shared_end (Left x y) = true
+has_shared_end _ = false
+
+-- at an end that instructions share, at a: the step makes z
+pub record Ending (x : Program) (a : ℕ) (z : Lang) (b : Machine) (s : Lang) : Type 0 where
+  pub entered : Entered x a b s
+  pub shared : has_shared_end (instr_at s) ≡ true
+  pub makes : step x.edition Nothing s ≡ z
+
+abbrev pub arith_at : Program → ArithBlock → Machine → Lang → Type 0
+arith_at x Load b s = Enters x at_load 6 b s
+arith_at x Add b s = Enters x at_add 7 b s
+arith_at x SkipEq b s = Enters x at_skip_eq 3 b s
+arith_at x SkipNe b s = Enters x at_skip_ne 4 b s
+arith_at x SkipSame b s = Enters x at_skip_same 5 b s
+arith_at x SameTest b s = Enters x at_skip_same_test 5 b s × (low_byte s % 16 ≡ 0)
+arith_at x SkipDiffer b s = Enters x at_skip_differ 9 b s
+arith_at x DifferTest b s = Enters x at_differ_test 9 b s × (low_byte s % 16 ≡ 0)
+arith_at x (NoSkip i) b s = Ending x (slice_index no_skip_labels i) (skip_if false s) b s × (i < 4)
+arith_at x Skip b s = Ending x at_skip (skip_if true s) b s
+arith_at x Unknown81 b s = Entered x at_unknown81 b s × (x.stop_of s ≡ Some Unknown)
+arith_at x Arith b s = Enters x at_arith 8 b s
+arith_at x (Operation n) b s = Enters x (at_slot0 + 2 * n) 8 b s × (low_byte s % 16 ≡ n) × (b.regs.x ≡ 6)
+arith_at x Flag b s = Ending x at_flag (set_with_flag (high_byte s % 16) b.regs.d b.regs.df s) b s
+arith_at x Unknown82 b s = Entered x at_unknown82 b s × (x.stop_of s ≡ Some Unknown)
+
+abbrev pub arith_moves : ArithBlock → ℕ
+arith_moves Load = 3
+arith_moves Add = 5
+arith_moves SkipEq = 4
+arith_moves SkipNe = 4
+arith_moves SkipSame = 3
+arith_moves SameTest = 4
+arith_moves SkipDiffer = 3
+arith_moves DifferTest = 4
+arith_moves (NoSkip i) = 1
+arith_moves Skip = 3
+arith_moves Unknown81 = 2
+arith_moves Arith = 6
+arith_moves (Operation n) = suc (slice_index operation_lengths n)
+arith_moves Flag = 9
+arith_moves Unknown82 = 2
+
+abbrev pub arith_time : ArithBlock → Time
+arith_time SameTest = Exactly 86
+arith_time DifferTest = Exactly 86
+arith_time (NoSkip i) = AtMost 94
+arith_time Skip = AtMost 94
+arith_time Unknown81 = AtMost 86
+arith_time (Operation n) = Exactly 92
+arith_time Flag = AtMost 102
+arith_time Unknown82 = AtMost 94
+arith_time _ = Exactly 80
+
+-- where the code of each of 8XY0 to 8XYF begins
+abbrev pub operation_labels : List ℕ
+operation_labels =
+    at_copy ∷ at_vx_or ∷ at_vx_and ∷ at_vx_xor ∷ at_sum ∷ at_less ∷ at_right ∷ at_from ∷
+    at_unknown82 ∷ at_unknown82 ∷ at_unknown82 ∷ at_unknown82 ∷ at_unknown82 ∷ at_unknown82 ∷ at_left ∷ at_unknown82 ∷
+    []
+
+-- where a block's instructions begin
+abbrev pub arith_addresses : ArithBlock → List ℕ
+arith_addresses Load = from at_load (0 ∷ 1 ∷ 2 ∷ [])
+arith_addresses Add = from at_add (0 ∷ 1 ∷ 2 ∷ 3 ∷ 4 ∷ [])
+arith_addresses SkipEq = from at_skip_eq (0 ∷ 1 ∷ 2 ∷ 3 ∷ [])
+arith_addresses SkipNe = from at_skip_ne (0 ∷ 1 ∷ 2 ∷ 3 ∷ [])
+arith_addresses SkipSame = from at_skip_same (0 ∷ 1 ∷ 3 ∷ [])
+arith_addresses SameTest = from at_skip_same_test (0 ∷ 1 ∷ 2 ∷ 3 ∷ [])
+arith_addresses SkipDiffer = from at_skip_differ (0 ∷ 1 ∷ 3 ∷ [])
+arith_addresses DifferTest = from at_differ_test (0 ∷ 1 ∷ 2 ∷ 3 ∷ [])
+arith_addresses (NoSkip i) = slice_index no_skip_labels i ∷ []
+arith_addresses Skip = from at_skip (0 ∷ 1 ∷ 2 ∷ [])
+arith_addresses Unknown81 = from at_unknown81 (0 ∷ 2 ∷ [])
+arith_addresses Arith = from at_arith (0 ∷ 1 ∷ 2 ∷ 4 ∷ 5 ∷ 7 ∷ [])
+arith_addresses (Operation n) = (at_slot0 + 2 * n) ∷ from (slice_index operation_labels n) (0 ∷ 1 ∷ 2 ∷ []) ++ at_no_flag ∷ []
+arith_addresses Flag = from at_flag (0 ∷ 1 ∷ 3 ∷ 4 ∷ 6 ∷ 7 ∷ 9 ∷ 10 ∷ 11 ∷ [])
+arith_addresses Unknown82 = from at_unknown82 (0 ∷ 2 ∷ [])
+
+-- loads and skips, and 8XYN
+abbrev pub arith_areas : List Area
+arith_areas = area 0x8153 0x8183 IsArith ∷ area 0x8200 0x825c IsArith ∷ []

@@ -1,0 +1,177 @@
+-- The blocks and places of EX9E, EXA1 and FX0A. K is the sets of keys that were down at the main moves since the dispatch point.
+use Rattle.std.specs.Prelude.{◌≡◌, ℕ, suc, ◌+◌, ◌*◌, ◌/◌, ◌%◌, ◌<◌, Bool, true, false, not, List, [], ◌∷◌, length}
+use Rattle.machine.specs.Bank.{word, word_of}
+use Rattle.machine.specs.Board.{Machine}
+use Rattle.machine.specs.Keys.{Keys}
+use Rattle.chip8_lang.specs.Between.{IsAt, SomeTime}
+use Rattle.chip8_lang.specs.State.{Lang, variable, is_fetchable}
+use Rattle.chip8_lang.specs.Step.{next}
+use Rattle.chip8_image.specs.declared.parts.Part.TheVariants.{Keys as IsKeys}
+use Rattle.chip8_image.specs.Labels.{at_fetch, at_key_skip, at_key_skip_up, at_skip_up, at_skip_up_test, at_skip_up_no, at_skip_down, at_skip_down_test, at_skip_down_no, at_key_yes, at_wait_key, at_key_next, at_key_test, at_key_count, at_key_held, at_key_freed}
+use Rattle.chip8_image.specs.Parts.{Area, area}
+use Rattle.rom_law.specs.Program.{Program}
+use Rattle.rom_law.specs.Holding.{places, Holding}
+use Rattle.rom_rows.specs.Heads.{Time, from, high_byte, low_byte, page_of, Enters}
+use Rattle.rom_rows.specs.Heads.Time.{Exactly, Anytime}
+
+-- Of the two skips, the one with `down` skips where its key is down, and the other where it is up.
+pub data KeyBlock : Type 0 where
+  -- which of the two: 8271 to 8276, and 8277 to 827B
+  KeySkip : KeyBlock
+  KeySkipUp : KeyBlock
+  -- a skip up to its test, 8280 and 827C; behind it where it was not taken, 8283 and 827F, and where it was, 8284 to 8286
+  SkipLatch : (down : Bool) → KeyBlock
+  NoSkip : (down : Bool) → KeyBlock
+  Skip : (down : Bool) → KeyBlock
+  -- FX0A up to its loop: 833A to 8343
+  WaitKey : KeyBlock
+  -- a turn of the loop up to its test, and behind the test where that key is up: 8344 to 8347, and 834A to 834C
+  KeyNext : (turn : ℕ) → KeyBlock
+  KeyCount : (turn : ℕ) → KeyBlock
+  -- a key was let go: 834F to 8353
+  KeyFreed : KeyBlock
+
+-- the tests of the latched key
+pub data KeyPlace : Type 0 where
+  -- that of a skip: 8281 and 827D
+  SkipTest : (down : Bool) → KeyPlace
+  -- that of a turn, and that of the key that is down: 8348 and 834D
+  KeyTest : (turn : ℕ) → KeyPlace
+  KeyHeld : KeyPlace
+
+-- ---- K
+
+-- in the last set of K, key k is up or down as `down` says
+pub record Last (sets : List Keys) (k : ℕ) (down : Bool) : Type 0 where
+  pub time : ℕ
+  pub last : suc time ≡ length sets
+  pub at : IsAt sets time k down
+
+-- key k is down in the set before the last one of K, and up in the last one
+pub record JustUp (sets : List Keys) (k : ℕ) : Type 0 where
+  pub time : ℕ
+  pub last : 2 + time ≡ length sets
+  pub down : IsAt sets time k true
+  pub up : IsAt sets (suc time) k false
+
+-- Turn t of the loop tests key t mod 16. So many sets lie before the loop, then seven for each turn, and `more` for this one. In the fifth
+-- set of each turn before, that turn's key is up.
+pub record Turned (turn more : ℕ) (sets : List Keys) : Type 0 where
+  pub before : ℕ
+  pub count : length sets ≡ before + 7 * turn + more
+  pub up : (i : ℕ) → i < turn → IsAt sets (before + 7 * i + 4) (i % 16) false
+
+-- ---- heads
+
+-- the low byte of a skip
+abbrev pub skip_code : Bool → ℕ
+skip_code true = 0x9e
+skip_code false = 0xa1
+
+-- its key
+abbrev pub skip_key : Lang → ℕ
+skip_key s = variable s (high_byte s % 16) % 16
+
+-- in a skip, at a: s is in its places but for pc, which has gone past the opcode
+pub record Skipping (x : Program) (down : Bool) (a : ℕ) (b : Machine) (s : Lang) : Type 0 where
+  pub holds : Holding x (places b) (next s)
+  pub inside : is_fetchable x.edition s ≡ true
+  pub p : b.regs.p ≡ 3
+  pub r3 : b.regs.r.r3 ≡ word_of a
+  pub r4 : b.regs.r.r4 ≡ word_of at_fetch
+  pub digit : high_byte s / 16 ≡ 14
+  pub low : low_byte s ≡ skip_code down
+
+-- in FX0A
+pub record Waiting (x : Program) (a : ℕ) (b : Machine) (s : Lang) : Type 0 where
+  pub enters : Enters x a 15 b s
+  pub low : low_byte s ≡ 0x0a
+
+-- in a turn of its loop: RE.0 counts the turns, and R(X), which is RD, points to the work area
+pub record Turning (x : Program) (turn a : ℕ) (b : Machine) (s : Lang) : Type 0 where
+  pub waiting : Waiting x a b s
+  pub count : b.regs.r.re.lo ≡ turn % 256
+  pub pointer : b.regs.x ≡ 13
+  pub rd : b.regs.r.rd ≡ word (page_of x.edition) 0xd0
+
+-- the labels of the skips
+abbrev pub skip_label : Bool → ℕ
+skip_label true = at_skip_down
+skip_label false = at_skip_up
+
+abbrev pub skip_test_label : Bool → ℕ
+skip_test_label true = at_skip_down_test
+skip_test_label false = at_skip_up_test
+
+abbrev pub no_skip_label : Bool → ℕ
+no_skip_label true = at_skip_down_no
+no_skip_label false = at_skip_up_no
+
+abbrev pub key_at : Program → KeyBlock → Machine → Lang → List Keys → Type 0
+key_at x KeySkip b s sets = Enters x at_key_skip 14 b s
+key_at x KeySkipUp b s sets = Enters x at_key_skip_up 14 b s × (b.regs.x ≡ 6) × (low_byte s ≡ skip_code true → ⊥)
+key_at x (SkipLatch down) b s sets = Enters x (skip_label down) 14 b s × (b.regs.x ≡ 6) × (low_byte s ≡ skip_code down)
+key_at x (NoSkip down) b s sets = Skipping x down (no_skip_label down) b s × SomeTime sets (skip_key s) (not down)
+key_at x (Skip down) b s sets = Skipping x down at_key_yes b s × SomeTime sets (skip_key s) down
+key_at x WaitKey b s sets = Enters x at_wait_key 15 b s × (low_byte s ≡ 0x0a)
+key_at x (KeyNext turn) b s sets = Turning x turn at_key_next b s × Turned turn 0 sets
+key_at x (KeyCount turn) b s sets = Turning x turn at_key_count b s × Turned turn 5 sets × Last sets (turn % 16) false
+key_at x KeyFreed b s sets = Waiting x at_key_freed b s × JustUp sets (b.regs.r.re.lo % 16)
+
+abbrev pub key_place_at : Program → KeyPlace → Machine → Lang → List Keys → Type 0
+key_place_at x (SkipTest down) b s sets = Skipping x down (skip_test_label down) b s × (b.key ≡ skip_key s)
+key_place_at x (KeyTest turn) b s sets = Turning x turn at_key_test b s × (b.key ≡ turn % 16) × Turned turn 4 sets
+key_place_at x KeyHeld b s sets = Waiting x at_key_held b s × (b.key ≡ b.regs.r.re.lo % 16) × Last sets (b.regs.r.re.lo % 16) true
+
+abbrev pub key_moves : KeyBlock → ℕ
+key_moves KeySkip = 4
+key_moves KeySkipUp = 3
+key_moves (SkipLatch down) = 1
+key_moves (NoSkip down) = 1
+key_moves (Skip down) = 3
+key_moves WaitKey = 7
+key_moves (KeyNext turn) = 4
+key_moves (KeyCount turn) = 2
+key_moves KeyFreed = 4
+
+-- the main cycles before a skip
+abbrev pub skip_time : Bool → ℕ
+skip_time true = 88
+skip_time false = 94
+
+abbrev pub key_time : KeyBlock → Time
+key_time KeySkip = Exactly 80
+key_time KeySkipUp = Exactly 88
+key_time (SkipLatch down) = Exactly (skip_time down)
+key_time (NoSkip down) = Exactly (skip_time down + 4)
+key_time (Skip down) = Exactly (skip_time down + 4)
+key_time WaitKey = Exactly 92
+key_time (KeyNext turn) = Exactly (106 + 14 * turn)
+key_time (KeyCount turn) = Exactly (116 + 14 * turn)
+key_time KeyFreed = Anytime
+
+abbrev pub key_place_time : KeyPlace → Time
+key_place_time (SkipTest down) = Exactly (skip_time down + 2)
+key_place_time (KeyTest turn) = Exactly (114 + 14 * turn)
+key_place_time KeyHeld = Anytime
+
+-- where a block's instructions begin, and where a place's one does
+abbrev pub key_addresses : KeyBlock → List ℕ
+key_addresses KeySkip = from at_key_skip (0 ∷ 1 ∷ 2 ∷ 4 ∷ [])
+key_addresses KeySkipUp = from at_key_skip_up (0 ∷ 1 ∷ 3 ∷ [])
+key_addresses (SkipLatch down) = skip_label down ∷ []
+key_addresses (NoSkip down) = no_skip_label down ∷ []
+key_addresses (Skip down) = from at_key_yes (0 ∷ 1 ∷ 2 ∷ [])
+key_addresses WaitKey = from at_wait_key (0 ∷ 2 ∷ 3 ∷ 5 ∷ 6 ∷ 7 ∷ 9 ∷ [])
+key_addresses (KeyNext turn) = from at_key_next (0 ∷ 1 ∷ 2 ∷ 3 ∷ [])
+key_addresses (KeyCount turn) = from at_key_count (0 ∷ 1 ∷ [])
+key_addresses KeyFreed = from at_key_freed (0 ∷ 1 ∷ 3 ∷ 4 ∷ [])
+
+abbrev pub key_place_address : KeyPlace → ℕ
+key_place_address (SkipTest down) = skip_test_label down
+key_place_address (KeyTest turn) = at_key_test
+key_place_address KeyHeld = at_key_held
+
+-- EX9E and EXA1, and FX0A
+abbrev pub key_areas : List Area
+key_areas = area 0x8271 0x8286 IsKeys ∷ area 0x833a 0x8353 IsKeys ∷ []

@@ -1,0 +1,366 @@
+-- The blocks and places of 00E0 and DXYN.
+use Rattle.std.specs.Prelude.{◌≡◌, ℕ, ◌+◌, ◌-◌, ◌*◌, ◌/◌, ◌%◌, ◌^◌, ◌<◌, ◌≤◌, true, false, not, ◌==◌, ◌&&◌, ◌||◌, nat_lt, List, [], ◌∷◌, ◌++◌, slice_index}
+use Rattle.machine.specs.Bank.{word, value, word_of}
+use Rattle.machine.specs.Board.{Machine}
+use Rattle.chip8_lang.specs.Editions.{screen_start, rows_of, sprite_work}
+use Rattle.chip8_lang.specs.declared.view.Edition.{Edition}
+use Rattle.chip8_lang.specs.Screen.{Pixels, difference, either, meets, dots}
+use Rattle.chip8_lang.specs.State.{Lang, variable, is_fetchable}
+use Rattle.chip8_lang.specs.Step.{next, is_readable, sprite_row}
+use Rattle.chip8_image.specs.declared.parts.Part.TheVariants.{Sprite as IsSprite}
+use Rattle.chip8_image.specs.Labels.{at_fetch, at_clear, at_clear_wait, at_wipe, at_wipe3, at_wipe6, at_wiped, at_cleared, at_draw, at_draw_check, at_draw_found, at_draw_outside, at_place, at_edge, at_fits, at_angle, at_begin, at_row, at_row_byte, at_shift7, at_shifted, at_row_right, at_row_store, at_ready, at_draw_wait, at_line, at_line_left, at_line_right, at_drawn}
+use Rattle.chip8_image.specs.Parts.{Area, area}
+use Rattle.rom_law.specs.Program.{Program}
+use Rattle.rom_law.specs.Holding.{places, Holding}
+use Rattle.rom_rows.specs.Heads.{Time, from, high_byte, low_byte, page_of, Entered, Enters, Done}
+use Rattle.rom_rows.specs.Heads.Time.{Exactly, AtMost, Waited}
+use Rattle.rom_rows.specs.Checks.{Answer, Checked}
+use Rattle.rom_rows.specs.Checks.Caller.{ForDraw}
+use Rattle.rom_rows.specs.Checks.Answer.{Nowhere}
+use Rattle.rom_rows.specs.Dots.{left, right, rows_drawn, dots_of_byte}
+
+pub data SpriteBlock : Type 0 where
+  -- 00E0 up to its wait: 8184 to 818A
+  Clear : SpriteBlock
+  -- Behind it: the rows from k + 1 on are empty, 818C to 818F; two bytes more are, 8190 to 8192; five more are, 8193 to 8195; and all
+  -- eight of row k are, 8196 to 819A
+  Wipe : (k : ℕ) → SpriteBlock
+  Wipe3 : (k : ℕ) → SpriteBlock
+  Wipe6 : (k : ℕ) → SpriteBlock
+  Wiped : (k : ℕ) → SpriteBlock
+  -- the screen is empty: 819B
+  Cleared : SpriteBlock
+  -- DXYN up to the test of N, 8400 to 8405, and up to the range check, 8406 to 840C
+  Draw : SpriteBlock
+  DrawCheck : SpriteBlock
+  -- behind the check, 840D to 8410, and for bytes that may not be read 84DF to 84E2 besides
+  DrawFound : (answer : Answer) → SpriteBlock
+  -- The rows above the bottom edge are counted, 8411 to 8421 and 8422 to 8427; the place on the screen, 8428 to 843F; the entry of the
+  -- shifts, 8440 to 844B; and the pointers, 844C to 8459
+  Place : SpriteBlock
+  Edge : SpriteBlock
+  Fits : SpriteBlock
+  Angle : SpriteBlock
+  Begin : SpriteBlock
+  -- r rows are prepared: the test whether all are, 845A to 845C, and the byte of row r, 845D to 8464
+  Row : (r : ℕ) → SpriteBlock
+  RowByte : (r : ℕ) → SpriteBlock
+  -- j shifts of it are left, 8465 to 848E, six bytes each; none is, 848F to 8498
+  Shift : (r j : ℕ) → SpriteBlock
+  Shifted : (r : ℕ) → SpriteBlock
+  -- its second byte is taken, 8499, and stored, 849A to 849D
+  RowRight : (r : ℕ) → SpriteBlock
+  RowStore : (r : ℕ) → SpriteBlock
+  -- all rows are prepared: 849E to 84AA
+  Ready : SpriteBlock
+  -- Behind the wait r rows are drawn: the test whether all are, 84AC to 84AE; row r's first byte, 84AF to 84BB, and its second one, 84BC
+  -- to 84D0
+  Line : (r : ℕ) → SpriteBlock
+  LineLeft : (r : ℕ) → SpriteBlock
+  LineRight : (r : ℕ) → SpriteBlock
+  -- all rows are drawn: 84D1 to 84DE
+  Drawn : SpriteBlock
+
+pub data SpritePlace : Type 0 where
+  -- the waits of 00E0: at IDL, 818B, and idling behind it, at 818C
+  ClearWait : SpritePlace
+  ClearIdle : SpritePlace
+  -- those of DXYN: at IDL, 84AB, and idling behind it, at 84AC
+  DrawWait : SpritePlace
+  DrawIdle : SpritePlace
+
+-- ---- 00E0
+
+abbrev pub Clears : Lang → Type 0
+Clears s = (high_byte s ≡ 0) × (low_byte s ≡ 0xe0)
+
+-- the pixels in the first m bytes of the screen
+abbrev pub first_bytes : ℕ → Pixels → Pixels
+first_bytes m pixels x y = nat_lt (8 * y + x / 8) m && pixels x y
+
+-- pc has gone past the opcode, and the screen has its first m bytes left
+abbrev pub cleared_to : ℕ → Lang → Lang
+cleared_to m s = record (next s) { screen = first_bytes m s.screen }
+
+-- In 00E0, at a: s is in its places but for pc and the screen, which is cleared down to its first m bytes. RD is at the last of them,
+-- and X is RD.
+pub record Clearing (x : Program) (a m : ℕ) (b : Machine) (s : Lang) : Type 0 where
+  pub holds : Holding x (places b) (cleared_to m s)
+  pub inside : is_fetchable x.edition s ≡ true
+  pub clears : Clears s
+  pub p : b.regs.p ≡ 3
+  pub r3 : b.regs.r.r3 ≡ word_of a
+  pub r4 : b.regs.r.r4 ≡ word_of at_fetch
+  pub pointer : b.regs.x ≡ 13
+  pub rd : value b.regs.r.rd + 1 ≡ screen_start x.edition + m
+
+-- ---- DXYN
+
+-- where the sprite starts, how many rows it has, and how many of them lie above the bottom edge
+abbrev pub column : Lang → ℕ
+column s = variable s (high_byte s % 16) % 64
+
+abbrev pub top : Edition → Lang → ℕ
+top e s = variable s (low_byte s / 16) % rows_of e
+
+abbrev pub asked : Lang → ℕ
+asked s = low_byte s % 16
+
+abbrev pub height : Edition → Lang → ℕ
+height e s = rows_drawn (rows_of e) (top e s) (asked s)
+
+-- the byte of the screen at its first row's first dot
+abbrev pub corner : Edition → Lang → ℕ
+corner e s = screen_start e + 8 * top e s + column s / 8
+
+-- the low byte of the shift at which column mod 8 of them are left
+abbrev pub entry_of : Lang → ℕ
+entry_of s = at_shift7 % 256 + 6 * (7 - column s % 8)
+
+-- the dots of its first r rows
+abbrev pub lit : Edition → ℕ → Lang → Pixels
+lit e r s = dots (rows_of e) (sprite_row s) (column s) (top e s) r
+
+-- those of them and of the first byte of row r
+abbrev pub half_lit : Edition → ℕ → Lang → Pixels
+half_lit e r s = either (lit e r s) (dots_of_byte (rows_of e) (8 * (top e s + r) + column s / 8) (left (column s) (sprite_row s r)))
+
+-- s is at DXYN and doesn't stop
+pub record Draws (x : Program) (s : Lang) : Type 0 where
+  pub inside : is_fetchable x.edition s ≡ true
+  pub digit : high_byte s / 16 ≡ 13
+  pub readable : (asked s == 0 || is_readable x.edition s.i (asked s)) ≡ true
+
+-- in DXYN, at a, before the rows are prepared: RE.0 is n
+pub record Aiming (x : Program) (a n : ℕ) (b : Machine) (s : Lang) : Type 0 where
+  pub draws : Draws x s
+  pub holds : Holding x (places b) (next s)
+  pub p : b.regs.p ≡ 3
+  pub r3 : b.regs.r.r3 ≡ word_of a
+  pub r4 : b.regs.r.r4 ≡ word_of at_fetch
+  pub r6 : b.regs.r.r6 ≡ word (page_of x.edition) (0xf0 + high_byte s % 16)
+  pub r7 : b.regs.r.r7 ≡ word (page_of x.edition) (0xf0 + low_byte s / 16)
+  pub count : b.regs.r.re.lo ≡ n
+
+-- RD is at the first byte of the sprite work, and X is RD
+pub record Summing (x : Program) (b : Machine) : Type 0 where
+  pub rd : b.regs.r.rd ≡ word (page_of x.edition) 0xd0
+  pub pointer : b.regs.x ≡ 13
+
+-- RE.1 counts the rows above the bottom edge, and RC.1 and RB.0 are the two bytes of the corner
+pub record Aimed (x : Program) (b : Machine) (s : Lang) : Type 0 where
+  pub rows : b.regs.r.re.hi ≡ height x.edition s
+  pub place : b.regs.r.rc.hi * 256 + b.regs.r.rb.lo ≡ corner x.edition s
+
+-- of the sprite's rows the first l have their first byte in the work, and the first r their second one
+pub record Prepared (x : Program) (l r : ℕ) (b : Machine) (s : Lang) : Type 0 where
+  pub lefts : (j : ℕ) → j < l → slice_index b.ram (sprite_work x.edition + 2 * j) ≡ left (column s) (sprite_row s j)
+  pub rights : (j : ℕ) → j < r → slice_index b.ram (sprite_work x.edition + 2 * j + 1) ≡ right (column s) (sprite_row s j)
+
+-- In DXYN, at a, while the rows are prepared: n bytes of the sprite were read.
+pub record Preparing (x : Program) (a l r n : ℕ) (b : Machine) (s : Lang) : Type 0 where
+  pub draws : Draws x s
+  pub holds : Holding x (places b) (next s)
+  pub prepared : Prepared x l r b s
+  pub p : b.regs.p ≡ 3
+  pub r3 : b.regs.r.r3 ≡ word_of a
+  pub r4 : b.regs.r.r4 ≡ word_of at_fetch
+  pub entry : b.regs.r.r6.lo ≡ entry_of s
+  pub place : b.regs.r.r6.hi * 256 + b.regs.r.rb.lo ≡ corner x.edition s
+  pub rows : b.regs.r.re.hi ≡ height x.edition s
+  pub count : b.regs.r.re.lo ≡ height x.edition s - n
+  pub r7 : b.regs.r.r7 ≡ word (page_of x.edition) (0xd0 + l + r)
+  pub rd : value b.regs.r.rd ≡ s.i + n
+
+-- row r's byte, shifted with j shifts left
+abbrev pub Shifting : ℕ → ℕ → Machine → Lang → Type 0
+Shifting r j b s = value b.regs.r.rc ≡ sprite_row s r * 256 / 2 ^ (column s % 8 - j)
+
+-- pc has gone past the opcode, and these dots are drawn
+abbrev pub painted : Pixels → Lang → Lang
+painted drawn s = record (next s) { screen = difference s.screen drawn }
+
+-- In DXYN, at a, when all rows are prepared: w bytes of them are drawn, RD is m bytes past the corner, and RE.0 is n. RC.0 counts the bytes
+-- in which a dot was put out.
+pub record Painting (x : Program) (a w m n : ℕ) (drawn : Pixels) (b : Machine) (s : Lang) : Type 0 where
+  pub draws : Draws x s
+  pub holds : Holding x (places b) (painted drawn s)
+  pub prepared : Prepared x (height x.edition s) (height x.edition s) b s
+  pub p : b.regs.p ≡ 3
+  pub r3 : b.regs.r.r3 ≡ word_of a
+  pub r4 : b.regs.r.r4 ≡ word_of at_fetch
+  pub pointer : b.regs.x ≡ 13
+  pub r7 : b.regs.r.r7 ≡ word (page_of x.edition) (0xd0 + w)
+  pub rd : value b.regs.r.rd ≡ corner x.edition s + m
+  pub count : b.regs.r.re.lo ≡ n
+  pub few : b.regs.r.rc.lo ≤ w
+  pub hit : not (b.regs.r.rc.lo == 0) ≡ meets (rows_of x.edition) s.screen drawn
+
+-- ---- waits
+
+-- the machine when its idling ends
+abbrev pub woken : Machine → Machine
+woken b = record b { regs = record b.regs { idle = false } }
+
+-- ---- the tables
+
+abbrev pub sprite_at : Program → SpriteBlock → Machine → Lang → Type 0
+sprite_at x Clear b s = Entered x at_clear b s × Clears s
+sprite_at x (Wipe k) b s = Clearing x at_wipe (8 * k + 8) b s × (k < rows_of x.edition)
+sprite_at x (Wipe3 k) b s = Clearing x at_wipe3 (8 * k + 6) b s × (k < rows_of x.edition) × (b.regs.d ≡ 0)
+sprite_at x (Wipe6 k) b s = Clearing x at_wipe6 (8 * k + 3) b s × (k < rows_of x.edition) × (b.regs.d ≡ 0)
+sprite_at x (Wiped k) b s = Clearing x at_wiped (8 * k) b s × (k < rows_of x.edition)
+sprite_at x Cleared b s = Done x at_cleared b s × Clears s
+sprite_at x Draw b s = Enters x at_draw 13 b s
+sprite_at x DrawCheck b s = Enters x at_draw_check 13 b s × (b.regs.r.re.lo ≡ asked s) × (0 < asked s)
+sprite_at x (DrawFound answer) b s = Checked x ForDraw answer b s
+sprite_at x Place b s = Aiming x at_place (asked s) b s
+sprite_at x Edge b s = Aiming x at_edge (asked s) b s × Summing x b × (rows_of x.edition ≤ top x.edition s + asked s)
+sprite_at x Fits b s = Aiming x at_fits (height x.edition s) b s × Summing x b
+sprite_at x Angle b s = Aiming x at_angle (height x.edition s) b s × Summing x b × Aimed x b s
+sprite_at x Begin b s = Aiming x at_begin (height x.edition s) b s × Aimed x b s × (b.regs.r.rc.lo ≡ entry_of s)
+sprite_at x (Row r) b s = Preparing x at_row r r r b s × (r ≤ height x.edition s)
+sprite_at x (RowByte r) b s = Preparing x at_row_byte r r r b s × (r < height x.edition s)
+sprite_at x (Shift r j) b s = Preparing x (at_shift7 + 6 * (7 - j)) r r (r + 1) b s × (r < height x.edition s) × Shifting r j b s × (0 < j) × (j ≤ column s % 8)
+sprite_at x (Shifted r) b s = Preparing x at_shifted r r (r + 1) b s × (r < height x.edition s) × Shifting r 0 b s
+sprite_at x (RowRight r) b s = Preparing x at_row_right (r + 1) r (r + 1) b s × (r < height x.edition s) × (b.regs.r.rc.lo ≡ right (column s) (sprite_row s r))
+sprite_at x (RowStore r) b s = Preparing x at_row_store (r + 1) r (r + 1) b s × (r < height x.edition s) × (b.regs.d ≡ right (column s) (sprite_row s r))
+sprite_at x Ready b s = let h = height x.edition s in Preparing x at_ready h h h b s
+sprite_at x (Line r) b s = Painting x at_line (2 * r) (8 * r) (height x.edition s - r) (lit x.edition r s) b s × (r ≤ height x.edition s)
+sprite_at x (LineLeft r) b s = Painting x at_line_left (2 * r) (8 * r) (height x.edition s - r) (lit x.edition r s) b s × (r < height x.edition s)
+sprite_at x (LineRight r) b s = Painting x at_line_right (2 * r + 1) (8 * r + 1) (height x.edition s - (r + 1)) (half_lit x.edition r s) b s × (r < height x.edition s)
+sprite_at x Drawn b s = let h = height x.edition s in Painting x at_drawn (2 * h) (8 * h) 0 (lit x.edition h s) b s
+
+abbrev pub sprite_place_at : Program → SpritePlace → Machine → Lang → Type 0
+sprite_place_at x ClearWait b s = Clearing x at_clear_wait (8 * rows_of x.edition) b s
+sprite_place_at x ClearIdle b s = Clearing x at_wipe (8 * rows_of x.edition) (woken b) s × (b.regs.idle ≡ true)
+sprite_place_at x DrawWait b s = Painting x at_draw_wait 0 0 (height x.edition s) (lit x.edition 0 s) b s
+sprite_place_at x DrawIdle b s = Painting x at_line 0 0 (height x.edition s) (lit x.edition 0 s) (woken b) s × (b.regs.idle ≡ true)
+
+abbrev pub sprite_moves : SpriteBlock → ℕ
+sprite_moves Clear = 5
+sprite_moves (Wipe k) = 3
+sprite_moves (Wipe3 k) = 3
+sprite_moves (Wipe6 k) = 3
+sprite_moves (Wiped k) = 3
+sprite_moves Cleared = 1
+sprite_moves Draw = 4
+sprite_moves DrawCheck = 5
+sprite_moves (DrawFound Nowhere) = 4
+sprite_moves (DrawFound answer) = 2
+sprite_moves Place = 12
+sprite_moves Edge = 4
+sprite_moves Fits = 20
+sprite_moves Angle = 9
+sprite_moves Begin = 12
+sprite_moves (Row r) = 2
+sprite_moves (RowByte r) = 7
+sprite_moves (Shift r j) = 6
+sprite_moves (Shifted r) = 7
+sprite_moves (RowRight r) = 1
+sprite_moves (RowStore r) = 3
+sprite_moves Ready = 11
+sprite_moves (Line r) = 2
+sprite_moves (LineLeft r) = 11
+sprite_moves (LineRight r) = 16
+sprite_moves Drawn = 10
+
+-- Behind the wait of 00E0 the screen is cleared in 1,536 main cycles: 64 rows of 24. DXYN prepares a row in at most 124, so that it waits
+-- after at most 2,154, and draws one in 58, so that it is done 874 cycles later at most.
+abbrev pub sprite_time : SpriteBlock → Time
+sprite_time Clear = AtMost 90
+sprite_time (Wipe k) = Waited (102 + 24 * (63 - k))
+sprite_time (Wipe3 k) = Waited (108 + 24 * (63 - k))
+sprite_time (Wipe6 k) = Waited (114 + 24 * (63 - k))
+sprite_time (Wiped k) = Waited (120 + 24 * (63 - k))
+sprite_time Cleared = Waited (102 + 1536)
+sprite_time Draw = Exactly 80
+sprite_time DrawCheck = AtMost 88
+sprite_time (DrawFound answer) = AtMost 148
+sprite_time Place = AtMost 152
+sprite_time Edge = AtMost 176
+sprite_time Fits = AtMost 184
+sprite_time Angle = AtMost 224
+sprite_time Begin = AtMost 242
+sprite_time (Row r) = AtMost (266 + 124 * r)
+sprite_time (RowByte r) = AtMost (270 + 124 * r)
+sprite_time (Shift r j) = AtMost (284 + 124 * r + 12 * (7 - j))
+sprite_time (Shifted r) = AtMost (368 + 124 * r)
+sprite_time (RowRight r) = AtMost (382 + 124 * r)
+sprite_time (RowStore r) = AtMost (384 + 124 * r)
+sprite_time Ready = AtMost 2130
+sprite_time (Line r) = Waited (2154 + 58 * r)
+sprite_time (LineLeft r) = Waited (2158 + 58 * r)
+sprite_time (LineRight r) = Waited (2180 + 58 * r)
+sprite_time Drawn = Waited (2154 + 874)
+
+abbrev pub sprite_place_time : SpritePlace → Time
+sprite_place_time ClearWait = AtMost 100
+sprite_place_time ClearIdle = AtMost 102
+sprite_place_time DrawWait = AtMost 2152
+sprite_place_time DrawIdle = AtMost 2154
+
+-- the blocks behind the wait
+abbrev pub IsWaited : SpriteBlock → Type 0
+IsWaited (Wipe k) = Unit {0}
+IsWaited (Wipe3 k) = Unit {0}
+IsWaited (Wipe6 k) = Unit {0}
+IsWaited (Wiped k) = Unit {0}
+IsWaited Cleared = Unit {0}
+IsWaited (Line r) = Unit {0}
+IsWaited (LineLeft r) = Unit {0}
+IsWaited (LineRight r) = Unit {0}
+IsWaited Drawn = Unit {0}
+IsWaited _ = ⊥
+
+-- the other ones, of 00E0 and DXYN before they wait
+abbrev pub IsEarly : SpriteBlock → Type 0
+IsEarly (Wipe k) = ⊥
+IsEarly (Wipe3 k) = ⊥
+IsEarly (Wipe6 k) = ⊥
+IsEarly (Wiped k) = ⊥
+IsEarly Cleared = ⊥
+IsEarly (Line r) = ⊥
+IsEarly (LineLeft r) = ⊥
+IsEarly (LineRight r) = ⊥
+IsEarly Drawn = ⊥
+IsEarly _ = Unit {0}
+
+-- where a block's instructions begin, and where a place's one does
+abbrev pub sprite_addresses : SpriteBlock → List ℕ
+sprite_addresses Clear = from at_clear (0 ∷ 2 ∷ 3 ∷ 5 ∷ 6 ∷ [])
+sprite_addresses (Wipe k) = from at_wipe (0 ∷ 2 ∷ 3 ∷ [])
+sprite_addresses (Wipe3 k) = from at_wipe3 (0 ∷ 1 ∷ 2 ∷ [])
+sprite_addresses (Wipe6 k) = from at_wipe6 (0 ∷ 1 ∷ 2 ∷ [])
+sprite_addresses (Wiped k) = from at_wiped (0 ∷ 1 ∷ 3 ∷ [])
+sprite_addresses Cleared = at_cleared ∷ []
+sprite_addresses Draw = from at_draw (0 ∷ 1 ∷ 3 ∷ 4 ∷ [])
+sprite_addresses DrawCheck = from at_draw_check (0 ∷ 2 ∷ 3 ∷ 5 ∷ 6 ∷ [])
+sprite_addresses (DrawFound Nowhere) = from at_draw_found (0 ∷ 2 ∷ []) ++ from at_draw_outside (0 ∷ 2 ∷ [])
+sprite_addresses (DrawFound answer) = from at_draw_found (0 ∷ 2 ∷ [])
+sprite_addresses Place = from at_place (0 ∷ 2 ∷ 3 ∷ 5 ∷ 6 ∷ 7 ∷ 8 ∷ 10 ∷ 12 ∷ 13 ∷ 14 ∷ 15 ∷ [])
+sprite_addresses Edge = from at_edge (0 ∷ 1 ∷ 3 ∷ 5 ∷ [])
+sprite_addresses Fits = from at_fits (0 ∷ 1 ∷ 2 ∷ 3 ∷ 5 ∷ 6 ∷ 7 ∷ 8 ∷ 9 ∷ 11 ∷ 13 ∷ 14 ∷ 15 ∷ 17 ∷ 18 ∷ 19 ∷ 20 ∷ 21 ∷ 22 ∷ 23 ∷ [])
+sprite_addresses Angle = from at_angle (0 ∷ 1 ∷ 3 ∷ 5 ∷ 6 ∷ 7 ∷ 8 ∷ 9 ∷ 11 ∷ [])
+sprite_addresses Begin = from at_begin (0 ∷ 1 ∷ 2 ∷ 3 ∷ 4 ∷ 6 ∷ 7 ∷ 9 ∷ 10 ∷ 11 ∷ 12 ∷ 13 ∷ [])
+sprite_addresses (Row r) = from at_row (0 ∷ 1 ∷ [])
+sprite_addresses (RowByte r) = from at_row_byte (0 ∷ 1 ∷ 2 ∷ 3 ∷ 5 ∷ 6 ∷ 7 ∷ [])
+sprite_addresses (Shift r j) = from (at_shift7 + 6 * (7 - j)) (0 ∷ 1 ∷ 2 ∷ 3 ∷ 4 ∷ 5 ∷ [])
+sprite_addresses (Shifted r) = from at_shifted (0 ∷ 1 ∷ 2 ∷ 3 ∷ 4 ∷ 6 ∷ 8 ∷ [])
+sprite_addresses (RowRight r) = at_row_right ∷ []
+sprite_addresses (RowStore r) = from at_row_store (0 ∷ 1 ∷ 2 ∷ [])
+sprite_addresses Ready = from at_ready (0 ∷ 1 ∷ 2 ∷ 3 ∷ 4 ∷ 5 ∷ 6 ∷ 8 ∷ 9 ∷ 11 ∷ 12 ∷ [])
+sprite_addresses (Line r) = from at_line (0 ∷ 1 ∷ [])
+sprite_addresses (LineLeft r) = from at_line_left (0 ∷ 1 ∷ 2 ∷ 3 ∷ 5 ∷ 6 ∷ 8 ∷ 9 ∷ 10 ∷ 11 ∷ 12 ∷ [])
+sprite_addresses (LineRight r) = from at_line_right (0 ∷ 1 ∷ 2 ∷ 4 ∷ 5 ∷ 7 ∷ 8 ∷ 9 ∷ 10 ∷ 11 ∷ 12 ∷ 14 ∷ 15 ∷ 16 ∷ 18 ∷ 19 ∷ [])
+sprite_addresses Drawn = from at_drawn (0 ∷ 2 ∷ 3 ∷ 5 ∷ 6 ∷ 7 ∷ 9 ∷ 11 ∷ 12 ∷ 13 ∷ [])
+
+abbrev pub sprite_place_address : SpritePlace → ℕ
+sprite_place_address ClearWait = at_clear_wait
+sprite_place_address ClearIdle = at_wipe
+sprite_place_address DrawWait = at_draw_wait
+sprite_place_address DrawIdle = at_line
+
+-- 00E0 and DXYN
+abbrev pub sprite_areas : List Area
+sprite_areas = area 0x8184 0x819b IsSprite ∷ area 0x8400 0x84e2 IsSprite ∷ []

@@ -1,0 +1,51 @@
+-- What is proved of 00E0 and DXYN.
+use Rattle.std.specs.Prelude.{◌≡◌, ℕ, List, [], ◌∷◌}
+use Rattle.machine.specs.Instruction.{at}
+use Rattle.machine.specs.Board.{Machine}
+use Rattle.chip8_lang.specs.declared.view.Edition.{Edition}
+use Rattle.rom_law.specs.Rows.{Since}
+use Rattle.rom_rows.specs.Rom.{vip}
+use Rattle.rom_rows.specs.SpriteBlocks.{SpriteBlock, SpritePlace, sprite_moves, sprite_addresses, sprite_place_address, sprite_areas}
+use Rattle.rom_rows.specs.Table.{At, BlockRows, AwakeRows, TickRows}
+use Rattle.rom_rows.specs.Table.Block.{OfSprite}
+use Rattle.rom_rows.specs.Table.Place.{AtSprite}
+use Rattle.rom_rows.specs.Addresses.{RunsAt, Covers}
+
+-- every main move keeps the rows
+abbrev pub SpriteRows : Type 0
+SpriteRows = (e : Edition) (l : SpriteBlock) → BlockRows (vip e) (OfSprite l)
+
+-- so does one at the waits, where main code runs, and a tick there, also where main code waits
+abbrev pub SpritePlaceRows : Type 0
+SpritePlaceRows = (e : Edition) (l : SpritePlace) → AwakeRows (vip e) (AtSprite l)
+
+abbrev pub SpriteTicks : Type 0
+SpriteTicks = (e : Edition) (l : SpritePlace) → TickRows (vip e) (AtSprite l)
+
+-- in the rows of a block the program counter is at the block's addresses in turn, and at a place at its address
+abbrev pub SpriteAddresses : Type 0
+SpriteAddresses = (e : Edition) (l : SpriteBlock) → RunsAt (vip e) (OfSprite l) (sprite_addresses l)
+
+abbrev pub SpritePlaceAddresses : Type 0
+SpritePlaceAddresses =
+    (e : Edition) (l : SpritePlace) (b : Machine) (h : Since)
+    → At (vip e) (AtSprite l) b h
+    → at b.regs b.regs.p ≡ sprite_place_address l
+
+-- a block or a place
+pub data SpritePiece : Type 0 where
+  InBlock : (l : SpriteBlock) → SpritePiece
+  AtPlace : (l : SpritePlace) → SpritePiece
+
+-- how many instructions it has, and where they begin
+abbrev pub piece_moves : SpritePiece → ℕ
+piece_moves (InBlock l) = sprite_moves l
+piece_moves (AtPlace l) = 1
+
+abbrev pub piece_addresses : SpritePiece → List ℕ
+piece_addresses (InBlock l) = sprite_addresses l
+piece_addresses (AtPlace l) = sprite_place_address l ∷ []
+
+-- each instruction of that code is in some block or at some place
+abbrev pub SpriteCovers : Type 0
+SpriteCovers = Covers SpritePiece piece_moves piece_addresses sprite_areas

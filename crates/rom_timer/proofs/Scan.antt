@@ -1,0 +1,123 @@
+-- Each line of the window gets the eight bytes of its row of the screen.
+use Rattle.std.proofs.Common.{◌≡◌, ℕ, ◌+◌, ◌-◌, ◌*◌, ◌/◌, ◌%◌, ◌<◌, ◌≤◌, ◌⊎◌, inl, inr, ◌∙◌, ap, ap₂, subst, arith, Bool, true, false, cond, nat_lt, [], ◌++◌, slice_index, slice_range}
+use Rattle.std.proofs.lemmas.Bool.{cases_eq, cases_lt, lt-ltb, le-ltb, ne_eqb}
+use Rattle.std.proofs.lemmas.List.{append-nil}
+use Rattle.machine.specs.Bank.{word_of}
+use Rattle.machine.specs.Board.{Machine}
+use Rattle.machine.specs.Schedule.{IsFree}
+use Rattle.machine.specs.Keys.{Keys}
+use Rattle.machine.specs.Run.{states, after_moves}
+use Rattle.chip8_lang.specs.declared.view.Edition.{Edition}
+use Rattle.chip8_lang.specs.declared.view.Edition.TheVariants.{Usual, Tall}
+use Rattle.chip8_lang.specs.Editions.{memory_end, screen_start, lines_of}
+use Rattle.chip8_image.specs.Labels.{at_scan}
+use Rattle.rom_law.specs.Program.{code}
+use Rattle.rom_law.proofs.Places.{variables_below}
+use Rattle.rom_rows.proofs.Bytes.{both, both_is, quick}
+use Rattle.rom_timer.specs.Routine.{IsInterrupted, routine_moves}
+use Rattle.rom_timer.specs.Scan.{fetched, RunScan}
+use Rattle.rom_timer.proofs.Board.{timed, at_byte, serves_join, moves_more, dmas}
+use Rattle.rom_timer.proofs.Window.{scanning, shown, next, shown_usual, shown_tall, Begins, begins, early, late, wanted}
+use Rattle.rom_timer.proofs.Serving.{taken, entered, opens}
+use Rattle.rom_timer.proofs.Fetched.{states_join, fetched_append, none_fetched, IsPast, bytes_fetched}
+use Rattle.rom_timer.proofs.Tick.{first, kept}
+
+-- ---- the row of a line
+
+row_of : (e : Edition) (k : ℕ) → cond (nat_lt (k % 4) 2) (shown e (k / 4)) (shown e (k / 4) + next e) ≡ screen_start e + 8 * (k / lines_of e)
+row_of Usual k = go (nat_lt (k % 4) 2)
+  where
+    go : (t : Bool) → cond t (shown Usual (k / 4)) (shown Usual (k / 4) + 0) ≡ 0xf00 + 8 * (k / 4)
+    go true = shown_usual (k / 4)
+    go false = omega (arith, shown_usual (k / 4))
+row_of Tall k = go (cases_lt (k % 4) 2)
+  where
+    go : (k % 4 < 2) ⊎ (2 ≤ k % 4) → cond (nat_lt (k % 4) 2) (shown Tall (k / 4)) (shown Tall (k / 4) + 8) ≡ 0xe00 + 8 * (k / 2)
+    go (inl h) = rw (lt-ltb (k % 4) 2 h) (omega (arith, shown_tall (k / 4)))
+    go (inr h) = rw (le-ltb (k % 4) 2 h) (omega (arith, shown_tall (k / 4)))
+
+pub row_fits : (e : Edition) (k : ℕ) → k < 128 → screen_start e + 8 * (k / lines_of e) + 8 ≤ 0x1000
+row_fits Usual k h = omega arith
+row_fits Tall k h = omega arith
+
+module _ (e : Edition) (m : ℕ) (b : Machine) (held : ℕ → Keys) (o : IsInterrupted e m b) (k : ℕ) (some : k < 128) where
+  abbrev address : ℕ
+  address = screen_start e + 8 * (k / lines_of e)
+
+  abbrev line : ℕ
+  line = 262 * m + 80 + k
+
+  top : (262 * m + 80) % 262 ≡ 80
+  top = omega arith
+
+  begun : Begins e held (entered b) (timed (14 * (262 * m + 80)) (scanning (entered b) at_scan (screen_start e) 0)) line address
+  begun = begins e held (entered b) (262 * m + 80) 0 k address top some (row_of e k)
+
+  -- the moves before the DMA cycles of the line, and the machine there
+  abbrev before : ℕ
+  before = 1 + (13 + begun.moves)
+
+  c : Machine
+  c = timed (14 * line + 2) (at_byte (word_of address) begun.at)
+
+  comes : after_moves (both e) held b before ≡ c
+  unfolding c
+  comes = moves_more (code (quick e)) held (13 + begun.moves) 1 b (timed (3668 * m + 1093) (taken b)) (first e m b held o) ∙ (serves_join (code (quick e)) held (opens e held m b) begun.serves).ends
+
+  after : after_moves (both e) held c 8 ≡ timed (14 * line + 2 + 8) (at_byte (word_of (address + 8)) begun.at)
+  unfolding c
+  after = (dmas (code (quick e)) held 8 (14 * line + 2) address begun.at (omega (arith, row_fits e k some)) (λ u l h. wanted u (omega arith) (omega arith) (omega arith) (omega arith))).ends
+
+  d : Machine
+  d = timed (14 * line + 2 + 8) (at_byte (word_of (address + 8)) begun.at)
+
+  abbrev rest : ℕ
+  rest = routine_moves - (before + 8)
+
+  pieces : states (both e) held b routine_moves ≡ states (both e) held b before ++ (states (both e) held c 8 ++ states (both e) held d rest)
+  unfolding d
+  pieces =
+      ap (states (both e) held b) count
+      ∙ states_join (both e) held before (8 + rest) b
+      ∙ ap (λ z. states (both e) held b before ++ states (both e) held z (8 + rest)) comes
+      ∙ ap (λ l. states (both e) held b before ++ l) (states_join (both e) held 8 rest c ∙ ap (λ z. states (both e) held c 8 ++ states (both e) held z rest) after)
+    where
+      count : routine_moves ≡ before + (8 + rest)
+      count = omega (arith, begun.few)
+
+  -- in other cycles than these eight no byte of the line is fetched
+  elsewhere : (u : ℕ) → (u < 14 * line + 2) ⊎ (14 * line + 10 ≤ u) → IsPast (both e) held line u
+  elsewhere u h = go (cases_eq (u / 14) line) h
+    where
+      go : (u / 14 ≡ line) ⊎ (u / 14 ≡ line → ⊥) → (u < 14 * line + 2) ⊎ (14 * line + 10 ≤ u) → IsPast (both e) held line u
+      go (inl f) (inl l) = inr (early u (omega arith))
+      go (inl f) (inr l) = inr (late u (omega arith))
+      go (inr f) l = inl (ne_eqb (u / 14) line f)
+
+  none_before : fetched (both e) line (states (both e) held b before) ≡ []
+  unfolding c
+  none_before = none_fetched (both e) held line before b (λ u l h. elsewhere u (inl (subst (λ (z : Machine). u < z.cycle) comes h)))
+
+  none_after : fetched (both e) line (states (both e) held d rest) ≡ []
+  unfolding d
+  none_after = none_fetched (both e) held line rest d (λ u l h. elsewhere u (inr (omega arith)))
+
+  same : (j : ℕ) → screen_start e ≤ j → slice_index begun.at.ram j ≡ slice_index b.ram j
+  same j l = ap (λ r. slice_index r j) begun.ram ∙ kept e m b held o j free
+    where
+      free : IsFree (memory_end e) b j → ⊥
+      free f = omega (arith, f.1, o.top, variables_below e)
+
+  bytes : fetched (both e) line (states (both e) held c 8) ≡ slice_range b.ram address (address + 8)
+  unfolding c
+  bytes = bytes_fetched (both e) held line begun.at begun.latch b.ram o.fits.size (screen_start e) same 8 (14 * line + 2) address (omega arith) (row_fits e k some) (λ u l h. (omega arith, wanted u (omega arith) (omega arith) (omega arith) (omega arith)))
+
+  scanned : fetched (both e) line (states (both e) held b routine_moves) ≡ slice_range b.ram address (address + 8)
+  scanned =
+      ap (fetched (both e) line) pieces
+      ∙ fetched_append (both e) held line (states (both e) held b before) (states (both e) held c 8 ++ states (both e) held d rest)
+      ∙ ap₂ (λ x y. x ++ y) none_before (fetched_append (both e) held line (states (both e) held c 8) (states (both e) held d rest) ∙ ap₂ (λ x y. x ++ y) bytes none_after)
+      ∙ append-nil (slice_range b.ram address (address + 8))
+
+pub run_scan : RunScan
+run_scan e m b held o k some = subst (λ rom. fetched rom (262 * m + 80 + k) (states rom held b routine_moves) ≡ slice_range b.ram (screen_start e + 8 * (k / lines_of e)) (screen_start e + 8 * (k / lines_of e) + 8)) (both_is e) (scanned e m b held o k some)

@@ -1,0 +1,47 @@
+-- What is proved of CXKK, FX07, FX15 and FX18.
+use Rattle.std.specs.Prelude.{◌≡◌, ℕ, List, [], ◌∷◌}
+use Rattle.machine.specs.Instruction.{at}
+use Rattle.machine.specs.Board.{Machine}
+use Rattle.chip8_lang.specs.declared.view.Edition.{Edition}
+use Rattle.rom_law.specs.Rows.{Since}
+use Rattle.rom_rows.specs.Rom.{vip}
+use Rattle.rom_rows.specs.TimerBlocks.{TimerBlock, TimerPlace, timer_moves, timer_addresses, timer_place_address, timer_areas}
+use Rattle.rom_rows.specs.Table.{At, BlockRows, PlaceRows}
+use Rattle.rom_rows.specs.Table.Block.{OfTimer}
+use Rattle.rom_rows.specs.Table.Place.{AtTimer}
+use Rattle.rom_rows.specs.Addresses.{RunsAt, Covers}
+
+-- every main move keeps the rows
+abbrev pub TimerRows : Type 0
+TimerRows = (e : Edition) (l : TimerBlock) → BlockRows (vip e) (OfTimer l)
+
+abbrev pub TimerPlaceRows : Type 0
+TimerPlaceRows = (e : Edition) (l : TimerPlace) → PlaceRows (vip e) (AtTimer l)
+
+-- in the rows of a block the program counter is at the block's addresses in turn, and at a place at its address
+abbrev pub TimerAddresses : Type 0
+TimerAddresses = (e : Edition) (l : TimerBlock) → RunsAt (vip e) (OfTimer l) (timer_addresses l)
+
+abbrev pub TimerPlaceAddresses : Type 0
+TimerPlaceAddresses =
+    (e : Edition) (l : TimerPlace) (b : Machine) (h : Since)
+    → At (vip e) (AtTimer l) b h
+    → at b.regs b.regs.p ≡ timer_place_address l
+
+-- a block or a place
+pub data TimerPiece : Type 0 where
+  InBlock : (l : TimerBlock) → TimerPiece
+  AtPlace : (l : TimerPlace) → TimerPiece
+
+-- how many instructions it has, and where they begin
+abbrev pub piece_moves : TimerPiece → ℕ
+piece_moves (InBlock l) = timer_moves l
+piece_moves (AtPlace l) = 1
+
+abbrev pub piece_addresses : TimerPiece → List ℕ
+piece_addresses (InBlock l) = timer_addresses l
+piece_addresses (AtPlace l) = timer_place_address l ∷ []
+
+-- each instruction of that code is in some block or at some place
+abbrev pub TimerCovers : Type 0
+TimerCovers = Covers TimerPiece piece_moves piece_addresses timer_areas

@@ -1,0 +1,121 @@
+//! A plain memory with ports that remember what was done to them.
+
+ghost use Rattle.std.specs.Prelude.{◌≡◌, vec_len};
+
+use crate::vector::{Call, Vector};
+use std::alloc::{AllocError, Global};
+use vip_cpu::Bus;
+
+/// The bytes of an address space.
+const SIZE: usize = 65536;
+
+#[derive(Drop)]
+pub struct TestBus {
+    bytes: Vec<u8>,
+    /// Writes change RAM alone, 0000 to 0FFF.
+    is_board: bool,
+    /// EF1 to EF4.
+    flags: [bool; 4],
+    /// The byte that an INP takes.
+    taken: u8,
+    calls: Vec<Call>,
+    ghost full: { vec_len bytes ≡ 65536 },
+}
+
+impl TestBus {
+    ghost use Rattle.test_processor.specs.Laws.{Stores, Keeps};
+
+    pub fn new(alloc: Global) -> Result<TestBus, AllocError> {
+        let bytes = vec![in alloc; 0; SIZE]?;
+        Ok(TestBus {
+            bytes,
+            is_board: false,
+            flags: [false; 4],
+            taken: 0,
+            calls: Vec::new(alloc),
+        })
+    }
+
+    /// Every address gets this byte.
+    pub fn fill(&mut self, byte: u8) {
+        self.bytes.fill(byte);
+    }
+
+    /// Memory, flags and ports as a vector has them, and no calls yet.
+    pub fn prepare(&mut self, vector: &Vector) {
+        self.fill(0);
+        self.is_board = vector.is_board;
+        if self.is_board {
+            self.bytes[0x1000..0x8000].fill(0xFF);
+            self.bytes[0x8800..SIZE].fill(0xFF);
+        }
+        for &[high, low, byte] in vector.memory.iter() {
+            self.bytes[high as usize * 256 + low as usize] = byte;
+        }
+        self.flags = vector.flags;
+        self.taken = vector.taken;
+        self.calls.clear();
+    }
+
+    /// The calls that changed the bus, in order.
+    pub fn calls(&self) -> &[Call] {
+        self.calls.as_slice()
+    }
+
+    fn store(&mut self, address: u16, value: u8)
+        ensures { Stores self.old address value self.new }
+    {
+        if !self.is_board || address < 0x1000 {
+            self.bytes[address as usize] = value;
+        }
+    }
+
+    fn note(&mut self, call: Call)
+        ensures { Keeps self.old self.new }
+    {
+        let _ = self.calls.push(call);
+    }
+}
+
+impl Bus for TestBus {
+    ghost use Rattle.std.specs.Prelude.{◌-◌, slice_index, slice_index_or, false};
+    ghost use Rattle.test_processor.specs.Laws.{Stores, Keeps, stores-keeps, stores-puts, keeps-keeps};
+
+    ghost byte = { λ b a. slice_index b.bytes.items a };
+
+    ghost flags = { λ b f. slice_index_or b.flags (f - 1) false };
+
+    ghost writes = { Stores };
+
+    ghost sends = { λ b p v c. Keeps b c };
+
+    ghost receives = { λ b p v c. Keeps b c };
+
+    ghost write_keeps = { stores-keeps };
+
+    ghost write_puts = { stores-puts };
+
+    ghost inp_keeps = { keeps-keeps };
+
+    fn read(&self, address: u16) -> u8 {
+        self.bytes[address as usize]
+    }
+
+    fn write(&mut self, address: u16, value: u8) {
+        self.store(address, value);
+        self.note(Call::Write(address, value));
+    }
+
+    fn out(&mut self, port: u8, value: u8) {
+        self.note(Call::Out(port, value));
+    }
+
+    fn inp(&mut self, port: u8) -> u8 {
+        self.note(Call::Inp(port));
+        self.taken
+    }
+
+    fn ef(&self, flag: u8) -> bool {
+        self.flags[(flag - 1) as usize]
+    }
+}

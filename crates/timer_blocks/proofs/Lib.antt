@@ -1,4 +1,0 @@
-pub mod Timers
-pub mod Randoms
-pub mod Law
-pub mod Addresses

@@ -1,5 +1,0 @@
-use Rattle.timer_blocks.proofs.Addresses.{place_addresses}
-use Rattle.timer_blocks.proofs.laws.place_addresses.Goals as goal
-
-pub returns : goal.returns
-returns c = place_addresses

@@ -1,7 +1,0 @@
-//! The whole interpreter's routines of the timers and of the random byte, proved for both editions: CXKK, FX07, FX15 and FX18.
-//!
-//! It stands on the row table of `chip8_rows` and on the theory of rows of `rom_law`. The layer above may rely on the laws below alone: it
-//! needs no line of the ROM, and where code moves, only labels change.
-#![tactic(auto)]
-
-pub mod laws;
