@@ -1,30 +1,19 @@
--- What is proved of jumps and calls, of loads, of skips and of 8XYN.
+-- What is proved of 0MMM, of jumps and calls, of loads, of skips and of 8XYN.
 use Rattle.chip8_lang.specs.declared.view.Edition.{Edition}
 use Rattle.rom_rows.specs.Rom.{vip}
-use Rattle.rom_rows.specs.JumpBlocks.{JumpBlock, jump_moves, jump_addresses, jump_areas}
 use Rattle.rom_rows.specs.ArithBlocks.{ArithBlock, arith_moves, arith_addresses, arith_areas}
 use Rattle.rom_rows.specs.Table.{BlockRows}
-use Rattle.rom_rows.specs.Table.Block.{OfJump, OfArith}
+use Rattle.rom_rows.specs.Table.Block.{OfArith}
 use Rattle.rom_rows.specs.Addresses.{RunsAt, Covers}
 
--- every main move keeps the rows of 0MMM, of jumps and of calls
-abbrev pub JumpRows : Type 0
-JumpRows = (e : Edition) (l : JumpBlock) → BlockRows (vip e) (OfJump l)
-
--- in those rows the program counter is at the block's addresses in turn
-abbrev pub JumpAddresses : Type 0
-JumpAddresses = (e : Edition) (l : JumpBlock) → RunsAt (vip e) (OfJump l) (jump_addresses l)
-
--- and each instruction of that code is in some block
-abbrev pub JumpCovers : Type 0
-JumpCovers = Covers JumpBlock jump_moves jump_addresses jump_areas
-
--- every main move keeps the rows of loads, of skips and of 8XYN
+-- every main move keeps the rows of these instructions
 abbrev pub ArithRows : Type 0
 ArithRows = (e : Edition) (l : ArithBlock) → BlockRows (vip e) (OfArith l)
 
+-- in those rows the program counter is at the block's addresses in turn
 abbrev pub ArithAddresses : Type 0
 ArithAddresses = (e : Edition) (l : ArithBlock) → RunsAt (vip e) (OfArith l) (arith_addresses l)
 
+-- and each instruction of that code is in some block
 abbrev pub ArithCovers : Type 0
 ArithCovers = Covers ArithBlock arith_moves arith_addresses arith_areas

@@ -1,35 +1,20 @@
-//! What is proved of jumps and calls, of loads, of skips and of 8XYN, each law the contract of a function without parameters.
+//! What is proved of this part of the ROM, each law the contract of a function without parameters.
 
-ghost use Rattle.rom_arith.specs.Laws.{JumpRows, JumpAddresses, JumpCovers, ArithRows, ArithAddresses, ArithCovers};
+ghost use Rattle.rom_arith.specs.Laws.{ArithRows, ArithAddresses, ArithCovers};
 
-/// From every state in a row of 0MMM, of 00EE, of 1MMM, of 2MMM and of BMMM, a main move comes to a row of the table, to the next dispatch
-/// or to a stop, and carries on the record of what came since the last dispatch.
-pub fn jump_rows()
-    ensures { JumpRows }
-{}
-
-/// In a row of one of these blocks the program counter is at the addresses that the table gives the block, one after the other.
-pub fn jump_addresses()
-    ensures { JumpAddresses }
-{}
-
-/// Every instruction of 0MMM, of 00EE, of jumps and of calls is in one of these blocks.
-pub fn jump_covers()
-    ensures { JumpCovers }
-{}
-
-/// The same of every row of 3XKK to 7XKK, of 8XYN and of 9XYN: the skips, the operations with their flag, and the stops of 5XYN, 8XYN and
-/// 9XYN with an N that is no instruction's.
-pub fn arith_rows()
+/// From every state in a row of 0MMM, 00EE, 1MMM to 7XKK, 8XYN, 9XYN or BMMM, a main move comes to a row of the table, to the next dispatch or
+/// to a stop, and carries on the record of what came since the last dispatch. The stops are those of 0MMM, of 00EE with no address on the
+/// stack, of 2MMM with twelve, and of 5XYN, 8XYN and 9XYN with an N that is no instruction's.
+pub fn main_rows()
     ensures { ArithRows }
 {}
 
-/// In a row of one of these blocks, too, the program counter is at the addresses that the table gives the block, one after the other.
-pub fn arith_addresses()
+/// In a row of one of these blocks the program counter is at the addresses that the table gives the block, one after the other.
+pub fn addresses()
     ensures { ArithAddresses }
 {}
 
-/// Every instruction of loads, of skips and of 8XYN is in one of these blocks.
-pub fn arith_covers()
+/// Every instruction of this part is in one of these blocks.
+pub fn covers()
     ensures { ArithCovers }
 {}

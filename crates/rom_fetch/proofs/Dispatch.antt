@@ -18,7 +18,7 @@ use Rattle.rom_law.proofs.Places.{pc_is, pc_set, memory_get, memory_fits}
 use Rattle.rom_law.proofs.Kept.{Comes}
 use Rattle.rom_rows.specs.Heads.{high_byte, low_byte, page_of, Fetching, Enters}
 use Rattle.rom_rows.specs.FetchBlocks.FetchBlock.{Inside, Misc}
-use Rattle.rom_rows.specs.JumpBlocks.JumpBlock.{System, JumpTo, Call, JumpPlus}
+use Rattle.rom_rows.specs.ArithBlocks.ArithBlock.{System, JumpTo, Call, JumpPlus}
 use Rattle.rom_rows.specs.ArithBlocks.ArithBlock.{Load, Add, SkipEq, SkipNe, SkipSame, SkipDiffer, Arith}
 use Rattle.rom_rows.specs.MemoryBlocks.MemoryBlock.{Index}
 use Rattle.rom_rows.specs.SpriteBlocks.SpriteBlock.{Draw}
@@ -29,7 +29,7 @@ use Rattle.rom_rows.specs.Table.Block.{OfFetch}
 use Rattle.rom_rows.proofs.Digits.{by_digit}
 use Rattle.rom_rows.proofs.Bytes.{both, quick, memory_end_is, stack_top_is, page_fits}
 use Rattle.rom_rows.proofs.Entry.{ready, on_4, is_on_4, is_inside}
-use Rattle.rom_rows.proofs.Follows.{to_fetch, to_jump, to_arith, to_memory, to_sprite, to_timer, to_key}
+use Rattle.rom_rows.proofs.Follows.{to_fetch, to_arith, to_arith, to_memory, to_sprite, to_timer, to_key}
 
 -- ---- the table
 
@@ -135,9 +135,9 @@ module _ (e : Edition) (b : Machine) (h : Since) (f : FitsMachine b) (o : Fetchi
 
   ends : (h' : Since) → Grows h 32 0 h' → Ends (quick e) (calm_pieces (quick e)) entered h'
   ends h' g = by_digit (λ d. high / 16 ≡ d → Ends (quick e) (calm_pieces (quick e)) entered h')
-      (λ is. to_jump (quick e) g entered calm System (enters 0 is) (omega (arith, spent, g.spent)))
-      (λ is. to_jump (quick e) g entered calm JumpTo (enters 1 is) (omega (arith, spent, g.spent)))
-      (λ is. to_jump (quick e) g entered calm Call (enters 2 is) (omega (arith, spent, g.spent)))
+      (λ is. to_arith (quick e) g entered calm System (enters 0 is) (omega (arith, spent, g.spent)))
+      (λ is. to_arith (quick e) g entered calm JumpTo (enters 1 is) (omega (arith, spent, g.spent)))
+      (λ is. to_arith (quick e) g entered calm Call (enters 2 is) (omega (arith, spent, g.spent)))
       (λ is. to_arith (quick e) g entered calm SkipEq (enters 3 is) (omega (arith, spent, g.spent)))
       (λ is. to_arith (quick e) g entered calm SkipNe (enters 4 is) (omega (arith, spent, g.spent)))
       (λ is. to_arith (quick e) g entered calm SkipSame (enters 5 is) (omega (arith, spent, g.spent)))
@@ -146,7 +146,7 @@ module _ (e : Edition) (b : Machine) (h : Since) (f : FitsMachine b) (o : Fetchi
       (λ is. to_arith (quick e) g entered calm Arith (enters 8 is) (omega (arith, spent, g.spent)))
       (λ is. to_arith (quick e) g entered calm SkipDiffer (enters 9 is) (omega (arith, spent, g.spent)))
       (λ is. to_memory (quick e) g entered calm Index (enters 10 is) (omega (arith, spent, g.spent)))
-      (λ is. to_jump (quick e) g entered calm JumpPlus (enters 11 is) (omega (arith, spent, g.spent)))
+      (λ is. to_arith (quick e) g entered calm JumpPlus (enters 11 is) (omega (arith, spent, g.spent)))
       (λ is. to_timer (quick e) g entered calm Random (enters 12 is) (omega (arith, spent, g.spent)))
       (λ is. to_sprite (quick e) g entered calm Draw tt (enters 13 is) (omega (arith, spent, g.spent)))
       (λ is. to_key (quick e) g entered calm KeySkip (enters 14 is) (omega (arith, spent, g.spent)))

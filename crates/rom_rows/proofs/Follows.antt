@@ -9,22 +9,18 @@ use Rattle.rom_law.specs.Rows.Starts.{Enters, Meets}
 use Rattle.rom_law.proofs.Steps.{now_same}
 use Rattle.rom_rows.specs.Heads.{Within}
 use Rattle.rom_rows.specs.FetchBlocks.{FetchBlock, fetch_at, fetch_time}
-use Rattle.rom_rows.specs.JumpBlocks.{JumpBlock, jump_at, jump_time}
 use Rattle.rom_rows.specs.ArithBlocks.{ArithBlock, arith_at, arith_time}
 use Rattle.rom_rows.specs.MemoryBlocks.{MemoryBlock, memory_at, memory_time}
 use Rattle.rom_rows.specs.SpriteBlocks.{SpriteBlock, IsEarly, SpritePlace, sprite_at, sprite_time, sprite_place_at, sprite_place_time}
 use Rattle.rom_rows.specs.TimerBlocks.{TimerBlock, TimerPlace, timer_at, timer_time, timer_place_at, timer_place_time}
 use Rattle.rom_rows.specs.KeyBlocks.{KeyBlock, KeyPlace, key_at, key_time, key_place_at, key_place_time}
 use Rattle.rom_rows.specs.Table.{calm_pieces}
-use Rattle.rom_rows.specs.Table.Block.{OfFetch, OfJump, OfArith, OfMemory, OfSprite, OfTimer, OfKey}
+use Rattle.rom_rows.specs.Table.Block.{OfFetch, OfArith, OfMemory, OfSprite, OfTimer, OfKey}
 use Rattle.rom_rows.specs.Table.Place.{AtTimer, AtKey, AtSprite}
 
 module _ (x : Program) {k : ℕ} {h h' : Since} (g : Grows h k 0 h') (c : Machine) (calm : is_event (code x) c ≡ false) where
   pub to_fetch : (l : FetchBlock) → fetch_at x l c (now h) → Within (fetch_time l) h' → Ends x (calm_pieces x) c h'
   to_fetch l at w = Continues calm (Enters (OfFetch l) ((subst (fetch_at x l c) (sym (now_same g)) at, w), tt))
-
-  pub to_jump : (l : JumpBlock) → jump_at x l c (now h) → Within (jump_time l) h' → Ends x (calm_pieces x) c h'
-  to_jump l at w = Continues calm (Enters (OfJump l) ((subst (jump_at x l c) (sym (now_same g)) at, w), tt))
 
   pub to_arith : (l : ArithBlock) → arith_at x l c (now h) → Within (arith_time l) h' → Ends x (calm_pieces x) c h'
   to_arith l at w = Continues calm (Enters (OfArith l) ((subst (arith_at x l c) (sym (now_same g)) at, w), tt))

@@ -14,8 +14,7 @@ use Rattle.rom_law.specs.Rows.{Since, now}
 use Rattle.rom_rows.specs.Heads.{Entered}
 use Rattle.rom_rows.specs.FetchBlocks.{FetchBlock, fetch_at}
 use Rattle.rom_rows.specs.FetchBlocks.FetchBlock.{Fetch, Upper, Inside, Outside, Misc, Unknown83, Leave, Stop, Stopped}
-use Rattle.rom_rows.specs.JumpBlocks.{JumpBlock, jump_at}
-use Rattle.rom_rows.specs.JumpBlocks.JumpBlock.{System, SystemLow, SystemBack, MachineCode, Return, ReturnTake, Empty, JumpTo, Call, CallPut, Full, JumpPlus}
+use Rattle.rom_rows.specs.ArithBlocks.ArithBlock.{System, SystemLow, SystemBack, MachineCode, Return, ReturnTake, Empty, JumpTo, Call, CallPut, Full, JumpPlus}
 use Rattle.rom_rows.specs.ArithBlocks.{ArithBlock, arith_at}
 use Rattle.rom_rows.specs.ArithBlocks.ArithBlock.{Load, Add, SkipEq, SkipNe, SkipSame, SameTest, SkipDiffer, DifferTest, NoSkip as PassesOn, Skip, Unknown81, Arith, Operation, Flag, Unknown82}
 use Rattle.rom_rows.specs.MemoryBlocks.{MemoryBlock, memory_at}
@@ -30,7 +29,7 @@ use Rattle.rom_rows.specs.KeyBlocks.{KeyBlock, KeyPlace, key_at, key_place_at}
 use Rattle.rom_rows.specs.KeyBlocks.KeyBlock.{KeySkip, KeySkipUp, SkipLatch, NoSkip, Skip as KeyYes, WaitKey, KeyNext, KeyCount, KeyFreed}
 use Rattle.rom_rows.specs.KeyBlocks.KeyPlace.{SkipTest, KeyTest, KeyHeld}
 use Rattle.rom_rows.specs.Table.{Block, Place as AnyPlace, Head, At, IsBefore}
-use Rattle.rom_rows.specs.Table.Block.{OfFetch, OfJump, OfArith, OfMemory, OfSprite, OfTimer, OfKey}
+use Rattle.rom_rows.specs.Table.Block.{OfFetch, OfArith, OfMemory, OfSprite, OfTimer, OfKey}
 use Rattle.rom_rows.specs.Table.Place.{AtTimer, AtKey, AtSprite}
 
 -- the screen that lies in the machine is that of the state, pixel by pixel
@@ -78,21 +77,19 @@ module _ (x : Program) (b : Machine) (s : Lang) where
   fetch_screen Stop o = past x b s o.holds
   fetch_screen Stopped o = same x b s o.holds (λ px py l m. refl)
 
-  pub jump_screen : (l : JumpBlock) → jump_at x l b s → SameScreen x b s
-  jump_screen System o = enters o.entered
-  jump_screen SystemLow o = enters o.0
-  jump_screen SystemBack o = enters o.0
-  jump_screen MachineCode o = enters o.0
-  jump_screen Return o = enters o.0
-  jump_screen ReturnTake o = enters o.0
-  jump_screen Empty o = enters o.0
-  jump_screen JumpTo o = enters o.entered
-  jump_screen Call o = enters o.entered
-  jump_screen CallPut o = enters o.0.entered
-  jump_screen Full o = enters o.0
-  jump_screen JumpPlus o = enters o.entered
-
   pub arith_screen : (l : ArithBlock) → arith_at x l b s → SameScreen x b s
+  arith_screen System o = enters o.entered
+  arith_screen SystemLow o = enters o.0
+  arith_screen SystemBack o = enters o.0
+  arith_screen MachineCode o = enters o.0
+  arith_screen Return o = enters o.0
+  arith_screen ReturnTake o = enters o.0
+  arith_screen Empty o = enters o.0
+  arith_screen JumpTo o = enters o.entered
+  arith_screen Call o = enters o.entered
+  arith_screen CallPut o = enters o.0.entered
+  arith_screen Full o = enters o.0
+  arith_screen JumpPlus o = enters o.entered
   arith_screen Load o = enters o.entered
   arith_screen Add o = enters o.entered
   arith_screen SkipEq o = enters o.entered
@@ -203,7 +200,6 @@ module _ (x : Program) (b : Machine) (s : Lang) where
 
 pub head_screen : (x : Program) (l : Block) (b : Machine) (h : Since) → IsBefore l → Head x l b h → SameScreen x b (now h)
 head_screen x (OfFetch l) b h n o = fetch_screen x b (now h) l o.0
-head_screen x (OfJump l) b h n o = jump_screen x b (now h) l o.0
 head_screen x (OfArith l) b h n o = arith_screen x b (now h) l o.0
 head_screen x (OfMemory l) b h n o = memory_screen x b (now h) l o.0
 head_screen x (OfSprite l) b h n o = sprite_screen x b (now h) l n o.0

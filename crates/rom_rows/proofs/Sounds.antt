@@ -16,8 +16,7 @@ use Rattle.rom_rows.specs.Heads.{Time, Within}
 use Rattle.rom_rows.specs.Heads.Time.{Exactly, AtMost, Anytime, Waited}
 use Rattle.rom_rows.specs.FetchBlocks.{FetchBlock, fetch_moves}
 use Rattle.rom_rows.specs.FetchBlocks.FetchBlock.{Fetch, Upper, Inside, Outside, Misc, Unknown83, Leave, Stop, Stopped}
-use Rattle.rom_rows.specs.JumpBlocks.{JumpBlock, jump_moves}
-use Rattle.rom_rows.specs.JumpBlocks.JumpBlock.{System, SystemLow, SystemBack, MachineCode, Return, ReturnTake, Empty, JumpTo, Call, CallPut, Full, JumpPlus}
+use Rattle.rom_rows.specs.ArithBlocks.ArithBlock.{System, SystemLow, SystemBack, MachineCode, Return, ReturnTake, Empty, JumpTo, Call, CallPut, Full, JumpPlus}
 use Rattle.rom_rows.specs.ArithBlocks.{ArithBlock, arith_moves}
 use Rattle.rom_rows.specs.ArithBlocks.ArithBlock.{Load, Add, SkipEq, SkipNe, SkipSame, SameTest, SkipDiffer, DifferTest, NoSkip as PassesOn, Skip, Unknown81, Arith, Operation, Flag, Unknown82}
 use Rattle.rom_rows.specs.Checks.Answer.{InGame, InFont, Nowhere}
@@ -33,7 +32,7 @@ use Rattle.rom_rows.specs.KeyBlocks.{KeyBlock, KeyPlace, Last, key_moves, key_pl
 use Rattle.rom_rows.specs.KeyBlocks.KeyBlock.{KeySkip, KeySkipUp, SkipLatch, NoSkip, Skip as KeyYes, WaitKey, KeyNext, KeyCount, KeyFreed}
 use Rattle.rom_rows.specs.KeyBlocks.KeyPlace.{SkipTest, KeyTest, KeyHeld}
 use Rattle.rom_rows.specs.Table.{Block, Place as AnyPlace, Head, At, moves, pieces, calm_pieces, BlockRows, PlaceRows, AwakeRows, TickRows}
-use Rattle.rom_rows.specs.Table.Block.{OfFetch, OfJump, OfArith, OfMemory, OfSprite, OfTimer, OfKey}
+use Rattle.rom_rows.specs.Table.Block.{OfFetch, OfArith, OfMemory, OfSprite, OfTimer, OfKey}
 use Rattle.rom_rows.specs.Table.Place.{AtTimer, AtKey, AtSprite}
 use Rattle.rom_rows.proofs.Calm.{comes_calm, holds_calm}
 use Rattle.rom_rows.proofs.Bytes.{both_is, both_fits, quick}
@@ -50,21 +49,19 @@ fetch_some (Leave i) = omega arith
 fetch_some Stop = omega arith
 fetch_some Stopped = omega arith
 
-jump_some : (l : JumpBlock) → 0 < jump_moves l
-jump_some System = omega arith
-jump_some SystemLow = omega arith
-jump_some SystemBack = omega arith
-jump_some MachineCode = omega arith
-jump_some Return = omega arith
-jump_some ReturnTake = omega arith
-jump_some Empty = omega arith
-jump_some JumpTo = omega arith
-jump_some Call = omega arith
-jump_some CallPut = omega arith
-jump_some Full = omega arith
-jump_some JumpPlus = omega arith
-
 arith_some : (l : ArithBlock) → 0 < arith_moves l
+arith_some System = omega arith
+arith_some SystemLow = omega arith
+arith_some SystemBack = omega arith
+arith_some MachineCode = omega arith
+arith_some Return = omega arith
+arith_some ReturnTake = omega arith
+arith_some Empty = omega arith
+arith_some JumpTo = omega arith
+arith_some Call = omega arith
+arith_some CallPut = omega arith
+arith_some Full = omega arith
+arith_some JumpPlus = omega arith
 arith_some Load = omega arith
 arith_some Add = omega arith
 arith_some SkipEq = omega arith
@@ -162,7 +159,6 @@ key_some KeyFreed = omega arith
 
 pub some : (l : Block) → 0 < moves l
 some (OfFetch l) = fetch_some l
-some (OfJump l) = jump_some l
 some (OfArith l) = arith_some l
 some (OfMemory l) = memory_some l
 some (OfSprite l) = sprite_some l

@@ -1,20 +1,37 @@
--- The blocks of loads, of skips and of 8XYN.
-use Rattle.std.specs.Prelude.{◌≡◌, ℕ, suc, ◌+◌, ◌*◌, ◌%◌, ◌<◌, Bool, true, false, List, [], ◌∷◌, ◌++◌, slice_index, Some}
+-- The blocks of 0MMM, of jumps and calls, of loads, of skips and of 8XYN.
+use Rattle.std.specs.Prelude.{◌≡◌, ℕ, suc, ◌+◌, ◌*◌, ◌%◌, ◌<◌, Bool, true, false, List, [], ◌∷◌, ◌++◌, length, slice_index, Some}
 use Rattle.machine.specs.Board.{Machine}
 use Rattle.chip8_lang.specs.declared.instr.Instr.{Instr}
 use Rattle.chip8_lang.specs.declared.instr.Instr.TheVariants.{SkipEq as IsSkipEq, SkipNe as IsSkipNe, SkipSame as IsSkipSame, SkipDiffer as IsSkipDiffer, Or, And, Xor, Sum, Less, Right, From, Left}
-use Rattle.chip8_lang.specs.declared.view.Stop.TheVariants.{Unknown}
+use Rattle.chip8_lang.specs.declared.view.Stop.TheVariants.{MachineCall, Unknown, StackFull, StackEmpty}
 use Rattle.chip8_lang.specs.State.{Lang, instr_at}
 use Rattle.chip8_lang.specs.Step.{skip_if, set_with_flag, step}
 use Rattle.chip8_lang.specs.Step.KeyInput.{Nothing}
 use Rattle.chip8_image.specs.declared.parts.Part.TheVariants.{Arith as IsArith}
-use Rattle.chip8_image.specs.Labels.{at_load, at_add, at_skip_eq, at_skip_eq_no, at_skip_ne, at_skip_ne_no, at_skip_same, at_skip_same_test, at_skip_same_no, at_skip_differ, at_differ_test, at_differ_no, at_skip, at_unknown81, at_arith, at_slot0, at_copy, at_vx_or, at_vx_and, at_vx_xor, at_sum, at_less, at_right, at_from, at_left, at_no_flag, at_flag, at_unknown82}
+use Rattle.chip8_image.specs.Labels.{at_system, at_system_low, at_system_back, at_machine, at_return, at_return_take, at_empty, at_jump, at_call, at_call_put, at_full, at_jump_plus, at_load, at_add, at_skip_eq, at_skip_eq_no, at_skip_ne, at_skip_ne_no, at_skip_same, at_skip_same_test, at_skip_same_no, at_skip_differ, at_differ_test, at_differ_no, at_skip, at_unknown81, at_arith, at_slot0, at_copy, at_vx_or, at_vx_and, at_vx_xor, at_sum, at_less, at_right, at_from, at_left, at_no_flag, at_flag, at_unknown82}
 use Rattle.chip8_image.specs.Parts.{Area, area}
 use Rattle.rom_law.specs.Program.{Program}
 use Rattle.rom_rows.specs.Heads.{Time, from, high_byte, low_byte, Entered, Enters}
 use Rattle.rom_rows.specs.Heads.Time.{Exactly, AtMost}
 
 pub data ArithBlock : Type 0 where
+  -- 0MMM: 8100 to 8102, 8103 to 8107, 8108 to 810C, and 810D to 8110
+  System : ArithBlock
+  SystemLow : ArithBlock
+  SystemBack : ArithBlock
+  MachineCode : ArithBlock
+  -- 00EE: 8111 to 8115, 8116 to 8121, and 8122 to 8125
+  Return : ArithBlock
+  ReturnTake : ArithBlock
+  Empty : ArithBlock
+  -- 1MMM: 8126 to 812C
+  JumpTo : ArithBlock
+  -- 2MMM: 812D to 8131, 8132 to 813D, and 813E to 8141
+  Call : ArithBlock
+  CallPut : ArithBlock
+  Full : ArithBlock
+  -- BMMM: 8142 to 8152
+  JumpPlus : ArithBlock
   -- 6XKK and 7XKK: 8153 to 8155, and 8156 to 815A
   Load : ArithBlock
   Add : ArithBlock
@@ -72,6 +89,18 @@ pub record Ending (x : Program) (a : ℕ) (z : Lang) (b : Machine) (s : Lang) : 
   pub makes : step x.edition Nothing s ≡ z
 
 abbrev pub arith_at : Program → ArithBlock → Machine → Lang → Type 0
+arith_at x System b s = Enters x at_system 0 b s
+arith_at x SystemLow b s = Entered x at_system_low b s × (high_byte s ≡ 0)
+arith_at x SystemBack b s = Entered x at_system_back b s × (high_byte s ≡ 0) × (low_byte s ≡ 0xe0 → ⊥)
+arith_at x MachineCode b s = Entered x at_machine b s × (x.stop_of s ≡ Some MachineCall)
+arith_at x Return b s = Entered x at_return b s × (high_byte s ≡ 0) × (low_byte s ≡ 0xee)
+arith_at x ReturnTake b s = Entered x at_return_take b s × (high_byte s ≡ 0) × (low_byte s ≡ 0xee) × (0 < length s.stack)
+arith_at x Empty b s = Entered x at_empty b s × (x.stop_of s ≡ Some StackEmpty)
+arith_at x JumpTo b s = Enters x at_jump 1 b s
+arith_at x Call b s = Enters x at_call 2 b s
+arith_at x CallPut b s = Enters x at_call_put 2 b s × (length s.stack < 12)
+arith_at x Full b s = Entered x at_full b s × (x.stop_of s ≡ Some StackFull)
+arith_at x JumpPlus b s = Enters x at_jump_plus 11 b s
 arith_at x Load b s = Enters x at_load 6 b s
 arith_at x Add b s = Enters x at_add 7 b s
 arith_at x SkipEq b s = Enters x at_skip_eq 3 b s
@@ -89,6 +118,18 @@ arith_at x Flag b s = Ending x at_flag (set_with_flag (high_byte s % 16) b.regs.
 arith_at x Unknown82 b s = Entered x at_unknown82 b s × (x.stop_of s ≡ Some Unknown)
 
 abbrev pub arith_moves : ArithBlock → ℕ
+arith_moves System = 2
+arith_moves SystemLow = 3
+arith_moves SystemBack = 3
+arith_moves MachineCode = 2
+arith_moves Return = 3
+arith_moves ReturnTake = 12
+arith_moves Empty = 2
+arith_moves JumpTo = 6
+arith_moves Call = 3
+arith_moves CallPut = 11
+arith_moves Full = 2
+arith_moves JumpPlus = 13
 arith_moves Load = 3
 arith_moves Add = 5
 arith_moves SkipEq = 4
@@ -106,6 +147,14 @@ arith_moves Flag = 9
 arith_moves Unknown82 = 2
 
 abbrev pub arith_time : ArithBlock → Time
+arith_time SystemLow = AtMost 84
+arith_time SystemBack = AtMost 90
+arith_time MachineCode = AtMost 96
+arith_time Return = AtMost 96
+arith_time ReturnTake = AtMost 102
+arith_time Empty = AtMost 102
+arith_time CallPut = AtMost 86
+arith_time Full = AtMost 86
 arith_time SameTest = Exactly 86
 arith_time DifferTest = Exactly 86
 arith_time (NoSkip i) = AtMost 94
@@ -125,6 +174,18 @@ operation_labels =
 
 -- where a block's instructions begin
 abbrev pub arith_addresses : ArithBlock → List ℕ
+arith_addresses System = from at_system (0 ∷ 1 ∷ [])
+arith_addresses SystemLow = from at_system_low (0 ∷ 1 ∷ 3 ∷ [])
+arith_addresses SystemBack = from at_system_back (0 ∷ 1 ∷ 3 ∷ [])
+arith_addresses MachineCode = from at_machine (0 ∷ 2 ∷ [])
+arith_addresses Return = from at_return (0 ∷ 1 ∷ 3 ∷ [])
+arith_addresses ReturnTake = from at_return_take (0 ∷ 1 ∷ 2 ∷ 3 ∷ 4 ∷ 5 ∷ 6 ∷ 7 ∷ 8 ∷ 9 ∷ 10 ∷ 11 ∷ [])
+arith_addresses Empty = from at_empty (0 ∷ 2 ∷ [])
+arith_addresses JumpTo = from at_jump (0 ∷ 1 ∷ 3 ∷ 4 ∷ 5 ∷ 6 ∷ [])
+arith_addresses Call = from at_call (0 ∷ 1 ∷ 3 ∷ [])
+arith_addresses CallPut = from at_call_put (0 ∷ 1 ∷ 2 ∷ 3 ∷ 4 ∷ 5 ∷ 6 ∷ 8 ∷ 9 ∷ 10 ∷ 11 ∷ [])
+arith_addresses Full = from at_full (0 ∷ 2 ∷ [])
+arith_addresses JumpPlus = from at_jump_plus (0 ∷ 2 ∷ 3 ∷ 5 ∷ 6 ∷ 7 ∷ 8 ∷ 9 ∷ 10 ∷ 11 ∷ 13 ∷ 15 ∷ 16 ∷ [])
 arith_addresses Load = from at_load (0 ∷ 1 ∷ 2 ∷ [])
 arith_addresses Add = from at_add (0 ∷ 1 ∷ 2 ∷ 3 ∷ 4 ∷ [])
 arith_addresses SkipEq = from at_skip_eq (0 ∷ 1 ∷ 2 ∷ 3 ∷ [])
@@ -141,6 +202,6 @@ arith_addresses (Operation n) = (at_slot0 + 2 * n) ∷ from (slice_index operati
 arith_addresses Flag = from at_flag (0 ∷ 1 ∷ 3 ∷ 4 ∷ 6 ∷ 7 ∷ 9 ∷ 10 ∷ 11 ∷ [])
 arith_addresses Unknown82 = from at_unknown82 (0 ∷ 2 ∷ [])
 
--- loads and skips, and 8XYN
+-- 0MMM, jumps and calls, loads and skips, and 8XYN
 abbrev pub arith_areas : List Area
-arith_areas = area 0x8153 0x8183 IsArith ∷ area 0x8200 0x825c IsArith ∷ []
+arith_areas = area 0x8100 0x8183 IsArith ∷ area 0x8200 0x825c IsArith ∷ []

@@ -1,7 +1,6 @@
 pub mod Rom
 pub mod Heads
 pub mod FetchBlocks
-pub mod JumpBlocks
 pub mod ArithBlocks
 pub mod Checks
 pub mod Dots

@@ -9,7 +9,6 @@ use Rattle.rom_law.specs.Program.{Program, code}
 use Rattle.rom_law.specs.Rows.{Since, Pieces, InBlock, Row, Outcome, now, after_main, after_tick}
 use Rattle.rom_rows.specs.Heads.{Within, page_of}
 use Rattle.rom_rows.specs.FetchBlocks.{FetchBlock, fetch_at, fetch_moves, fetch_time}
-use Rattle.rom_rows.specs.JumpBlocks.{JumpBlock, jump_at, jump_moves, jump_time}
 use Rattle.rom_rows.specs.ArithBlocks.{ArithBlock, arith_at, arith_moves, arith_time}
 use Rattle.rom_rows.specs.MemoryBlocks.{MemoryBlock, memory_at, memory_moves, memory_time}
 use Rattle.rom_rows.specs.SpriteBlocks.{SpriteBlock, SpritePlace, IsWaited, IsEarly, sprite_at, sprite_place_at, sprite_moves, sprite_time, sprite_place_time}
@@ -18,7 +17,6 @@ use Rattle.rom_rows.specs.KeyBlocks.{KeyBlock, KeyPlace, key_at, key_place_at, k
 
 pub data Block : Type 0 where
   OfFetch : (l : FetchBlock) → Block
-  OfJump : (l : JumpBlock) → Block
   OfArith : (l : ArithBlock) → Block
   OfMemory : (l : MemoryBlock) → Block
   OfSprite : (l : SpriteBlock) → Block
@@ -33,7 +31,6 @@ pub data Place : Type 0 where
 -- what is known at the first instruction of a block
 abbrev pub Head : Program → Block → Machine → Since → Type 0
 Head x (OfFetch l) b h = fetch_at x l b (now h) × Within (fetch_time l) h
-Head x (OfJump l) b h = jump_at x l b (now h) × Within (jump_time l) h
 Head x (OfArith l) b h = arith_at x l b (now h) × Within (arith_time l) h
 Head x (OfMemory l) b h = memory_at x l b (now h) × Within (memory_time l) h
 Head x (OfSprite l) b h = sprite_at x l b (now h) × Within (sprite_time l) h
@@ -43,7 +40,6 @@ Head x (OfKey l) b h = key_at x l b (now h) h.keys × Within (key_time l) h
 -- the instructions of a block
 abbrev pub moves : Block → ℕ
 moves (OfFetch l) = fetch_moves l
-moves (OfJump l) = jump_moves l
 moves (OfArith l) = arith_moves l
 moves (OfMemory l) = memory_moves l
 moves (OfSprite l) = sprite_moves l

@@ -12,8 +12,7 @@ use Rattle.rom_law.specs.Rows.{Since, InBlock, Row}
 use Rattle.rom_law.specs.Rows.Row.{Inside as InRow, Alone}
 use Rattle.rom_rows.specs.Checks.Answer.{InGame, InFont, Nowhere}
 use Rattle.rom_rows.specs.FetchBlocks.{FetchBlock}
-use Rattle.rom_rows.specs.JumpBlocks.{JumpBlock, jump_addresses}
-use Rattle.rom_rows.specs.JumpBlocks.JumpBlock.{System, SystemLow, SystemBack, MachineCode, Return, ReturnTake, Empty, JumpTo, Call, CallPut, Full, JumpPlus}
+use Rattle.rom_rows.specs.ArithBlocks.ArithBlock.{System, SystemLow, SystemBack, MachineCode, Return, ReturnTake, Empty, JumpTo, Call, CallPut, Full, JumpPlus}
 use Rattle.rom_rows.specs.ArithBlocks.{ArithBlock, arith_addresses}
 use Rattle.rom_rows.specs.ArithBlocks.ArithBlock.{Load, Add, SkipEq, SkipNe, SkipSame, SameTest, SkipDiffer, DifferTest, NoSkip as PassesOn, Skip as SkipOn, Unknown81, Arith, Operation, Flag, Unknown82}
 use Rattle.rom_rows.specs.MemoryBlocks.{MemoryBlock, memory_addresses}
@@ -29,10 +28,9 @@ use Rattle.rom_rows.specs.KeyBlocks.KeyPlace.{SkipTest, KeyTest, KeyHeld}
 use Rattle.rom_rows.specs.SpriteBlocks.SpritePlace.{ClearWait, ClearIdle, DrawWait, DrawIdle}
 use Rattle.rom_rows.specs.Rom.{vip}
 use Rattle.rom_rows.specs.Table.{Head, pieces}
-use Rattle.rom_rows.specs.Table.Block.{OfFetch, OfJump, OfArith, OfMemory, OfSprite, OfTimer, OfKey}
+use Rattle.rom_rows.specs.Table.Block.{OfFetch, OfArith, OfMemory, OfSprite, OfTimer, OfKey}
 use Rattle.rom_rows.specs.Table.Place.{AtTimer, AtKey, AtSprite}
-use Rattle.rom_arith.proofs.JumpLaw.{jump_addresses_run}
-use Rattle.rom_arith.proofs.ArithLaw.{arith_addresses_run}
+use Rattle.rom_arith.proofs.Law.{arith_addresses_run}
 use Rattle.rom_memory.proofs.Addresses.{memory_addresses_run}
 use Rattle.rom_timer.proofs.Addresses.{addresses as timer_run, place_addresses as timer_place_run}
 use Rattle.rom_keys.proofs.Addresses.{addresses as key_run, place_addresses as key_place_run}
@@ -57,21 +55,19 @@ module _ (e : Edition) where
   abbrev x : Program
   x = vip e
 
-  jump_apart : (l : JumpBlock) (b : Machine) (h : Since) → Head x (OfJump l) b h → apart (jump_addresses l) ≡ true
-  jump_apart System b h o = refl
-  jump_apart SystemLow b h o = refl
-  jump_apart SystemBack b h o = refl
-  jump_apart MachineCode b h o = refl
-  jump_apart Return b h o = refl
-  jump_apart ReturnTake b h o = refl
-  jump_apart Empty b h o = refl
-  jump_apart JumpTo b h o = refl
-  jump_apart Call b h o = refl
-  jump_apart CallPut b h o = refl
-  jump_apart Full b h o = refl
-  jump_apart JumpPlus b h o = refl
-
   arith_apart : (l : ArithBlock) (b : Machine) (h : Since) → Head x (OfArith l) b h → apart (arith_addresses l) ≡ true
+  arith_apart System b h o = refl
+  arith_apart SystemLow b h o = refl
+  arith_apart SystemBack b h o = refl
+  arith_apart MachineCode b h o = refl
+  arith_apart Return b h o = refl
+  arith_apart ReturnTake b h o = refl
+  arith_apart Empty b h o = refl
+  arith_apart JumpTo b h o = refl
+  arith_apart Call b h o = refl
+  arith_apart CallPut b h o = refl
+  arith_apart Full b h o = refl
+  arith_apart JumpPlus b h o = refl
   arith_apart Load b h o = refl
   arith_apart Add b h o = refl
   arith_apart SkipEq b h o = refl
@@ -198,7 +194,6 @@ module _ (e : Edition) where
 
   pub fetch_row : (b : Machine) (h : Since) → Row x (pieces x) b h → IsIn Fetch b → (l : FetchBlock) × InBlock x (pieces x) (OfFetch l) b h
   fetch_row b h (InRow (OfFetch l) r) at = (l, r)
-  fetch_row b h (InRow (OfJump l) r) at = elsewhere b _ (jump_addresses_run e l b h r) (apart_at (jump_addresses l) (jump_apart l r.start r.since r.head) r.k) at
   fetch_row b h (InRow (OfArith l) r) at = elsewhere b _ (arith_addresses_run e l b h r) (apart_at (arith_addresses l) (arith_apart l r.start r.since r.head) r.k) at
   fetch_row b h (InRow (OfMemory l) r) at = elsewhere b _ (memory_addresses_run e l b h r) (apart_at (memory_addresses l) (memory_apart l r.start r.since r.head) r.k) at
   fetch_row b h (InRow (OfSprite l) r) at = elsewhere b _ (sprite_run e l b h r) (apart_at (sprite_addresses l) (sprite_apart l r.start r.since r.head) r.k) at

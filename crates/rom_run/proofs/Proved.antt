@@ -11,13 +11,12 @@ use Rattle.rom_law.proofs.Schedules.{every_schedule}
 use Rattle.rom_rows.specs.FetchBlocks.FetchBlock.{Fetch}
 use Rattle.rom_rows.specs.Rom.{vip, program_of}
 use Rattle.rom_rows.specs.Table.{Block, Place, Head, At, pieces, calm_pieces, IsBefore}
-use Rattle.rom_rows.specs.Table.Block.{OfFetch, OfJump, OfArith, OfMemory, OfSprite, OfTimer, OfKey}
+use Rattle.rom_rows.specs.Table.Block.{OfFetch, OfArith, OfMemory, OfSprite, OfTimer, OfKey}
 use Rattle.rom_rows.specs.Table.Place.{AtTimer, AtKey, AtSprite}
 use Rattle.rom_rows.proofs.Calm.{comes_calm, holds_calm}
 use Rattle.rom_rows.proofs.Bytes.{both_is, both_fits, quick}
 use Rattle.rom_fetch.proofs.Law.{fetch_block}
-use Rattle.rom_arith.proofs.JumpLaw.{jump_block}
-use Rattle.rom_arith.proofs.ArithLaw.{arith_block}
+use Rattle.rom_arith.proofs.Law.{arith_block}
 use Rattle.rom_memory.proofs.Law.{memory_block}
 use Rattle.rom_sprite.proofs.Law.{sprite_block, sprite_any, sprite_place, sprite_place_early}
 use Rattle.rom_timer.proofs.Law.{timer_block, timer_place}
@@ -28,7 +27,6 @@ use Rattle.rom_run.specs.Laws.{AnySchedule}
 
 pub calm_block : (e : Edition) (l : Block) → IsBefore l → (b : Machine) (h : Since) → FitsMachine b → Head (quick e) l b h → Comes (quick e) (calm_pieces (quick e)) l b h
 calm_block e (OfFetch l) w = fetch_block e l
-calm_block e (OfJump l) w = jump_block e l
 calm_block e (OfArith l) w = arith_block e l
 calm_block e (OfMemory l) w = memory_block e l
 calm_block e (OfSprite l) w = sprite_block e l w
@@ -45,7 +43,6 @@ calm_place e (AtSprite l) b h f i = sprite_place_early e l b h f i
 
 pub block : (e : Edition) (l : Block) (b : Machine) (h : Since) → FitsMachine b → Head (quick e) l b h → Comes (quick e) (pieces (quick e)) l b h
 block e (OfFetch l) b h f o = comes_calm (fetch_block e l b h f o)
-block e (OfJump l) b h f o = comes_calm (jump_block e l b h f o)
 block e (OfArith l) b h f o = comes_calm (arith_block e l b h f o)
 block e (OfMemory l) b h f o = comes_calm (memory_block e l b h f o)
 block e (OfSprite l) b h f o = sprite_any e l b h f o

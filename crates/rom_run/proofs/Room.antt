@@ -21,8 +21,7 @@ use Rattle.rom_rows.specs.ArithBlocks.{operation_lengths}
 use Rattle.rom_rows.specs.Checks.Answer.{InGame, InFont, Nowhere}
 use Rattle.rom_rows.specs.FetchBlocks.{FetchBlock, fetch_at, fetch_moves}
 use Rattle.rom_rows.specs.FetchBlocks.FetchBlock.{Fetch, Upper, Outside, Misc, Unknown83, Leave, Stop, Stopped, Inside}
-use Rattle.rom_rows.specs.JumpBlocks.{JumpBlock, jump_at, jump_moves}
-use Rattle.rom_rows.specs.JumpBlocks.JumpBlock.{System, SystemLow, SystemBack, MachineCode, Return, ReturnTake, Empty, JumpTo, Call, CallPut, Full, JumpPlus}
+use Rattle.rom_rows.specs.ArithBlocks.ArithBlock.{System, SystemLow, SystemBack, MachineCode, Return, ReturnTake, Empty, JumpTo, Call, CallPut, Full, JumpPlus}
 use Rattle.rom_rows.specs.ArithBlocks.{ArithBlock, arith_at, arith_moves}
 use Rattle.rom_rows.specs.ArithBlocks.ArithBlock.{Load, Add, SkipEq, SkipNe, SkipSame, SameTest, SkipDiffer, DifferTest, NoSkip as PassesOn, Skip as SkipOn, Unknown81, Arith, Operation, Flag, Unknown82}
 use Rattle.rom_rows.specs.MemoryBlocks.{MemoryBlock, memory_at, memory_moves}
@@ -38,7 +37,7 @@ use Rattle.rom_rows.specs.KeyBlocks.KeyPlace.{SkipTest, KeyTest, KeyHeld}
 use Rattle.rom_rows.specs.SpriteBlocks.SpritePlace.{ClearWait, ClearIdle, DrawWait, DrawIdle}
 use Rattle.rom_rows.specs.Rom.{vip, program_of}
 use Rattle.rom_rows.specs.Table.{Block, Place, Head, At, moves, pieces}
-use Rattle.rom_rows.specs.Table.Block.{OfFetch, OfJump, OfArith, OfMemory, OfSprite, OfTimer, OfKey}
+use Rattle.rom_rows.specs.Table.Block.{OfFetch, OfArith, OfMemory, OfSprite, OfTimer, OfKey}
 use Rattle.rom_rows.specs.Table.Place.{AtTimer, AtKey, AtSprite}
 use Rattle.rom_rows.proofs.Bytes.{both_is, quick, memory_end_is, stack_top_is, variables_is, page_fits, page_low}
 use Rattle.rom_rows.proofs.Entry.{on_4, is_on_4}
@@ -75,21 +74,19 @@ module _ (x : Program) where
   fetch_room Stopped b s o = inl (room b o.holds (omega arith))
   fetch_room Inside b s o = inr refl
 
-  jump_room : (l : JumpBlock) (b : Machine) (s : Lang) → jump_at x l b s → Roomy (jump_moves l) b
-  jump_room System b s o = room b o.entered.holds (omega arith)
-  jump_room SystemLow b s o = room b o.0.holds (omega arith)
-  jump_room SystemBack b s o = room b o.0.holds (omega arith)
-  jump_room MachineCode b s o = room b o.0.holds (omega arith)
-  jump_room Return b s o = room b o.0.holds (omega arith)
-  jump_room ReturnTake b s o = room b o.0.holds (omega arith)
-  jump_room Empty b s o = room b o.0.holds (omega arith)
-  jump_room JumpTo b s o = room b o.entered.holds (omega arith)
-  jump_room Call b s o = room b o.entered.holds (omega arith)
-  jump_room CallPut b s o = room b o.0.entered.holds (omega arith)
-  jump_room Full b s o = room b o.0.holds (omega arith)
-  jump_room JumpPlus b s o = room b o.entered.holds (omega arith)
-
   arith_room : (l : ArithBlock) (b : Machine) (s : Lang) → arith_at x l b s → Roomy (arith_moves l) b
+  arith_room System b s o = room b o.entered.holds (omega arith)
+  arith_room SystemLow b s o = room b o.0.holds (omega arith)
+  arith_room SystemBack b s o = room b o.0.holds (omega arith)
+  arith_room MachineCode b s o = room b o.0.holds (omega arith)
+  arith_room Return b s o = room b o.0.holds (omega arith)
+  arith_room ReturnTake b s o = room b o.0.holds (omega arith)
+  arith_room Empty b s o = room b o.0.holds (omega arith)
+  arith_room JumpTo b s o = room b o.entered.holds (omega arith)
+  arith_room Call b s o = room b o.entered.holds (omega arith)
+  arith_room CallPut b s o = room b o.0.entered.holds (omega arith)
+  arith_room Full b s o = room b o.0.holds (omega arith)
+  arith_room JumpPlus b s o = room b o.entered.holds (omega arith)
   arith_room Load b s o = room b o.entered.holds (omega arith)
   arith_room Add b s o = room b o.entered.holds (omega arith)
   arith_room SkipEq b s o = room b o.entered.holds (omega arith)
@@ -191,7 +188,6 @@ module _ (x : Program) where
       go : Roomy (fetch_moves l) b ⊎ (l ≡ Inside) → Roomy (fetch_moves l) b ⊎ (OfFetch l ≡ OfFetch Inside)
       go (inl r) = inl r
       go (inr e) = inr (ap OfFetch e)
-  head_room (OfJump l) b h o = inl (jump_room l b (now h) o.0)
   head_room (OfArith l) b h o = inl (arith_room l b (now h) o.0)
   head_room (OfMemory l) b h o = inl (memory_room l b (now h) o.0)
   head_room (OfSprite l) b h o = inl (sprite_room l b (now h) o.0)

@@ -23,8 +23,7 @@ use Rattle.rom_rows.specs.Checks.Answer.{InGame, InFont, Nowhere}
 use Rattle.rom_rows.specs.Heads.{high_byte, low_byte}
 use Rattle.rom_rows.specs.FetchBlocks.{FetchBlock, fetch_moves}
 use Rattle.rom_rows.specs.FetchBlocks.FetchBlock.{Fetch, Upper, Outside, Misc, Unknown83, Leave, Stop as StopWay, Stopped, Inside}
-use Rattle.rom_rows.specs.JumpBlocks.{JumpBlock, jump_moves}
-use Rattle.rom_rows.specs.JumpBlocks.JumpBlock.{System, SystemLow, SystemBack, MachineCode, Return, ReturnTake, Empty, JumpTo, Call, CallPut, Full, JumpPlus}
+use Rattle.rom_rows.specs.ArithBlocks.ArithBlock.{System, SystemLow, SystemBack, MachineCode, Return, ReturnTake, Empty, JumpTo, Call, CallPut, Full, JumpPlus}
 use Rattle.rom_rows.specs.ArithBlocks.{ArithBlock, operation_lengths, arith_moves}
 use Rattle.rom_rows.specs.ArithBlocks.ArithBlock.{Load, Add, SkipEq, SkipNe, SkipSame, SameTest, SkipDiffer, DifferTest, NoSkip as PassesOn, Skip as SkipOn, Unknown81, Arith, Operation, Flag, Unknown82}
 use Rattle.rom_rows.specs.MemoryBlocks.{MemoryBlock, memory_moves}
@@ -40,7 +39,7 @@ use Rattle.rom_rows.specs.KeyBlocks.KeyPlace.{SkipTest, KeyTest, KeyHeld}
 use Rattle.rom_rows.specs.SpriteBlocks.SpritePlace.{ClearWait, ClearIdle, DrawWait, DrawIdle}
 use Rattle.rom_rows.specs.Rom.{vip}
 use Rattle.rom_rows.specs.Table.{Block, Place, Head, At, moves, pieces, waited_pieces}
-use Rattle.rom_rows.specs.Table.Block.{OfFetch, OfJump, OfArith, OfMemory, OfSprite, OfTimer, OfKey}
+use Rattle.rom_rows.specs.Table.Block.{OfFetch, OfArith, OfMemory, OfSprite, OfTimer, OfKey}
 use Rattle.rom_rows.specs.Table.Place.{AtTimer, AtKey, AtSprite}
 use Rattle.rom_rows.proofs.Steps.{stop_ticks}
 use Rattle.rom_law.proofs.Places.{v_byte}
@@ -190,21 +189,19 @@ module _ (e : Edition) where
   fetch_soon Stopped b h f o = quick h (fetch_moves Stopped) (omega (arith, o.1))
   fetch_soon Inside b h f o = quick h (fetch_moves Inside) (omega (arith, o.1))
 
-  jump_soon : (l : JumpBlock) (b : Machine) (h : Since) → FitsMachine b → Head x (OfJump l) b h → Paced (OfJump l) h
-  jump_soon System b h f o = quick h (jump_moves System) (omega (arith, o.1))
-  jump_soon SystemLow b h f o = quick h (jump_moves SystemLow) (omega (arith, o.1))
-  jump_soon SystemBack b h f o = quick h (jump_moves SystemBack) (omega (arith, o.1))
-  jump_soon MachineCode b h f o = quick h (jump_moves MachineCode) (omega (arith, o.1))
-  jump_soon Return b h f o = quick h (jump_moves Return) (omega (arith, o.1))
-  jump_soon ReturnTake b h f o = quick h (jump_moves ReturnTake) (omega (arith, o.1))
-  jump_soon Empty b h f o = quick h (jump_moves Empty) (omega (arith, o.1))
-  jump_soon JumpTo b h f o = quick h (jump_moves JumpTo) (omega (arith, o.1))
-  jump_soon Call b h f o = quick h (jump_moves Call) (omega (arith, o.1))
-  jump_soon CallPut b h f o = quick h (jump_moves CallPut) (omega (arith, o.1))
-  jump_soon Full b h f o = quick h (jump_moves Full) (omega (arith, o.1))
-  jump_soon JumpPlus b h f o = quick h (jump_moves JumpPlus) (omega (arith, o.1))
-
   arith_soon : (l : ArithBlock) (b : Machine) (h : Since) → FitsMachine b → Head x (OfArith l) b h → Paced (OfArith l) h
+  arith_soon System b h f o = quick h (arith_moves System) (omega (arith, o.1))
+  arith_soon SystemLow b h f o = quick h (arith_moves SystemLow) (omega (arith, o.1))
+  arith_soon SystemBack b h f o = quick h (arith_moves SystemBack) (omega (arith, o.1))
+  arith_soon MachineCode b h f o = quick h (arith_moves MachineCode) (omega (arith, o.1))
+  arith_soon Return b h f o = quick h (arith_moves Return) (omega (arith, o.1))
+  arith_soon ReturnTake b h f o = quick h (arith_moves ReturnTake) (omega (arith, o.1))
+  arith_soon Empty b h f o = quick h (arith_moves Empty) (omega (arith, o.1))
+  arith_soon JumpTo b h f o = quick h (arith_moves JumpTo) (omega (arith, o.1))
+  arith_soon Call b h f o = quick h (arith_moves Call) (omega (arith, o.1))
+  arith_soon CallPut b h f o = quick h (arith_moves CallPut) (omega (arith, o.1))
+  arith_soon Full b h f o = quick h (arith_moves Full) (omega (arith, o.1))
+  arith_soon JumpPlus b h f o = quick h (arith_moves JumpPlus) (omega (arith, o.1))
   arith_soon Load b h f o = quick h (arith_moves Load) (omega (arith, o.1))
   arith_soon Add b h f o = quick h (arith_moves Add) (omega (arith, o.1))
   arith_soon SkipEq b h f o = quick h (arith_moves SkipEq) (omega (arith, o.1))
@@ -314,7 +311,6 @@ module _ (e : Edition) where
 
   pub head_soon : (l : Block) (b : Machine) (h : Since) → FitsMachine b → Head x l b h → Paced l h
   head_soon (OfFetch l) b h f o = fetch_soon l b h f o
-  head_soon (OfJump l) b h f o = jump_soon l b h f o
   head_soon (OfArith l) b h f o = arith_soon l b h f o
   head_soon (OfMemory l) b h f o = memory_soon l b h f o
   head_soon (OfSprite l) b h f o = sprite_soon l b h f o

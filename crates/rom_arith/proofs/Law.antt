@@ -1,4 +1,4 @@
--- The laws of loads, of skips and of 8XYN.
+-- The laws of the part: its rows, its addresses, and that no instruction is missing.
 use Rattle.std.proofs.Common.{◌≡◌, ℕ, zero, suc, ◌+◌, ◌*◌, ◌%◌, ◌<◌, refl, arith, List, [], ◌∷◌, slice_index}
 use Rattle.machine.specs.Board.{Machine}
 use Rattle.machine.specs.Ranges.{FitsMachine}
@@ -7,6 +7,7 @@ use Rattle.chip8_image.specs.Labels.{at_slot0}
 use Rattle.rom_rows.specs.Heads.{Entered, low_byte}
 use Rattle.rom_rows.specs.ArithBlocks.{ArithBlock, no_skip_labels, arith_moves, arith_addresses, arith_areas}
 use Rattle.rom_rows.specs.ArithBlocks.ArithBlock.{Load, Add, SkipEq, SkipNe, SkipSame, SameTest, SkipDiffer, DifferTest, NoSkip, Skip, Unknown81, Arith, Operation, Flag, Unknown82}
+use Rattle.rom_rows.specs.ArithBlocks.ArithBlock.{System, SystemLow, SystemBack, MachineCode, Return, ReturnTake, Empty, JumpTo, Call, CallPut, Full, JumpPlus}
 use Rattle.rom_rows.specs.Table.{Head, calm_pieces}
 use Rattle.rom_rows.specs.Table.Block.{OfArith}
 use Rattle.rom_law.specs.Rows.{Since, now}
@@ -17,11 +18,24 @@ use Rattle.rom_rows.proofs.Digits.{by_digit}
 use Rattle.rom_rows.proofs.Entry.{is_entered}
 use Rattle.rom_rows.proofs.Sounds.{block_rows}
 use Rattle.rom_arith.specs.Laws.{ArithRows, ArithAddresses, ArithCovers}
+use Rattle.rom_arith.proofs.Jumps.{system_comes, system_low_comes, system_back_comes, machine_comes, return_comes, return_take_comes, empty_comes, jump_comes, call_comes, call_put_comes, full_comes, jump_plus_comes}
 use Rattle.rom_arith.proofs.Loads.{load_comes, add_comes}
 use Rattle.rom_arith.proofs.Skips.{eq_comes, ne_comes, skip_same_comes, same_comes, skip_differ_comes, differ_comes, no_skip_comes, skip_comes, unknown81_comes}
 use Rattle.rom_arith.proofs.Arithmetic.{arith_comes, operation_comes, flag_comes, unknown82_comes}
 
 pub arith_block : (e : Edition) (l : ArithBlock) (b : Machine) (h : Since) → FitsMachine b → Head (quick e) (OfArith l) b h → Comes (quick e) (calm_pieces (quick e)) (OfArith l) b h
+arith_block e System b h f o = system_comes e b h f o.0 o.1
+arith_block e SystemLow b h f o = system_low_comes e b h f o.0.0 o.0.1 o.1
+arith_block e SystemBack b h f o = system_back_comes e b h f o.0.0 o.0.1 o.0.2 o.1
+arith_block e MachineCode b h f o = machine_comes e b h f o.0.0 o.0.1 o.1
+arith_block e Return b h f o = return_comes e b h f o.0.0 o.0.1 o.0.2 o.1
+arith_block e ReturnTake b h f o = return_take_comes e b h f o.0.0 o.0.1 o.0.2 o.0.3
+arith_block e Empty b h f o = empty_comes e b h f o.0.0 o.0.1 o.1
+arith_block e JumpTo b h f o = jump_comes e b h f o.0
+arith_block e Call b h f o = call_comes e b h f o.0 o.1
+arith_block e CallPut b h f o = call_put_comes e b h f o.0.0 o.0.1
+arith_block e Full b h f o = full_comes e b h f o.0.0 o.0.1 o.1
+arith_block e JumpPlus b h f o = jump_plus_comes e b h f o.0
 arith_block e Load b h f o = load_comes e b h f o.0
 arith_block e Add b h f o = add_comes e b h f o.0
 arith_block e SkipEq b h f o = eq_comes e b h f o.0 o.1
@@ -38,8 +52,8 @@ arith_block e (Operation n) b h f o = operation_comes e b h f n o.0.0 o.0.1 o.0.
 arith_block e Flag b h f o = flag_comes e b h f o.0
 arith_block e Unknown82 b h f o = unknown82_comes e b h f o.0.0 o.0.1 o.1
 
-pub arith_rows : ArithRows
-arith_rows e l = block_rows e (OfArith l) (arith_block e l)
+pub main_rows : ArithRows
+main_rows e l = block_rows e (OfArith l) (arith_block e l)
 
 module _ (e : Edition) (b : Machine) (h : Since) where
   no_skip_follows : (i : ℕ) → i < 4 → Entered (quick e) (slice_index no_skip_labels i) b (now h) → Follows e (OfArith (NoSkip i)) (arith_addresses (NoSkip i)) b
@@ -56,6 +70,18 @@ module _ (e : Edition) (b : Machine) (h : Since) where
   slot_follows n is = by_digit SlotFollows (λ o. record { same = _; is = is_entered o; follows = refl }) (λ o. record { same = _; is = is_entered o; follows = refl }) (λ o. record { same = _; is = is_entered o; follows = refl }) (λ o. record { same = _; is = is_entered o; follows = refl }) (λ o. record { same = _; is = is_entered o; follows = refl }) (λ o. record { same = _; is = is_entered o; follows = refl }) (λ o. record { same = _; is = is_entered o; follows = refl }) (λ o. record { same = _; is = is_entered o; follows = refl }) (λ o. record { same = _; is = is_entered o; follows = refl }) (λ o. record { same = _; is = is_entered o; follows = refl }) (λ o. record { same = _; is = is_entered o; follows = refl }) (λ o. record { same = _; is = is_entered o; follows = refl }) (λ o. record { same = _; is = is_entered o; follows = refl }) (λ o. record { same = _; is = is_entered o; follows = refl }) (λ o. record { same = _; is = is_entered o; follows = refl }) (λ o. record { same = _; is = is_entered o; follows = refl }) n (omega (arith, is))
 
 arith_follows : (e : Edition) (l : ArithBlock) (b : Machine) (h : Since) → Head (quick e) (OfArith l) b h → Follows e (OfArith l) (arith_addresses l) b
+arith_follows e System b h o = record { same = _; is = is_entered o.0.entered; follows = refl }
+arith_follows e SystemLow b h o = record { same = _; is = is_entered o.0.0; follows = refl }
+arith_follows e SystemBack b h o = record { same = _; is = is_entered o.0.0; follows = refl }
+arith_follows e MachineCode b h o = record { same = _; is = is_entered o.0.0; follows = refl }
+arith_follows e Return b h o = record { same = _; is = is_entered o.0.0; follows = refl }
+arith_follows e ReturnTake b h o = record { same = _; is = is_entered o.0.0; follows = refl }
+arith_follows e Empty b h o = record { same = _; is = is_entered o.0.0; follows = refl }
+arith_follows e JumpTo b h o = record { same = _; is = is_entered o.0.entered; follows = refl }
+arith_follows e Call b h o = record { same = _; is = is_entered o.0.entered; follows = refl }
+arith_follows e CallPut b h o = record { same = _; is = is_entered o.0.0.entered; follows = refl }
+arith_follows e Full b h o = record { same = _; is = is_entered o.0.0; follows = refl }
+arith_follows e JumpPlus b h o = record { same = _; is = is_entered o.0.entered; follows = refl }
 arith_follows e Load b h o = record { same = _; is = is_entered o.0.entered; follows = refl }
 arith_follows e Add b h o = record { same = _; is = is_entered o.0.entered; follows = refl }
 arith_follows e SkipEq b h o = record { same = _; is = is_entered o.0.entered; follows = refl }
@@ -77,6 +103,7 @@ arith_addresses_run e l = runs_at e (OfArith l) (arith_addresses l) (arith_block
 
 blocks : List ArithBlock
 blocks =
+    System ∷ SystemLow ∷ SystemBack ∷ MachineCode ∷ Return ∷ ReturnTake ∷ Empty ∷ JumpTo ∷ Call ∷ CallPut ∷ Full ∷ JumpPlus ∷
     Load ∷ Add ∷ SkipEq ∷ SkipNe ∷ SkipSame ∷ SameTest ∷ SkipDiffer ∷ DifferTest ∷ NoSkip 0 ∷ NoSkip 1 ∷ NoSkip 2 ∷ NoSkip 3 ∷ Skip ∷ Unknown81 ∷
     Arith ∷ Operation 0 ∷ Operation 1 ∷ Operation 2 ∷ Operation 3 ∷ Operation 4 ∷ Operation 5 ∷ Operation 6 ∷ Operation 7 ∷ Operation 8 ∷
     Operation 9 ∷ Operation 10 ∷ Operation 11 ∷ Operation 12 ∷ Operation 13 ∷ Operation 14 ∷ Operation 15 ∷ Flag ∷ Unknown82 ∷
