@@ -28,12 +28,13 @@ use Rattle.rom_rows.specs.ArithBlocks.ArithBlock.{Arith, Operation, Flag, Unknow
 use Rattle.rom_rows.specs.Table.{calm_pieces, calm_top}
 use Rattle.rom_rows.specs.Table.Block.{OfArith}
 use Rattle.rom_rows.proofs.Digits.{by_digit}
-use Rattle.rom_rows.proofs.Bytes.{quick, stack_top_is, variables_is}
+use Rattle.rom_rows.proofs.Bytes.{stack_top_is, variables_is}
 use Rattle.rom_rows.proofs.Entry.{ready, entered, is_entered, low_fits}
 use Rattle.rom_rows.proofs.Follows.{to_fetch, to_arith}
 use Rattle.rom_rows.proofs.Sounds.{some}
 use Rattle.rom_rows.proofs.Steps.{steps}
 use Rattle.rom_rows.proofs.Straight.{routine}
+use Rattle.rom_arith.proofs.Rom.{quick}
 use Rattle.rom_arith.proofs.Shared.{byte_x, byte_y, is_vx, is_vy, ending}
 
 module _ (e : Edition) (b : Machine) (h : Since) (f : FitsMachine b) where

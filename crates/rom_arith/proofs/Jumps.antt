@@ -26,11 +26,12 @@ use Rattle.rom_rows.specs.Table.{calm_pieces}
 use Rattle.rom_rows.specs.Table.Block.{OfArith}
 use Rattle.rom_rows.proofs.Bits.{xor_same, xor_other, nonzero, is_zero}
 use Rattle.rom_rows.proofs.Branches.{branch, looked, looks}
-use Rattle.rom_rows.proofs.Bytes.{both, quick, page_fits, stack_top_is, variables_is}
+use Rattle.rom_rows.proofs.Bytes.{page_fits, stack_top_is, variables_is}
 use Rattle.rom_rows.proofs.Entry.{low_fits}
 use Rattle.rom_rows.proofs.Follows.{to_fetch, to_arith, to_sprite}
 use Rattle.rom_rows.proofs.Straight.{routine}
 use Rattle.rom_rows.proofs.Steps.{steps}
+use Rattle.rom_arith.proofs.Rom.{both, quick}
 
 module _ (e : Edition) (b : Machine) (h : Since) (f : FitsMachine b) where
   abbrev high : ℕ

@@ -13,15 +13,16 @@ use Rattle.rom_rows.specs.Table.Block.{OfArith}
 use Rattle.rom_law.specs.Rows.{Since, now}
 use Rattle.rom_law.proofs.Kept.{Comes}
 use Rattle.rom_rows.proofs.Addresses.{Follows, runs_at, covers}
-use Rattle.rom_rows.proofs.Bytes.{quick}
 use Rattle.rom_rows.proofs.Digits.{by_digit}
 use Rattle.rom_rows.proofs.Entry.{is_entered}
 use Rattle.rom_rows.proofs.Sounds.{block_rows}
+use Rattle.rom_arith.proofs.Rom.{both_is, both_fits, quick}
 use Rattle.rom_arith.specs.Laws.{ArithRows, ArithAddresses, ArithCovers}
 use Rattle.rom_arith.proofs.Jumps.{system_comes, system_low_comes, system_back_comes, machine_comes, return_comes, return_take_comes, empty_comes, jump_comes, call_comes, call_put_comes, full_comes, jump_plus_comes}
 use Rattle.rom_arith.proofs.Loads.{load_comes, add_comes}
 use Rattle.rom_arith.proofs.Skips.{eq_comes, ne_comes, skip_same_comes, same_comes, skip_differ_comes, differ_comes, no_skip_comes, skip_comes, unknown81_comes}
 use Rattle.rom_arith.proofs.Arithmetic.{arith_comes, operation_comes, flag_comes, unknown82_comes}
+use Rattle.rom_arith.specs.Code.{arith_rom}
 
 pub arith_block : (e : Edition) (l : ArithBlock) (b : Machine) (h : Since) → FitsMachine b → Head (quick e) (OfArith l) b h → Comes (quick e) (calm_pieces (quick e)) (OfArith l) b h
 arith_block e System b h f o = system_comes e b h f o.0 o.1
@@ -52,11 +53,11 @@ arith_block e (Operation n) b h f o = operation_comes e b h f n o.0.0 o.0.1 o.0.
 arith_block e Flag b h f o = flag_comes e b h f o.0
 arith_block e Unknown82 b h f o = unknown82_comes e b h f o.0.0 o.0.1 o.1
 
-pub main_rows : ArithRows
-main_rows e l = block_rows e (OfArith l) (arith_block e l)
+pub main_rows : ArithRows arith_rom
+main_rows e l = block_rows e (both_is e) (both_fits e) (OfArith l) (arith_block e l)
 
 module _ (e : Edition) (b : Machine) (h : Since) where
-  no_skip_follows : (i : ℕ) → i < 4 → Entered (quick e) (slice_index no_skip_labels i) b (now h) → Follows e (OfArith (NoSkip i)) (arith_addresses (NoSkip i)) b
+  no_skip_follows : (i : ℕ) → i < 4 → Entered (quick e) (slice_index no_skip_labels i) b (now h) → Follows (quick e) (OfArith (NoSkip i)) (arith_addresses (NoSkip i)) b
   no_skip_follows zero l o = record { same = _; is = is_entered o; follows = refl }
   no_skip_follows (suc zero) l o = record { same = _; is = is_entered o; follows = refl }
   no_skip_follows (suc (suc zero)) l o = record { same = _; is = is_entered o; follows = refl }
@@ -64,12 +65,12 @@ module _ (e : Edition) (b : Machine) (h : Since) where
   no_skip_follows (suc (suc (suc (suc i)))) l o = absurd (omega (arith, l))
 
   abbrev SlotFollows : ℕ → Type 0
-  SlotFollows n = Entered (quick e) (at_slot0 + 2 * n) b (now h) → Follows e (OfArith (Operation n)) (arith_addresses (Operation n)) b
+  SlotFollows n = Entered (quick e) (at_slot0 + 2 * n) b (now h) → Follows (quick e) (OfArith (Operation n)) (arith_addresses (Operation n)) b
 
   slot_follows : (n : ℕ) → low_byte (now h) % 16 ≡ n → SlotFollows n
   slot_follows n is = by_digit SlotFollows (λ o. record { same = _; is = is_entered o; follows = refl }) (λ o. record { same = _; is = is_entered o; follows = refl }) (λ o. record { same = _; is = is_entered o; follows = refl }) (λ o. record { same = _; is = is_entered o; follows = refl }) (λ o. record { same = _; is = is_entered o; follows = refl }) (λ o. record { same = _; is = is_entered o; follows = refl }) (λ o. record { same = _; is = is_entered o; follows = refl }) (λ o. record { same = _; is = is_entered o; follows = refl }) (λ o. record { same = _; is = is_entered o; follows = refl }) (λ o. record { same = _; is = is_entered o; follows = refl }) (λ o. record { same = _; is = is_entered o; follows = refl }) (λ o. record { same = _; is = is_entered o; follows = refl }) (λ o. record { same = _; is = is_entered o; follows = refl }) (λ o. record { same = _; is = is_entered o; follows = refl }) (λ o. record { same = _; is = is_entered o; follows = refl }) (λ o. record { same = _; is = is_entered o; follows = refl }) n (omega (arith, is))
 
-arith_follows : (e : Edition) (l : ArithBlock) (b : Machine) (h : Since) → Head (quick e) (OfArith l) b h → Follows e (OfArith l) (arith_addresses l) b
+arith_follows : (e : Edition) (l : ArithBlock) (b : Machine) (h : Since) → Head (quick e) (OfArith l) b h → Follows (quick e) (OfArith l) (arith_addresses l) b
 arith_follows e System b h o = record { same = _; is = is_entered o.0.entered; follows = refl }
 arith_follows e SystemLow b h o = record { same = _; is = is_entered o.0.0; follows = refl }
 arith_follows e SystemBack b h o = record { same = _; is = is_entered o.0.0; follows = refl }
@@ -98,8 +99,8 @@ arith_follows e (Operation n) b h o = slot_follows e b h n o.0.1 o.0.0.entered
 arith_follows e Flag b h o = record { same = _; is = is_entered o.0.entered; follows = refl }
 arith_follows e Unknown82 b h o = record { same = _; is = is_entered o.0.0; follows = refl }
 
-pub arith_addresses_run : ArithAddresses
-arith_addresses_run e l = runs_at e (OfArith l) (arith_addresses l) (arith_block e l) (arith_follows e l)
+pub arith_addresses_run : ArithAddresses arith_rom
+arith_addresses_run e l = runs_at e (both_is e) (both_fits e) (OfArith l) (arith_addresses l) (arith_block e l) (arith_follows e l)
 
 blocks : List ArithBlock
 blocks =

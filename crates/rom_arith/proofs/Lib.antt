@@ -1,3 +1,4 @@
+pub mod Rom
 pub mod Jumps
 pub mod Shared
 pub mod Loads

@@ -14,9 +14,10 @@ use Rattle.rom_rows.specs.Heads.{high_byte, low_byte, page_of, Enters}
 use Rattle.rom_rows.specs.ArithBlocks.ArithBlock.{Load, Add}
 use Rattle.rom_rows.specs.Table.{calm_pieces}
 use Rattle.rom_rows.specs.Table.Block.{OfArith}
-use Rattle.rom_rows.proofs.Bytes.{both, quick, stack_top_is, variables_is}
+use Rattle.rom_rows.proofs.Bytes.{stack_top_is, variables_is}
 use Rattle.rom_rows.proofs.Straight.{routine}
 use Rattle.rom_rows.proofs.Steps.{steps}
+use Rattle.rom_arith.proofs.Rom.{both, quick}
 
 module _ (e : Edition) (b : Machine) (h : Since) (f : FitsMachine b) where
   abbrev high : ℕ

@@ -20,10 +20,11 @@ use Rattle.rom_law.proofs.Kept.{Comes}
 use Rattle.rom_rows.specs.Heads.{high_byte, low_byte, page_of, Entered}
 use Rattle.rom_rows.specs.ArithBlocks.{has_shared_end, Ending}
 use Rattle.rom_rows.specs.Table.{Block, moves, calm_pieces, calm_top}
-use Rattle.rom_rows.proofs.Bytes.{both, quick, variables_is}
+use Rattle.rom_rows.proofs.Bytes.{variables_is}
 use Rattle.rom_rows.proofs.Entry.{entered, low_fits}
 use Rattle.rom_rows.proofs.Straight.{routine}
 use Rattle.rom_rows.proofs.Steps.{is_prompt, steps}
+use Rattle.rom_arith.proofs.Rom.{both, quick}
 
 -- ---- VX and VY
 

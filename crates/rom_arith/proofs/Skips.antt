@@ -25,10 +25,11 @@ use Rattle.rom_rows.specs.Table.{calm_pieces, calm_top}
 use Rattle.rom_rows.specs.Table.Block.{OfArith}
 use Rattle.rom_rows.proofs.Bits.{same_xor, other_xor, nonzero, is_zero}
 use Rattle.rom_rows.proofs.Branches.{branch, looked, looks}
-use Rattle.rom_rows.proofs.Bytes.{quick, memory_end_is, stack_top_is, page_fits}
+use Rattle.rom_rows.proofs.Bytes.{memory_end_is, stack_top_is, page_fits}
 use Rattle.rom_rows.proofs.Entry.{entered, is_inside}
 use Rattle.rom_rows.proofs.Follows.{to_fetch, to_arith}
 use Rattle.rom_rows.proofs.Straight.{routine}
+use Rattle.rom_arith.proofs.Rom.{quick}
 use Rattle.rom_arith.proofs.Shared.{byte_x, byte_y, is_vx, is_vy, ending}
 
 -- XOR tests whether two bytes are the same

@@ -12,12 +12,13 @@ use Rattle.rom_rows.specs.FetchBlocks.FetchBlock.{Fetch, Upper, Inside, Outside,
 use Rattle.rom_rows.specs.Table.{Head}
 use Rattle.rom_rows.specs.Table.Block.{OfFetch}
 use Rattle.rom_rows.proofs.Addresses.{follows, Follows, runs_at, covers}
-use Rattle.rom_rows.proofs.Bytes.{quick}
 use Rattle.rom_rows.proofs.Entry.{on_4, is_on_4, on_3, is_on_3}
+use Rattle.rom_fetch.proofs.Rom.{both_is, both_fits, quick}
 use Rattle.rom_fetch.specs.Laws.{FetchAddresses, FetchCovers}
 use Rattle.rom_fetch.proofs.Law.{fetch_block}
+use Rattle.rom_fetch.specs.Code.{fetch_rom}
 
-fetch_follows : (e : Edition) (l : FetchBlock) (b : Machine) (h : Since) → Head (quick e) (OfFetch l) b h → Follows e (OfFetch l) (fetch_addresses l) b
+fetch_follows : (e : Edition) (l : FetchBlock) (b : Machine) (h : Since) → Head (quick e) (OfFetch l) b h → Follows (quick e) (OfFetch l) (fetch_addresses l) b
 fetch_follows e Fetch b h o = record { same = on_4 (word_of at_fetch) b; is = is_on_4 o.0; follows = refl }
 fetch_follows e Upper b h o = record { same = on_4 (word_of at_upper) b; is = is_on_4 o.0.0; follows = refl }
 fetch_follows e Inside b h o = record { same = on_4 (word_of at_inside) b; is = is_on_4 o.0.0; follows = refl }
@@ -28,8 +29,8 @@ fetch_follows e (Leave i) b h o = record { same = on_3 (at_leave81 + 0x100 * i) 
 fetch_follows e Stop b h o = record { same = on_3 at_stop b; is = is_on_3 at_stop b o.0.p o.0.r3; follows = refl }
 fetch_follows e Stopped b h o = record { same = on_3 at_stopped b; is = is_on_3 at_stopped b o.0.p o.0.r3; follows = refl }
 
-pub addresses : FetchAddresses
-addresses e l = runs_at e (OfFetch l) (fetch_addresses l) (fetch_block e l) (fetch_follows e l)
+pub addresses : FetchAddresses fetch_rom
+addresses e l = runs_at e (both_is e) (both_fits e) (OfFetch l) (fetch_addresses l) (fetch_block e l) (fetch_follows e l)
 
 blocks : List FetchBlock
 blocks =

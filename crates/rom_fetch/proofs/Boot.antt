@@ -15,8 +15,10 @@ use Rattle.rom_law.proofs.First.{first_lies}
 use Rattle.rom_law.proofs.Boots.{is_quiet, Quiet, quiet_moves}
 use Rattle.rom_rows.specs.Rom.{program_of}
 use Rattle.rom_rows.specs.Heads.{by_edition, page_of}
-use Rattle.rom_rows.proofs.Bytes.{both, both_is, quick, stack_top_is}
+use Rattle.rom_rows.proofs.Bytes.{stack_top_is}
+use Rattle.rom_fetch.proofs.Rom.{both, both_is, quick}
 use Rattle.rom_fetch.specs.Laws.{boot_moves, EveryBoot}
+use Rattle.rom_fetch.specs.Code.{fetch_rom}
 
 module _ (e : Edition) (held : ℕ → Keys) (ram : List ℕ) where
   -- after so many moves from reset, with this RAM
@@ -75,5 +77,5 @@ boot_by : (e : Edition) (held : ℕ → Keys) (game : List ℕ) → length game 
 boot_by e held game room =
     (no_event e held (start game).ram, ap (λ (b : Machine). b.cycle) (boot_ends e held (start game).ram), subst (λ b. Dispatches (quick e) b (first e game)) (sym (boot_ends e held (start game).ram)) (booted_stands e held game room))
 
-pub every_boot : EveryBoot
+pub every_boot : EveryBoot fetch_rom
 every_boot e held game room = let p = subst (λ rom. BootBy e rom held game) (both_is e) (boot_by e held game room) in record { quiet = p.0; cycle = p.1; stands = p.2 }

@@ -27,9 +27,10 @@ use Rattle.rom_rows.specs.KeyBlocks.KeyBlock.{KeySkip}
 use Rattle.rom_rows.specs.Table.{calm_pieces, calm_top}
 use Rattle.rom_rows.specs.Table.Block.{OfFetch}
 use Rattle.rom_rows.proofs.Digits.{by_digit}
-use Rattle.rom_rows.proofs.Bytes.{both, quick, memory_end_is, stack_top_is, page_fits}
+use Rattle.rom_rows.proofs.Bytes.{memory_end_is, stack_top_is, page_fits}
 use Rattle.rom_rows.proofs.Entry.{ready, on_4, is_on_4, is_inside}
 use Rattle.rom_rows.proofs.Follows.{to_fetch, to_arith, to_arith, to_memory, to_sprite, to_timer, to_key}
+use Rattle.rom_fetch.proofs.Rom.{both, quick}
 
 -- ---- the table
 

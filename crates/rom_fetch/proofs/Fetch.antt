@@ -17,9 +17,10 @@ use Rattle.rom_rows.specs.Heads.{page_of, Fetching}
 use Rattle.rom_rows.specs.FetchBlocks.FetchBlock.{Fetch, Upper, Inside, Outside}
 use Rattle.rom_rows.specs.Table.{calm_pieces, calm_top}
 use Rattle.rom_rows.specs.Table.Block.{OfFetch}
-use Rattle.rom_rows.proofs.Bytes.{quick, memory_end_is, page_fits}
+use Rattle.rom_rows.proofs.Bytes.{memory_end_is, page_fits}
 use Rattle.rom_rows.proofs.Entry.{ready, on_4, is_on_4}
 use Rattle.rom_rows.proofs.Follows.{to_fetch}
+use Rattle.rom_fetch.proofs.Rom.{quick}
 
 -- the branch on DF = 0
 taken : (n : ℕ) (a c : Word) → n ≡ 0 → cond (not (n == 1)) a c ≡ a

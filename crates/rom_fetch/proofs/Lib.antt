@@ -1,3 +1,4 @@
+pub mod Rom
 pub mod Fetch
 pub mod Dispatch
 pub mod Stops

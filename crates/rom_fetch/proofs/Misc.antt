@@ -23,9 +23,9 @@ use Rattle.rom_rows.specs.KeyBlocks.KeyBlock.{WaitKey}
 use Rattle.rom_rows.specs.Table.{calm_pieces, calm_top}
 use Rattle.rom_rows.specs.Table.Block.{OfFetch}
 use Rattle.rom_rows.proofs.Bits.{same_xor, other_xor, taken, passed}
-use Rattle.rom_rows.proofs.Bytes.{quick}
 use Rattle.rom_rows.proofs.Entry.{ready, entered, is_entered}
 use Rattle.rom_rows.proofs.Follows.{to_fetch, to_memory, to_timer, to_timer_place, to_key}
+use Rattle.rom_fetch.proofs.Rom.{quick}
 
 -- one code more wasn't met
 none_more : (i kk : ℕ) → NoneOf i kk → (kk ≡ slice_index misc_codes i → ⊥) → NoneOf (suc i) kk

@@ -22,10 +22,11 @@ use Rattle.rom_rows.specs.Heads.{Fetching, Leaving, Stopping}
 use Rattle.rom_rows.specs.FetchBlocks.FetchBlock.{Outside, Leave, Stop, Stopped}
 use Rattle.rom_rows.specs.Table.{calm_pieces, calm_top}
 use Rattle.rom_rows.specs.Table.Block.{OfFetch}
-use Rattle.rom_rows.proofs.Bytes.{quick, page_low}
+use Rattle.rom_rows.proofs.Bytes.{page_low}
 use Rattle.rom_rows.proofs.Entry.{ready, on_4, is_on_4, on_3, is_on_3}
 use Rattle.rom_rows.proofs.Follows.{to_fetch}
 use Rattle.rom_rows.proofs.Steps.{stop_ticks}
+use Rattle.rom_fetch.proofs.Rom.{quick}
 
 outside_stop : (e : Edition) (s : Lang) → is_fetchable e s ≡ false → stop_of e s ≡ Some FetchOutside
 outside_stop e s h = rw h refl

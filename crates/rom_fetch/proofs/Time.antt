@@ -18,13 +18,14 @@ use Rattle.rom_rows.specs.FetchBlocks.{FetchBlock, misc_labels}
 use Rattle.rom_rows.specs.FetchBlocks.FetchBlock.{Fetch, Upper, Inside, Outside, Misc, Unknown83, Leave, Stop, Stopped}
 use Rattle.rom_rows.specs.Table.{pieces}
 use Rattle.rom_rows.specs.Table.Block.{OfFetch}
-use Rattle.rom_rows.proofs.Bytes.{both, both_is, quick}
 use Rattle.rom_rows.proofs.Calm.{comes_calm}
 use Rattle.rom_rows.proofs.Entry.{on_4, is_on_4, on_3, is_on_3}
 use Rattle.rom_rows.proofs.Later.{ticks_fetchable}
 use Rattle.rom_rows.proofs.Sounds.{sound}
+use Rattle.rom_fetch.proofs.Rom.{both, both_is, quick, both_fits}
 use Rattle.rom_fetch.specs.Laws.{DispatchTime}
 use Rattle.rom_fetch.proofs.Law.{fetch_block}
+use Rattle.rom_fetch.specs.Code.{fetch_rom}
 
 -- P is p at the first k machines
 abbrev stays : Code → ℕ → ℕ → Machine → Bool
@@ -58,11 +59,11 @@ module _ (e : Edition) {l : FetchBlock} (u : Input) (b : Machine) (h : Since) (r
 
   -- where the block's machines have P = 3, P isn't 4
   late : (c : Machine) (m : ℕ) → r.start ≡ c → stays (code (quick e)) 3 m c ≡ true → r.k < m → b.regs.p ≡ 4 → ⊥
-  late c m is s l p = omega (arith, p, block_p (quick e) (pieces (quick e)) (sound e) r comes ∙ ap (λ z. (quicks (code (quick e)) r.k z).regs.p) is ∙ stays_at (code (quick e)) 3 m c s r.k l)
+  late c m is s l p = omega (arith, p, block_p (quick e) (pieces (quick e)) (sound e refl (both_fits e)) r comes ∙ ap (λ z. (quicks (code (quick e)) r.k z).regs.p) is ∙ stays_at (code (quick e)) 3 m c s r.k l)
 
   -- where P stays 4, it isn't 3 after the move
   early : (c : Machine) (m : ℕ) → r.start ≡ c → stays (code (quick e)) 4 m c ≡ true → suc r.k < m → (moved (code (quick e)) u b).regs.p ≡ 3 → ⊥
-  early c m is s l p = omega (arith, p, moved_p (quick e) (pieces (quick e)) (sound e) r comes u ∙ ap (λ z. (quicks (code (quick e)) (suc r.k) z).regs.p) is ∙ stays_at (code (quick e)) 4 m c s (suc r.k) l)
+  early c m is s l p = omega (arith, p, moved_p (quick e) (pieces (quick e)) (sound e refl (both_fits e)) r comes u ∙ ap (λ z. (quicks (code (quick e)) (suc r.k) z).regs.p) is ∙ stays_at (code (quick e)) 4 m c s (suc r.k) l)
 
   -- the opcode lies in game memory at the head too
   inside_then : is_fetchable e h.state ≡ true → is_fetchable e (now r.since) ≡ true
@@ -83,5 +84,5 @@ time_by e (Leave n) u b h r i p q = absurd (late e u b h r (on_3 (at_leave81 + 0
 time_by e Stop u b h r i p q = absurd (late e u b h r (on_3 at_stop r.start) 2 (is_on_3 at_stop r.start r.head.0.p r.head.0.r3) refl r.inside p)
 time_by e Stopped u b h r i p q = absurd (late e u b h r (on_3 at_stopped r.start) 6 (is_on_3 at_stopped r.start r.head.0.p r.head.0.r3) refl r.inside p)
 
-pub dispatch_time : DispatchTime
+pub dispatch_time : DispatchTime fetch_rom
 dispatch_time e l = subst (λ rom. TimeBy e rom l) (both_is e) (time_by e l)

@@ -10,29 +10,29 @@ use Rattle.chip8_image.specs.declared.TheConstants.{DISPATCH}
 use Rattle.rom_moves.specs.Code.{Input, moved}
 use Rattle.rom_law.specs.Program.{code, Dispatches}
 use Rattle.rom_law.specs.Rows.{Since, InBlock, after_main}
-use Rattle.rom_rows.specs.Rom.{image, vip}
+use Rattle.rom_rows.specs.Rom.{interpreter_of, program_of}
 use Rattle.rom_rows.specs.FetchBlocks.{FetchBlock, fetch_moves, fetch_addresses, fetch_areas}
 use Rattle.rom_rows.specs.Table.{pieces, BlockRows}
 use Rattle.rom_rows.specs.Table.Block.{OfFetch}
 use Rattle.rom_rows.specs.Addresses.{RunsAt, Covers}
 
 -- every main move keeps the rows of the fetch, of the dispatch and of the stops
-abbrev pub FetchRows : Type 0
-FetchRows = (e : Edition) (l : FetchBlock) → BlockRows (vip e) (OfFetch l)
+abbrev pub FetchRows : (Edition → List ℕ) → Type 0
+FetchRows rom = (e : Edition) (l : FetchBlock) → BlockRows (program_of e (rom e)) (OfFetch l)
 
 -- Where a main move takes P from 4 to 3 for an opcode in game memory, exactly DISPATCH main cycles have passed since the dispatch point.
-abbrev pub DispatchTime : Type 0
-DispatchTime =
+abbrev pub DispatchTime : (Edition → List ℕ) → Type 0
+DispatchTime rom =
     (e : Edition) (l : FetchBlock) (u : Input) (b : Machine) (h : Since)
-    → InBlock (vip e) (pieces (vip e)) (OfFetch l) b h
+    → InBlock (program_of e (rom e)) (pieces (program_of e (rom e))) (OfFetch l) b h
     → is_fetchable e h.state ≡ true
     → b.regs.p ≡ 4
-    → (moved (code (vip e)) u b).regs.p ≡ 3
+    → (moved (code (program_of e (rom e))) u b).regs.p ≡ 3
     → (after_main u h).spent ≡ DISPATCH
 
 -- in those rows the program counter is at the block's addresses in turn
-abbrev pub FetchAddresses : Type 0
-FetchAddresses = (e : Edition) (l : FetchBlock) → RunsAt (vip e) (OfFetch l) (fetch_addresses l)
+abbrev pub FetchAddresses : (Edition → List ℕ) → Type 0
+FetchAddresses rom = (e : Edition) (l : FetchBlock) → RunsAt (program_of e (rom e)) (OfFetch l) (fetch_addresses l)
 
 -- and each instruction of that code is in some block
 abbrev pub FetchCovers : Type 0
@@ -44,10 +44,10 @@ boot_moves = 28
 
 -- From reset, whatever keys are down, boot comes to the first dispatch point at cycle 56: the game's first state lies there, and there
 -- is no event before.
-pub record Boot (e : Edition) (held : ℕ → Keys) (game : List ℕ) : Type 0 where
-  pub quiet : (m : ℕ) → m < boot_moves → (is_dispatch (vip e).interpreter (after_moves (image e) held (start game) m) ≡ false) × (is_stop (vip e).interpreter (after_moves (image e) held (start game) m) ≡ false)
-  pub cycle : (after_moves (image e) held (start game) boot_moves).cycle ≡ 56
-  pub stands : Dispatches (vip e) (after_moves (image e) held (start game) boot_moves) (first e game)
+pub record Boot (e : Edition) (rom : List ℕ) (held : ℕ → Keys) (game : List ℕ) : Type 0 where
+  pub quiet : (m : ℕ) → m < boot_moves → (is_dispatch (interpreter_of rom) (after_moves rom held (start game) m) ≡ false) × (is_stop (interpreter_of rom) (after_moves rom held (start game) m) ≡ false)
+  pub cycle : (after_moves rom held (start game) boot_moves).cycle ≡ 56
+  pub stands : Dispatches (program_of e rom) (after_moves rom held (start game) boot_moves) (first e game)
 
-abbrev pub EveryBoot : Type 0
-EveryBoot = (e : Edition) (held : ℕ → Keys) (game : List ℕ) → length game ≤ memory_size e → Boot e held game
+abbrev pub EveryBoot : (Edition → List ℕ) → Type 0
+EveryBoot rom = (e : Edition) (held : ℕ → Keys) (game : List ℕ) → length game ≤ memory_size e → Boot e (rom e) held game

@@ -12,14 +12,15 @@ use Rattle.rom_rows.specs.KeyBlocks.KeyPlace.{SkipTest, KeyTest, KeyHeld}
 use Rattle.rom_rows.specs.Table.{Head}
 use Rattle.rom_rows.specs.Table.Block.{OfKey}
 use Rattle.rom_rows.proofs.Addresses.{Follows, runs_at, covers}
-use Rattle.rom_rows.proofs.Bytes.{quick}
 use Rattle.rom_rows.proofs.Entry.{is_entered, on_3, is_on_3}
+use Rattle.rom_keys.proofs.Rom.{both_is, both_fits, quick}
 use Rattle.rom_keys.specs.Laws.{KeyAddresses, KeyPlaceAddresses, KeyCovers, KeyPiece, piece_moves, piece_addresses}
 use Rattle.rom_keys.specs.Laws.KeyPiece.{OfBlock, OfPlace}
 use Rattle.rom_keys.proofs.Law.{key_block}
 use Rattle.rom_keys.proofs.Waits.{is_turning}
+use Rattle.rom_keys.specs.Code.{keys_rom}
 
-follows : (e : Edition) (l : KeyBlock) (b : Machine) (h : Since) → Head (quick e) (OfKey l) b h → Follows e (OfKey l) (key_addresses l) b
+follows : (e : Edition) (l : KeyBlock) (b : Machine) (h : Since) → Head (quick e) (OfKey l) b h → Follows (quick e) (OfKey l) (key_addresses l) b
 follows e KeySkip b h o = record { same = _; is = is_entered o.0.entered; follows = refl }
 follows e KeySkipUp b h o = record { same = _; is = is_entered o.0.0.entered; follows = refl }
 follows e (SkipLatch true) b h o = record { same = _; is = is_entered o.0.0.entered; follows = refl }
@@ -32,14 +33,14 @@ follows e (KeyNext turn) b h o = record { same = _; is = is_turning o.0.0; follo
 follows e (KeyCount turn) b h o = record { same = _; is = is_entered o.0.0.waiting.enters.entered; follows = refl }
 follows e KeyFreed b h o = record { same = _; is = is_entered o.0.0.enters.entered; follows = refl }
 
-pub addresses : KeyAddresses
-addresses e l = runs_at e (OfKey l) (key_addresses l) (key_block e l) (follows e l)
+pub addresses : KeyAddresses keys_rom
+addresses e l = runs_at e (both_is e) (both_fits e) (OfKey l) (key_addresses l) (key_block e l) (follows e l)
 
 -- the program counter where P is 3
 counter : (a : ℕ) (b : Machine) → b.regs.p ≡ 3 → b.regs.r.r3 ≡ word_of a → at b.regs b.regs.p ≡ value (word_of a)
 counter a b p r3 = ap (at b.regs) p ∙ ap value r3
 
-pub place_addresses : KeyPlaceAddresses
+pub place_addresses : KeyPlaceAddresses keys_rom
 place_addresses e (SkipTest true) b h o = counter (skip_test_label true) b o.0.0.p o.0.0.r3
 place_addresses e (SkipTest false) b h o = counter (skip_test_label false) b o.0.0.p o.0.0.r3
 place_addresses e (KeyTest turn) b h o = counter at_key_test b o.0.0.waiting.enters.entered.p o.0.0.waiting.enters.entered.r3

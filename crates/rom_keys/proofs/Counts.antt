@@ -6,6 +6,7 @@ use Rattle.rom_rows.specs.KeyBlocks.{JustUp, Turned}
 use Rattle.rom_keys.specs.Laws.{CountsOn, Within, NoneStays, StaysDown, GoesUp}
 use Rattle.rom_keys.specs.Laws.Scans.{UpTo, AtTest, Behind}
 use Rattle.rom_keys.proofs.Sets.{at_grown, let_go, let_go_grown, length_grown, turned_grown, length_more}
+use Rattle.rom_keys.specs.Code.{keys_rom}
 
 pub counts_on : CountsOn
 counts_on = record { none = λ cycle s. omega arith; main = λ u h c. omega (arith, c, length_more h.keys (u.held ∷ [])); tick = λ h c. c }
@@ -23,15 +24,15 @@ within turn more sets t count less p many k l = record { time = t.before + 7 * i
     same : i % 16 ≡ k
     same = omega (arith, l)
 
-pub none_stays : NoneStays
+pub none_stays : NoneStays keys_rom
 none_stays e b h (UpTo turn r) c = within turn (0 + r.k) h.keys (turned_grown r.grows r.head.0.1) (omega (arith, c, r.head.1, r.grows.spent)) (omega (arith, r.inside))
 none_stays e b h (AtTest turn o) c = within turn 4 h.keys o.0.2 (omega (arith, c, o.1)) (omega arith)
 none_stays e b h (Behind turn r) c = within turn (5 + r.k) h.keys (turned_grown r.grows r.head.0.1) (omega (arith, c, r.head.1, r.grows.spent)) (omega (arith, r.inside))
 
-pub stays_down : StaysDown
+pub stays_down : StaysDown keys_rom
 stays_down e b h o = record { time = o.0.2.time; late = omega (arith, o.0.2.last); at = subst (λ k. IsAt h.keys o.0.2.time k true) (sym o.0.1) o.0.2.at }
 
-pub goes_up : GoesUp
+pub goes_up : GoesUp keys_rom
 goes_up e b h r = (let_go_grown r.grows (let_go was (omega arith)), record { time = was.time; late = omega (arith, was.last, length_grown r.grows, r.inside); at = at_grown r.grows was.down }, record { time = suc was.time; late = omega (arith, was.last, length_grown r.grows, r.inside); at = at_grown r.grows was.up })
   where
     was : JustUp r.since.keys (r.start.regs.r.re.lo % 16)

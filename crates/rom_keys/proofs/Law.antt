@@ -11,11 +11,12 @@ use Rattle.rom_rows.specs.KeyBlocks.KeyPlace.{SkipTest, KeyTest, KeyHeld}
 use Rattle.rom_rows.specs.Table.{Head, At, calm_pieces}
 use Rattle.rom_rows.specs.Table.Block.{OfKey}
 use Rattle.rom_rows.specs.Table.Place.{AtKey}
-use Rattle.rom_rows.proofs.Bytes.{quick}
 use Rattle.rom_rows.proofs.Sounds.{block_rows, place_rows}
+use Rattle.rom_keys.proofs.Rom.{both_is, both_fits, quick}
 use Rattle.rom_keys.specs.Laws.{KeyRows, KeyPlaceRows}
 use Rattle.rom_keys.proofs.Skips.{key_skip_comes, key_skip_up_comes, skip_latch_comes, skip_test_holds, no_skip_comes, skip_comes}
 use Rattle.rom_keys.proofs.Waits.{wait_key_comes, key_next_comes, key_test_holds, key_count_comes, key_held_holds, key_freed_comes}
+use Rattle.rom_keys.specs.Code.{keys_rom}
 
 pub key_block : (e : Edition) (l : KeyBlock) (b : Machine) (h : Since) → FitsMachine b → Head (quick e) (OfKey l) b h → Comes (quick e) (calm_pieces (quick e)) (OfKey l) b h
 key_block e KeySkip b h f o = key_skip_comes e b h f o.0 o.1
@@ -28,8 +29,8 @@ key_block e (KeyNext turn) b h f o = key_next_comes e b h f turn o.0.0 o.0.1 o.1
 key_block e (KeyCount turn) b h f o = key_count_comes e b h f turn o.0.0 o.0.1 o.0.2 o.1
 key_block e KeyFreed b h f o = key_freed_comes e b h f o.0.0 o.0.1
 
-pub key_rows : KeyRows
-key_rows e l = block_rows e (OfKey l) (key_block e l)
+pub key_rows : KeyRows keys_rom
+key_rows e l = block_rows e (both_is e) (both_fits e) (OfKey l) (key_block e l)
 
 pub key_place : (e : Edition) (l : KeyPlace) (b : Machine) (h : Since) → FitsMachine b → At (quick e) (AtKey l) b h → Holds (quick e) (calm_pieces (quick e)) (AtKey l) b h
 key_place e (SkipTest down) b h f o = skip_test_holds e b h f down o.0.0 o.0.1 o o.1
@@ -41,5 +42,5 @@ awake e (SkipTest down) b h o = o.0.0.holds.awake
 awake e (KeyTest turn) b h o = o.0.0.waiting.enters.entered.holds.awake
 awake e KeyHeld b h o = o.0.0.enters.entered.holds.awake
 
-pub key_place_rows : KeyPlaceRows
-key_place_rows e l = place_rows e (AtKey l) (key_place e l) (awake e l)
+pub key_place_rows : KeyPlaceRows keys_rom
+key_place_rows e l = place_rows e (both_is e) (both_fits e) (AtKey l) (key_place e l) (awake e l)

@@ -1,3 +1,4 @@
+pub mod Rom
 pub mod Sets
 pub mod Skips
 pub mod Waits

@@ -31,12 +31,13 @@ use Rattle.rom_rows.specs.Table.Place.{AtKey}
 use Rattle.rom_rows.proofs.Alone.{alone_forks, one_more}
 use Rattle.rom_rows.proofs.Bits.{same_xor, xor_same, xor_other, nonzero, is_zero}
 use Rattle.rom_rows.proofs.Branches.{branch, looked, looks}
-use Rattle.rom_rows.proofs.Bytes.{both, quick, page_fits, memory_end_is, stack_top_is, variables_is}
+use Rattle.rom_rows.proofs.Bytes.{page_fits, memory_end_is, stack_top_is, variables_is}
 use Rattle.rom_rows.proofs.Entry.{entered, is_entered, on_3, is_on_3, is_inside}
 use Rattle.rom_rows.proofs.Follows.{to_arith, to_key, to_key_place}
 use Rattle.rom_rows.proofs.Later.{ticks_variable}
 use Rattle.rom_rows.proofs.Steps.{steps_with}
 use Rattle.rom_rows.proofs.Ways.{straight}
+use Rattle.rom_keys.proofs.Rom.{both, quick}
 use Rattle.rom_keys.proofs.Sets.{some_grown, some_last, last_set}
 
 module _ (e : Edition) (b : Machine) (h : Since) (f : FitsMachine b) where

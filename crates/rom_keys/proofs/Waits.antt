@@ -29,12 +29,13 @@ use Rattle.rom_rows.specs.Table.{At, calm_pieces}
 use Rattle.rom_rows.specs.Table.Block.{OfKey}
 use Rattle.rom_rows.specs.Table.Place.{AtKey}
 use Rattle.rom_rows.proofs.Alone.{alone_forks, one_more}
-use Rattle.rom_rows.proofs.Bytes.{both, quick, page_fits, stack_top_is, variables_is}
+use Rattle.rom_rows.proofs.Bytes.{page_fits, stack_top_is, variables_is}
 use Rattle.rom_rows.proofs.Entry.{entered, is_entered}
 use Rattle.rom_rows.proofs.Follows.{to_key, to_key_place}
 use Rattle.rom_rows.proofs.Straight.{routine}
 use Rattle.rom_rows.proofs.Steps.{steps_with}
 use Rattle.rom_rows.proofs.Ways.{straight}
+use Rattle.rom_keys.proofs.Rom.{both, quick}
 use Rattle.rom_keys.proofs.Sets.{at_grown, let_go, let_go_grown, length_grown, turned_grown, last_set, length_more, is_at_more}
 
 -- ---- the sets of a turn

@@ -9,7 +9,7 @@ use Rattle.chip8_lang.specs.Between.{IsAt, LetGo}
 use Rattle.rom_moves.specs.Code.{Input}
 use Rattle.rom_law.specs.Program.{Program}
 use Rattle.rom_law.specs.Rows.{Since, InBlock, dispatched, after_main, after_tick}
-use Rattle.rom_rows.specs.Rom.{vip}
+use Rattle.rom_rows.specs.Rom.{program_of}
 use Rattle.rom_rows.specs.KeyBlocks.{KeyBlock, KeyPlace, key_moves, key_addresses, key_place_address, key_areas}
 use Rattle.rom_rows.specs.KeyBlocks.KeyBlock.{KeyNext, KeyCount, KeyFreed}
 use Rattle.rom_rows.specs.KeyBlocks.KeyPlace.{KeyTest, KeyHeld}
@@ -21,22 +21,22 @@ use Rattle.rom_rows.specs.Addresses.{RunsAt, Covers}
 -- ---- the rows
 
 -- every main move keeps the rows
-abbrev pub KeyRows : Type 0
-KeyRows = (e : Edition) (l : KeyBlock) → BlockRows (vip e) (OfKey l)
+abbrev pub KeyRows : (Edition → List ℕ) → Type 0
+KeyRows rom = (e : Edition) (l : KeyBlock) → BlockRows (program_of e (rom e)) (OfKey l)
 
-abbrev pub KeyPlaceRows : Type 0
-KeyPlaceRows = (e : Edition) (l : KeyPlace) → PlaceRows (vip e) (AtKey l)
+abbrev pub KeyPlaceRows : (Edition → List ℕ) → Type 0
+KeyPlaceRows rom = (e : Edition) (l : KeyPlace) → PlaceRows (program_of e (rom e)) (AtKey l)
 
 -- ---- the addresses
 
 -- in the rows of a block the program counter is at the block's addresses in turn, and at a place at its address
-abbrev pub KeyAddresses : Type 0
-KeyAddresses = (e : Edition) (l : KeyBlock) → RunsAt (vip e) (OfKey l) (key_addresses l)
+abbrev pub KeyAddresses : (Edition → List ℕ) → Type 0
+KeyAddresses rom = (e : Edition) (l : KeyBlock) → RunsAt (program_of e (rom e)) (OfKey l) (key_addresses l)
 
-abbrev pub KeyPlaceAddresses : Type 0
-KeyPlaceAddresses =
+abbrev pub KeyPlaceAddresses : (Edition → List ℕ) → Type 0
+KeyPlaceAddresses rom =
     (e : Edition) (l : KeyPlace) (b : Machine) (h : Since)
-    → At (vip e) (AtKey l) b h
+    → At (program_of e (rom e)) (AtKey l) b h
     → at b.regs b.regs.p ≡ key_place_address l
 
 -- a block or a place
@@ -89,10 +89,10 @@ pub data Scans (x : Program) (b : Machine) (h : Since) : Type 0 where
   Behind : (turn : ℕ) → InBlock x (pieces x) (OfKey (KeyCount turn)) b h → Scans x b h
 
 -- There no key is down in all of any 400 successive sets of K.
-abbrev pub NoneStays : Type 0
-NoneStays =
+abbrev pub NoneStays : (Edition → List ℕ) → Type 0
+NoneStays rom =
     (e : Edition) (b : Machine) (h : Since)
-    → Scans (vip e) b h
+    → Scans (program_of e (rom e)) b h
     → Counted h
     → (p : ℕ)
     → p + 400 ≤ length h.keys
@@ -101,14 +101,14 @@ NoneStays =
     → Within p 400 h.keys k false
 
 -- Where FX0A waits for the latched key to go up, that key is down in the last set of K.
-abbrev pub StaysDown : Type 0
-StaysDown =
+abbrev pub StaysDown : (Edition → List ℕ) → Type 0
+StaysDown rom =
     (e : Edition) (b : Machine) (h : Since)
-    → At (vip e) (AtKey KeyHeld) b h
+    → At (program_of e (rom e)) (AtKey KeyHeld) b h
     → Lately 1 h.keys b.key true
 
 -- Behind its last test, its key is down in some set of K and up in some later one: down in one of the last five, and up in one of the last four.
-abbrev pub GoesUp : Type 0
-GoesUp =
-    (e : Edition) (b : Machine) (h : Since) (r : InBlock (vip e) (pieces (vip e)) (OfKey KeyFreed) b h)
+abbrev pub GoesUp : (Edition → List ℕ) → Type 0
+GoesUp rom =
+    (e : Edition) (b : Machine) (h : Since) (r : InBlock (program_of e (rom e)) (pieces (program_of e (rom e))) (OfKey KeyFreed) b h)
     → LetGo h.keys (r.start.regs.r.re.lo % 16) × Lately 5 h.keys (r.start.regs.r.re.lo % 16) true × Lately 4 h.keys (r.start.regs.r.re.lo % 16) false

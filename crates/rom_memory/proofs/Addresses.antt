@@ -11,14 +11,15 @@ use Rattle.rom_rows.specs.MemoryBlocks.MemoryBlock.{Index, AddIndex, Digit, Chec
 use Rattle.rom_rows.specs.Table.{Head}
 use Rattle.rom_rows.specs.Table.Block.{OfMemory}
 use Rattle.rom_rows.proofs.Addresses.{Follows, runs_at, covers}
-use Rattle.rom_rows.proofs.Bytes.{quick}
 use Rattle.rom_rows.proofs.Entry.{is_entered, on_3, is_on_3}
+use Rattle.rom_memory.proofs.Rom.{both_is, both_fits, quick}
 use Rattle.rom_memory.specs.Laws.{MemoryAddresses, MemoryCovers}
 use Rattle.rom_memory.proofs.Check.{is_checking, is_comparing}
 use Rattle.rom_memory.proofs.Found.{is_resumed}
 use Rattle.rom_memory.proofs.Law.{memory_block}
+use Rattle.rom_memory.specs.Code.{memory_rom}
 
-follows : (e : Edition) (l : MemoryBlock) (b : Machine) (h : Since) → Head (quick e) (OfMemory l) b h → Follows e (OfMemory l) (memory_addresses l) b
+follows : (e : Edition) (l : MemoryBlock) (b : Machine) (h : Since) → Head (quick e) (OfMemory l) b h → Follows (quick e) (OfMemory l) (memory_addresses l) b
 follows e Index b h o = record { same = _; is = is_entered o.0.entered; follows = refl }
 follows e AddIndex b h o = record { same = _; is = is_entered o.0.0.entered; follows = refl }
 follows e Digit b h o = record { same = _; is = is_entered o.0.0.entered; follows = refl }
@@ -50,8 +51,8 @@ follows e (RestoreFound Nowhere) b h o = record { same = _; is = is_resumed o.0;
 follows e (RestoreByte k) b h o = record { same = on_3 at_restore_byte b; is = is_on_3 at_restore_byte b o.0.0.p o.0.0.r3; follows = refl }
 follows e RestoreEnd b h o = record { same = on_3 at_restore_end b; is = is_on_3 at_restore_end b o.0.0.p o.0.0.r3; follows = refl }
 
-pub memory_addresses_run : MemoryAddresses
-memory_addresses_run e l = runs_at e (OfMemory l) (memory_addresses l) (memory_block e l) (follows e l)
+pub memory_addresses_run : MemoryAddresses memory_rom
+memory_addresses_run e l = runs_at e (both_is e) (both_fits e) (OfMemory l) (memory_addresses l) (memory_block e l) (follows e l)
 
 blocks : List MemoryBlock
 blocks =

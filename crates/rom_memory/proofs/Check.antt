@@ -27,9 +27,10 @@ use Rattle.rom_rows.specs.SpriteBlocks.SpriteBlock.{DrawFound}
 use Rattle.rom_rows.specs.Table.{calm_pieces, calm_top}
 use Rattle.rom_rows.specs.Table.Block.{OfMemory}
 use Rattle.rom_rows.proofs.Bits.{same_xor, xor_same, nonzero, is_zero, borrowed, not_borrowed}
-use Rattle.rom_rows.proofs.Bytes.{both, quick, memory_end_is, variables_is, stack_top_is, page_fits}
+use Rattle.rom_rows.proofs.Bytes.{memory_end_is, variables_is, stack_top_is, page_fits}
 use Rattle.rom_rows.proofs.Follows.{to_memory, to_sprite}
 use Rattle.rom_rows.proofs.Ways.{reached, forks}
+use Rattle.rom_memory.proofs.Rom.{both, quick}
 
 -- ---- a range of addresses
 

@@ -28,12 +28,13 @@ use Rattle.rom_rows.specs.MemoryBlocks.MemoryBlock.{Check, Store, StoreFound, St
 use Rattle.rom_rows.specs.Table.{calm_pieces, calm_top}
 use Rattle.rom_rows.specs.Table.Block.{OfMemory}
 use Rattle.rom_rows.proofs.Bits.{nonzero, is_zero}
-use Rattle.rom_rows.proofs.Bytes.{both, quick, memory_end_is, variables_is, stack_top_is, page_fits}
+use Rattle.rom_rows.proofs.Bytes.{memory_end_is, variables_is, stack_top_is, page_fits}
 use Rattle.rom_rows.proofs.Follows.{to_memory}
 use Rattle.rom_rows.proofs.Font.{Readable, readable_get}
 use Rattle.rom_rows.proofs.Straight.{routine}
 use Rattle.rom_rows.proofs.Ways.{straight, forks}
 use Rattle.rom_rows.proofs.Steps.{steps}
+use Rattle.rom_memory.proofs.Rom.{both, quick, both_font}
 use Rattle.rom_memory.proofs.Found.{is_resumed, refused}
 use Rattle.rom_memory.proofs.Lists.{stored_next, fetched_next, fetched_length, v_length, memory_bounds, readable_at}
 
@@ -189,7 +190,7 @@ module _ (e : Edition) (b : Machine) (h : Since) (f : FitsMachine b) where
         (i_set (v_set o.holds (value (word (page_of e) (0xf0 + k))) k byte (omega (arith, variables_is e)) (omega (arith, left))) (up b.regs.r.ra) (i + suc k) (omega (arith, source, readable, memory_end_is e, page_fits e, f.regs.r.ra.hi, f.regs.r.ra.lo)))
       where
         more : slice_set (bytes_from (now h) i k ++ drop k (now h).v) k byte ≡ bytes_from (now h) i (suc k) ++ drop (suc k) (now h).v
-        more = ap (slice_set (bytes_from (now h) i k ++ drop k (now h).v) k) (ap (read (both e) b.latch b.ram) source ∙ readable_get o.holds (i + k) readable) ∙ fetched_next (now h) i (now h).v k (omega (arith, left, fetched_length (now h) i k (now h).v, v_length o.holds))
+        more = ap (slice_set (bytes_from (now h) i k ++ drop k (now h).v) k) (ap (read (both e) b.latch b.ram) source ∙ readable_get (both_font e) o.holds (i + k) readable) ∙ fetched_next (now h) i (now h).v k (omega (arith, left, fetched_length (now h) i k (now h).v, v_length o.holds))
 
   pub restore_byte_comes : (k : ℕ) → Copying (quick e) ForRestore at_restore_byte (fetched_to k (now h)) b (now h) → Turn (quick e) k b (now h) → is_readable e i (last + 1) ≡ true → h.spent ≤ 214 + 12 * k → Comes (quick e) (calm_pieces (quick e)) (OfMemory (RestoreByte k)) b h
   restore_byte_comes k o t fits spent = forks (OfMemory (RestoreByte k)) o.holds (turning at_restore_byte k) (λ j. record b { regs = record b.regs { p = o.p j; r = record b.regs.r { r3 = o.r3 j; r4 = o.r4 j; rd = t.rd j } } }) (on_at (quicks (code (quick e)) 6 (turning at_restore_byte k))) (not (rest t == 0)) at_restore_byte at_restore_end (omega (arith, o.holds.stack, stack_top_is e, memory_end_is e, page_fits e, source o fits t.left, readable o fits t.left)) refl

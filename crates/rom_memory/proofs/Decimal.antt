@@ -27,12 +27,13 @@ use Rattle.rom_rows.specs.MemoryBlocks.{variable_x, Dividing}
 use Rattle.rom_rows.specs.MemoryBlocks.MemoryBlock.{Check, Decimal, DecimalFound, Hundreds, HundredsEnd, Tens, TensEnd}
 use Rattle.rom_rows.specs.Table.{calm_pieces, calm_top}
 use Rattle.rom_rows.specs.Table.Block.{OfMemory}
-use Rattle.rom_rows.proofs.Bytes.{quick, memory_end_is, stack_top_is, page_fits}
+use Rattle.rom_rows.proofs.Bytes.{memory_end_is, stack_top_is, page_fits}
 use Rattle.rom_rows.proofs.Entry.{on_3, is_on_3}
 use Rattle.rom_rows.proofs.Follows.{to_memory}
 use Rattle.rom_rows.proofs.Straight.{routine}
 use Rattle.rom_rows.proofs.Ways.{straight, forks}
 use Rattle.rom_rows.proofs.Steps.{steps}
+use Rattle.rom_memory.proofs.Rom.{quick}
 use Rattle.rom_memory.proofs.Index.{vx_get, vx_fits}
 use Rattle.rom_memory.proofs.Digits.{taken, counted}
 use Rattle.rom_memory.proofs.Found.{is_resumed, refused}

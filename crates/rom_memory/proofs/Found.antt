@@ -16,9 +16,9 @@ use Rattle.rom_rows.specs.Heads.{high_byte, page_of}
 use Rattle.rom_rows.specs.FetchBlocks.FetchBlock.{Leave}
 use Rattle.rom_rows.specs.Checks.{Caller, return_of, Answer, answer_number, Checked}
 use Rattle.rom_rows.specs.Table.{Block, moves, calm_pieces, calm_top}
-use Rattle.rom_rows.proofs.Bytes.{quick}
 use Rattle.rom_rows.proofs.Follows.{to_fetch}
 use Rattle.rom_rows.proofs.Ways.{reached}
+use Rattle.rom_memory.proofs.Rom.{quick}
 
 -- the machine back at the caller
 abbrev pub resumed : Edition → Caller → ℕ → ℕ → Machine → Machine

@@ -21,9 +21,10 @@ use Rattle.rom_rows.specs.MemoryBlocks.{variable_x}
 use Rattle.rom_rows.specs.MemoryBlocks.MemoryBlock.{Index, AddIndex, Digit}
 use Rattle.rom_rows.specs.Table.{calm_pieces}
 use Rattle.rom_rows.specs.Table.Block.{OfMemory}
-use Rattle.rom_rows.proofs.Bytes.{both, quick, variables_is, stack_top_is}
+use Rattle.rom_rows.proofs.Bytes.{variables_is, stack_top_is}
 use Rattle.rom_rows.proofs.Straight.{routine}
 use Rattle.rom_rows.proofs.Steps.{steps}
+use Rattle.rom_memory.proofs.Rom.{both, quick}
 
 -- ---- VX, where R6 points to it
 

@@ -8,13 +8,14 @@ use Rattle.rom_rows.specs.MemoryBlocks.{MemoryBlock}
 use Rattle.rom_rows.specs.MemoryBlocks.MemoryBlock.{Index, AddIndex, Digit, Check, CheckGame, CheckFont, CheckLow, Answering, Decimal, DecimalFound, Hundreds, HundredsEnd, Tens, TensEnd, Store, StoreFound, StoreByte, StoreEnd, Restore, RestoreFound, RestoreByte, RestoreEnd}
 use Rattle.rom_rows.specs.Table.{Head, calm_pieces}
 use Rattle.rom_rows.specs.Table.Block.{OfMemory}
-use Rattle.rom_rows.proofs.Bytes.{quick}
 use Rattle.rom_rows.proofs.Sounds.{block_rows}
+use Rattle.rom_memory.proofs.Rom.{both_is, both_fits, quick}
 use Rattle.rom_memory.specs.Laws.{MemoryRows}
 use Rattle.rom_memory.proofs.Index.{index_comes, add_index_comes, digit_comes}
 use Rattle.rom_memory.proofs.Check.{check_comes, check_game_comes, check_font_comes, check_low_comes, answering_comes}
 use Rattle.rom_memory.proofs.Decimal.{decimal_comes, decimal_found_comes, hundreds_comes, hundreds_end_comes, tens_comes, tens_end_comes}
 use Rattle.rom_memory.proofs.Copies.{store_comes, store_found_comes, store_byte_comes, store_end_comes, restore_comes, restore_found_comes, restore_byte_comes, restore_end_comes}
+use Rattle.rom_memory.specs.Code.{memory_rom}
 
 pub memory_block : (e : Edition) (l : MemoryBlock) (b : Machine) (h : Since) → FitsMachine b → Head (quick e) (OfMemory l) b h → Comes (quick e) (calm_pieces (quick e)) (OfMemory l) b h
 memory_block e Index b h f o = index_comes e b h f o.0
@@ -40,5 +41,5 @@ memory_block e (RestoreFound answer) b h f o = restore_found_comes e b h f answe
 memory_block e (RestoreByte k) b h f o = restore_byte_comes e b h f k o.0.0 o.0.1 o.0.2 o.1
 memory_block e RestoreEnd b h f o = restore_end_comes e b h f o.0.0 o.0.1
 
-pub memory_rows : MemoryRows
-memory_rows e l = block_rows e (OfMemory l) (memory_block e l)
+pub memory_rows : MemoryRows memory_rom
+memory_rows e l = block_rows e (both_is e) (both_fits e) (OfMemory l) (memory_block e l)

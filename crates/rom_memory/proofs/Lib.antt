@@ -1,3 +1,4 @@
+pub mod Rom
 pub mod Index
 pub mod Check
 pub mod Found

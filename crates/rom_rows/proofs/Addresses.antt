@@ -4,19 +4,18 @@ use Rattle.std.specs.Prelude.{◌==◌}
 use Rattle.std.proofs.lemmas.Bool.{and_parts, eqb-true, cases_eq}
 use Rattle.machine.specs.Instruction.{at}
 use Rattle.machine.specs.Board.{Machine}
-use Rattle.machine.specs.Ranges.{FitsMachine}
+use Rattle.machine.specs.Ranges.{FitsMachine, FitsRom}
 use Rattle.chip8_image.specs.Parts.{Area}
 use Rattle.chip8_lang.specs.declared.view.Edition.{Edition}
 use Rattle.rom_moves.specs.Code.{Code}
 use Rattle.rom_moves.proofs.Moves.{quicks}
-use Rattle.rom_law.specs.Program.{code}
+use Rattle.rom_law.specs.Program.{Program, code}
 use Rattle.rom_law.specs.Rows.{Since}
 use Rattle.rom_law.proofs.Kept.{Comes, block_at}
-use Rattle.rom_rows.specs.Rom.{vip, program_of}
+use Rattle.rom_rows.specs.Rom.{program_of}
 use Rattle.rom_rows.specs.Table.{Block, Head, moves, pieces, calm_pieces}
 use Rattle.rom_rows.specs.Addresses.{RunsAt, IsIn, begins, Covers}
 use Rattle.rom_rows.proofs.Calm.{comes_calm}
-use Rattle.rom_rows.proofs.Bytes.{both_is, quick}
 use Rattle.rom_rows.proofs.Sounds.{sound}
 
 -- ---- the program counter in a block
@@ -38,17 +37,17 @@ follows_at x l (suc k) b s j m = go (cases_eq j k) (follows_at x l k b parts.0 j
     go (inr d) before = before (omega (arith, m, d))
 
 -- the machine at a block's head is one from which the program counter goes as it should
-pub record Follows (e : Edition) (l : Block) (addresses : List ℕ) (b : Machine) : Type 0 where
+pub record Follows (x : Program) (l : Block) (addresses : List ℕ) (b : Machine) : Type 0 where
   pub same : Machine
   pub is : b ≡ same
-  pub follows : follows (code (quick e)) addresses (moves l) same ≡ true
+  pub follows : follows (code x) addresses (moves l) same ≡ true
 
-pub runs_at_in : (e : Edition) (l : Block) (addresses : List ℕ) → ((b : Machine) (h : Since) → FitsMachine b → Head (quick e) l b h → Comes (quick e) (pieces (quick e)) l b h) → ((b : Machine) (h : Since) → Head (quick e) l b h → Follows e l addresses b) → RunsAt (vip e) l addresses
-runs_at_in e l addresses comes goes = subst (λ rom. RunsAt (program_of e rom) l addresses) (both_is e) (λ b h r. let w = goes r.start r.since r.head in block_at (quick e) (pieces (quick e)) (sound e) r (comes r.start r.since r.fits r.head) ∙ ap (λ z. at (quicks (code (quick e)) r.k z).regs (quicks (code (quick e)) r.k z).regs.p) w.is ∙ follows_at (code (quick e)) addresses (moves l) w.same w.follows r.k r.inside)
+pub runs_at_in : (e : Edition) {rom last : List ℕ} → rom ≡ last → FitsRom rom → (l : Block) (addresses : List ℕ) → ((b : Machine) (h : Since) → FitsMachine b → Head (program_of e rom) l b h → Comes (program_of e rom) (pieces (program_of e rom)) l b h) → ((b : Machine) (h : Since) → Head (program_of e rom) l b h → Follows (program_of e rom) l addresses b) → RunsAt (program_of e last) l addresses
+runs_at_in e {rom = rom} same fits l addresses comes goes = subst (λ rom. RunsAt (program_of e rom) l addresses) same (λ b h r. let w = goes r.start r.since r.head in block_at (program_of e rom) (pieces (program_of e rom)) (sound e refl fits) r (comes r.start r.since r.fits r.head) ∙ ap (λ z. at (quicks (code (program_of e rom)) r.k z).regs (quicks (code (program_of e rom)) r.k z).regs.p) w.is ∙ follows_at (code (program_of e rom)) addresses (moves l) w.same w.follows r.k r.inside)
 
 -- the same of the calm pieces
-pub runs_at : (e : Edition) (l : Block) (addresses : List ℕ) → ((b : Machine) (h : Since) → FitsMachine b → Head (quick e) l b h → Comes (quick e) (calm_pieces (quick e)) l b h) → ((b : Machine) (h : Since) → Head (quick e) l b h → Follows e l addresses b) → RunsAt (vip e) l addresses
-runs_at e l addresses comes goes = runs_at_in e l addresses (λ b h f head. comes_calm (comes b h f head)) goes
+pub runs_at : (e : Edition) {rom last : List ℕ} → rom ≡ last → FitsRom rom → (l : Block) (addresses : List ℕ) → ((b : Machine) (h : Since) → FitsMachine b → Head (program_of e rom) l b h → Comes (program_of e rom) (calm_pieces (program_of e rom)) l b h) → ((b : Machine) (h : Since) → Head (program_of e rom) l b h → Follows (program_of e rom) l addresses b) → RunsAt (program_of e last) l addresses
+runs_at e same fits l addresses comes goes = runs_at_in e same fits l addresses (λ b h f head. comes_calm (comes b h f head)) goes
 
 -- ---- the block of an address
 

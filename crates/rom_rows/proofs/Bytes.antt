@@ -1,6 +1,6 @@
 -- Both ROMs as one list, so that code is run by computing for both editions at once: a byte in which they differ is a choice by the
 -- edition.
-use Rattle.std.proofs.Common.{◌≡◌, ℕ, zero, suc, ◌+◌, ◌*◌, ◌<◌, refl, sym, subst, lit<, Bool, true, ◌&&◌, List, [], ◌∷◌, cond, slice_index, nat_lt}
+use Rattle.std.proofs.Common.{◌≡◌, ℕ, zero, suc, ◌+◌, ◌*◌, ◌<◌, refl, sym, subst, lit<, Bool, true, ◌&&◌, List, [], ◌∷◌, length, cond, slice_index, nat_lt}
 use Rattle.std.specs.Prelude.{◌==◌}
 use Rattle.std.proofs.lemmas.Bool.{and_parts, ltb-true}
 use Rattle.machine.specs.Ranges.{FitsRom}
@@ -30,7 +30,7 @@ quick e = program_of e (both e)
 
 -- ---- the bytes are in range
 
-abbrev all_bytes : List ℕ → Bool
+abbrev pub all_bytes : List ℕ → Bool
 all_bytes [] = true
 all_bytes (a ∷ l) = nat_lt a 256 && all_bytes l
 
@@ -39,12 +39,13 @@ byte_fits [] h i = lit< tt
 byte_fits (a ∷ l) h zero = ltb-true a 256 (and_parts (nat_lt a 256) (all_bytes l) h).0
 byte_fits (a ∷ l) h (suc i) = byte_fits l (and_parts (nat_lt a 256) (all_bytes l) h).1 i
 
-image_fits : (e : Edition) → FitsRom (image e)
-image_fits Usual = record { size = refl; bytes = byte_fits IMAGE refl }
-image_fits Tall = record { size = refl; bytes = byte_fits TALL refl }
+-- where both are computed
+pub rom_fits : (rom : List ℕ) → length rom ≡ 2048 → all_bytes rom ≡ true → FitsRom rom
+rom_fits rom size bytes = record { size = size; bytes = byte_fits rom bytes }
 
 pub both_fits : (e : Edition) → FitsRom (both e)
-both_fits e = subst FitsRom (sym (both_is e)) (image_fits e)
+both_fits Usual = rom_fits (both Usual) refl refl
+both_fits Tall = rom_fits (both Tall) refl refl
 
 -- ---- the places of an edition
 

@@ -1,5 +1,5 @@
 -- The machine at the heads of blocks, with what is known of it filled in.
-use Rattle.std.proofs.Common.{◌≡◌, ℕ, ◌+◌, ◌/◌, ◌%◌, ◌<◌, ◌≤◌, arith, true}
+use Rattle.std.proofs.Common.{◌≡◌, ℕ, ◌+◌, ◌/◌, ◌%◌, ◌<◌, ◌≤◌, arith, true, List}
 use Rattle.std.proofs.lemmas.Bool.{and_parts, leb-true}
 use Rattle.machine.specs.Bank.{Word, word, word_of}
 use Rattle.machine.specs.Board.{Machine}
@@ -12,11 +12,11 @@ use Rattle.rom_law.specs.Program.{Program}
 use Rattle.rom_law.specs.Holding.{places, Holding}
 use Rattle.rom_law.specs.Rows.{Ready}
 use Rattle.rom_law.proofs.Places.{memory_fits}
+use Rattle.rom_rows.specs.Rom.{program_of}
 use Rattle.rom_rows.specs.Heads.{high_byte, low_byte, page_of, Fetching, Entered}
-use Rattle.rom_rows.proofs.Bytes.{quick}
 
 -- main code runs
-pub ready : {e : Edition} {b : Machine} {s : Lang} → Holding (quick e) (places b) s → Ready (quick e) b
+pub ready : {e : Edition} {rom : List ℕ} {b : Machine} {s : Lang} → Holding (program_of e rom) (places b) s → Ready (program_of e rom) b
 ready h = record { latch = h.latch; enabled = h.enabled; on = h.on; entry = h.entry }
 
 -- in the fetch
@@ -43,7 +43,7 @@ entered e a high low b =
 pub is_inside : (e : Edition) (s : Lang) → is_fetchable e s ≡ true → (0x200 ≤ s.pc) × (s.pc + 2 ≤ memory_end e)
 is_inside e s h = let p = and_parts _ _ h in (leb-true _ _ p.0, leb-true _ _ p.1)
 
-module _ {e : Edition} {a : ℕ} {b : Machine} {s : Lang} (o : Entered (quick e) a b s) where
+module _ {e : Edition} {rom : List ℕ} {a : ℕ} {b : Machine} {s : Lang} (o : Entered (program_of e rom) a b s) where
   pub is_entered : b ≡ entered e a (high_byte s) (low_byte s) b
   is_entered = λ i. record b { regs = record b.regs { p = o.p i; r = record b.regs.r { r3 = o.r3 i; r4 = o.r4 i; r6 = o.r6 i; r7 = o.r7 i; rc = o.rc i } } }
 

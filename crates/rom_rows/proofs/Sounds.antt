@@ -1,8 +1,8 @@
 -- The table is such that each group can be proved apart: each block has an instruction, and what is known at a place outlasts ticks. So a
 -- block's rows are kept by main moves where the block comes to what it should.
-use Rattle.std.proofs.Common.{◌≡◌, ℕ, ◌<◌, arith, subst, sym, ap, ◌%◌, ◌∙◌, true, false}
+use Rattle.std.proofs.Common.{◌≡◌, ℕ, ◌<◌, arith, subst, sym, ap, ◌%◌, ◌∙◌, true, false, List}
 use Rattle.machine.specs.Board.{Machine}
-use Rattle.machine.specs.Ranges.{FitsMachine}
+use Rattle.machine.specs.Ranges.{FitsMachine, FitsRom}
 use Rattle.chip8_lang.specs.declared.view.Edition.{Edition}
 use Rattle.chip8_lang.specs.Ticks.{ticks}
 use Rattle.rom_moves.specs.Later.{After}
@@ -35,7 +35,6 @@ use Rattle.rom_rows.specs.Table.{Block, Place as AnyPlace, Head, At, moves, piec
 use Rattle.rom_rows.specs.Table.Block.{OfFetch, OfArith, OfMemory, OfSprite, OfTimer, OfKey}
 use Rattle.rom_rows.specs.Table.Place.{AtTimer, AtKey, AtSprite}
 use Rattle.rom_rows.proofs.Calm.{comes_calm, holds_calm}
-use Rattle.rom_rows.proofs.Bytes.{both_is, both_fits, quick}
 use Rattle.rom_rows.proofs.Later.{enters_later, ticks_low, loaded_later, mixes_later, skip_key_later, skipping_later, waiting_later, turning_later, latched_later, counted_later, clearing_later, painting_later}
 
 fetch_some : (l : FetchBlock) → 0 < fetch_moves l
@@ -172,61 +171,62 @@ within_later (AtMost m) h n w = w
 within_later Anytime h n w = w
 within_later (Waited m) h n w = (w.0, omega (arith, w.1))
 
-module _ (e : Edition) where
-  later : (l : AnyPlace) (b : Machine) (h : Since) → FitsMachine b → At (quick e) l b h → b.regs.idle ≡ false → (n : ℕ) (c : Machine) → After (code (quick e)).low n b c → At (quick e) l c (after_ticks n h)
-  later (AtTimer l) b h f o i n c k = (subst (timer_place_at (quick e) l c) (ticks_add n h.ticks h.state) (timer_later l o.0), within_later (timer_place_time l) h n o.1)
+module _ (e : Edition) (rom : List ℕ) where
+  pub later : (l : AnyPlace) (b : Machine) (h : Since) → FitsMachine b → At (program_of e rom) l b h → b.regs.idle ≡ false → (n : ℕ) (c : Machine) → After (code (program_of e rom)).low n b c → At (program_of e rom) l c (after_ticks n h)
+  later (AtTimer l) b h f o i n c k = (subst (timer_place_at (program_of e rom) l c) (ticks_add n h.ticks h.state) (timer_later l o.0), within_later (timer_place_time l) h n o.1)
     where
-      timer_later : (l : TimerPlace) → timer_place_at (quick e) l b (now h) → timer_place_at (quick e) l c (ticks n (now h))
-      timer_later RandomCount p = (enters_later (quick e) n k f (now h) _ _ p.0, mixes_later (quick e) n k f (now h) p.1)
-      timer_later GetDelay p = (enters_later (quick e) n k f (now h) _ _ p.0, ticks_low n (now h) ∙ p.1)
-      timer_later SetDelayPut p = (enters_later (quick e) n k f (now h) _ _ p.0, ticks_low n (now h) ∙ p.1, loaded_later (quick e) n k f (now h) p.2)
-      timer_later SetSoundPut p = (enters_later (quick e) n k f (now h) _ _ p.0, ticks_low n (now h) ∙ p.1, loaded_later (quick e) n k f (now h) p.2)
-  later (AtKey l) b h f o i n c k = (subst (λ s. key_place_at (quick e) l c s h.keys) (ticks_add n h.ticks h.state) (key_later l o.0), within_later (key_place_time l) h n o.1)
+      timer_later : (l : TimerPlace) → timer_place_at (program_of e rom) l b (now h) → timer_place_at (program_of e rom) l c (ticks n (now h))
+      timer_later RandomCount p = (enters_later (program_of e rom) n k f (now h) _ _ p.0, mixes_later (program_of e rom) n k f (now h) p.1)
+      timer_later GetDelay p = (enters_later (program_of e rom) n k f (now h) _ _ p.0, ticks_low n (now h) ∙ p.1)
+      timer_later SetDelayPut p = (enters_later (program_of e rom) n k f (now h) _ _ p.0, ticks_low n (now h) ∙ p.1, loaded_later (program_of e rom) n k f (now h) p.2)
+      timer_later SetSoundPut p = (enters_later (program_of e rom) n k f (now h) _ _ p.0, ticks_low n (now h) ∙ p.1, loaded_later (program_of e rom) n k f (now h) p.2)
+  later (AtKey l) b h f o i n c k = (subst (λ s. key_place_at (program_of e rom) l c s h.keys) (ticks_add n h.ticks h.state) (key_later l o.0), within_later (key_place_time l) h n o.1)
     where
-      key_later : (l : KeyPlace) → key_place_at (quick e) l b (now h) h.keys → key_place_at (quick e) l c (ticks n (now h)) h.keys
-      key_later (SkipTest down) p = (skipping_later (quick e) n k f (now h) down _ p.0, latched_later (quick e) n k f (now h) ∙ p.1 ∙ sym (skip_key_later n (now h)))
-      key_later (KeyTest turn) p = (turning_later (quick e) n k f (now h) turn _ p.0, latched_later (quick e) n k f (now h) ∙ p.1, p.2)
-      key_later KeyHeld p = (waiting_later (quick e) n k f (now h) _ p.0, latched_later (quick e) n k f (now h) ∙ p.1 ∙ ap (λ y. y % 16) (sym (counted_later (quick e) n k f (now h))), subst (λ y. Last h.keys (y % 16) true) (sym (counted_later (quick e) n k f (now h))) p.2)
-  later (AtSprite l) b h f o i n c k = (subst (sprite_place_at (quick e) l c) (ticks_add n h.ticks h.state) (sprite_later l o.0), within_later (sprite_place_time l) h n o.1)
+      key_later : (l : KeyPlace) → key_place_at (program_of e rom) l b (now h) h.keys → key_place_at (program_of e rom) l c (ticks n (now h)) h.keys
+      key_later (SkipTest down) p = (skipping_later (program_of e rom) n k f (now h) down _ p.0, latched_later (program_of e rom) n k f (now h) ∙ p.1 ∙ sym (skip_key_later n (now h)))
+      key_later (KeyTest turn) p = (turning_later (program_of e rom) n k f (now h) turn _ p.0, latched_later (program_of e rom) n k f (now h) ∙ p.1, p.2)
+      key_later KeyHeld p = (waiting_later (program_of e rom) n k f (now h) _ p.0, latched_later (program_of e rom) n k f (now h) ∙ p.1 ∙ ap (λ y. y % 16) (sym (counted_later (program_of e rom) n k f (now h))), subst (λ y. Last h.keys (y % 16) true) (sym (counted_later (program_of e rom) n k f (now h))) p.2)
+  later (AtSprite l) b h f o i n c k = (subst (sprite_place_at (program_of e rom) l c) (ticks_add n h.ticks h.state) (sprite_later l o.0), within_later (sprite_place_time l) h n o.1)
     where
       asleep : true ≡ false → ⊥
       asleep r = cc
 
-      sprite_later : (l : SpritePlace) → sprite_place_at (quick e) l b (now h) → sprite_place_at (quick e) l c (ticks n (now h))
-      sprite_later ClearWait p = clearing_later (quick e) n k f (now h) _ _ p
+      sprite_later : (l : SpritePlace) → sprite_place_at (program_of e rom) l b (now h) → sprite_place_at (program_of e rom) l c (ticks n (now h))
+      sprite_later ClearWait p = clearing_later (program_of e rom) n k f (now h) _ _ p
       sprite_later ClearIdle p = absurd (asleep (sym p.1 ∙ i))
-      sprite_later DrawWait p = painting_later (quick e) n k f (now h) at_draw_wait p
+      sprite_later DrawWait p = painting_later (program_of e rom) n k f (now h) at_draw_wait p
       sprite_later DrawIdle p = absurd (asleep (sym p.1 ∙ i))
 
-  pub sound : Sound (quick e) (pieces (quick e))
-  sound = record { rom = both_fits e; some = λ l b h f head. some l; later = later }
+module _ (e : Edition) {rom last : List ℕ} (is : rom ≡ last) (fits : FitsRom rom) where
+  pub sound : Sound (program_of e rom) (pieces (program_of e rom))
+  sound = record { rom = fits; some = λ l b h f head. some l; later = later e rom }
 
-  pub calm_sound : Sound (quick e) (calm_pieces (quick e))
-  calm_sound = record { rom = both_fits e; some = λ l b h f head. some l; later = later }
+  pub calm_sound : Sound (program_of e rom) (calm_pieces (program_of e rom))
+  calm_sound = record { rom = fits; some = λ l b h f head. some l; later = later e rom }
 
   -- the rows of a block, where each machine at its head comes to what it should
-  pub block_rows_in : (l : Block) → ((b : Machine) (h : Since) → FitsMachine b → Head (quick e) l b h → Comes (quick e) (pieces (quick e)) l b h) → BlockRows (program_of e (image e)) l
-  block_rows_in l comes = subst (λ rom. BlockRows (program_of e rom) l) (both_is e) (λ u b h r. block_moves (quick e) (pieces (quick e)) sound r (comes r.start r.since r.fits r.head) u)
+  pub block_rows_in : (l : Block) → ((b : Machine) (h : Since) → FitsMachine b → Head (program_of e rom) l b h → Comes (program_of e rom) (pieces (program_of e rom)) l b h) → BlockRows (program_of e last) l
+  block_rows_in l comes = subst (λ rom. BlockRows (program_of e rom) l) is (λ u b h r. block_moves (program_of e rom) (pieces (program_of e rom)) sound r (comes r.start r.since r.fits r.head) u)
 
   -- the rows of a place, where each machine at it comes to what it should
-  pub place_rows_in : (l : AnyPlace) → ((b : Machine) (h : Since) → FitsMachine b → At (quick e) l b h → Holds (quick e) (pieces (quick e)) l b h) → ((b : Machine) (h : Since) → At (quick e) l b h → b.regs.idle ≡ false) → PlaceRows (program_of e (image e)) l
-  place_rows_in l holds awake = subst (λ rom. PlaceRows (program_of e rom) l) (both_is e) (λ u b h f at. place_moves (quick e) (pieces (quick e)) sound l b h f (holds b h f at) (awake b h at) u)
+  pub place_rows_in : (l : AnyPlace) → ((b : Machine) (h : Since) → FitsMachine b → At (program_of e rom) l b h → Holds (program_of e rom) (pieces (program_of e rom)) l b h) → ((b : Machine) (h : Since) → At (program_of e rom) l b h → b.regs.idle ≡ false) → PlaceRows (program_of e last) l
+  place_rows_in l holds awake = subst (λ rom. PlaceRows (program_of e rom) l) is (λ u b h f at. place_moves (program_of e rom) (pieces (program_of e rom)) sound l b h f (holds b h f at) (awake b h at) u)
 
   -- the rows of a place, where each machine at it comes to what it should
-  pub awake_rows_in : (l : AnyPlace) → ((b : Machine) (h : Since) → FitsMachine b → At (quick e) l b h → Holds (quick e) (pieces (quick e)) l b h) → AwakeRows (program_of e (image e)) l
-  awake_rows_in l holds = subst (λ rom. AwakeRows (program_of e rom) l) (both_is e) (λ u b h f i at. place_moves (quick e) (pieces (quick e)) sound l b h f (holds b h f at) i u)
+  pub awake_rows_in : (l : AnyPlace) → ((b : Machine) (h : Since) → FitsMachine b → At (program_of e rom) l b h → Holds (program_of e rom) (pieces (program_of e rom)) l b h) → AwakeRows (program_of e last) l
+  awake_rows_in l holds = subst (λ rom. AwakeRows (program_of e rom) l) is (λ u b h f i at. place_moves (program_of e rom) (pieces (program_of e rom)) sound l b h f (holds b h f at) i u)
 
   -- and ticks there
-  pub tick_rows_in : (l : AnyPlace) → ((b : Machine) (h : Since) → FitsMachine b → At (quick e) l b h → Holds (quick e) (pieces (quick e)) l b h) → TickRows (program_of e (image e)) l
-  tick_rows_in l holds = subst (λ rom. TickRows (program_of e rom) l) (both_is e) (λ b c h f k at. place_ticks (quick e) (pieces (quick e)) sound l b c h f k at (holds b h f at))
+  pub tick_rows_in : (l : AnyPlace) → ((b : Machine) (h : Since) → FitsMachine b → At (program_of e rom) l b h → Holds (program_of e rom) (pieces (program_of e rom)) l b h) → TickRows (program_of e last) l
+  tick_rows_in l holds = subst (λ rom. TickRows (program_of e rom) l) is (λ b c h f k at. place_ticks (program_of e rom) (pieces (program_of e rom)) sound l b c h f k at (holds b h f at))
 
   -- ---- of the calm pieces
 
-  pub block_rows : (l : Block) → ((b : Machine) (h : Since) → FitsMachine b → Head (quick e) l b h → Comes (quick e) (calm_pieces (quick e)) l b h) → BlockRows (program_of e (image e)) l
+  pub block_rows : (l : Block) → ((b : Machine) (h : Since) → FitsMachine b → Head (program_of e rom) l b h → Comes (program_of e rom) (calm_pieces (program_of e rom)) l b h) → BlockRows (program_of e last) l
   block_rows l comes = block_rows_in l (λ b h f head. comes_calm (comes b h f head))
 
-  pub place_rows : (l : AnyPlace) → ((b : Machine) (h : Since) → FitsMachine b → At (quick e) l b h → Holds (quick e) (calm_pieces (quick e)) l b h) → ((b : Machine) (h : Since) → At (quick e) l b h → b.regs.idle ≡ false) → PlaceRows (program_of e (image e)) l
+  pub place_rows : (l : AnyPlace) → ((b : Machine) (h : Since) → FitsMachine b → At (program_of e rom) l b h → Holds (program_of e rom) (calm_pieces (program_of e rom)) l b h) → ((b : Machine) (h : Since) → At (program_of e rom) l b h → b.regs.idle ≡ false) → PlaceRows (program_of e last) l
   place_rows l holds awake = place_rows_in l (λ b h f at. holds_calm (holds b h f at)) awake
 
-  pub tick_rows : (l : AnyPlace) → ((b : Machine) (h : Since) → FitsMachine b → At (quick e) l b h → Holds (quick e) (calm_pieces (quick e)) l b h) → TickRows (program_of e (image e)) l
+  pub tick_rows : (l : AnyPlace) → ((b : Machine) (h : Since) → FitsMachine b → At (program_of e rom) l b h → Holds (program_of e rom) (calm_pieces (program_of e rom)) l b h) → TickRows (program_of e last) l
   tick_rows l holds = tick_rows_in l (λ b h f at. holds_calm (holds b h f at))

@@ -1,6 +1,7 @@
 -- The pieces behind the waits of 00E0 and DXYN: what holds of them holds of the table's.
-use Rattle.std.proofs.Common.{ℕ, sym, subst, false, ◌≡◌}
+use Rattle.std.proofs.Common.{ℕ, sym, subst, false, ◌≡◌, List}
 use Rattle.machine.specs.Board.{Machine}
+use Rattle.machine.specs.Ranges.{FitsRom}
 use Rattle.chip8_lang.specs.declared.view.Edition.{Edition}
 use Rattle.rom_moves.specs.Code.{is_event}
 use Rattle.rom_law.specs.Program.{Program, code}
@@ -10,11 +11,11 @@ use Rattle.rom_law.specs.Rows.Row.{Inside, Alone}
 use Rattle.rom_law.specs.Rows.Starts.{Enters, Meets}
 use Rattle.rom_law.proofs.Kept.{Comes, Sound}
 use Rattle.rom_law.proofs.Steps.{now_same}
+use Rattle.rom_rows.specs.Rom.{program_of}
 use Rattle.rom_rows.specs.Heads.{Within}
 use Rattle.rom_rows.specs.SpriteBlocks.{SpriteBlock, IsWaited, sprite_at, sprite_time}
 use Rattle.rom_rows.specs.Table.{pieces, waited_pieces}
 use Rattle.rom_rows.specs.Table.Block.{OfSprite}
-use Rattle.rom_rows.proofs.Bytes.{quick, both_fits}
 use Rattle.rom_rows.proofs.Sounds.{some}
 
 -- a block behind a wait follows at the end of one
@@ -41,5 +42,5 @@ module _ (x : Program) (b : Machine) (h : Since) where
 pub comes_joined : {x : Program} {l : SpriteBlock} {w : IsWaited l} {b : Machine} {h : Since} → Comes x (waited_pieces x) (l, w) b h → Comes x (pieces x) (OfSprite l) b h
 comes_joined {x = x} c = record { runs = c.runs; awake = c.awake; some = c.some; end = c.end; reaches = c.reaches; ends = λ h' g. ends_joined x c.end h' (c.ends h' g) }
 
-pub waited_sound : (e : Edition) → Sound (quick e) (waited_pieces (quick e))
-waited_sound e = record { rom = both_fits e; some = λ l b h f head. some (OfSprite l.0); later = λ l b h f at. absurd at }
+pub waited_sound : (e : Edition) {rom : List ℕ} → FitsRom rom → Sound (program_of e rom) (waited_pieces (program_of e rom))
+waited_sound e fits = record { rom = fits; some = λ l b h f head. some (OfSprite l.0); later = λ l b h f at. absurd at }

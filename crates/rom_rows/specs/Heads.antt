@@ -55,6 +55,10 @@ by_edition Tall usual tall = tall
 abbrev pub page_of : Edition → ℕ
 page_of e = by_edition e 0x0e 0x0d
 
+-- the first page of the screen
+abbrev pub screen_page : Edition → ℕ
+screen_page e = by_edition e 0x0f 0x0e
+
 -- ---- the heads
 
 -- in the fetch, at a, with program counter R4: s is in its places

@@ -30,11 +30,8 @@ use Rattle.rom_rows.specs.Rom.{vip}
 use Rattle.rom_rows.specs.Table.{Head, pieces}
 use Rattle.rom_rows.specs.Table.Block.{OfFetch, OfArith, OfMemory, OfSprite, OfTimer, OfKey}
 use Rattle.rom_rows.specs.Table.Place.{AtTimer, AtKey, AtSprite}
-use Rattle.rom_arith.proofs.Law.{arith_addresses_run}
-use Rattle.rom_memory.proofs.Addresses.{memory_addresses_run}
-use Rattle.rom_timer.proofs.Addresses.{addresses as timer_run, place_addresses as timer_place_run}
-use Rattle.rom_keys.proofs.Addresses.{addresses as key_run, place_addresses as key_place_run}
-use Rattle.rom_sprite.proofs.Addresses.{addresses as sprite_run, place_addresses as sprite_place_run}
+use Rattle.rom_run.proofs.Image.{arith_addresses as arith_run, memory_addresses as memory_run, timer_addresses as timer_run, timer_place_addresses as timer_place_run}
+use Rattle.rom_run.proofs.Image.{key_addresses as key_run, key_place_addresses as key_place_run, sprite_addresses as sprite_run, sprite_place_addresses as sprite_place_run}
 use Rattle.rom_run.specs.Laws.{IsIn}
 
 abbrev is_fetch : Part → Bool
@@ -194,8 +191,8 @@ module _ (e : Edition) where
 
   pub fetch_row : (b : Machine) (h : Since) → Row x (pieces x) b h → IsIn Fetch b → (l : FetchBlock) × InBlock x (pieces x) (OfFetch l) b h
   fetch_row b h (InRow (OfFetch l) r) at = (l, r)
-  fetch_row b h (InRow (OfArith l) r) at = elsewhere b _ (arith_addresses_run e l b h r) (apart_at (arith_addresses l) (arith_apart l r.start r.since r.head) r.k) at
-  fetch_row b h (InRow (OfMemory l) r) at = elsewhere b _ (memory_addresses_run e l b h r) (apart_at (memory_addresses l) (memory_apart l r.start r.since r.head) r.k) at
+  fetch_row b h (InRow (OfArith l) r) at = elsewhere b _ (arith_run e l b h r) (apart_at (arith_addresses l) (arith_apart l r.start r.since r.head) r.k) at
+  fetch_row b h (InRow (OfMemory l) r) at = elsewhere b _ (memory_run e l b h r) (apart_at (memory_addresses l) (memory_apart l r.start r.since r.head) r.k) at
   fetch_row b h (InRow (OfSprite l) r) at = elsewhere b _ (sprite_run e l b h r) (apart_at (sprite_addresses l) (sprite_apart l r.start r.since r.head) r.k) at
   fetch_row b h (InRow (OfTimer l) r) at = elsewhere b _ (timer_run e l b h r) (apart_at (timer_addresses l) (timer_apart l r.start r.since r.head) r.k) at
   fetch_row b h (InRow (OfKey l) r) at = elsewhere b _ (key_run e l b h r) (apart_at (key_addresses l) (key_apart l r.start r.since r.head) r.k) at

@@ -13,9 +13,9 @@ use Rattle.rom_law.proofs.Kept.{block_awake, block_moves, block_cycle, starts_ro
 use Rattle.rom_rows.specs.Rom.{vip, program_of}
 use Rattle.rom_rows.specs.Table.{pieces, waited_pieces}
 use Rattle.rom_rows.specs.Table.Place.{AtTimer, AtKey, AtSprite}
-use Rattle.rom_rows.proofs.Bytes.{quick, both_is}
+use Rattle.rom_rows.proofs.Bytes.{quick, both_is, both_fits}
 use Rattle.rom_rows.proofs.Waited.{waited_sound, joined}
-use Rattle.rom_sprite.proofs.Law.{sprite_waited, sprite_wakes}
+use Rattle.rom_run.proofs.Image.{sprite_waited, sprite_wakes}
 use Rattle.rom_run.proofs.Proved.{proved_quick}
 use Rattle.rom_run.proofs.Waits.{timed, sleeps, timer_awake, key_awake}
 
@@ -23,11 +23,11 @@ use Rattle.rom_run.proofs.Waits.{timed, sleeps, timer_awake, key_awake}
 
 module _ (e : Edition) where
   quick_moves : (u : Input) (b : Machine) (h : Since) → Row (quick e) (waited_pieces (quick e)) b h → Outcome (quick e) (waited_pieces (quick e)) (moved (code (quick e)) u b) (after_main u h)
-  quick_moves u b h (Inside l r) = block_moves (quick e) (waited_pieces (quick e)) (waited_sound e) r (sprite_waited e l.0 l.1 r.start r.since r.fits r.head) u
+  quick_moves u b h (Inside l r) = block_moves (quick e) (waited_pieces (quick e)) (waited_sound e (both_fits e)) r (sprite_waited e l.0 l.1 r.start r.since r.fits r.head) u
   quick_moves u b h (Alone l o) = absurd o
 
   quick_cycle : (b : Machine) (h : Since) (t : ℕ) → Row (quick e) (waited_pieces (quick e)) b h → Row (quick e) (waited_pieces (quick e)) (timed t b) h
-  quick_cycle b h t (Inside l r) = Inside l (block_cycle (quick e) (waited_pieces (quick e)) (waited_sound e) b h t r)
+  quick_cycle b h t (Inside l r) = Inside l (block_cycle (quick e) (waited_pieces (quick e)) (waited_sound e (both_fits e)) b h t r)
   quick_cycle b h t (Alone l o) = absurd o
 
   quick_awake : (b : Machine) (h : Since) → Row (quick e) (waited_pieces (quick e)) b h → b.regs.idle ≡ false
@@ -38,7 +38,7 @@ module _ (e : Edition) where
   quick_wakes b c h f i k (Inside l r) = absurd (sleeps (sym i ∙ block_awake (quick e) (pieces (quick e)) (proved_quick e) r))
   quick_wakes b c h f i k (Alone (AtTimer l) o) = absurd (sleeps (sym i ∙ timer_awake (quick e) b (now h) l o.0))
   quick_wakes b c h f i k (Alone (AtKey l) o) = absurd (sleeps (sym i ∙ key_awake (quick e) b (now h) l h.keys o.0))
-  quick_wakes b c h f i k (Alone (AtSprite l) o) = starts_row (quick e) (waited_pieces (quick e)) (waited_sound e) c (after_tick h) (tick_fits (code (quick e)).low b c f k) (sprite_wakes e l b h f i o c k)
+  quick_wakes b c h f i k (Alone (AtSprite l) o) = starts_row (quick e) (waited_pieces (quick e)) (waited_sound e (both_fits e)) c (after_tick h) (tick_fits (code (quick e)).low b c f k) (sprite_wakes e l b h f i o c k)
 
 -- ---- over the image
 

@@ -18,7 +18,7 @@ use Rattle.rom_timer.specs.Frame.Makes.{Runs, Waits, Accepts}
 use Rattle.rom_timer.specs.Routine.{routine_moves, routine_cycles}
 use Rattle.rom_timer.proofs.Frame.{every_move, keeps_place, keeps_waiting}
 use Rattle.rom_timer.proofs.Interval.{ticks_main, ticks_wait, ticks_served}
-use Rattle.rom_timer.proofs.Tick.{run_tick}
+use Rattle.rom_run.proofs.Image.{run_tick}
 use Rattle.rom_run.specs.Running.{Interval, Counted, Spends, Suffices, Timed, Outside, Running}
 use Rattle.rom_run.specs.Running.Outside.{AtRow, AtEvent}
 use Rattle.rom_run.specs.Running.Running.{InMain, InRoutine}

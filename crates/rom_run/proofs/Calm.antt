@@ -30,7 +30,7 @@ use Rattle.rom_rows.specs.Rom.{vip, program_of}
 use Rattle.rom_rows.specs.Table.{Place, At, pieces, calm_pieces}
 use Rattle.rom_rows.specs.Table.Block.{OfFetch}
 use Rattle.rom_rows.specs.Table.Place.{AtTimer, AtKey, AtSprite}
-use Rattle.rom_rows.proofs.Bytes.{quick, both_is}
+use Rattle.rom_rows.proofs.Bytes.{quick, both_is, both_fits}
 use Rattle.rom_rows.proofs.Calm.{calm_in}
 use Rattle.rom_rows.proofs.Entry.{on_3, is_on_3}
 use Rattle.rom_rows.proofs.Screens.{SameScreen, head_screen, at_screen}
@@ -77,23 +77,23 @@ module _ (e : Edition) where
     start_shows px py m n = row_shows r.start r.since (head_screen (quick e) l r.start r.since r.head.1 r.head.0) px py m n ∙ ap (λ (z : Lang). z.screen px py) (sym r.grows.state)
 
     block_shows : FitsMachine b → value b.regs.r.r2 < screen_start e → Showing e b h
-    block_shows f below = above_shows r.start b h r.fits f (λ a low. block_above (quick e) (calm_pieces (quick e)) (calm_sound e) r comes ((page_of e + 1) * 256) a refl (omega (arith, low, screen_is e)) (omega (arith, low, below))) start_shows
+    block_shows f below = above_shows r.start b h r.fits f (λ a low. block_above (quick e) (calm_pieces (quick e)) (calm_sound e refl (both_fits e)) r comes ((page_of e + 1) * 256) a refl (omega (arith, low, screen_is e)) (omega (arith, low, below))) start_shows
 
     next_shows : (u : Input) → FitsMachine (moved (code (quick e)) u b) → value (moved (code (quick e)) u b).regs.r.r2 < screen_start e → Showing e (moved (code (quick e)) u b) h
-    next_shows u f below = above_shows r.start (moved (code (quick e)) u b) h r.fits f (λ a low. block_above_next (quick e) (calm_pieces (quick e)) (calm_sound e) r comes u ((page_of e + 1) * 256) a refl (omega (arith, low, screen_is e)) (omega (arith, low, below))) start_shows
+    next_shows u f below = above_shows r.start (moved (code (quick e)) u b) h r.fits f (λ a low. block_above_next (quick e) (calm_pieces (quick e)) (calm_sound e refl (both_fits e)) r comes u ((page_of e + 1) * 256) a refl (omega (arith, low, screen_is e)) (omega (arith, low, below))) start_shows
 
   quick_moves : (u : Input) (b : Machine) (h : Since) → FitsMachine b → b.regs.idle ≡ false → Row (quick e) (calm_pieces (quick e)) b h → Outcome (quick e) (calm_pieces (quick e)) (moved (code (quick e)) u b) (after_main u h)
-  quick_moves u b h f i (Inside l r) = block_moves (quick e) (calm_pieces (quick e)) (calm_sound e) r (comes r) u
-  quick_moves u b h f i (Alone l o) = place_moves (quick e) (calm_pieces (quick e)) (calm_sound e) l b h f (calm_place e l b h f i o) i u
+  quick_moves u b h f i (Inside l r) = block_moves (quick e) (calm_pieces (quick e)) (calm_sound e refl (both_fits e)) r (comes r) u
+  quick_moves u b h f i (Alone l o) = place_moves (quick e) (calm_pieces (quick e)) (calm_sound e refl (both_fits e)) l b h f (calm_place e l b h f i o) i u
 
   quick_ticks : (b c : Machine) (h : Since) → FitsMachine b → b.regs.idle ≡ false → Tick (code (quick e)).low b c → Row (quick e) (calm_pieces (quick e)) b h → Row (quick e) (calm_pieces (quick e)) c (after_tick h)
-  quick_ticks b c h f i k (Inside l r) = block_ticks (quick e) (calm_pieces (quick e)) (calm_sound e) r (comes r) c k
-  quick_ticks b c h f i k (Alone l o) = place_ticks (quick e) (calm_pieces (quick e)) (calm_sound e) l b c h f k o (calm_place e l b h f i o)
+  quick_ticks b c h f i k (Inside l r) = block_ticks (quick e) (calm_pieces (quick e)) (calm_sound e refl (both_fits e)) r (comes r) c k
+  quick_ticks b c h f i k (Alone l o) = place_ticks (quick e) (calm_pieces (quick e)) (calm_sound e refl (both_fits e)) l b c h f k o (calm_place e l b h f i o)
 
   -- the cycle number says nothing
   quick_cycle : (b : Machine) (h : Since) (t : ℕ) → FitsMachine b → b.regs.idle ≡ false → Row (quick e) (calm_pieces (quick e)) b h → Row (quick e) (calm_pieces (quick e)) (timed t b) h
-  quick_cycle b h t f i (Inside l r) = Inside l (block_cycle (quick e) (calm_pieces (quick e)) (calm_sound e) b h t r)
-  quick_cycle b h t f i (Alone l o) = Alone l (subst (λ m. At (quick e) l (record b { cycle = t }) (record h { ticks = m })) same ((calm_place e l b h f i o).later i 0 (record b { cycle = t }) (at_cycle (quick e) (calm_pieces (quick e)) (calm_sound e) 0 b b t (after_none (code (quick e)).low b))))
+  quick_cycle b h t f i (Inside l r) = Inside l (block_cycle (quick e) (calm_pieces (quick e)) (calm_sound e refl (both_fits e)) b h t r)
+  quick_cycle b h t f i (Alone l o) = Alone l (subst (λ m. At (quick e) l (record b { cycle = t }) (record h { ticks = m })) same ((calm_place e l b h f i o).later i 0 (record b { cycle = t }) (at_cycle (quick e) (calm_pieces (quick e)) (calm_sound e refl (both_fits e)) 0 b b t (after_none (code (quick e)).low b))))
     where
       same : h.ticks + 0 ≡ h.ticks
       same = omega arith
@@ -105,7 +105,7 @@ module _ (e : Edition) where
   quick_idle b h t i (Alone (AtSprite l) o) = Alone (AtSprite l) (sprite_timed (quick e) b (now h) t l i o.0, o.1)
 
   quick_starts : (cycle : ℕ) (b : Machine) (s : Lang) → FitsMachine b → Dispatches (quick e) b s → Row (quick e) (calm_pieces (quick e)) b (dispatched cycle s)
-  quick_starts cycle b s f d = starts_row (quick e) (calm_pieces (quick e)) (calm_sound e) b (dispatched cycle s) f (Enters (OfFetch Fetch) ((record { holds = holding (quick e) b s f.size d.keeps; p = d.p; r4 = d.r4 }, refl), tt))
+  quick_starts cycle b s f d = starts_row (quick e) (calm_pieces (quick e)) (calm_sound e refl (both_fits e)) b (dispatched cycle s) f (Enters (OfFetch Fetch) ((record { holds = holding (quick e) b s f.size d.keeps; p = d.p; r4 = d.r4 }, refl), tt))
 
   -- ---- the screen
 

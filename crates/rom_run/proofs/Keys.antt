@@ -24,7 +24,7 @@ use Rattle.rom_rows.specs.Rom.{image, vip}
 use Rattle.rom_rows.specs.Table.{pieces}
 use Rattle.rom_fetch.specs.Laws.{boot_moves}
 use Rattle.rom_keys.specs.Laws.{Counted, Lately, Scans, Within}
-use Rattle.rom_keys.proofs.Counts.{none_stays, stays_down, goes_up}
+use Rattle.rom_run.proofs.Image.{none_stays, stays_down, goes_up}
 use Rattle.rom_keys.proofs.Sets.{get_last, length_more}
 use Rattle.rom_timer.specs.Frame.{Makes}
 use Rattle.rom_timer.specs.Frame.Makes.{Runs, Waits, Accepts}

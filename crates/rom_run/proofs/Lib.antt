@@ -1,3 +1,4 @@
+pub mod Image
 pub mod Proved
 pub mod Room
 pub mod Waits

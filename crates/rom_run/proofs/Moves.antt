@@ -45,7 +45,7 @@ use Rattle.rom_timer.specs.Frame.Makes.{Runs, Waits, Accepts}
 use Rattle.rom_timer.specs.Routine.{IsInterrupted, IsTick, routine_moves, routine_cycles}
 use Rattle.rom_timer.proofs.Frame.{case_accepts, case_runs, case_waits, every_move, keeps_place, keeps_waiting}
 use Rattle.rom_timer.proofs.Interval.{ticks_main, ticks_wait, ticks_served, keeps_interrupted, embeds_longer, embeds_more}
-use Rattle.rom_timer.proofs.Tick.{run_tick}
+use Rattle.rom_run.proofs.Image.{run_tick}
 use Rattle.rom_run.specs.Running.{Interval, Counted, Spends, Woken, Timed, InTime, Showing, Outside, Running, most_wait}
 use Rattle.rom_run.specs.Running.Counted.{NoEvent, Renewed}
 use Rattle.rom_run.specs.Running.Due.{Arrives, Ends}
@@ -345,7 +345,7 @@ module _ (e : Edition) (script : List Event) where
         ends c (after_tick h) (tick_interval t) p (tick_soon late) behind_it stop (record { fits = st.fits; halts = halts_after x 1 b c (ticked st.halts.keeps.lies.awake) t.fits (now h) stop st.halts })
 
   module _ (b : Machine) (h : Since) (m : ℕ) (o : Outside e script b h) (cycle : b.cycle ≡ interrupt_at m) where
-    tick : IsTick e m b held
+    tick : IsTick e (image e) m b held
     tick = run_tick e m b held (interrupted b h m o cycle)
 
     -- so many moves on, still in the routine

@@ -28,7 +28,7 @@ moves_in p e script b h r at = board_moves e script b h r
 pub boot_rows : BootRows
 boot_rows e script game b o = subst (λ z. FromBoot e script game (move (image e) (held_at script) z)) (sym o.is) (go (cases_eq (suc o.k) boot_moves))
   where
-    boots : Boot e (held_at script) game
+    boots : Boot e (image e) (held_at script) game
     boots = boot e game o.room o.bytes script
 
     begins : (c : Machine) → Starts e script game c → Dispatches (vip e) c (first e game) → FromBoot e script game c

@@ -30,7 +30,7 @@ use Rattle.rom_fetch.specs.Laws.{boot_moves}
 use Rattle.rom_timer.specs.Frame.{place, interrupt_place, Makes}
 use Rattle.rom_timer.specs.Frame.Makes.{Runs, Waits, Accepts}
 use Rattle.rom_timer.proofs.Frame.{every_move}
-use Rattle.rom_timer.proofs.Picture.{run_picture}
+use Rattle.rom_run.proofs.Image.{run_picture}
 use Rattle.rom_run.specs.Laws.{EveryPicture}
 use Rattle.rom_run.specs.Running.{Showing, Outside, Running}
 use Rattle.rom_run.specs.Running.Outside.{AtRow, AtEvent}

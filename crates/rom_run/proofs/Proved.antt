@@ -15,12 +15,7 @@ use Rattle.rom_rows.specs.Table.Block.{OfFetch, OfArith, OfMemory, OfSprite, OfT
 use Rattle.rom_rows.specs.Table.Place.{AtTimer, AtKey, AtSprite}
 use Rattle.rom_rows.proofs.Calm.{comes_calm, holds_calm}
 use Rattle.rom_rows.proofs.Bytes.{both_is, both_fits, quick}
-use Rattle.rom_fetch.proofs.Law.{fetch_block}
-use Rattle.rom_arith.proofs.Law.{arith_block}
-use Rattle.rom_memory.proofs.Law.{memory_block}
-use Rattle.rom_sprite.proofs.Law.{sprite_block, sprite_any, sprite_place, sprite_place_early}
-use Rattle.rom_timer.proofs.Law.{timer_block, timer_place}
-use Rattle.rom_keys.proofs.Law.{key_block, key_place}
+use Rattle.rom_run.proofs.Image.{fetch_block, arith_block, memory_block, sprite_block, sprite_any, sprite_place, sprite_place_early, timer_block, timer_place, key_block, key_place}
 use Rattle.rom_run.specs.Laws.{AnySchedule}
 
 -- ---- the blocks and places before a wait

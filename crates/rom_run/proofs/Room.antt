@@ -39,7 +39,7 @@ use Rattle.rom_rows.specs.Rom.{vip, program_of}
 use Rattle.rom_rows.specs.Table.{Block, Place, Head, At, moves, pieces}
 use Rattle.rom_rows.specs.Table.Block.{OfFetch, OfArith, OfMemory, OfSprite, OfTimer, OfKey}
 use Rattle.rom_rows.specs.Table.Place.{AtTimer, AtKey, AtSprite}
-use Rattle.rom_rows.proofs.Bytes.{both_is, quick, memory_end_is, stack_top_is, variables_is, page_fits, page_low}
+use Rattle.rom_rows.proofs.Bytes.{both_is, both_fits, quick, memory_end_is, stack_top_is, variables_is, page_fits, page_low}
 use Rattle.rom_rows.proofs.Entry.{on_4, is_on_4}
 use Rattle.rom_rows.proofs.Sounds.{sound}
 use Rattle.rom_timer.proofs.Interval.{has_room, in_stack}
@@ -233,10 +233,10 @@ module _ (e : Edition) {l : Block} {b : Machine} {h : Since} (r : InBlock (quick
       at = ap value same
 
       is : value b.regs.r.r2 ≡ value (quicks (code (quick e)) r.k r.start).regs.r.r2
-      is = ap value (block_r2 (quick e) (pieces (quick e)) (sound e) r comes)
+      is = ap value (block_r2 (quick e) (pieces (quick e)) (sound e refl (both_fits e)) r comes)
 
       n : Near (r.k - j) (value (quicks (code (quick e)) j r.start).regs.r.r2) (value (quicks (code (quick e)) r.k r.start).regs.r.r2)
-      n = near_quicks (code (quick e)) None (moves l) r.start (good (quick e) (pieces (quick e)) (sound e) r comes) j (omega (arith, at, has_room o, few, memory_end_is e, page_low e)) (omega (arith, at, in_stack o, few, stack_top_is e, page_fits e)) r.k from r.inside
+      n = near_quicks (code (quick e)) None (moves l) r.start (good (quick e) (pieces (quick e)) (sound e refl (both_fits e)) r comes) j (omega (arith, at, has_room o, few, memory_end_is e, page_low e)) (omega (arith, at, in_stack o, few, stack_top_is e, page_fits e)) r.k from r.inside
 
 -- the one long block leaves R2 for its first 16 instructions
 inside_r2 : (e : Edition) (b : Machine) → (quicks (code (quick e)) 16 (on_4 (word_of at_inside) b)).regs.r.r2 ≡ b.regs.r.r2

@@ -16,7 +16,7 @@ use Rattle.rom_law.proofs.First.{start_fits, moves_fit}
 use Rattle.rom_law.proofs.Runs.{Carries, Boots, language_run}
 use Rattle.rom_rows.specs.Rom.{image, vip}
 use Rattle.rom_fetch.specs.Laws.{Boot, boot_moves}
-use Rattle.rom_fetch.proofs.Boot.{every_boot}
+use Rattle.rom_run.proofs.Image.{every_boot}
 use Rattle.rom_timer.specs.Frame.{place, interrupt_place, IsMainPlace}
 use Rattle.rom_run.specs.Laws.{EveryRun}
 use Rattle.rom_run.specs.Running.{Running}
@@ -58,7 +58,7 @@ carries : (e : Edition) (script : List Event) → Carries (vip e) script (Runnin
 carries e script = record { moves = board_moves e script; timely = timely e script }
 
 module _ (e : Edition) (game : List ℕ) (small : length game ≤ memory_size e) (bytes : (i : ℕ) → slice_index game i < 256) (script : List Event) where
-  pub boot : Boot e (held_at script) game
+  pub boot : Boot e (image e) (held_at script) game
   boot = every_boot e (held_at script) game small
 
   pub begun : Begins e script game (after_moves (image e) (held_at script) (start game) boot_moves)

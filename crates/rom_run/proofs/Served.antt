@@ -11,7 +11,7 @@ use Rattle.rom_law.specs.Runs.{Moves}
 use Rattle.rom_rows.specs.Rom.{image, vip}
 use Rattle.rom_timer.specs.Frame.{place, interrupt_place}
 use Rattle.rom_timer.specs.Routine.{IsTick, routine_moves, routine_cycles}
-use Rattle.rom_timer.proofs.Tick.{run_tick}
+use Rattle.rom_run.proofs.Image.{run_tick}
 use Rattle.rom_run.specs.Running.{Outside, Running, Serving}
 use Rattle.rom_run.specs.Running.Running.{InMain, InRoutine}
 use Rattle.rom_run.proofs.Moves.{interrupted, routine_comes}
@@ -25,7 +25,7 @@ module _ (e : Edition) (script : List Event) where
   abbrev held : ℕ → Keys
   held = held_at script
 
-  tick_of : (b : Machine) (h : Since) (m : ℕ) → Outside e script b h → b.cycle ≡ interrupt_at m → IsTick e m b held
+  tick_of : (b : Machine) (h : Since) (m : ℕ) → Outside e script b h → b.cycle ≡ interrupt_at m → IsTick e (image e) m b held
   tick_of b h m o i = run_tick e m b held (interrupted e script b h m o i)
 
   -- where the cycle is that of an interrupt, main code runs or waits
@@ -36,7 +36,7 @@ module _ (e : Edition) (script : List Event) where
       less : (k : ℕ) → k < routine_moves → k ≤ routine_moves
       less k l = omega (arith, l)
 
-  pub whole_tick : (b : Machine) (h : Since) (m : ℕ) → Running e script b h → b.cycle ≡ interrupt_at m → IsTick e m b held
+  pub whole_tick : (b : Machine) (h : Since) (m : ℕ) → Running e script b h → b.cycle ≡ interrupt_at m → IsTick e (image e) m b held
   whole_tick b h m r i = tick_of b h m (main_there b h r (omega (arith, i))) i
 
   pub tick_comes : (b : Machine) (h : Since) (m : ℕ) → Running e script b h → b.cycle ≡ interrupt_at m → Moves (vip e) script (Running e script) (after_tick h) (after_moves (image e) held b routine_moves)

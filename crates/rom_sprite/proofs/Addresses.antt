@@ -13,8 +13,8 @@ use Rattle.rom_rows.specs.SpriteBlocks.SpritePlace.{ClearWait, ClearIdle, DrawWa
 use Rattle.rom_rows.specs.Table.{Head}
 use Rattle.rom_rows.specs.Table.Block.{OfSprite}
 use Rattle.rom_rows.proofs.Addresses.{Follows, runs_at_in, covers}
-use Rattle.rom_rows.proofs.Bytes.{quick}
 use Rattle.rom_rows.proofs.Entry.{is_entered, on_3, is_on_3}
+use Rattle.rom_sprite.proofs.Rom.{both_is, both_fits, quick}
 use Rattle.rom_sprite.specs.Laws.{SpriteAddresses, SpritePlaceAddresses, SpriteCovers, SpritePiece, piece_moves, piece_addresses}
 use Rattle.rom_sprite.specs.Laws.SpritePiece.{InBlock, AtPlace}
 use Rattle.rom_sprite.proofs.Aim.{is_aiming, is_summing, is_resumed}
@@ -22,8 +22,9 @@ use Rattle.rom_sprite.proofs.Clear.{is_clearing}
 use Rattle.rom_sprite.proofs.Law.{sprite_any}
 use Rattle.rom_sprite.proofs.Paint.{is_painting}
 use Rattle.rom_sprite.proofs.Prepare.{is_preparing}
+use Rattle.rom_sprite.specs.Code.{sprite_rom}
 
-sprite_follows : (e : Edition) (l : SpriteBlock) (b : Machine) (h : Since) → Head (quick e) (OfSprite l) b h → Follows e (OfSprite l) (sprite_addresses l) b
+sprite_follows : (e : Edition) (l : SpriteBlock) (b : Machine) (h : Since) → Head (quick e) (OfSprite l) b h → Follows (quick e) (OfSprite l) (sprite_addresses l) b
 sprite_follows e Clear b h o = record { same = _; is = is_entered o.0.0; follows = refl }
 sprite_follows e (Wipe k) b h o = record { same = _; is = is_clearing o.0.0; follows = refl }
 sprite_follows e (Wipe3 k) b h o = record { same = _; is = is_clearing o.0.0; follows = refl }
@@ -47,7 +48,7 @@ sprite_follows e (Shift r j) b h o = shift j (is_on_3 (at_shift7 + 6 * (7 - j)) 
     few : j ≤ 7
     few = omega (arith, o.0.4)
 
-    shift : (j : ℕ) → b ≡ on_3 (at_shift7 + 6 * (7 - j)) b → 0 < j → j ≤ 7 → Follows e (OfSprite (Shift r j)) (sprite_addresses (Shift r j)) b
+    shift : (j : ℕ) → b ≡ on_3 (at_shift7 + 6 * (7 - j)) b → 0 < j → j ≤ 7 → Follows (quick e) (OfSprite (Shift r j)) (sprite_addresses (Shift r j)) b
     shift zero is some l = absurd (omega (arith, some))
     shift (suc zero) is some l = record { same = _; is = is; follows = refl }
     shift (suc (suc zero)) is some l = record { same = _; is = is; follows = refl }
@@ -66,10 +67,10 @@ sprite_follows e (LineLeft r) b h o = record { same = _; is = is_painting o.0.0;
 sprite_follows e (LineRight r) b h o = record { same = _; is = is_painting o.0.0; follows = refl }
 sprite_follows e Drawn b h o = record { same = _; is = is_painting o.0; follows = refl }
 
-pub addresses : SpriteAddresses
-addresses e l = runs_at_in e (OfSprite l) (sprite_addresses l) (sprite_any e l) (sprite_follows e l)
+pub addresses : SpriteAddresses sprite_rom
+addresses e l = runs_at_in e (both_is e) (both_fits e) (OfSprite l) (sprite_addresses l) (sprite_any e l) (sprite_follows e l)
 
-pub place_addresses : SpritePlaceAddresses
+pub place_addresses : SpritePlaceAddresses sprite_rom
 place_addresses e ClearWait b h o = ap (at b.regs) o.0.p ∙ ap value o.0.r3
 place_addresses e ClearIdle b h o = ap (at b.regs) o.0.0.p ∙ ap value o.0.0.r3
 place_addresses e DrawWait b h o = ap (at b.regs) o.0.p ∙ ap value o.0.r3

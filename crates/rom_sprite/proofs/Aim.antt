@@ -32,11 +32,12 @@ use Rattle.rom_rows.specs.Table.{calm_pieces}
 use Rattle.rom_rows.specs.Table.Block.{OfSprite}
 use Rattle.rom_rows.proofs.Bits.{borrowed, not_borrowed}
 use Rattle.rom_rows.proofs.Branches.{branch}
-use Rattle.rom_rows.proofs.Bytes.{both, quick, variables_is, stack_top_is, page_fits, page_low}
+use Rattle.rom_rows.proofs.Bytes.{variables_is, stack_top_is, page_fits, page_low}
 use Rattle.rom_rows.proofs.Entry.{entered, is_inside}
 use Rattle.rom_rows.proofs.Follows.{to_fetch, to_memory, to_sprite}
 use Rattle.rom_rows.proofs.Straight.{routine}
 use Rattle.rom_rows.proofs.Ways.{straight, forks}
+use Rattle.rom_sprite.proofs.Rom.{both, quick}
 use Rattle.rom_sprite.proofs.Screen.{screen_is, few_rows}
 
 -- ---- the editions

@@ -30,7 +30,6 @@ use Rattle.rom_rows.specs.Table.Block.{OfSprite}
 use Rattle.rom_rows.specs.Table.Place.{AtSprite}
 use Rattle.rom_rows.proofs.Alone.{alone, one_more}
 use Rattle.rom_rows.proofs.Bits.{same_xor, xor_same, nonzero, is_zero}
-use Rattle.rom_rows.proofs.Bytes.{quick}
 use Rattle.rom_rows.proofs.Entry.{is_on_3, on_3}
 use Rattle.rom_rows.proofs.Follows.{to_sprite_place}
 use Rattle.rom_rows.proofs.Later.{clearing_later}
@@ -38,6 +37,7 @@ use Rattle.rom_rows.proofs.Steps.{clears}
 use Rattle.rom_rows.proofs.Straight.{routine}
 use Rattle.rom_rows.proofs.Waited.{to_waited, starts_joined}
 use Rattle.rom_rows.proofs.Ways.{straight_on, forks_on}
+use Rattle.rom_sprite.proofs.Rom.{quick}
 use Rattle.rom_sprite.proofs.Screen.{screen_is, screen_ends, some_rows, few_rows, all_left, none_left, cleared_one}
 use Rattle.rom_sprite.proofs.Waits.{waking, woken_fits, waits}
 

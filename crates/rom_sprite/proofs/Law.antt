@@ -13,15 +13,16 @@ use Rattle.rom_rows.specs.SpriteBlocks.SpritePlace.{ClearWait, ClearIdle, DrawWa
 use Rattle.rom_rows.specs.Table.{Head, At, pieces, waited_pieces, calm_pieces}
 use Rattle.rom_rows.specs.Table.Block.{OfSprite}
 use Rattle.rom_rows.specs.Table.Place.{AtSprite}
-use Rattle.rom_rows.proofs.Bytes.{quick}
 use Rattle.rom_rows.proofs.Sounds.{block_rows_in, awake_rows_in, tick_rows_in}
 use Rattle.rom_rows.proofs.Calm.{comes_calm, holds_calm}
 use Rattle.rom_rows.proofs.Waited.{comes_joined}
+use Rattle.rom_sprite.proofs.Rom.{both_is, both_fits, quick}
 use Rattle.rom_sprite.specs.Laws.{SpriteRows, SpritePlaceRows, SpriteTicks}
 use Rattle.rom_sprite.proofs.Aim.{draw_comes, draw_check_comes, draw_found_comes, place_comes, edge_comes, fits_comes, angle_comes, begin_comes}
 use Rattle.rom_sprite.proofs.Clear.{clear_comes, clear_wait_holds, clear_idle_holds, clear_wakes, wipe_comes, wipe3_comes, wipe6_comes, wiped_comes, cleared_comes}
 use Rattle.rom_sprite.proofs.Paint.{ready_comes, draw_wait_holds, draw_idle_holds, draw_wakes, line_comes, line_left_comes, line_right_comes, drawn_comes}
 use Rattle.rom_sprite.proofs.Prepare.{row_comes, row_byte_comes, shift_comes, shifted_comes, row_right_comes, row_store_comes}
+use Rattle.rom_sprite.specs.Code.{sprite_rom}
 
 -- before a wait
 pub sprite_block : (e : Edition) (l : SpriteBlock) → IsEarly l → (b : Machine) (h : Since) → FitsMachine b → Head (quick e) (OfSprite l) b h → Comes (quick e) (calm_pieces (quick e)) (OfSprite l) b h
@@ -84,8 +85,8 @@ sprite_any e (LineLeft r) b h f o = comes_joined (line_left_comes e b h f r o.0.
 sprite_any e (LineRight r) b h f o = comes_joined (line_right_comes e b h f r o.0.1 o.0.0 o.1.0 o.1.1)
 sprite_any e Drawn b h f o = comes_joined (drawn_comes e b h f o.0 o.1.1)
 
-pub sprite_rows : SpriteRows
-sprite_rows e l = block_rows_in e (OfSprite l) (sprite_any e l)
+pub sprite_rows : SpriteRows sprite_rom
+sprite_rows e l = block_rows_in e (both_is e) (both_fits e) (OfSprite l) (sprite_any e l)
 
 pub sprite_place : (e : Edition) (l : SpritePlace) (b : Machine) (h : Since) → FitsMachine b → At (quick e) (AtSprite l) b h → Holds (quick e) (pieces (quick e)) (AtSprite l) b h
 sprite_place e ClearWait b h f o = holds_calm (clear_wait_holds e b h f o.0 o o.1)
@@ -107,8 +108,8 @@ sprite_wakes e ClearIdle b h f i o c k = clear_wakes e b h f o.0.0 o.1 c k
 sprite_wakes e DrawWait b h f i o c k = cc (o.0.holds.awake, i)
 sprite_wakes e DrawIdle b h f i o c k = draw_wakes e b h f o.0.0 o.1 c k
 
-pub sprite_place_rows : SpritePlaceRows
-sprite_place_rows e l = awake_rows_in e (AtSprite l) (sprite_place e l)
+pub sprite_place_rows : SpritePlaceRows sprite_rom
+sprite_place_rows e l = awake_rows_in e (both_is e) (both_fits e) (AtSprite l) (sprite_place e l)
 
-pub sprite_ticks : SpriteTicks
-sprite_ticks e l = tick_rows_in e (AtSprite l) (sprite_place e l)
+pub sprite_ticks : SpriteTicks sprite_rom
+sprite_ticks e l = tick_rows_in e (both_is e) (both_fits e) (AtSprite l) (sprite_place e l)

@@ -1,3 +1,4 @@
+pub mod Rom
 pub mod Screen
 pub mod Waits
 pub mod Clear

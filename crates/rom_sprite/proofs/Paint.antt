@@ -34,7 +34,7 @@ use Rattle.rom_rows.specs.Table.Block.{OfSprite}
 use Rattle.rom_rows.specs.Table.Place.{AtSprite}
 use Rattle.rom_rows.proofs.Alone.{alone, one_more}
 use Rattle.rom_rows.proofs.Bits.{nonzero, is_zero}
-use Rattle.rom_rows.proofs.Bytes.{both, both_fits, quick, memory_end_is, variables_is, stack_top_is, page_fits, page_low}
+use Rattle.rom_rows.proofs.Bytes.{memory_end_is, variables_is, stack_top_is, page_fits, page_low}
 use Rattle.rom_rows.proofs.Entry.{on_3, is_on_3}
 use Rattle.rom_rows.proofs.Follows.{to_sprite_place}
 use Rattle.rom_rows.proofs.Font.{Readable, readable_get}
@@ -42,6 +42,7 @@ use Rattle.rom_rows.proofs.Later.{painting_later}
 use Rattle.rom_rows.proofs.Steps.{draws}
 use Rattle.rom_rows.proofs.Waited.{to_waited, starts_joined}
 use Rattle.rom_rows.proofs.Ways.{straight, straight_on, forks_on}
+use Rattle.rom_sprite.proofs.Rom.{both, both_fits, quick, both_font}
 use Rattle.rom_sprite.proofs.Aim.{on_at}
 use Rattle.rom_sprite.proofs.Bytes.{Apart, difference_either, meets_either}
 use Rattle.rom_sprite.proofs.Dots.{apart_left, apart_right, left_small, right_small, right_last, rows_grow, bottom}
@@ -168,7 +169,7 @@ module _ (e : Edition) (b : Machine) (h : Since) (f : FitsMachine b) where
 
   -- a byte that may be read is one
   byte_small : {p : Places} {z : Lang} → Holding (quick e) p z → ((i : ℕ) → slice_index p.ram i < 256) → (i : ℕ) → Readable e i → readable_byte z i < 256
-  byte_small {p = p} {z = z} o bytes i k = subst (λ v. v < 256) (readable_get o i k) (go k)
+  byte_small {p = p} {z = z} o bytes i k = subst (λ v. v < 256) (readable_get (both_font e) o i k) (go k)
     where
       go : Readable e i → read (both e) p.latch p.ram i < 256
       go (inl y) = subst (λ v. v < 256) (sym (read_is o i (omega (arith, y, memory_end_is e, page_fits e)))) (bytes i)

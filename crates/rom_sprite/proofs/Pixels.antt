@@ -13,7 +13,7 @@ use Rattle.chip8_lang.specs.State.{Lang}
 use Rattle.rom_law.specs.Holding.{Places, Holding}
 use Rattle.rom_law.proofs.Places.{read_is, range_get, screen_set}
 use Rattle.rom_rows.specs.Dots.{dots_of_byte}
-use Rattle.rom_rows.proofs.Bytes.{both, quick}
+use Rattle.rom_sprite.proofs.Rom.{both, quick}
 use Rattle.rom_sprite.proofs.Bytes.{drawn_pixels, and_meets, meets_tells, one_of_false}
 use Rattle.rom_sprite.proofs.Screen.{screen_ends, shown, screen_size}
 

@@ -26,11 +26,12 @@ use Rattle.rom_rows.specs.SpriteBlocks.SpriteBlock.{Row, RowByte, Shift, Shifted
 use Rattle.rom_rows.specs.Table.{calm_pieces, calm_top}
 use Rattle.rom_rows.specs.Table.Block.{OfSprite}
 use Rattle.rom_rows.proofs.Bits.{xor_same, xor_other}
-use Rattle.rom_rows.proofs.Bytes.{both, quick, memory_end_is, variables_is, stack_top_is, page_fits}
+use Rattle.rom_rows.proofs.Bytes.{memory_end_is, variables_is, stack_top_is, page_fits}
 use Rattle.rom_rows.proofs.Entry.{on_3, is_on_3}
 use Rattle.rom_rows.proofs.Follows.{to_sprite}
 use Rattle.rom_rows.proofs.Font.{Readable, readable_get}
 use Rattle.rom_rows.proofs.Ways.{straight, forks}
+use Rattle.rom_sprite.proofs.Rom.{both, quick, both_font}
 use Rattle.rom_sprite.proofs.Aim.{on_at}
 use Rattle.rom_sprite.proofs.Screen.{screen_is}
 
@@ -110,7 +111,7 @@ module _ (e : Edition) (b : Machine) (h : Since) (f : FitsMachine b) (r : ℕ) w
     readable = readable_row e (now h).i (asked (now h)) r (omega (arith, inside)) o.draws.readable
 
     byte_is : read (both e) b.latch b.ram (value b.regs.r.rd) ≡ byte_of
-    byte_is = ap (read (both e) b.latch b.ram) o.rd ∙ readable_get o.holds ((now h).i + r) readable
+    byte_is = ap (read (both e) b.latch b.ram) o.rd ∙ readable_get (both_font e) o.holds ((now h).i + r) readable
 
     goes_on : (a : ℕ) → Preparing (quick e) a r r (r + 1) (loaded (word_of a)) (now h)
     goes_on a = record { draws = o.draws; holds = o.holds; prepared = record { lefts = o.prepared.lefts; rights = o.prepared.rights }; p = refl; r3 = refl; r4 = o.r4; entry = o.entry; place = o.place; rows = omega (arith, o.rows, o.count, inside, f.regs.r.re.hi, f.regs.r.re.lo); count = omega (arith, o.count, inside, few_rows_drawn); r7 = o.r7; rd = omega (arith, o.rd, readable, memory_end_is e, page_fits e, f.regs.r.rd.hi, f.regs.r.rd.lo) }

@@ -13,7 +13,7 @@ use Rattle.rom_law.specs.Holding.{Places, Holding}
 use Rattle.rom_law.proofs.Places.{range_length, screen_set}
 use Rattle.rom_rows.specs.Heads.{page_of}
 use Rattle.rom_rows.specs.SpriteBlocks.{first_bytes, cleared_to}
-use Rattle.rom_rows.proofs.Bytes.{quick}
+use Rattle.rom_sprite.proofs.Rom.{quick}
 
 -- ---- where the screen lies
 

@@ -11,7 +11,7 @@ use Rattle.rom_law.specs.Rows.{Since, Starts, after_tick}
 use Rattle.rom_law.proofs.Kept.{Holds}
 use Rattle.rom_rows.specs.SpriteBlocks.{woken}
 use Rattle.rom_rows.specs.Table.{Place, pieces}
-use Rattle.rom_rows.proofs.Bytes.{quick}
+use Rattle.rom_sprite.proofs.Rom.{quick}
 
 -- a state lies in the machine while it waits as it does when it is woken
 pub waking : {x : Program} {p : Places} {s : Lang} → Holding x p s → Holding x (record p { idle = false }) s

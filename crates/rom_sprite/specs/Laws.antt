@@ -4,7 +4,7 @@ use Rattle.machine.specs.Instruction.{at}
 use Rattle.machine.specs.Board.{Machine}
 use Rattle.chip8_lang.specs.declared.view.Edition.{Edition}
 use Rattle.rom_law.specs.Rows.{Since}
-use Rattle.rom_rows.specs.Rom.{vip}
+use Rattle.rom_rows.specs.Rom.{program_of}
 use Rattle.rom_rows.specs.SpriteBlocks.{SpriteBlock, SpritePlace, sprite_moves, sprite_addresses, sprite_place_address, sprite_areas}
 use Rattle.rom_rows.specs.Table.{At, BlockRows, AwakeRows, TickRows}
 use Rattle.rom_rows.specs.Table.Block.{OfSprite}
@@ -12,24 +12,24 @@ use Rattle.rom_rows.specs.Table.Place.{AtSprite}
 use Rattle.rom_rows.specs.Addresses.{RunsAt, Covers}
 
 -- every main move keeps the rows
-abbrev pub SpriteRows : Type 0
-SpriteRows = (e : Edition) (l : SpriteBlock) → BlockRows (vip e) (OfSprite l)
+abbrev pub SpriteRows : (Edition → List ℕ) → Type 0
+SpriteRows rom = (e : Edition) (l : SpriteBlock) → BlockRows (program_of e (rom e)) (OfSprite l)
 
 -- so does one at the waits, where main code runs, and a tick there, also where main code waits
-abbrev pub SpritePlaceRows : Type 0
-SpritePlaceRows = (e : Edition) (l : SpritePlace) → AwakeRows (vip e) (AtSprite l)
+abbrev pub SpritePlaceRows : (Edition → List ℕ) → Type 0
+SpritePlaceRows rom = (e : Edition) (l : SpritePlace) → AwakeRows (program_of e (rom e)) (AtSprite l)
 
-abbrev pub SpriteTicks : Type 0
-SpriteTicks = (e : Edition) (l : SpritePlace) → TickRows (vip e) (AtSprite l)
+abbrev pub SpriteTicks : (Edition → List ℕ) → Type 0
+SpriteTicks rom = (e : Edition) (l : SpritePlace) → TickRows (program_of e (rom e)) (AtSprite l)
 
 -- in the rows of a block the program counter is at the block's addresses in turn, and at a place at its address
-abbrev pub SpriteAddresses : Type 0
-SpriteAddresses = (e : Edition) (l : SpriteBlock) → RunsAt (vip e) (OfSprite l) (sprite_addresses l)
+abbrev pub SpriteAddresses : (Edition → List ℕ) → Type 0
+SpriteAddresses rom = (e : Edition) (l : SpriteBlock) → RunsAt (program_of e (rom e)) (OfSprite l) (sprite_addresses l)
 
-abbrev pub SpritePlaceAddresses : Type 0
-SpritePlaceAddresses =
+abbrev pub SpritePlaceAddresses : (Edition → List ℕ) → Type 0
+SpritePlaceAddresses rom =
     (e : Edition) (l : SpritePlace) (b : Machine) (h : Since)
-    → At (vip e) (AtSprite l) b h
+    → At (program_of e (rom e)) (AtSprite l) b h
     → at b.regs b.regs.p ≡ sprite_place_address l
 
 -- a block or a place

@@ -5,6 +5,7 @@ use Rattle.machine.specs.Instruction.{at}
 use Rattle.machine.specs.Board.{Machine}
 use Rattle.chip8_lang.specs.declared.view.Edition.{Edition}
 use Rattle.chip8_image.specs.Labels.{at_set_delay_end, at_set_sound_end}
+use Rattle.rom_law.specs.Program.{Program}
 use Rattle.rom_law.specs.Rows.{Since, now}
 use Rattle.rom_rows.specs.Heads.{Entered}
 use Rattle.rom_rows.specs.TimerBlocks.{TimerBlock, timer_addresses, timer_areas}
@@ -12,15 +13,15 @@ use Rattle.rom_rows.specs.TimerBlocks.TimerBlock.{Random, RandomMix, GetDelayPut
 use Rattle.rom_rows.specs.TimerBlocks.TimerPlace.{RandomCount, GetDelay, SetDelayPut, SetSoundPut}
 use Rattle.rom_rows.specs.Table.{Head}
 use Rattle.rom_rows.specs.Table.Block.{OfTimer}
-use Rattle.rom_rows.specs.Rom.{vip}
 use Rattle.rom_rows.proofs.Addresses.{Follows, runs_at, covers}
-use Rattle.rom_rows.proofs.Bytes.{quick}
 use Rattle.rom_rows.proofs.Entry.{is_entered, on_3, is_on_3}
+use Rattle.rom_timer.proofs.Rom.{both_is, both_fits, quick}
 use Rattle.rom_timer.specs.Laws.{TimerAddresses, TimerPlaceAddresses, TimerCovers, TimerPiece, piece_moves, piece_addresses}
 use Rattle.rom_timer.specs.Laws.TimerPiece.{InBlock, AtPlace}
 use Rattle.rom_timer.proofs.Law.{timer_block}
+use Rattle.rom_timer.specs.Code.{timer_rom}
 
-timer_follows : (e : Edition) (l : TimerBlock) (b : Machine) (h : Since) → Head (quick e) (OfTimer l) b h → Follows e (OfTimer l) (timer_addresses l) b
+timer_follows : (e : Edition) (l : TimerBlock) (b : Machine) (h : Since) → Head (quick e) (OfTimer l) b h → Follows (quick e) (OfTimer l) (timer_addresses l) b
 timer_follows e Random b h o = record { same = _; is = is_entered o.0.entered; follows = refl }
 timer_follows e RandomMix b h o = record { same = _; is = is_entered o.0.0.entered; follows = refl }
 timer_follows e GetDelayPut b h o = record { same = _; is = is_entered o.0.0.entered; follows = refl }
@@ -29,18 +30,18 @@ timer_follows e SetDelayEnd b h o = record { same = on_3 at_set_delay_end b; is 
 timer_follows e SetSound b h o = record { same = _; is = is_entered o.0.0.entered; follows = refl }
 timer_follows e SetSoundEnd b h o = record { same = on_3 at_set_sound_end b; is = is_on_3 at_set_sound_end b o.0.done.p o.0.done.r3; follows = refl }
 
-pub addresses : TimerAddresses
-addresses e l = runs_at e (OfTimer l) (timer_addresses l) (timer_block e l) (timer_follows e l)
+pub addresses : TimerAddresses timer_rom
+addresses e l = runs_at e (both_is e) (both_fits e) (OfTimer l) (timer_addresses l) (timer_block e l) (timer_follows e l)
 
 -- the program counter in a routine
-counter : (e : Edition) (a : ℕ) (b : Machine) (h : Since) → Entered (vip e) a b (now h) → at b.regs b.regs.p ≡ value (word_of a)
-counter e a b h o = ap (at b.regs) o.p ∙ ap value o.r3
+counter : {x : Program} (a : ℕ) (b : Machine) (h : Since) → Entered x a b (now h) → at b.regs b.regs.p ≡ value (word_of a)
+counter a b h o = ap (at b.regs) o.p ∙ ap value o.r3
 
-pub place_addresses : TimerPlaceAddresses
-place_addresses e RandomCount b h o = counter e _ b h o.0.0.entered
-place_addresses e GetDelay b h o = counter e _ b h o.0.0.entered
-place_addresses e SetDelayPut b h o = counter e _ b h o.0.0.entered
-place_addresses e SetSoundPut b h o = counter e _ b h o.0.0.entered
+pub place_addresses : TimerPlaceAddresses timer_rom
+place_addresses e RandomCount b h o = counter _ b h o.0.0.entered
+place_addresses e GetDelay b h o = counter _ b h o.0.0.entered
+place_addresses e SetDelayPut b h o = counter _ b h o.0.0.entered
+place_addresses e SetSoundPut b h o = counter _ b h o.0.0.entered
 
 timer_pieces : List TimerPiece
 timer_pieces =

@@ -11,11 +11,12 @@ use Rattle.rom_rows.specs.TimerBlocks.TimerPlace.{RandomCount, GetDelay, SetDela
 use Rattle.rom_rows.specs.Table.{Head, At, calm_pieces}
 use Rattle.rom_rows.specs.Table.Block.{OfTimer}
 use Rattle.rom_rows.specs.Table.Place.{AtTimer}
-use Rattle.rom_rows.proofs.Bytes.{quick}
 use Rattle.rom_rows.proofs.Sounds.{block_rows, place_rows}
+use Rattle.rom_timer.proofs.Rom.{both_is, both_fits, quick}
 use Rattle.rom_timer.specs.Laws.{TimerRows, TimerPlaceRows}
 use Rattle.rom_timer.proofs.Randoms.{random_comes, random_count_holds, random_mix_comes}
 use Rattle.rom_timer.proofs.Timers.{get_delay_holds, get_delay_put_comes, set_delay_comes, set_delay_put_holds, set_delay_end_comes, set_sound_comes, set_sound_put_holds, set_sound_end_comes}
+use Rattle.rom_timer.specs.Code.{timer_rom}
 
 pub timer_block : (e : Edition) (l : TimerBlock) (b : Machine) (h : Since) → FitsMachine b → Head (quick e) (OfTimer l) b h → Comes (quick e) (calm_pieces (quick e)) (OfTimer l) b h
 timer_block e Random b h f o = random_comes e b h f o.0 o.1
@@ -26,8 +27,8 @@ timer_block e SetDelayEnd b h f o = set_delay_end_comes e b h f o.0
 timer_block e SetSound b h f o = set_sound_comes e b h f o.0.0 o.0.1 o.1
 timer_block e SetSoundEnd b h f o = set_sound_end_comes e b h f o.0
 
-pub timer_rows : TimerRows
-timer_rows e l = block_rows e (OfTimer l) (timer_block e l)
+pub timer_rows : TimerRows timer_rom
+timer_rows e l = block_rows e (both_is e) (both_fits e) (OfTimer l) (timer_block e l)
 
 pub timer_place : (e : Edition) (l : TimerPlace) (b : Machine) (h : Since) → FitsMachine b → At (quick e) (AtTimer l) b h → Holds (quick e) (calm_pieces (quick e)) (AtTimer l) b h
 timer_place e RandomCount b h f o = random_count_holds e b h f o.0.0 o.0.1 o o.1
@@ -41,5 +42,5 @@ awake e GetDelay b h o = o.0.0.entered.holds.awake
 awake e SetDelayPut b h o = o.0.0.entered.holds.awake
 awake e SetSoundPut b h o = o.0.0.entered.holds.awake
 
-pub timer_place_rows : TimerPlaceRows
-timer_place_rows e l = place_rows e (AtTimer l) (timer_place e l) (awake e l)
+pub timer_place_rows : TimerPlaceRows timer_rom
+timer_place_rows e l = place_rows e (both_is e) (both_fits e) (AtTimer l) (timer_place e l) (awake e l)

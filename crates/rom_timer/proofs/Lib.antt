@@ -1,3 +1,4 @@
+pub mod Rom
 pub mod Timers
 pub mod Randoms
 pub mod Law

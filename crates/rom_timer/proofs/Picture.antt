@@ -15,12 +15,12 @@ use Rattle.chip8_lang.specs.Screen.{is_set}
 use Rattle.chip8_lang.specs.Places.{state_of, pixels}
 use Rattle.rom_law.specs.Pictures.{dot, ShowsScreen}
 use Rattle.rom_law.proofs.Places.{range_get, range_length}
-use Rattle.rom_rows.specs.Rom.{image}
 use Rattle.rom_timer.specs.Routine.{routine_moves}
 use Rattle.rom_timer.specs.Scan.{fetched, RunPicture}
 use Rattle.rom_timer.proofs.Fetched.{states_join, fetched_append, none_fetched}
 use Rattle.rom_timer.proofs.Tick.{run_tick}
 use Rattle.rom_timer.proofs.Scan.{row_fits, run_scan}
+use Rattle.rom_timer.specs.Code.{timer_rom}
 
 -- ---- the lines of a picture
 
@@ -139,7 +139,7 @@ shows e rom run m b size scan =
         ap (λ l. dot l x) (same_Some line (line_bytes rom run (262 * m + 80 + k)) (sym get ∙ lines_get rom run 128 (262 * m + 80) k some) ∙ bytes k some)
         ∙ dots e b.ram k some x h
 
-pub run_picture : RunPicture
+pub run_picture : RunPicture timer_rom
 run_picture e m i limit held first o ended =
-    shows e (image e) (run_to (image e) held first limit) m (after_moves (image e) held first i) o.fits.size
-    (λ k some. in_run (image e) held first m i routine_moves limit o.cycle (omega arith) (omega (arith, (run_tick e m (after_moves (image e) held first i) held o).cycle)) ended k some ∙ run_scan e m (after_moves (image e) held first i) held o k some)
+    shows e (timer_rom e) (run_to (timer_rom e) held first limit) m (after_moves (timer_rom e) held first i) o.fits.size
+    (λ k some. in_run (timer_rom e) held first m i routine_moves limit o.cycle (omega arith) (omega (arith, (run_tick e m (after_moves (timer_rom e) held first i) held o).cycle)) ended k some ∙ run_scan e m (after_moves (timer_rom e) held first i) held o k some)

@@ -13,7 +13,7 @@ use Rattle.chip8_lang.specs.Editions.{memory_end, screen_start, lines_of}
 use Rattle.chip8_image.specs.Labels.{at_scan}
 use Rattle.rom_law.specs.Program.{code}
 use Rattle.rom_law.proofs.Places.{variables_below}
-use Rattle.rom_rows.proofs.Bytes.{both, both_is, quick}
+use Rattle.rom_timer.proofs.Rom.{both, both_is, quick}
 use Rattle.rom_timer.specs.Routine.{IsInterrupted, routine_moves}
 use Rattle.rom_timer.specs.Scan.{fetched, RunScan}
 use Rattle.rom_timer.proofs.Board.{timed, at_byte, serves_join, moves_more, dmas}
@@ -21,6 +21,7 @@ use Rattle.rom_timer.proofs.Window.{scanning, shown, next, shown_usual, shown_ta
 use Rattle.rom_timer.proofs.Serving.{taken, entered, opens}
 use Rattle.rom_timer.proofs.Fetched.{states_join, fetched_append, none_fetched, IsPast, bytes_fetched}
 use Rattle.rom_timer.proofs.Tick.{first, kept}
+use Rattle.rom_timer.specs.Code.{timer_rom}
 
 -- ---- the row of a line
 
@@ -119,5 +120,5 @@ module _ (e : Edition) (m : ℕ) (b : Machine) (held : ℕ → Keys) (o : IsInte
       ∙ ap₂ (λ x y. x ++ y) none_before (fetched_append (both e) held line (states (both e) held c 8) (states (both e) held d rest) ∙ ap₂ (λ x y. x ++ y) bytes none_after)
       ∙ append-nil (slice_range b.ram address (address + 8))
 
-pub run_scan : RunScan
+pub run_scan : RunScan timer_rom
 run_scan e m b held o k some = subst (λ rom. fetched rom (262 * m + 80 + k) (states rom held b routine_moves) ≡ slice_range b.ram (screen_start e + 8 * (k / lines_of e)) (screen_start e + 8 * (k / lines_of e) + 8)) (both_is e) (scanned e m b held o k some)

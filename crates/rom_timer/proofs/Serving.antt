@@ -14,7 +14,7 @@ use Rattle.chip8_lang.specs.Editions.{screen_start}
 use Rattle.chip8_image.specs.Labels.{at_entry, at_scan, at_delay, at_delay_down, at_delay_none, at_sound, at_sound_down, at_sound_none, at_resume}
 use Rattle.rom_law.specs.Program.{code}
 use Rattle.rom_rows.specs.Heads.{by_edition}
-use Rattle.rom_rows.proofs.Bytes.{both, quick}
+use Rattle.rom_timer.proofs.Rom.{both, quick}
 use Rattle.rom_timer.proofs.Board.{timed, at_byte, Serves, serves_join, serves_to, instructions}
 use Rattle.rom_timer.proofs.Window.{scanning}
 

@@ -15,7 +15,8 @@ use Rattle.chip8_lang.specs.declared.view.Edition.TheVariants.{Usual, Tall}
 use Rattle.chip8_lang.specs.Editions.{memory_end}
 use Rattle.chip8_image.specs.Labels.{at_delay, at_resume}
 use Rattle.rom_law.specs.Program.{code}
-use Rattle.rom_rows.proofs.Bytes.{both, both_is, quick, memory_end_is, variables_is, page_fits, page_low}
+use Rattle.rom_rows.proofs.Bytes.{memory_end_is, variables_is, page_fits, page_low}
+use Rattle.rom_timer.proofs.Rom.{both, both_is, quick}
 use Rattle.rom_timer.specs.Frame.{IsMainPlace}
 use Rattle.rom_timer.specs.Routine.{IsInterrupted, RunsRoutine, RunTick, routine_moves}
 use Rattle.rom_timer.proofs.Frame.{accepted}
@@ -23,6 +24,7 @@ use Rattle.rom_timer.proofs.Board.{timed, at_byte, Serves, serves_join, serves_t
 use Rattle.rom_timer.proofs.Pushed.{pushed, as_long, read_low, read_high, others, bytes_fit}
 use Rattle.rom_timer.proofs.Window.{scanning, shown, left, window}
 use Rattle.rom_timer.proofs.Serving.{taken, entered, serving, opens, Delays, delays, sounds, resumed, resumes}
+use Rattle.rom_timer.specs.Code.{timer_rom}
 
 module _ (e : Edition) (m : ℕ) (b : Machine) (held : ℕ → Keys) (o : IsInterrupted e m b) where
   -- ---- where the two bytes lie
@@ -200,5 +202,5 @@ TickBy e m b held rom =
 tick_by : (e : Edition) (m : ℕ) (b : Machine) (held : ℕ → Keys) → IsInterrupted e m b → TickBy e m b held (both e)
 tick_by e m b held o = (subst (Tick (memory_end e) b) (sym (ends e m b held o)) (is_tick e m b held o), ap (λ (z : Machine). z.cycle) (ends e m b held o) ∙ time_is e m b held o, subst (λ (z : Machine). IsMainPlace z.cycle) (sym (ends e m b held o)) (place_is e m b held o), inside e m b held o)
 
-pub run_tick : RunTick
+pub run_tick : RunTick timer_rom
 run_tick e m b held o = let t = subst (TickBy e m b held) (both_is e) (tick_by e m b held o) in record { tick = t.0; cycle = t.1; place = t.2; inside = t.3 }

@@ -26,11 +26,12 @@ use Rattle.rom_rows.specs.Table.Block.{OfTimer}
 use Rattle.rom_rows.specs.Table.Place.{AtTimer}
 use Rattle.rom_rows.proofs.Alone.{alone, one_more}
 use Rattle.rom_rows.proofs.Branches.{looked, looks}
-use Rattle.rom_rows.proofs.Bytes.{both, quick, page_fits, stack_top_is, variables_is}
+use Rattle.rom_rows.proofs.Bytes.{page_fits, stack_top_is, variables_is}
 use Rattle.rom_rows.proofs.Entry.{ready, entered, is_entered, on_3, is_on_3}
 use Rattle.rom_rows.proofs.Follows.{to_timer, to_timer_place}
 use Rattle.rom_rows.proofs.Straight.{routine}
 use Rattle.rom_rows.proofs.Steps.{steps}
+use Rattle.rom_timer.proofs.Rom.{both, quick}
 
 module _ (e : Edition) (b : Machine) (h : Since) (f : FitsMachine b) where
   abbrev high : ℕ

@@ -14,7 +14,7 @@ use Rattle.rom_moves.specs.Code.{Code}
 use Rattle.rom_moves.proofs.Moves.{quicks, quick_by}
 use Rattle.rom_law.specs.Program.{code}
 use Rattle.rom_rows.specs.Heads.{by_edition}
-use Rattle.rom_rows.proofs.Bytes.{quick}
+use Rattle.rom_timer.proofs.Rom.{quick}
 use Rattle.rom_timer.proofs.Board.{timed, at_byte, Serves, serves_join, serves_to, serves_none, are_served, cycles_in, instructions, dmas, move_by, served, one}
 
 -- ---- the signals in a line

@@ -4,7 +4,7 @@ use Rattle.machine.specs.Instruction.{at}
 use Rattle.machine.specs.Board.{Machine}
 use Rattle.chip8_lang.specs.declared.view.Edition.{Edition}
 use Rattle.rom_law.specs.Rows.{Since}
-use Rattle.rom_rows.specs.Rom.{vip}
+use Rattle.rom_rows.specs.Rom.{program_of}
 use Rattle.rom_rows.specs.TimerBlocks.{TimerBlock, TimerPlace, timer_moves, timer_addresses, timer_place_address, timer_areas}
 use Rattle.rom_rows.specs.Table.{At, BlockRows, PlaceRows}
 use Rattle.rom_rows.specs.Table.Block.{OfTimer}
@@ -12,20 +12,20 @@ use Rattle.rom_rows.specs.Table.Place.{AtTimer}
 use Rattle.rom_rows.specs.Addresses.{RunsAt, Covers}
 
 -- every main move keeps the rows
-abbrev pub TimerRows : Type 0
-TimerRows = (e : Edition) (l : TimerBlock) → BlockRows (vip e) (OfTimer l)
+abbrev pub TimerRows : (Edition → List ℕ) → Type 0
+TimerRows rom = (e : Edition) (l : TimerBlock) → BlockRows (program_of e (rom e)) (OfTimer l)
 
-abbrev pub TimerPlaceRows : Type 0
-TimerPlaceRows = (e : Edition) (l : TimerPlace) → PlaceRows (vip e) (AtTimer l)
+abbrev pub TimerPlaceRows : (Edition → List ℕ) → Type 0
+TimerPlaceRows rom = (e : Edition) (l : TimerPlace) → PlaceRows (program_of e (rom e)) (AtTimer l)
 
 -- in the rows of a block the program counter is at the block's addresses in turn, and at a place at its address
-abbrev pub TimerAddresses : Type 0
-TimerAddresses = (e : Edition) (l : TimerBlock) → RunsAt (vip e) (OfTimer l) (timer_addresses l)
+abbrev pub TimerAddresses : (Edition → List ℕ) → Type 0
+TimerAddresses rom = (e : Edition) (l : TimerBlock) → RunsAt (program_of e (rom e)) (OfTimer l) (timer_addresses l)
 
-abbrev pub TimerPlaceAddresses : Type 0
-TimerPlaceAddresses =
+abbrev pub TimerPlaceAddresses : (Edition → List ℕ) → Type 0
+TimerPlaceAddresses rom =
     (e : Edition) (l : TimerPlace) (b : Machine) (h : Since)
-    → At (vip e) (AtTimer l) b h
+    → At (program_of e (rom e)) (AtTimer l) b h
     → at b.regs b.regs.p ≡ timer_place_address l
 
 -- a block or a place

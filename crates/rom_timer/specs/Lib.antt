@@ -1,3 +1,4 @@
+pub mod Code
 pub mod Laws
 pub mod Frame
 pub mod Routine

@@ -1,5 +1,5 @@
 -- What the interrupt routine makes, from an accepted interrupt to its return.
-use Rattle.std.specs.Prelude.{◌≡◌, ℕ, ◌+◌, ◌<◌, ◌≤◌, true, false}
+use Rattle.std.specs.Prelude.{◌≡◌, ℕ, ◌+◌, ◌<◌, ◌≤◌, true, false, List}
 use Rattle.machine.specs.Bank.{value, word_of}
 use Rattle.machine.specs.Board.{Machine}
 use Rattle.machine.specs.Keys.{Keys}
@@ -10,7 +10,6 @@ use Rattle.machine.specs.Pictures.{interrupt_at}
 use Rattle.chip8_lang.specs.declared.view.Edition.{Edition}
 use Rattle.chip8_lang.specs.Editions.{memory_end, variables}
 use Rattle.chip8_image.specs.declared.TheConstants.{ENTRY}
-use Rattle.rom_rows.specs.Rom.{image}
 use Rattle.rom_timer.specs.Frame.{IsMainPlace}
 
 -- Main code runs or waits in the cycle of frame m's interrupt, and between game memory and V0 there is room for the two bytes that the
@@ -38,11 +37,11 @@ pub record RunsRoutine (b : Machine) : Type 0 where
   pub disabled : b.regs.ie ≡ false
 
 -- The routine is one tick, after which main code goes on, at an even cycle behind the window.
-pub record IsTick (e : Edition) (m : ℕ) (b : Machine) (held : ℕ → Keys) : Type 0 where
-  pub tick : Tick (memory_end e) b (after_moves (image e) held b routine_moves)
-  pub cycle : (after_moves (image e) held b routine_moves).cycle ≡ interrupt_at m + routine_cycles
-  pub place : IsMainPlace (after_moves (image e) held b routine_moves).cycle
-  pub inside : (k : ℕ) → 0 < k → k < routine_moves → RunsRoutine (after_moves (image e) held b k)
+pub record IsTick (e : Edition) (rom : List ℕ) (m : ℕ) (b : Machine) (held : ℕ → Keys) : Type 0 where
+  pub tick : Tick (memory_end e) b (after_moves rom held b routine_moves)
+  pub cycle : (after_moves rom held b routine_moves).cycle ≡ interrupt_at m + routine_cycles
+  pub place : IsMainPlace (after_moves rom held b routine_moves).cycle
+  pub inside : (k : ℕ) → 0 < k → k < routine_moves → RunsRoutine (after_moves rom held b k)
 
-abbrev pub RunTick : Type 0
-RunTick = (e : Edition) (m : ℕ) (b : Machine) (held : ℕ → Keys) → IsInterrupted e m b → IsTick e m b held
+abbrev pub RunTick : (Edition → List ℕ) → Type 0
+RunTick rom = (e : Edition) (m : ℕ) (b : Machine) (held : ℕ → Keys) → IsInterrupted e m b → IsTick e (rom e) m b held

@@ -8,7 +8,6 @@ use Rattle.chip8_lang.specs.declared.view.Edition.{Edition}
 use Rattle.chip8_lang.specs.Editions.{screen_start, lines_of}
 use Rattle.chip8_lang.specs.Places.{state_of}
 use Rattle.rom_law.specs.Pictures.{ShowsScreen}
-use Rattle.rom_rows.specs.Rom.{image}
 use Rattle.rom_timer.specs.Routine.{IsInterrupted, routine_moves}
 
 -- the bytes of a line's DMA cycles among these states, in order
@@ -17,20 +16,20 @@ fetched rom line run = map (dma_byte rom) (filter (is_dma_in line) run)
 
 -- Line 80 + k of frame m, for each k below 128, has eight DMA cycles, with the eight bytes of the screen's row k / 4, in the tall edition
 -- k / 2, as they lie in RAM when the interrupt comes.
-abbrev pub RunScan : Type 0
-RunScan =
+abbrev pub RunScan : (Edition → List ℕ) → Type 0
+RunScan rom =
     (e : Edition) (m : ℕ) (b : Machine) (held : ℕ → Keys)
     → IsInterrupted e m b
     → (k : ℕ)
     → k < 128
-    → fetched (image e) (262 * m + 80 + k) (states (image e) held b routine_moves) ≡ slice_range b.ram (screen_start e + 8 * (k / lines_of e)) (screen_start e + 8 * (k / lines_of e) + 8)
+    → fetched (rom e) (262 * m + 80 + k) (states (rom e) held b routine_moves) ≡ slice_range b.ram (screen_start e + 8 * (k / lines_of e)) (screen_start e + 8 * (k / lines_of e) + 8)
 
 -- Where the interrupt of frame m comes after i moves of a run, and the run goes on to the end of its window, the picture of that frame shows
 -- the screen in RAM at the interrupt.
-abbrev pub RunPicture : Type 0
-RunPicture =
+abbrev pub RunPicture : (Edition → List ℕ) → Type 0
+RunPicture rom =
     (e : Edition) (m i limit : ℕ) (held : ℕ → Keys) (first : Machine)
-    → let b = after_moves (image e) held first i in
+    → let b = after_moves (rom e) held first i in
     IsInterrupted e m b
     → window_end m ≤ limit
-    → ShowsScreen e (picture_of (image e) (run_to (image e) held first limit) m) (state_of e b).screen
+    → ShowsScreen e (picture_of (rom e) (run_to (rom e) held first limit) m) (state_of e b).screen

@@ -1,5 +1,6 @@
 //! What is proved of CXKK, FX07, FX15, FX18 and the interrupt routine, each law the contract of a function without parameters.
 
+ghost use Rattle.rom_timer.specs.Code.{timer_rom};
 ghost use Rattle.rom_timer.specs.Laws.{TimerRows, TimerPlaceRows, TimerAddresses, TimerPlaceAddresses, TimerCovers};
 ghost use Rattle.rom_timer.specs.Frame.{EveryMove, KeepsPlace, KeepsWaiting};
 ghost use Rattle.rom_timer.specs.Routine.{RunTick};
@@ -8,22 +9,22 @@ ghost use Rattle.rom_timer.specs.Scan.{RunPicture, RunScan};
 /// From every state in a row of a block of CXKK, of FX07, of FX15 or of FX18, a main move comes to a row of the table or to the next
 /// dispatch, and carries on the record of what came since the last dispatch.
 pub fn main_rows()
-    ensures { TimerRows }
+    ensures { TimerRows timer_rom }
 {}
 
 /// The same from every state at one of their places, where the count of ticks or a timer is read or written.
 pub fn place_rows()
-    ensures { TimerPlaceRows }
+    ensures { TimerPlaceRows timer_rom }
 {}
 
 /// In a row of one of these blocks the program counter is at the addresses that the table gives the block, one after the other.
 pub fn addresses()
-    ensures { TimerAddresses }
+    ensures { TimerAddresses timer_rom }
 {}
 
 /// At a place it is at the place's address.
 pub fn place_addresses()
-    ensures { TimerPlaceAddresses }
+    ensures { TimerPlaceAddresses timer_rom }
 {}
 
 /// Every instruction of CXKK, of FX07, of FX15 and of FX18 is in one of these blocks or at one of these places.
@@ -50,15 +51,15 @@ pub fn keeps_waiting()
 /// From the interrupt of a frame, of a machine whose main code runs or waits with room on the stack, the board comes in 1,846 machine cycles
 /// to the return of the routine: one timer tick was made, and nothing else. In between R1 is the program counter.
 pub fn run_tick()
-    ensures { RunTick }
+    ensures { RunTick timer_rom }
 {}
 
 /// In those moves each of the 128 lines of the window has eight DMA cycles, 1,024 in all, with the eight bytes of its row of the screen.
 pub fn run_scan()
-    ensures { RunScan }
+    ensures { RunScan timer_rom }
 {}
 
 /// So the picture of a frame shows the screen that lies in RAM when its interrupt comes, in every run that goes on to the end of the window.
 pub fn run_picture()
-    ensures { RunPicture }
+    ensures { RunPicture timer_rom }
 {}
