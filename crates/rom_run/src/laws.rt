@@ -1,5 +1,14 @@
 //! What is proved of the whole interpreter's ROM, each law the contract of a function without parameters.
 
+ghost use Rattle.rom_rows.specs.Rom.{image};
+ghost use Rattle.rom_fetch.specs.Laws.{FetchRows, FetchAddresses, DispatchTime, EveryBoot};
+ghost use Rattle.rom_arith.specs.Laws.{ArithRows, ArithAddresses};
+ghost use Rattle.rom_memory.specs.Laws.{MemoryRows, MemoryAddresses};
+ghost use Rattle.rom_sprite.specs.Laws.{SpriteRows, SpritePlaceRows, SpriteTicks, SpriteAddresses, SpritePlaceAddresses};
+ghost use Rattle.rom_timer.specs.Laws.{TimerRows, TimerPlaceRows, TimerAddresses, TimerPlaceAddresses};
+ghost use Rattle.rom_timer.specs.Routine.{RunTick};
+ghost use Rattle.rom_timer.specs.Scan.{RunScan, RunPicture};
+ghost use Rattle.rom_keys.specs.Laws.{KeyRows, KeyPlaceRows, KeyAddresses, KeyPlaceAddresses, NoneStays, StaysDown, GoesUp};
 ghost use Rattle.rom_run.specs.Laws.{AnySchedule, MainRows, Timely, Undisturbed, WaitsSoon, ChangesSoon, EveryRun, EveryKeyWait, EveryPicture};
 
 /// The law of every schedule, for both editions: from a dispatch point on, whenever timer ticks come and whatever keys are held down, the
@@ -53,4 +62,36 @@ pub fn every_key_wait()
 /// screen of the language state at the last dispatch point that precedes the picture among the events, and there is one.
 pub fn every_picture()
     ensures { EveryPicture }
+{}
+
+/// Of the image of each edition, what the crates of the six parts prove of the bytes that stand there: the rows and the addresses of their
+/// blocks and places, boot, the time of the dispatch, the interrupt routine with its scan and its picture, and the sets of keys of FX0A.
+pub fn every_part()
+    ensures fetch_rows { FetchRows image }
+    ensures fetch_addresses { FetchAddresses image }
+    ensures dispatch_time { DispatchTime image }
+    ensures every_boot { EveryBoot image }
+    ensures arith_rows { ArithRows image }
+    ensures arith_addresses { ArithAddresses image }
+    ensures memory_rows { MemoryRows image }
+    ensures memory_addresses { MemoryAddresses image }
+    ensures sprite_rows { SpriteRows image }
+    ensures sprite_place_rows { SpritePlaceRows image }
+    ensures sprite_ticks { SpriteTicks image }
+    ensures sprite_addresses { SpriteAddresses image }
+    ensures sprite_place_addresses { SpritePlaceAddresses image }
+    ensures timer_rows { TimerRows image }
+    ensures timer_place_rows { TimerPlaceRows image }
+    ensures timer_addresses { TimerAddresses image }
+    ensures timer_place_addresses { TimerPlaceAddresses image }
+    ensures run_tick { RunTick image }
+    ensures run_scan { RunScan image }
+    ensures run_picture { RunPicture image }
+    ensures key_rows { KeyRows image }
+    ensures key_place_rows { KeyPlaceRows image }
+    ensures key_addresses { KeyAddresses image }
+    ensures key_place_addresses { KeyPlaceAddresses image }
+    ensures none_stays { NoneStays image }
+    ensures stays_down { StaysDown image }
+    ensures goes_up { GoesUp image }
 {}
