@@ -9,7 +9,6 @@ pub mod Carried
 pub mod Runs
 pub mod Shown
 pub mod Keys
-pub mod NoDisplay
 pub mod First
 pub mod Steps
 pub mod Boots
