@@ -2,6 +2,7 @@
 use Rattle.std.specs.Prelude.{◌≡◌, ℕ, zero, suc, ◌+◌, ◌-◌, ◌*◌, ◌%◌, ◌/◌, ◌<◌, ◌≤◌, Bool, true, false, List, [], ◌∷◌, slice_get, Some, None}
 use Rattle.machine.specs.Keys.{Event, Keys, held_at}
 use Rattle.machine.specs.Pictures.{frame}
+use Rattle.machine.specs.Signals.{line_cycles, interrupt_line}
 use Rattle.chip8_lang.specs.declared.instr.Instr.{Instr}
 use Rattle.chip8_lang.specs.declared.instr.Instr.TheVariants.{Clear, Draw, SkipDown, SkipUp, WaitKey}
 use Rattle.chip8_lang.specs.declared.view.Edition.{Edition}
@@ -12,9 +13,9 @@ use Rattle.chip8_lang.specs.Ticks.{ticks}
 
 -- ---- an interval of cycles
 
--- how many interrupts a frame's worth of cycles has started up to and with a cycle: one in the first cycle of line 78 of each frame
+-- how many interrupts have started by a cycle, that cycle included: one in each frame, in the first cycle of the interrupt's line
 abbrev pub interrupts_by : ℕ → ℕ
-interrupts_by t = (t + (frame - 78 * 14)) / frame
+interrupts_by t = (t + (frame - interrupt_line * line_cycles)) / frame
 
 -- the ticks between two cycles: the frames m whose interrupt lies strictly between them
 abbrev pub ticks_between : ℕ → ℕ → ℕ

@@ -21,14 +21,14 @@ is_readable e a n = is_in_memory e a n || is_in_font a n
 
 -- the stop of an instruction, or none
 abbrev pub stop_of_instr : Edition → Instr → Lang → Option Stop
-stop_of_instr e (Machine a) s = Some MachineCall
-stop_of_instr e (Unknown opcode) s = Some UnknownOpcode
-stop_of_instr e (Call a) s = unless (not (length s.stack == 12)) StackFull
-stop_of_instr e Return s = unless (not (length s.stack == 0)) StackEmpty
-stop_of_instr e (Fetch x) s = unless (is_readable e s.i (x + 1)) ReadOutside
-stop_of_instr e (Draw x y n) s = unless (n == 0 || is_readable e s.i n) ReadOutside
-stop_of_instr e (Decimal x) s = unless (is_in_memory e s.i 3) WriteOutside
-stop_of_instr e (Store x) s = unless (is_in_memory e s.i (x + 1)) WriteOutside
+stop_of_instr e (Machine a) s = Some MachineCall  -- 0MMM other than 00E0 and 00EE
+stop_of_instr e (Unknown opcode) s = Some UnknownOpcode  -- every other opcode
+stop_of_instr e (Call a) s = unless (not (length s.stack == 12)) StackFull  -- 2MMM
+stop_of_instr e Return s = unless (not (length s.stack == 0)) StackEmpty  -- 00EE
+stop_of_instr e (Fetch x) s = unless (is_readable e s.i (x + 1)) ReadOutside  -- FX65
+stop_of_instr e (Draw x y n) s = unless (n == 0 || is_readable e s.i n) ReadOutside  -- DXYN
+stop_of_instr e (Decimal x) s = unless (is_in_memory e s.i 3) WriteOutside  -- FX33
+stop_of_instr e (Store x) s = unless (is_in_memory e s.i (x + 1)) WriteOutside  -- FX55
 stop_of_instr e _ s = None
 
 -- the stop that fits a state, or none
@@ -110,46 +110,46 @@ abbrev pub chosen_key : KeyInput → ℕ
 chosen_key (Chosen key) = key
 chosen_key _ = 0
 
--- what an instruction makes of a state, where it doesn't stop
+-- What an instruction makes of a state, where it doesn't stop. Behind each line stands the opcode, its digits as in `Decode`.
 abbrev pub done_by : Edition → Instr → KeyInput → Lang → Lang
-done_by e Clear key s = record (next s) { screen = empty }
-done_by e Return key s = record s { pc = slice_index s.stack (length s.stack - 1); stack = take (length s.stack - 1) s.stack }
-done_by e (Machine a) key s = s
-done_by e (Jump a) key s = record s { pc = a }
-done_by e (Call a) key s = record s { stack = s.stack ++ (s.pc + 2) ∷ []; pc = a }
-done_by e (SkipEq x k) key s = skip_if (variable s x == k) s
-done_by e (SkipNe x k) key s = skip_if (not (variable s x == k)) s
-done_by e (SkipSame x y) key s = skip_if (variable s x == variable s y) s
-done_by e (Load x k) key s = set x k s
-done_by e (Add x k) key s = set x ((variable s x + k) % 256) s
-done_by e (Copy x y) key s = set x (variable s y) s
-done_by e (Or x y) key s = set_with_flag x (bit_or (variable s x) (variable s y)) 0 s
-done_by e (And x y) key s = set_with_flag x (bit_and (variable s x) (variable s y)) 0 s
-done_by e (Xor x y) key s = set_with_flag x (bit_xor (variable s x) (variable s y)) 0 s
-done_by e (Sum x y) key s = set_sum x (variable s x + variable s y) s
-done_by e (Less x y) key s = set_sum x (variable s x + 256 - variable s y) s
-done_by e (Right x y) key s = set_with_flag x (variable s y / 2) (variable s y % 2) s
-done_by e (From x y) key s = set_sum x (variable s y + 256 - variable s x) s
-done_by e (Left x y) key s = set_sum x (variable s y * 2) s
-done_by e (SkipDiffer x y) key s = skip_if (not (variable s x == variable s y)) s
-done_by e (Index a) key s = record (next s) { i = a }
-done_by e (JumpPlus a) key s = record s { pc = a + variable s 0 }
-done_by e (Random x k) key s = record (set x (bit_and (random s) k) s) { b = random s }
-done_by e (Draw x y n) key s =
+done_by e Clear key s = record (next s) { screen = empty }  -- 00E0
+done_by e Return key s = record s { pc = slice_index s.stack (length s.stack - 1); stack = take (length s.stack - 1) s.stack }  -- 00EE
+done_by e (Machine a) key s = s  -- other 0MMM
+done_by e (Jump a) key s = record s { pc = a }  -- 1MMM
+done_by e (Call a) key s = record s { stack = s.stack ++ (s.pc + 2) ∷ []; pc = a }  -- 2MMM
+done_by e (SkipEq x k) key s = skip_if (variable s x == k) s  -- 3XKK
+done_by e (SkipNe x k) key s = skip_if (not (variable s x == k)) s  -- 4XKK
+done_by e (SkipSame x y) key s = skip_if (variable s x == variable s y) s  -- 5XY0
+done_by e (Load x k) key s = set x k s  -- 6XKK
+done_by e (Add x k) key s = set x ((variable s x + k) % 256) s  -- 7XKK
+done_by e (Copy x y) key s = set x (variable s y) s  -- 8XY0
+done_by e (Or x y) key s = set_with_flag x (bit_or (variable s x) (variable s y)) 0 s  -- 8XY1
+done_by e (And x y) key s = set_with_flag x (bit_and (variable s x) (variable s y)) 0 s  -- 8XY2
+done_by e (Xor x y) key s = set_with_flag x (bit_xor (variable s x) (variable s y)) 0 s  -- 8XY3
+done_by e (Sum x y) key s = set_sum x (variable s x + variable s y) s  -- 8XY4
+done_by e (Less x y) key s = set_sum x (variable s x + 256 - variable s y) s  -- 8XY5
+done_by e (Right x y) key s = set_with_flag x (variable s y / 2) (variable s y % 2) s  -- 8XY6
+done_by e (From x y) key s = set_sum x (variable s y + 256 - variable s x) s  -- 8XY7
+done_by e (Left x y) key s = set_sum x (variable s y * 2) s  -- 8XYE
+done_by e (SkipDiffer x y) key s = skip_if (not (variable s x == variable s y)) s  -- 9XY0
+done_by e (Index a) key s = record (next s) { i = a }  -- AMMM
+done_by e (JumpPlus a) key s = record s { pc = a + variable s 0 }  -- BMMM
+done_by e (Random x k) key s = record (set x (bit_and (random s) k) s) { b = random s }  -- CXKK
+done_by e (Draw x y n) key s =  -- DXYN
     let sprite = drawn e (variable s x % 64) (variable s y % rows_of e) n s in
     record (next s) { screen = difference s.screen sprite; v = slice_set s.v 15 (flag (meets (rows_of e) s.screen sprite)) }
-done_by e (SkipDown x) key s = skip_if (is_held key) s
-done_by e (SkipUp x) key s = skip_if (not (is_held key)) s
-done_by e (GetDelay x) key s = set x s.dt s
-done_by e (WaitKey x) key s = set x (chosen_key key) s
-done_by e (SetDelay x) key s = record (next s) { dt = variable s x }
-done_by e (SetSound x) key s = record (next s) { st = variable s x }
-done_by e (AddIndex x) key s = record (next s) { i = (s.i + variable s x) % 65536 }
-done_by e (Font x) key s = record (next s) { i = font_start + 5 * (variable s x % 16) }
-done_by e (Decimal x) key s = record (next s) { memory = stored s.memory (s.i - memory_start) (digits (variable s x)) }
-done_by e (Store x) key s = record (next s) { memory = stored s.memory (s.i - memory_start) (take (x + 1) s.v); i = s.i + x + 1 }
-done_by e (Fetch x) key s = record (next s) { v = bytes_from s s.i (x + 1) ++ drop (x + 1) s.v; i = s.i + x + 1 }
-done_by e (Unknown opcode) key s = s
+done_by e (SkipDown x) key s = skip_if (is_held key) s  -- EX9E
+done_by e (SkipUp x) key s = skip_if (not (is_held key)) s  -- EXA1
+done_by e (GetDelay x) key s = set x s.dt s  -- FX07
+done_by e (WaitKey x) key s = set x (chosen_key key) s  -- FX0A
+done_by e (SetDelay x) key s = record (next s) { dt = variable s x }  -- FX15
+done_by e (SetSound x) key s = record (next s) { st = variable s x }  -- FX18
+done_by e (AddIndex x) key s = record (next s) { i = (s.i + variable s x) % 65536 }  -- FX1E
+done_by e (Font x) key s = record (next s) { i = font_start + 5 * (variable s x % 16) }  -- FX29
+done_by e (Decimal x) key s = record (next s) { memory = stored s.memory (s.i - memory_start) (digits (variable s x)) }  -- FX33
+done_by e (Store x) key s = record (next s) { memory = stored s.memory (s.i - memory_start) (take (x + 1) s.v); i = s.i + x + 1 }  -- FX55
+done_by e (Fetch x) key s = record (next s) { v = bytes_from s s.i (x + 1) ++ drop (x + 1) s.v; i = s.i + x + 1 }  -- FX65
+done_by e (Unknown opcode) key s = s  -- every other opcode
 
 -- the step of a state that no stop fits
 abbrev pub step : Edition → KeyInput → Lang → Lang

@@ -1,9 +1,10 @@
-//! The language CHIP-8 by definitions (RCA's instruction manual of the COSMAC VIP; what the manual leaves open is this project's
-//! profile, `docs/LANGUAGE.md`): its state, its instructions, a step, a stop and a timer tick, what may lie between two dispatch
-//! points, the cycle bounds, where a language state lies in the machine, and the events of a run.
+//! The language CHIP-8 by definitions, in both editions: its state, its instructions, a step, a stop and a timer tick, what may lie
+//! between two dispatch points, the cycle bounds, where a language state lies in the machine, and the events of a run. It stands on the
+//! definitions of `machine` alone. The layers above may rely on the definitions in `specs/`, on `read_instr`, which decodes an opcode as
+//! they do, and on the plain types by which traces and stops are shown. The standard is RCA's instruction manual of the COSMAC VIP; what
+//! it leaves open is this project's profile (`docs/LANGUAGE.md`).
 //!
-//! It stands on the definitions of the machine. The running code has no rule of the language: the definitions serve contracts alone,
-//! and beside them stand the plain types that traces and stops are shown by, and the decoding of an opcode.
+//! No code that runs a game calls a rule of the language: the ROM carries it out, and the definitions serve contracts alone.
 #![tactic(auto)]
 
 mod instr;

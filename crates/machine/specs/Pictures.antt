@@ -1,25 +1,25 @@
--- The pictures that the CDP1861 shows in a run (data sheet, "Display"; the places in a frame are this project's profile): 128 lines
--- of 8 bytes, made of the bytes that the DMA cycles put on the bus.
+-- The pictures that the CDP1861 shows in a run (data sheet, "Display"; the places in a frame are this project's profile): the 128 lines
+-- of the window, each of 8 bytes that DMA cycles put on the bus.
 use Rattle.std.specs.Prelude.{ℕ, zero, suc, ◌+◌, ◌-◌, ◌*◌, ◌/◌, ◌==◌, ◌&&◌, ◌||◌, not, nat_lt, Bool, true, false, List, [], ◌∷◌, ◌++◌, length, filter, map, replicate}
 use Rattle.std.specs.List.{list_all}
 use Rattle.machine.specs.Board.{Machine, Case, case_of, dma_byte, length_of}
 use Rattle.machine.specs.Board.Case.{Dma}
+use Rattle.machine.specs.Signals.{line_cycles, frame_lines, interrupt_line, window_line, window_end_line, window_lines}
 
 -- the cycles of a frame
 abbrev pub frame : ℕ
-frame = 262 * 14
+frame = frame_lines * line_cycles
 
--- The cycle of frame m in which its interrupt starts, the first of line 78, and the cycle at which its window has ended, that of the
--- end of line 207.
+-- the cycle in which the interrupt of frame m starts, and the cycle at which its window has ended
 abbrev pub interrupt_at : ℕ → ℕ
-interrupt_at m = frame * m + 78 * 14
+interrupt_at m = frame * m + interrupt_line * line_cycles
 
 abbrev pub window_end : ℕ → ℕ
-window_end m = frame * m + 208 * 14
+window_end m = frame * m + window_end_line * line_cycles
 
 -- how many windows have ended by a cycle
 abbrev pub windows_ended : ℕ → ℕ
-windows_ended cycle = (cycle + (frame - 208 * 14)) / frame
+windows_ended cycle = (cycle + (frame - window_end_line * line_cycles)) / frame
 
 abbrev pub is_dma : Case → Bool
 is_dma Dma = true
@@ -27,7 +27,7 @@ is_dma _ = false
 
 -- the state makes a DMA cycle in this line, counted since reset
 abbrev pub is_dma_in : ℕ → Machine → Bool
-is_dma_in line b = is_dma (case_of b) && b.cycle / 14 == line
+is_dma_in line b = is_dma (case_of b) && b.cycle / line_cycles == line
 
 -- eight bytes: those given, followed by 00
 abbrev pub filled : List ℕ → List ℕ
@@ -43,9 +43,9 @@ module _ (rom : List ℕ) (run : List Machine) where
   lines_from line zero = []
   lines_from line (suc n) = line_bytes line ∷ lines_from (line + 1) n
 
-  -- the picture of frame m: its lines 80 to 207
+  -- the picture of frame m: the lines of its window
   unfoldable pub picture_of : ℕ → List (List ℕ)
-  picture_of m = lines_from (262 * m + 80) 128
+  picture_of m = lines_from (frame_lines * m + window_line) window_lines
 
   -- the move of a state has a cycle between the interrupt's cycle of frame m and the end of its window
   abbrev pub is_within : ℕ → Machine → Bool

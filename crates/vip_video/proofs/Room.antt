@@ -2,16 +2,17 @@
 use Rattle.std.proofs.Common.{◌≡◌, ◌≢◌, ◌⊎◌, inl, inr, ◌+◌, ◌-◌, ◌%◌, ◌<◌, ◌≤◌, ℕ, zero, suc, Bool, true, false, cond, List, [], ◌∷◌, ◌++◌, length, get_or, set, ap, subst, ◌∙◌, refl, arith, get_or-set_other, length-append}
 use Rattle.std.specs.Prelude.{Option, Some, None, ◌&&◌, IsSome}
 use Rattle.std.proofs.lemmas.Bool.Decides.{nat_tests}
-use Rattle.machine.specs.Signals.{line_of, dma_at}
+use Rattle.machine.specs.Signals.{line_cycles, window_line, window_end_line, line_of, dma_at}
+use Rattle.machine.specs.Pictures.{frame}
 use Rattle.vip_video.specs.Chip.{Pictures, blank, begins_frame, follows_window, with_byte, drawn, passed, framed, finished}
 use Rattle.vip_video.specs.Kept.{HasRoom}
 use Rattle.vip_video.proofs.Lines.{blank-at}
 
 -- where DMA is wanted
 pub record IsDmaPlace (t : ℕ) : Type 0 where
-  pub from : 80 ≤ line_of t
-  pub to : line_of t < 208
-  pub column : 2 ≤ t % 14
+  pub from : window_line ≤ line_of t
+  pub to : line_of t < window_end_line
+  pub column : 2 ≤ t % line_cycles
 
 pub dma-place : (t : ℕ) (on : Bool) → dma_at t on ≡ true → IsDmaPlace t
 dma-place t on h = record { from = grind (arith, nat_tests, h); to = grind (arith, nat_tests, h); column = grind (arith, nat_tests, h) }
@@ -25,30 +26,30 @@ at-set (l ∷ lines) zero x = omega arith
 at-set (l ∷ lines) (suc k) x = at-set lines k x
 
 -- the number of bytes of line k after the byte of cycle t
-bytes_after : (t k : ℕ) (lines : List (List ℕ)) (b : ℕ) → (k ≡ line_of t - 80 → ⊥) → length (get_or (with_byte (line_of t - 80) (Some b) lines) k []) ≡ length (get_or lines k [])
-bytes_after t k lines b h = ap length (get_or-set_other lines (line_of t - 80) k (get_or lines (line_of t - 80) [] ++ b ∷ []) [] h)
+bytes_after : (t k : ℕ) (lines : List (List ℕ)) (b : ℕ) → (k ≡ line_of t - window_line → ⊥) → length (get_or (with_byte (line_of t - window_line) (Some b) lines) k []) ≡ length (get_or lines k [])
+bytes_after t k lines b h = ap length (get_or-set_other lines (line_of t - window_line) k (get_or lines (line_of t - window_line) [] ++ b ∷ []) [] h)
 
 at_same : (lines : List (List ℕ)) (k b : ℕ) → length (get_or (set lines k (get_or lines k [] ++ b ∷ [])) k []) ≤ length (get_or lines k []) + 1
 at_same lines k b = omega (arith, at-set lines k (get_or lines k [] ++ b ∷ []), length-append (get_or lines k []) (b ∷ []))
 
-byte_more : (t k : ℕ) (lines : List (List ℕ)) (b : ℕ) → k ≡ line_of t - 80 → length (get_or (with_byte (line_of t - 80) (Some b) lines) k []) ≤ length (get_or lines k []) + 1
+byte_more : (t k : ℕ) (lines : List (List ℕ)) (b : ℕ) → k ≡ line_of t - window_line → length (get_or (with_byte (line_of t - window_line) (Some b) lines) k []) ≤ length (get_or lines k []) + 1
 byte_more t k lines b e =
     let P : ℕ → Type 0 = λ n. length (get_or (with_byte n (Some b) lines) k []) ≤ length (get_or lines k []) + 1 in
     subst P e (at_same lines k b)
 
 -- cycle t + 1 lies in the same line as t, or in the next one of the frame
-later_after : (t : ℕ) (byte : Option ℕ) (lines : List (List ℕ)) → HasRoom t lines → (IsSome byte → IsDmaPlace t) → line_of t ≤ line_of (t + 1) → (k : ℕ) → line_of (t + 1) < 80 + k → length (get_or (with_byte (line_of t - 80) byte lines) k []) ≡ 0
+later_after : (t : ℕ) (byte : Option ℕ) (lines : List (List ℕ)) → HasRoom t lines → (IsSome byte → IsDmaPlace t) → line_of t ≤ line_of (t + 1) → (k : ℕ) → line_of (t + 1) < window_line + k → length (get_or (with_byte (line_of t - window_line) byte lines) k []) ≡ 0
 later_after t None lines r w h k l = r.later k (omega arith)
 later_after t (Some b) lines r w h k l =
     let f = w refl in
     bytes_after t k lines b (λ e. omega (arith, f.from)) ∙ r.later k (omega arith)
 
-present_after : (t : ℕ) (byte : Option ℕ) (lines : List (List ℕ)) → HasRoom t lines → (IsSome byte → IsDmaPlace t) → line_of t ≤ line_of (t + 1) → (k : ℕ) → line_of (t + 1) ≡ 80 + k → length (get_or (with_byte (line_of t - 80) byte lines) k []) ≤ (t + 1) % 14 - 2
+present_after : (t : ℕ) (byte : Option ℕ) (lines : List (List ℕ)) → HasRoom t lines → (IsSome byte → IsDmaPlace t) → line_of t ≤ line_of (t + 1) → (k : ℕ) → line_of (t + 1) ≡ window_line + k → length (get_or (with_byte (line_of t - window_line) byte lines) k []) ≤ (t + 1) % line_cycles - 2
 present_after t None lines r w h k e =
-    elim (same_or_not (line_of t) (80 + k)) [ inl s ↦ omega (arith, r.present k s) | inr n ↦ omega (arith, r.later k (omega arith)) ]
+    elim (same_or_not (line_of t) (window_line + k)) [ inl s ↦ omega (arith, r.present k s) | inr n ↦ omega (arith, r.later k (omega arith)) ]
 present_after t (Some b) lines r w h k e =
     let f = w refl in
-    elim (same_or_not (line_of t) (80 + k)) [
+    elim (same_or_not (line_of t) (window_line + k)) [
       | inl s ↦ omega (arith, r.present k s, byte_more t k lines b (omega arith), f.column)
       | inr n ↦ omega (arith, r.later k (omega arith), bytes_after t k lines b (λ q. omega (arith, f.from)))
     ]
@@ -79,7 +80,7 @@ passed-blank t p h = rw h
 
 -- no frame begins
 within_frame : (t : ℕ) → begins_frame (t + 1) ≡ false → line_of t ≤ line_of (t + 1)
-within_frame t h = let no : (t + 1) % 3668 ≢ 0 = grind (arith, nat_tests, h) in omega arith
+within_frame t h = let no : (t + 1) % frame ≢ 0 = grind (arith, nat_tests, h) in omega arith
 
 pub room-passed : (t : ℕ) (on : Bool) (byte : Option ℕ) (p : Pictures) → HasRoom t p.lines → (IsSome byte → IsDmaPlace t) → HasRoom (t + 1) (passed (t + 1) (drawn t on byte p)).lines
 room-passed t on byte p r w =

@@ -1,7 +1,7 @@
 -- The place of a machine cycle in the frame.
 use Rattle.std.specs.Prelude.{ℕ, ◌%◌}
-use Rattle.machine.specs.Signals.{line_of}
+use Rattle.machine.specs.Signals.{line_cycles, line_of}
 use Rattle.vip_video.specs.declared.place.Place.{Place}
 
-abbrev pub place_of : ℕ → Place
-place_of t = record { line = line_of t; column = t % 14 }
+abbrev pub frame_place : ℕ → Place
+frame_place t = record { line = line_of t; column = t % line_cycles }

@@ -3,8 +3,8 @@
 //! ```text
 //!     line    0 ┌──────────────────────────────┐
 //!            76 │ EFX                          │
-//!            78 │ EFX, INT                     │  the window: lines 78 to 207
-//!            80 │ DMA in cycles 2 to 9         │  128 lines of 8 bytes: the picture
+//!            78 │ EFX, INT                     │  a picture needs the display on from here to line 207
+//!            80 │ DMA in cycles 2 to 9         │  the window, 128 lines of 8 bytes: the picture
 //!           204 │ DMA in cycles 2 to 9, EFX    │
 //!           208 │ a picture is finished        │
 //!           261 └──────────────────────────────┘
@@ -16,8 +16,8 @@
 //! The crate stands on `machine`, which defines the signals by the number of the machine cycle. It knows nothing of the board: the
 //! caller ends each cycle by `end_cycle`, with the byte that a DMA cycle put on the bus. The layer above may rely on this: the signals
 //! are those of the definitions, and `specs/Chip.antt` says what each call makes of the chip. A frame has a picture exactly where the
-//! display was on in each cycle of its window; the picture holds the DMA bytes of each line in order, followed by 00 up to eight. A chip
-//! may be made at any cycle; a frame whose window began before it has no picture.
+//! display was on in each cycle from the start of its interrupt to the end of its window; the picture holds the DMA bytes of each line in
+//! order, followed by 00 up to eight. A chip may be made at any cycle; a frame whose interrupt started before it has no picture.
 #![tactic(auto)]
 
 mod buffer;
@@ -28,5 +28,5 @@ mod tests;
 mod video;
 
 pub use buffer::Picture;
-pub use place::Signals;
+pub use place::{FRAME_LINES, INTERRUPT_LINE, LINE_CYCLES, Signals, WINDOW_END_LINE, WINDOW_LINE};
 pub use video::Video;

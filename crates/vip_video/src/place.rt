@@ -1,9 +1,37 @@
-//! A place in the frame, and the signals there.
+//! A place in the frame, and the signals there. The exact places are this project's profile.
 
 ghost use Rattle.std.specs.Prelude.{◌≡◌, ◌+◌, ℕ};
 ghost use Rattle.machine.specs.Signals.{int_at, dma_at, efx_at};
-ghost use Rattle.vip_video.specs.Place.{place_of};
-ghost use Rattle.vip_video.specs.Chip.{is_in_window};
+ghost use Rattle.vip_video.specs.Place.{frame_place};
+ghost use Rattle.vip_video.specs.Chip.{needs_display};
+
+/// The machine cycles of a raster line.
+pub const LINE_CYCLES: u64 = 14;
+
+/// The raster lines of a frame.
+pub const FRAME_LINES: u64 = 262;
+
+/// The first line of the interrupt request.
+pub const INTERRUPT_LINE: u16 = 78;
+
+/// The first line of the display window.
+pub const WINDOW_LINE: u16 = 80;
+
+/// The line behind the display window.
+pub const WINDOW_END_LINE: u16 = 208;
+
+// The last line of a frame, and the last machine cycle of a line.
+const LAST_LINE: u16 = FRAME_LINES as u16 - 1;
+
+const LAST_COLUMN: u8 = LINE_CYCLES as u8 - 1;
+
+// EFX: so many lines before the window, and so many at its end.
+const EFX_LINES: u16 = 4;
+
+// The first DMA cycle of a line of the window, and the cycle behind the last one.
+const DMA_COLUMN: u8 = 2;
+
+const DMA_END_COLUMN: u8 = 10;
 
 /// What the chip tells the board in a machine cycle.
 #[derive(Clone, Copy, Debug, PartialEq, Eq)]
@@ -28,50 +56,57 @@ pub struct Place {
 impl Place {
     /// The place of machine cycle t.
     pub fn of(t: u64) -> Place
-        ensures { result ≡ place_of t }
+        ensures { result ≡ frame_place t }
     {
         Place {
-            line: (t / 14 % 262) as u16,
-            column: (t % 14) as u8,
+            line: (t / LINE_CYCLES % FRAME_LINES) as u16,
+            column: (t % LINE_CYCLES) as u8,
         }
     }
 
     /// The place of the next machine cycle.
     pub fn next(&self) -> Place
-        ensures { (t : ℕ) → self.now ≡ place_of t → result ≡ place_of (t + 1) }
+        ensures { (t : ℕ) → self.now ≡ frame_place t → result ≡ frame_place (t + 1) }
     {
-        if self.column < 13 {
+        if self.column < LAST_COLUMN {
             Place {
                 line: self.line,
                 column: self.column + 1,
             }
         } else {
             Place {
-                line: if self.line < 261 { self.line + 1 } else { 0 },
+                line: if self.line < LAST_LINE {
+                    self.line + 1
+                } else {
+                    0
+                },
                 column: 0,
             }
         }
     }
 
-    /// Whether the place lies in the window.
-    pub fn is_in_window(&self) -> bool
-        ensures { (t : ℕ) → self.now ≡ place_of t → result ≡ is_in_window t }
+    /// Whether a picture needs the display on here: from the start of the interrupt up to the end of the window.
+    pub fn needs_display(&self) -> bool
+        ensures { (t : ℕ) → self.now ≡ frame_place t → result ≡ needs_display t }
     {
-        78 <= self.line && self.line < 208
+        INTERRUPT_LINE <= self.line && self.line < WINDOW_END_LINE
     }
 
     /// The signals at the place, with this display switch.
     pub fn signals(&self, on: bool) -> Signals
-        ensures int { (t : ℕ) → self.now ≡ place_of t → result.int ≡ int_at t on }
-        ensures dma { (t : ℕ) → self.now ≡ place_of t → result.dma ≡ dma_at t on }
-        ensures efx { (t : ℕ) → self.now ≡ place_of t → result.efx ≡ efx_at t on }
+        ensures int { (t : ℕ) → self.now ≡ frame_place t → result.int ≡ int_at t on }
+        ensures dma { (t : ℕ) → self.now ≡ frame_place t → result.dma ≡ dma_at t on }
+        ensures efx { (t : ℕ) → self.now ≡ frame_place t → result.efx ≡ efx_at t on }
     {
         let line = self.line;
         let column = self.column;
+        let is_in_window = WINDOW_LINE <= line && line < WINDOW_END_LINE;
         Signals {
-            int: on && 78 <= line && line < 80,
-            dma: on && 80 <= line && line < 208 && 2 <= column && column < 10,
-            efx: on && (76 <= line && line < 80 || 204 <= line && line < 208),
+            int: on && INTERRUPT_LINE <= line && line < WINDOW_LINE,
+            dma: on && is_in_window && DMA_COLUMN <= column && column < DMA_END_COLUMN,
+            efx: on
+                && (WINDOW_LINE - EFX_LINES <= line && line < WINDOW_LINE
+                    || WINDOW_END_LINE - EFX_LINES <= line && line < WINDOW_END_LINE),
         }
     }
 }

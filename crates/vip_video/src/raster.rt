@@ -2,18 +2,18 @@
 
 ghost use Rattle.std.specs.Prelude.{◌≡◌, ◌+◌, ◌-◌, ◌%◌, ◌≤◌, ◌<◌, ◌^◌, ◌↔◌, ◌&&◌, ◌||◌, not, ℕ, [], length, slice_index_or, IfSome, IsSome};
 ghost use Rattle.std.specs.Option.{option_map};
-ghost use Rattle.machine.specs.Signals.{line_of};
-ghost use Rattle.vip_video.specs.Place.{place_of};
-ghost use Rattle.vip_video.specs.Chip.{is_in_window, nothing_yet, drawn, passed, framed, finished};
+ghost use Rattle.machine.specs.Signals.{line_cycles, window_line, window_end_line, line_of};
+ghost use Rattle.vip_video.specs.Place.{frame_place};
+ghost use Rattle.vip_video.specs.Chip.{needs_display, nothing_yet, drawn, passed, framed, finished};
 
 use crate::buffer::{FrameBuffer, Picture};
-use crate::place::Place;
+use crate::place::{Place, WINDOW_END_LINE, WINDOW_LINE};
 use std::marker::Model;
 
 /// What the chip has of pictures.
 #[derive(Drop)]
 pub struct Raster {
-    // the display was on in each cycle of the window of this frame so far
+    // the display was on in each cycle of this frame so far that needs it on
     shown: bool,
     buffer: FrameBuffer,
     // how many pictures are finished, and the last of them
@@ -31,11 +31,11 @@ impl Model for Raster {
     ghost view = { pictures_of };
 }
 
-/// Whether the display is on in a cycle at this place, or the place lies outside the window.
+/// Whether the display is on in a cycle at this place, or isn't needed there.
 fn is_shown(place: &Place, on: bool) -> bool
-    ensures { (t : ℕ) → place.now ≡ place_of t → result ≡ (on || not (is_in_window t)) }
+    ensures { (t : ℕ) → place.now ≡ frame_place t → result ≡ (on || not (needs_display t)) }
 {
-    on || !place.is_in_window()
+    on || !place.needs_display()
 }
 
 impl Raster {
@@ -54,24 +54,25 @@ impl Raster {
     /// A cycle at a place, with its display switch and the byte of its DMA cycle, if it is one. The byte needs a line of the picture
     /// that has fewer than eight.
     pub fn draw(&mut self, place: &Place, on: bool, byte: Option<u8>)
-        requires { IfSome byte (λ _. (place.now.line < 208) × (length (slice_index_or self.old.lines (place.now.line - 80) []) < 8)) }
-        ensures { (t : ℕ) → place.now ≡ place_of t → self.new ≡ drawn t on byte self.old }
+        requires { IfSome byte (λ _. (place.now.line < window_end_line) × (length (slice_index_or self.old.lines (place.now.line - window_line) []) < 8)) }
+        ensures { (t : ℕ) → place.now ≡ frame_place t → self.new ≡ drawn t on byte self.old }
     {
         if !is_shown(place, on) {
             self.shown = false;
         }
-        self.buffer.draw(place.line.saturating_sub(80), byte);
+        self.buffer
+            .draw(place.line.saturating_sub(WINDOW_LINE), byte);
     }
 
     /// What the start of a line does: a picture is finished after the window, and the lines begin anew with the frame.
     pub fn begin_line(&mut self, line: u16)
         requires { self.old.count + 1 < 2 ^ 64 }
-        ensures { (t : ℕ) → t % 14 ≡ 0 → line_of t ≡ line → self.new ≡ passed t self.old }
+        ensures { (t : ℕ) → t % line_cycles ≡ 0 → line_of t ≡ line → self.new ≡ passed t self.old }
     {
         if line == 0 {
             self.begin_frame();
         }
-        if line == 208 && self.shown {
+        if line == WINDOW_END_LINE && self.shown {
             self.finish();
         }
     }

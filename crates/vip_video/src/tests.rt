@@ -49,8 +49,8 @@ fn frame(turned_on: u64, turned_off: u64, lost: u64) -> Video {
         if t == turned_off {
             video.turn(false);
         }
-        let byte = if video.signals(t).dma && t % 14 != lost {
-            Some((t / 14 % 256) as u8)
+        let byte = if video.signals(t).dma && t % LINE_CYCLES != lost {
+            Some((t / LINE_CYCLES % 256) as u8)
         } else {
             None
         };
@@ -60,7 +60,7 @@ fn frame(turned_on: u64, turned_off: u64, lost: u64) -> Video {
 }
 
 #[test]
-fn a_picture_needs_the_display_on_in_each_cycle_of_its_window(rt: HostRuntime) {
+fn a_picture_needs_the_display_on_up_to_the_end_of_its_window(rt: HostRuntime) {
     for (turned_on, turned_off, pictures) in [
         (0, 4_000, 1),
         // on from cycles 1,091, 1,092 and 1,093 on
@@ -105,7 +105,7 @@ fn pictures_from(t: u64) -> u64 {
 }
 
 #[test]
-fn a_chip_made_in_the_window_has_no_picture_of_it(rt: HostRuntime) {
+fn a_chip_made_after_the_interrupt_has_no_picture_of_its_frame(rt: HostRuntime) {
     for (t, pictures) in [
         (0, 2),
         (1_091, 2),

@@ -6,14 +6,14 @@ ghost use Rattle.machine.specs.Signals.{int_at, dma_at, efx_at};
 ghost use Rattle.vip_video.specs.Chip.{at_start, at_cycle, ended};
 
 use crate::buffer::Picture;
-use crate::place::{Place, Signals};
+use crate::place::{FRAME_LINES, INTERRUPT_LINE, LINE_CYCLES, Place, Signals};
 use crate::raster::Raster;
 use std::marker::Model;
 
-// The machine cycles of a frame, and its cycle in which the window begins.
-const FRAME: u64 = 262 * 14;
+// The machine cycles of a frame, and its cycle in which the interrupt starts.
+const FRAME_CYCLES: u64 = FRAME_LINES * LINE_CYCLES;
 
-const WINDOW: u64 = 78 * 14;
+const INTERRUPT_CYCLE: u64 = INTERRUPT_LINE as u64 * LINE_CYCLES;
 
 /// A CDP1861 with the picture that it draws and the last one that it finished.
 #[derive(Drop)]
@@ -30,14 +30,14 @@ pub struct Video {
 impl Model for Video {
     ghost use Rattle.std.specs.Prelude.{◌≡◌, ◌≤◌};
     ghost use Rattle.vip_video.specs.Chip.{Chip};
-    ghost use Rattle.vip_video.specs.Place.{place_of};
+    ghost use Rattle.vip_video.specs.Place.{frame_place};
     ghost use Rattle.vip_video.specs.Kept.{HasRoom};
 
     ghost Value = { Chip };
 
     ghost view = { λ a. record { cycles = a.cycles; on = a.on; cycle_on = a.cycle_on; pictures = a.raster } };
 
-    ghost invariant = { λ a. record { place : a.place ≡ place_of a.cycles; count : a.raster.count ≤ a.cycles; room : HasRoom a.cycles a.raster.lines } };
+    ghost invariant = { λ a. record { place : a.place ≡ frame_place a.cycles; count : a.raster.count ≤ a.cycles; room : HasRoom a.cycles a.raster.lines } };
 }
 
 impl Video {
@@ -49,7 +49,7 @@ impl Video {
     }
 
     /// A chip before machine cycle t, with the display on or off, also in that cycle, and no picture. The frame that is under way has a
-    /// picture only where its window begins at or after t.
+    /// picture only where its interrupt starts at or after t.
     pub fn at(t: u64, on: bool) -> Video
         ensures { result ≡ at_cycle t on }
     {
@@ -58,7 +58,7 @@ impl Video {
             place: Place::of(t),
             on,
             cycle_on: on,
-            raster: Raster::new(t % FRAME <= WINDOW),
+            raster: Raster::new(t % FRAME_CYCLES <= INTERRUPT_CYCLE),
         }
     }
 

@@ -1,7 +1,7 @@
 use Rattle.std.proofs.Common.{◌≡◌, ◌≢◌, ◌+◌, ◌%◌, ◌∙◌, ℕ, ap, arith, subst, sym}
-use Rattle.machine.specs.Signals.{line_of}
+use Rattle.machine.specs.Signals.{line_cycles, line_of}
 use Rattle.vip_video.specs.Chip.{Chip, drawn, passed}
-use Rattle.vip_video.specs.Place.{place_of}
+use Rattle.vip_video.specs.Place.{frame_place}
 use Rattle.vip_video.specs.declared.place.Place.{Place}
 use Rattle.vip_video.specs.Kept.{HasRoom}
 use Rattle.vip_video.proofs.Room.{dma-place, room-drawn, room-passed, passed-count}
@@ -12,9 +12,9 @@ invariant_of-self c =
     let t = c.args.t in
     let inner = c.self.inside in
     let present : inner.cycles ≡ t = ap (λ (v : Chip). v.cycles) c.self.view_is ∙ sym c.requires.present in
-    let here : inner.place ≡ place_of t = c.self.invariant.place ∙ ap place_of present in
-    let next : c.next-self-inside.result ≡ place_of (t + 1) = c.next-self-inside.ensures t here in
-    let starts : (t + 1) % 14 ≡ 0 = sym (ap (λ (p : Place). p.column) next) ∙ c.if-self-eq0.true in
+    let here : inner.place ≡ frame_place t = c.self.invariant.place ∙ ap frame_place present in
+    let next : c.next-self-inside.result ≡ frame_place (t + 1) = c.next-self-inside.ensures t here in
+    let starts : (t + 1) % line_cycles ≡ 0 = sym (ap (λ (p : Place). p.column) next) ∙ c.if-self-eq0.true in
     let line : line_of (t + 1) ≡ c.next-self-inside.result.line = sym (ap (λ (p : Place). p.line) next) in
     let drawn_is : c.draw.new.self ≡ drawn t inner.cycle_on c.args.byte inner.raster = c.draw.ensures t here in
     let is : c.begin_line.new.self ≡ passed (t + 1) (drawn t inner.cycle_on c.args.byte inner.raster) =
@@ -31,10 +31,10 @@ invariant_of-self-else-self-eq0 c =
     let t = c.args.t in
     let inner = c.self.inside in
     let present : inner.cycles ≡ t = ap (λ (v : Chip). v.cycles) c.self.view_is ∙ sym c.requires.present in
-    let here : inner.place ≡ place_of t = c.self.invariant.place ∙ ap place_of present in
-    let next : c.next-self-inside.result ≡ place_of (t + 1) = c.next-self-inside.ensures t here in
-    let column : (t + 1) % 14 ≡ c.next-self-inside.result.column = sym (ap (λ (p : Place). p.column) next) in
-    let goes_on : (t + 1) % 14 ≢ 0 = λ e. c.if-self-eq0.false (sym column ∙ e) in
+    let here : inner.place ≡ frame_place t = c.self.invariant.place ∙ ap frame_place present in
+    let next : c.next-self-inside.result ≡ frame_place (t + 1) = c.next-self-inside.ensures t here in
+    let column : (t + 1) % line_cycles ≡ c.next-self-inside.result.column = sym (ap (λ (p : Place). p.column) next) in
+    let goes_on : (t + 1) % line_cycles ≢ 0 = λ e. c.if-self-eq0.false (sym column ∙ e) in
     let is : c.draw.new.self ≡ drawn t inner.cycle_on c.args.byte inner.raster = c.draw.ensures t here in
     let Room : ℕ → Type 0 = λ n. HasRoom n inner.raster.lines in
     record {
