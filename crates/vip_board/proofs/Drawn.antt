@@ -5,9 +5,9 @@ use Rattle.std.specs.Prelude.{Option, Some, None, IsSome, nat_lt, slice_get}
 use Rattle.std.specs.Option.{option_map, option_to_list}
 use Rattle.std.proofs.lemmas.Bool.Decides.{nat_tests}
 use Rattle.std.proofs.lemmas.Bool.{le-ltb}
-use Rattle.machine.specs.Signals.{line_of}
+use Rattle.machine.specs.Signals.{line_cycles, frame_lines, window_line, window_end_line, window_lines, line_of}
 use Rattle.machine.specs.Pictures.{frame, interrupt_at, window_end, windows_ended, filled}
-use Rattle.vip_video.specs.Chip.{Pictures, blank, is_in_window, begins_frame, follows_window, with_byte, drawn, passed, scanned, framed, finished}
+use Rattle.vip_video.specs.Chip.{Pictures, blank, needs_display, begins_frame, follows_window, with_byte, drawn, passed, scanned, framed, finished}
 use Rattle.vip_board.specs.Shown.{bytes_from, window_bytes, shown_frames}
 
 -- the picture of the bytes of a frame
@@ -20,19 +20,19 @@ pub record Drawn (shown : ℕ → Bool) (bytes : ℕ → List ℕ) (t : ℕ) (p 
   pub count : p.count ≡ length (shown_frames shown (windows_ended t))
   pub finished : p.finished ≡ option_map (picture bytes) (slice_get (shown_frames shown (windows_ended t)) 0)
   pub later_frames : (m : ℕ) → t ≤ interrupt_at m → shown m ≡ true
-  pub later_lines : (line : ℕ) → t ≤ 14 * line → bytes line ≡ []
+  pub later_lines : (line : ℕ) → t ≤ line_cycles * line → bytes line ≡ []
 
--- cycle t lies in the window of frame m
+-- cycle t lies between the start of the interrupt of frame m and the end of its window
 abbrev pub covers : ℕ → ℕ → Bool
 covers m t = nat_lt t (window_end m) && nat_lt (interrupt_at m) (t + 1)
 
 -- what is known after cycle t, with its switch and byte
 pub record Next (shown : ℕ → Bool) (bytes : ℕ → List ℕ) (t : ℕ) (on : Bool) (byte : Option ℕ) (shown' : ℕ → Bool) (bytes' : ℕ → List ℕ) : Type 0 where
   pub frames : (m : ℕ) → shown' m ≡ (shown m && (on || not (covers m t)))
-  pub here : bytes' (t / 14) ≡ bytes (t / 14) ++ option_to_list byte
-  pub elsewhere : (line : ℕ) → line ≢ t / 14 → bytes' line ≡ bytes line
-  pub from : IsSome byte → 80 ≤ line_of t
-  pub to : IsSome byte → line_of t < 208
+  pub here : bytes' (t / line_cycles) ≡ bytes (t / line_cycles) ++ option_to_list byte
+  pub elsewhere : (line : ℕ) → line ≢ t / line_cycles → bytes' line ≡ bytes line
+  pub from : IsSome byte → window_line ≤ line_of t
+  pub to : IsSome byte → line_of t < window_end_line
 
 -- ---- lists of lines
 
@@ -75,14 +75,14 @@ same_bool true false f g = sym (f refl)
 same_bool false true f g = g refl
 same_bool false false f g = refl
 
-covers-in : (t : ℕ) → covers (t / frame) t ≡ true → is_in_window t ≡ true
+covers-in : (t : ℕ) → covers (t / frame) t ≡ true → needs_display t ≡ true
 covers-in t h = grind (arith, nat_tests, h)
 
-in-covers : (t : ℕ) → is_in_window t ≡ true → covers (t / frame) t ≡ true
+in-covers : (t : ℕ) → needs_display t ≡ true → covers (t / frame) t ≡ true
 in-covers t h = grind (arith, nat_tests, h)
 
-covers-window : (t : ℕ) → covers (t / frame) t ≡ is_in_window t
-covers-window t = same_bool (covers (t / frame) t) (is_in_window t) (covers-in t) (in-covers t)
+covers-needs : (t : ℕ) → covers (t / frame) t ≡ needs_display t
+covers-needs t = same_bool (covers (t / frame) t) (needs_display t) (covers-in t) (in-covers t)
 
 covers-past : (m t : ℕ) → window_end m ≤ t → covers m t ≡ false
 covers-past m t h = rw (le-ltb t (window_end m) h)
@@ -115,32 +115,32 @@ module _ (shown : ℕ → Bool) (bytes : ℕ → List ℕ) (t : ℕ) (on : Bool)
 
   window-stays : (m : ℕ) → m < windows_ended t → window_bytes bytes' m ≡ window_bytes bytes m
   unfolding window_bytes
-  window-stays m h = bytes_from-same bytes bytes' (262 * m + 80) 128 (λ k a b. x.elsewhere k (omega arith))
+  window-stays m h = bytes_from-same bytes bytes' (frame_lines * m + window_line) window_lines (λ k a b. x.elsewhere k (omega arith))
 
   drawn-present : (drawn t on byte p).shown ≡ shown' (t / frame)
   drawn-present =
-      ap (λ s. s && (on || not (is_in_window t))) d.present
-      ∙ ap (λ c. shown (t / frame) && (on || not c)) (sym (covers-window t))
+      ap (λ s. s && (on || not (needs_display t))) d.present
+      ∙ ap (λ c. shown (t / frame) && (on || not c)) (sym (covers-needs t))
       ∙ sym (x.frames (t / frame))
 
-  everywhere : bytes' (t / 14) ≡ bytes (t / 14) ++ [] → (k : ℕ) → bytes' k ≡ bytes k
+  everywhere : bytes' (t / line_cycles) ≡ bytes (t / line_cycles) ++ [] → (k : ℕ) → bytes' k ≡ bytes k
   everywhere h k =
       let Same : ℕ → Type 0 = λ l. bytes' l ≡ bytes l in
-      elim (same_or_not k (t / 14)) [ inl e ↦ subst Same (sym e) (h ∙ append-nil (bytes (t / 14))) | inr n ↦ x.elsewhere k n ]
+      elim (same_or_not k (t / line_cycles)) [ inl e ↦ subst Same (sym e) (h ∙ append-nil (bytes (t / line_cycles))) | inr n ↦ x.elsewhere k n ]
 
-  lines-of : (o : Option ℕ) → bytes' (t / 14) ≡ bytes (t / 14) ++ option_to_list o → (IsSome o → 80 ≤ line_of t) → (IsSome o → line_of t < 208) → with_byte (line_of t - 80) o (window_bytes bytes (t / frame)) ≡ window_bytes bytes' (t / frame)
+  lines-of : (o : Option ℕ) → bytes' (t / line_cycles) ≡ bytes (t / line_cycles) ++ option_to_list o → (IsSome o → window_line ≤ line_of t) → (IsSome o → line_of t < window_end_line) → with_byte (line_of t - window_line) o (window_bytes bytes (t / frame)) ≡ window_bytes bytes' (t / frame)
   unfolding window_bytes
-  lines-of None h f g = sym (bytes_from-same bytes bytes' (262 * (t / frame) + 80) 128 (λ k a b. everywhere h k))
+  lines-of None h f g = sym (bytes_from-same bytes bytes' (frame_lines * (t / frame) + window_line) window_lines (λ k a b. everywhere h k))
   lines-of (Some b) h f g =
-      bytes_from-more bytes bytes' (262 * (t / frame) + 80) 128 (line_of t - 80) (t / 14) b (omega (arith, f refl)) (omega (arith, f refl, g refl)) h x.elsewhere
+      bytes_from-more bytes bytes' (frame_lines * (t / frame) + window_line) window_lines (line_of t - window_line) (t / line_cycles) b (omega (arith, f refl)) (omega (arith, f refl, g refl)) h x.elsewhere
 
   drawn-lines : (drawn t on byte p).lines ≡ window_bytes bytes' (t / frame)
-  drawn-lines = ap (with_byte (line_of t - 80) byte) d.lines ∙ lines-of byte x.here x.from x.to
+  drawn-lines = ap (with_byte (line_of t - window_line) byte) d.lines ∙ lines-of byte x.here x.from x.to
 
   later_frames' : (m : ℕ) → t + 1 ≤ interrupt_at m → shown' m ≡ true
   later_frames' m h = frame-stays m (covers-later m t h) ∙ d.later_frames m (omega arith)
 
-  later_lines' : (line : ℕ) → t + 1 ≤ 14 * line → bytes' line ≡ []
+  later_lines' : (line : ℕ) → t + 1 ≤ line_cycles * line → bytes' line ≡ []
   later_lines' line h = x.elsewhere line (omega arith) ∙ d.later_lines line (omega arith)
 
   -- the last picture stays where no window ends
@@ -178,12 +178,12 @@ module _ (shown : ℕ → Bool) (bytes : ℕ → List ℕ) (t : ℕ) (on : Bool)
         later_lines = later_lines';
       }
 
-  new-lines : (t + 1) % 3668 ≡ 0 → blank ≡ window_bytes bytes' ((t + 1) / frame)
+  new-lines : (t + 1) % frame ≡ 0 → blank ≡ window_bytes bytes' ((t + 1) / frame)
   unfolding window_bytes
-  new-lines h = sym (bytes_from-none bytes' (262 * ((t + 1) / frame) + 80) 128 (λ k a. later_lines' k (omega arith)))
+  new-lines h = sym (bytes_from-none bytes' (frame_lines * ((t + 1) / frame) + window_line) window_lines (λ k a. later_lines' k (omega arith)))
 
   -- the last cycle of a frame
-  begins : (t + 1) % 3668 ≡ 0 → Drawn shown' bytes' (t + 1) (framed q)
+  begins : (t + 1) % frame ≡ 0 → Drawn shown' bytes' (t + 1) (framed q)
   begins h =
       let same : windows_ended (t + 1) ≡ windows_ended t = omega arith in
       record {
@@ -199,7 +199,7 @@ module _ (shown : ℕ → Bool) (bytes : ℕ → List ℕ) (t : ℕ) (on : Bool)
   frames-more : (b : Bool) (n m : ℕ) → n ≡ suc m → shown' m ≡ b → shown_frames shown' n ≡ cond b (m ∷ shown_frames shown' m) (shown_frames shown' m)
   frames-more b n m e h = rw (e, h)
 
-  ends-shown : (t + 1) % 3668 ≡ 2912 → q.shown ≡ true → Drawn shown' bytes' (t + 1) (finished q)
+  ends-shown : (t + 1) % frame ≡ window_end_line * line_cycles → q.shown ≡ true → Drawn shown' bytes' (t + 1) (finished q)
   ends-shown h s =
       let m = t / frame in
       let f : (t + 1) / frame ≡ t / frame = omega arith in
@@ -215,7 +215,7 @@ module _ (shown : ℕ → Bool) (bytes : ℕ → List ℕ) (t : ℕ) (on : Bool)
         later_lines = later_lines';
       }
 
-  ends-hidden : (t + 1) % 3668 ≡ 2912 → q.shown ≡ false → Drawn shown' bytes' (t + 1) q
+  ends-hidden : (t + 1) % frame ≡ window_end_line * line_cycles → q.shown ≡ false → Drawn shown' bytes' (t + 1) q
   ends-hidden h s =
       let f : (t + 1) / frame ≡ t / frame = omega arith in
       let w : t / frame ≡ windows_ended t = omega arith in
@@ -245,16 +245,16 @@ module _ (shown : ℕ → Bool) (bytes : ℕ → List ℕ) (t : ℕ) (on : Bool)
   is-framed : begins_frame (t + 1) ≡ true → passed (t + 1) q ≡ framed q
   is-framed b = rw b
 
-  begins-at : begins_frame (t + 1) ≡ true → (t + 1) % 3668 ≡ 0
+  begins-at : begins_frame (t + 1) ≡ true → (t + 1) % frame ≡ 0
   begins-at b = grind (arith, nat_tests, b)
 
-  begins-not : begins_frame (t + 1) ≡ false → (t + 1) % 3668 ≢ 0
+  begins-not : begins_frame (t + 1) ≡ false → (t + 1) % frame ≢ 0
   begins-not b = grind (arith, nat_tests, b)
 
-  follows-at : follows_window (t + 1) ≡ true → (t + 1) % 3668 ≡ 2912
+  follows-at : follows_window (t + 1) ≡ true → (t + 1) % frame ≡ window_end_line * line_cycles
   follows-at b = grind (arith, nat_tests, b)
 
-  follows-not : follows_window (t + 1) ≡ false → (t + 1) % 3668 ≢ 2912
+  follows-not : follows_window (t + 1) ≡ false → (t + 1) % frame ≢ window_end_line * line_cycles
   follows-not b = grind (arith, nat_tests, b)
 
   in-frame : begins_frame (t + 1) ≡ false → D (passed (t + 1) q)

@@ -9,7 +9,7 @@ use Rattle.std.proofs.lemmas.Bool.{le-leb, lt-leb}
 use Rattle.std.proofs.lemmas.List.{map-append}
 use Rattle.std.proofs.lemmas.List.Elements.{filter-append}
 use Rattle.std.proofs.lemmas.List.Folds.{list_all-append}
-use Rattle.machine.specs.Signals.{dma_at, int_at}
+use Rattle.machine.specs.Signals.{line_cycles, frame_lines, interrupt_line, window_line, window_lines, dma_at, int_at}
 use Rattle.machine.specs.Opcodes.{cycles_of}
 use Rattle.machine.specs.Board.{Machine, Case, case_of, dma_byte, length_in, length_of, opcode_of}
 use Rattle.machine.specs.Board.Case.{Dma, Interrupt, Idle, Instruction}
@@ -30,7 +30,7 @@ lines-filled rom run line (suc n) = ap (λ l. filled (dma_bytes rom run line) �
 
 picture-is : (rom : List ℕ) (run : List Machine) (m : ℕ) → picture_of rom run m ≡ picture (dma_bytes rom run) m
 unfolding picture_of window_bytes
-picture-is rom run m = lines-filled rom run (262 * m + 80) 128
+picture-is rom run m = lines-filled rom run (frame_lines * m + window_line) window_lines
 
 last-is : (rom : List ℕ) (run : List Machine) (o : Option ℕ) → option_map (picture_of rom run) o ≡ option_map (picture (dma_bytes rom run)) o
 last-is rom run None = refl
@@ -139,15 +139,15 @@ module _ (from : ℕ) (rom : List ℕ) (run : List Machine) (b : Machine) where
   other true here h = rw h
   other false here h = refl
 
-  byte-here : bytes_after (b.cycle / 14) ≡ dma_bytes rom run (b.cycle / 14) ++ option_to_list (bus_byte_in (case_of b) rom b)
+  byte-here : bytes_after (b.cycle / line_cycles) ≡ dma_bytes rom run (b.cycle / line_cycles) ++ option_to_list (bus_byte_in (case_of b) rom b)
   byte-here =
-      bytes-one (b.cycle / 14)
-      ∙ ap (λ l. dma_bytes rom run (b.cycle / 14) ++ l) (own (case_of b) (b.cycle / 14 == b.cycle / 14) (eq-eqb (b.cycle / 14) (b.cycle / 14) refl))
+      bytes-one (b.cycle / line_cycles)
+      ∙ ap (λ l. dma_bytes rom run (b.cycle / line_cycles) ++ l) (own (case_of b) (b.cycle / line_cycles == b.cycle / line_cycles) (eq-eqb (b.cycle / line_cycles) (b.cycle / line_cycles) refl))
 
-  byte-elsewhere : (line : ℕ) → line ≢ b.cycle / 14 → bytes_after line ≡ dma_bytes rom run line
+  byte-elsewhere : (line : ℕ) → line ≢ b.cycle / line_cycles → bytes_after line ≡ dma_bytes rom run line
   byte-elsewhere line n =
       bytes-one line
-      ∙ ap (λ l. dma_bytes rom run line ++ l) (other (is_dma (case_of b)) (b.cycle / 14 == line) (differs n))
+      ∙ ap (λ l. dma_bytes rom run line ++ l) (other (is_dma (case_of b)) (b.cycle / line_cycles == line) (differs n))
       ∙ append-nil (dma_bytes rom run line)
 
   place : IsSome (bus_byte_in (case_of b) rom b) → IsDmaPlace b.cycle
@@ -168,7 +168,7 @@ module _ (from : ℕ) (rom : List ℕ) (run : List Machine) (b : Machine) where
   later j u e h =
       record {
         frames = λ m. shown-more j m u e h;
-        here = sym (append-nil (bytes_after (u / 14)));
+        here = sym (append-nil (bytes_after (u / line_cycles)));
         elsewhere = λ line n. refl;
         from = λ s. cc;
         to = λ s. cc;
@@ -218,8 +218,8 @@ none-shown rom t zero h = refl
 none-shown rom t (suc n) h =
     rw (lt-leb t (interrupt_at n) (omega arith), none-shown rom t n (omega arith))
 
--- the window of the present frame begins at or after cycle t
-begins-later : (t : ℕ) → nat_le (t % frame) (78 * 14) ≡ nat_le t (interrupt_at (t / frame))
+-- the interrupt of the present frame starts at or after cycle t
+begins-later : (t : ℕ) → nat_le (t % frame) (interrupt_line * line_cycles) ≡ nat_le t (interrupt_at (t / frame))
 begins-later t = grind (arith, nat_tests)
 
 pub shows-nothing : (rom : List ℕ) (t : ℕ) → ShowsSince t rom [] t (nothing_before t)

@@ -1,4 +1,5 @@
--- The laws of a bus, for the wires of the board.
+-- The laws of a bus, for the wires of the board: a write changes no byte but the one at its address, and an input none. The proofs stand
+-- here, and not in proofs/, since the `impl` of a trait takes its laws from specs/ alone.
 use Rattle.std.proofs.Common.{◌≡◌, ◌≢◌, ◌⊎◌, inl, inr, ℕ, zero, suc, List, [], ◌∷◌, ◌-◌, Bool, true, false, cond, nat_lt, nat_le, slice_index, slice_set, refl, ap, ◌∙◌, get_or-set_other}
 use Rattle.std.proofs.Math.Bool.{◌&&◌}
 use Rattle.machine.specs.Instruction.Port.{Receive}

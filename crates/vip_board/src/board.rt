@@ -93,7 +93,7 @@ impl Board {
 
     /// A board at a boundary before machine cycle t, whose processor has these parts: with a ROM of 2,048 bytes, a key script, 4,096
     /// bytes of RAM and a latched key, below 16; X and P are below 16 too. The boot latch is clear, and the display is on. There is no
-    /// picture yet, and the frame that is under way has one only where its window begins at or after t.
+    /// picture yet, and the frame that is under way has one only where its interrupt starts at or after t.
     pub fn restore(
         alloc: Global,
         rom: &[u8],
@@ -216,8 +216,8 @@ impl Board {
         self.cpu.r(self.cpu.p())
     }
 
-    /// The machine cycles of the next move.
-    fn next_length(&self) -> u64
+    /// The machine cycles of the next move. The board is at a boundary.
+    pub fn next_length(&self) -> u64
         ensures { result ≡ length_of self.now.rom self.now.machine }
     {
         let signals = self.signals();

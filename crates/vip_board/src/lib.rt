@@ -17,7 +17,7 @@
 //! - `to_boundary` makes exactly one move of the board as `machine` defines it and names it, or answers that the move would end after
 //!   the limit and changes nothing; `cycle` makes the next machine cycle of that move.
 //! - What the video chip has of pictures is what the definition of pictures says of the moves made so far (`specs/Shown.antt`); of a board
-//!   that `restore` made at a later cycle, of the frames whose windows begin at or after it.
+//!   that `restore` made at a later cycle, of the frames whose interrupts start at or after it.
 //! - The registers, RAM and the latched key stay in their ranges.
 #![tactic(auto)]
 

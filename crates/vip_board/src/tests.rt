@@ -98,7 +98,7 @@ fn steps(alloc: Global, twos: u8) -> Result<Vec<u8>, AllocError>
 }
 
 #[test]
-fn a_picture_needs_the_display_on_in_its_whole_window(rt: HostRuntime) -> Result<(), Fail> {
+fn a_picture_needs_the_display_on_from_the_interrupt_on(rt: HostRuntime) -> Result<(), Fail> {
     // INP 1 comes behind the SEX 3 and NOP, and turns the display on from this cycle on
     for (twos, nops, on, pictures, first) in [
         (2, 357, 1_091, 1, [0xE3, 0x71, 0x33, 0xE3, 0xE3, 0xC4, 0, 0]),
@@ -117,7 +117,7 @@ fn a_picture_needs_the_display_on_in_its_whole_window(rt: HostRuntime) -> Result
         run(&mut board, on);
         assert_eq!(rt; board.now(), on);
         assert!(rt; board.video().is_on());
-        // the move that ends the window ends in it, or up to two cycles later
+        // the move in which the window ends
         run(&mut board, 2_914);
         assert_eq!(rt; board.video().count(), pictures, "on from {on} on");
         let line = board.video().finished().map(|picture| picture.lines[0]);
