@@ -1,5 +1,7 @@
-//! The whole board of the COSMAC VIP, cycle by cycle and move by move (RCA's instruction manual of the COSMAC VIP, "Logic"; ports and
-//! addresses that the manual leaves open are this project's profile).
+//! The whole board of the COSMAC VIP, cycle by cycle and move by move. It stands on the processor, the memory, the video chip and the
+//! keypad, each through its contract alone, and on the moves of `machine`. The layer above may rely on what is said below, for every ROM
+//! of 2,048 bytes, every key script and any number of cycles below the greatest u64. The standard is RCA's instruction manual of the COSMAC
+//! VIP, "Logic"; ports and addresses that the manual leaves open are this project's profile.
 //!
 //! ```text
 //!                      ┌───────────┐  EF1 = EFX, INT, DMA out   ┌───────────┐
@@ -10,9 +12,6 @@
 //!                     │  RAM   ROM  │
 //!                     └─────────────┘
 //! ```
-//!
-//! It stands on the processor, the memory, the video chip and the keypad, each through its contract alone. The layer above may rely on
-//! this, for every ROM of 2,048 bytes, every key script and any number of cycles below the greatest u64:
 //!
 //! - `to_boundary` makes exactly one move of the board as `machine` defines it and names it, or answers that the move would end after
 //!   the limit and changes nothing; `cycle` makes the next machine cycle of that move.

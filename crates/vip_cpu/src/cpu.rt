@@ -153,21 +153,21 @@ impl Cpu {
         self.registers.r(n)
     }
 
-    /// D.
+    /// The accumulator D.
     pub fn d(&self) -> u8
         ensures { result ≡ self.now.regs.d }
     {
         self.registers.d()
     }
 
-    /// T.
+    /// T: X in the high half and P in the low one, as they were before the last interrupt or MARK.
     pub fn t(&self) -> u8
         ensures { result ≡ self.now.regs.t }
     {
         self.registers.t()
     }
 
-    /// P, below 16.
+    /// The number P of the program counter, below 16.
     pub fn p(&self) -> u8
         ensures value { result ≡ self.now.regs.p }
         ensures below { result < 16 }
@@ -175,7 +175,7 @@ impl Cpu {
         self.registers.p()
     }
 
-    /// X, below 16.
+    /// The number X of the data pointer, below 16.
     pub fn x(&self) -> u8
         ensures value { result ≡ self.now.regs.x }
         ensures below { result < 16 }
@@ -183,21 +183,21 @@ impl Cpu {
         self.registers.x()
     }
 
-    /// DF.
+    /// DF, the carry of D: after a difference, whether there was no borrow.
     pub fn df(&self) -> bool
         ensures { bit result ≡ self.now.regs.df }
     {
         self.registers.df()
     }
 
-    /// Q.
+    /// The output flip-flop Q.
     pub fn q(&self) -> bool
         ensures { result ≡ self.now.regs.q }
     {
         self.registers.q()
     }
 
-    /// IE.
+    /// IE: whether an interrupt may be taken.
     pub fn ie(&self) -> bool
         ensures { result ≡ self.now.regs.ie }
     {

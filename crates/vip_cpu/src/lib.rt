@@ -1,4 +1,8 @@
-//! The CDP1802 by machine cycles (RCA's data sheet of the CDP1802: "Architecture", "State Codes", "Instruction Summary").
+//! The CDP1802 by machine cycles. The crate stands on `machine`, which defines each instruction, and on `vip_isa`, which decodes opcodes.
+//! It knows nothing of the board: it reaches memory, ports and flags through the trait `Bus`. The layer above may rely on `Cpu::cycle`: for
+//! every bus that keeps the laws of `Bus`, it makes exactly the machine cycle of `specs/Cycle.antt`, answers its kind, and makes those calls
+//! on the bus that `specs/Acts.antt` says, in that order. The standard is RCA's data sheet of the CDP1802: "Architecture", "State Codes",
+//! "Instruction Summary".
 //!
 //! ```text
 //!                  ┌────────────────────────────────────────┐
@@ -37,11 +41,6 @@
 //!
 //! After reset Q = 0, IE = 1, and X, P and R(0) are 0; all else is 0 too, and the first cycle is a fetch (this project's profile: the
 //! chip leaves the other registers as they were, and takes one cycle more).
-//!
-//! The crate stands on `machine`, which defines each instruction, and on `vip_isa`, which decodes opcodes. It knows nothing of the board:
-//! it reaches memory, ports and flags through the trait `Bus`. The layer above may rely on `Cpu::cycle`: for every bus that keeps the
-//! laws of `Bus`, it makes exactly the machine cycle of `specs/Cycle.antt`, answers its kind, and makes those calls on the bus that
-//! `specs/Acts.antt` says, in that order.
 #![tactic(auto)]
 
 mod bus;

@@ -1,11 +1,10 @@
 //! The 256 opcodes of the CDP1802: what each byte means as an instruction, how it is written, how
-//! long it is and how long it takes.
-//!
-//! The crate stands on `machine`, whose tables say of each opcode its kind, its number and its
-//! machine cycles. The layers above may rely on this: `encode(&decode(byte)) == byte` for each byte,
-//! and `cycles`, `size` and `mnemonic` are those of the rows in `specs/Rows.antt`. The source is the
-//! "Instruction Summary" of RCA's data sheet of the CDP1802. Opcode 68, which the data sheet leaves
-//! out, is `Undefined`: one byte, two cycles, written `DB` (this project's profile).
+//! long it is and how long it takes. The crate stands on `machine` alone, whose tables say of each
+//! opcode its kind, its number and its machine cycles. The layers above may rely on this:
+//! `encode(&decode(byte)) == byte` for each byte, `size` and `mnemonic` are those of the rows in
+//! `specs/Rows.antt`, and `cycles` those of the definition. The standard is the "Instruction Summary"
+//! of RCA's data sheet of the CDP1802. Opcode 68, which the data sheet leaves out, is `Undefined`:
+//! one byte, two cycles, written `DB` (this project's profile).
 #![tactic(auto)]
 
 ghost use Rattle.std.specs.Prelude.{◌≡◌, ◌↔◌, IsTrue};

@@ -1,9 +1,9 @@
-//! The memory of the board: 4,096 bytes of RAM, 2,048 bytes of ROM, and the boot latch.
+//! The memory of the board: 4,096 bytes of RAM, 2,048 bytes of ROM, and the boot latch. It stands on the address map of `machine` alone.
+//! The layer above sees two flat lists of bytes and the latch, and may rely on this: a read gives the byte of the address map, a write
+//! makes its change and no other, and nothing changes the ROM. The map is that of RCA's instruction manual of the COSMAC VIP; the place and
+//! size of the ROM, and what an address without memory reads, are this project's profile.
 //!
-//! It stands on the address map of `machine`, which follows RCA's COSMAC VIP instruction manual; the place and size of the ROM, and
-//! what an address without memory reads, are this project's profile. RAM is kept as 16 pages of 256 bytes and ROM as 8. Callers see
-//! two flat lists of bytes and the latch, and may rely on this: a read gives the byte of the address map, a write makes its change
-//! and no other, and nothing changes the ROM.
+//! RAM is kept as 16 pages of 256 bytes and ROM as 8.
 #![tactic(auto)]
 
 ghost use Rattle.std.specs.Prelude.{◌≡◌, ◌+◌, ◌*◌, ◌/◌, ◌<◌, ◌≤◌, ◌⊎◌, ◌↔◌, ℕ, true, false, length, replicate, slice_index, slice_set, IfOk, IfSome, IsSome, vec_len};

@@ -1,4 +1,7 @@
-//! The CDP1861 video chip by machine cycles (RCA's data sheet of the CDP1861: "Signal Descriptions", "Display").
+//! The CDP1861 video chip by machine cycles. The crate stands on `machine` alone, which defines the signals by the number of the machine
+//! cycle. It knows nothing of the board: the caller ends each cycle by `end_cycle`, with the byte that a DMA cycle put on the bus. The layer
+//! above may rely on this: the signals are those of the definitions, and `specs/Chip.antt` says what each call makes of the chip. The
+//! standard is RCA's data sheet of the CDP1861: "Signal Descriptions", "Display".
 //!
 //! ```text
 //!     line    0 ┌──────────────────────────────┐
@@ -13,11 +16,9 @@
 //! A line has 14 machine cycles and a frame 262 lines. The exact places in a frame are this project's profile, and so is that the
 //! display is off at first. While it is off no signal is active.
 //!
-//! The crate stands on `machine`, which defines the signals by the number of the machine cycle. It knows nothing of the board: the
-//! caller ends each cycle by `end_cycle`, with the byte that a DMA cycle put on the bus. The layer above may rely on this: the signals
-//! are those of the definitions, and `specs/Chip.antt` says what each call makes of the chip. A frame has a picture exactly where the
-//! display was on in each cycle from the start of its interrupt to the end of its window; the picture holds the DMA bytes of each line in
-//! order, followed by 00 up to eight. A chip may be made at any cycle; a frame whose interrupt started before it has no picture.
+//! A frame has a picture exactly where the display was on in each cycle from the start of its interrupt to the end of its window; the
+//! picture holds the DMA bytes of each line in order, followed by 00 up to eight. A chip may be made at any cycle; a frame whose interrupt
+//! started before it has no picture.
 #![tactic(auto)]
 
 mod buffer;
