@@ -78,19 +78,6 @@ second_none : (o : Option Cell) → option_or o None ≡ o
 second_none None = refl
 second_none (Some cell) = refl
 
-nothing_in : (line at address : ℕ) → cell_in line at [] address ≡ None
-nothing_in line at address = elim (cases_lt address at) [
-  | inl under ↦ cell_in-below line at [] address under
-  | inr above ↦ cell_in-past line at [] address (omega arith)
-]
-
-pub holds_none : (old : List (Option Cell)) (line at : ℕ) (bytes : List ℕ) → Holds old old line at bytes 0
-holds_none old line at bytes = record {
-  same_length = refl;
-  entries = λ address. sym (ap (option_or (entry old address)) (nothing_in line at address) ∙ second_none (entry old address));
-  free = λ k below. absurd (omega arith);
-}
-
 -- one byte more, at an address that had none
 pub holds_more : (old cells : List (Option Cell)) (line at : ℕ) (bytes : List ℕ) (offset byte : ℕ) → Holds old cells line at bytes offset → offset < length bytes → at + length bytes ≤ length old
     → byte ≡ get_or bytes offset 0 → entry cells (at + offset) ≡ None → Holds old (set cells (at + offset) (Some (record { byte = byte; line = line }))) line at bytes (offset + 1)

@@ -18,20 +18,3 @@ collect_from in_range values results = cond (list_any is_undefined results) (Err
 pub collect_none : (results : List (Result ℕ ValueFault)) → collect_from true [] results ≡ collected results
 unfolding collected
 collect_none results = refl
-
-pub collect_ok : (in_range : Bool) (values : List ℕ) (value : ℕ) (results : List (Result ℕ ValueFault)) → collect_from in_range (values ++ value ∷ []) results ≡ collect_from in_range values (Ok value ∷ results)
-collect_ok in_range values value results =
-    ap (λ all. cond (list_any is_undefined results) (Err Undefined) (cond (not in_range || list_any is_err results) (Err Range) (Ok all))) (append_assoc values (value ∷ []) (values_in results))
-
-pub collect_range : (in_range : Bool) (values : List ℕ) (results : List (Result ℕ ValueFault)) → collect_from false values results ≡ collect_from in_range values (Err Range ∷ results)
-collect_range true values results = refl
-collect_range false values results = refl
-
-pub collect_undefined : (in_range : Bool) (values : List ℕ) (results : List (Result ℕ ValueFault)) → collect_from in_range values (Err Undefined ∷ results) ≡ Err Undefined
-collect_undefined in_range values results = refl
-
-pub collect_all : (values : List ℕ) → collect_from true values [] ≡ Ok values
-collect_all values = ap Ok (append-nil values)
-
-pub collect_late : (values : List ℕ) → collect_from false values [] ≡ Err Range
-collect_late values = refl

@@ -310,7 +310,3 @@ is_assembly source made plan has = record {
 pub first_of_1 : (source : List (List ℕ)) (f : AsmFault) → IsFirstIn (fault_1 source) (length source) f → IsFirstOf source f
 first_of_1 source (Fault line cause) first = (first.0, first.1, inl first.2)
 first_of_1 source NoMemory first = tt
-
-pub first_of_2 : (source : List (List ℕ)) (f : AsmFault) → NoFault (fault_1 source) (length source) → IsFirstIn (fault_2 source) (length source) f → IsFirstOf source f
-first_of_2 source (Fault line cause) none first = (first.0, first.1, inr (none, first.2))
-first_of_2 source NoMemory none first = tt

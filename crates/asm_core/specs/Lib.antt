@@ -1,5 +1,6 @@
 pub mod Names
 pub mod Layout
+pub mod Limits
 pub mod Encoding
 pub mod Sources
 pub mod Made

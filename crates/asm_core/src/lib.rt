@@ -1,9 +1,10 @@
-//! The two-pass assembler: a source text becomes bytes at addresses, names with their values, or its first fault.
+//! The two-pass assembler: a source text becomes bytes at addresses, names with their values, or its first fault. It stands on `asm_lex`,
+//! which takes one line apart, and on the opcodes of `vip_isa`. The layers above may rely on this: `assemble` answers what `IsAssembly`
+//! in `specs/Made.antt` says, or the first fault as `HasFirstFault` in `specs/Sources.antt` says, want of memory aside, and the readers
+//! of `Assembly` show it. The instructions are those of RCA's data sheet of the CDP1802; the language of the lines is this project's
+//! profile (`docs/FORMATS.md`).
 //!
-//! It stands on `asm_lex`, which takes one line apart. The layers above may rely on this: `assemble` answers what `IsAssembly` in
-//! `specs/Made.antt` says, or the first fault as `HasFirstFault` in `specs/Sources.antt` says, want of memory aside, and the readers
-//! of `Assembly` show it. Pass 1 gives each line its address and each name its value, pass 2 the bytes. The instructions are those of
-//! RCA's data sheet of the CDP1802; the language of the lines is this project's profile.
+//! Pass 1 gives each line its address and each name its value, pass 2 the bytes.
 #![tactic(auto)]
 
 mod assembly;
@@ -19,7 +20,7 @@ mod values;
 pub use crate::assembly::{Assembly, LinePlace};
 pub use crate::fault::{AsmCause, AsmFault};
 pub use crate::names::SymbolIter;
-pub use crate::passes::assemble;
+pub use crate::passes::{MOST_BYTES, assemble};
 pub use crate::source::next_line;
 
 #[cfg(test)]

@@ -3,6 +3,7 @@
 ghost use Rattle.std.specs.Prelude.{◌≡◌, ◌≤◌, ◌+◌, ℕ, List, length, slice_index_or, None, IfOk, OnOk, IfErr, Ok};
 ghost use Rattle.asm_core.specs.Passes.{IsFaultOf, IsCauseOf, IsFirstIn, AddsLine, LaysOut, PutsLine, HasBytes};
 ghost use Rattle.asm_core.specs.Layout.{laid_out};
+ghost use Rattle.asm_core.specs.Limits.{most_bytes};
 ghost use Rattle.asm_core.specs.Names.{value_in};
 ghost use Rattle.asm_core.specs.Encoding.{encoded};
 ghost use Rattle.asm_core.specs.Sources.{source_lines, fault_1, fault_2, fault_with};
@@ -17,6 +18,9 @@ use crate::source::next_line;
 use crate::table::{Cell, empty_table, place};
 use asm_lex::text_at;
 use std::alloc::Global;
+
+/// The most bytes of a source.
+pub const MOST_BYTES: usize = 1_048_576;
 
 // The names of all lines, the address at which each line begins, with the address behind the last one, and the value that the label of
 // each line has or would have.
@@ -56,7 +60,7 @@ fn add_line(
 }
 
 fn pass_1(alloc: Global, text: &[u8]) -> Result<Plan, AsmFault>
-    requires { length text.now ≤ 1048576 }
+    requires { length text.now ≤ most_bytes }
     ensures ok { IfOk result (λ plan. LaysOut (source_lines text.now) (length (source_lines text.now)) plan.names plan.addresses.items plan.values.items) }
     ensures err { IfErr result (λ fault. IsFirstIn (fault_1 (source_lines text.now)) (length (source_lines text.now)) fault) }
 {
@@ -125,7 +129,7 @@ fn put_line(
 }
 
 fn pass_2(alloc: Global, text: &[u8], plan: &Plan) -> Result<Vec<Option<Cell>>, AsmFault>
-    requires text { length text.now ≤ 1048576 }
+    requires text { length text.now ≤ most_bytes }
     requires plan { LaysOut (source_lines text.now) (length (source_lines text.now)) plan.now.names plan.now.addresses.items plan.now.values.items }
     ensures count { IfOk result (λ cells. length cells.items ≡ 65536) }
     ensures ok { IfOk result (λ cells. HasBytes (source_lines text.now) (length (source_lines text.now)) cells.items) }
@@ -150,9 +154,9 @@ fn pass_2(alloc: Global, text: &[u8], plan: &Plan) -> Result<Vec<Option<Cell>>, 
     Ok(cells)
 }
 
-/// Assembles a source of at most 1,048,576 bytes, or answers its first fault; an answer leaves nothing behind.
+/// Assembles a source of at most `MOST_BYTES` bytes, or answers its first fault; an answer leaves nothing behind.
 pub fn assemble(alloc: Global, text: &[u8]) -> Result<Assembly, AsmFault>
-    requires { length text.now ≤ 1048576 }
+    requires { length text.now ≤ most_bytes }
     ensures made { IfOk result (λ made. IsAssembly (source_lines text.now) made) }
     ensures fault { IfErr result (λ fault. IsFirstOf (source_lines text.now) fault) }
 {

@@ -1,20 +1,17 @@
-use crate::{AsmCause, AsmFault, Assembly, LinePlace, assemble};
+use crate::{AsmCause, AsmFault, Assembly, LinePlace, MOST_BYTES, assemble};
 use std::alloc::Global;
 use std::test::Fail;
 
-/// The most bytes of a source.
-const LONGEST_SOURCE: usize = 1_048_576;
-
 // The first fault of a source, if it has one.
 fn first_fault(alloc: Global, text: &[u8]) -> Option<AsmFault> {
-    if text.len() > LONGEST_SOURCE {
+    if text.len() > MOST_BYTES {
         return None;
     }
     assemble(alloc, text).err()
 }
 
 fn assembled(alloc: Global, text: &[u8]) -> Option<Assembly> {
-    if text.len() > LONGEST_SOURCE {
+    if text.len() > MOST_BYTES {
         return None;
     }
     assemble(alloc, text).ok()

@@ -5,7 +5,7 @@ use Rattle.std.specs.List.{list_all, slice_split, onto_first}
 use Rattle.std.proofs.lemmas.Bool.{and_parts, and_right, cond-false, ne_eqb, both_ways, false_from_ne_true}
 use Rattle.asm_lex.specs.Bytes.{is_comma, is_name}
 use Rattle.asm_lex.specs.Parts.{trimmed, operands_in, without_leading_blanks, without_trailing_blanks}
-use Rattle.asm_lex.specs.Expressions.{is_expression, sum_in, number_of, number_in, is_here}
+use Rattle.asm_lex.specs.Expressions.{is_expression, sum_in, written_value, number_in, is_here}
 use Rattle.asm_lex.specs.Words.{operands_of, number_written, takes, meaning_of, coded}
 use Rattle.machine.specs.Opcodes.{kind_of}
 use Rattle.asm_lex.specs.declared.shape.Word.{Word}
@@ -61,7 +61,7 @@ few_parts cuts p empty xs all =
 
 -- the empty text is no expression, also without its blanks
 no_expression : is_expression (trimmed []) ≡ false
-unfolding is_expression sum_in number_of number_in is_here is_name without_leading_blanks without_trailing_blanks
+unfolding is_expression sum_in written_value number_in is_here is_name without_leading_blanks without_trailing_blanks
 no_expression = refl
 
 -- of more than 128 operands some one is no expression

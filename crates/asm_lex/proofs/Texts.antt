@@ -8,7 +8,8 @@ use Rattle.std.proofs.lemmas.List.{take_all, length-take, length-drop, length-ap
 use Rattle.std.proofs.lemmas.List.Sums.{prefix_len_stops, passes_at_first}
 use Rattle.std.proofs.lemmas.List.Splits.{length-slice_split}
 use Rattle.asm_lex.specs.declared.shape.Span.{Span}
-use Rattle.asm_lex.specs.Bytes.{is_comma, is_blank}
+use Rattle.vip_byte.specs.Text.{is_blank}
+use Rattle.asm_lex.specs.Bytes.{is_comma}
 use Rattle.asm_lex.specs.Parts.{without_leading_blanks, without_trailing_blanks, trimmed, operands_in, word_of, statement_of, behind_word}
 use Rattle.asm_lex.specs.Spans.{text_at, IsWithin, AreWithin, AreInOrder}
 use Rattle.asm_lex.proofs.Splits.{part_of_part}

@@ -3,10 +3,6 @@ use Rattle.std.specs.Prelude.{◌==◌, ◌&&◌, ◌||◌, ℕ, Bool, not, List
 use Rattle.std.specs.List.{list_all, list_any, slice_split}
 use Rattle.std.specs.Char.{is_ascii_alphabetic, is_ascii_alphanumeric, is_ascii_hexdigit, to_ascii_uppercase, digit_value}
 
--- a blank is a space or a tab
-abbrev pub is_blank : ℕ → Bool
-is_blank byte = (byte == 32) || (byte == 9)
-
 -- a line may hold the bytes 20 to 7E and the tab
 abbrev pub is_allowed : ℕ → Bool
 is_allowed byte = (nat_le 32 byte && nat_le byte 126) || (byte == 9)

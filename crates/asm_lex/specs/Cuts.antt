@@ -1,7 +1,8 @@
 -- The bytes at which a text is cut.
 use Rattle.std.specs.Prelude.{ℕ, Bool, List, [], Option, None, Some}
 use Rattle.std.specs.List.{slice_split}
-use Rattle.asm_lex.specs.Bytes.{is_semicolon, is_colon, is_comma, is_blank, ends_name}
+use Rattle.vip_byte.specs.Text.{is_blank}
+use Rattle.asm_lex.specs.Bytes.{is_semicolon, is_colon, is_comma, ends_name}
 use Rattle.asm_lex.specs.Expressions.{is_sign}
 use Rattle.asm_lex.specs.declared.cuts.Stop.{Stop}
 use Rattle.asm_lex.specs.declared.cuts.Stop.TheVariants.{Semicolon, Colon, Comma, Blank, Sign, EndOfName}

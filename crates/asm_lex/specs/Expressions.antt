@@ -39,8 +39,8 @@ hexadecimal_of (nought ∷ []) = None
 hexadecimal_of (nought ∷ x ∷ digits) = if (nought == 48) && (x == 120) then number_in 16 digits else None
 
 -- the value of a number, decimal or hexadecimal
-unfoldable pub number_of : List ℕ → Option ℕ
-number_of term = if is_some (number_in 10 term) then number_in 10 term else hexadecimal_of term
+unfoldable pub written_value : List ℕ → Option ℕ
+written_value term = if is_some (number_in 10 term) then number_in 10 term else hexadecimal_of term
 
 -- `$` is the address at which the line begins
 unfoldable pub is_here : List ℕ → Bool
@@ -48,7 +48,7 @@ is_here term = bytes_eq term (36 ∷ [])
 
 -- a term is a number, `$` or a name
 abbrev pub is_term : List ℕ → Bool
-is_term term = is_some (number_of term) || (is_here term || is_name term)
+is_term term = is_some (written_value term) || (is_here term || is_name term)
 
 unfoldable pub is_expression : List ℕ → Bool
 is_expression text = list_all is_term (terms_of (sum_in text))
@@ -59,7 +59,7 @@ names_in text = filter is_name (terms_of (sum_in text))
 
 -- a number above 65535 is written in the text
 abbrev pub is_large : List ℕ → Bool
-is_large term = option_map_or (λ number. nat_lt 65535 number) (number_of term) false
+is_large term = option_map_or (λ number. nat_lt 65535 number) (written_value term) false
 
 unfoldable pub has_large_number : List ℕ → Bool
 has_large_number text = list_any is_large (terms_of (sum_in text))
@@ -67,7 +67,7 @@ has_large_number text = list_any is_large (terms_of (sum_in text))
 -- the value of a term, where `names` gives the values of names; none for a name without a value
 unfoldable pub term_value : (List ℕ → Option ℕ) → ℕ → List ℕ → Option ℕ
 term_value names here term =
-    if is_some (number_of term) then number_of term
+    if is_some (written_value term) then written_value term
     else if is_here term then Some here
     else names term
 

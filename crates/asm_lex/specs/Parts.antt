@@ -1,7 +1,8 @@
 -- The parts of a source line: what stands before the comment is an optional label, then an optional word, then operands.
 use Rattle.std.specs.Prelude.{◌==◌, ◌-◌, ℕ, List, [], length, take, drop, map, if◌then◌else◌, Option, Some, None}
 use Rattle.std.specs.List.{list_any, before_first, after_first, prefix_len, suffix_len, slice_split}
-use Rattle.asm_lex.specs.Bytes.{is_blank, is_semicolon, is_colon, is_comma}
+use Rattle.vip_byte.specs.Text.{is_blank}
+use Rattle.asm_lex.specs.Bytes.{is_semicolon, is_colon, is_comma}
 
 -- a text without the blanks at its start, at its end, and at both
 unfoldable pub without_leading_blanks : List ℕ → List ℕ

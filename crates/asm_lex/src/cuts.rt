@@ -2,7 +2,7 @@
 
 ghost use Rattle.std.specs.Prelude.{◌≡◌, ◌≤◌, ◌<◌, ◌+◌, ◌-◌, ◌∷◌, ℕ, length, IfSome, take, drop, option_map};
 ghost use Rattle.std.specs.List.{position_or_len, prefix_len, suffix_len, slice_split};
-ghost use Rattle.asm_lex.specs.Bytes.{is_blank};
+ghost use Rattle.vip_byte.specs.Text.{is_blank};
 ghost use Rattle.asm_lex.specs.Cuts.{stops, parts_of};
 
 use crate::text::{is_blank, is_in_name};

@@ -4,7 +4,7 @@ ghost use Rattle.std.specs.Prelude.{◌≡◌, ◌≤◌, ◌+◌, ◌∷◌, �
 ghost use Rattle.std.specs.Option.{option_map};
 ghost use Rattle.vip_byte.specs.Number.{number};
 ghost use Rattle.asm_lex.specs.Bytes.{is_name};
-ghost use Rattle.asm_lex.specs.Expressions.{sum_in, number_in, hexadecimal_of, number_of, is_here, is_term, is_expression, is_large, has_large_number, term_value, terms_of, signed_terms, sum_of, value_of, prefixed, has_undefined};
+ghost use Rattle.asm_lex.specs.Expressions.{sum_in, number_in, hexadecimal_of, written_value, is_here, is_term, is_expression, is_large, has_large_number, term_value, terms_of, signed_terms, sum_of, value_of, prefixed, has_undefined};
 ghost use Rattle.asm_lex.specs.Looks.{TakesNames, AnswersAs, TakesTerm, AnswersTermAs};
 ghost use Rattle.asm_lex.specs.Left.{left, left_terms, left_signed, left_length};
 
@@ -38,9 +38,9 @@ fn hexadecimal(term: &[u8]) -> Option<u32>
 }
 
 /// The value of a number, or 65536 for each one above 65535; none where the term is no number.
-#[tactic(auto, unfolding(crate::specs::Expressions::number_of))]
+#[tactic(auto, unfolding(crate::specs::Expressions::written_value))]
 fn number(term: &[u8]) -> Option<u32>
-    ensures { result ≡ option_map (λ number. min number 65536) (number_of term.now) }
+    ensures { result ≡ option_map (λ number. min number 65536) (written_value term.now) }
 {
     match capped(read_decimal(term, u64::from(GREATEST))) {
         Some(number) => Some(number),

@@ -3,7 +3,8 @@
 ghost use Rattle.std.specs.Prelude.{◌≡◌, ◌≤◌, ◌<◌, ℕ, IsTrue, length, if◌then◌else◌};
 ghost use Rattle.std.specs.Char.{is_ascii_hexdigit, digit_value};
 ghost use Rattle.std.specs.List.{list_all, list_any, position_or_len, prefix_len, suffix_len};
-ghost use Rattle.asm_lex.specs.Bytes.{is_allowed, is_blank, begins_name, is_in_name, is_long_name, ends_name, is_name, register_of, has_long_name};
+ghost use Rattle.vip_byte.specs.Text.{is_blank};
+ghost use Rattle.asm_lex.specs.Bytes.{is_allowed, begins_name, is_in_name, is_long_name, ends_name, is_name, register_of, has_long_name};
 ghost use Rattle.asm_lex.specs.Words.{spells};
 
 use crate::cuts::{Stop, cut};

@@ -29,7 +29,7 @@ pub(crate) enum Operands {
     Port,
     /// One expression.
     Expression,
-    /// None.
+    /// No operand.
     Nothing,
 }
 

@@ -173,9 +173,6 @@ row_text-some behind bytes there =
     cond-false (length bytes == 0) [] (line_text (row_before behind bytes)) (ne_eqb (length bytes) 0 (λ e. omega arith))
     ∙ line_of (behind - length bytes) bytes there
 
-pub row_text-none : (behind : ℕ) (bytes : List ℕ) → length bytes ≡ 0 → row_text behind bytes ≡ []
-row_text-none behind bytes e = cond-true (length bytes == 0) [] (line_text (row_before behind bytes)) (eq-eqb (length bytes) 0 e)
-
 -- a byte more in a row
 grown : (behind : ℕ) (bytes : List ℕ) (byte : ℕ) → length bytes ≤ behind → row_before (behind + 1) (bytes ++ byte ∷ []) ≡ row_before behind bytes ++ (behind, Some byte) ∷ []
 grown behind bytes byte before =

@@ -9,7 +9,8 @@ use Rattle.std.proofs.lemmas.List.Sums.{suffix_len_is, position_or_len_is}
 use Rattle.std.proofs.lemmas.List.Splits.{slice_split_none}
 use Rattle.std.proofs.lemmas.List.Folds.{list_any_none}
 use Rattle.asm_lex.specs.declared.shape.Word.{Word}
-use Rattle.asm_lex.specs.Bytes.{is_blank, is_allowed, is_semicolon, is_colon, is_comma, is_in_name, ends_name, begins_name, is_name, is_long_name, has_long_name}
+use Rattle.vip_byte.specs.Text.{is_blank}
+use Rattle.asm_lex.specs.Bytes.{is_allowed, is_semicolon, is_colon, is_comma, is_in_name, ends_name, begins_name, is_name, is_long_name, has_long_name}
 use Rattle.asm_lex.specs.Expressions.{is_sign, is_prefix, sum_in, terms_of}
 use Rattle.asm_lex.specs.Parts.{without_leading_blanks, without_trailing_blanks, trimmed, code_of, label_of, statement_of, word_of, behind_word, operands_in}
 use Rattle.asm_lex.specs.Lines.{Parsed, has_bad_bytes, has_bad_name, word_meaning, parsed}

@@ -10,7 +10,7 @@ use Rattle.vip_byte.specs.HexText.{hex_digit, hex2, hex4}
 use Rattle.vip_isa.proofs.Below.{at-passes_below}
 use Rattle.asm_lex.specs.declared.shape.ValueFault.TheVariants.{Undefined, Range}
 use Rattle.asm_lex.specs.Bytes.{is_name}
-use Rattle.asm_lex.specs.Expressions.{is_prefix, is_here, is_term, signed_terms, number_in, hexadecimal_of, number_of, is_expression, is_large, has_large_number, term_value, has_undefined, with_term, sum_of, value_of}
+use Rattle.asm_lex.specs.Expressions.{is_prefix, is_here, is_term, signed_terms, number_in, hexadecimal_of, written_value, is_expression, is_large, has_large_number, term_value, has_undefined, with_term, sum_of, value_of}
 use Rattle.asm_lex.specs.Words.{is_one_expression}
 use Rattle.asm_lex.proofs.Splits.{signed_whole}
 use Rattle.asm_core.specs.Names.{Names, within, operand_value}
@@ -22,9 +22,6 @@ digit_is n below = eqb-true _ _ (at-passes_below (λ n. eqb (digit_value (hex_di
 
 pub digit_plain : (n : ℕ) → n < 16 → is_plain (hex_digit n) ≡ true
 digit_plain n below = at-passes_below (λ n. is_plain (hex_digit n)) 16 refl n below
-
-digit_in : (n : ℕ) → n < 16 → is_digit (hex_digit n) 16 ≡ true
-digit_in n below = at-passes_below (λ n. is_digit (hex_digit n) 16) 16 refl n below
 
 abbrev pub hex_text : List ℕ → List ℕ
 hex_text digits = 48 ∷ 120 ∷ digits
@@ -44,8 +41,8 @@ no_digits : (b : Bool) (v : ℕ) → cond {A = Option ℕ} (b && false) (Some v)
 no_digits true v = refl
 no_digits false v = refl
 
-hex_number : (digits : List ℕ) (value : ℕ) → number_in 16 digits ≡ Some value → number_of (hex_text digits) ≡ Some value
-unfolding number_of number_in
+hex_number : (digits : List ℕ) (value : ℕ) → number_in 16 digits ≡ Some value → written_value (hex_text digits) ≡ Some value
+unfolding written_value number_in
 hex_number digits value e =
     let none : number_in 10 (hex_text digits) ≡ None = no_digits (nat_lt 0 (length (hex_text digits))) (digits_value 10 (hex_text digits)) in
     ap (λ o. cond (is_some o) o (hexadecimal_of (hex_text digits))) none ∙ e
@@ -83,10 +80,10 @@ word_digits w below =
     (digit_is (w / 256 / 16) (omega arith)) (digit_is (w / 256 % 16) (omega arith)) (digit_is (w % 256 / 16) (omega arith)) (digit_is (w % 256 % 16) (omega arith))
     (omega arith) (omega arith) (omega arith) (omega arith) (omega arith)
 
-pub byte_number : (b : ℕ) → b < 256 → number_of (hex_text (hex2 b)) ≡ Some b
+pub byte_number : (b : ℕ) → b < 256 → written_value (hex_text (hex2 b)) ≡ Some b
 byte_number b below = hex_number (hex2 b) b (byte_digits b below)
 
-pub word_number : (w : ℕ) → w < 65536 → number_of (hex_text (hex4 w)) ≡ Some w
+pub word_number : (w : ℕ) → w < 65536 → written_value (hex_text (hex4 w)) ≡ Some w
 word_number w below = hex_number (hex4 w) w (word_digits w below)
 
 sum_is : (v : ℕ) → (pos 0 +ℤ pos v) ≡ pos v
@@ -99,7 +96,7 @@ some_is : (o : Option ℕ) (v : ℕ) → o ≡ Some v → is_some o ≡ true
 some_is o v e = ap is_some e
 
 -- a plain text that is a number
-module _ (o : List ℕ) (plain : IsPlain o) (there : 0 < length o) (v : ℕ) (is : number_of o ≡ Some v) where
+module _ (o : List ℕ) (plain : IsPlain o) (there : 0 < length o) (v : ℕ) (is : written_value o ≡ Some v) where
   pub number_expression : is_expression o ≡ true
   unfolding is_expression
   number_expression =
@@ -120,7 +117,7 @@ module _ (o : List ℕ) (plain : IsPlain o) (there : 0 < length o) (v : ℕ) (is
     module _ (names : Names) (here : ℕ) where
       term_is : term_value names here o ≡ Some v
       unfolding term_value
-      term_is = cond-true (is_some (number_of o)) (number_of o) (cond (is_here o) (Some here) (names o)) (some_is (number_of o) v is) ∙ is
+      term_is = cond-true (is_some (written_value o)) (written_value o) (cond (is_here o) (Some here) (names o)) (some_is (written_value o) v is) ∙ is
 
       defined : has_undefined names here o ≡ false
       defined = ap (list_any (λ term. is_none (term_value names here term))) (one_term o plain there) ∙ ap (λ t. is_none t || false) term_is

@@ -17,7 +17,7 @@ use Rattle.asm_lex.specs.declared.shape.Word.TheVariants.{Code, Org, Db}
 use Rattle.asm_lex.specs.declared.shape.LexFault.{LexFault}
 use Rattle.asm_lex.specs.declared.shape.LexFault.TheVariants.{BadOperand}
 use Rattle.asm_lex.specs.Bytes.{register_of}
-use Rattle.asm_lex.specs.Expressions.{sum_in, number_in, number_of as value_written, has_large_number}
+use Rattle.asm_lex.specs.Expressions.{sum_in, number_in, written_value as value_written, has_large_number}
 use Rattle.asm_lex.specs.Words.{size_at, mnemonic_at, directive_of, spells, opcodes, opcode_named, entry_of, meaning_of, coded, operands_of, operands_by_size, number_written, with_number, port_of, is_one_expression, are_expressions}
 use Rattle.asm_lex.specs.Lines.{entry_meaning, word_meaning, parsed}
 use Rattle.asm_listing.specs.declared.instruction.Operand.{Operand}

@@ -4,16 +4,13 @@ ghost use Rattle.asm_core.specs.Sources.{source_lines};
 
 use crate::{disassemble, dump, listing, one_line};
 use arrayvec::ArrayVec;
-use asm_core::{Assembly, assemble};
+use asm_core::{Assembly, MOST_BYTES, assemble};
 use std::alloc::Global;
-
-/// The most bytes of a source.
-const LONGEST_SOURCE: usize = 1_048_576;
 
 fn assembled(alloc: Global, text: &[u8]) -> Option<Assembly>
     ensures { IfSome result (λ made. IsAssembly (source_lines text.now) made) }
 {
-    if text.len() > LONGEST_SOURCE {
+    if text.len() > MOST_BYTES {
         return None;
     }
     assemble(alloc, text).ok()

@@ -1,6 +1,7 @@
 //! The walk over all addresses.
 
 ghost use Rattle.std.specs.Prelude.{◌≡◌, ◌≤◌, length, MatchOption};
+ghost use Rattle.asm_core.specs.Limits.{most_bytes};
 ghost use Rattle.asm_core.specs.Sources.{source_lines};
 ghost use Rattle.chip8_source.specs.Texts.{usual_text, tall_text};
 ghost use Rattle.rom_check.specs.Compared.{rom_bytes, Differs, AgreesBelow, Compares};
@@ -63,7 +64,7 @@ fn first_difference(made: &Assembly, image: &[u8; 2048]) -> Option<ImageFault>
     None
 }
 
-/// Compares what a source of at most 1,048,576 bytes assembles to with the bytes of a ROM at 8000 to 87FF.
+/// Compares what a source of at most `asm_core::MOST_BYTES` bytes assembles to with the bytes of a ROM at 8000 to 87FF.
 ///
 /// The addresses compared are those of the ROM and each address to which the source gives a byte. An address of the ROM without a byte
 /// counts as 00 in the source, an address outside the ROM counts as FF in the image. An answer leaves nothing behind.
@@ -72,7 +73,7 @@ fn first_difference(made: &Assembly, image: &[u8; 2048]) -> Option<ImageFault>
 ///
 /// `BadRomSource` is the first fault of the source. `RomDiffers` is the least address that differs, where the source assembles.
 pub fn compare(alloc: Global, text: &[u8], image: &[u8; 2048]) -> Result<(), ImageFault>
-    requires { length text.now ≤ 1048576 }
+    requires { length text.now ≤ most_bytes }
     ensures { Compares (source_lines text.now) image.now result }
 {
     let made = assemble(alloc, text)?;

@@ -1,6 +1,6 @@
 use Rattle.std.proofs.Common.{◌≡◌, ◌≤◌, ◌+◌, length, take}
 use Rattle.std.specs.List.{suffix_len}
-use Rattle.asm_lex.specs.Bytes.{is_blank}
+use Rattle.vip_byte.specs.Text.{is_blank}
 use Rattle.asm_lex.proofs.cuts.end_without_blanks.Given as goal
 
 -- what stands behind `end` is blank

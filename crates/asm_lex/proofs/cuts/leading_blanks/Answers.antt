@@ -1,6 +1,6 @@
 use Rattle.std.proofs.Common.{arith, sym}
 use Rattle.std.proofs.lemmas.List.Sums.{prefix_len_is}
-use Rattle.asm_lex.specs.Bytes.{is_blank}
+use Rattle.vip_byte.specs.Text.{is_blank}
 use Rattle.asm_lex.proofs.cuts.leading_blanks.Goals as goal
 
 pub returns-then-not-is_blank-clause-count : goal.returns-then-not-is_blank-clause-count

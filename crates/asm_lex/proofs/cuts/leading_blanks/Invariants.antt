@@ -1,5 +1,5 @@
 use Rattle.std.proofs.Common.{◌≡◌, ℕ, ◌<◌, true, get_or}
-use Rattle.asm_lex.specs.Bytes.{is_blank}
+use Rattle.vip_byte.specs.Text.{is_blank}
 use Rattle.asm_lex.proofs.cuts.leading_blanks.Given as goal
 
 -- each byte so far is a blank
