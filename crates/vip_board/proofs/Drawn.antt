@@ -14,11 +14,15 @@ use Rattle.vip_board.specs.Shown.{bytes_from, window_bytes, shown_frames}
 abbrev pub picture : (ℕ → List ℕ) → ℕ → List (List ℕ)
 picture bytes m = map filled (window_bytes bytes m)
 
+-- the picture of the first of some frames
+abbrev pub first_picture : (ℕ → List ℕ) → List ℕ → Option (List (List ℕ))
+first_picture bytes frames = option_map (picture bytes) (slice_get frames 0)
+
 pub record Drawn (shown : ℕ → Bool) (bytes : ℕ → List ℕ) (t : ℕ) (p : Pictures) : Type 0 where
   pub present : p.shown ≡ shown (t / frame)
   pub lines : p.lines ≡ window_bytes bytes (t / frame)
   pub count : p.count ≡ length (shown_frames shown (windows_ended t))
-  pub finished : p.finished ≡ option_map (picture bytes) (slice_get (shown_frames shown (windows_ended t)) 0)
+  pub finished : p.finished ≡ first_picture bytes (shown_frames shown (windows_ended t))
   pub later_frames : (m : ℕ) → t ≤ interrupt_at m → shown m ≡ true
   pub later_lines : (line : ℕ) → t ≤ line_cycles * line → bytes line ≡ []
 
@@ -128,7 +132,9 @@ module _ (shown : ℕ → Bool) (bytes : ℕ → List ℕ) (t : ℕ) (on : Bool)
       let Same : ℕ → Type 0 = λ l. bytes' l ≡ bytes l in
       elim (same_or_not k (t / line_cycles)) [ inl e ↦ subst Same (sym e) (h ∙ append-nil (bytes (t / line_cycles))) | inr n ↦ x.elsewhere k n ]
 
-  lines-of : (o : Option ℕ) → bytes' (t / line_cycles) ≡ bytes (t / line_cycles) ++ option_to_list o → (IsSome o → window_line ≤ line_of t) → (IsSome o → line_of t < window_end_line) → with_byte (line_of t - window_line) o (window_bytes bytes (t / frame)) ≡ window_bytes bytes' (t / frame)
+  lines-of : (o : Option ℕ) → bytes' (t / line_cycles) ≡ bytes (t / line_cycles) ++ option_to_list o
+      → (IsSome o → window_line ≤ line_of t) → (IsSome o → line_of t < window_end_line)
+      → with_byte (line_of t - window_line) o (window_bytes bytes (t / frame)) ≡ window_bytes bytes' (t / frame)
   unfolding window_bytes
   lines-of None h f g = sym (bytes_from-same bytes bytes' (frame_lines * (t / frame) + window_line) window_lines (λ k a b. everywhere h k))
   lines-of (Some b) h f g =
@@ -144,11 +150,15 @@ module _ (shown : ℕ → Bool) (bytes : ℕ → List ℕ) (t : ℕ) (on : Bool)
   later_lines' line h = x.elsewhere line (omega arith) ∙ d.later_lines line (omega arith)
 
   -- the last picture stays where no window ends
-  picks : (b : Bool) (n : ℕ) → n < windows_ended t → option_map (picture bytes') (slice_get (shown_frames shown n) 0) ≡ option_map (picture bytes) (slice_get (shown_frames shown n) 0) → option_map (picture bytes') (slice_get (cond b (n ∷ shown_frames shown n) (shown_frames shown n)) 0) ≡ option_map (picture bytes) (slice_get (cond b (n ∷ shown_frames shown n) (shown_frames shown n)) 0)
+  abbrev with_frame : Bool → ℕ → List ℕ
+  with_frame b n = cond b (n ∷ shown_frames shown n) (shown_frames shown n)
+
+  picks : (b : Bool) (n : ℕ) → n < windows_ended t → first_picture bytes' (shown_frames shown n) ≡ first_picture bytes (shown_frames shown n)
+      → first_picture bytes' (with_frame b n) ≡ first_picture bytes (with_frame b n)
   picks true n h e = ap (λ w. Some (map filled w)) (window-stays n h)
   picks false n h e = e
 
-  picture-stays : (n : ℕ) → n ≤ windows_ended t → option_map (picture bytes') (slice_get (shown_frames shown n) 0) ≡ option_map (picture bytes) (slice_get (shown_frames shown n) 0)
+  picture-stays : (n : ℕ) → n ≤ windows_ended t → first_picture bytes' (shown_frames shown n) ≡ first_picture bytes (shown_frames shown n)
   picture-stays zero h = refl
   picture-stays (suc n) h = picks (shown n) n (omega arith) (picture-stays n (omega arith))
 
@@ -156,12 +166,12 @@ module _ (shown : ℕ → Bool) (bytes : ℕ → List ℕ) (t : ℕ) (on : Bool)
   count-stays n e =
       d.count ∙ ap (λ k. length (shown_frames shown k)) (sym e) ∙ ap length (sym (frames-stay n (omega arith)))
 
-  finished-stays : (n : ℕ) → n ≡ windows_ended t → p.finished ≡ option_map (picture bytes') (slice_get (shown_frames shown' n) 0)
+  finished-stays : (n : ℕ) → n ≡ windows_ended t → p.finished ≡ first_picture bytes' (shown_frames shown' n)
   finished-stays n e =
       d.finished
-      ∙ ap (λ k. option_map (picture bytes) (slice_get (shown_frames shown k) 0)) (sym e)
+      ∙ ap (λ k. first_picture bytes (shown_frames shown k)) (sym e)
       ∙ sym (picture-stays n (omega arith))
-      ∙ ap (λ l. option_map (picture bytes') (slice_get l 0)) (sym (frames-stay n (omega arith)))
+      ∙ ap (first_picture bytes') (sym (frames-stay n (omega arith)))
 
   abbrev q : Pictures
   q = drawn t on byte p
@@ -210,7 +220,7 @@ module _ (shown : ℕ → Bool) (bytes : ℕ → List ℕ) (t : ℕ) (on : Bool)
         present = drawn-present ∙ ap shown' (sym f);
         lines = drawn-lines ∙ ap (window_bytes bytes') (sym f);
         count = ap (λ k. k + 1) (count-stays (t / frame) w) ∙ add-one _ ∙ ap length (sym more);
-        finished = ap (λ l. Some (map filled l)) drawn-lines ∙ ap (λ l. option_map (picture bytes') (slice_get l 0)) (sym more);
+        finished = ap (λ l. Some (map filled l)) drawn-lines ∙ ap (first_picture bytes') (sym more);
         later_frames = later_frames';
         later_lines = later_lines';
       }
@@ -225,7 +235,7 @@ module _ (shown : ℕ → Bool) (bytes : ℕ → List ℕ) (t : ℕ) (on : Bool)
         present = drawn-present ∙ ap shown' (sym f);
         lines = drawn-lines ∙ ap (window_bytes bytes') (sym f);
         count = count-stays (t / frame) w ∙ ap length (sym more);
-        finished = finished-stays (t / frame) w ∙ ap (λ l. option_map (picture bytes') (slice_get l 0)) (sym more);
+        finished = finished-stays (t / frame) w ∙ ap (first_picture bytes') (sym more);
         later_frames = later_frames';
         later_lines = later_lines';
       }

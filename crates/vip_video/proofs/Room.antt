@@ -25,38 +25,47 @@ at-set [] k x = omega arith
 at-set (l ∷ lines) zero x = omega arith
 at-set (l ∷ lines) (suc k) x = at-set lines k x
 
--- the number of bytes of line k after the byte of cycle t
-bytes_after : (t k : ℕ) (lines : List (List ℕ)) (b : ℕ) → (k ≡ line_of t - window_line → ⊥) → length (get_or (with_byte (line_of t - window_line) (Some b) lines) k []) ≡ length (get_or lines k [])
+-- the number of bytes of line k
+abbrev count : List (List ℕ) → ℕ → ℕ
+count lines k = length (get_or lines k [])
+
+-- the lines after cycle t with its byte
+abbrev after : ℕ → Option ℕ → List (List ℕ) → List (List ℕ)
+after t byte lines = with_byte (line_of t - window_line) byte lines
+
+bytes_after : (t k : ℕ) (lines : List (List ℕ)) (b : ℕ) → (k ≡ line_of t - window_line → ⊥) → count (after t (Some b) lines) k ≡ count lines k
 bytes_after t k lines b h = ap length (get_or-set_other lines (line_of t - window_line) k (get_or lines (line_of t - window_line) [] ++ b ∷ []) [] h)
 
 at_same : (lines : List (List ℕ)) (k b : ℕ) → length (get_or (set lines k (get_or lines k [] ++ b ∷ [])) k []) ≤ length (get_or lines k []) + 1
 at_same lines k b = omega (arith, at-set lines k (get_or lines k [] ++ b ∷ []), length-append (get_or lines k []) (b ∷ []))
 
-byte_more : (t k : ℕ) (lines : List (List ℕ)) (b : ℕ) → k ≡ line_of t - window_line → length (get_or (with_byte (line_of t - window_line) (Some b) lines) k []) ≤ length (get_or lines k []) + 1
+byte_more : (t k : ℕ) (lines : List (List ℕ)) (b : ℕ) → k ≡ line_of t - window_line → count (after t (Some b) lines) k ≤ count lines k + 1
 byte_more t k lines b e =
     let P : ℕ → Type 0 = λ n. length (get_or (with_byte n (Some b) lines) k []) ≤ length (get_or lines k []) + 1 in
     subst P e (at_same lines k b)
 
 -- cycle t + 1 lies in the same line as t, or in the next one of the frame
-later_after : (t : ℕ) (byte : Option ℕ) (lines : List (List ℕ)) → HasRoom t lines → (IsSome byte → IsDmaPlace t) → line_of t ≤ line_of (t + 1) → (k : ℕ) → line_of (t + 1) < window_line + k → length (get_or (with_byte (line_of t - window_line) byte lines) k []) ≡ 0
-later_after t None lines r w h k l = r.later k (omega arith)
-later_after t (Some b) lines r w h k l =
-    let f = w refl in
-    bytes_after t k lines b (λ e. omega (arith, f.from)) ∙ r.later k (omega arith)
+module _ (t : ℕ) (lines : List (List ℕ)) (r : HasRoom t lines) (on : line_of t ≤ line_of (t + 1)) where
+  later_after : (byte : Option ℕ) → (IsSome byte → IsDmaPlace t) → (k : ℕ) → line_of (t + 1) < window_line + k → count (after t byte lines) k ≡ 0
+  later_after None w k l = r.later k (omega arith)
+  later_after (Some b) w k l =
+      let f = w refl in
+      bytes_after t k lines b (λ e. omega (arith, f.from)) ∙ r.later k (omega arith)
 
-present_after : (t : ℕ) (byte : Option ℕ) (lines : List (List ℕ)) → HasRoom t lines → (IsSome byte → IsDmaPlace t) → line_of t ≤ line_of (t + 1) → (k : ℕ) → line_of (t + 1) ≡ window_line + k → length (get_or (with_byte (line_of t - window_line) byte lines) k []) ≤ (t + 1) % line_cycles - 2
-present_after t None lines r w h k e =
-    elim (same_or_not (line_of t) (window_line + k)) [ inl s ↦ omega (arith, r.present k s) | inr n ↦ omega (arith, r.later k (omega arith)) ]
-present_after t (Some b) lines r w h k e =
-    let f = w refl in
-    elim (same_or_not (line_of t) (window_line + k)) [
-      | inl s ↦ omega (arith, r.present k s, byte_more t k lines b (omega arith), f.column)
-      | inr n ↦ omega (arith, r.later k (omega arith), bytes_after t k lines b (λ q. omega (arith, f.from)))
-    ]
+  present_after : (byte : Option ℕ) → (IsSome byte → IsDmaPlace t) → (k : ℕ) → line_of (t + 1) ≡ window_line + k → count (after t byte lines) k ≤ (t + 1) % line_cycles - 2
+  present_after None w k e =
+      elim (same_or_not (line_of t) (window_line + k)) [ inl s ↦ omega (arith, r.present k s) | inr n ↦ omega (arith, r.later k (omega arith)) ]
+  present_after (Some b) w k e =
+      let f = w refl in
+      elim (same_or_not (line_of t) (window_line + k)) [
+        | inl s ↦ omega (arith, r.present k s, byte_more t k lines b (omega arith), f.column)
+        | inr n ↦ omega (arith, r.later k (omega arith), bytes_after t k lines b (λ q. omega (arith, f.from)))
+      ]
 
-pub room-drawn : (t : ℕ) (on : Bool) (byte : Option ℕ) (p : Pictures) → HasRoom t p.lines → (IsSome byte → IsDmaPlace t) → line_of t ≤ line_of (t + 1) → HasRoom (t + 1) (drawn t on byte p).lines
+pub room-drawn : (t : ℕ) (on : Bool) (byte : Option ℕ) (p : Pictures) → HasRoom t p.lines → (IsSome byte → IsDmaPlace t) → line_of t ≤ line_of (t + 1)
+    → HasRoom (t + 1) (drawn t on byte p).lines
 room-drawn t on byte p r w h =
-    record { later = later_after t byte p.lines r w h; present = present_after t byte p.lines r w h }
+    record { later = later_after t p.lines r h byte w; present = present_after t p.lines r h byte w }
 
 pub room-blank : (t : ℕ) → HasRoom t blank
 room-blank t =
