@@ -7,14 +7,6 @@ use Rattle.std.specs.Str.Parse.{digits_value}
 use Rattle.vip_byte.specs.declared.number.NumFault.{NumFault}
 use Rattle.vip_byte.specs.declared.number.NumFault.TheVariants.{Empty, BadDigit, TooLarge}
 
--- the value of a text of decimal digits
-abbrev pub decimal_value : List ℕ → ℕ
-decimal_value text = digits_value 10 text
-
--- the value of a text of hexadecimal digits
-abbrev pub hex_value : List ℕ → ℕ
-hex_value text = digits_value 16 text
-
 -- every byte of the text is a digit of the base
 abbrev pub are_digits : ℕ → List ℕ → Bool
 are_digits base text = list_all (λ byte. is_digit byte base) text

@@ -7,6 +7,9 @@ ghost use Rattle.vip_byte.specs.Text.{is_blank, words};
 
 use std::marker::Model;
 
+/// The most bytes of a text that is read: a key script, a text of commands (this project's profile).
+pub const MOST_TEXT: usize = 1_048_576;
+
 /// The lines of a text, first to last. A line ends with a newline, which is not part of it, nor is a carriage return directly
 /// before that newline. What stands behind the last newline is a line where it is not empty.
 #[derive(Drop)]
@@ -151,7 +154,8 @@ fn word_len(line: &[u8]) -> usize
     line.iter().take_while(|byte| !is_blank(**byte)).count()
 }
 
-fn is_blank(byte: u8) -> bool
+/// Whether a byte is a space or a tab.
+pub fn is_blank(byte: u8) -> bool
     ensures { result ≡ is_blank byte }
 {
     matches!(byte, b' ' | b'\t')

@@ -6,6 +6,9 @@ ghost use Rattle.vip_byte.specs.Number.{decimal_number, hex_number, number};
 
 use thiserror::Error;
 
+/// The greatest machine cycle that a text or the command line may name (this project's profile).
+pub const MOST_CYCLE: u64 = 4_000_000_000;
+
 /// Why a text is no number, or not one that is asked for.
 #[derive(Clone, Copy, Debug, PartialEq, Eq, Error)]
 pub enum NumFault {

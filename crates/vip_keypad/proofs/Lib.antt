@@ -1,3 +1,2 @@
 pub mod KeySetLemmas
 pub mod EntriesLemmas
-pub mod ScriptLemmas

@@ -17,4 +17,4 @@ mod script;
 mod stretch;
 
 pub use keypad::Keypad;
-pub use script::{Script, ScriptCause, ScriptFault, read_script};
+pub use script::{MOST_EVENTS, Script, ScriptCause, ScriptFault, read_script};

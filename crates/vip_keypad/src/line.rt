@@ -5,7 +5,7 @@ ghost use Rattle.vip_keypad.specs.KeyScript.{cycle_of, direction_of, event_of, k
 
 use crate::script::ScriptCause;
 use std::marker::Model;
-use vip_byte::{Words, read_decimal};
+use vip_byte::{MOST_CYCLE, Words, read_decimal};
 
 /// A key goes down, or up, at a machine cycle.
 #[derive(Clone, Copy)]
@@ -27,9 +27,6 @@ impl Model for Event {
 
     ghost inverse = { λ event. record { cycle = event.cycle; key = event.key; down = event.down } };
 }
-
-/// The greatest cycle of an event.
-const MOST_CYCLE: u64 = 4_000_000_000;
 
 /// What a line says by itself: nothing or an event, or the first cause for which it says neither.
 #[tactic(auto, unfolding(crate::specs::KeyScript::said))]

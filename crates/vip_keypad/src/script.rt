@@ -17,7 +17,7 @@ use crate::stretch::Stretch;
 use std::alloc::{AllocError, Global};
 use std::marker::Model;
 use thiserror::Error;
-use vip_byte::Lines;
+use vip_byte::{Lines, MOST_TEXT};
 
 /// Why a line of a key script is no event, in the order in which the causes are looked for.
 #[derive(Clone, Copy, Debug, PartialEq, Eq, Error)]
@@ -61,8 +61,8 @@ impl From<AllocError> for ScriptFault {
     }
 }
 
-// The most events of a script.
-const MOST_EVENTS: usize = 100_000;
+/// The most events of a script (this project's profile).
+pub const MOST_EVENTS: usize = 100_000;
 
 // An event, and the keys that are down after it.
 #[derive(Clone, Copy)]
@@ -268,7 +268,7 @@ fn count_until(entries: &[Entry], t: u64) -> usize
 ///
 /// The answer is the list of the events, or the first fault, which is the first cause in the first faulty line; or memory was wanting.
 pub fn read_script(alloc: Global, text: &[u8]) -> Result<Script, ScriptFault>
-    requires { length text.now ≤ 1_048_576 }
+    requires { length text.now ≤ MOST_TEXT }
     ensures events { IfOk result (λ script. script_of text.now ≡ Ok script) }
     ensures fault { IfErr result
         (λ fault. (fault ≡ ScriptFault.NoMemory) ⊎ (script_of text.now ≡ Err fault)) }
@@ -313,8 +313,6 @@ mod tests {
     use super::*;
     use std::test::Fail;
 
-    const MOST_BYTES: usize = 1_048_576;
-
     #[test]
     fn finds_the_first_fault(rt: HostRuntime) {
         let rows: [(&[u8], u32, ScriptCause); 16] = [
@@ -336,7 +334,7 @@ mod tests {
             (b"5 up 1 # x", 1, ScriptCause::BadLine),
         ];
         for (text, line, cause) in rows {
-            assert!(rt; text.len() <= MOST_BYTES);
+            assert!(rt; text.len() <= MOST_TEXT);
             let fault = read_script(rt.alloc(), text).err();
             assert_eq!(rt; fault, Some(ScriptFault::Fault { line, cause }));
         }
@@ -352,24 +350,24 @@ mod tests {
             (b"\t4000000000  up\tF \r\n", 1),
         ];
         for (text, want) in rows {
-            assert!(rt; text.len() <= MOST_BYTES);
+            assert!(rt; text.len() <= MOST_TEXT);
             let count = read_script(rt.alloc(), text).map(|script| script.len());
             assert_eq!(rt; count, Ok(want));
         }
     }
 
     #[test]
-    fn reads_at_most_100_000_events(rt: HostRuntime) -> Result<(), Fail> {
+    fn reads_no_more_than_the_most_events(rt: HostRuntime) -> Result<(), Fail> {
         let mut text = Vec::new(rt.alloc());
-        for _ in 0..100_000 {
+        for _ in 0..MOST_EVENTS {
             text.extend_from_slice(b"0 up 5\n")?;
         }
-        assert!(rt; text.len() <= MOST_BYTES);
+        assert!(rt; text.len() <= MOST_TEXT);
         let count = read_script(rt.alloc(), &text).map(|script| script.len());
-        assert_eq!(rt; count, Ok(100_000));
+        assert_eq!(rt; count, Ok(MOST_EVENTS));
 
         text.extend_from_slice(b"0 up 5\n")?;
-        assert!(rt; text.len() <= MOST_BYTES);
+        assert!(rt; text.len() <= MOST_TEXT);
         let fault = read_script(rt.alloc(), &text).err();
         let cause = ScriptCause::TooMany;
         assert_eq!(rt;
