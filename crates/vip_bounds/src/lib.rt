@@ -1,18 +1,20 @@
 //! The cycle bounds of the interpreter: the most machine cycles from one dispatch point to the next, DMA and interrupts counted, by the
-//! instruction, and the table of them as text.
+//! instruction; and the table of them as text.
 //!
-//! It stands on the definition of the bounds in `chip8_lang`. The layer above may rely on this: `bound` is that definition for every
-//! instruction, and `bounds_text` writes the same numbers. The bounds are this project's profile.
+//! The crate stands on the definition of the bounds in `chip8_lang` and on the buffer of `vip_byte`. The layers above may rely on this:
+//! `bound` is that definition for every instruction, `BOOT` and `STOP` are its bounds of the boot and of the way to a stop, and
+//! `bounds_text` writes the same numbers. No call takes memory. The bounds and the table are this project's profile.
 #![tactic(auto)]
 
 ghost use Rattle.std.specs.Prelude.{◌≡◌, ◌+◌, ◌≤◌, ◌++◌, [], length};
 ghost use Rattle.arrayvec.specs.ArrayVec.{array_vec_len};
+ghost use Rattle.vip_byte.specs.Room.{HasRoom};
 ghost use Rattle.chip8_lang.specs.Bounds.{bound_of_instr};
 ghost use Rattle.vip_bounds.specs.Table.{bound_text, bound_line, bounds_table};
 
 use chip8_lang::Instr;
 use itoa::Buffer as Digits;
-use vip_byte::Buffer;
+use vip_byte::{Buffer, put};
 
 /// The most machine cycles from reset to the first dispatch point.
 pub const BOOT: u32 = 1_000;
@@ -20,17 +22,29 @@ pub const BOOT: u32 = 1_000;
 /// The most machine cycles from a dispatch point to the stop point, where a stop fits the state.
 pub const STOP: u32 = 2_200;
 
+/// The most for 00E0, which waits for the end of a frame.
+const CLEAR: u32 = 7_600;
+
+/// The most for DXYN, which may prepare a sprite past the end of a frame and then waits for the next one.
+const DRAW: u32 = 14_672;
+
+/// The most for FX33, FX55 and FX65.
+const BYTES: u32 = 2_600;
+
+/// The most for each of the others.
+const OTHER: u32 = 2_200;
+
 /// The most machine cycles from a dispatch point at an instruction to the next one. None comes exactly for FX0A, which waits for the
 /// player.
 pub fn bound(instr: &Instr) -> Option<u32>
     ensures { result ≡ bound_of_instr instr.now }
 {
     match instr {
-        Instr::Clear => Some(7_600),
-        Instr::Draw(..) => Some(14_672),
-        Instr::Decimal(_) | Instr::Store(_) | Instr::Fetch(_) => Some(2_600),
+        Instr::Clear => Some(CLEAR),
+        Instr::Draw(..) => Some(DRAW),
+        Instr::Decimal(_) | Instr::Store(_) | Instr::Fetch(_) => Some(BYTES),
         Instr::WaitKey(_) => None,
-        _ => Some(2_200),
+        _ => Some(OTHER),
     }
 }
 
@@ -52,7 +66,7 @@ pub fn bounds_text(into: &mut Buffer)
 
 /// Appends a line, for which there is room.
 fn put_line(into: &mut Buffer, name: &[u8], bound: Option<u32>)
-    requires { array_vec_len into.old + length name.now + 16 ≤ 4352 }
+    requires { HasRoom into.old.items (length name.now + 16) }
     ensures items { into.new.items ≡ into.old.items ++ bound_line name.now bound }
     ensures len { array_vec_len into.new ≤ array_vec_len into.old + length name.now + 16 }
 {
@@ -62,8 +76,9 @@ fn put_line(into: &mut Buffer, name: &[u8], bound: Option<u32>)
     put(into, b"\n");
 }
 
+/// Appends the number of cycles, or `key` where there is none.
 fn put_bound(into: &mut Buffer, bound: Option<u32>)
-    requires { array_vec_len into.old + 14 ≤ 4352 }
+    requires { HasRoom into.old.items 14 }
     ensures items { into.new.items ≡ into.old.items ++ bound_text bound }
     ensures len { array_vec_len into.new ≤ array_vec_len into.old + 14 }
 {
@@ -72,15 +87,6 @@ fn put_bound(into: &mut Buffer, bound: Option<u32>)
         Some(cycles) => put(into, digits.format(cycles).as_bytes()),
         None => put(into, b"key"),
     }
-}
-
-/// Appends these bytes.
-fn put(into: &mut Buffer, bytes: &[u8])
-    requires { array_vec_len into.old + length bytes.now ≤ 4352 }
-    ensures items { into.new.items ≡ into.old.items ++ bytes.now }
-    ensures len { array_vec_len into.new ≡ array_vec_len into.old + length bytes.now }
-{
-    let _ = into.try_extend_from_slice(bytes);
 }
 
 #[cfg(test)]
@@ -102,10 +108,10 @@ mod tests {
     fn only_a_wait_for_a_key_has_no_bound(rt: HostRuntime) -> Result<(), Fail> {
         assert_eq!(rt; bound(&Instr::WaitKey(3)), None);
         for (instr, cycles) in [
-            (Instr::Clear, 7_600),
-            (Instr::Draw(1, 2, 15), 14_672),
-            (Instr::Store(15), 2_600),
-            (Instr::Unknown(0xFFFF), STOP),
+            (Instr::Clear, CLEAR),
+            (Instr::Draw(1, 2, 15), DRAW),
+            (Instr::Store(15), BYTES),
+            (Instr::Unknown(0xFFFF), OTHER),
         ] {
             assert_eq!(rt; bound(&instr), Some(cycles));
         }

@@ -94,6 +94,7 @@ module _ {Value Cause Fault : Type 0} (format : Format Value Cause Fault) where
   }
 
   -- a text whose lines were all read
-  pub read-whole : (text : List ℕ) (done : List (List ℕ)) (values : List Value) (number : ℕ) → IsReadUpTo text done [] values number → read format text ≡ Ok values
+  pub read-whole : (text : List ℕ) (done : List (List ℕ)) (values : List Value) (number : ℕ) → IsReadUpTo text done [] values number
+      → read format text ≡ Ok values
   unfolding read
   read-whole text done values number so_far = rw (so_far.whole, append-nil, so_far.faultless, ← so_far.said_so_far) refl

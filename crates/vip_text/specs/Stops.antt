@@ -3,7 +3,7 @@ use Rattle.std.specs.Prelude.{ℕ, List, [], ◌++◌, Option, Some, None, codes
 use Rattle.vip_byte.specs.HexText.{hex4}
 use Rattle.chip8_lang.specs.declared.view.Stop.{Stop}
 use Rattle.chip8_lang.specs.declared.view.Stop.TheVariants.{MachineCall, Unknown, FetchOutside, ReadOutside, WriteOutside, StackFull, StackEmpty}
-use Rattle.vip_text.specs.Traces.{newline}
+use Rattle.vip_byte.specs.Text.{newline}
 
 abbrev pub stop_name : Stop → List ℕ
 stop_name MachineCall = codes "MachineCall"

@@ -1,8 +1,9 @@
-//! The texts that the program shows: the lines of a trace, the line that names a stop, a summary, a screen, and a picture as PBM. The formats are this
-//! project's profile (`docs/FORMATS.md`), but for PBM, which is Netpbm's.
+//! The texts that the program shows: the lines of a trace, the line that names a stop, a summary, a screen, and a picture as PBM.
 //!
-//! It stands on the views of the language and on the digits and the buffer of `vip_byte`. The layer above may rely on the exact bytes:
-//! each call fills an empty buffer with its text, and takes no memory.
+//! The crate stands on the views of the language (`chip8_lang`), on the pictures of `vip_video`, on the digits and the buffer of `vip_byte`,
+//! and on the kit's `itoa`. The layers above may rely on the exact bytes: each call fills an empty buffer with its text
+//! (`specs/`), and takes no memory. A picture is a file of Netpbm's PBM, form P4; the other formats are this project's profile
+//! (`docs/FORMATS.md`).
 #![tactic(auto)]
 
 mod picture;
@@ -14,7 +15,7 @@ mod tests;
 mod trace;
 mod write;
 
-pub use picture::picture_text;
+pub use picture::{PICTURE_SIZE, picture_text};
 pub use screen::screen_text;
 pub use stop::stop_text;
 pub use summary::summary_text;

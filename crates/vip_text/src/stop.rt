@@ -2,11 +2,11 @@
 
 ghost use Rattle.std.specs.Prelude.{◌≡◌, ◌+◌, ◌≤◌, ◌++◌, [], length};
 ghost use Rattle.arrayvec.specs.ArrayVec.{array_vec_len};
+ghost use Rattle.vip_byte.specs.Room.{HasRoom};
 ghost use Rattle.vip_text.specs.Stops.{opcode_part, stop_line, stop_name};
 
-use crate::write::put;
 use chip8_lang::{Stop, StopRecord};
-use vip_byte::{Buffer, hex4};
+use vip_byte::{Buffer, hex4, put};
 
 /// Writes the line of a stop into an empty buffer: its name, its opcode where it has one, and its pc.
 pub fn stop_text(stop: &StopRecord, into: &mut Buffer)
@@ -21,6 +21,7 @@ pub fn stop_text(stop: &StopRecord, into: &mut Buffer)
     put(into, b"\n");
 }
 
+/// The name of a stop, of at most 12 characters.
 fn name(stop: Stop) -> &'static str
     ensures text { result.now ≡ stop_name stop }
     ensures len { length result.now ≤ 12 }
@@ -36,8 +37,9 @@ fn name(stop: Stop) -> &'static str
     }
 }
 
+/// Appends the opcode behind a blank, where there is one.
 fn put_opcode(into: &mut Buffer, opcode: Option<u16>)
-    requires { array_vec_len into.old + 5 ≤ 4352 }
+    requires { HasRoom into.old.items 5 }
     ensures items { into.new.items ≡ into.old.items ++ opcode_part opcode }
     ensures len { array_vec_len into.new ≤ array_vec_len into.old + 5 }
 {

@@ -1,12 +1,10 @@
 //! The line that sums up a run.
 
-ghost use Rattle.std.specs.Prelude.{◌≡◌, ◌+◌, ◌≤◌, ◌++◌, [], length, decimal};
-ghost use Rattle.arrayvec.specs.ArrayVec.{array_vec_len};
+ghost use Rattle.std.specs.Prelude.{◌≡◌, []};
 ghost use Rattle.vip_text.specs.Summaries.{summary_line};
 
-use crate::write::put;
-use itoa::Buffer as Digits;
-use vip_byte::Buffer;
+use crate::write::put_number;
+use vip_byte::{Buffer, put};
 
 /// Writes the summary of a demonstration game's run into an empty buffer: the number of the game, how many dispatch points and finished
 /// pictures the run had, and how many pixels are lit at the last dispatch point.
@@ -23,14 +21,4 @@ pub fn summary_text(number: u32, dispatches: u64, pictures: u64, lit: u64, into:
     put(into, b" lit ");
     put_number(into, lit);
     put(into, b"\n");
-}
-
-/// Appends a number in decimal.
-fn put_number(into: &mut Buffer, number: u64)
-    requires { array_vec_len into.old + 40 ≤ 4352 }
-    ensures items { into.new.items ≡ into.old.items ++ decimal number }
-    ensures len { array_vec_len into.new ≤ array_vec_len into.old + 40 }
-{
-    let mut digits = Digits::new();
-    put(into, digits.format(number).as_bytes());
 }

@@ -1,6 +1,6 @@
 //! Texts as users see them.
 
-use crate::{picture_text, screen_text, stop_text, trace_text};
+use crate::{PICTURE_SIZE, picture_text, screen_text, stop_text, trace_text};
 use arrayvec::ArrayVec;
 use chip8_lang::{StateView, Stop, StopRecord};
 use vip_byte::Buffer;
@@ -66,6 +66,6 @@ fn a_screen_and_a_picture(rt: HostRuntime) {
         },
         &mut file,
     );
-    assert_eq!(rt; file.len(), 1034);
+    assert_eq!(rt; file.len(), PICTURE_SIZE);
     assert!(rt; file.as_slice().starts_with(b"P4\n64 128\n"));
 }

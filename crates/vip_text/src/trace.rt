@@ -2,13 +2,13 @@
 
 ghost use Rattle.std.specs.Prelude.{◌≡◌, ◌+◌, ◌≤◌, ◌++◌, [], length};
 ghost use Rattle.arrayvec.specs.ArrayVec.{array_vec_len};
+ghost use Rattle.vip_byte.specs.Room.{HasRoom};
 ghost use Rattle.chip8_lang.specs.View.{seen};
-ghost use Rattle.vip_text.specs.Traces.{bit_text, opcode_text, time_text, timers_text, trace_line};
+ghost use Rattle.vip_text.specs.Traces.{opcode_text, time_text, timers_text, trace_line};
 
-use crate::write::{put, put_bytes, put_words};
+use crate::write::{put_bytes, put_number, put_words};
 use chip8_lang::StateView;
-use itoa::Buffer as Digits;
-use vip_byte::{Buffer, hex2, hex4};
+use vip_byte::{Buffer, hex2, hex4, put, put_bit};
 
 /// Writes the line of a state into an empty buffer, with the count of ticks and the cycle where `with_cycle` asks for them.
 pub fn trace_text(view: &StateView, with_cycle: bool, into: &mut Buffer)
@@ -29,8 +29,9 @@ pub fn trace_text(view: &StateView, with_cycle: bool, into: &mut Buffer)
     put(into, b"\n");
 }
 
+/// Appends the opcode in four digits, or four hyphens where there is none.
 fn put_opcode(into: &mut Buffer, opcode: Option<u16>)
-    requires { array_vec_len into.old + 4 ≤ 4352 }
+    requires { HasRoom into.old.items 4 }
     ensures items { into.new.items ≡ into.old.items ++ opcode_text opcode }
     ensures len { array_vec_len into.new ≤ array_vec_len into.old + 4 }
 {
@@ -40,16 +41,9 @@ fn put_opcode(into: &mut Buffer, opcode: Option<u16>)
     }
 }
 
-fn put_bit(into: &mut Buffer, bit: bool)
-    requires { array_vec_len into.old + 1 ≤ 4352 }
-    ensures items { into.new.items ≡ into.old.items ++ bit_text bit }
-    ensures len { array_vec_len into.new ≤ array_vec_len into.old + 1 }
-{
-    put(into, if bit { b"1" } else { b"0" });
-}
-
+/// Appends both timers and the tone.
 fn put_timers(into: &mut Buffer, view: &StateView)
-    requires { array_vec_len into.old + 16 ≤ 4352 }
+    requires { HasRoom into.old.items 16 }
     ensures items { into.new.items ≡ into.old.items ++ timers_text (seen view.now) }
     ensures len { array_vec_len into.new ≤ array_vec_len into.old + 16 }
 {
@@ -61,17 +55,17 @@ fn put_timers(into: &mut Buffer, view: &StateView)
     put_bit(into, view.tone);
 }
 
+/// Appends the count of ticks and the cycle where they are asked for.
 fn put_time(into: &mut Buffer, view: &StateView, with_cycle: bool)
-    requires { array_vec_len into.old + 51 ≤ 4352 }
+    requires { HasRoom into.old.items 51 }
     ensures items { into.new.items ≡ into.old.items ++ time_text with_cycle (seen view.now) }
     ensures len { array_vec_len into.new ≤ array_vec_len into.old + 51 }
 {
     if !with_cycle {
         return;
     }
-    let mut digits = Digits::new();
     put(into, b" N ");
     put(into, &hex4(view.n));
     put(into, b" AT ");
-    put(into, digits.format(view.cycle).as_bytes());
+    put_number(into, view.cycle);
 }

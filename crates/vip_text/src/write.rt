@@ -1,23 +1,16 @@
 //! Appending to a buffer that has room.
 
-ghost use Rattle.std.specs.Prelude.{◌≡◌, ◌+◌, ◌*◌, ◌≤◌, ◌++◌, length};
+ghost use Rattle.std.specs.Prelude.{◌≡◌, ◌+◌, ◌*◌, ◌≤◌, ◌++◌, length, decimal};
 ghost use Rattle.arrayvec.specs.ArrayVec.{array_vec_len};
-ghost use Rattle.vip_text.specs.Traces.{bytes_text, words_text};
+ghost use Rattle.vip_byte.specs.Room.{HasRoom};
+ghost use Rattle.vip_byte.specs.HexText.{bytes_text, words_text};
 
-use vip_byte::{Buffer, hex2, hex4};
-
-/// Appends these bytes.
-pub fn put(into: &mut Buffer, bytes: &[u8])
-    requires { array_vec_len into.old + length bytes.now ≤ 4352 }
-    ensures items { into.new.items ≡ into.old.items ++ bytes.now }
-    ensures len { array_vec_len into.new ≡ array_vec_len into.old + length bytes.now }
-{
-    let _ = into.try_extend_from_slice(bytes);
-}
+use itoa::Buffer as Digits;
+use vip_byte::{Buffer, hex2, hex4, put};
 
 /// Appends each byte in two digits, behind a blank.
 pub fn put_bytes(into: &mut Buffer, bytes: &[u8])
-    requires { array_vec_len into.old + 3 * length bytes.now ≤ 4352 }
+    requires { HasRoom into.old.items (3 * length bytes.now) }
     ensures items { into.new.items ≡ into.old.items ++ bytes_text bytes.now }
     ensures len { array_vec_len into.new ≡ array_vec_len into.old + 3 * length bytes.now }
 {
@@ -29,7 +22,7 @@ pub fn put_bytes(into: &mut Buffer, bytes: &[u8])
 
 /// Appends each word in four digits, behind a blank.
 pub fn put_words(into: &mut Buffer, words: &[u16])
-    requires { array_vec_len into.old + 5 * length words.now ≤ 4352 }
+    requires { HasRoom into.old.items (5 * length words.now) }
     ensures items { into.new.items ≡ into.old.items ++ words_text words.now }
     ensures len { array_vec_len into.new ≡ array_vec_len into.old + 5 * length words.now }
 {
@@ -37,4 +30,14 @@ pub fn put_words(into: &mut Buffer, words: &[u16])
         put(into, b" ");
         put(into, &hex4(*word));
     }
+}
+
+/// Appends a number in decimal.
+pub fn put_number(into: &mut Buffer, number: u64)
+    requires { HasRoom into.old.items 40 }
+    ensures items { into.new.items ≡ into.old.items ++ decimal number }
+    ensures len { array_vec_len into.new ≤ array_vec_len into.old + 40 }
+{
+    let mut digits = Digits::new();
+    put(into, digits.format(number).as_bytes());
 }

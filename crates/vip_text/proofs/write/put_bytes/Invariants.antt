@@ -1,5 +1,5 @@
 use Rattle.std.proofs.Common.{◌≡◌, ◌+◌, ◌*◌, ◌++◌, length, take}
-use Rattle.vip_text.specs.Traces.{bytes_text}
+use Rattle.vip_byte.specs.HexText.{bytes_text}
 use Rattle.vip_text.proofs.write.put_bytes.Given as goal
 
 -- the first of them are appended

@@ -1,5 +1,5 @@
 use Rattle.std.proofs.Common.{◌≡◌, ◌+◌, ◌*◌, ◌++◌, length, take}
-use Rattle.vip_text.specs.Traces.{words_text}
+use Rattle.vip_byte.specs.HexText.{words_text}
 use Rattle.vip_text.proofs.write.put_words.Given as goal
 
 -- the first of them are appended
