@@ -14,7 +14,8 @@ use Rattle.std.specs.FinMap.{find, get-from_entries, get-insert, same_map, slice
 use Rattle.std.proofs.lemmas.Map.Text.{is_eq-slice_cmp, btree_map_updates_text}
 use Rattle.vip_outside.specs.FileTree.{map_of}
 
-pick : {Z : Type 0} (b : Bool) (file : Vec ℕ Z) (a : Option (List ℕ)) (o : Option (Vec ℕ Z)) → a ≡ option_map (λ file. file.items) o → cond b (Some file.items) a ≡ option_map (λ file. file.items) (cond b (Some file) o)
+pick : {Z : Type 0} (b : Bool) (file : Vec ℕ Z) (a : Option (List ℕ)) (o : Option (Vec ℕ Z)) → a ≡ option_map (λ file. file.items) o
+    → cond b (Some file.items) a ≡ option_map (λ file. file.items) (cond b (Some file) o)
 pick true file a o same = refl
 pick false file a o same = same
 
@@ -22,16 +23,19 @@ bytes_eq-names : (name other : List ℕ) → bytes_eq name other ≡ eq_by_cmp (
 bytes_eq-names name other = sym (is_eq-slice_cmp name other) ∙ (eq_by_cmp_equiv nat_list_cmp_total).symm name other
 
 module _ {Y Z : Type 0} where
-  find-entries : (name : List ℕ) (entries : List (String Y × Vec ℕ Z)) → find (slice_cmp nat_cmp) name (map (λ entry. (string_bytes entry.0, entry.1.items)) entries) ≡ option_map (λ file. file.items) (lookup (is_at (λ key. slice_cmp nat_cmp name (string_bytes key))) entries)
+  find-entries : (name : List ℕ) (entries : List (String Y × Vec ℕ Z))
+      → find (slice_cmp nat_cmp) name (map (λ entry. (string_bytes entry.0, entry.1.items)) entries) ≡ option_map (λ file. file.items) (lookup (is_at (λ key. slice_cmp nat_cmp name (string_bytes key))) entries)
   find-entries name [] = refl
   find-entries name (entry ∷ entries) = pick (eq_by_cmp (slice_cmp nat_cmp) name (string_bytes entry.0)) entry.1 _ _ (find-entries name entries)
 
   -- what the map has at a name is what the tree has there
-  pub get-map_of : (files : BTreeMap (String Y) (Vec ℕ Z)) (name : List ℕ) → finite.get (map_of files) name ≡ option_map (λ file. file.items) (tree.get_by_text files name)
+  pub get-map_of : (files : BTreeMap (String Y) (Vec ℕ Z)) (name : List ℕ)
+      → finite.get (map_of files) name ≡ option_map (λ file. file.items) (tree.get_by_text files name)
   get-map_of files name = get-from_entries nat_list_cmp_total _ name ∙ find-entries name files.entries
 
   -- a file that is put into the tree is put into the map
-  pub map_of-insert : (old new : BTreeMap (String Y) (Vec ℕ Z)) (name : String Y) (file : Vec ℕ Z) → tree.UpdatesBy string_cmp (string_cmp name) old new (Some file) → map_of new ≡ finite.insert (map_of old) (string_bytes name) file.items
+  pub map_of-insert : (old new : BTreeMap (String Y) (Vec ℕ Z)) (name : String Y) (file : Vec ℕ Z)
+      → tree.UpdatesBy string_cmp (string_cmp name) old new (Some file) → map_of new ≡ finite.insert (map_of old) (string_bytes name) file.items
   map_of-insert old new name file updates =
       same_map nat_list_cmp_total (slice_cmp-IsAntisymmetric nat_cmp-IsAntisymmetric) _ _ (λ q.
       get-map_of new q

@@ -1,5 +1,4 @@
 mod FileTreeLemmas
-pub mod FilesLemmas
 pub mod PiecesLemmas
 pub mod SinkLemmas
 mod StreamLemmas

@@ -13,11 +13,13 @@ joined-append first second = flat_map-append (λ (piece : List ℕ). piece) firs
 pub joined-one : (piece : List ℕ) → joined (piece ∷ []) ≡ piece
 joined-one piece = append-nil piece
 
-calls_rose : (m n : ℕ) (old middle new : Option ℕ) → middle ≡ option_map (λ calls. calls + m) old → new ≡ option_map (λ calls. calls + n) middle → new ≡ option_map (λ calls. calls + (m + n)) old
+calls_rose : (m n : ℕ) (old middle new : Option ℕ) → middle ≡ option_map (λ calls. calls + m) old → new ≡ option_map (λ calls. calls + n) middle
+    → new ≡ option_map (λ calls. calls + (m + n)) old
 calls_rose m n None middle new first second = rw (second, first)
 calls_rose m n (Some calls) middle new first second = rw (second, first) (ap (λ c. Some c) (omega arith))
 
-calls_rose_at_most : (m n : ℕ) (old middle new : Option ℕ) → middle ≡ option_map (λ calls. calls + m) old → new ≡ option_map (λ calls. min (calls + n) (2 ^ 32 - 1)) middle → new ≡ option_map (λ calls. min (calls + (m + n)) (2 ^ 32 - 1)) old
+calls_rose_at_most : (m n : ℕ) (old middle new : Option ℕ) → middle ≡ option_map (λ calls. calls + m) old
+    → new ≡ option_map (λ calls. min (calls + n) (2 ^ 32 - 1)) middle → new ≡ option_map (λ calls. min (calls + (m + n)) (2 ^ 32 - 1)) old
 calls_rose_at_most m n None middle new first second = rw (second, first)
 calls_rose_at_most m n (Some calls) middle new first second = rw (second, first) (ap (λ c. Some c) (omega arith))
 
@@ -34,18 +36,21 @@ pub PutsAll-one : (piece : List ℕ) (old new : SinkMeaning) → PutsWhole piece
 PutsAll-one piece old new put = record { gains = rw joined-one put.gains; calls = put.calls }
 
 -- pieces, and then pieces
-pub PutsAll-append : (first second : List (List ℕ)) (old middle new : SinkMeaning) → PutsAll first old middle → PutsAll second middle new → PutsAll (first ++ second) old new
+pub PutsAll-append : (first second : List (List ℕ)) (old middle new : SinkMeaning) → PutsAll first old middle → PutsAll second middle new
+    → PutsAll (first ++ second) old new
 PutsAll-append first second old middle new before after = record {
   gains = rw joined-append (GainAnswers-append (joined first) (joined second) old middle new (Ok tt) before.gains after.gains);
   calls = rw length-append (calls_rose (length first) (length second) old.calls middle.calls new.calls before.calls after.calls);
 }
 
 -- pieces, and then one more
-pub PutsAll-snoc : (pieces : List (List ℕ)) (piece : List ℕ) (old middle new : SinkMeaning) → PutsAll pieces old middle → PutsWhole piece middle new → PutsAll (pieces ++ piece ∷ []) old new
+pub PutsAll-snoc : (pieces : List (List ℕ)) (piece : List ℕ) (old middle new : SinkMeaning) → PutsAll pieces old middle → PutsWhole piece middle new
+    → PutsAll (pieces ++ piece ∷ []) old new
 PutsAll-snoc pieces piece old middle new before put = PutsAll-append pieces (piece ∷ []) old middle new before (PutsAll-one piece middle new put)
 
 -- pieces, and then a fault at the next one, whichever come after it
-pub FailsWithin-snoc : (pieces : List (List ℕ)) (piece : List ℕ) (rest : List (List ℕ)) (old middle new : SinkMeaning) → PutsAll pieces old middle → PutFails piece middle new → FailsWithin (pieces ++ piece ∷ rest) old new
+pub FailsWithin-snoc : (pieces : List (List ℕ)) (piece : List ℕ) (rest : List (List ℕ)) (old middle new : SinkMeaning) → PutsAll pieces old middle
+    → PutFails piece middle new → FailsWithin (pieces ++ piece ∷ rest) old new
 FailsWithin-snoc pieces piece rest old middle new before put = record {
   before = pieces;
   piece = piece;
@@ -58,7 +63,8 @@ FailsWithin-snoc pieces piece rest old middle new before put = record {
 }
 
 -- pieces, and then a fault within others
-pub FailsWithin-append : (first second : List (List ℕ)) (old middle new : SinkMeaning) → PutsAll first old middle → FailsWithin second middle new → FailsWithin (first ++ second) old new
+pub FailsWithin-append : (first second : List (List ℕ)) (old middle new : SinkMeaning) → PutsAll first old middle → FailsWithin second middle new
+    → FailsWithin (first ++ second) old new
 FailsWithin-append first second old middle new before fault = record {
   before = first ++ fault.before;
   piece = fault.piece;
@@ -84,38 +90,26 @@ FailsWithin-more pieces rest old new fault = record {
 }
 
 -- one put
-pub StreamAnswers-one : (piece : List ℕ) (old new : SinkMeaning) (r : Result (Unit {0}) Failed) → PutAnswers piece old new r → StreamAnswers (piece ∷ []) old new r
+pub StreamAnswers-one : (piece : List ℕ) (old new : SinkMeaning) (r : Result (Unit {0}) Failed) → PutAnswers piece old new r
+    → StreamAnswers (piece ∷ []) old new r
 StreamAnswers-one piece old new (Ok done) put = PutsAll-one piece old new put
 StreamAnswers-one piece old new (Err e) put = FailsWithin-snoc [] piece [] old old new (PutsAll-nil old) put
 
 -- pieces, and then pieces for which the answer says so
-pub StreamAnswers-append : (first second : List (List ℕ)) (old middle new : SinkMeaning) (r : Result (Unit {0}) Failed) → PutsAll first old middle → StreamAnswers second middle new r → StreamAnswers (first ++ second) old new r
+pub StreamAnswers-append : (first second : List (List ℕ)) (old middle new : SinkMeaning) (r : Result (Unit {0}) Failed) → PutsAll first old middle
+    → StreamAnswers second middle new r → StreamAnswers (first ++ second) old new r
 StreamAnswers-append first second old middle new (Ok done) before after = PutsAll-append first second old middle new before after
 StreamAnswers-append first second old middle new (Err e) before after = FailsWithin-append first second old middle new before after
 
--- pieces, and then one more, whatever its put answers
-pub StreamAnswers-snoc : (pieces : List (List ℕ)) (piece : List ℕ) (old middle new : SinkMeaning) (r : Result (Unit {0}) Failed) → PutsAll pieces old middle → PutAnswers piece middle new r → StreamAnswers (pieces ++ piece ∷ []) old new r
-StreamAnswers-snoc pieces piece old middle new r before put = StreamAnswers-append pieces (piece ∷ []) old middle new r before (StreamAnswers-one piece middle new r put)
-
 -- a fault, at whatever error is passed on
-pub StreamAnswers-err : (pieces : List (List ℕ)) (old new : SinkMeaning) (r : Result (Unit {0}) Failed) → IsErr r → FailsWithin pieces old new → StreamAnswers pieces old new r
+pub StreamAnswers-err : (pieces : List (List ℕ)) (old new : SinkMeaning) (r : Result (Unit {0}) Failed) → IsErr r → FailsWithin pieces old new
+    → StreamAnswers pieces old new r
 StreamAnswers-err pieces old new (Ok done) bad fault = cc
 StreamAnswers-err pieces old new (Err e) bad fault = fault
 
 -- of all pieces some, and then a fault at the next one, at whatever error is passed on
-pub StreamAnswers-fault : (all pieces : List (List ℕ)) (piece : List ℕ) (rest : List (List ℕ)) (old middle new : SinkMeaning) (r : Result (Unit {0}) Failed) → all ≡ pieces ++ piece ∷ rest → IsErr r → PutsAll pieces old middle → PutFails piece middle new → StreamAnswers all old new r
-StreamAnswers-fault all pieces piece rest old middle new r split bad before put = rw split (StreamAnswers-err (pieces ++ piece ∷ rest) old new r bad (FailsWithin-snoc pieces piece rest old middle new before put))
-
-bytes_of_fault : (pieces : List (List ℕ)) (old new : SinkMeaning) (fault : FailsWithin pieces old new) → joined pieces ≡ (joined fault.before ++ fault.piece) ++ joined fault.after
-bytes_of_fault pieces old new fault = rw (fault.place, joined-append fault.before (fault.piece ∷ fault.after), append_assoc) refl
-
--- a fault within pieces is one within their bytes
-pub FailsWithin-joined : (pieces : List (List ℕ)) (old new : SinkMeaning) → FailsWithin pieces old new → GainsPart (joined pieces) old new
-FailsWithin-joined pieces old new fault =
-    let part : GainsPart (joined fault.before ++ fault.piece) old new = record { kept = length (joined fault.before) + fault.kept; held = rw take-append-add fault.held; faults = fault.faults } in
-    rw (bytes_of_fault pieces old new fault) (GainsPart-append (joined fault.before ++ fault.piece) (joined fault.after) old new part)
-
--- what went out of pieces is as by one put of all their bytes
-pub GainAnswers-joined : (pieces : List (List ℕ)) (old new : SinkMeaning) (r : Result (Unit {0}) Failed) → StreamAnswers pieces old new r → GainAnswers (joined pieces) old new r
-GainAnswers-joined pieces old new (Ok done) stream = stream.gains
-GainAnswers-joined pieces old new (Err e) stream = FailsWithin-joined pieces old new stream
+pub StreamAnswers-fault : (all pieces : List (List ℕ)) (piece : List ℕ) (rest : List (List ℕ)) (old middle new : SinkMeaning) (r : Result (Unit {0}) Failed)
+    → all ≡ pieces ++ piece ∷ rest → IsErr r → PutsAll pieces old middle → PutFails piece middle new → StreamAnswers all old new r
+StreamAnswers-fault all pieces piece rest old middle new r split bad before put =
+    let fault = FailsWithin-snoc pieces piece rest old middle new before put in
+    rw split (StreamAnswers-err (pieces ++ piece ∷ rest) old new r bad fault)

@@ -6,7 +6,8 @@ use Rattle.vip_outside.specs.Count.{Rose}
 use Rattle.vip_outside.specs.Sink.{SinkMeaning, GrewBy, Gains, GainsPart, GainAnswers, PutAnswers}
 use Rattle.vip_outside.specs.declared.sink.Failed.{Failed}
 
-held-append : (a b : List ℕ) (old middle new : Option (List ℕ)) → middle ≡ option_map (λ held. held ++ a) old → new ≡ option_map (λ held. held ++ b) middle → new ≡ option_map (λ held. held ++ (a ++ b)) old
+held-append : (a b : List ℕ) (old middle new : Option (List ℕ)) → middle ≡ option_map (λ held. held ++ a) old
+    → new ≡ option_map (λ held. held ++ b) middle → new ≡ option_map (λ held. held ++ (a ++ b)) old
 held-append a b None middle new first second = rw (second, first)
 held-append a b (Some held) middle new first second = rw (second, first, append_assoc)
 
@@ -27,7 +28,8 @@ pub Gains-nil : (s : SinkMeaning) → Gains [] s s
 Gains-nil s = record { held = held-nil s.held; faults = refl }
 
 -- bytes, and then bytes for which the answer says so
-pub GainAnswers-append : (a b : List ℕ) (old middle new : SinkMeaning) (r : Result (Unit {0}) Failed) → Gains a old middle → GainAnswers b middle new r → GainAnswers (a ++ b) old new r
+pub GainAnswers-append : (a b : List ℕ) (old middle new : SinkMeaning) (r : Result (Unit {0}) Failed) → Gains a old middle
+    → GainAnswers b middle new r → GainAnswers (a ++ b) old new r
 GainAnswers-append a b old middle new (Ok done) first second = record {
   held = GrewBy-append a b old middle new first.held second.held;
   faults = second.faults ∙ first.faults;

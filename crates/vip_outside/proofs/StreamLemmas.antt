@@ -28,12 +28,9 @@ pub record IsPartSent (piece rest : List ℕ) (old new : Option (List ℕ)) : Ty
   pub whole : piece ≡ sent ++ rest
   pub appends : Appends old new sent
 
--- at the start
-pub IsPartSent-start : (piece : List ℕ) (stream : Option (List ℕ)) → IsPartSent piece piece stream stream
-IsPartSent-start piece stream = record { sent = []; whole = refl; appends = Appends-nil stream }
-
 -- after a write that took some bytes
-pub IsPartSent-write : (count : ℕ) (piece rest : List ℕ) (old middle new : Option (List ℕ)) → IsPartSent piece rest old middle → Appends middle new (take count rest) → IsPartSent piece (take (length rest - count) (drop count rest)) old new
+pub IsPartSent-write : (count : ℕ) (piece rest : List ℕ) (old middle new : Option (List ℕ)) → IsPartSent piece rest old middle
+    → Appends middle new (take count rest) → IsPartSent piece (take (length rest - count) (drop count rest)) old new
 IsPartSent-write count piece rest old middle new before write =
     let tail : take (length rest - count) (drop count rest) ≡ drop count rest = rw (← length-drop count rest) (take-length (drop count rest)) in
     rw tail (record {
@@ -50,12 +47,14 @@ IsPartSent-part piece rest old middle new before kept = record {
 }
 
 -- at a write that is a fault
-pub IsPartSent-fault : (piece rest : List ℕ) (old middle new : Option (List ℕ)) (r : Result (Unit {0}) Failed) → IsErr r → IsPartSent piece rest old middle → Keeps middle new → WriteAnswers piece old new r
+pub IsPartSent-fault : (piece rest : List ℕ) (old middle new : Option (List ℕ)) (r : Result (Unit {0}) Failed) → IsErr r
+    → IsPartSent piece rest old middle → Keeps middle new → WriteAnswers piece old new r
 IsPartSent-fault piece rest old middle new (Ok done) bad before kept = cc
 IsPartSent-fault piece rest old middle new (Err e) bad before kept = IsPartSent-part piece rest old middle new before kept
 
 -- at the flush, after which nothing is to come
-pub IsPartSent-flush : (piece rest : List ℕ) (old middle new : Option (List ℕ)) (r : Result (Unit {0}) Failed) → IsPartSent piece rest old middle → length rest ≡ 0 → Keeps middle new → WriteAnswers piece old new r
+pub IsPartSent-flush : (piece rest : List ℕ) (old middle new : Option (List ℕ)) (r : Result (Unit {0}) Failed) → IsPartSent piece rest old middle
+    → length rest ≡ 0 → Keeps middle new → WriteAnswers piece old new r
 IsPartSent-flush piece [] old middle new (Ok done) before none kept = rw (before.whole, append-nil) (Appends-kept before.sent old middle new before.appends kept)
 IsPartSent-flush piece [] old middle new (Err e) before none kept = IsPartSent-part piece [] old middle new before kept
 IsPartSent-flush piece (byte ∷ rest) old middle new r before none kept = absurd (omega arith)

@@ -18,9 +18,21 @@ pub record FilesInMemory : Type 0 where
   pub failed : Option (List ℕ)
 
 -- their code: that of the tuple of the fields
+abbrev pub Fields : Type 0
+Fields = FileMap × (List ℕ × (ℕ × (ℕ × Option (List ℕ))))
+
+abbrev pub bytes_code : Coded (List ℕ)
+bytes_code = coded_list coded_ℕ
+
+abbrev pub fields_code : Coded Fields
+fields_code = coded× (finite.code bytes_code bytes_code) (coded× bytes_code (coded× coded_ℕ (coded× coded_ℕ (coded_option bytes_code))))
+
 abbrev pub files_code : Coded FilesInMemory
 files_code =
-    code_by (FileMap × (List ℕ × (ℕ × (ℕ × Option (List ℕ))))) (coded× (finite.code (coded_list coded_ℕ) (coded_list coded_ℕ)) (coded× (coded_list coded_ℕ) (coded× coded_ℕ (coded× coded_ℕ (coded_option (coded_list coded_ℕ)))))) (λ s. (s.files, (s.named, (s.reads, (s.faults, s.failed))))) (λ t. record { files = t.0; named = t.1.0; reads = t.1.1.0; faults = t.1.1.1.0; failed = t.1.1.1.1 }) (λ _. refl)
+    code_by Fields fields_code
+    (λ s. (s.files, (s.named, (s.reads, (s.faults, s.failed)))))
+    (λ t. record { files = t.0; named = t.1.0; reads = t.1.1.0; faults = t.1.1.1.0; failed = t.1.1.1.1 })
+    (λ _. refl)
 
 -- they tell their map
 abbrev pub meaning_of : FilesInMemory → FilesMeaning

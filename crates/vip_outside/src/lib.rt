@@ -29,3 +29,6 @@ pub use mem_sink::MemSink;
 pub use real_files::RealFiles;
 pub use sink::{Failed, Sink};
 pub use std_sink::StdSink;
+
+/// The most calls of one object in memory that can be named to fail.
+pub const MOST_NAMED: usize = 8;

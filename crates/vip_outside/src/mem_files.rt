@@ -3,6 +3,7 @@ ghost use Rattle.std.specs.FinMap as finite;
 ghost use Rattle.vip_outside.specs.Files.{IsStartOf, ReadAnswers};
 ghost use Rattle.vip_outside.specs.MemFiles.{FilesInMemory, meaning_of, no_files, is_named, FailsWhereNamed, after_read};
 
+use crate::MOST_NAMED;
 use crate::files::{Files, Loaded, ReadFail};
 use arrayvec::ArrayVec;
 use std::alloc::{AllocError, Global};
@@ -16,7 +17,7 @@ use std::marker::Model;
 pub struct MemFiles {
     alloc: Global,
     files: BTreeMap<String, Vec<u8>>,
-    named: ArrayVec<u32, 8>,
+    named: ArrayVec<u32, MOST_NAMED>,
     reads: u64,
     faults: u64,
     failed: Option<String>,
@@ -64,7 +65,7 @@ impl MemFiles {
     /// Names the calls of `read` that fail, at most 8, counted from 0 over all calls so far. They
     /// take the place of those named before. It takes no memory.
     pub fn fail_at(&mut self, calls: &[u32])
-        requires few { length calls.now ≤ 8 }
+        requires few { length calls.now ≤ MOST_NAMED }
         ensures named { self.new ≡ record self.old { named = calls.now } }
     {
         self.named.clear();

@@ -2,6 +2,7 @@ ghost use Rattle.std.specs.Prelude.{◌≡◌, ◌≤◌, length, IfOk, is_err};
 ghost use Rattle.vip_outside.specs.Sink.{PutAnswers};
 ghost use Rattle.vip_outside.specs.MemSink.{SinkInMemory, meaning_of, empty_sink, room_left, named_kept, is_fault, most_kept, after_put};
 
+use crate::MOST_NAMED;
 use crate::sink::{Failed, Sink};
 use arrayvec::ArrayVec;
 use std::alloc::{AllocError, Global};
@@ -16,7 +17,7 @@ use std::marker::Model;
 pub struct MemSink {
     bytes: Vec<u8>,
     room: usize,
-    named: ArrayVec<(u32, usize), 8>,
+    named: ArrayVec<(u32, usize), MOST_NAMED>,
     calls: u32,
     faults: u64,
 }
@@ -51,7 +52,7 @@ impl MemSink {
     /// over all calls so far, and how many bytes of its piece each keeps; a shorter piece is kept
     /// whole. They take the place of those named before. It takes no memory.
     pub fn fail_at(&mut self, calls: &[(u32, usize)])
-        requires few { length calls.now ≤ 8 }
+        requires few { length calls.now ≤ MOST_NAMED }
         ensures named { self.new ≡ record self.old { named = calls.now } }
     {
         self.named.clear();
