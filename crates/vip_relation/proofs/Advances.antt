@@ -1,5 +1,5 @@
 -- A machine that runs a game, from a call's entry on: moves alone, up to the next event or the limit.
-use Rattle.std.proofs.Common.{◌≡◌, inl, ℕ, ◌+◌, ◌-◌, ◌<◌, ◌≤◌, Bool, true, false, List, [], ◌∷◌, ◌++◌, length, drop, refl, sym, ap, ◌∙◌, subst, arith, Some}
+use Rattle.std.proofs.Common.{◌≡◌, ℕ, ◌+◌, ◌-◌, ◌<◌, ◌≤◌, Bool, true, false, List, [], ◌∷◌, ◌++◌, length, drop, refl, sym, ap, ◌∙◌, subst, arith, Some}
 use Rattle.machine.specs.Board.{length_of}
 use Rattle.machine.specs.Keys.{Event as KeyEvent}
 use Rattle.machine.specs.Pictures.{picture_of}
@@ -11,10 +11,9 @@ use Rattle.vip_board.specs.Moves.{moved, name_of}
 use Rattle.vip_board.specs.Seen.{Seen}
 use Rattle.vip_board.specs.declared.board.Move.{Move}
 use Rattle.vip_relation.specs.State.{VipState, interpreter, events_to, events_left, events_waiting, run_of, moves_by, screen_bytes}
-use Rattle.vip_relation.specs.Interpreters.{interpreter_of}
 use Rattle.vip_relation.specs.Stops.{stop_record}
 use Rattle.vip_relation.specs.Follows.{Follows}
-use Rattle.vip_relation.specs.Meets.{IsSame, MeetsOne, TellsSame, MeetsNext, HasStopped, MovesOn, Rests}
+use Rattle.vip_relation.specs.Meets.{IsSame, MeetsOne, TellsSame, MeetsNext, HasStopped, MovesOn}
 use Rattle.vip_relation.specs.Parts.{MeetsFirst, MeetsAll, Steps}
 use Rattle.vip_relation.specs.declared.vip.Met.{Met}
 use Rattle.vip_relation.specs.declared.vip.Met.TheVariants.{Picture as PictureMet, Dispatch as DispatchMet, Stopped as StoppedMet, End}
@@ -30,10 +29,6 @@ pub record Reaches (limit : ℕ) (entry v : VipState) : Type 0 where
   pub within : v.board.machine.cycle ≤ limit
   pub goes_on : HasStopped v → ⊥
   pub follows : Follows v
-
-pub reaches-entry : (limit : ℕ) (v : VipState) → Follows v → (HasStopped v → ⊥) → v.board.machine.cycle ≤ limit → Reaches limit v v
-reaches-entry limit v follows goes_on within =
-    record { same = refl; script = refl; order = omega arith; within = within; goes_on = goes_on; follows = follows }
 
 pub reaches-next : (limit : ℕ) (entry v w : VipState) (name : Move) → Reaches limit entry v → Steps v w name → w.board.machine.cycle ≤ limit → Follows w → Reaches limit entry w
 reaches-next limit entry v w name r s within follows =
@@ -167,19 +162,6 @@ no-stop v met goes_on = by_test (is_stop (interpreter v) v.board.machine) refl
     by_test true h = absurd (goes_on (record { stop = h; met = met }))
 
 -- ---- one move
-
--- a state with the same edition and board as one that doesn't rest
-pub moves-still : (limit : ℕ) (v w : VipState) → (Rests limit v → ⊥) → MeetsAll v w → is_stop (interpreter w) w.board.machine ≡ false
-moves-still limit v w moves m = by_test (is_stop (interpreter w) w.board.machine) refl
-  where
-    by_test : (t : Bool) → is_stop (interpreter w) w.board.machine ≡ t → is_stop (interpreter w) w.board.machine ≡ false
-    by_test false h = h
-    by_test true h =
-        absurd
-        (moves (inl (
-        ap (λ e. is_stop (interpreter_of e) v.board.machine) (sym m.edition)
-        ∙ ap (λ (s : Seen). is_stop (interpreter w) s.machine) (sym m.board)
-        ∙ h)))
 
 -- a move with all events met before it and after it
 pub moves-on : (u v w x : VipState) (name : Move) → MeetsAll u v → Steps v w name → MeetsAll w x → Follows x → MovesOn u x name

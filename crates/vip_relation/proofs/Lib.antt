@@ -5,5 +5,4 @@ pub mod Meetings
 mod Reading
 mod Advances
 mod Closing
-pub mod Pieces
 pub mod Waits

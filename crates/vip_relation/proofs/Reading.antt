@@ -1,10 +1,10 @@
 -- Bytes of RAM by pages, and the addresses on the stack one by one.
-use Rattle.std.proofs.Common.{◌≡◌, ℕ, zero, suc, ◌+◌, ◌-◌, ◌*◌, ◌/◌, ◌%◌, ◌<◌, ◌≤◌, List, [], ◌∷◌, ◌++◌, length, take, drop, slice_index, slice_range, refl, sym, ap, ◌∙◌, subst, arith}
+use Rattle.std.proofs.Common.{◌≡◌, ℕ, zero, suc, ◌+◌, ◌-◌, ◌*◌, ◌/◌, ◌%◌, ◌<◌, ◌≤◌, List, [], ◌∷◌, ◌++◌, length, take, drop, slice_index, slice_range, replicate, refl, sym, ap, ◌∙◌, subst, arith}
 use Rattle.std.proofs.Common.{Bool, true, false, Some, None}
 use Rattle.std.specs.Prelude.{◌&&◌, if◌then◌else◌, nat_le}
 use Rattle.std.proofs.lemmas.Bool.{lt-ltb, leb-true}
 use Rattle.std.proofs.Math.Seq.{take-add}
-use Rattle.std.proofs.lemmas.List.{get_or-drop, get_or-take, drop-take, drop-drop}
+use Rattle.std.proofs.lemmas.List.{get_or-drop, get_or-take, drop-take, drop-drop, take-replicate}
 use Rattle.machine.specs.Bank.{value}
 use Rattle.machine.specs.Board.{Machine}
 use Rattle.vip_memory.specs.Contents.{Contents, page_at, page_of}
@@ -30,9 +30,20 @@ page_of-byte m a low =
     let high : a / 256 < 16 = omega arith in
     rw (lt-ltb (a / 256) 16 high) (page_at-byte m.ram a)
 
--- two pages of the screen are its bytes
-pub two-pages : (ram : List ℕ) → page_at ram 0x0e ++ page_at ram 0x0f ≡ take 512 (drop 0x0e00 ram)
-two-pages ram = ap (λ xs. take 256 (drop 0x0e00 ram) ++ take 256 xs) (sym (drop-drop 256 0x0e00 ram)) ∙ sym (take-add 256 256 (drop 0x0e00 ram))
+-- one page more of the bytes from a place on
+pub page-more : (ram : List ℕ) (from high : ℕ) → from ≤ high * 256 → slice_range ram from (high * 256) ++ page_at ram high ≡ slice_range ram from ((high + 1) * 256)
+page-more ram from high order =
+    let n : ℕ = high * 256 - from in
+    let place : high * 256 ≡ from + n = omega (arith, order) in
+    let size : n + 256 ≡ (high + 1) * 256 - from = omega (arith, order) in
+    ap (λ k. take n (drop from ram) ++ take 256 (drop k ram)) place
+    ∙ ap (λ bytes. take n (drop from ram) ++ take 256 bytes) (sym (drop-drop n from ram))
+    ∙ sym (take-add n 256 (drop from ram))
+    ∙ ap (λ k. take k (drop from ram)) size
+
+-- a dark screen
+pub dark-bytes : (n size : ℕ) → n ≡ size → n ≤ 512 → take n (replicate 512 0) ≡ replicate {A = ℕ} size 0
+dark-bytes n size same few = take-replicate n 512 0 few ∙ ap (λ k. replicate {A = ℕ} k 0) same
 
 pub length-addresses : (ram : List ℕ) (low n : ℕ) → length (addresses ram low n) ≡ n
 length-addresses ram low zero = refl

@@ -10,7 +10,7 @@ use Rattle.chip8_lang.specs.State.{memory_size}
 use Rattle.chip8_lang.specs.View.{View, view_at}
 use Rattle.vip_board.specs.Shown.{Shows}
 use Rattle.vip_cpu.specs.declared.cpu.Phase.TheVariants.{Boundary}
-use Rattle.vip_relation.specs.State.{VipState, interpreter, events_to, events_met, state_after, states_before, screen_size, screen_bytes}
+use Rattle.vip_relation.specs.State.{most_cycles, VipState, interpreter, events_to, events_met, state_after, states_before, screen_size, screen_bytes}
 
 abbrev pub dispatch_of : Event → Option Machine
 dispatch_of (Dispatch b) = Some b
@@ -36,7 +36,7 @@ pub record Follows (v : VipState) : Type 0 where
   pub rom : v.board.rom ≡ (interpreter v).rom
   pub machine : v.board.machine ≡ state_after v v.moves
   pub runs : (k : ℕ) → k < v.moves → is_stop (interpreter v) (state_after v k) ≡ false
-  pub in_time : v.board.machine.cycle ≤ 4_000_000_000
+  pub in_time : v.board.machine.cycle ≤ most_cycles
   -- its video chip has the pictures of these moves
   pub pictures : Shows v.board.rom (states_before v v.moves) v.board.machine.cycle v.board.pictures
   -- all events of the states before are met, and at most those at the present state too

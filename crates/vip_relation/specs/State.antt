@@ -13,6 +13,10 @@ use Rattle.vip_cpu.specs.declared.cpu.Phase.TheVariants.{Boundary}
 use Rattle.vip_video.specs.Chip.{nothing_yet}
 use Rattle.vip_relation.specs.Interpreters.{interpreter_of}
 
+-- the most machine cycles of a run, which every limit keeps to
+abbrev pub most_cycles : ℕ
+most_cycles = 4_000_000_000
+
 -- The edition and the game; how many moves were made, and how many events were met; the board with its key script; the view of the last
 -- dispatch point met, and the bytes of the screen there.
 pub record VipState : Type 0 where

@@ -1,11 +1,14 @@
 //! A board that runs a game in the interpreter's ROM, from event to event: finished pictures, dispatch points, and the stop.
 //!
-//! It stands on the board, on the ROM's bytes and on the definition of the events of a run (`chip8_lang`), for both editions. The layer
-//! above may rely on this, for every game, key script and limit: after every call the board is the state of the defined run from reset
-//! after the moves made, its video chip has the pictures of these moves, and what `last` and `shown` tell is that of the last dispatch
-//! point met; `advance` answers exactly the next event of the run. No rule of the language stands here.
+//! It stands on the board and its chips, on the bytes and labels of the ROM (`chip8_image`), and on the definition of the events of a run
+//! (`chip8_lang`), for both editions. No rule of the language stands here, and no law of the ROM. The layer above may rely on this, for
+//! every game that fits, every key script and every limit up to 4,000,000,000 cycles: after every call the board is the state of the defined
+//! run from reset after the moves made, its video chip has the pictures of these moves, and what `last` and `shown` tell is that of the last
+//! dispatch point met; `advance` answers exactly the next event of the run. Events, views and places are this project's profile
+//! (`docs/LANGUAGE.md`, `docs/MACHINE.md`).
 #![tactic(auto)]
 
+mod places;
 mod point;
 mod start;
 #[cfg(test)]

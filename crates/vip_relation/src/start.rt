@@ -3,6 +3,7 @@
 ghost use Rattle.std.specs.Prelude.{◌≡◌};
 ghost use Rattle.chip8_lang.specs.State.{memory_size};
 
+use crate::places::{GAME, Places};
 use chip8_lang::Edition;
 use std::alloc::AllocError;
 use thiserror::Error;
@@ -33,8 +34,5 @@ impl From<AllocError> for StartFault {
 pub fn most_bytes(edition: Edition) -> usize
     ensures { result ≡ memory_size edition }
 {
-    match edition {
-        Edition::Usual => 3_232,
-        Edition::Tall => 2_976,
-    }
+    usize::from(Places::of(edition).memory_end - GAME)
 }

@@ -2,6 +2,7 @@
 //! call of machine code comes to its stop after 122.
 
 ghost use Rattle.std.specs.Prelude.{◌≤◌};
+ghost use Rattle.vip_relation.specs.State.{most_cycles};
 
 use super::*;
 use chip8_lang::{Edition, Stop, StopRecord};
@@ -32,7 +33,7 @@ fn begin(alloc: Global, edition: Edition, game: &[u8]) -> Result<Vip, StartFault
 
 /// Makes all moves up to a limit, one by one.
 fn move_on(vip: &mut Vip, limit: u64)
-    requires { limit ≤ 4_000_000_000 }
+    requires { limit ≤ most_cycles }
 {
     for _move in 0..limit {
         if vip.one_move(limit) == Moved::End {

@@ -2,58 +2,26 @@
 
 ghost use Rattle.std.specs.Prelude.{◌≡◌, ◌<◌, ◌≤◌, ◌+◌, ◌*◌, ◌++◌, length, replicate, slice_index, slice_range};
 ghost use Rattle.arrayvec.specs.ArrayVec.{array_vec_len};
-ghost use Rattle.chip8_lang.specs.Editions.{memory_end, stack_top, variables, screen_start};
+ghost use Rattle.chip8_lang.specs.Editions.{variables, screen_start};
 ghost use Rattle.chip8_lang.specs.View.{seen, view_at};
 ghost use Rattle.vip_memory.specs.Contents.{page_at};
 ghost use Rattle.vip_relation.specs.Reading.{opcode_in, stack_in};
 ghost use Rattle.vip_relation.specs.State.{screen_size};
 
+use crate::places::{GAME, Places, RAM_END, RANDOM_CELL, STOP_CELL};
 use arrayvec::ArrayVec;
 use chip8_lang::{Edition, StateView};
 use vip_board::Board;
 use vip_memory::Memory;
 
-/// Where game memory begins, and the cells of the stop's number and of the random byte, in both editions.
-const GAME: u16 = 0x0200;
+/// The most addresses on the stack.
+const MOST_ADDRESSES: u16 = 12;
 
-const STOP_CELL: u16 = 0x01F0;
+/// The bytes of a page.
+const PAGE: usize = 256;
 
-const RANDOM_CELL: u16 = 0x01F1;
-
-/// The end of game memory.
-fn memory_end(edition: Edition) -> u16
-    ensures value { result ≡ memory_end edition }
-    ensures least { 0x0DA0 ≤ result }
-    ensures most { result ≤ 0x0EA0 }
-{
-    match edition {
-        Edition::Usual => 0x0EA0,
-        Edition::Tall => 0x0DA0,
-    }
-}
-
-/// The low byte of the oldest address on the stack.
-fn stack_top(edition: Edition) -> u16
-    ensures value { result ≡ stack_top edition }
-    ensures least { 0x0DCF ≤ result }
-    ensures most { result ≤ 0x0ECF }
-{
-    match edition {
-        Edition::Usual => 0x0ECF,
-        Edition::Tall => 0x0DCF,
-    }
-}
-
-/// The page whose last 16 bytes are V0 to VF.
-fn variables_page(edition: Edition) -> u8
-    ensures place { result * 256 + 0xF0 ≡ variables edition }
-    ensures ram { result < 0x10 }
-{
-    match edition {
-        Edition::Usual => 0x0E,
-        Edition::Tall => 0x0D,
-    }
-}
+/// The bytes of the larger screen, of the tall edition.
+const MOST_SCREEN: usize = 512;
 
 /// The view of the language state that is read off a board.
 pub fn view(edition: Edition, board: &Board) -> StateView
@@ -79,19 +47,16 @@ pub fn view(edition: Edition, board: &Board) -> StateView
 }
 
 /// A screen of an edition: 256 bytes, or 512 in the tall edition.
-pub type Screen = ArrayVec<u8, 512>;
+pub type Screen = ArrayVec<u8, MOST_SCREEN>;
 
 /// A dark screen.
 pub fn dark(edition: Edition) -> Screen
     ensures items { result.items ≡ replicate (screen_size edition) 0 }
     ensures size { length result.items ≡ screen_size edition }
 {
+    let size = usize::from(RAM_END - Places::of(edition).screen) * PAGE;
     let mut bytes = Screen::new();
-    put(&mut bytes, &[0; 256]);
-    match edition {
-        Edition::Usual => {}
-        Edition::Tall => put(&mut bytes, &[0; 256]),
-    }
+    put(&mut bytes, &[0; MOST_SCREEN][..size]);
     bytes
 }
 
@@ -101,12 +66,8 @@ pub fn copy_screen(edition: Edition, memory: &Memory, into: &mut Screen)
     ensures size { length into.new.items ≡ screen_size edition }
 {
     into.clear();
-    match edition {
-        Edition::Usual => put_page(memory, 0x0F, into),
-        Edition::Tall => {
-            put_page(memory, 0x0E, into);
-            put_page(memory, 0x0F, into);
-        }
+    for high in Places::of(edition).screen..RAM_END {
+        put_page(memory, high, into);
     }
 }
 
@@ -154,7 +115,7 @@ fn variables(edition: Edition, memory: &Memory) -> [u8; 16]
     ensures { result ≡ slice_range memory.now.ram (variables edition) (variables edition + 16) }
 {
     let mut v = [0; 16];
-    if let Some(page) = memory.page(variables_page(edition)) {
+    if let Some(page) = memory.page(Places::of(edition).variables) {
         v.copy_from_slice(&page[0xF0..0x100]);
     }
     v
@@ -164,7 +125,7 @@ fn variables(edition: Edition, memory: &Memory) -> [u8; 16]
 fn opcode(edition: Edition, memory: &Memory, pc: u16) -> Option<u16>
     ensures { result ≡ opcode_in edition memory.now.ram pc }
 {
-    if pc < GAME || pc > memory_end(edition) - 2 {
+    if pc < GAME || pc > Places::of(edition).memory_end - 2 {
         return None;
     }
     Some(u16::from(ram_byte(memory, pc)) * 256 + u16::from(ram_byte(memory, pc + 1)))
@@ -174,8 +135,8 @@ fn opcode(edition: Edition, memory: &Memory, pc: u16) -> Option<u16>
 fn stack(edition: Edition, memory: &Memory, r2: u16) -> ArrayVec<u16, 12>
     ensures { result.items ≡ stack_in edition memory.now.ram r2 }
 {
-    let top = stack_top(edition);
-    let depth = (top.saturating_sub(r2) / 2).min(12);
+    let top = Places::of(edition).stack_top;
+    let depth = (top.saturating_sub(r2) / 2).min(MOST_ADDRESSES);
     let mut addresses = ArrayVec::new();
     for k in 0..depth {
         let low = top - 2 * k;

@@ -3,13 +3,12 @@
 ghost use Rattle.std.specs.Prelude.{◌≡◌, ◌+◌, ◌<◌, ◌≤◌, ◌⊎◌, ◌↔◌, ℕ, [], IsTrue, IfOk, Some, None, if◌then◌else◌, length, true, false};
 ghost use Rattle.std.specs.Option.{option_map};
 ghost use Rattle.chip8_lang.specs.View.{seen};
-ghost use Rattle.vip_relation.specs.Interpreters.{interpreter_of};
 ghost use Rattle.vip_relation.specs.Waiting.{waits_by};
 
-use crate::point::{Point, next_length, point_at, stop_of_number};
+use crate::places::{GAME, Places};
+use crate::point::{Point, point_at, stop_of_number};
 use crate::start::{StartFault, most_bytes};
 use crate::view::{Screen, copy_screen, dark, stop_number, view};
-use chip8_image::{IMAGE, TALL};
 use chip8_lang::{Edition, StateView, StopRecord};
 use std::alloc::Global;
 use std::marker::Model;
@@ -66,7 +65,7 @@ impl Vip {
     ghost use Rattle.machine.specs.Board.{length_of};
     ghost use Rattle.chip8_lang.specs.Events.{is_stop};
     ghost use Rattle.vip_board.specs.Moves.{IfDone};
-    ghost use Rattle.vip_relation.specs.State.{screen_size, interpreter, events_to, events_left, events_waiting};
+    ghost use Rattle.vip_relation.specs.State.{most_cycles, screen_size, interpreter, events_to, events_left, events_waiting};
     ghost use Rattle.vip_relation.specs.Stops.{stop_record};
     ghost use Rattle.vip_relation.specs.Follows.{Follows};
     ghost use Rattle.vip_relation.specs.Meets.{StartAnswers, MeetsNext, HasStopped, StopsAgain, Rests, MovesOn};
@@ -97,8 +96,9 @@ impl Vip {
             return Err(StartFault::GameTooLarge(game.len()));
         }
         let game_copy = Vec::from_slice(alloc, game)?;
-        let mut board = Board::reset(alloc, rom_of(edition), script)?;
-        board.load(0x0200, game);
+        let rom = Places::of(edition).rom;
+        let mut board = Board::reset(alloc, rom, script)?;
+        board.load(GAME, game);
         Ok(Vip {
             edition,
             game: game_copy,
@@ -156,7 +156,7 @@ impl Vip {
     /// that stop again. `End` comes where there is no such event; the board then stands after the last move that ends at or before
     /// `limit`, or where it stood if that is later.
     pub fn advance(&mut self, limit: u64) -> Met
-        requires { limit ≤ 4_000_000_000 }
+        requires { limit ≤ most_cycles }
         ensures follows { Follows self.new }
         ensures again { HasStopped self.old → StopsAgain self.old self.new result }
         ensures next { (HasStopped self.old → ⊥) → MeetsNext limit self.old self.new (events_left self.old limit) result }
@@ -180,7 +180,7 @@ impl Vip {
     /// Makes one move and names it. `End` comes exactly where the move would end after `limit` or the board is at a stop point, and
     /// changes nothing. Every event up to the board's new cycle then counts as met.
     pub fn one_move(&mut self, limit: u64) -> Moved
-        requires { limit ≤ 4_000_000_000 }
+        requires { limit ≤ most_cycles }
         ensures follows { Follows self.new }
         ensures end { (result ≡ Moved.End) ↔ Rests limit self.old }
         ensures kept { result ≡ Moved.End → self.new ≡ self.old }
@@ -228,7 +228,7 @@ impl Vip {
     {
         match self.point {
             Point::Stop => true,
-            _ => self.board.now() + next_length(&self.board) > limit,
+            _ => self.board.now() + self.board.next_length() > limit,
         }
     }
 
@@ -271,7 +271,7 @@ impl Vip {
     /// Makes one move, which leads to a new state whose events wait, or changes nothing where it would end after the limit. No event waits,
     /// and the board is at no stop point.
     fn step(&mut self, limit: u64) -> Moved
-        requires limit { limit ≤ 4_000_000_000 }
+        requires limit { limit ≤ most_cycles }
         requires met { events_waiting self.old ≡ [] }
         requires runs { is_stop (interpreter self.old) self.old.board.machine ≡ false }
         ensures follows { Follows self.new }
@@ -289,16 +289,6 @@ impl Vip {
                 Moved::Done(name)
             }
         }
-    }
-}
-
-/// The ROM of an edition.
-fn rom_of(edition: Edition) -> &'static [u8; 0x800]
-    ensures { result.now ≡ (interpreter_of edition).rom }
-{
-    match edition {
-        Edition::Usual => &IMAGE,
-        Edition::Tall => &TALL,
     }
 }
 
