@@ -50,9 +50,6 @@ shape name count = (built (command_app name count)).top
 abbrev pub arguments : ℕ → List Rule
 arguments count = (shape [] count).rules
 
-abbrev pub keys_argument : Rule
-keys_argument = filled keys_rule
-
 abbrev pub flag_argument : Flag → Rule
 flag_argument flag = filled (flag_rule (flag_name flag))
 

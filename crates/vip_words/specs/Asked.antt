@@ -9,30 +9,23 @@ use Rattle.vip_words.specs.Table.{usage_of}
 use Rattle.vip_words.specs.declared.table.Verb.{Verb}
 use Rattle.vip_words.specs.declared.table.Verb.TheVariants as verb
 
--- a trace: the file of a game, how many machine cycles, the file of a key script, whether each record says its cycle and the last
--- screen is shown, and the edition
+-- a run: the file of a game, how many machine cycles, the file of a key script, and the edition
+pub record AskedRun : Type 0 where
+  pub game : Word
+  pub cycles : ℕ
+  pub keys : Option Word
+  pub edition : Edition
+
+-- its trace: whether each record says its cycle, and whether the last screen is shown
 pub record AskedTrace : Type 0 where
-  pub game : Word
-  pub cycles : ℕ
-  pub keys : Option Word
-  pub at : Bool
-  pub screen : Bool
-  pub edition : Edition
+  pub run : AskedRun
+  pub with_time : Bool
+  pub with_screen : Bool
 
--- the pictures of a run
-pub record AskedPlay : Type 0 where
-  pub game : Word
-  pub cycles : ℕ
-  pub keys : Option Word
-  pub edition : Edition
-
--- a run under the debugger: also the file of its commands
+-- it under the debugger: the file of the commands
 pub record AskedDebug : Type 0 where
-  pub game : Word
-  pub cycles : ℕ
+  pub run : AskedRun
   pub commands : Word
-  pub keys : Option Word
-  pub edition : Edition
 
 -- a run of the demonstration game of this number
 pub record AskedDemo : Type 0 where
@@ -44,10 +37,10 @@ pub record AskedDis : Type 0 where
   pub file : Word
   pub address : ℕ
 
--- `asm` and `list` name the file of a source
+-- `play` shows the pictures of a run; `asm` and `list` name the file of a source
 pub data Asked : Type 0 where
   trace : AskedTrace → Asked
-  play : AskedPlay → Asked
+  play : AskedRun → Asked
   debug : AskedDebug → Asked
   demo : AskedDemo → Asked
   asm : Word → Asked
@@ -57,13 +50,17 @@ pub data Asked : Type 0 where
 
 -- ---- numbers
 
+-- the most machine cycles of a run
+abbrev pub most_cycles : ℕ
+most_cycles = 4_000_000_000
+
 -- a number of machine cycles: decimal, from 0 to 4,000,000,000
 abbrev pub cycles_of : Word → Option ℕ
-cycles_of word = result_ok (decimal_number word 4000000000)
+cycles_of word = result_ok (decimal_number word most_cycles)
 
 -- the number of a demonstration game: decimal, from 0 to 4,294,967,295
-abbrev pub number_of : Word → Option ℕ
-number_of word = result_ok (decimal_number word 4294967295)
+abbrev pub demo_number_of : Word → Option ℕ
+demo_number_of word = result_ok (decimal_number word 4294967295)
 
 -- an address: hexadecimal, from 0 to FFFF
 abbrev pub address_of : Word → Option ℕ
@@ -75,27 +72,32 @@ edition_by tall = if tall then Tall else Usual
 
 -- ---- the positional words of each verb
 
+-- a run of the game of this name, for as many cycles as a word says
+abbrev pub run_by : Word → Word → Given → Option AskedRun
+run_by game cycles given =
+    option_map (λ n. record { game = game; cycles = n; keys = given.keys; edition = edition_by given.tall }) (cycles_of cycles)
+
 -- GAME CYCLES
 abbrev pub trace_by : List Word → Given → Option Asked
 trace_by (game ∷ cycles ∷ []) given =
-    option_map (λ n. trace (record { game = game; cycles = n; keys = given.keys; at = given.at; screen = given.screen; edition = edition_by given.tall })) (cycles_of cycles)
+    option_map (λ r. trace (record { run = r; with_time = given.at; with_screen = given.screen })) (run_by game cycles given)
 trace_by _ given = None
 
 -- GAME CYCLES
 abbrev pub play_by : List Word → Given → Option Asked
-play_by (game ∷ cycles ∷ []) given = option_map (λ n. play (record { game = game; cycles = n; keys = given.keys; edition = edition_by given.tall })) (cycles_of cycles)
+play_by (game ∷ cycles ∷ []) given = option_map play (run_by game cycles given)
 play_by _ given = None
 
 -- GAME CYCLES COMMANDS
 abbrev pub debug_by : List Word → Given → Option Asked
 debug_by (game ∷ cycles ∷ commands ∷ []) given =
-    option_map (λ n. debug (record { game = game; cycles = n; commands = commands; keys = given.keys; edition = edition_by given.tall })) (cycles_of cycles)
+    option_map (λ r. debug (record { run = r; commands = commands })) (run_by game cycles given)
 debug_by _ given = None
 
 -- NUMBER CYCLES
 abbrev pub demo_by : List Word → Option Asked
 demo_by (number ∷ cycles ∷ []) =
-    option_and_then (λ n. option_map (λ c. demo (record { number = n; cycles = c })) (cycles_of cycles)) (number_of number)
+    option_and_then (λ n. option_map (λ c. demo (record { number = n; cycles = c })) (cycles_of cycles)) (demo_number_of number)
 demo_by _ = None
 
 -- FILE

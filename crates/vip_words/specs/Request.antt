@@ -1,40 +1,31 @@
 -- What a request asks for.
 use Rattle.std.specs.Prelude.{option_map}
-use Rattle.vip_words.specs.Asked.{Asked, AskedDebug, AskedDemo, AskedDis, AskedPlay, AskedTrace, asm, bounds, debug, demo, dis, list, play, trace}
+use Rattle.vip_words.specs.Asked.{Asked, AskedDebug, AskedDemo, AskedDis, AskedRun, AskedTrace, asm, bounds, debug, demo, dis, list, play, trace}
 use Rattle.vip_words.specs.declared.request.DebugRequest.{DebugRequest}
 use Rattle.vip_words.specs.declared.request.DemoRequest.{DemoRequest}
 use Rattle.vip_words.specs.declared.request.DisRequest.{DisRequest}
-use Rattle.vip_words.specs.declared.request.PlayRequest.{PlayRequest}
 use Rattle.vip_words.specs.declared.request.Request.{Request}
 use Rattle.vip_words.specs.declared.request.Request.TheVariants as request
+use Rattle.vip_words.specs.declared.request.RunRequest.{RunRequest}
 use Rattle.vip_words.specs.declared.request.TraceRequest.{TraceRequest}
+
+abbrev pub asked_run : RunRequest → AskedRun
+asked_run request = record {
+  game = request.game.now;
+  cycles = request.cycles;
+  keys = option_map (λ word. word.now) request.keys;
+  edition = request.edition;
+}
 
 abbrev pub asked_trace : TraceRequest → AskedTrace
 asked_trace request = record {
-  game = request.game.now;
-  cycles = request.cycles;
-  keys = option_map (λ word. word.now) request.keys;
-  at = request.at;
-  screen = request.screen;
-  edition = request.edition;
-}
-
-abbrev pub asked_play : PlayRequest → AskedPlay
-asked_play request = record {
-  game = request.game.now;
-  cycles = request.cycles;
-  keys = option_map (λ word. word.now) request.keys;
-  edition = request.edition;
+  run = asked_run request.run;
+  with_time = request.with_time;
+  with_screen = request.with_screen;
 }
 
 abbrev pub asked_debug : DebugRequest → AskedDebug
-asked_debug request = record {
-  game = request.game.now;
-  cycles = request.cycles;
-  commands = request.commands.now;
-  keys = option_map (λ word. word.now) request.keys;
-  edition = request.edition;
-}
+asked_debug request = record { run = asked_run request.run; commands = request.commands.now }
 
 abbrev pub asked_demo : DemoRequest → AskedDemo
 asked_demo request = record { number = request.number; cycles = request.cycles }
@@ -44,7 +35,7 @@ asked_dis request = record { file = request.file.now; address = request.address 
 
 abbrev pub asked_of : Request → Asked
 asked_of (request.Trace wish) = trace (asked_trace wish)
-asked_of (request.Play wish) = play (asked_play wish)
+asked_of (request.Play wish) = play (asked_run wish)
 asked_of (request.Debug wish) = debug (asked_debug wish)
 asked_of (request.Demo wish) = demo (asked_demo wish)
 asked_of (request.Asm wish) = asm wish.file.now

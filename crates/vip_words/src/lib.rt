@@ -1,4 +1,8 @@
-//! The words of a command line, read exactly.
+//! The words of a command line, read exactly. The crate stands on the kit's `clap`, whose contracts say which words a simple command takes
+//! and what it finds in them, on `vip_byte` for the numbers, and on `chip8_lang` for the name of an edition; it reads no file. The layer
+//! above may rely on `read_words`: it answers exactly the request that the rules of `specs/Rules.antt`, `specs/Table.antt` and
+//! `specs/Asked.antt` read in the words, and refuses exactly the words in which they read none; want of memory is its one other answer. The
+//! rules are this project's profile (`docs/FORMATS.md`).
 //!
 //! ```text
 //!     words ──▶ the verb's usage ──▶ each word is plain or an option of it ──▶ clap ──▶ its numbers ──▶ Request
@@ -16,11 +20,6 @@
 //! | the number of a demonstration game is decimal and at most 4,294,967,295 | `vip_byte` |
 //! | an address is hexadecimal and at most FFFF | `vip_byte` |
 //!
-//! The crate stands on the kit's `clap`, whose contracts say which words a simple command takes and what it finds in them, and on
-//! `vip_byte` for the numbers. The layer above may rely on `read_words`: it answers exactly the request that the rules of
-//! `specs/Rules.antt`, `specs/Table.antt` and `specs/Asked.antt` read in the words, and refuses exactly the words in which they read
-//! none; want of memory is its one other answer. The rules are this project's profile.
-//!
 //! One `clap` command serves all verbs with as many positional words: it has every option, and a word that is an option of another verb
 //! doesn't come to it. So a verb is added by its line in the two tables (`src/table.rt`, `specs/Table.antt`), its variant and what its
 //! words ask for; an option of a verb, by its name in the verb's lines. A new option that takes no word is one name more among the flags
@@ -34,7 +33,7 @@ mod table;
 
 pub use given::WordsFail;
 pub use request::{
-    DebugRequest, DemoRequest, DisRequest, PlayRequest, Request, SourceRequest, TraceRequest,
+    DebugRequest, DemoRequest, DisRequest, Request, RunRequest, SourceRequest, TraceRequest,
     read_words,
 };
 

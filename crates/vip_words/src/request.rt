@@ -1,9 +1,9 @@
 //! What the words of a command line ask for.
 
 ghost use Rattle.std.specs.Prelude.{◌≡◌, IfOk, IsErrOf, None, Some, map, option_map, string_bytes};
-ghost use Rattle.vip_words.specs.Asked.{address_of, asked_by, asked_of_verb, cycles_of, edition_by, number_of};
+ghost use Rattle.vip_words.specs.Asked.{address_of, asked_by, asked_of_verb, cycles_of, demo_number_of, edition_by, run_by};
 ghost use Rattle.vip_words.specs.Given.{seen_given};
-ghost use Rattle.vip_words.specs.Request.{asked_of};
+ghost use Rattle.vip_words.specs.Request.{asked_of, asked_run};
 ghost use Rattle.vip_words.specs.declared.table.Verb.TheVariants as verb;
 
 use crate::given::{Given, Positional, WordsFail, read_given};
@@ -19,7 +19,8 @@ const MOST_CYCLES: u64 = 4_000_000_000;
 #[derive(Clone, Copy)]
 pub enum Request<'a> {
     Trace(TraceRequest<'a>),
-    Play(PlayRequest<'a>),
+    /// The pictures of a run.
+    Play(RunRequest<'a>),
     Debug(DebugRequest<'a>),
     Demo(DemoRequest),
     /// Assemble a source.
@@ -31,49 +32,35 @@ pub enum Request<'a> {
     Bounds,
 }
 
-/// A trace: the records of a run of a game.
+/// A run of a game from a file.
 #[derive(Clone, Copy)]
-pub struct TraceRequest<'a> {
-    /// The name of the game's file.
-    pub game: &'a str,
-    /// How many machine cycles, from 0 to 4,000,000,000.
-    pub cycles: u64,
-    /// The name of the key script's file, where there is one.
-    pub keys: Option<&'a str>,
-    /// Whether each record says its cycle.
-    pub at: bool,
-    /// Whether the last screen is shown.
-    pub screen: bool,
-    /// The edition that the game runs on.
-    pub edition: Edition,
-}
-
-/// The pictures of a run of a game.
-#[derive(Clone, Copy)]
-pub struct PlayRequest<'a> {
-    /// The name of the game's file.
-    pub game: &'a str,
-    /// How many machine cycles, from 0 to 4,000,000,000.
-    pub cycles: u64,
-    /// The name of the key script's file, where there is one.
-    pub keys: Option<&'a str>,
-    /// The edition that the game runs on.
-    pub edition: Edition,
-}
-
-/// A run of a game under the debugger.
-#[derive(Clone, Copy)]
-pub struct DebugRequest<'a> {
+pub struct RunRequest<'a> {
     /// The name of the game's file.
     pub game: &'a str,
     /// How many machine cycles at most, from 0 to 4,000,000,000.
     pub cycles: u64,
-    /// The name of the file of the debugger's commands.
-    pub commands: &'a str,
     /// The name of the key script's file, where there is one.
     pub keys: Option<&'a str>,
     /// The edition that the game runs on.
     pub edition: Edition,
+}
+
+/// A trace: the records of a run.
+#[derive(Clone, Copy)]
+pub struct TraceRequest<'a> {
+    pub run: RunRequest<'a>,
+    /// Whether each record says its cycle.
+    pub with_time: bool,
+    /// Whether the last screen is shown.
+    pub with_screen: bool,
+}
+
+/// A run under the debugger.
+#[derive(Clone, Copy)]
+pub struct DebugRequest<'a> {
+    pub run: RunRequest<'a>,
+    /// The name of the file of the debugger's commands.
+    pub commands: &'a str,
 }
 
 /// The summary of a run of a demonstration game.
@@ -108,7 +95,7 @@ fn read_cycles(word: &str) -> Option<u64>
 }
 
 fn read_demo_number(word: &str) -> Option<u32>
-    ensures { result ≡ number_of word.now }
+    ensures { result ≡ demo_number_of word.now }
 {
     let number = read_decimal(word.as_bytes(), u32::MAX as u64).ok()?;
     Some(number as u32)
@@ -128,6 +115,18 @@ fn edition_by(tall: bool) -> Edition
     if tall { Edition::Tall } else { Edition::Usual }
 }
 
+/// A run of the game of this name, for as many cycles as a word says.
+fn run_request<'a>(game: &'a str, cycles: &str, given: &Given<'a>) -> Option<RunRequest<'a>>
+    ensures { option_map asked_run result ≡ run_by game.entry.now cycles.now (seen_given given.now) }
+{
+    Some(RunRequest {
+        game,
+        cycles: read_cycles(cycles)?,
+        keys: given.keys,
+        edition: edition_by(given.tall),
+    })
+}
+
 fn trace_request<'a>(given: &Given<'a>) -> Option<Request<'a>>
     ensures { option_map asked_of result ≡ asked_of_verb verb.Trace (seen_given given.now) }
 {
@@ -135,12 +134,9 @@ fn trace_request<'a>(given: &Given<'a>) -> Option<Request<'a>>
         return None;
     };
     Some(Request::Trace(TraceRequest {
-        game,
-        cycles: read_cycles(cycles)?,
-        keys: given.keys,
-        at: given.at,
-        screen: given.screen,
-        edition: edition_by(given.tall),
+        run: run_request(game, cycles, given)?,
+        with_time: given.at,
+        with_screen: given.screen,
     }))
 }
 
@@ -150,12 +146,7 @@ fn play_request<'a>(given: &Given<'a>) -> Option<Request<'a>>
     let Positional::Two(game, cycles) = given.positional else {
         return None;
     };
-    Some(Request::Play(PlayRequest {
-        game,
-        cycles: read_cycles(cycles)?,
-        keys: given.keys,
-        edition: edition_by(given.tall),
-    }))
+    Some(Request::Play(run_request(game, cycles, given)?))
 }
 
 fn debug_request<'a>(given: &Given<'a>) -> Option<Request<'a>>
@@ -165,11 +156,8 @@ fn debug_request<'a>(given: &Given<'a>) -> Option<Request<'a>>
         return None;
     };
     Some(Request::Debug(DebugRequest {
-        game,
-        cycles: read_cycles(cycles)?,
+        run: run_request(game, cycles, given)?,
         commands,
-        keys: given.keys,
-        edition: edition_by(given.tall),
     }))
 }
 

@@ -25,14 +25,14 @@ fn name_of(edition: Edition) -> &'static str {
 fn text_of(alloc: Global, request: &Request) -> Result<String, Fail> {
     let text = match request {
         Request::Trace(r) => {
-            let keys = r.keys.unwrap_or("-");
+            let keys = r.run.keys.unwrap_or("-");
             format!(in alloc;
                 "trace {} {} {keys} {} {} {}",
-                r.game,
-                r.cycles,
-                r.at,
-                r.screen,
-                name_of(r.edition)
+                r.run.game,
+                r.run.cycles,
+                r.with_time,
+                r.with_screen,
+                name_of(r.run.edition)
             )?
         }
         Request::Play(r) => {
@@ -45,13 +45,13 @@ fn text_of(alloc: Global, request: &Request) -> Result<String, Fail> {
             )?
         }
         Request::Debug(r) => {
-            let keys = r.keys.unwrap_or("-");
+            let keys = r.run.keys.unwrap_or("-");
             format!(in alloc;
                 "debug {} {} {} {keys} {}",
-                r.game,
-                r.cycles,
+                r.run.game,
+                r.run.cycles,
                 r.commands,
-                name_of(r.edition)
+                name_of(r.run.edition)
             )?
         }
         Request::Demo(r) => format!(in alloc; "demo {} {}", r.number, r.cycles)?,
