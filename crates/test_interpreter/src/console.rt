@@ -3,10 +3,9 @@
 ghost use Rattle.std.specs.Prelude.{◌≡◌};
 ghost use Rattle.vip_cpu.specs.declared.cpu.Phase.TheVariants.{Boundary};
 
-use crate::edition::{GAME, MOST_SCREEN, Places, RANDOM_CELL, STOP_CELL};
-use arrayvec::ArrayVec;
+use crate::edition::{GAME, MOST_SCREEN, Places};
 use chip8_image::{IMAGE, TALL};
-use chip8_lang::{Edition, StateView};
+use chip8_lang::Edition;
 use std::alloc::{AllocError, Global};
 use vip_board::{Board, Moved};
 use vip_keypad::Script;
@@ -99,15 +98,6 @@ impl Console {
         (video.count(), video.finished())
     }
 
-    pub fn byte(&self, address: u16) -> u8 {
-        self.board.memory().read(address)
-    }
-
-    /// The number of the stop at a stop point.
-    pub fn stop_number(&self) -> u8 {
-        self.byte(STOP_CELL)
-    }
-
     /// The bytes of the screen, and 00 behind them where it is smaller than the greatest.
     pub fn screen(&self) -> [u8; MOST_SCREEN] {
         let mut bytes = [0; MOST_SCREEN];
@@ -123,51 +113,13 @@ impl Console {
         bytes
     }
 
-    /// The language state that the board holds at a dispatch point.
-    pub fn view(&self) -> StateView {
-        let cpu = self.board.cpu();
-        let pc = cpu.r(5);
-        let timers = cpu.r(8);
-        let mut v = [0; 16];
-        for (byte, k) in v.iter_mut().zip(0u16..16) {
-            *byte = self.byte(self.places.variables.wrapping_add(k));
-        }
-        StateView {
-            v,
-            i: cpu.r(10),
-            pc,
-            opcode: self.opcode(pc),
-            stack: self.stack(cpu.r(2)),
-            dt: (timers / 256) as u8,
-            st: (timers % 256) as u8,
-            tone: cpu.q(),
-            n: cpu.r(9),
-            b: self.byte(RANDOM_CELL),
-            cycle: self.now(),
-        }
-    }
-
-    // The word whose high byte stands at an address.
-    fn word(&self, address: u16) -> u16 {
-        u16::from_be_bytes([self.byte(address), self.byte(address.wrapping_add(1))])
-    }
-
-    /// The opcode at pc, where both its bytes lie in game memory.
-    pub fn opcode(&self, pc: u16) -> Option<u16> {
+    /// The opcode at a dispatch point, where both its bytes lie in game memory.
+    pub fn opcode(&self) -> Option<u16> {
+        let pc = self.board.cpu().r(5);
         if pc < GAME || pc >= self.places.game_end.saturating_sub(1) {
             return None;
         }
-        Some(self.word(pc))
-    }
-
-    // The addresses that lie above R2, the oldest first.
-    fn stack(&self, r2: u16) -> ArrayVec<u16, 12> {
-        let top = self.places.stack_top;
-        let depth = (top.saturating_sub(r2) / 2).min(12);
-        let mut addresses = ArrayVec::new();
-        for k in 0..depth {
-            let _ = addresses.try_push(self.word(top.wrapping_sub(2 * k + 1)));
-        }
-        addresses
+        let memory = self.board.memory();
+        Some(u16::from_be_bytes([memory.read(pc), memory.read(pc.wrapping_add(1))]))
     }
 }

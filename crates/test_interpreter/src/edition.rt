@@ -6,12 +6,6 @@ use chip8_lang::Edition;
 /// The first address of game memory.
 pub const GAME: u16 = 0x0200;
 
-/// Where the number of a stop stands.
-pub const STOP_CELL: u16 = 0x01F0;
-
-/// Where the random byte stands.
-pub const RANDOM_CELL: u16 = 0x01F1;
-
 /// The bytes of the greater screen.
 pub const MOST_SCREEN: usize = 512;
 
@@ -23,10 +17,6 @@ pub struct Places {
     pub halt: u16,
     /// The first address behind game memory.
     pub game_end: u16,
-    /// R2 while the stack is empty.
-    pub stack_top: u16,
-    /// V0.
-    pub variables: u16,
     /// The page of the screen's first byte; the screen ends at 0FFF.
     pub screen_page: u8,
     /// The rows of the screen.
@@ -41,8 +31,6 @@ impl Places {
                 fetch: FETCH,
                 halt: HALT,
                 game_end: 0x0EA0,
-                stack_top: 0x0ECF,
-                variables: 0x0EF0,
                 screen_page: 0x0F,
                 rows: 32,
             },
@@ -50,8 +38,6 @@ impl Places {
                 fetch: TALL_FETCH,
                 halt: TALL_HALT,
                 game_end: 0x0DA0,
-                stack_top: 0x0DCF,
-                variables: 0x0DF0,
                 screen_page: 0x0E,
                 rows: 64,
             },

@@ -2,32 +2,26 @@
 //!
 //! The source's form is looked at: which of its lines are data. Some thousand frames of random games and each instruction of
 //! `data/costs.txt` are measured: the most machine cycles of each kind of step, which `docs/MACHINE.md` sets beside the bounds, the place
-//! and the length of each interrupt, and each picture against the screen of the last dispatch point before it. Then the games of
-//! `data/rows.txt` are run, and what doesn't lead to what the rules of the language say is written. The stored output is what all of this
-//! must give.
+//! and the length of each interrupt, and each picture against the screen of the last dispatch point before it. The stored output is what
+//! all of this must give.
 //!
-//! It stands on the board, the assembler and the ROM, and on nothing of the program that shows runs. It is a test of the ROM, which no
-//! proof judges yet: nothing here is proved but that it is safe.
+//! It stands on the board, the assembler and the ROM, and on nothing of the program that shows runs. That the ROM is CHIP-8 within the
+//! bounds is proved in `rom_run`; what is measured here says how far below them it stays. Nothing here is proved but that it is safe.
 #![tactic(auto)]
 
 mod console;
 mod costs;
 mod demo;
 mod edition;
-mod phases;
-mod record;
 mod report;
-mod row;
+mod runs;
 mod source;
-mod table;
 mod watch;
 
 use crate::edition::{EDITIONS, name};
-use crate::phases::{run_demos, run_instructions};
 use crate::report::{write_costs, write_form, write_frames};
-use crate::row::RowFault;
+use crate::runs::{RunFault, run_demos, run_instructions};
 use crate::source::Source;
-use crate::table::run_rows;
 use crate::watch::{KeyTests, Watch};
 use chip8_lang::Edition;
 use chip8_source::{source, tall_source};
@@ -60,7 +54,7 @@ fn measure(
     key_tests: KeyTests,
 ) -> anyhow::Result<()> {
     let Ok(keys) = read_script(rt.alloc(), MEASURED_KEYS) else {
-        return Err(RowFault::NotARow.into());
+        return Err(RunFault::NotAScript.into());
     };
     let mut watch = Watch::new(key_tests);
     run_demos(rt.alloc(), edition, &mut watch)?;
@@ -73,12 +67,10 @@ fn measure(
 }
 
 fn main(rt: HostRuntime) -> anyhow::Result<()> {
-    let rows = fs::read_to_string(&rt, "rows.txt")?;
     let costs = fs::read_to_string(&rt, "costs.txt")?;
-    let mut tests = KeyTests { first: 0, last: 0 };
     for edition in EDITIONS {
-        tests = look_at_source(&rt, edition)?;
-        measure(&rt, edition, &costs, tests)?;
+        let key_tests = look_at_source(&rt, edition)?;
+        measure(&rt, edition, &costs, key_tests)?;
     }
-    run_rows(&rt, &rows, &mut Watch::new(tests))
+    Ok(())
 }

@@ -3,7 +3,6 @@
 use crate::console::{Console, Next};
 use crate::costs::{Costs, Interval, Kind, kind_of};
 use crate::edition::MOST_SCREEN;
-use chip8_lang::StateView;
 use vip_board::{Move, Moved};
 use vip_video::Picture;
 
@@ -14,15 +13,6 @@ const INTERRUPT: u64 = 1_092;
 
 /// The lines of a picture.
 const LINES: usize = 128;
-
-/// How a run ended.
-#[derive(Clone, Copy, PartialEq, Eq)]
-pub enum Ended {
-    /// At a stop point, with the number of the stop.
-    Stopped(u8),
-    /// At its limit.
-    Limit,
-}
 
 /// The addresses of FX0A's first test of a key and of its last one.
 #[derive(Clone, Copy)]
@@ -45,10 +35,8 @@ pub struct Watch {
     /// Finished pictures, and those of them that aren't the screen of the last dispatch point.
     pub pictures: u64,
     pub wrong_pictures: u64,
-    /// The dispatch points of the present run, and the last of them with its screen.
-    pub records: u64,
-    pub last: Option<StateView>,
-    pub screen: [u8; MOST_SCREEN],
+    // The screen at the last dispatch point of the present run.
+    screen: [u8; MOST_SCREEN],
     interval: Interval,
     in_routine_since: Option<u64>,
     pictures_before: u64,
@@ -65,8 +53,6 @@ impl Watch {
             frames: 0,
             pictures: 0,
             wrong_pictures: 0,
-            records: 0,
-            last: None,
             screen: [0; MOST_SCREEN],
             interval: Interval::new(Kind::Boot, 0),
             in_routine_since: None,
@@ -76,21 +62,18 @@ impl Watch {
     }
 
     /// Runs a board that was just reset up to its stop point or to a limit.
-    pub fn run(&mut self, console: &mut Console, limit: u64) -> Ended {
-        self.records = 0;
-        self.last = None;
+    pub fn run(&mut self, console: &mut Console, limit: u64) {
         self.screen = [0; MOST_SCREEN];
         self.interval = Interval::new(Kind::Boot, console.now());
         self.in_routine_since = None;
         self.pictures_before = 0;
-        let ended = self.run_on(console, limit);
+        self.run_on(console, limit);
         self.frames = self.frames.saturating_add(
             (console.now().saturating_add(FRAME - INTERRUPT - 1)) / FRAME,
         );
-        ended
     }
 
-    fn run_on(&mut self, console: &mut Console, limit: u64) -> Ended {
+    fn run_on(&mut self, console: &mut Console, limit: u64) {
         for _ in 0..=limit {
             let next = console.next();
             match next {
@@ -101,10 +84,9 @@ impl Watch {
             let before = console.now();
             match console.step(limit) {
                 Moved::Done(made) => self.moved(console, next, made, before),
-                Moved::End => return Ended::Limit,
+                Moved::End => return,
             }
         }
-        Ended::Limit
     }
 
     fn dispatch(&mut self, console: &Console) {
@@ -112,20 +94,16 @@ impl Watch {
         self.end_routine(now);
         let all = now.saturating_sub(self.interval.since);
         self.costs.add_step(all, &self.interval);
-        let view = console.view();
-        self.interval = Interval::new(kind_of(view.opcode), now);
+        self.interval = Interval::new(kind_of(console.opcode()), now);
         self.dispatches = self.dispatches.saturating_add(1);
-        self.records = self.records.saturating_add(1);
-        self.last = Some(view);
         self.screen = console.screen();
     }
 
-    fn stop(&mut self, console: &Console) -> Ended {
+    fn stop(&mut self, console: &Console) {
         let now = console.now();
         self.end_routine(now);
         let all = now.saturating_sub(self.interval.since);
         self.costs.add_stop(all, &self.interval);
-        Ended::Stopped(console.stop_number())
     }
 
     // Main code goes on at a cycle.

@@ -2,9 +2,6 @@
 //! output and standard error, and ends with the status that the call answers.
 #![tactic(auto)]
 
-#[cfg(test)]
-mod tests;
-
 ghost use Rattle.std.specs.Prelude.{◌≡◌, ◌⊎◌, IfOk, IfErr, drop};
 ghost use Rattle.std.specs.Vec.Iter.{into_iter_items};
 ghost use Rattle.vip_report.specs.declared.refusal.Refusal.TheVariants as Refusal;

@@ -3,10 +3,12 @@
 use crate::console::Console;
 use crate::demo::demo;
 use crate::edition::{GAME, Places};
-use crate::row::{RowFault, push_opcodes};
 use crate::watch::Watch;
 use chip8_lang::Edition;
-use std::alloc::Global;
+use hex::{FromHex, FromHexError};
+use std::alloc::{AllocError, Global};
+use std::str::SplitWhitespace;
+use thiserror::Error;
 use vip_keypad::Script;
 
 /// The cycles of a run that measures an instruction.
@@ -27,8 +29,31 @@ const EARLY_LOADS: usize = 9;
 /// How many additions, each four cycles longer than a load, take as much longer as two loads.
 const MOST_ADDS: usize = 44;
 
+/// Why something could not be measured.
+#[derive(Clone, Copy, Debug, PartialEq, Eq, Error)]
+pub enum RunFault {
+    #[error("not an instruction")]
+    NotAnInstruction,
+    #[error("not a key script")]
+    NotAScript,
+    #[error("no memory")]
+    NoMemory,
+}
+
+impl From<AllocError> for RunFault {
+    fn from(_: AllocError) -> RunFault {
+        RunFault::NoMemory
+    }
+}
+
+impl From<FromHexError> for RunFault {
+    fn from(_: FromHexError) -> RunFault {
+        RunFault::NotAnInstruction
+    }
+}
+
 /// Runs random games, each from reset on, until they have enough dispatch points.
-pub fn run_demos(alloc: Global, edition: Edition, watch: &mut Watch) -> Result<(), RowFault> {
+pub fn run_demos(alloc: Global, edition: Edition, watch: &mut Watch) -> Result<(), RunFault> {
     let keys = Script::empty(alloc);
     let places = Places::of(edition);
     let opcodes = usize::from(places.game_end.saturating_sub(GAME) / 2);
@@ -52,7 +77,7 @@ pub fn run_instructions(
     text: &str,
     keys: &Script,
     watch: &mut Watch,
-) -> Result<(), RowFault> {
+) -> Result<(), RunFault> {
     for line in text.lines() {
         if line.starts_with('#') {
             continue;
@@ -80,9 +105,9 @@ fn measured_game(
     line: &str,
     loads: usize,
     adds: usize,
-) -> Result<Vec<u8>, RowFault> {
+) -> Result<Vec<u8>, RunFault> {
     let Some((before, opcode)) = line.split_once('|') else {
-        return Err(RowFault::NotARow);
+        return Err(RunFault::NotAnInstruction);
     };
     let mut game = Vec::new(alloc);
     push_opcodes(&mut game, before.split_whitespace())?;
@@ -94,4 +119,12 @@ fn measured_game(
     }
     push_opcodes(&mut game, opcode.split_whitespace())?;
     Ok(game)
+}
+
+/// Puts the bytes of opcodes in hexadecimal behind others.
+fn push_opcodes(game: &mut Vec<u8>, words: SplitWhitespace<'_>) -> Result<(), RunFault> {
+    for word in words {
+        game.extend_from_slice(&<[u8; 2]>::from_hex(word)?)?;
+    }
+    Ok(())
 }

@@ -1,0 +1,44 @@
+//! What a run of the program came to.
+
+use vip_byte::Lines;
+use vip_outside::MemSink;
+
+/// The status, the output and the report of a run.
+#[derive(Drop)]
+pub struct Answer {
+    pub status: u8,
+    pub out: MemSink,
+    pub err: MemSink,
+    /// The rows of the edition's screen.
+    pub height: usize,
+}
+
+impl Answer {
+    /// The lines of the output.
+    pub fn lines(&self) -> Lines<'_> {
+        Lines::new(self.out.bytes())
+    }
+
+    /// How many records the output has.
+    pub fn records(&self) -> u64 {
+        self.lines().filter(|line| is_record(line)).count() as u64
+    }
+
+    /// The last record of the output.
+    pub fn last_record(&self) -> Option<&[u8]> {
+        self.lines().filter(|line| is_record(line)).last()
+    }
+
+    /// Whether a screen stands behind the records.
+    pub fn has_screen(&self) -> bool {
+        match self.lines().last() {
+            Some(line) => !is_record(line),
+            None => false,
+        }
+    }
+}
+
+// The other lines of a trace are those of a screen.
+fn is_record(line: &[u8]) -> bool {
+    !line.starts_with(b"#") && !line.starts_with(b".")
+}
