@@ -29,16 +29,13 @@ impl Answer {
         self.lines().filter(|line| is_record(line)).last()
     }
 
-    /// Whether a screen stands behind the records.
-    pub fn has_screen(&self) -> bool {
-        match self.lines().last() {
-            Some(line) => !is_record(line),
-            None => false,
-        }
+    /// The number of rows of the screen behind the records.
+    pub fn rows(&self) -> usize {
+        self.lines().filter(|line| !is_record(line)).count()
     }
 }
 
-// The other lines of a trace are those of a screen.
-fn is_record(line: &[u8]) -> bool {
+/// Whether a line is none of a screen's.
+pub fn is_record(line: &[u8]) -> bool {
     !line.starts_with(b"#") && !line.starts_with(b".")
 }

@@ -74,7 +74,10 @@ impl Case {
             "row" => self.set_row(rest)?,
             _ => self.add_fact(alloc, word, rest)?,
         }
-        Ok(())
+        match self.facts.last_mut() {
+            Some(fact) if self.open == Open::Fact => Ok(fact.note(word, rest)?),
+            _ => Ok(()),
+        }
     }
 
     fn add_file(&mut self, alloc: Global, rest: &str) -> Result<(), CaseFault> {
@@ -94,8 +97,10 @@ impl Case {
             return Ok(());
         }
         let due = Due::read(alloc, word, rest)?;
-        let text = format!(in alloc; "{word} {rest}")?;
-        self.facts.push(Fact { text, due })?;
+        self.facts.push(Fact {
+            text: String::new(alloc),
+            due,
+        })?;
         self.open = Open::Fact;
         Ok(())
     }
@@ -153,8 +158,11 @@ impl Case {
         Ok(files)
     }
 
-    /// Runs the program on the words, with `--tall` behind them where that is asked for.
+    /// Runs the program on the words, with `--tall` behind them where that is asked for. A case to which nothing is due is none.
     pub fn run(&self, alloc: Global, tall: bool) -> Result<Answer, CaseFault> {
+        if self.facts.is_empty() {
+            return Err(CaseFault::NotACase);
+        }
         let mut words = Vec::new(alloc);
         for word in self.words.iter() {
             words.push(word.clone()?)?;
@@ -181,7 +189,6 @@ impl Case {
         for fact in self.facts.iter() {
             if !fact.due.is_met(alloc, came)? {
                 missed.push_str(&fact.text)?;
-                missed.push('\n')?;
             }
         }
         Ok(missed)

@@ -6,12 +6,23 @@ use crate::pattern::{Range, fits, number};
 use crate::screen::Screen;
 use std::alloc::{AllocError, Global};
 
-/// One line of what is due, and the lines behind it.
+/// Something that is due.
 #[derive(Drop)]
 pub struct Fact {
-    /// The line as it stands.
+    /// The lines that say it.
     pub text: String,
     pub due: Due,
+}
+
+impl Fact {
+    /// Adds a line to the text: its word, and the rest of it.
+    pub fn note(&mut self, word: &str, rest: &str) -> Result<(), AllocError> {
+        self.text.push_str(word)?;
+        self.text.push(' ')?;
+        self.text.push_str(rest)?;
+        self.text.push('\n')?;
+        Ok(())
+    }
 }
 
 /// What is due.
@@ -132,7 +143,7 @@ fn shows(alloc: Global, runs: &[(u64, Screen)], came: &Answer) -> Result<bool, A
 
 // Each record is one put, and the screen behind them is one.
 fn puts_records(came: &Answer) -> bool {
-    let screens = u64::from(came.has_screen());
+    let screens = u64::from(came.rows() > 0);
     u64::from(came.out.calls()) == came.records().saturating_add(screens)
 }
 

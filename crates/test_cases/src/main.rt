@@ -17,7 +17,7 @@ mod fault;
 mod pattern;
 mod screen;
 
-use crate::answer::Answer;
+use crate::answer::{Answer, is_record};
 use crate::case::Case;
 use crate::fault::CaseFault;
 use std::fs;
@@ -70,11 +70,17 @@ fn write_missed(rt: &HostRuntime, missed: &str, answer: &Answer) -> anyhow::Resu
         answer.err.calls(),
         answer.records()
     )?;
-    for line in answer.lines().take(SHOWN) {
+    for line in answer.lines().filter(|line| is_record(line)).take(SHOWN) {
         println!(rt; "  came: {}", line.escape_ascii())?;
     }
     if let Some(record) = answer.last_record() {
         println!(rt; "  came: last {}", record.escape_ascii())?;
+    }
+    let rows = answer.lines().filter(|line| !is_record(line));
+    for (y, row) in rows.enumerate() {
+        if row.contains(&b'#') {
+            println!(rt; "  came: row {y} {}", row.escape_ascii())?;
+        }
     }
     Ok(())
 }
