@@ -133,6 +133,3 @@ pub fn line(bytes: &[u8]) -> Result<Line, LexFault>
         Err(fault) => Err(fault),
     }
 }
-
-#[cfg(test)]
-mod tests;
