@@ -22,6 +22,3 @@ pub use crate::fault::{AsmCause, AsmFault};
 pub use crate::names::SymbolIter;
 pub use crate::passes::{MOST_BYTES, assemble};
 pub use crate::source::next_line;
-
-#[cfg(test)]
-mod tests;
