@@ -14,6 +14,3 @@ mod write;
 pub use crate::hex_dump::dump;
 pub use crate::instruction::{disassemble, one_line};
 pub use crate::source_listing::listing;
-
-#[cfg(test)]
-mod tests;
