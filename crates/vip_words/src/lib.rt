@@ -36,6 +36,3 @@ pub use request::{
     DebugRequest, DemoRequest, DisRequest, Request, RunRequest, SourceRequest, TraceRequest,
     read_words,
 };
-
-#[cfg(test)]
-mod tests;
