@@ -11,8 +11,6 @@
 mod places;
 mod point;
 mod start;
-#[cfg(test)]
-mod tests;
 mod view;
 mod vip;
 
