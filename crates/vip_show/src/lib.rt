@@ -10,8 +10,6 @@
 mod pieces;
 mod run;
 mod summary;
-#[cfg(test)]
-mod tests;
 
 pub use pieces::{show_pictures, show_trace};
 pub use run::RunEnd;
