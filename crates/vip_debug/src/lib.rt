@@ -16,8 +16,6 @@ mod going;
 mod line;
 mod run;
 mod show;
-#[cfg(test)]
-mod tests;
 mod write;
 
 pub use command::{Command, CommandCause, CommandFault, Commands, Running, Showing, read_commands};
