@@ -10,8 +10,6 @@ mod picture;
 mod screen;
 mod stop;
 mod summary;
-#[cfg(test)]
-mod tests;
 mod trace;
 mod write;
 
