@@ -88,33 +88,3 @@ fn put_bound(into: &mut Buffer, bound: Option<u32>)
         None => put(into, b"key"),
     }
 }
-
-#[cfg(test)]
-mod tests {
-    use super::*;
-    use std::test::Fail;
-
-    #[test]
-    fn the_table_is_printed(rt: HostRuntime) -> Result<(), Fail> {
-        let mut text = Buffer::new();
-        bounds_text(&mut text);
-        let table: &[u8] =
-            b"boot 1000\n00E0 7600\nDXYN 14672\nFX0A key\nFX33 2600\nFX55 2600\nFX65 2600\nother 2200\nstop 2200\n";
-        assert!(rt; text.as_slice() == table);
-        Ok(())
-    }
-
-    #[test]
-    fn only_a_wait_for_a_key_has_no_bound(rt: HostRuntime) -> Result<(), Fail> {
-        assert_eq!(rt; bound(&Instr::WaitKey(3)), None);
-        for (instr, cycles) in [
-            (Instr::Clear, CLEAR),
-            (Instr::Draw(1, 2, 15), DRAW),
-            (Instr::Store(15), BYTES),
-            (Instr::Unknown(0xFFFF), OTHER),
-        ] {
-            assert_eq!(rt; bound(&instr), Some(cycles));
-        }
-        Ok(())
-    }
-}
