@@ -160,26 +160,3 @@ pub fn is_blank(byte: u8) -> bool
 {
     matches!(byte, b' ' | b'\t')
 }
-
-#[cfg(test)]
-mod tests {
-    use super::*;
-
-    #[test]
-    fn gives_lines_in_order(rt: HostRuntime) {
-        let mut lines = Lines::new(b"a \r\n\nb\rc\r");
-        for want in [b"a ".as_slice(), b"", b"b\rc\r"] {
-            assert!(rt; lines.next() == Some(want));
-        }
-        assert!(rt; lines.next().is_none());
-    }
-
-    #[test]
-    fn gives_words_in_order(rt: HostRuntime) {
-        let mut words = Words::new(b" \tab  c\r\t");
-        for want in [b"ab".as_slice(), b"c\r"] {
-            assert!(rt; words.next() == Some(want));
-        }
-        assert!(rt; words.next().is_none());
-    }
-}

@@ -43,20 +43,3 @@ pub fn hex4(value: u16) -> [u8; 4]
     let [third, fourth] = hex2(low_byte);
     [first, second, third, fourth]
 }
-
-#[cfg(test)]
-mod tests {
-    use super::*;
-
-    #[test]
-    fn writes_upper_case_digits(rt: HostRuntime) {
-        assert_eq!(rt; hex2(0x0A), *b"0A");
-        assert_eq!(rt; hex4(0xB07F), *b"B07F");
-    }
-
-    #[test]
-    fn takes_halves_and_sums(rt: HostRuntime) {
-        assert_eq!(rt; (high(0xA5), low(0xA5)), (0x0A, 0x05));
-        assert_eq!(rt; add16(0xFFFF, 2), 1);
-    }
-}
