@@ -54,25 +54,3 @@ pub trait Files {
     fn read(&mut self, alloc: Global, name: &str, most: usize) -> Result<Loaded, ReadFail>
         ensures answer { ReadAnswers name.now most (meaning self.old) (meaning self.new) result };
 }
-
-#[cfg(test)]
-mod tests {
-    use super::*;
-    use crate::sink::Failed;
-    use std::test::Fail;
-
-    #[test]
-    fn texts_are_the_names(rt: HostRuntime) -> Result<(), Fail> {
-        let alloc = rt.alloc();
-        let rows = [
-            (ReadFail::Absent, "Absent"),
-            (ReadFail::Failed, "Failed"),
-            (ReadFail::NoMemory, "NoMemory"),
-        ];
-        for (fail, text) in rows {
-            assert_eq!(rt; format!(in alloc; "{fail}")?.as_str(), text);
-        }
-        assert_eq!(rt; format!(in alloc; "{Failed}")?.as_str(), "Failed");
-        Ok(())
-    }
-}

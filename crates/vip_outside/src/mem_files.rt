@@ -127,37 +127,3 @@ impl Files for MemFiles {
         Ok(start_of(alloc, file, most)?)
     }
 }
-
-#[cfg(test)]
-mod tests {
-    use super::*;
-    use std::test::Fail;
-
-    #[test]
-    fn reads_and_fails_as_told(rt: HostRuntime) -> Result<(), Fail> {
-        let alloc = rt.alloc();
-        let mut files = MemFiles::new(alloc)?;
-        files.add("game", b"old")?;
-        files.add("empty", b"")?;
-        files.add("game", b"abcd")?;
-        files.fail_at(&[1, 6]);
-        let rows = [
-            ("game", 3, "Ok(Loaded { bytes: [97, 98, 99], more: true })"),
-            ("game", 3, "Err(Failed)"),
-            ("gam", 3, "Err(Absent)"),
-            ("empty", 9, "Ok(Loaded { bytes: [], more: false })"),
-            (
-                "game",
-                4,
-                "Ok(Loaded { bytes: [97, 98, 99, 100], more: false })",
-            ),
-            ("game", 0, "Ok(Loaded { bytes: [], more: true })"),
-            ("absent", 1, "Err(Failed)"),
-        ];
-        for (name, most, text) in rows {
-            let answer = files.read(alloc, name, most);
-            assert_eq!(rt; format!(in alloc; "{answer:?}")?.as_str(), text);
-        }
-        Ok(())
-    }
-}
