@@ -7,7 +7,7 @@ use Rattle.std.specs.List.{list_any}
 use Rattle.std.proofs.lemmas.Bool.{cond-true, cond-false, or_parts, eqb-true, eqb-false, ltb-false, le-ltb, eq-eqb, ne_eqb}
 use Rattle.machine.specs.declared.Kind.{Kind}
 use Rattle.machine.specs.declared.Kind.TheVariants.{Idl, Ldn, Inc, Dec, Lda, Str, Out, Inp, Undefined, Glo, Ghi, Plo, Phi, Sep, Sex}
-use Rattle.machine.specs.Opcodes.{kind_of, number_of}
+use Rattle.machine.specs.Opcodes.{kind_of, opcode_number}
 use Rattle.vip_isa.specs.Rows.{greatest_of, size_of}
 use Rattle.vip_isa.proofs.Opcodes.{decoded_is_valid}
 use Rattle.vip_byte.specs.HexText.{hex2, hex4}
@@ -62,7 +62,7 @@ module _ (at : ℕ) (bytes : List ℕ) (bytes_low : AreBytes bytes) (size : ℕ)
   ] refl
 
 module _ (at : ℕ) (bytes : List ℕ) (bytes_low : AreBytes bytes) (fits : (size_at (opcode_in bytes) ≡ 1 → ⊥) → at + 1 < 65536) where
-  kind_ranged : (kind : Kind) → number_of (opcode_in bytes) ≤ greatest_of kind → IsInRange (operand_by kind at bytes)
+  kind_ranged : (kind : Kind) → opcode_number (opcode_in bytes) ≤ greatest_of kind → IsInRange (operand_by kind at bytes)
   kind_ranged Ldn most = omega arith
   kind_ranged Inc most = omega arith
   kind_ranged Dec most = omega arith

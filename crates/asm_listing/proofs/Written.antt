@@ -7,7 +7,7 @@ use Rattle.std.proofs.lemmas.Bool.{cond-true, and_parts, and_from, le-leb, ltb-t
 use Rattle.std.proofs.lemmas.List.{append-nil}
 use Rattle.machine.specs.declared.Kind.{Kind}
 use Rattle.machine.specs.declared.Kind.TheVariants.{Idl, Ldn, Inc, Dec, Br, Lda, Str, Out, Inp, Undefined, Glo, Ghi, Plo, Phi, Sep, Sex}
-use Rattle.machine.specs.Opcodes.{kind_of, number_of}
+use Rattle.machine.specs.Opcodes.{kind_of, opcode_number}
 use Rattle.vip_isa.specs.Rows.{first_of, least_of, greatest_of, opcode_of, decoded, size_of, mnemonic_of}
 use Rattle.vip_isa.proofs.Below.{at-passes_below}
 use Rattle.vip_isa.proofs.Opcodes.{opcode_of-decoded, decoded_is_valid}
@@ -118,7 +118,7 @@ is_written at bytes = by_expression (λ o. IsInRange o → is_one_expression (op
 
 module _ (at : ℕ) (bytes : List ℕ) where
   abbrev n : ℕ
-  n = number_of (opcode_in bytes)
+  n = opcode_number (opcode_in bytes)
 
   by_size : (kind : Kind) (size : ℕ) → size ≡ size_of kind → n ≡ 0 → IsInRange (operand_of_size size at bytes) → number_written (operands_by_size kind) (operand_list (operand_of_size size at bytes)) ≡ Some n
   by_size kind size same none low =
@@ -178,7 +178,7 @@ undefined_opcode : (opcode : ℕ) (kind : Kind) → opcode < 256 → kind_of opc
 undefined_opcode opcode kind low is undefined =
     let kind_is : kind_of opcode ≡ Undefined = is ∙ undefined in
     let whole : opcode_of (decoded opcode) ≡ opcode = opcode_of-decoded opcode low in
-    let none : number_of opcode ≤ greatest_of (kind_of opcode) = (decoded_is_valid opcode low).to_greatest in
+    let none : opcode_number opcode ≤ greatest_of (kind_of opcode) = (decoded_is_valid opcode low).to_greatest in
     let first : first_of (kind_of opcode) ≡ 104 = ap first_of kind_is in
     let last : greatest_of (kind_of opcode) ≡ 0 = ap greatest_of kind_is in
     omega (arith, whole, none, first, last)

@@ -2,7 +2,7 @@
 use Rattle.std.specs.Prelude.{◌+◌, ◌-◌, ◌*◌, ◌/◌, ◌==◌, ◌||◌, ℕ, zero, suc, Bool, List, [], ◌∷◌, ◌++◌, length, flat_map, codes, slice_index, nat_lt, if◌then◌else◌}
 use Rattle.machine.specs.declared.Kind.{Kind}
 use Rattle.machine.specs.declared.Kind.TheVariants.{Ldn, Inc, Dec, Lda, Str, Out, Inp, Glo, Ghi, Plo, Phi, Sep, Sex}
-use Rattle.machine.specs.Opcodes.{kind_of, number_of}
+use Rattle.machine.specs.Opcodes.{kind_of, opcode_number}
 use Rattle.vip_byte.specs.HexText.{hex_digit, hex2, hex4}
 use Rattle.asm_lex.specs.Words.{mnemonic_at, size_at}
 use Rattle.asm_listing.specs.declared.instruction.Operand.{Operand}
@@ -33,19 +33,19 @@ abbrev pub operand_of_size : ℕ → ℕ → List ℕ → Operand
 operand_of_size size at bytes = if size == 1 then Nothing else expression_at at bytes
 
 abbrev pub operand_by : Kind → ℕ → List ℕ → Operand
-operand_by Ldn at bytes = Register (number_of (opcode_in bytes))
-operand_by Inc at bytes = Register (number_of (opcode_in bytes))
-operand_by Dec at bytes = Register (number_of (opcode_in bytes))
-operand_by Lda at bytes = Register (number_of (opcode_in bytes))
-operand_by Str at bytes = Register (number_of (opcode_in bytes))
-operand_by Glo at bytes = Register (number_of (opcode_in bytes))
-operand_by Ghi at bytes = Register (number_of (opcode_in bytes))
-operand_by Plo at bytes = Register (number_of (opcode_in bytes))
-operand_by Phi at bytes = Register (number_of (opcode_in bytes))
-operand_by Sep at bytes = Register (number_of (opcode_in bytes))
-operand_by Sex at bytes = Register (number_of (opcode_in bytes))
-operand_by Out at bytes = Port (number_of (opcode_in bytes))
-operand_by Inp at bytes = Port (number_of (opcode_in bytes))
+operand_by Ldn at bytes = Register (opcode_number (opcode_in bytes))
+operand_by Inc at bytes = Register (opcode_number (opcode_in bytes))
+operand_by Dec at bytes = Register (opcode_number (opcode_in bytes))
+operand_by Lda at bytes = Register (opcode_number (opcode_in bytes))
+operand_by Str at bytes = Register (opcode_number (opcode_in bytes))
+operand_by Glo at bytes = Register (opcode_number (opcode_in bytes))
+operand_by Ghi at bytes = Register (opcode_number (opcode_in bytes))
+operand_by Plo at bytes = Register (opcode_number (opcode_in bytes))
+operand_by Phi at bytes = Register (opcode_number (opcode_in bytes))
+operand_by Sep at bytes = Register (opcode_number (opcode_in bytes))
+operand_by Sex at bytes = Register (opcode_number (opcode_in bytes))
+operand_by Out at bytes = Port (opcode_number (opcode_in bytes))
+operand_by Inp at bytes = Port (opcode_number (opcode_in bytes))
 operand_by kind at bytes = operand_of_size (size_at (opcode_in bytes)) at bytes
 
 unfoldable pub operand_at : ℕ → List ℕ → Operand

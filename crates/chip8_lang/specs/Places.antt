@@ -7,7 +7,7 @@ use Rattle.chip8_lang.specs.declared.view.Stop.{Stop}
 use Rattle.chip8_lang.specs.Editions.{memory_start, memory_end, stack_top, variables, screen_start, rows_of, stop_cell, random_cell}
 use Rattle.chip8_lang.specs.Screen.{Pixels, is_set}
 use Rattle.chip8_lang.specs.State.{Lang}
-use Rattle.chip8_lang.specs.Step.{number_of}
+use Rattle.chip8_lang.specs.Step.{stop_number}
 
 -- an interpreter: its ROM of 2,048 bytes from 8000 on, and the addresses of the fetch loop, of the stop and of the interrupt routine
 pub record Interpreter : Type 0 where
@@ -74,4 +74,4 @@ pub record Halted (e : Edition) (i : Interpreter) (b : Machine) (s : Lang) (stop
   pub holds : Holds e i b s
   pub p : b.regs.p ≡ 3
   pub r3 : b.regs.r.r3 ≡ word_of i.halt
-  pub number : slice_index b.ram stop_cell ≡ number_of stop
+  pub number : slice_index b.ram stop_cell ≡ stop_number stop

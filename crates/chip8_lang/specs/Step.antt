@@ -36,14 +36,14 @@ abbrev pub stop_of : Edition → Lang → Option Stop
 stop_of e s = if is_fetchable e s then stop_of_instr e (instr_at s) s else Some FetchOutside
 
 -- the number of a stop
-abbrev pub number_of : Stop → ℕ
-number_of MachineCall = 1
-number_of UnknownOpcode = 2
-number_of FetchOutside = 3
-number_of ReadOutside = 4
-number_of WriteOutside = 5
-number_of StackFull = 6
-number_of StackEmpty = 7
+abbrev pub stop_number : Stop → ℕ
+stop_number MachineCall = 1
+stop_number UnknownOpcode = 2
+stop_number FetchOutside = 3
+stop_number ReadOutside = 4
+stop_number WriteOutside = 5
+stop_number StackFull = 6
+stop_number StackEmpty = 7
 
 -- ---- parts of a step
 

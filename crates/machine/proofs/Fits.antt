@@ -3,10 +3,10 @@ use Rattle.std.proofs.Common.{◌≡◌, ◌≢◌, ◌⊎◌, inl, inr, ◌+◌
 use Rattle.std.specs.Prelude.{◌==◌, Option, Some, None, if◌then◌else◌}
 use Rattle.std.proofs.lemmas.List.{length-replicate}
 use Rattle.machine.specs.Bank.{Word, Bank, zeros}
-use Rattle.machine.specs.Opcodes.{kind_of, number_of}
+use Rattle.machine.specs.Opcodes.{kind_of, opcode_number}
 use Rattle.machine.specs.Instruction.{Regs, Effect, Port, at, stepped, inputs, instruction, effect, interrupted, after_dma, regs_after_reset}
 use Rattle.machine.specs.Instruction.Port.{Send, Receive}
-use Rattle.machine.specs.Memory.{byte_at, place_of, read, written}
+use Rattle.machine.specs.Memory.{byte_at, mapped_address, read, written}
 use Rattle.machine.specs.Keys.{Keys}
 use Rattle.machine.specs.Signals.{efx_at}
 use Rattle.machine.specs.Board.{Machine, Case, case_of, acted, main_move, move, moved_in, byte_of, flags_of, ram_after, key_after, after_reset}
@@ -23,8 +23,8 @@ picked-fits false x y f g = g
 pub read-fits : (rom ram : List ℕ) (latch : Bool) (a : ℕ) → ((k : ℕ) → slice_index rom k < 256) → ((k : ℕ) → slice_index ram k < 256) → read rom latch ram a < 256
 unfolding read
 read-fits rom ram latch a f g =
-    picked-fits (nat_lt (place_of latch a) 0x1000) (slice_index ram (place_of latch a)) _ (g (place_of latch a))
-    (picked-fits (nat_le 0x8000 (place_of latch a) && nat_lt (place_of latch a) 0x8800) (slice_index rom (place_of latch a - 0x8000)) 0xff (f (place_of latch a - 0x8000)) (lit< tt))
+    picked-fits (nat_lt (mapped_address latch a) 0x1000) (slice_index ram (mapped_address latch a)) _ (g (mapped_address latch a))
+    (picked-fits (nat_le 0x8000 (mapped_address latch a) && nat_lt (mapped_address latch a) 0x8800) (slice_index rom (mapped_address latch a - 0x8000)) 0xff (f (mapped_address latch a - 0x8000)) (lit< tt))
 
 set-fits : (l : List ℕ) (i v : ℕ) → ((k : ℕ) → slice_index l k < 256) → v < 256 → (k : ℕ) → slice_index (slice_set l i v) k < 256
 set-fits [] i v f h k = f k
@@ -80,8 +80,8 @@ instruction-fits s m flags v f g h =
     let t = stepped s s.p in
     let i = inputs t m flags v in
     record {
-      regs = effect_fits (kind_of k) (number_of k) t i (number_fits k) (stepped-fits s s.p f) (inputs-fit t m flags v g h);
-      write = write_fits (kind_of k) (number_of k) t i (stepped-fits s s.p f) (inputs-fit t m flags v g h);
+      regs = effect_fits (kind_of k) (opcode_number k) t i (number_fits k) (stepped-fits s s.p f) (inputs-fit t m flags v g h);
+      write = write_fits (kind_of k) (opcode_number k) t i (stepped-fits s s.p f) (inputs-fit t m flags v g h);
     }
 
 -- ---- the machine

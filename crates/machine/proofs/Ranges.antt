@@ -5,7 +5,7 @@ use Rattle.std.proofs.lemmas.Nat.{and_le_l, or_of_8, xor_of_8}
 use Rattle.machine.specs.declared.Kind.{Kind}
 use Rattle.machine.specs.declared.Kind.TheVariants.{Idl, Ldn, Inc, Dec, Br, Bq, Bz, Bdf, B1, B2, B3, B4, Skp, Bnq, Bnz, Bnf, Bn1, Bn2, Bn3, Bn4, Lda, Str, Irx, Out, Undefined, Inp, Ret, Dis, Ldxa, Stxd, Adc, Sdb, Shrc, Smb, Sav, Mark, Req, Seq, Adci, Sdbi, Shlc, Smbi, Glo, Ghi, Plo, Phi, Lbr, Lbq, Lbz, Lbdf, Nop, Lsnq, Lsnz, Lsnf, Lskp, Lbnq, Lbnz, Lbnf, Lsie, Lsq, Lsz, Lsdf, Sep, Sex, Ldx, Or, And, Xor, Add, Sd, Shr, Sm, Ldi, Ori, Ani, Xri, Adi, Sdi, Shl, Smi}
 use Rattle.machine.specs.Bank.{Word, word, up, down, Bank, get, put}
-use Rattle.machine.specs.Opcodes.{kind_of, number_in, number_of}
+use Rattle.machine.specs.Opcodes.{kind_of, number_in, opcode_number}
 use Rattle.machine.specs.Instruction.{Regs, Inputs, effect, at, with_reg, stepped, stepped_back, loaded, df_d, returned, marked, branched, long_branched, skipped}
 use Rattle.machine.specs.Ranges.{FitsWord, FitsBank, FitsRegs, FitsInputs}
 
@@ -197,7 +197,7 @@ number_in_fits Sep byte = omega arith
 number_in_fits Sex byte = omega arith
 number_in_fits _ byte = lit< tt
 
-pub number_fits : (byte : ℕ) → number_of byte < 16
+pub number_fits : (byte : ℕ) → opcode_number byte < 16
 number_fits byte = number_in_fits (kind_of byte) byte
 
 abbrev pub ByteFits : Option (ℕ × ℕ) → Type 0

@@ -2,7 +2,7 @@
 -- port, and at most one write. What the data sheet leaves open, opcode 68 and the value of INP, is this project's profile.
 use Rattle.std.specs.Prelude.{ℕ, ◌+◌, ◌-◌, ◌*◌, ◌/◌, ◌%◌, ◌==◌, if◌then◌else◌, Bool, true, false, not, Option, Some, None, bit_and, bit_or, bit_xor}
 use Rattle.machine.specs.Bank.{Word, word, value, up, down, Bank, get, put, zeros}
-use Rattle.machine.specs.Opcodes.{kind_of, number_of}
+use Rattle.machine.specs.Opcodes.{kind_of, opcode_number}
 use Rattle.machine.specs.declared.Kind.{Kind}
 use Rattle.machine.specs.declared.Kind.TheVariants.{Idl, Ldn, Inc, Dec, Br, Bq, Bz, Bdf, B1, B2, B3, B4, Skp, Bnq, Bnz, Bnf, Bn1, Bn2, Bn3, Bn4, Lda, Str, Irx, Out, Undefined, Inp, Ret, Dis, Ldxa, Stxd, Adc, Sdb, Shrc, Smb, Sav, Mark, Req, Seq, Adci, Sdbi, Shlc, Smbi, Glo, Ghi, Plo, Phi, Lbr, Lbq, Lbz, Lbdf, Nop, Lsnq, Lsnz, Lsnf, Lskp, Lbnq, Lbnz, Lbnf, Lsie, Lsq, Lsz, Lsdf, Sep, Sex, Ldx, Or, And, Xor, Add, Sd, Shr, Sm, Ldi, Ori, Ani, Xri, Adi, Sdi, Shl, Smi}
 
@@ -180,7 +180,7 @@ effect Smi n s i = only (df_d (stepped s s.p) (s.d + 256 - i.next))
 
 -- the rest of an instruction after its fetch, by the opcode
 abbrev pub executed : ℕ → Regs → Inputs → Effect
-executed opcode s i = effect (kind_of opcode) (number_of opcode) s i
+executed opcode s i = effect (kind_of opcode) (opcode_number opcode) s i
 
 -- what is read after the fetch: by memory, the flags and the byte that a port gives
 abbrev pub inputs : Regs → (ℕ → ℕ) → (ℕ → Bool) → ℕ → Inputs

@@ -3,8 +3,8 @@
 use Rattle.std.specs.Prelude.{ℕ, ◌-◌, ◌&&◌, if◌then◌else◌, Bool, not, nat_lt, nat_le, List, slice_index, slice_set, bit_or}
 
 -- while the boot latch is set, address a reads as address a OR 8000
-abbrev pub place_of : Bool → ℕ → ℕ
-place_of latch address = if latch then bit_or address 0x8000 else address
+abbrev pub mapped_address : Bool → ℕ → ℕ
+mapped_address latch address = if latch then bit_or address 0x8000 else address
 
 -- RAM at 0000 to 0FFF, ROM at 8000 to 87FF, and FF elsewhere
 abbrev pub byte_at : List ℕ → List ℕ → ℕ → ℕ
@@ -15,7 +15,7 @@ byte_at rom ram place =
 
 -- the byte that an address reads; shut, since a proof about RAM goes by lemmas and not by cases on the address
 unfoldable pub read : List ℕ → Bool → List ℕ → ℕ → ℕ
-read rom latch ram address = byte_at rom ram (place_of latch address)
+read rom latch ram address = byte_at rom ram (mapped_address latch address)
 
 -- RAM after a write: outside RAM, and everywhere while the latch is set, a write does nothing
 unfoldable pub written : Bool → List ℕ → ℕ → ℕ → List ℕ

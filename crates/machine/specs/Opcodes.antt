@@ -47,8 +47,8 @@ number_in Sep byte = byte % 16
 number_in Sex byte = byte % 16
 number_in _ byte = 0
 
-abbrev pub number_of : ℕ → ℕ
-number_of byte = number_in (kind_of byte) byte
+abbrev pub opcode_number : ℕ → ℕ
+opcode_number byte = number_in (kind_of byte) byte
 
 -- opcodes C0 to CF take three machine cycles, one to fetch and two to execute; all others take two
 abbrev pub cycles_of : ℕ → ℕ

@@ -4,7 +4,7 @@ use Rattle.std.proofs.lemmas.Bool.{and_parts, cases_eq}
 use Rattle.machine.specs.declared.Kind.{Kind}
 use Rattle.machine.specs.declared.Kind.TheVariants.{Inc, Dec, Br, Bq, Bz, Bdf, B1, B2, B3, B4, Skp, Bnq, Bnz, Bnf, Bn1, Bn2, Bn3, Bn4, Lda, Irx, Out, Ret, Dis, Ldxa, Stxd, Mark, Adci, Sdbi, Smbi, Plo, Phi, Lbr, Lbq, Lbz, Lbdf, Lsnq, Lsnz, Lsnf, Lskp, Lbnq, Lbnz, Lbnf, Lsie, Lsq, Lsz, Lsdf, Ldi, Ori, Ani, Xri, Adi, Sdi, Smi}
 use Rattle.machine.specs.Bank.{Word, value, up, down, Bank, get, put}
-use Rattle.machine.specs.Opcodes.{kind_of, number_of}
+use Rattle.machine.specs.Opcodes.{kind_of, opcode_number}
 use Rattle.machine.specs.Instruction.{Regs, Inputs, effect, stepped}
 use Rattle.machine.specs.Board.{Machine}
 use Rattle.rom_moves.specs.Code.{Code}
@@ -105,11 +105,11 @@ module _ (x : Code) where
   plain : (b : Machine) → Passable x b → is_plain b.regs.p ≡ true
   plain b h = (and_parts _ _ (first_of _ _ h)).0
 
-  may : (b : Machine) → Passable x b → Passes x.low (kind_of (opcode_in x b)) (number_of (opcode_in x b)) (stepped b.regs b.regs.p)
+  may : (b : Machine) → Passable x b → Passes x.low (kind_of (opcode_in x b)) (opcode_number (opcode_in x b)) (stepped b.regs b.regs.p)
   may b h = second_of _ _ h
 
   near_quick : (b : Machine) → Fine x b → 0 < value b.regs.r.r2 → value b.regs.r.r2 < 65535 → Near 1 (value b.regs.r.r2) (value (quick x b).regs.r.r2)
-  near_quick b h some room = subst (λ w. Near 1 (value w) (value (quick x b).regs.r.r2)) r2 (near_of x.low (stepped b.regs b.regs.p) (rom_inputs x b (λ k. false)) (number_of (opcode_in x b)) (subst (λ w. 0 < value w) (sym r2) some) (subst (λ w. value w < 65535) (sym r2) room) (kind_of (opcode_in x b)) (may b (passed b h)))
+  near_quick b h some room = subst (λ w. Near 1 (value w) (value (quick x b).regs.r.r2)) r2 (near_of x.low (stepped b.regs b.regs.p) (rom_inputs x b (λ k. false)) (opcode_number (opcode_in x b)) (subst (λ w. 0 < value w) (sym r2) some) (subst (λ w. value w < 65535) (sym r2) room) (kind_of (opcode_in x b)) (may b (passed b h)))
     where
       r2 : (stepped b.regs b.regs.p).r.r2 ≡ b.regs.r.r2
       r2 = put-r2 b.regs.p b.regs.r (up (get b.regs.r b.regs.p)) (plain b (passed b h))

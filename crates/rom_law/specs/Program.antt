@@ -6,7 +6,7 @@ use Rattle.chip8_lang.specs.declared.view.Edition.{Edition}
 use Rattle.chip8_lang.specs.declared.view.Stop.{Stop}
 use Rattle.chip8_lang.specs.Editions.{memory_end, screen_start, stop_cell}
 use Rattle.chip8_lang.specs.State.{Lang}
-use Rattle.chip8_lang.specs.Step.{number_of, stop_of}
+use Rattle.chip8_lang.specs.Step.{stop_number, stop_of}
 use Rattle.chip8_lang.specs.Between.{ticks_between}
 use Rattle.chip8_lang.specs.Bounds.{bound_of}
 use Rattle.chip8_lang.specs.Places.{Interpreter, Lies}
@@ -47,7 +47,7 @@ pub record Halts (x : Program) (b : Machine) (s : Lang) (stop : Stop) : Type 0 w
   pub keeps : Keeps x b s
   pub p : b.regs.p ≡ 3
   pub r3 : b.regs.r.r3 ≡ word_of x.interpreter.halt
-  pub number : slice_index b.ram stop_cell ≡ number_of stop
+  pub number : slice_index b.ram stop_cell ≡ stop_number stop
 
 -- An interpreter of the whole language: boot turns the display on, and leaves the interrupt routine in R1 and the page of the screen in
 -- RB.1. `Dispatches` is then `Stands`, and `Halts` is `Halted`.

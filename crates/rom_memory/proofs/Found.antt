@@ -6,7 +6,7 @@ use Rattle.machine.specs.Board.{Machine}
 use Rattle.chip8_lang.specs.declared.view.Edition.{Edition}
 use Rattle.chip8_lang.specs.declared.view.Stop.{Stop}
 use Rattle.chip8_lang.specs.State.{Lang}
-use Rattle.chip8_lang.specs.Step.{stop_of, number_of}
+use Rattle.chip8_lang.specs.Step.{stop_of, stop_number}
 use Rattle.chip8_image.specs.Labels.{at_fetch, at_leave83}
 use Rattle.rom_moves.proofs.Moves.{Reaches}
 use Rattle.rom_law.specs.Program.{code}
@@ -26,7 +26,7 @@ resumed e c high d b = record b { regs = record b.regs { d = d; p = 3; r = recor
 
 -- the machine at this page's way to the stops
 abbrev pub refusing : Edition → Caller → ℕ → Stop → Machine → Machine
-refusing e c high stop b = record b { regs = record b.regs { d = number_of stop; p = 3; r = record b.regs.r { r3 = word_of at_leave83; r4 = word_of at_fetch; r6 = word (page_of e) (240 + high % 16) } } }
+refusing e c high stop b = record b { regs = record b.regs { d = stop_number stop; p = 3; r = record b.regs.r { r3 = word_of at_leave83; r4 = word_of at_fetch; r6 = word (page_of e) (240 + high % 16) } } }
 
 module _ {e : Edition} {b : Machine} {c : Caller} {answer : Answer} where
   pub is_resumed : {s : Lang} → Checked (quick e) c answer b s → b ≡ resumed e c (high_byte s) (answer_number answer) b

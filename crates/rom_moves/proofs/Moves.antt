@@ -6,7 +6,7 @@ use Rattle.std.proofs.lemmas.List.{set_past, get_or_past}
 use Rattle.machine.specs.Bank.{Word, value, up, get, put}
 use Rattle.machine.specs.declared.Kind.{Kind}
 use Rattle.machine.specs.declared.Kind.TheVariants.{Out, Inp, B1, B2, B3, B4, Bn1, Bn2, Bn3, Bn4}
-use Rattle.machine.specs.Opcodes.{kind_of, number_of, cycles_of}
+use Rattle.machine.specs.Opcodes.{kind_of, opcode_number, cycles_of}
 use Rattle.machine.specs.Instruction.{Regs, Inputs, Effect, Port, effect, executed, stepped}
 use Rattle.machine.specs.Instruction.Port.{Send, Receive}
 use Rattle.machine.specs.Memory.{read, written}
@@ -187,12 +187,12 @@ module _ (x : Code) where
   -- ticks may pass the next instruction
   abbrev pub Passable : Machine → Type 0
   Passable b =
-      when (is_plain b.regs.p && in_rom (get b.regs.r b.regs.p)) (Passes x.low (kind_of (opcode_in b)) (number_of (opcode_in b)) (stepped b.regs b.regs.p))
+      when (is_plain b.regs.p && in_rom (get b.regs.r b.regs.p)) (Passes x.low (kind_of (opcode_in b)) (opcode_number (opcode_in b)) (stepped b.regs b.regs.p))
 
   -- and it belongs to a straight piece of code, in which each instruction takes two machine cycles
   abbrev pub Fine : Machine → Type 0
   Fine b =
-      when (is_straight (kind_of (opcode_in b)) (number_of (opcode_in b)) && cycles_of (opcode_in b) == 2) (Passable b)
+      when (is_straight (kind_of (opcode_in b)) (opcode_number (opcode_in b)) && cycles_of (opcode_in b) == 2) (Passable b)
 
   -- no dispatch and no stop
   abbrev pub Calm : Machine → Type 0
@@ -260,7 +260,7 @@ module _ (x : Code) where
   pub opcode_is : (b : Machine) → in_rom (get b.regs.r b.regs.p) ≡ true → opcode_in x b ≡ opcode_of x.rom b
   opcode_is b e = let i = rom_parts (get b.regs.r b.regs.p) e in sym (read_rom x.rom b.latch b.ram (value (get b.regs.r b.regs.p)) (omega (arith, i)) (omega (arith, i)))
 
-  fine_kind : (b : Machine) → Fine x b → is_straight (kind_of (opcode_in x b)) (number_of (opcode_in x b)) ≡ true
+  fine_kind : (b : Machine) → Fine x b → is_straight (kind_of (opcode_in x b)) (opcode_number (opcode_in x b)) ≡ true
   fine_kind b h = (and_parts _ _ (first_of _ _ h)).0
 
   plain_from : (b : Machine) → Passable x b → is_plain b.regs.p ≡ true
@@ -271,7 +271,7 @@ module _ (x : Code) where
 
   -- an instruction in the ROM that reads no flag, also where ticks may not pass it
   pub quick_any : (u : Input) (b : Machine) → reads_flags (kind_of (opcode_in x b)) ≡ false → in_rom (get b.regs.r b.regs.p) ≡ true → quick x b ≡ moved x u b
-  quick_any u b h k = ap (λ e. acted e b) (sym (effect_flags (kind_of (opcode_in x b)) (number_of (opcode_in x b)) (stepped b.regs b.regs.p) (rom_inputs x b (λ k. false)) (flags_in u b) h)) ∙ quick_by_is u b k
+  quick_any u b h k = ap (λ e. acted e b) (sym (effect_flags (kind_of (opcode_in x b)) (opcode_number (opcode_in x b)) (stepped b.regs b.regs.p) (rom_inputs x b (λ k. false)) (flags_in u b) h)) ∙ quick_by_is u b k
 
   pub quick_is : (u : Input) (b : Machine) → Fine x b → quick x b ≡ moved x u b
   quick_is u b h = quick_any u b (straight_flags _ _ (fine_kind b h)) (rom_from b (second_of _ _ h))
@@ -303,7 +303,7 @@ module _ (x : Code) (u : Input) (n : ℕ) (v w : Word) (t : ℕ) (ram : List ℕ
   inside : in_rom (get b.regs.r b.regs.p) ≡ true
   inside = (and_parts _ _ (first_of _ _ h)).1
 
-  may : Passes x.low (kind_of op) (number_of op) s
+  may : Passes x.low (kind_of op) (opcode_number op) s
   unfolding op s
   may = second_of _ _ h
 
@@ -327,7 +327,7 @@ module _ (x : Code) (u : Input) (n : ℕ) (v w : Word) (t : ℕ) (ram : List ℕ
 
   by_bytes : executed op (later_regs n v w t s) (record i { byte = read x.rom b.latch ram }) ≡ later_effect n v w t e
   unfolding e i
-  by_bytes = passes x.low n v w t s i (number_of op) (read x.rom b.latch ram) agree (kind_of op) may
+  by_bytes = passes x.low n v w t s i (opcode_number op) (read x.rom b.latch ram) agree (kind_of op) may
 
   whole : moved x u c ≡ later n v w t (ram_after e.write b.latch ram) cycle (quick_by x (flags_in u b) b)
   unfolding c s op i e
@@ -338,7 +338,7 @@ module _ (x : Code) (u : Input) (n : ℕ) (v w : Word) (t : ℕ) (ram : List ℕ
 
   sames : Same x.low e.regs (ram_after e.write b.latch b.ram) (ram_after e.write b.latch ram)
   unfolding s op i e
-  sames = subst (λ z. Same x.low e.regs (ram_after e.write z b.ram) (ram_after e.write z ram)) (sym clear) (length_after e.write false ram ∙ same.0 ∙ sym (length_after e.write false b.ram), λ a k. after-same x.low s b.ram ram full same_s e.write a (stack_of x.low s i (number_of op) a (kind_of op) may k))
+  sames = subst (λ z. Same x.low e.regs (ram_after e.write z b.ram) (ram_after e.write z ram)) (sym clear) (length_after e.write false ram ∙ same.0 ∙ sym (length_after e.write false b.ram), λ a k. after-same x.low s b.ram ram full same_s e.write a (stack_of x.low s i (opcode_number op) a (kind_of op) may k))
 
   after_later : After x.low n (quick_by x (flags_in u b) b) (moved x u (later n v w t ram cycle b))
   unfolding c s op i e
@@ -354,7 +354,7 @@ module _ (x : Code) where
 
 module _ (x : Code) (n : ℕ) (b c : Machine) (g : Fine x b) (h : After x.low n b c) where
   pass : Passable x b
-  pass = second_of (is_straight (kind_of (opcode_in x b)) (number_of (opcode_in x b)) && cycles_of (opcode_in x b) == 2) (Passable x b) g
+  pass = second_of (is_straight (kind_of (opcode_in x b)) (opcode_number (opcode_in x b)) && cycles_of (opcode_in x b) == 2) (Passable x b) g
 
   -- the program counter is the same after ticks
   pub after_counter : get c.regs.r c.regs.p ≡ get b.regs.r b.regs.p
@@ -397,14 +397,14 @@ module _ (x : Code) (top : Option ℕ) where
 
   pub quicks_idle : (k : ℕ) (b : Machine) → AllGood x top k b → (quicks x k b).regs.idle ≡ b.regs.idle
   quicks_idle zero b g = refl
-  quicks_idle (suc k) b g = idle_of x.low (kind_of (opcode_in x (quicks x k b))) (number_of (opcode_in x (quicks x k b))) (stepped (quicks x k b).regs (quicks x k b).regs.p) (rom_inputs x (quicks x k b) (λ k. false)) (second_of _ _ (second_of _ _ g.1.0)) ∙ quicks_idle k b g.0
+  quicks_idle (suc k) b g = idle_of x.low (kind_of (opcode_in x (quicks x k b))) (opcode_number (opcode_in x (quicks x k b))) (stepped (quicks x k b).regs (quicks x k b).regs.p) (rom_inputs x (quicks x k b) (λ k. false)) (second_of _ _ (second_of _ _ g.1.0)) ∙ quicks_idle k b g.0
 
   pub quicks_enabled : (k : ℕ) (b : Machine) → AllGood x top k b → (quicks x k b).regs.ie ≡ b.regs.ie
   quicks_enabled zero b g = refl
-  quicks_enabled (suc k) b g = enabled_of x.low (kind_of (opcode_in x (quicks x k b))) (number_of (opcode_in x (quicks x k b))) (stepped (quicks x k b).regs (quicks x k b).regs.p) (rom_inputs x (quicks x k b) (λ k. false)) (second_of _ _ (second_of _ _ g.1.0)) ∙ quicks_enabled k b g.0
+  quicks_enabled (suc k) b g = enabled_of x.low (kind_of (opcode_in x (quicks x k b))) (opcode_number (opcode_in x (quicks x k b))) (stepped (quicks x k b).regs (quicks x k b).regs.p) (rom_inputs x (quicks x k b) (λ k. false)) (second_of _ _ (second_of _ _ g.1.0)) ∙ quicks_enabled k b g.0
 
   quick_entry : (b : Machine) → Fine x b → (quick x b).regs.r.r1 ≡ b.regs.r.r1
-  quick_entry b g = entry_of x.low (stepped b.regs b.regs.p) (rom_inputs x b (λ k. false)) (number_of (opcode_in x b)) (kind_of (opcode_in x b)) (second_of _ _ (second_of _ _ g)) ∙ put-r1 b.regs.p b.regs.r (up (get b.regs.r b.regs.p)) (kept_of_plain b.regs.p (plain_from x b (second_of _ _ g)))
+  quick_entry b g = entry_of x.low (stepped b.regs b.regs.p) (rom_inputs x b (λ k. false)) (opcode_number (opcode_in x b)) (kind_of (opcode_in x b)) (second_of _ _ (second_of _ _ g)) ∙ put-r1 b.regs.p b.regs.r (up (get b.regs.r b.regs.p)) (kept_of_plain b.regs.p (plain_from x b (second_of _ _ g)))
 
   pub quicks_entry : (k : ℕ) (b : Machine) → AllGood x top k b → (quicks x k b).regs.r.r1 ≡ b.regs.r.r1
   quicks_entry zero b g = refl
@@ -412,7 +412,7 @@ module _ (x : Code) (top : Option ℕ) where
 
   pub quicks_on : (k : ℕ) (b : Machine) → AllGood x top k b → (quicks x k b).on ≡ b.on
   quicks_on zero b g = refl
-  quicks_on (suc k) b g = straight_on (kind_of (opcode_in x (quicks x k b))) (number_of (opcode_in x (quicks x k b))) (stepped (quicks x k b).regs (quicks x k b).regs.p) (rom_inputs x (quicks x k b) (λ k. false)) (quicks x k b).on (fine_kind x (quicks x k b) g.1.0) ∙ quicks_on k b g.0
+  quicks_on (suc k) b g = straight_on (kind_of (opcode_in x (quicks x k b))) (opcode_number (opcode_in x (quicks x k b))) (stepped (quicks x k b).regs (quicks x k b).regs.p) (rom_inputs x (quicks x k b) (λ k. false)) (quicks x k b).on (fine_kind x (quicks x k b) g.1.0) ∙ quicks_on k b g.0
 
   -- from b, main code comes to c in k moves that ticks may pass
   pub Reaches : ℕ → Machine → Machine → Type 0

@@ -7,7 +7,7 @@ use Rattle.chip8_lang.specs.declared.view.Edition.{Edition}
 use Rattle.chip8_lang.specs.declared.view.Edition.TheVariants.{Usual, Tall}
 use Rattle.chip8_lang.specs.declared.view.Stop.{Stop}
 use Rattle.chip8_lang.specs.State.{Lang, memory_byte, is_fetchable}
-use Rattle.chip8_lang.specs.Step.{next, number_of, step}
+use Rattle.chip8_lang.specs.Step.{next, stop_number, step}
 use Rattle.chip8_lang.specs.Step.KeyInput.{Nothing}
 use Rattle.chip8_image.specs.Labels.{at_fetch}
 use Rattle.rom_law.specs.Program.{Program}
@@ -99,7 +99,7 @@ pub record Leaving (x : Program) (a : ℕ) (b : Machine) (s : Lang) : Type 0 whe
   pub r3 : b.regs.r.r3 ≡ word_of a
   pub stop : Stop
   pub fits : x.stop_of s ≡ Some stop
-  pub number : b.regs.d ≡ number_of stop
+  pub number : b.regs.d ≡ stop_number stop
 
 -- s stops, the number of its stop is in RE.0, and z is in its places: s, or s with pc past the opcode
 pub record Stopping (x : Program) (a : ℕ) (z : Lang → Lang) (b : Machine) (s : Lang) : Type 0 where
@@ -108,4 +108,4 @@ pub record Stopping (x : Program) (a : ℕ) (z : Lang → Lang) (b : Machine) (s
   pub r3 : b.regs.r.r3 ≡ word_of a
   pub stop : Stop
   pub fits : x.stop_of s ≡ Some stop
-  pub number : b.regs.r.re.lo ≡ number_of stop
+  pub number : b.regs.r.re.lo ≡ stop_number stop

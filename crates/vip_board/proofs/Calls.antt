@@ -1,7 +1,7 @@
 -- The calls of a machine cycle make of the wires what the cycle's effect makes of the machine.
 use Rattle.std.proofs.Common.{◌≡◌, ◌-◌, ◌∙◌, ℕ, Bool, true, false, ◌&&◌, if◌then◌else◌, refl, ap, subst}
 use Rattle.std.specs.Prelude.{◌==◌, Option, Some, None}
-use Rattle.machine.specs.Opcodes.{kind_of, number_of, cycles_of}
+use Rattle.machine.specs.Opcodes.{kind_of, opcode_number, cycles_of}
 use Rattle.machine.specs.Instruction.{Regs, Effect, Port, at, stepped, inputs}
 use Rattle.machine.specs.Instruction.Port.{Send, Receive}
 use Rattle.machine.specs.Memory.{read}
@@ -39,7 +39,7 @@ cycle-sends Boundary s m f dma int taken =
     first-sends _ _ _ s (quiet (stepped s s.p) (Middle (m (at s s.p)) (cycles_of (m (at s s.p)) - 1)) Fetch) _ _ _ _ _ _ dma (s.ie && int) s.idle refl
 cycle-sends (Middle opcode left) s m f dma int taken =
     picked-sends (ended opcode s m f taken) (quiet s (Middle opcode (left - 1)) Execute) (left == 1)
-    (λ port byte h. send-writes_nothing (kind_of opcode) (number_of opcode) s (inputs s m f taken) port byte h)
+    (λ port byte h. send-writes_nothing (kind_of opcode) (opcode_number opcode) s (inputs s m f taken) port byte h)
     (λ port byte h. refl)
 
 -- what a bus of the wires means by its calls

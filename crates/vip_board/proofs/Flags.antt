@@ -4,7 +4,7 @@ use Rattle.std.specs.Prelude.{◌==◌}
 use Rattle.std.proofs.Math.Bool.{◌||◌}
 use Rattle.std.proofs.lemmas.List.{get_or_past}
 use Rattle.machine.specs.declared.Kind.TheVariants.{Undefined}
-use Rattle.machine.specs.Opcodes.{kinds, kind_of, number_of, cycles_of}
+use Rattle.machine.specs.Opcodes.{kinds, kind_of, opcode_number, cycles_of}
 use Rattle.machine.specs.Instruction.{Regs, executed, inputs}
 use Rattle.machine.proofs.Flags.{reads_flags, effect_flags}
 use Rattle.vip_isa.proofs.Below.{at-passes_below}
@@ -35,4 +35,4 @@ second false false h e = refl
 
 pub executed-flags : (byte : ℕ) → (cycles_of byte == 2) ≡ false → (s : Regs) (m : ℕ → ℕ) (f g : ℕ → Bool) (v : ℕ) → executed byte s (inputs s m f v) ≡ executed byte s (inputs s m g v)
 executed-flags byte e s m f g v =
-    sym (effect_flags (kind_of byte) (number_of byte) s (inputs s m f v) g (second (cycles_of byte == 2) (reads_flags (kind_of byte)) (short_or_no_flags byte) e))
+    sym (effect_flags (kind_of byte) (opcode_number byte) s (inputs s m f v) g (second (cycles_of byte == 2) (reads_flags (kind_of byte)) (short_or_no_flags byte) e))

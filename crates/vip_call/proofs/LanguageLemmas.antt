@@ -13,7 +13,7 @@ use Rattle.chip8_lang.specs.Events.{Event}
 use Rattle.chip8_lang.specs.Events.Event.{Picture, Dispatch, Stopped}
 use Rattle.chip8_lang.specs.Places.{state_of}
 use Rattle.chip8_lang.specs.State.{Lang, first, instr_at, memory_size}
-use Rattle.chip8_lang.specs.Step.{number_of, stop_of}
+use Rattle.chip8_lang.specs.Step.{stop_number, stop_of}
 use Rattle.chip8_lang.specs.View.{opcode_at, view_at}
 use Rattle.rom_law.specs.Keys.{KeyRun, Pressed, WaitsForKey}
 use Rattle.rom_law.specs.Pictures.{ShowsBehind, ShowsAll, PictureRun}
@@ -43,14 +43,14 @@ use Rattle.vip_report.specs.declared.status.Status.{Status}
 use Rattle.vip_call.proofs.DebugLemmas.{debug_ends}
 use Rattle.vip_verbs.proofs.DemoLemmas.{length-game, bytes-game}
 
-stop_numbered-number_of : (stop : Stop) → stop_numbered (number_of stop) ≡ stop
-stop_numbered-number_of MachineCall = refl
-stop_numbered-number_of Unknown = refl
-stop_numbered-number_of FetchOutside = refl
-stop_numbered-number_of ReadOutside = refl
-stop_numbered-number_of WriteOutside = refl
-stop_numbered-number_of StackFull = refl
-stop_numbered-number_of StackEmpty = refl
+stop_numbered-stop_number : (stop : Stop) → stop_numbered (stop_number stop) ≡ stop
+stop_numbered-stop_number MachineCall = refl
+stop_numbered-stop_number Unknown = refl
+stop_numbered-stop_number FetchOutside = refl
+stop_numbered-stop_number ReadOutside = refl
+stop_numbered-stop_number WriteOutside = refl
+stop_numbered-stop_number StackFull = refl
+stop_numbered-stop_number StackEmpty = refl
 
 -- ---- the ROM of the board
 
@@ -115,7 +115,7 @@ module _ (e : Edition) where
     stop = is.stop;
     fits = is.fits;
     halted = halted c _ is.stop is.halts;
-    named = ap (λ stop. AtStop stop (state_of e b).pc (opcode_at e (state_of e b))) (ap stop_numbered is.halts.number ∙ stop_numbered-number_of is.stop);
+    named = ap (λ stop. AtStop stop (state_of e b).pc (opcode_at e (state_of e b))) (ap stop_numbered is.halts.number ∙ stop_numbered-stop_number is.stop);
   }
 
   -- ---- the events of a run, by its points

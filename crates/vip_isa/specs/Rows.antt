@@ -3,7 +3,7 @@
 use Rattle.std.specs.Prelude.{◌+◌, ◌≤◌, ℕ, List, codes}
 use Rattle.machine.specs.declared.Kind.{Kind}
 use Rattle.machine.specs.declared.Kind.TheVariants.{Idl, Ldn, Inc, Dec, Br, Bq, Bz, Bdf, B1, B2, B3, B4, Skp, Bnq, Bnz, Bnf, Bn1, Bn2, Bn3, Bn4, Lda, Str, Irx, Out, Undefined, Inp, Ret, Dis, Ldxa, Stxd, Adc, Sdb, Shrc, Smb, Sav, Mark, Req, Seq, Adci, Sdbi, Shlc, Smbi, Glo, Ghi, Plo, Phi, Lbr, Lbq, Lbz, Lbdf, Nop, Lsnq, Lsnz, Lsnf, Lskp, Lbnq, Lbnz, Lbnf, Lsie, Lsq, Lsz, Lsdf, Sep, Sex, Ldx, Or, And, Xor, Add, Sd, Shr, Sm, Ldi, Ori, Ani, Xri, Adi, Sdi, Shl, Smi}
-use Rattle.machine.specs.Opcodes.{kind_of, number_of}
+use Rattle.machine.specs.Opcodes.{kind_of, opcode_number}
 use Rattle.vip_isa.specs.declared.Op.{Op}
 
 -- the opcode of a kind, less the number in its low half
@@ -124,7 +124,7 @@ opcode_of op = first_of op.kind + op.n
 
 -- the parts of an opcode
 abbrev pub decoded : ℕ → Op
-decoded byte = record { kind = kind_of byte; n = number_of byte }
+decoded byte = record { kind = kind_of byte; n = opcode_number byte }
 
 -- The size in bytes: a short branch and an immediate instruction have one byte behind the opcode, and a long branch has two.
 abbrev pub size_of : Kind → ℕ

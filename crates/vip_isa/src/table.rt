@@ -1,7 +1,7 @@
 //! The tables of the 256 opcodes. They are statics, since a constant would be copied at each look-up.
 
 ghost use Rattle.std.specs.Prelude.{◌≡◌};
-ghost use Rattle.machine.specs.Opcodes.{kind_of, number_of};
+ghost use Rattle.machine.specs.Opcodes.{kind_of, opcode_number};
 
 use machine::Kind;
 
@@ -287,7 +287,7 @@ pub fn kind_at(byte: u8) -> Kind
 
 /// The number in an opcode.
 pub fn number_at(byte: u8) -> u8
-    ensures { result ≡ number_of byte }
+    ensures { result ≡ opcode_number byte }
 {
     NUMBERS[byte as usize]
 }

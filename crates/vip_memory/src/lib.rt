@@ -7,7 +7,7 @@
 #![tactic(auto)]
 
 ghost use Rattle.std.specs.Prelude.{◌≡◌, ◌+◌, ◌*◌, ◌/◌, ◌<◌, ◌≤◌, ◌⊎◌, ◌↔◌, ℕ, true, false, length, replicate, slice_index, slice_set, IfOk, IfSome, IsSome, vec_len};
-ghost use Rattle.machine.specs.Memory.{place_of, read, written};
+ghost use Rattle.machine.specs.Memory.{mapped_address, read, written};
 ghost use Rattle.machine.specs.Ranges.{FitsRom};
 ghost use Rattle.vip_memory.specs.Contents.{flat, ArePages, loaded, page_of};
 
@@ -38,7 +38,7 @@ impl Model for Memory {
 
 /// The address that is read in place of `address`: with its highest bit set while the boot latch is set.
 fn place(latch: bool, address: u16) -> u16
-    ensures { result ≡ place_of latch address }
+    ensures { result ≡ mapped_address latch address }
 {
     if latch { address | 0x8000 } else { address }
 }
