@@ -9,24 +9,21 @@ use Rattle.machine.specs.Pictures.{picture_of}
 use Rattle.machine.specs.Keys.{Event as KeyEvent}
 use Rattle.chip8_lang.specs.declared.view.Edition.{Edition}
 use Rattle.chip8_lang.specs.declared.view.StopRecord.{StopRecord}
-use Rattle.chip8_lang.specs.Events.{Event, events_of, game_run}
+use Rattle.chip8_lang.specs.Events.{Event, game_run}
 use Rattle.chip8_lang.specs.Events.Event.{Picture, Dispatch, Stopped}
 use Rattle.chip8_lang.specs.Places.{state_of}
-use Rattle.chip8_lang.specs.View.{View, view_at}
+use Rattle.chip8_lang.specs.View.{view_at}
 use Rattle.vip_outside.specs.Sink.{SinkMeaning, PutsWhole, PutFails, PutAnswers}
 use Rattle.vip_outside.specs.Pieces.{PutsAll, FailsWithin}
 use Rattle.vip_outside.specs.declared.sink.Failed.{Failed}
 use Rattle.vip_outside.proofs.PiecesLemmas.{PutsAll-nil, PutsAll-append, PutsAll-one, FailsWithin-snoc, FailsWithin-more}
 use Rattle.vip_text.specs.Summaries.{summary_line}
-use Rattle.vip_text.specs.Traces.{trace_line}
-use Rattle.vip_text.specs.Screens.{picture_file}
 use Rattle.vip_relation.specs.Follows.{Follows, last_dispatch, last_view, last_screen}
 use Rattle.vip_relation.proofs.Steps.{few-met}
 use Rattle.vip_relation.specs.Interpreters.{interpreter_of}
-use Rattle.vip_relation.specs.Meets.{IsSame, MeetsNext, MeetsPicture, MeetsDispatch, MeetsStop, Ends, HasStopped}
+use Rattle.vip_relation.specs.Meets.{MeetsNext, MeetsPicture, MeetsDispatch, MeetsStop, Ends}
 use Rattle.vip_relation.specs.State.{VipState, interpreter, run_of, events_to, events_left, screen_size, screen_bytes}
-use Rattle.vip_relation.specs.Stops.{stop_record, pc_of, opcode_of, stop_at}
-use Rattle.vip_relation.specs.declared.vip.Met.{Met}
+use Rattle.vip_relation.specs.Stops.{pc_of, opcode_of}
 use Rattle.vip_relation.specs.declared.vip.Met.TheVariants as met
 use Rattle.vip_show.specs.declared.run.RunEnd.{RunEnd}
 use Rattle.vip_show.specs.declared.run.RunEnd.TheVariants as run
@@ -34,8 +31,8 @@ use Rattle.vip_show.specs.declared.run.Shown.{Shown}
 use Rattle.vip_show.specs.declared.run.Shown.TheVariants.{Lines, Pictures, Nothing}
 use Rattle.vip_show.specs.declared.run.Tally.{Tally}
 use Rattle.vip_show.specs.Answers.{IsFresh, ending_in, Shows, ShowAnswers, traced, pictured, summed}
-use Rattle.vip_show.specs.Endings.{Ending, ending_after, ending_of}
-use Rattle.vip_show.specs.Endings.Ending.{AtLimit, AtStop}
+use Rattle.vip_show.specs.Endings.{ending_after, ending_of}
+use Rattle.vip_show.specs.Endings.Ending.{AtStop}
 use Rattle.vip_show.specs.Output.{count_of, is_dispatch_event, is_picture_event, trace_lines, picture_pieces, screen_piece, lit_at, summary}
 use Rattle.vip_show.specs.Run.{piece_of, pieces_of, event_piece, screen_told, lit_told, PieceAnswers, Ran, RunAnswers}
 use Rattle.vip_relation.proofs.Meetings.{last-dispatched, last-kept}
@@ -157,12 +154,14 @@ module _ (shown : Shown) (limit : ℕ) (start : VipState) (out : SinkMeaning) wh
         (PutsAll-append (pieces_of shown start limit g.done) (piece_here event) out out' out'' g.puts put)
 
     -- a fault at the piece of this event
-    pub fails-next : (event : Event) (rest : List Event) (piece : List ℕ) → events_left v limit ≡ event ∷ rest → piece_here event ≡ piece ∷ [] → PutFails piece out' out'' → FailsWithin (pieces_of shown start limit (events_to start limit)) out out''
+    pub fails-next : (event : Event) (rest : List Event) (piece : List ℕ) → events_left v limit ≡ event ∷ rest → piece_here event ≡ piece ∷ []
+        → PutFails piece out' out'' → FailsWithin (pieces_of shown start limit (events_to start limit)) out out''
     fails-next event rest piece split is fault =
         rw (next event rest split, flat_map-append (piece_of shown start.edition (interpreter start).rom (run_of start limit)) (g.done ++ event ∷ []) rest, flat_map-append (piece_of shown start.edition (interpreter start).rom (run_of start limit)) g.done (event ∷ []), append-nil, is)
         (FailsWithin-more (pieces_of shown start limit g.done ++ piece ∷ []) (pieces_of shown start limit rest) out out'' (FailsWithin-snoc (pieces_of shown start limit g.done) piece [] out out' out'' g.puts fault))
 
-    pub going-dispatch : (d : Dispatched limit v v' (events_left v limit)) → PutsAll (piece_here (Dispatch d.b)) out' out'' → Going shown limit start v' out out'' (dispatches + 1) pictures
+    pub going-dispatch : (d : Dispatched limit v v' (events_left v limit)) → PutsAll (piece_here (Dispatch d.b)) out' out''
+        → Going shown limit start v' out out'' (dispatches + 1) pictures
     going-dispatch d put = record {
       edition = d.meets.one.same.edition ∙ g.edition;
       game = d.meets.one.same.game ∙ g.game;
@@ -187,7 +186,8 @@ module _ (shown : Shown) (limit : ℕ) (start : VipState) (out : SinkMeaning) wh
         here : ending_after start.edition (pc_of v.last) (opcode_of v.last) (Dispatch d.b ∷ d.rest) ≡ ending_after start.edition (pc_of v'.last) (opcode_of v'.last) d.rest
         here = unfold ending_after in rw told refl
 
-    pub going-picture : (d : Pictured limit v v' (events_left v limit)) → PutsAll (piece_here (Picture d.m)) out' out'' → Going shown limit start v' out out'' dispatches (pictures + 1)
+    pub going-picture : (d : Pictured limit v v' (events_left v limit)) → PutsAll (piece_here (Picture d.m)) out' out''
+        → Going shown limit start v' out out'' dispatches (pictures + 1)
     going-picture d put = record {
       edition = d.meets.one.same.edition ∙ g.edition;
       game = d.meets.one.same.game ∙ g.game;
@@ -207,11 +207,13 @@ module _ (shown : Shown) (limit : ℕ) (start : VipState) (out : SinkMeaning) wh
         here = unfold ending_after in rw d.meets.told.last refl
 
     -- the picture that is lent is that of the run
-    pub picture-lent : (d : Pictured limit v v' (events_left v limit)) → v'.board.pictures.finished ≡ Some (picture_of (interpreter start).rom (run_of start limit) d.m)
+    pub picture-lent : (d : Pictured limit v v' (events_left v limit))
+        → v'.board.pictures.finished ≡ Some (picture_of (interpreter start).rom (run_of start limit) d.m)
     picture-lent d = d.meets.picture ∙ ap (λ rom. Some (picture_of rom (run_of v limit) d.m)) (rom_same start v g.edition) ∙ ap (λ run. Some (picture_of (interpreter start).rom run d.m)) (run_same limit start v g.edition g.game g.script)
 
     -- at the limit all events are met
-    pub ran-end : (e : Ended limit v v' (events_left v limit)) → (tally : Tally) → tally.end ≡ run.AtLimit → tally.dispatches ≡ dispatches → tally.pictures ≡ pictures → Ran shown limit start v' out out' tally
+    pub ran-end : (e : Ended limit v v' (events_left v limit)) → (tally : Tally) → tally.end ≡ run.AtLimit → tally.dispatches ≡ dispatches
+        → tally.pictures ≡ pictures → Ran shown limit start v' out out' tally
     ran-end e tally end ds ps = record {
       puts = subst (λ events. PutsAll (pieces_of shown start limit events) out out') (sym all) g.puts;
       ending = ap ending_in end ∙ sym (g.ends ∙ ap (ending_after start.edition (pc_of v.last) (opcode_of v.last)) e.none ∙ (unfold ending_after in refl));
@@ -233,40 +235,52 @@ puts-piece None old new done put = rw put.1 (PutsAll-nil old)
 puts-piece (Some piece) old new done put = PutsAll-one piece old new put
 
 module _ (shown : Shown) (limit : ℕ) (start : VipState) (out : SinkMeaning) (v v' : VipState) (out' : SinkMeaning) (dispatches pictures : ℕ) (g : Going shown limit start v out out' dispatches pictures) where
-  dispatch_piece : (s : Shown) (d : Dispatched limit v v' (events_left v limit)) → option_to_list (event_piece s met.Dispatch v') ≡ piece_of s start.edition (interpreter start).rom (run_of start limit) (Dispatch d.b)
+  dispatch_piece : (s : Shown) (d : Dispatched limit v v' (events_left v limit))
+      → option_to_list (event_piece s met.Dispatch v') ≡ piece_of s start.edition (interpreter start).rom (run_of start limit) (Dispatch d.b)
   dispatch_piece (Lines with_time) d = rw (d.meets.last, g.edition) refl
   dispatch_piece Pictures d = refl
   dispatch_piece Nothing d = refl
 
-  picture_piece_is : (s : Shown) (d : Pictured limit v v' (events_left v limit)) → option_to_list (event_piece s met.Picture v') ≡ piece_of s start.edition (interpreter start).rom (run_of start limit) (Picture d.m)
+  picture_piece_is : (s : Shown) (d : Pictured limit v v' (events_left v limit))
+      → option_to_list (event_piece s met.Picture v') ≡ piece_of s start.edition (interpreter start).rom (run_of start limit) (Picture d.m)
   picture_piece_is (Lines with_time) d = refl
   picture_piece_is Pictures d = rw (picture-lent shown limit start out v v' out' out' dispatches pictures g d) refl
   picture_piece_is Nothing d = refl
 
   module _ (out'' : SinkMeaning) where
-    pub puts-dispatch : (d : Dispatched limit v v' (events_left v limit)) (done : Unit {0}) → PieceAnswers (event_piece shown met.Dispatch v') out' out'' (Ok done) → Going shown limit start v' out out'' (dispatches + 1) pictures
+    pub puts-dispatch : (d : Dispatched limit v v' (events_left v limit)) (done : Unit {0})
+        → PieceAnswers (event_piece shown met.Dispatch v') out' out'' (Ok done) → Going shown limit start v' out out'' (dispatches + 1) pictures
     puts-dispatch d done put = going-dispatch shown limit start out v v' out' out'' dispatches pictures g d (rw (← dispatch_piece shown d) (puts-piece (event_piece shown met.Dispatch v') out' out'' done put))
 
-    pub puts-picture : (d : Pictured limit v v' (events_left v limit)) (done : Unit {0}) → PieceAnswers (event_piece shown met.Picture v') out' out'' (Ok done) → Going shown limit start v' out out'' dispatches (pictures + 1)
+    pub puts-picture : (d : Pictured limit v v' (events_left v limit)) (done : Unit {0})
+        → PieceAnswers (event_piece shown met.Picture v') out' out'' (Ok done) → Going shown limit start v' out out'' dispatches (pictures + 1)
     puts-picture d done put = going-picture shown limit start out v v' out' out'' dispatches pictures g d (rw (← picture_piece_is shown d) (puts-piece (event_piece shown met.Picture v') out' out'' done put))
 
-    fails : (event : Event) (rest : List Event) (piece : Option (List ℕ)) (e : Failed) → events_left v limit ≡ event ∷ rest → option_to_list piece ≡ piece_of shown start.edition (interpreter start).rom (run_of start limit) event → PieceAnswers piece out' out'' (Err e) → FailsWithin (pieces_of shown start limit (events_to start limit)) out out''
+    fails : (event : Event) (rest : List Event) (piece : Option (List ℕ)) (e : Failed) → events_left v limit ≡ event ∷ rest
+        → option_to_list piece ≡ piece_of shown start.edition (interpreter start).rom (run_of start limit) event
+        → PieceAnswers piece out' out'' (Err e) → FailsWithin (pieces_of shown start limit (events_to start limit)) out out''
     fails event rest None e split is fault = let bad = fault.0 in cc
     fails event rest (Some piece) e split is fault = fails-next shown limit start out v v' out' out'' dispatches pictures g event rest piece split (sym is) fault
 
-    pub fails-dispatch : (d : Dispatched limit v v' (events_left v limit)) (e : Failed) → PieceAnswers (event_piece shown met.Dispatch v') out' out'' (Err e) → FailsWithin (pieces_of shown start limit (events_to start limit)) out out''
+    pub fails-dispatch : (d : Dispatched limit v v' (events_left v limit)) (e : Failed)
+        → PieceAnswers (event_piece shown met.Dispatch v') out' out'' (Err e)
+        → FailsWithin (pieces_of shown start limit (events_to start limit)) out out''
     fails-dispatch d e fault = fails (Dispatch d.b) d.rest (event_piece shown met.Dispatch v') e d.split (dispatch_piece shown d) fault
 
-    pub fails-picture : (d : Pictured limit v v' (events_left v limit)) (e : Failed) → PieceAnswers (event_piece shown met.Picture v') out' out'' (Err e) → FailsWithin (pieces_of shown start limit (events_to start limit)) out out''
+    pub fails-picture : (d : Pictured limit v v' (events_left v limit)) (e : Failed)
+        → PieceAnswers (event_piece shown met.Picture v') out' out'' (Err e)
+        → FailsWithin (pieces_of shown start limit (events_to start limit)) out out''
     fails-picture d e fault = fails (Picture d.m) d.rest (event_piece shown met.Picture v') e d.split (picture_piece_is shown d) fault
 
 -- at whatever error is passed on
-pub run-fails : (shown : Shown) (limit : ℕ) (old new : VipState) (out out' : SinkMeaning) (r : Result Tally Failed) → IsErr r → FailsWithin (pieces_of shown old limit (events_to old limit)) out out' → RunAnswers shown limit old new out out' r
+pub run-fails : (shown : Shown) (limit : ℕ) (old new : VipState) (out out' : SinkMeaning) (r : Result Tally Failed) → IsErr r
+    → FailsWithin (pieces_of shown old limit (events_to old limit)) out out' → RunAnswers shown limit old new out out' r
 run-fails shown limit old new out out' (Ok tally) bad fault = cc
 run-fails shown limit old new out out' (Err e) bad fault = fault
 
 -- the events left become fewer
-pub fewer-dispatch : (limit : ℕ) (v v' : VipState) (d : Dispatched limit v v' (events_left v limit)) → length (events_left v' limit) < length (events_left v limit)
+pub fewer-dispatch : (limit : ℕ) (v v' : VipState) (d : Dispatched limit v v' (events_left v limit))
+    → length (events_left v' limit) < length (events_left v limit)
 fewer-dispatch limit v v' d = rw (d.split, d.meets.one.left) (omega arith)
 
 pub fewer-picture : (limit : ℕ) (v v' : VipState) (d : Pictured limit v v' (events_left v limit)) → length (events_left v' limit) < length (events_left v limit)
@@ -275,7 +289,8 @@ fewer-picture limit v v' d = rw (d.split, d.meets.one.left) (omega arith)
 -- ---- the end at a stop
 
 module _ (shown : Shown) (limit : ℕ) (start : VipState) (out : SinkMeaning) (v v' : VipState) (out' : SinkMeaning) (dispatches pictures : ℕ) (g : Going shown limit start v out out' dispatches pictures) where
-  pub ran-stop : (stop : StopRecord) (h : Halted limit v v' (events_left v limit) stop) (tally : Tally) → tally.end ≡ run.AtStop stop → tally.dispatches ≡ dispatches → tally.pictures ≡ pictures → Ran shown limit start v' out out' tally
+  pub ran-stop : (stop : StopRecord) (h : Halted limit v v' (events_left v limit) stop) (tally : Tally) → tally.end ≡ run.AtStop stop
+      → tally.dispatches ≡ dispatches → tally.pictures ≡ pictures → Ran shown limit start v' out out' tally
   ran-stop stop h tally end ds ps = record {
     puts = subst (λ events. PutsAll (pieces_of shown start limit events) out out') (sym all) (rw (flat_map-append (piece_of shown start.edition (interpreter start).rom (run_of start limit)) g.done (Stopped h.b ∷ []), none shown, append-nil) g.puts);
     ending = ap ending_in end ∙ sym (g.ends ∙ ap (ending_after start.edition (pc_of v.last) (opcode_of v.last)) h.split ∙ here);
@@ -301,11 +316,14 @@ module _ (shown : Shown) (limit : ℕ) (start : VipState) (out : SinkMeaning) (v
       here = unfold ending_after in rw h.meets.stop refl
 
 -- a piece that was put, where there is one
-pub piece-put : {X : Type 0} (f : X → List ℕ) (found : Option X) (x : X) (bytes : List ℕ) (old new : SinkMeaning) (r : Result (Unit {0}) Failed) → found ≡ Some x → bytes ≡ f x → PutAnswers bytes old new r → PieceAnswers (option_map f found) old new r
+pub piece-put : {X : Type 0} (f : X → List ℕ) (found : Option X) (x : X) (bytes : List ℕ) (old new : SinkMeaning) (r : Result (Unit {0}) Failed)
+    → found ≡ Some x → bytes ≡ f x → PutAnswers bytes old new r → PieceAnswers (option_map f found) old new r
 piece-put f found x bytes old new r is same put = rw is (subst (λ b. PutAnswers b old new r) same put)
 
 -- the counts and the events met are few
-pub counts-fit : (shown : Shown) (limit : ℕ) (start v v' : VipState) (out out' : SinkMeaning) (dispatches pictures : ℕ) → Going shown limit start v out out' dispatches pictures → Follows v' → v'.met ≡ v.met + 1 → (dispatches ≤ 8_000_000_001) × (pictures ≤ 8_000_000_001)
+pub counts-fit : (shown : Shown) (limit : ℕ) (start v v' : VipState) (out out' : SinkMeaning) (dispatches pictures : ℕ)
+    → Going shown limit start v out out' dispatches pictures → Follows v' → v'.met ≡ v.met + 1
+    → (dispatches ≤ 8_000_000_001) × (pictures ≤ 8_000_000_001)
 counts-fit shown limit start v v' out out' dispatches pictures g follows one =
     let few : v'.met ≤ 8_000_000_002 = few-met v' follows in
     let ds : count_of is_dispatch_event g.done ≤ length g.done = counted is_dispatch_event g.done in
@@ -315,7 +333,8 @@ counts-fit shown limit start v v' out out' dispatches pictures g follows one =
 -- ---- what the whole run writes
 
 -- at whatever error is passed on
-pub show-fails : (v : VipState) (limit : ℕ) (pieces : List (List ℕ)) (out out' : SinkMeaning) (r : Result RunEnd Failed) → IsErr r → FailsWithin pieces out out' → ShowAnswers v limit pieces out out' r
+pub show-fails : (v : VipState) (limit : ℕ) (pieces : List (List ℕ)) (out out' : SinkMeaning) (r : Result RunEnd Failed) → IsErr r
+    → FailsWithin pieces out out' → ShowAnswers v limit pieces out out' r
 show-fails v limit pieces out out' (Ok end) bad fault = cc
 show-fails v limit pieces out out' (Err e) bad fault = fault
 
@@ -323,16 +342,19 @@ pub pictures-are : (v : VipState) (limit : ℕ) → pieces_of Pictures v limit (
 unfolding picture_pieces
 pictures-are v limit = refl
 
-pub lines-are : (with_time : Bool) (v : VipState) (limit : ℕ) → pieces_of (Lines with_time) v limit (events_to v limit) ≡ trace_lines v.edition with_time (events_to v limit)
+pub lines-are : (with_time : Bool) (v : VipState) (limit : ℕ)
+    → pieces_of (Lines with_time) v limit (events_to v limit) ≡ trace_lines v.edition with_time (events_to v limit)
 unfolding trace_lines
 lines-are with_time v limit = refl
 
 -- the screen that is told of is that of the last dispatch point
-screen_of : (e : Edition) (events : List Event) (last : Option Machine) (v : VipState) → v.edition ≡ e → v.last ≡ option_map (view_at e) last → v.shown ≡ option_map_or (screen_bytes e) last (replicate (screen_size e) 0) → option_to_list (screen_told v) ≡ screen_piece e last
+screen_of : (e : Edition) (events : List Event) (last : Option Machine) (v : VipState) → v.edition ≡ e → v.last ≡ option_map (view_at e) last
+    → v.shown ≡ option_map_or (screen_bytes e) last (replicate (screen_size e) 0) → option_to_list (screen_told v) ≡ screen_piece e last
 screen_of e events None v edition told shown = rw told refl
 screen_of e events (Some b) v edition told shown = rw (told, edition, shown) (unfold state_of in refl)
 
-lit_of : (e : Edition) (last : Option Machine) (v : VipState) → v.edition ≡ e → v.last ≡ option_map (view_at e) last → v.shown ≡ option_map_or (screen_bytes e) last (replicate (screen_size e) 0) → lit_told v ≡ lit_at e last
+lit_of : (e : Edition) (last : Option Machine) (v : VipState) → v.edition ≡ e → v.last ≡ option_map (view_at e) last
+    → v.shown ≡ option_map_or (screen_bytes e) last (replicate (screen_size e) 0) → lit_told v ≡ lit_at e last
 lit_of e None v edition told shown = rw told refl
 lit_of e (Some b) v edition told shown = rw (told, edition, shown) (unfold state_of in refl)
 
@@ -344,7 +366,8 @@ module _ (with_time : Bool) (limit : ℕ) (old new : VipState) (out out' out'' :
   screen = screen_of old.edition (events_to old limit) (last_dispatch (events_to old limit)) new ran.edition ran.last ran.screen
 
   -- with the screen behind the lines
-  pub traced-whole : (done : Unit {0}) → PieceAnswers (screen_told new) out' out'' (Ok done) → Shows old limit (traced with_time true old limit) out out'' tally.end
+  pub traced-whole : (done : Unit {0}) → PieceAnswers (screen_told new) out' out'' (Ok done)
+      → Shows old limit (traced with_time true old limit) out out'' tally.end
   traced-whole done put = record {
     puts = PutsAll-append (trace_lines old.edition with_time (events_to old limit)) (screen_piece old.edition (last_dispatch (events_to old limit))) out out' out'' lines_out (rw (← screen) (puts-piece (screen_told new) out' out'' done put));
     ending = ran.ending;
@@ -353,7 +376,8 @@ module _ (with_time : Bool) (limit : ℕ) (old new : VipState) (out out' out'' :
   pub traced-lines : Shows old limit (traced with_time false old limit) out out' tally.end
   traced-lines = record { puts = rw append-nil lines_out; ending = ran.ending }
 
-  fails_at : (piece : Option (List ℕ)) (e : Failed) → option_to_list piece ≡ screen_piece old.edition (last_dispatch (events_to old limit)) → PieceAnswers piece out' out'' (Err e) → FailsWithin (traced with_time true old limit) out out''
+  fails_at : (piece : Option (List ℕ)) (e : Failed) → option_to_list piece ≡ screen_piece old.edition (last_dispatch (events_to old limit))
+      → PieceAnswers piece out' out'' (Err e) → FailsWithin (traced with_time true old limit) out out''
   fails_at None e is fault = let bad = fault.0 in cc
   fails_at (Some piece) e is fault = rw (← is) (FailsWithin-snoc (trace_lines old.edition with_time (events_to old limit)) piece [] out out' out'' lines_out fault)
 
@@ -361,7 +385,8 @@ module _ (with_time : Bool) (limit : ℕ) (old new : VipState) (out out' out'' :
   traced-fails e fault = fails_at (screen_told new) e screen fault
 
 -- a fault among the lines
-pub traced-early : (with_time with_screen : Bool) (v : VipState) (limit : ℕ) (out out' : SinkMeaning) → FailsWithin (pieces_of (Lines with_time) v limit (events_to v limit)) out out' → FailsWithin (traced with_time with_screen v limit) out out'
+pub traced-early : (with_time with_screen : Bool) (v : VipState) (limit : ℕ) (out out' : SinkMeaning)
+    → FailsWithin (pieces_of (Lines with_time) v limit (events_to v limit)) out out' → FailsWithin (traced with_time with_screen v limit) out out'
 traced-early with_time with_screen v limit out out' fault =
     FailsWithin-more (trace_lines v.edition with_time (events_to v limit)) (if with_screen then screen_piece v.edition (last_dispatch (events_to v limit)) else []) out out'
     (subst (λ pieces. FailsWithin pieces out out') (lines-are with_time v limit) fault)
@@ -391,7 +416,8 @@ module _ (number limit : ℕ) (old new : VipState) (out out' out'' : SinkMeaning
   pub summed-fails : PutFails line_told out' out'' → FailsWithin (summed number old limit) out out''
   summed-fails fault = subst (λ line. FailsWithin (line ∷ []) out out'') line_is (FailsWithin-snoc [] line_told [] out out' out'' nothing_out fault)
 
-pub summed-early : (number : ℕ) (v : VipState) (limit : ℕ) (out out' : SinkMeaning) → FailsWithin (pieces_of Nothing v limit (events_to v limit)) out out' → FailsWithin (summed number v limit) out out'
+pub summed-early : (number : ℕ) (v : VipState) (limit : ℕ) (out out' : SinkMeaning)
+    → FailsWithin (pieces_of Nothing v limit (events_to v limit)) out out' → FailsWithin (summed number v limit) out out'
 summed-early number v limit out out' fault = absurd (never _ (no_pieces (events_to v limit)) fault.before fault.piece fault.after fault.place)
   where
     no_pieces : (events : List Event) → pieces_of Nothing v limit events ≡ []
@@ -403,7 +429,8 @@ summed-early number v limit out out' fault = absurd (never _ (no_pieces (events_
     never pieces none (b ∷ before) piece after place = let bad : b ∷ (before ++ piece ∷ after) ≡ [] = sym place ∙ none in cc
 
 -- the line that is put
-pub line-put : (number dispatches pictures lit lit' : ℕ) (bytes text : List ℕ) → bytes ≡ text → text ≡ summary_line number dispatches pictures lit → lit ≡ lit' → bytes ≡ summary_line number dispatches pictures lit'
+pub line-put : (number dispatches pictures lit lit' : ℕ) (bytes text : List ℕ) → bytes ≡ text → text ≡ summary_line number dispatches pictures lit
+    → lit ≡ lit' → bytes ≡ summary_line number dispatches pictures lit'
 line-put number dispatches pictures lit lit' bytes text is same told = is ∙ same ∙ ap (summary_line number dispatches pictures) told
 
 pub puts-line : (line line' : List ℕ) (old new : SinkMeaning) → line ≡ line' → PutsWhole line old new → PutsWhole line' old new

@@ -1,6 +1,7 @@
 -- Lists of events: one event more at their end, and nothing behind a stop.
-use Rattle.std.proofs.Common.{◌≡◌, ℕ, ◌+◌, ◌-◌, ◌≤◌, List, [], ◌∷◌, ◌++◌, length, map, refl, ap, subst, arith, Bool, true, false, length-append}
+use Rattle.std.proofs.Common.{◌≡◌, ℕ, ◌+◌, ◌-◌, ◌≤◌, List, [], ◌∷◌, ◌++◌, length, map, refl, subst, arith, Bool, true, false, length-append}
 use Rattle.std.specs.Prelude.{if◌then◌else◌, filter}
+use Rattle.std.proofs.lemmas.List.Elements.{filter-append}
 use Rattle.machine.specs.Board.{Machine}
 use Rattle.machine.specs.Keys.{Event as KeyEvent}
 use Rattle.machine.specs.Pictures.{windows_ended, is_shown}
@@ -10,14 +11,6 @@ use Rattle.chip8_lang.specs.Places.{Interpreter}
 use Rattle.vip_show.specs.Output.{count_of}
 
 -- ---- counts
-
-filter-append : (is : Event → Bool) (events more : List Event) → filter is (events ++ more) ≡ filter is events ++ filter is more
-filter-append is [] more = refl
-filter-append is (e ∷ events) more = go (is e) (filter-append is events more)
-  where
-    go : (b : Bool) → filter is (events ++ more) ≡ filter is events ++ filter is more → (if b then e ∷ filter is (events ++ more) else filter is (events ++ more)) ≡ (if b then e ∷ filter is events else filter is events) ++ filter is more
-    go true same = ap (λ es. e ∷ es) same
-    go false same = same
 
 pub count-more : (is : Event → Bool) (events : List Event) (e : Event) → count_of is (events ++ e ∷ []) ≡ count_of is events + count_of is (e ∷ [])
 count-more is events e = rw (filter-append is events (e ∷ []), length-append) refl
@@ -53,7 +46,8 @@ events-closed i run before (b ∷ bs) =
     (if is_stop i b then Stopped b ∷ [] else if is_dispatch i b then Dispatch b ∷ events_at i run b.cycle bs else events_at i run b.cycle bs)
     (here (is_stop i b) (is_dispatch i b) (events-closed i run b.cycle bs))
   where
-    here : (stop dispatch : Bool) → Closed (events_at i run b.cycle bs) → Closed (if stop then Stopped b ∷ [] else if dispatch then Dispatch b ∷ events_at i run b.cycle bs else events_at i run b.cycle bs)
+    here : (stop dispatch : Bool) → Closed (events_at i run b.cycle bs)
+        → Closed (if stop then Stopped b ∷ [] else if dispatch then Dispatch b ∷ events_at i run b.cycle bs else events_at i run b.cycle bs)
     here true dispatch c = refl
     here false true c = c
     here false false c = c
@@ -66,6 +60,7 @@ closed-last (Dispatch d ∷ done) b rest c = closed-last done b rest c
 closed-last (Stopped d ∷ []) b rest c = cc
 closed-last (Stopped d ∷ e ∷ done) b rest c = cc
 
-pub stop-last : (i : Interpreter) (game : List ℕ) (script : List KeyEvent) (limit : ℕ) (done : List Event) (b : Machine) (rest : List Event) → events_of i game script limit ≡ done ++ Stopped b ∷ rest → rest ≡ []
+pub stop-last : (i : Interpreter) (game : List ℕ) (script : List KeyEvent) (limit : ℕ) (done : List Event) (b : Machine) (rest : List Event)
+    → events_of i game script limit ≡ done ++ Stopped b ∷ rest → rest ≡ []
 unfolding events_of
 stop-last i game script limit done b rest split = closed-last done b rest (subst Closed split (events-closed i (game_run i game script limit) 0 (game_run i game script limit)))

@@ -1,12 +1,12 @@
 -- What is written of a run, piece by piece.
-use Rattle.std.specs.Prelude.{ℕ, ◌+◌, List, [], ◌∷◌, ◌++◌, Bool, true, false, if◌then◌else◌, Option, Some, None, length, filter, filter_map}
-use Rattle.std.specs.List.{flat_map}
+use Rattle.std.specs.Prelude.{ℕ, ◌+◌, List, [], ◌∷◌, ◌++◌, Bool, true, false, if◌then◌else◌, Option, Some, None, length, filter}
+use Rattle.std.specs.List.{flat_map, range_with_len}
 use Rattle.machine.specs.Board.{Machine}
 use Rattle.machine.specs.Pictures.{picture_of}
 use Rattle.chip8_lang.specs.declared.view.Edition.{Edition}
 use Rattle.chip8_lang.specs.Editions.{rows_of}
-use Rattle.chip8_lang.specs.Events.{Event, numbers_from}
-use Rattle.chip8_lang.specs.Events.Event.{Picture, Dispatch, Stopped}
+use Rattle.chip8_lang.specs.Events.{Event}
+use Rattle.chip8_lang.specs.Events.Event.{Picture, Dispatch}
 use Rattle.chip8_lang.specs.Places.{state_of}
 use Rattle.chip8_lang.specs.Screen.{Pixels}
 use Rattle.chip8_lang.specs.View.{view_at}
@@ -60,7 +60,7 @@ count_of is events = length (filter is events)
 
 -- the lit pixels of a row, and of so many rows
 abbrev pub lit_in_row : Pixels → ℕ → ℕ
-lit_in_row pixels y = length (filter (λ x. pixels x y) (numbers_from 0 64))
+lit_in_row pixels y = length (filter (λ x. pixels x y) (range_with_len 0 64))
 
 unfoldable pub lit_in_rows : Pixels → List ℕ → ℕ
 lit_in_rows pixels [] = 0
@@ -69,7 +69,7 @@ lit_in_rows pixels (y ∷ ys) = lit_in_row pixels y + lit_in_rows pixels ys
 -- the lit pixels at the last dispatch point, or 0 where there is none
 abbrev pub lit_at : Edition → Option Machine → ℕ
 lit_at e None = 0
-lit_at e (Some b) = lit_in_rows (state_of e b).screen (numbers_from 0 (rows_of e))
+lit_at e (Some b) = lit_in_rows (state_of e b).screen (range_with_len 0 (rows_of e))
 
 abbrev pub summary : Edition → ℕ → List Event → List ℕ
 summary e number events =

@@ -1,13 +1,11 @@
 -- What a run that begins has come to, with what is written of each event.
-use Rattle.std.specs.Prelude.{◌≡◌, ◌==◌, ℕ, List, [], ◌∷◌, length, filter, Option, Some, None, Result, Ok, Err}
-use Rattle.std.specs.List.{flat_map}
+use Rattle.std.specs.Prelude.{◌≡◌, ℕ, List, [], Option, Some, None, Result, Ok, Err}
+use Rattle.std.specs.List.{flat_map, range_with_len}
 use Rattle.std.specs.Option.{option_map, option_map_or}
 use Rattle.machine.specs.Board.{Machine}
-use Rattle.machine.specs.Pictures.{picture_of}
 use Rattle.chip8_lang.specs.declared.view.Edition.{Edition}
 use Rattle.chip8_lang.specs.Editions.{rows_of}
-use Rattle.chip8_lang.specs.Events.{Event, numbers_from}
-use Rattle.chip8_lang.specs.Events.Event.{Picture, Dispatch, Stopped}
+use Rattle.chip8_lang.specs.Events.{Event}
 use Rattle.chip8_lang.specs.Places.{pixels}
 use Rattle.chip8_lang.specs.Screen.{Pixels}
 use Rattle.vip_outside.specs.Sink.{SinkMeaning, PutAnswers}
@@ -72,8 +70,4 @@ screen_told v = option_map (λ view. screen_lines (pixels_told v) (rows_of v.edi
 
 -- its lit pixels, or 0 where none was met
 abbrev pub lit_told : VipState → ℕ
-lit_told v = option_map_or (λ view. lit_in_rows (pixels_told v) (numbers_from 0 (rows_of v.edition))) v.last 0
-
--- the `#` of a text
-unfoldable pub marks : List ℕ → ℕ
-marks text = length (filter (λ byte. byte == 35) text)
+lit_told v = option_map_or (λ view. lit_in_rows (pixels_told v) (range_with_len 0 (rows_of v.edition))) v.last 0

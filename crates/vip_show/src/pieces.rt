@@ -9,7 +9,7 @@ ghost use Rattle.vip_show.specs.Answers.{IsFresh, ShowAnswers, traced, pictured}
 ghost use Rattle.vip_show.specs.Run.{PieceAnswers, screen_told};
 
 use crate::run::{RunEnd, Shown, run};
-use vip_byte::Buffer;
+use vip_byte::{Buffer, MOST_CYCLE};
 use vip_outside::{Failed, Sink};
 use vip_relation::Vip;
 use vip_text::screen_text;
@@ -36,7 +36,7 @@ pub fn show_trace<O: Sink>(
     out: &mut O,
 ) -> Result<RunEnd, Failed>
     requires fresh { IsFresh vip.old }
-    requires limit { limit ≤ 4_000_000_000 }
+    requires limit { limit ≤ MOST_CYCLE }
     ensures { ShowAnswers vip.old limit (traced with_time with_screen vip.old limit) (O.meaning out.old) (O.meaning out.new) result }
 {
     let tally = run(vip, limit, Shown::Lines { with_time }, out)?;
@@ -49,7 +49,7 @@ pub fn show_trace<O: Sink>(
 /// Runs a machine that begins, and puts each finished picture, each as one piece. A put that fails ends it.
 pub fn show_pictures<O: Sink>(vip: &mut Vip, limit: u64, out: &mut O) -> Result<RunEnd, Failed>
     requires fresh { IsFresh vip.old }
-    requires limit { limit ≤ 4_000_000_000 }
+    requires limit { limit ≤ MOST_CYCLE }
     ensures { ShowAnswers vip.old limit (pictured vip.old limit) (O.meaning out.old) (O.meaning out.new) result }
 {
     Ok(run(vip, limit, Shown::Pictures, out)?.end)

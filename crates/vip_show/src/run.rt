@@ -8,7 +8,7 @@ ghost use Rattle.vip_show.specs.Answers.{IsFresh};
 ghost use Rattle.vip_show.specs.Run.{PieceAnswers, event_piece, RunAnswers};
 
 use chip8_lang::StopRecord;
-use vip_byte::Buffer;
+use vip_byte::{Buffer, MOST_CYCLE};
 use vip_outside::{Failed, Sink};
 use vip_relation::{Met, Vip};
 use vip_text::{picture_text, trace_text};
@@ -78,7 +78,7 @@ fn put_event<O: Sink>(vip: &Vip, met: &Met, shown: Shown, out: &mut O) -> Result
 /// Runs a machine that begins up to its limit or its stop point, and puts what is shown of each event, each as one piece.
 pub fn run<O: Sink>(vip: &mut Vip, limit: u64, shown: Shown, out: &mut O) -> Result<Tally, Failed>
     requires fresh { IsFresh vip.old }
-    requires limit { limit ≤ 4_000_000_000 }
+    requires limit { limit ≤ MOST_CYCLE }
     ensures { RunAnswers shown limit vip.old vip.new (O.meaning out.old) (O.meaning out.new) result }
 {
     let mut dispatches = 0u64;

@@ -1,32 +1,49 @@
 //! The line of summary of a run.
 
-ghost use Rattle.std.specs.Prelude.{◌≡◌, ◌≤◌, ◌==◌, if◌then◌else◌};
+ghost use Rattle.std.specs.Prelude.{◌≡◌, ◌+◌, ◌*◌, ◌/◌, ◌≤◌, length, if◌then◌else◌};
+ghost use Rattle.std.specs.List.{range_with_len};
+ghost use Rattle.vip_text.specs.Screens.{pixels_of};
 ghost use Rattle.vip_show.specs.Answers.{IsFresh, ShowAnswers, summed};
-ghost use Rattle.vip_show.specs.Run.{marks, lit_told};
+ghost use Rattle.vip_show.specs.Output.{lit_in_row, lit_in_rows};
+ghost use Rattle.vip_show.specs.Run.{lit_told};
 
 use crate::run::{RunEnd, Shown, run};
-use vip_byte::Buffer;
+use vip_byte::{Buffer, MOST_CYCLE};
 use vip_outside::{Failed, Sink};
 use vip_relation::Vip;
-use vip_text::{screen_text, summary_text};
+use vip_text::{ROW_SIZE, WIDTH, is_lit, summary_text};
 
-/// 1 for a `#`, 0 for every other byte.
-fn mark(byte: u8) -> u64
-    ensures value { result ≡ (if byte == 35 then 1 else 0) }
+/// How much a pixel adds to a count of lit ones.
+fn count_of(lit: bool) -> u64
+    ensures value { result ≡ (if lit then 1 else 0) }
     ensures few { result ≤ 1 }
 {
-    if byte == b'#' { 1 } else { 0 }
+    u64::from(lit)
 }
 
-/// How many `#` a text has.
-fn marks(text: &[u8]) -> u64
-    ensures { result ≡ marks text.now }
+/// How many pixels of row y of a screen are lit.
+fn lit_in_row(rows: &[u8], y: usize) -> u64
+    requires { 8 * y + 8 ≤ length rows.now }
+    ensures value { result ≡ lit_in_row (pixels_of rows.now) y }
+    ensures few { result ≤ 64 }
 {
-    let mut marks = 0u64;
-    for byte in text {
-        marks += mark(*byte);
+    let mut lit = 0u64;
+    for x in 0..WIDTH {
+        lit += count_of(is_lit(rows, x, y));
     }
-    marks
+    lit
+}
+
+/// How many pixels of a screen are lit.
+fn lit_pixels(rows: &[u8]) -> u64
+    requires { length rows.now ≤ 512 }
+    ensures { result ≡ lit_in_rows (pixels_of rows.now) (range_with_len 0 (length rows.now / 8)) }
+{
+    let mut lit = 0u64;
+    for y in 0..rows.len() / ROW_SIZE {
+        lit += lit_in_row(rows, y);
+    }
+    lit
 }
 
 /// The lit pixels of the screen at the last dispatch point met, or 0 where none was met.
@@ -36,9 +53,7 @@ fn lit(vip: &Vip) -> u64
     let Some(_) = vip.last() else {
         return 0;
     };
-    let mut text = Buffer::new();
-    screen_text(vip.shown(), &mut text);
-    marks(text.as_slice())
+    lit_pixels(vip.shown())
 }
 
 /// Runs a machine that begins, and puts a line that sums its run up as that of the demonstration game of a number, as one piece: how many
@@ -50,7 +65,7 @@ pub fn show_summary<O: Sink>(
     out: &mut O,
 ) -> Result<RunEnd, Failed>
     requires fresh { IsFresh vip.old }
-    requires limit { limit ≤ 4_000_000_000 }
+    requires limit { limit ≤ MOST_CYCLE }
     ensures { ShowAnswers vip.old limit (summed number vip.old limit) (O.meaning out.old) (O.meaning out.new) result }
 {
     let tally = run(vip, limit, Shown::Nothing, out)?;

@@ -14,7 +14,7 @@ mod trace;
 mod write;
 
 pub use picture::{PICTURE_SIZE, picture_text};
-pub use screen::screen_text;
+pub use screen::{ROW_SIZE, WIDTH, is_lit, screen_text};
 pub use stop::stop_text;
 pub use summary::summary_text;
 pub use trace::trace_text;

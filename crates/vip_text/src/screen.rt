@@ -8,10 +8,10 @@ ghost use Rattle.vip_text.specs.Screens.{dot, pixels_of, row_text, rows_text};
 use vip_byte::Buffer;
 
 /// The bytes of a row.
-const ROW_SIZE: usize = 8;
+pub const ROW_SIZE: usize = 8;
 
 /// The pixels of a row.
-const WIDTH: usize = 64;
+pub const WIDTH: usize = 64;
 
 /// Writes a screen of at most 64 rows, 8 bytes each, into an empty buffer: a line of 64 characters a row, `#` for a lit pixel and `.` for
 /// the others.
@@ -45,8 +45,8 @@ fn character(lit: bool) -> u8
     if lit { b'#' } else { b'.' }
 }
 
-/// Whether pixel (x, y) is lit.
-fn is_lit(rows: &[u8], x: usize, y: usize) -> bool
+/// Whether pixel (x, y) of a screen with 8 bytes a row is lit.
+pub fn is_lit(rows: &[u8], x: usize, y: usize) -> bool
     requires column { x < 64 }
     requires row { 8 * y + 8 ≤ length rows.now }
     ensures { result ≡ pixels_of rows.now x y }

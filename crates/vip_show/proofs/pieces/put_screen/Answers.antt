@@ -1,4 +1,4 @@
-use Rattle.std.proofs.Common.{◌≡◌, ◌∙◌, sym}
+use Rattle.std.proofs.Common.{◌∙◌, sym}
 use Rattle.chip8_lang.specs.Editions.{rows_of}
 use Rattle.vip_text.specs.Screens.{screen_lines}
 use Rattle.vip_show.specs.Run.{pixels_told}

@@ -1,4 +1,3 @@
-use Rattle.std.proofs.Common.{◌≡◌, subst}
 use Rattle.vip_show.proofs.Going.{show-fails, pictures-are}
 use Rattle.vip_show.proofs.pieces.show_pictures.Goals as goal
 

@@ -1,4 +1,3 @@
-use Rattle.std.proofs.Common.{◌≡◌}
 use Rattle.vip_show.proofs.Going.{show-fails, traced-early, traced-fails, traced-whole, traced-lines}
 use Rattle.vip_show.proofs.pieces.show_trace.Goals as goal
 

@@ -1,4 +1,4 @@
-use Rattle.std.proofs.Common.{◌≡◌, ap, ◌∙◌, sym}
+use Rattle.std.proofs.Common.{ap, ◌∙◌, sym}
 use Rattle.vip_board.specs.Seen.{Seen}
 use Rattle.vip_video.specs.Chip.{Chip}
 use Rattle.vip_text.specs.Screens.{picture_file}
@@ -9,5 +9,5 @@ pub returns : goal.returns
 returns g c =
     piece-put picture_file _ _ _ _ _ _
     (ap (λ (b : Seen). b.pictures.finished) (sym c.board.ensures.board) ∙ ap (λ (v : Chip). v.pictures.finished) (sym c.video.ensures) ∙ sym c.in-Some.ensures.picture)
-    (c.as_slice.ensures.value ∙ c.picture_text.ensures)
+    (c.as_slice.ensures.value ∙ c.picture_text.ensures.file)
     c.put.ensures.answer

@@ -1,4 +1,4 @@
-use Rattle.std.proofs.Common.{◌≡◌, ◌≤◌, ◌+◌, arith, refl}
+use Rattle.std.proofs.Common.{◌≤◌, arith, refl}
 use Rattle.vip_show.proofs.Going.{going-first, at_dispatch, at_picture, at_stop, at_end, puts-dispatch, puts-picture, fails-dispatch, fails-picture, run-fails, fewer-dispatch, fewer-picture, ran-stop, ran-end, counts-fit}
 use Rattle.vip_show.proofs.run.run.Goals as goal
 

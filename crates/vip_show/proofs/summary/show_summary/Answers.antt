@@ -1,4 +1,3 @@
-use Rattle.std.proofs.Common.{◌≡◌}
 use Rattle.vip_show.proofs.Going.{show-fails, summed-early, summed-fails, summed-whole, line-put, puts-line, fails-line}
 use Rattle.vip_show.proofs.summary.show_summary.Goals as goal
 
