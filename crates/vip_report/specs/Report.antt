@@ -10,7 +10,7 @@ use Rattle.vip_keypad.specs.declared.script.ScriptCause.TheVariants as script
 use Rattle.vip_debug.specs.declared.command.CommandCause.{CommandCause}
 use Rattle.vip_debug.specs.declared.command.CommandCause.TheVariants as command
 use Rattle.vip_text.specs.Stops.{stop_line}
-use Rattle.vip_text.specs.Traces.{newline}
+use Rattle.vip_byte.specs.Text.{newline}
 use Rattle.vip_show.specs.Answers.{ending_in}
 use Rattle.vip_show.specs.Endings.{Ending}
 use Rattle.vip_show.specs.Endings.Ending.{AtLimit, AtStop}

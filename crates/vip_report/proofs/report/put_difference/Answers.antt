@@ -1,7 +1,7 @@
 use Rattle.std.proofs.Common.{◌++◌}
 use Rattle.std.specs.Prelude.{codes}
 use Rattle.vip_byte.specs.HexText.{hex2, hex4}
-use Rattle.vip_text.specs.Traces.{newline}
+use Rattle.vip_byte.specs.Text.{newline}
 use Rattle.vip_outside.proofs.SinkLemmas.{GainAnswers-put}
 use Rattle.vip_report.proofs.ReportLemmas.{three-then, three-fails}
 use Rattle.vip_report.proofs.report.put_difference.Goals as goal
