@@ -14,30 +14,27 @@ use Rattle.vip_board.specs.Moves.{IfDone}
 use Rattle.vip_board.specs.Seen.{Seen, held_by}
 use Rattle.vip_board.specs.declared.board.Moved.{Moved}
 
--- The board holds the ROM of an edition and is past the first dispatch point, with the record of what came since the last one; or it is in
--- boot.
+-- The board holds the ROM of an edition and is past the first dispatch point, with the record of what came since the last one.
 abbrev pub RunsWith : Edition → Since → Seen → Type 0
 RunsWith e h b = (b.rom ≡ image e) × Running e b.script b.machine h
 
+-- it does, and its next address lies in a part of the ROM
+abbrev pub RunsIn : Part → Edition → Since → Seen → Type 0
+RunsIn p e h b = RunsWith e h b × IsIn p b.machine
+
+-- it holds the ROM of an edition, and a game, and is in boot
 abbrev pub BootsWith : Edition → List ℕ → Seen → Type 0
 BootsWith e game b = (b.rom ≡ image e) × Booting e b.script game b.machine
-
--- it runs, and its next address lies in a part of the ROM
-abbrev pub RunsIn : Part → Seen → Type 0
-RunsIn p b = (e : Edition) × (h : Since) × RunsWith e h b × IsIn p b.machine
-
-abbrev pub IsBooting : Seen → Type 0
-IsBooting b = (e : Edition) × (game : List ℕ) × BootsWith e game b
 
 -- the record as the board's next move carries it on
 abbrev pub carried_on : Seen → Since → Since
 carried_on b h = carried b.rom (held_by b) b.machine h
 
--- the move of a running board comes, with the record carried on, to no event, to a dispatch point, or to a stop
-abbrev pub KeepsRunning : Moved → Seen → Seen → Type 0
-KeepsRunning result old new =
+-- The move of a board that runs in a part comes, with the record carried on, to no event, to a dispatch point, or to a stop.
+abbrev pub KeepsRunning : Part → Moved → Seen → Seen → Type 0
+KeepsRunning p result old new =
     (e : Edition) (h : Since)
-    → RunsWith e h old
+    → RunsIn p e h old
     → IfDone result (λ m. Moves (vip e) old.script (Running e old.script) (carried_on old h) new.machine)
 
 -- that of one in boot stays in boot, or comes to the first dispatch point
@@ -52,8 +49,7 @@ KeepsBooting result old new =
 abbrev pub KeepsTime : Moved → Seen → Seen → Type 0
 KeepsTime result old new =
     (e : Edition) (h : Since)
-    → RunsWith e h old
-    → IsIn Fetch old.machine
+    → RunsIn Fetch e h old
     → is_fetchable e h.state ≡ true
     → old.machine.regs.p ≡ 4
     → IfDone result (λ m. new.machine.regs.p ≡ 3 → (carried_on old h).spent ≡ DISPATCH)

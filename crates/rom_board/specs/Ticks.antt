@@ -1,0 +1,32 @@
+-- What a run of the interrupt routine makes of a board.
+use Rattle.std.specs.Prelude.{◌≡◌, ℕ, zero, suc, ◌*◌}
+use Rattle.machine.specs.Pictures.{interrupt_at}
+use Rattle.machine.specs.Schedule.{Tick}
+use Rattle.chip8_lang.specs.declared.view.Edition.{Edition}
+use Rattle.chip8_lang.specs.Editions.{memory_end}
+use Rattle.rom_law.specs.Rows.{Since, after_tick}
+use Rattle.rom_law.specs.Runs.{Moves}
+use Rattle.rom_rows.specs.Rom.{vip}
+use Rattle.rom_run.specs.Running.{Running}
+use Rattle.rom_timer.specs.Routine.{routine_moves}
+use Rattle.vip_board.specs.Moves.{moved}
+use Rattle.vip_board.specs.Seen.{Seen}
+use Rattle.rom_board.specs.Runs.{RunsWith}
+
+-- the board after so many moves
+unfoldable pub moved_times : ℕ → Seen → Seen
+moved_times zero b = b
+moved_times (suc n) b = moved (moved_times n b)
+
+-- the most machine cycles that as many moves take as the routine has, three a move
+abbrev pub most_cycles : ℕ
+most_cycles = 3 * routine_moves
+
+-- the board runs the interpreter, and its next move is the interrupt of a frame
+abbrev pub StartsTick : Edition → Since → Seen → Type 0
+StartsTick e h b = RunsWith e h b × (m : ℕ) × (b.machine.cycle ≡ interrupt_at m)
+
+-- One timer tick was made and counted: with that record it comes to no event, to a dispatch point, or to a stop.
+pub record MadeTick (e : Edition) (h : Since) (old new : Seen) : Type 0 where
+  pub tick : Tick (memory_end e) old.machine new.machine
+  pub comes : Moves (vip e) old.script (Running e old.script) (after_tick h) new.machine
