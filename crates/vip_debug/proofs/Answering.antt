@@ -4,7 +4,7 @@ use Rattle.std.specs.Prelude.{if◌then◌else◌, codes}
 use Rattle.machine.specs.Board.{Machine, byte_of}
 use Rattle.chip8_lang.specs.declared.view.StopRecord.{StopRecord}
 use Rattle.chip8_lang.specs.Events.{is_stop}
-use Rattle.vip_text.specs.Traces.{newline}
+use Rattle.vip_byte.specs.Text.{newline}
 use Rattle.vip_memory.specs.Contents.{Contents}
 use Rattle.vip_board.specs.Seen.{Seen}
 use Rattle.vip_relation.specs.State.{VipState, interpreter, events_to, state_after}
@@ -42,7 +42,8 @@ module _ (v : VipState) (f : Follows v) (s : Seen) (is : s ≡ v.board) where
   contents_of : Seen → Contents
   contents_of x = record { ram = x.machine.ram; rom = x.rom; latch = x.machine.latch }
 
-  by_bus : {X : Type 0} (text : (ℕ → ℕ) → X) (m : Contents) → m ≡ contents_of s → text (reads m) ≡ text (byte_of (interpreter v).rom (state_after (begun v) v.moves))
+  by_bus : {X : Type 0} (text : (ℕ → ℕ) → X) (m : Contents) → m ≡ contents_of s
+      → text (reads m) ≡ text (byte_of (interpreter v).rom (state_after (begun v) v.moves))
   unfolding contents_of
   by_bus text m e =
       ap (λ x. text (reads x)) e
@@ -50,11 +51,13 @@ module _ (v : VipState) (f : Follows v) (s : Seen) (is : s ≡ v.board) where
       ∙ ap (λ rom. text (byte_of rom v.board.machine)) f.rom
       ∙ ap (λ b. text (byte_of (interpreter v).rom b)) f.machine
 
-  pub mem-shown : (address count : ℕ) (m : Contents) → m ≡ record { ram = s.machine.ram; rom = s.rom; latch = s.machine.latch } → mem_lines (reads m) address count ≡ shown_pieces (begun v) (Mem address count) (place_of v)
+  pub mem-shown : (address count : ℕ) (m : Contents) → m ≡ record { ram = s.machine.ram; rom = s.rom; latch = s.machine.latch }
+      → mem_lines (reads m) address count ≡ shown_pieces (begun v) (Mem address count) (place_of v)
   unfolding shown_pieces contents_of
   mem-shown address count m e = by_bus (λ byte. mem_lines byte address count) m e
 
-  pub dis-shown : (address count : ℕ) (m : Contents) → m ≡ record { ram = s.machine.ram; rom = s.rom; latch = s.machine.latch } → dis_lines (reads m) address count ≡ shown_pieces (begun v) (Dis address count) (place_of v)
+  pub dis-shown : (address count : ℕ) (m : Contents) → m ≡ record { ram = s.machine.ram; rom = s.rom; latch = s.machine.latch }
+      → dis_lines (reads m) address count ≡ shown_pieces (begun v) (Dis address count) (place_of v)
   unfolding shown_pieces contents_of
   dis-shown address count m e = by_bus (λ byte. dis_lines byte address count) m e
 
@@ -117,7 +120,8 @@ module _ (v : VipState) (f : Follows v) (running : Running) where
   at_line false true line other e done = refl
   at_line false false line other e done = cc
 
-  at_end : (t c : Bool) (line other : List ℕ) → t ≡ false → c ≡ false → (if t then line else if c then other else codes "end" ++ newline) ≡ codes "end" ++ newline
+  at_end : (t c : Bool) (line other : List ℕ) → t ≡ false → c ≡ false
+      → (if t then line else if c then other else codes "end" ++ newline) ≡ codes "end" ++ newline
   at_end true c line other e done = cc
   at_end false true line other e done = cc
   at_end false false line other e done = refl
@@ -131,7 +135,8 @@ module _ (v : VipState) (f : Follows v) (running : Running) where
       ap stop_text (stop-is v f stop is)
       ∙ sym (at_stop (is_stop (interpreter v) (state_after v v.moves)) completed (stop_text (stop_by (begun v) v.moves)) (completed_line (begun v) running (state_after v v.moves)) (stop_test true (stops-here v stop is)))
 
-  pub line-completed : (completed : Bool) → None ≡ stop_here v → completed ≡ true → completed_line (begun v) running v.board.machine ≡ running_line (begun v) running (here completed)
+  pub line-completed : (completed : Bool) → None ≡ stop_here v → completed ≡ true
+      → completed_line (begun v) running v.board.machine ≡ running_line (begun v) running (here completed)
   unfolding running_line
   line-completed completed is done =
       ap (completed_line (begun v) running) f.machine
@@ -143,7 +148,8 @@ module _ (v : VipState) (f : Follows v) (running : Running) where
       sym (at_end (is_stop (interpreter v) (state_after v v.moves)) completed (stop_text (stop_by (begun v) v.moves)) (completed_line (begun v) running (state_after v v.moves)) (stop_test false (runs-here v is)) done)
 
 -- where the board arrived, seen from where the command began
-pub line-arrived : (limit : ℕ) (running : Running) (old v : VipState) (completed : Bool) → Arrives limit running old v completed → running_line (begun v) running (record { place = place_of v; completed = completed }) ≡ running_line (begun old) running (arrival (begun old) limit running (place_of old))
+pub line-arrived : (limit : ℕ) (running : Running) (old v : VipState) (completed : Bool) → Arrives limit running old v completed
+    → running_line (begun v) running (record { place = place_of v; completed = completed }) ≡ running_line (begun old) running (arrival (begun old) limit running (place_of old))
 line-arrived limit running old v completed a =
     ap (λ (x : VipState). running_line x running (record { place = place_of v; completed = completed })) (begun-same old v a.makes.same)
     ∙ ap (λ p. running_line (begun old) running (record { place = p; completed = completed })) a.makes.place

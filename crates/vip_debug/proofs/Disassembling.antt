@@ -77,7 +77,8 @@ taken-three (x ∷ y ∷ []) = refl
 taken-three (x ∷ y ∷ z ∷ rest) = sym (taken_same x y z rest)
 
 -- the first three of so many bytes, or fewer
-pub first-three : (byte : ℕ → ℕ) (at n p q r : ℕ) → 1 ≤ n → p ≡ byte at → (2 ≤ n → q ≡ byte (at + 1)) → (3 ≤ n → r ≡ byte (at + 2)) → take (min n 3) (p ∷ q ∷ r ∷ []) ≡ take 3 (bytes_from byte at n)
+pub first-three : (byte : ℕ → ℕ) (at n p q r : ℕ) → 1 ≤ n → p ≡ byte at → (2 ≤ n → q ≡ byte (at + 1)) → (3 ≤ n → r ≡ byte (at + 2))
+    → take (min n 3) (p ∷ q ∷ r ∷ []) ≡ take 3 (bytes_from byte at n)
 first-three byte at zero p q r some first second third = absurd (omega (arith, some))
 first-three byte at (suc zero) p q r some first second third =
     let one : min (suc zero) 3 ≡ 1 = omega arith in
@@ -108,7 +109,8 @@ module _ (byte : ℕ → ℕ) (at have p q r : ℕ) (low : at < 0x10000) (size :
   taken-read = ap taken read_three ∙ taken-three (bytes_from byte at (0x10000 - at))
 
 -- at whatever error is passed on
-pub line-fails : (byte : ℕ → ℕ) (at : ℕ) (old new : SinkMeaning) (r : Result ℕ Failed) → IsErr r → PutFails (ended_line at (bytes_from byte at (0x10000 - at))) old new → PutsLine byte at old new r
+pub line-fails : (byte : ℕ → ℕ) (at : ℕ) (old new : SinkMeaning) (r : Result ℕ Failed) → IsErr r
+    → PutFails (ended_line at (bytes_from byte at (0x10000 - at))) old new → PutsLine byte at old new r
 line-fails byte at old new (Ok shown) bad fault = cc
 line-fails byte at old new (Err e) bad fault = fault
 
@@ -132,7 +134,8 @@ module _ (byte : ℕ → ℕ) where
       let size : length (bytes_from byte at (0x10000 - at)) ≡ 0x10000 - at = length_bytes at (0x10000 - at) in
       omega (arith, size, taken_within (bytes_from byte at (0x10000 - at)) (omega (arith, size, low)))
 
-  left_next : (at count : ℕ) → at < 0x10000 → lines_left at (suc count) ≡ ended_line at (bytes_from byte at (0x10000 - at)) ∷ lines_left (at + shown_at at) count
+  left_next : (at count : ℕ) → at < 0x10000
+      → lines_left at (suc count) ≡ ended_line at (bytes_from byte at (0x10000 - at)) ∷ lines_left (at + shown_at at) count
   left_next at count low =
       let bytes = bytes_from byte at (0x10000 - at) in
       let size : length bytes ≡ 0x10000 - at = length_bytes at (0x10000 - at) in
@@ -180,7 +183,8 @@ module _ (byte : ℕ → ℕ) where
           low = omega (arith, put.1, shown_most at low);
         }
 
-    pub disassembles-fail : (e : Failed) (r : Result (Unit {0}) Failed) → IsErr r → PutsLine byte at middle new (Err e) → StreamAnswers (dis_lines byte address count) old new r
+    pub disassembles-fail : (e : Failed) (r : Result (Unit {0}) Failed) → IsErr r → PutsLine byte at middle new (Err e)
+        → StreamAnswers (dis_lines byte address count) old new r
     disassembles-fail e r bad fault =
         StreamAnswers-fault (dis_lines byte address count) s.done (ended_line at (bytes_from byte at (0x10000 - at))) (lines_left (at + shown_at at) (count - (line + 1))) old middle new r next_split bad s.puts fault
 

@@ -20,7 +20,8 @@ use Rattle.vip_debug.proofs.Answering.{stands, stop_here, runs-here, stops-here,
 -- ---- one command more
 
 module _ (start : VipState) (limit : ℕ) where
-  place_more : (cs : List Command) (c : Command) (p : Place) → place_after start limit (cs ++ c ∷ []) p ≡ place_with start limit c (place_after start limit cs p)
+  place_more : (cs : List Command) (c : Command) (p : Place)
+      → place_after start limit (cs ++ c ∷ []) p ≡ place_with start limit c (place_after start limit cs p)
   place_more [] c p = refl
   place_more (x ∷ cs) c p = place_more cs c (place_with start limit x p)
 
@@ -31,7 +32,8 @@ module _ (start : VipState) (limit : ℕ) where
       ap (λ more. pieces start limit x p ++ more) (written_more cs c rest (place_with start limit x p))
       ∙ sym (append_assoc (pieces start limit x p) (written start limit cs (place_with start limit x p)) (pieces start limit c (place_after start limit cs (place_with start limit x p)) ++ written start limit rest (place_with start limit c (place_after start limit cs (place_with start limit x p)))))
 
-  written_last : (cs : List Command) (c : Command) (p : Place) → written start limit (cs ++ c ∷ []) p ≡ written start limit cs p ++ pieces start limit c (place_after start limit cs p)
+  written_last : (cs : List Command) (c : Command) (p : Place)
+      → written start limit (cs ++ c ∷ []) p ≡ written start limit cs p ++ pieces start limit c (place_after start limit cs p)
   written_last cs c p = written_more cs c [] p ∙ ap (λ more. written start limit cs p ++ more) (append-nil (pieces start limit c (place_after start limit cs p)))
 
 -- ---- on the way
@@ -75,7 +77,8 @@ module _ (limit : ℕ) (old v v' : VipState) (done : List Command) (c : Command)
             (PutsAll-append (written (begun old) limit done (place_of old)) (pieces (begun old) limit c (place_after (begun old) limit done (place_of old))) out out' out'' d.puts (subst (λ ps. PutsAll ps out' out'') pieces_are put));
       }
 
-  pub debugs-fail : (all rest : List Command) → all ≡ done ++ c ∷ rest → FailsWithin (pieces (begun v) limit c (place_of v)) out' out'' → DebugAnswers (begun old) limit all (place_of old) v' out out'' WriteFault
+  pub debugs-fail : (all rest : List Command) → all ≡ done ++ c ∷ rest → FailsWithin (pieces (begun v) limit c (place_of v)) out' out''
+      → DebugAnswers (begun old) limit all (place_of old) v' out out'' WriteFault
   debugs-fail all rest split fault =
       let here : FailsWithin (pieces (begun old) limit c (place_after (begun old) limit done (place_of old))) out' out'' = subst (λ ps. FailsWithin ps out' out'') pieces_are fault in
       let more = FailsWithin-more (pieces (begun old) limit c (place_after (begun old) limit done (place_of old))) (written (begun old) limit rest (place_with (begun old) limit c (place_after (begun old) limit done (place_of old)))) out' out'' here in (

@@ -1,4 +1,3 @@
-pub mod TextLemmas
 pub mod Places
 pub mod Passing
 pub mod Moving

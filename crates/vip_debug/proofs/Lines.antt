@@ -12,10 +12,11 @@ use Rattle.vip_outside.specs.Sink.{SinkMeaning, PutsWhole, PutFails}
 use Rattle.vip_outside.specs.Pieces.{PutsAll, StreamAnswers}
 use Rattle.vip_outside.specs.declared.sink.Failed.{Failed}
 use Rattle.vip_outside.proofs.PiecesLemmas.{PutsAll-snoc, StreamAnswers-fault}
-use Rattle.vip_debug.proofs.TextLemmas.{range_with_len-add}
+use Rattle.vip_byte.proofs.RangeLemmas.{range_with_len-add}
 
 -- one number more, behind a blank
-pub text-more : (digits : ℕ → List ℕ) (f : ℕ → ℕ) (a n : ℕ) (before items last : List ℕ) → items ≡ before ++ flat_map (λ x. 32 ∷ digits x) (map f (range_with_len a n)) → last ≡ digits (f (a + n))
+pub text-more : (digits : ℕ → List ℕ) (f : ℕ → ℕ) (a n : ℕ) (before items last : List ℕ)
+    → items ≡ before ++ flat_map (λ x. 32 ∷ digits x) (map f (range_with_len a n)) → last ≡ digits (f (a + n))
     → (items ++ 32 ∷ []) ++ last ≡ before ++ flat_map (λ x. 32 ∷ digits x) (map f (range_with_len a (n + 1)))
 text-more digits f a n before items last so_far is =
     let g : ℕ → List ℕ = λ x. 32 ∷ digits x in
@@ -27,7 +28,8 @@ text-more digits f a n before items last so_far is =
     ∙ ap (λ xs. before ++ flat_map g xs) (sym (map-range_with_len_more f a n (a + n) refl))
 
 -- three parts behind one another in an empty buffer
-pub joined-3 : (value none first second third x y z : List ℕ) → none ≡ [] → first ≡ none ++ x → second ≡ first ++ y → third ≡ second ++ z → value ≡ third → value ≡ x ++ y ++ z
+pub joined-3 : (value none first second third x y z : List ℕ) → none ≡ [] → first ≡ none ++ x → second ≡ first ++ y → third ≡ second ++ z
+    → value ≡ third → value ≡ x ++ y ++ z
 joined-3 value none first second third x y z empty a b c is =
     is ∙ c ∙ ap (λ xs. xs ++ z) (b ∙ ap (λ xs. xs ++ y) (a ∙ ap (λ xs. xs ++ x) empty))
 
@@ -37,7 +39,8 @@ pub registers-none : (r : Regs) (items : List ℕ) → items ≡ items ++ regist
 unfolding registers_text
 registers-none r items = sym (append-nil items)
 
-pub registers-more : (r : Regs) (n : ℕ) (before items last : List ℕ) (number : ℕ) → items ≡ before ++ registers_text r n → number ≡ at r n → last ≡ hex4 number → (items ++ 32 ∷ []) ++ last ≡ before ++ registers_text r (n + 1)
+pub registers-more : (r : Regs) (n : ℕ) (before items last : List ℕ) (number : ℕ) → items ≡ before ++ registers_text r n → number ≡ at r n
+    → last ≡ hex4 number → (items ++ 32 ∷ []) ++ last ≡ before ++ registers_text r (n + 1)
 unfolding registers_text
 registers-more r n before items last number so_far is digits =
     text-more hex4 (at r) 0 n before items last so_far (digits ∙ ap hex4 (is ∙ ap (at r) (sym (zero-add n))))
@@ -58,6 +61,7 @@ module _ (f : ℕ → List ℕ) (old middle new : SinkMeaning) where
   pieces-more k so_far put =
       rw (map-range_with_len_more f 0 k k (zero-add k)) (PutsAll-snoc (map f (range_with_len 0 k)) (f k) old middle new so_far put)
 
-  pub pieces-fail : (k m : ℕ) (r : Result (Unit {0}) Failed) → k < m → IsErr r → PutsAll (map f (range_with_len 0 k)) old middle → PutFails (f k) middle new → StreamAnswers (map f (range_with_len 0 m)) old new r
+  pub pieces-fail : (k m : ℕ) (r : Result (Unit {0}) Failed) → k < m → IsErr r → PutsAll (map f (range_with_len 0 k)) old middle
+      → PutFails (f k) middle new → StreamAnswers (map f (range_with_len 0 m)) old new r
   pieces-fail k m r below bad so_far fault =
       StreamAnswers-fault (map f (range_with_len 0 m)) (map f (range_with_len 0 k)) (f k) (map f (range_with_len (k + 1) (m - suc k))) old middle new r (split f k m below) bad so_far fault

@@ -30,7 +30,8 @@ module _ (limit : ℕ) (v v' : VipState) (name : Move) (m : MovesOn v v' name) w
   pub moved-within : (Rests limit v → ⊥) → v'.board.machine.cycle ≤ limit
   moved-within moves = by_test (cases_lt limit (v.board.machine.cycle + length_of v.board.rom v.board.machine))
     where
-      by_test : (limit < v.board.machine.cycle + length_of v.board.rom v.board.machine) ⊎ (v.board.machine.cycle + length_of v.board.rom v.board.machine ≤ limit) → v'.board.machine.cycle ≤ limit
+      by_test : (limit < v.board.machine.cycle + length_of v.board.rom v.board.machine) ⊎ (v.board.machine.cycle + length_of v.board.rom v.board.machine ≤ limit)
+          → v'.board.machine.cycle ≤ limit
       by_test (inl over) = absurd (moves (inr over))
       by_test (inr within) = omega (arith, within, moved_cycle)
 
@@ -76,7 +77,8 @@ module _ (limit : ℕ) (old v : VipState) (moves : ℕ) (s : Moving limit old v 
   makes_here : (made : ℕ) → v.moves ≡ made → Makes limit old v (moved_to (begun old) made (place_of old))
   makes_here made is = record { same = s.same; place = s.place ∙ ap (λ n. moved_to (begun old) n (place_of old)) is; within = s.within }
 
-  pub rests-early : (n : ℕ) (v' : VipState) → v' ≡ v → moves < n → Rests limit v → Makes limit old v' (moved_to (begun old) (min (old.moves + n) (moves_until (begun old) limit)) (place_of old))
+  pub rests-early : (n : ℕ) (v' : VipState) → v' ≡ v → moves < n → Rests limit v
+      → Makes limit old v' (moved_to (begun old) (min (old.moves + n) (moves_until (begun old) limit)) (place_of old))
   rests-early n v' kept few rests =
       subst (λ (x : VipState). Makes limit old x (moved_to (begun old) (min (old.moves + n) (moves_until (begun old) limit)) (place_of old))) (sym kept)
       (makes_here (min (old.moves + n) (moves_until (begun old) limit)) (let all = all_moves rests in omega (arith, all, s.made, few)))
@@ -142,7 +144,8 @@ module _ (cycle : ℕ) (old v : VipState) (s : MovingUntil cycle old v) where
           let all : v.moves ≡ moves_until (begun v) cycle = made-all v s.follows cycle within rests in
           omega (arith, all, until-same old v s.begins s.follows s.same cycle, s.order)
 
-  pub makes-until : (v' : VipState) → v' ≡ v → Rests cycle v → Makes (max old.board.machine.cycle cycle) old v' (moved_to (begun old) (max old.moves (moves_until (begun old) cycle)) (place_of old))
+  pub makes-until : (v' : VipState) → v' ≡ v → Rests cycle v
+      → Makes (max old.board.machine.cycle cycle) old v' (moved_to (begun old) (max old.moves (moves_until (begun old) cycle)) (place_of old))
   makes-until v' kept rests =
       subst (λ (x : VipState). Makes (max old.board.machine.cycle cycle) old x (moved_to (begun old) (max old.moves (moves_until (begun old) cycle)) (place_of old))) (sym kept)
       (record { same = s.same; place = s.place ∙ ap (λ n. moved_to (begun old) n (place_of old)) (made_here rests); within = s.within })
@@ -181,14 +184,19 @@ module _ (limit : ℕ) (old v : VipState) (f : Follows old) (g : Follows v) wher
       let found = by_answer (slice_get (points_left old limit) (n - 1)) answer c in
       record { makes = found.makes; completed = found.completed; told = found.told }
 
-  pub arrives-break : (pc : ℕ) (answer : Bool) → FindAnswers limit old v (find (has_pc old pc) (points_left old limit)) answer → Arrives limit (Break pc) old v answer
+  pub arrives-break : (pc : ℕ) (answer : Bool) → FindAnswers limit old v (find (has_pc old pc) (points_left old limit)) answer
+      → Arrives limit (Break pc) old v answer
   arrives-break pc answer c =
       let found = by_answer (find (has_pc old pc) (points_left old limit)) answer c in
       record { makes = found.makes; completed = found.completed; told = found.told }
 
-  pub arrives-step : (n : ℕ) (answer : Bool) → Makes limit old v (moved_to (begun old) (min (old.moves + n) (moves_until (begun old) limit)) (place_of old)) → answer ≡ nat_le (old.moves + n) (moves_until (begun old) limit) → Arrives limit (Step n) old v answer
+  pub arrives-step : (n : ℕ) (answer : Bool)
+      → Makes limit old v (moved_to (begun old) (min (old.moves + n) (moves_until (begun old) limit)) (place_of old))
+      → answer ≡ nat_le (old.moves + n) (moves_until (begun old) limit) → Arrives limit (Step n) old v answer
   arrives-step n answer makes is = record { makes = makes; completed = is; told = λ e. tt }
 
-  pub arrives-to : (cycle : ℕ) (answer : Bool) → old.board.machine.cycle ≤ limit → Makes (max old.board.machine.cycle (min cycle limit)) old v (moved_to (begun old) (max old.moves (moves_until (begun old) (min cycle limit))) (place_of old)) → answer ≡ nat_le cycle limit → Arrives limit (To cycle) old v answer
+  pub arrives-to : (cycle : ℕ) (answer : Bool) → old.board.machine.cycle ≤ limit
+      → Makes (max old.board.machine.cycle (min cycle limit)) old v (moved_to (begun old) (max old.moves (moves_until (begun old) (min cycle limit))) (place_of old))
+      → answer ≡ nat_le cycle limit → Arrives limit (To cycle) old v answer
   arrives-to cycle answer within makes is =
       record { makes = record { same = makes.same; place = makes.place; within = omega (arith, makes.within, within) }; completed = is; told = λ e. tt }

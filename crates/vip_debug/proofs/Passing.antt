@@ -94,7 +94,8 @@ module _ (limit : ℕ) (old v v' : VipState) (s : Passing limit old v) (f : Foll
         within = d.meets.one.within;
       }
 
-  pub passed-at-stop : (stop : StopRecord) → (HasStopped v → StopsAgain v v' (met.Stopped stop)) → ((HasStopped v → ⊥) → MeetsNext limit v v' (events_left v limit) (met.Stopped stop)) → PassesNone limit old v'
+  pub passed-at-stop : (stop : StopRecord) → (HasStopped v → StopsAgain v v' (met.Stopped stop))
+      → ((HasStopped v → ⊥) → MeetsNext limit v v' (events_left v limit) (met.Stopped stop)) → PassesNone limit old v'
   passed-at-stop stop again next = by_case (decided v)
     where
       by_case : HasStopped v ⊎ (HasStopped v → ⊥) → PassesNone limit old v'

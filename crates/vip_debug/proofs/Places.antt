@@ -142,7 +142,8 @@ module _ (i : Interpreter) (game : List ℕ) (script : List KeyEvent) (limit : �
   short zero over = omega (arith, ap length (run_to-past i.rom (held_at script) limit (at_move 0) over))
   short (suc n) over = by_test (short n) (cases_lt limit (at_move n).cycle)
     where
-      by_test : (limit < (at_move n).cycle → length (states_from 0) ≤ n) → (limit < (at_move n).cycle) ⊎ ((at_move n).cycle ≤ limit) → length (states_from 0) ≤ suc n
+      by_test : (limit < (at_move n).cycle → length (states_from 0) ≤ n) → (limit < (at_move n).cycle) ⊎ ((at_move n).cycle ≤ limit)
+          → length (states_from 0) ≤ suc n
       by_test shorter (inl earlier) = omega (arith, shorter earlier)
       by_test shorter (inr within) =
           omega (arith, all-states n within, ap length (run_to-next i.rom (held_at script) limit (at_move n) within), ap length (run_to-past i.rom (held_at script) limit (at_move (suc n)) over))

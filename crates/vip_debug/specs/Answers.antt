@@ -7,7 +7,8 @@ use Rattle.chip8_lang.specs.Events.{Event, is_stop}
 use Rattle.chip8_lang.specs.Places.{Interpreter}
 use Rattle.chip8_lang.specs.View.{view_at}
 use Rattle.vip_text.specs.Stops.{stop_line}
-use Rattle.vip_text.specs.Traces.{newline, trace_line}
+use Rattle.vip_byte.specs.Text.{newline}
+use Rattle.vip_text.specs.Traces.{trace_line}
 use Rattle.vip_outside.specs.Sink.{SinkMeaning}
 use Rattle.vip_outside.specs.Pieces.{PutsAll, FailsWithin}
 use Rattle.vip_relation.specs.State.{VipState, interpreter, run_of, events_to, started, state_after}

@@ -1,16 +1,15 @@
 -- The commands of the debugger: a text with one command a line (this project's format). Its lines, its words and its remarks are those of
 -- a key script.
-use Rattle.std.specs.Prelude.{ℕ, ◌+◌, if◌then◌else◌, nat_lt, List, [], ◌∷◌, length, slice_index_or, codes, Option, Some, None, Result, Ok, Err, ok_or}
-use Rattle.std.specs.List.{filter_map, range_with_len}
-use Rattle.std.specs.Option.{option_map}
-use Rattle.std.specs.Result.{result_err, result_ok, result_unwrap_or}
+use Rattle.std.specs.Prelude.{ℕ, ◌+◌, if◌then◌else◌, nat_lt, List, [], ◌∷◌, length, codes, Option, Some, None, Result, Ok, Err, ok_or}
+use Rattle.std.specs.Result.{result_err, result_ok}
 use Rattle.std.specs.Str.{bytes_eq}
-use Rattle.std.specs.Str.Lines.{lines}
 use Rattle.vip_byte.specs.declared.number.NumFault.{NumFault}
 use Rattle.vip_byte.specs.declared.number.NumFault.TheVariants.{TooLarge}
 use Rattle.vip_byte.specs.Number.{decimal_number, hex_number}
+use Rattle.vip_byte.specs.Reading.{Format, read, ◌>>=◌}
 use Rattle.vip_byte.specs.Text.{words}
 use Rattle.vip_keypad.specs.KeyScript.{is_silent}
+use Rattle.vip_debug.specs.declared.line.TheConstants.{MOST_STEPS, MOST_SHOWN}
 use Rattle.vip_debug.specs.declared.command.Command.{Command}
 use Rattle.vip_debug.specs.declared.command.Command.TheVariants.{Runs, Shows}
 use Rattle.vip_debug.specs.declared.command.Running.TheVariants.{Step, To, Next, Break}
@@ -21,20 +20,7 @@ use Rattle.vip_debug.specs.declared.command.CommandCause.TheVariants.{BadWord, B
 use Rattle.vip_debug.specs.declared.command.CommandFault.{CommandFault}
 use Rattle.vip_debug.specs.declared.command.CommandFault.TheVariants.{Fault}
 
--- the most moves or dispatch points of one command, and the most bytes or lines
-abbrev pub most_steps : ℕ
-most_steps = 1_000_000
-
-abbrev pub most_shown : ℕ
-most_shown = 4_096
-
 -- ---- the words of a command
-
--- the second step, if the first gave a value
-infixl 10 ◌>>=◌
-abbrev pub ◌>>=◌ : {A B : Type 0} → Result A CommandCause → (A → Result B CommandCause) → Result B CommandCause
-Ok value >>= next = next value
-Err cause >>= next = Err cause
 
 -- so many operands
 abbrev pub no_operand : Showing → List (List ℕ) → Result Command CommandCause
@@ -75,7 +61,7 @@ bytes_within address count = if nat_lt 0x10000 (address + count) then Err Range 
 unfoldable pub step_of : List (List ℕ) → Result Command CommandCause
 step_of operands = do
   word ← one_operand operands
-  moves ← decimal_within 1 most_steps word
+  moves ← decimal_within 1 MOST_STEPS word
   Ok (Runs (Step moves))
 
 -- up to a cycle that is at most the limit
@@ -88,7 +74,7 @@ to_of limit operands = do
 unfoldable pub next_of : List (List ℕ) → Result Command CommandCause
 next_of operands = do
   word ← one_operand operands
-  points ← decimal_within 1 most_steps word
+  points ← decimal_within 1 MOST_STEPS word
   Ok (Runs (Next points))
 
 unfoldable pub break_of : List (List ℕ) → Result Command CommandCause
@@ -101,14 +87,14 @@ unfoldable pub mem_of : List (List ℕ) → Result Command CommandCause
 mem_of operands = do
   pair ← two_operands operands
   address ← address_of pair.0
-  count ← decimal_within 1 most_shown pair.1
+  count ← decimal_within 1 MOST_SHOWN pair.1
   bytes_within address count
 
 unfoldable pub dis_of : List (List ℕ) → Result Command CommandCause
 dis_of operands = do
   pair ← two_operands operands
   address ← address_of pair.0
-  count ← decimal_within 1 most_shown pair.1
+  count ← decimal_within 1 MOST_SHOWN pair.1
   Ok (Shows (Dis address count))
 
 -- the command that a word and its operands say, or the first cause for which they say none: one that shows, and any
@@ -141,23 +127,10 @@ some_command limit (word ∷ operands) = do
 unfoldable pub said : ℕ → List ℕ → Result (Option Command) CommandCause
 said limit line = if is_silent (words line) then Ok None else some_command limit (words line)
 
--- the commands of some lines
-unfoldable pub commands_in : ℕ → List (List ℕ) → List Command
-commands_in limit lines = filter_map (λ line. result_unwrap_or (said limit line) None) lines
-
--- the fault of line i, counted from 0; a fault names its line counted from 1
-abbrev pub fault_at : ℕ → List (List ℕ) → ℕ → Option CommandFault
-fault_at limit lines i = option_map (Fault (i + 1)) (result_err (said limit (slice_index_or lines i [])))
-
--- the faults of all lines, first to last
-unfoldable pub faults_of : ℕ → List (List ℕ) → List CommandFault
-faults_of limit lines = filter_map (fault_at limit lines) (range_with_len 0 (length lines))
-
--- the commands, or the first fault where there is one
-abbrev pub unless_faulty : List Command → List CommandFault → Result (List Command) CommandFault
-unless_faulty commands [] = Ok commands
-unless_faulty commands (fault ∷ others) = Err fault
+-- a line is refused for what it says alone
+abbrev pub command_format : ℕ → Format Command CommandCause CommandFault
+command_format limit = record { said = said limit; refused = λ before says. result_err says; fault = Fault }
 
 -- what a text of commands says: the list of its commands, or its first fault
-unfoldable pub commands_of : ℕ → List ℕ → Result (List Command) CommandFault
-commands_of limit text = unless_faulty (commands_in limit (lines text)) (faults_of limit (lines text))
+abbrev pub commands_of : ℕ → List ℕ → Result (List Command) CommandFault
+commands_of limit = read (command_format limit)

@@ -8,9 +8,10 @@ use Rattle.chip8_lang.specs.declared.view.Edition.{Edition}
 use Rattle.chip8_lang.specs.Editions.{rows_of}
 use Rattle.chip8_lang.specs.Places.{pixels}
 use Rattle.chip8_lang.specs.View.{View}
-use Rattle.vip_byte.specs.HexText.{hex_digit, hex2, hex4}
+use Rattle.vip_byte.specs.HexText.{bytes_text, hex_digit, hex2, hex4, words_text}
+use Rattle.vip_byte.specs.Text.{bit_text, newline}
 use Rattle.vip_text.specs.Screens.{screen_lines}
-use Rattle.vip_text.specs.Traces.{newline, bytes_text, words_text, bit_text, trace_line}
+use Rattle.vip_text.specs.Traces.{trace_line}
 use Rattle.asm_listing.specs.Disassembly.{starts, ended_line}
 
 -- ---- the registers

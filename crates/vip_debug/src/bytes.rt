@@ -2,18 +2,18 @@
 
 ghost use Rattle.std.specs.Prelude.{◌≡◌, ◌+◌, ◌-◌, ◌*◌, ◌≤◌, ◌<◌, ◌++◌, [], ℕ, length, IfOk, MatchResult};
 ghost use Rattle.arrayvec.specs.ArrayVec.{array_vec_len};
+ghost use Rattle.vip_byte.specs.Room.{HasRoom};
 ghost use Rattle.machine.specs.Memory.{read};
-ghost use Rattle.vip_text.specs.Traces.{bytes_text};
+ghost use Rattle.vip_byte.specs.HexText.{bytes_text};
 ghost use Rattle.vip_outside.specs.Sink.{PutAnswers};
 ghost use Rattle.vip_outside.specs.Pieces.{StreamAnswers};
 ghost use Rattle.asm_listing.specs.Disassembly.{ended_line, taken};
 ghost use Rattle.vip_debug.specs.Parts.{PutsLine, reads};
 ghost use Rattle.vip_debug.specs.Shown.{bytes_from, dis_lines, mem_lines, row, rows};
 
-use crate::write::put;
 use arrayvec::ArrayVec;
 use asm_listing::one_line;
-use vip_byte::{Buffer, hex2, hex4};
+use vip_byte::{Buffer, add16, hex2, hex4, put};
 use vip_memory::Memory;
 use vip_outside::{Failed, Sink};
 
@@ -24,7 +24,7 @@ const END: u32 = 0x10000;
 fn put_bytes(into: &mut Buffer, memory: &Memory, address: u16, count: u32)
     requires few { count ≤ 16 }
     requires within { address + count ≤ 65536 }
-    requires room { array_vec_len into.old + 48 ≤ 4352 }
+    requires room { HasRoom into.old.items 48 }
     ensures items { into.new.items ≡ into.old.items ++ bytes_text (bytes_from (reads memory.now) address count) }
     ensures len { array_vec_len into.new ≤ array_vec_len into.old + 48 }
 {
@@ -77,8 +77,8 @@ fn put_instruction<O: Sink>(memory: &Memory, address: u16, out: &mut O) -> Resul
 {
     let three = [
         memory.read(address),
-        memory.read(address.wrapping_add(1)),
-        memory.read(address.wrapping_add(2)),
+        memory.read(add16(address, 1)),
+        memory.read(add16(address, 2)),
     ];
     let have = (END - u32::from(address)).min(3);
     let mut line = ArrayVec::new();

@@ -8,7 +8,7 @@ use crate::line::read_line;
 use std::alloc::{AllocError, Global};
 use std::marker::Model;
 use thiserror::Error;
-use vip_byte::Lines;
+use vip_byte::{Lines, MOST_TEXT};
 
 /// A command: it runs the board, or shows what it holds.
 #[derive(Clone, Copy, Debug, PartialEq, Eq)]
@@ -123,7 +123,7 @@ impl Commands {
 ///
 /// The answer is the list of the commands, or the first fault, which is the first cause in the first faulty line; or memory was wanting.
 pub fn read_commands(alloc: Global, text: &[u8], limit: u64) -> Result<Commands, CommandFault>
-    requires { length text.now ≤ 1_048_576 }
+    requires { length text.now ≤ MOST_TEXT }
     ensures commands { IfOk result (λ commands. commands_of limit text.now ≡ Ok commands) }
     ensures fault { IfErr result
         (λ fault. (fault ≡ CommandFault.NoMemory) ⊎ (commands_of limit text.now ≡ Err fault)) }

@@ -8,12 +8,13 @@ ghost use Rattle.vip_debug.specs.Parts.{Arrives, FindAnswers, Makes, PassAnswers
 
 use crate::command::Running;
 use vip_board::Moved;
+use vip_byte::MOST_CYCLE;
 use vip_relation::{Met, Vip};
 
 /// Runs to the next dispatch point, past pictures, or to the end of the run. Answers whether there is one.
 fn pass(vip: &mut Vip, limit: u64) -> bool
     requires follows { Follows vip.old }
-    requires limit { limit ≤ 4_000_000_000 }
+    requires limit { limit ≤ MOST_CYCLE }
     requires within { vip.old.board.machine.cycle ≤ limit }
     ensures follows { Follows vip.new }
     ensures answer { PassAnswers limit vip.old vip.new result }
@@ -31,7 +32,7 @@ fn pass(vip: &mut Vip, limit: u64) -> bool
 /// Runs to the so-many-th next dispatch point. Answers whether there is one.
 fn pass_points(vip: &mut Vip, points: u32, limit: u64) -> bool
     requires follows { Follows vip.old }
-    requires limit { limit ≤ 4_000_000_000 }
+    requires limit { limit ≤ MOST_CYCLE }
     requires within { vip.old.board.machine.cycle ≤ limit }
     ensures follows { Follows vip.new }
     ensures answer { FindAnswers limit vip.old vip.new (slice_get (points_left vip.old limit) (points - 1)) result }
@@ -58,7 +59,7 @@ fn is_at_pc(vip: &Vip, pc: u16) -> bool
 /// Runs to the next dispatch point with this pc. Answers whether there is one.
 fn pass_to_pc(vip: &mut Vip, pc: u16, limit: u64) -> bool
     requires follows { Follows vip.old }
-    requires limit { limit ≤ 4_000_000_000 }
+    requires limit { limit ≤ MOST_CYCLE }
     requires within { vip.old.board.machine.cycle ≤ limit }
     ensures follows { Follows vip.new }
     ensures answer { FindAnswers limit vip.old vip.new (find (has_pc vip.old pc) (points_left vip.old limit)) result }
@@ -74,7 +75,7 @@ fn pass_to_pc(vip: &mut Vip, pc: u16, limit: u64) -> bool
 /// Makes so many moves, or those up to the limit and the stop point. Answers whether it made all.
 fn make_moves(vip: &mut Vip, moves: u32, limit: u64) -> bool
     requires follows { Follows vip.old }
-    requires limit { limit ≤ 4_000_000_000 }
+    requires limit { limit ≤ MOST_CYCLE }
     requires within { vip.old.board.machine.cycle ≤ limit }
     ensures follows { Follows vip.new }
     ensures makes { Makes limit vip.old vip.new (moved_to (begun vip.old) (min (vip.old.moves + moves) (moves_until (begun vip.old) limit)) (place_of vip.old)) }
@@ -91,7 +92,7 @@ fn make_moves(vip: &mut Vip, moves: u32, limit: u64) -> bool
 /// Makes the moves that end at or before a cycle, which is at most the limit, up to the stop point.
 fn make_moves_until(vip: &mut Vip, cycle: u64)
     requires follows { Follows vip.old }
-    requires limit { cycle ≤ 4_000_000_000 }
+    requires limit { cycle ≤ MOST_CYCLE }
     ensures follows { Follows vip.new }
     ensures makes { Makes (max vip.old.board.machine.cycle cycle) vip.old vip.new (moved_to (begun vip.old) (max vip.old.moves (moves_until (begun vip.old) cycle)) (place_of vip.old)) }
 {
@@ -101,7 +102,7 @@ fn make_moves_until(vip: &mut Vip, cycle: u64)
 /// Runs the board as a command says. Answers whether the command is completed.
 pub fn go(vip: &mut Vip, running: Running, limit: u64) -> bool
     requires follows { Follows vip.old }
-    requires limit { limit ≤ 4_000_000_000 }
+    requires limit { limit ≤ MOST_CYCLE }
     requires within { vip.old.board.machine.cycle ≤ limit }
     ensures follows { Follows vip.new }
     ensures arrives { Arrives limit running vip.old vip.new result }

@@ -11,9 +11,8 @@ use crate::bytes::{put_dis, put_mem};
 use crate::command::{Command, Commands, Running, Showing};
 use crate::going::go;
 use crate::show::{put_cycle, put_regs, put_screen, put_state};
-use crate::write::put;
 use chip8_lang::StopRecord;
-use vip_byte::Buffer;
+use vip_byte::{Buffer, MOST_CYCLE, put};
 use vip_outside::{Failed, Sink};
 use vip_relation::Vip;
 use vip_text::{stop_text, trace_text};
@@ -66,7 +65,7 @@ fn put_running<O: Sink>(
     out: &mut O,
 ) -> Result<(), Failed>
     requires follows { Follows vip.old }
-    requires limit { limit ≤ 4_000_000_000 }
+    requires limit { limit ≤ MOST_CYCLE }
     requires within { vip.old.board.machine.cycle ≤ limit }
     ensures follows { Follows vip.new }
     ensures makes { Makes limit vip.old vip.new (arrival (begun vip.old) limit running (place_of vip.old)).place }
@@ -100,7 +99,7 @@ fn run_command<O: Sink>(
     out: &mut O,
 ) -> Result<(), Failed>
     requires follows { Follows vip.old }
-    requires limit { limit ≤ 4_000_000_000 }
+    requires limit { limit ≤ MOST_CYCLE }
     requires within { vip.old.board.machine.cycle ≤ limit }
     ensures follows { Follows vip.new }
     ensures makes { Makes limit vip.old vip.new (place_with (begun vip.old) limit command (place_of vip.old)) }
@@ -126,7 +125,7 @@ pub fn run_commands<O: Sink>(
     limit: u64,
     out: &mut O,
 ) -> DebugEnd
-    requires { limit ≤ 4_000_000_000 }
+    requires { limit ≤ MOST_CYCLE }
     ensures follows { Follows vip.new }
     ensures answer { DebugAnswers (begun vip.old) (max limit vip.old.board.machine.cycle) commands.now (place_of vip.old) vip.new (O.meaning out.old) (O.meaning out.new) result }
 {

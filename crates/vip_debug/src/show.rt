@@ -2,14 +2,15 @@
 
 ghost use Rattle.std.specs.Prelude.{◌≡◌, ◌+◌, ◌≤◌, ◌++◌, []};
 ghost use Rattle.arrayvec.specs.ArrayVec.{array_vec_len};
+ghost use Rattle.vip_byte.specs.Room.{HasRoom};
 ghost use Rattle.vip_outside.specs.Sink.{PutAnswers};
 ghost use Rattle.vip_outside.specs.Pieces.{StreamAnswers};
 ghost use Rattle.vip_debug.specs.Shown.{control_text, cycle_text, processor_line, registers_line, registers_text, regs_lines, screen_text, selected_text, state_line};
 
-use crate::write::{put, put_bit, put_digit};
+use crate::write::put_digit;
 use itoa::Buffer as Digits;
 use vip_board::Board;
-use vip_byte::{Buffer, hex2, hex4};
+use vip_byte::{Buffer, hex2, hex4, put, put_bit};
 use vip_cpu::Cpu;
 use vip_outside::{Failed, Sink};
 use vip_relation::Vip;
@@ -17,7 +18,7 @@ use vip_text::trace_text;
 
 /// Appends the machine cycle of a board.
 pub fn put_cycle(into: &mut Buffer, board: &Board)
-    requires { array_vec_len into.old + 46 ≤ 4352 }
+    requires { HasRoom into.old.items 46 }
     ensures items { into.new.items ≡ into.old.items ++ cycle_text board.now.machine }
     ensures len { array_vec_len into.new ≤ array_vec_len into.old + 46 }
 {
@@ -28,7 +29,7 @@ pub fn put_cycle(into: &mut Buffer, board: &Board)
 
 /// Appends P, X, D and DF.
 fn put_selected(into: &mut Buffer, cpu: &Cpu)
-    requires { array_vec_len into.old + 18 ≤ 4352 }
+    requires { HasRoom into.old.items 18 }
     ensures items { into.new.items ≡ into.old.items ++ selected_text cpu.now.regs }
     ensures len { array_vec_len into.new ≡ array_vec_len into.old + 18 }
 {
@@ -44,7 +45,7 @@ fn put_selected(into: &mut Buffer, cpu: &Cpu)
 
 /// Appends Q, IE, T, and whether the processor idles.
 fn put_control(into: &mut Buffer, cpu: &Cpu)
-    requires { array_vec_len into.old + 20 ≤ 4352 }
+    requires { HasRoom into.old.items 20 }
     ensures items { into.new.items ≡ into.old.items ++ control_text cpu.now.regs }
     ensures len { array_vec_len into.new ≡ array_vec_len into.old + 20 }
 {
@@ -60,7 +61,7 @@ fn put_control(into: &mut Buffer, cpu: &Cpu)
 
 /// Appends R0 to RF.
 fn put_registers(into: &mut Buffer, cpu: &Cpu)
-    requires { array_vec_len into.old + 80 ≤ 4352 }
+    requires { HasRoom into.old.items 80 }
     ensures items { into.new.items ≡ into.old.items ++ registers_text cpu.now.regs 16 }
     ensures len { array_vec_len into.new ≡ array_vec_len into.old + 80 }
 {

@@ -1,6 +1,6 @@
 use Rattle.std.proofs.Common.{◌≡◌, ◌+◌, ◌*◌, ◌++◌}
 use Rattle.arrayvec.specs.ArrayVec.{array_vec_len}
-use Rattle.vip_text.specs.Traces.{bytes_text}
+use Rattle.vip_byte.specs.HexText.{bytes_text}
 use Rattle.vip_debug.specs.Shown.{bytes_from}
 use Rattle.vip_debug.specs.Parts.{reads}
 use Rattle.vip_debug.proofs.bytes.put_bytes.Given as goal

@@ -1,6 +1,6 @@
 use Rattle.std.proofs.Common.{◌∙◌, ◌++◌, ap, sym}
 use Rattle.std.specs.Prelude.{codes}
-use Rattle.vip_text.specs.Traces.{newline}
+use Rattle.vip_byte.specs.Text.{newline}
 use Rattle.vip_debug.proofs.Answering.{line-stop, line-completed, line-end}
 use Rattle.vip_debug.proofs.run.answer_text.Goals as goal
 
