@@ -47,10 +47,6 @@ pub record Debugs (limit : ℕ) (old v : VipState) (done : List Command) (out ou
   pub within : v.board.machine.cycle ≤ limit
   pub puts : PutsAll (written (begun old) limit done (place_of old)) out out'
 
-pub debugs-first : (limit : ℕ) (old : VipState) (out : SinkMeaning) → Follows old → old.board.machine.cycle ≤ limit → Debugs limit old old [] out out
-debugs-first limit old out f within =
-    record { begins = f; follows = f; same = same-refl old; place = refl; within = within; puts = PutsAll-nil out }
-
 module _ (limit : ℕ) (old v v' : VipState) (done : List Command) (c : Command) (out out' out'' : SinkMeaning) (d : Debugs limit old v done out out') (g : Follows v') (makes : Makes limit v v' (place_with (begun v) limit c (place_of v))) where
   from_here : {X : Type 0} (f : VipState → Place → X) → f (begun v) (place_of v) ≡ f (begun old) (place_after (begun old) limit done (place_of old))
   from_here f = ap (λ x. f x (place_of v)) (begun-same old v d.same) ∙ ap (f (begun old)) d.place

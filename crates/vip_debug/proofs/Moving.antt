@@ -50,10 +50,6 @@ pub record Moving (limit : ℕ) (old v : VipState) (moves : ℕ) : Type 0 where
   pub place : place_of v ≡ moved_to (begun old) v.moves (place_of old)
   pub within : v.board.machine.cycle ≤ limit
 
-pub moving-first : (limit : ℕ) (old : VipState) → Follows old → old.board.machine.cycle ≤ limit → Moving limit old old 0
-moving-first limit old f within =
-    record { begins = f; follows = f; same = same-refl old; made = omega arith; place = place-stays (begun old) (place_of old); within = within }
-
 module _ (limit : ℕ) (old v : VipState) (moves : ℕ) (s : Moving limit old v moves) where
   pub moving-next : (v' : VipState) (name : Move) → (Rests limit v → ⊥) → MovesOn v v' name → Follows v' → Moving limit old v' (moves + 1)
   moving-next v' name goes m f =
@@ -102,18 +98,6 @@ pub record MovingUntil (cycle : ℕ) (old v : VipState) : Type 0 where
   pub stays : cycle < v.board.machine.cycle → v.moves ≡ old.moves
   pub place : place_of v ≡ moved_to (begun old) v.moves (place_of old)
   pub within : v.board.machine.cycle ≤ max old.board.machine.cycle cycle
-
-pub until-first : (cycle : ℕ) (old : VipState) → Follows old → MovingUntil cycle old old
-until-first cycle old f =
-    record {
-      begins = f;
-      follows = f;
-      same = same-refl old;
-      order = omega arith;
-      stays = λ over. refl;
-      place = place-stays (begun old) (place_of old);
-      within = omega arith;
-    }
 
 module _ (cycle : ℕ) (old v : VipState) (s : MovingUntil cycle old v) where
   pub until-next : (v' : VipState) (name : Move) → (Rests cycle v → ⊥) → MovesOn v v' name → Follows v' → MovingUntil cycle old v'

@@ -37,9 +37,6 @@ pub record Passing (limit : ℕ) (old v : VipState) : Type 0 where
   pub points : points_left old limit ≡ points_left v limit
   pub within : v.board.machine.cycle ≤ limit
 
-pub passing-first : (limit : ℕ) (old : VipState) → Follows old → old.board.machine.cycle ≤ limit → Passing limit old old
-passing-first limit old f within = record { begins = f; follows = f; same = same-refl old; points = refl; within = within }
-
 -- nothing is left behind a stop
 nothing_left : (limit : ℕ) (v : VipState) → Follows v → v.board.machine.cycle ≤ limit → HasStopped v → events_left v limit ≡ []
 nothing_left limit v f within h =
@@ -150,9 +147,6 @@ drop_none zero k (x ∷ xs) h within = cc
 drop_none (suc n) zero (x ∷ xs) h within = absurd (omega (arith, within))
 drop_none (suc n) (suc k) (x ∷ xs) h within = drop_none n k xs h (omega (arith, within))
 
-pub points-first : (limit : ℕ) (old : VipState) → Follows old → old.board.machine.cycle ≤ limit → PassingPoints limit old old 0
-points-first limit old f within = record { begins = f; follows = f; same = same-refl old; points = refl; within = within }
-
 module _ (limit : ℕ) (old v v' : VipState) (passed : ℕ) (s : PassingPoints limit old v passed) (f : Follows v') where
   pub points-next : Passes limit v v' → PassingPoints limit old v' (passed + 1)
   points-next p =
@@ -187,9 +181,6 @@ pub record Looking (limit : ℕ) (pc : ℕ) (old v : VipState) : Type 0 where
   pub points : find (has_pc old pc) (points_left old limit) ≡ find (has_pc old pc) (points_left v limit)
   pub within : v.board.machine.cycle ≤ limit
 
-pub looking-first : (limit pc : ℕ) (old : VipState) → Follows old → old.board.machine.cycle ≤ limit → Looking limit pc old old
-looking-first limit pc old f within = record { begins = f; follows = f; same = same-refl old; points = refl; within = within }
-
 find_first : (p : Machine → Bool) (b : Machine) (bs : List Machine) → p b ≡ true → find p (b ∷ bs) ≡ Some b
 find_first p b bs h = rw h refl
 
@@ -200,28 +191,7 @@ module _ (limit pc : ℕ) (old v v' : VipState) (s : Looking limit pc old v) (f 
   has_same : IsSame old v' → (b : Machine) → has_pc old pc b ≡ has_pc v' pc b
   has_same same b = ap (λ e. has_pc (record old { edition = e }) pc b) (sym same.edition)
 
-  pub looking-next : Passes limit v v' → has_pc v' pc v'.board.machine ≡ false → Looking limit pc old v'
-  looking-next p other =
-      let same : IsSame old v' = same-trans old v v' s.same p.same in
-      record {
-        begins = s.begins;
-        follows = f;
-        same = same;
-        points = s.points ∙ ap (find (has_pc old pc)) p.first ∙ find_next (has_pc old pc) v'.board.machine (points_left v' limit) (has_same same v'.board.machine ∙ other);
-        within = p.within;
-      }
-
-  pub looked-found : Passes limit v v' → has_pc v' pc v'.board.machine ≡ true → FindAnswers limit old v' (find (has_pc old pc) (points_left old limit)) true
-  looked-found p this =
-      let same : IsSame old v' = same-trans old v v' s.same p.same in
-      rw (s.points ∙ ap (find (has_pc old pc)) p.first ∙ find_first (has_pc old pc) v'.board.machine (points_left v' limit) (has_same same v'.board.machine ∙ this))
-      (record { same = same; machine = refl; met = p.met; told = p.told; within = p.within })
-
   pub looked-none : PassesNone limit v v' → FindAnswers limit old v' (find (has_pc old pc) (points_left old limit)) false
   looked-none p =
       rw (s.points ∙ ap (find (has_pc old pc)) p.none)
       (record { same = same-trans old v v' s.same p.same; made = p.made ∙ until-same old v s.begins s.follows s.same limit; met = p.met; within = p.within })
-
--- the points left become fewer
-pub fewer-points : (limit : ℕ) (v v' : VipState) → Passes limit v v' → length (points_left v' limit) < length (points_left v limit)
-fewer-points limit v v' p = omega (arith, ap length p.first)
