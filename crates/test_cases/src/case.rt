@@ -213,9 +213,9 @@ fn words_of(alloc: Global, text: &str) -> Result<Vec<String>, AllocError> {
 
 // The place, counted from 0, of a number counted from 1.
 fn index(word: &str) -> Result<u32, CaseFault> {
-    match number(word)?.checked_sub(1) {
-        Some(place) => Ok(place as u32),
-        None => Err(CaseFault::NotACase),
+    match u32::try_from(number(word)?) {
+        Ok(count) => count.checked_sub(1).ok_or(CaseFault::NotACase),
+        Err(_) => Err(CaseFault::NotACase),
     }
 }
 

@@ -4,7 +4,7 @@ use hex::FromHexError;
 use std::alloc::{AllocError, AllocFailed};
 use thiserror::Error;
 
-#[derive(Clone, Copy, Debug, PartialEq, Eq, Error)]
+#[derive(Clone, Copy, Debug, Error)]
 pub enum CaseFault {
     #[error("not a case")]
     NotACase,
