@@ -1,5 +1,6 @@
--- The addresses of the source's labels, which are the same in both editions.
+-- The addresses of labels of the source, which are the same in both editions: those that a proof names.
 use Rattle.std.specs.Prelude.{ℕ}
+use Rattle.chip8_image.specs.declared.TheConstants.{FETCH, HALT, ENTRY}
 
 -- ---- page 80
 abbrev pub at_boot : ℕ
@@ -8,9 +9,6 @@ at_boot = 0x8000
 abbrev pub at_start : ℕ
 at_start = 0x8007
 
-abbrev pub at_mapped : ℕ
-at_mapped = 0x8009
-
 abbrev pub at_outside : ℕ
 at_outside = 0x8027
 
@@ -18,7 +16,7 @@ abbrev pub at_dispatch : ℕ
 at_dispatch = 0x8030
 
 abbrev pub at_fetch : ℕ
-at_fetch = 0x8031
+at_fetch = FETCH
 
 abbrev pub at_upper : ℕ
 at_upper = 0x8036
@@ -36,7 +34,7 @@ abbrev pub at_stopped : ℕ
 at_stopped = 0x80f6
 
 abbrev pub at_halt : ℕ
-at_halt = 0x80fe
+at_halt = HALT
 
 -- ---- page 81
 abbrev pub at_system : ℕ
@@ -148,51 +146,6 @@ at_arith = 0x8200
 abbrev pub at_slot0 : ℕ
 at_slot0 = 0x8208
 
-abbrev pub at_slot1 : ℕ
-at_slot1 = 0x820a
-
-abbrev pub at_slot2 : ℕ
-at_slot2 = 0x820c
-
-abbrev pub at_slot3 : ℕ
-at_slot3 = 0x820e
-
-abbrev pub at_slot4 : ℕ
-at_slot4 = 0x8210
-
-abbrev pub at_slot5 : ℕ
-at_slot5 = 0x8212
-
-abbrev pub at_slot6 : ℕ
-at_slot6 = 0x8214
-
-abbrev pub at_slot7 : ℕ
-at_slot7 = 0x8216
-
-abbrev pub at_slot8 : ℕ
-at_slot8 = 0x8218
-
-abbrev pub at_slot9 : ℕ
-at_slot9 = 0x821a
-
-abbrev pub at_slotA : ℕ
-at_slotA = 0x821c
-
-abbrev pub at_slotB : ℕ
-at_slotB = 0x821e
-
-abbrev pub at_slotC : ℕ
-at_slotC = 0x8220
-
-abbrev pub at_slotD : ℕ
-at_slotD = 0x8222
-
-abbrev pub at_slotE : ℕ
-at_slotE = 0x8224
-
-abbrev pub at_slotF : ℕ
-at_slotF = 0x8226
-
 abbrev pub at_copy : ℕ
 at_copy = 0x8228
 
@@ -264,9 +217,6 @@ at_skip_down_no = 0x8283
 
 abbrev pub at_key_yes : ℕ
 at_key_yes = 0x8284
-
-abbrev pub at_leave82 : ℕ
-at_leave82 = 0x82f0
 
 -- ---- page 83
 abbrev pub at_misc : ℕ
@@ -356,9 +306,6 @@ at_decimal = 0x8377
 abbrev pub at_decimal_found : ℕ
 at_decimal_found = 0x8381
 
-abbrev pub at_decimal_start : ℕ
-at_decimal_start = 0x8383
-
 abbrev pub at_hundreds : ℕ
 at_hundreds = 0x838c
 
@@ -377,9 +324,6 @@ at_store = 0x83a6
 abbrev pub at_store_found : ℕ
 at_store_found = 0x83b3
 
-abbrev pub at_store_start : ℕ
-at_store_start = 0x83b5
-
 abbrev pub at_store_byte : ℕ
 at_store_byte = 0x83bb
 
@@ -391,9 +335,6 @@ at_restore = 0x83c3
 
 abbrev pub at_restore_found : ℕ
 at_restore_found = 0x83d0
-
-abbrev pub at_restore_start : ℕ
-at_restore_start = 0x83d4
 
 abbrev pub at_restore_byte : ℕ
 at_restore_byte = 0x83da
@@ -444,24 +385,6 @@ at_row_byte = 0x845d
 abbrev pub at_shift7 : ℕ
 at_shift7 = 0x8465
 
-abbrev pub at_shift6 : ℕ
-at_shift6 = 0x846b
-
-abbrev pub at_shift5 : ℕ
-at_shift5 = 0x8471
-
-abbrev pub at_shift4 : ℕ
-at_shift4 = 0x8477
-
-abbrev pub at_shift3 : ℕ
-at_shift3 = 0x847d
-
-abbrev pub at_shift2 : ℕ
-at_shift2 = 0x8483
-
-abbrev pub at_shift1 : ℕ
-at_shift1 = 0x8489
-
 abbrev pub at_shifted : ℕ
 at_shifted = 0x848f
 
@@ -492,9 +415,6 @@ at_drawn = 0x84d1
 abbrev pub at_draw_outside : ℕ
 at_draw_outside = 0x84df
 
-abbrev pub at_leave84 : ℕ
-at_leave84 = 0x84f0
-
 -- ---- page 85
 abbrev pub at_check : ℕ
 at_check = 0x8500
@@ -522,7 +442,7 @@ abbrev pub at_resume : ℕ
 at_resume = 0x8600
 
 abbrev pub at_entry : ℕ
-at_entry = 0x8602
+at_entry = ENTRY
 
 abbrev pub at_scan : ℕ
 at_scan = 0x8611

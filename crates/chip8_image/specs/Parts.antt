@@ -1,44 +1,54 @@
 -- Which part of the ROM an address lies in, for both editions.
-use Rattle.std.specs.Prelude.{ℕ, ◌&&◌, if◌then◌else◌, nat_le, List, [], ◌∷◌}
+use Rattle.std.specs.Prelude.{◌≡◌, ℕ, zero, suc, ◌+◌, ◌-◌, Bool, true, false, ◌&&◌, if◌then◌else◌, nat_le, nat_lt, List, [], ◌∷◌, ◌++◌}
+use Rattle.std.specs.List.{filter}
+use Rattle.chip8_image.specs.declared.map.Area.{Area}
+use Rattle.chip8_image.specs.declared.map.TheConstants.{AREAS}
 use Rattle.chip8_image.specs.declared.parts.Part.{Part}
 use Rattle.chip8_image.specs.declared.parts.Part.TheVariants.{Fetch, Arith, Memory, Sprite, Timer, Keys, Other}
 
--- the code from one address to another, both of them in it, and its part
-pub record Area : Type 0 where
-  pub first : ℕ
-  pub last : ℕ
-  pub part : Part
+-- the address lies in the area
+abbrev pub holds : ℕ → Area → Bool
+holds address a = nat_le a.first address && nat_le address a.last
 
-abbrev pub area : ℕ → ℕ → Part → Area
-area first last part = record { first = first; last = last; part = part }
-
--- the areas of code by their addresses
-abbrev pub areas : List Area
-areas =
-    area 0x8000 0x8063 Fetch ∷
-    area 0x80f4 0x80ff Fetch ∷
-    area 0x8100 0x8183 Arith ∷
-    area 0x8184 0x819b Sprite ∷
-    area 0x81f0 0x81f3 Fetch ∷
-    area 0x8200 0x825c Arith ∷
-    area 0x825d 0x8270 Timer ∷
-    area 0x8271 0x8286 Keys ∷
-    area 0x82f0 0x82f3 Fetch ∷
-    area 0x8300 0x8330 Fetch ∷
-    area 0x8331 0x8339 Timer ∷
-    area 0x833a 0x8353 Keys ∷
-    area 0x8354 0x83e9 Memory ∷
-    area 0x83f0 0x83f3 Fetch ∷
-    area 0x8400 0x84e2 Sprite ∷
-    area 0x84f0 0x84f3 Fetch ∷
-    area 0x8500 0x852a Memory ∷
-    area 0x8600 0x8635 Timer ∷
-    []
-
--- the part of the area in which the address lies, and else Other
+-- the part of the first of these areas in which the address lies, and else Other
 abbrev pub part_among : List Area → ℕ → Part
 part_among [] address = Other
-part_among (a ∷ rest) address = if nat_le a.first address && nat_le address a.last then a.part else part_among rest address
+part_among (a ∷ areas) address = if holds address a then a.part else part_among areas address
 
 abbrev pub part_of : ℕ → Part
-part_of address = part_among areas address
+part_of address = part_among AREAS address
+
+-- ---- the areas of a part
+
+abbrev pub is_part : Part → Part → Bool
+is_part Fetch Fetch = true
+is_part Arith Arith = true
+is_part Memory Memory = true
+is_part Sprite Sprite = true
+is_part Timer Timer = true
+is_part Keys Keys = true
+is_part Other Other = true
+is_part _ _ = false
+
+abbrev pub areas_of : Part → List Area
+areas_of p = filter (λ a. is_part p a.part) AREAS
+
+-- ---- the addresses of areas
+
+-- so many addresses from this one on
+abbrev pub from : ℕ → ℕ → List ℕ
+from address zero = []
+from address (suc n) = address ∷ from (address + 1) n
+
+abbrev pub addresses_of : List Area → List ℕ
+addresses_of [] = []
+addresses_of (a ∷ areas) = from a.first (a.last + 1 - a.first) ++ addresses_of areas
+
+-- each number is less than the next
+abbrev pub ascends : List ℕ → Bool
+ascends [] = true
+ascends (a ∷ []) = true
+ascends (a ∷ (b ∷ l)) = nat_lt a b && ascends (b ∷ l)
+
+abbrev pub MapInOrder : Type 0
+MapInOrder = ascends (addresses_of AREAS) ≡ true

@@ -1,18 +1,22 @@
-//! The CHIP-8 interpreter's ROM as bytes, for both editions, with the addresses of its labels and the part of the ROM in which each
-//! address lies.
+//! The CHIP-8 interpreter's ROM as bytes, for both editions, with the addresses of its labels and the map of its parts.
 //!
-//! It stands on no other crate. The bytes are what the interpreter's source assembles to, which each run compares. The two ROMs have
-//! the same labels and the same instructions at the same addresses; 24 operand bytes differ, each the value of a name in the source's
-//! head. The layer above may rely on this: `part` is the table below, at every address, and it is the same for both editions.
+//! The ROM is here for the programs that run it, and its labels and its map for the proofs and tests that speak of its code. It stands on
+//! no other crate. The two ROMs have the same labels and the same instructions at the same addresses; 24 operand bytes differ, each the
+//! value of a name in the source's head. The layer above may rely on this: `AREAS` is the one place that says which addresses belong to
+//! which part, and `part` and `tall_part` look an address up in it. That the bytes are what the source assembles to is compared at each
+//! run; that each part's bytes lie where the map says is proved in `rom_run`.
 #![tactic(auto)]
 
 ghost use Rattle.std.specs.Prelude.{◌≡◌};
 ghost use Rattle.chip8_image.specs.Parts.{part_of};
 
 mod image;
+pub mod laws;
+mod map;
 mod parts;
 
 pub use image::{IMAGE, TALL};
+pub use map::{AREAS, Area};
 pub use parts::Part;
 
 /// The label `fetch` of the usual edition. A dispatch point is the start of an instruction there with P = 4.
@@ -25,61 +29,28 @@ pub const HALT: u16 = 0x80FE;
 pub const ENTRY: u16 = 0x8602;
 
 /// The label `fetch` of the tall edition.
-pub const TALL_FETCH: u16 = 0x8031;
+pub const TALL_FETCH: u16 = FETCH;
 
 /// The label `halt` of the tall edition.
-pub const TALL_HALT: u16 = 0x80FE;
+pub const TALL_HALT: u16 = HALT;
 
 /// The label `entry` of the tall edition.
-pub const TALL_ENTRY: u16 = 0x8602;
+pub const TALL_ENTRY: u16 = ENTRY;
 
 /// The machine cycles of main code, DMA and interrupts not counted, from a dispatch point to the routine of its opcode: for every
 /// opcode the same, and in both editions.
 pub const DISPATCH: u32 = 80;
 
-/// The part of the usual ROM in which an address lies.
+/// The part of the usual ROM in which an address lies: that of its area in `AREAS`, and `Other` where it lies in none.
 pub fn part(address: u16) -> Part
     ensures { result ≡ part_of address }
 {
-    match address {
-        // boot, fetch and dispatch
-        0x8000..=0x8063 => Part::Fetch,
-        // the stops
-        0x80F4..=0x80FF => Part::Fetch,
-        // 00EE, jumps, calls, loads and skips
-        0x8100..=0x8183 => Part::Arith,
-        // 00E0
-        0x8184..=0x819B => Part::Sprite,
-        // the way to the stops
-        0x81F0..=0x81F3 => Part::Fetch,
-        // 8XYN
-        0x8200..=0x825C => Part::Arith,
-        // CXKK
-        0x825D..=0x8270 => Part::Timer,
-        // EX9E and EXA1
-        0x8271..=0x8286 => Part::Keys,
-        // the way to the stops
-        0x82F0..=0x82F3 => Part::Fetch,
-        // FXKK: which of them
-        0x8300..=0x8330 => Part::Fetch,
-        // FX07, FX15 and FX18
-        0x8331..=0x8339 => Part::Timer,
-        // FX0A
-        0x833A..=0x8353 => Part::Keys,
-        // AMMM, FX1E, FX29, FX33, FX55 and FX65
-        0x8354..=0x83E9 => Part::Memory,
-        // the way to the stops
-        0x83F0..=0x83F3 => Part::Fetch,
-        // DXYN
-        0x8400..=0x84E2 => Part::Sprite,
-        // the way to the stops
-        0x84F0..=0x84F3 => Part::Fetch,
-        // the range check
-        0x8500..=0x852A => Part::Memory,
-        // the interrupt routine
-        0x8600..=0x8635 => Part::Timer,
-        _ => Part::Other,
+    for area in &AREAS {
+        if area.holds(address) {
+            return area.part;
+        }
     }
+    Part::Other
 }
 
 /// The part of the tall ROM in which an address lies: that of the usual ROM.
