@@ -1,9 +1,163 @@
-//! Page 82: 8XYN, CXKK, EX9E and EXA1.
+//! 0MMM, 00EE, jumps and calls, loads, skips, and 8XYN.
 
 pub(crate) const TEXT: &str = "
 ; ======================================================================================================================
-; PAGE 82: 8XYN, CXKK, EX9E and EXA1
+; ARITH: 0MMM, 00EE, jumps and calls, loads, skips, 8XYN
 ; ======================================================================================================================
+
+; 0MMM: which of them
+;   system          @80        entered, 0MMM
+;   system_low      @84        entered, 00KK
+;   system_back     @90        entered, 00KK, KK is not E0
+;   machine         @96        entered; s stops with MACHINE_CALL
+                ORG     0x8100
+system:         GHI     RC
+                BNZ     machine
+system_low:     GLO     RC
+                XRI     0xE0
+                BZ      clear
+system_back:    GLO     RC
+                XRI     0xEE
+                BZ      return
+machine:        LDI     MACHINE_CALL
+                BR      leave81
+
+; 00EE: pc is the address taken from the stack
+;   return          @96        entered, 00EE
+;   return_take     @102       entered, 00EE; the stack is not empty
+;   empty           @102       entered; s stops with STACK_EMPTY
+return:         GLO     R2
+                XRI     <TOP
+                BZ      empty
+return_take:    GHI     R2
+                PHI     RD
+                GLO     R2
+                PLO     RD
+                INC     RD              ; RD at the newest address
+                LDA     RD
+                PHI     R5
+                LDN     RD
+                PLO     R5
+                INC     R2
+                INC     R2
+                SEP     R4
+empty:          LDI     STACK_EMPTY
+                BR      leave81
+
+; 1MMM: pc = MMM
+;   jump            @80        entered, 1MMM
+jump:           GHI     RC
+                ANI     0x0F
+                PHI     R5
+                GLO     RC
+                PLO     R5
+                SEP     R4
+
+; 2MMM: pc + 2 goes on the stack, and pc = MMM
+;   call            @80        entered, 2MMM
+;   call_put        @86        entered, 2MMM; the stack holds fewer than 12 addresses
+;   full            @86        entered; s stops with STACK_FULL
+call:           GLO     R2
+                XRI     <FULL
+                BZ      full
+call_put:       SEX     R2
+                GLO     R5
+                STXD
+                GHI     R5
+                STXD
+                GHI     RC
+                ANI     0x0F
+                PHI     R5
+                GLO     RC
+                PLO     R5
+                SEP     R4
+full:           LDI     STACK_FULL
+                BR      leave81
+
+; BMMM: pc = MMM + V0
+;   jump_plus       @80        entered, BMMM
+jump_plus:      LDI     >VARS
+                PHI     RD
+                LDI     <VARS
+                PLO     RD              ; RD at V0
+                SEX     RD
+                GLO     RC
+                ADD
+                PLO     R5
+                GHI     RC
+                ANI     0x0F
+                ADCI    0
+                PHI     R5
+                SEP     R4
+
+; 6XKK: VX = KK
+;   load            @80        entered, 6XKK
+load:           GLO     RC
+                STR     R6
+                SEP     R4
+
+; 7XKK: VX = VX + KK
+;   add             @80        entered, 7XKK
+add:            SEX     R6
+                GLO     RC
+                ADD
+                STR     R6
+                SEP     R4
+
+; 3XKK: skip where VX = KK
+;   skip_eq         @80        entered, 3XKK
+;   skip_eq_no      @88        done, 3XKK
+skip_eq:        SEX     R6
+                GLO     RC
+                XOR
+                BZ      skip
+skip_eq_no:     SEP     R4
+
+; 4XKK: skip where VX differs from KK
+;   skip_ne         @80        entered, 4XKK
+;   skip_ne_no      @88        done, 4XKK
+skip_ne:        SEX     R6
+                GLO     RC
+                XOR
+                BNZ     skip
+skip_ne_no:     SEP     R4
+
+; 5XY0: skip where VX = VY
+;   skip_same       @80        entered, 5XYN
+;   skip_same_test  @86        entered, 5XY0
+;   skip_same_no    @94        done, 5XY0
+skip_same:      GLO     RC
+                ANI     0x0F
+                BNZ     unknown81
+skip_same_test: SEX     R6
+                LDN     R7
+                XOR
+                BZ      skip
+skip_same_no:   SEP     R4
+
+; 9XY0: skip where VX differs from VY
+;   skip_differ     @80        entered, 9XYN
+;   differ_test     @86        entered, 9XY0
+;   differ_no       @94        done, 9XY0
+skip_differ:    GLO     RC
+                ANI     0x0F
+                BNZ     unknown81
+differ_test:    SEX     R6
+                LDN     R7
+                XOR
+                BNZ     skip
+differ_no:      SEP     R4
+
+; The skip of 3XKK, 4XKK, 5XY0 and 9XY0
+;   skip            @94        entered; the step makes pc + 4 of pc and changes nothing else
+skip:           INC     R5
+                INC     R5
+                SEP     R4
+
+; 5XYN and 9XYN, N not 0
+;   unknown81       @86        entered; s stops with UNKNOWN
+unknown81:      LDI     UNKNOWN
+                BR      leave81
 
 ; 8XYN: one of sixteen branches, two bytes each
 ;   arith           @80        entered, 8XYN
@@ -100,62 +254,4 @@ flag:           STR     R6
 ;   unknown82       @94        entered; s stops with UNKNOWN
 unknown82:      LDI     UNKNOWN
                 BR      leave82
-
-; CXKK: b = 5b + n mod 256 + 113 modulo 256, and VX = b and KK
-;   random          @80        entered, CXKK
-;   random_count    @90        entered, CXKK; RD = RANDOM, X = RD
-;   random_mix      @92        entered, CXKK; RD = RANDOM, X = RD; D = n mod 256, and the ticks from here on come after
-;                              the step
-random:         LDI     >RANDOM
-                PHI     RD
-                LDI     <RANDOM
-                PLO     RD              ; RD at b
-                SEX     RD
-random_count:   GLO     R9
-random_mix:     ADD
-                ADD
-                ADD
-                ADD
-                ADD                     ; D = n + 5b
-                ADI     113
-                STR     RD
-                GLO     RC
-                AND
-                STR     R6
-                SEP     R4
-
-; EX9E: skip where key VX mod 16 is down; EXA1: skip where it is up
-;   key_skip        @80        entered, EXKK
-;   key_skip_up     @88        entered, EXKK, KK is not 9E; X = R6
-;   skip_up         @94        entered, EXA1; X = R6
-;   skip_up_test    @96        entered but for R6, EXA1; key VX mod 16 is latched
-;   skip_up_no      @98        done, EXA1: that key is down in a set of K
-;   skip_down       @88        entered, EX9E; X = R6
-;   skip_down_test  @90        entered but for R6, EX9E; key VX mod 16 is latched
-;   skip_down_no    @92        done, EX9E: that key is up in a set of K
-;   key_yes         @98        entered but for R6; the step makes pc + 4 of pc and changes nothing else: the key is down
-;                              in a set of K for EX9E, up for EXA1
-key_skip:       SEX     R6
-                GLO     RC
-                XRI     0x9E
-                BZ      skip_down
-key_skip_up:    GLO     RC
-                XRI     0xA1
-                BNZ     unknown82
-skip_up:        OUT     2
-skip_up_test:   BN3     key_yes
-skip_up_no:     SEP     R4
-skip_down:      OUT     2
-skip_down_test: B3      key_yes
-skip_down_no:   SEP     R4
-key_yes:        INC     R5
-                INC     R5
-                SEP     R4
-
-; This page's way to the stops
-;   leave82         @98        stop c; D = c
-                ORG     0x82F0
-leave82:        PLO     RE
-                LDI     >stop
-                PHI     R3              ; on at `stop`
 ";

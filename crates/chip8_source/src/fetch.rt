@@ -1,8 +1,8 @@
-//! Page 80: boot, fetch and dispatch, stops.
+//! The fetch: boot, fetch and dispatch, which of FXKK an opcode is, and the stops.
 
 pub(crate) const TEXT: &str = "
 ; ======================================================================================================================
-; PAGE 80: boot, fetch and dispatch, stops
+; FETCH: boot, fetch and dispatch, which of FXKK an opcode is, stops
 ; ======================================================================================================================
 
 ; Boot. The boot latch lets the addresses from 0000 on read the ROM, until OUT 4. RAM stays as it is.
@@ -98,7 +98,49 @@ inside:         LDI     >VARS
 table:          DW      system, jump, call, skip_eq, skip_ne, skip_same, load, add
                 DW      arith, skip_differ, index, jump_plus, random, draw, key_skip, misc
 
-; The stops. A page's way to them ends at its offset F3 by setting R3.1, and so goes on at offset F4 of this page.
+; FXKK: which of them
+;   misc            @80        entered, FXKK
+;   misc_0A         @86        entered, FXKK, KK is not 07
+;   misc_15         @92        entered, FXKK, KK is neither 07 nor 0A
+;   misc_18         @98        entered, FXKK, KK is none of 07, 0A, 15
+;   misc_1E         @104       entered, FXKK, KK is none of 07, 0A, 15, 18
+;   misc_29         @110       entered, FXKK, KK is none of 07, 0A, 15, 18, 1E
+;   misc_33         @116       entered, FXKK, KK is none of 07, 0A, 15, 18, 1E, 29
+;   misc_55         @122       entered, FXKK, KK is none of 07, 0A, 15, 18, 1E, 29, 33
+;   misc_65         @128       entered, FXKK, KK is none of 07, 0A, 15, 18, 1E, 29, 33, 55
+;   unknown83       @134       entered; s stops with UNKNOWN
+                ORG     0x8300
+misc:           GLO     RC
+                XRI     0x07
+                BZ      get_delay
+misc_0A:        GLO     RC
+                XRI     0x0A
+                BZ      wait_key
+misc_15:        GLO     RC
+                XRI     0x15
+                BZ      set_delay
+misc_18:        GLO     RC
+                XRI     0x18
+                BZ      set_sound
+misc_1E:        GLO     RC
+                XRI     0x1E
+                BZ      add_index
+misc_29:        GLO     RC
+                XRI     0x29
+                BZ      digit
+misc_33:        GLO     RC
+                XRI     0x33
+                BZ      decimal
+misc_55:        GLO     RC
+                XRI     0x55
+                BZ      store
+misc_65:        GLO     RC
+                XRI     0x65
+                BZ      restore
+unknown83:      LDI     UNKNOWN
+                BR      leave83
+
+; The stops. A page's way to them ends at its offset F3 by setting R3.1, and so goes on at `stop`, offset F4 of page 80.
 ;   stop            @216       stop c; RE.0 = c
 ;   stopped         @220       P = 3; s is in its places and stops with the number c; RE.0 = c
 ;   halt            @232       a stop point: P = 3, R3 = halt; s is in its places and stops with the number c; STOP_CELL
@@ -113,4 +155,26 @@ stopped:        LDI     >STOP_CELL
                 GLO     RE
                 STR     RD
 halt:           BR      halt
+
+; The ways of pages 81 to 84 to the stops
+;   leave81         @106       stop c; D = c
+;   leave82         @98        stop c; D = c
+;   leave83         @210       stop c; D = c
+;   leave84         @156       stop c; D = c
+                ORG     0x81F0
+leave81:        PLO     RE
+                LDI     >stop
+                PHI     R3              ; on at `stop`
+                ORG     0x82F0
+leave82:        PLO     RE
+                LDI     >stop
+                PHI     R3              ; on at `stop`
+                ORG     0x83F0
+leave83:        PLO     RE
+                LDI     >stop
+                PHI     R3              ; on at `stop`
+                ORG     0x84F0
+leave84:        PLO     RE
+                LDI     >stop
+                PHI     R3              ; on at `stop`
 ";

@@ -1,10 +1,11 @@
 //! The text of the CHIP-8 interpreter's ROM in the assembly language of this project, for both editions.
 //!
-//! It stands on no other crate. The text is kept in parts that join: a head for each edition, which names the edition's screen and its
-//! places in RAM, and ten parts that both editions share, one for each page of the ROM or group of routines. So the two ROMs have the
-//! same instructions at the same addresses and differ in operand bytes alone. The layer above may rely on this: a text is its head
-//! followed by the shared parts, and has at most 1,048,576 bytes. That it assembles to the ROM's bytes is tested at each run and by no
-//! proof.
+//! It is here so that a reader, an assembler and the program all have one text. It stands on no other crate. The text is a head for each
+//! edition, which names the edition's screen and its places in RAM, and behind it what both editions share: the names, a text for each
+//! part of the ROM, in the file of the part's name, and the font. So the two ROMs have the same instructions at the same addresses and
+//! differ in operand bytes alone. The layer above may rely on this: a text is its head followed by the shared texts, and has at most
+//! 1,048,576 bytes. Tests show the rest: that it assembles to the ROM's bytes, which each run compares too, and that the text of a part
+//! gives bytes at the part's addresses alone.
 //!
 //! The instructions are those of RCA's data sheet of the CDP1802; the places, the font and the bounds are this project's profile.
 #![tactic(auto)]
@@ -14,20 +15,18 @@ ghost use Rattle.std.specs.List.{concat};
 ghost use Rattle.chip8_source.specs.Texts.{shared_parts, usual_text, tall_text};
 
 mod arith;
-mod check;
 mod fetch;
 mod font;
 mod head;
-mod interrupt;
-mod jumps;
+mod keys;
 mod memory;
-mod misc;
 mod names;
 mod sprite;
+mod timer;
 
 use std::alloc::{AllocError, Global};
 
-/// A head and the parts that both editions share, joined.
+/// A head and the texts that both editions share, joined.
 fn joined(alloc: Global, head: &str) -> Result<Vec<u8>, AllocError>
     ensures { IfOk result (λ text. text.items ≡ concat (head.now ∷ shared_parts)) }
 {
@@ -35,13 +34,11 @@ fn joined(alloc: Global, head: &str) -> Result<Vec<u8>, AllocError>
         head,
         names::TEXT,
         fetch::TEXT,
-        jumps::TEXT,
         arith::TEXT,
-        misc::TEXT,
         memory::TEXT,
         sprite::TEXT,
-        check::TEXT,
-        interrupt::TEXT,
+        timer::TEXT,
+        keys::TEXT,
         font::TEXT,
     ];
     Ok(parts.concat(alloc)?.into_bytes())

@@ -1,4 +1,4 @@
-//! The names of both editions, the map of the ROM, the registers, and how the rows are read.
+//! The names of both editions, the registers, and how the rows are read: what gives no byte.
 
 pub(crate) const TEXT: &str = "
 ; The places that follow from these, and those that the editions share
@@ -25,29 +25,9 @@ STACK_FULL:     EQU     6
 STACK_EMPTY:    EQU     7
 
 ; ----------------------------------------------------------------------------------------------------------------------
-; THE MAP OF THE ROM, 8000 to 87FF. The bytes between these are 00, and nothing reads them.
-;
-;   8000 to 8026  boot
-;   8027 to 8063  fetch and dispatch
-;   8064 to 8083  the dispatch table
-;   80F4 to 80FF  the stops
-;   8100 to 8183  00EE, jumps, calls, loads and skips
-;   8184 to 819B  00E0
-;   81F0 to 81F3  the way to the stops
-;   8200 to 825C  8XYN
-;   825D to 8270  CXKK
-;   8271 to 8286  EX9E and EXA1
-;   82F0 to 82F3  the way to the stops
-;   8300 to 8330  FXKK: which of them
-;   8331 to 8339  FX07, FX15 and FX18
-;   833A to 8353  FX0A
-;   8354 to 83E9  AMMM, FX1E, FX29, FX33, FX55 and FX65
-;   83F0 to 83F3  the way to the stops
-;   8400 to 84E2  DXYN
-;   84F0 to 84F3  the way to the stops
-;   8500 to 852A  the range check
-;   8600 to 8635  the interrupt routine
-;   8700 to 874F  the font
+; THE PARTS OF THE ROM stand below one after the other: fetch, arith, memory, sprite, timer, keys, and the font. The code
+; of a part lies in one or more stretches of the addresses 8000 to 87FF, each of which begins with its ORG. The bytes
+; between the stretches are 00, and nothing reads them.
 ;
 ; THE REGISTERS
 ;   R0  DMA pointer, for the interrupt routine alone

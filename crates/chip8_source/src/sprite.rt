@@ -1,9 +1,41 @@
-//! Page 84: DXYN.
+//! 00E0 and DXYN.
 
 pub(crate) const TEXT: &str = "
 ; ======================================================================================================================
-; PAGE 84: DXYN
+; SPRITE: 00E0, DXYN
 ; ======================================================================================================================
+
+; 00E0: after the display wait the screen is empty. It is cleared from its last byte down, a row of eight bytes a turn.
+; IDL leaves the processor idling at `wipe` until the next tick.
+;   clear           @90        entered, 00E0
+;   clear_wait      @100       entered, 00E0; RD = SCREEN_LAST, X = RD
+;   wipe            @wait+1512 entered, 00E0; for some k from 1 to ROWS: the rows from k on are empty,
+;                              RD = SCREEN + 8k - 1, X = RD
+;   wipe3           @wait+1518 the same, but also the last two bytes of row k - 1 are 00, RD = SCREEN + 8k - 3; D = 0
+;   wipe6           @wait+1524 the same, but also the last five bytes of row k - 1 are 00, RD = SCREEN + 8k - 6; D = 0
+;   wiped           @wait+1530 entered, 00E0; for some k from 0 to ROWS - 1: the rows from k on are empty,
+;                              RD = SCREEN + 8k - 1, X = RD
+;   cleared         @wait+1536 done, 00E0
+                ORG     0x8184
+clear:          LDI     >SCREEN_LAST
+                PHI     RD
+                LDI     <SCREEN_LAST
+                PLO     RD
+                SEX     RD
+clear_wait:     IDL
+wipe:           LDI     0
+                STXD
+                STXD
+wipe3:          STXD
+                STXD
+                STXD
+wipe6:          STXD
+                STXD
+                STXD
+wiped:          GHI     RD
+                XRI     >SCREEN-1
+                BNZ     wipe            ; RD is not below the screen
+cleared:        SEP     R4
 
 ; DXYN. The sprite starts at column x = VX mod 64 of row y = VY mod ROWS. Of its N rows the first h = min(N, ROWS - y)
 ; lie above the bottom edge, and these are prepared and drawn. Row r is byte r, M(I + r), shifted right by x mod 8 over
@@ -235,11 +267,4 @@ drawn:          LDI     >FLAG
 ;   draw_outside    @152       entered but for RC; s stops with READ_OUTSIDE
 draw_outside:   LDI     READ_OUTSIDE
                 BR      leave84
-
-; This page's way to the stops
-;   leave84         @156       stop c; D = c
-                ORG     0x84F0
-leave84:        PLO     RE
-                LDI     >stop
-                PHI     R3              ; on at `stop`
 ";

@@ -1,10 +1,11 @@
-//! Page 86: the interrupt routine.
+//! The interrupt routine, CXKK, FX07, FX15 and FX18.
 
 pub(crate) const TEXT: &str = "
 ; ======================================================================================================================
-; PAGE 86: the interrupt routine
+; TIMER: the interrupt routine, CXKK, FX07, FX15, FX18
 ; ======================================================================================================================
 
+; The interrupt routine
 ; P = 1, X = R2, IE = 0. The interrupt is taken at cycle 1092 of a frame, and each row says the exact cycle of the frame
 ; at its label. The window begins at cycle 1120 = 14 * 80. In each of its 128 lines one instruction comes before the
 ; eight DMA cycles and two come after them. The DMA cycles take R0 eight bytes on; DEC R0 and PLO R0 take it back. With
@@ -69,4 +70,52 @@ delay_none:     SEX     R2              ; as long as delay_down
                 SEX     R2
                 SEX     R2
                 BR      sound
+
+; CXKK: b = 5b + n mod 256 + 113 modulo 256, and VX = b and KK
+;   random          @80        entered, CXKK
+;   random_count    @90        entered, CXKK; RD = RANDOM, X = RD
+;   random_mix      @92        entered, CXKK; RD = RANDOM, X = RD; D = n mod 256, and the ticks from here on come after
+;                              the step
+                ORG     0x825D
+random:         LDI     >RANDOM
+                PHI     RD
+                LDI     <RANDOM
+                PLO     RD              ; RD at b
+                SEX     RD
+random_count:   GLO     R9
+random_mix:     ADD
+                ADD
+                ADD
+                ADD
+                ADD                     ; D = n + 5b
+                ADI     113
+                STR     RD
+                GLO     RC
+                AND
+                STR     R6
+                SEP     R4
+
+; FX07: VX = DT
+;   get_delay       @86        entered, FX07
+;   get_delay_put   @88        entered, FX07; D = DT, and the ticks from here on come after the step
+                ORG     0x8331
+get_delay:      GHI     R8
+get_delay_put:  STR     R6
+                SEP     R4
+
+; FX15: DT = VX
+;   set_delay       @98        entered, FX15
+;   set_delay_put   @100       entered, FX15; D = VX
+;   set_delay_end   @102       done, FX15; the ticks from here on come after the step
+set_delay:      LDN     R6
+set_delay_put:  PHI     R8
+set_delay_end:  SEP     R4
+
+; FX18: ST = VX
+;   set_sound       @104       entered, FX18
+;   set_sound_put   @106       entered, FX18; D = VX
+;   set_sound_end   @108       done, FX18; the ticks from here on come after the step
+set_sound:      LDN     R6
+set_sound_put:  PLO     R8
+set_sound_end:  SEP     R4
 ";
