@@ -4,8 +4,9 @@ use Rattle.machine.specs.Board.{Machine}
 use Rattle.machine.specs.Ranges.{FitsMachine}
 use Rattle.chip8_lang.specs.declared.view.Edition.{Edition}
 use Rattle.chip8_image.specs.Labels.{at_slot0}
+use Rattle.chip8_image.specs.declared.parts.Part.TheVariants.{Arith as IsArith}
 use Rattle.rom_rows.specs.Heads.{Entered, low_byte}
-use Rattle.rom_rows.specs.ArithBlocks.{ArithBlock, no_skip_labels, arith_moves, arith_addresses, arith_areas}
+use Rattle.rom_rows.specs.ArithBlocks.{ArithBlock, no_skip_labels, arith_moves, arith_addresses}
 use Rattle.rom_rows.specs.ArithBlocks.ArithBlock.{Load, Add, SkipEq, SkipNe, SkipSame, SameTest, SkipDiffer, DifferTest, NoSkip, Skip, Unknown81, Arith, Operation, Flag, Unknown82}
 use Rattle.rom_rows.specs.ArithBlocks.ArithBlock.{System, SystemLow, SystemBack, MachineCode, Return, ReturnTake, Empty, JumpTo, Call, CallPut, Full, JumpPlus}
 use Rattle.rom_rows.specs.Table.{Head, calm_pieces}
@@ -112,4 +113,4 @@ blocks =
 
 pub arith_covered : ArithCovers
 unfolding blocks
-arith_covered = covers ArithBlock arith_moves arith_addresses blocks arith_areas refl
+arith_covered = covers ArithBlock arith_moves arith_addresses blocks IsArith refl

@@ -1,8 +1,9 @@
 -- What is proved of 0MMM, of jumps and calls, of loads, of skips and of 8XYN.
 use Rattle.std.specs.Prelude.{ℕ, List}
 use Rattle.chip8_lang.specs.declared.view.Edition.{Edition}
+use Rattle.chip8_image.specs.declared.parts.Part.TheVariants.{Arith}
 use Rattle.rom_rows.specs.Rom.{program_of}
-use Rattle.rom_rows.specs.ArithBlocks.{ArithBlock, arith_moves, arith_addresses, arith_areas}
+use Rattle.rom_rows.specs.ArithBlocks.{ArithBlock, arith_moves, arith_addresses}
 use Rattle.rom_rows.specs.Table.{BlockRows}
 use Rattle.rom_rows.specs.Table.Block.{OfArith}
 use Rattle.rom_rows.specs.Addresses.{RunsAt, Covers}
@@ -17,4 +18,4 @@ ArithAddresses rom = (e : Edition) (l : ArithBlock) → RunsAt (program_of e (ro
 
 -- and each instruction of that code is in some block
 abbrev pub ArithCovers : Type 0
-ArithCovers = Covers ArithBlock arith_moves arith_addresses arith_areas
+ArithCovers = Covers ArithBlock arith_moves arith_addresses Arith

@@ -5,9 +5,10 @@ use Rattle.machine.specs.Bank.{word_of}
 use Rattle.machine.specs.Board.{Machine}
 use Rattle.chip8_lang.specs.declared.view.Edition.{Edition}
 use Rattle.chip8_image.specs.Labels.{at_outside, at_fetch, at_upper, at_inside, at_stop, at_stopped, at_unknown83, at_leave81}
+use Rattle.chip8_image.specs.declared.parts.Part.TheVariants.{Fetch as IsFetch}
 use Rattle.rom_law.specs.Program.{code}
 use Rattle.rom_law.specs.Rows.{Since}
-use Rattle.rom_rows.specs.FetchBlocks.{FetchBlock, fetch_moves, fetch_addresses, fetch_areas, misc_labels}
+use Rattle.rom_rows.specs.FetchBlocks.{FetchBlock, fetch_moves, fetch_addresses, misc_labels}
 use Rattle.rom_rows.specs.FetchBlocks.FetchBlock.{Fetch, Upper, Inside, Outside, Misc, Unknown83, Leave, Stop, Stopped}
 use Rattle.rom_rows.specs.Table.{Head}
 use Rattle.rom_rows.specs.Table.Block.{OfFetch}
@@ -39,4 +40,4 @@ blocks =
 
 pub covered : FetchCovers
 unfolding blocks
-covered = covers FetchBlock fetch_moves fetch_addresses blocks fetch_areas refl
+covered = covers FetchBlock fetch_moves fetch_addresses blocks IsFetch refl

@@ -7,11 +7,12 @@ use Rattle.chip8_lang.specs.declared.view.Edition.{Edition}
 use Rattle.chip8_lang.specs.State.{first, memory_size, is_fetchable}
 use Rattle.chip8_lang.specs.Events.{is_dispatch, is_stop}
 use Rattle.chip8_image.specs.declared.TheConstants.{DISPATCH}
+use Rattle.chip8_image.specs.declared.parts.Part.TheVariants.{Fetch}
 use Rattle.rom_moves.specs.Code.{Input, moved}
 use Rattle.rom_law.specs.Program.{code, Dispatches}
 use Rattle.rom_law.specs.Rows.{Since, InBlock, after_main}
 use Rattle.rom_rows.specs.Rom.{interpreter_of, program_of}
-use Rattle.rom_rows.specs.FetchBlocks.{FetchBlock, fetch_moves, fetch_addresses, fetch_areas}
+use Rattle.rom_rows.specs.FetchBlocks.{FetchBlock, fetch_moves, fetch_addresses}
 use Rattle.rom_rows.specs.Table.{pieces, BlockRows}
 use Rattle.rom_rows.specs.Table.Block.{OfFetch}
 use Rattle.rom_rows.specs.Addresses.{RunsAt, Covers}
@@ -36,7 +37,7 @@ FetchAddresses rom = (e : Edition) (l : FetchBlock) → RunsAt (program_of e (ro
 
 -- and each instruction of that code is in some block
 abbrev pub FetchCovers : Type 0
-FetchCovers = Covers FetchBlock fetch_moves fetch_addresses fetch_areas
+FetchCovers = Covers FetchBlock fetch_moves fetch_addresses Fetch
 
 -- the moves of boot
 abbrev pub boot_moves : ℕ

@@ -5,8 +5,9 @@ use Rattle.machine.specs.Instruction.{at}
 use Rattle.machine.specs.Board.{Machine}
 use Rattle.chip8_lang.specs.declared.view.Edition.{Edition}
 use Rattle.chip8_image.specs.Labels.{at_key_yes, at_key_test, at_key_held}
+use Rattle.chip8_image.specs.declared.parts.Part.TheVariants.{Keys}
 use Rattle.rom_law.specs.Rows.{Since}
-use Rattle.rom_rows.specs.KeyBlocks.{KeyBlock, key_addresses, key_areas, skip_test_label, no_skip_label}
+use Rattle.rom_rows.specs.KeyBlocks.{KeyBlock, key_addresses, skip_test_label, no_skip_label}
 use Rattle.rom_rows.specs.KeyBlocks.KeyBlock.{KeySkip, KeySkipUp, SkipLatch, NoSkip, Skip, WaitKey, KeyNext, KeyCount, KeyFreed}
 use Rattle.rom_rows.specs.KeyBlocks.KeyPlace.{SkipTest, KeyTest, KeyHeld}
 use Rattle.rom_rows.specs.Table.{Head}
@@ -54,4 +55,4 @@ key_pieces =
 
 pub covered : KeyCovers
 unfolding key_pieces
-covered = covers KeyPiece piece_moves piece_addresses key_pieces key_areas refl
+covered = covers KeyPiece piece_moves piece_addresses key_pieces Keys refl

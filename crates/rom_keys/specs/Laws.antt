@@ -6,11 +6,12 @@ use Rattle.machine.specs.Keys.{Keys}
 use Rattle.chip8_lang.specs.declared.view.Edition.{Edition}
 use Rattle.chip8_lang.specs.State.{Lang}
 use Rattle.chip8_lang.specs.Between.{IsAt, LetGo}
+use Rattle.chip8_image.specs.declared.parts.Part.TheVariants.{Keys as IsKeys}
 use Rattle.rom_moves.specs.Code.{Input}
 use Rattle.rom_law.specs.Program.{Program}
 use Rattle.rom_law.specs.Rows.{Since, InBlock, dispatched, after_main, after_tick}
 use Rattle.rom_rows.specs.Rom.{program_of}
-use Rattle.rom_rows.specs.KeyBlocks.{KeyBlock, KeyPlace, key_moves, key_addresses, key_place_address, key_areas}
+use Rattle.rom_rows.specs.KeyBlocks.{KeyBlock, KeyPlace, key_moves, key_addresses, key_place_address}
 use Rattle.rom_rows.specs.KeyBlocks.KeyBlock.{KeyNext, KeyCount, KeyFreed}
 use Rattle.rom_rows.specs.KeyBlocks.KeyPlace.{KeyTest, KeyHeld}
 use Rattle.rom_rows.specs.Table.{At, BlockRows, PlaceRows, pieces}
@@ -55,7 +56,7 @@ piece_addresses (OfPlace l) = key_place_address l ∷ []
 
 -- each instruction of that code is in some block or at some place
 abbrev pub KeyCovers : Type 0
-KeyCovers = Covers KeyPiece piece_moves piece_addresses key_areas
+KeyCovers = Covers KeyPiece piece_moves piece_addresses IsKeys
 
 -- ---- the sets of keys in FX0A
 

@@ -3,10 +3,11 @@ use Rattle.std.proofs.Common.{refl, List, [], ◌∷◌}
 use Rattle.machine.specs.Board.{Machine}
 use Rattle.chip8_lang.specs.declared.view.Edition.{Edition}
 use Rattle.chip8_image.specs.Labels.{at_hundreds, at_hundreds_end, at_tens, at_tens_end, at_store_byte, at_store_end, at_restore_byte, at_restore_end}
+use Rattle.chip8_image.specs.declared.parts.Part.TheVariants.{Memory}
 use Rattle.rom_law.specs.Rows.{Since}
 use Rattle.rom_rows.specs.Checks.Caller.{ForDecimal}
 use Rattle.rom_rows.specs.Checks.Answer.{InGame, InFont, Nowhere}
-use Rattle.rom_rows.specs.MemoryBlocks.{MemoryBlock, memory_moves, memory_addresses, memory_areas}
+use Rattle.rom_rows.specs.MemoryBlocks.{MemoryBlock, memory_moves, memory_addresses}
 use Rattle.rom_rows.specs.MemoryBlocks.MemoryBlock.{Index, AddIndex, Digit, Check, CheckGame, CheckFont, CheckLow, Answering, Decimal, DecimalFound, Hundreds, HundredsEnd, Tens, TensEnd, Store, StoreFound, StoreByte, StoreEnd, Restore, RestoreFound, RestoreByte, RestoreEnd}
 use Rattle.rom_rows.specs.Table.{Head}
 use Rattle.rom_rows.specs.Table.Block.{OfMemory}
@@ -62,4 +63,4 @@ blocks =
 
 pub memory_covered : MemoryCovers
 unfolding blocks
-memory_covered = covers MemoryBlock memory_moves memory_addresses blocks memory_areas refl
+memory_covered = covers MemoryBlock memory_moves memory_addresses blocks Memory refl

@@ -1,8 +1,9 @@
 -- What is proved of I and of game memory.
 use Rattle.std.specs.Prelude.{ℕ, List}
 use Rattle.chip8_lang.specs.declared.view.Edition.{Edition}
+use Rattle.chip8_image.specs.declared.parts.Part.TheVariants.{Memory}
 use Rattle.rom_rows.specs.Rom.{program_of}
-use Rattle.rom_rows.specs.MemoryBlocks.{MemoryBlock, memory_moves, memory_addresses, memory_areas}
+use Rattle.rom_rows.specs.MemoryBlocks.{MemoryBlock, memory_moves, memory_addresses}
 use Rattle.rom_rows.specs.Table.{BlockRows}
 use Rattle.rom_rows.specs.Table.Block.{OfMemory}
 use Rattle.rom_rows.specs.Addresses.{RunsAt, Covers}
@@ -17,4 +18,4 @@ MemoryAddresses rom = (e : Edition) (l : MemoryBlock) → RunsAt (program_of e (
 
 -- and each instruction of that code is in some block
 abbrev pub MemoryCovers : Type 0
-MemoryCovers = Covers MemoryBlock memory_moves memory_addresses memory_areas
+MemoryCovers = Covers MemoryBlock memory_moves memory_addresses Memory

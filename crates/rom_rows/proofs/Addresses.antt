@@ -5,7 +5,7 @@ use Rattle.std.proofs.lemmas.Bool.{and_parts, eqb-true, cases_eq}
 use Rattle.machine.specs.Instruction.{at}
 use Rattle.machine.specs.Board.{Machine}
 use Rattle.machine.specs.Ranges.{FitsMachine, FitsRom}
-use Rattle.chip8_image.specs.Parts.{Area}
+use Rattle.chip8_image.specs.declared.parts.Part.{Part}
 use Rattle.chip8_lang.specs.declared.view.Edition.{Edition}
 use Rattle.rom_moves.specs.Code.{Code}
 use Rattle.rom_moves.proofs.Moves.{quicks}
@@ -14,7 +14,7 @@ use Rattle.rom_law.specs.Rows.{Since}
 use Rattle.rom_law.proofs.Kept.{Comes, block_at}
 use Rattle.rom_rows.specs.Rom.{program_of}
 use Rattle.rom_rows.specs.Table.{Block, Head, moves, pieces, calm_pieces}
-use Rattle.rom_rows.specs.Addresses.{RunsAt, IsIn, begins, Covers}
+use Rattle.rom_rows.specs.Addresses.{RunsAt, IsIn, begins, areas_with_blocks, Covers}
 use Rattle.rom_rows.proofs.Calm.{comes_calm}
 use Rattle.rom_rows.proofs.Sounds.{sound}
 
@@ -94,6 +94,6 @@ module _ (B : Type 0) (moves : B → ℕ) (addresses : B → List ℕ) where
   all_are blocks (a ∷ l) e zero m = found_is blocks a (and_parts (found blocks a) (all_found blocks l) e).0
   all_are blocks (a ∷ l) e (suc i) m = all_are blocks l (and_parts (found blocks a) (all_found blocks l) e).1 i (omega (arith, m))
 
-  -- every instruction of the areas is in one of these blocks
-  pub covers : (blocks : List B) (areas : List Area) → all_found blocks (begins areas) ≡ true → Covers B moves addresses areas
-  covers blocks areas e = all_are blocks (begins areas) e
+  -- every instruction of the part's code that has blocks is in one of these
+  pub covers : (blocks : List B) (p : Part) → all_found blocks (begins (areas_with_blocks p)) ≡ true → Covers B moves addresses p
+  covers blocks p e = all_are blocks (begins (areas_with_blocks p)) e

@@ -1,6 +1,6 @@
 -- Both ROMs as one list, so that code is run by computing for both editions at once: a byte in which they differ is a choice by the
 -- edition.
-use Rattle.std.proofs.Common.{◌≡◌, ℕ, zero, suc, ◌+◌, ◌*◌, ◌<◌, refl, sym, subst, lit<, Bool, true, ◌&&◌, List, [], ◌∷◌, length, cond, slice_index, nat_lt}
+use Rattle.std.proofs.Common.{◌≡◌, ℕ, zero, suc, ◌+◌, ◌*◌, ◌<◌, refl, lit<, Bool, true, ◌&&◌, List, [], ◌∷◌, length, cond, slice_index, nat_lt}
 use Rattle.std.specs.Prelude.{◌==◌}
 use Rattle.std.proofs.lemmas.Bool.{and_parts, ltb-true}
 use Rattle.machine.specs.Ranges.{FitsRom}

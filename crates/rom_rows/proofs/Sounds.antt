@@ -11,7 +11,7 @@ use Rattle.rom_law.specs.Program.{code}
 use Rattle.rom_law.specs.Rows.{Since, now, after_ticks}
 use Rattle.rom_law.proofs.Language.{ticks_add}
 use Rattle.rom_law.proofs.Kept.{Comes, Holds, Sound, block_moves, place_moves, place_ticks}
-use Rattle.rom_rows.specs.Rom.{image, program_of}
+use Rattle.rom_rows.specs.Rom.{program_of}
 use Rattle.rom_rows.specs.Heads.{Time, Within}
 use Rattle.rom_rows.specs.Heads.Time.{Exactly, AtMost, Anytime, Waited}
 use Rattle.rom_rows.specs.FetchBlocks.{FetchBlock, fetch_moves}
@@ -227,6 +227,3 @@ module _ (e : Edition) {rom last : List ℕ} (is : rom ≡ last) (fits : FitsRom
 
   pub place_rows : (l : AnyPlace) → ((b : Machine) (h : Since) → FitsMachine b → At (program_of e rom) l b h → Holds (program_of e rom) (calm_pieces (program_of e rom)) l b h) → ((b : Machine) (h : Since) → At (program_of e rom) l b h → b.regs.idle ≡ false) → PlaceRows (program_of e last) l
   place_rows l holds awake = place_rows_in l (λ b h f at. holds_calm (holds b h f at)) awake
-
-  pub tick_rows : (l : AnyPlace) → ((b : Machine) (h : Since) → FitsMachine b → At (program_of e rom) l b h → Holds (program_of e rom) (calm_pieces (program_of e rom)) l b h) → TickRows (program_of e last) l
-  tick_rows l holds = tick_rows_in l (λ b h f at. holds_calm (holds b h f at))

@@ -1,11 +1,15 @@
 -- At which addresses the instructions of blocks begin, and that those of a part of the ROM all do in some block.
-use Rattle.std.specs.Prelude.{◌≡◌, ℕ, zero, suc, ◌+◌, ◌-◌, ◌<◌, if◌then◌else◌, nat_le, List, [], ◌∷◌, ◌++◌, length, slice_index}
+use Rattle.std.specs.Prelude.{◌≡◌, ℕ, zero, suc, ◌+◌, ◌-◌, ◌<◌, not, if◌then◌else◌, nat_eq, nat_le, List, [], ◌∷◌, ◌++◌, length, slice_index}
+use Rattle.std.specs.List.{filter, list_any}
 use Rattle.machine.specs.Instruction.{at}
 use Rattle.machine.specs.Board.{Machine}
 use Rattle.machine.specs.Opcodes.{kind_of}
 use Rattle.vip_isa.specs.Rows.{size_of}
 use Rattle.chip8_image.specs.declared.image.TheConstants.{IMAGE}
-use Rattle.chip8_image.specs.Parts.{Area}
+use Rattle.chip8_image.specs.declared.map.Area.{Area}
+use Rattle.chip8_image.specs.declared.parts.Part.{Part}
+use Rattle.chip8_image.specs.Labels.{at_boot, at_halt, at_resume}
+use Rattle.chip8_image.specs.Parts.{areas_of}
 use Rattle.rom_law.specs.Program.{Program}
 use Rattle.rom_law.specs.Rows.{Since, InBlock}
 use Rattle.rom_rows.specs.Table.{Block, pieces}
@@ -27,6 +31,15 @@ abbrev pub begins : List Area → List ℕ
 begins [] = []
 begins (a ∷ areas) = begins_from (a.last + 1 - a.first) a.first a.last ++ begins areas
 
+-- The code that has no blocks, by its first address: boot, the loop of a stopped interpreter, and the interrupt routine. Laws of their own
+-- say what it does.
+abbrev pub without_blocks : List ℕ
+without_blocks = at_boot ∷ at_halt ∷ at_resume ∷ []
+
+-- the areas of a part whose code has blocks
+abbrev pub areas_with_blocks : Part → List Area
+areas_with_blocks p = filter (λ a. not (list_any (nat_eq a.first) without_blocks)) (areas_of p)
+
 -- an address is that of some instruction of some block, where blocks have so many instructions at these addresses
 pub record IsIn (B : Type 0) (moves : B → ℕ) (addresses : B → List ℕ) (a : ℕ) : Type 0 where
   pub block : B
@@ -34,9 +47,9 @@ pub record IsIn (B : Type 0) (moves : B → ℕ) (addresses : B → List ℕ) (a
   pub inside : k < moves block
   pub is : slice_index (addresses block) k ≡ a
 
--- every instruction of these areas is in some block
-abbrev pub Covers : (B : Type 0) → (B → ℕ) → (B → List ℕ) → List Area → Type 0
-Covers B moves addresses areas =
+-- every instruction of the part's code that has blocks is in some block
+abbrev pub Covers : (B : Type 0) → (B → ℕ) → (B → List ℕ) → Part → Type 0
+Covers B moves addresses p =
     (i : ℕ)
-    → i < length (begins areas)
-    → IsIn B moves addresses (slice_index (begins areas) i)
+    → i < length (begins (areas_with_blocks p))
+    → IsIn B moves addresses (slice_index (begins (areas_with_blocks p)) i)

@@ -7,55 +7,53 @@ use Rattle.chip8_lang.specs.declared.view.Stop.TheVariants.{MachineCall, Unknown
 use Rattle.chip8_lang.specs.State.{Lang, instr_at}
 use Rattle.chip8_lang.specs.Step.{skip_if, set_with_flag, step}
 use Rattle.chip8_lang.specs.Step.KeyInput.{Nothing}
-use Rattle.chip8_image.specs.declared.parts.Part.TheVariants.{Arith as IsArith}
 use Rattle.chip8_image.specs.Labels.{at_system, at_system_low, at_system_back, at_machine, at_return, at_return_take, at_empty, at_jump, at_call, at_call_put, at_full, at_jump_plus, at_load, at_add, at_skip_eq, at_skip_eq_no, at_skip_ne, at_skip_ne_no, at_skip_same, at_skip_same_test, at_skip_same_no, at_skip_differ, at_differ_test, at_differ_no, at_skip, at_unknown81, at_arith, at_slot0, at_copy, at_vx_or, at_vx_and, at_vx_xor, at_sum, at_less, at_right, at_from, at_left, at_no_flag, at_flag, at_unknown82}
-use Rattle.chip8_image.specs.Parts.{Area, area}
 use Rattle.rom_law.specs.Program.{Program}
 use Rattle.rom_rows.specs.Heads.{Time, from, high_byte, low_byte, Entered, Enters}
 use Rattle.rom_rows.specs.Heads.Time.{Exactly, AtMost}
 
 pub data ArithBlock : Type 0 where
-  -- 0MMM: 8100 to 8102, 8103 to 8107, 8108 to 810C, and 810D to 8110
+  -- 0MMM: the tests of its high byte, for 00E0 and for 00EE, and the stop
   System : ArithBlock
   SystemLow : ArithBlock
   SystemBack : ArithBlock
   MachineCode : ArithBlock
-  -- 00EE: 8111 to 8115, 8116 to 8121, and 8122 to 8125
+  -- 00EE: the test of the stack, the return, and the stop where it is empty
   Return : ArithBlock
   ReturnTake : ArithBlock
   Empty : ArithBlock
-  -- 1MMM: 8126 to 812C
+  -- 1MMM
   JumpTo : ArithBlock
-  -- 2MMM: 812D to 8131, 8132 to 813D, and 813E to 8141
+  -- 2MMM: the test of the stack, the call, and the stop where it is full
   Call : ArithBlock
   CallPut : ArithBlock
   Full : ArithBlock
-  -- BMMM: 8142 to 8152
+  -- BMMM
   JumpPlus : ArithBlock
-  -- 6XKK and 7XKK: 8153 to 8155, and 8156 to 815A
+  -- 6XKK and 7XKK
   Load : ArithBlock
   Add : ArithBlock
-  -- 3XKK and 4XKK: 815B to 815F, and 8161 to 8165
+  -- 3XKK and 4XKK
   SkipEq : ArithBlock
   SkipNe : ArithBlock
-  -- 5XYN and 9XYN: 8167 to 816B, and 8172 to 8176; where N is 0, 816C to 8170, and 8177 to 817B
+  -- 5XYN and 9XYN: of each the test of N, and what it does where N is 0
   SkipSame : ArithBlock
   SameTest : ArithBlock
   SkipDiffer : ArithBlock
   DifferTest : ArithBlock
-  -- behind skip i where it was not taken: 8160, 8166, 8171 and 817C
+  -- behind skip i where it was not taken
   NoSkip : (i : ℕ) → ArithBlock
-  -- 817D to 817F
+  -- behind any skip that was taken
   Skip : ArithBlock
-  -- 8180 to 8183
+  -- 5XYN and 9XYN where N is not 0
   Unknown81 : ArithBlock
-  -- 8XYN: 8200 to 8207
+  -- 8XYN: the branch by N
   Arith : ArithBlock
-  -- 8208 + 2n to 8209 + 2n, and from there on the code of operation n up to its end or to the flag, which lies from 8228 to 824C
+  -- operation n, from its place in the table of branches up to its end or to the flag
   Operation : (n : ℕ) → ArithBlock
-  -- 824D to 8258
+  -- the end of the operations with a flag
   Flag : ArithBlock
-  -- 8259 to 825C
+  -- 8XYN, and EXKK, where it is no instruction
   Unknown82 : ArithBlock
 
 -- where 3XKK, 4XKK, 5XY0 and 9XY0 go on if they don't skip
@@ -201,7 +199,3 @@ arith_addresses Arith = from at_arith (0 ∷ 1 ∷ 2 ∷ 4 ∷ 5 ∷ 7 ∷ [])
 arith_addresses (Operation n) = (at_slot0 + 2 * n) ∷ from (slice_index operation_labels n) (0 ∷ 1 ∷ 2 ∷ []) ++ at_no_flag ∷ []
 arith_addresses Flag = from at_flag (0 ∷ 1 ∷ 3 ∷ 4 ∷ 6 ∷ 7 ∷ 9 ∷ 10 ∷ 11 ∷ [])
 arith_addresses Unknown82 = from at_unknown82 (0 ∷ 2 ∷ [])
-
--- 0MMM, jumps and calls, loads and skips, and 8XYN
-abbrev pub arith_areas : List Area
-arith_areas = area 0x8100 0x8183 IsArith ∷ area 0x8200 0x825c IsArith ∷ []

@@ -4,26 +4,24 @@ use Rattle.std.specs.Prelude.{◌≡◌, ℕ, ◌+◌, ◌*◌, ◌<◌, ◌≤�
 use Rattle.machine.specs.Board.{Machine}
 use Rattle.chip8_lang.specs.State.{Lang, is_fetchable}
 use Rattle.chip8_lang.specs.Step.{next}
-use Rattle.chip8_image.specs.declared.parts.Part.TheVariants.{Fetch as IsFetch}
 use Rattle.chip8_image.specs.Labels.{at_outside, at_dispatch, at_fetch, at_upper, at_inside, at_stop, at_stopped, at_misc, at_misc_0A, at_misc_15, at_misc_18, at_misc_1E, at_misc_29, at_misc_33, at_misc_55, at_misc_65, at_unknown83, at_leave81}
-use Rattle.chip8_image.specs.Parts.{Area, area}
 use Rattle.rom_law.specs.Program.{Program}
 use Rattle.rom_rows.specs.Heads.{Time, from, low_byte, Fetching, Enters, Leaving, Stopping}
 use Rattle.rom_rows.specs.Heads.Time.{Exactly, AtMost}
 
 pub data FetchBlock : Type 0 where
-  -- 8031 to 8035, 8036 to 803D, and 803E to 8063 with 8030
+  -- the fetch up to the test of the least pc, up to that of the greatest, and the rest up to the dispatch
   Fetch : FetchBlock
   Upper : FetchBlock
   Inside : FetchBlock
-  -- 8027 to 8030
+  -- pc is outside of game memory
   Outside : FetchBlock
-  -- test i of FXKK, 8300 + 5i to 8304 + 5i, and 832D to 8330
+  -- test i of FXKK, and what comes behind the last one
   Misc : (i : ℕ) → FetchBlock
   Unknown83 : FetchBlock
-  -- page 81 + i's way to the stops, 81F0 + 100i to 81F3 + 100i
+  -- the way of page 81 + i to the stops
   Leave : (i : ℕ) → FetchBlock
-  -- 80F4 to 80F5, and 80F6 to 80FD
+  -- the stops, where pc goes back to the opcode, and where it stands there
   Stop : FetchBlock
   Stopped : FetchBlock
 
@@ -85,15 +83,3 @@ fetch_addresses Unknown83 = from at_unknown83 (0 ∷ 2 ∷ [])
 fetch_addresses (Leave i) = from (at_leave81 + 0x100 * i) (0 ∷ 1 ∷ 3 ∷ [])
 fetch_addresses Stop = from at_stop (0 ∷ 1 ∷ [])
 fetch_addresses Stopped = from at_stopped (0 ∷ 2 ∷ 3 ∷ 5 ∷ 6 ∷ 7 ∷ [])
-
--- the fetch, the dispatch, the stops, the ways to them, and the tests of FXKK
-abbrev pub fetch_areas : List Area
-fetch_areas =
-    area 0x8027 0x8063 IsFetch ∷
-    area 0x80f4 0x80fd IsFetch ∷
-    area 0x81f0 0x81f3 IsFetch ∷
-    area 0x82f0 0x82f3 IsFetch ∷
-    area 0x8300 0x8330 IsFetch ∷
-    area 0x83f0 0x83f3 IsFetch ∷
-    area 0x84f0 0x84f3 IsFetch ∷
-    []

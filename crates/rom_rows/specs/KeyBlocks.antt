@@ -6,9 +6,7 @@ use Rattle.machine.specs.Keys.{Keys}
 use Rattle.chip8_lang.specs.Between.{IsAt, SomeTime}
 use Rattle.chip8_lang.specs.State.{Lang, variable, is_fetchable}
 use Rattle.chip8_lang.specs.Step.{next}
-use Rattle.chip8_image.specs.declared.parts.Part.TheVariants.{Keys as IsKeys}
 use Rattle.chip8_image.specs.Labels.{at_fetch, at_key_skip, at_key_skip_up, at_skip_up, at_skip_up_test, at_skip_up_no, at_skip_down, at_skip_down_test, at_skip_down_no, at_key_yes, at_wait_key, at_key_next, at_key_test, at_key_count, at_key_held, at_key_freed}
-use Rattle.chip8_image.specs.Parts.{Area, area}
 use Rattle.rom_law.specs.Program.{Program}
 use Rattle.rom_law.specs.Holding.{places, Holding}
 use Rattle.rom_rows.specs.Heads.{Time, from, high_byte, low_byte, page_of, Enters}
@@ -16,26 +14,26 @@ use Rattle.rom_rows.specs.Heads.Time.{Exactly, Anytime}
 
 -- Of the two skips, the one with `down` skips where its key is down, and the other where it is up.
 pub data KeyBlock : Type 0 where
-  -- which of the two: 8271 to 8276, and 8277 to 827B
+  -- which of the two: the test for EX9E, and that for EXA1
   KeySkip : KeyBlock
   KeySkipUp : KeyBlock
-  -- a skip up to its test, 8280 and 827C; behind it where it was not taken, 8283 and 827F, and where it was, 8284 to 8286
+  -- a skip up to its test, behind it where it was not taken, and where it was
   SkipLatch : (down : Bool) → KeyBlock
   NoSkip : (down : Bool) → KeyBlock
   Skip : (down : Bool) → KeyBlock
-  -- FX0A up to its loop: 833A to 8343
+  -- FX0A up to its loop
   WaitKey : KeyBlock
-  -- a turn of the loop up to its test, and behind the test where that key is up: 8344 to 8347, and 834A to 834C
+  -- a turn of the loop up to its test, and behind the test where that key is up
   KeyNext : (turn : ℕ) → KeyBlock
   KeyCount : (turn : ℕ) → KeyBlock
-  -- a key was let go: 834F to 8353
+  -- a key was let go
   KeyFreed : KeyBlock
 
 -- the tests of the latched key
 pub data KeyPlace : Type 0 where
-  -- that of a skip: 8281 and 827D
+  -- that of a skip
   SkipTest : (down : Bool) → KeyPlace
-  -- that of a turn, and that of the key that is down: 8348 and 834D
+  -- that of a turn, and that of the key that is down
   KeyTest : (turn : ℕ) → KeyPlace
   KeyHeld : KeyPlace
 
@@ -171,7 +169,3 @@ abbrev pub key_place_address : KeyPlace → ℕ
 key_place_address (SkipTest down) = skip_test_label down
 key_place_address (KeyTest turn) = at_key_test
 key_place_address KeyHeld = at_key_held
-
--- EX9E and EXA1, and FX0A
-abbrev pub key_areas : List Area
-key_areas = area 0x8271 0x8286 IsKeys ∷ area 0x833a 0x8353 IsKeys ∷ []

@@ -5,9 +5,7 @@ use Rattle.machine.specs.Board.{Machine}
 use Rattle.chip8_lang.specs.Editions.{memory_start}
 use Rattle.chip8_lang.specs.State.{Lang, variable, is_in_memory, is_fetchable}
 use Rattle.chip8_lang.specs.Step.{is_readable, next, stored, bytes_from}
-use Rattle.chip8_image.specs.declared.parts.Part.TheVariants.{Memory as IsMemory}
 use Rattle.chip8_image.specs.Labels.{at_fetch, at_index, at_add_index, at_digit, at_decimal, at_decimal_found, at_hundreds, at_hundreds_end, at_tens, at_tens_end, at_store, at_store_found, at_store_byte, at_store_end, at_restore, at_restore_found, at_restore_byte, at_restore_end, at_write_outside, at_read_outside, at_check, at_check_game, at_check_font, at_check_low, at_in_game, at_in_font, at_nowhere}
-use Rattle.chip8_image.specs.Parts.{Area, area}
 use Rattle.rom_law.specs.Program.{Program}
 use Rattle.rom_law.specs.Holding.{places, Holding}
 use Rattle.rom_rows.specs.Heads.{Time, from, high_byte, low_byte, page_of, Enters}
@@ -17,37 +15,37 @@ use Rattle.rom_rows.specs.Checks.Caller.{ForDecimal, ForStore, ForRestore}
 use Rattle.rom_rows.specs.Checks.Answer.{InGame, InFont, Nowhere}
 
 pub data MemoryBlock : Type 0 where
-  -- AMMM, FX1E and FX29: 8354 to 835A, 835B to 8363, and 8364 to 8376
+  -- AMMM, FX1E and FX29
   Index : MemoryBlock
   AddIndex : MemoryBlock
   Digit : MemoryBlock
-  -- the range check for a caller: 8500 to 850D, 850E to 8516, 8517 to 851B, and 851C to 8521
+  -- the range check for a caller: I against the start of game memory, against its end, and against the page and the end of the font
   Check : (c : Caller) → MemoryBlock
   CheckGame : (c : Caller) → MemoryBlock
   CheckFont : (c : Caller) → MemoryBlock
   CheckLow : (c : Caller) → MemoryBlock
-  -- its ends: 8525 to 8527, 8522 to 8524, and 8528 to 852A
+  -- its answers
   Answering : (c : Caller) (answer : Answer) → MemoryBlock
-  -- FX33 up to the range check: 8377 to 8380
+  -- FX33 up to the range check
   Decimal : MemoryBlock
-  -- behind it, for bytes in game memory 8381 to 838B, else 8381 to 8382 and 83E2 to 83E5
+  -- behind it: on to the digits, or to the stop
   DecimalFound : (answer : Answer) → MemoryBlock
-  -- 100 was taken away k times, 838C to 8390, and once too often, 8391 to 8393
+  -- 100 was taken away k times, and once too often
   Hundreds : (k : ℕ) → MemoryBlock
   HundredsEnd : MemoryBlock
-  -- 10 was taken away k times, 8394 to 8398, and once too often, 8399 to 83A5
+  -- 10 was taken away k times, and once too often
   Tens : (k : ℕ) → MemoryBlock
   TensEnd : MemoryBlock
-  -- FX55 up to the range check, 83A6 to 83B2, and behind it: 83B3 to 83BA, else 83B3 to 83B4 and 83E2 to 83E5
+  -- FX55 up to the range check, and behind it: on to the bytes, or to the stop
   Store : MemoryBlock
   StoreFound : (answer : Answer) → MemoryBlock
-  -- k bytes are stored, 83BB to 83C1, and all are, 83C2
+  -- k bytes are stored, and all are
   StoreByte : (k : ℕ) → MemoryBlock
   StoreEnd : MemoryBlock
-  -- FX65 up to the range check, 83C3 to 83CF, and behind it: 83D0 to 83D9, else 83D0 to 83D3 and 83E6 to 83E9
+  -- FX65 up to the range check, and behind it: on to the bytes, or to the stop
   Restore : MemoryBlock
   RestoreFound : (answer : Answer) → MemoryBlock
-  -- k bytes are fetched, 83DA to 83E0, and all are, 83E1
+  -- k bytes are fetched, and all are
   RestoreByte : (k : ℕ) → MemoryBlock
   RestoreEnd : MemoryBlock
 
@@ -201,7 +199,3 @@ memory_addresses (RestoreFound Nowhere) = from at_restore_found (0 ∷ 2 ∷ [])
 memory_addresses (RestoreFound answer) = from at_restore_found (0 ∷ 2 ∷ 4 ∷ 6 ∷ 7 ∷ 9 ∷ [])
 memory_addresses (RestoreByte k) = from at_restore_byte (0 ∷ 1 ∷ 2 ∷ 3 ∷ 4 ∷ 5 ∷ [])
 memory_addresses RestoreEnd = at_restore_end ∷ []
-
--- AMMM, FX1E, FX29, FX33, FX55 and FX65, and the range check
-abbrev pub memory_areas : List Area
-memory_areas = area 0x8354 0x83e9 IsMemory ∷ area 0x8500 0x852a IsMemory ∷ []

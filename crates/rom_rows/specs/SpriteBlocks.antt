@@ -7,9 +7,7 @@ use Rattle.chip8_lang.specs.declared.view.Edition.{Edition}
 use Rattle.chip8_lang.specs.Screen.{Pixels, difference, either, meets, dots}
 use Rattle.chip8_lang.specs.State.{Lang, variable, is_fetchable}
 use Rattle.chip8_lang.specs.Step.{next, is_readable, sprite_row}
-use Rattle.chip8_image.specs.declared.parts.Part.TheVariants.{Sprite as IsSprite}
 use Rattle.chip8_image.specs.Labels.{at_fetch, at_clear, at_clear_wait, at_wipe, at_wipe3, at_wipe6, at_wiped, at_cleared, at_draw, at_draw_check, at_draw_found, at_draw_outside, at_place, at_edge, at_fits, at_angle, at_begin, at_row, at_row_byte, at_shift7, at_shifted, at_row_right, at_row_store, at_ready, at_draw_wait, at_line, at_line_left, at_line_right, at_drawn}
-use Rattle.chip8_image.specs.Parts.{Area, area}
 use Rattle.rom_law.specs.Program.{Program}
 use Rattle.rom_law.specs.Holding.{places, Holding}
 use Rattle.rom_rows.specs.Heads.{Time, from, high_byte, low_byte, page_of, Entered, Enters, Done}
@@ -20,52 +18,49 @@ use Rattle.rom_rows.specs.Checks.Answer.{Nowhere}
 use Rattle.rom_rows.specs.Dots.{left, right, rows_drawn, dots_of_byte}
 
 pub data SpriteBlock : Type 0 where
-  -- 00E0 up to its wait: 8184 to 818A
+  -- 00E0 up to its wait
   Clear : SpriteBlock
-  -- Behind it: the rows from k + 1 on are empty, 818C to 818F; two bytes more are, 8190 to 8192; five more are, 8193 to 8195; and all
-  -- eight of row k are, 8196 to 819A
+  -- behind it: the rows from k + 1 on are empty, two bytes more are, five more are, and all eight of row k are
   Wipe : (k : ℕ) → SpriteBlock
   Wipe3 : (k : ℕ) → SpriteBlock
   Wipe6 : (k : ℕ) → SpriteBlock
   Wiped : (k : ℕ) → SpriteBlock
-  -- the screen is empty: 819B
+  -- the screen is empty
   Cleared : SpriteBlock
-  -- DXYN up to the test of N, 8400 to 8405, and up to the range check, 8406 to 840C
+  -- DXYN up to the test of N, and up to the range check
   Draw : SpriteBlock
   DrawCheck : SpriteBlock
-  -- behind the check, 840D to 8410, and for bytes that may not be read 84DF to 84E2 besides
+  -- behind the check: on to the place, or to the stop
   DrawFound : (answer : Answer) → SpriteBlock
-  -- The rows above the bottom edge are counted, 8411 to 8421 and 8422 to 8427; the place on the screen, 8428 to 843F; the entry of the
-  -- shifts, 8440 to 844B; and the pointers, 844C to 8459
+  -- the rows above the bottom edge are counted, and taken where N is more; the place on the screen; the entry of the shifts; the pointers
   Place : SpriteBlock
   Edge : SpriteBlock
   Fits : SpriteBlock
   Angle : SpriteBlock
   Begin : SpriteBlock
-  -- r rows are prepared: the test whether all are, 845A to 845C, and the byte of row r, 845D to 8464
+  -- r rows are prepared: the test whether all are, and the byte of row r
   Row : (r : ℕ) → SpriteBlock
   RowByte : (r : ℕ) → SpriteBlock
-  -- j shifts of it are left, 8465 to 848E, six bytes each; none is, 848F to 8498
+  -- j shifts of it are left, and none is
   Shift : (r j : ℕ) → SpriteBlock
   Shifted : (r : ℕ) → SpriteBlock
-  -- its second byte is taken, 8499, and stored, 849A to 849D
+  -- its second byte is taken, and stored
   RowRight : (r : ℕ) → SpriteBlock
   RowStore : (r : ℕ) → SpriteBlock
-  -- all rows are prepared: 849E to 84AA
+  -- all rows are prepared
   Ready : SpriteBlock
-  -- Behind the wait r rows are drawn: the test whether all are, 84AC to 84AE; row r's first byte, 84AF to 84BB, and its second one, 84BC
-  -- to 84D0
+  -- behind the wait r rows are drawn: the test whether all are, row r's first byte, and its second one
   Line : (r : ℕ) → SpriteBlock
   LineLeft : (r : ℕ) → SpriteBlock
   LineRight : (r : ℕ) → SpriteBlock
-  -- all rows are drawn: 84D1 to 84DE
+  -- all rows are drawn
   Drawn : SpriteBlock
 
 pub data SpritePlace : Type 0 where
-  -- the waits of 00E0: at IDL, 818B, and idling behind it, at 818C
+  -- the waits of 00E0: at IDL, and idling behind it
   ClearWait : SpritePlace
   ClearIdle : SpritePlace
-  -- those of DXYN: at IDL, 84AB, and idling behind it, at 84AC
+  -- those of DXYN: at IDL, and idling behind it
   DrawWait : SpritePlace
   DrawIdle : SpritePlace
 
@@ -360,7 +355,3 @@ sprite_place_address ClearWait = at_clear_wait
 sprite_place_address ClearIdle = at_wipe
 sprite_place_address DrawWait = at_draw_wait
 sprite_place_address DrawIdle = at_line
-
--- 00E0 and DXYN
-abbrev pub sprite_areas : List Area
-sprite_areas = area 0x8184 0x819b IsSprite ∷ area 0x8400 0x84e2 IsSprite ∷ []

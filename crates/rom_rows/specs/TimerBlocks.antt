@@ -4,29 +4,27 @@ use Rattle.machine.specs.Bank.{word_of}
 use Rattle.machine.specs.Board.{Machine}
 use Rattle.chip8_lang.specs.Editions.{random_cell}
 use Rattle.chip8_lang.specs.State.{Lang, variable}
-use Rattle.chip8_image.specs.declared.parts.Part.TheVariants.{Timer}
 use Rattle.chip8_image.specs.Labels.{at_random, at_random_count, at_random_mix, at_get_delay, at_get_delay_put, at_set_delay, at_set_delay_put, at_set_delay_end, at_set_sound, at_set_sound_put, at_set_sound_end}
-use Rattle.chip8_image.specs.Parts.{Area, area}
 use Rattle.rom_law.specs.Program.{Program}
 use Rattle.rom_rows.specs.Heads.{Time, from, high_byte, low_byte, Enters, Done}
 use Rattle.rom_rows.specs.Heads.Time.{Exactly}
 
 pub data TimerBlock : Type 0 where
-  -- CXKK up to the count of ticks, and behind it: 825D to 8263, and 8265 to 8270
+  -- CXKK up to the count of ticks, and behind it
   Random : TimerBlock
   RandomMix : TimerBlock
-  -- FX07 behind the timer: 8332 to 8333
+  -- FX07 behind the timer
   GetDelayPut : TimerBlock
-  -- FX15 and FX18 before the timer, 8334 and 8337, and behind it, 8336 and 8339
+  -- FX15 and FX18, each before the timer and behind it
   SetDelay : TimerBlock
   SetDelayEnd : TimerBlock
   SetSound : TimerBlock
   SetSoundEnd : TimerBlock
 
 pub data TimerPlace : Type 0 where
-  -- the count of ticks is read: 8264
+  -- the count of ticks is read
   RandomCount : TimerPlace
-  -- DT is read, DT is written, and ST is written: 8331, 8335 and 8338
+  -- DT is read, DT is written, and ST is written
   GetDelay : TimerPlace
   SetDelayPut : TimerPlace
   SetSoundPut : TimerPlace
@@ -93,7 +91,3 @@ timer_place_address RandomCount = at_random_count
 timer_place_address GetDelay = at_get_delay
 timer_place_address SetDelayPut = at_set_delay_put
 timer_place_address SetSoundPut = at_set_sound_put
-
--- CXKK, FX07, FX15 and FX18
-abbrev pub timer_areas : List Area
-timer_areas = area 0x825d 0x8270 Timer ∷ area 0x8331 0x8339 Timer ∷ []

@@ -5,9 +5,10 @@ use Rattle.machine.specs.Instruction.{at}
 use Rattle.machine.specs.Board.{Machine}
 use Rattle.chip8_lang.specs.declared.view.Edition.{Edition}
 use Rattle.chip8_image.specs.Labels.{at_cleared, at_row, at_row_byte, at_shift7, at_row_right, at_line}
+use Rattle.chip8_image.specs.declared.parts.Part.TheVariants.{Sprite}
 use Rattle.rom_law.specs.Rows.{Since}
 use Rattle.rom_rows.specs.Checks.Answer.{InGame, InFont, Nowhere}
-use Rattle.rom_rows.specs.SpriteBlocks.{SpriteBlock, sprite_addresses, sprite_areas}
+use Rattle.rom_rows.specs.SpriteBlocks.{SpriteBlock, sprite_addresses}
 use Rattle.rom_rows.specs.SpriteBlocks.SpriteBlock.{Clear, Wipe, Wipe3, Wipe6, Wiped, Cleared, Draw, DrawCheck, DrawFound, Place, Edge, Fits, Angle, Begin, Row, RowByte, Shift, Shifted, RowRight, RowStore, Ready, Line, LineLeft, LineRight, Drawn}
 use Rattle.rom_rows.specs.SpriteBlocks.SpritePlace.{ClearWait, ClearIdle, DrawWait, DrawIdle}
 use Rattle.rom_rows.specs.Table.{Head}
@@ -86,4 +87,4 @@ sprite_pieces =
 
 pub covered : SpriteCovers
 unfolding sprite_pieces
-covered = covers SpritePiece piece_moves piece_addresses sprite_pieces sprite_areas refl
+covered = covers SpritePiece piece_moves piece_addresses sprite_pieces Sprite refl

@@ -3,9 +3,10 @@ use Rattle.std.specs.Prelude.{◌≡◌, ℕ, List, [], ◌∷◌}
 use Rattle.machine.specs.Instruction.{at}
 use Rattle.machine.specs.Board.{Machine}
 use Rattle.chip8_lang.specs.declared.view.Edition.{Edition}
+use Rattle.chip8_image.specs.declared.parts.Part.TheVariants.{Sprite}
 use Rattle.rom_law.specs.Rows.{Since}
 use Rattle.rom_rows.specs.Rom.{program_of}
-use Rattle.rom_rows.specs.SpriteBlocks.{SpriteBlock, SpritePlace, sprite_moves, sprite_addresses, sprite_place_address, sprite_areas}
+use Rattle.rom_rows.specs.SpriteBlocks.{SpriteBlock, SpritePlace, sprite_moves, sprite_addresses, sprite_place_address}
 use Rattle.rom_rows.specs.Table.{At, BlockRows, AwakeRows, TickRows}
 use Rattle.rom_rows.specs.Table.Block.{OfSprite}
 use Rattle.rom_rows.specs.Table.Place.{AtSprite}
@@ -48,4 +49,4 @@ piece_addresses (AtPlace l) = sprite_place_address l ∷ []
 
 -- each instruction of that code is in some block or at some place
 abbrev pub SpriteCovers : Type 0
-SpriteCovers = Covers SpritePiece piece_moves piece_addresses sprite_areas
+SpriteCovers = Covers SpritePiece piece_moves piece_addresses Sprite

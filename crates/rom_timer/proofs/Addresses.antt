@@ -5,10 +5,11 @@ use Rattle.machine.specs.Instruction.{at}
 use Rattle.machine.specs.Board.{Machine}
 use Rattle.chip8_lang.specs.declared.view.Edition.{Edition}
 use Rattle.chip8_image.specs.Labels.{at_set_delay_end, at_set_sound_end}
+use Rattle.chip8_image.specs.declared.parts.Part.TheVariants.{Timer}
 use Rattle.rom_law.specs.Program.{Program}
 use Rattle.rom_law.specs.Rows.{Since, now}
 use Rattle.rom_rows.specs.Heads.{Entered}
-use Rattle.rom_rows.specs.TimerBlocks.{TimerBlock, timer_addresses, timer_areas}
+use Rattle.rom_rows.specs.TimerBlocks.{TimerBlock, timer_addresses}
 use Rattle.rom_rows.specs.TimerBlocks.TimerBlock.{Random, RandomMix, GetDelayPut, SetDelay, SetDelayEnd, SetSound, SetSoundEnd}
 use Rattle.rom_rows.specs.TimerBlocks.TimerPlace.{RandomCount, GetDelay, SetDelayPut, SetSoundPut}
 use Rattle.rom_rows.specs.Table.{Head}
@@ -50,4 +51,4 @@ timer_pieces =
 
 pub covered : TimerCovers
 unfolding timer_pieces
-covered = covers TimerPiece piece_moves piece_addresses timer_pieces timer_areas refl
+covered = covers TimerPiece piece_moves piece_addresses timer_pieces Timer refl

@@ -3,9 +3,10 @@ use Rattle.std.specs.Prelude.{◌≡◌, ℕ, List, [], ◌∷◌}
 use Rattle.machine.specs.Instruction.{at}
 use Rattle.machine.specs.Board.{Machine}
 use Rattle.chip8_lang.specs.declared.view.Edition.{Edition}
+use Rattle.chip8_image.specs.declared.parts.Part.TheVariants.{Timer}
 use Rattle.rom_law.specs.Rows.{Since}
 use Rattle.rom_rows.specs.Rom.{program_of}
-use Rattle.rom_rows.specs.TimerBlocks.{TimerBlock, TimerPlace, timer_moves, timer_addresses, timer_place_address, timer_areas}
+use Rattle.rom_rows.specs.TimerBlocks.{TimerBlock, TimerPlace, timer_moves, timer_addresses, timer_place_address}
 use Rattle.rom_rows.specs.Table.{At, BlockRows, PlaceRows}
 use Rattle.rom_rows.specs.Table.Block.{OfTimer}
 use Rattle.rom_rows.specs.Table.Place.{AtTimer}
@@ -44,4 +45,4 @@ piece_addresses (AtPlace l) = timer_place_address l ∷ []
 
 -- each instruction of that code is in some block or at some place
 abbrev pub TimerCovers : Type 0
-TimerCovers = Covers TimerPiece piece_moves piece_addresses timer_areas
+TimerCovers = Covers TimerPiece piece_moves piece_addresses Timer
