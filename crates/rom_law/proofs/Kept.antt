@@ -1,5 +1,5 @@
 -- The rows of a ROM are kept by main moves and by ticks, where each block comes to what it should.
-use Rattle.std.proofs.Common.{Option, Some, slice_index, ◌≡◌, ℕ, zero, suc, ◌+◌, ◌*◌, ◌<◌, ◌≤◌, ◌⊎◌, inl, inr, refl, sym, ◌∙◌, ap, subst, arith, Bool, true, false, T, not, List, [], ◌∷◌, ◌++◌, length}
+use Rattle.std.proofs.Common.{Option, Some, slice_index, ◌≡◌, ℕ, zero, suc, ◌+◌, ◌<◌, ◌≤◌, ◌⊎◌, inl, inr, refl, sym, ◌∙◌, ap, subst, arith, Bool, true, false, T, not, List, [], ◌∷◌, ◌++◌, length}
 use Rattle.std.proofs.lemmas.Bool.{cases_eq}
 use Rattle.machine.specs.Bank.{value}
 use Rattle.machine.specs.Opcodes.{cycles_of}
@@ -336,12 +336,9 @@ module _ (x : Program) (t : Pieces) (proved : Proved x t) where
   row_ticks b c h f k (Inside l r) = block_ticks x t sound r (comes r) c k
   row_ticks b c h f k (Alone l at) = place_ticks x t sound l b c h f k at (proved.places l b h f at)
 
-  -- main code runs inside a block, and this much was spent
+  -- main code runs inside a block
   pub block_awake : {l : t.Block} {b : Machine} {h : Since} → InBlock x t l b h → b.regs.idle ≡ false
   block_awake r = awake_in x t sound r (comes r)
-
-  pub block_spent : {l : t.Block} {b : Machine} {h : Since} (r : InBlock x t l b h) → h.spent < r.since.spent + 2 * t.moves l r.since
-  block_spent r = omega (arith, r.grows.spent, r.inside)
 
   -- in every row main code runs or waits, and the instruction takes two cycles
   pub row_runs : (b : Machine) (h : Since) → FitsMachine b → Row x t b h → Ready x b

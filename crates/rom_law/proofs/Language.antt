@@ -133,9 +133,6 @@ get_append [] m u held h = cc
 get_append (k ∷ l) m zero held h = h
 get_append (k ∷ l) m (suc u) held h = get_append l m u held h
 
-pub embeds_append : (l m : List Keys) → Embeds l (l ++ m)
-embeds_append l m = record { place = λ u. u; there = get_append l m; order = λ u w h. h }
-
 -- ---- the keys of an interval
 
 pub keys_from_get : (script : List Event) (n a u : ℕ) → u < n → slice_get (keys_from script a n) u ≡ Some (held_at script (a + u))

@@ -114,9 +114,6 @@ module _ {x : Program} {p : Places} {s : Lang} (h : Holding x p s) where
   pub stack_most : length s.stack ≤ most_addresses
   stack_most = omega (arith, stack_length, most most_addresses ((stack_top x.edition - value p.r2) / 2))
 
-  pub below_variables : value p.r2 < variables x.edition
-  below_variables = omega (arith, h.stack, stack_below x.edition)
-
   pub pc_is : value p.r5 ≡ s.pc
   pc_is = ap (λ (z : Lang). z.pc) h.is
 
@@ -129,21 +126,31 @@ module _ {x : Program} {p : Places} {s : Lang} (h : Holding x p s) where
   write_is : (a y : ℕ) → a < 4096 → written p.latch p.ram a y ≡ slice_set p.ram a y
   write_is a y l = rw h.latch (written_is p.ram a y l)
 
-  -- RAM is written, by which the language state changes to z
-  ram_set : (a y : ℕ) (z : Lang) → a < 4096 → length z.stack ≡ length s.stack → lies_in x.edition (record p { ram = slice_set p.ram a y }) ≡ z → Holding x (record p { ram = written p.latch p.ram a y }) z
-  ram_set a y z l st e =
-      subst (λ r. Holding x (record p { ram = r }) z) (sym (write_is a y l))
-      (record {
-        is = e;
-        stack = ap (λ k. value p.r2 + 2 * k) st ∙ h.stack;
-        size = length-set p.ram a y ∙ h.size;
+  -- RAM, R2, R5, R8 and RA may change: what they tell is to be shown, and the rest stays
+  pub changed :
+      (ram : List ℕ) (r2 r5 r8 ra : Word) {z : Lang}
+      → lies_in x.edition (record p { ram = ram; r2 = r2; r5 = r5; r8 = r8; ra = ra }) ≡ z
+      → value r2 + 2 * length z.stack ≡ stack_top x.edition
+      → length ram ≡ 0x1000
+      → Holding x (record p { ram = ram; r2 = r2; r5 = r5; r8 = r8; ra = ra }) z
+  changed ram r2 r5 r8 ra is stack size =
+      record {
+        is = is;
+        stack = stack;
+        size = size;
         latch = h.latch;
         enabled = h.enabled;
         awake = h.awake;
         on = h.on;
         entry = h.entry;
         page = h.page;
-      })
+      }
+
+  -- RAM is written, by which the language state changes to z
+  ram_set : (a y : ℕ) (z : Lang) → a < 4096 → length z.stack ≡ length s.stack → lies_in x.edition (record p { ram = slice_set p.ram a y }) ≡ z → Holding x (record p { ram = written p.latch p.ram a y }) z
+  ram_set a y z l st e =
+      subst (λ r. Holding x (record p { ram = r }) z) (sym (write_is a y l))
+      (changed (slice_set p.ram a y) p.r2 p.r5 p.r8 p.ra e (ap (λ k. value p.r2 + 2 * k) st ∙ h.stack) (length-set p.ram a y ∙ h.size))
 
   -- the stack is as it was after a write elsewhere
   stack_past : (a y : ℕ) → (a < memory_end x.edition) ⊎ (stack_top x.edition < a) → addresses (slice_set p.ram a y) (stack_top x.edition) (depth x.edition (value p.r2)) ≡ addresses p.ram (stack_top x.edition) (depth x.edition (value p.r2))
@@ -230,49 +237,19 @@ module _ {x : Program} {p : Places} {s : Lang} (h : Holding x p s) where
   -- R5 is changed
   pub pc_set : (w : Word) (a : ℕ) → value w ≡ a → Holding x (record p { r5 = w }) (record s { pc = a })
   pc_set w a e =
-      record {
-        is = (λ i. record (lies_in x.edition p) { pc = e i }) ∙ ap (λ (z : Lang). record z { pc = a }) h.is;
-        stack = h.stack;
-        size = h.size;
-        latch = h.latch;
-        enabled = h.enabled;
-        awake = h.awake;
-        on = h.on;
-        entry = h.entry;
-        page = h.page;
-      }
+      changed p.ram p.r2 w p.r8 p.ra ((λ i. record (lies_in x.edition p) { pc = e i }) ∙ ap (λ (z : Lang). record z { pc = a }) h.is) h.stack h.size
 
   -- ---- registers
 
   -- I is changed: RA
   pub i_set : (w : Word) (a : ℕ) → value w ≡ a → Holding x (record p { ra = w }) (record s { i = a })
   i_set w a e =
-      record {
-        is = (λ j. record (lies_in x.edition p) { i = e j }) ∙ ap (λ (z : Lang). record z { i = a }) h.is;
-        stack = h.stack;
-        size = h.size;
-        latch = h.latch;
-        enabled = h.enabled;
-        awake = h.awake;
-        on = h.on;
-        entry = h.entry;
-        page = h.page;
-      }
+      changed p.ram p.r2 p.r5 p.r8 w ((λ j. record (lies_in x.edition p) { i = e j }) ∙ ap (λ (z : Lang). record z { i = a }) h.is) h.stack h.size
 
   -- the timers are changed: the halves of R8
   pub timers_set : (w : Word) → Holding x (record p { r8 = w }) (record s { dt = w.hi; st = w.lo })
   timers_set w =
-      record {
-        is = ap (λ (z : Lang). record z { dt = w.hi; st = w.lo }) h.is;
-        stack = h.stack;
-        size = h.size;
-        latch = h.latch;
-        enabled = h.enabled;
-        awake = h.awake;
-        on = h.on;
-        entry = h.entry;
-        page = h.page;
-      }
+      changed p.ram p.r2 p.r5 w p.ra (ap (λ (z : Lang). record z { dt = w.hi; st = w.lo }) h.is) h.stack h.size
 
   -- ---- RAM
 

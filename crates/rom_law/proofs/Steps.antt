@@ -1,5 +1,5 @@
 -- What the block lemmas of a ROM use: the record of what came at the end of a block, and the step.
-use Rattle.std.proofs.Common.{◌≡◌, ℕ, ◌+◌, ◌*◌, ◌≤◌, refl, sym, ap₂, subst, arith}
+use Rattle.std.proofs.Common.{◌≡◌, ℕ, refl, sym, ap₂, subst, arith}
 use Rattle.std.specs.Prelude.{None}
 use Rattle.chip8_lang.specs.declared.instr.Instr.{Instr}
 use Rattle.chip8_lang.specs.declared.view.Edition.{Edition}
@@ -16,10 +16,6 @@ now_same {h = h} {h' = h'} g = ap₂ (λ n s. ticks n s) count g.state
   where
     count : h'.ticks ≡ h.ticks
     count = omega (arith, g.ticks)
-
--- so much was spent at most, and so much is at the end of the block
-pub spent_by : {h h' : Since} {k a : ℕ} → Grows h k 0 h' → h.spent ≤ a → h'.spent ≤ a + 2 * k
-spent_by g l = omega (arith, g.spent, l)
 
 -- The step was made after all the ticks so far: the instruction, and what it took from the keypad.
 pub step_made : (e : Edition) (h : Since) (i : Instr) (key : KeyInput) → stop_of e h.state ≡ None → instr_at h.state ≡ i → Allows i h.state h.keys key → WaitsWell i h.ticks 0 → Between e h.state h.ticks h.keys (step e key (now h))

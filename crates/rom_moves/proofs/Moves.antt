@@ -382,14 +382,6 @@ module _ (x : Code) where
   quicks_full zero b e = e
   quicks_full (suc k) b e = length_after (quick_effect x (quicks x k b)).write (quicks x k b).latch (quicks x k b).ram ∙ quicks_full k b e
 
-  quicks_join : (k m : ℕ) (b : Machine) → quicks x (plus k m) b ≡ quicks x k (quicks x m b)
-  quicks_join zero m b = refl
-  quicks_join (suc k) m b = ap (quick x) (quicks_join k m b)
-
-  calm_after : (k : ℕ) (b : Machine) → Calm x b → CalmAfter x k b
-  calm_after zero b c = tt
-  calm_after (suc k) b c = c
-
 module _ (x : Code) (top : Option ℕ) where
   pub quicks_are : (k : ℕ) (b : Machine) → AllGood x top k b → quicks x k b ≡ run x k b
   quicks_are zero b g = refl
@@ -421,15 +413,6 @@ module _ (x : Code) (top : Option ℕ) where
   pub reaches_in : (k : ℕ) (b c : Machine) → AllGood x top k b → quicks x k b ≡ c → Reaches k b c
   unfolding Reaches
   reaches_in k b c g e = (g, e)
-
-  good_join : (k m : ℕ) (b : Machine) → Calm x (quicks x m b) → AllGood x top m b → AllGood x top k (quicks x m b) → AllGood x top (plus k m) b
-  good_join zero m b c g h = g
-  good_join (suc zero) m b c g h = (g, (h.1.0, calm_after x m (quicks x m b) c), h.2)
-  good_join (suc (suc k)) m b c g h = (good_join (suc k) m b c g h.0, subst (λ z. Fine x z × Calm x z) (sym (quicks_join x (suc k) m b)) h.1, subst (λ z. Below top (quick_effect x z).write) (sym (quicks_join x (suc k) m b)) h.2)
-
-  pub reaches_join : (k m : ℕ) (b c d : Machine) → Calm x c → Reaches m b c → Reaches k c d → Reaches (plus k m) b d
-  unfolding Reaches
-  reaches_join k m b c d calm f g = (good_join k m b (subst (Calm x) (sym f.1) calm) f.0 (subst (AllGood x top k) (sym f.1) g.0), quicks_join x k m b ∙ ap (quicks x k) f.1 ∙ g.1)
 
   pub reaches_run : (k : ℕ) (b c : Machine) → Reaches k b c → run x k b ≡ c
   unfolding Reaches

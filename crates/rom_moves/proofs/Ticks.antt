@@ -68,11 +68,5 @@ after_wait low b c k =
 
 -- what ticks leave
 module _ {low n : ℕ} {b c : Machine} (h : After low n b c) where
-  pub after_p : c.regs.p ≡ b.regs.p
-  after_p = ap (λ (z : Machine). z.regs.p) h.is
-
   pub after_idle : c.regs.idle ≡ b.regs.idle
   after_idle = ap (λ (z : Machine). z.regs.idle) h.is
-
-  pub after_r2 : c.regs.r.r2 ≡ b.regs.r.r2
-  after_r2 = ap (λ (z : Machine). z.regs.r.r2) h.is
