@@ -8,22 +8,22 @@ use Rattle.vip_report.specs.declared.ended.Ended.TheVariants.{Worked, Ran}
 use Rattle.vip_report.specs.declared.status.Status.{Status}
 use Rattle.vip_report.specs.declared.status.Status.TheVariants.{Done, Stopped, Usage, ReadFault, GameTooLarge, ScriptTooLarge, BadScript, BadSource, BadRomSource, RomDiffers, WriteFault, NoMemory, BadCommand, SourceTooLarge, CommandsTooLarge}
 
-abbrev pub number_of : Status → ℕ
-number_of Done = 0
-number_of Stopped = 1
-number_of Usage = 2
-number_of ReadFault = 3
-number_of GameTooLarge = 4
-number_of ScriptTooLarge = 5
-number_of BadScript = 6
-number_of BadSource = 7
-number_of BadRomSource = 8
-number_of RomDiffers = 9
-number_of WriteFault = 10
-number_of NoMemory = 11
-number_of BadCommand = 12
-number_of SourceTooLarge = 13
-number_of CommandsTooLarge = 14
+abbrev pub status_number : Status → ℕ
+status_number Done = 0
+status_number Stopped = 1
+status_number Usage = 2
+status_number ReadFault = 3
+status_number GameTooLarge = 4
+status_number ScriptTooLarge = 5
+status_number BadScript = 6
+status_number BadSource = 7
+status_number BadRomSource = 8
+status_number RomDiffers = 9
+status_number WriteFault = 10
+status_number NoMemory = 11
+status_number BadCommand = 12
+status_number SourceTooLarge = 13
+status_number CommandsTooLarge = 14
 
 -- at the end of a run, and of a verb's work
 abbrev pub end_status : Ending → Status

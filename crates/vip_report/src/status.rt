@@ -1,7 +1,7 @@
 //! How the program ends.
 
 ghost use Rattle.std.specs.Prelude.{◌≡◌};
-ghost use Rattle.vip_report.specs.Status.{number_of};
+ghost use Rattle.vip_report.specs.Status.{status_number};
 
 /// The answers of the program.
 #[derive(Clone, Copy, Debug, PartialEq, Eq)]
@@ -40,7 +40,7 @@ pub enum Status {
 impl Status {
     /// The number that the process ends with.
     pub fn number(&self) -> u8
-        ensures { result ≡ number_of self.now }
+        ensures { result ≡ status_number self.now }
     {
         match self {
             Status::Done => 0,
