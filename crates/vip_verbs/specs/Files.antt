@@ -5,7 +5,7 @@ use Rattle.vip_outside.specs.Files.{FilesMeaning, ReadFails, LacksName}
 use Rattle.chip8_lang.specs.State.{memory_size}
 use Rattle.chip8_lang.specs.declared.view.Edition.{Edition}
 use Rattle.chip8_lang.specs.declared.view.Edition.TheVariants.{Usual, Tall}
-use Rattle.vip_words.specs.Asked.{Asked, trace, play, debug, demo, asm, list, dis, bounds}
+use Rattle.vip_words.specs.Asked.{Asked, AskedRun, trace, play, debug, demo, asm, list, dis, bounds}
 use Rattle.vip_verbs.specs.declared.files.Wanted.{Wanted}
 use Rattle.vip_report.specs.declared.refusal.Kind.{Kind}
 use Rattle.vip_report.specs.declared.refusal.Kind.TheVariants.{Game, TallGame, Script, Commands, Source}
@@ -18,8 +18,13 @@ pub record Needed : Type 0 where
   pub most : ℕ
   pub kind : Kind
 
+-- the most bytes of a key script, of the debugger's commands or of a source
 abbrev pub most_text : ℕ
 most_text = 1_048_576
+
+-- the addresses of the machine, 0000 to FFFF
+abbrev pub addresses : ℕ
+addresses = 65_536
 
 abbrev pub file : Kind → ℕ → List ℕ → Needed
 file kind most name = record { name = name; most = most; kind = kind }
@@ -37,15 +42,19 @@ abbrev pub script_file : Option (List ℕ) → List Needed
 script_file None = []
 script_file (Some name) = file Script most_text name ∷ []
 
+-- the files of a run
+abbrev pub run_files : AskedRun → List Needed
+run_files a = game_file a.edition a.game ∷ script_file a.keys
+
 -- the files of a command, in the order in which they are read; bytes to disassemble have to end by address FFFF
 abbrev pub needed : Asked → List Needed
-needed (trace a) = game_file a.edition a.game ∷ script_file a.keys
-needed (play a) = game_file a.edition a.game ∷ script_file a.keys
-needed (debug a) = game_file a.edition a.game ∷ file Commands most_text a.commands ∷ script_file a.keys
+needed (trace a) = run_files a.run
+needed (play a) = run_files a
+needed (debug a) = game_file a.run.edition a.run.game ∷ file Commands most_text a.commands ∷ script_file a.run.keys
 needed (demo a) = []
 needed (asm name) = file Source most_text name ∷ []
 needed (list name) = file Source most_text name ∷ []
-needed (dis a) = file Source (65536 - a.address) a.file ∷ []
+needed (dis a) = file Source (addresses - a.address) a.file ∷ []
 needed bounds = []
 
 abbrev pub seen_wanted : Wanted → Needed

@@ -96,7 +96,10 @@ debug_ending v limit commands = ending_where v (place_after v limit commands at_
 
 -- It comes to the first fault of its commands, or else, as other runs do, to the answers of the commands on a board that begins.
 abbrev pub DebugComes : Edition → List ℕ → ℕ → List (List ℕ) → Result (List Command) CommandFault → Outcome → Type 0
-DebugComes e game limit scripts (Ok commands) o = RunComes e limit scripts (λ script. written (started e game script) limit commands at_start) (λ script. debug_ending (started e game script) limit commands) o
+DebugComes e game limit scripts (Ok commands) o =
+    RunComes e limit scripts
+    (λ script. written (started e game script) limit commands at_start)
+    (λ script. debug_ending (started e game script) limit commands) o
 DebugComes e game limit scripts (Err (command.Fault line cause)) o = o ≡ Refused BadCommand (bad_command line cause)
 DebugComes e game limit scripts (Err command.NoMemory) o = ⊥
 
@@ -110,18 +113,27 @@ pub data SourceComes (source : List ℕ) (IsText : Made → List ℕ → Type 0)
 
 -- the machine cycles that are asked for
 abbrev pub cycles_in : Asked → ℕ
-cycles_in (trace a) = a.cycles
+cycles_in (trace a) = a.run.cycles
 cycles_in (play a) = a.cycles
-cycles_in (debug a) = a.cycles
+cycles_in (debug a) = a.run.cycles
 cycles_in (demo a) = a.cycles
 cycles_in _ = 0
 
 -- what a command comes to, by the contents of its files in their order
 abbrev pub Comes : Asked → List (List ℕ) → Outcome → Type 0
-Comes (trace a) (game ∷ scripts) o = RunComes a.edition a.cycles scripts (λ script. trace_pieces a.edition a.at a.screen (events_in a.edition game script a.cycles)) (run_ending a.edition game a.cycles) o
-Comes (play a) (game ∷ scripts) o = RunComes a.edition a.cycles scripts (λ script. picture_pieces (interpreter_of a.edition).rom (run_of a.edition game script a.cycles) (events_in a.edition game script a.cycles)) (run_ending a.edition game a.cycles) o
-Comes (debug a) (game ∷ commands ∷ scripts) o = DebugComes a.edition game a.cycles scripts (commands_of a.cycles commands) o
-Comes (demo a) [] o = RunComes Usual a.cycles [] (λ script. summary Usual a.number (events_in Usual (demo_game a.number) script a.cycles) ∷ []) (run_ending Usual (demo_game a.number) a.cycles) o
+Comes (trace a) (game ∷ scripts) o =
+    RunComes a.run.edition a.run.cycles scripts
+    (λ script. trace_pieces a.run.edition a.with_time a.with_screen (events_in a.run.edition game script a.run.cycles))
+    (run_ending a.run.edition game a.run.cycles) o
+Comes (play a) (game ∷ scripts) o =
+    RunComes a.edition a.cycles scripts
+    (λ script. picture_pieces (interpreter_of a.edition).rom (run_of a.edition game script a.cycles) (events_in a.edition game script a.cycles))
+    (run_ending a.edition game a.cycles) o
+Comes (debug a) (game ∷ commands ∷ scripts) o = DebugComes a.run.edition game a.run.cycles scripts (commands_of a.run.cycles commands) o
+Comes (demo a) [] o =
+    RunComes Usual a.cycles []
+    (λ script. summary Usual a.number (events_in Usual (demo_game a.number) script a.cycles) ∷ [])
+    (run_ending Usual (demo_game a.number) a.cycles) o
 Comes (asm name) (source ∷ []) o = SourceComes source (λ made text. text ≡ dump_text made) o
 Comes (list name) (source ∷ []) o = SourceComes source (λ made text. IsListing (source_lines source) text) o
 Comes (dis a) (bytes ∷ []) o = o ≡ Shown (disassembly a.address bytes ∷ []) Done []

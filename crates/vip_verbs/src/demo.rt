@@ -8,11 +8,18 @@ use std::alloc::{AllocError, Global};
 /// The opcodes of a game by random numbers.
 const RANDOM_OPCODES: u32 = 1613;
 
+/// The linear congruence of the random numbers.
+const FACTOR: u64 = 1_664_525;
+
+const SUMMAND: u64 = 1_013_904_223;
+
+const MODULUS: u64 = 1 << 32;
+
 /// The next number of the linear congruence modulo 2 to the 32.
 fn next_random(x: u32) -> u32
     ensures { result ≡ next_random x }
 {
-    ((u64::from(x) * 1_664_525 + 1_013_904_223) % 4_294_967_296) as u32
+    ((u64::from(x) * FACTOR + SUMMAND) % MODULUS) as u32
 }
 
 /// An opcode by the high half of a random number.

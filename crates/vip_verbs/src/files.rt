@@ -1,9 +1,10 @@
 //! The files that a verb reads.
 
-ghost use Rattle.std.specs.Prelude.{◌≡◌, ◌<◌, ◌∷◌, [], ℕ, map, option_map, slice_index};
-ghost use Rattle.vip_words.specs.Request.{asked_of};
-ghost use Rattle.vip_report.specs.declared.refusal.Kind.TheVariants.{Commands, Source};
-ghost use Rattle.vip_verbs.specs.Files.{needed, file, game_kind, game_file, script_file, most_text, seen_wanted, FileAnswers, FilesAnswer};
+ghost use Rattle.std.specs.Prelude.{◌≡◌, ◌<◌, ◌∷◌, [], ℕ, map, slice_index};
+ghost use Rattle.vip_words.specs.Asked.Asked.{debug};
+ghost use Rattle.vip_words.specs.Request.{asked_debug, asked_of, asked_run};
+ghost use Rattle.vip_report.specs.declared.refusal.Kind.TheVariants.{Source};
+ghost use Rattle.vip_verbs.specs.Files.{needed, run_files, file, game_kind, game_file, seen_wanted, FileAnswers, FilesAnswer};
 
 use arrayvec::ArrayVec;
 use chip8_lang::Edition;
@@ -11,13 +12,13 @@ use std::alloc::Global;
 use vip_outside::{Files, ReadFail};
 use vip_relation::most_bytes;
 use vip_report::{Kind, Refusal};
-use vip_words::Request;
+use vip_words::{DebugRequest, Request, RunRequest};
 
 /// The most bytes of a key script, of the debugger's commands or of a source.
 const MOST_TEXT: usize = 1_048_576;
 
-/// The bytes that addresses name.
-const ADDRESSES: usize = 65536;
+/// The addresses of the machine, 0000 to FFFF.
+const ADDRESSES: usize = 65_536;
 
 /// A file that a verb reads, with the most bytes that it may have.
 #[derive(Clone, Copy, Default)]
@@ -49,12 +50,12 @@ fn game_file<'a>(edition: Edition, name: &'a str) -> Wanted<'a>
 }
 
 /// The files of a run: the game, and the key script where one is named.
-fn run_files<'a>(edition: Edition, game: &'a str, keys: Option<&'a str>) -> ArrayVec<Wanted<'a>, 3>
-    ensures { map seen_wanted result.items ≡ game_file edition game.now ∷ script_file (option_map (λ name. name.now) keys.entry) }
+fn run_files<'a>(run: &RunRequest<'a>) -> ArrayVec<Wanted<'a>, 3>
+    ensures { map seen_wanted result.items ≡ run_files (asked_run run.now) }
 {
     let mut wanted = ArrayVec::new();
-    wanted.push(game_file(edition, game));
-    if let Some(name) = keys {
+    wanted.push(game_file(run.edition, run.game));
+    if let Some(name) = run.keys {
         wanted.push(Wanted {
             name,
             most: MOST_TEXT,
@@ -65,19 +66,14 @@ fn run_files<'a>(edition: Edition, game: &'a str, keys: Option<&'a str>) -> Arra
 }
 
 /// The files of a run under the debugger: the game, the commands, and the key script where one is named.
-fn debug_files<'a>(
-    edition: Edition,
-    game: &'a str,
-    commands: &'a str,
-    keys: Option<&'a str>,
-) -> ArrayVec<Wanted<'a>, 3>
-    ensures { map seen_wanted result.items ≡ game_file edition game.now ∷ file Commands most_text commands.now ∷ script_file (option_map (λ name. name.now) keys.entry) }
+fn debug_files<'a>(wish: &DebugRequest<'a>) -> ArrayVec<Wanted<'a>, 3>
+    ensures { map seen_wanted result.items ≡ needed (debug (asked_debug wish.now)) }
 {
-    let mut wanted = run_files(edition, game, keys);
+    let mut wanted = run_files(&wish.run);
     wanted.insert(
         1,
         Wanted {
-            name: commands,
+            name: wish.commands,
             most: MOST_TEXT,
             kind: Kind::Commands,
         },
@@ -103,9 +99,9 @@ pub fn wanted_files<'a>(request: &Request<'a>) -> ArrayVec<Wanted<'a>, 3>
     ensures { map seen_wanted result.items ≡ needed (asked_of request.now) }
 {
     match request {
-        Request::Trace(wish) => run_files(wish.edition, wish.game, wish.keys),
-        Request::Play(wish) => run_files(wish.edition, wish.game, wish.keys),
-        Request::Debug(wish) => debug_files(wish.edition, wish.game, wish.commands, wish.keys),
+        Request::Trace(wish) => run_files(&wish.run),
+        Request::Play(run) => run_files(run),
+        Request::Debug(wish) => debug_files(wish),
         Request::Asm(wish) => source_file(wish.file, MOST_TEXT),
         Request::List(wish) => source_file(wish.file, MOST_TEXT),
         Request::Dis(wish) => source_file(wish.file, ADDRESSES - usize::from(wish.address)),

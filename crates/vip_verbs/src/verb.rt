@@ -2,9 +2,10 @@
 
 ghost use Rattle.std.specs.Prelude.{◌≡◌, ◌-◌, ◌≤◌, ◌∷◌, [], ℕ, List, length};
 ghost use Rattle.chip8_lang.specs.State.{memory_size};
+ghost use Rattle.vip_words.specs.Asked.{most_cycles};
 ghost use Rattle.vip_words.specs.Asked.Asked.{trace, play, debug, demo, asm, list, dis, bounds};
-ghost use Rattle.vip_words.specs.Request.{asked_of, asked_trace, asked_play, asked_debug, asked_demo, asked_dis};
-ghost use Rattle.vip_verbs.specs.Files.{needed, FitAll, contents_of};
+ghost use Rattle.vip_words.specs.Request.{asked_of, asked_run, asked_trace, asked_debug, asked_demo, asked_dis};
+ghost use Rattle.vip_verbs.specs.Files.{needed, addresses, most_text, FitAll, contents_of};
 ghost use Rattle.vip_verbs.specs.Work.{WorkAnswers};
 ghost use Rattle.vip_verbs.specs.Outcome.{RomIs, cycles_in};
 ghost use Rattle.vip_verbs.specs.Opening.{SmallScripts, KeysAnswer, DebugCommandsAnswer, RomAnswers, StartAnswers, SourceAnswers};
@@ -24,7 +25,7 @@ use vip_outside::Sink;
 use vip_relation::{StartFault, Vip};
 use vip_report::{Ended, Refusal};
 use vip_show::{RunEnd, show_pictures, show_summary, show_trace};
-use vip_words::{DebugRequest, DemoRequest, DisRequest, PlayRequest, Request, TraceRequest};
+use vip_words::{DebugRequest, DemoRequest, DisRequest, Request, RunRequest, TraceRequest};
 
 /// The key script of a run, which is empty where no file is given.
 fn read_keys<'a>(alloc: Global, scripts: &[Vec<u8>]) -> Result<Script, Refusal<'a>>
@@ -43,7 +44,7 @@ fn read_keys<'a>(alloc: Global, scripts: &[Vec<u8>]) -> Result<Script, Refusal<'
 
 /// The commands of the debugger.
 fn read_debugging<'a>(alloc: Global, text: &[u8], limit: u64) -> Result<Commands, Refusal<'a>>
-    requires { length text.now ≤ 1_048_576 }
+    requires { length text.now ≤ most_text }
     ensures { DebugCommandsAnswer limit text.now result }
 {
     match read_commands(alloc, text, limit) {
@@ -100,24 +101,25 @@ fn trace<'a, O: Sink>(
     contents: &[Vec<u8>],
     out: &mut O,
 ) -> Result<Ended, Refusal<'a>>
-    requires limit { wish.now.cycles ≤ 4_000_000_000 }
+    requires limit { wish.now.run.cycles ≤ most_cycles }
     requires sizes { FitAll (needed (trace (asked_trace wish.now))) (contents_of contents.now) }
     ensures { WorkAnswers (trace (asked_trace wish.now)) (contents_of contents.now) (O.meaning out.old) (O.meaning out.new) result }
 {
-    let mut vip = start(alloc, wish.edition, contents[0].as_slice(), &contents[1..])?;
-    let end = show_trace(&mut vip, wish.cycles, wish.at, wish.screen, out)?;
-    Ok(Ended::Ran(wish.cycles, end))
+    let run = wish.run;
+    let mut vip = start(alloc, run.edition, contents[0].as_slice(), &contents[1..])?;
+    let end = show_trace(&mut vip, run.cycles, wish.with_time, wish.with_screen, out)?;
+    Ok(Ended::Ran(run.cycles, end))
 }
 
 fn play<'a, O: Sink>(
     alloc: Global,
-    wish: &PlayRequest<'a>,
+    wish: &RunRequest<'a>,
     contents: &[Vec<u8>],
     out: &mut O,
 ) -> Result<Ended, Refusal<'a>>
-    requires limit { wish.now.cycles ≤ 4_000_000_000 }
-    requires sizes { FitAll (needed (play (asked_play wish.now))) (contents_of contents.now) }
-    ensures { WorkAnswers (play (asked_play wish.now)) (contents_of contents.now) (O.meaning out.old) (O.meaning out.new) result }
+    requires limit { wish.now.cycles ≤ most_cycles }
+    requires sizes { FitAll (needed (play (asked_run wish.now))) (contents_of contents.now) }
+    ensures { WorkAnswers (play (asked_run wish.now)) (contents_of contents.now) (O.meaning out.old) (O.meaning out.new) result }
 {
     let mut vip = start(alloc, wish.edition, contents[0].as_slice(), &contents[1..])?;
     let end = show_pictures(&mut vip, wish.cycles, out)?;
@@ -131,21 +133,22 @@ fn debug<'a, O: Sink>(
     contents: &[Vec<u8>],
     out: &mut O,
 ) -> Result<Ended, Refusal<'a>>
-    requires limit { wish.now.cycles ≤ 4_000_000_000 }
+    requires limit { wish.now.run.cycles ≤ most_cycles }
     requires sizes { FitAll (needed (debug (asked_debug wish.now))) (contents_of contents.now) }
     ensures { WorkAnswers (debug (asked_debug wish.now)) (contents_of contents.now) (O.meaning out.old) (O.meaning out.new) result }
 {
-    let commands = read_debugging(alloc, contents[1].as_slice(), wish.cycles)?;
-    let mut vip = start(alloc, wish.edition, contents[0].as_slice(), &contents[2..])?;
-    match run_commands(&mut vip, &commands, wish.cycles, out) {
-        DebugEnd::Done => Ok(Ended::Ran(wish.cycles, RunEnd::AtLimit)),
-        DebugEnd::Stopped(stop) => Ok(Ended::Ran(wish.cycles, RunEnd::AtStop(stop))),
+    let run = wish.run;
+    let commands = read_debugging(alloc, contents[1].as_slice(), run.cycles)?;
+    let mut vip = start(alloc, run.edition, contents[0].as_slice(), &contents[2..])?;
+    match run_commands(&mut vip, &commands, run.cycles, out) {
+        DebugEnd::Done => Ok(Ended::Ran(run.cycles, RunEnd::AtLimit)),
+        DebugEnd::Stopped(stop) => Ok(Ended::Ran(run.cycles, RunEnd::AtStop(stop))),
         DebugEnd::WriteFault => Err(Refusal::Write),
     }
 }
 
 fn demo<'a, O: Sink>(alloc: Global, wish: &DemoRequest, out: &mut O) -> Result<Ended, Refusal<'a>>
-    requires limit { wish.now.cycles ≤ 4_000_000_000 }
+    requires limit { wish.now.cycles ≤ most_cycles }
     ensures { WorkAnswers (demo (asked_demo wish.now)) [] (O.meaning out.old) (O.meaning out.new) result }
 {
     let game = demo_game(alloc, wish.number)?;
@@ -156,7 +159,7 @@ fn demo<'a, O: Sink>(alloc: Global, wish: &DemoRequest, out: &mut O) -> Result<E
 
 /// The assembly of a source.
 fn assembled<'a>(alloc: Global, source: &[u8]) -> Result<Assembly, Refusal<'a>>
-    requires { length source.now ≤ 1_048_576 }
+    requires { length source.now ≤ most_text }
     ensures { SourceAnswers source.now result }
 {
     match assemble(alloc, source) {
@@ -167,7 +170,7 @@ fn assembled<'a>(alloc: Global, source: &[u8]) -> Result<Assembly, Refusal<'a>>
 }
 
 fn asm<'a, O: Sink>(alloc: Global, source: &[u8], out: &mut O) -> Result<Ended, Refusal<'a>>
-    requires { length source.now ≤ 1_048_576 }
+    requires { length source.now ≤ most_text }
     ensures { (name : List ℕ) → WorkAnswers (asm name) (source.now ∷ []) (O.meaning out.old) (O.meaning out.new) result }
 {
     let made = assembled(alloc, source)?;
@@ -177,7 +180,7 @@ fn asm<'a, O: Sink>(alloc: Global, source: &[u8], out: &mut O) -> Result<Ended, 
 }
 
 fn list<'a, O: Sink>(alloc: Global, source: &[u8], out: &mut O) -> Result<Ended, Refusal<'a>>
-    requires { length source.now ≤ 1_048_576 }
+    requires { length source.now ≤ most_text }
     ensures { (name : List ℕ) → WorkAnswers (list name) (source.now ∷ []) (O.meaning out.old) (O.meaning out.new) result }
 {
     let made = assembled(alloc, source)?;
@@ -192,7 +195,7 @@ fn dis<'a, O: Sink>(
     bytes: &[u8],
     out: &mut O,
 ) -> Result<Ended, Refusal<'a>>
-    requires { length bytes.now ≤ 65536 - wish.now.address }
+    requires { length bytes.now ≤ addresses - wish.now.address }
     ensures { WorkAnswers (dis (asked_dis wish.now)) (bytes.now ∷ []) (O.meaning out.old) (O.meaning out.new) result }
 {
     let text = disassemble(alloc, bytes, wish.address)?;
@@ -216,7 +219,7 @@ pub fn work<'a, O: Sink>(
     contents: &[Vec<u8>],
     out: &mut O,
 ) -> Result<Ended, Refusal<'a>>
-    requires limit { cycles_in (asked_of request.now) ≤ 4_000_000_000 }
+    requires limit { cycles_in (asked_of request.now) ≤ most_cycles }
     requires sizes { FitAll (needed (asked_of request.now)) (contents_of contents.now) }
     ensures { WorkAnswers (asked_of request.now) (contents_of contents.now) (O.meaning out.old) (O.meaning out.new) result }
 {

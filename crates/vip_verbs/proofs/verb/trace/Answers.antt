@@ -9,14 +9,14 @@ use Rattle.vip_verbs.proofs.verb.trace.Goals as goal
 pub returns-in_err-vip : goal.returns-in_err-vip
 returns-in_err-vip g c =
     let files = first-and-others c.args.contents.now (needed (trace (asked_trace c.args.wish.now))) _ _ (omega arith) c.requires.sizes c.index-contents-0.is c.as_slice.ensures.value in
-    start-fails (trace (asked_trace c.args.wish.now)) _ c.args.wish.now.edition c.as_slice.result.now c.args.wish.now.cycles _ (λ v. traced c.args.wish.now.at c.args.wish.now.screen v c.args.wish.now.cycles) (ended_by c.args.wish.now.cycles) (λ o come. rw files come) _ _ _ c.from_residual.ensures.1 c.in_err-vip.ensures
+    start-fails (trace (asked_trace c.args.wish.now)) _ c.args.wish.now.run.edition c.as_slice.result.now c.args.wish.now.run.cycles _ (λ v. traced c.args.wish.now.with_time c.args.wish.now.with_screen v c.args.wish.now.run.cycles) (ended_by c.args.wish.now.run.cycles) (λ o come. rw files come) _ _ _ c.from_residual.ensures.1 c.in_err-vip.ensures
 
 pub returns-in_err-end : goal.returns-in_err-end
 returns-in_err-end g c =
     let files = first-and-others c.args.contents.now (needed (trace (asked_trace c.args.wish.now))) _ _ (omega arith) c.requires.sizes c.index-contents-0.is c.as_slice.ensures.value in
-    run-fails (trace (asked_trace c.args.wish.now)) _ c.args.wish.now.edition c.as_slice.result.now c.args.wish.now.cycles _ (λ v. traced c.args.wish.now.at c.args.wish.now.screen v c.args.wish.now.cycles) (ended_by c.args.wish.now.cycles) (λ o come. rw files come) _ _ _ _ c.in_ok-vip.ensures c.from_residual-in_err-end.ensures.1 c.in_err-end.ensures
+    run-fails (trace (asked_trace c.args.wish.now)) _ c.args.wish.now.run.edition c.as_slice.result.now c.args.wish.now.run.cycles _ (λ v. traced c.args.wish.now.with_time c.args.wish.now.with_screen v c.args.wish.now.run.cycles) (ended_by c.args.wish.now.run.cycles) (λ o come. rw files come) _ _ _ _ c.in_ok-vip.ensures c.from_residual-in_err-end.ensures.1 c.in_err-end.ensures
 
 pub returns : goal.returns
 returns g c =
     let files = first-and-others c.args.contents.now (needed (trace (asked_trace c.args.wish.now))) _ _ (omega arith) c.requires.sizes c.index-contents-0.is c.as_slice.ensures.value in
-    run-ends (trace (asked_trace c.args.wish.now)) _ c.args.wish.now.edition c.as_slice.result.now c.args.wish.now.cycles _ (λ v. traced c.args.wish.now.at c.args.wish.now.screen v c.args.wish.now.cycles) (ended_by c.args.wish.now.cycles) (λ o come. rw files come) _ _ _ _ c.in_ok-vip.ensures c.in_ok-end.ensures.ending c.in_ok-end.ensures.puts
+    run-ends (trace (asked_trace c.args.wish.now)) _ c.args.wish.now.run.edition c.as_slice.result.now c.args.wish.now.run.cycles _ (λ v. traced c.args.wish.now.with_time c.args.wish.now.with_screen v c.args.wish.now.run.cycles) (ended_by c.args.wish.now.run.cycles) (λ o come. rw files come) _ _ _ _ c.in_ok-vip.ensures c.in_ok-end.ensures.ending c.in_ok-end.ensures.puts
