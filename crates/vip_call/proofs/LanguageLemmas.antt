@@ -230,14 +230,14 @@ module _ (law : EveryRun) (keys : EveryKeyWait) (pictures : EveryPicture) where
   unfolding OfRun OfDebug
   shows old (trace a) [] pieces status report read comes = tt
   shows old (trace a) (game ∷ scripts) pieces status report read comes =
-      run_shows a.edition game read.0.fits read.0.bytes a.cycles scripts _ (Shown pieces status report) comes
+      run_shows a.run.edition game read.0.fits read.0.bytes a.run.cycles scripts _ (Shown pieces status report) comes
   shows old (play a) [] pieces status report read comes = tt
   shows old (play a) (game ∷ scripts) pieces status report read comes =
       run_shows a.edition game read.0.fits read.0.bytes a.cycles scripts _ (Shown pieces status report) comes
   shows old (debug a) [] pieces status report read comes = tt
   shows old (debug a) (game ∷ []) pieces status report read comes = tt
   shows old (debug a) (game ∷ text ∷ scripts) pieces status report read comes =
-      debug_read a.edition game read.0.fits read.0.bytes a.cycles scripts (commands_of a.cycles text) (Shown pieces status report) comes
+      debug_read a.run.edition game read.0.fits read.0.bytes a.run.cycles scripts (commands_of a.run.cycles text) (Shown pieces status report) comes
   shows old (demo a) [] pieces status report read comes =
       run_shows Usual (demo_game a.number) (omega (arith, length-game a.number)) (bytes-game a.number) a.cycles [] _ (Shown pieces status report) comes
   shows old (demo a) (c ∷ cs) pieces status report read comes = absurd comes

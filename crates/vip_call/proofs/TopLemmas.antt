@@ -110,12 +110,12 @@ debugs_agree d game limit scripts (Err debug_fault.NoMemory) o p x y = absurd x
 -- a command comes to one outcome by the contents of its files
 agree : (asked : Asked) (contents : List (List ℕ)) (o p : Outcome) → Comes asked contents o → Comes asked contents p → Agree o p
 agree (trace a) [] o p x y = absurd x
-agree (trace a) (game ∷ scripts) o p x y = runs_agree a.edition a.cycles scripts _ _ o p x y
+agree (trace a) (game ∷ scripts) o p x y = runs_agree a.run.edition a.run.cycles scripts _ _ o p x y
 agree (play a) [] o p x y = absurd x
 agree (play a) (game ∷ scripts) o p x y = runs_agree a.edition a.cycles scripts _ _ o p x y
 agree (debug a) [] o p x y = absurd x
 agree (debug a) (game ∷ []) o p x y = absurd x
-agree (debug a) (game ∷ text ∷ scripts) o p x y = debugs_agree a.edition game a.cycles scripts (commands_of a.cycles text) o p x y
+agree (debug a) (game ∷ text ∷ scripts) o p x y = debugs_agree a.run.edition game a.run.cycles scripts (commands_of a.run.cycles text) o p x y
 agree (demo a) [] o p x y = runs_agree Usual a.cycles [] _ _ o p x y
 agree (demo a) (c ∷ cs) o p x y = absurd x
 agree (asm name) [] o p x y = absurd x

@@ -6,7 +6,7 @@ use Rattle.std.specs.Str.Parse.{digits_value}
 use Rattle.std.proofs.lemmas.Bool.{ltb-false}
 use Rattle.vip_byte.specs.Number.{number, are_digits}
 use Rattle.vip_byte.specs.declared.number.NumFault.TheVariants.{Empty, BadDigit, TooLarge}
-use Rattle.vip_words.specs.Asked.{Asked, demo, asm, list, bounds, asked_by, asked_of_verb, cycles_of, number_of, address_of, trace_by, play_by, debug_by, demo_by, file_by, dis_by, bounds_by}
+use Rattle.vip_words.specs.Asked.{Asked, AskedRun, most_cycles, trace, play, debug, demo, asm, list, bounds, asked_by, asked_of_verb, cycles_of, demo_number_of, address_of, run_by, edition_by, trace_by, play_by, debug_by, demo_by, file_by, dis_by, bounds_by}
 use Rattle.vip_words.specs.Rules.{Word, Given, given_by}
 use Rattle.vip_words.specs.Table.{Row, usage_of}
 use Rattle.vip_words.specs.declared.table.Verb.{Verb}
@@ -26,7 +26,7 @@ number-low base text most n is = go (length text == 0) (not (are_digits base tex
     go false false false e h = let value : digits_value base text ≡ n = cc in omega (arith, ltb-false most (digits_value base text) e)
 
 abbrev IsLow : Asked → Type 0
-IsLow asked = cycles_in asked ≤ 4000000000
+IsLow asked = cycles_in asked ≤ most_cycles
 
 -- one word is the number of cycles
 by_cycles : (word : Word) (f : ℕ → Asked) (asked : Asked) → ((n : ℕ) → cycles_in (f n) ≡ n) → option_map f (cycles_of word) ≡ Some asked → IsLow asked
@@ -36,8 +36,23 @@ by_cycles word f asked of = go (cycles_of word) refl
     go None e h = absurd (cc)
     go (Some n) e h =
         let is : f n ≡ asked = cc in
-        let low : n ≤ 4000000000 = number-low 10 word 4000000000 n e in
-        subst IsLow is (subst (λ c. c ≤ 4000000000) (sym (of n)) low)
+        let low : n ≤ most_cycles = number-low 10 word most_cycles n e in
+        subst IsLow is (subst (λ c. c ≤ most_cycles) (sym (of n)) low)
+
+-- a run of a game asks for them
+abbrev run_with : Word → Given → ℕ → AskedRun
+run_with game given n = record { game = game; cycles = n; keys = given.keys; edition = edition_by given.tall }
+
+by_run : (game word : Word) (given : Given) (f : AskedRun → Asked) (asked : Asked) → ((r : AskedRun) → cycles_in (f r) ≡ r.cycles)
+    → option_map f (run_by game word given) ≡ Some asked → IsLow asked
+by_run game word given f asked of h = go (cycles_of word) refl h
+  where
+    go : (o : Option ℕ) → cycles_of word ≡ o → option_map f (option_map (run_with game given) o) ≡ Some asked → IsLow asked
+    go None e h = absurd (cc)
+    go (Some n) e h =
+        let is : f (run_with game given n) ≡ asked = cc in
+        let low : n ≤ most_cycles = number-low 10 word most_cycles n e in
+        subst IsLow is (subst (λ c. c ≤ most_cycles) (sym (of (run_with game given n))) low)
 
 -- what runs nothing asks for none
 module _ {A : Type 0} where
@@ -50,26 +65,28 @@ module _ {A : Type 0} where
 trace-low : (words : List Word) (given : Given) (asked : Asked) → trace_by words given ≡ Some asked → IsLow asked
 trace-low [] given asked h = absurd (cc)
 trace-low (game ∷ []) given asked h = absurd (cc)
-trace-low (game ∷ cycles ∷ []) given asked h = by_cycles cycles _ asked (λ n. refl) h
+trace-low (game ∷ cycles ∷ []) given asked h =
+    by_run game cycles given (λ r. trace (record { run = r; with_time = given.at; with_screen = given.screen })) asked (λ r. refl) h
 trace-low (game ∷ cycles ∷ more ∷ words) given asked h = absurd (cc)
 
 play-low : (words : List Word) (given : Given) (asked : Asked) → play_by words given ≡ Some asked → IsLow asked
 play-low [] given asked h = absurd (cc)
 play-low (game ∷ []) given asked h = absurd (cc)
-play-low (game ∷ cycles ∷ []) given asked h = by_cycles cycles _ asked (λ n. refl) h
+play-low (game ∷ cycles ∷ []) given asked h = by_run game cycles given play asked (λ r. refl) h
 play-low (game ∷ cycles ∷ more ∷ words) given asked h = absurd (cc)
 
 debug-low : (words : List Word) (given : Given) (asked : Asked) → debug_by words given ≡ Some asked → IsLow asked
 debug-low [] given asked h = absurd (cc)
 debug-low (game ∷ []) given asked h = absurd (cc)
 debug-low (game ∷ cycles ∷ []) given asked h = absurd (cc)
-debug-low (game ∷ cycles ∷ commands ∷ []) given asked h = by_cycles cycles _ asked (λ n. refl) h
+debug-low (game ∷ cycles ∷ commands ∷ []) given asked h =
+    by_run game cycles given (λ r. debug (record { run = r; commands = commands })) asked (λ r. refl) h
 debug-low (game ∷ cycles ∷ commands ∷ more ∷ words) given asked h = absurd (cc)
 
 demo-low : (words : List Word) (asked : Asked) → demo_by words ≡ Some asked → IsLow asked
 demo-low [] asked h = absurd (cc)
 demo-low (number ∷ []) asked h = absurd (cc)
-demo-low (number ∷ cycles ∷ []) asked h = go (number_of number) h
+demo-low (number ∷ cycles ∷ []) asked h = go (demo_number_of number) h
   where
     go : (o : Option ℕ) → option_and_then (λ n. option_map (λ c. demo (record { number = n; cycles = c })) (cycles_of cycles)) o ≡ Some asked → IsLow asked
     go None h = absurd (cc)
@@ -104,6 +121,6 @@ row-low : (o : Option Row) (given : Row → Option Given) (asked : Asked) → op
 row-low None given asked h = absurd (cc)
 row-low (Some row) given asked h = given-low row.verb (given row) asked h
 
-pub asked-low : (words : List Word) (asked : Asked) → asked_by words ≡ Some asked → cycles_in asked ≤ 4000000000
+pub asked-low : (words : List Word) (asked : Asked) → asked_by words ≡ Some asked → cycles_in asked ≤ most_cycles
 asked-low [] asked h = absurd (cc)
 asked-low (verb ∷ words) asked h = row-low (usage_of verb) (λ row. given_by row.places row.options words) asked h

@@ -118,8 +118,8 @@ pub record DebugsChip8 (e : Edition) (game : List ℕ) (scripts : List (List ℕ
 
 -- what a command with these contents runs, where it runs a game
 abbrev pub ShowsChip8 : Asked → List (List ℕ) → Status → List ℕ → Type 0
-ShowsChip8 (trace a) (game ∷ scripts) status report = RunIsChip8 a.edition game scripts a.cycles status report
+ShowsChip8 (trace a) (game ∷ scripts) status report = RunIsChip8 a.run.edition game scripts a.run.cycles status report
 ShowsChip8 (play a) (game ∷ scripts) status report = RunIsChip8 a.edition game scripts a.cycles status report
-ShowsChip8 (debug a) (game ∷ commands ∷ scripts) status report = DebugsChip8 a.edition game scripts a.cycles status report
+ShowsChip8 (debug a) (game ∷ commands ∷ scripts) status report = DebugsChip8 a.run.edition game scripts a.run.cycles status report
 ShowsChip8 (demo a) _ status report = RunIsChip8 Usual (demo_game a.number) [] a.cycles status report
 ShowsChip8 _ _ status report = Unit {0}
