@@ -203,3 +203,17 @@ SpeaksChip8 call =
     → Asks call asked contents
     → Comes asked contents (Shown pieces status report)
     → ShowsChip8 asked contents status report
+
+-- ---- the program
+
+-- what the program promises of each call
+pub record Promises (status : Status) (call : Call) : Type 0 where
+  -- what the answer says: exact output for Done and Stopped, and each refusal's cause
+  pub says : Says status call
+  -- Where a game is run, its run is one of CHIP-8, within the bounds, also at a wait for a key; each picture is the screen at the last dispatch
+  -- point, and a stop names its instruction.
+  pub language : SpeaksChip8 call
+  -- when each answer is due, and that there is no other
+  pub words : RefusesWords status call
+  pub due : GivesDue status call
+  pub complete : Completes status call

@@ -3,7 +3,7 @@
 ghost use Rattle.std.specs.Prelude.{◌≡◌, map, string_bytes};
 ghost use Rattle.vip_words.specs.Request.{asked_of};
 ghost use Rattle.vip_call.specs.Words.{UnderstoodAnswers, WordsAnswer};
-ghost use Rattle.vip_call.specs.Top.{call_of, Says, RefusesWords, GivesDue, Completes, SpeaksChip8};
+ghost use Rattle.vip_call.specs.Top.{call_of, Says, Promises};
 
 use rom_run::laws::{every_key_wait, every_picture, every_run};
 use std::alloc::Global;
@@ -69,17 +69,7 @@ pub fn vip_main<F: Files, O: Sink, E: Sink>(
     out: &mut O,
     err: &mut E,
 ) -> Status
-    // What each answer says: exact output for Done and Stopped, and each refusal's cause.
-    ensures says { Says result (call_of (map string_bytes words.now) (F.meaning files.old) (F.meaning files.new) (O.meaning out.old) (O.meaning out.new) (E.meaning err.old) (E.meaning err.new)) }
-
-    // Where a game is run, that its run is one of CHIP-8, within the bounds, also at a wait for a key, that each picture is the screen at the
-    // last dispatch point, and that a stop names its instruction.
-    ensures language { SpeaksChip8 (call_of (map string_bytes words.now) (F.meaning files.old) (F.meaning files.new) (O.meaning out.old) (O.meaning out.new) (E.meaning err.old) (E.meaning err.new)) }
-
-    // When each answer is due, and that there is no other.
-    ensures words { RefusesWords result (call_of (map string_bytes words.now) (F.meaning files.old) (F.meaning files.new) (O.meaning out.old) (O.meaning out.new) (E.meaning err.old) (E.meaning err.new)) }
-    ensures due { GivesDue result (call_of (map string_bytes words.now) (F.meaning files.old) (F.meaning files.new) (O.meaning out.old) (O.meaning out.new) (E.meaning err.old) (E.meaning err.new)) }
-    ensures complete { Completes result (call_of (map string_bytes words.now) (F.meaning files.old) (F.meaning files.new) (O.meaning out.old) (O.meaning out.new) (E.meaning err.old) (E.meaning err.new)) }
+    ensures promises { Promises result (call_of (map string_bytes words.now) (F.meaning files.old) (F.meaning files.new) (O.meaning out.old) (O.meaning out.new) (E.meaning err.old) (E.meaning err.new)) }
 {
     every_run();
     every_key_wait();
