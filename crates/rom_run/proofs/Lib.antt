@@ -19,3 +19,4 @@ pub mod Pictures
 pub mod Cycles
 pub mod Endless
 pub mod Keys
+mod Together

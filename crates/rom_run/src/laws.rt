@@ -9,6 +9,7 @@ ghost use Rattle.rom_timer.specs.Laws.{TimerRows, TimerPlaceRows, TimerAddresses
 ghost use Rattle.rom_timer.specs.Routine.{RunTick};
 ghost use Rattle.rom_timer.specs.Scan.{RunScan, RunPicture};
 ghost use Rattle.rom_keys.specs.Laws.{KeyRows, KeyPlaceRows, KeyAddresses, KeyPlaceAddresses, NoneStays, StaysDown, GoesUp};
+ghost use Rattle.rom_run.specs.Image.{ImageOfParts};
 ghost use Rattle.rom_run.specs.Laws.{AnySchedule, MainRows, Timely, Undisturbed, WaitsSoon, ChangesSoon, EveryRun, EveryKeyWait, EveryPicture};
 
 /// The law of every schedule, for both editions: from a dispatch point on, whenever timer ticks come and whatever keys are held down, the
@@ -94,4 +95,10 @@ pub fn every_part()
     ensures none_stays { NoneStays image }
     ensures stays_down { StaysDown image }
     ensures goes_up { GoesUp image }
+{}
+
+/// The image of each edition is the bytes of the six parts and of the font, laid over zeros, and the bytes of each part have exactly the
+/// addresses that the map gives it.
+pub fn image_of_parts()
+    ensures { ImageOfParts }
 {}

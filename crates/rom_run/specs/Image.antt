@@ -1,0 +1,53 @@
+-- The image of each edition is put together from the bytes of the six parts and the font, and these lie where the map says.
+use Rattle.std.specs.Prelude.{◌≡◌, ℕ, if◌then◌else◌, nat_eq, List, [], ◌∷◌, ◌++◌, length, replicate}
+use Rattle.std.specs.List.{filter}
+use Rattle.chip8_image.specs.declared.map.Area.{Area}
+use Rattle.chip8_image.specs.declared.map.TheConstants.{AREAS}
+use Rattle.chip8_image.specs.declared.parts.Part.{Part}
+use Rattle.chip8_image.specs.declared.parts.Part.TheVariants.{Fetch, Arith, Memory, Sprite, Timer, Keys, Other}
+use Rattle.chip8_image.specs.Labels.{at_table, at_font}
+use Rattle.chip8_image.specs.Parts.{is_part, from, addresses_of}
+use Rattle.chip8_lang.specs.declared.view.Edition.{Edition}
+use Rattle.chip8_lang.specs.State.{font}
+use Rattle.rom_rows.specs.Rom.{Stretch, stretch, laid, image}
+use Rattle.rom_fetch.specs.Code.{fetch_code}
+use Rattle.rom_arith.specs.Code.{arith_code}
+use Rattle.rom_memory.specs.Code.{memory_code}
+use Rattle.rom_sprite.specs.Code.{sprite_code}
+use Rattle.rom_timer.specs.Code.{timer_code}
+use Rattle.rom_keys.specs.Code.{keys_code}
+
+-- the bytes of a part; of what is no code, the dispatch table is among those of the fetch, and the font is left
+abbrev pub code_of : Edition → Part → List Stretch
+code_of e Fetch = fetch_code e
+code_of e Arith = arith_code e
+code_of e Memory = memory_code e
+code_of e Sprite = sprite_code e
+code_of e Timer = timer_code e
+code_of e Keys = keys_code e
+code_of e Other = stretch at_font font ∷ []
+
+-- the addresses of stretches
+abbrev pub addresses_in : List Stretch → List ℕ
+addresses_in [] = []
+addresses_in (s ∷ stretches) = from s.first (length s.bytes) ++ addresses_in stretches
+
+-- the part with whose bytes an area's stand
+abbrev pub stands_with : Area → Part
+stands_with a = if nat_eq a.first at_table then Fetch else a.part
+
+abbrev pub areas_with : Part → List Area
+areas_with p = filter (λ a. is_part p (stands_with a)) AREAS
+
+pub record Together (e : Edition) : Type 0 where
+  -- laid over zeros, all of these bytes are the image
+  pub whole :
+      laid
+        (code_of e Fetch ++ code_of e Arith ++ code_of e Memory ++ code_of e Sprite ++ code_of e Timer ++ code_of e Keys ++ code_of e Other)
+        (replicate 2048 0)
+      ≡ image e
+  -- and those of a part have the addresses that the map gives it
+  pub mapped : (p : Part) → addresses_in (code_of e p) ≡ addresses_of (areas_with p)
+
+abbrev pub ImageOfParts : Type 0
+ImageOfParts = (e : Edition) → Together e
