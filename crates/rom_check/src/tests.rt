@@ -1,8 +1,8 @@
-//! What no words of the program reach: sources that don't give a ROM's bytes, and the addresses of the labels.
+//! What no words of the program reach: sources that don't give a ROM's bytes, the addresses of the labels, and those of the parts.
 
 use crate::{ImageFault, compare};
-use asm_core::{AsmCause, assemble};
-use chip8_image::{ENTRY, FETCH, HALT, TALL_ENTRY, TALL_FETCH, TALL_HALT};
+use asm_core::{AsmCause, assemble, next_line};
+use chip8_image::{AREAS, ENTRY, FETCH, HALT, Part, TALL_ENTRY, TALL_FETCH, TALL_HALT};
 use chip8_source::{source, tall_source};
 use std::alloc::Global;
 use std::test::Fail;
@@ -68,6 +68,73 @@ fn labels_have_their_addresses(rt: HostRuntime) -> Result<(), Fail> {
         let made = assemble(rt.alloc(), text)?;
         for (name, address) in ["fetch", "halt", "entry"].into_iter().zip(want) {
             assert_eq!(rt; made.symbol(name), Some(address), "{name}");
+        }
+    }
+    Ok(())
+}
+
+// The headings of the texts of the parts, in order. Each stands at the head of the one file that has the part's text.
+const HEADINGS: [(&[u8], Part); 7] = [
+    (b"; FETCH: ", Part::Fetch),
+    (b"; ARITH: ", Part::Arith),
+    (b"; MEMORY: ", Part::Memory),
+    (b"; SPRITE: ", Part::Sprite),
+    (b"; TIMER: ", Part::Timer),
+    (b"; KEYS: ", Part::Keys),
+    (b"; THE FONT, ", Part::Other),
+];
+
+// The number of the line that begins with a heading.
+fn line_of_heading(text: &[u8], heading: &[u8]) -> u32 {
+    let mut rest = text;
+    for number in 1..u32::MAX {
+        let Some((line, more)) = next_line(rest) else {
+            break;
+        };
+        if line.starts_with(heading) {
+            return number;
+        }
+        rest = more;
+    }
+    u32::MAX
+}
+
+// The part in whose text a line stands: that of the last heading before it.
+fn part_of_line(starts: &[u32; 7], number: u32) -> Option<Part> {
+    let mut found = None;
+    for ((_, part), start) in HEADINGS.iter().zip(starts) {
+        if *start < number {
+            found = Some(*part);
+        }
+    }
+    found
+}
+
+// The part whose text gives the byte at an address. The dispatch table, which is no code, stands with the fetch.
+fn part_due(address: u16, table: Option<u16>) -> Option<Part> {
+    for area in AREAS {
+        if area.holds(address) {
+            let is_table = table == Some(area.first);
+            return Some(if is_table { Part::Fetch } else { area.part });
+        }
+    }
+    None
+}
+
+#[test]
+fn each_parts_text_gives_the_bytes_of_its_areas(rt: HostRuntime) -> Result<(), Fail> {
+    for text in [source(rt.alloc())?, tall_source(rt.alloc())?] {
+        let made = assemble(rt.alloc(), &text)?;
+        let table = made.symbol("table");
+        let mut starts = [0; 7];
+        for (start, (heading, _)) in starts.iter_mut().zip(HEADINGS) {
+            *start = line_of_heading(&text, heading);
+        }
+        for address in 0..=u16::MAX {
+            let of = made
+                .line_of(address)
+                .and_then(|number| part_of_line(&starts, number));
+            assert_eq!(rt; of, part_due(address, table), "at {address}");
         }
     }
     Ok(())
