@@ -36,13 +36,13 @@ areas_of p = filter (λ a. is_part p a.part) AREAS
 -- ---- the addresses of areas
 
 -- so many addresses from this one on
-abbrev pub from : ℕ → ℕ → List ℕ
-from address zero = []
-from address (suc n) = address ∷ from (address + 1) n
+abbrev pub addresses_from : ℕ → ℕ → List ℕ
+addresses_from address zero = []
+addresses_from address (suc n) = address ∷ addresses_from (address + 1) n
 
 abbrev pub addresses_of : List Area → List ℕ
 addresses_of [] = []
-addresses_of (a ∷ areas) = from a.first (a.last + 1 - a.first) ++ addresses_of areas
+addresses_of (a ∷ areas) = addresses_from a.first (a.last + 1 - a.first) ++ addresses_of areas
 
 -- each number is less than the next
 abbrev pub ascends : List ℕ → Bool

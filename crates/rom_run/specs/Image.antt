@@ -6,7 +6,7 @@ use Rattle.chip8_image.specs.declared.map.TheConstants.{AREAS}
 use Rattle.chip8_image.specs.declared.parts.Part.{Part}
 use Rattle.chip8_image.specs.declared.parts.Part.TheVariants.{Fetch, Arith, Memory, Sprite, Timer, Keys, Other}
 use Rattle.chip8_image.specs.Labels.{at_table, at_font}
-use Rattle.chip8_image.specs.Parts.{is_part, from, addresses_of}
+use Rattle.chip8_image.specs.Parts.{is_part, addresses_from, addresses_of}
 use Rattle.chip8_lang.specs.declared.view.Edition.{Edition}
 use Rattle.chip8_lang.specs.State.{font}
 use Rattle.rom_rows.specs.Rom.{Stretch, stretch, laid, image}
@@ -30,7 +30,7 @@ code_of e Other = stretch at_font font ∷ []
 -- the addresses of stretches
 abbrev pub addresses_in : List Stretch → List ℕ
 addresses_in [] = []
-addresses_in (s ∷ stretches) = from s.first (length s.bytes) ++ addresses_in stretches
+addresses_in (s ∷ stretches) = addresses_from s.first (length s.bytes) ++ addresses_in stretches
 
 -- the part with whose bytes an area's stand
 abbrev pub stands_with : Area → Part
