@@ -1,5 +1,5 @@
 -- So many moves of a board.
-use Rattle.std.proofs.Common.{◌≡◌, ℕ, zero, suc, ◌+◌, ◌*◌, ◌<◌, ◌≤◌, ◌↔◌, refl, sym, ◌∙◌, ap, subst, arith}
+use Rattle.std.proofs.Common.{◌≡◌, ℕ, zero, suc, ◌+◌, ◌-◌, ◌*◌, ◌^◌, ◌<◌, ◌≤◌, ◌↔◌, refl, sym, ◌∙◌, ap, subst, arith}
 use Rattle.machine.specs.Board.{Machine, case_of, move, length_of}
 use Rattle.machine.specs.Keys.{held_at}
 use Rattle.machine.specs.Run.{after_moves}
@@ -51,12 +51,16 @@ module _ (old now new : Seen) (i : ℕ) (r : Ran old now i) where
   few = few_in (case_of now.machine) now.rom now.machine
 
   abbrev ToTheEnd : Moved → Type 0
-  ToTheEnd result = (result ≡ End) ↔ (18446744073709551615 < now.machine.cycle + length_of now.rom now.machine)
+  ToTheEnd result = (result ≡ End) ↔ (2 ^ 64 - 1 < now.machine.cycle + length_of now.rom now.machine)
+
+  -- the moves of the routine end below the greatest cycle number
+  abbrev IsEarly : Type 0
+  IsEarly = old.machine.cycle + most_cycles < 2 ^ 64
 
   abbrev IsMove : Moved → Type 0
   IsMove result = IfDone result (λ m. (new ≡ moved now) × (m ≡ name_of now.machine))
 
-  pub ran_more : (result : Moved) → old.machine.cycle + most_cycles < 18446744073709551616 → i < routine_moves → ToTheEnd result → IsMove result → new.phase ≡ Boundary → Ran old new (i + 1)
+  pub ran_more : (result : Moved) → IsEarly → i < routine_moves → ToTheEnd result → IsMove result → new.phase ≡ Boundary → Ran old new (i + 1)
   ran_more End early inside end d p = absurd (omega (arith, early, inside, end.0 refl, r.soon, few))
   ran_more (Done m) early inside end d p =
       record {

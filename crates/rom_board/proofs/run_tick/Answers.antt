@@ -20,4 +20,5 @@ returns-clause-takes c e h o =
 
 pub returns-clause-tick : goal.returns-clause-tick
 returns-clause-tick c =
-    makes c.args.board.now c.loop-move.board (ended c.args.board.now c.loop-move.board c.loop-move._move c.loop-move.invariant c.loop-move.auto._move-end c.loop-move-test.false)
+    let r = ended c.args.board.now c.loop-move.board c.loop-move._move c.loop-move.invariant c.loop-move.auto._move-end c.loop-move-test.false in
+    makes c.args.board.now c.loop-move.board r
