@@ -22,10 +22,6 @@ pub one_of_false : (b : Bool) → b ≡ one_of b false
 one_of_false true = refl
 one_of_false false = refl
 
-guarded : (t u v : Bool) → (t && one_of u v) ≡ one_of (t && u) (t && v)
-guarded true u v = refl
-guarded false u v = refl
-
 module _ (rows a p : ℕ) (l : List ℕ) (size : length l ≡ 8 * rows) where
   abbrev place : ℕ → ℕ → ℕ
   place x y = 8 * y + x / 8

@@ -182,9 +182,6 @@ module _ (e : Edition) (b : Machine) (h : Since) (f : FitsMachine b) where
     near_edge : place < 8 * rows_of e
     near_edge = omega (arith, inside)
 
-    corner_is : (k : ℕ) → corner e (now h) + (8 * r + k) ≡ screen_start e + (place + k)
-    corner_is k = omega arith
-
     row_small : {p : Places} (d : Pixels) → Draws (quick e) (now h) → Holding (quick e) p (painted d (now h)) → ((i : ℕ) → slice_index p.ram i < 256) → sprite_row (now h) r < 256
     row_small d t o bytes = byte_small o bytes ((now h).i + r) (readable_row e (now h).i (asked (now h)) r (omega (arith, inside)) t.readable)
 
