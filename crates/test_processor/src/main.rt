@@ -5,24 +5,31 @@
 //! into the state before, over a plain memory, and makes one instruction, and then the moves that the signals of the vector want. Its
 //! registers, its calls on the bus and its machine cycles must be those of the vector. The vectors that were measured with the display
 //! on run on a whole board of `vip_board` too, whose video chip gives the signals. The program writes each vector that differs, and
-//! then the counts.
+//! then the counts. Then it runs the small ROMs of `data/boards.txt` on a whole board, whose outcome was worked out by hand.
 //!
 //! It is a test of the definitions of `machine`, which no proof can judge: nothing here is proved but that it is safe.
 #![tactic(auto)]
 
 mod on_board;
+mod small_rom;
 mod test_bus;
 mod vector;
 
+use crate::small_rom::SmallRom;
 use crate::test_bus::TestBus;
-use crate::vector::{State, Vector};
+use crate::vector::{State, Vector, VectorFault};
 use std::fs;
 use vip_cpu::{Cpu, Did};
 
 /// Runs a processor up to its next boundary. Answers the machine cycles, or 0 where they are more than 3.
+///
+/// The flags are turned round in the first cycle, in which none is looked at, and both signals come in the others, at no boundary.
 fn run_instruction(cpu: &mut Cpu, bus: &mut TestBus) -> u16 {
-    for cycles in 1..4u16 {
-        let _ = cpu.cycle(bus, false, false);
+    bus.turn_flags();
+    let _ = cpu.cycle(bus, false, false);
+    bus.turn_flags();
+    for cycles in 2..4u16 {
+        let _ = cpu.cycle(bus, true, true);
         if cpu.at_boundary() {
             return cycles;
         }
@@ -30,7 +37,8 @@ fn run_instruction(cpu: &mut Cpu, bus: &mut TestBus) -> u16 {
     0
 }
 
-/// Makes so many idle cycles and then the moves that a vector's signals want. False where a cycle is of another kind.
+/// Makes so many idle cycles and then the moves that a vector's signals want. False where a cycle is of another kind. INT is active in
+/// the DMA cycles too, which come before an interrupt.
 fn makes_moves(cpu: &mut Cpu, bus: &mut TestBus, vector: &Vector, idle: u16) -> bool {
     for _ in 0..idle {
         if cpu.cycle(bus, false, vector.ignores_int) != Did::Idle {
@@ -41,7 +49,7 @@ fn makes_moves(cpu: &mut Cpu, bus: &mut TestBus, vector: &Vector, idle: u16) -> 
         return false;
     }
     for _ in 0..vector.dma_cycles {
-        let Did::Dma(_) = cpu.cycle(bus, true, false) else {
+        let Did::Dma(_) = cpu.cycle(bus, true, true) else {
             return false;
         };
     }
@@ -90,6 +98,48 @@ impl Counts {
     }
 }
 
+/// Runs a small ROM and writes its name where it doesn't come to what is due.
+fn judge(rt: &HostRuntime, rom: &SmallRom, counts: &mut Counts) -> anyhow::Result<()> {
+    let passes = rom.passes(rt.alloc())?;
+    counts.add(passes);
+    if !passes {
+        println!(rt; "differs: {}", rom.name)?;
+    }
+    Ok(())
+}
+
+/// Runs the small ROMs of a text.
+fn run_small_roms(rt: &HostRuntime, text: &str) -> anyhow::Result<()> {
+    let mut counts = Counts::none();
+    let mut rom: Option<SmallRom> = None;
+    for line in text.lines() {
+        let line = line.trim_start();
+        if line.is_empty() || line.starts_with('#') {
+            continue;
+        }
+        let (word, rest) = line.split_once(' ').unwrap_or((line, ""));
+        if word == "board" {
+            if let Some(rom) = rom.take() {
+                judge(rt, &rom, &mut counts)?;
+            }
+            rom = Some(SmallRom::new(rt.alloc(), rest)?);
+        } else {
+            let rom = rom.as_mut().ok_or(VectorFault::NotAVector)?;
+            rom.add(word, rest)?;
+        }
+    }
+    if let Some(rom) = rom.take() {
+        judge(rt, &rom, &mut counts)?;
+    }
+    println!(rt;
+        "{} small ROMs on the board: {} passed, {} failed",
+        counts.all(),
+        counts.passed,
+        counts.failed
+    )?;
+    Ok(())
+}
+
 fn main(rt: HostRuntime) -> anyhow::Result<()> {
     let text = fs::read_to_string(&rt, "vectors.txt")?;
     let mut bus = TestBus::new(rt.alloc())?;
@@ -125,5 +175,5 @@ fn main(rt: HostRuntime) -> anyhow::Result<()> {
         on_board.passed,
         on_board.failed
     )?;
-    Ok(())
+    run_small_roms(&rt, &fs::read_to_string(&rt, "boards.txt")?)
 }

@@ -57,6 +57,12 @@ impl TestBus {
         self.calls.clear();
     }
 
+    /// Each flag becomes the other value.
+    pub fn turn_flags(&mut self) {
+        let [ef1, ef2, ef3, ef4] = self.flags;
+        self.flags = [!ef1, !ef2, !ef3, !ef4];
+    }
+
     /// The calls that changed the bus, in order.
     pub fn calls(&self) -> &[Call] {
         self.calls.as_slice()
