@@ -54,6 +54,3 @@ mod scratchpad;
 pub use bus::Bus;
 pub use cpu::{Cpu, Did, Phase};
 pub use parts::Parts;
-
-#[cfg(test)]
-mod tests;
