@@ -24,8 +24,6 @@
 mod buffer;
 mod place;
 mod raster;
-#[cfg(test)]
-mod tests;
 mod video;
 
 pub use buffer::Picture;
