@@ -21,8 +21,6 @@
 #![tactic(auto)]
 
 mod board;
-#[cfg(test)]
-mod tests;
 mod wires;
 
 pub use board::{Board, Move, Moved};
