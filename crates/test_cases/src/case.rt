@@ -203,9 +203,13 @@ fn sink(alloc: Global, room: usize, failing: Option<FailingPut>) -> Result<MemSi
     Ok(sink)
 }
 
+// The words between single blanks, so that an empty one stands between two blanks.
 fn words_of(alloc: Global, text: &str) -> Result<Vec<String>, AllocError> {
     let mut words = Vec::new(alloc);
-    for word in text.split_whitespace() {
+    if text.is_empty() {
+        return Ok(words);
+    }
+    for word in text.split(' ') {
         words.push(String::from_str(alloc, word)?)?;
     }
     Ok(words)
