@@ -111,16 +111,16 @@ module _ {x : Program} {p : Places} {s : Lang} (h : Holding x p s) (f : FitsWord
   push_at : Holding x (record p { ram = pushed; r2 = down (down p.r2) }) (record s { stack = s.stack ++ (high * 256 + low) ∷ [] })
   push_at =
       changed h pushed (down (down p.r2)) p.r5 p.r8 p.ra
-        ((λ i. record (lies_in e p) {
-          v = past (variables e) (variables e + 16) (inl (omega (arith, h.stack, stack_below e))) i;
-          stack = stack_is i;
-          memory = past memory_start (memory_end e) (inr (omega (arith, above))) i;
-          b = elsewhere random_cell (inl (omega (arith, above, memory_above e))) i;
-          screen = pixels (rows_of e) (past (screen_start e) 0x1000 (inl (omega (arith, h.stack, stack_below e, variables_below e))) i);
-        })
-        ∙ ap (λ (z : Lang). record z { stack = s.stack ++ (high * 256 + low) ∷ [] }) h.is)
-        (omega (arith, h.stack, lowest, above, length-append s.stack ((high * 256 + low) ∷ [])))
-        pushed_size
+      ((λ i. record (lies_in e p) {
+        v = past (variables e) (variables e + 16) (inl (omega (arith, h.stack, stack_below e))) i;
+        stack = stack_is i;
+        memory = past memory_start (memory_end e) (inr (omega (arith, above))) i;
+        b = elsewhere random_cell (inl (omega (arith, above, memory_above e))) i;
+        screen = pixels (rows_of e) (past (screen_start e) 0x1000 (inl (omega (arith, h.stack, stack_below e, variables_below e))) i);
+      })
+      ∙ ap (λ (z : Lang). record z { stack = s.stack ++ (high * 256 + low) ∷ [] }) h.is)
+      (omega (arith, h.stack, lowest, above, length-append s.stack ((high * 256 + low) ∷ [])))
+      pushed_size
 
   pub push : Holding x (record p { ram = written p.latch (written p.latch p.ram (value p.r2) low) (value (down p.r2)) high; r2 = down (down p.r2) }) (record s { stack = s.stack ++ (high * 256 + low) ∷ [] })
   push = subst (λ r. Holding x (record p { ram = r; r2 = down (down p.r2) }) (record s { stack = s.stack ++ (high * 256 + low) ∷ [] })) (sym is_pushed) push_at
@@ -181,6 +181,6 @@ module _ {x : Program} {p : Places} {s : Lang} (h : Holding x p s) (f : FitsWord
   pub pop : Holding x (record p { r2 = up (up p.r2) }) (record s { stack = take (length s.stack - 1) s.stack })
   pop =
       changed h p.ram (up (up p.r2)) p.r5 p.r8 p.ra
-        ((λ i. record (lies_in x.edition p) { stack = (ap (addresses p.ram (stack_top x.edition)) depth_less ∙ rest_is) i }) ∙ ap (λ (z : Lang). record z { stack = take m s.stack }) h.is)
-        (omega (arith, two_up, h.stack, some, ap length (sym rest_is), rest_length))
-        h.size
+      ((λ i. record (lies_in x.edition p) { stack = (ap (addresses p.ram (stack_top x.edition)) depth_less ∙ rest_is) i }) ∙ ap (λ (z : Lang). record z { stack = take m s.stack }) h.is)
+      (omega (arith, two_up, h.stack, some, ap length (sym rest_is), rest_length))
+      h.size

@@ -43,8 +43,8 @@ pub record Together (e : Edition) : Type 0 where
   -- laid over zeros, all of these bytes are the image
   pub whole :
       laid
-        (code_of e Fetch ++ code_of e Arith ++ code_of e Memory ++ code_of e Sprite ++ code_of e Timer ++ code_of e Keys ++ code_of e Other)
-        (replicate 2048 0)
+      (code_of e Fetch ++ code_of e Arith ++ code_of e Memory ++ code_of e Sprite ++ code_of e Timer ++ code_of e Keys ++ code_of e Other)
+      (replicate 2048 0)
       ≡ image e
   -- and those of a part have the addresses that the map gives it
   pub mapped : (p : Part) → addresses_in (code_of e p) ≡ addresses_of (areas_with p)
