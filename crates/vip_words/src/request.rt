@@ -10,10 +10,7 @@ use crate::given::{Given, Positional, WordsFail, read_given};
 use crate::table::{Usage, Verb};
 use chip8_lang::Edition;
 use std::alloc::Global;
-use vip_byte::{read_decimal, read_hex};
-
-/// The most machine cycles that a run is asked for.
-const MOST_CYCLES: u64 = 4_000_000_000;
+use vip_byte::{MOST_CYCLE, read_decimal, read_hex};
 
 /// What the words of a command line ask for. A file's name is the word itself.
 #[derive(Clone, Copy)]
@@ -91,7 +88,7 @@ pub struct DisRequest<'a> {
 fn read_cycles(word: &str) -> Option<u64>
     ensures { result ≡ cycles_of word.now }
 {
-    read_decimal(word.as_bytes(), MOST_CYCLES).ok()
+    read_decimal(word.as_bytes(), MOST_CYCLE).ok()
 }
 
 fn read_demo_number(word: &str) -> Option<u32>
