@@ -12,7 +12,7 @@ use Rattle.vip_board.specs.Shown.{CarriesOn}
 use Rattle.vip_board.specs.declared.board.Move.{Move}
 use Rattle.vip_board.proofs.Shown.{shows-nothing}
 use Rattle.vip_relation.specs.Interpreters.{interpreter_of}
-use Rattle.vip_relation.specs.State.{VipState, events_waiting, started}
+use Rattle.vip_relation.specs.State.{VipState, events_waiting, most_cycles, started}
 use Rattle.vip_relation.specs.Follows.{Follows}
 use Rattle.vip_relation.specs.Meets.{HasStopped}
 use Rattle.vip_relation.specs.Parts.{Steps}
@@ -64,7 +64,7 @@ module _ (a : Inside) (k : IsKept a) (met : events_waiting (state_of a) ≡ []) 
   abbrev then : Seen → Point → Waits → Inside
   then s point waits = record a { board = s; moves = a.moves + 1; point = point; waits = waits }
 
-  kept_moved : CarriesOn a.board (moved a.board) → (moved a.board).machine.cycle ≤ 4_000_000_000 → IsKept (then (moved a.board) (point_of (interpreter_of a.edition) (moved a.board).machine) (waits_by a.board.pictures.count (moved a.board).pictures.count))
+  kept_moved : CarriesOn a.board (moved a.board) → (moved a.board).machine.cycle ≤ most_cycles → IsKept (then (moved a.board) (point_of (interpreter_of a.edition) (moved a.board).machine) (waits_by a.board.pictures.count (moved a.board).pictures.count))
   kept_moved carries in_time =
       record {
         follows = follows-on v k.follows met runs carries in_time;
@@ -73,9 +73,9 @@ module _ (a : Inside) (k : IsKept a) (met : events_waiting (state_of a) ≡ []) 
         size = k.size;
       }
 
-  pub kept-step : (s : Seen) (point : Point) (waits : Waits) → s ≡ moved a.board → CarriesOn a.board s → s.machine.cycle ≤ 4_000_000_000 → point ≡ point_of (interpreter_of a.edition) s.machine → waits ≡ waits_by a.board.pictures.count s.pictures.count → IsKept (then s point waits)
+  pub kept-step : (s : Seen) (point : Point) (waits : Waits) → s ≡ moved a.board → CarriesOn a.board s → s.machine.cycle ≤ most_cycles → point ≡ point_of (interpreter_of a.edition) s.machine → waits ≡ waits_by a.board.pictures.count s.pictures.count → IsKept (then s point waits)
   kept-step s point waits is carries in_time is_point is_waits =
-      let P : Seen → Type 0 = λ s. CarriesOn a.board s → s.machine.cycle ≤ 4_000_000_000 → IsKept (then s (point_of (interpreter_of a.edition) s.machine) (waits_by a.board.pictures.count s.pictures.count)) in
+      let P : Seen → Type 0 = λ s. CarriesOn a.board s → s.machine.cycle ≤ most_cycles → IsKept (then s (point_of (interpreter_of a.edition) s.machine) (waits_by a.board.pictures.count s.pictures.count)) in
       subst₂ (λ p w. IsKept (then s p w)) (sym is_point) (sym is_waits) (subst P (sym is) kept_moved carries in_time)
 
   pub steps-to : (s : Seen) (name : Move) → s ≡ moved a.board → name ≡ name_of a.board.machine → Steps v (record v { moves = v.moves + 1; board = s }) name

@@ -12,7 +12,7 @@ use Rattle.chip8_lang.specs.Events.Event.{Picture, Stopped}
 use Rattle.chip8_lang.specs.Places.{Interpreter}
 use Rattle.vip_board.specs.Moves.{moved}
 use Rattle.vip_board.specs.Shown.{Shows, CarriesOn}
-use Rattle.vip_relation.specs.State.{VipState, interpreter, events_to, events_left, events_met, events_waiting, run_of, moves_by}
+use Rattle.vip_relation.specs.State.{VipState, interpreter, events_to, events_left, events_met, events_waiting, most_cycles, run_of, moves_by}
 use Rattle.vip_relation.specs.Follows.{Follows, last_view, last_screen}
 use Rattle.vip_relation.specs.Points.{point_of, point_events}
 use Rattle.vip_relation.specs.Waiting.{waits_by}
@@ -60,7 +60,7 @@ module _ (v : VipState) (f : Follows v) where
   pub events-here : events_to v now ≡ past_of (suc v.moves)
   events-here = events-last i v.game v.board.script now v.moves (omega (arith, cycle_is)) later f.runs
 
-  pub few-moves : v.moves ≤ 4_000_000_000
+  pub few-moves : v.moves ≤ most_cycles
   few-moves = omega (arith, f.in_time, cycle_is, cycles-some i.rom (held_at v.board.script) v.moves (start v.game))
 
   pub few-met : v.met ≤ 8_000_000_002
@@ -164,7 +164,7 @@ module _ (v : VipState) (f : Follows v) where
           subst (λ run. Shows v.board.rom run now_on (moved v.board).pictures) states_on
           (carries 0 (earlier i v.game v.board.script v.moves) f.pictures)
 
-      pub follows-on : now_on ≤ 4_000_000_000 → Follows stepped
+      pub follows-on : now_on ≤ most_cycles → Follows stepped
       follows-on in_time =
           record {
             bytes = f.bytes;
