@@ -1,6 +1,7 @@
 -- The files that a command reads, in their order, and what is known of them once they are read.
 use Rattle.std.specs.Prelude.{◌≡◌, ◌≤◌, ◌<◌, ◌-◌, ◌⊎◌, ℕ, List, [], ◌∷◌, ◌++◌, map, length, Option, Some, None, Result, Ok, Err, Vec, slice_index, IfSome, IsSomeAnd}
 use Rattle.std.specs.FinMap.{get}
+use Rattle.vip_byte.specs.declared.line.TheConstants.{MOST_TEXT}
 use Rattle.vip_outside.specs.Files.{FilesMeaning, ReadFails, LacksName}
 use Rattle.chip8_lang.specs.State.{memory_size}
 use Rattle.chip8_lang.specs.declared.view.Edition.{Edition}
@@ -20,7 +21,7 @@ pub record Needed : Type 0 where
 
 -- the most bytes of a key script, of the debugger's commands or of a source
 abbrev pub most_text : ℕ
-most_text = 1_048_576
+most_text = MOST_TEXT
 
 -- the addresses of the machine, 0000 to FFFF
 abbrev pub addresses : ℕ

@@ -9,13 +9,11 @@ ghost use Rattle.vip_verbs.specs.Files.{needed, run_files, file, game_kind, game
 use arrayvec::ArrayVec;
 use chip8_lang::Edition;
 use std::alloc::Global;
+use vip_byte::MOST_TEXT;
 use vip_outside::{Files, ReadFail};
 use vip_relation::most_bytes;
 use vip_report::{Kind, Refusal};
 use vip_words::{DebugRequest, Request, RunRequest};
-
-/// The most bytes of a key script, of the debugger's commands or of a source.
-const MOST_TEXT: usize = 1_048_576;
 
 /// The addresses of the machine, 0000 to FFFF.
 const ADDRESSES: usize = 65_536;
