@@ -1,5 +1,5 @@
 -- What a command answers, from the answers of its parts.
-use Rattle.std.proofs.Common.{◌≡◌, ◌∙◌, ℕ, suc, ◌-◌, ◌≤◌, max, true, false, List, [], ◌∷◌, length, take, drop, get_or, take_all, refl, sym, ap, subst, arith, Result, Ok, Err, IsErrAnd, Vec}
+use Rattle.std.proofs.Common.{◌≡◌, ℕ, max, true, false, List, [], ◌∷◌, refl, sym, ap, subst, Result, Ok, Err, IsErrAnd}
 use Rattle.std.proofs.Math.Nat.{max-zero}
 use Rattle.chip8_lang.specs.declared.view.Edition.{Edition}
 use Rattle.chip8_lang.specs.declared.view.Edition.TheVariants.{Usual}
@@ -26,7 +26,6 @@ use Rattle.vip_report.specs.declared.ended.Ended.TheVariants.{Worked, Ran}
 use Rattle.vip_report.specs.declared.refusal.Refusal.{Refusal}
 use Rattle.vip_report.specs.declared.refusal.Refusal.TheVariants.{Usage, Unread, TooLarge, Script, Command, Source, Rom, Write, NoMemory}
 use Rattle.vip_report.specs.declared.status.Status.TheVariants.{Done}
-use Rattle.vip_verbs.specs.Files.{Needed, FitAll, contents_of}
 use Rattle.vip_verbs.specs.Work.{Ends, Breaks, WorkAnswers}
 use Rattle.vip_verbs.specs.Demo.{demo_game}
 use Rattle.vip_verbs.specs.Opening.{StartAnswers, DebugCommandsAnswer, SourceAnswers, Begins}
@@ -185,43 +184,3 @@ module _ (e : Edition) (game : List ℕ) (scripts : List (List ℕ)) (limit : �
 -- a demonstration runs the game of its number
 pub demo-comes : (number limit : ℕ) (game : List ℕ) → game ≡ demo_game number → (o : Outcome) → RunComes Usual limit [] (λ script. summed number (started Usual game script) limit) (λ script. ended_by limit (started Usual game script)) o → RunComes Usual limit [] (λ script. summed number (started Usual (demo_game number) script) limit) (run_ending Usual (demo_game number) limit) o
 demo-comes number limit game is o come = subst (λ g. RunComes Usual limit [] (λ script. summed number (started Usual g script) limit) (run_ending Usual g limit) o) is come
-
--- ---- the files of a command, by their places
-
-module _ {Z : Type 0} where
-  -- the first file, and those behind it
-  pub first-and-others : (contents : List (Vec ℕ Z)) (ns : List Needed) (first : Vec ℕ Z) (bytes : List ℕ) → 1 ≤ length ns → FitAll ns (contents_of contents) → first ≡ get_or contents 0 first → bytes ≡ first.items → contents_of contents ≡ bytes ∷ contents_of (take (length contents - 1) (drop 1 contents))
-  first-and-others contents [] first bytes some fit is items = absurd (omega (arith, some))
-  first-and-others [] (n ∷ ns) first bytes some fit is items = absurd fit
-  first-and-others (v ∷ vs) (n ∷ ns) first bytes some fit is items =
-      let others : take (suc (length vs) - 1) vs ≡ vs = take_all (suc (length vs) - 1) vs (omega arith) in
-      rw others (ap (λ b. b ∷ contents_of vs) (sym (items ∙ ap (λ (w : Vec ℕ Z). w.items) is)))
-
-  -- the file, where there is but one, and its length
-  pub only-file : (contents : List (Vec ℕ Z)) (n : Needed) (first : Vec ℕ Z) (bytes : List ℕ) → FitAll (n ∷ []) (contents_of contents) → first ≡ get_or contents 0 first → bytes ≡ first.items → contents_of contents ≡ bytes ∷ []
-  only-file [] n first bytes fit is items = absurd fit
-  only-file (v ∷ []) n first bytes fit is items = ap (λ b. b ∷ []) (sym (items ∙ ap (λ (w : Vec ℕ Z). w.items) is))
-  only-file (v ∷ w ∷ vs) n first bytes fit is items = absurd fit.1
-
-  pub file-fits : (contents : List (Vec ℕ Z)) (n : Needed) (ns : List Needed) (first : Vec ℕ Z) (bytes : List ℕ) → FitAll (n ∷ ns) (contents_of contents) → first ≡ get_or contents 0 first → bytes ≡ first.items → length bytes ≤ n.most
-  file-fits [] n ns first bytes fit is items = absurd fit
-  file-fits (v ∷ vs) n ns first bytes fit is items = rw (items ∙ ap (λ (w : Vec ℕ Z). w.items) is) fit.0
-
-  -- the second file, and others
-  pub second-and-others : (contents : List (Vec ℕ Z)) (ns : List Needed) (second : Vec ℕ Z) (text : List ℕ) → 2 ≤ length ns → FitAll ns (contents_of contents) → second ≡ get_or contents 1 second → text ≡ second.items → (game : List ℕ) × (others : List (List ℕ)) × (contents_of contents ≡ game ∷ text ∷ others)
-  second-and-others contents [] second text some fit is items = absurd (omega (arith, some))
-  second-and-others contents (n ∷ []) second text some fit is items = absurd (omega (arith, some))
-  second-and-others [] (n ∷ m ∷ ns) second text some fit is items = absurd fit
-  second-and-others (v ∷ []) (n ∷ m ∷ ns) second text some fit is items = absurd fit.1
-  second-and-others (v ∷ w ∷ vs) (n ∷ m ∷ ns) second text some fit is items =
-      (v.items, contents_of vs, ap (λ b. v.items ∷ b ∷ contents_of vs) (sym (items ∙ ap (λ (u : Vec ℕ Z). u.items) is)))
-
-  -- the first two, and those behind them
-  pub two-and-others : (contents : List (Vec ℕ Z)) (ns : List Needed) (first second : Vec ℕ Z) (game text : List ℕ) → 2 ≤ length ns → FitAll ns (contents_of contents) → first ≡ get_or contents 0 first → game ≡ first.items → second ≡ get_or contents 1 second → text ≡ second.items → contents_of contents ≡ game ∷ text ∷ contents_of (take (length contents - 2) (drop 2 contents))
-  two-and-others contents [] first second game text some fit is items is' items' = absurd (omega (arith, some))
-  two-and-others contents (n ∷ []) first second game text some fit is items is' items' = absurd (omega (arith, some))
-  two-and-others [] (n ∷ m ∷ ns) first second game text some fit is items is' items' = absurd fit
-  two-and-others (v ∷ []) (n ∷ m ∷ ns) first second game text some fit is items is' items' = absurd fit.1
-  two-and-others (v ∷ w ∷ vs) (n ∷ m ∷ ns) first second game text some fit is items is' items' =
-      let others : take (suc (suc (length vs)) - 2) vs ≡ vs = take_all (suc (suc (length vs)) - 2) vs (omega arith) in
-      rw (others, items ∙ ap (λ (u : Vec ℕ Z). u.items) is, items' ∙ ap (λ (u : Vec ℕ Z). u.items) is') refl

@@ -1,4 +1,5 @@
 pub mod Files
+pub mod Contents
 pub mod Demo
 pub mod Outcome
 pub mod Opening

@@ -12,6 +12,7 @@
 //! ```
 #![tactic(auto)]
 
+mod contents;
 mod demo;
 mod files;
 mod verb;

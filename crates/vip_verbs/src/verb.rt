@@ -6,10 +6,12 @@ ghost use Rattle.vip_words.specs.Asked.{most_cycles};
 ghost use Rattle.vip_words.specs.Asked.Asked.{trace, play, debug, demo, asm, list, dis, bounds};
 ghost use Rattle.vip_words.specs.Request.{asked_of, asked_run, asked_trace, asked_debug, asked_demo, asked_dis};
 ghost use Rattle.vip_verbs.specs.Files.{needed, addresses, most_text, FitAll, contents_of};
+ghost use Rattle.vip_verbs.specs.Contents.{script_list, run_list, debug_list};
 ghost use Rattle.vip_verbs.specs.Work.{WorkAnswers};
 ghost use Rattle.vip_verbs.specs.Outcome.{RomIs, cycles_in};
 ghost use Rattle.vip_verbs.specs.Opening.{SmallScripts, KeysAnswer, DebugCommandsAnswer, RomAnswers, StartAnswers, SourceAnswers};
 
+use crate::contents::{DebugContents, RunContents, debug_contents, only_content, run_contents};
 use crate::demo::demo_game;
 use crate::files::game_kind;
 use asm_core::{AsmFault, Assembly, assemble};
@@ -28,14 +30,14 @@ use vip_show::{RunEnd, show_pictures, show_summary, show_trace};
 use vip_words::{DebugRequest, DemoRequest, DisRequest, Request, RunRequest, TraceRequest};
 
 /// The key script of a run, which is empty where no file is given.
-fn read_keys<'a>(alloc: Global, scripts: &[Vec<u8>]) -> Result<Script, Refusal<'a>>
-    requires { SmallScripts (contents_of scripts.now) }
-    ensures { KeysAnswer (contents_of scripts.now) result }
+fn read_keys<'a>(alloc: Global, script: Option<&[u8]>) -> Result<Script, Refusal<'a>>
+    requires { SmallScripts (script_list script) }
+    ensures { KeysAnswer (script_list script.entry) result }
 {
-    let Some(text) = scripts.first() else {
+    let Some(text) = script else {
         return Ok(Script::empty(alloc));
     };
-    match read_script(alloc, text.as_slice()) {
+    match read_script(alloc, text) {
         Ok(script) => Ok(script),
         Err(ScriptFault::Fault { line, cause }) => Err(Refusal::Script { line, cause }),
         Err(ScriptFault::NoMemory) => Err(Refusal::NoMemory),
@@ -79,16 +81,15 @@ fn check_rom<'a>(alloc: Global, edition: Edition) -> Result<(), Refusal<'a>>
 fn start<'a>(
     alloc: Global,
     edition: Edition,
-    game: &[u8],
-    scripts: &[Vec<u8>],
+    contents: &RunContents<'_>,
 ) -> Result<Vip, Refusal<'a>>
-    requires game { length game.now ≤ memory_size edition }
-    requires scripts { SmallScripts (contents_of scripts.now) }
-    ensures { StartAnswers edition game.now (contents_of scripts.now) result }
+    requires game { length contents.now.game.now ≤ memory_size edition }
+    requires script { SmallScripts (script_list contents.now.script) }
+    ensures { StartAnswers edition contents.now.game.now (script_list contents.now.script) result }
 {
-    let script = read_keys(alloc, scripts)?;
+    let script = read_keys(alloc, contents.script)?;
     check_rom(alloc, edition)?;
-    match Vip::start_as(alloc, edition, game, &script) {
+    match Vip::start_as(alloc, edition, contents.game, &script) {
         Ok(vip) => Ok(vip),
         Err(StartFault::GameTooLarge(_)) => Err(Refusal::TooLarge(game_kind(edition))),
         Err(StartFault::NoMemory) => Err(Refusal::NoMemory),
@@ -98,15 +99,15 @@ fn start<'a>(
 fn trace<'a, O: Sink>(
     alloc: Global,
     wish: &TraceRequest<'a>,
-    contents: &[Vec<u8>],
+    contents: &RunContents<'_>,
     out: &mut O,
 ) -> Result<Ended, Refusal<'a>>
     requires limit { wish.now.run.cycles ≤ most_cycles }
-    requires sizes { FitAll (needed (trace (asked_trace wish.now))) (contents_of contents.now) }
-    ensures { WorkAnswers (trace (asked_trace wish.now)) (contents_of contents.now) (O.meaning out.old) (O.meaning out.new) result }
+    requires sizes { FitAll (needed (trace (asked_trace wish.now))) (run_list contents.now) }
+    ensures { WorkAnswers (trace (asked_trace wish.now)) (run_list contents.now) (O.meaning out.old) (O.meaning out.new) result }
 {
     let run = wish.run;
-    let mut vip = start(alloc, run.edition, contents[0].as_slice(), &contents[1..])?;
+    let mut vip = start(alloc, run.edition, contents)?;
     let end = show_trace(&mut vip, run.cycles, wish.with_time, wish.with_screen, out)?;
     Ok(Ended::Ran(run.cycles, end))
 }
@@ -114,14 +115,14 @@ fn trace<'a, O: Sink>(
 fn play<'a, O: Sink>(
     alloc: Global,
     wish: &RunRequest<'a>,
-    contents: &[Vec<u8>],
+    contents: &RunContents<'_>,
     out: &mut O,
 ) -> Result<Ended, Refusal<'a>>
     requires limit { wish.now.cycles ≤ most_cycles }
-    requires sizes { FitAll (needed (play (asked_run wish.now))) (contents_of contents.now) }
-    ensures { WorkAnswers (play (asked_run wish.now)) (contents_of contents.now) (O.meaning out.old) (O.meaning out.new) result }
+    requires sizes { FitAll (needed (play (asked_run wish.now))) (run_list contents.now) }
+    ensures { WorkAnswers (play (asked_run wish.now)) (run_list contents.now) (O.meaning out.old) (O.meaning out.new) result }
 {
-    let mut vip = start(alloc, wish.edition, contents[0].as_slice(), &contents[1..])?;
+    let mut vip = start(alloc, wish.edition, contents)?;
     let end = show_pictures(&mut vip, wish.cycles, out)?;
     Ok(Ended::Ran(wish.cycles, end))
 }
@@ -130,16 +131,16 @@ fn play<'a, O: Sink>(
 fn debug<'a, O: Sink>(
     alloc: Global,
     wish: &DebugRequest<'a>,
-    contents: &[Vec<u8>],
+    contents: &DebugContents<'_>,
     out: &mut O,
 ) -> Result<Ended, Refusal<'a>>
     requires limit { wish.now.run.cycles ≤ most_cycles }
-    requires sizes { FitAll (needed (debug (asked_debug wish.now))) (contents_of contents.now) }
-    ensures { WorkAnswers (debug (asked_debug wish.now)) (contents_of contents.now) (O.meaning out.old) (O.meaning out.new) result }
+    requires sizes { FitAll (needed (debug (asked_debug wish.now))) (debug_list contents.now) }
+    ensures { WorkAnswers (debug (asked_debug wish.now)) (debug_list contents.now) (O.meaning out.old) (O.meaning out.new) result }
 {
     let run = wish.run;
-    let commands = read_debugging(alloc, contents[1].as_slice(), run.cycles)?;
-    let mut vip = start(alloc, run.edition, contents[0].as_slice(), &contents[2..])?;
+    let commands = read_debugging(alloc, contents.commands, run.cycles)?;
+    let mut vip = start(alloc, run.edition, &contents.run)?;
     match run_commands(&mut vip, &commands, run.cycles, out) {
         DebugEnd::Done => Ok(Ended::Ran(run.cycles, RunEnd::AtLimit)),
         DebugEnd::Stopped(stop) => Ok(Ended::Ran(run.cycles, RunEnd::AtStop(stop))),
@@ -152,7 +153,11 @@ fn demo<'a, O: Sink>(alloc: Global, wish: &DemoRequest, out: &mut O) -> Result<E
     ensures { WorkAnswers (demo (asked_demo wish.now)) [] (O.meaning out.old) (O.meaning out.new) result }
 {
     let game = demo_game(alloc, wish.number)?;
-    let mut vip = start(alloc, Edition::Usual, game.as_slice(), &[])?;
+    let contents = RunContents {
+        game: game.as_slice(),
+        script: None,
+    };
+    let mut vip = start(alloc, Edition::Usual, &contents)?;
     let end = show_summary(&mut vip, wish.cycles, wish.number, out)?;
     Ok(Ended::Ran(wish.cycles, end))
 }
@@ -224,13 +229,13 @@ pub fn work<'a, O: Sink>(
     ensures { WorkAnswers (asked_of request.now) (contents_of contents.now) (O.meaning out.old) (O.meaning out.new) result }
 {
     match request {
-        Request::Trace(wish) => trace(alloc, wish, contents, out),
-        Request::Play(wish) => play(alloc, wish, contents, out),
-        Request::Debug(wish) => debug(alloc, wish, contents, out),
+        Request::Trace(wish) => trace(alloc, wish, &run_contents(contents), out),
+        Request::Play(wish) => play(alloc, wish, &run_contents(contents), out),
+        Request::Debug(wish) => debug(alloc, wish, &debug_contents(contents), out),
         Request::Demo(wish) => demo(alloc, wish, out),
-        Request::Asm(_) => asm(alloc, contents[0].as_slice(), out),
-        Request::List(_) => list(alloc, contents[0].as_slice(), out),
-        Request::Dis(wish) => dis(alloc, wish, contents[0].as_slice(), out),
+        Request::Asm(_) => asm(alloc, only_content(contents), out),
+        Request::List(_) => list(alloc, only_content(contents), out),
+        Request::Dis(wish) => dis(alloc, wish, only_content(contents), out),
         Request::Bounds => bounds(out),
     }
 }
