@@ -34,10 +34,13 @@ pub random-more : (seed n : ℕ) → random seed (n + 1) ≡ next_random (random
 random-more seed n = rw add-one refl
 
 -- one opcode more, high byte first
-pub bytes-more : (seed n x opcode : ℕ) (game more : List ℕ) → opcode < 65536 → game ≡ bytes_to seed n → x ≡ random seed (n + 1) → opcode ≡ opcode_by (x / 65536) → more ≡ game ++ opcode / 256 % 256 ∷ opcode % 256 ∷ [] → more ≡ bytes_to seed (n + 1)
+pub bytes-more :
+    (seed n x opcode : ℕ) (game more : List ℕ) → opcode < 65536 → game ≡ bytes_to seed n → x ≡ random seed (n + 1) → opcode ≡ opcode_by (x / 65536)
+    → more ≡ game ++ opcode / 256 % 256 ∷ opcode % 256 ∷ [] → more ≡ bytes_to seed (n + 1)
 bytes-more seed n x opcode game more low had x-is opcode-is added =
     let high : opcode / 256 % 256 ≡ opcode / 256 = omega arith in
-    let next : bytes_to seed (n + 1) ≡ bytes_to seed n ++ opcode_bytes (opcode_by (random seed (n + 1) / 65536)) = ap (bytes_to seed) (add-one n) ∙ bytes_to-suc seed n ∙ ap (λ k. bytes_to seed n ++ opcode_bytes (opcode_by (random seed k / 65536))) (omega arith) in
+    let next : bytes_to seed (n + 1) ≡ bytes_to seed n ++ opcode_bytes (opcode_by (random seed (n + 1) / 65536)) =
+    ap (bytes_to seed) (add-one n) ∙ bytes_to-suc seed n ∙ ap (λ k. bytes_to seed n ++ opcode_bytes (opcode_by (random seed k / 65536))) (omega arith) in
     added ∙ rw (high, had, next, ← x-is, ← opcode-is) refl
 
 -- with the two jumps behind so many

@@ -10,7 +10,10 @@ use Rattle.vip_report.specs.declared.refusal.Refusal.{Refusal}
 use Rattle.vip_report.specs.declared.refusal.Refusal.TheVariants.{Usage, Unread, TooLarge, Script, Command, Source, Rom, Write, NoMemory}
 use Rattle.vip_verbs.specs.Files.{Needed, Has, HasAll, FitAll, ComesTo, FileAnswers, FilesAnswer, seen_wanted}
 
-has-suc : (old : FilesMeaning) (ws : List Wanted) (k : ℕ) (d : Wanted) (cs : List (List ℕ)) (c : List ℕ) → k < length ws → HasAll old (map seen_wanted (take k ws)) cs → Has old (seen_wanted (get_or ws k d)) c → HasAll old (map seen_wanted (take (suc k) ws)) (cs ++ c ∷ [])
+has-suc :
+    (old : FilesMeaning) (ws : List Wanted) (k : ℕ) (d : Wanted) (cs : List (List ℕ)) (c : List ℕ) → k < length ws
+    → HasAll old (map seen_wanted (take k ws)) cs → Has old (seen_wanted (get_or ws k d)) c
+    → HasAll old (map seen_wanted (take (suc k) ws)) (cs ++ c ∷ [])
 has-suc old [] k d cs c low had here = absurd (omega (arith, low))
 has-suc old (w ∷ ws) zero d [] c low had here = (here, tt)
 has-suc old (w ∷ ws) zero d (y ∷ cs) c low had here = absurd had
@@ -18,17 +21,24 @@ has-suc old (w ∷ ws) (suc k) d [] c low had here = absurd had
 has-suc old (w ∷ ws) (suc k) d (y ∷ cs) c low had here = (had.0, has-suc old ws k d cs c (omega (arith, low)) had.1 here)
 
 -- one more file was read
-pub has-more : (old here : FilesMeaning) (ws : List Wanted) (k : ℕ) (d : Wanted) (cs : List (List ℕ)) (c : List ℕ) → k < length ws → HasAll old (map seen_wanted (take k ws)) cs → here ≡ old → Has here (seen_wanted (get_or ws k d)) c → HasAll old (map seen_wanted (take (k + 1) ws)) (cs ++ c ∷ [])
+pub has-more :
+    (old here : FilesMeaning) (ws : List Wanted) (k : ℕ) (d : Wanted) (cs : List (List ℕ)) (c : List ℕ) → k < length ws
+    → HasAll old (map seen_wanted (take k ws)) cs → here ≡ old → Has here (seen_wanted (get_or ws k d)) c
+    → HasAll old (map seen_wanted (take (k + 1) ws)) (cs ++ c ∷ [])
 has-more old here ws k d cs c low had same read =
     rw add-one (has-suc old ws k d cs c low had (subst (λ h. Has h (seen_wanted (get_or ws k d)) c) same read))
 
 -- the files before one, that one, and those after it
-splits : (ws : List Wanted) (k : ℕ) (d : Wanted) → k < length ws → map seen_wanted ws ≡ map seen_wanted (take k ws) ++ seen_wanted (get_or ws k d) ∷ map seen_wanted (drop (suc k) ws)
+splits :
+    (ws : List Wanted) (k : ℕ) (d : Wanted) → k < length ws
+    → map seen_wanted ws ≡ map seen_wanted (take k ws) ++ seen_wanted (get_or ws k d) ∷ map seen_wanted (drop (suc k) ws)
 splits [] k d low = absurd (omega (arith, low))
 splits (w ∷ ws) zero d low = refl
 splits (w ∷ ws) (suc k) d low = ap (λ rest. seen_wanted w ∷ rest) (splits ws k d (omega (arith, low)))
 
-comes_to : (old : FilesMeaning) (ws : List Wanted) (k : ℕ) (d : Wanted) (cs : List (List ℕ)) (Here : Needed → Type 0) → k < length ws → HasAll old (map seen_wanted (take k ws)) cs → Here (seen_wanted (get_or ws k d)) → ComesTo old (map seen_wanted ws) Here
+comes_to :
+    (old : FilesMeaning) (ws : List Wanted) (k : ℕ) (d : Wanted) (cs : List (List ℕ)) (Here : Needed → Type 0) → k < length ws
+    → HasAll old (map seen_wanted (take k ws)) cs → Here (seen_wanted (get_or ws k d)) → ComesTo old (map seen_wanted ws) Here
 comes_to old ws k d cs Here low had here = record {
   before = map seen_wanted (take k ws);
   this = seen_wanted (get_or ws k d);
@@ -40,7 +50,10 @@ comes_to old ws k d cs Here low had here = record {
 }
 
 module _ (Z : Type 0) where
-  refuses : (old new : FilesMeaning) (ws : List Wanted) (k : ℕ) (d : Wanted) (cs : List (List ℕ)) (refusal : Refusal) → k < length ws → HasAll old (map seen_wanted (take k ws)) cs → FileAnswers {Z = Z} old new (seen_wanted (get_or ws k d)) (Err refusal) → FilesAnswer {Z = Z} old new (map seen_wanted ws) (Err refusal)
+  refuses :
+      (old new : FilesMeaning) (ws : List Wanted) (k : ℕ) (d : Wanted) (cs : List (List ℕ)) (refusal : Refusal) → k < length ws
+      → HasAll old (map seen_wanted (take k ws)) cs → FileAnswers {Z = Z} old new (seen_wanted (get_or ws k d)) (Err refusal)
+      → FilesAnswer {Z = Z} old new (map seen_wanted ws) (Err refusal)
   refuses old new ws k d cs Usage low had here = absurd here
   refuses old new ws k d cs (Unread name) low had here = comes_to old ws k d cs _ low had here
   refuses old new ws k d cs (TooLarge kind) low had here = comes_to old ws k d cs _ low had here
@@ -52,12 +65,18 @@ module _ (Z : Type 0) where
   refuses old new ws k d cs NoMemory low had here = tt
 
   -- a file was refused, behind others
-  pub refused : (old here new : FilesMeaning) (ws : List Wanted) (k : ℕ) (d : Wanted) (cs : List (List ℕ)) (refusal : Refusal) → here ≡ old → k < length ws → HasAll old (map seen_wanted (take k ws)) cs → FileAnswers {Z = Z} here new (seen_wanted (get_or ws k d)) (Err refusal) → FilesAnswer {Z = Z} old new (map seen_wanted ws) (Err refusal)
-  refused old here new ws k d cs refusal same low had answers = refuses old new ws k d cs refusal low had (subst (λ h. FileAnswers {Z = Z} h new (seen_wanted (get_or ws k d)) (Err refusal)) same answers)
+  pub refused :
+      (old here new : FilesMeaning) (ws : List Wanted) (k : ℕ) (d : Wanted) (cs : List (List ℕ)) (refusal : Refusal) → here ≡ old → k < length ws
+      → HasAll old (map seen_wanted (take k ws)) cs → FileAnswers {Z = Z} here new (seen_wanted (get_or ws k d)) (Err refusal)
+      → FilesAnswer {Z = Z} old new (map seen_wanted ws) (Err refusal)
+  refused old here new ws k d cs refusal same low had answers =
+      refuses old new ws k d cs refusal low had (subst (λ h. FileAnswers {Z = Z} h new (seen_wanted (get_or ws k d)) (Err refusal)) same answers)
 
 module _ {Z : Type 0} where
   -- one content more
-  pub pushed : (old new other : List (Vec ℕ Z)) (x : Vec ℕ Z) (ok : Bool) → ok ≡ true → new ≡ (if ok then old ++ x ∷ [] else other) → map (λ (bytes : Vec ℕ Z). bytes.items) new ≡ map (λ (bytes : Vec ℕ Z). bytes.items) old ++ x.items ∷ []
+  pub pushed :
+      (old new other : List (Vec ℕ Z)) (x : Vec ℕ Z) (ok : Bool) → ok ≡ true → new ≡ (if ok then old ++ x ∷ [] else other)
+      → map (λ (bytes : Vec ℕ Z). bytes.items) new ≡ map (λ (bytes : Vec ℕ Z). bytes.items) old ++ x.items ∷ []
   pushed old new other x ok is items = rw (items, is) (map-snoc old)
     where
       map-snoc : (xs : List (Vec ℕ Z)) → map (λ (bytes : Vec ℕ Z). bytes.items) (xs ++ x ∷ []) ≡ map (λ (bytes : Vec ℕ Z). bytes.items) xs ++ x.items ∷ []
@@ -79,7 +98,9 @@ module _ (old new : FilesMeaning) (n : Needed) (loaded : Loaded) (read : ReadsSt
       let fits : length file ≤ n.most = ltb-false n.most (length file) (sym start.more ∙ whole) in
       ap Some (sym (start.bytes ∙ take_all n.most file fits))
 
-  in_map : (told : Option FileMap) → IfSome told (λ files. IsSomeAnd (get files n.name) (λ file. IsStartOf file n.most loaded)) → IfSome told (λ files. get files n.name ≡ Some loaded.bytes.items)
+  in_map :
+      (told : Option FileMap) → IfSome told (λ files. IsSomeAnd (get files n.name) (λ file. IsStartOf file n.most loaded))
+      → IfSome told (λ files. get files n.name ≡ Some loaded.bytes.items)
   in_map None read = tt
   in_map (Some files) read = is_file (get files n.name) read
 

@@ -12,7 +12,9 @@ loop-preserved c =
     let x-is = c.next_random-x.ensures ∙ ap next_random c.loop.invariant.x ∙ sym (random-more c.args.number c.loop.counter) in
     record {
       x = x-is;
-      game = bytes-more c.args.number _ _ _ _ _ (omega (arith, c.opcode_by.type_inv)) c.loop.invariant.game x-is c.opcode_by.ensures (rw c.to_be_bytes.ensures at c.in_ok-extend_from_slice-2.ensures.items);
+      game =
+          bytes-more c.args.number _ _ _ _ _ (omega (arith, c.opcode_by.type_inv)) c.loop.invariant.game x-is c.opcode_by.ensures
+          (rw c.to_be_bytes.ensures at c.in_ok-extend_from_slice-2.ensures.items);
     }
 
 pub returns-clause-game : goal.returns-clause-game

@@ -6,7 +6,11 @@ use Rattle.vip_verbs.proofs.WorkLemmas.{text-whole, text-fails}
 use Rattle.vip_verbs.proofs.verb.bounds.Goals as goal
 
 pub returns-in_err-put : goal.returns-in_err-put
-returns-in_err-put g c = text-fails bounds [] c.as_slice.result.now (ap (λ text. Shown (text ∷ []) Done []) (c.as_slice.ensures.value ∙ c.bounds_text.ensures)) _ _ _ c.from_residual.ensures.1 c.in_err-put.ensures.answer
+returns-in_err-put g c =
+    let comes = ap (λ text. Shown (text ∷ []) Done []) (c.as_slice.ensures.value ∙ c.bounds_text.ensures) in
+    text-fails bounds [] c.as_slice.result.now comes _ _ _ c.from_residual.ensures.1 c.in_err-put.ensures.answer
 
 pub returns : goal.returns
-returns g c = text-whole bounds [] c.as_slice.result.now (ap (λ text. Shown (text ∷ []) Done []) (c.as_slice.ensures.value ∙ c.bounds_text.ensures)) _ _ c.in_ok-put.ensures.answer
+returns g c =
+    let comes = ap (λ text. Shown (text ∷ []) Done []) (c.as_slice.ensures.value ∙ c.bounds_text.ensures) in
+    text-whole bounds [] c.as_slice.result.now comes _ _ c.in_ok-put.ensures.answer

@@ -7,7 +7,11 @@ use Rattle.vip_verbs.proofs.WorkLemmas.{text-whole, text-fails}
 use Rattle.vip_verbs.proofs.verb.dis.Goals as goal
 
 pub returns-in_err-put : goal.returns-in_err-put
-returns-in_err-put g c = text-fails (dis (asked_dis c.args.wish.now)) (c.args.bytes.now ∷ []) c.as_slice.result.now (ap (λ text. Shown (text ∷ []) Done []) (c.as_slice.ensures.value ∙ c.in_ok-text.ensures.text)) _ _ _ c.from_residual-in_err-put.ensures.1 c.in_err-put.ensures.answer
+returns-in_err-put g c =
+    let comes = ap (λ text. Shown (text ∷ []) Done []) (c.as_slice.ensures.value ∙ c.in_ok-text.ensures.text) in
+    text-fails (dis (asked_dis c.args.wish.now)) (c.args.bytes.now ∷ []) c.as_slice.result.now comes _ _ _ c.from_residual-in_err-put.ensures.1 c.in_err-put.ensures.answer
 
 pub returns : goal.returns
-returns g c = text-whole (dis (asked_dis c.args.wish.now)) (c.args.bytes.now ∷ []) c.as_slice.result.now (ap (λ text. Shown (text ∷ []) Done []) (c.as_slice.ensures.value ∙ c.in_ok-text.ensures.text)) _ _ c.in_ok-put.ensures.answer
+returns g c =
+    let comes = ap (λ text. Shown (text ∷ []) Done []) (c.as_slice.ensures.value ∙ c.in_ok-text.ensures.text) in
+    text-whole (dis (asked_dis c.args.wish.now)) (c.args.bytes.now ∷ []) c.as_slice.result.now comes _ _ c.in_ok-put.ensures.answer
