@@ -111,7 +111,9 @@ module _ (e : Edition) where
         ∙ ending_point (is_stop i (at_state n)) (is_dispatch i (at_state n)) (at_state n) (past_of n ++ pictures_of n) es (runs n (omega arith))
 
     -- by those up to the first stop point, which names the last dispatch point before it
-    ending_there : (n : ℕ) → Runs i game script n → is_stop i (at_state n) ≡ true → ending_behind None (past_of (suc n)) ≡ stop_behind (last_dispatch (past_of (suc n))) (at_state n)
+    ending_there :
+        (n : ℕ) → Runs i game script n → is_stop i (at_state n) ≡ true
+        → ending_behind None (past_of (suc n)) ≡ stop_behind (last_dispatch (past_of (suc n))) (at_state n)
     unfolding past
     ending_there n runs stop =
         ap (ending_behind None) (append_assoc (past_of n) (pictures_of n) (point_of_state n))
@@ -154,7 +156,9 @@ module _ (e : Edition) where
         beyond : Comes t (suc n) → ⊥
         beyond next = omega (arith, all-moves i game script t (suc n) next.within next.runs, some-here i game script t (suc n) next.within)
 
-        by_test : (stop : Bool) → is_stop i (at_state n) ≡ stop → (t < (at_state (suc n)).cycle) ⊎ ((at_state (suc n)).cycle ≤ t) → events_to v t ≡ past_of (suc n)
+        by_test :
+            (stop : Bool) → is_stop i (at_state n) ≡ stop → (t < (at_state (suc n)).cycle) ⊎ ((at_state (suc n)).cycle ≤ t)
+            → events_to v t ≡ past_of (suc n)
         by_test true stop far = events-stop i game script t n r.within stop r.runs
         by_test false runs (inl over) = events-last i game script t n r.within over r.runs
         by_test false runs (inr within) = absurd (beyond (reached-next i game script t n r runs within))
@@ -219,6 +223,8 @@ module _ (e : Edition) where
           n : ℕ
           n = (place_after v limit commands at_start).moves
 
-          by_test : (stop : Bool) → is_stop i (at_state n) ≡ stop → ((if stop then stopped_by (stop_by v n) else AtLimit) ≡ AtLimit) ⊎ ((if stop then stopped_by (stop_by v n) else AtLimit) ≡ run_ending e game limit script)
+          by_test :
+              (stop : Bool) → is_stop i (at_state n) ≡ stop
+              → ((if stop then stopped_by (stop_by v n) else AtLimit) ≡ AtLimit) ⊎ ((if stop then stopped_by (stop_by v n) else AtLimit) ≡ run_ending e game limit script)
           by_test true is = inr (stop_is n (after_all commands at_start (lower limit (moves_until v limit) 0 (omega arith) (last_until limit))) is)
           by_test false is = inl refl

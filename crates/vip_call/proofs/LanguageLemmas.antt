@@ -65,7 +65,9 @@ is_program Tall = refl
 -- ---- when the next point comes
 
 module _ (Soon : ℕ → Type 0) where
-  comes_soon : (events : List Event) (p : Event) → slice_get (filter is_point events) 0 ≡ Some p → Soon (cycle_of p) → IsSomeAnd (next_point events) (λ c. Soon c.cycle)
+  comes_soon :
+      (events : List Event) (p : Event) → slice_get (filter is_point events) 0 ≡ Some p → Soon (cycle_of p)
+      → IsSomeAnd (next_point events) (λ c. Soon c.cycle)
   comes_soon [] p is soon = absurd (cc)
   comes_soon (Picture m ∷ events) p is soon = comes_soon events p is soon
   comes_soon (Dispatch b ∷ events) p is soon = let same : Dispatch b ≡ p = cc in subst (λ q. Soon (cycle_of q)) (sym same) soon
@@ -75,7 +77,9 @@ module _ (Soon : ℕ → Type 0) where
   NextComes : Machine → List Event → Type 0
   NextComes b points = (k : ℕ) → slice_get points k ≡ Some (Dispatch b) → (p : Event) × (slice_get points (suc k) ≡ Some p) × Soon (cycle_of p)
 
-  comes_behind : (before after : List Event) (b : Machine) → NextComes b (filter is_point (before ++ Dispatch b ∷ after)) → IsSomeAnd (next_point after) (λ c. Soon c.cycle)
+  comes_behind :
+      (before after : List Event) (b : Machine) → NextComes b (filter is_point (before ++ Dispatch b ∷ after))
+      → IsSomeAnd (next_point after) (λ c. Soon c.cycle)
   unfolding NextComes
   comes_behind [] after b next = let found = next 0 refl in comes_soon after found.0 found.1 found.2
   comes_behind (Picture m ∷ before) after b next = comes_behind before after b next
@@ -125,7 +129,9 @@ module _ (e : Edition) where
   AllNext script points =
       (k : ℕ) (b : Machine) (p : Event) → slice_get points k ≡ Some (Dispatch b) → slice_get points (suc k) ≡ Some p → IsNext (program e) script b p
 
-  goes_on : (states : List Machine) (script : List KeyEvent) (b : Machine) (events : List Event) → AllNext script (Dispatch b ∷ filter is_point events) → ShowsBehind (program e) states b events
+  goes_on :
+      (states : List Machine) (script : List KeyEvent) (b : Machine) (events : List Event) → AllNext script (Dispatch b ∷ filter is_point events)
+      → ShowsBehind (program e) states b events
       → GoesOn e states script b events (ending_after e (view_at e b).pc (view_at e b).opcode events)
   unfolding ending_after
   goes_on states script b [] next shown = refl
@@ -137,7 +143,9 @@ module _ (e : Edition) where
   abbrev FirstIs : List ℕ → List Event → Type 0
   FirstIs game points = (p : Event) → slice_get points 0 ≡ Some p → IsFirst (program e) game p
 
-  goes : (states : List Machine) (game : List ℕ) (script : List KeyEvent) (events : List Event) → FirstIs game (filter is_point events) → AllNext script (filter is_point events) → ShowsAll (program e) states events
+  goes :
+      (states : List Machine) (game : List ℕ) (script : List KeyEvent) (events : List Event) → FirstIs game (filter is_point events)
+      → AllNext script (filter is_point events) → ShowsAll (program e) states events
       → Goes e states game script events (ending_of e events)
   unfolding ending_after
   goes states game script [] here next shown = refl
@@ -150,17 +158,25 @@ module _ (e : Edition) where
 
   -- ---- a run
 
-  module _ (game : List ℕ) (script : List KeyEvent) (limit : ℕ) (run : LanguageRun (program e) game script limit) (keys : KeyRun (program e) key_cycles game script limit) (pictures : PictureRun (program e) game script limit) where
-    in_bound : (b : Machine) (bound : ℕ) → bound_of e (state_of e b) ≡ Some bound → b.cycle + bound ≤ limit → NextComes (λ t. t ≤ b.cycle + bound) b (filter is_point (events_in e game script limit))
+  module _
+      (game : List ℕ) (script : List KeyEvent) (limit : ℕ) (run : LanguageRun (program e) game script limit)
+      (keys : KeyRun (program e) key_cycles game script limit) (pictures : PictureRun (program e) game script limit) where
+    in_bound :
+        (b : Machine) (bound : ℕ) → bound_of e (state_of e b) ≡ Some bound → b.cycle + bound ≤ limit
+        → NextComes (λ t. t ≤ b.cycle + bound) b (filter is_point (events_in e game script limit))
     unfolding NextComes
     in_bound b bound is room k at = let found = run.bound k b bound at is room in (found.0, rw add-one at found.1, found.2)
 
-    in_press : (b : Machine) (u w : ℕ) → bound_of e (state_of e b) ≡ None → b.cycle ≤ u → Pressed script key_cycles u w → w + key_cycles ≤ limit → NextComes (λ t. t < w + key_cycles) b (filter is_point (events_in e game script limit))
+    in_press :
+        (b : Machine) (u w : ℕ) → bound_of e (state_of e b) ≡ None → b.cycle ≤ u → Pressed script key_cycles u w → w + key_cycles ≤ limit
+        → NextComes (λ t. t < w + key_cycles) b (filter is_point (events_in e game script limit))
     unfolding NextComes
     in_press b u w none from pressed room k at = let found = keys k b u w at (waits (state_of e b) none) from pressed room in (Dispatch found.0, rw add-one at found.1, found.2)
 
     -- among these events
-    among : (Soon : ℕ → Type 0) (before after : List Event) (b : Machine) → events_in e game script limit ≡ before ++ Dispatch b ∷ after → NextComes Soon b (filter is_point (events_in e game script limit)) → IsSomeAnd (next_point after) (λ c. Soon c.cycle)
+    among :
+        (Soon : ℕ → Type 0) (before after : List Event) (b : Machine) → events_in e game script limit ≡ before ++ Dispatch b ∷ after
+        → NextComes Soon b (filter is_point (events_in e game script limit)) → IsSomeAnd (next_point after) (λ c. Soon c.cycle)
     among Soon before after b at next = comes_behind Soon before after b (subst (λ events. NextComes Soon b (filter is_point events)) at next)
 
     by_law : IsChip8 e game script limit (ending_of e (events_in e game script limit))
@@ -172,7 +188,9 @@ module _ (e : Edition) where
     }
 
 module _ (law : EveryRun) (keys : EveryKeyWait) (pictures : EveryPicture) where
-  is_chip8 : (e : Edition) (game : List ℕ) (script : List KeyEvent) (limit : ℕ) → length game ≤ memory_size e → ((i : ℕ) → slice_index game i < 256) → IsChip8 e game script limit (ending_of e (events_in e game script limit))
+  is_chip8 :
+      (e : Edition) (game : List ℕ) (script : List KeyEvent) (limit : ℕ) → length game ≤ memory_size e → ((i : ℕ) → slice_index game i < 256)
+      → IsChip8 e game script limit (ending_of e (events_in e game script limit))
   is_chip8 e game script limit fits bytes =
       by_law e game script limit
       (subst (λ x. LanguageRun x game script limit) (is_program e) (law e game fits bytes script limit))
@@ -191,7 +209,9 @@ module _ (law : EveryRun) (keys : EveryKeyWait) (pictures : EveryPicture) where
   OfDebug e game scripts limit (Refused status report) = Unit {0}
   OfDebug e game scripts limit (Shown pieces status report) = DebugsChip8 e game scripts limit status report
 
-  module _ (e : Edition) (game : List ℕ) (fits : length game ≤ memory_size e) (bytes : (i : ℕ) → slice_index game i < 256) (limit : ℕ) (scripts : List (List ℕ)) (pieces : List KeyEvent → List (List ℕ)) where
+  module _
+      (e : Edition) (game : List ℕ) (fits : length game ≤ memory_size e) (bytes : (i : ℕ) → slice_index game i < 256) (limit : ℕ)
+      (scripts : List (List ℕ)) (pieces : List KeyEvent → List (List ℕ)) where
     run_shows : (o : Outcome) → RunComes e limit scripts pieces (run_ending e game limit) o → OfRun e game scripts limit o
     unfolding OfRun
     run_shows _ (FaultyScript line cause is) = tt
@@ -205,7 +225,9 @@ module _ (law : EveryRun) (keys : EveryKeyWait) (pictures : EveryPicture) where
       report_is = refl;
     }
 
-    debug_shows : (commands : List Command) (o : Outcome) → RunComes e limit scripts pieces (λ script. debug_ending (started e game script) limit commands) o → OfDebug e game scripts limit o
+    debug_shows :
+        (commands : List Command) (o : Outcome) → RunComes e limit scripts pieces (λ script. debug_ending (started e game script) limit commands) o
+        → OfDebug e game scripts limit o
     unfolding OfDebug
     debug_shows commands _ (FaultyScript line cause is) = tt
     debug_shows commands _ (FaultyRom script fault is fault_is rom) = tt
@@ -219,14 +241,18 @@ module _ (law : EveryRun) (keys : EveryKeyWait) (pictures : EveryPicture) where
       report_is = refl;
     }
 
-  module _ (e : Edition) (game : List ℕ) (fits : length game ≤ memory_size e) (bytes : (i : ℕ) → slice_index game i < 256) (limit : ℕ) (scripts : List (List ℕ)) where
+  module _
+      (e : Edition) (game : List ℕ) (fits : length game ≤ memory_size e) (bytes : (i : ℕ) → slice_index game i < 256) (limit : ℕ)
+      (scripts : List (List ℕ)) where
     debug_read : (read : Result (List Command) CommandFault) (o : Outcome) → DebugComes e game limit scripts read o → OfDebug e game scripts limit o
     unfolding OfDebug
     debug_read (Ok commands) o comes = debug_shows e game fits bytes limit scripts _ commands o comes
     debug_read (Err (Fault line cause)) o comes = rw comes tt
     debug_read (Err NoMemory) o comes = absurd comes
 
-  shows : (old : FilesMeaning) (asked : Asked) (contents pieces : List (List ℕ)) (status : Status) (report : List ℕ) → HasAll old (needed asked) contents → Comes asked contents (Shown pieces status report) → ShowsChip8 asked contents status report
+  shows :
+      (old : FilesMeaning) (asked : Asked) (contents pieces : List (List ℕ)) (status : Status) (report : List ℕ) → HasAll old (needed asked) contents
+      → Comes asked contents (Shown pieces status report) → ShowsChip8 asked contents status report
   unfolding OfRun OfDebug
   shows old (trace a) [] pieces status report read comes = tt
   shows old (trace a) (game ∷ scripts) pieces status report read comes =

@@ -102,7 +102,9 @@ module _ (source : List ℕ) (IsText : Made → List ℕ → Type 0) where
 alone_agree : (q o p : Outcome) → Agree q q → o ≡ q → p ≡ q → Agree o p
 alone_agree q o p same a b = rw (a, b) same
 
-debugs_agree : (d : Edition) (game : List ℕ) (limit : ℕ) (scripts : List (List ℕ)) (read : Result (List Command) CommandFault) (o p : Outcome) → DebugComes d game limit scripts read o → DebugComes d game limit scripts read p → Agree o p
+debugs_agree :
+    (d : Edition) (game : List ℕ) (limit : ℕ) (scripts : List (List ℕ)) (read : Result (List Command) CommandFault) (o p : Outcome)
+    → DebugComes d game limit scripts read o → DebugComes d game limit scripts read p → Agree o p
 debugs_agree d game limit scripts (Ok commands) o p x y = runs_agree d limit scripts _ _ o p x y
 debugs_agree d game limit scripts (Err (debug_fault.Fault line cause)) o p x y = alone_agree _ o p refl x y
 debugs_agree d game limit scripts (Err debug_fault.NoMemory) o p x y = absurd x
@@ -143,7 +145,9 @@ module _ (old : FilesMeaning) (files : FileMap) (told : old.told ≡ Some files)
       rw (found, le-ltb n.most (length c) h.0.fits, reads ns cs h.1) refl
 
   -- a refusal behind them
-  behind : (r : Reading) → ((content : List ℕ) → with_content content r ≡ r) → (before : List Needed) (cs : List (List ℕ)) (rest : List Needed) → HasAll old before cs → reading files rest ≡ r → reading files (before ++ rest) ≡ r
+  behind :
+      (r : Reading) → ((content : List ℕ) → with_content content r ≡ r) → (before : List Needed) (cs : List (List ℕ)) (rest : List Needed)
+      → HasAll old before cs → reading files rest ≡ r → reading files (before ++ rest) ≡ r
   behind r stays [] [] rest h e = e
   behind r stays [] (c ∷ cs) rest h e = absurd h
   behind r stays (n ∷ ns) [] rest h e = absurd h
@@ -201,7 +205,9 @@ module _ (call : Call) (asked : Asked) (files : FileMap) (offers : Offers call a
   comes_here mine contents o asks comes = subst (λ a. Comes a contents o) (same mine asks.words) comes
 
   -- what was refused at a file
-  refused_at : (Here : Needed → Type 0) (r : Reading) → ((content : List ℕ) → with_content content r ≡ r) → (mine : Asked) → asked_by call.words ≡ Some mine → (at : ComesTo call.files (needed mine) Here) → reading files (at.this ∷ at.after) ≡ r → reading files (needed asked) ≡ r
+  refused_at :
+      (Here : Needed → Type 0) (r : Reading) → ((content : List ℕ) → with_content content r ≡ r) → (mine : Asked) → asked_by call.words ≡ Some mine
+      → (at : ComesTo call.files (needed mine) Here) → reading files (at.this ∷ at.after) ≡ r → reading files (needed asked) ≡ r
   refused_at Here r stays mine words at e =
       subst (λ a. reading files (needed a) ≡ r) (same mine words)
       (rw at.place (behind call.files files offers.told r stays at.before at.contents (at.this ∷ at.after) at.read e))
@@ -229,7 +235,9 @@ module _ (call : Call) (asked : Asked) (files : FileMap) (offers : Offers call a
   due_refused status report (Refused s r) e = e
   due_refused status report (Shown p s r) e = absurd e
 
-  due_shown : (pieces : List (List ℕ)) (status : Status) (report : List ℕ) (o : Outcome) → IsQuiet call.out.faults call.out'.faults → IsQuiet call.err.faults call.err'.faults → Agree (Shown pieces status report) o → DueBy o status
+  due_shown :
+      (pieces : List (List ℕ)) (status : Status) (report : List ℕ) (o : Outcome) → IsQuiet call.out.faults call.out'.faults
+      → IsQuiet call.err.faults call.err'.faults → Agree (Shown pieces status report) o → DueBy o status
   unfolding DueBy
   due_shown pieces status report (Refused s r) out err e = absurd e
   due_shown pieces status report (Shown p s r) out err e = (e, out, err)
@@ -258,7 +266,9 @@ module _ (call : Call) (asked : Asked) (files : FileMap) (offers : Offers call a
     faulty_due : Faulty call → ⊥
     unfolding DueBy
     faulty_due says =
-        let calm = due_whole _ due given says.contents (Shown says.pieces says.status says.report) (whole says.asked says.contents says.asks) (comes_here says.asked says.contents _ says.asks says.comes) in
+        let calm =
+        due_whole _ due given says.contents (Shown says.pieces says.status says.report) (whole says.asked says.contents says.asks)
+        (comes_here says.asked says.contents _ says.asks says.comes) in
         elim says.fault [
           | inl fails ↦ quiet _ _ fails.out.faults calm.1
           | inr fails ↦ quiet _ _ fails.err.faults calm.2
@@ -276,7 +286,9 @@ module _ (call : Call) (asked : Asked) (files : FileMap) (offers : Offers call a
   larger_here status says =
       refused_at _ (Larger says.at.this.kind) (λ content. refl) says.asked says.words says.at (larger call.files files offers.told says.at.this says.at.after says.at.here.0)
 
-  oversize_due : (due : Status) → Due call asked (reading files (needed asked)) due → (status : Status) → Oversize status call → (status ≡ due) ⊎ (status ≡ NoMemory)
+  oversize_due :
+      (due : Status) → Due call asked (reading files (needed asked)) due → (status : Status) → Oversize status call
+      → (status ≡ due) ⊎ (status ≡ NoMemory)
   oversize_due due given status says = inl (says.at.here.1 ∙ sym (due_larger _ due given says.at.this.kind (larger_here status says)))
 
   due_is : (status : Status) → Says status call → (due : Status) → Due call asked (reading files (needed asked)) due → (status ≡ due) ⊎ (status ≡ NoMemory)
@@ -306,7 +318,9 @@ module _ (call : Call) (asked : Asked) (files : FileMap) (offers : Offers call a
     not_larger : (status : Status) → Oversize status call → ⊥
     not_larger status says = let large = larger_here status says in cc
 
-    ends : (status : Status) → Says status call → IsQuiet call.out.faults call.out'.faults → IsQuiet call.err.faults call.err'.faults → (status ≡ Done) ⊎ (status ≡ Stopped) ⊎ (status ≡ NoMemory)
+    ends :
+        (status : Status) → Says status call → IsQuiet call.out.faults call.out'.faults → IsQuiet call.err.faults call.err'.faults
+        → (status ≡ Done) ⊎ (status ≡ Stopped) ⊎ (status ≡ NoMemory)
     ends Done says out err = inl refl
     ends Stopped says out err = inr (inl refl)
     ends Usage says out err = absurd (nothing_asked call.words asked offers.words says.words)
@@ -336,7 +350,9 @@ completes status call says asked files contents offers there accepted out err = 
 -- ---- what the steps of a call say together
 
 -- the report, whether it went out whole or not
-reported : (report : List ℕ) (err err' : SinkMeaning) (r : Result (Unit {0}) Failed) → GainAnswers report err err' r → Gains report err err' ⊎ GainsPart report err err'
+reported :
+    (report : List ℕ) (err err' : SinkMeaning) (r : Result (Unit {0}) Failed) → GainAnswers report err err' r
+    → Gains report err err' ⊎ GainsPart report err err'
 reported report err err' (Ok done) gains = inl gains
 reported report err err' (Err e) part = inr part
 
@@ -353,7 +369,9 @@ there_too old ns Here There at that = record {
 }
 
 module _ (words : List (List ℕ)) (files files' : FilesMeaning) (out out' err err' : SinkMeaning) where
-  rejected : (r : Refusal) → OfWords words files (λ asked contents. Rejected asked contents out out' r) → Gains (report_of r) err err' ⊎ GainsPart (report_of r) err err' → Rejects (status_of r) (call_of words files files' out out' err err')
+  rejected :
+      (r : Refusal) → OfWords words files (λ asked contents. Rejected asked contents out out' r)
+      → Gains (report_of r) err err' ⊎ GainsPart (report_of r) err err' → Rejects (status_of r) (call_of words files files' out out' err err')
   rejected r given report = record {
     asked = given.asked;
     contents = given.contents;
@@ -363,17 +381,28 @@ module _ (words : List (List ℕ)) (files files' : FilesMeaning) (out out' err e
     refused = record { out = given.here.out; err = report };
   }
 
-  oversize : (k : Kind) → WordsAnswer words files files' out out' (Err (refusal.TooLarge k)) → Gains (too_large_report k) err err' ⊎ GainsPart (too_large_report k) err err' → Oversize (too_large_status k) (call_of words files files' out out' err err')
+  oversize :
+      (k : Kind) → WordsAnswer words files files' out out' (Err (refusal.TooLarge k))
+      → Gains (too_large_report k) err err' ⊎ GainsPart (too_large_report k) err err'
+      → Oversize (too_large_status k) (call_of words files files' out out' err err')
   oversize k given report = record {
     asked = given.asked;
     words = given.words_are;
     at =
-        there_too files (needed given.asked) _ _ given.at
-        (given.at.here.1, ap too_large_status given.at.here.0, record { out = given.out; err = subst (λ j. Gains (too_large_report j) err err' ⊎ GainsPart (too_large_report j) err err') given.at.here.0 report });
+        there_too files (needed given.asked) _ _ given.at (
+          given.at.here.1,
+          ap too_large_status given.at.here.0,
+          record {
+            out = given.out;
+            err = subst (λ j. Gains (too_large_report j) err err' ⊎ GainsPart (too_large_report j) err err') given.at.here.0 report;
+          },
+        );
   }
 
   -- a refusal, or a fault of the output
-  refused_with : (r : Refusal) → WordsAnswer words files files' out out' (Err r) → Gains (report_of r) err err' ⊎ GainsPart (report_of r) err err' → Says (status_of r) (call_of words files files' out out' err err')
+  refused_with :
+      (r : Refusal) → WordsAnswer words files files' out out' (Err r) → Gains (report_of r) err err' ⊎ GainsPart (report_of r) err err'
+      → Says (status_of r) (call_of words files files' out out' err err')
   refused_with refusal.Usage given report = record { words = given.0; refused = record { out = given.1; err = report } }
   refused_with (refusal.Unread name) given report = record {
     asked = given.asked;
@@ -405,5 +434,7 @@ module _ (words : List (List ℕ)) (files files' : FilesMeaning) (out out' err e
   }
   refused_with refusal.NoMemory given report = record { out = given; err = report }
 
-  pub says_refusal : (r : Refusal) (answer : Result (Unit {0}) Failed) → WordsAnswer words files files' out out' (Err r) → GainAnswers (report_of r) err err' answer → Says (status_of r) (call_of words files files' out out' err err')
+  pub says_refusal :
+      (r : Refusal) (answer : Result (Unit {0}) Failed) → WordsAnswer words files files' out out' (Err r) → GainAnswers (report_of r) err err' answer
+      → Says (status_of r) (call_of words files files' out out' err err')
   says_refusal r answer given gains = refused_with r given (reported _ err err' answer gains)

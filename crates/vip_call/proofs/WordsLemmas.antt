@@ -117,7 +117,9 @@ given-low : (v : Verb) (o : Option Given) (asked : Asked) → option_and_then (a
 given-low v None asked h = absurd (cc)
 given-low v (Some given) asked h = verb-low v given asked h
 
-row-low : (o : Option Row) (given : Row → Option Given) (asked : Asked) → option_and_then (λ row. option_and_then (asked_of_verb row.verb) (given row)) o ≡ Some asked → IsLow asked
+row-low :
+    (o : Option Row) (given : Row → Option Given) (asked : Asked)
+    → option_and_then (λ row. option_and_then (asked_of_verb row.verb) (given row)) o ≡ Some asked → IsLow asked
 row-low None given asked h = absurd (cc)
 row-low (Some row) given asked h = given-low row.verb (given row) asked h
 
