@@ -7,7 +7,7 @@ use Rattle.clap.specs.Kinds.{Kinds, check_kinds, or_else}
 use Rattle.clap.specs.Simple.{Shape, built, filled, with_index}
 use Rattle.clap.specs.Takes.{is_given}
 use Rattle.clap.specs.Walk.{Held, Row, Rule, Text, Waiting, Walk, arg_by_id, arg_by_index, idle, is_pending, option, settled_rows, used, walked}
-use Rattle.vip_words.specs.Command.{command_app, keys_rule, flag_rule, place_rule, place_names}
+use Rattle.vip_words.specs.Command.{command_app, flag_rule, place_rule, place_names}
 use Rattle.vip_words.proofs.Rows.{is_quiet}
 
 -- the options that take no word
