@@ -21,7 +21,13 @@ impl Answer {
 
     /// How many records the output has.
     pub fn records(&self) -> u64 {
-        self.lines().filter(|line| is_record(line)).count() as u64
+        let mut count = 0u64;
+        for line in self.lines() {
+            if is_record(line) {
+                count = count.saturating_add(1);
+            }
+        }
+        count
     }
 
     /// The last record of the output.
@@ -31,7 +37,13 @@ impl Answer {
 
     /// The number of rows of the screen behind the records.
     pub fn rows(&self) -> usize {
-        self.lines().filter(|line| !is_record(line)).count()
+        let mut count = 0usize;
+        for line in self.lines() {
+            if !is_record(line) {
+                count = count.saturating_add(1);
+            }
+        }
+        count
     }
 }
 
