@@ -76,11 +76,12 @@ fn write_missed(rt: &HostRuntime, missed: &str, answer: &Answer) -> anyhow::Resu
     if let Some(record) = answer.last_record() {
         println!(rt; "  came: last {}", record.escape_ascii())?;
     }
-    let rows = answer.lines().filter(|line| !is_record(line));
-    for (y, row) in rows.enumerate() {
+    let mut y = 0usize;
+    for row in answer.lines().filter(|line| !is_record(line)) {
         if row.contains(&b'#') {
             println!(rt; "  came: row {y} {}", row.escape_ascii())?;
         }
+        y = y.saturating_add(1);
     }
     Ok(())
 }
