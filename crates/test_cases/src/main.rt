@@ -112,7 +112,7 @@ fn write_demo_game(rt: &HostRuntime) -> anyhow::Result<()> {
 
 fn main(rt: HostRuntime) -> anyhow::Result<()> {
     let text = fs::read_to_string(&rt, "cases.txt")?;
-    let mut group = "";
+    let mut group = String::new(rt.alloc());
     let mut count = Count::NONE;
     let mut case: Option<Case> = None;
     for line in text.lines() {
@@ -126,8 +126,8 @@ fn main(rt: HostRuntime) -> anyhow::Result<()> {
             judge(&rt, &case, &mut count)?;
         }
         if word == "group" {
-            end_group(&rt, group, &mut count)?;
-            group = rest;
+            end_group(&rt, group.as_str(), &mut count)?;
+            group = String::from_str(rt.alloc(), rest)?;
         } else if begins {
             case = Some(Case::new(rt.alloc(), rest)?);
         } else {
@@ -138,6 +138,6 @@ fn main(rt: HostRuntime) -> anyhow::Result<()> {
     if let Some(case) = case.take() {
         judge(&rt, &case, &mut count)?;
     }
-    end_group(&rt, group, &mut count)?;
+    end_group(&rt, group.as_str(), &mut count)?;
     write_demo_game(&rt)
 }
