@@ -13,6 +13,15 @@ use Rattle.rom_law.specs.Rows.{Since, Stepped, after_tick}
 use Rattle.rom_law.specs.Runs.{carried, carried_by, Covers}
 use Rattle.rom_law.proofs.Language.{between_more}
 
+-- with interrupts disabled there is no interrupt
+not_taken : (d i w : Bool) → (if d then Dma else if false && i then Interrupt else if w then Idle else Instruction) ≡ Interrupt → ⊥
+not_taken true i w e = cc
+not_taken false i true e = cc
+not_taken false i false e = cc
+
+pub disabled_apart : (b : Machine) → b.regs.ie ≡ false → case_of b ≡ Interrupt → ⊥
+disabled_apart b off e = not_taken (dma_at b.cycle b.on) (int_at b.cycle b.on) b.regs.idle (subst (λ t. (if dma_at b.cycle b.on then Dma else if t && int_at b.cycle b.on then Interrupt else if b.regs.idle then Idle else Instruction) ≡ Interrupt) off e)
+
 module _ (rom : List ℕ) (held : ℕ → Keys) (b : Machine) (h : Since) where
   -- a main move more
   abbrev pub main_more : ℕ → Since
@@ -54,12 +63,7 @@ module _ (rom : List ℕ) (held : ℕ → Keys) (b : Machine) (h : Since) where
   pub carried_idle : case_of b ≡ Idle → carried rom held b h ≡ h
   carried_idle is = ap (λ k. carried_by k rom held b h) is
 
-  -- with interrupts disabled there is no interrupt, and nothing is added
-  not_interrupted : (d i w : Bool) → (if d then Dma else if false && i then Interrupt else if w then Idle else Instruction) ≡ Interrupt → ⊥
-  not_interrupted true i w e = cc
-  not_interrupted false i true e = cc
-  not_interrupted false i false e = cc
-
+  -- with interrupts disabled nothing is added
   disabled_by : b.regs.ie ≡ false → (k : Case) → (k ≡ Interrupt → ⊥) → carried_by k rom held b h ≡ h
   disabled_by off Dma d = refl
   disabled_by off Interrupt d = absurd (d refl)
@@ -67,8 +71,7 @@ module _ (rom : List ℕ) (held : ℕ → Keys) (b : Machine) (h : Since) where
   disabled_by off Instruction d = ap by_enabled off
 
   pub carried_disabled : b.regs.ie ≡ false → carried rom held b h ≡ h
-  carried_disabled off =
-      disabled_by off (case_of b) (λ e. not_interrupted (dma_at b.cycle b.on) (int_at b.cycle b.on) b.regs.idle (subst (λ t. (if dma_at b.cycle b.on then Dma else if t && int_at b.cycle b.on then Interrupt else if b.regs.idle then Idle else Instruction) ≡ Interrupt) off e))
+  carried_disabled off = disabled_by off (case_of b) (disabled_apart b off)
 
 -- a step with the record's ticks and keys is one with those of the interval that it covers
 pub covers_between : (x : Program) (script : List KeyEvent) (c : Machine) (h : Since) (s : Lang) → Covers x script c h → Stepped x c h s → Between x.edition h.state (x.ticks_between h.from c.cycle) (keys_between script h.from c.cycle) s

@@ -3,7 +3,7 @@ use Rattle.std.proofs.Common.{Option, Some, slice_index, ◌≡◌, ℕ, zero, s
 use Rattle.std.proofs.lemmas.Bool.{cases_eq}
 use Rattle.machine.specs.Bank.{value}
 use Rattle.machine.specs.Opcodes.{cycles_of}
-use Rattle.machine.specs.Instruction.{at}
+use Rattle.machine.specs.Instruction.{Inputs, at, stepped, executed}
 use Rattle.machine.specs.Board.{Machine, opcode_of}
 use Rattle.machine.specs.Keys.{Keys}
 use Rattle.machine.specs.Schedule.{Tick}
@@ -13,7 +13,7 @@ use Rattle.chip8_lang.specs.Ticks.{ticks}
 use Rattle.chip8_lang.specs.Between.{Between}
 use Rattle.rom_moves.specs.Code.{Code, Input, moved, run, is_event}
 use Rattle.rom_moves.specs.Later.{After}
-use Rattle.rom_moves.proofs.Moves.{AllGood, Calm, Fine, quicks, Reaches, reaches_good, reaches_run, reaches_quicks, quicks_are, quicks_idle, quicks_clear, quicks_full, quicks_on, quicks_enabled, quicks_entry, quicks_above, after_quick, after_counter, after_cycles}
+use Rattle.rom_moves.proofs.Moves.{AllGood, Below, Calm, Fine, opcode_in, rom_inputs, quicks, Reaches, reaches_good, reaches_run, reaches_quicks, quicks_are, quicks_idle, quicks_clear, quicks_full, quicks_on, quicks_enabled, quicks_entry, quicks_above, after_quick, after_counter, after_cycles}
 use Rattle.machine.proofs.Fits.{main-fits}
 use Rattle.rom_moves.proofs.Ranges.{tick_fits}
 use Rattle.rom_moves.proofs.Ticks.{after_none}
@@ -26,6 +26,7 @@ use Rattle.rom_law.specs.Rows.Starts.{Enters, Meets}
 use Rattle.rom_law.specs.Rows.Outcome.{Still, Dispatched, Halted}
 use Rattle.rom_law.proofs.Language.{ticks_add, between_ticks}
 use Rattle.rom_law.proofs.Later.{dispatches_after, halts_after}
+use Rattle.rom_law.proofs.Writes.{writes_below}
 
 -- ---- the first of several moves
 
@@ -44,6 +45,10 @@ module _ (x : Code) (top : Option ℕ) where
 
   pub at_move : (k m : ℕ) (b : Machine) → k < m → AllGood x top m b → Fine x (quicks x k b)
   at_move k m b l g = (prefix (suc k) m b l g).1.0
+
+  -- what it writes lies below the top
+  below_move : (k m : ℕ) (b : Machine) → k < m → AllGood x top m b → Below top (executed (opcode_in x (quicks x k b)) (stepped (quicks x k b).regs (quicks x k b).regs.p) (rom_inputs x (quicks x k b) (λ f. false))).write
+  below_move k m b l g = (prefix (suc k) m b l g).2
 
   -- no event between
   calm_in : (k m : ℕ) (b : Machine) → suc k < m → AllGood x top m b → Calm x (quicks x (suc k) b)
@@ -215,6 +220,13 @@ module _ (x : Program) (t : Pieces) (sound : Sound x t) where
     -- the opcode is that of a two-cycle instruction
     block_cycles : cycles_of (opcode_of x.interpreter.rom b) ≡ 2
     block_cycles = after_cycles (code x) r.n (quicks (code x) r.k r.start) b fine later
+
+    -- where its instruction writes, that lies below the top
+    pub block_writes : (top : ℕ) → t.top ≡ Some top → (j : Inputs) (w : ℕ × ℕ) → (executed (opcode_of x.interpreter.rom b) (stepped b.regs b.regs.p) j).write ≡ Some w → w.0 < top
+    block_writes top is =
+        writes_below (code x) r.n (quicks (code x) r.k r.start) b fine later top
+        (subst (λ y. Below y (executed (opcode_in (code x) (quicks (code x) r.k r.start)) (stepped (quicks (code x) r.k r.start).regs (quicks (code x) r.k r.start).regs.p) (rom_inputs (code x) (quicks (code x) r.k r.start) (λ f. false))).write) is
+        (below_move (code x) t.top r.k (t.moves l r.since) r.start r.inside good))
 
     -- the address at the program counter
     pub block_at : at b.regs b.regs.p ≡ at (quicks (code x) r.k r.start).regs (quicks (code x) r.k r.start).regs.p

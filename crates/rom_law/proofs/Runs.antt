@@ -1,12 +1,11 @@
--- The law of a run holds where each move of the board comes to what it should, and boot comes to a first dispatch.
-use Rattle.std.proofs.Common.{◌≡◌, ℕ, zero, suc, ◌+◌, ◌-◌, ◌<◌, ◌≤◌, ◌⊎◌, inl, inr, refl, sym, ◌∙◌, ap, subst, subst₂, arith, add-one, le_refl, true, false, List, [], ◌∷◌, ◌++◌, filter, map}
-use Rattle.std.specs.Prelude.{Some, slice_get}
+-- The law of a run holds where each move of the board comes to what it should, in time and with its pictures, and boot comes to a first dispatch.
+use Rattle.std.proofs.Common.{◌≡◌, ℕ, zero, suc, ◌+◌, ◌-◌, ◌<◌, ◌≤◌, ◌⊎◌, inl, inr, refl, sym, ◌∙◌, ap, subst, subst₂, arith, Bool, true, false, cond, List, [], ◌∷◌, ◌++◌, filter, map}
 use Rattle.std.proofs.lemmas.Bool.{cases_lt}
 use Rattle.machine.specs.Board.{Machine, move, start}
 use Rattle.machine.specs.Keys.{held_at}
 use Rattle.machine.specs.Keys.{Event as KeyEvent}
 use Rattle.machine.specs.Run.{run_to, after_moves}
-use Rattle.machine.specs.Pictures.{windows_ended, is_shown}
+use Rattle.machine.specs.Pictures.{window_end, windows_ended, picture_of, is_shown}
 use Rattle.machine.proofs.Runs.{later-move, run_to-next, run_to-past}
 use Rattle.chip8_lang.specs.State.{Lang, first}
 use Rattle.chip8_lang.specs.Ticks.{ticks}
@@ -14,139 +13,134 @@ use Rattle.chip8_lang.specs.Between.{Between, keys_between}
 use Rattle.chip8_lang.specs.Bounds.{boot_bound}
 use Rattle.chip8_lang.specs.Events.{Event, events_at, events_of, numbers_from, is_dispatch, is_stop}
 use Rattle.chip8_lang.specs.Events.Event.{Picture, Dispatch, Stopped}
+use Rattle.rom_law.specs.Keys.{Pressed, key_cycles}
+use Rattle.rom_law.specs.Language.{IsStep, IsStop, InTime, last_cycle, nothing_else, GoesOn, Begins, events_behind}
+use Rattle.rom_law.specs.Pictures.{ShowsScreen}
 use Rattle.rom_law.specs.Program.{Program, Dispatches, Halts}
 use Rattle.rom_law.specs.Rows.{Since, dispatched}
-use Rattle.rom_law.specs.Runs.{is_point, points_of, cycle_of, state_at, carried, IsFirst, IsStep, IsStop, IsNext, Moves, LanguageRun}
-use Rattle.rom_law.proofs.Carried.{carried_from, carried_state, covers_between}
+use Rattle.rom_law.specs.Runs.{state_at, state_after, carried, Moves}
 use Rattle.rom_law.specs.Runs.Moves.{Still, Arrived, Halted}
+use Rattle.rom_law.proofs.Ahead.{last_next, last_after}
+use Rattle.rom_law.proofs.Carried.{carried_from, carried_state, covers_between}
 
 -- ---- what is asked of a ROM
 
--- each move comes to what it should, with the record carried on, in time
-pub record Carries (x : Program) (script : List KeyEvent) (Running : Machine → Since → Type 0) : Type 0 where
-  pub moves : (b : Machine) (h : Since) → Running b h → Moves x script Running (carried x.interpreter.rom (held_at script) b h) (move x.interpreter.rom (held_at script) b)
-  pub timely : (b : Machine) (h : Since) (bound : ℕ) → Running b h → x.bound_of h.state ≡ Some bound → (move x.interpreter.rom (held_at script) b).cycle ≤ h.from + bound
+-- the picture of frame m in a run is there, and shows the screen of s
+pub record Shown (x : Program) (run : List Machine) (m : ℕ) (s : Lang) : Type 0 where
+  pub shown : is_shown x.interpreter.rom run m ≡ true
+  pub shows : ShowsScreen x.edition (picture_of x.interpreter.rom run m) s.screen
 
--- the same, where `Due` says by which cycles the next point is due, by the cycle and the state of the last dispatch point
-pub record CarriesBy (x : Program) (script : List KeyEvent) (Due : ℕ → Lang → ℕ → Type 0) (Running : Machine → Since → Type 0) : Type 0 where
+-- each move comes to what it should, with the record carried on, and in time; where a window ends in it, the picture shows the screen at the last
+-- dispatch point
+pub record Carries (x : Program) (script : List KeyEvent) (limit : ℕ) (run : List Machine) (Running : Machine → Since → Type 0) : Type 0 where
   pub moves : (b : Machine) (h : Since) → Running b h → Moves x script Running (carried x.interpreter.rom (held_at script) b h) (move x.interpreter.rom (held_at script) b)
-  pub timely : (b : Machine) (h : Since) (t : ℕ) → Running b h → Due h.from h.state t → (move x.interpreter.rom (held_at script) b).cycle ≤ t
+  pub timely : (b : Machine) (h : Since) → Running b h → InTime x script h.from h.state (move x.interpreter.rom (held_at script) b).cycle
+  pub shown : (b : Machine) (h : Since) (m : ℕ) → Running b h → b.cycle < window_end m → window_end m ≤ (move x.interpreter.rom (held_at script) b).cycle → (move x.interpreter.rom (held_at script) b).cycle ≤ limit → Shown x run m h.state
 
 -- boot comes to a first dispatch, with no event before
 pub record Boots (x : Program) (game : List ℕ) (script : List KeyEvent) (Running : Machine → Since → Type 0) : Type 0 where
   pub moves : ℕ
-  pub quiet : (m : ℕ) → m < moves → (is_dispatch x.interpreter (after_moves x.interpreter.rom (held_at script) (start game) m) ≡ false) × (is_stop x.interpreter (after_moves x.interpreter.rom (held_at script) (start game) m) ≡ false)
-  pub soon : (after_moves x.interpreter.rom (held_at script) (start game) moves).cycle ≤ boot_bound
-  pub dispatch : is_dispatch x.interpreter (after_moves x.interpreter.rom (held_at script) (start game) moves) ≡ true
-  pub runs : is_stop x.interpreter (after_moves x.interpreter.rom (held_at script) (start game) moves) ≡ false
-  pub stands : Dispatches x (after_moves x.interpreter.rom (held_at script) (start game) moves) (first x.edition game)
-  pub running : let b = after_moves x.interpreter.rom (held_at script) (start game) moves in Running b (dispatched b.cycle (state_at x b))
+  pub quiet : (m : ℕ) → m < moves → (is_dispatch x.interpreter (state_after x script (start game) m) ≡ false) × (is_stop x.interpreter (state_after x script (start game) m) ≡ false)
+  pub soon : (state_after x script (start game) moves).cycle ≤ boot_bound
+  pub dispatch : is_dispatch x.interpreter (state_after x script (start game) moves) ≡ true
+  pub runs : is_stop x.interpreter (state_after x script (start game) moves) ≡ false
+  pub stands : Dispatches x (state_after x script (start game) moves) (first x.edition game)
+  pub running : let b = state_after x script (start game) moves in Running b (dispatched b.cycle (state_at x b))
 
--- ---- the points among the events
+-- ---- time
 
-no_pictures : (l : List ℕ) (r : List Event) → filter is_point (map Picture l ++ r) ≡ filter is_point r
-no_pictures [] r = refl
-no_pictures (m ∷ l) r = no_pictures l r
+-- what isn't too late isn't too late earlier
+in_time_before : (x : Program) (script : List KeyEvent) (from : ℕ) (s : Lang) (t u : ℕ) → u ≤ t → InTime x script from s t → InTime x script from s u
+in_time_before x script from s t u l i = record { bound = λ n k. omega (arith, i.bound n k, l); keys = λ k v w f p. omega (arith, i.keys k v w f p, l) }
 
-module _ (x : Program) (whole : List Machine) where
-  -- the frames whose pictures come first at a state
-  abbrev shown : ℕ → Machine → List ℕ
-  shown before b = filter (is_shown x.interpreter.rom whole) (numbers_from (windows_ended before) (windows_ended b.cycle - windows_ended before))
+-- nothing is too late before it may come
+in_time_first : (x : Program) (script : List KeyEvent) (from : ℕ) (s : Lang) (t : ℕ) → t ≤ from → InTime x script from s t
+in_time_first x script from s t l = record { bound = λ n k. omega (arith, l); keys = λ k v w f p. omega (arith, l, f, p.behind) }
 
-  abbrev points : ℕ → List Machine → List Event
-  points before bs = filter is_point (events_at x.interpreter whole before bs)
+-- ---- the events at one state more
 
-  points_quiet : (before : ℕ) (b : Machine) (bs : List Machine) → is_dispatch x.interpreter b ≡ false → is_stop x.interpreter b ≡ false → points before (b ∷ bs) ≡ points b.cycle bs
-  points_quiet before b bs d s = rw (d, s) (no_pictures (shown before b) (events_at x.interpreter whole b.cycle bs))
+-- no window ends in boot
+no_window : (before t : ℕ) → t ≤ boot_bound → windows_ended t - windows_ended before ≡ 0
+no_window before t soon = omega (arith, soon)
 
-  points_dispatch : (before : ℕ) (b : Machine) (bs : List Machine) → is_dispatch x.interpreter b ≡ true → is_stop x.interpreter b ≡ false → points before (b ∷ bs) ≡ Dispatch b ∷ points b.cycle bs
-  points_dispatch before b bs d s = rw (d, s) (no_pictures (shown before b) (Dispatch b ∷ events_at x.interpreter whole b.cycle bs))
+module _ (x : Program) (script : List KeyEvent) (limit : ℕ) (run : List Machine) where
+  abbrev Goes : ℕ → Machine → List Event → Type 0
+  Goes k b es = GoesOn x script limit run nothing_else k b es
 
-  points_stop : (before : ℕ) (b : Machine) (bs : List Machine) → is_stop x.interpreter b ≡ true → points before (b ∷ bs) ≡ Stopped b ∷ []
-  points_stop before b bs s = rw s (no_pictures (shown before b) (Stopped b ∷ []))
+  abbrev events : ℕ → List Machine → List Event
+  events before bs = events_at x.interpreter run before bs
 
--- ---- the points after a dispatch point
+  -- of n frames from k on, those that have a picture
+  abbrev frames : ℕ → ℕ → List ℕ
+  frames k n = filter (is_shown x.interpreter.rom run) (numbers_from k n)
 
-nothing_there : {X : Type 0} (ps : List Event) (k : ℕ) (p : Event) → ps ≡ [] → slice_get ps k ≡ Some p → X
-nothing_there ps k p e h = absurd (go (subst (λ z. slice_get z k ≡ Some p) e h))
-  where
-    go : slice_get [] k ≡ Some p → ⊥
-    go f = cc
+  -- each frame whose window ends after cycle `before`, and by cycle t, has a picture of the screen of s
+  abbrev Each : ℕ → ℕ → Lang → Type 0
+  Each before t s = (m : ℕ) → before < window_end m → window_end m ≤ t → Shown x run m s
 
--- `Due` says by which cycles the next point is due, by the cycle and the state of a dispatch point.
-module _ (x : Program) (script : List KeyEvent) (limit : ℕ) (Due : ℕ → Lang → ℕ → Type 0) where
-  abbrev InTime : Machine → Machine → Type 0
-  InTime b c = (t : ℕ) → Due b.cycle (state_at x b) t → c.cycle ≤ t
+  module _ (b : Machine) (before t : ℕ) (order : before ≤ t) (each : Each before t (state_at x b)) (r : List Event) (on : Goes (windows_ended t) b r) where
+    frames_on : (n k : ℕ) → windows_ended before ≤ k → k + n ≡ windows_ended t → Goes k b (map Picture (frames k n) ++ r)
+    frames_on zero k from to = subst (λ j. Goes j b r) same on
+      where
+        same : windows_ended t ≡ k
+        same = omega (arith, to)
+    frames_on (suc n) k from to = go (is_shown x.interpreter.rom run k) here.shown (frames_on n (k + 1) (omega (arith, from)) (omega (arith, to)))
+      where
+        here : Shown x run k (state_at x b)
+        here = each k (omega (arith, from)) (omega (arith, to))
 
-  abbrev Chain : Machine → List Event → Type 0
-  Chain b [] = (t : ℕ) → Due b.cycle (state_at x b) t → t ≤ limit → ⊥
-  Chain b (Picture m ∷ ps) = ⊥
-  Chain b (Dispatch c ∷ ps) = IsStep x script b c × InTime b c × Chain c ps
-  Chain b (Stopped c ∷ ps) = IsStop x b c × InTime b c × (ps ≡ [])
+        go : (shown : Bool) → shown ≡ true → Goes (k + 1) b (map Picture (frames (k + 1) n) ++ r) → Goes k b (map Picture (cond shown (k ∷ frames (k + 1) n) (frames (k + 1) n)) ++ r)
+        go true e on = (refl, here.shows, on)
+        go false e on = cc
 
-  chain_next : (k : ℕ) (a : Machine) (ps : List Event) → Chain a ps → (b : Machine) (p : Event) → slice_get (Dispatch a ∷ ps) k ≡ Some (Dispatch b) → slice_get (Dispatch a ∷ ps) (suc k) ≡ Some p → IsNext x script b p
-  chain_next zero a [] h b p f g = cc
-  chain_next zero a (Picture m ∷ ps) h b p f g = absurd h
-  chain_next zero a (Dispatch c ∷ ps) h b p f g = subst₂ (λ y z. IsNext x script y z) (is_same f) (some_same g) h.0
-    where
-      is_same : Some (Dispatch a) ≡ Some (Dispatch b) → a ≡ b
-      is_same e = cc
+    -- the pictures of the move come first
+    pictures_on : Goes (windows_ended before) b (map Picture (frames (windows_ended before) (windows_ended t - windows_ended before)) ++ r)
+    pictures_on = frames_on (windows_ended t - windows_ended before) (windows_ended before) (omega arith) (omega (arith, order))
 
-      some_same : Some (Dispatch c) ≡ Some p → Dispatch c ≡ p
-      some_same e = cc
-  chain_next zero a (Stopped c ∷ ps) h b p f g = subst₂ (λ y z. IsNext x script y z) (is_same f) (some_same g) h.0
-    where
-      is_same : Some (Dispatch a) ≡ Some (Dispatch b) → a ≡ b
-      is_same e = cc
+  -- behind a dispatch point b
+  module _ (b : Machine) (before : ℕ) (c : Machine) (bs : List Machine) (order : before ≤ c.cycle) (each : Each before c.cycle (state_at x b)) where
+    on_quiet : is_dispatch x.interpreter c ≡ false → is_stop x.interpreter c ≡ false → Goes (windows_ended c.cycle) b (events c.cycle bs) → Goes (windows_ended before) b (events before (c ∷ bs))
+    on_quiet d s on = rw (d, s) (pictures_on b before c.cycle order each (events c.cycle bs) on)
 
-      some_same : Some (Stopped c) ≡ Some p → Stopped c ≡ p
-      some_same e = cc
-  chain_next (suc k) a [] h b p f g = cc
-  chain_next (suc k) a (Picture m ∷ ps) h b p f g = absurd h
-  chain_next (suc k) a (Dispatch c ∷ ps) h b p f g = chain_next k c ps h.2 b p f g
-  chain_next (suc zero) a (Stopped c ∷ ps) h b p f g = cc
-  chain_next (suc (suc k)) a (Stopped c ∷ ps) h b p f g = nothing_there ps k _ h.2 f
+    on_dispatch : is_dispatch x.interpreter c ≡ true → is_stop x.interpreter c ≡ false → Goes (windows_ended c.cycle) b (Dispatch c ∷ events c.cycle bs) → Goes (windows_ended before) b (events before (c ∷ bs))
+    on_dispatch d s on = rw (d, s) (pictures_on b before c.cycle order each (Dispatch c ∷ events c.cycle bs) on)
 
-  abbrev Soon : List Event → ℕ → ℕ → Type 0
-  Soon ps k t = (p : Event) × (slice_get ps k ≡ Some p) × (cycle_of p ≤ t)
+    on_stop : is_stop x.interpreter c ≡ true → Goes (windows_ended c.cycle) b (Stopped c ∷ []) → Goes (windows_ended before) b (events before (c ∷ bs))
+    on_stop s on = rw s (pictures_on b before c.cycle order each (Stopped c ∷ []) on)
 
-  chain_due : (k : ℕ) (a : Machine) (ps : List Event) → Chain a ps → (b : Machine) (t : ℕ) → slice_get (Dispatch a ∷ ps) k ≡ Some (Dispatch b) → Due b.cycle (state_at x b) t → t ≤ limit → Soon (Dispatch a ∷ ps) (suc k) t
-  chain_due zero a ps h b t f e l = here ps h (subst (λ (z : Machine). Due z.cycle (state_at x z) t) (sym (is_same f)) e)
-    where
-      is_same : Some (Dispatch a) ≡ Some (Dispatch b) → a ≡ b
-      is_same e = cc
+  -- and in boot
+  module _ (before : ℕ) (c : Machine) (bs : List Machine) (soon : c.cycle ≤ boot_bound) where
+    boot_quiet : is_dispatch x.interpreter c ≡ false → is_stop x.interpreter c ≡ false → events before (c ∷ bs) ≡ events c.cycle bs
+    boot_quiet d s = rw (d, s, no_window before c.cycle soon) refl
 
-      here : (ps : List Event) → Chain a ps → Due a.cycle (state_at x a) t → Soon (Dispatch a ∷ ps) 1 t
-      here [] h e = absurd (h t e l)
-      here (Picture m ∷ ps) h e = absurd h
-      here (Dispatch c ∷ ps) h e = (Dispatch c, refl, h.1 t e)
-      here (Stopped c ∷ ps) h e = (Stopped c, refl, h.1 t e)
-  chain_due (suc k) a [] h b t f e l = cc
-  chain_due (suc k) a (Picture m ∷ ps) h b t f e l = absurd h
-  chain_due (suc k) a (Dispatch c ∷ ps) h b t f e l = chain_due k c ps h.2 b t f e l
-  chain_due (suc zero) a (Stopped c ∷ ps) h b t f e l = cc
-  chain_due (suc (suc k)) a (Stopped c ∷ ps) h b t f e l = nothing_there ps k _ h.2 f
+    boot_dispatch : is_dispatch x.interpreter c ≡ true → is_stop x.interpreter c ≡ false → events before (c ∷ bs) ≡ Dispatch c ∷ events c.cycle bs
+    boot_dispatch d s = rw (d, s, no_window before c.cycle soon) refl
 
 -- ---- a run from a state of which `Running` holds
 
-module _ (x : Program) (script : List KeyEvent) (limit : ℕ) (Due : ℕ → Lang → ℕ → Type 0) (Running : Machine → Since → Type 0) (carries : CarriesBy x script Due Running) (whole : List Machine) where
+module _ (x : Program) (script : List KeyEvent) (limit : ℕ) (run : List Machine) (Running : Machine → Since → Type 0) (carries : Carries x script limit run Running) where
   abbrev next : Machine → Machine
   next b = move x.interpreter.rom (held_at script) b
 
   abbrev rest : Machine → List Machine
   rest b = run_to x.interpreter.rom (held_at script) b limit
 
+  -- the law of the events at these states, behind the dispatch point b
+  abbrev Behind : Machine → ℕ → List Machine → Type 0
+  Behind b before bs = GoesOn x script limit run nothing_else (windows_ended before) b (events_at x.interpreter run before bs)
+
   later : (b : Machine) → b.cycle < (next b).cycle
   later b = later-move x.interpreter.rom (held_at script) b
 
-  in_time : (b c : Machine) (h : Since) → h.from ≡ b.cycle → h.state ≡ state_at x b → Running c h → InTime x script limit Due b (next c)
-  in_time b c h f s r t e = carries.timely c h t r (subst₂ (λ a y. Due a y t) (sym f) (sym s) e)
+  -- the last state of the run is that behind c
+  abbrev pub EndsWith : Machine → Type 0
+  EndsWith c = (d : ℕ) → last_cycle d run ≡ last_cycle c.cycle (rest (next c))
 
   -- c is in the run, and b is the last dispatch point before its move
-  abbrev Chained : ℕ → Type 0
-  Chained fuel = (b c : Machine) (h : Since) → h.from ≡ b.cycle → h.state ≡ state_at x b → Running c h → limit < c.cycle + fuel → Chain x script limit Due b (points x whole c.cycle (rest (next c)))
+  abbrev Kept : ℕ → Type 0
+  Kept fuel = (b c : Machine) (h : Since) → h.from ≡ b.cycle → h.state ≡ state_at x b → Running c h → EndsWith c → limit < c.cycle + fuel → Behind b c.cycle (rest (next c))
 
-  module _ (b c : Machine) (h : Since) (f : h.from ≡ b.cycle) (s : h.state ≡ state_at x b) (r : Running c h) where
+  module _ (b c : Machine) (h : Since) (f : h.from ≡ b.cycle) (s : h.state ≡ state_at x b) (r : Running c h) (end : EndsWith c) where
     -- the record as the move carries it on
     h' : Since
     h' = carried x.interpreter.rom (held_at script) c h
@@ -159,145 +153,153 @@ module _ (x : Program) (script : List KeyEvent) (limit : ℕ) (Due : ℕ → Lan
     unfolding h'
     state_b = carried_state x.interpreter.rom (held_at script) c h ∙ s
 
-    moved : (fuel : ℕ) → Chained fuel → limit < c.cycle + suc fuel → Moves x script Running h' (next c) → Chain x script limit Due b (points x whole c.cycle (next c ∷ rest (next (next c))))
-    moved fuel on enough (Still d z r') =
-        subst (Chain x script limit Due b) (sym (points_quiet x whole c.cycle (next c) (rest (next (next c))) d z))
-        (on b (next c) h' from_b state_b r' (omega (arith, enough, later c)))
-    moved fuel on enough (Arrived d z i st r') =
-        subst (Chain x script limit Due b) (sym (points_dispatch x whole c.cycle (next c) (rest (next (next c))) d z)) (
+    in_time : InTime x script b.cycle (state_at x b) (next c).cycle
+    in_time = subst₂ (λ a z. InTime x script a z (next c).cycle) f s (carries.timely c h r)
+
+    -- the pictures whose windows end in the move
+    each : (next c).cycle ≤ limit → Each x script limit run c.cycle (next c).cycle (state_at x b)
+    each here m past by = subst (Shown x run m) s (carries.shown c h m r past by here)
+
+    order : c.cycle ≤ (next c).cycle
+    order = omega (arith, later c)
+
+    moved : (fuel : ℕ) → Kept fuel → limit < c.cycle + suc fuel → (next c).cycle ≤ limit → EndsWith (next c) → Moves x script Running h' (next c) → Behind b c.cycle (next c ∷ rest (next (next c)))
+    moved fuel on enough here end' (Still d z r') =
+        on_quiet x script limit run b c.cycle (next c) (rest (next (next c))) order (each here) d z
+        (on b (next c) h' from_b state_b r' end' (omega (arith, enough, later c)))
+    moved fuel on enough here end' (Arrived d z i st r') =
+        on_dispatch x script limit run b c.cycle (next c) (rest (next (next c))) order (each here) d z (
+          record { soon = in_time; shown = refl },
           record {
             runs = ap x.stop_of (sym state_b) ∙ st.runs;
             between = subst₂ (λ y a. Between x.edition y (x.ticks_between a (next c).cycle) (keys_between script a (next c).cycle) (state_at x (next c))) state_b from_b (covers_between x script (next c) h' (state_at x (next c)) i st);
             stands = st.stands;
           },
-          in_time b c h f s r,
-          on (next c) (next c) (dispatched (next c).cycle (state_at x (next c))) refl refl r' (omega (arith, enough, later c)),
+          on (next c) (next c) (dispatched (next c).cycle (state_at x (next c))) refl refl r' end' (omega (arith, enough, later c)),
         )
-    moved fuel on enough (Halted z i stop st) =
-        subst (Chain x script limit Due b) (sym (points_stop x whole c.cycle (next c) (rest (next (next c))) z)) (
-          record {
-            stop = stop;
-            fits = ap x.stop_of (sym state_b) ∙ st.fits;
-            halts = subst₂ (λ y a. Halts x (next c) (ticks (x.ticks_between a (next c).cycle) y) stop) state_b from_b (subst (λ n. Halts x (next c) (ticks n h'.state) stop) i.ticks st.halts);
-          },
-          in_time b c h f s r,
-          refl,
+    moved fuel on enough here end' (Halted z i stop st) =
+        on_stop x script limit run b c.cycle (next c) (rest (next (next c))) order (each here) z (
+        record {
+          comes = record { soon = in_time; shown = refl };
+          stop =
+              record {
+                stop = stop;
+                fits = ap x.stop_of (sym state_b) ∙ st.fits;
+                halts = subst₂ (λ y a. Halts x (next c) (ticks (x.ticks_between a (next c).cycle) y) stop) state_b from_b (subst (λ n. Halts x (next c) (ticks n h'.state) stop) i.ticks st.halts);
+              };
+          also_is = tt;
+          last = refl;
+        }
         )
 
-    moves_on : Running c h → Moves x script Running h' (next c)
+    moves_on : Moves x script Running h' (next c)
     unfolding h'
-    moves_on r = carries.moves c h r
+    moves_on = carries.moves c h r
 
     -- the limit comes before the next state
-    past_limit : limit < (next c).cycle → Chain x script limit Due b (points x whole c.cycle (rest (next c)))
-    past_limit past = subst (λ l. Chain x script limit Due b (points x whole c.cycle l)) (sym (run_to-past x.interpreter.rom (held_at script) limit (next c) past)) (λ t e l. omega (arith, past, l, in_time b c h f s r t e))
-
-    chain_on : (fuel : ℕ) → Chained fuel → limit < c.cycle + suc fuel → (limit < (next c).cycle) ⊎ ((next c).cycle ≤ limit) → Chain x script limit Due b (points x whole c.cycle (rest (next c)))
-    chain_on fuel on enough (inl past) = past_limit past
-    chain_on fuel on enough (inr here) = subst (λ l. Chain x script limit Due b (points x whole c.cycle l)) (sym (run_to-next x.interpreter.rom (held_at script) limit (next c) here)) (moved fuel on enough (moves_on r))
-
-  chain : (fuel : ℕ) → Chained fuel
-  chain zero b c h f s r enough = past_limit b c h f s r (omega (arith, enough, later c))
-  chain (suc fuel) b c h f s r enough = chain_on b c h f s r fuel (chain fuel) enough (cases_lt limit (next c).cycle)
-
-  -- ---- from boot on
-
-  module _ (game : List ℕ) (boots : Boots x game script Running) where
-    abbrev booted : ℕ → Machine
-    booted m = after_moves x.interpreter.rom (held_at script) (start game) m
-
-    -- the points are none, where the limit comes first, or the first dispatch and those after it
-    abbrev Begun : List Event → Type 0
-    Begun ps = ((ps ≡ []) × (limit < (booted boots.moves).cycle)) ⊎ ((rest : List Event) × (ps ≡ Dispatch (booted boots.moves) ∷ rest) × Chain x script limit Due (booted boots.moves) rest)
-
-    begins : (m : ℕ) → m ≡ boots.moves → (before : ℕ) → Begun (points x whole before (rest (booted m)))
-    begins m e before = subst (λ k. Begun (points x whole before (rest (booted k)))) (sym e) (go (cases_lt limit (booted boots.moves).cycle))
+    past_limit : limit < (next c).cycle → Behind b c.cycle (rest (next c))
+    past_limit past =
+        subst (Behind b c.cycle) (sym none)
+        (record {
+          soon = in_time_before x script b.cycle (state_at x b) (next c).cycle (limit + 1) (omega (arith, past)) in_time;
+          shown = ap windows_ended (end b.cycle ∙ ap (last_cycle c.cycle) none);
+          also_is = tt;
+        })
       where
-        go : (limit < (booted boots.moves).cycle) ⊎ ((booted boots.moves).cycle ≤ limit) → Begun (points x whole before (rest (booted boots.moves)))
-        go (inl past) = inl (ap (points x whole before) (run_to-past x.interpreter.rom (held_at script) limit (booted boots.moves) past), past)
+        none : rest (next c) ≡ []
+        none = run_to-past x.interpreter.rom (held_at script) limit (next c) past
+
+    kept_on : (fuel : ℕ) → Kept fuel → limit < c.cycle + suc fuel → (limit < (next c).cycle) ⊎ ((next c).cycle ≤ limit) → Behind b c.cycle (rest (next c))
+    kept_on fuel on enough (inl past) = past_limit past
+    kept_on fuel on enough (inr here) =
+        subst (Behind b c.cycle) (sym (run_to-next x.interpreter.rom (held_at script) limit (next c) here))
+        (moved fuel on enough here (λ d. end d ∙ last_next x.interpreter.rom (held_at script) limit c.cycle (next c) here) moves_on)
+
+  kept : (fuel : ℕ) → Kept fuel
+  kept zero b c h f s r end enough = past_limit b c h f s r end (omega (arith, enough, later c))
+  kept (suc fuel) b c h f s r end enough = kept_on b c h f s r end fuel (kept fuel) enough (cases_lt limit (next c).cycle)
+
+  -- behind a dispatch point
+  pub behind : (b : Machine) → Running b (dispatched b.cycle (state_at x b)) → EndsWith b → Behind b b.cycle (rest (next b))
+  behind b r end = kept (suc limit) b b (dispatched b.cycle (state_at x b)) refl refl r end (omega arith)
+
+-- ---- a run from a dispatch point
+
+module _ (x : Program) (script : List KeyEvent) (limit : ℕ) (Running : Machine → Since → Type 0) (b : Machine) where
+  abbrev run_from : List Machine
+  run_from = run_to x.interpreter.rom (held_at script) b limit
+
+  abbrev After : List Machine → List Machine → Type 0
+  After all bs = GoesOn x script limit all nothing_else (windows_ended b.cycle) b (events_at x.interpreter all b.cycle bs)
+
+  pub goes_on : Carries x script limit run_from Running → Running b (dispatched b.cycle (state_at x b)) → GoesOn x script limit run_from nothing_else (windows_ended b.cycle) b (events_behind x.interpreter script b limit)
+  goes_on carries running = go (cases_lt limit b.cycle)
+    where
+      go : (limit < b.cycle) ⊎ (b.cycle ≤ limit) → After run_from (run_to x.interpreter.rom (held_at script) (move x.interpreter.rom (held_at script) b) limit)
+      go (inl past) =
+          subst₂ After
+          (sym (run_to-past x.interpreter.rom (held_at script) limit b past))
+          (sym (run_to-past x.interpreter.rom (held_at script) limit (move x.interpreter.rom (held_at script) b) (omega (arith, past, later-move x.interpreter.rom (held_at script) b))))
+          (record { soon = in_time_first x script b.cycle (state_at x b) (limit + 1) (omega (arith, past)); shown = refl; also_is = tt })
+      go (inr here) = behind x script limit run_from Running carries b running (λ d. last_next x.interpreter.rom (held_at script) limit d b here)
+
+-- ---- a run from reset
+
+module _ (x : Program) (game : List ℕ) (script : List KeyEvent) (limit : ℕ) (Running : Machine → Since → Type 0) (boots : Boots x game script Running) where
+  abbrev run_of : List Machine
+  run_of = run_to x.interpreter.rom (held_at script) (start game) limit
+
+  abbrev booted : ℕ → Machine
+  booted m = state_after x script (start game) m
+
+  abbrev Begun : ℕ → List Machine → Type 0
+  Begun before bs = Begins x script limit run_of nothing_else game (events_at x.interpreter run_of before bs)
+
+  module _ (carries : Carries x script limit run_of Running) where
+    -- past the limit there are no events
+    none : (before m : ℕ) → (booted m).cycle ≤ boot_bound → limit < (booted m).cycle → Begun before (run_to x.interpreter.rom (held_at script) (booted m) limit)
+    none before m soon past = subst (Begun before) (sym (run_to-past x.interpreter.rom (held_at script) limit (booted m) past)) (omega (arith, soon, past), tt)
+
+    begins : (before : ℕ) → Begun before (run_to x.interpreter.rom (held_at script) (booted boots.moves) limit)
+    begins before = go (cases_lt limit (booted boots.moves).cycle)
+      where
+        go : (limit < (booted boots.moves).cycle) ⊎ ((booted boots.moves).cycle ≤ limit) → Begun before (run_to x.interpreter.rom (held_at script) (booted boots.moves) limit)
+        go (inl past) = none before boots.moves boots.soon past
         go (inr here) =
-            inr (
-              points x whole (booted boots.moves).cycle (rest (next (booted boots.moves))),
-              ap (points x whole before) (run_to-next x.interpreter.rom (held_at script) limit (booted boots.moves) here) ∙ points_dispatch x whole before (booted boots.moves) (rest (next (booted boots.moves))) boots.dispatch boots.runs,
-              chain (suc limit) (booted boots.moves) (booted boots.moves) (dispatched (booted boots.moves).cycle (state_at x (booted boots.moves))) refl refl boots.running (omega arith),
+            subst (Begins x script limit run_of nothing_else game)
+            (sym (ap (events_at x.interpreter run_of before) (run_to-next x.interpreter.rom (held_at script) limit (booted boots.moves) here) ∙ boot_dispatch x script limit run_of before (booted boots.moves) _ boots.soon boots.dispatch boots.runs)) (
+              boots.stands,
+              boots.soon,
+              subst (λ k. GoesOn x script limit run_of nothing_else k (booted boots.moves) (events_at x.interpreter run_of (booted boots.moves).cycle (run_to x.interpreter.rom (held_at script) (booted (suc boots.moves)) limit))) first_frame
+                  (behind x script limit run_of Running carries (booted boots.moves) boots.running (last_after x.interpreter.rom (held_at script) limit boots.moves (start game) here)),
             )
+          where
+            first_frame : windows_ended (booted boots.moves).cycle ≡ 0
+            first_frame = omega (arith, boots.soon)
 
     abbrev From : ℕ → ℕ → Type 0
-    From m before = ((booted m).cycle ≤ (booted boots.moves).cycle) × Begun (points x whole before (rest (booted m)))
+    From m before = ((booted m).cycle ≤ boot_bound) × Begun before (run_to x.interpreter.rom (held_at script) (booted m) limit)
 
     boot_on : (m before : ℕ) → m < boots.moves → From (suc m) (booted m).cycle → From m before
-    boot_on m before inside ahead = (omega (arith, ahead.0, later (booted m)), go (cases_lt limit (booted m).cycle))
+    boot_on m before inside ahead = (soon, go (cases_lt limit (booted m).cycle))
       where
-        go : (limit < (booted m).cycle) ⊎ ((booted m).cycle ≤ limit) → Begun (points x whole before (rest (booted m)))
-        go (inl past) = inl (ap (points x whole before) (run_to-past x.interpreter.rom (held_at script) limit (booted m) past), omega (arith, past, ahead.0, later (booted m)))
-        go (inr here) = subst Begun (sym (ap (points x whole before) (run_to-next x.interpreter.rom (held_at script) limit (booted m) here) ∙ points_quiet x whole before (booted m) (rest (next (booted m))) (boots.quiet m inside).0 (boots.quiet m inside).1)) ahead.1
+        soon : (booted m).cycle ≤ boot_bound
+        soon = omega (arith, ahead.0, later-move x.interpreter.rom (held_at script) (booted m))
+
+        go : (limit < (booted m).cycle) ⊎ ((booted m).cycle ≤ limit) → Begun before (run_to x.interpreter.rom (held_at script) (booted m) limit)
+        go (inl past) = none before m soon past
+        go (inr here) =
+            subst (Begins x script limit run_of nothing_else game)
+            (sym (ap (events_at x.interpreter run_of before) (run_to-next x.interpreter.rom (held_at script) limit (booted m) here) ∙ boot_quiet x script limit run_of before (booted m) _ soon (boots.quiet m inside).0 (boots.quiet m inside).1))
+            ahead.1
 
     boot : (r m : ℕ) → m + r ≡ boots.moves → (before : ℕ) → From m before
-    boot zero m e before = (subst (λ k. (booted m).cycle ≤ (booted k).cycle) same (le_refl (booted m).cycle), begins m same before)
+    boot zero m e before = subst (λ k. From k before) (sym same) (boots.soon, begins before)
       where
         same : m ≡ boots.moves
         same = omega (arith, e)
     boot (suc r) m e before = boot_on m before (omega (arith, e)) (boot r (suc m) (omega (arith, e)) (booted m).cycle)
 
--- ---- the points of a run
-
-module _ (x : Program) (game : List ℕ) (script : List KeyEvent) (limit : ℕ) (Due : ℕ → Lang → ℕ → Type 0) (Running : Machine → Since → Type 0) (carries : CarriesBy x script Due Running) (boots : Boots x game script Running) where
-  abbrev whole : List Machine
-  whole = run_to x.interpreter.rom (held_at script) (start game) limit
-
-  abbrev found : Type 0
-  found = Begun x script limit Due Running carries whole game boots (points_of x game script limit)
-
-  begun : found
-  unfolding events_of
-  begun = (boot x script limit Due Running carries whole game boots boots.moves 0 (omega arith) 0).1
-
-  -- where the limit leaves time for it, there is a next point by each cycle by which it is due
-  pub point_due : (k : ℕ) (b : Machine) (t : ℕ) → slice_get (points_of x game script limit) k ≡ Some (Dispatch b) → Due b.cycle (state_at x b) t → t ≤ limit → (p : Event) × (slice_get (points_of x game script limit) (k + 1) ≡ Some p) × (cycle_of p ≤ t)
-  point_due k b t e due l = go begun
-    where
-      go : found → (p : Event) × (slice_get (points_of x game script limit) (k + 1) ≡ Some p) × (cycle_of p ≤ t)
-      go (inl (none, past)) = nothing_there (points_of x game script limit) k (Dispatch b) none e
-      go (inr (rest, is, chained)) =
-          let r = chain_due x script limit Due k _ rest chained b t (subst (λ ps. slice_get ps k ≡ Some (Dispatch b)) is e) due l in
-          (r.0, subst₂ (λ ps j. slice_get ps j ≡ Some r.0) (sym is) (sym (add-one k)) r.1, r.2)
-
--- ---- the law
-
--- a state with a bound is followed within it
-record InBound (x : Program) (from : ℕ) (s : Lang) (t : ℕ) : Type 0 where
-  bound : ℕ
-  is : x.bound_of s ≡ Some bound
-  by : from + bound ≡ t
-
-module _ (x : Program) (game : List ℕ) (script : List KeyEvent) (limit : ℕ) (Running : Machine → Since → Type 0) (carries : Carries x script Running) (boots : Boots x game script Running) where
-  in_bound : CarriesBy x script (InBound x) Running
-  in_bound = record { moves = carries.moves; timely = λ b h t r due. subst (λ z. (move x.interpreter.rom (held_at script) b).cycle ≤ z) due.by (carries.timely b h due.bound r due.is) }
-
-  pub language_run : LanguageRun x game script limit
-  language_run = go (begun x game script limit (InBound x) Running in_bound boots)
-    where
-      b : Machine
-      b = after_moves x.interpreter.rom (held_at script) (start game) boots.moves
-
-      go : found x game script limit (InBound x) Running in_bound boots → LanguageRun x game script limit
-      go (inl (none, past)) =
-          record {
-            first = λ p e. nothing_there (points_of x game script limit) 0 p none e;
-            next = λ k c p e f. nothing_there (points_of x game script limit) k (Dispatch c) none e;
-            boot = λ l. absurd (omega (arith, l, past, boots.soon));
-            bound = λ k c bound e f l. nothing_there (points_of x game script limit) k (Dispatch c) none e;
-          }
-      go (inr (rest, is, chained)) =
-          record {
-            first = λ p e. first_is p (subst (λ ps. slice_get ps 0 ≡ Some p) is e);
-            next = λ k c p e f. chain_next x script limit (InBound x) k b rest chained c p (subst (λ ps. slice_get ps k ≡ Some (Dispatch c)) is e) (subst₂ (λ ps j. slice_get ps j ≡ Some p) is (add-one k) f);
-            boot = λ l. (Dispatch b, ap (λ ps. slice_get ps 0) is, boots.soon);
-            bound = λ k c bound e f l. let r = point_due x game script limit (InBound x) Running in_bound boots k c (c.cycle + bound) e (record { bound = bound; is = f; by = refl }) l in (r.0, r.1, r.2);
-          }
-        where
-          first_is : (p : Event) → Some (Dispatch b) ≡ Some p → IsFirst x game p
-          first_is p e = subst (IsFirst x game) (some_same e) boots.stands
-            where
-              some_same : Some (Dispatch b) ≡ Some p → Dispatch b ≡ p
-              some_same f = cc
+    pub begins_so : Begins x script limit run_of nothing_else game (events_of x.interpreter game script limit)
+    unfolding events_of
+    begins_so = (boot boots.moves 0 (omega arith) 0).1

@@ -3,5 +3,6 @@ pub mod Holding
 pub mod Rows
 pub mod Schedules
 pub mod Runs
-pub mod Pictures
 pub mod Keys
+pub mod Pictures
+pub mod Language

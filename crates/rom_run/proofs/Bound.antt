@@ -11,6 +11,7 @@ use Rattle.chip8_lang.specs.Bounds.{bound_of}
 use Rattle.rom_law.specs.Program.{Program}
 use Rattle.rom_law.specs.Rows.{Since, Row}
 use Rattle.rom_law.proofs.Kept.{row_runs, row_cycles}
+use Rattle.rom_law.proofs.Ahead.{later_cycle}
 use Rattle.rom_rows.specs.Rom.{image, vip}
 use Rattle.rom_rows.specs.Table.{pieces}
 use Rattle.rom_timer.specs.Frame.{place, interrupt_place, Makes}
@@ -19,12 +20,13 @@ use Rattle.rom_timer.specs.Routine.{routine_moves, routine_cycles}
 use Rattle.rom_timer.proofs.Frame.{every_move, keeps_place, keeps_waiting}
 use Rattle.rom_timer.proofs.Interval.{ticks_main, ticks_wait, ticks_served}
 use Rattle.rom_run.proofs.Image.{run_tick}
-use Rattle.rom_run.specs.Running.{Interval, Counted, Spends, Suffices, Timed, Outside, Running}
+use Rattle.rom_run.specs.Time.{Spends, Suffices, Timed}
+use Rattle.rom_run.specs.Running.{Interval, Counted, Outside, Running}
 use Rattle.rom_run.specs.Running.Outside.{AtRow, AtEvent}
 use Rattle.rom_run.specs.Running.Running.{InMain, InRoutine}
 use Rattle.rom_run.proofs.Moves.{interrupted}
 use Rattle.rom_run.proofs.Proved.{proved}
-use Rattle.rom_run.proofs.Ticks.{within, later_cycle}
+use Rattle.rom_run.proofs.Ticks.{within}
 use Rattle.rom_run.proofs.Time.{fewer, row_in_time}
 
 chain : {a b c d : ℕ} → a ≤ b → b ≡ c → c ≤ d → a ≤ d

@@ -1,7 +1,8 @@
 -- Before a wait for the display main code stays before it, also under ticks, and leaves the screen as it was at the dispatch point.
-use Rattle.std.proofs.Common.{Bool, ◌≡◌, ℕ, zero, suc, ◌+◌, ◌*◌, ◌<◌, ◌≤◌, refl, sym, ◌∙◌, ap, subst, arith, true, false, slice_index, length}
+use Rattle.std.proofs.Common.{Bool, ◌≡◌, ℕ, zero, suc, ◌+◌, ◌*◌, ◌<◌, ◌≤◌, refl, sym, ◌∙◌, ap, subst, arith, true, false, slice_index, length, Option, Some, None}
 use Rattle.machine.specs.Bank.{value, word_of}
-use Rattle.machine.specs.Board.{Machine}
+use Rattle.machine.specs.Board.{Machine, opcode_of}
+use Rattle.machine.specs.Instruction.{Regs, Inputs, stepped, executed}
 use Rattle.machine.specs.Ranges.{FitsMachine}
 use Rattle.machine.specs.Schedule.{Tick}
 use Rattle.chip8_image.specs.Labels.{at_clear_wait, at_draw_wait, at_key_test, at_key_held, at_random_count, at_get_delay, at_set_delay_put, at_set_sound_put}
@@ -12,13 +13,13 @@ use Rattle.chip8_lang.specs.Places.{state_of, pixels}
 use Rattle.chip8_lang.specs.State.{Lang}
 use Rattle.chip8_lang.specs.Ticks.{ticks}
 use Rattle.rom_moves.specs.Code.{Input, moved}
-use Rattle.rom_moves.proofs.Moves.{in_rom, quick_by, quick_by_is, flags_in}
+use Rattle.rom_moves.proofs.Moves.{in_rom, opcode_in, opcode_is, quick_by, quick_by_is, flags_in}
 use Rattle.rom_moves.proofs.Ticks.{after_none}
 use Rattle.rom_law.specs.Program.{code, Dispatches}
 use Rattle.rom_law.specs.Rows.{Since, InBlock, Row, Outcome, now, dispatched, after_main, after_tick}
 use Rattle.rom_law.specs.Rows.Row.{Inside, Alone}
 use Rattle.rom_law.specs.Rows.Starts.{Enters}
-use Rattle.rom_law.proofs.Kept.{Comes, starts_row, block_moves, block_ticks, block_cycle, block_above, block_above_next, block_awake, place_moves, place_ticks, at_cycle}
+use Rattle.rom_law.proofs.Kept.{Comes, starts_row, block_moves, block_ticks, block_cycle, block_above, block_above_next, block_writes, block_awake, place_moves, place_ticks, at_cycle}
 use Rattle.rom_law.proofs.Places.{holding, range_same}
 use Rattle.rom_rows.specs.FetchBlocks.FetchBlock.{Fetch}
 use Rattle.rom_rows.specs.KeyBlocks.KeyPlace.{SkipTest, KeyTest, KeyHeld}
@@ -132,6 +133,32 @@ module _ (e : Edition) where
     place_keeps (AtSprite DrawWait) h i o = keeps at_draw_wait (is_on_3 at_draw_wait b o.0.p o.0.r3) refl (λ f. refl)
     place_keeps (AtSprite DrawIdle) h i o = absurd (sleeps (sym o.0.1 ∙ i))
 
+  -- at a place it writes nothing at all
+  module _ (b : Machine) where
+    nothing : {w : ℕ × ℕ} → None ≡ Some w → ⊥
+    nothing k = cc
+
+    unwritten : (a : ℕ) → b ≡ on_3 a b → in_rom (word_of a) ≡ true → ((s : Regs) (j : Inputs) → (executed (opcode_in (code (quick e)) (on_3 a b)) s j).write ≡ None) → (j : Inputs) (w : ℕ × ℕ) → (executed (opcode_of (quick e).interpreter.rom b) (stepped b.regs b.regs.p) j).write ≡ Some w → ⊥
+    unwritten a is inside none j w k = nothing (sym (none (stepped b.regs b.regs.p) j) ∙ ap (λ o. (executed o (stepped b.regs b.regs.p) j).write) (opcode_is (code (quick e)) (on_3 a b) inside ∙ ap (opcode_of (quick e).interpreter.rom) (sym is)) ∙ k)
+
+    place_unwritten : (l : Place) (h : Since) → b.regs.idle ≡ false → At (quick e) l b h → (j : Inputs) (w : ℕ × ℕ) → (executed (opcode_of (quick e).interpreter.rom b) (stepped b.regs b.regs.p) j).write ≡ Some w → ⊥
+    place_unwritten (AtTimer RandomCount) h i o = unwritten at_random_count (is_on_3 at_random_count b o.0.0.entered.p o.0.0.entered.r3) refl (λ s j. refl)
+    place_unwritten (AtTimer GetDelay) h i o = unwritten at_get_delay (is_on_3 at_get_delay b o.0.0.entered.p o.0.0.entered.r3) refl (λ s j. refl)
+    place_unwritten (AtTimer SetDelayPut) h i o = unwritten at_set_delay_put (is_on_3 at_set_delay_put b o.0.0.entered.p o.0.0.entered.r3) refl (λ s j. refl)
+    place_unwritten (AtTimer SetSoundPut) h i o = unwritten at_set_sound_put (is_on_3 at_set_sound_put b o.0.0.entered.p o.0.0.entered.r3) refl (λ s j. refl)
+    place_unwritten (AtKey (SkipTest true)) h i o = unwritten (skip_test_label true) (is_on_3 (skip_test_label true) b o.0.0.p o.0.0.r3) refl (λ s j. refl)
+    place_unwritten (AtKey (SkipTest false)) h i o = unwritten (skip_test_label false) (is_on_3 (skip_test_label false) b o.0.0.p o.0.0.r3) refl (λ s j. refl)
+    place_unwritten (AtKey (KeyTest turn)) h i o = unwritten at_key_test (is_on_3 at_key_test b o.0.0.waiting.enters.entered.p o.0.0.waiting.enters.entered.r3) refl (λ s j. refl)
+    place_unwritten (AtKey KeyHeld) h i o = unwritten at_key_held (is_on_3 at_key_held b o.0.0.enters.entered.p o.0.0.enters.entered.r3) refl (λ s j. refl)
+    place_unwritten (AtSprite ClearWait) h i o = unwritten at_clear_wait (is_on_3 at_clear_wait b o.0.p o.0.r3) refl (λ s j. refl)
+    place_unwritten (AtSprite ClearIdle) h i o = absurd (sleeps (sym o.0.1 ∙ i))
+    place_unwritten (AtSprite DrawWait) h i o = unwritten at_draw_wait (is_on_3 at_draw_wait b o.0.p o.0.r3) refl (λ s j. refl)
+    place_unwritten (AtSprite DrawIdle) h i o = absurd (sleeps (sym o.0.1 ∙ i))
+
+  quick_writes : (b : Machine) (h : Since) → b.regs.idle ≡ false → Row (quick e) (calm_pieces (quick e)) b h → (j : Inputs) (w : ℕ × ℕ) → (executed (opcode_of (quick e).interpreter.rom b) (stepped b.regs b.regs.p) j).write ≡ Some w → w.0 < screen_start e
+  quick_writes b h i (Inside l r) j w k = omega (arith, screen_is e, block_writes (quick e) (calm_pieces (quick e)) (calm_sound e refl (both_fits e)) r (comes r) ((page_of e + 1) * 256) refl j w k)
+  quick_writes b h i (Alone l o) j w k = absurd (place_unwritten b l h i o j w k)
+
   quick_move_shows : (u : Input) (b : Machine) (h : Since) → FitsMachine b → b.regs.idle ≡ false → FitsMachine (moved (code (quick e)) u b) → value (moved (code (quick e)) u b).regs.r.r2 < screen_start e → Row (quick e) (calm_pieces (quick e)) b h → Showing e (moved (code (quick e)) u b) h
   quick_move_shows u b h f i g below (Inside l r) = next_shows r u g below
   quick_move_shows u b h f i g below (Alone l o) = above_shows b (moved (code (quick e)) u b) h f g (λ a low. ap (λ ram. slice_index ram a) (place_keeps b u l h i o)) (row_shows b h (at_screen (quick e) l b h o))
@@ -157,6 +184,10 @@ module _ (e : Edition) where
   -- the screen is that of the last dispatch point, in each row and after each move
   pub calm_shows : (b : Machine) (h : Since) → FitsMachine b → value b.regs.r.r2 < screen_start e → Row (vip e) (calm_pieces (vip e)) b h → Showing e b h
   calm_shows = subst (λ rom. (b : Machine) (h : Since) → FitsMachine b → value b.regs.r.r2 < screen_start e → Row (program_of e rom) (calm_pieces (program_of e rom)) b h → Showing e b h) (both_is e) (quick_shows e)
+
+  -- and the instruction writes nothing of it
+  pub calm_writes : (b : Machine) (h : Since) → b.regs.idle ≡ false → Row (vip e) (calm_pieces (vip e)) b h → (j : Inputs) (w : ℕ × ℕ) → (executed (opcode_of (vip e).interpreter.rom b) (stepped b.regs b.regs.p) j).write ≡ Some w → w.0 < screen_start e
+  calm_writes = subst (λ rom. (b : Machine) (h : Since) → b.regs.idle ≡ false → Row (program_of e rom) (calm_pieces (program_of e rom)) b h → (j : Inputs) (w : ℕ × ℕ) → (executed (opcode_of rom b) (stepped b.regs b.regs.p) j).write ≡ Some w → w.0 < screen_start e) (both_is e) (quick_writes e)
 
   pub calm_move_shows : (u : Input) (b : Machine) (h : Since) → FitsMachine b → b.regs.idle ≡ false → FitsMachine (moved (code (vip e)) u b) → value (moved (code (vip e)) u b).regs.r.r2 < screen_start e → Row (vip e) (calm_pieces (vip e)) b h → Showing e (moved (code (vip e)) u b) h
   calm_move_shows = subst (λ rom. (u : Input) (b : Machine) (h : Since) → FitsMachine b → b.regs.idle ≡ false → FitsMachine (moved (code (program_of e rom)) u b) → value (moved (code (program_of e rom)) u b).regs.r.r2 < screen_start e → Row (program_of e rom) (calm_pieces (program_of e rom)) b h → Showing e (moved (code (program_of e rom)) u b) h) (both_is e) (quick_move_shows e)

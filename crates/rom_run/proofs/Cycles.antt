@@ -5,7 +5,7 @@ use Rattle.machine.specs.Pictures.{interrupt_at}
 use Rattle.chip8_lang.specs.Between.{ticks_between}
 use Rattle.rom_timer.specs.Frame.{place, interrupt_place, IsOutside}
 use Rattle.rom_timer.specs.Routine.{routine_cycles}
-use Rattle.rom_run.specs.Laws.{key_cycles}
+use Rattle.rom_law.specs.Keys.{key_cycles}
 
 -- main code runs in cycle c, with n main moves since a dispatch point in cycle `from`
 pub record Passed (from n c : ℕ) : Type 0 where

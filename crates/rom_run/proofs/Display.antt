@@ -1,4 +1,4 @@
--- The display: no interrupt comes while the screen is changed, and how long 00E0 and DXYN prepare their work and change the screen.
+-- The display: no interrupt comes while the screen is changed, and how long 00E0 and DXYN prepare their work.
 use Rattle.std.proofs.Common.{◌≡◌, ℕ, ◌+◌, ◌<◌, ◌≤◌, ◌⊎◌, inl, inr, sym, ◌∙◌, arith, true, List}
 use Rattle.machine.specs.Board.{Machine}
 use Rattle.machine.specs.Keys.{Event}
@@ -10,10 +10,12 @@ use Rattle.rom_rows.specs.Rom.{vip}
 use Rattle.rom_rows.specs.Table.{calm_pieces}
 use Rattle.rom_timer.specs.Frame.{place, interrupt_place}
 use Rattle.rom_timer.specs.Routine.{routine_cycles}
-use Rattle.rom_run.specs.Laws.{Undisturbed, WaitsSoon, ChangesSoon, Display}
-use Rattle.rom_run.specs.Running.{Due, Outside, Running, Serving, Showing, Timed, Woken, since_return, most_changing}
+use Rattle.rom_run.specs.Display.{Display}
+use Rattle.rom_run.specs.Laws.{Undisturbed, WaitsSoon}
+use Rattle.rom_run.specs.Time.{Timed, Woken, since_return, most_changing}
+use Rattle.rom_run.specs.Running.{Due, Outside, Running, Serving, Showing}
 use Rattle.rom_run.specs.Running.Due.{Arrives, Ends}
-use Rattle.rom_run.specs.Running.Timed.{Before, Waiting, Behind}
+use Rattle.rom_run.specs.Time.Timed.{Before, Waiting, Behind}
 use Rattle.rom_run.specs.Running.Outside.{AtRow, AtEvent}
 use Rattle.rom_run.specs.Running.Running.{InMain, InRoutine}
 use Rattle.rom_run.proofs.Calm.{calm_shows}
@@ -51,22 +53,15 @@ module _ (e : Edition) (script : List Event) where
       go (inr w) = absurd (woken_apart e b h 0 (omega arith) w (omega (arith, p)))
 
   -- behind a wait the routine returned in the cycle `woke`
-  woken_since : (b : Machine) (h : Since) (w : Woken e b h) → since_return b.cycle ≤ most_changing
+  pub woken_since : (b : Machine) (h : Since) (w : Woken e b h) → since_return b.cycle ≤ most_changing
   woken_since b h w = since b.cycle w.base w.woke w.late w.return w.since w.least (woken_few e b h w)
     where
       since : (cycle base woke late : ℕ) → place woke ≡ interrupt_place + routine_cycles → cycle + base ≡ woke + late → base ≤ late → late ≤ base + most_changing → since_return cycle ≤ most_changing
       since cycle base woke late r s l m = omega (arith, r, s, l, m)
 
-  outside_changes : (b : Machine) (h : Since) → Outside e script b h → ¬ Showing e b h → Display h (λ most. since_return b.cycle ≤ most_changing)
-  outside_changes b h o other = go (outside_where b h o)
-    where
-      go : Showing e b h ⊎ Woken e b h → Display h (λ most. since_return b.cycle ≤ most_changing)
-      go (inl shows) = absurd (other shows)
-      go (inr w) = record { most = w.base; waits = w.waits; here = woken_since b h w }
-
   -- ---- a wait
 
-  due_awake : (b : Machine) (h : Since) → b.regs.idle ≡ true → Due e b h → ⊥
+  pub due_awake : (b : Machine) (h : Since) → b.regs.idle ≡ true → Due e b h → ⊥
   due_awake b h i (Arrives s st) = sleeps (sym i ∙ st.stands.keeps.lies.awake)
   due_awake b h i (Ends stop st) = sleeps (sym i ∙ st.halts.keeps.lies.awake)
 
@@ -80,10 +75,6 @@ module _ (e : Edition) (script : List Event) where
   apart_from b h s enabled =
       sleeps (sym enabled ∙ served_disabled e script b h s)
 
-  changes : (b : Machine) (h : Since) → Running e script b h → b.regs.ie ≡ true → ¬ Showing e b h → Display h (λ most. since_return b.cycle ≤ most_changing)
-  changes b h (InMain o) enabled c = outside_changes b h o c
-  changes b h (InRoutine s) enabled c = absurd (apart_from b h s enabled)
-
   soon : (b : Machine) (h : Since) → Running e script b h → b.regs.ie ≡ true → b.regs.idle ≡ true → Display h (λ most. h.spent ≤ most)
   soon b h (InMain o) enabled i = outside_soon b h i o
   soon b h (InRoutine s) enabled i = absurd (apart_from b h s enabled)
@@ -95,6 +86,3 @@ undisturbed e script b h r p = outside_shows e script b h (main_there e script b
 
 pub waits_soon : WaitsSoon
 waits_soon e script b h r enabled i = soon e script b h r enabled i
-
-pub changes_soon : ChangesSoon
-changes_soon e script b h r enabled c = changes e script b h r enabled c

@@ -15,8 +15,9 @@ use Rattle.rom_rows.specs.Table.Block.{OfKey}
 use Rattle.rom_rows.specs.Table.Place.{AtKey}
 use Rattle.rom_keys.specs.Laws.{Scans}
 use Rattle.rom_keys.specs.Laws.Scans.{UpTo, AtTest, Behind as BehindTest}
-use Rattle.rom_run.specs.Running.{Interval, Spends, Timed}
-use Rattle.rom_run.specs.Running.Timed.{Before, Waiting, Behind}
+use Rattle.rom_run.specs.Time.{Spends, Timed}
+use Rattle.rom_run.specs.Running.{Interval}
+use Rattle.rom_run.specs.Time.Timed.{Before, Waiting, Behind}
 use Rattle.rom_run.proofs.Ticks.{waits_most}
 use Rattle.rom_run.proofs.Time.{IsEndless, IsEndlessAt, unbounded, is_free, head_soon, at_soon, idle_pace, waited_pace}
 

@@ -8,38 +8,34 @@ use Rattle.machine.specs.Board.{Machine, move}
 use Rattle.machine.specs.Keys.{Keys, Event, held_at}
 use Rattle.machine.proofs.Runs.{later-move}
 use Rattle.chip8_lang.specs.declared.view.Edition.{Edition}
-use Rattle.chip8_lang.specs.Bounds.{bound_of, bound_by}
-use Rattle.chip8_lang.specs.State.{Lang, memory_size}
-use Rattle.rom_law.specs.Keys.{Pressed, WaitsForKey}
+use Rattle.chip8_lang.specs.Bounds.{bound_of}
+use Rattle.chip8_lang.specs.State.{Lang}
+use Rattle.rom_law.specs.Keys.{Pressed, key_cycles}
+use Rattle.rom_law.specs.Language.{InTime}
 use Rattle.rom_law.specs.Program.{Program}
 use Rattle.rom_law.specs.Rows.{Since, Row, dispatched, after_tick}
-use Rattle.rom_law.specs.Runs.{Moves, carried}
-use Rattle.rom_law.specs.Runs.Moves.{Still, Arrived, Halted}
+use Rattle.rom_law.specs.Runs.{carried}
 use Rattle.rom_law.proofs.Carried.{main_more, carried_from, carried_state, carried_interrupt, carried_idle, carried_disabled}
-use Rattle.rom_law.proofs.Keys.{Keyed, key_run}
 use Rattle.rom_law.proofs.Kept.{row_runs, row_cycles}
 use Rattle.rom_law.proofs.Language.{get_append}
-use Rattle.rom_law.proofs.Runs.{Carries, Boots}
 use Rattle.rom_rows.specs.Rom.{image, vip}
 use Rattle.rom_rows.specs.Table.{pieces}
-use Rattle.rom_fetch.specs.Laws.{boot_moves}
 use Rattle.rom_keys.specs.Laws.{Counted, Lately, Scans, Within}
 use Rattle.rom_run.proofs.Image.{none_stays, stays_down, goes_up}
 use Rattle.rom_keys.proofs.Sets.{get_last, length_more}
 use Rattle.rom_timer.specs.Frame.{Makes}
 use Rattle.rom_timer.specs.Frame.Makes.{Runs, Waits, Accepts}
 use Rattle.rom_timer.proofs.Frame.{accepted, case_accepts, case_waits, every_move}
-use Rattle.rom_run.specs.Laws.{EveryKeyWait, key_cycles}
-use Rattle.rom_run.specs.Running.{Interval, Spends, Timed, Running}
+use Rattle.rom_run.specs.Time.{Spends, Timed}
+use Rattle.rom_run.specs.Running.{Interval, Running}
 use Rattle.rom_run.specs.Running.Outside.{AtRow, AtEvent}
 use Rattle.rom_run.specs.Running.Running.{InMain, InRoutine}
 use Rattle.rom_run.proofs.Bound.{timely}
 use Rattle.rom_run.proofs.Cycles.{Passed, Soon, Next, soon_first, soon_interrupt, soon_routine, soon_main, soon_next, few_passed, next_main, moves_to, from_u, while_down, all_made}
 use Rattle.rom_run.proofs.Endless.{KeyRow, key_row, never_waited}
 use Rattle.rom_run.proofs.Endless.KeyRow.{Comes, Seeks, Holds, Leaves}
-use Rattle.rom_run.proofs.Moves.{board_moves, counts_main, interrupted}
+use Rattle.rom_run.proofs.Moves.{counts_main, interrupted}
 use Rattle.rom_run.proofs.Proved.{proved}
-use Rattle.rom_run.proofs.Run.{boot, begun}
 use Rattle.rom_run.proofs.Served.{served_within, served_disabled}
 
 -- a set of keys can't have a key down and up
@@ -75,17 +71,17 @@ module _ (e : Edition) (script : List Event) where
   record Pressing (from : ℕ) (s : Lang) (u w : ℕ) : Type 0 where
     free : bound_of e s ≡ None
     since : from ≤ u
-    pressed : Pressed script key_cycles u w
+    pressed : Pressed script u w
 
   -- In cycle t: each main move took two cycles; without a bound each set of keys is that of a cycle of the run, since main code didn't wait for the
   -- display; and where a key was pressed for long enough, time is left.
-  record Known (t : ℕ) (h : Since) : Type 0 where
+  pub record Known (t : ℕ) (h : Since) : Type 0 where
     counted : Counted h
     sampled : bound_of e h.state ≡ None → (j : ℕ) → j < length h.keys → Sample h.keys h.from t j
     soon : (u w : ℕ) → Pressing h.from h.state u w → Soon t w
 
   -- at a dispatch point
-  begins : (t : ℕ) (s : Lang) → Known t (dispatched t s)
+  pub begins : (t : ℕ) (s : Lang) → Known t (dispatched t s)
   begins t s = record { counted = omega arith; sampled = λ k j l. absurd (omega (arith, l)); soon = λ u w q. soon_first t u w q.since q.pressed.behind }
 
   -- the keys stay
@@ -182,7 +178,7 @@ module _ (e : Edition) (script : List Event) where
 
   -- ---- every move
 
-  known_on : (b : Machine) (h : Since) → Running e script b h → Known b.cycle h → Known (next b).cycle (carried (image e) held b h)
+  pub known_on : (b : Machine) (h : Since) → Running e script b h → Known b.cycle h → Known (next b).cycle (carried (image e) held b h)
   known_on b h (InMain (AtRow t row n time)) k = let ready = row_runs x (pieces x) (proved e) b h t.fits row in row_known b h t row time k ready.on ready.enabled (every_move (image e) held b ready.on ready.enabled t.outside)
   known_on b h (InMain (AtEvent t p d late y)) k =
       let o = interrupted e script b h (b.cycle / 3668) (AtEvent t p d late y) (omega (arith, p)) in
@@ -193,49 +189,18 @@ module _ (e : Edition) (script : List Event) where
       subst (Known (next b).cycle) (sym (carried_disabled (image e) held b h (served_disabled e script b h s)))
       (passes b.cycle (next b).cycle h (omega (arith, later-move (image e) held b)) k (λ u w q. soon_routine s.m b.cycle (next b).cycle w (k.soon u w q) i.0 (omega (arith, later-move (image e) held b, i.1)) (later-move (image e) held b) i.1))
 
-  -- ---- a run
+  -- ---- in time
 
-  record RunsFrom (b : Machine) (h : Since) : Type 0 where
-    running : Running e script b h
-    known : Known b.cycle h
-
-  moves_on : (c : Machine) (h : Since) → Known c.cycle h → Moves x script (Running e script) h c → Moves x script RunsFrom h c
-  moves_on c h k (Still d z r) = Still d z (record { running = r; known = k })
-  moves_on c h k (Arrived d z i st r) = Arrived d z i st (record { running = r; known = begins c.cycle _ })
-  moves_on c h k (Halted z i stop st) = Halted z i stop st
-
-  carries : Carries x script RunsFrom
-  carries = record { moves = λ b h r. moves_on (next b) (carried (image e) held b h) (known_on b h r.running r.known) (board_moves e script b h r.running); timely = λ b h bound r. timely e script b h bound r.running }
-
-  unbounded : (s : Lang) → WaitsForKey x s → bound_of e s ≡ None
-  unbounded s w = ap₂ bound_by w.runs w.is
-
-  keyed : Keyed x key_cycles script RunsFrom
-  keyed =
+  -- each move ends within the bound, and in time for a key that is pressed for long enough
+  pub in_time : (b : Machine) (h : Since) → Running e script b h → Known b.cycle h → InTime x script h.from h.state (next b).cycle
+  in_time b h r k =
       record {
-        some = omega arith;
-        timely = λ b h u w r waits since pressed. ((known_on b h r.running r.known).soon u w (
+        bound = λ bound is. timely e script b h bound r is;
+        keys = λ free u w since pressed. ((known_on b h r k).soon u w (
             record {
-              free = ap (bound_of e) (carried_state (image e) held b h) ∙ unbounded h.state waits;
+              free = ap (bound_of e) (carried_state (image e) held b h) ∙ free;
               since = subst (λ z. z ≤ u) (sym (carried_from (image e) held b h)) since;
               pressed = pressed;
             }
             )).here;
       }
-
-  boots : (game : List ℕ) → length game ≤ memory_size e → ((i : ℕ) → slice_index game i < 256) → Boots x game script RunsFrom
-  boots game small bytes =
-      let starts = boot e game small bytes script in
-      let first = begun e game small bytes script in
-      record {
-        moves = boot_moves;
-        quiet = starts.quiet;
-        soon = first.soon;
-        dispatch = first.dispatch;
-        runs = first.runs;
-        stands = starts.stands;
-        running = record { running = first.running; known = begins _ _ };
-      }
-
-pub every_key_wait : EveryKeyWait
-every_key_wait e game small bytes script limit = key_run (vip e) key_cycles game script limit (RunsFrom e script) (carries e script) (keyed e script) (boots e script game small bytes)

@@ -9,7 +9,6 @@ pub mod Time
 pub mod Woken
 pub mod Moves
 pub mod Bound
-pub mod Run
 pub mod Parts
 pub mod Apart
 pub mod Dispatch
@@ -19,4 +18,7 @@ pub mod Pictures
 pub mod Cycles
 pub mod Endless
 pub mod Keys
+pub mod Run
+pub mod States
+pub mod Changes
 mod Together

@@ -46,11 +46,12 @@ use Rattle.rom_timer.specs.Routine.{IsInterrupted, IsTick, routine_moves, routin
 use Rattle.rom_timer.proofs.Frame.{case_accepts, case_runs, case_waits, every_move, keeps_place, keeps_waiting}
 use Rattle.rom_timer.proofs.Interval.{ticks_main, ticks_wait, ticks_served, keeps_interrupted, embeds_longer, embeds_more}
 use Rattle.rom_run.proofs.Image.{run_tick}
-use Rattle.rom_run.specs.Running.{Interval, Counted, Spends, Woken, Timed, InTime, Showing, Outside, Running, most_wait}
+use Rattle.rom_run.specs.Time.{Spends, Woken, Timed, DueInTime, most_wait}
+use Rattle.rom_run.specs.Running.{Interval, Counted, Showing, Outside, Running}
 use Rattle.rom_run.specs.Running.Counted.{NoEvent, Renewed}
 use Rattle.rom_run.specs.Running.Due.{Arrives, Ends}
 use Rattle.rom_run.specs.Running.Outside.{AtRow, AtEvent}
-use Rattle.rom_run.specs.Running.Timed.{Before, Waiting, Behind}
+use Rattle.rom_run.specs.Time.Timed.{Before, Waiting, Behind}
 use Rattle.rom_run.specs.Running.Running.{InMain, InRoutine}
 use Rattle.rom_run.proofs.Proved.{proved}
 use Rattle.rom_run.proofs.Room.{row_room}
@@ -114,7 +115,7 @@ module _ (e : Edition) (script : List Event) where
 
   -- ---- what a state comes to that a dispatch or a stop has made
 
-  module _ (c : Machine) (h : Since) (t : Interval e script c h) (p : IsMainPlace c.cycle) (soon : InTime e c h) (shows : place c.cycle ≡ interrupt_place → Showing e c h) where
+  module _ (c : Machine) (h : Since) (t : Interval e script c h) (p : IsMainPlace c.cycle) (soon : DueInTime e c h) (shows : place c.cycle ≡ interrupt_place → Showing e c h) where
     arrives : (s : Lang) → Stepped x c h s → Comes h c
     arrives s st = go (cases_eq (place c.cycle) interrupt_place)
       where
@@ -192,7 +193,7 @@ module _ (e : Edition) (script : List Event) where
     unfolding c u h'
     spends n s = omega (arith, s)
 
-    soon : InTime e c h'
+    soon : DueInTime e c h'
     unfolding h'
     soon = let s = row_in_time e script b h t row time in record { waited = s.waited; spends = spends s.waited s.spends; suffices = λ bound k. fewer bound _ _ (omega arith) (s.suffices bound k) }
 
@@ -322,7 +323,7 @@ module _ (e : Edition) (script : List Event) where
     tick_timed t row (Waiting n s l i r) = tick_wakes n t row s (omega (arith, l, waits_most b.cycle t.outside)) i
     tick_timed t row (Behind n s l r w) = absurd (woken_apart e b h 0 (omega arith) w (omega (arith, in_place)))
 
-    tick_soon : InTime e b h → InTime e c (after_tick h)
+    tick_soon : DueInTime e b h → DueInTime e c (after_tick h)
     tick_soon s = record { waited = s.waited; spends = tick_spends s.waited s.spends; suffices = s.suffices }
 
     -- it isn't interrupted at once

@@ -15,9 +15,10 @@ use Rattle.rom_fetch.specs.Laws.{Boot, boot_moves}
 use Rattle.rom_run.specs.Laws.{RowsIn, MovesIn, BootRows}
 use Rattle.rom_run.specs.Running.{Running, FromBoot}
 use Rattle.rom_run.specs.Running.FromBoot.{Boots, Begins}
+use Rattle.rom_run.specs.States.{BootsTo}
 use Rattle.rom_run.proofs.Moves.{board_moves}
 use Rattle.rom_run.proofs.Proved.{proved}
-use Rattle.rom_run.proofs.Run.{Begins as Starts, boot, begun}
+use Rattle.rom_run.proofs.Run.{boot, booted, starts_event, starts_running}
 
 pub rows_in : (p : Part) → RowsIn p
 rows_in p e u b h f i at row = row_moves (vip e) (pieces (vip e)) (proved e) u b h f i row
@@ -31,9 +32,11 @@ boot_rows e script game b o = subst (λ z. FromBoot e script game (move (image e
     boots : Boot e (image e) (held_at script) game
     boots = boot e game o.room o.bytes script
 
-    begins : (c : Machine) → Starts e script game c → Dispatches (vip e) c (first e game) → FromBoot e script game c
-    begins c s d = Begins s.dispatch s.runs s.soon d (subst (λ z. Running e script c (dispatched c.cycle z)) d.keeps.lies.is s.running)
+    begins : (c : Machine) → BootsTo e game c → Dispatches (vip e) c (first e game) → FromBoot e script game c
+    begins c to d =
+        Begins (starts_event e script c to.starts).0 (starts_event e script c to.starts).1 (omega (arith, to.cycle)) d
+        (subst (λ z. Running e script c (dispatched c.cycle z)) to.first_is (starts_running e script c to.starts))
 
     go : (suc o.k ≡ boot_moves) ⊎ (suc o.k ≡ boot_moves → ⊥) → FromBoot e script game (after_moves (image e) (held_at script) (start game) (suc o.k))
-    go (inl last) = subst (λ n. FromBoot e script game (after_moves (image e) (held_at script) (start game) n)) (sym last) (begins (after_moves (image e) (held_at script) (start game) boot_moves) (begun e game o.room o.bytes script) boots.stands)
+    go (inl last) = subst (λ n. FromBoot e script game (after_moves (image e) (held_at script) (start game) n)) (sym last) (begins (after_moves (image e) (held_at script) (start game) boot_moves) (booted e game o.room o.bytes script) boots.stands)
     go (inr d) = let more : suc o.k < boot_moves = omega (arith, o.inside, d) in Boots (boots.quiet (suc o.k) more).0 (boots.quiet (suc o.k) more).1 (record { room = o.room; bytes = o.bytes; k = suc o.k; inside = more; is = refl })

@@ -4,9 +4,9 @@ use Rattle.std.proofs.Common.{◌≡◌, ℕ, suc, ◌*◌, ◌/◌, ◌%◌, �
 use Rattle.std.specs.Prelude.{slice_get, Some}
 use Rattle.std.proofs.lemmas.Bool.{cases_eq, cases_lt}
 use Rattle.std.proofs.lemmas.Option.{slice_get_within}
-use Rattle.machine.specs.Board.{Machine, move, start}
+use Rattle.machine.specs.Board.{Machine, move}
 use Rattle.machine.specs.Keys.{Keys, Event, held_at}
-use Rattle.machine.specs.Run.{after_moves, run_to}
+use Rattle.machine.specs.Run.{run_to}
 use Rattle.machine.specs.Pictures.{interrupt_at, window_end, picture_of}
 use Rattle.machine.specs.Ranges.{FitsMachine}
 use Rattle.machine.proofs.Runs.{later-move}
@@ -14,32 +14,26 @@ use Rattle.chip8_lang.specs.declared.view.Edition.{Edition}
 use Rattle.chip8_lang.specs.declared.view.Edition.TheVariants.{Usual, Tall}
 use Rattle.chip8_lang.specs.Editions.{rows_of, lines_of}
 use Rattle.chip8_lang.specs.Places.{state_of}
-use Rattle.chip8_lang.specs.State.{Lang, memory_size}
+use Rattle.chip8_lang.specs.State.{Lang}
 use Rattle.rom_law.specs.Program.{Program}
-use Rattle.rom_law.specs.Pictures.{ShowsScreen}
 use Rattle.rom_law.specs.Rows.{Since, Row, dispatched}
-use Rattle.rom_law.specs.Runs.{Moves, carried, state_at}
-use Rattle.rom_law.specs.Runs.Moves.{Still, Arrived, Halted}
+use Rattle.rom_law.specs.Runs.{carried, state_at, state_after}
 use Rattle.rom_law.proofs.Carried.{carried_state}
 use Rattle.rom_law.proofs.Kept.{row_runs, row_cycles}
-use Rattle.rom_law.proofs.Runs.{Carries, Boots}
-use Rattle.rom_law.proofs.Shown.{picture_run}
+use Rattle.rom_law.proofs.Runs.{Shown}
 use Rattle.rom_rows.specs.Rom.{image, vip}
 use Rattle.rom_rows.specs.Table.{pieces}
-use Rattle.rom_fetch.specs.Laws.{boot_moves}
 use Rattle.rom_timer.specs.Frame.{place, interrupt_place, Makes}
 use Rattle.rom_timer.specs.Frame.Makes.{Runs, Waits, Accepts}
+use Rattle.rom_timer.specs.Scan.{Pictured}
 use Rattle.rom_timer.proofs.Frame.{every_move}
 use Rattle.rom_run.proofs.Image.{run_picture}
-use Rattle.rom_run.specs.Laws.{EveryPicture}
 use Rattle.rom_run.specs.Running.{Showing, Outside, Running}
 use Rattle.rom_run.specs.Running.Outside.{AtRow, AtEvent}
 use Rattle.rom_run.specs.Running.Running.{InMain, InRoutine}
-use Rattle.rom_run.proofs.Bound.{timely}
 use Rattle.rom_run.proofs.Display.{outside_shows}
-use Rattle.rom_run.proofs.Moves.{board_moves, interrupted}
+use Rattle.rom_run.proofs.Moves.{interrupted}
 use Rattle.rom_run.proofs.Proved.{proved}
-use Rattle.rom_run.proofs.Run.{boot, begun}
 use Rattle.rom_run.proofs.Served.{main_there, served_within}
 use Rattle.rom_run.proofs.Ticks.{few_later}
 
@@ -60,42 +54,41 @@ module _ (e : Edition) (script : List Event) where
   main_before b h m row even f (Waits d i k) l = omega (arith, ap (λ (z : Machine). z.cycle) k, l)
   main_before b h m row even f (Accepts i k) l = omega (arith, ap (λ (z : Machine). z.cycle) k, l)
 
-  stops_before : (b : Machine) (h : Since) (m : ℕ) → Running e script b h → b.cycle < interrupt_at m → (next b).cycle ≤ interrupt_at m
+  pub stops_before : (b : Machine) (h : Since) (m : ℕ) → Running e script b h → b.cycle < interrupt_at m → (next b).cycle ≤ interrupt_at m
   stops_before b h m (InMain (AtRow t row n time)) l = let ready = row_runs x (pieces x) (proved e) b h t.fits row in main_before b h m row t.even t.fits (every_move (image e) held b ready.on ready.enabled t.outside) l
   stops_before b h m (InMain (AtEvent t p d late y)) l = omega (arith, few_later (image e) held b, p, l)
   stops_before b h m (InRoutine s) l = let i = served_within e script b h s in omega (arith, i.0, i.1, l)
 
-  -- ---- a board in the run of a game
+  -- ---- a board in a run
 
-  module _ (game : List ℕ) where
-    abbrev booted : ℕ → Machine
-    booted i = after_moves (image e) held (start game) i
+  module _ (first : Machine) where
+    abbrev after : ℕ → Machine
+    after i = state_after x script first i
 
     -- the state of the run in which frame m's interrupt came
-    record Interrupted (m : ℕ) (h : Since) : Type 0 where
+    pub record Interrupted (m : ℕ) (h : Since) : Type 0 where
       i : ℕ
       before : Since
-      outside : Outside e script (booted i) before
-      cycle : (booted i).cycle ≡ interrupt_at m
+      outside : Outside e script (after i) before
+      cycle : (after i).cycle ≡ interrupt_at m
       same : h.state ≡ before.state
 
     -- The board is a state of the run. Between the interrupt and the end of the window the run tells in which state it was interrupted.
-    record RunsFrom (b : Machine) (h : Since) : Type 0 where
-      i : ℕ
-      is : b ≡ booted i
-      running : Running e script b h
-      came : (m : ℕ) → interrupt_at m < b.cycle → b.cycle < window_end m → Interrupted m h
+    pub record InRun (b : Machine) (h : Since) : Type 0 where
+      pub i : ℕ
+      pub is : b ≡ after i
+      pub came : (m : ℕ) → interrupt_at m < b.cycle → b.cycle < window_end m → Interrupted m h
 
-    came_next : (b : Machine) (h : Since) (r : RunsFrom b h) (m : ℕ) → interrupt_at m < (next b).cycle → (next b).cycle < window_end m → Interrupted m (carried (image e) held b h)
-    came_next b h r m l u = go (cases_lt b.cycle (interrupt_at m)) (cases_eq b.cycle (interrupt_at m))
+    came_next : (b : Machine) (h : Since) → Running e script b h → (r : InRun b h) (m : ℕ) → interrupt_at m < (next b).cycle → (next b).cycle < window_end m → Interrupted m (carried (image e) held b h)
+    came_next b h running r m l u = go (cases_lt b.cycle (interrupt_at m)) (cases_eq b.cycle (interrupt_at m))
       where
         go : (b.cycle < interrupt_at m) ⊎ (interrupt_at m ≤ b.cycle) → (b.cycle ≡ interrupt_at m) ⊎ (b.cycle ≡ interrupt_at m → ⊥) → Interrupted m (carried (image e) held b h)
-        go (inl k) d = absurd (omega (arith, stops_before b h m r.running k, l))
+        go (inl k) d = absurd (omega (arith, stops_before b h m running k, l))
         go (inr k) (inl d) =
             record {
               i = r.i;
               before = h;
-              outside = subst (λ z. Outside e script z h) r.is (main_there e script b h r.running (omega (arith, d)));
+              outside = subst (λ z. Outside e script z h) r.is (main_there e script b h running (omega (arith, d)));
               cycle = ap (λ (z : Machine). z.cycle) (sym r.is) ∙ d;
               same = carried_state (image e) held b h;
             }
@@ -116,49 +109,38 @@ module _ (e : Edition) (script : List Event) where
         never : {n : ℕ} → 0 ≡ suc n → ⊥
         never k = cc
 
-    moves_on : (b : Machine) (h : Since) (r : RunsFrom b h) → Moves x script (Running e script) (carried (image e) held b h) (next b) → Moves x script RunsFrom (carried (image e) held b h) (next b)
-    moves_on b h r (Still d z k) = Still d z (record { i = suc r.i; is = ap next r.is; running = k; came = came_next b h r })
-    moves_on b h r (Arrived d z i st k) = Arrived d z i st (record { i = suc r.i; is = ap next r.is; running = k; came = λ m. none_came (next b) (next b).cycle m k })
-    moves_on b h r (Halted z i stop st) = Halted z i stop st
+    -- so many moves on, at a dispatch point
+    pub run_begins : (b : Machine) (i : ℕ) → b ≡ after i → Running e script b (dispatched b.cycle (state_at x b)) → InRun b (dispatched b.cycle (state_at x b))
+    run_begins b i is running = record { i = i; is = is; came = λ m. none_came b b.cycle m running }
 
-    carries : Carries x script RunsFrom
-    carries = record { moves = λ b h r. moves_on b h r (board_moves e script b h r.running); timely = λ b h bound r. timely e script b h bound r.running }
+    -- after a move that comes to none
+    pub run_on : (b : Machine) (h : Since) → Running e script b h → InRun b h → InRun (next b) (carried (image e) held b h)
+    run_on b h running r = record { i = suc r.i; is = ap next r.is; came = came_next b h running r }
 
-    module _ (small : length game ≤ memory_size e) (bytes : (i : ℕ) → slice_index game i < 256) where
-      boots : Boots x game script RunsFrom
-      boots =
-          let starts = boot e game small bytes script in
-          let first = begun e game small bytes script in
-          record {
-            moves = boot_moves;
-            quiet = starts.quiet;
-            soon = first.soon;
-            dispatch = first.dispatch;
-            runs = first.runs;
-            stands = starts.stands;
-            running = record { i = boot_moves; is = refl; running = first.running; came = λ m l u. absurd (omega (arith, first.soon, l)) };
-          }
+    -- ---- the picture
 
-      -- ---- the picture
+    pub shows : (limit : ℕ) (b : Machine) (h : Since) (m : ℕ) → InRun b h → b.cycle < window_end m → window_end m ≤ (next b).cycle → (next b).cycle ≤ limit → Shown x (run_to (image e) held first limit) m h.state
+    shows limit b h m r u n l =
+        record {
+          shown = scanned.shown;
+          shows = record {
+            lines = scanned.shows.lines;
+            dots = λ k px line get inside. scanned.shows.dots k px line get inside ∙ seen px (k / lines_of e) inside (high k line get) ∙ ap (λ (z : Lang). z.screen px (k / lines_of e)) (sym o.same);
+          };
+        }
+      where
+        o : Interrupted m h
+        o = r.came m (omega (arith, few_later (image e) held b, n)) u
 
-      shows : (limit : ℕ) (b : Machine) (h : Since) (m : ℕ) → RunsFrom b h → b.cycle < window_end m → window_end m ≤ (next b).cycle → (next b).cycle ≤ limit → ShowsScreen e (picture_of (image e) (run_to (image e) held (start game) limit) m) h.state.screen
-      shows limit b h m r u n l = record { lines = scanned.lines; dots = λ k px line get inside. scanned.dots k px line get inside ∙ seen px (k / lines_of e) inside (high k line get) ∙ ap (λ (z : Lang). z.screen px (k / lines_of e)) (sym o.same) }
-        where
-          o : Interrupted m h
-          o = r.came m (omega (arith, few_later (image e) held b, n)) u
+        scanned : Pictured e (image e) (run_to (image e) held first limit) m (after o.i)
+        scanned = run_picture e m o.i limit held first (interrupted e script (after o.i) o.before m o.outside o.cycle) (omega (arith, n, l))
 
-          scanned : ShowsScreen e (picture_of (image e) (run_to (image e) held (start game) limit) m) (state_of e (booted o.i)).screen
-          scanned = run_picture e m o.i limit held (start game) (interrupted e script (booted o.i) o.before m o.outside o.cycle) (omega (arith, n, l))
+        seen : Showing e (after o.i) o.before
+        seen = outside_shows e script (after o.i) o.before o.outside (omega (arith, o.cycle))
 
-          seen : Showing e (booted o.i) o.before
-          seen = outside_shows e script (booted o.i) o.before o.outside (omega (arith, o.cycle))
+        rows : (e : Edition) (k : ℕ) → k < 128 → k / lines_of e < rows_of e
+        rows Usual k h = omega (arith, h)
+        rows Tall k h = omega (arith, h)
 
-          rows : (e : Edition) (k : ℕ) → k < 128 → k / lines_of e < rows_of e
-          rows Usual k h = omega (arith, h)
-          rows Tall k h = omega (arith, h)
-
-          high : (k : ℕ) (line : List ℕ) → slice_get (picture_of (image e) (run_to (image e) held (start game) limit) m) k ≡ Some line → k / lines_of e < rows_of e
-          high k line get = rows e k (omega (arith, slice_get_within (picture_of (image e) (run_to (image e) held (start game) limit) m) k line get, scanned.lines))
-
-pub every_picture : EveryPicture
-every_picture e game small bytes script limit = picture_run (vip e) game script limit (RunsFrom e script game) (carries e script game) (boots e script game small bytes) (record { shown = shows e script game small bytes limit })
+        high : (k : ℕ) (line : List ℕ) → slice_get (picture_of (image e) (run_to (image e) held first limit) m) k ≡ Some line → k / lines_of e < rows_of e
+        high k line get = rows e k (omega (arith, slice_get_within (picture_of (image e) (run_to (image e) held first limit) m) k line get, scanned.shows.lines))

@@ -8,6 +8,7 @@ use Rattle.machine.proofs.Runs.{later-move}
 use Rattle.chip8_lang.specs.declared.view.Edition.{Edition}
 use Rattle.rom_law.specs.Rows.{Since, after_tick}
 use Rattle.rom_law.specs.Runs.{Moves}
+use Rattle.rom_law.proofs.Ahead.{later_cycle}
 use Rattle.rom_rows.specs.Rom.{image, vip}
 use Rattle.rom_timer.specs.Frame.{place, interrupt_place}
 use Rattle.rom_timer.specs.Routine.{IsTick, routine_moves, routine_cycles}
@@ -15,7 +16,6 @@ use Rattle.rom_run.proofs.Image.{run_tick}
 use Rattle.rom_run.specs.Running.{Outside, Running, Serving}
 use Rattle.rom_run.specs.Running.Running.{InMain, InRoutine}
 use Rattle.rom_run.proofs.Moves.{interrupted, routine_comes}
-use Rattle.rom_run.proofs.Ticks.{later_cycle}
 
 -- a cycle between the interrupt and the return isn't that of an interrupt
 not_there : {a b c d e : ℕ} (m : ℕ) → a ≡ interrupt_at m → a < b → b ≤ c → c ≤ d → d ≡ interrupt_at m + routine_cycles → e ≡ c → place e ≡ interrupt_place → ⊥
@@ -48,3 +48,6 @@ module _ (e : Edition) (script : List Event) where
 
   pub served_disabled : (b : Machine) (h : Since) → Serving e script b h → b.regs.ie ≡ false
   served_disabled b h s = ap (λ (z : Machine). z.regs.ie) s.is ∙ ((tick_of s.start s.before s.m s.outside s.cycle).inside s.k s.some s.inside).disabled
+
+  pub served_awake : (b : Machine) (h : Since) → Serving e script b h → b.regs.idle ≡ false
+  served_awake b h s = ap (λ (z : Machine). z.regs.idle) s.is ∙ ((tick_of s.start s.before s.m s.outside s.cycle).inside s.k s.some s.inside).awake

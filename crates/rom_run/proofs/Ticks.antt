@@ -11,7 +11,7 @@ use Rattle.machine.proofs.Runs.{later-move, cycle-move}
 use Rattle.chip8_lang.specs.Between.{ticks_between}
 use Rattle.rom_timer.specs.Frame.{place, interrupt_place, IsOutside}
 use Rattle.rom_timer.specs.Routine.{routine_cycles}
-use Rattle.rom_run.specs.Running.{Suffices, since_window, most_wait}
+use Rattle.rom_run.specs.Time.{Suffices, since_window, most_wait}
 
 -- the last interrupt before c was so long ago
 window_passed : (c k : ℕ) → IsOutside c → k ≡ (c - 1 + 2576) / 3668 → 0 < k → 3668 * k ≤ c + 756
@@ -43,18 +43,6 @@ waits_more t (inr h) d = omega (arith, h)
 pub waits_most : (t : ℕ) → IsOutside t → since_window t ≤ most_wait
 waits_most t (inl h) = omega (arith, h)
 waits_most t (inr h) = omega (arith, h)
-
--- a later state has no earlier cycle
-pub later_cycle : (rom : List ℕ) (held : ℕ → Keys) (b : Machine) (k m : ℕ) → k ≤ m → (after_moves rom held b k).cycle ≤ (after_moves rom held b m).cycle
-later_cycle rom held b k zero l = subst (λ j. (after_moves rom held b j).cycle ≤ b.cycle) (sym none) (le_refl b.cycle)
-  where
-    none : k ≡ 0
-    none = omega (arith, l)
-later_cycle rom held b k (suc m) l = go (cases_eq k (suc m)) (λ d. later_cycle rom held b k m d)
-  where
-    go : (k ≡ suc m) ⊎ (k ≡ suc m → ⊥) → (k ≤ m → (after_moves rom held b k).cycle ≤ (after_moves rom held b m).cycle) → (after_moves rom held b k).cycle ≤ (after_moves rom held b (suc m)).cycle
-    go (inl e) f = subst (λ j. (after_moves rom held b j).cycle ≤ (after_moves rom held b (suc m)).cycle) (sym e) (le_refl (after_moves rom held b (suc m)).cycle)
-    go (inr d) f = omega (arith, f (omega (arith, l, d)), later-move rom held (after_moves rom held b m))
 
 -- a move takes three cycles at most
 few_cycles : (byte : ℕ) → cycles_of byte ≤ 3

@@ -44,8 +44,9 @@ use Rattle.rom_rows.specs.Table.Place.{AtTimer, AtKey, AtSprite}
 use Rattle.rom_rows.proofs.Steps.{stop_ticks}
 use Rattle.rom_law.proofs.Places.{v_byte}
 use Rattle.rom_sprite.proofs.Screen.{few_rows}
-use Rattle.rom_run.specs.Running.{Suffices, Spends, Interval, Timed, most_wait}
-use Rattle.rom_run.specs.Running.Timed.{Before, Waiting, Behind}
+use Rattle.rom_run.specs.Time.{Suffices, Spends, Timed, most_wait}
+use Rattle.rom_run.specs.Running.{Interval}
+use Rattle.rom_run.specs.Time.Timed.{Before, Waiting, Behind}
 use Rattle.rom_run.proofs.Ticks.{waits_most}
 use Rattle.rom_run.proofs.Proved.{proved}
 use Rattle.rom_run.proofs.Waits.{sleeps, timer_awake, key_awake}

@@ -1,28 +1,33 @@
 -- What is proved of the whole interpreter's ROM.
-use Rattle.std.specs.Prelude.{◌≡◌, ℕ, ◌+◌, ◌<◌, ◌≤◌, true, false, List, length, slice_index, Some}
+use Rattle.std.specs.Prelude.{◌≡◌, ℕ, suc, ◌+◌, ◌-◌, ◌<◌, ◌≤◌, true, false, List, length, slice_index, Some}
 use Rattle.machine.specs.Instruction.{at}
-use Rattle.machine.specs.Board.{Machine, move}
+use Rattle.machine.specs.Board.{Machine, move, start}
 use Rattle.machine.specs.Keys.{Event, held_at}
-use Rattle.machine.specs.Pictures.{frame}
+use Rattle.machine.specs.Pictures.{interrupt_at, windows_ended}
 use Rattle.machine.specs.Ranges.{FitsMachine}
+use Rattle.machine.specs.Run.{run_to}
 use Rattle.chip8_image.specs.declared.parts.Part.{Part}
 use Rattle.chip8_image.specs.declared.TheConstants.{DISPATCH}
 use Rattle.chip8_image.specs.declared.parts.Part.TheVariants.{Fetch}
 use Rattle.chip8_image.specs.Parts.{part_of}
 use Rattle.chip8_lang.specs.declared.view.Edition.{Edition}
 use Rattle.chip8_lang.specs.Bounds.{bound_of}
+use Rattle.chip8_lang.specs.Events.{game_run, events_of, numbers_from}
 use Rattle.chip8_lang.specs.State.{memory_size, is_fetchable}
 use Rattle.rom_moves.specs.Code.{Input, moved}
-use Rattle.rom_law.specs.Keys.{KeyRun}
+use Rattle.rom_law.specs.Language.{Begins, GoesOn, events_behind, nothing_else, last_cycle, frames_of, end_cycle}
 use Rattle.rom_law.specs.Program.{code}
-use Rattle.rom_law.specs.Pictures.{PictureRun}
-use Rattle.rom_law.specs.Runs.{Moves, LanguageRun, carried}
+use Rattle.rom_law.specs.Runs.{Moves, carried, state_after}
 use Rattle.rom_law.specs.Rows.{Since, Row, Outcome, after_main}
 use Rattle.rom_law.specs.Schedules.{EverySchedule}
 use Rattle.rom_rows.specs.Rom.{image, vip}
 use Rattle.rom_rows.specs.Table.{pieces}
+use Rattle.rom_fetch.specs.Laws.{boot_moves}
 use Rattle.rom_timer.specs.Frame.{place, interrupt_place}
-use Rattle.rom_run.specs.Running.{Running, Booting, FromBoot, Showing, WaitsBy, since_return, most_changing}
+use Rattle.rom_run.specs.Display.{Display, WritesScreen, SameInterval, AtDisplay, Changes}
+use Rattle.rom_run.specs.Running.{Running, Booting, FromBoot, Showing}
+use Rattle.rom_run.specs.Time.{since_return, most_changing}
+use Rattle.rom_run.specs.States.{MayStart, Beginning, BootsTo, Unstopped, Known, InterruptedThere, Meets}
 
 -- whenever timer ticks come, main code does what the language says
 abbrev pub AnySchedule : Type 0
@@ -35,29 +40,67 @@ EveryRun =
     → length game ≤ memory_size e
     → ((i : ℕ) → slice_index game i < 256)
     → (script : List Event) (limit : ℕ)
-    → LanguageRun (vip e) game script limit
+    → Begins (vip e) script limit (game_run (vip e).interpreter game script limit) nothing_else game (events_of (vip e).interpreter game script limit)
 
--- each picture of such a run is the screen at the last dispatch point before it
+-- and from any machine that may start
+abbrev pub FromAnyStart : Type 0
+FromAnyStart =
+    (e : Edition) (b : Machine)
+    → MayStart e b
+    → (script : List Event) (limit : ℕ)
+    → GoesOn (vip e) script limit (run_to (image e) (held_at script) b limit) nothing_else (windows_ended b.cycle) b (events_behind (vip e).interpreter script b limit)
+
+-- boot comes to such a machine
+abbrev pub BootStarts : Type 0
+BootStarts =
+    (e : Edition) (game : List ℕ)
+    → length game ≤ memory_size e
+    → ((i : ℕ) → slice_index game i < 256)
+    → (script : List Event)
+    → BootsTo e game (state_after (vip e) script (start game) boot_moves)
+
+-- The pictures of a run from reset, and from any start, are those of all frames whose windows end before it stops, or up to its last state.
 abbrev pub EveryPicture : Type 0
 EveryPicture =
     (e : Edition) (game : List ℕ)
     → length game ≤ memory_size e
     → ((i : ℕ) → slice_index game i < 256)
     → (script : List Event) (limit : ℕ)
-    → PictureRun (vip e) game script limit
+    → let events = events_of (vip e).interpreter game script limit in
+    frames_of events ≡ numbers_from 0 (windows_ended (end_cycle (last_cycle 0 (game_run (vip e).interpreter game script limit)) events))
 
--- How long a key has to be down, and then all keys up, for FX0A to end: a frame's cycles each.
-abbrev pub key_cycles : ℕ
-key_cycles = frame
-
--- In such a run the next dispatch point after FX0A comes before the last of these cycles is over.
-abbrev pub EveryKeyWait : Type 0
-EveryKeyWait =
-    (e : Edition) (game : List ℕ)
-    → length game ≤ memory_size e
-    → ((i : ℕ) → slice_index game i < 256)
+abbrev pub EveryPictureBehind : Type 0
+EveryPictureBehind =
+    (e : Edition) (b : Machine)
+    → MayStart e b
     → (script : List Event) (limit : ℕ)
-    → KeyRun (vip e) key_cycles game script limit
+    → let events = events_behind (vip e).interpreter script b limit in
+    let end = end_cycle (last_cycle b.cycle (run_to (image e) (held_at script) b limit)) events in
+    frames_of events ≡ numbers_from (windows_ended b.cycle) (windows_ended end - windows_ended b.cycle)
+
+-- ---- every state of a run
+
+-- each state up to the stop is in boot, or `Running` holds of it with the record of the moves since the last dispatch point
+abbrev pub EveryState : Type 0
+EveryState = (e : Edition) (script : List Event) (first : Machine) → Beginning e first → (i : ℕ) → Unstopped e script first (suc i) → Known e script first i
+
+-- the next move of each of these is an interrupt exactly in the cycle of a frame's interrupt
+abbrev pub EveryInterrupt : Type 0
+EveryInterrupt = (e : Edition) (script : List Event) (first : Machine) → Beginning e first → (i : ℕ) → Unstopped e script first (suc i) → InterruptedThere (state_after (vip e) script first i)
+
+-- and none of these cycles is passed over
+abbrev pub NoneMissing : Type 0
+NoneMissing =
+    (e : Edition) (script : List Event) (first : Machine)
+    → Beginning e first
+    → (i : ℕ)
+    → Unstopped e script first i
+    → (m : ℕ)
+    → first.cycle ≤ interrupt_at m
+    → interrupt_at m ≤ (state_after (vip e) script first i).cycle
+    → Meets e script first i (interrupt_at m)
+
+-- ---- a move
 
 -- Each move of the board keeps what is known of it, and carries its record on: it comes to no event; to a dispatch, with what lies between the
 -- two, and the record begins anew; or to the stop of the state.
@@ -85,13 +128,7 @@ Undisturbed =
     → place b.cycle ≡ interrupt_place
     → Showing e b h
 
--- the instruction at the last dispatch point is 00E0 or DXYN, which waits after `most` main cycles at the latest
-pub record Display (h : Since) (Here : ℕ → Type 0) : Type 0 where
-  pub most : ℕ
-  pub waits : WaitsBy h.state most
-  pub here : Here most
-
--- Where main code waits, that is so: it waits for the display.
+-- Where main code waits, its instruction is 00E0 or DXYN: it waits for the display.
 abbrev pub WaitsSoon : Type 0
 WaitsSoon =
     (e : Edition) (script : List Event) (b : Machine) (h : Since)
@@ -100,15 +137,25 @@ WaitsSoon =
     → b.regs.idle ≡ true
     → Display h (λ most. h.spent ≤ most)
 
--- Where the screen in RAM isn't that of the last dispatch point, it is so too, and the interrupt routine that ended the wait returned at most
--- 1,560 cycles ago: no interrupt has come since, so these are cycles of main code.
-abbrev pub ChangesSoon : Type 0
-ChangesSoon =
+-- Main code writes to the screen in 00E0 and DXYN alone, at most 1,560 cycles after the return of the interrupt routine that ended the wait.
+abbrev pub WritesSoon : Type 0
+WritesSoon =
     (e : Edition) (script : List Event) (b : Machine) (h : Since)
     → Running e script b h
-    → b.regs.ie ≡ true
-    → ¬ Showing e b h
+    → WritesScreen e (held_at script) b
     → Display h (λ most. since_return b.cycle ≤ most_changing)
+
+-- Behind the wait, and from the first write to the screen on, main code runs up to the next dispatch point, and no interrupt comes.
+abbrev pub ChangesSoon : Type 0
+ChangesSoon =
+    (e : Edition) (script : List Event) (first : Machine)
+    → MayStart e first
+    → (j i : ℕ)
+    → j ≤ i
+    → Unstopped e script first (suc i)
+    → SameInterval e script first j i
+    → AtDisplay e script first j
+    → Changes e script first j i
 
 -- ---- a part of the ROM
 

@@ -1,3 +1,6 @@
+pub mod Time
 pub mod Running
+pub mod States
+pub mod Display
 pub mod Laws
 pub mod Image

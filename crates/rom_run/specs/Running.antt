@@ -1,28 +1,28 @@
 -- What is known of the board along its run, from the first dispatch point up to the stop, with the record of what came since the last
 -- dispatch point.
-use Rattle.std.specs.Prelude.{◌≡◌, ℕ, ◌+◌, ◌-◌, ◌*◌, ◌/◌, ◌%◌, ◌<◌, ◌≤◌, true, false, List, length, slice_index, Some}
+use Rattle.std.specs.Prelude.{◌≡◌, ℕ, ◌%◌, ◌<◌, ◌≤◌, true, false, List, length, slice_index}
 use Rattle.machine.specs.Board.{Machine, start}
 use Rattle.machine.specs.Keys.{Event, held_at}
 use Rattle.machine.specs.Run.{after_moves}
 use Rattle.machine.specs.Ranges.{FitsMachine}
-use Rattle.machine.specs.Pictures.{frame, interrupt_at}
+use Rattle.machine.specs.Pictures.{interrupt_at}
 use Rattle.chip8_lang.specs.declared.view.Edition.{Edition}
 use Rattle.chip8_lang.specs.declared.view.Stop.{Stop}
 use Rattle.chip8_lang.specs.Editions.{rows_of}
 use Rattle.chip8_lang.specs.Places.{state_of}
 use Rattle.chip8_lang.specs.State.{Lang, first, memory_size}
-use Rattle.chip8_lang.specs.Bounds.{bound_of, boot_bound}
+use Rattle.chip8_lang.specs.Bounds.{boot_bound}
 use Rattle.chip8_lang.specs.Events.{is_dispatch, is_stop}
 use Rattle.rom_moves.specs.Code.{is_event}
 use Rattle.rom_law.specs.Program.{code, Dispatches}
 use Rattle.rom_law.specs.Rows.{Since, Row, Stepped, Stopped, after_tick, dispatched}
 use Rattle.rom_law.specs.Runs.{Covers}
 use Rattle.rom_rows.specs.Rom.{image, vip}
-use Rattle.rom_rows.specs.Heads.{high_byte}
-use Rattle.rom_rows.specs.Table.{pieces, calm_pieces, waited_pieces}
+use Rattle.rom_rows.specs.Table.{pieces}
 use Rattle.rom_fetch.specs.Laws.{boot_moves}
-use Rattle.rom_timer.specs.Frame.{place, interrupt_place, window_place, IsOutside}
-use Rattle.rom_timer.specs.Routine.{routine_moves, routine_cycles}
+use Rattle.rom_timer.specs.Frame.{place, interrupt_place, IsOutside}
+use Rattle.rom_timer.specs.Routine.{routine_moves}
+use Rattle.rom_run.specs.Time.{Timed, DueInTime}
 
 -- The interval from the last dispatch point up to b, where main code runs or waits, which the record covers. Where main code runs, the cycle is
 -- even.
@@ -44,62 +44,6 @@ pub data Due (e : Edition) (b : Machine) (h : Since) : Type 0 where
   Arrives : (s : Lang) → Stepped (vip e) b h s → Due e b h
   Ends : (stop : Stop) → Stopped (vip e) b h stop → Due e b h
 
--- ---- time
-
--- The cycles of the interval: those of main code, those of the routine for each tick, and n in which main code waited.
-abbrev pub Spends : Machine → Since → ℕ → Type 0
-Spends b h n = b.cycle ≡ h.from + h.spent + routine_cycles * h.ticks + n
-
--- how long ago the interrupt routine returned
-abbrev pub since_return : ℕ → ℕ
-since_return t = (t + (frame - (interrupt_place + routine_cycles))) % frame
-
--- how long ago the window ended, and how long at most until the next interrupt
-abbrev pub since_window : ℕ → ℕ
-since_window t = (t + (frame - window_place)) % frame
-
-abbrev pub most_wait : ℕ
-most_wait = frame - window_place + interrupt_place
-
--- the most main cycles after which 00E0 and DXYN wait
-pub data WaitsBy (s : Lang) : ℕ → Type 0 where
-  ToClear : high_byte s ≡ 0 → WaitsBy s 102
-  ToDraw : high_byte s / 16 ≡ 13 → WaitsBy s 2154
-
--- and in which they change the screen behind the wait
-abbrev pub most_changing : ℕ
-most_changing = 1560
-
--- Behind a wait: main code went on in the cycle `woke`, where the interrupt routine returned. It is in a row too if the wait came after `base`
--- main cycles, so that the row says how many it has spent since, `late` less `base`.
-pub record Woken (e : Edition) (b : Machine) (h : Since) : Type 0 where
-  pub woke : ℕ
-  pub return : place woke ≡ interrupt_place + routine_cycles
-  pub base : ℕ
-  pub waits : WaitsBy h.state base
-  pub late : ℕ
-  pub since : b.cycle + base ≡ woke + late
-  pub least : base ≤ late
-  pub row : Row (vip e) (waited_pieces (vip e)) b (record h { spent = late })
-
--- Main code hasn't waited; it waits, since the window ended at most; or it has waited, and is behind the wait of 00E0 or DXYN.
-pub data Timed (e : Edition) (b : Machine) (h : Since) : Type 0 where
-  Before : Spends b h 0 → Row (vip e) (calm_pieces (vip e)) b h → Timed e b h
-  Waiting : (n : ℕ) → Spends b h n → n ≤ since_window b.cycle → b.regs.idle ≡ true → Row (vip e) (calm_pieces (vip e)) b h → Timed e b h
-  Behind : (n : ℕ) → Spends b h n → n ≤ most_wait → Row (vip e) (waited_pieces (vip e)) b h → Woken e b h → Timed e b h
-
--- m cycles of main code and of waiting end within the bound: so many interrupts at most come in them, each with a run of the routine
-pub record Suffices (bound m : ℕ) : Type 0 where
-  pub interrupts : ℕ
-  pub few : m + most_wait ≤ (frame - routine_cycles) * (interrupts + 1)
-  pub all : m + routine_cycles * interrupts ≤ bound
-
--- an event in the cycle of an interrupt comes within the bound of its instruction
-pub record InTime (e : Edition) (b : Machine) (h : Since) : Type 0 where
-  pub waited : ℕ
-  pub spends : Spends b h waited
-  pub suffices : (bound : ℕ) → bound_of e h.state ≡ Some bound → Suffices bound (h.spent + waited)
-
 -- ---- the screen
 
 -- the screen in RAM is that of the language state at the last dispatch point
@@ -112,7 +56,7 @@ Showing e b h = (px py : ℕ) → px < 64 → py < rows_of e → (state_of e b).
 -- the interrupt first, and the event is the state after the routine; the screen hasn't changed since the last dispatch point.
 pub data Outside (e : Edition) (script : List Event) (b : Machine) (h : Since) : Type 0 where
   AtRow : Interval e script b h → Row (vip e) (pieces (vip e)) b h → Counted e b → Timed e b h → Outside e script b h
-  AtEvent : Interval e script b h → place b.cycle ≡ interrupt_place → Due e b h → InTime e b h → Showing e b h → Outside e script b h
+  AtEvent : Interval e script b h → place b.cycle ≡ interrupt_place → Due e b h → DueInTime e b h → Showing e b h → Outside e script b h
 
 -- in the routine of frame m, k moves past the cycle of the interrupt, which was counted as a tick
 pub record Serving (e : Edition) (script : List Event) (b : Machine) (h : Since) : Type 0 where

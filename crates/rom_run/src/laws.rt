@@ -10,7 +10,8 @@ ghost use Rattle.rom_timer.specs.Routine.{RunTick};
 ghost use Rattle.rom_timer.specs.Scan.{RunScan, RunPicture};
 ghost use Rattle.rom_keys.specs.Laws.{KeyRows, KeyPlaceRows, KeyAddresses, KeyPlaceAddresses, NoneStays, StaysDown, GoesUp};
 ghost use Rattle.rom_run.specs.Image.{ImageOfParts};
-ghost use Rattle.rom_run.specs.Laws.{AnySchedule, MainRows, Timely, Undisturbed, WaitsSoon, ChangesSoon, EveryRun, EveryKeyWait, EveryPicture};
+ghost use Rattle.rom_run.specs.Laws.{AnySchedule, MainRows, Timely, Undisturbed, WaitsSoon, WritesSoon, ChangesSoon};
+ghost use Rattle.rom_run.specs.Laws.{BootStarts, EveryRun, FromAnyStart, EveryPicture, EveryPictureBehind, EveryState, EveryInterrupt, NoneMissing};
 
 /// The law of every schedule, for both editions: from a dispatch point on, whenever timer ticks come and whatever keys are held down, the
 /// first main move that comes to the fetch loop or to the stop has made one step of the language, or has come to the stop of the state.
@@ -40,29 +41,59 @@ pub fn waits_soon()
     ensures { WaitsSoon }
 {}
 
-/// Where the screen in RAM isn't that of the last dispatch point, the interrupt routine that ended the wait returned at most 1,560 cycles ago.
-pub fn changes_soon()
-    ensures { ChangesSoon }
+/// Boot comes in 28 moves to a machine that may start, at cycle 56, which stands for the game's first state.
+pub fn boot_starts()
+    ensures { BootStarts }
 {}
 
-/// The law of every run of the board from reset, for both editions, every game that fits into game memory, every key script and every limit:
-/// the first dispatch point, which comes within 1,000 machine cycles, has the game's first state; each next one comes within the bound of the
-/// state before it, and has the state after one step, with the timer ticks and the keys of the cycles between; and a stop is that of the last
-/// state, with its number in 01F0.
+/// The law of every run of the board from reset, for both editions, every game that fits into game memory, every key script and every limit. The
+/// first dispatch point, which comes within 1,000 machine cycles, has the game's first state. Each next one has the state after one step, with the
+/// timer ticks and the keys of the cycles between; it comes within the bound of the state before it, and after FX0A, which has none, before the
+/// last of 3,668 cycles in which all keys are up, behind as many in which a key is down. The pictures are those of frames 0, 1, 2 and so on, without
+/// a gap: before a point come exactly those whose windows have ended by its cycle. Dot x of line k of each is lit exactly where pixel (x, k / 4) is, in
+/// the tall edition (x, k / 2), in the screen of the language state at the last dispatch point before it. A stop is that of the last state, with its
+/// number in 01F0. Where the limit ends the run, no next point was due by then.
 pub fn every_run()
     ensures { EveryRun }
 {}
 
-/// FX0A in these runs: where one key is down in each of 3,668 cycles after its dispatch point, and behind those all keys are up in each of 3,668
-/// cycles from cycle w on, the next dispatch point comes before cycle w + 3,668, if the limit leaves time for it.
-pub fn every_key_wait()
-    ensures { EveryKeyWait }
+/// The same of every run from a machine that stands for a language state at a dispatch point, in an even cycle, in its frame before the interrupt
+/// or behind the window: of the events behind it, whose first picture is that of the first frame whose window hasn't ended.
+pub fn from_any_start()
+    ensures { FromAnyStart }
 {}
 
-/// The law of the pictures of these runs: dot x of line k of each is lit exactly where pixel (x, k / 4) is, in the tall edition (x, k / 2), in the
-/// screen of the language state at the last dispatch point that precedes the picture among the events, and there is one.
+/// The pictures of a run, from reset and from any such start, are those of all frames whose windows end by the cycle of its stop, or of its last
+/// state where it has none. So says the law for every limit: a picture's event is at the first state at or behind its window's end.
 pub fn every_picture()
-    ensures { EveryPicture }
+    ensures from_reset { EveryPicture }
+    ensures from_any_start { EveryPictureBehind }
+{}
+
+/// Every state of a run up to its stop, from reset and from any such start: it is one of boot, or `Running` holds of it with the record of the moves
+/// since the last dispatch point.
+pub fn every_state()
+    ensures { EveryState }
+{}
+
+/// The interrupts of these runs: up to the stop, boot included, the next move is an interrupt exactly in cycle 0 of line 78 of a frame, and no such
+/// cycle is passed over.
+pub fn every_interrupt()
+    ensures there { EveryInterrupt }
+    ensures none_missing { NoneMissing }
+{}
+
+/// Main code writes to the screen, also a byte that was there, in 00E0 and DXYN alone, at most 1,560 cycles after the return of the interrupt routine that
+/// ended the wait.
+pub fn writes_soon()
+    ensures { WritesSoon }
+{}
+
+/// The display in a run from any such start: from where main code runs behind the wait of 00E0 or DXYN, or first writes to the screen, also a byte
+/// that was there, up to the next dispatch point. Each move is an instruction of main code, and ends at most 1,700 cycles after the return of the
+/// interrupt routine that ended the wait. No interrupt's cycle lies between that return and the dispatch point.
+pub fn changes_soon()
+    ensures { ChangesSoon }
 {}
 
 /// Of the image of each edition, what the crates of the six parts prove of the bytes that stand there: the rows and the addresses of their

@@ -133,7 +133,7 @@ module _ (x : Code) (held : ℕ → Keys) where
       same = omega arith
   instructions (suc k) t b h d =
       subst₂ (λ i z. Serves i (timed t b) (timed z (quicks x (suc k) b))) count time
-      (serves_join (instructions k t b p.0 (λ u l m. d u l (omega (arith, m)))) (one at _ (record { by_r1 = s.p; disabled = s.ie }) (move_quick at s (not-true _ q.1) (d (t + cycles_in x k b) (omega arith) (omega (arith, some_cycles (opcode_in x c)))))))
+      (serves_join (instructions k t b p.0 (λ u l m. d u l (omega (arith, m)))) (one at _ (record { by_r1 = s.p; disabled = s.ie; awake = s.idle; on = s.on }) (move_quick at s (not-true _ q.1) (d (t + cycles_in x k b) (omega arith) (omega (arith, some_cycles (opcode_in x c)))))))
     where
       c : Machine
       c = quicks x k b
@@ -169,7 +169,7 @@ module _ (x : Code) (held : ℕ → Keys) where
   dmas (suc k) t a b l d =
       subst₂ (λ i z. Serves i (timed t (at_byte (word_of a) b)) (timed z (at_byte (word_of (a + suc k)) b))) count time
       (serves_join (dmas k t a b (omega arith) (λ u m n. d u m (omega arith)))
-      (one at _ (record { by_r1 = refl; disabled = refl }) (move_in x.rom held at Dma (case_dma at (d (t + k) (omega arith) (omega arith))) ∙ ap (λ w. timed (t + k + 1) (at_byte w b)) (up_is (a + k) (omega arith) ∙ ap word_of next))))
+      (one at _ (record { by_r1 = refl; disabled = refl; awake = refl; on = refl }) (move_in x.rom held at Dma (case_dma at (d (t + k) (omega arith) (omega arith))) ∙ ap (λ w. timed (t + k + 1) (at_byte w b)) (up_is (a + k) (omega arith) ∙ ap word_of next))))
     where
       at : Machine
       at = timed (t + k) (at_byte (word_of (a + k)) b)

@@ -34,7 +34,7 @@ no_dma t true h = go (line_outside t h)
     go (inl l) = rw (lt-leb 80 (line_of t) (omega arith)) refl
     go (inr l) = rw (le-leb 80 (line_of t) (omega arith), le-ltb (line_of t) 208 l) refl
 
-calm : (t : ℕ) → IsOutside t → (place t ≡ interrupt_place → ⊥) → int_at t true ≡ false
+pub calm : (t : ℕ) → IsOutside t → (place t ≡ interrupt_place → ⊥) → int_at t true ≡ false
 calm t (inl h) d = rw (lt-leb 78 (line_of t) (line_before t (omega (arith, d)))) refl
 calm t (inr h) d = rw (le-leb 78 (line_of t) (omega (arith, line_behind t h)), le-ltb (line_of t) 80 (omega (arith, line_behind t h))) refl
 

@@ -1,21 +1,22 @@
 -- The picture of a frame shows the screen that lies in RAM when its interrupt comes.
-use Rattle.std.proofs.Common.{◌≡◌, ℕ, zero, suc, ◌+◌, ◌-◌, ◌*◌, ◌/◌, ◌%◌, ◌<◌, ◌≤◌, ◌⊎◌, inl, inr, refl, sym, ◌∙◌, ap, ap₂, subst, arith, cond, nat_le, List, [], ◌∷◌, ◌++◌, filter, map, replicate, Some, slice_get, slice_index, slice_range, length}
-use Rattle.std.proofs.lemmas.Bool.{cases_lt, lt-ltb, lt-leb, le-leb, ne_eqb, and_right}
+use Rattle.std.proofs.Common.{◌≡◌, ℕ, zero, suc, ◌+◌, ◌-◌, ◌*◌, ◌/◌, ◌%◌, ◌<◌, ◌≤◌, ◌⊎◌, inl, inr, refl, sym, ◌∙◌, ap, ap₂, subst, arith, Bool, true, false, not, ◌&&◌, ◌||◌, cond, nat_le, List, [], ◌∷◌, ◌++◌, filter, map, replicate, Some, slice_get, slice_index, slice_range, length}
+use Rattle.std.proofs.lemmas.Bool.{cases_lt, lt-ltb, le-ltb, lt-leb, le-leb, ne_eqb, and_right}
 use Rattle.std.proofs.lemmas.List.{append-nil}
 use Rattle.std.proofs.lemmas.Option.{slice_get_within, same_Some}
-use Rattle.machine.specs.Board.{Machine, case_of, dma_byte}
+use Rattle.machine.specs.Board.{Machine, case_of, dma_byte, length_of}
 use Rattle.machine.specs.Keys.{Keys}
 use Rattle.machine.specs.Run.{states, after_moves, run_to}
-use Rattle.machine.specs.Pictures.{interrupt_at, window_end, is_dma, is_dma_in, filled, line_bytes, lines_from, picture_of}
-use Rattle.machine.proofs.Runs.{later-move}
+use Rattle.machine.specs.Pictures.{interrupt_at, window_end, is_dma, is_dma_in, filled, line_bytes, lines_from, picture_of, is_within, is_shown}
+use Rattle.machine.proofs.Runs.{cycle-move, later-move}
 use Rattle.chip8_lang.specs.declared.view.Edition.{Edition}
 use Rattle.chip8_lang.specs.declared.view.Edition.TheVariants.{Usual, Tall}
 use Rattle.chip8_lang.specs.Editions.{screen_start, rows_of, lines_of}
 use Rattle.chip8_lang.specs.Screen.{is_set}
 use Rattle.chip8_lang.specs.Places.{state_of, pixels}
 use Rattle.rom_law.specs.Pictures.{dot, ShowsScreen}
+use Rattle.rom_law.proofs.Ahead.{behind_moves, later_cycle, all_in_run}
 use Rattle.rom_law.proofs.Places.{range_get, range_length}
-use Rattle.rom_timer.specs.Routine.{routine_moves}
+use Rattle.rom_timer.specs.Routine.{IsInterrupted, IsTick, routine_moves}
 use Rattle.rom_timer.specs.Scan.{fetched, RunPicture}
 use Rattle.rom_timer.proofs.Fetched.{states_join, fetched_append, none_fetched}
 use Rattle.rom_timer.proofs.Tick.{run_tick}
@@ -139,7 +140,53 @@ shows e rom run m b size scan =
         ap (λ l. dot l x) (same_Some line (line_bytes rom run (262 * m + 80 + k)) (sym get ∙ lines_get rom run 128 (262 * m + 80) k some) ∙ bytes k some)
         ∙ dots e b.ram k some x h
 
+-- ---- the display is on in all cycles of the frame
+
+-- a state is outside of them, or has the display on
+lit : (on t : Bool) → on ≡ true → (on || not t) ≡ true
+lit on t e = rw e refl
+
+behind_them : (on t u : Bool) → t ≡ false → (on || not (t && u)) ≡ true
+behind_them true t u e = refl
+behind_them false t u e = rw e refl
+
+before_them : (on t u : Bool) → u ≡ false → (on || not (t && u)) ≡ true
+before_them true t u e = refl
+before_them false true u e = rw e refl
+before_them false false u e = refl
+
+module _ (e : Edition) (m i : ℕ) (held : ℕ → Keys) (first : Machine) (o : IsInterrupted e m (after_moves (timer_rom e) held first i)) (run : List Machine) where
+  abbrev after : ℕ → Machine
+  after j = after_moves (timer_rom e) held first j
+
+  tick : IsTick e (timer_rom e) m (after i) held
+  tick = run_tick e m (after i) held o
+
+  -- k moves behind the interrupt
+  on_there : (k : ℕ) → k < routine_moves → (after_moves (timer_rom e) held (after i) k).on ≡ true
+  on_there zero l = o.on
+  on_there (suc k) l = (tick.inside (suc k) (omega arith) l).on
+
+  is_on : (j : ℕ) → ((after j).on || not (is_within (timer_rom e) run m (after j))) ≡ true
+  is_on j = go (cases_lt j i) (cases_lt j (i + routine_moves))
+    where
+      behind : i ≤ j → after j ≡ after_moves (timer_rom e) held (after i) (j - i)
+      behind l = ap after split ∙ behind_moves (timer_rom e) held (j - i) i first
+        where
+          split : j ≡ i + (j - i)
+          split = omega (arith, l)
+
+      go : (j < i) ⊎ (i ≤ j) → (j < i + routine_moves) ⊎ (i + routine_moves ≤ j) → ((after j).on || not (is_within (timer_rom e) run m (after j))) ≡ true
+      go (inl l) k = before_them (after j).on _ _ (le-ltb (interrupt_at m) ((after j).cycle + length_of (timer_rom e) (after j)) (omega (arith, cycle-move (timer_rom e) held (after j), later_cycle (timer_rom e) held first (suc j) i (omega (arith, l)), o.cycle)))
+      go (inr l) (inl k) = lit (after j).on _ (ap (λ (z : Machine). z.on) (behind l) ∙ on_there (j - i) (omega (arith, l, k)))
+      go (inr l) (inr k) = behind_them (after j).on _ _ (le-ltb (after j).cycle (window_end m) (omega (arith, ap (λ (z : Machine). z.cycle) (behind l), later_cycle (timer_rom e) held (after i) routine_moves (j - i) (omega (arith, l, k)), tick.cycle)))
+
 pub run_picture : RunPicture timer_rom
+unfolding is_shown
 run_picture e m i limit held first o ended =
-    shows e (timer_rom e) (run_to (timer_rom e) held first limit) m (after_moves (timer_rom e) held first i) o.fits.size
-    (λ k some. in_run (timer_rom e) held first m i routine_moves limit o.cycle (omega arith) (omega (arith, (run_tick e m (after_moves (timer_rom e) held first i) held o).cycle)) ended k some ∙ run_scan e m (after_moves (timer_rom e) held first i) held o k some)
+    record {
+      shown = all_in_run (timer_rom e) held _ limit first (is_on e m i held first o (run_to (timer_rom e) held first limit));
+      shows =
+          shows e (timer_rom e) (run_to (timer_rom e) held first limit) m (after_moves (timer_rom e) held first i) o.fits.size
+          (λ k some. in_run (timer_rom e) held first m i routine_moves limit o.cycle (omega arith) (omega (arith, (run_tick e m (after_moves (timer_rom e) held first i) held o).cycle)) ended k some ∙ run_scan e m (after_moves (timer_rom e) held first i) held o k some);
+    }

@@ -162,7 +162,7 @@ module _ (e : Edition) (held : ℕ → Keys) where
         (serves_join (code (quick e)) held
         (opening 8 l (a + next e) (scanning b at_scan3 (a + next e) ((a + next e) % 256)) (scanning b (at_scan3 + 1) (a + next e) ((a + next e) % 256)) (omega arith) low high room' refl refl refl)
         (serves_to (code (quick e)) held (ap (λ t. timed t (scanning b (at_scan3 + 2) (a + next e + 8) ((a + next e) % 256))) time) (instructions (code (quick e)) held 1 (14 * l + 2 + 8) (scanning b (at_scan3 + 1) (a + next e + 8) ((a + next e) % 256)) refl (λ u m n. late u (omega arith)))))
-        (one (code (quick e)) held at _ (record { by_r1 = refl; disabled = refl }) (move_by (code (quick e)) held efx at (served (code (quick e)) at refl) (late (14 * l + 12) (omega arith)) (ap (λ t. efx_at t true) time' ∙ f) ∙ ends efx))
+        (one (code (quick e)) held at _ (record { by_r1 = refl; disabled = refl; awake = refl; on = refl }) (move_by (code (quick e)) held efx at (served (code (quick e)) at refl) (late (14 * l + 12) (omega arith)) (ap (λ t. efx_at t true) time' ∙ f) ∙ ends efx))
       where
         at : Machine
         at = timed (14 * l + 12) (scanning b (at_scan3 + 2) (a + next e + 8) ((a + next e) % 256))

@@ -31,10 +31,12 @@ routine_moves = 1435
 abbrev pub routine_cycles : ℕ
 routine_cycles = 1846
 
--- while the routine runs, the program counter is R1 and interrupts are disabled
+-- while the routine runs, the program counter is R1, interrupts are disabled, the processor doesn't idle, and the display is on
 pub record RunsRoutine (b : Machine) : Type 0 where
   pub by_r1 : b.regs.p ≡ 1
   pub disabled : b.regs.ie ≡ false
+  pub awake : b.regs.idle ≡ false
+  pub on : b.on ≡ true
 
 -- The routine is one tick, after which main code goes on, at an even cycle behind the window.
 pub record IsTick (e : Edition) (rom : List ℕ) (m : ℕ) (b : Machine) (held : ℕ → Keys) : Type 0 where

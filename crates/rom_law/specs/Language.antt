@@ -1,0 +1,115 @@
+-- The law of a run: its events are those of a run of the language. It is one fold over the events, which carries the last dispatch point and the
+-- frame whose picture comes next.
+use Rattle.std.specs.Prelude.{◌≡◌, ℕ, ◌+◌, ◌<◌, ◌≤◌, List, [], ◌∷◌, Some, None}
+use Rattle.machine.specs.Board.{Machine, move}
+use Rattle.machine.specs.Keys.{held_at}
+use Rattle.machine.specs.Keys.{Event as KeyEvent}
+use Rattle.machine.specs.Pictures.{picture_of, windows_ended}
+use Rattle.machine.specs.Run.{run_to}
+use Rattle.chip8_lang.specs.declared.view.Stop.{Stop}
+use Rattle.chip8_lang.specs.Between.{Between, keys_between}
+use Rattle.chip8_lang.specs.Bounds.{boot_bound}
+use Rattle.chip8_lang.specs.Events.{Event, events_at}
+use Rattle.chip8_lang.specs.Events.Event.{Picture, Dispatch, Stopped}
+use Rattle.chip8_lang.specs.Places.{Interpreter}
+use Rattle.chip8_lang.specs.State.{Lang, first}
+use Rattle.chip8_lang.specs.Ticks.{ticks}
+use Rattle.rom_law.specs.Keys.{Pressed, key_cycles}
+use Rattle.rom_law.specs.Pictures.{ShowsScreen}
+use Rattle.rom_law.specs.Program.{Program, Dispatches, Halts}
+use Rattle.rom_law.specs.Runs.{state_at}
+
+-- ---- the next point behind a dispatch point
+
+-- One step lies between the dispatch points b and c, with the timer ticks and the sets of keys of the cycles between: the state at b has no stop,
+-- and c stands for the state after the step.
+pub record IsStep (x : Program) (script : List KeyEvent) (b c : Machine) : Type 0 where
+  pub runs : x.stop_of (state_at x b) ≡ None
+  pub between : Between x.edition (state_at x b) (x.ticks_between b.cycle c.cycle) (keys_between script b.cycle c.cycle) (state_at x c)
+  pub stands : Dispatches x c (state_at x c)
+
+-- c is the stop point behind the dispatch point b: the stop is that of the state at b, which lies there after the ticks of the cycles between
+pub record IsStop (x : Program) (b c : Machine) : Type 0 where
+  pub stop : Stop
+  pub fits : x.stop_of (state_at x b) ≡ Some stop
+  pub halts : Halts x c (ticks (x.ticks_between b.cycle c.cycle) (state_at x b)) stop
+
+-- Cycle t isn't too late for the next point behind a dispatch of s in cycle `from`: it is within the bound of s. A wait for a key has no bound:
+-- there it comes before the end of a frame's cycles in which all keys are up, behind as many in which a key is down.
+pub record InTime (x : Program) (script : List KeyEvent) (from : ℕ) (s : Lang) (t : ℕ) : Type 0 where
+  pub bound : (bound : ℕ) → x.bound_of s ≡ Some bound → t ≤ from + bound
+  pub keys : x.bound_of s ≡ None → (u w : ℕ) → from ≤ u → Pressed script u w → t < w + key_cycles
+
+-- The next point behind the dispatch point b is in cycle t: that is in time, and the frames whose window has ended by then are those below k, whose
+-- pictures have come.
+pub record Comes (x : Program) (script : List KeyEvent) (k : ℕ) (b : Machine) (t : ℕ) : Type 0 where
+  pub soon : InTime x script b.cycle (state_at x b) t
+  pub shown : windows_ended t ≡ k
+
+-- ---- the end of a run
+
+-- the cycle of the last of these states, or `before` where there is none
+abbrev pub last_cycle : ℕ → List Machine → ℕ
+last_cycle before [] = before
+last_cycle before (b ∷ bs) = last_cycle b.cycle bs
+
+-- What a reader of the law adds to it: where the limit ends the run, and where the stop point c behind the dispatch point b does.
+pub record Also : Type 1 where
+  pub at_limit : Type 0
+  pub at_stop : (b c : Machine) → Stop → Type 0
+
+abbrev pub nothing_else : Also
+nothing_else = record { at_limit = Unit {0}; at_stop = λ b c stop. Unit {0} }
+
+-- ---- the events
+
+module _ (x : Program) (script : List KeyEvent) (limit : ℕ) (run : List Machine) (also : Also) where
+  -- no next point comes up to the limit: one cycle later wouldn't be too late
+  pub record Lasts (k : ℕ) (b : Machine) : Type 0 where
+    pub soon : InTime x script b.cycle (state_at x b) (limit + 1)
+    pub shown : windows_ended (last_cycle b.cycle run) ≡ k
+    pub also_is : also.at_limit
+
+  -- the run stops in c
+  pub record Halted (k : ℕ) (b c : Machine) (events : List Event) : Type 0 where
+    pub comes : Comes x script k b c.cycle
+    pub stop : IsStop x b c
+    pub also_is : also.at_stop b c stop.stop
+    pub last : events ≡ []
+
+  -- The events behind the dispatch point b, of which the first picture is that of frame k. Pictures come frame by frame, and each shows the screen of
+  -- the language state at the last dispatch point before it.
+  abbrev pub GoesOn : ℕ → Machine → List Event → Type 0
+  GoesOn k b [] = Lasts k b
+  GoesOn k b (Picture m ∷ events) = (m ≡ k) × ShowsScreen x.edition (picture_of x.interpreter.rom run m) (state_at x b).screen × GoesOn (k + 1) b events
+  GoesOn k b (Dispatch c ∷ events) = Comes x script k b c.cycle × IsStep x script b c × GoesOn k c events
+  GoesOn k b (Stopped c ∷ events) = Halted k b c events
+
+  -- The events from reset on: the first one is a dispatch point, where the board stands for the game's first state, and comes within the bound of
+  -- boot, if the limit leaves time for it. The pictures are those of the frames 0, 1, 2 and so on.
+  abbrev pub Begins : List ℕ → List Event → Type 0
+  Begins game [] = (limit < boot_bound) × also.at_limit
+  Begins game (Picture m ∷ events) = ⊥
+  Begins game (Dispatch b ∷ events) = Dispatches x b (first x.edition game) × (b.cycle ≤ boot_bound) × GoesOn 0 b events
+  Begins game (Stopped b ∷ events) = ⊥
+
+-- the events of a run up to a cycle that come behind its first state
+abbrev pub events_behind : Interpreter → List KeyEvent → Machine → ℕ → List Event
+events_behind i script b limit =
+    events_at i (run_to i.rom (held_at script) b limit) b.cycle (run_to i.rom (held_at script) (move i.rom (held_at script) b) limit)
+
+-- ---- the frames with a picture
+
+-- the frames whose pictures are among events, in order
+abbrev pub frames_of : List Event → List ℕ
+frames_of [] = []
+frames_of (Picture m ∷ events) = m ∷ frames_of events
+frames_of (Dispatch b ∷ events) = frames_of events
+frames_of (Stopped b ∷ events) = frames_of events
+
+-- the cycle in which the run has stopped by these events, or else `last`, that of its last state
+abbrev pub end_cycle : ℕ → List Event → ℕ
+end_cycle last [] = last
+end_cycle last (Picture m ∷ events) = end_cycle last events
+end_cycle last (Dispatch b ∷ events) = end_cycle last events
+end_cycle last (Stopped b ∷ events) = b.cycle

@@ -1,0 +1,67 @@
+-- The time since the last dispatch point: the cycles of main code, of the interrupt routine and of the wait for the display.
+use Rattle.std.specs.Prelude.{◌≡◌, ℕ, ◌+◌, ◌-◌, ◌*◌, ◌%◌, ◌≤◌, true, Some}
+use Rattle.machine.specs.Board.{Machine}
+use Rattle.machine.specs.Pictures.{frame}
+use Rattle.chip8_lang.specs.declared.instr.Instr.TheVariants.{Clear, Draw}
+use Rattle.chip8_lang.specs.declared.view.Edition.{Edition}
+use Rattle.chip8_lang.specs.State.{Lang, instr_at}
+use Rattle.chip8_lang.specs.Bounds.{bound_of}
+use Rattle.rom_law.specs.Rows.{Since, Row}
+use Rattle.rom_rows.specs.Rom.{vip}
+use Rattle.rom_rows.specs.Table.{calm_pieces, waited_pieces}
+use Rattle.rom_timer.specs.Frame.{place, interrupt_place, window_place}
+use Rattle.rom_timer.specs.Routine.{routine_cycles}
+
+-- The cycles of the interval: those of main code, those of the routine for each tick, and n in which main code waited.
+abbrev pub Spends : Machine → Since → ℕ → Type 0
+Spends b h n = b.cycle ≡ h.from + h.spent + routine_cycles * h.ticks + n
+
+-- how long ago the interrupt routine returned
+abbrev pub since_return : ℕ → ℕ
+since_return t = (t + (frame - (interrupt_place + routine_cycles))) % frame
+
+-- how long ago the window ended, and how long at most until the next interrupt
+abbrev pub since_window : ℕ → ℕ
+since_window t = (t + (frame - window_place)) % frame
+
+abbrev pub most_wait : ℕ
+most_wait = frame - window_place + interrupt_place
+
+-- the most main cycles after which 00E0 and DXYN wait
+pub data WaitsBy (s : Lang) : ℕ → Type 0 where
+  ToClear : instr_at s ≡ Clear → WaitsBy s 102
+  ToDraw : (x y n : ℕ) → instr_at s ≡ Draw x y n → WaitsBy s 2154
+
+-- and in which they change the screen behind the wait
+abbrev pub most_changing : ℕ
+most_changing = 1560
+
+-- Behind a wait: main code went on in the cycle `woke`, where the interrupt routine returned. It is in a row too if the wait came after `base`
+-- main cycles, so that the row says how many it has spent since, `late` less `base`.
+pub record Woken (e : Edition) (b : Machine) (h : Since) : Type 0 where
+  pub woke : ℕ
+  pub return : place woke ≡ interrupt_place + routine_cycles
+  pub base : ℕ
+  pub waits : WaitsBy h.state base
+  pub late : ℕ
+  pub since : b.cycle + base ≡ woke + late
+  pub least : base ≤ late
+  pub row : Row (vip e) (waited_pieces (vip e)) b (record h { spent = late })
+
+-- Main code hasn't waited; it waits, since the window ended at most; or it has waited, and is behind the wait of 00E0 or DXYN.
+pub data Timed (e : Edition) (b : Machine) (h : Since) : Type 0 where
+  Before : Spends b h 0 → Row (vip e) (calm_pieces (vip e)) b h → Timed e b h
+  Waiting : (n : ℕ) → Spends b h n → n ≤ since_window b.cycle → b.regs.idle ≡ true → Row (vip e) (calm_pieces (vip e)) b h → Timed e b h
+  Behind : (n : ℕ) → Spends b h n → n ≤ most_wait → Row (vip e) (waited_pieces (vip e)) b h → Woken e b h → Timed e b h
+
+-- m cycles of main code and of waiting end within the bound: so many interrupts at most come in them, each with a run of the routine
+pub record Suffices (bound m : ℕ) : Type 0 where
+  pub interrupts : ℕ
+  pub few : m + most_wait ≤ (frame - routine_cycles) * (interrupts + 1)
+  pub all : m + routine_cycles * interrupts ≤ bound
+
+-- an event in the cycle of an interrupt comes within the bound of its instruction
+pub record DueInTime (e : Edition) (b : Machine) (h : Since) : Type 0 where
+  pub waited : ℕ
+  pub spends : Spends b h waited
+  pub suffices : (bound : ℕ) → bound_of e h.state ≡ Some bound → Suffices bound (h.spent + waited)
