@@ -1,0 +1,9 @@
+pub mod Answered
+pub mod Below
+pub mod Effects
+pub mod Growth
+pub mod Lookup
+pub mod Numbers
+pub mod Registers
+pub mod Shown
+pub mod Soundness

@@ -1,0 +1,5 @@
+pub mod Certificate
+pub mod Reading
+pub mod Table
+pub mod Closed
+pub mod Leaving

@@ -1,0 +1,52 @@
+//! The faults of a certificate.
+
+use std::alloc::AllocError;
+use thiserror::Error;
+
+/// What is wrong with a line of a certificate. The first three are looked for line by line over all lines, in this order in a line; then
+/// `NoEntry`; and then the last two, again line by line.
+#[derive(Clone, Copy, Debug, PartialEq, Eq, Error)]
+pub enum CertCause {
+    /// The first line that says something is no `within` line, or a later one is no line of an address; or no line says anything, which is
+    /// said of line 1.
+    #[error("BadLine")]
+    BadLine,
+    /// A number is not of its digits or out of its range, or the counter register is the program counter.
+    #[error("BadNumber")]
+    BadNumber,
+    /// The address is not above that of the line before.
+    #[error("Order")]
+    Order,
+    /// No line has the entry; or its line asks for an X or for a fact, or leaves more cycles than the limit at a counter of 255.
+    #[error("NoEntry")]
+    NoEntry,
+    /// The opcode at the address is not allowed: a byte of the instruction lies outside the ROM, or the instruction idles, or could change
+    /// the program counter or the counter register by another way than its row names.
+    #[error("Opcode")]
+    Opcode,
+    /// What the line says does not follow from what the lines behind its instruction say.
+    #[error("Step")]
+    Step,
+}
+
+/// Why a certificate is not accepted.
+#[derive(Clone, Copy, Debug, PartialEq, Eq, Error)]
+pub enum CertFault {
+    /// The first fault, with the number of its line, counted from 1.
+    #[error("line {line}: {cause}")]
+    Fault { line: u32, cause: CertCause },
+    /// No memory was left for the lines.
+    #[error("NoMemory")]
+    NoMemory,
+}
+
+impl From<AllocError> for CertFault {
+    ghost use Rattle.std.specs.Prelude.{◌≡◌};
+    ghost use Rattle.cycle_check.specs.declared.fault.CertFault.TheVariants.{NoMemory};
+
+    ghost from_gives = { λ _ fault. fault ≡ NoMemory };
+
+    fn from(_error: AllocError) -> CertFault {
+        CertFault::NoMemory
+    }
+}

@@ -1,0 +1,77 @@
+//! Cycle certificates: whether a certificate bounds the machine cycles of a routine in a ROM.
+//!
+//! A certificate is a text that says for each address of a routine how many cycles are left there at most, by the value of a counter
+//! register, and what is known of X and D. `check_cycles` checks each of its lines against the instruction at its address and the lines
+//! behind that; it runs nothing. The format and the rules are this project's profile (`docs/FORMATS.md`), the instructions those of RCA's
+//! data sheet of the CDP1802.
+//!
+//! The crate stands on the definitions of `machine`, on `vip_isa`, on `vip_byte` and on the kit's `thiserror`. The layers above may rely on
+//! this: an answer is the one of `specs/Closed.antt`, want of memory aside, and a certificate that is accepted holds of the machine's
+//! instruction semantics (`specs/Leaving.antt`): the routine leaves within its limit, whatever the flags and the bytes from ports are.
+#![tactic(auto)]
+
+ghost use Rattle.std.specs.Prelude.{◌≡◌, ◌≤◌, ◌⊎◌, length, Ok, Err, IfOk, IfErr};
+ghost use Rattle.cycle_check.specs.Closed.{checked};
+ghost use Rattle.cycle_check.specs.Leaving.{IsWithin};
+
+mod certificate;
+mod closed;
+mod fault;
+mod grammar;
+pub mod laws;
+mod table;
+
+use crate::certificate::{read_certificate, statement_number};
+use crate::closed::fault_in;
+pub use crate::fault::{CertCause, CertFault};
+use std::alloc::Global;
+use vip_byte::MOST_TEXT;
+
+/// What an accepted certificate promises: from the entry the routine leaves before more than `limit` machine cycles have passed.
+#[derive(Clone, Copy, Debug, PartialEq, Eq)]
+pub struct Within {
+    /// The address at which the routine is entered.
+    pub entry: u16,
+    /// The most machine cycles, not counting those of DMA and interrupts.
+    pub limit: u32,
+}
+
+/// Checks a certificate of at most 1,048,576 bytes against the 2,048 bytes of a ROM that lies at 8000 (this project's format).
+///
+/// | A line | Says |
+/// |---|---|
+/// | no word, or a first word that begins with `#` | nothing |
+/// | the first other line: `within ENTRY P K LIMIT` | from ENTRY, with R(P) as program counter, at most LIMIT cycles pass; R(K) is the counter |
+/// | each further line: `ADDRESS X BASE STEP FACT` | at ADDRESS, where X and the fact hold, at most BASE + STEP times R(K).0 cycles are left |
+///
+/// ENTRY and ADDRESS have four hexadecimal digits, P, K and X one, and X may be `-` for unknown. LIMIT is decimal, up to 1,000,000,000, BASE
+/// and STEP up to 1,000,000. FACT is `any`; `copy`, D is R(K).0; `some`, R(K).0 isn't 0; or `is` and two digits, D is that byte. The
+/// addresses rise.
+///
+/// The answer is the entry and the limit; or the first fault: the first line that the grammar refuses; else the entry that no line covers;
+/// else the first line whose opcode isn't allowed or whose promise doesn't follow from those behind it; or memory was wanting.
+pub fn check_cycles(alloc: Global, rom: &[u8; 2048], text: &[u8]) -> Result<Within, CertFault>
+    requires { length text.now ≤ MOST_TEXT }
+    ensures accepted { IfOk result (λ within. checked rom.now text.now ≡ Ok within) }
+    ensures fault { IfErr result
+        (λ fault. (fault ≡ CertFault.NoMemory) ⊎ (checked rom.now text.now ≡ Err fault)) }
+    ensures within { IfOk result (λ within. IsWithin rom.now text.now within) }
+{
+    let certificate = read_certificate(alloc, text)?;
+    let Some(bound) = certificate.bound() else {
+        return Err(CertFault::Fault {
+            line: 1,
+            cause: CertCause::BadLine,
+        });
+    };
+    match fault_in(rom, &bound, certificate.lines()) {
+        Some((place, cause)) => Err(CertFault::Fault {
+            line: statement_number(text, place),
+            cause,
+        }),
+        None => Ok(Within {
+            entry: bound.entry,
+            limit: bound.limit,
+        }),
+    }
+}
