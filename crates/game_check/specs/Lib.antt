@@ -1,0 +1,6 @@
+pub mod Grammar
+pub mod Order
+pub mod Closed
+pub mod Proof
+pub mod States
+pub mod Laws

@@ -1,0 +1,67 @@
+//! Points of control, and what a line of a certificate claims of one.
+
+ghost use Rattle.std.specs.Prelude.{◌≡◌, ◌<◌, ◌≤◌, [], ◌∷◌, ◌++◌, length};
+ghost use Rattle.game_check.specs.Grammar.{order};
+
+use arrayvec::ArrayVec;
+use std::cmp::Ordering;
+
+/// A point of control: pc, and the addresses on the stack, the oldest first.
+#[derive(Debug, Drop)]
+pub struct Point {
+    pub pc: u16,
+    pub stack: ArrayVec<u16, 12>,
+}
+
+impl Point {
+    // The lower pc comes first, then the shorter stack, and then the stack that is lower at the first difference.
+    pub(crate) fn order(&self, other: &Point) -> Ordering
+        ensures { result ≡ order self.now other.now }
+    {
+        let by_stack = self.stack.as_slice().cmp(other.stack.as_slice());
+        let by_depth = self.stack.len().cmp(&other.stack.len());
+        self.pc.cmp(&other.pc).then(by_depth.then(by_stack))
+    }
+}
+
+/// That at a point of control the index I lies from one address to another, both of which it may be.
+#[derive(Debug, Drop)]
+pub struct Claim {
+    pub point: Point,
+    pub low: u16,
+    pub high: u16,
+}
+
+impl Claim {
+    // The same claim.
+    pub(crate) fn copied(&self) -> Claim {
+        Claim {
+            point: Point {
+                pc: self.point.pc,
+                stack: stack_of(self.point.stack.as_slice()),
+            },
+            low: self.low,
+            high: self.high,
+        }
+    }
+}
+
+/// A stack of at most 12 addresses, the oldest first.
+pub(crate) fn stack_of(addresses: &[u16]) -> ArrayVec<u16, 12>
+    requires { length addresses.now ≤ 12 }
+    ensures { result.items ≡ addresses.now }
+{
+    let mut stack = ArrayVec::new();
+    let _ = stack.try_extend_from_slice(addresses);
+    stack
+}
+
+/// The stack with an address more.
+pub(crate) fn pushed(addresses: &[u16], address: u16) -> ArrayVec<u16, 12>
+    requires { length addresses.now < 12 }
+    ensures { result.items ≡ addresses.now ++ address ∷ [] }
+{
+    let mut stack = stack_of(addresses);
+    stack.push(address);
+    stack
+}

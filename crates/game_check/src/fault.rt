@@ -1,0 +1,83 @@
+//! Why a certificate is refused, and why none was found.
+
+use crate::claim::Claim;
+use std::alloc::AllocError;
+use thiserror::Error;
+
+/// Why a line of a certificate is refused. The first two are looked for in all lines before the third is, and the third before the others.
+#[derive(Clone, Copy, Debug, PartialEq, Eq, Error)]
+pub enum ProofCause {
+    /// The line has fewer than three or more than fifteen words, some word is not four hexadecimal digits, or the least I is above the
+    /// greatest.
+    #[error("BadLine")]
+    BadLine,
+    /// Its point does not come behind that of the line before.
+    #[error("Order")]
+    Order,
+    /// No line is of pc 0200 with an empty stack and a least I of 0. It is said of line 1.
+    #[error("NoStart")]
+    NoStart,
+    /// pc or pc + 1 lies outside game memory.
+    #[error("Outside")]
+    Outside,
+    /// The opcode is no instruction or calls machine code, is a BMMM, returns with an empty stack, or calls with 12 addresses on it.
+    #[error("Opcode")]
+    Opcode,
+    /// For some I of the line the instruction reads outside game memory and the font, or writes outside game memory or into the code.
+    #[error("Access")]
+    Access,
+    /// Some next point has no line, or none that allows all of the next I.
+    #[error("Next")]
+    Next,
+}
+
+/// Why a certificate was not accepted.
+#[derive(Clone, Copy, Debug, PartialEq, Eq, Error)]
+pub enum ProofFault {
+    /// The first faulty line, counted from 1, and the first cause in it.
+    #[error("line {line}: {cause}")]
+    Fault { line: u32, cause: ProofCause },
+    /// No memory was left for the lines.
+    #[error("NoMemory")]
+    NoMemory,
+}
+
+impl From<AllocError> for ProofFault {
+    ghost use Rattle.std.specs.Prelude.{◌≡◌};
+    ghost use Rattle.game_check.specs.declared.fault.ProofFault.TheVariants.{NoMemory};
+
+    ghost from_gives = { λ _ fault. fault ≡ NoMemory };
+
+    fn from(_error: AllocError) -> ProofFault {
+        ProofFault::NoMemory
+    }
+}
+
+/// Where the search for a certificate ended without one: the claim that could not be closed, for which cause, and the opcode there, which is
+/// none where it does not lie in game memory.
+#[derive(Debug, Drop)]
+pub struct Obstacle {
+    pub cause: ProofCause,
+    pub opcode: Option<u16>,
+    pub claim: Claim,
+}
+
+/// Why no certificate was found.
+#[derive(Debug, Drop)]
+pub enum FindFault {
+    /// The search ended at this place.
+    NotFound(Obstacle),
+    /// No memory was left.
+    NoMemory,
+}
+
+impl From<AllocError> for FindFault {
+    ghost use Rattle.std.specs.Prelude.{◌≡◌};
+    ghost use Rattle.game_check.specs.declared.fault.FindFault.TheVariants.{NoMemory};
+
+    ghost from_gives = { λ _ fault. fault ≡ NoMemory };
+
+    fn from(_error: AllocError) -> FindFault {
+        FindFault::NoMemory
+    }
+}

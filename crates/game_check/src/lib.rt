@@ -1,0 +1,23 @@
+//! Certificates that a game never stops. A certificate is a text whose lines claim, for points of control, where the index I lies there. If each
+//! claim is closed, which is looked at line by line, then no script of keys and no random byte ever leads to a stop.
+//!
+//! The crate stands on the definitions of `machine` and `chip8_lang`, and on the lines, words and numbers of `vip_byte` and `vip_keypad`. The
+//! layers above may rely on this: `check_game` answers the number of claims exactly where the certificate is well formed and closed and has a claim of
+//! the start, and else its first fault (`specs/Proof.antt`); of such a certificate the step law holds, and its game never stops (`specs/Laws.antt`);
+//! what `find_certificate` finds, `check_game` accepts. Of which games it finds one nothing is promised. The format is this project's profile.
+#![tactic(auto)]
+
+mod check;
+mod claim;
+mod closed;
+mod fault;
+mod find;
+pub mod laws;
+mod line;
+mod read;
+mod search;
+
+pub use check::check_game;
+pub use claim::{Claim, Point};
+pub use fault::{FindFault, Obstacle, ProofCause, ProofFault};
+pub use find::find_certificate;
