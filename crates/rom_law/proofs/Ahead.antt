@@ -1,5 +1,5 @@
 -- A run goes on: its states one after the other, their cycles, and its last one.
-use Rattle.std.proofs.Common.{◌≡◌, ℕ, zero, suc, ◌+◌, ◌<◌, ◌≤◌, ◌⊎◌, inl, inr, nat_le, refl, sym, ◌∙◌, ap, subst, arith, le_refl, Bool, true, false, cond, ◌&&◌, List, [], ◌∷◌, filter}
+use Rattle.std.proofs.Common.{◌≡◌, ℕ, zero, suc, ◌+◌, ◌<◌, ◌≤◌, ◌⊎◌, inl, inr, nat_le, refl, sym, ◌∙◌, ap, subst, arith, le_refl, Bool, true, false, cond, List, [], ◌∷◌, filter}
 use Rattle.std.specs.List.{list_all}
 use Rattle.std.proofs.lemmas.Bool.{and_from, and_parts, cases_eq, cases_lt, le-leb, lt-leb}
 use Rattle.machine.specs.Board.{Machine, move}

@@ -4,7 +4,7 @@ use Rattle.std.proofs.lemmas.Bool.{cases_lt}
 use Rattle.machine.specs.Board.{Machine, move, start}
 use Rattle.machine.specs.Keys.{held_at}
 use Rattle.machine.specs.Keys.{Event as KeyEvent}
-use Rattle.machine.specs.Run.{run_to, after_moves}
+use Rattle.machine.specs.Run.{run_to}
 use Rattle.machine.specs.Pictures.{window_end, windows_ended, picture_of, is_shown}
 use Rattle.machine.proofs.Runs.{later-move, run_to-next, run_to-past}
 use Rattle.chip8_lang.specs.State.{Lang, first}
@@ -13,8 +13,7 @@ use Rattle.chip8_lang.specs.Between.{Between, keys_between}
 use Rattle.chip8_lang.specs.Bounds.{boot_bound}
 use Rattle.chip8_lang.specs.Events.{Event, events_at, events_of, numbers_from, is_dispatch, is_stop}
 use Rattle.chip8_lang.specs.Events.Event.{Picture, Dispatch, Stopped}
-use Rattle.rom_law.specs.Keys.{Pressed, key_cycles}
-use Rattle.rom_law.specs.Language.{IsStep, IsStop, InTime, last_cycle, nothing_else, GoesOn, Begins, events_behind}
+use Rattle.rom_law.specs.Language.{InTime, last_cycle, nothing_else, GoesOn, Begins, events_behind}
 use Rattle.rom_law.specs.Pictures.{ShowsScreen}
 use Rattle.rom_law.specs.Program.{Program, Dispatches, Halts}
 use Rattle.rom_law.specs.Rows.{Since, dispatched}

@@ -1,6 +1,6 @@
 -- Where an instruction of a straight piece of code writes, it writes after ticks too.
-use Rattle.std.proofs.Common.{◌≡◌, ℕ, ◌<◌, refl, sym, ◌∙◌, ap, ap₂, arith, Bool, true, false, ◌&&◌}
-use Rattle.std.specs.Prelude.{◌==◌, Option, Some, None}
+use Rattle.std.proofs.Common.{◌≡◌, ℕ, ◌<◌, sym, ◌∙◌, ap, ap₂, arith, true, false, ◌&&◌}
+use Rattle.std.specs.Prelude.{◌==◌, Some, None}
 use Rattle.std.proofs.lemmas.Bool.{and_parts}
 use Rattle.machine.specs.Bank.{Word, value, up, get, put}
 use Rattle.machine.specs.Board.{Machine, opcode_of}

@@ -1,5 +1,5 @@
 -- Before a wait for the display main code stays before it, also under ticks, and leaves the screen as it was at the dispatch point.
-use Rattle.std.proofs.Common.{Bool, ◌≡◌, ℕ, zero, suc, ◌+◌, ◌*◌, ◌<◌, ◌≤◌, refl, sym, ◌∙◌, ap, subst, arith, true, false, slice_index, length, Option, Some, None}
+use Rattle.std.proofs.Common.{Bool, ◌≡◌, ℕ, zero, suc, ◌+◌, ◌*◌, ◌<◌, ◌≤◌, refl, sym, ◌∙◌, ap, subst, arith, true, false, slice_index, length, Some, None}
 use Rattle.machine.specs.Bank.{value, word_of}
 use Rattle.machine.specs.Board.{Machine, opcode_of}
 use Rattle.machine.specs.Instruction.{Regs, Inputs, stepped, executed}

@@ -1,11 +1,10 @@
 -- Behind the wait for the display, and from the first write to the screen on, main code runs up to the next dispatch point without an interrupt.
-use Rattle.std.proofs.Common.{◌≡◌, ℕ, zero, suc, ◌+◌, ◌-◌, ◌/◌, ◌%◌, ◌<◌, ◌≤◌, ◌⊎◌, inl, inr, refl, sym, ◌∙◌, ap, subst, subst₂, arith, Bool, true, false, if◌then◌else◌, List}
-use Rattle.std.specs.Prelude.{Option, Some, None}
+use Rattle.std.proofs.Common.{◌≡◌, ℕ, zero, suc, ◌+◌, ◌-◌, ◌/◌, ◌≤◌, ◌⊎◌, inl, inr, refl, sym, ◌∙◌, ap, subst, subst₂, arith, Bool, true, false, if◌then◌else◌, List}
+use Rattle.std.specs.Prelude.{Some, None}
 use Rattle.std.proofs.lemmas.Bool.{cases_eq}
-use Rattle.machine.specs.Opcodes.{cycles_of}
-use Rattle.machine.specs.Signals.{dma_at, int_at, efx_at}
+use Rattle.machine.specs.Signals.{dma_at, efx_at}
 use Rattle.machine.specs.Instruction.{inputs, stepped}
-use Rattle.machine.specs.Board.{Machine, Case, byte_of, case_of, flags_of, main_move, move, opcode_of}
+use Rattle.machine.specs.Board.{Machine, byte_of, case_of, flags_of, main_move, move}
 use Rattle.machine.specs.Board.Case.{Dma, Interrupt, Idle, Instruction}
 use Rattle.machine.specs.Keys.{Event, Keys, held_at}
 use Rattle.machine.specs.Pictures.{interrupt_at}
@@ -13,9 +12,7 @@ use Rattle.machine.specs.Run.{after_moves}
 use Rattle.machine.proofs.Runs.{later-move}
 use Rattle.chip8_lang.specs.declared.view.Edition.{Edition}
 use Rattle.chip8_lang.specs.declared.view.Stop.{Stop}
-use Rattle.chip8_lang.specs.Editions.{screen_start}
 use Rattle.chip8_lang.specs.Events.{is_dispatch}
-use Rattle.chip8_lang.specs.State.{Lang}
 use Rattle.chip8_lang.specs.Step.{stop_of}
 use Rattle.rom_moves.specs.Code.{Input, moved}
 use Rattle.rom_law.specs.Program.{Program, code}
@@ -33,7 +30,7 @@ use Rattle.rom_rows.specs.SpriteBlocks.SpriteBlock.{Wipe, Wipe3, Wipe6, Wiped, C
 use Rattle.rom_rows.specs.Table.{Head, pieces, calm_pieces, waited_pieces}
 use Rattle.rom_rows.specs.Table.Block.{OfSprite}
 use Rattle.rom_rows.proofs.Steps.{stop_ticks}
-use Rattle.rom_timer.specs.Frame.{place, interrupt_place, IsOutside, Makes}
+use Rattle.rom_timer.specs.Frame.{place, interrupt_place, Makes}
 use Rattle.rom_timer.specs.Frame.Makes.{Runs, Waits, Accepts}
 use Rattle.rom_timer.specs.Routine.{IsTick, routine_moves, routine_cycles}
 use Rattle.rom_timer.proofs.Frame.{case_accepts, case_runs, every_move, keeps_place}
@@ -44,7 +41,7 @@ use Rattle.rom_run.specs.Running.{Interval, Outside, Running, Serving}
 use Rattle.rom_run.specs.Running.Outside.{AtRow, AtEvent}
 use Rattle.rom_run.specs.Running.Running.{InMain, InRoutine}
 use Rattle.rom_run.specs.States.{MayStart, Unstopped}
-use Rattle.rom_run.specs.Time.{Woken, since_return, most_changing}
+use Rattle.rom_run.specs.Time.{Woken, most_changing}
 use Rattle.rom_run.specs.Time.Timed.{Before, Waiting, Behind}
 use Rattle.rom_run.proofs.Behind.{waited_moves, waited_cycle, waited_awake, row_wakes}
 use Rattle.rom_run.proofs.Calm.{calm_writes}

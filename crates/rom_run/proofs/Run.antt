@@ -1,16 +1,15 @@
 -- A run from a machine that may start, and from reset, where boot comes to one: each move keeps what is known of the board, so the law of a run holds.
-use Rattle.std.proofs.Common.{◌≡◌, ℕ, suc, ◌+◌, ◌-◌, ◌%◌, ◌<◌, ◌≤◌, ◌⊎◌, inl, inr, refl, sym, ◌∙◌, ap, subst, subst₂, arith, true, false, List, [], length, slice_index}
+use Rattle.std.proofs.Common.{◌≡◌, ℕ, suc, ◌-◌, ◌<◌, ◌≤◌, ◌⊎◌, inl, inr, refl, sym, ◌∙◌, ap, subst, subst₂, arith, true, false, List, length, slice_index}
 use Rattle.std.proofs.lemmas.Bool.{cases_lt}
 use Rattle.machine.specs.Board.{Machine, move, start}
 use Rattle.machine.specs.Keys.{Event, Keys, held_at}
-use Rattle.machine.specs.Run.{after_moves, run_to}
+use Rattle.machine.specs.Run.{run_to}
 use Rattle.machine.specs.Ranges.{FitsMachine}
 use Rattle.machine.specs.Pictures.{windows_ended}
 use Rattle.machine.proofs.Runs.{later-move, run_to-past}
 use Rattle.chip8_lang.specs.declared.view.Edition.{Edition}
 use Rattle.chip8_lang.specs.declared.view.Edition.TheVariants.{Usual, Tall}
 use Rattle.chip8_lang.specs.State.{first, memory_size}
-use Rattle.chip8_lang.specs.Bounds.{boot_bound}
 use Rattle.chip8_lang.specs.Events.{events_at, events_of, game_run, numbers_from, is_dispatch, is_stop}
 use Rattle.rom_law.specs.Language.{last_cycle, nothing_else, events_behind, frames_of, end_cycle}
 use Rattle.rom_law.specs.Program.{Program, Dispatches}

@@ -1,5 +1,5 @@
 -- Each state of a run up to its stop is known, and the interrupts come exactly where they should.
-use Rattle.std.proofs.Common.{◌≡◌, ℕ, zero, suc, ◌+◌, ◌-◌, ◌*◌, ◌/◌, ◌%◌, ◌<◌, ◌≤◌, ◌⊎◌, inl, inr, refl, sym, ◌∙◌, ap, subst, arith, Bool, true, false, if◌then◌else◌, ◌&&◌, List, length, slice_index}
+use Rattle.std.proofs.Common.{◌≡◌, ℕ, zero, suc, ◌+◌, ◌-◌, ◌/◌, ◌<◌, ◌≤◌, ◌⊎◌, inl, inr, refl, sym, ◌∙◌, subst, arith, Bool, true, false, if◌then◌else◌, ◌&&◌, List, length, slice_index}
 use Rattle.std.proofs.lemmas.Bool.{cases_Bool, cases_eq, cases_lt}
 use Rattle.machine.specs.Board.{Machine, Case, case_of, start}
 use Rattle.machine.specs.Board.Case.{Dma, Interrupt, Idle, Instruction}
@@ -8,7 +8,7 @@ use Rattle.machine.specs.Pictures.{interrupt_at}
 use Rattle.machine.specs.Signals.{int_at, dma_at}
 use Rattle.chip8_lang.specs.declared.view.Edition.{Edition}
 use Rattle.chip8_lang.specs.State.{memory_size}
-use Rattle.rom_law.specs.Rows.{Since, Row}
+use Rattle.rom_law.specs.Rows.{Since}
 use Rattle.rom_law.specs.Runs.{state_after, record_after}
 use Rattle.rom_law.proofs.Ahead.{later_cycle}
 use Rattle.rom_law.proofs.Carried.{disabled_apart}
@@ -17,7 +17,7 @@ use Rattle.rom_law.proofs.States.{holds_after, holds_behind, since_dispatch}
 use Rattle.rom_rows.specs.Rom.{image, vip}
 use Rattle.rom_rows.specs.Table.{pieces}
 use Rattle.rom_fetch.specs.Laws.{boot_moves}
-use Rattle.rom_timer.specs.Frame.{place, interrupt_place, IsOutside}
+use Rattle.rom_timer.specs.Frame.{place, interrupt_place}
 use Rattle.rom_timer.proofs.Frame.{calm, case_accepts, case_runs, case_waits}
 use Rattle.rom_run.specs.Laws.{EveryState, EveryInterrupt, NoneMissing}
 use Rattle.rom_run.specs.Running.{Running, Booting}

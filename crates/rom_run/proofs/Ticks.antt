@@ -1,13 +1,12 @@
 -- The time since the last dispatch point: how many interrupts fall into it, and that the next event comes within its bound.
-use Rattle.std.proofs.Common.{◌≡◌, ℕ, zero, suc, ◌+◌, ◌-◌, ◌*◌, ◌/◌, ◌<◌, ◌≤◌, ◌⊎◌, inl, inr, sym, subst, arith, List, le_refl}
+use Rattle.std.proofs.Common.{◌≡◌, ℕ, ◌+◌, ◌-◌, ◌*◌, ◌/◌, ◌<◌, ◌≤◌, ◌⊎◌, inl, inr, arith, List}
 use Rattle.std.proofs.lemmas.Bool.{cases_eq}
 use Rattle.machine.specs.Opcodes.{cycles_of}
 use Rattle.machine.specs.Board.{Machine, Case, case_of, move, length_in}
 use Rattle.machine.specs.Board.Case.{Instruction}
 use Rattle.machine.specs.Keys.{Keys}
 use Rattle.machine.specs.Pictures.{frame}
-use Rattle.machine.specs.Run.{after_moves}
-use Rattle.machine.proofs.Runs.{later-move, cycle-move}
+use Rattle.machine.proofs.Runs.{cycle-move}
 use Rattle.chip8_lang.specs.Between.{ticks_between}
 use Rattle.rom_timer.specs.Frame.{place, interrupt_place, IsOutside}
 use Rattle.rom_timer.specs.Routine.{routine_cycles}

@@ -1,5 +1,5 @@
 -- The states of a run, from reset or from any machine that may start: what is known of each of them up to the stop, and which moves are interrupts.
-use Rattle.std.specs.Prelude.{◌≡◌, ℕ, suc, ◌%◌, ◌<◌, ◌≤◌, ◌⊎◌, ◌↔◌, false, List, length, slice_index}
+use Rattle.std.specs.Prelude.{◌≡◌, ℕ, ◌%◌, ◌<◌, ◌≤◌, ◌⊎◌, ◌↔◌, false, List, length, slice_index}
 use Rattle.machine.specs.Board.{Machine, case_of, start}
 use Rattle.machine.specs.Board.Case.{Interrupt}
 use Rattle.machine.specs.Keys.{Event}
