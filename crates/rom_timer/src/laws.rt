@@ -49,7 +49,7 @@ pub fn keeps_waiting()
 {}
 
 /// From the interrupt of a frame, of a machine whose main code runs or waits with room on the stack, the board comes in 1,846 machine cycles
-/// to the return of the routine: one timer tick was made, and nothing else. In between R1 is the program counter.
+/// to the return of the routine: one timer tick was made, and nothing else. In between R1 is the program counter, and the display is on.
 pub fn run_tick()
     ensures { RunTick timer_rom }
 {}
@@ -59,7 +59,8 @@ pub fn run_scan()
     ensures { RunScan timer_rom }
 {}
 
-/// So the picture of a frame shows the screen that lies in RAM when its interrupt comes, in every run that goes on to the end of the window.
+/// So the frame has a picture, which shows the screen that lies in RAM when its interrupt comes, in every run that goes on to the end of the
+/// window: the display is on in all of its cycles.
 pub fn run_picture()
     ensures { RunPicture timer_rom }
 {}
