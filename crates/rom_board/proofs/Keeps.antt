@@ -1,17 +1,22 @@
 -- A move of the board keeps what is known of the running interpreter.
-use Rattle.std.proofs.Common.{◌≡◌, sym, ◌∙◌, ap, subst}
+use Rattle.std.proofs.Common.{◌≡◌, ◌≤◌, true, sym, ◌∙◌, ap, subst}
 use Rattle.machine.specs.Board.{move}
 use Rattle.chip8_image.specs.declared.parts.Part.{Part}
+use Rattle.chip8_image.specs.declared.parts.Part.TheVariants.{Sprite}
 use Rattle.rom_law.specs.Runs.{Moves, carried}
+use Rattle.rom_law.specs.Runs.Moves.{Still, Arrived, Halted}
 use Rattle.rom_rows.specs.Rom.{vip}
+use Rattle.rom_run.specs.Display.{Display}
 use Rattle.rom_run.specs.Running.{Running, FromBoot}
+use Rattle.rom_run.proofs.Display.{waits_soon}
 use Rattle.rom_run.proofs.Dispatch.{dispatch_in}
 use Rattle.rom_run.proofs.Parts.{moves_in, boot_rows}
+use Rattle.rom_run.proofs.Waits.{sleeps}
 use Rattle.vip_board.specs.Moves.{IfDone, moved, name_of}
 use Rattle.vip_board.specs.Seen.{Seen, held_by}
 use Rattle.vip_board.specs.declared.board.Moved.{Moved}
 use Rattle.vip_board.specs.declared.board.Moved.TheVariants.{Done, End}
-use Rattle.rom_board.specs.Runs.{carried_on, KeepsRunning, KeepsBooting, KeepsTime}
+use Rattle.rom_board.specs.Runs.{carried_on, KeepsRunning, KeepsBooting, KeepsTime, KeepsDisplay}
 
 module _ (old new : Seen) where
   -- what a move did says what the board is now
@@ -37,3 +42,14 @@ module _ (old new : Seen) where
       dispatch_in e old.script old.machine h o.0.1 o.1 inside p (
       sym (ap (λ (s : Seen). s.machine.regs.p) d.0 ∙ ap (λ rom. (move rom (held_by old) old.machine).regs.p) o.0.0) ∙ q)
   keeps_time End d e h o inside p = tt
+
+  pub keeps_display : (r : Moved) → IsMove r → KeepsDisplay r old new
+  keeps_display (Done m) d e h o = λ enabled waits. go enabled waits (keeps_running Sprite (Done m) d e h o)
+    where
+      go :
+          new.machine.regs.ie ≡ true → new.machine.regs.idle ≡ true → Moves (vip e) old.script (Running e old.script) (carried_on old h) new.machine
+          → Display (carried_on old h) (λ most. (carried_on old h).spent ≤ most)
+      go enabled waits (Still calm goes_on r) = waits_soon e old.script new.machine (carried_on old h) r enabled waits
+      go enabled waits (Arrived at goes_on covers s r) = absurd (sleeps (sym waits ∙ s.stands.keeps.lies.awake))
+      go enabled waits (Halted at covers stop s) = absurd (sleeps (sym waits ∙ s.halts.keeps.lies.awake))
+  keeps_display End d e h o = tt

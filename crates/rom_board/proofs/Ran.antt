@@ -2,6 +2,7 @@
 use Rattle.std.proofs.Common.{◌≡◌, ℕ, zero, suc, ◌+◌, ◌-◌, ◌*◌, ◌^◌, ◌<◌, ◌≤◌, ◌↔◌, refl, sym, ◌∙◌, ap, subst, arith}
 use Rattle.machine.specs.Board.{Machine, case_of, move, length_of}
 use Rattle.machine.specs.Keys.{held_at}
+use Rattle.machine.specs.Pictures.{interrupt_at}
 use Rattle.machine.specs.Run.{after_moves}
 use Rattle.machine.specs.Schedule.{Tick}
 use Rattle.machine.proofs.Runs.{cycle-move, later-move}
@@ -10,16 +11,21 @@ use Rattle.chip8_lang.specs.Editions.{memory_end}
 use Rattle.rom_law.specs.Rows.{Since, after_tick}
 use Rattle.rom_law.specs.Runs.{Moves}
 use Rattle.rom_rows.specs.Rom.{image, vip}
+use Rattle.rom_timer.specs.Frame.{place, interrupt_place}
 use Rattle.rom_timer.specs.Routine.{IsTick, routine_moves, routine_cycles}
+use Rattle.rom_timer.specs.Scan.{Scans}
 use Rattle.rom_run.specs.Running.{Running}
-use Rattle.rom_run.proofs.Served.{whole_tick, tick_comes}
+use Rattle.rom_run.proofs.Image.{run_scan}
+use Rattle.rom_run.proofs.Moves.{interrupted}
+use Rattle.rom_run.proofs.States.{taken_there}
+use Rattle.rom_run.proofs.Served.{main_there, whole_tick, tick_comes}
 use Rattle.rom_run.proofs.Ticks.{few_in}
 use Rattle.vip_board.specs.Moves.{IfDone, moved, name_of}
 use Rattle.vip_board.specs.Seen.{Seen, held_by}
 use Rattle.vip_board.specs.declared.board.Moved.{Moved}
 use Rattle.vip_board.specs.declared.board.Moved.TheVariants.{Done, End}
 use Rattle.vip_cpu.specs.declared.cpu.Phase.TheVariants.{Boundary}
-use Rattle.rom_board.specs.Ticks.{moved_times, most_cycles, StartsTick, MadeTick}
+use Rattle.rom_board.specs.Ticks.{moved_times, most_cycles, frame_of, StartsTick, MadeTick, Scanned}
 
 once_more : (n : ℕ) (b : Seen) → moved (moved_times n b) ≡ moved_times (n + 1) b
 unfolding moved_times
@@ -96,23 +102,43 @@ ended old now n r most least = subst (Ran old now) (all most least) r
     all : n ≤ routine_moves → routine_moves ≤ n → n ≡ routine_moves
     all m l = omega (arith, m, l)
 
-module _ (old new : Seen) (r : Ran old new routine_moves) (e : Edition) (h : Since) (o : StartsTick e h old) where
-  there : IsTick e (image e) o.1 old.machine (held_by old)
-  there = whole_tick e old.script old.machine h o.1 o.0.1 o.2
+-- from an interrupt of a board that runs the interpreter
+module _ (e : Edition) (h : Since) (old : Seen) (o : StartsTick e h old) where
+  abbrev m : ℕ
+  m = frame_of old
 
-  machine_is : new.machine ≡ after_moves (image e) (held_by old) old.machine routine_moves
-  machine_is =
-      ap (λ (s : Seen). s.machine) r.is ∙ machine_after routine_moves old ∙
-      ap (λ rom. after_moves rom (held_by old) old.machine routine_moves) o.0.0
+  place_is : place old.machine.cycle ≡ interrupt_place
+  place_is = taken_there e old.script old.machine h o.0.1 o.1
 
-  pub takes : new.machine.cycle ≡ old.machine.cycle + routine_cycles
-  takes = ap (λ (z : Machine). z.cycle) machine_is ∙ there.cycle ∙ ap (λ z. z + routine_cycles) (sym o.2)
+  at : old.machine.cycle ≡ interrupt_at m
+  at = omega (arith, place_is)
 
-  pub makes : MadeTick e h old new
-  makes =
+  pub scanned : Scanned e old
+  scanned =
       record {
-        tick = subst (Tick (memory_end e) old.machine) (sym machine_is) there.tick;
-        comes =
-            subst (Moves (vip e) old.script (Running e old.script) (after_tick h)) (sym machine_is) (
-            tick_comes e old.script old.machine h o.1 o.0.1 o.2);
+        interrupt = at;
+        scans =
+            subst (λ rom. Scans e rom m old.machine (held_by old)) (sym o.0.0) (
+            run_scan e m old.machine (held_by old) (interrupted e old.script old.machine h m (main_there e old.script old.machine h o.0.1 place_is) at));
       }
+
+  module _ (new : Seen) (r : Ran old new routine_moves) where
+    machine_is : new.machine ≡ after_moves (image e) (held_by old) old.machine routine_moves
+    machine_is =
+        ap (λ (s : Seen). s.machine) r.is ∙ machine_after routine_moves old ∙
+        ap (λ rom. after_moves rom (held_by old) old.machine routine_moves) o.0.0
+
+    there : IsTick e (image e) m old.machine (held_by old)
+    there = whole_tick e old.script old.machine h m o.0.1 at
+
+    pub takes : new.machine.cycle ≡ old.machine.cycle + routine_cycles
+    takes = ap (λ (z : Machine). z.cycle) machine_is ∙ there.cycle ∙ ap (λ z. z + routine_cycles) (sym at)
+
+    pub makes : MadeTick e h old new
+    makes =
+        record {
+          tick = subst (Tick (memory_end e) old.machine) (sym machine_is) there.tick;
+          comes =
+              subst (Moves (vip e) old.script (Running e old.script) (after_tick h)) (sym machine_is) (
+              tick_comes e old.script old.machine h m o.0.1 at);
+        }

@@ -1,13 +1,14 @@
--- What is known of a board that runs the whole interpreter, and that a move keeps it.
-use Rattle.std.specs.Prelude.{◌≡◌, ℕ, true, List}
+-- What is known of a board that runs the whole interpreter, and what a move keeps of it.
+use Rattle.std.specs.Prelude.{◌≡◌, ◌≤◌, ℕ, true, List}
 use Rattle.chip8_image.specs.declared.TheConstants.{DISPATCH}
 use Rattle.chip8_image.specs.declared.parts.Part.{Part}
-use Rattle.chip8_image.specs.declared.parts.Part.TheVariants.{Fetch}
+use Rattle.chip8_image.specs.declared.parts.Part.TheVariants.{Fetch, Sprite}
 use Rattle.chip8_lang.specs.declared.view.Edition.{Edition}
 use Rattle.chip8_lang.specs.State.{is_fetchable}
 use Rattle.rom_law.specs.Rows.{Since}
 use Rattle.rom_law.specs.Runs.{Moves, carried}
 use Rattle.rom_rows.specs.Rom.{image, vip}
+use Rattle.rom_run.specs.Display.{Display}
 use Rattle.rom_run.specs.Laws.{IsIn}
 use Rattle.rom_run.specs.Running.{Running, Booting, FromBoot}
 use Rattle.vip_board.specs.Moves.{IfDone}
@@ -53,3 +54,11 @@ KeepsTime result old new =
     → is_fetchable e h.state ≡ true
     → old.machine.regs.p ≡ 4
     → IfDone result (λ m. new.machine.regs.p ≡ 3 → (carried_on old h).spent ≡ DISPATCH)
+
+-- Where a move in the part of the sprites comes to the wait for the display, or goes along it, the instruction is 00E0 or DXYN, and at most as many
+-- main cycles have passed since the dispatch point as it may take to prepare: 102, or 2,154 for a sprite.
+abbrev pub KeepsDisplay : Moved → Seen → Seen → Type 0
+KeepsDisplay result old new =
+    (e : Edition) (h : Since)
+    → RunsIn Sprite e h old
+    → IfDone result (λ m. new.machine.regs.ie ≡ true → new.machine.regs.idle ≡ true → Display (carried_on old h) (λ most. (carried_on old h).spent ≤ most))

@@ -15,8 +15,8 @@ ghost use Rattle.rom_law.specs.Rows.{Since};
 ghost use Rattle.rom_timer.specs.Routine.{routine_moves, routine_cycles};
 ghost use Rattle.vip_board.specs.Moves.{IfDone, moved, name_of};
 ghost use Rattle.vip_cpu.specs.declared.cpu.Phase.TheVariants.{Boundary};
-ghost use Rattle.rom_board.specs.Runs.{KeepsRunning, KeepsBooting, KeepsTime};
-ghost use Rattle.rom_board.specs.Ticks.{moved_times, most_cycles, StartsTick, MadeTick};
+ghost use Rattle.rom_board.specs.Runs.{KeepsRunning, KeepsBooting, KeepsTime, KeepsDisplay};
+ghost use Rattle.rom_board.specs.Ticks.{moved_times, most_cycles, StartsTick, MadeTick, Scanned};
 
 use vip_board::{Board, Moved};
 
@@ -26,7 +26,8 @@ mod tests;
 
 /// Makes the next move of a board, which is at a boundary before and after, and names it; or answers `End` where the move would end after
 /// cycle `limit`, and changes nothing. In each part of the ROM, and in boot, what is known of a running interpreter holds afterwards. The move
-/// of the fetch that goes to a routine ends exactly 80 main cycles after the dispatch point, for every opcode.
+/// of the fetch that goes to a routine ends exactly 80 main cycles after the dispatch point, for every opcode. One of a sprite that comes to the
+/// wait for the display ends at most 2,154 main cycles after it.
 pub fn one_move(board: &mut Board, limit: u64) -> Moved
     requires boundary { board.old.phase ≡ Boundary }
     ensures end { (result ≡ Moved.End) ↔ (limit < board.old.machine.cycle + length_of board.old.rom board.old.machine) }
@@ -36,6 +37,7 @@ pub fn one_move(board: &mut Board, limit: u64) -> Moved
     ensures running { (p : Part) → KeepsRunning p result board.old board.new }
     ensures booting { KeepsBooting result board.old board.new }
     ensures dispatch { KeepsTime result board.old board.new }
+    ensures display { KeepsDisplay result board.old board.new }
 {
     board.to_boundary(limit)
 }
@@ -44,9 +46,10 @@ pub fn one_move(board: &mut Board, limit: u64) -> Moved
 const ROUTINE_MOVES: u32 = 1435;
 
 /// Runs the interrupt routine of a board that runs the interpreter and whose next move is an interrupt, to the boundary behind its return, and
-/// answers the machine cycles taken, 1,846. One timer tick was made, and what is known of a running interpreter holds afterwards. Of any other
-/// board at a boundary it makes as many moves, 1,435, and answers their cycles: the caller sees to it that an interrupt is next. The cycle
-/// number has to leave room for three cycles a move.
+/// answers the machine cycles taken, 1,846. One timer tick was made, and what is known of a running interpreter holds afterwards. In between
+/// the 128 lines of the display window were scanned by 1,024 DMA cycles, eight a line, with the bytes of the line's row of the screen at the
+/// interrupt. Of any other board at a boundary it makes as many moves, 1,435, and answers their cycles: the caller sees to it that an interrupt
+/// is next. The cycle number has to leave room for three cycles a move.
 pub fn run_tick(board: &mut Board) -> u32
     requires boundary { board.old.phase ≡ Boundary }
     requires early { board.old.machine.cycle + most_cycles < 2 ^ 64 }
@@ -55,6 +58,7 @@ pub fn run_tick(board: &mut Board) -> u32
     ensures cycles { board.new.machine.cycle ≡ board.old.machine.cycle + result }
     ensures takes { (e : Edition) (h : Since) → StartsTick e h board.old → result ≡ routine_cycles }
     ensures tick { (e : Edition) (h : Since) → StartsTick e h board.old → MadeTick e h board.old board.new }
+    ensures scan { (e : Edition) (h : Since) → StartsTick e h board.old → Scanned e board.old }
 {
     let start = board.now();
     for _move in 0..ROUTINE_MOVES {

@@ -93,7 +93,7 @@ its_place : (t : ℕ) → IsInterruptCycle t → place t ≡ interrupt_place
 its_place t (m, is) = omega (arith, is)
 
 module _ (e : Edition) (script : List Event) (b : Machine) (h : Since) where
-  taken_there : Running e script b h → case_of b ≡ Interrupt → place b.cycle ≡ interrupt_place
+  pub taken_there : Running e script b h → case_of b ≡ Interrupt → place b.cycle ≡ interrupt_place
   taken_there (InMain (AtRow t row n time)) k = go (cases_eq (place b.cycle) interrupt_place) (cases_Bool b.regs.idle)
     where
       on : b.on ≡ true

@@ -19,7 +19,7 @@ use Rattle.rom_moves.proofs.Moves.{read_ram}
 use Rattle.rom_timer.specs.Scan.{fetched}
 use Rattle.rom_timer.proofs.Board.{timed, at_byte, up_is}
 
-no_case : (b : Machine) → dma_at b.cycle true ≡ false → is_dma (case_of b) ≡ false
+pub no_case : (b : Machine) → dma_at b.cycle true ≡ false → is_dma (case_of b) ≡ false
 no_case b h = go b.on refl
   where
     go : (on : Bool) → b.on ≡ on → is_dma (case_of b) ≡ false
@@ -54,7 +54,7 @@ module _ (rom : List ℕ) (held : ℕ → Keys) where
   pub fetched_append : (line : ℕ) (l r : List Machine) → fetched rom line (l ++ r) ≡ fetched rom line l ++ fetched rom line r
   fetched_append line l r = ap (map (dma_byte rom)) (filter-append (is_dma_in line) l r) ∙ map-append (dma_byte rom) (filter (is_dma_in line) l) (filter (is_dma_in line) r)
 
-  no_earlier : (n : ℕ) (b : Machine) → b.cycle ≤ (after_moves rom held b n).cycle
+  pub no_earlier : (n : ℕ) (b : Machine) → b.cycle ≤ (after_moves rom held b n).cycle
   no_earlier zero b = omega arith
   no_earlier (suc n) b = omega (arith, no_earlier n b, later-move rom held (after_moves rom held b n))
 

@@ -22,17 +22,18 @@ line_there t h = omega arith
 line_behind : (t : ℕ) → window_place ≤ place t → 208 ≤ line_of t
 line_behind t h = omega arith
 
-line_outside : (t : ℕ) → IsOutside t → (line_of t < 79) ⊎ (208 ≤ line_of t)
+line_outside : (t : ℕ) → IsOutside t → (line_of t < 80) ⊎ (208 ≤ line_of t)
 line_outside t (inl h) = inl (omega arith)
 line_outside t (inr h) = inr (line_behind t h)
 
+-- DMA is wanted in the lines of the window alone
+pub no_dma_in : (t : ℕ) → (line_of t < 80) ⊎ (208 ≤ line_of t) → dma_at t true ≡ false
+no_dma_in t (inl l) = rw (lt-leb 80 (line_of t) l) refl
+no_dma_in t (inr l) = rw (le-leb 80 (line_of t) (omega arith), le-ltb (line_of t) 208 l) refl
+
 no_dma : (t : ℕ) (on : Bool) → IsOutside t → dma_at t on ≡ false
 no_dma t false h = refl
-no_dma t true h = go (line_outside t h)
-  where
-    go : (line_of t < 79) ⊎ (208 ≤ line_of t) → dma_at t true ≡ false
-    go (inl l) = rw (lt-leb 80 (line_of t) (omega arith)) refl
-    go (inr l) = rw (le-leb 80 (line_of t) (omega arith), le-ltb (line_of t) 208 l) refl
+no_dma t true h = no_dma_in t (line_outside t h)
 
 pub calm : (t : ℕ) → IsOutside t → (place t ≡ interrupt_place → ⊥) → int_at t true ≡ false
 calm t (inl h) d = rw (lt-leb 78 (line_of t) (line_before t (omega (arith, d)))) refl

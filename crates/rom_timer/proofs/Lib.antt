@@ -10,6 +10,7 @@ pub mod Pushed
 pub mod Serving
 pub mod Tick
 pub mod Fetched
+pub mod Counted
 pub mod Scan
 pub mod Picture
 pub mod Interval

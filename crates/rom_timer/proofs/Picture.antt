@@ -17,7 +17,7 @@ use Rattle.rom_law.specs.Pictures.{dot, ShowsScreen}
 use Rattle.rom_law.proofs.Ahead.{behind_moves, later_cycle, all_in_run}
 use Rattle.rom_law.proofs.Places.{range_get, range_length}
 use Rattle.rom_timer.specs.Routine.{IsInterrupted, IsTick, routine_moves}
-use Rattle.rom_timer.specs.Scan.{fetched, RunPicture}
+use Rattle.rom_timer.specs.Scan.{fetched, row_start, RunPicture}
 use Rattle.rom_timer.proofs.Fetched.{states_join, fetched_append, none_fetched}
 use Rattle.rom_timer.proofs.Tick.{run_tick}
 use Rattle.rom_timer.proofs.Scan.{row_fits, run_scan}
@@ -50,17 +50,13 @@ row_inside : (e : Edition) (k : ℕ) → k < 128 → k / lines_of e < rows_of e
 row_inside Usual k h = omega arith
 row_inside Tall k h = omega arith
 
--- where the row of line 80 + k starts
-abbrev row_at : Edition → ℕ → ℕ
-row_at e k = screen_start e + 8 * (k / lines_of e)
-
 module _ (e : Edition) (ram : List ℕ) (k : ℕ) (some : k < 128) where
-  dots : (x : ℕ) → x < 64 → dot (slice_range ram (row_at e k) (row_at e k + 8)) x ≡ pixels (rows_of e) (slice_range ram (screen_start e) 0x1000) x (k / lines_of e)
+  dots : (x : ℕ) → x < 64 → dot (slice_range ram (row_start e k) (row_start e k + 8)) x ≡ pixels (rows_of e) (slice_range ram (screen_start e) 0x1000) x (k / lines_of e)
   dots x h =
-      ap (λ y. is_set y (7 - x % 8)) (range_get (row_at e k) (row_at e k + 8) ram (x / 8) (omega arith) ∙ ap (slice_index ram) same ∙ sym (range_get (screen_start e) 0x1000 ram (8 * (k / lines_of e) + x / 8) (omega (arith, row_fits e k some))))
+      ap (λ y. is_set y (7 - x % 8)) (range_get (row_start e k) (row_start e k + 8) ram (x / 8) (omega arith) ∙ ap (slice_index ram) same ∙ sym (range_get (screen_start e) 0x1000 ram (8 * (k / lines_of e) + x / 8) (omega (arith, row_fits e k some))))
       ∙ sym inside
     where
-      same : row_at e k + x / 8 ≡ screen_start e + (8 * (k / lines_of e) + x / 8)
+      same : row_start e k + x / 8 ≡ screen_start e + (8 * (k / lines_of e) + x / 8)
       same = omega arith
 
       inside : pixels (rows_of e) (slice_range ram (screen_start e) 0x1000) x (k / lines_of e) ≡ is_set (slice_index (slice_range ram (screen_start e) 0x1000) (8 * (k / lines_of e) + x / 8)) (7 - x % 8)
@@ -121,7 +117,7 @@ module _ (rom : List ℕ) (held : ℕ → Keys) where
 
 -- ---- the picture
 
-shows : (e : Edition) (rom : List ℕ) (run : List Machine) (m : ℕ) (b : Machine) → length b.ram ≡ 0x1000 → ((k : ℕ) → k < 128 → fetched rom (262 * m + 80 + k) run ≡ slice_range b.ram (row_at e k) (row_at e k + 8)) → ShowsScreen e (picture_of rom run m) (state_of e b).screen
+shows : (e : Edition) (rom : List ℕ) (run : List Machine) (m : ℕ) (b : Machine) → length b.ram ≡ 0x1000 → ((k : ℕ) → k < 128 → fetched rom (262 * m + 80 + k) run ≡ slice_range b.ram (row_start e k) (row_start e k + 8)) → ShowsScreen e (picture_of rom run m) (state_of e b).screen
 unfolding picture_of state_of
 shows e rom run m b size scan =
     record {
@@ -129,8 +125,8 @@ shows e rom run m b size scan =
       dots = λ k x line get h. dots_of k x line (subst (λ n. k < n) (lines_length rom run 128 (262 * m + 80)) (slice_get_within (lines_from rom run (262 * m + 80) 128) k line get)) get h;
     }
   where
-    bytes : (k : ℕ) → k < 128 → line_bytes rom run (262 * m + 80 + k) ≡ slice_range b.ram (row_at e k) (row_at e k + 8)
-    bytes k some = ap filled (scan k some) ∙ filled_up _ (range_length (row_at e k) (row_at e k + 8) b.ram (omega (arith, size, row_fits e k some)) ∙ eight (row_at e k))
+    bytes : (k : ℕ) → k < 128 → line_bytes rom run (262 * m + 80 + k) ≡ slice_range b.ram (row_start e k) (row_start e k + 8)
+    bytes k some = ap filled (scan k some) ∙ filled_up _ (range_length (row_start e k) (row_start e k + 8) b.ram (omega (arith, size, row_fits e k some)) ∙ eight (row_start e k))
       where
         eight : (a : ℕ) → a + 8 - a ≡ 8
         eight a = omega arith
@@ -188,5 +184,5 @@ run_picture e m i limit held first o ended =
       shown = all_in_run (timer_rom e) held _ limit first (is_on e m i held first o (run_to (timer_rom e) held first limit));
       shows =
           shows e (timer_rom e) (run_to (timer_rom e) held first limit) m (after_moves (timer_rom e) held first i) o.fits.size
-          (λ k some. in_run (timer_rom e) held first m i routine_moves limit o.cycle (omega arith) (omega (arith, (run_tick e m (after_moves (timer_rom e) held first i) held o).cycle)) ended k some ∙ run_scan e m (after_moves (timer_rom e) held first i) held o k some);
+          (λ k some. in_run (timer_rom e) held first m i routine_moves limit o.cycle (omega arith) (omega (arith, (run_tick e m (after_moves (timer_rom e) held first i) held o).cycle)) ended k some ∙ (run_scan e m (after_moves (timer_rom e) held first i) held o).lines k some);
     }

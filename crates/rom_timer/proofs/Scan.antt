@@ -1,5 +1,5 @@
 -- Each line of the window gets the eight bytes of its row of the screen.
-use Rattle.std.proofs.Common.{◌≡◌, ℕ, ◌+◌, ◌-◌, ◌*◌, ◌/◌, ◌%◌, ◌<◌, ◌≤◌, ◌⊎◌, inl, inr, ◌∙◌, ap, ap₂, subst, arith, Bool, true, false, cond, nat_lt, [], ◌++◌, slice_index, slice_range}
+use Rattle.std.proofs.Common.{◌≡◌, ℕ, ◌+◌, ◌-◌, ◌*◌, ◌/◌, ◌%◌, ◌<◌, ◌≤◌, ◌⊎◌, inl, inr, ◌∙◌, ap, ap₂, subst, arith, Bool, true, false, cond, nat_lt, [], ◌++◌, length, slice_index, slice_range}
 use Rattle.std.proofs.lemmas.Bool.{cases_eq, cases_lt, lt-ltb, le-ltb, ne_eqb}
 use Rattle.std.proofs.lemmas.List.{append-nil}
 use Rattle.machine.specs.Bank.{word_of}
@@ -12,15 +12,16 @@ use Rattle.chip8_lang.specs.declared.view.Edition.TheVariants.{Usual, Tall}
 use Rattle.chip8_lang.specs.Editions.{memory_end, screen_start, lines_of}
 use Rattle.chip8_image.specs.Labels.{at_scan}
 use Rattle.rom_law.specs.Program.{code}
-use Rattle.rom_law.proofs.Places.{variables_below}
+use Rattle.rom_law.proofs.Places.{variables_below, range_length}
 use Rattle.rom_timer.proofs.Rom.{both, both_is, quick}
 use Rattle.rom_timer.specs.Routine.{IsInterrupted, routine_moves}
-use Rattle.rom_timer.specs.Scan.{fetched, RunScan}
+use Rattle.rom_timer.specs.Scan.{fetched, row_start, RunScan}
 use Rattle.rom_timer.proofs.Board.{timed, at_byte, serves_join, moves_more, dmas}
 use Rattle.rom_timer.proofs.Window.{scanning, shown, next, shown_usual, shown_tall, Begins, begins, early, late, wanted}
 use Rattle.rom_timer.proofs.Serving.{taken, entered, opens}
 use Rattle.rom_timer.proofs.Fetched.{states_join, fetched_append, none_fetched, IsPast, bytes_fetched}
-use Rattle.rom_timer.proofs.Tick.{first, kept}
+use Rattle.rom_timer.proofs.Counted.{counted}
+use Rattle.rom_timer.proofs.Tick.{first, kept, run_tick}
 use Rattle.rom_timer.specs.Code.{timer_rom}
 
 -- ---- the row of a line
@@ -120,5 +121,22 @@ module _ (e : Edition) (m : ℕ) (b : Machine) (held : ℕ → Keys) (o : IsInte
       ∙ ap₂ (λ x y. x ++ y) none_before (fetched_append (both e) held line (states (both e) held c 8) (states (both e) held d rest) ∙ ap₂ (λ x y. x ++ y) bytes none_after)
       ∙ append-nil (slice_range b.ram address (address + 8))
 
+-- ---- the window
+
 pub run_scan : RunScan timer_rom
-run_scan e m b held o k some = subst (λ rom. fetched rom (262 * m + 80 + k) (states rom held b routine_moves) ≡ slice_range b.ram (screen_start e + 8 * (k / lines_of e)) (screen_start e + 8 * (k / lines_of e) + 8)) (both_is e) (scanned e m b held o k some)
+run_scan e m b held o =
+    record {
+      count = counted (timer_rom e) held m routine_moves b o.cycle (run_tick e m b held o).cycle (λ k some. ap length (line k some) ∙ eight k some);
+      lines = line;
+    }
+  where
+    line : (k : ℕ) → k < 128 → fetched (timer_rom e) (262 * m + 80 + k) (states (timer_rom e) held b routine_moves) ≡ slice_range b.ram (row_start e k) (row_start e k + 8)
+    line k some =
+        subst (λ rom. fetched rom (262 * m + 80 + k) (states rom held b routine_moves) ≡ slice_range b.ram (row_start e k) (row_start e k + 8))
+        (both_is e) (scanned e m b held o k some)
+
+    eight : (k : ℕ) → k < 128 → length (slice_range b.ram (row_start e k) (row_start e k + 8)) ≡ 8
+    eight k some = range_length (row_start e k) (row_start e k + 8) b.ram (omega (arith, o.fits.size, row_fits e k some)) ∙ bytes_of (row_start e k)
+      where
+        bytes_of : (a : ℕ) → a + 8 - a ≡ 8
+        bytes_of a = omega arith

@@ -1,5 +1,5 @@
 use Rattle.std.proofs.Common.{arith}
-use Rattle.rom_board.proofs.Ran.{ran_none, ran_more, ended, takes, makes}
+use Rattle.rom_board.proofs.Ran.{ran_none, ran_more, ended, takes, makes, scanned}
 use Rattle.rom_board.proofs.run_tick.Goals as goal
 
 pub loop-move-init : goal.loop-move-init
@@ -16,9 +16,12 @@ returns-clause-moves c = (ended c.args.board.now c.loop-move.board c.loop-move._
 pub returns-clause-takes : goal.returns-clause-takes
 returns-clause-takes c e h o =
     let r = ended c.args.board.now c.loop-move.board c.loop-move._move c.loop-move.invariant c.loop-move.auto._move-end c.loop-move-test.false in
-    omega (arith, takes c.args.board.now c.loop-move.board r e h o, c.now.ensures, c.now-start.ensures)
+    omega (arith, takes e h c.args.board.now o c.loop-move.board r, c.now.ensures, c.now-start.ensures)
 
 pub returns-clause-tick : goal.returns-clause-tick
-returns-clause-tick c =
+returns-clause-tick c e h o =
     let r = ended c.args.board.now c.loop-move.board c.loop-move._move c.loop-move.invariant c.loop-move.auto._move-end c.loop-move-test.false in
-    makes c.args.board.now c.loop-move.board r
+    makes e h c.args.board.now o c.loop-move.board r
+
+pub returns-clause-scan : goal.returns-clause-scan
+returns-clause-scan c e h o = scanned e h c.args.board.now o
