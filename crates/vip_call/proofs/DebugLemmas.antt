@@ -8,20 +8,18 @@ use Rattle.std.proofs.lemmas.List.Folds.{find_at}
 use Rattle.machine.specs.Board.{Machine, start}
 use Rattle.machine.specs.Keys.{Event as KeyEvent, held_at}
 use Rattle.chip8_lang.specs.declared.view.Edition.{Edition}
-use Rattle.chip8_lang.specs.Events.{Event, is_dispatch, is_stop}
-use Rattle.chip8_lang.specs.Events.Event.{Picture, Stopped}
+use Rattle.chip8_lang.specs.Events.{Event, is_stop}
+use Rattle.chip8_lang.specs.Events.Event.{Picture, Dispatch, Stopped}
 use Rattle.chip8_lang.specs.Places.{Interpreter}
 use Rattle.chip8_lang.specs.View.{view_at}
 use Rattle.vip_relation.specs.Follows.{last_dispatch}
 use Rattle.vip_relation.specs.Interpreters.{interpreter_of}
-use Rattle.vip_relation.specs.Points.{point_events}
-use Rattle.vip_relation.specs.declared.point.Point.TheVariants.{Dispatch as DispatchPoint, Stop as StopPoint, Other as OtherPoint}
 use Rattle.vip_relation.specs.State.{VipState, events_to, started}
 use Rattle.vip_relation.specs.Stops.{stop_at, pc_of, opcode_of}
 use Rattle.vip_relation.proofs.Along.{in-turn}
-use Rattle.vip_relation.proofs.Past.{state, past, pictures, point, Runs, events-last, events-stop}
-use Rattle.vip_relation.proofs.Meetings.{last-dispatched, last-kept}
+use Rattle.vip_relation.proofs.Past.{state, past, Runs, events-last, events-stop}
 use Rattle.vip_relation.proofs.Waits.{Earlier, earlier-at, earlier-drop, earlier-next}
+use Rattle.vip_language.proofs.Passed.{NoStop, before_point, last_after, last_after_stop, last_of_events, no_stop_before, stop_point, with_point}
 use Rattle.vip_show.specs.Endings.{Ending, ending_after}
 use Rattle.vip_show.specs.Endings.Ending.{AtLimit, AtStop}
 use Rattle.vip_debug.specs.Answers.{Place, moves_until, all_met, moved_to, at_point, points_ahead, has_pc, arrival, stop_by, place_with, place_after, at_start}
@@ -31,19 +29,6 @@ use Rattle.vip_debug.specs.declared.command.Running.{Running}
 use Rattle.vip_debug.specs.declared.command.Running.TheVariants.{Step, To, Next, Break}
 use Rattle.vip_debug.proofs.Places.{Reached, reached, reached-next, some-here, all-moves}
 use Rattle.vip_verbs.specs.Outcome.{run_ending, stopped_by, debug_ending}
-
--- ---- the last dispatch point among some events
-
--- pictures don't matter to it
-last_on : (seen : List Event) (ms : List ℕ) → last_dispatch (seen ++ map Picture ms) ≡ last_dispatch seen
-last_on seen [] = ap last_dispatch (append-nil seen)
-last_on seen (m ∷ ms) = ap last_dispatch (sym (append_assoc seen (Picture m ∷ []) (map Picture ms))) ∙ last_on (seen ++ Picture m ∷ []) ms ∙ last-kept seen (Picture m) refl
-
--- nor does a stop point
-last_stop : (stop dispatch : Bool) (b : Machine) (seen : List Event) → stop ≡ true
-    → last_dispatch (seen ++ point_events (if stop then StopPoint else if dispatch then DispatchPoint else OtherPoint) b) ≡ last_dispatch seen
-last_stop true dispatch b seen stops = last-kept seen (Stopped b) refl
-last_stop false dispatch b seen stops = cc
 
 module _ (e : Edition) where
   -- ---- the ending by some events
@@ -55,27 +40,13 @@ module _ (e : Edition) where
   abbrev stop_behind : Option Machine → Machine → Ending
   stop_behind last b = AtStop (stop_at b) (pc_of (option_map (view_at e) last)) (opcode_of (option_map (view_at e) last))
 
-  -- pictures don't matter to it
-  ending_on : (last : Option Machine) (ms : List ℕ) (es : List Event) → ending_behind last (map Picture ms ++ es) ≡ ending_behind last es
-  unfolding ending_after
-  ending_on last [] es = refl
-  ending_on last (m ∷ ms) es = ending_on last ms es
-
-  -- at a point that is no stop
-  ending_point : (stop dispatch : Bool) (b : Machine) (seen es : List Event) → stop ≡ false
-      → ending_behind (last_dispatch seen) (point_events (if stop then StopPoint else if dispatch then DispatchPoint else OtherPoint) b ++ es)
-      ≡ ending_behind (last_dispatch (seen ++ point_events (if stop then StopPoint else if dispatch then DispatchPoint else OtherPoint) b)) es
-  unfolding ending_after
-  ending_point true dispatch b seen es runs = cc
-  ending_point false true b seen es runs = ap (λ last. ending_behind last es) (sym (last-dispatched seen b))
-  ending_point false false b seen es runs = ap (λ xs. ending_behind (last_dispatch xs) es) (sym (append-nil seen))
-
-  -- at a stop point
-  ending_stop : (stop dispatch : Bool) (b : Machine) (last : Option Machine) → stop ≡ true
-      → ending_behind last (point_events (if stop then StopPoint else if dispatch then DispatchPoint else OtherPoint) b) ≡ stop_behind last b
-  unfolding ending_after
-  ending_stop true dispatch b last stops = refl
-  ending_stop false dispatch b last stops = cc
+  -- by events of which the stop b is the first stop point, and the last event
+  ending_stop : (last : Option Machine) (es : List Event) (b : Machine) → NoStop es → ending_behind last (es ++ Stopped b ∷ []) ≡ stop_behind (last_after last es) b
+  unfolding ending_after NoStop last_after
+  ending_stop last [] b none = refl
+  ending_stop last (Picture m ∷ es) b none = ending_stop last es b none
+  ending_stop last (Dispatch c ∷ es) b none = ending_stop (Some c) es b none
+  ending_stop last (Stopped c ∷ es) b none = absurd none
 
   module _ (game : List ℕ) (script : List KeyEvent) where
     abbrev i : Interpreter
@@ -90,37 +61,17 @@ module _ (e : Edition) where
     abbrev past_of : ℕ → List Event
     past_of n = past i game script n
 
-    abbrev pictures_of : ℕ → List Event
-    pictures_of n = pictures i game script n
-
-    abbrev point_of_state : ℕ → List Event
-    point_of_state n = point i game script n
-
-    regroup : (a b c d : List Event) → (a ++ b ++ c) ++ d ≡ a ++ (b ++ (c ++ d))
-    regroup a b c d = simp append_assoc
-
-    -- by the events of the first states, of which none is a stop point, and others
-    ending_past : (n : ℕ) → Runs i game script n → (es : List Event) → ending_behind None (past_of n ++ es) ≡ ending_behind (last_dispatch (past_of n)) es
-    unfolding past
-    ending_past zero runs es = refl
-    ending_past (suc n) runs es =
-        ap (ending_behind None) (regroup (past_of n) (pictures_of n) (point_of_state n) es)
-        ∙ ending_past n (λ k l. runs k (omega (arith, l))) (pictures_of n ++ (point_of_state n ++ es))
-        ∙ ending_on (last_dispatch (past_of n)) _ (point_of_state n ++ es)
-        ∙ ap (λ last. ending_behind last (point_of_state n ++ es)) (sym (last_on (past_of n) _))
-        ∙ ending_point (is_stop i (at_state n)) (is_dispatch i (at_state n)) (at_state n) (past_of n ++ pictures_of n) es (runs n (omega arith))
-
     -- by those up to the first stop point, which names the last dispatch point before it
     ending_there :
         (n : ℕ) → Runs i game script n → is_stop i (at_state n) ≡ true
         → ending_behind None (past_of (suc n)) ≡ stop_behind (last_dispatch (past_of (suc n))) (at_state n)
-    unfolding past
     ending_there n runs stop =
-        ap (ending_behind None) (append_assoc (past_of n) (pictures_of n) (point_of_state n))
-        ∙ ending_past n runs (pictures_of n ++ point_of_state n)
-        ∙ ending_on (last_dispatch (past_of n)) _ (point_of_state n)
-        ∙ ending_stop (is_stop i (at_state n)) (is_dispatch i (at_state n)) (at_state n) (last_dispatch (past_of n)) stop
-        ∙ ap (λ last. stop_behind last (at_state n)) (sym (last_stop (is_stop i (at_state n)) (is_dispatch i (at_state n)) (at_state n) (past_of n ++ pictures_of n) stop ∙ last_on (past_of n) _))
+        ap (ending_behind None) all ∙ ending_stop None (before_point i game script n) (at_state n) (no_stop_before i game script n runs)
+        ∙ ap (λ last. stop_behind last (at_state n)) (
+        sym (last_after_stop None (before_point i game script n) (at_state n)) ∙ ap (last_after None) (sym all) ∙ last_of_events (past_of (suc n)))
+      where
+        all : past_of (suc n) ≡ before_point i game script n ++ Stopped (at_state n) ∷ []
+        all = with_point i game script n ∙ ap (λ es. before_point i game script n ++ es) (stop_point i game script n stop)
 
     -- ---- where commands leave the board
 

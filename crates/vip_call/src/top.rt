@@ -5,8 +5,8 @@ ghost use Rattle.vip_words.specs.Request.{asked_of};
 ghost use Rattle.vip_call.specs.Words.{UnderstoodAnswers, WordsAnswer};
 ghost use Rattle.vip_call.specs.Top.{call_of, Says, Promises};
 
-use rom_run::laws::{every_key_wait, every_picture, every_run};
 use std::alloc::Global;
+use vip_language::laws::every_run;
 use vip_outside::{Files, Sink};
 use vip_report::{Ended, Refusal, Status, put_end, put_refusal};
 use vip_verbs::{open_files, wanted_files, work};
@@ -72,7 +72,5 @@ pub fn vip_main<F: Files, O: Sink, E: Sink>(
     ensures promises { Promises result (call_of (map string_bytes words.now) (F.meaning files.old) (F.meaning files.new) (O.meaning out.old) (O.meaning out.new) (E.meaning err.old) (E.meaning err.new)) }
 {
     every_run();
-    every_key_wait();
-    every_picture();
     run_and_report(alloc, words, files, out, err)
 }

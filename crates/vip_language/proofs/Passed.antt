@@ -1,0 +1,173 @@
+-- The events that a machine that runs a game has met: the last dispatch point among them, and that no stop point is among them before a stop was met.
+use Rattle.std.proofs.Common.{◌≡◌, ◌⊎◌, inl, inr, ℕ, zero, suc, ◌+◌, ◌-◌, ◌<◌, ◌≤◌, Bool, true, false, List, [], ◌∷◌, ◌++◌, length, take, filter, map, Option, Some, None, refl, sym, ap, subst, ◌∙◌, arith}
+use Rattle.std.specs.Prelude.{if◌then◌else◌, filter_map, slice_get}
+use Rattle.std.proofs.lemmas.Bool.{cases_lt, cases_Bool}
+use Rattle.std.proofs.lemmas.List.{drop_all, take-append-le, length-append}
+use Rattle.machine.specs.Board.{Machine}
+use Rattle.machine.specs.Keys.{Event as KeyEvent}
+use Rattle.machine.specs.Pictures.{windows_ended, is_shown}
+use Rattle.chip8_lang.specs.Events.{Event, is_dispatch, is_stop, numbers_from}
+use Rattle.chip8_lang.specs.Events.Event.{Picture, Dispatch, Stopped}
+use Rattle.chip8_lang.specs.Places.{Interpreter}
+use Rattle.vip_relation.specs.Follows.{Follows, dispatch_of, last_dispatch}
+use Rattle.vip_relation.specs.Meets.{HasStopped}
+use Rattle.vip_relation.specs.Points.{point_events}
+use Rattle.vip_relation.specs.declared.point.Point.TheVariants.{Dispatch as DispatchPoint, Stop as StopPoint, Other as OtherPoint}
+use Rattle.vip_relation.specs.State.{VipState, interpreter, events_to, events_met}
+use Rattle.vip_relation.proofs.Past.{state, earlier, before, past, pictures, point, Runs}
+use Rattle.vip_relation.proofs.Steps.{events-here}
+
+-- ---- the last dispatch point among some events
+
+-- the last of some machines, or the one before them
+last_of : Option Machine → List Machine → Option Machine
+last_of last [] = last
+last_of last (b ∷ bs) = last_of (Some b) bs
+
+last_is : (b : Machine) (bs : List Machine) → last_of (Some b) bs ≡ slice_get (b ∷ bs) (length bs)
+unfolding last_of
+last_is b [] = refl
+last_is b (c ∷ bs) = last_is c bs
+
+-- the same, event by event
+unfoldable pub last_after : Option Machine → List Event → Option Machine
+last_after last [] = last
+last_after last (Picture m ∷ es) = last_after last es
+last_after last (Dispatch b ∷ es) = last_after (Some b) es
+last_after last (Stopped b ∷ es) = last_after last es
+
+by_points : (last : Option Machine) (es : List Event) → last_after last es ≡ last_of last (filter_map dispatch_of es)
+unfolding last_after last_of
+by_points last [] = refl
+by_points last (Picture m ∷ es) = by_points last es
+by_points last (Dispatch b ∷ es) = by_points (Some b) es
+by_points last (Stopped b ∷ es) = by_points last es
+
+pub last_of_events : (es : List Event) → last_after None es ≡ last_dispatch es
+unfolding last_of
+last_of_events es = by_points None es ∙ go (filter_map dispatch_of es)
+  where
+    go : (bs : List Machine) → last_of None bs ≡ slice_get bs (length bs - 1)
+    go [] = refl
+    go (b ∷ bs) = last_is b bs ∙ ap (slice_get (b ∷ bs)) (one_less (length bs))
+      where
+        one_less : (n : ℕ) → n ≡ suc n - 1
+        one_less n = omega arith
+
+-- a stop point doesn't matter to it
+pub last_after_stop : (last : Option Machine) (es : List Event) (b : Machine) → last_after last (es ++ Stopped b ∷ []) ≡ last_after last es
+unfolding last_after
+last_after_stop last [] b = refl
+last_after_stop last (Picture m ∷ es) b = last_after_stop last es b
+last_after_stop last (Dispatch c ∷ es) b = last_after_stop (Some c) es b
+last_after_stop last (Stopped c ∷ es) b = last_after_stop last es b
+
+-- ---- no stop point among some events
+
+unfoldable pub NoStop : List Event → Type 0
+NoStop [] = Unit {0}
+NoStop (Picture m ∷ es) = NoStop es
+NoStop (Dispatch b ∷ es) = NoStop es
+NoStop (Stopped b ∷ es) = ⊥
+
+pub no_stop_append : (xs ys : List Event) → NoStop xs → NoStop ys → NoStop (xs ++ ys)
+unfolding NoStop
+no_stop_append [] ys h g = g
+no_stop_append (Picture m ∷ xs) ys h g = no_stop_append xs ys h g
+no_stop_append (Dispatch b ∷ xs) ys h g = no_stop_append xs ys h g
+no_stop_append (Stopped b ∷ xs) ys h g = absurd h
+
+no_stop_take : (n : ℕ) (xs : List Event) → NoStop xs → NoStop (take n xs)
+unfolding NoStop
+no_stop_take zero xs h = tt
+no_stop_take (suc n) [] h = tt
+no_stop_take (suc n) (Picture m ∷ xs) h = no_stop_take n xs h
+no_stop_take (suc n) (Dispatch b ∷ xs) h = no_stop_take n xs h
+no_stop_take (suc n) (Stopped b ∷ xs) h = absurd h
+
+no_stop_pictures : (ms : List ℕ) → NoStop (map Picture ms)
+unfolding NoStop
+no_stop_pictures [] = tt
+no_stop_pictures (m ∷ ms) = no_stop_pictures ms
+
+no_stop_point : (stop dispatch : Bool) (b : Machine) → stop ≡ false → NoStop (point_events (if stop then StopPoint else if dispatch then DispatchPoint else OtherPoint) b)
+unfolding NoStop
+no_stop_point true dispatch b runs = cc
+no_stop_point false true b runs = tt
+no_stop_point false false b runs = tt
+
+one_stop : (stop dispatch : Bool) (b : Machine) → stop ≡ true → point_events (if stop then StopPoint else if dispatch then DispatchPoint else OtherPoint) b ≡ Stopped b ∷ []
+one_stop true dispatch b stops = refl
+one_stop false dispatch b stops = cc
+
+module _ (i : Interpreter) (game : List ℕ) (script : List KeyEvent) where
+  -- the frames whose pictures come at the n-th state
+  abbrev frames : ℕ → List ℕ
+  frames n =
+      filter (is_shown i.rom (earlier i game script n))
+      (numbers_from (windows_ended (before i game script n)) (windows_ended (state i game script n).cycle - windows_ended (before i game script n)))
+
+  no_stop_past : (n : ℕ) → Runs i game script n → NoStop (past i game script n)
+  unfolding past NoStop
+  no_stop_past zero runs = tt
+  no_stop_past (suc n) runs =
+      no_stop_append (past i game script n ++ pictures i game script n) (point i game script n)
+      (no_stop_append (past i game script n) (pictures i game script n) (no_stop_past n (λ k l. runs k (omega (arith, l)))) (no_stop_pictures (frames n)))
+      (no_stop_point (is_stop i (state i game script n)) (is_dispatch i (state i game script n)) (state i game script n) (runs n (omega arith)))
+
+  -- the events before the point of the n-th state
+  pub before_point : ℕ → List Event
+  before_point n = past i game script n ++ pictures i game script n
+
+  pub no_stop_before : (n : ℕ) → Runs i game script n → NoStop (before_point n)
+  unfolding before_point
+  no_stop_before n runs = no_stop_append (past i game script n) (pictures i game script n) (no_stop_past n runs) (no_stop_pictures (frames n))
+
+  pub with_point : (n : ℕ) → past i game script (suc n) ≡ before_point n ++ point i game script n
+  unfolding past before_point
+  with_point n = refl
+
+  -- of a stop point that is the stop alone
+  pub stop_point : (n : ℕ) → is_stop i (state i game script n) ≡ true → point i game script n ≡ Stopped (state i game script n) ∷ []
+  stop_point n stop = one_stop (is_stop i (state i game script n)) (is_dispatch i (state i game script n)) (state i game script n) stop
+
+  pub other_point : (n : ℕ) → is_stop i (state i game script n) ≡ false → NoStop (point i game script n)
+  other_point n runs = no_stop_point (is_stop i (state i game script n)) (is_dispatch i (state i game script n)) (state i game script n) runs
+
+module _ (v : VipState) (f : Follows v) where
+  abbrev i : Interpreter
+  i = interpreter v
+
+  abbrev pub here : Machine
+  here = state i v.game v.board.script v.moves
+
+  abbrev pub met_before : List Event
+  met_before = before_point i v.game v.board.script v.moves
+
+  abbrev last : List Event
+  last = point i v.game v.board.script v.moves
+
+  -- the events up to the present state
+  pub to_here : events_to v v.board.machine.cycle ≡ met_before ++ last
+  to_here = events-here v f ∙ with_point i v.game v.board.script v.moves
+
+  pub none_before : NoStop met_before
+  none_before = no_stop_before i v.game v.board.script v.moves f.runs
+
+  -- while no stop was met, none is among the events met
+  pub no_stop_met : (HasStopped v → ⊥) → NoStop (events_met v)
+  no_stop_met goes_on = subst (λ es. NoStop (take v.met es)) (sym to_here) (go (cases_Bool (is_stop i v.board.machine)) (cases_lt (length met_before) v.met))
+    where
+      is_here : (t : Bool) → is_stop i v.board.machine ≡ t → is_stop i here ≡ t
+      is_here t is = ap (is_stop i) (sym f.machine) ∙ is
+
+      met_all : is_stop i v.board.machine ≡ true → length met_before < v.met → ⊥
+      met_all stop more = goes_on (record { stop = stop; met = drop_all v.met (events_to v v.board.machine.cycle) (omega (arith, more, all)) })
+        where
+          all : length (events_to v v.board.machine.cycle) ≡ length met_before + 1
+          all = ap length (to_here ∙ ap (λ es. met_before ++ es) (stop_point i v.game v.board.script v.moves (is_here true stop))) ∙ length-append met_before (Stopped here ∷ [])
+
+      go : (is_stop i v.board.machine ≡ true) ⊎ (is_stop i v.board.machine ≡ false) → (length met_before < v.met) ⊎ (v.met ≤ length met_before) → NoStop (take v.met (met_before ++ last))
+      go (inl stop) (inl more) = absurd (met_all stop more)
+      go (inl stop) (inr few) = subst NoStop (sym (take-append-le v.met met_before last few)) (no_stop_take v.met met_before none_before)
+      go (inr runs) d = no_stop_take v.met (met_before ++ last) (no_stop_append met_before last none_before (other_point i v.game v.board.script v.moves (is_here false runs)))

@@ -1,0 +1,4 @@
+pub mod Program
+pub mod Boards
+pub mod Answers
+pub mod Laws
