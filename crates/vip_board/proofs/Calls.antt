@@ -1,22 +1,22 @@
 -- The calls of a machine cycle make of the wires what the cycle's effect makes of the machine.
-use Rattle.std.proofs.Common.{◌≡◌, ◌-◌, ◌∙◌, ℕ, Bool, true, false, ◌&&◌, if◌then◌else◌, refl, ap, subst}
-use Rattle.std.specs.Prelude.{◌==◌, Option, Some, None}
+use Rattle.std.proofs.Common.{◌≡◌, ◌-◌, ◌∙◌, ℕ, Bool, true, false, ◌&&◌, if◌then◌else◌, refl, ap, sym, subst}
+use Rattle.std.specs.Prelude.{◌==◌, Option, Some, None, IsSome}
 use Rattle.machine.specs.Opcodes.{kind_of, opcode_number, cycles_of}
 use Rattle.machine.specs.Instruction.{Regs, Effect, Port, at, stepped, inputs}
 use Rattle.machine.specs.Instruction.Port.{Send, Receive}
 use Rattle.machine.specs.Memory.{read}
 use Rattle.machine.specs.Keys.{held_at}
 use Rattle.machine.specs.Signals.{int_at, dma_at, efx_at}
-use Rattle.machine.specs.Board.{flags_of}
+use Rattle.machine.specs.Board.{byte_of, flags_of}
 use Rattle.machine.proofs.Ports.{send-writes_nothing}
 use Rattle.vip_cpu.specs.Acts.{Calls, Acts}
-use Rattle.vip_cpu.specs.Cycle.{Processor, Cycle, after, quiet, ended, cycle_in, cycle}
+use Rattle.vip_cpu.specs.Cycle.{Processor, Cycle, after, quiet, begun, ended, cycle_in, cycle}
 use Rattle.vip_cpu.specs.declared.cpu.Phase.{Phase}
 use Rattle.vip_cpu.specs.declared.cpu.Phase.TheVariants.{Boundary, Middle}
 use Rattle.vip_cpu.specs.declared.cpu.Did.{Did}
 use Rattle.vip_cpu.specs.declared.cpu.Did.TheVariants.{Fetch, Execute}
 use Rattle.vip_video.specs.Chip.{Chip, ended as video_ended}
-use Rattle.vip_board.specs.Seen.{byte_in, cycle_of, cycled}
+use Rattle.vip_board.specs.Seen.{Seen, byte_in, cycle_of, cycled}
 use Rattle.vip_board.specs.Wired.{seen_of, after_port, after_write, after_calls}
 use Rattle.vip_board.specs.declared.wires.Wires.{Wires}
 
@@ -41,6 +41,14 @@ cycle-sends (Middle opcode left) s m f dma int taken =
     picked-sends (ended opcode s m f taken) (quiet s (Middle opcode (left - 1)) Execute) (left == 1)
     (λ port byte h. send-writes_nothing (kind_of opcode) (opcode_number opcode) s (inputs s m f taken) port byte h)
     (λ port byte h. refl)
+
+-- it neither uses a port nor writes
+abbrev SendsNothing : Cycle → Type 0
+SendsNothing c = (c.effect.port ≡ None) × (c.effect.write ≡ None)
+
+none_some : (o : Option ℕ) → o ≡ None → IsSome o → ⊥
+none_some None e h = cc
+none_some (Some x) e h = cc
 
 -- what a bus of the wires means by its calls
 abbrev pub Writes : Wires → ℕ → ℕ → Wires → Type 0
@@ -93,6 +101,86 @@ made cpu w now dma int p v did n d i h =
     let D : Bool → Type 0 = λ x. Answers cpu w x int p v did in
     let I : Bool → Type 0 = λ x. Answers cpu w (dma_at w.video.cycles w.video.on) x p v did in
     made_at cpu w p v did (subst I (i ∙ ap (λ t. int_at t w.video.on) n) (subst D (d ∙ ap (λ t. dma_at t w.video.on) n) h))
+
+-- ---- the first cycle of a move calls nothing
+
+first-calls : (a i e : Bool) (x y z f : Cycle) → SendsNothing x → SendsNothing y → SendsNothing z → SendsNothing f → SendsNothing (if a then x else if i then y else if e then z else f)
+first-calls true i e x y z f hx hy hz hf = hx
+first-calls false true e x y z f hx hy hz hf = hy
+first-calls false false true x y z f hx hy hz hf = hz
+first-calls false false false x y z f hx hy hz hf = hf
+
+begun-calls : (s : Regs) (m : ℕ → ℕ) (dma int : Bool) → SendsNothing (begun s m dma int)
+begun-calls s m dma int = first-calls dma (s.ie && int) s.idle _ _ _ _ (refl, refl) (refl, refl) (refl, refl) (refl, refl)
+
+first-byte : (a i e : Bool) (x y z f : Cycle) → byte_in y.did ≡ None → byte_in z.did ≡ None → byte_in f.did ≡ None → IsSome (byte_in (if a then x else if i then y else if e then z else f).did) → a ≡ true
+first-byte true i e x y z f hy hz hf some = refl
+first-byte false true e x y z f hy hz hf some = absurd (none_some _ hy some)
+first-byte false false true x y z f hy hz hf some = absurd (none_some _ hz some)
+first-byte false false false x y z f hy hz hf some = absurd (none_some _ hf some)
+
+-- it puts a byte on the bus only where DMA is wanted
+pub begun-byte : (s : Regs) (m : ℕ → ℕ) (dma int : Bool) → IsSome (byte_in (begun s m dma int).did) → dma ≡ true
+begun-byte s m dma int some = first-byte dma (s.ie && int) s.idle _ _ _ _ refl refl refl some
+
+pub begun-made : (s : Seen) (cpu : Processor) (w : Wires) (dma int : Bool) (p : Processor) (did : Did) → seen_of cpu w ≡ s → s.phase ≡ Boundary
+    → dma ≡ dma_at s.machine.cycle s.machine.on → int ≡ int_at s.machine.cycle s.machine.on
+    → p ≡ after (begun cpu.regs (bytes w) dma int) → did ≡ (begun cpu.regs (bytes w) dma int).did → Made cpu w p w did
+begun-made s cpu w dma int p did view h d i is_p is_did =
+    let on : Phase → Bool → Bool → Cycle = λ phase x y. cycle_in phase cpu.regs (bytes w) (flags w) x y 0 in
+    let is : cycle_of (seen_of cpu w) ≡ begun cpu.regs (bytes w) dma int =
+    ap (λ x. on x (dma_at w.video.cycles w.video.on) (int_at w.video.cycles w.video.on)) (ap (λ (x : Seen). x.phase) view ∙ h)
+    ∙ ap (λ x. on Boundary x (int_at w.video.cycles w.video.on)) (ap (λ (x : Seen). dma_at x.machine.cycle x.machine.on) view ∙ sym d)
+    ∙ ap (λ x. on Boundary dma x) (ap (λ (x : Seen). int_at x.machine.cycle x.machine.on) view ∙ sym i) in
+    let calls = begun-calls cpu.regs (bytes w) dma int in
+    record {
+      processor = is_p ∙ ap after (sym is);
+      did = is_did ∙ ap (λ (c : Cycle). c.did) (sym is);
+      wires =
+          sym
+          (ap (λ (c : Cycle). after_calls c.effect.port c.effect.write w) is
+          ∙ ap (λ x. after_calls x (begun cpu.regs (bytes w) dma int).effect.write w) calls.0
+          ∙ ap (λ x. after_calls None x w) calls.1);
+    }
+
+-- and it is no cycle of an instruction after its fetch
+first-did : (a i e : Bool) (x y z f : Cycle) → (x.did ≡ Execute → ⊥) → (y.did ≡ Execute → ⊥) → (z.did ≡ Execute → ⊥) → (f.did ≡ Execute → ⊥) → (if a then x else if i then y else if e then z else f).did ≡ Execute → ⊥
+first-did true i e x y z f hx hy hz hf d = hx d
+first-did false true e x y z f hx hy hz hf d = hy d
+first-did false false true x y z f hx hy hz hf d = hz d
+first-did false false false x y z f hx hy hz hf d = hf d
+
+never-executes : (s : Regs) (m : ℕ → ℕ) (dma int : Bool) → (begun s m dma int).did ≡ Execute → ⊥
+never-executes s m dma int d = first-did dma (s.ie && int) s.idle _ _ _ _ (λ e. cc) (λ e. cc) (λ e. cc) (λ e. cc) d
+
+pub begins-otherwise : (s : Seen) → s.phase ≡ Boundary → (cycle_of s).did ≡ Execute → ⊥
+begins-otherwise s h d =
+    let b = s.machine in
+    never-executes b.regs (byte_of s.rom b) (dma_at b.cycle b.on) (int_at b.cycle b.on) (sym (ap (λ x. (cycle_of (record s { phase = x })).did) h) ∙ d)
+
+-- ---- in the middle of an instruction the requests play no part
+
+by_requests : (phase : Phase) (s : Regs) (m : ℕ → ℕ) (f : ℕ → Bool) (dma int dma' int' : Bool) (taken : ℕ) → (phase ≡ Boundary → ⊥)
+    → cycle_in phase s m f dma int taken ≡ cycle_in phase s m f dma' int' taken
+by_requests Boundary s m f dma int dma' int' taken going = absurd (going refl)
+by_requests (Middle opcode left) s m f dma int dma' int' taken going = refl
+
+pub made-on : (cpu : Processor) (w : Wires) (dma int : Bool) (p : Processor) (v : Wires) (did : Did) → (cpu.phase ≡ Boundary → ⊥) → Answers cpu w dma int p v did → Made cpu w p v did
+made-on cpu w dma int p v did going h =
+    let same = by_requests cpu.phase cpu.regs (bytes w) (flags w) dma int (dma_at w.video.cycles w.video.on) (int_at w.video.cycles w.video.on) h.0 going in
+    made_at cpu w p v did (h.0, subst (λ (c : Cycle). (p ≡ after c) × (did ≡ c.did) × Acts Writes Sends Receives c.effect h.0 w v) same h.1)
+
+executes : (phase : Phase) (s : Regs) (m : ℕ → ℕ) (f : ℕ → Bool) (dma int : Bool) (taken : ℕ) → (phase ≡ Boundary → ⊥) → (cycle_in phase s m f dma int taken).did ≡ Execute
+executes Boundary s m f dma int taken going = absurd (going refl)
+executes (Middle opcode left) s m f dma int taken going = by_last (left == 1)
+  where
+    by_last : (last : Bool) → (if last then ended opcode s m f taken else quiet s (Middle opcode (left - 1)) Execute).did ≡ Execute
+    by_last true = refl
+    by_last false = refl
+
+-- it puts no byte on the bus
+pub no-byte : (cpu : Processor) (w : Wires) (p : Processor) (v : Wires) (did : Did) → (cpu.phase ≡ Boundary → ⊥) → Made cpu w p v did → None ≡ byte_in did
+no-byte cpu w p v did going m = sym (ap byte_in (m.did ∙ executes cpu.phase cpu.regs _ _ _ _ _ going))
 
 -- the video chip ends the cycle
 pub seen_after : (cpu : Processor) (w : Wires) (p : Processor) (v : Wires) (did : Did) (byte : Option ℕ) (chip : Chip) → w.video.cycle_on ≡ w.video.on → Made cpu w p v did → byte ≡ byte_in did → chip ≡ video_ended byte v.video → seen_of p (record v { video = chip }) ≡ cycled (seen_of cpu w)

@@ -67,7 +67,7 @@ from-drawn from rom run shown t p h d =
 
 -- ---- the cycles of a move
 
-case-is : (x y z : Bool) → (if x then Dma else if y then Interrupt else if z then Idle else Instruction) ≡ Dma → x ≡ true
+pub case-is : (x y z : Bool) → (if x then Dma else if y then Interrupt else if z then Idle else Instruction) ≡ Dma → x ≡ true
 case-is true y z h = refl
 case-is false true z h = cc
 case-is false false true h = cc

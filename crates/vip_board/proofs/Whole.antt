@@ -7,7 +7,7 @@ use Rattle.machine.specs.Board.{Machine, case_of, acted, main_move, length_of, o
 use Rattle.machine.specs.Board.Case.{Instruction as InstructionCase}
 use Rattle.vip_cpu.specs.Cycle.{begun, quiet, Cycle}
 use Rattle.vip_cpu.specs.declared.cpu.Phase.TheVariants.{Boundary, Middle}
-use Rattle.vip_cpu.specs.declared.cpu.Did.TheVariants.{Fetch, Interrupt, Idle}
+use Rattle.vip_cpu.specs.declared.cpu.Did.TheVariants.{Fetch, Execute, Interrupt, Idle}
 use Rattle.machine.specs.Keys.{Event, held_at}
 use Rattle.vip_video.specs.Chip.{Pictures, scanned}
 use Rattle.vip_board.specs.Seen.{Seen, cycled, cycle_of}
@@ -120,3 +120,25 @@ make_three s n h d l e =
     let f = fetches_of s h d in
     let is_three : cycles_of (opcode_of s.rom s.machine) ≡ 3 = sym (l ∙ length_of-fetch s.rom s.script s.machine s.pictures f) ∙ e in
     ap (λ x. cycled (cycled (cycled x))) (rests s h) ∙ three s.rom s.script s.machine s.pictures f is_three ∙ moved-rests s h
+
+-- ---- where it stands after its fetch, and where one of three cycles stands after its second one
+
+not_boundary : (opcode left : ℕ) → Middle opcode left ≡ Boundary → ⊥
+not_boundary opcode left e = cc
+
+left_of_three : (opcode n : ℕ) (c : Cycle) (s : Regs) → n ≡ 3 → (if n - 1 == 1 then c else quiet s (Middle opcode (n - 1 - 1)) Execute).phase ≡ Middle opcode 1
+left_of_three opcode n c s e = rw e
+
+pub is-fetched : (s : Seen) → s.phase ≡ Boundary → (cycle_of s).did ≡ Fetch → (cycled s).phase ≡ Boundary → ⊥
+is-fetched s h d e =
+    let f = fetches_of s h d in
+    let is = ap cycled (rests s h) ∙ cycled-fetch s.rom s.script s.machine s.pictures f in
+    not_boundary (opcode_of s.rom s.machine) (cycles_of (opcode_of s.rom s.machine) - 1) (sym (ap (λ (x : Seen). x.phase) is) ∙ e)
+
+pub is-going : (s : Seen) (n : ℕ) → s.phase ≡ Boundary → (cycle_of s).did ≡ Fetch → n ≡ length_of s.rom s.machine → n ≡ 3 → (cycled (cycled s)).phase ≡ Boundary → ⊥
+is-going s n h d l three e =
+    let f = fetches_of s h d in
+    let is_three : cycles_of (opcode_of s.rom s.machine) ≡ 3 = sym (l ∙ length_of-fetch s.rom s.script s.machine s.pictures f) ∙ three in
+    let is = ap (λ x. cycled (cycled x)) (rests s h) ∙ ap cycled (cycled-fetch s.rom s.script s.machine s.pictures f) in
+    not_boundary (opcode_of s.rom s.machine) 1
+    (sym (ap (λ (x : Seen). x.phase) is ∙ left_of_three (opcode_of s.rom s.machine) (cycles_of (opcode_of s.rom s.machine)) _ _ is_three) ∙ e)

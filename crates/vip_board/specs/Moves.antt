@@ -1,5 +1,5 @@
 -- How a move is named, what it makes of the board, and what an answer says.
-use Rattle.std.specs.Prelude.{◌≡◌, ℕ, zero, suc, ◌+◌, Bool, List, Option, Some, None}
+use Rattle.std.specs.Prelude.{◌≡◌, ◌<◌, ◌≤◌, ℕ, zero, suc, ◌+◌, Bool, List, Option, Some, None}
 use Rattle.machine.specs.Instruction.{at}
 use Rattle.machine.specs.Board.{Machine, Case, case_of, length_of, dma_byte, move}
 use Rattle.machine.specs.Board.Case.{Dma as DmaCase, Interrupt as InterruptCase, Idle as IdleCase, Instruction as InstructionCase}
@@ -42,6 +42,15 @@ pictures_after rom b p = scanned_over (length_of rom b) b.cycle b.on (bus_byte_i
 abbrev pub moved : Seen → Seen
 moved s =
     record s { machine = move s.rom (held_by s) s.machine; pictures = pictures_after s.rom s.machine s.pictures }
+
+-- after so many moves
+abbrev pub moved_by : ℕ → Seen → Seen
+moved_by zero s = s
+moved_by (suc n) s = moved (moved_by n s)
+
+-- so many moves, if any, are DMA cycles, and so is the one behind them
+abbrev pub Scans : ℕ → Seen → Type 0
+Scans n s = 0 < n → (k : ℕ) → k ≤ n → case_of (moved_by k s).machine ≡ DmaCase
 
 abbrev pub IfDone : Moved → (Move → Type 0) → Type 0
 IfDone (Done m) P = P m

@@ -14,7 +14,7 @@ use vip_cpu::{Bus, Cpu, Did, Parts, Phase};
 use vip_isa::cycles;
 use vip_keypad::{Keypad, Script};
 use vip_memory::Memory;
-use vip_video::{Signals, Video};
+use vip_video::{Requests, Video};
 
 /// A move, the atomic step of the board: one DMA cycle, one interrupt cycle, one idle cycle, or one whole instruction with the address
 /// of its opcode.
@@ -179,37 +179,68 @@ impl Board {
         ensures board { self.new ≡ cycled self.old }
         ensures did { result ≡ (cycle_of self.old).did }
     {
-        self.wires.seek();
+        self.wires.seek_if(self.cpu.tests_ef3());
         let now = self.wires.video.now();
-        let signals = self.wires.video.signals(now);
-        let did = self.cpu.cycle(&mut self.wires, signals.dma, signals.int);
+        let requests = self.wires.video.requests();
+        let did = self.cpu.cycle(&mut self.wires, requests.dma, requests.int);
         self.wires.video.end_cycle(now, byte_in(did));
         did
+    }
+
+    /// The requests of the present cycle.
+    #[inline(always)]
+    fn requests(&self) -> Requests
+        ensures int { result.int ≡ int_at self.now.machine.cycle self.now.machine.on }
+        ensures dma { result.dma ≡ dma_at self.now.machine.cycle self.now.machine.on }
+    {
+        self.wires.video.requests()
+    }
+
+    /// Makes the first machine cycle of a move, which has these requests.
+    #[inline(always)]
+    fn begin(&mut self, requests: Requests) -> Did
+        requires boundary { self.old.phase ≡ Phase.Boundary }
+        requires fits { self.old.machine.cycle + 1 < 2 ^ 64 }
+        requires int { requests.int ≡ int_at self.old.machine.cycle self.old.machine.on }
+        requires dma { requests.dma ≡ dma_at self.old.machine.cycle self.old.machine.on }
+        ensures board { self.new ≡ cycled self.old }
+        ensures did { result ≡ (cycle_of self.old).did }
+    {
+        let now = self.wires.video.now();
+        let did = self.cpu.begin(&self.wires, requests.dma, requests.int);
+        self.wires.video.end_cycle(now, byte_in(did));
+        did
+    }
+
+    /// Makes one machine cycle of an instruction after its fetch. No request is looked at in it.
+    #[inline(always)]
+    fn go_on(&mut self)
+        requires fits { self.old.machine.cycle + 1 < 2 ^ 64 }
+        requires middle { self.old.phase ≡ Phase.Boundary → ⊥ }
+        ensures { self.new ≡ cycled self.old }
+    {
+        self.wires.seek_if(self.cpu.tests_ef3());
+        let now = self.wires.video.now();
+        self.cpu.cycle(&mut self.wires, false, false);
+        self.wires.video.end_cycle(now, None);
     }
 }
 
 impl Board {
     ghost use Rattle.machine.specs.Board.{length_of};
-    ghost use Rattle.vip_board.specs.Moves.{name_of, moved, IfDone, StartsInstruction};
-
-    /// The signals of the present cycle.
-    fn signals(&self) -> Signals
-        ensures int { result.int ≡ int_at self.now.machine.cycle self.now.machine.on }
-        ensures dma { result.dma ≡ dma_at self.now.machine.cycle self.now.machine.on }
-    {
-        self.wires.video.signals(self.wires.video.now())
-    }
+    ghost use Rattle.vip_board.specs.Moves.{name_of, moved, moved_by, IfDone, Scans, StartsInstruction};
 
     /// Whether the next move is an instruction. The board is at a boundary.
     pub fn next_is_instruction(&self) -> bool
         requires { self.now.phase ≡ Phase.Boundary }
         ensures { IsTrue result ↔ StartsInstruction self.now.machine }
     {
-        let signals = self.signals();
-        !signals.dma && !(self.cpu.ie() && signals.int) && !self.cpu.idle()
+        let requests = self.requests();
+        !requests.dma && !(self.cpu.ie() && requests.int) && !self.cpu.idle()
     }
 
     /// The address of the next opcode, R(P).
+    #[inline(always)]
     fn counter(&self) -> u16
         ensures { result ≡ at self.now.machine.regs self.now.machine.regs.p }
     {
@@ -220,31 +251,51 @@ impl Board {
     pub fn next_length(&self) -> u64
         ensures { result ≡ length_of self.now.rom self.now.machine }
     {
-        let signals = self.signals();
-        if signals.dma || (self.cpu.ie() && signals.int) || self.cpu.idle() {
+        self.length_by(self.requests())
+    }
+
+    /// The machine cycles of the next move, by the requests of the present cycle.
+    #[inline(always)]
+    fn length_by(&self, requests: Requests) -> u64
+        requires int { requests.int ≡ int_at self.now.machine.cycle self.now.machine.on }
+        requires dma { requests.dma ≡ dma_at self.now.machine.cycle self.now.machine.on }
+        ensures { result ≡ length_of self.now.rom self.now.machine }
+    {
+        if requests.dma || (self.cpu.ie() && requests.int) || self.cpu.idle() {
             return 1;
         }
         u64::from(cycles(self.wires.read(self.counter())))
     }
 
-    /// Makes the next move, which takes so many cycles, and names it.
-    fn make(&mut self, length: u64) -> Move
+    /// Lets the video chip look ahead for cycles in which it has nothing to do but count.
+    #[inline(always)]
+    fn look_ahead(&mut self)
+        ensures { self.new ≡ self.old }
+    {
+        self.wires.video.look_ahead();
+    }
+
+    /// Makes the next move, which takes so many cycles, and names it. The requests are those of its first cycle.
+    #[inline(always)]
+    fn make(&mut self, requests: Requests, length: u64) -> Move
         requires boundary { self.old.phase ≡ Phase.Boundary }
         requires long { length ≡ length_of self.old.rom self.old.machine }
         requires fits { self.old.machine.cycle + length < 2 ^ 64 }
+        requires int { requests.int ≡ int_at self.old.machine.cycle self.old.machine.on }
+        requires dma { requests.dma ≡ dma_at self.old.machine.cycle self.old.machine.on }
         ensures moved { self.new ≡ moved self.old }
         ensures named { result ≡ name_of self.old.machine }
     {
         let address = self.counter();
-        match self.cycle() {
+        match self.begin(requests) {
             Did::Dma(_) => Move::Dma,
             Did::Interrupt => Move::Interrupt,
             Did::Idle => Move::Idle,
             Did::Fetch => {
                 if length == 3 {
-                    self.cycle();
+                    self.go_on();
                 }
-                self.cycle();
+                self.go_on();
                 Move::Instruction(address)
             }
             Did::Execute => unreachable!(),
@@ -253,6 +304,7 @@ impl Board {
 
     /// Makes the next move and names it, or answers `End` where it would end after cycle `limit` and changes nothing. The board is at a
     /// boundary, before and after. Where the video chip had the pictures of the moves made so far, it has them after this move too.
+    #[inline(always)]
     pub fn to_boundary(&mut self, limit: u64) -> Moved
         requires { self.old.phase ≡ Phase.Boundary }
         ensures end { (result ≡ Moved.End) ↔ (limit < self.old.machine.cycle + length_of self.old.rom self.old.machine) }
@@ -262,10 +314,35 @@ impl Board {
         ensures pictures { IfDone result (λ _. CarriesOn self.old self.new) }
         ensures fits { FitsRom self.old.rom → FitsMachine self.old.machine → FitsMachine self.new.machine }
     {
-        let length = self.next_length();
+        self.look_ahead();
+        let requests = self.requests();
+        let length = self.length_by(requests);
         if length > limit || self.now() > limit - length {
             return Moved::End;
         }
-        Moved::Done(self.make(length))
+        Moved::Done(self.make(requests, length))
+    }
+
+    /// Makes the DMA cycles that come next in the raster line but for the last one, as far as they end at or before cycle `limit`, and
+    /// answers how many. The board is at a boundary, before and after. Where it made one, the next move is a DMA cycle too.
+    #[inline(always)]
+    pub fn scan(&mut self, limit: u64) -> u64
+        requires { self.old.phase ≡ Phase.Boundary }
+        ensures moved { self.new ≡ moved_by result self.old }
+        ensures dma { Scans result self.old }
+        ensures within { 0 < result → self.new.machine.cycle ≤ limit }
+        ensures few { result ≤ limit }
+    {
+        let ahead = self.wires.video.dma_ahead();
+        let count = ahead
+            .saturating_sub(1)
+            .min(limit.saturating_sub(self.now()));
+        for _cycle in 0..count {
+            self.begin(Requests {
+                int: false,
+                dma: true,
+            });
+        }
+        count
     }
 }

@@ -17,11 +17,13 @@ pub struct Wires {
 }
 
 impl Wires {
-    /// Finds the events about the present cycle, so that EF3 is read without a search.
-    pub fn seek(&mut self)
+    /// Finds the events about the present cycle where an instruction tests EF3 in it, so that the flag is read without a search.
+    pub fn seek_if(&mut self, tests_ef3: bool)
         ensures { self.new ≡ self.old }
     {
-        self.keypad.seek(self.video.now());
+        if tests_ef3 {
+            self.keypad.seek(self.video.now());
+        }
     }
 }
 

@@ -57,7 +57,7 @@ impl Model for Cpu {
 }
 
 impl Cpu {
-    ghost use Rattle.vip_cpu.specs.Cycle.{after, begun, ended, cycle};
+    ghost use Rattle.vip_cpu.specs.Cycle.{after, begun, ended, cycle, tests_ef3};
 
     /// A processor after reset, at a boundary: Q = 0, IE = 1, and all other registers are 0.
     pub fn reset() -> Cpu
@@ -84,6 +84,7 @@ impl Cpu {
 
     /// One machine cycle. `dma` says whether DMA out is wanted in it, and `int` whether INT is active; both are looked at only at a
     /// boundary. Answers what kind of cycle it was.
+    #[inline(always)]
     pub fn cycle<B: Bus>(&mut self, bus: &mut B, dma: bool, int: bool) -> Did
         ensures { (taken : ℕ) × (let c = cycle self.old (B.byte bus.old) (B.flags bus.old) dma int taken in (self.new ≡ after c) × (result ≡ c.did) × Acts B.writes B.sends B.receives c.effect taken bus.old bus.new) }
     {
@@ -100,8 +101,9 @@ impl Cpu {
         }
     }
 
-    /// The first cycle of a move.
-    fn begin<B: Bus>(&mut self, bus: &B, dma: bool, int: bool) -> Did
+    /// The first cycle of a move, as `cycle` makes it.
+    #[inline(always)]
+    pub fn begin<B: Bus>(&mut self, bus: &B, dma: bool, int: bool) -> Did
         requires { self.old.phase ≡ Phase.Boundary }
         ensures processor { self.new ≡ after (begun self.old.regs (B.byte bus.now) dma int) }
         ensures did { result ≡ (begun self.old.regs (B.byte bus.now) dma int).did }
@@ -125,6 +127,7 @@ impl Cpu {
     }
 
     /// The last cycle of an instruction. Answers the byte that INP took from the bus, and 0 for all other instructions.
+    #[inline(always)]
     fn end<B: Bus>(&mut self, bus: &mut B, opcode: u8) -> u8
         ensures processor { self.new ≡ after (ended opcode self.old.regs (B.byte bus.old) (B.flags bus.old) result) }
         ensures acts { let c = ended opcode self.old.regs (B.byte bus.old) (B.flags bus.old) result in Acts B.writes B.sends B.receives c.effect result bus.old bus.new }
@@ -141,6 +144,16 @@ impl Cpu {
         match self.phase {
             Phase::Boundary => true,
             Phase::Middle(..) => false,
+        }
+    }
+
+    /// Whether the processor is in an instruction that tests EF3, B3 or BN3.
+    pub fn tests_ef3(&self) -> bool
+        ensures { result ≡ tests_ef3 self.now.phase }
+    {
+        match self.phase {
+            Phase::Middle(0x36 | 0x3E, _) => true,
+            _ => false,
         }
     }
 

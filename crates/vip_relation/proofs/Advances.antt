@@ -14,7 +14,7 @@ use Rattle.vip_relation.specs.State.{VipState, interpreter, events_to, events_le
 use Rattle.vip_relation.specs.Stops.{stop_record}
 use Rattle.vip_relation.specs.Follows.{Follows}
 use Rattle.vip_relation.specs.Meets.{IsSame, MeetsOne, TellsSame, MeetsNext, HasStopped, MovesOn}
-use Rattle.vip_relation.specs.Parts.{MeetsFirst, MeetsAll, Steps}
+use Rattle.vip_relation.specs.Parts.{MeetsFirst, MeetsAll, Scans, Steps}
 use Rattle.vip_relation.specs.declared.vip.Met.{Met}
 use Rattle.vip_relation.specs.declared.vip.Met.TheVariants.{Picture as PictureMet, Dispatch as DispatchMet, Stopped as StoppedMet, End}
 use Rattle.vip_relation.proofs.Steps.{none-left, all-moves, none-before, moves-before, others-to}
@@ -43,6 +43,20 @@ reaches-next limit entry v w name r s within follows =
       goes_on = s.goes_on;
       follows = follows;
     }
+
+pub reaches-scan : (limit : ℕ) (entry v w : VipState) → Reaches limit entry v → Scans limit v w → Follows w → Reaches limit entry w
+reaches-scan limit entry v w r s follows =
+    record {
+      same = s.state ∙ ap (λ (x : VipState). record x { moves = w.moves; board = w.board }) r.same;
+      script = s.script ∙ r.script;
+      order = omega (arith, r.order, s.moves);
+      within = s.within r.within;
+      goes_on = λ stopped. not_both (is_stop (interpreter w) w.board.machine) stopped.stop s.runs;
+      follows = follows;
+    }
+  where
+    not_both : (b : Bool) → b ≡ true → b ≡ false → ⊥
+    not_both b h g = cc
 
 -- ---- what is said of v is said of the entry
 

@@ -6,3 +6,4 @@ mod Reading
 mod Advances
 mod Closing
 pub mod Waits
+pub mod Scanning

@@ -1,8 +1,9 @@
 -- What the parts of a call make of a machine that runs a game.
-use Rattle.std.specs.Prelude.{◌≡◌, ℕ, ◌+◌, ◌<◌, ◌≤◌, [], length, Option, None, Some}
+use Rattle.std.specs.Prelude.{◌≡◌, ℕ, ◌+◌, ◌<◌, ◌≤◌, false, [], length, Option, None, Some}
+use Rattle.chip8_lang.specs.Events.{is_stop}
 use Rattle.vip_board.specs.Moves.{moved, name_of}
 use Rattle.vip_board.specs.declared.board.Move.{Move}
-use Rattle.vip_relation.specs.State.{VipState, events_left, events_waiting}
+use Rattle.vip_relation.specs.State.{VipState, interpreter, events_left, events_waiting}
 use Rattle.vip_relation.specs.Meets.{IsSame, MeetsNext, HasStopped}
 use Rattle.vip_relation.specs.declared.vip.Met.{Met}
 
@@ -32,3 +33,13 @@ pub record Steps (old new : VipState) (name : Move) : Type 0 where
   pub move : name ≡ name_of old.board.machine
   pub later : old.board.machine.cycle < new.board.machine.cycle
   pub goes_on : HasStopped new → ⊥
+
+-- the board made DMA cycles, behind none of which an event waits
+pub record Scans (limit : ℕ) (old new : VipState) : Type 0 where
+  pub state : new ≡ record old { moves = new.moves; board = new.board }
+  pub script : new.board.script ≡ old.board.script
+  pub moves : old.moves ≤ new.moves
+  pub later : old.board.machine.cycle ≤ new.board.machine.cycle
+  pub within : old.board.machine.cycle ≤ limit → new.board.machine.cycle ≤ limit
+  pub met : events_waiting new ≡ []
+  pub runs : is_stop (interpreter new) new.board.machine ≡ false

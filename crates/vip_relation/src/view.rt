@@ -24,6 +24,7 @@ const PAGE: usize = 256;
 const MOST_SCREEN: usize = 512;
 
 /// The view of the language state that is read off a board.
+#[inline(never)]
 pub fn view(edition: Edition, board: &Board) -> StateView
     ensures { seen result ≡ view_at edition board.now.machine }
 {
@@ -61,6 +62,7 @@ pub fn dark(edition: Edition) -> Screen
 }
 
 /// Copies the bytes of the screen, over what was there.
+#[inline(never)]
 pub fn copy_screen(edition: Edition, memory: &Memory, into: &mut Screen)
     ensures items { into.new.items ≡ slice_range memory.now.ram (screen_start edition) 0x1000 }
     ensures size { length into.new.items ≡ screen_size edition }

@@ -69,7 +69,7 @@ impl Vip {
     ghost use Rattle.vip_relation.specs.Stops.{stop_record};
     ghost use Rattle.vip_relation.specs.Follows.{Follows};
     ghost use Rattle.vip_relation.specs.Meets.{StartAnswers, MeetsNext, HasStopped, StopsAgain, Rests, MovesOn};
-    ghost use Rattle.vip_relation.specs.Parts.{MeetsHere, MeetsAll, Steps};
+    ghost use Rattle.vip_relation.specs.Parts.{MeetsHere, MeetsAll, Scans, Steps};
 
     /// A board after reset with the usual edition's ROM, a game in its memory and a key script.
     pub fn start(alloc: Global, game: &[u8], script: &Script) -> Result<Vip, StartFault>
@@ -171,6 +171,7 @@ impl Vip {
             if let Some(met) = self.meet() {
                 return met;
             }
+            self.scan(limit);
             if let Moved::End = self.step(limit) {
                 return Met::End;
             }
@@ -233,6 +234,7 @@ impl Vip {
     }
 
     /// Meets the first event that waits at the present state, if there is one.
+    #[inline(always)]
     fn meet(&mut self) -> Option<Met>
         ensures follows { Follows self.new }
         ensures first { MeetsHere self.old self.new result }
@@ -268,8 +270,23 @@ impl Vip {
         while self.meet().is_some() {}
     }
 
+    /// Makes the DMA cycles that come next, as the board's `scan` does. No event waits here nor behind any of them, and the board is at no
+    /// stop point.
+    #[inline(always)]
+    fn scan(&mut self, limit: u64)
+        requires limit { limit ≤ most_cycles }
+        requires met { events_waiting self.old ≡ [] }
+        requires runs { is_stop (interpreter self.old) self.old.board.machine ≡ false }
+        ensures follows { Follows self.new }
+        ensures scans { Scans limit self.old self.new }
+    {
+        let made = self.board.scan(limit);
+        self.moves += made;
+    }
+
     /// Makes one move, which leads to a new state whose events wait, or changes nothing where it would end after the limit. No event waits,
     /// and the board is at no stop point.
+    #[inline(always)]
     fn step(&mut self, limit: u64) -> Moved
         requires limit { limit ≤ most_cycles }
         requires met { events_waiting self.old ≡ [] }

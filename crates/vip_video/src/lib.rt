@@ -27,5 +27,7 @@ mod raster;
 mod video;
 
 pub use buffer::Picture;
-pub use place::{FRAME_LINES, INTERRUPT_LINE, LINE_CYCLES, Signals, WINDOW_END_LINE, WINDOW_LINE};
+pub use place::{
+    FRAME_LINES, INTERRUPT_LINE, LINE_CYCLES, Requests, Signals, WINDOW_END_LINE, WINDOW_LINE,
+};
 pub use video::Video;

@@ -1,8 +1,9 @@
 //! A place in the frame, and the signals there. The exact places are this project's profile.
 
-ghost use Rattle.std.specs.Prelude.{◌≡◌, ◌+◌, ℕ};
-ghost use Rattle.machine.specs.Signals.{int_at, dma_at, efx_at};
+ghost use Rattle.std.specs.Prelude.{◌≡◌, ◌+◌, ◌%◌, ◌<◌, ℕ};
+ghost use Rattle.machine.specs.Signals.{line_cycles, int_at, dma_at, efx_at};
 ghost use Rattle.vip_video.specs.Place.{frame_place};
+ghost use Rattle.vip_video.specs.Quiet.{HasNoRequest, RequestsDma};
 ghost use Rattle.vip_video.specs.Chip.{needs_display};
 
 /// The machine cycles of a raster line.
@@ -42,6 +43,15 @@ pub struct Signals {
     pub dma: bool,
     /// The flag that the board wires to EF1.
     pub efx: bool,
+}
+
+/// What the chip requests of the processor in a machine cycle.
+#[derive(Clone, Copy, Debug, PartialEq, Eq)]
+pub struct Requests {
+    /// The interrupt request.
+    pub int: bool,
+    /// The wish for a DMA cycle.
+    pub dma: bool,
 }
 
 /// A machine cycle's place in the frame.
@@ -107,6 +117,35 @@ impl Place {
             efx: on
                 && (WINDOW_LINE - EFX_LINES <= line && line < WINDOW_LINE
                     || WINDOW_END_LINE - EFX_LINES <= line && line < WINDOW_END_LINE),
+        }
+    }
+
+    /// How many cycles from here on have no request, whatever the switch, and don't end their line. It may miss some.
+    pub fn quiet(&self) -> u8
+        ensures within { (t : ℕ) → self.now ≡ frame_place t → t % line_cycles + result < line_cycles }
+        ensures quiet { (t : ℕ) → self.now ≡ frame_place t → (k : ℕ) → k < result → HasNoRequest (t + k) }
+    {
+        let line = self.line;
+        let column = self.column;
+        let is_in_window = WINDOW_LINE <= line && line < WINDOW_END_LINE;
+        if INTERRUPT_LINE <= line && line < WINDOW_LINE {
+            0
+        } else if is_in_window && column < DMA_END_COLUMN {
+            DMA_COLUMN.saturating_sub(column)
+        } else {
+            LAST_COLUMN.saturating_sub(column)
+        }
+    }
+
+    /// How many DMA cycles the chip requests from here on, one after another, where the display is on.
+    pub fn dma_ahead(&self) -> u8
+        ensures { (t : ℕ) → self.now ≡ frame_place t → (k : ℕ) → k < result → RequestsDma (t + k) }
+    {
+        let is_in_window = WINDOW_LINE <= self.line && self.line < WINDOW_END_LINE;
+        if is_in_window && DMA_COLUMN <= self.column {
+            DMA_END_COLUMN.saturating_sub(self.column)
+        } else {
+            0
         }
     }
 }

@@ -1,12 +1,12 @@
 //! The video chip.
 
-ghost use Rattle.std.specs.Prelude.{◌≡◌, ◌+◌, ◌<◌, ◌^◌, ◌↔◌, IsSome, IsTrue};
+ghost use Rattle.std.specs.Prelude.{◌≡◌, ◌+◌, ◌<◌, ◌^◌, ◌↔◌, ℕ, true, false, IsSome, IsTrue};
 ghost use Rattle.std.specs.Option.{option_map};
 ghost use Rattle.machine.specs.Signals.{int_at, dma_at, efx_at};
 ghost use Rattle.vip_video.specs.Chip.{at_start, at_cycle, ended};
 
 use crate::buffer::Picture;
-use crate::place::{FRAME_LINES, INTERRUPT_LINE, LINE_CYCLES, Place, Signals};
+use crate::place::{FRAME_LINES, INTERRUPT_LINE, LINE_CYCLES, Place, Requests, Signals};
 use crate::raster::Raster;
 use std::marker::Model;
 
@@ -18,8 +18,10 @@ const INTERRUPT_CYCLE: u64 = INTERRUPT_LINE as u64 * LINE_CYCLES;
 /// A CDP1861 with the picture that it draws and the last one that it finished.
 #[derive(Drop)]
 pub struct Video {
-    // the machine cycles ended so far, and the place of the present one
+    // the machine cycles ended so far
     cycles: u64,
+    // a cycle up to which the chip has nothing to do but count, the present one or a later one, and its place
+    quiet_to: u64,
     place: Place,
     // the display switch now, and as it stood when the last cycle ended
     on: bool,
@@ -32,12 +34,13 @@ impl Model for Video {
     ghost use Rattle.vip_video.specs.Chip.{Chip};
     ghost use Rattle.vip_video.specs.Place.{frame_place};
     ghost use Rattle.vip_video.specs.Kept.{HasRoom};
+    ghost use Rattle.vip_video.specs.Quiet.{AreQuiet};
 
     ghost Value = { Chip };
 
     ghost view = { λ a. record { cycles = a.cycles; on = a.on; cycle_on = a.cycle_on; pictures = a.raster } };
 
-    ghost invariant = { λ a. record { place : a.place ≡ frame_place a.cycles; count : a.raster.count ≤ a.cycles; room : HasRoom a.cycles a.raster.lines } };
+    ghost invariant = { λ a. record { ahead : a.cycles ≤ a.quiet_to; place : a.place ≡ frame_place a.quiet_to; quiet : AreQuiet a.on a.cycle_on a.cycles a.quiet_to; count : a.raster.count ≤ a.cycles; room : HasRoom a.cycles a.raster.lines } };
 }
 
 impl Video {
@@ -55,6 +58,7 @@ impl Video {
     {
         Video {
             cycles: t,
+            quiet_to: t,
             place: Place::of(t),
             on,
             cycle_on: on,
@@ -75,24 +79,76 @@ impl Video {
         ensures dma { result.dma ≡ dma_at t self.now.on }
         ensures efx { result.efx ≡ efx_at t self.now.on }
     {
-        if t == self.cycles {
+        if t == self.quiet_to {
             self.place.signals(self.on)
         } else {
             Place::of(t).signals(self.on)
         }
     }
 
+    /// The requests of the present cycle, with the switch as it stands now.
+    #[inline(always)]
+    pub fn requests(&self) -> Requests
+        ensures int { result.int ≡ int_at self.now.cycles self.now.on }
+        ensures dma { result.dma ≡ dma_at self.now.cycles self.now.on }
+    {
+        if self.cycles < self.quiet_to {
+            return Requests {
+                int: false,
+                dma: false,
+            };
+        }
+        let signals = self.place.signals(self.on);
+        Requests {
+            int: signals.int,
+            dma: signals.dma,
+        }
+    }
+
+    /// Looks ahead for cycles in which the chip has nothing to do but count, so that they pass without more work. It changes no answer.
+    #[inline(always)]
+    pub fn look_ahead(&mut self)
+        ensures { self.new ≡ self.old }
+    {
+        if self.cycles < self.quiet_to || !self.on || !self.cycle_on {
+            return;
+        }
+        let quiet = self.place.quiet();
+        if let Some(quiet_to) = self.cycles.checked_add(u64::from(quiet)) {
+            self.quiet_to = quiet_to;
+            self.place.column += quiet;
+        }
+    }
+
+    /// How many DMA cycles the chip requests from the present cycle on, one after another, if the display stays as it is.
+    #[inline(always)]
+    pub fn dma_ahead(&self) -> u64
+        ensures int { (k : ℕ) → k < result → int_at (self.now.cycles + k) self.now.on ≡ false }
+        ensures dma { (k : ℕ) → k < result → dma_at (self.now.cycles + k) self.now.on ≡ true }
+    {
+        if self.cycles < self.quiet_to || !self.on {
+            return 0;
+        }
+        u64::from(self.place.dma_ahead())
+    }
+
     /// Ends machine cycle t, which has to be the number of cycles ended so far. The cycle has the switch that stood when the cycle
     /// before it ended. `byte` is the byte that its DMA cycle put on the bus, and may be given only where `signals(t)` has `dma`.
+    #[inline(always)]
     pub fn end_cycle(&mut self, t: u64, byte: Option<u8>)
         requires present { t ≡ self.old.cycles }
         requires fits { t + 1 < 2 ^ 64 }
         requires wanted { IsSome byte → IsTrue (dma_at t self.old.on) }
         ensures { self.new ≡ ended byte self.old }
     {
+        if self.cycles < self.quiet_to {
+            self.cycles = t + 1;
+            return;
+        }
         self.raster.draw(&self.place, self.cycle_on, byte);
         self.cycle_on = self.on;
         self.cycles = t + 1;
+        self.quiet_to = t + 1;
         self.place = self.place.next();
         if self.place.column == 0 {
             self.raster.begin_line(self.place.line);
@@ -104,6 +160,8 @@ impl Video {
         ensures { self.new ≡ record self.old { on = on } }
     {
         self.on = on;
+        self.quiet_to = self.cycles;
+        self.place = Place::of(self.cycles);
     }
 
     /// Whether the display is on.

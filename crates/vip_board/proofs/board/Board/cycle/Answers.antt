@@ -1,4 +1,4 @@
-use Rattle.std.proofs.Common.{◌≡◌, ◌∙◌, sym, subst, ap}
+use Rattle.std.proofs.Common.{◌≡◌, ◌∙◌, refl, sym, subst, ap}
 use Rattle.vip_board.specs.Seen.{cycled}
 use Rattle.vip_board.specs.Wired.{seen_of}
 use Rattle.vip_board.specs.declared.wires.Wires.{Wires}
@@ -8,20 +8,20 @@ use Rattle.vip_board.proofs.board.Board.cycle.Goals as goal
 pub end_cycle-requires-clause-present : goal.end_cycle-requires-clause-present
 end_cycle-requires-clause-present c =
     let m =
-    made c.self.inside.cpu c.seek.new.self c.now-now.result c.signals-signals.result.dma c.signals-signals.result.int
+    made c.self.inside.cpu c.seek_if.new.self c.seek_if.new.self.video.cycles c.requests-requests.result.dma c.requests-requests.result.int
     c.cycle-did.new.self c.cycle-did.new.bus c.cycle-did.result
-    c.now-now.ensures c.signals-signals.ensures.dma c.signals-signals.ensures.int c.cycle-did.ensures in
+    refl c.requests-requests.ensures.dma c.requests-requests.ensures.int c.cycle-did.ensures in
     c.now-now.ensures ∙ sym (ap (λ (w : Wires). w.video.cycles) m.wires)
 
 pub returns-clause-board : goal.returns-clause-board
 returns-clause-board c =
     let cpu = c.self.inside.cpu in
     let m =
-    made cpu c.seek.new.self c.now-now.result c.signals-signals.result.dma c.signals-signals.result.int
+    made cpu c.seek_if.new.self c.seek_if.new.self.video.cycles c.requests-requests.result.dma c.requests-requests.result.int
     c.cycle-did.new.self c.cycle-did.new.bus c.cycle-did.result
-    c.now-now.ensures c.signals-signals.ensures.dma c.signals-signals.ensures.int c.cycle-did.ensures in
+    refl c.requests-requests.ensures.dma c.requests-requests.ensures.int c.cycle-did.ensures in
     let On : Wires → Type 0 = λ w. w.video.cycle_on ≡ w.video.on in
-    seen_after cpu c.seek.new.self c.cycle-did.new.self c.cycle-did.new.bus c.cycle-did.result c.byte_in.result c.end_cycle.new.self
-    (subst On (sym c.seek.ensures) c.self.invariant) m c.byte_in.ensures c.end_cycle.ensures
-    ∙ ap (λ w. cycled (seen_of cpu w)) c.seek.ensures
+    seen_after cpu c.seek_if.new.self c.cycle-did.new.self c.cycle-did.new.bus c.cycle-did.result c.byte_in.result c.end_cycle.new.self
+    (subst On (sym c.seek_if.ensures) c.self.invariant) m c.byte_in.ensures c.end_cycle.ensures
+    ∙ ap (λ w. cycled (seen_of cpu w)) c.seek_if.ensures
     ∙ ap cycled c.self.view_is

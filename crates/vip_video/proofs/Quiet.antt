@@ -1,0 +1,68 @@
+-- Quiet cycles: the chip counts, and nothing else changes.
+use Rattle.std.proofs.Common.{◌≡◌, ◌≢◌, ◌+◌, ◌-◌, ◌*◌, ◌%◌, ◌<◌, ◌≤◌, ℕ, Bool, true, false, ap, sym, ◌∙◌, refl, subst, arith}
+use Rattle.std.specs.Prelude.{Option, Some, None, ◌&&◌, IsSome, IsTrue}
+use Rattle.std.proofs.lemmas.Bool.{ne_eqb}
+use Rattle.machine.specs.Signals.{line_cycles, window_end_line, line_of, dma_at, int_at}
+use Rattle.machine.specs.Pictures.{frame}
+use Rattle.vip_video.specs.Chip.{Chip, Pictures, begins_frame, follows_window, drawn, passed, scanned, ended}
+use Rattle.vip_video.specs.Kept.{HasRoom}
+use Rattle.vip_video.specs.Place.{frame_place}
+use Rattle.vip_video.specs.Quiet.{HasNoRequest, IsQuiet, AreQuiet}
+use Rattle.vip_video.specs.declared.place.Place.{Place}
+use Rattle.vip_video.proofs.Room.{room-passed}
+
+and-true : (x : Bool) → (x && true) ≡ x
+and-true true = refl
+and-true false = refl
+
+-- where no line begins, no frame begins and no window ends
+pub passes : (t : ℕ) (p : Pictures) → t % line_cycles ≢ 0 → passed t p ≡ p
+passes t p h =
+    let frame_goes_on : begins_frame t ≡ false = ne_eqb (t % frame) 0 (λ e. h (omega (arith, e))) in
+    let window_goes_on : follows_window t ≡ false = ne_eqb (t % frame) (window_end_line * line_cycles) (λ e. h (omega (arith, e))) in
+    rw (frame_goes_on, window_goes_on)
+
+same-pictures : (t : ℕ) (p : Pictures) → (t + 1) % line_cycles ≢ 0 → scanned t true None p ≡ p
+same-pictures t p h = passes (t + 1) (drawn t true None p) h ∙ ap (λ s. record p { shown = s }) (and-true p.shown)
+
+-- so many cycles on in the same line
+pub place-on : (t n : ℕ) → t % line_cycles + n < line_cycles → frame_place (t + n) ≡ record { line = line_of t; column = t % line_cycles + n }
+place-on t n h =
+    let line : line_of (t + n) ≡ line_of t = omega (arith, h) in
+    let column : (t + n) % line_cycles ≡ t % line_cycles + n = omega (arith, h) in
+    λ i. record { line = line i; column = column i }
+
+pub quiet-ahead : (t n : ℕ) (on cycle_on : Bool) → on ≡ true → cycle_on ≡ true → t % line_cycles + n < line_cycles → ((k : ℕ) → k < n → HasNoRequest (t + k))
+    → AreQuiet on cycle_on t (t + n)
+quiet-ahead t n on cycle_on is_on is_cycle_on within none u from to =
+    let here : t + (u - t) ≡ u = omega (arith, from) in
+    record {
+      on = is_on;
+      cycle_on = is_cycle_on;
+      requests = subst HasNoRequest here (none (u - t) (omega (arith, from, to)));
+      pictures = λ p. same-pictures u p (λ e. omega (arith, e, from, to, within));
+    }
+
+-- ---- what holds of a quiet cycle
+
+pub no-int : (t : ℕ) (on cycle_on : Bool) → IsQuiet on cycle_on t → int_at t on ≡ false
+no-int t on cycle_on q = ap (int_at t) q.on ∙ q.requests.int
+
+pub no-dma : (t : ℕ) (on cycle_on : Bool) → IsQuiet on cycle_on t → dma_at t on ≡ false
+no-dma t on cycle_on q = ap (dma_at t) q.on ∙ q.requests.dma
+
+abbrev pub chip : ℕ → Bool → Bool → Pictures → Chip
+chip t on cycle_on p = record { cycles = t; on = on; cycle_on = cycle_on; pictures = p }
+
+both : (x : Bool) → x ≡ true → x ≡ false → ⊥
+both x t f = cc
+
+pub quiet-ended : (t : ℕ) (on cycle_on : Bool) (byte : Option ℕ) (p : Pictures) → IsQuiet on cycle_on t → (IsSome byte → IsTrue (dma_at t on))
+    → chip (t + 1) on cycle_on p ≡ ended byte (chip t on cycle_on p)
+quiet-ended t true true None p q wanted = ap (chip (t + 1) true true) (sym (q.pictures p))
+quiet-ended t true true (Some byte) p q wanted = absurd (both (dma_at t true) (wanted refl) q.requests.dma)
+quiet-ended t true false byte p q wanted = absurd (both false q.cycle_on refl)
+quiet-ended t false cycle_on byte p q wanted = absurd (both false q.on refl)
+
+pub quiet-room : (t : ℕ) (on cycle_on : Bool) (p : Pictures) → IsQuiet on cycle_on t → HasRoom t p.lines → HasRoom (t + 1) p.lines
+quiet-room t on cycle_on p q r = subst (λ (x : Pictures). HasRoom (t + 1) x.lines) (q.pictures p) (room-passed t true None p r (λ s. cc))
