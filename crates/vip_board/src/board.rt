@@ -333,6 +333,9 @@ impl Board {
         ensures within { 0 < result → self.new.machine.cycle ≤ limit }
         ensures few { result ≤ limit }
     {
+        if !self.requests().dma {
+            return 0;
+        }
         let ahead = self.wires.video.dma_ahead();
         let count = ahead
             .saturating_sub(1)
