@@ -44,12 +44,14 @@ pub greatest_pays : (budget cycles : ℕ) (line : Line)
 greatest_pays budget cycles line = elim (cases_Bool (leb (cycles + left line 255) budget)) [
   | inl pays ↦
       pays
-      ∙ sym (passes_all (λ v. leb (cycles + left line v) budget) 256 (λ v below. le-leb (cycles + left line v) budget (omega (arith, leb-true (cycles + left line 255) budget pays, left_rises line v 255 (omega arith)))))
+      ∙ sym (passes_all (λ v. leb (cycles + left line v) budget) 256 (λ v below. le-leb (cycles + left line v) budget
+      (omega (arith, leb-true (cycles + left line 255) budget pays, left_rises line v 255 (omega arith)))))
   | inr fails ↦ fails ∙ sym (fails_at (λ v. leb (cycles + left line v) budget) 256 255 (lit< tt) fails)
 ]
 
 -- the greatest counter that may follow stands for all of them
-pub worst_pays : (budget cycles : ℕ) (line : Line) (counter : Option ℕ) (own worst rest : ℕ) → own ≡ cycles → worst ≡ unwrap_or counter 255 → rest ≡ left line worst
+pub worst_pays : (budget cycles : ℕ) (line : Line) (counter : Option ℕ) (own worst rest : ℕ) → own ≡ cycles → worst ≡ unwrap_or counter 255
+    → rest ≡ left line worst
     → leb (own + rest) budget ≡ pays_for budget cycles line counter
 worst_pays budget cycles line None own worst rest own_is worst_is rest_is = rw (own_is, rest_is, worst_is) (greatest_pays budget cycles line)
 worst_pays budget cycles line (Some value) own worst rest own_is worst_is rest_is = rw (own_is, rest_is, worst_is) refl

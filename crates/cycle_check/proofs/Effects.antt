@@ -274,7 +274,8 @@ module _ (P : Type 0) (s : Regs) (i : Inputs) (size a next after : ℕ) (here : 
       let page = page_is (get s.r s.p) (a + 1) i.next here.behind here.low in
       let byte = here.next_is (omega (arith, agrees.0)) in
       one_way P when taken s.d (value w) ((a + 1) / 256 * 256 + next) (a + 2) agrees.1
-      (ap value is ∙ value_cond taken v u ((a + 1) / 256 * 256 + next) (a + 2) (omega (arith, ap value agrees.2, page, byte)) (omega (arith, ap value agrees.3, once)))
+      (ap value is ∙ value_cond taken v u ((a + 1) / 256 * 256 + next) (a + 2) (omega (arith, ap value agrees.2, page, byte))
+      (omega (arith, ap value agrees.3, once)))
   way_of (Long when) (Jumped taken v u) w agrees is =
       let high = here.next_is (omega (arith, agrees.0)) in
       let low = here.after_is (omega (arith, agrees.0)) in

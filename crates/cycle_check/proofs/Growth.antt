@@ -112,13 +112,15 @@ pub so_far-none : (text : List ℕ) → IsReadSoFar text [] (lines text) 0 (cert
 so_far-none text = record { statements = []; upto = read_none certificate_format text; grown = grown-none }
 
 -- what the next line says behind the statements
-next-behind : (statements : List (List (List ℕ))) (draft : Certificate) (line : List ℕ) (answer : Result (Option Statement) CertCause) → IsGrown statements draft
+next-behind : (statements : List (List (List ℕ))) (draft : Certificate) (line : List ℕ) (answer : Result (Option Statement) CertCause)
+    → IsGrown statements draft
     → next_of draft (said line) ≡ answer → next_of (certificate_of statements) (said line) ≡ answer
 next-behind statements draft line answer grown is =
     let P : Certificate → Type 0 = λ c. next_of c (said line) ≡ answer in
     subst P grown.is is
 
-pub so_far-next : (text : List ℕ) (done : List (List ℕ)) (line : List ℕ) (left : List (List ℕ)) (number : ℕ) (draft : Certificate) (statement : Option Statement)
+pub so_far-next : (text : List ℕ) (done : List (List ℕ)) (line : List ℕ) (left : List (List ℕ)) (number : ℕ) (draft : Certificate)
+    (statement : Option Statement)
     → IsReadSoFar text done (line ∷ left) number draft → next_of draft (said line) ≡ Ok statement
     → IsReadSoFar text (done ++ line ∷ []) left (number + 1) (extended draft statement)
 so_far-next text done line left number draft statement so_far is =

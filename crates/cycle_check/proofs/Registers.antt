@@ -19,8 +19,10 @@ by_register P p0 p1 p2 p3 p4 p5 p6 p7 p8 p9 pa pb pc pd pe pf (suc (suc (suc (su
 by_register P p0 p1 p2 p3 p4 p5 p6 p7 p8 p9 pa pb pc pd pe pf (suc (suc (suc (suc (suc (suc (suc (suc (suc (suc (suc (suc zero)))))))))))) lt = pc
 by_register P p0 p1 p2 p3 p4 p5 p6 p7 p8 p9 pa pb pc pd pe pf (suc (suc (suc (suc (suc (suc (suc (suc (suc (suc (suc (suc (suc zero))))))))))))) lt = pd
 by_register P p0 p1 p2 p3 p4 p5 p6 p7 p8 p9 pa pb pc pd pe pf (suc (suc (suc (suc (suc (suc (suc (suc (suc (suc (suc (suc (suc (suc zero)))))))))))))) lt = pe
-by_register P p0 p1 p2 p3 p4 p5 p6 p7 p8 p9 pa pb pc pd pe pf (suc (suc (suc (suc (suc (suc (suc (suc (suc (suc (suc (suc (suc (suc (suc zero))))))))))))))) lt = pf
-by_register P p0 p1 p2 p3 p4 p5 p6 p7 p8 p9 pa pb pc pd pe pf (suc (suc (suc (suc (suc (suc (suc (suc (suc (suc (suc (suc (suc (suc (suc (suc n)))))))))))))))) lt = absurd (omega arith)
+by_register P p0 p1 p2 p3 p4 p5 p6 p7 p8 p9 pa pb pc pd pe pf (suc (suc (suc (suc (suc (suc
+    (suc (suc (suc (suc (suc (suc (suc (suc (suc zero))))))))))))))) lt = pf
+by_register P p0 p1 p2 p3 p4 p5 p6 p7 p8 p9 pa pb pc pd pe pf (suc (suc (suc (suc (suc (suc
+    (suc (suc (suc (suc (suc (suc (suc (suc (suc (suc n)))))))))))))))) lt = absurd (omega arith)
 
 -- R(0) to R(F) as a list
 abbrev list_of : Bank → List Word

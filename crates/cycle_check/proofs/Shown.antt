@@ -109,7 +109,8 @@ module _ (n : ℕ) (s : Regs) (i : Inputs) (k : ℕ) where
       subst P same (ap (λ w. w.lo) (counter-stays kind may (λ names. absurd (true≢false (sym names ∙ free)))))
 
   -- what an instruction that names the counter register leaves in its low byte
-  low-named : (kind : Kind) (d : Option ℕ) → Allowed kind n s k → k ≡ n → Knows d s.d → Follows (low_after kind d (get s.r n).lo) (get (effect kind n s i).regs.r n).lo
+  low-named : (kind : Kind) (d : Option ℕ) → Allowed kind n s k → k ≡ n → Knows d s.d
+      → Follows (low_after kind d (get s.r n).lo) (get (effect kind n s i).regs.r n).lo
   low-named Inc d may same knows = ap (λ w. w.lo) (get_put s.r n (up (get s.r n)) may.n_fits)
   low-named Dec d may same knows = ap (λ w. w.lo) (get_put s.r n (down (get s.r n)) may.n_fits)
   low-named Lda d may same knows = ap (λ w. w.lo) (get_put s.r n (up (get s.r n)) may.n_fits)
@@ -157,7 +158,8 @@ module _ (n : ℕ) (s : Regs) (i : Inputs) (k : ℕ) where
       d_is kind n s i (not-true (assigns_d kind) both.1) ∙ holds ∙ eqb-true held byte both.0
   loaded-stays kind byte v fact shown holds = absurd (true≢false (sym shown))
 
-  loaded-by_ldi : (byte v next : ℕ) (fact : Fact) (same : Bool) → i.next ≡ next → eqb next byte ≡ same → is_loaded Ldi same byte fact ≡ true → FactHolds fact s.d v
+  loaded-by_ldi : (byte v next : ℕ) (fact : Fact) (same : Bool) → i.next ≡ next → eqb next byte ≡ same → is_loaded Ldi same byte fact ≡ true
+      → FactHolds fact s.d v
       → (effect Ldi n s i).regs.d ≡ byte
   loaded-by_ldi byte v next fact true next_is is shown holds = next_is ∙ eqb-true next byte is
   loaded-by_ldi byte v next fact false next_is is shown holds = loaded-stays Ldi byte v fact shown holds
@@ -189,7 +191,8 @@ module _ (n : ℕ) (s : Regs) (i : Inputs) (k : ℕ) where
   shown-holds kind ins fact when (Is byte) may kind_is n_is next_is open_ holds shown =
       loaded-holds kind byte (get s.r k).lo ins.next fact next_is (rw kind_is at shown) holds
   shown-holds kind ins fact when NonZero may kind_is n_is next_is open_ holds shown = λ zero_.
-      elim (or_cases (was_not_zero fact when && not (assigns_named kind && eqb n k)) (loads_not_zero kind (eqb n k) (known_d fact (get s.r k).lo)) (rw (kind_is, n_is) at shown)) [
+      elim (or_cases (was_not_zero fact when && not (assigns_named kind && eqb n k)) (loads_not_zero kind (eqb n k) (known_d fact (get s.r k).lo))
+      (rw (kind_is, n_is) at shown)) [
         | inl stays ↦
             let both = and_parts (was_not_zero fact when) (not (assigns_named kind && eqb n k)) stays in
             let same = ap (λ w. w.lo) (counter-unassigned kind may (not-true (assigns_named kind && eqb n k) both.1)) in

@@ -93,7 +93,8 @@ kept-to : (k : ℕ) (line : Line) (i : declared.Instruction) (when : When) (behi
     → Follows (counter_after k i line.fact v) w → KeptTo k line i when behind (x_after i.op.kind i.op.n line.x) v w
 unfolding is_kept
 kept-to k line i when behind v w kept follows =
-    let parts = and_parts (fits_x behind.x (x_after i.op.kind i.op.n line.x) && is_shown k i line.fact when v behind.fact) (pays_for (left line v) i.cycles behind (counter_after k i line.fact v)) kept in
+    let parts = and_parts (fits_x behind.x (x_after i.op.kind i.op.n line.x) && is_shown k i line.fact when v behind.fact)
+    (pays_for (left line v) i.cycles behind (counter_after k i line.fact v)) kept in
     let first = and_parts (fits_x behind.x (x_after i.op.kind i.op.n line.x)) (is_shown k i line.fact when v behind.fact) parts.0 in
     record { fits = first.0; shown = first.1; pays = pays_for-at (left line v) i.cycles behind (counter_after k i line.fact v) w parts.1 follows }
 
@@ -104,7 +105,8 @@ second-chosen : (P : Type 0) (k : ℕ) (lines : List Line) (line : Line) (i : de
 second-chosen P k lines line i d address None closed goes_ = absurd goes_
 second-chosen P k lines line i d address (Some way) closed goes_ = (way, closed, goes_)
 
-chosen : (P : Type 0) (k : ℕ) (lines : List Line) (line : Line) (i : declared.Instruction) (d address : ℕ) (ways : Ways) → are_ways_closed k lines line i ways ≡ true
+chosen : (P : Type 0) (k : ℕ) (lines : List Line) (line : Line) (i : declared.Instruction) (d address : ℕ) (ways : Ways)
+    → are_ways_closed k lines line i ways ≡ true
     → GoesOneOf P d address ways → (way : Way) × (is_way_closed k lines line i way ≡ true) × Goes P d address way
 chosen P k lines line i d address ways closed goes_ =
     let parts = and_parts (is_way_closed k lines line i ways.first) (option_map_or (is_way_closed k lines line i) ways.second true) closed in
@@ -208,10 +210,13 @@ module _ (bound : Bound) (listed : List Line) (line : Line) (i : declared.Instru
   unfolding is_closed
   comes runs =
       let allows = may runs in
-      let M : ℕ → Type 0 = λ p. GoesOneOf ((effect kind n s reads).regs.p ≡ s.p) s.d (value (get (effect kind n s reads).regs.r s.p)) (ways_of (flow_of kind n p) (size_of kind) line.address i.next i.after) in
+      let M : ℕ → Type 0 = λ p. GoesOneOf ((effect kind n s reads).regs.p ≡ s.p) s.d (value (get (effect kind n s reads).regs.r s.p))
+      (ways_of (flow_of kind n p) (size_of kind) line.address i.next i.after) in
       let went : GoesOneOf ((effect kind n s reads).regs.p ≡ s.p) s.d (value (get (effect kind n s reads).regs.r s.p)) (ways_at bound line i) =
-      rw (runs.kind_is, runs.n_is, runs.size_is) (subst M runs.p_is (goes kind n s reads line.address i.next i.after (stands runs) allows.fine allows.p_fits allows.x_fits allows.n_fits allows.named allows.pointed)) in
-      let way = chosen ((effect kind n s reads).regs.p ≡ s.p) bound.k listed line i s.d (value (get (effect kind n s reads).regs.r s.p)) (ways_at bound line i) runs.closed went in
+      rw (runs.kind_is, runs.n_is, runs.size_is) (subst M runs.p_is (goes kind n s reads line.address i.next i.after
+      (stands runs) allows.fine allows.p_fits allows.x_fits allows.n_fits allows.named allows.pointed)) in
+      let way = chosen ((effect kind n s reads).regs.p ≡ s.p) bound.k listed line i s.d (value (get (effect kind n s reads).regs.r s.p))
+      (ways_at bound line i) runs.closed went in
       let follows = counter-follows n s reads bound.k kind i line.fact allows runs.kind_is runs.n_is runs.holds.fact in
       let kept = kept-at bound.k listed line i way.0 s.d (get s.r bound.k).lo way.1 (get_fits bound.k s.r runs.fits.r).lo runs.holds.fact way.2.0 in
       record {
@@ -221,8 +226,10 @@ module _ (bound : Bound) (listed : List Line) (line : Line) (i : declared.Instru
             let to = kept-to bound.k line i way.0.when next (get s.r bound.k).lo (get (effect kind n s reads).regs.r bound.k).lo (rw behind at kept) follows in
             let x = x_after-holds kind n line.x s.x runs.holds.x in (
               record {
-                x = fits_x-holds next.x (x_after kind n line.x) (effect kind n s reads).regs.x (rw (runs.kind_is, runs.n_is) at to.fits) (rw (x_is kind n s reads allows.fine) x);
-                fact = shown-holds n s reads bound.k kind i line.fact way.0.when next.fact allows runs.kind_is runs.n_is runs.next_is way.2.0 runs.holds.fact to.shown;
+                x = fits_x-holds next.x (x_after kind n line.x) (effect kind n s reads).regs.x (rw (runs.kind_is, runs.n_is) at to.fits)
+                    (rw (x_is kind n s reads allows.fine) x);
+                fact = shown-holds n s reads bound.k kind i line.fact way.0.when next.fact allows runs.kind_is runs.n_is runs.next_is way.2.0 runs.holds.fact
+                    to.shown;
               },
               to.pays,
             );
@@ -253,7 +260,8 @@ size-some Lbr = omega arith
 size-some _ = omega arith
 
 -- the instruction of a line in the ROM, as the machine fetches it from an address
-module _ (rom : List ℕ) (b : Machine) (clear : b.latch ≡ false) (bound : Bound) (line : Line) (here : at b.regs b.regs.p ≡ line.address) (allowed : is_allowed bound line (instruction_at rom line.address) ≡ true) where
+module _ (rom : List ℕ) (b : Machine) (clear : b.latch ≡ false) (bound : Bound) (line : Line) (here : at b.regs b.regs.p ≡ line.address)
+    (allowed : is_allowed bound line (instruction_at rom line.address) ≡ true) where
   rom-byte : (a there : ℕ) → there ≡ a → 0x8000 ≤ a → a < 0x8800 → byte_of rom b there ≡ byte_at rom a
   rom-byte a there is from below = ap (byte_of rom b) is ∙ read-rom rom b.ram b.latch a clear from below
 
@@ -267,8 +275,10 @@ module _ (rom : List ℕ) (b : Machine) (clear : b.latch ≡ false) (bound : Bou
   opcode-is = sym (rom-byte line.address (at b.regs b.regs.p) here within-rom.0 within-rom.2)
 
   -- R(P) behind the fetch, and what is read by it
-  fetched : (get_fit : FitsWord (get b.regs.r b.regs.p)) → b.regs.p < 16 → value (get (put b.regs.r b.regs.p (up (get b.regs.r b.regs.p))) b.regs.p) ≡ line.address + 1
-  fetched fit p = rw (get_put b.regs.r b.regs.p (up (get b.regs.r b.regs.p)) p) (up-is (get b.regs.r b.regs.p) line.address here fit.lo (omega (arith, within-rom.2)))
+  fetched : (get_fit : FitsWord (get b.regs.r b.regs.p)) → b.regs.p < 16 → value (get (put b.regs.r b.regs.p
+      (up (get b.regs.r b.regs.p))) b.regs.p) ≡ line.address + 1
+  fetched fit p = rw (get_put b.regs.r b.regs.p (up (get b.regs.r b.regs.p)) p) (up-is (get b.regs.r b.regs.p) line.address here fit.lo
+      (omega (arith, within-rom.2)))
 
 knows-none : (x : Option ℕ) (is : ℕ) → is_none x ≡ true → Knows x is
 knows-none None is none = tt
@@ -278,7 +288,8 @@ holds-any : (fact : Fact) (d v : ℕ) → is_any fact ≡ true → FactHolds fac
 holds-any Any d v any_ = tt
 holds-any fact d v any_ = absurd (true≢false (sym any_))
 
-module _ (rom : List ℕ) (fits_rom : FitsRom rom) (bound : Bound) (listed : List Line) (k_fits : bound.k < 16) (k_apart : bound.k ≢ bound.p) (fine : (a : ℕ) (line : Line) → line_at listed a ≡ Some line → cause_at rom bound listed line ≡ None) where
+module _ (rom : List ℕ) (fits_rom : FitsRom rom) (bound : Bound) (listed : List Line) (k_fits : bound.k < 16) (k_apart : bound.k ≢ bound.p)
+    (fine : (a : ℕ) (line : Line) → line_at listed a ≡ Some line → cause_at rom bound listed line ≡ None) where
   -- a state is at a line that holds there, and no more is left than this
   record Covered (b : Machine) (budget : ℕ) : Type 0 where
     line : Line
@@ -318,9 +329,15 @@ module _ (rom : List ℕ) (fits_rom : FitsRom rom) (bound : Bound) (listed : Lis
         closed = checks.1;
         holds = record { x = holds.x; fact = rw (counter-same b fits p_is) holds.fact };
         behind = behind;
-        next_is = λ two. rom-byte rom b clear bound line here checks.0 (line.address + 1) (value (get (put b.regs.r b.regs.p (up (get b.regs.r b.regs.p))) b.regs.p)) behind (omega (arith, inside.0)) (omega (arith, inside.1, size, two));
-        after_is = λ three. rom-byte rom b clear bound line here checks.0 (line.address + 2) (value (up (get (put b.regs.r b.regs.p (up (get b.regs.r b.regs.p))) b.regs.p)))
-            (omega (arith, up-is (get (put b.regs.r b.regs.p (up (get b.regs.r b.regs.p))) b.regs.p) (line.address + 1) behind low (omega (arith, inside.2)))) (omega (arith, inside.0)) (omega (arith, inside.1, size, three));
+        next_is = λ two. rom-byte rom b clear bound line here checks.0 (line.address + 1) (value
+            (get (put b.regs.r b.regs.p (up (get b.regs.r b.regs.p))) b.regs.p)) behind (omega (arith, inside.0)) (omega (arith, inside.1, size, two));
+        after_is = λ three. rom-byte rom b clear bound line here checks.0 (line.address + 2)
+            (value (up (get (put b.regs.r b.regs.p (up (get b.regs.r b.regs.p))) b.regs.p)))
+            (omega (
+              arith,
+              up-is (get (put b.regs.r b.regs.p (up (get b.regs.r b.regs.p))) b.regs.p) (line.address + 1) behind low
+                  (omega (arith, inside.2)),
+            )) (omega (arith, inside.0)) (omega (arith, inside.1, size, three));
       }
 
   cycles-are : (b : Machine) (line : Line) → b.latch ≡ false → b.regs.p ≡ bound.p → line_at listed (at b.regs bound.p) ≡ Some line
@@ -341,22 +358,26 @@ module _ (rom : List ℕ) (fits_rom : FitsRom rom) (bound : Bound) (listed : Lis
   moves o b budget fits clear p_is taken covered =
       let line = covered.line in
       let run = runs o b covered.line fits clear p_is covered.found covered.holds in
-      let come = comes bound listed covered.line (instruction_at rom covered.line.address) (kind_of (opcode_of rom b)) (opcode_number (opcode_of rom b)) (stepped b.regs b.regs.p) (inputs (stepped b.regs b.regs.p) (byte_of rom b) o.flag o.taken) run in
+      let come = comes bound listed covered.line (instruction_at rom covered.line.address) (kind_of (opcode_of rom b)) (opcode_number (opcode_of rom b))
+      (stepped b.regs b.regs.p) (inputs (stepped b.regs b.regs.p) (byte_of rom b) o.flag o.taken) run in
       let cycles = cycles-are b covered.line clear p_is covered.found in
       let same = ap (λ w. left covered.line w.lo) (counter-same b fits p_is) in
       let e = instruction b.regs (byte_of rom b) o.flag o.taken in
-      let acts = acted-fits (instruction b.regs (byte_of rom b) o.flag o.taken) b (instruction-fits b.regs (byte_of rom b) o.flag o.taken fits.regs (λ a. read-fits rom b.ram b.latch a fits_rom.bytes fits.ram) taken) fits in
+      let acts = acted-fits (instruction b.regs (byte_of rom b) o.flag o.taken) b (instruction-fits b.regs (byte_of rom b) o.flag o.taken fits.regs
+      (λ a. read-fits rom b.ram b.latch a fits_rom.bytes fits.ram) taken) fits in
       record {
         pays = omega (arith, come.pays, cycles, same, covered.pays);
         on = λ inside.
-            let both = and_parts (eqb (instruction b.regs (byte_of rom b) o.flag o.taken).regs.p bound.p) (is_some (line_at listed (at (instruction b.regs (byte_of rom b) o.flag o.taken).regs bound.p))) inside in
+            let both = and_parts (eqb (instruction b.regs (byte_of rom b) o.flag o.taken).regs.p bound.p)
+            (is_some (line_at listed (at (instruction b.regs (byte_of rom b) o.flag o.taken).regs bound.p))) inside in
             let next = some-line (line_at listed (at (instruction b.regs (byte_of rom b) o.flag o.taken).regs bound.p)) both.1 in
             let there : line_at listed (value (get (instruction b.regs (byte_of rom b) o.flag o.taken).regs.r b.regs.p)) ≡ Some next.0 =
             ap (λ p. line_at listed (value (get (instruction b.regs (byte_of rom b) o.flag o.taken).regs.r p))) p_is ∙ next.1 in
             let on = come.on (eqb-true (instruction b.regs (byte_of rom b) o.flag o.taken).regs.p bound.p both.0 ∙ sym p_is) next.0 there in
             record { line = next.0; found = next.1; holds = on.0; pays = omega (arith, on.1, cycles, same, covered.pays) };
         fits = record { regs = acts.regs; ram = acts.ram; size = acts.size; key = acts.key };
-        clear = ap (latch_after (instruction b.regs (byte_of rom b) o.flag o.taken).port) clear ∙ latch-clear (instruction b.regs (byte_of rom b) o.flag o.taken).port;
+        clear = ap (latch_after (instruction b.regs (byte_of rom b) o.flag o.taken).port) clear
+            ∙ latch-clear (instruction b.regs (byte_of rom b) o.flag o.taken).port;
       }
 
   -- a list of moves from states that are covered, as long as they are inside
@@ -366,10 +387,12 @@ module _ (rom : List ℕ) (fits_rom : FitsRom rom) (bound : Bound) (listed : Lis
   stays (o ∷ list) b budget fits clear covered taken inside =
       let both = and_parts (eqb b.regs.p bound.p) (is_some (line_at listed (at b.regs bound.p))) inside.0 in
       let move = moves o b budget fits clear (eqb-true b.regs.p bound.p both.0) (taken 0 o (omega arith)) (covered inside.0) in
-      let rest = stays list (instructed rom o b) (budget - cycles_of (opcode_of rom b)) move.fits move.clear move.on (λ k d within. taken (suc k) d (omega arith)) inside.1 in
+      let rest = stays list (instructed rom o b) (budget - cycles_of (opcode_of rom b)) move.fits move.clear move.on
+      (λ k d within. taken (suc k) d (omega arith)) inside.1 in
       omega (arith, rest, move.pays)
 
-  entry-covers : (b : Machine) (line : Line) → FitsMachine b → line_at listed (at b.regs bound.p) ≡ Some line → takes_all bound line ≡ true → Covered b bound.limit
+  entry-covers : (b : Machine) (line : Line) → FitsMachine b → line_at listed (at b.regs bound.p) ≡ Some line → takes_all bound line ≡ true
+      → Covered b bound.limit
   entry-covers b line fits found takes =
       let both = and_parts (is_none line.x && is_any line.fact) (leb (left line 255) bound.limit) takes in
       let free = and_parts (is_none line.x) (is_any line.fact) both.0 in
@@ -377,7 +400,12 @@ module _ (rom : List ℕ) (fits_rom : FitsRom rom) (bound : Bound) (listed : Lis
         line = line;
         found = found;
         holds = record { x = knows-none line.x b.regs.x free.0; fact = holds-any line.fact b.regs.d (get b.regs.r bound.k).lo free.1 };
-        pays = omega (arith, leb-true (left line 255) bound.limit both.1, left_rises line (get b.regs.r bound.k).lo 255 (omega (arith, (get_fits bound.k b.regs.r fits.regs.r).lo)));
+        pays = omega (
+          arith,
+          leb-true (left line 255) bound.limit both.1,
+          left_rises line (get b.regs.r bound.k).lo 255
+              (omega (arith, (get_fits bound.k b.regs.r fits.regs.r).lo)),
+        );
       }
 
   pub leaves : is_entered bound listed ≡ true → Leaves rom bound listed
@@ -387,7 +415,8 @@ module _ (rom : List ℕ) (fits_rom : FitsRom rom) (bound : Bound) (listed : Lis
       let found : line_at listed (at b.regs bound.p) ≡ Some line.0 = ap (line_at listed) at_entry ∙ line.1 in
       stays list b bound.limit fits clear (λ _. entry-covers b line.0 fits found line.2) taken inside
     where
-      entered-line : (found : Option Line) → option_map_or (takes_all bound) found false ≡ true → (line : Line) × (found ≡ Some line) × (takes_all bound line ≡ true)
+      entered-line : (found : Option Line) → option_map_or (takes_all bound) found false ≡ true
+          → (line : Line) × (found ≡ Some line) × (takes_all bound line ≡ true)
       entered-line None is = absurd (true≢false (sym is))
       entered-line (Some line) is = (line, refl, is)
 
@@ -434,7 +463,8 @@ last-registers entry p k limit bound small is = elim (cases_Bool (eqb k p)) [
 in-registers : (first second third fourth : List ℕ) (bound : Bound) → bound_in first second third fourth ≡ Ok bound → HasRegisters bound
 unfolding bound_in
 in-registers first second third fourth bound is =
-    let one = bind-ok (address_of first) (λ entry. digit_of second >>= (λ p. digit_of third >>= (λ k. decimal_of MOST_LIMIT fourth >>= (λ limit. last_step entry p k limit)))) bound is in
+    let one = bind-ok (address_of first) (λ entry. digit_of second >>= (λ p. digit_of third >>=
+    (λ k. decimal_of MOST_LIMIT fourth >>= (λ limit. last_step entry p k limit)))) bound is in
     let two = bind-ok (digit_of second) (λ p. digit_of third >>= (λ k. decimal_of MOST_LIMIT fourth >>= (λ limit. last_step one.0 p k limit))) bound one.2 in
     let three = bind-ok (digit_of third) (λ k. decimal_of MOST_LIMIT fourth >>= (λ limit. last_step one.0 two.0 k limit)) bound two.2 in
     let four = bind-ok (decimal_of MOST_LIMIT fourth) (λ limit. last_step one.0 two.0 three.0 limit) bound three.2 in
@@ -497,11 +527,14 @@ within-from rom text within statements (Some bound) fits says bounded is =
       bounded = bounded;
       entry = accepted.entry;
       limit = accepted.limit;
-      leaves = leaves rom fits bound (certificate_of statements).lines registers.0 registers.1 (λ a line found. cause_of-found (cause_at rom bound (certificate_of statements).lines) 1 (certificate_of statements).lines a line accepted.fine found) accepted.entered;
+      leaves = leaves rom fits bound (certificate_of statements).lines registers.0 registers.1
+          (λ a line found. cause_of-found (cause_at rom bound (certificate_of statements).lines) 1
+          (certificate_of statements).lines a line accepted.fine found) accepted.entered;
     }
 
 pub accepted-within : AcceptedIsWithin
 unfolding checked
 accepted-within rom text within fits is =
-    let said = bind-ok (reading.read certificate_format text) (λ statements. judged rom (numbers_from 1 (lines text)) (certificate_of statements).lines (certificate_of statements).bound) within is in
+    let said = bind-ok (reading.read certificate_format text) (λ statements. judged rom (numbers_from 1 (lines text)) (certificate_of statements).lines
+    (certificate_of statements).bound) within is in
     within-from rom text within said.0 (certificate_of said.0).bound fits said.1 refl said.2

@@ -21,18 +21,22 @@ returns-in_default-clause-fault c =
 
 pub returns-in-Some-fault_in-clause-fault : goal.returns-in-Some-fault_in-clause-fault
 returns-in-Some-fault_in-clause-fault c =
-    let judged = checked-judged c.args.rom.now c.args.text.now c.in_ok-certificate.certificate c.in-Some.bound c.in_ok-certificate.ensures.read (sym c.bound.ensures ∙ c.in-Some.is) in
+    let judged = checked-judged c.args.rom.now c.args.text.now c.in_ok-certificate.certificate c.in-Some.bound c.in_ok-certificate.ensures.read
+    (sym c.bound.ensures ∙ c.in-Some.is) in
     let found = rw c.lines.ensures.items at (sym c.fault_in.ensures ∙ c.in-Some-fault_in.is) in
     inr (judged ∙ rw (found, c.statement_number.ensures) refl)
 
 pub returns-clause-accepted : goal.returns-clause-accepted
 returns-clause-accepted c =
-    let judged = checked-judged c.args.rom.now c.args.text.now c.in_ok-certificate.certificate c.in-Some.bound c.in_ok-certificate.ensures.read (sym c.bound.ensures ∙ c.in-Some.is) in
+    let judged = checked-judged c.args.rom.now c.args.text.now c.in_ok-certificate.certificate c.in-Some.bound c.in_ok-certificate.ensures.read
+    (sym c.bound.ensures ∙ c.in-Some.is) in
     let fine = rw c.lines.ensures.items at (sym c.fault_in.ensures ∙ c.in-None.is) in
     judged ∙ ap (unless (numbers_from 1 (lines c.args.text.now)) c.in-Some.bound) fine
 
 pub returns-clause-within : goal.returns-clause-within
 returns-clause-within c =
-    let judged = checked-judged c.args.rom.now c.args.text.now c.in_ok-certificate.certificate c.in-Some.bound c.in_ok-certificate.ensures.read (sym c.bound.ensures ∙ c.in-Some.is) in
+    let judged = checked-judged c.args.rom.now c.args.text.now c.in_ok-certificate.certificate c.in-Some.bound c.in_ok-certificate.ensures.read
+    (sym c.bound.ensures ∙ c.in-Some.is) in
     let fine = rw c.lines.ensures.items at (sym c.fault_in.ensures ∙ c.in-None.is) in
-    accepted-within c.args.rom.now c.args.text.now _ (record { size = c.told-rom; bytes = c.fits-rom }) (judged ∙ ap (unless (numbers_from 1 (lines c.args.text.now)) c.in-Some.bound) fine)
+    accepted-within c.args.rom.now c.args.text.now _ (record { size = c.told-rom; bytes = c.fits-rom })
+    (judged ∙ ap (unless (numbers_from 1 (lines c.args.text.now)) c.in-Some.bound) fine)

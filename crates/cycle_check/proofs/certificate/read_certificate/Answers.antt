@@ -23,7 +23,8 @@ loop-line-preserved c =
 pub returns-in-Err-clause-fault : goal.returns-in-Err-clause-fault
 returns-in-Err-clause-fault c =
     let so_far = rw c.in-Some.ensures.steps at c.loop-line.invariant in
-    inr (so_far-refused c.args.text.now _ c.in-Some.line.now c.next.new.self c.loop-line.number c.loop-line.draft c.in-Err.cause so_far (sym c.in-Err.ensures.value))
+    inr (so_far-refused c.args.text.now _ c.in-Some.line.now c.next.new.self c.loop-line.number c.loop-line.draft c.in-Err.cause so_far
+    (sym c.in-Err.ensures.value))
 
 pub returns-clause-read : goal.returns-clause-read
 returns-clause-read c = so_far-whole c.args.text.now _ c.loop-line.number c.loop-line.draft (rw c.in-None.ensures.steps.0 at c.loop-line.invariant)

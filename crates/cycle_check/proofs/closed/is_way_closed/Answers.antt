@@ -8,14 +8,16 @@ loop-counter-init c = passes_none _
 
 pub loop-counter-preserved : goal.loop-counter-preserved
 loop-counter-preserved c =
-    passes_more (holds_at c.args.k c.args.line.now c.args.instruction.now c.args.way.when c.line_behind-behind.result) c.loop-counter.counter c.loop-counter.invariant
+    passes_more (holds_at c.args.k c.args.line.now c.args.instruction.now c.args.way.when c.line_behind-behind.result) c.loop-counter.counter
+    c.loop-counter.invariant
     (sym c.holds_at.ensures ∙ c.if-not-holds_at.false)
 
 pub returns-then-not-holds_at : goal.returns-then-not-holds_at
 unfolding is_way_closed
 returns-then-not-holds_at c =
     rw (← c.line_behind-behind.ensures)
-    (sym (fails_at (holds_at c.args.k c.args.line.now c.args.instruction.now c.args.way.when c.line_behind-behind.result) 256 c.loop-counter.counter (omega arith) (sym c.holds_at.ensures ∙ c.if-not-holds_at.true)))
+    (sym (fails_at (holds_at c.args.k c.args.line.now c.args.instruction.now c.args.way.when c.line_behind-behind.result) 256 c.loop-counter.counter
+    (omega arith) (sym c.holds_at.ensures ∙ c.if-not-holds_at.true)))
 
 pub returns : goal.returns
 unfolding is_way_closed

@@ -8,7 +8,8 @@ returns-in-Some c =
     let got = c.in-Some.ensures.lookup in
     let line = c.in-Some.line.now in
     ap Some (got.3.1 line)
-    ∙ sym (line_at-found c.args.lines.now c.args.address c.count_below.result line got.3.0 c.count_below.ensures.below (sym (ap (λ l. l.address) (got.3.1 line)) ∙ sym c.from.ensures ∙ c.if-from-address.true))
+    ∙ sym (line_at-found c.args.lines.now c.args.address c.count_below.result line got.3.0 c.count_below.ensures.below
+    (sym (ap (λ l. l.address) (got.3.1 line)) ∙ sym c.from.ensures ∙ c.if-from-address.true))
 
 pub returns-in_default : goal.returns-in_default
 returns-in_default c =
