@@ -5,9 +5,12 @@
 //! as they must be. A case that isn't is written with its name, what was due and what came. The stored output is what all cases must
 //! give.
 //!
-//! It stands on the program's call, on the files and sinks of `vip_outside`, and on nothing of what lies below. What is expected was
-//! worked out by hand from the rules: this is a test of the definitions that the proofs cite, and nothing here is proved but that it is
-//! safe.
+//! What no words put out is written behind them: a demonstration game, the reports of a ROM that isn't what its source gives, and the texts
+//! of the faults.
+//!
+//! It stands on the program's call, on the files and sinks of `vip_outside`, and, but for the faults whose texts it writes, on nothing of what
+//! lies below. What is expected was worked out by hand from the rules: this is a test of the definitions that the proofs cite, and nothing
+//! here is proved but that it is safe.
 #![tactic(auto)]
 
 mod answer;
@@ -16,12 +19,14 @@ mod due;
 mod fault;
 mod pattern;
 mod screen;
+mod texts;
 
 use crate::answer::{Answer, is_record};
 use crate::case::Case;
 use crate::fault::CaseFault;
+use crate::texts::{write_faults, write_refusals};
 use std::fs;
-use vip_verbs::demo_game;
+use vip_tools::demo_game;
 
 /// How many lines of an output are written where it isn't as it must be.
 const SHOWN: usize = 8;
@@ -139,5 +144,7 @@ fn main(rt: HostRuntime) -> anyhow::Result<()> {
         judge(&rt, &case, &mut count)?;
     }
     end_group(&rt, group.as_str(), &mut count)?;
-    write_demo_game(&rt)
+    write_demo_game(&rt)?;
+    write_refusals(&rt)?;
+    write_faults(&rt)
 }

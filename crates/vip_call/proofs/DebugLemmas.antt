@@ -20,13 +20,14 @@ use Rattle.vip_relation.proofs.Along.{in-turn}
 use Rattle.vip_relation.proofs.Past.{state, past, Runs, events-last, events-stop}
 use Rattle.vip_relation.proofs.Waits.{Earlier, earlier-at, earlier-drop, earlier-next}
 use Rattle.vip_language.proofs.Passed.{NoStop, before_point, last_after, last_after_stop, last_of_events, no_stop_before, stop_point, with_point}
-use Rattle.vip_show.specs.Endings.{Ending, ending_after}
-use Rattle.vip_show.specs.Endings.Ending.{AtLimit, AtStop}
+use Rattle.vip_text.specs.Endings.{Ending}
+use Rattle.vip_text.specs.Endings.Ending.{AtLimit, AtStop}
+use Rattle.vip_show.specs.Endings.{ending_after}
 use Rattle.vip_debug.specs.Answers.{Place, moves_until, all_met, moved_to, at_point, points_ahead, has_pc, arrival, stop_by, place_with, place_after, at_start}
-use Rattle.vip_debug.specs.declared.command.Command.{Command}
-use Rattle.vip_debug.specs.declared.command.Command.TheVariants as command
-use Rattle.vip_debug.specs.declared.command.Running.{Running}
-use Rattle.vip_debug.specs.declared.command.Running.TheVariants.{Step, To, Next, Break}
+use Rattle.vip_words.specs.declared.commands.Command.{Command}
+use Rattle.vip_words.specs.declared.commands.Command.TheVariants as command
+use Rattle.vip_words.specs.declared.commands.Running.{Running}
+use Rattle.vip_words.specs.declared.commands.Running.TheVariants.{Step, To, Next, Break}
 use Rattle.vip_debug.proofs.Places.{Reached, reached, reached-next, some-here, all-moves}
 use Rattle.vip_verbs.specs.Outcome.{run_ending, stopped_by, debug_ending}
 

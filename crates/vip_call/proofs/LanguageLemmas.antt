@@ -15,24 +15,26 @@ use Rattle.vip_language.specs.Laws.{EveryRun}
 use Rattle.vip_language.specs.Program.{numbered, program}
 use Rattle.vip_relation.specs.State.{started}
 use Rattle.vip_relation.specs.Stops.{stop_at}
-use Rattle.vip_show.specs.Endings.{Ending, ending_after, ending_of}
-use Rattle.vip_show.specs.Endings.Ending.{AtStop}
-use Rattle.vip_debug.specs.Grammar.{commands_of}
-use Rattle.vip_debug.specs.declared.command.Command.{Command}
-use Rattle.vip_debug.specs.declared.command.CommandFault.{CommandFault}
-use Rattle.vip_debug.specs.declared.command.CommandFault.TheVariants.{Fault, NoMemory}
+use Rattle.vip_show.specs.Endings.{ending_after, ending_of}
+use Rattle.vip_text.specs.Endings.{Ending}
+use Rattle.vip_text.specs.Endings.Ending.{AtStop}
+use Rattle.vip_words.specs.Grammar.{commands_of}
+use Rattle.vip_words.specs.declared.commands.Command.{Command}
+use Rattle.vip_words.specs.declared.commands.CommandFault.{CommandFault}
+use Rattle.vip_words.specs.declared.commands.CommandFault.TheVariants.{Fault, NoMemory}
 use Rattle.vip_outside.specs.Files.{FilesMeaning}
 use Rattle.vip_words.specs.Asked.{Asked, trace, play, debug, demo, asm, list, dis, bounds}
-use Rattle.vip_verbs.specs.Demo.{demo_game}
-use Rattle.vip_verbs.specs.Files.{needed, HasAll}
+use Rattle.vip_tools.specs.Demo.{demo_game}
+use Rattle.vip_tools.specs.Files.{needed, HasAll}
 use Rattle.vip_call.specs.Language.{named, IsChip8, RunIsChip8, DebugsChip8, ShowsChip8}
-use Rattle.vip_verbs.specs.Outcome.{Outcome, Comes, RunComes, DebugComes, run_of, events_in, run_ending, debug_ending}
-use Rattle.vip_verbs.specs.Outcome.Outcome.{Refused, Shown}
+use Rattle.vip_tools.specs.Outcome.{Outcome}
+use Rattle.vip_tools.specs.Outcome.Outcome.{Refused, Shown}
+use Rattle.vip_verbs.specs.Outcome.{Comes, RunComes, DebugComes, run_of, events_in, run_ending, debug_ending}
 use Rattle.vip_verbs.specs.Outcome.RunComes.{FaultyScript, FaultyRom, Runs}
 use Rattle.vip_call.specs.Top.{Call, SpeaksChip8}
 use Rattle.vip_report.specs.declared.status.Status.{Status}
 use Rattle.vip_call.proofs.DebugLemmas.{debug_ends}
-use Rattle.vip_verbs.proofs.DemoLemmas.{length-game, bytes-game}
+use Rattle.vip_tools.proofs.DemoLemmas.{length-game, bytes-game}
 
 -- ---- the ending by the events of a run
 

@@ -11,24 +11,25 @@ use Rattle.asm_core.specs.declared.fault.AsmCause.{AsmCause}
 use Rattle.rom_check.proofs.OneAnswer.{answers_agree}
 use Rattle.rom_check.specs.declared.fault.ImageFault.{ImageFault}
 use Rattle.rom_check.specs.declared.fault.ImageFault.TheVariants as image
-use Rattle.vip_debug.specs.Grammar.{commands_of}
-use Rattle.vip_debug.specs.declared.command.Command.{Command}
-use Rattle.vip_debug.specs.declared.command.CommandFault.{CommandFault}
-use Rattle.vip_debug.specs.declared.command.CommandFault.TheVariants as debug_fault
+use Rattle.vip_words.specs.Grammar.{commands_of}
+use Rattle.vip_words.specs.declared.commands.Command.{Command}
+use Rattle.vip_words.specs.declared.commands.CommandFault.{CommandFault}
+use Rattle.vip_words.specs.declared.commands.CommandFault.TheVariants as debug_fault
 use Rattle.vip_outside.specs.Count.{Rose}
 use Rattle.vip_outside.specs.Files.{FileMap, FilesMeaning}
 use Rattle.vip_outside.specs.Sink.{SinkMeaning, Gains, GainsPart, GainAnswers}
 use Rattle.vip_outside.specs.declared.sink.Failed.{Failed}
 use Rattle.vip_relation.specs.Interpreters.{interpreter_of}
-use Rattle.vip_show.specs.Endings.{Ending}
+use Rattle.vip_text.specs.Endings.{Ending}
 use Rattle.vip_words.specs.Asked.{Asked, trace, play, debug, demo, asm, list, dis, bounds, asked_by}
-use Rattle.vip_verbs.specs.Work.{Rejected}
+use Rattle.vip_tools.specs.Work.{Rejected}
 use Rattle.vip_call.specs.Words.{OfWords, WordsAnswer}
-use Rattle.vip_verbs.specs.Files.{Needed, needed, HasAll, ComesTo, IsLarger}
-use Rattle.vip_verbs.specs.Outcome.{Outcome, Comes, RunComes, DebugComes, SourceComes, RomIs, IsFault, rom_text}
-use Rattle.vip_verbs.specs.Outcome.Outcome.{Refused, Shown}
+use Rattle.vip_tools.specs.Files.{Needed, needed, HasAll, ComesTo, IsLarger}
+use Rattle.vip_tools.specs.Outcome.{Outcome, SourceComes}
+use Rattle.vip_tools.specs.Outcome.Outcome.{Refused, Shown}
+use Rattle.vip_tools.specs.Outcome.SourceComes.{FaultySource, Assembles}
+use Rattle.vip_verbs.specs.Outcome.{Comes, RunComes, DebugComes, RomIs, IsFault, rom_text}
 use Rattle.vip_verbs.specs.Outcome.RunComes.{FaultyScript, FaultyRom, Runs}
-use Rattle.vip_verbs.specs.Outcome.SourceComes.{FaultySource, Assembles}
 use Rattle.vip_report.specs.Refusal.{image_status, status_of, too_large_status}
 use Rattle.vip_report.specs.Report.{cannot_read, report_of, too_large_report}
 use Rattle.vip_call.specs.Top.{Call, call_of, Asks, Oversize, Rejects, Shows, Faulty, Says, IsQuiet, Reading, Lacks, Larger, Whole, with_content, reading, Due, Lacking, TooLarge, Refusing, Showing, RefusesWords, Offers, GivesDue, AreRefused, Completes}
@@ -370,7 +371,7 @@ there_too old ns Here There at that = record {
 
 module _ (words : List (List ℕ)) (files files' : FilesMeaning) (out out' err err' : SinkMeaning) where
   rejected :
-      (r : Refusal) → OfWords words files (λ asked contents. Rejected asked contents out out' r)
+      (r : Refusal) → OfWords words files (λ asked contents. Rejected (Comes asked contents) out out' r)
       → Gains (report_of r) err err' ⊎ GainsPart (report_of r) err err' → Rejects (status_of r) (call_of words files files' out out' err err')
   rejected r given report = record {
     asked = given.asked;

@@ -7,12 +7,13 @@ use Rattle.chip8_lang.specs.Places.{state_of}
 use Rattle.chip8_lang.specs.View.{opcode_at}
 use Rattle.rom_law.specs.Language.{Also}
 use Rattle.vip_language.specs.Program.{IsRun}
-use Rattle.vip_show.specs.Endings.{Ending}
-use Rattle.vip_show.specs.Endings.Ending.{AtLimit, AtStop}
+use Rattle.vip_text.specs.Endings.{Ending}
+use Rattle.vip_text.specs.Endings.Ending.{AtLimit, AtStop}
 use Rattle.vip_words.specs.Asked.{Asked, trace, play, debug, demo}
-use Rattle.vip_verbs.specs.Demo.{demo_game}
+use Rattle.vip_tools.specs.Demo.{demo_game}
 use Rattle.vip_report.specs.Status.{end_status}
-use Rattle.vip_verbs.specs.Outcome.{script_in, run_ending}
+use Rattle.vip_tools.specs.Outcome.{script_in}
+use Rattle.vip_verbs.specs.Outcome.{run_ending}
 use Rattle.vip_report.specs.Report.{end_report}
 use Rattle.vip_report.specs.declared.status.Status.{Status}
 

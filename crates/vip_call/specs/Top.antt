@@ -8,10 +8,10 @@ use Rattle.vip_words.specs.Asked.{Asked, asked_by}
 use Rattle.vip_report.specs.declared.refusal.Kind.{Kind}
 use Rattle.vip_report.specs.declared.status.Status.{Status}
 use Rattle.vip_report.specs.declared.status.Status.TheVariants.{Done, Stopped, Usage, ReadFault, GameTooLarge, ScriptTooLarge, BadScript, BadSource, BadRomSource, RomDiffers, WriteFault, NoMemory, BadCommand, SourceTooLarge, CommandsTooLarge}
-use Rattle.vip_verbs.specs.Files.{Needed, needed, HasAll, ComesTo, IsLarger, IsUnread}
+use Rattle.vip_tools.specs.Files.{Needed, needed, HasAll, ComesTo, IsLarger, IsUnread}
 use Rattle.vip_call.specs.Language.{ShowsChip8}
 use Rattle.vip_verbs.specs.Outcome.{Comes}
-use Rattle.vip_verbs.specs.Outcome.Outcome.{Refused, Shown}
+use Rattle.vip_tools.specs.Outcome.Outcome.{Refused, Shown}
 use Rattle.vip_report.specs.Refusal.{too_large_status}
 use Rattle.vip_report.specs.Report.{usage, cannot_read, too_large_report, write_fault, no_memory}
 

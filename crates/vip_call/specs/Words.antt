@@ -8,8 +8,9 @@ use Rattle.vip_words.specs.declared.request.Request.{Request}
 use Rattle.vip_report.specs.declared.ended.Ended.{Ended}
 use Rattle.vip_report.specs.declared.refusal.Refusal.{Refusal}
 use Rattle.vip_report.specs.declared.refusal.Refusal.TheVariants.{Usage, Unread, TooLarge, Write, NoMemory}
-use Rattle.vip_verbs.specs.Files.{Needed, needed, HasAll, ComesTo, IsLarger, IsUnread}
-use Rattle.vip_verbs.specs.Work.{Ends, Breaks, Rejected}
+use Rattle.vip_tools.specs.Files.{Needed, needed, HasAll, ComesTo, IsLarger, IsUnread}
+use Rattle.vip_tools.specs.Work.{Ends, Breaks, Rejected}
+use Rattle.vip_verbs.specs.Outcome.{Comes}
 
 -- the words ask for this, the files that they name were read, and of their contents this holds
 pub record OfWords (words : List (List ℕ)) (files : FilesMeaning) (Here : Asked → List (List ℕ) → Type 0) : Type 0 where
@@ -27,13 +28,13 @@ pub record RefusesFile (words : List (List ℕ)) (files : FilesMeaning) (Here : 
   pub out : new ≡ old
 
 abbrev pub WordsAnswer : List (List ℕ) → FilesMeaning → FilesMeaning → SinkMeaning → SinkMeaning → Result Ended Refusal → Type 0
-WordsAnswer words files files' old new (Ok ended) = OfWords words files (λ asked contents. Ends asked contents old new ended)
+WordsAnswer words files files' old new (Ok ended) = OfWords words files (λ asked contents. Ends (Comes asked contents) old new ended)
 WordsAnswer words files files' old new (Err Usage) = (asked_by words ≡ None) × (new ≡ old)
 WordsAnswer words files files' old new (Err (Unread name)) = RefusesFile words files (λ n. (name.now ≡ n.name) × IsUnread files files' n) old new
 WordsAnswer words files files' old new (Err (TooLarge kind)) = RefusesFile words files (λ n. (kind ≡ n.kind) × IsLarger files n) old new
-WordsAnswer words files files' old new (Err Write) = OfWords words files (λ asked contents. Breaks asked contents old new)
+WordsAnswer words files files' old new (Err Write) = OfWords words files (λ asked contents. Breaks (Comes asked contents) old new)
 WordsAnswer words files files' old new (Err NoMemory) = new ≡ old
-WordsAnswer words files files' old new (Err refusal) = OfWords words files (λ asked contents. Rejected asked contents old new refusal)
+WordsAnswer words files files' old new (Err refusal) = OfWords words files (λ asked contents. Rejected (Comes asked contents) old new refusal)
 
 -- what is understood
 abbrev pub UnderstoodAnswers : List (List ℕ) → Result Request Refusal → Type 0

@@ -9,7 +9,8 @@ use std::alloc::Global;
 use vip_language::laws::every_run;
 use vip_outside::{Files, Sink};
 use vip_report::{Ended, Refusal, Status, put_end, put_refusal};
-use vip_verbs::{open_files, wanted_files, work};
+use vip_tools::{open_files, wanted_files};
+use vip_verbs::work;
 use vip_words::{Request, WordsFail, read_words};
 
 /// What the words ask for.

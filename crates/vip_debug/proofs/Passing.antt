@@ -11,7 +11,7 @@ use Rattle.vip_relation.specs.Meets.{IsSame, MeetsNext, HasStopped, StopsAgain}
 use Rattle.vip_relation.specs.declared.vip.Met.TheVariants as met
 use Rattle.vip_relation.proofs.Steps.{Others, others-to}
 use Rattle.vip_relation.proofs.Waits.{none-behind-dispatch}
-use Rattle.vip_show.proofs.Going.{Dispatched, Pictured, Halted, Ended, at_stop}
+use Rattle.vip_relation.proofs.Nexts.{Dispatched, Pictured, Halted, Ended, at_stop}
 use Rattle.vip_debug.specs.Answers.{begun, moves_until, has_pc}
 use Rattle.vip_debug.specs.Parts.{points_left, Passes, PassesNone, PassAnswers, FindAnswers}
 use Rattle.vip_debug.proofs.Places.{same-refl, same-trans, made-most, made-few, made-all, all-within, some-run, none-left-stays, events-same, until-same, begun-same, decided}

@@ -1,4 +1,3 @@
-pub mod Grammar
 pub mod Shown
 pub mod Answers
 pub mod Parts

@@ -6,10 +6,10 @@ ghost use Rattle.vip_relation.specs.Follows.{Follows};
 ghost use Rattle.vip_debug.specs.Answers.{begun, has_pc, moved_to, moves_until, place_of};
 ghost use Rattle.vip_debug.specs.Parts.{Arrives, FindAnswers, Makes, PassAnswers, TellsPresent, points_left};
 
-use crate::command::Running;
 use vip_board::Moved;
 use vip_byte::MOST_CYCLE;
 use vip_relation::{Met, Vip};
+use vip_words::Running;
 
 /// Runs to the next dispatch point, past pictures, or to the end of the run. Answers whether there is one.
 fn pass(vip: &mut Vip, limit: u64) -> bool

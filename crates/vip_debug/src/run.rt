@@ -8,7 +8,6 @@ ghost use Rattle.vip_debug.specs.Answers.{DebugAnswers, arrival, begun, complete
 ghost use Rattle.vip_debug.specs.Parts.{IsTold, Makes};
 
 use crate::bytes::{put_dis, put_mem};
-use crate::command::{Command, Commands, Running, Showing};
 use crate::going::go;
 use crate::show::{put_cycle, put_regs, put_screen, put_state};
 use chip8_lang::StopRecord;
@@ -16,6 +15,7 @@ use vip_byte::{Buffer, MOST_CYCLE, put};
 use vip_outside::{Failed, Sink};
 use vip_relation::Vip;
 use vip_text::{stop_text, trace_text};
+use vip_words::{Command, Commands, Running, Showing};
 
 /// How the commands ended.
 #[derive(Clone, Copy, Debug, PartialEq, Eq)]

@@ -7,3 +7,5 @@ mod Advances
 mod Closing
 pub mod Waits
 pub mod Scanning
+pub mod Nexts
+pub mod Sizes

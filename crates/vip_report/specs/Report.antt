@@ -7,13 +7,12 @@ use Rattle.rom_check.specs.declared.fault.ImageFault.{ImageFault}
 use Rattle.rom_check.specs.declared.fault.ImageFault.TheVariants as image
 use Rattle.vip_keypad.specs.declared.script.ScriptCause.{ScriptCause}
 use Rattle.vip_keypad.specs.declared.script.ScriptCause.TheVariants as script
-use Rattle.vip_debug.specs.declared.command.CommandCause.{CommandCause}
-use Rattle.vip_debug.specs.declared.command.CommandCause.TheVariants as command
+use Rattle.vip_words.specs.declared.commands.CommandCause.{CommandCause}
+use Rattle.vip_words.specs.declared.commands.CommandCause.TheVariants as command
 use Rattle.vip_text.specs.Stops.{stop_line}
 use Rattle.vip_byte.specs.Text.{newline}
-use Rattle.vip_show.specs.Answers.{ending_in}
-use Rattle.vip_show.specs.Endings.{Ending}
-use Rattle.vip_show.specs.Endings.Ending.{AtLimit, AtStop}
+use Rattle.vip_text.specs.Endings.{Ending, ending_in}
+use Rattle.vip_text.specs.Endings.Ending.{AtLimit, AtStop}
 use Rattle.vip_report.specs.declared.ended.Ended.{Ended}
 use Rattle.vip_report.specs.declared.ended.Ended.TheVariants.{Worked, Ran}
 use Rattle.vip_report.specs.declared.refusal.Kind.{Kind}

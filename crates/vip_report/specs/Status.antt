@@ -1,8 +1,7 @@
 -- The numbers of the statuses, and the status of each end.
 use Rattle.std.specs.Prelude.{ℕ}
-use Rattle.vip_show.specs.Answers.{ending_in}
-use Rattle.vip_show.specs.Endings.{Ending}
-use Rattle.vip_show.specs.Endings.Ending.{AtLimit, AtStop}
+use Rattle.vip_text.specs.Endings.{Ending, ending_in}
+use Rattle.vip_text.specs.Endings.Ending.{AtLimit, AtStop}
 use Rattle.vip_report.specs.declared.ended.Ended.{Ended}
 use Rattle.vip_report.specs.declared.ended.Ended.TheVariants.{Worked, Ran}
 use Rattle.vip_report.specs.declared.status.Status.{Status}

@@ -4,7 +4,7 @@ ghost use Rattle.std.specs.Prelude.{◌≡◌};
 ghost use Rattle.vip_report.specs.Status.{ended_status};
 
 use crate::status::Status;
-use vip_show::RunEnd;
+use vip_text::RunEnd;
 
 /// How a command ended.
 #[derive(Clone, Copy, Debug, PartialEq, Eq)]

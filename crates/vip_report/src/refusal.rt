@@ -7,9 +7,9 @@ use crate::status::Status;
 use asm_core::AsmCause;
 use rom_check::ImageFault;
 use std::alloc::AllocError;
-use vip_debug::CommandCause;
 use vip_keypad::ScriptCause;
 use vip_outside::Failed;
+use vip_words::CommandCause;
 
 /// Files that are limited in their size.
 #[derive(Clone, Copy, Debug, Default, PartialEq, Eq)]

@@ -11,11 +11,10 @@ use asm_core::AsmCause;
 use itoa::Buffer as Digits;
 use rom_check::ImageFault;
 use vip_byte::{Buffer, hex2, hex4};
-use vip_debug::CommandCause;
 use vip_keypad::ScriptCause;
 use vip_outside::{Failed, Sink};
-use vip_show::RunEnd;
-use vip_text::stop_text;
+use vip_text::{RunEnd, stop_text};
+use vip_words::CommandCause;
 
 /// Puts three parts of a line.
 fn put_three<S: Sink>(sink: &mut S, a: &[u8], b: &[u8], c: &[u8]) -> Result<(), Failed>

@@ -21,70 +21,23 @@ use Rattle.vip_text.specs.Summaries.{summary_line}
 use Rattle.vip_relation.specs.Follows.{Follows, last_dispatch, last_view, last_screen}
 use Rattle.vip_relation.proofs.Steps.{few-met}
 use Rattle.vip_relation.specs.Interpreters.{interpreter_of}
-use Rattle.vip_relation.specs.Meets.{MeetsNext, MeetsPicture, MeetsDispatch, MeetsStop, Ends}
 use Rattle.vip_relation.specs.State.{VipState, interpreter, run_of, events_to, events_left, screen_size, screen_bytes}
 use Rattle.vip_relation.specs.Stops.{pc_of, opcode_of}
 use Rattle.vip_relation.specs.declared.vip.Met.TheVariants as met
-use Rattle.vip_show.specs.declared.run.RunEnd.{RunEnd}
-use Rattle.vip_show.specs.declared.run.RunEnd.TheVariants as run
+use Rattle.vip_text.specs.Endings.{ending_in}
+use Rattle.vip_text.specs.Endings.Ending.{AtStop}
+use Rattle.vip_text.specs.declared.ending.RunEnd.{RunEnd}
+use Rattle.vip_text.specs.declared.ending.RunEnd.TheVariants as run
 use Rattle.vip_show.specs.declared.run.Shown.{Shown}
 use Rattle.vip_show.specs.declared.run.Shown.TheVariants.{Lines, Pictures, Nothing}
 use Rattle.vip_show.specs.declared.run.Tally.{Tally}
-use Rattle.vip_show.specs.Answers.{IsFresh, ending_in, Shows, ShowAnswers, traced, pictured, summed}
+use Rattle.vip_show.specs.Answers.{IsFresh, Shows, ShowAnswers, traced, pictured, summed}
 use Rattle.vip_show.specs.Endings.{ending_after, ending_of}
-use Rattle.vip_show.specs.Endings.Ending.{AtStop}
 use Rattle.vip_show.specs.Output.{count_of, is_dispatch_event, is_picture_event, trace_lines, picture_pieces, screen_piece, lit_at, summary}
 use Rattle.vip_show.specs.Run.{piece_of, pieces_of, event_piece, screen_told, lit_told, PieceAnswers, Ran, RunAnswers}
 use Rattle.vip_relation.proofs.Meetings.{last-dispatched, last-kept}
+use Rattle.vip_relation.proofs.Nexts.{Dispatched, Pictured, Halted, Ended}
 use Rattle.vip_show.proofs.Lists.{count-more, counted, stop-last}
-
--- ---- what an answer says of the events left
-
-pub record Dispatched (limit : ℕ) (v v' : VipState) (left : List Event) : Type 0 where
-  pub b : Machine
-  pub rest : List Event
-  pub split : left ≡ Dispatch b ∷ rest
-  pub meets : MeetsDispatch limit v v' b rest
-
-pub at_dispatch : (limit : ℕ) (v v' : VipState) (left : List Event) → MeetsNext limit v v' left met.Dispatch → Dispatched limit v v' left
-at_dispatch limit v v' [] m = absurd m
-at_dispatch limit v v' (Picture k ∷ rest) m = absurd m
-at_dispatch limit v v' (Dispatch b ∷ rest) m = record { b = b; rest = rest; split = refl; meets = m }
-at_dispatch limit v v' (Stopped b ∷ rest) m = absurd m
-
-pub record Pictured (limit : ℕ) (v v' : VipState) (left : List Event) : Type 0 where
-  pub m : ℕ
-  pub rest : List Event
-  pub split : left ≡ Picture m ∷ rest
-  pub meets : MeetsPicture limit v v' m rest
-
-pub at_picture : (limit : ℕ) (v v' : VipState) (left : List Event) → MeetsNext limit v v' left met.Picture → Pictured limit v v' left
-at_picture limit v v' [] m = absurd m
-at_picture limit v v' (Picture k ∷ rest) m = record { m = k; rest = rest; split = refl; meets = m }
-at_picture limit v v' (Dispatch b ∷ rest) m = absurd m
-at_picture limit v v' (Stopped b ∷ rest) m = absurd m
-
-pub record Halted (limit : ℕ) (v v' : VipState) (left : List Event) (stop : StopRecord) : Type 0 where
-  pub b : Machine
-  pub rest : List Event
-  pub split : left ≡ Stopped b ∷ rest
-  pub meets : MeetsStop limit v v' b rest stop
-
-pub at_stop : (limit : ℕ) (v v' : VipState) (left : List Event) (stop : StopRecord) → MeetsNext limit v v' left (met.Stopped stop) → Halted limit v v' left stop
-at_stop limit v v' [] stop m = absurd m
-at_stop limit v v' (Picture k ∷ rest) stop m = absurd m
-at_stop limit v v' (Dispatch b ∷ rest) stop m = absurd m
-at_stop limit v v' (Stopped b ∷ rest) stop m = record { b = b; rest = rest; split = refl; meets = m }
-
-pub record Ended (limit : ℕ) (v v' : VipState) (left : List Event) : Type 0 where
-  pub none : left ≡ []
-  pub ends : Ends limit v v'
-
-pub at_end : (limit : ℕ) (v v' : VipState) (left : List Event) → MeetsNext limit v v' left met.End → Ended limit v v' left
-at_end limit v v' [] m = record { none = refl; ends = m }
-at_end limit v v' (Picture k ∷ rest) m = absurd m
-at_end limit v v' (Dispatch b ∷ rest) m = absurd m
-at_end limit v v' (Stopped b ∷ rest) m = absurd m
 
 -- ---- the same run
 
@@ -277,14 +230,6 @@ pub run-fails : (shown : Shown) (limit : ℕ) (old new : VipState) (out out' : S
     → FailsWithin (pieces_of shown old limit (events_to old limit)) out out' → RunAnswers shown limit old new out out' r
 run-fails shown limit old new out out' (Ok tally) bad fault = cc
 run-fails shown limit old new out out' (Err e) bad fault = fault
-
--- the events left become fewer
-pub fewer-dispatch : (limit : ℕ) (v v' : VipState) (d : Dispatched limit v v' (events_left v limit))
-    → length (events_left v' limit) < length (events_left v limit)
-fewer-dispatch limit v v' d = rw (d.split, d.meets.one.left) (omega arith)
-
-pub fewer-picture : (limit : ℕ) (v v' : VipState) (d : Pictured limit v v' (events_left v limit)) → length (events_left v' limit) < length (events_left v limit)
-fewer-picture limit v v' d = rw (d.split, d.meets.one.left) (omega arith)
 
 -- ---- the end at a stop
 

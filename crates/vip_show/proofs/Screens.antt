@@ -1,34 +1,19 @@
--- The screen that is told of: its size, its text, and its lit pixels.
+-- The lit pixels of the screen that is told of.
 use Rattle.std.proofs.Common.{◌≡◌, ℕ, ◌+◌, ◌/◌, ◌%◌, ◌≤◌, List, [], ◌∷◌, ◌++◌, length, refl, sym, ap, ap₂, ◌∙◌, arith, Bool, true, false, length-append}
 use Rattle.std.specs.Prelude.{if◌then◌else◌, filter, Some}
 use Rattle.std.specs.Option.{option_map_or}
 use Rattle.std.specs.List.{range_with_len}
 use Rattle.std.proofs.lemmas.List.Elements.{filter-append}
 use Rattle.vip_byte.proofs.RangeLemmas.{range_with_len-more}
-use Rattle.chip8_lang.specs.declared.view.Edition.{Edition}
-use Rattle.chip8_lang.specs.declared.view.Edition.TheVariants.{Usual, Tall}
 use Rattle.chip8_lang.specs.Editions.{rows_of}
 use Rattle.chip8_lang.specs.Places.{pixels}
 use Rattle.chip8_lang.specs.Screen.{Pixels}
 use Rattle.chip8_lang.specs.View.{View}
-use Rattle.vip_text.specs.Screens.{pixels_of, screen_lines}
+use Rattle.vip_text.specs.Screens.{pixels_of}
 use Rattle.vip_relation.specs.State.{VipState, screen_size}
+use Rattle.vip_relation.proofs.Sizes.{rows_by}
 use Rattle.vip_show.specs.Output.{lit_in_row, lit_in_rows}
 use Rattle.vip_show.specs.Run.{pixels_told, lit_told}
-
--- ---- its size
-
-pub whole : (e : Edition) (n : ℕ) → n ≡ screen_size e → n % 8 ≡ 0
-whole Usual n is = omega (arith, is)
-whole Tall n is = omega (arith, is)
-
-pub few : (e : Edition) (n : ℕ) → n ≡ screen_size e → n ≤ 512
-few Usual n is = omega (arith, is)
-few Tall n is = omega (arith, is)
-
-pub rows_by : (e : Edition) (n : ℕ) → n ≡ screen_size e → n / 8 ≡ rows_of e
-rows_by Usual n is = omega (arith, is)
-rows_by Tall n is = omega (arith, is)
 
 -- ---- its lit pixels, one by one and row by row
 
@@ -68,11 +53,7 @@ pub rows-more : (pixels : Pixels) (n count row : ℕ) → count ≡ lit_in_rows 
 rows-more pixels n count row so_far is =
     ap₂ (λ a b. a + b) so_far is ∙ sym (ap (lit_in_rows pixels) (range_with_len-more n) ∙ lit_in_rows-append pixels (range_with_len 0 n) n)
 
--- ---- the text by the bytes that are lent
-
-pub screen-text : (e : Edition) (rows shown : List ℕ) → rows ≡ shown → length rows ≡ screen_size e
-    → screen_lines (pixels (length rows / 8) rows) (length rows / 8) ≡ screen_lines (pixels (rows_of e) shown) (rows_of e)
-screen-text e rows shown same size = ap₂ (λ n r. screen_lines (pixels n r) n) (rows_by e (length rows) size) same
+-- ---- the lit pixels that are told
 
 pub lit-told : (v : VipState) (view : View) (rows : List ℕ) (lit : ℕ) → Some view ≡ v.last → rows ≡ v.shown → length rows ≡ screen_size v.edition
     → lit ≡ lit_in_rows (pixels_of rows) (range_with_len 0 (length rows / 8)) → lit ≡ lit_told v

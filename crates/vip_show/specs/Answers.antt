@@ -6,10 +6,9 @@ use Rattle.vip_outside.specs.declared.sink.Failed.{Failed}
 use Rattle.vip_relation.specs.Follows.{last_screen}
 use Rattle.vip_relation.specs.Meets.{HasStopped}
 use Rattle.vip_relation.specs.State.{VipState, interpreter, run_of, events_to}
-use Rattle.vip_show.specs.declared.run.RunEnd.{RunEnd}
-use Rattle.vip_show.specs.declared.run.RunEnd.TheVariants as run
-use Rattle.vip_show.specs.Endings.{Ending, ending_of}
-use Rattle.vip_show.specs.Endings.Ending.{AtLimit, AtStop}
+use Rattle.vip_text.specs.Endings.{ending_in}
+use Rattle.vip_text.specs.declared.ending.RunEnd.{RunEnd}
+use Rattle.vip_show.specs.Endings.{ending_of}
 use Rattle.vip_show.specs.Output.{trace_pieces, picture_pieces, summary}
 
 -- no event was met
@@ -18,10 +17,6 @@ pub record IsFresh (v : VipState) : Type 0 where
   pub last : v.last ≡ None
   pub dark : v.shown ≡ last_screen v.edition []
   pub runs : HasStopped v → ⊥
-
-abbrev pub ending_in : RunEnd → Ending
-ending_in run.AtLimit = AtLimit
-ending_in (run.AtStop stop) = AtStop stop.stop stop.pc stop.opcode
 
 -- the pieces went out whole, and the run ended as its events say
 pub record Shows (v : VipState) (limit : ℕ) (pieces : List (List ℕ)) (old new : SinkMeaning) (end : RunEnd) : Type 0 where

@@ -1,16 +1,12 @@
 -- How a run ends.
 use Rattle.std.specs.Prelude.{ℕ, List, [], ◌∷◌, Option, None}
 use Rattle.chip8_lang.specs.declared.view.Edition.{Edition}
-use Rattle.chip8_lang.specs.declared.view.Stop.{Stop}
 use Rattle.chip8_lang.specs.Events.{Event}
 use Rattle.chip8_lang.specs.Events.Event.{Picture, Dispatch, Stopped}
 use Rattle.chip8_lang.specs.View.{view_at}
+use Rattle.vip_text.specs.Endings.{Ending}
+use Rattle.vip_text.specs.Endings.Ending.{AtLimit, AtStop}
 use Rattle.vip_relation.specs.Stops.{stop_at}
-
--- at its limit, or at a stop point, with pc and opcode of the last dispatch point
-pub data Ending : Type 0 where
-  AtLimit : Ending
-  AtStop : (stop : Stop) (pc : ℕ) (opcode : Option ℕ) → Ending
 
 -- the ending by these events, with pc and opcode of the last dispatch point before them
 unfoldable pub ending_after : Edition → ℕ → Option ℕ → List Event → Ending

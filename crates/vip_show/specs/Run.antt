@@ -20,7 +20,7 @@ use Rattle.vip_relation.specs.State.{VipState, interpreter, run_of, events_to}
 use Rattle.vip_show.specs.declared.run.Shown.{Shown}
 use Rattle.vip_show.specs.declared.run.Shown.TheVariants.{Lines, Pictures, Nothing}
 use Rattle.vip_show.specs.declared.run.Tally.{Tally}
-use Rattle.vip_show.specs.Answers.{ending_in}
+use Rattle.vip_text.specs.Endings.{ending_in}
 use Rattle.vip_show.specs.Endings.{ending_of}
 use Rattle.vip_show.specs.Output.{trace_piece, picture_piece, is_dispatch_event, is_picture_event, count_of, lit_in_rows}
 

@@ -12,5 +12,4 @@ mod run;
 mod summary;
 
 pub use pieces::{show_pictures, show_trace};
-pub use run::RunEnd;
 pub use summary::show_summary;

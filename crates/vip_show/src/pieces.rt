@@ -8,11 +8,11 @@ ghost use Rattle.vip_text.specs.Screens.{screen_lines};
 ghost use Rattle.vip_show.specs.Answers.{IsFresh, ShowAnswers, traced, pictured};
 ghost use Rattle.vip_show.specs.Run.{PieceAnswers, screen_told};
 
-use crate::run::{RunEnd, Shown, run};
+use crate::run::{Shown, run};
 use vip_byte::{Buffer, MOST_CYCLE};
 use vip_outside::{Failed, Sink};
 use vip_relation::Vip;
-use vip_text::screen_text;
+use vip_text::{RunEnd, screen_text};
 
 /// Puts the screen at the last dispatch point, as one piece, or nothing where there was none.
 fn put_screen<O: Sink>(vip: &Vip, out: &mut O) -> Result<(), Failed>

@@ -7,20 +7,10 @@ ghost use Rattle.vip_text.specs.Traces.{trace_line};
 ghost use Rattle.vip_show.specs.Answers.{IsFresh};
 ghost use Rattle.vip_show.specs.Run.{PieceAnswers, event_piece, RunAnswers};
 
-use chip8_lang::StopRecord;
 use vip_byte::{Buffer, MOST_CYCLE};
 use vip_outside::{Failed, Sink};
 use vip_relation::{Met, Vip};
-use vip_text::{picture_text, trace_text};
-
-/// How a run ended.
-#[derive(Clone, Copy, Debug, PartialEq, Eq)]
-pub enum RunEnd {
-    /// Every event up to the limit was met.
-    AtLimit,
-    /// It came to its stop point.
-    AtStop(StopRecord),
-}
+use vip_text::{RunEnd, picture_text, trace_text};
 
 /// What is written of each event.
 #[derive(Clone, Copy)]

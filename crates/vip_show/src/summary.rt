@@ -7,11 +7,11 @@ ghost use Rattle.vip_show.specs.Answers.{IsFresh, ShowAnswers, summed};
 ghost use Rattle.vip_show.specs.Output.{lit_in_row, lit_in_rows};
 ghost use Rattle.vip_show.specs.Run.{lit_told};
 
-use crate::run::{RunEnd, Shown, run};
+use crate::run::{Shown, run};
 use vip_byte::{Buffer, MOST_CYCLE};
 use vip_outside::{Failed, Sink};
 use vip_relation::Vip;
-use vip_text::{ROW_SIZE, WIDTH, is_lit, summary_text};
+use vip_text::{ROW_SIZE, RunEnd, WIDTH, is_lit, summary_text};
 
 /// How much a pixel adds to a count of lit ones.
 fn count_of(lit: bool) -> u64

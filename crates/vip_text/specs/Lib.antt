@@ -2,3 +2,5 @@ pub mod Traces
 pub mod Stops
 pub mod Screens
 pub mod Summaries
+pub mod Endings
+pub mod Bounds

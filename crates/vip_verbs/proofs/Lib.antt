@@ -1,3 +1,1 @@
-pub mod DemoLemmas
-pub mod FilesLemmas
 mod WorkLemmas

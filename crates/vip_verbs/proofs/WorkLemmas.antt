@@ -1,51 +1,42 @@
--- What a command answers, from the answers of its parts.
+-- What a command that runs a game answers, from the answers of its parts.
 use Rattle.std.proofs.Common.{◌≡◌, ℕ, max, true, false, List, [], ◌∷◌, refl, sym, ap, subst, Result, Ok, Err, IsErrAnd}
 use Rattle.std.proofs.Math.Nat.{max-zero}
 use Rattle.chip8_lang.specs.declared.view.Edition.{Edition}
 use Rattle.chip8_lang.specs.declared.view.Edition.TheVariants.{Usual}
 use Rattle.chip8_lang.specs.declared.view.StopRecord.{StopRecord}
 use Rattle.chip8_lang.specs.Events.{is_stop}
-use Rattle.asm_core.specs.Made.{Made, IsAssembly}
-use Rattle.asm_core.specs.Sources.{source_lines}
-use Rattle.asm_listing.specs.Dump.{dump_text}
-use Rattle.asm_listing.specs.Listing.{IsListing}
+use Rattle.vip_words.specs.Grammar.{commands_of}
+use Rattle.vip_words.specs.declared.commands.Command.{Command as DebugCommand}
 use Rattle.vip_debug.specs.Answers.{begun, at_start, place_of, place_after, written, DebugAnswers}
-use Rattle.vip_debug.specs.Grammar.{commands_of}
-use Rattle.vip_debug.specs.declared.command.Command.{Command as DebugCommand}
 use Rattle.vip_debug.specs.declared.run.DebugEnd.{DebugEnd}
 use Rattle.vip_debug.specs.declared.run.DebugEnd.TheVariants as debugger
-use Rattle.vip_outside.specs.Sink.{SinkMeaning, PutsWhole, PutFails}
+use Rattle.vip_outside.specs.Sink.{SinkMeaning}
 use Rattle.vip_outside.specs.Pieces.{PutsAll, FailsWithin}
-use Rattle.vip_outside.proofs.PiecesLemmas.{PutsAll-nil, PutsAll-one, FailsWithin-snoc}
 use Rattle.vip_relation.specs.State.{VipState, interpreter, started, events_to, state_after}
-use Rattle.vip_show.specs.Answers.{ending_in, traced, pictured, summed}
-use Rattle.vip_show.specs.Endings.{Ending, ending_of}
-use Rattle.vip_show.specs.Endings.Ending.{AtLimit}
-use Rattle.vip_show.specs.declared.run.RunEnd.{RunEnd}
-use Rattle.vip_words.specs.Asked.{Asked, AskedRun, AskedTrace, AskedDebug, AskedDemo, trace, play, debug, demo, asm, list}
+use Rattle.vip_show.specs.Answers.{traced, pictured, summed}
+use Rattle.vip_show.specs.Endings.{ending_of}
+use Rattle.vip_text.specs.Endings.{Ending, ending_in}
+use Rattle.vip_text.specs.Endings.Ending.{AtLimit}
+use Rattle.vip_text.specs.declared.ending.RunEnd.{RunEnd}
+use Rattle.vip_words.specs.Asked.{AskedRun, AskedTrace, AskedDebug, AskedDemo, trace, play, debug, demo}
 use Rattle.vip_report.specs.declared.ended.Ended.{Ended}
-use Rattle.vip_report.specs.declared.ended.Ended.TheVariants.{Worked, Ran}
+use Rattle.vip_report.specs.declared.ended.Ended.TheVariants.{Ran}
 use Rattle.vip_report.specs.declared.refusal.Refusal.{Refusal}
 use Rattle.vip_report.specs.declared.refusal.Refusal.TheVariants.{Usage, Unread, TooLarge, Script, Command, Source, Rom, Write, NoMemory}
-use Rattle.vip_report.specs.declared.status.Status.TheVariants.{Done}
-use Rattle.vip_verbs.specs.Work.{Ends, Breaks, WorkAnswers}
-use Rattle.vip_verbs.specs.Demo.{demo_game}
-use Rattle.vip_verbs.specs.Opening.{StartAnswers, DebugCommandsAnswer, SourceAnswers, Begins}
 use Rattle.vip_report.specs.Status.{end_status}
-use Rattle.vip_verbs.specs.Outcome.{Outcome, Comes, RunComes, DebugComes, SourceComes, run_ending, stopped_by, debug_ending}
-use Rattle.vip_verbs.specs.Outcome.Outcome.{Shown}
-use Rattle.vip_verbs.specs.Outcome.RunComes.{FaultyScript, FaultyRom, Runs}
-use Rattle.vip_verbs.specs.Outcome.SourceComes.{FaultySource, Assembles}
 use Rattle.vip_report.specs.Report.{end_report}
-
--- a command that comes to what a source comes to
-pub record SourceOf (asked : Asked) (contents : List (List ℕ)) : Type 1 where
-  pub source : List ℕ
-  pub IsText : Made → List ℕ → Type 0
-  pub fits : (o : Outcome) → SourceComes source IsText o → Comes asked contents o
+use Rattle.vip_tools.specs.Demo.{demo_game}
+use Rattle.vip_tools.specs.Opening.{DebugCommandsAnswer}
+use Rattle.vip_tools.specs.Outcome.{Outcome}
+use Rattle.vip_tools.specs.Outcome.Outcome.{Shown}
+use Rattle.vip_tools.specs.Work.{Ends, Breaks, WorkAnswers}
+use Rattle.vip_tools.proofs.WorkLemmas.{broken, passed}
+use Rattle.vip_verbs.specs.Opening.{StartAnswers, Begins}
+use Rattle.vip_verbs.specs.Outcome.{Comes, RunComes, DebugComes, run_ending, stopped_by, debug_ending}
+use Rattle.vip_verbs.specs.Outcome.RunComes.{FaultyScript, FaultyRom, Runs}
 
 -- a command that comes to what a run comes to, with the output and the ending of the machine that begins
-pub record RunOf (asked : Asked) (contents : List (List ℕ)) : Type 0 where
+pub record RunOf (Here : Outcome → Type 0) : Type 0 where
   pub edition : Edition
   pub game : List ℕ
   pub limit : ℕ
@@ -55,133 +46,73 @@ pub record RunOf (asked : Asked) (contents : List (List ℕ)) : Type 0 where
   pub fits :
       (o : Outcome)
       → RunComes edition limit scripts (λ script. shown (started edition game script)) (λ script. ending (started edition game script)) o
-      → Comes asked contents o
+      → Here o
 
-module _ (asked : Asked) (contents : List (List ℕ)) where
-  -- a fault of the output, at whatever error is passed on
-  broken :
-      (old new : SinkMeaning) (r : Result Ended Refusal) → IsErrAnd r (λ e. e ≡ Write) → Breaks asked contents old new
-      → WorkAnswers asked contents old new r
-  broken old new (Ok ended) is breaks = absurd is
-  broken old new (Err e) is breaks = subst (λ e. WorkAnswers asked contents old new (Err e)) (sym is) breaks
+module _ (Here : Outcome → Type 0) (run : RunOf Here) where
+  refused-start :
+      (old : SinkMeaning) (refusal : Refusal) → StartAnswers run.edition run.game run.scripts (Err refusal)
+      → WorkAnswers Here old old (Err refusal)
+  refused-start old Usage answer = absurd answer
+  refused-start old (Unread name) answer = absurd answer
+  refused-start old (TooLarge kind) answer = absurd answer
+  refused-start old (Script line cause) answer = record { comes = run.fits _ (FaultyScript line cause answer); out = refl }
+  refused-start old (Command line cause) answer = absurd answer
+  refused-start old (Source line cause) answer = absurd answer
+  refused-start old (Rom fault) answer = record { comes = run.fits _ (FaultyRom answer.script fault answer.reads answer.rom.0 answer.rom.1); out = refl }
+  refused-start old Write answer = absurd answer
+  refused-start old NoMemory answer = refl
 
-  -- a refusal that is passed on
-  passed :
-      (old : SinkMeaning) (refusal : Refusal) (r : Result Ended Refusal) → IsErrAnd r (λ e. e ≡ refusal)
-      → WorkAnswers asked contents old old (Err refusal) → WorkAnswers asked contents old old r
-  passed old refusal (Ok ended) is answers = absurd is
-  passed old refusal (Err e) is answers = subst (λ e. WorkAnswers asked contents old old (Err e)) (sym is) answers
+  -- it doesn't begin
+  pub start-fails :
+      (old : SinkMeaning) (refusal : Refusal) (r : Result Ended Refusal)
+      → IsErrAnd r (λ e. e ≡ refusal) → StartAnswers run.edition run.game run.scripts (Err refusal)
+      → WorkAnswers Here old old r
+  start-fails old refusal r is answer = passed Here old refusal r is (refused-start old refusal answer)
 
-  -- ---- a text
+  -- its output, with its ending
+  run-comes :
+      (v : VipState)
+      → Begins run.edition run.game run.scripts v
+      → Here (Shown (run.shown v) (end_status (run.ending v)) (end_report run.limit (run.ending v)))
+  run-comes v begins =
+      subst (λ w. Here (Shown (run.shown w) (end_status (run.ending w)) (end_report run.limit (run.ending w)))) (sym begins.is)
+      (run.fits _ (Runs begins.script begins.reads begins.rom))
 
-  module _ (text : List ℕ) (comes : Comes asked contents (Shown (text ∷ []) Done [])) where
-    pub text-whole : (old new : SinkMeaning) → PutsWhole text old new → Ends asked contents old new Worked
-    text-whole old new put = record { pieces = text ∷ []; comes = comes; puts = PutsAll-one text old new put }
+  -- it ran to its end
+  pub run-ends :
+      (v : VipState) (old new : SinkMeaning) (end : RunEnd)
+      → Begins run.edition run.game run.scripts v → ending_in end ≡ run.ending v
+      → PutsAll (run.shown v) old new → Ends Here old new (Ran run.limit end)
+  run-ends v old new end begins ends puts = record {
+    pieces = run.shown v;
+    comes = subst (λ e. Here (Shown (run.shown v) (end_status e) (end_report run.limit e))) (sym ends) (run-comes v begins);
+    puts = puts;
+  }
 
-    pub text-fails :
-        (old new : SinkMeaning) (r : Result Ended Refusal) → IsErrAnd r (λ e. e ≡ Write) → PutFails text old new
-        → WorkAnswers asked contents old new r
-    text-fails old new r is put = broken old new r is (record {
-      pieces = text ∷ [];
-      status = Done;
-      report = [];
-      comes = comes;
-      fails = FailsWithin-snoc [] text [] old old new (PutsAll-nil old) put;
-    })
+  -- its output failed
+  pub breaks :
+      (v : VipState) (old new : SinkMeaning)
+      → Begins run.edition run.game run.scripts v → FailsWithin (run.shown v) old new → Breaks Here old new
+  breaks v old new begins fault = record {
+    pieces = run.shown v;
+    status = end_status (run.ending v);
+    report = end_report run.limit (run.ending v);
+    comes = run-comes v begins;
+    fails = fault;
+  }
 
-  -- ---- a source
-
-  module _ (s : SourceOf asked contents) where
-    refused-source : (old : SinkMeaning) (refusal : Refusal) → SourceAnswers s.source (Err refusal) → WorkAnswers asked contents old old (Err refusal)
-    refused-source old Usage answer = absurd answer
-    refused-source old (Unread name) answer = absurd answer
-    refused-source old (TooLarge kind) answer = absurd answer
-    refused-source old (Script line cause) answer = absurd answer
-    refused-source old (Command line cause) answer = absurd answer
-    refused-source old (Source line cause) answer = record { comes = s.fits _ (FaultySource line cause answer); out = refl }
-    refused-source old (Rom fault) answer = absurd answer
-    refused-source old Write answer = absurd answer
-    refused-source old NoMemory answer = refl
-
-    -- it isn't assembled
-    pub source-fails :
-        (old : SinkMeaning) (refusal : Refusal) (r : Result Ended Refusal)
-        → IsErrAnd r (λ e. e ≡ refusal) → SourceAnswers s.source (Err refusal) → WorkAnswers asked contents old old r
-    source-fails old refusal r is answer = passed old refusal r is (refused-source old refusal answer)
-
-    -- it is
-    pub source-comes :
-        (made : Made) (text : List ℕ) → IsAssembly (source_lines s.source) made → s.IsText made text
-        → Comes asked contents (Shown (text ∷ []) Done [])
-    source-comes made text is-made is-text = s.fits _ (Assembles made text is-made is-text)
-
-  -- ---- a run
-
-  module _ (run : RunOf asked contents) where
-    refused-start :
-        (old : SinkMeaning) (refusal : Refusal) → StartAnswers run.edition run.game run.scripts (Err refusal)
-        → WorkAnswers asked contents old old (Err refusal)
-    refused-start old Usage answer = absurd answer
-    refused-start old (Unread name) answer = absurd answer
-    refused-start old (TooLarge kind) answer = absurd answer
-    refused-start old (Script line cause) answer = record { comes = run.fits _ (FaultyScript line cause answer); out = refl }
-    refused-start old (Command line cause) answer = absurd answer
-    refused-start old (Source line cause) answer = absurd answer
-    refused-start old (Rom fault) answer = record { comes = run.fits _ (FaultyRom answer.script fault answer.reads answer.rom.0 answer.rom.1); out = refl }
-    refused-start old Write answer = absurd answer
-    refused-start old NoMemory answer = refl
-
-    -- it doesn't begin
-    pub start-fails :
-        (old : SinkMeaning) (refusal : Refusal) (r : Result Ended Refusal)
-        → IsErrAnd r (λ e. e ≡ refusal) → StartAnswers run.edition run.game run.scripts (Err refusal)
-        → WorkAnswers asked contents old old r
-    start-fails old refusal r is answer = passed old refusal r is (refused-start old refusal answer)
-
-    -- its output, with its ending
-    run-comes :
-        (v : VipState)
-        → Begins run.edition run.game run.scripts v
-        → Comes asked contents (Shown (run.shown v) (end_status (run.ending v)) (end_report run.limit (run.ending v)))
-    run-comes v begins =
-        subst (λ w. Comes asked contents (Shown (run.shown w) (end_status (run.ending w)) (end_report run.limit (run.ending w)))) (sym begins.is)
-        (run.fits _ (Runs begins.script begins.reads begins.rom))
-
-    -- it ran to its end
-    pub run-ends :
-        (v : VipState) (old new : SinkMeaning) (end : RunEnd)
-        → Begins run.edition run.game run.scripts v → ending_in end ≡ run.ending v
-        → PutsAll (run.shown v) old new → Ends asked contents old new (Ran run.limit end)
-    run-ends v old new end begins ends puts = record {
-      pieces = run.shown v;
-      comes = subst (λ e. Comes asked contents (Shown (run.shown v) (end_status e) (end_report run.limit e))) (sym ends) (run-comes v begins);
-      puts = puts;
-    }
-
-    -- its output failed
-    pub breaks :
-        (v : VipState) (old new : SinkMeaning)
-        → Begins run.edition run.game run.scripts v → FailsWithin (run.shown v) old new → Breaks asked contents old new
-    breaks v old new begins fault = record {
-      pieces = run.shown v;
-      status = end_status (run.ending v);
-      report = end_report run.limit (run.ending v);
-      comes = run-comes v begins;
-      fails = fault;
-    }
-
-    pub run-fails :
-        (v : VipState) (old new : SinkMeaning) (r : Result Ended Refusal)
-        → Begins run.edition run.game run.scripts v → IsErrAnd r (λ e. e ≡ Write)
-        → FailsWithin (run.shown v) old new → WorkAnswers asked contents old new r
-    run-fails v old new r begins is fault = broken old new r is (breaks v old new begins fault)
+  pub run-fails :
+      (v : VipState) (old new : SinkMeaning) (r : Result Ended Refusal)
+      → Begins run.edition run.game run.scripts v → IsErrAnd r (λ e. e ≡ Write)
+      → FailsWithin (run.shown v) old new → WorkAnswers Here old new r
+  run-fails v old new r begins is fault = broken Here old new r is (breaks v old new begins fault)
 
 -- ---- a run under the debugger
 
 module _ (a : AskedDebug) (game text : List ℕ) (scripts : List (List ℕ)) where
   refused-commands :
       (old : SinkMeaning) (refusal : Refusal)
-      → DebugCommandsAnswer a.run.cycles text (Err refusal) → WorkAnswers (debug a) (game ∷ text ∷ scripts) old old (Err refusal)
+      → DebugCommandsAnswer a.run.cycles text (Err refusal) → WorkAnswers (Comes (debug a) (game ∷ text ∷ scripts)) old old (Err refusal)
   refused-commands old Usage answer = absurd answer
   refused-commands old (Unread name) answer = absurd answer
   refused-commands old (TooLarge kind) answer = absurd answer
@@ -196,8 +127,8 @@ module _ (a : AskedDebug) (game text : List ℕ) (scripts : List (List ℕ)) whe
   pub commands-fail :
       (old : SinkMeaning) (refusal : Refusal) (r : Result Ended Refusal)
       → IsErrAnd r (λ e. e ≡ refusal) → DebugCommandsAnswer a.run.cycles text (Err refusal)
-      → WorkAnswers (debug a) (game ∷ text ∷ scripts) old old r
-  commands-fail old refusal r is answer = passed (debug a) (game ∷ text ∷ scripts) old refusal r is (refused-commands old refusal answer)
+      → WorkAnswers (Comes (debug a) (game ∷ text ∷ scripts)) old old r
+  commands-fail old refusal r is answer = passed (Comes (debug a) (game ∷ text ∷ scripts)) old refusal r is (refused-commands old refusal answer)
 
   -- they are, so it comes to what a run comes to
   pub as-run :
@@ -208,7 +139,7 @@ module _ (a : AskedDebug) (game text : List ℕ) (scripts : List (List ℕ)) whe
       → DebugComes a.run.edition game a.run.cycles scripts (commands_of a.run.cycles text) o
   as-run commands read o come = rw read come
 
-  abbrev pub debug_run : (commands : List DebugCommand) → commands_of a.run.cycles text ≡ Ok commands → RunOf (debug a) (game ∷ text ∷ scripts)
+  abbrev pub debug_run : (commands : List DebugCommand) → commands_of a.run.cycles text ≡ Ok commands → RunOf (Comes (debug a) (game ∷ text ∷ scripts))
   debug_run commands read = record {
     edition = a.run.edition;
     game = game;
@@ -268,7 +199,7 @@ module _ (a : AskedDemo) (game : List ℕ) (is : game ≡ demo_game a.number) wh
   demo-comes o come =
       subst (λ g. RunComes Usual a.cycles [] (λ script. summed a.number (started Usual g script) a.cycles) (run_ending Usual g a.cycles) o) is come
 
-  abbrev pub demo_run : RunOf (demo a) []
+  abbrev pub demo_run : RunOf (Comes (demo a) [])
   demo_run = record {
     edition = Usual;
     game = game;
@@ -280,7 +211,7 @@ module _ (a : AskedDemo) (game : List ℕ) (is : game ≡ demo_game a.number) wh
   }
 
 module _ (game : List ℕ) (scripts : List (List ℕ)) where
-  abbrev pub trace_run : (a : AskedTrace) → RunOf (trace a) (game ∷ scripts)
+  abbrev pub trace_run : (a : AskedTrace) → RunOf (Comes (trace a) (game ∷ scripts))
   trace_run a = record {
     edition = a.run.edition;
     game = game;
@@ -291,7 +222,7 @@ module _ (game : List ℕ) (scripts : List (List ℕ)) where
     fits = λ o come. come;
   }
 
-  abbrev pub play_run : (a : AskedRun) → RunOf (play a) (game ∷ scripts)
+  abbrev pub play_run : (a : AskedRun) → RunOf (Comes (play a) (game ∷ scripts))
   play_run a = record {
     edition = a.edition;
     game = game;
@@ -301,10 +232,3 @@ module _ (game : List ℕ) (scripts : List (List ℕ)) where
     ending = ended_by a.cycles;
     fits = λ o come. come;
   }
-
-module _ (name source : List ℕ) where
-  abbrev pub asm_source : SourceOf (asm name) (source ∷ [])
-  asm_source = record { source = source; IsText = λ made text. text ≡ dump_text made; fits = λ o come. come }
-
-  abbrev pub list_source : SourceOf (list name) (source ∷ [])
-  list_source = record { source = source; IsText = λ made text. IsListing (source_lines source) text; fits = λ o come. come }

@@ -1,4 +1,4 @@
--- What a command comes to, by the contents of its files.
+-- What each command comes to, by the contents of its files.
 use Rattle.std.specs.Prelude.{◌≡◌, ℕ, List, [], ◌∷◌, if◌then◌else◌, Result, Ok, Err}
 use Rattle.machine.specs.Board.{Machine}
 use Rattle.machine.specs.Keys.{Event as KeyEvent}
@@ -7,49 +7,33 @@ use Rattle.chip8_lang.specs.declared.view.Edition.TheVariants.{Usual, Tall}
 use Rattle.chip8_lang.specs.declared.view.StopRecord.{StopRecord}
 use Rattle.chip8_lang.specs.Events.{Event, events_of, game_run, is_stop}
 use Rattle.chip8_source.specs.Texts.{usual_text, tall_text}
-use Rattle.asm_core.specs.Made.{Made, IsAssembly}
-use Rattle.asm_core.specs.Sources.{source_lines, HasFirstFault}
-use Rattle.asm_core.specs.declared.fault.AsmCause.{AsmCause}
-use Rattle.asm_listing.specs.Dump.{dump_text}
-use Rattle.asm_listing.specs.Listing.{IsListing}
-use Rattle.asm_listing.specs.Disassembly.{disassembly}
+use Rattle.asm_core.specs.Sources.{source_lines}
 use Rattle.rom_check.specs.Compared.{Compares}
 use Rattle.rom_check.specs.declared.fault.ImageFault.{ImageFault}
 use Rattle.rom_check.specs.declared.fault.ImageFault.TheVariants.{NoMemory}
-use Rattle.vip_bounds.specs.Table.{bounds_table}
+use Rattle.vip_words.specs.Grammar.{commands_of}
+use Rattle.vip_words.specs.declared.commands.Command.{Command}
+use Rattle.vip_words.specs.declared.commands.CommandFault.{CommandFault}
+use Rattle.vip_words.specs.declared.commands.CommandFault.TheVariants as command
 use Rattle.vip_debug.specs.Answers.{at_start, place_after, stop_by, written}
-use Rattle.vip_debug.specs.Grammar.{commands_of}
-use Rattle.vip_debug.specs.declared.command.Command.{Command}
-use Rattle.vip_debug.specs.declared.command.CommandFault.{CommandFault}
-use Rattle.vip_debug.specs.declared.command.CommandFault.TheVariants as command
-use Rattle.vip_keypad.specs.KeyScript.{script_of}
 use Rattle.vip_keypad.specs.declared.script.ScriptCause.{ScriptCause}
-use Rattle.vip_keypad.specs.declared.script.ScriptFault.{ScriptFault}
 use Rattle.vip_keypad.specs.declared.script.ScriptFault.TheVariants.{Fault}
 use Rattle.vip_relation.specs.Interpreters.{interpreter_of}
 use Rattle.vip_relation.specs.State.{VipState, interpreter, started, state_after}
-use Rattle.vip_show.specs.Endings.{Ending, ending_of}
-use Rattle.vip_show.specs.Endings.Ending.{AtLimit, AtStop}
+use Rattle.vip_show.specs.Endings.{ending_of}
 use Rattle.vip_show.specs.Output.{trace_pieces, picture_pieces, summary}
+use Rattle.vip_text.specs.Endings.{Ending}
+use Rattle.vip_text.specs.Endings.Ending.{AtLimit, AtStop}
 use Rattle.vip_words.specs.Asked.{Asked, trace, play, debug, demo, asm, list, dis, bounds}
-use Rattle.vip_verbs.specs.Demo.{demo_game}
 use Rattle.vip_report.specs.Refusal.{image_status}
 use Rattle.vip_report.specs.Status.{end_status}
-use Rattle.vip_report.specs.Report.{bad_command, bad_script, bad_source, image_report, end_report}
-use Rattle.vip_report.specs.declared.status.Status.{Status}
-use Rattle.vip_report.specs.declared.status.Status.TheVariants.{Done, BadCommand, BadScript, BadSource}
-
--- Refused, with a status and its report; or output, piece by piece, with the status and the report of its end.
-pub data Outcome : Type 0 where
-  Refused : (status : Status) (report : List ℕ) → Outcome
-  Shown : (pieces : List (List ℕ)) (status : Status) (report : List ℕ) → Outcome
+use Rattle.vip_report.specs.Report.{bad_command, bad_script, image_report, end_report}
+use Rattle.vip_report.specs.declared.status.Status.TheVariants.{BadCommand, BadScript}
+use Rattle.vip_tools.specs.Demo.{demo_game}
+use Rattle.vip_tools.specs.Outcome.{Outcome, AsmComes, BoundsComes, DisComes, ListComes, script_in}
+use Rattle.vip_tools.specs.Outcome.Outcome.{Refused, Shown}
 
 -- ---- a run
-
--- the events of a script file, where there is one, or its first fault
-abbrev pub script_in : List (List ℕ) → Result (List KeyEvent) ScriptFault
-script_in [] = Ok []
-script_in (text ∷ _) = script_of text
 
 -- the run of an edition's game under a script up to a limit, and its events
 abbrev pub run_of : Edition → List ℕ → List KeyEvent → ℕ → List Machine
@@ -96,18 +80,12 @@ debug_ending v limit commands = ending_where v (place_after v limit commands at_
 
 -- It comes to the first fault of its commands, or else, as other runs do, to the answers of the commands on a board that begins.
 abbrev pub DebugComes : Edition → List ℕ → ℕ → List (List ℕ) → Result (List Command) CommandFault → Outcome → Type 0
-DebugComes e game limit scripts (Ok commands) o =
+DebugComes e game limit scripts (Ok commands) =
     RunComes e limit scripts
     (λ script. written (started e game script) limit commands at_start)
-    (λ script. debug_ending (started e game script) limit commands) o
-DebugComes e game limit scripts (Err (command.Fault line cause)) o = o ≡ Refused BadCommand (bad_command line cause)
-DebugComes e game limit scripts (Err command.NoMemory) o = ⊥
-
--- ---- a source
-
-pub data SourceComes (source : List ℕ) (IsText : Made → List ℕ → Type 0) : Outcome → Type 0 where
-  FaultySource : (line : ℕ) (cause : AsmCause) → HasFirstFault (source_lines source) line cause → SourceComes source IsText (Refused BadSource (bad_source line cause))
-  Assembles : (made : Made) (text : List ℕ) → IsAssembly (source_lines source) made → IsText made text → SourceComes source IsText (Shown (text ∷ []) Done [])
+    (λ script. debug_ending (started e game script) limit commands)
+DebugComes e game limit scripts (Err (command.Fault line cause)) = λ o. o ≡ Refused BadCommand (bad_command line cause)
+DebugComes e game limit scripts (Err command.NoMemory) = λ o. ⊥
 
 -- ---- a command
 
@@ -121,21 +99,21 @@ cycles_in _ = 0
 
 -- what a command comes to, by the contents of its files in their order
 abbrev pub Comes : Asked → List (List ℕ) → Outcome → Type 0
-Comes (trace a) (game ∷ scripts) o =
+Comes (trace a) (game ∷ scripts) =
     RunComes a.run.edition a.run.cycles scripts
     (λ script. trace_pieces a.run.edition a.with_time a.with_screen (events_in a.run.edition game script a.run.cycles))
-    (run_ending a.run.edition game a.run.cycles) o
-Comes (play a) (game ∷ scripts) o =
+    (run_ending a.run.edition game a.run.cycles)
+Comes (play a) (game ∷ scripts) =
     RunComes a.edition a.cycles scripts
     (λ script. picture_pieces (interpreter_of a.edition).rom (run_of a.edition game script a.cycles) (events_in a.edition game script a.cycles))
-    (run_ending a.edition game a.cycles) o
-Comes (debug a) (game ∷ commands ∷ scripts) o = DebugComes a.run.edition game a.run.cycles scripts (commands_of a.run.cycles commands) o
-Comes (demo a) [] o =
+    (run_ending a.edition game a.cycles)
+Comes (debug a) (game ∷ commands ∷ scripts) = DebugComes a.run.edition game a.run.cycles scripts (commands_of a.run.cycles commands)
+Comes (demo a) [] =
     RunComes Usual a.cycles []
     (λ script. summary Usual a.number (events_in Usual (demo_game a.number) script a.cycles) ∷ [])
-    (run_ending Usual (demo_game a.number) a.cycles) o
-Comes (asm name) (source ∷ []) o = SourceComes source (λ made text. text ≡ dump_text made) o
-Comes (list name) (source ∷ []) o = SourceComes source (λ made text. IsListing (source_lines source) text) o
-Comes (dis a) (bytes ∷ []) o = o ≡ Shown (disassembly a.address bytes ∷ []) Done []
-Comes bounds [] o = o ≡ Shown (bounds_table ∷ []) Done []
-Comes _ _ o = ⊥
+    (run_ending Usual (demo_game a.number) a.cycles)
+Comes (asm name) (source ∷ []) = AsmComes source
+Comes (list name) (source ∷ []) = ListComes source
+Comes (dis a) (bytes ∷ []) = DisComes a.address bytes
+Comes bounds [] = BoundsComes
+Comes _ _ = λ o. ⊥

@@ -1,5 +1,5 @@
 mod Answered
-mod Commands
+mod Arguments
 mod Ends
 mod Known
 mod Parses

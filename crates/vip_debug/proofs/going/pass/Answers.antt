@@ -1,4 +1,4 @@
-use Rattle.vip_show.proofs.Going.{at_dispatch, at_picture, at_end, fewer-picture}
+use Rattle.vip_relation.proofs.Nexts.{at_dispatch, at_picture, at_end, fewer-picture}
 use Rattle.vip_debug.proofs.Passing.{dispatch-runs, picture-runs, end-runs, passing-picture, passed, passed-at-stop, passed-end}
 use Rattle.vip_debug.proofs.going.pass.Goals as goal
 

@@ -3,7 +3,7 @@ use Rattle.chip8_lang.specs.Editions.{rows_of}
 use Rattle.vip_text.specs.Screens.{screen_lines}
 use Rattle.vip_show.specs.Run.{pixels_told}
 use Rattle.vip_show.proofs.Going.{piece-put}
-use Rattle.vip_show.proofs.Screens.{whole, few, screen-text}
+use Rattle.vip_relation.proofs.Sizes.{whole, few, screen-told}
 use Rattle.vip_show.proofs.pieces.put_screen.Goals as goal
 
 pub screen_text-requires-clause-whole : goal.screen_text-requires-clause-whole
@@ -15,5 +15,5 @@ screen_text-requires-clause-few g c = few _ _ c.shown.ensures.size
 pub returns : goal.returns
 returns g c =
     piece-put (λ view. screen_lines (pixels_told c.args.vip.now) (rows_of c.args.vip.now.edition)) _ _ _ _ _ _ (sym c.in-Some.ensures)
-    (c.as_slice.ensures.value ∙ c.screen_text.ensures ∙ screen-text c.args.vip.now.edition _ _ c.shown.ensures.bytes c.shown.ensures.size)
+    (c.as_slice.ensures.value ∙ c.screen_text.ensures ∙ screen-told screen_lines c.args.vip.now.edition _ _ c.shown.ensures.bytes c.shown.ensures.size)
     c.put.ensures.answer

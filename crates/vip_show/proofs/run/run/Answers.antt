@@ -1,5 +1,6 @@
 use Rattle.std.proofs.Common.{◌≤◌, arith, refl}
-use Rattle.vip_show.proofs.Going.{going-first, at_dispatch, at_picture, at_stop, at_end, puts-dispatch, puts-picture, fails-dispatch, fails-picture, run-fails, fewer-dispatch, fewer-picture, ran-stop, ran-end, counts-fit}
+use Rattle.vip_relation.proofs.Nexts.{at_dispatch, at_picture, at_stop, at_end, fewer-dispatch, fewer-picture}
+use Rattle.vip_show.proofs.Going.{going-first, puts-dispatch, puts-picture, fails-dispatch, fails-picture, run-fails, ran-stop, ran-end, counts-fit}
 use Rattle.vip_show.proofs.run.run.Goals as goal
 
 pub loop-dispatches-init : goal.loop-dispatches-init

@@ -1,4 +1,5 @@
-use Rattle.vip_show.proofs.Screens.{few, lit-told}
+use Rattle.vip_relation.proofs.Sizes.{few}
+use Rattle.vip_show.proofs.Screens.{lit-told}
 use Rattle.vip_show.proofs.summary.lit.Goals as goal
 
 pub lit_pixels-requires : goal.lit_pixels-requires

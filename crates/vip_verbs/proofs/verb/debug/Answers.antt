@@ -1,5 +1,5 @@
 use Rattle.vip_words.specs.Request.{asked_debug}
-use Rattle.vip_verbs.specs.Contents.{script_list}
+use Rattle.vip_tools.specs.Contents.{script_list}
 use Rattle.vip_verbs.proofs.WorkLemmas.{commands-fail, debug_run, start-fails, run-ends, breaks, debug-done, debug-stopped, debug-fails}
 use Rattle.vip_verbs.proofs.verb.debug.Goals as goal
 
@@ -13,7 +13,7 @@ returns-in_err-vip g c =
     let run =
     debug_run (asked_debug c.args.wish.now) c.args.contents.now.run.game.now c.args.contents.now.commands.now
     (script_list c.args.contents.now.run.script) c.in_ok-commands.commands c.in_ok-commands.ensures in
-    start-fails _ _ run _ _ _ c.from_residual-in_err-vip.ensures.1 c.in_err-vip.ensures
+    start-fails _ run _ _ _ c.from_residual-in_err-vip.ensures.1 c.in_err-vip.ensures
 
 pub returns-in-Done : goal.returns-in-Done
 returns-in-Done g c =
@@ -21,7 +21,7 @@ returns-in-Done g c =
     debug_run (asked_debug c.args.wish.now) c.args.contents.now.run.game.now c.args.contents.now.commands.now
     (script_list c.args.contents.now.run.script) c.in_ok-commands.commands c.in_ok-commands.ensures in
     let answer = debug-done _ _ _ c.args.wish.now.run.cycles c.in_ok-commands.commands _ _ _ _ c.in_ok-vip.ensures c.in-Done.ensures.answer in
-    run-ends _ _ run _ _ _ _ c.in_ok-vip.ensures answer.0 answer.1
+    run-ends _ run _ _ _ _ c.in_ok-vip.ensures answer.0 answer.1
 
 pub returns-in-Stopped : goal.returns-in-Stopped
 returns-in-Stopped g c =
@@ -31,7 +31,7 @@ returns-in-Stopped g c =
     let answer =
     debug-stopped _ _ _ c.args.wish.now.run.cycles c.in_ok-commands.commands _ _ _ _ c.in_ok-vip.ensures c.in-Stopped.stop
     c.in-Stopped.ensures.answer in
-    run-ends _ _ run _ _ _ _ c.in_ok-vip.ensures answer.0 answer.1
+    run-ends _ run _ _ _ _ c.in_ok-vip.ensures answer.0 answer.1
 
 pub returns : goal.returns
 returns g c =
@@ -39,4 +39,4 @@ returns g c =
     debug_run (asked_debug c.args.wish.now) c.args.contents.now.run.game.now c.args.contents.now.commands.now
     (script_list c.args.contents.now.run.script) c.in_ok-commands.commands c.in_ok-commands.ensures in
     let fault = debug-fails _ _ _ c.args.wish.now.run.cycles c.in_ok-commands.commands _ _ _ _ c.in_ok-vip.ensures c.in-WriteFault.ensures.answer in
-    breaks _ _ run _ _ _ c.in_ok-vip.ensures fault
+    breaks _ run _ _ _ c.in_ok-vip.ensures fault

@@ -6,14 +6,14 @@ use Rattle.vip_verbs.proofs.verb.demo.Goals as goal
 pub returns-in_err-vip : goal.returns-in_err-vip
 returns-in_err-vip g c =
     let run = demo_run (asked_demo c.args.wish.now) _ (c.as_slice.ensures.value ∙ c.in_ok-game.ensures.game) in
-    start-fails _ _ run _ _ _ c.from_residual-in_err-vip.ensures.1 c.in_err-vip.ensures
+    start-fails _ run _ _ _ c.from_residual-in_err-vip.ensures.1 c.in_err-vip.ensures
 
 pub returns-in_err-end : goal.returns-in_err-end
 returns-in_err-end g c =
     let run = demo_run (asked_demo c.args.wish.now) _ (c.as_slice.ensures.value ∙ c.in_ok-game.ensures.game) in
-    run-fails _ _ run _ _ _ _ c.in_ok-vip.ensures c.from_residual-in_err-end.ensures.1 c.in_err-end.ensures
+    run-fails _ run _ _ _ _ c.in_ok-vip.ensures c.from_residual-in_err-end.ensures.1 c.in_err-end.ensures
 
 pub returns : goal.returns
 returns g c =
     let run = demo_run (asked_demo c.args.wish.now) _ (c.as_slice.ensures.value ∙ c.in_ok-game.ensures.game) in
-    run-ends _ _ run _ _ _ _ c.in_ok-vip.ensures c.in_ok-end.ensures.ending c.in_ok-end.ensures.puts
+    run-ends _ run _ _ _ _ c.in_ok-vip.ensures c.in_ok-end.ensures.ending c.in_ok-end.ensures.puts

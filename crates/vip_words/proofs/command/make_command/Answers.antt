@@ -1,7 +1,7 @@
 use Rattle.std.proofs.Common.{◌∙◌, ap, ap₂, refl, arith}
 use Rattle.clap.specs.Words.{with_rule}
 use Rattle.vip_words.specs.Command.{command_app}
-use Rattle.vip_words.proofs.Commands.{next_place, all_places}
+use Rattle.vip_words.proofs.Arguments.{next_place, all_places}
 use Rattle.vip_words.proofs.command.make_command.Goals as goal
 
 pub loop-place-preserved : goal.loop-place-preserved

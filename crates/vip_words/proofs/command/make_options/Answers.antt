@@ -1,6 +1,6 @@
 use Rattle.std.proofs.Common.{◌∙◌, ap₂, refl}
 use Rattle.clap.specs.Words.{with_rule}
-use Rattle.vip_words.proofs.Commands.{next_flag}
+use Rattle.vip_words.proofs.Arguments.{next_flag}
 use Rattle.vip_words.proofs.command.make_options.Goals as goal
 
 pub loop-flag-preserved : goal.loop-flag-preserved

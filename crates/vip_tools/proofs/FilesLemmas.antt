@@ -1,0 +1,108 @@
+-- Files read one after another.
+use Rattle.std.proofs.Common.{◌≡◌, ℕ, zero, suc, ◌+◌, ◌<◌, ◌≤◌, List, [], ◌∷◌, ◌++◌, length, map, take, drop, get_or, refl, ap, subst, add-one, arith, Option, Some, None, IfSome, IsSomeAnd, Err, Vec, Bool, true, false, slice_index, take_all, sym, ◌∙◌}
+use Rattle.std.specs.Prelude.{if◌then◌else◌}
+use Rattle.std.proofs.lemmas.Bool.{ltb-false}
+use Rattle.std.specs.FinMap.{get}
+use Rattle.vip_outside.specs.Files.{FileMap, FilesMeaning, IsStartOf, ReadsStart}
+use Rattle.vip_outside.specs.declared.files.Loaded.{Loaded}
+use Rattle.vip_tools.specs.declared.files.Wanted.{Wanted}
+use Rattle.vip_report.specs.declared.refusal.Refusal.{Refusal}
+use Rattle.vip_report.specs.declared.refusal.Refusal.TheVariants.{Usage, Unread, TooLarge, Script, Command, Source, Rom, Write, NoMemory}
+use Rattle.vip_tools.specs.Files.{Needed, Has, HasAll, FitAll, ComesTo, FileAnswers, FilesAnswer, seen_wanted}
+
+has-suc :
+    (old : FilesMeaning) (ws : List Wanted) (k : ℕ) (d : Wanted) (cs : List (List ℕ)) (c : List ℕ) → k < length ws
+    → HasAll old (map seen_wanted (take k ws)) cs → Has old (seen_wanted (get_or ws k d)) c
+    → HasAll old (map seen_wanted (take (suc k) ws)) (cs ++ c ∷ [])
+has-suc old [] k d cs c low had here = absurd (omega (arith, low))
+has-suc old (w ∷ ws) zero d [] c low had here = (here, tt)
+has-suc old (w ∷ ws) zero d (y ∷ cs) c low had here = absurd had
+has-suc old (w ∷ ws) (suc k) d [] c low had here = absurd had
+has-suc old (w ∷ ws) (suc k) d (y ∷ cs) c low had here = (had.0, has-suc old ws k d cs c (omega (arith, low)) had.1 here)
+
+-- one more file was read
+pub has-more :
+    (old here : FilesMeaning) (ws : List Wanted) (k : ℕ) (d : Wanted) (cs : List (List ℕ)) (c : List ℕ) → k < length ws
+    → HasAll old (map seen_wanted (take k ws)) cs → here ≡ old → Has here (seen_wanted (get_or ws k d)) c
+    → HasAll old (map seen_wanted (take (k + 1) ws)) (cs ++ c ∷ [])
+has-more old here ws k d cs c low had same read =
+    rw add-one (has-suc old ws k d cs c low had (subst (λ h. Has h (seen_wanted (get_or ws k d)) c) same read))
+
+-- the files before one, that one, and those after it
+splits :
+    (ws : List Wanted) (k : ℕ) (d : Wanted) → k < length ws
+    → map seen_wanted ws ≡ map seen_wanted (take k ws) ++ seen_wanted (get_or ws k d) ∷ map seen_wanted (drop (suc k) ws)
+splits [] k d low = absurd (omega (arith, low))
+splits (w ∷ ws) zero d low = refl
+splits (w ∷ ws) (suc k) d low = ap (λ rest. seen_wanted w ∷ rest) (splits ws k d (omega (arith, low)))
+
+comes_to :
+    (old : FilesMeaning) (ws : List Wanted) (k : ℕ) (d : Wanted) (cs : List (List ℕ)) (Here : Needed → Type 0) → k < length ws
+    → HasAll old (map seen_wanted (take k ws)) cs → Here (seen_wanted (get_or ws k d)) → ComesTo old (map seen_wanted ws) Here
+comes_to old ws k d cs Here low had here = record {
+  before = map seen_wanted (take k ws);
+  this = seen_wanted (get_or ws k d);
+  after = map seen_wanted (drop (suc k) ws);
+  place = splits ws k d low;
+  contents = cs;
+  read = had;
+  here = here;
+}
+
+module _ (Z : Type 0) where
+  refuses :
+      (old new : FilesMeaning) (ws : List Wanted) (k : ℕ) (d : Wanted) (cs : List (List ℕ)) (refusal : Refusal) → k < length ws
+      → HasAll old (map seen_wanted (take k ws)) cs → FileAnswers {Z = Z} old new (seen_wanted (get_or ws k d)) (Err refusal)
+      → FilesAnswer {Z = Z} old new (map seen_wanted ws) (Err refusal)
+  refuses old new ws k d cs Usage low had here = absurd here
+  refuses old new ws k d cs (Unread name) low had here = comes_to old ws k d cs _ low had here
+  refuses old new ws k d cs (TooLarge kind) low had here = comes_to old ws k d cs _ low had here
+  refuses old new ws k d cs (Script line cause) low had here = absurd here
+  refuses old new ws k d cs (Command line cause) low had here = absurd here
+  refuses old new ws k d cs (Source line cause) low had here = absurd here
+  refuses old new ws k d cs (Rom fault) low had here = absurd here
+  refuses old new ws k d cs Write low had here = absurd here
+  refuses old new ws k d cs NoMemory low had here = tt
+
+  -- a file was refused, behind others
+  pub refused :
+      (old here new : FilesMeaning) (ws : List Wanted) (k : ℕ) (d : Wanted) (cs : List (List ℕ)) (refusal : Refusal) → here ≡ old → k < length ws
+      → HasAll old (map seen_wanted (take k ws)) cs → FileAnswers {Z = Z} here new (seen_wanted (get_or ws k d)) (Err refusal)
+      → FilesAnswer {Z = Z} old new (map seen_wanted ws) (Err refusal)
+  refused old here new ws k d cs refusal same low had answers =
+      refuses old new ws k d cs refusal low had (subst (λ h. FileAnswers {Z = Z} h new (seen_wanted (get_or ws k d)) (Err refusal)) same answers)
+
+module _ {Z : Type 0} where
+  -- one content more
+  pub pushed :
+      (old new other : List (Vec ℕ Z)) (x : Vec ℕ Z) (ok : Bool) → ok ≡ true → new ≡ (if ok then old ++ x ∷ [] else other)
+      → map (λ (bytes : Vec ℕ Z). bytes.items) new ≡ map (λ (bytes : Vec ℕ Z). bytes.items) old ++ x.items ∷ []
+  pushed old new other x ok is items = rw (items, is) (map-snoc old)
+    where
+      map-snoc : (xs : List (Vec ℕ Z)) → map (λ (bytes : Vec ℕ Z). bytes.items) (xs ++ x ∷ []) ≡ map (λ (bytes : Vec ℕ Z). bytes.items) xs ++ x.items ∷ []
+      map-snoc [] = refl
+      map-snoc (y ∷ xs) = ap (λ rest. y.items ∷ rest) (map-snoc xs)
+
+-- contents that were read fit
+pub has-fit : (old : FilesMeaning) (ns : List Needed) (cs : List (List ℕ)) → HasAll old ns cs → FitAll ns cs
+has-fit old [] [] h = tt
+has-fit old [] (c ∷ cs) h = absurd h
+has-fit old (n ∷ ns) [] h = absurd h
+has-fit old (n ∷ ns) (c ∷ cs) h = (h.0.fits, has-fit old ns cs h.1)
+
+-- a read that gave a whole file
+module _ (old new : FilesMeaning) (n : Needed) (loaded : Loaded) (read : ReadsStart n.name n.most old new loaded) (whole : loaded.more ≡ false) where
+  is_file : (found : Option (List ℕ)) → IsSomeAnd found (λ file. IsStartOf file n.most loaded) → found ≡ Some loaded.bytes.items
+  is_file None start = absurd start
+  is_file (Some file) start =
+      let fits : length file ≤ n.most = ltb-false n.most (length file) (sym start.more ∙ whole) in
+      ap Some (sym (start.bytes ∙ take_all n.most file fits))
+
+  in_map :
+      (told : Option FileMap) → IfSome told (λ files. IsSomeAnd (get files n.name) (λ file. IsStartOf file n.most loaded))
+      → IfSome told (λ files. get files n.name ≡ Some loaded.bytes.items)
+  in_map None read = tt
+  in_map (Some files) read = is_file (get files n.name) read
+
+  pub has-whole : ((i : ℕ) → slice_index loaded.bytes.items i < 256) → Has old n loaded.bytes.items
+  has-whole bytes = record { found = in_map old.told read.file; fits = read.bound; bytes = bytes }

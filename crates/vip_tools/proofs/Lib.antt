@@ -1,0 +1,3 @@
+pub mod DemoLemmas
+pub mod FilesLemmas
+pub mod WorkLemmas

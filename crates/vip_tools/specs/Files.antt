@@ -1,0 +1,118 @@
+-- The files that a command reads, in their order, and what is known of them once they are read.
+use Rattle.std.specs.Prelude.{◌≡◌, ◌≤◌, ◌<◌, ◌-◌, ◌⊎◌, ℕ, List, [], ◌∷◌, ◌++◌, map, length, Option, Some, None, Result, Ok, Err, Vec, slice_index, IfSome, IsSomeAnd}
+use Rattle.std.specs.FinMap.{get}
+use Rattle.vip_byte.specs.declared.line.TheConstants.{MOST_TEXT}
+use Rattle.vip_outside.specs.Files.{FilesMeaning, ReadFails, LacksName}
+use Rattle.chip8_lang.specs.State.{memory_size}
+use Rattle.chip8_lang.specs.declared.view.Edition.{Edition}
+use Rattle.chip8_lang.specs.declared.view.Edition.TheVariants.{Usual, Tall}
+use Rattle.vip_words.specs.Asked.{Asked, AskedRun, trace, play, debug, demo, asm, list, dis, bounds}
+use Rattle.vip_tools.specs.declared.files.Wanted.{Wanted}
+use Rattle.vip_report.specs.declared.refusal.Kind.{Kind}
+use Rattle.vip_report.specs.declared.refusal.Kind.TheVariants.{Game, TallGame, Script, Commands, Source}
+use Rattle.vip_report.specs.declared.refusal.Refusal.{Refusal}
+use Rattle.vip_report.specs.declared.refusal.Refusal.TheVariants.{Unread, TooLarge, NoMemory}
+
+-- a file: its name, the most bytes that it may have, and what it is
+pub record Needed : Type 0 where
+  pub name : List ℕ
+  pub most : ℕ
+  pub kind : Kind
+
+-- the most bytes of a key script, of the debugger's commands or of a source
+abbrev pub most_text : ℕ
+most_text = MOST_TEXT
+
+-- the addresses of the machine, 0000 to FFFF
+abbrev pub addresses : ℕ
+addresses = 65_536
+
+abbrev pub file : Kind → ℕ → List ℕ → Needed
+file kind most name = record { name = name; most = most; kind = kind }
+
+-- a game, which has to fit into its edition's game memory
+abbrev pub game_kind : Edition → Kind
+game_kind Usual = Game
+game_kind Tall = TallGame
+
+abbrev pub game_file : Edition → List ℕ → Needed
+game_file e name = file (game_kind e) (memory_size e) name
+
+-- the key script, where one is named
+abbrev pub script_file : Option (List ℕ) → List Needed
+script_file None = []
+script_file (Some name) = file Script most_text name ∷ []
+
+-- the files of a run
+abbrev pub run_files : AskedRun → List Needed
+run_files a = game_file a.edition a.game ∷ script_file a.keys
+
+-- the files of a command, in the order in which they are read; bytes to disassemble have to end by address FFFF
+abbrev pub needed : Asked → List Needed
+needed (trace a) = run_files a.run
+needed (play a) = run_files a
+needed (debug a) = game_file a.run.edition a.run.game ∷ file Commands most_text a.commands ∷ script_file a.run.keys
+needed (demo a) = []
+needed (asm name) = file Source most_text name ∷ []
+needed (list name) = file Source most_text name ∷ []
+needed (dis a) = file Source (addresses - a.address) a.file ∷ []
+needed bounds = []
+
+abbrev pub seen_wanted : Wanted → Needed
+seen_wanted w = record { name = w.name.now; most = w.most; kind = w.kind }
+
+-- ---- what is known of a file that was read whole: its bytes, and where the map is told, that they are those there
+
+pub record Has (old : FilesMeaning) (n : Needed) (content : List ℕ) : Type 0 where
+  pub found : IfSome old.told (λ files. get files n.name ≡ Some content)
+  pub fits : length content ≤ n.most
+  pub bytes : (i : ℕ) → slice_index content i < 256
+
+abbrev pub HasAll : FilesMeaning → List Needed → List (List ℕ) → Type 0
+HasAll old [] [] = Unit {0}
+HasAll old (n ∷ ns) (content ∷ contents) = Has old n content × HasAll old ns contents
+HasAll old _ _ = ⊥
+
+-- contents of which each has at most so many bytes as its file may have
+abbrev pub FitAll : List Needed → List (List ℕ) → Type 0
+FitAll [] [] = Unit {0}
+FitAll (n ∷ ns) (content ∷ contents) = (length content ≤ n.most) × FitAll ns contents
+FitAll _ _ = ⊥
+
+-- it has more bytes than it may have
+abbrev pub IsLarger : FilesMeaning → Needed → Type 0
+IsLarger old n = IfSome old.told (λ files. IsSomeAnd (get files n.name) (λ content. n.most < length content))
+
+-- it could not be read: a fault at its name, or the map that is told lacks it
+abbrev pub IsUnread : FilesMeaning → FilesMeaning → Needed → Type 0
+IsUnread old new n = ReadFails n.name old new ⊎ LacksName n.name old new
+
+-- those before one of the files were read, and of that one this holds
+pub record ComesTo (old : FilesMeaning) (needed : List Needed) (Here : Needed → Type 0) : Type 0 where
+  pub before : List Needed
+  pub this : Needed
+  pub after : List Needed
+  pub place : needed ≡ before ++ this ∷ after
+  pub contents : List (List ℕ)
+  pub read : HasAll old before contents
+  pub here : Here this
+
+module _ {Z : Type 0} where
+  abbrev pub contents_of : List (Vec ℕ Z) → List (List ℕ)
+  contents_of contents = map (λ bytes. bytes.items) contents
+
+  -- what is answered of one file
+  abbrev pub FileAnswers : FilesMeaning → FilesMeaning → Needed → Result (Vec ℕ Z) Refusal → Type 0
+  FileAnswers old new n (Ok bytes) = Has old n bytes.items × (new ≡ old)
+  FileAnswers old new n (Err (Unread name)) = (name.now ≡ n.name) × IsUnread old new n
+  FileAnswers old new n (Err (TooLarge kind)) = (kind ≡ n.kind) × IsLarger old n
+  FileAnswers old new n (Err NoMemory) = new ≡ old
+  FileAnswers old new n (Err _) = ⊥
+
+  -- what is answered of all
+  abbrev pub FilesAnswer : FilesMeaning → FilesMeaning → List Needed → Result (Vec (Vec ℕ Z) Z) Refusal → Type 0
+  FilesAnswer old new needed (Ok contents) = HasAll old needed (contents_of contents.items)
+  FilesAnswer old new needed (Err (Unread name)) = ComesTo old needed (λ n. (name.now ≡ n.name) × IsUnread old new n)
+  FilesAnswer old new needed (Err (TooLarge kind)) = ComesTo old needed (λ n. (kind ≡ n.kind) × IsLarger old n)
+  FilesAnswer old new needed (Err NoMemory) = Unit {0}
+  FilesAnswer old new needed (Err _) = ⊥

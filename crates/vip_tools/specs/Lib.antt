@@ -1,0 +1,6 @@
+pub mod Files
+pub mod Contents
+pub mod Demo
+pub mod Outcome
+pub mod Opening
+pub mod Work

@@ -1,0 +1,51 @@
+-- What a command comes to, and what those come to that run no board, by the contents of their files.
+use Rattle.std.specs.Prelude.{◌≡◌, ℕ, List, [], ◌∷◌, Result, Ok}
+use Rattle.machine.specs.Keys.{Event as KeyEvent}
+use Rattle.asm_core.specs.Made.{Made, IsAssembly}
+use Rattle.asm_core.specs.Sources.{source_lines, HasFirstFault}
+use Rattle.asm_core.specs.declared.fault.AsmCause.{AsmCause}
+use Rattle.asm_listing.specs.Dump.{dump_text}
+use Rattle.asm_listing.specs.Listing.{IsListing}
+use Rattle.asm_listing.specs.Disassembly.{disassembly}
+use Rattle.vip_text.specs.Bounds.{bounds_table}
+use Rattle.vip_keypad.specs.KeyScript.{script_of}
+use Rattle.vip_keypad.specs.declared.script.ScriptFault.{ScriptFault}
+use Rattle.vip_report.specs.Report.{bad_source}
+use Rattle.vip_report.specs.declared.status.Status.{Status}
+use Rattle.vip_report.specs.declared.status.Status.TheVariants.{Done, BadSource}
+
+-- Refused, with a status and its report; or output, piece by piece, with the status and the report of its end.
+pub data Outcome : Type 0 where
+  Refused : (status : Status) (report : List ℕ) → Outcome
+  Shown : (pieces : List (List ℕ)) (status : Status) (report : List ℕ) → Outcome
+
+-- the events of a script file, where there is one, or its first fault
+abbrev pub script_in : List (List ℕ) → Result (List KeyEvent) ScriptFault
+script_in [] = Ok []
+script_in (text ∷ _) = script_of text
+
+-- one text, all of the output
+abbrev pub Writes : List ℕ → Outcome → Type 0
+Writes text o = o ≡ Shown (text ∷ []) Done []
+
+-- ---- a source
+
+pub data SourceComes (source : List ℕ) (IsText : Made → List ℕ → Type 0) : Outcome → Type 0 where
+  FaultySource : (line : ℕ) (cause : AsmCause) → HasFirstFault (source_lines source) line cause → SourceComes source IsText (Refused BadSource (bad_source line cause))
+  Assembles : (made : Made) (text : List ℕ) → IsAssembly (source_lines source) made → IsText made text → SourceComes source IsText (Shown (text ∷ []) Done [])
+
+abbrev pub AsmComes : List ℕ → Outcome → Type 0
+AsmComes source = SourceComes source (λ made text. text ≡ dump_text made)
+
+abbrev pub ListComes : List ℕ → Outcome → Type 0
+ListComes source = SourceComes source (λ made text. IsListing (source_lines source) text)
+
+-- ---- bytes, whose first one lies at this address
+
+abbrev pub DisComes : ℕ → List ℕ → Outcome → Type 0
+DisComes address bytes = Writes (disassembly address bytes)
+
+-- ---- nothing
+
+abbrev pub BoundsComes : Outcome → Type 0
+BoundsComes = Writes bounds_table

@@ -1,0 +1,170 @@
+//! The files that a verb reads.
+
+ghost use Rattle.std.specs.Prelude.{◌≡◌, ◌<◌, ◌∷◌, [], ℕ, map, slice_index};
+ghost use Rattle.chip8_lang.specs.State.{memory_size};
+ghost use Rattle.vip_words.specs.Asked.Asked.{debug};
+ghost use Rattle.vip_words.specs.Request.{asked_debug, asked_of, asked_run};
+ghost use Rattle.vip_report.specs.declared.refusal.Kind.TheVariants.{Source};
+ghost use Rattle.vip_tools.specs.Files.{needed, run_files, file, game_kind, game_file, seen_wanted, FileAnswers, FilesAnswer};
+
+use arrayvec::ArrayVec;
+use chip8_lang::Edition;
+use std::alloc::Global;
+use vip_byte::MOST_TEXT;
+use vip_outside::{Files, ReadFail};
+use vip_report::{Kind, Refusal};
+use vip_words::{DebugRequest, Request, RunRequest};
+
+/// The addresses of the machine, 0000 to FFFF.
+const ADDRESSES: usize = 65_536;
+
+/// The bytes of game memory in the usual edition.
+const USUAL_GAME: usize = 3_232;
+
+/// The bytes of game memory in the tall edition.
+const TALL_GAME: usize = 2_976;
+
+/// A file that a verb reads, with the most bytes that it may have.
+#[derive(Clone, Copy, Default)]
+pub struct Wanted<'a> {
+    pub name: &'a str,
+    pub most: usize,
+    pub kind: Kind,
+}
+
+/// What the game of an edition is, where it is refused.
+pub fn game_kind(edition: Edition) -> Kind
+    ensures { result ≡ game_kind edition }
+{
+    match edition {
+        Edition::Usual => Kind::Game,
+        Edition::Tall => Kind::TallGame,
+    }
+}
+
+/// The most bytes of a game, those of game memory.
+fn most_bytes(edition: Edition) -> usize
+    ensures { result ≡ memory_size edition }
+{
+    match edition {
+        Edition::Usual => USUAL_GAME,
+        Edition::Tall => TALL_GAME,
+    }
+}
+
+/// A game, which has to fit into its edition's game memory.
+fn game_file<'a>(edition: Edition, name: &'a str) -> Wanted<'a>
+    ensures { seen_wanted result ≡ game_file edition name.now }
+{
+    Wanted {
+        name,
+        most: most_bytes(edition),
+        kind: game_kind(edition),
+    }
+}
+
+/// The files of a run: the game, and the key script where one is named.
+fn run_files<'a>(run: &RunRequest<'a>) -> ArrayVec<Wanted<'a>, 3>
+    ensures { map seen_wanted result.items ≡ run_files (asked_run run.now) }
+{
+    let mut wanted = ArrayVec::new();
+    wanted.push(game_file(run.edition, run.game));
+    if let Some(name) = run.keys {
+        wanted.push(Wanted {
+            name,
+            most: MOST_TEXT,
+            kind: Kind::Script,
+        });
+    }
+    wanted
+}
+
+/// The files of a run under the debugger: the game, the commands, and the key script where one is named.
+fn debug_files<'a>(wish: &DebugRequest<'a>) -> ArrayVec<Wanted<'a>, 3>
+    ensures { map seen_wanted result.items ≡ needed (debug (asked_debug wish.now)) }
+{
+    let mut wanted = run_files(&wish.run);
+    wanted.insert(
+        1,
+        Wanted {
+            name: wish.commands,
+            most: MOST_TEXT,
+            kind: Kind::Commands,
+        },
+    );
+    wanted
+}
+
+/// A source or bytes, alone.
+fn source_file<'a>(name: &'a str, most: usize) -> ArrayVec<Wanted<'a>, 3>
+    ensures { map seen_wanted result.items ≡ file Source most name.now ∷ [] }
+{
+    let mut wanted = ArrayVec::new();
+    wanted.push(Wanted {
+        name,
+        most,
+        kind: Kind::Source,
+    });
+    wanted
+}
+
+/// The files of a request, in the order in which they are read.
+pub fn wanted_files<'a>(request: &Request<'a>) -> ArrayVec<Wanted<'a>, 3>
+    ensures { map seen_wanted result.items ≡ needed (asked_of request.now) }
+{
+    match request {
+        Request::Trace(wish) => run_files(&wish.run),
+        Request::Play(run) => run_files(run),
+        Request::Debug(wish) => debug_files(wish),
+        Request::Asm(wish) => source_file(wish.file, MOST_TEXT),
+        Request::List(wish) => source_file(wish.file, MOST_TEXT),
+        Request::Dis(wish) => source_file(wish.file, ADDRESSES - usize::from(wish.address)),
+        Request::Demo(_) | Request::Bounds => ArrayVec::new(),
+    }
+}
+
+/// What its type says of a slice: its numbers are bytes. That is known of a parameter, not of a `Vec` that a read gave.
+fn are_bytes(bytes: &[u8])
+    ensures { (i : ℕ) → slice_index bytes.now i < 256 }
+{}
+
+/// Reads one file whole.
+fn open_file<'a, F: Files>(
+    alloc: Global,
+    files: &mut F,
+    wanted: &Wanted<'a>,
+) -> Result<Vec<u8>, Refusal<'a>>
+    ensures { FileAnswers (F.meaning files.old) (F.meaning files.new) (seen_wanted wanted.now) result }
+{
+    match files.read(alloc, wanted.name, wanted.most) {
+        Ok(loaded) if loaded.more => Err(Refusal::TooLarge(wanted.kind)),
+        Ok(loaded) => {
+            are_bytes(loaded.bytes.as_slice());
+            Ok(loaded.bytes)
+        }
+        Err(ReadFail::NoMemory) => Err(Refusal::NoMemory),
+        Err(_) => Err(Refusal::Unread(wanted.name)),
+    }
+}
+
+/// Reads files whole, in their order, up to the first that is refused.
+pub fn open_files<'a, F: Files>(
+    alloc: Global,
+    files: &mut F,
+    wanted: &[Wanted<'a>],
+) -> Result<Vec<Vec<u8>>, Refusal<'a>>
+    ensures { FilesAnswer (F.meaning files.old) (F.meaning files.new) (map seen_wanted wanted.now) result }
+{
+    let mut contents = Vec::new(alloc);
+    for file in wanted {
+        match open_file(alloc, files, file) {
+            Ok(content) => {
+                if contents.push(content).is_err() {
+                    return Err(Refusal::NoMemory);
+                }
+            }
+            Err(refusal) => return Err(refusal),
+        }
+    }
+    Ok(contents)
+}

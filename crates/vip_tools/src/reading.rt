@@ -1,0 +1,38 @@
+//! The texts that a run reads before it begins.
+
+ghost use Rattle.std.specs.Prelude.{◌≤◌, length};
+ghost use Rattle.vip_tools.specs.Contents.{script_list};
+ghost use Rattle.vip_tools.specs.Files.{most_text};
+ghost use Rattle.vip_tools.specs.Opening.{SmallScripts, KeysAnswer, DebugCommandsAnswer};
+
+use std::alloc::Global;
+use vip_keypad::{Script, ScriptFault, read_script};
+use vip_report::Refusal;
+use vip_words::{CommandFault, Commands, read_commands};
+
+/// The key script of a run, which is empty where no file is given.
+pub fn read_keys<'a>(alloc: Global, script: Option<&[u8]>) -> Result<Script, Refusal<'a>>
+    requires { SmallScripts (script_list script) }
+    ensures { KeysAnswer (script_list script.entry) result }
+{
+    let Some(text) = script else {
+        return Ok(Script::empty(alloc));
+    };
+    match read_script(alloc, text) {
+        Ok(script) => Ok(script),
+        Err(ScriptFault::Fault { line, cause }) => Err(Refusal::Script { line, cause }),
+        Err(ScriptFault::NoMemory) => Err(Refusal::NoMemory),
+    }
+}
+
+/// The commands of the debugger, for a run up to a limit.
+pub fn read_debugging<'a>(alloc: Global, text: &[u8], limit: u64) -> Result<Commands, Refusal<'a>>
+    requires { length text.now ≤ most_text }
+    ensures { DebugCommandsAnswer limit text.now result }
+{
+    match read_commands(alloc, text, limit) {
+        Ok(commands) => Ok(commands),
+        Err(CommandFault::Fault { line, cause }) => Err(Refusal::Command { line, cause }),
+        Err(CommandFault::NoMemory) => Err(Refusal::NoMemory),
+    }
+}
