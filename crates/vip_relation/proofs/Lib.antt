@@ -2,7 +2,7 @@ pub mod Along
 pub mod Past
 pub mod Steps
 pub mod Meetings
-mod Reading
+pub mod Reading
 mod Advances
 mod Closing
 pub mod Waits

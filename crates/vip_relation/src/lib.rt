@@ -10,9 +10,13 @@
 
 mod places;
 mod point;
+mod seen;
 mod start;
 mod view;
 mod vip;
 
+pub use places::Places;
+pub use point::{Point, point_at};
+pub use seen::{stop_of, view_of};
 pub use start::{StartFault, most_bytes};
 pub use vip::{Met, Vip};

@@ -1,0 +1,7 @@
+pub mod File
+pub mod Written
+pub mod Points
+pub mod State
+pub mod Meets
+pub mod Kept
+pub mod Laws
