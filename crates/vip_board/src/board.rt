@@ -7,6 +7,7 @@ ghost use Rattle.machine.specs.Signals.{int_at, dma_at};
 ghost use Rattle.vip_board.specs.Shown.{Shows, ShowsSince, CarriesOn};
 ghost use Rattle.vip_board.specs.Seen.{byte_in};
 
+use crate::port::{Joined, Wire};
 use crate::wires::Wires;
 use std::alloc::{AllocError, Global};
 use std::marker::Model;
@@ -347,5 +348,62 @@ impl Board {
             });
         }
         count
+    }
+}
+
+impl Board {
+    ghost use Rattle.vip_board.specs.Moves.{name_of};
+    ghost use Rattle.vip_board.specs.Linked.{incoming_after, outgoing_after};
+    ghost use Rattle.vip_board.specs.Joins.{linked, linked_moved, IsLast, last_cycle, last_cycled};
+
+    /// Makes the last machine cycle of an instruction, with two wires at port 3.
+    fn end_linked(&mut self, incoming: &mut Wire, outgoing: &mut Wire)
+        requires fits { self.old.machine.cycle + 1 < 2 ^ 64 }
+        requires last { IsLast self.old.phase }
+        ensures board { self.new ≡ last_cycled self.old incoming.old outgoing.old }
+        ensures incoming { incoming.new ≡ incoming_after (last_cycle self.old incoming.old outgoing.old).effect.port incoming.old }
+        ensures outgoing { outgoing.new ≡ outgoing_after (last_cycle self.old incoming.old outgoing.old).effect.port outgoing.old }
+    {
+        self.wires.seek_if(self.cpu.tests_ef3());
+        let now = self.wires.video.now();
+        let mut joined = Joined {
+            wires: &mut self.wires,
+            incoming: incoming.full(),
+            outgoing: outgoing.full(),
+        };
+        self.cpu.cycle(&mut joined, false, false);
+        incoming.set(joined.incoming);
+        outgoing.set(joined.outgoing);
+        self.wires.video.end_cycle(now, None);
+    }
+
+    /// Makes the next move with two wires at port 3, and names it. The board is at a boundary, before and after.
+    ///
+    /// EF2 is 1 where the incoming wire is full at the start of the move, and EF4 where the outgoing one is. INP 3 takes the byte of the
+    /// incoming wire, which is then empty, and 00 where it was empty. OUT 3 puts its byte on the outgoing wire, and loses it where that one
+    /// is full.
+    pub fn linked(&mut self, incoming: &mut Wire, outgoing: &mut Wire) -> Move
+        requires boundary { self.old.phase ≡ Phase.Boundary }
+        requires fits { self.old.machine.cycle + 3 < 2 ^ 64 }
+        ensures moved { self.new ≡ linked_moved self.old incoming.old outgoing.old }
+        ensures incoming { incoming.new ≡ (linked self.old incoming.old outgoing.old).incoming }
+        ensures outgoing { outgoing.new ≡ (linked self.old incoming.old outgoing.old).outgoing }
+        ensures named { result ≡ name_of self.old.machine }
+    {
+        let length = self.next_length();
+        let address = self.counter();
+        match self.cycle() {
+            Did::Dma(_) => Move::Dma,
+            Did::Interrupt => Move::Interrupt,
+            Did::Idle => Move::Idle,
+            Did::Fetch => {
+                if length == 3 {
+                    self.cycle();
+                }
+                self.end_linked(incoming, outgoing);
+                Move::Instruction(address)
+            }
+            Did::Execute => unreachable!(),
+        }
     }
 }

@@ -1,0 +1,19 @@
+use Rattle.std.proofs.Common.{◌≡◌, ◌∙◌, sym, subst, ap}
+use Rattle.vip_board.specs.Seen.{Seen}
+use Rattle.vip_board.specs.Wired.{seen_of}
+use Rattle.vip_board.specs.Joins.{last_cycled}
+use Rattle.vip_board.specs.declared.wires.Wires.{Wires}
+use Rattle.vip_board.proofs.Joins.{made-last, seen-last}
+use Rattle.vip_board.proofs.board.Board.end_linked.Goals as goal
+
+pub returns-clause-board : goal.returns-clause-board
+returns-clause-board c =
+    let cpu = c.self.inside.cpu in
+    let On : Wires → Type 0 = λ w. w.video.cycle_on ≡ w.video.on in
+    let m =
+    made-last c.requires.last.0 cpu _ c.cycle.new.bus c.cycle.new.self c.cycle.result
+    (ap (λ (s : Seen). s.phase) c.self.view_is ∙ c.requires.last.1) c.cycle.ensures in
+    seen-last cpu c.seek_if.new.self c.full.result c.full-2.result c.cycle.new.self c.cycle.new.bus.wires.now c.cycle.new.bus.incoming c.cycle.new.bus.outgoing c.end_cycle.new.self
+    (subst On (sym c.seek_if.ensures) c.self.invariant) m c.end_cycle.ensures
+    ∙ (λ t. last_cycled (seen_of cpu (c.seek_if.ensures t)) (c.full.ensures t) (c.full-2.ensures t))
+    ∙ ap (λ s. last_cycled s c.args.incoming.now c.args.outgoing.now) c.self.view_is

@@ -1,0 +1,6 @@
+pub mod Pair
+pub mod Roms
+pub mod Laws
+pub mod Checked
+pub mod Links
+pub mod Kept

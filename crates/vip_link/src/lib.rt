@@ -1,0 +1,35 @@
+//! Two boards that are joined by port 3: A sends a message by the ROM SENDER, B stores it by the ROM RECEIVER, and whoever holds the link says
+//! which of them moves next.
+//!
+//! It stands on `vip_board`, whose `linked` makes one linked move, on `rom_moves` for how machine code reads ROM and RAM, and on `rom_check`,
+//! which compares the ROMs with their texts. The layer above may rely on this: `Link::step` makes exactly the linked move of its side, and after
+//! every step what was sent is a prefix of the message, what was received is a prefix of that and at most one byte shorter, and lies in B's RAM
+//! from 0200 on; `laws::every_schedule` says the same of the definitions, and that enough pairs of moves bring the whole message.
+//!
+//! ```text
+//!     ┌───────────┐  OUT 3        to B        INP 3  ┌─────────────┐
+//!     │  board A  │ ───────────────────────────────▶ │   board B   │
+//!     │  SENDER   │  EF4 = full         EF2 = full   │   RECEIVER  │
+//!     │           │ ◀─────────────────────────────── │             │
+//!     └───────────┘   to A: nothing is ever on it    └─────────────┘
+//! ```
+//!
+//! The instructions are those of RCA's data sheet of the CDP1802; port 3 as a link is this project's profile.
+//!
+//! It is also the smallest example of a proof of machine code: `proofs/Sending.antt` and `proofs/Receiving.antt` say of each instruction what is
+//! known before it, and compute what its move makes of that; `proofs/Both.antt` puts the two machines together, and `proofs/Law.antt` has the law.
+#![tactic(auto)]
+
+mod check;
+mod fault;
+mod image;
+pub mod laws;
+mod link;
+mod receiver;
+mod sender;
+mod side;
+
+pub use check::check_link;
+pub use fault::LinkFault;
+pub use link::Link;
+pub use side::Side;

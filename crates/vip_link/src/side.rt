@@ -1,0 +1,8 @@
+//! The two boards of a link.
+
+/// One of the two boards. A schedule is a list of sides.
+#[derive(Clone, Copy, Debug, PartialEq, Eq)]
+pub enum Side {
+    A,
+    B,
+}
