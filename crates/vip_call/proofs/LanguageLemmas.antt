@@ -23,12 +23,12 @@ use Rattle.vip_words.specs.declared.commands.Command.{Command}
 use Rattle.vip_words.specs.declared.commands.CommandFault.{CommandFault}
 use Rattle.vip_words.specs.declared.commands.CommandFault.TheVariants.{Fault, NoMemory}
 use Rattle.vip_outside.specs.Files.{FilesMeaning}
-use Rattle.vip_words.specs.Asked.{Asked, trace, play, debug, demo, asm, list, dis, bounds}
+use Rattle.vip_words.specs.Asked.{Asked, trace, play, debug, demo, asm, list, dis, bounds, within, safe, certify}
 use Rattle.vip_tools.specs.Demo.{demo_game}
 use Rattle.vip_tools.specs.Files.{needed, HasAll}
 use Rattle.vip_call.specs.Language.{named, IsChip8, RunIsChip8, DebugsChip8, ShowsChip8}
 use Rattle.vip_tools.specs.Outcome.{Outcome}
-use Rattle.vip_tools.specs.Outcome.Outcome.{Refused, Shown}
+use Rattle.vip_tools.specs.Outcome.Outcome.{Refused, Shown, GivenUp}
 use Rattle.vip_verbs.specs.Outcome.{Comes, RunComes, DebugComes, run_of, events_in, run_ending, debug_ending}
 use Rattle.vip_verbs.specs.Outcome.RunComes.{FaultyScript, FaultyRom, Runs}
 use Rattle.vip_call.specs.Top.{Call, SpeaksChip8}
@@ -79,11 +79,13 @@ module _ (law : EveryRun) where
   -- a run that comes to output
   OfRun : Edition → List ℕ → List (List ℕ) → ℕ → Outcome → Type 0
   OfRun e game scripts limit (Refused status report) = Unit {0}
+  OfRun e game scripts limit (GivenUp report) = Unit {0}
   OfRun e game scripts limit (Shown pieces status report) = RunIsChip8 e game scripts limit status report
 
   -- a run under the debugger that does
   OfDebug : Edition → List ℕ → List (List ℕ) → ℕ → Outcome → Type 0
   OfDebug e game scripts limit (Refused status report) = Unit {0}
+  OfDebug e game scripts limit (GivenUp report) = Unit {0}
   OfDebug e game scripts limit (Shown pieces status report) = DebugsChip8 e game scripts limit status report
 
   module _
@@ -148,6 +150,9 @@ module _ (law : EveryRun) where
   shows old (list name) contents pieces status report read comes = tt
   shows old (dis a) contents pieces status report read comes = tt
   shows old bounds contents pieces status report read comes = tt
+  shows old (within a) contents pieces status report read comes = tt
+  shows old (safe a) contents pieces status report read comes = tt
+  shows old (certify a) contents pieces status report read comes = tt
 
   pub speaks_chip8 : (call : Call) → SpeaksChip8 call
   speaks_chip8 call asked contents pieces status report asks comes = shows call.files asked contents pieces status report asks.read comes

@@ -2,3 +2,4 @@ mod DebugLemmas
 mod LanguageLemmas
 mod TopLemmas
 mod WordsLemmas
+mod CertifiedLemmas

@@ -21,29 +21,35 @@ use Rattle.vip_outside.specs.Sink.{SinkMeaning, Gains, GainsPart, GainAnswers}
 use Rattle.vip_outside.specs.declared.sink.Failed.{Failed}
 use Rattle.vip_relation.specs.Interpreters.{interpreter_of}
 use Rattle.vip_text.specs.Endings.{Ending}
-use Rattle.vip_words.specs.Asked.{Asked, trace, play, debug, demo, asm, list, dis, bounds, asked_by}
+use Rattle.vip_words.specs.Asked.{Asked, trace, play, debug, demo, asm, list, dis, bounds, within, safe, certify, asked_by}
+use Rattle.vip_tools.specs.Certificates.{CertifyComes, CyclesComes, SafeComes}
+use Rattle.vip_tools.specs.Certificates.CertifyComes.{Finds, FindsNone}
+use Rattle.vip_tools.specs.Certificates.CyclesComes.{NotAssembled, FaultyCertificate, Leaves}
+use Rattle.vip_tools.specs.Certificates.SafeComes.{FaultyProof, Proves}
 use Rattle.vip_tools.specs.Work.{Rejected}
 use Rattle.vip_call.specs.Words.{OfWords, WordsAnswer}
 use Rattle.vip_tools.specs.Files.{Needed, needed, HasAll, ComesTo, IsLarger}
 use Rattle.vip_tools.specs.Outcome.{Outcome, SourceComes}
-use Rattle.vip_tools.specs.Outcome.Outcome.{Refused, Shown}
+use Rattle.vip_tools.specs.Outcome.Outcome.{Refused, Shown, GivenUp}
 use Rattle.vip_tools.specs.Outcome.SourceComes.{FaultySource, Assembles}
 use Rattle.vip_verbs.specs.Outcome.{Comes, RunComes, DebugComes, RomIs, IsFault, rom_text}
 use Rattle.vip_verbs.specs.Outcome.RunComes.{FaultyScript, FaultyRom, Runs}
 use Rattle.vip_report.specs.Refusal.{image_status, status_of, too_large_status}
-use Rattle.vip_report.specs.Report.{cannot_read, report_of, too_large_report}
-use Rattle.vip_call.specs.Top.{Call, call_of, Asks, Oversize, Rejects, Shows, Faulty, Says, IsQuiet, Reading, Lacks, Larger, Whole, with_content, reading, Due, Lacking, TooLarge, Refusing, Showing, RefusesWords, Offers, GivesDue, AreRefused, Completes}
+use Rattle.vip_report.specs.Report.{cannot_read, no_certificate, report_of, too_large_report}
+use Rattle.vip_call.specs.Top.{Call, call_of, Asks, Oversize, Rejects, GivesUp, Shows, Faulty, Says, IsQuiet, Reading, Lacks, Larger, Whole, with_content, reading, Due, Lacking, TooLarge, Refusing, Showing, RefusesWords, Offers, IsSearch, IsFree, GivesDue, AreRefused, Completes}
 use Rattle.vip_report.specs.declared.refusal.Kind.{Kind}
 use Rattle.vip_report.specs.declared.refusal.Kind.TheVariants as kind
 use Rattle.vip_report.specs.declared.refusal.Refusal.{Refusal}
 use Rattle.vip_report.specs.declared.refusal.Refusal.TheVariants as refusal
 use Rattle.vip_report.specs.declared.status.Status.{Status}
-use Rattle.vip_report.specs.declared.status.Status.TheVariants.{Done, Stopped, Usage, ReadFault, GameTooLarge, ScriptTooLarge, BadScript, BadSource, BadRomSource, RomDiffers, WriteFault, NoMemory, BadCommand, SourceTooLarge, CommandsTooLarge}
+use Rattle.vip_report.specs.declared.status.Status.TheVariants.{Done, Stopped, Usage, ReadFault, GameTooLarge, ScriptTooLarge, BadScript, BadSource, BadRomSource, RomDiffers, WriteFault, NoMemory, BadCommand, SourceTooLarge, CommandsTooLarge, BadCertificate, BadProof, CertificateTooLarge, NoCertificate}
 
 -- ---- one outcome
 
--- two outcomes are refusals with the same status, or output with the same status at its end
+-- two outcomes are refusals with the same status, or output with the same status at its end; what was given up isn't compared
 abbrev Agree : Outcome → Outcome → Type 0
+Agree (GivenUp r) p = Unit {0}
+Agree o (GivenUp r) = Unit {0}
 Agree (Refused a r) (Refused b s) = a ≡ b
 Agree (Refused a r) (Shown p b s) = ⊥
 Agree (Shown p a r) (Refused b s) = ⊥
@@ -110,6 +116,68 @@ debugs_agree d game limit scripts (Ok commands) o p x y = runs_agree d limit scr
 debugs_agree d game limit scripts (Err (debug_fault.Fault line cause)) o p x y = alone_agree _ o p refl x y
 debugs_agree d game limit scripts (Err debug_fault.NoMemory) o p x y = absurd x
 
+cycles_agree : (source text : List ℕ) (o p : Outcome) → CyclesComes source text o → CyclesComes source text p → Agree o p
+cycles_agree source text _ _ (NotAssembled l c a) (NotAssembled m d b) = refl
+cycles_agree source text _ _ (NotAssembled l c a) (FaultyCertificate m d made b) = absurd (assembles_or_not (source_lines source) made.made l c made.is a)
+cycles_agree source text _ _ (NotAssembled l c a) (Leaves bound made b) = absurd (assembles_or_not (source_lines source) made.made l c made.is a)
+cycles_agree source text _ _ (FaultyCertificate l c made a) (NotAssembled m d b) = absurd (assembles_or_not (source_lines source) made.made m d made.is b)
+cycles_agree source text _ _ (FaultyCertificate l c made a) (FaultyCertificate m d made' b) = refl
+cycles_agree source text _ _ (FaultyCertificate l c made a) (Leaves bound made' b) = cc
+cycles_agree source text _ _ (Leaves bound made a) (NotAssembled m d b) = absurd (assembles_or_not (source_lines source) made.made m d made.is b)
+cycles_agree source text _ _ (Leaves bound made a) (FaultyCertificate m d made' b) = cc
+cycles_agree source text _ _ (Leaves bound made a) (Leaves bound' made' b) = refl
+
+proofs_agree : (e : Edition) (g text : List ℕ) (o p : Outcome) → SafeComes e g text o → SafeComes e g text p → Agree o p
+proofs_agree e g text _ _ (FaultyProof l c a) (FaultyProof m d b) = refl
+proofs_agree e g text _ _ (FaultyProof l c a) (Proves n b) = cc
+proofs_agree e g text _ _ (Proves n a) (FaultyProof m d b) = cc
+proofs_agree e g text _ _ (Proves n a) (Proves m b) = refl
+
+searches_agree : (e : Edition) (g : List ℕ) (o p : Outcome) → CertifyComes e g o → CertifyComes e g p → Agree o p
+searches_agree e g _ _ (Finds text a fits) (Finds text' b fits') = refl
+searches_agree e g _ _ (Finds text a fits) (FindsNone obstacle) = tt
+searches_agree e g _ p (FindsNone obstacle) y = tt
+
+-- what isn't a search isn't given up
+no_run :
+    (d : Edition) (limit : ℕ) (scripts : List (List ℕ)) (pieces : List KeyEvent → List (List ℕ)) (ending : List KeyEvent → Ending) (report : List ℕ)
+    → RunComes d limit scripts pieces ending (GivenUp report) → ⊥
+no_run d limit scripts pieces ending report x = go (GivenUp report) refl x
+  where
+    go : (o : Outcome) → o ≡ GivenUp report → RunComes d limit scripts pieces ending o → ⊥
+    go _ e (FaultyScript l c a) = cc
+    go _ e (FaultyRom t f b is rom) = cc
+    go _ e (Runs t b rom) = cc
+
+no_debug :
+    (d : Edition) (g : List ℕ) (limit : ℕ) (scripts : List (List ℕ)) (read : Result (List Command) CommandFault) (report : List ℕ)
+    → DebugComes d g limit scripts read (GivenUp report) → ⊥
+no_debug d g limit scripts (Ok commands) report x = no_run d limit scripts _ _ report x
+no_debug d g limit scripts (Err (debug_fault.Fault line cause)) report x = cc
+no_debug d g limit scripts (Err debug_fault.NoMemory) report x = x
+
+no_source : (source : List ℕ) (IsText : Made → List ℕ → Type 0) (report : List ℕ) → SourceComes source IsText (GivenUp report) → ⊥
+no_source source IsText report x = go (GivenUp report) refl x
+  where
+    go : (o : Outcome) → o ≡ GivenUp report → SourceComes source IsText o → ⊥
+    go _ e (FaultySource l c a) = cc
+    go _ e (Assembles made text b is) = cc
+
+no_routine : (source text report : List ℕ) → CyclesComes source text (GivenUp report) → ⊥
+no_routine source text report x = go (GivenUp report) refl x
+  where
+    go : (o : Outcome) → o ≡ GivenUp report → CyclesComes source text o → ⊥
+    go _ e (NotAssembled l c a) = cc
+    go _ e (FaultyCertificate l c made a) = cc
+    go _ e (Leaves bound made a) = cc
+
+no_proof : (d : Edition) (g text report : List ℕ) → SafeComes d g text (GivenUp report) → ⊥
+no_proof d g text report x = go (GivenUp report) refl x
+  where
+    go : (o : Outcome) → o ≡ GivenUp report → SafeComes d g text o → ⊥
+    go _ e (FaultyProof l c a) = cc
+    go _ e (Proves n a) = cc
+
 -- a command comes to one outcome by the contents of its files
 agree : (asked : Asked) (contents : List (List ℕ)) (o p : Outcome) → Comes asked contents o → Comes asked contents p → Agree o p
 agree (trace a) [] o p x y = absurd x
@@ -132,6 +200,49 @@ agree (dis a) (bytes ∷ []) o p x y = alone_agree _ o p refl x y
 agree (dis a) (bytes ∷ c ∷ cs) o p x y = absurd x
 agree bounds [] o p x y = alone_agree _ o p refl x y
 agree bounds (c ∷ cs) o p x y = absurd x
+agree (within a) [] o p x y = absurd x
+agree (within a) (source ∷ []) o p x y = absurd x
+agree (within a) (source ∷ text ∷ []) o p x y = cycles_agree source text o p x y
+agree (within a) (source ∷ text ∷ c ∷ cs) o p x y = absurd x
+agree (safe a) [] o p x y = absurd x
+agree (safe a) (game ∷ []) o p x y = absurd x
+agree (safe a) (game ∷ text ∷ []) o p x y = proofs_agree a.edition game text o p x y
+agree (safe a) (game ∷ text ∷ c ∷ cs) o p x y = absurd x
+agree (certify a) [] o p x y = absurd x
+agree (certify a) (game ∷ []) o p x y = searches_agree a.edition game o p x y
+agree (certify a) (game ∷ c ∷ cs) o p x y = absurd x
+
+-- only a search is given up
+given_up : (asked : Asked) (contents : List (List ℕ)) (report : List ℕ) → Comes asked contents (GivenUp report) → IsSearch asked
+given_up (trace a) [] report x = absurd x
+given_up (trace a) (game ∷ scripts) report x = no_run a.run.edition a.run.cycles scripts _ _ report x
+given_up (play a) [] report x = absurd x
+given_up (play a) (game ∷ scripts) report x = no_run a.edition a.cycles scripts _ _ report x
+given_up (debug a) [] report x = absurd x
+given_up (debug a) (game ∷ []) report x = absurd x
+given_up (debug a) (game ∷ text ∷ scripts) report x = no_debug a.run.edition game a.run.cycles scripts (commands_of a.run.cycles text) report x
+given_up (demo a) [] report x = no_run Usual a.cycles [] _ _ report x
+given_up (demo a) (c ∷ cs) report x = absurd x
+given_up (asm name) [] report x = absurd x
+given_up (asm name) (source ∷ []) report x = no_source source _ report x
+given_up (asm name) (source ∷ c ∷ cs) report x = absurd x
+given_up (list name) [] report x = absurd x
+given_up (list name) (source ∷ []) report x = no_source source _ report x
+given_up (list name) (source ∷ c ∷ cs) report x = absurd x
+given_up (dis a) [] report x = absurd x
+given_up (dis a) (bytes ∷ []) report x = absurd (cc)
+given_up (dis a) (bytes ∷ c ∷ cs) report x = absurd x
+given_up bounds [] report x = absurd (cc)
+given_up bounds (c ∷ cs) report x = absurd x
+given_up (within a) [] report x = absurd x
+given_up (within a) (source ∷ []) report x = absurd x
+given_up (within a) (source ∷ text ∷ []) report x = no_routine source text report x
+given_up (within a) (source ∷ text ∷ c ∷ cs) report x = absurd x
+given_up (safe a) [] report x = absurd x
+given_up (safe a) (game ∷ []) report x = absurd x
+given_up (safe a) (game ∷ text ∷ []) report x = no_proof a.edition game text report x
+given_up (safe a) (game ∷ text ∷ c ∷ cs) report x = absurd x
+given_up (certify a) contents report x = tt
 
 -- ---- one reading
 
@@ -192,6 +303,10 @@ refuses_words NoMemory call says none = inr refl
 refuses_words BadCommand call says none = absurd (nothing_asked call.words says.asked says.asks.words none)
 refuses_words SourceTooLarge call says none = absurd (nothing_asked call.words says.asked says.words none)
 refuses_words CommandsTooLarge call says none = absurd (nothing_asked call.words says.asked says.words none)
+refuses_words BadCertificate call says none = absurd (nothing_asked call.words says.asked says.asks.words none)
+refuses_words BadProof call says none = absurd (nothing_asked call.words says.asked says.asks.words none)
+refuses_words CertificateTooLarge call says none = absurd (nothing_asked call.words says.asked says.words none)
+refuses_words NoCertificate call says none = absurd (nothing_asked call.words says.asked says.asks.words none)
 
 module _ (call : Call) (asked : Asked) (files : FileMap) (offers : Offers call asked files) where
   same : (mine : Asked) → asked_by call.words ≡ Some mine → mine ≡ asked
@@ -204,6 +319,10 @@ module _ (call : Call) (asked : Asked) (files : FileMap) (offers : Offers call a
 
   comes_here : (mine : Asked) (contents : List (List ℕ)) (o : Outcome) → Asks call mine contents → Comes mine contents o → Comes asked contents o
   comes_here mine contents o asks comes = subst (λ a. Comes a contents o) (same mine asks.words) comes
+
+  -- what was given up is a search
+  searches : GivesUp call → IsSearch asked
+  searches says = given_up asked says.contents says.report (comes_here says.asked says.contents _ says.asks says.comes)
 
   -- what was refused at a file
   refused_at :
@@ -229,12 +348,14 @@ module _ (call : Call) (asked : Asked) (files : FileMap) (offers : Offers call a
   -- what is due where all contents came to an outcome
   DueBy : Outcome → Status → Type 0
   DueBy (Refused status report) due = due ≡ status
+  DueBy (GivenUp report) due = Unit {0}
   DueBy (Shown pieces status report) due = (due ≡ status) × IsQuiet call.out.faults call.out'.faults × IsQuiet call.err.faults call.err'.faults
 
   due_refused : (status : Status) (report : List ℕ) (o : Outcome) → Agree (Refused status report) o → DueBy o status
   unfolding DueBy
   due_refused status report (Refused s r) e = e
   due_refused status report (Shown p s r) e = absurd e
+  due_refused status report (GivenUp r) e = tt
 
   due_shown :
       (pieces : List (List ℕ)) (status : Status) (report : List ℕ) (o : Outcome) → IsQuiet call.out.faults call.out'.faults
@@ -242,6 +363,7 @@ module _ (call : Call) (asked : Asked) (files : FileMap) (offers : Offers call a
   unfolding DueBy
   due_shown pieces status report (Refused s r) out err e = absurd e
   due_shown pieces status report (Shown p s r) out err e = (e, out, err)
+  due_shown pieces status report (GivenUp r) out err e = tt
 
   due_whole : (r : Reading) (due : Status) → Due call asked r due → (cs : List (List ℕ)) (o : Outcome) → r ≡ Whole cs → Comes asked cs o → DueBy o due
   due_whole _ _ Lacking cs o e comes = absurd (cc)
@@ -254,12 +376,12 @@ module _ (call : Call) (asked : Asked) (files : FileMap) (offers : Offers call a
       due_shown pieces status report o out err (agree asked cs (Shown pieces status report) o (subst (λ c. Comes asked c (Shown pieces status report)) read given) comes)
 
   module _ (due : Status) (given : Due call asked (reading files (needed asked)) due) where
-    shows_due : (status : Status) → Shows status call → (status ≡ due) ⊎ (status ≡ NoMemory)
+    shows_due : (status : Status) → Shows status call → (status ≡ due) ⊎ IsFree asked status
     unfolding DueBy
     shows_due status says =
         inl (sym (due_whole _ due given says.contents (Shown says.pieces status says.report) (whole says.asked says.contents says.asks) (comes_here says.asked says.contents _ says.asks says.comes)).0)
 
-    rejects_due : (status : Status) → Rejects status call → (status ≡ due) ⊎ (status ≡ NoMemory)
+    rejects_due : (status : Status) → Rejects status call → (status ≡ due) ⊎ IsFree asked status
     unfolding DueBy
     rejects_due status says =
         inl (sym (due_whole _ due given says.contents (Refused status says.report) (whole says.asked says.contents says.asks) (comes_here says.asked says.contents _ says.asks says.comes)))
@@ -289,10 +411,10 @@ module _ (call : Call) (asked : Asked) (files : FileMap) (offers : Offers call a
 
   oversize_due :
       (due : Status) → Due call asked (reading files (needed asked)) due → (status : Status) → Oversize status call
-      → (status ≡ due) ⊎ (status ≡ NoMemory)
+      → (status ≡ due) ⊎ IsFree asked status
   oversize_due due given status says = inl (says.at.here.1 ∙ sym (due_larger _ due given says.at.this.kind (larger_here status says)))
 
-  due_is : (status : Status) → Says status call → (due : Status) → Due call asked (reading files (needed asked)) due → (status ≡ due) ⊎ (status ≡ NoMemory)
+  due_is : (status : Status) → Says status call → (due : Status) → Due call asked (reading files (needed asked)) due → (status ≡ due) ⊎ IsFree asked status
   due_is Done says due given = shows_due due given Done says
   due_is Stopped says due given = shows_due due given Stopped says
   due_is Usage says due given = absurd (nothing_asked call.words asked offers.words says.words)
@@ -304,10 +426,14 @@ module _ (call : Call) (asked : Asked) (files : FileMap) (offers : Offers call a
   due_is BadRomSource says due given = rejects_due due given BadRomSource says
   due_is RomDiffers says due given = rejects_due due given RomDiffers says
   due_is WriteFault says due given = absurd (faulty_due due given says)
-  due_is NoMemory says due given = inr refl
+  due_is NoMemory says due given = inr (inl refl)
   due_is BadCommand says due given = rejects_due due given BadCommand says
   due_is SourceTooLarge says due given = oversize_due due given SourceTooLarge says
   due_is CommandsTooLarge says due given = oversize_due due given CommandsTooLarge says
+  due_is BadCertificate says due given = rejects_due due given BadCertificate says
+  due_is BadProof says due given = rejects_due due given BadProof says
+  due_is CertificateTooLarge says due given = oversize_due due given CertificateTooLarge says
+  due_is NoCertificate says due given = inr (inr (refl, searches says))
 
   module _ (contents : List (List ℕ)) (there : reading files (needed asked) ≡ Whole contents) (accepted : ¬ AreRefused asked contents) where
     not_rejected : (status : Status) → Rejects status call → ⊥
@@ -321,7 +447,7 @@ module _ (call : Call) (asked : Asked) (files : FileMap) (offers : Offers call a
 
     ends :
         (status : Status) → Says status call → IsQuiet call.out.faults call.out'.faults → IsQuiet call.err.faults call.err'.faults
-        → (status ≡ Done) ⊎ (status ≡ Stopped) ⊎ (status ≡ NoMemory)
+        → (status ≡ Done) ⊎ (status ≡ Stopped) ⊎ IsFree asked status
     ends Done says out err = inl refl
     ends Stopped says out err = inr (inl refl)
     ends Usage says out err = absurd (nothing_asked call.words asked offers.words says.words)
@@ -337,10 +463,14 @@ module _ (call : Call) (asked : Asked) (files : FileMap) (offers : Offers call a
           | inl fails ↦ absurd (quiet _ _ fails.out.faults out)
           | inr fails ↦ absurd (quiet _ _ fails.err.faults err)
         ]
-    ends NoMemory says out err = inr (inr refl)
+    ends NoMemory says out err = inr (inr (inl refl))
     ends BadCommand says out err = absurd (not_rejected BadCommand says)
     ends SourceTooLarge says out err = absurd (not_larger SourceTooLarge says)
     ends CommandsTooLarge says out err = absurd (not_larger CommandsTooLarge says)
+    ends BadCertificate says out err = absurd (not_rejected BadCertificate says)
+    ends BadProof says out err = absurd (not_rejected BadProof says)
+    ends CertificateTooLarge says out err = absurd (not_larger CertificateTooLarge says)
+    ends NoCertificate says out err = inr (inr (inr (refl, searches says)))
 
 pub gives_due : (status : Status) (call : Call) → Says status call → GivesDue status call
 gives_due status call says asked files due offers given = due_is call asked files offers status says due given
@@ -417,12 +547,23 @@ module _ (words : List (List ℕ)) (files files' : FilesMeaning) (out out' err e
   refused_with (refusal.TooLarge kind.Script) given report = oversize kind.Script given report
   refused_with (refusal.TooLarge kind.Commands) given report = oversize kind.Commands given report
   refused_with (refusal.TooLarge kind.Source) given report = oversize kind.Source given report
+  refused_with (refusal.TooLarge kind.Certificate) given report = oversize kind.Certificate given report
   refused_with (refusal.Script line cause) given report = rejected (refusal.Script line cause) given report
   refused_with (refusal.Command line cause) given report = rejected (refusal.Command line cause) given report
   refused_with (refusal.Source line cause) given report = rejected (refusal.Source line cause) given report
   refused_with (refusal.Rom (image.BadRomSource line cause)) given report = rejected (refusal.Rom (image.BadRomSource line cause)) given report
   refused_with (refusal.Rom (image.RomDiffers address assembled here)) given report = rejected (refusal.Rom (image.RomDiffers address assembled here)) given report
   refused_with (refusal.Rom image.NoMemory) given report = record { out = given.here.out; err = report }
+  refused_with (refusal.Certificate line cause) given report = rejected (refusal.Certificate line cause) given report
+  refused_with (refusal.Proof line cause) given report = rejected (refusal.Proof line cause) given report
+  refused_with (refusal.NoCertificate obstacle) given report = record {
+    asked = given.asked;
+    contents = given.contents;
+    asks = record { words = given.words_are; read = given.read };
+    report = no_certificate obstacle;
+    comes = given.here.comes;
+    refused = record { out = given.here.out; err = report };
+  }
   refused_with refusal.Write given report = record {
     asked = given.asked;
     contents = given.contents;

@@ -6,7 +6,7 @@ use Rattle.std.specs.Str.Parse.{digits_value}
 use Rattle.std.proofs.lemmas.Bool.{ltb-false}
 use Rattle.vip_byte.specs.Number.{number, are_digits}
 use Rattle.vip_byte.specs.declared.number.NumFault.TheVariants.{Empty, BadDigit, TooLarge}
-use Rattle.vip_words.specs.Asked.{Asked, AskedRun, most_cycles, trace, play, debug, demo, asm, list, bounds, asked_by, asked_of_verb, cycles_of, demo_number_of, address_of, run_by, edition_by, trace_by, play_by, debug_by, demo_by, file_by, dis_by, bounds_by}
+use Rattle.vip_words.specs.Asked.{Asked, AskedRun, most_cycles, trace, play, debug, demo, asm, list, bounds, within, safe, certify, asked_by, asked_of_verb, cycles_of, demo_number_of, address_of, run_by, edition_by, trace_by, play_by, debug_by, demo_by, file_by, dis_by, bounds_by, within_by, safe_by, certify_by}
 use Rattle.vip_words.specs.Rules.{Word, Given, given_by}
 use Rattle.vip_words.specs.Table.{Row, usage_of}
 use Rattle.vip_words.specs.declared.table.Verb.{Verb}
@@ -103,6 +103,24 @@ bounds-low : (words : List Word) (asked : Asked) → bounds_by words ≡ Some as
 bounds-low [] asked h = let is : bounds ≡ asked = cc in subst IsLow is (omega arith)
 bounds-low (word ∷ words) asked h = absurd (cc)
 
+within-low : (words : List Word) (asked : Asked) → within_by words ≡ Some asked → IsLow asked
+within-low [] asked h = absurd (cc)
+within-low (file ∷ []) asked h = absurd (cc)
+within-low (file ∷ certificate ∷ []) asked h = by_none (Some (record { file = file; certificate = certificate })) within asked (λ a. refl) h
+within-low (file ∷ certificate ∷ more ∷ words) asked h = absurd (cc)
+
+safe-low : (words : List Word) (given : Given) (asked : Asked) → safe_by words given ≡ Some asked → IsLow asked
+safe-low [] given asked h = absurd (cc)
+safe-low (game ∷ []) given asked h = absurd (cc)
+safe-low (game ∷ certificate ∷ []) given asked h =
+    by_none (Some (record { game = game; certificate = certificate; edition = edition_by given.tall })) safe asked (λ a. refl) h
+safe-low (game ∷ certificate ∷ more ∷ words) given asked h = absurd (cc)
+
+certify-low : (words : List Word) (given : Given) (asked : Asked) → certify_by words given ≡ Some asked → IsLow asked
+certify-low [] given asked h = absurd (cc)
+certify-low (game ∷ []) given asked h = by_none (Some (record { game = game; edition = edition_by given.tall })) certify asked (λ a. refl) h
+certify-low (game ∷ more ∷ words) given asked h = absurd (cc)
+
 verb-low : (v : Verb) (given : Given) (asked : Asked) → asked_of_verb v given ≡ Some asked → IsLow asked
 verb-low verb.Trace given asked h = trace-low given.positional given asked h
 verb-low verb.Play given asked h = play-low given.positional given asked h
@@ -112,6 +130,9 @@ verb-low verb.Asm given asked h = by_none (file_by given.positional) asm asked (
 verb-low verb.List given asked h = by_none (file_by given.positional) list asked (λ name. refl) h
 verb-low verb.Dis given asked h = dis-low given.positional asked h
 verb-low verb.Bounds given asked h = bounds-low given.positional asked h
+verb-low verb.Cycles given asked h = within-low given.positional asked h
+verb-low verb.Safe given asked h = safe-low given.positional given asked h
+verb-low verb.Certify given asked h = certify-low given.positional given asked h
 
 given-low : (v : Verb) (o : Option Given) (asked : Asked) → option_and_then (asked_of_verb v) o ≡ Some asked → IsLow asked
 given-low v None asked h = absurd (cc)

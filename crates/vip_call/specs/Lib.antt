@@ -1,3 +1,4 @@
 pub mod Words
 pub mod Language
+pub mod Certified
 pub mod Top

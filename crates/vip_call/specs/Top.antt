@@ -4,14 +4,15 @@ use Rattle.std.specs.FinMap.{get}
 use Rattle.vip_outside.specs.Files.{FileMap, FilesMeaning}
 use Rattle.vip_outside.specs.Sink.{SinkMeaning, Gains, GainsPart}
 use Rattle.vip_outside.specs.Pieces.{PutsAll, FailsWithin}
-use Rattle.vip_words.specs.Asked.{Asked, asked_by}
+use Rattle.vip_words.specs.Asked.{Asked, asked_by, certify}
 use Rattle.vip_report.specs.declared.refusal.Kind.{Kind}
 use Rattle.vip_report.specs.declared.status.Status.{Status}
-use Rattle.vip_report.specs.declared.status.Status.TheVariants.{Done, Stopped, Usage, ReadFault, GameTooLarge, ScriptTooLarge, BadScript, BadSource, BadRomSource, RomDiffers, WriteFault, NoMemory, BadCommand, SourceTooLarge, CommandsTooLarge}
+use Rattle.vip_report.specs.declared.status.Status.TheVariants.{Done, Stopped, Usage, ReadFault, GameTooLarge, ScriptTooLarge, BadScript, BadSource, BadRomSource, RomDiffers, WriteFault, NoMemory, BadCommand, SourceTooLarge, CommandsTooLarge, BadCertificate, BadProof, CertificateTooLarge, NoCertificate}
 use Rattle.vip_tools.specs.Files.{Needed, needed, HasAll, ComesTo, IsLarger, IsUnread}
+use Rattle.vip_call.specs.Certified.{Certifies}
 use Rattle.vip_call.specs.Language.{ShowsChip8}
 use Rattle.vip_verbs.specs.Outcome.{Comes}
-use Rattle.vip_tools.specs.Outcome.Outcome.{Refused, Shown}
+use Rattle.vip_tools.specs.Outcome.Outcome.{Refused, Shown, GivenUp}
 use Rattle.vip_report.specs.Refusal.{too_large_status}
 use Rattle.vip_report.specs.Report.{usage, cannot_read, too_large_report, write_fault, no_memory}
 
@@ -70,6 +71,15 @@ pub record Rejects (status : Status) (call : Call) : Type 0 where
   pub comes : Comes asked contents (Refused status report)
   pub refused : Refuses report call
 
+-- nothing was found for the contents
+pub record GivesUp (call : Call) : Type 0 where
+  pub asked : Asked
+  pub contents : List (List ℕ)
+  pub asks : Asks call asked contents
+  pub report : List ℕ
+  pub comes : Comes asked contents (GivenUp report)
+  pub refused : Refuses report call
+
 -- ---- output
 
 -- exact output: it went out whole, each piece by one put, and the report too
@@ -123,6 +133,10 @@ Says NoMemory call = Refuses no_memory call
 Says BadCommand call = Rejects BadCommand call
 Says SourceTooLarge call = Oversize SourceTooLarge call
 Says CommandsTooLarge call = Oversize CommandsTooLarge call
+Says BadCertificate call = Rejects BadCertificate call
+Says BadProof call = Rejects BadProof call
+Says CertificateTooLarge call = Oversize CertificateTooLarge call
+Says NoCertificate call = GivesUp call
 
 -- ---- when they come
 
@@ -168,20 +182,29 @@ pub record Offers (call : Call) (asked : Asked) (files : FileMap) : Type 0 where
   pub told : call.files.told ≡ Some files
   pub quiet : IsQuiet call.files.faults call.files'.faults
 
--- Each refusal comes exactly where it is due, and so does each end: the answer is the status that is due, or want of memory.
+-- a search is asked for, which may find nothing
+abbrev pub IsSearch : Asked → Type 0
+IsSearch (certify a) = Unit {0}
+IsSearch _ = ⊥
+
+-- the answers that may come in place of a due one: want of memory, and that a search found nothing
+abbrev pub IsFree : Asked → Status → Type 0
+IsFree asked status = (status ≡ NoMemory) ⊎ ((status ≡ NoCertificate) × IsSearch asked)
+
+-- Each refusal comes exactly where it is due, and so does each end: the answer is the status that is due, or a free one.
 abbrev pub GivesDue : Status → Call → Type 0
 GivesDue status call =
     (asked : Asked) (files : FileMap) (due : Status)
     → Offers call asked files
     → Due call asked (reading files (needed asked)) due
-    → (status ≡ due) ⊎ (status ≡ NoMemory)
+    → (status ≡ due) ⊎ IsFree asked status
 
--- the contents of the files are refused: commands, a script or a source have a fault, or the ROM isn't what its source gives
+-- the contents of the files are refused: commands, a script, a source or a certificate have a fault, or the ROM isn't what its source gives
 abbrev pub AreRefused : Asked → List (List ℕ) → Type 0
 AreRefused asked contents = (status : Status) × (report : List ℕ) × Comes asked contents (Refused status report)
 
 -- Where the files are there with their sizes, their contents aren't refused and no fault is counted, the answer is Done or Stopped, or
--- want of memory.
+-- a free one.
 abbrev pub Completes : Status → Call → Type 0
 Completes status call =
     (asked : Asked) (files : FileMap) (contents : List (List ℕ))
@@ -190,7 +213,7 @@ Completes status call =
     → ¬ AreRefused asked contents
     → IsQuiet call.out.faults call.out'.faults
     → IsQuiet call.err.faults call.err'.faults
-    → (status ≡ Done) ⊎ (status ≡ Stopped) ⊎ (status ≡ NoMemory)
+    → (status ≡ Done) ⊎ (status ≡ Stopped) ⊎ IsFree asked status
 
 -- ---- what the output says of the language
 
@@ -204,6 +227,17 @@ SpeaksChip8 call =
     → Comes asked contents (Shown pieces status report)
     → ShowsChip8 asked contents status report
 
+-- ---- what the output says of a certificate
+
+-- Where the words and the contents come to the output that a certificate is right, or to one that was found, what it claims holds: the routine
+-- leaves within its limit; no run of the game stops.
+abbrev pub ProvesCertified : Call → Type 0
+ProvesCertified call =
+    (asked : Asked) (contents pieces : List (List ℕ)) (status : Status) (report : List ℕ)
+    → Asks call asked contents
+    → Comes asked contents (Shown pieces status report)
+    → Certifies asked contents pieces
+
 -- ---- the program
 
 -- what the program promises of each call
@@ -213,6 +247,8 @@ pub record Promises (status : Status) (call : Call) : Type 0 where
   -- Where a game is run, its run is one of CHIP-8, within the bounds, also at a wait for a key; each picture is the screen at the last dispatch
   -- point, and a stop names its instruction.
   pub language : SpeaksChip8 call
+  -- where a certificate is accepted or written, its routine leaves in time, or its game never stops
+  pub certified : ProvesCertified call
   -- when each answer is due, and that there is no other
   pub words : RefusesWords status call
   pub due : GivesDue status call

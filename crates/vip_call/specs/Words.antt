@@ -7,9 +7,10 @@ use Rattle.vip_words.specs.Request.{asked_of}
 use Rattle.vip_words.specs.declared.request.Request.{Request}
 use Rattle.vip_report.specs.declared.ended.Ended.{Ended}
 use Rattle.vip_report.specs.declared.refusal.Refusal.{Refusal}
-use Rattle.vip_report.specs.declared.refusal.Refusal.TheVariants.{Usage, Unread, TooLarge, Write, NoMemory}
+use Rattle.vip_report.specs.declared.refusal.Refusal.TheVariants.{Usage, Unread, TooLarge, NoCertificate, Write, NoMemory}
 use Rattle.vip_tools.specs.Files.{Needed, needed, HasAll, ComesTo, IsLarger, IsUnread}
-use Rattle.vip_tools.specs.Work.{Ends, Breaks, Rejected}
+use Rattle.vip_report.specs.Report.{no_certificate}
+use Rattle.vip_tools.specs.Work.{Ends, Breaks, GivesUp, Rejected}
 use Rattle.vip_verbs.specs.Outcome.{Comes}
 
 -- the words ask for this, the files that they name were read, and of their contents this holds
@@ -34,6 +35,7 @@ WordsAnswer words files files' old new (Err (Unread name)) = RefusesFile words f
 WordsAnswer words files files' old new (Err (TooLarge kind)) = RefusesFile words files (λ n. (kind ≡ n.kind) × IsLarger files n) old new
 WordsAnswer words files files' old new (Err Write) = OfWords words files (λ asked contents. Breaks (Comes asked contents) old new)
 WordsAnswer words files files' old new (Err NoMemory) = new ≡ old
+WordsAnswer words files files' old new (Err (NoCertificate obstacle)) = OfWords words files (λ asked contents. GivesUp (Comes asked contents) old new (no_certificate obstacle))
 WordsAnswer words files files' old new (Err refusal) = OfWords words files (λ asked contents. Rejected (Comes asked contents) old new refusal)
 
 -- what is understood

@@ -5,6 +5,8 @@ ghost use Rattle.vip_words.specs.Request.{asked_of};
 ghost use Rattle.vip_call.specs.Words.{UnderstoodAnswers, WordsAnswer};
 ghost use Rattle.vip_call.specs.Top.{call_of, Says, Promises};
 
+use cycle_check::laws::accepted_leaves;
+use game_check::laws::certified_games;
 use std::alloc::Global;
 use vip_language::laws::every_run;
 use vip_outside::{Files, Sink};
@@ -73,5 +75,7 @@ pub fn vip_main<F: Files, O: Sink, E: Sink>(
     ensures promises { Promises result (call_of (map string_bytes words.now) (F.meaning files.old) (F.meaning files.new) (O.meaning out.old) (O.meaning out.new) (E.meaning err.old) (E.meaning err.new)) }
 {
     every_run();
+    accepted_leaves();
+    certified_games();
     run_and_report(alloc, words, files, out, err)
 }

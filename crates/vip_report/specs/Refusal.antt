@@ -1,10 +1,10 @@
 -- The status of each refusal.
 use Rattle.vip_report.specs.declared.refusal.Kind.{Kind}
-use Rattle.vip_report.specs.declared.refusal.Kind.TheVariants.{Game, TallGame, Script, Commands, Source}
+use Rattle.vip_report.specs.declared.refusal.Kind.TheVariants.{Game, TallGame, Script, Commands, Source, Certificate}
 use Rattle.vip_report.specs.declared.refusal.Refusal.{Refusal}
 use Rattle.vip_report.specs.declared.refusal.Refusal.TheVariants as refusal
 use Rattle.vip_report.specs.declared.status.Status.{Status}
-use Rattle.vip_report.specs.declared.status.Status.TheVariants.{Usage, ReadFault, GameTooLarge, ScriptTooLarge, BadScript, BadSource, BadRomSource, RomDiffers, WriteFault, NoMemory, BadCommand, SourceTooLarge, CommandsTooLarge}
+use Rattle.vip_report.specs.declared.status.Status.TheVariants.{Usage, ReadFault, GameTooLarge, ScriptTooLarge, BadScript, BadSource, BadRomSource, RomDiffers, WriteFault, NoMemory, BadCommand, SourceTooLarge, CommandsTooLarge, BadCertificate, BadProof, CertificateTooLarge, NoCertificate}
 use Rattle.rom_check.specs.declared.fault.ImageFault.{ImageFault}
 use Rattle.rom_check.specs.declared.fault.ImageFault.TheVariants as image
 
@@ -14,6 +14,7 @@ too_large_status TallGame = GameTooLarge
 too_large_status Script = ScriptTooLarge
 too_large_status Commands = CommandsTooLarge
 too_large_status Source = SourceTooLarge
+too_large_status Certificate = CertificateTooLarge
 
 abbrev pub image_status : ImageFault → Status
 image_status (image.BadRomSource line cause) = BadRomSource
@@ -28,5 +29,8 @@ status_of (refusal.Script line cause) = BadScript
 status_of (refusal.Command line cause) = BadCommand
 status_of (refusal.Source line cause) = BadSource
 status_of (refusal.Rom fault) = image_status fault
+status_of (refusal.Certificate line cause) = BadCertificate
+status_of (refusal.Proof line cause) = BadProof
+status_of (refusal.NoCertificate obstacle) = NoCertificate
 status_of refusal.Write = WriteFault
 status_of refusal.NoMemory = NoMemory

@@ -1,22 +1,27 @@
 -- The reports on the error output, each a line.
 use Rattle.std.specs.Prelude.{ℕ, List, [], ◌++◌, codes, decimal}
-use Rattle.vip_byte.specs.HexText.{hex2, hex4}
+use Rattle.vip_byte.specs.HexText.{hex2, hex4, words_text}
 use Rattle.asm_core.specs.declared.fault.AsmCause.{AsmCause}
 use Rattle.asm_core.specs.declared.fault.AsmCause.TheVariants as asm
+use Rattle.cycle_check.specs.declared.fault.CertCause.{CertCause}
+use Rattle.cycle_check.specs.declared.fault.CertCause.TheVariants as cert
+use Rattle.game_check.specs.declared.fault.Obstacle.{Obstacle}
+use Rattle.game_check.specs.declared.fault.ProofCause.{ProofCause}
+use Rattle.game_check.specs.declared.fault.ProofCause.TheVariants as proof
 use Rattle.rom_check.specs.declared.fault.ImageFault.{ImageFault}
 use Rattle.rom_check.specs.declared.fault.ImageFault.TheVariants as image
 use Rattle.vip_keypad.specs.declared.script.ScriptCause.{ScriptCause}
 use Rattle.vip_keypad.specs.declared.script.ScriptCause.TheVariants as script
 use Rattle.vip_words.specs.declared.commands.CommandCause.{CommandCause}
 use Rattle.vip_words.specs.declared.commands.CommandCause.TheVariants as command
-use Rattle.vip_text.specs.Stops.{stop_line}
+use Rattle.vip_text.specs.Stops.{opcode_part, stop_line}
 use Rattle.vip_byte.specs.Text.{newline}
 use Rattle.vip_text.specs.Endings.{Ending, ending_in}
 use Rattle.vip_text.specs.Endings.Ending.{AtLimit, AtStop}
 use Rattle.vip_report.specs.declared.ended.Ended.{Ended}
 use Rattle.vip_report.specs.declared.ended.Ended.TheVariants.{Worked, Ran}
 use Rattle.vip_report.specs.declared.refusal.Kind.{Kind}
-use Rattle.vip_report.specs.declared.refusal.Kind.TheVariants.{Game, TallGame, Script, Commands, Source}
+use Rattle.vip_report.specs.declared.refusal.Kind.TheVariants.{Game, TallGame, Script, Commands, Source, Certificate}
 use Rattle.vip_report.specs.declared.refusal.Refusal.{Refusal}
 use Rattle.vip_report.specs.declared.refusal.Refusal.TheVariants as refusal
 
@@ -60,6 +65,23 @@ command_cause command.BadCount = codes "BadCount"
 command_cause command.BadNumber = codes "BadNumber"
 command_cause command.Range = codes "Range"
 
+abbrev pub cert_cause : CertCause → List ℕ
+cert_cause cert.BadLine = codes "BadLine"
+cert_cause cert.BadNumber = codes "BadNumber"
+cert_cause cert.Order = codes "Order"
+cert_cause cert.NoEntry = codes "NoEntry"
+cert_cause cert.Opcode = codes "Opcode"
+cert_cause cert.Step = codes "Step"
+
+abbrev pub proof_cause : ProofCause → List ℕ
+proof_cause proof.BadLine = codes "BadLine"
+proof_cause proof.Order = codes "Order"
+proof_cause proof.NoStart = codes "NoStart"
+proof_cause proof.Outside = codes "Outside"
+proof_cause proof.Opcode = codes "Opcode"
+proof_cause proof.Access = codes "Access"
+proof_cause proof.Next = codes "Next"
+
 -- the number of a line and what is wrong with it
 abbrev pub at_line : List ℕ → ℕ → List ℕ → List ℕ
 at_line text line cause = text ++ (decimal line ++ (codes ": " ++ (cause ++ newline)))
@@ -70,6 +92,7 @@ too_large_report TallGame = codes "vip: game larger than 2976 bytes" ++ newline
 too_large_report Script = codes "vip: key script larger than 1048576 bytes" ++ newline
 too_large_report Commands = codes "vip: commands larger than 1048576 bytes" ++ newline
 too_large_report Source = codes "vip: source too large" ++ newline
+too_large_report Certificate = codes "vip: certificate larger than 1048576 bytes" ++ newline
 
 -- the words are refused, or a file could not be read
 abbrev pub usage : List ℕ
@@ -78,7 +101,7 @@ usage = codes "usage: vip trace, play, debug, demo, asm, list, dis or bounds" ++
 abbrev pub cannot_read : List ℕ → List ℕ
 cannot_read name = codes "vip: cannot read " ++ (name ++ newline)
 
--- the first fault of a script, of the debugger's commands, and of a source
+-- the first fault of a script, of the debugger's commands, of a source, and of a certificate of cycles and of a game
 abbrev pub bad_script : ℕ → ScriptCause → List ℕ
 bad_script line cause = at_line (codes "vip: key script line ") line (script_cause cause)
 
@@ -87,6 +110,18 @@ bad_command line cause = at_line (codes "vip: commands line ") line (command_cau
 
 abbrev pub bad_source : ℕ → AsmCause → List ℕ
 bad_source line cause = at_line (codes "vip: source line ") line (asm_cause cause)
+
+abbrev pub bad_certificate : ℕ → CertCause → List ℕ
+bad_certificate line cause = at_line (codes "vip: certificate line ") line (cert_cause cause)
+
+abbrev pub bad_proof : ℕ → ProofCause → List ℕ
+bad_proof line cause = at_line (codes "vip: proof line ") line (proof_cause cause)
+
+-- where the search for a certificate ended: why, the opcode where it has one, pc, the range of I, and the stack
+unfoldable pub no_certificate : Obstacle → List ℕ
+no_certificate o =
+    codes "vip: no certificate: " ++ proof_cause o.cause ++ opcode_part o.opcode ++ codes " at " ++ hex4 o.claim.point.pc ++ codes " with I "
+    ++ hex4 o.claim.low ++ codes " to " ++ hex4 o.claim.high ++ codes " stack" ++ words_text o.claim.point.stack.items ++ newline
 
 abbrev pub no_memory : List ℕ
 no_memory = codes "vip: no memory" ++ newline
@@ -112,5 +147,8 @@ report_of (refusal.Script line cause) = bad_script line cause
 report_of (refusal.Command line cause) = bad_command line cause
 report_of (refusal.Source line cause) = bad_source line cause
 report_of (refusal.Rom fault) = image_report fault
+report_of (refusal.Certificate line cause) = bad_certificate line cause
+report_of (refusal.Proof line cause) = bad_proof line cause
+report_of (refusal.NoCertificate obstacle) = no_certificate obstacle
 report_of refusal.Write = write_fault
 report_of refusal.NoMemory = no_memory

@@ -5,7 +5,7 @@ use Rattle.vip_text.specs.Endings.Ending.{AtLimit, AtStop}
 use Rattle.vip_report.specs.declared.ended.Ended.{Ended}
 use Rattle.vip_report.specs.declared.ended.Ended.TheVariants.{Worked, Ran}
 use Rattle.vip_report.specs.declared.status.Status.{Status}
-use Rattle.vip_report.specs.declared.status.Status.TheVariants.{Done, Stopped, Usage, ReadFault, GameTooLarge, ScriptTooLarge, BadScript, BadSource, BadRomSource, RomDiffers, WriteFault, NoMemory, BadCommand, SourceTooLarge, CommandsTooLarge}
+use Rattle.vip_report.specs.declared.status.Status.TheVariants.{Done, Stopped, Usage, ReadFault, GameTooLarge, ScriptTooLarge, BadScript, BadSource, BadRomSource, RomDiffers, WriteFault, NoMemory, BadCommand, SourceTooLarge, CommandsTooLarge, BadCertificate, BadProof, CertificateTooLarge, NoCertificate}
 
 abbrev pub status_number : Status → ℕ
 status_number Done = 0
@@ -23,6 +23,10 @@ status_number NoMemory = 11
 status_number BadCommand = 12
 status_number SourceTooLarge = 13
 status_number CommandsTooLarge = 14
+status_number BadCertificate = 17
+status_number BadProof = 19
+status_number CertificateTooLarge = 20
+status_number NoCertificate = 21
 
 -- at the end of a run, and of a verb's work
 abbrev pub end_status : Ending → Status

@@ -5,6 +5,8 @@ ghost use Rattle.vip_report.specs.Refusal.{status_of};
 
 use crate::status::Status;
 use asm_core::AsmCause;
+use cycle_check::CertCause;
+use game_check::{Obstacle, ProofCause};
 use rom_check::ImageFault;
 use std::alloc::AllocError;
 use vip_keypad::ScriptCause;
@@ -25,10 +27,12 @@ pub enum Kind {
     Commands,
     /// A source to assemble, at most 1,048,576 bytes, or bytes to disassemble, which have to end by address FFFF.
     Source,
+    /// A certificate, at most 1,048,576 bytes.
+    Certificate,
 }
 
 /// A refusal, or what ended a command early.
-#[derive(Clone, Copy, Debug, PartialEq, Eq)]
+#[derive(Debug, Drop)]
 pub enum Refusal<'a> {
     /// The words of the command line.
     Usage,
@@ -44,6 +48,12 @@ pub enum Refusal<'a> {
     Source { line: u32, cause: AsmCause },
     /// The built-in source doesn't give the ROM.
     Rom(ImageFault),
+    /// The first fault of a certificate of cycles, in this line, counted from 1.
+    Certificate { line: u32, cause: CertCause },
+    /// The first fault of a game's certificate, in this line, counted from 1.
+    Proof { line: u32, cause: ProofCause },
+    /// No certificate was found for a game: the search ended here.
+    NoCertificate(Obstacle),
     /// Not all of the output could be written.
     Write,
     NoMemory,
@@ -61,11 +71,15 @@ impl Refusal<'_> {
             Refusal::TooLarge(Kind::Script) => Status::ScriptTooLarge,
             Refusal::TooLarge(Kind::Commands) => Status::CommandsTooLarge,
             Refusal::TooLarge(Kind::Source) => Status::SourceTooLarge,
+            Refusal::TooLarge(Kind::Certificate) => Status::CertificateTooLarge,
             Refusal::Script { .. } => Status::BadScript,
             Refusal::Command { .. } => Status::BadCommand,
             Refusal::Source { .. } => Status::BadSource,
             Refusal::Rom(ImageFault::BadRomSource { .. }) => Status::BadRomSource,
             Refusal::Rom(ImageFault::RomDiffers { .. }) => Status::RomDiffers,
+            Refusal::Certificate { .. } => Status::BadCertificate,
+            Refusal::Proof { .. } => Status::BadProof,
+            Refusal::NoCertificate(_) => Status::NoCertificate,
             Refusal::Write => Status::WriteFault,
             Refusal::NoMemory | Refusal::Rom(ImageFault::NoMemory) => Status::NoMemory,
         }

@@ -3,11 +3,14 @@
 ghost use Rattle.std.specs.Prelude.{◌≡◌, ◌++◌};
 ghost use Rattle.vip_outside.specs.Sink.{GainAnswers};
 ghost use Rattle.vip_report.specs.Report.{ended_report};
-ghost use Rattle.vip_report.specs.Report.{asm_cause, script_cause, command_cause, at_line, report_of, image_report, rom_differs, too_large_report, done};
+ghost use Rattle.vip_report.specs.Report.{asm_cause, cert_cause, script_cause, command_cause, at_line, report_of, image_report, no_certificate, rom_differs, too_large_report, done};
 
 use crate::ended::Ended;
+use crate::obstacle::{obstacle_text, proof_cause};
 use crate::refusal::{Kind, Refusal};
 use asm_core::AsmCause;
+use cycle_check::CertCause;
+use game_check::Obstacle;
 use itoa::Buffer as Digits;
 use rom_check::ImageFault;
 use vip_byte::{Buffer, hex2, hex4};
@@ -71,6 +74,19 @@ fn command_cause(cause: CommandCause) -> &'static str
     }
 }
 
+fn cert_cause(cause: CertCause) -> &'static str
+    ensures { result.now ≡ cert_cause cause }
+{
+    match cause {
+        CertCause::BadLine => "BadLine",
+        CertCause::BadNumber => "BadNumber",
+        CertCause::Order => "Order",
+        CertCause::NoEntry => "NoEntry",
+        CertCause::Opcode => "Opcode",
+        CertCause::Step => "Step",
+    }
+}
+
 /// Reports the number of a line and what is wrong with it.
 fn put_at_line<S: Sink>(sink: &mut S, text: &[u8], line: u32, cause: &str) -> Result<(), Failed>
     ensures { GainAnswers (at_line text.now line cause.now) (S.meaning sink.old) (S.meaning sink.new) result }
@@ -90,6 +106,7 @@ fn put_too_large<S: Sink>(sink: &mut S, kind: Kind) -> Result<(), Failed>
         Kind::Script => put_line(sink, b"vip: key script larger than 1048576 bytes\n"),
         Kind::Commands => put_line(sink, b"vip: commands larger than 1048576 bytes\n"),
         Kind::Source => put_line(sink, b"vip: source too large\n"),
+        Kind::Certificate => put_line(sink, b"vip: certificate larger than 1048576 bytes\n"),
     }
 }
 
@@ -124,27 +141,43 @@ fn put_image_fault<S: Sink>(sink: &mut S, fault: ImageFault) -> Result<(), Faile
     }
 }
 
+/// Reports where the search for a certificate ended.
+fn put_obstacle<S: Sink>(sink: &mut S, obstacle: &Obstacle) -> Result<(), Failed>
+    ensures { GainAnswers (no_certificate obstacle.now) (S.meaning sink.old) (S.meaning sink.new) result }
+{
+    let mut text = Buffer::new();
+    obstacle_text(obstacle, &mut text);
+    put_line(sink, text.as_slice())
+}
+
 /// Reports a refusal.
 pub fn put_refusal<S: Sink>(sink: &mut S, refusal: &Refusal<'_>) -> Result<(), Failed>
     ensures { GainAnswers (report_of refusal.now) (S.meaning sink.old) (S.meaning sink.new) result }
 {
-    match *refusal {
+    match refusal {
         Refusal::Usage => put_line(
             sink,
             b"usage: vip trace, play, debug, demo, asm, list, dis or bounds\n",
         ),
         Refusal::Unread(name) => put_three(sink, b"vip: cannot read ", name.as_bytes(), b"\n"),
-        Refusal::TooLarge(kind) => put_too_large(sink, kind),
+        Refusal::TooLarge(kind) => put_too_large(sink, *kind),
         Refusal::Script { line, cause } => {
-            put_at_line(sink, b"vip: key script line ", line, script_cause(cause))
+            put_at_line(sink, b"vip: key script line ", *line, script_cause(*cause))
         }
         Refusal::Command { line, cause } => {
-            put_at_line(sink, b"vip: commands line ", line, command_cause(cause))
+            put_at_line(sink, b"vip: commands line ", *line, command_cause(*cause))
         }
         Refusal::Source { line, cause } => {
-            put_at_line(sink, b"vip: source line ", line, asm_cause(cause))
+            put_at_line(sink, b"vip: source line ", *line, asm_cause(*cause))
         }
-        Refusal::Rom(fault) => put_image_fault(sink, fault),
+        Refusal::Rom(fault) => put_image_fault(sink, *fault),
+        Refusal::Certificate { line, cause } => {
+            put_at_line(sink, b"vip: certificate line ", *line, cert_cause(*cause))
+        }
+        Refusal::Proof { line, cause } => {
+            put_at_line(sink, b"vip: proof line ", *line, proof_cause(*cause))
+        }
+        Refusal::NoCertificate(obstacle) => put_obstacle(sink, obstacle),
         Refusal::Write => put_line(sink, b"vip: write fault\n"),
         Refusal::NoMemory => put_line(sink, b"vip: no memory\n"),
     }

@@ -35,6 +35,14 @@ pub enum Status {
     SourceTooLarge,
     /// The debugger's commands have more than 1,048,576 bytes.
     CommandsTooLarge,
+    /// A certificate of a routine's machine cycles has a fault.
+    BadCertificate,
+    /// A certificate that a game never stops has a fault.
+    BadProof,
+    /// A certificate has more than 1,048,576 bytes.
+    CertificateTooLarge,
+    /// No certificate was found for a game.
+    NoCertificate,
 }
 
 impl Status {
@@ -58,6 +66,10 @@ impl Status {
             Status::BadCommand => 12,
             Status::SourceTooLarge => 13,
             Status::CommandsTooLarge => 14,
+            Status::BadCertificate => 17,
+            Status::BadProof => 19,
+            Status::CertificateTooLarge => 20,
+            Status::NoCertificate => 21,
         }
     }
 }

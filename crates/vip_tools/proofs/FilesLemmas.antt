@@ -7,7 +7,7 @@ use Rattle.vip_outside.specs.Files.{FileMap, FilesMeaning, IsStartOf, ReadsStart
 use Rattle.vip_outside.specs.declared.files.Loaded.{Loaded}
 use Rattle.vip_tools.specs.declared.files.Wanted.{Wanted}
 use Rattle.vip_report.specs.declared.refusal.Refusal.{Refusal}
-use Rattle.vip_report.specs.declared.refusal.Refusal.TheVariants.{Usage, Unread, TooLarge, Script, Command, Source, Rom, Write, NoMemory}
+use Rattle.vip_report.specs.declared.refusal.Refusal.TheVariants.{Usage, Unread, TooLarge, Script, Command, Source, Rom, Certificate, Proof, NoCertificate, Write, NoMemory}
 use Rattle.vip_tools.specs.Files.{Needed, Has, HasAll, FitAll, ComesTo, FileAnswers, FilesAnswer, seen_wanted}
 
 has-suc :
@@ -61,6 +61,9 @@ module _ (Z : Type 0) where
   refuses old new ws k d cs (Command line cause) low had here = absurd here
   refuses old new ws k d cs (Source line cause) low had here = absurd here
   refuses old new ws k d cs (Rom fault) low had here = absurd here
+  refuses old new ws k d cs (Certificate line cause) low had here = absurd here
+  refuses old new ws k d cs (Proof line cause) low had here = absurd here
+  refuses old new ws k d cs (NoCertificate obstacle) low had here = absurd here
   refuses old new ws k d cs Write low had here = absurd here
   refuses old new ws k d cs NoMemory low had here = tt
 

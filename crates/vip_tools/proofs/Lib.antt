@@ -1,3 +1,4 @@
 pub mod DemoLemmas
 pub mod FilesLemmas
 pub mod WorkLemmas
+mod CertificateLemmas

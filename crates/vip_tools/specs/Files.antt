@@ -6,10 +6,10 @@ use Rattle.vip_outside.specs.Files.{FilesMeaning, ReadFails, LacksName}
 use Rattle.chip8_lang.specs.State.{memory_size}
 use Rattle.chip8_lang.specs.declared.view.Edition.{Edition}
 use Rattle.chip8_lang.specs.declared.view.Edition.TheVariants.{Usual, Tall}
-use Rattle.vip_words.specs.Asked.{Asked, AskedRun, trace, play, debug, demo, asm, list, dis, bounds}
+use Rattle.vip_words.specs.Asked.{Asked, AskedRun, trace, play, debug, demo, asm, list, dis, bounds, within, safe, certify}
 use Rattle.vip_tools.specs.declared.files.Wanted.{Wanted}
 use Rattle.vip_report.specs.declared.refusal.Kind.{Kind}
-use Rattle.vip_report.specs.declared.refusal.Kind.TheVariants.{Game, TallGame, Script, Commands, Source}
+use Rattle.vip_report.specs.declared.refusal.Kind.TheVariants.{Game, TallGame, Script, Commands, Source, Certificate}
 use Rattle.vip_report.specs.declared.refusal.Refusal.{Refusal}
 use Rattle.vip_report.specs.declared.refusal.Refusal.TheVariants.{Unread, TooLarge, NoMemory}
 
@@ -19,7 +19,7 @@ pub record Needed : Type 0 where
   pub most : ℕ
   pub kind : Kind
 
--- the most bytes of a key script, of the debugger's commands or of a source
+-- the most bytes of a key script, of the debugger's commands, of a source or of a certificate
 abbrev pub most_text : ℕ
 most_text = MOST_TEXT
 
@@ -57,6 +57,9 @@ needed (asm name) = file Source most_text name ∷ []
 needed (list name) = file Source most_text name ∷ []
 needed (dis a) = file Source (addresses - a.address) a.file ∷ []
 needed bounds = []
+needed (within a) = file Source most_text a.file ∷ file Certificate most_text a.certificate ∷ []
+needed (safe a) = game_file a.edition a.game ∷ file Certificate most_text a.certificate ∷ []
+needed (certify a) = game_file a.edition a.game ∷ []
 
 abbrev pub seen_wanted : Wanted → Needed
 seen_wanted w = record { name = w.name.now; most = w.most; kind = w.kind }

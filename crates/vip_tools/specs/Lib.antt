@@ -4,3 +4,5 @@ pub mod Demo
 pub mod Outcome
 pub mod Opening
 pub mod Work
+pub mod Certificates
+pub mod Checks

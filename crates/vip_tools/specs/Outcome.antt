@@ -1,4 +1,4 @@
--- What a command comes to, and what those come to that run no board, by the contents of their files.
+-- What a command comes to, and what those come to that run no board, by the contents of their files; of certificates says `Certificates`.
 use Rattle.std.specs.Prelude.{◌≡◌, ℕ, List, [], ◌∷◌, Result, Ok}
 use Rattle.machine.specs.Keys.{Event as KeyEvent}
 use Rattle.asm_core.specs.Made.{Made, IsAssembly}
@@ -14,10 +14,12 @@ use Rattle.vip_report.specs.Report.{bad_source}
 use Rattle.vip_report.specs.declared.status.Status.{Status}
 use Rattle.vip_report.specs.declared.status.Status.TheVariants.{Done, BadSource}
 
--- Refused, with a status and its report; or output, piece by piece, with the status and the report of its end.
+-- Refused, with a status and its report; or output, piece by piece, with the status and the report of its end; or given up, with a report, which is
+-- never due.
 pub data Outcome : Type 0 where
   Refused : (status : Status) (report : List ℕ) → Outcome
   Shown : (pieces : List (List ℕ)) (status : Status) (report : List ℕ) → Outcome
+  GivenUp : (report : List ℕ) → Outcome
 
 -- the events of a script file, where there is one, or its first fault
 abbrev pub script_in : List (List ℕ) → Result (List KeyEvent) ScriptFault

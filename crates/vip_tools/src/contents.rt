@@ -2,7 +2,7 @@
 
 ghost use Rattle.std.specs.Prelude.{◌≡◌, ◌≤◌, ◌∷◌, [], length};
 ghost use Rattle.vip_tools.specs.Files.{contents_of};
-ghost use Rattle.vip_tools.specs.Contents.{run_list, debug_list};
+ghost use Rattle.vip_tools.specs.Contents.{run_list, debug_list, certified_list};
 
 /// The contents of the files of a run.
 #[derive(Clone, Copy)]
@@ -64,7 +64,29 @@ pub fn debug_contents<'a>(contents: &'a [Vec<u8>]) -> DebugContents<'a>
     }
 }
 
-/// The content of the only file: a source, or bytes to disassemble.
+/// What a certificate is of, and the certificate.
+#[derive(Clone, Copy)]
+pub struct CertifiedContents<'a> {
+    /// A source, or a game.
+    pub certified: &'a [u8],
+    pub certificate: &'a [u8],
+}
+
+/// Names the contents of what is certified and of its certificate.
+pub fn certified_contents<'a>(contents: &'a [Vec<u8>]) -> CertifiedContents<'a>
+    requires { length contents.now ≡ 2 }
+    ensures { contents_of contents.now ≡ certified_list result }
+{
+    match contents {
+        [certified, certificate] => CertifiedContents {
+            certified: certified.as_slice(),
+            certificate: certificate.as_slice(),
+        },
+        _ => unreachable!(),
+    }
+}
+
+/// The content of the only file: a source, bytes to disassemble, or a game.
 pub fn only_content(contents: &[Vec<u8>]) -> &[u8]
     requires { length contents.now ≡ 1 }
     ensures { contents_of contents.now ≡ result.now ∷ [] }

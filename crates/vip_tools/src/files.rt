@@ -4,8 +4,8 @@ ghost use Rattle.std.specs.Prelude.{◌≡◌, ◌<◌, ◌∷◌, [], ℕ, map,
 ghost use Rattle.chip8_lang.specs.State.{memory_size};
 ghost use Rattle.vip_words.specs.Asked.Asked.{debug};
 ghost use Rattle.vip_words.specs.Request.{asked_debug, asked_of, asked_run};
-ghost use Rattle.vip_report.specs.declared.refusal.Kind.TheVariants.{Source};
-ghost use Rattle.vip_tools.specs.Files.{needed, run_files, file, game_kind, game_file, seen_wanted, FileAnswers, FilesAnswer};
+ghost use Rattle.vip_report.specs.declared.refusal.Kind.TheVariants.{Certificate, Source};
+ghost use Rattle.vip_tools.specs.Files.{needed, run_files, file, game_kind, game_file, most_text, seen_wanted, FileAnswers, FilesAnswer};
 
 use arrayvec::ArrayVec;
 use chip8_lang::Edition;
@@ -95,16 +95,37 @@ fn debug_files<'a>(wish: &DebugRequest<'a>) -> ArrayVec<Wanted<'a>, 3>
     wanted
 }
 
-/// A source or bytes, alone.
-fn source_file<'a>(name: &'a str, most: usize) -> ArrayVec<Wanted<'a>, 3>
-    ensures { map seen_wanted result.items ≡ file Source most name.now ∷ [] }
+/// A file alone.
+fn only<'a>(file: Wanted<'a>) -> ArrayVec<Wanted<'a>, 3>
+    ensures { map seen_wanted result.items ≡ seen_wanted file.entry ∷ [] }
 {
     let mut wanted = ArrayVec::new();
-    wanted.push(Wanted {
+    wanted.push(file);
+    wanted
+}
+
+/// A source or bytes.
+fn source_file<'a>(name: &'a str, most: usize) -> Wanted<'a>
+    ensures { seen_wanted result ≡ file Source most name.now }
+{
+    Wanted {
         name,
         most,
         kind: Kind::Source,
-    });
+    }
+}
+
+/// What is certified, and its certificate.
+fn with_certificate<'a>(certified: Wanted<'a>, name: &'a str) -> ArrayVec<Wanted<'a>, 3>
+    ensures { map seen_wanted result.items ≡ seen_wanted certified.entry ∷ file Certificate most_text name.now ∷ [] }
+{
+    let certificate = Wanted {
+        name,
+        most: MOST_TEXT,
+        kind: Kind::Certificate,
+    };
+    let mut wanted = only(certified);
+    wanted.push(certificate);
     wanted
 }
 
@@ -116,15 +137,25 @@ pub fn wanted_files<'a>(request: &Request<'a>) -> ArrayVec<Wanted<'a>, 3>
         Request::Trace(wish) => run_files(&wish.run),
         Request::Play(run) => run_files(run),
         Request::Debug(wish) => debug_files(wish),
-        Request::Asm(wish) => source_file(wish.file, MOST_TEXT),
-        Request::List(wish) => source_file(wish.file, MOST_TEXT),
-        Request::Dis(wish) => source_file(wish.file, ADDRESSES - usize::from(wish.address)),
+        Request::Asm(wish) => only(source_file(wish.file, MOST_TEXT)),
+        Request::List(wish) => only(source_file(wish.file, MOST_TEXT)),
+        Request::Dis(wish) => only(source_file(
+            wish.file,
+            ADDRESSES - usize::from(wish.address),
+        )),
+        Request::Cycles(wish) => {
+            with_certificate(source_file(wish.file, MOST_TEXT), wish.certificate)
+        }
+        Request::Safe(wish) => {
+            with_certificate(game_file(wish.edition, wish.game), wish.certificate)
+        }
+        Request::Certify(wish) => only(game_file(wish.edition, wish.game)),
         Request::Demo(_) | Request::Bounds => ArrayVec::new(),
     }
 }
 
 /// What its type says of a slice: its numbers are bytes. That is known of a parameter, not of a `Vec` that a read gave.
-fn are_bytes(bytes: &[u8])
+pub(crate) fn are_bytes(bytes: &[u8])
     ensures { (i : ℕ) → slice_index bytes.now i < 256 }
 {}
 

@@ -15,7 +15,7 @@ use vip_report::{Ended, Refusal};
 use vip_text::bounds_text;
 
 /// The assembly of a source.
-fn assembled<'a>(alloc: Global, source: &[u8]) -> Result<Assembly, Refusal<'a>>
+pub(crate) fn assembled<'a>(alloc: Global, source: &[u8]) -> Result<Assembly, Refusal<'a>>
     requires { length source.now ≤ most_text }
     ensures { SourceAnswers source.now result }
 {

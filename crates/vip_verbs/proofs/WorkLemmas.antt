@@ -22,7 +22,7 @@ use Rattle.vip_words.specs.Asked.{AskedRun, AskedTrace, AskedDebug, AskedDemo, t
 use Rattle.vip_report.specs.declared.ended.Ended.{Ended}
 use Rattle.vip_report.specs.declared.ended.Ended.TheVariants.{Ran}
 use Rattle.vip_report.specs.declared.refusal.Refusal.{Refusal}
-use Rattle.vip_report.specs.declared.refusal.Refusal.TheVariants.{Usage, Unread, TooLarge, Script, Command, Source, Rom, Write, NoMemory}
+use Rattle.vip_report.specs.declared.refusal.Refusal.TheVariants.{Usage, Unread, TooLarge, Script, Command, Source, Rom, Certificate, Proof, NoCertificate, Write, NoMemory}
 use Rattle.vip_report.specs.Status.{end_status}
 use Rattle.vip_report.specs.Report.{end_report}
 use Rattle.vip_tools.specs.Demo.{demo_game}
@@ -59,6 +59,9 @@ module _ (Here : Outcome → Type 0) (run : RunOf Here) where
   refused-start old (Command line cause) answer = absurd answer
   refused-start old (Source line cause) answer = absurd answer
   refused-start old (Rom fault) answer = record { comes = run.fits _ (FaultyRom answer.script fault answer.reads answer.rom.0 answer.rom.1); out = refl }
+  refused-start old (Certificate line cause) answer = absurd answer
+  refused-start old (Proof line cause) answer = absurd answer
+  refused-start old (NoCertificate obstacle) answer = absurd answer
   refused-start old Write answer = absurd answer
   refused-start old NoMemory answer = refl
 
@@ -120,6 +123,9 @@ module _ (a : AskedDebug) (game text : List ℕ) (scripts : List (List ℕ)) whe
   refused-commands old (Command line cause) answer = record { comes = rw answer refl; out = refl }
   refused-commands old (Source line cause) answer = absurd answer
   refused-commands old (Rom fault) answer = absurd answer
+  refused-commands old (Certificate line cause) answer = absurd answer
+  refused-commands old (Proof line cause) answer = absurd answer
+  refused-commands old (NoCertificate obstacle) answer = absurd answer
   refused-commands old Write answer = absurd answer
   refused-commands old NoMemory answer = refl
 

@@ -24,11 +24,12 @@ use Rattle.vip_show.specs.Endings.{ending_of}
 use Rattle.vip_show.specs.Output.{trace_pieces, picture_pieces, summary}
 use Rattle.vip_text.specs.Endings.{Ending}
 use Rattle.vip_text.specs.Endings.Ending.{AtLimit, AtStop}
-use Rattle.vip_words.specs.Asked.{Asked, trace, play, debug, demo, asm, list, dis, bounds}
+use Rattle.vip_words.specs.Asked.{Asked, trace, play, debug, demo, asm, list, dis, bounds, within, safe, certify}
 use Rattle.vip_report.specs.Refusal.{image_status}
 use Rattle.vip_report.specs.Status.{end_status}
 use Rattle.vip_report.specs.Report.{bad_command, bad_script, image_report, end_report}
 use Rattle.vip_report.specs.declared.status.Status.TheVariants.{BadCommand, BadScript}
+use Rattle.vip_tools.specs.Certificates.{CertifyComes, CyclesComes, SafeComes}
 use Rattle.vip_tools.specs.Demo.{demo_game}
 use Rattle.vip_tools.specs.Outcome.{Outcome, AsmComes, BoundsComes, DisComes, ListComes, script_in}
 use Rattle.vip_tools.specs.Outcome.Outcome.{Refused, Shown}
@@ -116,4 +117,7 @@ Comes (asm name) (source ∷ []) = AsmComes source
 Comes (list name) (source ∷ []) = ListComes source
 Comes (dis a) (bytes ∷ []) = DisComes a.address bytes
 Comes bounds [] = BoundsComes
+Comes (within a) (source ∷ certificate ∷ []) = CyclesComes source certificate
+Comes (safe a) (game ∷ certificate ∷ []) = SafeComes a.edition game certificate
+Comes (certify a) (game ∷ []) = CertifyComes a.edition game
 Comes _ _ = λ o. ⊥

@@ -1,4 +1,4 @@
-//! The work of each verb, `trace` to `bounds`, by the contents of its files. The crate stands on the machine that runs a game and on what
+//! The work of each verb, `trace` to `certify`, by the contents of its files. The crate stands on the machine that runs a game and on what
 //! shows it (`vip_relation`, `vip_show`, `vip_debug`), on the check of the ROM (`rom_check`), and on `vip_tools`, which reads the files and does
 //! the work of the verbs that run no board. The layer above may rely on this: the work of a verb comes to its output, its end or its refusal as
 //! `specs/Outcome.antt` says by the contents of the files, each piece by one put, up to the first put that fails; before a run the ROM is
@@ -6,7 +6,7 @@
 //!
 //! ```text
 //!     contents ──┬──▶ commands, key script ──▶ ROM check ──▶ vip_relation ──▶ vip_show, vip_debug ──┬──▶ out
-//!                └──▶ vip_tools: assembler, listing, disassembly, bounds ───────────────────────────┘
+//!                └──▶ vip_tools: assembler, listing, disassembly, bounds, certificates ─────────────┘
 //! ```
 #![tactic(auto)]
 

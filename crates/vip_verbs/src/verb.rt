@@ -22,8 +22,9 @@ use vip_report::{Ended, Refusal};
 use vip_show::{show_pictures, show_summary, show_trace};
 use vip_text::RunEnd;
 use vip_tools::{
-    DebugContents, RunContents, asm, bounds, debug_contents, demo_game, dis, game_kind, list,
-    only_content, read_debugging, read_keys, run_contents,
+    DebugContents, RunContents, asm, bounds, certified_contents, certify,
+    cycles, debug_contents, demo_game, dis, game_kind, list, only_content, read_debugging,
+    read_keys, run_contents, safe,
 };
 use vip_words::{DebugRequest, DemoRequest, Request, RunRequest, TraceRequest};
 
@@ -153,5 +154,14 @@ pub fn work<'a, O: Sink>(
         Request::List(_) => list(alloc, only_content(contents), out),
         Request::Dis(wish) => dis(alloc, only_content(contents), wish.address, out),
         Request::Bounds => bounds(out),
+        Request::Cycles(_) => {
+            let files = certified_contents(contents);
+            cycles(alloc, files.certified, files.certificate, out)
+        }
+        Request::Safe(wish) => {
+            let files = certified_contents(contents);
+            safe(alloc, wish.edition, files.certified, files.certificate, out)
+        }
+        Request::Certify(wish) => certify(alloc, wish.edition, only_content(contents), out),
     }
 }

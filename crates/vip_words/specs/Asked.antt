@@ -38,7 +38,23 @@ pub record AskedDis : Type 0 where
   pub file : Word
   pub address : ℕ
 
--- `play` shows the pictures of a run; `asm` and `list` name the file of a source
+-- the check of a routine's certificate: the file of its source, and that of the certificate
+pub record AskedWithin : Type 0 where
+  pub file : Word
+  pub certificate : Word
+
+-- the check of a game's certificate: the files of the two, and the edition
+pub record AskedSafe : Type 0 where
+  pub game : Word
+  pub certificate : Word
+  pub edition : Edition
+
+-- the search for a game's certificate
+pub record AskedCertify : Type 0 where
+  pub game : Word
+  pub edition : Edition
+
+-- `play` shows the pictures of a run; `asm` and `list` name the file of a source; `within` is asked by the verb `cycles`
 pub data Asked : Type 0 where
   trace : AskedTrace → Asked
   play : AskedRun → Asked
@@ -48,6 +64,9 @@ pub data Asked : Type 0 where
   list : Word → Asked
   dis : AskedDis → Asked
   bounds : Asked
+  within : AskedWithin → Asked
+  safe : AskedSafe → Asked
+  certify : AskedCertify → Asked
 
 -- ---- numbers
 
@@ -116,6 +135,21 @@ abbrev pub bounds_by : List Word → Option Asked
 bounds_by [] = Some bounds
 bounds_by _ = None
 
+-- FILE CERT
+abbrev pub within_by : List Word → Option Asked
+within_by (file ∷ certificate ∷ []) = Some (within (record { file = file; certificate = certificate }))
+within_by _ = None
+
+-- GAME CERT
+abbrev pub safe_by : List Word → Given → Option Asked
+safe_by (game ∷ certificate ∷ []) given = Some (safe (record { game = game; certificate = certificate; edition = edition_by given.tall }))
+safe_by _ given = None
+
+-- GAME
+abbrev pub certify_by : List Word → Given → Option Asked
+certify_by (game ∷ []) given = Some (certify (record { game = game; edition = edition_by given.tall }))
+certify_by _ given = None
+
 -- what a verb asks for, where its words give this
 abbrev pub asked_of_verb : Verb → Given → Option Asked
 asked_of_verb verb.Trace given = trace_by given.positional given
@@ -126,6 +160,9 @@ asked_of_verb verb.Asm given = option_map asm (file_by given.positional)
 asked_of_verb verb.List given = option_map list (file_by given.positional)
 asked_of_verb verb.Dis given = dis_by given.positional
 asked_of_verb verb.Bounds given = bounds_by given.positional
+asked_of_verb verb.Cycles given = within_by given.positional
+asked_of_verb verb.Safe given = safe_by given.positional given
+asked_of_verb verb.Certify given = certify_by given.positional given
 
 -- what the words ask for, the verb first, or nothing where they are refused
 abbrev pub asked_by : List Word → Option Asked

@@ -24,6 +24,9 @@ table =
     ∷ (codes "list", row verb.List 1 [])
     ∷ (codes "dis", row verb.Dis 2 [])
     ∷ (codes "bounds", row verb.Bounds 0 [])
+    ∷ (codes "cycles", row verb.Cycles 2 [])
+    ∷ (codes "safe", row verb.Safe 2 (tall_option ∷ []))
+    ∷ (codes "certify", row verb.Certify 1 (tall_option ∷ []))
     ∷ []
 
 -- the row of the verb that a word spells

@@ -40,6 +40,6 @@ pub use commands::{
 };
 pub use given::WordsFail;
 pub use request::{
-    DebugRequest, DemoRequest, DisRequest, Request, RunRequest, SourceRequest, TraceRequest,
-    read_words,
+    CertifyRequest, CyclesRequest, DebugRequest, DemoRequest, DisRequest, Request, RunRequest,
+    SafeRequest, SourceRequest, TraceRequest, read_words,
 };

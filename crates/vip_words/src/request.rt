@@ -27,6 +27,9 @@ pub enum Request<'a> {
     Dis(DisRequest<'a>),
     /// The table of the bounds of each step.
     Bounds,
+    Cycles(CyclesRequest<'a>),
+    Safe(SafeRequest<'a>),
+    Certify(CertifyRequest<'a>),
 }
 
 /// A run of a game from a file.
@@ -83,6 +86,35 @@ pub struct DisRequest<'a> {
     pub file: &'a str,
     /// The address of its first byte.
     pub address: u16,
+}
+
+/// The check of a certificate that a routine leaves within its machine cycles.
+#[derive(Clone, Copy)]
+pub struct CyclesRequest<'a> {
+    /// The name of the file of the routine's source.
+    pub file: &'a str,
+    /// The name of the certificate's file.
+    pub certificate: &'a str,
+}
+
+/// The check of a certificate that a game never stops.
+#[derive(Clone, Copy)]
+pub struct SafeRequest<'a> {
+    /// The name of the game's file.
+    pub game: &'a str,
+    /// The name of the certificate's file.
+    pub certificate: &'a str,
+    /// The edition of the game.
+    pub edition: Edition,
+}
+
+/// The search for a certificate that a game never stops.
+#[derive(Clone, Copy)]
+pub struct CertifyRequest<'a> {
+    /// The name of the game's file.
+    pub game: &'a str,
+    /// The edition of the game.
+    pub edition: Edition,
 }
 
 fn read_cycles(word: &str) -> Option<u64>
@@ -209,6 +241,42 @@ fn bounds_request<'a>(given: &Given<'a>) -> Option<Request<'a>>
     }
 }
 
+fn cycles_request<'a>(given: &Given<'a>) -> Option<Request<'a>>
+    ensures { option_map asked_of result ≡ asked_of_verb verb.Cycles (seen_given given.now) }
+{
+    match given.positional {
+        Positional::Two(file, certificate) => {
+            Some(Request::Cycles(CyclesRequest { file, certificate }))
+        }
+        _ => None,
+    }
+}
+
+fn safe_request<'a>(given: &Given<'a>) -> Option<Request<'a>>
+    ensures { option_map asked_of result ≡ asked_of_verb verb.Safe (seen_given given.now) }
+{
+    match given.positional {
+        Positional::Two(game, certificate) => Some(Request::Safe(SafeRequest {
+            game,
+            certificate,
+            edition: edition_by(given.tall),
+        })),
+        _ => None,
+    }
+}
+
+fn certify_request<'a>(given: &Given<'a>) -> Option<Request<'a>>
+    ensures { option_map asked_of result ≡ asked_of_verb verb.Certify (seen_given given.now) }
+{
+    match given.positional {
+        Positional::One(game) => Some(Request::Certify(CertifyRequest {
+            game,
+            edition: edition_by(given.tall),
+        })),
+        _ => None,
+    }
+}
+
 fn request_of<'a>(verb: Verb, given: &Given<'a>) -> Option<Request<'a>>
     ensures { option_map asked_of result ≡ asked_of_verb verb (seen_given given.now) }
 {
@@ -221,6 +289,9 @@ fn request_of<'a>(verb: Verb, given: &Given<'a>) -> Option<Request<'a>>
         Verb::List => list_request(given),
         Verb::Dis => dis_request(given),
         Verb::Bounds => bounds_request(given),
+        Verb::Cycles => cycles_request(given),
+        Verb::Safe => safe_request(given),
+        Verb::Certify => certify_request(given),
     }
 }
 

@@ -15,6 +15,9 @@ pub enum Verb {
     List,
     Dis,
     Bounds,
+    Cycles,
+    Safe,
+    Certify,
 }
 
 /// What may follow a verb.
@@ -59,6 +62,9 @@ impl Usage {
             "list" => Some(Usage::new(Verb::List, 1, &[])),
             "dis" => Some(Usage::new(Verb::Dis, 2, &[])),
             "bounds" => Some(Usage::new(Verb::Bounds, 0, &[])),
+            "cycles" => Some(Usage::new(Verb::Cycles, 2, &[])),
+            "safe" => Some(Usage::new(Verb::Safe, 2, &["--tall"])),
+            "certify" => Some(Usage::new(Verb::Certify, 1, &["--tall"])),
             _ => None,
         }
     }

@@ -12,6 +12,12 @@ returns-in-Command g c = rw c.in-Command.is (rw c.command_cause.ensures at c.put
 pub returns-in-Source : goal.returns-in-Source
 returns-in-Source g c = rw c.in-Source.is (rw c.asm_cause.ensures at c.put_at_line-in-Source.ensures)
 
+pub returns-in-Certificate : goal.returns-in-Certificate
+returns-in-Certificate g c = rw c.in-Certificate.is (rw c.cert_cause.ensures at c.put_at_line-in-Certificate.ensures)
+
+pub returns-in-Proof : goal.returns-in-Proof
+returns-in-Proof g c = rw c.in-Proof.is (rw c.proof_cause.ensures.text at c.put_at_line-in-Proof.ensures)
+
 pub returns-in-Write : goal.returns-in-Write
 returns-in-Write g c = rw c.in-Write.is c.put_line-in-Write.ensures
 

@@ -1,0 +1,46 @@
+-- What certificates show that were accepted, or found.
+use Rattle.std.specs.Prelude.{◌≡◌, ℕ, List, [], ◌∷◌}
+use Rattle.machine.specs.Keys.{Event as KeyEvent}
+use Rattle.chip8_lang.specs.declared.view.Edition.{Edition}
+use Rattle.chip8_lang.specs.Events.{Event, events_of}
+use Rattle.chip8_lang.specs.Events.Event.{Picture, Dispatch, Stopped}
+use Rattle.cycle_check.specs.Leaving.{IsWithin}
+use Rattle.cycle_check.specs.declared.Within.{Within}
+use Rattle.game_check.specs.Proof.{IsAccepted}
+use Rattle.game_check.specs.States.{NeverStops}
+use Rattle.vip_relation.specs.Interpreters.{interpreter_of}
+use Rattle.vip_words.specs.Asked.{Asked, within, safe, certify}
+use Rattle.vip_tools.specs.Certificates.{rom_in, within_line}
+
+-- The output names the entry and the limit of a certificate, and the code in the ROM of the source leaves as it says.
+pub record LeavesInTime (source text : List ℕ) (pieces : List (List ℕ)) : Type 0 where
+  pub bound : Within
+  pub named : pieces ≡ within_line bound ∷ []
+  pub leaves : IsWithin (rom_in source) text bound
+
+-- none of these events is a stop
+abbrev pub NoneStops : List Event → Type 0
+NoneStops [] = Unit {0}
+NoneStops (Picture m ∷ events) = NoneStops events
+NoneStops (Dispatch b ∷ events) = NoneStops events
+NoneStops (Stopped b ∷ events) = ⊥
+
+-- A game never stops: no stop fits a state of the language that a run of it comes to; and on the board no event of its run is a stop, under
+-- every script and up to every limit.
+pub record IsSafe (e : Edition) (game : List ℕ) : Type 0 where
+  pub never : NeverStops e game
+  pub runs : (script : List KeyEvent) (limit : ℕ) → NoneStops (events_of (interpreter_of e) game script limit)
+
+-- all of the output is a certificate of such a game, which `safe` accepts
+pub record WritesCertificate (e : Edition) (game : List ℕ) (pieces : List (List ℕ)) : Type 0 where
+  pub text : List ℕ
+  pub written : pieces ≡ text ∷ []
+  pub accepted : IsAccepted e game text
+  pub safe : IsSafe e game
+
+-- what the output of a verb of certificates says
+abbrev pub Certifies : Asked → List (List ℕ) → List (List ℕ) → Type 0
+Certifies (within a) (source ∷ text ∷ []) pieces = LeavesInTime source text pieces
+Certifies (safe a) (game ∷ text ∷ []) pieces = IsSafe a.edition game
+Certifies (certify a) (game ∷ []) pieces = WritesCertificate a.edition game pieces
+Certifies _ _ pieces = Unit {0}
