@@ -6,7 +6,7 @@ use Rattle.chip8_lang.specs.declared.view.StopRecord.{StopRecord}
 use Rattle.chip8_lang.specs.Events.{is_stop}
 use Rattle.vip_outside.specs.Sink.{SinkMeaning}
 use Rattle.vip_outside.specs.Pieces.{PutsAll, FailsWithin}
-use Rattle.vip_outside.proofs.PiecesLemmas.{PutsAll-nil, PutsAll-append, FailsWithin-append, FailsWithin-more}
+use Rattle.vip_outside.proofs.PiecesLemmas.{PutsAll-append, FailsWithin-append, FailsWithin-more}
 use Rattle.vip_relation.specs.State.{VipState, interpreter}
 use Rattle.vip_relation.specs.Follows.{Follows}
 use Rattle.vip_relation.specs.Meets.{IsSame}
@@ -14,7 +14,7 @@ use Rattle.vip_words.specs.declared.commands.Command.{Command}
 use Rattle.vip_debug.specs.declared.run.DebugEnd.TheVariants.{Done, Stopped, WriteFault}
 use Rattle.vip_debug.specs.Answers.{begun, Place, place_of, pieces, stop_by, place_with, place_after, written, RunsWhole, DebugAnswers}
 use Rattle.vip_debug.specs.Parts.{Makes}
-use Rattle.vip_debug.proofs.Places.{same-refl, same-trans, begun-same}
+use Rattle.vip_debug.proofs.Places.{same-trans, begun-same}
 use Rattle.vip_debug.proofs.Answering.{stands, stop_here, runs-here, stops-here, stop-is}
 
 -- ---- one command more

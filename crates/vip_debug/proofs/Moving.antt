@@ -13,7 +13,7 @@ use Rattle.vip_relation.specs.Meets.{IsSame, Rests, MovesOn}
 use Rattle.vip_words.specs.declared.commands.Running.TheVariants.{Step, To, Next, Break}
 use Rattle.vip_debug.specs.Answers.{begun, moves_until, place_of, all_met, moved_to, has_pc, at_point}
 use Rattle.vip_debug.specs.Parts.{TellsPresent, points_left, Makes, FindAnswers, Arrives}
-use Rattle.vip_debug.proofs.Places.{same-refl, same-trans, begun-same, place-stays, place-moved, made-most, made-all, made-before, made-now, all-here, none-waits, until-same}
+use Rattle.vip_debug.proofs.Places.{same-trans, begun-same, place-moved, made-most, made-all, made-before, made-now, all-here, none-waits, until-same}
 
 -- one move more ends within a limit, where the board doesn't rest
 module _ (limit : ℕ) (v v' : VipState) (name : Move) (m : MovesOn v v' name) where

@@ -1,5 +1,5 @@
 -- The board runs past pictures to the next dispatch point, and on to one that is looked for.
-use Rattle.std.proofs.Common.{◌≡◌, ◌⊎◌, inl, inr, ℕ, zero, suc, ◌+◌, ◌<◌, ◌≤◌, Bool, true, false, List, [], ◌∷◌, ◌++◌, length, drop, refl, sym, ap, ◌∙◌, subst, arith, Some, None, add-one}
+use Rattle.std.proofs.Common.{◌≡◌, ◌⊎◌, inl, inr, ℕ, zero, suc, ◌+◌, ◌≤◌, Bool, true, false, List, [], ◌∷◌, ◌++◌, length, drop, refl, sym, ap, ◌∙◌, subst, arith, Some, None, add-one}
 use Rattle.std.specs.Prelude.{filter_map, find, slice_get}
 use Rattle.machine.specs.Board.{Machine}
 use Rattle.chip8_lang.specs.declared.view.StopRecord.{StopRecord}
@@ -14,7 +14,7 @@ use Rattle.vip_relation.proofs.Waits.{none-behind-dispatch}
 use Rattle.vip_relation.proofs.Nexts.{Dispatched, Pictured, Halted, Ended, at_stop}
 use Rattle.vip_debug.specs.Answers.{begun, moves_until, has_pc}
 use Rattle.vip_debug.specs.Parts.{points_left, Passes, PassesNone, PassAnswers, FindAnswers}
-use Rattle.vip_debug.proofs.Places.{same-refl, same-trans, made-most, made-few, made-all, all-within, some-run, none-left-stays, events-same, until-same, begun-same, decided}
+use Rattle.vip_debug.proofs.Places.{same-trans, made-most, made-few, made-all, all-within, some-run, none-left-stays, events-same, until-same, begun-same, decided}
 
 -- ---- what an answer says of whether a stop was met before
 

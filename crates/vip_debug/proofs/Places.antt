@@ -18,9 +18,6 @@ use Rattle.vip_debug.specs.Answers.{up_to_stop, begun, moves_until, Place, place
 
 -- ---- the same game
 
-pub same-refl : (v : VipState) → IsSame v v
-same-refl v = record { edition = refl; game = refl; script = refl }
-
 pub same-trans : (u v w : VipState) → IsSame u v → IsSame v w → IsSame u w
 same-trans u v w a b = record { edition = b.edition ∙ a.edition; game = b.game ∙ a.game; script = b.script ∙ a.script }
 
@@ -32,14 +29,7 @@ begun-same old new s =
 
 -- ---- places
 
--- without a move the place stays
-pub place-stays : (v : VipState) (p : Place) → p ≡ moved_to v p.moves p
-place-stays v p = sym (ap (λ t. if t then p else all_met v p.moves) (same p.moves))
-  where
-    same : (n : ℕ) → (n == n) ≡ true
-    same n = grind (arith, nat_tests)
-
--- with one every event up to there is met
+-- with a move every event up to there is met
 pub place-moved : (v : VipState) (moves : ℕ) (p : Place) → p.moves < moves → all_met v moves ≡ moved_to v moves p
 place-moved v moves p more = sym (ap (λ t. if t then p else all_met v moves) (differ moves p.moves more))
   where

@@ -1,4 +1,4 @@
-use Rattle.std.proofs.Common.{◌∙◌, ap, sym, inr, arith}
+use Rattle.std.proofs.Common.{ap, sym, inr, arith}
 use Rattle.std.specs.Result.{result_err}
 use Rattle.std.proofs.lemmas.List.{map-append}
 use Rattle.vip_byte.proofs.ReadingLemmas.{length-IsReadUpTo, read_line, read_none, read-refused, read-whole}
