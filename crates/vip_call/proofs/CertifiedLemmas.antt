@@ -61,8 +61,8 @@ module _ (routines : AcceptedIsWithin) (games : CertifiedGames) (law : EveryRun)
       record {
         never = never;
         runs = λ script limit.
-          from_reset e script limit (game_run (interpreter_of e) game script limit) game (events_of (interpreter_of e) game script limit) never
-          (law e game fits bytes script limit);
+            from_reset e script limit (game_run (interpreter_of e) game script limit) game (events_of (interpreter_of e) game script limit) never
+            (law e game fits bytes script limit);
       }
 
   -- ---- a command

@@ -45,7 +45,11 @@ fn assembled_rom<'a>(alloc: Global, source: &[u8]) -> Result<[u8; 2048], Refusal
 }
 
 /// What a certificate says of a ROM.
-fn checked_routine<'a>(alloc: Global, rom: &[u8; 2048], certificate: &[u8]) -> Result<Within, Refusal<'a>>
+fn checked_routine<'a>(
+    alloc: Global,
+    rom: &[u8; 2048],
+    certificate: &[u8],
+) -> Result<Within, Refusal<'a>>
     requires { length certificate.now ≤ most_text }
     ensures { CertificateAnswers rom.now certificate.now result }
 {
@@ -75,7 +79,11 @@ fn checked_game<'a>(
 }
 
 /// A certificate of a game.
-fn found_certificate<'a>(alloc: Global, edition: Edition, game: &[u8]) -> Result<Vec<u8>, Refusal<'a>>
+fn found_certificate<'a>(
+    alloc: Global,
+    edition: Edition,
+    game: &[u8],
+) -> Result<Vec<u8>, Refusal<'a>>
     requires { length game.now ≤ memory_size edition }
     ensures { FoundAnswers edition game.now result }
 {

@@ -139,10 +139,7 @@ pub fn wanted_files<'a>(request: &Request<'a>) -> ArrayVec<Wanted<'a>, 3>
         Request::Debug(wish) => debug_files(wish),
         Request::Asm(wish) => only(source_file(wish.file, MOST_TEXT)),
         Request::List(wish) => only(source_file(wish.file, MOST_TEXT)),
-        Request::Dis(wish) => only(source_file(
-            wish.file,
-            ADDRESSES - usize::from(wish.address),
-        )),
+        Request::Dis(wish) => only(source_file(wish.file, ADDRESSES - usize::from(wish.address))),
         Request::Cycles(wish) => {
             with_certificate(source_file(wish.file, MOST_TEXT), wish.certificate)
         }

@@ -22,9 +22,8 @@ use vip_report::{Ended, Refusal};
 use vip_show::{show_pictures, show_summary, show_trace};
 use vip_text::RunEnd;
 use vip_tools::{
-    DebugContents, RunContents, asm, bounds, certified_contents, certify,
-    cycles, debug_contents, demo_game, dis, game_kind, list, only_content, read_debugging,
-    read_keys, run_contents, safe,
+    DebugContents, RunContents, asm, bounds, certified_contents, certify, cycles, debug_contents,
+    demo_game, dis, game_kind, list, only_content, read_debugging, read_keys, run_contents, safe,
 };
 use vip_words::{DebugRequest, DemoRequest, Request, RunRequest, TraceRequest};
 
