@@ -19,7 +19,7 @@ use std::collections::BinaryHeap;
 const MOST_POINTS: usize = 65_536;
 
 /// How often a range may grow by what it met. From the next time on it grows to the bounds of where it lies.
-const MOST_GROWTHS: u8 = 8;
+const MOST_GROWTHS: u8 = 200;
 
 /// More often than this no search follows a point: a range that grows to bounds is all addresses soon.
 const MOST_TURNS: u32 = 1_048_576;
@@ -236,9 +236,13 @@ fn bounds_about(edition: Edition, low: u16, high: u16) -> (u16, u16) {
     }
 }
 
-// The chain in which a point stands.
+// The chain in which a point stands, by its pc and its stack: a subroutine called from many places has many points with one pc.
 fn chain_of(point: &Point) -> usize {
-    usize::from(point.pc) % CHAINS
+    let mut sum = u32::from(point.pc);
+    for address in point.stack.as_slice() {
+        sum = sum.wrapping_mul(31).wrapping_add(u32::from(*address));
+    }
+    sum as usize % CHAINS
 }
 
 // The first node of a chain.
