@@ -1,34 +1,27 @@
 -- Where the debugger's commands leave the board at a stop point, its stop is that of the whole run.
-use Rattle.std.proofs.Common.{◌≡◌, ◌⊎◌, inl, inr, ℕ, zero, suc, ◌+◌, ◌-◌, ◌<◌, ◌≤◌, Bool, true, false, List, [], ◌∷◌, ◌++◌, drop, map, Option, Some, None, slice_get, nat_le, refl, sym, ap, subst, ◌∙◌, arith, append_assoc, append-nil}
-use Rattle.std.specs.Prelude.{if◌then◌else◌, ◌==◌, max, min}
+use Rattle.std.proofs.Common.{◌≡◌, ◌⊎◌, inl, inr, ℕ, ◌≤◌, Bool, true, false, List, [], ◌∷◌, ◌++◌, Option, Some, None, refl, sym, ap, ◌∙◌, arith}
+use Rattle.std.specs.Prelude.{if◌then◌else◌}
 use Rattle.std.specs.Option.{option_map}
-use Rattle.std.proofs.lemmas.Bool.{cases_lt}
-use Rattle.std.proofs.lemmas.Bool.Decides.{nat_tests}
-use Rattle.std.proofs.lemmas.List.Folds.{find_at}
 use Rattle.machine.specs.Board.{Machine, start}
 use Rattle.machine.specs.Keys.{Event as KeyEvent, held_at}
+use Rattle.machine.specs.Run.{after_moves}
 use Rattle.chip8_lang.specs.declared.view.Edition.{Edition}
-use Rattle.chip8_lang.specs.Events.{Event, is_stop}
+use Rattle.chip8_lang.specs.Events.{Event, events_of, is_stop}
 use Rattle.chip8_lang.specs.Events.Event.{Picture, Dispatch, Stopped}
 use Rattle.chip8_lang.specs.Places.{Interpreter}
 use Rattle.chip8_lang.specs.View.{view_at}
 use Rattle.vip_relation.specs.Follows.{last_dispatch}
 use Rattle.vip_relation.specs.Interpreters.{interpreter_of}
-use Rattle.vip_relation.specs.State.{VipState, events_to, started}
+use Rattle.vip_relation.specs.State.{VipState, started}
 use Rattle.vip_relation.specs.Stops.{stop_at, pc_of, opcode_of}
-use Rattle.vip_relation.proofs.Along.{in-turn}
-use Rattle.vip_relation.proofs.Past.{state, past, Runs, events-last, events-stop}
-use Rattle.vip_relation.proofs.Waits.{Earlier, earlier-at, earlier-drop, earlier-next}
-use Rattle.vip_language.proofs.Passed.{NoStop, before_point, last_after, last_after_stop, last_of_events, no_stop_before, stop_point, with_point}
+use Rattle.vip_language.proofs.Passed.{NoStop, before_point, events_to_stop, last_after, last_after_stop, last_of_events, no_stop_before}
 use Rattle.vip_text.specs.Endings.{Ending}
 use Rattle.vip_text.specs.Endings.Ending.{AtLimit, AtStop}
 use Rattle.vip_show.specs.Endings.{ending_after}
-use Rattle.vip_debug.specs.Answers.{Place, moves_until, all_met, moved_to, at_point, points_ahead, has_pc, arrival, stop_by, place_with, place_after, at_start}
 use Rattle.vip_words.specs.declared.commands.Command.{Command}
-use Rattle.vip_words.specs.declared.commands.Command.TheVariants as command
-use Rattle.vip_words.specs.declared.commands.Running.{Running}
-use Rattle.vip_words.specs.declared.commands.Running.TheVariants.{Step, To, Next, Break}
-use Rattle.vip_debug.proofs.Places.{Reached, reached, reached-next, some-here, all-moves}
+use Rattle.vip_debug.specs.Answers.{stop_by, place_after, at_start}
+use Rattle.vip_debug.proofs.Places.{Reached}
+use Rattle.vip_debug.proofs.Reaching.{commands_reach}
 use Rattle.vip_verbs.specs.Outcome.{run_ending, stopped_by, debug_ending}
 
 module _ (e : Edition) where
@@ -49,7 +42,7 @@ module _ (e : Edition) where
   ending_stop last (Dispatch c ∷ es) b none = ending_stop (Some c) es b none
   ending_stop last (Stopped c ∷ es) b none = absurd none
 
-  module _ (game : List ℕ) (script : List KeyEvent) where
+  module _ (game : List ℕ) (script : List KeyEvent) (limit : ℕ) where
     abbrev i : Interpreter
     i = interpreter_of e
 
@@ -57,126 +50,32 @@ module _ (e : Edition) where
     v = started e game script
 
     abbrev at_state : ℕ → Machine
-    at_state n = state i game script n
+    at_state n = after_moves i.rom (held_at script) (start game) n
 
-    abbrev past_of : ℕ → List Event
-    past_of n = past i game script n
-
-    -- by those up to the first stop point, which names the last dispatch point before it
-    ending_there :
-        (n : ℕ) → Runs i game script n → is_stop i (at_state n) ≡ true
-        → ending_behind None (past_of (suc n)) ≡ stop_behind (last_dispatch (past_of (suc n))) (at_state n)
-    ending_there n runs stop =
-        ap (ending_behind None) all ∙ ending_stop None (before_point i game script n) (at_state n) (no_stop_before i game script n runs)
-        ∙ ap (λ last. stop_behind last (at_state n)) (
-        sym (last_after_stop None (before_point i game script n) (at_state n)) ∙ ap (last_after None) (sym all) ∙ last_of_events (past_of (suc n)))
+    -- the n-th state is the first stop point, so its stop is the run's
+    stop_is : (n : ℕ) → Reached i game script limit n → is_stop i (at_state n) ≡ true → stopped_by (stop_by v n) ≡ run_ending e game limit script
+    stop_is n r stop =
+        ap (λ es. stop_behind (last_dispatch es) (at_state n)) (events (at_state n).cycle (omega arith))
+        ∙ ap (λ last. stop_behind last (at_state n)) (sym (last_of_events (here ++ Stopped (at_state n) ∷ [])) ∙ last_after_stop None here (at_state n))
+        ∙ sym (ending_stop None here (at_state n) (no_stop_before i game script n r.runs))
+        ∙ ap (ending_behind None) (sym (events limit r.within))
       where
-        all : past_of (suc n) ≡ before_point i game script n ++ Stopped (at_state n) ∷ []
-        all = with_point i game script n ∙ ap (λ es. before_point i game script n ++ es) (stop_point i game script n stop)
+        here : List Event
+        here = before_point i game script n
 
-    -- ---- where commands leave the board
+        events : (t : ℕ) → (at_state n).cycle ≤ t → events_of i game script t ≡ here ++ Stopped (at_state n) ∷ []
+        events t within = events_to_stop i game script t n within stop r.runs
 
-    -- the n-th state comes by cycle t, and none before it is a stop point
-    abbrev Comes : ℕ → ℕ → Type 0
-    Comes t n = Reached i game script t n
-
-    wider : (t u n : ℕ) → t ≤ u → Comes t n → Comes u n
-    wider t u n order r = record { within = omega (arith, order, r.within); runs = r.runs }
-
-    lower : (t n k : ℕ) → k ≤ n → Comes t n → Comes t k
-    lower t n k order r = record {
-      within = omega (arith, r.within, in-turn i.rom (held_at script) n k (start game) order);
-      runs = λ j l. r.runs j (omega (arith, l, order));
-    }
-
-    -- so does the last of the states up to a cycle or to the first stop point
-    last_until : (t : ℕ) → Comes t (moves_until v t)
-    unfolding moves_until
-    last_until t = reached i game script t (moves_until v t) (omega (arith, some-here i game script t 0 (omega arith)))
-
-    -- it is a stop point, or the next one comes later: so the events up to that cycle are those of the states up to it
-    all_past : (t : ℕ) → events_to v t ≡ past_of (suc (moves_until v t))
-    unfolding moves_until
-    all_past t = by_test (is_stop i (at_state n)) refl (cases_lt t (at_state (suc n)).cycle)
+    -- A run under the debugger ends as at the limit, or as the whole run: where the commands leave the board at a stop point, no state before it
+    -- was one, so its last dispatch point is the run's.
+    pub debug_ends : (commands : List Command) → (debug_ending v limit commands ≡ AtLimit) ⊎ (debug_ending v limit commands ≡ run_ending e game limit script)
+    debug_ends commands = by_test (is_stop i (at_state n)) refl
       where
         n : ℕ
-        n = moves_until v t
-
-        r : Comes t n
-        r = last_until t
-
-        beyond : Comes t (suc n) → ⊥
-        beyond next = omega (arith, all-moves i game script t (suc n) next.within next.runs, some-here i game script t (suc n) next.within)
+        n = (place_after v limit commands at_start).moves
 
         by_test :
-            (stop : Bool) → is_stop i (at_state n) ≡ stop → (t < (at_state (suc n)).cycle) ⊎ ((at_state (suc n)).cycle ≤ t)
-            → events_to v t ≡ past_of (suc n)
-        by_test true stop far = events-stop i game script t n r.within stop r.runs
-        by_test false runs (inl over) = events-last i game script t n r.within over r.runs
-        by_test false runs (inr within) = absurd (beyond (reached-next i game script t n r runs within))
-
-    -- ---- a command
-
-    module _ (limit : ℕ) where
-      abbrev ahead : Place → List Event
-      ahead p = drop p.met (events_to v limit)
-
-      -- the dispatch points ahead come by the limit
-      ahead_earlier : (p : Place) → Earlier (limit + 1) (ahead p)
-      ahead_earlier p =
-          earlier-drop (limit + 1) p.met (events_to v limit)
-          (subst (Earlier (limit + 1)) (sym (all_past limit)) (earlier-next i game script (limit + 1) (moves_until v limit) (omega (arith, (last_until limit).within))))
-
-      moved : (n : ℕ) (p : Place) → Comes limit p.moves → Comes limit n → Comes limit (moved_to v n p).moves
-      moved n p old new = by_test (n == p.moves)
-        where
-          by_test : (same : Bool) → Comes limit (if same then p else all_met v n).moves
-          by_test true = old
-          by_test false = new
-
-      pointed : (p : Place) (k : ℕ) (found : Option Machine) → found ≡ slice_get (points_ahead v limit p) k → Comes limit (at_point v limit found).place.moves
-      pointed p k None is = last_until limit
-      pointed p k (Some b) is = wider b.cycle limit (moves_until v b.cycle) (omega (arith, earlier-at (limit + 1) (ahead p) (ahead_earlier p) k b (sym is))) (last_until b.cycle)
-
-      arrived : (running : Running) (p : Place) → Comes limit p.moves → Comes limit (arrival v limit running p).place.moves
-      arrived (Step n) p r = moved _ p r (lower limit (moves_until v limit) (min (p.moves + n) (moves_until v limit)) (omega arith) (last_until limit))
-      arrived (To cycle) p r = moved _ p r (either (nat_le p.moves (moves_until v (min cycle limit))) refl)
-        where
-          far : Comes limit (moves_until v (min cycle limit))
-          far = wider (min cycle limit) limit (moves_until v (min cycle limit)) (omega arith) (last_until (min cycle limit))
-
-          either : (test : Bool) → nat_le p.moves (moves_until v (min cycle limit)) ≡ test → Comes limit (max p.moves (moves_until v (min cycle limit)))
-          either true is = let same : max p.moves (moves_until v (min cycle limit)) ≡ moves_until v (min cycle limit) = grind (arith, nat_tests) in subst (Comes limit) (sym same) far
-          either false is = let same : max p.moves (moves_until v (min cycle limit)) ≡ p.moves = grind (arith, nat_tests) in subst (Comes limit) (sym same) r
-      arrived (Next n) p r = pointed p (n - 1) _ refl
-      arrived (Break pc) p r = pointed p _ _ (find_at (has_pc v pc) (points_ahead v limit p))
-
-      with_one : (command : Command) (p : Place) → Comes limit p.moves → Comes limit (place_with v limit command p).moves
-      with_one (command.Runs running) p r = arrived running p r
-      with_one (command.Shows showing) p r = r
-
-      after_all : (commands : List Command) (p : Place) → Comes limit p.moves → Comes limit (place_after v limit commands p).moves
-      after_all [] p r = r
-      after_all (command ∷ commands) p r = after_all commands (place_with v limit command p) (with_one command p r)
-
-      -- ---- a stop point
-
-      stop_is : (n : ℕ) → Comes limit n → is_stop i (at_state n) ≡ true → stopped_by (stop_by v n) ≡ run_ending e game limit script
-      stop_is n r stop =
-          ap (λ es. stop_behind (last_dispatch es) (at_state n)) (events-stop i game script (at_state n).cycle n (omega arith) stop r.runs)
-          ∙ sym (ending_there n r.runs stop)
-          ∙ ap (ending_behind None) (sym (events-stop i game script limit n r.within stop r.runs))
-
-      -- A run under the debugger ends as at the limit, or as the whole run: where the commands leave the board at a stop point, no state before it
-      -- was one, so its last dispatch point is the run's.
-      pub debug_ends : (commands : List Command) → (debug_ending v limit commands ≡ AtLimit) ⊎ (debug_ending v limit commands ≡ run_ending e game limit script)
-      debug_ends commands = by_test (is_stop i (at_state n)) refl
-        where
-          n : ℕ
-          n = (place_after v limit commands at_start).moves
-
-          by_test :
-              (stop : Bool) → is_stop i (at_state n) ≡ stop
-              → ((if stop then stopped_by (stop_by v n) else AtLimit) ≡ AtLimit) ⊎ ((if stop then stopped_by (stop_by v n) else AtLimit) ≡ run_ending e game limit script)
-          by_test true is = inr (stop_is n (after_all commands at_start (lower limit (moves_until v limit) 0 (omega arith) (last_until limit))) is)
-          by_test false is = inl refl
+            (stop : Bool) → is_stop i (at_state n) ≡ stop
+            → ((if stop then stopped_by (stop_by v n) else AtLimit) ≡ AtLimit) ⊎ ((if stop then stopped_by (stop_by v n) else AtLimit) ≡ run_ending e game limit script)
+        by_test true is = inr (stop_is n (commands_reach e game script limit commands) is)
+        by_test false is = inl refl

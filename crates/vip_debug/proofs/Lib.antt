@@ -5,3 +5,4 @@ pub mod Lines
 pub mod Disassembling
 pub mod Answering
 pub mod Folding
+pub mod Reaching

@@ -6,7 +6,7 @@ use Rattle.std.proofs.lemmas.List.{drop_all, take-append-le, length-append}
 use Rattle.machine.specs.Board.{Machine}
 use Rattle.machine.specs.Keys.{Event as KeyEvent}
 use Rattle.machine.specs.Pictures.{windows_ended, is_shown}
-use Rattle.chip8_lang.specs.Events.{Event, is_dispatch, is_stop, numbers_from}
+use Rattle.chip8_lang.specs.Events.{Event, events_of, is_dispatch, is_stop, numbers_from}
 use Rattle.chip8_lang.specs.Events.Event.{Picture, Dispatch, Stopped}
 use Rattle.chip8_lang.specs.Places.{Interpreter}
 use Rattle.vip_relation.specs.Follows.{Follows, dispatch_of, last_dispatch}
@@ -14,7 +14,7 @@ use Rattle.vip_relation.specs.Meets.{HasStopped}
 use Rattle.vip_relation.specs.Points.{point_events}
 use Rattle.vip_relation.specs.declared.point.Point.TheVariants.{Dispatch as DispatchPoint, Stop as StopPoint, Other as OtherPoint}
 use Rattle.vip_relation.specs.State.{VipState, interpreter, events_to, events_met}
-use Rattle.vip_relation.proofs.Past.{state, earlier, before, past, pictures, point, Runs}
+use Rattle.vip_relation.proofs.Past.{state, earlier, before, past, pictures, point, Runs, events-stop}
 use Rattle.vip_relation.proofs.Steps.{events-here}
 
 -- ---- the last dispatch point among some events
@@ -130,6 +130,13 @@ module _ (i : Interpreter) (game : List ℕ) (script : List KeyEvent) where
   -- of a stop point that is the stop alone
   pub stop_point : (n : ℕ) → is_stop i (state i game script n) ≡ true → point i game script n ≡ Stopped (state i game script n) ∷ []
   stop_point n stop = one_stop (is_stop i (state i game script n)) (is_dispatch i (state i game script n)) (state i game script n) stop
+
+  -- where the n-th state is the first stop point, the events up to any cycle from it on are those before it, and then it
+  pub events_to_stop :
+      (limit n : ℕ) → (state i game script n).cycle ≤ limit → is_stop i (state i game script n) ≡ true → Runs i game script n
+      → events_of i game script limit ≡ before_point n ++ Stopped (state i game script n) ∷ []
+  events_to_stop limit n within stop runs =
+      events-stop i game script limit n within stop runs ∙ with_point n ∙ ap (λ es. before_point n ++ es) (stop_point n stop)
 
   pub other_point : (n : ℕ) → is_stop i (state i game script n) ≡ false → NoStop (point i game script n)
   other_point n runs = no_stop_point (is_stop i (state i game script n)) (is_dispatch i (state i game script n)) (state i game script n) runs
