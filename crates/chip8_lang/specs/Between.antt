@@ -1,8 +1,8 @@
 -- What lies between two successive dispatch points of a run: one step, and the ticks and keys of the interval.
-use Rattle.std.specs.Prelude.{◌≡◌, ℕ, zero, suc, ◌+◌, ◌-◌, ◌*◌, ◌%◌, ◌/◌, ◌<◌, ◌≤◌, Bool, true, false, List, [], ◌∷◌, slice_get, Some, None}
+use Rattle.std.specs.Prelude.{◌≡◌, ℕ, zero, suc, ◌+◌, ◌-◌, ◌%◌, ◌<◌, ◌≤◌, ◌&&◌, Bool, true, false, nat_lt, List, [], ◌∷◌, length, filter, slice_get, Some, None}
+use Rattle.std.specs.List.{range_with_len}
 use Rattle.machine.specs.Keys.{Event, Keys, held_at}
-use Rattle.machine.specs.Pictures.{frame}
-use Rattle.machine.specs.Signals.{line_cycles, interrupt_line}
+use Rattle.machine.specs.Pictures.{interrupt_at}
 use Rattle.chip8_lang.specs.declared.instr.Instr.{Instr}
 use Rattle.chip8_lang.specs.declared.instr.Instr.TheVariants.{Clear, Draw, SkipDown, SkipUp, WaitKey}
 use Rattle.chip8_lang.specs.declared.view.Edition.{Edition}
@@ -13,13 +13,9 @@ use Rattle.chip8_lang.specs.Ticks.{ticks}
 
 -- ---- an interval of cycles
 
--- how many interrupts have started by a cycle, that cycle included: one in each frame, in the first cycle of the interrupt's line
-abbrev pub interrupts_by : ℕ → ℕ
-interrupts_by t = (t + (frame - interrupt_line * line_cycles)) / frame
-
--- the ticks between two cycles: the frames m whose interrupt lies strictly between them
-abbrev pub ticks_between : ℕ → ℕ → ℕ
-ticks_between a e = interrupts_by (e - 1) - interrupts_by a
+-- the ticks between two cycles: how many frames have their interrupt strictly between them (frame m's doesn't come before cycle m)
+unfoldable pub ticks_between : ℕ → ℕ → ℕ
+ticks_between a e = length (filter (λ m. nat_lt a (interrupt_at m) && nat_lt (interrupt_at m) e) (range_with_len 0 e))
 
 -- the keys that are held down in each of n cycles from a on
 abbrev pub keys_from : List Event → ℕ → ℕ → List Keys

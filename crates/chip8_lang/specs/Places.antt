@@ -1,13 +1,11 @@
 -- Where a language state lies in the machine.
 use Rattle.std.specs.Prelude.{min, ◌≡◌, ℕ, zero, suc, ◌+◌, ◌-◌, ◌*◌, ◌/◌, ◌%◌, ◌&&◌, true, false, nat_lt, List, [], ◌∷◌, length, slice_index, slice_range}
-use Rattle.machine.specs.Bank.{word_of, value}
+use Rattle.machine.specs.Bank.{value}
 use Rattle.machine.specs.Board.{Machine}
 use Rattle.chip8_lang.specs.declared.view.Edition.{Edition}
-use Rattle.chip8_lang.specs.declared.view.Stop.{Stop}
-use Rattle.chip8_lang.specs.Editions.{memory_start, memory_end, stack_top, variables, screen_start, rows_of, stop_cell, random_cell}
+use Rattle.chip8_lang.specs.Editions.{memory_start, memory_end, stack_top, variables, screen_start, rows_of, random_cell}
 use Rattle.chip8_lang.specs.Screen.{Pixels, is_set}
 use Rattle.chip8_lang.specs.State.{Lang}
-use Rattle.chip8_lang.specs.Step.{stop_number}
 
 -- an interpreter: its ROM of 2,048 bytes from 8000 on, and the addresses of the fetch loop, of the stop and of the interrupt routine
 pub record Interpreter : Type 0 where
@@ -55,23 +53,3 @@ pub record Lies (e : Edition) (b : Machine) (s : Lang) : Type 0 where
   pub latch : b.latch ≡ false
   pub enabled : b.regs.ie ≡ true
   pub awake : b.regs.idle ≡ false
-
--- besides, the display is on, R1 points to the interrupt routine, and RB.1 is the page of the screen
-pub record Holds (e : Edition) (i : Interpreter) (b : Machine) (s : Lang) : Type 0 where
-  pub lies : Lies e b s
-  pub on : b.on ≡ true
-  pub entry : b.regs.r.r1 ≡ word_of i.entry
-  pub page : b.regs.r.rb.hi ≡ screen_start e / 256
-
--- the machine is at the fetch loop, with program counter R4
-pub record Stands (e : Edition) (i : Interpreter) (b : Machine) (s : Lang) : Type 0 where
-  pub holds : Holds e i b s
-  pub p : b.regs.p ≡ 4
-  pub r4 : b.regs.r.r4 ≡ word_of i.fetch
-
--- the machine is at the stop, with program counter R3 and the number of the stop in its cell
-pub record Halted (e : Edition) (i : Interpreter) (b : Machine) (s : Lang) (stop : Stop) : Type 0 where
-  pub holds : Holds e i b s
-  pub p : b.regs.p ≡ 3
-  pub r3 : b.regs.r.r3 ≡ word_of i.halt
-  pub number : slice_index b.ram stop_cell ≡ stop_number stop

@@ -1,7 +1,7 @@
 -- The pictures that the CDP1861 shows in a run (data sheet, "Display"; the places in a frame are this project's profile): the 128 lines
 -- of the window, each of 8 bytes that DMA cycles put on the bus.
-use Rattle.std.specs.Prelude.{ℕ, zero, suc, ◌+◌, ◌-◌, ◌*◌, ◌/◌, ◌==◌, ◌&&◌, ◌||◌, not, nat_lt, Bool, true, false, List, [], ◌∷◌, ◌++◌, length, filter, map, replicate}
-use Rattle.std.specs.List.{list_all}
+use Rattle.std.specs.Prelude.{ℕ, zero, suc, ◌+◌, ◌-◌, ◌*◌, ◌/◌, ◌==◌, ◌&&◌, ◌||◌, not, nat_lt, nat_le, Bool, true, false, List, [], ◌∷◌, ◌++◌, length, filter, map, replicate}
+use Rattle.std.specs.List.{list_all, range_with_len}
 use Rattle.machine.specs.Board.{Machine, Case, case_of, dma_byte, length_of}
 use Rattle.machine.specs.Board.Case.{Dma}
 use Rattle.machine.specs.Signals.{line_cycles, frame_lines, interrupt_line, window_line, window_end_line, window_lines}
@@ -17,9 +17,9 @@ interrupt_at m = frame * m + interrupt_line * line_cycles
 abbrev pub window_end : ℕ → ℕ
 window_end m = frame * m + window_end_line * line_cycles
 
--- how many windows have ended by a cycle
-abbrev pub windows_ended : ℕ → ℕ
-windows_ended cycle = (cycle + (frame - window_end_line * line_cycles)) / frame
+-- how many windows have ended by a cycle (frame m's doesn't end before cycle m)
+unfoldable pub windows_ended : ℕ → ℕ
+windows_ended cycle = length (filter (λ m. nat_le (window_end m) cycle) (range_with_len 0 cycle))
 
 abbrev pub is_dma : Case → Bool
 is_dma Dma = true

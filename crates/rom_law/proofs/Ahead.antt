@@ -6,7 +6,6 @@ use Rattle.machine.specs.Board.{Machine, move}
 use Rattle.machine.specs.Keys.{Keys}
 use Rattle.machine.specs.Run.{states, run_to, after_moves}
 use Rattle.machine.proofs.Runs.{later-move, run_to-next}
-use Rattle.rom_law.specs.Language.{last_cycle}
 
 module _ (rom : List ℕ) (held : ℕ → Keys) where
   -- ---- moves
@@ -55,28 +54,3 @@ module _ (rom : List ℕ) (held : ℕ → Keys) where
     pub all_in_run : (limit : ℕ) (b : Machine) → ((j : ℕ) → p (after_moves rom held b j) ≡ true) → list_all p (run_to rom held b limit) ≡ true
     unfolding run_to
     all_in_run limit b h = all_within (λ s. nat_le s.cycle limit) (states rom held b (limit + 1)) (all_states (limit + 1) b h)
-
-  -- ---- the last state
-
-  -- from a state within the limit on
-  pub last_next : (limit d : ℕ) (b : Machine) → b.cycle ≤ limit → last_cycle d (run_to rom held b limit) ≡ last_cycle b.cycle (run_to rom held (move rom held b) limit)
-  last_next limit d b here = ap (last_cycle d) (run_to-next rom held limit b here)
-
-  pub last_after : (limit n : ℕ) (b : Machine) → (after_moves rom held b n).cycle ≤ limit → (d : ℕ) → last_cycle d (run_to rom held b limit) ≡ last_cycle (after_moves rom held b n).cycle (run_to rom held (after_moves rom held b (suc n)) limit)
-  last_after limit zero b here d = last_next limit d b here
-  last_after limit (suc n) b here d =
-      last_after limit n b (omega (arith, here, later-move rom held (after_moves rom held b n))) d
-      ∙ last_next limit (after_moves rom held b n).cycle (after_moves rom held b (suc n)) here
-
-  -- it is within the limit
-  last_filtered : (limit d : ℕ) (l : List Machine) → d ≤ limit → last_cycle d (filter (λ s. nat_le s.cycle limit) l) ≤ limit
-  last_filtered limit d [] h = h
-  last_filtered limit d (s ∷ l) h = go (cases_lt limit s.cycle) (last_filtered limit d l h) (last_filtered limit s.cycle l)
-    where
-      go : (limit < s.cycle) ⊎ (s.cycle ≤ limit) → last_cycle d (filter (λ z. nat_le z.cycle limit) l) ≤ limit → (s.cycle ≤ limit → last_cycle s.cycle (filter (λ z. nat_le z.cycle limit) l) ≤ limit) → last_cycle d (filter (λ z. nat_le z.cycle limit) (s ∷ l)) ≤ limit
-      go (inl past) without behind = rw (lt-leb s.cycle limit past) without
-      go (inr here) without behind = rw (le-leb s.cycle limit here) (behind here)
-
-  pub last_within : (limit d : ℕ) (b : Machine) → d ≤ limit → last_cycle d (run_to rom held b limit) ≤ limit
-  unfolding run_to
-  last_within limit d b h = last_filtered limit d (states rom held b (limit + 1)) h

@@ -3,9 +3,10 @@ use Rattle.std.proofs.Common.{◌≡◌, ℕ, suc, ◌+◌, ◌-◌, ◌≤◌, 
 use Rattle.machine.specs.Board.{Machine}
 use Rattle.machine.specs.Keys.{Event as KeyEvent}
 use Rattle.machine.specs.Pictures.{windows_ended}
+use Rattle.machine.proofs.Counts.{windows}
 use Rattle.chip8_lang.specs.Events.{Event, numbers_from}
 use Rattle.chip8_lang.specs.Events.Event.{Picture, Dispatch, Stopped}
-use Rattle.rom_law.specs.Language.{last_cycle, Also, GoesOn, Begins, frames_of, end_cycle}
+use Rattle.rom_law.specs.Language.{Also, GoesOn, Begins, frames_of, end_cycle}
 use Rattle.rom_law.specs.Program.{Program}
 
 -- the numbers from k up to, and without, n
@@ -24,33 +25,37 @@ one_more k m n same room l e = ap₂ (λ y z. y ∷ z) same e ∙ ap (numbers_fr
     count : suc (n - (k + 1)) ≡ n - k
     count = omega (arith, room)
 
-module _ (x : Program) (script : List KeyEvent) (limit : ℕ) (run : List Machine) (also : Also) (last : ℕ) (is : (d : ℕ) → last_cycle d run ≡ last) where
+module _ (x : Program) (script : List KeyEvent) (limit : ℕ) (run : List Machine) (also : Also) where
   record AllOf (k : ℕ) (events : List Event) : Type 0 where
-    from : k ≤ windows_ended (end_cycle last events)
-    are : frames_of events ≡ up_to k (windows_ended (end_cycle last events))
+    from : k ≤ windows_ended (end_cycle limit events)
+    are : frames_of events ≡ up_to k (windows_ended (end_cycle limit events))
 
-  all_of : (k : ℕ) (b : Machine) (events : List Event) → GoesOn x script limit run also k b events → AllOf k events
-  all_of k b [] g = record { from = omega (arith, ended); are = no_more k (windows_ended last) ended }
-    where
-      ended : windows_ended last ≡ k
-      ended = ap windows_ended (sym (is b.cycle)) ∙ g.shown
-  all_of k b (Picture m ∷ events) g = let a = all_of (k + 1) b events g.2 in record { from = omega (arith, a.from); are = one_more k m _ g.0 a.from _ a.are }
-  all_of k b (Dispatch c ∷ events) g = let a = all_of k c events g.2 in record { from = a.from; are = a.are }
-  all_of k b (Stopped c ∷ events) g = record { from = omega (arith, g.comes.shown); are = ap frames_of g.last ∙ no_more k (windows_ended c.cycle) g.comes.shown }
+  all_of : (k : ℕ) (b : Machine) (events : List Event) → b.cycle ≤ limit → GoesOn x script limit run also k b events → AllOf k events
+  all_of k b [] here g = record { from = omega (arith, g.shown here); are = no_more k (windows_ended limit) (g.shown here) }
+  all_of k b (Picture m ∷ events) here g =
+      let a = all_of (k + 1) b events here g.2 in
+      record { from = omega (arith, a.from); are = one_more k m _ g.0 a.from _ a.are }
+  all_of k b (Dispatch c ∷ events) here g = let a = all_of k c events g.0.within g.2 in record { from = a.from; are = a.are }
+  all_of k b (Stopped c ∷ events) here g =
+      record { from = omega (arith, g.comes.shown); are = ap frames_of g.last ∙ no_more k (windows_ended c.cycle) g.comes.shown }
 
   -- behind a dispatch point
-  pub frames_on : (k : ℕ) (b : Machine) (events : List Event) → GoesOn x script limit run also k b events → frames_of events ≡ numbers_from k (windows_ended (end_cycle last events) - k)
-  frames_on k b events g = (all_of k b events g).are
+  pub frames_on :
+      (k : ℕ) (b : Machine) (events : List Event) → b.cycle ≤ limit → GoesOn x script limit run also k b events
+      → frames_of events ≡ numbers_from k (windows_ended (end_cycle limit events) - k)
+  frames_on k b events here g = (all_of k b events here g).are
 
   -- and from reset
-  pub frames_begin : (game : List ℕ) (events : List Event) → last ≤ limit → Begins x script limit run also game events → frames_of events ≡ numbers_from 0 (windows_ended (end_cycle last events))
-  frames_begin game [] l g = ap (numbers_from 0) none
+  pub frames_begin :
+      (game : List ℕ) (events : List Event) → Begins x script limit run also game events
+      → frames_of events ≡ numbers_from 0 (windows_ended (end_cycle limit events))
+  frames_begin game [] g = ap (numbers_from 0) none
     where
-      none : 0 ≡ windows_ended last
-      none = omega (arith, g.0, l)
-  frames_begin game (Picture m ∷ events) l g = absurd g
-  frames_begin game (Dispatch b ∷ events) l g = (all_of 0 b events g.2).are ∙ ap (numbers_from 0) same
+      none : 0 ≡ windows_ended limit
+      none = omega (arith, windows limit, g.0)
+  frames_begin game (Picture m ∷ events) g = absurd g
+  frames_begin game (Dispatch b ∷ events) g = (all_of 0 b events g.2 g.3).are ∙ ap (numbers_from 0) same
     where
-      same : windows_ended (end_cycle last events) - 0 ≡ windows_ended (end_cycle last events)
+      same : windows_ended (end_cycle limit events) - 0 ≡ windows_ended (end_cycle limit events)
       same = omega arith
-  frames_begin game (Stopped b ∷ events) l g = absurd g
+  frames_begin game (Stopped b ∷ events) g = absurd g

@@ -15,4 +15,3 @@ pub mod First
 pub mod Steps
 pub mod Boots
 pub mod Stack
-pub mod Whole

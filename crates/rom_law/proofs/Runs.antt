@@ -1,11 +1,12 @@
 -- The law of a run holds where each move of the board comes to what it should, in time and with its pictures, and boot comes to a first dispatch.
-use Rattle.std.proofs.Common.{◌≡◌, ℕ, zero, suc, ◌+◌, ◌-◌, ◌<◌, ◌≤◌, ◌⊎◌, inl, inr, refl, sym, ◌∙◌, ap, subst, subst₂, arith, Bool, true, false, cond, List, [], ◌∷◌, ◌++◌, filter, map}
+use Rattle.std.proofs.Common.{◌≡◌, ℕ, zero, suc, ◌+◌, ◌-◌, ◌<◌, ◌≤◌, ◌⊎◌, inl, inr, refl, sym, ◌∙◌, ap, subst, subst₂, arith, le_refl, Bool, true, false, cond, List, [], ◌∷◌, ◌++◌, filter, map}
 use Rattle.std.proofs.lemmas.Bool.{cases_lt}
 use Rattle.machine.specs.Board.{Machine, move, start}
 use Rattle.machine.specs.Keys.{held_at}
 use Rattle.machine.specs.Keys.{Event as KeyEvent}
 use Rattle.machine.specs.Run.{run_to}
 use Rattle.machine.specs.Pictures.{window_end, windows_ended, picture_of, is_shown}
+use Rattle.machine.proofs.Counts.{windows}
 use Rattle.machine.proofs.Runs.{later-move, run_to-next, run_to-past}
 use Rattle.chip8_lang.specs.State.{Lang, first}
 use Rattle.chip8_lang.specs.Ticks.{ticks}
@@ -13,13 +14,12 @@ use Rattle.chip8_lang.specs.Between.{Between, keys_between}
 use Rattle.chip8_lang.specs.Bounds.{boot_bound}
 use Rattle.chip8_lang.specs.Events.{Event, events_at, events_of, numbers_from, is_dispatch, is_stop}
 use Rattle.chip8_lang.specs.Events.Event.{Picture, Dispatch, Stopped}
-use Rattle.rom_law.specs.Language.{InTime, last_cycle, nothing_else, GoesOn, Begins, events_behind}
+use Rattle.rom_law.specs.Language.{InTime, Comes, nothing_else, GoesOn, Begins, events_behind}
 use Rattle.rom_law.specs.Pictures.{ShowsScreen}
 use Rattle.rom_law.specs.Program.{Program, Dispatches, Halts}
 use Rattle.rom_law.specs.Rows.{Since, dispatched}
 use Rattle.rom_law.specs.Runs.{state_at, state_after, carried, Moves}
 use Rattle.rom_law.specs.Runs.Moves.{Still, Arrived, Halted}
-use Rattle.rom_law.proofs.Ahead.{last_next, last_after}
 use Rattle.rom_law.proofs.Carried.{carried_from, carried_state, covers_between}
 
 -- ---- what is asked of a ROM
@@ -29,11 +29,12 @@ pub record Shown (x : Program) (run : List Machine) (m : ℕ) (s : Lang) : Type 
   pub shown : is_shown x.interpreter.rom run m ≡ true
   pub shows : ShowsScreen x.edition (picture_of x.interpreter.rom run m) s.screen
 
--- each move comes to what it should, with the record carried on, and in time; where a window ends in it, the picture shows the screen at the last
--- dispatch point
+-- each move comes to what it should, with the record carried on, and in time; none goes past the end of a window; where a window ends in one, the
+-- picture shows the screen at the last dispatch point
 pub record Carries (x : Program) (script : List KeyEvent) (limit : ℕ) (run : List Machine) (Running : Machine → Since → Type 0) : Type 0 where
   pub moves : (b : Machine) (h : Since) → Running b h → Moves x script Running (carried x.interpreter.rom (held_at script) b h) (move x.interpreter.rom (held_at script) b)
   pub timely : (b : Machine) (h : Since) → Running b h → InTime x script h.from h.state (move x.interpreter.rom (held_at script) b).cycle
+  pub meets : (b : Machine) (h : Since) (m : ℕ) → Running b h → b.cycle < window_end m → (move x.interpreter.rom (held_at script) b).cycle ≤ window_end m
   pub shown : (b : Machine) (h : Since) (m : ℕ) → Running b h → b.cycle < window_end m → window_end m ≤ (move x.interpreter.rom (held_at script) b).cycle → (move x.interpreter.rom (held_at script) b).cycle ≤ limit → Shown x run m h.state
 
 -- boot comes to a first dispatch, with no event before
@@ -60,7 +61,7 @@ in_time_first x script from s t l = record { bound = λ n k. omega (arith, l); k
 
 -- no window ends in boot
 no_window : (before t : ℕ) → t ≤ boot_bound → windows_ended t - windows_ended before ≡ 0
-no_window before t soon = omega (arith, soon)
+no_window before t soon = omega (arith, soon, windows t, windows before)
 
 module _ (x : Program) (script : List KeyEvent) (limit : ℕ) (run : List Machine) where
   abbrev Goes : ℕ → Machine → List Event → Type 0
@@ -86,7 +87,7 @@ module _ (x : Program) (script : List KeyEvent) (limit : ℕ) (run : List Machin
     frames_on (suc n) k from to = go (is_shown x.interpreter.rom run k) here.shown (frames_on n (k + 1) (omega (arith, from)) (omega (arith, to)))
       where
         here : Shown x run k (state_at x b)
-        here = each k (omega (arith, from)) (omega (arith, to))
+        here = each k (omega (arith, from, windows before)) (omega (arith, to, windows t))
 
         go : (shown : Bool) → shown ≡ true → Goes (k + 1) b (map Picture (frames (k + 1) n) ++ r) → Goes k b (map Picture (cond shown (k ∷ frames (k + 1) n) (frames (k + 1) n)) ++ r)
         go true e on = (refl, here.shows, on)
@@ -94,7 +95,7 @@ module _ (x : Program) (script : List KeyEvent) (limit : ℕ) (run : List Machin
 
     -- the pictures of the move come first
     pictures_on : Goes (windows_ended before) b (map Picture (frames (windows_ended before) (windows_ended t - windows_ended before)) ++ r)
-    pictures_on = frames_on (windows_ended t - windows_ended before) (windows_ended before) (omega arith) (omega (arith, order))
+    pictures_on = frames_on (windows_ended t - windows_ended before) (windows_ended before) (omega arith) (omega (arith, order, windows t, windows before))
 
   -- behind a dispatch point b
   module _ (b : Machine) (before : ℕ) (c : Machine) (bs : List Machine) (order : before ≤ c.cycle) (each : Each before c.cycle (state_at x b)) where
@@ -131,15 +132,13 @@ module _ (x : Program) (script : List KeyEvent) (limit : ℕ) (run : List Machin
   later : (b : Machine) → b.cycle < (next b).cycle
   later b = later-move x.interpreter.rom (held_at script) b
 
-  -- the last state of the run is that behind c
-  abbrev pub EndsWith : Machine → Type 0
-  EndsWith c = (d : ℕ) → last_cycle d run ≡ last_cycle c.cycle (rest (next c))
-
   -- c is in the run, and b is the last dispatch point before its move
   abbrev Kept : ℕ → Type 0
-  Kept fuel = (b c : Machine) (h : Since) → h.from ≡ b.cycle → h.state ≡ state_at x b → Running c h → EndsWith c → limit < c.cycle + fuel → Behind b c.cycle (rest (next c))
+  Kept fuel =
+      (b c : Machine) (h : Since) → h.from ≡ b.cycle → h.state ≡ state_at x b → Running c h → b.cycle ≤ c.cycle → c.cycle ≤ limit
+      → limit < c.cycle + fuel → Behind b c.cycle (rest (next c))
 
-  module _ (b c : Machine) (h : Since) (f : h.from ≡ b.cycle) (s : h.state ≡ state_at x b) (r : Running c h) (end : EndsWith c) where
+  module _ (b c : Machine) (h : Since) (f : h.from ≡ b.cycle) (s : h.state ≡ state_at x b) (r : Running c h) (behind_b : b.cycle ≤ c.cycle) (inside : c.cycle ≤ limit) where
     -- the record as the move carries it on
     h' : Since
     h' = carried x.interpreter.rom (held_at script) c h
@@ -162,24 +161,27 @@ module _ (x : Program) (script : List KeyEvent) (limit : ℕ) (run : List Machin
     order : c.cycle ≤ (next c).cycle
     order = omega (arith, later c)
 
-    moved : (fuel : ℕ) → Kept fuel → limit < c.cycle + suc fuel → (next c).cycle ≤ limit → EndsWith (next c) → Moves x script Running h' (next c) → Behind b c.cycle (next c ∷ rest (next (next c)))
-    moved fuel on enough here end' (Still d z r') =
+    comes : (next c).cycle ≤ limit → Comes x script limit (windows_ended (next c).cycle) b (next c).cycle
+    comes here = record { later = omega (arith, behind_b, later c); within = here; soon = in_time; shown = refl }
+
+    moved : (fuel : ℕ) → Kept fuel → limit < c.cycle + suc fuel → (next c).cycle ≤ limit → Moves x script Running h' (next c) → Behind b c.cycle (next c ∷ rest (next (next c)))
+    moved fuel on enough here (Still d z r') =
         on_quiet x script limit run b c.cycle (next c) (rest (next (next c))) order (each here) d z
-        (on b (next c) h' from_b state_b r' end' (omega (arith, enough, later c)))
-    moved fuel on enough here end' (Arrived d z i st r') =
+        (on b (next c) h' from_b state_b r' (omega (arith, behind_b, later c)) here (omega (arith, enough, later c)))
+    moved fuel on enough here (Arrived d z i st r') =
         on_dispatch x script limit run b c.cycle (next c) (rest (next (next c))) order (each here) d z (
-          record { soon = in_time; shown = refl },
+          comes here,
           record {
             runs = ap x.stop_of (sym state_b) ∙ st.runs;
             between = subst₂ (λ y a. Between x.edition y (x.ticks_between a (next c).cycle) (keys_between script a (next c).cycle) (state_at x (next c))) state_b from_b (covers_between x script (next c) h' (state_at x (next c)) i st);
             stands = st.stands;
           },
-          on (next c) (next c) (dispatched (next c).cycle (state_at x (next c))) refl refl r' end' (omega (arith, enough, later c)),
+          on (next c) (next c) (dispatched (next c).cycle (state_at x (next c))) refl refl r' (le_refl (next c).cycle) here (omega (arith, enough, later c)),
         )
-    moved fuel on enough here end' (Halted z i stop st) =
+    moved fuel on enough here (Halted z i stop st) =
         on_stop x script limit run b c.cycle (next c) (rest (next (next c))) order (each here) z (
         record {
-          comes = record { soon = in_time; shown = refl };
+          comes = comes here;
           stop =
               record {
                 stop = stop;
@@ -201,26 +203,29 @@ module _ (x : Program) (script : List KeyEvent) (limit : ℕ) (run : List Machin
         subst (Behind b c.cycle) (sym none)
         (record {
           soon = in_time_before x script b.cycle (state_at x b) (next c).cycle (limit + 1) (omega (arith, past)) in_time;
-          shown = ap windows_ended (end b.cycle ∙ ap (last_cycle c.cycle) none);
+          shown = λ l. omega (arith, inside, past, windows limit, windows c.cycle, carries.meets c h (windows_ended c.cycle) r open_yet);
           also_is = tt;
         })
       where
         none : rest (next c) ≡ []
         none = run_to-past x.interpreter.rom (held_at script) limit (next c) past
 
+        open_yet : c.cycle < window_end (windows_ended c.cycle)
+        open_yet = omega (arith, windows c.cycle)
+
     kept_on : (fuel : ℕ) → Kept fuel → limit < c.cycle + suc fuel → (limit < (next c).cycle) ⊎ ((next c).cycle ≤ limit) → Behind b c.cycle (rest (next c))
     kept_on fuel on enough (inl past) = past_limit past
     kept_on fuel on enough (inr here) =
         subst (Behind b c.cycle) (sym (run_to-next x.interpreter.rom (held_at script) limit (next c) here))
-        (moved fuel on enough here (λ d. end d ∙ last_next x.interpreter.rom (held_at script) limit c.cycle (next c) here) moves_on)
+        (moved fuel on enough here moves_on)
 
   kept : (fuel : ℕ) → Kept fuel
-  kept zero b c h f s r end enough = past_limit b c h f s r end (omega (arith, enough, later c))
-  kept (suc fuel) b c h f s r end enough = kept_on b c h f s r end fuel (kept fuel) enough (cases_lt limit (next c).cycle)
+  kept zero b c h f s r l inside enough = past_limit b c h f s r l inside (omega (arith, enough, later c))
+  kept (suc fuel) b c h f s r l inside enough = kept_on b c h f s r l inside fuel (kept fuel) enough (cases_lt limit (next c).cycle)
 
   -- behind a dispatch point
-  pub behind : (b : Machine) → Running b (dispatched b.cycle (state_at x b)) → EndsWith b → Behind b b.cycle (rest (next b))
-  behind b r end = kept (suc limit) b b (dispatched b.cycle (state_at x b)) refl refl r end (omega arith)
+  pub behind : (b : Machine) → Running b (dispatched b.cycle (state_at x b)) → b.cycle ≤ limit → Behind b b.cycle (rest (next b))
+  behind b r here = kept (suc limit) b b (dispatched b.cycle (state_at x b)) refl refl r (le_refl b.cycle) here (omega arith)
 
 -- ---- a run from a dispatch point
 
@@ -239,8 +244,8 @@ module _ (x : Program) (script : List KeyEvent) (limit : ℕ) (Running : Machine
           subst₂ After
           (sym (run_to-past x.interpreter.rom (held_at script) limit b past))
           (sym (run_to-past x.interpreter.rom (held_at script) limit (move x.interpreter.rom (held_at script) b) (omega (arith, past, later-move x.interpreter.rom (held_at script) b))))
-          (record { soon = in_time_first x script b.cycle (state_at x b) (limit + 1) (omega (arith, past)); shown = refl; also_is = tt })
-      go (inr here) = behind x script limit run_from Running carries b running (λ d. last_next x.interpreter.rom (held_at script) limit d b here)
+          (record { soon = in_time_first x script b.cycle (state_at x b) (limit + 1) (omega (arith, past)); shown = λ l. absurd (omega (arith, past, l)); also_is = tt })
+      go (inr here) = behind x script limit run_from Running carries b running here
 
 -- ---- a run from reset
 
@@ -269,12 +274,13 @@ module _ (x : Program) (game : List ℕ) (script : List KeyEvent) (limit : ℕ) 
             (sym (ap (events_at x.interpreter run_of before) (run_to-next x.interpreter.rom (held_at script) limit (booted boots.moves) here) ∙ boot_dispatch x script limit run_of before (booted boots.moves) _ boots.soon boots.dispatch boots.runs)) (
               boots.stands,
               boots.soon,
+              here,
               subst (λ k. GoesOn x script limit run_of nothing_else k (booted boots.moves) (events_at x.interpreter run_of (booted boots.moves).cycle (run_to x.interpreter.rom (held_at script) (booted (suc boots.moves)) limit))) first_frame
-                  (behind x script limit run_of Running carries (booted boots.moves) boots.running (last_after x.interpreter.rom (held_at script) limit boots.moves (start game) here)),
+                  (behind x script limit run_of Running carries (booted boots.moves) boots.running here),
             )
           where
             first_frame : windows_ended (booted boots.moves).cycle ≡ 0
-            first_frame = omega (arith, boots.soon)
+            first_frame = omega (arith, boots.soon, windows (booted boots.moves).cycle)
 
     abbrev From : ℕ → ℕ → Type 0
     From m before = ((booted m).cycle ≤ boot_bound) × Begun before (run_to x.interpreter.rom (held_at script) (booted m) limit)

@@ -8,13 +8,12 @@ use Rattle.machine.specs.Pictures.{picture_of, windows_ended}
 use Rattle.machine.specs.Run.{run_to}
 use Rattle.chip8_lang.specs.declared.view.Stop.{Stop}
 use Rattle.chip8_lang.specs.Between.{Between, keys_between}
-use Rattle.chip8_lang.specs.Bounds.{boot_bound}
+use Rattle.chip8_lang.specs.Bounds.{IsInTime, boot_bound}
 use Rattle.chip8_lang.specs.Events.{Event, events_at}
 use Rattle.chip8_lang.specs.Events.Event.{Picture, Dispatch, Stopped}
 use Rattle.chip8_lang.specs.Places.{Interpreter}
 use Rattle.chip8_lang.specs.State.{Lang, first}
 use Rattle.chip8_lang.specs.Ticks.{ticks}
-use Rattle.rom_law.specs.Keys.{Pressed, key_cycles}
 use Rattle.rom_law.specs.Pictures.{ShowsScreen}
 use Rattle.rom_law.specs.Program.{Program, Dispatches, Halts}
 use Rattle.rom_law.specs.Runs.{state_at}
@@ -34,24 +33,19 @@ pub record IsStop (x : Program) (b c : Machine) : Type 0 where
   pub fits : x.stop_of (state_at x b) ≡ Some stop
   pub halts : Halts x c (ticks (x.ticks_between b.cycle c.cycle) (state_at x b)) stop
 
--- Cycle t isn't too late for the next point behind a dispatch of s in cycle `from`: it is within the bound of s. A wait for a key has no bound:
--- there it comes before the end of a frame's cycles in which all keys are up, behind as many in which a key is down.
-pub record InTime (x : Program) (script : List KeyEvent) (from : ℕ) (s : Lang) (t : ℕ) : Type 0 where
-  pub bound : (bound : ℕ) → x.bound_of s ≡ Some bound → t ≤ from + bound
-  pub keys : x.bound_of s ≡ None → (u w : ℕ) → from ≤ u → Pressed script u w → t < w + key_cycles
+-- cycle t isn't too late for the next point behind a dispatch of s in cycle `from`
+abbrev pub InTime : Program → List KeyEvent → ℕ → Lang → ℕ → Type 0
+InTime x script from s t = IsInTime (x.bound_of s) script from t
 
--- The next point behind the dispatch point b is in cycle t: that is in time, and the frames whose window has ended by then are those below k, whose
--- pictures have come.
-pub record Comes (x : Program) (script : List KeyEvent) (k : ℕ) (b : Machine) (t : ℕ) : Type 0 where
+-- The next point behind the dispatch point b is in cycle t: that is later, in time and within the limit, and the frames whose window has ended by
+-- then are those below k, whose pictures have come.
+pub record Comes (x : Program) (script : List KeyEvent) (limit k : ℕ) (b : Machine) (t : ℕ) : Type 0 where
+  pub later : b.cycle < t
+  pub within : t ≤ limit
   pub soon : InTime x script b.cycle (state_at x b) t
   pub shown : windows_ended t ≡ k
 
 -- ---- the end of a run
-
--- the cycle of the last of these states, or `before` where there is none
-abbrev pub last_cycle : ℕ → List Machine → ℕ
-last_cycle before [] = before
-last_cycle before (b ∷ bs) = last_cycle b.cycle bs
 
 -- What a reader of the law adds to it: where the limit ends the run, and where the stop point c behind the dispatch point b does.
 pub record Also : Type 1 where
@@ -64,15 +58,16 @@ nothing_else = record { at_limit = Unit {0}; at_stop = λ b c stop. Unit {0} }
 -- ---- the events
 
 module _ (x : Program) (script : List KeyEvent) (limit : ℕ) (run : List Machine) (also : Also) where
-  -- no next point comes up to the limit: one cycle later wouldn't be too late
+  -- No next point comes up to the limit: one cycle later wouldn't be too late. The frames whose window has ended by the limit are those below k. (A
+  -- run that begins behind its limit has no pictures.)
   pub record Lasts (k : ℕ) (b : Machine) : Type 0 where
     pub soon : InTime x script b.cycle (state_at x b) (limit + 1)
-    pub shown : windows_ended (last_cycle b.cycle run) ≡ k
+    pub shown : b.cycle ≤ limit → windows_ended limit ≡ k
     pub also_is : also.at_limit
 
   -- the run stops in c
   pub record Halted (k : ℕ) (b c : Machine) (events : List Event) : Type 0 where
-    pub comes : Comes x script k b c.cycle
+    pub comes : Comes x script limit k b c.cycle
     pub stop : IsStop x b c
     pub also_is : also.at_stop b c stop.stop
     pub last : events ≡ []
@@ -82,7 +77,7 @@ module _ (x : Program) (script : List KeyEvent) (limit : ℕ) (run : List Machin
   abbrev pub GoesOn : ℕ → Machine → List Event → Type 0
   GoesOn k b [] = Lasts k b
   GoesOn k b (Picture m ∷ events) = (m ≡ k) × ShowsScreen x.edition (picture_of x.interpreter.rom run m) (state_at x b).screen × GoesOn (k + 1) b events
-  GoesOn k b (Dispatch c ∷ events) = Comes x script k b c.cycle × IsStep x script b c × GoesOn k c events
+  GoesOn k b (Dispatch c ∷ events) = Comes x script limit k b c.cycle × IsStep x script b c × GoesOn k c events
   GoesOn k b (Stopped c ∷ events) = Halted k b c events
 
   -- The events from reset on: the first one is a dispatch point, where the board stands for the game's first state, and comes within the bound of
@@ -90,7 +85,7 @@ module _ (x : Program) (script : List KeyEvent) (limit : ℕ) (run : List Machin
   abbrev pub Begins : List ℕ → List Event → Type 0
   Begins game [] = (limit < boot_bound) × also.at_limit
   Begins game (Picture m ∷ events) = ⊥
-  Begins game (Dispatch b ∷ events) = Dispatches x b (first x.edition game) × (b.cycle ≤ boot_bound) × GoesOn 0 b events
+  Begins game (Dispatch b ∷ events) = Dispatches x b (first x.edition game) × (b.cycle ≤ boot_bound) × (b.cycle ≤ limit) × GoesOn 0 b events
   Begins game (Stopped b ∷ events) = ⊥
 
 -- the events of a run up to a cycle that come behind its first state
@@ -107,9 +102,9 @@ frames_of (Picture m ∷ events) = m ∷ frames_of events
 frames_of (Dispatch b ∷ events) = frames_of events
 frames_of (Stopped b ∷ events) = frames_of events
 
--- the cycle in which the run has stopped by these events, or else `last`, that of its last state
+-- the cycle in which the run has stopped by these events, or else its limit
 abbrev pub end_cycle : ℕ → List Event → ℕ
-end_cycle last [] = last
-end_cycle last (Picture m ∷ events) = end_cycle last events
-end_cycle last (Dispatch b ∷ events) = end_cycle last events
-end_cycle last (Stopped b ∷ events) = b.cycle
+end_cycle limit [] = limit
+end_cycle limit (Picture m ∷ events) = end_cycle limit events
+end_cycle limit (Dispatch b ∷ events) = end_cycle limit events
+end_cycle limit (Stopped b ∷ events) = b.cycle

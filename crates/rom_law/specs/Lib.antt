@@ -3,6 +3,5 @@ pub mod Holding
 pub mod Rows
 pub mod Schedules
 pub mod Runs
-pub mod Keys
 pub mod Pictures
 pub mod Language

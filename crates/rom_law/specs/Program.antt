@@ -50,7 +50,7 @@ pub record Halts (x : Program) (b : Machine) (s : Lang) (stop : Stop) : Type 0 w
   pub number : slice_index b.ram stop_cell ≡ stop_number stop
 
 -- An interpreter of the whole language: boot turns the display on, and leaves the interrupt routine in R1 and the page of the screen in
--- RB.1. `Dispatches` is then `Stands`, and `Halts` is `Halted`.
+-- RB.1.
 abbrev pub whole : Edition → Interpreter → Program
 whole e i =
     record {

@@ -2,16 +2,16 @@
 use Rattle.std.proofs.Common.{◌≡◌, ℕ, ◌+◌, ◌-◌, ◌*◌, ◌/◌, ◌<◌, ◌≤◌, ◌⊎◌, inl, inr, refl, arith}
 use Rattle.std.proofs.lemmas.Bool.{cases_lt}
 use Rattle.machine.specs.Pictures.{interrupt_at}
-use Rattle.chip8_lang.specs.Between.{ticks_between}
+use Rattle.chip8_lang.specs.Bounds.{key_cycles}
+use Rattle.chip8_lang.proofs.Ticks.{ticks_passed}
 use Rattle.rom_timer.specs.Frame.{place, interrupt_place, IsOutside}
 use Rattle.rom_timer.specs.Routine.{routine_cycles}
-use Rattle.rom_law.specs.Keys.{key_cycles}
 
 -- main code runs in cycle c, with n main moves since a dispatch point in cycle `from`
 pub record Passed (from n c : ℕ) : Type 0 where
   pub outside : IsOutside c
   pub after : from ≤ c
-  pub count : c ≡ from + 2 * n + routine_cycles * ticks_between from c
+  pub count : c ≡ from + 2 * n + routine_cycles * ticks_passed from c
 
 -- where the routine returns
 abbrev return_place : ℕ
@@ -63,7 +63,7 @@ next_main u = go (cases_lt (place u) return_place) (cases_lt interrupt_place (pl
 
 -- how many main moves since the dispatch point come before it, and one more
 abbrev pub moves_to : ℕ → ℕ → ℕ
-moves_to from v = (v - from - routine_cycles * ticks_between from v) / 2 + 1
+moves_to from v = (v - from - routine_cycles * ticks_passed from v) / 2 + 1
 
 module _ (from u v j c : ℕ) (f : from ≤ u) (p : Passed from j c) where
   -- the main moves behind those are made from u on, and 400 of them while the key is down

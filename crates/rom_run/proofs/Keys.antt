@@ -8,9 +8,9 @@ use Rattle.machine.specs.Board.{Machine, move}
 use Rattle.machine.specs.Keys.{Keys, Event, held_at}
 use Rattle.machine.proofs.Runs.{later-move}
 use Rattle.chip8_lang.specs.declared.view.Edition.{Edition}
-use Rattle.chip8_lang.specs.Bounds.{bound_of}
+use Rattle.chip8_lang.specs.Bounds.{Pressed, bound_of, key_cycles}
 use Rattle.chip8_lang.specs.State.{Lang}
-use Rattle.rom_law.specs.Keys.{Pressed, key_cycles}
+use Rattle.chip8_lang.proofs.Ticks.{ticks_counted}
 use Rattle.rom_law.specs.Language.{InTime}
 use Rattle.rom_law.specs.Program.{Program}
 use Rattle.rom_law.specs.Rows.{Since, Row, dispatched, after_tick}
@@ -99,7 +99,7 @@ module _ (e : Edition) (script : List Event) where
       spends = never_waited e b h free script t row time
 
       made : Passed h.from (length h.keys) b.cycle
-      made = record { outside = t.outside; after = t.from; count = omega (arith, spends, known.counted, t.covers.ticks) }
+      made = record { outside = t.outside; after = t.from; count = omega (arith, spends, known.counted, t.covers.ticks, ticks_counted h.from b.cycle) }
 
     -- no more than six main moves have been made since a cycle before w
     record Early (w : ℕ) : Type 0 where

@@ -20,6 +20,7 @@ use Rattle.chip8_lang.specs.State.{Lang}
 use Rattle.chip8_lang.specs.Ticks.{ticks}
 use Rattle.chip8_lang.specs.Between.{Between, ticks_between, keys_between}
 use Rattle.chip8_lang.specs.Events.{is_instruction, is_at, is_dispatch, is_stop}
+use Rattle.chip8_lang.proofs.Ticks.{ticks_counted}
 use Rattle.rom_moves.specs.Code.{Input, moved, is_event}
 use Rattle.rom_moves.specs.Later.{After}
 use Rattle.rom_moves.proofs.Ranges.{tick_fits}
@@ -94,7 +95,7 @@ module _ (e : Edition) (script : List Event) where
   -- ---- a dispatch point
 
   none_yet : (a : ℕ) → 0 ≡ ticks_between a a
-  none_yet a = omega arith
+  none_yet a = omega (arith, ticks_counted a a)
 
   embeds_none : (sets : List Keys) → Embeds [] sets
   embeds_none sets = record { place = λ u. u; there = λ u k h. never u k h; order = λ u w l. l }

@@ -22,7 +22,7 @@ use Rattle.rom_law.proofs.Kept.{row_runs, row_cycles}
 use Rattle.rom_law.proofs.Runs.{Shown}
 use Rattle.rom_rows.specs.Rom.{image, vip}
 use Rattle.rom_rows.specs.Table.{pieces}
-use Rattle.rom_timer.specs.Frame.{place, interrupt_place, Makes}
+use Rattle.rom_timer.specs.Frame.{place, interrupt_place, IsOutside, Makes}
 use Rattle.rom_timer.specs.Frame.Makes.{Runs, Waits, Accepts}
 use Rattle.rom_timer.specs.Scan.{Pictured}
 use Rattle.rom_timer.proofs.Frame.{every_move}
@@ -33,7 +33,7 @@ use Rattle.rom_run.specs.Running.Running.{InMain, InRoutine}
 use Rattle.rom_run.proofs.Display.{outside_shows}
 use Rattle.rom_run.proofs.Moves.{interrupted}
 use Rattle.rom_run.proofs.Proved.{proved}
-use Rattle.rom_run.proofs.Served.{main_there, served_within}
+use Rattle.rom_run.proofs.Served.{main_there, served_meets, served_within}
 use Rattle.rom_run.proofs.Ticks.{few_later}
 
 module _ (e : Edition) (script : List Event) where
@@ -57,6 +57,20 @@ module _ (e : Edition) (script : List Event) where
   stops_before b h m (InMain (AtRow t row n time)) l = let ready = row_runs x (pieces x) (proved e) b h t.fits row in main_before b h m row t.even t.fits (every_move (image e) held b ready.on ready.enabled t.outside) l
   stops_before b h m (InMain (AtEvent t p d late y)) l = omega (arith, few_later (image e) held b, p, l)
   stops_before b h m (InRoutine s) l = let i = served_within e script b h s in omega (arith, i.0, i.1, l)
+
+  -- nor is the end of a window
+  pub stops_at_window : (b : Machine) (h : Since) (m : ℕ) → Running e script b h → b.cycle < window_end m → (next b).cycle ≤ window_end m
+  stops_at_window b h m (InMain o) l = go o
+    where
+      -- main code runs nowhere near it
+      apart : IsOutside b.cycle → (next b).cycle ≤ window_end m
+      apart (inl p) = omega (arith, p, l, few_later (image e) held b)
+      apart (inr p) = omega (arith, p, l, few_later (image e) held b)
+
+      go : Outside e script b h → (next b).cycle ≤ window_end m
+      go (AtRow t row n time) = apart t.outside
+      go (AtEvent t p d late y) = apart t.outside
+  stops_at_window b h m (InRoutine s) l = served_meets e script b h s m l
 
   -- ---- a board in a run
 
@@ -124,6 +138,7 @@ module _ (e : Edition) (script : List Event) where
           shown = scanned.shown;
           shows = record {
             lines = scanned.shows.lines;
+            bytes = scanned.shows.bytes;
             dots = λ k px line get inside. scanned.shows.dots k px line get inside ∙ seen px (k / lines_of e) inside (high k line get) ∙ ap (λ (z : Lang). z.screen px (k / lines_of e)) (sym o.same);
           };
         }

@@ -6,17 +6,17 @@ use Rattle.machine.specs.Keys.{Event, Keys, held_at}
 use Rattle.machine.specs.Run.{run_to}
 use Rattle.machine.specs.Ranges.{FitsMachine}
 use Rattle.machine.specs.Pictures.{windows_ended}
+use Rattle.machine.proofs.Counts.{windows}
 use Rattle.machine.proofs.Runs.{later-move, run_to-past}
 use Rattle.chip8_lang.specs.declared.view.Edition.{Edition}
 use Rattle.chip8_lang.specs.declared.view.Edition.TheVariants.{Usual, Tall}
 use Rattle.chip8_lang.specs.State.{first, memory_size}
 use Rattle.chip8_lang.specs.Events.{events_at, events_of, game_run, numbers_from, is_dispatch, is_stop}
-use Rattle.rom_law.specs.Language.{last_cycle, nothing_else, events_behind, frames_of, end_cycle}
+use Rattle.rom_law.specs.Language.{nothing_else, events_behind, frames_of, end_cycle}
 use Rattle.rom_law.specs.Program.{Program, Dispatches}
 use Rattle.rom_law.specs.Rows.{Since, dispatched}
 use Rattle.rom_law.specs.Runs.{state_at, state_after, carried, Moves}
 use Rattle.rom_law.specs.Runs.Moves.{Still, Arrived, Halted}
-use Rattle.rom_law.proofs.Ahead.{last_next, last_within}
 use Rattle.rom_law.proofs.First.{start_fits, moves_fit}
 use Rattle.rom_law.proofs.Frames.{frames_on, frames_begin}
 use Rattle.rom_law.proofs.Runs.{Carries, Boots, goes_on, begins_so}
@@ -29,7 +29,7 @@ use Rattle.rom_run.specs.States.{MayStart, BootsTo}
 use Rattle.rom_run.proofs.Image.{every_boot}
 use Rattle.rom_run.proofs.Keys.{Known, begins, known_on, in_time}
 use Rattle.rom_run.proofs.Moves.{board_moves, dispatch_there, renewed}
-use Rattle.rom_run.proofs.Pictures.{InRun, run_begins, run_on, shows}
+use Rattle.rom_run.proofs.Pictures.{InRun, run_begins, run_on, shows, stops_at_window}
 use Rattle.rom_run.proofs.Proved.{proved}
 
 -- ---- where a run may begin
@@ -110,6 +110,7 @@ module _ (e : Edition) (script : List Event) (first : Machine) where
       record {
         moves = λ b h r. runs_on b h r (board_moves e script b h r.running);
         timely = λ b h r. in_time e script b h r.running r.known;
+        meets = λ b h m r. stops_at_window e script b h m r.running;
         shown = λ b h m r past by within. shows e script first limit b h m r.in_run past by within;
       }
 
@@ -146,28 +147,20 @@ every_run e game small bytes script limit = begins_so (vip e) game script limit 
 
 -- ---- the frames with a picture
 
-module _ (e : Edition) (game : List ℕ) (script : List Event) (limit : ℕ) where
-  abbrev whole : List Machine
-  whole = game_run (vip e).interpreter game script limit
-
-  last_of : (d : ℕ) → last_cycle d whole ≡ last_cycle 0 whole
-  last_of d = last_next (image e) (held_at script) limit d (start game) (omega arith) ∙ sym (last_next (image e) (held_at script) limit 0 (start game) (omega arith))
-
 pub every_picture : EveryPicture
 every_picture e game small bytes script limit =
-    frames_begin (vip e) script limit (whole e game script limit) nothing_else (last_cycle 0 (whole e game script limit)) (last_of e game script limit) game (events_of (vip e).interpreter game script limit)
-    (last_within (image e) (held_at script) limit 0 (start game) (omega arith))
+    frames_begin (vip e) script limit (game_run (vip e).interpreter game script limit) nothing_else game (events_of (vip e).interpreter game script limit)
     (every_run e game small bytes script limit)
 
 module _ (e : Edition) (b : Machine) (m : MayStart e b) (script : List Event) (limit : ℕ) where
   abbrev run : List Machine
   run = run_to (image e) (held_at script) b limit
 
-  -- the events of these states, in a run with those
+  -- the events of these states
   abbrev AllShown : List Machine → List Machine → Type 0
   AllShown all bs =
       let events = events_at (vip e).interpreter all b.cycle bs in
-      frames_of events ≡ numbers_from (windows_ended b.cycle) (windows_ended (end_cycle (last_cycle b.cycle all) events) - windows_ended b.cycle)
+      frames_of events ≡ numbers_from (windows_ended b.cycle) (windows_ended (end_cycle limit events) - windows_ended b.cycle)
 
   all_shown : (limit < b.cycle) ⊎ (b.cycle ≤ limit) → AllShown run (run_to (image e) (held_at script) (move (image e) (held_at script) b) limit)
   all_shown (inl past) =
@@ -176,12 +169,11 @@ module _ (e : Edition) (b : Machine) (m : MayStart e b) (script : List Event) (l
       (sym (run_to-past (image e) (held_at script) limit (move (image e) (held_at script) b) (omega (arith, past, later-move (image e) (held_at script) b))))
       (ap (numbers_from (windows_ended b.cycle)) none)
     where
-      none : 0 ≡ windows_ended b.cycle - windows_ended b.cycle
-      none = omega arith
-  all_shown (inr here) = frames_on (vip e) script limit run nothing_else (last_cycle b.cycle run) (λ d. last d ∙ sym (last b.cycle)) (windows_ended b.cycle) b (events_behind (vip e).interpreter script b limit) (from_any_start e b m script limit)
-    where
-      last : (d : ℕ) → last_cycle d run ≡ last_cycle b.cycle (run_to (image e) (held_at script) (move (image e) (held_at script) b) limit)
-      last d = last_next (image e) (held_at script) limit d b here
+      none : 0 ≡ windows_ended limit - windows_ended b.cycle
+      none = omega (arith, past, windows limit, windows b.cycle)
+  all_shown (inr here) =
+      frames_on (vip e) script limit run nothing_else (windows_ended b.cycle) b (events_behind (vip e).interpreter script b limit) here
+      (from_any_start e b m script limit)
 
 pub every_picture_behind : EveryPictureBehind
 every_picture_behind e b m script limit = all_shown e b m script limit (cases_lt limit b.cycle)

@@ -1,8 +1,9 @@
 -- A run of the interrupt routine, as a whole: one tick, after which what is known of the running interpreter holds.
-use Rattle.std.proofs.Common.{◌≡◌, ℕ, suc, ◌+◌, ◌<◌, ◌≤◌, sym, ◌∙◌, ap, subst, arith, false, List}
+use Rattle.std.proofs.Common.{◌≡◌, ℕ, suc, ◌+◌, ◌<◌, ◌≤◌, ◌⊎◌, inl, inr, sym, ◌∙◌, ap, subst, arith, false, List}
+use Rattle.std.proofs.lemmas.Bool.{cases_lt}
 use Rattle.machine.specs.Board.{Machine, move}
 use Rattle.machine.specs.Keys.{Event, Keys, held_at}
-use Rattle.machine.specs.Pictures.{interrupt_at}
+use Rattle.machine.specs.Pictures.{interrupt_at, window_end}
 use Rattle.machine.specs.Run.{after_moves}
 use Rattle.machine.proofs.Runs.{later-move}
 use Rattle.chip8_lang.specs.declared.view.Edition.{Edition}
@@ -11,7 +12,7 @@ use Rattle.rom_law.specs.Runs.{Moves}
 use Rattle.rom_law.proofs.Ahead.{later_cycle}
 use Rattle.rom_rows.specs.Rom.{image, vip}
 use Rattle.rom_timer.specs.Frame.{place, interrupt_place}
-use Rattle.rom_timer.specs.Routine.{IsTick, routine_moves, routine_cycles}
+use Rattle.rom_timer.specs.Routine.{IsTick, routine_moves, routine_cycles, window_moves}
 use Rattle.rom_run.proofs.Image.{run_tick}
 use Rattle.rom_run.specs.Running.{Outside, Running, Serving}
 use Rattle.rom_run.specs.Running.Running.{InMain, InRoutine}
@@ -45,6 +46,20 @@ module _ (e : Edition) (script : List Event) where
   -- a state of the routine and the next one, in the time from the interrupt to the return
   pub served_within : (b : Machine) (h : Since) (s : Serving e script b h) → (interrupt_at s.m < b.cycle) × ((move (image e) held b).cycle ≤ interrupt_at s.m + routine_cycles)
   served_within b h s = subst (λ (z : Machine). (interrupt_at s.m < z.cycle) × ((move (image e) held z).cycle ≤ interrupt_at s.m + routine_cycles)) (sym s.is) (omega (arith, s.cycle, later-move (image e) held s.start, later_cycle (image e) held s.start 1 s.k s.some), omega (arith, later_cycle (image e) held s.start (suc s.k) routine_moves (omega (arith, s.inside)), (tick_of s.start s.before s.m s.outside s.cycle).cycle))
+
+  -- no move of the routine goes past the end of the window
+  pub served_meets : (b : Machine) (h : Since) (s : Serving e script b h) (m : ℕ) → b.cycle < window_end m → (move (image e) held b).cycle ≤ window_end m
+  served_meets b h s m l = subst (λ (z : Machine). z.cycle < window_end m → (move (image e) held z).cycle ≤ window_end m) (sym s.is) met l
+    where
+      tick : IsTick e (image e) s.m s.start held
+      tick = tick_of s.start s.before s.m s.outside s.cycle
+
+      met : (after_moves (image e) held s.start s.k).cycle < window_end m → (after_moves (image e) held s.start (suc s.k)).cycle ≤ window_end m
+      met open_yet = go (cases_lt s.k window_moves)
+        where
+          go : (s.k < window_moves) ⊎ (window_moves ≤ s.k) → (after_moves (image e) held s.start (suc s.k)).cycle ≤ window_end m
+          go (inl k) = omega (arith, tick.window, later_cycle (image e) held s.start (suc s.k) window_moves (omega (arith, k)), s.cycle, later_cycle (image e) held s.start 0 s.k (omega arith), open_yet)
+          go (inr k) = omega (arith, tick.window, tick.cycle, later_cycle (image e) held s.start window_moves s.k k, later_cycle (image e) held s.start (suc s.k) routine_moves (omega (arith, s.inside)), open_yet)
 
   pub served_disabled : (b : Machine) (h : Since) → Serving e script b h → b.regs.ie ≡ false
   served_disabled b h s = ap (λ (z : Machine). z.regs.ie) s.is ∙ ((tick_of s.start s.before s.m s.outside s.cycle).inside s.k s.some s.inside).disabled

@@ -8,6 +8,7 @@ use Rattle.machine.specs.Keys.{Keys}
 use Rattle.machine.specs.Pictures.{frame}
 use Rattle.machine.proofs.Runs.{cycle-move}
 use Rattle.chip8_lang.specs.Between.{ticks_between}
+use Rattle.chip8_lang.proofs.Ticks.{ticks_counted}
 use Rattle.rom_timer.specs.Frame.{place, interrupt_place, IsOutside}
 use Rattle.rom_timer.specs.Routine.{routine_cycles}
 use Rattle.rom_run.specs.Time.{Suffices, since_window, most_wait}
@@ -23,7 +24,7 @@ few_ticks a c q m e out is = go (cases_eq q 0)
   where
     go : (q ≡ 0) ⊎ (q ≡ 0 → ⊥) → (frame - routine_cycles) * q < m + most_wait
     go (inl z) = omega (arith, z)
-    go (inr d) = omega (arith, is, e, d, window_passed c ((c - 1 + 2576) / 3668) out refl_is (omega (arith, e, d)))
+    go (inr d) = omega (arith, is, e, ticks_counted a c, d, window_passed c ((c - 1 + 2576) / 3668) out refl_is (omega (arith, e, ticks_counted a c, d)))
       where
         refl_is : (c - 1 + 2576) / 3668 ≡ (c - 1 + 2576) / 3668
         refl_is = omega arith

@@ -15,7 +15,7 @@ use Rattle.chip8_lang.specs.Bounds.{bound_of}
 use Rattle.chip8_lang.specs.Events.{game_run, events_of, numbers_from}
 use Rattle.chip8_lang.specs.State.{memory_size, is_fetchable}
 use Rattle.rom_moves.specs.Code.{Input, moved}
-use Rattle.rom_law.specs.Language.{Begins, GoesOn, events_behind, nothing_else, last_cycle, frames_of, end_cycle}
+use Rattle.rom_law.specs.Language.{Begins, GoesOn, events_behind, nothing_else, frames_of, end_cycle}
 use Rattle.rom_law.specs.Program.{code}
 use Rattle.rom_law.specs.Runs.{Moves, carried, state_after}
 use Rattle.rom_law.specs.Rows.{Since, Row, Outcome, after_main}
@@ -59,7 +59,7 @@ BootStarts =
     → (script : List Event)
     → BootsTo e game (state_after (vip e) script (start game) boot_moves)
 
--- The pictures of a run from reset, and from any start, are those of all frames whose windows end before it stops, or up to its last state.
+-- The pictures of a run from reset, and from any start, are those of all frames whose windows end before it stops, or up to its limit.
 abbrev pub EveryPicture : Type 0
 EveryPicture =
     (e : Edition) (game : List ℕ)
@@ -67,7 +67,7 @@ EveryPicture =
     → ((i : ℕ) → slice_index game i < 256)
     → (script : List Event) (limit : ℕ)
     → let events = events_of (vip e).interpreter game script limit in
-    frames_of events ≡ numbers_from 0 (windows_ended (end_cycle (last_cycle 0 (game_run (vip e).interpreter game script limit)) events))
+    frames_of events ≡ numbers_from 0 (windows_ended (end_cycle limit events))
 
 abbrev pub EveryPictureBehind : Type 0
 EveryPictureBehind =
@@ -75,8 +75,7 @@ EveryPictureBehind =
     → MayStart e b
     → (script : List Event) (limit : ℕ)
     → let events = events_behind (vip e).interpreter script b limit in
-    let end = end_cycle (last_cycle b.cycle (run_to (image e) (held_at script) b limit)) events in
-    frames_of events ≡ numbers_from (windows_ended b.cycle) (windows_ended end - windows_ended b.cycle)
+    frames_of events ≡ numbers_from (windows_ended b.cycle) (windows_ended (end_cycle limit events) - windows_ended b.cycle)
 
 -- ---- every state of a run
 

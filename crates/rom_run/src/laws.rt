@@ -63,8 +63,8 @@ pub fn from_any_start()
     ensures { FromAnyStart }
 {}
 
-/// The pictures of a run, from reset and from any such start, are those of all frames whose windows end by the cycle of its stop, or of its last
-/// state where it has none. So says the law for every limit: a picture's event is at the first state at or behind its window's end.
+/// The pictures of a run, from reset and from any such start, are those of all frames whose windows end by the cycle of its stop, or by its limit
+/// where it has none. So says the law for every limit: a picture's event is at the state in whose cycle its window has ended.
 pub fn every_picture()
     ensures from_reset { EveryPicture }
     ensures from_any_start { EveryPictureBehind }

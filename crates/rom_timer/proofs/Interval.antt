@@ -12,6 +12,7 @@ use Rattle.chip8_lang.specs.declared.view.Edition.{Edition}
 use Rattle.chip8_lang.specs.Editions.{memory_end, stack_top}
 use Rattle.chip8_lang.specs.State.{Lang}
 use Rattle.chip8_lang.specs.Between.{ticks_between, keys_from, keys_between}
+use Rattle.chip8_lang.proofs.Ticks.{ticks_counted}
 use Rattle.rom_law.specs.Holding.{Places, places, Holding}
 use Rattle.rom_law.specs.Program.{Program, Keeps}
 use Rattle.rom_law.specs.Rows.{Embeds}
@@ -25,13 +26,13 @@ use Rattle.rom_timer.specs.Routine.{IsInterrupted, routine_cycles}
 -- ---- ticks
 
 pub ticks_main : (a t : ℕ) → t % 2 ≡ 0 → (place t ≡ interrupt_place → ⊥) → ticks_between a (t + 2) ≡ ticks_between a t
-ticks_main a t e d = omega (arith, d)
+ticks_main a t e d = omega (arith, d, ticks_counted a (t + 2), ticks_counted a t)
 
 pub ticks_wait : (a t : ℕ) → (place t ≡ interrupt_place → ⊥) → ticks_between a (t + 1) ≡ ticks_between a t
-ticks_wait a t d = omega (arith, d)
+ticks_wait a t d = omega (arith, d, ticks_counted a (t + 1), ticks_counted a t)
 
 pub ticks_served : (a m : ℕ) → a < interrupt_at m → ticks_between a (interrupt_at m + routine_cycles) ≡ suc (ticks_between a (interrupt_at m))
-ticks_served a m l = omega arith
+ticks_served a m l = omega (arith, ticks_counted a (interrupt_at m + routine_cycles), ticks_counted a (interrupt_at m))
 
 -- ---- the room on the stack
 

@@ -13,7 +13,7 @@ use Rattle.chip8_lang.specs.declared.view.Edition.TheVariants.{Usual, Tall}
 use Rattle.chip8_lang.specs.Editions.{screen_start, rows_of, lines_of}
 use Rattle.chip8_lang.specs.Screen.{is_set}
 use Rattle.chip8_lang.specs.Places.{state_of, pixels}
-use Rattle.rom_law.specs.Pictures.{dot, ShowsScreen}
+use Rattle.rom_law.specs.Pictures.{dot, IsLine, ShowsScreen}
 use Rattle.rom_law.proofs.Ahead.{behind_moves, later_cycle, all_in_run}
 use Rattle.rom_law.proofs.Places.{range_get, range_length}
 use Rattle.rom_timer.specs.Routine.{IsInterrupted, IsTick, routine_moves}
@@ -43,6 +43,9 @@ module _ (rom : List ℕ) (run : List Machine) where
 
 filled_up : (l : List ℕ) → length l ≡ 8 → filled l ≡ l
 filled_up l h = ap (λ n. l ++ replicate (8 - n) 0) h ∙ append-nil l
+
+range_fits : (a : ℕ) (ram : List ℕ) → ((j : ℕ) → slice_index ram j < 256) → (i : ℕ) → i < 8 → slice_index (slice_range ram a (a + 8)) i < 256
+range_fits a ram fit i l = subst (λ z. z < 256) (sym (range_get a (a + 8) ram i (omega (arith, l)))) (fit (a + i))
 
 -- ---- the dots of eight bytes of the screen
 
@@ -117,23 +120,34 @@ module _ (rom : List ℕ) (held : ℕ → Keys) where
 
 -- ---- the picture
 
-shows : (e : Edition) (rom : List ℕ) (run : List Machine) (m : ℕ) (b : Machine) → length b.ram ≡ 0x1000 → ((k : ℕ) → k < 128 → fetched rom (262 * m + 80 + k) run ≡ slice_range b.ram (row_start e k) (row_start e k + 8)) → ShowsScreen e (picture_of rom run m) (state_of e b).screen
+shows : (e : Edition) (rom : List ℕ) (run : List Machine) (m : ℕ) (b : Machine) → length b.ram ≡ 0x1000 → ((j : ℕ) → slice_index b.ram j < 256) → ((k : ℕ) → k < 128 → fetched rom (262 * m + 80 + k) run ≡ slice_range b.ram (row_start e k) (row_start e k + 8)) → ShowsScreen e (picture_of rom run m) (state_of e b).screen
 unfolding picture_of state_of
-shows e rom run m b size scan =
+shows e rom run m b size fit scan =
     record {
       lines = lines_length rom run 128 (262 * m + 80);
-      dots = λ k x line get h. dots_of k x line (subst (λ n. k < n) (lines_length rom run 128 (262 * m + 80)) (slice_get_within (lines_from rom run (262 * m + 80) 128) k line get)) get h;
+      bytes = λ k line get. line_of k line (within k line get) get;
+      dots = λ k x line get h. dots_of k x line (within k line get) get h;
     }
   where
+    within : (k : ℕ) (line : List ℕ) → slice_get (lines_from rom run (262 * m + 80) 128) k ≡ Some line → k < 128
+    within k line get = subst (λ n. k < n) (lines_length rom run 128 (262 * m + 80)) (slice_get_within (lines_from rom run (262 * m + 80) 128) k line get)
+
     bytes : (k : ℕ) → k < 128 → line_bytes rom run (262 * m + 80 + k) ≡ slice_range b.ram (row_start e k) (row_start e k + 8)
     bytes k some = ap filled (scan k some) ∙ filled_up _ (range_length (row_start e k) (row_start e k + 8) b.ram (omega (arith, size, row_fits e k some)) ∙ eight (row_start e k))
       where
         eight : (a : ℕ) → a + 8 - a ≡ 8
         eight a = omega arith
 
+    line_is : (k : ℕ) (line : List ℕ) → k < 128 → slice_get (lines_from rom run (262 * m + 80) 128) k ≡ Some line → line ≡ slice_range b.ram (row_start e k) (row_start e k + 8)
+    line_is k line some get = same_Some line (line_bytes rom run (262 * m + 80 + k)) (sym get ∙ lines_get rom run 128 (262 * m + 80) k some) ∙ bytes k some
+
+    line_of : (k : ℕ) (line : List ℕ) → k < 128 → slice_get (lines_from rom run (262 * m + 80) 128) k ≡ Some line → IsLine line
+    line_of k line some get =
+        subst IsLine (sym (line_is k line some get)) (record { count = range_length (row_start e k) (row_start e k + 8) b.ram (omega (arith, size, row_fits e k some)) ∙ omega arith; fit = range_fits (row_start e k) b.ram fit })
+
     dots_of : (k x : ℕ) (line : List ℕ) → k < 128 → slice_get (lines_from rom run (262 * m + 80) 128) k ≡ Some line → x < 64 → dot line x ≡ pixels (rows_of e) (slice_range b.ram (screen_start e) 0x1000) x (k / lines_of e)
     dots_of k x line some get h =
-        ap (λ l. dot l x) (same_Some line (line_bytes rom run (262 * m + 80 + k)) (sym get ∙ lines_get rom run 128 (262 * m + 80) k some) ∙ bytes k some)
+        ap (λ l. dot l x) (line_is k line some get)
         ∙ dots e b.ram k some x h
 
 -- ---- the display is on in all cycles of the frame
@@ -183,6 +197,6 @@ run_picture e m i limit held first o ended =
     record {
       shown = all_in_run (timer_rom e) held _ limit first (is_on e m i held first o (run_to (timer_rom e) held first limit));
       shows =
-          shows e (timer_rom e) (run_to (timer_rom e) held first limit) m (after_moves (timer_rom e) held first i) o.fits.size
+          shows e (timer_rom e) (run_to (timer_rom e) held first limit) m (after_moves (timer_rom e) held first i) o.fits.size o.fits.ram
           (λ k some. in_run (timer_rom e) held first m i routine_moves limit o.cycle (omega arith) (omega (arith, (run_tick e m (after_moves (timer_rom e) held first i) held o).cycle)) ended k some ∙ (run_scan e m (after_moves (timer_rom e) held first i) held o).lines k some);
     }

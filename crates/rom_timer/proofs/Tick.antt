@@ -8,7 +8,7 @@ use Rattle.machine.specs.Board.{Machine, move}
 use Rattle.machine.specs.Keys.{Keys}
 use Rattle.machine.specs.Run.{after_moves}
 use Rattle.machine.specs.Schedule.{Tick, IsFree, fallen}
-use Rattle.machine.specs.Pictures.{interrupt_at}
+use Rattle.machine.specs.Pictures.{interrupt_at, window_end}
 use Rattle.machine.specs.Ranges.{FitsWord}
 use Rattle.chip8_lang.specs.declared.view.Edition.{Edition}
 use Rattle.chip8_lang.specs.declared.view.Edition.TheVariants.{Usual, Tall}
@@ -18,7 +18,7 @@ use Rattle.rom_law.specs.Program.{code}
 use Rattle.rom_rows.proofs.Bytes.{memory_end_is, variables_is, page_fits, page_low}
 use Rattle.rom_timer.proofs.Rom.{both, both_is, quick}
 use Rattle.rom_timer.specs.Frame.{IsMainPlace}
-use Rattle.rom_timer.specs.Routine.{IsInterrupted, RunsRoutine, RunTick, routine_moves}
+use Rattle.rom_timer.specs.Routine.{IsInterrupted, RunsRoutine, RunTick, routine_moves, window_moves}
 use Rattle.rom_timer.proofs.Frame.{accepted}
 use Rattle.rom_timer.proofs.Board.{timed, at_byte, Serves, serves_join, serves_to, moves_more}
 use Rattle.rom_timer.proofs.Pushed.{pushed, as_long, read_low, read_high, others, bytes_fit}
@@ -91,22 +91,27 @@ module _ (e : Edition) (m : ℕ) (b : Machine) (held : ℕ → Keys) (o : IsInte
   end : Machine
   end = timed (3668 * m + 2938) (resumed e held (serving e held c0 at_resume b.regs.r.r8.lo rf (word (b.regs.r.r8.hi - 1) (b.regs.r.r8.lo - 1)) (not (b.regs.r.r8.lo == 0))))
 
-  serves : Serves (code (quick e)) held 1434 (timed (3668 * m + 1093) (taken b)) end
-  unfolding end c0 rf r8 rf_fits r8_fits delayed
-  serves =
-      serves_join (code (quick e)) held
-      (serves_join (code (quick e)) held
-      (serves_join (code (quick e)) held
-      (serves_join (code (quick e)) held (opens e held m b) (serves_to (code (quick e)) held (ap (λ t. timed t (scanning (entered b) at_delay (shown e 32) (left e held 0 32))) time) (window e held (entered b) (262 * m + 80) 0 line)))
-      delayed.serves)
-      (sounds e held m (at_byte (word_of (shown e 32)) (entered b)) delayed.d' rf r8 b.regs.q rf_fits r8_fits))
-      (resumes e held m (at_byte (word_of (shown e 32)) (entered b)) b.regs.r.r8.lo rf (word (b.regs.r.r8.hi - 1) (b.regs.r.r8.lo - 1)) (not (b.regs.r.r8.lo == 0)))
+  to_window : Serves (code (quick e)) held 1421 (timed (3668 * m + 1093) (taken b)) (timed (3668 * m + 2912) (scanning (entered b) at_delay (shown e 32) (left e held 0 32)))
+  to_window =
+      serves_join (code (quick e)) held (opens e held m b)
+      (serves_to (code (quick e)) held (ap (λ t. timed t (scanning (entered b) at_delay (shown e 32) (left e held 0 32))) time) (window e held (entered b) (262 * m + 80) 0 line))
     where
       line : (262 * m + 80) % 262 ≡ 80
       line = omega arith
 
       time : 14 * (262 * m + 80 + 128) ≡ 3668 * m + 2912
       time = omega arith
+
+  serves : Serves (code (quick e)) held 1434 (timed (3668 * m + 1093) (taken b)) end
+  unfolding end c0 rf r8 rf_fits r8_fits delayed
+  serves =
+      serves_join (code (quick e)) held
+      (serves_join (code (quick e)) held
+      (serves_join (code (quick e)) held
+      to_window
+      delayed.serves)
+      (sounds e held m (at_byte (word_of (shown e 32)) (entered b)) delayed.d' rf r8 b.regs.q rf_fits r8_fits))
+      (resumes e held m (at_byte (word_of (shown e 32)) (entered b)) b.regs.r.r8.lo rf (word (b.regs.r.r8.hi - 1) (b.regs.r.r8.lo - 1)) (not (b.regs.r.r8.lo == 0)))
 
   pub first : move (both e) held b ≡ timed (3668 * m + 1093) (taken b)
   first = accepted (both e) held b o.on o.enabled (omega (arith, o.cycle)) ∙ (λ i. record b { regs = record b.regs { r = record b.regs.r { r1 = o.entry i }; t = b.regs.x * 16 + b.regs.p; p = 1; x = 2; ie = false; idle = false }; latch = o.latch i; on = o.on i; cycle = time i })
@@ -116,6 +121,10 @@ module _ (e : Edition) (m : ℕ) (b : Machine) (held : ℕ → Keys) (o : IsInte
 
   ends : after_moves (both e) held b routine_moves ≡ end
   ends = moves_more (code (quick e)) held 1434 1 b (timed (3668 * m + 1093) (taken b)) first ∙ serves.ends
+
+  -- the move that ends where the window does
+  meets : (after_moves (both e) held b window_moves).cycle ≡ window_end m
+  meets = ap (λ (z : Machine). z.cycle) (moves_more (code (quick e)) held 1421 1 b (timed (3668 * m + 1093) (taken b)) first ∙ to_window.ends) ∙ omega arith
 
   inside : (k : ℕ) → 0 < k → k < routine_moves → RunsRoutine (after_moves (both e) held b k)
   inside k l h = subst RunsRoutine (sym (ap (after_moves (both e) held b) split ∙ moves_more (code (quick e)) held (k - 1) 1 b (timed (3668 * m + 1093) (taken b)) first)) (serves.inside (k - 1) (omega arith))
@@ -198,9 +207,10 @@ TickBy e m b held rom =
     × ((after_moves rom held b routine_moves).cycle ≡ interrupt_at m + 1846)
     × IsMainPlace (after_moves rom held b routine_moves).cycle
     × ((k : ℕ) → 0 < k → k < routine_moves → RunsRoutine (after_moves rom held b k))
+    × ((after_moves rom held b window_moves).cycle ≡ window_end m)
 
 tick_by : (e : Edition) (m : ℕ) (b : Machine) (held : ℕ → Keys) → IsInterrupted e m b → TickBy e m b held (both e)
-tick_by e m b held o = (subst (Tick (memory_end e) b) (sym (ends e m b held o)) (is_tick e m b held o), ap (λ (z : Machine). z.cycle) (ends e m b held o) ∙ time_is e m b held o, subst (λ (z : Machine). IsMainPlace z.cycle) (sym (ends e m b held o)) (place_is e m b held o), inside e m b held o)
+tick_by e m b held o = (subst (Tick (memory_end e) b) (sym (ends e m b held o)) (is_tick e m b held o), ap (λ (z : Machine). z.cycle) (ends e m b held o) ∙ time_is e m b held o, subst (λ (z : Machine). IsMainPlace z.cycle) (sym (ends e m b held o)) (place_is e m b held o), inside e m b held o, meets e m b held o)
 
 pub run_tick : RunTick timer_rom
-run_tick e m b held o = let t = subst (TickBy e m b held) (both_is e) (tick_by e m b held o) in record { tick = t.0; cycle = t.1; place = t.2; inside = t.3 }
+run_tick e m b held o = let t = subst (TickBy e m b held) (both_is e) (tick_by e m b held o) in record { tick = t.0; cycle = t.1; place = t.2; inside = t.3; window = t.4 }

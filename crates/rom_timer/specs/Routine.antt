@@ -6,7 +6,7 @@ use Rattle.machine.specs.Keys.{Keys}
 use Rattle.machine.specs.Run.{after_moves}
 use Rattle.machine.specs.Schedule.{Tick}
 use Rattle.machine.specs.Ranges.{FitsMachine}
-use Rattle.machine.specs.Pictures.{interrupt_at}
+use Rattle.machine.specs.Pictures.{interrupt_at, window_end}
 use Rattle.chip8_lang.specs.declared.view.Edition.{Edition}
 use Rattle.chip8_lang.specs.Editions.{memory_end, variables}
 use Rattle.chip8_image.specs.declared.TheConstants.{ENTRY}
@@ -31,6 +31,10 @@ routine_moves = 1435
 abbrev pub routine_cycles : ℕ
 routine_cycles = 1846
 
+-- the moves from that cycle to the end of the window
+abbrev pub window_moves : ℕ
+window_moves = 1422
+
 -- while the routine runs, the program counter is R1, interrupts are disabled, the processor doesn't idle, and the display is on
 pub record RunsRoutine (b : Machine) : Type 0 where
   pub by_r1 : b.regs.p ≡ 1
@@ -38,11 +42,12 @@ pub record RunsRoutine (b : Machine) : Type 0 where
   pub awake : b.regs.idle ≡ false
   pub on : b.on ≡ true
 
--- The routine is one tick, after which main code goes on, at an even cycle behind the window.
+-- The routine is one tick, after which main code goes on, at an even cycle behind the window; one of its moves ends where the window does.
 pub record IsTick (e : Edition) (rom : List ℕ) (m : ℕ) (b : Machine) (held : ℕ → Keys) : Type 0 where
   pub tick : Tick (memory_end e) b (after_moves rom held b routine_moves)
   pub cycle : (after_moves rom held b routine_moves).cycle ≡ interrupt_at m + routine_cycles
   pub place : IsMainPlace (after_moves rom held b routine_moves).cycle
+  pub window : (after_moves rom held b window_moves).cycle ≡ window_end m
   pub inside : (k : ℕ) → 0 < k → k < routine_moves → RunsRoutine (after_moves rom held b k)
 
 abbrev pub RunTick : (Edition → List ℕ) → Type 0

@@ -26,6 +26,7 @@ pub fn instructions()
 {}
 
 /// The signals of the CDP1861 at the edges of their lines, and the window's end.
+#[tactic(auto, unfolding(machine::specs::Pictures::windows_ended))]
 pub fn signals()
     ensures before_int { int_at 1091 true ≡ false }
     ensures int { int_at 1092 true ≡ true }
@@ -83,6 +84,7 @@ pub fn opcodes()
 {}
 
 /// Steps, stops and ticks of the language.
+#[tactic(auto, unfolding(chip8_lang::specs::Between::ticks_between))]
 pub fn steps()
     ensures flag_wins { stepped_once (0x8f ∷ 0xe4 ∷ []) 15 ≡ (0x01, 0x0202) }
     ensures add_without_flag { stepped_once (0x7e ∷ 0xff ∷ []) 14 ≡ (0x00, 0x0202) }

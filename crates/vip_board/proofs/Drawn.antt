@@ -7,6 +7,7 @@ use Rattle.std.proofs.lemmas.Bool.Decides.{nat_tests}
 use Rattle.std.proofs.lemmas.Bool.{le-ltb}
 use Rattle.machine.specs.Signals.{line_cycles, frame_lines, window_line, window_end_line, window_lines, line_of}
 use Rattle.machine.specs.Pictures.{frame, interrupt_at, window_end, windows_ended, filled}
+use Rattle.machine.proofs.Counts.{windows}
 use Rattle.vip_video.specs.Chip.{Pictures, blank, needs_display, begins_frame, follows_window, with_byte, drawn, passed, scanned, framed, finished}
 use Rattle.vip_board.specs.Shown.{bytes_from, window_bytes, shown_frames}
 
@@ -113,13 +114,13 @@ module _ (shown : ℕ → Bool) (bytes : ℕ → List ℕ) (t : ℕ) (on : Bool)
   frames-stay : (n : ℕ) → n ≤ windows_ended t → shown_frames shown' n ≡ shown_frames shown n
   frames-stay zero h = refl
   frames-stay (suc n) h =
-      let same : shown' n ≡ shown n = frame-stays n (covers-past n t (omega arith)) in
+      let same : shown' n ≡ shown n = frame-stays n (covers-past n t (omega (arith, windows t))) in
       ap (λ b. cond b (n ∷ shown_frames shown' n) (shown_frames shown' n)) same
       ∙ ap (λ l. cond (shown n) (n ∷ l) l) (frames-stay n (omega arith))
 
   window-stays : (m : ℕ) → m < windows_ended t → window_bytes bytes' m ≡ window_bytes bytes m
   unfolding window_bytes
-  window-stays m h = bytes_from-same bytes bytes' (frame_lines * m + window_line) window_lines (λ k a b. x.elsewhere k (omega arith))
+  window-stays m h = bytes_from-same bytes bytes' (frame_lines * m + window_line) window_lines (λ k a b. x.elsewhere k (omega (arith, windows t)))
 
   drawn-present : (drawn t on byte p).shown ≡ shown' (t / frame)
   drawn-present =
@@ -195,7 +196,7 @@ module _ (shown : ℕ → Bool) (bytes : ℕ → List ℕ) (t : ℕ) (on : Bool)
   -- the last cycle of a frame
   begins : (t + 1) % frame ≡ 0 → Drawn shown' bytes' (t + 1) (framed q)
   begins h =
-      let same : windows_ended (t + 1) ≡ windows_ended t = omega arith in
+      let same : windows_ended (t + 1) ≡ windows_ended t = omega (arith, windows t, windows (t + 1)) in
       record {
         present = sym (later_frames' ((t + 1) / frame) (omega arith));
         lines = new-lines h;
@@ -213,8 +214,8 @@ module _ (shown : ℕ → Bool) (bytes : ℕ → List ℕ) (t : ℕ) (on : Bool)
   ends-shown h s =
       let m = t / frame in
       let f : (t + 1) / frame ≡ t / frame = omega arith in
-      let w : t / frame ≡ windows_ended t = omega arith in
-      let n : windows_ended (t + 1) ≡ suc (t / frame) = omega arith in
+      let w : t / frame ≡ windows_ended t = omega (arith, windows t) in
+      let n : windows_ended (t + 1) ≡ suc (t / frame) = omega (arith, windows (t + 1)) in
       let more = frames-more true (windows_ended (t + 1)) (t / frame) n (sym drawn-present ∙ s) in
       record {
         present = drawn-present ∙ ap shown' (sym f);
@@ -228,8 +229,8 @@ module _ (shown : ℕ → Bool) (bytes : ℕ → List ℕ) (t : ℕ) (on : Bool)
   ends-hidden : (t + 1) % frame ≡ window_end_line * line_cycles → q.shown ≡ false → Drawn shown' bytes' (t + 1) q
   ends-hidden h s =
       let f : (t + 1) / frame ≡ t / frame = omega arith in
-      let w : t / frame ≡ windows_ended t = omega arith in
-      let n : windows_ended (t + 1) ≡ suc (t / frame) = omega arith in
+      let w : t / frame ≡ windows_ended t = omega (arith, windows t) in
+      let n : windows_ended (t + 1) ≡ suc (t / frame) = omega (arith, windows (t + 1)) in
       let more = frames-more false (windows_ended (t + 1)) (t / frame) n (sym drawn-present ∙ s) in
       record {
         present = drawn-present ∙ ap shown' (sym f);
@@ -271,7 +272,7 @@ module _ (shown : ℕ → Bool) (bytes : ℕ → List ℕ) (t : ℕ) (on : Bool)
   in-frame b =
       let nb = begins-not b in
       elim (either (follows_window (t + 1))) [
-        | inr a ↦ (let na = follows-not a in subst D (sym (is-same a b)) (goes-on (omega arith) (omega arith)))
+        | inr a ↦ (let na = follows-not a in subst D (sym (is-same a b)) (goes-on (omega arith) (omega (arith, windows t, windows (t + 1)))))
         | inl a ↦
             elim (either q.shown) [
               | inl s ↦ subst D (sym (is-finished a s b)) (ends-shown (follows-at a) s)

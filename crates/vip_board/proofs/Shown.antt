@@ -14,6 +14,7 @@ use Rattle.machine.specs.Opcodes.{cycles_of}
 use Rattle.machine.specs.Board.{Machine, Case, case_of, dma_byte, length_in, length_of, opcode_of}
 use Rattle.machine.specs.Board.Case.{Dma, Interrupt, Idle, Instruction}
 use Rattle.machine.specs.Pictures.{frame, interrupt_at, window_end, windows_ended, filled, is_dma, is_dma_in, lines_from, picture_of, is_within, is_shown}
+use Rattle.machine.proofs.Counts.{windows}
 use Rattle.machine.proofs.Runs.{cycle-move}
 use Rattle.vip_video.specs.Chip.{Pictures, nothing_before, scanned}
 use Rattle.vip_video.proofs.Room.{IsDmaPlace, dma-place}
@@ -216,7 +217,7 @@ none-shown : (rom : List ℕ) (t n : ℕ) → n ≤ windows_ended t → shown_fr
 unfolding is_shown
 none-shown rom t zero h = refl
 none-shown rom t (suc n) h =
-    rw (lt-leb t (interrupt_at n) (omega arith), none-shown rom t n (omega arith))
+    rw (lt-leb t (interrupt_at n) (omega (arith, windows t)), none-shown rom t n (omega arith))
 
 -- the interrupt of the present frame starts at or after cycle t
 begins-later : (t : ℕ) → nat_le (t % frame) (interrupt_line * line_cycles) ≡ nat_le t (interrupt_at (t / frame))

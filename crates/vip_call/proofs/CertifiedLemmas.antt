@@ -50,7 +50,7 @@ module _ (e : Edition) (script : List KeyEvent) (limit : ℕ) (run : List Machin
       (game : List ℕ) (events : List Event) → NeverStops e game → Begins (program e) script limit run numbered game events → NoneStops events
   from_reset game [] never h = tt
   from_reset game (Picture m ∷ events) never h = absurd h
-  from_reset game (Dispatch b ∷ events) never h = behind 0 b events (subst NeverFrom (sym h.0.keeps.lies.is) never) h.2
+  from_reset game (Dispatch b ∷ events) never h = behind 0 b events (subst NeverFrom (sym h.0.keeps.lies.is) never) h.3
   from_reset game (Stopped b ∷ events) never h = absurd h
 
 module _ (routines : AcceptedIsWithin) (games : CertifiedGames) (law : EveryRun) where

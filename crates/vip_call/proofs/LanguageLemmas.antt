@@ -64,7 +64,7 @@ module _ (e : Edition) (script : List KeyEvent) (limit : ℕ) (run : List Machin
   unfolding ending_after
   begins game [] h = (h.0, refl)
   begins game (Picture m ∷ events) h = absurd h
-  begins game (Dispatch b ∷ events) h = (h.0, h.1, goes_on 0 b events h.2)
+  begins game (Dispatch b ∷ events) h = (h.0, h.1, h.2, goes_on 0 b events h.3)
   begins game (Stopped b ∷ events) h = absurd h
 
 module _ (law : EveryRun) where

@@ -69,7 +69,7 @@ module _ (x : Program) (script : List KeyEvent) (limit : ℕ) (run : List Machin
   begins_numbered : (game : List ℕ) (events : List Event) → Begins x script limit run nothing_else game events → Begins x script limit run numbered game events
   begins_numbered game [] h = h
   begins_numbered game (Picture m ∷ events) h = h
-  begins_numbered game (Dispatch b ∷ events) h = (h.0, h.1, goes_on_numbered 0 b events h.2)
+  begins_numbered game (Dispatch b ∷ events) h = (h.0, h.1, h.2, goes_on_numbered 0 b events h.3)
   begins_numbered game (Stopped b ∷ events) h = h
 
 pub every_run : EveryRunOfRom → EveryRun
@@ -94,7 +94,7 @@ module _ (x : Program) (v : VipState) (limit : ℕ) where
       same : k ≡ k + 0
       same = omega arith
   split None k (Picture m ∷ xs) ys none h = absurd h.1
-  split None k (Dispatch b ∷ xs) ys none h = subst (λ n. Behind (last_after (Some b) xs) n ys) same (split (Some b) 0 xs ys none h.1.2)
+  split None k (Dispatch b ∷ xs) ys none h = subst (λ n. Behind (last_after (Some b) xs) n ys) same (split (Some b) 0 xs ys none h.1.3)
     where
       same : 0 + length (frames_of xs) ≡ k + length (frames_of xs)
       same = omega (arith, h.0)

@@ -1,6 +1,7 @@
 -- What holds of the fields at the start, and after a move.
 use Rattle.std.proofs.Common.{◌≡◌, ℕ, ◌+◌, ◌<◌, ◌≤◌, true, false, List, [], length, slice_index, refl, sym, ap, ◌∙◌, subst, subst₂, arith}
 use Rattle.machine.specs.Board.{length_of}
+use Rattle.machine.specs.Pictures.{windows_ended}
 use Rattle.machine.specs.Keys.{Event as KeyEvent, held_at}
 use Rattle.machine.proofs.Runs.{cycle-move}
 use Rattle.chip8_lang.specs.declared.view.Edition.{Edition}
@@ -46,7 +47,7 @@ module _ (e : Edition) (game : List ℕ) (script : List KeyEvent) (bytes : (k : 
       }
 
   pub waiting-start : events_waiting (started e game script) ≡ []
-  unfolding past
+  unfolding past windows_ended
   waiting-start = events-here (started e game script) follows-start
 
 pub runs-start : (e : Edition) (game : List ℕ) (script : List KeyEvent) → HasStopped (started e game script) → ⊥

@@ -9,6 +9,7 @@ use Rattle.machine.specs.Board.{Machine, start}
 use Rattle.machine.specs.Keys.{Event as KeyEvent, held_at}
 use Rattle.machine.specs.Run.{states, run_to, after_moves}
 use Rattle.machine.specs.Pictures.{interrupt_at, window_end, windows_ended, picture_of, is_shown}
+use Rattle.machine.proofs.Counts.{windows}
 use Rattle.machine.proofs.Runs.{later-move, run_to-next, run_to-past}
 use Rattle.chip8_lang.specs.Events.{Event, is_dispatch, is_stop, numbers_from, pictures_at, events_at, events_of, game_run}
 use Rattle.chip8_lang.specs.Events.Event.{Picture, Dispatch, Stopped}
@@ -24,11 +25,11 @@ use Rattle.vip_relation.proofs.Along.{states-more, soon-move, run-split, Later, 
 
 -- the window of a frame among the first so many has ended
 pub ended : (m t : ℕ) → m < windows_ended t → window_end m ≤ t
-ended m t h = omega (arith, h)
+ended m t h = omega (arith, h, windows t)
 
 -- and that of the next one has not
 not_ended : (t : ℕ) → t < window_end (windows_ended t)
-not_ended t = omega arith
+not_ended t = omega (arith, windows t)
 
 filter_same : (p q : ℕ → Bool) (w n : ℕ) → ((m : ℕ) → m < w + n → p m ≡ q m) → filter p (numbers_from w n) ≡ filter q (numbers_from w n)
 filter_same p q w zero h = refl
@@ -41,7 +42,7 @@ pub pictures-later : (i : Interpreter) (xs ys : List Machine) (before t : ℕ) �
 pictures-later i xs ys before t order later =
     ap (map Picture)
     (filter_same (is_shown i.rom (xs ++ ys)) (is_shown i.rom xs) (windows_ended before) (windows_ended t - windows_ended before)
-    (λ m l. shown-later i.rom t m xs ys (ended m t (omega (arith, l, order))) later))
+    (λ m l. shown-later i.rom t m xs ys (ended m t (omega (arith, l, windows before, windows t, order))) later))
 
 -- ---- state by state
 
@@ -199,8 +200,8 @@ module _ (i : Interpreter) (game : List ℕ) (script : List KeyEvent) where
       ∙ ap (λ others. cond (q w) (w ∷ others) others) (shown_same p q w (λ m l. h m (omega (arith, l))))
 
   -- one window at most ends in a move
-  windows : (n : ℕ) → (windows_ended (state (suc n)).cycle ≡ windows_ended (state n).cycle) ⊎ (windows_ended (state (suc n)).cycle ≡ suc (windows_ended (state n).cycle))
-  windows n = either (state n).cycle (state (suc n)).cycle (omega (arith, later-move i.rom (held_at script) (state n))) (soon-move i.rom (held_at script) (state n))
+  one_window : (n : ℕ) → (windows_ended (state (suc n)).cycle ≡ windows_ended (state n).cycle) ⊎ (windows_ended (state (suc n)).cycle ≡ suc (windows_ended (state n).cycle))
+  one_window n = either (state n).cycle (state (suc n)).cycle (omega (arith, later-move i.rom (held_at script) (state n))) (soon-move i.rom (held_at script) (state n))
     where
       either : (c c' : ℕ) → c ≤ c' → c' ≤ c + 3 → (windows_ended c' ≡ windows_ended c) ⊎ (windows_ended c' ≡ suc (windows_ended c))
       either c c' le soon = by_test (nat_le (windows_ended c') (windows_ended c)) refl
@@ -208,10 +209,10 @@ module _ (i : Interpreter) (game : List ℕ) (script : List KeyEvent) where
           by_test : (t : Bool) → nat_le (windows_ended c') (windows_ended c) ≡ t → (windows_ended c' ≡ windows_ended c) ⊎ (windows_ended c' ≡ suc (windows_ended c))
           by_test true h =
               let low : windows_ended c' ≤ windows_ended c = grind (arith, nat_tests) in
-              inl (omega (arith, low, le))
+              inl (omega (arith, low, windows c, windows c', le))
           by_test false h =
               let high : windows_ended c < windows_ended c' = grind (arith, nat_tests) in
-              inr (omega (arith, high, soon))
+              inr (omega (arith, high, windows c, windows c', soon))
 
   -- the frames shown so far are the same by one state more
   frames_kept : (n : ℕ) → shown_frames (is_shown i.rom (earlier (suc n))) (windows_ended (state n).cycle) ≡ shown_frames (is_shown i.rom (earlier n)) (windows_ended (state n).cycle)
@@ -284,7 +285,7 @@ module _ (i : Interpreter) (game : List ℕ) (script : List KeyEvent) where
     by_window (inr next) = by_frame (is_shown_next (windows_ended (state n).cycle)) refl next
 
     pub finishes : Finishes n p.count p'.count p'.finished
-    finishes = by_window (windows n)
+    finishes = by_window (one_window n)
 
   -- ---- so a run has few events
 
@@ -300,8 +301,8 @@ module _ (i : Interpreter) (game : List ℕ) (script : List KeyEvent) where
       by_case false h = omega (arith, h)
 
   few_pictures : (n : ℕ) → length (pictures n) ≤ 1
-  few_pictures zero = omega arith
-  few_pictures (suc n) = by_window (windows n)
+  few_pictures zero = short_map _ 1 (omega (arith, short_filter (is_shown i.rom (earlier 0)) (windows_ended 0) (windows_ended 0 - windows_ended 0)))
+  few_pictures (suc n) = by_window (one_window n)
     where
       by_window : (windows_ended (state (suc n)).cycle ≡ windows_ended (state n).cycle) ⊎ (windows_ended (state (suc n)).cycle ≡ suc (windows_ended (state n).cycle)) → length (pictures (suc n)) ≤ 1
       by_window (inl same) = short_map _ 1 (omega (arith, same, short_filter (is_shown i.rom (earlier (suc n))) (windows_ended (state n).cycle) (windows_ended (state (suc n)).cycle - windows_ended (state n).cycle)))
