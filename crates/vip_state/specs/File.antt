@@ -24,8 +24,8 @@ use Rattle.chip8_lang.specs.Places.{most_addresses}
 use Rattle.rom_timer.specs.Frame.{place, interrupt_place, window_place}
 use Rattle.vip_relation.specs.Interpreters.{interpreter_of}
 use Rattle.vip_relation.specs.State.{most_cycles}
-use Rattle.vip_state.specs.declared.fault.StateFault.{StateFault}
-use Rattle.vip_state.specs.declared.fault.StateFault.TheVariants.{BadLength, BadHead, BadEdition, BadCycle, BadMachine}
+use Rattle.vip_text.specs.declared.fault.StateFault.{StateFault}
+use Rattle.vip_text.specs.declared.fault.StateFault.TheVariants.{BadLength, BadHead, BadEdition, BadCycle, BadMachine}
 
 -- ---- the machine state of a file
 

@@ -1,29 +1,10 @@
-//! Why a file isn't a machine state, and why a run isn't gone on with.
+//! Why a run isn't gone on with.
 
 ghost use Rattle.std.specs.Prelude.{◌≡◌};
 
 use std::alloc::AllocError;
 use thiserror::Error;
-
-/// The first fault of a file that isn't accepted.
-#[derive(Clone, Copy, Debug, PartialEq, Eq, Error)]
-pub enum StateFault {
-    /// It hasn't 4,147 bytes.
-    #[error("BadLength")]
-    BadLength,
-    /// Its first five bytes differ.
-    #[error("BadHead")]
-    BadHead,
-    /// It names no edition.
-    #[error("BadEdition")]
-    BadEdition,
-    /// No run stands at a dispatch point in its cycle: it is odd, or lies in the frame where the interrupt routine runs; or it is too large.
-    #[error("BadCycle")]
-    BadCycle,
-    /// Its registers aren't those of a processor at the interpreter's fetch loop, or there is no such key or flag.
-    #[error("BadMachine")]
-    BadMachine,
-}
+use vip_text::StateFault;
 
 /// Why a run wasn't gone on with.
 #[derive(Clone, Copy, Debug, PartialEq, Eq, Error)]

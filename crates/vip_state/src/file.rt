@@ -7,12 +7,12 @@ ghost use Rattle.vip_cpu.specs.Parts.{regs_of};
 ghost use Rattle.vip_relation.specs.Interpreters.{interpreter_of};
 ghost use Rattle.vip_state.specs.File.{file_size, head, cycle_in, word_at, regs_in, IsCycle, IsStack, IsMachine, Judges};
 
-use crate::fault::StateFault;
 use chip8_image::{ENTRY, TALL_ENTRY};
 use chip8_lang::Edition;
 use vip_byte::MOST_CYCLE;
 use vip_cpu::Parts;
 use vip_relation::Places;
+use vip_text::StateFault;
 
 /// The bytes of a file.
 pub const SIZE: usize = 4_147;

@@ -13,7 +13,8 @@ pub mod laws;
 mod resumed;
 mod writing;
 
-pub use fault::{ResumeFault, StateFault};
+pub use fault::ResumeFault;
 pub use file::check_state;
 pub use resumed::{Resumed, Step};
+pub use vip_text::StateFault;
 pub use writing::write_state;

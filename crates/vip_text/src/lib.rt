@@ -1,6 +1,6 @@
 //! The texts that the program shows: the lines of a trace, the line that names a stop, a summary, a screen, a picture as PBM, and the cycle
 //! bounds of the interpreter, the most machine cycles from one dispatch point to the next by the instruction, with their table; and how a run may
-//! end, which its report says.
+//! end and what may be wrong with the file of a machine state, which reports say.
 //!
 //! The crate stands on the views of the language (`chip8_lang`), on the pictures of `vip_video`, on the digits and the buffer of `vip_byte`,
 //! and on the kit's `itoa`. The layers above may rely on the exact bytes: each call fills an empty buffer with its text
@@ -10,6 +10,7 @@
 
 mod bounds;
 mod ending;
+mod fault;
 mod picture;
 mod screen;
 mod stop;
@@ -19,6 +20,7 @@ mod write;
 
 pub use bounds::{BOOT, STOP, bound, bounds_text};
 pub use ending::RunEnd;
+pub use fault::StateFault;
 pub use picture::{PICTURE_SIZE, picture_text};
 pub use screen::{ROW_SIZE, WIDTH, is_lit, screen_text};
 pub use stop::stop_text;
