@@ -185,7 +185,7 @@ written e e' b b' ram l l' size hl' hl he hb hram =
 
 -- ---- the board of a run
 
-starts_by : (e : Edition) (game : List ℕ) (script : List KeyEvent) (n : ℕ) → length game ≤ memory_size e → ((k : ℕ) → slice_index game k < 256)
+pub starts_by : (e : Edition) (game : List ℕ) (script : List KeyEvent) (n : ℕ) → length game ≤ memory_size e → ((k : ℕ) → slice_index game k < 256)
     → ((k : ℕ) → k < n → is_stop (interpreter_of e) (after_moves (interpreter_of e).rom (held_at script) (start game) k) ≡ false)
     → is_dispatch (interpreter_of e) (after_moves (interpreter_of e).rom (held_at script) (start game) n) ≡ true
     → MayStart e (after_moves (interpreter_of e).rom (held_at script) (start game) n)

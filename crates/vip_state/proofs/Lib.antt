@@ -6,3 +6,7 @@ pub mod Copied
 pub mod Going
 pub mod Files
 pub mod Opened
+pub mod Saving
+pub mod Resuming
+pub mod Rest
+pub mod Again

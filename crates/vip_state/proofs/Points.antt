@@ -19,7 +19,7 @@ use Rattle.vip_relation.proofs.Past.{past, state, Runs, events-last, events-on}
 use Rattle.vip_state.specs.Points.{points_at, points_behind, points_of}
 use Rattle.vip_state.specs.Laws.{GoesOnWithRun}
 
-points_of-append : (xs ys : List Event) → points_of (xs ++ ys) ≡ points_of xs ++ points_of ys
+pub points_of-append : (xs ys : List Event) → points_of (xs ++ ys) ≡ points_of xs ++ points_of ys
 points_of-append [] ys = refl
 points_of-append (Picture m ∷ xs) ys = points_of-append xs ys
 points_of-append (Dispatch b ∷ xs) ys = ap (λ ps. Dispatch b ∷ ps) (points_of-append xs ys)

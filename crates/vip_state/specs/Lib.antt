@@ -4,4 +4,5 @@ pub mod Points
 pub mod State
 pub mod Meets
 pub mod Kept
+pub mod Output
 pub mod Laws
