@@ -8,7 +8,7 @@ use vip_keypad::{ScriptCause, ScriptFault};
 use vip_outside::{Failed, MemSink};
 use vip_relation::StartFault;
 use vip_report::{Refusal, put_refusal};
-use vip_words::{CommandCause, CommandFault};
+use vip_commands::{CommandCause, CommandFault};
 
 /// Room for a report.
 const REPORT_ROOM: usize = 80;

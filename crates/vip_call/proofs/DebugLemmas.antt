@@ -18,7 +18,7 @@ use Rattle.vip_language.proofs.Passed.{NoStop, before_point, events_to_stop, las
 use Rattle.vip_text.specs.Endings.{Ending}
 use Rattle.vip_text.specs.Endings.Ending.{AtLimit, AtStop}
 use Rattle.vip_show.specs.Endings.{ending_after}
-use Rattle.vip_words.specs.declared.commands.Command.{Command}
+use Rattle.vip_commands.specs.declared.commands.Command.{Command}
 use Rattle.vip_debug.specs.Answers.{stop_by, place_after, at_start}
 use Rattle.vip_debug.proofs.Places.{Reached}
 use Rattle.vip_debug.proofs.Reaching.{commands_reach}

@@ -18,10 +18,10 @@ use Rattle.vip_relation.specs.Stops.{stop_at}
 use Rattle.vip_show.specs.Endings.{ending_after, ending_of}
 use Rattle.vip_text.specs.Endings.{Ending}
 use Rattle.vip_text.specs.Endings.Ending.{AtStop}
-use Rattle.vip_words.specs.Grammar.{commands_of}
-use Rattle.vip_words.specs.declared.commands.Command.{Command}
-use Rattle.vip_words.specs.declared.commands.CommandFault.{CommandFault}
-use Rattle.vip_words.specs.declared.commands.CommandFault.TheVariants.{Fault, NoMemory}
+use Rattle.vip_commands.specs.Grammar.{commands_of}
+use Rattle.vip_commands.specs.declared.commands.Command.{Command}
+use Rattle.vip_commands.specs.declared.commands.CommandFault.{CommandFault}
+use Rattle.vip_commands.specs.declared.commands.CommandFault.TheVariants.{Fault, NoMemory}
 use Rattle.vip_outside.specs.Files.{FilesMeaning}
 use Rattle.vip_words.specs.Asked.{Asked, trace, play, debug, demo, asm, list, dis, bounds, within, safe, certify}
 use Rattle.vip_tools.specs.Demo.{demo_game}

@@ -11,10 +11,10 @@ use Rattle.asm_core.specs.declared.fault.AsmCause.{AsmCause}
 use Rattle.rom_check.proofs.OneAnswer.{answers_agree}
 use Rattle.rom_check.specs.declared.fault.ImageFault.{ImageFault}
 use Rattle.rom_check.specs.declared.fault.ImageFault.TheVariants as image
-use Rattle.vip_words.specs.Grammar.{commands_of}
-use Rattle.vip_words.specs.declared.commands.Command.{Command}
-use Rattle.vip_words.specs.declared.commands.CommandFault.{CommandFault}
-use Rattle.vip_words.specs.declared.commands.CommandFault.TheVariants as debug_fault
+use Rattle.vip_commands.specs.Grammar.{commands_of}
+use Rattle.vip_commands.specs.declared.commands.Command.{Command}
+use Rattle.vip_commands.specs.declared.commands.CommandFault.{CommandFault}
+use Rattle.vip_commands.specs.declared.commands.CommandFault.TheVariants as debug_fault
 use Rattle.vip_outside.specs.Count.{Rose}
 use Rattle.vip_outside.specs.Files.{FileMap, FilesMeaning}
 use Rattle.vip_outside.specs.Sink.{SinkMeaning, Gains, GainsPart, GainAnswers}

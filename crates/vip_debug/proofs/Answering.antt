@@ -12,8 +12,8 @@ use Rattle.vip_relation.specs.Follows.{Follows, last_view, last_screen}
 use Rattle.vip_relation.specs.Meets.{IsSame}
 use Rattle.vip_relation.specs.Stops.{stop_record}
 use Rattle.vip_relation.proofs.Waits.{last-at-stop}
-use Rattle.vip_words.specs.declared.commands.Running.{Running}
-use Rattle.vip_words.specs.declared.commands.Showing.TheVariants.{Regs, State, Mem, Dis, Screen}
+use Rattle.vip_commands.specs.declared.commands.Running.{Running}
+use Rattle.vip_commands.specs.declared.commands.Showing.TheVariants.{Regs, State, Mem, Dis, Screen}
 use Rattle.vip_debug.specs.Shown.{regs_lines, state_line, screen_text, mem_lines, dis_lines}
 use Rattle.vip_debug.specs.Answers.{begun, Place, place_of, Arrival, arrival, stop_by, stop_text, completed_line, running_line, shown_pieces, StandsAt}
 use Rattle.vip_debug.specs.Parts.{reads, Arrives}

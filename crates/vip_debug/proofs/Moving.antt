@@ -10,7 +10,7 @@ use Rattle.vip_board.specs.declared.board.Move.{Move}
 use Rattle.vip_relation.specs.State.{VipState, events_waiting}
 use Rattle.vip_relation.specs.Follows.{Follows}
 use Rattle.vip_relation.specs.Meets.{IsSame, Rests, MovesOn}
-use Rattle.vip_words.specs.declared.commands.Running.TheVariants.{Step, To, Next, Break}
+use Rattle.vip_commands.specs.declared.commands.Running.TheVariants.{Step, To, Next, Break}
 use Rattle.vip_debug.specs.Answers.{begun, moves_until, place_of, all_met, moved_to, has_pc, at_point}
 use Rattle.vip_debug.specs.Parts.{TellsPresent, points_left, Makes, FindAnswers, Arrives}
 use Rattle.vip_debug.proofs.Places.{same-trans, begun-same, place-moved, made-most, made-all, made-before, made-now, all-here, none-waits, until-same}

@@ -14,10 +14,10 @@ use Rattle.vip_relation.specs.State.{VipState, events_to, started}
 use Rattle.vip_relation.proofs.Along.{in-turn}
 use Rattle.vip_relation.proofs.Past.{state, past, events-last, events-stop}
 use Rattle.vip_relation.proofs.Waits.{Earlier, earlier-at, earlier-drop, earlier-next}
-use Rattle.vip_words.specs.declared.commands.Command.{Command}
-use Rattle.vip_words.specs.declared.commands.Command.TheVariants as command
-use Rattle.vip_words.specs.declared.commands.Running.{Running}
-use Rattle.vip_words.specs.declared.commands.Running.TheVariants.{Step, To, Next, Break}
+use Rattle.vip_commands.specs.declared.commands.Command.{Command}
+use Rattle.vip_commands.specs.declared.commands.Command.TheVariants as command
+use Rattle.vip_commands.specs.declared.commands.Running.{Running}
+use Rattle.vip_commands.specs.declared.commands.Running.TheVariants.{Step, To, Next, Break}
 use Rattle.vip_debug.specs.Answers.{Place, moves_until, all_met, moved_to, at_point, points_ahead, has_pc, arrival, place_with, place_after, at_start}
 use Rattle.vip_debug.proofs.Places.{Reached, reached, reached-next, some-here, all-moves}
 

@@ -16,12 +16,12 @@ use Rattle.vip_relation.specs.Follows.{dispatch_of, last_view, last_screen}
 use Rattle.vip_relation.specs.Meets.{IsSame}
 use Rattle.vip_relation.specs.Stops.{stop_record}
 use Rattle.vip_debug.specs.Shown.{cycle_text, regs_lines, state_line, screen_text, mem_lines, dis_lines}
-use Rattle.vip_words.specs.declared.commands.Command.{Command}
-use Rattle.vip_words.specs.declared.commands.Command.TheVariants.{Runs, Shows}
-use Rattle.vip_words.specs.declared.commands.Running.{Running}
-use Rattle.vip_words.specs.declared.commands.Running.TheVariants.{Step, To, Next, Break}
-use Rattle.vip_words.specs.declared.commands.Showing.{Showing}
-use Rattle.vip_words.specs.declared.commands.Showing.TheVariants.{Regs, State, Mem, Dis, Screen}
+use Rattle.vip_commands.specs.declared.commands.Command.{Command}
+use Rattle.vip_commands.specs.declared.commands.Command.TheVariants.{Runs, Shows}
+use Rattle.vip_commands.specs.declared.commands.Running.{Running}
+use Rattle.vip_commands.specs.declared.commands.Running.TheVariants.{Step, To, Next, Break}
+use Rattle.vip_commands.specs.declared.commands.Showing.{Showing}
+use Rattle.vip_commands.specs.declared.commands.Showing.TheVariants.{Regs, State, Mem, Dis, Screen}
 use Rattle.vip_debug.specs.declared.run.DebugEnd.{DebugEnd}
 use Rattle.vip_debug.specs.declared.run.DebugEnd.TheVariants.{Done, Stopped, WriteFault}
 

@@ -9,8 +9,8 @@ use Rattle.vip_outside.specs.declared.sink.Failed.{Failed}
 use Rattle.asm_listing.specs.Disassembly.{ended_line, taken}
 use Rattle.vip_relation.specs.State.{VipState, events_waiting}
 use Rattle.vip_relation.specs.Meets.{IsSame}
-use Rattle.vip_words.specs.declared.commands.Running.{Running}
-use Rattle.vip_words.specs.declared.commands.Running.TheVariants.{Step, To, Next, Break}
+use Rattle.vip_commands.specs.declared.commands.Running.{Running}
+use Rattle.vip_commands.specs.declared.commands.Running.TheVariants.{Step, To, Next, Break}
 use Rattle.vip_debug.specs.Shown.{bytes_from}
 use Rattle.vip_debug.specs.Answers.{begun, moves_until, Place, place_of, points_ahead, arrival}
 

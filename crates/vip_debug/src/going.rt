@@ -9,7 +9,7 @@ ghost use Rattle.vip_debug.specs.Parts.{Arrives, FindAnswers, Makes, PassAnswers
 use vip_board::Moved;
 use vip_byte::MOST_CYCLE;
 use vip_relation::{Met, Vip};
-use vip_words::Running;
+use vip_commands::Running;
 
 /// Runs to the next dispatch point, past pictures, or to the end of the run. Answers whether there is one.
 fn pass(vip: &mut Vip, limit: u64) -> bool

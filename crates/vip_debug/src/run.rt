@@ -15,7 +15,7 @@ use vip_byte::{Buffer, MOST_CYCLE, put};
 use vip_outside::{Failed, Sink};
 use vip_relation::Vip;
 use vip_text::{stop_text, trace_text};
-use vip_words::{Command, Commands, Running, Showing};
+use vip_commands::{Command, Commands, Running, Showing};
 
 /// How the commands ended.
 #[derive(Clone, Copy, Debug, PartialEq, Eq)]

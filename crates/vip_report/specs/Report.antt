@@ -12,8 +12,8 @@ use Rattle.rom_check.specs.declared.fault.ImageFault.{ImageFault}
 use Rattle.rom_check.specs.declared.fault.ImageFault.TheVariants as image
 use Rattle.vip_keypad.specs.declared.script.ScriptCause.{ScriptCause}
 use Rattle.vip_keypad.specs.declared.script.ScriptCause.TheVariants as script
-use Rattle.vip_words.specs.declared.commands.CommandCause.{CommandCause}
-use Rattle.vip_words.specs.declared.commands.CommandCause.TheVariants as command
+use Rattle.vip_commands.specs.declared.commands.CommandCause.{CommandCause}
+use Rattle.vip_commands.specs.declared.commands.CommandCause.TheVariants as command
 use Rattle.vip_text.specs.Stops.{opcode_part, stop_line}
 use Rattle.vip_byte.specs.Text.{newline}
 use Rattle.vip_text.specs.Endings.{Ending, ending_in}

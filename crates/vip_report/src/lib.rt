@@ -1,5 +1,5 @@
 //! How the program ends: its statuses, its refusals, and the line of report of each. The crate stands on those whose faults it reports
-//! (`asm_core`, `rom_check`, `cycle_check`, `game_check`, `vip_keypad`, `vip_words`), on `vip_text`, which says how a run may end and has the line of a stop, and on the
+//! (`asm_core`, `rom_check`, `cycle_check`, `game_check`, `vip_keypad`, `vip_commands`), on `vip_text`, which says how a run may end and has the line of a stop, and on the
 //! sinks of `vip_outside`; it reads no file and runs nothing. The layer above may rely on this: each refusal and each end has the
 //! status and the report of `specs/Status.antt`, `specs/Refusal.antt` and `specs/Report.antt`, and the report goes to a sink in order, up to
 //! the first put that fails. The statuses and the reports are this project's (`docs/FORMATS.md`).

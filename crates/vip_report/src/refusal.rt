@@ -11,7 +11,7 @@ use rom_check::ImageFault;
 use std::alloc::AllocError;
 use vip_keypad::ScriptCause;
 use vip_outside::Failed;
-use vip_words::CommandCause;
+use vip_commands::CommandCause;
 
 /// Files that are limited in their size.
 #[derive(Clone, Copy, Debug, Default, PartialEq, Eq)]

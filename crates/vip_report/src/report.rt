@@ -17,7 +17,7 @@ use vip_byte::{Buffer, hex2, hex4};
 use vip_keypad::ScriptCause;
 use vip_outside::{Failed, Sink};
 use vip_text::{RunEnd, stop_text};
-use vip_words::CommandCause;
+use vip_commands::CommandCause;
 
 /// Puts three parts of a line.
 fn put_three<S: Sink>(sink: &mut S, a: &[u8], b: &[u8], c: &[u8]) -> Result<(), Failed>

@@ -8,7 +8,7 @@ ghost use Rattle.vip_tools.specs.Opening.{SmallScripts, KeysAnswer, DebugCommand
 use std::alloc::Global;
 use vip_keypad::{Script, ScriptFault, read_script};
 use vip_report::Refusal;
-use vip_words::{CommandFault, Commands, read_commands};
+use vip_commands::{CommandFault, Commands, read_commands};
 
 /// The key script of a run, which is empty where no file is given.
 pub fn read_keys<'a>(alloc: Global, script: Option<&[u8]>) -> Result<Script, Refusal<'a>>

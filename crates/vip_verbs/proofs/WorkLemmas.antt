@@ -5,8 +5,8 @@ use Rattle.chip8_lang.specs.declared.view.Edition.{Edition}
 use Rattle.chip8_lang.specs.declared.view.Edition.TheVariants.{Usual}
 use Rattle.chip8_lang.specs.declared.view.StopRecord.{StopRecord}
 use Rattle.chip8_lang.specs.Events.{is_stop}
-use Rattle.vip_words.specs.Grammar.{commands_of}
-use Rattle.vip_words.specs.declared.commands.Command.{Command as DebugCommand}
+use Rattle.vip_commands.specs.Grammar.{commands_of}
+use Rattle.vip_commands.specs.declared.commands.Command.{Command as DebugCommand}
 use Rattle.vip_debug.specs.Answers.{begun, at_start, place_of, place_after, written, DebugAnswers}
 use Rattle.vip_debug.specs.declared.run.DebugEnd.{DebugEnd}
 use Rattle.vip_debug.specs.declared.run.DebugEnd.TheVariants as debugger

@@ -11,10 +11,10 @@ use Rattle.asm_core.specs.Sources.{source_lines}
 use Rattle.rom_check.specs.Compared.{Compares}
 use Rattle.rom_check.specs.declared.fault.ImageFault.{ImageFault}
 use Rattle.rom_check.specs.declared.fault.ImageFault.TheVariants.{NoMemory}
-use Rattle.vip_words.specs.Grammar.{commands_of}
-use Rattle.vip_words.specs.declared.commands.Command.{Command}
-use Rattle.vip_words.specs.declared.commands.CommandFault.{CommandFault}
-use Rattle.vip_words.specs.declared.commands.CommandFault.TheVariants as command
+use Rattle.vip_commands.specs.Grammar.{commands_of}
+use Rattle.vip_commands.specs.declared.commands.Command.{Command}
+use Rattle.vip_commands.specs.declared.commands.CommandFault.{CommandFault}
+use Rattle.vip_commands.specs.declared.commands.CommandFault.TheVariants as command
 use Rattle.vip_debug.specs.Answers.{at_start, place_after, stop_by, written}
 use Rattle.vip_keypad.specs.declared.script.ScriptCause.{ScriptCause}
 use Rattle.vip_keypad.specs.declared.script.ScriptFault.TheVariants.{Fault}

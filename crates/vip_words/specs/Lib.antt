@@ -1,7 +1,6 @@
 pub mod Asked
 pub mod Command
 pub mod Given
-pub mod Grammar
 pub mod Request
 pub mod Rules
 pub mod Table

@@ -1,10 +1,8 @@
-//! What a user asks for: the words of the command line, and the commands of the debugger, both read exactly. The crate stands on the kit's
-//! `clap`, whose contracts say which words a simple command takes and what it finds in them, on `vip_byte` for numbers and lines, on
-//! `vip_keypad` for the remarks that commands share with key scripts, and on `chip8_lang` for the name of an edition; it reads no file. The
-//! layer above may rely on `read_words` and `read_commands`. The first answers exactly the request that the rules of `specs/Rules.antt`,
-//! `specs/Table.antt` and `specs/Asked.antt` read in the words, and refuses exactly the words in which they read none; the second answers the
-//! commands of a text in order, or its first fault (`specs/Grammar.antt`). Want of memory is the one other answer of each. The rules are this
-//! project's profile (`docs/FORMATS.md`).
+//! What a user asks for: the words of the command line, read exactly. The crate stands on the kit's `clap`, whose contracts say which words a
+//! simple command takes and what it finds in them, on `vip_byte` for numbers, and on `chip8_lang` for the name of an edition; it reads no file. The
+//! layer above may rely on `read_words`: it answers exactly the request that the rules of `specs/Rules.antt`, `specs/Table.antt` and
+//! `specs/Asked.antt` read in the words, and refuses exactly the words in which they read none. Want of memory is its one other answer. The
+//! rules are this project's profile (`docs/FORMATS.md`).
 //!
 //! ```text
 //!     words ──▶ the verb's usage ──▶ each word is plain or an option of it ──▶ clap ──▶ its numbers ──▶ Request
@@ -29,15 +27,10 @@
 #![tactic(auto)]
 
 mod command;
-mod commands;
 mod given;
-mod line;
 mod request;
 mod table;
 
-pub use commands::{
-    Command, CommandCause, CommandFault, Commands, Running, Showing, read_commands,
-};
 pub use given::WordsFail;
 pub use request::{
     CertifyRequest, CyclesRequest, DebugRequest, DemoRequest, DisRequest, Request, RunRequest,

@@ -9,16 +9,16 @@ use Rattle.vip_byte.specs.Number.{decimal_number, hex_number}
 use Rattle.vip_byte.specs.Reading.{Format, read, ◌>>=◌}
 use Rattle.vip_byte.specs.Text.{words}
 use Rattle.vip_keypad.specs.KeyScript.{is_silent}
-use Rattle.vip_words.specs.declared.line.TheConstants.{MOST_STEPS, MOST_SHOWN}
-use Rattle.vip_words.specs.declared.commands.Command.{Command}
-use Rattle.vip_words.specs.declared.commands.Command.TheVariants.{Runs, Shows}
-use Rattle.vip_words.specs.declared.commands.Running.TheVariants.{Step, To, Next, Break}
-use Rattle.vip_words.specs.declared.commands.Showing.{Showing}
-use Rattle.vip_words.specs.declared.commands.Showing.TheVariants.{Regs, State, Mem, Dis, Screen}
-use Rattle.vip_words.specs.declared.commands.CommandCause.{CommandCause}
-use Rattle.vip_words.specs.declared.commands.CommandCause.TheVariants.{BadWord, BadCount, BadNumber, Range}
-use Rattle.vip_words.specs.declared.commands.CommandFault.{CommandFault}
-use Rattle.vip_words.specs.declared.commands.CommandFault.TheVariants.{Fault}
+use Rattle.vip_commands.specs.declared.line.TheConstants.{MOST_STEPS, MOST_SHOWN}
+use Rattle.vip_commands.specs.declared.commands.Command.{Command}
+use Rattle.vip_commands.specs.declared.commands.Command.TheVariants.{Runs, Shows}
+use Rattle.vip_commands.specs.declared.commands.Running.TheVariants.{Step, To, Next, Break}
+use Rattle.vip_commands.specs.declared.commands.Showing.{Showing}
+use Rattle.vip_commands.specs.declared.commands.Showing.TheVariants.{Regs, State, Mem, Dis, Screen}
+use Rattle.vip_commands.specs.declared.commands.CommandCause.{CommandCause}
+use Rattle.vip_commands.specs.declared.commands.CommandCause.TheVariants.{BadWord, BadCount, BadNumber, Range}
+use Rattle.vip_commands.specs.declared.commands.CommandFault.{CommandFault}
+use Rattle.vip_commands.specs.declared.commands.CommandFault.TheVariants.{Fault}
 
 -- ---- the words of a command
 

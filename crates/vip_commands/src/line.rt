@@ -1,7 +1,7 @@
 //! One line of a text of commands.
 
 ghost use Rattle.std.specs.Prelude.{◌≡◌, ◌≤◌, ◌∷◌, [], Ok, Err, IfOk, MatchResult};
-ghost use Rattle.vip_words.specs.Grammar.{address_of, break_of, bytes_within, command_of, decimal_within, dis_of, mem_of, next_of, no_operand, one_operand, said, showing_of, step_of, to_of, two_operands};
+ghost use Rattle.vip_commands.specs.Grammar.{address_of, break_of, bytes_within, command_of, decimal_within, dis_of, mem_of, next_of, no_operand, one_operand, said, showing_of, step_of, to_of, two_operands};
 
 use crate::commands::{Command, CommandCause, Running, Showing};
 use vip_byte::{NumFault, Words, read_decimal, read_hex};

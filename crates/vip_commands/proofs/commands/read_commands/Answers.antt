@@ -2,8 +2,8 @@ use Rattle.std.proofs.Common.{ap, sym, inr, arith}
 use Rattle.std.specs.Result.{result_err}
 use Rattle.std.proofs.lemmas.List.{map-append}
 use Rattle.vip_byte.proofs.ReadingLemmas.{length-IsReadUpTo, read_line, read_none, read-refused, read-whole}
-use Rattle.vip_words.specs.Grammar.{command_format}
-use Rattle.vip_words.proofs.commands.read_commands.Goals as goal
+use Rattle.vip_commands.specs.Grammar.{command_format}
+use Rattle.vip_commands.proofs.commands.read_commands.Goals as goal
 
 pub loop-line-init : goal.loop-line-init
 loop-line-init c =

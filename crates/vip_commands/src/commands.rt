@@ -2,7 +2,7 @@
 
 ghost use Rattle.std.specs.Prelude.{◌≡◌, ◌≤◌, ◌⊎◌, ◌++◌, length, Ok, Err, OnOk, IfOk, IfErr};
 ghost use Rattle.std.specs.Option.{option_to_list};
-ghost use Rattle.vip_words.specs.Grammar.{commands_of};
+ghost use Rattle.vip_commands.specs.Grammar.{commands_of};
 
 use crate::line::read_line;
 use std::alloc::{AllocError, Global};
@@ -75,7 +75,7 @@ pub enum CommandFault {
 
 impl From<AllocError> for CommandFault {
     ghost use Rattle.std.specs.Prelude.{◌≡◌};
-    ghost use Rattle.vip_words.specs.declared.commands.CommandFault.TheVariants.{NoMemory};
+    ghost use Rattle.vip_commands.specs.declared.commands.CommandFault.TheVariants.{NoMemory};
 
     ghost from_gives = { λ _ fault. fault ≡ NoMemory };
 
@@ -92,7 +92,7 @@ pub struct Commands {
 
 impl Model for Commands {
     ghost use Rattle.std.specs.Prelude.{List};
-    ghost use Rattle.vip_words.specs.declared.commands.Command.{Command};
+    ghost use Rattle.vip_commands.specs.declared.commands.Command.{Command};
 
     ghost Value = { List Command };
 
