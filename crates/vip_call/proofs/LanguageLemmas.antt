@@ -20,6 +20,7 @@ use Rattle.vip_text.specs.Endings.{Ending}
 use Rattle.vip_text.specs.Endings.Ending.{AtStop}
 use Rattle.vip_commands.specs.Grammar.{commands_of}
 use Rattle.vip_commands.specs.declared.commands.Command.{Command}
+use Rattle.vip_commands.specs.declared.commands.Speaks.TheVariants.{Chip8}
 use Rattle.vip_commands.specs.declared.commands.CommandFault.{CommandFault}
 use Rattle.vip_commands.specs.declared.commands.CommandFault.TheVariants.{Fault, NoMemory}
 use Rattle.vip_outside.specs.Files.{FilesMeaning}
@@ -142,7 +143,7 @@ module _ (law : EveryRun) where
   shows old (debug a) [] pieces status report read comes = tt
   shows old (debug a) (game ∷ []) pieces status report read comes = tt
   shows old (debug a) (game ∷ text ∷ scripts) pieces status report read comes =
-      debug_read a.run.edition game read.0.fits read.0.bytes a.run.cycles scripts (commands_of a.run.cycles text) (Shown pieces status report) comes
+      debug_read a.run.edition game read.0.fits read.0.bytes a.run.cycles scripts (commands_of Chip8 a.run.cycles text) (Shown pieces status report) comes
   shows old (demo a) [] pieces status report read comes =
       run_shows Usual (demo_game a.number) (omega (arith, length-game a.number)) (bytes-game a.number) a.cycles [] _ (Shown pieces status report) comes
   shows old (demo a) (c ∷ cs) pieces status report read comes = absurd comes

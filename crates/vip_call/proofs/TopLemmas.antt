@@ -13,6 +13,7 @@ use Rattle.rom_check.specs.declared.fault.ImageFault.{ImageFault}
 use Rattle.rom_check.specs.declared.fault.ImageFault.TheVariants as image
 use Rattle.vip_commands.specs.Grammar.{commands_of}
 use Rattle.vip_commands.specs.declared.commands.Command.{Command}
+use Rattle.vip_commands.specs.declared.commands.Speaks.TheVariants.{Chip8}
 use Rattle.vip_commands.specs.declared.commands.CommandFault.{CommandFault}
 use Rattle.vip_commands.specs.declared.commands.CommandFault.TheVariants as debug_fault
 use Rattle.vip_outside.specs.Count.{Rose}
@@ -186,7 +187,7 @@ agree (play a) [] o p x y = absurd x
 agree (play a) (game ∷ scripts) o p x y = runs_agree a.edition a.cycles scripts _ _ o p x y
 agree (debug a) [] o p x y = absurd x
 agree (debug a) (game ∷ []) o p x y = absurd x
-agree (debug a) (game ∷ text ∷ scripts) o p x y = debugs_agree a.run.edition game a.run.cycles scripts (commands_of a.run.cycles text) o p x y
+agree (debug a) (game ∷ text ∷ scripts) o p x y = debugs_agree a.run.edition game a.run.cycles scripts (commands_of Chip8 a.run.cycles text) o p x y
 agree (demo a) [] o p x y = runs_agree Usual a.cycles [] _ _ o p x y
 agree (demo a) (c ∷ cs) o p x y = absurd x
 agree (asm name) [] o p x y = absurd x
@@ -220,7 +221,7 @@ given_up (play a) [] report x = absurd x
 given_up (play a) (game ∷ scripts) report x = no_run a.edition a.cycles scripts _ _ report x
 given_up (debug a) [] report x = absurd x
 given_up (debug a) (game ∷ []) report x = absurd x
-given_up (debug a) (game ∷ text ∷ scripts) report x = no_debug a.run.edition game a.run.cycles scripts (commands_of a.run.cycles text) report x
+given_up (debug a) (game ∷ text ∷ scripts) report x = no_debug a.run.edition game a.run.cycles scripts (commands_of Chip8 a.run.cycles text) report x
 given_up (demo a) [] report x = no_run Usual a.cycles [] _ _ report x
 given_up (demo a) (c ∷ cs) report x = absurd x
 given_up (asm name) [] report x = absurd x

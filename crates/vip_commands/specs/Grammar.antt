@@ -11,10 +11,13 @@ use Rattle.vip_byte.specs.Text.{words}
 use Rattle.vip_keypad.specs.KeyScript.{is_silent}
 use Rattle.vip_commands.specs.declared.line.TheConstants.{MOST_STEPS, MOST_SHOWN}
 use Rattle.vip_commands.specs.declared.commands.Command.{Command}
-use Rattle.vip_commands.specs.declared.commands.Command.TheVariants.{Runs, Shows}
-use Rattle.vip_commands.specs.declared.commands.Running.TheVariants.{Step, To, Next, Break}
-use Rattle.vip_commands.specs.declared.commands.Showing.{Showing}
-use Rattle.vip_commands.specs.declared.commands.Showing.TheVariants.{Regs, State, Mem, Dis, Screen}
+use Rattle.vip_commands.specs.declared.commands.Command.TheVariants.{Runs, Shows, Seeks, Tells}
+use Rattle.vip_commands.specs.declared.commands.Running.TheVariants.{Step, To, At, Watch}
+use Rattle.vip_commands.specs.declared.commands.Showing.TheVariants.{Regs, Mem, Dis, List as Listed}
+use Rattle.vip_commands.specs.declared.commands.Seeking.TheVariants.{Next, Break}
+use Rattle.vip_commands.specs.declared.commands.Telling.TheVariants.{State, Screen}
+use Rattle.vip_commands.specs.declared.commands.Speaks.{Speaks}
+use Rattle.vip_commands.specs.declared.commands.Speaks.TheVariants.{Chip8, Machine}
 use Rattle.vip_commands.specs.declared.commands.CommandCause.{CommandCause}
 use Rattle.vip_commands.specs.declared.commands.CommandCause.TheVariants.{BadWord, BadCount, BadNumber, Range}
 use Rattle.vip_commands.specs.declared.commands.CommandFault.{CommandFault}
@@ -23,9 +26,9 @@ use Rattle.vip_commands.specs.declared.commands.CommandFault.TheVariants.{Fault}
 -- ---- the words of a command
 
 -- so many operands
-abbrev pub no_operand : Showing → List (List ℕ) → Result Command CommandCause
-no_operand showing [] = Ok (Shows showing)
-no_operand showing operands = Err BadCount
+abbrev pub no_operand : Command → List (List ℕ) → Result Command CommandCause
+no_operand command [] = Ok command
+no_operand command operands = Err BadCount
 
 abbrev pub one_operand : List (List ℕ) → Result (List ℕ) CommandCause
 one_operand (word ∷ []) = Ok word
@@ -52,85 +55,105 @@ decimal_within least most word = no_less_than least (decimal_number word most)
 unfoldable pub address_of : List ℕ → Result ℕ CommandCause
 address_of word = if nat_lt 4 (length word) then Err BadNumber else ok_or (result_ok (hex_number word 0xffff)) BadNumber
 
+-- a number of moves or of dispatch points
+unfoldable pub steps_of : List (List ℕ) → Result ℕ CommandCause
+steps_of operands = do
+  word ← one_operand operands
+  decimal_within 1 MOST_STEPS word
+
+-- a cycle that is at most the limit
+unfoldable pub to_of : ℕ → List (List ℕ) → Result ℕ CommandCause
+to_of limit operands = do
+  word ← one_operand operands
+  decimal_within 0 limit word
+
+abbrev pub place_of : List (List ℕ) → Result ℕ CommandCause
+place_of operands = do
+  word ← one_operand operands
+  address_of word
+
+-- an address, and a number of bytes or lines from there on
+unfoldable pub span_of : List (List ℕ) → Result (ℕ × ℕ) CommandCause
+span_of operands = do
+  pair ← two_operands operands
+  address ← address_of pair.0
+  count ← decimal_within 1 MOST_SHOWN pair.1
+  Ok (address, count)
+
 -- bytes that end at FFFF at the latest
-abbrev pub bytes_within : ℕ → ℕ → Result Command CommandCause
-bytes_within address count = if nat_lt 0x10000 (address + count) then Err Range else Ok (Shows (Mem address count))
+unfoldable pub bytes_of : List (List ℕ) → Result (ℕ × ℕ) CommandCause
+bytes_of operands = do
+  span ← span_of operands
+  if nat_lt 0x10000 (span.0 + span.1) then Err Range else Ok span
 
 -- ---- the commands
 
-unfoldable pub step_of : List (List ℕ) → Result Command CommandCause
-step_of operands = do
-  word ← one_operand operands
-  moves ← decimal_within 1 MOST_STEPS word
-  Ok (Runs (Step moves))
-
--- up to a cycle that is at most the limit
-unfoldable pub to_of : ℕ → List (List ℕ) → Result Command CommandCause
-to_of limit operands = do
-  word ← one_operand operands
-  cycle ← decimal_within 0 limit word
-  Ok (Runs (To cycle))
-
-unfoldable pub next_of : List (List ℕ) → Result Command CommandCause
-next_of operands = do
-  word ← one_operand operands
-  points ← decimal_within 1 MOST_STEPS word
-  Ok (Runs (Next points))
-
-unfoldable pub break_of : List (List ℕ) → Result Command CommandCause
-break_of operands = do
-  word ← one_operand operands
-  address ← address_of word
-  Ok (Runs (Break address))
-
-unfoldable pub mem_of : List (List ℕ) → Result Command CommandCause
-mem_of operands = do
-  pair ← two_operands operands
-  address ← address_of pair.0
-  count ← decimal_within 1 MOST_SHOWN pair.1
-  bytes_within address count
-
-unfoldable pub dis_of : List (List ℕ) → Result Command CommandCause
-dis_of operands = do
-  pair ← two_operands operands
-  address ← address_of pair.0
-  count ← decimal_within 1 MOST_SHOWN pair.1
-  Ok (Shows (Dis address count))
-
--- the command that a word and its operands say, or the first cause for which they say none: one that shows, and any
-unfoldable pub showing_of : List ℕ → List (List ℕ) → Result Command CommandCause
-showing_of word operands =
-    if bytes_eq word (codes "screen") then no_operand Screen operands
-    else if bytes_eq word (codes "regs") then no_operand Regs operands
-    else if bytes_eq word (codes "state") then no_operand State operands
-    else if bytes_eq word (codes "mem") then mem_of operands
-    else if bytes_eq word (codes "dis") then dis_of operands
+-- the command of the language that a word and its operands say, or the first cause for which they say none
+unfoldable pub language_command_of : List ℕ → List (List ℕ) → Result Command CommandCause
+language_command_of word operands =
+    if bytes_eq word (codes "screen") then no_operand (Tells Screen) operands
+    else if bytes_eq word (codes "state") then no_operand (Tells State) operands
+    else if bytes_eq word (codes "next") then (do
+      points ← steps_of operands
+      Ok (Seeks (Next points)))
+    else if bytes_eq word (codes "break") then (do
+      address ← place_of operands
+      Ok (Seeks (Break address)))
     else Err BadWord
 
-unfoldable pub command_of : ℕ → List ℕ → List (List ℕ) → Result Command CommandCause
-command_of limit word operands =
-    if bytes_eq word (codes "step") then step_of operands
-    else if bytes_eq word (codes "to") then to_of limit operands
-    else if bytes_eq word (codes "next") then next_of operands
-    else if bytes_eq word (codes "break") then break_of operands
-    else showing_of word operands
+-- there is none where the board runs no game
+abbrev pub spoken_of : Speaks → List ℕ → List (List ℕ) → Result Command CommandCause
+spoken_of Chip8 word operands = language_command_of word operands
+spoken_of Machine word operands = Err BadWord
+
+-- one that shows what the board holds, or one of the language
+unfoldable pub showing_of : Speaks → List ℕ → List (List ℕ) → Result Command CommandCause
+showing_of speaks word operands =
+    if bytes_eq word (codes "regs") then no_operand (Shows Regs) operands
+    else if bytes_eq word (codes "mem") then (do
+      span ← bytes_of operands
+      Ok (Shows (Mem span.0 span.1)))
+    else if bytes_eq word (codes "dis") then (do
+      span ← span_of operands
+      Ok (Shows (Dis span.0 span.1)))
+    else if bytes_eq word (codes "list") then (do
+      span ← span_of operands
+      Ok (Shows (Listed span.0 span.1)))
+    else spoken_of speaks word operands
+
+-- any
+unfoldable pub command_of : Speaks → ℕ → List ℕ → List (List ℕ) → Result Command CommandCause
+command_of speaks limit word operands =
+    if bytes_eq word (codes "step") then (do
+      moves ← steps_of operands
+      Ok (Runs (Step moves)))
+    else if bytes_eq word (codes "to") then (do
+      cycle ← to_of limit operands
+      Ok (Runs (To cycle)))
+    else if bytes_eq word (codes "at") then (do
+      address ← place_of operands
+      Ok (Runs (At address)))
+    else if bytes_eq word (codes "watch") then (do
+      span ← bytes_of operands
+      Ok (Runs (Watch span.0 span.1)))
+    else showing_of speaks word operands
 
 -- ---- the lines
 
-abbrev pub some_command : ℕ → List (List ℕ) → Result (Option Command) CommandCause
-some_command limit [] = Ok None
-some_command limit (word ∷ operands) = do
-  command ← command_of limit word operands
+abbrev pub some_command : Speaks → ℕ → List (List ℕ) → Result (Option Command) CommandCause
+some_command speaks limit [] = Ok None
+some_command speaks limit (word ∷ operands) = do
+  command ← command_of speaks limit word operands
   Ok (Some command)
 
 -- what a line says: nothing, or one command
-unfoldable pub said : ℕ → List ℕ → Result (Option Command) CommandCause
-said limit line = if is_silent (words line) then Ok None else some_command limit (words line)
+unfoldable pub said : Speaks → ℕ → List ℕ → Result (Option Command) CommandCause
+said speaks limit line = if is_silent (words line) then Ok None else some_command speaks limit (words line)
 
 -- a line is refused for what it says alone
-abbrev pub command_format : ℕ → Format Command CommandCause CommandFault
-command_format limit = record { said = said limit; refused = λ before says. result_err says; fault = Fault }
+abbrev pub command_format : Speaks → ℕ → Format Command CommandCause CommandFault
+command_format speaks limit = record { said = said speaks limit; refused = λ before says. result_err says; fault = Fault }
 
 -- what a text of commands says: the list of its commands, or its first fault
-abbrev pub commands_of : ℕ → List ℕ → Result (List Command) CommandFault
-commands_of limit = read (command_format limit)
+abbrev pub commands_of : Speaks → ℕ → List ℕ → Result (List Command) CommandFault
+commands_of speaks limit = read (command_format speaks limit)

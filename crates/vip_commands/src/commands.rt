@@ -10,24 +10,26 @@ use std::marker::Model;
 use thiserror::Error;
 use vip_byte::{Lines, MOST_TEXT};
 
-/// A command: it runs the board, or shows what it holds.
+/// A command. The first two kinds speak of the machine, whatever runs on it, and the other two of the language CHIP-8.
 #[derive(Clone, Copy, Debug, PartialEq, Eq)]
 pub enum Command {
     Runs(Running),
     Shows(Showing),
+    Seeks(Seeking),
+    Tells(Telling),
 }
 
-/// A command that runs the board, up to its stop point or the limit at the latest.
+/// A command that runs the board, up to the end of its run or the limit at the latest.
 #[derive(Clone, Copy, Debug, PartialEq, Eq)]
 pub enum Running {
     /// Makes so many moves.
     Step(u32),
     /// Makes the moves that end at or before a machine cycle.
     To(u64),
-    /// Runs to the so-many-th next dispatch point.
-    Next(u32),
-    /// Runs to the next dispatch point with this pc.
-    Break(u16),
+    /// Makes at least one move, and moves until the next instruction is at this address.
+    At(u16),
+    /// Makes moves until one of so many bytes from an address on has changed, as the bus reads them.
+    Watch(u16, u32),
 }
 
 /// A command that shows what the board holds, and leaves it.
@@ -35,14 +37,39 @@ pub enum Running {
 pub enum Showing {
     /// The registers of the processor.
     Regs,
-    /// The language state at the last dispatch point met.
-    State,
     /// So many bytes from an address on.
     Mem(u16, u32),
     /// So many lines of the disassembly of the bytes from an address on.
     Dis(u16, u32),
-    /// The screen at the last dispatch point met.
+    /// So many instructions from an address on, with their addresses and bytes.
+    List(u16, u32),
+}
+
+/// A command that runs the board to a dispatch point, up to its stop point or the limit at the latest.
+#[derive(Clone, Copy, Debug, PartialEq, Eq)]
+pub enum Seeking {
+    /// To the so-many-th next one.
+    Next(u32),
+    /// To the next one with this pc.
+    Break(u16),
+}
+
+/// A command that tells what was met of the language, and leaves the board.
+#[derive(Clone, Copy, Debug, PartialEq, Eq)]
+pub enum Telling {
+    /// The language state at the last dispatch point met.
+    State,
+    /// The screen there.
     Screen,
+}
+
+/// What a board that is debugged runs, and so which commands there are.
+#[derive(Clone, Copy, Debug, PartialEq, Eq)]
+pub enum Speaks {
+    /// A game: all of them.
+    Chip8,
+    /// Any other program: those that speak of the machine.
+    Machine,
 }
 
 /// Why a line says no command, in the order in which the causes are looked for.
@@ -115,24 +142,31 @@ impl Commands {
 /// | no word, or a first word that begins with `#` | nothing |
 /// | `step N`, `next N` | N is 1 to 1,000,000 |
 /// | `to C` | C is at most the limit |
-/// | `break A` | A is an address |
-/// | `mem A N`, `dis A N` | N is 1 to 4,096, and in `mem` A + N is at most 65536 |
+/// | `at A`, `break A` | A is an address |
+/// | `watch A N`, `mem A N` | N is 1 to 4,096, and A + N at most 65536 |
+/// | `dis A N`, `list A N` | N is 1 to 4,096 |
 /// | `regs`, `state`, `screen` | they have no operand |
 ///
-/// Lines and words are those of a key script. N and C are decimal numbers, and A is one to four hexadecimal digits.
+/// Lines and words are those of a key script. N and C are decimal numbers, and A is one to four hexadecimal digits. Where the board doesn't
+/// run a game, `next`, `break`, `state` and `screen` are no commands.
 ///
 /// The answer is the list of the commands, or the first fault, which is the first cause in the first faulty line; or memory was wanting.
-pub fn read_commands(alloc: Global, text: &[u8], limit: u64) -> Result<Commands, CommandFault>
+pub fn read_commands(
+    alloc: Global,
+    speaks: Speaks,
+    text: &[u8],
+    limit: u64,
+) -> Result<Commands, CommandFault>
     requires { length text.now ≤ MOST_TEXT }
-    ensures commands { IfOk result (λ commands. commands_of limit text.now ≡ Ok commands) }
+    ensures commands { IfOk result (λ commands. commands_of speaks limit text.now ≡ Ok commands) }
     ensures fault { IfErr result
-        (λ fault. (fault ≡ CommandFault.NoMemory) ⊎ (commands_of limit text.now ≡ Err fault)) }
+        (λ fault. (fault ≡ CommandFault.NoMemory) ⊎ (commands_of speaks limit text.now ≡ Err fault)) }
 {
     let mut list = Vec::new(alloc);
     let mut number = 0;
     for line in Lines::new(text) {
         number += 1;
-        match read_line(line, limit) {
+        match read_line(line, speaks, limit) {
             Ok(command) => extend(&mut list, command)?,
             Err(cause) => return Err(CommandFault::Fault {
                 line: number,

@@ -8,5 +8,6 @@ mod commands;
 mod line;
 
 pub use commands::{
-    Command, CommandCause, CommandFault, Commands, Running, Showing, read_commands,
+    Command, CommandCause, CommandFault, Commands, Running, Seeking, Showing, Speaks, Telling,
+    read_commands,
 };

@@ -1,9 +1,9 @@
 //! One line of a text of commands.
 
 ghost use Rattle.std.specs.Prelude.{◌≡◌, ◌≤◌, ◌∷◌, [], Ok, Err, IfOk, MatchResult};
-ghost use Rattle.vip_commands.specs.Grammar.{address_of, break_of, bytes_within, command_of, decimal_within, dis_of, mem_of, next_of, no_operand, one_operand, said, showing_of, step_of, to_of, two_operands};
+ghost use Rattle.vip_commands.specs.Grammar.{address_of, bytes_of, command_of, decimal_within, language_command_of, no_operand, one_operand, said, showing_of, span_of, steps_of, to_of, two_operands};
 
-use crate::commands::{Command, CommandCause, Running, Showing};
+use crate::commands::{Command, CommandCause, Running, Seeking, Showing, Speaks, Telling};
 use vip_byte::{NumFault, Words, read_decimal, read_hex};
 
 /// The most moves or dispatch points of one command.
@@ -14,8 +14,12 @@ const MOST_SHOWN: u64 = 4_096;
 
 /// What a line says by itself: nothing or a command, or the first cause for which it says neither.
 #[tactic(auto, unfolding(crate::specs::Grammar::said))]
-pub fn read_line(line: &[u8], limit: u64) -> Result<Option<Command>, CommandCause>
-    ensures { result ≡ said limit line.now }
+pub fn read_line(
+    line: &[u8],
+    speaks: Speaks,
+    limit: u64,
+) -> Result<Option<Command>, CommandCause>
+    ensures { result ≡ said speaks limit line.now }
 {
     let mut words = Words::new(line);
     let Some(word) = words.next() else {
@@ -24,108 +28,120 @@ pub fn read_line(line: &[u8], limit: u64) -> Result<Option<Command>, CommandCaus
     if let [b'#', ..] = word {
         return Ok(None);
     }
-    let command = read_command(word, words, limit)?;
+    let command = read_command(word, words, speaks, limit)?;
     Ok(Some(command))
 }
 
 // The command that a word says with these operands.
 #[tactic(auto, unfolding(crate::specs::Grammar::command_of))]
-fn read_command(word: &[u8], operands: Words, limit: u64) -> Result<Command, CommandCause>
-    ensures { result ≡ command_of limit word.now operands.entry }
+fn read_command(
+    word: &[u8],
+    operands: Words,
+    speaks: Speaks,
+    limit: u64,
+) -> Result<Command, CommandCause>
+    ensures { result ≡ command_of speaks limit word.now operands.entry }
 {
     match word {
-        b"step" => read_step(operands),
-        b"to" => read_to(operands, limit),
-        b"next" => read_next(operands),
-        b"break" => read_break(operands),
-        _ => read_showing(word, operands),
+        b"step" => Ok(Command::Runs(Running::Step(read_steps(operands)?))),
+        b"to" => Ok(Command::Runs(Running::To(read_to(operands, limit)?))),
+        b"at" => Ok(Command::Runs(Running::At(read_address(one(operands)?)?))),
+        b"watch" => {
+            let (address, count) = read_bytes(operands)?;
+            Ok(Command::Runs(Running::Watch(address, count)))
+        }
+        _ => read_showing(word, operands, speaks),
     }
 }
 
-// The command that a word says with these operands, if it is one that shows.
+// The command that a word says with these operands, if it is one that shows, or one of the language.
 #[tactic(auto, unfolding(crate::specs::Grammar::showing_of))]
-fn read_showing(word: &[u8], operands: Words) -> Result<Command, CommandCause>
-    ensures { result ≡ showing_of word.now operands.entry }
+fn read_showing(word: &[u8], operands: Words, speaks: Speaks) -> Result<Command, CommandCause>
+    ensures { result ≡ showing_of speaks word.now operands.entry }
 {
     match word {
-        word if word == b"screen".as_slice() => alone(Showing::Screen, operands),
-        b"regs" => alone(Showing::Regs, operands),
-        b"state" => alone(Showing::State, operands),
-        b"mem" => read_mem(operands),
-        b"dis" => read_dis(operands),
+        b"regs" => alone(Command::Shows(Showing::Regs), operands),
+        b"mem" => {
+            let (address, count) = read_bytes(operands)?;
+            Ok(Command::Shows(Showing::Mem(address, count)))
+        }
+        b"dis" => {
+            let (address, count) = read_span(operands)?;
+            Ok(Command::Shows(Showing::Dis(address, count)))
+        }
+        b"list" => {
+            let (address, count) = read_span(operands)?;
+            Ok(Command::Shows(Showing::List(address, count)))
+        }
+        _ => match speaks {
+            Speaks::Chip8 => read_language(word, operands),
+            Speaks::Machine => Err(CommandCause::BadWord),
+        },
+    }
+}
+
+// The command that a word says with these operands, if it is one of the language.
+#[tactic(auto, unfolding(crate::specs::Grammar::language_command_of))]
+fn read_language(word: &[u8], operands: Words) -> Result<Command, CommandCause>
+    ensures { result ≡ language_command_of word.now operands.entry }
+{
+    match word {
+        word if word == b"screen".as_slice() => alone(Command::Tells(Telling::Screen), operands),
+        b"state" => alone(Command::Tells(Telling::State), operands),
+        b"next" => Ok(Command::Seeks(Seeking::Next(read_steps(operands)?))),
+        b"break" => Ok(Command::Seeks(Seeking::Break(read_address(one(operands)?)?))),
         _ => Err(CommandCause::BadWord),
     }
 }
 
-#[tactic(auto, unfolding(crate::specs::Grammar::step_of))]
-fn read_step(operands: Words) -> Result<Command, CommandCause>
-    ensures { result ≡ step_of operands.entry }
+// A number of moves or of dispatch points.
+#[tactic(auto, unfolding(crate::specs::Grammar::steps_of))]
+fn read_steps(operands: Words) -> Result<u32, CommandCause>
+    ensures { result ≡ steps_of operands.entry }
 {
-    let moves = read_within(one(operands)?, 1, MOST_STEPS)?;
-    Ok(Command::Runs(Running::Step(moves as u32)))
+    let steps = read_within(one(operands)?, 1, MOST_STEPS)?;
+    Ok(steps as u32)
 }
 
+// A cycle up to the limit.
 #[tactic(auto, unfolding(crate::specs::Grammar::to_of))]
-fn read_to(operands: Words, limit: u64) -> Result<Command, CommandCause>
+fn read_to(operands: Words, limit: u64) -> Result<u64, CommandCause>
     ensures { result ≡ to_of limit operands.entry }
 {
-    let cycle = read_within(one(operands)?, 0, limit)?;
-    Ok(Command::Runs(Running::To(cycle)))
+    read_within(one(operands)?, 0, limit)
 }
 
-#[tactic(auto, unfolding(crate::specs::Grammar::next_of))]
-fn read_next(operands: Words) -> Result<Command, CommandCause>
-    ensures { result ≡ next_of operands.entry }
-{
-    let points = read_within(one(operands)?, 1, MOST_STEPS)?;
-    Ok(Command::Runs(Running::Next(points as u32)))
-}
-
-#[tactic(auto, unfolding(crate::specs::Grammar::break_of))]
-fn read_break(operands: Words) -> Result<Command, CommandCause>
-    ensures { result ≡ break_of operands.entry }
-{
-    let address = read_address(one(operands)?)?;
-    Ok(Command::Runs(Running::Break(address)))
-}
-
-#[tactic(auto, unfolding(crate::specs::Grammar::mem_of))]
-fn read_mem(operands: Words) -> Result<Command, CommandCause>
-    ensures { result ≡ mem_of operands.entry }
+// An address and a number of bytes or lines.
+#[tactic(auto, unfolding(crate::specs::Grammar::span_of))]
+fn read_span(operands: Words) -> Result<(u16, u32), CommandCause>
+    ensures value { result ≡ span_of operands.entry }
+    ensures within { IfOk result (λ span. span.1 ≤ MOST_SHOWN) }
 {
     let (first, second) = two(operands)?;
     let address = read_address(first)?;
     let count = read_within(second, 1, MOST_SHOWN)?;
-    mem_within(address, count)
+    Ok((address, count as u32))
 }
 
-fn mem_within(address: u16, count: u64) -> Result<Command, CommandCause>
-    requires { count ≤ 4_096 }
-    ensures { result ≡ bytes_within address count }
+// Bytes that end at FFFF at the latest.
+#[tactic(auto, unfolding(crate::specs::Grammar::bytes_of))]
+fn read_bytes(operands: Words) -> Result<(u16, u32), CommandCause>
+    ensures { result ≡ bytes_of operands.entry }
 {
-    if u64::from(address) + count > 0x10000 {
+    let (address, count) = read_span(operands)?;
+    if u32::from(address) + count > 0x10000 {
         return Err(CommandCause::Range);
     }
-    Ok(Command::Shows(Showing::Mem(address, count as u32)))
+    Ok((address, count))
 }
 
-#[tactic(auto, unfolding(crate::specs::Grammar::dis_of))]
-fn read_dis(operands: Words) -> Result<Command, CommandCause>
-    ensures { result ≡ dis_of operands.entry }
-{
-    let (first, second) = two(operands)?;
-    let address = read_address(first)?;
-    let count = read_within(second, 1, MOST_SHOWN)?;
-    Ok(Command::Shows(Showing::Dis(address, count as u32)))
-}
-
-// A command that shows, without operands.
-fn alone(showing: Showing, mut operands: Words) -> Result<Command, CommandCause>
-    ensures { result ≡ no_operand showing operands.entry }
+// A command without operands.
+fn alone(command: Command, mut operands: Words) -> Result<Command, CommandCause>
+    ensures { result ≡ no_operand command operands.entry }
 {
     match operands.next() {
         Some(_) => Err(CommandCause::BadCount),
-        None => Ok(Command::Shows(showing)),
+        None => Ok(command),
     }
 }
 

@@ -6,6 +6,7 @@ use Rattle.asm_core.specs.Sources.{source_lines, HasFirstFault}
 use Rattle.vip_commands.specs.Grammar.{commands_of}
 use Rattle.vip_commands.specs.declared.commands.Command.{Command as DebugCommand}
 use Rattle.vip_commands.specs.declared.commands.CommandFault.TheVariants as command
+use Rattle.vip_commands.specs.declared.commands.Speaks.{Speaks}
 use Rattle.vip_keypad.specs.declared.script.ScriptFault.TheVariants.{Fault}
 use Rattle.vip_report.specs.declared.refusal.Refusal.{Refusal}
 use Rattle.vip_report.specs.declared.refusal.Refusal.TheVariants.{Script, Command, Source, NoMemory}
@@ -25,11 +26,11 @@ KeysAnswer scripts (Err NoMemory) = Unit {0}
 KeysAnswer scripts (Err _) = ⊥
 
 -- the debugger's commands are read
-abbrev pub DebugCommandsAnswer : ℕ → List ℕ → Result (List DebugCommand) Refusal → Type 0
-DebugCommandsAnswer limit text (Ok commands) = commands_of limit text ≡ Ok commands
-DebugCommandsAnswer limit text (Err (Command line cause)) = commands_of limit text ≡ Err (command.Fault line cause)
-DebugCommandsAnswer limit text (Err NoMemory) = Unit {0}
-DebugCommandsAnswer limit text (Err _) = ⊥
+abbrev pub DebugCommandsAnswer : Speaks → ℕ → List ℕ → Result (List DebugCommand) Refusal → Type 0
+DebugCommandsAnswer speaks limit text (Ok commands) = commands_of speaks limit text ≡ Ok commands
+DebugCommandsAnswer speaks limit text (Err (Command line cause)) = commands_of speaks limit text ≡ Err (command.Fault line cause)
+DebugCommandsAnswer speaks limit text (Err NoMemory) = Unit {0}
+DebugCommandsAnswer speaks limit text (Err _) = ⊥
 
 -- a source is assembled
 abbrev pub SourceAnswers : List ℕ → Result Made Refusal → Type 0

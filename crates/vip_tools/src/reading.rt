@@ -8,7 +8,7 @@ ghost use Rattle.vip_tools.specs.Opening.{SmallScripts, KeysAnswer, DebugCommand
 use std::alloc::Global;
 use vip_keypad::{Script, ScriptFault, read_script};
 use vip_report::Refusal;
-use vip_commands::{CommandFault, Commands, read_commands};
+use vip_commands::{CommandFault, Commands, Speaks, read_commands};
 
 /// The key script of a run, which is empty where no file is given.
 pub fn read_keys<'a>(alloc: Global, script: Option<&[u8]>) -> Result<Script, Refusal<'a>>
@@ -25,12 +25,17 @@ pub fn read_keys<'a>(alloc: Global, script: Option<&[u8]>) -> Result<Script, Ref
     }
 }
 
-/// The commands of the debugger, for a run up to a limit.
-pub fn read_debugging<'a>(alloc: Global, text: &[u8], limit: u64) -> Result<Commands, Refusal<'a>>
+/// The commands of the debugger for a board that runs a game, or any other program, up to a limit.
+pub fn read_debugging<'a>(
+    alloc: Global,
+    speaks: Speaks,
+    text: &[u8],
+    limit: u64,
+) -> Result<Commands, Refusal<'a>>
     requires { length text.now ≤ most_text }
-    ensures { DebugCommandsAnswer limit text.now result }
+    ensures { DebugCommandsAnswer speaks limit text.now result }
 {
-    match read_commands(alloc, text, limit) {
+    match read_commands(alloc, speaks, text, limit) {
         Ok(commands) => Ok(commands),
         Err(CommandFault::Fault { line, cause }) => Err(Refusal::Command { line, cause }),
         Err(CommandFault::NoMemory) => Err(Refusal::NoMemory),

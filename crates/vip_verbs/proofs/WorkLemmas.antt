@@ -7,6 +7,7 @@ use Rattle.chip8_lang.specs.declared.view.StopRecord.{StopRecord}
 use Rattle.chip8_lang.specs.Events.{is_stop}
 use Rattle.vip_commands.specs.Grammar.{commands_of}
 use Rattle.vip_commands.specs.declared.commands.Command.{Command as DebugCommand}
+use Rattle.vip_commands.specs.declared.commands.Speaks.TheVariants.{Chip8}
 use Rattle.vip_debug.specs.Answers.{begun, at_start, place_of, place_after, written, DebugAnswers}
 use Rattle.vip_debug.specs.declared.run.DebugEnd.{DebugEnd}
 use Rattle.vip_debug.specs.declared.run.DebugEnd.TheVariants as debugger
@@ -115,7 +116,7 @@ module _ (Here : Outcome → Type 0) (run : RunOf Here) where
 module _ (a : AskedDebug) (game text : List ℕ) (scripts : List (List ℕ)) where
   refused-commands :
       (old : SinkMeaning) (refusal : Refusal)
-      → DebugCommandsAnswer a.run.cycles text (Err refusal) → WorkAnswers (Comes (debug a) (game ∷ text ∷ scripts)) old old (Err refusal)
+      → DebugCommandsAnswer Chip8 a.run.cycles text (Err refusal) → WorkAnswers (Comes (debug a) (game ∷ text ∷ scripts)) old old (Err refusal)
   refused-commands old Usage answer = absurd answer
   refused-commands old (Unread name) answer = absurd answer
   refused-commands old (TooLarge kind) answer = absurd answer
@@ -132,20 +133,20 @@ module _ (a : AskedDebug) (game text : List ℕ) (scripts : List (List ℕ)) whe
   -- its commands aren't read
   pub commands-fail :
       (old : SinkMeaning) (refusal : Refusal) (r : Result Ended Refusal)
-      → IsErrAnd r (λ e. e ≡ refusal) → DebugCommandsAnswer a.run.cycles text (Err refusal)
+      → IsErrAnd r (λ e. e ≡ refusal) → DebugCommandsAnswer Chip8 a.run.cycles text (Err refusal)
       → WorkAnswers (Comes (debug a) (game ∷ text ∷ scripts)) old old r
   commands-fail old refusal r is answer = passed (Comes (debug a) (game ∷ text ∷ scripts)) old refusal r is (refused-commands old refusal answer)
 
   -- they are, so it comes to what a run comes to
   pub as-run :
-      (commands : List DebugCommand) → commands_of a.run.cycles text ≡ Ok commands → (o : Outcome)
+      (commands : List DebugCommand) → commands_of Chip8 a.run.cycles text ≡ Ok commands → (o : Outcome)
       → RunComes a.run.edition a.run.cycles scripts
       (λ script. written (started a.run.edition game script) a.run.cycles commands at_start)
       (λ script. debug_ending (started a.run.edition game script) a.run.cycles commands) o
-      → DebugComes a.run.edition game a.run.cycles scripts (commands_of a.run.cycles text) o
+      → DebugComes a.run.edition game a.run.cycles scripts (commands_of Chip8 a.run.cycles text) o
   as-run commands read o come = rw read come
 
-  abbrev pub debug_run : (commands : List DebugCommand) → commands_of a.run.cycles text ≡ Ok commands → RunOf (Comes (debug a) (game ∷ text ∷ scripts))
+  abbrev pub debug_run : (commands : List DebugCommand) → commands_of Chip8 a.run.cycles text ≡ Ok commands → RunOf (Comes (debug a) (game ∷ text ∷ scripts))
   debug_run commands read = record {
     edition = a.run.edition;
     game = game;

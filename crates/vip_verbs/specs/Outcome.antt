@@ -13,6 +13,7 @@ use Rattle.rom_check.specs.declared.fault.ImageFault.{ImageFault}
 use Rattle.rom_check.specs.declared.fault.ImageFault.TheVariants.{NoMemory}
 use Rattle.vip_commands.specs.Grammar.{commands_of}
 use Rattle.vip_commands.specs.declared.commands.Command.{Command}
+use Rattle.vip_commands.specs.declared.commands.Speaks.TheVariants.{Chip8}
 use Rattle.vip_commands.specs.declared.commands.CommandFault.{CommandFault}
 use Rattle.vip_commands.specs.declared.commands.CommandFault.TheVariants as command
 use Rattle.vip_debug.specs.Answers.{at_start, place_after, stop_by, written}
@@ -108,7 +109,7 @@ Comes (play a) (game ∷ scripts) =
     RunComes a.edition a.cycles scripts
     (λ script. picture_pieces (interpreter_of a.edition).rom (run_of a.edition game script a.cycles) (events_in a.edition game script a.cycles))
     (run_ending a.edition game a.cycles)
-Comes (debug a) (game ∷ commands ∷ scripts) = DebugComes a.run.edition game a.run.cycles scripts (commands_of a.run.cycles commands)
+Comes (debug a) (game ∷ commands ∷ scripts) = DebugComes a.run.edition game a.run.cycles scripts (commands_of Chip8 a.run.cycles commands)
 Comes (demo a) [] =
     RunComes Usual a.cycles []
     (λ script. summary Usual a.number (events_in Usual (demo_game a.number) script a.cycles) ∷ [])

@@ -15,6 +15,7 @@ ghost use Rattle.vip_verbs.specs.Opening.{RomAnswers, StartAnswers};
 use chip8_lang::Edition;
 use rom_check::{ImageFault, check_image, check_tall};
 use std::alloc::Global;
+use vip_commands::Speaks;
 use vip_debug::{DebugEnd, run_commands};
 use vip_outside::Sink;
 use vip_relation::{StartFault, Vip};
@@ -110,7 +111,7 @@ fn debug<'a, O: Sink>(
     ensures { WorkAnswers (Comes (debug (asked_debug wish.now)) (debug_list contents.now)) (O.meaning out.old) (O.meaning out.new) result }
 {
     let run = wish.run;
-    let commands = read_debugging(alloc, contents.commands, run.cycles)?;
+    let commands = read_debugging(alloc, Speaks::Chip8, contents.commands, run.cycles)?;
     let mut vip = start(alloc, run.edition, &contents.run)?;
     match run_commands(&mut vip, &commands, run.cycles, out) {
         DebugEnd::Done => Ok(Ended::Ran(run.cycles, RunEnd::AtLimit)),
