@@ -14,11 +14,7 @@ const MOST_SHOWN: u64 = 4_096;
 
 /// What a line says by itself: nothing or a command, or the first cause for which it says neither.
 #[tactic(auto, unfolding(crate::specs::Grammar::said))]
-pub fn read_line(
-    line: &[u8],
-    speaks: Speaks,
-    limit: u64,
-) -> Result<Option<Command>, CommandCause>
+pub fn read_line(line: &[u8], speaks: Speaks, limit: u64) -> Result<Option<Command>, CommandCause>
     ensures { result ≡ said speaks limit line.now }
 {
     let mut words = Words::new(line);

@@ -18,7 +18,8 @@ use Rattle.vip_words.proofs.Ends.{Shows, flag_end}
 use Rattle.vip_words.proofs.Known.{known_of_all, strings_known}
 use Rattle.vip_words.proofs.Rows.{Seen, both_true, first_of-look, look, one_of-look}
 use Rattle.vip_words.proofs.Shown.{flag_in, word_seen}
-use Rattle.vip_words.proofs.Steps.{At, First, Flag, Screen, Second, Tall, Third, flag_name}
+use Rattle.vip_words.proofs.Flags.{At, Flag, Ram, Raw, Rom, Screen, Tall, flag_name}
+use Rattle.vip_words.proofs.Steps.{First, Second, Third}
 use Rattle.vip_words.proofs.Walks.{Agrees, all_given, command_agrees, is_well_formed}
 
 -- the options of a usage, and whether it knows the words
@@ -74,6 +75,9 @@ pub record ReadFrom (found : Found) (given : Given) : Type 0 where
   pub at : FlagRead found (codes "at") given.at
   pub screen : FlagRead found (codes "screen") given.screen
   pub tall : FlagRead found (codes "tall") given.tall
+  pub raw : FlagRead found (codes "raw") given.raw
+  pub rom : FlagRead found (codes "rom") given.rom
+  pub ram : FlagRead found (codes "ram") given.ram
 
 -- the word in a row
 abbrev word_of : Option Seen → Option Text
@@ -126,13 +130,16 @@ words_read found given few shows =
       word_read found (codes "third") (slice_get given.positional 2) (shows.places Third),
     ) (words_in_places given.positional few)
 
-same_given : (given given' : Given) → given.positional ≡ given'.positional → given.keys ≡ given'.keys → given.at ≡ given'.at
-    → given.screen ≡ given'.screen → given.tall ≡ given'.tall → given ≡ given'
-same_given given given' positional keys at screen tall =
+same_given : (given given' : Given) → given.positional ≡ given'.positional → given.keys ≡ given'.keys
+    → ((flag : Flag) → flag_in given flag ≡ flag_in given' flag) → given ≡ given'
+same_given given given' positional keys flags =
     ap (λ x. record given { positional = x }) positional
     ∙ (ap (λ x. record given { positional = given'.positional; keys = x }) keys
-    ∙ (ap (λ x. record given' { at = x; screen = given.screen; tall = given.tall }) at
-    ∙ (ap (λ x. record given' { screen = x; tall = given.tall }) screen ∙ ap (λ x. record given' { tall = x }) tall)))
+    ∙ (ap (λ x. record given { positional = given'.positional; keys = given'.keys; at = x }) (flags At)
+    ∙ (ap (λ x. record given' { screen = x; tall = given.tall; raw = given.raw; rom = given.rom; ram = given.ram }) (flags Screen)
+    ∙ (ap (λ x. record given' { tall = x; raw = given.raw; rom = given.rom; ram = given.ram }) (flags Tall)
+    ∙ (ap (λ x. record given' { raw = x; rom = given.rom; ram = given.ram }) (flags Raw)
+    ∙ (ap (λ x. record given' { rom = x; ram = given.ram }) (flags Rom) ∙ ap (λ x. record given' { ram = x }) (flags Ram)))))))
 
 -- what is read is what the rows show
 read_shown : (found : Found) (given given' : Given) → length given.positional ≤ 3 → Shows (rows_of found) given → ReadFrom found given'
@@ -141,9 +148,14 @@ read_shown found given given' few shows reads =
     same_given given given'
     (sym (reads.positional ∙ words_read found given few shows))
     (sym (reads.keys ∙ word_read found (codes "keys") given.keys shows.keys_is))
-    (flag_read found given At given'.at shows reads.at)
-    (flag_read found given Screen given'.screen shows reads.screen)
-    (flag_read found given Tall given'.tall shows reads.tall)
+    (λ flag. elim flag as (λ f. flag_in given f ≡ flag_in given' f) [
+      | At ↦ flag_read found given At given'.at shows reads.at
+      | Screen ↦ flag_read found given Screen given'.screen shows reads.screen
+      | Tall ↦ flag_read found given Tall given'.tall shows reads.tall
+      | Raw ↦ flag_read found given Raw given'.raw shows reads.raw
+      | Rom ↦ flag_read found given Rom given'.rom shows reads.rom
+      | Ram ↦ flag_read found given Ram given'.ram shows reads.ram
+    ])
 
 count_of : (count : ℕ) (words : List Word) → is_well_formed count words ≡ true → length (positional_words false words) ≡ count
 count_of count words fit = eqb-true (length (positional_words false words)) count (both_true _ _ (both_true _ _ fit).1).1

@@ -1,6 +1,7 @@
 mod Answered
 mod Arguments
 mod Ends
+mod Flags
 mod Known
 mod Parses
 mod Rows

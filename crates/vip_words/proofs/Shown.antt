@@ -1,13 +1,14 @@
 -- What the rows show between two words: what the words up to there give.
 use Rattle.std.proofs.Common.{◌≡◌, ◌∙◌, ap, refl, arith, ◌<◌, ◌≤◌, ℕ, List, [], ◌∷◌, ◌++◌, Bool, true, false, Option, Some, None, length, codes}
 use Rattle.std.proofs.lemmas.Option.{slice_get_past}
-use Rattle.std.specs.Prelude.{bytes_eq, slice_get}
+use Rattle.std.specs.Prelude.{◌||◌, bytes_eq, if◌then◌else◌, slice_get}
 use Rattle.clap.specs.Faults.{use_fault}
 use Rattle.clap.specs.Walk.{Row, Text, used}
 use Rattle.clap.specs.declared.builder.value_parser.Reading.TheVariants.{AsWritten}
 use Rattle.clap.specs.declared.parser.matches.ValueSource.TheVariants.{CommandLine}
-use Rattle.vip_words.proofs.Rows.{Seen, has_row-look, look, look-other, look-use, new_row, or_first, or_first-none, shown}
-use Rattle.vip_words.proofs.Steps.{At, First, Flag, Pending, Place, Screen, Second, Tall, Third, flag_argument, flag_name, place_at, place_by_id, place_name, settled_after, settles}
+use Rattle.vip_words.proofs.Rows.{Seen, has_row-look, look, look-other, look-use, new_row, or_first, shown}
+use Rattle.vip_words.proofs.Flags.{At, Flag, Ram, Raw, Rom, Screen, Tall, flag_name, is_flag, no_flag}
+use Rattle.vip_words.proofs.Steps.{First, Pending, Place, Second, Third, flag_argument, place_at, place_by_id, place_name, settled_after, settles}
 use Rattle.vip_words.specs.Rules.{Given}
 
 -- the flag is given
@@ -15,11 +16,28 @@ abbrev pub flag_in : Given → Flag → Bool
 flag_in given At = given.at
 flag_in given Screen = given.screen
 flag_in given Tall = given.tall
+flag_in given Raw = given.raw
+flag_in given Rom = given.rom
+flag_in given Ram = given.ram
 
 abbrev pub with_flag : Flag → Given → Given
-with_flag At given = record given { at = true }
-with_flag Screen given = record given { screen = true }
-with_flag Tall given = record given { tall = true }
+with_flag new given = record given {
+  at = is_flag new At || given.at;
+  screen = is_flag new Screen || given.screen;
+  tall = is_flag new Tall || given.tall;
+  raw = is_flag new Raw || given.raw;
+  rom = is_flag new Rom || given.rom;
+  ram = is_flag new Ram || given.ram;
+}
+
+-- that flag is given then, and else those that were given before
+flag_in-with : (new flag : Flag) (given : Given) → flag_in (with_flag new given) flag ≡ (is_flag new flag || flag_in given flag)
+flag_in-with new At given = refl
+flag_in-with new Screen given = refl
+flag_in-with new Tall given = refl
+flag_in-with new Raw given = refl
+flag_in-with new Rom given = refl
+flag_in-with new Ram given = refl
 
 abbrev pub with_word : Text → Given → Given
 with_word word given = record given { positional = given.positional ++ word ∷ [] }
@@ -56,15 +74,9 @@ place_differs_keys Second = refl
 place_differs_keys Third = refl
 
 place_differs_flag : (place : Place) (flag : Flag) → bytes_eq (place_name place) (flag_name flag) ≡ false
-place_differs_flag First At = refl
-place_differs_flag First Screen = refl
-place_differs_flag First Tall = refl
-place_differs_flag Second At = refl
-place_differs_flag Second Screen = refl
-place_differs_flag Second Tall = refl
-place_differs_flag Third At = refl
-place_differs_flag Third Screen = refl
-place_differs_flag Third Tall = refl
+place_differs_flag First flag = no_flag (λ f. bytes_eq (codes "first") (flag_name f)) refl flag
+place_differs_flag Second flag = no_flag (λ f. bytes_eq (codes "second") (flag_name f)) refl flag
+place_differs_flag Third flag = no_flag (λ f. bytes_eq (codes "third") (flag_name f)) refl flag
 
 keys_differs_place : (place : Place) → bytes_eq (codes "keys") (place_name place) ≡ false
 keys_differs_place First = refl
@@ -72,25 +84,15 @@ keys_differs_place Second = refl
 keys_differs_place Third = refl
 
 keys_differs_flag : (flag : Flag) → bytes_eq (codes "keys") (flag_name flag) ≡ false
-keys_differs_flag At = refl
-keys_differs_flag Screen = refl
-keys_differs_flag Tall = refl
+keys_differs_flag flag = no_flag (λ f. bytes_eq (codes "keys") (flag_name f)) refl flag
 
 flag_differs_place : (flag : Flag) (place : Place) → bytes_eq (flag_name flag) (place_name place) ≡ false
-flag_differs_place At First = refl
-flag_differs_place At Second = refl
-flag_differs_place At Third = refl
-flag_differs_place Screen First = refl
-flag_differs_place Screen Second = refl
-flag_differs_place Screen Third = refl
-flag_differs_place Tall First = refl
-flag_differs_place Tall Second = refl
-flag_differs_place Tall Third = refl
+flag_differs_place flag First = no_flag (λ f. bytes_eq (flag_name f) (codes "first")) refl flag
+flag_differs_place flag Second = no_flag (λ f. bytes_eq (flag_name f) (codes "second")) refl flag
+flag_differs_place flag Third = no_flag (λ f. bytes_eq (flag_name f) (codes "third")) refl flag
 
 flag_differs_keys : (flag : Flag) → bytes_eq (flag_name flag) (codes "keys") ≡ false
-flag_differs_keys At = refl
-flag_differs_keys Screen = refl
-flag_differs_keys Tall = refl
+flag_differs_keys flag = no_flag (λ f. bytes_eq (flag_name f) (codes "keys")) refl flag
 
 -- ---- a positional word
 
@@ -170,24 +172,13 @@ keys_again count rows word x there = rw (has_row-look (codes "keys") rows, there
 flag_shown : (new flag : Flag) (given : Given)
     → or_first (flag_seen (flag_in given flag)) (shown (flag_name flag) (new_row (flag_name new) AsWritten CommandLine (codes "true" ∷ [])))
     ≡ flag_seen (flag_in (with_flag new given) flag)
-flag_shown At At given = elim given.at as (λ b. or_first (flag_seen b) (flag_seen true) ≡ flag_seen true) [ true ↦ refl | false ↦ refl ]
-flag_shown At Screen given = or_first-none (flag_seen given.screen)
-flag_shown At Tall given = or_first-none (flag_seen given.tall)
-flag_shown Screen At given = or_first-none (flag_seen given.at)
-flag_shown Screen Screen given =
-    elim given.screen as (λ b. or_first (flag_seen b) (flag_seen true) ≡ flag_seen true) [ true ↦ refl | false ↦ refl ]
-flag_shown Screen Tall given = or_first-none (flag_seen given.tall)
-flag_shown Tall At given = or_first-none (flag_seen given.at)
-flag_shown Tall Screen given = or_first-none (flag_seen given.screen)
-flag_shown Tall Tall given =
-    elim given.tall as (λ b. or_first (flag_seen b) (flag_seen true) ≡ flag_seen true) [ true ↦ refl | false ↦ refl ]
-
--- a flag changes no word
-flag_words : (new : Flag) (given : Given) → ((with_flag new given).positional ≡ given.positional) ×
-    ((with_flag new given).keys ≡ given.keys)
-flag_words At given = (refl, refl)
-flag_words Screen given = (refl, refl)
-flag_words Tall given = (refl, refl)
+flag_shown new flag given = rw (flag_in-with new flag given) (by_both (is_flag new flag) (flag_in given flag))
+  where
+    by_both : (same on : Bool) → or_first (flag_seen on) (if same then flag_seen true else None) ≡ flag_seen (same || on)
+    by_both true true = refl
+    by_both true false = refl
+    by_both false true = refl
+    by_both false false = refl
 
 pub flag_idle : (count : ℕ) (new : Flag) (rows : List Row) (given : Given) → flag_in given new ≡ false → Facts rows given
     → Idle count (used (flag_argument new) [] rows) None (with_flag new given)
@@ -198,8 +189,8 @@ flag_idle count new rows given off facts =
     record {
       settled_well = refl;
       facts = record {
-        places = λ place. rw (flag_words new given).0 (other (place_name place) (flag_differs_place new place) ∙ facts.places place);
-        keys_is = rw (flag_words new given).1 (other (codes "keys") (flag_differs_keys new) ∙ facts.keys_is);
+        places = λ place. other (place_name place) (flag_differs_place new place) ∙ facts.places place;
+        keys_is = other (codes "keys") (flag_differs_keys new) ∙ facts.keys_is;
         flags_are = λ flag. rw (
           look-use (flag_name new) (flag_name flag) AsWritten CommandLine (codes "true" ∷ []) rows absent,
           facts.flags_are flag,
@@ -218,7 +209,7 @@ flag_again new rows x there = rw (has_row-look (flag_name new) rows, there) (λ 
 -- ---- the start
 
 abbrev pub nothing_given : Given
-nothing_given = record { positional = []; keys = None; at = false; screen = false; tall = false }
+nothing_given = record { positional = []; keys = None; at = false; screen = false; tall = false; raw = false; rom = false; ram = false }
 
 pub no_rows : Facts [] nothing_given
 no_rows = record {
@@ -228,5 +219,12 @@ no_rows = record {
     | Third ↦ refl
   ];
   keys_is = refl;
-  flags_are = λ flag. elim flag as (λ f. look (flag_name f) [] ≡ flag_seen (flag_in nothing_given f)) [ At ↦ refl | Screen ↦ refl | Tall ↦ refl ];
+  flags_are = λ flag. elim flag as (λ f. look (flag_name f) [] ≡ flag_seen (flag_in nothing_given f)) [
+    | At ↦ refl
+    | Screen ↦ refl
+    | Tall ↦ refl
+    | Raw ↦ refl
+    | Rom ↦ refl
+    | Ram ↦ refl
+  ];
 }

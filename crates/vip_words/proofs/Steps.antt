@@ -8,23 +8,8 @@ use Rattle.clap.specs.Simple.{Shape, built, filled, with_index}
 use Rattle.clap.specs.Takes.{is_given}
 use Rattle.clap.specs.Walk.{Held, Row, Rule, Text, Waiting, Walk, arg_by_id, arg_by_index, idle, is_pending, option, settled_rows, used, walked}
 use Rattle.vip_words.specs.Command.{command_app, flag_rule, place_rule, place_names}
+use Rattle.vip_words.proofs.Flags.{At, Flag, Ram, Raw, Rom, Screen, Tall, flag_name, flag_word}
 use Rattle.vip_words.proofs.Rows.{is_quiet}
-
--- the options that take no word
-pub data Flag : Type 0 where
-  At : Flag
-  Screen : Flag
-  Tall : Flag
-
-abbrev pub flag_name : Flag → Text
-flag_name At = codes "at"
-flag_name Screen = codes "screen"
-flag_name Tall = codes "tall"
-
-abbrev pub flag_word : Flag → Text
-flag_word At = codes "--at"
-flag_word Screen = codes "--screen"
-flag_word Tall = codes "--tall"
 
 -- the places of the positional words
 pub data Place : Type 0 where
@@ -151,6 +136,9 @@ unfolding walked
 flag_step count At rows pending position = refl
 flag_step count Screen rows pending position = refl
 flag_step count Tall rows pending position = refl
+flag_step count Raw rows pending position = refl
+flag_step count Rom rows pending position = refl
+flag_step count Ram rows pending position = refl
 
 pub flag_turn : (name : Text) (count : ℕ) (flag : Flag) (rows : List Row) (pending : Pending) (position : ℕ)
     → turn_fault (shape name count) [] (stand rows pending idle position) (flag_word flag)
@@ -158,6 +146,9 @@ pub flag_turn : (name : Text) (count : ℕ) (flag : Flag) (rows : List Row) (pen
 flag_turn name count At rows pending position = refl
 flag_turn name count Screen rows pending position = refl
 flag_turn name count Tall rows pending position = refl
+flag_turn name count Raw rows pending position = refl
+flag_turn name count Rom rows pending position = refl
+flag_turn name count Ram rows pending position = refl
 
 pub keys_step : (count : ℕ) (rows : List Row) (pending : Pending) (position : ℕ)
     → walked (arguments count) [] (stand rows pending idle position) (codes "--keys")

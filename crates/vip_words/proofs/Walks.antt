@@ -7,9 +7,10 @@ use Rattle.clap.specs.Faults.{turn_fault}
 use Rattle.clap.specs.Kinds.{Kinds, check_kinds, or_else}
 use Rattle.clap.specs.Walk.{Row, Text, Waiting, Walk, finished, idle, used, walked}
 use Rattle.vip_words.specs.Command.{command_faults, command_rows}
-use Rattle.vip_words.specs.Rules.{every_option, has_values, is_given, is_keys, is_known, is_once, keys_value, positional_words}
+use Rattle.vip_words.specs.Rules.{every_option, has_values, is_given, is_known, is_once, keys_value, positional_words}
 use Rattle.vip_words.proofs.Rows.{Seen, both_true, look, or_first, or_first-none, same_bytes}
-use Rattle.vip_words.proofs.Steps.{and_never, At, First, Flag, Pending, Place, Screen, Second, Tall, Third, arguments, asked, asking, flag_argument, flag_step, flag_turn, flag_word, held, keys_step, keys_turn, place_at, place_name, place_step, place_turn, settled_after, settles, shape, stand, stray_turn, value_step, value_turn}
+use Rattle.vip_words.proofs.Flags.{At, Flag, Ram, Raw, Rom, Screen, Tall, every_flag, flag_among, flag_word, one_flag_fails}
+use Rattle.vip_words.proofs.Steps.{and_never, First, Pending, Place, Second, Third, arguments, asked, asking, flag_argument, flag_step, flag_turn, held, keys_step, keys_turn, place_at, place_name, place_step, place_turn, settled_after, settles, shape, stand, stray_turn, value_step, value_turn}
 use Rattle.vip_words.specs.Rules.{Given, Word}
 use Rattle.vip_words.proofs.Ends.{Shows, ends_checked, shows_end}
 use Rattle.vip_words.proofs.Shown.{Facts, Idle, flag_again, flag_idle, flag_in, flag_seen, word_seen, flag_use, keys_again, keys_idle, no_rows, nothing_given, one_word, place_idle, with_flag, with_keys, with_word}
@@ -23,8 +24,7 @@ once before option words = if before then not (is_given option words) else is_on
 
 abbrev all_once : Bool → Given → List Text → Bool
 all_once keys given words =
-    once keys (codes "--keys") words && (once given.at (codes "--at") words
-    && (once given.screen (codes "--screen") words && (once given.tall (codes "--tall") words && true)))
+    once keys (codes "--keys") words && list_all (λ flag. once (flag_in given flag) (flag_word flag) words) every_flag
 
 -- the rules accept the words, after so many positional words and what was given; `after` says that `--keys` waits for its value
 abbrev passes : ℕ → ℕ → Bool → Bool → Given → List Text → Bool
@@ -39,6 +39,9 @@ then_given given words = record {
   at = given.at || is_given (codes "--at") words;
   screen = given.screen || is_given (codes "--screen") words;
   tall = given.tall || is_given (codes "--tall") words;
+  raw = given.raw || is_given (codes "--raw") words;
+  rom = given.rom || is_given (codes "--rom") words;
+  ram = given.ram || is_given (codes "--ram") words;
 }
 
 -- the same where `--keys` waits for its value
@@ -49,6 +52,9 @@ then_valued given words = record {
   at = given.at || is_given (codes "--at") words;
   screen = given.screen || is_given (codes "--screen") words;
   tall = given.tall || is_given (codes "--tall") words;
+  raw = given.raw || is_given (codes "--raw") words;
+  rom = given.rom || is_given (codes "--rom") words;
+  ram = given.ram || is_given (codes "--ram") words;
 }
 
 -- ---- the rules and the parse agree
@@ -126,19 +132,15 @@ data WordKind (word : Text) : Type 0 where
   keys_word : word ≡ codes "--keys" → WordKind word
   one_flag : (flag : Flag) → word ≡ flag_word flag → WordKind word
 
-option_kind : (word : Text) (keys at screen tall : Bool)
-    → bytes_eq word (codes "--keys") ≡ keys → bytes_eq word (codes "--at") ≡ at → bytes_eq word (codes "--screen") ≡ screen
-    → bytes_eq word (codes "--tall") ≡ tall → (keys || (at || (screen || (tall || false)))) ≡ true → WordKind word
-option_kind word true at screen tall is_keys is_at is_screen is_tall known = keys_word (same_bytes word (codes "--keys") is_keys)
-option_kind word false true screen tall is_keys is_at is_screen is_tall known = one_flag At (same_bytes word (codes "--at") is_at)
-option_kind word false false true tall is_keys is_at is_screen is_tall known = one_flag Screen (same_bytes word (codes "--screen") is_screen)
-option_kind word false false false true is_keys is_at is_screen is_tall known = one_flag Tall (same_bytes word (codes "--tall") is_tall)
-option_kind word false false false false is_keys is_at is_screen is_tall known = cc
+option_kind : (word : Text) (keys : Bool) → bytes_eq word (codes "--keys") ≡ keys
+    → (keys || list_any (λ flag. bytes_eq word (flag_word flag)) every_flag) ≡ true → WordKind word
+option_kind word true is known = keys_word (same_bytes word (codes "--keys") is)
+option_kind word false is known = let found = flag_among word every_flag known in one_flag found.0 found.1
 
 first_kind : (c : ℕ) (cs : Text) (b : Bool)
     → (c == 45) ≡ b → (not b || list_any (bytes_eq (c ∷ cs)) every_option) ≡ true → WordKind (c ∷ cs)
 first_kind c cs false first known = plain_word c cs refl first
-first_kind c cs true first known = option_kind (c ∷ cs) _ _ _ _ refl refl refl refl known
+first_kind c cs true first known = option_kind (c ∷ cs) _ refl known
 
 kind_of_word : (word : Text) → is_known every_option word ≡ true → WordKind word
 kind_of_word [] known = cc
@@ -236,37 +238,38 @@ flag_passes : (count before : ℕ) (given : Given) (new : Flag) (words : List Te
 flag_passes count before given At words off = rw off refl
 flag_passes count before given Screen words off = rw off refl
 flag_passes count before given Tall words off = rw off refl
+flag_passes count before given Raw words off = rw off refl
+flag_passes count before given Rom words off = rw off refl
+flag_passes count before given Ram words off = rw off refl
 
 flag_given : (given : Given) (new : Flag) (words : List Text) → flag_in given new ≡ false
     → then_given given (flag_word new ∷ words) ≡ then_given (with_flag new given) words
 flag_given given At words off = rw off refl
 flag_given given Screen words off = rw off refl
 flag_given given Tall words off = rw off refl
-
-flag_positional : (new : Flag) (given : Given) → (with_flag new given).positional ≡ given.positional
-flag_positional At given = refl
-flag_positional Screen given = refl
-flag_positional Tall given = refl
+flag_given given Raw words off = rw off refl
+flag_given given Rom words off = rw off refl
+flag_given given Ram words off = rw off refl
 
 -- where a test in the middle fails
 never_all : (a b d : Bool) → b ≡ false → (a && (b && d)) ≡ false
 never_all a b d fails = rw fails (and_never a)
 
-never_thrice : (a b d : Bool) → (a && (b && (d && false))) ≡ false
-never_thrice true b d = never_and b d
-never_thrice false b d = refl
+flag_again_is_twice : (new : Flag) (words : List Text) → once true (flag_word new) (flag_word new ∷ words) ≡ false
+flag_again_is_twice At words = refl
+flag_again_is_twice Screen words = refl
+flag_again_is_twice Tall words = refl
+flag_again_is_twice Raw words = refl
+flag_again_is_twice Rom words = refl
+flag_again_is_twice Ram words = refl
 
 flag_refused : (count before : ℕ) (given : Given) (new : Flag) (words : List Text) → flag_in given new ≡ true
     → passes count before false (is_some given.keys) given (flag_word new ∷ words) ≡ false
-flag_refused count before given At words on =
-    rw on (never_all (has_values false words) _ _ (and_never (once (is_some given.keys) (codes "--keys") words)))
-flag_refused count before given Screen words on =
-    rw on (never_all (has_values false words) _ _
-    (never_and (once (is_some given.keys) (codes "--keys") words) (once given.at (codes "--at") words)))
-flag_refused count before given Tall words on =
-    rw on (never_all (has_values false words) _ _
-    (never_thrice (once (is_some given.keys) (codes "--keys") words) (once given.at (codes "--at") words)
-    (once given.screen (codes "--screen") words)))
+flag_refused count before given new words on =
+    let test : Flag → Bool = λ flag. once (flag_in given flag) (flag_word flag) (flag_word new ∷ words) in
+    let fails : list_all test every_flag ≡ false = one_flag_fails test new (rw on (flag_again_is_twice new words)) in
+    never_all (has_values false (flag_word new ∷ words)) (all_once (is_some given.keys) given (flag_word new ∷ words)) _
+    (rw fails (and_never (once (is_some given.keys) (codes "--keys") (flag_word new ∷ words))))
 
 -- it is given once
 idle_flag : (name : Text) (count : ℕ) (words : List Text) (new : Flag) → AllAgree name count words
@@ -295,7 +298,7 @@ idle_flag name count words new rest rows pending before given is within idles = 
           flag_use new (settled_after count pending rows) (idles.facts.flags_are new ∙ ap flag_seen off),
         ) refl) (flag_step count new rows pending (before + 1))
         (rest.when_idle (used (flag_argument new) [] (settled_after count pending rows)) None before (with_flag new given)
-        (ap length (flag_positional new given) ∙ is) within
+        is within
         (flag_idle count new (settled_after count pending rows) given off idles.facts))
 
 -- ---- a word where `--keys` waits
@@ -322,6 +325,9 @@ option_turn name count rows position word (inl is) = rw is (λ e. cc)
 option_turn name count rows position word (inr (At, is)) = rw is (λ e. cc)
 option_turn name count rows position word (inr (Screen, is)) = rw is (λ e. cc)
 option_turn name count rows position word (inr (Tall, is)) = rw is (λ e. cc)
+option_turn name count rows position word (inr (Raw, is)) = rw is (λ e. cc)
+option_turn name count rows position word (inr (Rom, is)) = rw is (λ e. cc)
+option_turn name count rows position word (inr (Ram, is)) = rw is (λ e. cc)
 
 option_refused : (count before : ℕ) (given : Given) (word : Text) (words : List Text) → IsOption word
     → passes count before true true given (word ∷ words) ≡ false
@@ -329,6 +335,9 @@ option_refused count before given word words (inl is) = rw is refl
 option_refused count before given word words (inr (At, is)) = rw is refl
 option_refused count before given word words (inr (Screen, is)) = rw is refl
 option_refused count before given word words (inr (Tall, is)) = rw is refl
+option_refused count before given word words (inr (Raw, is)) = rw is refl
+option_refused count before given word words (inr (Rom, is)) = rw is refl
+option_refused count before given word words (inr (Ram, is)) = rw is refl
 
 asking_option : (name : Text) (count : ℕ) (words : List Text) (word : Text) → IsOption word → AskingAgrees name count (word ∷ words)
 asking_option name count words word is rows before given long within none facts =
@@ -385,7 +394,7 @@ twice_word name count words word (one_flag flag is) rest rows before x within th
 -- ---- the end of the words
 
 none_once : (keys : Bool) (given : Given) → all_once keys given [] ≡ true
-none_once keys given = rw (same_if keys, same_if given.at, same_if given.screen, same_if given.tall) refl
+none_once keys given = rw (same_if keys, same_if given.at, same_if given.screen, same_if given.tall, same_if given.raw, same_if given.rom, same_if given.ram) refl
   where
     same_if : (b : Bool) → (if b then true else true) ≡ true
     same_if true = refl
@@ -396,7 +405,17 @@ or_nothing true = refl
 or_nothing false = refl
 
 no_more_given : (given : Given) → then_given given [] ≡ given
-no_more_given given = rw (append-nil given.positional, or_first-none given.keys, or_nothing given.at, or_nothing given.screen, or_nothing given.tall) refl
+no_more_given given =
+    rw (
+      append-nil given.positional,
+      or_first-none given.keys,
+      or_nothing given.at,
+      or_nothing given.screen,
+      or_nothing given.tall,
+      or_nothing given.raw,
+      or_nothing given.rom,
+      or_nothing given.ram,
+    ) refl
 
 idle_end : (name : Text) (count : ℕ) → count ≤ 3 → IdleAgrees name count []
 idle_end name count few rows pending before given is within idles =
@@ -471,6 +490,9 @@ all_given words = record {
   at = is_given (codes "--at") words;
   screen = is_given (codes "--screen") words;
   tall = is_given (codes "--tall") words;
+  raw = is_given (codes "--raw") words;
+  rom = is_given (codes "--rom") words;
+  ram = is_given (codes "--ram") words;
 }
 
 -- the rules and the command agree on known words

@@ -1,5 +1,5 @@
 -- What the words of a command line ask for.
-use Rattle.std.specs.Prelude.{ℕ, List, [], ◌∷◌, Bool, if◌then◌else◌, Option, None, Some, option_map, option_and_then}
+use Rattle.std.specs.Prelude.{ℕ, List, [], ◌∷◌, Bool, ◌&&◌, ◌||◌, if◌then◌else◌, Option, None, Some, option_map, option_and_then}
 use Rattle.std.specs.Result.{result_ok}
 use Rattle.chip8_lang.specs.declared.view.Edition.{Edition}
 use Rattle.chip8_lang.specs.declared.view.Edition.TheVariants.{Usual, Tall}
@@ -7,6 +7,8 @@ use Rattle.vip_byte.specs.Number.{decimal_number, hex_number}
 use Rattle.vip_byte.specs.declared.number.TheConstants.{MOST_CYCLE}
 use Rattle.vip_words.specs.Rules.{Given, Word, given_by}
 use Rattle.vip_words.specs.Table.{usage_of}
+use Rattle.vip_words.specs.declared.request.Memory.{Memory}
+use Rattle.vip_words.specs.declared.request.Memory.TheVariants.{Rom, Ram}
 use Rattle.vip_words.specs.declared.table.Verb.{Verb}
 use Rattle.vip_words.specs.declared.table.Verb.TheVariants as verb
 
@@ -33,6 +35,36 @@ pub record AskedDemo : Type 0 where
   pub number : ℕ
   pub cycles : ℕ
 
+-- a run from a saved state: its file, how many machine cycles, the file of a key script, and whether each record says its cycle
+pub record AskedResume : Type 0 where
+  pub state : Word
+  pub cycles : ℕ
+  pub keys : Option Word
+  pub with_time : Bool
+
+-- two boards that are joined: the file of the message, how many moves, and the number that says whose each of them is
+pub record AskedLink : Type 0 where
+  pub message : Word
+  pub moves : ℕ
+  pub number : ℕ
+
+-- a run of a program for the processor: its file, the memory in which it stands, how many machine cycles, and the file of a key script
+pub record AskedProgram : Type 0 where
+  pub program : Word
+  pub memory : Memory
+  pub cycles : ℕ
+  pub keys : Option Word
+
+-- it under the debugger
+pub record AskedDebugProgram : Type 0 where
+  pub run : AskedProgram
+  pub commands : Word
+
+-- the assembly of the source in a file: whether its bytes themselves are written
+pub record AskedAsm : Type 0 where
+  pub file : Word
+  pub raw : Bool
+
 -- the disassembly of a file, whose first byte lies at this address
 pub record AskedDis : Type 0 where
   pub file : Word
@@ -54,15 +86,23 @@ pub record AskedCertify : Type 0 where
   pub game : Word
   pub edition : Edition
 
--- `play` shows the pictures of a run; `asm` and `list` name the file of a source; `within` is asked by the verb `cycles`
+-- `play` shows the pictures of a run, and `save` its last dispatch point as a file; `list` names the file of a source; `source` is asked for an
+-- edition's interpreter; `within` is asked by the verb `cycles`
 pub data Asked : Type 0 where
   trace : AskedTrace → Asked
   play : AskedRun → Asked
   debug : AskedDebug → Asked
   demo : AskedDemo → Asked
-  asm : Word → Asked
+  save : AskedRun → Asked
+  resume : AskedResume → Asked
+  link : AskedLink → Asked
+  trace_program : AskedProgram → Asked
+  play_program : AskedProgram → Asked
+  debug_program : AskedDebugProgram → Asked
+  asm : AskedAsm → Asked
   list : Word → Asked
   dis : AskedDis → Asked
+  source : Edition → Asked
   bounds : Asked
   within : AskedWithin → Asked
   safe : AskedSafe → Asked
@@ -78,9 +118,13 @@ most_cycles = MOST_CYCLE
 abbrev pub cycles_of : Word → Option ℕ
 cycles_of word = result_ok (decimal_number word most_cycles)
 
--- the number of a demonstration game: decimal, from 0 to 4,294,967,295
-abbrev pub demo_number_of : Word → Option ℕ
-demo_number_of word = result_ok (decimal_number word 4294967295)
+-- the number of a demonstration game or of a schedule: decimal, from 0 to 4,294,967,295
+abbrev pub seed_of : Word → Option ℕ
+seed_of word = result_ok (decimal_number word 4294967295)
+
+-- a number of moves of joined boards: decimal, from 0 to 10,000,000
+abbrev pub moves_of : Word → Option ℕ
+moves_of word = result_ok (decimal_number word 10_000_000)
 
 -- an address: hexadecimal, from 0 to FFFF
 abbrev pub address_of : Word → Option ℕ
@@ -97,27 +141,62 @@ abbrev pub run_by : Word → Word → Given → Option AskedRun
 run_by game cycles given =
     option_map (λ n. record { game = game; cycles = n; keys = given.keys; edition = edition_by given.tall }) (cycles_of cycles)
 
--- GAME CYCLES
+-- a program for the processor is asked for, in place of a game
+abbrev pub is_program : Given → Bool
+is_program given = given.rom || given.ram
+
+-- Words that are refused for a program: it stands in one memory, and `--tall`, `--screen` and `--at` speak of a game.
+abbrev pub is_mixed : Given → Bool
+is_mixed given = (given.rom && given.ram) || (given.tall || (given.screen || given.at))
+
+-- a run of the program of this name, for as many cycles as a word says
+abbrev pub program_by : Word → Word → Given → Option AskedProgram
+program_by program cycles given =
+    if is_mixed given then None
+    else option_map (λ n. record { program = program; memory = if given.rom then Rom else Ram; cycles = n; keys = given.keys }) (cycles_of cycles)
+
+-- GAME CYCLES, or PROGRAM CYCLES
 abbrev pub trace_by : List Word → Given → Option Asked
-trace_by (game ∷ cycles ∷ []) given =
-    option_map (λ r. trace (record { run = r; with_time = given.at; with_screen = given.screen })) (run_by game cycles given)
+trace_by (file ∷ cycles ∷ []) given =
+    if is_program given then option_map trace_program (program_by file cycles given)
+    else option_map (λ r. trace (record { run = r; with_time = given.at; with_screen = given.screen })) (run_by file cycles given)
 trace_by _ given = None
 
--- GAME CYCLES
+-- GAME CYCLES, or PROGRAM CYCLES
 abbrev pub play_by : List Word → Given → Option Asked
-play_by (game ∷ cycles ∷ []) given = option_map play (run_by game cycles given)
+play_by (file ∷ cycles ∷ []) given =
+    if is_program given then option_map play_program (program_by file cycles given)
+    else option_map play (run_by file cycles given)
 play_by _ given = None
 
--- GAME CYCLES COMMANDS
+-- GAME CYCLES COMMANDS, or PROGRAM CYCLES COMMANDS
 abbrev pub debug_by : List Word → Given → Option Asked
-debug_by (game ∷ cycles ∷ commands ∷ []) given =
-    option_map (λ r. debug (record { run = r; commands = commands })) (run_by game cycles given)
+debug_by (file ∷ cycles ∷ commands ∷ []) given =
+    if is_program given then option_map (λ r. debug_program (record { run = r; commands = commands })) (program_by file cycles given)
+    else option_map (λ r. debug (record { run = r; commands = commands })) (run_by file cycles given)
 debug_by _ given = None
+
+-- GAME CYCLES
+abbrev pub save_by : List Word → Given → Option Asked
+save_by (game ∷ cycles ∷ []) given = option_map save (run_by game cycles given)
+save_by _ given = None
+
+-- STATE CYCLES
+abbrev pub resume_by : List Word → Given → Option Asked
+resume_by (state ∷ cycles ∷ []) given =
+    option_map (λ n. resume (record { state = state; cycles = n; keys = given.keys; with_time = given.at })) (cycles_of cycles)
+resume_by _ given = None
+
+-- FILE MOVES NUMBER
+abbrev pub link_by : List Word → Option Asked
+link_by (file ∷ moves ∷ number ∷ []) =
+    option_and_then (λ m. option_map (λ n. link (record { message = file; moves = m; number = n })) (seed_of number)) (moves_of moves)
+link_by _ = None
 
 -- NUMBER CYCLES
 abbrev pub demo_by : List Word → Option Asked
 demo_by (number ∷ cycles ∷ []) =
-    option_and_then (λ n. option_map (λ c. demo (record { number = n; cycles = c })) (cycles_of cycles)) (demo_number_of number)
+    option_and_then (λ n. option_map (λ c. demo (record { number = n; cycles = c })) (cycles_of cycles)) (seed_of number)
 demo_by _ = None
 
 -- FILE
@@ -129,6 +208,11 @@ file_by _ = None
 abbrev pub dis_by : List Word → Option Asked
 dis_by (file ∷ at ∷ []) = option_map (λ a. dis (record { file = file; address = a })) (address_of at)
 dis_by _ = None
+
+-- none
+abbrev pub source_by : List Word → Given → Option Asked
+source_by [] given = Some (source (edition_by given.tall))
+source_by _ given = None
 
 -- none
 abbrev pub bounds_by : List Word → Option Asked
@@ -156,9 +240,13 @@ asked_of_verb verb.Trace given = trace_by given.positional given
 asked_of_verb verb.Play given = play_by given.positional given
 asked_of_verb verb.Debug given = debug_by given.positional given
 asked_of_verb verb.Demo given = demo_by given.positional
-asked_of_verb verb.Asm given = option_map asm (file_by given.positional)
+asked_of_verb verb.Save given = save_by given.positional given
+asked_of_verb verb.Resume given = resume_by given.positional given
+asked_of_verb verb.Link given = link_by given.positional
+asked_of_verb verb.Asm given = option_map (λ file. asm (record { file = file; raw = given.raw })) (file_by given.positional)
 asked_of_verb verb.List given = option_map list (file_by given.positional)
 asked_of_verb verb.Dis given = dis_by given.positional
+asked_of_verb verb.Source given = source_by given.positional given
 asked_of_verb verb.Bounds given = bounds_by given.positional
 asked_of_verb verb.Cycles given = within_by given.positional
 asked_of_verb verb.Safe given = safe_by given.positional given

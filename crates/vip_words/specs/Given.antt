@@ -20,6 +20,9 @@ seen_given given = record {
   at = given.at;
   screen = given.screen;
   tall = given.tall;
+  raw = given.raw;
+  rom = given.rom;
+  ram = given.ram;
 }
 
 -- what the words after a verb with this usage give, or nothing where they are refused

@@ -1,13 +1,18 @@
 -- What a request asks for.
 use Rattle.std.specs.Prelude.{option_map}
-use Rattle.vip_words.specs.Asked.{Asked, AskedCertify, AskedDebug, AskedDemo, AskedDis, AskedRun, AskedSafe, AskedTrace, AskedWithin, asm, bounds, certify, debug, demo, dis, list, play, safe, trace, within}
+use Rattle.vip_words.specs.Asked.{Asked, AskedAsm, AskedCertify, AskedDebug, AskedDebugProgram, AskedDemo, AskedDis, AskedLink, AskedProgram, AskedResume, AskedRun, AskedSafe, AskedTrace, AskedWithin, asm, bounds, certify, debug, debug_program, demo, dis, link, list, play, play_program, resume, safe, save, source, trace, trace_program, within}
+use Rattle.vip_words.specs.declared.request.AsmRequest.{AsmRequest}
 use Rattle.vip_words.specs.declared.request.CertifyRequest.{CertifyRequest}
 use Rattle.vip_words.specs.declared.request.CyclesRequest.{CyclesRequest}
+use Rattle.vip_words.specs.declared.request.DebugProgramRequest.{DebugProgramRequest}
 use Rattle.vip_words.specs.declared.request.DebugRequest.{DebugRequest}
 use Rattle.vip_words.specs.declared.request.DemoRequest.{DemoRequest}
 use Rattle.vip_words.specs.declared.request.DisRequest.{DisRequest}
+use Rattle.vip_words.specs.declared.request.LinkRequest.{LinkRequest}
+use Rattle.vip_words.specs.declared.request.ProgramRequest.{ProgramRequest}
 use Rattle.vip_words.specs.declared.request.Request.{Request}
 use Rattle.vip_words.specs.declared.request.Request.TheVariants as request
+use Rattle.vip_words.specs.declared.request.ResumeRequest.{ResumeRequest}
 use Rattle.vip_words.specs.declared.request.RunRequest.{RunRequest}
 use Rattle.vip_words.specs.declared.request.SafeRequest.{SafeRequest}
 use Rattle.vip_words.specs.declared.request.TraceRequest.{TraceRequest}
@@ -33,6 +38,31 @@ asked_debug request = record { run = asked_run request.run; commands = request.c
 abbrev pub asked_demo : DemoRequest → AskedDemo
 asked_demo request = record { number = request.number; cycles = request.cycles }
 
+abbrev pub asked_resume : ResumeRequest → AskedResume
+asked_resume request = record {
+  state = request.state.now;
+  cycles = request.cycles;
+  keys = option_map (λ word. word.now) request.keys;
+  with_time = request.with_time;
+}
+
+abbrev pub asked_link : LinkRequest → AskedLink
+asked_link request = record { message = request.message.now; moves = request.moves; number = request.number }
+
+abbrev pub asked_program : ProgramRequest → AskedProgram
+asked_program request = record {
+  program = request.program.now;
+  memory = request.memory;
+  cycles = request.cycles;
+  keys = option_map (λ word. word.now) request.keys;
+}
+
+abbrev pub asked_debug_program : DebugProgramRequest → AskedDebugProgram
+asked_debug_program request = record { run = asked_program request.run; commands = request.commands.now }
+
+abbrev pub asked_asm : AsmRequest → AskedAsm
+asked_asm request = record { file = request.file.now; raw = request.raw }
+
 abbrev pub asked_dis : DisRequest → AskedDis
 asked_dis request = record { file = request.file.now; address = request.address }
 
@@ -54,9 +84,16 @@ asked_of (request.Trace wish) = trace (asked_trace wish)
 asked_of (request.Play wish) = play (asked_run wish)
 asked_of (request.Debug wish) = debug (asked_debug wish)
 asked_of (request.Demo wish) = demo (asked_demo wish)
-asked_of (request.Asm wish) = asm wish.file.now
+asked_of (request.Save wish) = save (asked_run wish)
+asked_of (request.Resume wish) = resume (asked_resume wish)
+asked_of (request.Link wish) = link (asked_link wish)
+asked_of (request.TraceProgram wish) = trace_program (asked_program wish)
+asked_of (request.PlayProgram wish) = play_program (asked_program wish)
+asked_of (request.DebugProgram wish) = debug_program (asked_debug_program wish)
+asked_of (request.Asm wish) = asm (asked_asm wish)
 asked_of (request.List wish) = list wish.file.now
 asked_of (request.Dis wish) = dis (asked_dis wish)
+asked_of (request.Source edition) = source edition
 asked_of request.Bounds = bounds
 asked_of (request.Cycles wish) = within (asked_within wish)
 asked_of (request.Safe wish) = safe (asked_safe wish)

@@ -24,9 +24,18 @@ screen_option = codes "--screen"
 abbrev pub tall_option : Word
 tall_option = codes "--tall"
 
+abbrev pub raw_option : Word
+raw_option = codes "--raw"
+
+abbrev pub rom_option : Word
+rom_option = codes "--rom"
+
+abbrev pub ram_option : Word
+ram_option = codes "--ram"
+
 -- every option of the program
 abbrev pub every_option : List Word
-every_option = keys_option ∷ at_option ∷ screen_option ∷ tall_option ∷ []
+every_option = keys_option ∷ at_option ∷ screen_option ∷ tall_option ∷ raw_option ∷ rom_option ∷ ram_option ∷ []
 
 abbrev pub is_option : Word → Bool
 is_option word = list_any (bytes_eq word) every_option
@@ -85,6 +94,9 @@ pub record Given : Type 0 where
   pub at : Bool
   pub screen : Bool
   pub tall : Bool
+  pub raw : Bool
+  pub rom : Bool
+  pub ram : Bool
 
 -- what they give after such a verb, or nothing where they are refused
 abbrev pub given_by : ℕ → List Word → List Word → Option Given
@@ -95,4 +107,7 @@ given_by places options words =
       at = is_given at_option words;
       screen = is_given screen_option words;
       tall = is_given tall_option words;
+      raw = is_given raw_option words;
+      rom = is_given rom_option words;
+      ram = is_given ram_option words;
     }) else None

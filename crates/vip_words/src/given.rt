@@ -46,6 +46,12 @@ pub struct Given<'a> {
     pub screen: bool,
     /// Whether `--tall` is.
     pub tall: bool,
+    /// Whether `--raw` is.
+    pub raw: bool,
+    /// Whether `--rom` is.
+    pub rom: bool,
+    /// Whether `--ram` is.
+    pub ram: bool,
 }
 
 // Neither empty nor begun by `-`.
@@ -146,5 +152,8 @@ pub fn read_given<'a>(
         at: matches.get_flag("at"),
         screen: matches.get_flag("screen"),
         tall: matches.get_flag("tall"),
+        raw: matches.get_flag("raw"),
+        rom: matches.get_flag("rom"),
+        ram: matches.get_flag("ram"),
     })
 }

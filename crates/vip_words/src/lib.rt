@@ -17,8 +17,10 @@
 //! | options stand anywhere after the verb, each at most once | `clap` |
 //! | the other words are the positional ones, in order, and as many as the verb takes | `clap` |
 //! | a number of cycles is decimal and at most 4,000,000,000 | `vip_byte` |
-//! | the number of a demonstration game is decimal and at most 4,294,967,295 | `vip_byte` |
+//! | the number of a demonstration game, or of a schedule of joined boards, is decimal and at most 4,294,967,295 | `vip_byte` |
+//! | a number of moves of joined boards is decimal and at most 10,000,000 | `vip_byte` |
 //! | an address is hexadecimal and at most FFFF | `vip_byte` |
+//! | a program has one of `--rom` and `--ram`, and none of `--tall`, `--screen` and `--at` | `src/request.rt` |
 //!
 //! One `clap` command serves all verbs with as many positional words: it has every option, and a word that is an option of another verb
 //! doesn't come to it. So a verb is added by its line in the two tables (`src/table.rt`, `specs/Table.antt`), its variant and what its
@@ -33,6 +35,7 @@ mod table;
 
 pub use given::WordsFail;
 pub use request::{
-    CertifyRequest, CyclesRequest, DebugRequest, DemoRequest, DisRequest, Request, RunRequest,
+    AsmRequest, CertifyRequest, CyclesRequest, DebugProgramRequest, DebugRequest, DemoRequest,
+    DisRequest, LinkRequest, Memory, ProgramRequest, Request, ResumeRequest, RunRequest,
     SafeRequest, SourceRequest, TraceRequest, read_words,
 };

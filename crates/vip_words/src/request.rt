@@ -1,9 +1,9 @@
 //! What the words of a command line ask for.
 
 ghost use Rattle.std.specs.Prelude.{◌≡◌, IfOk, IsErrOf, None, Some, map, option_map, string_bytes};
-ghost use Rattle.vip_words.specs.Asked.{address_of, asked_by, asked_of_verb, cycles_of, demo_number_of, edition_by, run_by};
+ghost use Rattle.vip_words.specs.Asked.{address_of, asked_by, asked_of_verb, cycles_of, edition_by, is_mixed, is_program, moves_of, program_by, run_by, seed_of};
 ghost use Rattle.vip_words.specs.Given.{seen_given};
-ghost use Rattle.vip_words.specs.Request.{asked_of, asked_run};
+ghost use Rattle.vip_words.specs.Request.{asked_of, asked_program, asked_run};
 ghost use Rattle.vip_words.specs.declared.table.Verb.TheVariants as verb;
 
 use crate::given::{Given, Positional, WordsFail, read_given};
@@ -19,12 +19,22 @@ pub enum Request<'a> {
     /// The pictures of a run.
     Play(RunRequest<'a>),
     Debug(DebugRequest<'a>),
+    /// The last dispatch point of a run, as a state file.
+    Save(RunRequest<'a>),
+    Resume(ResumeRequest<'a>),
     Demo(DemoRequest),
+    Link(LinkRequest<'a>),
+    TraceProgram(ProgramRequest<'a>),
+    /// The pictures of a program's run.
+    PlayProgram(ProgramRequest<'a>),
+    DebugProgram(DebugProgramRequest<'a>),
     /// Assemble a source.
-    Asm(SourceRequest<'a>),
+    Asm(AsmRequest<'a>),
     /// List a source with its bytes.
     List(SourceRequest<'a>),
     Dis(DisRequest<'a>),
+    /// The source of an edition's interpreter.
+    Source(Edition),
     /// The table of the bounds of each step.
     Bounds,
     Cycles(CyclesRequest<'a>),
@@ -63,6 +73,60 @@ pub struct DebugRequest<'a> {
     pub commands: &'a str,
 }
 
+/// A run that goes on from a saved state.
+#[derive(Clone, Copy)]
+pub struct ResumeRequest<'a> {
+    /// The name of the state's file.
+    pub state: &'a str,
+    /// How many machine cycles at most, counted from reset, from 0 to 4,000,000,000.
+    pub cycles: u64,
+    /// The name of the key script's file, where there is one.
+    pub keys: Option<&'a str>,
+    /// Whether each record says its cycle.
+    pub with_time: bool,
+}
+
+/// A memory of the board in which a program stands.
+#[derive(Clone, Copy, Debug, PartialEq, Eq)]
+pub enum Memory {
+    /// The ROM, from 8000 on, in place of the interpreter.
+    Rom,
+    /// The RAM, from 0000 on.
+    Ram,
+}
+
+/// A run of a program for the processor from a file.
+#[derive(Clone, Copy)]
+pub struct ProgramRequest<'a> {
+    /// The name of the program's file.
+    pub program: &'a str,
+    /// Where it stands.
+    pub memory: Memory,
+    /// How many machine cycles at most, from 0 to 4,000,000,000.
+    pub cycles: u64,
+    /// The name of the key script's file, where there is one.
+    pub keys: Option<&'a str>,
+}
+
+/// A run of a program for the processor under the debugger.
+#[derive(Clone, Copy)]
+pub struct DebugProgramRequest<'a> {
+    pub run: ProgramRequest<'a>,
+    /// The name of the file of the debugger's commands.
+    pub commands: &'a str,
+}
+
+/// A message that one board sends to another.
+#[derive(Clone, Copy)]
+pub struct LinkRequest<'a> {
+    /// The name of the message's file.
+    pub message: &'a str,
+    /// How many moves the two boards make, from 0 to 10,000,000.
+    pub moves: u32,
+    /// The number of the schedule, which says whose move each is.
+    pub number: u32,
+}
+
 /// The summary of a run of a demonstration game.
 #[derive(Clone, Copy)]
 pub struct DemoRequest {
@@ -72,7 +136,16 @@ pub struct DemoRequest {
     pub cycles: u64,
 }
 
-/// The source of an assembly.
+/// The assembly of a source.
+#[derive(Clone, Copy)]
+pub struct AsmRequest<'a> {
+    /// The name of the source's file.
+    pub file: &'a str,
+    /// Whether the bytes themselves are written, and not their dump.
+    pub raw: bool,
+}
+
+/// The source of a listing.
 #[derive(Clone, Copy)]
 pub struct SourceRequest<'a> {
     /// The name of its file.
@@ -123,8 +196,19 @@ fn read_cycles(word: &str) -> Option<u64>
     read_decimal(word.as_bytes(), MOST_CYCLE).ok()
 }
 
-fn read_demo_number(word: &str) -> Option<u32>
-    ensures { result ≡ demo_number_of word.now }
+/// The most moves of joined boards.
+const MOST_MOVES: u64 = 10_000_000;
+
+fn read_moves(word: &str) -> Option<u32>
+    ensures { result ≡ moves_of word.now }
+{
+    let moves = read_decimal(word.as_bytes(), MOST_MOVES).ok()?;
+    Some(moves as u32)
+}
+
+/// The number of a demonstration game or of a schedule.
+fn read_seed(word: &str) -> Option<u32>
+    ensures { result ≡ seed_of word.now }
 {
     let number = read_decimal(word.as_bytes(), u32::MAX as u64).ok()?;
     Some(number as u32)
@@ -156,14 +240,51 @@ fn run_request<'a>(game: &'a str, cycles: &str, given: &Given<'a>) -> Option<Run
     })
 }
 
+/// Whether a program for the processor is asked for, in place of a game.
+fn is_program(given: &Given) -> bool
+    ensures { result ≡ is_program (seen_given given.now) }
+{
+    given.rom || given.ram
+}
+
+/// Whether the options are such as a program can't have: both memories, or an option of a game.
+fn is_mixed(given: &Given) -> bool
+    ensures { result ≡ is_mixed (seen_given given.now) }
+{
+    given.rom && given.ram || given.tall || given.screen || given.at
+}
+
+/// A run of the program of this name, for as many cycles as a word says.
+fn program_request<'a>(
+    program: &'a str,
+    cycles: &str,
+    given: &Given<'a>,
+) -> Option<ProgramRequest<'a>>
+    ensures { option_map asked_program result ≡ program_by program.entry.now cycles.now (seen_given given.now) }
+{
+    if is_mixed(given) {
+        return None;
+    }
+    let memory = if given.rom { Memory::Rom } else { Memory::Ram };
+    Some(ProgramRequest {
+        program,
+        memory,
+        cycles: read_cycles(cycles)?,
+        keys: given.keys,
+    })
+}
+
 fn trace_request<'a>(given: &Given<'a>) -> Option<Request<'a>>
     ensures { option_map asked_of result ≡ asked_of_verb verb.Trace (seen_given given.now) }
 {
-    let Positional::Two(game, cycles) = given.positional else {
+    let Positional::Two(file, cycles) = given.positional else {
         return None;
     };
+    if is_program(given) {
+        return Some(Request::TraceProgram(program_request(file, cycles, given)?));
+    }
     Some(Request::Trace(TraceRequest {
-        run: run_request(game, cycles, given)?,
+        run: run_request(file, cycles, given)?,
         with_time: given.at,
         with_screen: given.screen,
     }))
@@ -172,21 +293,66 @@ fn trace_request<'a>(given: &Given<'a>) -> Option<Request<'a>>
 fn play_request<'a>(given: &Given<'a>) -> Option<Request<'a>>
     ensures { option_map asked_of result ≡ asked_of_verb verb.Play (seen_given given.now) }
 {
-    let Positional::Two(game, cycles) = given.positional else {
+    let Positional::Two(file, cycles) = given.positional else {
         return None;
     };
-    Some(Request::Play(run_request(game, cycles, given)?))
+    if is_program(given) {
+        return Some(Request::PlayProgram(program_request(file, cycles, given)?));
+    }
+    Some(Request::Play(run_request(file, cycles, given)?))
 }
 
 fn debug_request<'a>(given: &Given<'a>) -> Option<Request<'a>>
     ensures { option_map asked_of result ≡ asked_of_verb verb.Debug (seen_given given.now) }
 {
-    let Positional::Three(game, cycles, commands) = given.positional else {
+    let Positional::Three(file, cycles, commands) = given.positional else {
         return None;
     };
+    if is_program(given) {
+        return Some(Request::DebugProgram(DebugProgramRequest {
+            run: program_request(file, cycles, given)?,
+            commands,
+        }));
+    }
     Some(Request::Debug(DebugRequest {
-        run: run_request(game, cycles, given)?,
+        run: run_request(file, cycles, given)?,
         commands,
+    }))
+}
+
+fn save_request<'a>(given: &Given<'a>) -> Option<Request<'a>>
+    ensures { option_map asked_of result ≡ asked_of_verb verb.Save (seen_given given.now) }
+{
+    let Positional::Two(game, cycles) = given.positional else {
+        return None;
+    };
+    Some(Request::Save(run_request(game, cycles, given)?))
+}
+
+fn resume_request<'a>(given: &Given<'a>) -> Option<Request<'a>>
+    ensures { option_map asked_of result ≡ asked_of_verb verb.Resume (seen_given given.now) }
+{
+    let Positional::Two(state, cycles) = given.positional else {
+        return None;
+    };
+    Some(Request::Resume(ResumeRequest {
+        state,
+        cycles: read_cycles(cycles)?,
+        keys: given.keys,
+        with_time: given.at,
+    }))
+}
+
+fn link_request<'a>(given: &Given<'a>) -> Option<Request<'a>>
+    ensures { option_map asked_of result ≡ asked_of_verb verb.Link (seen_given given.now) }
+{
+    let Positional::Three(message, moves, number) = given.positional else {
+        return None;
+    };
+    Some(Request::Link(LinkRequest {
+        message,
+        moves: read_moves(moves)?,
+        number: read_seed(number)?,
     }))
 }
 
@@ -197,7 +363,7 @@ fn demo_request<'a>(given: &Given<'a>) -> Option<Request<'a>>
         return None;
     };
     Some(Request::Demo(DemoRequest {
-        number: read_demo_number(number)?,
+        number: read_seed(number)?,
         cycles: read_cycles(cycles)?,
     }))
 }
@@ -206,7 +372,10 @@ fn asm_request<'a>(given: &Given<'a>) -> Option<Request<'a>>
     ensures { option_map asked_of result ≡ asked_of_verb verb.Asm (seen_given given.now) }
 {
     match given.positional {
-        Positional::One(file) => Some(Request::Asm(SourceRequest { file })),
+        Positional::One(file) => Some(Request::Asm(AsmRequest {
+            file,
+            raw: given.raw,
+        })),
         _ => None,
     }
 }
@@ -230,6 +399,15 @@ fn dis_request<'a>(given: &Given<'a>) -> Option<Request<'a>>
         file,
         address: read_address(address)?,
     }))
+}
+
+fn source_request<'a>(given: &Given<'a>) -> Option<Request<'a>>
+    ensures { option_map asked_of result ≡ asked_of_verb verb.Source (seen_given given.now) }
+{
+    match given.positional {
+        Positional::Empty => Some(Request::Source(edition_by(given.tall))),
+        _ => None,
+    }
 }
 
 fn bounds_request<'a>(given: &Given<'a>) -> Option<Request<'a>>
@@ -285,9 +463,13 @@ fn request_of<'a>(verb: Verb, given: &Given<'a>) -> Option<Request<'a>>
         Verb::Play => play_request(given),
         Verb::Debug => debug_request(given),
         Verb::Demo => demo_request(given),
+        Verb::Save => save_request(given),
+        Verb::Resume => resume_request(given),
+        Verb::Link => link_request(given),
         Verb::Asm => asm_request(given),
         Verb::List => list_request(given),
         Verb::Dis => dis_request(given),
+        Verb::Source => source_request(given),
         Verb::Bounds => bounds_request(given),
         Verb::Cycles => cycles_request(given),
         Verb::Safe => safe_request(given),

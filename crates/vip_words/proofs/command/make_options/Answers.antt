@@ -7,4 +7,4 @@ pub loop-flag-preserved : goal.loop-flag-preserved
 loop-flag-preserved c =
     c.in_ok-command-2.ensures.shape c.make_flag.ensures.own
     ∙ (ap₂ with_rule c.loop-flag.invariant c.make_flag.ensures.rule
-    ∙ next_flag c.args.verb.now c.loop-flag.flag-index _ _ _ _ refl refl refl c.loop-flag-test.true)
+    ∙ next_flag c.args.verb.now c.loop-flag.flag-index _ _ _ _ _ _ _ refl refl refl refl refl refl c.loop-flag-test.true)
