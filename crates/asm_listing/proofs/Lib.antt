@@ -8,3 +8,4 @@ pub mod Written
 pub mod Assembled
 pub mod WayBack
 pub mod Listings
+pub mod Raws

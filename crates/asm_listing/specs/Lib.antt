@@ -5,3 +5,4 @@ pub mod Operands
 pub mod WayBack
 pub mod Listing
 pub mod Shown
+pub mod Raw

@@ -1,0 +1,38 @@
+-- The bytes of an assembly, one behind another: from the lowest address that has a byte to the highest, with 00 at those between that have
+-- none (this project's profile).
+use Rattle.std.specs.Prelude.{◌≡◌, ◌+◌, ◌-◌, ◌<◌, ◌≤◌, ℕ, List, [], true, Option, None, Some, is_some, map, option_map, unwrap_or}
+use Rattle.std.specs.List.{range_with_len}
+use Rattle.asm_core.specs.Made.{Made, cell_at}
+
+-- the byte at an address, where some line gives it one
+abbrev pub byte_at : Made → ℕ → Option ℕ
+byte_at made address = option_map (λ cell. cell.byte) (cell_at made address)
+
+-- the lowest and the highest of the addresses before an end that have a byte
+pub record Spans (made : Made) (end low high : ℕ) : Type 0 where
+  pub order : low ≤ high
+  pub within : high < end
+  pub first : is_some (byte_at made low) ≡ true
+  pub last : is_some (byte_at made high) ≡ true
+  pub before : (address : ℕ) → address < low → byte_at made address ≡ None
+  pub behind : (address : ℕ) → high < address → address < end → byte_at made address ≡ None
+
+-- these two, or none where no address has a byte
+abbrev pub IsSpan : Made → ℕ → Option (ℕ × ℕ) → Type 0
+IsSpan made end None = (address : ℕ) → address < end → byte_at made address ≡ None
+IsSpan made end (Some span) = Spans made end span.0 span.1
+
+-- so many bytes from an address on
+abbrev pub bytes_from : Made → ℕ → ℕ → List ℕ
+bytes_from made low count = map (λ address. unwrap_or (byte_at made address) 0x00) (range_with_len low count)
+
+-- the bytes of the span, or none
+abbrev pub span_bytes : Made → Option (ℕ × ℕ) → List ℕ
+span_bytes made None = []
+span_bytes made (Some span) = bytes_from made span.0 (span.1 + 1 - span.0)
+
+-- these are the bytes of the assembly
+pub record IsRaw (made : Made) (bytes : List ℕ) : Type 0 where
+  pub span : Option (ℕ × ℕ)
+  pub is_span : IsSpan made 65536 span
+  pub are : bytes ≡ span_bytes made span
