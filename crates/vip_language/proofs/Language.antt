@@ -6,8 +6,8 @@ use Rattle.std.specs.Option.{option_map}
 use Rattle.machine.specs.Board.{Machine, start}
 use Rattle.machine.specs.Keys.{held_at}
 use Rattle.machine.specs.Keys.{Event as KeyEvent}
-use Rattle.machine.specs.Pictures.{picture_of}
-use Rattle.machine.specs.Run.{after_moves}
+use Rattle.machine.specs.Pictures.{picture_of, windows_ended}
+use Rattle.machine.specs.Run.{after_moves, run_to}
 use Rattle.chip8_lang.specs.declared.view.Edition.{Edition}
 use Rattle.chip8_lang.specs.declared.view.Edition.TheVariants.{Usual, Tall}
 use Rattle.chip8_lang.specs.declared.view.Stop.{Stop}
@@ -18,11 +18,11 @@ use Rattle.chip8_lang.specs.Events.Event.{Picture, Dispatch, Stopped}
 use Rattle.chip8_lang.specs.Places.{state_of}
 use Rattle.chip8_lang.specs.Step.{stop_number}
 use Rattle.chip8_lang.specs.View.{opcode_at, view_at}
-use Rattle.rom_law.specs.Language.{Begins, GoesOn, IsStop, frames_of, nothing_else}
-use Rattle.rom_law.specs.Program.{Program}
-use Rattle.rom_law.specs.Runs.{record_after, state_after}
+use Rattle.rom_law.specs.Language.{Begins, GoesOn, IsStop, events_behind, frames_of, nothing_else}
+use Rattle.rom_law.specs.Program.{Program, Dispatches}
+use Rattle.rom_law.specs.Runs.{record_after, state_after, state_at}
 use Rattle.rom_rows.specs.Rom.{image, vip}
-use Rattle.rom_run.specs.Laws.{EveryRun as EveryRunOfRom, EveryState}
+use Rattle.rom_run.specs.Laws.{EveryRun as EveryRunOfRom, EveryState, FromAnyStart}
 use Rattle.rom_run.specs.Running.{Running, Booting}
 use Rattle.rom_run.specs.States.{Known, Unstopped}
 use Rattle.rom_run.specs.States.Beginning.{AtReset}
@@ -38,7 +38,7 @@ use Rattle.vip_relation.proofs.Waits.{last-at-stop}
 use Rattle.vip_language.specs.Answers.{BeginsAt, GoesOnFrom, Speaks, StepsTo, StopsAt, last_met, pictures_met}
 use Rattle.vip_language.specs.Boards.{HasHalted, IsKnown}
 use Rattle.vip_language.specs.Boards.IsKnown.{Boots, Halts, Runs}
-use Rattle.vip_language.specs.Laws.{EveryAnswer, EveryBoard, EveryEvent, EveryRun}
+use Rattle.vip_language.specs.Laws.{EveryAnswer, EveryBoard, EveryEvent, EveryRun, EveryStart}
 use Rattle.vip_language.specs.Program.{numbered, program}
 use Rattle.vip_language.proofs.Passed.{NoStop, here, last_after, last_after_stop, last_of_events, met_before, no_stop_met, none_before, stop_point, to_here}
 
@@ -77,6 +77,25 @@ every_run law e game fits bytes script limit =
     subst (λ (x : Program). Begins x script limit (game_run x.interpreter game script limit) numbered game (events_of x.interpreter game script limit))
     (is_program e)
     (begins_numbered (vip e) script limit (game_run (vip e).interpreter game script limit) game (events_of (vip e).interpreter game script limit) (law e game fits bytes script limit))
+
+-- the run from a machine state on, of any such interpreter
+record RunsBehind (x : Program) (b : Machine) (script : List KeyEvent) (limit : ℕ) : Type 0 where
+  stands : Dispatches x b (state_at x b)
+  events :
+      GoesOn x script limit (run_to x.interpreter.rom (held_at script) b limit) numbered (windows_ended b.cycle) b
+      (events_behind x.interpreter script b limit)
+
+pub every_start : FromAnyStart → EveryStart
+every_start law e b may script limit =
+    let r : RunsBehind (program e) b script limit =
+    subst (λ (x : Program). RunsBehind x b script limit) (is_program e)
+    (record {
+      stands = may.stands;
+      events =
+          goes_on_numbered (vip e) script limit (run_to (vip e).interpreter.rom (held_at script) b limit) (windows_ended b.cycle) b
+          (events_behind (vip e).interpreter script b limit) (law e b may script limit);
+    }) in
+    record { stands = r.stands; events = r.events }
 
 -- ---- the events left
 

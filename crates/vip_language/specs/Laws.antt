@@ -1,15 +1,17 @@
 -- What holds of every machine that runs a game.
 use Rattle.std.specs.Prelude.{ℕ, ◌<◌, ◌≤◌, List, length, slice_index}
+use Rattle.machine.specs.Board.{Machine}
 use Rattle.machine.specs.Keys.{Event as KeyEvent}
 use Rattle.chip8_lang.specs.declared.view.Edition.{Edition}
 use Rattle.chip8_lang.specs.State.{memory_size}
+use Rattle.rom_run.specs.States.{MayStart}
 use Rattle.vip_relation.specs.Follows.{Follows}
 use Rattle.vip_relation.specs.Meets.{HasStopped, MeetsNext}
 use Rattle.vip_relation.specs.State.{VipState, events_left}
 use Rattle.vip_relation.specs.declared.vip.Met.{Met}
 use Rattle.vip_language.specs.Answers.{GoesOnFrom, Speaks, last_met}
 use Rattle.vip_language.specs.Boards.{IsKnown}
-use Rattle.vip_language.specs.Program.{IsRun, numbered}
+use Rattle.vip_language.specs.Program.{IsRun, IsRunBehind, numbered}
 
 -- the run of each game that fits is one of CHIP-8, under every script and up to every limit
 abbrev pub EveryRun : Type 0
@@ -19,6 +21,14 @@ EveryRun =
     → ((i : ℕ) → slice_index game i < 256)
     → (script : List KeyEvent) (limit : ℕ)
     → IsRun e game script limit numbered
+
+-- and so is the run from each machine that may start, behind the language state that lies in it
+abbrev pub EveryStart : Type 0
+EveryStart =
+    (e : Edition) (b : Machine)
+    → MayStart e b
+    → (script : List KeyEvent) (limit : ℕ)
+    → IsRunBehind e b script limit numbered
 
 -- after every call the board is known
 abbrev pub EveryBoard : Type 0

@@ -1,10 +1,14 @@
 -- The interpreter of an edition as the ROM's proof speaks of it, and the run of a game as a run of the language.
 use Rattle.std.specs.Prelude.{◌≡◌, ℕ, List}
-use Rattle.machine.specs.Keys.{Event as KeyEvent}
+use Rattle.machine.specs.Board.{Machine}
+use Rattle.machine.specs.Keys.{Event as KeyEvent, held_at}
+use Rattle.machine.specs.Pictures.{windows_ended}
+use Rattle.machine.specs.Run.{run_to}
 use Rattle.chip8_lang.specs.declared.view.Edition.{Edition}
 use Rattle.chip8_lang.specs.Events.{events_of, game_run}
-use Rattle.rom_law.specs.Language.{Also, Begins}
-use Rattle.rom_law.specs.Program.{Program, whole}
+use Rattle.chip8_lang.specs.Places.{state_of}
+use Rattle.rom_law.specs.Language.{Also, Begins, GoesOn, events_behind}
+use Rattle.rom_law.specs.Program.{Program, Dispatches, whole}
 use Rattle.vip_relation.specs.Interpreters.{interpreter_of}
 use Rattle.vip_relation.specs.Stops.{stop_at}
 
@@ -22,3 +26,11 @@ numbered = record { at_limit = Unit {0}; at_stop = λ b c stop. stop_at c ≡ st
 abbrev pub IsRun : Edition → List ℕ → List KeyEvent → ℕ → Also → Type 0
 IsRun e game script limit also =
     Begins (program e) script limit (game_run (interpreter_of e) game script limit) also game (events_of (interpreter_of e) game script limit)
+
+-- The run from a machine state on is a run of CHIP-8: the board stands for the language state that lies in it; each dispatch point behind it comes by
+-- one step, as in the run of a game; and so do its pictures, from the next frame on, and its stop.
+pub record IsRunBehind (e : Edition) (b : Machine) (script : List KeyEvent) (limit : ℕ) (also : Also) : Type 0 where
+  pub stands : Dispatches (program e) b (state_of e b)
+  pub events :
+      GoesOn (program e) script limit (run_to (interpreter_of e).rom (held_at script) b limit) also (windows_ended b.cycle) b
+      (events_behind (interpreter_of e) script b limit)

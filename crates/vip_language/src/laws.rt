@@ -1,6 +1,6 @@
 //! What a machine that runs a game is to the language, each law the contract of a function without parameters.
 
-ghost use Rattle.vip_language.specs.Laws.{EveryAnswer, EveryBoard, EveryEvent, EveryRun};
+ghost use Rattle.vip_language.specs.Laws.{EveryAnswer, EveryBoard, EveryEvent, EveryRun, EveryStart};
 
 /// The run of every game that fits into game memory, under every key script and up to every limit, is a run of CHIP-8: its first event is a dispatch
 /// point of the game's first state; each next one comes by one step of the language, with the timer ticks and the keys of the cycles between, within
@@ -10,6 +10,14 @@ pub fn every_run()
     ensures { EveryRun }
 {
     rom_run::laws::every_run();
+}
+
+/// The run from every machine state that may start, under every key script and up to every limit, is a run of CHIP-8 from the language state that lies in
+/// it on.
+pub fn every_start()
+    ensures { EveryStart }
+{
+    rom_run::laws::from_any_start();
 }
 
 /// After every call the board of a machine that runs a game is in boot; or what is known of a running interpreter holds of it, with the record of its
