@@ -1,23 +1,15 @@
 -- Several puts in turn are as one put of their bytes, as far as the first fault.
-use Rattle.std.proofs.Common.{◌≡◌, ℕ, ◌+◌, ◌≤◌, min, List, [], ◌++◌, length, take, Option, Some, None, Result, Ok, Err, IsErr, option_map, refl, ◌∙◌, arith, append_assoc, append-nil}
+use Rattle.std.proofs.Common.{◌≡◌, ℕ, ◌+◌, ◌≤◌, min, List, [], ◌++◌, length, take, Result, Ok, Err, IsErr, refl, ◌∙◌, arith}
 use Rattle.std.proofs.Math.Seq.{take-append-add}
 use Rattle.std.proofs.lemmas.List.{take-append-le, take_min}
 use Rattle.vip_outside.specs.Count.{Rose}
 use Rattle.vip_outside.specs.Sink.{SinkMeaning, GrewBy, Gains, GainsPart, GainAnswers, PutAnswers}
 use Rattle.vip_outside.specs.declared.sink.Failed.{Failed}
-
-held-append : (a b : List ℕ) (old middle new : Option (List ℕ)) → middle ≡ option_map (λ held. held ++ a) old
-    → new ≡ option_map (λ held. held ++ b) middle → new ≡ option_map (λ held. held ++ (a ++ b)) old
-held-append a b None middle new first second = rw (second, first)
-held-append a b (Some held) middle new first second = rw (second, first, append_assoc)
-
-held-nil : (held : Option (List ℕ)) → held ≡ option_map (λ bytes. bytes ++ []) held
-held-nil None = refl
-held-nil (Some bytes) = rw append-nil
+use Rattle.vip_outside.proofs.StreamLemmas.{Appends-append, Appends-nil}
 
 -- what is held grew by one list and then by another
 pub GrewBy-append : (a b : List ℕ) (old middle new : SinkMeaning) → GrewBy a old middle → GrewBy b middle new → GrewBy (a ++ b) old new
-GrewBy-append a b old middle new first second = held-append a b old.held middle.held new.held first second
+GrewBy-append a b old middle new first second = Appends-append a b old.held middle.held new.held first second
 
 -- a count that did not move, and then rose
 pub Rose-after_same : (old middle new : ℕ) → middle ≡ old → Rose middle new → Rose old new
@@ -25,7 +17,7 @@ Rose-after_same old middle new same rose = rw (← same) rose
 
 -- nothing was put
 pub Gains-nil : (s : SinkMeaning) → Gains [] s s
-Gains-nil s = record { held = held-nil s.held; faults = refl }
+Gains-nil s = record { held = Appends-nil s.held; faults = refl }
 
 -- bytes, and then bytes for which the answer says so
 pub GainAnswers-append : (a b : List ℕ) (old middle new : SinkMeaning) (r : Result (Unit {0}) Failed) → Gains a old middle

@@ -1,17 +1,17 @@
 -- What the files of the system mean.
-use Rattle.std.specs.Prelude.{ℕ, List, Option, None}
+use Rattle.std.specs.Prelude.{ℕ, List, None}
 use Rattle.vip_outside.specs.Files.{FilesMeaning}
 use Rattle.vip_outside.specs.declared.files.ReadFail.{ReadFail}
 use Rattle.vip_outside.specs.declared.files.ReadFail.TheVariants.{Absent, Failed, NoMemory}
 
--- faults: how many there were; failed: the name of the last read that failed
+-- faults: how many there were; names: those of the files that were read so far
 pub record SystemFiles : Type 0 where
   pub faults : ℕ
-  pub failed : Option (List ℕ)
+  pub names : List (List ℕ)
 
 -- of the files of the system no map is told
 abbrev pub meaning_of : SystemFiles → FilesMeaning
-meaning_of s = record { told = None; faults = s.faults; failed = s.failed }
+meaning_of s = record { told = None; faults = s.faults; names = s.names }
 
 -- a fault, or want of memory: where no map is told, no name is known to be absent
 abbrev pub IsNotAbsent : ReadFail → Type 0

@@ -1,5 +1,6 @@
 -- What a sink means, what it gained, and what a put answers.
-use Rattle.std.specs.Prelude.{◌≡◌, ℕ, ◌+◌, ◌-◌, ◌^◌, min, List, [], ◌++◌, Option, Some, Result, Ok, Err, option_map, take}
+use Rattle.std.specs.Prelude.{◌≡◌, ℕ, ◌+◌, ◌-◌, ◌^◌, min, List, [], Option, Some, Result, Ok, Err, option_map, take}
+use Rattle.std.specs.Io.KnownBytes.{Appends}
 use Rattle.vip_outside.specs.Count.{Rose}
 use Rattle.vip_outside.specs.declared.sink.Failed.{Failed}
 
@@ -9,9 +10,9 @@ pub record SinkMeaning : Type 0 where
   pub faults : ℕ
   pub calls : Option ℕ
 
--- what is held grew by these bytes at its end, where it is told
+-- what is held grew by these bytes at its end, where it is told before
 abbrev pub GrewBy : List ℕ → SinkMeaning → SinkMeaning → Type 0
-GrewBy bytes old new = new.held ≡ option_map (λ held. held ++ bytes) old.held
+GrewBy bytes old new = Appends old.held new.held bytes
 
 -- these bytes went to the end with no fault, by any number of puts
 pub record Gains (bytes : List ℕ) (old new : SinkMeaning) : Type 0 where

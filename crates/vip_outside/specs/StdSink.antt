@@ -1,5 +1,5 @@
 -- What reached the stream below a sink of the system.
-use Rattle.std.specs.Prelude.{ℕ, List, Option, Result, Ok, Err, None, take}
+use Rattle.std.specs.Prelude.{ℕ, List, Option, None, Result, Ok, Err, take}
 use Rattle.std.specs.Io.KnownBytes.{Appends}
 use Rattle.vip_outside.specs.Sink.{SinkMeaning}
 use Rattle.vip_outside.specs.declared.sink.Failed.{Failed}
@@ -9,9 +9,9 @@ pub record StreamSink : Type 0 where
   pub written : Option (List ℕ)
   pub faults : ℕ
 
--- of a stream of the system nothing is told
+-- It tells of its bytes what the stream below tells, at a stream of the system nothing, and never how often it was called.
 abbrev pub meaning_of : StreamSink → SinkMeaning
-meaning_of s = record { held = None; faults = s.faults; calls = None }
+meaning_of s = record { held = s.written; faults = s.faults; calls = None }
 
 -- a prefix of a piece reached the stream
 pub record AppendsPart (piece : List ℕ) (old new : Option (List ℕ)) : Type 0 where

@@ -2,15 +2,16 @@
 //!
 //! [`Files`] and [`Sink`] are all that the layers above see of files, terminals and memory. Each has
 //! one ghost member, `meaning`, and one clause that says what each answer does to it. A layer above
-//! may rely on this: a read gives the start of the file that the told map has at the name; a put
-//! adds its whole piece, or a prefix of it at a fault; a fault comes only where a count of faults
-//! rose in that call or stood at the greatest `u64`; and a sink that counts its calls counts each
-//! one. `proofs/SinkLemmas.antt` and `proofs/PiecesLemmas.antt` have the laws of several puts in
-//! turn.
+//! may rely on this: a read gives the start of the file that the told map has at the name, and adds
+//! the name to those that were read; a put adds its whole piece, or a prefix of it at a fault; a
+//! fault comes only where a count of faults rose in that call or stood at the greatest `u64`; and a
+//! sink that counts its calls counts each one. `proofs/SinkLemmas.antt` and
+//! `proofs/PiecesLemmas.antt` have the laws of several puts in turn.
 //!
 //! [`MemFiles`] and [`MemSink`] hold everything in memory, tell all of it, and fail where they are
 //! told to, so that a caller can be tried against a failing outside. [`RealFiles`] and [`StdSink`]
-//! are the trusted edge to the system, and tell nothing of what it holds.
+//! are the trusted edge to the system: the first tells no map, only which names were read; the
+//! second tells what the stream below it tells, and a stream of the system tells nothing.
 //!
 //! The crate stands on `std`, on `arrayvec` for the short lists of named calls, and on `thiserror`.
 //! It follows no public standard: the rules are this project's profile.

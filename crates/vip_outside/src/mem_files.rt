@@ -1,10 +1,10 @@
 ghost use Rattle.std.specs.Prelude.{◌≡◌, ◌≤◌, length, IfOk, OnOk, OnErr, option_map};
 ghost use Rattle.std.specs.FinMap as finite;
 ghost use Rattle.vip_outside.specs.Files.{IsStartOf, ReadAnswers};
-ghost use Rattle.vip_outside.specs.MemFiles.{FilesInMemory, meaning_of, no_files, is_named, FailsWhereNamed, after_read};
+ghost use Rattle.vip_outside.specs.MemFiles.{FilesInMemory, meaning_of, no_files, is_named, FailsWhereNamed, AfterRead};
 
 use crate::MOST_NAMED;
-use crate::files::{Files, Loaded, ReadFail};
+use crate::files::{Files, Loaded, ReadFail, keep_name};
 use arrayvec::ArrayVec;
 use std::alloc::{AllocError, Global};
 use std::collections::BTreeMap;
@@ -20,11 +20,11 @@ pub struct MemFiles {
     named: ArrayVec<u32, MOST_NAMED>,
     reads: u64,
     faults: u64,
-    failed: Option<String>,
+    names: Vec<String>,
 }
 
 impl Model for MemFiles {
-    ghost use Rattle.std.specs.Prelude.{option_map, string_bytes};
+    ghost use Rattle.std.specs.Prelude.{map, string_bytes};
     ghost use Rattle.vip_outside.specs.MemFiles.{FilesInMemory, files_code};
 
     ghost Value = { FilesInMemory };
@@ -33,7 +33,7 @@ impl Model for MemFiles {
 
     ghost use Rattle.vip_outside.specs.FileTree.{map_of};
 
-    ghost view = { λ s. record { files = map_of s.files; named = s.named.items; reads = s.reads; faults = s.faults; failed = option_map string_bytes s.failed } };
+    ghost view = { λ s. record { files = map_of s.files; named = s.named.items; reads = s.reads; faults = s.faults; names = map string_bytes s.names.items } };
 }
 
 impl MemFiles {
@@ -47,7 +47,7 @@ impl MemFiles {
             named: ArrayVec::new(),
             reads: 0,
             faults: 0,
-            failed: None,
+            names: Vec::new(alloc),
         })
     }
 
@@ -111,14 +111,13 @@ impl Files for MemFiles {
     fn read(&mut self, alloc: Global, name: &str, most: usize) -> Result<Loaded, ReadFail>
         ensures answer { ReadAnswers name.now most (meaning_of self.old) (meaning_of self.new) result }
         ensures named { FailsWhereNamed (is_named self.old) result }
-        ensures after { self.new ≡ after_read self.old name.now result }
+        ensures after { AfterRead self.old name.now result self.new }
     {
         let named = self.is_named();
         self.reads = self.reads.saturating_add(1);
-        let copy = String::from_str(self.alloc, name)?;
+        keep_name(self.alloc, &mut self.names, name)?;
         if named {
             self.faults = self.faults.saturating_add(1);
-            self.failed = Some(copy);
             return Err(ReadFail::Failed);
         }
         let Some(file) = self.get(name) else {

@@ -1,8 +1,8 @@
-ghost use Rattle.std.specs.Prelude.{◌≡◌, ◌≤◌, length, None, IfOk, IfErr, IfSome};
+ghost use Rattle.std.specs.Prelude.{◌≡◌, ◌≤◌, [], length, IfOk, IfErr, IfSome};
 ghost use Rattle.vip_outside.specs.Files.{IsStartOf};
 ghost use Rattle.vip_outside.specs.RealFiles.{meaning_of, IsNotAbsent};
 
-use crate::files::{Files, Loaded, ReadFail};
+use crate::files::{Files, Loaded, ReadFail, keep_name};
 use std::alloc::Global;
 use std::io::{Error, ErrorKind, Read};
 use std::marker::Model;
@@ -14,35 +14,34 @@ const BLOCK: usize = 4096;
 /// The files of the system, named as the system names them. They tell no map, so an absent file is
 /// a fault.
 ///
-/// Clauses see them as a `SystemFiles`: the count of faults and the failed name.
+/// Clauses see them as a `SystemFiles`: the count of faults, and the names that were read so far.
 #[derive(Drop)]
 pub struct RealFiles<R: rt::Files> {
     runtime: R,
     alloc: Global,
     faults: u64,
-    failed: Option<String>,
+    names: Vec<String>,
 }
 
 impl<R: rt::Files> Model for RealFiles<R> {
-    ghost use Rattle.std.specs.Prelude.{option_map, string_bytes};
+    ghost use Rattle.std.specs.Prelude.{map, string_bytes};
     ghost use Rattle.vip_outside.specs.RealFiles.{SystemFiles};
 
     ghost Value = { SystemFiles };
 
-    ghost view = { λ s. record { faults = s.faults; failed = option_map string_bytes s.failed } };
+    ghost view = { λ s. record { faults = s.faults; names = map string_bytes s.names.items } };
 }
 
 impl<R: rt::Files> RealFiles<R> {
-    /// The files that a runtime opens, with no fault and no failed name. The names that fail are kept
-    /// by `alloc`.
+    /// The files that a runtime opens, none of them read. The names that are read are kept by `alloc`.
     pub fn new(runtime: R, alloc: Global) -> RealFiles<R>
-        ensures unused { result ≡ record { faults = 0; failed = None } }
+        ensures unused { result ≡ record { faults = 0; names = [] } }
     {
         RealFiles {
             runtime,
             alloc,
             faults: 0,
-            failed: None,
+            names: Vec::new(alloc),
         }
     }
 }
@@ -81,16 +80,15 @@ impl<R: rt::Files> Files for RealFiles<R> {
     ghost meaning = { meaning_of };
 
     /// A file that can't be opened and any error while it is read are faults, but for want of memory.
-    /// The name is copied before the file is opened.
+    /// The name is kept before the file is opened.
     fn read(&mut self, alloc: Global, name: &str, most: usize) -> Result<Loaded, ReadFail> {
-        let copy = String::from_str(self.alloc, name)?;
+        keep_name(self.alloc, &mut self.names, name)?;
         let answer = match fs::open(&self.runtime, name) {
             Ok(mut file) => read_start(alloc, &mut file, most),
             Err(error) => Err(read_fail(error)),
         };
         if matches!(&answer, Err(ReadFail::Failed)) {
             self.faults = self.faults.saturating_add(1);
-            self.failed = Some(copy);
         }
         answer
     }

@@ -7,8 +7,8 @@ use crate::sink::{Failed, Sink};
 use std::io::Write;
 use std::marker::Model;
 
-/// A sink over a stream of the system, as standard output. Of the bytes and the calls it tells
-/// nothing.
+/// A sink over a stream, as standard output. Of the bytes it tells what the stream tells, which is
+/// nothing at a stream of the system, and of the calls nothing.
 ///
 /// Clauses see it as a `StreamSink`: the count of faults, and what the stream itself tells of the
 /// bytes that it took, which is nothing at a stream of the system.
