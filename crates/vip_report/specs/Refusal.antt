@@ -4,7 +4,7 @@ use Rattle.vip_report.specs.declared.refusal.Kind.TheVariants.{Game, TallGame, S
 use Rattle.vip_report.specs.declared.refusal.Refusal.{Refusal}
 use Rattle.vip_report.specs.declared.refusal.Refusal.TheVariants as refusal
 use Rattle.vip_report.specs.declared.status.Status.{Status}
-use Rattle.vip_report.specs.declared.status.Status.TheVariants.{Usage, ReadFault, GameTooLarge, ScriptTooLarge, BadScript, BadSource, BadRomSource, RomDiffers, WriteFault, NoMemory, BadCommand, SourceTooLarge, CommandsTooLarge, BadCertificate, BadProof, CertificateTooLarge, NoCertificate}
+use Rattle.vip_report.specs.declared.status.Status.TheVariants.{Usage, ReadFault, GameTooLarge, ScriptTooLarge, BadScript, BadSource, BadRomSource, RomDiffers, NoMemory, BadCommand, SourceTooLarge, CommandsTooLarge, BadCertificate, BadProof, CertificateTooLarge, NoCertificate}
 use Rattle.rom_check.specs.declared.fault.ImageFault.{ImageFault}
 use Rattle.rom_check.specs.declared.fault.ImageFault.TheVariants as image
 
@@ -32,5 +32,4 @@ status_of (refusal.Rom fault) = image_status fault
 status_of (refusal.Certificate line cause) = BadCertificate
 status_of (refusal.Proof line cause) = BadProof
 status_of (refusal.NoCertificate obstacle) = NoCertificate
-status_of refusal.Write = WriteFault
 status_of refusal.NoMemory = NoMemory

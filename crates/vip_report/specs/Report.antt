@@ -1,5 +1,5 @@
 -- The reports on the error output, each a line.
-use Rattle.std.specs.Prelude.{ℕ, List, [], ◌++◌, codes, decimal}
+use Rattle.std.specs.Prelude.{ℕ, List, [], ◌∷◌, ◌++◌, codes, decimal}
 use Rattle.vip_byte.specs.HexText.{hex2, hex4, words_text}
 use Rattle.asm_core.specs.declared.fault.AsmCause.{AsmCause}
 use Rattle.asm_core.specs.declared.fault.AsmCause.TheVariants as asm
@@ -38,6 +38,11 @@ end_report limit (AtStop stop pc opcode) = stop_line stop pc opcode
 abbrev pub ended_report : Ended → List ℕ
 ended_report Worked = []
 ended_report (Ran limit end) = end_report limit (ending_in end)
+
+-- A report is one piece, which goes out by one put; where there is none, nothing is put.
+abbrev pub report_pieces : List ℕ → List (List ℕ)
+report_pieces [] = []
+report_pieces (byte ∷ bytes) = (byte ∷ bytes) ∷ []
 
 -- ---- refusals
 
@@ -136,6 +141,7 @@ image_report (image.BadRomSource line cause) = at_line (codes "vip: rom source l
 image_report (image.RomDiffers address assembled here) = rom_differs address assembled here
 image_report image.NoMemory = no_memory
 
+-- not all of the output could be written
 abbrev pub write_fault : List ℕ
 write_fault = codes "vip: write fault" ++ newline
 
@@ -150,5 +156,4 @@ report_of (refusal.Rom fault) = image_report fault
 report_of (refusal.Certificate line cause) = bad_certificate line cause
 report_of (refusal.Proof line cause) = bad_proof line cause
 report_of (refusal.NoCertificate obstacle) = no_certificate obstacle
-report_of refusal.Write = write_fault
 report_of refusal.NoMemory = no_memory

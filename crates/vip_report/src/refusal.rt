@@ -9,9 +9,8 @@ use cycle_check::CertCause;
 use game_check::{Obstacle, ProofCause};
 use rom_check::ImageFault;
 use std::alloc::AllocError;
-use vip_keypad::ScriptCause;
-use vip_outside::Failed;
 use vip_commands::CommandCause;
+use vip_keypad::ScriptCause;
 
 /// Files that are limited in their size.
 #[derive(Clone, Copy, Debug, Default, PartialEq, Eq)]
@@ -31,7 +30,7 @@ pub enum Kind {
     Certificate,
 }
 
-/// A refusal, or what ended a command early.
+/// A refusal: why a command isn't begun.
 #[derive(Debug, Drop)]
 pub enum Refusal<'a> {
     /// The words of the command line.
@@ -54,8 +53,6 @@ pub enum Refusal<'a> {
     Proof { line: u32, cause: ProofCause },
     /// No certificate was found for a game: the search ended here.
     NoCertificate(Obstacle),
-    /// Not all of the output could be written.
-    Write,
     NoMemory,
 }
 
@@ -80,7 +77,6 @@ impl Refusal<'_> {
             Refusal::Certificate { .. } => Status::BadCertificate,
             Refusal::Proof { .. } => Status::BadProof,
             Refusal::NoCertificate(_) => Status::NoCertificate,
-            Refusal::Write => Status::WriteFault,
             Refusal::NoMemory | Refusal::Rom(ImageFault::NoMemory) => Status::NoMemory,
         }
     }
@@ -94,16 +90,5 @@ impl From<AllocError> for Refusal<'_> {
 
     fn from(_error: AllocError) -> Self {
         Refusal::NoMemory
-    }
-}
-
-impl From<Failed> for Refusal<'_> {
-    ghost use Rattle.std.specs.Prelude.{◌≡◌};
-    ghost use Rattle.vip_report.specs.declared.refusal.Refusal.TheVariants.{Write};
-
-    ghost from_gives = { λ _ refusal. refusal ≡ Write };
-
-    fn from(_error: Failed) -> Self {
-        Refusal::Write
     }
 }

@@ -1,38 +1,38 @@
-//! The reports on the error output, each a line.
+//! The reports on the error output, each a line that goes out by one put.
 
-ghost use Rattle.std.specs.Prelude.{◌≡◌, ◌++◌};
-ghost use Rattle.vip_outside.specs.Sink.{GainAnswers};
-ghost use Rattle.vip_report.specs.Report.{ended_report};
+ghost use Rattle.std.specs.Prelude.{◌≡◌, [], IfOk};
+ghost use Rattle.std.specs.List.{flat_map};
+ghost use Rattle.vip_outside.specs.Pieces.{StreamAnswers};
+ghost use Rattle.vip_outside.specs.Sink.{PutAnswers};
+ghost use Rattle.vip_report.specs.Report.{ended_report, report_pieces, write_fault};
 ghost use Rattle.vip_report.specs.Report.{asm_cause, cert_cause, script_cause, command_cause, at_line, report_of, image_report, no_certificate, rom_differs, too_large_report, done};
+ghost use Rattle.vip_report.specs.Reported.{RefusalAnswers};
 
 use crate::ended::Ended;
 use crate::obstacle::{obstacle_text, proof_cause};
 use crate::refusal::{Kind, Refusal};
+use crate::status::Status;
 use asm_core::AsmCause;
 use cycle_check::CertCause;
 use game_check::Obstacle;
 use itoa::Buffer as Digits;
 use rom_check::ImageFault;
-use vip_byte::{Buffer, hex2, hex4};
+use std::alloc::{AllocError, Global};
+use vip_byte::{Buffer, hex2, hex4, put};
+use vip_commands::CommandCause;
 use vip_keypad::ScriptCause;
 use vip_outside::{Failed, Sink};
 use vip_text::{RunEnd, stop_text};
-use vip_commands::CommandCause;
 
-/// Puts three parts of a line.
-fn put_three<S: Sink>(sink: &mut S, a: &[u8], b: &[u8], c: &[u8]) -> Result<(), Failed>
-    ensures { GainAnswers (a.now ++ (b.now ++ c.now)) (S.meaning sink.old) (S.meaning sink.new) result }
+/// A line of these parts.
+fn line(alloc: Global, parts: &[&[u8]]) -> Result<Vec<u8>, AllocError>
+    ensures { IfOk result (λ line. line.items ≡ flat_map (λ part. part.now) parts.now) }
 {
-    sink.put(a)?;
-    sink.put(b)?;
-    sink.put(c)
-}
-
-/// Puts one line.
-fn put_line<S: Sink>(sink: &mut S, line: &[u8]) -> Result<(), Failed>
-    ensures { GainAnswers line.now (S.meaning sink.old) (S.meaning sink.new) result }
-{
-    sink.put(line)
+    let mut line = Vec::new(alloc);
+    for part in parts {
+        line.extend_from_slice(part)?;
+    }
+    Ok(line)
 }
 
 fn asm_cause(cause: AsmCause) -> &'static str
@@ -87,120 +87,164 @@ fn cert_cause(cause: CertCause) -> &'static str
     }
 }
 
-/// Reports the number of a line and what is wrong with it.
-fn put_at_line<S: Sink>(sink: &mut S, text: &[u8], line: u32, cause: &str) -> Result<(), Failed>
-    ensures { GainAnswers (at_line text.now line cause.now) (S.meaning sink.old) (S.meaning sink.new) result }
+/// The number of a line and what is wrong with it.
+fn at_line(alloc: Global, text: &[u8], number: u32, cause: &str) -> Result<Vec<u8>, AllocError>
+    ensures { IfOk result (λ line. line.items ≡ at_line text.now number cause.now) }
 {
     let mut digits = Digits::new();
-    sink.put(text)?;
-    sink.put(digits.format(line).as_bytes())?;
-    put_three(sink, b": ", cause.as_bytes(), b"\n")
+    let number = digits.format(number).as_bytes();
+    line(alloc, &[text, number, b": ", cause.as_bytes(), b"\n"])
 }
 
-fn put_too_large<S: Sink>(sink: &mut S, kind: Kind) -> Result<(), Failed>
-    ensures { GainAnswers (too_large_report kind) (S.meaning sink.old) (S.meaning sink.new) result }
+fn too_large(kind: Kind) -> &'static [u8]
+    ensures { result.now ≡ too_large_report kind }
 {
     match kind {
-        Kind::Game => put_line(sink, b"vip: game larger than 3232 bytes\n"),
-        Kind::TallGame => put_line(sink, b"vip: game larger than 2976 bytes\n"),
-        Kind::Script => put_line(sink, b"vip: key script larger than 1048576 bytes\n"),
-        Kind::Commands => put_line(sink, b"vip: commands larger than 1048576 bytes\n"),
-        Kind::Source => put_line(sink, b"vip: source too large\n"),
-        Kind::Certificate => put_line(sink, b"vip: certificate larger than 1048576 bytes\n"),
+        Kind::Game => b"vip: game larger than 3232 bytes\n",
+        Kind::TallGame => b"vip: game larger than 2976 bytes\n",
+        Kind::Script => b"vip: key script larger than 1048576 bytes\n",
+        Kind::Commands => b"vip: commands larger than 1048576 bytes\n",
+        Kind::Source => b"vip: source too large\n",
+        Kind::Certificate => b"vip: certificate larger than 1048576 bytes\n",
     }
 }
 
-/// Reports the first byte of the ROM that its source doesn't give.
-fn put_difference<S: Sink>(
-    sink: &mut S,
-    address: u16,
-    assembled: u8,
-    image: u8,
-) -> Result<(), Failed>
-    ensures { GainAnswers (rom_differs address assembled image) (S.meaning sink.old) (S.meaning sink.new) result }
+/// The first byte of the ROM that its source doesn't give.
+fn difference(alloc: Global, address: u16, assembled: u8, image: u8) -> Result<Vec<u8>, AllocError>
+    ensures { IfOk result (λ line. line.items ≡ rom_differs address assembled image) }
 {
-    put_three(sink, b"vip: rom differs at ", &hex4(address), b": source ")?;
-    put_three(sink, &hex2(assembled), b" image ", &hex2(image))?;
-    sink.put(b"\n")
+    let (address, assembled, image) = (hex4(address), hex2(assembled), hex2(image));
+    let source: &[u8] = b": source ";
+    line(
+        alloc,
+        &[
+            b"vip: rom differs at ",
+            &address,
+            source,
+            &assembled,
+            b" image ",
+            &image,
+            b"\n",
+        ],
+    )
 }
 
-/// Reports why the built-in source doesn't give the ROM.
-fn put_image_fault<S: Sink>(sink: &mut S, fault: ImageFault) -> Result<(), Failed>
-    ensures { GainAnswers (image_report fault) (S.meaning sink.old) (S.meaning sink.new) result }
+/// Why the built-in source doesn't give the ROM.
+fn image_fault(alloc: Global, fault: ImageFault) -> Result<Vec<u8>, AllocError>
+    ensures { IfOk result (λ line. line.items ≡ image_report fault) }
 {
     match fault {
         ImageFault::BadRomSource { line, cause } => {
-            put_at_line(sink, b"vip: rom source line ", line, asm_cause(cause))
+            at_line(alloc, b"vip: rom source line ", line, asm_cause(cause))
         }
         ImageFault::RomDiffers {
             address,
             assembled,
             image,
-        } => put_difference(sink, address, assembled, image),
-        ImageFault::NoMemory => put_line(sink, b"vip: no memory\n"),
+        } => difference(alloc, address, assembled, image),
+        ImageFault::NoMemory => line(alloc, &[NO_MEMORY]),
     }
 }
 
-/// Reports where the search for a certificate ended.
-fn put_obstacle<S: Sink>(sink: &mut S, obstacle: &Obstacle) -> Result<(), Failed>
-    ensures { GainAnswers (no_certificate obstacle.now) (S.meaning sink.old) (S.meaning sink.new) result }
+/// Where the search for a certificate ended.
+fn obstacle(alloc: Global, obstacle: &Obstacle) -> Result<Vec<u8>, AllocError>
+    ensures { IfOk result (λ line. line.items ≡ no_certificate obstacle.now) }
 {
     let mut text = Buffer::new();
     obstacle_text(obstacle, &mut text);
-    put_line(sink, text.as_slice())
+    line(alloc, &[text.as_slice()])
 }
 
-/// Reports a refusal.
-pub fn put_refusal<S: Sink>(sink: &mut S, refusal: &Refusal<'_>) -> Result<(), Failed>
-    ensures { GainAnswers (report_of refusal.now) (S.meaning sink.old) (S.meaning sink.new) result }
+/// The report of want of memory.
+const NO_MEMORY: &[u8] = b"vip: no memory\n";
+
+/// The report of a refusal.
+fn refusal_line(alloc: Global, refusal: &Refusal<'_>) -> Result<Vec<u8>, AllocError>
+    ensures { IfOk result (λ line. line.items ≡ report_of refusal.now) }
 {
     match refusal {
-        Refusal::Usage => put_line(
-            sink,
-            b"usage: vip trace, play, debug, demo, asm, list, dis or bounds\n",
+        Refusal::Usage => line(
+            alloc,
+            &[b"usage: vip trace, play, debug, demo, asm, list, dis or bounds\n"],
         ),
-        Refusal::Unread(name) => put_three(sink, b"vip: cannot read ", name.as_bytes(), b"\n"),
-        Refusal::TooLarge(kind) => put_too_large(sink, *kind),
+        Refusal::Unread(name) => line(alloc, &[b"vip: cannot read ", name.as_bytes(), b"\n"]),
+        Refusal::TooLarge(kind) => line(alloc, &[too_large(*kind)]),
         Refusal::Script { line, cause } => {
-            put_at_line(sink, b"vip: key script line ", *line, script_cause(*cause))
+            at_line(alloc, b"vip: key script line ", *line, script_cause(*cause))
         }
         Refusal::Command { line, cause } => {
-            put_at_line(sink, b"vip: commands line ", *line, command_cause(*cause))
+            at_line(alloc, b"vip: commands line ", *line, command_cause(*cause))
         }
         Refusal::Source { line, cause } => {
-            put_at_line(sink, b"vip: source line ", *line, asm_cause(*cause))
+            at_line(alloc, b"vip: source line ", *line, asm_cause(*cause))
         }
-        Refusal::Rom(fault) => put_image_fault(sink, *fault),
+        Refusal::Rom(fault) => image_fault(alloc, *fault),
         Refusal::Certificate { line, cause } => {
-            put_at_line(sink, b"vip: certificate line ", *line, cert_cause(*cause))
+            at_line(alloc, b"vip: certificate line ", *line, cert_cause(*cause))
         }
         Refusal::Proof { line, cause } => {
-            put_at_line(sink, b"vip: proof line ", *line, proof_cause(*cause))
+            at_line(alloc, b"vip: proof line ", *line, proof_cause(*cause))
         }
-        Refusal::NoCertificate(obstacle) => put_obstacle(sink, obstacle),
-        Refusal::Write => put_line(sink, b"vip: write fault\n"),
-        Refusal::NoMemory => put_line(sink, b"vip: no memory\n"),
+        Refusal::NoCertificate(found) => obstacle(alloc, found),
+        Refusal::NoMemory => line(alloc, &[NO_MEMORY]),
     }
 }
 
-fn put_done<S: Sink>(sink: &mut S, limit: u64) -> Result<(), Failed>
-    ensures { GainAnswers (done limit) (S.meaning sink.old) (S.meaning sink.new) result }
+/// Reports a refusal by one put, and answers its status. Where no memory is found for the report, it is want of memory that is reported and answered.
+pub fn put_refusal<S: Sink>(alloc: Global, sink: &mut S, refusal: &Refusal<'_>) -> Status
+    ensures { RefusalAnswers refusal.now (S.meaning sink.old) (S.meaning sink.new) result }
+{
+    match refusal_line(alloc, refusal) {
+        Ok(line) => {
+            let _ = sink.put(line.as_slice());
+            refusal.status()
+        }
+        Err(AllocError) => {
+            let _ = sink.put(NO_MEMORY);
+            Status::NoMemory
+        }
+    }
+}
+
+/// Reports that not all of the output could be written.
+pub fn put_write_fault<S: Sink>(sink: &mut S) -> Result<(), Failed>
+    ensures { PutAnswers write_fault (S.meaning sink.old) (S.meaning sink.new) result }
+{
+    sink.put(b"vip: write fault\n")
+}
+
+/// Writes that a run reached its limit into an empty buffer.
+fn done_text(limit: u64, into: &mut Buffer)
+    requires { into.old.items ≡ [] }
+    ensures { into.new.items ≡ done limit }
 {
     let mut digits = Digits::new();
-    put_three(sink, b"done ", digits.format(limit).as_bytes(), b"\n")
+    put(into, b"done ");
+    put(into, digits.format(limit).as_bytes());
+    put(into, b"\n");
 }
 
-/// Reports how a command ended; one that writes a text alone has no report.
-pub fn put_end<S: Sink>(sink: &mut S, ended: &Ended) -> Result<(), Failed>
-    ensures { GainAnswers (ended_report ended.now) (S.meaning sink.old) (S.meaning sink.new) result }
+/// Writes the report of how a command ended into an empty buffer: nothing where a text alone was written.
+fn end_text(ended: &Ended, into: &mut Buffer)
+    requires { into.old.items ≡ [] }
+    ensures { into.new.items ≡ ended_report ended.now }
 {
     match ended {
-        Ended::Worked => Ok(()),
-        Ended::Ran(limit, RunEnd::AtLimit) => put_done(sink, *limit),
-        Ended::Ran(_, RunEnd::AtStop(stop)) => {
-            let mut text = Buffer::new();
-            stop_text(stop, &mut text);
-            put_line(sink, text.as_slice())
-        }
+        Ended::Worked => {}
+        Ended::Ran(limit, RunEnd::AtLimit) => done_text(*limit, into),
+        Ended::Ran(_, RunEnd::AtStop(stop)) => stop_text(stop, into),
     }
+}
+
+/// Reports how a command ended by one put, or by none where it has no report.
+pub fn put_end<S: Sink>(sink: &mut S, ended: &Ended) -> Result<(), Failed>
+    ensures { StreamAnswers (report_pieces (ended_report ended.now)) (S.meaning sink.old) (S.meaning sink.new) result }
+{
+    let mut text = Buffer::new();
+    end_text(ended, &mut text);
+    let line = text.as_slice();
+    if line.is_empty() {
+        return Ok(());
+    }
+    sink.put(line)
 }
