@@ -14,14 +14,16 @@ use Rattle.vip_keypad.specs.declared.script.ScriptCause.{ScriptCause}
 use Rattle.vip_keypad.specs.declared.script.ScriptCause.TheVariants as script
 use Rattle.vip_commands.specs.declared.commands.CommandCause.{CommandCause}
 use Rattle.vip_commands.specs.declared.commands.CommandCause.TheVariants as command
+use Rattle.vip_text.specs.declared.fault.StateFault.{StateFault}
+use Rattle.vip_text.specs.declared.fault.StateFault.TheVariants as state
 use Rattle.vip_text.specs.Stops.{opcode_part, stop_line}
 use Rattle.vip_byte.specs.Text.{newline}
 use Rattle.vip_text.specs.Endings.{Ending, ending_in}
 use Rattle.vip_text.specs.Endings.Ending.{AtLimit, AtStop}
 use Rattle.vip_report.specs.declared.ended.Ended.{Ended}
-use Rattle.vip_report.specs.declared.ended.Ended.TheVariants.{Worked, Ran}
+use Rattle.vip_report.specs.declared.ended.Ended.TheVariants.{Worked, Ran, NoDispatch, Idle, Linked}
 use Rattle.vip_report.specs.declared.refusal.Kind.{Kind}
-use Rattle.vip_report.specs.declared.refusal.Kind.TheVariants.{Game, TallGame, Script, Commands, Source, Certificate}
+use Rattle.vip_report.specs.declared.refusal.Kind.TheVariants.{Game, TallGame, Script, Commands, Source, Certificate, State, Message, Rom, Ram}
 use Rattle.vip_report.specs.declared.refusal.Refusal.{Refusal}
 use Rattle.vip_report.specs.declared.refusal.Refusal.TheVariants as refusal
 
@@ -34,10 +36,25 @@ abbrev pub end_report : ℕ → Ending → List ℕ
 end_report limit AtLimit = done limit
 end_report limit (AtStop stop pc opcode) = stop_line stop pc opcode
 
+-- no dispatch point could be saved
+abbrev pub no_dispatch : List ℕ
+no_dispatch = codes "vip: no dispatch point" ++ newline
+
+-- the address of the instruction by which a program's processor idles
+abbrev pub idle_report : ℕ → List ℕ
+idle_report address = codes "idle at " ++ (hex4 address ++ newline)
+
+-- the bytes of a message that were sent, and those that were received
+abbrev pub linked_report : ℕ → ℕ → List ℕ
+linked_report sent received = codes "linked sent " ++ (decimal sent ++ (codes " received " ++ (decimal received ++ newline)))
+
 -- a verb whose text alone was written has no report
 abbrev pub ended_report : Ended → List ℕ
 ended_report Worked = []
 ended_report (Ran limit end) = end_report limit (ending_in end)
+ended_report NoDispatch = no_dispatch
+ended_report (Idle address) = idle_report address
+ended_report (Linked sent received) = linked_report sent received
 
 -- A report is one piece, which goes out by one put; where there is none, nothing is put.
 abbrev pub report_pieces : List ℕ → List (List ℕ)
@@ -87,6 +104,17 @@ proof_cause proof.Opcode = codes "Opcode"
 proof_cause proof.Access = codes "Access"
 proof_cause proof.Next = codes "Next"
 
+-- the first fault of a state file
+abbrev pub state_cause : StateFault → List ℕ
+state_cause state.BadLength = codes "BadLength"
+state_cause state.BadHead = codes "BadHead"
+state_cause state.BadEdition = codes "BadEdition"
+state_cause state.BadCycle = codes "BadCycle"
+state_cause state.BadMachine = codes "BadMachine"
+
+abbrev pub bad_state : StateFault → List ℕ
+bad_state fault = codes "vip: state file: " ++ (state_cause fault ++ newline)
+
 -- the number of a line and what is wrong with it
 abbrev pub at_line : List ℕ → ℕ → List ℕ → List ℕ
 at_line text line cause = text ++ (decimal line ++ (codes ": " ++ (cause ++ newline)))
@@ -98,6 +126,10 @@ too_large_report Script = codes "vip: key script larger than 1048576 bytes" ++ n
 too_large_report Commands = codes "vip: commands larger than 1048576 bytes" ++ newline
 too_large_report Source = codes "vip: source too large" ++ newline
 too_large_report Certificate = codes "vip: certificate larger than 1048576 bytes" ++ newline
+too_large_report State = bad_state state.BadLength
+too_large_report Message = codes "vip: message larger than 3000 bytes" ++ newline
+too_large_report Rom = codes "vip: rom larger than 2048 bytes" ++ newline
+too_large_report Ram = codes "vip: program larger than 4096 bytes" ++ newline
 
 -- the words are refused, or a file could not be read
 abbrev pub usage : List ℕ
@@ -152,6 +184,7 @@ report_of (refusal.TooLarge kind) = too_large_report kind
 report_of (refusal.Script line cause) = bad_script line cause
 report_of (refusal.Command line cause) = bad_command line cause
 report_of (refusal.Source line cause) = bad_source line cause
+report_of (refusal.State fault) = bad_state fault
 report_of (refusal.Rom fault) = image_report fault
 report_of (refusal.Certificate line cause) = bad_certificate line cause
 report_of (refusal.Proof line cause) = bad_proof line cause

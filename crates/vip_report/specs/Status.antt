@@ -3,9 +3,9 @@ use Rattle.std.specs.Prelude.{ℕ}
 use Rattle.vip_text.specs.Endings.{Ending, ending_in}
 use Rattle.vip_text.specs.Endings.Ending.{AtLimit, AtStop}
 use Rattle.vip_report.specs.declared.ended.Ended.{Ended}
-use Rattle.vip_report.specs.declared.ended.Ended.TheVariants.{Worked, Ran}
+use Rattle.vip_report.specs.declared.ended.Ended.TheVariants.{Worked, Ran, NoDispatch as Undispatched, Idle, Linked}
 use Rattle.vip_report.specs.declared.status.Status.{Status}
-use Rattle.vip_report.specs.declared.status.Status.TheVariants.{Done, Stopped, Usage, ReadFault, GameTooLarge, ScriptTooLarge, BadScript, BadSource, BadRomSource, RomDiffers, WriteFault, NoMemory, BadCommand, SourceTooLarge, CommandsTooLarge, BadCertificate, BadProof, CertificateTooLarge, NoCertificate}
+use Rattle.vip_report.specs.declared.status.Status.TheVariants.{Done, Stopped, Usage, ReadFault, GameTooLarge, ScriptTooLarge, BadScript, BadSource, BadRomSource, RomDiffers, WriteFault, NoMemory, BadCommand, SourceTooLarge, CommandsTooLarge, BadState, NoDispatch, BadCertificate, MessageTooLarge, BadProof, CertificateTooLarge, NoCertificate, RomTooLarge, RamTooLarge}
 
 abbrev pub status_number : Status → ℕ
 status_number Done = 0
@@ -23,10 +23,15 @@ status_number NoMemory = 11
 status_number BadCommand = 12
 status_number SourceTooLarge = 13
 status_number CommandsTooLarge = 14
+status_number BadState = 15
+status_number NoDispatch = 16
 status_number BadCertificate = 17
+status_number MessageTooLarge = 18
 status_number BadProof = 19
 status_number CertificateTooLarge = 20
 status_number NoCertificate = 21
+status_number RomTooLarge = 22
+status_number RamTooLarge = 23
 
 -- at the end of a run, and of a verb's work
 abbrev pub end_status : Ending → Status
@@ -36,3 +41,6 @@ end_status (AtStop stop pc opcode) = Stopped
 abbrev pub ended_status : Ended → Status
 ended_status Worked = Done
 ended_status (Ran limit end) = end_status (ending_in end)
+ended_status Undispatched = NoDispatch
+ended_status (Idle address) = Done
+ended_status (Linked sent received) = Done

@@ -11,6 +11,7 @@ use rom_check::ImageFault;
 use std::alloc::AllocError;
 use vip_commands::CommandCause;
 use vip_keypad::ScriptCause;
+use vip_text::StateFault;
 
 /// Files that are limited in their size.
 #[derive(Clone, Copy, Debug, Default, PartialEq, Eq)]
@@ -28,6 +29,14 @@ pub enum Kind {
     Source,
     /// A certificate, at most 1,048,576 bytes.
     Certificate,
+    /// A saved state, 4,147 bytes. A larger file is a faulty one, as a smaller one is.
+    State,
+    /// A message that one board sends to another, at most 3,000 bytes.
+    Message,
+    /// A program in the ROM, at most 2,048 bytes.
+    Rom,
+    /// A program in the RAM, at most 4,096 bytes.
+    Ram,
 }
 
 /// A refusal: why a command isn't begun.
@@ -45,6 +54,8 @@ pub enum Refusal<'a> {
     Command { line: u32, cause: CommandCause },
     /// The first fault of the source, in this line, counted from 1.
     Source { line: u32, cause: AsmCause },
+    /// The first fault of the file of a saved state.
+    State(StateFault),
     /// The built-in source doesn't give the ROM.
     Rom(ImageFault),
     /// The first fault of a certificate of cycles, in this line, counted from 1.
@@ -69,6 +80,10 @@ impl Refusal<'_> {
             Refusal::TooLarge(Kind::Commands) => Status::CommandsTooLarge,
             Refusal::TooLarge(Kind::Source) => Status::SourceTooLarge,
             Refusal::TooLarge(Kind::Certificate) => Status::CertificateTooLarge,
+            Refusal::TooLarge(Kind::State) | Refusal::State(_) => Status::BadState,
+            Refusal::TooLarge(Kind::Message) => Status::MessageTooLarge,
+            Refusal::TooLarge(Kind::Rom) => Status::RomTooLarge,
+            Refusal::TooLarge(Kind::Ram) => Status::RamTooLarge,
             Refusal::Script { .. } => Status::BadScript,
             Refusal::Command { .. } => Status::BadCommand,
             Refusal::Source { .. } => Status::BadSource,

@@ -5,7 +5,7 @@ ghost use Rattle.std.specs.List.{flat_map};
 ghost use Rattle.vip_outside.specs.Pieces.{StreamAnswers};
 ghost use Rattle.vip_outside.specs.Sink.{PutAnswers};
 ghost use Rattle.vip_report.specs.Report.{ended_report, report_pieces, write_fault};
-ghost use Rattle.vip_report.specs.Report.{asm_cause, cert_cause, script_cause, command_cause, at_line, report_of, image_report, no_certificate, rom_differs, too_large_report, done};
+ghost use Rattle.vip_report.specs.Report.{asm_cause, at_line, cert_cause, command_cause, done, idle_report, image_report, linked_report, no_certificate, report_of, rom_differs, script_cause, state_cause, too_large_report};
 ghost use Rattle.vip_report.specs.Reported.{RefusalAnswers};
 
 use crate::ended::Ended;
@@ -22,7 +22,7 @@ use vip_byte::{Buffer, hex2, hex4, put};
 use vip_commands::CommandCause;
 use vip_keypad::ScriptCause;
 use vip_outside::{Failed, Sink};
-use vip_text::{RunEnd, stop_text};
+use vip_text::{RunEnd, StateFault, stop_text};
 
 /// A line of these parts.
 fn line(alloc: Global, parts: &[&[u8]]) -> Result<Vec<u8>, AllocError>
@@ -87,6 +87,18 @@ fn cert_cause(cause: CertCause) -> &'static str
     }
 }
 
+fn state_cause(fault: StateFault) -> &'static str
+    ensures { result.now ≡ state_cause fault }
+{
+    match fault {
+        StateFault::BadLength => "BadLength",
+        StateFault::BadHead => "BadHead",
+        StateFault::BadEdition => "BadEdition",
+        StateFault::BadCycle => "BadCycle",
+        StateFault::BadMachine => "BadMachine",
+    }
+}
+
 /// The number of a line and what is wrong with it.
 fn at_line(alloc: Global, text: &[u8], number: u32, cause: &str) -> Result<Vec<u8>, AllocError>
     ensures { IfOk result (λ line. line.items ≡ at_line text.now number cause.now) }
@@ -106,6 +118,10 @@ fn too_large(kind: Kind) -> &'static [u8]
         Kind::Commands => b"vip: commands larger than 1048576 bytes\n",
         Kind::Source => b"vip: source too large\n",
         Kind::Certificate => b"vip: certificate larger than 1048576 bytes\n",
+        Kind::State => b"vip: state file: BadLength\n",
+        Kind::Message => b"vip: message larger than 3000 bytes\n",
+        Kind::Rom => b"vip: rom larger than 2048 bytes\n",
+        Kind::Ram => b"vip: program larger than 4096 bytes\n",
     }
 }
 
@@ -178,6 +194,10 @@ fn refusal_line(alloc: Global, refusal: &Refusal<'_>) -> Result<Vec<u8>, AllocEr
         Refusal::Source { line, cause } => {
             at_line(alloc, b"vip: source line ", *line, asm_cause(*cause))
         }
+        Refusal::State(fault) => {
+            let cause = state_cause(*fault).as_bytes();
+            line(alloc, &[b"vip: state file: ", cause, b"\n"])
+        }
         Refusal::Rom(fault) => image_fault(alloc, *fault),
         Refusal::Certificate { line, cause } => {
             at_line(alloc, b"vip: certificate line ", *line, cert_cause(*cause))
@@ -224,6 +244,29 @@ fn done_text(limit: u64, into: &mut Buffer)
     put(into, b"\n");
 }
 
+/// Writes at which address a program's processor idles into an empty buffer.
+fn idle_text(address: u16, into: &mut Buffer)
+    requires { into.old.items ≡ [] }
+    ensures { into.new.items ≡ idle_report address }
+{
+    put(into, b"idle at ");
+    put(into, &hex4(address));
+    put(into, b"\n");
+}
+
+/// Writes how many bytes of a message were sent and received into an empty buffer.
+fn linked_text(sent: u32, received: u32, into: &mut Buffer)
+    requires { into.old.items ≡ [] }
+    ensures { into.new.items ≡ linked_report sent received }
+{
+    let mut digits = Digits::new();
+    put(into, b"linked sent ");
+    put(into, digits.format(sent).as_bytes());
+    put(into, b" received ");
+    put(into, digits.format(received).as_bytes());
+    put(into, b"\n");
+}
+
 /// Writes the report of how a command ended into an empty buffer: nothing where a text alone was written.
 fn end_text(ended: &Ended, into: &mut Buffer)
     requires { into.old.items ≡ [] }
@@ -233,6 +276,9 @@ fn end_text(ended: &Ended, into: &mut Buffer)
         Ended::Worked => {}
         Ended::Ran(limit, RunEnd::AtLimit) => done_text(*limit, into),
         Ended::Ran(_, RunEnd::AtStop(stop)) => stop_text(stop, into),
+        Ended::NoDispatch => put(into, b"vip: no dispatch point\n"),
+        Ended::Idle(address) => idle_text(*address, into),
+        Ended::Linked { sent, received } => linked_text(*sent, *received, into),
     }
 }
 

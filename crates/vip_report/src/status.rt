@@ -35,14 +35,24 @@ pub enum Status {
     SourceTooLarge,
     /// The debugger's commands have more than 1,048,576 bytes.
     CommandsTooLarge,
+    /// The file of a saved state has a fault.
+    BadState,
+    /// A run that is to be saved has no dispatch point.
+    NoDispatch,
     /// A certificate of a routine's machine cycles has a fault.
     BadCertificate,
+    /// A message has more than 3,000 bytes.
+    MessageTooLarge,
     /// A certificate that a game never stops has a fault.
     BadProof,
     /// A certificate has more than 1,048,576 bytes.
     CertificateTooLarge,
     /// No certificate was found for a game.
     NoCertificate,
+    /// A program in the ROM has more than 2,048 bytes.
+    RomTooLarge,
+    /// A program in the RAM has more than 4,096 bytes.
+    RamTooLarge,
 }
 
 impl Status {
@@ -66,10 +76,15 @@ impl Status {
             Status::BadCommand => 12,
             Status::SourceTooLarge => 13,
             Status::CommandsTooLarge => 14,
+            Status::BadState => 15,
+            Status::NoDispatch => 16,
             Status::BadCertificate => 17,
+            Status::MessageTooLarge => 18,
             Status::BadProof => 19,
             Status::CertificateTooLarge => 20,
             Status::NoCertificate => 21,
+            Status::RomTooLarge => 22,
+            Status::RamTooLarge => 23,
         }
     }
 }
