@@ -1,5 +1,5 @@
 -- The law of every schedule.
-use Rattle.std.proofs.Common.{◌≡◌, ℕ, zero, suc, ◌+◌, ◌-◌, ◌*◌, ◌<◌, ◌≤◌, ◌⊎◌, inl, inr, refl, sym, ◌∙◌, ap, ap₂, arith, List, [], ◌∷◌, ◌++◌, length, take, replicate, slice_index, append-nil}
+use Rattle.std.proofs.Common.{◌≡◌, ℕ, zero, suc, ◌+◌, ◌-◌, ◌*◌, ◌<◌, ◌≤◌, ◌⊎◌, inl, inr, refl, sym, ◌∙◌, ap, ap₂, subst, arith, List, [], ◌∷◌, ◌++◌, length, take, replicate, slice_index, append-nil}
 use Rattle.std.specs.Prelude.{Option, IsSome, option_to_list}
 use Rattle.std.proofs.lemmas.List.{take_more, take_all, take-take, length-take-le, get_or-take, length-replicate}
 use Rattle.vip_link.specs.declared.side.Side.{Side}
@@ -9,7 +9,9 @@ use Rattle.vip_link.specs.Pair.{Pair, no_keys, stepped, scheduled, pairs}
 use Rattle.vip_link.specs.declared.sender.TheConstants.{CODE as SENDER}
 use Rattle.vip_link.specs.declared.receiver.TheConstants.{CODE as RECEIVER}
 use Rattle.vip_link.specs.Roms.{sender_rom, receiver_rom}
-use Rattle.vip_link.specs.Laws.{message_ram, start, Delivers, after, AlwaysDelivers, PairsDeliver}
+use Rattle.vip_link.specs.Laws.{message_ram, start, Delivers, after, AlwaysDelivers, PairsDeliver, TurnsDeliver, NumbersDeliver}
+use Rattle.vip_link.specs.Schedules.{schedule_by, turns}
+use Rattle.vip_link.proofs.Numbers.{turns-of-number}
 use Rattle.vip_link.proofs.Sending.{rom as rom_a}
 use Rattle.vip_link.proofs.Sending.Place.{Reset as ResetA}
 use Rattle.vip_link.proofs.Receiving.{rom as rom_b, ram_is, enough}
@@ -93,7 +95,7 @@ module _ (message : List ℕ) (room : length message ≤ 3000) where
     kept [] s h = h
     kept (side ∷ schedule) s h = kept schedule (step side s) (kept_by side s h)
 
-    -- ---- pairs of moves
+    -- ---- B right behind A
 
     -- A moved, and has fewer moves left than before, or so few; or B doesn't wait now, or nothing is left
     abbrev Leaves : ℕ → ℕ → ℕ → ℕ → Pair → Type 0
@@ -116,9 +118,30 @@ module _ (message : List ℕ) (room : length message ≤ 3000) where
         go (GoesOnA k m less g) = then_b most k h.j m h.b (step A s) g (inl (omega (arith, less, h.left)))
         go (WaitsA g w) = then_b most h.k h.j h.a h.b (step A s) g (inr (h.left, w))
 
-    all_pairs : (most : ℕ) (s : Pair) → KeptWithin most s → KeptWithin 0 (run (pairs most) s)
-    all_pairs zero s h = h
-    all_pairs (suc most) s h = all_pairs most (step B (step A s)) (pair_moves most s h)
+    -- no move makes more of them
+    within_by : (most : ℕ) (side : Side) (s : Pair) → KeptWithin most s → KeptWithin most (step side s)
+    within_by most A s h = go (by_a h.k h.j h.a h.b s h.holds)
+      where
+        go : AfterA h.k h.j h.a h.b s h.holds → KeptWithin most (step A s)
+        go (GoesOnA k m less g) = record { k = k; j = h.j; a = m; b = h.b; holds = g; left = omega (arith, less, h.left) }
+        go (WaitsA g w) = record { k = h.k; j = h.j; a = h.a; b = h.b; holds = g; left = h.left }
+    within_by most B s h = go (by_b h.k h.j h.a h.b s h.holds)
+      where
+        go : AfterB h.k h.j h.a h.b s h.holds → KeptWithin most (step B s)
+        go (GoesOnB j m less g) = record { k = h.k; j = j; a = h.a; b = m; holds = g; left = omega (arith, less, h.left) }
+        go (WaitsB none least g) = record { k = h.k; j = h.j; a = h.a; b = h.b; holds = g; left = h.left }
+
+    -- B right behind A
+    turned : (most : ℕ) (s : Pair) → KeptWithin most s → KeptWithin (most - 1) (step B (step A s))
+    turned zero s h = within_by zero B (step A s) (within_by zero A s h)
+    turned (suc most) s h = subst (λ n. KeptWithin n (step B (step A s))) (omega arith) (pair_moves most s h)
+
+    all_turns : (schedule : List Side) (most : ℕ) (s : Pair) → most ≤ turns schedule → KeptWithin most s → KeptWithin 0 (run schedule s)
+    all_turns [] most s l h = record { k = h.k; j = h.j; a = h.a; b = h.b; holds = h.holds; left = omega (arith, l, h.left) }
+    all_turns (B ∷ schedule) most s l h = all_turns schedule most (step B s) l (within_by most B s h)
+    all_turns (A ∷ []) most s l h = all_turns [] most (step A s) l (within_by most A s h)
+    all_turns (A ∷ A ∷ schedule) most s l h = all_turns (A ∷ schedule) most (step A s) l (within_by most A s h)
+    all_turns (A ∷ B ∷ schedule) most s l h = all_turns schedule (most - 1) (step B (step A s)) (omega (arith, l)) (turned most s h)
 
   -- ---- what follows
 
@@ -187,8 +210,20 @@ always_delivers message schedule room =
     delivers message room (after schedule message)
     (kept message room (zeros_behind SENDER) (zeros_behind RECEIVER) schedule (start message) (first_kept message room))
 
-pub pairs_deliver : PairsDeliver
+pub turns_deliver : TurnsDeliver
 unfolding sender_rom receiver_rom
-pairs_deliver message n room l =
-    all_received message room (after (pairs n) message)
-    (all_pairs message room (zeros_behind SENDER) (zeros_behind RECEIVER) n (start message) (first_within message room n l))
+turns_deliver message schedule room l =
+    all_received message room (after schedule message)
+    (all_turns message room (zeros_behind SENDER) (zeros_behind RECEIVER) schedule (40 * (length message + 2)) (start message) l
+    (first_within message room (40 * (length message + 2)) (omega arith)))
+
+turns_of_pairs : (n : ℕ) → turns (pairs n) ≡ n
+turns_of_pairs zero = refl
+turns_of_pairs (suc n) = ap suc (turns_of_pairs n)
+
+pub pairs_deliver : PairsDeliver
+pairs_deliver message n room l = turns_deliver message (pairs n) room (omega (arith, l, turns_of_pairs n))
+
+pub numbers_deliver : NumbersDeliver
+numbers_deliver message number moves room l =
+    turns_deliver message (schedule_by number moves) room (turns-of-number number (40 * (length message + 2)) moves (omega (arith, l)))

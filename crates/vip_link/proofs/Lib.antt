@@ -3,5 +3,7 @@ pub mod Sending
 pub mod Receiving
 pub mod Start
 pub mod Both
+pub mod Numbers
 pub mod Law
 pub mod Links
+pub mod Runs

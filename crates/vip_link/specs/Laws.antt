@@ -5,6 +5,7 @@ use Rattle.machine.specs.Board.{after_reset}
 use Rattle.vip_link.specs.declared.side.Side.{Side}
 use Rattle.vip_link.specs.Pair.{Pair, scheduled, pairs}
 use Rattle.vip_link.specs.Roms.{sender_rom, receiver_rom}
+use Rattle.vip_link.specs.Schedules.{schedule_by, turns}
 
 -- the longest message
 abbrev pub most_bytes : ℕ
@@ -38,7 +39,23 @@ after schedule message = scheduled sender_rom receiver_rom schedule (start messa
 abbrev pub AlwaysDelivers : Type 0
 AlwaysDelivers = (message : List ℕ) (schedule : List Side) → length message ≤ most_bytes → Delivers message (after schedule message)
 
--- 40 pairs A, B for each byte and 80 more are enough
+-- where B moves right behind A 40 times for each byte and 80 times more, all is received, whatever moves lie between
+abbrev pub TurnsDeliver : Type 0
+TurnsDeliver =
+    (message : List ℕ) (schedule : List Side)
+    → length message ≤ most_bytes
+    → 40 * (length message + 2) ≤ turns schedule
+    → (after schedule message).received ≡ message
+
+-- so 40 pairs A, B for each byte and 80 more are enough
 abbrev pub PairsDeliver : Type 0
 PairsDeliver =
     (message : List ℕ) (n : ℕ) → length message ≤ most_bytes → 40 * (length message + 2) ≤ n → (after (pairs n) message).received ≡ message
+
+-- and so are as many moves of any number's schedule as have so many of B right behind A: there is one in any 33 of them
+abbrev pub NumbersDeliver : Type 0
+NumbersDeliver =
+    (message : List ℕ) (number moves : ℕ)
+    → length message ≤ most_bytes
+    → 1320 * (length message + 2) ≤ moves
+    → (after (schedule_by number moves) message).received ≡ message

@@ -1,5 +1,6 @@
 pub mod Pair
 pub mod Roms
+pub mod Schedules
 pub mod Laws
 pub mod Checked
 pub mod Links

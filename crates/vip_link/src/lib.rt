@@ -4,7 +4,8 @@
 //! It stands on `vip_board`, whose `linked` makes one linked move, on `rom_moves` for how machine code reads ROM and RAM, and on `rom_check`,
 //! which compares the ROMs with their texts. The layer above may rely on this: `Link::step` makes exactly the linked move of its side, and after
 //! every step what was sent is a prefix of the message, what was received is a prefix of that and at most one byte shorter, and lies in B's RAM
-//! from 0200 on; `laws::every_schedule` says the same of the definitions, and that enough pairs of moves bring the whole message.
+//! from 0200 on; `Link::run` makes the moves of the schedule that a number gives; `laws::every_schedule` says of the definitions what holds after
+//! every step, and that a schedule brings the whole message in which B moves often enough right behind A.
 //!
 //! ```text
 //!     ┌───────────┐  OUT 3        to B        INP 3  ┌─────────────┐
@@ -26,6 +27,7 @@ mod image;
 pub mod laws;
 mod link;
 mod receiver;
+mod schedule;
 mod sender;
 mod side;
 

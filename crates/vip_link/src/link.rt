@@ -1,14 +1,16 @@
 //! The link.
 
 ghost use Rattle.std.specs.Prelude.{◌≡◌, ◌+◌, ◌<◌, ◌≤◌, ◌++◌, length, option_to_list, vec_capacity};
-ghost use Rattle.vip_link.specs.Pair.{stepped, entered, left};
+ghost use Rattle.vip_link.specs.Pair.{stepped, scheduled, entered, left};
 ghost use Rattle.vip_link.specs.Roms.{sender_rom, receiver_rom};
 ghost use Rattle.vip_link.specs.Laws.{Delivers};
+ghost use Rattle.vip_link.specs.Schedules.{schedule_by};
 ghost use Rattle.vip_board.specs.Moves.{name_of};
 ghost use Rattle.vip_link.specs.Links.{Starts, machine_of};
 
 use crate::fault::LinkFault;
 use crate::image::{receiver_image, sender_image};
+use crate::schedule::{next_random, side_by};
 use crate::side::Side;
 use std::alloc::Global;
 use std::marker::Model;
@@ -121,6 +123,18 @@ impl Link {
         match side {
             Side::A => self.step_a(),
             Side::B => self.step_b(),
+        }
+    }
+
+    /// Makes so many moves by the schedule that a number gives. It takes no memory.
+    pub fn run(&mut self, number: u32, moves: u32)
+        requires { self.old.moves + moves ≤ 20000000 }
+        ensures { self.new ≡ record self.old { pair = scheduled sender_rom receiver_rom (schedule_by number moves) self.old.pair; moves = self.old.moves + moves } }
+    {
+        let mut x = number;
+        for _move in 0..moves {
+            x = next_random(x);
+            self.step(side_by(x));
         }
     }
 
