@@ -29,6 +29,14 @@ pub enum Next {
     Main(u16, u8),
 }
 
+/// The ROM of an edition.
+pub fn rom_of(edition: Edition) -> &'static [u8; 2048] {
+    match edition {
+        Edition::Usual => &IMAGE,
+        Edition::Tall => &TALL,
+    }
+}
+
 /// A board that runs a game.
 #[derive(Drop)]
 pub struct Console {
@@ -45,10 +53,17 @@ impl Console {
         game: &[u8],
         keys: &Script,
     ) -> Result<Console, AllocError> {
-        let rom = match edition {
-            Edition::Usual => &IMAGE,
-            Edition::Tall => &TALL,
-        };
+        Console::with_rom(alloc, edition, rom_of(edition), game, keys)
+    }
+
+    /// The same with another ROM, whose labels are those of the edition's.
+    pub fn with_rom(
+        alloc: Global,
+        edition: Edition,
+        rom: &[u8; 2048],
+        game: &[u8],
+        keys: &Script,
+    ) -> Result<Console, AllocError> {
         let mut board = Board::reset(alloc, rom, keys)?;
         board.load(GAME, &game[..game.len().min(MOST_GAME)]);
         Ok(Console {
@@ -85,6 +100,17 @@ impl Console {
             4 if address == self.places.fetch => Next::Dispatch,
             _ => Next::Main(address, p),
         }
+    }
+
+    /// The next instruction stores a byte in the screen: it is STR N or STXD, and its register points there.
+    pub fn writes_screen(&self) -> bool {
+        let cpu = self.board.cpu();
+        let address = match self.board.memory().read(cpu.r(cpu.p())) {
+            opcode @ 0x50..=0x5F => cpu.r(opcode % 16),
+            0x73 => cpu.r(cpu.x()),
+            _ => return false,
+        };
+        (self.places.screen_page..=0x0F).contains(&((address / 256) as u8))
     }
 
     /// The processor waits for an interrupt.

@@ -2,8 +2,9 @@
 //!
 //! The source's form is looked at: which of its lines are data. Some thousand frames of random games and each instruction of
 //! `data/costs.txt` are measured: the most machine cycles of each kind of step, which `docs/MACHINE.md` sets beside the bounds, the place
-//! and the length of each interrupt, and each picture against the screen of the last dispatch point before it. The stored output is what
-//! all of this must give.
+//! and the length of each interrupt, each picture against the screen of the last dispatch point before it, whether each window has one, and whether
+//! an interrupt comes between a write to the screen and the next dispatch point. The same is said of the wrong interpreters of `data/wrong.txt`, of
+//! which a law of `rom_run` is false, so that it shows there. The stored output is what all of this must give.
 //!
 //! It stands on the board, the assembler and the ROM, and on nothing of the program that shows runs. That the ROM is CHIP-8 within the
 //! bounds is proved in `rom_run`; what is measured here says how far below them it stays. Nothing here is proved but that it is safe.
@@ -17,12 +18,14 @@ mod report;
 mod runs;
 mod source;
 mod watch;
+mod wrong;
 
 use crate::edition::{EDITIONS, name};
-use crate::report::{write_costs, write_form, write_frames};
+use crate::report::{write_costs, write_form, write_frames, write_wrong};
 use crate::runs::{RunFault, run_demos, run_instructions};
 use crate::source::Source;
 use crate::watch::{KeyTests, Watch};
+use crate::wrong::run_wrong;
 use chip8_lang::Edition;
 use chip8_source::{source, tall_source};
 use std::fs;
@@ -66,11 +69,32 @@ fn measure(
     write_costs(rt, &watch.costs)
 }
 
+/// Runs the wrong interpreters of an edition, and writes what was seen of each.
+fn run_wrong_ones(
+    rt: &HostRuntime,
+    edition: Edition,
+    text: &str,
+    key_tests: KeyTests,
+) -> anyhow::Result<()> {
+    println!(rt; "{}, wrong interpreters:", name(edition))?;
+    for line in text.lines() {
+        if line.starts_with('#') {
+            continue;
+        }
+        let mut watch = Watch::new(key_tests);
+        let wrong = run_wrong(rt.alloc(), edition, line, &mut watch)?;
+        write_wrong(rt, wrong, &watch)?;
+    }
+    Ok(())
+}
+
 fn main(rt: HostRuntime) -> anyhow::Result<()> {
     let costs = fs::read_to_string(&rt, "costs.txt")?;
+    let wrong = fs::read_to_string(&rt, "wrong.txt")?;
     for edition in EDITIONS {
         let key_tests = look_at_source(&rt, edition)?;
         measure(&rt, edition, &costs, key_tests)?;
+        run_wrong_ones(&rt, edition, &wrong, key_tests)?;
     }
     Ok(())
 }

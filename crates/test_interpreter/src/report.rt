@@ -24,8 +24,21 @@ pub fn write_frames(rt: &HostRuntime, watch: &Watch) -> anyhow::Result<()> {
         watch.dispatches, watch.frames, watch.interrupts, watch.strays
     )?;
     println!(rt;
-        "  {} pictures, {} of them not the screen of the last dispatch point",
-        watch.pictures, watch.wrong_pictures
+        "  {} pictures of {} windows, {} of them not the screen of the last dispatch point",
+        watch.pictures, watch.windows, watch.wrong_pictures
+    )?;
+    println!(rt;
+        "  {} interrupts between a write to the screen and the next dispatch point",
+        watch.torn
+    )?;
+    Ok(())
+}
+
+/// Writes what was seen of a wrong interpreter.
+pub fn write_wrong(rt: &HostRuntime, name: &str, watch: &Watch) -> anyhow::Result<()> {
+    println!(rt;
+        "  {name}: {} pictures of {} windows, {} interrupts between a write to the screen and the next dispatch point",
+        watch.pictures, watch.windows, watch.torn
     )?;
     Ok(())
 }

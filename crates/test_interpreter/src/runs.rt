@@ -122,7 +122,7 @@ fn measured_game(
 }
 
 /// Puts the bytes of opcodes in hexadecimal behind others.
-fn push_opcodes(game: &mut Vec<u8>, words: SplitWhitespace<'_>) -> Result<(), RunFault> {
+pub fn push_opcodes(game: &mut Vec<u8>, words: SplitWhitespace<'_>) -> Result<(), RunFault> {
     for word in words {
         game.extend_from_slice(&<[u8; 2]>::from_hex(word)?)?;
     }

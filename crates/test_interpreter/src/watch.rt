@@ -11,6 +11,9 @@ const FRAME: u64 = 3_668;
 
 const INTERRUPT: u64 = 1_092;
 
+/// The cycle of a frame at which its window has ended.
+const WINDOW_END: u64 = 2_912;
+
 /// The lines of a picture.
 const LINES: usize = 128;
 
@@ -32,13 +35,19 @@ pub struct Watch {
     pub strays: u64,
     /// Frames whose interrupt is past.
     pub frames: u64,
+    /// Windows that have ended.
+    pub windows: u64,
     /// Finished pictures, and those of them that aren't the screen of the last dispatch point.
     pub pictures: u64,
     pub wrong_pictures: u64,
+    /// Interrupts that came behind a write to the screen and before the next dispatch point.
+    pub torn: u64,
     // The screen at the last dispatch point of the present run.
     screen: [u8; MOST_SCREEN],
     interval: Interval,
     in_routine_since: Option<u64>,
+    // Main code has written to the screen since the last dispatch point.
+    has_written: bool,
     pictures_before: u64,
     key_tests: KeyTests,
 }
@@ -51,11 +60,14 @@ impl Watch {
             interrupts: 0,
             strays: 0,
             frames: 0,
+            windows: 0,
             pictures: 0,
             wrong_pictures: 0,
+            torn: 0,
             screen: [0; MOST_SCREEN],
             interval: Interval::new(Kind::Boot, 0),
             in_routine_since: None,
+            has_written: false,
             pictures_before: 0,
             key_tests,
         }
@@ -66,11 +78,16 @@ impl Watch {
         self.screen = [0; MOST_SCREEN];
         self.interval = Interval::new(Kind::Boot, console.now());
         self.in_routine_since = None;
+        self.has_written = false;
         self.pictures_before = 0;
         self.run_on(console, limit);
-        self.frames = self.frames.saturating_add(
-            (console.now().saturating_add(FRAME - INTERRUPT - 1)) / FRAME,
-        );
+        let end = console.now();
+        self.frames = self
+            .frames
+            .saturating_add(end.saturating_add(FRAME - INTERRUPT - 1) / FRAME);
+        self.windows = self
+            .windows
+            .saturating_add(end.saturating_add(FRAME - WINDOW_END) / FRAME);
     }
 
     fn run_on(&mut self, console: &mut Console, limit: u64) {
@@ -79,6 +96,7 @@ impl Watch {
             match next {
                 Next::Dispatch => self.dispatch(console),
                 Next::Stop => return self.stop(console),
+                Next::Main(_, _) if console.writes_screen() => self.has_written = true,
                 _ => {}
             }
             let before = console.now();
@@ -95,6 +113,7 @@ impl Watch {
         let all = now.saturating_sub(self.interval.since);
         self.costs.add_step(all, &self.interval);
         self.interval = Interval::new(kind_of(console.opcode()), now);
+        self.has_written = false;
         self.dispatches = self.dispatches.saturating_add(1);
         self.screen = console.screen();
     }
@@ -118,6 +137,7 @@ impl Watch {
     fn moved(&mut self, console: &Console, next: Next, made: Move, before: u64) {
         if made == Move::Interrupt {
             self.interrupts = self.interrupts.saturating_add(1);
+            self.torn = self.torn.saturating_add(u64::from(self.has_written));
             if before % FRAME != INTERRUPT {
                 self.strays = self.strays.saturating_add(1);
             }
