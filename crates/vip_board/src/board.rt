@@ -138,6 +138,13 @@ impl Board {
         self.wires.memory.load(address, bytes);
     }
 
+    /// Clears the boot latch, as OUT 4 does. Nothing sets it again.
+    pub fn clear_latch(&mut self)
+        ensures { self.new ≡ record self.old { machine = record self.old.machine { latch = false } } }
+    {
+        self.wires.memory.clear_latch();
+    }
+
     /// The number of machine cycles since reset.
     pub fn now(&self) -> u64
         ensures { result ≡ self.now.machine.cycle }

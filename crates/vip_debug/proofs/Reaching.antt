@@ -11,7 +11,7 @@ use Rattle.chip8_lang.specs.Events.{Event, is_stop}
 use Rattle.chip8_lang.specs.Places.{Interpreter}
 use Rattle.vip_relation.specs.Interpreters.{interpreter_of}
 use Rattle.vip_relation.specs.State.{VipState, events_to, started}
-use Rattle.vip_relation.proofs.Along.{in-turn}
+use Rattle.vip_board.proofs.Along.{in-turn}
 use Rattle.vip_relation.proofs.Past.{state, past, events-last, events-stop}
 use Rattle.vip_relation.proofs.Waits.{Earlier, earlier-at, earlier-drop, earlier-next}
 use Rattle.vip_commands.specs.declared.commands.Command.{Command}

@@ -1,4 +1,3 @@
-pub mod Along
 pub mod Past
 pub mod Steps
 pub mod Meetings

@@ -21,7 +21,7 @@ use Rattle.vip_relation.specs.Kept.{PictureWaits}
 use Rattle.vip_relation.specs.declared.point.Point.{Point}
 use Rattle.vip_relation.specs.declared.vip.Met.{Met}
 use Rattle.vip_relation.specs.declared.vip.Met.TheVariants.{Picture as PictureMet, Dispatch as DispatchMet, Stopped as StoppedMet}
-use Rattle.vip_relation.proofs.Along.{run-split, later-run, picture-later}
+use Rattle.vip_board.proofs.Along.{run-split, later-run, picture-later}
 use Rattle.vip_relation.proofs.Past.{onward}
 use Rattle.vip_relation.proofs.Steps.{Others, others-to, at_state}
 

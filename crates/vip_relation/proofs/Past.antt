@@ -19,7 +19,7 @@ use Rattle.vip_video.specs.Chip.{Pictures}
 use Rattle.vip_relation.specs.Points.{point_of, point_events}
 use Rattle.vip_relation.specs.declared.point.Point.{Point}
 use Rattle.vip_relation.specs.declared.point.Point.TheVariants.{Dispatch as DispatchPoint, Stop as StopPoint, Other as OtherPoint}
-use Rattle.vip_relation.proofs.Along.{states-more, soon-move, run-split, Later, later-run, later-one, shown-later}
+use Rattle.vip_board.proofs.Along.{states-more, soon-move, run-split, Later, later-run, later-one, shown-later}
 
 -- ---- the pictures at a state
 

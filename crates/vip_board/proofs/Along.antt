@@ -19,15 +19,15 @@ use Rattle.machine.proofs.Runs.{cycle-move, later-move, run_to-next, run_to-past
 
 module _ (rom : List ℕ) (held : ℕ → Keys) where
   -- one move more, counted from either end
-  move_first : (n : ℕ) (b : Machine) → after_moves rom held (move rom held b) n ≡ move rom held (after_moves rom held b n)
-  move_first zero b = refl
-  move_first (suc n) b = ap (move rom held) (move_first n b)
+  pub move-first : (n : ℕ) (b : Machine) → after_moves rom held (move rom held b) n ≡ move rom held (after_moves rom held b n)
+  move-first zero b = refl
+  move-first (suc n) b = ap (move rom held) (move-first n b)
 
   pub states-more : (n : ℕ) (b : Machine) → states rom held b (suc n) ≡ states rom held b n ++ after_moves rom held b n ∷ []
   states-more zero b = refl
   states-more (suc n) b =
       ap (λ tail. b ∷ tail)
-      (states-more n (move rom held b) ∙ ap (λ c. states rom held (move rom held b) n ++ c ∷ []) (move_first n b))
+      (states-more n (move rom held b) ∙ ap (λ c. states rom held (move rom held b) n ++ c ∷ []) (move-first n b))
 
   pub length-states : (n : ℕ) (b : Machine) → length (states rom held b n) ≡ n
   length-states zero b = refl
@@ -65,8 +65,8 @@ module _ (rom : List ℕ) (held : ℕ → Keys) where
       let first : b.cycle ≤ limit = omega (arith, cycles-some (suc n) b) in
       run_to-next rom held limit b first
       ∙ ap (λ tail. b ∷ tail)
-      (run-split limit n (move rom held b) (subst (λ (c : Machine). c.cycle ≤ limit) (sym (move_first n b)) within)
-      ∙ ap (λ c. states rom held (move rom held b) n ++ run_to rom held c limit) (move_first n b))
+      (run-split limit n (move rom held b) (subst (λ (c : Machine). c.cycle ≤ limit) (sym (move-first n b)) within)
+      ∙ ap (λ c. states rom held (move rom held b) n ++ run_to rom held c limit) (move-first n b))
 
   -- up to a limit before the next state there are no others
   pub run-last : (limit n : ℕ) (b : Machine) → (after_moves rom held b n).cycle ≤ limit → limit < (after_moves rom held b (suc n)).cycle → run_to rom held b limit ≡ states rom held b (suc n)
@@ -96,7 +96,7 @@ pub Later : ℕ → List Machine → Type 0
 Later t [] = Unit {0}
 Later t (b ∷ bs) = (t ≤ b.cycle) × Later t bs
 
-later-states : (rom : List ℕ) (held : ℕ → Keys) (t n : ℕ) (b : Machine) → t ≤ b.cycle → Later t (states rom held b n)
+pub later-states : (rom : List ℕ) (held : ℕ → Keys) (t n : ℕ) (b : Machine) → t ≤ b.cycle → Later t (states rom held b n)
 unfolding Later
 later-states rom held t zero b from = tt
 later-states rom held t (suc n) b from = (from, later-states rom held t n (move rom held b) (omega (arith, from, later-move rom held b)))
