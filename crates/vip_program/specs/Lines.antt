@@ -1,0 +1,128 @@
+-- The lines of a trace: what each tells of the machine before its moves. Digits are upper case, and the cycle is decimal.
+use Rattle.std.specs.Prelude.{ℕ, Bool, ◌+◌, ◌*◌, ◌/◌, ◌%◌, ◌==◌, if◌then◌else◌, List, [], ◌∷◌, ◌++◌, length, map, flat_map, take, slice_index, codes, decimal}
+use Rattle.machine.specs.Board.{Machine, Case, case_of, byte_of, dma_byte, flags_of}
+use Rattle.machine.specs.Board.Case.{Dma, Interrupt, Idle, Instruction}
+use Rattle.machine.specs.Instruction.{Regs, at}
+use Rattle.machine.specs.Keys.{Keys}
+use Rattle.machine.specs.Opcodes.{kind_of, opcode_number}
+use Rattle.machine.specs.Signals.{efx_at}
+use Rattle.vip_byte.specs.HexText.{bytes_text, hex2, hex4}
+use Rattle.vip_byte.specs.Text.{bit_text, newline}
+use Rattle.vip_isa.specs.Rows.{mnemonic_of, size_of}
+use Rattle.vip_program.specs.Columns.{digit, left, right}
+use Rattle.vip_program.specs.Names.{names_in}
+use Rattle.vip_program.specs.declared.names.Names.{Names}
+use Rattle.vip_program.specs.declared.names.Names.TheVariants.{Register, Flag, Output, Input, Data}
+
+-- the machine cycle in which the first move of a line starts
+abbrev pub cycle_column : Machine → List ℕ
+cycle_column b = right 10 (decimal b.cycle)
+
+-- ---- an instruction: an opcode and the two bytes behind it; addresses go on at 0000 behind FFFF
+
+abbrev pub three_at : (ℕ → ℕ) → ℕ → List ℕ
+three_at byte address = byte address ∷ byte ((address + 1) % 65536) ∷ byte ((address + 2) % 65536) ∷ []
+
+abbrev pub opcode_in : List ℕ → ℕ
+opcode_in three = slice_index three 0
+
+-- the size, the mnemonic and what is named, by the opcode
+unfoldable pub size_at : ℕ → ℕ
+size_at opcode = size_of (kind_of opcode)
+
+unfoldable pub mnemonic_at : ℕ → List ℕ
+mnemonic_at opcode = mnemonic_of (kind_of opcode)
+
+unfoldable pub names_at : ℕ → Names
+names_at opcode = names_in (kind_of opcode) (opcode_number opcode)
+
+-- what the bytes behind an opcode are: none; an address, its high byte first; an address on the page of that byte (opcodes 30 to 3F); or
+-- a byte
+unfoldable pub behind_text : ℕ → List ℕ → List ℕ
+behind_text address three =
+    if size_at (opcode_in three) == 1 then []
+    else if size_at (opcode_in three) == 3 then codes " 0x" ++ hex2 (slice_index three 1) ++ hex2 (slice_index three 2)
+    else if opcode_in three / 16 == 3 then codes " 0x" ++ hex2 ((address + 1) % 65536 / 256) ++ hex2 (slice_index three 1)
+    else codes " 0x" ++ hex2 (slice_index three 1)
+
+-- the operand: the register or the port that is named, and else what the bytes behind the opcode are
+abbrev pub operand_text : Names → ℕ → List ℕ → List ℕ
+operand_text (Register n) address three = codes " R" ++ digit n
+operand_text (Output port) address three = codes " " ++ digit port
+operand_text (Input port) address three = codes " " ++ digit port
+operand_text Data address three = codes " 0x68"
+operand_text _ address three = behind_text address three
+
+-- the mnemonic with its operand
+unfoldable pub instruction_text : ℕ → List ℕ → List ℕ
+instruction_text address three = mnemonic_at (opcode_in three) ++ operand_text (names_at (opcode_in three)) address three
+
+-- the address, the bytes of the instruction in a column of six, and the instruction in one of eleven
+abbrev pub code_text : List ℕ → List ℕ
+code_text three = left 6 (flat_map hex2 (take (size_at (opcode_in three)) three))
+
+unfoldable pub place_text : ℕ → List ℕ → List ℕ
+place_text address three =
+    codes " " ++ hex4 address ++ codes " " ++ code_text three ++ codes " " ++ left 11 (instruction_text address three)
+
+-- ---- what the processor has
+
+-- P, X, D and DF
+abbrev pub selected_text : Regs → List ℕ
+selected_text r = codes " P " ++ digit r.p ++ codes " X " ++ digit r.x ++ codes " D " ++ hex2 r.d ++ codes " DF " ++ digit r.df
+
+-- the T that an interrupt makes: the X and P that it breaks into
+abbrev pub interrupt_text : Regs → List ℕ
+interrupt_text r = codes " INT T " ++ hex2 (r.x * 16 + r.p)
+
+-- R(0) before a DMA cycle
+abbrev pub dma_text : ℕ → List ℕ
+dma_text address = codes " DMA R0 " ++ hex4 address
+
+-- a flag as the next instruction sees it, in the cycle after its fetch
+abbrev pub flag_in : (ℕ → Keys) → Machine → ℕ → Bool
+flag_in held b flag = flags_of (efx_at (b.cycle + 1) b.on) (held (b.cycle + 1) b.key) flag
+
+-- R(n), and the byte there
+unfoldable pub register_text : List ℕ → Machine → ℕ → List ℕ
+register_text rom b n = codes " " ++ hex4 (at b.regs n) ++ codes " " ++ hex2 (byte_of rom b (at b.regs n))
+
+module _ (rom : List ℕ) (held : ℕ → Keys) where
+  -- what an instruction names: a register with its byte, a flag, or the byte on the bus, which is sent from M(R(X)), and 00 at every INP
+  abbrev pub named_text : Names → Machine → List ℕ
+  named_text (Register n) b = codes "  R" ++ digit n ++ register_text rom b n
+  named_text (Flag flag) b = codes "  EF" ++ digit flag ++ codes " " ++ bit_text (flag_in held b flag)
+  named_text (Output port) b = codes "  BUS " ++ hex2 (byte_of rom b (at b.regs b.regs.x))
+  named_text (Input port) b = codes "  BUS 00"
+  named_text _ b = []
+
+  -- P, X, D, DF and Q, R(X) with its byte, and what the instruction names
+  unfoldable pub state_text : Names → Machine → List ℕ
+  state_text names b =
+      selected_text b.regs ++ codes " Q " ++ bit_text b.regs.q
+      ++ codes "  RX" ++ register_text rom b b.regs.x
+      ++ named_text names b
+
+  -- the bytes at R(P)
+  abbrev pub fetched : Machine → List ℕ
+  fetched b = three_at (byte_of rom b) (at b.regs b.regs.p)
+
+  -- where the instruction stands, and what the processor has before it
+  unfoldable pub fetch_text : Machine → List ℕ
+  fetch_text b = place_text (at b.regs b.regs.p) (fetched b) ++ state_text (names_at (opcode_in (fetched b))) b
+
+  -- What a line says of some moves, given by the machines before them, of which the first has this case: an instruction; an interrupt; how
+  -- many cycles the processor idles; or R(0) before the first DMA cycle, and the bytes of all.
+  abbrev pub moves_text : Case → Machine → List Machine → List ℕ
+  moves_text Instruction b moves = fetch_text b
+  moves_text Interrupt b moves = interrupt_text b.regs
+  moves_text Idle b moves = codes " IDLE " ++ decimal (length moves)
+  moves_text Dma b moves = dma_text (at b.regs 0) ++ bytes_text (map (dma_byte rom) moves)
+
+  -- the line of moves of which this is the first, and then these
+  unfoldable pub line_from : Machine → List Machine → List ℕ
+  line_from b moves = cycle_column b ++ moves_text (case_of b) b moves ++ newline
+
+  abbrev pub line_of : List Machine → List ℕ
+  line_of [] = []
+  line_of (b ∷ bs) = line_from b (b ∷ bs)

@@ -1,0 +1,67 @@
+//! The lines of a run.
+
+ghost use Rattle.std.specs.Prelude.{◌≡◌, ◌≤◌};
+ghost use Rattle.vip_cpu.specs.declared.cpu.Phase.TheVariants.{Boundary};
+ghost use Rattle.vip_program.specs.Trace.{ShowAnswers, TraceAnswers, end_at, traced};
+
+use crate::moves::{goes_on, next_line, sleeps};
+use vip_board::Board;
+use vip_byte::{Buffer, MOST_CYCLE, add16};
+use vip_outside::{Failed, Sink};
+
+/// How the run of a program ended.
+#[derive(Clone, Copy, Debug, PartialEq, Eq)]
+pub enum ProgramEnd {
+    /// The next move would end after the limit.
+    AtLimit,
+    /// The processor idles, and no signal can wake it, since the display is off. This is the address of the IDL.
+    Idle(u16),
+}
+
+/// How a run ends where a board stands: `Idle` comes exactly where the processor idles and the display is off.
+pub fn ending(board: &Board) -> ProgramEnd
+    ensures { result ≡ end_at board.now.machine }
+{
+    if sleeps(board) {
+        let cpu = board.cpu();
+        ProgramEnd::Idle(add16(cpu.r(cpu.p()), 0xFFFF))
+    } else {
+        ProgramEnd::AtLimit
+    }
+}
+
+/// Makes at most `count` moves, those that end at or before the limit, and none from where the processor idles with the display off. Puts
+/// their lines, each as one piece, and answers how many moves were made. The board is at a boundary, before and after.
+///
+/// A put that fails ends it: the board has made the moves of that line, and no others.
+pub fn trace_moves<O: Sink>(
+    board: &mut Board,
+    count: u64,
+    limit: u64,
+    out: &mut O,
+) -> Result<u64, Failed>
+    requires boundary { board.old.phase ≡ Boundary }
+    requires limit { limit ≤ MOST_CYCLE }
+    requires within { board.old.machine.cycle ≤ limit }
+    ensures { TraceAnswers count limit board.old board.new (O.meaning out.old) (O.meaning out.new) result }
+{
+    let mut made = 0;
+    while made < count && goes_on(board, limit) {
+        let mut line = Buffer::new();
+        made += next_line(board, count - made, limit, &mut line);
+        out.put(line.as_slice())?;
+    }
+    Ok(made)
+}
+
+/// Runs a program up to the limit, or up to where the processor idles with the display off, and puts the lines of its moves, each as one
+/// piece. A put that fails ends it. No memory is taken.
+pub fn show_trace<O: Sink>(board: &mut Board, limit: u64, out: &mut O) -> Result<ProgramEnd, Failed>
+    requires boundary { board.old.phase ≡ Boundary }
+    requires limit { limit ≤ MOST_CYCLE }
+    requires within { board.old.machine.cycle ≤ limit }
+    ensures { ShowAnswers (traced board.old limit) limit board.old (O.meaning out.old) (O.meaning out.new) result }
+{
+    trace_moves(board, limit, limit, out)?;
+    Ok(ending(board))
+}
