@@ -1,16 +1,16 @@
 -- DMA cycles one after another.
-use Rattle.std.proofs.Common.{◌≡◌, ℕ, zero, suc, ◌+◌, ◌%◌, ◌<◌, ◌≤◌, true, false, refl, sym, ap, ◌∙◌, subst, arith, add-one}
+use Rattle.std.proofs.Common.{◌≡◌, ℕ, zero, suc, ◌+◌, ◌%◌, ◌<◌, ◌≤◌, true, false, refl, sym, ap, ◌∙◌, arith, add-one}
 use Rattle.std.proofs.Math.Bool.{◌&&◌}
 use Rattle.std.specs.Prelude.{Some}
 use Rattle.std.proofs.lemmas.Bool.Decides.{nat_tests}
 use Rattle.machine.specs.Board.{Machine, case_of, dma_byte}
-use Rattle.machine.specs.Board.Case.{Dma as DmaCase}
+use Rattle.machine.specs.Board.Case.{Dma as DmaCase, Instruction as InstructionCase}
 use Rattle.machine.specs.Signals.{line_cycles, int_at, dma_at}
 use Rattle.machine.proofs.Moves.{case_dma, move_in}
 use Rattle.vip_cpu.specs.declared.cpu.Phase.TheVariants.{Boundary}
 use Rattle.vip_cpu.specs.declared.cpu.Did.TheVariants.{Dma}
 use Rattle.vip_board.specs.Seen.{Seen, cycle_of, cycled, held_by}
-use Rattle.vip_board.specs.Moves.{moved, moved_by, Scans}
+use Rattle.vip_board.specs.Moves.{moved, moved_by, Aside}
 use Rattle.vip_board.proofs.Cases.{at_rest, rests, dma-move, moved-in}
 use Rattle.vip_board.proofs.Shown.{case-is}
 use Rattle.vip_video.specs.Chip.{Pictures, drawn}
@@ -80,3 +80,14 @@ same-count s e =
     let column : b.cycle % line_cycles < 10 = grind (arith, nat_tests, d) in
     ap (λ (x : Seen). x.pictures.count) (moved-in s.rom s.script b s.pictures DmaCase e)
     ∙ ap (λ (p : Pictures). p.count) (passes (b.cycle + 1) (drawn b.cycle b.on (Some (dma_byte s.rom b)) s.pictures) (λ h. omega (arith, h, column)))
+
+pub scanned-aside : (s : Seen) (count : ℕ) → ((k : ℕ) → k < count → dma_at (s.machine.cycle + k) s.machine.on ≡ true) → (n : ℕ) → n ≤ count → Aside n s
+scanned-aside s count dma n l k some below =
+    (λ starts. not_both (sym (case-here s count dma k (omega (arith, l, below))) ∙ starts), counts k (omega (arith, l, below)))
+  where
+    not_both : DmaCase ≡ InstructionCase → ⊥
+    not_both e = cc
+
+    counts : (k : ℕ) → k ≤ count → (moved_by k s).pictures.count ≡ s.pictures.count
+    counts zero l = refl
+    counts (suc k) l = same-count (moved_by k s) (case-here s count dma k (omega (arith, l))) ∙ counts k (omega (arith, l))

@@ -1,5 +1,5 @@
 -- How a move is named, what it makes of the board, and what an answer says.
-use Rattle.std.specs.Prelude.{◌≡◌, ◌<◌, ◌≤◌, ℕ, zero, suc, ◌+◌, Bool, List, Option, Some, None}
+use Rattle.std.specs.Prelude.{◌≡◌, ◌⊎◌, ◌<◌, ℕ, zero, suc, ◌+◌, Bool, List, Option, Some, None}
 use Rattle.machine.specs.Instruction.{at}
 use Rattle.machine.specs.Board.{Machine, Case, case_of, length_of, dma_byte, move}
 use Rattle.machine.specs.Board.Case.{Dma as DmaCase, Interrupt as InterruptCase, Idle as IdleCase, Instruction as InstructionCase}
@@ -48,9 +48,19 @@ abbrev pub moved_by : ℕ → Seen → Seen
 moved_by zero s = s
 moved_by (suc n) s = moved (moved_by n s)
 
--- so many moves, if any, are DMA cycles, and so is the one behind them
-abbrev pub Scans : ℕ → Seen → Type 0
-Scans n s = 0 < n → (k : ℕ) → k ≤ n → case_of (moved_by k s).machine ≡ DmaCase
+-- behind each of so many moves but the last, no instruction comes next, and no picture was finished
+abbrev pub Aside : ℕ → Seen → Type 0
+Aside n s =
+    (k : ℕ) → 0 < k → k < n → (StartsInstruction (moved_by k s).machine → ⊥) × ((moved_by k s).pictures.count ≡ s.pictures.count)
+
+-- the next opcode has one of two addresses
+abbrev pub StandsAt : ℕ × ℕ → Machine → Type 0
+StandsAt stops b = (at b.regs b.regs.p ≡ stops.0) ⊎ (at b.regs b.regs.p ≡ stops.1)
+
+-- From board s on to v no picture was finished, and at v no instruction with one of two addresses comes next.
+pub record Passes (stops : ℕ × ℕ) (s v : Seen) : Type 0 where
+  pub count : v.pictures.count ≡ s.pictures.count
+  pub apart : StartsInstruction v.machine → StandsAt stops v.machine → ⊥
 
 abbrev pub IfDone : Moved → (Move → Type 0) → Type 0
 IfDone (Done m) P = P m

@@ -236,7 +236,7 @@ impl Board {
 
 impl Board {
     ghost use Rattle.machine.specs.Board.{length_of};
-    ghost use Rattle.vip_board.specs.Moves.{name_of, moved, moved_by, IfDone, Scans, StartsInstruction};
+    ghost use Rattle.vip_board.specs.Moves.{name_of, moved, moved_by, IfDone, StartsInstruction, Aside, StandsAt, Passes};
 
     /// Whether the next move is an instruction. The board is at a boundary.
     pub fn next_is_instruction(&self) -> bool
@@ -331,23 +331,62 @@ impl Board {
         Moved::Done(self.make(requests, length))
     }
 
-    /// Makes the DMA cycles that come next in the raster line but for the last one, as far as they end at or before cycle `limit`, and
-    /// answers how many. The board is at a boundary, before and after. Where it made one, the next move is a DMA cycle too.
+    /// Makes the next move where it is an instruction that ends at or before cycle `limit`, and the video chip is known to have nothing to
+    /// do but count in its cycles before the last one. Answers whether it did. The board is at a boundary, before and after.
     #[inline(always)]
-    pub fn scan(&mut self, limit: u64) -> u64
+    fn instruct(&mut self, limit: u64) -> bool
+        requires { self.old.phase ≡ Phase.Boundary }
+        ensures moved { IsTrue result → self.new ≡ moved self.old }
+        ensures within { IsTrue result → self.new.machine.cycle ≤ limit }
+        ensures kept { result ≡ false → self.new ≡ self.old }
+    {
+        if self.cpu.idle() {
+            return false;
+        }
+        let opcode = self.wires.read(self.counter());
+        let length = u64::from(cycles(opcode));
+        if length > limit || self.now() > limit - length || !self.wires.video.pass(length - 1) {
+            return false;
+        }
+        self.cpu.fetch(opcode);
+        self.go_on();
+        true
+    }
+
+    /// Makes the idle cycles that come next, as far as they end at or before cycle `limit` and the video chip is known to have nothing to
+    /// do in them but count, and answers how many.
+    #[inline(always)]
+    fn rest(&mut self, limit: u64) -> u64
         requires { self.old.phase ≡ Phase.Boundary }
         ensures moved { self.new ≡ moved_by result self.old }
-        ensures dma { Scans result self.old }
+        ensures aside { Aside result self.old }
         ensures within { 0 < result → self.new.machine.cycle ≤ limit }
-        ensures few { result ≤ limit }
     {
-        if !self.requests().dma {
+        if !self.cpu.idle() {
             return 0;
         }
-        let ahead = self.wires.video.dma_ahead();
-        let count = ahead
-            .saturating_sub(1)
+        let count = self
+            .wires
+            .video
+            .quiet_ahead()
             .min(limit.saturating_sub(self.now()));
+        if self.wires.video.pass(count) {
+            count
+        } else {
+            0
+        }
+    }
+
+    /// Makes the DMA cycles that come next in the raster line, as far as they end at or before cycle `limit`, and answers how many.
+    #[inline(always)]
+    fn scan(&mut self, limit: u64) -> u64
+        requires { self.old.phase ≡ Phase.Boundary }
+        ensures moved { self.new ≡ moved_by result self.old }
+        ensures aside { Aside result self.old }
+        ensures within { 0 < result → self.new.machine.cycle ≤ limit }
+    {
+        let ahead = self.wires.video.dma_ahead();
+        let count = ahead.min(limit.saturating_sub(self.now()));
         for _cycle in 0..count {
             self.begin(Requests {
                 int: false,
@@ -355,6 +394,65 @@ impl Board {
             });
         }
         count
+    }
+
+    /// Makes one move, or some where none before the last leads to an instruction or finishes a picture; or none where the next one would
+    /// end after cycle `limit`. Answers how many.
+    #[inline(always)]
+    fn some(&mut self, limit: u64) -> u64
+        requires { self.old.phase ≡ Phase.Boundary }
+        ensures moved { self.new ≡ moved_by result self.old }
+        ensures aside { Aside result self.old }
+        ensures none { result ≡ 0 → limit < self.old.machine.cycle + length_of self.old.rom self.old.machine }
+        ensures within { 0 < result → self.new.machine.cycle ≤ limit }
+    {
+        self.look_ahead();
+        if self.instruct(limit) {
+            return 1;
+        }
+        let rested = self.rest(limit);
+        if rested > 0 {
+            return rested;
+        }
+        let scanned = self.scan(limit);
+        if scanned > 0 {
+            return scanned;
+        }
+        match self.to_boundary(limit) {
+            Moved::End => 0,
+            Moved::Done(_) => 1,
+        }
+    }
+
+    /// Whether the next opcode has one of two addresses.
+    #[inline(always)]
+    fn stands_at(&self, stops: (u16, u16)) -> bool
+        ensures { IsTrue result ↔ StandsAt stops self.now.machine }
+    {
+        let address = self.counter();
+        address == stops.0 || address == stops.1
+    }
+
+    /// Makes moves up to the first one behind which the next opcode has one of two addresses, or which finishes a picture; fewer where the
+    /// next one would end after cycle `limit`. Answers how many. The board is at a boundary, before and after.
+    #[inline(always)]
+    pub fn run(&mut self, limit: u64, stops: (u16, u16)) -> u64
+        requires { self.old.phase ≡ Phase.Boundary }
+        ensures moved { self.new ≡ moved_by result self.old }
+        ensures passes { (k : ℕ) → 0 < k → k < result → Passes stops self.old (moved_by k self.old) }
+        ensures none { result ≡ 0 → limit < self.old.machine.cycle + length_of self.old.rom self.old.machine }
+        ensures within { 0 < result → self.new.machine.cycle ≤ limit }
+        ensures few { result ≤ limit }
+    {
+        let pictures = self.wires.video.count();
+        let mut made = 0;
+        loop {
+            let some = self.some(limit);
+            made += some;
+            if some == 0 || self.stands_at(stops) || self.wires.video.count() != pictures {
+                return made;
+            }
+        }
     }
 }
 

@@ -2,7 +2,7 @@
 
 ghost use Rattle.std.specs.Prelude.{◌≡◌, ◌<◌, ◌↔◌, ℕ, IsTrue};
 ghost use Rattle.machine.specs.Bank.{get, word_of};
-ghost use Rattle.machine.specs.Instruction.{at, regs_after_reset};
+ghost use Rattle.machine.specs.Instruction.{at, stepped, regs_after_reset};
 ghost use Rattle.machine.specs.Ranges.{FitsRegs};
 ghost use Rattle.vip_cpu.specs.Acts.{Acts};
 ghost use Rattle.vip_cpu.specs.Bit.{bit};
@@ -124,6 +124,15 @@ impl Cpu {
         self.registers.increment(self.registers.p());
         self.phase = Phase::Middle(opcode, cycles(opcode) - 1);
         Did::Fetch
+    }
+
+    /// All cycles of an instruction but for the last one, at a boundary. `opcode` is the byte that R(P) points to.
+    #[inline(always)]
+    pub fn fetch(&mut self, opcode: u8)
+        ensures { self.new ≡ record { regs = stepped self.old.regs self.old.regs.p; phase = Phase.Middle opcode 1 } }
+    {
+        self.registers.increment(self.registers.p());
+        self.phase = Phase::Middle(opcode, 1);
     }
 
     /// The last cycle of an instruction. Answers the byte that INP took from the bus, and 0 for all other instructions.

@@ -14,7 +14,7 @@ use Rattle.vip_relation.specs.State.{VipState, interpreter, events_to, events_le
 use Rattle.vip_relation.specs.Stops.{stop_record}
 use Rattle.vip_relation.specs.Follows.{Follows}
 use Rattle.vip_relation.specs.Meets.{IsSame, MeetsOne, TellsSame, MeetsNext, HasStopped, MovesOn}
-use Rattle.vip_relation.specs.Parts.{MeetsFirst, MeetsAll, Scans, Steps}
+use Rattle.vip_relation.specs.Parts.{MeetsFirst, MeetsAll, Passes, Runs, Steps}
 use Rattle.vip_relation.specs.declared.vip.Met.{Met}
 use Rattle.vip_relation.specs.declared.vip.Met.TheVariants.{Picture as PictureMet, Dispatch as DispatchMet, Stopped as StoppedMet, End}
 use Rattle.vip_relation.proofs.Steps.{none-left, all-moves, none-before, moves-before, others-to}
@@ -30,7 +30,7 @@ pub record Reaches (limit : ℕ) (entry v : VipState) : Type 0 where
   pub goes_on : HasStopped v → ⊥
   pub follows : Follows v
 
-pub reaches-next : (limit : ℕ) (entry v w : VipState) (name : Move) → Reaches limit entry v → Steps v w name → w.board.machine.cycle ≤ limit → Follows w → Reaches limit entry w
+reaches-next : (limit : ℕ) (entry v w : VipState) (name : Move) → Reaches limit entry v → Steps v w name → w.board.machine.cycle ≤ limit → Follows w → Reaches limit entry w
 reaches-next limit entry v w name r s within follows =
     record {
       same =
@@ -44,8 +44,8 @@ reaches-next limit entry v w name r s within follows =
       follows = follows;
     }
 
-pub reaches-scan : (limit : ℕ) (entry v w : VipState) → Reaches limit entry v → Scans limit v w → Follows w → Reaches limit entry w
-reaches-scan limit entry v w r s follows =
+reaches-passes : (limit : ℕ) (entry v w : VipState) → Reaches limit entry v → Passes limit v w → Follows w → Reaches limit entry w
+reaches-passes limit entry v w r s follows =
     record {
       same = s.state ∙ ap (λ (x : VipState). record x { moves = w.moves; board = w.board }) r.same;
       script = s.script ∙ r.script;
@@ -57,6 +57,10 @@ reaches-scan limit entry v w r s follows =
   where
     not_both : (b : Bool) → b ≡ true → b ≡ false → ⊥
     not_both b h g = cc
+
+pub reaches-run : (limit : ℕ) (entry v w : VipState) → Reaches limit entry v → Runs limit v w → Follows w → Reaches limit entry w
+reaches-run limit entry v w r s follows =
+    reaches-next limit entry s.middle w s.name (reaches-passes limit entry v s.middle r s.passes s.follows) s.steps s.within follows
 
 -- ---- what is said of v is said of the entry
 

@@ -5,6 +5,6 @@ pub mod Reading
 mod Advances
 mod Closing
 pub mod Waits
-pub mod Scanning
+pub mod Passing
 pub mod Nexts
 pub mod Sizes

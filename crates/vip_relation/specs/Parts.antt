@@ -3,6 +3,7 @@ use Rattle.std.specs.Prelude.{◌≡◌, ℕ, ◌+◌, ◌<◌, ◌≤◌, false
 use Rattle.chip8_lang.specs.Events.{is_stop}
 use Rattle.vip_board.specs.Moves.{moved, name_of}
 use Rattle.vip_board.specs.declared.board.Move.{Move}
+use Rattle.vip_relation.specs.Follows.{Follows}
 use Rattle.vip_relation.specs.State.{VipState, interpreter, events_left, events_waiting}
 use Rattle.vip_relation.specs.Meets.{IsSame, MeetsNext, HasStopped}
 use Rattle.vip_relation.specs.declared.vip.Met.{Met}
@@ -34,8 +35,8 @@ pub record Steps (old new : VipState) (name : Move) : Type 0 where
   pub later : old.board.machine.cycle < new.board.machine.cycle
   pub goes_on : HasStopped new → ⊥
 
--- the board made DMA cycles, behind none of which an event waits
-pub record Scans (limit : ℕ) (old new : VipState) : Type 0 where
+-- the board made moves, behind none of which an event waits
+pub record Passes (limit : ℕ) (old new : VipState) : Type 0 where
   pub state : new ≡ record old { moves = new.moves; board = new.board }
   pub script : new.board.script ≡ old.board.script
   pub moves : old.moves ≤ new.moves
@@ -43,3 +44,12 @@ pub record Scans (limit : ℕ) (old new : VipState) : Type 0 where
   pub within : old.board.machine.cycle ≤ limit → new.board.machine.cycle ≤ limit
   pub met : events_waiting new ≡ []
   pub runs : is_stop (interpreter new) new.board.machine ≡ false
+
+-- the board made such moves, and one more within the limit
+pub record Runs (limit : ℕ) (old new : VipState) : Type 0 where
+  pub middle : VipState
+  pub passes : Passes limit old middle
+  pub follows : Follows middle
+  pub name : Move
+  pub steps : Steps middle new name
+  pub within : new.board.machine.cycle ≤ limit

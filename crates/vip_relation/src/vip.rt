@@ -69,7 +69,7 @@ impl Vip {
     ghost use Rattle.vip_relation.specs.Stops.{stop_record};
     ghost use Rattle.vip_relation.specs.Follows.{Follows};
     ghost use Rattle.vip_relation.specs.Meets.{StartAnswers, MeetsNext, HasStopped, StopsAgain, Rests, MovesOn};
-    ghost use Rattle.vip_relation.specs.Parts.{MeetsHere, MeetsAll, Scans, Steps};
+    ghost use Rattle.vip_relation.specs.Parts.{MeetsHere, MeetsAll, Runs, Steps};
 
     /// A board after reset with the usual edition's ROM, a game in its memory and a key script.
     pub fn start(alloc: Global, game: &[u8], script: &Script) -> Result<Vip, StartFault>
@@ -171,8 +171,7 @@ impl Vip {
             if let Some(met) = self.meet() {
                 return met;
             }
-            self.scan(limit);
-            if let Moved::End = self.step(limit) {
+            if !self.run(limit) {
                 return Met::End;
             }
         }
@@ -270,18 +269,28 @@ impl Vip {
         while self.meet().is_some() {}
     }
 
-    /// Makes the DMA cycles that come next, as the board's `scan` does. No event waits here nor behind any of them, and the board is at no
-    /// stop point.
+    /// Makes moves up to the first one behind which an event may wait, fewer where the next one would end after the limit, and answers
+    /// whether it made any. No event waits, and the board is at no stop point.
     #[inline(always)]
-    fn scan(&mut self, limit: u64)
+    fn run(&mut self, limit: u64) -> bool
         requires limit { limit ≤ most_cycles }
         requires met { events_waiting self.old ≡ [] }
         requires runs { is_stop (interpreter self.old) self.old.board.machine ≡ false }
         ensures follows { Follows self.new }
-        ensures scans { Scans limit self.old self.new }
+        ensures end { result ≡ false → limit < self.old.board.machine.cycle + length_of self.old.board.rom self.old.board.machine }
+        ensures kept { result ≡ false → self.new ≡ self.old }
+        ensures moved { IsTrue result → Runs limit self.old self.new }
     {
-        let made = self.board.scan(limit);
+        let places = Places::of(self.edition);
+        let pictures = self.board.video().count();
+        let made = self.board.run(limit, (places.fetch, places.halt));
+        if made == 0 {
+            return false;
+        }
         self.moves += made;
+        self.point = point_at(self.edition, &self.board);
+        self.waits = waits_by(pictures, self.board.video().count());
+        true
     }
 
     /// Makes one move, which leads to a new state whose events wait, or changes nothing where it would end after the limit. No event waits,

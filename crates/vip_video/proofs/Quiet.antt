@@ -1,14 +1,12 @@
 -- Quiet cycles: the chip counts, and nothing else changes.
-use Rattle.std.proofs.Common.{◌≡◌, ◌≢◌, ◌+◌, ◌-◌, ◌*◌, ◌%◌, ◌<◌, ◌≤◌, ℕ, Bool, true, false, ap, sym, ◌∙◌, refl, subst, arith}
+use Rattle.std.proofs.Common.{◌≡◌, ◌≢◌, ◌+◌, ◌-◌, ◌*◌, ◌%◌, ◌<◌, ℕ, zero, suc, Bool, true, false, ap, sym, ◌∙◌, refl, subst, arith}
 use Rattle.std.specs.Prelude.{Option, Some, None, ◌&&◌, IsSome, IsTrue}
 use Rattle.std.proofs.lemmas.Bool.{ne_eqb}
-use Rattle.machine.specs.Signals.{line_cycles, window_end_line, line_of, dma_at, int_at}
+use Rattle.machine.specs.Signals.{line_cycles, window_end_line, dma_at, int_at}
 use Rattle.machine.specs.Pictures.{frame}
-use Rattle.vip_video.specs.Chip.{Chip, Pictures, begins_frame, follows_window, drawn, passed, scanned, ended}
+use Rattle.vip_video.specs.Chip.{Chip, Pictures, begins_frame, follows_window, passed, scanned, ended}
 use Rattle.vip_video.specs.Kept.{HasRoom}
-use Rattle.vip_video.specs.Place.{frame_place}
-use Rattle.vip_video.specs.Quiet.{HasNoRequest, IsQuiet, AreQuiet}
-use Rattle.vip_video.specs.declared.place.Place.{Place}
+use Rattle.vip_video.specs.Quiet.{HasNothing, IsQuiet, AreQuiet}
 use Rattle.vip_video.proofs.Room.{room-passed}
 
 and-true : (x : Bool) → (x && true) ≡ x
@@ -22,26 +20,14 @@ passes t p h =
     let window_goes_on : follows_window t ≡ false = ne_eqb (t % frame) (window_end_line * line_cycles) (λ e. h (omega (arith, e))) in
     rw (frame_goes_on, window_goes_on)
 
-same-pictures : (t : ℕ) (p : Pictures) → (t + 1) % line_cycles ≢ 0 → scanned t true None p ≡ p
-same-pictures t p h = passes (t + 1) (drawn t true None p) h ∙ ap (λ s. record p { shown = s }) (and-true p.shown)
+same-pictures : (t : ℕ) (p : Pictures) → HasNothing t → scanned t true None p ≡ p
+same-pictures t p h = rw (h.frame, h.window) (ap (λ s. record p { shown = s }) (and-true p.shown))
 
--- so many cycles on in the same line
-pub place-on : (t n : ℕ) → t % line_cycles + n < line_cycles → frame_place (t + n) ≡ record { line = line_of t; column = t % line_cycles + n }
-place-on t n h =
-    let line : line_of (t + n) ≡ line_of t = omega (arith, h) in
-    let column : (t + n) % line_cycles ≡ t % line_cycles + n = omega (arith, h) in
-    λ i. record { line = line i; column = column i }
-
-pub quiet-ahead : (t n : ℕ) (on cycle_on : Bool) → on ≡ true → cycle_on ≡ true → t % line_cycles + n < line_cycles → ((k : ℕ) → k < n → HasNoRequest (t + k))
-    → AreQuiet on cycle_on t (t + n)
-quiet-ahead t n on cycle_on is_on is_cycle_on within none u from to =
+pub quiet-ahead : (t n : ℕ) (on cycle_on : Bool) → on ≡ true → cycle_on ≡ true → ((k : ℕ) → k < n → HasNothing (t + k)) → AreQuiet on cycle_on t (t + n)
+quiet-ahead t n on cycle_on is_on is_cycle_on none u from to =
     let here : t + (u - t) ≡ u = omega (arith, from) in
-    record {
-      on = is_on;
-      cycle_on = is_cycle_on;
-      requests = subst HasNoRequest here (none (u - t) (omega (arith, from, to)));
-      pictures = λ p. same-pictures u p (λ e. omega (arith, e, from, to, within));
-    }
+    let nothing : HasNothing u = subst HasNothing here (none (u - t) (omega (arith, from, to))) in
+    record { on = is_on; cycle_on = is_cycle_on; requests = nothing; pictures = λ p. same-pictures u p nothing }
 
 -- ---- what holds of a quiet cycle
 
@@ -66,3 +52,9 @@ quiet-ended t false cycle_on byte p q wanted = absurd (both false q.on refl)
 
 pub quiet-room : (t : ℕ) (on cycle_on : Bool) (p : Pictures) → IsQuiet on cycle_on t → HasRoom t p.lines → HasRoom (t + 1) p.lines
 quiet-room t on cycle_on p q r = subst (λ (x : Pictures). HasRoom (t + 1) x.lines) (q.pictures p) (room-passed t true None p r (λ s. cc))
+
+pub quiet-rooms : (n t : ℕ) (on cycle_on : Bool) (p : Pictures) → ((k : ℕ) → k < n → IsQuiet on cycle_on (t + k)) → HasRoom t p.lines → HasRoom (t + n) p.lines
+quiet-rooms zero t on cycle_on p q r = subst (λ u. HasRoom u p.lines) (omega arith) r
+quiet-rooms (suc n) t on cycle_on p q r =
+    subst (λ u. HasRoom u p.lines) (omega arith)
+    (quiet-room (t + n) on cycle_on p (q n (omega arith)) (quiet-rooms n t on cycle_on p (λ k l. q k (omega (arith, l))) r))

@@ -1,9 +1,9 @@
 //! A place in the frame, and the signals there. The exact places are this project's profile.
 
-ghost use Rattle.std.specs.Prelude.{◌≡◌, ◌+◌, ◌%◌, ◌<◌, ℕ};
-ghost use Rattle.machine.specs.Signals.{line_cycles, int_at, dma_at, efx_at};
+ghost use Rattle.std.specs.Prelude.{◌≡◌, ◌+◌, ◌≤◌, ◌<◌, ℕ};
+ghost use Rattle.machine.specs.Signals.{window_line, window_end_line, int_at, dma_at, efx_at};
 ghost use Rattle.vip_video.specs.Place.{frame_place};
-ghost use Rattle.vip_video.specs.Quiet.{HasNoRequest, RequestsDma};
+ghost use Rattle.vip_video.specs.Quiet.{HasNothing, RequestsDma};
 ghost use Rattle.vip_video.specs.Chip.{needs_display};
 
 /// The machine cycles of a raster line.
@@ -11,6 +11,11 @@ pub const LINE_CYCLES: u64 = 14;
 
 /// The raster lines of a frame.
 pub const FRAME_LINES: u64 = 262;
+
+// The same, as places count them.
+const LINE: u16 = LINE_CYCLES as u16;
+
+const FRAME: u16 = FRAME_LINES as u16;
 
 /// The first line of the interrupt request.
 pub const INTERRUPT_LINE: u16 = 78;
@@ -22,7 +27,7 @@ pub const WINDOW_LINE: u16 = 80;
 pub const WINDOW_END_LINE: u16 = 208;
 
 // The last line of a frame, and the last machine cycle of a line.
-const LAST_LINE: u16 = FRAME_LINES as u16 - 1;
+const LAST_LINE: u16 = FRAME - 1;
 
 const LAST_COLUMN: u8 = LINE_CYCLES as u8 - 1;
 
@@ -120,20 +125,40 @@ impl Place {
         }
     }
 
-    /// How many cycles from here on have no request, whatever the switch, and don't end their line. It may miss some.
-    pub fn quiet(&self) -> u8
-        ensures within { (t : ℕ) → self.now ≡ frame_place t → t % line_cycles + result < line_cycles }
-        ensures quiet { (t : ℕ) → self.now ≡ frame_place t → (k : ℕ) → k < result → HasNoRequest (t + k) }
+    /// How many cycles from here on have no request, whatever the switch, and begin no frame and end no window behind them. It may miss
+    /// some.
+    pub fn quiet(&self) -> u16
+        ensures { (t : ℕ) → self.now ≡ frame_place t → (k : ℕ) → k < result → HasNothing (t + k) }
     {
         let line = self.line;
-        let column = self.column;
-        let is_in_window = WINDOW_LINE <= line && line < WINDOW_END_LINE;
-        if INTERRUPT_LINE <= line && line < WINDOW_LINE {
+        let column = u16::from(self.column);
+        if line < INTERRUPT_LINE {
+            ((INTERRUPT_LINE - line) * LINE).saturating_sub(column)
+        } else if line < WINDOW_LINE {
             0
-        } else if is_in_window && column < DMA_END_COLUMN {
-            DMA_COLUMN.saturating_sub(column)
+        } else if line < WINDOW_END_LINE {
+            self.quiet_in_window()
         } else {
-            LAST_COLUMN.saturating_sub(column)
+            (FRAME.saturating_sub(line) * LINE).saturating_sub(column + 1)
+        }
+    }
+
+    /// The same in the window: from the DMA cycles of a line up to those of the next one.
+    fn quiet_in_window(&self) -> u16
+        requires from { window_line ≤ self.now.line }
+        requires to { self.now.line < window_end_line }
+        ensures { (t : ℕ) → self.now ≡ frame_place t → (k : ℕ) → k < result → HasNothing (t + k) }
+    {
+        let column = u16::from(self.column);
+        let first = u16::from(DMA_COLUMN);
+        if column < first {
+            first - column
+        } else if self.column < DMA_END_COLUMN {
+            0
+        } else if self.line < WINDOW_END_LINE - 1 {
+            (LINE + first).saturating_sub(column)
+        } else {
+            (LINE - 1).saturating_sub(column)
         }
     }
 

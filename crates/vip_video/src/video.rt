@@ -4,6 +4,7 @@ ghost use Rattle.std.specs.Prelude.{◌≡◌, ◌+◌, ◌<◌, ◌^◌, ◌↔
 ghost use Rattle.std.specs.Option.{option_map};
 ghost use Rattle.machine.specs.Signals.{int_at, dma_at, efx_at};
 ghost use Rattle.vip_video.specs.Chip.{at_start, at_cycle, ended};
+ghost use Rattle.vip_video.specs.Quiet.{IsQuiet};
 
 use crate::buffer::Picture;
 use crate::place::{FRAME_LINES, INTERRUPT_LINE, LINE_CYCLES, Place, Requests, Signals};
@@ -116,8 +117,30 @@ impl Video {
         let quiet = self.place.quiet();
         if let Some(quiet_to) = self.cycles.checked_add(u64::from(quiet)) {
             self.quiet_to = quiet_to;
-            self.place.column += quiet;
+            self.place = Place::of(quiet_to);
         }
+    }
+
+    /// How many cycles from the present one on are known to have nothing for the chip to do but count.
+    #[inline(always)]
+    pub fn quiet_ahead(&self) -> u64
+        ensures { (k : ℕ) → k < result → IsQuiet self.now.on self.now.cycle_on (self.now.cycles + k) }
+    {
+        self.quiet_to - self.cycles
+    }
+
+    /// Ends so many cycles at once where each of them is known to have nothing for the chip to do but count, and answers whether it did.
+    #[inline(always)]
+    pub fn pass(&mut self, count: u64) -> bool
+        ensures quiet { IsTrue result → (k : ℕ) → k < count → IsQuiet self.old.on self.old.cycle_on (self.old.cycles + k) }
+        ensures passed { IsTrue result → self.new ≡ record self.old { cycles = self.old.cycles + count } }
+        ensures kept { result ≡ false → self.new ≡ self.old }
+    {
+        if self.quiet_to - self.cycles < count {
+            return false;
+        }
+        self.cycles += count;
+        true
     }
 
     /// How many DMA cycles the chip requests from the present cycle on, one after another, if the display stays as it is.

@@ -1,8 +1,6 @@
-use Rattle.std.proofs.Common.{◌≡◌, ◌∙◌, sym, subst, ap}
-use Rattle.std.specs.Prelude.{IsSome}
-use Rattle.machine.specs.Signals.{dma_at}
-use Rattle.vip_board.specs.Seen.{Seen, cycled}
-use Rattle.vip_board.proofs.Calls.{begun-byte, begun-made, seen_after}
+use Rattle.std.proofs.Common.{◌∙◌, ap}
+use Rattle.vip_board.specs.Seen.{cycled}
+use Rattle.vip_board.proofs.Calls.{begun-made, seen_after}
 use Rattle.vip_board.proofs.board.Board.begin.Goals as goal
 
 pub returns-clause-board : goal.returns-clause-board

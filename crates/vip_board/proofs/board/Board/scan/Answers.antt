@@ -1,7 +1,7 @@
 use Rattle.std.proofs.Common.{◌≡◌, ◌+◌, ◌<◌, ◌≤◌, ℕ, true, false, ◌∙◌, sym, subst, arith}
 use Rattle.machine.specs.Signals.{dma_at, int_at}
 use Rattle.vip_board.specs.Seen.{Seen}
-use Rattle.vip_board.proofs.Scans.{ready, along, case-here}
+use Rattle.vip_board.proofs.Scans.{ready, along, scanned-aside}
 use Rattle.vip_board.proofs.board.Board.scan.Goals as goal
 
 -- what the video chip says of the cycles ahead, said of the board
@@ -25,7 +25,7 @@ begin-requires-clause-fits c =
     let r =
     ready c.args.self.now c.loop-cycle.self c.dma_ahead-ahead.result c.loop-cycle._cycle c.requires (int-of _ _ _ c.self.view_is c.dma_ahead-ahead.ensures.int)
     (dma-of _ _ _ c.self.view_is c.dma_ahead-ahead.ensures.dma) (omega (arith, c.loop-cycle-test.true, c.min-count.ensures, c.saturating_sub.ensures)) c.loop-cycle.invariant in
-    omega (arith, r.cycle, c.loop-cycle-test.true, c.min-count.ensures, c.saturating_sub-2.ensures, c.now.ensures, c.ranges.limit.fits)
+    omega (arith, r.cycle, c.loop-cycle-test.true, c.min-count.ensures, c.saturating_sub.ensures, c.now.ensures, c.ranges.limit.fits)
 
 pub begin-requires-clause-int : goal.begin-requires-clause-int
 begin-requires-clause-int c =
@@ -48,10 +48,10 @@ loop-cycle-preserved c =
     (dma-of _ _ _ c.self.view_is c.dma_ahead-ahead.ensures.dma) (omega (arith, c.loop-cycle-test.true, c.min-count.ensures, c.saturating_sub.ensures)) c.loop-cycle.invariant in
     c.begin.ensures.board ∙ r.next
 
-pub returns-clause-dma : goal.returns-clause-dma
-returns-clause-dma c some k l =
-    case-here c.args.self.now c.dma_ahead-ahead.result (dma-of _ _ _ c.self.view_is c.dma_ahead-ahead.ensures.dma) k
-    (omega (arith, some, l, c.min-count.ensures, c.saturating_sub.ensures))
+pub returns-clause-aside : goal.returns-clause-aside
+returns-clause-aside c =
+    scanned-aside c.args.self.now c.dma_ahead-ahead.result (dma-of _ _ _ c.self.view_is c.dma_ahead-ahead.ensures.dma) c.min-count.result
+    (omega (arith, c.min-count.ensures))
 
 pub returns-clause-within : goal.returns-clause-within
 returns-clause-within c some =
@@ -59,4 +59,4 @@ returns-clause-within c some =
     along c.args.self.now c.dma_ahead-ahead.result (dma-of _ _ _ c.self.view_is c.dma_ahead-ahead.ensures.dma) c.loop-cycle._cycle
     (omega (arith, c.loop-cycle.auto._cycle-end, c.min-count.ensures, c.saturating_sub.ensures)) in
     subst (λ (x : Seen). x.machine.cycle ≤ c.args.limit) (sym c.loop-cycle.invariant)
-    (omega (arith, some, a.cycle, c.loop-cycle.auto._cycle-end, c.min-count.ensures, c.saturating_sub-2.ensures, c.now.ensures))
+    (omega (arith, some, a.cycle, c.loop-cycle.auto._cycle-end, c.min-count.ensures, c.saturating_sub.ensures, c.now.ensures))

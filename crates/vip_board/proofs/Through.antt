@@ -1,0 +1,170 @@
+-- Moves that pass together.
+use Rattle.std.proofs.Common.{◌≡◌, ◌⊎◌, inl, inr, ℕ, zero, suc, ◌+◌, ◌-◌, ◌<◌, ◌≤◌, Bool, true, false, ◌&&◌, refl, sym, ap, ◌∙◌, subst, arith}
+use Rattle.std.specs.Prelude.{None}
+use Rattle.std.proofs.lemmas.Bool.{cases_lt}
+use Rattle.machine.specs.Opcodes.{cycles_of}
+use Rattle.machine.specs.Instruction.{at, stepped}
+use Rattle.machine.specs.Memory.{read}
+use Rattle.machine.specs.Board.{Machine, case_of, opcode_of}
+use Rattle.machine.specs.Board.Case.{Idle as IdleCase, Instruction as InstructionCase}
+use Rattle.machine.proofs.Moves.{case_idle}
+use Rattle.machine.proofs.Runs.{later-move}
+use Rattle.vip_cpu.specs.Cycle.{Processor}
+use Rattle.vip_cpu.specs.declared.cpu.Phase.TheVariants.{Boundary, Middle}
+use Rattle.vip_video.specs.Chip.{Chip, scanned}
+use Rattle.vip_video.specs.Quiet.{IsQuiet}
+use Rattle.vip_video.proofs.Quiet.{no-dma, no-int}
+use Rattle.vip_board.specs.Seen.{Seen, cycled, held_by}
+use Rattle.vip_board.specs.Moves.{moved, moved_by, Aside, Passes}
+use Rattle.vip_board.specs.Wired.{seen_of}
+use Rattle.vip_board.specs.declared.wires.Wires.{Wires}
+use Rattle.vip_board.proofs.Cases.{rests, moved-in}
+use Rattle.vip_board.proofs.Whole.{quiet-instruction}
+
+-- ---- one instruction
+
+pub instructed : (cpu : Processor) (w : Wires) (s : Seen) (n opcode : ℕ) (p : Processor) (chip : Chip) → seen_of cpu w ≡ s → s.phase ≡ Boundary
+    → cpu.regs.idle ≡ false → opcode ≡ read w.memory.rom w.memory.latch w.memory.ram (at s.machine.regs s.machine.regs.p) → n ≡ cycles_of opcode
+    → ((k : ℕ) → k < n - 1 → IsQuiet w.video.on w.video.cycle_on (w.video.cycles + k))
+    → chip ≡ record w.video { cycles = w.video.cycles + (n - 1) }
+    → p ≡ record { regs = stepped cpu.regs cpu.regs.p; phase = Middle opcode 1 }
+    → cycled (seen_of p (record w { video = chip })) ≡ moved s
+instructed cpu w s n opcode p chip view h awake op long quiet is_chip is_p =
+    let v = seen_of cpu w in
+    let phase : v.phase ≡ Boundary = ap (λ (x : Seen). x.phase) view ∙ h in
+    let same : opcode ≡ opcode_of v.rom v.machine =
+    op ∙ ap (read w.memory.rom w.memory.latch w.memory.ram) (sym (ap (λ (x : Seen). at x.machine.regs x.machine.regs.p) view)) in
+    rw (is_p, is_chip, same) (quiet-instruction v n w.video.cycle_on phase awake (long ∙ ap cycles_of same) quiet) ∙ ap moved view
+
+-- ---- idle cycles
+
+never : (ie : Bool) {x : Bool} → x ≡ false → (ie && x) ≡ false
+never true e = e
+never false e = refl
+
+idles : (b : Machine) (before : Bool) → b.regs.idle ≡ true → IsQuiet b.on before b.cycle → case_of b ≡ IdleCase
+idles b before idle q = case_idle b (no-dma b.cycle b.on before q) (never b.regs.ie (no-int b.cycle b.on before q)) idle
+
+-- so many cycles later
+abbrev pub later : Seen → ℕ → Seen
+later s n = record s { machine = record s.machine { cycle = s.machine.cycle + n } }
+
+idle_moved : (s : Seen) (before : Bool) → s.phase ≡ Boundary → s.machine.regs.idle ≡ true → IsQuiet s.machine.on before s.machine.cycle → moved s ≡ later s 1
+idle_moved s before h idle q =
+    let b = s.machine in
+    let same : scanned b.cycle b.on None s.pictures ≡ s.pictures = rw (q.on) (q.pictures s.pictures) in
+    ap moved (rests s h)
+    ∙ moved-in s.rom s.script b s.pictures IdleCase (idles b before idle q)
+    ∙ ap (λ p. record (later s 1) { phase = Boundary; pictures = p }) same
+    ∙ ap (λ p. record (later s 1) { phase = p }) (sym h)
+
+pub rested : (n : ℕ) (s : Seen) (before : Bool) → s.phase ≡ Boundary → s.machine.regs.idle ≡ true
+    → ((k : ℕ) → k < n → IsQuiet s.machine.on before (s.machine.cycle + k)) → moved_by n s ≡ later s n
+rested zero s before h idle quiet =
+    let same : s.machine.cycle ≡ s.machine.cycle + 0 = omega arith in
+    ap (λ t. record s { machine = record s.machine { cycle = t } }) same
+rested (suc n) s before h idle quiet =
+    let next : s.machine.cycle + n + 1 ≡ s.machine.cycle + suc n = omega arith in
+    ap moved (rested n s before h idle (λ k l. quiet k (omega (arith, l))))
+    ∙ idle_moved (later s n) before h idle (quiet n (omega arith))
+    ∙ ap (λ t. record s { machine = record s.machine { cycle = t } }) next
+
+pub rested-aside : (n : ℕ) (s : Seen) (before : Bool) → s.phase ≡ Boundary → s.machine.regs.idle ≡ true
+    → ((k : ℕ) → k < n → IsQuiet s.machine.on before (s.machine.cycle + k)) → Aside n s
+rested-aside n s before h idle quiet k some below =
+    let is = rested k s before h idle (λ j l. quiet j (omega (arith, l, below))) in
+    let case : case_of (moved_by k s).machine ≡ IdleCase =
+    ap (λ (x : Seen). case_of x.machine) is ∙ idles (later s k).machine before idle (quiet k below) in
+    (λ starts. not_both (sym case ∙ starts), ap (λ (x : Seen). x.pictures.count) is)
+  where
+    not_both : IdleCase ≡ InstructionCase → ⊥
+    not_both e = cc
+
+-- said of a board by its parts
+module _ (cpu : Processor) (w : Wires) (s : Seen) (view : seen_of cpu w ≡ s) (h : s.phase ≡ Boundary) (idle : cpu.regs.idle ≡ true) (n : ℕ)
+    (quiet : (k : ℕ) → k < n → IsQuiet w.video.on w.video.cycle_on (w.video.cycles + k)) where
+  phase : (seen_of cpu w).phase ≡ Boundary
+  phase = ap (λ (x : Seen). x.phase) view ∙ h
+
+  pub rested-by : (m : ℕ) (chip : Chip) → m ≡ n → chip ≡ record w.video { cycles = w.video.cycles + n }
+      → seen_of cpu (record w { video = chip }) ≡ moved_by m s
+  rested-by m chip size is =
+      ap (λ x. seen_of cpu (record w { video = x })) is
+      ∙ sym (rested n (seen_of cpu w) w.video.cycle_on phase idle quiet)
+      ∙ ap (moved_by n) view
+      ∙ ap (λ k. moved_by k s) (sym size)
+
+  pub aside-by : (m : ℕ) → m ≡ n → Aside m s
+  aside-by m size =
+      subst (Aside m) view (subst (λ j. Aside j (seen_of cpu w)) (sym size) (rested-aside n (seen_of cpu w) w.video.cycle_on phase idle quiet))
+
+-- ---- so many moves
+
+pub phase-by : (n : ℕ) (s : Seen) → (moved_by n s).phase ≡ s.phase
+phase-by zero s = refl
+phase-by (suc n) s = phase-by n s
+
+pub later-by : (n : ℕ) (s : Seen) → s.machine.cycle + n ≤ (moved_by n s).machine.cycle
+later-by zero s = omega arith
+later-by (suc n) s = let v = moved_by n s in omega (arith, later-by n s, later-move v.rom (held_by v) v.machine)
+
+-- no moves leave the board
+pub stays : (n : ℕ) (s v : Seen) → v ≡ moved_by n s → n ≤ 0 → v ≡ s
+stays zero s v e none = e
+stays (suc n) s v e none = absurd (omega (arith, none))
+
+more : (b a : ℕ) (s : Seen) → moved_by b (moved_by a s) ≡ moved_by (a + b) s
+more zero a s = let same : a ≡ a + 0 = omega arith in ap (λ k. moved_by k s) same
+more (suc b) a s = let next : suc (a + b) ≡ a + suc b = omega arith in ap moved (more b a s) ∙ ap (λ k. moved_by k s) next
+
+-- So many moves are made from an entry on, behind none of which but the last one the board has to be looked at.
+pub record Made (limit : ℕ) (stops : ℕ × ℕ) (entry v : Seen) (n : ℕ) : Type 0 where
+  pub moves : v ≡ moved_by n entry
+  pub passes : (k : ℕ) → 0 < k → k < n → Passes stops entry (moved_by k entry)
+  pub within : 0 < n → v.machine.cycle ≤ limit
+
+pub few-made : (limit : ℕ) (stops : ℕ × ℕ) (entry v : Seen) (n : ℕ) → Made limit stops entry v n → n ≤ limit
+few-made limit stops entry v zero made = omega arith
+few-made limit stops entry v (suc n) made =
+    let within : (moved_by (suc n) entry).machine.cycle ≤ limit = subst (λ (x : Seen). x.machine.cycle ≤ limit) made.moves (made.within (omega arith)) in
+    omega (arith, later-by (suc n) entry, within)
+
+module _ (limit : ℕ) (stops : ℕ × ℕ) (entry v w : Seen) (n m : ℕ) (made : Made limit stops entry v n) (here : 0 < n → Passes stops entry v)
+    (is : w ≡ moved_by m v) (aside : Aside m v) (in_time : 0 < m → w.machine.cycle ≤ limit) where
+  count : v.pictures.count ≡ entry.pictures.count
+  count = by_size (cases_lt 0 n)
+    where
+      by_size : (0 < n) ⊎ (n ≤ 0) → v.pictures.count ≡ entry.pictures.count
+      by_size (inl some) = (here some).count
+      by_size (inr l) = let none : n ≡ 0 = omega (arith, l) in ap (λ (x : Seen). x.pictures.count) (made.moves ∙ ap (λ k. moved_by k entry) none)
+
+  at_last : (k : ℕ) → k ≡ n → 0 < k → Passes stops entry (moved_by k entry)
+  at_last k e some =
+      subst (λ j. Passes stops entry (moved_by j entry)) (sym e) (subst (Passes stops entry) made.moves (here (omega (arith, some, e))))
+
+  behind : (j : ℕ) → 0 < j → j < m → Passes stops entry (moved_by (n + j) entry)
+  behind j some below =
+      let a = aside j some below in
+      subst (Passes stops entry) (ap (moved_by j) made.moves ∙ more j n entry)
+      (record { count = a.1 ∙ count; apart = λ starts stands. a.0 starts })
+
+  passes_on : (k : ℕ) → 0 < k → k < n + m → Passes stops entry (moved_by k entry)
+  passes_on k some below = by_place (cases_lt k n) (cases_lt n k)
+    where
+      by_place : (k < n) ⊎ (n ≤ k) → (n < k) ⊎ (k ≤ n) → Passes stops entry (moved_by k entry)
+      by_place (inl l) g = made.passes k some l
+      by_place (inr l) (inr g) = at_last k (omega (arith, l, g)) some
+      by_place (inr l) (inl g) =
+          let same : n + (k - n) ≡ k = omega (arith, g) in
+          subst (λ j. Passes stops entry (moved_by j entry)) same (behind (k - n) (omega (arith, g)) (omega (arith, g, below)))
+
+  within_on : 0 < n + m → w.machine.cycle ≤ limit
+  within_on some = by_size (cases_lt 0 m)
+    where
+      by_size : (0 < m) ⊎ (m ≤ 0) → w.machine.cycle ≤ limit
+      by_size (inl l) = in_time l
+      by_size (inr l) =
+          subst (λ (x : Seen). x.machine.cycle ≤ limit) (sym (stays m v w is l)) (made.within (omega (arith, some, l)))
+
+  pub made-more : Made limit stops entry w (n + m)
+  made-more = record { moves = is ∙ ap (moved_by m) made.moves ∙ more m n entry; passes = passes_on; within = within_on }

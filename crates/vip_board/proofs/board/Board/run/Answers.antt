@@ -1,0 +1,71 @@
+use Rattle.std.proofs.Common.{◌≡◌, ◌+◌, ◌<◌, ◌≤◌, ◌∙◌, ℕ, zero, suc, Bool, true, false, ap, sym, refl, subst, arith}
+use Rattle.std.specs.Prelude.{IsTrue}
+use Rattle.machine.specs.Board.{length_of}
+use Rattle.vip_board.specs.Seen.{Seen}
+use Rattle.vip_board.proofs.Through.{phase-by, later-by, stays, few-made, made-more}
+use Rattle.vip_board.proofs.board.Board.run.Goals as goal
+
+positive : (n : ℕ) → (n ≡ 0 → ⊥) → 0 < n
+positive zero h = absurd (h refl)
+positive (suc n) h = omega arith
+
+not_both : (b : Bool) → IsTrue b → b ≡ false → ⊥
+not_both true h e = cc
+not_both false h e = cc
+
+pub some-some-requires : goal.some-some-requires
+some-some-requires c = ap (λ (x : Seen). x.phase) c.loop-stops.invariant.made.moves ∙ phase-by c.loop-stops.made c.args.self.now ∙ c.requires
+
+pub overflow_add-made : goal.overflow_add-made
+overflow_add-made c =
+    let made =
+    made-more c.args.limit c.args.stops c.args.self.now c.loop-stops.self c.some-some.new.self c.loop-stops.made c.some-some.result
+    c.loop-stops.invariant.made c.loop-stops.invariant.here c.some-some.ensures.moved c.some-some.ensures.aside c.some-some.ensures.within in
+    omega (arith, few-made _ _ _ _ _ made, c.ranges.limit.fits)
+
+pub returns-then-some-eq0-clause-moved : goal.returns-then-some-eq0-clause-moved
+returns-then-some-eq0-clause-moved c =
+    (made-more c.args.limit c.args.stops c.args.self.now c.loop-stops.self c.some-some.new.self c.loop-stops.made c.some-some.result
+    c.loop-stops.invariant.made c.loop-stops.invariant.here c.some-some.ensures.moved c.some-some.ensures.aside c.some-some.ensures.within).moves
+
+pub returns-then-some-eq0-clause-passes : goal.returns-then-some-eq0-clause-passes
+returns-then-some-eq0-clause-passes c =
+    (made-more c.args.limit c.args.stops c.args.self.now c.loop-stops.self c.some-some.new.self c.loop-stops.made c.some-some.result
+    c.loop-stops.invariant.made c.loop-stops.invariant.here c.some-some.ensures.moved c.some-some.ensures.aside c.some-some.ensures.within).passes
+
+pub returns-then-some-eq0-clause-none : goal.returns-then-some-eq0-clause-none
+returns-then-some-eq0-clause-none c none =
+    subst (λ (x : Seen). c.args.limit < x.machine.cycle + length_of x.rom x.machine)
+    (stays c.loop-stops.made c.args.self.now c.loop-stops.self c.loop-stops.invariant.made.moves (omega (arith, none)))
+    (c.some-some.ensures.none (omega (arith, none)))
+
+pub returns-then-some-eq0-clause-few : goal.returns-then-some-eq0-clause-few
+returns-then-some-eq0-clause-few c =
+    few-made _ _ _ _ _
+    (made-more c.args.limit c.args.stops c.args.self.now c.loop-stops.self c.some-some.new.self c.loop-stops.made c.some-some.result
+    c.loop-stops.invariant.made c.loop-stops.invariant.here c.some-some.ensures.moved c.some-some.ensures.aside c.some-some.ensures.within)
+
+pub loop-stops-smaller : goal.loop-stops-smaller
+loop-stops-smaller c =
+    let some = positive c.some-some.result c.if-some-eq0.false in
+    let on : c.loop-stops.self.machine.cycle + c.some-some.result ≤ c.some-some.new.self.machine.cycle =
+    subst (λ (x : Seen). c.loop-stops.self.machine.cycle + c.some-some.result ≤ x.machine.cycle) (sym c.some-some.ensures.moved) (later-by c.some-some.result c.loop-stops.self) in
+    omega (arith, some, on, c.some-some.ensures.within some)
+
+pub loop-stops-preserved : goal.loop-stops-preserved
+loop-stops-preserved c =
+    record {
+      made =
+          made-more c.args.limit c.args.stops c.args.self.now c.loop-stops.self c.some-some.new.self c.loop-stops.made c.some-some.result
+          c.loop-stops.invariant.made c.loop-stops.invariant.here c.some-some.ensures.moved c.some-some.ensures.aside c.some-some.ensures.within;
+      here =
+          λ some. record {
+            count =
+                sym (ap (λ (x : Seen). x.pictures.count) c.self-in-loop-stops.view_is)
+                ∙ sym c.count.ensures
+                ∙ c.if-count-pictures.false
+                ∙ c.count-pictures.ensures
+                ∙ ap (λ (x : Seen). x.pictures.count) c.self.view_is;
+            apart = λ starts stands. not_both c.stands_at.result (c.stands_at.ensures.1 stands) c.if-stands_at.false;
+          };
+    }
