@@ -1,14 +1,16 @@
 -- Files read one after another.
-use Rattle.std.proofs.Common.{◌≡◌, ℕ, zero, suc, ◌+◌, ◌<◌, ◌≤◌, List, [], ◌∷◌, ◌++◌, length, map, take, drop, get_or, refl, ap, subst, add-one, arith, Option, Some, None, IfSome, IsSomeAnd, Err, Vec, Bool, true, false, slice_index, take_all, sym, ◌∙◌}
+use Rattle.std.proofs.Common.{◌≡◌, ◌⊎◌, inl, inr, append_assoc, ℕ, zero, suc, ◌+◌, ◌<◌, ◌≤◌, List, [], ◌∷◌, ◌++◌, length, map, take, drop, get_or, refl, ap, subst, add-one, arith, Option, Some, None, IfSome, IsSomeAnd, Err, Vec, Bool, true, false, slice_index, take_all, sym, ◌∙◌}
 use Rattle.std.specs.Prelude.{if◌then◌else◌}
+use Rattle.std.proofs.Math.Seq.{take-suc}
 use Rattle.std.proofs.lemmas.Bool.{ltb-false}
+use Rattle.std.proofs.lemmas.List.{take-map, map-append}
 use Rattle.std.specs.FinMap.{get}
-use Rattle.vip_outside.specs.Files.{FileMap, FilesMeaning, IsStartOf, ReadsStart}
+use Rattle.vip_outside.specs.Files.{FileMap, FilesMeaning, IsStartOf, ReadsStart, with_name}
 use Rattle.vip_outside.specs.declared.files.Loaded.{Loaded}
 use Rattle.vip_tools.specs.declared.files.Wanted.{Wanted}
 use Rattle.vip_report.specs.declared.refusal.Refusal.{Refusal}
-use Rattle.vip_report.specs.declared.refusal.Refusal.TheVariants.{Usage, Unread, TooLarge, Script, Command, Source, Rom, Certificate, Proof, NoCertificate, Write, NoMemory}
-use Rattle.vip_tools.specs.Files.{Needed, Has, HasAll, FitAll, ComesTo, FileAnswers, FilesAnswer, seen_wanted}
+use Rattle.vip_report.specs.declared.refusal.Refusal.TheVariants.{Usage, Unread, TooLarge, Script, Command, Source, Rom, Certificate, Proof, NoCertificate, NoMemory}
+use Rattle.vip_tools.specs.Files.{Needed, Has, HasAll, FitAll, ComesTo, FileAnswers, FilesAnswer, IsLarger, IsUnread, ReadsSome, names_of, seen_wanted, with_names}
 
 has-suc :
     (old : FilesMeaning) (ws : List Wanted) (k : ℕ) (d : Wanted) (cs : List (List ℕ)) (c : List ℕ) → k < length ws
@@ -20,13 +22,32 @@ has-suc old (w ∷ ws) zero d (y ∷ cs) c low had here = absurd had
 has-suc old (w ∷ ws) (suc k) d [] c low had here = absurd had
 has-suc old (w ∷ ws) (suc k) d (y ∷ cs) c low had here = (had.0, has-suc old ws k d cs c (omega (arith, low)) had.1 here)
 
--- one more file was read
-pub has-more :
-    (old here : FilesMeaning) (ws : List Wanted) (k : ℕ) (d : Wanted) (cs : List (List ℕ)) (c : List ℕ) → k < length ws
-    → HasAll old (map seen_wanted (take k ws)) cs → here ≡ old → Has here (seen_wanted (get_or ws k d)) c
-    → HasAll old (map seen_wanted (take (k + 1) ws)) (cs ++ c ∷ [])
-has-more old here ws k d cs c low had same read =
-    rw add-one (has-suc old ws k d cs c low had (subst (λ h. Has h (seen_wanted (get_or ws k d)) c) same read))
+-- the names of the files before one and its own, and what holds of it where others were read before
+module _ (old : FilesMeaning) where
+  abbrev read_to : List Wanted → ℕ → FilesMeaning
+  read_to ws k = with_names (map seen_wanted (take k ws)) old
+
+  -- the names of the first k + 1 files
+  names-more :
+      (ws : List Wanted) (k : ℕ) (d : Wanted) → k < length ws
+      → (old.names ++ names_of (map seen_wanted (take k ws))) ++ (get_or ws k d).name.now ∷ [] ≡ old.names ++ names_of (map seen_wanted (take (suc k) ws))
+  names-more ws k d low = rw (take-suc ws k d low, map-append, map-append, append_assoc) refl
+
+  -- one more file was read
+  pub has-more :
+      (here : FilesMeaning) (ws : List Wanted) (k : ℕ) (d : Wanted) (cs : List (List ℕ)) (c : List ℕ) → k < length ws
+      → HasAll old (map seen_wanted (take k ws)) cs → here ≡ read_to ws k → Has here (seen_wanted (get_or ws k d)) c
+      → HasAll old (map seen_wanted (take (k + 1) ws)) (cs ++ c ∷ [])
+  has-more here ws k d cs c low had same read =
+      rw add-one (has-suc old ws k d cs c low had (as_read (subst (λ h. Has h (seen_wanted (get_or ws k d)) c) same read)))
+    where
+      as_read : Has (read_to ws k) (seen_wanted (get_or ws k d)) c → Has old (seen_wanted (get_or ws k d)) c
+      as_read h = record { found = h.found; fits = h.fits; bytes = h.bytes }
+
+  pub read-more :
+      (here new : FilesMeaning) (ws : List Wanted) (k : ℕ) (d : Wanted) → k < length ws → here ≡ read_to ws k
+      → new ≡ with_name (get_or ws k d).name.now here → new ≡ read_to ws (k + 1)
+  read-more here new ws k d low same read = rw (read, same, add-one, ← names-more ws k d low) refl
 
 -- the files before one, that one, and those after it
 splits :
@@ -36,44 +57,42 @@ splits [] k d low = absurd (omega (arith, low))
 splits (w ∷ ws) zero d low = refl
 splits (w ∷ ws) (suc k) d low = ap (λ rest. seen_wanted w ∷ rest) (splits ws k d (omega (arith, low)))
 
-comes_to :
-    (old : FilesMeaning) (ws : List Wanted) (k : ℕ) (d : Wanted) (cs : List (List ℕ)) (Here : Needed → Type 0) → k < length ws
-    → HasAll old (map seen_wanted (take k ws)) cs → Here (seen_wanted (get_or ws k d)) → ComesTo old (map seen_wanted ws) Here
-comes_to old ws k d cs Here low had here = record {
-  before = map seen_wanted (take k ws);
-  this = seen_wanted (get_or ws k d);
-  after = map seen_wanted (drop (suc k) ws);
-  place = splits ws k d low;
-  contents = cs;
-  read = had;
-  here = here;
-}
+module _ (old here new : FilesMeaning) (ws : List Wanted) (k : ℕ) (d : Wanted) (cs : List (List ℕ)) (low : k < length ws) where
+  comes_to :
+      (Here : Needed → Type 0) → HasAll old (map seen_wanted (take k ws)) cs → here ≡ read_to old ws k
+      → new.names ≡ here.names ++ (get_or ws k d).name.now ∷ [] → Here (seen_wanted (get_or ws k d)) → ComesTo old new (map seen_wanted ws) Here
+  comes_to Here had same names this = record {
+    before = map seen_wanted (take k ws);
+    this = seen_wanted (get_or ws k d);
+    after = map seen_wanted (drop (suc k) ws);
+    place = splits ws k d low;
+    contents = cs;
+    read = had;
+    names = rw (names, same, map-append, append_assoc) refl;
+    here = this;
+  }
 
-module _ (Z : Type 0) where
-  refuses :
-      (old new : FilesMeaning) (ws : List Wanted) (k : ℕ) (d : Wanted) (cs : List (List ℕ)) (refusal : Refusal) → k < length ws
-      → HasAll old (map seen_wanted (take k ws)) cs → FileAnswers {Z = Z} old new (seen_wanted (get_or ws k d)) (Err refusal)
-      → FilesAnswer {Z = Z} old new (map seen_wanted ws) (Err refusal)
-  refuses old new ws k d cs Usage low had here = absurd here
-  refuses old new ws k d cs (Unread name) low had here = comes_to old ws k d cs _ low had here
-  refuses old new ws k d cs (TooLarge kind) low had here = comes_to old ws k d cs _ low had here
-  refuses old new ws k d cs (Script line cause) low had here = absurd here
-  refuses old new ws k d cs (Command line cause) low had here = absurd here
-  refuses old new ws k d cs (Source line cause) low had here = absurd here
-  refuses old new ws k d cs (Rom fault) low had here = absurd here
-  refuses old new ws k d cs (Certificate line cause) low had here = absurd here
-  refuses old new ws k d cs (Proof line cause) low had here = absurd here
-  refuses old new ws k d cs (NoCertificate obstacle) low had here = absurd here
-  refuses old new ws k d cs Write low had here = absurd here
-  refuses old new ws k d cs NoMemory low had here = tt
+  pub some : here ≡ read_to old ws k → new ≡ here ⊎ new ≡ with_name (get_or ws k d).name.now here → ReadsSome (map seen_wanted ws) old new
+  some same (inl none) = (k, rw (none, same, take-map) refl)
+  some same (inr one) = (k + 1, rw take-map (read-more old here new ws k d low same one))
 
-  -- a file was refused, behind others
-  pub refused :
-      (old here new : FilesMeaning) (ws : List Wanted) (k : ℕ) (d : Wanted) (cs : List (List ℕ)) (refusal : Refusal) → here ≡ old → k < length ws
-      → HasAll old (map seen_wanted (take k ws)) cs → FileAnswers {Z = Z} here new (seen_wanted (get_or ws k d)) (Err refusal)
-      → FilesAnswer {Z = Z} old new (map seen_wanted ws) (Err refusal)
-  refused old here new ws k d cs refusal same low had answers =
-      refuses old new ws k d cs refusal low had (subst (λ h. FileAnswers {Z = Z} h new (seen_wanted (get_or ws k d)) (Err refusal)) same answers)
+  module _ (Z : Type 0) where
+    -- a file was refused, behind others
+    pub refused :
+        (refusal : Refusal) → here ≡ read_to old ws k → HasAll old (map seen_wanted (take k ws)) cs
+        → FileAnswers {Z = Z} here new (seen_wanted (get_or ws k d)) (Err refusal) → FilesAnswer {Z = Z} old new (map seen_wanted ws) (Err refusal)
+    refused Usage same had at = absurd at
+    refused (Unread name) same had at = comes_to _ had same at.2 (at.0, subst (λ h. IsUnread h new (seen_wanted (get_or ws k d))) same at.1)
+    refused (TooLarge kind) same had at =
+        comes_to _ had same (ap (λ m. m.names) at.2) (at.0, subst (λ h. IsLarger h (seen_wanted (get_or ws k d))) same at.1)
+    refused (Script line cause) same had at = absurd at
+    refused (Command line cause) same had at = absurd at
+    refused (Source line cause) same had at = absurd at
+    refused (Rom fault) same had at = absurd at
+    refused (Certificate line cause) same had at = absurd at
+    refused (Proof line cause) same had at = absurd at
+    refused (NoCertificate obstacle) same had at = absurd at
+    refused NoMemory same had at = some same at
 
 module _ {Z : Type 0} where
   -- one content more

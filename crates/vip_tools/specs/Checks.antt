@@ -1,16 +1,15 @@
--- What the checks of certificates answer, and the search for one.
-use Rattle.std.specs.Prelude.{◌≡◌, ◌≤◌, ℕ, List, length, option_map, Result, Ok, Err, Vec}
+-- What the checks of certificates answer.
+use Rattle.std.specs.Prelude.{◌≡◌, ℕ, List, option_map, Result, Ok, Err}
 use Rattle.chip8_lang.specs.declared.view.Edition.{Edition}
 use Rattle.asm_core.specs.Made.{Made, cell_at}
 use Rattle.cycle_check.specs.Closed.{checked}
 use Rattle.cycle_check.specs.declared.Within.{Within}
 use Rattle.cycle_check.specs.declared.fault.CertFault.TheVariants as cert
-use Rattle.game_check.specs.Proof.{proof_of, IsAccepted}
+use Rattle.game_check.specs.Proof.{proof_of}
 use Rattle.game_check.specs.declared.fault.ProofFault.TheVariants as proof
 use Rattle.vip_report.specs.declared.refusal.Refusal.{Refusal}
-use Rattle.vip_report.specs.declared.refusal.Refusal.TheVariants.{Certificate, Proof, NoCertificate, NoMemory}
+use Rattle.vip_report.specs.declared.refusal.Refusal.TheVariants.{Certificate, Proof, NoMemory}
 use Rattle.vip_tools.specs.Certificates.{Assembled, Bytes, rom_in}
-use Rattle.vip_tools.specs.Files.{most_text}
 use Rattle.vip_tools.specs.Opening.{SourceAnswers}
 
 -- the byte at an address of what was assembled
@@ -35,11 +34,3 @@ ProofAnswers e game text (Ok count) = proof_of e game text ≡ Ok count
 ProofAnswers e game text (Err (Proof line cause)) = proof_of e game text ≡ Err (proof.Fault line cause)
 ProofAnswers e game text (Err NoMemory) = Unit {0}
 ProofAnswers e game text (Err _) = ⊥
-
--- one is searched for
-module _ {Z : Type 0} where
-  abbrev pub FoundAnswers : Edition → List ℕ → Result (Vec ℕ Z) Refusal → Type 0
-  FoundAnswers e game (Ok text) = IsAccepted e game text.items × (length text.items ≤ most_text)
-  FoundAnswers e game (Err (NoCertificate obstacle)) = Unit {0}
-  FoundAnswers e game (Err NoMemory) = Unit {0}
-  FoundAnswers e game (Err _) = ⊥

@@ -1,8 +1,9 @@
 -- The files that a command reads, in their order, and what is known of them once they are read.
-use Rattle.std.specs.Prelude.{◌≡◌, ◌≤◌, ◌<◌, ◌-◌, ◌⊎◌, ℕ, List, [], ◌∷◌, ◌++◌, map, length, Option, Some, None, Result, Ok, Err, Vec, slice_index, IfSome, IsSomeAnd}
+use Rattle.std.specs.Prelude.{◌≡◌, ◌≤◌, ◌<◌, ◌-◌, ◌⊎◌, ℕ, List, [], ◌∷◌, ◌++◌, map, take, length, Option, Some, None, Result, Ok, Err, Vec, slice_index, IfSome, IsSomeAnd}
 use Rattle.std.specs.FinMap.{get}
 use Rattle.vip_byte.specs.declared.line.TheConstants.{MOST_TEXT}
-use Rattle.vip_outside.specs.Files.{FilesMeaning, ReadFails, LacksName}
+use Rattle.vip_outside.specs.Count.{Rose}
+use Rattle.vip_outside.specs.Files.{FilesMeaning, with_name}
 use Rattle.chip8_lang.specs.State.{memory_size}
 use Rattle.chip8_lang.specs.declared.view.Edition.{Edition}
 use Rattle.chip8_lang.specs.declared.view.Edition.TheVariants.{Usual, Tall}
@@ -86,18 +87,32 @@ FitAll _ _ = ⊥
 abbrev pub IsLarger : FilesMeaning → Needed → Type 0
 IsLarger old n = IfSome old.told (λ files. IsSomeAnd (get files n.name) (λ content. n.most < length content))
 
--- it could not be read: a fault at its name, or the map that is told lacks it
+-- it could not be read: a fault, or the map that is told lacks it
 abbrev pub IsUnread : FilesMeaning → FilesMeaning → Needed → Type 0
-IsUnread old new n = ReadFails n.name old new ⊎ LacksName n.name old new
+IsUnread old new n = Rose old.faults new.faults ⊎ IsSomeAnd old.told (λ files. get files n.name ≡ None)
 
--- those before one of the files were read, and of that one this holds
-pub record ComesTo (old : FilesMeaning) (needed : List Needed) (Here : Needed → Type 0) : Type 0 where
+-- ---- which files were read, each by one read of its name
+
+abbrev pub names_of : List Needed → List (List ℕ)
+names_of ns = map (λ n. n.name) ns
+
+-- exactly these, in this order, and no read was a fault
+abbrev pub with_names : List Needed → FilesMeaning → FilesMeaning
+with_names ns old = record old { names = old.names ++ names_of ns }
+
+-- the first ones of these, and no read was a fault
+abbrev pub ReadsSome : List Needed → FilesMeaning → FilesMeaning → Type 0
+ReadsSome ns old new = (count : ℕ) × (new ≡ with_names (take count ns) old)
+
+-- Those before one of the files were read whole, then that one, of which this holds, and none behind it.
+pub record ComesTo (old new : FilesMeaning) (needed : List Needed) (Here : Needed → Type 0) : Type 0 where
   pub before : List Needed
   pub this : Needed
   pub after : List Needed
   pub place : needed ≡ before ++ this ∷ after
   pub contents : List (List ℕ)
   pub read : HasAll old before contents
+  pub names : new.names ≡ old.names ++ names_of (before ++ this ∷ [])
   pub here : Here this
 
 module _ {Z : Type 0} where
@@ -106,16 +121,16 @@ module _ {Z : Type 0} where
 
   -- what is answered of one file
   abbrev pub FileAnswers : FilesMeaning → FilesMeaning → Needed → Result (Vec ℕ Z) Refusal → Type 0
-  FileAnswers old new n (Ok bytes) = Has old n bytes.items × (new ≡ old)
-  FileAnswers old new n (Err (Unread name)) = (name.now ≡ n.name) × IsUnread old new n
-  FileAnswers old new n (Err (TooLarge kind)) = (kind ≡ n.kind) × IsLarger old n
-  FileAnswers old new n (Err NoMemory) = new ≡ old
+  FileAnswers old new n (Ok bytes) = Has old n bytes.items × (new ≡ with_name n.name old)
+  FileAnswers old new n (Err (Unread name)) = (name.now ≡ n.name) × IsUnread old new n × (new.names ≡ old.names ++ n.name ∷ [])
+  FileAnswers old new n (Err (TooLarge kind)) = (kind ≡ n.kind) × IsLarger old n × (new ≡ with_name n.name old)
+  FileAnswers old new n (Err NoMemory) = (new ≡ old) ⊎ (new ≡ with_name n.name old)
   FileAnswers old new n (Err _) = ⊥
 
   -- what is answered of all
   abbrev pub FilesAnswer : FilesMeaning → FilesMeaning → List Needed → Result (Vec (Vec ℕ Z) Z) Refusal → Type 0
-  FilesAnswer old new needed (Ok contents) = HasAll old needed (contents_of contents.items)
-  FilesAnswer old new needed (Err (Unread name)) = ComesTo old needed (λ n. (name.now ≡ n.name) × IsUnread old new n)
-  FilesAnswer old new needed (Err (TooLarge kind)) = ComesTo old needed (λ n. (kind ≡ n.kind) × IsLarger old n)
-  FilesAnswer old new needed (Err NoMemory) = Unit {0}
+  FilesAnswer old new needed (Ok contents) = HasAll old needed (contents_of contents.items) × (new ≡ with_names needed old)
+  FilesAnswer old new needed (Err (Unread name)) = ComesTo old new needed (λ n. (name.now ≡ n.name) × IsUnread old new n)
+  FilesAnswer old new needed (Err (TooLarge kind)) = ComesTo old new needed (λ n. (kind ≡ n.kind) × IsLarger old n)
+  FilesAnswer old new needed (Err NoMemory) = ReadsSome needed old new
   FilesAnswer old new needed (Err _) = ⊥

@@ -3,9 +3,9 @@
 ghost use Rattle.std.specs.Prelude.{◌≡◌, ◌≤◌, [], length};
 ghost use Rattle.chip8_lang.specs.State.{memory_size};
 ghost use Rattle.vip_tools.specs.Certificates.{CertifyComes, CyclesComes, SafeComes, count_line, rom_with, within_line};
-ghost use Rattle.vip_tools.specs.Checks.{CertificateAnswers, FoundAnswers, ProofAnswers, RomAnswers, made_byte};
+ghost use Rattle.vip_tools.specs.Checks.{CertificateAnswers, ProofAnswers, RomAnswers, made_byte};
 ghost use Rattle.vip_tools.specs.Files.{most_text};
-ghost use Rattle.vip_tools.specs.Work.{WorkAnswers};
+ghost use Rattle.vip_tools.specs.Work.{TextAnswers};
 
 use crate::files::are_bytes;
 use crate::tools::assembled;
@@ -16,8 +16,7 @@ use game_check::{FindFault, ProofFault, check_game, find_certificate};
 use itoa::Buffer as Digits;
 use std::alloc::Global;
 use vip_byte::{Buffer, hex4, put};
-use vip_outside::Sink;
-use vip_report::{Ended, Refusal};
+use vip_report::Refusal;
 
 /// The first address of the ROM.
 const ROM_START: u16 = 0x8000;
@@ -78,22 +77,6 @@ fn checked_game<'a>(
     }
 }
 
-/// A certificate of a game.
-fn found_certificate<'a>(
-    alloc: Global,
-    edition: Edition,
-    game: &[u8],
-) -> Result<Vec<u8>, Refusal<'a>>
-    requires { length game.now ≤ memory_size edition }
-    ensures { FoundAnswers edition game.now result }
-{
-    match find_certificate(alloc, edition, game) {
-        Ok(text) => Ok(text),
-        Err(FindFault::NotFound(obstacle)) => Err(Refusal::NoCertificate(obstacle)),
-        Err(FindFault::NoMemory) => Err(Refusal::NoMemory),
-    }
-}
-
 /// Writes the entry and the limit of a routine into an empty buffer.
 fn within_text(within: Within, into: &mut Buffer)
     requires { into.old.items ≡ [] }
@@ -118,55 +101,46 @@ fn count_text(count: u32, into: &mut Buffer)
     put(into, b"\n");
 }
 
-/// Assembles a source of at most 1,048,576 bytes into a ROM, checks a certificate of at most as many against it, and puts its entry and limit.
-pub fn cycles<'a, O: Sink>(
-    alloc: Global,
-    source: &[u8],
-    certificate: &[u8],
-    out: &mut O,
-) -> Result<Ended, Refusal<'a>>
+/// Assembles a source of at most 1,048,576 bytes into a ROM, and checks a certificate of at most as many against it: its entry and limit.
+pub fn cycles<'a>(alloc: Global, source: &[u8], certificate: &[u8]) -> Result<Vec<u8>, Refusal<'a>>
     requires source { length source.now ≤ most_text }
     requires certificate { length certificate.now ≤ most_text }
-    ensures { WorkAnswers (CyclesComes source.now certificate.now) (O.meaning out.old) (O.meaning out.new) result }
+    ensures { TextAnswers (CyclesComes source.now certificate.now) result }
 {
     let rom = assembled_rom(alloc, source)?;
     let within = checked_routine(alloc, &rom, certificate)?;
-    let mut text = Buffer::new();
-    within_text(within, &mut text);
-    out.put(text.as_slice())?;
-    Ok(Ended::Worked)
+    let mut line = Buffer::new();
+    within_text(within, &mut line);
+    let text = Vec::from_slice(alloc, line.as_slice())?;
+    Ok(text)
 }
 
-/// Checks a game's certificate of at most 1,048,576 bytes, and puts the number of its lines that say something.
-pub fn safe<'a, O: Sink>(
+/// Checks a game's certificate of at most 1,048,576 bytes: the number of its lines that say something.
+pub fn safe<'a>(
     alloc: Global,
     edition: Edition,
     game: &[u8],
     certificate: &[u8],
-    out: &mut O,
-) -> Result<Ended, Refusal<'a>>
+) -> Result<Vec<u8>, Refusal<'a>>
     requires game { length game.now ≤ memory_size edition }
     requires certificate { length certificate.now ≤ most_text }
-    ensures { WorkAnswers (SafeComes edition game.now certificate.now) (O.meaning out.old) (O.meaning out.new) result }
+    ensures { TextAnswers (SafeComes edition game.now certificate.now) result }
 {
     let count = checked_game(alloc, edition, game, certificate)?;
-    let mut text = Buffer::new();
-    count_text(count, &mut text);
-    out.put(text.as_slice())?;
-    Ok(Ended::Worked)
+    let mut line = Buffer::new();
+    count_text(count, &mut line);
+    let text = Vec::from_slice(alloc, line.as_slice())?;
+    Ok(text)
 }
 
-/// Searches for a certificate of a game, and puts it.
-pub fn certify<'a, O: Sink>(
-    alloc: Global,
-    edition: Edition,
-    game: &[u8],
-    out: &mut O,
-) -> Result<Ended, Refusal<'a>>
+/// Searches for a certificate of a game.
+pub fn certify<'a>(alloc: Global, edition: Edition, game: &[u8]) -> Result<Vec<u8>, Refusal<'a>>
     requires { length game.now ≤ memory_size edition }
-    ensures { WorkAnswers (CertifyComes edition game.now) (O.meaning out.old) (O.meaning out.new) result }
+    ensures { TextAnswers (CertifyComes edition game.now) result }
 {
-    let text = found_certificate(alloc, edition, game)?;
-    out.put(text.as_slice())?;
-    Ok(Ended::Worked)
+    match find_certificate(alloc, edition, game) {
+        Ok(text) => Ok(text),
+        Err(FindFault::NotFound(obstacle)) => Err(Refusal::NoCertificate(obstacle)),
+        Err(FindFault::NoMemory) => Err(Refusal::NoMemory),
+    }
 }

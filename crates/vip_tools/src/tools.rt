@@ -4,14 +4,13 @@ ghost use Rattle.std.specs.Prelude.{◌-◌, ◌≤◌, length};
 ghost use Rattle.vip_tools.specs.Files.{addresses, most_text};
 ghost use Rattle.vip_tools.specs.Opening.{SourceAnswers};
 ghost use Rattle.vip_tools.specs.Outcome.{AsmComes, BoundsComes, DisComes, ListComes};
-ghost use Rattle.vip_tools.specs.Work.{WorkAnswers};
+ghost use Rattle.vip_tools.specs.Work.{TextAnswers};
 
 use asm_core::{AsmFault, Assembly, assemble};
 use asm_listing::{disassemble, dump, listing};
 use std::alloc::Global;
 use vip_byte::Buffer;
-use vip_outside::Sink;
-use vip_report::{Ended, Refusal};
+use vip_report::Refusal;
 use vip_text::bounds_text;
 
 /// The assembly of a source.
@@ -26,49 +25,41 @@ pub(crate) fn assembled<'a>(alloc: Global, source: &[u8]) -> Result<Assembly, Re
     }
 }
 
-/// Assembles a source of at most 1,048,576 bytes, and puts the dump of its bytes.
-pub fn asm<'a, O: Sink>(alloc: Global, source: &[u8], out: &mut O) -> Result<Ended, Refusal<'a>>
+/// Assembles a source of at most 1,048,576 bytes: the dump of its bytes.
+pub fn asm<'a>(alloc: Global, source: &[u8]) -> Result<Vec<u8>, Refusal<'a>>
     requires { length source.now ≤ most_text }
-    ensures { WorkAnswers (AsmComes source.now) (O.meaning out.old) (O.meaning out.new) result }
+    ensures { TextAnswers (AsmComes source.now) result }
 {
     let made = assembled(alloc, source)?;
     let text = dump(alloc, &made)?;
-    out.put(text.as_slice())?;
-    Ok(Ended::Worked)
+    Ok(text)
 }
 
-/// Assembles a source of at most 1,048,576 bytes, and puts its listing.
-pub fn list<'a, O: Sink>(alloc: Global, source: &[u8], out: &mut O) -> Result<Ended, Refusal<'a>>
+/// Assembles a source of at most 1,048,576 bytes: its listing.
+pub fn list<'a>(alloc: Global, source: &[u8]) -> Result<Vec<u8>, Refusal<'a>>
     requires { length source.now ≤ most_text }
-    ensures { WorkAnswers (ListComes source.now) (O.meaning out.old) (O.meaning out.new) result }
+    ensures { TextAnswers (ListComes source.now) result }
 {
     let made = assembled(alloc, source)?;
     let text = listing(alloc, &made, source)?;
-    out.put(text.as_slice())?;
-    Ok(Ended::Worked)
+    Ok(text)
 }
 
-/// Puts the disassembly of bytes from an address on, which end by address FFFF.
-pub fn dis<'a, O: Sink>(
-    alloc: Global,
-    bytes: &[u8],
-    address: u16,
-    out: &mut O,
-) -> Result<Ended, Refusal<'a>>
+/// The disassembly of bytes from an address on, which end by address FFFF.
+pub fn dis<'a>(alloc: Global, bytes: &[u8], address: u16) -> Result<Vec<u8>, Refusal<'a>>
     requires { length bytes.now ≤ addresses - address }
-    ensures { WorkAnswers (DisComes address bytes.now) (O.meaning out.old) (O.meaning out.new) result }
+    ensures { TextAnswers (DisComes address bytes.now) result }
 {
     let text = disassemble(alloc, bytes, address)?;
-    out.put(text.as_slice())?;
-    Ok(Ended::Worked)
+    Ok(text)
 }
 
-/// Puts the table of the bounds.
-pub fn bounds<'a, O: Sink>(out: &mut O) -> Result<Ended, Refusal<'a>>
-    ensures { WorkAnswers BoundsComes (O.meaning out.old) (O.meaning out.new) result }
+/// The table of the bounds.
+pub fn bounds<'a>(alloc: Global) -> Result<Vec<u8>, Refusal<'a>>
+    ensures { TextAnswers BoundsComes result }
 {
-    let mut text = Buffer::new();
-    bounds_text(&mut text);
-    out.put(text.as_slice())?;
-    Ok(Ended::Worked)
+    let mut table = Buffer::new();
+    bounds_text(&mut table);
+    let text = Vec::from_slice(alloc, table.as_slice())?;
+    Ok(text)
 }

@@ -1,5 +1,7 @@
--- What a command that runs a game answers, from the answers of its parts.
-use Rattle.std.proofs.Common.{◌≡◌, ℕ, max, true, false, List, [], ◌∷◌, refl, sym, ap, subst, Result, Ok, Err, IsErrAnd}
+-- What a verb that is opened answers, from the answers of its parts, and what its work does.
+use Rattle.std.proofs.Common.{◌≡◌, ℕ, max, true, false, List, [], ◌∷◌, length, take_all, arith, refl, sym, ap, subst, Result, Ok, Err, IsErr}
+use Rattle.std.specs.Prelude.{Vec}
+use Rattle.std.specs.declared.alloc.Global.{Global}
 use Rattle.std.proofs.Math.Nat.{max-zero}
 use Rattle.chip8_lang.specs.declared.view.Edition.{Edition}
 use Rattle.chip8_lang.specs.declared.view.Edition.TheVariants.{Usual}
@@ -11,30 +13,31 @@ use Rattle.vip_commands.specs.declared.commands.Speaks.TheVariants.{Chip8}
 use Rattle.vip_debug.specs.Answers.{begun, at_start, place_of, place_after, written, DebugAnswers}
 use Rattle.vip_debug.specs.declared.run.DebugEnd.{DebugEnd}
 use Rattle.vip_debug.specs.declared.run.DebugEnd.TheVariants as debugger
+use Rattle.vip_outside.specs.Files.{FilesMeaning}
 use Rattle.vip_outside.specs.Sink.{SinkMeaning}
 use Rattle.vip_outside.specs.Pieces.{PutsAll, FailsWithin}
-use Rattle.vip_relation.specs.State.{VipState, interpreter, started, events_to, state_after}
-use Rattle.vip_show.specs.Answers.{traced, pictured, summed}
-use Rattle.vip_show.specs.Endings.{ending_of}
-use Rattle.vip_text.specs.Endings.{Ending, ending_in}
+use Rattle.vip_relation.specs.State.{VipState, interpreter, started, state_after}
+use Rattle.vip_outside.specs.declared.sink.Failed.{Failed}
+use Rattle.vip_show.specs.Answers.{ShowAnswers, traced, pictured, summed}
+use Rattle.vip_text.specs.Endings.{Ending}
 use Rattle.vip_text.specs.Endings.Ending.{AtLimit}
-use Rattle.vip_text.specs.declared.ending.RunEnd.{RunEnd}
-use Rattle.vip_words.specs.Asked.{AskedRun, AskedTrace, AskedDebug, AskedDemo, trace, play, debug, demo}
+use Rattle.vip_words.specs.Asked.{Asked, AskedRun, AskedTrace, AskedDebug, AskedDemo, trace, play, debug, demo}
 use Rattle.vip_report.specs.declared.ended.Ended.{Ended}
-use Rattle.vip_report.specs.declared.ended.Ended.TheVariants.{Ran}
 use Rattle.vip_report.specs.declared.refusal.Refusal.{Refusal}
-use Rattle.vip_report.specs.declared.refusal.Refusal.TheVariants.{Usage, Unread, TooLarge, Script, Command, Source, Rom, Certificate, Proof, NoCertificate, Write, NoMemory}
-use Rattle.vip_report.specs.Status.{end_status}
+use Rattle.vip_report.specs.declared.refusal.Refusal.TheVariants.{Usage, Unread, TooLarge, Script, Command, Source, Rom, Certificate, Proof, NoCertificate, NoMemory}
 use Rattle.vip_report.specs.Report.{end_report}
+use Rattle.vip_report.specs.Status.{end_status}
+use Rattle.vip_text.specs.declared.ending.RunEnd.{RunEnd}
 use Rattle.vip_tools.specs.Demo.{demo_game}
+use Rattle.vip_tools.specs.Files.{Needed, needed, FilesAnswer, HasAll, with_names}
 use Rattle.vip_tools.specs.Opening.{DebugCommandsAnswer}
 use Rattle.vip_tools.specs.Outcome.{Outcome}
-use Rattle.vip_tools.specs.Outcome.Outcome.{Shown}
-use Rattle.vip_tools.specs.Work.{Ends, Breaks, WorkAnswers}
-use Rattle.vip_tools.proofs.WorkLemmas.{broken, passed}
+use Rattle.vip_tools.specs.Work.{RefusedBy, TextAnswers}
 use Rattle.vip_verbs.specs.Opening.{StartAnswers, Begins}
 use Rattle.vip_verbs.specs.Outcome.{Comes, RunComes, DebugComes, run_ending, stopped_by, debug_ending}
 use Rattle.vip_verbs.specs.Outcome.RunComes.{FaultyScript, FaultyRom, Runs}
+use Rattle.vip_verbs.specs.Prepared.{DebugEnds, IsStarted, OpenAnswers, Output, PerformAnswers, PrepareAnswers, ended_by, ran, run_ended, shown, texted}
+use Rattle.vip_verbs.specs.declared.prepared.Prepared.{Prepared}
 
 -- a command that comes to what a run comes to, with the output and the ending of the machine that begins
 pub record RunOf (Here : Outcome → Type 0) : Type 0 where
@@ -49,93 +52,51 @@ pub record RunOf (Here : Outcome → Type 0) : Type 0 where
       → RunComes edition limit scripts (λ script. shown (started edition game script)) (λ script. ending (started edition game script)) o
       → Here o
 
+-- a machine that begins is a started one
+pub started-of : (e : Edition) (game : List ℕ) (scripts : List (List ℕ)) (v : VipState) → Begins e game scripts v → IsStarted v
+started-of e game scripts v begins = record {
+  game = game;
+  script = begins.script;
+  is = rw begins.is refl;
+  runs = begins.runs;
+}
+
 module _ (Here : Outcome → Type 0) (run : RunOf Here) where
-  refused-start :
-      (old : SinkMeaning) (refusal : Refusal) → StartAnswers run.edition run.game run.scripts (Err refusal)
-      → WorkAnswers Here old old (Err refusal)
-  refused-start old Usage answer = absurd answer
-  refused-start old (Unread name) answer = absurd answer
-  refused-start old (TooLarge kind) answer = absurd answer
-  refused-start old (Script line cause) answer = record { comes = run.fits _ (FaultyScript line cause answer); out = refl }
-  refused-start old (Command line cause) answer = absurd answer
-  refused-start old (Source line cause) answer = absurd answer
-  refused-start old (Rom fault) answer = record { comes = run.fits _ (FaultyRom answer.script fault answer.reads answer.rom.0 answer.rom.1); out = refl }
-  refused-start old (Certificate line cause) answer = absurd answer
-  refused-start old (Proof line cause) answer = absurd answer
-  refused-start old (NoCertificate obstacle) answer = absurd answer
-  refused-start old Write answer = absurd answer
-  refused-start old NoMemory answer = refl
-
   -- it doesn't begin
-  pub start-fails :
-      (old : SinkMeaning) (refusal : Refusal) (r : Result Ended Refusal)
-      → IsErrAnd r (λ e. e ≡ refusal) → StartAnswers run.edition run.game run.scripts (Err refusal)
-      → WorkAnswers Here old old r
-  start-fails old refusal r is answer = passed Here old refusal r is (refused-start old refusal answer)
+  pub refused-start : (refusal : Refusal) → StartAnswers run.edition run.game run.scripts (Err refusal) → RefusedBy Here refusal
+  refused-start Usage answer = absurd answer
+  refused-start (Unread name) answer = absurd answer
+  refused-start (TooLarge kind) answer = absurd answer
+  refused-start (Script line cause) answer = run.fits _ (FaultyScript line cause answer)
+  refused-start (Command line cause) answer = absurd answer
+  refused-start (Source line cause) answer = absurd answer
+  refused-start (Rom fault) answer = run.fits _ (FaultyRom answer.script fault answer.reads answer.rom.0 answer.rom.1)
+  refused-start (Certificate line cause) answer = absurd answer
+  refused-start (Proof line cause) answer = absurd answer
+  refused-start (NoCertificate obstacle) answer = absurd answer
+  refused-start NoMemory answer = tt
 
-  -- its output, with its ending
-  run-comes :
-      (v : VipState)
-      → Begins run.edition run.game run.scripts v
-      → Here (Shown (run.shown v) (end_status (run.ending v)) (end_report run.limit (run.ending v)))
+  -- it begins, so its output is settled, with its ending
+  pub run-comes : (v : VipState) → Begins run.edition run.game run.scripts v → Here (shown (ran run.limit (run.shown v) (run.ending v)))
   run-comes v begins =
-      subst (λ w. Here (Shown (run.shown w) (end_status (run.ending w)) (end_report run.limit (run.ending w)))) (sym begins.is)
-      (run.fits _ (Runs begins.script begins.reads begins.rom))
-
-  -- it ran to its end
-  pub run-ends :
-      (v : VipState) (old new : SinkMeaning) (end : RunEnd)
-      → Begins run.edition run.game run.scripts v → ending_in end ≡ run.ending v
-      → PutsAll (run.shown v) old new → Ends Here old new (Ran run.limit end)
-  run-ends v old new end begins ends puts = record {
-    pieces = run.shown v;
-    comes = subst (λ e. Here (Shown (run.shown v) (end_status e) (end_report run.limit e))) (sym ends) (run-comes v begins);
-    puts = puts;
-  }
-
-  -- its output failed
-  pub breaks :
-      (v : VipState) (old new : SinkMeaning)
-      → Begins run.edition run.game run.scripts v → FailsWithin (run.shown v) old new → Breaks Here old new
-  breaks v old new begins fault = record {
-    pieces = run.shown v;
-    status = end_status (run.ending v);
-    report = end_report run.limit (run.ending v);
-    comes = run-comes v begins;
-    fails = fault;
-  }
-
-  pub run-fails :
-      (v : VipState) (old new : SinkMeaning) (r : Result Ended Refusal)
-      → Begins run.edition run.game run.scripts v → IsErrAnd r (λ e. e ≡ Write)
-      → FailsWithin (run.shown v) old new → WorkAnswers Here old new r
-  run-fails v old new r begins is fault = broken Here old new r is (breaks v old new begins fault)
+      subst (λ w. Here (shown (ran run.limit (run.shown w) (run.ending w)))) (sym begins.is) (run.fits _ (Runs begins.script begins.reads begins.rom))
 
 -- ---- a run under the debugger
 
 module _ (a : AskedDebug) (game text : List ℕ) (scripts : List (List ℕ)) where
-  refused-commands :
-      (old : SinkMeaning) (refusal : Refusal)
-      → DebugCommandsAnswer Chip8 a.run.cycles text (Err refusal) → WorkAnswers (Comes (debug a) (game ∷ text ∷ scripts)) old old (Err refusal)
-  refused-commands old Usage answer = absurd answer
-  refused-commands old (Unread name) answer = absurd answer
-  refused-commands old (TooLarge kind) answer = absurd answer
-  refused-commands old (Script line cause) answer = absurd answer
-  refused-commands old (Command line cause) answer = record { comes = rw answer refl; out = refl }
-  refused-commands old (Source line cause) answer = absurd answer
-  refused-commands old (Rom fault) answer = absurd answer
-  refused-commands old (Certificate line cause) answer = absurd answer
-  refused-commands old (Proof line cause) answer = absurd answer
-  refused-commands old (NoCertificate obstacle) answer = absurd answer
-  refused-commands old Write answer = absurd answer
-  refused-commands old NoMemory answer = refl
-
   -- its commands aren't read
-  pub commands-fail :
-      (old : SinkMeaning) (refusal : Refusal) (r : Result Ended Refusal)
-      → IsErrAnd r (λ e. e ≡ refusal) → DebugCommandsAnswer Chip8 a.run.cycles text (Err refusal)
-      → WorkAnswers (Comes (debug a) (game ∷ text ∷ scripts)) old old r
-  commands-fail old refusal r is answer = passed (Comes (debug a) (game ∷ text ∷ scripts)) old refusal r is (refused-commands old refusal answer)
+  pub refused-commands : (refusal : Refusal) → DebugCommandsAnswer Chip8 a.run.cycles text (Err refusal) → RefusedBy (Comes (debug a) (game ∷ text ∷ scripts)) refusal
+  refused-commands Usage answer = absurd answer
+  refused-commands (Unread name) answer = absurd answer
+  refused-commands (TooLarge kind) answer = absurd answer
+  refused-commands (Script line cause) answer = absurd answer
+  refused-commands (Command line cause) answer = rw answer refl
+  refused-commands (Source line cause) answer = absurd answer
+  refused-commands (Rom fault) answer = absurd answer
+  refused-commands (Certificate line cause) answer = absurd answer
+  refused-commands (Proof line cause) answer = absurd answer
+  refused-commands (NoCertificate obstacle) answer = absurd answer
+  refused-commands NoMemory answer = tt
 
   -- they are, so it comes to what a run comes to
   pub as-run :
@@ -157,15 +118,9 @@ module _ (a : AskedDebug) (game text : List ℕ) (scripts : List (List ℕ)) whe
     fits = as-run commands read;
   }
 
--- how a run ends by its events
-abbrev pub ended_by : ℕ → VipState → Ending
-ended_by limit v = ending_of v.edition (events_to v limit)
-
 -- ---- what the debugger answers of a machine that begins
 
-module _
-    (e : Edition) (game : List ℕ) (scripts : List (List ℕ)) (limit : ℕ) (commands : List DebugCommand) (v w : VipState) (old new : SinkMeaning)
-    (begins : Begins e game scripts v) where
+module _ (limit : ℕ) (commands : List DebugCommand) (v w : VipState) (old new : SinkMeaning) (begins : IsStarted v) where
   abbrev Answered : DebugEnd → Type 0
   Answered end = DebugAnswers (begun v) (max limit v.board.machine.cycle) commands (place_of v) w old new end
 
@@ -193,6 +148,41 @@ module _
 
   pub debug-fails : Answered debugger.WriteFault → FailsWithin (written v limit commands at_start) old new
   debug-fails answers = (from-start debugger.WriteFault answers).0
+
+-- ---- the work
+
+-- a run that was shown, by its pieces
+pub show-performs :
+    (limit : ℕ) (pieces : List (List ℕ)) (v : VipState) (old new : SinkMeaning) (r : Result RunEnd Failed) → ShowAnswers v limit pieces old new r
+    → PerformAnswers (ran limit pieces (ended_by limit v)) old new (run_ended limit r)
+show-performs limit pieces v old new (Ok end) shows = record {
+  puts = shows.puts;
+  status = ap end_status (sym shows.ending);
+  report = ap (end_report limit) (sym shows.ending);
+}
+show-performs limit pieces v old new (Err failed) fails = fails
+
+-- at a fault, whatever error is passed on
+pub failed-at : (o : Output) (old new : SinkMeaning) (r : Result Ended Failed) → IsErr r → FailsWithin o.pieces old new → PerformAnswers o old new r
+failed-at o old new (Ok ended) bad fails = cc
+failed-at o old new (Err failed) bad fails = fails
+
+module _ (limit : ℕ) (commands : List DebugCommand) (v w : VipState) (old new : SinkMeaning) (begins : IsStarted v) where
+  abbrev Output-is : Output
+  Output-is = ran limit (written v limit commands at_start) (debug_ending v limit commands)
+
+  -- commands that were run
+  pub debug-performs :
+      (end : DebugEnd) (r : Result Ended Failed) → Answered limit commands v w old new begins end → DebugEnds limit end r
+      → PerformAnswers Output-is old new r
+  debug-performs debugger.Done r answers is =
+      let done = debug-done limit commands v w old new begins answers in
+      rw is (record { puts = done.1; status = ap end_status (sym done.0); report = ap (end_report limit) (sym done.0) })
+  debug-performs (debugger.Stopped stop) r answers is =
+      let stopped = debug-stopped limit commands v w old new begins stop answers in
+      rw is (record { puts = stopped.1; status = ap end_status (sym stopped.0); report = ap (end_report limit) (sym stopped.0) })
+  debug-performs debugger.WriteFault (Ok ended) answers is = cc
+  debug-performs debugger.WriteFault (Err failed) answers is = debug-fails limit commands v w old new begins answers
 
 -- ---- each command
 
@@ -239,3 +229,56 @@ module _ (game : List ℕ) (scripts : List (List ℕ)) where
     ending = ended_by a.cycles;
     fits = λ o come. come;
   }
+
+-- ---- what is opened
+
+module _ (Comes : Outcome → Type 0) where
+  pub text-answers : (r : Result (Vec ℕ Global) Refusal) → TextAnswers Comes r → PrepareAnswers Comes (texted r)
+  text-answers (Ok text) answers = (tt, answers)
+  text-answers (Err refusal) answers = answers
+
+module _ (asked : Asked) (old new : FilesMeaning) where
+  files-refused : (Z : Type 0) (refusal : Refusal) → FilesAnswer {Z = Z} old new (needed asked) (Err refusal) → OpenAnswers asked old new (Err refusal)
+  files-refused Z Usage answer = absurd answer
+  files-refused Z (Unread name) answer = answer
+  files-refused Z (TooLarge kind) answer = answer
+  files-refused Z (Script line cause) answer = absurd answer
+  files-refused Z (Command line cause) answer = absurd answer
+  files-refused Z (Source line cause) answer = absurd answer
+  files-refused Z (Rom fault) answer = absurd answer
+  files-refused Z (Certificate line cause) answer = absurd answer
+  files-refused Z (Proof line cause) answer = absurd answer
+  files-refused Z (NoCertificate obstacle) answer = absurd answer
+  files-refused Z NoMemory answer = answer
+
+  -- a file is refused
+  pub refused-files :
+      (Z : Type 0) (ns : List Needed) (refusal : Refusal) → ns ≡ needed asked → FilesAnswer {Z = Z} old new ns (Err refusal)
+      → OpenAnswers asked old new (Err refusal)
+  refused-files Z ns refusal is answer = files-refused Z refusal (subst (λ ns. FilesAnswer {Z = Z} old new ns (Err refusal)) is answer)
+
+  module _ (contents : List (List ℕ)) (read : HasAll old (needed asked) contents) (names : new ≡ with_names (needed asked) old) where
+    refused-contents : (refusal : Refusal) → RefusedBy (Comes asked contents) refusal → OpenAnswers asked old new (Err refusal)
+    refused-contents Usage answer = absurd answer
+    refused-contents (Unread name) answer = absurd answer
+    refused-contents (TooLarge kind) answer = absurd answer
+    refused-contents (Script line cause) answer = record { contents = contents; read = read; names = names; here = answer }
+    refused-contents (Command line cause) answer = record { contents = contents; read = read; names = names; here = answer }
+    refused-contents (Source line cause) answer = record { contents = contents; read = read; names = names; here = answer }
+    refused-contents (Rom fault) answer = record { contents = contents; read = read; names = names; here = answer }
+    refused-contents (Certificate line cause) answer = record { contents = contents; read = read; names = names; here = answer }
+    refused-contents (Proof line cause) answer = record { contents = contents; read = read; names = names; here = answer }
+    refused-contents (NoCertificate obstacle) answer = record { contents = contents; read = read; names = names; here = answer }
+    refused-contents NoMemory answer = (length (needed asked), rw (take_all (length (needed asked)) (needed asked) (omega arith)) names)
+
+    opened : (r : Result Prepared Refusal) → PrepareAnswers (Comes asked contents) r → OpenAnswers asked old new r
+    opened (Ok p) answers = (answers.0, record { contents = contents; read = read; names = names; here = answers.1 })
+    opened (Err refusal) answers = refused-contents refusal answers
+
+  -- all files were read
+  pub open-answers :
+      (ns : List Needed) (contents : List (List ℕ)) → ns ≡ needed asked → HasAll old ns contents × (new ≡ with_names ns old)
+      → (r : Result Prepared Refusal) → PrepareAnswers (Comes asked contents) r → OpenAnswers asked old new r
+  open-answers ns contents is read r answers =
+      let here = subst (λ ns. HasAll old ns contents × (new ≡ with_names ns old)) is read in
+      opened contents here.0 here.1 r answers

@@ -10,6 +10,8 @@
 //! ```
 #![tactic(auto)]
 
-mod verb;
+mod opening;
+mod prepared;
 
-pub use verb::work;
+pub use opening::open;
+pub use prepared::{Prepared, perform};

@@ -1,26 +1,15 @@
-use Rattle.std.proofs.Common.{[], ◌∷◌}
 use Rattle.asm_core.specs.Sources.{source_lines}
 use Rattle.asm_listing.specs.Listing.{IsListing}
-use Rattle.vip_report.specs.declared.status.Status.TheVariants.{Done}
 use Rattle.vip_tools.specs.Outcome.{ListComes}
-use Rattle.vip_tools.specs.Outcome.Outcome.{Shown}
 use Rattle.vip_tools.specs.Outcome.SourceComes.{Assembles}
-use Rattle.vip_tools.proofs.WorkLemmas.{source-fails, text-whole, text-fails}
+use Rattle.vip_tools.specs.Work.{TextAnswers}
+use Rattle.vip_tools.proofs.WorkLemmas.{passed, refused-source}
 use Rattle.vip_tools.proofs.tools.list.Goals as goal
 
 pub returns-in_err-made : goal.returns-in_err-made
-returns-in_err-made g c =
-    source-fails c.args.source.now (λ made text. IsListing (source_lines c.args.source.now) text) _ _ _ c.from_residual.ensures.1
-    c.in_err-made.ensures
-
-pub returns-in_err-put : goal.returns-in_err-put
-returns-in_err-put g c =
-    let comes : ListComes c.args.source.now (Shown (c.as_slice.result.now ∷ []) Done []) =
-    Assembles c.in_ok-made.made c.as_slice.result.now c.in_ok-made.ensures (rw c.as_slice.ensures.value c.in_ok-text.ensures) in
-    text-fails (ListComes c.args.source.now) c.as_slice.result.now comes _ _ _ c.from_residual-in_err-put.ensures.1 c.in_err-put.ensures.answer
+returns-in_err-made c =
+    passed (TextAnswers (ListComes c.args.source.now)) _ _ c.from_residual.ensures.1
+    (refused-source c.args.source.now (λ made text. IsListing (source_lines c.args.source.now) text) _ c.in_err-made.ensures)
 
 pub returns : goal.returns
-returns g c =
-    let comes : ListComes c.args.source.now (Shown (c.as_slice.result.now ∷ []) Done []) =
-    Assembles c.in_ok-made.made c.as_slice.result.now c.in_ok-made.ensures (rw c.as_slice.ensures.value c.in_ok-text.ensures) in
-    text-whole (ListComes c.args.source.now) c.as_slice.result.now comes _ _ c.in_ok-put.ensures.answer
+returns c = Assembles c.in_ok-made.made c.in_ok-text.text.items c.in_ok-made.ensures c.in_ok-text.ensures

@@ -1,6 +1,6 @@
-//! The work of each verb.
+//! The opening of each verb: its files are read and judged, and all the memory that it needs is taken.
 
-ghost use Rattle.std.specs.Prelude.{◌≤◌, [], length};
+ghost use Rattle.std.specs.Prelude.{◌≡◌, ◌≤◌, [], length};
 ghost use Rattle.chip8_lang.specs.State.{memory_size};
 ghost use Rattle.vip_words.specs.Asked.{most_cycles};
 ghost use Rattle.vip_words.specs.Asked.Asked.{trace, play, debug, demo};
@@ -8,23 +8,22 @@ ghost use Rattle.vip_words.specs.Request.{asked_of, asked_run, asked_trace, aske
 ghost use Rattle.vip_tools.specs.Contents.{script_list, run_list, debug_list};
 ghost use Rattle.vip_tools.specs.Files.{needed, FitAll, contents_of};
 ghost use Rattle.vip_tools.specs.Opening.{SmallScripts};
-ghost use Rattle.vip_tools.specs.Work.{WorkAnswers};
 ghost use Rattle.vip_verbs.specs.Outcome.{Comes, RomIs, cycles_in};
 ghost use Rattle.vip_verbs.specs.Opening.{RomAnswers, StartAnswers};
+ghost use Rattle.vip_verbs.specs.Prepared.{OpenAnswers, PrepareAnswers, texted};
 
+use crate::prepared::Prepared;
 use chip8_lang::Edition;
 use rom_check::{ImageFault, check_image, check_tall};
 use std::alloc::Global;
 use vip_commands::Speaks;
-use vip_debug::{DebugEnd, run_commands};
-use vip_outside::Sink;
+use vip_outside::Files;
 use vip_relation::{StartFault, Vip};
-use vip_report::{Ended, Refusal};
-use vip_show::{show_pictures, show_summary, show_trace};
-use vip_text::RunEnd;
+use vip_report::Refusal;
 use vip_tools::{
     DebugContents, RunContents, asm, bounds, certified_contents, certify, cycles, debug_contents,
-    demo_game, dis, game_kind, list, only_content, read_debugging, read_keys, run_contents, safe,
+    demo_game, dis, game_kind, list, only_content, open_files, read_debugging, read_keys,
+    run_contents, safe, wanted_files,
 };
 use vip_words::{DebugRequest, DemoRequest, Request, RunRequest, TraceRequest};
 
@@ -68,100 +67,130 @@ fn start<'a>(
     }
 }
 
-fn trace<'a, O: Sink>(
+fn open_trace<'a>(
     alloc: Global,
     wish: &TraceRequest<'a>,
     contents: &RunContents<'_>,
-    out: &mut O,
-) -> Result<Ended, Refusal<'a>>
+) -> Result<Prepared, Refusal<'a>>
     requires limit { wish.now.run.cycles ≤ most_cycles }
     requires sizes { FitAll (needed (trace (asked_trace wish.now))) (run_list contents.now) }
-    ensures { WorkAnswers (Comes (trace (asked_trace wish.now)) (run_list contents.now)) (O.meaning out.old) (O.meaning out.new) result }
+    ensures { PrepareAnswers (Comes (trace (asked_trace wish.now)) (run_list contents.now)) result }
 {
     let run = wish.run;
-    let mut vip = start(alloc, run.edition, contents)?;
-    let end = show_trace(&mut vip, run.cycles, wish.with_time, wish.with_screen, out)?;
-    Ok(Ended::Ran(run.cycles, end))
+    let vip = start(alloc, run.edition, contents)?;
+    Ok(Prepared::Trace {
+        vip,
+        limit: run.cycles,
+        with_time: wish.with_time,
+        with_screen: wish.with_screen,
+    })
 }
 
-fn play<'a, O: Sink>(
+fn open_play<'a>(
     alloc: Global,
     wish: &RunRequest<'a>,
     contents: &RunContents<'_>,
-    out: &mut O,
-) -> Result<Ended, Refusal<'a>>
+) -> Result<Prepared, Refusal<'a>>
     requires limit { wish.now.cycles ≤ most_cycles }
     requires sizes { FitAll (needed (play (asked_run wish.now))) (run_list contents.now) }
-    ensures { WorkAnswers (Comes (play (asked_run wish.now)) (run_list contents.now)) (O.meaning out.old) (O.meaning out.new) result }
+    ensures { PrepareAnswers (Comes (play (asked_run wish.now)) (run_list contents.now)) result }
 {
-    let mut vip = start(alloc, wish.edition, contents)?;
-    let end = show_pictures(&mut vip, wish.cycles, out)?;
-    Ok(Ended::Ran(wish.cycles, end))
+    let vip = start(alloc, wish.edition, contents)?;
+    Ok(Prepared::Play {
+        vip,
+        limit: wish.cycles,
+    })
 }
 
 /// The commands are read before the key script, so that of two faults theirs counts.
-fn debug<'a, O: Sink>(
+fn open_debug<'a>(
     alloc: Global,
     wish: &DebugRequest<'a>,
     contents: &DebugContents<'_>,
-    out: &mut O,
-) -> Result<Ended, Refusal<'a>>
+) -> Result<Prepared, Refusal<'a>>
     requires limit { wish.now.run.cycles ≤ most_cycles }
     requires sizes { FitAll (needed (debug (asked_debug wish.now))) (debug_list contents.now) }
-    ensures { WorkAnswers (Comes (debug (asked_debug wish.now)) (debug_list contents.now)) (O.meaning out.old) (O.meaning out.new) result }
+    ensures { PrepareAnswers (Comes (debug (asked_debug wish.now)) (debug_list contents.now)) result }
 {
     let run = wish.run;
     let commands = read_debugging(alloc, Speaks::Chip8, contents.commands, run.cycles)?;
-    let mut vip = start(alloc, run.edition, &contents.run)?;
-    match run_commands(&mut vip, &commands, run.cycles, out) {
-        DebugEnd::Done => Ok(Ended::Ran(run.cycles, RunEnd::AtLimit)),
-        DebugEnd::Stopped(stop) => Ok(Ended::Ran(run.cycles, RunEnd::AtStop(stop))),
-        DebugEnd::WriteFault => Err(Refusal::Write),
-    }
+    let vip = start(alloc, run.edition, &contents.run)?;
+    Ok(Prepared::Debug {
+        vip,
+        limit: run.cycles,
+        commands,
+    })
 }
 
-fn demo<'a, O: Sink>(alloc: Global, wish: &DemoRequest, out: &mut O) -> Result<Ended, Refusal<'a>>
+fn open_demo<'a>(alloc: Global, wish: &DemoRequest) -> Result<Prepared, Refusal<'a>>
     requires limit { wish.now.cycles ≤ most_cycles }
-    ensures { WorkAnswers (Comes (demo (asked_demo wish.now)) []) (O.meaning out.old) (O.meaning out.new) result }
+    ensures { PrepareAnswers (Comes (demo (asked_demo wish.now)) []) result }
 {
     let game = demo_game(alloc, wish.number)?;
     let contents = RunContents {
         game: game.as_slice(),
         script: None,
     };
-    let mut vip = start(alloc, Edition::Usual, &contents)?;
-    let end = show_summary(&mut vip, wish.cycles, wish.number, out)?;
-    Ok(Ended::Ran(wish.cycles, end))
+    let vip = start(alloc, Edition::Usual, &contents)?;
+    Ok(Prepared::Demo {
+        vip,
+        limit: wish.cycles,
+        number: wish.number,
+    })
 }
 
-/// Does what is asked for with the contents of its files.
-pub fn work<'a, O: Sink>(
+/// A verb that writes a text alone.
+fn text<'a>(made: Result<Vec<u8>, Refusal<'a>>) -> Result<Prepared, Refusal<'a>>
+    ensures { result ≡ texted made.entry }
+{
+    match made {
+        Ok(text) => Ok(Prepared::Text(text)),
+        Err(refusal) => Err(refusal),
+    }
+}
+
+/// Judges the contents of the files of what is asked for.
+fn prepare<'a>(
     alloc: Global,
     request: &Request<'a>,
     contents: &[Vec<u8>],
-    out: &mut O,
-) -> Result<Ended, Refusal<'a>>
+) -> Result<Prepared, Refusal<'a>>
     requires limit { cycles_in (asked_of request.now) ≤ most_cycles }
     requires sizes { FitAll (needed (asked_of request.now)) (contents_of contents.now) }
-    ensures { WorkAnswers (Comes (asked_of request.now) (contents_of contents.now)) (O.meaning out.old) (O.meaning out.new) result }
+    ensures { PrepareAnswers (Comes (asked_of request.now) (contents_of contents.now)) result }
 {
     match request {
-        Request::Trace(wish) => trace(alloc, wish, &run_contents(contents), out),
-        Request::Play(wish) => play(alloc, wish, &run_contents(contents), out),
-        Request::Debug(wish) => debug(alloc, wish, &debug_contents(contents), out),
-        Request::Demo(wish) => demo(alloc, wish, out),
-        Request::Asm(_) => asm(alloc, only_content(contents), out),
-        Request::List(_) => list(alloc, only_content(contents), out),
-        Request::Dis(wish) => dis(alloc, only_content(contents), wish.address, out),
-        Request::Bounds => bounds(out),
+        Request::Trace(wish) => open_trace(alloc, wish, &run_contents(contents)),
+        Request::Play(wish) => open_play(alloc, wish, &run_contents(contents)),
+        Request::Debug(wish) => open_debug(alloc, wish, &debug_contents(contents)),
+        Request::Demo(wish) => open_demo(alloc, wish),
+        Request::Asm(_) => text(asm(alloc, only_content(contents))),
+        Request::List(_) => text(list(alloc, only_content(contents))),
+        Request::Dis(wish) => text(dis(alloc, only_content(contents), wish.address)),
+        Request::Bounds => text(bounds(alloc)),
         Request::Cycles(_) => {
             let files = certified_contents(contents);
-            cycles(alloc, files.certified, files.certificate, out)
+            text(cycles(alloc, files.certified, files.certificate))
         }
         Request::Safe(wish) => {
             let files = certified_contents(contents);
-            safe(alloc, wish.edition, files.certified, files.certificate, out)
+            text(safe(alloc, wish.edition, files.certified, files.certificate))
         }
-        Request::Certify(wish) => certify(alloc, wish.edition, only_content(contents), out),
+        Request::Certify(wish) => text(certify(alloc, wish.edition, only_content(contents))),
     }
+}
+
+/// Opens what is asked for: reads its files, in their order, up to the first that can't be read or is too large, and judges their contents. What is
+/// then ready needs no more memory.
+pub fn open<'a, F: Files>(
+    alloc: Global,
+    request: &Request<'a>,
+    files: &mut F,
+) -> Result<Prepared, Refusal<'a>>
+    requires limit { cycles_in (asked_of request.now) ≤ most_cycles }
+    ensures { OpenAnswers (asked_of request.now) (F.meaning files.old) (F.meaning files.new) result }
+{
+    let wanted = wanted_files(request);
+    let contents = open_files(alloc, files, wanted.as_slice())?;
+    prepare(alloc, request, contents.as_slice())
 }

@@ -1,4 +1,4 @@
-use Rattle.vip_verbs.proofs.verb.start.Goals as goal
+use Rattle.vip_verbs.proofs.opening.start.Goals as goal
 
 pub returns-in-Ok : goal.returns-in-Ok
 returns-in-Ok c = record {

@@ -1,0 +1,28 @@
+use Rattle.vip_tools.specs.Certificates.{CertifyComes, CyclesComes, SafeComes}
+use Rattle.vip_tools.specs.Outcome.{AsmComes, ListComes}
+use Rattle.vip_verbs.proofs.WorkLemmas.{text-answers}
+use Rattle.vip_verbs.proofs.opening.prepare.Goals as goal
+
+pub returns-in-Asm : goal.returns-in-Asm
+returns-in-Asm c = rw (c.in-Asm.is, c.only_content.ensures, c.text.ensures) (text-answers (AsmComes c.only_content.result.now) _ c.asm.ensures)
+
+pub returns-in-List : goal.returns-in-List
+returns-in-List c =
+    rw (c.in-List.is, c.only_content-in-List.ensures, c.text-in-List.ensures) (text-answers (ListComes c.only_content-in-List.result.now) _ c.list.ensures)
+
+pub returns-in-Cycles : goal.returns-in-Cycles
+returns-in-Cycles c =
+    let files = c.certified_contents-files.result in
+    rw (c.in-Cycles.is, c.certified_contents-files.ensures, c.text-in-Cycles.ensures)
+    (text-answers (CyclesComes files.certified.now files.certificate.now) _ c.cycles.ensures)
+
+pub returns-in-Safe : goal.returns-in-Safe
+returns-in-Safe c =
+    let files = c.certified_contents-files-in-Safe.result in
+    rw (c.in-Safe.is, c.certified_contents-files-in-Safe.ensures, c.text-in-Safe.ensures)
+    (text-answers (SafeComes c.in-Safe.wish.edition files.certified.now files.certificate.now) _ c.safe.ensures)
+
+pub returns-in-Certify : goal.returns-in-Certify
+returns-in-Certify c =
+    rw (c.in-Certify.is, c.only_content-in-Certify.ensures, c.text-in-Certify.ensures)
+    (text-answers (CertifyComes c.in-Certify.wish.edition c.only_content-in-Certify.result.now) _ c.certify.ensures)
