@@ -7,6 +7,7 @@ use Rattle.vip_byte.specs.Number.{decimal_number, hex_number}
 use Rattle.vip_byte.specs.declared.number.TheConstants.{MOST_CYCLE}
 use Rattle.vip_words.specs.Rules.{Given, Word, given_by}
 use Rattle.vip_words.specs.Table.{usage_of}
+use Rattle.vip_words.specs.declared.request.TheConstants.{MOST_MOVES}
 use Rattle.vip_words.specs.declared.request.Memory.{Memory}
 use Rattle.vip_words.specs.declared.request.Memory.TheVariants.{Rom, Ram}
 use Rattle.vip_words.specs.declared.table.Verb.{Verb}
@@ -122,9 +123,13 @@ cycles_of word = result_ok (decimal_number word most_cycles)
 abbrev pub seed_of : Word → Option ℕ
 seed_of word = result_ok (decimal_number word 4294967295)
 
+-- the most moves of joined boards
+abbrev pub most_moves : ℕ
+most_moves = MOST_MOVES
+
 -- a number of moves of joined boards: decimal, from 0 to 10,000,000
 abbrev pub moves_of : Word → Option ℕ
-moves_of word = result_ok (decimal_number word 10_000_000)
+moves_of word = result_ok (decimal_number word most_moves)
 
 -- an address: hexadecimal, from 0 to FFFF
 abbrev pub address_of : Word → Option ℕ
