@@ -9,7 +9,7 @@ use Rattle.vip_outside.specs.Files.{FileMap, FilesMeaning, IsStartOf, ReadsStart
 use Rattle.vip_outside.specs.declared.files.Loaded.{Loaded}
 use Rattle.vip_tools.specs.declared.files.Wanted.{Wanted}
 use Rattle.vip_report.specs.declared.refusal.Refusal.{Refusal}
-use Rattle.vip_report.specs.declared.refusal.Refusal.TheVariants.{Usage, Unread, TooLarge, Script, Command, Source, Rom, Certificate, Proof, NoCertificate, NoMemory}
+use Rattle.vip_report.specs.declared.refusal.Refusal.TheVariants.{Usage, Unread, TooLarge, Script, Command, Source, State, Rom, Certificate, Proof, NoCertificate, NoMemory}
 use Rattle.vip_tools.specs.Files.{Needed, Has, HasAll, FitAll, ComesTo, FileAnswers, FilesAnswer, IsLarger, IsUnread, ReadsSome, names_of, seen_wanted, with_names}
 
 has-suc :
@@ -88,6 +88,7 @@ module _ (old here new : FilesMeaning) (ws : List Wanted) (k : ℕ) (d : Wanted)
     refused (Script line cause) same had at = absurd at
     refused (Command line cause) same had at = absurd at
     refused (Source line cause) same had at = absurd at
+    refused (State fault) same had at = absurd at
     refused (Rom fault) same had at = absurd at
     refused (Certificate line cause) same had at = absurd at
     refused (Proof line cause) same had at = absurd at

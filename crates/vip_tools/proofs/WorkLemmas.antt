@@ -3,7 +3,7 @@ use Rattle.std.proofs.Common.{◌≡◌, ℕ, List, sym, subst, Result, Ok, Err,
 use Rattle.chip8_lang.specs.declared.view.Edition.{Edition}
 use Rattle.asm_core.specs.Made.{Made}
 use Rattle.vip_report.specs.declared.refusal.Refusal.{Refusal}
-use Rattle.vip_report.specs.declared.refusal.Refusal.TheVariants.{Usage, Unread, TooLarge, Script, Command, Source, Rom, Certificate, Proof, NoCertificate, NoMemory}
+use Rattle.vip_report.specs.declared.refusal.Refusal.TheVariants.{Usage, Unread, TooLarge, Script, Command, Source, State, Rom, Certificate, Proof, NoCertificate, NoMemory}
 use Rattle.vip_tools.specs.Certificates.{Assembled, CyclesComes, SafeComes, rom_in}
 use Rattle.vip_tools.specs.Certificates.CyclesComes.{NotAssembled, FaultyCertificate}
 use Rattle.vip_tools.specs.Certificates.SafeComes.{FaultyProof}
@@ -31,6 +31,7 @@ module _ (source : List ℕ) (IsText : Made → List ℕ → Type 0) where
   refused-source (Script line cause) answer = absurd answer
   refused-source (Command line cause) answer = absurd answer
   refused-source (Source line cause) answer = FaultySource line cause answer
+  refused-source (State fault) answer = absurd answer
   refused-source (Rom fault) answer = absurd answer
   refused-source (Certificate line cause) answer = absurd answer
   refused-source (Proof line cause) answer = absurd answer
@@ -47,6 +48,7 @@ module _ (source text : List ℕ) where
   refused-rom (Script line cause) answer = absurd answer
   refused-rom (Command line cause) answer = absurd answer
   refused-rom (Source line cause) answer = NotAssembled line cause answer
+  refused-rom (State fault) answer = absurd answer
   refused-rom (Rom fault) answer = absurd answer
   refused-rom (Certificate line cause) answer = absurd answer
   refused-rom (Proof line cause) answer = absurd answer
@@ -61,6 +63,7 @@ module _ (source text : List ℕ) where
   refused-checked made (Script line cause) answer = absurd answer
   refused-checked made (Command line cause) answer = absurd answer
   refused-checked made (Source line cause) answer = absurd answer
+  refused-checked made (State fault) answer = absurd answer
   refused-checked made (Rom fault) answer = absurd answer
   refused-checked made (Certificate line cause) answer = FaultyCertificate line cause made answer
   refused-checked made (Proof line cause) answer = absurd answer
@@ -80,6 +83,7 @@ module _ (e : Edition) (game text : List ℕ) where
   refused-proof (Script line cause) answer = absurd answer
   refused-proof (Command line cause) answer = absurd answer
   refused-proof (Source line cause) answer = absurd answer
+  refused-proof (State fault) answer = absurd answer
   refused-proof (Rom fault) answer = absurd answer
   refused-proof (Certificate line cause) answer = absurd answer
   refused-proof (Proof line cause) answer = FaultyProof line cause answer

@@ -7,10 +7,12 @@ use Rattle.vip_outside.specs.Files.{FilesMeaning, with_name}
 use Rattle.chip8_lang.specs.State.{memory_size}
 use Rattle.chip8_lang.specs.declared.view.Edition.{Edition}
 use Rattle.chip8_lang.specs.declared.view.Edition.TheVariants.{Usual, Tall}
-use Rattle.vip_words.specs.Asked.{Asked, AskedRun, trace, play, debug, demo, asm, list, dis, bounds, within, safe, certify}
+use Rattle.vip_words.specs.Asked.{Asked, AskedRun, asm, bounds, certify, debug, debug_program, demo, dis, link, list, play, play_program, resume, safe, save, source, trace, trace_program, within}
+use Rattle.vip_words.specs.declared.request.Memory.{Memory}
+use Rattle.vip_words.specs.declared.request.Memory.TheVariants as memory
 use Rattle.vip_tools.specs.declared.files.Wanted.{Wanted}
 use Rattle.vip_report.specs.declared.refusal.Kind.{Kind}
-use Rattle.vip_report.specs.declared.refusal.Kind.TheVariants.{Game, TallGame, Script, Commands, Source, Certificate}
+use Rattle.vip_report.specs.declared.refusal.Kind.TheVariants.{Game, TallGame, Script, Commands, Source, Certificate, State, Message, Rom, Ram}
 use Rattle.vip_report.specs.declared.refusal.Refusal.{Refusal}
 use Rattle.vip_report.specs.declared.refusal.Refusal.TheVariants.{Unread, TooLarge, NoMemory}
 
@@ -44,19 +46,44 @@ abbrev pub script_file : Option (List ℕ) → List Needed
 script_file None = []
 script_file (Some name) = file Script most_text name ∷ []
 
+-- a saved state, which has so many bytes
+abbrev pub state_file : List ℕ → Needed
+state_file name = file State 4_147 name
+
+-- a message that one board sends to another
+abbrev pub message_file : List ℕ → Needed
+message_file name = file Message 3_000 name
+
+-- a program, which has to fit into its memory
+abbrev pub program_file : Memory → List ℕ → Needed
+program_file memory.Rom name = file Rom 2_048 name
+program_file memory.Ram name = file Ram 4_096 name
+
+-- the debugger's commands
+abbrev pub commands_file : List ℕ → Needed
+commands_file name = file Commands most_text name
+
 -- the files of a run
 abbrev pub run_files : AskedRun → List Needed
 run_files a = game_file a.edition a.game ∷ script_file a.keys
 
--- the files of a command, in the order in which they are read; bytes to disassemble have to end by address FFFF
+-- The files of a command, in the order in which they are read. Bytes to disassemble have to end by address FFFF. A saved state is judged before the
+-- key script behind it is read.
 abbrev pub needed : Asked → List Needed
 needed (trace a) = run_files a.run
 needed (play a) = run_files a
-needed (debug a) = game_file a.run.edition a.run.game ∷ file Commands most_text a.commands ∷ script_file a.run.keys
+needed (debug a) = game_file a.run.edition a.run.game ∷ commands_file a.commands ∷ script_file a.run.keys
+needed (save a) = run_files a
+needed (resume a) = state_file a.state ∷ script_file a.keys
 needed (demo a) = []
-needed (asm name) = file Source most_text name ∷ []
+needed (link a) = message_file a.message ∷ []
+needed (trace_program a) = program_file a.memory a.program ∷ script_file a.keys
+needed (play_program a) = program_file a.memory a.program ∷ script_file a.keys
+needed (debug_program a) = program_file a.run.memory a.run.program ∷ commands_file a.commands ∷ script_file a.run.keys
+needed (asm a) = file Source most_text a.file ∷ []
 needed (list name) = file Source most_text name ∷ []
 needed (dis a) = file Source (addresses - a.address) a.file ∷ []
+needed (source e) = []
 needed bounds = []
 needed (within a) = file Source most_text a.file ∷ file Certificate most_text a.certificate ∷ []
 needed (safe a) = game_file a.edition a.game ∷ file Certificate most_text a.certificate ∷ []

@@ -1,10 +1,14 @@
 -- What a command comes to, and what those come to that run no board, by the contents of their files; of certificates says `Certificates`.
-use Rattle.std.specs.Prelude.{◌≡◌, ℕ, List, [], ◌∷◌, Result, Ok}
+use Rattle.std.specs.Prelude.{◌≡◌, ℕ, List, [], ◌∷◌, Bool, true, false, Result, Ok}
 use Rattle.machine.specs.Keys.{Event as KeyEvent}
+use Rattle.chip8_lang.specs.declared.view.Edition.{Edition}
+use Rattle.chip8_lang.specs.declared.view.Edition.TheVariants.{Usual, Tall}
+use Rattle.chip8_source.specs.Texts.{usual_text, tall_text}
 use Rattle.asm_core.specs.Made.{Made, IsAssembly}
 use Rattle.asm_core.specs.Sources.{source_lines, HasFirstFault}
 use Rattle.asm_core.specs.declared.fault.AsmCause.{AsmCause}
 use Rattle.asm_listing.specs.Dump.{dump_text}
+use Rattle.asm_listing.specs.Raw.{IsRaw}
 use Rattle.asm_listing.specs.Listing.{IsListing}
 use Rattle.asm_listing.specs.Disassembly.{disassembly}
 use Rattle.vip_text.specs.Bounds.{bounds_table}
@@ -36,8 +40,13 @@ pub data SourceComes (source : List ℕ) (IsText : Made → List ℕ → Type 0)
   FaultySource : (line : ℕ) (cause : AsmCause) → HasFirstFault (source_lines source) line cause → SourceComes source IsText (Refused BadSource (bad_source line cause))
   Assembles : (made : Made) (text : List ℕ) → IsAssembly (source_lines source) made → IsText made text → SourceComes source IsText (Shown (text ∷ []) Done [])
 
-abbrev pub AsmComes : List ℕ → Outcome → Type 0
-AsmComes source = SourceComes source (λ made text. text ≡ dump_text made)
+-- its bytes themselves, or their dump
+abbrev pub IsBytes : Bool → Made → List ℕ → Type 0
+IsBytes true made text = IsRaw made text
+IsBytes false made text = text ≡ dump_text made
+
+abbrev pub AsmComes : Bool → List ℕ → Outcome → Type 0
+AsmComes raw source = SourceComes source (IsBytes raw)
 
 abbrev pub ListComes : List ℕ → Outcome → Type 0
 ListComes source = SourceComes source (λ made text. IsListing (source_lines source) text)
@@ -48,6 +57,14 @@ abbrev pub DisComes : ℕ → List ℕ → Outcome → Type 0
 DisComes address bytes = Writes (disassembly address bytes)
 
 -- ---- nothing
+
+-- the built-in source of an edition's ROM
+abbrev pub rom_text : Edition → List ℕ
+rom_text Usual = usual_text
+rom_text Tall = tall_text
+
+abbrev pub TextComes : Edition → Outcome → Type 0
+TextComes e = Writes (rom_text e)
 
 abbrev pub BoundsComes : Outcome → Type 0
 BoundsComes = Writes bounds_table

@@ -1,11 +1,10 @@
 //! The files that a verb reads.
 
-ghost use Rattle.std.specs.Prelude.{◌≡◌, ◌<◌, ◌∷◌, [], ℕ, map, slice_index};
+ghost use Rattle.std.specs.Prelude.{◌≡◌, ◌<◌, ◌∷◌, [], ℕ, map, option_map, slice_index};
 ghost use Rattle.chip8_lang.specs.State.{memory_size};
-ghost use Rattle.vip_words.specs.Asked.Asked.{debug};
-ghost use Rattle.vip_words.specs.Request.{asked_debug, asked_of, asked_run};
+ghost use Rattle.vip_words.specs.Request.{asked_of, asked_run};
 ghost use Rattle.vip_report.specs.declared.refusal.Kind.TheVariants.{Certificate, Source};
-ghost use Rattle.vip_tools.specs.Files.{needed, run_files, file, game_kind, game_file, most_text, seen_wanted, FileAnswers, FilesAnswer};
+ghost use Rattle.vip_tools.specs.Files.{commands_file, file, game_file, game_kind, message_file, most_text, needed, program_file, run_files, script_file, seen_wanted, state_file, FileAnswers, FilesAnswer};
 
 use arrayvec::ArrayVec;
 use chip8_lang::Edition;
@@ -13,7 +12,7 @@ use std::alloc::Global;
 use vip_byte::MOST_TEXT;
 use vip_outside::{Files, ReadFail};
 use vip_report::{Kind, Refusal};
-use vip_words::{DebugRequest, Request, RunRequest};
+use vip_words::{Memory, Request, RunRequest};
 
 /// The addresses of the machine, 0000 to FFFF.
 const ADDRESSES: usize = 65_536;
@@ -23,6 +22,17 @@ const USUAL_GAME: usize = 3_232;
 
 /// The bytes of game memory in the tall edition.
 const TALL_GAME: usize = 2_976;
+
+/// The bytes of a saved state.
+const STATE: usize = 4_147;
+
+/// The most bytes of a message.
+const MOST_MESSAGE: usize = 3_000;
+
+/// The bytes of the ROM, and of the RAM.
+const ROM: usize = 2_048;
+
+const RAM: usize = 4_096;
 
 /// A file that a verb reads, with the most bytes that it may have.
 #[derive(Clone, Copy, Default)]
@@ -63,13 +73,45 @@ fn game_file<'a>(edition: Edition, name: &'a str) -> Wanted<'a>
     }
 }
 
-/// The files of a run: the game, and the key script where one is named.
-fn run_files<'a>(run: &RunRequest<'a>) -> ArrayVec<Wanted<'a>, 3>
-    ensures { map seen_wanted result.items ≡ run_files (asked_run run.now) }
+/// A saved state.
+fn state_file<'a>(name: &'a str) -> Wanted<'a>
+    ensures { seen_wanted result ≡ state_file name.now }
 {
-    let mut wanted = ArrayVec::new();
-    wanted.push(game_file(run.edition, run.game));
-    if let Some(name) = run.keys {
+    Wanted {
+        name,
+        most: STATE,
+        kind: Kind::State,
+    }
+}
+
+/// A message that one board sends to another.
+fn message_file<'a>(name: &'a str) -> Wanted<'a>
+    ensures { seen_wanted result ≡ message_file name.now }
+{
+    Wanted {
+        name,
+        most: MOST_MESSAGE,
+        kind: Kind::Message,
+    }
+}
+
+/// A program, which has to fit into its memory.
+fn program_file<'a>(memory: Memory, name: &'a str) -> Wanted<'a>
+    ensures { seen_wanted result ≡ program_file memory name.now }
+{
+    let (most, kind) = match memory {
+        Memory::Rom => (ROM, Kind::Rom),
+        Memory::Ram => (RAM, Kind::Ram),
+    };
+    Wanted { name, most, kind }
+}
+
+/// A file, and a key script where one is named.
+fn with_script<'a>(first: Wanted<'a>, keys: Option<&'a str>) -> ArrayVec<Wanted<'a>, 3>
+    ensures { map seen_wanted result.items ≡ seen_wanted first.entry ∷ script_file (option_map (λ name. name.now) keys.entry) }
+{
+    let mut wanted = only(first);
+    if let Some(name) = keys {
         wanted.push(Wanted {
             name,
             most: MOST_TEXT,
@@ -79,15 +121,27 @@ fn run_files<'a>(run: &RunRequest<'a>) -> ArrayVec<Wanted<'a>, 3>
     wanted
 }
 
-/// The files of a run under the debugger: the game, the commands, and the key script where one is named.
-fn debug_files<'a>(wish: &DebugRequest<'a>) -> ArrayVec<Wanted<'a>, 3>
-    ensures { map seen_wanted result.items ≡ needed (debug (asked_debug wish.now)) }
+/// The files of a run: the game, and the key script where one is named.
+fn run_files<'a>(run: &RunRequest<'a>) -> ArrayVec<Wanted<'a>, 3>
+    ensures { map seen_wanted result.items ≡ run_files (asked_run run.now) }
 {
-    let mut wanted = run_files(&wish.run);
+    with_script(game_file(run.edition, run.game), run.keys)
+}
+
+/// The files of a run under the debugger: what is run, the commands, and the key script where one is named.
+fn debug_files<'a>(
+    first: Wanted<'a>,
+    commands: &'a str,
+    keys: Option<&'a str>,
+) -> ArrayVec<Wanted<'a>, 3>
+    ensures { map seen_wanted result.items
+        ≡ seen_wanted first.entry ∷ commands_file commands.now ∷ script_file (option_map (λ name. name.now) keys.entry) }
+{
+    let mut wanted = with_script(first, keys);
     wanted.insert(
         1,
         Wanted {
-            name: wish.commands,
+            name: commands,
             most: MOST_TEXT,
             kind: Kind::Commands,
         },
@@ -136,7 +190,23 @@ pub fn wanted_files<'a>(request: &Request<'a>) -> ArrayVec<Wanted<'a>, 3>
     match request {
         Request::Trace(wish) => run_files(&wish.run),
         Request::Play(run) => run_files(run),
-        Request::Debug(wish) => debug_files(wish),
+        Request::Debug(wish) => {
+            let run = &wish.run;
+            debug_files(game_file(run.edition, run.game), wish.commands, run.keys)
+        }
+        Request::Save(run) => run_files(run),
+        Request::Resume(wish) => with_script(state_file(wish.state), wish.keys),
+        Request::Link(wish) => only(message_file(wish.message)),
+        Request::TraceProgram(run) => with_script(program_file(run.memory, run.program), run.keys),
+        Request::PlayProgram(run) => with_script(program_file(run.memory, run.program), run.keys),
+        Request::DebugProgram(wish) => {
+            let run = &wish.run;
+            debug_files(
+                program_file(run.memory, run.program),
+                wish.commands,
+                run.keys,
+            )
+        }
         Request::Asm(wish) => only(source_file(wish.file, MOST_TEXT)),
         Request::List(wish) => only(source_file(wish.file, MOST_TEXT)),
         Request::Dis(wish) => only(source_file(wish.file, ADDRESSES - usize::from(wish.address))),
@@ -147,7 +217,7 @@ pub fn wanted_files<'a>(request: &Request<'a>) -> ArrayVec<Wanted<'a>, 3>
             with_certificate(game_file(wish.edition, wish.game), wish.certificate)
         }
         Request::Certify(wish) => only(game_file(wish.edition, wish.game)),
-        Request::Demo(_) | Request::Bounds => ArrayVec::new(),
+        Request::Demo(_) | Request::Source(_) | Request::Bounds => ArrayVec::new(),
     }
 }
 

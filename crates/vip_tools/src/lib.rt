@@ -22,4 +22,4 @@ pub use contents::{
 pub use demo::demo_game;
 pub use files::{Wanted, game_kind, open_files, wanted_files};
 pub use reading::{read_debugging, read_keys};
-pub use tools::{asm, bounds, dis, list};
+pub use tools::{asm, bounds, dis, list, source};

@@ -1,14 +1,15 @@
 //! The verbs that run no board.
 
-ghost use Rattle.std.specs.Prelude.{◌-◌, ◌≤◌, length};
+ghost use Rattle.std.specs.Prelude.{◌-◌, ◌≤◌, length, IfOk};
 ghost use Rattle.vip_tools.specs.Files.{addresses, most_text};
 ghost use Rattle.vip_tools.specs.Opening.{SourceAnswers};
-ghost use Rattle.vip_tools.specs.Outcome.{AsmComes, BoundsComes, DisComes, ListComes};
+ghost use Rattle.vip_tools.specs.Outcome.{AsmComes, BoundsComes, DisComes, IsBytes, ListComes, TextComes};
 ghost use Rattle.vip_tools.specs.Work.{TextAnswers};
 
 use asm_core::{AsmFault, Assembly, assemble};
-use asm_listing::{disassemble, dump, listing};
-use std::alloc::Global;
+use asm_listing::{disassemble, dump, listing, raw};
+use chip8_lang::Edition;
+use std::alloc::{AllocError, Global};
 use vip_byte::Buffer;
 use vip_report::Refusal;
 use vip_text::bounds_text;
@@ -25,13 +26,24 @@ pub(crate) fn assembled<'a>(alloc: Global, source: &[u8]) -> Result<Assembly, Re
     }
 }
 
-/// Assembles a source of at most 1,048,576 bytes: the dump of its bytes.
-pub fn asm<'a>(alloc: Global, source: &[u8]) -> Result<Vec<u8>, Refusal<'a>>
+/// The bytes of an assembly themselves, or their dump.
+fn bytes(alloc: Global, made: &Assembly, themselves: bool) -> Result<Vec<u8>, AllocError>
+    ensures { IfOk result (λ text. IsBytes themselves made.now text.items) }
+{
+    if themselves {
+        raw(alloc, made)
+    } else {
+        dump(alloc, made)
+    }
+}
+
+/// Assembles a source of at most 1,048,576 bytes: its bytes themselves, or their dump.
+pub fn asm<'a>(alloc: Global, source: &[u8], raw: bool) -> Result<Vec<u8>, Refusal<'a>>
     requires { length source.now ≤ most_text }
-    ensures { TextAnswers (AsmComes source.now) result }
+    ensures { TextAnswers (AsmComes raw source.now) result }
 {
     let made = assembled(alloc, source)?;
-    let text = dump(alloc, &made)?;
+    let text = bytes(alloc, &made, raw)?;
     Ok(text)
 }
 
@@ -51,6 +63,17 @@ pub fn dis<'a>(alloc: Global, bytes: &[u8], address: u16) -> Result<Vec<u8>, Ref
     ensures { TextAnswers (DisComes address bytes.now) result }
 {
     let text = disassemble(alloc, bytes, address)?;
+    Ok(text)
+}
+
+/// The source of an edition's interpreter.
+pub fn source<'a>(alloc: Global, edition: Edition) -> Result<Vec<u8>, Refusal<'a>>
+    ensures { TextAnswers (TextComes edition) result }
+{
+    let text = match edition {
+        Edition::Usual => chip8_source::source(alloc)?,
+        Edition::Tall => chip8_source::tall_source(alloc)?,
+    };
     Ok(text)
 }
 

@@ -1,6 +1,4 @@
-use Rattle.std.proofs.Common.{◌≡◌}
-use Rattle.asm_listing.specs.Dump.{dump_text}
-use Rattle.vip_tools.specs.Outcome.{AsmComes}
+use Rattle.vip_tools.specs.Outcome.{AsmComes, IsBytes}
 use Rattle.vip_tools.specs.Outcome.SourceComes.{Assembles}
 use Rattle.vip_tools.specs.Work.{TextAnswers}
 use Rattle.vip_tools.proofs.WorkLemmas.{passed, refused-source}
@@ -8,7 +6,8 @@ use Rattle.vip_tools.proofs.tools.asm.Goals as goal
 
 pub returns-in_err-made : goal.returns-in_err-made
 returns-in_err-made c =
-    passed (TextAnswers (AsmComes c.args.source.now)) _ _ c.from_residual.ensures.1 (refused-source c.args.source.now (λ made text. text ≡ dump_text made) _ c.in_err-made.ensures)
+    passed (TextAnswers (AsmComes c.args.raw c.args.source.now)) _ _ c.from_residual.ensures.1
+    (refused-source c.args.source.now (IsBytes c.args.raw) _ c.in_err-made.ensures)
 
 pub returns : goal.returns
 returns c = Assembles c.in_ok-made.made c.in_ok-text.text.items c.in_ok-made.ensures c.in_ok-text.ensures
