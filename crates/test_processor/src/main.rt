@@ -5,12 +5,14 @@
 //! into the state before, over a plain memory, and makes one instruction, and then the moves that the signals of the vector want. Its
 //! registers, its calls on the bus and its machine cycles must be those of the vector. The vectors that were measured with the display
 //! on run on a whole board of `vip_board` too, whose video chip gives the signals. The program writes each vector that differs, and
-//! then the counts. Then it runs the small ROMs of `data/boards.txt` on a whole board, whose outcome was worked out by hand.
+//! then the counts. Then it runs the small ROMs of `data/boards.txt` on a whole board, whose outcome was worked out by hand, and two boards that are
+//! joined by port 3 under many schedules.
 //!
 //! It is a test of the definitions of `machine`, which no proof can judge: nothing here is proved but that it is safe.
 #![tactic(auto)]
 
 mod on_board;
+mod schedules;
 mod small_rom;
 mod test_bus;
 mod vector;
@@ -131,8 +133,13 @@ fn run_small_roms(rt: &HostRuntime, text: &str) -> anyhow::Result<()> {
     if let Some(rom) = rom.take() {
         judge(rt, &rom, &mut counts)?;
     }
+    write_counts(rt, "small ROMs on the board", &counts)
+}
+
+/// Writes how many of these passed and failed.
+fn write_counts(rt: &HostRuntime, what: &str, counts: &Counts) -> anyhow::Result<()> {
     println!(rt;
-        "{} small ROMs on the board: {} passed, {} failed",
+        "{} {what}: {} passed, {} failed",
         counts.all(),
         counts.passed,
         counts.failed
@@ -163,17 +170,11 @@ fn main(rt: HostRuntime) -> anyhow::Result<()> {
             }
         }
     }
-    println!(rt;
-        "{} vectors: {} passed, {} failed",
-        counts.all(),
-        counts.passed,
-        counts.failed
-    )?;
-    println!(rt;
-        "{} of them on the board: {} passed, {} failed",
-        on_board.all(),
-        on_board.passed,
-        on_board.failed
-    )?;
-    run_small_roms(&rt, &fs::read_to_string(&rt, "boards.txt")?)
+    write_counts(&rt, "vectors", &counts)?;
+    write_counts(&rt, "of them on the board", &on_board)?;
+    run_small_roms(&rt, &fs::read_to_string(&rt, "boards.txt")?)?;
+    let short = schedules::around_each_hand_over(rt.alloc())?;
+    write_counts(&rt, "schedules of 16 moves around hand-overs", &short)?;
+    let random = schedules::at_random(rt.alloc())?;
+    write_counts(&rt, "random schedules", &random)
 }

@@ -1,0 +1,123 @@
+//! Two boards that are joined by port 3, under many schedules.
+//!
+//! After each schedule, and after each move of the short ones, the bytes that B received are the first ones of the message, and A sent as many or
+//! one more. In the end B received the whole message.
+
+use crate::Counts;
+use std::alloc::Global;
+use vip_link::{Link, LinkFault, Side};
+
+/// The lengths of the messages under random schedules.
+const LENGTHS: [u32; 7] = [0, 1, 2, 255, 256, 257, 3_000];
+
+/// How many random schedules there are.
+const RANDOM: u32 = 1_000;
+
+/// The message of the short schedules.
+const SHORT: &[u8] = b"HI";
+
+/// The moves of both boards in turn that bring it.
+const ENOUGH: u32 = 100;
+
+/// The moves of a schedule that are tried in every order, and how many of them come before a hand-over.
+const TRIED: u32 = 16;
+
+const BEFORE: u32 = 8;
+
+/// Makes a move of a side, unless too many were made.
+fn step(link: &mut Link, side: Side) {
+    if link.moves() < 20_000_000 {
+        link.step(side);
+    }
+}
+
+/// The side of a move where both move in turn.
+fn in_turn(number: u32) -> Side {
+    if number % 2 == 0 { Side::A } else { Side::B }
+}
+
+/// Makes so many moves of both boards in turn.
+fn alternate(link: &mut Link, moves: u32) {
+    for number in 0..moves {
+        step(link, in_turn(number));
+    }
+}
+
+/// Makes so many moves by the schedule of a number, unless too many were made.
+fn run(link: &mut Link, number: u32, moves: u32) {
+    if link.moves() < 10_000_000 && moves < 10_000_000 {
+        link.run(number, moves);
+    }
+}
+
+/// What was sent and received is a part of the message.
+fn is_part(link: &Link, message: &[u8]) -> bool {
+    let received = link.received();
+    let ahead = (link.sent() as usize).wrapping_sub(received.len());
+    message.starts_with(received) && ahead <= 1
+}
+
+/// Makes the moves of a schedule, a bit a move, behind so many in turn, and then enough to bring the message.
+fn passes(alloc: Global, before: u32, schedule: u16) -> Result<bool, LinkFault> {
+    let mut link = Link::new(alloc, SHORT)?;
+    alternate(&mut link, before);
+    for bit in 0..TRIED {
+        step(&mut link, in_turn(u32::from(schedule) >> bit));
+        if !is_part(&link, SHORT) {
+            return Ok(false);
+        }
+    }
+    alternate(&mut link, ENOUGH);
+    Ok(link.received() == SHORT && link.sent() == 2)
+}
+
+/// Tries every schedule of 16 moves around each move of a run in turn that puts a byte on the wire or takes it.
+pub fn around_each_hand_over(alloc: Global) -> Result<Counts, LinkFault> {
+    let mut counts = Counts::none();
+    let mut link = Link::new(alloc, SHORT)?;
+    let mut seen = (0, 0);
+    for number in 0..ENOUGH {
+        step(&mut link, in_turn(number));
+        let now = (link.sent(), link.received().len());
+        if now != seen {
+            seen = now;
+            for schedule in 0..=u16::MAX {
+                counts.add(passes(alloc, number.saturating_sub(BEFORE), schedule)?);
+            }
+        }
+    }
+    Ok(counts)
+}
+
+/// A message of so many bytes, in which all bytes come in turn.
+fn message_of(alloc: Global, length: u32, number: u32) -> Result<Vec<u8>, LinkFault> {
+    let mut message = vec![in alloc; 0; length as usize]?;
+    let step = (number % 256) as u8 | 1;
+    let mut next = 0u8;
+    for byte in message.iter_mut() {
+        *byte = next;
+        next = next.wrapping_add(step);
+    }
+    Ok(message)
+}
+
+/// Tries random schedules, with messages of several lengths.
+pub fn at_random(alloc: Global) -> Result<Counts, LinkFault> {
+    let mut counts = Counts::none();
+    for number in 0..RANDOM {
+        let length = LENGTHS[(number % 7) as usize];
+        let message = message_of(alloc, length, number)?;
+        let mut link = Link::new(alloc, &message)?;
+        let mut passes = true;
+        for part in 0..40 {
+            run(
+                &mut link,
+                number.wrapping_add(part),
+                length.saturating_add(4),
+            );
+            passes = passes && is_part(&link, &message);
+        }
+        counts.add(passes && link.received() == message.as_slice());
+    }
+    Ok(counts)
+}
