@@ -4,6 +4,7 @@ mod Ends
 mod Flags
 mod Known
 mod Parses
+mod Ranges
 mod Rows
 mod Shown
 mod Steps

@@ -1,5 +1,5 @@
 -- What the words of a command line ask for.
-use Rattle.std.specs.Prelude.{ℕ, List, [], ◌∷◌, Bool, ◌&&◌, ◌||◌, if◌then◌else◌, Option, None, Some, option_map, option_and_then}
+use Rattle.std.specs.Prelude.{◌≤◌, ℕ, List, [], ◌∷◌, Bool, ◌&&◌, ◌||◌, if◌then◌else◌, Option, None, Some, option_map, option_and_then}
 use Rattle.std.specs.Result.{result_ok}
 use Rattle.chip8_lang.specs.declared.view.Edition.{Edition}
 use Rattle.chip8_lang.specs.declared.view.Edition.TheVariants.{Usual, Tall}
@@ -111,6 +111,24 @@ pub data Asked : Type 0 where
 
 -- ---- numbers
 
+-- the machine cycles that are asked for
+abbrev pub cycles_in : Asked → ℕ
+cycles_in (trace a) = a.run.cycles
+cycles_in (play a) = a.cycles
+cycles_in (debug a) = a.run.cycles
+cycles_in (save a) = a.cycles
+cycles_in (resume a) = a.cycles
+cycles_in (demo a) = a.cycles
+cycles_in (trace_program a) = a.cycles
+cycles_in (play_program a) = a.cycles
+cycles_in (debug_program a) = a.run.cycles
+cycles_in _ = 0
+
+-- the moves of joined boards that are asked for
+abbrev pub moves_in : Asked → ℕ
+moves_in (link a) = a.moves
+moves_in _ = 0
+
 -- the most machine cycles of a run
 abbrev pub most_cycles : ℕ
 most_cycles = MOST_CYCLE
@@ -126,6 +144,11 @@ seed_of word = result_ok (decimal_number word 4294967295)
 -- the most moves of joined boards
 abbrev pub most_moves : ℕ
 most_moves = MOST_MOVES
+
+-- so many machine cycles and moves may be asked for
+pub record InRange (wish : Asked) : Type 0 where
+  pub cycles : cycles_in wish ≤ most_cycles
+  pub moves : moves_in wish ≤ most_moves
 
 -- a number of moves of joined boards: decimal, from 0 to 10,000,000
 abbrev pub moves_of : Word → Option ℕ

@@ -1,7 +1,7 @@
 //! What the words of a command line ask for.
 
 ghost use Rattle.std.specs.Prelude.{◌≡◌, IfOk, IsErrOf, None, Some, map, option_map, string_bytes};
-ghost use Rattle.vip_words.specs.Asked.{address_of, asked_by, asked_of_verb, cycles_of, edition_by, is_mixed, is_program, moves_of, program_by, run_by, seed_of};
+ghost use Rattle.vip_words.specs.Asked.{address_of, asked_by, asked_of_verb, cycles_of, edition_by, is_mixed, is_program, moves_of, program_by, run_by, seed_of, InRange};
 ghost use Rattle.vip_words.specs.Given.{seen_given};
 ghost use Rattle.vip_words.specs.Request.{asked_of, asked_program, asked_run};
 ghost use Rattle.vip_words.specs.declared.table.Verb.TheVariants as verb;
@@ -481,6 +481,7 @@ fn request_of<'a>(verb: Verb, given: &Given<'a>) -> Option<Request<'a>>
 /// `Refused` comes exactly where they read none. Where there was no memory, nothing is known of the words.
 pub fn read_words<'a>(alloc: Global, words: &'a [String]) -> Result<Request<'a>, WordsFail>
     ensures ok { IfOk result (λ request. asked_by (map string_bytes words.entry.now) ≡ Some (asked_of request)) }
+    ensures range { IfOk result (λ request. InRange (asked_of request)) }
     ensures refused { IsErrOf result WordsFail.Refused → asked_by (map string_bytes words.entry.now) ≡ None }
 {
     let Some(verb) = words.first() else {
