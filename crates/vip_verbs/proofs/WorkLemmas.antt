@@ -24,7 +24,7 @@ use Rattle.vip_text.specs.Endings.Ending.{AtLimit}
 use Rattle.vip_words.specs.Asked.{Asked, AskedRun, AskedTrace, AskedDebug, AskedDemo, trace, play, debug, demo}
 use Rattle.vip_report.specs.declared.ended.Ended.{Ended}
 use Rattle.vip_report.specs.declared.refusal.Refusal.{Refusal}
-use Rattle.vip_report.specs.declared.refusal.Refusal.TheVariants.{Usage, Unread, TooLarge, Script, Command, Source, Rom, Certificate, Proof, NoCertificate, NoMemory}
+use Rattle.vip_report.specs.declared.refusal.Refusal.TheVariants.{Usage, Unread, TooLarge, Script, Command, Source, State, Rom, Certificate, Proof, NoCertificate, NoMemory}
 use Rattle.vip_report.specs.Report.{end_report}
 use Rattle.vip_report.specs.Status.{end_status}
 use Rattle.vip_text.specs.declared.ending.RunEnd.{RunEnd}
@@ -70,6 +70,7 @@ module _ (Here : Outcome → Type 0) (run : RunOf Here) where
   refused-start (Script line cause) answer = run.fits _ (FaultyScript line cause answer)
   refused-start (Command line cause) answer = absurd answer
   refused-start (Source line cause) answer = absurd answer
+  refused-start (State fault) answer = absurd answer
   refused-start (Rom fault) answer = run.fits _ (FaultyRom answer.script fault answer.reads answer.rom.0 answer.rom.1)
   refused-start (Certificate line cause) answer = absurd answer
   refused-start (Proof line cause) answer = absurd answer
@@ -92,6 +93,7 @@ module _ (a : AskedDebug) (game text : List ℕ) (scripts : List (List ℕ)) whe
   refused-commands (Script line cause) answer = absurd answer
   refused-commands (Command line cause) answer = rw answer refl
   refused-commands (Source line cause) answer = absurd answer
+  refused-commands (State fault) answer = absurd answer
   refused-commands (Rom fault) answer = absurd answer
   refused-commands (Certificate line cause) answer = absurd answer
   refused-commands (Proof line cause) answer = absurd answer
@@ -245,6 +247,7 @@ module _ (asked : Asked) (old new : FilesMeaning) where
   files-refused Z (Script line cause) answer = absurd answer
   files-refused Z (Command line cause) answer = absurd answer
   files-refused Z (Source line cause) answer = absurd answer
+  files-refused Z (State fault) answer = absurd answer
   files-refused Z (Rom fault) answer = absurd answer
   files-refused Z (Certificate line cause) answer = absurd answer
   files-refused Z (Proof line cause) answer = absurd answer
@@ -265,6 +268,7 @@ module _ (asked : Asked) (old new : FilesMeaning) where
     refused-contents (Script line cause) answer = record { contents = contents; read = read; names = names; here = answer }
     refused-contents (Command line cause) answer = record { contents = contents; read = read; names = names; here = answer }
     refused-contents (Source line cause) answer = record { contents = contents; read = read; names = names; here = answer }
+    refused-contents (State fault) answer = record { contents = contents; read = read; names = names; here = answer }
     refused-contents (Rom fault) answer = record { contents = contents; read = read; names = names; here = answer }
     refused-contents (Certificate line cause) answer = record { contents = contents; read = read; names = names; here = answer }
     refused-contents (Proof line cause) answer = record { contents = contents; read = read; names = names; here = answer }

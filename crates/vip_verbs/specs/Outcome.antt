@@ -6,7 +6,6 @@ use Rattle.chip8_lang.specs.declared.view.Edition.{Edition}
 use Rattle.chip8_lang.specs.declared.view.Edition.TheVariants.{Usual, Tall}
 use Rattle.chip8_lang.specs.declared.view.StopRecord.{StopRecord}
 use Rattle.chip8_lang.specs.Events.{Event, events_of, game_run, is_stop}
-use Rattle.chip8_source.specs.Texts.{usual_text, tall_text}
 use Rattle.asm_core.specs.Sources.{source_lines}
 use Rattle.rom_check.specs.Compared.{Compares}
 use Rattle.rom_check.specs.declared.fault.ImageFault.{ImageFault}
@@ -25,14 +24,14 @@ use Rattle.vip_show.specs.Endings.{ending_of}
 use Rattle.vip_show.specs.Output.{trace_pieces, picture_pieces, summary}
 use Rattle.vip_text.specs.Endings.{Ending}
 use Rattle.vip_text.specs.Endings.Ending.{AtLimit, AtStop}
-use Rattle.vip_words.specs.Asked.{Asked, trace, play, debug, demo, asm, list, dis, bounds, within, safe, certify}
+use Rattle.vip_words.specs.Asked.{Asked, trace, play, debug, demo, asm, list, dis, source, bounds, within, safe, certify}
 use Rattle.vip_report.specs.Refusal.{image_status}
 use Rattle.vip_report.specs.Status.{end_status}
 use Rattle.vip_report.specs.Report.{bad_command, bad_script, image_report, end_report}
 use Rattle.vip_report.specs.declared.status.Status.TheVariants.{BadCommand, BadScript}
 use Rattle.vip_tools.specs.Certificates.{CertifyComes, CyclesComes, SafeComes}
 use Rattle.vip_tools.specs.Demo.{demo_game}
-use Rattle.vip_tools.specs.Outcome.{Outcome, AsmComes, BoundsComes, DisComes, ListComes, script_in}
+use Rattle.vip_tools.specs.Outcome.{Outcome, AsmComes, BoundsComes, DisComes, ListComes, TextComes, rom_text, script_in}
 use Rattle.vip_tools.specs.Outcome.Outcome.{Refused, Shown}
 
 -- ---- a run
@@ -48,12 +47,7 @@ events_in e game script limit = events_of (interpreter_of e) game script limit
 abbrev pub run_ending : Edition → List ℕ → ℕ → List KeyEvent → Ending
 run_ending e game limit script = ending_of e (events_in e game script limit)
 
--- the built-in source of an edition's ROM
-abbrev pub rom_text : Edition → List ℕ
-rom_text Usual = usual_text
-rom_text Tall = tall_text
-
--- what it gives, compared with the ROM
+-- what the built-in source gives, compared with the ROM
 abbrev pub RomIs : Edition → Result (Unit {0}) ImageFault → Type 0
 RomIs e answer = Compares (source_lines (rom_text e)) (interpreter_of e).rom answer
 
@@ -91,14 +85,6 @@ DebugComes e game limit scripts (Err command.NoMemory) = λ o. ⊥
 
 -- ---- a command
 
--- the machine cycles that are asked for
-abbrev pub cycles_in : Asked → ℕ
-cycles_in (trace a) = a.run.cycles
-cycles_in (play a) = a.cycles
-cycles_in (debug a) = a.run.cycles
-cycles_in (demo a) = a.cycles
-cycles_in _ = 0
-
 -- what a command comes to, by the contents of its files in their order
 abbrev pub Comes : Asked → List (List ℕ) → Outcome → Type 0
 Comes (trace a) (game ∷ scripts) =
@@ -114,11 +100,12 @@ Comes (demo a) [] =
     RunComes Usual a.cycles []
     (λ script. summary Usual a.number (events_in Usual (demo_game a.number) script a.cycles) ∷ [])
     (run_ending Usual (demo_game a.number) a.cycles)
-Comes (asm name) (source ∷ []) = AsmComes source
-Comes (list name) (source ∷ []) = ListComes source
+Comes (asm a) (text ∷ []) = AsmComes a.raw text
+Comes (list name) (text ∷ []) = ListComes text
 Comes (dis a) (bytes ∷ []) = DisComes a.address bytes
+Comes (source e) [] = TextComes e
 Comes bounds [] = BoundsComes
-Comes (within a) (source ∷ certificate ∷ []) = CyclesComes source certificate
+Comes (within a) (text ∷ certificate ∷ []) = CyclesComes text certificate
 Comes (safe a) (game ∷ certificate ∷ []) = SafeComes a.edition game certificate
 Comes (certify a) (game ∷ []) = CertifyComes a.edition game
 Comes _ _ = λ o. ⊥

@@ -2,13 +2,13 @@
 
 ghost use Rattle.std.specs.Prelude.{◌≡◌, ◌≤◌, [], length};
 ghost use Rattle.chip8_lang.specs.State.{memory_size};
-ghost use Rattle.vip_words.specs.Asked.{most_cycles};
+ghost use Rattle.vip_words.specs.Asked.{cycles_in, most_cycles};
 ghost use Rattle.vip_words.specs.Asked.Asked.{trace, play, debug, demo};
 ghost use Rattle.vip_words.specs.Request.{asked_of, asked_run, asked_trace, asked_debug, asked_demo};
 ghost use Rattle.vip_tools.specs.Contents.{script_list, run_list, debug_list};
 ghost use Rattle.vip_tools.specs.Files.{needed, FitAll, contents_of};
 ghost use Rattle.vip_tools.specs.Opening.{SmallScripts};
-ghost use Rattle.vip_verbs.specs.Outcome.{Comes, RomIs, cycles_in};
+ghost use Rattle.vip_verbs.specs.Outcome.{Comes, RomIs};
 ghost use Rattle.vip_verbs.specs.Opening.{RomAnswers, StartAnswers};
 ghost use Rattle.vip_verbs.specs.Prepared.{OpenAnswers, PrepareAnswers, texted};
 
@@ -23,7 +23,7 @@ use vip_report::Refusal;
 use vip_tools::{
     DebugContents, RunContents, asm, bounds, certified_contents, certify, cycles, debug_contents,
     demo_game, dis, game_kind, list, only_content, open_files, read_debugging, read_keys,
-    run_contents, safe, wanted_files,
+    run_contents, safe, source, wanted_files,
 };
 use vip_words::{DebugRequest, DemoRequest, Request, RunRequest, TraceRequest};
 
@@ -164,9 +164,10 @@ fn prepare<'a>(
         Request::Play(wish) => open_play(alloc, wish, &run_contents(contents)),
         Request::Debug(wish) => open_debug(alloc, wish, &debug_contents(contents)),
         Request::Demo(wish) => open_demo(alloc, wish),
-        Request::Asm(_) => text(asm(alloc, only_content(contents))),
+        Request::Asm(wish) => text(asm(alloc, only_content(contents), wish.raw)),
         Request::List(_) => text(list(alloc, only_content(contents))),
         Request::Dis(wish) => text(dis(alloc, only_content(contents), wish.address)),
+        Request::Source(edition) => text(source(alloc, *edition)),
         Request::Bounds => text(bounds(alloc)),
         Request::Cycles(_) => {
             let files = certified_contents(contents);
@@ -177,6 +178,12 @@ fn prepare<'a>(
             text(safe(alloc, wish.edition, files.certified, files.certificate))
         }
         Request::Certify(wish) => text(certify(alloc, wish.edition, only_content(contents))),
+        Request::Save(_) => Err(Refusal::NoMemory),
+        Request::Resume(_) => Err(Refusal::NoMemory),
+        Request::Link(_) => Err(Refusal::NoMemory),
+        Request::TraceProgram(_) => Err(Refusal::NoMemory),
+        Request::PlayProgram(_) => Err(Refusal::NoMemory),
+        Request::DebugProgram(_) => Err(Refusal::NoMemory),
     }
 }
 
