@@ -8,6 +8,7 @@ use Rattle.std.proofs.lemmas.Bool.Decides.{nat_tests}
 use Rattle.std.proofs.lemmas.List.{map-append}
 use Rattle.std.proofs.lemmas.List.Elements.{filter-append}
 use Rattle.machine.specs.Board.{Machine}
+use Rattle.machine.proofs.Counts.{windows}
 use Rattle.machine.specs.Pictures.{interrupt_at, window_end, windows_ended, picture_of, is_shown}
 use Rattle.vip_board.specs.Shown.{Shows, shown_frames, shown_since}
 use Rattle.vip_board.proofs.Along.{Later, later-one, shown-later, picture-later}
@@ -43,7 +44,7 @@ module _ (f f' : ℕ → List ℕ) (p p' : ℕ → Bool) where
 
 -- the window of a frame among the first so many has ended
 ended : (m t : ℕ) → m < windows_ended t → window_end m ≤ t
-ended m t h = omega (arith, h)
+ended m t h = omega (arith, h, windows t)
 
 -- of no cycle to the next three does more than one window end
 window_more : (c c' : ℕ) → c ≤ c' → c' ≤ c + 3 → (windows_ended c' ≡ windows_ended c) ⊎ (windows_ended c' ≡ suc (windows_ended c))
@@ -52,10 +53,10 @@ window_more c c' le soon = by_test (nat_le (windows_ended c') (windows_ended c))
     by_test : (t : Bool) → nat_le (windows_ended c') (windows_ended c) ≡ t → (windows_ended c' ≡ windows_ended c) ⊎ (windows_ended c' ≡ suc (windows_ended c))
     by_test true h =
         let low : windows_ended c' ≤ windows_ended c = grind (arith, nat_tests) in
-        inl (omega (arith, low, le))
+        inl (omega (arith, low, le, windows c, windows c'))
     by_test false h =
         let high : windows_ended c < windows_ended c' = grind (arith, nat_tests) in
-        inr (omega (arith, high, soon))
+        inr (omega (arith, high, soon, windows c, windows c'))
 
 -- ---- files
 
@@ -94,7 +95,7 @@ module _ (rom : List ℕ) (run ys : List Machine) (t : ℕ) (later : Later t ys)
 
   pub more : (t' : ℕ) → t ≤ t' → More t'
   more t' le =
-      let over : windows_ended t ≤ windows_ended t' = omega (arith, le) in
+      let over : windows_ended t ≤ windows_ended t' = omega (arith, le, windows t, windows t') in
       let all = more_frames (windows_ended t' - windows_ended t) (windows_ended t') (omega (arith, over)) in
       record { rest = all.0; is = all.1 }
 

@@ -1,6 +1,7 @@
 -- A run whose pictures are put: those of the moves made are.
 use Rattle.std.proofs.Common.{◌≡◌, ℕ, ◌+◌, ◌≤◌, List, [], ◌∷◌, ◌++◌, true, false, refl, sym, ap, ◌∙◌, subst, arith, add-one}
 use Rattle.std.specs.Prelude.{Option, Some, Result, Ok, Err, IsErr}
+use Rattle.machine.specs.Pictures.{windows_ended}
 use Rattle.machine.specs.Board.{Machine, move}
 use Rattle.machine.specs.Keys.{held_at}
 use Rattle.machine.specs.Run.{states}
@@ -43,6 +44,7 @@ picture-put finished lines bytes old new r is file put =
 
 module _ (limit : ℕ) (start : Seen) (out : SinkMeaning) where
   pub picturing-first : start.phase ≡ Boundary → start.machine.cycle ≡ 0 → Shows start.rom [] start.machine.cycle start.pictures → Picturing limit start start out out
+  unfolding windows_ended
   picturing-first boundary here shows = record {
     boundary = boundary;
     within = omega (arith, here);

@@ -1,5 +1,5 @@
 use Rattle.std.proofs.Common.{◌∙◌, sym}
-use Rattle.vip_program.proofs.Picturing.{picturing-none, picturing-one, picturing-fault, picturing-done}
+use Rattle.vip_program.proofs.Picturing.{picturing-first, picturing-none, picturing-one, picturing-fault, picturing-done}
 use Rattle.vip_program.proofs.pictures.show_pictures.Goals as goal
 
 pub loop-board-preserved-in-Continue-1 : goal.loop-board-preserved-in-Continue-1
@@ -19,3 +19,6 @@ loop-board-preserved g c =
 
 pub returns : goal.returns
 returns g c = picturing-done _ _ _ _ _ c.loop-board.invariant (sym c.goes_on.ensures ∙ c.loop-board-test.false) _ c.ending.ensures
+
+pub loop-board-init : goal.loop-board-init
+loop-board-init g c = picturing-first _ _ _ c.requires.boundary c.requires.begins c.requires.pictures
