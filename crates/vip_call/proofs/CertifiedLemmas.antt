@@ -1,12 +1,12 @@
 -- What an accepted certificate shows: of a routine by its law, of a game by its law and that of every run.
-use Rattle.std.proofs.Common.{◌≡◌, ℕ, ◌+◌, ◌<◌, ◌≤◌, List, [], ◌∷◌, length, slice_index, Some, None, Ok, refl, subst, sym}
+use Rattle.std.proofs.Common.{◌≡◌, ℕ, ◌+◌, ◌<◌, ◌≤◌, List, [], ◌∷◌, length, slice_index, None, refl, subst, sym}
 use Rattle.machine.specs.Board.{Machine}
 use Rattle.machine.specs.Keys.{Event as KeyEvent}
 use Rattle.chip8_lang.specs.declared.view.Edition.{Edition}
 use Rattle.chip8_lang.specs.Events.{Event, events_of, game_run}
 use Rattle.chip8_lang.specs.Events.Event.{Picture, Dispatch, Stopped}
 use Rattle.chip8_lang.specs.Places.{state_of}
-use Rattle.chip8_lang.specs.State.{Lang, first, memory_size}
+use Rattle.chip8_lang.specs.State.{Lang, memory_size}
 use Rattle.chip8_lang.specs.Step.{stop_of}
 use Rattle.cycle_check.specs.Leaving.{AcceptedIsWithin}
 use Rattle.game_check.specs.Laws.{CertifiedGames}
@@ -17,7 +17,7 @@ use Rattle.vip_language.specs.Laws.{EveryRun}
 use Rattle.vip_language.specs.Program.{numbered, program}
 use Rattle.vip_relation.specs.Interpreters.{interpreter_of}
 use Rattle.vip_outside.specs.Files.{FilesMeaning}
-use Rattle.vip_words.specs.Asked.{Asked, trace, play, debug, demo, asm, list, dis, bounds, within, safe, certify}
+use Rattle.vip_words.specs.Asked.{Asked, trace, play, debug, save, resume, demo, link, trace_program, play_program, debug_program, asm, list, dis, source as interpreter, bounds, within, safe, certify}
 use Rattle.vip_report.specs.declared.status.Status.{Status}
 use Rattle.vip_tools.specs.Certificates.{CertifyComes, CyclesComes, SafeComes}
 use Rattle.vip_tools.specs.Certificates.CertifyComes.{Finds}
@@ -110,6 +110,13 @@ module _ (routines : AcceptedIsWithin) (games : CertifiedGames) (law : EveryRun)
   shows old (asm name) contents pieces status report read comes = tt
   shows old (list name) contents pieces status report read comes = tt
   shows old (dis a) contents pieces status report read comes = tt
+  shows old (save a) contents pieces status report read comes = tt
+  shows old (resume a) contents pieces status report read comes = tt
+  shows old (link a) contents pieces status report read comes = tt
+  shows old (trace_program a) contents pieces status report read comes = tt
+  shows old (play_program a) contents pieces status report read comes = tt
+  shows old (debug_program a) contents pieces status report read comes = tt
+  shows old (interpreter e) contents pieces status report read comes = tt
   shows old bounds contents pieces status report read comes = tt
   shows old (within a) [] pieces status report read comes = tt
   shows old (within a) (source ∷ []) pieces status report read comes = tt

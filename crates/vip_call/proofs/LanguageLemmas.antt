@@ -1,10 +1,9 @@
 -- The run of a game is a run of CHIP-8 with its ending, by the law of every run.
-use Rattle.std.proofs.Common.{◌≡◌, ℕ, ◌+◌, ◌<◌, ◌≤◌, List, [], ◌∷◌, length, Result, Ok, Err, None, slice_index, refl, ap, arith}
+use Rattle.std.proofs.Common.{ℕ, ◌+◌, ◌<◌, ◌≤◌, List, [], ◌∷◌, length, Result, Ok, Err, slice_index, refl, ap, arith}
 use Rattle.machine.specs.Board.{Machine}
 use Rattle.machine.specs.Keys.{Event as KeyEvent}
 use Rattle.chip8_lang.specs.declared.view.Edition.{Edition}
 use Rattle.chip8_lang.specs.declared.view.Edition.TheVariants.{Usual}
-use Rattle.chip8_lang.specs.declared.view.Stop.{Stop}
 use Rattle.chip8_lang.specs.Events.{Event}
 use Rattle.chip8_lang.specs.Events.Event.{Picture, Dispatch, Stopped}
 use Rattle.chip8_lang.specs.Places.{state_of}
@@ -14,7 +13,6 @@ use Rattle.rom_law.specs.Language.{Begins, GoesOn}
 use Rattle.vip_language.specs.Laws.{EveryRun}
 use Rattle.vip_language.specs.Program.{numbered, program}
 use Rattle.vip_relation.specs.State.{started}
-use Rattle.vip_relation.specs.Stops.{stop_at}
 use Rattle.vip_show.specs.Endings.{ending_after, ending_of}
 use Rattle.vip_text.specs.Endings.{Ending}
 use Rattle.vip_text.specs.Endings.Ending.{AtStop}
@@ -24,7 +22,7 @@ use Rattle.vip_commands.specs.declared.commands.Speaks.TheVariants.{Chip8}
 use Rattle.vip_commands.specs.declared.commands.CommandFault.{CommandFault}
 use Rattle.vip_commands.specs.declared.commands.CommandFault.TheVariants.{Fault, NoMemory}
 use Rattle.vip_outside.specs.Files.{FilesMeaning}
-use Rattle.vip_words.specs.Asked.{Asked, trace, play, debug, demo, asm, list, dis, bounds, within, safe, certify}
+use Rattle.vip_words.specs.Asked.{Asked, trace, play, debug, save, resume, demo, link, trace_program, play_program, debug_program, asm, list, dis, source as interpreter, bounds, within, safe, certify}
 use Rattle.vip_tools.specs.Demo.{demo_game}
 use Rattle.vip_tools.specs.Files.{needed, HasAll}
 use Rattle.vip_call.specs.Language.{named, IsChip8, RunIsChip8, DebugsChip8, ShowsChip8}
@@ -150,6 +148,13 @@ module _ (law : EveryRun) where
   shows old (asm name) contents pieces status report read comes = tt
   shows old (list name) contents pieces status report read comes = tt
   shows old (dis a) contents pieces status report read comes = tt
+  shows old (save a) contents pieces status report read comes = tt
+  shows old (resume a) contents pieces status report read comes = tt
+  shows old (link a) contents pieces status report read comes = tt
+  shows old (trace_program a) contents pieces status report read comes = tt
+  shows old (play_program a) contents pieces status report read comes = tt
+  shows old (debug_program a) contents pieces status report read comes = tt
+  shows old (interpreter e) contents pieces status report read comes = tt
   shows old bounds contents pieces status report read comes = tt
   shows old (within a) contents pieces status report read comes = tt
   shows old (safe a) contents pieces status report read comes = tt

@@ -1,5 +1,4 @@
 mod DebugLemmas
 mod LanguageLemmas
 mod TopLemmas
-mod WordsLemmas
 mod CertifiedLemmas

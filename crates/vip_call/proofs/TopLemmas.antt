@@ -1,5 +1,5 @@
 -- The laws of the answers, from what each answer says, and what the steps of a call say together.
-use Rattle.std.proofs.Common.{◌≡◌, ℕ, ◌<◌, ◌⊎◌, inl, inr, List, [], ◌∷◌, ◌++◌, Option, Some, None, IsSomeAnd, length, refl, sym, ap, subst, ◌∙◌, arith, Result, Ok, Err}
+use Rattle.std.proofs.Common.{◌≡◌, ℕ, suc, ◌<◌, ◌⊎◌, inl, inr, List, [], ◌∷◌, ◌++◌, Option, Some, None, IsSomeAnd, length, take, take_all, refl, sym, ap, subst, ◌∙◌, arith, Result, Ok, Err}
 use Rattle.std.proofs.lemmas.Bool.{le-ltb, lt-ltb}
 use Rattle.std.specs.FinMap.{get}
 use Rattle.machine.specs.Keys.{Event as KeyEvent}
@@ -18,24 +18,31 @@ use Rattle.vip_commands.specs.declared.commands.CommandFault.{CommandFault}
 use Rattle.vip_commands.specs.declared.commands.CommandFault.TheVariants as debug_fault
 use Rattle.vip_outside.specs.Count.{Rose}
 use Rattle.vip_outside.specs.Files.{FileMap, FilesMeaning}
-use Rattle.vip_outside.specs.Sink.{SinkMeaning, Gains, GainsPart, GainAnswers}
+use Rattle.vip_outside.specs.Sink.{SinkMeaning}
 use Rattle.vip_outside.specs.declared.sink.Failed.{Failed}
 use Rattle.vip_relation.specs.Interpreters.{interpreter_of}
 use Rattle.vip_text.specs.Endings.{Ending}
-use Rattle.vip_words.specs.Asked.{Asked, trace, play, debug, demo, asm, list, dis, bounds, within, safe, certify, asked_by}
+use Rattle.vip_words.specs.Asked.{Asked, trace, play, debug, save, resume, demo, link, trace_program, play_program, debug_program, asm, list, dis, source as interpreter, bounds, within, safe, certify, asked_by}
 use Rattle.vip_tools.specs.Certificates.{CertifyComes, CyclesComes, SafeComes}
 use Rattle.vip_tools.specs.Certificates.CertifyComes.{Finds, FindsNone}
 use Rattle.vip_tools.specs.Certificates.CyclesComes.{NotAssembled, FaultyCertificate, Leaves}
 use Rattle.vip_tools.specs.Certificates.SafeComes.{FaultyProof, Proves}
-use Rattle.vip_tools.specs.Work.{Rejected}
-use Rattle.vip_call.specs.Words.{OfWords, WordsAnswer}
-use Rattle.vip_tools.specs.Files.{Needed, needed, HasAll, ComesTo, IsLarger}
+use Rattle.vip_call.specs.Words.{Faults, FinishAnswers, OfWords, OpensWords, PerformsAnswer, Reports, performed_status}
+use Rattle.vip_tools.specs.Files.{Needed, needed, HasAll, ComesTo, IsLarger, ReadsSome, with_names}
 use Rattle.vip_tools.specs.Outcome.{Outcome, SourceComes}
 use Rattle.vip_tools.specs.Outcome.Outcome.{Refused, Shown, GivenUp}
 use Rattle.vip_tools.specs.Outcome.SourceComes.{FaultySource, Assembles}
-use Rattle.vip_verbs.specs.Outcome.{Comes, RunComes, DebugComes, RomIs, IsFault, rom_text}
+use Rattle.vip_tools.specs.Outcome.{rom_text}
+use Rattle.vip_verbs.specs.Outcome.{Comes, RunComes, DebugComes, RomIs, IsFault}
 use Rattle.vip_verbs.specs.Outcome.RunComes.{FaultyScript, FaultyRom, Runs}
+use Rattle.vip_verbs.specs.Prepared.{OfFiles, output_of}
+use Rattle.vip_verbs.specs.declared.prepared.Prepared.{Prepared}
+use Rattle.vip_text.specs.declared.ending.RunEnd.TheVariants as end
 use Rattle.vip_report.specs.Refusal.{image_status, status_of, too_large_status}
+use Rattle.vip_report.specs.Reported.{IsPut, RefusalAnswers}
+use Rattle.vip_report.specs.Status.{ended_status}
+use Rattle.vip_report.specs.declared.ended.Ended.{Ended}
+use Rattle.vip_report.specs.declared.ended.Ended.TheVariants.{Worked, Ran, NoDispatch as Undispatched, Idle, Linked}
 use Rattle.vip_report.specs.Report.{cannot_read, no_certificate, report_of, too_large_report}
 use Rattle.vip_call.specs.Top.{Call, call_of, Asks, Oversize, Rejects, GivesUp, Shows, Faulty, Says, IsQuiet, Reading, Lacks, Larger, Whole, with_content, reading, Due, Lacking, TooLarge, Refusing, Showing, RefusesWords, Offers, IsSearch, IsFree, GivesDue, AreRefused, Completes}
 use Rattle.vip_report.specs.declared.refusal.Kind.{Kind}
@@ -43,7 +50,7 @@ use Rattle.vip_report.specs.declared.refusal.Kind.TheVariants as kind
 use Rattle.vip_report.specs.declared.refusal.Refusal.{Refusal}
 use Rattle.vip_report.specs.declared.refusal.Refusal.TheVariants as refusal
 use Rattle.vip_report.specs.declared.status.Status.{Status}
-use Rattle.vip_report.specs.declared.status.Status.TheVariants.{Done, Stopped, Usage, ReadFault, GameTooLarge, ScriptTooLarge, BadScript, BadSource, BadRomSource, RomDiffers, WriteFault, NoMemory, BadCommand, SourceTooLarge, CommandsTooLarge, BadCertificate, BadProof, CertificateTooLarge, NoCertificate}
+use Rattle.vip_report.specs.declared.status.Status.TheVariants.{Done, Stopped, Usage, ReadFault, GameTooLarge, ScriptTooLarge, BadScript, BadSource, BadRomSource, RomDiffers, WriteFault, NoMemory, BadCommand, SourceTooLarge, CommandsTooLarge, BadState, NoDispatch, BadCertificate, MessageTooLarge, BadProof, CertificateTooLarge, NoCertificate, RomTooLarge, RamTooLarge}
 
 -- ---- one outcome
 
@@ -190,15 +197,23 @@ agree (debug a) (game ∷ []) o p x y = absurd x
 agree (debug a) (game ∷ text ∷ scripts) o p x y = debugs_agree a.run.edition game a.run.cycles scripts (commands_of Chip8 a.run.cycles text) o p x y
 agree (demo a) [] o p x y = runs_agree Usual a.cycles [] _ _ o p x y
 agree (demo a) (c ∷ cs) o p x y = absurd x
-agree (asm name) [] o p x y = absurd x
-agree (asm name) (source ∷ []) o p x y = sources_agree source _ o p x y
-agree (asm name) (source ∷ c ∷ cs) o p x y = absurd x
+agree (asm a) [] o p x y = absurd x
+agree (asm a) (source ∷ []) o p x y = sources_agree source _ o p x y
+agree (asm a) (source ∷ c ∷ cs) o p x y = absurd x
 agree (list name) [] o p x y = absurd x
 agree (list name) (source ∷ []) o p x y = sources_agree source _ o p x y
 agree (list name) (source ∷ c ∷ cs) o p x y = absurd x
 agree (dis a) [] o p x y = absurd x
 agree (dis a) (bytes ∷ []) o p x y = alone_agree _ o p refl x y
 agree (dis a) (bytes ∷ c ∷ cs) o p x y = absurd x
+agree (save a) cs o p x y = absurd x
+agree (resume a) cs o p x y = absurd x
+agree (link a) cs o p x y = absurd x
+agree (trace_program a) cs o p x y = absurd x
+agree (play_program a) cs o p x y = absurd x
+agree (debug_program a) cs o p x y = absurd x
+agree (interpreter e) [] o p x y = alone_agree _ o p refl x y
+agree (interpreter e) (c ∷ cs) o p x y = absurd x
 agree bounds [] o p x y = alone_agree _ o p refl x y
 agree bounds (c ∷ cs) o p x y = absurd x
 agree (within a) [] o p x y = absurd x
@@ -224,15 +239,23 @@ given_up (debug a) (game ∷ []) report x = absurd x
 given_up (debug a) (game ∷ text ∷ scripts) report x = no_debug a.run.edition game a.run.cycles scripts (commands_of Chip8 a.run.cycles text) report x
 given_up (demo a) [] report x = no_run Usual a.cycles [] _ _ report x
 given_up (demo a) (c ∷ cs) report x = absurd x
-given_up (asm name) [] report x = absurd x
-given_up (asm name) (source ∷ []) report x = no_source source _ report x
-given_up (asm name) (source ∷ c ∷ cs) report x = absurd x
+given_up (asm a) [] report x = absurd x
+given_up (asm a) (source ∷ []) report x = no_source source _ report x
+given_up (asm a) (source ∷ c ∷ cs) report x = absurd x
 given_up (list name) [] report x = absurd x
 given_up (list name) (source ∷ []) report x = no_source source _ report x
 given_up (list name) (source ∷ c ∷ cs) report x = absurd x
 given_up (dis a) [] report x = absurd x
 given_up (dis a) (bytes ∷ []) report x = absurd (cc)
 given_up (dis a) (bytes ∷ c ∷ cs) report x = absurd x
+given_up (save a) cs report x = absurd x
+given_up (resume a) cs report x = absurd x
+given_up (link a) cs report x = absurd x
+given_up (trace_program a) cs report x = absurd x
+given_up (play_program a) cs report x = absurd x
+given_up (debug_program a) cs report x = absurd x
+given_up (interpreter e) [] report x = absurd (cc)
+given_up (interpreter e) (c ∷ cs) report x = absurd x
 given_up bounds [] report x = absurd (cc)
 given_up bounds (c ∷ cs) report x = absurd x
 given_up (within a) [] report x = absurd x
@@ -304,10 +327,18 @@ refuses_words NoMemory call says none = inr refl
 refuses_words BadCommand call says none = absurd (nothing_asked call.words says.asked says.asks.words none)
 refuses_words SourceTooLarge call says none = absurd (nothing_asked call.words says.asked says.words none)
 refuses_words CommandsTooLarge call says none = absurd (nothing_asked call.words says.asked says.words none)
+refuses_words BadState call says none = elim says [
+  | inl large ↦ absurd (nothing_asked call.words large.asked large.words none)
+  | inr bad ↦ absurd (nothing_asked call.words bad.asked bad.asks.words none)
+]
+refuses_words NoDispatch call says none = absurd (nothing_asked call.words says.asked says.asks.words none)
 refuses_words BadCertificate call says none = absurd (nothing_asked call.words says.asked says.asks.words none)
+refuses_words MessageTooLarge call says none = absurd (nothing_asked call.words says.asked says.words none)
 refuses_words BadProof call says none = absurd (nothing_asked call.words says.asked says.asks.words none)
 refuses_words CertificateTooLarge call says none = absurd (nothing_asked call.words says.asked says.words none)
 refuses_words NoCertificate call says none = absurd (nothing_asked call.words says.asked says.asks.words none)
+refuses_words RomTooLarge call says none = absurd (nothing_asked call.words says.asked says.words none)
+refuses_words RamTooLarge call says none = absurd (nothing_asked call.words says.asked says.words none)
 
 module _ (call : Call) (asked : Asked) (files : FileMap) (offers : Offers call asked files) where
   same : (mine : Asked) → asked_by call.words ≡ Some mine → mine ≡ asked
@@ -328,7 +359,7 @@ module _ (call : Call) (asked : Asked) (files : FileMap) (offers : Offers call a
   -- what was refused at a file
   refused_at :
       (Here : Needed → Type 0) (r : Reading) → ((content : List ℕ) → with_content content r ≡ r) → (mine : Asked) → asked_by call.words ≡ Some mine
-      → (at : ComesTo call.files (needed mine) Here) → reading files (at.this ∷ at.after) ≡ r → reading files (needed asked) ≡ r
+      → (at : ComesTo call.files call.files' (needed mine) Here) → reading files (at.this ∷ at.after) ≡ r → reading files (needed asked) ≡ r
   refused_at Here r stays mine words at e =
       subst (λ a. reading files (needed a) ≡ r) (same mine words)
       (rw at.place (behind call.files files offers.told r stays at.before at.contents (at.this ∷ at.after) at.read e))
@@ -402,8 +433,8 @@ module _ (call : Call) (asked : Asked) (files : FileMap) (offers : Offers call a
   unread_here : (says : Says ReadFault call) → reading files (needed asked) ≡ Lacks
   unread_here says =
       elim says.at.here.0 [
-        | inl fails ↦ absurd (quiet _ _ fails.faults offers.quiet)
-        | inr lack ↦ refused_at _ Lacks (λ content. refl) says.asked says.words says.at (lacks call.files files offers.told says.at.this says.at.after lack.absent)
+        | inl fails ↦ absurd (quiet _ _ fails offers.quiet)
+        | inr lack ↦ refused_at _ Lacks (λ content. refl) says.asked says.words says.at (lacks call.files files offers.told says.at.this says.at.after lack)
       ]
 
   larger_here : (status : Status) (says : Oversize status call) → reading files (needed asked) ≡ Larger says.at.this.kind
@@ -431,10 +462,18 @@ module _ (call : Call) (asked : Asked) (files : FileMap) (offers : Offers call a
   due_is BadCommand says due given = rejects_due due given BadCommand says
   due_is SourceTooLarge says due given = oversize_due due given SourceTooLarge says
   due_is CommandsTooLarge says due given = oversize_due due given CommandsTooLarge says
+  due_is BadState says due given = elim says [
+    | inl large ↦ oversize_due due given BadState large
+    | inr bad ↦ rejects_due due given BadState bad
+  ]
+  due_is NoDispatch says due given = shows_due due given NoDispatch says
   due_is BadCertificate says due given = rejects_due due given BadCertificate says
+  due_is MessageTooLarge says due given = oversize_due due given MessageTooLarge says
   due_is BadProof says due given = rejects_due due given BadProof says
   due_is CertificateTooLarge says due given = oversize_due due given CertificateTooLarge says
   due_is NoCertificate says due given = inr (inr (refl, searches says))
+  due_is RomTooLarge says due given = oversize_due due given RomTooLarge says
+  due_is RamTooLarge says due given = oversize_due due given RamTooLarge says
 
   module _ (contents : List (List ℕ)) (there : reading files (needed asked) ≡ Whole contents) (accepted : ¬ AreRefused asked contents) where
     not_rejected : (status : Status) → Rejects status call → ⊥
@@ -448,7 +487,7 @@ module _ (call : Call) (asked : Asked) (files : FileMap) (offers : Offers call a
 
     ends :
         (status : Status) → Says status call → IsQuiet call.out.faults call.out'.faults → IsQuiet call.err.faults call.err'.faults
-        → (status ≡ Done) ⊎ (status ≡ Stopped) ⊎ IsFree asked status
+        → (status ≡ Done) ⊎ (status ≡ Stopped) ⊎ (status ≡ NoDispatch) ⊎ IsFree asked status
     ends Done says out err = inl refl
     ends Stopped says out err = inr (inl refl)
     ends Usage says out err = absurd (nothing_asked call.words asked offers.words says.words)
@@ -464,14 +503,22 @@ module _ (call : Call) (asked : Asked) (files : FileMap) (offers : Offers call a
           | inl fails ↦ absurd (quiet _ _ fails.out.faults out)
           | inr fails ↦ absurd (quiet _ _ fails.err.faults err)
         ]
-    ends NoMemory says out err = inr (inr (inl refl))
+    ends NoMemory says out err = inr (inr (inr (inl refl)))
     ends BadCommand says out err = absurd (not_rejected BadCommand says)
     ends SourceTooLarge says out err = absurd (not_larger SourceTooLarge says)
     ends CommandsTooLarge says out err = absurd (not_larger CommandsTooLarge says)
+    ends BadState says out err = elim says [
+      | inl large ↦ absurd (not_larger BadState large)
+      | inr bad ↦ absurd (not_rejected BadState bad)
+    ]
+    ends NoDispatch says out err = inr (inr (inl refl))
     ends BadCertificate says out err = absurd (not_rejected BadCertificate says)
+    ends MessageTooLarge says out err = absurd (not_larger MessageTooLarge says)
     ends BadProof says out err = absurd (not_rejected BadProof says)
     ends CertificateTooLarge says out err = absurd (not_larger CertificateTooLarge says)
-    ends NoCertificate says out err = inr (inr (inr (refl, searches says)))
+    ends NoCertificate says out err = inr (inr (inr (inr (refl, searches says))))
+    ends RomTooLarge says out err = absurd (not_larger RomTooLarge says)
+    ends RamTooLarge says out err = absurd (not_larger RamTooLarge says)
 
 pub gives_due : (status : Status) (call : Call) → Says status call → GivesDue status call
 gives_due status call says asked files due offers given = due_is call asked files offers status says due given
@@ -481,67 +528,70 @@ completes status call says asked files contents offers there accepted out err = 
 
 -- ---- what the steps of a call say together
 
--- the report, whether it went out whole or not
-reported :
-    (report : List ℕ) (err err' : SinkMeaning) (r : Result (Unit {0}) Failed) → GainAnswers report err err' r
-    → Gains report err err' ⊎ GainsPart report err err'
-reported report err err' (Ok done) gains = inl gains
-reported report err err' (Err e) part = inr part
-
 -- what holds at the same file
-there_too : (old : FilesMeaning) (ns : List Needed) (Here There : Needed → Type 0) (at : ComesTo old ns Here) → There at.this → ComesTo old ns There
-there_too old ns Here There at that = record {
+there_too : (old new : FilesMeaning) (ns : List Needed) (Here There : Needed → Type 0) (at : ComesTo old new ns Here) → There at.this → ComesTo old new ns There
+there_too old new ns Here There at that = record {
   before = at.before;
   this = at.this;
   after = at.after;
   place = at.place;
   contents = at.contents;
   read = at.read;
+  names = at.names;
   here = that;
 }
 
-module _ (words : List (List ℕ)) (files files' : FilesMeaning) (out out' err err' : SinkMeaning) where
+-- where a file is refused, the first ones were read
+some_to : (old new : FilesMeaning) (ns : List Needed) (Here : Needed → Type 0) → ComesTo old new ns Here → ReadsSome ns old new
+some_to old new ns Here at = (suc (length at.before), rw (at.place, first_ones at.before at.this at.after) at.names)
+  where
+    first_ones : (before : List Needed) (this : Needed) (after : List Needed) → take (suc (length before)) (before ++ this ∷ after) ≡ before ++ this ∷ []
+    first_ones [] this after = refl
+    first_ones (n ∷ before) this after = ap (λ ns. n ∷ ns) (first_ones before this after)
+
+some_all : (old new : FilesMeaning) (ns : List Needed) → new ≡ with_names ns old → ReadsSome ns old new
+some_all old new ns all = (length ns, rw (take_all (length ns) ns (omega arith)) (ap (λ m. m.names) all))
+
+module _ (words : List (List ℕ)) (files files' : FilesMeaning) (out err err' : SinkMeaning) where
+  abbrev refused_call : Call
+  refused_call = call_of words files files' out out err err'
+
   rejected :
-      (r : Refusal) → OfWords words files (λ asked contents. Rejected (Comes asked contents) out out' r)
-      → Gains (report_of r) err err' ⊎ GainsPart (report_of r) err err' → Rejects (status_of r) (call_of words files files' out out' err err')
+      (r : Refusal) → OfWords words (λ asked. OfFiles asked files files' (λ contents. Comes asked contents (Refused (status_of r) (report_of r))))
+      → IsPut (report_of r) err err' → Rejects (status_of r) refused_call
   rejected r given report = record {
     asked = given.asked;
-    contents = given.contents;
-    asks = record { words = given.words_are; read = given.read };
+    contents = given.here.contents;
+    asks = record { words = given.words_are; read = given.here.read };
+    files = given.here.names;
     report = report_of r;
-    comes = given.here.comes;
-    refused = record { out = given.here.out; err = report };
+    comes = given.here.here;
+    refused = record { out = refl; err = report };
   }
 
   oversize :
-      (k : Kind) → WordsAnswer words files files' out out' (Err (refusal.TooLarge k))
-      → Gains (too_large_report k) err err' ⊎ GainsPart (too_large_report k) err err'
-      → Oversize (too_large_status k) (call_of words files files' out out' err err')
+      (k : Kind) → OpensWords words files files' (Err (refusal.TooLarge k)) → IsPut (too_large_report k) err err'
+      → Oversize (too_large_status k) refused_call
   oversize k given report = record {
     asked = given.asked;
     words = given.words_are;
     at =
-        there_too files (needed given.asked) _ _ given.at (
-          given.at.here.1,
-          ap too_large_status given.at.here.0,
-          record {
-            out = given.out;
-            err = subst (λ j. Gains (too_large_report j) err err' ⊎ GainsPart (too_large_report j) err err') given.at.here.0 report;
-          },
+        there_too files files' (needed given.asked) _ _ given.here (
+          given.here.here.1,
+          ap too_large_status given.here.here.0,
+          record { out = refl; err = subst (λ j. IsPut (too_large_report j) err err') given.here.here.0 report },
         );
   }
 
-  -- a refusal, or a fault of the output
-  refused_with :
-      (r : Refusal) → WordsAnswer words files files' out out' (Err r) → Gains (report_of r) err err' ⊎ GainsPart (report_of r) err err'
-      → Says (status_of r) (call_of words files files' out out' err err')
-  refused_with refusal.Usage given report = record { words = given.0; refused = record { out = given.1; err = report } }
+  -- a refusal with its own report
+  refused_with : (r : Refusal) → OpensWords words files files' (Err r) → IsPut (report_of r) err err' → Says (status_of r) refused_call
+  refused_with refusal.Usage given report = record { words = given.0; files = given.1; refused = record { out = refl; err = report } }
   refused_with (refusal.Unread name) given report = record {
     asked = given.asked;
     words = given.words_are;
     at =
-        there_too files (needed given.asked) _ _ given.at
-        (given.at.here.1, record { out = given.out; err = subst (λ n. Gains (cannot_read n) err err' ⊎ GainsPart (cannot_read n) err err') given.at.here.0 report });
+        there_too files files' (needed given.asked) _ _ given.here
+        (given.here.here.1, record { out = refl; err = subst (λ n. IsPut (cannot_read n) err err') given.here.here.0 report });
   }
   refused_with (refusal.TooLarge kind.Game) given report = oversize kind.Game given report
   refused_with (refusal.TooLarge kind.TallGame) given report = oversize kind.TallGame given report
@@ -549,35 +599,118 @@ module _ (words : List (List ℕ)) (files files' : FilesMeaning) (out out' err e
   refused_with (refusal.TooLarge kind.Commands) given report = oversize kind.Commands given report
   refused_with (refusal.TooLarge kind.Source) given report = oversize kind.Source given report
   refused_with (refusal.TooLarge kind.Certificate) given report = oversize kind.Certificate given report
+  refused_with (refusal.TooLarge kind.State) given report = inl (oversize kind.State given report)
+  refused_with (refusal.TooLarge kind.Message) given report = oversize kind.Message given report
+  refused_with (refusal.TooLarge kind.Rom) given report = oversize kind.Rom given report
+  refused_with (refusal.TooLarge kind.Ram) given report = oversize kind.Ram given report
   refused_with (refusal.Script line cause) given report = rejected (refusal.Script line cause) given report
   refused_with (refusal.Command line cause) given report = rejected (refusal.Command line cause) given report
   refused_with (refusal.Source line cause) given report = rejected (refusal.Source line cause) given report
+  refused_with (refusal.State fault) given report = inr (rejected (refusal.State fault) given report)
   refused_with (refusal.Rom (image.BadRomSource line cause)) given report = rejected (refusal.Rom (image.BadRomSource line cause)) given report
   refused_with (refusal.Rom (image.RomDiffers address assembled here)) given report = rejected (refusal.Rom (image.RomDiffers address assembled here)) given report
-  refused_with (refusal.Rom image.NoMemory) given report = record { out = given.here.out; err = report }
+  refused_with (refusal.Rom image.NoMemory) given report = record {
+    files = inr (record { asked = given.asked; words_are = given.words_are; here = some_all files files' (needed given.asked) given.here.names });
+    refused = record { out = refl; err = report };
+  }
   refused_with (refusal.Certificate line cause) given report = rejected (refusal.Certificate line cause) given report
   refused_with (refusal.Proof line cause) given report = rejected (refusal.Proof line cause) given report
   refused_with (refusal.NoCertificate obstacle) given report = record {
     asked = given.asked;
-    contents = given.contents;
-    asks = record { words = given.words_are; read = given.read };
+    contents = given.here.contents;
+    asks = record { words = given.words_are; read = given.here.read };
+    files = given.here.names;
     report = no_certificate obstacle;
-    comes = given.here.comes;
-    refused = record { out = given.here.out; err = report };
+    comes = given.here.here;
+    refused = record { out = refl; err = report };
   }
-  refused_with refusal.Write given report = record {
-    asked = given.asked;
-    contents = given.contents;
-    asks = record { words = given.words_are; read = given.read };
-    pieces = given.here.pieces;
-    status = given.here.status;
-    report = given.here.report;
-    comes = given.here.comes;
-    fault = inl (record { out = given.here.fails; err = report });
-  }
-  refused_with refusal.NoMemory given report = record { out = given; err = report }
+  refused_with refusal.NoMemory given report = record { files = given; refused = record { out = refl; err = report } }
 
-  pub says_refusal :
-      (r : Refusal) (answer : Result (Unit {0}) Failed) → WordsAnswer words files files' out out' (Err r) → GainAnswers (report_of r) err err' answer
-      → Says (status_of r) (call_of words files files' out out' err err')
-  says_refusal r answer given gains = refused_with r given (reported _ err err' answer gains)
+  -- which files were read, whatever the refusal is
+  abbrev ReadSome : Type 0
+  ReadSome = (files' ≡ files) ⊎ OfWords words (λ asked. ReadsSome (needed asked) files files')
+
+  all_read : {Here : Asked → List (List ℕ) → Type 0} → OfWords words (λ asked. OfFiles asked files files' (Here asked)) → ReadSome
+  all_read given =
+      inr (record { asked = given.asked; words_are = given.words_are; here = some_all files files' (needed given.asked) given.here.names })
+
+  to_read : {Here : Asked → Needed → Type 0} → OfWords words (λ asked. ComesTo files files' (needed asked) (Here asked)) → ReadSome
+  to_read given = inr (record { asked = given.asked; words_are = given.words_are; here = some_to files files' (needed given.asked) _ given.here })
+
+  read_some : (r : Refusal) → OpensWords words files files' (Err r) → ReadSome
+  read_some refusal.Usage given = inl given.1
+  read_some (refusal.Unread name) given = to_read given
+  read_some (refusal.TooLarge kind) given = to_read given
+  read_some (refusal.Script line cause) given = all_read given
+  read_some (refusal.Command line cause) given = all_read given
+  read_some (refusal.Source line cause) given = all_read given
+  read_some (refusal.State fault) given = all_read given
+  read_some (refusal.Rom fault) given = all_read given
+  read_some (refusal.Certificate line cause) given = all_read given
+  read_some (refusal.Proof line cause) given = all_read given
+  read_some (refusal.NoCertificate obstacle) given = all_read given
+  read_some refusal.NoMemory given = given
+
+  says_refusal :
+      (r : Refusal) (status : Status) → OpensWords words files files' (Err r) → RefusalAnswers r err err' status → Says status refused_call
+  says_refusal r status given answer =
+      elim answer [
+        | inl own ↦ rw own.0 (refused_with r given own.1)
+        | inr none ↦ rw none.0 (record { files = read_some r given; refused = record { out = refl; err = none.1 } })
+      ]
+
+module _ (words : List (List ℕ)) (files files' : FilesMeaning) (out out' err err' : SinkMeaning) (p : Prepared) (given : OpensWords words files files' (Ok p)) where
+  abbrev performed_call : Call
+  performed_call = call_of words files files' out out' err err'
+
+  abbrev asks_all : Asks performed_call given.asked given.here.1.contents
+  asks_all = record { words = given.words_are; read = given.here.1.read }
+
+  shows : (ended : Ended) → Reports (output_of p) out out' err err' ended → Shows (ended_status ended) performed_call
+  shows ended reports = record {
+    asked = given.asked;
+    contents = given.here.1.contents;
+    asks = asks_all;
+    files = given.here.1.names;
+    pieces = (output_of p).pieces;
+    report = (output_of p).report;
+    comes = subst (λ status. Comes given.asked given.here.1.contents (Shown (output_of p).pieces status (output_of p).report)) reports.status given.here.1.here;
+    out = reports.whole;
+    err = reports.reported;
+  }
+
+  says_ended : (ended : Ended) → Shows (ended_status ended) performed_call → Says (ended_status ended) performed_call
+  says_ended Worked says = says
+  says_ended (Ran limit end.AtLimit) says = says
+  says_ended (Ran limit (end.AtStop stop)) says = says
+  says_ended Undispatched says = says
+  says_ended (Idle address) says = says
+  says_ended (Linked sent received) says = says
+
+  faulty : Faults (output_of p) out out' err err' → Faulty performed_call
+  faulty faults = record {
+    asked = given.asked;
+    contents = given.here.1.contents;
+    asks = asks_all;
+    files = given.here.1.names;
+    pieces = (output_of p).pieces;
+    status = (output_of p).status;
+    report = (output_of p).report;
+    comes = given.here.1.here;
+    fault = elim faults [
+      | inl fails ↦ inl (record { out = fails.0; err = fails.1 })
+      | inr fails ↦ inr (record { out = fails.0; err = fails.1 })
+    ];
+  }
+
+  says_performed : (r : Result Ended Failed) → PerformsAnswer (output_of p) out out' err err' r → Says (performed_status r) performed_call
+  says_performed (Ok ended) reports = says_ended ended (shows ended reports)
+  says_performed (Err failed) faults = faulty faults
+
+pub says_finished :
+    (words : List (List ℕ)) (files files' : FilesMeaning) (out out' err err' : SinkMeaning) (opened : Result Prepared Refusal) (status : Status)
+    → OpensWords words files files' opened → FinishAnswers opened out out' err err' status → Says status (call_of words files files' out out' err err')
+says_finished words files files' out out' err err' (Ok p) status given answer =
+    rw answer.2 (says_performed words files files' out out' err err' p given answer.0 answer.1)
+says_finished words files files' out out' err err' (Err r) status given answer =
+    rw answer.0 (says_refusal words files files' out err err' r status given answer.1)

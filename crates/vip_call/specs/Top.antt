@@ -2,19 +2,21 @@
 use Rattle.std.specs.Prelude.{◌≡◌, ℕ, ◌+◌, ◌^◌, ◌<◌, ◌≤◌, ◌⊎◌, List, [], ◌∷◌, Option, Some, None, length, nat_lt, if◌then◌else◌}
 use Rattle.std.specs.FinMap.{get}
 use Rattle.vip_outside.specs.Files.{FileMap, FilesMeaning}
-use Rattle.vip_outside.specs.Sink.{SinkMeaning, Gains, GainsPart}
+use Rattle.vip_outside.specs.Sink.{SinkMeaning}
 use Rattle.vip_outside.specs.Pieces.{PutsAll, FailsWithin}
 use Rattle.vip_words.specs.Asked.{Asked, asked_by, certify}
 use Rattle.vip_report.specs.declared.refusal.Kind.{Kind}
 use Rattle.vip_report.specs.declared.status.Status.{Status}
-use Rattle.vip_report.specs.declared.status.Status.TheVariants.{Done, Stopped, Usage, ReadFault, GameTooLarge, ScriptTooLarge, BadScript, BadSource, BadRomSource, RomDiffers, WriteFault, NoMemory, BadCommand, SourceTooLarge, CommandsTooLarge, BadCertificate, BadProof, CertificateTooLarge, NoCertificate}
-use Rattle.vip_tools.specs.Files.{Needed, needed, HasAll, ComesTo, IsLarger, IsUnread}
+use Rattle.vip_report.specs.declared.status.Status.TheVariants.{Done, Stopped, Usage, ReadFault, GameTooLarge, ScriptTooLarge, BadScript, BadSource, BadRomSource, RomDiffers, WriteFault, NoMemory, BadCommand, SourceTooLarge, CommandsTooLarge, BadState, NoDispatch, BadCertificate, MessageTooLarge, BadProof, CertificateTooLarge, NoCertificate, RomTooLarge, RamTooLarge}
+use Rattle.vip_tools.specs.Files.{Needed, needed, HasAll, ComesTo, IsLarger, IsUnread, ReadsSome, with_names}
 use Rattle.vip_call.specs.Certified.{Certifies}
 use Rattle.vip_call.specs.Language.{ShowsChip8}
+use Rattle.vip_call.specs.Words.{OfWords}
 use Rattle.vip_verbs.specs.Outcome.{Comes}
 use Rattle.vip_tools.specs.Outcome.Outcome.{Refused, Shown, GivenUp}
 use Rattle.vip_report.specs.Refusal.{too_large_status}
-use Rattle.vip_report.specs.Report.{usage, cannot_read, too_large_report, write_fault, no_memory}
+use Rattle.vip_report.specs.Report.{usage, cannot_read, too_large_report, write_fault, no_memory, report_pieces}
+use Rattle.vip_report.specs.Reported.{IsPut}
 
 -- one call: its words, and what the outside meant before it and after it
 pub record Call : Type 0 where
@@ -30,43 +32,50 @@ abbrev pub call_of : List (List ℕ) → FilesMeaning → FilesMeaning → SinkM
 call_of words files files' out out' err err' =
     record { words = words; files = files; files' = files'; out = out; out' = out'; err = err; err' = err' }
 
--- ---- refusals: nothing went to `out`, and the report to `err`
-
--- the report went to `err`: the whole of it with no fault, or a prefix of it with a fault
-abbrev pub Reported : List ℕ → Call → Type 0
-Reported report call = Gains report call.err call.err' ⊎ GainsPart report call.err call.err'
+-- ---- refusals: nothing went to `out`, and the report to `err` by one put, the whole of it or, at a fault, a prefix
 
 pub record Refuses (report : List ℕ) (call : Call) : Type 0 where
   pub out : call.out' ≡ call.out
-  pub err : Reported report call
+  pub err : IsPut report call.err call.err'
 
--- the words are refused
+-- the words are refused, and no file was read
 pub record Misused (call : Call) : Type 0 where
   pub words : asked_by call.words ≡ None
+  pub files : call.files' ≡ call.files
   pub refused : Refuses usage call
 
--- a file could not be read, which the report names
+-- no memory was found: none of the files was read, or the first ones of those that the words name
+pub record Wants (call : Call) : Type 0 where
+  pub files : (call.files' ≡ call.files) ⊎ OfWords call.words (λ asked. ReadsSome (needed asked) call.files call.files')
+  pub refused : Refuses no_memory call
+
+-- A file could not be read, which the report names. Those before it were read, each once, and none behind it.
 pub record Unread (call : Call) : Type 0 where
   pub asked : Asked
   pub words : asked_by call.words ≡ Some asked
-  pub at : ComesTo call.files (needed asked) (λ n. IsUnread call.files call.files' n × Refuses (cannot_read n.name) call)
+  pub at : ComesTo call.files call.files' (needed asked) (λ n. IsUnread call.files call.files' n × Refuses (cannot_read n.name) call)
 
--- a file has more bytes than its kind may have
+-- A file has more bytes than its kind may have. Those before it were read, each once, and none behind it.
 pub record Oversize (status : Status) (call : Call) : Type 0 where
   pub asked : Asked
   pub words : asked_by call.words ≡ Some asked
-  pub at : ComesTo call.files (needed asked) (λ n. IsLarger call.files n × (status ≡ too_large_status n.kind) × Refuses (too_large_report n.kind) call)
+  pub at : ComesTo call.files call.files' (needed asked) (λ n. IsLarger call.files n × (status ≡ too_large_status n.kind) × Refuses (too_large_report n.kind) call)
 
 -- the words ask for this, and these are the contents of the files that it names
 pub record Asks (call : Call) (asked : Asked) (contents : List (List ℕ)) : Type 0 where
   pub words : asked_by call.words ≡ Some asked
   pub read : HasAll call.files (needed asked) contents
 
+-- All the files that the words name were read, in their order, each once; no other was, and no read was a fault.
+abbrev pub ReadsAll : Call → Asked → Type 0
+ReadsAll call asked = call.files' ≡ with_names (needed asked) call.files
+
 -- the contents are refused
 pub record Rejects (status : Status) (call : Call) : Type 0 where
   pub asked : Asked
   pub contents : List (List ℕ)
   pub asks : Asks call asked contents
+  pub files : ReadsAll call asked
   pub report : List ℕ
   pub comes : Comes asked contents (Refused status report)
   pub refused : Refuses report call
@@ -76,38 +85,41 @@ pub record GivesUp (call : Call) : Type 0 where
   pub asked : Asked
   pub contents : List (List ℕ)
   pub asks : Asks call asked contents
+  pub files : ReadsAll call asked
   pub report : List ℕ
   pub comes : Comes asked contents (GivenUp report)
   pub refused : Refuses report call
 
 -- ---- output
 
--- exact output: it went out whole, each piece by one put, and the report too
+-- exact output: it went out whole, each piece by one put, and the report by one put too, or by none where there is none
 pub record Shows (status : Status) (call : Call) : Type 0 where
   pub asked : Asked
   pub contents : List (List ℕ)
   pub asks : Asks call asked contents
+  pub files : ReadsAll call asked
   pub pieces : List (List ℕ)
   pub report : List ℕ
   pub comes : Comes asked contents (Shown pieces status report)
   pub out : PutsAll pieces call.out call.out'
-  pub err : Gains report call.err call.err'
+  pub err : PutsAll (report_pieces report) call.err call.err'
 
--- a fault of `out`: the pieces before it went out whole, and then a prefix of one
+-- A fault of `out`: the pieces before it went out whole, and then a prefix of one; it is reported by one put.
 pub record OutFails (pieces : List (List ℕ)) (call : Call) : Type 0 where
   pub out : FailsWithin pieces call.out call.out'
-  pub err : Reported write_fault call
+  pub err : IsPut write_fault call.err call.err'
 
--- a fault of `err` alone, at the report
+-- a fault of `err` alone, at the report, behind which nothing more is put
 pub record ErrFails (pieces : List (List ℕ)) (report : List ℕ) (call : Call) : Type 0 where
   pub out : PutsAll pieces call.out call.out'
-  pub err : GainsPart report call.err call.err'
+  pub err : FailsWithin (report_pieces report) call.err call.err'
 
 -- output of which not all went out
 pub record Faulty (call : Call) : Type 0 where
   pub asked : Asked
   pub contents : List (List ℕ)
   pub asks : Asks call asked contents
+  pub files : ReadsAll call asked
   pub pieces : List (List ℕ)
   pub status : Status
   pub report : List ℕ
@@ -129,14 +141,19 @@ Says BadSource call = Rejects BadSource call
 Says BadRomSource call = Rejects BadRomSource call
 Says RomDiffers call = Rejects RomDiffers call
 Says WriteFault call = Faulty call
-Says NoMemory call = Refuses no_memory call
+Says NoMemory call = Wants call
 Says BadCommand call = Rejects BadCommand call
 Says SourceTooLarge call = Oversize SourceTooLarge call
 Says CommandsTooLarge call = Oversize CommandsTooLarge call
+Says BadState call = Oversize BadState call ⊎ Rejects BadState call
+Says NoDispatch call = Shows NoDispatch call
 Says BadCertificate call = Rejects BadCertificate call
+Says MessageTooLarge call = Oversize MessageTooLarge call
 Says BadProof call = Rejects BadProof call
 Says CertificateTooLarge call = Oversize CertificateTooLarge call
 Says NoCertificate call = GivesUp call
+Says RomTooLarge call = Oversize RomTooLarge call
+Says RamTooLarge call = Oversize RamTooLarge call
 
 -- ---- when they come
 
@@ -199,12 +216,12 @@ GivesDue status call =
     → Due call asked (reading files (needed asked)) due
     → (status ≡ due) ⊎ IsFree asked status
 
--- the contents of the files are refused: commands, a script, a source or a certificate have a fault, or the ROM isn't what its source gives
+-- the contents of the files are refused: a saved state, commands, a script, a source or a certificate have a fault, or the ROM isn't what its source gives
 abbrev pub AreRefused : Asked → List (List ℕ) → Type 0
 AreRefused asked contents = (status : Status) × (report : List ℕ) × Comes asked contents (Refused status report)
 
--- Where the files are there with their sizes, their contents aren't refused and no fault is counted, the answer is Done or Stopped, or
--- a free one.
+-- Where the files are there with their sizes, their contents aren't refused and no fault is counted, the answer is Done or Stopped, or of a run
+-- that is to be saved NoDispatch, or a free one.
 abbrev pub Completes : Status → Call → Type 0
 Completes status call =
     (asked : Asked) (files : FileMap) (contents : List (List ℕ))
@@ -213,7 +230,7 @@ Completes status call =
     → ¬ AreRefused asked contents
     → IsQuiet call.out.faults call.out'.faults
     → IsQuiet call.err.faults call.err'.faults
-    → (status ≡ Done) ⊎ (status ≡ Stopped) ⊎ IsFree asked status
+    → (status ≡ Done) ⊎ (status ≡ Stopped) ⊎ (status ≡ NoDispatch) ⊎ IsFree asked status
 
 -- ---- what the output says of the language
 
@@ -242,7 +259,7 @@ ProvesCertified call =
 
 -- what the program promises of each call
 pub record Promises (status : Status) (call : Call) : Type 0 where
-  -- what the answer says: exact output for Done and Stopped, and each refusal's cause
+  -- what the answer says: exact output for Done and Stopped, each refusal's cause, and which files were read
   pub says : Says status call
   -- Where a game is run, its run is one of CHIP-8, within the bounds, also at a wait for a key; each picture is the screen at the last dispatch
   -- point, and a stop names its instruction.

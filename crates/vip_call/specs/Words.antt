@@ -1,42 +1,23 @@
 -- What is answered from the words on.
-use Rattle.std.specs.Prelude.{◌≡◌, ℕ, List, Some, None, Result, Ok, Err}
+use Rattle.std.specs.Prelude.{◌≡◌, ◌⊎◌, ℕ, List, Some, None, Result, Ok, Err}
 use Rattle.vip_outside.specs.Files.{FilesMeaning}
 use Rattle.vip_outside.specs.Sink.{SinkMeaning}
+use Rattle.vip_outside.specs.Pieces.{PutsAll, FailsWithin}
+use Rattle.vip_outside.specs.declared.sink.Failed.{Failed}
 use Rattle.vip_words.specs.Asked.{Asked, asked_by}
 use Rattle.vip_words.specs.Request.{asked_of}
 use Rattle.vip_words.specs.declared.request.Request.{Request}
 use Rattle.vip_report.specs.declared.ended.Ended.{Ended}
 use Rattle.vip_report.specs.declared.refusal.Refusal.{Refusal}
-use Rattle.vip_report.specs.declared.refusal.Refusal.TheVariants.{Usage, Unread, TooLarge, NoCertificate, Write, NoMemory}
-use Rattle.vip_tools.specs.Files.{Needed, needed, HasAll, ComesTo, IsLarger, IsUnread}
-use Rattle.vip_report.specs.Report.{no_certificate}
-use Rattle.vip_tools.specs.Work.{Ends, Breaks, GivesUp, Rejected}
-use Rattle.vip_verbs.specs.Outcome.{Comes}
-
--- the words ask for this, the files that they name were read, and of their contents this holds
-pub record OfWords (words : List (List ℕ)) (files : FilesMeaning) (Here : Asked → List (List ℕ) → Type 0) : Type 0 where
-  pub asked : Asked
-  pub contents : List (List ℕ)
-  pub words_are : asked_by words ≡ Some asked
-  pub read : HasAll files (needed asked) contents
-  pub here : Here asked contents
-
--- a file is refused, and nothing was written
-pub record RefusesFile (words : List (List ℕ)) (files : FilesMeaning) (Here : Needed → Type 0) (old new : SinkMeaning) : Type 0 where
-  pub asked : Asked
-  pub words_are : asked_by words ≡ Some asked
-  pub at : ComesTo files (needed asked) Here
-  pub out : new ≡ old
-
-abbrev pub WordsAnswer : List (List ℕ) → FilesMeaning → FilesMeaning → SinkMeaning → SinkMeaning → Result Ended Refusal → Type 0
-WordsAnswer words files files' old new (Ok ended) = OfWords words files (λ asked contents. Ends (Comes asked contents) old new ended)
-WordsAnswer words files files' old new (Err Usage) = (asked_by words ≡ None) × (new ≡ old)
-WordsAnswer words files files' old new (Err (Unread name)) = RefusesFile words files (λ n. (name.now ≡ n.name) × IsUnread files files' n) old new
-WordsAnswer words files files' old new (Err (TooLarge kind)) = RefusesFile words files (λ n. (kind ≡ n.kind) × IsLarger files n) old new
-WordsAnswer words files files' old new (Err Write) = OfWords words files (λ asked contents. Breaks (Comes asked contents) old new)
-WordsAnswer words files files' old new (Err NoMemory) = new ≡ old
-WordsAnswer words files files' old new (Err (NoCertificate obstacle)) = OfWords words files (λ asked contents. GivesUp (Comes asked contents) old new (no_certificate obstacle))
-WordsAnswer words files files' old new (Err refusal) = OfWords words files (λ asked contents. Rejected (Comes asked contents) old new refusal)
+use Rattle.vip_report.specs.declared.refusal.Refusal.TheVariants.{Usage, NoMemory}
+use Rattle.vip_report.specs.Report.{report_pieces, write_fault}
+use Rattle.vip_report.specs.Reported.{IsPut, RefusalAnswers}
+use Rattle.vip_report.specs.Status.{ended_status}
+use Rattle.vip_report.specs.declared.status.Status.{Status}
+use Rattle.vip_report.specs.declared.status.Status.TheVariants.{WriteFault}
+use Rattle.vip_tools.specs.Files.{needed, ReadsSome}
+use Rattle.vip_verbs.specs.Prepared.{OpenAnswers, Output, output_of}
+use Rattle.vip_verbs.specs.declared.prepared.Prepared.{Prepared}
 
 -- what is understood
 abbrev pub UnderstoodAnswers : List (List ℕ) → Result Request Refusal → Type 0
@@ -44,3 +25,41 @@ UnderstoodAnswers words (Ok request) = asked_by words ≡ Some (asked_of request
 UnderstoodAnswers words (Err Usage) = asked_by words ≡ None
 UnderstoodAnswers words (Err NoMemory) = Unit {0}
 UnderstoodAnswers words (Err _) = ⊥
+
+-- the words ask for this, of which this holds
+pub record OfWords (words : List (List ℕ)) (Here : Asked → Type 0) : Type 0 where
+  pub asked : Asked
+  pub words_are : asked_by words ≡ Some asked
+  pub here : Here asked
+
+-- Opening: the words are refused, and nothing is read; or it is that of what they ask for. Where no memory is found, some of the files may have been read.
+abbrev pub OpensWords : List (List ℕ) → FilesMeaning → FilesMeaning → Result Prepared Refusal → Type 0
+OpensWords words old new (Err Usage) = (asked_by words ≡ None) × (new ≡ old)
+OpensWords words old new (Err NoMemory) = (new ≡ old) ⊎ OfWords words (λ asked. ReadsSome (needed asked) old new)
+OpensWords words old new answer = OfWords words (λ asked. OpenAnswers asked old new answer)
+
+-- the output went out whole, and then its report
+pub record Reports (o : Output) (out out' err err' : SinkMeaning) (ended : Ended) : Type 0 where
+  pub whole : PutsAll o.pieces out out'
+  pub reported : PutsAll (report_pieces o.report) err err'
+  pub status : o.status ≡ ended_status ended
+
+-- a fault of the output, which is reported; or of the report
+abbrev pub Faults : Output → SinkMeaning → SinkMeaning → SinkMeaning → SinkMeaning → Type 0
+Faults o out out' err err' =
+    (FailsWithin o.pieces out out' × IsPut write_fault err err') ⊎ (PutsAll o.pieces out out' × FailsWithin (report_pieces o.report) err err')
+
+-- what performing answers; it can't be want of memory
+abbrev pub PerformsAnswer : Output → SinkMeaning → SinkMeaning → SinkMeaning → SinkMeaning → Result Ended Failed → Type 0
+PerformsAnswer o out out' err err' (Ok ended) = Reports o out out' err err' ended
+PerformsAnswer o out out' err err' (Err failed) = Faults o out out' err err'
+
+abbrev pub performed_status : Result Ended Failed → Status
+performed_status (Ok ended) = ended_status ended
+performed_status (Err failed) = WriteFault
+
+-- What is answered once something was opened, or nothing: what was performed, which is never want of memory; or a refusal, with no output.
+abbrev pub FinishAnswers : Result Prepared Refusal → SinkMeaning → SinkMeaning → SinkMeaning → SinkMeaning → Status → Type 0
+FinishAnswers (Ok p) out out' err err' status =
+    (answer : Result Ended Failed) × PerformsAnswer (output_of p) out out' err err' answer × (status ≡ performed_status answer)
+FinishAnswers (Err refusal) out out' err err' status = (out' ≡ out) × RefusalAnswers refusal err err' status

@@ -1,23 +1,25 @@
 //! The one call that the program makes.
 
-ghost use Rattle.std.specs.Prelude.{◌≡◌, map, string_bytes};
+ghost use Rattle.std.specs.Prelude.{◌≡◌, IfOk, map, string_bytes};
+ghost use Rattle.vip_words.specs.Asked.{InRange};
 ghost use Rattle.vip_words.specs.Request.{asked_of};
-ghost use Rattle.vip_call.specs.Words.{UnderstoodAnswers, WordsAnswer};
+ghost use Rattle.vip_verbs.specs.Prepared.{IsReady, output_of};
+ghost use Rattle.vip_call.specs.Words.{FinishAnswers, OpensWords, PerformsAnswer, UnderstoodAnswers, performed_status};
 ghost use Rattle.vip_call.specs.Top.{call_of, Says, Promises};
 
 use cycle_check::laws::accepted_leaves;
 use game_check::laws::certified_games;
 use std::alloc::Global;
 use vip_language::laws::every_run;
-use vip_outside::{Files, Sink};
-use vip_report::{Ended, Refusal, Status, put_end, put_refusal};
-use vip_tools::{open_files, wanted_files};
-use vip_verbs::work;
+use vip_outside::{Failed, Files, Sink};
+use vip_report::{Ended, Refusal, Status, put_end, put_refusal, put_write_fault};
+use vip_verbs::Prepared;
 use vip_words::{Request, WordsFail, read_words};
 
 /// What the words ask for.
 fn understood<'a>(alloc: Global, words: &'a [String]) -> Result<Request<'a>, Refusal<'a>>
-    ensures { UnderstoodAnswers (map string_bytes words.entry.now) result }
+    ensures words { UnderstoodAnswers (map string_bytes words.entry.now) result }
+    ensures range { IfOk result (λ request. InRange (asked_of request)) }
 {
     match read_words(alloc, words) {
         Ok(request) => Ok(request),
@@ -26,23 +28,69 @@ fn understood<'a>(alloc: Global, words: &'a [String]) -> Result<Request<'a>, Ref
     }
 }
 
-/// Does what the words ask for: reads the files that they name, and writes its output.
-fn run_words<'a, F: Files, O: Sink>(
+/// Opens what the words ask for: reads the files that they name, in their order, each once, up to the first that is refused, and judges them. All the
+/// memory that is needed is taken here.
+pub fn open<'a, F: Files>(
     alloc: Global,
     words: &'a [String],
     files: &mut F,
-    out: &mut O,
-) -> Result<Ended, Refusal<'a>>
-    ensures { WordsAnswer (map string_bytes words.entry.now) (F.meaning files.old) (F.meaning files.new) (O.meaning out.old) (O.meaning out.new) result }
+) -> Result<Prepared, Refusal<'a>>
+    ensures { OpensWords (map string_bytes words.entry.now) (F.meaning files.old) (F.meaning files.new) result }
 {
     let request = understood(alloc, words)?;
-    let wanted = wanted_files(&request);
-    let contents = open_files(alloc, files, wanted.as_slice())?;
-    work(alloc, &request, contents.as_slice(), out)
+    vip_verbs::open(alloc, &request, files)
 }
 
-/// Does it, and reports how it ended or why it was refused.
-fn run_and_report<F: Files, O: Sink, E: Sink>(
+/// Performs what was opened: its output goes to `out`, each piece by one put, and then one line of report to `err` by one put. It takes no memory, and
+/// after a put that failed nothing more goes to that sink.
+pub fn perform<O: Sink, E: Sink>(
+    prepared: Prepared,
+    out: &mut O,
+    err: &mut E,
+) -> Result<Ended, Failed>
+    requires { IsReady prepared }
+    ensures { PerformsAnswer (output_of prepared) (O.meaning out.old) (O.meaning out.new) (E.meaning err.old) (E.meaning err.new) result }
+{
+    match vip_verbs::perform(prepared, out) {
+        Ok(ended) => match put_end(err, &ended) {
+            Ok(()) => Ok(ended),
+            Err(failed) => Err(failed),
+        },
+        Err(failed) => {
+            let _ = put_write_fault(err);
+            Err(failed)
+        }
+    }
+}
+
+/// The status of what was performed.
+fn performed(answer: Result<Ended, Failed>) -> Status
+    ensures { result ≡ performed_status answer }
+{
+    match answer {
+        Ok(ended) => ended.status(),
+        Err(Failed) => Status::WriteFault,
+    }
+}
+
+/// Performs what was opened, or reports why nothing was. Where something was opened, the answer is never want of memory.
+pub fn finish<O: Sink, E: Sink>(
+    alloc: Global,
+    opened: Result<Prepared, Refusal<'_>>,
+    out: &mut O,
+    err: &mut E,
+) -> Status
+    requires { IfOk opened IsReady }
+    ensures { FinishAnswers opened.entry (O.meaning out.old) (O.meaning out.new) (E.meaning err.old) (E.meaning err.new) result }
+{
+    match opened {
+        Ok(prepared) => performed(perform(prepared, out, err)),
+        Err(refusal) => put_refusal(alloc, err, &refusal),
+    }
+}
+
+/// Opens, and then finishes.
+fn open_and_finish<F: Files, O: Sink, E: Sink>(
     alloc: Global,
     words: &[String],
     files: &mut F,
@@ -51,20 +99,12 @@ fn run_and_report<F: Files, O: Sink, E: Sink>(
 ) -> Status
     ensures { Says result (call_of (map string_bytes words.now) (F.meaning files.old) (F.meaning files.new) (O.meaning out.old) (O.meaning out.new) (E.meaning err.old) (E.meaning err.new)) }
 {
-    match run_words(alloc, words, files, out) {
-        Ok(ended) => match put_end(err, &ended) {
-            Ok(()) => ended.status(),
-            Err(_) => Status::WriteFault,
-        },
-        Err(refusal) => {
-            let _ = put_refusal(err, &refusal);
-            refusal.status()
-        }
-    }
+    let opened = open(alloc, words, files);
+    finish(alloc, opened, out, err)
 }
 
-/// Runs the program on its words: what it writes goes to `out`, each piece by one put, and one line of report to `err`. The answer is the
-/// status with which the process ends. No memory is taken once a run begins, and after a failed write nothing more goes to that sink.
+/// Runs the program on its words: `open`, and then `perform` or the report of a refusal. What it writes goes to `out`, each piece by one put, and one
+/// line of report to `err` by one put; after a put that failed nothing more goes to that sink. The answer is the status with which the process ends.
 pub fn vip_main<F: Files, O: Sink, E: Sink>(
     alloc: Global,
     words: &[String],
@@ -77,5 +117,5 @@ pub fn vip_main<F: Files, O: Sink, E: Sink>(
     every_run();
     accepted_leaves();
     certified_games();
-    run_and_report(alloc, words, files, out, err)
+    open_and_finish(alloc, words, files, out, err)
 }

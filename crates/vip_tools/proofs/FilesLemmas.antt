@@ -74,7 +74,7 @@ module _ (old here new : FilesMeaning) (ws : List Wanted) (k : ℕ) (d : Wanted)
 
   pub some : here ≡ read_to old ws k → new ≡ here ⊎ new ≡ with_name (get_or ws k d).name.now here → ReadsSome (map seen_wanted ws) old new
   some same (inl none) = (k, rw (none, same, take-map) refl)
-  some same (inr one) = (k + 1, rw take-map (read-more old here new ws k d low same one))
+  some same (inr one) = (k + 1, rw take-map (ap (λ m. m.names) (read-more old here new ws k d low same one)))
 
   module _ (Z : Type 0) where
     -- a file was refused, behind others

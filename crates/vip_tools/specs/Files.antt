@@ -127,9 +127,9 @@ names_of ns = map (λ n. n.name) ns
 abbrev pub with_names : List Needed → FilesMeaning → FilesMeaning
 with_names ns old = record old { names = old.names ++ names_of ns }
 
--- the first ones of these, and no read was a fault
+-- the first ones of these
 abbrev pub ReadsSome : List Needed → FilesMeaning → FilesMeaning → Type 0
-ReadsSome ns old new = (count : ℕ) × (new ≡ with_names (take count ns) old)
+ReadsSome ns old new = (count : ℕ) × (new.names ≡ old.names ++ names_of (take count ns))
 
 -- Those before one of the files were read whole, then that one, of which this holds, and none behind it.
 pub record ComesTo (old new : FilesMeaning) (needed : List Needed) (Here : Needed → Type 0) : Type 0 where

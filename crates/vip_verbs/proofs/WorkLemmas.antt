@@ -273,7 +273,7 @@ module _ (asked : Asked) (old new : FilesMeaning) where
     refused-contents (Certificate line cause) answer = record { contents = contents; read = read; names = names; here = answer }
     refused-contents (Proof line cause) answer = record { contents = contents; read = read; names = names; here = answer }
     refused-contents (NoCertificate obstacle) answer = record { contents = contents; read = read; names = names; here = answer }
-    refused-contents NoMemory answer = (length (needed asked), rw (take_all (length (needed asked)) (needed asked) (omega arith)) names)
+    refused-contents NoMemory answer = (length (needed asked), rw (take_all (length (needed asked)) (needed asked) (omega arith)) (ap (λ m. m.names) names))
 
     opened : (r : Result Prepared Refusal) → PrepareAnswers (Comes asked contents) r → OpenAnswers asked old new r
     opened (Ok p) answers = (answers.0, record { contents = contents; read = read; names = names; here = answers.1 })
