@@ -1,6 +1,6 @@
 -- What a verb that is opened answers, from the answers of its parts, and what its work does.
 use Rattle.std.proofs.Common.{◌≡◌, ℕ, max, true, false, List, [], ◌∷◌, length, take_all, arith, refl, sym, ap, subst, Result, Ok, Err, IsErr}
-use Rattle.std.specs.Prelude.{Vec}
+use Rattle.std.specs.Prelude.{Bool, Option, Some, None, Vec}
 use Rattle.std.specs.declared.alloc.Global.{Global}
 use Rattle.std.proofs.Math.Nat.{max-zero}
 use Rattle.chip8_lang.specs.declared.view.Edition.{Edition}
@@ -19,6 +19,8 @@ use Rattle.vip_outside.specs.Pieces.{PutsAll, FailsWithin}
 use Rattle.vip_relation.specs.State.{VipState, interpreter, started, state_after}
 use Rattle.vip_outside.specs.declared.sink.Failed.{Failed}
 use Rattle.vip_show.specs.Answers.{ShowAnswers, traced, pictured, summed}
+use Rattle.vip_state.specs.Output.{ResumedAnswers, SavedAnswers, ending_left, records_left}
+use Rattle.vip_state.specs.State.{ResumedState}
 use Rattle.vip_text.specs.Endings.{Ending}
 use Rattle.vip_text.specs.Endings.Ending.{AtLimit}
 use Rattle.vip_words.specs.Asked.{Asked, AskedRun, AskedTrace, AskedDebug, AskedDemo, trace, play, debug, demo}
@@ -33,24 +35,20 @@ use Rattle.vip_tools.specs.Files.{Needed, needed, FilesAnswer, HasAll, with_name
 use Rattle.vip_tools.specs.Opening.{DebugCommandsAnswer}
 use Rattle.vip_tools.specs.Outcome.{Outcome}
 use Rattle.vip_tools.specs.Work.{RefusedBy, TextAnswers}
-use Rattle.vip_verbs.specs.Opening.{StartAnswers, Begins}
-use Rattle.vip_verbs.specs.Outcome.{Comes, RunComes, DebugComes, run_ending, stopped_by, debug_ending}
-use Rattle.vip_verbs.specs.Outcome.RunComes.{FaultyScript, FaultyRom, Runs}
-use Rattle.vip_verbs.specs.Prepared.{DebugEnds, IsStarted, OpenAnswers, Output, PerformAnswers, PrepareAnswers, ended_by, ran, run_ended, shown, texted}
+use Rattle.vip_verbs.specs.Opening.{StartAnswers, Begins, GoesOn, ResumeAnswers}
+use Rattle.vip_verbs.specs.Outcome.{Comes, RunComes, RunTo, DebugComes, run_ending, saved_report, saved_status, stopped_by, debug_ending}
+use Rattle.vip_verbs.specs.Outcome.ResumeComes.{FaultyState, Resumes}
+use Rattle.vip_verbs.specs.Outcome.RunTo.{FaultyScript, FaultyRom, Runs}
+use Rattle.vip_verbs.specs.Prepared.{DebugEnds, IsStarted, OpenAnswers, Output, PerformAnswers, PrepareAnswers, ended_by, ran, run_ended, save_ended, saved_run, shown, texted}
 use Rattle.vip_verbs.specs.declared.prepared.Prepared.{Prepared}
 
 -- a command that comes to what a run comes to, with the output and the ending of the machine that begins
 pub record RunOf (Here : Outcome → Type 0) : Type 0 where
   pub edition : Edition
   pub game : List ℕ
-  pub limit : ℕ
   pub scripts : List (List ℕ)
-  pub shown : VipState → List (List ℕ)
-  pub ending : VipState → Ending
-  pub fits :
-      (o : Outcome)
-      → RunComes edition limit scripts (λ script. shown (started edition game script)) (λ script. ending (started edition game script)) o
-      → Here o
+  pub output : VipState → Output
+  pub fits : (o : Outcome) → RunTo edition scripts (λ script. shown (output (started edition game script))) o → Here o
 
 -- a machine that begins is a started one
 pub started-of : (e : Edition) (game : List ℕ) (scripts : List (List ℕ)) (v : VipState) → Begins e game scripts v → IsStarted v
@@ -78,9 +76,8 @@ module _ (Here : Outcome → Type 0) (run : RunOf Here) where
   refused-start NoMemory answer = tt
 
   -- it begins, so its output is settled, with its ending
-  pub run-comes : (v : VipState) → Begins run.edition run.game run.scripts v → Here (shown (ran run.limit (run.shown v) (run.ending v)))
-  run-comes v begins =
-      subst (λ w. Here (shown (ran run.limit (run.shown w) (run.ending w)))) (sym begins.is) (run.fits _ (Runs begins.script begins.reads begins.rom))
+  pub run-comes : (v : VipState) → Begins run.edition run.game run.scripts v → Here (shown (run.output v))
+  run-comes v begins = subst (λ w. Here (shown (run.output w))) (sym begins.is) (run.fits _ (Runs begins.script begins.reads begins.rom))
 
 -- ---- a run under the debugger
 
@@ -113,10 +110,8 @@ module _ (a : AskedDebug) (game text : List ℕ) (scripts : List (List ℕ)) whe
   debug_run commands read = record {
     edition = a.run.edition;
     game = game;
-    limit = a.run.cycles;
     scripts = scripts;
-    shown = λ v. written v a.run.cycles commands at_start;
-    ending = λ v. debug_ending v a.run.cycles commands;
+    output = λ v. ran a.run.cycles (written v a.run.cycles commands at_start) (debug_ending v a.run.cycles commands);
     fits = as-run commands read;
   }
 
@@ -169,6 +164,33 @@ pub failed-at : (o : Output) (old new : SinkMeaning) (r : Result Ended Failed) �
 failed-at o old new (Ok ended) bad fails = cc
 failed-at o old new (Err failed) bad fails = fails
 
+-- a run that was saved
+pub save-performs :
+    (limit : ℕ) (v : VipState) (old new : SinkMeaning) (r : Result (Option RunEnd) Failed) → SavedAnswers v limit old new r
+    → PerformAnswers (saved_run limit v) old new (save_ended limit r)
+save-performs limit v old new (Ok None) saves = record {
+  puts = saves.puts;
+  status = ap saved_status (sym saves.ending);
+  report = ap (saved_report limit) (sym saves.ending);
+}
+save-performs limit v old new (Ok (Some end)) saves = record {
+  puts = saves.puts;
+  status = ap saved_status (sym saves.ending);
+  report = ap (saved_report limit) (sym saves.ending);
+}
+save-performs limit v old new (Err failed) fails = fails
+
+-- one that went on from a file
+pub resume-performs :
+    (limit : ℕ) (with_time : Bool) (v : ResumedState) (old new : SinkMeaning) (r : Result RunEnd Failed) → ResumedAnswers with_time v limit old new r
+    → PerformAnswers (ran limit (records_left with_time v limit) (ending_left v limit)) old new (run_ended limit r)
+resume-performs limit with_time v old new (Ok end) resumes = record {
+  puts = resumes.puts;
+  status = ap end_status (sym resumes.ending);
+  report = ap (end_report limit) (sym resumes.ending);
+}
+resume-performs limit with_time v old new (Err failed) fails = fails
+
 module _ (limit : ℕ) (commands : List DebugCommand) (v w : VipState) (old new : SinkMeaning) (begins : IsStarted v) where
   abbrev Output-is : Output
   Output-is = ran limit (written v limit commands at_start) (debug_ending v limit commands)
@@ -202,10 +224,8 @@ module _ (a : AskedDemo) (game : List ℕ) (is : game ≡ demo_game a.number) wh
   demo_run = record {
     edition = Usual;
     game = game;
-    limit = a.cycles;
     scripts = [];
-    shown = λ v. summed a.number v a.cycles;
-    ending = ended_by a.cycles;
+    output = λ v. ran a.cycles (summed a.number v a.cycles) (ended_by a.cycles v);
     fits = demo-comes;
   }
 
@@ -214,10 +234,8 @@ module _ (game : List ℕ) (scripts : List (List ℕ)) where
   trace_run a = record {
     edition = a.run.edition;
     game = game;
-    limit = a.run.cycles;
     scripts = scripts;
-    shown = λ v. traced a.with_time a.with_screen v a.run.cycles;
-    ending = ended_by a.run.cycles;
+    output = λ v. ran a.run.cycles (traced a.with_time a.with_screen v a.run.cycles) (ended_by a.run.cycles v);
     fits = λ o come. come;
   }
 
@@ -225,12 +243,46 @@ module _ (game : List ℕ) (scripts : List (List ℕ)) where
   play_run a = record {
     edition = a.edition;
     game = game;
-    limit = a.cycles;
     scripts = scripts;
-    shown = λ v. pictured v a.cycles;
-    ending = ended_by a.cycles;
+    output = λ v. ran a.cycles (pictured v a.cycles) (ended_by a.cycles v);
     fits = λ o come. come;
   }
+
+  abbrev pub save_run : (a : AskedRun) → RunOf (Comes (save a) (game ∷ scripts))
+  save_run a = record {
+    edition = a.edition;
+    game = game;
+    scripts = scripts;
+    output = saved_run a.cycles;
+    fits = λ o come. come;
+  }
+
+-- a run that goes on from a file
+module _ (a : AskedResume) (file : List ℕ) (scripts : List (List ℕ)) where
+  -- it doesn't begin
+  pub refused-resume : (refusal : Refusal) → ResumeAnswers file scripts (Err refusal) → RefusedBy (Comes (resume a) (file ∷ scripts)) refusal
+  refused-resume Usage answer = absurd answer
+  refused-resume (Unread name) answer = absurd answer
+  refused-resume (TooLarge kind) answer = absurd answer
+  refused-resume (Script line cause) answer = Resumes answer.edition _ answer.accepted (FaultyScript line cause answer.here)
+  refused-resume (Command line cause) answer = absurd answer
+  refused-resume (Source line cause) answer = absurd answer
+  refused-resume (State fault) answer = FaultyState fault answer
+  refused-resume (Rom fault) answer =
+      Resumes answer.edition _ answer.accepted (FaultyRom answer.here.script fault answer.here.reads answer.here.rom.0 answer.here.rom.1)
+  refused-resume (Certificate line cause) answer = absurd answer
+  refused-resume (Proof line cause) answer = absurd answer
+  refused-resume (NoCertificate obstacle) answer = absurd answer
+  refused-resume NoMemory answer = tt
+
+  -- it begins, so its records are settled, with its ending
+  abbrev resumed_run : ResumedState → Output
+  resumed_run v = ran a.cycles (records_left a.with_time v a.cycles) (ending_left v a.cycles)
+
+  pub resume-comes : (v : ResumedState) → GoesOn file scripts v → Comes (resume a) (file ∷ scripts) (shown (resumed_run v))
+  resume-comes v goes =
+      subst (λ w. Comes (resume a) (file ∷ scripts) (shown (resumed_run w))) (sym goes.is)
+      (Resumes v.edition _ goes.accepted (Runs goes.script goes.reads goes.rom))
 
 -- ---- what is opened
 

@@ -1,11 +1,12 @@
 -- What each command comes to, by the contents of its files.
-use Rattle.std.specs.Prelude.{◌≡◌, ℕ, List, [], ◌∷◌, if◌then◌else◌, Result, Ok, Err}
+use Rattle.std.specs.Prelude.{◌≡◌, ℕ, List, [], ◌∷◌, if◌then◌else◌, Option, Some, None, Result, Ok, Err}
 use Rattle.machine.specs.Board.{Machine}
 use Rattle.machine.specs.Keys.{Event as KeyEvent}
 use Rattle.chip8_lang.specs.declared.view.Edition.{Edition}
-use Rattle.chip8_lang.specs.declared.view.Edition.TheVariants.{Usual, Tall}
+use Rattle.chip8_lang.specs.declared.view.Edition.TheVariants.{Usual}
 use Rattle.chip8_lang.specs.declared.view.StopRecord.{StopRecord}
 use Rattle.chip8_lang.specs.Events.{Event, events_of, game_run, is_stop}
+use Rattle.chip8_lang.specs.View.{view_at}
 use Rattle.asm_core.specs.Sources.{source_lines}
 use Rattle.rom_check.specs.Compared.{Compares}
 use Rattle.rom_check.specs.declared.fault.ImageFault.{ImageFault}
@@ -20,15 +21,20 @@ use Rattle.vip_keypad.specs.declared.script.ScriptCause.{ScriptCause}
 use Rattle.vip_keypad.specs.declared.script.ScriptFault.TheVariants.{Fault}
 use Rattle.vip_relation.specs.Interpreters.{interpreter_of}
 use Rattle.vip_relation.specs.State.{VipState, interpreter, started, state_after}
-use Rattle.vip_show.specs.Endings.{ending_of}
-use Rattle.vip_show.specs.Output.{trace_pieces, picture_pieces, summary}
+use Rattle.vip_show.specs.Endings.{ending_after, ending_of}
+use Rattle.vip_show.specs.Output.{trace_lines, trace_pieces, picture_pieces, summary}
+use Rattle.vip_state.specs.File.{shown, IsAccepted, Judges}
+use Rattle.vip_state.specs.Output.{saved_ending, saved_pieces}
+use Rattle.vip_state.specs.Points.{points_behind}
+use Rattle.vip_text.specs.declared.fault.StateFault.{StateFault}
 use Rattle.vip_text.specs.Endings.{Ending}
 use Rattle.vip_text.specs.Endings.Ending.{AtLimit, AtStop}
-use Rattle.vip_words.specs.Asked.{Asked, trace, play, debug, demo, asm, list, dis, source, bounds, within, safe, certify}
+use Rattle.vip_words.specs.Asked.{Asked, AskedResume, trace, play, debug, demo, save, resume, asm, list, dis, source, bounds, within, safe, certify}
 use Rattle.vip_report.specs.Refusal.{image_status}
 use Rattle.vip_report.specs.Status.{end_status}
-use Rattle.vip_report.specs.Report.{bad_command, bad_script, image_report, end_report}
-use Rattle.vip_report.specs.declared.status.Status.TheVariants.{BadCommand, BadScript}
+use Rattle.vip_report.specs.Report.{bad_command, bad_script, bad_state, image_report, end_report, no_dispatch}
+use Rattle.vip_report.specs.declared.status.Status.{Status}
+use Rattle.vip_report.specs.declared.status.Status.TheVariants.{BadCommand, BadScript, BadState, NoDispatch}
 use Rattle.vip_tools.specs.Certificates.{CertifyComes, CyclesComes, SafeComes}
 use Rattle.vip_tools.specs.Demo.{demo_game}
 use Rattle.vip_tools.specs.Outcome.{Outcome, AsmComes, BoundsComes, DisComes, ListComes, TextComes, rom_text, script_in}
@@ -47,7 +53,7 @@ events_in e game script limit = events_of (interpreter_of e) game script limit
 abbrev pub run_ending : Edition → List ℕ → ℕ → List KeyEvent → Ending
 run_ending e game limit script = ending_of e (events_in e game script limit)
 
--- what the built-in source gives, compared with the ROM
+-- what an edition's built-in source gives, compared with its ROM
 abbrev pub RomIs : Edition → Result (Unit {0}) ImageFault → Type 0
 RomIs e answer = Compares (source_lines (rom_text e)) (interpreter_of e).rom answer
 
@@ -56,11 +62,47 @@ abbrev pub IsFault : ImageFault → Type 0
 IsFault NoMemory = ⊥
 IsFault _ = Unit {0}
 
--- A run up to a limit comes to the first fault of its script, to a ROM that isn't what its source gives, or to its output and its ending.
-pub data RunComes (e : Edition) (limit : ℕ) (scripts : List (List ℕ)) (pieces : List KeyEvent → List (List ℕ)) (ending : List KeyEvent → Ending) : Outcome → Type 0 where
-  FaultyScript : (line : ℕ) (cause : ScriptCause) → script_in scripts ≡ Err (Fault line cause) → RunComes e limit scripts pieces ending (Refused BadScript (bad_script line cause))
-  FaultyRom : (script : List KeyEvent) (fault : ImageFault) → script_in scripts ≡ Ok script → IsFault fault → RomIs e (Err fault) → RunComes e limit scripts pieces ending (Refused (image_status fault) (image_report fault))
-  Runs : (script : List KeyEvent) → script_in scripts ≡ Ok script → RomIs e (Ok tt) → RunComes e limit scripts pieces ending (Shown (pieces script) (end_status (ending script)) (end_report limit (ending script)))
+-- A run comes to the first fault of its script, to a ROM that isn't what its source gives, or to what it makes of its script.
+pub data RunTo (e : Edition) (scripts : List (List ℕ)) (outcome : List KeyEvent → Outcome) : Outcome → Type 0 where
+  FaultyScript : (line : ℕ) (cause : ScriptCause) → script_in scripts ≡ Err (Fault line cause) → RunTo e scripts outcome (Refused BadScript (bad_script line cause))
+  FaultyRom : (script : List KeyEvent) (fault : ImageFault) → script_in scripts ≡ Ok script → IsFault fault → RomIs e (Err fault) → RunTo e scripts outcome (Refused (image_status fault) (image_report fault))
+  Runs : (script : List KeyEvent) → script_in scripts ≡ Ok script → RomIs e (Ok tt) → RunTo e scripts outcome (outcome script)
+
+-- that is its output and its ending, where it is shown up to a limit
+abbrev pub RunComes : Edition → ℕ → List (List ℕ) → (List KeyEvent → List (List ℕ)) → (List KeyEvent → Ending) → Outcome → Type 0
+RunComes e limit scripts pieces ending = RunTo e scripts (λ script. Shown (pieces script) (end_status (ending script)) (end_report limit (ending script)))
+
+-- ---- a run that is saved
+
+-- how it ends: as the run does, or with no dispatch point
+abbrev pub saved_status : Option Ending → Status
+saved_status None = NoDispatch
+saved_status (Some ending) = end_status ending
+
+abbrev pub saved_report : ℕ → Option Ending → List ℕ
+saved_report limit None = no_dispatch
+saved_report limit (Some ending) = end_report limit ending
+
+-- the file of the last dispatch point of some events, if there is one
+abbrev pub saved : Edition → ℕ → List Event → Outcome
+saved e limit events = Shown (saved_pieces e events) (saved_status (saved_ending e events)) (saved_report limit (saved_ending e events))
+
+abbrev pub SaveComes : Edition → List ℕ → ℕ → List (List ℕ) → Outcome → Type 0
+SaveComes e game limit scripts = RunTo e scripts (λ script. saved e limit (events_in e game script limit))
+
+-- ---- a run that goes on from a file
+
+-- the points behind the file's state under a script up to a limit, and how the run ends by them
+abbrev pub points_in : Edition → List ℕ → List KeyEvent → ℕ → List Event
+points_in e file script limit = points_behind (interpreter_of e) script (shown file) limit
+
+abbrev pub ending_from : Edition → List ℕ → ℕ → List KeyEvent → Ending
+ending_from e file limit script = ending_after e (view_at e (shown file)).pc (view_at e (shown file)).opcode (points_in e file script limit)
+
+-- It comes to the first fault of the file, or else, as other runs of the file's edition do, to the records of the points behind its state.
+pub data ResumeComes (a : AskedResume) (file : List ℕ) (scripts : List (List ℕ)) : Outcome → Type 0 where
+  FaultyState : (fault : StateFault) → Judges file (Err fault) → ResumeComes a file scripts (Refused BadState (bad_state fault))
+  Resumes : (e : Edition) (o : Outcome) → IsAccepted e file → RunComes e a.cycles scripts (λ script. trace_lines e a.with_time (points_in e file script a.cycles)) (ending_from e file a.cycles) o → ResumeComes a file scripts o
 
 -- ---- a run under the debugger
 
@@ -100,6 +142,8 @@ Comes (demo a) [] =
     RunComes Usual a.cycles []
     (λ script. summary Usual a.number (events_in Usual (demo_game a.number) script a.cycles) ∷ [])
     (run_ending Usual (demo_game a.number) a.cycles)
+Comes (save a) (game ∷ scripts) = SaveComes a.edition game a.cycles scripts
+Comes (resume a) (file ∷ scripts) = ResumeComes a file scripts
 Comes (asm a) (text ∷ []) = AsmComes a.raw text
 Comes (list name) (text ∷ []) = ListComes text
 Comes (dis a) (bytes ∷ []) = DisComes a.address bytes

@@ -1,7 +1,8 @@
 -- A verb that is ready to write: what it writes, and how it ends.
-use Rattle.std.specs.Prelude.{◌≡◌, ◌≤◌, ℕ, List, [], ◌∷◌, Result, Ok, Err, IsErr, Vec}
+use Rattle.std.specs.Prelude.{◌≡◌, ◌≤◌, ℕ, false, List, [], ◌∷◌, Option, Some, None, Result, Ok, Err, IsErr, Vec}
 use Rattle.std.specs.declared.alloc.Global.{Global}
 use Rattle.machine.specs.Keys.{Event as KeyEvent}
+use Rattle.chip8_lang.specs.Events.{is_stop}
 use Rattle.vip_outside.specs.Files.{FilesMeaning}
 use Rattle.vip_outside.specs.Pieces.{PutsAll, FailsWithin}
 use Rattle.vip_outside.specs.Sink.{SinkMeaning}
@@ -13,12 +14,14 @@ use Rattle.vip_relation.specs.Meets.{HasStopped}
 use Rattle.vip_relation.specs.State.{VipState, started, events_to}
 use Rattle.vip_show.specs.Answers.{traced, pictured, summed}
 use Rattle.vip_show.specs.Endings.{ending_of}
+use Rattle.vip_state.specs.Output.{ending_left, records_left, saved_ending, saved_pieces}
+use Rattle.vip_state.specs.State.{interpreter as resumed_interpreter}
 use Rattle.vip_text.specs.Endings.{Ending}
 use Rattle.vip_text.specs.declared.ending.RunEnd.{RunEnd}
 use Rattle.vip_text.specs.declared.ending.RunEnd.TheVariants as end
 use Rattle.vip_words.specs.Asked.{Asked, most_cycles}
 use Rattle.vip_report.specs.declared.ended.Ended.{Ended}
-use Rattle.vip_report.specs.declared.ended.Ended.TheVariants.{Ran}
+use Rattle.vip_report.specs.declared.ended.Ended.TheVariants.{NoDispatch, Ran}
 use Rattle.vip_report.specs.declared.refusal.Refusal.{Refusal}
 use Rattle.vip_report.specs.declared.refusal.Refusal.TheVariants.{Usage, Unread, TooLarge, NoMemory}
 use Rattle.vip_report.specs.declared.status.Status.{Status}
@@ -29,9 +32,9 @@ use Rattle.vip_tools.specs.Files.{needed, ComesTo, HasAll, IsLarger, IsUnread, R
 use Rattle.vip_tools.specs.Outcome.{Outcome}
 use Rattle.vip_tools.specs.Outcome.Outcome.{Shown}
 use Rattle.vip_tools.specs.Work.{RefusedBy}
-use Rattle.vip_verbs.specs.Outcome.{Comes, debug_ending}
+use Rattle.vip_verbs.specs.Outcome.{Comes, debug_ending, saved_report, saved_status}
 use Rattle.vip_verbs.specs.declared.prepared.Prepared.{Prepared}
-use Rattle.vip_verbs.specs.declared.prepared.Prepared.TheVariants.{Trace, Play, Debug, Demo, Text}
+use Rattle.vip_verbs.specs.declared.prepared.Prepared.TheVariants.{Trace, Play, Debug, Save, Resume, Demo, Text}
 
 -- ---- what is written
 
@@ -52,11 +55,19 @@ ran limit pieces ending = record { pieces = pieces; status = end_status ending; 
 abbrev pub ended_by : ℕ → VipState → Ending
 ended_by limit v = ending_of v.edition (events_to v limit)
 
+-- the output of a run that is saved
+abbrev pub saved_run : ℕ → VipState → Output
+saved_run limit v =
+    let end = saved_ending v.edition (events_to v limit) in
+    record { pieces = saved_pieces v.edition (events_to v limit); status = saved_status end; report = saved_report limit end }
+
 -- what a verb that is ready writes
 abbrev pub output_of : Prepared → Output
 output_of (Trace vip limit with_time with_screen) = ran limit (traced with_time with_screen vip limit) (ended_by limit vip)
 output_of (Play vip limit) = ran limit (pictured vip limit) (ended_by limit vip)
 output_of (Debug vip limit commands) = ran limit (written vip limit commands at_start) (debug_ending vip limit commands)
+output_of (Save vip limit) = saved_run limit vip
+output_of (Resume run limit with_time) = ran limit (records_left with_time run limit) (ending_left run limit)
 output_of (Demo vip limit number) = ran limit (summed number vip limit) (ended_by limit vip)
 output_of (Text text) = record { pieces = text.items ∷ []; status = Done; report = [] }
 
@@ -73,6 +84,8 @@ abbrev pub IsReady : Prepared → Type 0
 IsReady (Trace vip limit with_time with_screen) = IsStarted vip × (limit ≤ most_cycles)
 IsReady (Play vip limit) = IsStarted vip × (limit ≤ most_cycles)
 IsReady (Debug vip limit commands) = IsStarted vip × (limit ≤ most_cycles)
+IsReady (Save vip limit) = IsStarted vip × (limit ≤ most_cycles)
+IsReady (Resume run limit with_time) = (is_stop (resumed_interpreter run) run.board.machine ≡ false) × (limit ≤ most_cycles)
 IsReady (Demo vip limit number) = IsStarted vip × (limit ≤ most_cycles)
 IsReady (Text text) = Unit {0}
 
@@ -110,10 +123,15 @@ pub record Performs (o : Output) (old new : SinkMeaning) (ended : Ended) : Type 
   pub status : o.status ≡ ended_status ended
   pub report : o.report ≡ ended_report ended
 
--- how a run up to a limit ended, and one under the debugger
+-- how a run up to a limit ended, one that is saved, and one under the debugger
 abbrev pub run_ended : ℕ → Result RunEnd Failed → Result Ended Failed
 run_ended limit (Ok end) = Ok (Ran limit end)
 run_ended limit (Err failed) = Err failed
+
+abbrev pub save_ended : ℕ → Result (Option RunEnd) Failed → Result Ended Failed
+save_ended limit (Ok None) = Ok NoDispatch
+save_ended limit (Ok (Some end)) = Ok (Ran limit end)
+save_ended limit (Err failed) = Err failed
 
 abbrev pub DebugEnds : ℕ → DebugEnd → Result Ended Failed → Type 0
 DebugEnds limit debugger.Done answer = answer ≡ Ok (Ran limit end.AtLimit)

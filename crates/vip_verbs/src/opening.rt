@@ -3,13 +3,13 @@
 ghost use Rattle.std.specs.Prelude.{◌≡◌, ◌≤◌, [], length};
 ghost use Rattle.chip8_lang.specs.State.{memory_size};
 ghost use Rattle.vip_words.specs.Asked.{cycles_in, most_cycles};
-ghost use Rattle.vip_words.specs.Asked.Asked.{trace, play, debug, demo};
-ghost use Rattle.vip_words.specs.Request.{asked_of, asked_run, asked_trace, asked_debug, asked_demo};
+ghost use Rattle.vip_words.specs.Asked.Asked.{trace, play, debug, demo, resume, save};
+ghost use Rattle.vip_words.specs.Request.{asked_of, asked_run, asked_trace, asked_debug, asked_demo, asked_resume};
 ghost use Rattle.vip_tools.specs.Contents.{script_list, run_list, debug_list};
 ghost use Rattle.vip_tools.specs.Files.{needed, FitAll, contents_of};
 ghost use Rattle.vip_tools.specs.Opening.{SmallScripts};
 ghost use Rattle.vip_verbs.specs.Outcome.{Comes, RomIs};
-ghost use Rattle.vip_verbs.specs.Opening.{RomAnswers, StartAnswers};
+ghost use Rattle.vip_verbs.specs.Opening.{JudgedAnswers, ResumeAnswers, RomAnswers, StartAnswers};
 ghost use Rattle.vip_verbs.specs.Prepared.{OpenAnswers, PrepareAnswers, texted};
 
 use crate::prepared::Prepared;
@@ -20,12 +20,13 @@ use vip_commands::Speaks;
 use vip_outside::Files;
 use vip_relation::{StartFault, Vip};
 use vip_report::Refusal;
+use vip_state::{ResumeFault, Resumed, check_state};
 use vip_tools::{
     DebugContents, RunContents, asm, bounds, certified_contents, certify, cycles, debug_contents,
     demo_game, dis, game_kind, list, only_content, open_files, read_debugging, read_keys,
     run_contents, safe, source, wanted_files,
 };
-use vip_words::{DebugRequest, DemoRequest, Request, RunRequest, TraceRequest};
+use vip_words::{DebugRequest, DemoRequest, Request, ResumeRequest, RunRequest, TraceRequest};
 
 /// Compares an edition's ROM with its built-in source.
 fn compared(alloc: Global, edition: Edition) -> Result<(), ImageFault>
@@ -122,6 +123,64 @@ fn open_debug<'a>(
     })
 }
 
+fn open_save<'a>(
+    alloc: Global,
+    wish: &RunRequest<'a>,
+    contents: &RunContents<'_>,
+) -> Result<Prepared, Refusal<'a>>
+    requires limit { wish.now.cycles ≤ most_cycles }
+    requires sizes { FitAll (needed (save (asked_run wish.now))) (run_list contents.now) }
+    ensures { PrepareAnswers (Comes (save (asked_run wish.now)) (run_list contents.now)) result }
+{
+    let vip = start(alloc, wish.edition, contents)?;
+    Ok(Prepared::Save {
+        vip,
+        limit: wish.cycles,
+    })
+}
+
+/// The edition of a state file, which is refused for its first fault.
+fn judged<'a>(file: &[u8]) -> Result<Edition, Refusal<'a>>
+    ensures { JudgedAnswers file.now result }
+{
+    match check_state(file) {
+        Ok(edition) => Ok(edition),
+        Err(fault) => Err(Refusal::State(fault)),
+    }
+}
+
+/// A run that goes on from a state file under its script.
+fn go_on<'a>(alloc: Global, file: &[u8], script: Option<&[u8]>) -> Result<Resumed, Refusal<'a>>
+    requires { SmallScripts (script_list script) }
+    ensures { ResumeAnswers file.now (script_list script.entry) result }
+{
+    let edition = judged(file)?;
+    let script = read_keys(alloc, script)?;
+    check_rom(alloc, edition)?;
+    match Resumed::open(alloc, file, &script) {
+        Ok(run) => Ok(run),
+        Err(ResumeFault::State(fault)) => Err(Refusal::State(fault)),
+        Err(ResumeFault::NoMemory) => Err(Refusal::NoMemory),
+    }
+}
+
+fn open_resume<'a>(
+    alloc: Global,
+    wish: &ResumeRequest<'a>,
+    contents: &RunContents<'_>,
+) -> Result<Prepared, Refusal<'a>>
+    requires limit { wish.now.cycles ≤ most_cycles }
+    requires sizes { FitAll (needed (resume (asked_resume wish.now))) (run_list contents.now) }
+    ensures { PrepareAnswers (Comes (resume (asked_resume wish.now)) (run_list contents.now)) result }
+{
+    let run = go_on(alloc, contents.game, contents.script)?;
+    Ok(Prepared::Resume {
+        run,
+        limit: wish.cycles,
+        with_time: wish.with_time,
+    })
+}
+
 fn open_demo<'a>(alloc: Global, wish: &DemoRequest) -> Result<Prepared, Refusal<'a>>
     requires limit { wish.now.cycles ≤ most_cycles }
     ensures { PrepareAnswers (Comes (demo (asked_demo wish.now)) []) result }
@@ -163,6 +222,8 @@ fn prepare<'a>(
         Request::Trace(wish) => open_trace(alloc, wish, &run_contents(contents)),
         Request::Play(wish) => open_play(alloc, wish, &run_contents(contents)),
         Request::Debug(wish) => open_debug(alloc, wish, &debug_contents(contents)),
+        Request::Save(wish) => open_save(alloc, wish, &run_contents(contents)),
+        Request::Resume(wish) => open_resume(alloc, wish, &run_contents(contents)),
         Request::Demo(wish) => open_demo(alloc, wish),
         Request::Asm(wish) => text(asm(alloc, only_content(contents), wish.raw)),
         Request::List(_) => text(list(alloc, only_content(contents))),
@@ -178,8 +239,6 @@ fn prepare<'a>(
             text(safe(alloc, wish.edition, files.certified, files.certificate))
         }
         Request::Certify(wish) => text(certify(alloc, wish.edition, only_content(contents))),
-        Request::Save(_) => Err(Refusal::NoMemory),
-        Request::Resume(_) => Err(Refusal::NoMemory),
         Request::Link(_) => Err(Refusal::NoMemory),
         Request::TraceProgram(_) => Err(Refusal::NoMemory),
         Request::PlayProgram(_) => Err(Refusal::NoMemory),

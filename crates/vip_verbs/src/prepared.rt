@@ -1,13 +1,14 @@
 //! A verb that is ready to write, and its work.
 
 ghost use Rattle.std.specs.Prelude.{◌≡◌};
-ghost use Rattle.vip_verbs.specs.Prepared.{IsReady, PerformAnswers, DebugEnds, output_of, run_ended};
+ghost use Rattle.vip_verbs.specs.Prepared.{IsReady, PerformAnswers, DebugEnds, output_of, run_ended, save_ended};
 
 use vip_debug::{DebugEnd, run_commands};
 use vip_outside::{Failed, Sink};
 use vip_relation::Vip;
 use vip_report::Ended;
 use vip_show::{show_pictures, show_summary, show_trace};
+use vip_state::{Resumed, show_resumed, show_saved};
 use vip_text::RunEnd;
 use vip_commands::Commands;
 
@@ -32,6 +33,14 @@ pub enum Prepared {
         limit: u64,
         commands: Commands,
     },
+    /// A game's run up to a limit, of which the state at the last dispatch point is saved.
+    Save { vip: Vip, limit: u64 },
+    /// A run that goes on from a saved state up to a limit, a line for each dispatch point behind it.
+    Resume {
+        run: Resumed,
+        limit: u64,
+        with_time: bool,
+    },
     /// The run of the demonstration game of a number up to a limit, counted.
     Demo {
         vip: Vip,
@@ -48,6 +57,17 @@ fn ran(limit: u64, end: Result<RunEnd, Failed>) -> Result<Ended, Failed>
 {
     match end {
         Ok(end) => Ok(Ended::Ran(limit, end)),
+        Err(failed) => Err(failed),
+    }
+}
+
+/// How a run up to a limit ended that was saved: None where it had no dispatch point.
+fn saved(limit: u64, end: Result<Option<RunEnd>, Failed>) -> Result<Ended, Failed>
+    ensures { result ≡ save_ended limit end }
+{
+    match end {
+        Ok(Some(end)) => Ok(Ended::Ran(limit, end)),
+        Ok(None) => Ok(Ended::NoDispatch),
         Err(failed) => Err(failed),
     }
 }
@@ -85,6 +105,12 @@ pub fn perform<O: Sink>(prepared: Prepared, out: &mut O) -> Result<Ended, Failed
             limit,
             commands,
         } => debugged(limit, run_commands(&mut vip, &commands, limit, out)),
+        Prepared::Save { mut vip, limit } => saved(limit, show_saved(&mut vip, limit, out)),
+        Prepared::Resume {
+            mut run,
+            limit,
+            with_time,
+        } => ran(limit, show_resumed(&mut run, limit, with_time, out)),
         Prepared::Demo {
             mut vip,
             limit,
