@@ -13,7 +13,8 @@ bits:   EQU 8               ; how many bits a factor has
         PLO R3
         SEP R3
 
-; R4 is the product so far, R6.0 counts the bits, R7 points to the factors.
+; R5 is the product so far, R6.0 counts the bits, R7 points to the factors, R8.0
+; is the first one and R8.1 what is left of the second one.
 start:  LDI >factors
         PHI R7
         LDI <factors

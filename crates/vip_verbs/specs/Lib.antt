@@ -1,3 +1,4 @@
+pub mod Programs
 pub mod Outcome
 pub mod Opening
 pub mod Prepared

@@ -7,9 +7,12 @@ use Rattle.vip_outside.specs.Files.{FilesMeaning}
 use Rattle.vip_outside.specs.Pieces.{PutsAll, FailsWithin}
 use Rattle.vip_outside.specs.Sink.{SinkMeaning}
 use Rattle.vip_outside.specs.declared.sink.Failed.{Failed}
+use Rattle.vip_board.specs.Seen.{Seen}
 use Rattle.vip_debug.specs.Answers.{at_start, written}
 use Rattle.vip_debug.specs.declared.run.DebugEnd.{DebugEnd}
 use Rattle.vip_debug.specs.declared.run.DebugEnd.TheVariants as debugger
+use Rattle.vip_program.specs.Pictures.{pictured as program_pictures}
+use Rattle.vip_program.specs.Trace.{traced as program_lines}
 use Rattle.vip_relation.specs.Meets.{HasStopped}
 use Rattle.vip_relation.specs.State.{VipState, started, events_to}
 use Rattle.vip_show.specs.Answers.{traced, pictured, summed}
@@ -34,7 +37,8 @@ use Rattle.vip_tools.specs.Outcome.Outcome.{Shown}
 use Rattle.vip_tools.specs.Work.{RefusedBy}
 use Rattle.vip_verbs.specs.Outcome.{Comes, debug_ending, saved_report, saved_status}
 use Rattle.vip_verbs.specs.declared.prepared.Prepared.{Prepared}
-use Rattle.vip_verbs.specs.declared.prepared.Prepared.TheVariants.{Trace, Play, Debug, Save, Resume, Demo, Text}
+use Rattle.vip_verbs.specs.declared.prepared.Prepared.TheVariants.{Trace, Play, Debug, Save, Resume, Demo, Text, TraceProgram, PlayProgram}
+use Rattle.vip_verbs.specs.Programs.{IsBegun, ended_there}
 
 -- ---- what is written
 
@@ -61,6 +65,10 @@ saved_run limit v =
     let end = saved_ending v.edition (events_to v limit) in
     record { pieces = saved_pieces v.edition (events_to v limit); status = saved_status end; report = saved_report limit end }
 
+-- the output of a board that begins to run a program
+abbrev pub program_output : ℕ → List (List ℕ) → Seen → Output
+program_output limit pieces board = record { pieces = pieces; status = Done; report = ended_there limit board }
+
 -- what a verb that is ready writes
 abbrev pub output_of : Prepared → Output
 output_of (Trace vip limit with_time with_screen) = ran limit (traced with_time with_screen vip limit) (ended_by limit vip)
@@ -69,6 +77,8 @@ output_of (Debug vip limit commands) = ran limit (written vip limit commands at_
 output_of (Save vip limit) = saved_run limit vip
 output_of (Resume run limit with_time) = ran limit (records_left with_time run limit) (ending_left run limit)
 output_of (Demo vip limit number) = ran limit (summed number vip limit) (ended_by limit vip)
+output_of (TraceProgram board limit) = program_output limit (program_lines board limit) board
+output_of (PlayProgram board limit) = program_output limit (program_pictures board limit) board
 output_of (Text text) = record { pieces = text.items ∷ []; status = Done; report = [] }
 
 -- ---- what it needs to be ready
@@ -87,6 +97,8 @@ IsReady (Debug vip limit commands) = IsStarted vip × (limit ≤ most_cycles)
 IsReady (Save vip limit) = IsStarted vip × (limit ≤ most_cycles)
 IsReady (Resume run limit with_time) = (is_stop (resumed_interpreter run) run.board.machine ≡ false) × (limit ≤ most_cycles)
 IsReady (Demo vip limit number) = IsStarted vip × (limit ≤ most_cycles)
+IsReady (TraceProgram board limit) = IsBegun board × (limit ≤ most_cycles)
+IsReady (PlayProgram board limit) = IsBegun board × (limit ≤ most_cycles)
 IsReady (Text text) = Unit {0}
 
 -- ---- the answers

@@ -12,6 +12,7 @@
 
 mod opening;
 mod prepared;
+mod program;
 
 pub use opening::open;
 pub use prepared::{Prepared, perform};

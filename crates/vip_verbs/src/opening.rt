@@ -3,8 +3,8 @@
 ghost use Rattle.std.specs.Prelude.{◌≡◌, ◌≤◌, [], length};
 ghost use Rattle.chip8_lang.specs.State.{memory_size};
 ghost use Rattle.vip_words.specs.Asked.{cycles_in, most_cycles};
-ghost use Rattle.vip_words.specs.Asked.Asked.{trace, play, debug, demo, resume, save};
-ghost use Rattle.vip_words.specs.Request.{asked_of, asked_run, asked_trace, asked_debug, asked_demo, asked_resume};
+ghost use Rattle.vip_words.specs.Asked.Asked.{trace, play, debug, demo, resume, save, trace_program, play_program};
+ghost use Rattle.vip_words.specs.Request.{asked_of, asked_run, asked_trace, asked_debug, asked_demo, asked_resume, asked_program};
 ghost use Rattle.vip_tools.specs.Contents.{script_list, run_list, debug_list};
 ghost use Rattle.vip_tools.specs.Files.{needed, FitAll, contents_of};
 ghost use Rattle.vip_tools.specs.Opening.{SmallScripts};
@@ -13,6 +13,7 @@ ghost use Rattle.vip_verbs.specs.Opening.{JudgedAnswers, ResumeAnswers, RomAnswe
 ghost use Rattle.vip_verbs.specs.Prepared.{OpenAnswers, PrepareAnswers, texted};
 
 use crate::prepared::Prepared;
+use crate::program::start_board;
 use chip8_lang::Edition;
 use rom_check::{ImageFault, check_image, check_tall};
 use std::alloc::Global;
@@ -26,7 +27,7 @@ use vip_tools::{
     demo_game, dis, game_kind, list, only_content, open_files, read_debugging, read_keys,
     run_contents, safe, source, wanted_files,
 };
-use vip_words::{DebugRequest, DemoRequest, Request, ResumeRequest, RunRequest, TraceRequest};
+use vip_words::{DebugRequest, DemoRequest, Request, ResumeRequest, RunRequest, TraceRequest, ProgramRequest};
 
 /// Compares an edition's ROM with its built-in source.
 fn compared(alloc: Global, edition: Edition) -> Result<(), ImageFault>
@@ -198,6 +199,38 @@ fn open_demo<'a>(alloc: Global, wish: &DemoRequest) -> Result<Prepared, Refusal<
     })
 }
 
+fn open_trace_program<'a>(
+    alloc: Global,
+    wish: &ProgramRequest<'a>,
+    contents: &RunContents<'_>,
+) -> Result<Prepared, Refusal<'a>>
+    requires limit { wish.now.cycles ≤ most_cycles }
+    requires sizes { FitAll (needed (trace_program (asked_program wish.now))) (run_list contents.now) }
+    ensures { PrepareAnswers (Comes (trace_program (asked_program wish.now)) (run_list contents.now)) result }
+{
+    let board = start_board(alloc, wish.memory, contents)?;
+    Ok(Prepared::TraceProgram {
+        board,
+        limit: wish.cycles,
+    })
+}
+
+fn open_play_program<'a>(
+    alloc: Global,
+    wish: &ProgramRequest<'a>,
+    contents: &RunContents<'_>,
+) -> Result<Prepared, Refusal<'a>>
+    requires limit { wish.now.cycles ≤ most_cycles }
+    requires sizes { FitAll (needed (play_program (asked_program wish.now))) (run_list contents.now) }
+    ensures { PrepareAnswers (Comes (play_program (asked_program wish.now)) (run_list contents.now)) result }
+{
+    let board = start_board(alloc, wish.memory, contents)?;
+    Ok(Prepared::PlayProgram {
+        board,
+        limit: wish.cycles,
+    })
+}
+
 /// A verb that writes a text alone.
 fn text<'a>(made: Result<Vec<u8>, Refusal<'a>>) -> Result<Prepared, Refusal<'a>>
     ensures { result ≡ texted made.entry }
@@ -240,8 +273,8 @@ fn prepare<'a>(
         }
         Request::Certify(wish) => text(certify(alloc, wish.edition, only_content(contents))),
         Request::Link(_) => Err(Refusal::NoMemory),
-        Request::TraceProgram(_) => Err(Refusal::NoMemory),
-        Request::PlayProgram(_) => Err(Refusal::NoMemory),
+        Request::TraceProgram(wish) => open_trace_program(alloc, wish, &run_contents(contents)),
+        Request::PlayProgram(wish) => open_play_program(alloc, wish, &run_contents(contents)),
         Request::DebugProgram(_) => Err(Refusal::NoMemory),
     }
 }

@@ -3,6 +3,8 @@
 ghost use Rattle.std.specs.Prelude.{◌≡◌};
 ghost use Rattle.vip_verbs.specs.Prepared.{IsReady, PerformAnswers, DebugEnds, output_of, run_ended, save_ended};
 
+use crate::program::program_ran;
+use vip_board::Board;
 use vip_debug::{DebugEnd, run_commands};
 use vip_outside::{Failed, Sink};
 use vip_relation::Vip;
@@ -46,6 +48,16 @@ pub enum Prepared {
         vip: Vip,
         limit: u64,
         number: u32,
+    },
+    /// A program's run up to a limit, a line for each move or stretch of moves.
+    TraceProgram {
+        board: Board,
+        limit: u64,
+    },
+    /// A program's run up to a limit, picture by picture.
+    PlayProgram {
+        board: Board,
+        limit: u64,
     },
     /// A text, all of the output.
     Text(Vec<u8>),
@@ -116,6 +128,12 @@ pub fn perform<O: Sink>(prepared: Prepared, out: &mut O) -> Result<Ended, Failed
             limit,
             number,
         } => ran(limit, show_summary(&mut vip, limit, number, out)),
+        Prepared::TraceProgram { mut board, limit } => {
+            program_ran(limit, vip_program::show_trace(&mut board, limit, out))
+        }
+        Prepared::PlayProgram { mut board, limit } => {
+            program_ran(limit, vip_program::show_pictures(&mut board, limit, out))
+        }
         Prepared::Text(text) => {
             out.put(text.as_slice())?;
             Ok(Ended::Worked)

@@ -1,0 +1,71 @@
+-- The verbs of a program: what their opening answers, from the answer of its start, and what their work does.
+use Rattle.std.proofs.Common.{◌≡◌, ℕ, List, refl, sym, ap, ◌∙◌, subst, Result, Ok, Err}
+use Rattle.vip_board.specs.Seen.{Seen}
+use Rattle.vip_outside.specs.Sink.{SinkMeaning}
+use Rattle.vip_outside.specs.declared.sink.Failed.{Failed}
+use Rattle.vip_program.specs.Program.{machine_under, started}
+use Rattle.vip_program.specs.Trace.{ShowAnswers}
+use Rattle.vip_program.specs.declared.trace.ProgramEnd.{ProgramEnd}
+use Rattle.vip_program.specs.declared.trace.ProgramEnd.TheVariants as program
+use Rattle.vip_report.specs.declared.refusal.Refusal.{Refusal}
+use Rattle.vip_report.specs.declared.refusal.Refusal.TheVariants.{Usage, Unread, TooLarge, Script, Command, Source, State, Rom, Certificate, Proof, NoCertificate, NoMemory}
+use Rattle.vip_tools.specs.Outcome.{Outcome}
+use Rattle.vip_tools.specs.Work.{RefusedBy}
+use Rattle.vip_verbs.specs.Prepared.{PerformAnswers, program_output, shown}
+use Rattle.vip_verbs.specs.Programs.{BeginsProgram, BoardAnswers, IsBegun, ProgramComes, memory_in, program_ended, program_report}
+use Rattle.vip_verbs.specs.Programs.ProgramComes.{FaultyScript, Runs}
+use Rattle.vip_words.specs.declared.request.Memory.{Memory}
+use Rattle.vip_words.specs.declared.request.Memory.TheVariants as asked
+
+module _ (memory : Memory) (bytes : List ℕ) (scripts : List (List ℕ)) where
+  cycle_zero : (m : Memory) → (machine_under (memory_in m) bytes).cycle ≡ 0
+  cycle_zero asked.Rom = refl
+  cycle_zero asked.Ram = refl
+
+  -- a board that begins is at its first move
+  pub begun-of : (board : Seen) → BeginsProgram memory bytes scripts board → IsBegun board
+  begun-of board begins = record {
+    boundary = ap (λ (s : Seen). s.phase) begins.is;
+    begins = ap (λ (s : Seen). s.machine.cycle) begins.is ∙ cycle_zero memory;
+    pictures = begins.pictures;
+  }
+
+  module _ (limit : ℕ) (pieces : Seen → List (List ℕ)) where
+    abbrev Here : Outcome → Type 0
+    Here = ProgramComes memory bytes limit scripts pieces
+
+    -- it doesn't begin
+    pub refused-board : (refusal : Refusal) → BoardAnswers memory bytes scripts (Err refusal) → RefusedBy Here refusal
+    refused-board Usage answer = absurd answer
+    refused-board (Unread name) answer = absurd answer
+    refused-board (TooLarge kind) answer = absurd answer
+    refused-board (Script line cause) answer = FaultyScript line cause answer
+    refused-board (Command line cause) answer = absurd answer
+    refused-board (Source line cause) answer = absurd answer
+    refused-board (State fault) answer = absurd answer
+    refused-board (Rom fault) answer = absurd answer
+    refused-board (Certificate line cause) answer = absurd answer
+    refused-board (Proof line cause) answer = absurd answer
+    refused-board (NoCertificate obstacle) answer = absurd answer
+    refused-board NoMemory answer = tt
+
+    -- it begins, so its output is settled, with its end
+    pub program-comes : (board : Seen) → BeginsProgram memory bytes scripts board → Here (shown (program_output limit (pieces board) board))
+    program-comes board begins =
+        subst (λ b. Here (shown (program_output limit (pieces b) b))) (sym begins.is) (Runs begins.script begins.reads)
+
+-- what was shown of a run
+pub program-performs :
+    (limit : ℕ) (pieces : List (List ℕ)) (board : Seen) (old new : SinkMeaning) (r : Result ProgramEnd Failed) → ShowAnswers pieces limit board old new r
+    → PerformAnswers (program_output limit pieces board) old new (program_ended limit r)
+program-performs limit pieces board old new (Ok program.AtLimit) shows = record {
+  puts = shows.puts;
+  status = refl;
+  report = ap (program_report limit) (sym shows.ending);
+}
+program-performs limit pieces board old new (Ok (program.Idle address)) shows = record {
+  puts = shows.puts;
+  status = refl;
+  report = ap (program_report limit) (sym shows.ending);
+}
+program-performs limit pieces board old new (Err failed) fails = fails

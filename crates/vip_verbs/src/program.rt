@@ -1,0 +1,51 @@
+//! The verbs that run a program of the user's: its board, and how its run ends.
+
+ghost use Rattle.std.specs.Prelude.{◌≡◌, ◌≤◌, length};
+ghost use Rattle.vip_program.specs.Program.{most_bytes};
+ghost use Rattle.vip_tools.specs.Contents.{script_list};
+ghost use Rattle.vip_tools.specs.Opening.{SmallScripts};
+ghost use Rattle.vip_verbs.specs.Programs.{BoardAnswers, memory_in, program_ended};
+
+use std::alloc::Global;
+use vip_board::Board;
+use vip_outside::Failed;
+use vip_program::{Memory, ProgramEnd, start_program};
+use vip_report::{Ended, Refusal};
+use vip_text::RunEnd;
+use vip_tools::{RunContents, read_keys};
+
+/// Where a program lies, by the words.
+fn memory_in(memory: vip_words::Memory) -> Memory
+    ensures { result ≡ memory_in memory }
+{
+    match memory {
+        vip_words::Memory::Rom => Memory::Rom,
+        vip_words::Memory::Ram => Memory::Ram,
+    }
+}
+
+/// A board that begins to run a program under its script.
+pub fn start_board<'a>(
+    alloc: Global,
+    memory: vip_words::Memory,
+    contents: &RunContents<'_>,
+) -> Result<Board, Refusal<'a>>
+    requires program { length contents.now.game.now ≤ most_bytes (memory_in memory) }
+    requires script { SmallScripts (script_list contents.now.script) }
+    ensures { BoardAnswers memory contents.now.game.now (script_list contents.now.script) result }
+{
+    let script = read_keys(alloc, contents.script)?;
+    let board = start_program(alloc, memory_in(memory), contents.game, &script)?;
+    Ok(board)
+}
+
+/// How the run of a program ended.
+pub fn program_ran(limit: u64, end: Result<ProgramEnd, Failed>) -> Result<Ended, Failed>
+    ensures { result ≡ program_ended limit end }
+{
+    match end {
+        Ok(ProgramEnd::AtLimit) => Ok(Ended::Ran(limit, RunEnd::AtLimit)),
+        Ok(ProgramEnd::Idle(address)) => Ok(Ended::Idle(address)),
+        Err(failed) => Err(failed),
+    }
+}
