@@ -67,7 +67,7 @@ module _ (e : Edition) (script : List KeyEvent) (limit : ℕ) (run : List Machin
   begins game (Stopped b ∷ events) h = absurd h
 
 module _ (law : EveryRun) where
-  is_chip8 :
+  pub is_chip8 :
       (e : Edition) (game : List ℕ) (script : List KeyEvent) (limit : ℕ) → length game ≤ memory_size e → ((i : ℕ) → slice_index game i < 256)
       → IsChip8 e game script limit (ending_of e (events_in e game script limit))
   is_chip8 e game script limit fits bytes =

@@ -1,4 +1,7 @@
 mod DebugLemmas
 mod LanguageLemmas
+mod TranscriptLemmas
+mod DebuggedLemmas
+mod TranscribedLemmas
 mod TopLemmas
 mod CertifiedLemmas

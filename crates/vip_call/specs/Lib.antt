@@ -1,4 +1,5 @@
 pub mod Words
 pub mod Language
+pub mod Transcript
 pub mod Certified
 pub mod Top

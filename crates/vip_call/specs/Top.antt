@@ -11,6 +11,7 @@ use Rattle.vip_report.specs.declared.status.Status.TheVariants.{Done, Stopped, U
 use Rattle.vip_tools.specs.Files.{Needed, needed, HasAll, ComesTo, IsLarger, IsUnread, ReadsSome, with_names}
 use Rattle.vip_call.specs.Certified.{Certifies}
 use Rattle.vip_call.specs.Language.{ShowsChip8}
+use Rattle.vip_call.specs.Transcript.{Transcribes}
 use Rattle.vip_call.specs.Words.{OfWords}
 use Rattle.vip_verbs.specs.Outcome.{Comes}
 use Rattle.vip_tools.specs.Outcome.Outcome.{Refused, Shown, GivenUp}
@@ -92,17 +93,28 @@ pub record GivesUp (call : Call) : Type 0 where
 
 -- ---- output
 
--- exact output: it went out whole, each piece by one put, and the report by one put too, or by none where there is none
-pub record Shows (status : Status) (call : Call) : Type 0 where
+-- what is known of pieces and a report, with the status of the end, for what was asked with these contents
+abbrev pub OutputLaw : Type 1
+OutputLaw = Asked → List (List ℕ) → List (List ℕ) → Status → List ℕ → Type 0
+
+-- exact output
+abbrev pub Exact : OutputLaw
+Exact asked contents pieces status report = Comes asked contents (Shown pieces status report)
+
+-- the output of which this is known went out whole, each piece by one put, and the report by one put too, or by none where there is none
+pub record Writes (Of : OutputLaw) (status : Status) (call : Call) : Type 0 where
   pub asked : Asked
   pub contents : List (List ℕ)
   pub asks : Asks call asked contents
   pub files : ReadsAll call asked
   pub pieces : List (List ℕ)
   pub report : List ℕ
-  pub comes : Comes asked contents (Shown pieces status report)
+  pub comes : Of asked contents pieces status report
   pub out : PutsAll pieces call.out call.out'
   pub err : PutsAll (report_pieces report) call.err call.err'
+
+abbrev pub Shows : Status → Call → Type 0
+Shows = Writes Exact
 
 -- A fault of `out`: the pieces before it went out whole, and then a prefix of one; it is reported by one put.
 pub record OutFails (pieces : List (List ℕ)) (call : Call) : Type 0 where
@@ -114,8 +126,8 @@ pub record ErrFails (pieces : List (List ℕ)) (report : List ℕ) (call : Call)
   pub out : PutsAll pieces call.out call.out'
   pub err : FailsWithin (report_pieces report) call.err call.err'
 
--- output of which not all went out
-pub record Faulty (call : Call) : Type 0 where
+-- output of which this is known, and of which not all went out
+pub record WritesPart (Of : OutputLaw) (call : Call) : Type 0 where
   pub asked : Asked
   pub contents : List (List ℕ)
   pub asks : Asks call asked contents
@@ -123,8 +135,11 @@ pub record Faulty (call : Call) : Type 0 where
   pub pieces : List (List ℕ)
   pub status : Status
   pub report : List ℕ
-  pub comes : Comes asked contents (Shown pieces status report)
+  pub comes : Of asked contents pieces status report
   pub fault : OutFails pieces call ⊎ ErrFails pieces report call
+
+abbrev pub Faulty : Call → Type 0
+Faulty = WritesPart Exact
 
 -- ---- the answers
 
@@ -244,6 +259,14 @@ SpeaksChip8 call =
     → Comes asked contents (Shown pieces status report)
     → ShowsChip8 asked contents status report
 
+-- The same with no machine in it: what went out, whole or in part, is that of a transcript of CHIP-8, and the status and the report are those of its
+-- end. The transcript's cycles are those of the defined board: that is the exact output's, which `says` has.
+abbrev pub TellsChip8 : Status → Call → Type 0
+TellsChip8 Done call = Writes Transcribes Done call
+TellsChip8 Stopped call = Writes Transcribes Stopped call
+TellsChip8 WriteFault call = WritesPart Transcribes call
+TellsChip8 _ call = Unit {0}
+
 -- ---- what the output says of a certificate
 
 -- Where the words and the contents come to the output that a certificate is right, or to one that was found, what it claims holds: the routine
@@ -257,13 +280,17 @@ ProvesCertified call =
 
 -- ---- the program
 
--- what the program promises of each call
+-- What the program promises of each call. The body is held to `says`: what its answer tells of words, files, output and report. What follows for a
+-- reader stands beside it. `words`, `due` and `complete` follow from `says` alone, and `chip8` by the law of every run too. `language` and `certified` are
+-- laws of what the words and the contents come to, and hold of any body.
 pub record Promises (status : Status) (call : Call) : Type 0 where
   -- what the answer says: exact output for Done and Stopped, each refusal's cause, and which files were read
   pub says : Says status call
   -- Where a game is run, its run is one of CHIP-8, within the bounds, also at a wait for a key; each picture is the screen at the last dispatch
   -- point, and a stop names its instruction.
   pub language : SpeaksChip8 call
+  -- what went out of a game's run is a transcript of CHIP-8, in the terms of the language alone
+  pub chip8 : TellsChip8 status call
   -- where a certificate is accepted or written, its routine leaves in time, or its game never stops
   pub certified : ProvesCertified call
   -- when each answer is due, and that there is no other

@@ -1,0 +1,203 @@
+-- What a verb writes and reports of a game's run is that of a transcript of CHIP-8.
+use Rattle.std.proofs.Common.{◌≡◌, ℕ, ◌<◌, ◌≤◌, List, [], ◌∷◌, length, Result, Ok, Err, slice_index, refl, arith}
+use Rattle.machine.specs.Keys.{Event as KeyEvent}
+use Rattle.machine.specs.Pictures.{windows_ended}
+use Rattle.chip8_lang.specs.declared.view.Edition.{Edition}
+use Rattle.chip8_lang.specs.declared.view.Edition.TheVariants.{Usual}
+use Rattle.chip8_lang.specs.Events.{Event}
+use Rattle.chip8_lang.specs.State.{memory_size}
+use Rattle.rom_law.specs.Language.{end_cycle}
+use Rattle.vip_language.specs.Laws.{EveryRun}
+use Rattle.vip_relation.specs.Interpreters.{interpreter_of}
+use Rattle.vip_relation.specs.State.{started}
+use Rattle.vip_text.specs.Endings.{Ending}
+use Rattle.vip_show.specs.Output.{picture_pieces, summary}
+use Rattle.vip_outside.specs.Files.{FilesMeaning}
+use Rattle.vip_words.specs.Asked.{Asked, trace, play, debug, demo, save, resume, link, trace_program, play_program, debug_program, asm, list, dis, source, bounds, within, safe, certify}
+use Rattle.vip_commands.specs.Grammar.{commands_of}
+use Rattle.vip_commands.specs.declared.commands.Command.{Command}
+use Rattle.vip_commands.specs.declared.commands.CommandFault.{CommandFault}
+use Rattle.vip_commands.specs.declared.commands.CommandFault.TheVariants as command
+use Rattle.vip_commands.specs.declared.commands.Speaks.TheVariants.{Chip8}
+use Rattle.vip_report.specs.declared.status.Status.{Status}
+use Rattle.vip_report.specs.declared.status.Status.TheVariants.{Done, Stopped, Usage, ReadFault, GameTooLarge, ScriptTooLarge, BadScript, BadSource, BadRomSource, RomDiffers, WriteFault, NoMemory, BadCommand, SourceTooLarge, CommandsTooLarge, BadState, NoDispatch, BadCertificate, MessageTooLarge, BadProof, CertificateTooLarge, NoCertificate, RomTooLarge, RamTooLarge}
+use Rattle.vip_tools.specs.Demo.{demo_game}
+use Rattle.vip_tools.specs.Files.{needed, HasAll}
+use Rattle.vip_tools.specs.Outcome.{Outcome}
+use Rattle.vip_tools.specs.Outcome.Outcome.{Refused, Shown, GivenUp}
+use Rattle.vip_tools.proofs.DemoLemmas.{length-game, bytes-game}
+use Rattle.vip_verbs.specs.Outcome.{Comes, RunComes, DebugComes, run_of, events_in, run_ending, debug_ending}
+use Rattle.vip_verbs.specs.Outcome.RunComes.{FaultyScript, FaultyRom, Runs}
+use Rattle.vip_debug.specs.Answers.{at_start, written}
+use Rattle.vip_call.specs.Language.{IsChip8}
+use Rattle.vip_call.specs.Transcript.{Point, AllAnswered, ArePictures, Debugged, IsEnd, IsEndOrEarlier, OfGame, Transcribed, Transcribes, summed, traced}
+use Rattle.vip_call.specs.Top.{Call, Says, Shows, Writes, TellsChip8}
+use Rattle.vip_call.proofs.DebugLemmas.{debug_ends}
+use Rattle.vip_call.proofs.DebuggedLemmas.{debugged}
+use Rattle.vip_call.proofs.LanguageLemmas.{is_chip8}
+use Rattle.vip_call.proofs.TranscriptLemmas.{are_pictures, begins, points_of, summed_is, traced_is}
+
+module _ (law : EveryRun) where
+  -- a run that comes to output
+  OfRun : Edition → List ℕ → List (List ℕ) → ℕ → (List (List ℕ) → List Point → Ending → ℕ → Type 0) → (Ending → Ending → Type 0) → Outcome → Type 0
+  OfRun e game scripts limit Written Reported (Refused status report) = Unit {0}
+  OfRun e game scripts limit Written Reported (GivenUp report) = Unit {0}
+  OfRun e game scripts limit Written Reported (Shown pieces status report) = Transcribed (OfGame e game limit) scripts limit (Written pieces) Reported status report
+
+  module _
+      (e : Edition) (game : List ℕ) (fits : length game ≤ memory_size e) (bytes : (i : ℕ) → slice_index game i < 256) (limit : ℕ)
+      (scripts : List (List ℕ)) where
+    abbrev events : List KeyEvent → List Event
+    events script = events_in e game script limit
+
+    abbrev is_run : (script : List KeyEvent) → IsChip8 e game script limit (run_ending e game limit script)
+    is_run script = is_chip8 law e game script limit fits bytes
+
+    -- what a run writes, and how it is said to end, by its key script
+    module _
+        (pieces : List KeyEvent → List (List ℕ)) (told : List KeyEvent → Ending)
+        (Written : List (List ℕ) → List Point → Ending → ℕ → Type 0) (Reported : Ending → Ending → Type 0)
+        (written_is :
+        (script : List KeyEvent)
+        → Written (pieces script) (points_of e (events script)) (run_ending e game limit script) (end_cycle limit (events script)))
+        (told_is : (script : List KeyEvent) → Reported (run_ending e game limit script) (told script)) where
+      run_transcribed : (o : Outcome) → RunComes e limit scripts pieces told o → OfRun e game scripts limit Written Reported o
+      unfolding OfRun
+      run_transcribed _ (FaultyScript line cause is) = tt
+      run_transcribed _ (FaultyRom script fault is fault_is rom) = tt
+      run_transcribed _ (Runs script is rom) = record {
+        script = script;
+        reads = is;
+        points = points_of e (events script);
+        ending = run_ending e game limit script;
+        over = end_cycle limit (events script);
+        transcript = begins e script limit (run_of e game script limit) (run_ending e game limit script) game (events script) (is_run script);
+        written = written_is script;
+        reported = told script;
+        end_is = told_is script;
+        status_is = refl;
+        report_is = refl;
+      }
+
+    debug_transcribed :
+        (read : Result (List Command) CommandFault) (o : Outcome) → DebugComes e game limit scripts read o
+        → OfRun e game scripts limit (λ ps points ending over. Debugged e points ending read ps) IsEndOrEarlier o
+    unfolding OfRun
+    debug_transcribed (Ok commands) o comes =
+        run_transcribed (λ script. written (started e game script) limit commands at_start) (λ script. debug_ending (started e game script) limit commands)
+        (λ ps points ending over. AllAnswered e points ending commands ps) IsEndOrEarlier
+        (λ script. debugged e game script limit commands) (λ script. debug_ends e game script limit commands) o comes
+    debug_transcribed (Err (command.Fault line cause)) o comes = rw comes tt
+    debug_transcribed (Err command.NoMemory) o comes = absurd comes
+
+    pictures_are :
+        (script : List KeyEvent)
+        → ArePictures e (points_of e (events script)) (windows_ended (end_cycle limit (events script)))
+        (picture_pieces (interpreter_of e).rom (run_of e game script limit) (events script))
+    pictures_are script = are_pictures e script limit (run_of e game script limit) (run_ending e game limit script) game (events script) (is_run script)
+
+  -- the summary of a demonstration game's run
+  demo_written :
+      (number limit : ℕ) (game : List ℕ) (fits : length game ≤ memory_size Usual) (bytes : (i : ℕ) → slice_index game i < 256) (script : List KeyEvent)
+      → let events = events_in Usual game script limit in
+      summary Usual number events ∷ [] ≡ summed Usual (points_of Usual events) number (windows_ended (end_cycle limit events))
+  demo_written number limit game fits bytes script =
+      let events = events_in Usual game script limit in
+      summed_is Usual number (windows_ended (end_cycle limit events)) (interpreter_of Usual).rom (run_of Usual game script limit) events
+      (pictures_are Usual game fits bytes limit [] script).count
+
+  transcribes :
+      (old : FilesMeaning) (asked : Asked) (contents pieces : List (List ℕ)) (status : Status) (report : List ℕ) → HasAll old (needed asked) contents
+      → Comes asked contents (Shown pieces status report) → Transcribes asked contents pieces status report
+  unfolding OfRun
+  transcribes old (trace a) [] pieces status report read comes = tt
+  transcribes old (trace a) (game ∷ scripts) pieces status report read comes =
+      let e = a.run.edition in
+      run_transcribed e game read.0.fits read.0.bytes a.run.cycles scripts _ _ (λ ps points ending over. ps ≡ traced e points a.with_time a.with_screen) IsEnd
+      (λ script. traced_is e a.with_time a.with_screen (events_in e game script a.run.cycles)) (λ script. refl)
+      (Shown pieces status report) comes
+  transcribes old (play a) [] pieces status report read comes = tt
+  transcribes old (play a) (game ∷ scripts) pieces status report read comes =
+      run_transcribed a.edition game read.0.fits read.0.bytes a.cycles scripts _ _
+      (λ ps points ending over. ArePictures a.edition points (windows_ended over) ps) IsEnd
+      (pictures_are a.edition game read.0.fits read.0.bytes a.cycles scripts) (λ script. refl)
+      (Shown pieces status report) comes
+  transcribes old (debug a) [] pieces status report read comes = tt
+  transcribes old (debug a) (game ∷ []) pieces status report read comes = tt
+  transcribes old (debug a) (game ∷ text ∷ scripts) pieces status report read comes =
+      debug_transcribed a.run.edition game read.0.fits read.0.bytes a.run.cycles scripts (commands_of Chip8 a.run.cycles text) (Shown pieces status report) comes
+  transcribes old (demo a) [] pieces status report read comes =
+      let game = demo_game a.number in
+      let fits : length game ≤ memory_size Usual = omega (arith, length-game a.number) in
+      run_transcribed Usual game fits (bytes-game a.number) a.cycles [] _ _
+      (λ ps points ending over. ps ≡ summed Usual points a.number (windows_ended over)) IsEnd
+      (demo_written a.number a.cycles game fits (bytes-game a.number)) (λ script. refl)
+      (Shown pieces status report) comes
+  transcribes old (demo a) (c ∷ cs) pieces status report read comes = absurd comes
+  transcribes old (save a) contents pieces status report read comes = tt
+  transcribes old (resume a) contents pieces status report read comes = tt
+  transcribes old (link a) contents pieces status report read comes = tt
+  transcribes old (trace_program a) contents pieces status report read comes = tt
+  transcribes old (play_program a) contents pieces status report read comes = tt
+  transcribes old (debug_program a) contents pieces status report read comes = tt
+  transcribes old (asm a) contents pieces status report read comes = tt
+  transcribes old (list name) contents pieces status report read comes = tt
+  transcribes old (dis a) contents pieces status report read comes = tt
+  transcribes old (source e) contents pieces status report read comes = tt
+  transcribes old bounds contents pieces status report read comes = tt
+  transcribes old (within a) contents pieces status report read comes = tt
+  transcribes old (safe a) contents pieces status report read comes = tt
+  transcribes old (certify a) contents pieces status report read comes = tt
+
+  -- ---- a call
+
+  went_out : (status : Status) (call : Call) → Shows status call → Writes Transcribes status call
+  went_out status call s =
+      record {
+        asked = s.asked;
+        contents = s.contents;
+        asks = s.asks;
+        files = s.files;
+        pieces = s.pieces;
+        report = s.report;
+        comes = transcribes call.files s.asked s.contents s.pieces status s.report s.asks.read s.comes;
+        out = s.out;
+        err = s.err;
+      }
+
+  pub tells_chip8 : (status : Status) (call : Call) → Says status call → TellsChip8 status call
+  tells_chip8 Done call s = went_out Done call s
+  tells_chip8 Stopped call s = went_out Stopped call s
+  tells_chip8 WriteFault call s =
+      record {
+        asked = s.asked;
+        contents = s.contents;
+        asks = s.asks;
+        files = s.files;
+        pieces = s.pieces;
+        status = s.status;
+        report = s.report;
+        comes = transcribes call.files s.asked s.contents s.pieces s.status s.report s.asks.read s.comes;
+        fault = s.fault;
+      }
+  tells_chip8 Usage call s = tt
+  tells_chip8 ReadFault call s = tt
+  tells_chip8 GameTooLarge call s = tt
+  tells_chip8 ScriptTooLarge call s = tt
+  tells_chip8 BadScript call s = tt
+  tells_chip8 BadSource call s = tt
+  tells_chip8 BadRomSource call s = tt
+  tells_chip8 RomDiffers call s = tt
+  tells_chip8 NoMemory call s = tt
+  tells_chip8 BadCommand call s = tt
+  tells_chip8 SourceTooLarge call s = tt
+  tells_chip8 CommandsTooLarge call s = tt
+  tells_chip8 BadState call s = tt
+  tells_chip8 NoDispatch call s = tt
+  tells_chip8 BadCertificate call s = tt
+  tells_chip8 MessageTooLarge call s = tt
+  tells_chip8 BadProof call s = tt
+  tells_chip8 CertificateTooLarge call s = tt
+  tells_chip8 NoCertificate call s = tt
+  tells_chip8 RomTooLarge call s = tt
+  tells_chip8 RamTooLarge call s = tt

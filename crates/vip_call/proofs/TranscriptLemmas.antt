@@ -1,0 +1,218 @@
+-- The run of a game that is one of CHIP-8 has a transcript, and what is written of its events is what is written of that.
+use Rattle.std.proofs.Common.{◌≡◌, ℕ, zero, suc, ◌+◌, ◌-◌, ◌<◌, ◌≤◌, nat_lt, Bool, List, [], ◌∷◌, ◌++◌, length, map, filter, Option, Some, None, slice_get, refl, sym, ap, ap₂, subst, subst₂, ◌∙◌, arith, append_assoc}
+use Rattle.std.specs.Prelude.{if◌then◌else◌, filter_map}
+use Rattle.std.specs.List.{last_or}
+use Rattle.std.specs.Option.{option_map}
+use Rattle.std.proofs.lemmas.Bool.{le-ltb, lt-ltb}
+use Rattle.std.proofs.lemmas.List.Elements.{filter-append}
+use Rattle.std.proofs.lemmas.Option.{same_Some}
+use Rattle.machine.specs.Board.{Machine}
+use Rattle.machine.specs.Keys.{Event as KeyEvent}
+use Rattle.machine.specs.Pictures.{picture_of, window_end, windows_ended}
+use Rattle.machine.proofs.Counts.{windows}
+use Rattle.chip8_lang.specs.declared.view.Edition.{Edition}
+use Rattle.chip8_lang.specs.Events.{Event}
+use Rattle.chip8_lang.specs.Events.Event.{Picture, Dispatch, Stopped}
+use Rattle.chip8_lang.specs.Places.{state_of}
+use Rattle.chip8_lang.specs.View.{view_at}
+use Rattle.rom_law.specs.Language.{Begins as BeginsRun, GoesOn as GoesOnRun, end_cycle}
+use Rattle.vip_language.specs.Program.{program}
+use Rattle.vip_relation.specs.Follows.{dispatch_of, last_dispatch}
+use Rattle.vip_text.specs.Endings.{Ending}
+use Rattle.vip_text.specs.Screens.{picture_file}
+use Rattle.vip_text.specs.Summaries.{summary_line}
+use Rattle.vip_show.specs.Output.{trace_lines, trace_pieces, screen_piece, picture_pieces, summary, lit_at, is_dispatch_event, is_picture_event, count_of}
+use Rattle.vip_call.specs.Language.{named}
+use Rattle.vip_call.specs.Transcript.{Point, Begins, GoesOn, Ends, IsPicture, ArePictures, last_point, last_screen, line, lit, point_before, summed, traced}
+
+-- ---- the points among some events
+
+abbrev pub point_of : Edition → Machine → Point
+point_of e b = record { cycle = b.cycle; state = state_of e b }
+
+abbrev pub points_of : Edition → List Event → List Point
+points_of e events = map (point_of e) (filter_map dispatch_of events)
+
+module _ (e : Edition) (script : List KeyEvent) (limit : ℕ) (run : List Machine) (ending : Ending) where
+  abbrev Behind : ℕ → Machine → List Event → Type 0
+  Behind k b events = GoesOnRun (program e) script limit run (named e ending) k b events
+
+  pub goes_on :
+      (k : ℕ) (b : Machine) (events : List Event) → Behind k b events
+      → GoesOn e script limit (point_of e b) (points_of e events) ending (end_cycle limit events)
+  goes_on k b [] h = subst (λ z. Ends e script limit (point_of e b) z limit) (sym h.also_is) (refl, h.soon)
+  goes_on k b (Picture m ∷ events) h = goes_on (k + 1) b events h.2
+  goes_on k b (Dispatch c ∷ events) h =
+      (record { comes = record { later = h.0.later; within = h.0.within; in_time = h.0.soon }; between = h.1.between }, goes_on k c events h.2)
+  goes_on k b (Stopped c ∷ events) h =
+      subst (λ es. GoesOn e script limit (point_of e b) (points_of e es) ending c.cycle) (sym h.last)
+      (subst (λ z. Ends e script limit (point_of e b) z c.cycle) (sym h.also_is)
+      (record {
+        fits = h.stop.fits;
+        comes = record { later = h.comes.later; within = h.comes.within; in_time = h.comes.soon };
+        pc_is = refl;
+        opcode_is = refl;
+      }))
+
+  pub begins :
+      (game : List ℕ) (events : List Event) → BeginsRun (program e) script limit run (named e ending) game events
+      → Begins e script limit game (points_of e events) ending (end_cycle limit events)
+  begins game [] h = (h.0, h.1, refl)
+  begins game (Picture m ∷ events) h = absurd h
+  begins game (Dispatch b ∷ events) h = (h.0.keeps.lies.is, h.1, h.2, goes_on 0 b events h.3)
+  begins game (Stopped b ∷ events) h = absurd h
+
+  -- ---- the pictures
+
+  abbrev is_before : ℕ → Point → Bool
+  is_before t p = nat_lt p.cycle t
+
+  -- where frame m's picture has come, no later point comes before its window's end
+  none_before : (m k : ℕ) (b : Machine) (events : List Event) → m < k → Behind k b events → filter (is_before (window_end m)) (points_of e events) ≡ []
+  none_before m k b [] l h = refl
+  none_before m k b (Picture n ∷ events) l h = none_before m (k + 1) b events (omega (arith, l)) h.2
+  none_before m k b (Dispatch c ∷ events) l h =
+      rw (le-ltb c.cycle (window_end m) (omega (arith, l, h.0.shown, windows c.cycle))) (none_before m k c events l h.2)
+  none_before m k b (Stopped c ∷ events) l h = ap (λ es. filter (is_before (window_end m)) (points_of e es)) h.last
+
+  last_is : (o : Option Point) (xs : List Point) (p : Point) → last_or o (xs ++ p ∷ []) ≡ Some p
+  last_is o [] p = refl
+  last_is o (x ∷ xs) p = last_is (Some x) xs p
+
+  module _ (before : List Point) (b : Machine) (k : ℕ) (events : List Event) (early : windows_ended b.cycle ≤ k) (h : Behind (k + 1) b events) where
+    abbrev points : List Point
+    points = before ++ point_of e b ∷ points_of e events
+
+    last_before : point_before (window_end k) points ≡ Some (point_of e b)
+    last_before =
+        ap (last_or None)
+        (filter-append (is_before (window_end k)) before (point_of e b ∷ points_of e events)
+        ∙ ap (λ l. filter (is_before (window_end k)) before ++ l) here)
+        ∙ last_is None (filter (is_before (window_end k)) before) (point_of e b)
+      where
+        here : filter (is_before (window_end k)) (point_of e b ∷ points_of e events) ≡ point_of e b ∷ []
+        here = rw (lt-ltb b.cycle (window_end k) (omega (arith, early, windows b.cycle)), none_before k (k + 1) b events (omega arith) h) refl
+
+  -- files of the pictures of the frames from k up to, and without, n
+  record PicturesFrom (points : List Point) (k n : ℕ) (files : List (List ℕ)) : Type 0 where
+    count : k + length files ≡ n
+    each : (j : ℕ) (file : List ℕ) → slice_get files j ≡ Some file → IsPicture e points (k + j) file
+
+  abbrev rom : List ℕ
+  rom = (program e).interpreter.rom
+
+  no_more : (points : List Point) (k n : ℕ) → n ≡ k → PicturesFrom points k n []
+  no_more points k n is = record { count = omega (arith, is); each = λ j file there. never j file there }
+    where
+      never : (j : ℕ) (file : List ℕ) → slice_get [] j ≡ Some file → IsPicture e points (k + j) file
+      never j file there = cc
+
+  one_more :
+      (points : List Point) (k n : ℕ) (file : List ℕ) (files : List (List ℕ)) → IsPicture e points k file → PicturesFrom points (k + 1) n files
+      → PicturesFrom points k n (file ∷ files)
+  one_more points k n file files this others = record { count = omega (arith, others.count); each = each }
+    where
+      each : (j : ℕ) (f : List ℕ) → slice_get (file ∷ files) j ≡ Some f → IsPicture e points (k + j) f
+      each zero f there = subst₂ (IsPicture e points) (omega arith) (same_Some file f there) this
+      each (suc j) f there = subst (λ m. IsPicture e points m f) (omega arith) (others.each j f there)
+
+  pictures_on :
+      (before : List Point) (k : ℕ) (b : Machine) (events : List Event) → windows_ended b.cycle ≤ k → b.cycle ≤ limit → Behind k b events
+      → PicturesFrom (before ++ point_of e b ∷ points_of e events) k (windows_ended (end_cycle limit events)) (picture_pieces rom run events)
+  unfolding picture_pieces
+  pictures_on before k b [] early inside h = no_more _ k (windows_ended limit) (h.shown inside)
+  pictures_on before k b (Picture m ∷ events) early inside h =
+      one_more _ k _ (picture_file (picture_of rom run m)) (picture_pieces rom run events)
+      (record { point = point_of e b; before = last_before before b k events early h.2; picture = picture_of rom run m; shows = h.1; is = refl })
+      (pictures_on before (k + 1) b events (omega (arith, early)) inside h.2)
+  pictures_on before k b (Dispatch c ∷ events) early inside h =
+      subst (λ points. PicturesFrom points k (windows_ended (end_cycle limit events)) (picture_pieces rom run events))
+      (append_assoc before (point_of e b ∷ []) (point_of e c ∷ points_of e events))
+      (pictures_on (before ++ point_of e b ∷ []) k c events (omega (arith, h.0.shown)) h.0.within h.2)
+  pictures_on before k b (Stopped c ∷ events) early inside h =
+      subst (λ es. PicturesFrom (before ++ point_of e b ∷ points_of e es) k (windows_ended c.cycle) (picture_pieces rom run es)) (sym h.last)
+      (no_more _ k (windows_ended c.cycle) h.comes.shown)
+
+  pub are_pictures :
+      (game : List ℕ) (events : List Event) → BeginsRun (program e) script limit run (named e ending) game events
+      → ArePictures e (points_of e events) (windows_ended (end_cycle limit events)) (picture_pieces rom run events)
+  unfolding picture_pieces
+  are_pictures game [] h = record { count = omega (arith, h.0, windows limit); each = λ m file there. never m file there }
+    where
+      never : (m : ℕ) (file : List ℕ) → slice_get [] m ≡ Some file → IsPicture e [] m file
+      never m file there = cc
+  are_pictures game (Picture m ∷ events) h = absurd h
+  are_pictures game (Dispatch b ∷ events) h =
+      let all = pictures_on [] 0 b events (omega (arith, h.1, windows b.cycle)) h.2 h.3 in
+      record {
+        count = omega (arith, all.count);
+        each = λ m file there. subst (λ n. IsPicture e (points_of e (Dispatch b ∷ events)) n file) (omega arith) (all.each m file there);
+      }
+  are_pictures game (Stopped b ∷ events) h = absurd h
+
+-- ---- the lines
+
+module _ (e : Edition) where
+  lines_are : (with_time : Bool) (ps : List Point) (events : List Event) → trace_lines e with_time events ≡ map (line e ps with_time) (points_of e events)
+  unfolding trace_lines view_at
+  lines_are with_time ps [] = refl
+  lines_are with_time ps (Picture m ∷ events) = lines_are with_time ps events
+  lines_are with_time ps (Dispatch b ∷ events) = ap (λ l. line e ps with_time (point_of e b) ∷ l) (lines_are with_time ps events)
+  lines_are with_time ps (Stopped b ∷ events) = lines_are with_time ps events
+
+  -- the last of them
+  last_of :
+      (o : Option Point) (b : Machine) (bs : List Machine)
+      → last_or o (map (point_of e) (b ∷ bs)) ≡ option_map (point_of e) (slice_get (b ∷ bs) (length bs))
+  last_of o b [] = refl
+  last_of o b (c ∷ bs) = last_of (Some (point_of e b)) c bs
+
+  last_found : (bs : List Machine) → last_point (map (point_of e) bs) ≡ option_map (point_of e) (slice_get bs (length bs - 1))
+  last_found [] = refl
+  last_found (b ∷ bs) = last_of None b bs ∙ ap (λ n. option_map (point_of e) (slice_get (b ∷ bs) n)) one_less
+    where
+      one_less : length bs ≡ suc (length bs) - 1
+      one_less = omega arith
+
+  pub last_is_last : (events : List Event) → last_point (points_of e events) ≡ option_map (point_of e) (last_dispatch events)
+  last_is_last events = last_found (filter_map dispatch_of events)
+
+  screen_is : (ps : List Point) (last : Option Machine) → screen_piece e last ≡ last_screen e ps (option_map (point_of e) last)
+  screen_is ps None = refl
+  screen_is ps (Some b) = refl
+
+  pub traced_is :
+      (with_time with_screen : Bool) (events : List Event)
+      → trace_pieces e with_time with_screen events ≡ traced e (points_of e events) with_time with_screen
+  traced_is with_time with_screen events =
+      ap₂ (λ lines last. lines ++ (if with_screen then last else []))
+      (lines_are with_time (points_of e events) events)
+      (screen_is (points_of e events) (last_dispatch events) ∙ ap (last_screen e (points_of e events)) (sym (last_is_last events)))
+
+  -- ---- the counts
+
+  points_counted : (events : List Event) → count_of is_dispatch_event events ≡ length (points_of e events)
+  points_counted [] = refl
+  points_counted (Picture m ∷ events) = points_counted events
+  points_counted (Dispatch b ∷ events) = ap suc (points_counted events)
+  points_counted (Stopped b ∷ events) = points_counted events
+
+  pictures_counted : (image : List ℕ) (run : List Machine) (events : List Event) → count_of is_picture_event events ≡ length (picture_pieces image run events)
+  unfolding picture_pieces
+  pictures_counted image run [] = refl
+  pictures_counted image run (Picture m ∷ events) = ap suc (pictures_counted image run events)
+  pictures_counted image run (Dispatch b ∷ events) = pictures_counted image run events
+  pictures_counted image run (Stopped b ∷ events) = pictures_counted image run events
+
+  lit_is : (ps : List Point) (last : Option Machine) → lit_at e last ≡ lit e ps (option_map (point_of e) last)
+  lit_is ps None = refl
+  lit_is ps (Some b) = refl
+
+  pub summed_is :
+      (number n : ℕ) (image : List ℕ) (run : List Machine) (events : List Event) → length (picture_pieces image run events) ≡ n
+      → summary e number events ∷ [] ≡ summed e (points_of e events) number n
+  summed_is number n image run events count =
+      (λ i. summary_line number (points_counted events i) ((pictures_counted image run events ∙ count) i) (lit_last i) ∷ [])
+    where
+      lit_last : lit_at e (last_dispatch events) ≡ lit e (points_of e events) (last_point (points_of e events))
+      lit_last = lit_is (points_of e events) (last_dispatch events) ∙ ap (lit e (points_of e events)) (sym (last_is_last events))

@@ -1,0 +1,207 @@
+-- What is written of a game's run, as a transcript of CHIP-8: points of the language under a key script, and their texts. No machine is spoken of.
+use Rattle.std.specs.Prelude.{◌≡◌, ℕ, ◌+◌, ◌<◌, ◌≤◌, ◌⊎◌, nat_lt, Bool, true, false, if◌then◌else◌, List, [], ◌∷◌, ◌++◌, length, map, filter, slice_get, Option, Some, None, Result, Ok, Err, codes}
+use Rattle.std.specs.List.{last_or, range_with_len}
+use Rattle.machine.specs.Keys.{Event}
+use Rattle.machine.specs.Pictures.{window_end, windows_ended}
+use Rattle.chip8_lang.specs.declared.view.Edition.{Edition}
+use Rattle.chip8_lang.specs.declared.view.Edition.TheVariants.{Usual}
+use Rattle.chip8_lang.specs.declared.view.Stop.{Stop}
+use Rattle.chip8_lang.specs.Between.{Between, keys_between, ticks_between}
+use Rattle.chip8_lang.specs.Bounds.{IsInTime, boot_bound, bound_of}
+use Rattle.chip8_lang.specs.Editions.{rows_of}
+use Rattle.chip8_lang.specs.Screen.{empty}
+use Rattle.chip8_lang.specs.State.{Lang, first}
+use Rattle.chip8_lang.specs.Step.{stop_of}
+use Rattle.chip8_lang.specs.View.{opcode_at, view_of}
+use Rattle.rom_law.specs.Pictures.{ShowsScreen}
+use Rattle.vip_byte.specs.Text.{newline}
+use Rattle.vip_text.specs.Endings.{Ending}
+use Rattle.vip_text.specs.Endings.Ending.{AtLimit, AtStop}
+use Rattle.vip_text.specs.Screens.{picture_file, screen_lines}
+use Rattle.vip_text.specs.Stops.{stop_line}
+use Rattle.vip_text.specs.Summaries.{summary_line}
+use Rattle.vip_text.specs.Traces.{trace_line}
+use Rattle.vip_show.specs.Output.{lit_in_rows}
+use Rattle.vip_words.specs.Asked.{Asked, trace, play, debug, demo}
+use Rattle.vip_commands.specs.Grammar.{commands_of}
+use Rattle.vip_commands.specs.declared.commands.Command.{Command}
+use Rattle.vip_commands.specs.declared.commands.Command.TheVariants.{Seeks, Tells}
+use Rattle.vip_commands.specs.declared.commands.CommandFault.{CommandFault}
+use Rattle.vip_commands.specs.declared.commands.Seeking.TheVariants.{Next, Break}
+use Rattle.vip_commands.specs.declared.commands.Speaks.TheVariants.{Chip8}
+use Rattle.vip_commands.specs.declared.commands.Telling.TheVariants.{Screen, State}
+use Rattle.vip_report.specs.Report.{end_report}
+use Rattle.vip_report.specs.Status.{end_status}
+use Rattle.vip_report.specs.declared.status.Status.{Status}
+use Rattle.vip_tools.specs.Demo.{demo_game}
+use Rattle.vip_tools.specs.Outcome.{script_in}
+
+-- ---- the transcript
+
+-- a point at which the next instruction is about to be fetched: its machine cycle and the language state
+pub record Point : Type 0 where
+  pub cycle : ℕ
+  pub state : Lang
+
+module _ (e : Edition) (script : List Event) (limit : ℕ) where
+  -- cycle t isn't too late for what comes next behind p
+  abbrev pub InTime : Point → ℕ → Type 0
+  InTime p t = IsInTime (bound_of e p.state) script p.cycle t
+
+  -- what comes next behind p comes in cycle t
+  pub record Comes (p : Point) (t : ℕ) : Type 0 where
+    pub later : p.cycle < t
+    pub within : t ≤ limit
+    pub in_time : InTime p t
+
+  -- one step lies between p and q, with the timer ticks and the sets of keys of the cycles between
+  pub record StepsTo (p q : Point) : Type 0 where
+    pub comes : Comes p q.cycle
+    pub between : Between e p.state (ticks_between p.cycle q.cycle) (keys_between script p.cycle q.cycle) q.state
+
+  -- the stop of p's state comes next, in cycle t, and is named with the state's pc and opcode
+  pub record StopsAt (p : Point) (stop : Stop) (pc : ℕ) (opcode : Option ℕ) (t : ℕ) : Type 0 where
+    pub fits : stop_of e p.state ≡ Some stop
+    pub comes : Comes p t
+    pub pc_is : pc ≡ p.state.pc
+    pub opcode_is : opcode ≡ opcode_at e p.state
+
+  -- p is the last point of a run that is over in cycle t: at its limit, by when nothing else was due, or at the stop
+  abbrev pub Ends : Point → Ending → ℕ → Type 0
+  Ends p AtLimit t = (t ≡ limit) × InTime p (limit + 1)
+  Ends p (AtStop stop pc opcode) t = StopsAt p stop pc opcode t
+
+  -- these are the points behind p, and the run ends so in cycle t
+  abbrev pub GoesOn : Point → List Point → Ending → ℕ → Type 0
+  GoesOn p [] ending t = Ends p ending t
+  GoesOn p (q ∷ qs) ending t = StepsTo p q × GoesOn q qs ending t
+
+  -- these are the points of the game's run: there are none only where the limit leaves no time for the first
+  abbrev pub Begins : List ℕ → List Point → Ending → ℕ → Type 0
+  Begins game [] ending t = (limit < boot_bound) × (ending ≡ AtLimit) × (t ≡ limit)
+  Begins game (p ∷ ps) ending t = (p.state ≡ first e game) × (p.cycle ≤ boot_bound) × (p.cycle ≤ limit) × GoesOn p ps ending t
+
+-- the last of some points, and the last one before a cycle
+abbrev pub last_point : List Point → Option Point
+last_point = last_or None
+
+abbrev pub point_before : ℕ → List Point → Option Point
+point_before t points = last_point (filter (λ p. nat_lt p.cycle t) points)
+
+-- ---- what is written
+
+module _ (e : Edition) (points : List Point) where
+  abbrev pub line : Bool → Point → List ℕ
+  line with_time p = trace_line with_time (view_of e p.state p.cycle)
+
+  abbrev pub screen : Point → List ℕ
+  screen p = screen_lines p.state.screen (rows_of e)
+
+  -- `trace`: the lines of the points, and then the screen at the last one, if there is one
+  abbrev pub last_screen : Option Point → List (List ℕ)
+  last_screen None = []
+  last_screen (Some p) = screen p ∷ []
+
+  abbrev pub traced : Bool → Bool → List (List ℕ)
+  traced with_time with_screen = map (line with_time) points ++ (if with_screen then last_screen (last_point points) else [])
+
+  -- `play`: the pictures of the first n frames, each of the screen at the last point before its window's end
+  pub record IsPicture (m : ℕ) (file : List ℕ) : Type 0 where
+    pub point : Point
+    pub before : point_before (window_end m) points ≡ Some point
+    pub picture : List (List ℕ)
+    pub shows : ShowsScreen e picture point.state.screen
+    pub is : file ≡ picture_file picture
+
+  pub record ArePictures (n : ℕ) (files : List (List ℕ)) : Type 0 where
+    pub count : length files ≡ n
+    pub each : (m : ℕ) (file : List ℕ) → slice_get files m ≡ Some file → IsPicture m file
+
+  -- `demo`: the counts of points and pictures, and the lit pixels at the last point
+  abbrev pub lit : Option Point → ℕ
+  lit None = 0
+  lit (Some p) = lit_in_rows p.state.screen (range_with_len 0 (rows_of e))
+
+  abbrev pub summed : ℕ → ℕ → List (List ℕ)
+  summed number n = summary_line number (length points) n (lit (last_point points)) ∷ []
+
+  -- `debug`: p is one of the points, of which this holds, and this text of it is all that a command writes
+  pub record Names (text : Point → List ℕ) (Is : Point → Type 0) (pieces : List (List ℕ)) : Type 0 where
+    pub place : ℕ
+    pub point : Point
+    pub there : slice_get points place ≡ Some point
+    pub is : Is point
+    pub written : pieces ≡ text point ∷ []
+
+  -- where there is no such point ahead, the end of the run is named
+  abbrev pub end_line : Ending → List ℕ
+  end_line AtLimit = codes "end" ++ newline
+  end_line (AtStop stop pc opcode) = stop_line stop pc opcode
+
+  -- What `next`, `break`, `state` and `screen` write; the other commands speak of the machine.
+  abbrev pub Answers : Ending → Command → List (List ℕ) → Type 0
+  Answers ending (Seeks (Next n)) pieces = Names (line false) (λ p. Unit {0}) pieces ⊎ (pieces ≡ end_line ending ∷ [])
+  Answers ending (Seeks (Break pc)) pieces = Names (line false) (λ p. p.state.pc ≡ pc) pieces ⊎ (pieces ≡ end_line ending ∷ [])
+  Answers ending (Tells State) pieces = Names (line true) (λ p. Unit {0}) pieces ⊎ (pieces ≡ (codes "none" ++ newline) ∷ [])
+  Answers ending (Tells Screen) pieces = Names screen (λ p. Unit {0}) pieces ⊎ (pieces ≡ screen_lines empty (rows_of e) ∷ [])
+  Answers ending _ pieces = Unit {0}
+
+  -- the pieces of one command come behind those of the other
+  pub record Answered (ending : Ending) (command : Command) (Rest : List (List ℕ) → Type 0) (pieces : List (List ℕ)) : Type 0 where
+    pub here : List (List ℕ)
+    pub rest : List (List ℕ)
+    pub split : pieces ≡ here ++ rest
+    pub answers : Answers ending command here
+    pub others : Rest rest
+
+  abbrev pub AllAnswered : Ending → List Command → List (List ℕ) → Type 0
+  AllAnswered ending [] pieces = pieces ≡ []
+  AllAnswered ending (command ∷ commands) pieces = Answered ending command (AllAnswered ending commands) pieces
+
+-- ---- a command
+
+-- what the debugger's commands write, where they have no fault
+abbrev pub Debugged : Edition → List Point → Ending → Result (List Command) CommandFault → List (List ℕ) → Type 0
+Debugged e points ending (Ok commands) pieces = AllAnswered e points ending commands pieces
+Debugged e points ending (Err fault) pieces = ⊥
+
+-- A run under one of these key scripts up to a limit has a transcript, which is over in cycle `over`. Of it this is written, and its end is reported,
+-- with its status; or that of a run that isn't over, where the debugger's commands end earlier.
+pub record Transcribed (Run : List Event → List Point → Ending → ℕ → Type 0) (scripts : List (List ℕ)) (limit : ℕ)
+    (Written : List Point → Ending → ℕ → Type 0) (Reported : Ending → Ending → Type 0) (status : Status) (report : List ℕ) : Type 0 where
+  pub script : List Event
+  pub reads : script_in scripts ≡ Ok script
+  pub points : List Point
+  pub ending : Ending
+  pub over : ℕ
+  pub transcript : Run script points ending over
+  pub written : Written points ending over
+  pub reported : Ending
+  pub end_is : Reported ending reported
+  pub status_is : status ≡ end_status reported
+  pub report_is : report ≡ end_report limit reported
+
+-- the run of a game, from reset
+abbrev pub OfGame : Edition → List ℕ → ℕ → List Event → List Point → Ending → ℕ → Type 0
+OfGame e game limit script = Begins e script limit game
+
+abbrev pub IsEnd : Ending → Ending → Type 0
+IsEnd ending reported = reported ≡ ending
+
+abbrev pub IsEndOrEarlier : Ending → Ending → Type 0
+IsEndOrEarlier ending reported = (reported ≡ AtLimit) ⊎ (reported ≡ ending)
+
+-- what a verb with these contents of its files writes and reports, where it runs a game
+abbrev pub Transcribes : Asked → List (List ℕ) → List (List ℕ) → Status → List ℕ → Type 0
+Transcribes (trace a) (game ∷ scripts) pieces =
+    Transcribed (OfGame a.run.edition game a.run.cycles) scripts a.run.cycles
+    (λ points ending over. pieces ≡ traced a.run.edition points a.with_time a.with_screen) IsEnd
+Transcribes (play a) (game ∷ scripts) pieces =
+    Transcribed (OfGame a.edition game a.cycles) scripts a.cycles (λ points ending over. ArePictures a.edition points (windows_ended over) pieces) IsEnd
+Transcribes (debug a) (game ∷ commands ∷ scripts) pieces =
+    Transcribed (OfGame a.run.edition game a.run.cycles) scripts a.run.cycles
+    (λ points ending over. Debugged a.run.edition points ending (commands_of Chip8 a.run.cycles commands) pieces) IsEndOrEarlier
+Transcribes (demo a) _ pieces =
+    Transcribed (OfGame Usual (demo_game a.number) a.cycles) [] a.cycles
+    (λ points ending over. pieces ≡ summed Usual points a.number (windows_ended over)) IsEnd
+Transcribes _ _ pieces = λ status report. Unit {0}
