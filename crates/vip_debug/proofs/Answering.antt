@@ -1,65 +1,32 @@
 -- What a command writes, by the board and by what it tells.
 use Rattle.std.proofs.Common.{◌≡◌, ℕ, Bool, true, false, List, [], ◌∷◌, ◌++◌, take, refl, sym, ap, ◌∙◌, Some, None, Option}
 use Rattle.std.specs.Prelude.{if◌then◌else◌, codes}
-use Rattle.machine.specs.Board.{Machine, byte_of}
+use Rattle.machine.specs.Board.{Machine}
 use Rattle.chip8_lang.specs.declared.view.StopRecord.{StopRecord}
 use Rattle.chip8_lang.specs.Events.{is_stop}
+use Rattle.chip8_lang.specs.View.{view_at}
 use Rattle.vip_byte.specs.Text.{newline}
-use Rattle.vip_memory.specs.Contents.{Contents}
-use Rattle.vip_board.specs.Seen.{Seen}
+use Rattle.vip_text.specs.Traces.{trace_line}
 use Rattle.vip_relation.specs.State.{VipState, interpreter, events_to, state_after}
 use Rattle.vip_relation.specs.Follows.{Follows, last_view, last_screen}
 use Rattle.vip_relation.specs.Meets.{IsSame}
 use Rattle.vip_relation.specs.Stops.{stop_record}
 use Rattle.vip_relation.proofs.Waits.{last-at-stop}
-use Rattle.vip_commands.specs.declared.commands.Running.{Running}
-use Rattle.vip_commands.specs.declared.commands.Showing.TheVariants.{Regs, State, Mem, Dis, Screen}
-use Rattle.vip_debug.specs.Shown.{regs_lines, state_line, screen_text, mem_lines, dis_lines}
-use Rattle.vip_debug.specs.Answers.{begun, Place, place_of, Arrival, arrival, stop_by, stop_text, completed_line, running_line, shown_pieces, StandsAt}
-use Rattle.vip_debug.specs.Parts.{reads, Arrives}
+use Rattle.vip_commands.specs.declared.commands.Telling.TheVariants.{State, Screen}
+use Rattle.vip_debug.specs.Shown.{state_line, screen_text}
+use Rattle.vip_debug.specs.Answers.{begun, Place, place_of, Arrival, stop_by, stop_text, lines_at, told, StandsAt}
 use Rattle.vip_debug.proofs.Places.{begun-same, state-same}
 
--- ---- what is shown of the events met
+-- ---- what is told of the events met
 
 module _ (v : VipState) (f : Follows v) where
-  pub state-shown : state_line v.last ∷ [] ≡ shown_pieces (begun v) State (place_of v)
-  unfolding shown_pieces
-  state-shown =
+  pub state-told : state_line v.last ∷ [] ≡ told (begun v) State (place_of v)
+  state-told =
       ap (λ last. state_line last ∷ []) (f.last ∙ ap (λ (b : Machine). last_view v.edition (take v.met (events_to v b.cycle))) f.machine)
 
-  pub screen-shown : screen_text v.edition v.shown ∷ [] ≡ shown_pieces (begun v) Screen (place_of v)
-  unfolding shown_pieces
-  screen-shown =
+  pub screen-told : screen_text v.edition v.shown ∷ [] ≡ told (begun v) Screen (place_of v)
+  screen-told =
       ap (λ bytes. screen_text v.edition bytes ∷ []) (f.shown ∙ ap (λ (b : Machine). last_screen v.edition (take v.met (events_to v b.cycle))) f.machine)
-
--- ---- what is shown of the board
-
-module _ (v : VipState) (f : Follows v) (s : Seen) (is : s ≡ v.board) where
-  pub regs-shown : regs_lines s.machine ≡ shown_pieces (begun v) Regs (place_of v)
-  unfolding shown_pieces
-  regs-shown = ap (λ (x : Seen). regs_lines x.machine) is ∙ ap regs_lines f.machine
-
-  contents_of : Seen → Contents
-  contents_of x = record { ram = x.machine.ram; rom = x.rom; latch = x.machine.latch }
-
-  by_bus : {X : Type 0} (text : (ℕ → ℕ) → X) (m : Contents) → m ≡ contents_of s
-      → text (reads m) ≡ text (byte_of (interpreter v).rom (state_after (begun v) v.moves))
-  unfolding contents_of
-  by_bus text m e =
-      ap (λ x. text (reads x)) e
-      ∙ ap (λ (x : Seen). text (byte_of x.rom x.machine)) is
-      ∙ ap (λ rom. text (byte_of rom v.board.machine)) f.rom
-      ∙ ap (λ b. text (byte_of (interpreter v).rom b)) f.machine
-
-  pub mem-shown : (address count : ℕ) (m : Contents) → m ≡ record { ram = s.machine.ram; rom = s.rom; latch = s.machine.latch }
-      → mem_lines (reads m) address count ≡ shown_pieces (begun v) (Mem address count) (place_of v)
-  unfolding shown_pieces contents_of
-  mem-shown address count m e = by_bus (λ byte. mem_lines byte address count) m e
-
-  pub dis-shown : (address count : ℕ) (m : Contents) → m ≡ record { ram = s.machine.ram; rom = s.rom; latch = s.machine.latch }
-      → dis_lines (reads m) address count ≡ shown_pieces (begun v) (Dis address count) (place_of v)
-  unfolding shown_pieces contents_of
-  dis-shown address count m e = by_bus (λ byte. dis_lines byte address count) m e
 
 -- ---- where the board stands
 
@@ -104,53 +71,71 @@ stop-is v f stop is =
     by_test true stops e = cc
     by_test false stops e = cc
 
--- ---- the line of a command that ran
+-- ---- what a command writes that comes somewhere
 
-module _ (v : VipState) (f : Follows v) (running : Running) where
+module _ (v : VipState) (f : Follows v) where
   -- where the board is, and whether the command is completed
   abbrev pub here : Bool → Arrival
   here completed = record { place = place_of v; completed = completed }
 
-  at_stop : (t c : Bool) (line other : List ℕ) → t ≡ true → (if t then line else if c then other else codes "end" ++ newline) ≡ line
-  at_stop true c line other e = refl
-  at_stop false c line other e = cc
+  abbrev ended : List (List ℕ)
+  ended = (codes "end" ++ newline) ∷ []
 
-  at_line : (t c : Bool) (line other : List ℕ) → t ≡ false → c ≡ true → (if t then line else if c then other else codes "end" ++ newline) ≡ other
-  at_line true c line other e done = cc
-  at_line false true line other e done = refl
-  at_line false false line other e done = cc
+  at_stop : (t c : Bool) (stop lines : List (List ℕ)) → t ≡ true → (if t then stop else if c then lines else ended) ≡ stop
+  at_stop true c stop lines e = refl
+  at_stop false c stop lines e = cc
 
-  at_end : (t c : Bool) (line other : List ℕ) → t ≡ false → c ≡ false
-      → (if t then line else if c then other else codes "end" ++ newline) ≡ codes "end" ++ newline
-  at_end true c line other e done = cc
-  at_end false true line other e done = cc
-  at_end false false line other e done = refl
+  at_lines : (t c : Bool) (stop lines : List (List ℕ)) → t ≡ false → c ≡ true → (if t then stop else if c then lines else ended) ≡ lines
+  at_lines true c stop lines e done = cc
+  at_lines false true stop lines e done = refl
+  at_lines false false stop lines e done = cc
+
+  at_end : (t c : Bool) (stop lines : List (List ℕ)) → t ≡ false → c ≡ false → (if t then stop else if c then lines else ended) ≡ ended
+  at_end true c stop lines e done = cc
+  at_end false true stop lines e done = cc
+  at_end false false stop lines e done = refl
 
   stop_test : (t : Bool) → is_stop (interpreter v) v.board.machine ≡ t → is_stop (interpreter v) (state_after v v.moves) ≡ t
   stop_test t e = ap (is_stop (interpreter v)) (sym f.machine) ∙ e
 
-  pub line-stop : (completed : Bool) (stop : StopRecord) → Some stop ≡ stop_here v → stop_text stop ≡ running_line (begun v) running (here completed)
-  unfolding running_line
-  line-stop completed stop is =
-      ap stop_text (stop-is v f stop is)
-      ∙ sym (at_stop (is_stop (interpreter v) (state_after v v.moves)) completed (stop_text (stop_by (begun v) v.moves)) (completed_line (begun v) running (state_after v v.moves)) (stop_test true (stops-here v stop is)))
+  module _ (completed : Bool) (lines : List (List ℕ)) where
+    abbrev stop_lines : List (List ℕ)
+    stop_lines = stop_text (stop_by (begun v) v.moves) ∷ []
 
-  pub line-completed : (completed : Bool) → None ≡ stop_here v → completed ≡ true
-      → completed_line (begun v) running v.board.machine ≡ running_line (begun v) running (here completed)
-  unfolding running_line
-  line-completed completed is done =
-      ap (completed_line (begun v) running) f.machine
-      ∙ sym (at_line (is_stop (interpreter v) (state_after v v.moves)) completed (stop_text (stop_by (begun v) v.moves)) (completed_line (begun v) running (state_after v v.moves)) (stop_test false (runs-here v is)) done)
+    pub lines-stop : (stop : StopRecord) → Some stop ≡ stop_here v → stop_text stop ∷ [] ≡ lines_at (begun v) (here completed) lines
+    unfolding lines_at
+    lines-stop stop is =
+        ap (λ s. stop_text s ∷ []) (stop-is v f stop is)
+        ∙ sym (at_stop (is_stop (interpreter v) (state_after v v.moves)) completed stop_lines lines (stop_test true (stops-here v stop is)))
 
-  pub line-end : (completed : Bool) → None ≡ stop_here v → completed ≡ false → codes "end" ++ newline ≡ running_line (begun v) running (here completed)
-  unfolding running_line
-  line-end completed is done =
-      sym (at_end (is_stop (interpreter v) (state_after v v.moves)) completed (stop_text (stop_by (begun v) v.moves)) (completed_line (begun v) running (state_after v v.moves)) (stop_test false (runs-here v is)) done)
+    pub lines-completed : None ≡ stop_here v → completed ≡ true → lines ≡ lines_at (begun v) (here completed) lines
+    unfolding lines_at
+    lines-completed is done = sym (at_lines (is_stop (interpreter v) (state_after v v.moves)) completed stop_lines lines (stop_test false (runs-here v is)) done)
+
+    pub lines-end : None ≡ stop_here v → completed ≡ false → ended ≡ lines_at (begun v) (here completed) lines
+    unfolding lines_at
+    lines-end is done = sym (at_end (is_stop (interpreter v) (state_after v v.moves)) completed stop_lines lines (stop_test false (runs-here v is)) done)
 
 -- where the board arrived, seen from where the command began
-pub line-arrived : (limit : ℕ) (running : Running) (old v : VipState) (completed : Bool) → Arrives limit running old v completed
-    → running_line (begun v) running (record { place = place_of v; completed = completed }) ≡ running_line (begun old) running (arrival (begun old) limit running (place_of old))
-line-arrived limit running old v completed a =
-    ap (λ (x : VipState). running_line x running (record { place = place_of v; completed = completed })) (begun-same old v a.makes.same)
-    ∙ ap (λ p. running_line (begun old) running (record { place = p; completed = completed })) a.makes.place
-    ∙ ap (λ c. running_line (begun old) running (record { place = (arrival (begun old) limit running (place_of old)).place; completed = c })) a.completed
+module _ (old v : VipState) (g : Follows v) (a : Arrival) (completed : Bool) (same : IsSame old v) (place : place_of v ≡ a.place) (done : completed ≡ a.completed) where
+  module _ (lines : List (List ℕ)) where
+    arrived : lines_at (begun v) (here v g completed) lines ≡ lines_at (begun old) a lines
+    arrived =
+        ap (λ (x : VipState). lines_at x (record { place = place_of v; completed = completed }) lines) (begun-same old v same)
+        ∙ ap (λ p. lines_at (begun old) (record { place = p; completed = completed }) lines) place
+        ∙ ap (λ c. lines_at (begun old) (record { place = a.place; completed = c }) lines) done
+
+    pub writes-stop : (stop : StopRecord) → Some stop ≡ stop_here v → stop_text stop ∷ [] ≡ lines_at (begun old) a lines
+    writes-stop stop is = lines-stop v g completed lines stop is ∙ arrived
+
+    pub writes-lines : None ≡ stop_here v → completed ≡ true → lines ≡ lines_at (begun old) a lines
+    writes-lines is goes = lines-completed v g completed lines is goes ∙ arrived
+
+    pub writes-end : None ≡ stop_here v → completed ≡ false → (codes "end" ++ newline) ∷ [] ≡ lines_at (begun old) a lines
+    writes-end is goes = lines-end v g completed lines is goes ∙ arrived
+
+  -- the record of the dispatch point
+  pub point-lines : Follows old → trace_line false (view_at v.edition v.board.machine) ∷ [] ≡ trace_line false (view_at (begun old).edition (state_after (begun old) a.place.moves)) ∷ []
+  point-lines f =
+      ap (λ e. trace_line false (view_at e v.board.machine) ∷ []) same.edition
+      ∙ ap (λ b. trace_line false (view_at old.edition b) ∷ []) (g.machine ∙ state-same old v f g same v.moves ∙ ap (λ (p : Place). state_after old p.moves) place)

@@ -1,7 +1,5 @@
 -- Commands one after another.
 use Rattle.std.proofs.Common.{◌≡◌, ℕ, zero, suc, ◌<◌, ◌≤◌, Bool, true, false, List, [], ◌∷◌, ◌++◌, length, take, drop, get_or, refl, sym, ap, ◌∙◌, subst, arith, append_assoc, append-nil, Some, None}
-use Rattle.std.proofs.lemmas.List.{take-append-drop}
-use Rattle.std.proofs.Math.Seq.{drop-cons}
 use Rattle.chip8_lang.specs.declared.view.StopRecord.{StopRecord}
 use Rattle.chip8_lang.specs.Events.{is_stop}
 use Rattle.vip_outside.specs.Sink.{SinkMeaning}
@@ -11,6 +9,7 @@ use Rattle.vip_relation.specs.State.{VipState, interpreter}
 use Rattle.vip_relation.specs.Follows.{Follows}
 use Rattle.vip_relation.specs.Meets.{IsSame}
 use Rattle.vip_commands.specs.declared.commands.Command.{Command}
+use Rattle.vip_monitor.proofs.Folding.{after-more, pieces-more, pieces-last}
 use Rattle.vip_debug.specs.declared.run.DebugEnd.TheVariants.{Done, Stopped, WriteFault}
 use Rattle.vip_debug.specs.Answers.{begun, Place, place_of, pieces, stop_by, place_with, place_after, written, RunsWhole, DebugAnswers}
 use Rattle.vip_debug.specs.Parts.{Makes}
@@ -22,19 +21,15 @@ use Rattle.vip_debug.proofs.Answering.{stands, stop_here, runs-here, stops-here,
 module _ (start : VipState) (limit : ℕ) where
   place_more : (cs : List Command) (c : Command) (p : Place)
       → place_after start limit (cs ++ c ∷ []) p ≡ place_with start limit c (place_after start limit cs p)
-  place_more [] c p = refl
-  place_more (x ∷ cs) c p = place_more cs c (place_with start limit x p)
+  place_more = after-more (place_with start limit) (pieces start limit)
 
   written_more : (cs : List Command) (c : Command) (rest : List Command) (p : Place)
       → written start limit (cs ++ c ∷ rest) p ≡ written start limit cs p ++ (pieces start limit c (place_after start limit cs p) ++ written start limit rest (place_with start limit c (place_after start limit cs p)))
-  written_more [] c rest p = refl
-  written_more (x ∷ cs) c rest p =
-      ap (λ more. pieces start limit x p ++ more) (written_more cs c rest (place_with start limit x p))
-      ∙ sym (append_assoc (pieces start limit x p) (written start limit cs (place_with start limit x p)) (pieces start limit c (place_after start limit cs (place_with start limit x p)) ++ written start limit rest (place_with start limit c (place_after start limit cs (place_with start limit x p)))))
+  written_more = pieces-more (place_with start limit) (pieces start limit)
 
   written_last : (cs : List Command) (c : Command) (p : Place)
       → written start limit (cs ++ c ∷ []) p ≡ written start limit cs p ++ pieces start limit c (place_after start limit cs p)
-  written_last cs c p = written_more cs c [] p ∙ ap (λ more. written start limit cs p ++ more) (append-nil (pieces start limit c (place_after start limit cs p)))
+  written_last = pieces-last (place_with start limit) (pieces start limit)
 
 -- ---- on the way
 
@@ -112,15 +107,3 @@ module _ (limit : ℕ) (old v : VipState) (all : List Command) (out out' : SinkM
         ∙ ap (λ (x : VipState). stop_by x v.moves) (begun-same old v d.same)
         ∙ ap (λ (p : Place). stop_by (begun old) p.moves) d.place,
   )
-
--- ---- by a place in all commands
-
--- the commands before one, that one, and those behind it
-pub split_at : (cs : List Command) (k : ℕ) (d : Command) → k < length cs → cs ≡ take k cs ++ get_or cs k d ∷ drop (suc k) cs
-split_at cs k d below = sym (take-append-drop k cs) ∙ ap (λ more. take k cs ++ more) (drop-cons cs k d below)
-
-pub all_taken : (cs : List Command) (k : ℕ) → length cs ≤ k → take k cs ≡ cs
-all_taken [] zero past = refl
-all_taken [] (suc k) past = refl
-all_taken (c ∷ cs) zero past = absurd (omega (arith, past))
-all_taken (c ∷ cs) (suc k) past = ap (λ more. c ∷ more) (all_taken cs k (omega (arith, past)))

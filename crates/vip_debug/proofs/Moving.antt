@@ -1,138 +1,98 @@
--- The board makes moves one by one.
-use Rattle.std.proofs.Common.{◌≡◌, ◌⊎◌, inl, inr, ℕ, ◌+◌, ◌-◌, ◌<◌, ◌≤◌, Bool, true, false, refl, sym, ap, ◌∙◌, subst, arith, max, min, Some, None, Option}
-use Rattle.std.specs.Prelude.{nat_le, slice_get, find, []}
-use Rattle.std.proofs.lemmas.Bool.{cases_lt, le-leb, lt-leb}
-use Rattle.machine.specs.Board.{Machine, length_of}
-use Rattle.machine.specs.Keys.{held_at}
-use Rattle.machine.proofs.Runs.{cycle-move, later-move}
+-- Where the board comes to.
+use Rattle.std.proofs.Common.{◌≡◌, inl, inr, ℕ, ◌+◌, ◌-◌, ◌<◌, ◌≤◌, Bool, true, false, refl, sym, ap, ◌∙◌, subst, arith, Some, None, Option}
+use Rattle.std.specs.Prelude.{◌==◌, if◌then◌else◌, slice_get, find, []}
+use Rattle.std.proofs.lemmas.Bool.Decides.{nat_tests}
+use Rattle.machine.specs.Board.{Machine}
+use Rattle.chip8_lang.specs.Events.{is_stop}
 use Rattle.vip_board.specs.Seen.{Seen}
-use Rattle.vip_board.specs.declared.board.Move.{Move}
-use Rattle.vip_relation.specs.State.{VipState, events_waiting}
+use Rattle.vip_board.specs.Moves.{IfDone, moved}
+use Rattle.vip_board.specs.declared.board.Moved.{Moved}
+use Rattle.vip_board.specs.declared.board.Moved.TheVariants.{Done, End}
+use Rattle.vip_relation.specs.Interpreters.{interpreter_of}
+use Rattle.vip_relation.specs.State.{VipState, interpreter, state_after, events_waiting}
 use Rattle.vip_relation.specs.Follows.{Follows}
-use Rattle.vip_relation.specs.Meets.{IsSame, Rests, MovesOn}
-use Rattle.vip_commands.specs.declared.commands.Running.TheVariants.{Step, To, Next, Break}
-use Rattle.vip_debug.specs.Answers.{begun, moves_until, place_of, all_met, moved_to, has_pc, at_point}
+use Rattle.vip_relation.specs.Meets.{IsSame, MovesOn}
+use Rattle.vip_commands.specs.declared.commands.Running.{Running}
+use Rattle.vip_commands.specs.declared.commands.Seeking.TheVariants.{Next, Break}
+use Rattle.vip_commands.specs.declared.commands.Showing.{Showing}
+use Rattle.vip_monitor.specs.Answered.{shown}
+use Rattle.vip_monitor.specs.Run.{run_from}
+use Rattle.vip_monitor.specs.Commands.{came}
+use Rattle.vip_monitor.specs.Parts.{HasMoved, Arrives as Arrived}
+use Rattle.vip_debug.specs.declared.game.Game.{Game}
+use Rattle.vip_debug.specs.Game.{run_at, Leads}
+use Rattle.vip_debug.specs.GameLaws.{GameLeads}
+use Rattle.vip_debug.specs.Answers.{begun, moves_until, place_of, all_met, moved_on, has_pc, at_point, ran}
 use Rattle.vip_debug.specs.Parts.{TellsPresent, points_left, Makes, FindAnswers, Arrives}
-use Rattle.vip_debug.proofs.Places.{same-trans, begun-same, place-moved, made-most, made-all, made-before, made-now, all-here, none-waits, until-same}
+use Rattle.vip_debug.proofs.Places.{begun-same, made-now, all-here, none-waits, until-same}
 
--- one move more ends within a limit, where the board doesn't rest
-module _ (limit : ℕ) (v v' : VipState) (name : Move) (m : MovesOn v v' name) where
-  pub moved-same : IsSame v v'
-  moved-same = record { edition = m.edition; game = m.game; script = ap (λ (b : Seen). b.script) m.board }
+-- ---- the target
 
-  moved_cycle : v'.board.machine.cycle ≡ v.board.machine.cycle + length_of v.board.rom v.board.machine
-  moved_cycle = ap (λ (b : Seen). b.machine.cycle) m.board ∙ cycle-move v.board.rom (held_at v.board.script) v.board.machine
+-- a move of the game is one of its target
+pub game-moved : (u v : VipState) (r : Moved) → IfDone r (λ name. MovesOn u v name)
+    → IfDone r (λ name. (v.board ≡ moved u.board) × (is_stop (interpreter v) ≡ is_stop (interpreter u)) × Leads 1 u v)
+game-moved u v End none = tt
+game-moved u v (Done name) m =
+    (m.board, ap (λ e. is_stop (interpreter_of e)) m.edition, record { same = same; made = m.moves; met = m.met })
+  where
+    same : IsSame u v
+    same = record { edition = m.edition; game = m.game; script = ap (λ (b : Seen). b.script) m.board }
 
-  pub moved-later : v.board.machine.cycle < v'.board.machine.cycle
-  moved-later =
-      omega (arith, ap (λ (b : Seen). b.machine.cycle) m.board, later-move v.board.rom (held_at v.board.script) v.board.machine)
+-- what a target of a game has gone through the game has, and its borrow stays
+module _ (moves : ℕ) (old new : Game) where
+  pub from-game : HasMoved GameLeads moves old new → HasMoved Leads moves old.vip.now new.vip.now
+  from-game (inl none) = inl (none.0, ap (λ (x : Game). x.vip.now) none.1)
+  from-game (inr more) = inr (more.0, more.1.1)
 
-  pub moved-within : (Rests limit v → ⊥) → v'.board.machine.cycle ≤ limit
-  moved-within moves = by_test (cases_lt limit (v.board.machine.cycle + length_of v.board.rom v.board.machine))
+  pub game-stays : HasMoved GameLeads moves old new → old.vip.ghost_name ≡ new.vip.ghost_name
+  game-stays (inl none) = sym (ap (λ (x : Game). x.vip.ghost_name) none.1)
+  game-stays (inr more) = sym more.1.0
+
+-- the run from the present state on
+pub run-here : (v : VipState) → Follows v → run_from (is_stop (interpreter v)) v.board ≡ run_at v v.moves
+run-here v f =
+    ap (λ rom. record { rom = rom; script = v.board.script; first = v.board.machine; ends = is_stop (interpreter v) }) f.rom
+    ∙ ap (λ b. record { rom = (interpreter v).rom; script = v.board.script; first = b; ends = is_stop (interpreter v) }) f.machine
+
+-- what is shown of the board
+pub shown-here : (v : VipState) → Follows v → (b : Seen) → b ≡ v.board → (showing : Showing) → shown b.rom b.machine showing ≡ shown (interpreter v).rom (state_after v v.moves) showing
+shown-here v f b is showing =
+    ap (λ (x : Seen). shown x.rom x.machine showing) is
+    ∙ ap (λ rom. shown rom v.board.machine showing) f.rom
+    ∙ ap (λ machine. shown (interpreter v).rom machine showing) f.machine
+
+-- ---- commands that run the board, whatever runs on it
+
+module _ (limit : ℕ) (old v : VipState) (g : Follows v) (moves : ℕ) (h : HasMoved Leads moves old v) where
+  pub same-game : IsSame old v
+  same-game = by_case h
     where
-      by_test : (limit < v.board.machine.cycle + length_of v.board.rom v.board.machine) ⊎ (v.board.machine.cycle + length_of v.board.rom v.board.machine ≤ limit)
-          → v'.board.machine.cycle ≤ limit
-      by_test (inl over) = absurd (moves (inr over))
-      by_test (inr within) = omega (arith, within, moved_cycle)
+      by_case : HasMoved Leads moves old v → IsSame old v
+      by_case (inl none) = subst (IsSame old) (sym none.1) (record { edition = refl; game = refl; script = refl })
+      by_case (inr more) = more.1.same
 
-  -- every event up to the new cycle is met
-  pub place-next : (old : VipState) → Follows v' → IsSame old v' → old.moves ≤ v.moves → place_of v' ≡ moved_to (begun old) v'.moves (place_of old)
-  place-next old f same order =
-      all-here v' f m.met ∙ ap (λ (x : VipState). all_met x v'.moves) (begun-same old v' same) ∙ place-moved (begun old) v'.moves (place_of old) (omega (arith, m.moves, order))
-
--- ---- so many moves
-
-pub record Moving (limit : ℕ) (old v : VipState) (moves : ℕ) : Type 0 where
-  pub begins : Follows old
-  pub follows : Follows v
-  pub same : IsSame old v
-  pub made : v.moves ≡ old.moves + moves
-  pub place : place_of v ≡ moved_to (begun old) v.moves (place_of old)
-  pub within : v.board.machine.cycle ≤ limit
-
-module _ (limit : ℕ) (old v : VipState) (moves : ℕ) (s : Moving limit old v moves) where
-  pub moving-next : (v' : VipState) (name : Move) → (Rests limit v → ⊥) → MovesOn v v' name → Follows v' → Moving limit old v' (moves + 1)
-  moving-next v' name goes m f =
-      let same : IsSame old v' = same-trans old v v' s.same (moved-same limit v v' name m) in
-      record {
-        begins = s.begins;
-        follows = f;
-        same = same;
-        made = omega (arith, m.moves, s.made);
-        place = place-next limit v v' name m old f same (omega (arith, s.made));
-        within = moved-within limit v v' name m goes;
-      }
-
-  all_moves : Rests limit v → v.moves ≡ moves_until (begun old) limit
-  all_moves rests = made-all v s.follows limit s.within rests ∙ until-same old v s.begins s.follows s.same limit
-
-  most_moves : v.moves ≤ moves_until (begun old) limit
-  most_moves = omega (arith, made-most v s.follows limit s.within, until-same old v s.begins s.follows s.same limit)
-
-  -- the place, by the moves made
-  makes_here : (made : ℕ) → v.moves ≡ made → Makes limit old v (moved_to (begun old) made (place_of old))
-  makes_here made is = record { same = s.same; place = s.place ∙ ap (λ n. moved_to (begun old) n (place_of old)) is; within = s.within }
-
-  pub rests-early : (n : ℕ) (v' : VipState) → v' ≡ v → moves < n → Rests limit v
-      → Makes limit old v' (moved_to (begun old) (min (old.moves + n) (moves_until (begun old) limit)) (place_of old))
-  rests-early n v' kept few rests =
-      subst (λ (x : VipState). Makes limit old x (moved_to (begun old) (min (old.moves + n) (moves_until (begun old) limit)) (place_of old))) (sym kept)
-      (makes_here (min (old.moves + n) (moves_until (begun old) limit)) (let all = all_moves rests in omega (arith, all, s.made, few)))
-
-  pub is-early : (n : ℕ) → moves < n → Rests limit v → false ≡ nat_le (old.moves + n) (moves_until (begun old) limit)
-  is-early n few rests = sym (lt-leb (old.moves + n) (moves_until (begun old) limit) (let all = all_moves rests in omega (arith, all, s.made, few)))
-
-  pub makes-all : Makes limit old v (moved_to (begun old) (min (old.moves + moves) (moves_until (begun old) limit)) (place_of old))
-  makes-all = makes_here (min (old.moves + moves) (moves_until (begun old) limit)) (omega (arith, s.made, most_moves))
-
-  pub is-all : true ≡ nat_le (old.moves + moves) (moves_until (begun old) limit)
-  is-all = sym (le-leb (old.moves + moves) (moves_until (begun old) limit) (omega (arith, s.made, most_moves)))
-
--- ---- the moves up to a cycle
-
-pub record MovingUntil (cycle : ℕ) (old v : VipState) : Type 0 where
-  pub begins : Follows old
-  pub follows : Follows v
-  pub same : IsSame old v
-  pub order : old.moves ≤ v.moves
-  pub stays : cycle < v.board.machine.cycle → v.moves ≡ old.moves
-  pub place : place_of v ≡ moved_to (begun old) v.moves (place_of old)
-  pub within : v.board.machine.cycle ≤ max old.board.machine.cycle cycle
-
-module _ (cycle : ℕ) (old v : VipState) (s : MovingUntil cycle old v) where
-  pub until-next : (v' : VipState) (name : Move) → (Rests cycle v → ⊥) → MovesOn v v' name → Follows v' → MovingUntil cycle old v'
-  until-next v' name goes m f =
-      let within : v'.board.machine.cycle ≤ cycle = moved-within cycle v v' name m goes in
-      let same : IsSame old v' = same-trans old v v' s.same (moved-same cycle v v' name m) in
-      record {
-        begins = s.begins;
-        follows = f;
-        same = same;
-        order = omega (arith, m.moves, s.order);
-        stays = λ over. absurd (omega (arith, over, within));
-        place = place-next cycle v v' name m old f same s.order;
-        within = omega (arith, within);
-      }
-
-  pub until-smaller : (v' : VipState) (name : Move) → (Rests cycle v → ⊥) → MovesOn v v' name → cycle - v'.board.machine.cycle < cycle - v.board.machine.cycle
-  until-smaller v' name goes m = omega (arith, moved-within cycle v v' name m goes, moved-later cycle v v' name m)
-
-  made_here : Rests cycle v → v.moves ≡ max old.moves (moves_until (begun old) cycle)
-  made_here rests = by_test (cases_lt cycle v.board.machine.cycle)
+  -- with a move every event up to the new cycle is met, and with none none
+  place_moved : place_of v ≡ moved_on (begun old) moves (place_of old)
+  place_moved = by_case h
     where
-      by_test : (cycle < v.board.machine.cycle) ⊎ (v.board.machine.cycle ≤ cycle) → v.moves ≡ max old.moves (moves_until (begun old) cycle)
-      by_test (inl over) =
-          let few : moves_until (begun v) cycle ≤ v.moves = made-before v s.follows cycle over in
-          omega (arith, few, until-same old v s.begins s.follows s.same cycle, s.stays over)
-      by_test (inr within) =
-          let all : v.moves ≡ moves_until (begun v) cycle = made-all v s.follows cycle within rests in
-          omega (arith, all, until-same old v s.begins s.follows s.same cycle, s.order)
+      some : (n : ℕ) → 0 < n → (n == 0) ≡ false
+      some n more = grind (arith, nat_tests)
 
-  pub makes-until : (v' : VipState) → v' ≡ v → Rests cycle v
-      → Makes (max old.board.machine.cycle cycle) old v' (moved_to (begun old) (max old.moves (moves_until (begun old) cycle)) (place_of old))
-  makes-until v' kept rests =
-      subst (λ (x : VipState). Makes (max old.board.machine.cycle cycle) old x (moved_to (begun old) (max old.moves (moves_until (begun old) cycle)) (place_of old))) (sym kept)
-      (record { same = s.same; place = s.place ∙ ap (λ n. moved_to (begun old) n (place_of old)) (made_here rests); within = s.within })
+      by_case : HasMoved Leads moves old v → place_of v ≡ moved_on (begun old) moves (place_of old)
+      by_case (inl none) = ap place_of none.1 ∙ ap (λ n. moved_on (begun old) n (place_of old)) (sym none.0)
+      by_case (inr more) =
+          all-here v g more.1.met
+          ∙ ap (λ (x : VipState). all_met x v.moves) (begun-same old v more.1.same)
+          ∙ ap (all_met (begun old)) more.1.made
+          ∙ sym (ap (λ t. if t then place_of old else all_met (begun old) (old.moves + moves)) (some moves more.0))
+
+pub makes-came : (limit : ℕ) (old v : VipState) (g : Follows v) (running : Running) (answer : Bool)
+    → HasMoved Leads (came (run_at old old.moves) limit running).moves old v
+    → Arrived limit (run_at old old.moves) (came (run_at old old.moves) limit running) v.board answer
+    → Makes limit old v (ran (begun old) limit running (place_of old)).place
+makes-came limit old v g running answer h a =
+    let moves = (came (run_at old old.moves) limit running).moves in
+    record { same = same-game limit old v g moves h; place = place_moved limit old v g moves h; within = a.within }
 
 -- ---- where a command comes to
 
@@ -173,14 +133,3 @@ module _ (limit : ℕ) (old v : VipState) (f : Follows old) (g : Follows v) wher
   arrives-break pc answer c =
       let found = by_answer (find (has_pc old pc) (points_left old limit)) answer c in
       record { makes = found.makes; completed = found.completed; told = found.told }
-
-  pub arrives-step : (n : ℕ) (answer : Bool)
-      → Makes limit old v (moved_to (begun old) (min (old.moves + n) (moves_until (begun old) limit)) (place_of old))
-      → answer ≡ nat_le (old.moves + n) (moves_until (begun old) limit) → Arrives limit (Step n) old v answer
-  arrives-step n answer makes is = record { makes = makes; completed = is; told = λ e. tt }
-
-  pub arrives-to : (cycle : ℕ) (answer : Bool) → old.board.machine.cycle ≤ limit
-      → Makes (max old.board.machine.cycle (min cycle limit)) old v (moved_to (begun old) (max old.moves (moves_until (begun old) (min cycle limit))) (place_of old))
-      → answer ≡ nat_le cycle limit → Arrives limit (To cycle) old v answer
-  arrives-to cycle answer within makes is =
-      record { makes = record { same = makes.same; place = makes.place; within = omega (arith, makes.within, within) }; completed = is; told = λ e. tt }

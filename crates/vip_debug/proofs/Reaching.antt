@@ -1,6 +1,6 @@
 -- Where commands leave the board that begins with a game: at a state of its run that comes by the limit, with no stop point before it.
 use Rattle.std.proofs.Common.{◌≡◌, ◌⊎◌, inl, inr, ℕ, suc, ◌+◌, ◌-◌, ◌<◌, ◌≤◌, Bool, true, false, List, [], ◌∷◌, drop, Some, None, slice_get, nat_le, refl, sym, subst, arith, Option}
-use Rattle.std.specs.Prelude.{if◌then◌else◌, ◌==◌, max, min}
+use Rattle.std.specs.Prelude.{if◌then◌else◌, ◌==◌, max, min, find}
 use Rattle.std.proofs.lemmas.Bool.{cases_lt}
 use Rattle.std.proofs.lemmas.Bool.Decides.{nat_tests}
 use Rattle.std.proofs.lemmas.List.Folds.{find_at}
@@ -17,9 +17,16 @@ use Rattle.vip_relation.proofs.Waits.{Earlier, earlier-at, earlier-drop, earlier
 use Rattle.vip_commands.specs.declared.commands.Command.{Command}
 use Rattle.vip_commands.specs.declared.commands.Command.TheVariants as command
 use Rattle.vip_commands.specs.declared.commands.Running.{Running}
-use Rattle.vip_commands.specs.declared.commands.Running.TheVariants.{Step, To, Next, Break}
-use Rattle.vip_debug.specs.Answers.{Place, moves_until, all_met, moved_to, at_point, points_ahead, has_pc, arrival, place_with, place_after, at_start}
-use Rattle.vip_debug.proofs.Places.{Reached, reached, reached-next, some-here, all-moves}
+use Rattle.vip_commands.specs.declared.commands.Running.TheVariants.{Step, To, At, Watch}
+use Rattle.vip_commands.specs.declared.commands.Seeking.{Seeking}
+use Rattle.vip_commands.specs.declared.commands.Seeking.TheVariants.{Next, Break}
+use Rattle.vip_monitor.specs.Run.{Run}
+use Rattle.vip_monitor.specs.Run as run
+use Rattle.vip_monitor.specs.Commands.{came, found_or_last}
+use Rattle.vip_monitor.proofs.Runs.{Reached, reached, reached-next, some-here, all-moves, until, until-from, until-past}
+use Rattle.vip_monitor.proofs.Moving.{find-within}
+use Rattle.vip_debug.specs.Game.{run_at}
+use Rattle.vip_debug.specs.Answers.{Place, moves_until, all_met, moved_on, at_point, points_ahead, has_pc, sought, place_with, place_after, at_start}
 
 module _ (e : Edition) (game : List ℕ) (script : List KeyEvent) where
   abbrev i : Interpreter
@@ -27,6 +34,9 @@ module _ (e : Edition) (game : List ℕ) (script : List KeyEvent) where
 
   abbrev v : VipState
   v = started e game script
+
+  abbrev r : Run
+  r = run_at v 0
 
   abbrev at_state : ℕ → Machine
   at_state n = state i game script n
@@ -36,42 +46,40 @@ module _ (e : Edition) (game : List ℕ) (script : List KeyEvent) where
 
   -- the n-th state comes by cycle t, and none before it is a stop point
   abbrev Comes : ℕ → ℕ → Type 0
-  Comes t n = Reached i game script t n
+  Comes t n = Reached r t n
 
   wider : (t u n : ℕ) → t ≤ u → Comes t n → Comes u n
-  wider t u n order r = record { within = omega (arith, order, r.within); runs = r.runs }
+  wider t u n order old = record { within = omega (arith, order, old.within); runs = old.runs }
 
   lower : (t n k : ℕ) → k ≤ n → Comes t n → Comes t k
-  lower t n k order r = record {
-    within = omega (arith, r.within, in-turn i.rom (held_at script) n k (start game) order);
-    runs = λ j l. r.runs j (omega (arith, l, order));
+  lower t n k order old = record {
+    within = omega (arith, old.within, in-turn i.rom (held_at script) n k (start game) order);
+    runs = λ j l. old.runs j (omega (arith, l, order));
   }
 
   -- so does the last of the states up to a cycle or to the first stop point
   pub last_until : (t : ℕ) → Comes t (moves_until v t)
-  unfolding moves_until
-  last_until t = reached i game script t (moves_until v t) (omega (arith, some-here i game script t 0 (omega arith)))
+  last_until t = reached r t (moves_until v t) (omega (arith, until r t, some-here r t 0 (omega arith)))
 
   -- it is a stop point, or the next one comes later: so the events up to that cycle are those of the states up to it
   pub all_past : (t : ℕ) → events_to v t ≡ past_of (suc (moves_until v t))
-  unfolding moves_until
   all_past t = by_test (is_stop i (at_state n)) refl (cases_lt t (at_state (suc n)).cycle)
     where
       n : ℕ
       n = moves_until v t
 
-      r : Comes t n
-      r = last_until t
+      last : Comes t n
+      last = last_until t
 
       beyond : Comes t (suc n) → ⊥
-      beyond next = omega (arith, all-moves i game script t (suc n) next.within next.runs, some-here i game script t (suc n) next.within)
+      beyond next = omega (arith, until r t, all-moves r t (suc n) next.within next.runs, some-here r t (suc n) next.within)
 
       by_test :
           (stop : Bool) → is_stop i (at_state n) ≡ stop → (t < (at_state (suc n)).cycle) ⊎ ((at_state (suc n)).cycle ≤ t)
           → events_to v t ≡ past_of (suc n)
-      by_test true stop far = events-stop i game script t n r.within stop r.runs
-      by_test false runs (inl over) = events-last i game script t n r.within over r.runs
-      by_test false runs (inr within) = absurd (beyond (reached-next i game script t n r runs within))
+      by_test true stop far = events-stop i game script t n last.within stop last.runs
+      by_test false runs (inl over) = events-last i game script t n last.within over last.runs
+      by_test false runs (inr within) = absurd (beyond (reached-next r t n last runs within))
 
   -- ---- a command
 
@@ -85,10 +93,10 @@ module _ (e : Edition) (game : List ℕ) (script : List KeyEvent) where
         earlier-drop (limit + 1) p.met (events_to v limit)
         (subst (Earlier (limit + 1)) (sym (all_past limit)) (earlier-next i game script (limit + 1) (moves_until v limit) (omega (arith, (last_until limit).within))))
 
-    moved : (n : ℕ) (p : Place) → Comes limit p.moves → Comes limit n → Comes limit (moved_to v n p).moves
-    moved n p old new = by_test (n == p.moves)
+    moved : (k : ℕ) (p : Place) → Comes limit p.moves → Comes limit (p.moves + k) → Comes limit (moved_on v k p).moves
+    moved k p old new = by_test (k == 0)
       where
-        by_test : (same : Bool) → Comes limit (if same then p else all_met v n).moves
+        by_test : (none : Bool) → Comes limit (if none then p else all_met v (p.moves + k)).moves
         by_test true = old
         by_test false = new
 
@@ -96,26 +104,40 @@ module _ (e : Edition) (game : List ℕ) (script : List KeyEvent) where
     pointed p k None is = last_until limit
     pointed p k (Some b) is = wider b.cycle limit (moves_until v b.cycle) (omega (arith, earlier-at (limit + 1) (ahead p) (ahead_earlier p) k b (sym is))) (last_until b.cycle)
 
-    arrived : (running : Running) (p : Place) → Comes limit p.moves → Comes limit (arrival v limit running p).place.moves
-    arrived (Step n) p r = moved _ p r (lower limit (moves_until v limit) (min (p.moves + n) (moves_until v limit)) (omega arith) (last_until limit))
-    arrived (To cycle) p r = moved _ p r (either (nat_le p.moves (moves_until v (min cycle limit))) refl)
+    -- so many moves more, none of them behind the end
+    further : (n k t : ℕ) → t ≤ limit → Comes limit n → k ≤ run.moves_until (run_at v n) t → Comes limit (n + k)
+    further n k t order old few = by_test (cases_lt t (at_state n).cycle)
       where
-        far : Comes limit (moves_until v (min cycle limit))
-        far = wider (min cycle limit) limit (moves_until v (min cycle limit)) (omega arith) (last_until (min cycle limit))
+        by_test : (t < (at_state n).cycle) ⊎ ((at_state n).cycle ≤ t) → Comes limit (n + k)
+        by_test (inl past) = let same : n ≡ n + k = omega (arith, few, until-past r t n past) in subst (Comes limit) same old
+        by_test (inr within) =
+            let here : Comes t n = record { within = within; runs = old.runs } in
+            wider t limit (n + k) order (lower t (moves_until v t) (n + k) (omega (arith, few, until-from r t n here)) (last_until t))
 
-        either : (test : Bool) → nat_le p.moves (moves_until v (min cycle limit)) ≡ test → Comes limit (max p.moves (moves_until v (min cycle limit)))
-        either true is = let same : max p.moves (moves_until v (min cycle limit)) ≡ moves_until v (min cycle limit) = grind (arith, nat_tests) in subst (Comes limit) (sym same) far
-        either false is = let same : max p.moves (moves_until v (min cycle limit)) ≡ p.moves = grind (arith, nat_tests) in subst (Comes limit) (sym same) r
-    arrived (Next n) p r = pointed p (n - 1) _ refl
-    arrived (Break pc) p r = pointed p _ _ (find_at (has_pc v pc) (points_ahead v limit p))
+    found : (n : ℕ) (k : Option ℕ) (test : ℕ → Bool) → k ≡ find test (run.ahead (run_at v n) limit) → (found_or_last (run_at v n) limit k).moves ≤ run.moves_until (run_at v n) limit
+    unfolding run.ahead
+    found n None test is = omega arith
+    found n (Some k) test is = omega (arith, find-within test 1 (run.moves_until (run_at v n) limit) k (sym is))
+
+    came_to : (running : Running) (n : ℕ) → Comes limit n → Comes limit (n + (came (run_at v n) limit running).moves)
+    came_to (Step count) n old = further n _ limit (omega arith) old (omega arith)
+    came_to (To cycle) n old = further n _ (min cycle limit) (omega arith) old (omega arith)
+    came_to (At address) n old = further n _ limit (omega arith) old (found n _ _ refl)
+    came_to (Watch address count) n old = further n _ limit (omega arith) old (found n _ _ refl)
+
+    sought_to : (seeking : Seeking) (p : Place) → Comes limit (sought v limit seeking p).place.moves
+    sought_to (Next n) p = pointed p (n - 1) _ refl
+    sought_to (Break pc) p = pointed p _ _ (find_at (has_pc v pc) (points_ahead v limit p))
 
     pub with_one : (command : Command) (p : Place) → Comes limit p.moves → Comes limit (place_with v limit command p).moves
-    with_one (command.Runs running) p r = arrived running p r
-    with_one (command.Shows showing) p r = r
+    with_one (command.Runs running) p old = moved (came (run_at v p.moves) limit running).moves p old (came_to running p.moves old)
+    with_one (command.Shows showing) p old = old
+    with_one (command.Seeks seeking) p old = sought_to seeking p
+    with_one (command.Tells telling) p old = old
 
     after_all : (commands : List Command) (p : Place) → Comes limit p.moves → Comes limit (place_after v limit commands p).moves
-    after_all [] p r = r
-    after_all (command ∷ commands) p r = after_all commands (place_with v limit command p) (with_one command p r)
+    after_all [] p old = old
+    after_all (command ∷ commands) p old = after_all commands (place_with v limit command p) (with_one command p old)
 
     -- where they begin
     pub at_begin : Comes limit 0

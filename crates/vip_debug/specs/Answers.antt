@@ -1,42 +1,42 @@
 -- What commands write of a run, and where they leave the board: a fold over the commands. Its state is the place of the board in the run: how
 -- many moves were made, which says the machine and its cycle, and how many events were met.
-use Rattle.std.specs.Prelude.{◌≡◌, ℕ, ◌+◌, ◌-◌, ◌==◌, if◌then◌else◌, Bool, true, false, min, max, nat_le, List, [], ◌∷◌, ◌++◌, length, take, drop, find, filter_map, Option, Some, None, codes, slice_get}
-use Rattle.machine.specs.Board.{Machine, byte_of}
+use Rattle.std.specs.Prelude.{◌≡◌, ℕ, ◌+◌, ◌-◌, ◌==◌, if◌then◌else◌, Bool, true, false, List, [], ◌∷◌, ◌++◌, length, take, drop, find, filter_map, Option, Some, None, codes, slice_get}
+use Rattle.machine.specs.Board.{Machine}
 use Rattle.chip8_lang.specs.declared.view.StopRecord.{StopRecord}
 use Rattle.chip8_lang.specs.Events.{Event, is_stop}
-use Rattle.chip8_lang.specs.Places.{Interpreter}
 use Rattle.chip8_lang.specs.View.{view_at}
 use Rattle.vip_text.specs.Stops.{stop_line}
 use Rattle.vip_byte.specs.Text.{newline}
 use Rattle.vip_text.specs.Traces.{trace_line}
 use Rattle.vip_outside.specs.Sink.{SinkMeaning}
 use Rattle.vip_outside.specs.Pieces.{PutsAll, FailsWithin}
-use Rattle.vip_relation.specs.State.{VipState, interpreter, run_of, events_to, started, state_after}
+use Rattle.vip_relation.specs.State.{VipState, interpreter, events_to, started, state_after}
 use Rattle.vip_relation.specs.Follows.{dispatch_of, last_view, last_screen}
 use Rattle.vip_relation.specs.Meets.{IsSame}
 use Rattle.vip_relation.specs.Stops.{stop_record}
-use Rattle.vip_debug.specs.Shown.{cycle_text, regs_lines, state_line, screen_text, mem_lines, dis_lines}
+use Rattle.vip_debug.specs.Shown.{state_line, screen_text}
+use Rattle.vip_debug.specs.Game.{run_at}
+use Rattle.vip_monitor.specs.Run as run
+use Rattle.vip_monitor.specs.Fold.{after_all, all_pieces}
+use Rattle.vip_monitor.specs.Commands.{came}
+use Rattle.vip_monitor.specs.Answered.{completed_lines, shown}
 use Rattle.vip_commands.specs.declared.commands.Command.{Command}
-use Rattle.vip_commands.specs.declared.commands.Command.TheVariants.{Runs, Shows}
+use Rattle.vip_commands.specs.declared.commands.Command.TheVariants.{Runs, Shows, Seeks, Tells}
 use Rattle.vip_commands.specs.declared.commands.Running.{Running}
-use Rattle.vip_commands.specs.declared.commands.Running.TheVariants.{Step, To, Next, Break}
-use Rattle.vip_commands.specs.declared.commands.Showing.{Showing}
-use Rattle.vip_commands.specs.declared.commands.Showing.TheVariants.{Regs, State, Mem, Dis, Screen}
+use Rattle.vip_commands.specs.declared.commands.Seeking.{Seeking}
+use Rattle.vip_commands.specs.declared.commands.Seeking.TheVariants.{Next, Break}
+use Rattle.vip_commands.specs.declared.commands.Telling.{Telling}
+use Rattle.vip_commands.specs.declared.commands.Telling.TheVariants.{State, Screen}
 use Rattle.vip_debug.specs.declared.run.DebugEnd.{DebugEnd}
 use Rattle.vip_debug.specs.declared.run.DebugEnd.TheVariants.{Done, Stopped, WriteFault}
-
--- the states of a run up to its first stop point
-unfoldable pub up_to_stop : Interpreter → List Machine → List Machine
-up_to_stop i [] = []
-up_to_stop i (b ∷ bs) = if is_stop i b then b ∷ [] else b ∷ up_to_stop i bs
 
 -- the same game under the same script before its first move: of a machine of the run it tells all that the definitions below ask for
 abbrev pub begun : VipState → VipState
 begun v = started v.edition v.game v.board.script
 
 -- how many moves are made up to a cycle: none behind a stop point
-unfoldable pub moves_until : VipState → ℕ → ℕ
-moves_until v cycle = length (up_to_stop (interpreter v) (run_of v cycle)) - 1
+abbrev pub moves_until : VipState → ℕ → ℕ
+moves_until v cycle = run.moves_until (run_at v 0) cycle
 
 -- the events up to the state after so many moves
 abbrev pub events_by : VipState → ℕ → List Event
@@ -74,9 +74,9 @@ pub record Arrival : Type 0 where
   pub place : Place
   pub completed : Bool
 
--- with so many moves made in all: a board that makes one meets every event up to its new cycle, and one that makes none meets none
-abbrev pub moved_to : VipState → ℕ → Place → Place
-moved_to v moves p = if moves == p.moves then p else all_met v moves
+-- after so many moves more: a board that makes one meets every event up to its new cycle, and one that makes none meets none
+abbrev pub moved_on : VipState → ℕ → Place → Place
+moved_on v moves p = if moves == 0 then p else all_met v (p.moves + moves)
 
 -- at a dispatch point, or at the end of the run where there is none; every event up to there is met
 abbrev pub at_point : VipState → ℕ → Option Machine → Arrival
@@ -86,12 +86,14 @@ at_point v limit None = record { place = all_met v (moves_until v limit); comple
 abbrev pub has_pc : VipState → ℕ → Machine → Bool
 has_pc v pc b = (view_at v.edition b).pc == pc
 
-abbrev pub arrival : VipState → ℕ → Running → Place → Arrival
-arrival v limit (Step n) p =
-    record { place = moved_to v (min (p.moves + n) (moves_until v limit)) p; completed = nat_le (p.moves + n) (moves_until v limit) }
-arrival v limit (To cycle) p = record { place = moved_to v (max p.moves (moves_until v (min cycle limit))) p; completed = nat_le cycle limit }
-arrival v limit (Next n) p = at_point v limit (slice_get (points_ahead v limit p) (n - 1))
-arrival v limit (Break pc) p = at_point v limit (find (has_pc v pc) (points_ahead v limit p))
+-- a command that runs the board, whatever runs on it
+abbrev pub ran : VipState → ℕ → Running → Place → Arrival
+ran v limit running p = let c = came (run_at v p.moves) limit running in record { place = moved_on v c.moves p; completed = c.completed }
+
+-- a command that looks for a dispatch point
+abbrev pub sought : VipState → ℕ → Seeking → Place → Arrival
+sought v limit (Next n) p = at_point v limit (slice_get (points_ahead v limit p) (n - 1))
+sought v limit (Break pc) p = at_point v limit (find (has_pc v pc) (points_ahead v limit p))
 
 -- ---- what is written
 
@@ -102,46 +104,46 @@ stop_by v moves = stop_record (last_view v.edition (events_by v moves)) (state_a
 abbrev pub stop_text : StopRecord → List ℕ
 stop_text stop = stop_line stop.stop stop.pc stop.opcode
 
--- what a completed command that runs writes: the cycle, or the record of the dispatch point
-abbrev pub completed_line : VipState → Running → Machine → List ℕ
-completed_line v (Step n) b = cycle_text b ++ newline
-completed_line v (To cycle) b = cycle_text b ++ newline
-completed_line v (Next n) b = trace_line false (view_at v.edition b)
-completed_line v (Break pc) b = trace_line false (view_at v.edition b)
+-- what a command writes that comes there: at a stop point the stop is named, and else one that isn't completed says so; these lines where it is
+unfoldable pub lines_at : VipState → Arrival → List (List ℕ) → List (List ℕ)
+lines_at v a lines =
+    if is_stop (interpreter v) (state_after v a.place.moves) then stop_text (stop_by v a.place.moves) ∷ []
+    else if a.completed then lines
+    else (codes "end" ++ newline) ∷ []
 
--- at a stop point the stop is named, and else a command that isn't completed says so
-unfoldable pub running_line : VipState → Running → Arrival → List ℕ
-running_line v running a =
-    if is_stop (interpreter v) (state_after v a.place.moves) then stop_text (stop_by v a.place.moves)
-    else if a.completed then completed_line v running (state_after v a.place.moves)
-    else codes "end" ++ newline
+abbrev pub running_lines : VipState → ℕ → Running → Place → List (List ℕ)
+running_lines v limit running p =
+    let r = run_at v p.moves in lines_at v (ran v limit running p) (completed_lines r running (came r limit running).moves)
 
--- each line is a piece of its own, but a screen is one
-unfoldable pub shown_pieces : VipState → Showing → Place → List (List ℕ)
-shown_pieces v Regs p = regs_lines (state_after v p.moves)
-shown_pieces v State p = state_line (last_view v.edition (met_at v p)) ∷ []
-shown_pieces v (Mem address count) p = mem_lines (byte_of (interpreter v).rom (state_after v p.moves)) address count
-shown_pieces v (Dis address count) p = dis_lines (byte_of (interpreter v).rom (state_after v p.moves)) address count
-shown_pieces v Screen p = screen_text v.edition (last_screen v.edition (met_at v p)) ∷ []
+-- of a dispatch point its record
+abbrev pub seeking_lines : VipState → Arrival → List (List ℕ)
+seeking_lines v a = lines_at v a (trace_line false (view_at v.edition (state_after v a.place.moves)) ∷ [])
 
+-- what was met of the language; a screen is one piece
+abbrev pub told : VipState → Telling → Place → List (List ℕ)
+told v State p = state_line (last_view v.edition (met_at v p)) ∷ []
+told v Screen p = screen_text v.edition (last_screen v.edition (met_at v p)) ∷ []
+
+-- each line is a piece of its own
 abbrev pub pieces : VipState → ℕ → Command → Place → List (List ℕ)
-pieces v limit (Runs running) p = running_line v running (arrival v limit running p) ∷ []
-pieces v limit (Shows showing) p = shown_pieces v showing p
+pieces v limit (Runs running) p = running_lines v limit running p
+pieces v limit (Shows showing) p = shown (interpreter v).rom (state_after v p.moves) showing
+pieces v limit (Seeks seeking) p = seeking_lines v (sought v limit seeking p)
+pieces v limit (Tells telling) p = told v telling p
 
 -- the place after a command
 abbrev pub place_with : VipState → ℕ → Command → Place → Place
-place_with v limit (Runs running) p = (arrival v limit running p).place
-place_with v limit (Shows showing) p = p
+place_with v limit (Runs running) p = (ran v limit running p).place
+place_with v limit (Seeks seeking) p = (sought v limit seeking p).place
+place_with v limit _ p = p
 
 -- ---- all commands
 
 abbrev pub place_after : VipState → ℕ → List Command → Place → Place
-place_after v limit [] p = p
-place_after v limit (command ∷ commands) p = place_after v limit commands (place_with v limit command p)
+place_after v limit = after_all (place_with v limit)
 
 abbrev pub written : VipState → ℕ → List Command → Place → List (List ℕ)
-written v limit [] p = []
-written v limit (command ∷ commands) p = pieces v limit command p ++ written v limit commands (place_with v limit command p)
+written v limit = all_pieces (place_with v limit) (pieces v limit)
 
 -- the board is at a place of the run of `start`
 pub record StandsAt (start : VipState) (p : Place) (v : VipState) : Type 0 where

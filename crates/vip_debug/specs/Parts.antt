@@ -1,18 +1,11 @@
 -- What the parts of a command make of a machine that runs a game.
-use Rattle.std.specs.Prelude.{◌≡◌, ℕ, ◌-◌, ◌≤◌, Bool, true, false, List, [], ◌∷◌, Option, Some, None, Result, Ok, Err}
-use Rattle.machine.specs.Memory.{read}
+use Rattle.std.specs.Prelude.{◌≡◌, ℕ, ◌≤◌, Bool, true, false, List, [], ◌∷◌, Option, Some, None}
 use Rattle.machine.specs.Board.{Machine}
 use Rattle.chip8_lang.specs.View.{view_at}
-use Rattle.vip_memory.specs.Contents.{Contents}
-use Rattle.vip_outside.specs.Sink.{SinkMeaning, PutsWhole, PutFails}
-use Rattle.vip_outside.specs.declared.sink.Failed.{Failed}
-use Rattle.asm_listing.specs.Disassembly.{ended_line, taken}
 use Rattle.vip_relation.specs.State.{VipState, events_waiting}
 use Rattle.vip_relation.specs.Meets.{IsSame}
-use Rattle.vip_commands.specs.declared.commands.Running.{Running}
-use Rattle.vip_commands.specs.declared.commands.Running.TheVariants.{Step, To, Next, Break}
-use Rattle.vip_debug.specs.Shown.{bytes_from}
-use Rattle.vip_debug.specs.Answers.{begun, moves_until, Place, place_of, points_ahead, arrival}
+use Rattle.vip_commands.specs.declared.commands.Seeking.{Seeking}
+use Rattle.vip_debug.specs.Answers.{begun, moves_until, Place, place_of, points_ahead, sought}
 
 -- what is told is the present state
 abbrev pub TellsPresent : VipState → Type 0
@@ -67,28 +60,8 @@ pub record Makes (limit : ℕ) (old new : VipState) (p : Place) : Type 0 where
   pub place : place_of new ≡ p
   pub within : new.board.machine.cycle ≤ limit
 
--- what a completed command tells of
-abbrev pub IsTold : Running → VipState → Type 0
-IsTold (Step n) v = Unit {0}
-IsTold (To cycle) v = Unit {0}
-IsTold (Next n) v = TellsPresent v
-IsTold (Break pc) v = TellsPresent v
-
--- the board is where a command comes to
-pub record Arrives (limit : ℕ) (running : Running) (old new : VipState) (answer : Bool) : Type 0 where
-  pub makes : Makes limit old new (arrival (begun old) limit running (place_of old)).place
-  pub completed : answer ≡ (arrival (begun old) limit running (place_of old)).completed
-  pub told : answer ≡ true → IsTold running new
-
--- ---- bytes
-
--- the byte that each address reads
-abbrev pub reads : Contents → ℕ → ℕ
-reads m address = read m.rom m.latch m.ram address
-
--- the line of the disassembly of all bytes from an address on went out, of which it shows so many
-abbrev pub PutsLine : (ℕ → ℕ) → ℕ → SinkMeaning → SinkMeaning → Result ℕ Failed → Type 0
-PutsLine byte address old new (Ok shown) =
-    PutsWhole (ended_line address (bytes_from byte address (0x10000 - address))) old new
-    × (shown ≡ taken (bytes_from byte address (0x10000 - address)))
-PutsLine byte address old new (Err e) = PutFails (ended_line address (bytes_from byte address (0x10000 - address))) old new
+-- the board is where a command that looks for a dispatch point comes to, which is told of where the command is completed
+pub record Arrives (limit : ℕ) (seeking : Seeking) (old new : VipState) (answer : Bool) : Type 0 where
+  pub makes : Makes limit old new (sought (begun old) limit seeking (place_of old)).place
+  pub completed : answer ≡ (sought (begun old) limit seeking (place_of old)).completed
+  pub told : answer ≡ true → TellsPresent new

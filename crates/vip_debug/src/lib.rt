@@ -9,10 +9,11 @@
 //! The commands and their answers are this project's format (`docs/FORMATS.md`).
 #![tactic(auto)]
 
-mod bytes;
+mod game;
 mod going;
+mod program;
 mod run;
 mod show;
-mod write;
 
+pub use program::run_program_commands;
 pub use run::{DebugEnd, run_commands};

@@ -1,21 +1,24 @@
 //! Commands, one after another.
 
-ghost use Rattle.std.specs.Prelude.{◌≡◌, ◌≤◌, [], max, true};
+ghost use Rattle.std.specs.Prelude.{◌≤◌, false, max};
 ghost use Rattle.vip_outside.specs.Sink.{PutAnswers};
 ghost use Rattle.vip_outside.specs.Pieces.{StreamAnswers};
+ghost use Rattle.chip8_lang.specs.View.{view_at};
 ghost use Rattle.vip_relation.specs.Follows.{Follows};
-ghost use Rattle.vip_debug.specs.Answers.{DebugAnswers, arrival, begun, completed_line, pieces, place_of, place_with, running_line, shown_pieces};
-ghost use Rattle.vip_debug.specs.Parts.{IsTold, Makes};
+ghost use Rattle.vip_text.specs.Traces.{trace_line};
+ghost use Rattle.vip_debug.specs.Answers.{DebugAnswers, begun, pieces, place_of, place_with, ran, running_lines, seeking_lines, sought, stop_text, told};
+ghost use Rattle.vip_debug.specs.Parts.{Makes, TellsPresent};
 
-use crate::bytes::{put_dis, put_mem};
-use crate::going::go;
-use crate::show::{put_cycle, put_regs, put_screen, put_state};
+use crate::game::run_game;
+use crate::going::seek;
+use crate::show::{put_screen, put_state};
 use chip8_lang::StopRecord;
-use vip_byte::{Buffer, MOST_CYCLE, put};
+use vip_byte::{Buffer, MOST_CYCLE};
 use vip_outside::{Failed, Sink};
 use vip_relation::Vip;
-use vip_text::{stop_text, trace_text};
-use vip_commands::{Command, Commands, Running, Showing};
+use vip_text::trace_text;
+use vip_commands::{Command, Commands, Running, Seeking, Telling};
+use vip_monitor::{Change, put_completed, put_showing};
 
 /// How the commands ended.
 #[derive(Clone, Copy, Debug, PartialEq, Eq)]
@@ -28,36 +31,28 @@ pub enum DebugEnd {
     WriteFault,
 }
 
-/// Writes the line of a completed command into an empty buffer.
-fn completed_text(vip: &Vip, running: Running, into: &mut Buffer)
-    requires told { IsTold running vip.now }
-    requires empty { into.old.items ≡ [] }
-    ensures { into.new.items ≡ completed_line (begun vip.now) running vip.now.board.machine }
+/// Puts the line that names a stop.
+fn put_stop<O: Sink>(stop: &StopRecord, out: &mut O) -> Result<(), Failed>
+    ensures { PutAnswers (stop_text stop.now) (O.meaning out.old) (O.meaning out.new) result }
 {
-    match (running, vip.last()) {
-        (Running::Next(_) | Running::Break(_), Some(view)) => trace_text(view, false, into),
-        _ => {
-            put_cycle(into, vip.board());
-            put(into, b"\n");
-        }
-    }
+    let mut text = Buffer::new();
+    vip_text::stop_text(stop, &mut text);
+    out.put(text.as_slice())
 }
 
-/// Writes the line of a command that ran into an empty buffer.
-fn answer_text(vip: &Vip, running: Running, completed: bool, into: &mut Buffer)
-    requires follows { Follows vip.now }
-    requires told { completed ≡ true → IsTold running vip.now }
-    requires empty { into.old.items ≡ [] }
-    ensures { into.new.items ≡ running_line (begun vip.now) running (record { place = place_of vip.now; completed = completed }) }
+/// Puts the record of the dispatch point at which the board is, and which was met last.
+fn put_point<O: Sink>(vip: &Vip, out: &mut O) -> Result<(), Failed>
+    requires { TellsPresent vip.now }
+    ensures { PutAnswers (trace_line false (view_at vip.now.edition vip.now.board.machine)) (O.meaning out.old) (O.meaning out.new) result }
 {
-    match vip.stop() {
-        Some(stop) => stop_text(&stop, into),
-        None if completed => completed_text(vip, running, into),
-        None => put(into, b"end\n"),
+    let mut text = Buffer::new();
+    if let Some(view) = vip.last() {
+        trace_text(view, false, &mut text);
     }
+    out.put(text.as_slice())
 }
 
-/// Runs the board as a command says, and puts its line.
+/// Runs the board as a command says, whatever runs on it, and puts what it writes.
 fn put_running<O: Sink>(
     vip: &mut Vip,
     running: Running,
@@ -68,26 +63,49 @@ fn put_running<O: Sink>(
     requires limit { limit ≤ MOST_CYCLE }
     requires within { vip.old.board.machine.cycle ≤ limit }
     ensures follows { Follows vip.new }
-    ensures makes { Makes limit vip.old vip.new (arrival (begun vip.old) limit running (place_of vip.old)).place }
-    ensures line { PutAnswers (running_line (begun vip.old) running (arrival (begun vip.old) limit running (place_of vip.old))) (O.meaning out.old) (O.meaning out.new) result }
+    ensures makes { Makes limit vip.old vip.new (ran (begun vip.old) limit running (place_of vip.old)).place }
+    ensures lines { StreamAnswers (running_lines (begun vip.old) limit running (place_of vip.old)) (O.meaning out.old) (O.meaning out.new) result }
 {
-    let completed = go(vip, running, limit);
-    let mut text = Buffer::new();
-    answer_text(vip, running, completed, &mut text);
-    out.put(text.as_slice())
+    let mut change = Change::new();
+    let completed = run_game(vip, running, limit, &mut change);
+    let board = vip.board();
+    match vip.stop() {
+        Some(stop) => put_stop(&stop, out),
+        None if completed => put_completed(board, running, &change, out),
+        None => out.put(b"end\n"),
+    }
 }
 
-/// Puts what a command shows.
-fn put_showing<O: Sink>(vip: &Vip, showing: Showing, out: &mut O) -> Result<(), Failed>
-    requires follows { Follows vip.now }
-    ensures { StreamAnswers (shown_pieces (begun vip.now) showing (place_of vip.now)) (O.meaning out.old) (O.meaning out.new) result }
+/// Runs the board to a dispatch point, and puts what the command writes.
+fn put_seeking<O: Sink>(
+    vip: &mut Vip,
+    seeking: Seeking,
+    limit: u64,
+    out: &mut O,
+) -> Result<(), Failed>
+    requires follows { Follows vip.old }
+    requires limit { limit ≤ MOST_CYCLE }
+    requires within { vip.old.board.machine.cycle ≤ limit }
+    ensures follows { Follows vip.new }
+    ensures makes { Makes limit vip.old vip.new (sought (begun vip.old) limit seeking (place_of vip.old)).place }
+    ensures lines { StreamAnswers (seeking_lines (begun vip.old) (sought (begun vip.old) limit seeking (place_of vip.old))) (O.meaning out.old) (O.meaning out.new) result }
 {
-    match showing {
-        Showing::Regs => put_regs(vip.board(), out),
-        Showing::State => put_state(vip, out),
-        Showing::Mem(address, count) => put_mem(vip.board().memory(), address, count, out),
-        Showing::Dis(address, count) => put_dis(vip.board().memory(), address, count, out),
-        Showing::Screen => put_screen(vip, out),
+    let completed = seek(vip, seeking, limit);
+    match vip.stop() {
+        Some(stop) => put_stop(&stop, out),
+        None if completed => put_point(vip, out),
+        None => out.put(b"end\n"),
+    }
+}
+
+/// Puts what was met of the language.
+fn put_telling<O: Sink>(vip: &Vip, telling: Telling, out: &mut O) -> Result<(), Failed>
+    requires { Follows vip.now }
+    ensures { StreamAnswers (told (begun vip.now) telling (place_of vip.now)) (O.meaning out.old) (O.meaning out.new) result }
+{
+    match telling {
+        Telling::State => put_state(vip, out),
+        Telling::Screen => put_screen(vip, out),
     }
 }
 
@@ -107,7 +125,9 @@ fn run_command<O: Sink>(
 {
     match command {
         Command::Runs(running) => put_running(vip, running, limit, out),
-        Command::Shows(showing) => put_showing(vip, showing, out),
+        Command::Shows(showing) => put_showing(vip.board(), showing, out),
+        Command::Seeks(seeking) => put_seeking(vip, seeking, limit, out),
+        Command::Tells(telling) => put_telling(vip, telling, out),
     }
 }
 

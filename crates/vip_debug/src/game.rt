@@ -1,0 +1,54 @@
+//! A machine that runs a game, as what the commands run that speak of the machine alone.
+
+ghost use Rattle.std.specs.Prelude.{◌≡◌, ◌≤◌, true};
+ghost use Rattle.vip_relation.specs.Follows.{Follows};
+ghost use Rattle.vip_monitor.specs.Commands.{came};
+ghost use Rattle.vip_monitor.specs.Parts.{Arrives, HasMoved, IsShown};
+ghost use Rattle.vip_relation.specs.State.{interpreter};
+ghost use Rattle.chip8_lang.specs.Events.{is_stop};
+ghost use Rattle.vip_debug.specs.Game.{Leads, run_at};
+ghost use Rattle.vip_debug.specs.GameLaws.{GameLeads, leads-on};
+
+use vip_board::{Board, Moved};
+use vip_byte::MOST_CYCLE;
+use vip_commands::Running;
+use vip_monitor::{Change, Target, go};
+use vip_relation::Vip;
+
+/// A machine that runs a game. Its run ends at the stop point.
+#[derive(Drop)]
+pub struct Game<'a> {
+    pub vip: &'a mut Vip,
+}
+
+impl Target for Game<'_> {
+    ghost seen = { λ game. game.vip.now.board };
+
+    ghost ends = { λ game. is_stop (interpreter game.vip.now) };
+
+    ghost leads = { GameLeads };
+
+    ghost leads_on = { leads-on };
+
+    fn board(&self) -> &Board {
+        self.vip.board()
+    }
+
+    fn one_move(&mut self, limit: u64) -> Moved {
+        self.vip.one_move(limit)
+    }
+}
+
+/// Runs the board of a game as a command says, up to the limit and the stop point. Answers whether the command is completed; what shows it then
+/// besides the board is in `change`.
+pub fn run_game(vip: &mut Vip, running: Running, limit: u64, change: &mut Change) -> bool
+    requires follows { Follows vip.old }
+    requires limit { limit ≤ MOST_CYCLE }
+    requires within { vip.old.board.machine.cycle ≤ limit }
+    ensures comes { let r = run_at vip.old vip.old.moves in Arrives limit r (came r limit running) vip.new.board result }
+    ensures moved { HasMoved Leads (came (run_at vip.old vip.old.moves) limit running).moves vip.old vip.new }
+    ensures shown { let r = run_at vip.old vip.old.moves in result ≡ true → IsShown running r (came r limit running).moves change.new }
+{
+    let mut game = Game { vip };
+    go(&mut game, running, limit, change)
+}

@@ -1,0 +1,177 @@
+//! The debugger's commands on a board that runs any program.
+
+ghost use Rattle.std.specs.Prelude.{◌≡◌, ◌≤◌, [], true};
+ghost use Rattle.vip_cpu.specs.declared.cpu.Phase.{Phase};
+ghost use Rattle.vip_outside.specs.Sink.{PutAnswers};
+ghost use Rattle.vip_outside.specs.Pieces.{StreamAnswers};
+ghost use Rattle.vip_program.specs.Trace.{sleeps};
+ghost use Rattle.vip_monitor.specs.Run.{run_from};
+ghost use Rattle.vip_monitor.specs.Commands.{came};
+ghost use Rattle.vip_monitor.specs.Parts.{Arrives, IsShown};
+ghost use Rattle.vip_debug.specs.Programs.{OneAnswers, ProgramAnswers, comes_to, ended_lines, gone_lines, idle_line, machine_after, program_pieces, ran_lines};
+ghost use Rattle.vip_debug.specs.ProgramLaws.{ProgramLeads, program-leads-on};
+
+use vip_board::{Board, Moved};
+use vip_byte::{Buffer, MOST_CYCLE, hex4, put};
+use vip_commands::{Command, Commands, Running};
+use vip_monitor::{Change, Target, go, put_completed, put_showing};
+use vip_outside::{Failed, Sink};
+use vip_program::{ProgramEnd, ending, trace_moves};
+
+/// A board that runs any program. Its run ends where the processor idles with the display off, since no signal can wake it there.
+#[derive(Drop)]
+pub struct Program<'a> {
+    pub board: &'a mut Board,
+}
+
+impl Target for Program<'_> {
+    ghost seen = { λ program. program.board.now };
+
+    ghost ends = { λ program. sleeps };
+
+    ghost leads = { ProgramLeads };
+
+    ghost leads_on = { program-leads-on };
+
+    fn board(&self) -> &Board {
+        self.board
+    }
+
+    fn one_move(&mut self, limit: u64) -> Moved {
+        match ending(self.board) {
+            ProgramEnd::Idle(_) => Moved::End,
+            ProgramEnd::AtLimit => self.board.to_boundary(limit),
+        }
+    }
+}
+
+/// Runs a board as a command says, up to the limit and the end of its run. Answers whether the command is completed; what shows it then besides
+/// the board is in `change`.
+fn run_program(board: &mut Board, running: Running, limit: u64, change: &mut Change) -> bool
+    requires boundary { board.old.phase ≡ Phase.Boundary }
+    requires limit { limit ≤ MOST_CYCLE }
+    requires within { board.old.machine.cycle ≤ limit }
+    ensures comes { let r = run_from sleeps board.old in Arrives limit r (came r limit running) board.new result }
+    ensures shown { let r = run_from sleeps board.old in result ≡ true → IsShown running r (came r limit running).moves change.new }
+{
+    let mut program = Program { board };
+    go(&mut program, running, limit, change)
+}
+
+/// Puts what is said of a processor that sleeps behind the IDL at an address.
+fn put_idle<O: Sink>(address: u16, out: &mut O) -> Result<(), Failed>
+    ensures { PutAnswers (idle_line address) (O.meaning out.old) (O.meaning out.new) result }
+{
+    let mut text = Buffer::new();
+    put(&mut text, b"idle at ");
+    put(&mut text, &hex4(address));
+    put(&mut text, b"\n");
+    out.put(text.as_slice())
+}
+
+/// Puts that the processor sleeps, or that a command isn't completed, where that is so.
+fn put_end<O: Sink>(board: &Board, completed: bool, out: &mut O) -> Result<(), Failed>
+    ensures { StreamAnswers (ended_lines board.now.machine completed []) (O.meaning out.old) (O.meaning out.new) result }
+{
+    match ending(board) {
+        ProgramEnd::Idle(address) => put_idle(address, out),
+        ProgramEnd::AtLimit if completed => Ok(()),
+        ProgramEnd::AtLimit => out.put(b"end\n"),
+    }
+}
+
+/// Makes so many moves and puts their lines.
+fn put_steps<O: Sink>(
+    board: &mut Board,
+    count: u32,
+    limit: u64,
+    out: &mut O,
+) -> Result<(), Failed>
+    requires boundary { board.old.phase ≡ Phase.Boundary }
+    requires limit { limit ≤ MOST_CYCLE }
+    requires within { board.old.machine.cycle ≤ limit }
+    ensures { let s = board.old in OneAnswers limit (ran_lines s.rom s.script limit (Running.Step count)) (comes_to s.rom s.script limit (Running.Step count)) s board.new (O.meaning out.old) (O.meaning out.new) result }
+{
+    let made = trace_moves(board, u64::from(count), limit, out)?;
+    put_end(board, made == u64::from(count), out)
+}
+
+/// Runs a board as a command says other than by steps, and puts what it writes.
+fn put_going<O: Sink>(
+    board: &mut Board,
+    running: Running,
+    limit: u64,
+    out: &mut O,
+) -> Result<(), Failed>
+    requires boundary { board.old.phase ≡ Phase.Boundary }
+    requires limit { limit ≤ MOST_CYCLE }
+    requires within { board.old.machine.cycle ≤ limit }
+    ensures { let s = board.old in OneAnswers limit (gone_lines s.rom s.script limit running) (comes_to s.rom s.script limit running) s board.new (O.meaning out.old) (O.meaning out.new) result }
+{
+    let mut change = Change::new();
+    let completed = run_program(board, running, limit, &mut change);
+    match ending(board) {
+        ProgramEnd::Idle(address) => put_idle(address, out),
+        ProgramEnd::AtLimit if completed => put_completed(board, running, &change, out),
+        ProgramEnd::AtLimit => out.put(b"end\n"),
+    }
+}
+
+/// Runs a board as a command says, and puts what it writes.
+fn put_running<O: Sink>(
+    board: &mut Board,
+    running: Running,
+    limit: u64,
+    out: &mut O,
+) -> Result<(), Failed>
+    requires boundary { board.old.phase ≡ Phase.Boundary }
+    requires limit { limit ≤ MOST_CYCLE }
+    requires within { board.old.machine.cycle ≤ limit }
+    ensures { let s = board.old in OneAnswers limit (ran_lines s.rom s.script limit running) (comes_to s.rom s.script limit running) s board.new (O.meaning out.old) (O.meaning out.new) result }
+{
+    match running {
+        Running::Step(count) => put_steps(board, count, limit, out),
+        _ => put_going(board, running, limit, out),
+    }
+}
+
+/// Runs one command. One that speaks of the language does nothing.
+fn run_command<O: Sink>(
+    board: &mut Board,
+    command: Command,
+    limit: u64,
+    out: &mut O,
+) -> Result<(), Failed>
+    requires boundary { board.old.phase ≡ Phase.Boundary }
+    requires limit { limit ≤ MOST_CYCLE }
+    requires within { board.old.machine.cycle ≤ limit }
+    ensures { let s = board.old in OneAnswers limit (program_pieces s.rom s.script limit command) (machine_after s.rom s.script limit command) s board.new (O.meaning out.old) (O.meaning out.new) result }
+{
+    match command {
+        Command::Runs(running) => put_running(board, running, limit, out),
+        Command::Shows(showing) => put_showing(board, showing, out),
+        Command::Seeks(_) | Command::Tells(_) => Ok(()),
+    }
+}
+
+/// Runs commands on a board that runs any program, and puts their answers, each line as one piece. Answers whether the processor sleeps where
+/// they leave the board, and behind which IDL. The board is at a boundary, before and after.
+///
+/// No move ends after the limit, and none is made from where the processor idles with the display off. A put that fails ends the run. No memory
+/// is taken.
+pub fn run_program_commands<O: Sink>(
+    board: &mut Board,
+    commands: &Commands,
+    limit: u64,
+    out: &mut O,
+) -> Result<ProgramEnd, Failed>
+    requires boundary { board.old.phase ≡ Phase.Boundary }
+    requires limit { limit ≤ MOST_CYCLE }
+    requires within { board.old.machine.cycle ≤ limit }
+    ensures { ProgramAnswers limit commands.now board.old board.new (O.meaning out.old) (O.meaning out.new) result }
+{
+    for command in commands.as_slice() {
+        run_command(board, *command, limit, out)?;
+    }
+    Ok(ending(board))
+}

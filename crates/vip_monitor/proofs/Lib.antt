@@ -1,0 +1,5 @@
+pub mod Runs
+pub mod Moving
+pub mod Lines
+pub mod Disassembling
+pub mod Folding

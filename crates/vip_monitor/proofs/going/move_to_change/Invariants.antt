@@ -1,0 +1,17 @@
+use Rattle.std.proofs.Common.{◌≡◌, ◌-◌}
+use Rattle.vip_monitor.specs.Run.{run_from}
+use Rattle.vip_monitor.specs.Shown.{stretch, has_changed}
+use Rattle.vip_monitor.specs.Commands.{bytes_at}
+use Rattle.vip_monitor.proofs.Moving.{Seeking}
+use Rattle.vip_monitor.proofs.going.move_to_change.Given as goal
+
+abbrev pub invariant-loop-target : goal.invariant-loop-target
+invariant-loop-target g l =
+    let r = run_from (g.T.Target.ends l.fn.target) (g.T.Target.seen l.fn.target) in
+    record {
+      seeking : Seeking g.T.Target.seen g.T.Target.ends g.T.Target.leads l.limit (λ k. has_changed l.address l.count (bytes_at r 0) (bytes_at r k)) l.fn.target l.target;
+      before : l.change.before.items ≡ stretch (bytes_at r 0) l.address l.count;
+    }
+
+abbrev pub decreases-loop-target : goal.decreases-loop-target
+decreases-loop-target g l = l.limit - (g.T.Target.seen l.target).machine.cycle
