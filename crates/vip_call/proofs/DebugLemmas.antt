@@ -20,7 +20,8 @@ use Rattle.vip_text.specs.Endings.Ending.{AtLimit, AtStop}
 use Rattle.vip_show.specs.Endings.{ending_after}
 use Rattle.vip_commands.specs.declared.commands.Command.{Command}
 use Rattle.vip_debug.specs.Answers.{stop_by, place_after, at_start}
-use Rattle.vip_debug.proofs.Places.{Reached}
+use Rattle.vip_monitor.proofs.Runs.{Reached}
+use Rattle.vip_debug.specs.Game.{run_at}
 use Rattle.vip_debug.proofs.Reaching.{commands_reach}
 use Rattle.vip_verbs.specs.Outcome.{run_ending, stopped_by, debug_ending}
 
@@ -53,7 +54,7 @@ module _ (e : Edition) where
     at_state n = after_moves i.rom (held_at script) (start game) n
 
     -- the n-th state is the first stop point, so its stop is the run's
-    pub stop_is : (n : ℕ) → Reached i game script limit n → is_stop i (at_state n) ≡ true → stopped_by (stop_by v n) ≡ run_ending e game limit script
+    pub stop_is : (n : ℕ) → Reached (run_at v 0) limit n → is_stop i (at_state n) ≡ true → stopped_by (stop_by v n) ≡ run_ending e game limit script
     stop_is n r stop =
         ap (λ es. stop_behind (last_dispatch es) (at_state n)) (events (at_state n).cycle (omega arith))
         ∙ ap (λ last. stop_behind last (at_state n)) (sym (last_of_events (here ++ Stopped (at_state n) ∷ [])) ∙ last_after_stop None here (at_state n))
