@@ -25,45 +25,27 @@ use Rattle.vip_outside.specs.Files.{FilesMeaning}
 use Rattle.vip_words.specs.Asked.{Asked, trace, play, debug, save, resume, demo, link, trace_program, play_program, debug_program, asm, list, dis, source as interpreter, bounds, within, safe, certify}
 use Rattle.vip_tools.specs.Demo.{demo_game}
 use Rattle.vip_tools.specs.Files.{needed, HasAll}
-use Rattle.vip_call.specs.Language.{named, IsChip8, RunIsChip8, DebugsChip8, ShowsChip8}
+use Rattle.vip_call.specs.Language.{named, IsChip8, RunIsChip8, DebugsChip8, SavesChip8, ShowsChip8}
 use Rattle.vip_tools.specs.Outcome.{Outcome}
 use Rattle.vip_tools.specs.Outcome.Outcome.{Refused, Shown, GivenUp}
-use Rattle.vip_verbs.specs.Outcome.{Comes, RunComes, DebugComes, run_of, events_in, run_ending, debug_ending}
-use Rattle.vip_verbs.specs.Outcome.RunComes.{FaultyScript, FaultyRom, Runs}
+use Rattle.vip_verbs.specs.Outcome.{Comes, RunComes, DebugComes, SaveComes, run_of, events_in, run_ending, debug_ending}
+use Rattle.vip_verbs.specs.Outcome.RunTo.{FaultyScript, FaultyRom, Runs}
 use Rattle.vip_call.specs.Top.{Call, SpeaksChip8}
 use Rattle.vip_report.specs.declared.status.Status.{Status}
 use Rattle.vip_call.proofs.DebugLemmas.{debug_ends}
+use Rattle.vip_call.proofs.ResumedLemmas.{FromFile, OfResumed, goes_on, resumed_shows}
 use Rattle.vip_tools.proofs.DemoLemmas.{length-game, bytes-game}
 
 -- ---- the ending by the events of a run
 
 module _ (e : Edition) (script : List KeyEvent) (limit : ℕ) (run : List Machine) where
-  -- behind the dispatch point b, by these events
-  abbrev ending_behind : Machine → List Event → Ending
-  ending_behind b events = ending_after e (view_at e b).pc (view_at e b).opcode events
-
-  goes_on :
-      (k : ℕ) (b : Machine) (events : List Event) → GoesOn (program e) script limit run numbered k b events
-      → GoesOn (program e) script limit run (named e (ending_behind b events)) k b events
-  unfolding ending_after view_at
-  goes_on k b [] h = record { soon = h.soon; shown = h.shown; also_is = refl }
-  goes_on k b (Picture m ∷ events) h = (h.0, h.1, goes_on (k + 1) b events h.2)
-  goes_on k b (Dispatch c ∷ events) h = (h.0, h.1, goes_on k c events h.2)
-  goes_on k b (Stopped c ∷ events) h =
-      record {
-        comes = h.comes;
-        stop = h.stop;
-        also_is = ap (λ stop. AtStop stop (state_of e b).pc (opcode_at e (state_of e b))) h.also_is;
-        last = h.last;
-      }
-
   begins :
       (game : List ℕ) (events : List Event) → Begins (program e) script limit run numbered game events
       → Begins (program e) script limit run (named e (ending_of e events)) game events
   unfolding ending_after
   begins game [] h = (h.0, refl)
   begins game (Picture m ∷ events) h = absurd h
-  begins game (Dispatch b ∷ events) h = (h.0, h.1, h.2, goes_on 0 b events h.3)
+  begins game (Dispatch b ∷ events) h = (h.0, h.1, h.2, goes_on e script limit run 0 b events h.3)
   begins game (Stopped b ∷ events) h = absurd h
 
 module _ (law : EveryRun) where
@@ -128,37 +110,61 @@ module _ (law : EveryRun) where
     debug_read (Err (Fault line cause)) o comes = rw comes tt
     debug_read (Err NoMemory) o comes = absurd comes
 
-  shows :
-      (old : FilesMeaning) (asked : Asked) (contents pieces : List (List ℕ)) (status : Status) (report : List ℕ) → HasAll old (needed asked) contents
-      → Comes asked contents (Shown pieces status report) → ShowsChip8 asked contents status report
-  unfolding OfRun OfDebug
-  shows old (trace a) [] pieces status report read comes = tt
-  shows old (trace a) (game ∷ scripts) pieces status report read comes =
-      run_shows a.run.edition game read.0.fits read.0.bytes a.run.cycles scripts _ (Shown pieces status report) comes
-  shows old (play a) [] pieces status report read comes = tt
-  shows old (play a) (game ∷ scripts) pieces status report read comes =
-      run_shows a.edition game read.0.fits read.0.bytes a.cycles scripts _ (Shown pieces status report) comes
-  shows old (debug a) [] pieces status report read comes = tt
-  shows old (debug a) (game ∷ []) pieces status report read comes = tt
-  shows old (debug a) (game ∷ text ∷ scripts) pieces status report read comes =
-      debug_read a.run.edition game read.0.fits read.0.bytes a.run.cycles scripts (commands_of Chip8 a.run.cycles text) (Shown pieces status report) comes
-  shows old (demo a) [] pieces status report read comes =
-      run_shows Usual (demo_game a.number) (omega (arith, length-game a.number)) (bytes-game a.number) a.cycles [] _ (Shown pieces status report) comes
-  shows old (demo a) (c ∷ cs) pieces status report read comes = absurd comes
-  shows old (asm name) contents pieces status report read comes = tt
-  shows old (list name) contents pieces status report read comes = tt
-  shows old (dis a) contents pieces status report read comes = tt
-  shows old (save a) contents pieces status report read comes = tt
-  shows old (resume a) contents pieces status report read comes = tt
-  shows old (link a) contents pieces status report read comes = tt
-  shows old (trace_program a) contents pieces status report read comes = tt
-  shows old (play_program a) contents pieces status report read comes = tt
-  shows old (debug_program a) contents pieces status report read comes = tt
-  shows old (interpreter e) contents pieces status report read comes = tt
-  shows old bounds contents pieces status report read comes = tt
-  shows old (within a) contents pieces status report read comes = tt
-  shows old (safe a) contents pieces status report read comes = tt
-  shows old (certify a) contents pieces status report read comes = tt
+  -- a run that is saved
+  OfSaved : Edition → List ℕ → List (List ℕ) → ℕ → Outcome → Type 0
+  OfSaved e game scripts limit (Refused status report) = Unit {0}
+  OfSaved e game scripts limit (GivenUp report) = Unit {0}
+  OfSaved e game scripts limit (Shown pieces status report) = SavesChip8 e game scripts limit status report
 
-  pub speaks_chip8 : (call : Call) → SpeaksChip8 call
-  speaks_chip8 call asked contents pieces status report asks comes = shows call.files asked contents pieces status report asks.read comes
+  save_shows :
+      (e : Edition) (game : List ℕ) (fits : length game ≤ memory_size e) (bytes : (i : ℕ) → slice_index game i < 256) (limit : ℕ)
+      (scripts : List (List ℕ)) (o : Outcome) → SaveComes e game limit scripts o → OfSaved e game scripts limit o
+  unfolding OfSaved
+  save_shows e game fits bytes limit scripts _ (FaultyScript line cause is) = tt
+  save_shows e game fits bytes limit scripts _ (FaultyRom script fault is fault_is rom) = tt
+  save_shows e game fits bytes limit scripts _ (Runs script is rom) = record {
+    script = script;
+    reads = is;
+    run = is_chip8 e game script limit fits bytes;
+    status_is = refl;
+    report_is = refl;
+  }
+
+  shows :
+      (from : FromFile) (old : FilesMeaning) (asked : Asked) (contents pieces : List (List ℕ)) (status : Status) (report : List ℕ) → HasAll old (needed asked) contents
+      → Comes asked contents (Shown pieces status report) → ShowsChip8 asked contents status report
+  unfolding OfRun OfDebug OfSaved OfResumed
+  shows from old (trace a) [] pieces status report read comes = tt
+  shows from old (trace a) (game ∷ scripts) pieces status report read comes =
+      run_shows a.run.edition game read.0.fits read.0.bytes a.run.cycles scripts _ (Shown pieces status report) comes
+  shows from old (play a) [] pieces status report read comes = tt
+  shows from old (play a) (game ∷ scripts) pieces status report read comes =
+      run_shows a.edition game read.0.fits read.0.bytes a.cycles scripts _ (Shown pieces status report) comes
+  shows from old (debug a) [] pieces status report read comes = tt
+  shows from old (debug a) (game ∷ []) pieces status report read comes = tt
+  shows from old (debug a) (game ∷ text ∷ scripts) pieces status report read comes =
+      debug_read a.run.edition game read.0.fits read.0.bytes a.run.cycles scripts (commands_of Chip8 a.run.cycles text) (Shown pieces status report) comes
+  shows from old (demo a) [] pieces status report read comes =
+      run_shows Usual (demo_game a.number) (omega (arith, length-game a.number)) (bytes-game a.number) a.cycles [] _ (Shown pieces status report) comes
+  shows from old (demo a) (c ∷ cs) pieces status report read comes = absurd comes
+  shows from old (asm name) contents pieces status report read comes = tt
+  shows from old (list name) contents pieces status report read comes = tt
+  shows from old (dis a) contents pieces status report read comes = tt
+  shows from old (save a) [] pieces status report read comes = tt
+  shows from old (save a) (game ∷ scripts) pieces status report read comes =
+      save_shows a.edition game read.0.fits read.0.bytes a.cycles scripts (Shown pieces status report) comes
+  shows from old (resume a) [] pieces status report read comes = tt
+  shows from old (resume a) (file ∷ scripts) pieces status report read comes =
+      resumed_shows from a file scripts read.0.bytes (Shown pieces status report) comes
+  shows from old (link a) contents pieces status report read comes = tt
+  shows from old (trace_program a) contents pieces status report read comes = tt
+  shows from old (play_program a) contents pieces status report read comes = tt
+  shows from old (debug_program a) contents pieces status report read comes = tt
+  shows from old (interpreter e) contents pieces status report read comes = tt
+  shows from old bounds contents pieces status report read comes = tt
+  shows from old (within a) contents pieces status report read comes = tt
+  shows from old (safe a) contents pieces status report read comes = tt
+  shows from old (certify a) contents pieces status report read comes = tt
+
+  pub speaks_chip8 : FromFile → (call : Call) → SpeaksChip8 call
+  speaks_chip8 from call asked contents pieces status report asks comes = shows from call.files asked contents pieces status report asks.read comes

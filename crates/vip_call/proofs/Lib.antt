@@ -3,5 +3,8 @@ mod LanguageLemmas
 mod TranscriptLemmas
 mod DebuggedLemmas
 mod TranscribedLemmas
+mod StateLemmas
 mod TopLemmas
+mod SavedLemmas
+mod ResumedLemmas
 mod CertifiedLemmas

@@ -22,7 +22,9 @@ use Rattle.vip_outside.specs.Sink.{SinkMeaning}
 use Rattle.vip_outside.specs.declared.sink.Failed.{Failed}
 use Rattle.vip_relation.specs.Interpreters.{interpreter_of}
 use Rattle.vip_text.specs.Endings.{Ending}
-use Rattle.vip_words.specs.Asked.{Asked, trace, play, debug, save, resume, demo, link, trace_program, play_program, debug_program, asm, list, dis, source as interpreter, bounds, within, safe, certify, asked_by}
+use Rattle.vip_verbs.proofs.WorkLemmas.{one_edition}
+use Rattle.vip_call.proofs.StateLemmas.{accepted_or_not}
+use Rattle.vip_words.specs.Asked.{Asked, AskedResume, trace, play, debug, save, resume, demo, link, trace_program, play_program, debug_program, asm, list, dis, source as interpreter, bounds, within, safe, certify, asked_by}
 use Rattle.vip_tools.specs.Certificates.{CertifyComes, CyclesComes, SafeComes}
 use Rattle.vip_tools.specs.Certificates.CertifyComes.{Finds, FindsNone}
 use Rattle.vip_tools.specs.Certificates.CyclesComes.{NotAssembled, FaultyCertificate, Leaves}
@@ -33,8 +35,9 @@ use Rattle.vip_tools.specs.Outcome.{Outcome, SourceComes}
 use Rattle.vip_tools.specs.Outcome.Outcome.{Refused, Shown, GivenUp}
 use Rattle.vip_tools.specs.Outcome.SourceComes.{FaultySource, Assembles}
 use Rattle.vip_tools.specs.Outcome.{rom_text}
-use Rattle.vip_verbs.specs.Outcome.{Comes, RunComes, DebugComes, RomIs, IsFault}
-use Rattle.vip_verbs.specs.Outcome.RunComes.{FaultyScript, FaultyRom, Runs}
+use Rattle.vip_verbs.specs.Outcome.{Comes, RunTo, DebugComes, ResumeComes, RomIs, IsFault, resumed}
+use Rattle.vip_verbs.specs.Outcome.RunTo.{FaultyScript, FaultyRom, Runs}
+use Rattle.vip_verbs.specs.Outcome.ResumeComes.{FaultyState, Resumes}
 use Rattle.vip_verbs.specs.Prepared.{OfFiles, output_of}
 use Rattle.vip_verbs.specs.declared.prepared.Prepared.{Prepared}
 use Rattle.vip_text.specs.declared.ending.RunEnd.TheVariants as end
@@ -78,7 +81,7 @@ rom_is_one d e f is_e is_f a b =
       | inr (inr none) ↦ absurd (not_memory f is_f (cc))
     ]
 
-rom_is_fine_or_not : (d : Edition) (f : ImageFault) → IsFault f → RomIs d (Ok tt) → RomIs d (Err f) → ⊥
+pub rom_is_fine_or_not : (d : Edition) (f : ImageFault) → IsFault f → RomIs d (Ok tt) → RomIs d (Err f) → ⊥
 rom_is_fine_or_not d f is a b =
     elim (answers_agree (source_lines (rom_text d)) (interpreter_of d).rom (Ok tt) (Err f) a b) [
       | inl same ↦ cc
@@ -86,18 +89,35 @@ rom_is_fine_or_not d f is a b =
       | inr (inr none) ↦ not_memory f is (cc)
     ]
 
--- the runs of one game come to one outcome
-module _ (d : Edition) (limit : ℕ) (scripts : List (List ℕ)) (pieces : List KeyEvent → List (List ℕ)) (ending : List KeyEvent → Ending) where
-  runs_agree : (o p : Outcome) → RunComes d limit scripts pieces ending o → RunComes d limit scripts pieces ending p → Agree o p
+-- an outcome agrees with itself
+agree_self : (o : Outcome) → Agree o o
+agree_self (Refused a r) = refl
+agree_self (Shown p a r) = refl
+agree_self (GivenUp r) = tt
+
+-- the runs of one game or file come to one outcome
+module _ (d : Edition) (scripts : List (List ℕ)) (outcome : List KeyEvent → Outcome) where
+  runs_agree : (o p : Outcome) → RunTo d scripts outcome o → RunTo d scripts outcome p → Agree o p
   runs_agree _ _ (FaultyScript l c a) (FaultyScript m k b) = refl
-  runs_agree _ _ (FaultyScript l c a) (FaultyRom t f b is rom) = cc
-  runs_agree _ _ (FaultyScript l c a) (Runs t b rom) = cc
-  runs_agree _ _ (FaultyRom s e a is rom) (FaultyScript m k b) = cc
+  runs_agree _ _ (FaultyScript l c a) (FaultyRom t f b is rom) = absurd (cc)
+  runs_agree _ _ (FaultyScript l c a) (Runs t b rom) = absurd (cc)
+  runs_agree _ _ (FaultyRom s e a is rom) (FaultyScript m k b) = absurd (cc)
   runs_agree _ _ (FaultyRom s e a is rom) (FaultyRom t f b is' rom') = rom_is_one d e f is is' rom rom'
-  runs_agree _ _ (FaultyRom s e a is rom) (Runs t b rom') = rom_is_fine_or_not d e is rom' rom
-  runs_agree _ _ (Runs s a rom) (FaultyScript m k b) = cc
-  runs_agree _ _ (Runs s a rom) (FaultyRom t f b is rom') = rom_is_fine_or_not d f is rom rom'
-  runs_agree _ _ (Runs s a rom) (Runs t b rom') = let same : s ≡ t = cc in cc
+  runs_agree _ _ (FaultyRom s e a is rom) (Runs t b rom') = absurd (rom_is_fine_or_not d e is rom' rom)
+  runs_agree _ _ (Runs s a rom) (FaultyScript m k b) = absurd (cc)
+  runs_agree _ _ (Runs s a rom) (FaultyRom t f b is rom') = absurd (rom_is_fine_or_not d f is rom rom')
+  runs_agree _ _ (Runs s a rom) (Runs t b rom') = let same : s ≡ t = cc in subst (λ t. Agree (outcome s) (outcome t)) same (agree_self (outcome s))
+
+-- a file has one edition and one first fault
+resumes_agree : (a : AskedResume) (file : List ℕ) (scripts : List (List ℕ)) (o p : Outcome) → ResumeComes a file scripts o → ResumeComes a file scripts p → Agree o p
+resumes_agree a file scripts _ _ (FaultyState f x) (FaultyState g y) = refl
+resumes_agree a file scripts _ p (FaultyState f x) (Resumes e p y run) = absurd (accepted_or_not e file f y x)
+resumes_agree a file scripts o _ (Resumes d o x run) (FaultyState g y) = absurd (accepted_or_not d file g x y)
+resumes_agree a file scripts o p (Resumes d o x run) (Resumes e p y run') =
+    runs_agree d scripts _ o p run (subst (λ e. RunTo e scripts (resumed_outcome e) p) (one_edition e d file y x) run')
+  where
+    resumed_outcome : Edition → List KeyEvent → Outcome
+    resumed_outcome e script = resumed a e file script
 
 no_fault : (f : ℕ → Option AsmCause) (n i : ℕ) (c : AsmCause) → NoFault f n → IsFirstFault f n i c → ⊥
 no_fault f n i c none first = let here = none i first.inside in let there = first.here in cc
@@ -120,7 +140,7 @@ alone_agree q o p same a b = rw (a, b) same
 debugs_agree :
     (d : Edition) (game : List ℕ) (limit : ℕ) (scripts : List (List ℕ)) (read : Result (List Command) CommandFault) (o p : Outcome)
     → DebugComes d game limit scripts read o → DebugComes d game limit scripts read p → Agree o p
-debugs_agree d game limit scripts (Ok commands) o p x y = runs_agree d limit scripts _ _ o p x y
+debugs_agree d game limit scripts (Ok commands) o p x y = runs_agree d scripts _ o p x y
 debugs_agree d game limit scripts (Err (debug_fault.Fault line cause)) o p x y = alone_agree _ o p refl x y
 debugs_agree d game limit scripts (Err debug_fault.NoMemory) o p x y = absurd x
 
@@ -148,19 +168,32 @@ searches_agree e g _ p (FindsNone obstacle) y = tt
 
 -- what isn't a search isn't given up
 no_run :
-    (d : Edition) (limit : ℕ) (scripts : List (List ℕ)) (pieces : List KeyEvent → List (List ℕ)) (ending : List KeyEvent → Ending) (report : List ℕ)
-    → RunComes d limit scripts pieces ending (GivenUp report) → ⊥
-no_run d limit scripts pieces ending report x = go (GivenUp report) refl x
+    (d : Edition) (scripts : List (List ℕ)) (outcome : List KeyEvent → Outcome) (report : List ℕ)
+    → ((script : List KeyEvent) → outcome script ≡ GivenUp report → ⊥)
+    → RunTo d scripts outcome (GivenUp report) → ⊥
+no_run d scripts outcome report never x = go (GivenUp report) refl x
   where
-    go : (o : Outcome) → o ≡ GivenUp report → RunComes d limit scripts pieces ending o → ⊥
+    go : (o : Outcome) → o ≡ GivenUp report → RunTo d scripts outcome o → ⊥
     go _ e (FaultyScript l c a) = cc
     go _ e (FaultyRom t f b is rom) = cc
-    go _ e (Runs t b rom) = cc
+    go _ e (Runs t b rom) = never t e
+
+-- output isn't given up
+not_shown : (pieces : List (List ℕ)) (status : Status) (report r : List ℕ) → Shown pieces status report ≡ GivenUp r → ⊥
+not_shown pieces status report r h = cc
+
+no_resume : (a : AskedResume) (file : List ℕ) (scripts : List (List ℕ)) (report : List ℕ) → ResumeComes a file scripts (GivenUp report) → ⊥
+no_resume a file scripts report x = go (GivenUp report) refl x
+  where
+    go : (o : Outcome) → o ≡ GivenUp report → ResumeComes a file scripts o → ⊥
+    go _ e (FaultyState f y) = cc
+    go o e (Resumes d o y run) =
+        no_run d scripts _ report (λ script h. not_shown _ _ _ report h) (subst (λ o. RunTo d scripts (λ script. resumed a d file script) o) e run)
 
 no_debug :
     (d : Edition) (g : List ℕ) (limit : ℕ) (scripts : List (List ℕ)) (read : Result (List Command) CommandFault) (report : List ℕ)
     → DebugComes d g limit scripts read (GivenUp report) → ⊥
-no_debug d g limit scripts (Ok commands) report x = no_run d limit scripts _ _ report x
+no_debug d g limit scripts (Ok commands) report x = no_run d scripts _ report (λ script h. not_shown _ _ _ report h) x
 no_debug d g limit scripts (Err (debug_fault.Fault line cause)) report x = cc
 no_debug d g limit scripts (Err debug_fault.NoMemory) report x = x
 
@@ -189,13 +222,13 @@ no_proof d g text report x = go (GivenUp report) refl x
 -- a command comes to one outcome by the contents of its files
 agree : (asked : Asked) (contents : List (List ℕ)) (o p : Outcome) → Comes asked contents o → Comes asked contents p → Agree o p
 agree (trace a) [] o p x y = absurd x
-agree (trace a) (game ∷ scripts) o p x y = runs_agree a.run.edition a.run.cycles scripts _ _ o p x y
+agree (trace a) (game ∷ scripts) o p x y = runs_agree a.run.edition scripts _ o p x y
 agree (play a) [] o p x y = absurd x
-agree (play a) (game ∷ scripts) o p x y = runs_agree a.edition a.cycles scripts _ _ o p x y
+agree (play a) (game ∷ scripts) o p x y = runs_agree a.edition scripts _ o p x y
 agree (debug a) [] o p x y = absurd x
 agree (debug a) (game ∷ []) o p x y = absurd x
 agree (debug a) (game ∷ text ∷ scripts) o p x y = debugs_agree a.run.edition game a.run.cycles scripts (commands_of Chip8 a.run.cycles text) o p x y
-agree (demo a) [] o p x y = runs_agree Usual a.cycles [] _ _ o p x y
+agree (demo a) [] o p x y = runs_agree Usual [] _ o p x y
 agree (demo a) (c ∷ cs) o p x y = absurd x
 agree (asm a) [] o p x y = absurd x
 agree (asm a) (source ∷ []) o p x y = sources_agree source _ o p x y
@@ -206,8 +239,10 @@ agree (list name) (source ∷ c ∷ cs) o p x y = absurd x
 agree (dis a) [] o p x y = absurd x
 agree (dis a) (bytes ∷ []) o p x y = alone_agree _ o p refl x y
 agree (dis a) (bytes ∷ c ∷ cs) o p x y = absurd x
-agree (save a) cs o p x y = absurd x
-agree (resume a) cs o p x y = absurd x
+agree (save a) [] o p x y = absurd x
+agree (save a) (game ∷ scripts) o p x y = runs_agree a.edition scripts _ o p x y
+agree (resume a) [] o p x y = absurd x
+agree (resume a) (file ∷ scripts) o p x y = resumes_agree a file scripts o p x y
 agree (link a) cs o p x y = absurd x
 agree (trace_program a) cs o p x y = absurd x
 agree (play_program a) cs o p x y = absurd x
@@ -231,13 +266,13 @@ agree (certify a) (game ∷ c ∷ cs) o p x y = absurd x
 -- only a search is given up
 given_up : (asked : Asked) (contents : List (List ℕ)) (report : List ℕ) → Comes asked contents (GivenUp report) → IsSearch asked
 given_up (trace a) [] report x = absurd x
-given_up (trace a) (game ∷ scripts) report x = no_run a.run.edition a.run.cycles scripts _ _ report x
+given_up (trace a) (game ∷ scripts) report x = no_run a.run.edition scripts _ report (λ script h. not_shown _ _ _ report h) x
 given_up (play a) [] report x = absurd x
-given_up (play a) (game ∷ scripts) report x = no_run a.edition a.cycles scripts _ _ report x
+given_up (play a) (game ∷ scripts) report x = no_run a.edition scripts _ report (λ script h. not_shown _ _ _ report h) x
 given_up (debug a) [] report x = absurd x
 given_up (debug a) (game ∷ []) report x = absurd x
 given_up (debug a) (game ∷ text ∷ scripts) report x = no_debug a.run.edition game a.run.cycles scripts (commands_of Chip8 a.run.cycles text) report x
-given_up (demo a) [] report x = no_run Usual a.cycles [] _ _ report x
+given_up (demo a) [] report x = no_run Usual [] _ report (λ script h. not_shown _ _ _ report h) x
 given_up (demo a) (c ∷ cs) report x = absurd x
 given_up (asm a) [] report x = absurd x
 given_up (asm a) (source ∷ []) report x = no_source source _ report x
@@ -248,8 +283,10 @@ given_up (list name) (source ∷ c ∷ cs) report x = absurd x
 given_up (dis a) [] report x = absurd x
 given_up (dis a) (bytes ∷ []) report x = absurd (cc)
 given_up (dis a) (bytes ∷ c ∷ cs) report x = absurd x
-given_up (save a) cs report x = absurd x
-given_up (resume a) cs report x = absurd x
+given_up (save a) [] report x = absurd x
+given_up (save a) (game ∷ scripts) report x = no_run a.edition scripts _ report (λ script h. not_shown _ _ _ report h) x
+given_up (resume a) [] report x = absurd x
+given_up (resume a) (file ∷ scripts) report x = absurd (no_resume a file scripts report x)
 given_up (link a) cs report x = absurd x
 given_up (trace_program a) cs report x = absurd x
 given_up (play_program a) cs report x = absurd x

@@ -1,19 +1,25 @@
 -- What a verb writes and reports of a game's run is that of a transcript of CHIP-8.
-use Rattle.std.proofs.Common.{◌≡◌, ℕ, ◌<◌, ◌≤◌, List, [], ◌∷◌, length, Result, Ok, Err, slice_index, refl, arith}
-use Rattle.machine.specs.Keys.{Event as KeyEvent}
+use Rattle.std.proofs.Common.{◌≡◌, ℕ, ◌<◌, ◌≤◌, Bool, List, [], ◌∷◌, ◌++◌, length, map, Result, Ok, Err, slice_index, refl, sym, ap, subst, ◌∙◌, arith}
+use Rattle.machine.specs.Board.{Machine}
+use Rattle.machine.specs.Keys.{Event as KeyEvent, held_at}
 use Rattle.machine.specs.Pictures.{windows_ended}
+use Rattle.machine.specs.Run.{run_to}
 use Rattle.chip8_lang.specs.declared.view.Edition.{Edition}
 use Rattle.chip8_lang.specs.declared.view.Edition.TheVariants.{Usual}
 use Rattle.chip8_lang.specs.Events.{Event}
+use Rattle.chip8_lang.specs.Events.Event.{Picture, Dispatch, Stopped}
+use Rattle.chip8_lang.specs.Places.{state_of}
 use Rattle.chip8_lang.specs.State.{memory_size}
-use Rattle.rom_law.specs.Language.{end_cycle}
+use Rattle.rom_law.specs.Language.{end_cycle, events_behind}
 use Rattle.vip_language.specs.Laws.{EveryRun}
 use Rattle.vip_relation.specs.Interpreters.{interpreter_of}
 use Rattle.vip_relation.specs.State.{started}
 use Rattle.vip_text.specs.Endings.{Ending}
-use Rattle.vip_show.specs.Output.{picture_pieces, summary}
+use Rattle.vip_show.specs.Output.{picture_pieces, summary, trace_lines, trace_piece}
+use Rattle.vip_state.specs.File.{bank_in, shown, IsAccepted}
+use Rattle.vip_state.specs.Points.{points_of as points_among}
 use Rattle.vip_outside.specs.Files.{FilesMeaning}
-use Rattle.vip_words.specs.Asked.{Asked, trace, play, debug, demo, save, resume, link, trace_program, play_program, debug_program, asm, list, dis, source, bounds, within, safe, certify}
+use Rattle.vip_words.specs.Asked.{Asked, AskedResume, trace, play, debug, demo, save, resume, link, trace_program, play_program, debug_program, asm, list, dis, source, bounds, within, safe, certify}
 use Rattle.vip_commands.specs.Grammar.{commands_of}
 use Rattle.vip_commands.specs.declared.commands.Command.{Command}
 use Rattle.vip_commands.specs.declared.commands.CommandFault.{CommandFault}
@@ -26,18 +32,33 @@ use Rattle.vip_tools.specs.Files.{needed, HasAll}
 use Rattle.vip_tools.specs.Outcome.{Outcome}
 use Rattle.vip_tools.specs.Outcome.Outcome.{Refused, Shown, GivenUp}
 use Rattle.vip_tools.proofs.DemoLemmas.{length-game, bytes-game}
-use Rattle.vip_verbs.specs.Outcome.{Comes, RunComes, DebugComes, run_of, events_in, run_ending, debug_ending}
-use Rattle.vip_verbs.specs.Outcome.RunComes.{FaultyScript, FaultyRom, Runs}
+use Rattle.vip_verbs.specs.Outcome.{Comes, RunComes, RunTo, DebugComes, ResumeComes, ending_from, resumed, run_of, events_in, run_ending, debug_ending}
+use Rattle.vip_verbs.specs.Outcome.ResumeComes.{FaultyState, Resumes}
+use Rattle.vip_verbs.specs.Outcome.RunTo.{FaultyScript, FaultyRom, Runs}
 use Rattle.vip_debug.specs.Answers.{at_start, written}
 use Rattle.vip_call.specs.Language.{IsChip8}
-use Rattle.vip_call.specs.Transcript.{Point, AllAnswered, ArePictures, Debugged, IsEnd, IsEndOrEarlier, OfGame, Transcribed, Transcribes, summed, traced}
+use Rattle.vip_call.specs.Transcript.{Point, AllAnswered, ArePictures, Debugged, FromFile, GoesOn, IsEnd, IsEndOrEarlier, OfFile, OfGame, Transcribed, Transcribes, file_point, line, summed, traced}
 use Rattle.vip_call.specs.Top.{Call, Says, Shows, Writes, TellsChip8}
 use Rattle.vip_call.proofs.DebugLemmas.{debug_ends}
 use Rattle.vip_call.proofs.DebuggedLemmas.{debugged}
 use Rattle.vip_call.proofs.LanguageLemmas.{is_chip8}
-use Rattle.vip_call.proofs.TranscriptLemmas.{are_pictures, begins, points_of, summed_is, traced_is}
+use Rattle.vip_call.proofs.ResumedLemmas.{FromFile as FromAccepted, is_run_behind, points_behind_are}
+use Rattle.vip_call.proofs.TranscriptLemmas.{are_pictures, begins, goes_on, lines_are, point_of, points_of, summed_is, traced_is}
 
-module _ (law : EveryRun) where
+-- what is written of events is that of their points
+lines_of_points : (e : Edition) (with_time : Bool) (es : List Event) → trace_lines e with_time (points_among es) ≡ trace_lines e with_time es
+unfolding trace_lines
+lines_of_points e with_time [] = refl
+lines_of_points e with_time (Picture m ∷ es) = lines_of_points e with_time es
+lines_of_points e with_time (Dispatch b ∷ es) = ap (λ lines. trace_piece e with_time (Dispatch b) ++ lines) (lines_of_points e with_time es)
+lines_of_points e with_time (Stopped b ∷ es) = lines_of_points e with_time es
+
+-- the point of a file is that of the machine state that it shows
+file_point_is : (e : Edition) (f : List ℕ) → point_of e (shown f) ≡ file_point e f
+unfolding state_of bank_in
+file_point_is e f = refl
+
+module _ (law : EveryRun) (from : FromAccepted) where
   -- a run that comes to output
   OfRun : Edition → List ℕ → List (List ℕ) → ℕ → (List (List ℕ) → List Point → Ending → ℕ → Type 0) → (Ending → Ending → Type 0) → Outcome → Type 0
   OfRun e game scripts limit Written Reported (Refused status report) = Unit {0}
@@ -106,6 +127,55 @@ module _ (law : EveryRun) where
       summed_is Usual number (windows_ended (end_cycle limit events)) (interpreter_of Usual).rom (run_of Usual game script limit) events
       (pictures_are Usual game fits bytes limit [] script).count
 
+  -- a run that goes on from a file, and comes to output
+  OfResumed : AskedResume → List ℕ → List (List ℕ) → Outcome → Type 0
+  OfResumed a file scripts (Refused status report) = Unit {0}
+  OfResumed a file scripts (GivenUp report) = Unit {0}
+  OfResumed a file scripts (Shown pieces status report) =
+      FromFile file (λ e. Transcribed (OfFile e file a.cycles) scripts a.cycles (λ points ending over. pieces ≡ map (line e points a.with_time) points) IsEnd)
+      status report
+
+  resumed_run :
+      (a : AskedResume) (file : List ℕ) (scripts : List (List ℕ)) (bytes : (k : ℕ) → slice_index file k < 256) (e : Edition) (o : Outcome)
+      → IsAccepted e file → RunTo e scripts (resumed a e file) o → OfResumed a file scripts o
+  unfolding OfResumed
+  resumed_run a file scripts bytes e _ accepted (FaultyScript line cause is) = tt
+  resumed_run a file scripts bytes e _ accepted (FaultyRom script fault is fault_is rom) = tt
+  resumed_run a file scripts bytes e _ accepted (Runs script is rom) =
+      let events : List Event = events_behind (interpreter_of e) script (shown file) a.cycles in
+      let run : List Machine = run_to (interpreter_of e).rom (held_at script) (shown file) a.cycles in
+      record {
+        edition = e;
+        named = accepted.edition;
+        here = record {
+          script = script;
+          reads = is;
+          points = points_of e events;
+          ending = ending_from e file a.cycles script;
+          over = end_cycle a.cycles events;
+          transcript =
+              subst (λ p. GoesOn e script a.cycles p (points_of e events) (ending_from e file a.cycles script) (end_cycle a.cycles events))
+              (file_point_is e file)
+              (goes_on e script a.cycles run (ending_from e file a.cycles script) (windows_ended (shown file).cycle) (shown file) events
+              (is_run_behind from e file bytes accepted script a.cycles).events);
+          written =
+              ap (trace_lines e a.with_time) (sym (points_behind_are (interpreter_of e) script (shown file) a.cycles))
+              ∙ lines_of_points e a.with_time events
+              ∙ lines_are e a.with_time (points_of e events) events;
+          reported = ending_from e file a.cycles script;
+          end_is = refl;
+          status_is = refl;
+          report_is = refl;
+        };
+      }
+
+  resumed_transcribed :
+      (a : AskedResume) (file : List ℕ) (scripts : List (List ℕ)) (bytes : (k : ℕ) → slice_index file k < 256) (o : Outcome)
+      → ResumeComes a file scripts o → OfResumed a file scripts o
+  unfolding OfResumed
+  resumed_transcribed a file scripts bytes _ (FaultyState fault judged) = tt
+  resumed_transcribed a file scripts bytes o (Resumes e p accepted run) = resumed_run a file scripts bytes e o accepted run
+
   transcribes :
       (old : FilesMeaning) (asked : Asked) (contents pieces : List (List ℕ)) (status : Status) (report : List ℕ) → HasAll old (needed asked) contents
       → Comes asked contents (Shown pieces status report) → Transcribes asked contents pieces status report
@@ -135,7 +205,8 @@ module _ (law : EveryRun) where
       (Shown pieces status report) comes
   transcribes old (demo a) (c ∷ cs) pieces status report read comes = absurd comes
   transcribes old (save a) contents pieces status report read comes = tt
-  transcribes old (resume a) contents pieces status report read comes = tt
+  transcribes old (resume a) [] pieces status report read comes = tt
+  transcribes old (resume a) (file ∷ scripts) pieces status report read comes = resumed_transcribed a file scripts read.0.bytes (Shown pieces status report) comes
   transcribes old (link a) contents pieces status report read comes = tt
   transcribes old (trace_program a) contents pieces status report read comes = tt
   transcribes old (play_program a) contents pieces status report read comes = tt

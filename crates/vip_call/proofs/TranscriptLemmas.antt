@@ -153,7 +153,7 @@ module _ (e : Edition) (script : List KeyEvent) (limit : ℕ) (run : List Machin
 -- ---- the lines
 
 module _ (e : Edition) where
-  lines_are : (with_time : Bool) (ps : List Point) (events : List Event) → trace_lines e with_time events ≡ map (line e ps with_time) (points_of e events)
+  pub lines_are : (with_time : Bool) (ps : List Point) (events : List Event) → trace_lines e with_time events ≡ map (line e ps with_time) (points_of e events)
   unfolding trace_lines view_at
   lines_are with_time ps [] = refl
   lines_are with_time ps (Picture m ∷ events) = lines_are with_time ps events

@@ -2,4 +2,5 @@ pub mod Words
 pub mod Language
 pub mod Transcript
 pub mod Certified
+pub mod Saved
 pub mod Top

@@ -11,6 +11,7 @@ use Rattle.vip_report.specs.declared.status.Status.TheVariants.{Done, Stopped, U
 use Rattle.vip_tools.specs.Files.{Needed, needed, HasAll, ComesTo, IsLarger, IsUnread, ReadsSome, with_names}
 use Rattle.vip_call.specs.Certified.{Certifies}
 use Rattle.vip_call.specs.Language.{ShowsChip8}
+use Rattle.vip_call.specs.Saved.{Continues}
 use Rattle.vip_call.specs.Transcript.{Transcribes}
 use Rattle.vip_call.specs.Words.{OfWords}
 use Rattle.vip_verbs.specs.Outcome.{Comes}
@@ -278,11 +279,22 @@ ProvesCertified call =
     → Comes asked contents (Shown pieces status report)
     → Certifies asked contents pieces
 
+-- ---- what a state says that was saved
+
+-- Where the words and the contents come to the file of a saved state, whoever resumes it goes on with the run: under the same script, up to every later
+-- limit, it is the rest of the trace.
+abbrev pub ContinuesSaved : Call → Type 0
+ContinuesSaved call =
+    (asked : Asked) (contents pieces : List (List ℕ)) (status : Status) (report : List ℕ)
+    → Asks call asked contents
+    → Comes asked contents (Shown pieces status report)
+    → Continues asked contents pieces
+
 -- ---- the program
 
 -- What the program promises of each call. The body is held to `says`: what its answer tells of words, files, output and report. What follows for a
--- reader stands beside it. `words`, `due` and `complete` follow from `says` alone, and `chip8` by the law of every run too. `language` and `certified` are
--- laws of what the words and the contents come to, and hold of any body.
+-- reader stands beside it. `words`, `due` and `complete` follow from `says` alone, and `chip8` by the law of every run too. `language`, `certified` and
+-- `saved` are laws of what the words and the contents come to, and hold of any body.
 pub record Promises (status : Status) (call : Call) : Type 0 where
   -- what the answer says: exact output for Done and Stopped, each refusal's cause, and which files were read
   pub says : Says status call
@@ -293,6 +305,8 @@ pub record Promises (status : Status) (call : Call) : Type 0 where
   pub chip8 : TellsChip8 status call
   -- where a certificate is accepted or written, its routine leaves in time, or its game never stops
   pub certified : ProvesCertified call
+  -- what goes on from a saved state is the rest of the run
+  pub saved : ContinuesSaved call
   -- when each answer is due, and that there is no other
   pub words : RefusesWords status call
   pub due : GivesDue status call

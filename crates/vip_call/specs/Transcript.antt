@@ -1,5 +1,6 @@
 -- What is written of a game's run, as a transcript of CHIP-8: points of the language under a key script, and their texts. No machine is spoken of.
-use Rattle.std.specs.Prelude.{◌≡◌, ℕ, ◌+◌, ◌<◌, ◌≤◌, ◌⊎◌, nat_lt, Bool, true, false, if◌then◌else◌, List, [], ◌∷◌, ◌++◌, length, map, filter, slice_get, Option, Some, None, Result, Ok, Err, codes}
+use Rattle.std.specs.Prelude.{◌≡◌, ℕ, ◌+◌, ◌-◌, ◌*◌, ◌/◌, ◌==◌, drop, min, slice_index, slice_range, ◌<◌, ◌≤◌, ◌⊎◌, nat_lt, Bool, true, false, if◌then◌else◌, List, [], ◌∷◌, ◌++◌, length, map, filter, slice_get, Option, Some, None, Result, Ok, Err, codes}
+use Rattle.std.specs.Int.{w64, from_be_bytes}
 use Rattle.std.specs.List.{last_or, range_with_len}
 use Rattle.machine.specs.Keys.{Event}
 use Rattle.machine.specs.Pictures.{window_end, windows_ended}
@@ -8,7 +9,8 @@ use Rattle.chip8_lang.specs.declared.view.Edition.TheVariants.{Usual}
 use Rattle.chip8_lang.specs.declared.view.Stop.{Stop}
 use Rattle.chip8_lang.specs.Between.{Between, keys_between, ticks_between}
 use Rattle.chip8_lang.specs.Bounds.{IsInTime, boot_bound, bound_of}
-use Rattle.chip8_lang.specs.Editions.{rows_of}
+use Rattle.chip8_lang.specs.Editions.{memory_end, memory_start, random_cell, rows_of, screen_start, stack_top, variables}
+use Rattle.chip8_lang.specs.Places.{addresses, most_addresses, pixels}
 use Rattle.chip8_lang.specs.Screen.{empty}
 use Rattle.chip8_lang.specs.State.{Lang, first}
 use Rattle.chip8_lang.specs.Step.{stop_of}
@@ -22,7 +24,8 @@ use Rattle.vip_text.specs.Stops.{stop_line}
 use Rattle.vip_text.specs.Summaries.{summary_line}
 use Rattle.vip_text.specs.Traces.{trace_line}
 use Rattle.vip_show.specs.Output.{lit_in_rows}
-use Rattle.vip_words.specs.Asked.{Asked, trace, play, debug, demo}
+use Rattle.vip_state.specs.File.{bytes_at, edition_byte}
+use Rattle.vip_words.specs.Asked.{Asked, trace, play, debug, demo, resume}
 use Rattle.vip_commands.specs.Grammar.{commands_of}
 use Rattle.vip_commands.specs.declared.commands.Command.{Command}
 use Rattle.vip_commands.specs.declared.commands.Command.TheVariants.{Seeks, Tells}
@@ -185,11 +188,48 @@ pub record Transcribed (Run : List Event → List Point → Ending → ℕ → T
 abbrev pub OfGame : Edition → List ℕ → ℕ → List Event → List Point → Ending → ℕ → Type 0
 OfGame e game limit script = Begins e script limit game
 
+-- The point that a file of a machine state shows, by its bytes: the cycle is bytes 6 to 13, with the high byte first, and RAM begins at byte 51.
+abbrev pub two_bytes : List ℕ → ℕ → ℕ
+two_bytes f k = slice_index f k * 256 + slice_index f (k + 1)
+
+abbrev pub file_ram : List ℕ → List ℕ
+file_ram f = drop 51 f
+
+abbrev pub file_point : Edition → List ℕ → Point
+file_point e f =
+    record {
+      cycle = from_be_bytes w64 (bytes_at f 6 8);
+      state =
+          record {
+            v = slice_range (file_ram f) (variables e) (variables e + 16);
+            i = two_bytes f 34;
+            pc = two_bytes f 24;
+            stack = addresses (file_ram f) (stack_top e) (min most_addresses ((stack_top e - two_bytes f 18) / 2));
+            memory = slice_range (file_ram f) memory_start (memory_end e);
+            dt = slice_index f 30;
+            st = slice_index f 31;
+            tone = slice_index f 49 / 2 == 1;
+            n = two_bytes f 32;
+            b = slice_index (file_ram f) random_cell;
+            screen = pixels (rows_of e) (slice_range (file_ram f) (screen_start e) 0x1000);
+          };
+    }
+
+-- the run that goes on from a file, behind its point
+abbrev pub OfFile : Edition → List ℕ → ℕ → List Event → List Point → Ending → ℕ → Type 0
+OfFile e f limit script = GoesOn e script limit (file_point e f)
+
 abbrev pub IsEnd : Ending → Ending → Type 0
 IsEnd ending reported = reported ≡ ending
 
 abbrev pub IsEndOrEarlier : Ending → Ending → Type 0
 IsEndOrEarlier ending reported = (reported ≡ AtLimit) ⊎ (reported ≡ ending)
+
+-- byte 5 of a file names its edition, and this is written of the run that goes on from it
+pub record FromFile (f : List ℕ) (Here : Edition → Status → List ℕ → Type 0) (status : Status) (report : List ℕ) : Type 0 where
+  pub edition : Edition
+  pub named : slice_index f 5 ≡ edition_byte edition
+  pub here : Here edition status report
 
 -- what a verb with these contents of its files writes and reports, where it runs a game
 abbrev pub Transcribes : Asked → List (List ℕ) → List (List ℕ) → Status → List ℕ → Type 0
@@ -201,6 +241,8 @@ Transcribes (play a) (game ∷ scripts) pieces =
 Transcribes (debug a) (game ∷ commands ∷ scripts) pieces =
     Transcribed (OfGame a.run.edition game a.run.cycles) scripts a.run.cycles
     (λ points ending over. Debugged a.run.edition points ending (commands_of Chip8 a.run.cycles commands) pieces) IsEndOrEarlier
+Transcribes (resume a) (file ∷ scripts) pieces =
+    FromFile file (λ e. Transcribed (OfFile e file a.cycles) scripts a.cycles (λ points ending over. pieces ≡ map (line e points a.with_time) points) IsEnd)
 Transcribes (demo a) _ pieces =
     Transcribed (OfGame Usual (demo_game a.number) a.cycles) [] a.cycles
     (λ points ending over. pieces ≡ summed Usual points a.number (windows_ended over)) IsEnd

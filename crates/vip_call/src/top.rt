@@ -10,9 +10,10 @@ ghost use Rattle.vip_call.specs.Top.{call_of, Says, Promises};
 use cycle_check::laws::accepted_leaves;
 use game_check::laws::certified_games;
 use std::alloc::Global;
-use vip_language::laws::every_run;
+use vip_language::laws::{every_run, every_start};
 use vip_outside::{Failed, Files, Sink};
 use vip_report::{Ended, Refusal, Status, put_end, put_refusal, put_write_fault};
+use vip_state::laws::{file_may_start, saved_goes_on};
 use vip_verbs::Prepared;
 use vip_words::{Request, WordsFail, read_words};
 
@@ -115,6 +116,9 @@ pub fn vip_main<F: Files, O: Sink, E: Sink>(
     ensures promises { Promises result (call_of (map string_bytes words.now) (F.meaning files.old) (F.meaning files.new) (O.meaning out.old) (O.meaning out.new) (E.meaning err.old) (E.meaning err.new)) }
 {
     every_run();
+    every_start();
+    file_may_start();
+    saved_goes_on();
     accepted_leaves();
     certified_games();
     open_and_finish(alloc, words, files, out, err)

@@ -1,10 +1,10 @@
 -- What a verb that is opened answers, from the answers of its parts, and what its work does.
-use Rattle.std.proofs.Common.{◌≡◌, ℕ, max, true, false, List, [], ◌∷◌, length, take_all, arith, refl, sym, ap, subst, Result, Ok, Err, IsErr}
+use Rattle.std.proofs.Common.{◌≡◌, ℕ, max, true, false, List, [], ◌∷◌, length, take_all, arith, refl, sym, ap, subst, ◌∙◌, Result, Ok, Err, IsErr}
 use Rattle.std.specs.Prelude.{Bool, Option, Some, None, Vec}
 use Rattle.std.specs.declared.alloc.Global.{Global}
 use Rattle.std.proofs.Math.Nat.{max-zero}
 use Rattle.chip8_lang.specs.declared.view.Edition.{Edition}
-use Rattle.chip8_lang.specs.declared.view.Edition.TheVariants.{Usual}
+use Rattle.chip8_lang.specs.declared.view.Edition.TheVariants.{Usual, Tall}
 use Rattle.chip8_lang.specs.declared.view.StopRecord.{StopRecord}
 use Rattle.chip8_lang.specs.Events.{is_stop}
 use Rattle.vip_commands.specs.Grammar.{commands_of}
@@ -19,11 +19,12 @@ use Rattle.vip_outside.specs.Pieces.{PutsAll, FailsWithin}
 use Rattle.vip_relation.specs.State.{VipState, interpreter, started, state_after}
 use Rattle.vip_outside.specs.declared.sink.Failed.{Failed}
 use Rattle.vip_show.specs.Answers.{ShowAnswers, traced, pictured, summed}
+use Rattle.vip_state.specs.File.{edition_byte, IsAccepted}
 use Rattle.vip_state.specs.Output.{ResumedAnswers, SavedAnswers, ending_left, records_left}
 use Rattle.vip_state.specs.State.{ResumedState}
 use Rattle.vip_text.specs.Endings.{Ending}
 use Rattle.vip_text.specs.Endings.Ending.{AtLimit}
-use Rattle.vip_words.specs.Asked.{Asked, AskedRun, AskedTrace, AskedDebug, AskedDemo, trace, play, debug, demo}
+use Rattle.vip_words.specs.Asked.{Asked, AskedRun, AskedTrace, AskedDebug, AskedDemo, trace, play, debug, demo, AskedResume, resume, save}
 use Rattle.vip_report.specs.declared.ended.Ended.{Ended}
 use Rattle.vip_report.specs.declared.refusal.Refusal.{Refusal}
 use Rattle.vip_report.specs.declared.refusal.Refusal.TheVariants.{Usage, Unread, TooLarge, Script, Command, Source, State, Rom, Certificate, Proof, NoCertificate, NoMemory}
@@ -256,6 +257,16 @@ module _ (game : List ℕ) (scripts : List (List ℕ)) where
     output = saved_run a.cycles;
     fits = λ o come. come;
   }
+
+by_byte : (d e : Edition) → edition_byte d ≡ edition_byte e → d ≡ e
+by_byte Usual Usual h = refl
+by_byte Usual Tall h = absurd (cc)
+by_byte Tall Usual h = absurd (cc)
+by_byte Tall Tall h = refl
+
+-- a file has one edition
+pub one_edition : (d e : Edition) (f : List ℕ) → IsAccepted d f → IsAccepted e f → d ≡ e
+one_edition d e f a b = by_byte d e (sym a.edition ∙ b.edition)
 
 -- a run that goes on from a file
 module _ (a : AskedResume) (file : List ℕ) (scripts : List (List ℕ)) where

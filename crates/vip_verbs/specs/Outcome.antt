@@ -102,10 +102,16 @@ points_in e file script limit = points_behind (interpreter_of e) script (shown f
 abbrev pub ending_from : Edition → List ℕ → ℕ → List KeyEvent → Ending
 ending_from e file limit script = ending_after e (view_at e (shown file)).pc (view_at e (shown file)).opcode (points_in e file script limit)
 
+-- its records, and its end
+abbrev pub resumed : AskedResume → Edition → List ℕ → List KeyEvent → Outcome
+resumed a e file script =
+    let ending = ending_from e file a.cycles script in
+    Shown (trace_lines e a.with_time (points_in e file script a.cycles)) (end_status ending) (end_report a.cycles ending)
+
 -- It comes to the first fault of the file, or else, as other runs of the file's edition do, to the records of the points behind its state.
 pub data ResumeComes (a : AskedResume) (file : List ℕ) (scripts : List (List ℕ)) : Outcome → Type 0 where
   FaultyState : (fault : StateFault) → Judges file (Err fault) → ResumeComes a file scripts (Refused BadState (bad_state fault))
-  Resumes : (e : Edition) (o : Outcome) → IsAccepted e file → RunComes e a.cycles scripts (λ script. trace_lines e a.with_time (points_in e file script a.cycles)) (ending_from e file a.cycles) o → ResumeComes a file scripts o
+  Resumes : (e : Edition) (o : Outcome) → IsAccepted e file → RunTo e scripts (resumed a e file) o → ResumeComes a file scripts o
 
 -- ---- a run under the debugger
 
