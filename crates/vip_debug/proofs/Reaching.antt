@@ -1,8 +1,7 @@
 -- Where commands leave the board that begins with a game: at a state of its run that comes by the limit, with no stop point before it.
-use Rattle.std.proofs.Common.{◌≡◌, ◌⊎◌, inl, inr, ℕ, suc, ◌+◌, ◌-◌, ◌<◌, ◌≤◌, Bool, true, false, List, [], ◌∷◌, drop, Some, None, slice_get, nat_le, refl, sym, subst, arith, Option}
-use Rattle.std.specs.Prelude.{if◌then◌else◌, ◌==◌, max, min, find}
+use Rattle.std.proofs.Common.{◌≡◌, ◌⊎◌, inl, inr, ℕ, suc, ◌+◌, ◌-◌, ◌<◌, ◌≤◌, Bool, true, false, List, [], ◌∷◌, drop, Some, None, slice_get, refl, sym, subst, arith, Option}
+use Rattle.std.specs.Prelude.{if◌then◌else◌, ◌==◌, min, find}
 use Rattle.std.proofs.lemmas.Bool.{cases_lt}
-use Rattle.std.proofs.lemmas.Bool.Decides.{nat_tests}
 use Rattle.std.proofs.lemmas.List.Folds.{find_at}
 use Rattle.machine.specs.Board.{Machine, start}
 use Rattle.machine.specs.Keys.{Event as KeyEvent, held_at}
@@ -58,11 +57,11 @@ module _ (e : Edition) (game : List ℕ) (script : List KeyEvent) where
   }
 
   -- so does the last of the states up to a cycle or to the first stop point
-  pub last_until : (t : ℕ) → Comes t (moves_until v t)
+  last_until : (t : ℕ) → Comes t (moves_until v t)
   last_until t = reached r t (moves_until v t) (omega (arith, until r t, some-here r t 0 (omega arith)))
 
   -- it is a stop point, or the next one comes later: so the events up to that cycle are those of the states up to it
-  pub all_past : (t : ℕ) → events_to v t ≡ past_of (suc (moves_until v t))
+  all_past : (t : ℕ) → events_to v t ≡ past_of (suc (moves_until v t))
   all_past t = by_test (is_stop i (at_state n)) refl (cases_lt t (at_state (suc n)).cycle)
     where
       n : ℕ
@@ -129,7 +128,7 @@ module _ (e : Edition) (game : List ℕ) (script : List KeyEvent) where
     sought_to (Next n) p = pointed p (n - 1) _ refl
     sought_to (Break pc) p = pointed p _ _ (find_at (has_pc v pc) (points_ahead v limit p))
 
-    pub with_one : (command : Command) (p : Place) → Comes limit p.moves → Comes limit (place_with v limit command p).moves
+    with_one : (command : Command) (p : Place) → Comes limit p.moves → Comes limit (place_with v limit command p).moves
     with_one (command.Runs running) p old = moved (came (run_at v p.moves) limit running).moves p old (came_to running p.moves old)
     with_one (command.Shows showing) p old = old
     with_one (command.Seeks seeking) p old = sought_to seeking p
@@ -139,9 +138,5 @@ module _ (e : Edition) (game : List ℕ) (script : List KeyEvent) where
     after_all [] p old = old
     after_all (command ∷ commands) p old = after_all commands (place_with v limit command p) (with_one command p old)
 
-    -- where they begin
-    pub at_begin : Comes limit 0
-    at_begin = lower limit (moves_until v limit) 0 (omega arith) (last_until limit)
-
     pub commands_reach : (commands : List Command) → Comes limit (place_after v limit commands at_start).moves
-    commands_reach commands = after_all commands at_start at_begin
+    commands_reach commands = after_all commands at_start (lower limit (moves_until v limit) 0 (omega arith) (last_until limit))

@@ -1,5 +1,5 @@
 -- The commands on a board that runs any program, whose run ends where the processor sleeps.
-use Rattle.std.proofs.Common.{◌≡◌, ◌⊎◌, inl, inr, ℕ, ◌+◌, ◌-◌, ◌<◌, ◌≤◌, ◌↔◌, Bool, true, false, List, [], ◌∷◌, ◌++◌, length, refl, sym, ap, ◌∙◌, subst, arith, min, nat_le, Result, Ok, Err, IsErr}
+use Rattle.std.proofs.Common.{◌≡◌, inl, inr, ℕ, ◌+◌, ◌-◌, ◌<◌, ◌≤◌, ◌↔◌, Bool, true, false, List, [], ◌∷◌, ◌++◌, length, refl, sym, ap, ◌∙◌, subst, arith, min, nat_le, Result, Ok, Err, IsErr}
 use Rattle.std.specs.Prelude.{◌==◌, if◌then◌else◌, codes}
 use Rattle.std.proofs.lemmas.Bool.Decides.{nat_tests}
 use Rattle.machine.specs.Board.{Machine, length_of}
@@ -22,15 +22,15 @@ use Rattle.vip_program.specs.Trace.{sleeps, up_to_sleep, idle_address, end_at, l
 use Rattle.vip_program.specs.declared.trace.ProgramEnd.{ProgramEnd}
 use Rattle.vip_program.specs.declared.trace.ProgramEnd.TheVariants as end
 use Rattle.vip_program.proofs.Runs.{rom-by, script-by, phase-by, machine-by}
-use Rattle.vip_monitor.specs.Run.{Run, run_from, state_of, up_to_end, moves_until, Rests}
-use Rattle.vip_monitor.specs.Commands.{Came, came}
+use Rattle.vip_monitor.specs.Run.{run_from, state_of, up_to_end, moves_until, Rests}
+use Rattle.vip_monitor.specs.Commands.{Came}
 use Rattle.vip_monitor.specs.Parts.{Arrives, HasMoved}
-use Rattle.vip_monitor.specs.Fold.{after_all, all_pieces}
+use Rattle.vip_monitor.specs.Fold.{all_pieces}
 use Rattle.vip_monitor.proofs.Folding.{after-more, pieces-more, pieces-last}
 use Rattle.vip_monitor.proofs.Runs.{reached, some-here, until}
 use Rattle.vip_debug.specs.declared.program.Program.{Program}
 use Rattle.vip_debug.specs.ProgramLaws.{ProgramLeads}
-use Rattle.vip_debug.specs.Programs.{idle_line, ended_lines, run_on, comes, comes_to, ran_lines, gone_lines, program_pieces, machine_after, machine_with, program_written, StandsAs, RunsProgram, ProgramAnswers, OneAnswers}
+use Rattle.vip_debug.specs.Programs.{idle_line, ended_lines, comes, comes_to, ran_lines, gone_lines, program_pieces, machine_after, machine_with, program_written, StandsAs, ProgramAnswers, OneAnswers}
 
 -- ---- whether the processor sleeps
 

@@ -81,12 +81,7 @@ fn put_end<O: Sink>(board: &Board, completed: bool, out: &mut O) -> Result<(), F
 }
 
 /// Makes so many moves and puts their lines.
-fn put_steps<O: Sink>(
-    board: &mut Board,
-    count: u32,
-    limit: u64,
-    out: &mut O,
-) -> Result<(), Failed>
+fn put_steps<O: Sink>(board: &mut Board, count: u32, limit: u64, out: &mut O) -> Result<(), Failed>
     requires boundary { board.old.phase ≡ Phase.Boundary }
     requires limit { limit ≤ MOST_CYCLE }
     requires within { board.old.machine.cycle ≤ limit }

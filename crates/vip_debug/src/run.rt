@@ -14,11 +14,11 @@ use crate::going::seek;
 use crate::show::{put_screen, put_state};
 use chip8_lang::StopRecord;
 use vip_byte::{Buffer, MOST_CYCLE};
+use vip_commands::{Command, Commands, Running, Seeking, Telling};
+use vip_monitor::{Change, put_completed, put_showing};
 use vip_outside::{Failed, Sink};
 use vip_relation::Vip;
 use vip_text::trace_text;
-use vip_commands::{Command, Commands, Running, Seeking, Telling};
-use vip_monitor::{Change, put_completed, put_showing};
 
 /// How the commands ended.
 #[derive(Clone, Copy, Debug, PartialEq, Eq)]

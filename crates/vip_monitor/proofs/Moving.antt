@@ -1,5 +1,5 @@
 -- The board makes moves one by one, up to one that was looked for.
-use Rattle.std.proofs.Common.{◌≡◌, ◌⊎◌, inl, inr, ℕ, zero, suc, ◌+◌, ◌-◌, ◌<◌, ◌≤◌, Bool, true, false, List, [], ◌∷◌, ◌++◌, length, refl, sym, ap, ◌∙◌, subst, arith, min, max, nat_le, Some, None, Option}
+use Rattle.std.proofs.Common.{◌≡◌, ◌⊎◌, inl, inr, ℕ, zero, suc, ◌+◌, ◌-◌, ◌<◌, ◌≤◌, Bool, true, false, List, [], ◌∷◌, ◌++◌, length, refl, sym, ap, ◌∙◌, subst, arith, min, nat_le, Some, None}
 use Rattle.std.specs.Prelude.{find, if◌then◌else◌}
 use Rattle.std.specs.List.{range_with_len}
 use Rattle.std.proofs.lemmas.Bool.{cases_lt, le-leb, lt-leb}
@@ -13,10 +13,9 @@ use Rattle.vip_monitor.specs.Run.{Run, run_from, state_of, moves_until, ahead}
 use Rattle.vip_monitor.specs.Run as run
 use Rattle.vip_commands.specs.declared.commands.Running.{Running}
 use Rattle.vip_commands.specs.declared.commands.Running.TheVariants.{Watch}
-use Rattle.vip_commands.specs.declared.commands.Showing.{Showing}
 use Rattle.vip_byte.specs.Text.{newline}
 use Rattle.vip_monitor.specs.declared.going.Change.{Change}
-use Rattle.vip_monitor.specs.Answered.{completed_lines, shown}
+use Rattle.vip_monitor.specs.Answered.{completed_lines}
 use Rattle.vip_monitor.specs.Commands.{Came, after_steps, at_cycle, found_or_last, starts_at, bytes_at}
 use Rattle.vip_program.specs.Lines.{line_of}
 use Rattle.vip_monitor.specs.Shown.{cycle_text, rows, mem_lines, stretch}

@@ -78,7 +78,11 @@ pub fn put_rows<O: Sink>(address: u16, bytes: &[u8], out: &mut O) -> Result<(), 
     for k in 0..(bytes.len() + 15) / 16 {
         let start = 16 * k;
         let end = bytes.len().min(start + 16);
-        put_row((usize::from(address) + start) as u16, &bytes[start..end], out)?;
+        put_row(
+            (usize::from(address) + start) as u16,
+            &bytes[start..end],
+            out,
+        )?;
     }
     Ok(())
 }

@@ -1,17 +1,16 @@
 -- The pictures of a run that has one move more.
 use Rattle.std.proofs.Common.{◌≡◌, ℕ, zero, suc, ◌+◌, ◌-◌, ◌<◌, ◌≤◌, ◌⊎◌, inl, inr, List, [], ◌∷◌, ◌++◌, length, map, Bool, true, false, cond, refl, sym, ap, ◌∙◌, arith, add-one, append_assoc, append-nil}
-use Rattle.std.specs.Prelude.{filter, nat_le, slice_get, Some, ◌&&◌}
+use Rattle.std.specs.Prelude.{filter, slice_get, Some}
 use Rattle.std.specs.List.{range_with_len}
 use Rattle.std.specs.Option.{option_map}
-use Rattle.std.proofs.lemmas.Bool.{le-leb}
-use Rattle.std.proofs.lemmas.Bool.Decides.{nat_tests}
 use Rattle.std.proofs.lemmas.List.{map-append}
 use Rattle.std.proofs.lemmas.List.Elements.{filter-append}
 use Rattle.machine.specs.Board.{Machine}
 use Rattle.machine.proofs.Counts.{windows}
-use Rattle.machine.specs.Pictures.{interrupt_at, window_end, windows_ended, picture_of, is_shown}
-use Rattle.vip_board.specs.Shown.{Shows, shown_frames, shown_since}
+use Rattle.machine.specs.Pictures.{windows_ended, picture_of, is_shown}
+use Rattle.vip_board.specs.Shown.{Shows, shown_frames}
 use Rattle.vip_board.proofs.Along.{Later, later-one, shown-later, picture-later}
+use Rattle.vip_board.proofs.Windows.{ended, window-more, shown-same, counted, last-finished}
 use Rattle.vip_byte.proofs.RangeLemmas.{range_with_len-more}
 use Rattle.vip_text.specs.Screens.{picture_file}
 use Rattle.vip_video.specs.Chip.{Pictures}
@@ -41,22 +40,6 @@ module _ (f f' : ℕ → List ℕ) (p p' : ℕ → Bool) where
       ∙ ap (λ last. map f (filter p (range_with_len 0 w)) ++ last) (same_last w (shown w (omega arith)) (file w (omega arith)))
       ∙ sym (map-append f (filter p (range_with_len 0 w)) (cond (p w) (w ∷ []) []))
       ∙ sym (ap (map f) (frames-more p w))
-
--- the window of a frame among the first so many has ended
-ended : (m t : ℕ) → m < windows_ended t → window_end m ≤ t
-ended m t h = omega (arith, h, windows t)
-
--- of no cycle to the next three does more than one window end
-window_more : (c c' : ℕ) → c ≤ c' → c' ≤ c + 3 → (windows_ended c' ≡ windows_ended c) ⊎ (windows_ended c' ≡ suc (windows_ended c))
-window_more c c' le soon = by_test (nat_le (windows_ended c') (windows_ended c)) refl
-  where
-    by_test : (t : Bool) → nat_le (windows_ended c') (windows_ended c) ≡ t → (windows_ended c' ≡ windows_ended c) ⊎ (windows_ended c' ≡ suc (windows_ended c))
-    by_test true h =
-        let low : windows_ended c' ≤ windows_ended c = grind (arith, nat_tests) in
-        inl (omega (arith, low, le, windows c, windows c'))
-    by_test false h =
-        let high : windows_ended c < windows_ended c' = grind (arith, nat_tests) in
-        inr (omega (arith, high, soon, windows c, windows c'))
 
 -- ---- files
 
@@ -101,25 +84,6 @@ module _ (rom : List ℕ) (run ys : List Machine) (t : ℕ) (later : Later t ys)
 
 -- ---- what the video chip has
 
-since_reset : (rom : List ℕ) (run : List Machine) → shown_since 0 rom run ≡ is_shown rom run
-since_reset rom run = λ i m. all_late (interrupt_at m) i && is_shown rom run m
-  where
-    all_late : (t : ℕ) → nat_le 0 t ≡ true
-    all_late t = le-leb 0 t (omega arith)
-
-counted : (rom : List ℕ) (run : List Machine) (cycle : ℕ) (p : Pictures) → Shows rom run cycle p → p.count ≡ length (shown_frames (is_shown rom run) (windows_ended cycle))
-counted rom run cycle p shows = shows.count ∙ ap (λ shown. length (shown_frames shown (windows_ended cycle))) (since_reset rom run)
-
-last_finished : (rom : List ℕ) (run : List Machine) (cycle : ℕ) (p : Pictures) → Shows rom run cycle p
-    → p.finished ≡ option_map (picture_of rom run) (slice_get (shown_frames (is_shown rom run) (windows_ended cycle)) 0)
-last_finished rom run cycle p shows = shows.finished ∙ ap (λ shown. option_map (picture_of rom run) (slice_get (shown_frames shown (windows_ended cycle)) 0)) (since_reset rom run)
-
-shown_same : (p q : ℕ → Bool) (w : ℕ) → ((m : ℕ) → m < w → p m ≡ q m) → shown_frames p w ≡ shown_frames q w
-shown_same p q zero h = refl
-shown_same p q (suc w) h =
-    ap (λ keep. cond keep (w ∷ shown_frames p w) (shown_frames p w)) (h w (omega arith))
-    ∙ ap (λ others. cond (q w) (w ∷ others) others) (shown_same p q w (λ m l. h m (omega (arith, l))))
-
 -- with one move more either no picture is finished, or one
 pub data Next (rom : List ℕ) (run run' : List Machine) (c c' : ℕ) (p p' : Pictures) : Type 0 where
   NoPicture : p'.count ≡ p.count → picture_files rom run' c' ≡ picture_files rom run c → Next rom run run' c c' p p'
@@ -134,7 +98,7 @@ module _ (rom : List ℕ) (run : List Machine) (b : Machine) (c' : ℕ) (le : b.
   here = windows_ended b.cycle
 
   same_shown : shown_frames shown here ≡ shown_frames (is_shown rom run) here
-  same_shown = shown_same shown (is_shown rom run) here (λ m l. shown-later rom b.cycle m run (b ∷ []) (ended m b.cycle l) (later-one b))
+  same_shown = shown-same shown (is_shown rom run) here (λ m l. shown-later rom b.cycle m run (b ∷ []) (ended m b.cycle l) (later-one b))
 
   before : p.count ≡ length (shown_frames shown here)
   before = counted rom run b.cycle p shows ∙ ap length (sym same_shown)
@@ -146,7 +110,7 @@ module _ (rom : List ℕ) (run : List Machine) (b : Machine) (c' : ℕ) (le : b.
   files_of w = map (file rom (run ++ b ∷ [])) (filter shown (range_with_len 0 w))
 
   pub next : Next rom run (run ++ b ∷ []) b.cycle c' p p'
-  next = by_window (window_more b.cycle c' le soon)
+  next = by_window (window-more b.cycle c' le soon)
     where
       by_frame : (keep : Bool) → shown here ≡ keep → windows_ended c' ≡ suc here → Next rom run (run ++ b ∷ []) b.cycle c' p p'
       by_frame true is one =
@@ -155,7 +119,7 @@ module _ (rom : List ℕ) (run : List Machine) (b : Machine) (c' : ℕ) (le : b.
           let count = counted rom (run ++ b ∷ []) c' p' shows' ∙ ap length frames in
           let earlier = before in
           OnePicture (omega (arith, count, earlier)) (picture_of rom (run ++ b ∷ []) here)
-          (last_finished rom (run ++ b ∷ []) c' p' shows' ∙ ap (λ frames. option_map (picture_of rom (run ++ b ∷ [])) (slice_get frames 0)) frames)
+          (last-finished rom (run ++ b ∷ []) c' p' shows' ∙ ap (λ frames. option_map (picture_of rom (run ++ b ∷ [])) (slice_get frames 0)) frames)
           (ap files_of one ∙ ap (map (file rom (run ++ b ∷ []))) (frames-more shown here ∙ ap (λ keep. filter shown (range_with_len 0 here) ++ cond keep (here ∷ []) []) is)
           ∙ map-append (file rom (run ++ b ∷ [])) (filter shown (range_with_len 0 here)) (here ∷ [])
           ∙ ap (λ all. all ++ file rom (run ++ b ∷ []) here ∷ []) files_kept)

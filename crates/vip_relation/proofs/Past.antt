@@ -1,33 +1,29 @@
 -- The events of a run, state by state: those of the states before one, its pictures, and its point.
 use Rattle.std.proofs.Common.{◌≡◌, ◌⊎◌, inl, inr, ℕ, zero, suc, ◌+◌, ◌-◌, ◌*◌, ◌<◌, ◌≤◌, Bool, true, false, cond, List, [], ◌∷◌, ◌++◌, length, filter, map, refl, sym, ap, ◌∙◌, arith, append_assoc, append-nil, length-append, add-one, Option, Some}
-use Rattle.std.specs.Prelude.{◌&&◌, nat_le, if◌then◌else◌, slice_get}
+use Rattle.std.specs.Prelude.{nat_le, if◌then◌else◌, slice_get}
 use Rattle.std.specs.Option.{option_map}
 use Rattle.std.proofs.lemmas.Bool.Decides.{nat_tests}
-use Rattle.std.proofs.lemmas.Bool.{le-leb}
 use Rattle.std.proofs.lemmas.List.{length-map}
 use Rattle.machine.specs.Board.{Machine, start}
 use Rattle.machine.specs.Keys.{Event as KeyEvent, held_at}
 use Rattle.machine.specs.Run.{states, run_to, after_moves}
-use Rattle.machine.specs.Pictures.{interrupt_at, window_end, windows_ended, picture_of, is_shown}
+use Rattle.machine.specs.Pictures.{window_end, windows_ended, picture_of, is_shown}
 use Rattle.machine.proofs.Counts.{windows}
 use Rattle.machine.proofs.Runs.{later-move, run_to-next, run_to-past}
 use Rattle.chip8_lang.specs.Events.{Event, is_dispatch, is_stop, numbers_from, pictures_at, events_at, events_of, game_run}
 use Rattle.chip8_lang.specs.Events.Event.{Picture, Dispatch, Stopped}
 use Rattle.chip8_lang.specs.Places.{Interpreter}
-use Rattle.vip_board.specs.Shown.{Shows, shown_frames, shown_since}
+use Rattle.vip_board.specs.Shown.{Shows, shown_frames}
 use Rattle.vip_video.specs.Chip.{Pictures}
 use Rattle.vip_relation.specs.Points.{point_of, point_events}
 use Rattle.vip_relation.specs.declared.point.Point.{Point}
 use Rattle.vip_relation.specs.declared.point.Point.TheVariants.{Dispatch as DispatchPoint, Stop as StopPoint, Other as OtherPoint}
 use Rattle.vip_board.proofs.Along.{states-more, soon-move, run-split, Later, later-run, later-one, shown-later}
+use Rattle.vip_board.proofs.Windows.{ended, window-more, shown-same, counted, last-finished}
 
 -- ---- the pictures at a state
 
--- the window of a frame among the first so many has ended
-pub ended : (m t : ℕ) → m < windows_ended t → window_end m ≤ t
-ended m t h = omega (arith, h, windows t)
-
--- and that of the next one has not
+-- the window of the next frame has not ended
 not_ended : (t : ℕ) → t < window_end (windows_ended t)
 not_ended t = omega (arith, windows t)
 
@@ -193,31 +189,14 @@ module _ (i : Interpreter) (game : List ℕ) (script : List KeyEvent) where
     NoPicture : count' ≡ count → pictures (suc n) ≡ [] → Finishes n count count' finished'
     OnePicture : (m : ℕ) → count' ≡ count + 1 → pictures (suc n) ≡ Picture m ∷ [] → window_end m ≤ (state (suc n)).cycle → (state n).cycle < window_end m → finished' ≡ Some (picture_of i.rom (earlier (suc n)) m) → Finishes n count count' finished'
 
-  shown_same : (p q : ℕ → Bool) (w : ℕ) → ((m : ℕ) → m < w → p m ≡ q m) → shown_frames p w ≡ shown_frames q w
-  shown_same p q zero h = refl
-  shown_same p q (suc w) h =
-      ap (λ keep. cond keep (w ∷ shown_frames p w) (shown_frames p w)) (h w (omega arith))
-      ∙ ap (λ others. cond (q w) (w ∷ others) others) (shown_same p q w (λ m l. h m (omega (arith, l))))
-
   -- one window at most ends in a move
   one_window : (n : ℕ) → (windows_ended (state (suc n)).cycle ≡ windows_ended (state n).cycle) ⊎ (windows_ended (state (suc n)).cycle ≡ suc (windows_ended (state n).cycle))
-  one_window n = either (state n).cycle (state (suc n)).cycle (omega (arith, later-move i.rom (held_at script) (state n))) (soon-move i.rom (held_at script) (state n))
-    where
-      either : (c c' : ℕ) → c ≤ c' → c' ≤ c + 3 → (windows_ended c' ≡ windows_ended c) ⊎ (windows_ended c' ≡ suc (windows_ended c))
-      either c c' le soon = by_test (nat_le (windows_ended c') (windows_ended c)) refl
-        where
-          by_test : (t : Bool) → nat_le (windows_ended c') (windows_ended c) ≡ t → (windows_ended c' ≡ windows_ended c) ⊎ (windows_ended c' ≡ suc (windows_ended c))
-          by_test true h =
-              let low : windows_ended c' ≤ windows_ended c = grind (arith, nat_tests) in
-              inl (omega (arith, low, windows c, windows c', le))
-          by_test false h =
-              let high : windows_ended c < windows_ended c' = grind (arith, nat_tests) in
-              inr (omega (arith, high, windows c, windows c', soon))
+  one_window n = window-more (state n).cycle (state (suc n)).cycle (omega (arith, later-move i.rom (held_at script) (state n))) (soon-move i.rom (held_at script) (state n))
 
   -- the frames shown so far are the same by one state more
   frames_kept : (n : ℕ) → shown_frames (is_shown i.rom (earlier (suc n))) (windows_ended (state n).cycle) ≡ shown_frames (is_shown i.rom (earlier n)) (windows_ended (state n).cycle)
   frames_kept n =
-      shown_same (is_shown i.rom (earlier (suc n))) (is_shown i.rom (earlier n)) (windows_ended (state n).cycle)
+      shown-same (is_shown i.rom (earlier (suc n))) (is_shown i.rom (earlier n)) (windows_ended (state n).cycle)
       (λ m l. ap (λ run. is_shown i.rom run m) (states-more i.rom (held_at script) n (start game)) ∙ shown-later i.rom (state n).cycle m (earlier n) (state n ∷ []) (ended m (state n).cycle l) (later-one (state n)))
 
   -- n windows, or one more, by the frames and by the numbers of their pictures
@@ -237,19 +216,6 @@ module _ (i : Interpreter) (game : List ℕ) (script : List KeyEvent) where
       by_case true = refl
       by_case false = refl
 
-  -- since reset every frame counts
-  since_reset : (rom : List ℕ) (run : List Machine) → shown_since 0 rom run ≡ is_shown rom run
-  since_reset rom run = λ i m. all_late (interrupt_at m) i && is_shown rom run m
-    where
-      all_late : (t : ℕ) → nat_le 0 t ≡ true
-      all_late t = le-leb 0 t (omega arith)
-
-  counted : (rom : List ℕ) (run : List Machine) (cycle : ℕ) (p : Pictures) → Shows rom run cycle p → p.count ≡ length (shown_frames (is_shown rom run) (windows_ended cycle))
-  counted rom run cycle p shows = shows.count ∙ ap (λ shown. length (shown_frames shown (windows_ended cycle))) (since_reset rom run)
-
-  last_finished : (rom : List ℕ) (run : List Machine) (cycle : ℕ) (p : Pictures) → Shows rom run cycle p → p.finished ≡ option_map (picture_of rom run) (slice_get (shown_frames (is_shown rom run) (windows_ended cycle)) 0)
-  last_finished rom run cycle p shows = shows.finished ∙ ap (λ shown. option_map (picture_of rom run) (slice_get (shown_frames shown (windows_ended cycle)) 0)) (since_reset rom run)
-
   module _ (n : ℕ) (p p' : Pictures) (shows : Shows i.rom (earlier n) (state n).cycle p) (shows' : Shows i.rom (earlier (suc n)) (state (suc n)).cycle p') where
     abbrev is_shown_next : ℕ → Bool
     is_shown_next = is_shown i.rom (earlier (suc n))
@@ -268,7 +234,7 @@ module _ (i : Interpreter) (game : List ℕ) (script : List KeyEvent) where
         (one_more is_shown_next w (windows_ended (state (suc n)).cycle) next ∙ ap (λ keep. cond keep (Picture w ∷ []) []) shown)
         (ended w (state (suc n)).cycle (omega (arith, next)))
         (not_ended (state n).cycle)
-        (last_finished i.rom (earlier (suc n)) (state (suc n)).cycle p' shows' ∙ ap (λ l. option_map (picture_of i.rom (earlier (suc n))) (slice_get l 0)) frames)
+        (last-finished i.rom (earlier (suc n)) (state (suc n)).cycle p' shows' ∙ ap (λ l. option_map (picture_of i.rom (earlier (suc n))) (slice_get l 0)) frames)
     by_frame false shown next =
         let w = windows_ended (state n).cycle in
         let frames : shown_frames is_shown_next (windows_ended (state (suc n)).cycle) ≡ shown_frames is_shown_next w =

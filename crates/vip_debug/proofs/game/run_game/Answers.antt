@@ -1,4 +1,4 @@
-use Rattle.std.proofs.Common.{◌∙◌, sym, ap, subst, true}
+use Rattle.std.proofs.Common.{sym, subst}
 use Rattle.vip_relation.specs.State.{VipState}
 use Rattle.vip_monitor.specs.Run.{Run}
 use Rattle.vip_monitor.specs.Commands.{came}

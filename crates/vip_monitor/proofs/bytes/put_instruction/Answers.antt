@@ -1,4 +1,4 @@
-use Rattle.std.proofs.Common.{◌≡◌, ◌<◌, ◌-◌, ◌∙◌, ◌∷◌, [], List, ℕ, ap, subst, arith, min, sym, take, length-take}
+use Rattle.std.proofs.Common.{◌≡◌, ◌<◌, ◌-◌, ◌∙◌, ◌∷◌, [], List, ℕ, ap, subst, arith, min, take, length-take}
 use Rattle.vip_outside.specs.Sink.{PutsWhole, PutFails}
 use Rattle.vip_monitor.specs.Parts.{reads}
 use Rattle.vip_monitor.proofs.Disassembling.{line-read, line-joined, taken-read, line-fails, taken-few}

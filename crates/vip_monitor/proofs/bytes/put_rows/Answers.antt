@@ -1,7 +1,7 @@
-use Rattle.std.proofs.Common.{◌≡◌, ◌+◌, ◌*◌, ◌∙◌, ap, ap₂, subst, arith, take, drop, length, slice_range, map, ◌/◌}
+use Rattle.std.proofs.Common.{◌≡◌, ◌+◌, ◌*◌, ap₂, subst, arith, length, slice_range, map, ◌/◌}
 use Rattle.std.specs.List.{range_with_len}
 use Rattle.vip_outside.specs.Sink.{PutsWhole, PutFails}
-use Rattle.vip_outside.specs.Pieces.{PutsAll, StreamAnswers}
+use Rattle.vip_outside.specs.Pieces.{PutsAll}
 use Rattle.vip_monitor.specs.Shown.{row, row_at, rows}
 use Rattle.vip_monitor.proofs.Lines.{pieces-more, pieces-fail, row-bytes}
 use Rattle.vip_monitor.proofs.bytes.put_rows.Goals as goal

@@ -1,4 +1,4 @@
-use Rattle.std.proofs.Common.{◌≡◌, ◌∙◌, sym, ap, refl, arith}
+use Rattle.std.proofs.Common.{refl, arith}
 use Rattle.vip_monitor.proofs.Moving.{gone-first, stepping-next, steps-few, few-moved, steps-all, all-moved}
 use Rattle.vip_monitor.proofs.going.make_moves.Goals as goal
 

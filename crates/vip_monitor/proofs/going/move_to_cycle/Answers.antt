@@ -1,4 +1,4 @@
-use Rattle.std.proofs.Common.{◌≤◌, ◌⊎◌, ◌+◌, ◌<◌, refl, min}
+use Rattle.std.proofs.Common.{refl, min}
 use Rattle.vip_monitor.proofs.Moving.{until-first, until-next, until-smaller, until-arrives, until-moved}
 use Rattle.vip_monitor.proofs.going.move_to_cycle.Goals as goal
 
