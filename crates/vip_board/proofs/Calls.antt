@@ -60,7 +60,7 @@ Sends w port value after = after ≡ after_port (Send port value) w
 abbrev pub Receives : Wires → ℕ → ℕ → Wires → Type 0
 Receives w port value after = (value ≡ 0) × (after ≡ after_port (Receive port) w)
 
-calls-are : (port : Option Port) (write : Option (ℕ × ℕ)) (taken : ℕ) (w v : Wires) → ((p b : ℕ) → port ≡ Some (Send p b) → write ≡ None) → Calls Writes Sends Receives port write taken w v → (taken ≡ 0) × (v ≡ after_calls port write w)
+pub calls-are : (port : Option Port) (write : Option (ℕ × ℕ)) (taken : ℕ) (w v : Wires) → ((p b : ℕ) → port ≡ Some (Send p b) → write ≡ None) → Calls Writes Sends Receives port write taken w v → (taken ≡ 0) × (v ≡ after_calls port write w)
 calls-are None None taken w v a c = (c.0, c.1)
 calls-are None (Some x) taken w v a c = (c.0, c.1)
 calls-are (Some (Send p b)) None taken w v a c = (c.0, c.1)
@@ -69,10 +69,10 @@ calls-are (Some (Receive p)) None taken w v a c = (c.0, c.1)
 calls-are (Some (Receive p)) (Some x) taken w v a c = (c.1.0, c.2 ∙ ap (after_write x.0 x.1) c.1.1)
 
 -- the byte at each address, and the flags
-abbrev bytes : Wires → ℕ → ℕ
+abbrev pub bytes : Wires → ℕ → ℕ
 bytes w = read w.memory.rom w.memory.latch w.memory.ram
 
-abbrev flags : Wires → ℕ → Bool
+abbrev pub flags : Wires → ℕ → Bool
 flags w = flags_of (efx_at w.video.cycles w.video.on) (held_at w.keypad.script w.video.cycles w.keypad.latched)
 
 -- what the processor's cycle makes

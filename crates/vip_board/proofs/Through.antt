@@ -2,39 +2,20 @@
 use Rattle.std.proofs.Common.{◌≡◌, ◌⊎◌, inl, inr, ℕ, zero, suc, ◌+◌, ◌-◌, ◌<◌, ◌≤◌, Bool, true, false, ◌&&◌, refl, sym, ap, ◌∙◌, subst, arith}
 use Rattle.std.specs.Prelude.{None}
 use Rattle.std.proofs.lemmas.Bool.{cases_lt}
-use Rattle.machine.specs.Opcodes.{cycles_of}
-use Rattle.machine.specs.Instruction.{at, stepped}
-use Rattle.machine.specs.Memory.{read}
-use Rattle.machine.specs.Board.{Machine, case_of, opcode_of}
+use Rattle.machine.specs.Board.{Machine, case_of, length_of}
 use Rattle.machine.specs.Board.Case.{Idle as IdleCase, Instruction as InstructionCase}
 use Rattle.machine.proofs.Moves.{case_idle}
-use Rattle.machine.proofs.Runs.{later-move}
+use Rattle.machine.proofs.Runs.{cycle-move, later-move}
 use Rattle.vip_cpu.specs.Cycle.{Processor}
-use Rattle.vip_cpu.specs.declared.cpu.Phase.TheVariants.{Boundary, Middle}
+use Rattle.vip_cpu.specs.declared.cpu.Phase.TheVariants.{Boundary}
 use Rattle.vip_video.specs.Chip.{Chip, scanned}
 use Rattle.vip_video.specs.Quiet.{IsQuiet}
 use Rattle.vip_video.proofs.Quiet.{no-dma, no-int}
-use Rattle.vip_board.specs.Seen.{Seen, cycled, held_by}
-use Rattle.vip_board.specs.Moves.{moved, moved_by, Aside, Passes}
+use Rattle.vip_board.specs.Seen.{Seen, held_by}
+use Rattle.vip_board.specs.Moves.{moved, moved_by, Aside, Passes, Made}
 use Rattle.vip_board.specs.Wired.{seen_of}
 use Rattle.vip_board.specs.declared.wires.Wires.{Wires}
 use Rattle.vip_board.proofs.Cases.{rests, moved-in}
-use Rattle.vip_board.proofs.Whole.{quiet-instruction}
-
--- ---- one instruction
-
-pub instructed : (cpu : Processor) (w : Wires) (s : Seen) (n opcode : ℕ) (p : Processor) (chip : Chip) → seen_of cpu w ≡ s → s.phase ≡ Boundary
-    → cpu.regs.idle ≡ false → opcode ≡ read w.memory.rom w.memory.latch w.memory.ram (at s.machine.regs s.machine.regs.p) → n ≡ cycles_of opcode
-    → ((k : ℕ) → k < n - 1 → IsQuiet w.video.on w.video.cycle_on (w.video.cycles + k))
-    → chip ≡ record w.video { cycles = w.video.cycles + (n - 1) }
-    → p ≡ record { regs = stepped cpu.regs cpu.regs.p; phase = Middle opcode 1 }
-    → cycled (seen_of p (record w { video = chip })) ≡ moved s
-instructed cpu w s n opcode p chip view h awake op long quiet is_chip is_p =
-    let v = seen_of cpu w in
-    let phase : v.phase ≡ Boundary = ap (λ (x : Seen). x.phase) view ∙ h in
-    let same : opcode ≡ opcode_of v.rom v.machine =
-    op ∙ ap (read w.memory.rom w.memory.latch w.memory.ram) (sym (ap (λ (x : Seen). at x.machine.regs x.machine.regs.p) view)) in
-    rw (is_p, is_chip, same) (quiet-instruction v n w.video.cycle_on phase awake (long ∙ ap cycles_of same) quiet) ∙ ap moved view
 
 -- ---- idle cycles
 
@@ -117,11 +98,19 @@ more : (b a : ℕ) (s : Seen) → moved_by b (moved_by a s) ≡ moved_by (a + b)
 more zero a s = let same : a ≡ a + 0 = omega arith in ap (λ k. moved_by k s) same
 more (suc b) a s = let next : suc (a + b) ≡ a + suc b = omega arith in ap moved (more b a s) ∙ ap (λ k. moved_by k s) next
 
--- So many moves are made from an entry on, behind none of which but the last one the board has to be looked at.
-pub record Made (limit : ℕ) (stops : ℕ × ℕ) (entry v : Seen) (n : ℕ) : Type 0 where
-  pub moves : v ≡ moved_by n entry
-  pub passes : (k : ℕ) → 0 < k → k < n → Passes stops entry (moved_by k entry)
-  pub within : 0 < n → v.machine.cycle ≤ limit
+-- none, and some by other means
+pub none-made : (limit : ℕ) (stops : ℕ × ℕ) (entry : Seen) → Made limit stops entry entry 0
+none-made limit stops entry =
+    record { moves = refl; passes = λ k some below. absurd (omega (arith, below)); within = λ some. absurd (omega (arith, some)) }
+
+pub aside-made : (limit : ℕ) (stops : ℕ × ℕ) (entry v : Seen) (n : ℕ) → v ≡ moved_by n entry → Aside n entry → (0 < n → v.machine.cycle ≤ limit)
+    → Made limit stops entry v n
+aside-made limit stops entry v n is aside within =
+    record {
+      moves = is;
+      passes = λ k some below. let a = aside k some below in record { count = a.1; apart = λ starts stands. a.0 starts };
+      within = within;
+    }
 
 pub few-made : (limit : ℕ) (stops : ℕ × ℕ) (entry v : Seen) (n : ℕ) → Made limit stops entry v n → n ≤ limit
 few-made limit stops entry v zero made = omega arith
@@ -129,14 +118,16 @@ few-made limit stops entry v (suc n) made =
     let within : (moved_by (suc n) entry).machine.cycle ≤ limit = subst (λ (x : Seen). x.machine.cycle ≤ limit) made.moves (made.within (omega arith)) in
     omega (arith, later-by (suc n) entry, within)
 
+-- no picture is finished where the board doesn't have to be looked at
+pub same-count : (limit : ℕ) (stops : ℕ × ℕ) (entry v : Seen) (n : ℕ) → Made limit stops entry v n → (0 < n → Passes stops entry v)
+    → v.pictures.count ≡ entry.pictures.count
+same-count limit stops entry v zero made here = ap (λ (x : Seen). x.pictures.count) made.moves
+same-count limit stops entry v (suc n) made here = (here (omega arith)).count
+
 module _ (limit : ℕ) (stops : ℕ × ℕ) (entry v w : Seen) (n m : ℕ) (made : Made limit stops entry v n) (here : 0 < n → Passes stops entry v)
-    (is : w ≡ moved_by m v) (aside : Aside m v) (in_time : 0 < m → w.machine.cycle ≤ limit) where
+    (is : w ≡ moved_by m v) (passes : (k : ℕ) → 0 < k → k < m → Passes stops v (moved_by k v)) (in_time : 0 < m → w.machine.cycle ≤ limit) where
   count : v.pictures.count ≡ entry.pictures.count
-  count = by_size (cases_lt 0 n)
-    where
-      by_size : (0 < n) ⊎ (n ≤ 0) → v.pictures.count ≡ entry.pictures.count
-      by_size (inl some) = (here some).count
-      by_size (inr l) = let none : n ≡ 0 = omega (arith, l) in ap (λ (x : Seen). x.pictures.count) (made.moves ∙ ap (λ k. moved_by k entry) none)
+  count = same-count limit stops entry v n made here
 
   at_last : (k : ℕ) → k ≡ n → 0 < k → Passes stops entry (moved_by k entry)
   at_last k e some =
@@ -144,9 +135,8 @@ module _ (limit : ℕ) (stops : ℕ × ℕ) (entry v w : Seen) (n m : ℕ) (made
 
   behind : (j : ℕ) → 0 < j → j < m → Passes stops entry (moved_by (n + j) entry)
   behind j some below =
-      let a = aside j some below in
-      subst (Passes stops entry) (ap (moved_by j) made.moves ∙ more j n entry)
-      (record { count = a.1 ∙ count; apart = λ starts stands. a.0 starts })
+      let p = passes j some below in
+      subst (Passes stops entry) (ap (moved_by j) made.moves ∙ more j n entry) (record { count = p.count ∙ count; apart = p.apart })
 
   passes_on : (k : ℕ) → 0 < k → k < n + m → Passes stops entry (moved_by k entry)
   passes_on k some below = by_place (cases_lt k n) (cases_lt n k)
@@ -168,3 +158,19 @@ module _ (limit : ℕ) (stops : ℕ × ℕ) (entry v w : Seen) (n m : ℕ) (made
 
   pub made-more : Made limit stops entry w (n + m)
   made-more = record { moves = is ∙ ap (moved_by m) made.moves ∙ more m n entry; passes = passes_on; within = within_on }
+
+pub one-more : (limit : ℕ) (stops : ℕ × ℕ) (entry v w : Seen) (n : ℕ) → Made limit stops entry v n → (0 < n → Passes stops entry v) → w ≡ moved v
+    → w.machine.cycle ≤ limit → Made limit stops entry w (n + 1)
+one-more limit stops entry v w n made here is within =
+    made-more limit stops entry v w n 1 made here is (λ k some below. absurd (omega (arith, some, below))) (λ _. within)
+
+-- where it ends in time
+pub one-made : (limit : ℕ) (stops : ℕ × ℕ) (s v : Seen) → v ≡ moved s → (limit < s.machine.cycle + length_of s.rom s.machine → ⊥) → Made limit stops s v 1
+one-made limit stops s v is in_time =
+    let cycle : v.machine.cycle ≡ s.machine.cycle + length_of s.rom s.machine =
+    ap (λ (x : Seen). x.machine.cycle) is ∙ cycle-move s.rom (held_by s) s.machine in
+    one-more limit stops s s v 0 (none-made limit stops s) (λ some. absurd (omega (arith, some))) is
+    (subst (λ c. c ≤ limit) (sym cycle) (not_above (s.machine.cycle + length_of s.rom s.machine) limit in_time))
+  where
+    not_above : (n limit : ℕ) → (limit < n → ⊥) → n ≤ limit
+    not_above n limit h = grind arith

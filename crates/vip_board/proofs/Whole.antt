@@ -1,5 +1,5 @@
 -- The cycles of an instruction, one after another, make the whole of it.
-use Rattle.std.proofs.Common.{◌≡◌, ◌⊎◌, inl, inr, ◌+◌, ◌-◌, ◌/◌, ◌<◌, ◌≤◌, ℕ, List, Bool, true, false, ◌&&◌, cond, if◌then◌else◌, refl, sym, ap, subst, ◌∙◌, arith}
+use Rattle.std.proofs.Common.{◌≡◌, ◌+◌, ◌-◌, ◌/◌, ℕ, List, Bool, true, false, ◌&&◌, cond, if◌then◌else◌, refl, sym, ap, ◌∙◌, arith}
 use Rattle.std.specs.Prelude.{◌==◌, None}
 use Rattle.machine.specs.Opcodes.{cycles_of}
 use Rattle.machine.specs.Instruction.{Regs, Effect, at, stepped, interrupted}
@@ -10,8 +10,6 @@ use Rattle.vip_cpu.specs.declared.cpu.Phase.TheVariants.{Boundary, Middle}
 use Rattle.vip_cpu.specs.declared.cpu.Did.TheVariants.{Fetch, Execute, Interrupt, Idle}
 use Rattle.machine.specs.Keys.{Event, held_at}
 use Rattle.vip_video.specs.Chip.{Pictures, scanned}
-use Rattle.vip_video.specs.Quiet.{IsQuiet}
-use Rattle.vip_video.proofs.Quiet.{no-dma, no-int}
 use Rattle.vip_board.specs.Seen.{Seen, cycled, cycle_of}
 use Rattle.machine.specs.Signals.{dma_at, int_at, efx_at}
 use Rattle.vip_board.specs.Moves.{name_of, moved, scanned_over}
@@ -41,7 +39,7 @@ fetches rom script b p h =
     let t = tests b.regs (byte_of rom b) (dma_at b.cycle b.on) (int_at b.cycle b.on) h in
     record { no_dma = t.0; no_int = t.1; awake = t.2 }
 
-is_instruction : (b : Machine) → Fetches b → case_of b ≡ InstructionCase
+pub is_instruction : (b : Machine) → Fetches b → case_of b ≡ InstructionCase
 is_instruction b f = case_instruction b f.no_dma f.no_int f.awake
 
 pub name_of-fetch : (b : Machine) → Fetches b → name_of b ≡ Instruction (at b.regs b.regs.p)
@@ -49,14 +47,6 @@ name_of-fetch b f = rw (is_instruction b f)
 
 abbrev pub fetched : List ℕ → Machine → Machine
 fetched rom b = record b { regs = stepped b.regs b.regs.p; cycle = b.cycle + 1 }
-
--- a board that is through with an instruction of so many cycles but for the last one
-abbrev pub nearly : Seen → ℕ → ℕ → Seen
-nearly s opcode n =
-    record s {
-      machine = record s.machine { regs = stepped s.machine.regs s.machine.regs.p; cycle = s.machine.cycle + (n - 1) };
-      phase = Middle opcode 1;
-    }
 
 module _ (rom : List ℕ) (script : List Event) (b : Machine) (p : Pictures) (f : Fetches b) where
   -- the board after the fetch
@@ -105,36 +95,6 @@ module _ (rom : List ℕ) (script : List Event) (b : Machine) (p : Pictures) (f 
   three : cycles_of (opcode_of rom b) ≡ 3 → cycled (cycled (cycled (resting rom script b p))) ≡ moved (resting rom script b p)
   three h = ap (λ s. cycled (cycled s)) cycled-fetch ∙ last_of_three _ h (ap (λ k. k == 2) h) ∙ sym moved-fetch
 
-  -- where the pictures stay in all cycles but the last
-  quiet_two : (n : ℕ) → n ≡ 2 → scanned b.cycle b.on None p ≡ p → nearly (resting rom script b p) (opcode_of rom b) n ≡ middle n
-  quiet_two n e h = rw e (ap (λ x. record (middle 2) { pictures = x }) (sym h))
-
-  quiet_three : (n : ℕ) → n ≡ 3 → scanned b.cycle b.on None p ≡ p → scanned (b.cycle + 1) b.on None p ≡ p
-      → nearly (resting rom script b p) (opcode_of rom b) n ≡ cycled (middle n)
-  quiet_three n e h g =
-      let later : b.cycle + 2 ≡ b.cycle + 1 + 1 = omega arith in
-      rw e
-      (ap (λ t. record (nearly (resting rom script b p) (opcode_of rom b) 3) { machine = record (fetched rom b) { cycle = t } }) later
-      ∙ ap (λ x. record (cycled (middle 3)) { pictures = x }) (sym (ap (scanned (b.cycle + 1) b.on None) h ∙ g)))
-
-  abbrev Stays : ℕ → Type 0
-  Stays n = (k : ℕ) → k < n - 1 → scanned (b.cycle + k) b.on None p ≡ p
-
-  first_stays : (n : ℕ) → 2 ≤ n → Stays n → scanned b.cycle b.on None p ≡ p
-  first_stays n l stays =
-      let here : b.cycle + 0 ≡ b.cycle = omega arith in
-      subst (λ t. scanned t b.on None p ≡ p) here (stays 0 (omega (arith, l)))
-
-  quiet_by : (n : ℕ) → n ≡ cycles_of (opcode_of rom b) → (n ≡ 2) ⊎ (n ≡ 3) → Stays n
-      → cycled (nearly (resting rom script b p) (opcode_of rom b) n) ≡ moved (resting rom script b p)
-  quiet_by n long (inl e) stays =
-      ap cycled (quiet_two n e (first_stays n (omega (arith, e)) stays)) ∙ last_of_two n e ∙ ap made long ∙ sym moved-fetch
-  quiet_by n long (inr e) stays =
-      ap cycled (quiet_three n e (first_stays n (omega (arith, e)) stays) (stays 1 (omega (arith, e))))
-      ∙ last_of_three n e (ap (λ k. k == 2) (sym long ∙ e))
-      ∙ ap made long
-      ∙ sym moved-fetch
-
   length_of-fetch : length_of rom b ≡ cycles_of (opcode_of rom b)
   length_of-fetch = length_of_in rom (held_at script) b InstructionCase (is_instruction b f)
 
@@ -144,36 +104,6 @@ three_or_two x = cond x 3 2
 by_test : (x : Bool) → (three_or_two x ≡ 3 → ⊥) → three_or_two x ≡ 2
 by_test true h = absurd (h refl)
 by_test false h = refl
-
-cycles_by : (x : Bool) → (three_or_two x ≡ 2) ⊎ (three_or_two x ≡ 3)
-cycles_by true = inr refl
-cycles_by false = inl refl
-
-pub two_or_three : (opcode n : ℕ) → n ≡ cycles_of opcode → (n ≡ 2) ⊎ (n ≡ 3)
-two_or_three opcode n e = subst (λ m. (m ≡ 2) ⊎ (m ≡ 3)) (sym e) (cycles_by (opcode / 16 == 12))
-
--- the last cycle makes the whole of an instruction in whose other cycles the video chip has nothing to do but count
-pub quiet-instruction : (s : Seen) (n : ℕ) (before : Bool) → s.phase ≡ Boundary → s.machine.regs.idle ≡ false → n ≡ cycles_of (opcode_of s.rom s.machine)
-    → ((k : ℕ) → k < n - 1 → IsQuiet s.machine.on before (s.machine.cycle + k)) → cycled (nearly s (opcode_of s.rom s.machine) n) ≡ moved s
-quiet-instruction s n before h awake long quiet =
-    let b = s.machine in
-    let size = two_or_three (opcode_of s.rom b) n long in
-    let here : b.cycle + 0 ≡ b.cycle = omega arith in
-    let first : IsQuiet b.on before b.cycle = subst (IsQuiet b.on before) here (quiet 0 (some_left n size)) in
-    let f : Fetches b = record { no_dma = no-dma b.cycle b.on before first; no_int = never b.regs.ie (no-int b.cycle b.on before first); awake = awake } in
-    let stays : (k : ℕ) → k < n - 1 → scanned (b.cycle + k) b.on None s.pictures ≡ s.pictures = λ k l. same (quiet k l) s.pictures in
-    ap (λ (x : Seen). cycled (nearly x (opcode_of s.rom b) n)) (rests s h) ∙ quiet_by s.rom s.script b s.pictures f n long size stays ∙ moved-rests s h
-  where
-    some_left : (n : ℕ) → (n ≡ 2) ⊎ (n ≡ 3) → 0 < n - 1
-    some_left n (inl e) = omega (arith, e)
-    some_left n (inr e) = omega (arith, e)
-
-    never : (ie : Bool) {x : Bool} → x ≡ false → (ie && x) ≡ false
-    never true e = e
-    never false e = refl
-
-    same : {on before : Bool} {t : ℕ} → IsQuiet on before t → (p : Pictures) → scanned t on None p ≡ p
-    same q p = rw (q.on) (q.pictures p)
 
 pub fetches_of : (s : Seen) → s.phase ≡ Boundary → (cycle_of s).did ≡ Fetch → Fetches s.machine
 fetches_of s h d = fetches s.rom s.script s.machine s.pictures (sym (ap (λ x. (cycle_of x).did) (rests s h)) ∙ d)

@@ -1,5 +1,5 @@
 -- How a move is named, what it makes of the board, and what an answer says.
-use Rattle.std.specs.Prelude.{◌≡◌, ◌⊎◌, ◌<◌, ℕ, zero, suc, ◌+◌, Bool, List, Option, Some, None}
+use Rattle.std.specs.Prelude.{◌≡◌, ◌⊎◌, ◌<◌, ◌≤◌, ℕ, zero, suc, ◌+◌, Bool, List, Option, Some, None}
 use Rattle.machine.specs.Instruction.{at}
 use Rattle.machine.specs.Board.{Machine, Case, case_of, length_of, dma_byte, move}
 use Rattle.machine.specs.Board.Case.{Dma as DmaCase, Interrupt as InterruptCase, Idle as IdleCase, Instruction as InstructionCase}
@@ -61,6 +61,13 @@ StandsAt stops b = (at b.regs b.regs.p ≡ stops.0) ⊎ (at b.regs b.regs.p ≡ 
 pub record Passes (stops : ℕ × ℕ) (s v : Seen) : Type 0 where
   pub count : v.pictures.count ≡ s.pictures.count
   pub apart : StartsInstruction v.machine → StandsAt stops v.machine → ⊥
+
+-- From an entry on so many moves are made, behind none of which but the last one the board has to be looked at. The last one ends at or
+-- before cycle `limit`.
+pub record Made (limit : ℕ) (stops : ℕ × ℕ) (entry v : Seen) (n : ℕ) : Type 0 where
+  pub moves : v ≡ moved_by n entry
+  pub passes : (k : ℕ) → 0 < k → k < n → Passes stops entry (moved_by k entry)
+  pub within : 0 < n → v.machine.cycle ≤ limit
 
 abbrev pub IfDone : Moved → (Move → Type 0) → Type 0
 IfDone (Done m) P = P m

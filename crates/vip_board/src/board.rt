@@ -11,8 +11,8 @@ use crate::port::{Joined, Wire};
 use crate::wires::Wires;
 use std::alloc::{AllocError, Global};
 use std::marker::Model;
-use vip_cpu::{Bus, Cpu, Did, Parts, Phase};
-use vip_isa::cycles;
+use vip_cpu::{Bus, Cpu, Did, Parts, Phase, is_plain};
+use vip_isa::{cycles, decode};
 use vip_keypad::{Keypad, Script};
 use vip_memory::Memory;
 use vip_video::{Requests, Video};
@@ -236,7 +236,7 @@ impl Board {
 
 impl Board {
     ghost use Rattle.machine.specs.Board.{length_of};
-    ghost use Rattle.vip_board.specs.Moves.{name_of, moved, moved_by, IfDone, StartsInstruction, Aside, StandsAt, Passes};
+    ghost use Rattle.vip_board.specs.Moves.{name_of, moved, moved_by, IfDone, StartsInstruction, Aside, StandsAt, Made};
 
     /// Whether the next move is an instruction. The board is at a boundary.
     pub fn next_is_instruction(&self) -> bool
@@ -331,26 +331,45 @@ impl Board {
         Moved::Done(self.make(requests, length))
     }
 
-    /// Makes the next move where it is an instruction that ends at or before cycle `limit`, and the video chip is known to have nothing to
-    /// do but count in its cycles before the last one. Answers whether it did. The board is at a boundary, before and after.
+    /// Makes the next move where it is an instruction that tests no flag and uses no port, cycle `last` isn't past yet, and the video chip is
+    /// known to have nothing to do in its cycles but count. Answers whether it did. The board is at a boundary, before and after.
     #[inline(always)]
-    fn instruct(&mut self, limit: u64) -> bool
+    fn instruct(&mut self, last: u64) -> bool
         requires { self.old.phase ≡ Phase.Boundary }
         ensures moved { IsTrue result → self.new ≡ moved self.old }
-        ensures within { IsTrue result → self.new.machine.cycle ≤ limit }
+        ensures pictures { IsTrue result → self.new.pictures.count ≡ self.old.pictures.count }
+        ensures within { IsTrue result → self.new.machine.cycle ≤ last + 3 }
         ensures kept { result ≡ false → self.new ≡ self.old }
     {
-        if self.cpu.idle() {
+        if self.cpu.idle() || self.now() > last {
             return false;
         }
         let opcode = self.wires.read(self.counter());
-        let length = u64::from(cycles(opcode));
-        if length > limit || self.now() > limit - length || !self.wires.video.pass(length - 1) {
+        if !is_plain(decode(opcode).kind) || !self.wires.video.pass(u64::from(cycles(opcode))) {
             return false;
         }
-        self.cpu.fetch(opcode);
-        self.go_on();
+        self.cpu.instruct(&mut self.wires, opcode);
         true
+    }
+
+    /// Makes instructions one after another as `instruct` does, up to cycle `limit` and up to the first one behind which the next opcode
+    /// has one of two addresses. Answers how many.
+    #[inline(always)]
+    fn instructions(&mut self, limit: u64, stops: (u16, u16)) -> u64
+        requires { self.old.phase ≡ Phase.Boundary }
+        ensures { Made limit stops self.old self.new result }
+    {
+        let Some(last) = limit.checked_sub(3) else {
+            return 0;
+        };
+        let mut made = 0;
+        while self.instruct(last) {
+            made += 1;
+            if self.stands_at(stops) {
+                break;
+            }
+        }
+        made
     }
 
     /// Makes the idle cycles that come next, as far as they end at or before cycle `limit` and the video chip is known to have nothing to
@@ -396,19 +415,18 @@ impl Board {
         count
     }
 
-    /// Makes one move, or some where none before the last leads to an instruction or finishes a picture; or none where the next one would
-    /// end after cycle `limit`. Answers how many.
+    /// Makes one move, or some behind none of which but the last one the board has to be looked at; or none where the next one would end
+    /// after cycle `limit`. Answers how many.
     #[inline(always)]
-    fn some(&mut self, limit: u64) -> u64
+    fn some(&mut self, limit: u64, stops: (u16, u16)) -> u64
         requires { self.old.phase ≡ Phase.Boundary }
-        ensures moved { self.new ≡ moved_by result self.old }
-        ensures aside { Aside result self.old }
+        ensures made { Made limit stops self.old self.new result }
         ensures none { result ≡ 0 → limit < self.old.machine.cycle + length_of self.old.rom self.old.machine }
-        ensures within { 0 < result → self.new.machine.cycle ≤ limit }
     {
         self.look_ahead();
-        if self.instruct(limit) {
-            return 1;
+        let instructed = self.instructions(limit, stops);
+        if instructed > 0 {
+            return instructed;
         }
         let rested = self.rest(limit);
         if rested > 0 {
@@ -438,16 +456,14 @@ impl Board {
     #[inline(always)]
     pub fn run(&mut self, limit: u64, stops: (u16, u16)) -> u64
         requires { self.old.phase ≡ Phase.Boundary }
-        ensures moved { self.new ≡ moved_by result self.old }
-        ensures passes { (k : ℕ) → 0 < k → k < result → Passes stops self.old (moved_by k self.old) }
+        ensures made { Made limit stops self.old self.new result }
         ensures none { result ≡ 0 → limit < self.old.machine.cycle + length_of self.old.rom self.old.machine }
-        ensures within { 0 < result → self.new.machine.cycle ≤ limit }
         ensures few { result ≤ limit }
     {
         let pictures = self.wires.video.count();
         let mut made = 0;
         loop {
-            let some = self.some(limit);
+            let some = self.some(limit, stops);
             made += some;
             if some == 0 || self.stands_at(stops) || self.wires.video.count() != pictures {
                 return made;

@@ -1,4 +1,5 @@
 -- The groups of instructions, as the data sheet lists them. Opcode 68, which it leaves out, stands with the control instructions.
+use Rattle.std.specs.Prelude.{Bool, true, false}
 use Rattle.machine.specs.declared.Kind.{Kind}
 use Rattle.machine.specs.declared.Kind.TheVariants.{Idl, Ldn, Inc, Dec, Br, Bq, Bz, Bdf, B1, B2, B3, B4, Skp, Bnq, Bnz, Bnf, Bn1, Bn2, Bn3, Bn4, Lda, Str, Irx, Out, Undefined, Inp, Ret, Dis, Ldxa, Stxd, Adc, Sdb, Shrc, Smb, Sav, Mark, Req, Seq, Adci, Sdbi, Shlc, Smbi, Glo, Ghi, Plo, Phi, Lbr, Lbq, Lbz, Lbdf, Nop, Lsnq, Lsnz, Lsnf, Lskp, Lbnq, Lbnz, Lbnf, Lsie, Lsq, Lsz, Lsdf, Sep, Sex, Ldx, Or, And, Xor, Add, Sd, Shr, Sm, Ldi, Ori, Ani, Xri, Adi, Sdi, Shl, Smi}
 use Rattle.vip_cpu.specs.declared.group.Group.{Group}
@@ -85,3 +86,17 @@ group_of Dis = Control
 group_of Undefined = Control
 group_of Out = InputOutput
 group_of Inp = InputOutput
+
+-- the kinds that test no flag and use no port
+abbrev pub is_plain : Kind → Bool
+is_plain B1 = false
+is_plain B2 = false
+is_plain B3 = false
+is_plain B4 = false
+is_plain Bn1 = false
+is_plain Bn2 = false
+is_plain Bn3 = false
+is_plain Bn4 = false
+is_plain Out = false
+is_plain Inp = false
+is_plain _ = true

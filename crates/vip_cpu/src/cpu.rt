@@ -126,13 +126,13 @@ impl Cpu {
         Did::Fetch
     }
 
-    /// All cycles of an instruction but for the last one, at a boundary. `opcode` is the byte that R(P) points to.
+    /// A whole instruction, at a boundary, on a bus that stands as in its last cycle. `opcode` is the byte that R(P) points to.
     #[inline(always)]
-    pub fn fetch(&mut self, opcode: u8)
-        ensures { self.new ≡ record { regs = stepped self.old.regs self.old.regs.p; phase = Phase.Middle opcode 1 } }
+    pub fn instruct<B: Bus>(&mut self, bus: &mut B, opcode: u8)
+        ensures { (taken : ℕ) × (let c = ended opcode (stepped self.old.regs self.old.regs.p) (B.byte bus.old) (B.flags bus.old) taken in (self.new ≡ after c) × Acts B.writes B.sends B.receives c.effect taken bus.old bus.new) }
     {
         self.registers.increment(self.registers.p());
-        self.phase = Phase::Middle(opcode, 1);
+        self.end(bus, opcode);
     }
 
     /// The last cycle of an instruction. Answers the byte that INP took from the bus, and 0 for all other instructions.

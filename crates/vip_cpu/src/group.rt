@@ -1,7 +1,7 @@
 //! The groups of instructions, as the data sheet lists them.
 
 ghost use Rattle.std.specs.Prelude.{◌≡◌};
-ghost use Rattle.vip_cpu.specs.Groups.{group_of};
+ghost use Rattle.vip_cpu.specs.Groups.{group_of, is_plain};
 
 use machine::Kind;
 
@@ -97,5 +97,24 @@ pub fn group_of(kind: Kind) -> Group
         | Kind::Dis
         | Kind::Undefined => Group::Control,
         Kind::Out | Kind::Inp => Group::InputOutput,
+    }
+}
+
+/// Whether an instruction of a kind tests no flag and uses no port, so that of the bus only memory plays a part in it.
+pub fn is_plain(kind: Kind) -> bool
+    ensures { result ≡ is_plain kind }
+{
+    match kind {
+        Kind::B1
+        | Kind::B2
+        | Kind::B3
+        | Kind::B4
+        | Kind::Bn1
+        | Kind::Bn2
+        | Kind::Bn3
+        | Kind::Bn4
+        | Kind::Out
+        | Kind::Inp => false,
+        _ => true,
     }
 }

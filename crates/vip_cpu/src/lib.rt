@@ -53,4 +53,5 @@ mod scratchpad;
 
 pub use bus::Bus;
 pub use cpu::{Cpu, Did, Phase};
+pub use group::is_plain;
 pub use parts::Parts;

@@ -1,12 +1,22 @@
 use Rattle.std.proofs.Common.{◌∙◌, sym, ap, refl}
 use Rattle.machine.specs.Memory.{read}
-use Rattle.vip_board.proofs.Through.{instructed}
+use Rattle.vip_cpu.specs.Groups.{is_plain}
+use Rattle.vip_isa.specs.declared.Op.{Op}
+use Rattle.vip_video.specs.Chip.{Pictures}
+use Rattle.vip_board.proofs.Plain.{IsWhole, plain-move}
 use Rattle.vip_board.proofs.board.Board.instruct.Goals as goal
+use Rattle.vip_board.proofs.board.Board.instruct.Goals.{After-instruct}
+
+whole : (c : After-instruct) → IsWhole c.instruct.new.self c.instruct.new.bus c.args.self.now
+whole c =
+    let w = c.self.inside.wires in
+    plain-move c.self.inside.cpu w c.instruct.new.bus c.args.self.now c.from.result c.read-opcode.result c.instruct.ensures.0 c.instruct.new.self c.pass.new.self
+    c.self.view_is c.requires (sym c.idle.ensures ∙ c.if-idle.false) (c.read-opcode.ensures ∙ ap (read w.memory.rom w.memory.latch w.memory.ram) c.counter.ensures)
+    (c.from.ensures ∙ c.cycles.ensures) (sym (ap (λ (o : Op). is_plain o.kind) c.decode.ensures.parts) ∙ sym c.is_plain.ensures ∙ c.if-not-is_plain.false)
+    (c.if-not-pass.ensures.quiet refl) (c.if-not-pass.ensures.passed refl) c.instruct.ensures.1
 
 pub returns-clause-moved : goal.returns-clause-moved
-returns-clause-moved c h =
-    let w = c.self.inside.wires in
-    c.go_on.ensures
-    ∙ instructed c.self.inside.cpu w c.args.self.now c.from-length.result c.read-opcode.result c.fetch.new.self c.pass.new.self c.self.view_is c.requires
-    (sym c.idle.ensures ∙ c.if-idle.false) (c.read-opcode.ensures ∙ ap (read w.memory.rom w.memory.latch w.memory.ram) c.counter.ensures)
-    (c.from-length.ensures ∙ c.cycles.ensures) (c.if-not-pass.ensures.quiet refl) (c.if-not-pass.ensures.passed refl) c.fetch.ensures
+returns-clause-moved c h = (whole c).whole
+
+pub returns-clause-pictures : goal.returns-clause-pictures
+returns-clause-pictures c h = ap (λ (p : Pictures). p.count) (whole c).pictures

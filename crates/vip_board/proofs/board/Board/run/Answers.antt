@@ -20,18 +20,13 @@ pub overflow_add-made : goal.overflow_add-made
 overflow_add-made c =
     let made =
     made-more c.args.limit c.args.stops c.args.self.now c.loop-stops.self c.some-some.new.self c.loop-stops.made c.some-some.result
-    c.loop-stops.invariant.made c.loop-stops.invariant.here c.some-some.ensures.moved c.some-some.ensures.aside c.some-some.ensures.within in
+    c.loop-stops.invariant.made c.loop-stops.invariant.here c.some-some.ensures.made.moves c.some-some.ensures.made.passes c.some-some.ensures.made.within in
     omega (arith, few-made _ _ _ _ _ made, c.ranges.limit.fits)
 
-pub returns-then-some-eq0-clause-moved : goal.returns-then-some-eq0-clause-moved
-returns-then-some-eq0-clause-moved c =
+pub returns-then-some-eq0-clause-made : goal.returns-then-some-eq0-clause-made
+returns-then-some-eq0-clause-made c =
     (made-more c.args.limit c.args.stops c.args.self.now c.loop-stops.self c.some-some.new.self c.loop-stops.made c.some-some.result
-    c.loop-stops.invariant.made c.loop-stops.invariant.here c.some-some.ensures.moved c.some-some.ensures.aside c.some-some.ensures.within).moves
-
-pub returns-then-some-eq0-clause-passes : goal.returns-then-some-eq0-clause-passes
-returns-then-some-eq0-clause-passes c =
-    (made-more c.args.limit c.args.stops c.args.self.now c.loop-stops.self c.some-some.new.self c.loop-stops.made c.some-some.result
-    c.loop-stops.invariant.made c.loop-stops.invariant.here c.some-some.ensures.moved c.some-some.ensures.aside c.some-some.ensures.within).passes
+    c.loop-stops.invariant.made c.loop-stops.invariant.here c.some-some.ensures.made.moves c.some-some.ensures.made.passes c.some-some.ensures.made.within)
 
 pub returns-then-some-eq0-clause-none : goal.returns-then-some-eq0-clause-none
 returns-then-some-eq0-clause-none c none =
@@ -43,21 +38,22 @@ pub returns-then-some-eq0-clause-few : goal.returns-then-some-eq0-clause-few
 returns-then-some-eq0-clause-few c =
     few-made _ _ _ _ _
     (made-more c.args.limit c.args.stops c.args.self.now c.loop-stops.self c.some-some.new.self c.loop-stops.made c.some-some.result
-    c.loop-stops.invariant.made c.loop-stops.invariant.here c.some-some.ensures.moved c.some-some.ensures.aside c.some-some.ensures.within)
+    c.loop-stops.invariant.made c.loop-stops.invariant.here c.some-some.ensures.made.moves c.some-some.ensures.made.passes c.some-some.ensures.made.within)
 
 pub loop-stops-smaller : goal.loop-stops-smaller
 loop-stops-smaller c =
     let some = positive c.some-some.result c.if-some-eq0.false in
     let on : c.loop-stops.self.machine.cycle + c.some-some.result ≤ c.some-some.new.self.machine.cycle =
-    subst (λ (x : Seen). c.loop-stops.self.machine.cycle + c.some-some.result ≤ x.machine.cycle) (sym c.some-some.ensures.moved) (later-by c.some-some.result c.loop-stops.self) in
-    omega (arith, some, on, c.some-some.ensures.within some)
+    subst (λ (x : Seen). c.loop-stops.self.machine.cycle + c.some-some.result ≤ x.machine.cycle) (sym c.some-some.ensures.made.moves)
+    (later-by c.some-some.result c.loop-stops.self) in
+    omega (arith, some, on, c.some-some.ensures.made.within some)
 
 pub loop-stops-preserved : goal.loop-stops-preserved
 loop-stops-preserved c =
     record {
       made =
           made-more c.args.limit c.args.stops c.args.self.now c.loop-stops.self c.some-some.new.self c.loop-stops.made c.some-some.result
-          c.loop-stops.invariant.made c.loop-stops.invariant.here c.some-some.ensures.moved c.some-some.ensures.aside c.some-some.ensures.within;
+          c.loop-stops.invariant.made c.loop-stops.invariant.here c.some-some.ensures.made.moves c.some-some.ensures.made.passes c.some-some.ensures.made.within;
       here =
           λ some. record {
             count =

@@ -1,6 +1,5 @@
 use Rattle.std.proofs.Common.{◌+◌, ◌-◌, ◌<◌}
-use Rattle.vip_board.specs.Moves.{Passes}
-use Rattle.vip_board.proofs.Through.{Made}
+use Rattle.vip_board.specs.Moves.{Passes, Made}
 use Rattle.vip_board.proofs.board.Board.run.Given as goal
 
 -- so many moves are made, and behind the last one the board doesn't have to be looked at

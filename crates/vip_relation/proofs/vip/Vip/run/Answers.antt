@@ -31,17 +31,17 @@ overflow_add-self c =
 
 pub point_at-self-inside-requires : goal.point_at-self-inside-requires
 point_at-self-inside-requires c =
-    ap (λ (x : Seen). x.phase) c.run-made.ensures.moved ∙ phase-by c.run-made.result c.self.inside.board ∙ c.self.invariant.follows.phase
+    ap (λ (x : Seen). x.phase) c.run-made.ensures.made.moves ∙ phase-by c.run-made.result c.self.inside.board ∙ c.self.invariant.follows.phase
 
 pub invariant_of-self-2 : goal.invariant_of-self-2
 invariant_of-self-2 c =
     (ran c.self.inside c.args.limit c.run-made.result c.run-made.new.self c.point_at-self-inside.result c.waits_by-self-inside.result c.self.invariant
     (subst (λ v. events_waiting v ≡ []) (sym c.self.view_is) c.requires.met)
     (subst (λ (v : VipState). is_stop (interpreter v) v.board.machine ≡ false) (sym c.self.view_is) c.requires.runs)
-    c.requires.limit c.run-made.ensures.moved c.if-made-eq0.false
+    c.requires.limit c.run-made.ensures.made.moves c.if-made-eq0.false
     (by_places c.self.inside.board c.run-made.result c.of-places.result.fetch c.of-places.result.halt (interpreter_of c.self.inside.edition)
-    c.of-places.ensures.fetch c.of-places.ensures.halt c.run-made.ensures.passes)
-    c.run-made.ensures.within c.point_at-self-inside.ensures
+    c.of-places.ensures.fetch c.of-places.ensures.halt c.run-made.ensures.made.passes)
+    c.run-made.ensures.made.within c.point_at-self-inside.ensures
     (waits_are c.waits_by-self-inside.result c.count-pictures.result c.count.result c.self.inside.board c.run-made.new.self c.waits_by-self-inside.ensures
     (c.count-pictures.ensures ∙ ap (λ (chip : Chip). chip.pictures.count) c.video.ensures)
     (c.count.ensures ∙ ap (λ (chip : Chip). chip.pictures.count) c.video-2.ensures))).kept
@@ -51,10 +51,10 @@ returns-clause-follows c =
     (ran c.self.inside c.args.limit c.run-made.result c.run-made.new.self c.point_at-self-inside.result c.waits_by-self-inside.result c.self.invariant
     (subst (λ v. events_waiting v ≡ []) (sym c.self.view_is) c.requires.met)
     (subst (λ (v : VipState). is_stop (interpreter v) v.board.machine ≡ false) (sym c.self.view_is) c.requires.runs)
-    c.requires.limit c.run-made.ensures.moved c.if-made-eq0.false
+    c.requires.limit c.run-made.ensures.made.moves c.if-made-eq0.false
     (by_places c.self.inside.board c.run-made.result c.of-places.result.fetch c.of-places.result.halt (interpreter_of c.self.inside.edition)
-    c.of-places.ensures.fetch c.of-places.ensures.halt c.run-made.ensures.passes)
-    c.run-made.ensures.within c.point_at-self-inside.ensures
+    c.of-places.ensures.fetch c.of-places.ensures.halt c.run-made.ensures.made.passes)
+    c.run-made.ensures.made.within c.point_at-self-inside.ensures
     (waits_are c.waits_by-self-inside.result c.count-pictures.result c.count.result c.self.inside.board c.run-made.new.self c.waits_by-self-inside.ensures
     (c.count-pictures.ensures ∙ ap (λ (chip : Chip). chip.pictures.count) c.video.ensures)
     (c.count.ensures ∙ ap (λ (chip : Chip). chip.pictures.count) c.video-2.ensures))).kept.follows
@@ -70,10 +70,10 @@ returns-clause-moved c made =
     (ran c.self.inside c.args.limit c.run-made.result c.run-made.new.self c.point_at-self-inside.result c.waits_by-self-inside.result c.self.invariant
     (subst (λ v. events_waiting v ≡ []) (sym c.self.view_is) c.requires.met)
     (subst (λ (v : VipState). is_stop (interpreter v) v.board.machine ≡ false) (sym c.self.view_is) c.requires.runs)
-    c.requires.limit c.run-made.ensures.moved c.if-made-eq0.false
+    c.requires.limit c.run-made.ensures.made.moves c.if-made-eq0.false
     (by_places c.self.inside.board c.run-made.result c.of-places.result.fetch c.of-places.result.halt (interpreter_of c.self.inside.edition)
-    c.of-places.ensures.fetch c.of-places.ensures.halt c.run-made.ensures.passes)
-    c.run-made.ensures.within c.point_at-self-inside.ensures
+    c.of-places.ensures.fetch c.of-places.ensures.halt c.run-made.ensures.made.passes)
+    c.run-made.ensures.made.within c.point_at-self-inside.ensures
     (waits_are c.waits_by-self-inside.result c.count-pictures.result c.count.result c.self.inside.board c.run-made.new.self c.waits_by-self-inside.ensures
     (c.count-pictures.ensures ∙ ap (λ (chip : Chip). chip.pictures.count) c.video.ensures)
     (c.count.ensures ∙ ap (λ (chip : Chip). chip.pictures.count) c.video-2.ensures))).runs
