@@ -57,11 +57,11 @@ module _ (e : Edition) (game : List ℕ) (script : List KeyEvent) where
   }
 
   -- so does the last of the states up to a cycle or to the first stop point
-  last_until : (t : ℕ) → Comes t (moves_until v t)
+  pub last_until : (t : ℕ) → Comes t (moves_until v t)
   last_until t = reached r t (moves_until v t) (omega (arith, until r t, some-here r t 0 (omega arith)))
 
   -- it is a stop point, or the next one comes later: so the events up to that cycle are those of the states up to it
-  all_past : (t : ℕ) → events_to v t ≡ past_of (suc (moves_until v t))
+  pub all_past : (t : ℕ) → events_to v t ≡ past_of (suc (moves_until v t))
   all_past t = by_test (is_stop i (at_state n)) refl (cases_lt t (at_state (suc n)).cycle)
     where
       n : ℕ
@@ -128,7 +128,7 @@ module _ (e : Edition) (game : List ℕ) (script : List KeyEvent) where
     sought_to (Next n) p = pointed p (n - 1) _ refl
     sought_to (Break pc) p = pointed p _ _ (find_at (has_pc v pc) (points_ahead v limit p))
 
-    with_one : (command : Command) (p : Place) → Comes limit p.moves → Comes limit (place_with v limit command p).moves
+    pub with_one : (command : Command) (p : Place) → Comes limit p.moves → Comes limit (place_with v limit command p).moves
     with_one (command.Runs running) p old = moved (came (run_at v p.moves) limit running).moves p old (came_to running p.moves old)
     with_one (command.Shows showing) p old = old
     with_one (command.Seeks seeking) p old = sought_to seeking p
@@ -138,5 +138,9 @@ module _ (e : Edition) (game : List ℕ) (script : List KeyEvent) where
     after_all [] p old = old
     after_all (command ∷ commands) p old = after_all commands (place_with v limit command p) (with_one command p old)
 
+    -- where they begin
+    pub at_begin : Comes limit 0
+    at_begin = lower limit (moves_until v limit) 0 (omega arith) (last_until limit)
+
     pub commands_reach : (commands : List Command) → Comes limit (place_after v limit commands at_start).moves
-    commands_reach commands = after_all commands at_start (lower limit (moves_until v limit) 0 (omega arith) (last_until limit))
+    commands_reach commands = after_all commands at_start at_begin
