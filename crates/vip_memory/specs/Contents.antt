@@ -1,5 +1,5 @@
--- What a memory holds, and pages of bytes as one list.
-use Rattle.std.specs.Prelude.{◌≡◌, ◌+◌, ◌-◌, ◌*◌, if◌then◌else◌, ℕ, Bool, nat_lt, List, [], ◌∷◌, ◌++◌, length, take, drop}
+-- What a memory holds.
+use Rattle.std.specs.Prelude.{◌+◌, ◌-◌, ◌*◌, if◌then◌else◌, ℕ, Bool, nat_lt, List, ◌++◌, length, take, drop}
 
 -- the bytes of RAM from address 0000 on, those of ROM from address 8000 on, and whether the boot latch is set
 pub record Contents : Type 0 where
@@ -18,13 +18,3 @@ page_at bytes n = take 256 (drop (n * 256) bytes)
 -- the page of a high byte: 00 to 0F are RAM, and 80 on are ROM
 abbrev pub page_of : Contents → ℕ → List ℕ
 page_of m high = if nat_lt high 0x10 then page_at m.ram high else page_at m.rom (high - 0x80)
-
--- pages one after another
-abbrev pub flat : List (List ℕ) → List ℕ
-flat [] = []
-flat (page ∷ pages) = page ++ flat pages
-
--- each is 256 bytes
-abbrev pub ArePages : List (List ℕ) → Type 0
-ArePages [] = Unit {0}
-ArePages (page ∷ pages) = (length page ≡ 256) × ArePages pages
