@@ -13,7 +13,7 @@ use Rattle.rom_check.specs.declared.fault.ImageFault.{ImageFault}
 use Rattle.rom_check.specs.declared.fault.ImageFault.TheVariants.{NoMemory}
 use Rattle.vip_commands.specs.Grammar.{commands_of}
 use Rattle.vip_commands.specs.declared.commands.Command.{Command}
-use Rattle.vip_commands.specs.declared.commands.Speaks.TheVariants.{Chip8}
+use Rattle.vip_commands.specs.declared.commands.Speaks.TheVariants.{Chip8, Machine as Processor}
 use Rattle.vip_commands.specs.declared.commands.CommandFault.{CommandFault}
 use Rattle.vip_commands.specs.declared.commands.CommandFault.TheVariants as command
 use Rattle.vip_debug.specs.Answers.{at_start, place_after, stop_by, written}
@@ -31,7 +31,7 @@ use Rattle.vip_state.specs.Points.{points_behind}
 use Rattle.vip_text.specs.declared.fault.StateFault.{StateFault}
 use Rattle.vip_text.specs.Endings.{Ending}
 use Rattle.vip_text.specs.Endings.Ending.{AtLimit, AtStop}
-use Rattle.vip_words.specs.Asked.{Asked, AskedResume, trace, play, debug, demo, save, resume, asm, list, dis, source, bounds, within, safe, certify, trace_program, play_program}
+use Rattle.vip_words.specs.Asked.{Asked, AskedResume, trace, play, debug, demo, save, resume, asm, list, dis, source, bounds, within, safe, certify, trace_program, play_program, debug_program}
 use Rattle.vip_report.specs.Refusal.{image_status}
 use Rattle.vip_report.specs.Status.{end_status}
 use Rattle.vip_report.specs.Report.{bad_command, bad_script, bad_state, image_report, end_report, no_dispatch}
@@ -41,7 +41,7 @@ use Rattle.vip_tools.specs.Certificates.{CertifyComes, CyclesComes, SafeComes}
 use Rattle.vip_tools.specs.Demo.{demo_game}
 use Rattle.vip_tools.specs.Outcome.{Outcome, AsmComes, BoundsComes, DisComes, ListComes, TextComes, rom_text, script_in}
 use Rattle.vip_tools.specs.Outcome.Outcome.{Refused, Shown}
-use Rattle.vip_verbs.specs.Programs.{ProgramComes}
+use Rattle.vip_verbs.specs.Programs.{ProgramComes, ProgramDebugComes, ended_at}
 
 -- ---- a run
 
@@ -153,8 +153,10 @@ Comes (demo a) [] =
     (run_ending Usual (demo_game a.number) a.cycles)
 Comes (save a) (game ∷ scripts) = SaveComes a.edition game a.cycles scripts
 Comes (resume a) (file ∷ scripts) = ResumeComes a file scripts
-Comes (trace_program a) (bytes ∷ scripts) = ProgramComes a.memory bytes a.cycles scripts (λ board. traced board a.cycles)
-Comes (play_program a) (bytes ∷ scripts) = ProgramComes a.memory bytes a.cycles scripts (λ board. pictured board a.cycles)
+Comes (trace_program a) (bytes ∷ scripts) = ProgramComes a.memory bytes a.cycles scripts (λ board. traced board a.cycles) (ended_at a.cycles)
+Comes (play_program a) (bytes ∷ scripts) = ProgramComes a.memory bytes a.cycles scripts (λ board. pictured board a.cycles) (ended_at a.cycles)
+Comes (debug_program a) (bytes ∷ commands ∷ scripts) =
+    ProgramDebugComes a.run.memory bytes a.run.cycles scripts (commands_of Processor a.run.cycles commands)
 Comes (asm a) (text ∷ []) = AsmComes a.raw text
 Comes (list name) (text ∷ []) = ListComes text
 Comes (dis a) (bytes ∷ []) = DisComes a.address bytes

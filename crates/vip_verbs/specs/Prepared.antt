@@ -9,10 +9,12 @@ use Rattle.vip_outside.specs.Sink.{SinkMeaning}
 use Rattle.vip_outside.specs.declared.sink.Failed.{Failed}
 use Rattle.vip_board.specs.Seen.{Seen}
 use Rattle.vip_debug.specs.Answers.{at_start, written}
+use Rattle.vip_debug.specs.Programs.{program_written, machine_with}
 use Rattle.vip_debug.specs.declared.run.DebugEnd.{DebugEnd}
 use Rattle.vip_debug.specs.declared.run.DebugEnd.TheVariants as debugger
 use Rattle.vip_program.specs.Pictures.{pictured as program_pictures}
-use Rattle.vip_program.specs.Trace.{traced as program_lines}
+use Rattle.vip_program.specs.Trace.{end_at, traced as program_lines}
+use Rattle.vip_program.specs.declared.trace.ProgramEnd.{ProgramEnd}
 use Rattle.vip_relation.specs.Meets.{HasStopped}
 use Rattle.vip_relation.specs.State.{VipState, started, events_to}
 use Rattle.vip_show.specs.Answers.{traced, pictured, summed}
@@ -37,8 +39,8 @@ use Rattle.vip_tools.specs.Outcome.Outcome.{Shown}
 use Rattle.vip_tools.specs.Work.{RefusedBy}
 use Rattle.vip_verbs.specs.Outcome.{Comes, debug_ending, saved_report, saved_status}
 use Rattle.vip_verbs.specs.declared.prepared.Prepared.{Prepared}
-use Rattle.vip_verbs.specs.declared.prepared.Prepared.TheVariants.{Trace, Play, Debug, Save, Resume, Demo, Text, TraceProgram, PlayProgram}
-use Rattle.vip_verbs.specs.Programs.{IsBegun, ended_there}
+use Rattle.vip_verbs.specs.declared.prepared.Prepared.TheVariants.{Trace, Play, Debug, Save, Resume, Demo, Text, TraceProgram, PlayProgram, DebugProgram}
+use Rattle.vip_verbs.specs.Programs.{IsBegun, ended_at, program_report}
 
 -- ---- what is written
 
@@ -65,9 +67,9 @@ saved_run limit v =
     let end = saved_ending v.edition (events_to v limit) in
     record { pieces = saved_pieces v.edition (events_to v limit); status = saved_status end; report = saved_report limit end }
 
--- the output of a board that begins to run a program
-abbrev pub program_output : ℕ → List (List ℕ) → Seen → Output
-program_output limit pieces board = record { pieces = pieces; status = Done; report = ended_there limit board }
+-- the output of a program, with its end
+abbrev pub program_output : ℕ → List (List ℕ) → ProgramEnd → Output
+program_output limit pieces end = record { pieces = pieces; status = Done; report = program_report limit end }
 
 -- what a verb that is ready writes
 abbrev pub output_of : Prepared → Output
@@ -77,8 +79,9 @@ output_of (Debug vip limit commands) = ran limit (written vip limit commands at_
 output_of (Save vip limit) = saved_run limit vip
 output_of (Resume run limit with_time) = ran limit (records_left with_time run limit) (ending_left run limit)
 output_of (Demo vip limit number) = ran limit (summed number vip limit) (ended_by limit vip)
-output_of (TraceProgram board limit) = program_output limit (program_lines board limit) board
-output_of (PlayProgram board limit) = program_output limit (program_pictures board limit) board
+output_of (TraceProgram board limit) = program_output limit (program_lines board limit) (ended_at limit board)
+output_of (PlayProgram board limit) = program_output limit (program_pictures board limit) (ended_at limit board)
+output_of (DebugProgram board limit commands) = program_output limit (program_written board limit commands) (end_at (machine_with board limit commands))
 output_of (Text text) = record { pieces = text.items ∷ []; status = Done; report = [] }
 
 -- ---- what it needs to be ready
@@ -99,6 +102,7 @@ IsReady (Resume run limit with_time) = (is_stop (resumed_interpreter run) run.bo
 IsReady (Demo vip limit number) = IsStarted vip × (limit ≤ most_cycles)
 IsReady (TraceProgram board limit) = IsBegun board × (limit ≤ most_cycles)
 IsReady (PlayProgram board limit) = IsBegun board × (limit ≤ most_cycles)
+IsReady (DebugProgram board limit commands) = IsBegun board × (limit ≤ most_cycles)
 IsReady (Text text) = Unit {0}
 
 -- ---- the answers

@@ -1,8 +1,12 @@
--- What `trace` and `play` of a program come to. No ROM of the interpreter plays a part, so none is compared with its source.
+-- What `trace`, `play` and `debug` of a program come to. No ROM of the interpreter plays a part, so none is compared with its source.
 use Rattle.std.specs.Prelude.{◌≡◌, ℕ, List, [], Result, Ok, Err}
 use Rattle.machine.specs.Keys.{Event as KeyEvent}
 use Rattle.vip_board.specs.Seen.{Seen}
 use Rattle.vip_board.specs.Shown.{Shows}
+use Rattle.vip_commands.specs.declared.commands.Command.{Command}
+use Rattle.vip_commands.specs.declared.commands.CommandFault.{CommandFault}
+use Rattle.vip_commands.specs.declared.commands.CommandFault.TheVariants as command
+use Rattle.vip_debug.specs.Programs.{program_written, machine_with}
 use Rattle.vip_cpu.specs.declared.cpu.Phase.TheVariants.{Boundary}
 use Rattle.vip_keypad.specs.declared.script.ScriptCause.{ScriptCause}
 use Rattle.vip_keypad.specs.declared.script.ScriptFault.TheVariants.{Fault}
@@ -13,12 +17,12 @@ use Rattle.vip_program.specs.declared.start.Memory.{Memory}
 use Rattle.vip_program.specs.declared.start.Memory.TheVariants.{Rom, Ram}
 use Rattle.vip_program.specs.declared.trace.ProgramEnd.{ProgramEnd}
 use Rattle.vip_program.specs.declared.trace.ProgramEnd.TheVariants as program
-use Rattle.vip_report.specs.Report.{bad_script, done, idle_report}
+use Rattle.vip_report.specs.Report.{bad_command, bad_script, done, idle_report}
 use Rattle.vip_report.specs.declared.ended.Ended.{Ended}
 use Rattle.vip_report.specs.declared.ended.Ended.TheVariants.{Idle, Ran}
 use Rattle.vip_report.specs.declared.refusal.Refusal.{Refusal}
 use Rattle.vip_report.specs.declared.refusal.Refusal.TheVariants.{Script, NoMemory}
-use Rattle.vip_report.specs.declared.status.Status.TheVariants.{BadScript, Done}
+use Rattle.vip_report.specs.declared.status.Status.TheVariants.{BadCommand, BadScript, Done}
 use Rattle.vip_text.specs.declared.ending.RunEnd.TheVariants.{AtLimit}
 use Rattle.vip_tools.specs.Outcome.{Outcome, script_in}
 use Rattle.vip_tools.specs.Outcome.Outcome.{Refused, Shown}
@@ -35,14 +39,21 @@ abbrev pub program_report : ℕ → ProgramEnd → List ℕ
 program_report limit program.AtLimit = done limit
 program_report limit (program.Idle address) = idle_report address
 
--- that of a board that begins to run it
-abbrev pub ended_there : ℕ → Seen → List ℕ
-ended_there limit board = program_report limit (end_at (last_machine board limit))
+-- how the run of a board ends that begins at its first move: at the limit, or where the processor sleeps
+abbrev pub ended_at : ℕ → Seen → ProgramEnd
+ended_at limit board = end_at (last_machine board limit)
 
--- A program comes to the first fault of its script, or to its output and the end of its run.
-pub data ProgramComes (memory : AskedMemory) (bytes : List ℕ) (limit : ℕ) (scripts : List (List ℕ)) (pieces : Seen → List (List ℕ)) : Outcome → Type 0 where
-  FaultyScript : (line : ℕ) (cause : ScriptCause) → script_in scripts ≡ Err (Fault line cause) → ProgramComes memory bytes limit scripts pieces (Refused BadScript (bad_script line cause))
-  Runs : (script : List KeyEvent) → script_in scripts ≡ Ok script → ProgramComes memory bytes limit scripts pieces (Shown (pieces (started (memory_in memory) bytes script)) Done (ended_there limit (started (memory_in memory) bytes script)))
+-- A program comes to the first fault of its script, or to its output and its end.
+pub data ProgramComes (memory : AskedMemory) (bytes : List ℕ) (limit : ℕ) (scripts : List (List ℕ)) (pieces : Seen → List (List ℕ)) (ended : Seen → ProgramEnd) : Outcome → Type 0 where
+  FaultyScript : (line : ℕ) (cause : ScriptCause) → script_in scripts ≡ Err (Fault line cause) → ProgramComes memory bytes limit scripts pieces ended (Refused BadScript (bad_script line cause))
+  Runs : (script : List KeyEvent) → script_in scripts ≡ Ok script → ProgramComes memory bytes limit scripts pieces ended (Shown (pieces (started (memory_in memory) bytes script)) Done (program_report limit (ended (started (memory_in memory) bytes script))))
+
+-- Under the debugger it comes to the first fault of the commands, or else to their answers, and ends where they leave the board.
+abbrev pub ProgramDebugComes : AskedMemory → List ℕ → ℕ → List (List ℕ) → Result (List Command) CommandFault → Outcome → Type 0
+ProgramDebugComes memory bytes limit scripts (Ok commands) =
+    ProgramComes memory bytes limit scripts (λ board. program_written board limit commands) (λ board. end_at (machine_with board limit commands))
+ProgramDebugComes memory bytes limit scripts (Err (command.Fault line cause)) = λ o. o ≡ Refused BadCommand (bad_command line cause)
+ProgramDebugComes memory bytes limit scripts (Err command.NoMemory) = λ o. ⊥
 
 -- ---- what the calls answer
 

@@ -3,8 +3,8 @@
 ghost use Rattle.std.specs.Prelude.{◌≡◌, ◌≤◌, [], length};
 ghost use Rattle.chip8_lang.specs.State.{memory_size};
 ghost use Rattle.vip_words.specs.Asked.{cycles_in, most_cycles};
-ghost use Rattle.vip_words.specs.Asked.Asked.{trace, play, debug, demo, resume, save, trace_program, play_program};
-ghost use Rattle.vip_words.specs.Request.{asked_of, asked_run, asked_trace, asked_debug, asked_demo, asked_resume, asked_program};
+ghost use Rattle.vip_words.specs.Asked.Asked.{trace, play, debug, demo, resume, save, trace_program, play_program, debug_program};
+ghost use Rattle.vip_words.specs.Request.{asked_of, asked_run, asked_trace, asked_debug, asked_demo, asked_resume, asked_program, asked_debug_program};
 ghost use Rattle.vip_tools.specs.Contents.{script_list, run_list, debug_list};
 ghost use Rattle.vip_tools.specs.Files.{needed, FitAll, contents_of};
 ghost use Rattle.vip_tools.specs.Opening.{SmallScripts};
@@ -27,7 +27,9 @@ use vip_tools::{
     demo_game, dis, game_kind, list, only_content, open_files, read_debugging, read_keys,
     run_contents, safe, source, wanted_files,
 };
-use vip_words::{DebugRequest, DemoRequest, Request, ResumeRequest, RunRequest, TraceRequest, ProgramRequest};
+use vip_words::{
+    DebugProgramRequest, DebugRequest, DemoRequest, ProgramRequest, Request, ResumeRequest, RunRequest, TraceRequest,
+};
 
 /// Compares an edition's ROM with its built-in source.
 fn compared(alloc: Global, edition: Edition) -> Result<(), ImageFault>
@@ -231,6 +233,26 @@ fn open_play_program<'a>(
     })
 }
 
+/// The commands are read before the key script, so that of two faults theirs counts.
+fn open_debug_program<'a>(
+    alloc: Global,
+    wish: &DebugProgramRequest<'a>,
+    contents: &DebugContents<'_>,
+) -> Result<Prepared, Refusal<'a>>
+    requires limit { wish.now.run.cycles ≤ most_cycles }
+    requires sizes { FitAll (needed (debug_program (asked_debug_program wish.now))) (debug_list contents.now) }
+    ensures { PrepareAnswers (Comes (debug_program (asked_debug_program wish.now)) (debug_list contents.now)) result }
+{
+    let run = wish.run;
+    let commands = read_debugging(alloc, Speaks::Machine, contents.commands, run.cycles)?;
+    let board = start_board(alloc, run.memory, &contents.run)?;
+    Ok(Prepared::DebugProgram {
+        board,
+        limit: run.cycles,
+        commands,
+    })
+}
+
 /// A verb that writes a text alone.
 fn text<'a>(made: Result<Vec<u8>, Refusal<'a>>) -> Result<Prepared, Refusal<'a>>
     ensures { result ≡ texted made.entry }
@@ -275,7 +297,7 @@ fn prepare<'a>(
         Request::Link(_) => Err(Refusal::NoMemory),
         Request::TraceProgram(wish) => open_trace_program(alloc, wish, &run_contents(contents)),
         Request::PlayProgram(wish) => open_play_program(alloc, wish, &run_contents(contents)),
-        Request::DebugProgram(_) => Err(Refusal::NoMemory),
+        Request::DebugProgram(wish) => open_debug_program(alloc, wish, &debug_contents(contents)),
     }
 }
 

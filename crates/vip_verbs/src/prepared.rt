@@ -3,7 +3,7 @@
 ghost use Rattle.std.specs.Prelude.{◌≡◌};
 ghost use Rattle.vip_verbs.specs.Prepared.{IsReady, PerformAnswers, DebugEnds, output_of, run_ended, save_ended};
 
-use crate::program::program_ran;
+use crate::program::{debug_program, program_ran};
 use vip_board::Board;
 use vip_debug::{DebugEnd, run_commands};
 use vip_outside::{Failed, Sink};
@@ -58,6 +58,12 @@ pub enum Prepared {
     PlayProgram {
         board: Board,
         limit: u64,
+    },
+    /// The debugger's commands on a program's run up to a limit.
+    DebugProgram {
+        board: Board,
+        limit: u64,
+        commands: Commands,
     },
     /// A text, all of the output.
     Text(Vec<u8>),
@@ -134,6 +140,11 @@ pub fn perform<O: Sink>(prepared: Prepared, out: &mut O) -> Result<Ended, Failed
         Prepared::PlayProgram { mut board, limit } => {
             program_ran(limit, vip_program::show_pictures(&mut board, limit, out))
         }
+        Prepared::DebugProgram {
+            mut board,
+            limit,
+            commands,
+        } => debug_program(&mut board, &commands, limit, out),
         Prepared::Text(text) => {
             out.put(text.as_slice())?;
             Ok(Ended::Worked)

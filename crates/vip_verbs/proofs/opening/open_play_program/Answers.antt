@@ -10,7 +10,7 @@ use Rattle.vip_verbs.proofs.opening.open_play_program.Goals as goal
 pub returns-in_err-board : goal.returns-in_err-board
 returns-in_err-board c =
     passed (PrepareAnswers (Comes (play_program (asked_program c.args.wish.now)) (run_list c.args.contents.now))) _ _ c.from_residual.ensures.1
-    (refused-board _ _ _ _ _ _ c.in_err-board.ensures)
+    (refused-board _ _ _ _ _ _ _ c.in_err-board.ensures)
 
 pub returns : goal.returns
-returns c = ((begun-of _ _ _ _ c.in_ok-board.ensures, c.requires.limit), program-comes _ _ _ _ _ _ c.in_ok-board.ensures)
+returns c = ((begun-of _ _ _ _ c.in_ok-board.ensures, c.requires.limit), program-comes _ _ _ _ _ _ _ c.in_ok-board.ensures)

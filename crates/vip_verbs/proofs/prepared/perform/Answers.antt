@@ -12,3 +12,11 @@ pub returns-in-Debug : goal.returns-in-Debug
 returns-in-Debug g c =
     let ready = rw c.in-Debug.is at c.requires in
     rw c.in-Debug.is (debug-performs _ _ _ _ _ _ ready.0 _ _ c.run_commands.ensures.answer c.debugged.ensures)
+
+pub debug_program-requires : goal.debug_program-requires
+debug_program-requires g c =
+    let ready = rw c.in-DebugProgram.is at c.requires in
+    record { begins = ready.0; limit = ready.1 }
+
+pub returns-in-DebugProgram : goal.returns-in-DebugProgram
+returns-in-DebugProgram g c = rw c.in-DebugProgram.is c.debug_program.ensures
