@@ -8,3 +8,4 @@ mod TopLemmas
 mod SavedLemmas
 mod ResumedLemmas
 mod CertifiedLemmas
+pub mod LinkedLemmas

@@ -8,6 +8,9 @@ use Rattle.chip8_lang.specs.declared.view.Edition.TheVariants.{Usual}
 use Rattle.asm_core.specs.Made.{Made, IsAssembly}
 use Rattle.asm_core.specs.Sources.{NoFault, IsFirstFault, HasFirstFault, source_lines}
 use Rattle.asm_core.specs.declared.fault.AsmCause.{AsmCause}
+use Rattle.vip_link.specs.Checked.{ComparesLink}
+use Rattle.vip_link.specs.Roms.{sender_rom, receiver_rom, sender_text, receiver_text}
+use Rattle.rom_check.specs.Compared.{Compares}
 use Rattle.rom_check.proofs.OneAnswer.{answers_agree}
 use Rattle.rom_check.specs.declared.fault.ImageFault.{ImageFault}
 use Rattle.rom_check.specs.declared.fault.ImageFault.TheVariants as image
@@ -24,7 +27,7 @@ use Rattle.vip_relation.specs.Interpreters.{interpreter_of}
 use Rattle.vip_text.specs.Endings.{Ending}
 use Rattle.vip_verbs.proofs.WorkLemmas.{one_edition}
 use Rattle.vip_call.proofs.StateLemmas.{accepted_or_not}
-use Rattle.vip_words.specs.Asked.{Asked, AskedResume, trace, play, debug, save, resume, demo, link, trace_program, play_program, debug_program, asm, list, dis, source as interpreter, bounds, within, safe, certify, asked_by}
+use Rattle.vip_words.specs.Asked.{Asked, AskedLink, AskedResume, trace, play, debug, save, resume, demo, link, trace_program, play_program, debug_program, asm, list, dis, source as interpreter, bounds, within, safe, certify, asked_by}
 use Rattle.vip_tools.specs.Certificates.{CertifyComes, CyclesComes, SafeComes}
 use Rattle.vip_tools.specs.Certificates.CertifyComes.{Finds, FindsNone}
 use Rattle.vip_tools.specs.Certificates.CyclesComes.{NotAssembled, FaultyCertificate, Leaves}
@@ -35,9 +38,10 @@ use Rattle.vip_tools.specs.Outcome.{Outcome, SourceComes}
 use Rattle.vip_tools.specs.Outcome.Outcome.{Refused, Shown, GivenUp}
 use Rattle.vip_tools.specs.Outcome.SourceComes.{FaultySource, Assembles}
 use Rattle.vip_tools.specs.Outcome.{rom_text}
-use Rattle.vip_verbs.specs.Outcome.{Comes, RunTo, DebugComes, ResumeComes, RomIs, IsFault, resumed}
+use Rattle.vip_verbs.specs.Outcome.{Comes, RunTo, DebugComes, ResumeComes, LinkComes, RomIs, IsFault, resumed}
 use Rattle.vip_verbs.specs.Outcome.RunTo.{FaultyScript, FaultyRom, Runs}
 use Rattle.vip_verbs.specs.Outcome.ResumeComes.{FaultyState, Resumes}
+use Rattle.vip_verbs.specs.Outcome.LinkComes.{FaultyRoms, Links}
 use Rattle.vip_verbs.specs.Prepared.{OfFiles, output_of}
 use Rattle.vip_verbs.specs.declared.prepared.Prepared.{Prepared}
 use Rattle.vip_text.specs.declared.ending.RunEnd.TheVariants as end
@@ -72,22 +76,54 @@ not_memory image.NoMemory is none = is
 not_memory (image.BadRomSource line cause) is none = cc
 not_memory (image.RomDiffers address assembled here) is none = cc
 
--- a ROM differs from what its source gives in one way, or not at all
+-- a ROM differs from what a source gives in one way, or not at all
+module _ (source : List (List ℕ)) (rom : List ℕ) where
+  differs_once : (e f : ImageFault) → IsFault e → IsFault f → Compares source rom (Err e) → Compares source rom (Err f) → image_status e ≡ image_status f
+  differs_once e f is_e is_f a b =
+      elim (answers_agree source rom (Err e) (Err f) a b) [
+        | inl same ↦ let faults : e ≡ f = cc in ap image_status faults
+        | inr (inl none) ↦ absurd (not_memory e is_e (cc))
+        | inr (inr none) ↦ absurd (not_memory f is_f (cc))
+      ]
+
+  fine_or_not : (f : ImageFault) → IsFault f → Compares source rom (Ok tt) → Compares source rom (Err f) → ⊥
+  fine_or_not f is a b =
+      elim (answers_agree source rom (Ok tt) (Err f) a b) [
+        | inl same ↦ cc
+        | inr (inl none) ↦ cc
+        | inr (inr none) ↦ not_memory f is (cc)
+      ]
+
 rom_is_one : (d : Edition) (e f : ImageFault) → IsFault e → IsFault f → RomIs d (Err e) → RomIs d (Err f) → image_status e ≡ image_status f
-rom_is_one d e f is_e is_f a b =
-    elim (answers_agree (source_lines (rom_text d)) (interpreter_of d).rom (Err e) (Err f) a b) [
-      | inl same ↦ let faults : e ≡ f = cc in ap image_status faults
-      | inr (inl none) ↦ absurd (not_memory e is_e (cc))
-      | inr (inr none) ↦ absurd (not_memory f is_f (cc))
-    ]
+rom_is_one d = differs_once (source_lines (rom_text d)) (interpreter_of d).rom
 
 pub rom_is_fine_or_not : (d : Edition) (f : ImageFault) → IsFault f → RomIs d (Ok tt) → RomIs d (Err f) → ⊥
-rom_is_fine_or_not d f is a b =
-    elim (answers_agree (source_lines (rom_text d)) (interpreter_of d).rom (Ok tt) (Err f) a b) [
-      | inl same ↦ cc
-      | inr (inl none) ↦ cc
-      | inr (inr none) ↦ not_memory f is (cc)
-    ]
+rom_is_fine_or_not d = fine_or_not (source_lines (rom_text d)) (interpreter_of d).rom
+
+-- two boards that are joined come to one outcome
+module _ (a : AskedLink) (message : List ℕ) where
+  links_differ_once : (e f : ImageFault) → IsFault e → IsFault f → ComparesLink (Err e) → ComparesLink (Err f) → image_status e ≡ image_status f
+  links_differ_once e f is_e is_f (inl x) (inl y) = differs_once (source_lines sender_text) sender_rom e f is_e is_f x y
+  links_differ_once e f is_e is_f (inl x) (inr y) = absurd (fine_or_not (source_lines sender_text) sender_rom e is_e y.0 x)
+  links_differ_once e f is_e is_f (inr x) (inl y) = absurd (fine_or_not (source_lines sender_text) sender_rom f is_f x.0 y)
+  links_differ_once e f is_e is_f (inr x) (inr y) = differs_once (source_lines receiver_text) receiver_rom e f is_e is_f x.1 y.1
+
+  links_fine_or_not : (f : ImageFault) → IsFault f → ComparesLink (Ok tt) → ComparesLink (Err f) → ⊥
+  links_fine_or_not f is x (inl y) = fine_or_not (source_lines sender_text) sender_rom f is x.0 y
+  links_fine_or_not f is x (inr y) = fine_or_not (source_lines receiver_text) receiver_rom f is x.1 y.1
+
+  links_agree : (o p : Outcome) → LinkComes a message o → LinkComes a message p → Agree o p
+  links_agree _ _ (FaultyRoms e is_e x) (FaultyRoms f is_f y) = links_differ_once e f is_e is_f x y
+  links_agree _ _ (FaultyRoms e is_e x) (Links y t at) = links_fine_or_not e is_e y x
+  links_agree _ _ (Links x s is) (FaultyRoms f is_f y) = links_fine_or_not f is_f x y
+  links_agree _ _ (Links x s is) (Links y t at) = refl
+
+  no_link : (report : List ℕ) → LinkComes a message (GivenUp report) → ⊥
+  no_link report x = go (GivenUp report) refl x
+    where
+      go : (o : Outcome) → o ≡ GivenUp report → LinkComes a message o → ⊥
+      go _ e (FaultyRoms f is y) = cc
+      go _ e (Links y t at) = cc
 
 -- an outcome agrees with itself
 agree_self : (o : Outcome) → Agree o o
@@ -230,6 +266,9 @@ agree (debug a) (game ∷ []) o p x y = absurd x
 agree (debug a) (game ∷ text ∷ scripts) o p x y = debugs_agree a.run.edition game a.run.cycles scripts (commands_of Chip8 a.run.cycles text) o p x y
 agree (demo a) [] o p x y = runs_agree Usual [] _ o p x y
 agree (demo a) (c ∷ cs) o p x y = absurd x
+agree (link a) [] o p x y = absurd x
+agree (link a) (message ∷ []) o p x y = links_agree a message o p x y
+agree (link a) (message ∷ c ∷ cs) o p x y = absurd x
 agree (asm a) [] o p x y = absurd x
 agree (asm a) (source ∷ []) o p x y = sources_agree source _ o p x y
 agree (asm a) (source ∷ c ∷ cs) o p x y = absurd x
@@ -274,6 +313,9 @@ given_up (debug a) (game ∷ []) report x = absurd x
 given_up (debug a) (game ∷ text ∷ scripts) report x = no_debug a.run.edition game a.run.cycles scripts (commands_of Chip8 a.run.cycles text) report x
 given_up (demo a) [] report x = no_run Usual [] _ report (λ script h. not_shown _ _ _ report h) x
 given_up (demo a) (c ∷ cs) report x = absurd x
+given_up (link a) [] report x = absurd x
+given_up (link a) (message ∷ []) report x = absurd (no_link a message report x)
+given_up (link a) (message ∷ c ∷ cs) report x = absurd x
 given_up (asm a) [] report x = absurd x
 given_up (asm a) (source ∷ []) report x = no_source source _ report x
 given_up (asm a) (source ∷ c ∷ cs) report x = absurd x

@@ -4,12 +4,13 @@ use Rattle.std.specs.FinMap.{get}
 use Rattle.vip_outside.specs.Files.{FileMap, FilesMeaning}
 use Rattle.vip_outside.specs.Sink.{SinkMeaning}
 use Rattle.vip_outside.specs.Pieces.{PutsAll, FailsWithin}
-use Rattle.vip_words.specs.Asked.{Asked, asked_by, certify}
+use Rattle.vip_words.specs.Asked.{Asked, AskedLink, asked_by, certify, link}
 use Rattle.vip_report.specs.declared.refusal.Kind.{Kind}
 use Rattle.vip_report.specs.declared.status.Status.{Status}
 use Rattle.vip_report.specs.declared.status.Status.TheVariants.{Done, Stopped, Usage, ReadFault, GameTooLarge, ScriptTooLarge, BadScript, BadSource, BadRomSource, RomDiffers, WriteFault, NoMemory, BadCommand, SourceTooLarge, CommandsTooLarge, BadState, NoDispatch, BadCertificate, MessageTooLarge, BadProof, CertificateTooLarge, NoCertificate, RomTooLarge, RamTooLarge}
 use Rattle.vip_tools.specs.Files.{Needed, needed, HasAll, ComesTo, IsLarger, IsUnread, ReadsSome, with_names}
 use Rattle.vip_call.specs.Certified.{Certifies}
+use Rattle.vip_call.specs.Linked.{BringsMessage}
 use Rattle.vip_call.specs.Language.{ShowsChip8}
 use Rattle.vip_call.specs.Saved.{Continues}
 use Rattle.vip_call.specs.Transcript.{Transcribes}
@@ -290,6 +291,16 @@ ContinuesSaved call =
     → Comes asked contents (Shown pieces status report)
     → Continues asked contents pieces
 
+-- ---- what the output says of two boards that are joined
+
+-- Where `link` comes to the output of two boards, what arrived is the beginning of the message, and all of it after enough moves.
+abbrev pub BringsMessages : Call → Type 0
+BringsMessages call =
+    (a : AskedLink) (message : List ℕ) (pieces : List (List ℕ)) (status : Status) (report : List ℕ)
+    → Asks call (link a) (message ∷ [])
+    → Comes (link a) (message ∷ []) (Shown pieces status report)
+    → BringsMessage a message pieces report
+
 -- ---- the program
 
 -- What the program promises of each call. The body is held to `says`: what its answer tells of words, files, output and report. What follows for a
@@ -307,6 +318,8 @@ pub record Promises (status : Status) (call : Call) : Type 0 where
   pub certified : ProvesCertified call
   -- what goes on from a saved state is the rest of the run
   pub saved : ContinuesSaved call
+  -- where two boards are joined, what arrived is the beginning of the message, and all of it after enough moves
+  pub linked : BringsMessages call
   -- when each answer is due, and that there is no other
   pub words : RefusesWords status call
   pub due : GivesDue status call

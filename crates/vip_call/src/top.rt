@@ -11,6 +11,7 @@ use cycle_check::laws::accepted_leaves;
 use game_check::laws::certified_games;
 use std::alloc::Global;
 use vip_language::laws::{every_run, every_start};
+use vip_link::laws::every_schedule;
 use vip_outside::{Failed, Files, Sink};
 use vip_report::{Ended, Refusal, Status, put_end, put_refusal, put_write_fault};
 use vip_state::laws::{file_may_start, saved_goes_on};
@@ -121,5 +122,6 @@ pub fn vip_main<F: Files, O: Sink, E: Sink>(
     saved_goes_on();
     accepted_leaves();
     certified_games();
+    every_schedule();
     open_and_finish(alloc, words, files, out, err)
 }

@@ -1,2 +1,3 @@
 mod WorkLemmas
 pub mod ProgramLemmas
+pub mod LinkLemmas

@@ -3,6 +3,7 @@ use Rattle.std.specs.Prelude.{◌≡◌, ℕ, List, false, Result, Ok, Err}
 use Rattle.machine.specs.Keys.{Event as KeyEvent}
 use Rattle.chip8_lang.specs.declared.view.Edition.{Edition}
 use Rattle.chip8_lang.specs.Events.{is_stop}
+use Rattle.vip_link.specs.Checked.{ComparesLink}
 use Rattle.vip_keypad.specs.declared.script.ScriptFault.TheVariants.{Fault}
 use Rattle.vip_relation.specs.Meets.{HasStopped}
 use Rattle.vip_relation.specs.State.{VipState, started}
@@ -70,3 +71,10 @@ ResumeAnswers file scripts (Err (Script line cause)) = Accepts file (λ e. scrip
 ResumeAnswers file scripts (Err (Rom fault)) = Accepts file (λ e. RefusesRom e scripts (Rom fault))
 ResumeAnswers file scripts (Err NoMemory) = Unit {0}
 ResumeAnswers file scripts (Err _) = ⊥
+
+-- the ROMs of two boards that are joined are what their sources give
+abbrev pub LinkRomsAnswer : Result (Unit {0}) Refusal → Type 0
+LinkRomsAnswer (Ok done) = ComparesLink (Ok done)
+LinkRomsAnswer (Err (Rom fault)) = IsFault fault × ComparesLink (Err fault)
+LinkRomsAnswer (Err NoMemory) = Unit {0}
+LinkRomsAnswer (Err _) = ⊥

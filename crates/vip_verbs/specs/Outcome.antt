@@ -1,5 +1,5 @@
 -- What each command comes to, by the contents of its files.
-use Rattle.std.specs.Prelude.{◌≡◌, ℕ, List, [], ◌∷◌, if◌then◌else◌, Option, Some, None, Result, Ok, Err}
+use Rattle.std.specs.Prelude.{◌≡◌, ℕ, List, [], ◌∷◌, if◌then◌else◌, Option, Some, None, Result, Ok, Err, length}
 use Rattle.machine.specs.Board.{Machine}
 use Rattle.machine.specs.Keys.{Event as KeyEvent}
 use Rattle.chip8_lang.specs.declared.view.Edition.{Edition}
@@ -11,6 +11,10 @@ use Rattle.asm_core.specs.Sources.{source_lines}
 use Rattle.rom_check.specs.Compared.{Compares}
 use Rattle.rom_check.specs.declared.fault.ImageFault.{ImageFault}
 use Rattle.rom_check.specs.declared.fault.ImageFault.TheVariants.{NoMemory}
+use Rattle.vip_link.specs.Checked.{ComparesLink}
+use Rattle.vip_link.specs.Laws.{after}
+use Rattle.vip_link.specs.Pair.{Pair}
+use Rattle.vip_link.specs.Schedules.{schedule_by}
 use Rattle.vip_commands.specs.Grammar.{commands_of}
 use Rattle.vip_commands.specs.declared.commands.Command.{Command}
 use Rattle.vip_commands.specs.declared.commands.Speaks.TheVariants.{Chip8, Machine as Processor}
@@ -31,12 +35,12 @@ use Rattle.vip_state.specs.Points.{points_behind}
 use Rattle.vip_text.specs.declared.fault.StateFault.{StateFault}
 use Rattle.vip_text.specs.Endings.{Ending}
 use Rattle.vip_text.specs.Endings.Ending.{AtLimit, AtStop}
-use Rattle.vip_words.specs.Asked.{Asked, AskedResume, trace, play, debug, demo, save, resume, asm, list, dis, source, bounds, within, safe, certify, trace_program, play_program, debug_program}
+use Rattle.vip_words.specs.Asked.{Asked, AskedResume, trace, play, debug, demo, save, resume, asm, list, dis, source, bounds, within, safe, certify, trace_program, play_program, debug_program, AskedLink, link}
 use Rattle.vip_report.specs.Refusal.{image_status}
 use Rattle.vip_report.specs.Status.{end_status}
-use Rattle.vip_report.specs.Report.{bad_command, bad_script, bad_state, image_report, end_report, no_dispatch}
+use Rattle.vip_report.specs.Report.{bad_command, bad_script, bad_state, image_report, end_report, no_dispatch, linked_report}
 use Rattle.vip_report.specs.declared.status.Status.{Status}
-use Rattle.vip_report.specs.declared.status.Status.TheVariants.{BadCommand, BadScript, BadState, NoDispatch}
+use Rattle.vip_report.specs.declared.status.Status.TheVariants.{BadCommand, BadScript, BadState, NoDispatch, Done}
 use Rattle.vip_tools.specs.Certificates.{CertifyComes, CyclesComes, SafeComes}
 use Rattle.vip_tools.specs.Demo.{demo_game}
 use Rattle.vip_tools.specs.Outcome.{Outcome, AsmComes, BoundsComes, DisComes, ListComes, TextComes, rom_text, script_in}
@@ -134,6 +138,18 @@ DebugComes e game limit scripts (Ok commands) =
 DebugComes e game limit scripts (Err (command.Fault line cause)) = λ o. o ≡ Refused BadCommand (bad_command line cause)
 DebugComes e game limit scripts (Err command.NoMemory) = λ o. ⊥
 
+-- ---- two boards that are joined
+
+-- both boards after so many moves by the schedule of a number, where A sends a message to B
+abbrev pub linked_after : ℕ → ℕ → List ℕ → Pair
+linked_after number moves message = after (schedule_by number moves) message
+
+-- They come to the first of both ROMs that isn't what its source gives, or to the bytes that B received, and the report says how many were sent and
+-- received.
+pub data LinkComes (a : AskedLink) (message : List ℕ) : Outcome → Type 0 where
+  FaultyRoms : (fault : ImageFault) → IsFault fault → ComparesLink (Err fault) → LinkComes a message (Refused (image_status fault) (image_report fault))
+  Links : ComparesLink (Ok tt) → (s : Pair) → s ≡ linked_after a.number a.moves message → LinkComes a message (Shown (s.received ∷ []) Done (linked_report (length s.sent) (length s.received)))
+
 -- ---- a command
 
 -- what a command comes to, by the contents of its files in their order
@@ -157,6 +173,7 @@ Comes (trace_program a) (bytes ∷ scripts) = ProgramComes a.memory bytes a.cycl
 Comes (play_program a) (bytes ∷ scripts) = ProgramComes a.memory bytes a.cycles scripts (λ board. pictured board a.cycles) (ended_at a.cycles)
 Comes (debug_program a) (bytes ∷ commands ∷ scripts) =
     ProgramDebugComes a.run.memory bytes a.run.cycles scripts (commands_of Processor a.run.cycles commands)
+Comes (link a) (message ∷ []) = LinkComes a message
 Comes (asm a) (text ∷ []) = AsmComes a.raw text
 Comes (list name) (text ∷ []) = ListComes text
 Comes (dis a) (bytes ∷ []) = DisComes a.address bytes

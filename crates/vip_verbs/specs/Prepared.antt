@@ -1,5 +1,5 @@
 -- A verb that is ready to write: what it writes, and how it ends.
-use Rattle.std.specs.Prelude.{◌≡◌, ◌≤◌, ℕ, false, List, [], ◌∷◌, Option, Some, None, Result, Ok, Err, IsErr, Vec}
+use Rattle.std.specs.Prelude.{◌≡◌, ◌≤◌, ℕ, false, List, [], ◌∷◌, Option, Some, None, Result, Ok, Err, IsErr, Vec, ◌⊎◌, length}
 use Rattle.std.specs.declared.alloc.Global.{Global}
 use Rattle.machine.specs.Keys.{Event as KeyEvent}
 use Rattle.chip8_lang.specs.Events.{is_stop}
@@ -8,6 +8,9 @@ use Rattle.vip_outside.specs.Pieces.{PutsAll, FailsWithin}
 use Rattle.vip_outside.specs.Sink.{SinkMeaning}
 use Rattle.vip_outside.specs.declared.sink.Failed.{Failed}
 use Rattle.vip_board.specs.Seen.{Seen}
+use Rattle.vip_link.specs.Laws.{most_bytes}
+use Rattle.vip_link.specs.Links.{Linking, started as joined}
+use Rattle.vip_link.specs.Pair.{Pair}
 use Rattle.vip_debug.specs.Answers.{at_start, written}
 use Rattle.vip_debug.specs.Programs.{program_written, machine_with}
 use Rattle.vip_debug.specs.declared.run.DebugEnd.{DebugEnd}
@@ -24,22 +27,22 @@ use Rattle.vip_state.specs.State.{interpreter as resumed_interpreter}
 use Rattle.vip_text.specs.Endings.{Ending}
 use Rattle.vip_text.specs.declared.ending.RunEnd.{RunEnd}
 use Rattle.vip_text.specs.declared.ending.RunEnd.TheVariants as end
-use Rattle.vip_words.specs.Asked.{Asked, most_cycles}
+use Rattle.vip_words.specs.Asked.{Asked, most_cycles, most_moves}
 use Rattle.vip_report.specs.declared.ended.Ended.{Ended}
 use Rattle.vip_report.specs.declared.ended.Ended.TheVariants.{NoDispatch, Ran}
 use Rattle.vip_report.specs.declared.refusal.Refusal.{Refusal}
 use Rattle.vip_report.specs.declared.refusal.Refusal.TheVariants.{Usage, Unread, TooLarge, NoMemory}
 use Rattle.vip_report.specs.declared.status.Status.{Status}
 use Rattle.vip_report.specs.declared.status.Status.TheVariants.{Done}
-use Rattle.vip_report.specs.Report.{end_report, ended_report}
+use Rattle.vip_report.specs.Report.{end_report, ended_report, linked_report}
 use Rattle.vip_report.specs.Status.{end_status, ended_status}
 use Rattle.vip_tools.specs.Files.{needed, ComesTo, HasAll, IsLarger, IsUnread, ReadsSome, with_names}
 use Rattle.vip_tools.specs.Outcome.{Outcome}
 use Rattle.vip_tools.specs.Outcome.Outcome.{Shown}
 use Rattle.vip_tools.specs.Work.{RefusedBy}
-use Rattle.vip_verbs.specs.Outcome.{Comes, debug_ending, saved_report, saved_status}
+use Rattle.vip_verbs.specs.Outcome.{Comes, debug_ending, saved_report, saved_status, linked_after}
 use Rattle.vip_verbs.specs.declared.prepared.Prepared.{Prepared}
-use Rattle.vip_verbs.specs.declared.prepared.Prepared.TheVariants.{Trace, Play, Debug, Save, Resume, Demo, Text, TraceProgram, PlayProgram, DebugProgram}
+use Rattle.vip_verbs.specs.declared.prepared.Prepared.TheVariants.{Trace, Play, Debug, Save, Resume, Demo, Text, TraceProgram, PlayProgram, DebugProgram, Link}
 use Rattle.vip_verbs.specs.Programs.{IsBegun, ended_at, program_report}
 
 -- ---- what is written
@@ -71,6 +74,10 @@ saved_run limit v =
 abbrev pub program_output : ℕ → List (List ℕ) → ProgramEnd → Output
 program_output limit pieces end = record { pieces = pieces; status = Done; report = program_report limit end }
 
+-- the output of two boards that are joined, by where they come to
+abbrev pub linked_output : Pair → Output
+linked_output s = record { pieces = s.received ∷ []; status = Done; report = linked_report (length s.sent) (length s.received) }
+
 -- what a verb that is ready writes
 abbrev pub output_of : Prepared → Output
 output_of (Trace vip limit with_time with_screen) = ran limit (traced with_time with_screen vip limit) (ended_by limit vip)
@@ -82,6 +89,7 @@ output_of (Demo vip limit number) = ran limit (summed number vip limit) (ended_b
 output_of (TraceProgram board limit) = program_output limit (program_lines board limit) (ended_at limit board)
 output_of (PlayProgram board limit) = program_output limit (program_pictures board limit) (ended_at limit board)
 output_of (DebugProgram board limit commands) = program_output limit (program_written board limit commands) (end_at (machine_with board limit commands))
+output_of (Link link number moves) = linked_output (linked_after number moves link.message)
 output_of (Text text) = record { pieces = text.items ∷ []; status = Done; report = [] }
 
 -- ---- what it needs to be ready
@@ -93,6 +101,11 @@ pub record IsStarted (v : VipState) : Type 0 where
   pub is : v ≡ started v.edition game script
   pub runs : HasStopped v → ⊥
 
+-- two boards before their first move
+pub record IsJoined (l : Linking) : Type 0 where
+  pub is : l ≡ joined l.message
+  pub short : length l.message ≤ most_bytes
+
 abbrev pub IsReady : Prepared → Type 0
 IsReady (Trace vip limit with_time with_screen) = IsStarted vip × (limit ≤ most_cycles)
 IsReady (Play vip limit) = IsStarted vip × (limit ≤ most_cycles)
@@ -103,6 +116,7 @@ IsReady (Demo vip limit number) = IsStarted vip × (limit ≤ most_cycles)
 IsReady (TraceProgram board limit) = IsBegun board × (limit ≤ most_cycles)
 IsReady (PlayProgram board limit) = IsBegun board × (limit ≤ most_cycles)
 IsReady (DebugProgram board limit commands) = IsBegun board × (limit ≤ most_cycles)
+IsReady (Link link number moves) = IsJoined link × (moves ≤ most_moves)
 IsReady (Text text) = Unit {0}
 
 -- ---- the answers

@@ -2,7 +2,7 @@
 
 ghost use Rattle.std.specs.Prelude.{◌≡◌, ◌≤◌, [], length};
 ghost use Rattle.chip8_lang.specs.State.{memory_size};
-ghost use Rattle.vip_words.specs.Asked.{cycles_in, most_cycles};
+ghost use Rattle.vip_words.specs.Asked.{cycles_in, most_cycles, most_moves, moves_in};
 ghost use Rattle.vip_words.specs.Asked.Asked.{trace, play, debug, demo, resume, save, trace_program, play_program, debug_program};
 ghost use Rattle.vip_words.specs.Request.{asked_of, asked_run, asked_trace, asked_debug, asked_demo, asked_resume, asked_program, asked_debug_program};
 ghost use Rattle.vip_tools.specs.Contents.{script_list, run_list, debug_list};
@@ -12,6 +12,7 @@ ghost use Rattle.vip_verbs.specs.Outcome.{Comes, RomIs};
 ghost use Rattle.vip_verbs.specs.Opening.{JudgedAnswers, ResumeAnswers, RomAnswers, StartAnswers};
 ghost use Rattle.vip_verbs.specs.Prepared.{OpenAnswers, PrepareAnswers, texted};
 
+use crate::linked::open_link;
 use crate::prepared::Prepared;
 use crate::program::start_board;
 use chip8_lang::Edition;
@@ -270,6 +271,7 @@ fn prepare<'a>(
     contents: &[Vec<u8>],
 ) -> Result<Prepared, Refusal<'a>>
     requires limit { cycles_in (asked_of request.now) ≤ most_cycles }
+    requires moves { moves_in (asked_of request.now) ≤ most_moves }
     requires sizes { FitAll (needed (asked_of request.now)) (contents_of contents.now) }
     ensures { PrepareAnswers (Comes (asked_of request.now) (contents_of contents.now)) result }
 {
@@ -294,7 +296,7 @@ fn prepare<'a>(
             text(safe(alloc, wish.edition, files.certified, files.certificate))
         }
         Request::Certify(wish) => text(certify(alloc, wish.edition, only_content(contents))),
-        Request::Link(_) => Err(Refusal::NoMemory),
+        Request::Link(wish) => open_link(alloc, wish, only_content(contents)),
         Request::TraceProgram(wish) => open_trace_program(alloc, wish, &run_contents(contents)),
         Request::PlayProgram(wish) => open_play_program(alloc, wish, &run_contents(contents)),
         Request::DebugProgram(wish) => open_debug_program(alloc, wish, &debug_contents(contents)),
@@ -309,6 +311,7 @@ pub fn open<'a, F: Files>(
     files: &mut F,
 ) -> Result<Prepared, Refusal<'a>>
     requires limit { cycles_in (asked_of request.now) ≤ most_cycles }
+    requires moves { moves_in (asked_of request.now) ≤ most_moves }
     ensures { OpenAnswers (asked_of request.now) (F.meaning files.old) (F.meaning files.new) result }
 {
     let wanted = wanted_files(request);

@@ -3,9 +3,11 @@
 ghost use Rattle.std.specs.Prelude.{◌≡◌};
 ghost use Rattle.vip_verbs.specs.Prepared.{IsReady, PerformAnswers, DebugEnds, output_of, run_ended, save_ended};
 
+use crate::linked::run_link;
 use crate::program::{debug_program, program_ran};
 use vip_board::Board;
 use vip_debug::{DebugEnd, run_commands};
+use vip_link::Link;
 use vip_outside::{Failed, Sink};
 use vip_relation::Vip;
 use vip_report::Ended;
@@ -64,6 +66,12 @@ pub enum Prepared {
         board: Board,
         limit: u64,
         commands: Commands,
+    },
+    /// Two boards that are joined, which make so many moves by the schedule of a number.
+    Link {
+        link: Link,
+        number: u32,
+        moves: u32,
     },
     /// A text, all of the output.
     Text(Vec<u8>),
@@ -145,6 +153,11 @@ pub fn perform<O: Sink>(prepared: Prepared, out: &mut O) -> Result<Ended, Failed
             limit,
             commands,
         } => debug_program(&mut board, &commands, limit, out),
+        Prepared::Link {
+            link,
+            number,
+            moves,
+        } => run_link(link, number, moves, out),
         Prepared::Text(text) => {
             out.put(text.as_slice())?;
             Ok(Ended::Worked)

@@ -20,3 +20,6 @@ debug_program-requires g c =
 
 pub returns-in-DebugProgram : goal.returns-in-DebugProgram
 returns-in-DebugProgram g c = rw c.in-DebugProgram.is c.debug_program.ensures
+
+pub returns-in-Link : goal.returns-in-Link
+returns-in-Link g c = rw c.in-Link.is c.run_link.ensures

@@ -1,0 +1,65 @@
+-- What `link` answers, from the answers of its parts, and what its work does.
+use Rattle.std.proofs.Common.{◌≡◌, ℕ, ◌+◌, ◌≤◌, List, [], ◌∷◌, length, refl, sym, ap, ap₂, subst, ◌∙◌, Ok, Err}
+use Rattle.vip_link.specs.Laws.{most_bytes}
+use Rattle.vip_link.specs.Links.{Linking, started}
+use Rattle.vip_link.specs.Pair.{Pair, scheduled}
+use Rattle.vip_link.specs.Roms.{sender_rom, receiver_rom}
+use Rattle.vip_link.specs.Schedules.{schedule_by}
+use Rattle.vip_link.specs.Checked.{ComparesLink}
+use Rattle.vip_outside.specs.Sink.{SinkMeaning, PutsWhole}
+use Rattle.vip_outside.proofs.PiecesLemmas.{PutsAll-one}
+use Rattle.vip_outside.specs.Pieces.{PutsAll}
+use Rattle.vip_words.specs.Asked.{AskedLink}
+use Rattle.vip_report.specs.Report.{linked_report}
+use Rattle.vip_report.specs.declared.ended.Ended.TheVariants.{Linked}
+use Rattle.vip_report.specs.declared.refusal.Refusal.{Refusal}
+use Rattle.vip_report.specs.declared.refusal.Refusal.TheVariants.{Usage, Unread, TooLarge, Script, Command, Source, State, Rom, Certificate, Proof, NoCertificate, NoMemory}
+use Rattle.vip_tools.specs.Work.{RefusedBy}
+use Rattle.vip_verbs.specs.Outcome.{LinkComes, linked_after}
+use Rattle.vip_verbs.specs.Opening.{LinkRomsAnswer}
+use Rattle.vip_verbs.specs.Outcome.LinkComes.{FaultyRoms, Links}
+use Rattle.vip_verbs.specs.Prepared.{IsJoined, Performs, linked_output, shown}
+
+module _ (a : AskedLink) (message : List ℕ) where
+  -- a ROM isn't what its source gives
+  pub refused-roms : (refusal : Refusal) → LinkRomsAnswer (Err refusal) → RefusedBy (LinkComes a message) refusal
+  refused-roms Usage answer = absurd answer
+  refused-roms (Unread name) answer = absurd answer
+  refused-roms (TooLarge kind) answer = absurd answer
+  refused-roms (Script line cause) answer = absurd answer
+  refused-roms (Command line cause) answer = absurd answer
+  refused-roms (Source line cause) answer = absurd answer
+  refused-roms (State fault) answer = absurd answer
+  refused-roms (Rom fault) answer = FaultyRoms fault answer.0 answer.1
+  refused-roms (Certificate line cause) answer = absurd answer
+  refused-roms (Proof line cause) answer = absurd answer
+  refused-roms (NoCertificate obstacle) answer = absurd answer
+  refused-roms NoMemory answer = tt
+
+  -- both boards are joined, so their output is settled
+  pub link-comes : (l : Linking) → l ≡ started message → ComparesLink (Ok tt) → LinkComes a message (shown (linked_output (linked_after a.number a.moves l.message)))
+  link-comes l e roms =
+      subst (λ m. LinkComes a message (shown (linked_output (linked_after a.number a.moves m)))) (sym (ap (λ (l : Linking). l.message) e)) (Links roms _ refl)
+
+pub joined-of : (message : List ℕ) (l : Linking) → l ≡ started message → length message ≤ most_bytes → IsJoined l
+joined-of message l e short = subst IsJoined (sym e) (record { is = refl; short = short })
+
+-- where the moves bring both boards
+pub pair-of :
+    (l after : Linking) (number moves : ℕ) → IsJoined l
+    → after ≡ record l { pair = scheduled sender_rom receiver_rom (schedule_by number moves) l.pair; moves = l.moves + moves }
+    → after.pair ≡ linked_after number moves l.message
+pair-of l after number moves h e =
+    ap (λ (l : Linking). l.pair) e ∙ ap (λ (l : Linking). scheduled sender_rom receiver_rom (schedule_by number moves) l.pair) h.is
+
+-- the output went out
+pub link-performs :
+    (s t : Pair) (old new : SinkMeaning) (piece received : List ℕ) (sent : ℕ) → s ≡ t → piece ≡ s.received → received ≡ s.received → sent ≡ length s.sent
+    → PutsWhole piece old new → Performs (linked_output t) old new (Linked sent (length received))
+link-performs s t old new piece received sent same e f g puts =
+    subst (λ t. Performs (linked_output t) old new (Linked sent (length received))) same
+    (record {
+      puts = subst (λ p. PutsAll (p ∷ []) old new) e (PutsAll-one piece old new puts);
+      status = refl;
+      report = sym (ap₂ linked_report g (ap length f));
+    })

@@ -1,0 +1,70 @@
+//! The verb `link`: two boards that are joined by port 3.
+
+ghost use Rattle.std.specs.Prelude.{◌≤◌, ◌∷◌, [], length};
+ghost use Rattle.vip_words.specs.Asked.{most_moves};
+ghost use Rattle.vip_words.specs.Asked.Asked.{link as linking};
+ghost use Rattle.vip_words.specs.Request.{asked_link};
+ghost use Rattle.vip_link.specs.Laws.{most_bytes};
+ghost use Rattle.vip_verbs.specs.Outcome.{Comes, linked_after};
+ghost use Rattle.vip_verbs.specs.Opening.{LinkRomsAnswer};
+ghost use Rattle.vip_verbs.specs.Prepared.{IsJoined, PrepareAnswers, PerformAnswers, linked_output};
+
+use crate::prepared::Prepared;
+use rom_check::ImageFault;
+use std::alloc::Global;
+use vip_link::{Link, LinkFault, check_link};
+use vip_outside::{Failed, Sink};
+use vip_report::{Ended, Kind, Refusal};
+use vip_words::LinkRequest;
+
+/// The refusal of two ROMs of which one isn't what its source gives.
+fn check_roms<'a>(alloc: Global) -> Result<(), Refusal<'a>>
+    ensures { LinkRomsAnswer result }
+{
+    match check_link(alloc) {
+        Ok(()) => Ok(()),
+        Err(ImageFault::NoMemory) => Err(Refusal::NoMemory),
+        Err(fault) => Err(Refusal::Rom(fault)),
+    }
+}
+
+/// Compares both ROMs with their sources, and joins two boards with a message.
+pub(crate) fn open_link<'a>(
+    alloc: Global,
+    wish: &LinkRequest<'a>,
+    message: &[u8],
+) -> Result<Prepared, Refusal<'a>>
+    requires moves { wish.now.moves ≤ most_moves }
+    requires size { length message.now ≤ most_bytes }
+    ensures { PrepareAnswers (Comes (linking (asked_link wish.now)) (message.now ∷ [])) result }
+{
+    check_roms(alloc)?;
+    match Link::new(alloc, message) {
+        Ok(link) => Ok(Prepared::Link {
+            link,
+            number: wish.number,
+            moves: wish.moves,
+        }),
+        Err(LinkFault::MessageTooLarge(_)) => Err(Refusal::TooLarge(Kind::Message)),
+        Err(LinkFault::NoMemory) => Err(Refusal::NoMemory),
+    }
+}
+
+/// Makes the moves of a number's schedule, and puts the bytes that were received, as one piece.
+pub(crate) fn run_link<O: Sink>(
+    mut link: Link,
+    number: u32,
+    moves: u32,
+    out: &mut O,
+) -> Result<Ended, Failed>
+    requires moves { moves ≤ most_moves }
+    requires joined { IsJoined link }
+    ensures { PerformAnswers (linked_output (linked_after number moves link.message)) (O.meaning out.old) (O.meaning out.new) result }
+{
+    link.run(number, moves);
+    out.put(link.received())?;
+    Ok(Ended::Linked {
+        sent: link.sent(),
+        received: link.received().len() as u32,
+    })
+}
