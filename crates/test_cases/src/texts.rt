@@ -30,7 +30,7 @@ pub fn write_refusals(rt: &HostRuntime) -> anyhow::Result<()> {
     ];
     for refusal in refusals {
         let mut sink = MemSink::new(rt.alloc(), REPORT_ROOM)?;
-        let _ = put_refusal(&mut sink, &refusal);
+        let _ = put_refusal(rt.alloc(), &mut sink, &refusal);
         println!(rt;
             "status {}, report {}",
             refusal.status().number(),

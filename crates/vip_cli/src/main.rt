@@ -40,10 +40,7 @@ fn run(rt: &HostRuntime) -> Status {
     let mut err = StdSink::new(rt.stderr());
     match words_of(rt) {
         Ok(words) => vip_main(alloc, words.as_slice(), &mut files, &mut out, &mut err),
-        Err(refusal) => {
-            let _ = put_refusal(&mut err, &refusal);
-            refusal.status()
-        }
+        Err(refusal) => put_refusal(alloc, &mut err, &refusal),
     }
 }
 
