@@ -6,7 +6,10 @@
 //! an interrupt comes between a write to the screen and the next dispatch point. The same is said of the wrong interpreters of `data/wrong.txt`, of
 //! which a law of `rom_run` is false, so that it shows there. The stored output is what all of this must give.
 //!
-//! It stands on the board, the assembler and the ROM, and on nothing of the program that shows runs. That the ROM is CHIP-8 within the
+//! Last, machine states in files are made by random numbers, and each is gone on from: every point is compared with the step of the language from the
+//! one before it, as `docs/LANGUAGE.md` has it.
+//!
+//! It stands on the board, the assembler, the ROM and `vip_state`, and on nothing of the program that shows runs. That the ROM is CHIP-8 within the
 //! bounds is proved in `rom_run`; what is measured here says how far below them it stays. Nothing here is proved but that it is safe.
 #![tactic(auto)]
 
@@ -14,6 +17,8 @@ mod console;
 mod costs;
 mod demo;
 mod edition;
+mod files;
+mod language;
 mod report;
 mod runs;
 mod source;
@@ -21,7 +26,8 @@ mod watch;
 mod wrong;
 
 use crate::edition::{EDITIONS, name};
-use crate::report::{write_costs, write_form, write_frames, write_wrong};
+use crate::files::run_files;
+use crate::report::{write_costs, write_files, write_form, write_frames, write_wrong};
 use crate::runs::{RunFault, run_demos, run_instructions};
 use crate::source::Source;
 use crate::watch::{KeyTests, Watch};
@@ -96,5 +102,5 @@ fn main(rt: HostRuntime) -> anyhow::Result<()> {
         measure(&rt, edition, &costs, key_tests)?;
         run_wrong_ones(&rt, edition, &wrong, key_tests)?;
     }
-    Ok(())
+    write_files(&rt, &run_files(rt.alloc())?)
 }

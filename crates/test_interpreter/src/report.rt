@@ -1,6 +1,7 @@
 //! What is written of measurements and of sources.
 
 use crate::costs::{Costs, Most};
+use crate::files::Seen;
 use crate::source::Form;
 use crate::watch::Watch;
 
@@ -79,6 +80,16 @@ fn write_most(rt: &HostRuntime, what: &str, most: Most, bound: u64) -> anyhow::R
     println!(rt;
         "  {what}: {} of at most {bound} cycles, {} of main code",
         most.all, most.main
+    )?;
+    Ok(())
+}
+
+/// Writes what was seen of machine states in files.
+pub fn write_files(rt: &HostRuntime, seen: &Seen) -> anyhow::Result<()> {
+    println!(rt; "machine states in files:")?;
+    println!(rt;
+        "  {} files, {} of them refused; {} steps and {} stops, {} of them not those of the language",
+        seen.files, seen.refused, seen.steps, seen.stops, seen.wrong
     )?;
     Ok(())
 }

@@ -1,0 +1,205 @@
+//! Machine states in files, made by random numbers: each accepted one goes on as the language says.
+
+use crate::edition::{EDITIONS, GAME, Places};
+use crate::language::{Language, State};
+use crate::runs::RunFault;
+use chip8_image::{ENTRY, TALL_ENTRY};
+use chip8_lang::{Edition, StopRecord};
+use std::alloc::{AllocError, Global};
+use vip_keypad::Script;
+use vip_relation::view_of;
+use vip_state::{Resumed, Step};
+
+/// How many files are made.
+const FILES: u32 = 500;
+
+/// The limit up to which each goes on, in machine cycles.
+const LIMIT: u64 = 200_000;
+
+/// The cycles of a frame, the cycle of its interrupt, and that in which its window has ended.
+const FRAME: u64 = 3_668;
+
+const INTERRUPT: u64 = 1_092;
+
+const WINDOW_END: u64 = 2_912;
+
+/// What was seen of the files.
+#[derive(Clone, Copy)]
+pub struct Seen {
+    pub files: u32,
+    pub refused: u32,
+    pub steps: u32,
+    pub stops: u32,
+    /// Steps and stops that aren't those of the language.
+    pub wrong: u32,
+}
+
+/// Random numbers: x(k) = 1664525 x(k - 1) + 1013904223 modulo 2 ^ 32, of which the high half is taken.
+#[derive(Drop)]
+struct Numbers {
+    x: u32,
+}
+
+impl Numbers {
+    fn next(&mut self) -> u16 {
+        self.x = self.x.wrapping_mul(1_664_525).wrapping_add(1_013_904_223);
+        (self.x / 65_536) as u16
+    }
+
+    fn byte(&mut self) -> u8 {
+        (self.next() / 256) as u8
+    }
+
+    /// An opcode of the language. A calm one leaves memory and the stack alone, and stops nothing.
+    fn opcode(&mut self, calm: bool) -> u16 {
+        let x = self.next() % 16 * 256;
+        let y = self.next() % 16 * 16;
+        let kk = self.next() % 256;
+        let address = GAME + self.next() % 0xB00 / 2 * 2;
+        match self.next() % if calm { 24 } else { 32 } {
+            0..=4 => 0x6000 + x + kk,
+            5 | 6 => 0x7000 + x + kk,
+            7..=11 => 0x8000 + x + y + kk % 8,
+            12 => 0x800E + x + y,
+            13 => 0xC000 + x + kk,
+            14 => 0x3000 + x + kk,
+            15 => 0x4000 + x + kk,
+            16 => 0x5000 + x + y,
+            17 => 0x9000 + x + y,
+            18 | 19 => 0xA000 + address,
+            20 => 0xF029 + x,
+            21 => 0xF007 + x,
+            22 => 0xF015 + x,
+            23 => 0xF018 + x,
+            24 => 0xF01E + x,
+            25 => 0xD000 + x + y + kk % 16,
+            26 => 0xF033 + x,
+            27 => 0xF055 + x,
+            28 => 0xF065 + x,
+            29 => 0x1000 + address,
+            30 => 0x2000 + address,
+            _ => 0xE000 + x + if kk % 2 == 0 { 0x9E } else { 0xA1 },
+        }
+    }
+
+    /// A cycle in which main code runs.
+    fn cycle(&mut self) -> u64 {
+        let frame = u64::from(self.next() % 20);
+        let place = u64::from(self.next() % 924) * 2;
+        let place = if place < INTERRUPT {
+            place
+        } else {
+            place - INTERRUPT + WINDOW_END
+        };
+        (frame * FRAME + place).min(LIMIT)
+    }
+
+    /// A file that is accepted.
+    fn file(&mut self, alloc: Global, edition: Edition) -> Result<Vec<u8>, AllocError> {
+        let places = Places::of(edition);
+        let (number, entry, top) = match edition {
+            Edition::Usual => (0, ENTRY, 0x0ECF),
+            Edition::Tall => (1, TALL_ENTRY, 0x0DCF),
+        };
+        let mut file = Vec::from_slice(alloc, &[0x56, 0x49, 0x50, 0x53, 0x01, number])?;
+        file.extend_from_slice(&self.cycle().to_be_bytes())?;
+        for register in 0..16u8 {
+            let word = match register {
+                1 => entry,
+                2 => top - self.next() % 13 * 2,
+                4 => places.fetch,
+                5 => GAME + self.next() % 0xB80 / 2 * 2,
+                0xB => u16::from(places.screen_page) * 256 + self.next() % 256,
+                _ => self.next(),
+            };
+            file.extend_from_slice(&word.to_be_bytes())?;
+        }
+        let flags = [
+            self.byte(),
+            self.byte(),
+            self.byte() / 16 * 16 + 4,
+            self.byte() % 4,
+            self.byte() % 16,
+        ];
+        file.extend_from_slice(&flags)?;
+        let game = self.next() % 4;
+        for address in (0..0x1000u16).step_by(2) {
+            let word = match game {
+                _ if address < GAME || address >= places.game_end => self.next(),
+                0 => self.next(),
+                1 => self.opcode(false),
+                _ if address >= places.game_end - 4 => 0x1000 + GAME,
+                _ => self.opcode(true),
+            };
+            file.extend_from_slice(&word.to_be_bytes())?;
+        }
+        Ok(file)
+    }
+}
+
+/// How many interrupts come before a cycle.
+fn interrupts_before(cycle: u64) -> u64 {
+    cycle.saturating_add(FRAME - INTERRUPT - 1) / FRAME
+}
+
+/// Makes random files, and goes on from each.
+pub fn run_files(alloc: Global) -> Result<Seen, RunFault> {
+    let keys = Script::empty(alloc);
+    let mut numbers = Numbers { x: 1 };
+    let mut seen = Seen {
+        files: 0,
+        refused: 0,
+        steps: 0,
+        stops: 0,
+        wrong: 0,
+    };
+    for number in 0..FILES {
+        let edition = EDITIONS[usize::from(number % 2 == 1)];
+        let file = numbers.file(alloc, edition)?;
+        seen.files = seen.files.saturating_add(1);
+        match Resumed::open(alloc, &file, &keys) {
+            Ok(mut run) => go_on(&mut run, &mut seen),
+            Err(_) => seen.refused = seen.refused.saturating_add(1),
+        }
+    }
+    Ok(seen)
+}
+
+/// Goes on from a file up to the limit, and compares each point with the step of the one before it.
+fn go_on(run: &mut Resumed, seen: &mut Seen) {
+    let edition = run.edition();
+    let mut language = Language::on(run.board(), Places::of(edition));
+    let view = view_of(run.board(), edition);
+    let mut from = State::of(&view);
+    let mut cycle = view.cycle;
+    for _ in 0..LIMIT {
+        match run.advance(LIMIT) {
+            Step::Dispatch(view) => {
+                let to = State::of(&view);
+                let ticks = to.n().wrapping_sub(from.n());
+                let passed = interrupts_before(view.cycle).saturating_sub(interrupts_before(cycle));
+                let right = u64::from(ticks) == passed && language.leads(&from, &to, ticks);
+                let writes = language.act(&from);
+                seen.steps = seen.steps.saturating_add(1);
+                if !right || writes && !language.is_on(run.board()) {
+                    seen.wrong = seen.wrong.saturating_add(1);
+                }
+                from = to;
+                cycle = view.cycle;
+            }
+            Step::Stopped(stop) => {
+                seen.stops = seen.stops.saturating_add(1);
+                if !stops(&language, &from, &stop) {
+                    seen.wrong = seen.wrong.saturating_add(1);
+                }
+                return;
+            }
+            Step::End => return,
+        }
+    }
+}
+
+/// Whether this is the stop of a state.
+fn stops(language: &Language, from: &State, stop: &StopRecord) -> bool {
+    language.opcode(stop.pc) == stop.opcode && language.step(from) == Err(stop.stop)
+}
