@@ -171,16 +171,9 @@ impl Case {
             words.push(String::from_str(alloc, "--tall")?)?;
         }
         let mut files = self.files(alloc)?;
-        let mut out = sink(alloc, OUT_ROOM, self.failing_out)?;
-        let mut err = sink(alloc, ERR_ROOM, self.failing_err)?;
-        let is_tall = words.iter().any(|word| word.as_str() == "--tall");
-        let status = vip_main(alloc, words.as_slice(), &mut files, &mut out, &mut err);
-        Ok(Answer {
-            status: status.number(),
-            out,
-            err,
-            height: if is_tall { 64 } else { 32 },
-        })
+        let out = sink(alloc, OUT_ROOM, self.failing_out)?;
+        let err = sink(alloc, ERR_ROOM, self.failing_err)?;
+        Ok(answer(alloc, words.as_slice(), &mut files, out, err))
     }
 
     /// The lines of what was due and didn't come.
@@ -192,6 +185,35 @@ impl Case {
             }
         }
         Ok(missed)
+    }
+}
+
+/// Runs the program on words and files, and answers what it came to; no put fails.
+pub fn answer_to(
+    alloc: Global,
+    words: &[String],
+    files: &mut MemFiles,
+) -> Result<Answer, AllocError> {
+    let out = sink(alloc, OUT_ROOM, None)?;
+    let err = sink(alloc, ERR_ROOM, None)?;
+    Ok(answer(alloc, words, files, out, err))
+}
+
+// Runs the program on words, files and sinks.
+fn answer(
+    alloc: Global,
+    words: &[String],
+    files: &mut MemFiles,
+    mut out: MemSink,
+    mut err: MemSink,
+) -> Answer {
+    let is_tall = words.iter().any(|word| word.as_str() == "--tall");
+    let status = vip_main(alloc, words, files, &mut out, &mut err);
+    Answer {
+        status: status.number(),
+        out,
+        err,
+        height: if is_tall { 64 } else { 32 },
     }
 }
 
@@ -229,8 +251,8 @@ fn failing_put(text: &str) -> Result<FailingPut, CaseFault> {
     Ok((index(put)?, number(kept)? as usize))
 }
 
-// Adds the bytes that hexadecimal words give.
-fn push_hex(bytes: &mut Vec<u8>, text: &str) -> Result<(), CaseFault> {
+/// Adds the bytes that hexadecimal words give.
+pub fn push_hex(bytes: &mut Vec<u8>, text: &str) -> Result<(), CaseFault> {
     for word in text.split_whitespace() {
         for digits in word.as_bytes().chunks(2) {
             let byte = <[u8; 1]>::from_hex(digits)?;

@@ -1,6 +1,7 @@
 //! What is due to a case, and whether it came.
 
 use crate::answer::Answer;
+use crate::case::push_hex;
 use crate::fault::CaseFault;
 use crate::pattern::{Range, fits, number};
 use crate::screen::Screen;
@@ -43,6 +44,8 @@ pub enum Due {
     Last(Vec<String>),
     /// A line of the output by its number, counted from 1.
     Line(u64, String),
+    /// The output has these bytes from this one on, counted from 0.
+    From(u64, Vec<u8>),
     /// The output ends with this screen.
     Screen(Screen),
     /// The output is so many pictures of each of these screens, in order.
@@ -63,6 +66,7 @@ impl Due {
             "records" => Due::Records(Range::read(rest)?),
             "last" => Due::Last(vec![in alloc; String::from_str(alloc, rest)?]?),
             "line" => numbered_line(alloc, rest)?,
+            "from" => placed_bytes(alloc, rest)?,
             "screen" => Due::Screen(Screen::dark()),
             "pictures" => Due::Pictures(vec![in alloc; (number(rest)?, Screen::dark())]?),
             _ => return Err(CaseFault::NotACase),
@@ -118,6 +122,10 @@ impl Due {
                 Some(bytes) => fits(line, bytes),
                 None => false,
             },
+            Due::From(n, bytes) => match out.get(*n as usize..) {
+                Some(behind) => behind.starts_with(bytes),
+                None => false,
+            },
             Due::Screen(screen) => out.ends_with(&screen.text(alloc, came.height)?),
             Due::Pictures(runs) => shows(alloc, runs, came)?,
         })
@@ -167,4 +175,11 @@ fn line_of(alloc: Global, text: &str) -> Result<Vec<u8>, AllocError> {
 fn numbered_line(alloc: Global, text: &str) -> Result<Due, CaseFault> {
     let (n, line) = text.split_once(' ').ok_or(CaseFault::NotACase)?;
     Ok(Due::Line(number(n)?, String::from_str(alloc, line)?))
+}
+
+fn placed_bytes(alloc: Global, text: &str) -> Result<Due, CaseFault> {
+    let (n, digits) = text.split_once(' ').ok_or(CaseFault::NotACase)?;
+    let mut bytes = Vec::new(alloc);
+    push_hex(&mut bytes, digits)?;
+    Ok(Due::From(number(n)?, bytes))
 }
