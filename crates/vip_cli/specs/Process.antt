@@ -1,0 +1,52 @@
+-- What the process does with its command line, its files and its two streams.
+use Rattle.std.specs.Prelude.{◌≡◌, ◌⊎◌, ℕ, List, Result, Ok, Err, Vec, String, map, drop, string_bytes}
+use Rattle.std.specs.Vec.Iter.{into_iter_items}
+use Rattle.std.specs.declared.vec.IntoIter.{IntoIter}
+use Rattle.std.specs.declared.io.Error.{Error}
+use Rattle.std.specs.declared.alloc.Global.{Global}
+use Rattle.vip_outside.specs.Files.{FilesMeaning}
+use Rattle.vip_outside.specs.Sink.{SinkMeaning}
+use Rattle.vip_report.specs.declared.refusal.Refusal.{Refusal}
+use Rattle.vip_report.specs.declared.refusal.Refusal.TheVariants as refusal
+use Rattle.vip_report.specs.declared.status.Status.{Status}
+use Rattle.vip_report.specs.declared.status.Status.TheVariants.{Usage, NoMemory}
+use Rattle.vip_report.specs.Report.{no_memory, usage}
+use Rattle.vip_report.specs.Reported.{IsPut}
+use Rattle.vip_report.specs.Status.{status_number}
+use Rattle.vip_call.specs.Top.{Promises, call_of}
+
+-- the command line: the program's name, and the words behind it; or an error, as where one isn't UTF-8
+abbrev pub CommandLine : Type 0
+CommandLine = Result (IntoIter (String Global) Global) Error
+
+-- all the words behind the program's name, in their order
+abbrev pub words_behind : IntoIter (String Global) Global → List (String Global)
+words_behind args = drop 1 (into_iter_items args)
+
+abbrev pub WordsAnswer : CommandLine → Result (Vec (String Global) Global) Refusal → Type 0
+WordsAnswer (Ok args) (Ok words) = words.items ≡ words_behind args
+WordsAnswer (Ok args) (Err refusal.NoMemory) = Unit {0}
+WordsAnswer (Err error) (Err refusal.Usage) = Unit {0}
+WordsAnswer (Err error) (Err refusal.NoMemory) = Unit {0}
+WordsAnswer _ _ = ⊥
+
+-- The program ran on these words, and the process ends with the number of the status that it answered.
+pub record Runs (words : List (List ℕ)) (files files' : FilesMeaning) (out out' err err' : SinkMeaning) (number : ℕ) : Type 0 where
+  pub status : Status
+  pub promises : Promises status (call_of words files files' out out' err err')
+  pub ends : number ≡ status_number status
+
+-- It didn't: no file was read, nothing was written but this report, by one put, and the process ends with the number of this status.
+pub record Refuses (status : Status) (report : List ℕ) (files files' : FilesMeaning) (out out' err err' : SinkMeaning) (number : ℕ) : Type 0 where
+  pub no_file : files' ≡ files
+  pub no_output : out' ≡ out
+  pub reports : IsPut report err err'
+  pub ends : number ≡ status_number status
+
+-- what the process does: it runs the program on the words; or no memory is found for them; or there is no command line in UTF-8
+abbrev pub ProcessAnswers : CommandLine → FilesMeaning → FilesMeaning → SinkMeaning → SinkMeaning → SinkMeaning → SinkMeaning → ℕ → Type 0
+ProcessAnswers (Ok args) files files' out out' err err' number =
+    Runs (map string_bytes (words_behind args)) files files' out out' err err' number
+    ⊎ Refuses NoMemory no_memory files files' out out' err err' number
+ProcessAnswers (Err error) files files' out out' err err' number =
+    Refuses Usage usage files files' out out' err err' number ⊎ Refuses NoMemory no_memory files files' out out' err err' number
