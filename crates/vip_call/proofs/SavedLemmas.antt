@@ -26,8 +26,7 @@ use Rattle.vip_verbs.specs.Outcome.RunTo.{FaultyScript, FaultyRom, Runs}
 use Rattle.vip_verbs.specs.Outcome.ResumeComes.{FaultyState, Resumes}
 use Rattle.vip_call.specs.Saved.{Continues, GoesOnAsRun, IsRest, traced, resumed}
 use Rattle.vip_call.specs.Top.{Call, ContinuesSaved}
-use Rattle.vip_verbs.proofs.WorkLemmas.{one_edition}
-use Rattle.vip_call.proofs.StateLemmas.{accepted_or_not}
+use Rattle.vip_call.proofs.StateLemmas.{accepted_or_not, one_edition}
 use Rattle.vip_call.proofs.TopLemmas.{rom_is_fine_or_not}
 
 -- ---- the parts of what is shown

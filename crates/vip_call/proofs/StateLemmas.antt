@@ -1,4 +1,4 @@
--- A file of a machine state that is accepted has no fault.
+-- A file of a machine state has one edition, and one that is accepted has no fault.
 use Rattle.std.proofs.Common.{◌≡◌, ℕ, ◌<◌, List, slice_index, refl, sym, ◌∙◌, subst, arith, Err}
 use Rattle.chip8_lang.specs.declared.view.Edition.{Edition}
 use Rattle.chip8_lang.specs.declared.view.Edition.TheVariants.{Usual, Tall}
@@ -11,6 +11,9 @@ by_byte Usual Usual h = refl
 by_byte Usual Tall h = absurd (cc)
 by_byte Tall Usual h = absurd (cc)
 by_byte Tall Tall h = refl
+
+pub one_edition : (d e : Edition) (f : List ℕ) → IsAccepted d f → IsAccepted e f → d ≡ e
+one_edition d e f a b = by_byte d e (sym a.edition ∙ b.edition)
 
 not_above : (e : Edition) → 1 < edition_byte e → ⊥
 not_above Usual h = omega (arith, h)

@@ -25,8 +25,7 @@ use Rattle.vip_outside.specs.Sink.{SinkMeaning}
 use Rattle.vip_outside.specs.declared.sink.Failed.{Failed}
 use Rattle.vip_relation.specs.Interpreters.{interpreter_of}
 use Rattle.vip_text.specs.Endings.{Ending}
-use Rattle.vip_verbs.proofs.WorkLemmas.{one_edition}
-use Rattle.vip_call.proofs.StateLemmas.{accepted_or_not}
+use Rattle.vip_call.proofs.StateLemmas.{accepted_or_not, one_edition}
 use Rattle.vip_words.specs.Asked.{Asked, AskedLink, AskedResume, trace, play, debug, save, resume, demo, link, trace_program, play_program, debug_program, asm, list, dis, source as interpreter, bounds, within, safe, certify, asked_by}
 use Rattle.vip_tools.specs.Certificates.{CertifyComes, CyclesComes, SafeComes}
 use Rattle.vip_tools.specs.Certificates.CertifyComes.{Finds, FindsNone}
