@@ -23,3 +23,9 @@ returns-in-DebugProgram g c = rw c.in-DebugProgram.is c.debug_program.ensures
 
 pub returns-in-Link : goal.returns-in-Link
 returns-in-Link g c = rw c.in-Link.is c.run_link.ensures
+
+pub run_link-requires-clause-joined : goal.run_link-requires-clause-joined
+run_link-requires-clause-joined g c = let ready = rw c.in-Link.is at c.requires in ready.0
+
+pub run_link-requires-clause-moves : goal.run_link-requires-clause-moves
+run_link-requires-clause-moves g c = let ready = rw c.in-Link.is at c.requires in ready.1
