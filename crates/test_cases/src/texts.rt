@@ -4,11 +4,11 @@ use asm_core::{AsmCause, AsmFault};
 use asm_lex::{LexFault, ValueFault};
 use rom_check::ImageFault;
 use vip_byte::NumFault;
+use vip_commands::{CommandCause, CommandFault};
 use vip_keypad::{ScriptCause, ScriptFault};
 use vip_outside::{Failed, MemSink};
 use vip_relation::StartFault;
 use vip_report::{Refusal, put_refusal};
-use vip_commands::{CommandCause, CommandFault};
 
 /// Room for a report.
 const REPORT_ROOM: usize = 80;

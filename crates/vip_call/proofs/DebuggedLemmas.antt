@@ -206,12 +206,12 @@ module _ (e : Edition) (game : List ℕ) (script : List KeyEvent) (limit : ℕ) 
 
   -- so many moves are made up to its cycle
   until_is : (n : ℕ) → Comes n → moves_until v (at_state n).cycle ≡ n
-  unfolding moves_until
   until_is n r =
       omega (
         arith,
-        all-moves i game script (at_state n).cycle n (omega arith) r.runs,
-        last-here i game script (at_state n).cycle n (omega arith) (later-move i.rom (held_at script) (at_state n)),
+        until (run_at v 0) (at_state n).cycle,
+        all-moves (run_at v 0) (at_state n).cycle n (omega arith) r.runs,
+        last-here (run_at v 0) (at_state n).cycle n (omega arith) (later-move i.rom (held_at script) (at_state n)),
       )
 
   lower : (n k : ℕ) → k ≤ n → Comes n → (j : ℕ) → j < k → is_stop i (at_state j) ≡ false

@@ -138,13 +138,14 @@ module _ (law : SavedGoesOn) where
       let s : Shows a.edition scripts (λ script. saved a.edition a.cycles (events_in a.edition game script a.cycles)) (Shown (file ∷ others) status report) =
       shows_of a.edition scripts _ (file ∷ others) status report comes in
       let is = one_piece (saved_file a.edition (events_in a.edition game s.script a.cycles)) file others (same_pieces _ (file ∷ others) _ status _ report s.is) in
-      let run : IsRestOfRun a.edition game s.script a.cycles file = law a.edition game fits bytes s.script a.cycles low file is.0 in
-      (is.1,
-      record {
-        accepted = run.accepted;
-        rest = λ with_time later name first status report o more x y.
-            rest a game scripts file s.script s.reads s.rom run with_time later name more first status report o x y;
-      })
+      let run : IsRestOfRun a.edition game s.script a.cycles file = law a.edition game fits bytes s.script a.cycles low file is.0 in (
+        is.1,
+        record {
+          accepted = run.accepted;
+          rest = λ with_time later name first status report o more x y.
+              rest a game scripts file s.script s.reads s.rom run with_time later name more first status report o x y;
+        },
+      )
 
   shows :
       (old : FilesMeaning) (asked : Asked) (contents pieces : List (List ℕ)) (status : Status) (report : List ℕ) → HasAll old (needed asked) contents

@@ -16,7 +16,7 @@ use Rattle.rom_check.specs.declared.fault.ImageFault.{ImageFault}
 use Rattle.rom_check.specs.declared.fault.ImageFault.TheVariants as image
 use Rattle.vip_commands.specs.Grammar.{commands_of}
 use Rattle.vip_commands.specs.declared.commands.Command.{Command}
-use Rattle.vip_commands.specs.declared.commands.Speaks.TheVariants.{Chip8}
+use Rattle.vip_commands.specs.declared.commands.Speaks.TheVariants.{Chip8, Machine as Processor}
 use Rattle.vip_commands.specs.declared.commands.CommandFault.{CommandFault}
 use Rattle.vip_commands.specs.declared.commands.CommandFault.TheVariants as debug_fault
 use Rattle.vip_outside.specs.Count.{Rose}
@@ -41,6 +41,11 @@ use Rattle.vip_verbs.specs.Outcome.{Comes, RunTo, DebugComes, ResumeComes, LinkC
 use Rattle.vip_verbs.specs.Outcome.RunTo.{FaultyScript, FaultyRom, Runs}
 use Rattle.vip_verbs.specs.Outcome.ResumeComes.{FaultyState, Resumes}
 use Rattle.vip_verbs.specs.Outcome.LinkComes.{FaultyRoms, Links}
+use Rattle.vip_verbs.specs.Programs.{ProgramComes, ProgramDebugComes}
+use Rattle.vip_verbs.specs.Programs.ProgramComes.{FaultyScript as FaultyKeys, Runs as RunsProgram}
+use Rattle.vip_board.specs.Seen.{Seen}
+use Rattle.vip_program.specs.declared.trace.ProgramEnd.{ProgramEnd}
+use Rattle.vip_words.specs.declared.request.Memory.{Memory}
 use Rattle.vip_verbs.specs.Prepared.{OfFiles, output_of}
 use Rattle.vip_verbs.specs.declared.prepared.Prepared.{Prepared}
 use Rattle.vip_text.specs.declared.ending.RunEnd.TheVariants as end
@@ -146,9 +151,9 @@ module _ (d : Edition) (scripts : List (List ℕ)) (outcome : List KeyEvent → 
 -- a file has one edition and one first fault
 resumes_agree : (a : AskedResume) (file : List ℕ) (scripts : List (List ℕ)) (o p : Outcome) → ResumeComes a file scripts o → ResumeComes a file scripts p → Agree o p
 resumes_agree a file scripts _ _ (FaultyState f x) (FaultyState g y) = refl
-resumes_agree a file scripts _ p (FaultyState f x) (Resumes e p y run) = absurd (accepted_or_not e file f y x)
-resumes_agree a file scripts o _ (Resumes d o x run) (FaultyState g y) = absurd (accepted_or_not d file g x y)
-resumes_agree a file scripts o p (Resumes d o x run) (Resumes e p y run') =
+resumes_agree a file scripts _ _ (FaultyState f x) (Resumes e p y run) = absurd (accepted_or_not e file f y x)
+resumes_agree a file scripts _ _ (Resumes d o x run) (FaultyState g y) = absurd (accepted_or_not d file g x y)
+resumes_agree a file scripts _ _ (Resumes d o x run) (Resumes e p y run') =
     runs_agree d scripts _ o p run (subst (λ e. RunTo e scripts (resumed_outcome e) p) (one_edition e d file y x) run')
   where
     resumed_outcome : Edition → List KeyEvent → Outcome
@@ -178,6 +183,36 @@ debugs_agree :
 debugs_agree d game limit scripts (Ok commands) o p x y = runs_agree d scripts _ o p x y
 debugs_agree d game limit scripts (Err (debug_fault.Fault line cause)) o p x y = alone_agree _ o p refl x y
 debugs_agree d game limit scripts (Err debug_fault.NoMemory) o p x y = absurd x
+
+-- the runs of one program come to one outcome
+module _ (memory : Memory) (bytes : List ℕ) (limit : ℕ) (scripts : List (List ℕ)) where
+  programs_agree :
+      (pieces : Seen → List (List ℕ)) (ended : Seen → ProgramEnd) (o p : Outcome)
+      → ProgramComes memory bytes limit scripts pieces ended o → ProgramComes memory bytes limit scripts pieces ended p → Agree o p
+  programs_agree pieces ended _ _ (FaultyKeys l c a) (FaultyKeys m k b) = refl
+  programs_agree pieces ended _ _ (FaultyKeys l c a) (RunsProgram t b) = absurd (cc)
+  programs_agree pieces ended _ _ (RunsProgram s a) (FaultyKeys m k b) = absurd (cc)
+  programs_agree pieces ended _ _ (RunsProgram s a) (RunsProgram t b) = refl
+
+  debugged_agree :
+      (read : Result (List Command) CommandFault) (o p : Outcome)
+      → ProgramDebugComes memory bytes limit scripts read o → ProgramDebugComes memory bytes limit scripts read p → Agree o p
+  debugged_agree (Ok commands) o p x y = programs_agree _ _ o p x y
+  debugged_agree (Err (debug_fault.Fault line cause)) o p x y = alone_agree _ o p refl x y
+  debugged_agree (Err debug_fault.NoMemory) o p x y = absurd x
+
+  -- none of them is given up
+  no_program : (pieces : Seen → List (List ℕ)) (ended : Seen → ProgramEnd) (report : List ℕ) → ProgramComes memory bytes limit scripts pieces ended (GivenUp report) → ⊥
+  no_program pieces ended report x = go (GivenUp report) refl x
+    where
+      go : (o : Outcome) → o ≡ GivenUp report → ProgramComes memory bytes limit scripts pieces ended o → ⊥
+      go _ e (FaultyKeys l c a) = cc
+      go _ e (RunsProgram s a) = cc
+
+  no_debugged : (read : Result (List Command) CommandFault) (report : List ℕ) → ProgramDebugComes memory bytes limit scripts read (GivenUp report) → ⊥
+  no_debugged (Ok commands) report x = no_program _ _ report x
+  no_debugged (Err (debug_fault.Fault line cause)) report x = cc
+  no_debugged (Err debug_fault.NoMemory) report x = x
 
 cycles_agree : (source text : List ℕ) (o p : Outcome) → CyclesComes source text o → CyclesComes source text p → Agree o p
 cycles_agree source text _ _ (NotAssembled l c a) (NotAssembled m d b) = refl
@@ -222,7 +257,7 @@ no_resume a file scripts report x = go (GivenUp report) refl x
   where
     go : (o : Outcome) → o ≡ GivenUp report → ResumeComes a file scripts o → ⊥
     go _ e (FaultyState f y) = cc
-    go o e (Resumes d o y run) =
+    go _ e (Resumes d o y run) =
         no_run d scripts _ report (λ script h. not_shown _ _ _ report h) (subst (λ o. RunTo d scripts (λ script. resumed a d file script) o) e run)
 
 no_debug :
@@ -281,10 +316,14 @@ agree (save a) [] o p x y = absurd x
 agree (save a) (game ∷ scripts) o p x y = runs_agree a.edition scripts _ o p x y
 agree (resume a) [] o p x y = absurd x
 agree (resume a) (file ∷ scripts) o p x y = resumes_agree a file scripts o p x y
-agree (link a) cs o p x y = absurd x
-agree (trace_program a) cs o p x y = absurd x
-agree (play_program a) cs o p x y = absurd x
-agree (debug_program a) cs o p x y = absurd x
+agree (trace_program a) [] o p x y = absurd x
+agree (trace_program a) (bytes ∷ scripts) o p x y = programs_agree a.memory bytes a.cycles scripts _ _ o p x y
+agree (play_program a) [] o p x y = absurd x
+agree (play_program a) (bytes ∷ scripts) o p x y = programs_agree a.memory bytes a.cycles scripts _ _ o p x y
+agree (debug_program a) [] o p x y = absurd x
+agree (debug_program a) (bytes ∷ []) o p x y = absurd x
+agree (debug_program a) (bytes ∷ text ∷ scripts) o p x y =
+    debugged_agree a.run.memory bytes a.run.cycles scripts (commands_of Processor a.run.cycles text) o p x y
 agree (interpreter e) [] o p x y = alone_agree _ o p refl x y
 agree (interpreter e) (c ∷ cs) o p x y = absurd x
 agree bounds [] o p x y = alone_agree _ o p refl x y
@@ -328,10 +367,14 @@ given_up (save a) [] report x = absurd x
 given_up (save a) (game ∷ scripts) report x = no_run a.edition scripts _ report (λ script h. not_shown _ _ _ report h) x
 given_up (resume a) [] report x = absurd x
 given_up (resume a) (file ∷ scripts) report x = absurd (no_resume a file scripts report x)
-given_up (link a) cs report x = absurd x
-given_up (trace_program a) cs report x = absurd x
-given_up (play_program a) cs report x = absurd x
-given_up (debug_program a) cs report x = absurd x
+given_up (trace_program a) [] report x = absurd x
+given_up (trace_program a) (bytes ∷ scripts) report x = absurd (no_program a.memory bytes a.cycles scripts _ _ report x)
+given_up (play_program a) [] report x = absurd x
+given_up (play_program a) (bytes ∷ scripts) report x = absurd (no_program a.memory bytes a.cycles scripts _ _ report x)
+given_up (debug_program a) [] report x = absurd x
+given_up (debug_program a) (bytes ∷ []) report x = absurd x
+given_up (debug_program a) (bytes ∷ text ∷ scripts) report x =
+    absurd (no_debugged a.run.memory bytes a.run.cycles scripts (commands_of Processor a.run.cycles text) report x)
 given_up (interpreter e) [] report x = absurd (cc)
 given_up (interpreter e) (c ∷ cs) report x = absurd x
 given_up bounds [] report x = absurd (cc)

@@ -179,7 +179,7 @@ module _ (law : EveryRun) (from : FromAccepted) where
   transcribes :
       (old : FilesMeaning) (asked : Asked) (contents pieces : List (List ℕ)) (status : Status) (report : List ℕ) → HasAll old (needed asked) contents
       → Comes asked contents (Shown pieces status report) → Transcribes asked contents pieces status report
-  unfolding OfRun
+  unfolding OfRun OfResumed
   transcribes old (trace a) [] pieces status report read comes = tt
   transcribes old (trace a) (game ∷ scripts) pieces status report read comes =
       let e = a.run.edition in

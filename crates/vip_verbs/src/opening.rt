@@ -29,7 +29,8 @@ use vip_tools::{
     run_contents, safe, source, wanted_files,
 };
 use vip_words::{
-    DebugProgramRequest, DebugRequest, DemoRequest, ProgramRequest, Request, ResumeRequest, RunRequest, TraceRequest,
+    DebugProgramRequest, DebugRequest, DemoRequest, ProgramRequest, Request, ResumeRequest,
+    RunRequest, TraceRequest,
 };
 
 /// Compares an edition's ROM with its built-in source.

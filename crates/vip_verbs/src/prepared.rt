@@ -6,6 +6,7 @@ ghost use Rattle.vip_verbs.specs.Prepared.{IsReady, PerformAnswers, DebugEnds, o
 use crate::linked::run_link;
 use crate::program::{debug_program, program_ran};
 use vip_board::Board;
+use vip_commands::Commands;
 use vip_debug::{DebugEnd, run_commands};
 use vip_link::Link;
 use vip_outside::{Failed, Sink};
@@ -14,7 +15,6 @@ use vip_report::Ended;
 use vip_show::{show_pictures, show_summary, show_trace};
 use vip_state::{Resumed, show_resumed, show_saved};
 use vip_text::RunEnd;
-use vip_commands::Commands;
 
 /// A verb that is ready: its files are read and judged, and it needs no more memory. What it writes, and how it ends, is settled.
 #[derive(Drop)]
@@ -38,7 +38,10 @@ pub enum Prepared {
         commands: Commands,
     },
     /// A game's run up to a limit, of which the state at the last dispatch point is saved.
-    Save { vip: Vip, limit: u64 },
+    Save {
+        vip: Vip,
+        limit: u64,
+    },
     /// A run that goes on from a saved state up to a limit, a line for each dispatch point behind it.
     Resume {
         run: Resumed,

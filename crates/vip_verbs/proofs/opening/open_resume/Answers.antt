@@ -13,6 +13,7 @@ returns-in_err-run c =
     (refused-resume (asked_resume c.args.wish.now) _ (script_list c.args.contents.now.script) _ c.in_err-run.ensures)
 
 pub returns : goal.returns
-returns c =
-    ((c.in_ok-run.ensures.runs, c.requires.limit),
-    resume-comes (asked_resume c.args.wish.now) _ (script_list c.args.contents.now.script) _ c.in_ok-run.ensures)
+returns c = (
+  (c.in_ok-run.ensures.runs, c.requires.limit),
+  resume-comes (asked_resume c.args.wish.now) _ (script_list c.args.contents.now.script) _ c.in_ok-run.ensures,
+)
