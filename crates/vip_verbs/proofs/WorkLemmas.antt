@@ -32,7 +32,7 @@ use Rattle.vip_report.specs.Report.{end_report}
 use Rattle.vip_report.specs.Status.{end_status}
 use Rattle.vip_text.specs.declared.ending.RunEnd.{RunEnd}
 use Rattle.vip_tools.specs.Demo.{demo_game}
-use Rattle.vip_tools.specs.Files.{Needed, needed, FilesAnswer, HasAll, with_names}
+use Rattle.vip_tools.specs.Files.{Needed, needed, FilesAnswer, FitAll, HasAll, with_names}
 use Rattle.vip_tools.specs.Opening.{DebugCommandsAnswer}
 use Rattle.vip_tools.specs.Outcome.{Outcome}
 use Rattle.vip_tools.specs.Work.{RefusedBy, TextAnswers}
@@ -296,6 +296,11 @@ module _ (a : AskedResume) (file : List ℕ) (scripts : List (List ℕ)) where
       (Resumes v.edition _ goes.accepted (Runs goes.script goes.reads goes.rom))
 
 -- ---- what is opened
+
+-- a verb without files has no contents
+pub no-contents : (contents : List (List ℕ)) → FitAll [] contents → contents ≡ []
+no-contents [] fit = refl
+no-contents (content ∷ contents) fit = absurd fit
 
 module _ (Comes : Outcome → Type 0) where
   pub text-answers : (r : Result (Vec ℕ Global) Refusal) → TextAnswers Comes r → PrepareAnswers Comes (texted r)

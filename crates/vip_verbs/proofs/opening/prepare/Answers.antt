@@ -1,6 +1,6 @@
 use Rattle.vip_tools.specs.Certificates.{CertifyComes, CyclesComes, SafeComes}
-use Rattle.vip_tools.specs.Outcome.{AsmComes, ListComes}
-use Rattle.vip_verbs.proofs.WorkLemmas.{text-answers}
+use Rattle.vip_tools.specs.Outcome.{AsmComes, BoundsComes, DisComes, ListComes, TextComes}
+use Rattle.vip_verbs.proofs.WorkLemmas.{no-contents, text-answers}
 use Rattle.vip_verbs.proofs.opening.prepare.Goals as goal
 
 pub returns-in-Asm : goal.returns-in-Asm
@@ -26,3 +26,18 @@ pub returns-in-Certify : goal.returns-in-Certify
 returns-in-Certify c =
     rw (c.in-Certify.is, c.only_content-in-Certify.ensures, c.text-in-Certify.ensures)
     (text-answers (CertifyComes c.in-Certify.wish.edition c.only_content-in-Certify.result.now) _ c.certify.ensures)
+
+pub returns-in-Dis : goal.returns-in-Dis
+returns-in-Dis c =
+    rw (c.in-Dis.is, c.only_content-in-Dis.ensures, c.text-in-Dis.ensures)
+    (text-answers (DisComes c.in-Dis.wish.address c.only_content-in-Dis.result.now) _ c.dis.ensures)
+
+pub returns-in-Source : goal.returns-in-Source
+returns-in-Source c =
+    let fit = rw c.in-Source.is at c.requires.sizes in
+    rw (c.in-Source.is, no-contents _ fit, c.text-in-Source.ensures) (text-answers (TextComes c.in-Source.edition) _ c.source.ensures)
+
+pub returns-in-Bounds : goal.returns-in-Bounds
+returns-in-Bounds c =
+    let fit = rw c.in-Bounds.is at c.requires.sizes in
+    rw (c.in-Bounds.is, no-contents _ fit, c.text-in-Bounds.ensures) (text-answers BoundsComes _ c.bounds.ensures)
