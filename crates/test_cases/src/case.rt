@@ -188,17 +188,6 @@ impl Case {
     }
 }
 
-/// Runs the program on words and files, and answers what it came to; no put fails.
-pub fn answer_to(
-    alloc: Global,
-    words: &[String],
-    files: &mut MemFiles,
-) -> Result<Answer, AllocError> {
-    let out = sink(alloc, OUT_ROOM, None)?;
-    let err = sink(alloc, ERR_ROOM, None)?;
-    Ok(answer(alloc, words, files, out, err))
-}
-
 // Runs the program on words, files and sinks.
 fn answer(
     alloc: Global,

@@ -5,8 +5,7 @@
 //! as they must be. A case that isn't is written with its name, what was due and what came. The stored output is what all cases must
 //! give.
 //!
-//! Behind them random games under random key scripts are run in one go, and saved and gone on with, in both editions; the two parts have to be the whole
-//! run. What no words put out comes last: a demonstration game, the reports of a ROM that isn't what its source gives, and the texts
+//! What no words put out is written behind them: a demonstration game, the reports of a ROM that isn't what its source gives, and the texts
 //! of the faults.
 //!
 //! It stands on the program's call, on the files and sinks of `vip_outside`, and, but for the faults whose texts it writes, on nothing of what
@@ -19,14 +18,12 @@ mod case;
 mod due;
 mod fault;
 mod pattern;
-mod saved;
 mod screen;
 mod texts;
 
 use crate::answer::{Answer, is_record};
 use crate::case::Case;
 use crate::fault::CaseFault;
-use crate::saved::cut_runs;
 use crate::texts::{write_faults, write_refusals};
 use std::fs;
 use vip_tools::demo_game;
@@ -118,16 +115,6 @@ fn write_demo_game(rt: &HostRuntime) -> anyhow::Result<()> {
     Ok(())
 }
 
-/// Writes what was seen of runs that are saved and gone on with.
-fn write_cut_runs(rt: &HostRuntime) -> anyhow::Result<()> {
-    let seen = cut_runs(rt.alloc())?;
-    println!(rt;
-        "runs that are saved and gone on with: {}, {} of them without a dispatch point; {} records and {} stops behind; {} not as the run in one go",
-        seen.cut, seen.none, seen.records, seen.stops, seen.wrong
-    )?;
-    Ok(())
-}
-
 fn main(rt: HostRuntime) -> anyhow::Result<()> {
     let text = fs::read_to_string(&rt, "cases.txt")?;
     let mut group = String::new(rt.alloc());
@@ -157,7 +144,6 @@ fn main(rt: HostRuntime) -> anyhow::Result<()> {
         judge(&rt, &case, &mut count)?;
     }
     end_group(&rt, group.as_str(), &mut count)?;
-    write_cut_runs(&rt)?;
     write_demo_game(&rt)?;
     write_refusals(&rt)?;
     write_faults(&rt)
