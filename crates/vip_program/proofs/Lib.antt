@@ -1,6 +1,7 @@
 pub mod Starts
 pub mod Runs
 pub mod Texts
+pub mod Bus
 pub mod Makes
 pub mod Stretches
 pub mod Takes

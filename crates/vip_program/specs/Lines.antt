@@ -1,8 +1,9 @@
 -- The lines of a trace: what each tells of the machine before its moves. Digits are upper case, and the cycle is decimal.
-use Rattle.std.specs.Prelude.{ℕ, Bool, ◌+◌, ◌*◌, ◌/◌, ◌%◌, ◌==◌, if◌then◌else◌, List, [], ◌∷◌, ◌++◌, length, map, flat_map, take, slice_index, codes, decimal}
+use Rattle.std.specs.Prelude.{ℕ, Bool, ◌+◌, ◌*◌, ◌/◌, ◌%◌, ◌==◌, if◌then◌else◌, List, [], ◌∷◌, ◌++◌, length, map, flat_map, take, slice_index, codes, decimal, Option, Some, None}
 use Rattle.machine.specs.Board.{Machine, Case, case_of, byte_of, dma_byte, flags_of}
 use Rattle.machine.specs.Board.Case.{Dma, Interrupt, Idle, Instruction}
-use Rattle.machine.specs.Instruction.{Regs, at}
+use Rattle.machine.specs.Instruction.{Regs, Effect, Port, at, instruction}
+use Rattle.machine.specs.Instruction.Port.{Send, Receive}
 use Rattle.machine.specs.Keys.{Keys}
 use Rattle.machine.specs.Opcodes.{kind_of, opcode_number}
 use Rattle.machine.specs.Signals.{efx_at}
@@ -87,13 +88,23 @@ flag_in held b flag = flags_of (efx_at (b.cycle + 1) b.on) (held (b.cycle + 1) b
 unfoldable pub register_text : List ℕ → Machine → ℕ → List ℕ
 register_text rom b n = codes " " ++ hex4 (at b.regs n) ++ codes " " ++ hex2 (byte_of rom b (at b.regs n))
 
+-- the byte that an instruction sends to a port, or takes from one, which is in D then
+abbrev pub bus_text : Option Port → Regs → List ℕ
+bus_text (Some (Send port byte)) s = codes "  BUS " ++ hex2 byte
+bus_text (Some (Receive port)) s = codes "  BUS " ++ hex2 s.d
+bus_text None s = []
+
 module _ (rom : List ℕ) (held : ℕ → Keys) where
-  -- what an instruction names: a register with its byte, a flag, or the byte on the bus, which is sent from M(R(X)), and 00 at every INP
+  -- what the instruction at R(P) makes, as in a move of the board, where every INP takes 00
+  abbrev pub effect_in : Machine → Effect
+  effect_in b = instruction b.regs (byte_of rom b) (flag_in held b) 0
+
+  -- what an instruction names: a register with its byte, a flag, or a port, of which the byte on the bus is told
   abbrev pub named_text : Names → Machine → List ℕ
   named_text (Register n) b = codes "  R" ++ digit n ++ register_text rom b n
   named_text (Flag flag) b = codes "  EF" ++ digit flag ++ codes " " ++ bit_text (flag_in held b flag)
-  named_text (Output port) b = codes "  BUS " ++ hex2 (byte_of rom b (at b.regs b.regs.x))
-  named_text (Input port) b = codes "  BUS 00"
+  named_text (Output port) b = bus_text (effect_in b).port (effect_in b).regs
+  named_text (Input port) b = bus_text (effect_in b).port (effect_in b).regs
   named_text _ b = []
 
   -- P, X, D, DF and Q, R(X) with its byte, and what the instruction names

@@ -2,6 +2,8 @@
 
 ghost use Rattle.std.specs.Prelude.{◌≡◌, ◌+◌, ◌*◌, ◌≤◌, ◌<◌, ◌++◌, [], ◌∷◌, length};
 ghost use Rattle.arrayvec.specs.ArrayVec.{array_vec_len};
+ghost use Rattle.machine.specs.Board.{byte_of, opcode_of};
+ghost use Rattle.machine.specs.Instruction.{at, stepped};
 ghost use Rattle.machine.specs.Memory.{read};
 ghost use Rattle.vip_byte.specs.Room.{HasRoom};
 ghost use Rattle.vip_board.specs.Seen.{held_by};
@@ -200,15 +202,28 @@ fn flag_in(board: &Board, flag: u8) -> bool
     }
 }
 
-/// Appends what an instruction names.
+/// The byte that OUT sends: that at R(X). Where X = P it stands behind the opcode, since the fetch adds 1 to R(P).
+fn sent_byte(board: &Board) -> u8
+    ensures { result ≡ byte_of board.now.rom board.now.machine (at (stepped board.now.machine.regs board.now.machine.regs.p) board.now.machine.regs.x) }
+{
+    let cpu = board.cpu();
+    let address = cpu.r(cpu.x());
+    if cpu.x() == cpu.p() {
+        board.memory().read(add16(address, 1))
+    } else {
+        board.memory().read(address)
+    }
+}
+
+/// Appends what the instruction at R(P) names, which is this.
 fn put_named(into: &mut Buffer, names: Names, board: &Board)
+    requires names { names ≡ names_at (opcode_of board.now.rom board.now.machine) }
     requires named { IsNamed names }
     requires cycle { board.now.machine.cycle ≤ MOST_CYCLE }
     requires room { HasRoom into.old.items 12 }
     ensures items { into.new.items ≡ into.old.items ++ named_text board.now.rom (held_by board.now) names board.now.machine }
     ensures len { array_vec_len into.new ≤ array_vec_len into.old + 12 }
 {
-    let cpu = board.cpu();
     match names {
         Names::Register(number) => {
             put(into, b"  R");
@@ -223,16 +238,17 @@ fn put_named(into: &mut Buffer, names: Names, board: &Board)
         }
         Names::Output(_) => {
             put(into, b"  BUS ");
-            put(into, &hex2(board.memory().read(cpu.r(cpu.x()))));
+            put(into, &hex2(sent_byte(board)));
         }
         Names::Input(_) => put(into, b"  BUS 00"),
         Names::Data | Names::Nothing => {}
     }
 }
 
-/// Appends what the processor has before an instruction that names this.
+/// Appends what the processor has before the instruction at R(P), which names this.
 #[tactic(auto, unfolding(crate::specs::Lines::state_text))]
 fn put_state(into: &mut Buffer, names: Names, board: &Board)
+    requires names { names ≡ names_at (opcode_of board.now.rom board.now.machine) }
     requires named { IsNamed names }
     requires cycle { board.now.machine.cycle ≤ MOST_CYCLE }
     requires room { HasRoom into.old.items 46 }
