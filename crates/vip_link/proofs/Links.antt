@@ -38,19 +38,27 @@ module _ (zeros message : List ℕ) (h l : ℕ) (long : length zeros ≡ 0x1000)
   loads : loaded inner 0x200 message ≡ head ++ message ++ drop (0x200 + length message) zeros
   loads =
       ap₂ (λ x y. x ++ message ++ y) (take_at head (drop 0x200 zeros) 0x200 head_long)
-      (sym (drop-drop (length message) 0x200 inner) ∙ ap (drop (length message)) (drop_at head (drop 0x200 zeros) 0x200 head_long) ∙ drop-drop (length message) 0x200 zeros)
+      (sym (drop-drop (length message) 0x200 inner)
+      ∙ ap (drop (length message)) (drop_at head (drop 0x200 zeros) 0x200 head_long)
+      ∙ drop-drop (length message) 0x200 zeros)
 
 abbrev zeros_of_ram : List ℕ
 zeros_of_ram = replicate 0x1000 0
 
-pub loads-message : (message : List ℕ) → loaded (loaded (replicate 0x1000 0) 0x1fe ((length message / 256) ∷ (length message % 256) ∷ [])) 0x200 message ≡ message_ram message
+-- the two bytes of a message's length
+abbrev length_bytes : List ℕ → List ℕ
+length_bytes message = (length message / 256) ∷ (length message % 256) ∷ []
+
+pub loads-message : (message : List ℕ) → loaded (loaded zeros_of_ram 0x1fe (length_bytes message)) 0x200 message ≡ message_ram message
 loads-message message =
     loads zeros_of_ram message (length message / 256) (length message % 256) (length-replicate {A = ℕ} 0x1000 0)
-    ∙ ap (λ x. x ++ ((length message / 256) ∷ (length message % 256) ∷ []) ++ message ++ drop (0x200 + length message) zeros_of_ram) (take-replicate {X = ℕ} 0x1fe 0x1000 0 (omega arith))
+    ∙ ap (λ x. x ++ length_bytes message ++ message ++ drop (0x200 + length message) zeros_of_ram)
+    (take-replicate {X = ℕ} 0x1fe 0x1000 0 (omega arith))
 
 -- ---- one move more
 
-pub scheduled-push : (a b : List ℕ) (schedule : List Side) (side : Side) (s : Pair) → scheduled a b (schedule ++ side ∷ []) s ≡ stepped a b side (scheduled a b schedule s)
+pub scheduled-push : (a b : List ℕ) (schedule : List Side) (side : Side) (s : Pair)
+    → scheduled a b (schedule ++ side ∷ []) s ≡ stepped a b side (scheduled a b schedule s)
 scheduled-push a b [] side s = refl
 scheduled-push a b (x ∷ schedule) side s = scheduled-push a b schedule side (stepped a b x s)
 
@@ -108,13 +116,20 @@ module _ (l : Linking) (r : Reached l) (side : Side) where
   next-delivers short = subst (Delivers l.message) (sym one_more) (always_delivers l.message (r.schedule ++ side ∷ []) short)
 
 pub reached-within : (l : Linking) → Reached l → Within (3 * l.moves) l.pair
-reached-within l r = subst (λ s. Within (3 * l.moves) s) (sym r.pair) (subst (λ n. Within (3 * n) (after r.schedule l.message)) r.long (after-within r.schedule l.message))
+reached-within l r =
+    subst (Within (3 * l.moves)) (sym r.pair)
+    (subst (λ n. Within (3 * n) (after r.schedule l.message)) r.long (after-within r.schedule l.message))
 
 -- ---- a board of a link
 
 module _ (rom : List ℕ) (s v : Seen) (incoming outgoing : Option ℕ) (r : Runs rom s) (e : v ≡ linked_moved s incoming outgoing) where
   pub board-runs : Runs rom v
-  board-runs = record { rests = ap (λ (x : Seen). x.phase) e ∙ r.rests; rom_is = ap (λ (x : Seen). x.rom) e ∙ r.rom_is; script = ap (λ (x : Seen). x.script) e ∙ r.script }
+  board-runs =
+      record {
+        rests = ap (λ (x : Seen). x.phase) e ∙ r.rests;
+        rom_is = ap (λ (x : Seen). x.rom) e ∙ r.rom_is;
+        script = ap (λ (x : Seen). x.script) e ∙ r.script;
+      }
 
   pub board-moves : linked s incoming outgoing ≡ linked_move rom no_keys (joined s.machine incoming outgoing)
   board-moves = ap₂ (λ x y. linked_move x (held_at y) (joined s.machine incoming outgoing)) r.rom_is r.script
@@ -129,7 +144,8 @@ count-more : (message more : List ℕ) (sent : ℕ) → sent ≤ length message 
 count-more message more sent h = length-append (take sent message) more ∙ ap (λ n. n + length more) (length-take-le sent message h)
 
 module _ (l : Inside) (k : IsKept l) (a' : Seen) (to_a' to_b' : Option ℕ) (sent' : ℕ)
-    (moved : a' ≡ linked_moved l.a l.to_a l.to_b) (incoming : to_a' ≡ (linked l.a l.to_a l.to_b).incoming) (outgoing : to_b' ≡ (linked l.a l.to_a l.to_b).outgoing)
+    (moved : a' ≡ linked_moved l.a l.to_a l.to_b) (incoming : to_a' ≡ (linked l.a l.to_a l.to_b).incoming)
+    (outgoing : to_b' ≡ (linked l.a l.to_a l.to_b).outgoing)
     (sent : sent' ≡ l.sent + length (entered l.to_b to_b')) where
   abbrev message_a : List ℕ
   message_a = l.message.items
@@ -182,7 +198,8 @@ module _ (l : Inside) (k : IsKept l) (a' : Seen) (to_a' to_b' : Option ℕ) (sen
         delivers = subst (Delivers message_a) (sym is_a) delivers_a;
       }
 
-module _ (l : Inside) (k : IsKept l) (b' : Seen) (to_b' : Option ℕ) (moved : b' ≡ linked_moved l.b l.to_b l.to_a) (incoming : to_b' ≡ (linked l.b l.to_b l.to_a).incoming) where
+module _ (l : Inside) (k : IsKept l) (b' : Seen) (to_b' : Option ℕ) (moved : b' ≡ linked_moved l.b l.to_b l.to_a)
+    (incoming : to_b' ≡ (linked l.b l.to_b l.to_a).incoming) where
   abbrev taking : Joined
   taking = linked_move receiver_rom no_keys (joined l.b.machine l.to_b l.to_a)
 
@@ -197,14 +214,18 @@ module _ (l : Inside) (k : IsKept l) (b' : Seen) (to_b' : Option ℕ) (moved : b
 
   more_long : length (l.received.items ++ left l.to_b to_b') ≤ length l.message.items
   more_long =
-      omega (arith, ap (λ w. length (l.received.items ++ left l.to_b w)) same_wire, starts_with_length pair_taken.sent pair_taken.received delivers_taken.received, starts_with_length l.message.items pair_taken.sent delivers_taken.sent)
+      let same = ap (λ w. length (l.received.items ++ left l.to_b w)) same_wire in
+      let received = starts_with_length pair_taken.sent pair_taken.received delivers_taken.received in
+      let sent = starts_with_length l.message.items pair_taken.sent delivers_taken.sent in
+      omega (arith, same, received, sent)
 
   -- there is room for what is received
   pub room-b : length l.received.items + length (left l.to_b to_b') ≤ vec_capacity l.received
   room-b = omega (arith, more_long, length-append l.received.items (left l.to_b to_b'), k.short, k.room)
 
 module _ (l : Inside) (k : IsKept l) (b' : Seen) (to_a' to_b' : Option ℕ) (received' : Vec ℕ Global)
-    (moved : b' ≡ linked_moved l.b l.to_b l.to_a) (incoming : to_b' ≡ (linked l.b l.to_b l.to_a).incoming) (outgoing : to_a' ≡ (linked l.b l.to_b l.to_a).outgoing)
+    (moved : b' ≡ linked_moved l.b l.to_b l.to_a) (incoming : to_b' ≡ (linked l.b l.to_b l.to_a).incoming)
+    (outgoing : to_a' ≡ (linked l.b l.to_b l.to_a).outgoing)
     (received : received'.items ≡ l.received.items ++ left l.to_b to_b') (room : vec_capacity l.received ≤ vec_capacity received') where
   abbrev after_of_b : Joined
   after_of_b = linked_move receiver_rom no_keys (joined l.b.machine l.to_b l.to_a)
@@ -246,9 +267,11 @@ module _ (l : Inside) (k : IsKept l) (b' : Seen) (to_a' to_b' : Option ℕ) (rec
 
 -- ---- the fields of a link at its start
 
-module _ (l : Inside) (a b : Seen) (short : length l.message.items ≤ most_bytes) (is_a : l.a ≡ a) (is_b : l.b ≡ b) (runs_a : Runs sender_rom a) (runs_b : Runs receiver_rom b)
+module _ (l : Inside) (a b : Seen) (short : length l.message.items ≤ most_bytes)
+    (is_a : l.a ≡ a) (is_b : l.b ≡ b) (runs_a : Runs sender_rom a) (runs_b : Runs receiver_rom b)
     (ram : a.machine ≡ record after_reset { ram = message_ram l.message.items }) (reset : b.machine ≡ after_reset)
-    (to_b : l.to_b ≡ None) (to_a : l.to_a ≡ None) (received : l.received.items ≡ []) (sent : l.sent ≡ 0) (moves : l.moves ≡ 0) (room : most_bytes ≤ vec_capacity l.received) where
+    (to_b : l.to_b ≡ None) (to_a : l.to_a ≡ None) (received : l.received.items ≡ [])
+    (sent : l.sent ≡ 0) (moves : l.moves ≡ 0) (room : most_bytes ≤ vec_capacity l.received) where
   is_start : pair_of l ≡ start l.message.items
   is_start =
       λ i. record {
@@ -287,13 +310,17 @@ reset-runs rom rom' script s e r k =
     record { rests = ap (λ (x : Seen). x.phase) e; rom_is = ap (λ (x : Seen). x.rom) e ∙ r; script = ap (λ (x : Seen). x.script) e ∙ k }
 
 module _ (rom rom' message : List ℕ) (script : List Event) (s u v : Seen) (e : s ≡ reset_board rom' script)
-    (f : u ≡ with_loaded 0x1fe ((length message / 256) ∷ (length message % 256) ∷ []) s) (g : v ≡ with_loaded 0x200 message u) where
-  loaded_is : v ≡ with_loaded 0x200 message (with_loaded 0x1fe ((length message / 256) ∷ (length message % 256) ∷ []) (reset_board rom' script))
-  loaded_is = g ∙ ap (with_loaded 0x200 message) (f ∙ ap (with_loaded 0x1fe ((length message / 256) ∷ (length message % 256) ∷ [])) e)
+    (f : u ≡ with_loaded 0x1fe (length_bytes message) s) (g : v ≡ with_loaded 0x200 message u) where
+  loaded_is : v ≡ with_loaded 0x200 message (with_loaded 0x1fe (length_bytes message) (reset_board rom' script))
+  loaded_is = g ∙ ap (with_loaded 0x200 message) (f ∙ ap (with_loaded 0x1fe (length_bytes message)) e)
 
   pub loaded-runs : rom' ≡ rom → script ≡ [] → Runs rom v
   loaded-runs r k =
-      record { rests = ap (λ (x : Seen). x.phase) loaded_is; rom_is = ap (λ (x : Seen). x.rom) loaded_is ∙ r; script = ap (λ (x : Seen). x.script) loaded_is ∙ k }
+      record {
+        rests = ap (λ (x : Seen). x.phase) loaded_is;
+        rom_is = ap (λ (x : Seen). x.rom) loaded_is ∙ r;
+        script = ap (λ (x : Seen). x.script) loaded_is ∙ k;
+      }
 
   pub loaded-ram : (items : List ℕ) → items ≡ message → v.machine ≡ record after_reset { ram = message_ram items }
   loaded-ram items same =

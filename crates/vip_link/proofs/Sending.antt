@@ -173,7 +173,9 @@ module _ (rest : List ℕ) (held : ℕ → Keys) (n : ℕ) (ram : List ℕ) (roo
   branch_high : (k d c : ℕ) (w : Option ℕ) → Known n ram BranchHigh k d w → (d ≡ 0) ⊎ (d ≡ 0 → ⊥) → After BranchHigh k d c w
   unfolding read
   branch_high k d c w h (inl e) =
-      to n ram TestLow k d (c + 2) _ w _ (ap (λ t. joined (forked n ram (not t) 0x16 0x13 k d (c + 2)) None w) (eq-eqb d 0 e)) (h.0, omega (arith, h.1, e)) (omega arith)
+      to n ram TestLow k d (c + 2) _ w _
+      (ap (λ t. joined (forked n ram (not t) 0x16 0x13 k d (c + 2)) None w) (eq-eqb d 0 e))
+      (h.0, omega (arith, h.1, e)) (omega arith)
   branch_high k d c w h (inr e) =
       to n ram Wait k d (c + 2) _ w _ (ap (λ t. joined (forked n ram (not t) 0x16 0x13 k d (c + 2)) None w) (ne_eqb d 0 e)) some (omega arith)
     where

@@ -19,7 +19,8 @@ use Rattle.vip_program.specs.Pictures.{picture_files}
 -- ---- the numbers of frames
 
 frames-more : (p : ℕ → Bool) (w : ℕ) → filter p (range_with_len 0 (suc w)) ≡ filter p (range_with_len 0 w) ++ cond (p w) (w ∷ []) []
-frames-more p w = ap (λ n. filter p (range_with_len 0 n)) (sym (add-one w)) ∙ ap (filter p) (range_with_len-more w) ∙ filter-append p (range_with_len 0 w) (w ∷ [])
+frames-more p w =
+    ap (λ n. filter p (range_with_len 0 n)) (sym (add-one w)) ∙ ap (filter p) (range_with_len-more w) ∙ filter-append p (range_with_len 0 w) (w ∷ [])
 
 module _ (f f' : ℕ → List ℕ) (p p' : ℕ → Bool) where
   same_last : (w : ℕ) → p' w ≡ p w → f' w ≡ f w → map f' (cond (p' w) (w ∷ []) []) ≡ map f (cond (p w) (w ∷ []) [])
@@ -58,13 +59,18 @@ module _ (rom : List ℕ) (run ys : List Machine) (t : ℕ) (later : Later t ys)
     pub rest : List (List ℕ)
     pub is : picture_files rom (run ++ ys) t' ≡ picture_files rom run t ++ rest
 
-  more_frames : (n w : ℕ) → w ≡ windows_ended t + n → (rest : List (List ℕ)) × (map (file rom (run ++ ys)) (filter (is_shown rom (run ++ ys)) (range_with_len 0 w)) ≡ picture_files rom run t ++ rest)
+  more_frames : (n w : ℕ) → w ≡ windows_ended t + n
+      → (rest : List (List ℕ)) × (map (file rom (run ++ ys)) (filter (is_shown rom (run ++ ys)) (range_with_len 0 w)) ≡ picture_files rom run t ++ rest)
   more_frames zero w e =
-      let same : w ≡ windows_ended t = omega (arith, e) in
-      ([], ap (λ w. map (file rom (run ++ ys)) (filter (is_shown rom (run ++ ys)) (range_with_len 0 w))) same ∙ kept ∙ sym (append-nil (picture_files rom run t)))
+      let same : w ≡ windows_ended t = omega (arith, e) in (
+        [],
+        ap (λ w. map (file rom (run ++ ys)) (filter (is_shown rom (run ++ ys)) (range_with_len 0 w))) same ∙ kept
+            ∙ sym (append-nil (picture_files rom run t)),
+      )
   more_frames (suc n) w e = by_number (w - 1) (omega (arith, e)) (more_frames n (w - 1) (omega (arith, e)))
     where
-      by_number : (v : ℕ) → w ≡ suc v → (rest : List (List ℕ)) × (map (file rom (run ++ ys)) (filter (is_shown rom (run ++ ys)) (range_with_len 0 v)) ≡ picture_files rom run t ++ rest)
+      by_number : (v : ℕ) → w ≡ suc v
+          → (rest : List (List ℕ)) × (map (file rom (run ++ ys)) (filter (is_shown rom (run ++ ys)) (range_with_len 0 v)) ≡ picture_files rom run t ++ rest)
           → (rest : List (List ℕ)) × (map (file rom (run ++ ys)) (filter (is_shown rom (run ++ ys)) (range_with_len 0 w)) ≡ picture_files rom run t ++ rest)
       by_number v e before =
           let last = map (file rom (run ++ ys)) (cond (is_shown rom (run ++ ys) v) (v ∷ []) []) in (
@@ -87,7 +93,8 @@ module _ (rom : List ℕ) (run ys : List Machine) (t : ℕ) (later : Later t ys)
 -- with one move more either no picture is finished, or one
 pub data Next (rom : List ℕ) (run run' : List Machine) (c c' : ℕ) (p p' : Pictures) : Type 0 where
   NoPicture : p'.count ≡ p.count → picture_files rom run' c' ≡ picture_files rom run c → Next rom run run' c c' p p'
-  OnePicture : p'.count ≡ p.count + 1 → (lines : List (List ℕ)) → p'.finished ≡ Some lines → picture_files rom run' c' ≡ picture_files rom run c ++ picture_file lines ∷ [] → Next rom run run' c c' p p'
+  OnePicture : p'.count ≡ p.count + 1 → (lines : List (List ℕ)) → p'.finished ≡ Some lines
+      → picture_files rom run' c' ≡ picture_files rom run c ++ picture_file lines ∷ [] → Next rom run run' c c' p p'
 
 module _ (rom : List ℕ) (run : List Machine) (b : Machine) (c' : ℕ) (le : b.cycle ≤ c') (soon : c' ≤ b.cycle + 3) (p p' : Pictures)
     (shows : Shows rom run b.cycle p) (shows' : Shows rom (run ++ b ∷ []) c' p') where
@@ -120,14 +127,17 @@ module _ (rom : List ℕ) (run : List Machine) (b : Machine) (c' : ℕ) (le : b.
           let earlier = before in
           OnePicture (omega (arith, count, earlier)) (picture_of rom (run ++ b ∷ []) here)
           (last-finished rom (run ++ b ∷ []) c' p' shows' ∙ ap (λ frames. option_map (picture_of rom (run ++ b ∷ [])) (slice_get frames 0)) frames)
-          (ap files_of one ∙ ap (map (file rom (run ++ b ∷ []))) (frames-more shown here ∙ ap (λ keep. filter shown (range_with_len 0 here) ++ cond keep (here ∷ []) []) is)
+          (ap files_of one ∙ ap (map (file rom (run ++ b ∷ [])))
+          (frames-more shown here ∙ ap (λ keep. filter shown (range_with_len 0 here) ++ cond keep (here ∷ []) []) is)
           ∙ map-append (file rom (run ++ b ∷ [])) (filter shown (range_with_len 0 here)) (here ∷ [])
           ∙ ap (λ all. all ++ file rom (run ++ b ∷ []) here ∷ []) files_kept)
       by_frame false is one =
           let frames : shown_frames shown (windows_ended c') ≡ shown_frames shown here =
           ap (shown_frames shown) one ∙ ap (λ keep. cond keep (here ∷ shown_frames shown here) (shown_frames shown here)) is in
           NoPicture (counted rom (run ++ b ∷ []) c' p' shows' ∙ ap length frames ∙ sym before)
-          (ap files_of one ∙ ap (map (file rom (run ++ b ∷ []))) (frames-more shown here ∙ ap (λ keep. filter shown (range_with_len 0 here) ++ cond keep (here ∷ []) []) is ∙ append-nil (filter shown (range_with_len 0 here))) ∙ files_kept)
+          (ap files_of one ∙ ap (map (file rom (run ++ b ∷ [])))
+          (frames-more shown here ∙ ap (λ keep. filter shown (range_with_len 0 here) ++ cond keep (here ∷ []) []) is
+          ∙ append-nil (filter shown (range_with_len 0 here))) ∙ files_kept)
 
       by_window : (windows_ended c' ≡ here) ⊎ (windows_ended c' ≡ suc here) → Next rom run (run ++ b ∷ []) b.cycle c' p p'
       by_window (inl same) =

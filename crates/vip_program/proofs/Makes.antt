@@ -44,13 +44,16 @@ module _ (kind : Machine → Bool) (limit : ℕ) (old : Seen) where
       makes = record {
         moved = next ∙ ap moved m.makes.moved ∙ ap (λ n. moved_by n old) (sym (add-one made));
         within = rw next (move-within v.rom (held_by v) limit v.machine goes);
-        goes = below_more _ _ m.makes.goes (subst (λ c. goes_on limit old.rom c ≡ true) machine_is (subst (λ rom. goes_on limit rom v.machine ≡ true) rom_is goes));
+        goes =
+            below_more _ _ m.makes.goes (subst (λ c. goes_on limit old.rom c ≡ true) machine_is
+            (subst (λ rom. goes_on limit rom v.machine ≡ true) rom_is goes));
       };
       are = below_more _ _ m.are (subst (λ c. kind c ≡ true) machine_is is);
     }
 
     pub making-next : (goes_on limit v.rom v.machine && kind v.machine) ≡ true → v' ≡ moved v → Making kind limit old v' (made + 1)
-    making-next test next = making-more (both (goes_on limit v.rom v.machine) (kind v.machine) test).0 (both (goes_on limit v.rom v.machine) (kind v.machine) test).1 next
+    making-next test next =
+        making-more (both (goes_on limit v.rom v.machine) (kind v.machine) test).0 (both (goes_on limit v.rom v.machine) (kind v.machine) test).1 next
 
     -- and the next one isn't made, or is of another kind
     pub made-all : (count : ℕ) → made ≤ count → (made < count → (goes_on limit v.rom v.machine && kind v.machine) ≡ false)
@@ -204,7 +207,8 @@ module _ (line limit : ℕ) (old v : Seen) (made : ℕ) (m : Making (λ b. is_sc
           ap (λ rom. dma_byte rom v.machine) (ap (λ (s : Seen). s.rom) m.makes.moved ∙ rom-by old made)
           ∙ ap (dma_byte old.rom) (ap (λ (s : Seen). s.machine) m.makes.moved ∙ machine-by old made)
 
-      all : bytes_text (map (dma_byte old.rom) (states old.rom (held_by old) old.machine (made + 1))) ≡ bytes_text (map (dma_byte old.rom) run) ++ bytes_text (dma_byte v.rom v.machine ∷ [])
+      all : bytes_text (map (dma_byte old.rom) (states old.rom (held_by old) old.machine (made + 1))) ≡ bytes_text (map (dma_byte old.rom) run) ++ bytes_text
+          (dma_byte v.rom v.machine ∷ [])
       all =
           ap (λ n. bytes_text (map (dma_byte old.rom) (states old.rom (held_by old) old.machine n))) (add-one made)
           ∙ ap (λ all. bytes_text (map (dma_byte old.rom) all)) (states-more old.rom (held_by old) made old.machine)

@@ -43,7 +43,8 @@ picture-put finished lines bytes old new r is file put =
     subst (λ f. PictureAnswers f old new r) (sym is) (subst (λ text. PutAnswers text old new r) file put)
 
 module _ (limit : ℕ) (start : Seen) (out : SinkMeaning) where
-  pub picturing-first : start.phase ≡ Boundary → start.machine.cycle ≡ 0 → Shows start.rom [] start.machine.cycle start.pictures → Picturing limit start start out out
+  pub picturing-first : start.phase ≡ Boundary → start.machine.cycle ≡ 0 → Shows start.rom [] start.machine.cycle start.pictures
+      → Picturing limit start start out out
   unfolding windows_ended
   picturing-first boundary here shows = record {
     boundary = boundary;
@@ -58,7 +59,8 @@ module _ (limit : ℕ) (start : Seen) (out : SinkMeaning) where
       none : picture_files start.rom [] start.machine.cycle ≡ []
       none = ap (picture_files start.rom []) here
 
-  module _ (v v' : Seen) (out' : SinkMeaning) (t : Picturing limit start v out out') (goes : goes_on limit v.rom v.machine ≡ true) (moved : v' ≡ moved_step v) (carries : CarriesOn v v') where
+  module _ (v v' : Seen) (out' : SinkMeaning) (t : Picturing limit start v out out') (goes : goes_on limit v.rom v.machine ≡ true) (moved : v' ≡ moved_step v)
+      (carries : CarriesOn v v') where
     abbrev run : List Machine
     run = states start.rom (held_by start) start.machine t.count
 
@@ -78,18 +80,23 @@ module _ (limit : ℕ) (start : Seen) (out : SinkMeaning) where
     within' = rw machine' (move-within v.rom (held_by v) limit v.machine goes)
 
     run' : states start.rom (held_by start) start.machine (t.count + 1) ≡ run ++ v.machine ∷ []
-    run' = ap (states start.rom (held_by start) start.machine) (add-one t.count) ∙ states-more start.rom (held_by start) t.count start.machine ∙ ap (λ b. run ++ b ∷ []) (sym here)
+    run' =
+        ap (states start.rom (held_by start) start.machine) (add-one t.count) ∙ states-more start.rom (held_by start) t.count start.machine
+        ∙ ap (λ b. run ++ b ∷ []) (sym here)
 
     rom' : v'.rom ≡ start.rom
     rom' = ap (λ (s : Seen). s.rom) moved ∙ rom_is
 
     shows' : Shows start.rom (run ++ v.machine ∷ []) v'.machine.cycle v'.pictures
-    shows' = subst (λ rom. Shows rom (run ++ v.machine ∷ []) v'.machine.cycle v'.pictures) rom' (carries 0 run (subst (λ rom. Shows rom run v.machine.cycle v.pictures) (sym rom_is) t.shows))
+    shows' =
+        subst (λ rom. Shows rom (run ++ v.machine ∷ []) v'.machine.cycle v'.pictures) rom'
+        (carries 0 run (subst (λ rom. Shows rom run v.machine.cycle v.pictures) (sym rom_is) t.shows))
 
     left' : moves_to start.rom (held_by start) start.machine limit ≡ t.count + 1 + moves_to v'.rom (held_by v') v'.machine limit
     left' =
         let one = moves-go v.rom (held_by v) limit v.machine t.within goes in
-        let same : moves_to v'.rom (held_by v') v'.machine limit ≡ moves_to v.rom (held_by v) (move v.rom (held_by v) v.machine) limit = ap (λ (s : Seen). moves_to s.rom (held_by s) s.machine limit) moved in
+        let same : moves_to v'.rom (held_by v') v'.machine limit ≡ moves_to v.rom (held_by v) (move v.rom (held_by v) v.machine) limit =
+        ap (λ (s : Seen). moves_to s.rom (held_by s) s.machine limit) moved in
         let before = t.left in
         omega (arith, one, same, before)
 
@@ -101,7 +108,8 @@ module _ (limit : ℕ) (start : Seen) (out : SinkMeaning) where
         v.pictures v'.pictures t.shows shows'
 
     -- with these pieces put, of which there is none or one
-    goes-on : v'.phase ≡ Boundary → (out'' : SinkMeaning) → PutsAll (picture_files start.rom (run ++ v.machine ∷ []) v'.machine.cycle) out out'' → Picturing limit start v' out out''
+    goes-on : v'.phase ≡ Boundary → (out'' : SinkMeaning) → PutsAll (picture_files start.rom (run ++ v.machine ∷ []) v'.machine.cycle) out out''
+        → Picturing limit start v' out out''
     goes-on boundary out'' puts = record {
       boundary = boundary;
       within = within';
@@ -121,7 +129,8 @@ module _ (limit : ℕ) (start : Seen) (out : SinkMeaning) where
         by_next (OnePicture count lines finished files) = absurd (omega (arith, count, same))
 
     -- it rose: the last picture goes out
-    pub picturing-one : v'.phase ≡ Boundary → (v'.pictures.count ≡ v.pictures.count → ⊥) → (out'' : SinkMeaning) (done : Unit {0}) → PictureAnswers v'.pictures.finished out' out'' (Ok done)
+    pub picturing-one : v'.phase ≡ Boundary → (v'.pictures.count ≡ v.pictures.count → ⊥) → (out'' : SinkMeaning) (done : Unit {0})
+        → PictureAnswers v'.pictures.finished out' out'' (Ok done)
         → Picturing limit start v' out out''
     picturing-one boundary other out'' done put = by_next what
       where
@@ -130,7 +139,8 @@ module _ (limit : ℕ) (start : Seen) (out : SinkMeaning) where
         by_next (OnePicture count lines finished files) =
             goes-on boundary out''
             (subst (λ pieces. PutsAll pieces out out'') (sym files)
-            (PutsAll-snoc (picture_files start.rom run v.machine.cycle) (picture_file lines) out out' out'' t.puts (subst (λ f. PictureAnswers f out' out'' (Ok done)) finished put)))
+            (PutsAll-snoc (picture_files start.rom run v.machine.cycle) (picture_file lines) out out' out'' t.puts
+            (subst (λ f. PictureAnswers f out' out'' (Ok done)) finished put)))
 
     -- ---- what is put of the whole run begins with what was put, and the next one
 
@@ -143,7 +153,8 @@ module _ (limit : ℕ) (start : Seen) (out : SinkMeaning) where
     after' : machine_after start (t.count + 1) ≡ v'.machine
     after' =
         ap (machine_after start) (add-one t.count)
-        ∙ sym (machine' ∙ ap (λ rom. move rom (held_by v) v.machine) rom_is ∙ ap (λ held. move start.rom held v.machine) held_is ∙ ap (move start.rom (held_by start)) here)
+        ∙ sym (machine' ∙ ap (λ rom. move rom (held_by v) v.machine) rom_is ∙ ap (λ held. move start.rom held v.machine) held_is
+        ∙ ap (move start.rom (held_by start)) here)
 
     whole : made start limit ≡ (run ++ v.machine ∷ []) ++ others
     whole =
@@ -155,7 +166,8 @@ module _ (limit : ℕ) (start : Seen) (out : SinkMeaning) where
     last_late : v'.machine.cycle ≤ (last_machine start limit).cycle
     last_late =
         subst (λ (b : Machine). b.cycle ≤ (last_machine start limit).cycle) after'
-        (in-turn start.rom (held_by start) (moves_to start.rom (held_by start) start.machine limit) (t.count + 1) start.machine (let all = left' in omega (arith, all)))
+        (in-turn start.rom (held_by start) (moves_to start.rom (held_by start) start.machine limit) (t.count + 1) start.machine
+        (let all = left' in omega (arith, all)))
 
     others_later : Later v'.machine.cycle others
     others_later = later-states start.rom (held_by start) v'.machine.cycle rest v'.machine (omega arith)
@@ -172,7 +184,8 @@ module _ (limit : ℕ) (start : Seen) (out : SinkMeaning) where
         → FailsWithin (pictured start limit) out out''
     picturing-fails other out'' e put = by_next what
       where
-        by_next : Next start.rom run (run ++ v.machine ∷ []) v.machine.cycle v'.machine.cycle v.pictures v'.pictures → FailsWithin (pictured start limit) out out''
+        by_next : Next start.rom run (run ++ v.machine ∷ []) v.machine.cycle v'.machine.cycle v.pictures v'.pictures
+            → FailsWithin (pictured start limit) out out''
         by_next (NoPicture count files) = absurd (other count)
         by_next (OnePicture count lines finished files) =
             subst (λ pieces. FailsWithin pieces out out'') (sym (all_files ∙ ap (λ before. before ++ more_files.rest) files))
@@ -180,13 +193,15 @@ module _ (limit : ℕ) (start : Seen) (out : SinkMeaning) where
             (FailsWithin-snoc (picture_files start.rom run v.machine.cycle) (picture_file lines) [] out out' out'' t.puts
             (subst (λ f. PictureAnswers f out' out'' (Err e)) finished put)))
 
-    pub picturing-fault : (v'.pictures.count ≡ v.pictures.count → ⊥) → (out'' : SinkMeaning) (e : Failed) → PictureAnswers v'.pictures.finished out' out'' (Err e)
+    pub picturing-fault : (v'.pictures.count ≡ v.pictures.count → ⊥) → (out'' : SinkMeaning) (e : Failed)
+        → PictureAnswers v'.pictures.finished out' out'' (Err e)
         → (answer : Result ProgramEnd Failed) → IsErr answer → ShowAnswers (pictured start limit) limit start out out'' answer
     picturing-fault other out'' e put (Ok end) bad = cc
     picturing-fault other out'' e put (Err f) bad = picturing-fails other out'' e put
 
   -- no move is left
-  pub picturing-done : (v : Seen) (out' : SinkMeaning) → Picturing limit start v out out' → goes_on limit v.rom v.machine ≡ false → (end : ProgramEnd) → end ≡ end_at v.machine
+  pub picturing-done : (v : Seen) (out' : SinkMeaning) → Picturing limit start v out out' → goes_on limit v.rom v.machine ≡ false → (end : ProgramEnd)
+      → end ≡ end_at v.machine
       → ShowsAll (pictured start limit) limit start out out' end
   unfolding pictured
   picturing-done v out' t rests end is = record {

@@ -101,18 +101,21 @@ module _ (rom : List ℕ) (held : ℕ → Keys) (limit : ℕ) where
   unfolding moves_to
   moves-rest b here rests = ap (λ run. length (up_to_sleep run) - 1) (run_to-next rom held limit b here) ∙ by_test (sleeps b) refl rests
     where
-      by_test : (s : Bool) → sleeps b ≡ s → (not s && nat_le (b.cycle + length_of rom b) limit) ≡ false → length (up_to_sleep (b ∷ run_to rom held (move rom held b) limit)) - 1 ≡ 0
+      by_test : (s : Bool) → sleeps b ≡ s → (not s && nat_le (b.cycle + length_of rom b) limit) ≡ false
+          → length (up_to_sleep (b ∷ run_to rom held (move rom held b) limit)) - 1 ≡ 0
       by_test true e h = asleep_tail b (run_to rom held (move rom held b) limit) e
       by_test false e h =
           let longer = cycle-move rom held b in
           let past : limit < (move rom held b).cycle = grind (arith, nat_tests) in
-          awake_tail b (run_to rom held (move rom held b) limit) e ∙ ap (λ run. length (up_to_sleep run)) (run_to-past rom held limit (move rom held b) past) ∙ none
+          awake_tail b (run_to rom held (move rom held b) limit) e ∙ ap (λ run. length (up_to_sleep run)) (run_to-past rom held limit (move rom held b) past)
+          ∙ none
         where
           none : length (up_to_sleep []) ≡ 0
           none = unfold up_to_sleep in refl
 
   -- after moves that are made the machine is within the limit, and so many are left fewer
-  pub within-many : (n : ℕ) (b : Machine) → b.cycle ≤ limit → ((k : ℕ) → k < n → goes_on limit rom (after_moves rom held b k) ≡ true) → (after_moves rom held b n).cycle ≤ limit
+  pub within-many : (n : ℕ) (b : Machine) → b.cycle ≤ limit → ((k : ℕ) → k < n → goes_on limit rom (after_moves rom held b k) ≡ true)
+      → (after_moves rom held b n).cycle ≤ limit
   within-many zero b here goes = here
   within-many (suc n) b here goes = move-within (after_moves rom held b n) (goes n (omega arith))
 

@@ -23,6 +23,7 @@ module _ (limit : ℕ) (old : Seen) where
       ending = is ∙ ap end_at (ap (λ (s : Seen). s.machine) t.moved ∙ machine-by old made ∙ ap (machine_after old) (t.all ∙ all_asked));
     }
 
-    pub show-fails : TraceFails limit limit old new out out' → (answer : Result ProgramEnd Failed) → IsErr answer → ShowAnswers (traced old limit) limit old out out' answer
+    pub show-fails : TraceFails limit limit old new out out' → (answer : Result ProgramEnd Failed) → IsErr answer
+        → ShowAnswers (traced old limit) limit old out out' answer
     show-fails t (Ok end) bad = cc
     show-fails t (Err e) bad = subst (λ n. FailsWithin (lines_of old n) out out') all_asked t.fails

@@ -26,7 +26,8 @@ module _ (rom : List ℕ) (held : ℕ → Keys) (limit : ℕ) where
   first_line n left b shared ends =
       ap (λ moves. map (line_of rom held) (stretches moves)) (states-append rom held (suc n) left b)
       ∙ ap (map (line_of rom held))
-      (stretch rom held n b (states rom held (after_moves rom held b (suc n)) left) shared (apart-left (after_moves rom held b n) (after_moves rom held b (suc n)) left ends))
+      (stretch rom held n b (states rom held (after_moves rom held b (suc n)) left) shared
+      (apart-left (after_moves rom held b n) (after_moves rom held b (suc n)) left ends))
 
   -- where some moves are left, the next is made
   some_left : (c : Machine) → c.cycle ≤ limit → 0 < moves_to rom held c limit → goes_on limit rom c ≡ true
@@ -53,7 +54,8 @@ module _ (count limit : ℕ) (old new : Seen) (made : ℕ) (m : MakesStretch cou
   all : moves_to old.rom (held_by old) old.machine limit ≡ made + left
   all =
       moves-many old.rom (held_by old) limit made old.machine here m.makes.goes
-      ∙ sym (ap (λ n. made + n) (ap (λ rom. moves_to rom (held_by new) new.machine limit) rom_is ∙ ap (λ held. moves_to old.rom held new.machine limit) held_is ∙ ap (λ c. moves_to old.rom (held_by old) c limit) machine_is))
+      ∙ sym (ap (λ n. made + n) (ap (λ rom. moves_to rom (held_by new) new.machine limit) rom_is ∙ ap (λ held. moves_to old.rom held new.machine limit) held_is
+      ∙ ap (λ c. moves_to old.rom (held_by old) c limit) machine_is))
 
   -- of those that are asked for
   abbrev rest : ℕ
@@ -76,15 +78,19 @@ module _ (count limit : ℕ) (old new : Seen) (made : ℕ) (m : MakesStretch cou
           (m.ends (omega (arith, some)) (some_left new.rom (held_by new) limit new.machine m.makes.within (omega (arith, some))))
 
       behind : lines_of new rest ≡ lines old.rom (held_by old) (machine_after old made) rest
-      behind = ap (λ rom. lines rom (held_by new) new.machine rest) rom_is ∙ ap (λ held. lines old.rom held new.machine rest) held_is ∙ ap (λ c. lines old.rom (held_by old) c rest) machine_is
+      behind =
+          ap (λ rom. lines rom (held_by new) new.machine rest) rom_is ∙ ap (λ held. lines old.rom held new.machine rest) held_is
+          ∙ ap (λ c. lines old.rom (held_by old) c rest) machine_is
 
       by_number : (n : ℕ) → made ≡ suc n → lines_of old (made + rest) ≡ line ∷ lines old.rom (held_by old) (machine_after old made) rest
       by_number n e =
           let before : made - 1 ≡ n = omega (arith, e) in
           subst (λ k. lines_of old (k + rest) ≡ line ∷ lines old.rom (held_by old) (machine_after old k) rest) (sym e)
           (first_line old.rom (held_by old) limit n rest old.machine (λ k l. m.shared k (omega (arith, e, l)))
-          (λ some. subst (λ k. share (machine_after old k) (machine_after old (suc n)) ≡ false) before (subst (λ k. share (machine_after old (made - 1)) (machine_after old k) ≡ false) e (ends_here some)))
-          ∙ ap (λ l. l ∷ lines old.rom (held_by old) (machine_after old (suc n)) rest) (sym (is ∙ ap (λ k. line_of old.rom (held_by old) (states old.rom (held_by old) old.machine k)) e)))
+          (λ some. subst (λ k. share (machine_after old k) (machine_after old (suc n)) ≡ false) before
+          (subst (λ k. share (machine_after old (made - 1)) (machine_after old k) ≡ false) e (ends_here some)))
+          ∙ ap (λ l. l ∷ lines old.rom (held_by old) (machine_after old (suc n)) rest)
+          (sym (is ∙ ap (λ k. line_of old.rom (held_by old) (states old.rom (held_by old) old.machine k)) e)))
 
       first : lines_of old (made + rest) ≡ line ∷ lines_of new rest
       first = by_number (made - 1) (let some = m.some in omega (arith, some)) ∙ ap (λ tail. line ∷ tail) (sym behind)

@@ -15,7 +15,8 @@ appended old middle new first second before more = more ∙ ap (λ text. text ++
 
 module _ (rom : List ℕ) (held : ℕ → Keys) (b : Machine) (old new : List ℕ) where
   -- what is appended is what the line says, where the first move has this case
-  pub says : (k : Case) (moves : List Machine) → case_of b ≡ k → new ≡ old ++ moves_text rom held k b moves → new ≡ old ++ moves_text rom held (case_of b) b moves
+  pub says : (k : Case) (moves : List Machine) → case_of b ≡ k → new ≡ old ++ moves_text rom held k b moves
+      → new ≡ old ++ moves_text rom held (case_of b) b moves
   says k moves is text = text ∙ sym (ap (λ k. old ++ moves_text rom held k b moves) is)
 
   -- the idle cycles of a stretch
@@ -23,10 +24,12 @@ module _ (rom : List ℕ) (held : ℕ → Keys) (b : Machine) (old new : List �
       → new ≡ old ++ moves_text rom held (case_of b) b (states rom held b made)
   says-idle middle made is before more =
       says Idle (states rom held b made) is
-      (appended old middle new (codes " IDLE ") (decimal made) before more ∙ ap (λ n. old ++ (codes " IDLE " ++ decimal n)) (sym (length-states rom held made b)))
+      (appended old middle new (codes " IDLE ") (decimal made) before more
+      ∙ ap (λ n. old ++ (codes " IDLE " ++ decimal n)) (sym (length-states rom held made b)))
 
   -- a whole line
-  pub line-is : (made : ℕ) → 0 < made → (first second : List ℕ) → first ≡ [] ++ cycle_column b → second ≡ first ++ moves_text rom held (case_of b) b (states rom held b made) → new ≡ second ++ newline
+  pub line-is : (made : ℕ) → 0 < made → (first second : List ℕ) → first ≡ [] ++ cycle_column b
+      → second ≡ first ++ moves_text rom held (case_of b) b (states rom held b made) → new ≡ second ++ newline
       → new ≡ line_of rom held (states rom held b made)
   unfolding line_from
   line-is zero some first second x y z = absurd (omega (arith, some))

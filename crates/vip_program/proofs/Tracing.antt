@@ -84,7 +84,9 @@ module _ (count limit : ℕ) (start : Seen) (out : SinkMeaning) where
     -- or it fails
     tracing-fails : PutFails line out' out'' → TraceFails count limit start v' out out''
     tracing-fails fault = record {
-      fails = subst (λ pieces. FailsWithin pieces out out'') (sym split) (FailsWithin-snoc t.written line (lines_of v' (moves_ahead v' limit (count - (made + more)))) out out' out'' t.puts fault);
+      fails =
+          subst (λ pieces. FailsWithin pieces out out'') (sym split)
+          (FailsWithin-snoc t.written line (lines_of v' (moves_ahead v' limit (count - (made + more)))) out out' out'' t.puts fault);
       made = made + more;
       few = let e = ahead in omega (arith, e);
       moved = moved;

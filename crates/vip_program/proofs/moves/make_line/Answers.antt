@@ -8,11 +8,13 @@ use Rattle.vip_program.proofs.moves.make_line.Goals as goal
 
 pub returns-in-Instruction-clause-stretch : goal.returns-in-Instruction-clause-stretch
 returns-in-Instruction-clause-stretch c =
-    one-instruction _ _ _ _ c.requires.some c.requires.within c.requires.goes c.make.ensures.moved (case-named c.args.board.now.machine _ c.in-Instruction.ensures)
+    one-instruction _ _ _ _ c.requires.some c.requires.within c.requires.goes c.make.ensures.moved
+    (case-named c.args.board.now.machine _ c.in-Instruction.ensures)
 
 pub returns-in-Interrupt-clause-stretch : goal.returns-in-Interrupt-clause-stretch
 returns-in-Interrupt-clause-stretch c =
-    one-interrupt _ _ _ _ c.requires.some c.requires.within c.requires.goes c.make-in-Interrupt.ensures.moved (case-named c.args.board.now.machine _ c.in-Interrupt.ensures)
+    one-interrupt _ _ _ _ c.requires.some c.requires.within c.requires.goes c.make-in-Interrupt.ensures.moved
+    (case-named c.args.board.now.machine _ c.in-Interrupt.ensures)
 
 pub returns-in-Idle-clause-stretch : goal.returns-in-Idle-clause-stretch
 returns-in-Idle-clause-stretch c =
@@ -20,7 +22,8 @@ returns-in-Idle-clause-stretch c =
 
 pub returns-in-Idle-clause-items : goal.returns-in-Idle-clause-items
 returns-in-Idle-clause-items c =
-    says-idle c.args.board.now.rom (held_by c.args.board.now) c.args.board.now.machine _ _ _ _ (case-named c.args.board.now.machine _ c.in-Idle.ensures) c.put.ensures.items c.put_number.ensures.items
+    says-idle c.args.board.now.rom (held_by c.args.board.now) c.args.board.now.machine _ _ _ _ (case-named c.args.board.now.machine _ c.in-Idle.ensures)
+    c.put.ensures.items c.put_number.ensures.items
 
 pub returns-in-Dma-clause-stretch : goal.returns-in-Dma-clause-stretch
 returns-in-Dma-clause-stretch c =

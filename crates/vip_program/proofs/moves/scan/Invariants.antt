@@ -14,7 +14,8 @@ invariant-loop-made l = record {
   boundary : l.board.phase ≡ Boundary;
   few : l.made ≤ l.count;
   making : Making (λ b. is_scan l.line (case_of b) b) l.limit l.fn.board l.board l.made;
-  items : l.into.items ≡ l.initial.into.items ++ bytes_text (map (dma_byte l.fn.board.rom) (states l.fn.board.rom (held_by l.fn.board) l.fn.board.machine l.made));
+  items : l.into.items ≡ l.initial.into.items ++ bytes_text
+      (map (dma_byte l.fn.board.rom) (states l.fn.board.rom (held_by l.fn.board) l.fn.board.machine l.made));
   len : length l.into.items ≡ length l.initial.into.items + 3 * l.made;
   line : l.made ≤ 14;
 }

@@ -4,7 +4,8 @@ use Rattle.vip_program.proofs.pictures.show_pictures.Goals as goal
 
 pub loop-board-preserved-in-Continue-1 : goal.loop-board-preserved-in-Continue-1
 loop-board-preserved-in-Continue-1 g c =
-    picturing-one _ _ _ _ _ _ c.loop-board.invariant (sym c.goes_on.ensures ∙ c.loop-board-test.true) c.make.ensures.moved c.make.ensures.pictures c.make.ensures.boundary
+    picturing-one _ _ _ _ _ _ c.loop-board.invariant (sym c.goes_on.ensures ∙ c.loop-board-test.true) c.make.ensures.moved c.make.ensures.pictures
+    c.make.ensures.boundary
     (λ same. c.if-finished-before.true (c.finished.ensures ∙ same ∙ sym c.finished-before.ensures)) _ _ c.in_ok-put_picture.ensures
 
 pub returns-in_err-put_picture : goal.returns-in_err-put_picture
@@ -14,7 +15,8 @@ returns-in_err-put_picture g c =
 
 pub loop-board-preserved : goal.loop-board-preserved
 loop-board-preserved g c =
-    picturing-none _ _ _ _ _ _ c.loop-board.invariant (sym c.goes_on.ensures ∙ c.loop-board-test.true) c.make.ensures.moved c.make.ensures.pictures c.make.ensures.boundary
+    picturing-none _ _ _ _ _ _ c.loop-board.invariant (sym c.goes_on.ensures ∙ c.loop-board-test.true) c.make.ensures.moved c.make.ensures.pictures
+    c.make.ensures.boundary
     (sym c.finished.ensures ∙ c.if-finished-before.false ∙ c.finished-before.ensures)
 
 pub returns : goal.returns

@@ -13,7 +13,8 @@ returns-in_err-put g c =
     (rw c.as_slice.ensures.value at c.in_err-put.ensures.answer)
 
 pub returns-else-goes_on : goal.returns-else-goes_on
-returns-else-goes_on g c = traces _ _ _ _ _ _ _ c.loop-made.invariant (none-made _ _ _ _ _ _ _ c.loop-made.invariant (sym c.goes_on.ensures ∙ c.if-goes_on.false))
+returns-else-goes_on g c =
+    traces _ _ _ _ _ _ _ c.loop-made.invariant (none-made _ _ _ _ _ _ _ c.loop-made.invariant (sym c.goes_on.ensures ∙ c.if-goes_on.false))
 
 pub returns-after-loop-made : goal.returns-after-loop-made
 returns-after-loop-made g c = traces _ _ _ _ _ _ _ c.loop-made.invariant (none-asked _ _ _ _ _ _ _ c.loop-made.invariant c.loop-made-test.false)

@@ -34,7 +34,8 @@ returns c =
       is-started l c.load-2.new.self c.in_ok-b.b (omega (arith, c.if-message-gt-MOST_BYTES.false, ap length c.in_ok-message.ensures.items)) refl refl
           (loaded-runs sender_rom c.sender_image.result c.args.message.now c.empty-script.result c.in_ok-a.a c.load.new.self c.load-2.new.self
           c.in_ok-a.ensures.board c.load.ensures c.load-2.ensures c.sender_image.ensures c.empty-script.ensures)
-          (reset-runs receiver_rom c.receiver_image.result c.empty-script.result c.in_ok-b.b c.in_ok-b.ensures.board c.receiver_image.ensures c.empty-script.ensures)
+          (reset-runs receiver_rom c.receiver_image.result c.empty-script.result c.in_ok-b.b
+          c.in_ok-b.ensures.board c.receiver_image.ensures c.empty-script.ensures)
           (loaded-ram sender_rom c.sender_image.result c.args.message.now c.empty-script.result c.in_ok-a.a c.load.new.self c.load-2.new.self
           c.in_ok-a.ensures.board c.load.ensures c.load-2.ensures c.in_ok-message.message.items c.in_ok-message.ensures.items)
           (ap (λ (s : Seen). s.machine) c.in_ok-b.ensures.board) c.new.ensures c.new-2.ensures c.in_ok-received.ensures.items refl refl

@@ -12,13 +12,15 @@ linked-made-requires-clause-fits c =
 
 pub invariant_of-self : goal.invariant_of-self
 invariant_of-self c =
-    kept-a c.self.inside c.self.invariant c.linked-made.new.self c.linked-made.new.incoming c.linked-made.new.outgoing (c.self.inside.sent + c.bytes_entered.result)
+    kept-a c.self.inside c.self.invariant c.linked-made.new.self c.linked-made.new.incoming c.linked-made.new.outgoing
+    (c.self.inside.sent + c.bytes_entered.result)
     c.linked-made.ensures.moved c.linked-made.ensures.incoming c.linked-made.ensures.outgoing
     (ap (λ n. c.self.inside.sent + n) (c.bytes_entered.ensures ∙ ap₂ (λ x y. length (entered x y)) c.full-before.ensures c.full.ensures))
 
 pub returns-clause-stepped : goal.returns-clause-stepped
 returns-clause-stepped c =
-    stepped-a c.self.inside c.self.invariant c.linked-made.new.self c.linked-made.new.incoming c.linked-made.new.outgoing (c.self.inside.sent + c.bytes_entered.result)
+    stepped-a c.self.inside c.self.invariant c.linked-made.new.self c.linked-made.new.incoming c.linked-made.new.outgoing
+    (c.self.inside.sent + c.bytes_entered.result)
     c.linked-made.ensures.moved c.linked-made.ensures.incoming c.linked-made.ensures.outgoing
     (ap (λ n. c.self.inside.sent + n) (c.bytes_entered.ensures ∙ ap₂ (λ x y. length (entered x y)) c.full-before.ensures c.full.ensures))
     ∙ ap (moved_by A) c.self.view_is

@@ -22,11 +22,13 @@ pub invariant_of-self : goal.invariant_of-self
 invariant_of-self c =
     kept-b c.self.inside c.self.invariant c.linked-made.new.self c.linked-made.new.outgoing c.linked-made.new.incoming c.store.new.received
     c.linked-made.ensures.moved c.linked-made.ensures.incoming c.linked-made.ensures.outgoing
-    (c.store.ensures.items ∙ ap (λ x. c.self.inside.received.items ++ x) (c.byte_left.ensures ∙ ap₂ left c.full-before.ensures c.full.ensures)) c.store.ensures.room
+    (c.store.ensures.items ∙ ap (λ x. c.self.inside.received.items ++ x) (c.byte_left.ensures ∙ ap₂ left c.full-before.ensures c.full.ensures))
+    c.store.ensures.room
 
 pub returns-clause-stepped : goal.returns-clause-stepped
 returns-clause-stepped c =
     stepped-b c.self.inside c.self.invariant c.linked-made.new.self c.linked-made.new.outgoing c.linked-made.new.incoming c.store.new.received
     c.linked-made.ensures.moved c.linked-made.ensures.incoming c.linked-made.ensures.outgoing
-    (c.store.ensures.items ∙ ap (λ x. c.self.inside.received.items ++ x) (c.byte_left.ensures ∙ ap₂ left c.full-before.ensures c.full.ensures)) c.store.ensures.room
+    (c.store.ensures.items ∙ ap (λ x. c.self.inside.received.items ++ x) (c.byte_left.ensures ∙ ap₂ left c.full-before.ensures c.full.ensures))
+    c.store.ensures.room
     ∙ ap (moved_by B) c.self.view_is
