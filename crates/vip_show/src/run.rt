@@ -30,37 +30,48 @@ pub struct Tally {
     pub pictures: u64,
 }
 
-/// Puts the line of the last dispatch point met, where there is one.
-fn put_line<O: Sink>(vip: &Vip, with_time: bool, out: &mut O) -> Result<(), Failed>
+/// Puts the line of the last dispatch point met, where there is one. It is written over what `text` has.
+fn put_line<O: Sink>(
+    vip: &Vip,
+    with_time: bool,
+    text: &mut Buffer,
+    out: &mut O,
+) -> Result<(), Failed>
     ensures { PieceAnswers (option_map (trace_line with_time) vip.now.last) (O.meaning out.old) (O.meaning out.new) result }
 {
     let Some(view) = vip.last() else {
         return Ok(());
     };
-    let mut text = Buffer::new();
-    trace_text(view, with_time, &mut text);
+    text.clear();
+    trace_text(view, with_time, text);
     out.put(text.as_slice())
 }
 
-/// Puts the last picture that was finished, where there is one.
-fn put_picture<O: Sink>(vip: &Vip, out: &mut O) -> Result<(), Failed>
+/// Puts the last picture that was finished, where there is one. It is written over what `text` has.
+fn put_picture<O: Sink>(vip: &Vip, text: &mut Buffer, out: &mut O) -> Result<(), Failed>
     ensures { PieceAnswers (option_map picture_file vip.now.board.pictures.finished) (O.meaning out.old) (O.meaning out.new) result }
 {
     let Some(picture) = vip.board().video().finished() else {
         return Ok(());
     };
-    let mut text = Buffer::new();
-    picture_text(picture, &mut text);
+    text.clear();
+    picture_text(picture, text);
     out.put(text.as_slice())
 }
 
-/// Puts what is shown of an event that was just met.
-fn put_event<O: Sink>(vip: &Vip, met: &Met, shown: Shown, out: &mut O) -> Result<(), Failed>
+/// Puts what is shown of an event that was just met. It is written over what `text` has.
+fn put_event<O: Sink>(
+    vip: &Vip,
+    met: &Met,
+    shown: Shown,
+    text: &mut Buffer,
+    out: &mut O,
+) -> Result<(), Failed>
     ensures { PieceAnswers (event_piece shown met.now vip.now) (O.meaning out.old) (O.meaning out.new) result }
 {
     match (shown, met) {
-        (Shown::Lines { with_time }, Met::Dispatch) => put_line(vip, with_time, out),
-        (Shown::Pictures, Met::Picture) => put_picture(vip, out),
+        (Shown::Lines { with_time }, Met::Dispatch) => put_line(vip, with_time, text, out),
+        (Shown::Pictures, Met::Picture) => put_picture(vip, text, out),
         _ => Ok(()),
     }
 }
@@ -73,17 +84,19 @@ pub fn run<O: Sink>(vip: &mut Vip, limit: u64, shown: Shown, out: &mut O) -> Res
 {
     let mut dispatches = 0u64;
     let mut pictures = 0u64;
+    // one for all events, since a new one is filled with 00 each time
+    let mut text = Buffer::new();
     loop {
         let met = vip.advance(limit);
         let end = match met {
             Met::Dispatch => {
                 dispatches += 1;
-                put_event(vip, &met, shown, out)?;
+                put_event(vip, &met, shown, &mut text, out)?;
                 continue;
             }
             Met::Picture => {
                 pictures += 1;
-                put_event(vip, &met, shown, out)?;
+                put_event(vip, &met, shown, &mut text, out)?;
                 continue;
             }
             Met::Stopped(stop) => RunEnd::AtStop(stop),

@@ -71,7 +71,9 @@ impl FrameBuffer {
         }
     }
 
-    fn push(&mut self, line: u16, byte: u8)
+    /// Adds a byte to a line, 0 to 127, that has fewer than eight.
+    #[inline(always)]
+    pub fn push(&mut self, line: u16, byte: u8)
         requires line { line < 128 }
         requires room { length (slice_index_or self.old line []) < 8 }
         ensures { self.new ≡ slice_set self.old line (slice_index_or self.old line [] ++ byte ∷ []) }

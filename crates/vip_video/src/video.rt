@@ -1,13 +1,15 @@
 //! The video chip.
 
-ghost use Rattle.std.specs.Prelude.{◌≡◌, ◌+◌, ◌<◌, ◌^◌, ◌↔◌, ℕ, true, false, IsSome, IsTrue};
+ghost use Rattle.std.specs.Prelude.{◌≡◌, ◌+◌, ◌<◌, ◌^◌, ◌↔◌, ℕ, true, false, IsSome, IsTrue, Some};
 ghost use Rattle.std.specs.Option.{option_map};
 ghost use Rattle.machine.specs.Signals.{int_at, dma_at, efx_at};
 ghost use Rattle.vip_video.specs.Chip.{at_start, at_cycle, ended};
 ghost use Rattle.vip_video.specs.Quiet.{IsQuiet};
 
 use crate::buffer::Picture;
-use crate::place::{FRAME_LINES, INTERRUPT_LINE, LINE_CYCLES, Place, Requests, Signals};
+use crate::place::{
+    FRAME_LINES, INTERRUPT_LINE, LINE_CYCLES, Place, Requests, Signals, WINDOW_LINE,
+};
 use crate::raster::Raster;
 use std::marker::Model;
 
@@ -159,6 +161,34 @@ impl Video {
     /// before it ended. `byte` is the byte that its DMA cycle put on the bus, and may be given only where `signals(t)` has `dma`.
     #[inline(always)]
     pub fn end_cycle(&mut self, t: u64, byte: Option<u8>)
+        requires present { t ≡ self.old.cycles }
+        requires fits { t + 1 < 2 ^ 64 }
+        requires wanted { IsSome byte → IsTrue (dma_at t self.old.on) }
+        ensures { self.new ≡ ended byte self.old }
+    {
+        match byte {
+            Some(byte) if self.cycle_on => self.end_shown(byte),
+            _ => self.end_any(t, byte),
+        }
+    }
+
+    /// Ends the present cycle, which requested DMA and has the display on, with the byte that it put on the bus. No line ends with it.
+    #[inline(always)]
+    fn end_shown(&mut self, byte: u8)
+        requires fits { self.old.cycles + 1 < 2 ^ 64 }
+        requires wanted { dma_at self.old.cycles self.old.on ≡ true }
+        requires shown { self.old.cycle_on ≡ true }
+        ensures { self.new ≡ ended (Some byte) self.old }
+    {
+        self.raster.add(self.place.line - WINDOW_LINE, byte);
+        self.cycles += 1;
+        self.quiet_to = self.cycles;
+        self.place.column += 1;
+    }
+
+    /// Ends machine cycle t as `end_cycle` does, whatever it is.
+    #[inline(always)]
+    fn end_any(&mut self, t: u64, byte: Option<u8>)
         requires present { t ≡ self.old.cycles }
         requires fits { t + 1 < 2 ^ 64 }
         requires wanted { IsSome byte → IsTrue (dma_at t self.old.on) }

@@ -7,7 +7,7 @@ use Rattle.vip_video.specs.declared.place.Place.{Place}
 use Rattle.vip_video.specs.Kept.{HasRoom}
 use Rattle.vip_video.proofs.Room.{dma-place, room-drawn, room-passed, passed-count}
 use Rattle.vip_video.proofs.Quiet.{chip, quiet-ended, quiet-room}
-use Rattle.vip_video.proofs.video.Video.end_cycle.Goals as goal
+use Rattle.vip_video.proofs.video.Video.end_any.Goals as goal
 
 pub invariant_of-self-then-self-eq0 : goal.invariant_of-self-then-self-eq0
 invariant_of-self-then-self-eq0 c =
