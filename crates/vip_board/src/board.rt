@@ -354,7 +354,7 @@ impl Board {
 
     /// Makes instructions one after another as `instruct` does, up to cycle `limit` and up to the first one behind which the next opcode
     /// has one of two addresses. Answers how many.
-    #[inline(always)]
+    #[inline(never)]
     fn instructions(&mut self, limit: u64, stops: (u16, u16)) -> u64
         requires { self.old.phase ≡ Phase.Boundary }
         ensures { Made limit stops self.old self.new result }
@@ -423,6 +423,10 @@ impl Board {
         ensures made { Made limit stops self.old self.new result }
         ensures none { result ≡ 0 → limit < self.old.machine.cycle + length_of self.old.rom self.old.machine }
     {
+        let scanned = self.scan(limit);
+        if scanned > 0 {
+            return scanned;
+        }
         self.look_ahead();
         let instructed = self.instructions(limit, stops);
         if instructed > 0 {
@@ -431,10 +435,6 @@ impl Board {
         let rested = self.rest(limit);
         if rested > 0 {
             return rested;
-        }
-        let scanned = self.scan(limit);
-        if scanned > 0 {
-            return scanned;
         }
         match self.to_boundary(limit) {
             Moved::End => 0,

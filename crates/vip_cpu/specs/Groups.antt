@@ -87,8 +87,9 @@ group_of Undefined = Control
 group_of Out = InputOutput
 group_of Inp = InputOutput
 
--- the kinds that test no flag and use no port
+-- the kinds that test no flag, use no port and don't start to idle
 abbrev pub is_plain : Kind → Bool
+is_plain Idl = false
 is_plain B1 = false
 is_plain B2 = false
 is_plain B3 = false

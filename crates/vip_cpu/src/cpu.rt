@@ -129,14 +129,15 @@ impl Cpu {
     /// A whole instruction, at a boundary, on a bus that stands as in its last cycle. `opcode` is the byte that R(P) points to.
     #[inline(always)]
     pub fn instruct<B: Bus>(&mut self, bus: &mut B, opcode: u8)
+        requires { self.old.phase ≡ Phase.Boundary }
         ensures { (taken : ℕ) × (let c = ended opcode (stepped self.old.regs self.old.regs.p) (B.byte bus.old) (B.flags bus.old) taken in (self.new ≡ after c) × Acts B.writes B.sends B.receives c.effect taken bus.old bus.new) }
     {
         self.registers.increment(self.registers.p());
-        self.end(bus, opcode);
+        execute(&mut self.registers, bus, decode(opcode));
     }
 
     /// The last cycle of an instruction. Answers the byte that INP took from the bus, and 0 for all other instructions.
-    #[inline(always)]
+    #[inline(never)]
     fn end<B: Bus>(&mut self, bus: &mut B, opcode: u8) -> u8
         ensures processor { self.new ≡ after (ended opcode self.old.regs (B.byte bus.old) (B.flags bus.old) result) }
         ensures acts { let c = ended opcode self.old.regs (B.byte bus.old) (B.flags bus.old) result in Acts B.writes B.sends B.receives c.effect result bus.old bus.new }

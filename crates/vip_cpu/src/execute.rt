@@ -16,6 +16,7 @@ use machine::Kind;
 use vip_isa::Op;
 
 /// M(R(X)).
+#[inline(always)]
 fn operand<B: Bus>(s: &Registers, bus: &B) -> u8
     ensures { result ≡ B.byte bus.now (at s.now s.now.x) }
 {
@@ -23,6 +24,7 @@ fn operand<B: Bus>(s: &Registers, bus: &B) -> u8
 }
 
 /// The next byte, and R(P) + 1.
+#[inline(always)]
 fn immediate<B: Bus>(s: &mut Registers, bus: &B) -> u8
     ensures byte { result ≡ B.byte bus.now (at s.old s.old.p) }
     ensures over { s.new ≡ stepped s.old s.old.p }
@@ -32,6 +34,7 @@ fn immediate<B: Bus>(s: &mut Registers, bus: &B) -> u8
     byte
 }
 
+#[inline(always)]
 fn branch<B: Bus>(s: &mut Registers, bus: &B, taken: bool)
     ensures { s.new ≡ branched s.old taken (B.byte bus.now (at s.old s.old.p)) }
 {
@@ -39,6 +42,7 @@ fn branch<B: Bus>(s: &mut Registers, bus: &B, taken: bool)
     s.branch(taken, next);
 }
 
+#[inline(always)]
 fn branch_far<B: Bus>(s: &mut Registers, bus: &B, taken: bool)
     ensures { s.new ≡ long_branched s.old taken (B.byte bus.now (at s.old s.old.p)) (B.byte bus.now (value (up (get s.old.r s.old.p)))) }
 {
@@ -48,6 +52,7 @@ fn branch_far<B: Bus>(s: &mut Registers, bus: &B, taken: bool)
     s.long_branch(taken, high, low);
 }
 
+#[inline(always)]
 fn memory_reference<B: Bus>(s: &mut Registers, bus: &mut B, op: Op)
     requires valid { IsValid op }
     requires group { group_of op.kind ≡ Group.Memory }
@@ -87,6 +92,7 @@ fn memory_reference<B: Bus>(s: &mut Registers, bus: &mut B, op: Op)
     }
 }
 
+#[inline(always)]
 fn register_operation<B: Bus>(s: &mut Registers, bus: &B, op: Op)
     requires valid { IsValid op }
     requires group { group_of op.kind ≡ Group.Register }
@@ -105,6 +111,7 @@ fn register_operation<B: Bus>(s: &mut Registers, bus: &B, op: Op)
 }
 
 #[tactic(auto, using(crate::proofs::Words::of_bits))]
+#[inline(always)]
 fn logic_operation<B: Bus>(s: &mut Registers, bus: &B, op: Op)
     requires { group_of op.kind ≡ Group.Logic }
     ensures { s.new ≡ (effect op.kind op.n s.old (inputs s.old (B.byte bus.now) (B.flags bus.now) 0)).regs }
@@ -143,6 +150,7 @@ fn logic_operation<B: Bus>(s: &mut Registers, bus: &B, op: Op)
 }
 
 #[tactic(auto, using(crate::proofs::Words::of_bits))]
+#[inline(always)]
 fn arithmetic_operation<B: Bus>(s: &mut Registers, bus: &B, op: Op)
     requires { group_of op.kind ≡ Group.Arithmetic }
     ensures { s.new ≡ (effect op.kind op.n s.old (inputs s.old (B.byte bus.now) (B.flags bus.now) 0)).regs }
@@ -200,6 +208,7 @@ fn arithmetic_operation<B: Bus>(s: &mut Registers, bus: &B, op: Op)
     }
 }
 
+#[inline(always)]
 fn short_branch<B: Bus>(s: &mut Registers, bus: &B, op: Op)
     requires { group_of op.kind ≡ Group.ShortBranch }
     ensures { s.new ≡ (effect op.kind op.n s.old (inputs s.old (B.byte bus.now) (B.flags bus.now) 0)).regs }
@@ -224,6 +233,7 @@ fn short_branch<B: Bus>(s: &mut Registers, bus: &B, op: Op)
     }
 }
 
+#[inline(always)]
 fn long_branch<B: Bus>(s: &mut Registers, bus: &B, op: Op)
     requires { group_of op.kind ≡ Group.LongBranch }
     ensures { s.new ≡ (effect op.kind op.n s.old (inputs s.old (B.byte bus.now) (B.flags bus.now) 0)).regs }
@@ -240,6 +250,7 @@ fn long_branch<B: Bus>(s: &mut Registers, bus: &B, op: Op)
     }
 }
 
+#[inline(always)]
 fn skip<B: Bus>(s: &mut Registers, bus: &B, op: Op)
     requires { group_of op.kind ≡ Group.Skip }
     ensures { s.new ≡ (effect op.kind op.n s.old (inputs s.old (B.byte bus.now) (B.flags bus.now) 0)).regs }
@@ -258,6 +269,7 @@ fn skip<B: Bus>(s: &mut Registers, bus: &B, op: Op)
     }
 }
 
+#[inline(always)]
 fn control<B: Bus>(s: &mut Registers, bus: &mut B, op: Op)
     requires valid { IsValid op }
     requires group { group_of op.kind ≡ Group.Control }
@@ -290,6 +302,7 @@ fn control<B: Bus>(s: &mut Registers, bus: &mut B, op: Op)
 }
 
 /// Answers the byte that INP took from the bus, and 0 for OUT.
+#[inline(always)]
 fn input_output<B: Bus>(s: &mut Registers, bus: &mut B, op: Op) -> u8
     requires valid { IsValid op }
     requires group { group_of op.kind ≡ Group.InputOutput }
@@ -315,6 +328,7 @@ fn input_output<B: Bus>(s: &mut Registers, bus: &mut B, op: Op) -> u8
 }
 
 /// An instruction without its fetch. Answers the byte that INP took from the bus, and 0 for all other instructions.
+#[inline(always)]
 pub fn execute<B: Bus>(s: &mut Registers, bus: &mut B, op: Op) -> u8
     requires { IsValid op }
     ensures regs { s.new ≡ (effect op.kind op.n s.old (inputs s.old (B.byte bus.old) (B.flags bus.old) result)).regs }

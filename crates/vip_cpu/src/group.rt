@@ -29,6 +29,7 @@ pub enum Group {
 }
 
 /// The group of a kind.
+#[inline(always)]
 pub fn group_of(kind: Kind) -> Group
     ensures { result ≡ group_of kind }
 {
@@ -100,12 +101,14 @@ pub fn group_of(kind: Kind) -> Group
     }
 }
 
-/// Whether an instruction of a kind tests no flag and uses no port, so that of the bus only memory plays a part in it.
+/// Whether an instruction of a kind tests no flag and uses no port, so that of the bus only memory plays a part in it, and doesn't start to
+/// idle.
 pub fn is_plain(kind: Kind) -> bool
     ensures { result ≡ is_plain kind }
 {
     match kind {
-        Kind::B1
+        Kind::Idl
+        | Kind::B1
         | Kind::B2
         | Kind::B3
         | Kind::B4

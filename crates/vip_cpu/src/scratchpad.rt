@@ -51,7 +51,7 @@ impl Scratchpad {
         requires { n < 16 }
         ensures { get self.now n ≡ word_of result }
     {
-        self.numbers[n as usize]
+        self.numbers[usize::from(n % 16)]
     }
 
     /// R(n) = number.
@@ -59,6 +59,6 @@ impl Scratchpad {
         requires { n < 16 }
         ensures { self.new ≡ put self.old n (word_of number) }
     {
-        self.numbers[n as usize] = number;
+        self.numbers[usize::from(n % 16)] = number;
     }
 }

@@ -7,10 +7,13 @@
 #![tactic(auto)]
 
 ghost use Rattle.std.specs.Prelude.{◌≡◌, ◌+◌, ◌<◌, ◌≤◌, ◌⊎◌, ◌↔◌, ◌++◌, true, false, length, replicate, slice_set, IfOk, IfSome, IsSome, vec_len};
-ghost use Rattle.machine.specs.Memory.{mapped_address, read, written};
+ghost use Rattle.machine.specs.Memory.{read, written};
 ghost use Rattle.vip_memory.specs.Contents.{loaded, page_of};
 ghost use Rattle.vip_memory.specs.Map.{map_with};
 
+mod latch;
+
+use crate::latch::Latch;
 use std::alloc::{AllocError, Global};
 use std::marker::Model;
 
@@ -22,7 +25,7 @@ const ADDRESSES: usize = 0x1_0000;
 pub struct Memory {
     // what each address reads where the latch is clear
     map: Vec<u8>,
-    latch: bool,
+    latch: Latch,
 }
 
 impl Model for Memory {
@@ -35,13 +38,6 @@ impl Model for Memory {
     ghost view = { λ a. record { ram = ram_in a.map.items; rom = rom_in a.map.items; latch = a.latch } };
 
     ghost invariant = { λ a. record { size : vec_len a.map ≡ 0x10000; map : IsMap a.map.items } };
-}
-
-/// The address that is read in place of `address`: with its highest bit set while the boot latch is set.
-fn place(latch: bool, address: u16) -> u16
-    ensures { result ≡ mapped_address latch address }
-{
-    if latch { address | 0x8000 } else { address }
 }
 
 /// What each address reads at first: RAM is 00.
@@ -65,7 +61,10 @@ impl Memory {
         ensures { IfOk result (λ m. m ≡ record { ram = replicate 0x1000 0; rom = rom.now; latch = true }) }
     {
         let map = map_with(alloc, rom)?;
-        Ok(Memory { map, latch: true })
+        Ok(Memory {
+            map,
+            latch: Latch::set(),
+        })
     }
 
     /// The byte that an address reads: RAM at 0000 to 0FFF, ROM at 8000 to 87FF, and FF elsewhere; while the latch is set, address a
@@ -74,7 +73,7 @@ impl Memory {
     pub fn read(&self, address: u16) -> u8
         ensures { result ≡ read self.now.rom self.now.latch self.now.ram address }
     {
-        self.map[usize::from(place(self.latch, address))]
+        self.map[usize::from(self.latch.place(address))]
     }
 
     /// Puts a byte into RAM, whatever the latch is.
@@ -90,7 +89,7 @@ impl Memory {
     pub fn write(&mut self, address: u16, value: u8)
         ensures { self.new ≡ record self.old { ram = written self.old.latch self.old.ram address value } }
     {
-        if !self.latch && address < 0x1000 {
+        if !self.latch.is_set() && address < 0x1000 {
             self.put(address, value);
         }
     }
@@ -110,14 +109,14 @@ impl Memory {
     pub fn clear_latch(&mut self)
         ensures { self.new ≡ record self.old { latch = false } }
     {
-        self.latch = false;
+        self.latch.clear();
     }
 
     /// Whether the boot latch is set.
     pub fn latch_set(&self) -> bool
         ensures { result ≡ self.now.latch }
     {
-        self.latch
+        self.latch.is_set()
     }
 
     /// Lends the 256 bytes of the page whose addresses have the high byte `high`, whatever the latch is: a page of RAM for 00 to 0F,

@@ -11,6 +11,8 @@ pub returns : goal.returns
 returns c =
     let rom = c.args.rom.now in
     let made : List ℕ → List ℕ → Contents = λ ram rom. record { ram = ram; rom = rom; latch = true } in
-    ap (λ l. made (ram_in l) (rom_in l)) c.in_ok-map.ensures.items
+    let map = c.in_ok-map.map.items in
+    ap (λ set. record { ram = ram_in map; rom = rom_in map; latch = set }) c.set.ensures
+    ∙ ap (λ l. made (ram_in l) (rom_in l)) c.in_ok-map.ensures.items
     ∙ ap (λ l. made l (rom_in (map_with rom))) (ram-with rom c.requires)
     ∙ ap (made (replicate 0x1000 0)) (rom-with rom c.requires)
