@@ -16,7 +16,7 @@ use Rattle.cycle_check.specs.declared.table.Way.{Way}
 use Rattle.cycle_check.specs.declared.table.Ways.{Ways}
 use Rattle.cycle_check.specs.Table.{is_refused, assigns_d, assigns_named, assigns_pointed, flow_of, ways_of, branch}
 use Rattle.cycle_check.specs.Closed.{is_open}
-use Rattle.cycle_check.proofs.Registers.{get_put, get_put_other}
+use Rattle.machine.proofs.Registers.{get_put, get_put_other}
 
 -- ---- the one register that an instruction puts
 

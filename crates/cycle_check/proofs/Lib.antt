@@ -4,6 +4,5 @@ pub mod Effects
 pub mod Growth
 pub mod Lookup
 pub mod Numbers
-pub mod Registers
 pub mod Shown
 pub mod Soundness

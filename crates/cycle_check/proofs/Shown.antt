@@ -15,7 +15,7 @@ use Rattle.cycle_check.specs.declared.closed.Instruction.{Instruction}
 use Rattle.cycle_check.specs.Table.{is_refused, assigns_d, assigns_named, assigns_pointed, x_after, low_after}
 use Rattle.cycle_check.specs.Closed.{admits, known_d, left, is_open, counter_after, stays_copied, is_copied, stays_loaded, is_loaded, was_not_zero, loads_not_zero, is_shown, fits_x, pays_for}
 use Rattle.cycle_check.proofs.Below.{passes_at}
-use Rattle.cycle_check.proofs.Registers.{get_put}
+use Rattle.machine.proofs.Registers.{get_put}
 use Rattle.cycle_check.proofs.Effects.{keeps, d_is, x_then}
 
 -- ---- what a line's parts mean

@@ -42,7 +42,7 @@ use Rattle.cycle_check.specs.Leaving.{Outside, instructed, after, is_inside, Sta
 use Rattle.cycle_check.proofs.Below.{passes_at, left_rises}
 use Rattle.cycle_check.proofs.Growth.{bind-ok, ok_is}
 use Rattle.cycle_check.proofs.Lookup.{address_of-found, cause_of-found}
-use Rattle.cycle_check.proofs.Registers.{get_put, get_put_other}
+use Rattle.machine.proofs.Registers.{get_put, get_put_other}
 use Rattle.cycle_check.proofs.Effects.{Stands, Goes, GoesOneOf, goes, x_is, p_is}
 use Rattle.cycle_check.proofs.Shown.{Knows, FactHolds, Follows, Allowed, known_d-holds, admits-holds, open-known, x_after-holds, fits_x-holds, pays_for-at, counter-follows, shown-holds}
 

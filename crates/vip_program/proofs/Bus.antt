@@ -11,7 +11,7 @@ use Rattle.machine.specs.Keys.{Keys}
 use Rattle.machine.specs.Opcodes.{kind_of, opcode_number}
 use Rattle.vip_byte.specs.HexText.{hex2}
 use Rattle.vip_cpu.proofs.Words.{value_word_of, word_of_next}
-use Rattle.cycle_check.proofs.Registers.{get_put, get_put_other}
+use Rattle.machine.proofs.Registers.{get_put, get_put_other}
 use Rattle.vip_program.specs.Lines.{bus_text, effect_in, flag_in, named_text, names_at}
 use Rattle.vip_program.specs.Names.{names_in}
 use Rattle.vip_program.specs.declared.names.Names.TheVariants.{Output, Input}
