@@ -93,30 +93,3 @@ impl<R: rt::Files> Files for RealFiles<R> {
         answer
     }
 }
-
-#[cfg(test)]
-mod tests {
-    use super::*;
-    use std::test::Fail;
-
-    #[test]
-    fn reads_the_start_of_a_file(rt: HostRuntime) -> Result<(), Fail> {
-        let alloc = rt.alloc();
-        fs::write(&rt, "read.bin", "abc")?;
-        let mut files = RealFiles::new(&rt, alloc);
-        let rows = [
-            (0, "Ok(Loaded { bytes: [], more: true })"),
-            (2, "Ok(Loaded { bytes: [97, 98], more: true })"),
-            (3, "Ok(Loaded { bytes: [97, 98, 99], more: false })"),
-            (9, "Ok(Loaded { bytes: [97, 98, 99], more: false })"),
-        ];
-        for (most, text) in rows {
-            let answer = files.read(alloc, "read.bin", most);
-            assert_eq!(rt; format!(in alloc; "{answer:?}")?.as_str(), text);
-        }
-        fs::remove_file(&rt, "read.bin")?;
-        let absent = files.read(alloc, "read.bin", 9);
-        assert!(rt; matches!(absent, Err(ReadFail::Failed)));
-        Ok(())
-    }
-}

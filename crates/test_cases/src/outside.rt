@@ -1,0 +1,68 @@
+//! What the real sink does with a stream, and the real files with the files of the system: no case reaches them.
+
+use std::io::{ErrorKind, Write};
+use std::{fs, io};
+use vip_outside::{Files, RealFiles, Sink, StdSink};
+
+/// A file that these tests write, read and remove.
+const SCRATCH: &str = "scratch.bin";
+
+/// A stream that takes at most so many bytes at each write, and may fail to flush.
+#[derive(Drop)]
+struct Slow {
+    step: usize,
+    flushes: bool,
+}
+
+impl Write for Slow {
+    fn write(&mut self, piece: &[u8]) -> io::Result<usize> {
+        Ok(self.step.min(piece.len()))
+    }
+
+    fn flush(&mut self) -> io::Result<()> {
+        if self.flushes {
+            Ok(())
+        } else {
+            Err(io::Error::from(ErrorKind::Other))
+        }
+    }
+}
+
+/// Writes what a put of three bytes comes to on streams that take few bytes or fail, and then an empty one.
+pub fn write_streams(rt: &HostRuntime) -> anyhow::Result<()> {
+    for (step, flushes) in [(1, true), (9, true), (0, true), (9, false)] {
+        let mut sink = StdSink::new(Slow { step, flushes });
+        let answer = sink.put(b"abc");
+        let empty = sink.put(b"");
+        println!(rt;
+            "a stream that takes {step} bytes and {} flush: {answer:?}, {empty:?}",
+            if flushes { "can" } else { "can't" }
+        )?;
+    }
+    Ok(())
+}
+
+/// Writes what a file of the system holds that was put piece by piece, what reads of its start answer, and one of it when it is gone.
+pub fn write_files(rt: &HostRuntime) -> anyhow::Result<()> {
+    let mut sink = StdSink::new(fs::create(rt, SCRATCH)?);
+    for piece in ["ab", "", "c"] {
+        println!(rt;
+            "put of {piece:?} to a file: {:?}",
+            sink.put(piece.as_bytes())
+        )?;
+    }
+    println!(rt;
+        "the file holds {:?}",
+        fs::read_to_string(rt, SCRATCH)?.as_str()
+    )?;
+    let mut files = RealFiles::new(rt, rt.alloc());
+    for most in [0, 2, 3, 9] {
+        println!(rt;
+            "its first {most} bytes: {:?}",
+            files.read(rt.alloc(), SCRATCH, most)
+        )?;
+    }
+    fs::remove_file(rt, SCRATCH)?;
+    println!(rt; "when it is gone: {:?}", files.read(rt.alloc(), SCRATCH, 9))?;
+    Ok(())
+}
