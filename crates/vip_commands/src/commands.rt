@@ -11,7 +11,7 @@ use thiserror::Error;
 use vip_byte::{Lines, MOST_TEXT};
 
 /// A command. The first two kinds speak of the machine, whatever runs on it, and the other two of the language CHIP-8.
-#[derive(Clone, Copy, Debug, PartialEq, Eq)]
+#[derive(Clone, Copy)]
 pub enum Command {
     Runs(Running),
     Shows(Showing),
@@ -20,7 +20,7 @@ pub enum Command {
 }
 
 /// A command that runs the board, up to the end of its run or the limit at the latest.
-#[derive(Clone, Copy, Debug, PartialEq, Eq)]
+#[derive(Clone, Copy)]
 pub enum Running {
     /// Makes so many moves.
     Step(u32),
@@ -33,7 +33,7 @@ pub enum Running {
 }
 
 /// A command that shows what the board holds, and leaves it.
-#[derive(Clone, Copy, Debug, PartialEq, Eq)]
+#[derive(Clone, Copy)]
 pub enum Showing {
     /// The registers of the processor.
     Regs,
@@ -46,7 +46,7 @@ pub enum Showing {
 }
 
 /// A command that runs the board to a dispatch point, up to its stop point or the limit at the latest.
-#[derive(Clone, Copy, Debug, PartialEq, Eq)]
+#[derive(Clone, Copy)]
 pub enum Seeking {
     /// To the so-many-th next one.
     Next(u32),
@@ -55,7 +55,7 @@ pub enum Seeking {
 }
 
 /// A command that tells what was met of the language, and leaves the board.
-#[derive(Clone, Copy, Debug, PartialEq, Eq)]
+#[derive(Clone, Copy)]
 pub enum Telling {
     /// The language state at the last dispatch point met.
     State,
@@ -64,7 +64,7 @@ pub enum Telling {
 }
 
 /// What a board that is debugged runs, and so which commands there are.
-#[derive(Clone, Copy, Debug, PartialEq, Eq)]
+#[derive(Clone, Copy)]
 pub enum Speaks {
     /// A game: all of them.
     Chip8,

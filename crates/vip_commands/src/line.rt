@@ -1,6 +1,7 @@
 //! One line of a text of commands.
 
 ghost use Rattle.std.specs.Prelude.{◌≡◌, ◌≤◌, ◌∷◌, [], Ok, Err, IfOk, MatchResult};
+ghost use Rattle.std.specs.Str.{bytes_eq};
 ghost use Rattle.vip_commands.specs.Grammar.{address_of, bytes_of, command_of, decimal_within, language_command_of, no_operand, one_operand, said, showing_of, span_of, steps_of, to_of, two_operands};
 
 use crate::commands::{Command, CommandCause, Running, Seeking, Showing, Speaks, Telling};
@@ -28,6 +29,13 @@ pub fn read_line(line: &[u8], speaks: Speaks, limit: u64) -> Result<Option<Comma
     Ok(Some(command))
 }
 
+// Whether a word is this one.
+fn is(word: &[u8], name: &[u8]) -> bool
+    ensures { result ≡ bytes_eq word.now name.now }
+{
+    word == name
+}
+
 // The command that a word says with these operands.
 #[tactic(auto, unfolding(crate::specs::Grammar::command_of))]
 fn read_command(
@@ -38,15 +46,17 @@ fn read_command(
 ) -> Result<Command, CommandCause>
     ensures { result ≡ command_of speaks limit word.now operands.entry }
 {
-    match word {
-        b"step" => Ok(Command::Runs(Running::Step(read_steps(operands)?))),
-        b"to" => Ok(Command::Runs(Running::To(read_to(operands, limit)?))),
-        b"at" => Ok(Command::Runs(Running::At(read_address(one(operands)?)?))),
-        b"watch" => {
-            let (address, count) = read_bytes(operands)?;
-            Ok(Command::Runs(Running::Watch(address, count)))
-        }
-        _ => read_showing(word, operands, speaks),
+    if is(word, b"step") {
+        Ok(Command::Runs(Running::Step(read_steps(operands)?)))
+    } else if is(word, b"to") {
+        Ok(Command::Runs(Running::To(read_to(operands, limit)?)))
+    } else if is(word, b"at") {
+        Ok(Command::Runs(Running::At(read_address(one(operands)?)?)))
+    } else if is(word, b"watch") {
+        let (address, count) = read_bytes(operands)?;
+        Ok(Command::Runs(Running::Watch(address, count)))
+    } else {
+        read_showing(word, operands, speaks)
     }
 }
 
@@ -55,24 +65,22 @@ fn read_command(
 fn read_showing(word: &[u8], operands: Words, speaks: Speaks) -> Result<Command, CommandCause>
     ensures { result ≡ showing_of speaks word.now operands.entry }
 {
-    match word {
-        b"regs" => alone(Command::Shows(Showing::Regs), operands),
-        b"mem" => {
-            let (address, count) = read_bytes(operands)?;
-            Ok(Command::Shows(Showing::Mem(address, count)))
-        }
-        b"dis" => {
-            let (address, count) = read_span(operands)?;
-            Ok(Command::Shows(Showing::Dis(address, count)))
-        }
-        b"list" => {
-            let (address, count) = read_span(operands)?;
-            Ok(Command::Shows(Showing::List(address, count)))
-        }
-        _ => match speaks {
+    if is(word, b"regs") {
+        alone(Command::Shows(Showing::Regs), operands)
+    } else if is(word, b"mem") {
+        let (address, count) = read_bytes(operands)?;
+        Ok(Command::Shows(Showing::Mem(address, count)))
+    } else if is(word, b"dis") {
+        let (address, count) = read_span(operands)?;
+        Ok(Command::Shows(Showing::Dis(address, count)))
+    } else if is(word, b"list") {
+        let (address, count) = read_span(operands)?;
+        Ok(Command::Shows(Showing::List(address, count)))
+    } else {
+        match speaks {
             Speaks::Chip8 => read_language(word, operands),
             Speaks::Machine => Err(CommandCause::BadWord),
-        },
+        }
     }
 }
 
@@ -81,12 +89,16 @@ fn read_showing(word: &[u8], operands: Words, speaks: Speaks) -> Result<Command,
 fn read_language(word: &[u8], operands: Words) -> Result<Command, CommandCause>
     ensures { result ≡ language_command_of word.now operands.entry }
 {
-    match word {
-        word if word == b"screen".as_slice() => alone(Command::Tells(Telling::Screen), operands),
-        b"state" => alone(Command::Tells(Telling::State), operands),
-        b"next" => Ok(Command::Seeks(Seeking::Next(read_steps(operands)?))),
-        b"break" => Ok(Command::Seeks(Seeking::Break(read_address(one(operands)?)?))),
-        _ => Err(CommandCause::BadWord),
+    if is(word, b"screen") {
+        alone(Command::Tells(Telling::Screen), operands)
+    } else if is(word, b"state") {
+        alone(Command::Tells(Telling::State), operands)
+    } else if is(word, b"next") {
+        Ok(Command::Seeks(Seeking::Next(read_steps(operands)?)))
+    } else if is(word, b"break") {
+        Ok(Command::Seeks(Seeking::Break(read_address(one(operands)?)?)))
+    } else {
+        Err(CommandCause::BadWord)
     }
 }
 
