@@ -53,7 +53,8 @@ read_bytes s (suc n) a memory = All-cons IsByte (readable_byte s a) (bytes_from 
 pub stored_bytes : (bytes memory : List ℕ) (place : ℕ) → All IsByte bytes → All IsByte memory → All IsByte (stored memory place bytes)
 stored_bytes [] memory place new old = old
 stored_bytes (byte ∷ bytes) memory place new old =
-    stored_bytes bytes (slice_set memory place byte) (place + 1) (All-tail IsByte byte bytes new) (All-set IsByte memory place byte (All-head IsByte byte bytes new) old)
+    stored_bytes bytes (slice_set memory place byte) (place + 1) (All-tail IsByte byte bytes new)
+    (All-set IsByte memory place byte (All-head IsByte byte bytes new) old)
 
 pub stored_elsewhere : (bytes memory : List ℕ) (place i : ℕ) → (i < place) ⊎ (place + length bytes ≤ i)
     → slice_index (stored memory place bytes) i ≡ slice_index memory i

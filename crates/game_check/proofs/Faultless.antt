@@ -42,7 +42,8 @@ module _ {Value Cause Fault : Type 0} (format : Format Value Cause Fault) where
   unfolding read
   read-Ok text values is = by (faults_of format (lines text)) refl is
     where
-      by : (faults : List Fault) → faults_of format (lines text) ≡ faults → unless_faulty format (values_of format (lines text)) faults ≡ Ok values → IsRead text values
+      by : (faults : List Fault) → faults_of format (lines text) ≡ faults → unless_faulty format (values_of format (lines text)) faults ≡ Ok values
+          → IsRead text values
       by [] same is = record { worth = sym (ap (λ r. result_unwrap_or r []) is); faultless = same }
       by (fault ∷ faults) same is = cc
 
@@ -82,7 +83,8 @@ module _ (e : Edition) (game : List ℕ) (claims : List Claim) where
   all_closed text values is =
       let none = (read-Ok (closed_format e game claims) text values is).faultless in
       closed_values (lines text)
-      (All-from_get_or (λ line. refusal e game claims (said line) ≡ None) (lines text) [] (λ i within. faultless_line (closed_format e game claims) (lines text) none i within))
+      (All-from_get_or (λ line. refusal e game claims (said line) ≡ None) (lines text) []
+      (λ i within. faultless_line (closed_format e game claims) (lines text) none i within))
 
 -- what an accepted certificate is
 pub record IsProof (e : Edition) (game text : List ℕ) : Type 0 where
@@ -100,7 +102,8 @@ accepted_is e game text accepted = by (read_claims text) refl accepted.is
     by (Ok claims) same is = by_start (has_start claims) refl is
       where
         by_start : (b : Bool) → has_start claims ≡ b
-            → (cond b (Ok claims) (Err (Fault 1 NoStart)) >>= (λ start. read (closed_format e game claims) text >>= (λ closed. Ok (length claims)))) ≡ Ok accepted.count
+            → (cond b (Ok claims) (Err (Fault 1 NoStart))
+            >>= (λ start. read (closed_format e game claims) text >>= (λ closed. Ok (length claims)))) ≡ Ok accepted.count
             → IsProof e game text
         by_start false start is = cc
         by_start true start is = by_closed (read (closed_format e game claims) text) refl is
@@ -108,7 +111,8 @@ accepted_is e game text accepted = by (read_claims text) refl accepted.is
             all : claims ≡ claims_of text
             all = (read-Ok claim_format text claims same).worth
 
-            by_closed : (r : Result (List Claim) ProofFault) → read (closed_format e game claims) text ≡ r → (r >>= (λ closed. Ok (length claims))) ≡ Ok accepted.count → IsProof e game text
+            by_closed : (r : Result (List Claim) ProofFault) → read (closed_format e game claims) text ≡ r
+                → (r >>= (λ closed. Ok (length claims))) ≡ Ok accepted.count → IsProof e game text
             by_closed (Err fault) closed is = cc
             by_closed (Ok values) closed is = record {
               start = rw all at start;
@@ -147,7 +151,8 @@ module _ (e : Edition) (game : List ℕ) (claims : List Claim) (text : List ℕ)
       ∙ ap (λ ls. Ok (values_of format ls)) (sym (so_far.whole ∙ append-nil done))
 
   pub not_closed : (done : List (List ℕ)) (line : List ℕ) (left : List (List ℕ)) (number : ℕ) (cause : ProofCause)
-      → AreClosedUpTo done (line ∷ left) number → refusal e game claims (said line) ≡ Some cause → read (closed_format e game claims) text ≡ Err (Fault (number + 1) cause)
+      → AreClosedUpTo done (line ∷ left) number → refusal e game claims (said line) ≡ Some cause
+      → read (closed_format e game claims) text ≡ Err (Fault (number + 1) cause)
   not_closed done line left number cause so_far refused =
       read-refused (closed_format e game claims) text done line left _ number cause so_far refused
 
@@ -160,7 +165,8 @@ pub faults : (p : Result ℕ ProofFault) (r : Result ℕ ProofFault) → r ≡ p
 faults p (Ok count) is = tt
 faults p (Err fault) is = inr (sym is)
 
-pub shows : (e : Edition) (game text : List ℕ) (r : Result ℕ ProofFault) → r ≡ proof_of e game text → (P : Type 0) → (IsAccepted e game text → P) → IfOk r (λ count. P)
+pub shows : (e : Edition) (game text : List ℕ) (r : Result ℕ ProofFault) → r ≡ proof_of e game text → (P : Type 0) → (IsAccepted e game text → P)
+    → IfOk r (λ count. P)
 shows e game text (Ok count) is P law = law (record { count = count; is = sym is })
 shows e game text (Err fault) is P law = tt
 
@@ -179,6 +185,7 @@ module _ (e : Edition) (game text : List ℕ) where
     unfolding proof_of
     proof-open start fault is = rw (are, start, is) refl
 
-    pub proof-closed : has_start claims ≡ true → (values : List Claim) → read (closed_format e game claims) text ≡ Ok values → proof_of e game text ≡ Ok (length claims)
+    pub proof-closed : has_start claims ≡ true → (values : List Claim) → read (closed_format e game claims) text ≡ Ok values
+        → proof_of e game text ≡ Ok (length claims)
     unfolding proof_of
     proof-closed start values is = rw (are, start, is) refl

@@ -108,7 +108,8 @@ module _ (e : Edition) (game : List ℕ) (claims : List Claim) where
 
       goes_here : (key : KeyInput) → ((x : ℕ) → instr_at s ≡ WaitKey x → IsByte (chosen_key key)) → Goes e claims (instr_at s) s (step e key s)
       goes_here key taken =
-          goes e claims placed here s known.stands.4 known.bytes (instr_at s) key taken operand (rw instr said.allowed) (rw instr said.access) (rw instr said.onward)
+          goes e claims placed here s known.stands.4 known.bytes (instr_at s) key taken operand (rw instr said.allowed) (rw instr said.access)
+          (rw instr said.onward)
 
       certified_next : (key : KeyInput) → ((x : ℕ) → instr_at s ≡ WaitKey x → IsByte (chosen_key key)) → IsCertified game claims (step e key s)
       certified_next key taken =
@@ -163,7 +164,8 @@ module _ (e : Edition) (game : List ℕ) (claims : List Claim) where
   first_certified bytes start = record {
     bytes = record {
       variables = All-replicate IsByte 16 0 (omega arith);
-      memory = All-append IsByte game _ (All-from_get_or IsByte game 0 (λ i within. bytes i)) (All-replicate IsByte (memory_size e - length game) 0 (omega arith));
+      memory =
+          All-append IsByte game _ (All-from_get_or IsByte game 0 (λ i within. bytes i)) (All-replicate IsByte (memory_size e - length game) 0 (omega arith));
       delay = omega arith;
     };
     stands = (

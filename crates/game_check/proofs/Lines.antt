@@ -25,7 +25,8 @@ read_more all done word left numbers number so_far is = record {
 }
 
 -- a word that is no number
-not_words : (done : List (List ℕ)) (word : List ℕ) (left : List (List ℕ)) → are_words done ≡ true → word_of word ≡ None → are_words (done ++ word ∷ left) ≡ false
+not_words : (done : List (List ℕ)) (word : List ℕ) (left : List (List ℕ)) → are_words done ≡ true → word_of word ≡ None
+    → are_words (done ++ word ∷ left) ≡ false
 not_words done word left words is = list_all-append _ done (word ∷ left) ∙ rw (words, is) refl
 
 pub claim-none : (all done : List (List ℕ)) (word : List ℕ) (left : List (List ℕ)) (numbers : List ℕ)
@@ -52,7 +53,15 @@ pub claim-full : (all done : List (List ℕ)) (word : List ℕ) (left : List (Li
     → AreReadUpTo all done (word ∷ left) numbers → length numbers ≡ 15 → claim_of all ≡ Err BadLine
 claim-full all done word left numbers so_far full =
     claim-long all
-    (omega (arith, full, ap length so_far.whole, length-append done (word ∷ left), ap length so_far.worth, length-map done (λ word. unwrap_or (word_of word) 0)))
+    (omega (
+      arith,
+      full,
+      ap length so_far.whole,
+      length-append done (word ∷ left),
+      ap length so_far.worth,
+      length-map done
+          (λ word. unwrap_or (word_of word) 0),
+    ))
 
 -- all words
 pub claim-whole : (all done : List (List ℕ)) (numbers : List ℕ) → AreReadUpTo all done [] numbers → claim_of all ≡ claim_by numbers

@@ -26,7 +26,8 @@ use Rattle.game_check.specs.Order.{IsAscending}
 
 order_total : IsTotalOrder order
 order_total =
-    then_total (on_total (λ p. p.pc) nat_cmp_total) (then_total (on_total (λ p. length p.stack.items) nat_cmp_total) (on_total (λ p. p.stack.items) nat_list_cmp_total))
+    then_total (on_total (λ p. p.pc) nat_cmp_total)
+    (then_total (on_total (λ p. length p.stack.items) nat_cmp_total) (on_total (λ p. p.stack.items) nat_list_cmp_total))
 
 -- points that tie are the same
 then_parts : (a b : Ordering) → ordering_then a b ≡ Equal → (a ≡ Equal) × (b ≡ Equal)
@@ -122,12 +123,14 @@ module _ (claims : List Claim) (up : IsAscending claims) (low high : ℕ) (p : P
       here : Point
       here = (get_or claims i d).point
 
-      fails : (leb (get_or claims i d).low low && leb high (get_or claims i d).high) ≡ false → (j : ℕ) → j < length claims → allows low high p (get_or claims j d) ≡ false
+      fails : (leb (get_or claims i d).low low && leb high (get_or claims i d).high) ≡ false → (j : ℕ) → j < length claims
+          → allows low high p (get_or claims j d) ≡ false
       fails other j below = elim (cases_order j i) [
         | inl it ↦ rw (it, same, other) refl
         | inr apart ↦ elim apart [
           | inl earlier ↦
-              let less : order (get_or claims j d).point p ≡ Less = sym (alike_right order_total here p (get_or claims j d).point same) ∙ up j i d earlier within in
+              let less : order (get_or claims j d).point p ≡ Less = sym (alike_right order_total here p (get_or claims j d).point same)
+              ∙ up j i d earlier within in
               rw less refl
           | inr later ↦
               let greater : order (get_or claims j d).point p ≡ Greater =
@@ -164,7 +167,8 @@ module _ (claims : List Claim) (up : IsAscending claims) (start count : ℕ) whe
       → IsPartitionPoint (λ c. ltb (c.point.pc + 1) start ≡ true) (λ c. ltb (c.point.pc + 1) start ≡ false) claims i
       → list_all (is_apart start count) claims ≡ leb (start + count) (get_or claims i d).point.pc
   apart_there i d within cut = elim (cases_Bool (leb (start + count) (get_or claims i d).point.pc)) [
-    | inl behind ↦ list_all-from_AllPass (is_apart start count) claims (All-from_get_or (λ c. is_apart start count c ≡ true) claims d (passes behind)) ∙ sym behind
+    | inl behind ↦ list_all-from_AllPass (is_apart start count) claims (All-from_get_or (λ c. is_apart start count c ≡ true) claims d (passes behind))
+        ∙ sym behind
     | inr not_behind ↦ list_all_at (is_apart start count) claims i d within (rw (cut.1 i d (omega arith) within, not_behind) refl) ∙ sym not_behind
   ]
     where

@@ -24,7 +24,8 @@ or_right true b h = refl
 or_right false b h = h
 
 -- m bytes from any I of a claim on lie between two addresses where all bytes that are meant do
-within_span : (start end low high m i : ℕ) → (leb start low && leb (low + (high - low + m)) end) ≡ true → low ≤ i → i ≤ high → (leb start i && leb (i + m) end) ≡ true
+within_span : (start end low high m i : ℕ) → (leb start low && leb (low + (high - low + m)) end) ≡ true → low ≤ i → i ≤ high
+    → (leb start i && leb (i + m) end) ≡ true
 within_span start end low high m i all above below =
     let parts = and_parts (leb start low) _ all in
     let from = leb-true start low parts.0 in
@@ -92,14 +93,18 @@ module _ (e : Edition) (claims : List Claim) (placed : All (λ c. memory_start �
           | inr behind ↦ inr (leb-true (c.low + span c m) o.point.pc behind)
         ] in
         record {
-          high = ap (λ l. slice_index l (o.point.pc - memory_start)) is ∙ stored_elsewhere new s.memory (s.i - memory_start) (o.point.pc - memory_start) (elim sides [
-            | inl before ↦ inl (omega (arith, before, from, own, stands.low))
-            | inr behind ↦ inr (omega (arith, behind, from, own, stands.low, stands.high, most))
-          ]);
-          low = ap (λ l. slice_index l (o.point.pc + 1 - memory_start)) is ∙ stored_elsewhere new s.memory (s.i - memory_start) (o.point.pc + 1 - memory_start) (elim sides [
-            | inl before ↦ inl (omega (arith, before, from, own, stands.low))
-            | inr behind ↦ inr (omega (arith, behind, from, own, stands.low, stands.high, most))
-          ]);
+          high =
+              ap (λ l. slice_index l (o.point.pc - memory_start)) is ∙ stored_elsewhere new s.memory (s.i - memory_start) (o.point.pc - memory_start)
+              (elim sides [
+                | inl before ↦ inl (omega (arith, before, from, own, stands.low))
+                | inr behind ↦ inr (omega (arith, behind, from, own, stands.low, stands.high, most))
+              ]);
+          low =
+              ap (λ l. slice_index l (o.point.pc + 1 - memory_start)) is ∙ stored_elsewhere new s.memory (s.i - memory_start) (o.point.pc + 1 - memory_start)
+              (elim sides [
+                | inl before ↦ inl (omega (arith, before, from, own, stands.low))
+                | inr behind ↦ inr (omega (arith, behind, from, own, stands.low, stands.high, most))
+              ]);
         }
 
     -- game memory as it is
@@ -149,7 +154,8 @@ module _ (e : Edition) (claims : List Claim) (placed : All (λ c. memory_start �
 
     -- pc and stack alone change
     jumps : (i : Instr) (p : Point) (s' : Lang) → list_all (is_claimed claims c.low c.high) (p ∷ []) ≡ true
-        → s'.pc ≡ p.pc → s'.stack ≡ p.stack.items → s'.i ≡ s.i → s'.v ≡ s.v → s'.memory ≡ s.memory → s'.dt ≡ s.dt → stop_of_instr e i s ≡ None → Goes e claims i s s'
+        → s'.pc ≡ p.pc → s'.stack ≡ p.stack.items → s'.i ≡ s.i → s'.v ≡ s.v → s'.memory ≡ s.memory → s'.dt ≡ s.dt → stop_of_instr e i s ≡ None
+        → Goes e claims i s s'
     jumps i p s' ok pc stack index v memory delay runs = record {
       runs = runs;
       stands = claimed c.low c.high p s' (only _ _ _ ok) pc stack (rw index stands.low) (rw index stands.high);
@@ -158,18 +164,23 @@ module _ (e : Edition) (claims : List Claim) (placed : All (λ c. memory_start �
     }
 
     -- both ways of a skip
-    skips : (i : Instr) (b : Bool) → list_all (is_claimed claims c.low c.high) (ways_of_skip c.point) ≡ true → stop_of_instr e i s ≡ None → Goes e claims i s (skip_if b s)
+    skips : (i : Instr) (b : Bool) → list_all (is_claimed claims c.low c.high) (ways_of_skip c.point) ≡ true → stop_of_instr e i s ≡ None
+        → Goes e claims i s (skip_if b s)
     skips i true ok runs =
-        jumps i (point (c.point.pc + 4) c.point.stack.items) (skip_if true s) (and_parts _ _ ok).1 (ap (λ a. a + 4) stands.pc) stands.stack refl refl refl refl runs
+        jumps i (point (c.point.pc + 4) c.point.stack.items) (skip_if true s) (and_parts _ _ ok).1 (ap (λ a. a + 4) stands.pc) stands.stack refl refl refl refl
+        runs
     skips i false ok runs =
-        jumps i (point (c.point.pc + 2) c.point.stack.items) (skip_if false s) (and_from _ true (and_parts _ _ ok).0 refl) (ap (λ a. a + 2) stands.pc) stands.stack refl refl refl refl runs
+        jumps i (point (c.point.pc + 2) c.point.stack.items) (skip_if false s) (and_from _ true (and_parts _ _ ok).0 refl) (ap (λ a. a + 2) stands.pc)
+        stands.stack refl refl refl refl runs
 
     -- I gets another place
     moves : (i : Instr) (low high : ℕ) (s' : Lang) → list_all (is_claimed claims low high) (point (c.point.pc + 2) c.point.stack.items ∷ []) ≡ true
-        → s'.pc ≡ s.pc + 2 → s'.stack ≡ s.stack → low ≤ s'.i → s'.i ≤ high → HasBytes s' → All (KeepsOpcode s s') claims → stop_of_instr e i s ≡ None → Goes e claims i s s'
+        → s'.pc ≡ s.pc + 2 → s'.stack ≡ s.stack → low ≤ s'.i → s'.i ≤ high → HasBytes s' → All (KeepsOpcode s s') claims → stop_of_instr e i s ≡ None
+        → Goes e claims i s s'
     moves i low high s' ok pc stack above below next_bytes code runs = record {
       runs = runs;
-      stands = claimed low high (point (c.point.pc + 2) c.point.stack.items) s' (only _ _ _ ok) (pc ∙ ap (λ a. a + 2) stands.pc) (stack ∙ stands.stack) above below;
+      stands =
+          claimed low high (point (c.point.pc + 2) c.point.stack.items) s' (only _ _ _ ok) (pc ∙ ap (λ a. a + 2) stands.pc) (stack ∙ stands.stack) above below;
       bytes = next_bytes;
       code = code;
     }
@@ -183,7 +194,8 @@ module _ (e : Edition) (claims : List Claim) (placed : All (λ c. memory_start �
         → is_allowed i c.point.stack.items ≡ true → has_access e claims i c ≡ true → goes_on claims i c ≡ true → Goes e claims i s (done_by e i key s)
     goes Clear key taken operand fine access ok = onward Clear _ ok refl refl refl refl refl (with_variables _ bytes.variables refl refl)
     goes Return key taken operand fine access ok =
-        jumps Return _ _ ok (ap (λ l. slice_index l (length l - 1)) stands.stack) (ap (λ l. take (length l - 1) l) stands.stack) refl refl refl refl (rw (stands.stack, fine) refl)
+        jumps Return _ _ ok (ap (λ l. slice_index l (length l - 1)) stands.stack) (ap (λ l. take (length l - 1) l) stands.stack) refl refl refl refl
+        (rw (stands.stack, fine) refl)
     goes (Machine m) key taken operand fine access ok = absurd (false≢true fine)
     goes (Jump m) key taken operand fine access ok = jumps (Jump m) _ _ ok refl stands.stack refl refl refl refl refl
     goes (Call m) key taken operand fine access ok =
@@ -235,14 +247,23 @@ module _ (e : Edition) (claims : List Claim) (placed : All (λ c. memory_start �
         moves (AddIndex x) c.low (c.high + 255) _ ok refl refl (omega (arith, top, var x, stands.low, stands.high)) (omega (arith, top, var x, stands.high))
         (with_variables _ bytes.variables refl refl) (kept _ refl) refl
     goes (Font x) key taken operand fine access ok =
-        moves (Font x) font_start (font_start + 5 * 15) _ ok refl refl (omega arith) (omega arith) (with_variables _ bytes.variables refl refl) (kept _ refl) refl
+        moves (Font x) font_start (font_start + 5 * 15) _ ok refl refl (omega arith) (omega arith) (with_variables _ bytes.variables refl refl) (kept _ refl)
+        refl
     goes (Decimal x) key taken operand fine access ok =
         moves (Decimal x) c.low c.high _ ok refl refl stands.low stands.high
-        (record { variables = bytes.variables; memory = stored_bytes (digits (variable s x)) s.memory (s.i - memory_start) (digit_bytes (variable s x) (var x)) bytes.memory; delay = bytes.delay })
+        (record {
+          variables = bytes.variables;
+          memory = stored_bytes (digits (variable s x)) s.memory (s.i - memory_start) (digit_bytes (variable s x) (var x)) bytes.memory;
+          delay = bytes.delay;
+        })
         (untouched 3 (digits (variable s x)) _ access (omega arith) refl) (rw (writable 3 access) refl)
     goes (Store x) key taken operand fine access ok =
         moves (Store x) (c.low + x + 1) (c.high + x + 1) _ ok refl refl (omega (arith, stands.low)) (omega (arith, stands.high))
-        (record { variables = bytes.variables; memory = stored_bytes (take (x + 1) s.v) s.memory (s.i - memory_start) (All-take IsByte (x + 1) s.v bytes.variables) bytes.memory; delay = bytes.delay })
+        (record {
+          variables = bytes.variables;
+          memory = stored_bytes (take (x + 1) s.v) s.memory (s.i - memory_start) (All-take IsByte (x + 1) s.v bytes.variables) bytes.memory;
+          delay = bytes.delay;
+        })
         (untouched (x + 1) (take (x + 1) s.v) _ access (take_most (x + 1) s.v) refl) (rw (writable (x + 1) access) refl)
     goes (Fetch x) key taken operand fine access ok =
         moves (Fetch x) (c.low + x + 1) (c.high + x + 1) _ ok refl refl (omega (arith, stands.low)) (omega (arith, stands.high))

@@ -110,14 +110,16 @@ module _ (v : VipState) (f : Follows v) where
 
     pub lines-completed : None ≡ stop_here v → completed ≡ true → lines ≡ lines_at (begun v) (here completed) lines
     unfolding lines_at
-    lines-completed is done = sym (at_lines (is_stop (interpreter v) (state_after v v.moves)) completed stop_lines lines (stop_test false (runs-here v is)) done)
+    lines-completed is done =
+        sym (at_lines (is_stop (interpreter v) (state_after v v.moves)) completed stop_lines lines (stop_test false (runs-here v is)) done)
 
     pub lines-end : None ≡ stop_here v → completed ≡ false → ended ≡ lines_at (begun v) (here completed) lines
     unfolding lines_at
     lines-end is done = sym (at_end (is_stop (interpreter v) (state_after v v.moves)) completed stop_lines lines (stop_test false (runs-here v is)) done)
 
 -- where the board arrived, seen from where the command began
-module _ (old v : VipState) (g : Follows v) (a : Arrival) (completed : Bool) (same : IsSame old v) (place : place_of v ≡ a.place) (done : completed ≡ a.completed) where
+module _ (old v : VipState) (g : Follows v) (a : Arrival) (completed : Bool) (same : IsSame old v) (place : place_of v ≡ a.place)
+    (done : completed ≡ a.completed) where
   module _ (lines : List (List ℕ)) where
     arrived : lines_at (begun v) (here v g completed) lines ≡ lines_at (begun old) a lines
     arrived =
@@ -135,7 +137,9 @@ module _ (old v : VipState) (g : Follows v) (a : Arrival) (completed : Bool) (sa
     writes-end is goes = lines-end v g completed lines is goes ∙ arrived
 
   -- the record of the dispatch point
-  pub point-lines : Follows old → trace_line false (view_at v.edition v.board.machine) ∷ [] ≡ trace_line false (view_at (begun old).edition (state_after (begun old) a.place.moves)) ∷ []
+  pub point-lines : Follows old → trace_line false (view_at v.edition v.board.machine) ∷ [] ≡ trace_line false
+      (view_at (begun old).edition (state_after (begun old) a.place.moves)) ∷ []
   point-lines f =
       ap (λ e. trace_line false (view_at e v.board.machine) ∷ []) same.edition
-      ∙ ap (λ b. trace_line false (view_at old.edition b) ∷ []) (g.machine ∙ state-same old v f g same v.moves ∙ ap (λ (p : Place). state_after old p.moves) place)
+      ∙ ap (λ b. trace_line false (view_at old.edition b) ∷ [])
+      (g.machine ∙ state-same old v f g same v.moves ∙ ap (λ (p : Place). state_after old p.moves) place)

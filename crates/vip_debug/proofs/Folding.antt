@@ -24,7 +24,8 @@ module _ (start : VipState) (limit : ℕ) where
   place_more = after-more (place_with start limit) (pieces start limit)
 
   written_more : (cs : List Command) (c : Command) (rest : List Command) (p : Place)
-      → written start limit (cs ++ c ∷ rest) p ≡ written start limit cs p ++ (pieces start limit c (place_after start limit cs p) ++ written start limit rest (place_with start limit c (place_after start limit cs p)))
+      → written start limit (cs ++ c ∷ rest) p ≡ written start limit cs
+      p ++ (pieces start limit c (place_after start limit cs p) ++ written start limit rest (place_with start limit c (place_after start limit cs p)))
   written_more = pieces-more (place_with start limit) (pieces start limit)
 
   written_last : (cs : List Command) (c : Command) (p : Place)
@@ -42,7 +43,8 @@ pub record Debugs (limit : ℕ) (old v : VipState) (done : List Command) (out ou
   pub within : v.board.machine.cycle ≤ limit
   pub puts : PutsAll (written (begun old) limit done (place_of old)) out out'
 
-module _ (limit : ℕ) (old v v' : VipState) (done : List Command) (c : Command) (out out' out'' : SinkMeaning) (d : Debugs limit old v done out out') (g : Follows v') (makes : Makes limit v v' (place_with (begun v) limit c (place_of v))) where
+module _ (limit : ℕ) (old v v' : VipState) (done : List Command) (c : Command) (out out' out'' : SinkMeaning) (d : Debugs limit old v done out out')
+    (g : Follows v') (makes : Makes limit v v' (place_with (begun v) limit c (place_of v))) where
   from_here : {X : Type 0} (f : VipState → Place → X) → f (begun v) (place_of v) ≡ f (begun old) (place_after (begun old) limit done (place_of old))
   from_here f = ap (λ x. f x (place_of v)) (begun-same old v d.same) ∙ ap (f (begun old)) d.place
 
@@ -65,16 +67,22 @@ module _ (limit : ℕ) (old v v' : VipState) (done : List Command) (c : Command)
         within = makes.within;
         puts =
             subst (λ all. PutsAll all out out'') (sym (written_last (begun old) limit done c (place_of old)))
-            (PutsAll-append (written (begun old) limit done (place_of old)) (pieces (begun old) limit c (place_after (begun old) limit done (place_of old))) out out' out'' d.puts (subst (λ ps. PutsAll ps out' out'') pieces_are put));
+            (PutsAll-append (written (begun old) limit done (place_of old)) (pieces (begun old) limit c (place_after (begun old) limit done (place_of old)))
+            out out' out'' d.puts (subst (λ ps. PutsAll ps out' out'') pieces_are put));
       }
 
   pub debugs-fail : (all rest : List Command) → all ≡ done ++ c ∷ rest → FailsWithin (pieces (begun v) limit c (place_of v)) out' out''
       → DebugAnswers (begun old) limit all (place_of old) v' out out'' WriteFault
   debugs-fail all rest split fault =
-      let here : FailsWithin (pieces (begun old) limit c (place_after (begun old) limit done (place_of old))) out' out'' = subst (λ ps. FailsWithin ps out' out'') pieces_are fault in
-      let more = FailsWithin-more (pieces (begun old) limit c (place_after (begun old) limit done (place_of old))) (written (begun old) limit rest (place_with (begun old) limit c (place_after (begun old) limit done (place_of old)))) out' out'' here in (
-        subst (λ ps. FailsWithin ps out out'') (sym (ap (λ cs. written (begun old) limit cs (place_of old)) split ∙ written_more (begun old) limit done c rest (place_of old)))
-            (FailsWithin-append (written (begun old) limit done (place_of old)) (pieces (begun old) limit c (place_after (begun old) limit done (place_of old)) ++ written (begun old) limit rest (place_with (begun old) limit c (place_after (begun old) limit done (place_of old)))) out out' out'' d.puts more),
+      let here : FailsWithin (pieces (begun old) limit c (place_after (begun old) limit done (place_of old))) out' out'' =
+      subst (λ ps. FailsWithin ps out' out'') pieces_are fault in
+      let more = FailsWithin-more (pieces (begun old) limit c (place_after (begun old) limit done (place_of old)))
+      (written (begun old) limit rest (place_with (begun old) limit c (place_after (begun old) limit done (place_of old)))) out' out'' here in (
+        subst (λ ps. FailsWithin ps out out'')
+            (sym (ap (λ cs. written (begun old) limit cs (place_of old)) split ∙ written_more (begun old) limit done c rest (place_of old)))
+            (FailsWithin-append (written (begun old) limit done (place_of old))
+            (pieces (begun old) limit c (place_after (begun old) limit done (place_of old)) ++ written (begun old) limit rest
+            (place_with (begun old) limit c (place_after (begun old) limit done (place_of old)))) out out' out'' d.puts more),
         record {
           before = done;
           command = c;

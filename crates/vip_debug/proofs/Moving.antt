@@ -55,7 +55,8 @@ run-here v f =
     ∙ ap (λ b. record { rom = (interpreter v).rom; script = v.board.script; first = b; ends = is_stop (interpreter v) }) f.machine
 
 -- what is shown of the board
-pub shown-here : (v : VipState) → Follows v → (b : Seen) → b ≡ v.board → (showing : Showing) → shown b.rom b.machine showing ≡ shown (interpreter v).rom (state_after v v.moves) showing
+pub shown-here : (v : VipState) → Follows v → (b : Seen) → b ≡ v.board → (showing : Showing)
+    → shown b.rom b.machine showing ≡ shown (interpreter v).rom (state_after v v.moves) showing
 shown-here v f b is showing =
     ap (λ (x : Seen). shown x.rom x.machine showing) is
     ∙ ap (λ rom. shown rom v.board.machine showing) f.rom

@@ -58,11 +58,15 @@ module _ (limit : ℕ) (old v v' : VipState) (s : Passing limit old v) (f : Foll
   passed d =
       record {
         same = same-trans old v v' s.same d.meets.one.same;
-        first = s.points ∙ ap (filter_map dispatch_of) d.split ∙ ap (λ b. b ∷ filter_map dispatch_of d.rest) (sym d.meets.machine) ∙ ap (λ es. v'.board.machine ∷ filter_map dispatch_of es) (sym d.meets.one.left);
+        first =
+            s.points ∙ ap (filter_map dispatch_of) d.split ∙ ap (λ b. b ∷ filter_map dispatch_of d.rest) (sym d.meets.machine)
+            ∙ ap (λ es. v'.board.machine ∷ filter_map dispatch_of es) (sym d.meets.one.left);
         met =
             none-behind-dispatch v' f limit v.met d.rest d.meets.one.within d.meets.one.met
             (ap (drop v.met) (events-same v v' s.follows f d.meets.one.same limit) ∙ d.split ∙ ap (λ b. Dispatch b ∷ d.rest) (sym d.meets.machine));
-        told = d.meets.last ∙ ap (λ b. Some (view_at v.edition b)) (sym d.meets.machine) ∙ ap (λ e. Some (view_at e v'.board.machine)) (sym d.meets.one.same.edition);
+        told =
+            d.meets.last ∙ ap (λ b. Some (view_at v.edition b)) (sym d.meets.machine)
+            ∙ ap (λ e. Some (view_at e v'.board.machine)) (sym d.meets.one.same.edition);
         within = d.meets.one.within;
       }
 
@@ -85,7 +89,9 @@ module _ (limit : ℕ) (old v v' : VipState) (s : Passing limit old v) (f : Foll
       let same : IsSame old v' = same-trans old v v' s.same d.meets.one.same in
       record {
         same = same;
-        none = s.points ∙ ap (filter_map dispatch_of) d.split ∙ ap (filter_map dispatch_of) (sym d.meets.one.left ∙ nothing_left limit v' f d.meets.one.within d.meets.stopped);
+        none =
+            s.points ∙ ap (filter_map dispatch_of) d.split ∙ ap (filter_map dispatch_of)
+            (sym d.meets.one.left ∙ nothing_left limit v' f d.meets.one.within d.meets.stopped);
         made = made-all v' f limit d.meets.one.within (inl d.meets.stopped.stop) ∙ until_old same;
         met = d.meets.stopped.met;
         within = d.meets.one.within;
@@ -106,7 +112,8 @@ module _ (limit : ℕ) (old v v' : VipState) (s : Passing limit old v) (f : Foll
       let few : moves_until (begun v) limit ≤ moves_by v limit = made-few v s.follows limit in
       let runs : run_of v' limit ≡ run_of v limit = ap (λ (x : VipState). run_of x limit) (begun-same v v' d.ends.same) in
       let all : v'.moves ≡ moves_by v limit = omega (arith, d.ends.moves, most, few) in
-      let within : v'.board.machine.cycle ≤ limit = all-within v' f limit (omega (arith, ap length runs, some-run v s.follows limit s.within)) (omega (arith, all, ap length runs)) in
+      let within : v'.board.machine.cycle ≤ limit = all-within v' f limit (omega (arith, ap length runs, some-run v s.follows limit s.within))
+      (omega (arith, all, ap length runs)) in
       let most' : v'.moves ≤ moves_until (begun v') limit = made-most v' f limit within in
       let few' : moves_until (begun v') limit ≤ moves_by v' limit = made-few v' f limit in
       record {
@@ -154,7 +161,9 @@ module _ (limit : ℕ) (old v v' : VipState) (passed : ℕ) (s : PassingPoints l
         begins = s.begins;
         follows = f;
         same = same-trans old v v' s.same p.same;
-        points = ap (λ n. drop n (points_left old limit)) (add-one passed) ∙ drop_suc passed (points_left old limit) v'.board.machine (points_left v' limit) (s.points ∙ p.first);
+        points =
+            ap (λ n. drop n (points_left old limit)) (add-one passed) ∙ drop_suc passed (points_left old limit) v'.board.machine (points_left v' limit)
+            (s.points ∙ p.first);
         within = p.within;
       }
 

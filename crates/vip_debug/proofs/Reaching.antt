@@ -90,7 +90,8 @@ module _ (e : Edition) (game : List ℕ) (script : List KeyEvent) where
     ahead_earlier : (p : Place) → Earlier (limit + 1) (ahead p)
     ahead_earlier p =
         earlier-drop (limit + 1) p.met (events_to v limit)
-        (subst (Earlier (limit + 1)) (sym (all_past limit)) (earlier-next i game script (limit + 1) (moves_until v limit) (omega (arith, (last_until limit).within))))
+        (subst (Earlier (limit + 1)) (sym (all_past limit))
+        (earlier-next i game script (limit + 1) (moves_until v limit) (omega (arith, (last_until limit).within))))
 
     moved : (k : ℕ) (p : Place) → Comes limit p.moves → Comes limit (p.moves + k) → Comes limit (moved_on v k p).moves
     moved k p old new = by_test (k == 0)
@@ -101,7 +102,8 @@ module _ (e : Edition) (game : List ℕ) (script : List KeyEvent) where
 
     pointed : (p : Place) (k : ℕ) (found : Option Machine) → found ≡ slice_get (points_ahead v limit p) k → Comes limit (at_point v limit found).place.moves
     pointed p k None is = last_until limit
-    pointed p k (Some b) is = wider b.cycle limit (moves_until v b.cycle) (omega (arith, earlier-at (limit + 1) (ahead p) (ahead_earlier p) k b (sym is))) (last_until b.cycle)
+    pointed p k (Some b) is =
+        wider b.cycle limit (moves_until v b.cycle) (omega (arith, earlier-at (limit + 1) (ahead p) (ahead_earlier p) k b (sym is))) (last_until b.cycle)
 
     -- so many moves more, none of them behind the end
     further : (n k t : ℕ) → t ≤ limit → Comes limit n → k ≤ run.moves_until (run_at v n) t → Comes limit (n + k)
@@ -113,7 +115,8 @@ module _ (e : Edition) (game : List ℕ) (script : List KeyEvent) where
             let here : Comes t n = record { within = within; runs = old.runs } in
             wider t limit (n + k) order (lower t (moves_until v t) (n + k) (omega (arith, few, until-from r t n here)) (last_until t))
 
-    found : (n : ℕ) (k : Option ℕ) (test : ℕ → Bool) → k ≡ find test (run.ahead (run_at v n) limit) → (found_or_last (run_at v n) limit k).moves ≤ run.moves_until (run_at v n) limit
+    found : (n : ℕ) (k : Option ℕ) (test : ℕ → Bool) → k ≡ find test (run.ahead (run_at v n) limit)
+        → (found_or_last (run_at v n) limit k).moves ≤ run.moves_until (run_at v n) limit
     unfolding run.ahead
     found n None test is = omega arith
     found n (Some k) test is = omega (arith, find-within test 1 (run.moves_until (run_at v n) limit) k (sym is))

@@ -49,11 +49,13 @@ awake b is = by_test (sleeps b) is
     by_test false e = refl
 
 -- a move of the board is one of its target
-pub program-moved : (s s' : Seen) (r : Moved) (B : Type 0) → B → IfDone r (λ name. (s' ≡ moved s) × (name ≡ name_of s.machine)) → IfDone r (λ name. (s' ≡ moved s) × (sleeps ≡ sleeps) × B)
+pub program-moved : (s s' : Seen) (r : Moved) (B : Type 0) → B → IfDone r (λ name. (s' ≡ moved s) × (name ≡ name_of s.machine))
+    → IfDone r (λ name. (s' ≡ moved s) × (sleeps ≡ sleeps) × B)
 program-moved s s' (Done name) B b m = (m.0, refl, b)
 program-moved s s' End B b m = tt
 
-pub rests-awake : (limit : ℕ) (s : Seen) (r : Moved) → sleeps s.machine ≡ false → (r ≡ End) ↔ (limit < s.machine.cycle + length_of s.rom s.machine) → (r ≡ End) ↔ Rests sleeps limit s
+pub rests-awake : (limit : ℕ) (s : Seen) (r : Moved) → sleeps s.machine ≡ false → (r ≡ End) ↔ (limit < s.machine.cycle + length_of s.rom s.machine)
+    → (r ≡ End) ↔ Rests sleeps limit s
 rests-awake limit s r is ends = (λ e. inr (ends.0 e), by_case)
   where
     by_case : Rests sleeps limit s → r ≡ End
@@ -97,7 +99,8 @@ unfolding moves_to moves_until
 moves-same s limit = ap (λ bs. length bs - 1) (sleep_same (run_to s.rom (held_by s) s.machine limit))
 
 -- so many moves are made, and no more than there are
-pub stands-by : (limit : ℕ) (s : Seen) (k : ℕ) (new : Seen) → s.phase ≡ Boundary → s.machine.cycle ≤ limit → new ≡ moved_by k s → k ≤ moves_until (run_from sleeps s) limit
+pub stands-by : (limit : ℕ) (s : Seen) (k : ℕ) (new : Seen) → s.phase ≡ Boundary → s.machine.cycle ≤ limit → new ≡ moved_by k s
+    → k ≤ moves_until (run_from sleeps s) limit
     → StandsAs limit s (state_of (run_from sleeps s) k) new
 stands-by limit s k new phase within is few =
     let r = run_from sleeps s in
@@ -111,7 +114,8 @@ stands-by limit s k new phase within is few =
       within = subst (λ (b : Machine). b.cycle ≤ limit) (sym (machine-by s k)) there.within;
     })
 
-pub stands-there : (limit : ℕ) (s : Seen) (c : Came) (new : Seen) (answer : Bool) → Arrives limit (run_from sleeps s) c new answer → StandsAs limit s (state_of (run_from sleeps s) c.moves) new
+pub stands-there : (limit : ℕ) (s : Seen) (c : Came) (new : Seen) (answer : Bool) → Arrives limit (run_from sleeps s) c new answer
+    → StandsAs limit s (state_of (run_from sleeps s) c.moves) new
 stands-there limit s c new answer a = record { phase = a.phase; rom = a.rom; script = a.script; machine = a.machine; within = a.within }
 
 -- ---- one command
@@ -121,14 +125,18 @@ module _ (limit : ℕ) (pieces : Machine → List (List ℕ)) (after : Machine �
   one-fails (Ok done) bad fault = cc
   one-fails (Err e) bad fault = fault
 
-  pub one-answers : (r : Result (Unit {0}) Failed) → StreamAnswers (pieces old.machine) out out' r → StandsAs limit old (after old.machine) new → OneAnswers limit pieces after old new out out' r
+  pub one-answers : (r : Result (Unit {0}) Failed) → StreamAnswers (pieces old.machine) out out' r → StandsAs limit old (after old.machine) new
+      → OneAnswers limit pieces after old new out out' r
   one-answers (Ok done) puts stands = (puts, stands)
   one-answers (Err e) fault stands = fault
 
-  pub one-further : (first rest : List (List ℕ)) (middle : SinkMeaning) (r : Result (Unit {0}) Failed) → first ++ rest ≡ pieces old.machine → PutsAll first out middle
+  pub one-further : (first rest : List (List ℕ)) (middle : SinkMeaning) (r : Result (Unit {0}) Failed) → first ++ rest ≡ pieces old.machine
+      → PutsAll first out middle
       → StreamAnswers rest middle out' r → StandsAs limit old (after old.machine) new → OneAnswers limit pieces after old new out out' r
-  one-further first rest middle (Ok done) is puts more stands = (subst (λ ps. PutsAll ps out out') is (PutsAll-append first rest out middle out' puts more), stands)
-  one-further first rest middle (Err e) is puts fault stands = subst (λ ps. FailsWithin ps out out') is (FailsWithin-append first rest out middle out' puts fault)
+  one-further first rest middle (Ok done) is puts more stands =
+      (subst (λ ps. PutsAll ps out out') is (PutsAll-append first rest out middle out' puts more), stands)
+  one-further first rest middle (Err e) is puts fault stands =
+      subst (λ ps. FailsWithin ps out out') is (FailsWithin-append first rest out middle out' puts fault)
 
 -- ---- steps
 
@@ -159,7 +167,8 @@ module _ (limit count : ℕ) (old : Seen) where
       let first = lines old.rom (held_at old.script) old.machine steps.moves in
       one-further limit (ran_lines old.rom old.script limit (Step count)) (comes_to old.rom old.script limit (Step count)) old new out out'
       first (ended_lines new.machine (made == count) []) middle r
-      (ap (λ b. first ++ ended_lines b (made == count) []) there.machine ∙ ap (λ c. first ++ ended_lines (comes_to old.rom old.script limit (Step count) old.machine) c []) done)
+      (ap (λ b. first ++ ended_lines b (made == count) []) there.machine
+      ∙ ap (λ c. first ++ ended_lines (comes_to old.rom old.script limit (Step count) old.machine) c []) done)
       (subst (λ n. PutsAll (lines old.rom (held_at old.script) old.machine n) out middle) ahead_same t.puts) rest there
     where
       tested : (made most : ℕ) → made ≡ min count most → (made == count) ≡ nat_le count most
@@ -167,7 +176,8 @@ module _ (limit count : ℕ) (old : Seen) where
 
 -- ---- other commands
 
-pub other-lines : (rom : List ℕ) (script : List Event) (limit : ℕ) (running : Running) → ((count : ℕ) → running ≡ Step count → ⊥) → gone_lines rom script limit running ≡ ran_lines rom script limit running
+pub other-lines : (rom : List ℕ) (script : List Event) (limit : ℕ) (running : Running) → ((count : ℕ) → running ≡ Step count → ⊥)
+    → gone_lines rom script limit running ≡ ran_lines rom script limit running
 other-lines rom script limit (Step count) not = absurd (not count refl)
 other-lines rom script limit _ not = refl
 
@@ -191,7 +201,8 @@ module _ (limit : ℕ) (old s new : Seen) (done : List Command) (command : Comma
       ∙ ap (λ script. f old.rom script s.machine) r.stands.script
       ∙ ap (f old.rom old.script) r.stands.machine
 
-  pub ran-more : PutsAll (program_pieces s.rom s.script limit command s.machine) out' out'' → StandsAs limit s (machine_after s.rom s.script limit command s.machine) new
+  pub ran-more : PutsAll (program_pieces s.rom s.script limit command s.machine) out' out''
+      → StandsAs limit s (machine_after s.rom s.script limit command s.machine) new
       → Ran limit old new (done ++ command ∷ []) out out''
   ran-more puts stands = record {
     stands = record {

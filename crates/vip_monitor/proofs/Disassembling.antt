@@ -105,7 +105,8 @@ taken-few bytes = by_test (is_data bytes)
     by_test true = omega arith
     by_test false = few (opcode_in bytes)
 
-module _ (byte : ℕ → ℕ) (at have p q r : ℕ) (low : at < 0x10000) (size : have ≡ min (0x10000 - at) 3) (first : p ≡ byte at) (second : q ≡ byte ((at + 1) % 0x10000)) (third : r ≡ byte ((at + 2) % 0x10000)) where
+module _ (byte : ℕ → ℕ) (at have p q r : ℕ) (low : at < 0x10000) (size : have ≡ min (0x10000 - at) 3) (first : p ≡ byte at)
+    (second : q ≡ byte ((at + 1) % 0x10000)) (third : r ≡ byte ((at + 2) % 0x10000)) where
   abbrev read : List ℕ
   read = p ∷ q ∷ r ∷ []
 
@@ -144,10 +145,13 @@ module _ (byte : ℕ → ℕ) (at have p q r : ℕ) (low : at < 0x10000) (size :
 
   pub line-read : (layout : Layout) → front_text layout at (take (taken (take have read)) read) ++ ended_line at (take have read) ≡ line_in layout at bytes
   unfolding line_in
-  line-read layout = ap (λ front. front_text layout at front ++ ended_line at (take have read)) front_read ∙ ap (λ line. front_text layout at (take (taken bytes) bytes) ++ line) (ap (ended_line at) read_three ∙ line-three bytes at)
+  line-read layout =
+      ap (λ front. front_text layout at front ++ ended_line at (take have read)) front_read
+      ∙ ap (λ line. front_text layout at (take (taken bytes) bytes) ++ line) (ap (ended_line at) read_three ∙ line-three bytes at)
 
 -- the parts of a line in an empty buffer
-pub line-joined : (layout : Layout) (at shown : ℕ) (three part piece whole front empty line : List ℕ) → empty ≡ [] → front ≡ empty ++ front_text layout at (take shown three)
+pub line-joined : (layout : Layout) (at shown : ℕ) (three part piece whole front empty line : List ℕ) → empty ≡ []
+    → front ≡ empty ++ front_text layout at (take shown three)
     → whole ≡ front ++ line → piece ≡ whole → line ≡ ended_line at part → shown ≡ taken part
     → piece ≡ front_text layout at (take (taken part) three) ++ ended_line at part
 line-joined layout at shown three part piece whole front empty line none before all is rest size =
@@ -189,7 +193,8 @@ module _ (layout : Layout) (byte : ℕ → ℕ) where
       let size : length bytes ≡ 0x10000 - at = length_bytes at (0x10000 - at) in
       let rest : 0x10000 - at - shown_at at ≡ 0x10000 - (at + shown_at at) = omega arith in
       ap (λ all. lines_of layout (take (suc count) all)) (starts-first bytes at (taken_some bytes) (omega (arith, size, shown_most at low)))
-      ∙ ap (λ more. line_in layout at bytes ∷ lines_of layout (take count (starts 0 (at + shown_at at) more))) (drop_bytes (shown_at at) at (0x10000 - at) ∙ ap (bytes_from byte (at + shown_at at)) rest)
+      ∙ ap (λ more. line_in layout at bytes ∷ lines_of layout (take count (starts 0 (at + shown_at at) more)))
+      (drop_bytes (shown_at at) at (0x10000 - at) ∙ ap (bytes_from byte (at + shown_at at)) rest)
 
   left_none : (at count : ℕ) → 0x10000 ≤ at → lines_left at count ≡ []
   left_none at count past =
@@ -213,8 +218,10 @@ module _ (layout : Layout) (byte : ℕ → ℕ) where
       let none : count ≡ count - 0 = omega arith in
       record { done = []; puts = PutsAll-nil old; split = ap (lines_left address) none; low = low }
 
-  module _ (address count : ℕ) (old middle new : SinkMeaning) (at line : ℕ) (s : Disassembles address count old middle at line) (low : at < 0x10000) (below : line < count) where
-    next_split : instruction_lines byte layout address count ≡ s.done ++ line_in layout at (bytes_from byte at (0x10000 - at)) ∷ lines_left (at + shown_at at) (count - (line + 1))
+  module _ (address count : ℕ) (old middle new : SinkMeaning) (at line : ℕ) (s : Disassembles address count old middle at line) (low : at < 0x10000)
+      (below : line < count) where
+    next_split : instruction_lines byte layout address count ≡ s.done ++ line_in layout at (bytes_from byte at (0x10000 - at)) ∷ lines_left (at + shown_at at)
+        (count - (line + 1))
     next_split =
         let more : count - line ≡ suc (count - (line + 1)) = omega (arith, below) in
         s.split ∙ ap (λ n. s.done ++ lines_left at n) more ∙ ap (λ lines. s.done ++ lines) (left_next at (count - (line + 1)) low)
@@ -234,7 +241,8 @@ module _ (layout : Layout) (byte : ℕ → ℕ) where
     pub disassembles-fail : (e : Failed) (r : Result (Unit {0}) Failed) → IsErr r → PutsLine layout byte at middle new (Err e)
         → StreamAnswers (instruction_lines byte layout address count) old new r
     disassembles-fail e r bad fault =
-        StreamAnswers-fault (instruction_lines byte layout address count) s.done (line_in layout at (bytes_from byte at (0x10000 - at))) (lines_left (at + shown_at at) (count - (line + 1))) old middle new r next_split bad s.puts fault
+        StreamAnswers-fault (instruction_lines byte layout address count) s.done (line_in layout at (bytes_from byte at (0x10000 - at)))
+        (lines_left (at + shown_at at) (count - (line + 1))) old middle new r next_split bad s.puts fault
 
   module _ (address count : ℕ) (old new : SinkMeaning) (at line : ℕ) (s : Disassembles address count old new at line) where
     all_done : lines_left at (count - line) ≡ [] → PutsAll (instruction_lines byte layout address count) old new

@@ -11,13 +11,16 @@ module _ {P : Type 0} (after : Command → P → P) (pieces : Command → P → 
   after-more (x ∷ cs) c p = after-more cs c (after x p)
 
   pub pieces-more : (cs : List Command) (c : Command) (rest : List Command) (p : P)
-      → all_pieces after pieces (cs ++ c ∷ rest) p ≡ all_pieces after pieces cs p ++ (pieces c (after_all after cs p) ++ all_pieces after pieces rest (after c (after_all after cs p)))
+      → all_pieces after pieces (cs ++ c ∷ rest) p ≡ all_pieces after pieces cs
+      p ++ (pieces c (after_all after cs p) ++ all_pieces after pieces rest (after c (after_all after cs p)))
   pieces-more [] c rest p = refl
   pieces-more (x ∷ cs) c rest p =
       ap (λ more. pieces x p ++ more) (pieces-more cs c rest (after x p))
-      ∙ sym (append_assoc (pieces x p) (all_pieces after pieces cs (after x p)) (pieces c (after_all after cs (after x p)) ++ all_pieces after pieces rest (after c (after_all after cs (after x p)))))
+      ∙ sym (append_assoc (pieces x p) (all_pieces after pieces cs (after x p))
+      (pieces c (after_all after cs (after x p)) ++ all_pieces after pieces rest (after c (after_all after cs (after x p)))))
 
-  pub pieces-last : (cs : List Command) (c : Command) (p : P) → all_pieces after pieces (cs ++ c ∷ []) p ≡ all_pieces after pieces cs p ++ pieces c (after_all after cs p)
+  pub pieces-last : (cs : List Command) (c : Command) (p : P) → all_pieces after pieces (cs ++ c ∷ []) p ≡ all_pieces after pieces cs p ++ pieces c
+      (after_all after cs p)
   pieces-last cs c p = pieces-more cs c [] p ∙ ap (λ more. all_pieces after pieces cs p ++ more) (append-nil (pieces c (after_all after cs p)))
 
 -- ---- by a place in all commands

@@ -78,7 +78,8 @@ module _ (f : ℕ → List ℕ) (old middle new : SinkMeaning) where
   pub pieces-fail : (k m : ℕ) (r : Result (Unit {0}) Failed) → k < m → IsErr r → PutsAll (map f (range_with_len 0 k)) old middle
       → PutFails (f k) middle new → StreamAnswers (map f (range_with_len 0 m)) old new r
   pieces-fail k m r below bad so_far fault =
-      StreamAnswers-fault (map f (range_with_len 0 m)) (map f (range_with_len 0 k)) (f k) (map f (range_with_len (k + 1) (m - suc k))) old middle new r (split f k m below) bad so_far fault
+      StreamAnswers-fault (map f (range_with_len 0 m)) (map f (range_with_len 0 k)) (f k) (map f (range_with_len (k + 1) (m - suc k))) old middle new r
+      (split f k m below) bad so_far fault
 
 -- ---- a line, and then two groups of lines
 
@@ -90,9 +91,11 @@ module _ (line : List ℕ) (before after : List (List ℕ)) (first second : Sink
     pub change-fails-before : IsErr r → FailsWithin before second third → StreamAnswers (line ∷ before ++ after) first third r
     change-fails-before bad fault =
         StreamAnswers-err (line ∷ before ++ after) first third r bad
-        (FailsWithin-append (line ∷ []) (before ++ after) first second third (PutsAll-one line first second put) (FailsWithin-more before after second third fault))
+        (FailsWithin-append (line ∷ []) (before ++ after) first second third (PutsAll-one line first second put)
+        (FailsWithin-more before after second third fault))
 
-    pub change-goes : (fourth : SinkMeaning) → PutsAll before second third → StreamAnswers after third fourth r → StreamAnswers (line ∷ before ++ after) first fourth r
+    pub change-goes : (fourth : SinkMeaning) → PutsAll before second third → StreamAnswers after third fourth r
+        → StreamAnswers (line ∷ before ++ after) first fourth r
     change-goes fourth puts rest =
         StreamAnswers-append (line ∷ []) (before ++ after) first second fourth r (PutsAll-one line first second put)
         (StreamAnswers-append before after second third fourth r puts rest)

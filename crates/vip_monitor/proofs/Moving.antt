@@ -53,7 +53,8 @@ module _ (limit : ℕ) (r : Run) (p : Progress) (g : Going limit r p) where
   pub made-within : p.board.machine.cycle ≤ limit → p.made ≤ moves_until r limit
   made-within within = omega (arith, made-most p g.stands limit within, until_same)
 
-  pub arrives : (last : ℕ) (came : Came) (answer : Bool) → p.made ≡ came.moves → answer ≡ came.completed → p.board.machine.cycle ≤ last → Arrives last r came p.board answer
+  pub arrives : (last : ℕ) (came : Came) (answer : Bool) → p.made ≡ came.moves → answer ≡ came.completed → p.board.machine.cycle ≤ last
+      → Arrives last r came p.board answer
   arrives last came answer is done within = record {
     phase = g.stands.phase;
     rom = g.stands.rom ∙ ap (λ (x : Run). x.rom) g.run;
@@ -94,7 +95,8 @@ module _ {X : Type 0} (seen : X → Seen) (ends : X → Machine → Bool) (leads
   abbrev pub MovesOn : X → X → Type 0
   MovesOn x x' = (seen x' ≡ moved (seen x)) × (ends x' ≡ ends x) × leads 1 x x'
 
-  module _ (on : (j k : ℕ) (a b c : X) → leads j a b → leads k b c → leads (j + k) a c) (limit : ℕ) (old x x' : X) (moves : ℕ) (g : Gone limit old x moves) where
+  module _ (on : (j k : ℕ) (a b c : X) → leads j a b → leads k b c → leads (j + k) a c) (limit : ℕ) (old x x' : X) (moves : ℕ)
+      (g : Gone limit old x moves) where
     rests_too : Rests limit (at_move old moves x) → run.Rests (ends x) limit (seen x)
     rests_too (inl stop) = inl (ap (λ f. f (seen x).machine) g.same ∙ stop)
     rests_too (inr over) = inr over
@@ -146,7 +148,8 @@ module _ (test : ℕ → Bool) where
   find_first : (a n k : ℕ) → a ≤ k → k < a + n → ((j : ℕ) → a ≤ j → j < k → test j ≡ false) → test k ≡ true → find test (range_with_len a n) ≡ Some k
   find_first a zero k from to fails passes = absurd (omega (arith, from, to))
   find_first a (suc n) k from to fails passes =
-      by_case (λ below. find_first (a + 1) n k (omega (arith, below)) (omega (arith, to)) (λ j at before. fails j (omega (arith, at)) before) passes) (cases_lt a k)
+      by_case (λ below. find_first (a + 1) n k (omega (arith, below)) (omega (arith, to)) (λ j at before. fails j (omega (arith, at)) before) passes)
+      (cases_lt a k)
     where
       by_case : (a < k → find test (range_with_len (a + 1) n) ≡ Some k) → (a < k) ⊎ (k ≤ a) → find test (range_with_len a (suc n)) ≡ Some k
       by_case further (inl below) = rw (fails a (omega arith) below) (further below)
@@ -177,7 +180,8 @@ module _ {X : Type 0} (seen : X → Seen) (ends : X → Machine → Bool) (leads
   seeking-first limit test old phase within =
       record { moves = 0; gone = gone-first seen ends leads limit old phase; here = within; fails = λ k from to. absurd (omega (arith, from, to)) }
 
-  module _ (on : (j k : ℕ) (a b c : X) → leads j a b → leads k b c → leads (j + k) a c) (limit : ℕ) (test : ℕ → Bool) (old x x' : X) (s : Seeking limit test old x) where
+  module _ (on : (j k : ℕ) (a b c : X) → leads j a b → leads k b c → leads (j + k) a c) (limit : ℕ) (test : ℕ → Bool) (old x x' : X)
+      (s : Seeking limit test old x) where
     abbrev r : Run
     r = run_of seen ends leads old
 
@@ -207,7 +211,8 @@ module _ {X : Type 0} (seen : X → Seen) (ends : X → Machine → Bool) (leads
       pub finds : test (s.moves + 1) ≡ true → Arrives limit r (found_or_last r limit (find test (ahead r limit))) (seen x') true
       finds passes =
           rw (is_first passes)
-          (arrives limit r (at_move seen ends leads old (s.moves + 1) x') gone-on.going limit (record { moves = s.moves + 1; completed = true }) true refl refl here_next)
+          (arrives limit r (at_move seen ends leads old (s.moves + 1) x') gone-on.going limit (record { moves = s.moves + 1; completed = true }) true refl refl
+          here_next)
 
       pub finds-moved : test (s.moves + 1) ≡ true → HasMoved leads (found_or_last r limit (find test (ahead r limit))).moves old x'
       finds-moved passes = rw (is_first passes) gone-on.moved
@@ -218,7 +223,8 @@ module _ {X : Type 0} (seen : X → Seen) (ends : X → Machine → Bool) (leads
     is_none : run.Rests (ends x) limit (seen x) → find test (ahead r limit) ≡ None
     unfolding ahead
     is_none rests =
-        let all : s.moves ≡ moves_until r limit = made-here limit r (at_move seen ends leads old s.moves x) s.gone.going (rests-here seen ends leads on limit old x x' s.moves s.gone rests) in
+        let all : s.moves ≡ moves_until r limit = made-here limit r (at_move seen ends leads old s.moves x) s.gone.going
+        (rests-here seen ends leads on limit old x x' s.moves s.gone rests) in
         find_none test 1 (moves_until r limit) (λ k from to. s.fails k from (omega (arith, to, all)))
 
     all_made : run.Rests (ends x) limit (seen x) → s.moves ≡ moves_until r limit
@@ -229,7 +235,8 @@ module _ {X : Type 0} (seen : X → Seen) (ends : X → Machine → Bool) (leads
     finds-none kept rests =
         subst (λ y. Arrives limit r (found_or_last r limit (find test (ahead r limit))) (seen y) false) (sym kept)
         (rw (is_none rests)
-        (arrives limit r (at_move seen ends leads old s.moves x) s.gone.going limit (record { moves = moves_until r limit; completed = false }) false (all_made rests) refl s.here))
+        (arrives limit r (at_move seen ends leads old s.moves x) s.gone.going limit (record { moves = moves_until r limit; completed = false }) false
+        (all_made rests) refl s.here))
 
     pub none-moved : x' ≡ x → run.Rests (ends x) limit (seen x) → HasMoved leads (found_or_last r limit (find test (ahead r limit))).moves old x'
     none-moved kept rests =
@@ -271,13 +278,18 @@ module _ {X : Type 0} (seen : X → Seen) (ends : X → Machine → Bool) (leads
     pub gone : Gone seen ends leads limit old x moves
     pub here : (seen x).machine.cycle ≤ limit
 
-  module _ (on : (j k : ℕ) (a b c : X) → leads j a b → leads k b c → leads (j + k) a c) (limit : ℕ) (old x x' : X) (moves : ℕ) (s : Stepping limit old x moves) where
+  module _ (on : (j k : ℕ) (a b c : X) → leads j a b → leads k b c → leads (j + k) a c) (limit : ℕ) (old x x' : X) (moves : ℕ)
+      (s : Stepping limit old x moves) where
     abbrev first_run : Run
     first_run = run_of seen ends leads old
 
     pub stepping-next : (run.Rests (ends x) limit (seen x) → ⊥) → MovesOn seen ends leads x x' → Stepping limit old x' (moves + 1)
     stepping-next goes m =
-        record { gone = gone-next seen ends leads on limit old x x' moves s.gone goes m; here = within-next seen ends leads on limit old x x' moves s.gone goes m }
+        record {
+          gone = gone-next seen ends leads on limit old x x' moves s.gone goes m;
+          here = within-next seen ends leads on limit old x x' moves s.gone goes
+              m;
+        }
 
     -- it rests before all are made
     module _ (count : ℕ) (few : moves < count) (kept : x' ≡ x) (rests : run.Rests (ends x) limit (seen x)) where
@@ -290,10 +302,12 @@ module _ {X : Type 0} (seen : X → Seen) (ends : X → Machine → Bool) (leads
       pub steps-few : Arrives limit first_run (after_steps first_run limit count) (seen x') false
       steps-few =
           subst (λ y. Arrives limit first_run (after_steps first_run limit count) (seen y) false) (sym kept)
-          (arrives limit first_run (at_move seen ends leads old moves x) s.gone.going limit (after_steps first_run limit count) false made_count (sym (lt-leb count (moves_until first_run limit) (omega (arith, made_all, few)))) s.here)
+          (arrives limit first_run (at_move seen ends leads old moves x) s.gone.going limit (after_steps first_run limit count) false made_count
+          (sym (lt-leb count (moves_until first_run limit) (omega (arith, made_all, few)))) s.here)
 
       pub few-moved : HasMoved leads (after_steps first_run limit count).moves old x'
-      few-moved = subst (λ y. HasMoved leads (after_steps first_run limit count).moves old y) (sym kept) (subst (λ n. HasMoved leads n old x) made_count s.gone.moved)
+      few-moved =
+          subst (λ y. HasMoved leads (after_steps first_run limit count).moves old y) (sym kept) (subst (λ n. HasMoved leads n old x) made_count s.gone.moved)
 
     -- all are made
     module _ (count : ℕ) (all : moves ≡ count) where
@@ -305,7 +319,8 @@ module _ {X : Type 0} (seen : X → Seen) (ends : X → Machine → Bool) (leads
 
       pub steps-all : Arrives limit first_run (after_steps first_run limit count) (seen x) true
       steps-all =
-          arrives limit first_run (at_move seen ends leads old moves x) s.gone.going limit (after_steps first_run limit count) true made_them (sym (le-leb count (moves_until first_run limit) (omega (arith, most, all)))) s.here
+          arrives limit first_run (at_move seen ends leads old moves x) s.gone.going limit (after_steps first_run limit count) true made_them
+          (sym (le-leb count (moves_until first_run limit) (omega (arith, most, all)))) s.here
 
       pub all-moved : HasMoved leads (after_steps first_run limit count).moves old x
       all-moved = subst (λ n. HasMoved leads n old x) made_them s.gone.moved
@@ -320,7 +335,8 @@ module _ {X : Type 0} (seen : X → Seen) (ends : X → Machine → Bool) (leads
   pub until-first : (limit last : ℕ) (old : X) → (seen old).phase ≡ Boundary → (seen old).machine.cycle ≤ limit → Until limit last old old
   until-first limit last old phase within = record { moves = 0; gone = gone-first seen ends leads last old phase; here = within }
 
-  module _ (on : (j k : ℕ) (a b c : X) → leads j a b → leads k b c → leads (j + k) a c) (limit cycle : ℕ) (old x x' : X) (s : Until limit (min cycle limit) old x) where
+  module _ (on : (j k : ℕ) (a b c : X) → leads j a b → leads k b c → leads (j + k) a c) (limit cycle : ℕ) (old x x' : X)
+      (s : Until limit (min cycle limit) old x) where
     abbrev whole : Run
     whole = run_of seen ends leads old
 
@@ -343,10 +359,12 @@ module _ {X : Type 0} (seen : X → Seen) (ends : X → Machine → Bool) (leads
       pub until-arrives : Arrives limit whole (at_cycle whole limit cycle) (seen x') (nat_le cycle limit)
       until-arrives =
           subst (λ y. Arrives limit whole (at_cycle whole limit cycle) (seen y) (nat_le cycle limit)) (sym kept)
-          (arrives last whole (at_move seen ends leads old s.moves x) s.gone.going limit (at_cycle whole limit cycle) (nat_le cycle limit) made_until refl s.here)
+          (arrives last whole (at_move seen ends leads old s.moves x) s.gone.going limit (at_cycle whole limit cycle) (nat_le cycle limit) made_until refl
+          s.here)
 
       pub until-moved : HasMoved leads (at_cycle whole limit cycle).moves old x'
-      until-moved = subst (λ y. HasMoved leads (at_cycle whole limit cycle).moves old y) (sym kept) (subst (λ n. HasMoved leads n old x) made_until s.gone.moved)
+      until-moved =
+          subst (λ y. HasMoved leads (at_cycle whole limit cycle).moves old y) (sym kept) (subst (λ n. HasMoved leads n old x) made_until s.gone.moved)
 
 -- ---- what a completed command writes
 
@@ -356,7 +374,8 @@ module _ (r : Run) (limit : ℕ) (came : Came) (s : Seen) (answer : Bool) (a : A
   lines-completed (Watch address count) b change is told =
       ap (λ line. line ∷ rows address change.before.items ++ rows address change.after.items) told.line
       ∙ ap (λ bytes. line_of r.rom (held_at r.script) (state_of r (came.moves - 1) ∷ []) ∷ rows address bytes ++ rows address change.after.items) told.before
-      ∙ ap (λ bytes. line_of r.rom (held_at r.script) (state_of r (came.moves - 1) ∷ []) ∷ mem_lines (bytes_at r 0) address count ++ rows address bytes) told.after
+      ∙ ap (λ bytes. line_of r.rom (held_at r.script) (state_of r (came.moves - 1) ∷ []) ∷ mem_lines (bytes_at r 0) address count ++ rows address bytes)
+      told.after
   lines-completed _ b change is told =
       ap (λ (x : Seen). (cycle_text x.machine ++ newline) ∷ []) is ∙ ap (λ machine. (cycle_text machine ++ newline) ∷ []) a.machine
 

@@ -50,7 +50,8 @@ module _ (r : Run) (limit : ℕ) where
   all-moves (suc n) within runs =
       let first : (at_move n).cycle ≤ limit = omega (arith, within, later-move r.rom (held_at r.script) (at_move n)) in
       let before : length (from_move 0) ≡ n + length (from_move n) = all-moves n first (λ k l. runs k (omega (arith, l))) in
-      let next : length (from_move n) ≡ suc (length (from_move (suc n))) = ap length (here n first ∙ goes_on (r.ends (at_move n)) (at_move n) (from_move (suc n)) (runs n (omega arith))) in
+      let next : length (from_move n) ≡ suc (length (from_move (suc n))) =
+      ap length (here n first ∙ goes_on (r.ends (at_move n)) (at_move n) (from_move (suc n)) (runs n (omega arith))) in
       omega (arith, before, next)
 
   pub some-here : (n : ℕ) → (at_move n).cycle ≤ limit → 1 ≤ length (from_move n)
@@ -61,7 +62,8 @@ module _ (r : Run) (limit : ℕ) where
 
   pub last-here : (n : ℕ) → (at_move n).cycle ≤ limit → limit < (at_move (suc n)).cycle → length (from_move n) ≡ 1
   last-here n within over =
-      ap length (here n within ∙ ap (λ bs. if r.ends (at_move n) then at_move n ∷ [] else at_move n ∷ bs) (past (suc n) over)) ∙ one (r.ends (at_move n)) (at_move n)
+      ap length (here n within ∙ ap (λ bs. if r.ends (at_move n) then at_move n ∷ [] else at_move n ∷ bs) (past (suc n) over))
+      ∙ one (r.ends (at_move n)) (at_move n)
 
   -- a state that comes by the limit, and not behind the end
   pub record Reached (n : ℕ) : Type 0 where
@@ -116,7 +118,13 @@ module _ (r : Run) (limit : ℕ) where
           → length (states_from 0) ≤ suc n
       by_test shorter (inl earlier) = omega (arith, shorter earlier)
       by_test shorter (inr within) =
-          omega (arith, all-states n within, ap length (run_to-next r.rom (held_at r.script) limit (at_move n) within), ap length (run_to-past r.rom (held_at r.script) limit (at_move (suc n)) over))
+          omega (
+            arith,
+            all-states n within,
+            ap length (run_to-next r.rom (held_at r.script) limit (at_move n) within),
+            ap length
+                (run_to-past r.rom (held_at r.script) limit (at_move (suc n)) over),
+          )
 
   few-moves : length (from_move 0) ≤ length (states_from 0)
   few-moves = fewer r.ends (states_from 0)
@@ -204,7 +212,13 @@ module _ (p : Progress) (s : Stands p) where
     pub made-all : now ≤ limit → Rests limit p → p.made ≡ moves_until p.run limit
     made-all within (inl stop) =
         let there : (state_of p.run p.made).cycle ≤ limit = omega (arith, cycle_is, within) in
-        omega (arith, until p.run limit, all-moves p.run limit p.made there s.goes_on, stop-here p.run limit p.made there (ap p.run.ends (sym s.machine) ∙ stop))
+        omega (
+          arith,
+          until p.run limit,
+          all-moves p.run limit p.made there s.goes_on,
+          stop-here p.run limit p.made there
+              (ap p.run.ends (sym s.machine) ∙ stop),
+        )
     made-all within (inr over) =
         let there : (state_of p.run p.made).cycle ≤ limit = omega (arith, cycle_is, within) in
         omega (arith, until p.run limit, all-moves p.run limit p.made there s.goes_on, last-here p.run limit p.made there (omega (arith, next_cycle, over)))
@@ -225,7 +239,8 @@ module _ (p : Progress) (s : Stands p) where
   pub next-within : (limit : ℕ) → (Rests limit p → ⊥) → (next p).board.machine.cycle ≤ limit
   next-within limit moves = by_test (cases_lt limit (now + length_of p.board.rom p.board.machine))
     where
-      by_test : (limit < now + length_of p.board.rom p.board.machine) ⊎ (now + length_of p.board.rom p.board.machine ≤ limit) → (next p).board.machine.cycle ≤ limit
+      by_test : (limit < now + length_of p.board.rom p.board.machine) ⊎ (now + length_of p.board.rom p.board.machine ≤ limit)
+          → (next p).board.machine.cycle ≤ limit
       by_test (inl over) = absurd (moves (inr over))
       by_test (inr within) = omega (arith, within, cycle-move p.board.rom (held_at p.board.script) p.board.machine)
 

@@ -8,8 +8,10 @@ returns-then-not-has_start c =
 
 pub returns-in-Ok : goal.returns-in-Ok
 returns-in-Ok c =
-    sym (proof-closed c.args.edition c.args.game.now c.args.text.now c.args.claims.now c.requires.read (sym c.if-not-has_start.ensures) _ c.in-Ok.ensures.closed)
+    sym (proof-closed c.args.edition c.args.game.now c.args.text.now c.args.claims.now c.requires.read (sym c.if-not-has_start.ensures) _
+    c.in-Ok.ensures.closed)
 
 pub returns-in-Err : goal.returns-in-Err
 returns-in-Err c =
-    sym (proof-open c.args.edition c.args.game.now c.args.text.now c.args.claims.now c.requires.read (sym c.if-not-has_start.ensures) c.in-Err.fault c.in-Err.ensures.fault)
+    sym (proof-open c.args.edition c.args.game.now c.args.text.now c.args.claims.now c.requires.read (sym c.if-not-has_start.ensures) c.in-Err.fault
+    c.in-Err.ensures.fault)

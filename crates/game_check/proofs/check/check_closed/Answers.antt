@@ -7,7 +7,8 @@ use Rattle.game_check.proofs.check.check_closed.Goals as goal
 
 pub loop-line-init : goal.loop-line-init
 loop-line-init c =
-    rw (c.into_iter-line-iterator.ensures.into_iter_gives, c.new-line-items.ensures) (closed_none c.args.edition c.args.game.now c.args.claims.now c.args.text.now)
+    rw (c.into_iter-line-iterator.ensures.into_iter_gives, c.new-line-items.ensures)
+    (closed_none c.args.edition c.args.game.now c.args.claims.now c.args.text.now)
 
 pub overflow_add-number : goal.overflow_add-number
 overflow_add-number c =
@@ -24,7 +25,8 @@ pub loop-line-preserved : goal.loop-line-preserved
 loop-line-preserved c =
     let so_far = rw c.in-Some.ensures.steps at c.loop-line.invariant in
     rw map-append
-    (closed_line c.args.edition c.args.game.now c.args.claims.now c.args.text.now _ c.in-Some.line.now c.next.new.self c.loop-line.number so_far (sym c.in_default.ensures))
+    (closed_line c.args.edition c.args.game.now c.args.claims.now c.args.text.now _ c.in-Some.line.now c.next.new.self c.loop-line.number so_far
+    (sym c.in_default.ensures))
 
 pub returns-clause-closed : goal.returns-clause-closed
 returns-clause-closed c =

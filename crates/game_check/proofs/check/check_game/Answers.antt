@@ -12,7 +12,8 @@ returns-in-Ok-clause-fault c = faults (proof_of c.args.edition c.args.game.now c
 
 pub returns-in-Ok-clause-steps : goal.returns-in-Ok-clause-steps
 returns-in-Ok-clause-steps c =
-    shows c.args.edition c.args.game.now c.args.text.now _ c.check_claims.ensures _ (λ accepted. every_step c.args.edition c.args.game.now c.args.text.now accepted)
+    shows c.args.edition c.args.game.now c.args.text.now _ c.check_claims.ensures _
+    (λ accepted. every_step c.args.edition c.args.game.now c.args.text.now accepted)
 
 pub returns-in-Ok-clause-never_stops : goal.returns-in-Ok-clause-never_stops
 returns-in-Ok-clause-never_stops c =

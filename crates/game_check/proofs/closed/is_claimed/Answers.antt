@@ -10,7 +10,8 @@ returns-in-Ok c =
     let point = c.args.point.now in
     let found = c.in-Ok.ensures.position (λ claim. order claim.point point) (always_returns_same _ _ _ (λ a r f' called. search rules)) in
     c.has_range.ensures
-    ∙ claimed_here claims c.requires c.args.low c.args.high point c.in-Ok.place c.index-claims-place.result c.in-Ok.ensures.bound c.index-claims-place.is found (omega arith)
+    ∙ claimed_here claims c.requires c.args.low c.args.high point c.in-Ok.place c.index-claims-place.result c.in-Ok.ensures.bound c.index-claims-place.is found
+    (omega arith)
 
 pub returns-in-Err : goal.returns-in-Err
 returns-in-Err c =

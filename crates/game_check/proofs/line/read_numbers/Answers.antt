@@ -6,7 +6,8 @@ use Rattle.game_check.proofs.line.read_numbers.Goals as goal
 pub returns-in_err-read_word : goal.returns-in_err-read_word
 returns-in_err-read_word c =
     rw c.from_residual.ensures
-    (claim-none (c.args.first.now ∷ c.args.words) [] c.args.first.now c.args.words [] (record { whole = refl; words = refl; worth = refl }) (sym c.in_err-read_word.ensures))
+    (claim-none (c.args.first.now ∷ c.args.words) [] c.args.first.now c.args.words [] (record { whole = refl; words = refl; worth = refl })
+    (sym c.in_err-read_word.ensures))
 
 pub returns-in_err-number : goal.returns-in_err-number
 returns-in_err-number c =

@@ -12,7 +12,11 @@ loop-line-init c =
 
 pub overflow_add-number : goal.overflow_add-number
 overflow_add-number c =
-    omega (arith, length-IsReadUpTo claim_format c.args.text.now _ c.loop-line.line-iterator c.loop-line.claims.items c.loop-line.number c.loop-line.invariant.0)
+    omega (
+      arith,
+      length-IsReadUpTo claim_format c.args.text.now _ c.loop-line.line-iterator c.loop-line.claims.items c.loop-line.number
+          c.loop-line.invariant.0,
+    )
 
 pub loop-line-preserved : goal.loop-line-preserved
 loop-line-preserved c =
@@ -38,5 +42,6 @@ returns-clause-claims c =
 
 pub returns-clause-few : goal.returns-clause-few
 returns-clause-few c =
-    let lines = length-IsReadUpTo claim_format c.args.text.now _ c.loop-line.line-iterator c.loop-line.claims.items c.loop-line.number c.loop-line.invariant.0 in
+    let lines = length-IsReadUpTo claim_format c.args.text.now _ c.loop-line.line-iterator c.loop-line.claims.items c.loop-line.number
+    c.loop-line.invariant.0 in
     omega (arith, lines, c.loop-line.invariant.2)

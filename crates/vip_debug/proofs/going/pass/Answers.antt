@@ -4,7 +4,8 @@ use Rattle.vip_debug.proofs.going.pass.Goals as goal
 
 pub returns-in-Dispatch-clause-answer : goal.returns-in-Dispatch-clause-answer
 returns-in-Dispatch-clause-answer c =
-    passed _ _ _ _ c.loop.invariant c.in-Dispatch.ensures.follows (at_dispatch _ _ _ _ (c.in-Dispatch.ensures.next (dispatch-runs _ _ c.in-Dispatch.ensures.again)))
+    passed _ _ _ _ c.loop.invariant c.in-Dispatch.ensures.follows
+    (at_dispatch _ _ _ _ (c.in-Dispatch.ensures.next (dispatch-runs _ _ c.in-Dispatch.ensures.again)))
 
 pub loop-smaller : goal.loop-smaller
 loop-smaller c = fewer-picture _ _ _ (at_picture _ _ _ _ (c.in-Picture.ensures.next (picture-runs _ _ c.in-Picture.ensures.again)))

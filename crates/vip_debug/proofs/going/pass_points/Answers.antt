@@ -6,13 +6,16 @@ use Rattle.vip_debug.proofs.going.pass_points.Goals as goal
 
 pub returns-then-not-pass-clause-answer : goal.returns-then-not-pass-clause-answer
 returns-then-not-pass-clause-answer c =
-    found-none _ _ _ _ _ c.loop-point.invariant.passing c.if-not-pass.ensures.follows (c.args.points - 1) c.loop-point.invariant.few c.if-not-pass.ensures.answer
+    found-none _ _ _ _ _ c.loop-point.invariant.passing c.if-not-pass.ensures.follows (c.args.points - 1) c.loop-point.invariant.few
+    c.if-not-pass.ensures.answer
 
 pub loop-point-preserved : goal.loop-point-preserved
 loop-point-preserved c =
     let next : c.loop-point._point - 1 + 1 ≡ c.loop-point._point + 1 - 1 = omega arith in
     record {
-      passing = subst (PassingPoints c.args.limit c.args.vip.now c.pass.new.vip) next (points-next _ _ _ _ _ c.loop-point.invariant.passing c.if-not-pass.ensures.follows c.if-not-pass.ensures.answer);
+      passing =
+          subst (PassingPoints c.args.limit c.args.vip.now c.pass.new.vip) next
+          (points-next _ _ _ _ _ c.loop-point.invariant.passing c.if-not-pass.ensures.follows c.if-not-pass.ensures.answer);
       few = omega arith;
     }
 

@@ -17,4 +17,5 @@ returns-in-AtLimit g c =
 pub returns-in-AtLimit-2 : goal.returns-in-AtLimit-2
 returns-in-AtLimit-2 g c =
     subst (λ lines. StreamAnswers lines (g.O.Sink.meaning c.args.out.now) (g.O.Sink.meaning c.put.new.self) c.put.result)
-    (ended-early c.args.board.now.machine c.args.completed [] (sym c.in-AtLimit.is ∙ c.ending.ensures) c.if-completed.false) (StreamAnswers-one _ _ _ _ c.put.ensures.answer)
+    (ended-early c.args.board.now.machine c.args.completed [] (sym c.in-AtLimit.is ∙ c.ending.ensures) c.if-completed.false)
+    (StreamAnswers-one _ _ _ _ c.put.ensures.answer)

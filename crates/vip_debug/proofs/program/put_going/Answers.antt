@@ -22,8 +22,11 @@ returns-in-Idle g c =
     let lines = completed_lines r c.args.running to.moves in
     let there : c.run_program-completed.new.board.machine ≡ state_of r to.moves = a.machine in
     let same = ap₂ (λ b done. ended_lines b done lines) there a.completed in
-    one-answers c.args.limit (gone_lines s.rom s.script c.args.limit c.args.running) (comes_to s.rom s.script c.args.limit c.args.running) s c.run_program-completed.new.board _ _ c.put_idle.result
-    (subst (λ ps. StreamAnswers ps (g.O.Sink.meaning c.args.out.now) (g.O.Sink.meaning c.put_idle.new.out) c.put_idle.result) (ended-idle c.run_program-completed.new.board.machine c.run_program-completed.result lines _ (sym c.in-Idle.is ∙ c.ending.ensures) ∙ same) (StreamAnswers-one _ _ _ _ c.put_idle.ensures))
+    one-answers c.args.limit (gone_lines s.rom s.script c.args.limit c.args.running) (comes_to s.rom s.script c.args.limit c.args.running) s
+    c.run_program-completed.new.board _ _ c.put_idle.result
+    (subst (λ ps. StreamAnswers ps (g.O.Sink.meaning c.args.out.now) (g.O.Sink.meaning c.put_idle.new.out) c.put_idle.result)
+    (ended-idle c.run_program-completed.new.board.machine c.run_program-completed.result lines _ (sym c.in-Idle.is ∙ c.ending.ensures) ∙ same)
+    (StreamAnswers-one _ _ _ _ c.put_idle.ensures))
     (stands-there c.args.limit s to _ _ a)
 
 pub returns-in-AtLimit : goal.returns-in-AtLimit
@@ -35,8 +38,12 @@ returns-in-AtLimit g c =
     let lines = completed_lines r c.args.running to.moves in
     let there : c.run_program-completed.new.board.machine ≡ state_of r to.moves = a.machine in
     let same = ap₂ (λ b done. ended_lines b done lines) there a.completed in
-    one-answers c.args.limit (gone_lines s.rom s.script c.args.limit c.args.running) (comes_to s.rom s.script c.args.limit c.args.running) s c.run_program-completed.new.board _ _ c.put_completed.result
-    (subst (λ ps. StreamAnswers ps (g.O.Sink.meaning c.args.out.now) (g.O.Sink.meaning c.put_completed.new.out) c.put_completed.result) (lines-completed r c.args.limit to _ _ a c.args.running _ _ refl (c.run_program-completed.ensures.shown c.if-completed.true) ∙ ended-goes c.run_program-completed.new.board.machine c.run_program-completed.result lines (sym c.in-AtLimit.is ∙ c.ending.ensures) c.if-completed.true ∙ same) c.put_completed.ensures)
+    one-answers c.args.limit (gone_lines s.rom s.script c.args.limit c.args.running) (comes_to s.rom s.script c.args.limit c.args.running) s
+    c.run_program-completed.new.board _ _ c.put_completed.result
+    (subst (λ ps. StreamAnswers ps (g.O.Sink.meaning c.args.out.now) (g.O.Sink.meaning c.put_completed.new.out) c.put_completed.result)
+    (lines-completed r c.args.limit to _ _ a c.args.running _ _ refl (c.run_program-completed.ensures.shown c.if-completed.true)
+    ∙ ended-goes c.run_program-completed.new.board.machine c.run_program-completed.result lines (sym c.in-AtLimit.is ∙ c.ending.ensures) c.if-completed.true
+    ∙ same) c.put_completed.ensures)
     (stands-there c.args.limit s to _ _ a)
 
 pub returns-in-AtLimit-2 : goal.returns-in-AtLimit-2
@@ -48,6 +55,9 @@ returns-in-AtLimit-2 g c =
     let lines = completed_lines r c.args.running to.moves in
     let there : c.run_program-completed.new.board.machine ≡ state_of r to.moves = a.machine in
     let same = ap₂ (λ b done. ended_lines b done lines) there a.completed in
-    one-answers c.args.limit (gone_lines s.rom s.script c.args.limit c.args.running) (comes_to s.rom s.script c.args.limit c.args.running) s c.run_program-completed.new.board _ _ c.put.result
-    (subst (λ ps. StreamAnswers ps (g.O.Sink.meaning c.args.out.now) (g.O.Sink.meaning c.put.new.self) c.put.result) (ended-early c.run_program-completed.new.board.machine c.run_program-completed.result lines (sym c.in-AtLimit.is ∙ c.ending.ensures) c.if-completed.false ∙ same) (StreamAnswers-one _ _ _ _ c.put.ensures.answer))
+    one-answers c.args.limit (gone_lines s.rom s.script c.args.limit c.args.running) (comes_to s.rom s.script c.args.limit c.args.running) s
+    c.run_program-completed.new.board _ _ c.put.result
+    (subst (λ ps. StreamAnswers ps (g.O.Sink.meaning c.args.out.now) (g.O.Sink.meaning c.put.new.self) c.put.result)
+    (ended-early c.run_program-completed.new.board.machine c.run_program-completed.result lines (sym c.in-AtLimit.is ∙ c.ending.ensures) c.if-completed.false
+    ∙ same) (StreamAnswers-one _ _ _ _ c.put.ensures.answer))
     (stands-there c.args.limit s to _ _ a)

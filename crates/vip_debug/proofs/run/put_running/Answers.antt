@@ -22,7 +22,8 @@ returns-in-Some-clause-lines g c =
     let r = run_at (begun old) old.moves in
     let lines = completed_lines r c.args.running (came r c.args.limit c.args.running).moves in
     subst (λ pieces. StreamAnswers pieces (g.O.Sink.meaning c.args.out.now) (g.O.Sink.meaning c.put_stop.new.out) c.put_stop.result)
-    (writes-stop old _ c.board-board.ensures.follows there _ makes.same makes.place c.run_game-completed.ensures.comes.completed lines c.in-Some.stop (sym c.in-Some.is ∙ c.stop.ensures)) (StreamAnswers-one _ _ _ _ c.put_stop.ensures)
+    (writes-stop old _ c.board-board.ensures.follows there _ makes.same makes.place c.run_game-completed.ensures.comes.completed lines c.in-Some.stop
+    (sym c.in-Some.is ∙ c.stop.ensures)) (StreamAnswers-one _ _ _ _ c.put_stop.ensures)
 
 pub put_completed-requires : goal.put_completed-requires
 put_completed-requires g c = fits c.args.running _ _ _ (c.run_game-completed.ensures.shown c.if-completed.true)
@@ -38,9 +39,11 @@ returns-in-None-clause-lines g c =
     let there = ran (begun old) c.args.limit c.args.running (place_of old) in
     let r = run_at (begun old) old.moves in
     let lines = completed_lines r c.args.running (came r c.args.limit c.args.running).moves in
-    let written = lines-completed r c.args.limit _ _ _ c.run_game-completed.ensures.comes c.args.running _ _ c.board-board.ensures.board (c.run_game-completed.ensures.shown c.if-completed.true) in
+    let written = lines-completed r c.args.limit _ _ _ c.run_game-completed.ensures.comes c.args.running _ _ c.board-board.ensures.board
+    (c.run_game-completed.ensures.shown c.if-completed.true) in
     subst (λ pieces. StreamAnswers pieces (g.O.Sink.meaning c.args.out.now) (g.O.Sink.meaning c.put_completed.new.out) c.put_completed.result)
-    (written ∙ writes-lines old _ c.board-board.ensures.follows there _ makes.same makes.place c.run_game-completed.ensures.comes.completed lines (sym c.in-None.is ∙ c.stop.ensures) c.if-completed.true) c.put_completed.ensures
+    (written ∙ writes-lines old _ c.board-board.ensures.follows there _ makes.same makes.place c.run_game-completed.ensures.comes.completed lines
+    (sym c.in-None.is ∙ c.stop.ensures) c.if-completed.true) c.put_completed.ensures
 
 pub returns-in-None-2-clause-makes : goal.returns-in-None-2-clause-makes
 returns-in-None-2-clause-makes g c =
@@ -54,4 +57,5 @@ returns-in-None-2-clause-lines g c =
     let r = run_at (begun old) old.moves in
     let lines = completed_lines r c.args.running (came r c.args.limit c.args.running).moves in
     subst (λ pieces. StreamAnswers pieces (g.O.Sink.meaning c.args.out.now) (g.O.Sink.meaning c.put.new.self) c.put.result)
-    (writes-end old _ c.board-board.ensures.follows there _ makes.same makes.place c.run_game-completed.ensures.comes.completed lines (sym c.in-None.is ∙ c.stop.ensures) c.if-completed.false) (StreamAnswers-one _ _ _ _ c.put.ensures.answer)
+    (writes-end old _ c.board-board.ensures.follows there _ makes.same makes.place c.run_game-completed.ensures.comes.completed lines
+    (sym c.in-None.is ∙ c.stop.ensures) c.if-completed.false) (StreamAnswers-one _ _ _ _ c.put.ensures.answer)

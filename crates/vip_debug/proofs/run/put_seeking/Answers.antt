@@ -15,7 +15,8 @@ returns-in-Some-clause-lines g c =
     let there = sought (begun old) c.args.limit c.args.seeking (place_of old) in
     let lines = trace_line false (view_at (begun old).edition (state_after (begun old) there.place.moves)) ∷ [] in
     subst (λ pieces. StreamAnswers pieces (g.O.Sink.meaning c.args.out.now) (g.O.Sink.meaning c.put_stop.new.out) c.put_stop.result)
-    (writes-stop old _ c.seek-completed.ensures.follows there _ a.makes.same a.makes.place a.completed lines c.in-Some.stop (sym c.in-Some.is ∙ c.stop.ensures)) (StreamAnswers-one _ _ _ _ c.put_stop.ensures)
+    (writes-stop old _ c.seek-completed.ensures.follows there _ a.makes.same a.makes.place a.completed lines c.in-Some.stop
+    (sym c.in-Some.is ∙ c.stop.ensures)) (StreamAnswers-one _ _ _ _ c.put_stop.ensures)
 
 pub returns-in-None-clause-lines : goal.returns-in-None-clause-lines
 returns-in-None-clause-lines g c =
@@ -25,7 +26,8 @@ returns-in-None-clause-lines g c =
     let lines = trace_line false (view_at (begun old).edition (state_after (begun old) there.place.moves)) ∷ [] in
     let written = point-lines old _ c.seek-completed.ensures.follows there _ a.makes.same a.makes.place a.completed c.requires.follows in
     subst (λ pieces. StreamAnswers pieces (g.O.Sink.meaning c.args.out.now) (g.O.Sink.meaning c.put_point.new.out) c.put_point.result)
-    (written ∙ writes-lines old _ c.seek-completed.ensures.follows there _ a.makes.same a.makes.place a.completed lines (sym c.in-None.is ∙ c.stop.ensures) c.if-completed.true) (StreamAnswers-one _ _ _ _ c.put_point.ensures)
+    (written ∙ writes-lines old _ c.seek-completed.ensures.follows there _ a.makes.same a.makes.place a.completed lines (sym c.in-None.is ∙ c.stop.ensures)
+    c.if-completed.true) (StreamAnswers-one _ _ _ _ c.put_point.ensures)
 
 pub returns-in-None-2-clause-lines : goal.returns-in-None-2-clause-lines
 returns-in-None-2-clause-lines g c =
@@ -34,4 +36,5 @@ returns-in-None-2-clause-lines g c =
     let there = sought (begun old) c.args.limit c.args.seeking (place_of old) in
     let lines = trace_line false (view_at (begun old).edition (state_after (begun old) there.place.moves)) ∷ [] in
     subst (λ pieces. StreamAnswers pieces (g.O.Sink.meaning c.args.out.now) (g.O.Sink.meaning c.put.new.self) c.put.result)
-    (writes-end old _ c.seek-completed.ensures.follows there _ a.makes.same a.makes.place a.completed lines (sym c.in-None.is ∙ c.stop.ensures) c.if-completed.false) (StreamAnswers-one _ _ _ _ c.put.ensures.answer)
+    (writes-end old _ c.seek-completed.ensures.follows there _ a.makes.same a.makes.place a.completed lines (sym c.in-None.is ∙ c.stop.ensures)
+    c.if-completed.false) (StreamAnswers-one _ _ _ _ c.put.ensures.answer)

@@ -17,7 +17,8 @@ returns-in_err-put_rows g c =
     change-fails-before change.line.items (rows c.args.address change.before.items) (rows c.args.address change.after.items) _ _ _ _
     (subst (λ piece. PutsWhole piece (g.O.Sink.meaning c.args.out.now) (g.O.Sink.meaning c.put.new.self)) c.as_slice.ensures.value c.in_ok-put.ensures.answer)
     c.from_residual-in_err-put_rows.ensures.0
-    (subst (λ bytes. FailsWithin (rows c.args.address bytes) (g.O.Sink.meaning c.put.new.self) (g.O.Sink.meaning c.put_rows.new.out)) c.as_slice-2.ensures.value c.in_err-put_rows.ensures)
+    (subst (λ bytes. FailsWithin (rows c.args.address bytes) (g.O.Sink.meaning c.put.new.self) (g.O.Sink.meaning c.put_rows.new.out))
+    c.as_slice-2.ensures.value c.in_err-put_rows.ensures)
 
 pub returns : goal.returns
 returns g c =
@@ -25,5 +26,7 @@ returns g c =
     change-goes change.line.items (rows c.args.address change.before.items) (rows c.args.address change.after.items) _ _ _ _
     (subst (λ piece. PutsWhole piece (g.O.Sink.meaning c.args.out.now) (g.O.Sink.meaning c.put.new.self)) c.as_slice.ensures.value c.in_ok-put.ensures.answer)
     _
-    (subst (λ bytes. PutsAll (rows c.args.address bytes) (g.O.Sink.meaning c.put.new.self) (g.O.Sink.meaning c.put_rows.new.out)) c.as_slice-2.ensures.value c.in_ok-put_rows.ensures)
-    (subst (λ bytes. StreamAnswers (rows c.args.address bytes) (g.O.Sink.meaning c.put_rows.new.out) (g.O.Sink.meaning c.put_rows-2.new.out) c.put_rows-2.result) c.as_slice-3.ensures.value c.put_rows-2.ensures)
+    (subst (λ bytes. PutsAll (rows c.args.address bytes) (g.O.Sink.meaning c.put.new.self) (g.O.Sink.meaning c.put_rows.new.out)) c.as_slice-2.ensures.value
+    c.in_ok-put_rows.ensures)
+    (subst (λ bytes. StreamAnswers (rows c.args.address bytes) (g.O.Sink.meaning c.put_rows.new.out) (g.O.Sink.meaning c.put_rows-2.new.out)
+    c.put_rows-2.result) c.as_slice-3.ensures.value c.put_rows-2.ensures)

@@ -10,7 +10,8 @@ use Rattle.vip_monitor.specs.Shown.{cycle_text}
 use Rattle.vip_monitor.specs.Parts.{lines_by}
 use Rattle.vip_monitor.proofs.answer.put_completed.Goals as goal
 
-other : (running : Running) (s : Seen) (change : Change) → ((x y : ℕ) → running ≡ Watch x y → ⊥) → (cycle_text s.machine ++ newline) ∷ [] ≡ lines_by running s change
+other : (running : Running) (s : Seen) (change : Change) → ((x y : ℕ) → running ≡ Watch x y → ⊥)
+    → (cycle_text s.machine ++ newline) ∷ [] ≡ lines_by running s change
 other (Watch x y) s change watches = absurd (watches x y refl)
 other _ s change watches = refl
 

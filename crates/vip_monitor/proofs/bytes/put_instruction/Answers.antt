@@ -22,7 +22,8 @@ returns-in_err-put g c =
     let second = c.read-2.ensures ∙ ap (reads c.args.memory.now) c.add16.ensures in
     let third = c.read-3.ensures ∙ ap (reads c.args.memory.now) c.add16-2.ensures in
     let line = line-read (reads c.args.memory.now) c.args.address c.min-have.result _ _ _ low size c.read.ensures second third c.args.layout in
-    let piece = line-joined c.args.layout c.args.address _ _ _ _ _ _ _ _ c.new-text.ensures c.put_before.ensures.items c.put.ensures.items c.as_slice-2.ensures.value (c.as_slice.ensures.value ∙ c.one_line-shown.ensures.line) (c.from-2.ensures ∙ c.one_line-shown.ensures.taken) in
+    let piece = line-joined c.args.layout c.args.address _ _ _ _ _ _ _ _ c.new-text.ensures c.put_before.ensures.items c.put.ensures.items
+    c.as_slice-2.ensures.value (c.as_slice.ensures.value ∙ c.one_line-shown.ensures.line) (c.from-2.ensures ∙ c.one_line-shown.ensures.taken) in
     line-fails c.args.layout (reads c.args.memory.now) c.args.address _ _ _ c.from_residual.ensures.0
     (subst (λ bytes. PutFails bytes (g.O.Sink.meaning c.args.out.now) (g.O.Sink.meaning c.put-2.new.self)) (piece ∙ line) c.in_err-put.ensures.answer)
 
@@ -34,7 +35,8 @@ returns g c =
     let third = c.read-3.ensures ∙ ap (reads c.args.memory.now) c.add16-2.ensures in
     let line = line-read (reads c.args.memory.now) c.args.address c.min-have.result _ _ _ low size c.read.ensures second third c.args.layout in
     let shown = taken-read (reads c.args.memory.now) c.args.address c.min-have.result _ _ _ low size c.read.ensures second third in
-    let piece = line-joined c.args.layout c.args.address _ _ _ _ _ _ _ _ c.new-text.ensures c.put_before.ensures.items c.put.ensures.items c.as_slice-2.ensures.value (c.as_slice.ensures.value ∙ c.one_line-shown.ensures.line) (c.from-2.ensures ∙ c.one_line-shown.ensures.taken) in (
+    let piece = line-joined c.args.layout c.args.address _ _ _ _ _ _ _ _ c.new-text.ensures c.put_before.ensures.items c.put.ensures.items
+    c.as_slice-2.ensures.value (c.as_slice.ensures.value ∙ c.one_line-shown.ensures.line) (c.from-2.ensures ∙ c.one_line-shown.ensures.taken) in (
       subst (λ bytes. PutsWhole bytes (g.O.Sink.meaning c.args.out.now) (g.O.Sink.meaning c.put-2.new.self)) (piece ∙ line) c.in_ok-put.ensures.answer,
       c.one_line-shown.ensures.taken ∙ shown,
     )

@@ -8,7 +8,8 @@ use Rattle.vip_monitor.proofs.bytes.put_mem.Goals as goal
 pub put_rows-requires : goal.put_rows-requires
 put_rows-requires g c =
     let low : c.args.address < 0x10000 = omega arith in
-    subst (λ bytes. c.args.address + length bytes ≤ 65536) (sym (c.as_slice.ensures.value ∙ c.read_stretch.ensures)) (stretch-fits (reads c.args.memory.now) c.args.address c.args.count low)
+    subst (λ bytes. c.args.address + length bytes ≤ 65536) (sym (c.as_slice.ensures.value ∙ c.read_stretch.ensures))
+    (stretch-fits (reads c.args.memory.now) c.args.address c.args.count low)
 
 pub returns : goal.returns
 returns g c =

@@ -27,4 +27,5 @@ pub returns : goal.returns
 unfolding rows
 returns g c =
     let all : c.loop-k.k ≡ (length c.args.bytes.now + 15) / 16 = omega arith in
-    subst (λ n. PutsAll (map (row_at c.args.address c.args.bytes.now) (range_with_len 0 n)) (g.O.Sink.meaning c.args.out.now) (g.O.Sink.meaning c.loop-k.out)) all c.loop-k.invariant
+    subst (λ n. PutsAll (map (row_at c.args.address c.args.bytes.now) (range_with_len 0 n)) (g.O.Sink.meaning c.args.out.now) (g.O.Sink.meaning c.loop-k.out))
+    all c.loop-k.invariant

@@ -10,6 +10,7 @@ loop-i-preserved c = record {
   items =
       c.push.ensures.items
       ∙ ap (λ xs. xs ++ c.read.result ∷ []) c.loop-i.invariant.items
-      ∙ ap (λ x. bytes_from (reads c.args.memory.now) c.args.address c.loop-i.i ++ x ∷ []) (c.read.ensures ∙ ap (λ a. reads c.args.memory.now (a + c.loop-i.i)) c.from-start.ensures)
+      ∙ ap (λ x. bytes_from (reads c.args.memory.now) c.args.address c.loop-i.i ++ x ∷ [])
+      (c.read.ensures ∙ ap (λ a. reads c.args.memory.now (a + c.loop-i.i)) c.from-start.ensures)
       ∙ sym (map-range_with_len_more (reads c.args.memory.now) c.args.address c.loop-i.i (c.args.address + c.loop-i.i) refl);
 }

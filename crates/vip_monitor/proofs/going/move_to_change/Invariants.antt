@@ -9,7 +9,8 @@ abbrev pub invariant-loop-target : goal.invariant-loop-target
 invariant-loop-target g l =
     let r = run_from (g.T.Target.ends l.fn.target) (g.T.Target.seen l.fn.target) in
     record {
-      seeking : Seeking g.T.Target.seen g.T.Target.ends g.T.Target.leads l.limit (λ k. has_changed l.address l.count (bytes_at r 0) (bytes_at r k)) l.fn.target l.target;
+      seeking : Seeking g.T.Target.seen g.T.Target.ends g.T.Target.leads l.limit (λ k. has_changed l.address l.count (bytes_at r 0) (bytes_at r k)) l.fn.target
+          l.target;
       before : l.change.before.items ≡ stretch (bytes_at r 0) l.address l.count;
     }
 

@@ -12,7 +12,8 @@ loop-number-preserved c = record {
   items =
       c.put-in-loop-number.ensures.items
       ∙ ap (λ xs. xs ++ c.hex4.result) c.put.ensures.items
-      ∙ registers-more c.args.cpu.now.regs c.loop-number.number c.args.into.now.items c.loop-number.into.items c.hex4.result c.r.result c.loop-number.invariant.items c.r.ensures.number c.hex4.ensures;
+      ∙ registers-more c.args.cpu.now.regs c.loop-number.number c.args.into.now.items c.loop-number.into.items c.hex4.result c.r.result
+      c.loop-number.invariant.items c.r.ensures.number c.hex4.ensures;
 }
 
 pub returns-clause-items : goal.returns-clause-items

@@ -7,8 +7,10 @@ returns-in-Idle-clause-end c = (λ e. inl (asleep c.args.self.now.board.now.mach
 
 pub returns-in-AtLimit-clause-end : goal.returns-in-AtLimit-clause-end
 returns-in-AtLimit-clause-end c =
-    rests-awake c.args.limit c.args.self.now.board.now c.to_boundary.result (awake c.args.self.now.board.now.machine (sym c.in-AtLimit.is ∙ c.ending.ensures)) c.to_boundary.ensures.end
+    rests-awake c.args.limit c.args.self.now.board.now c.to_boundary.result (awake c.args.self.now.board.now.machine (sym c.in-AtLimit.is ∙ c.ending.ensures))
+    c.to_boundary.ensures.end
 
 pub returns-in-AtLimit-clause-moved : goal.returns-in-AtLimit-clause-moved
 returns-in-AtLimit-clause-moved c =
-    program-moved c.args.self.now.board.now c.to_boundary.new.self c.to_boundary.result (c.args.self.now.board.ghost_name ≡ c.args.self.now.board.ghost_name) refl c.to_boundary.ensures.moved
+    program-moved c.args.self.now.board.now c.to_boundary.new.self c.to_boundary.result (c.args.self.now.board.ghost_name ≡ c.args.self.now.board.ghost_name)
+    refl c.to_boundary.ensures.moved
