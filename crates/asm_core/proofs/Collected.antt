@@ -1,9 +1,8 @@
 -- The values of operands while they are collected.
-use Rattle.std.proofs.Common.{◌≡◌, ℕ, refl, Bool, List, [], ◌∷◌, ◌++◌, ap, true, false, cond, Ok, Err, Result}
+use Rattle.std.proofs.Common.{◌≡◌, ℕ, refl, Bool, List, [], ◌++◌, true, cond, Ok, Err, Result}
 use Rattle.std.specs.Prelude.{map, not, ◌||◌, is_err}
 use Rattle.std.specs.List.{list_any}
 use Rattle.std.specs.Result.{result_unwrap_or}
-use Rattle.std.proofs.lemmas.List.{append_assoc, append-nil}
 use Rattle.asm_lex.specs.declared.shape.ValueFault.{ValueFault}
 use Rattle.asm_lex.specs.declared.shape.ValueFault.TheVariants.{Undefined, Range}
 use Rattle.asm_core.specs.Encoding.{is_undefined, collected}

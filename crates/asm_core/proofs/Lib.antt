@@ -5,3 +5,4 @@ pub mod Cells
 pub mod LaidOut
 pub mod PassOne
 pub mod PassTwo
+pub mod OnePass

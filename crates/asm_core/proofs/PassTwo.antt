@@ -1,5 +1,5 @@
 -- Pass 2, line by line.
-use Rattle.std.proofs.Common.{◌≡◌, ◌+◌, ◌-◌, ◌*◌, ◌/◌, ◌%◌, ◌<◌, ◌≤◌, ℕ, suc, refl, Bool, List, [], ◌∷◌, length, sym, ◌∙◌, ap, arith, true, false, cond, Some, None, Option, Ok, Err, Result, inl, inr, below_more}
+use Rattle.std.proofs.Common.{◌≡◌, ◌+◌, ◌-◌, ◌*◌, ◌/◌, ◌%◌, ◌<◌, ◌≤◌, ℕ, suc, refl, Bool, List, [], ◌∷◌, length, sym, ◌∙◌, ap, arith, true, false, cond, Some, None, Option, Ok, Err, Result, inl, below_more}
 use Rattle.std.specs.Prelude.{◌&&◌, map, flat_map, replicate, ◌==◌, nat_le, is_some, is_err}
 use Rattle.std.specs.Option.{option_or}
 use Rattle.std.specs.List.{list_any}

@@ -4,8 +4,8 @@
 //! edition, which names the edition's screen and its places in RAM, and behind it what both editions share: the names, a text for each
 //! part of the ROM, in the file of the part's name, and the font. So the two ROMs have the same instructions at the same addresses and
 //! differ in operand bytes alone. The layer above may rely on this: a text is its head followed by the shared texts, and has at most
-//! 1,048,576 bytes. Tests show the rest: that it assembles to the ROM's bytes, which each run compares too, and that the text of a part
-//! gives bytes at the part's addresses alone.
+//! 1,048,576 bytes. That it assembles to the ROM's bytes is a law of `rom_check`, and each run compares them too. Tests there show that the
+//! text of a part gives bytes at the part's addresses alone.
 //!
 //! The instructions are those of RCA's data sheet of the CDP1802; the places, the font and the bounds are this project's profile.
 #![tactic(auto)]

@@ -1,1 +1,3 @@
 pub mod OneAnswer
+pub mod Gives
+pub mod Computed

@@ -1,6 +1,8 @@
 -- The comparison of a source's assembly with the bytes of a ROM.
 use Rattle.std.specs.Prelude.{◌≡◌, ◌≢◌, ◌-◌, ◌<◌, ◌||◌, ◌⊎◌, ℕ, List, length, nat_le, slice_get, if◌then◌else◌, Option, None, is_some, true, Bool, option_map, unwrap_or, Result, Ok, Err}
-use Rattle.asm_core.specs.Sources.{cell_before, NoFault, HasFirstFault, fault_1, fault_2}
+use Rattle.asm_core.specs.Sources.{cell_before, source_lines, NoFault, HasFirstFault, fault_1, fault_2}
+use Rattle.chip8_image.specs.declared.image.TheConstants.{IMAGE, TALL}
+use Rattle.chip8_source.specs.Texts.{usual_text, tall_text}
 use Rattle.rom_check.specs.declared.fault.ImageFault.{ImageFault}
 use Rattle.rom_check.specs.declared.fault.ImageFault.TheVariants.{BadRomSource, RomDiffers, NoMemory}
 
@@ -61,3 +63,7 @@ abbrev pub OneAnswer : Type 0
 OneAnswer =
     (source : List (List ℕ)) (image : List ℕ) (a b : Result Unit ImageFault)
     → Compares source image a → Compares source image b → (a ≡ b) ⊎ (a ≡ Err NoMemory) ⊎ (b ≡ Err NoMemory)
+
+-- The text of each edition assembles, and to its ROM.
+abbrev pub SourceGivesRom : Type 0
+SourceGivesRom = Compares (source_lines usual_text) IMAGE (Ok tt) × Compares (source_lines tall_text) TALL (Ok tt)
