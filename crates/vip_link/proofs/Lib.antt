@@ -7,3 +7,4 @@ pub mod Numbers
 pub mod Law
 pub mod Links
 pub mod Runs
+pub mod Computed

@@ -1,5 +1,7 @@
-//! What is proved of both ROMs, the contract of a function without parameters.
+//! What is proved of both ROMs, each law the contract of a function without parameters.
 
+ghost use Rattle.std.specs.Prelude.{Ok};
+ghost use Rattle.vip_link.specs.Checked.{ComparesLink};
 ghost use Rattle.vip_link.specs.Laws.{AlwaysDelivers, NumbersDeliver, PairsDeliver, TurnsDeliver};
 
 /// For every message of at most 3,000 bytes and every schedule: what A sent is a prefix of the message, what B received is a prefix of that and at
@@ -11,4 +13,10 @@ pub fn every_schedule()
     ensures turns { TurnsDeliver }
     ensures pairs { PairsDeliver }
     ensures numbers { NumbersDeliver }
+{}
+
+/// The texts of SENDER and RECEIVER assemble, and to exactly the bytes of their ROMs. So `check_link` answers that all is fine, or that no memory was
+/// found. It is proved by computing both assemblies. A call does nothing: the law is its contract.
+pub fn sources_give_roms()
+    ensures { ComparesLink (Ok tt) }
 {}
