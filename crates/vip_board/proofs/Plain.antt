@@ -13,7 +13,7 @@ use Rattle.machine.specs.Board.Case.{Instruction as InstructionCase}
 use Rattle.machine.proofs.Flags.{reads_flags, effect_flags}
 use Rattle.vip_cpu.specs.Acts.{Acts}
 use Rattle.vip_cpu.specs.Cycle.{Processor, after, ended}
-use Rattle.vip_cpu.specs.Groups.{is_plain}
+use Rattle.vip_cpu.specs.Groups.{is_plain, plain_cycles}
 use Rattle.vip_cpu.specs.declared.cpu.Phase.TheVariants.{Boundary}
 use Rattle.vip_video.specs.Chip.{Chip, Pictures, scanned}
 use Rattle.vip_video.specs.Quiet.{IsQuiet}
@@ -41,6 +41,14 @@ plain_port : (k : Kind) (n : ℕ) (s : Regs) (i : Inputs) → is_plain k ≡ tru
 plain_port Out n s i h = cc
 plain_port Inp n s i h = cc
 plain_port _ n s i h = refl
+
+-- what a length by the table of plain opcodes says
+by_length : (b : Bool) (n m : ℕ) → n ≡ (if b then m else 0) → (n ≡ 0 → ⊥) → (b ≡ true) × (n ≡ m)
+by_length true n m e h = (refl, e)
+by_length false n m e h = absurd (h e)
+
+pub plain-length : (opcode n : ℕ) → n ≡ plain_cycles opcode → (n ≡ 0 → ⊥) → (is_plain (kind_of opcode) ≡ true) × (n ≡ cycles_of opcode)
+plain-length opcode n = by_length (is_plain (kind_of opcode)) n (cycles_of opcode)
 
 -- ---- what the video chip makes of quiet cycles
 

@@ -11,8 +11,8 @@ use crate::port::{Joined, Wire};
 use crate::wires::Wires;
 use std::alloc::{AllocError, Global};
 use std::marker::Model;
-use vip_cpu::{Bus, Cpu, Did, Parts, Phase, is_plain};
-use vip_isa::{cycles, decode};
+use vip_cpu::{Bus, Cpu, Did, Parts, Phase, plain_cycles};
+use vip_isa::cycles;
 use vip_keypad::{Keypad, Script};
 use vip_memory::Memory;
 use vip_video::{Requests, Video};
@@ -345,7 +345,8 @@ impl Board {
             return false;
         }
         let opcode = self.wires.read(self.counter());
-        if !is_plain(decode(opcode).kind) || !self.wires.video.pass(u64::from(cycles(opcode))) {
+        let length = plain_cycles(opcode);
+        if length == 0 || !self.wires.video.pass(u64::from(length)) {
             return false;
         }
         self.cpu.instruct(&mut self.wires, opcode);

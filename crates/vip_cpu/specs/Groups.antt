@@ -1,5 +1,6 @@
 -- The groups of instructions, as the data sheet lists them. Opcode 68, which it leaves out, stands with the control instructions.
-use Rattle.std.specs.Prelude.{Bool, true, false}
+use Rattle.std.specs.Prelude.{ℕ, if◌then◌else◌, Bool, true, false}
+use Rattle.machine.specs.Opcodes.{kind_of, cycles_of}
 use Rattle.machine.specs.declared.Kind.{Kind}
 use Rattle.machine.specs.declared.Kind.TheVariants.{Idl, Ldn, Inc, Dec, Br, Bq, Bz, Bdf, B1, B2, B3, B4, Skp, Bnq, Bnz, Bnf, Bn1, Bn2, Bn3, Bn4, Lda, Str, Irx, Out, Undefined, Inp, Ret, Dis, Ldxa, Stxd, Adc, Sdb, Shrc, Smb, Sav, Mark, Req, Seq, Adci, Sdbi, Shlc, Smbi, Glo, Ghi, Plo, Phi, Lbr, Lbq, Lbz, Lbdf, Nop, Lsnq, Lsnz, Lsnf, Lskp, Lbnq, Lbnz, Lbnf, Lsie, Lsq, Lsz, Lsdf, Sep, Sex, Ldx, Or, And, Xor, Add, Sd, Shr, Sm, Ldi, Ori, Ani, Xri, Adi, Sdi, Shl, Smi}
 use Rattle.vip_cpu.specs.declared.group.Group.{Group}
@@ -101,3 +102,7 @@ is_plain Bn4 = false
 is_plain Out = false
 is_plain Inp = false
 is_plain _ = true
+
+-- the machine cycles of an opcode of such a kind, and 0 for every other one
+abbrev pub plain_cycles : ℕ → ℕ
+plain_cycles opcode = if is_plain (kind_of opcode) then cycles_of opcode else 0

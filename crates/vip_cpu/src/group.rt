@@ -1,7 +1,7 @@
 //! The groups of instructions, as the data sheet lists them.
 
 ghost use Rattle.std.specs.Prelude.{◌≡◌};
-ghost use Rattle.vip_cpu.specs.Groups.{group_of, is_plain};
+ghost use Rattle.vip_cpu.specs.Groups.{group_of, plain_cycles};
 
 use machine::Kind;
 
@@ -101,23 +101,23 @@ pub fn group_of(kind: Kind) -> Group
     }
 }
 
-/// Whether an instruction of a kind tests no flag and uses no port, so that of the bus only memory plays a part in it, and doesn't start to
-/// idle.
-pub fn is_plain(kind: Kind) -> bool
-    ensures { result ≡ is_plain kind }
+/// The machine cycles of each opcode whose instruction is plain, and 0 for the others.
+static PLAIN_CYCLES: [u8; 256] = [
+    0, 2, 2, 2, 2, 2, 2, 2, 2, 2, 2, 2, 2, 2, 2, 2, 2, 2, 2, 2, 2, 2, 2, 2, 2, 2, 2, 2, 2, 2, 2, 2,
+    2, 2, 2, 2, 2, 2, 2, 2, 2, 2, 2, 2, 2, 2, 2, 2, 2, 2, 2, 2, 0, 0, 0, 0, 2, 2, 2, 2, 0, 0, 0, 0,
+    2, 2, 2, 2, 2, 2, 2, 2, 2, 2, 2, 2, 2, 2, 2, 2, 2, 2, 2, 2, 2, 2, 2, 2, 2, 2, 2, 2, 2, 2, 2, 2,
+    2, 0, 0, 0, 0, 0, 0, 0, 2, 0, 0, 0, 0, 0, 0, 0, 2, 2, 2, 2, 2, 2, 2, 2, 2, 2, 2, 2, 2, 2, 2, 2,
+    2, 2, 2, 2, 2, 2, 2, 2, 2, 2, 2, 2, 2, 2, 2, 2, 2, 2, 2, 2, 2, 2, 2, 2, 2, 2, 2, 2, 2, 2, 2, 2,
+    2, 2, 2, 2, 2, 2, 2, 2, 2, 2, 2, 2, 2, 2, 2, 2, 2, 2, 2, 2, 2, 2, 2, 2, 2, 2, 2, 2, 2, 2, 2, 2,
+    3, 3, 3, 3, 3, 3, 3, 3, 3, 3, 3, 3, 3, 3, 3, 3, 2, 2, 2, 2, 2, 2, 2, 2, 2, 2, 2, 2, 2, 2, 2, 2,
+    2, 2, 2, 2, 2, 2, 2, 2, 2, 2, 2, 2, 2, 2, 2, 2, 2, 2, 2, 2, 2, 2, 2, 2, 2, 2, 2, 2, 2, 2, 2, 2,
+];
+
+/// The machine cycles of an instruction with this opcode, where it is plain: it tests no flag and uses no port, so that of the bus only memory
+/// plays a part in it, and doesn't start to idle. 0 for every other opcode.
+#[inline(always)]
+pub fn plain_cycles(opcode: u8) -> u8
+    ensures { result ≡ plain_cycles opcode }
 {
-    match kind {
-        Kind::Idl
-        | Kind::B1
-        | Kind::B2
-        | Kind::B3
-        | Kind::B4
-        | Kind::Bn1
-        | Kind::Bn2
-        | Kind::Bn3
-        | Kind::Bn4
-        | Kind::Out
-        | Kind::Inp => false,
-        _ => true,
-    }
+    PLAIN_CYCLES[opcode as usize]
 }

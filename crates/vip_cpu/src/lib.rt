@@ -53,5 +53,5 @@ mod scratchpad;
 
 pub use bus::Bus;
 pub use cpu::{Cpu, Did, Phase};
-pub use group::is_plain;
+pub use group::plain_cycles;
 pub use parts::Parts;
