@@ -5,6 +5,7 @@ mod DebuggedLemmas
 mod TranscribedLemmas
 mod StateLemmas
 mod TopLemmas
+mod GivenLemmas
 mod SavedLemmas
 mod ResumedLemmas
 mod CertifiedLemmas

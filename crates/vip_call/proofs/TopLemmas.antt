@@ -55,7 +55,7 @@ use Rattle.vip_report.specs.Status.{ended_status}
 use Rattle.vip_report.specs.declared.ended.Ended.{Ended}
 use Rattle.vip_report.specs.declared.ended.Ended.TheVariants.{Worked, Ran, NoDispatch as Undispatched, Idle, Linked}
 use Rattle.vip_report.specs.Report.{cannot_read, no_certificate, report_of, too_large_report}
-use Rattle.vip_call.specs.Top.{Call, call_of, Asks, Oversize, Rejects, GivesUp, Shows, Faulty, Says, IsQuiet, Reading, Lacks, Larger, Whole, with_content, reading, Due, Lacking, TooLarge, Refusing, Showing, RefusesWords, Offers, IsSearch, IsFree, GivesDue, AreRefused, Completes}
+use Rattle.vip_call.specs.Top.{Call, call_of, Asks, Oversize, Rejects, GivesUp, Shows, Faulty, Says, IsQuiet, Reading, Lacks, Larger, Whole, with_content, reading, Due, Lacking, TooLarge, Refusing, Showing, RefusesWords, Offers, IsSearch, IsFree, GivesDue, IsOfRom, AreRefused, Completes}
 use Rattle.vip_report.specs.declared.refusal.Kind.{Kind}
 use Rattle.vip_report.specs.declared.refusal.Kind.TheVariants as kind
 use Rattle.vip_report.specs.declared.refusal.Refusal.{Refusal}
@@ -112,7 +112,7 @@ module _ (a : AskedLink) (message : List ℕ) where
   links_differ_once e f is_e is_f (inr x) (inl y) = absurd (fine_or_not (source_lines sender_text) sender_rom f is_f x.0 y)
   links_differ_once e f is_e is_f (inr x) (inr y) = differs_once (source_lines receiver_text) receiver_rom e f is_e is_f x.1 y.1
 
-  links_fine_or_not : (f : ImageFault) → IsFault f → ComparesLink (Ok tt) → ComparesLink (Err f) → ⊥
+  pub links_fine_or_not : (f : ImageFault) → IsFault f → ComparesLink (Ok tt) → ComparesLink (Err f) → ⊥
   links_fine_or_not f is x (inl y) = fine_or_not (source_lines sender_text) sender_rom f is x.0 y
   links_fine_or_not f is x (inr y) = fine_or_not (source_lines receiver_text) receiver_rom f is x.1 y.1
 
@@ -596,12 +596,14 @@ module _ (call : Call) (asked : Asked) (files : FileMap) (offers : Offers call a
   due_is RomTooLarge says due given = oversize_due due given RomTooLarge says
   due_is RamTooLarge says due given = oversize_due due given RamTooLarge says
 
-  module _ (contents : List (List ℕ)) (there : reading files (needed asked) ≡ Whole contents) (accepted : ¬ AreRefused asked contents) where
+  module _ (contents : List (List ℕ)) (there : reading files (needed asked) ≡ Whole contents) (accepted : ¬ AreRefused asked contents)
+      (free : (status : Status) (report : List ℕ) → Comes asked contents (Refused status report) → ¬ IsOfRom status) where
     not_rejected : (status : Status) → Rejects status call → ⊥
     not_rejected status says =
         let read = whole says.asked says.contents says.asks in
         let same_contents : says.contents ≡ contents = cc in
-        accepted (status, says.report, subst (λ c. Comes asked c (Refused status says.report)) same_contents (comes_here says.asked says.contents _ says.asks says.comes))
+        let comes = subst (λ c. Comes asked c (Refused status says.report)) same_contents (comes_here says.asked says.contents _ says.asks says.comes) in
+        accepted (status, says.report, comes, free status says.report comes)
 
     not_larger : (status : Status) → Oversize status call → ⊥
     not_larger status says = let large = larger_here status says in cc
@@ -644,8 +646,11 @@ module _ (call : Call) (asked : Asked) (files : FileMap) (offers : Offers call a
 pub gives_due : (status : Status) (call : Call) → Says status call → GivesDue status call
 gives_due status call says asked files due offers given = due_is call asked files offers status says due given
 
-pub completes : (status : Status) (call : Call) → Says status call → Completes status call
-completes status call says asked files contents offers there accepted out err = ends call asked files offers contents there accepted status says out err
+pub completes :
+    ((asked : Asked) (contents : List (List ℕ)) (status : Status) (report : List ℕ) → Comes asked contents (Refused status report) → ¬ IsOfRom status)
+    → (status : Status) (call : Call) → Says status call → Completes status call
+completes free status call says asked files contents offers there accepted out err =
+    ends call asked files offers contents there accepted (free asked contents) status says out err
 
 -- ---- what the steps of a call say together
 

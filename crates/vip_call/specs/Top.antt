@@ -233,9 +233,16 @@ GivesDue status call =
     → Due call asked (reading files (needed asked)) due
     → (status ≡ due) ⊎ IsFree asked status
 
--- the contents of the files are refused: a saved state, commands, a script, a source or a certificate have a fault, or the ROM isn't what its source gives
+-- the ROM isn't what its built-in source gives
+abbrev pub IsOfRom : Status → Type 0
+IsOfRom BadRomSource = Unit {0}
+IsOfRom RomDiffers = Unit {0}
+IsOfRom _ = ⊥
+
+-- The contents of the files are refused: a saved state, commands, a script, a source or a certificate have a fault. That the ROM isn't what its source
+-- gives is no such case: each source gives its ROM.
 abbrev pub AreRefused : Asked → List (List ℕ) → Type 0
-AreRefused asked contents = (status : Status) × (report : List ℕ) × Comes asked contents (Refused status report)
+AreRefused asked contents = (status : Status) × (report : List ℕ) × Comes asked contents (Refused status report) × ¬ IsOfRom status
 
 -- Where the files are there with their sizes, their contents aren't refused and no fault is counted, the answer is Done or Stopped, or of a run
 -- that is to be saved NoDispatch, or a free one.
@@ -304,8 +311,8 @@ BringsMessages call =
 -- ---- the program
 
 -- What the program promises of each call. The body is held to `says`: what its answer tells of words, files, output and report. What follows for a
--- reader stands beside it. `words`, `due` and `complete` follow from `says` alone, and `chip8` by the law of every run too. `language`, `certified` and
--- `saved` are laws of what the words and the contents come to, and hold of any body.
+-- reader stands beside it. `words` and `due` follow from `says` alone, `complete` and `rom` as each source gives its ROM, `chip8` by the law of every run.
+-- `language`, `certified` and `saved` are laws of what the words and the contents come to, and hold of any body.
 pub record Promises (status : Status) (call : Call) : Type 0 where
   -- what the answer says: exact output for Done and Stopped, each refusal's cause, and which files were read
   pub says : Says status call
@@ -320,7 +327,8 @@ pub record Promises (status : Status) (call : Call) : Type 0 where
   pub saved : ContinuesSaved call
   -- where two boards are joined, what arrived is the beginning of the message, and all of it after enough moves
   pub linked : BringsMessages call
-  -- when each answer is due, and that there is no other
+  -- when each answer is due, that there is no other, and that none is that the ROM isn't what its source gives
   pub words : RefusesWords status call
   pub due : GivesDue status call
   pub complete : Completes status call
+  pub rom : ¬ IsOfRom status

@@ -9,9 +9,10 @@ ghost use Rattle.vip_call.specs.Top.{call_of, Says, Promises};
 
 use cycle_check::laws::accepted_leaves;
 use game_check::laws::certified_games;
+use rom_check::laws::source_gives_rom;
 use std::alloc::Global;
 use vip_language::laws::{every_run, every_start};
-use vip_link::laws::every_schedule;
+use vip_link::laws::{every_schedule, sources_give_roms};
 use vip_outside::{Failed, Files, Sink};
 use vip_report::{Ended, Refusal, Status, put_end, put_refusal, put_write_fault};
 use vip_state::laws::{file_may_start, saved_goes_on};
@@ -123,5 +124,7 @@ pub fn vip_main<F: Files, O: Sink, E: Sink>(
     accepted_leaves();
     certified_games();
     every_schedule();
+    source_gives_rom();
+    sources_give_roms();
     open_and_finish(alloc, words, files, out, err)
 }
