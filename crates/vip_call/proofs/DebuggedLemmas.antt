@@ -33,7 +33,6 @@ use Rattle.vip_text.specs.Traces.{trace_line}
 use Rattle.vip_show.specs.Endings.{ending_after}
 use Rattle.vip_commands.specs.declared.commands.Command.{Command}
 use Rattle.vip_commands.specs.declared.commands.Command.TheVariants as command
-use Rattle.vip_commands.specs.declared.commands.Seeking.{Seeking}
 use Rattle.vip_commands.specs.declared.commands.Seeking.TheVariants.{Next, Break}
 use Rattle.vip_commands.specs.declared.commands.Telling.TheVariants.{State, Screen}
 use Rattle.vip_monitor.proofs.Runs.{Reached, all-moves, last-here, until}

@@ -1,21 +1,17 @@
 -- The run of a game is a run of CHIP-8 with its ending, by the law of every run.
-use Rattle.std.proofs.Common.{ℕ, ◌+◌, ◌<◌, ◌≤◌, List, [], ◌∷◌, length, Result, Ok, Err, slice_index, refl, ap, arith}
+use Rattle.std.proofs.Common.{ℕ, ◌<◌, ◌≤◌, List, [], ◌∷◌, length, Result, Ok, Err, slice_index, refl, arith}
 use Rattle.machine.specs.Board.{Machine}
 use Rattle.machine.specs.Keys.{Event as KeyEvent}
 use Rattle.chip8_lang.specs.declared.view.Edition.{Edition}
 use Rattle.chip8_lang.specs.declared.view.Edition.TheVariants.{Usual}
 use Rattle.chip8_lang.specs.Events.{Event}
 use Rattle.chip8_lang.specs.Events.Event.{Picture, Dispatch, Stopped}
-use Rattle.chip8_lang.specs.Places.{state_of}
 use Rattle.chip8_lang.specs.State.{memory_size}
-use Rattle.chip8_lang.specs.View.{opcode_at, view_at}
-use Rattle.rom_law.specs.Language.{Begins, GoesOn}
+use Rattle.rom_law.specs.Language.{Begins}
 use Rattle.vip_language.specs.Laws.{EveryRun}
 use Rattle.vip_language.specs.Program.{numbered, program}
 use Rattle.vip_relation.specs.State.{started}
 use Rattle.vip_show.specs.Endings.{ending_after, ending_of}
-use Rattle.vip_text.specs.Endings.{Ending}
-use Rattle.vip_text.specs.Endings.Ending.{AtStop}
 use Rattle.vip_commands.specs.Grammar.{commands_of}
 use Rattle.vip_commands.specs.declared.commands.Command.{Command}
 use Rattle.vip_commands.specs.declared.commands.Speaks.TheVariants.{Chip8}

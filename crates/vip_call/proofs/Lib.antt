@@ -3,7 +3,6 @@ mod LanguageLemmas
 mod TranscriptLemmas
 mod DebuggedLemmas
 mod TranscribedLemmas
-mod StateLemmas
 mod TopLemmas
 mod GivenLemmas
 mod SavedLemmas

@@ -2,7 +2,7 @@
 use Rattle.std.proofs.Common.{ℕ, ◌≤◌, List, length, refl, sym, ap, subst, ◌∙◌}
 use Rattle.vip_link.specs.Laws.{Delivers, AlwaysDelivers, NumbersDeliver}
 use Rattle.vip_link.specs.Schedules.{schedule_by}
-use Rattle.vip_words.specs.Asked.{AskedLink, link}
+use Rattle.vip_words.specs.Asked.{AskedLink}
 use Rattle.vip_tools.specs.Outcome.{Outcome}
 use Rattle.vip_tools.specs.Outcome.Outcome.{Shown}
 use Rattle.vip_verbs.specs.Outcome.{LinkComes}

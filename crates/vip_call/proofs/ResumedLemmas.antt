@@ -1,5 +1,5 @@
 -- The run that goes on from a file is a run of CHIP-8 with its ending, by the law of the run from any machine state that may start.
-use Rattle.std.proofs.Common.{◌≡◌, ℕ, ◌+◌, ◌<◌, List, [], ◌∷◌, Option, Ok, slice_index, refl, sym, ap, subst, ◌∙◌}
+use Rattle.std.proofs.Common.{◌≡◌, ℕ, ◌+◌, ◌<◌, List, [], ◌∷◌, Option, slice_index, refl, sym, ap, subst, ◌∙◌}
 use Rattle.machine.specs.Board.{Machine, move}
 use Rattle.machine.specs.Keys.{Event as KeyEvent, held_at}
 use Rattle.machine.specs.Pictures.{windows_ended}
@@ -18,11 +18,9 @@ use Rattle.vip_state.specs.Points.{points_behind, points_of}
 use Rattle.vip_state.proofs.Points.{points_of-events_at}
 use Rattle.vip_text.specs.Endings.{Ending}
 use Rattle.vip_text.specs.Endings.Ending.{AtStop}
-use Rattle.vip_report.specs.declared.status.Status.{Status}
 use Rattle.vip_tools.specs.Outcome.{Outcome}
 use Rattle.vip_tools.specs.Outcome.Outcome.{Refused, Shown, GivenUp}
 use Rattle.vip_verbs.specs.Outcome.{ResumeComes, RunTo, ending_from, resumed}
-use Rattle.vip_verbs.specs.Outcome.ResumeComes.{FaultyState, Resumes}
 use Rattle.vip_verbs.specs.Outcome.RunTo.{FaultyScript, FaultyRom, Runs}
 use Rattle.vip_words.specs.Asked.{AskedResume}
 use Rattle.vip_call.specs.Language.{named, ResumesChip8}
@@ -114,5 +112,4 @@ module _ (from : FromFile) (a : AskedResume) (file : List ℕ) (scripts : List (
 
   pub resumed_shows : (o : Outcome) → ResumeComes a file scripts o → OfResumed o
   unfolding OfResumed
-  resumed_shows _ (FaultyState fault judged) = tt
-  resumed_shows o (Resumes e p accepted run) = run_shows e o accepted run
+  resumed_shows o comes = run_shows comes.edition o comes.accepted comes.comes

@@ -1,16 +1,13 @@
 -- What was saved of a run goes on as that run.
-use Rattle.std.proofs.Common.{◌≡◌, ◌<◌, ◌≤◌, ℕ, Bool, true, false, List, [], ◌∷◌, ◌++◌, length, slice_index, Option, Some, None, Ok, Err, refl, sym, ap, subst, ◌∙◌, append-nil, append_assoc}
-use Rattle.std.specs.Prelude.{if◌then◌else◌}
+use Rattle.std.proofs.Common.{◌≡◌, ◌<◌, ◌≤◌, ℕ, Bool, false, List, [], ◌∷◌, ◌++◌, length, slice_index, Option, Some, None, Ok, refl, sym, ap, subst, ◌∙◌, append-nil}
 use Rattle.std.specs.Option.{option_to_list}
 use Rattle.machine.specs.Keys.{Event as KeyEvent}
 use Rattle.chip8_lang.specs.declared.view.Edition.{Edition}
 use Rattle.chip8_lang.specs.State.{memory_size}
 use Rattle.vip_outside.specs.Files.{FilesMeaning}
 use Rattle.vip_relation.specs.Interpreters.{interpreter_of}
-use Rattle.vip_relation.specs.Follows.{last_dispatch}
 use Rattle.vip_show.specs.Output.{trace_lines, trace_pieces}
-use Rattle.vip_text.specs.Endings.{Ending}
-use Rattle.vip_state.specs.File.{shown, IsAccepted}
+use Rattle.vip_state.specs.File.{shown}
 use Rattle.vip_state.specs.Laws.{IsRest as IsRestOfRun, SavedGoesOn}
 use Rattle.vip_state.specs.Output.{saved_file}
 use Rattle.vip_state.specs.Points.{points_behind}
@@ -20,13 +17,12 @@ use Rattle.vip_report.specs.declared.status.Status.{Status}
 use Rattle.vip_words.specs.Asked.{Asked, AskedRun, most_cycles, trace, play, debug, save, resume, demo, link, trace_program, play_program, debug_program, asm, list, dis, source as interpreter, bounds, within, safe, certify}
 use Rattle.vip_tools.specs.Files.{needed, HasAll}
 use Rattle.vip_tools.specs.Outcome.{Outcome, script_in}
-use Rattle.vip_tools.specs.Outcome.Outcome.{Refused, Shown, GivenUp}
-use Rattle.vip_verbs.specs.Outcome.{Comes, RunTo, ResumeComes, RomIs, events_in, run_ending, saved, resumed as resumed_outcome}
+use Rattle.vip_tools.specs.Outcome.Outcome.{Refused, Shown}
+use Rattle.vip_verbs.specs.Outcome.{Comes, RunTo, RomIs, events_in, run_ending, saved, resumed as resumed_outcome}
 use Rattle.vip_verbs.specs.Outcome.RunTo.{FaultyScript, FaultyRom, Runs}
-use Rattle.vip_verbs.specs.Outcome.ResumeComes.{FaultyState, Resumes}
 use Rattle.vip_call.specs.Saved.{Continues, GoesOnAsRun, IsRest, traced, resumed}
 use Rattle.vip_call.specs.Top.{Call, ContinuesSaved}
-use Rattle.vip_call.proofs.StateLemmas.{accepted_or_not, one_edition}
+use Rattle.vip_state.proofs.OneAnswer.{one_edition}
 use Rattle.vip_call.proofs.TopLemmas.{rom_is_fine_or_not}
 
 -- ---- the parts of what is shown
@@ -106,7 +102,9 @@ module _
 
   rest : (first : List (List ℕ)) (status : Status) (report : List ℕ) (o : Outcome) → Comes (traced a with_time a.cycles) (game ∷ scripts) (Shown first status report)
       → Comes asked (file ∷ scripts) o → IsRest a game scripts with_time later first o
-  rest first status report o comes x = by_file o x
+  rest first status report o comes x =
+      by_run o (subst (λ d. RunTo d scripts (resumed_outcome (record { state = name; cycles = later; keys = a.keys; with_time = with_time }) d file) o)
+      (one_edition x.edition e file x.accepted run.accepted) x.comes)
     where
       are : first ≡ trace_lines e with_time (events_in e game script a.cycles)
       are = first_are first status report comes
@@ -118,13 +116,6 @@ module _
       by_run _ (Runs t y rom') =
           subst (λ t. IsRest a game scripts with_time later first (resumed_outcome (record { state = name; cycles = later; keys = a.keys; with_time = with_time }) e file t))
           (sym (same_script scripts script t reads y)) (whole first are)
-
-      by_file : (o : Outcome) → ResumeComes (record { state = name; cycles = later; keys = a.keys; with_time = with_time }) file scripts o
-          → IsRest a game scripts with_time later first o
-      by_file _ (FaultyState f y) = absurd (accepted_or_not e file f run.accepted y)
-      by_file o (Resumes d p y z) =
-          by_run o (subst (λ d. RunTo d scripts (resumed_outcome (record { state = name; cycles = later; keys = a.keys; with_time = with_time }) d file) o)
-          (one_edition d e file y run.accepted) z)
 
 -- ---- a command
 

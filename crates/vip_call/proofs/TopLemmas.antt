@@ -1,6 +1,5 @@
 -- The laws of the answers, from what each answer says, and what the steps of a call say together.
 use Rattle.std.proofs.Common.{◌≡◌, ℕ, suc, ◌<◌, ◌⊎◌, inl, inr, List, [], ◌∷◌, ◌++◌, Option, Some, None, IsSomeAnd, length, take, take_all, refl, sym, ap, subst, ◌∙◌, arith, Result, Ok, Err}
-use Rattle.std.proofs.lemmas.Bool.{le-ltb, lt-ltb}
 use Rattle.std.specs.FinMap.{get}
 use Rattle.machine.specs.Keys.{Event as KeyEvent}
 use Rattle.chip8_lang.specs.declared.view.Edition.{Edition}
@@ -24,22 +23,21 @@ use Rattle.vip_outside.specs.Files.{FileMap, FilesMeaning}
 use Rattle.vip_outside.specs.Sink.{SinkMeaning}
 use Rattle.vip_outside.specs.declared.sink.Failed.{Failed}
 use Rattle.vip_relation.specs.Interpreters.{interpreter_of}
-use Rattle.vip_text.specs.Endings.{Ending}
-use Rattle.vip_call.proofs.StateLemmas.{accepted_or_not, one_edition}
+use Rattle.vip_state.proofs.OneAnswer.{accepted_or_not, one_edition}
 use Rattle.vip_words.specs.Asked.{Asked, AskedLink, AskedResume, trace, play, debug, save, resume, demo, link, trace_program, play_program, debug_program, asm, list, dis, source as interpreter, bounds, within, safe, certify, asked_by}
 use Rattle.vip_tools.specs.Certificates.{CertifyComes, CyclesComes, SafeComes}
 use Rattle.vip_tools.specs.Certificates.CertifyComes.{Finds, FindsNone}
 use Rattle.vip_tools.specs.Certificates.CyclesComes.{NotAssembled, FaultyCertificate, Leaves}
 use Rattle.vip_tools.specs.Certificates.SafeComes.{FaultyProof, Proves}
 use Rattle.vip_call.specs.Words.{Faults, FinishAnswers, OfWords, OpensWords, PerformsAnswer, Reports, performed_status}
-use Rattle.vip_tools.specs.Files.{Needed, needed, HasAll, ComesTo, IsLarger, ReadsSome, with_names}
+use Rattle.vip_text.specs.declared.fault.StateFault.{StateFault}
+use Rattle.vip_tools.specs.Files.{Needed, needed, HasAll, HasFault, IsRight, ComesTo, IsFaulty, IsLarger, ReadsSome, with_names}
 use Rattle.vip_tools.specs.Outcome.{Outcome, SourceComes}
 use Rattle.vip_tools.specs.Outcome.Outcome.{Refused, Shown, GivenUp}
 use Rattle.vip_tools.specs.Outcome.SourceComes.{FaultySource, Assembles}
 use Rattle.vip_tools.specs.Outcome.{rom_text}
 use Rattle.vip_verbs.specs.Outcome.{Comes, RunTo, DebugComes, ResumeComes, LinkComes, RomIs, IsFault, resumed}
 use Rattle.vip_verbs.specs.Outcome.RunTo.{FaultyScript, FaultyRom, Runs}
-use Rattle.vip_verbs.specs.Outcome.ResumeComes.{FaultyState, Resumes}
 use Rattle.vip_verbs.specs.Outcome.LinkComes.{FaultyRoms, Links}
 use Rattle.vip_verbs.specs.Programs.{ProgramComes, ProgramDebugComes}
 use Rattle.vip_verbs.specs.Programs.ProgramComes.{FaultyScript as FaultyKeys, Runs as RunsProgram}
@@ -55,7 +53,7 @@ use Rattle.vip_report.specs.Status.{ended_status}
 use Rattle.vip_report.specs.declared.ended.Ended.{Ended}
 use Rattle.vip_report.specs.declared.ended.Ended.TheVariants.{Worked, Ran, NoDispatch as Undispatched, Idle, Linked}
 use Rattle.vip_report.specs.Report.{cannot_read, no_certificate, report_of, too_large_report}
-use Rattle.vip_call.specs.Top.{Call, call_of, Asks, Oversize, Rejects, GivesUp, Shows, Faulty, Says, IsQuiet, Reading, Lacks, Larger, Whole, with_content, reading, Due, Lacking, TooLarge, Refusing, Showing, RefusesWords, Offers, IsSearch, IsFree, GivesDue, IsOfRom, AreRefused, Completes}
+use Rattle.vip_call.specs.Top.{Call, call_of, Asks, Oversize, Rejects, GivesUp, Shows, Faulty, Says, IsQuiet, Reading, Lacks, Larger, Whole, with_content, Due, Lacking, TooLarge, Refusing, Showing, RefusesWords, Offers, IsSearch, IsFree, GivesDue, IsOfRom, AreRefused, Completes, FaultyState, Faulted, ReadsContent, ReadsOne, Reads, Faulting}
 use Rattle.vip_report.specs.declared.refusal.Kind.{Kind}
 use Rattle.vip_report.specs.declared.refusal.Kind.TheVariants as kind
 use Rattle.vip_report.specs.declared.refusal.Refusal.{Refusal}
@@ -148,13 +146,11 @@ module _ (d : Edition) (scripts : List (List ℕ)) (outcome : List KeyEvent → 
   runs_agree _ _ (Runs s a rom) (FaultyRom t f b is rom') = absurd (rom_is_fine_or_not d f is rom rom')
   runs_agree _ _ (Runs s a rom) (Runs t b rom') = let same : s ≡ t = cc in subst (λ t. Agree (outcome s) (outcome t)) same (agree_self (outcome s))
 
--- a file has one edition and one first fault
+-- a file has one edition
 resumes_agree : (a : AskedResume) (file : List ℕ) (scripts : List (List ℕ)) (o p : Outcome) → ResumeComes a file scripts o → ResumeComes a file scripts p → Agree o p
-resumes_agree a file scripts _ _ (FaultyState f x) (FaultyState g y) = refl
-resumes_agree a file scripts _ _ (FaultyState f x) (Resumes e p y run) = absurd (accepted_or_not e file f y x)
-resumes_agree a file scripts _ _ (Resumes d o x run) (FaultyState g y) = absurd (accepted_or_not d file g x y)
-resumes_agree a file scripts _ _ (Resumes d o x run) (Resumes e p y run') =
-    runs_agree d scripts _ o p run (subst (λ e. RunTo e scripts (resumed_outcome e) p) (one_edition e d file y x) run')
+resumes_agree a file scripts o p x y =
+    runs_agree x.edition scripts _ o p x.comes
+    (subst (λ e. RunTo e scripts (resumed_outcome e) p) (one_edition y.edition x.edition file y.accepted x.accepted) y.comes)
   where
     resumed_outcome : Edition → List KeyEvent → Outcome
     resumed_outcome e script = resumed a e file script
@@ -253,12 +249,7 @@ not_shown : (pieces : List (List ℕ)) (status : Status) (report r : List ℕ) �
 not_shown pieces status report r h = cc
 
 no_resume : (a : AskedResume) (file : List ℕ) (scripts : List (List ℕ)) (report : List ℕ) → ResumeComes a file scripts (GivenUp report) → ⊥
-no_resume a file scripts report x = go (GivenUp report) refl x
-  where
-    go : (o : Outcome) → o ≡ GivenUp report → ResumeComes a file scripts o → ⊥
-    go _ e (FaultyState f y) = cc
-    go _ e (Resumes d o y run) =
-        no_run d scripts _ report (λ script h. not_shown _ _ _ report h) (subst (λ o. RunTo d scripts (λ script. resumed a d file script) o) e run)
+no_resume a file scripts report x = no_run x.edition scripts _ report (λ script h. not_shown _ _ _ report h) x.comes
 
 no_debug :
     (d : Edition) (g : List ℕ) (limit : ℕ) (scripts : List (List ℕ)) (read : Result (List Command) CommandFault) (report : List ℕ)
@@ -391,36 +382,78 @@ given_up (certify a) contents report x = tt
 
 -- ---- one reading
 
+-- a file that was judged has no fault
+right_or_not : (k : Kind) (content : List ℕ) (fault : StateFault) → IsRight k content → HasFault fault k content → ⊥
+right_or_not kind.Game content fault right bad = bad
+right_or_not kind.TallGame content fault right bad = bad
+right_or_not kind.Script content fault right bad = bad
+right_or_not kind.Commands content fault right bad = bad
+right_or_not kind.Source content fault right bad = bad
+right_or_not kind.Certificate content fault right bad = bad
+right_or_not kind.State content fault right bad = accepted_or_not right.0 content fault right.1 bad
+right_or_not kind.Message content fault right bad = bad
+right_or_not kind.Rom content fault right bad = bad
+right_or_not kind.Ram content fault right bad = bad
+
+-- files come to one reading
+content_once :
+    (n : Needed) (content : List ℕ) (Behind : Reading → Type 0) (r s : Reading) → ((x y : Reading) → Behind x → Behind y → x ≡ y)
+    → ReadsContent n content Behind r → ReadsContent n content Behind s → r ≡ s
+content_once n content Behind r s once (inl a) (inl b) = a.1 ∙ sym b.1
+content_once n content Behind r s once (inl a) (inr (inl b)) = absurd (omega (arith, a.0, b.0))
+content_once n content Behind r s once (inl a) (inr (inr b)) = absurd (omega (arith, a.0, b.0))
+content_once n content Behind r s once (inr (inl a)) (inl b) = absurd (omega (arith, a.0, b.0))
+content_once n content Behind r s once (inr (inl a)) (inr (inl b)) = a.3 ∙ sym b.3
+content_once n content Behind r s once (inr (inl a)) (inr (inr b)) = absurd (right_or_not n.kind content a.1 b.1 a.2)
+content_once n content Behind r s once (inr (inr a)) (inl b) = absurd (omega (arith, a.0, b.0))
+content_once n content Behind r s once (inr (inr a)) (inr (inl b)) = absurd (right_or_not n.kind content b.1 a.1 b.2)
+content_once n content Behind r s once (inr (inr a)) (inr (inr b)) = a.4 ∙ ap (with_content content) (once a.2 b.2 a.3 b.3) ∙ sym b.4
+
+found_once :
+    (n : Needed) (found : Option (List ℕ)) (Behind : Reading → Type 0) (r s : Reading) → ((x y : Reading) → Behind x → Behind y → x ≡ y)
+    → ReadsOne n found Behind r → ReadsOne n found Behind s → r ≡ s
+found_once n None Behind r s once a b = a ∙ sym b
+found_once n (Some content) Behind r s once a b = content_once n content Behind r s once a b
+
+reads_once : (files : FileMap) (ns : List Needed) (r s : Reading) → Reads files ns r → Reads files ns s → r ≡ s
+reads_once files [] r s a b = a ∙ sym b
+reads_once files (n ∷ ns) r s a b = found_once n (get files n.name) (Reads files ns) r s (reads_once files ns) a b
+
 module _ (old : FilesMeaning) (files : FileMap) (told : old.told ≡ Some files) where
-  -- files that were read whole, before others
-  reads : (ns : List Needed) (cs : List (List ℕ)) → HasAll old ns cs → reading files ns ≡ Whole cs
+  -- files that were read whole
+  reads : (ns : List Needed) (cs : List (List ℕ)) → HasAll old ns cs → Reads files ns (Whole cs)
   reads [] [] h = refl
   reads [] (c ∷ cs) h = absurd h
   reads (n ∷ ns) [] h = absurd h
   reads (n ∷ ns) (c ∷ cs) h =
       let found : get files n.name ≡ Some c = rw told at h.0.found in
-      rw (found, le-ltb n.most (length c) h.0.fits, reads ns cs h.1) refl
+      rw found (inr (inr (h.0.fits, h.0.judged, Whole cs, reads ns cs h.1, refl)))
 
   -- a refusal behind them
   behind :
       (r : Reading) → ((content : List ℕ) → with_content content r ≡ r) → (before : List Needed) (cs : List (List ℕ)) (rest : List Needed)
-      → HasAll old before cs → reading files rest ≡ r → reading files (before ++ rest) ≡ r
+      → HasAll old before cs → Reads files rest r → Reads files (before ++ rest) r
   behind r stays [] [] rest h e = e
   behind r stays [] (c ∷ cs) rest h e = absurd h
   behind r stays (n ∷ ns) [] rest h e = absurd h
   behind r stays (n ∷ ns) (c ∷ cs) rest h e =
       let found : get files n.name ≡ Some c = rw told at h.0.found in
-      rw (found, le-ltb n.most (length c) h.0.fits, behind r stays ns cs rest h.1 e) (stays c)
+      rw found (inr (inr (h.0.fits, h.0.judged, r, behind r stays ns cs rest h.1 e, sym (stays c))))
 
-  lacks : (n : Needed) (ns : List Needed) → IsSomeAnd old.told (λ fs. get fs n.name ≡ None) → reading files (n ∷ ns) ≡ Lacks
+  lacks : (n : Needed) (ns : List Needed) → IsSomeAnd old.told (λ fs. get fs n.name ≡ None) → Reads files (n ∷ ns) Lacks
   lacks n ns absent = let none : get files n.name ≡ None = rw told at absent in rw none refl
 
-  larger : (n : Needed) (ns : List Needed) → IsLarger old n → reading files (n ∷ ns) ≡ Larger n.kind
-  larger n ns large = go (get files n.name) refl (rw told at large)
+  larger : (n : Needed) (ns : List Needed) → IsLarger old n → Reads files (n ∷ ns) (Larger n.kind)
+  larger n ns large = go (get files n.name) (rw told at large)
     where
-      go : (found : Option (List ℕ)) → get files n.name ≡ found → IsSomeAnd found (λ content. n.most < length content) → reading files (n ∷ ns) ≡ Larger n.kind
-      go None e h = absurd h
-      go (Some content) e h = rw (e, lt-ltb n.most (length content) h) refl
+      go : (found : Option (List ℕ)) → IsSomeAnd found (λ content. n.most < length content) → ReadsOne n found (Reads files ns) (Larger n.kind)
+      go None h = absurd h
+      go (Some content) h = inl (h, refl)
+
+  faulty_state : (n : Needed) (ns : List Needed) (fault : StateFault) → IsFaulty fault old n → Reads files (n ∷ ns) Faulted
+  faulty_state n ns fault h =
+      let found : get files n.name ≡ Some h.0 = rw told at h.1.found in
+      rw found (inr (inl (h.1.fits, fault, h.1.judged, refl)))
 
 -- ---- when the answers come
 
@@ -450,7 +483,7 @@ refuses_words SourceTooLarge call says none = absurd (nothing_asked call.words s
 refuses_words CommandsTooLarge call says none = absurd (nothing_asked call.words says.asked says.words none)
 refuses_words BadState call says none = elim says [
   | inl large ↦ absurd (nothing_asked call.words large.asked large.words none)
-  | inr bad ↦ absurd (nothing_asked call.words bad.asked bad.asks.words none)
+  | inr bad ↦ absurd (nothing_asked call.words bad.asked bad.words none)
 ]
 refuses_words NoDispatch call says none = absurd (nothing_asked call.words says.asked says.asks.words none)
 refuses_words BadCertificate call says none = absurd (nothing_asked call.words says.asked says.asks.words none)
@@ -466,9 +499,9 @@ module _ (call : Call) (asked : Asked) (files : FileMap) (offers : Offers call a
   same mine words = let there = offers.words in let both : Some mine ≡ Some asked = cc in cc
 
   -- what was read, what was larger, and that no name was lacking
-  whole : (mine : Asked) (contents : List (List ℕ)) → Asks call mine contents → reading files (needed asked) ≡ Whole contents
+  whole : (mine : Asked) (contents : List (List ℕ)) → Asks call mine contents → Reads files (needed asked) (Whole contents)
   whole mine contents asks =
-      subst (λ a. reading files (needed a) ≡ Whole contents) (same mine asks.words) (reads call.files files offers.told (needed mine) contents asks.read)
+      subst (λ a. Reads files (needed a) (Whole contents)) (same mine asks.words) (reads call.files files offers.told (needed mine) contents asks.read)
 
   comes_here : (mine : Asked) (contents : List (List ℕ)) (o : Outcome) → Asks call mine contents → Comes mine contents o → Comes asked contents o
   comes_here mine contents o asks comes = subst (λ a. Comes a contents o) (same mine asks.words) comes
@@ -480,23 +513,32 @@ module _ (call : Call) (asked : Asked) (files : FileMap) (offers : Offers call a
   -- what was refused at a file
   refused_at :
       (Here : Needed → Type 0) (r : Reading) → ((content : List ℕ) → with_content content r ≡ r) → (mine : Asked) → asked_by call.words ≡ Some mine
-      → (at : ComesTo call.files call.files' (needed mine) Here) → reading files (at.this ∷ at.after) ≡ r → reading files (needed asked) ≡ r
+      → (at : ComesTo call.files call.files' (needed mine) Here) → Reads files (at.this ∷ at.after) r → Reads files (needed asked) r
   refused_at Here r stays mine words at e =
-      subst (λ a. reading files (needed a) ≡ r) (same mine words)
+      subst (λ a. Reads files (needed a) r) (same mine words)
       (rw at.place (behind call.files files offers.told r stays at.before at.contents (at.this ∷ at.after) at.read e))
 
-  -- what is due where a name lacks, and where a file is larger
+  -- what is due where a name lacks, where a file is larger, and where a saved state has a fault
   due_lacks : (r : Reading) (due : Status) → Due call asked r due → r ≡ Lacks → due ≡ ReadFault
   due_lacks _ _ Lacking e = refl
   due_lacks _ _ (TooLarge k) e = cc
+  due_lacks _ _ Faulting e = cc
   due_lacks _ _ (Refusing contents status report comes) e = cc
   due_lacks _ _ (Showing contents pieces status report comes out err) e = cc
 
   due_larger : (r : Reading) (due : Status) → Due call asked r due → (k : Kind) → r ≡ Larger k → due ≡ too_large_status k
   due_larger _ _ Lacking k e = cc
   due_larger _ _ (TooLarge j) k e = let kinds : j ≡ k = cc in ap too_large_status kinds
+  due_larger _ _ Faulting k e = cc
   due_larger _ _ (Refusing contents status report comes) k e = cc
   due_larger _ _ (Showing contents pieces status report comes out err) k e = cc
+
+  due_faulted : (r : Reading) (due : Status) → Due call asked r due → r ≡ Faulted → due ≡ BadState
+  due_faulted _ _ Lacking e = cc
+  due_faulted _ _ (TooLarge k) e = cc
+  due_faulted _ _ Faulting e = refl
+  due_faulted _ _ (Refusing contents status report comes) e = cc
+  due_faulted _ _ (Showing contents pieces status report comes out err) e = cc
 
   -- what is due where all contents came to an outcome
   DueBy : Outcome → Status → Type 0
@@ -521,6 +563,7 @@ module _ (call : Call) (asked : Asked) (files : FileMap) (offers : Offers call a
   due_whole : (r : Reading) (due : Status) → Due call asked r due → (cs : List (List ℕ)) (o : Outcome) → r ≡ Whole cs → Comes asked cs o → DueBy o due
   due_whole _ _ Lacking cs o e comes = absurd (cc)
   due_whole _ _ (TooLarge k) cs o e comes = absurd (cc)
+  due_whole _ _ Faulting cs o e comes = absurd (cc)
   due_whole _ _ (Refusing contents status report given) cs o e comes =
       let read : contents ≡ cs = cc in
       due_refused status report o (agree asked cs (Refused status report) o (subst (λ c. Comes asked c (Refused status report)) read given) comes)
@@ -528,22 +571,28 @@ module _ (call : Call) (asked : Asked) (files : FileMap) (offers : Offers call a
       let read : contents ≡ cs = cc in
       due_shown pieces status report o out err (agree asked cs (Shown pieces status report) o (subst (λ c. Comes asked c (Shown pieces status report)) read given) comes)
 
-  module _ (due : Status) (given : Due call asked (reading files (needed asked)) due) where
+  module _ (r : Reading) (read : Reads files (needed asked) r) (due : Status) (given : Due call asked r due) where
+    -- all contents were read, and no others
+    read_whole : (mine : Asked) (contents : List (List ℕ)) → Asks call mine contents → r ≡ Whole contents
+    read_whole mine contents asks = reads_once files (needed asked) r (Whole contents) read (whole mine contents asks)
+
     shows_due : (status : Status) → Shows status call → (status ≡ due) ⊎ IsFree asked status
     unfolding DueBy
     shows_due status says =
-        inl (sym (due_whole _ due given says.contents (Shown says.pieces status says.report) (whole says.asked says.contents says.asks) (comes_here says.asked says.contents _ says.asks says.comes)).0)
+        inl (sym (due_whole _ due given says.contents (Shown says.pieces status says.report) (read_whole says.asked says.contents says.asks)
+        (comes_here says.asked says.contents _ says.asks says.comes)).0)
 
     rejects_due : (status : Status) → Rejects status call → (status ≡ due) ⊎ IsFree asked status
     unfolding DueBy
     rejects_due status says =
-        inl (sym (due_whole _ due given says.contents (Refused status says.report) (whole says.asked says.contents says.asks) (comes_here says.asked says.contents _ says.asks says.comes)))
+        inl (sym (due_whole _ due given says.contents (Refused status says.report) (read_whole says.asked says.contents says.asks)
+        (comes_here says.asked says.contents _ says.asks says.comes)))
 
     faulty_due : Faulty call → ⊥
     unfolding DueBy
     faulty_due says =
         let calm =
-        due_whole _ due given says.contents (Shown says.pieces says.status says.report) (whole says.asked says.contents says.asks)
+        due_whole _ due given says.contents (Shown says.pieces says.status says.report) (read_whole says.asked says.contents says.asks)
         (comes_here says.asked says.contents _ says.asks says.comes) in
         elim says.fault [
           | inl fails ↦ quiet _ _ fails.out.faults calm.1
@@ -551,62 +600,70 @@ module _ (call : Call) (asked : Asked) (files : FileMap) (offers : Offers call a
         ]
 
   -- a file that could not be read lacks from the map; one that is larger is so there
-  unread_here : (says : Says ReadFault call) → reading files (needed asked) ≡ Lacks
+  unread_here : (says : Says ReadFault call) → Reads files (needed asked) Lacks
   unread_here says =
       elim says.at.here.0 [
         | inl fails ↦ absurd (quiet _ _ fails offers.quiet)
         | inr lack ↦ refused_at _ Lacks (λ content. refl) says.asked says.words says.at (lacks call.files files offers.told says.at.this says.at.after lack)
       ]
 
-  larger_here : (status : Status) (says : Oversize status call) → reading files (needed asked) ≡ Larger says.at.this.kind
+  larger_here : (status : Status) (says : Oversize status call) → Reads files (needed asked) (Larger says.at.this.kind)
   larger_here status says =
       refused_at _ (Larger says.at.this.kind) (λ content. refl) says.asked says.words says.at (larger call.files files offers.told says.at.this says.at.after says.at.here.0)
 
+  faulted_here : FaultyState call → Reads files (needed asked) Faulted
+  faulted_here says =
+      refused_at _ Faulted (λ content. refl) says.asked says.words says.at
+      (faulty_state call.files files offers.told says.at.this says.at.after says.fault says.at.here.0)
+
   oversize_due :
-      (due : Status) → Due call asked (reading files (needed asked)) due → (status : Status) → Oversize status call
+      (r : Reading) → Reads files (needed asked) r → (due : Status) → Due call asked r due → (status : Status) → Oversize status call
       → (status ≡ due) ⊎ IsFree asked status
-  oversize_due due given status says = inl (says.at.here.1 ∙ sym (due_larger _ due given says.at.this.kind (larger_here status says)))
+  oversize_due r read due given status says =
+      inl (says.at.here.1 ∙ sym (due_larger r due given says.at.this.kind (reads_once files (needed asked) r _ read (larger_here status says))))
 
-  due_is : (status : Status) → Says status call → (due : Status) → Due call asked (reading files (needed asked)) due → (status ≡ due) ⊎ IsFree asked status
-  due_is Done says due given = shows_due due given Done says
-  due_is Stopped says due given = shows_due due given Stopped says
-  due_is Usage says due given = absurd (nothing_asked call.words asked offers.words says.words)
-  due_is ReadFault says due given = inl (sym (due_lacks _ due given (unread_here says)))
-  due_is GameTooLarge says due given = oversize_due due given GameTooLarge says
-  due_is ScriptTooLarge says due given = oversize_due due given ScriptTooLarge says
-  due_is BadScript says due given = rejects_due due given BadScript says
-  due_is BadSource says due given = rejects_due due given BadSource says
-  due_is BadRomSource says due given = rejects_due due given BadRomSource says
-  due_is RomDiffers says due given = rejects_due due given RomDiffers says
-  due_is WriteFault says due given = absurd (faulty_due due given says)
-  due_is NoMemory says due given = inr (inl refl)
-  due_is BadCommand says due given = rejects_due due given BadCommand says
-  due_is SourceTooLarge says due given = oversize_due due given SourceTooLarge says
-  due_is CommandsTooLarge says due given = oversize_due due given CommandsTooLarge says
-  due_is BadState says due given = elim says [
-    | inl large ↦ oversize_due due given BadState large
-    | inr bad ↦ rejects_due due given BadState bad
+  due_is :
+      (status : Status) → Says status call → (r : Reading) → Reads files (needed asked) r → (due : Status) → Due call asked r due
+      → (status ≡ due) ⊎ IsFree asked status
+  due_is Done says r read due given = shows_due r read due given Done says
+  due_is Stopped says r read due given = shows_due r read due given Stopped says
+  due_is Usage says r read due given = absurd (nothing_asked call.words asked offers.words says.words)
+  due_is ReadFault says r read due given = inl (sym (due_lacks r due given (reads_once files (needed asked) r Lacks read (unread_here says))))
+  due_is GameTooLarge says r read due given = oversize_due r read due given GameTooLarge says
+  due_is ScriptTooLarge says r read due given = oversize_due r read due given ScriptTooLarge says
+  due_is BadScript says r read due given = rejects_due r read due given BadScript says
+  due_is BadSource says r read due given = rejects_due r read due given BadSource says
+  due_is BadRomSource says r read due given = rejects_due r read due given BadRomSource says
+  due_is RomDiffers says r read due given = rejects_due r read due given RomDiffers says
+  due_is WriteFault says r read due given = absurd (faulty_due r read due given says)
+  due_is NoMemory says r read due given = inr (inl refl)
+  due_is BadCommand says r read due given = rejects_due r read due given BadCommand says
+  due_is SourceTooLarge says r read due given = oversize_due r read due given SourceTooLarge says
+  due_is CommandsTooLarge says r read due given = oversize_due r read due given CommandsTooLarge says
+  due_is BadState says r read due given = elim says [
+    | inl large ↦ oversize_due r read due given BadState large
+    | inr bad ↦ inl (sym (due_faulted r due given (reads_once files (needed asked) r Faulted read (faulted_here bad))))
   ]
-  due_is NoDispatch says due given = shows_due due given NoDispatch says
-  due_is BadCertificate says due given = rejects_due due given BadCertificate says
-  due_is MessageTooLarge says due given = oversize_due due given MessageTooLarge says
-  due_is BadProof says due given = rejects_due due given BadProof says
-  due_is CertificateTooLarge says due given = oversize_due due given CertificateTooLarge says
-  due_is NoCertificate says due given = inr (inr (refl, searches says))
-  due_is RomTooLarge says due given = oversize_due due given RomTooLarge says
-  due_is RamTooLarge says due given = oversize_due due given RamTooLarge says
+  due_is NoDispatch says r read due given = shows_due r read due given NoDispatch says
+  due_is BadCertificate says r read due given = rejects_due r read due given BadCertificate says
+  due_is MessageTooLarge says r read due given = oversize_due r read due given MessageTooLarge says
+  due_is BadProof says r read due given = rejects_due r read due given BadProof says
+  due_is CertificateTooLarge says r read due given = oversize_due r read due given CertificateTooLarge says
+  due_is NoCertificate says r read due given = inr (inr (refl, searches says))
+  due_is RomTooLarge says r read due given = oversize_due r read due given RomTooLarge says
+  due_is RamTooLarge says r read due given = oversize_due r read due given RamTooLarge says
 
-  module _ (contents : List (List ℕ)) (there : reading files (needed asked) ≡ Whole contents) (accepted : ¬ AreRefused asked contents)
+  module _ (contents : List (List ℕ)) (there : Reads files (needed asked) (Whole contents)) (accepted : ¬ AreRefused asked contents)
       (free : (status : Status) (report : List ℕ) → Comes asked contents (Refused status report) → ¬ IsOfRom status) where
     not_rejected : (status : Status) → Rejects status call → ⊥
     not_rejected status says =
-        let read = whole says.asked says.contents says.asks in
+        let read = reads_once files (needed asked) _ _ (whole says.asked says.contents says.asks) there in
         let same_contents : says.contents ≡ contents = cc in
         let comes = subst (λ c. Comes asked c (Refused status says.report)) same_contents (comes_here says.asked says.contents _ says.asks says.comes) in
         accepted (status, says.report, comes, free status says.report comes)
 
     not_larger : (status : Status) → Oversize status call → ⊥
-    not_larger status says = let large = larger_here status says in cc
+    not_larger status says = let large = reads_once files (needed asked) _ _ (larger_here status says) there in cc
 
     ends :
         (status : Status) → Says status call → IsQuiet call.out.faults call.out'.faults → IsQuiet call.err.faults call.err'.faults
@@ -614,7 +671,7 @@ module _ (call : Call) (asked : Asked) (files : FileMap) (offers : Offers call a
     ends Done says out err = inl refl
     ends Stopped says out err = inr (inl refl)
     ends Usage says out err = absurd (nothing_asked call.words asked offers.words says.words)
-    ends ReadFault says out err = let none = unread_here says in absurd (cc)
+    ends ReadFault says out err = let none = reads_once files (needed asked) _ _ (unread_here says) there in absurd (cc)
     ends GameTooLarge says out err = absurd (not_larger GameTooLarge says)
     ends ScriptTooLarge says out err = absurd (not_larger ScriptTooLarge says)
     ends BadScript says out err = absurd (not_rejected BadScript says)
@@ -632,7 +689,7 @@ module _ (call : Call) (asked : Asked) (files : FileMap) (offers : Offers call a
     ends CommandsTooLarge says out err = absurd (not_larger CommandsTooLarge says)
     ends BadState says out err = elim says [
       | inl large ↦ absurd (not_larger BadState large)
-      | inr bad ↦ absurd (not_rejected BadState bad)
+      | inr bad ↦ let fault = reads_once files (needed asked) _ _ (faulted_here bad) there in absurd (cc)
     ]
     ends NoDispatch says out err = inr (inr (inl refl))
     ends BadCertificate says out err = absurd (not_rejected BadCertificate says)
@@ -644,7 +701,7 @@ module _ (call : Call) (asked : Asked) (files : FileMap) (offers : Offers call a
     ends RamTooLarge says out err = absurd (not_larger RamTooLarge says)
 
 pub gives_due : (status : Status) (call : Call) → Says status call → GivesDue status call
-gives_due status call says asked files due offers given = due_is call asked files offers status says due given
+gives_due status call says asked files r due offers read given = due_is call asked files offers status says r read due given
 
 pub completes :
     ((asked : Asked) (contents : List (List ℕ)) (status : Status) (report : List ℕ) → Comes asked contents (Refused status report) → ¬ IsOfRom status)
@@ -732,7 +789,12 @@ module _ (words : List (List ℕ)) (files files' : FilesMeaning) (out err err' :
   refused_with (refusal.Script line cause) given report = rejected (refusal.Script line cause) given report
   refused_with (refusal.Command line cause) given report = rejected (refusal.Command line cause) given report
   refused_with (refusal.Source line cause) given report = rejected (refusal.Source line cause) given report
-  refused_with (refusal.State fault) given report = inr (rejected (refusal.State fault) given report)
+  refused_with (refusal.State fault) given report = inr (record {
+    asked = given.asked;
+    words = given.words_are;
+    fault = fault;
+    at = there_too files files' (needed given.asked) _ _ given.here (given.here.here.0, given.here.here.1, record { out = refl; err = report });
+  })
   refused_with (refusal.Rom (image.BadRomSource line cause)) given report = rejected (refusal.Rom (image.BadRomSource line cause)) given report
   refused_with (refusal.Rom (image.RomDiffers address assembled here)) given report = rejected (refusal.Rom (image.RomDiffers address assembled here)) given report
   refused_with (refusal.Rom image.NoMemory) given report = record {
@@ -770,7 +832,7 @@ module _ (words : List (List ℕ)) (files files' : FilesMeaning) (out err err' :
   read_some (refusal.Script line cause) given = all_read given
   read_some (refusal.Command line cause) given = all_read given
   read_some (refusal.Source line cause) given = all_read given
-  read_some (refusal.State fault) given = all_read given
+  read_some (refusal.State fault) given = to_read given
   read_some (refusal.Rom fault) given = all_read given
   read_some (refusal.Certificate line cause) given = all_read given
   read_some (refusal.Proof line cause) given = all_read given

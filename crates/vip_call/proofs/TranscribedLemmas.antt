@@ -33,7 +33,6 @@ use Rattle.vip_tools.specs.Outcome.{Outcome}
 use Rattle.vip_tools.specs.Outcome.Outcome.{Refused, Shown, GivenUp}
 use Rattle.vip_tools.proofs.DemoLemmas.{length-game, bytes-game}
 use Rattle.vip_verbs.specs.Outcome.{Comes, RunComes, RunTo, DebugComes, ResumeComes, ending_from, resumed, run_of, events_in, run_ending, debug_ending}
-use Rattle.vip_verbs.specs.Outcome.ResumeComes.{FaultyState, Resumes}
 use Rattle.vip_verbs.specs.Outcome.RunTo.{FaultyScript, FaultyRom, Runs}
 use Rattle.vip_debug.specs.Answers.{at_start, written}
 use Rattle.vip_call.specs.Language.{IsChip8}
@@ -173,8 +172,7 @@ module _ (law : EveryRun) (from : FromAccepted) where
       (a : AskedResume) (file : List ℕ) (scripts : List (List ℕ)) (bytes : (k : ℕ) → slice_index file k < 256) (o : Outcome)
       → ResumeComes a file scripts o → OfResumed a file scripts o
   unfolding OfResumed
-  resumed_transcribed a file scripts bytes _ (FaultyState fault judged) = tt
-  resumed_transcribed a file scripts bytes o (Resumes e p accepted run) = resumed_run a file scripts bytes e o accepted run
+  resumed_transcribed a file scripts bytes o comes = resumed_run a file scripts bytes comes.edition o comes.accepted comes.comes
 
   transcribes :
       (old : FilesMeaning) (asked : Asked) (contents pieces : List (List ℕ)) (status : Status) (report : List ℕ) → HasAll old (needed asked) contents

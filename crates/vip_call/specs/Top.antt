@@ -1,5 +1,5 @@
 -- What each answer of the program says.
-use Rattle.std.specs.Prelude.{◌≡◌, ℕ, ◌+◌, ◌^◌, ◌<◌, ◌≤◌, ◌⊎◌, List, [], ◌∷◌, Option, Some, None, length, nat_lt, if◌then◌else◌}
+use Rattle.std.specs.Prelude.{◌≡◌, ℕ, ◌+◌, ◌^◌, ◌<◌, ◌≤◌, ◌⊎◌, List, [], ◌∷◌, Option, Some, None, length}
 use Rattle.std.specs.FinMap.{get}
 use Rattle.vip_outside.specs.Files.{FileMap, FilesMeaning}
 use Rattle.vip_outside.specs.Sink.{SinkMeaning}
@@ -8,7 +8,8 @@ use Rattle.vip_words.specs.Asked.{Asked, AskedLink, asked_by, certify, link}
 use Rattle.vip_report.specs.declared.refusal.Kind.{Kind}
 use Rattle.vip_report.specs.declared.status.Status.{Status}
 use Rattle.vip_report.specs.declared.status.Status.TheVariants.{Done, Stopped, Usage, ReadFault, GameTooLarge, ScriptTooLarge, BadScript, BadSource, BadRomSource, RomDiffers, WriteFault, NoMemory, BadCommand, SourceTooLarge, CommandsTooLarge, BadState, NoDispatch, BadCertificate, MessageTooLarge, BadProof, CertificateTooLarge, NoCertificate, RomTooLarge, RamTooLarge}
-use Rattle.vip_tools.specs.Files.{Needed, needed, HasAll, ComesTo, IsLarger, IsUnread, ReadsSome, with_names}
+use Rattle.vip_text.specs.declared.fault.StateFault.{StateFault}
+use Rattle.vip_tools.specs.Files.{Needed, needed, HasAll, HasFault, IsRight, ComesTo, IsFaulty, IsLarger, IsUnread, OnlyReads, ReadsSome, with_names}
 use Rattle.vip_call.specs.Certified.{Certifies}
 use Rattle.vip_call.specs.Linked.{BringsMessage}
 use Rattle.vip_call.specs.Language.{ShowsChip8}
@@ -18,7 +19,7 @@ use Rattle.vip_call.specs.Words.{OfWords}
 use Rattle.vip_verbs.specs.Outcome.{Comes}
 use Rattle.vip_tools.specs.Outcome.Outcome.{Refused, Shown, GivenUp}
 use Rattle.vip_report.specs.Refusal.{too_large_status}
-use Rattle.vip_report.specs.Report.{usage, cannot_read, too_large_report, write_fault, no_memory, report_pieces}
+use Rattle.vip_report.specs.Report.{usage, bad_state, cannot_read, too_large_report, write_fault, no_memory, report_pieces}
 use Rattle.vip_report.specs.Reported.{IsPut}
 
 -- one call: its words, and what the outside meant before it and after it
@@ -63,6 +64,14 @@ pub record Oversize (status : Status) (call : Call) : Type 0 where
   pub asked : Asked
   pub words : asked_by call.words ≡ Some asked
   pub at : ComesTo call.files call.files' (needed asked) (λ n. IsLarger call.files n × (status ≡ too_large_status n.kind) × Refuses (too_large_report n.kind) call)
+
+-- A saved state has a fault, its first one, which the report names. Those before it were read, each once, and none behind it; no read was a fault.
+pub record FaultyState (call : Call) : Type 0 where
+  pub asked : Asked
+  pub words : asked_by call.words ≡ Some asked
+  pub fault : StateFault
+  pub at :
+      ComesTo call.files call.files' (needed asked) (λ n. IsFaulty fault call.files n × OnlyReads call.files call.files' × Refuses (bad_state fault) call)
 
 -- the words ask for this, and these are the contents of the files that it names
 pub record Asks (call : Call) (asked : Asked) (contents : List (List ℕ)) : Type 0 where
@@ -162,7 +171,7 @@ Says NoMemory call = Wants call
 Says BadCommand call = Rejects BadCommand call
 Says SourceTooLarge call = Oversize SourceTooLarge call
 Says CommandsTooLarge call = Oversize CommandsTooLarge call
-Says BadState call = Oversize BadState call ⊎ Rejects BadState call
+Says BadState call = Oversize BadState call ⊎ FaultyState call
 Says NoDispatch call = Shows NoDispatch call
 Says BadCertificate call = Rejects BadCertificate call
 Says MessageTooLarge call = Oversize MessageTooLarge call
@@ -179,30 +188,40 @@ pub record IsQuiet (old new : ℕ) : Type 0 where
   pub below : old + 1 < 2 ^ 64
   pub same : new ≤ old
 
--- what the reading of files comes to, where the map is told: a name that it lacks, a file that is too large, or all contents
+-- what the reading of files comes to, where the map is told: a name that it lacks, a file that is too large, a saved state with a fault, or all contents
 pub data Reading : Type 0 where
   Lacks : Reading
   Larger : Kind → Reading
+  Faulted : Reading
   Whole : List (List ℕ) → Reading
 
 abbrev pub with_content : List ℕ → Reading → Reading
 with_content content Lacks = Lacks
 with_content content (Larger kind) = Larger kind
+with_content content Faulted = Faulted
 with_content content (Whole contents) = Whole (content ∷ contents)
 
-abbrev pub reading_one : Needed → Option (List ℕ) → Reading → Reading
-reading_one n None rest = Lacks
-reading_one n (Some content) rest = if nat_lt n.most (length content) then Larger n.kind else with_content content rest
+-- a file of this content is too large, or has a fault, or is read, and then those behind it
+abbrev pub ReadsContent : Needed → List ℕ → (Reading → Type 0) → Reading → Type 0
+ReadsContent n content Behind reading =
+    ((n.most < length content) × (reading ≡ Larger n.kind))
+    ⊎ ((length content ≤ n.most) × (fault : StateFault) × HasFault fault n.kind content × (reading ≡ Faulted))
+    ⊎ ((length content ≤ n.most) × IsRight n.kind content × (rest : Reading) × Behind rest × (reading ≡ with_content content rest))
 
-abbrev pub reading : FileMap → List Needed → Reading
-reading files [] = Whole []
-reading files (n ∷ ns) = reading_one n (get files n.name) (reading files ns)
+abbrev pub ReadsOne : Needed → Option (List ℕ) → (Reading → Type 0) → Reading → Type 0
+ReadsOne n None Behind reading = reading ≡ Lacks
+ReadsOne n (Some content) Behind reading = ReadsContent n content Behind reading
+
+abbrev pub Reads : FileMap → List Needed → Reading → Type 0
+Reads files [] reading = reading ≡ Whole []
+Reads files (n ∷ ns) reading = ReadsOne n (get files n.name) (Reads files ns) reading
 
 -- The status that is due to what is asked, by the files of a told map: that of the first refusal in the order of the files, their
 -- contents and the ROM, or, where no write is a fault, that of the end.
 pub data Due (call : Call) (asked : Asked) : Reading → Status → Type 0 where
   Lacking : Due call asked Lacks ReadFault
   TooLarge : (kind : Kind) → Due call asked (Larger kind) (too_large_status kind)
+  Faulting : Due call asked Faulted BadState
   Refusing : (contents : List (List ℕ)) (status : Status) (report : List ℕ) → Comes asked contents (Refused status report) → Due call asked (Whole contents) status
   Showing : (contents : List (List ℕ)) (pieces : List (List ℕ)) (status : Status) (report : List ℕ) → Comes asked contents (Shown pieces status report) → IsQuiet call.out.faults call.out'.faults → IsQuiet call.err.faults call.err'.faults → Due call asked (Whole contents) status
 
@@ -228,9 +247,10 @@ IsFree asked status = (status ≡ NoMemory) ⊎ ((status ≡ NoCertificate) × I
 -- Each refusal comes exactly where it is due, and so does each end: the answer is the status that is due, or a free one.
 abbrev pub GivesDue : Status → Call → Type 0
 GivesDue status call =
-    (asked : Asked) (files : FileMap) (due : Status)
+    (asked : Asked) (files : FileMap) (reading : Reading) (due : Status)
     → Offers call asked files
-    → Due call asked (reading files (needed asked)) due
+    → Reads files (needed asked) reading
+    → Due call asked reading due
     → (status ≡ due) ⊎ IsFree asked status
 
 -- the ROM isn't what its built-in source gives
@@ -239,18 +259,18 @@ IsOfRom BadRomSource = Unit {0}
 IsOfRom RomDiffers = Unit {0}
 IsOfRom _ = ⊥
 
--- The contents of the files are refused: a saved state, commands, a script, a source or a certificate have a fault. That the ROM isn't what its source
--- gives is no such case: each source gives its ROM.
+-- The contents of the files are refused: commands, a script, a source or a certificate have a fault. That the ROM isn't what its source gives is no
+-- such case: each source gives its ROM.
 abbrev pub AreRefused : Asked → List (List ℕ) → Type 0
 AreRefused asked contents = (status : Status) × (report : List ℕ) × Comes asked contents (Refused status report) × ¬ IsOfRom status
 
--- Where the files are there with their sizes, their contents aren't refused and no fault is counted, the answer is Done or Stopped, or of a run
--- that is to be saved NoDispatch, or a free one.
+-- Where the files are there with their sizes, a saved state is accepted, their contents aren't refused and no fault is counted, the answer is Done or
+-- Stopped, or of a run that is to be saved NoDispatch, or a free one.
 abbrev pub Completes : Status → Call → Type 0
 Completes status call =
     (asked : Asked) (files : FileMap) (contents : List (List ℕ))
     → Offers call asked files
-    → reading files (needed asked) ≡ Whole contents
+    → Reads files (needed asked) (Whole contents)
     → ¬ AreRefused asked contents
     → IsQuiet call.out.faults call.out'.faults
     → IsQuiet call.err.faults call.err'.faults

@@ -10,3 +10,4 @@ pub mod Saving
 pub mod Resuming
 pub mod Rest
 pub mod Again
+pub mod OneAnswer

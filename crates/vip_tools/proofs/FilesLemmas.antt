@@ -10,7 +10,9 @@ use Rattle.vip_outside.specs.declared.files.Loaded.{Loaded}
 use Rattle.vip_tools.specs.declared.files.Wanted.{Wanted}
 use Rattle.vip_report.specs.declared.refusal.Refusal.{Refusal}
 use Rattle.vip_report.specs.declared.refusal.Refusal.TheVariants.{Usage, Unread, TooLarge, Script, Command, Source, State, Rom, Certificate, Proof, NoCertificate, NoMemory}
-use Rattle.vip_tools.specs.Files.{Needed, Has, HasAll, FitAll, ComesTo, FileAnswers, FilesAnswer, IsLarger, IsUnread, ReadsSome, names_of, seen_wanted, with_names}
+use Rattle.vip_text.specs.declared.fault.StateFault.{StateFault}
+use Rattle.vip_report.specs.declared.refusal.Kind.{Kind}
+use Rattle.vip_tools.specs.Files.{Needed, Has, HasAll, HasThat, AreRight, FitAll, ComesTo, FileAnswers, FilesAnswer, IsFaulty, IsLarger, IsUnread, OnlyReads, ReadsSome, names_of, seen_wanted, with_names}
 
 has-suc :
     (old : FilesMeaning) (ws : List Wanted) (k : ℕ) (d : Wanted) (cs : List (List ℕ)) (c : List ℕ) → k < length ws
@@ -27,6 +29,11 @@ module _ (old : FilesMeaning) where
   abbrev read_to : List Wanted → ℕ → FilesMeaning
   read_to ws k = with_names (map seen_wanted (take k ws)) old
 
+  -- what was read behind others was there before
+  as_read :
+      {Judged : Kind → List ℕ → Type 0} (ws : List Wanted) (k : ℕ) (n : Needed) (c : List ℕ) → HasThat Judged (read_to ws k) n c → HasThat Judged old n c
+  as_read ws k n c h = record { found = h.found; fits = h.fits; bytes = h.bytes; judged = h.judged }
+
   -- the names of the first k + 1 files
   names-more :
       (ws : List Wanted) (k : ℕ) (d : Wanted) → k < length ws
@@ -39,10 +46,7 @@ module _ (old : FilesMeaning) where
       → HasAll old (map seen_wanted (take k ws)) cs → here ≡ read_to ws k → Has here (seen_wanted (get_or ws k d)) c
       → HasAll old (map seen_wanted (take (k + 1) ws)) (cs ++ c ∷ [])
   has-more here ws k d cs c low had same read =
-      rw add-one (has-suc old ws k d cs c low had (as_read (subst (λ h. Has h (seen_wanted (get_or ws k d)) c) same read)))
-    where
-      as_read : Has (read_to ws k) (seen_wanted (get_or ws k d)) c → Has old (seen_wanted (get_or ws k d)) c
-      as_read h = record { found = h.found; fits = h.fits; bytes = h.bytes }
+      rw add-one (has-suc old ws k d cs c low had (as_read ws k _ c (subst (λ h. Has h (seen_wanted (get_or ws k d)) c) same read)))
 
   pub read-more :
       (here new : FilesMeaning) (ws : List Wanted) (k : ℕ) (d : Wanted) → k < length ws → here ≡ read_to ws k
@@ -76,6 +80,20 @@ module _ (old here new : FilesMeaning) (ws : List Wanted) (k : ℕ) (d : Wanted)
   some same (inl none) = (k, rw (none, same, take-map) refl)
   some same (inr one) = (k + 1, rw take-map (ap (λ m. m.names) (read-more old here new ws k d low same one)))
 
+  -- a saved state has a fault
+  faulty :
+      (fault : StateFault) → HasAll old (map seen_wanted (take k ws)) cs → here ≡ read_to old ws k → IsFaulty fault here (seen_wanted (get_or ws k d))
+      → new ≡ with_name (get_or ws k d).name.now here → ComesTo old new (map seen_wanted ws) (λ n. IsFaulty fault old n × OnlyReads old new)
+  faulty fault had same at read =
+      let there : IsFaulty fault (read_to old ws k) (seen_wanted (get_or ws k d)) = subst (λ h. IsFaulty fault h (seen_wanted (get_or ws k d))) same at in
+      comes_to _ had same (ap (λ m. m.names) read) (
+        (there.0, as_read old ws k _ there.0 there.1),
+        only_reads (map seen_wanted (take (k + 1) ws)) (read-more old here new ws k d low same read),
+      )
+    where
+      only_reads : (ns : List Needed) → new ≡ with_names ns old → OnlyReads old new
+      only_reads ns is = rw is refl
+
   module _ (Z : Type 0) where
     -- a file was refused, behind others
     pub refused :
@@ -88,7 +106,7 @@ module _ (old here new : FilesMeaning) (ws : List Wanted) (k : ℕ) (d : Wanted)
     refused (Script line cause) same had at = absurd at
     refused (Command line cause) same had at = absurd at
     refused (Source line cause) same had at = absurd at
-    refused (State fault) same had at = absurd at
+    refused (State fault) same had at = faulty fault had same at.0 at.1
     refused (Rom fault) same had at = absurd at
     refused (Certificate line cause) same had at = absurd at
     refused (Proof line cause) same had at = absurd at
@@ -113,6 +131,13 @@ has-fit old [] (c ∷ cs) h = absurd h
 has-fit old (n ∷ ns) [] h = absurd h
 has-fit old (n ∷ ns) (c ∷ cs) h = (h.0.fits, has-fit old ns cs h.1)
 
+-- and they are right
+pub has-right : (old : FilesMeaning) (ns : List Needed) (cs : List (List ℕ)) → HasAll old ns cs → AreRight ns cs
+has-right old [] [] h = tt
+has-right old [] (c ∷ cs) h = absurd h
+has-right old (n ∷ ns) [] h = absurd h
+has-right old (n ∷ ns) (c ∷ cs) h = (h.0.judged, has-right old ns cs h.1)
+
 -- a read that gave a whole file
 module _ (old new : FilesMeaning) (n : Needed) (loaded : Loaded) (read : ReadsStart n.name n.most old new loaded) (whole : loaded.more ≡ false) where
   is_file : (found : Option (List ℕ)) → IsSomeAnd found (λ file. IsStartOf file n.most loaded) → found ≡ Some loaded.bytes.items
@@ -127,5 +152,7 @@ module _ (old new : FilesMeaning) (n : Needed) (loaded : Loaded) (read : ReadsSt
   in_map None read = tt
   in_map (Some files) read = is_file (get files n.name) read
 
-  pub has-whole : ((i : ℕ) → slice_index loaded.bytes.items i < 256) → Has old n loaded.bytes.items
-  has-whole bytes = record { found = in_map old.told read.file; fits = read.bound; bytes = bytes }
+  pub has-whole :
+      {Judged : Kind → List ℕ → Type 0} → ((i : ℕ) → slice_index loaded.bytes.items i < 256) → Judged n.kind loaded.bytes.items
+      → HasThat Judged old n loaded.bytes.items
+  has-whole bytes judged = record { found = in_map old.told read.file; fits = read.bound; bytes = bytes; judged = judged }

@@ -7,6 +7,8 @@ use Rattle.vip_outside.specs.Files.{FilesMeaning, with_name}
 use Rattle.chip8_lang.specs.State.{memory_size}
 use Rattle.chip8_lang.specs.declared.view.Edition.{Edition}
 use Rattle.chip8_lang.specs.declared.view.Edition.TheVariants.{Usual, Tall}
+use Rattle.vip_state.specs.File.{IsAccepted, Judges}
+use Rattle.vip_text.specs.declared.fault.StateFault.{StateFault}
 use Rattle.vip_words.specs.Asked.{Asked, AskedRun, asm, bounds, certify, debug, debug_program, demo, dis, link, list, play, play_program, resume, safe, save, source, trace, trace_program, within}
 use Rattle.vip_words.specs.declared.request.Memory.{Memory}
 use Rattle.vip_words.specs.declared.request.Memory.TheVariants as memory
@@ -14,7 +16,7 @@ use Rattle.vip_tools.specs.declared.files.Wanted.{Wanted}
 use Rattle.vip_report.specs.declared.refusal.Kind.{Kind}
 use Rattle.vip_report.specs.declared.refusal.Kind.TheVariants.{Game, TallGame, Script, Commands, Source, Certificate, State, Message, Rom, Ram}
 use Rattle.vip_report.specs.declared.refusal.Refusal.{Refusal}
-use Rattle.vip_report.specs.declared.refusal.Refusal.TheVariants.{Unread, TooLarge, NoMemory}
+use Rattle.vip_report.specs.declared.refusal.Refusal.TheVariants.{Unread, TooLarge, State as BadState, NoMemory}
 
 -- a file: its name, the most bytes that it may have, and what it is
 pub record Needed : Type 0 where
@@ -67,8 +69,7 @@ commands_file name = file Commands most_text name
 abbrev pub run_files : AskedRun → List Needed
 run_files a = game_file a.edition a.game ∷ script_file a.keys
 
--- The files of a command, in the order in which they are read. Bytes to disassemble have to end by address FFFF. A saved state is judged before the
--- key script behind it is read.
+-- The files of a command, in the order in which they are read. Bytes to disassemble have to end by address FFFF.
 abbrev pub needed : Asked → List Needed
 needed (trace a) = run_files a.run
 needed (play a) = run_files a
@@ -92,12 +93,26 @@ needed (certify a) = game_file a.edition a.game ∷ []
 abbrev pub seen_wanted : Wanted → Needed
 seen_wanted w = record { name = w.name.now; most = w.most; kind = w.kind }
 
--- ---- what is known of a file that was read whole: its bytes, and where the map is told, that they are those there
+-- ---- what is judged of a file before the next one is read: a saved state, and nothing of the other kinds
 
-pub record Has (old : FilesMeaning) (n : Needed) (content : List ℕ) : Type 0 where
+abbrev pub IsRight : Kind → List ℕ → Type 0
+IsRight State content = (e : Edition) × IsAccepted e content
+IsRight _ content = Unit {0}
+
+abbrev pub HasFault : StateFault → Kind → List ℕ → Type 0
+HasFault fault State content = Judges content (Err fault)
+HasFault fault _ content = ⊥
+
+-- ---- what is known of a file that was read whole: its bytes, where the map is told, that they are those there, and how they were judged
+
+pub record HasThat (Judged : Kind → List ℕ → Type 0) (old : FilesMeaning) (n : Needed) (content : List ℕ) : Type 0 where
   pub found : IfSome old.told (λ files. get files n.name ≡ Some content)
   pub fits : length content ≤ n.most
   pub bytes : (i : ℕ) → slice_index content i < 256
+  pub judged : Judged n.kind content
+
+abbrev pub Has : FilesMeaning → Needed → List ℕ → Type 0
+Has = HasThat IsRight
 
 abbrev pub HasAll : FilesMeaning → List Needed → List (List ℕ) → Type 0
 HasAll old [] [] = Unit {0}
@@ -110,6 +125,12 @@ FitAll [] [] = Unit {0}
 FitAll (n ∷ ns) (content ∷ contents) = (length content ≤ n.most) × FitAll ns contents
 FitAll _ _ = ⊥
 
+-- contents of which each is right
+abbrev pub AreRight : List Needed → List (List ℕ) → Type 0
+AreRight [] [] = Unit {0}
+AreRight (n ∷ ns) (content ∷ contents) = IsRight n.kind content × AreRight ns contents
+AreRight _ _ = ⊥
+
 -- it has more bytes than it may have
 abbrev pub IsLarger : FilesMeaning → Needed → Type 0
 IsLarger old n = IfSome old.told (λ files. IsSomeAnd (get files n.name) (λ content. n.most < length content))
@@ -117,6 +138,10 @@ IsLarger old n = IfSome old.told (λ files. IsSomeAnd (get files n.name) (λ con
 -- it could not be read: a fault, or the map that is told lacks it
 abbrev pub IsUnread : FilesMeaning → FilesMeaning → Needed → Type 0
 IsUnread old new n = Rose old.faults new.faults ⊎ IsSomeAnd old.told (λ files. get files n.name ≡ None)
+
+-- it is a saved state, and has this as its first fault
+abbrev pub IsFaulty : StateFault → FilesMeaning → Needed → Type 0
+IsFaulty fault old n = (content : List ℕ) × HasThat (HasFault fault) old n content
 
 -- ---- which files were read, each by one read of its name
 
@@ -126,6 +151,10 @@ names_of ns = map (λ n. n.name) ns
 -- exactly these, in this order, and no read was a fault
 abbrev pub with_names : List Needed → FilesMeaning → FilesMeaning
 with_names ns old = record old { names = old.names ++ names_of ns }
+
+-- no read was a fault: but for the names nothing changed
+abbrev pub OnlyReads : FilesMeaning → FilesMeaning → Type 0
+OnlyReads old new = new ≡ record old { names = new.names }
 
 -- the first ones of these
 abbrev pub ReadsSome : List Needed → FilesMeaning → FilesMeaning → Type 0
@@ -142,6 +171,11 @@ pub record ComesTo (old new : FilesMeaning) (needed : List Needed) (Here : Neede
   pub names : new.names ≡ old.names ++ names_of (before ++ this ∷ [])
   pub here : Here this
 
+-- what judging answers
+abbrev pub JudgeAnswers : Kind → List ℕ → Result (Unit {0}) StateFault → Type 0
+JudgeAnswers kind content (Ok done) = IsRight kind content
+JudgeAnswers kind content (Err fault) = HasFault fault kind content
+
 module _ {Z : Type 0} where
   abbrev pub contents_of : List (Vec ℕ Z) → List (List ℕ)
   contents_of contents = map (λ bytes. bytes.items) contents
@@ -151,6 +185,7 @@ module _ {Z : Type 0} where
   FileAnswers old new n (Ok bytes) = Has old n bytes.items × (new ≡ with_name n.name old)
   FileAnswers old new n (Err (Unread name)) = (name.now ≡ n.name) × IsUnread old new n × (new.names ≡ old.names ++ n.name ∷ [])
   FileAnswers old new n (Err (TooLarge kind)) = (kind ≡ n.kind) × IsLarger old n × (new ≡ with_name n.name old)
+  FileAnswers old new n (Err (BadState fault)) = IsFaulty fault old n × (new ≡ with_name n.name old)
   FileAnswers old new n (Err NoMemory) = (new ≡ old) ⊎ (new ≡ with_name n.name old)
   FileAnswers old new n (Err _) = ⊥
 
@@ -159,5 +194,6 @@ module _ {Z : Type 0} where
   FilesAnswer old new needed (Ok contents) = HasAll old needed (contents_of contents.items) × (new ≡ with_names needed old)
   FilesAnswer old new needed (Err (Unread name)) = ComesTo old new needed (λ n. (name.now ≡ n.name) × IsUnread old new n)
   FilesAnswer old new needed (Err (TooLarge kind)) = ComesTo old new needed (λ n. (kind ≡ n.kind) × IsLarger old n)
+  FilesAnswer old new needed (Err (BadState fault)) = ComesTo old new needed (λ n. IsFaulty fault old n × OnlyReads old new)
   FilesAnswer old new needed (Err NoMemory) = ReadsSome needed old new
   FilesAnswer old new needed (Err _) = ⊥

@@ -1,19 +1,20 @@
 -- What a verb without a board answers, where its request comes to certain outcomes.
 use Rattle.std.specs.Prelude.{ℕ, [], ◌∷◌, Result, Ok, Err, Vec}
 use Rattle.vip_report.specs.declared.refusal.Refusal.{Refusal}
-use Rattle.vip_report.specs.declared.refusal.Refusal.TheVariants.{Usage, Unread, TooLarge, NoCertificate, NoMemory}
+use Rattle.vip_report.specs.declared.refusal.Refusal.TheVariants.{Usage, Unread, TooLarge, State, NoCertificate, NoMemory}
 use Rattle.vip_report.specs.declared.status.Status.TheVariants.{Done}
 use Rattle.vip_tools.specs.Outcome.{Outcome}
 use Rattle.vip_tools.specs.Outcome.Outcome.{Refused, Shown, GivenUp}
 use Rattle.vip_report.specs.Refusal.{status_of}
 use Rattle.vip_report.specs.Report.{no_certificate, report_of}
 
--- A refusal by the contents of files is what the request comes to; of want of memory nothing is said; and none is of words, or of a file that isn't
--- read whole.
+-- A refusal by the contents of files is what the request comes to; of want of memory nothing is said; and none is of words, of a file that isn't
+-- read whole, or of a saved state, which was judged as it was read.
 abbrev pub RefusedBy : (Outcome → Type 0) → Refusal → Type 0
 RefusedBy Comes Usage = ⊥
 RefusedBy Comes (Unread name) = ⊥
 RefusedBy Comes (TooLarge kind) = ⊥
+RefusedBy Comes (State fault) = ⊥
 RefusedBy Comes (NoCertificate obstacle) = Comes (GivenUp (no_certificate obstacle))
 RefusedBy Comes NoMemory = Unit {0}
 RefusedBy Comes refusal = Comes (Refused (status_of refusal) (report_of refusal))

@@ -4,7 +4,7 @@ ghost use Rattle.std.specs.Prelude.{◌≡◌, ◌<◌, ◌∷◌, [], ℕ, map,
 ghost use Rattle.chip8_lang.specs.State.{memory_size};
 ghost use Rattle.vip_words.specs.Request.{asked_of, asked_run};
 ghost use Rattle.vip_report.specs.declared.refusal.Kind.TheVariants.{Certificate, Source};
-ghost use Rattle.vip_tools.specs.Files.{commands_file, file, game_file, game_kind, message_file, most_text, needed, program_file, run_files, script_file, seen_wanted, state_file, FileAnswers, FilesAnswer};
+ghost use Rattle.vip_tools.specs.Files.{commands_file, file, game_file, game_kind, message_file, most_text, needed, program_file, run_files, script_file, seen_wanted, state_file, FileAnswers, FilesAnswer, JudgeAnswers};
 
 use arrayvec::ArrayVec;
 use chip8_lang::Edition;
@@ -12,6 +12,8 @@ use std::alloc::Global;
 use vip_byte::MOST_TEXT;
 use vip_outside::{Files, ReadFail};
 use vip_report::{Kind, Refusal};
+use vip_state::check_state;
+use vip_text::StateFault;
 use vip_words::{Memory, Request, RunRequest};
 
 /// The addresses of the machine, 0000 to FFFF.
@@ -226,7 +228,20 @@ pub(crate) fn are_bytes(bytes: &[u8])
     ensures { (i : ℕ) → slice_index bytes.now i < 256 }
 {}
 
-/// Reads one file whole.
+/// Judges a file before the next one is read: a saved state, which has to be accepted. Files of the other kinds are judged once all are read.
+fn judge(kind: Kind, content: &[u8]) -> Result<(), StateFault>
+    ensures { JudgeAnswers kind content.now result }
+{
+    match kind {
+        Kind::State => match check_state(content) {
+            Ok(_) => Ok(()),
+            Err(fault) => Err(fault),
+        },
+        _ => Ok(()),
+    }
+}
+
+/// Reads one file whole, and judges it.
 fn open_file<'a, F: Files>(
     alloc: Global,
     files: &mut F,
@@ -237,15 +252,19 @@ fn open_file<'a, F: Files>(
     match files.read(alloc, wanted.name, wanted.most) {
         Ok(loaded) if loaded.more => Err(Refusal::TooLarge(wanted.kind)),
         Ok(loaded) => {
-            are_bytes(loaded.bytes.as_slice());
-            Ok(loaded.bytes)
+            let content = loaded.bytes.as_slice();
+            are_bytes(content);
+            match judge(wanted.kind, content) {
+                Ok(()) => Ok(loaded.bytes),
+                Err(fault) => Err(Refusal::State(fault)),
+            }
         }
         Err(ReadFail::NoMemory) => Err(Refusal::NoMemory),
         Err(_) => Err(Refusal::Unread(wanted.name)),
     }
 }
 
-/// Reads files whole, in their order, up to the first that is refused.
+/// Reads files whole, each judged before the next one is read, in their order up to the first that is refused.
 pub fn open_files<'a, F: Files>(
     alloc: Global,
     files: &mut F,

@@ -7,7 +7,7 @@ use Rattle.vip_commands.specs.declared.commands.Speaks.TheVariants.{Machine as P
 use Rattle.vip_debug.specs.Programs.{program_written, machine_with, ProgramAnswers}
 use Rattle.vip_outside.specs.Sink.{SinkMeaning}
 use Rattle.vip_outside.specs.declared.sink.Failed.{Failed}
-use Rattle.vip_program.specs.Program.{machine_under, started}
+use Rattle.vip_program.specs.Program.{machine_under}
 use Rattle.vip_program.specs.Trace.{ShowAnswers, end_at}
 use Rattle.vip_program.specs.declared.trace.ProgramEnd.{ProgramEnd}
 use Rattle.vip_program.specs.declared.trace.ProgramEnd.TheVariants as program

@@ -1,12 +1,13 @@
 -- What a verb that is opened answers, from the answers of its parts, and what its work does.
-use Rattle.std.proofs.Common.{◌≡◌, ℕ, max, true, false, List, [], ◌∷◌, length, take_all, arith, refl, sym, ap, subst, ◌∙◌, Result, Ok, Err, IsErr}
+use Rattle.std.proofs.Common.{◌≡◌, ℕ, max, true, false, List, [], ◌∷◌, length, take_all, arith, refl, sym, ap, subst, Result, Ok, Err, IsErr}
 use Rattle.std.specs.Prelude.{Bool, Option, Some, None, Vec}
 use Rattle.std.specs.declared.alloc.Global.{Global}
 use Rattle.std.proofs.Math.Nat.{max-zero}
 use Rattle.chip8_lang.specs.declared.view.Edition.{Edition}
-use Rattle.chip8_lang.specs.declared.view.Edition.TheVariants.{Usual, Tall}
+use Rattle.chip8_lang.specs.declared.view.Edition.TheVariants.{Usual}
 use Rattle.chip8_lang.specs.declared.view.StopRecord.{StopRecord}
 use Rattle.chip8_lang.specs.Events.{is_stop}
+use Rattle.machine.specs.Keys.{Event as KeyEvent}
 use Rattle.vip_commands.specs.Grammar.{commands_of}
 use Rattle.vip_commands.specs.declared.commands.Command.{Command as DebugCommand}
 use Rattle.vip_commands.specs.declared.commands.Speaks.TheVariants.{Chip8}
@@ -19,10 +20,9 @@ use Rattle.vip_outside.specs.Pieces.{PutsAll, FailsWithin}
 use Rattle.vip_relation.specs.State.{VipState, interpreter, started, state_after}
 use Rattle.vip_outside.specs.declared.sink.Failed.{Failed}
 use Rattle.vip_show.specs.Answers.{ShowAnswers, traced, pictured, summed}
-use Rattle.vip_state.specs.File.{edition_byte, IsAccepted}
+use Rattle.vip_state.specs.File.{IsAccepted}
 use Rattle.vip_state.specs.Output.{ResumedAnswers, SavedAnswers, ending_left, records_left}
 use Rattle.vip_state.specs.State.{ResumedState}
-use Rattle.vip_text.specs.Endings.{Ending}
 use Rattle.vip_text.specs.Endings.Ending.{AtLimit}
 use Rattle.vip_words.specs.Asked.{Asked, AskedRun, AskedTrace, AskedDebug, AskedDemo, trace, play, debug, demo, AskedResume, resume, save}
 use Rattle.vip_report.specs.declared.ended.Ended.{Ended}
@@ -34,11 +34,10 @@ use Rattle.vip_text.specs.declared.ending.RunEnd.{RunEnd}
 use Rattle.vip_tools.specs.Demo.{demo_game}
 use Rattle.vip_tools.specs.Files.{Needed, needed, FilesAnswer, FitAll, HasAll, with_names}
 use Rattle.vip_tools.specs.Opening.{DebugCommandsAnswer}
-use Rattle.vip_tools.specs.Outcome.{Outcome}
+use Rattle.vip_tools.specs.Outcome.{Outcome, script_in}
 use Rattle.vip_tools.specs.Work.{RefusedBy, TextAnswers}
-use Rattle.vip_verbs.specs.Opening.{StartAnswers, Begins, GoesOn, ResumeAnswers}
+use Rattle.vip_verbs.specs.Opening.{StartAnswers, Begins, GoesOn, ResumeAnswers, RomAnswers}
 use Rattle.vip_verbs.specs.Outcome.{Comes, RunComes, RunTo, DebugComes, run_ending, saved_report, saved_status, stopped_by, debug_ending}
-use Rattle.vip_verbs.specs.Outcome.ResumeComes.{FaultyState, Resumes}
 use Rattle.vip_verbs.specs.Outcome.RunTo.{FaultyScript, FaultyRom, Runs}
 use Rattle.vip_verbs.specs.Prepared.{DebugEnds, IsStarted, OpenAnswers, Output, PerformAnswers, PrepareAnswers, ended_by, ran, run_ended, save_ended, saved_run, shown, texted}
 use Rattle.vip_verbs.specs.declared.prepared.Prepared.{Prepared}
@@ -258,15 +257,24 @@ module _ (game : List ℕ) (scripts : List (List ℕ)) where
     fits = λ o come. come;
   }
 
-by_byte : (d e : Edition) → edition_byte d ≡ edition_byte e → d ≡ e
-by_byte Usual Usual h = refl
-by_byte Usual Tall h = absurd (cc)
-by_byte Tall Usual h = absurd (cc)
-by_byte Tall Tall h = refl
+-- of an accepted file whose script is read, the ROM of its edition is refused
+module _ (file : List ℕ) (scripts : List (List ℕ)) (d : Edition) (script : List KeyEvent) (accepted : IsAccepted d file) (reads : script_in scripts ≡ Ok script) where
+  rom-at : (refusal : Refusal) → RomAnswers d (Err refusal) → ResumeAnswers file scripts (Err refusal)
+  rom-at Usage answer = absurd answer
+  rom-at (Unread name) answer = absurd answer
+  rom-at (TooLarge kind) answer = absurd answer
+  rom-at (Script line cause) answer = absurd answer
+  rom-at (Command line cause) answer = absurd answer
+  rom-at (Source line cause) answer = absurd answer
+  rom-at (State fault) answer = absurd answer
+  rom-at (Rom fault) answer = record { edition = d; accepted = accepted; here = record { script = script; reads = reads; rom = answer } }
+  rom-at (Certificate line cause) answer = absurd answer
+  rom-at (Proof line cause) answer = absurd answer
+  rom-at (NoCertificate obstacle) answer = absurd answer
+  rom-at NoMemory answer = tt
 
--- a file has one edition
-pub one_edition : (d e : Edition) (f : List ℕ) → IsAccepted d f → IsAccepted e f → d ≡ e
-one_edition d e f a b = by_byte d e (sym a.edition ∙ b.edition)
+  pub rom-refused : (e : Edition) → e ≡ d → (refusal : Refusal) → RomAnswers e (Err refusal) → ResumeAnswers file scripts (Err refusal)
+  rom-refused e is refusal answer = rom-at refusal (subst (λ e. RomAnswers e (Err refusal)) is answer)
 
 -- a run that goes on from a file
 module _ (a : AskedResume) (file : List ℕ) (scripts : List (List ℕ)) where
@@ -275,12 +283,15 @@ module _ (a : AskedResume) (file : List ℕ) (scripts : List (List ℕ)) where
   refused-resume Usage answer = absurd answer
   refused-resume (Unread name) answer = absurd answer
   refused-resume (TooLarge kind) answer = absurd answer
-  refused-resume (Script line cause) answer = Resumes answer.edition _ answer.accepted (FaultyScript line cause answer.here)
+  refused-resume (Script line cause) answer = record { edition = answer.edition; accepted = answer.accepted; comes = FaultyScript line cause answer.here }
   refused-resume (Command line cause) answer = absurd answer
   refused-resume (Source line cause) answer = absurd answer
-  refused-resume (State fault) answer = FaultyState fault answer
-  refused-resume (Rom fault) answer =
-      Resumes answer.edition _ answer.accepted (FaultyRom answer.here.script fault answer.here.reads answer.here.rom.0 answer.here.rom.1)
+  refused-resume (State fault) answer = absurd answer
+  refused-resume (Rom fault) answer = record {
+    edition = answer.edition;
+    accepted = answer.accepted;
+    comes = FaultyRom answer.here.script fault answer.here.reads answer.here.rom.0 answer.here.rom.1;
+  }
   refused-resume (Certificate line cause) answer = absurd answer
   refused-resume (Proof line cause) answer = absurd answer
   refused-resume (NoCertificate obstacle) answer = absurd answer
@@ -293,7 +304,7 @@ module _ (a : AskedResume) (file : List ℕ) (scripts : List (List ℕ)) where
   pub resume-comes : (v : ResumedState) → GoesOn file scripts v → Comes (resume a) (file ∷ scripts) (shown (resumed_run v))
   resume-comes v goes =
       subst (λ w. Comes (resume a) (file ∷ scripts) (shown (resumed_run w))) (sym goes.is)
-      (Resumes v.edition _ goes.accepted (Runs goes.script goes.reads goes.rom))
+      (record { edition = v.edition; accepted = goes.accepted; comes = Runs goes.script goes.reads goes.rom })
 
 -- ---- what is opened
 
@@ -315,7 +326,7 @@ module _ (asked : Asked) (old new : FilesMeaning) where
   files-refused Z (Script line cause) answer = absurd answer
   files-refused Z (Command line cause) answer = absurd answer
   files-refused Z (Source line cause) answer = absurd answer
-  files-refused Z (State fault) answer = absurd answer
+  files-refused Z (State fault) answer = answer
   files-refused Z (Rom fault) answer = absurd answer
   files-refused Z (Certificate line cause) answer = absurd answer
   files-refused Z (Proof line cause) answer = absurd answer
@@ -336,7 +347,7 @@ module _ (asked : Asked) (old new : FilesMeaning) where
     refused-contents (Script line cause) answer = record { contents = contents; read = read; names = names; here = answer }
     refused-contents (Command line cause) answer = record { contents = contents; read = read; names = names; here = answer }
     refused-contents (Source line cause) answer = record { contents = contents; read = read; names = names; here = answer }
-    refused-contents (State fault) answer = record { contents = contents; read = read; names = names; here = answer }
+    refused-contents (State fault) answer = absurd answer
     refused-contents (Rom fault) answer = record { contents = contents; read = read; names = names; here = answer }
     refused-contents (Certificate line cause) answer = record { contents = contents; read = read; names = names; here = answer }
     refused-contents (Proof line cause) answer = record { contents = contents; read = read; names = names; here = answer }

@@ -8,8 +8,8 @@ use Rattle.vip_keypad.specs.declared.script.ScriptFault.TheVariants.{Fault}
 use Rattle.vip_relation.specs.Meets.{HasStopped}
 use Rattle.vip_relation.specs.State.{VipState, started}
 use Rattle.vip_report.specs.declared.refusal.Refusal.{Refusal}
-use Rattle.vip_report.specs.declared.refusal.Refusal.TheVariants.{Script, State, Rom, NoMemory}
-use Rattle.vip_state.specs.File.{IsAccepted, Judges}
+use Rattle.vip_report.specs.declared.refusal.Refusal.TheVariants.{Script, Rom, NoMemory}
+use Rattle.vip_state.specs.File.{IsAccepted}
 use Rattle.vip_state.specs.Meets.{opened}
 use Rattle.vip_state.specs.State.{ResumedState, interpreter}
 use Rattle.vip_tools.specs.Outcome.{script_in}
@@ -43,12 +43,6 @@ StartAnswers e game scripts (Err (Rom fault)) = RefusesRom e scripts (Rom fault)
 StartAnswers e game scripts (Err NoMemory) = Unit {0}
 StartAnswers e game scripts (Err _) = ⊥
 
--- a state file is judged
-abbrev pub JudgedAnswers : List ℕ → Result Edition Refusal → Type 0
-JudgedAnswers file (Ok e) = IsAccepted e file
-JudgedAnswers file (Err (State fault)) = Judges file (Err fault)
-JudgedAnswers file (Err _) = ⊥
-
 -- a run that goes on from an accepted file under its script
 pub record GoesOn (file : List ℕ) (scripts : List (List ℕ)) (v : ResumedState) : Type 0 where
   pub accepted : IsAccepted v.edition file
@@ -66,7 +60,6 @@ pub record Accepts (file : List ℕ) (Here : Edition → Type 0) : Type 0 where
 
 abbrev pub ResumeAnswers : List ℕ → List (List ℕ) → Result ResumedState Refusal → Type 0
 ResumeAnswers file scripts (Ok v) = GoesOn file scripts v
-ResumeAnswers file scripts (Err (State fault)) = Judges file (Err fault)
 ResumeAnswers file scripts (Err (Script line cause)) = Accepts file (λ e. script_in scripts ≡ Err (Fault line cause))
 ResumeAnswers file scripts (Err (Rom fault)) = Accepts file (λ e. RefusesRom e scripts (Rom fault))
 ResumeAnswers file scripts (Err NoMemory) = Unit {0}

@@ -29,18 +29,17 @@ use Rattle.vip_relation.specs.Interpreters.{interpreter_of}
 use Rattle.vip_relation.specs.State.{VipState, interpreter, started, state_after}
 use Rattle.vip_show.specs.Endings.{ending_after, ending_of}
 use Rattle.vip_show.specs.Output.{trace_lines, trace_pieces, picture_pieces, summary}
-use Rattle.vip_state.specs.File.{shown, IsAccepted, Judges}
+use Rattle.vip_state.specs.File.{shown, IsAccepted}
 use Rattle.vip_state.specs.Output.{saved_ending, saved_pieces}
 use Rattle.vip_state.specs.Points.{points_behind}
-use Rattle.vip_text.specs.declared.fault.StateFault.{StateFault}
 use Rattle.vip_text.specs.Endings.{Ending}
 use Rattle.vip_text.specs.Endings.Ending.{AtLimit, AtStop}
 use Rattle.vip_words.specs.Asked.{Asked, AskedResume, trace, play, debug, demo, save, resume, asm, list, dis, source, bounds, within, safe, certify, trace_program, play_program, debug_program, AskedLink, link}
 use Rattle.vip_report.specs.Refusal.{image_status}
 use Rattle.vip_report.specs.Status.{end_status}
-use Rattle.vip_report.specs.Report.{bad_command, bad_script, bad_state, image_report, end_report, no_dispatch, linked_report}
+use Rattle.vip_report.specs.Report.{bad_command, bad_script, image_report, end_report, no_dispatch, linked_report}
 use Rattle.vip_report.specs.declared.status.Status.{Status}
-use Rattle.vip_report.specs.declared.status.Status.TheVariants.{BadCommand, BadScript, BadState, NoDispatch, Done}
+use Rattle.vip_report.specs.declared.status.Status.TheVariants.{BadCommand, BadScript, NoDispatch, Done}
 use Rattle.vip_tools.specs.Certificates.{CertifyComes, CyclesComes, SafeComes}
 use Rattle.vip_tools.specs.Demo.{demo_game}
 use Rattle.vip_tools.specs.Outcome.{Outcome, AsmComes, BoundsComes, DisComes, ListComes, TextComes, rom_text, script_in}
@@ -112,10 +111,12 @@ resumed a e file script =
     let ending = ending_from e file a.cycles script in
     Shown (trace_lines e a.with_time (points_in e file script a.cycles)) (end_status ending) (end_report a.cycles ending)
 
--- It comes to the first fault of the file, or else, as other runs of the file's edition do, to the records of the points behind its state.
-pub data ResumeComes (a : AskedResume) (file : List ℕ) (scripts : List (List ℕ)) : Outcome → Type 0 where
-  FaultyState : (fault : StateFault) → Judges file (Err fault) → ResumeComes a file scripts (Refused BadState (bad_state fault))
-  Resumes : (e : Edition) (o : Outcome) → IsAccepted e file → RunTo e scripts (resumed a e file) o → ResumeComes a file scripts o
+-- From an accepted file it comes, as other runs of the file's edition do, to the records of the points behind its state. A file with a fault was
+-- refused when it was read.
+pub record ResumeComes (a : AskedResume) (file : List ℕ) (scripts : List (List ℕ)) (o : Outcome) : Type 0 where
+  pub edition : Edition
+  pub accepted : IsAccepted edition file
+  pub comes : RunTo edition scripts (resumed a edition file) o
 
 -- ---- a run under the debugger
 

@@ -1,5 +1,5 @@
 -- A verb that is ready to write: what it writes, and how it ends.
-use Rattle.std.specs.Prelude.{◌≡◌, ◌≤◌, ℕ, false, List, [], ◌∷◌, Option, Some, None, Result, Ok, Err, IsErr, Vec, ◌⊎◌, length}
+use Rattle.std.specs.Prelude.{◌≡◌, ◌≤◌, ℕ, false, List, [], ◌∷◌, Option, Some, None, Result, Ok, Err, IsErr, Vec, length}
 use Rattle.std.specs.declared.alloc.Global.{Global}
 use Rattle.machine.specs.Keys.{Event as KeyEvent}
 use Rattle.chip8_lang.specs.Events.{is_stop}
@@ -7,7 +7,6 @@ use Rattle.vip_outside.specs.Files.{FilesMeaning}
 use Rattle.vip_outside.specs.Pieces.{PutsAll, FailsWithin}
 use Rattle.vip_outside.specs.Sink.{SinkMeaning}
 use Rattle.vip_outside.specs.declared.sink.Failed.{Failed}
-use Rattle.vip_board.specs.Seen.{Seen}
 use Rattle.vip_link.specs.Laws.{most_bytes}
 use Rattle.vip_link.specs.Links.{Linking, started as joined}
 use Rattle.vip_link.specs.Pair.{Pair}
@@ -31,12 +30,12 @@ use Rattle.vip_words.specs.Asked.{Asked, most_cycles, most_moves}
 use Rattle.vip_report.specs.declared.ended.Ended.{Ended}
 use Rattle.vip_report.specs.declared.ended.Ended.TheVariants.{NoDispatch, Ran}
 use Rattle.vip_report.specs.declared.refusal.Refusal.{Refusal}
-use Rattle.vip_report.specs.declared.refusal.Refusal.TheVariants.{Usage, Unread, TooLarge, NoMemory}
+use Rattle.vip_report.specs.declared.refusal.Refusal.TheVariants.{Usage, Unread, TooLarge, State, NoMemory}
 use Rattle.vip_report.specs.declared.status.Status.{Status}
 use Rattle.vip_report.specs.declared.status.Status.TheVariants.{Done}
 use Rattle.vip_report.specs.Report.{end_report, ended_report, linked_report}
 use Rattle.vip_report.specs.Status.{end_status, ended_status}
-use Rattle.vip_tools.specs.Files.{needed, ComesTo, HasAll, IsLarger, IsUnread, ReadsSome, with_names}
+use Rattle.vip_tools.specs.Files.{needed, ComesTo, HasAll, IsFaulty, IsLarger, IsUnread, OnlyReads, ReadsSome, with_names}
 use Rattle.vip_tools.specs.Outcome.{Outcome}
 use Rattle.vip_tools.specs.Outcome.Outcome.{Shown}
 use Rattle.vip_tools.specs.Work.{RefusedBy}
@@ -144,6 +143,7 @@ OpenAnswers asked old new (Ok p) = IsReady p × OfFiles asked old new (λ conten
 OpenAnswers asked old new (Err Usage) = ⊥
 OpenAnswers asked old new (Err (Unread name)) = ComesTo old new (needed asked) (λ n. (name.now ≡ n.name) × IsUnread old new n)
 OpenAnswers asked old new (Err (TooLarge kind)) = ComesTo old new (needed asked) (λ n. (kind ≡ n.kind) × IsLarger old n)
+OpenAnswers asked old new (Err (State fault)) = ComesTo old new (needed asked) (λ n. IsFaulty fault old n × OnlyReads old new)
 OpenAnswers asked old new (Err NoMemory) = ReadsSome (needed asked) old new
 OpenAnswers asked old new (Err refusal) = OfFiles asked old new (λ contents. RefusedBy (Comes asked contents) refusal)
 

@@ -6,10 +6,11 @@ ghost use Rattle.vip_words.specs.Asked.{cycles_in, most_cycles, most_moves, move
 ghost use Rattle.vip_words.specs.Asked.Asked.{trace, play, debug, demo, resume, save, trace_program, play_program, debug_program};
 ghost use Rattle.vip_words.specs.Request.{asked_of, asked_run, asked_trace, asked_debug, asked_demo, asked_resume, asked_program, asked_debug_program};
 ghost use Rattle.vip_tools.specs.Contents.{script_list, run_list, debug_list};
-ghost use Rattle.vip_tools.specs.Files.{needed, FitAll, contents_of};
+ghost use Rattle.vip_report.specs.declared.refusal.Kind.TheVariants.{State};
+ghost use Rattle.vip_tools.specs.Files.{needed, AreRight, FitAll, IsRight, contents_of};
 ghost use Rattle.vip_tools.specs.Opening.{SmallScripts};
 ghost use Rattle.vip_verbs.specs.Outcome.{Comes, RomIs};
-ghost use Rattle.vip_verbs.specs.Opening.{JudgedAnswers, ResumeAnswers, RomAnswers, StartAnswers};
+ghost use Rattle.vip_verbs.specs.Opening.{ResumeAnswers, RomAnswers, StartAnswers};
 ghost use Rattle.vip_verbs.specs.Prepared.{OpenAnswers, PrepareAnswers, texted};
 
 use crate::linked::open_link;
@@ -22,7 +23,7 @@ use vip_commands::Speaks;
 use vip_outside::Files;
 use vip_relation::{StartFault, Vip};
 use vip_report::Refusal;
-use vip_state::{ResumeFault, Resumed, check_state};
+use vip_state::{ResumeFault, Resumed};
 use vip_tools::{
     DebugContents, RunContents, asm, bounds, certified_contents, certify, cycles, debug_contents,
     demo_game, dis, game_kind, list, only_content, open_files, read_debugging, read_keys,
@@ -144,26 +145,18 @@ fn open_save<'a>(
     })
 }
 
-/// The edition of a state file, which is refused for its first fault.
-fn judged<'a>(file: &[u8]) -> Result<Edition, Refusal<'a>>
-    ensures { JudgedAnswers file.now result }
-{
-    match check_state(file) {
-        Ok(edition) => Ok(edition),
-        Err(fault) => Err(Refusal::State(fault)),
-    }
-}
-
-/// A run that goes on from a state file under its script.
+/// A run that goes on from an accepted state file under its script, with the ROM of the file's edition.
 fn go_on<'a>(alloc: Global, file: &[u8], script: Option<&[u8]>) -> Result<Resumed, Refusal<'a>>
-    requires { SmallScripts (script_list script) }
+    requires accepted { IsRight State file.now }
+    requires script { SmallScripts (script_list script) }
     ensures { ResumeAnswers file.now (script_list script.entry) result }
 {
-    let edition = judged(file)?;
     let script = read_keys(alloc, script)?;
-    check_rom(alloc, edition)?;
     match Resumed::open(alloc, file, &script) {
-        Ok(run) => Ok(run),
+        Ok(run) => {
+            check_rom(alloc, run.edition())?;
+            Ok(run)
+        }
         Err(ResumeFault::State(fault)) => Err(Refusal::State(fault)),
         Err(ResumeFault::NoMemory) => Err(Refusal::NoMemory),
     }
@@ -176,6 +169,7 @@ fn open_resume<'a>(
 ) -> Result<Prepared, Refusal<'a>>
     requires limit { wish.now.cycles ≤ most_cycles }
     requires sizes { FitAll (needed (resume (asked_resume wish.now))) (run_list contents.now) }
+    requires judged { AreRight (needed (resume (asked_resume wish.now))) (run_list contents.now) }
     ensures { PrepareAnswers (Comes (resume (asked_resume wish.now)) (run_list contents.now)) result }
 {
     let run = go_on(alloc, contents.game, contents.script)?;
@@ -265,7 +259,7 @@ fn text<'a>(made: Result<Vec<u8>, Refusal<'a>>) -> Result<Prepared, Refusal<'a>>
     }
 }
 
-/// Judges the contents of the files of what is asked for.
+/// Judges the contents of the files of what is asked for, of which a saved state was judged when it was read.
 fn prepare<'a>(
     alloc: Global,
     request: &Request<'a>,
@@ -274,6 +268,7 @@ fn prepare<'a>(
     requires limit { cycles_in (asked_of request.now) ≤ most_cycles }
     requires moves { moves_in (asked_of request.now) ≤ most_moves }
     requires sizes { FitAll (needed (asked_of request.now)) (contents_of contents.now) }
+    requires judged { AreRight (needed (asked_of request.now)) (contents_of contents.now) }
     ensures { PrepareAnswers (Comes (asked_of request.now) (contents_of contents.now)) result }
 {
     match request {
@@ -304,8 +299,8 @@ fn prepare<'a>(
     }
 }
 
-/// Opens what is asked for: reads its files, in their order, up to the first that can't be read or is too large, and judges their contents. What is
-/// then ready needs no more memory.
+/// Opens what is asked for: reads its files, in their order, up to the first that can't be read, is too large or is a saved state with a fault, and
+/// judges their contents. What is then ready needs no more memory.
 pub fn open<'a, F: Files>(
     alloc: Global,
     request: &Request<'a>,

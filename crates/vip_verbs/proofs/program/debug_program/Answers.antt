@@ -1,8 +1,4 @@
-use Rattle.std.proofs.Common.{◌≡◌, ◌≤◌, sym, subst, arith}
-use Rattle.std.specs.Prelude.{Result}
-use Rattle.vip_program.specs.Trace.{end_at}
-use Rattle.vip_debug.specs.Programs.{machine_with, program_written}
-use Rattle.vip_verbs.specs.Prepared.{PerformAnswers, program_output}
+use Rattle.std.proofs.Common.{arith}
 use Rattle.vip_verbs.proofs.ProgramLemmas.{program-debugs}
 use Rattle.vip_verbs.proofs.program.debug_program.Goals as goal
 
