@@ -173,6 +173,7 @@ fn main(rt: HostRuntime) -> anyhow::Result<()> {
     write_counts(&rt, "vectors", &counts)?;
     write_counts(&rt, "of them on the board", &on_board)?;
     run_small_roms(&rt, &fs::read_to_string(&rt, "boards.txt")?)?;
+    write_counts(&rt, "rows of two boards", &schedules::rows(rt.alloc())?)?;
     let short = schedules::around_each_hand_over(rt.alloc())?;
     write_counts(&rt, "schedules of 16 moves around hand-overs", &short)?;
     let random = schedules::at_random(rt.alloc())?;

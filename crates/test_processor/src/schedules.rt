@@ -1,11 +1,11 @@
 //! Two boards that are joined by port 3, under many schedules.
 //!
 //! After each schedule, and after each move of the short ones, the bytes that B received are the first ones of the message, and A sent as many or
-//! one more. In the end B received the whole message.
+//! one more. In the end B received the whole message. Before them come the rows that were worked out by hand.
 
 use crate::Counts;
 use std::alloc::Global;
-use vip_link::{Link, LinkFault, Side};
+use vip_link::{Link, LinkFault, Side, check_link};
 
 /// The lengths of the messages under random schedules.
 const LENGTHS: [u32; 7] = [0, 1, 2, 255, 256, 257, 3_000];
@@ -55,6 +55,32 @@ fn is_part(link: &Link, message: &[u8]) -> bool {
     let received = link.received();
     let ahead = (link.sent() as usize).wrapping_sub(received.len());
     message.starts_with(received) && ahead <= 1
+}
+
+/// Whether so many bytes were sent, and these received.
+fn brought(link: &Link, sent: u32, received: &[u8]) -> bool {
+    link.sent() == sent && link.received() == received
+}
+
+/// Tries the rows: no move, 1,000 moves of A alone, 160 pairs A, B, one byte too many, and both ROMs against their texts.
+pub fn rows(alloc: Global) -> Result<Counts, LinkFault> {
+    let mut counts = Counts::none();
+    let mut alone = Link::new(alloc, SHORT)?;
+    counts.add(brought(&alone, 0, b""));
+    for _move in 0..1_000 {
+        step(&mut alone, Side::A);
+    }
+    counts.add(brought(&alone, 1, b""));
+    let mut pairs = Link::new(alloc, SHORT)?;
+    alternate(&mut pairs, 320);
+    counts.add(brought(&pairs, 2, SHORT));
+    let large = vec![in alloc; 0; 3_001]?;
+    counts.add(matches!(
+        Link::new(alloc, &large),
+        Err(LinkFault::MessageTooLarge(3_001))
+    ));
+    counts.add(check_link(alloc).is_ok());
+    Ok(counts)
 }
 
 /// Makes the moves of a schedule, a bit a move, behind so many in turn, and then enough to bring the message.
