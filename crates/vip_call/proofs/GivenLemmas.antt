@@ -5,7 +5,6 @@ use Rattle.chip8_lang.specs.declared.view.Edition.{Edition}
 use Rattle.chip8_lang.specs.declared.view.Edition.TheVariants.{Usual, Tall}
 use Rattle.asm_core.specs.Made.{Made}
 use Rattle.rom_check.specs.Compared.{SourceGivesRom}
-use Rattle.rom_check.specs.declared.fault.ImageFault.{ImageFault}
 use Rattle.vip_board.specs.Seen.{Seen}
 use Rattle.vip_commands.specs.Grammar.{commands_of}
 use Rattle.vip_commands.specs.declared.commands.Command.{Command}
@@ -23,7 +22,7 @@ use Rattle.vip_tools.specs.Certificates.SafeComes.{FaultyProof, Proves}
 use Rattle.vip_tools.specs.Outcome.{Outcome, SourceComes}
 use Rattle.vip_tools.specs.Outcome.Outcome.{Refused, Shown, GivenUp}
 use Rattle.vip_tools.specs.Outcome.SourceComes.{FaultySource, Assembles}
-use Rattle.vip_verbs.specs.Outcome.{Comes, RunTo, DebugComes, ResumeComes, LinkComes, RomIs, IsFault}
+use Rattle.vip_verbs.specs.Outcome.{Comes, RunTo, DebugComes, ResumeComes, LinkComes, RomIs}
 use Rattle.vip_verbs.specs.Outcome.RunTo.{FaultyScript, FaultyRom, Runs}
 use Rattle.vip_verbs.specs.Outcome.ResumeComes.{FaultyState, Resumes}
 use Rattle.vip_verbs.specs.Outcome.LinkComes.{FaultyRoms, Links}
