@@ -24,7 +24,6 @@ use Rattle.vip_tools.specs.Outcome.Outcome.{Refused, Shown, GivenUp}
 use Rattle.vip_tools.specs.Outcome.SourceComes.{FaultySource, Assembles}
 use Rattle.vip_verbs.specs.Outcome.{Comes, RunTo, DebugComes, ResumeComes, LinkComes, RomIs}
 use Rattle.vip_verbs.specs.Outcome.RunTo.{FaultyScript, FaultyRom, Runs}
-use Rattle.vip_verbs.specs.Outcome.ResumeComes.{FaultyState, Resumes}
 use Rattle.vip_verbs.specs.Outcome.LinkComes.{FaultyRoms, Links}
 use Rattle.vip_verbs.specs.Programs.{ProgramComes, ProgramDebugComes}
 use Rattle.vip_verbs.specs.Programs.ProgramComes.{FaultyScript as FaultyKeys, Runs as RunsProgram}
@@ -95,8 +94,7 @@ module _ (given : RomsGiven) where
   debug_free e game limit scripts (Err debug_fault.NoMemory) o x = absurd x
 
   resume_free : (a : AskedResume) (file : List ℕ) (scripts : List (List ℕ)) (o : Outcome) → ResumeComes a file scripts o → Free o
-  resume_free a file scripts _ (FaultyState fault is) = λ x. x
-  resume_free a file scripts _ (Resumes e o accepted run) = run_free e scripts _ o (λ script. tt) run
+  resume_free a file scripts o x = run_free x.edition scripts _ o (λ script. tt) x.comes
 
   link_free : (a : AskedLink) (message : List ℕ) (o : Outcome) → LinkComes a message o → Free o
   link_free a message _ (FaultyRoms fault faulty differ) = absurd (links_fine_or_not a message fault faulty given.links differ)
