@@ -6,28 +6,31 @@
 //! an interrupt comes between a write to the screen and the next dispatch point. The same is said of the wrong interpreters of `data/wrong.txt`, of
 //! which a law of `rom_run` is false, so that it shows there. The stored output is what all of this must give.
 //!
-//! Last, machine states in files are made by random numbers, and each is gone on from: every point is compared with the step of the language from the
-//! one before it, as `docs/LANGUAGE.md` has it.
+//! Then machine states in files are made by random numbers, and each is gone on from: every point is compared with the step of the language from the
+//! one before it, as `docs/LANGUAGE.md` has it. Last, runs of random games are saved and gone on with, and compared with the trace in one go.
 //!
-//! It stands on the board, the assembler, the ROM and `vip_state`, and on nothing of the program that shows runs. That the ROM is CHIP-8 within the
+//! It stands on the board, the assembler, the ROM and `vip_state`; the traces of runs in one go are those of `vip_show`. That the ROM is CHIP-8 within the
 //! bounds is proved in `rom_run`; what is measured here says how far below them it stays. Nothing here is proved but that it is safe.
 #![tactic(auto)]
 
 mod console;
 mod costs;
+mod cuts;
 mod demo;
 mod edition;
 mod files;
 mod language;
+mod numbers;
 mod report;
 mod runs;
 mod source;
 mod watch;
 mod wrong;
 
+use crate::cuts::cut_runs;
 use crate::edition::{EDITIONS, name};
 use crate::files::run_files;
-use crate::report::{write_costs, write_files, write_form, write_frames, write_wrong};
+use crate::report::{write_costs, write_cuts, write_files, write_form, write_frames, write_wrong};
 use crate::runs::{RunFault, run_demos, run_instructions};
 use crate::source::Source;
 use crate::watch::{KeyTests, Watch};
@@ -102,5 +105,6 @@ fn main(rt: HostRuntime) -> anyhow::Result<()> {
         measure(&rt, edition, &costs, key_tests)?;
         run_wrong_ones(&rt, edition, &wrong, key_tests)?;
     }
-    write_files(&rt, &run_files(rt.alloc())?)
+    write_files(&rt, &run_files(rt.alloc())?)?;
+    write_cuts(&rt, &cut_runs(rt.alloc())?)
 }

@@ -1,6 +1,7 @@
 //! What is written of measurements and of sources.
 
 use crate::costs::{Costs, Most};
+use crate::cuts::Seen as SeenCuts;
 use crate::files::Seen;
 use crate::source::Form;
 use crate::watch::Watch;
@@ -90,6 +91,16 @@ pub fn write_files(rt: &HostRuntime, seen: &Seen) -> anyhow::Result<()> {
     println!(rt;
         "  {} files, {} of them refused; {} steps and {} stops, {} of them not those of the language",
         seen.files, seen.refused, seen.steps, seen.stops, seen.wrong
+    )?;
+    Ok(())
+}
+
+/// Writes what was seen of runs that are saved and gone on with.
+pub fn write_cuts(rt: &HostRuntime, seen: &SeenCuts) -> anyhow::Result<()> {
+    println!(rt; "runs that are saved and gone on with:")?;
+    println!(rt;
+        "  {} runs, {} of them without a dispatch point to save; {} dispatch points and {} stops behind, {} runs not as in one go",
+        seen.cut, seen.unsaved, seen.records, seen.stops, seen.wrong
     )?;
     Ok(())
 }

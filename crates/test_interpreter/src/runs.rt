@@ -36,6 +36,8 @@ pub enum RunFault {
     NotAnInstruction,
     #[error("not a key script")]
     NotAScript,
+    #[error("not a machine state")]
+    NotAState,
     #[error("no memory")]
     NoMemory,
 }

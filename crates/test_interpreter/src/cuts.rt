@@ -1,0 +1,207 @@
+//! Runs that are cut: random games under random key scripts, up to a limit, saved there, and gone on with up to another one. What goes on has to be the
+//! rest of the trace in one go.
+
+ghost use Rattle.std.specs.Prelude.{◌≤◌, IfOk};
+ghost use Rattle.vip_show.specs.Answers.{IsFresh};
+
+use crate::edition::EDITIONS;
+use crate::numbers::Numbers;
+use crate::runs::RunFault;
+use chip8_lang::Edition;
+use std::alloc::{AllocError, Global};
+use vip_keypad::{Script, read_script};
+use vip_outside::{Failed, MemSink};
+use vip_relation::Vip;
+use vip_show::show_trace;
+use vip_state::{Resumed, show_resumed, show_saved};
+use vip_text::RunEnd;
+
+/// How many games are cut, each in both editions.
+const GAMES: u32 = 200;
+
+/// The opcodes of a game, which fit into the game memory of both editions.
+const OPCODES: u16 = 1_488;
+
+/// The most events of a key script, and the most cycles between two of them.
+const MOST_EVENTS: u16 = 24;
+
+const MOST_APART: u16 = 9_000;
+
+/// More bytes than a key script of so many events can have.
+const MOST_SCRIPT: usize = 1_024;
+
+/// The limits lie below this one, in machine cycles.
+const LIMITS: u64 = 120_000;
+
+/// The bytes of the longest output.
+const ROOM: usize = 262_144;
+
+/// What was seen of the runs.
+#[derive(Clone, Copy)]
+pub struct Seen {
+    pub cut: u32,
+    /// Those without a dispatch point up to the first limit.
+    pub unsaved: u32,
+    /// The dispatch points and the stops behind what was saved.
+    pub records: u64,
+    pub stops: u32,
+    /// Those that aren't the run in one go.
+    pub wrong: u32,
+}
+
+/// A game, a key script and two limits.
+#[derive(Clone, Copy)]
+struct Cut<'a> {
+    edition: Edition,
+    game: &'a [u8],
+    script: &'a Script,
+    first: u64,
+    last: u64,
+}
+
+/// What went out, with the end of the run.
+#[derive(Drop)]
+struct Written<E: Drop> {
+    out: MemSink,
+    end: Result<E, Failed>,
+}
+
+impl Numbers {
+    /// A game of opcodes most of which stop nothing, and some of which wait for a key. Its last opcode jumps to the first.
+    fn game(&mut self, alloc: Global) -> Result<Vec<u8>, AllocError> {
+        let mut game = Vec::new(alloc);
+        for _ in 1..OPCODES {
+            let opcode = match self.next() % 64 {
+                0 => 0xF00A + self.next() % 16 * 256,
+                1..=3 => self.opcode(false),
+                _ => self.opcode(true),
+            };
+            game.extend_from_slice(&opcode.to_be_bytes())?;
+        }
+        game.extend_from_slice(&[0x12, 0x00])?;
+        Ok(game)
+    }
+
+    /// A key script.
+    fn script(&mut self, alloc: Global) -> Result<Script, RunFault> {
+        let mut text = String::new(alloc);
+        let mut cycle = 0u32;
+        for _ in 0..self.next() % MOST_EVENTS {
+            cycle = cycle.saturating_add(u32::from(self.next() % MOST_APART));
+            let turn = if self.next() % 2 == 0 { "down" } else { "up" };
+            let key = self.next() % 16;
+            text.push_str(&format!(in alloc; "{cycle} {turn} {key:X}\n")?)?;
+        }
+        if text.len() > MOST_SCRIPT {
+            return Err(RunFault::NotAScript);
+        }
+        match read_script(alloc, text.as_bytes()) {
+            Ok(script) => Ok(script),
+            Err(_) => Err(RunFault::NotAScript),
+        }
+    }
+
+    /// A limit.
+    fn limit(&mut self) -> u64
+        ensures { result ≤ 120_000 }
+    {
+        (u64::from(self.next()) * 65_536 + u64::from(self.next())) % LIMITS
+    }
+}
+
+/// A machine that begins to run a game.
+fn start(alloc: Global, cut: &Cut<'_>) -> Result<Vip, RunFault>
+    ensures { IfOk result (λ vip. IsFresh vip) }
+{
+    match Vip::start_as(alloc, cut.edition, cut.game, cut.script) {
+        Ok(vip) => Ok(vip),
+        Err(_) => Err(RunFault::NoMemory),
+    }
+}
+
+/// The trace of the run up to a limit.
+fn trace(alloc: Global, cut: &Cut<'_>, limit: u64) -> Result<Written<RunEnd>, RunFault>
+    requires { limit ≤ 120_000 }
+{
+    let mut vip = start(alloc, cut)?;
+    let mut out = MemSink::new(alloc, ROOM)?;
+    let end = show_trace(&mut vip, limit, true, false, &mut out);
+    Ok(Written { out, end })
+}
+
+/// The file of the run at its last dispatch point up to the first limit.
+fn save(alloc: Global, cut: &Cut<'_>) -> Result<Written<Option<RunEnd>>, RunFault>
+    requires { cut.now.first ≤ 120_000 }
+{
+    let mut vip = start(alloc, cut)?;
+    let mut out = MemSink::new(alloc, ROOM)?;
+    let end = show_saved(&mut vip, cut.first, &mut out);
+    Ok(Written { out, end })
+}
+
+/// The records of what goes on from a file up to the last limit.
+fn resume(alloc: Global, cut: &Cut<'_>, file: &[u8]) -> Result<Written<RunEnd>, RunFault>
+    requires { cut.now.last ≤ 120_000 }
+{
+    let mut run = match Resumed::open(alloc, file, cut.script) {
+        Ok(run) => run,
+        Err(_) => return Err(RunFault::NotAState),
+    };
+    let mut out = MemSink::new(alloc, ROOM)?;
+    let end = show_resumed(&mut run, cut.last, true, &mut out);
+    Ok(Written { out, end })
+}
+
+/// Cuts a run, and compares its parts with the whole.
+fn compare(alloc: Global, cut: &Cut<'_>, seen: &mut Seen) -> Result<bool, RunFault>
+    requires first { cut.now.first ≤ 120_000 }
+    requires last { cut.now.last ≤ 120_000 }
+{
+    let early = trace(alloc, cut, cut.first)?;
+    let saved = save(alloc, cut)?;
+    if early.out.calls() == 0 {
+        seen.unsaved = seen.unsaved.saturating_add(1);
+        return Ok(saved.end == Ok(None) && saved.out.calls() == 0);
+    }
+    let late = resume(alloc, cut, saved.out.bytes())?;
+    let whole = trace(alloc, cut, cut.last)?;
+    seen.records = seen.records.saturating_add(u64::from(late.out.calls()));
+    if let Ok(RunEnd::AtStop(_)) = late.end {
+        seen.stops = seen.stops.saturating_add(1);
+    }
+    let ends = whole.end == late.end && saved.end == early.end.map(Some) && saved.out.calls() == 1;
+    let rest = whole.out.bytes().strip_prefix(early.out.bytes());
+    Ok(ends && rest == Some(late.out.bytes()))
+}
+
+/// Cuts the runs of random games.
+pub fn cut_runs(alloc: Global) -> Result<Seen, RunFault> {
+    let mut numbers = Numbers::new(2);
+    let mut seen = Seen {
+        cut: 0,
+        unsaved: 0,
+        records: 0,
+        stops: 0,
+        wrong: 0,
+    };
+    for _ in 0..GAMES {
+        let game = numbers.game(alloc)?;
+        let script = numbers.script(alloc)?;
+        for edition in EDITIONS {
+            let one = numbers.limit();
+            let other = numbers.limit();
+            let cut = Cut {
+                edition,
+                game: game.as_slice(),
+                script: &script,
+                first: one.min(other),
+                last: one.max(other),
+            };
+            seen.cut = seen.cut.saturating_add(1);
+            if !compare(alloc, &cut, &mut seen)? {
+                seen.wrong = seen.wrong.saturating_add(1);
+            }
+        }
+    }
+    Ok(seen)
+}
