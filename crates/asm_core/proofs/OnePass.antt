@@ -135,7 +135,7 @@ covers-with [] at count a = or-false (is_in a (at, count))
 covers-with (s ∷ more) at count a =
     elim (s.0 + s.1 == at) as
     (λ b. (s.0 + s.1 == at) ≡ b → covers (cond b ((s.0, s.1 + count) ∷ more) ((at, count) ∷ s ∷ more)) a
-        ≡ (covers (s ∷ more) a || is_in a (at, count))) [
+    ≡ (covers (s ∷ more) a || is_in a (at, count))) [
       | true ↦ λ e.
           ap (λ t. t || covers more a) (joined a s.0 s.1 count ∙ ap (λ n. is_in a s || is_in a (n, count)) (eqb-true (s.0 + s.1) at e))
           ∙ or_move (is_in a s) (is_in a (at, count)) (covers more a)
