@@ -3,6 +3,9 @@
 ghost use Rattle.std.specs.Prelude.{◌≡◌, ◌+◌, ◌/◌, ◌%◌};
 ghost use Rattle.vip_byte.specs.HexText as text;
 
+/// The digit of each number below 16, in upper case.
+static DIGITS: [u8; 16] = *b"0123456789ABCDEF";
+
 /// The high four bits of a byte, as a number below 16.
 pub fn high(byte: u8) -> u8
     ensures { result ≡ byte / 16 }
@@ -25,16 +28,15 @@ pub fn add16(a: u16, b: u16) -> u16
 }
 
 /// The two hexadecimal digits of a byte, the highest first, with upper-case letters.
+#[inline(always)]
 pub fn hex2(value: u8) -> [u8; 2]
     ensures { result ≡ text.hex2 value }
 {
-    let mut digits = [0; 2];
-    hex::encode_to_slice([value], &mut digits).unwrap();
-    digits.make_ascii_uppercase();
-    digits
+    [DIGITS[high(value) as usize], DIGITS[low(value) as usize]]
 }
 
 /// The four hexadecimal digits of a word, the highest first, with upper-case letters.
+#[inline(always)]
 pub fn hex4(value: u16) -> [u8; 4]
     ensures { result ≡ text.hex4 value }
 {

@@ -1,27 +1,24 @@
 //! The line of a trace.
 
-ghost use Rattle.std.specs.Prelude.{◌≡◌, ◌+◌, ◌≤◌, ◌++◌, [], length};
+ghost use Rattle.std.specs.Prelude.{◌≡◌, ◌+◌, ◌≤◌, ◌++◌, [], length, codes};
 ghost use Rattle.arrayvec.specs.ArrayVec.{array_vec_len};
 ghost use Rattle.vip_byte.specs.Room.{HasRoom};
+ghost use Rattle.vip_byte.specs.HexText.{hex4};
 ghost use Rattle.chip8_lang.specs.View.{seen};
 ghost use Rattle.vip_text.specs.Traces.{opcode_text, time_text, timers_text, trace_line};
 
 use crate::write::{put_bytes, put_number, put_words};
 use chip8_lang::StateView;
-use vip_byte::{Buffer, hex2, hex4, put, put_bit};
+use vip_byte::{Buffer, hex2, hex4, put};
 
 /// Writes the line of a state into an empty buffer, with the count of ticks and the cycle where `with_cycle` asks for them.
 pub fn trace_text(view: &StateView, with_cycle: bool, into: &mut Buffer)
     requires { into.old.items ≡ [] }
     ensures { into.new.items ≡ trace_line with_cycle (seen view.now) }
 {
-    put(into, &hex4(view.pc));
-    put(into, b" ");
-    put_opcode(into, view.opcode);
-    put(into, b" V");
+    put_place(into, view);
     put_bytes(into, &view.v);
-    put(into, b" I ");
-    put(into, &hex4(view.i));
+    put_index(into, view.i);
     put_timers(into, view);
     put(into, b" S");
     put_words(into, view.stack.as_slice());
@@ -29,30 +26,52 @@ pub fn trace_text(view: &StateView, with_cycle: bool, into: &mut Buffer)
     put(into, b"\n");
 }
 
-/// Appends the opcode in four digits, or four hyphens where there is none.
-fn put_opcode(into: &mut Buffer, opcode: Option<u16>)
-    requires { HasRoom into.old.items 4 }
-    ensures items { into.new.items ≡ into.old.items ++ opcode_text opcode }
-    ensures len { array_vec_len into.new ≤ array_vec_len into.old + 4 }
+/// Appends pc and the opcode, and the name of the registers V0 to VF.
+fn put_place(into: &mut Buffer, view: &StateView)
+    requires { HasRoom into.old.items 11 }
+    ensures items { into.new.items ≡ into.old.items ++ hex4 view.now.pc ++ codes " " ++ opcode_text view.now.opcode ++ codes " V" }
+    ensures len { array_vec_len into.new ≡ array_vec_len into.old + 11 }
+{
+    let [p1, p2, p3, p4] = hex4(view.pc);
+    let [o1, o2, o3, o4] = opcode_digits(view.opcode);
+    let text = [p1, p2, p3, p4, b' ', o1, o2, o3, o4, b' ', b'V'];
+    put(into, &text);
+}
+
+/// The opcode in four digits, or four hyphens where there is none.
+fn opcode_digits(opcode: Option<u16>) -> [u8; 4]
+    ensures { result ≡ opcode_text opcode }
 {
     match opcode {
-        Some(opcode) => put(into, &hex4(opcode)),
-        None => put(into, b"----"),
+        Some(opcode) => hex4(opcode),
+        None => *b"----",
     }
+}
+
+/// Appends I.
+fn put_index(into: &mut Buffer, i: u16)
+    requires { HasRoom into.old.items 7 }
+    ensures items { into.new.items ≡ into.old.items ++ codes " I " ++ hex4 i }
+    ensures len { array_vec_len into.new ≡ array_vec_len into.old + 7 }
+{
+    let [i1, i2, i3, i4] = hex4(i);
+    let text = [b' ', b'I', b' ', i1, i2, i3, i4];
+    put(into, &text);
 }
 
 /// Appends both timers and the tone.
 fn put_timers(into: &mut Buffer, view: &StateView)
     requires { HasRoom into.old.items 16 }
     ensures items { into.new.items ≡ into.old.items ++ timers_text (seen view.now) }
-    ensures len { array_vec_len into.new ≤ array_vec_len into.old + 16 }
+    ensures len { array_vec_len into.new ≡ array_vec_len into.old + 16 }
 {
-    put(into, b" DT ");
-    put(into, &hex2(view.dt));
-    put(into, b" ST ");
-    put(into, &hex2(view.st));
-    put(into, b" Q ");
-    put_bit(into, view.tone);
+    let [d1, d2] = hex2(view.dt);
+    let [s1, s2] = hex2(view.st);
+    let tone = if view.tone { b'1' } else { b'0' };
+    let text = [
+        b' ', b'D', b'T', b' ', d1, d2, b' ', b'S', b'T', b' ', s1, s2, b' ', b'Q', b' ', tone,
+    ];
+    put(into, &text);
 }
 
 /// Appends the count of ticks and the cycle where they are asked for.
@@ -64,8 +83,8 @@ fn put_time(into: &mut Buffer, view: &StateView, with_cycle: bool)
     if !with_cycle {
         return;
     }
-    put(into, b" N ");
-    put(into, &hex4(view.n));
-    put(into, b" AT ");
+    let [n1, n2, n3, n4] = hex4(view.n);
+    let text = [b' ', b'N', b' ', n1, n2, n3, n4, b' ', b'A', b'T', b' '];
+    put(into, &text);
     put_number(into, view.cycle);
 }

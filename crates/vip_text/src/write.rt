@@ -15,8 +15,8 @@ pub fn put_bytes(into: &mut Buffer, bytes: &[u8])
     ensures len { array_vec_len into.new ≡ array_vec_len into.old + 3 * length bytes.now }
 {
     for byte in bytes {
-        put(into, b" ");
-        put(into, &hex2(*byte));
+        let [first, second] = hex2(*byte);
+        put(into, &[b' ', first, second]);
     }
 }
 
@@ -27,8 +27,8 @@ pub fn put_words(into: &mut Buffer, words: &[u16])
     ensures len { array_vec_len into.new ≡ array_vec_len into.old + 5 * length words.now }
 {
     for word in words {
-        put(into, b" ");
-        put(into, &hex4(*word));
+        let [first, second, third, fourth] = hex4(*word);
+        put(into, &[b' ', first, second, third, fourth]);
     }
 }
 

@@ -5,20 +5,14 @@ pub returns : goal.returns
 unfolding trace_line
 returns c =
     rw (
-      c.put-7.ensures.items,
+      c.put-2.ensures.items,
       c.put_time.ensures.items,
       c.put_words.ensures.items,
-      c.put-6.ensures.items,
-      c.put_timers.ensures.items,
-      c.put-5.ensures.items,
-      c.put-4.ensures.items,
-      c.put_bytes.ensures.items,
-      c.put-3.ensures.items,
-      c.put_opcode.ensures.items,
-      c.put-2.ensures.items,
       c.put.ensures.items,
+      c.put_timers.ensures.items,
+      c.put_index.ensures.items,
+      c.put_bytes.ensures.items,
+      c.put_place.ensures.items,
       c.requires,
       c.as_slice.ensures.value,
-      c.hex4.ensures,
-      c.hex4-2.ensures,
     )
