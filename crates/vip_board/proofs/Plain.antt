@@ -1,8 +1,8 @@
--- A whole instruction that tests no flag and uses no port, and in whose cycles the video chip has nothing to do but count.
-use Rattle.std.proofs.Common.{◌≡◌, ℕ, zero, suc, ◌+◌, ◌/◌, ◌<◌, Bool, true, false, ◌&&◌, refl, sym, ap, ◌∙◌, subst, subst₂, arith}
+-- An instruction that tests no flag and uses no port, and in whose cycles the video chip has nothing to do but count.
+use Rattle.std.proofs.Common.{◌≡◌, ℕ, zero, suc, ◌+◌, ◌/◌, ◌<◌, Bool, true, false, ◌&&◌, refl, sym, ap, ◌∙◌, subst, arith}
 use Rattle.std.specs.Prelude.{◌==◌, if◌then◌else◌, Option, Some, None}
 use Rattle.machine.specs.declared.Kind.{Kind}
-use Rattle.machine.specs.declared.Kind.TheVariants.{B1, B2, B3, B4, Bn1, Bn2, Bn3, Bn4, Out, Inp}
+use Rattle.machine.specs.declared.Kind.TheVariants.{Idl, B1, B2, B3, B4, Bn1, Bn2, Bn3, Bn4, Out, Inp}
 use Rattle.machine.specs.Opcodes.{kind_of, opcode_number, cycles_of}
 use Rattle.machine.specs.Instruction.{Regs, Effect, Inputs, Port, at, stepped, effect, executed, inputs}
 use Rattle.machine.specs.Keys.{held_at}
@@ -15,11 +15,11 @@ use Rattle.vip_cpu.specs.Acts.{Acts}
 use Rattle.vip_cpu.specs.Cycle.{Processor, after, ended}
 use Rattle.vip_cpu.specs.Groups.{is_plain, plain_cycles}
 use Rattle.vip_cpu.specs.declared.cpu.Phase.TheVariants.{Boundary}
-use Rattle.vip_video.specs.Chip.{Chip, Pictures, scanned}
+use Rattle.vip_video.specs.Chip.{Pictures, scanned}
 use Rattle.vip_video.specs.Quiet.{IsQuiet}
 use Rattle.vip_video.proofs.Quiet.{no-dma, no-int}
 use Rattle.vip_board.specs.Seen.{Seen}
-use Rattle.vip_board.specs.Moves.{moved, scanned_over}
+use Rattle.vip_board.specs.Moves.{moved, later, scanned_over, Works}
 use Rattle.vip_board.specs.Wired.{seen_of, after_calls}
 use Rattle.vip_board.specs.declared.wires.Wires.{Wires}
 use Rattle.vip_board.proofs.Calls.{Writes, Sends, Receives, calls-are, bytes, flags}
@@ -41,6 +41,10 @@ plain_port : (k : Kind) (n : ℕ) (s : Regs) (i : Inputs) → is_plain k ≡ tru
 plain_port Out n s i h = cc
 plain_port Inp n s i h = cc
 plain_port _ n s i h = refl
+
+plain_idle : (k : Kind) (n : ℕ) (s : Regs) (i : Inputs) → is_plain k ≡ true → (effect k n s i).regs.idle ≡ s.idle
+plain_idle Idl n s i h = cc
+plain_idle _ n s i h = refl
 
 -- what a length by the table of plain opcodes says
 by_length : (b : Bool) (n m : ℕ) → n ≡ (if b then m else 0) → (n ≡ 0 → ⊥) → (b ≡ true) × (n ≡ m)
@@ -78,98 +82,114 @@ some_cycles true = omega arith
 some_cycles false = omega arith
 
 -- what the processor and the wires are after it
-abbrev pub Did : Processor → Wires → ℕ → Processor → Wires → ℕ → Chip → Type 0
-Did cpu w taken q v opcode chip =
-    let w = record w { video = chip } in
-    let c = ended opcode (stepped cpu.regs cpu.regs.p) (bytes w) (flags w) taken in
-    (q ≡ after c) × Acts Writes Sends Receives c.effect taken w v
+abbrev pub Did : Processor → Wires → ℕ → Processor → Wires → ℕ → Type 0
+Did cpu w taken q v opcode =
+    let c = ended opcode (stepped cpu.regs cpu.regs.p) (bytes w) (flags w) taken in (q ≡ after c) × Acts Writes Sends Receives c.effect taken w v
 
-pub record IsWhole (q : Processor) (v : Wires) (s : Seen) : Type 0 where
-  pub whole : seen_of q v ≡ moved s
-  pub pictures : v.video.pictures ≡ s.pictures
-
-module _ (cpu : Processor) (w v : Wires) (n taken : ℕ) (q : Processor) (boundary : cpu.phase ≡ Boundary) (awake : cpu.regs.idle ≡ false) where
-  abbrev s : Seen
-  s = seen_of cpu w
-
-  abbrev b : Machine
-  b = s.machine
-
-  abbrev opcode : ℕ
-  opcode = opcode_of s.rom b
-
+module _ (cpu : Processor) (w v : Wires) (taken : ℕ) (q : Processor) (opcode : ℕ) (plain : is_plain (kind_of opcode) ≡ true) (did : Did cpu w taken q v opcode) where
   abbrev regs : Regs
-  regs = stepped b.regs b.regs.p
+  regs = stepped cpu.regs cpu.regs.p
 
-  -- after an effect that uses no port
-  abbrev after_effect : Effect → Seen
-  after_effect e =
-      resting s.rom s.script (record b { regs = e.regs; ram = ram_after e.write b.latch b.ram; cycle = b.cycle + n }) s.pictures
+  abbrev given : Inputs
+  given = inputs regs (bytes w) (flags w) taken
 
-  -- the effect of the whole instruction
-  abbrev effect_now : Effect
-  effect_now =
-      executed opcode regs (inputs regs (bytes w) (flags_of (efx_at (b.cycle + 1) b.on) (held_at s.script (b.cycle + 1) b.key)) 0)
+  abbrev made : Effect
+  made = executed opcode regs given
 
-  module _ (long : n ≡ cycles_of opcode) (plain : is_plain (kind_of opcode) ≡ true) (quiet : (k : ℕ) → k < n → IsQuiet b.on w.video.cycle_on (b.cycle + k))
-      (some : 0 < n) where
-    abbrev landed : Option Port → ℕ → Pictures → Seen
-    landed port m p =
-        resting s.rom s.script
-        (record b {
-          regs = effect_now.regs;
-          ram = ram_after effect_now.write b.latch b.ram;
-          latch = latch_after port b.latch;
-          on = on_after port b.on;
-          key = key_after port b.key;
-          cycle = b.cycle + m;
-        })
-        p
+  no_port : made.port ≡ None
+  no_port = plain_port (kind_of opcode) (opcode_number opcode) regs given plain
 
-    moves : after_effect effect_now ≡ moved s
-    moves =
-        let here : b.cycle + 0 ≡ b.cycle = omega arith in
-        let f = fetches b w.video.cycle_on awake (subst (IsQuiet b.on w.video.cycle_on) here (quiet 0 some)) in
-        let no_port : effect_now.port ≡ None = plain_port (kind_of opcode) (opcode_number opcode) regs _ plain in
-        ap (λ port. landed port n s.pictures) (sym no_port)
-        ∙ ap (landed effect_now.port n) (sym (over n b.cycle b.on w.video.cycle_on s.pictures quiet))
-        ∙ ap (λ m. landed effect_now.port m (scanned_over m b.cycle b.on None s.pictures)) long
-        ∙ sym (moved-in s.rom s.script b s.pictures InstructionCase (is_instruction b f))
-        ∙ moved-rests s boundary
+  not_both : {A : Type 0} {x : A} (o : Option A) → o ≡ None → o ≡ Some x → ⊥
+  not_both o h g = let never : None ≡ Some _ = sym h ∙ g in cc
 
-    pub plain-whole : Did cpu w taken q v opcode (record w.video { cycles = w.video.cycles + n }) → IsWhole q v s
-    plain-whole did =
-        let u = record w { video = record w.video { cycles = w.video.cycles + n } } in
-        let i = inputs regs (bytes w) (flags u) in
-        let e = executed opcode regs (i taken) in
-        let no_port : e.port ≡ None = plain_port (kind_of opcode) (opcode_number opcode) regs (i taken) plain in
-        let calls = calls-are e.port e.write taken u v (λ port byte h. absurd (not_both e.port no_port h)) did.1 in
-        let wires : v ≡ after_calls None e.write u = calls.1 ∙ ap (λ port. after_calls port e.write u) no_port in
-        let same : e ≡ effect_now =
-        ap (λ t. executed opcode regs (i t)) calls.0
-        ∙ sym (effect_flags (kind_of opcode) (opcode_number opcode) regs (i 0) (flags_of (efx_at (b.cycle + 1) b.on) (held_at s.script (b.cycle + 1) b.key)) (plain_flags (kind_of opcode) plain)) in
-        record {
-          whole =
-              ap (λ x. seen_of x v) did.0
-              ∙ ap (seen_of (record { regs = e.regs; phase = Boundary })) wires
-              ∙ ap after_effect same
-              ∙ moves;
-          pictures = ap (λ (x : Wires). x.video.pictures) wires;
-        }
-      where
-        not_both : {A : Type 0} {x : A} (o : Option A) → o ≡ None → o ≡ Some x → ⊥
-        not_both o h g = let never : None ≡ Some _ = sym h ∙ g in cc
+  calls : (taken ≡ 0) × (v ≡ after_calls made.port made.write w)
+  calls = let c = calls-are made.port made.write taken w v (λ port byte h. absurd (not_both made.port no_port h)) did.1 in (c.0, c.1)
 
-pub plain-move : (cpu : Processor) (w v : Wires) (s : Seen) (n opcode taken : ℕ) (q : Processor) (chip : Chip) → seen_of cpu w ≡ s → s.phase ≡ Boundary
-    → cpu.regs.idle ≡ false → opcode ≡ read w.memory.rom w.memory.latch w.memory.ram (at s.machine.regs s.machine.regs.p) → n ≡ cycles_of opcode
-    → is_plain (kind_of opcode) ≡ true → ((k : ℕ) → k < n → IsQuiet w.video.on w.video.cycle_on (w.video.cycles + k))
-    → chip ≡ record w.video { cycles = w.video.cycles + n } → Did cpu w taken q v opcode chip → IsWhole q v s
-plain-move cpu w v s n opcode taken q chip view h awake op long plain quiet is_chip did =
+  wired : v ≡ after_calls None made.write w
+  wired = calls.1 ∙ ap (λ port. after_calls port made.write w) no_port
+
+  awake : q.regs.idle ≡ cpu.regs.idle
+  awake = ap (λ (x : Processor). x.regs.idle) did.0 ∙ plain_idle (kind_of opcode) (opcode_number opcode) regs given plain
+
+  -- where p cycles before it aren't counted yet
+  module _ (p n : ℕ) (boundary : cpu.phase ≡ Boundary) (active : cpu.regs.idle ≡ false) where
+    abbrev s : Seen
+    s = later (seen_of cpu w) p
+
+    abbrev b : Machine
+    b = s.machine
+
+    abbrev flags_then : ℕ → Bool
+    flags_then = flags_of (efx_at (b.cycle + 1) b.on) (held_at s.script (b.cycle + 1) b.key)
+
+    -- the effect of the whole instruction
+    abbrev effect_now : Effect
+    effect_now = executed opcode regs (inputs regs (bytes w) flags_then 0)
+
+    -- after an effect that uses no port
+    abbrev after_effect : Effect → ℕ → Seen
+    after_effect e t = resting s.rom s.script (record b { regs = e.regs; ram = ram_after e.write b.latch b.ram; cycle = t }) s.pictures
+
+    same : made ≡ effect_now
+    same =
+        ap (λ t. executed opcode regs (inputs regs (bytes w) (flags w) t)) calls.0
+        ∙ sym (effect_flags (kind_of opcode) (opcode_number opcode) regs (inputs regs (bytes w) (flags w) 0) flags_then (plain_flags (kind_of opcode) plain))
+
+    module _ (is_opcode : opcode ≡ opcode_of s.rom b) (long : n ≡ cycles_of opcode) (quiet : (k : ℕ) → k < n → IsQuiet b.on b.on (b.cycle + k)) (some : 0 < n) where
+      abbrev landed : Effect → Option Port → ℕ → Pictures → Seen
+      landed e port m x =
+          resting s.rom s.script
+          (record b {
+            regs = e.regs;
+            ram = ram_after e.write b.latch b.ram;
+            latch = latch_after port b.latch;
+            on = on_after port b.on;
+            key = key_after port b.key;
+            cycle = b.cycle + m;
+          })
+          x
+
+      abbrev effect_of : ℕ → Effect
+      effect_of o = executed o regs (inputs regs (bytes w) flags_then 0)
+
+      moves : after_effect effect_now (b.cycle + n) ≡ moved s
+      moves =
+          let here : b.cycle + 0 ≡ b.cycle = omega arith in
+          let f = fetches b b.on active (subst (IsQuiet b.on b.on) here (quiet 0 some)) in
+          let none : effect_now.port ≡ None = plain_port (kind_of opcode) (opcode_number opcode) regs _ plain in
+          ap (λ port. landed effect_now port n s.pictures) (sym none)
+          ∙ ap (landed effect_now effect_now.port n) (sym (over n b.cycle b.on b.on s.pictures quiet))
+          ∙ ap (λ m. landed effect_now effect_now.port m (scanned_over m b.cycle b.on None s.pictures)) long
+          ∙ ap (λ o. landed (effect_of o) (effect_of o).port (cycles_of o) (scanned_over (cycles_of o) b.cycle b.on None s.pictures)) is_opcode
+          ∙ sym (moved-in s.rom s.script b s.pictures InstructionCase (is_instruction b f))
+          ∙ moved-rests s boundary
+
+      whole : later (seen_of q v) (p + n) ≡ moved s
+      whole =
+          let count : w.video.cycles + (p + n) ≡ b.cycle + n = omega arith in
+          ap (λ x. later (seen_of x v) (p + n)) did.0
+          ∙ ap (λ x. later (seen_of (record { regs = made.regs; phase = Boundary }) x) (p + n)) wired
+          ∙ ap (after_effect made) count
+          ∙ ap (λ e. after_effect e (b.cycle + n)) same
+          ∙ moves
+
+-- said of a board
+pub plain-works : (cpu : Processor) (w v : Wires) (s : Seen) (n opcode taken : ℕ) (q : Processor) → seen_of cpu w ≡ s → s.phase ≡ Boundary
+    → s.machine.regs.idle ≡ false → opcode ≡ read w.memory.rom w.memory.latch w.memory.ram (at s.machine.regs s.machine.regs.p) → n ≡ cycles_of opcode
+    → is_plain (kind_of opcode) ≡ true → Did cpu w taken q v opcode → Works n s (seen_of q v)
+plain-works cpu w v s n opcode taken q view h active op long plain did =
     let some : 0 < n = subst (λ m. 0 < m) (sym long) (some_cycles (opcode / 16 == 0xc)) in
-    let u = seen_of cpu w in
     let phase : cpu.phase ≡ Boundary = ap (λ (x : Seen). x.phase) view ∙ h in
-    let same : opcode ≡ opcode_of u.rom u.machine =
+    let rests : cpu.regs.idle ≡ false = ap (λ (x : Seen). x.machine.regs.idle) view ∙ active in
+    let same : opcode ≡ opcode_of w.memory.rom (seen_of cpu w).machine =
     op ∙ ap (read w.memory.rom w.memory.latch w.memory.ram) (sym (ap (λ (x : Seen). at x.machine.regs x.machine.regs.p) view)) in
-    subst (IsWhole q v) view
-    (plain-whole cpu w v n taken q phase awake (long ∙ ap cycles_of same) (sym (ap (λ o. is_plain (kind_of o)) same) ∙ plain) quiet some
-    (subst₂ (Did cpu w taken q v) same is_chip did))
+    let wires = wired cpu w v taken q opcode plain did in
+    subst (λ x. Works n x (seen_of q v)) view
+    (record {
+      moved = λ p quiet. whole cpu w v taken q opcode plain did p n phase rests same long quiet some;
+      cycle = ap (λ (x : Wires). x.video.cycles) wires;
+      on = ap (λ (x : Wires). x.video.on) wires;
+      awake = awake cpu w v taken q opcode plain did;
+      phase = ap (λ (x : Processor). x.phase) did.0 ∙ sym phase;
+      pictures = ap (λ (x : Wires). x.video.pictures) wires;
+    })

@@ -1,5 +1,5 @@
 -- DMA cycles one after another.
-use Rattle.std.proofs.Common.{◌≡◌, ℕ, zero, suc, ◌+◌, ◌%◌, ◌<◌, ◌≤◌, true, false, refl, sym, ap, ◌∙◌, arith, add-one}
+use Rattle.std.proofs.Common.{◌≡◌, ℕ, zero, suc, ◌+◌, ◌%◌, ◌<◌, ◌≤◌, List, [], ◌∷◌, true, refl, sym, ap, ◌∙◌, subst, arith}
 use Rattle.std.proofs.Math.Bool.{◌&&◌}
 use Rattle.std.specs.Prelude.{Some}
 use Rattle.std.proofs.lemmas.Bool.Decides.{nat_tests}
@@ -7,20 +7,17 @@ use Rattle.machine.specs.Board.{Machine, case_of, dma_byte}
 use Rattle.machine.specs.Board.Case.{Dma as DmaCase, Instruction as InstructionCase}
 use Rattle.machine.specs.Signals.{line_cycles, int_at, dma_at}
 use Rattle.machine.proofs.Moves.{case_dma, move_in}
+use Rattle.vip_cpu.specs.Cycle.{Processor}
 use Rattle.vip_cpu.specs.declared.cpu.Phase.TheVariants.{Boundary}
-use Rattle.vip_cpu.specs.declared.cpu.Did.TheVariants.{Dma}
-use Rattle.vip_board.specs.Seen.{Seen, cycle_of, cycled, held_by}
-use Rattle.vip_board.specs.Moves.{moved, moved_by, Aside}
-use Rattle.vip_board.proofs.Cases.{at_rest, rests, dma-move, moved-in}
+use Rattle.vip_board.specs.Seen.{Seen, held_by}
+use Rattle.vip_board.specs.Moves.{moved, moved_by, taken_by, dma_bytes, Aside}
+use Rattle.vip_board.specs.Wired.{seen_of}
+use Rattle.vip_board.specs.declared.wires.Wires.{Wires}
+use Rattle.vip_board.proofs.Cases.{moved-rests, moved-in}
 use Rattle.vip_board.proofs.Shown.{case-is}
-use Rattle.vip_video.specs.Chip.{Pictures, drawn}
+use Rattle.vip_video.specs.Chip.{Chip, Pictures, drawn, scanned, ended, ended_with}
 use Rattle.vip_video.proofs.Quiet.{passes}
-
--- a DMA cycle is a whole move
-pub dma-cycled : (s : Seen) → s.phase ≡ Boundary → dma_at s.machine.cycle s.machine.on ≡ true → cycled s ≡ moved s
-dma-cycled s h d =
-    let did : (cycle_of (at_rest s)).did ≡ Dma (dma_byte s.rom s.machine) = rw d in
-    (dma-move s (dma_byte s.rom s.machine) h (ap (λ x. (cycle_of x).did) (rests s h) ∙ did)).whole
+use Rattle.vip_video.proofs.Scan.{ended_with-more}
 
 -- where the board stands after so many of them
 pub record Along (s : Seen) (n : ℕ) : Type 0 where
@@ -50,27 +47,49 @@ module _ (s : Seen) (count : ℕ) (dma : (k : ℕ) → k < count → dma_at (s.m
   pub case-here : (n : ℕ) → n < count → case_of (moved_by n s).machine ≡ DmaCase
   case-here n l = case_dma (moved_by n s).machine (scans-here n l)
 
--- so many of them are made from s on, and this is the board then
-pub record Ready (s v : Seen) (n : ℕ) : Type 0 where
-  pub phase : v.phase ≡ Boundary
-  pub cycle : v.machine.cycle ≡ s.machine.cycle + n
-  pub int : false ≡ int_at v.machine.cycle v.machine.on
-  pub dma : true ≡ dma_at v.machine.cycle v.machine.on
-  pub next : cycled v ≡ moved_by (n + 1) s
+-- ---- the processor takes all bytes, and then the video chip ends the cycles
 
-pub ready : (s v : Seen) (ahead n : ℕ) → s.phase ≡ Boundary → ((k : ℕ) → k < ahead → int_at (s.machine.cycle + k) s.machine.on ≡ false)
-    → ((k : ℕ) → k < ahead → dma_at (s.machine.cycle + k) s.machine.on ≡ true) → n < ahead → v ≡ moved_by n s → Ready s v n
-ready s v ahead n h int dma l is =
-    let a = along s ahead dma n (omega (arith, l)) in
-    let cycle : v.machine.cycle ≡ s.machine.cycle + n = ap (λ (x : Seen). x.machine.cycle) is ∙ a.cycle in
-    let on : v.machine.on ≡ s.machine.on = ap (λ (x : Seen). x.machine.on) is ∙ a.on in
-    record {
-      phase = ap (λ (x : Seen). x.phase) is ∙ a.phase ∙ h;
-      cycle = cycle;
-      int = sym (ap (λ t. int_at t v.machine.on) cycle ∙ ap (int_at (s.machine.cycle + n)) on ∙ int n l);
-      dma = sym (ap (λ t. dma_at t v.machine.on) cycle ∙ ap (dma_at (s.machine.cycle + n)) on ∙ dma n l);
-      next = ap cycled is ∙ dma-cycled (moved_by n s) (a.phase ∙ h) (scans-here s ahead dma n l) ∙ ap (λ k. moved_by k s) (sym (add-one n));
-    }
+abbrev pub chip_of : Seen → Chip
+chip_of s = record { cycles = s.machine.cycle; on = s.machine.on; cycle_on = s.machine.on; pictures = s.pictures }
+
+abbrev pub with_chip : Seen → Chip → Seen
+with_chip s c = record s { machine = record s.machine { on = c.on; cycle = c.cycles }; pictures = c.pictures }
+
+switches : (bytes : List ℕ) (c : Chip) → c.cycle_on ≡ c.on → (ended_with bytes c).cycle_on ≡ (ended_with bytes c).on
+switches [] c e = e
+switches (byte ∷ bytes) c e = switches bytes (ended (Some byte) c) refl
+
+pub scanned-by : (s : Seen) → s.phase ≡ Boundary → (count : ℕ) → ((k : ℕ) → k < count → dma_at (s.machine.cycle + k) s.machine.on ≡ true) → (n : ℕ)
+    → n ≤ count → with_chip (taken_by n s) (ended_with (dma_bytes n s) (chip_of s)) ≡ moved_by n s
+scanned-by s h count dma zero l = refl
+scanned-by s h count dma (suc n) l =
+    let c = ended_with (dma_bytes n s) (chip_of s) in
+    let u = with_chip (taken_by n s) c in
+    let before = scanned-by s h count dma n (omega (arith, l)) in
+    let case : case_of u.machine ≡ DmaCase = ap (λ (x : Seen). case_of x.machine) before ∙ case-here s count dma n (omega (arith, l)) in
+    let byte = dma_byte s.rom (taken_by n s).machine in
+    let v = taken_by (suc n) s in
+    ap (with_chip v) (ended_with-more (dma_bytes n s) byte (chip_of s))
+    ∙ ap (λ on. with_chip v (record (ended (Some byte) c) { pictures = scanned c.cycles on (Some byte) c.pictures })) (switches (dma_bytes n s) (chip_of s) refl)
+    ∙ ap (λ p. record (with_chip v (record (ended (Some byte) c) { pictures = scanned c.cycles c.on (Some byte) c.pictures })) { phase = p }) h
+    ∙ sym (moved-in s.rom s.script u.machine u.pictures DmaCase case)
+    ∙ moved-rests u h
+    ∙ ap moved before
+
+-- the same of a board by its parts, of which the processor has taken the bytes
+module _ (cpu : Processor) (w : Wires) (chip : Chip) (s : Seen) (n : ℕ) (bytes : List ℕ) (view : seen_of cpu w ≡ taken_by n s) (switch : w.video.cycle_on ≡ w.video.on)
+    (are : bytes ≡ dma_bytes n s) (ends : chip ≡ ended_with bytes w.video) where
+  pub scan-switch : chip.cycle_on ≡ chip.on
+  scan-switch = subst (λ (x : Chip). x.cycle_on ≡ x.on) (sym ends) (switches bytes w.video switch)
+
+  pub scan-moved : s.phase ≡ Boundary → ((k : ℕ) → k < n → dma_at (s.machine.cycle + k) s.machine.on ≡ true) → seen_of cpu (record w { video = chip }) ≡ moved_by n s
+  scan-moved h dma =
+      ap (λ x. with_chip x chip) view
+      ∙ ap (with_chip (taken_by n s)) ends
+      ∙ ap (λ x. with_chip (taken_by n s) (ended_with bytes (record w.video { cycle_on = x }))) switch
+      ∙ ap (λ x. with_chip (taken_by n s) (ended_with bytes (chip_of x))) view
+      ∙ ap (λ x. with_chip (taken_by n s) (ended_with x (chip_of s))) are
+      ∙ scanned-by s h n dma n (omega arith)
 
 -- no window ends in one
 pub same-count : (s : Seen) → case_of s.machine ≡ DmaCase → (moved s).pictures.count ≡ s.pictures.count

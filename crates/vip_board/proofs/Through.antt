@@ -8,11 +8,11 @@ use Rattle.machine.proofs.Moves.{case_idle}
 use Rattle.machine.proofs.Runs.{cycle-move, later-move}
 use Rattle.vip_cpu.specs.Cycle.{Processor}
 use Rattle.vip_cpu.specs.declared.cpu.Phase.TheVariants.{Boundary}
-use Rattle.vip_video.specs.Chip.{Chip, scanned}
+use Rattle.vip_video.specs.Chip.{Chip, Pictures, scanned}
 use Rattle.vip_video.specs.Quiet.{IsQuiet}
 use Rattle.vip_video.proofs.Quiet.{no-dma, no-int}
 use Rattle.vip_board.specs.Seen.{Seen, held_by}
-use Rattle.vip_board.specs.Moves.{moved, moved_by, Aside, Passes, Made}
+use Rattle.vip_board.specs.Moves.{moved, moved_by, later, Aside, StandsAt, Passes, Made, Works, Worked}
 use Rattle.vip_board.specs.Wired.{seen_of}
 use Rattle.vip_board.specs.declared.wires.Wires.{Wires}
 use Rattle.vip_board.proofs.Cases.{rests, moved-in}
@@ -25,10 +25,6 @@ never false e = refl
 
 idles : (b : Machine) (before : Bool) → b.regs.idle ≡ true → IsQuiet b.on before b.cycle → case_of b ≡ IdleCase
 idles b before idle q = case_idle b (no-dma b.cycle b.on before q) (never b.regs.ie (no-int b.cycle b.on before q)) idle
-
--- so many cycles later
-abbrev pub later : Seen → ℕ → Seen
-later s n = record s { machine = record s.machine { cycle = s.machine.cycle + n } }
 
 idle_moved : (s : Seen) (before : Bool) → s.phase ≡ Boundary → s.machine.regs.idle ≡ true → IsQuiet s.machine.on before s.machine.cycle → moved s ≡ later s 1
 idle_moved s before h idle q =
@@ -174,3 +170,68 @@ one-made limit stops s v is in_time =
   where
     not_above : (n limit : ℕ) → (limit < n → ⊥) → n ≤ limit
     not_above n limit h = grind arith
+
+-- ---- instructions whose cycles aren't counted yet
+
+module _ (most : ℕ) (stops : ℕ × ℕ) (entry v w : Seen) (n passed length : ℕ) (worked : Worked most stops entry v n passed) (here : 0 < n → Passes stops entry (later v passed))
+    (works : Works length v w) (quiet : (k : ℕ) → k < most → IsQuiet entry.machine.on entry.machine.on (entry.machine.cycle + k)) (few : passed + length ≤ most) (some : 0 < length) where
+  here_quiet : (k : ℕ) → k < length → IsQuiet v.machine.on v.machine.on (v.machine.cycle + passed + k)
+  here_quiet k l =
+      let at_cycle : entry.machine.cycle + (passed + k) ≡ v.machine.cycle + passed + k = omega (arith, worked.cycle) in
+      subst (λ on. IsQuiet on on (v.machine.cycle + passed + k)) (sym worked.on)
+      (subst (IsQuiet entry.machine.on entry.machine.on) at_cycle (quiet (passed + k) (omega (arith, l, few))))
+
+  pub worked-more : Worked most stops entry w (n + 1) (passed + length)
+  worked-more =
+      record {
+        made =
+            one-more (entry.machine.cycle + most) stops entry (later v passed) (later w (passed + length)) n worked.made here
+            (works.moved passed here_quiet) (omega (arith, works.cycle, worked.cycle, few));
+        each = omega (arith, worked.each, some);
+        few = few;
+        cycle = works.cycle ∙ worked.cycle;
+        on = works.on ∙ worked.on;
+      }
+
+  pub passes-more : (StandsAt stops w.machine → ⊥) → Passes stops entry (later w (passed + length))
+  passes-more apart =
+      record {
+        count =
+            ap (λ (p : Pictures). p.count) works.pictures
+            ∙ same-count (entry.machine.cycle + most) stops entry (later v passed) n worked.made here;
+        apart = λ starts stands. apart stands;
+      }
+
+pub none-worked : (most : ℕ) (stops : ℕ × ℕ) (entry : Seen) → Worked most stops entry entry 0 0
+none-worked most stops entry =
+    record {
+      made =
+          record {
+            moves = later-none entry;
+            passes = λ k some below. absurd (omega (arith, below));
+            within = λ some. absurd (omega (arith, some));
+          };
+      each = omega arith;
+      few = omega arith;
+      cycle = refl;
+      on = refl;
+    }
+  where
+    later-none : (s : Seen) → later s 0 ≡ s
+    later-none s = let same : s.machine.cycle + 0 ≡ s.machine.cycle = omega arith in ap (λ t. record s { machine = record s.machine { cycle = t } }) same
+
+-- where the cycles are counted
+pub worked-counted : (most limit : ℕ) (stops : ℕ × ℕ) (entry v : Seen) (n passed : ℕ) → Worked most stops entry v n passed → (0 < most → entry.machine.cycle + most ≤ limit)
+    → Made limit stops entry (later v passed) n
+worked-counted most limit stops entry v n passed worked within =
+    record {
+      moves = worked.made.moves;
+      passes = worked.made.passes;
+      within = λ some. in_time some (cases_lt 0 most);
+    }
+  where
+    in_time : 0 < n → (0 < most) ⊎ (most ≤ 0) → v.machine.cycle + passed ≤ limit
+    in_time some (inl l) = omega (arith, worked.made.within some, within l)
+    in_time some (inr l) =
+        let late = later-by n entry in
+        absurd (omega (arith, ap (λ (x : Seen). x.machine.cycle) worked.made.moves, worked.made.within some, late, some, l))

@@ -1,9 +1,10 @@
 -- How a move is named, what it makes of the board, and what an answer says.
-use Rattle.std.specs.Prelude.{◌≡◌, ◌⊎◌, ◌<◌, ◌≤◌, ℕ, zero, suc, ◌+◌, Bool, List, Option, Some, None}
-use Rattle.machine.specs.Instruction.{at}
+use Rattle.std.specs.Prelude.{◌≡◌, ◌⊎◌, ◌<◌, ◌≤◌, ℕ, zero, suc, ◌+◌, Bool, List, [], ◌∷◌, ◌++◌, Option, Some, None}
+use Rattle.machine.specs.Instruction.{Regs, at, after_dma}
 use Rattle.machine.specs.Board.{Machine, Case, case_of, length_of, dma_byte, move}
 use Rattle.machine.specs.Board.Case.{Dma as DmaCase, Interrupt as InterruptCase, Idle as IdleCase, Instruction as InstructionCase}
 use Rattle.vip_video.specs.Chip.{Pictures, scanned}
+use Rattle.vip_video.specs.Quiet.{IsQuiet}
 use Rattle.vip_board.specs.Seen.{Seen, held_by}
 use Rattle.vip_board.specs.declared.board.Move.{Move}
 use Rattle.vip_board.specs.declared.board.Move.TheVariants.{Dma, Interrupt, Idle, Instruction}
@@ -62,12 +63,46 @@ pub record Passes (stops : ℕ × ℕ) (s v : Seen) : Type 0 where
   pub count : v.pictures.count ≡ s.pictures.count
   pub apart : StartsInstruction v.machine → StandsAt stops v.machine → ⊥
 
+-- the processor's part of so many DMA cycles, and the bytes that they put on the bus
+abbrev pub dma_regs : ℕ → Regs → Regs
+dma_regs zero r = r
+dma_regs (suc n) r = after_dma (dma_regs n r)
+
+abbrev pub taken_by : ℕ → Seen → Seen
+taken_by n s = record s { machine = record s.machine { regs = dma_regs n s.machine.regs } }
+
+abbrev pub dma_bytes : ℕ → Seen → List ℕ
+dma_bytes zero s = []
+dma_bytes (suc n) s = dma_bytes n s ++ dma_byte s.rom (taken_by n s).machine ∷ []
+
+-- so many cycles later
+abbrev pub later : Seen → ℕ → Seen
+later s n = record s { machine = record s.machine { cycle = s.machine.cycle + n } }
+
+-- From board s to v an instruction of n cycles is made, but for their count: it is the next move also where cycles before it aren't counted yet, if
+-- the video chip has nothing to do in its cycles but count.
+pub record Works (n : ℕ) (s v : Seen) : Type 0 where
+  pub moved : (p : ℕ) → ((k : ℕ) → k < n → IsQuiet s.machine.on s.machine.on (s.machine.cycle + p + k)) → later v (p + n) ≡ moved (later s p)
+  pub cycle : v.machine.cycle ≡ s.machine.cycle
+  pub on : v.machine.on ≡ s.machine.on
+  pub awake : v.machine.regs.idle ≡ s.machine.regs.idle
+  pub phase : v.phase ≡ s.phase
+  pub pictures : v.pictures ≡ s.pictures
+
 -- From an entry on so many moves are made, behind none of which but the last one the board has to be looked at. The last one ends at or
 -- before cycle `limit`.
 pub record Made (limit : ℕ) (stops : ℕ × ℕ) (entry v : Seen) (n : ℕ) : Type 0 where
   pub moves : v ≡ moved_by n entry
   pub passes : (k : ℕ) → 0 < k → k < n → Passes stops entry (moved_by k entry)
   pub within : 0 < n → v.machine.cycle ≤ limit
+
+-- The same of instructions with so many cycles, at most `most`, which aren't counted yet.
+pub record Worked (most : ℕ) (stops : ℕ × ℕ) (entry v : Seen) (n passed : ℕ) : Type 0 where
+  pub made : Made (entry.machine.cycle + most) stops entry (later v passed) n
+  pub each : n ≤ passed
+  pub few : passed ≤ most
+  pub cycle : v.machine.cycle ≡ entry.machine.cycle
+  pub on : v.machine.on ≡ entry.machine.on
 
 abbrev pub IfDone : Moved → (Move → Type 0) → Type 0
 IfDone (Done m) P = P m

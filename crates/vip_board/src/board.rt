@@ -1,9 +1,10 @@
 //! The board.
 
-ghost use Rattle.std.specs.Prelude.{◌≡◌, ◌+◌, ◌-◌, ◌≤◌, ◌<◌, ◌^◌, ◌↔◌, ℕ, true, false, [], IsTrue, IfOk, length};
+ghost use Rattle.std.specs.Prelude.{◌≡◌, ◌+◌, ◌-◌, ◌≤◌, ◌<◌, ◌^◌, ◌↔◌, ℕ, true, false, [], IsTrue, IfOk, length, take};
 ghost use Rattle.machine.specs.Instruction.{at};
 ghost use Rattle.machine.specs.Ranges.{FitsMachine, FitsRom};
 ghost use Rattle.machine.specs.Signals.{int_at, dma_at};
+ghost use Rattle.vip_video.specs.Quiet.{IsQuiet};
 ghost use Rattle.vip_board.specs.Shown.{Shows, ShowsSince, CarriesOn};
 ghost use Rattle.vip_board.specs.Seen.{byte_in};
 
@@ -236,7 +237,7 @@ impl Board {
 
 impl Board {
     ghost use Rattle.machine.specs.Board.{length_of};
-    ghost use Rattle.vip_board.specs.Moves.{name_of, moved, moved_by, IfDone, StartsInstruction, Aside, StandsAt, Made};
+    ghost use Rattle.vip_board.specs.Moves.{name_of, moved, moved_by, IfDone, StartsInstruction, Aside, StandsAt, Made, Works, Worked, taken_by, dma_bytes};
 
     /// Whether the next move is an instruction. The board is at a boundary.
     pub fn next_is_instruction(&self) -> bool
@@ -331,45 +332,68 @@ impl Board {
         Moved::Done(self.make(requests, length))
     }
 
-    /// Makes the next move where it is an instruction that tests no flag and uses no port, cycle `last` isn't past yet, and the video chip is
-    /// known to have nothing to do in its cycles but count. Answers whether it did. The board is at a boundary, before and after.
+    /// Makes the next move where it is an instruction that tests no flag and uses no port and takes at most `left` machine cycles, but for
+    /// the count of these cycles. Answers how many they are, or 0 where it isn't made. The board is at a boundary, before and after, and
+    /// `address` is that of the next opcode.
     #[inline(always)]
-    fn instruct(&mut self, last: u64) -> bool
-        requires { self.old.phase ≡ Phase.Boundary }
-        ensures moved { IsTrue result → self.new ≡ moved self.old }
-        ensures pictures { IsTrue result → self.new.pictures.count ≡ self.old.pictures.count }
-        ensures within { IsTrue result → self.new.machine.cycle ≤ last + 3 }
-        ensures kept { result ≡ false → self.new ≡ self.old }
+    fn instruct(&mut self, address: u16, left: u64) -> u64
+        requires boundary { self.old.phase ≡ Phase.Boundary }
+        requires awake { self.old.machine.regs.idle ≡ false }
+        requires address { address ≡ at self.old.machine.regs self.old.machine.regs.p }
+        ensures worked { 0 < result → Works result self.old self.new }
+        ensures few { result ≤ left }
+        ensures kept { result ≡ 0 → self.new ≡ self.old }
     {
-        if self.cpu.idle() || self.now() > last {
-            return false;
-        }
-        let opcode = self.wires.read(self.counter());
-        let length = plain_cycles(opcode);
-        if length == 0 || !self.wires.video.pass(u64::from(length)) {
-            return false;
+        let opcode = self.wires.read(address);
+        let length = u64::from(plain_cycles(opcode));
+        if length == 0 || length > left {
+            return 0;
         }
         self.cpu.instruct(&mut self.wires, opcode);
-        true
+        length
     }
 
-    /// Makes instructions one after another as `instruct` does, up to cycle `limit` and up to the first one behind which the next opcode
-    /// has one of two addresses. Answers how many.
+    /// Makes instructions one after another as `instruct` does, up to the first one behind which the next opcode has one of two
+    /// addresses, and as long as their cycles are at most `most`. Answers how many, and their cycles, which the video chip is still to count.
     #[inline(never)]
+    fn work(&mut self, most: u64, stops: (u16, u16)) -> (u64, u64)
+        requires boundary { self.old.phase ≡ Phase.Boundary }
+        requires awake { self.old.machine.regs.idle ≡ false }
+        requires quiet { (k : ℕ) → k < most → IsQuiet self.old.machine.on self.old.machine.on (self.old.machine.cycle + k) }
+        ensures { Worked most stops self.old self.new result.0 result.1 }
+    {
+        let mut made = 0;
+        let mut passed = 0;
+        let mut address = self.counter();
+        loop {
+            let length = self.instruct(address, most - passed);
+            if length == 0 {
+                break;
+            }
+            made += 1;
+            passed += length;
+            address = self.counter();
+            if address == stops.0 || address == stops.1 {
+                break;
+            }
+        }
+        (made, passed)
+    }
+
+    /// Makes instructions that come next, as far as they end at or before cycle `limit` and the video chip is known to have nothing to do in
+    /// their cycles but count, up to the first one behind which the next opcode has one of two addresses. Answers how many.
+    #[inline(always)]
     fn instructions(&mut self, limit: u64, stops: (u16, u16)) -> u64
         requires { self.old.phase ≡ Phase.Boundary }
         ensures { Made limit stops self.old self.new result }
     {
-        let Some(last) = limit.checked_sub(3) else {
+        if self.cpu.idle() {
             return 0;
-        };
-        let mut made = 0;
-        while self.instruct(last) {
-            made += 1;
-            if self.stands_at(stops) {
-                break;
-            }
         }
+        let ahead = self.wires.video.quiet_ahead();
+        let most = ahead.min(limit.saturating_sub(self.now()));
+        let (made, passed) = self.work(most, stops);
+        self.wires.video.pass(passed);
         made
     }
 
@@ -390,11 +414,26 @@ impl Board {
             .video
             .quiet_ahead()
             .min(limit.saturating_sub(self.now()));
-        if self.wires.video.pass(count) {
-            count
-        } else {
-            0
+        self.wires.video.pass(count);
+        count
+    }
+
+    /// Makes the processor's part of so many DMA cycles, and answers their bytes, followed by 00.
+    #[inline(always)]
+    fn take_bytes(&mut self, count: usize) -> [u8; 8]
+        requires boundary { self.old.phase ≡ Phase.Boundary }
+        requires few { count ≤ 8 }
+        ensures board { self.new ≡ taken_by count self.old }
+        ensures bytes { take count result ≡ dma_bytes count self.old }
+        ensures size { length result ≡ 8 }
+    {
+        let mut bytes = [0; 8];
+        for k in 0..count {
+            if let Did::Dma(byte) = self.cpu.begin(&self.wires, true, false) {
+                bytes[k] = byte;
+            }
         }
+        bytes
     }
 
     /// Makes the DMA cycles that come next in the raster line, as far as they end at or before cycle `limit`, and answers how many.
@@ -405,14 +444,13 @@ impl Board {
         ensures aside { Aside result self.old }
         ensures within { 0 < result → self.new.machine.cycle ≤ limit }
     {
-        let ahead = self.wires.video.dma_ahead();
+        let ahead = self.wires.video.dma_ahead().min(8);
         let count = ahead.min(limit.saturating_sub(self.now()));
-        for _cycle in 0..count {
-            self.begin(Requests {
-                int: false,
-                dma: true,
-            });
+        if count == 0 {
+            return 0;
         }
+        let bytes = self.take_bytes(count as usize);
+        self.wires.video.scan(&bytes[..count as usize]);
         count
     }
 

@@ -1,3 +1,4 @@
 pub mod Lines
 pub mod Room
 pub mod Quiet
+pub mod Scan

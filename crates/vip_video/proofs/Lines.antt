@@ -1,7 +1,6 @@
--- The lines of a buffer: what is read off them, and what one more byte makes of them.
-use Rattle.std.proofs.Common.{◌≡◌, ◌+◌, ◌-◌, ◌<◌, ◌≤◌, ℕ, zero, suc, List, [], ◌∷◌, ◌++◌, length, get_or, set, take, map, replicate, ap, sym, ◌∙◌, refl, arith, add-one, append_assoc, length-append, lit≤}
-use Rattle.std.proofs.Math.Seq.{take-suc-set}
-use Rattle.std.proofs.lemmas.List.{length-replicate, length-take, length-take-le, set-append_right}
+-- The lines of a buffer: what is read off them, and what more bytes make of them.
+use Rattle.std.proofs.Common.{◌≡◌, ◌+◌, ◌-◌, ◌<◌, ◌≤◌, ℕ, zero, suc, List, [], ◌∷◌, ◌++◌, length, get_or, set, take, map, replicate, ap, sym, ◌∙◌, refl, arith, append_assoc, length-append, lit≤}
+use Rattle.std.proofs.lemmas.List.{length-replicate, length-take, length-take-le, set-append_right, take_at, take_more}
 use Rattle.machine.specs.Pictures.{filled}
 use Rattle.vip_video.specs.Chip.{blank}
 use Rattle.vip_video.specs.Lines.{so_far, AreFilled}
@@ -61,22 +60,24 @@ filled-push bs b h =
     let left : 8 - length bs ≡ suc (8 - length (bs ++ b ∷ [])) = omega (arith, length-append bs (b ∷ [])) in
     ap (λ m. set (bs ++ replicate m 0) (length bs) b) left ∙ rest-push bs b (8 - length (bs ++ b ∷ []))
 
-pub taken-push : (l : List ℕ) (n b : ℕ) → FilledAt l n → n < 8 → take (n + 1) (set l n b) ≡ take n l ++ b ∷ []
-taken-push l n b f h =
-    let long : n < length l = omega (arith, eight l n f) in
-    ap (λ m. take m (set l n b)) (add-one n) ∙ take-suc-set l n b long
+-- more bytes, so many of which are written
+pub fill-more : (first bytes : List ℕ) (k : ℕ) → k < length bytes → length first + length bytes ≤ 8
+    → set (filled (first ++ take k bytes)) (length first + k) (get_or bytes k 0) ≡ filled (first ++ take (k + 1) bytes)
+fill-more first bytes k h room =
+    let b = get_or bytes k 0 in
+    let size : length (first ++ take k bytes) ≡ length first + k = omega (arith, length-append first (take k bytes), length-take-le k bytes (omega (arith, h))) in
+    ap (λ m. set (filled (first ++ take k bytes)) m b) (sym size)
+    ∙ filled-push (first ++ take k bytes) b (omega arith)
+    ∙ ap filled (append_assoc first (take k bytes) (b ∷ []) ∙ ap (λ x. first ++ x) (sym (take_more bytes k 0 h)))
 
-pub line-push : (l : List ℕ) (n b : ℕ) → FilledAt l n → n < 8 → FilledAt (set l n b) (n + 1)
-line-push l n b f h =
-    let size : length (take n l) ≡ n = length-take-le n l (omega (arith, eight l n f)) in
-    record {
-      most = omega arith;
-      is =
-          ap (λ m. set m n b) f.is
-          ∙ ap (λ m. set (filled (take n l)) m b) (sym size)
-          ∙ filled-push (take n l) b (omega arith)
-          ∙ ap filled (sym (taken-push l n b f h));
-    }
+pub taken-filled : (bs : List ℕ) (n : ℕ) → length bs ≡ n → take n (filled bs) ≡ bs
+taken-filled bs n e = take_at bs (replicate (8 - length bs) 0) n e
+
+-- what is made of an element that was just set
+pub set-again : {A : Type 0} (xs : List A) (i : ℕ) (x d : A) (f : A → A) → set (set xs i x) i (f (get_or (set xs i x) i d)) ≡ set xs i (f x)
+set-again [] i x d f = refl
+set-again (y ∷ xs) zero x d f = refl
+set-again (y ∷ xs) (suc i) x d f = ap (λ l. y ∷ l) (set-again xs i x d f)
 
 pub blank-filled : (n : ℕ) → AreFilled (replicate n (replicate 8 0)) (replicate n 0)
 blank-filled zero = tt

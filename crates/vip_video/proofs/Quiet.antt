@@ -9,7 +9,7 @@ use Rattle.vip_video.specs.Kept.{HasRoom}
 use Rattle.vip_video.specs.Quiet.{HasNothing, IsQuiet, AreQuiet}
 use Rattle.vip_video.proofs.Room.{room-passed}
 
-and-true : (x : Bool) → (x && true) ≡ x
+pub and-true : (x : Bool) → (x && true) ≡ x
 and-true true = refl
 and-true false = refl
 

@@ -4,7 +4,7 @@ use Rattle.std.specs.Prelude.{Option, Some, None, ◌&&◌, IsSome}
 use Rattle.std.proofs.lemmas.Bool.Decides.{nat_tests}
 use Rattle.machine.specs.Signals.{line_cycles, window_line, window_end_line, line_of, dma_at}
 use Rattle.machine.specs.Pictures.{frame}
-use Rattle.vip_video.specs.Chip.{Pictures, blank, begins_frame, follows_window, with_byte, drawn, passed, framed, finished}
+use Rattle.vip_video.specs.Chip.{Pictures, blank, begins_frame, follows_window, with_bytes, with_byte, drawn, passed, framed, finished}
 use Rattle.vip_video.specs.Kept.{HasRoom}
 use Rattle.vip_video.proofs.Lines.{blank-at}
 
@@ -13,9 +13,10 @@ pub record IsDmaPlace (t : ℕ) : Type 0 where
   pub from : window_line ≤ line_of t
   pub to : line_of t < window_end_line
   pub column : 2 ≤ t % line_cycles
+  pub before : t % line_cycles < 10
 
 pub dma-place : (t : ℕ) (on : Bool) → dma_at t on ≡ true → IsDmaPlace t
-dma-place t on h = record { from = grind (arith, nat_tests, h); to = grind (arith, nat_tests, h); column = grind (arith, nat_tests, h) }
+dma-place t on h = record { from = grind (arith, nat_tests, h); to = grind (arith, nat_tests, h); column = grind (arith, nat_tests, h); before = grind (arith, nat_tests, h) }
 
 same_or_not : (k n : ℕ) → (k ≡ n) ⊎ (k ≢ n)
 same_or_not k n = grind arith
@@ -33,16 +34,13 @@ count lines k = length (get_or lines k [])
 abbrev after : ℕ → Option ℕ → List (List ℕ) → List (List ℕ)
 after t byte lines = with_byte (line_of t - window_line) byte lines
 
-bytes_after : (t k : ℕ) (lines : List (List ℕ)) (b : ℕ) → (k ≡ line_of t - window_line → ⊥) → count (after t (Some b) lines) k ≡ count lines k
-bytes_after t k lines b h = ap length (get_or-set_other lines (line_of t - window_line) k (get_or lines (line_of t - window_line) [] ++ b ∷ []) [] h)
+pub bytes_other : (line k : ℕ) (bs : List ℕ) (lines : List (List ℕ)) → k ≢ line → count (with_bytes line bs lines) k ≡ count lines k
+bytes_other line k bs lines h = ap length (get_or-set_other lines line k (get_or lines line [] ++ bs) [] h)
 
-at_same : (lines : List (List ℕ)) (k b : ℕ) → length (get_or (set lines k (get_or lines k [] ++ b ∷ [])) k []) ≤ length (get_or lines k []) + 1
-at_same lines k b = omega (arith, at-set lines k (get_or lines k [] ++ b ∷ []), length-append (get_or lines k []) (b ∷ []))
-
-byte_more : (t k : ℕ) (lines : List (List ℕ)) (b : ℕ) → k ≡ line_of t - window_line → count (after t (Some b) lines) k ≤ count lines k + 1
-byte_more t k lines b e =
-    let P : ℕ → Type 0 = λ n. length (get_or (with_byte n (Some b) lines) k []) ≤ length (get_or lines k []) + 1 in
-    subst P e (at_same lines k b)
+pub bytes_more : (line k : ℕ) (bs : List ℕ) (lines : List (List ℕ)) → k ≡ line → count (with_bytes line bs lines) k ≤ count lines k + length bs
+bytes_more line k bs lines e =
+    let P : ℕ → Type 0 = λ n. count (with_bytes n bs lines) k ≤ count lines k + length bs in
+    subst P e (omega (arith, at-set lines k (get_or lines k [] ++ bs), length-append (get_or lines k []) bs))
 
 -- cycle t + 1 lies in the same line as t, or in the next one of the frame
 module _ (t : ℕ) (lines : List (List ℕ)) (r : HasRoom t lines) (on : line_of t ≤ line_of (t + 1)) where
@@ -50,7 +48,7 @@ module _ (t : ℕ) (lines : List (List ℕ)) (r : HasRoom t lines) (on : line_of
   later_after None w k l = r.later k (omega arith)
   later_after (Some b) w k l =
       let f = w refl in
-      bytes_after t k lines b (λ e. omega (arith, f.from)) ∙ r.later k (omega arith)
+      bytes_other (line_of t - window_line) k (b ∷ []) lines (λ e. omega (arith, f.from)) ∙ r.later k (omega arith)
 
   present_after : (byte : Option ℕ) → (IsSome byte → IsDmaPlace t) → (k : ℕ) → line_of (t + 1) ≡ window_line + k → count (after t byte lines) k ≤ (t + 1) % line_cycles - 2
   present_after None w k e =
@@ -58,8 +56,8 @@ module _ (t : ℕ) (lines : List (List ℕ)) (r : HasRoom t lines) (on : line_of
   present_after (Some b) w k e =
       let f = w refl in
       elim (same_or_not (line_of t) (window_line + k)) [
-        | inl s ↦ omega (arith, r.present k s, byte_more t k lines b (omega arith), f.column)
-        | inr n ↦ omega (arith, r.later k (omega arith), bytes_after t k lines b (λ q. omega (arith, f.from)))
+        | inl s ↦ omega (arith, r.present k s, bytes_more (line_of t - window_line) k (b ∷ []) lines (omega arith), f.column)
+        | inr n ↦ omega (arith, r.later k (omega arith), bytes_other (line_of t - window_line) k (b ∷ []) lines (λ q. omega (arith, f.from)))
       ]
 
 pub room-drawn : (t : ℕ) (on : Bool) (byte : Option ℕ) (p : Pictures) → HasRoom t p.lines → (IsSome byte → IsDmaPlace t) → line_of t ≤ line_of (t + 1)

@@ -1,8 +1,8 @@
 //! Pictures, and the buffer in which one is drawn.
 
-ghost use Rattle.std.specs.Prelude.{◌≡◌, ◌<◌, ◌++◌, ◌∷◌, [], length, map, replicate, slice_index_or, slice_set, IfSome};
+ghost use Rattle.std.specs.Prelude.{◌≡◌, ◌+◌, ◌≤◌, ◌<◌, ◌++◌, ℕ, List, [], length, map, replicate, slice_index_or, slice_set, IfSome};
 ghost use Rattle.machine.specs.Pictures.{filled};
-ghost use Rattle.vip_video.specs.Chip.{blank, with_byte};
+ghost use Rattle.vip_video.specs.Chip.{blank, with_bytes, with_byte};
 
 use std::marker::Model;
 
@@ -19,6 +19,18 @@ impl Picture {
     {
         Picture {
             lines: [[0; 8]; 128],
+        }
+    }
+
+    /// Writes bytes into a line, 0 to 127, behind those that come first in it, of which there are so many.
+    #[inline(always)]
+    fn write(&mut self, line: usize, place: usize, bytes: &[u8])
+        requires line { line < 128 }
+        requires room { place + length bytes.now ≤ 8 }
+        ensures { (first : List ℕ) → length first ≡ place → slice_index_or self.old.lines line [] ≡ filled first → self.new.lines ≡ slice_set self.old.lines line (filled (first ++ bytes.now)) }
+    {
+        for (k, byte) in bytes.iter().enumerate() {
+            self.lines[line][place + k] = *byte;
         }
     }
 }
@@ -67,21 +79,21 @@ impl FrameBuffer {
         ensures { self.new ≡ with_byte line byte self.old }
     {
         if let Some(byte) = byte {
-            self.push(line, byte);
+            self.extend(line, &[byte]);
         }
     }
 
-    /// Adds a byte to a line, 0 to 127, that has fewer than eight.
+    /// Adds bytes to a line, 0 to 127, that has at most eight with them.
     #[inline(always)]
-    pub fn push(&mut self, line: u16, byte: u8)
+    pub fn extend(&mut self, line: u16, bytes: &[u8])
         requires line { line < 128 }
-        requires room { length (slice_index_or self.old line []) < 8 }
-        ensures { self.new ≡ slice_set self.old line (slice_index_or self.old line [] ++ byte ∷ []) }
+        requires room { length (slice_index_or self.old line []) + length bytes.now ≤ 8 }
+        ensures { self.new ≡ with_bytes line bytes.now self.old }
     {
         let line = line as usize;
         let place = self.lengths[line];
-        self.picture.lines[line][place as usize] = byte;
-        self.lengths[line] = place + 1;
+        self.picture.write(line, place as usize, bytes);
+        self.lengths[line] = place + bytes.len() as u8;
     }
 
     /// Takes all bytes away.

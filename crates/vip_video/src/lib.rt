@@ -1,7 +1,7 @@
 //! The CDP1861 video chip by machine cycles. The crate stands on `machine` alone, which defines the signals by the number of the machine
-//! cycle. It knows nothing of the board: the caller ends each cycle by `end_cycle`, with the byte that a DMA cycle put on the bus. The layer
-//! above may rely on this: the signals are those of the definitions, and `specs/Chip.antt` says what each call makes of the chip. The
-//! standard is RCA's data sheet of the CDP1861: "Signal Descriptions", "Display".
+//! cycle. It knows nothing of the board: the caller ends each cycle by `end_cycle`, with the byte that a DMA cycle put on the bus, or DMA
+//! cycles one after another by `scan`. The layer above may rely on this: the signals are those of the definitions, and `specs/Chip.antt`
+//! says what each call makes of the chip. The standard is RCA's data sheet of the CDP1861: "Signal Descriptions", "Display".
 //!
 //! ```text
 //!     line    0 ┌──────────────────────────────┐

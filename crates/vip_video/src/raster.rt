@@ -1,10 +1,10 @@
 //! The picture that is drawn and the last one that was finished.
 
-ghost use Rattle.std.specs.Prelude.{◌≡◌, ◌+◌, ◌-◌, ◌%◌, ◌≤◌, ◌<◌, ◌^◌, ◌↔◌, ◌&&◌, ◌||◌, not, ℕ, [], length, slice_index_or, IfSome, IsSome, Some};
+ghost use Rattle.std.specs.Prelude.{◌≡◌, ◌+◌, ◌-◌, ◌%◌, ◌≤◌, ◌<◌, ◌^◌, ◌↔◌, ◌&&◌, ◌||◌, not, ℕ, [], length, slice_index_or, IfSome, IsSome};
 ghost use Rattle.std.specs.Option.{option_map};
 ghost use Rattle.machine.specs.Signals.{line_cycles, window_line, window_end_line, line_of};
 ghost use Rattle.vip_video.specs.Place.{frame_place};
-ghost use Rattle.vip_video.specs.Chip.{needs_display, nothing_yet, with_byte, drawn, passed, framed, finished};
+ghost use Rattle.vip_video.specs.Chip.{needs_display, nothing_yet, with_bytes, drawn, passed, framed, finished};
 
 use crate::buffer::{FrameBuffer, Picture};
 use crate::place::{Place, WINDOW_END_LINE, WINDOW_LINE};
@@ -64,14 +64,14 @@ impl Raster {
             .draw(place.line.saturating_sub(WINDOW_LINE), byte);
     }
 
-    /// Adds the byte of a DMA cycle that is shown to a line of the picture that has fewer than eight.
+    /// Adds the bytes of DMA cycles that are shown to a line of the picture, which has at most eight with them.
     #[inline(always)]
-    pub fn add(&mut self, line: u16, byte: u8)
+    pub fn add_all(&mut self, line: u16, bytes: &[u8])
         requires line { line < 128 }
-        requires room { length (slice_index_or self.old.lines line []) < 8 }
-        ensures { self.new ≡ record self.old { lines = with_byte line (Some byte) self.old.lines } }
+        requires room { length (slice_index_or self.old.lines line []) + length bytes.now ≤ 8 }
+        ensures { self.new ≡ record self.old { lines = with_bytes line bytes.now self.old.lines } }
     {
-        self.buffer.push(line, byte);
+        self.buffer.extend(line, bytes);
     }
 
     /// What the start of a line does: a picture is finished after the window, and the lines begin anew with the frame.

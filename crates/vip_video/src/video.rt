@@ -1,9 +1,9 @@
 //! The video chip.
 
-ghost use Rattle.std.specs.Prelude.{◌≡◌, ◌+◌, ◌<◌, ◌^◌, ◌↔◌, ℕ, true, false, IsSome, IsTrue, Some};
+ghost use Rattle.std.specs.Prelude.{◌≡◌, ◌+◌, ◌<◌, ◌^◌, ◌↔◌, ℕ, length, true, false, IsSome, IsTrue, Some};
 ghost use Rattle.std.specs.Option.{option_map};
 ghost use Rattle.machine.specs.Signals.{int_at, dma_at, efx_at};
-ghost use Rattle.vip_video.specs.Chip.{at_start, at_cycle, ended};
+ghost use Rattle.vip_video.specs.Chip.{at_start, at_cycle, ended, ended_with};
 ghost use Rattle.vip_video.specs.Quiet.{IsQuiet};
 
 use crate::buffer::Picture;
@@ -131,18 +131,18 @@ impl Video {
         self.quiet_to - self.cycles
     }
 
-    /// Ends so many cycles at once where each of them is known to have nothing for the chip to do but count, and answers whether it did.
+    /// Ends so many cycles at once, in each of which the chip has nothing to do but count.
     #[inline(always)]
-    pub fn pass(&mut self, count: u64) -> bool
-        ensures quiet { IsTrue result → (k : ℕ) → k < count → IsQuiet self.old.on self.old.cycle_on (self.old.cycles + k) }
-        ensures passed { IsTrue result → self.new ≡ record self.old { cycles = self.old.cycles + count } }
-        ensures kept { result ≡ false → self.new ≡ self.old }
+    pub fn pass(&mut self, count: u64)
+        requires quiet { (k : ℕ) → k < count → IsQuiet self.old.on self.old.cycle_on (self.old.cycles + k) }
+        requires fits { self.old.cycles + count < 2 ^ 64 }
+        ensures { self.new ≡ record self.old { cycles = self.old.cycles + count } }
     {
-        if self.quiet_to - self.cycles < count {
-            return false;
-        }
         self.cycles += count;
-        true
+        if self.quiet_to < self.cycles {
+            self.quiet_to = self.cycles;
+            self.place = Place::of(self.cycles);
+        }
     }
 
     /// How many DMA cycles the chip requests from the present cycle on, one after another, if the display stays as it is.
@@ -167,23 +167,27 @@ impl Video {
         ensures { self.new ≡ ended byte self.old }
     {
         match byte {
-            Some(byte) if self.cycle_on => self.end_shown(byte),
+            Some(byte) if self.cycle_on => self.scan(&[byte]),
             _ => self.end_any(t, byte),
         }
     }
 
-    /// Ends the present cycle, which requested DMA and has the display on, with the byte that it put on the bus. No line ends with it.
+    /// Ends as many machine cycles as there are bytes, one after another, each of which requests DMA and has the display on, with the
+    /// byte that each put on the bus. They are of one raster line, so at most eight, and the line doesn't end with them.
     #[inline(always)]
-    fn end_shown(&mut self, byte: u8)
-        requires fits { self.old.cycles + 1 < 2 ^ 64 }
-        requires wanted { dma_at self.old.cycles self.old.on ≡ true }
+    pub fn scan(&mut self, bytes: &[u8])
+        requires fits { self.old.cycles + length bytes.now < 2 ^ 64 }
+        requires wanted { (k : ℕ) → k < length bytes.now → dma_at (self.old.cycles + k) self.old.on ≡ true }
         requires shown { self.old.cycle_on ≡ true }
-        ensures { self.new ≡ ended (Some byte) self.old }
+        ensures { self.new ≡ ended_with bytes.now self.old }
     {
-        self.raster.add(self.place.line - WINDOW_LINE, byte);
-        self.cycles += 1;
+        if bytes.is_empty() {
+            return;
+        }
+        self.raster.add_all(self.place.line - WINDOW_LINE, bytes);
+        self.cycles += bytes.len() as u64;
         self.quiet_to = self.cycles;
-        self.place.column += 1;
+        self.place.column += bytes.len() as u8;
     }
 
     /// Ends machine cycle t as `end_cycle` does, whatever it is.
