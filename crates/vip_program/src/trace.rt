@@ -46,8 +46,10 @@ pub fn trace_moves<O: Sink>(
     ensures { TraceAnswers count limit board.old board.new (O.meaning out.old) (O.meaning out.new) result }
 {
     let mut made = 0;
+    // one for all lines, since a new one is filled with 00 each time
+    let mut line = Buffer::new();
     while made < count && goes_on(board, limit) {
-        let mut line = Buffer::new();
+        line.clear();
         made += next_line(board, count - made, limit, &mut line);
         out.put(line.as_slice())?;
     }
