@@ -31,8 +31,8 @@ fn understood<'a>(alloc: Global, words: &'a [String]) -> Result<Request<'a>, Ref
     }
 }
 
-/// Opens what the words ask for: reads the files that they name, in their order, each once, up to the first that is refused, and judges them. All the
-/// memory that is needed is taken here.
+/// Opens what the words ask for: reads the files that they name, in their order, each once, up to the first that is refused, and judges them. Want of
+/// memory is answered here or nowhere.
 pub fn open<'a, F: Files>(
     alloc: Global,
     words: &'a [String],
@@ -44,8 +44,8 @@ pub fn open<'a, F: Files>(
     vip_verbs::open(alloc, &request, files)
 }
 
-/// Performs what was opened: its output goes to `out`, each piece by one put, and then one line of report to `err` by one put. It takes no memory, and
-/// after a put that failed nothing more goes to that sink.
+/// Performs what was opened: its output goes to `out`, each piece by one put, and then one line of report to `err` by one put. It is handed no allocator,
+/// and no answer is want of memory. After a put that failed nothing more goes to that sink.
 pub fn perform<O: Sink, E: Sink>(
     prepared: Prepared,
     out: &mut O,
