@@ -20,6 +20,7 @@ mod vector;
 use crate::small_rom::SmallRom;
 use crate::test_bus::TestBus;
 use crate::vector::{State, Vector, VectorFault};
+use std::alloc::Global;
 use std::fs;
 use vip_cpu::{Cpu, Did};
 
@@ -43,14 +44,14 @@ fn run_instruction(cpu: &mut Cpu, bus: &mut TestBus) -> u16 {
 /// the DMA cycles too, which come before an interrupt.
 fn makes_moves(cpu: &mut Cpu, bus: &mut TestBus, vector: &Vector, idle: u16) -> bool {
     for _ in 0..idle {
-        if cpu.cycle(bus, false, vector.ignores_int) != Did::Idle {
+        if cpu.cycle(bus, false, vector.signals.ignores_int) != Did::Idle {
             return false;
         }
     }
-    if vector.takes_int && cpu.cycle(bus, false, true) != Did::Interrupt {
+    if vector.signals.takes_int && cpu.cycle(bus, false, true) != Did::Interrupt {
         return false;
     }
-    for _ in 0..vector.dma_cycles {
+    for _ in 0..vector.signals.dma_cycles {
         let Did::Dma(_) = cpu.cycle(bus, true, true) else {
             return false;
         };
@@ -61,15 +62,15 @@ fn makes_moves(cpu: &mut Cpu, bus: &mut TestBus, vector: &Vector, idle: u16) -> 
 fn passes(vector: &Vector, bus: &mut TestBus) -> bool {
     let mut cpu = Cpu::from_parts(&vector.before.parts());
     bus.prepare(vector);
-    let mut cycles = vector.dma_cycles.saturating_add(vector.takes_int as u16);
-    if vector.has_instruction {
+    let mut cycles = vector.signals.cycles();
+    if vector.kind.has_instruction {
         cycles = cycles.saturating_add(run_instruction(&mut cpu, bus));
     }
     cycles <= vector.cycles
         && makes_moves(&mut cpu, bus, vector, vector.cycles - cycles)
         && State::of(&cpu) == vector.after
         && bus.calls() == vector.calls.as_slice()
-        && (!vector.ignores_int || cpu.cycle(bus, false, true) == Did::Fetch)
+        && (!vector.signals.ignores_int || cpu.cycle(bus, false, true) == Did::Fetch)
 }
 
 /// How many vectors passed and failed.
@@ -100,38 +101,52 @@ impl Counts {
     }
 }
 
-/// Runs a small ROM and writes its name where it doesn't come to what is due.
-fn judge(rt: &HostRuntime, rom: &SmallRom, counts: &mut Counts) -> anyhow::Result<()> {
-    let passes = rom.passes(rt.alloc())?;
+/// Counts what passed or failed, and writes a line of what failed.
+fn judge(
+    rt: &HostRuntime,
+    counts: &mut Counts,
+    passes: bool,
+    what: &str,
+    line: &str,
+) -> anyhow::Result<()> {
     counts.add(passes);
     if !passes {
-        println!(rt; "differs: {}", rom.name)?;
+        println!(rt; "{what}: {line}")?;
     }
     Ok(())
 }
 
-/// Runs the small ROMs of a text.
-fn run_small_roms(rt: &HostRuntime, text: &str) -> anyhow::Result<()> {
-    let mut counts = Counts::none();
-    let mut rom: Option<SmallRom> = None;
+/// Takes a line of the text of small ROMs.
+fn add_line(roms: &mut Vec<SmallRom>, alloc: Global, line: &str) -> Result<(), VectorFault> {
+    let (word, rest) = line.split_once(' ').unwrap_or((line, ""));
+    if word == "board" {
+        roms.push(SmallRom::new(alloc, rest)?)?;
+        return Ok(());
+    }
+    match roms.last_mut() {
+        Some(rom) => rom.add(word, rest),
+        None => Err(VectorFault::NotAVector),
+    }
+}
+
+/// The small ROMs of a text.
+fn small_roms_of(alloc: Global, text: &str) -> Result<Vec<SmallRom>, VectorFault> {
+    let mut roms = Vec::new(alloc);
     for line in text.lines() {
         let line = line.trim_start();
-        if line.is_empty() || line.starts_with('#') {
-            continue;
-        }
-        let (word, rest) = line.split_once(' ').unwrap_or((line, ""));
-        if word == "board" {
-            if let Some(rom) = rom.take() {
-                judge(rt, &rom, &mut counts)?;
-            }
-            rom = Some(SmallRom::new(rt.alloc(), rest)?);
-        } else {
-            let rom = rom.as_mut().ok_or(VectorFault::NotAVector)?;
-            rom.add(word, rest)?;
+        if !line.is_empty() && !line.starts_with('#') {
+            add_line(&mut roms, alloc, line)?;
         }
     }
-    if let Some(rom) = rom.take() {
-        judge(rt, &rom, &mut counts)?;
+    Ok(roms)
+}
+
+/// Runs the small ROMs of a text, and writes the name of each that doesn't come to what is due.
+fn run_small_roms(rt: &HostRuntime, text: &str) -> anyhow::Result<()> {
+    let mut counts = Counts::none();
+    for rom in small_roms_of(rt.alloc(), text)?.iter() {
+        let passes = rom.passes(rt.alloc())?;
+        judge(rt, &mut counts, passes, "differs", &rom.name)?;
     }
     write_counts(rt, "small ROMs on the board", &counts)
 }
@@ -147,35 +162,54 @@ fn write_counts(rt: &HostRuntime, what: &str, counts: &Counts) -> anyhow::Result
     Ok(())
 }
 
-fn main(rt: HostRuntime) -> anyhow::Result<()> {
-    let text = fs::read_to_string(&rt, "vectors.txt")?;
-    let mut bus = TestBus::new(rt.alloc())?;
-    let mut counts = Counts::none();
-    let mut on_board = Counts::none();
-    for line in text.lines() {
-        if line.starts_with('#') {
-            continue;
-        }
+/// The vectors that passed and failed, and those of them that ran on the board.
+#[derive(Drop)]
+struct Tried {
+    alone: Counts,
+    on_board: Counts,
+}
+
+impl Tried {
+    /// Runs the vector of a line, and writes the line where it differs.
+    fn add(&mut self, rt: &HostRuntime, bus: &mut TestBus, line: &str) -> anyhow::Result<()> {
         let vector = Vector::read(rt.alloc(), line)?;
-        let passes = passes(&vector, &mut bus);
-        counts.add(passes);
-        if !passes {
-            println!(rt; "differs: {line}")?;
-        }
-        if vector.has_display {
+        let passes = passes(&vector, bus);
+        judge(rt, &mut self.alone, passes, "differs", line)?;
+        if vector.kind.has_display {
             let passes = on_board::passes(rt.alloc(), &vector)?;
-            on_board.add(passes);
-            if !passes {
-                println!(rt; "differs on the board: {line}")?;
-            }
+            judge(rt, &mut self.on_board, passes, "differs on the board", line)?;
+        }
+        Ok(())
+    }
+}
+
+/// Runs the vectors of a text.
+fn run_vectors(rt: &HostRuntime, text: &str) -> anyhow::Result<()> {
+    let mut bus = TestBus::new(rt.alloc())?;
+    let mut tried = Tried {
+        alone: Counts::none(),
+        on_board: Counts::none(),
+    };
+    for line in text.lines() {
+        if !line.starts_with('#') {
+            tried.add(rt, &mut bus, line)?;
         }
     }
-    write_counts(&rt, "vectors", &counts)?;
-    write_counts(&rt, "of them on the board", &on_board)?;
-    run_small_roms(&rt, &fs::read_to_string(&rt, "boards.txt")?)?;
-    write_counts(&rt, "rows of two boards", &schedules::rows(rt.alloc())?)?;
+    write_counts(rt, "vectors", &tried.alone)?;
+    write_counts(rt, "of them on the board", &tried.on_board)
+}
+
+/// Runs two joined boards under many schedules.
+fn run_schedules(rt: &HostRuntime) -> anyhow::Result<()> {
+    write_counts(rt, "rows of two boards", &schedules::rows(rt.alloc())?)?;
     let short = schedules::around_each_hand_over(rt.alloc())?;
-    write_counts(&rt, "schedules of 16 moves around hand-overs", &short)?;
+    write_counts(rt, "schedules of 16 moves around hand-overs", &short)?;
     let random = schedules::at_random(rt.alloc())?;
-    write_counts(&rt, "random schedules", &random)
+    write_counts(rt, "random schedules", &random)
+}
+
+fn main(rt: HostRuntime) -> anyhow::Result<()> {
+    run_vectors(&rt, &fs::read_to_string(&rt, "vectors.txt")?)?;
+    run_small_roms(&rt, &fs::read_to_string(&rt, "boards.txt")?)?;
+    run_schedules(&rt)
 }

@@ -21,7 +21,7 @@ const KEY: u8 = 5;
 
 /// The cycle after a vector's last one. It lies in the second frame, so that the processor may idle for a while before it.
 fn end_of(vector: &Vector) -> u64 {
-    let place = if vector.dma_cycles > 0 {
+    let place = if vector.signals.dma_cycles > 0 {
         // the end of a line's DMA cycles, and of the first ones where the vector is longer than a line
         let line = if u64::from(vector.cycles) > LINE {
             80
@@ -29,9 +29,9 @@ fn end_of(vector: &Vector) -> u64 {
             81
         };
         line * LINE + 10
-    } else if vector.takes_int {
+    } else if vector.signals.takes_int {
         78 * LINE + 1
-    } else if vector.ignores_int {
+    } else if vector.signals.ignores_int {
         78 * LINE
     } else if vector.flags[0] {
         76 * LINE + 2
@@ -102,30 +102,42 @@ fn is_kept(board: &Board, vector: &Vector) -> bool {
     !board.memory().latch_set() && board.video().is_on() && board.keypad().latched() == KEY
 }
 
+/// Makes the moves that a vector's signals want, behind so many idle cycles. False where one is of another kind.
+fn makes_signalled(board: &mut Board, vector: &Vector, idle: u16) -> bool
+    requires { board.old.phase ≡ Phase.Boundary }
+    ensures { board.new.phase ≡ Phase.Boundary }
+{
+    makes(board, Move::Idle, idle)
+        && makes(board, Move::Interrupt, vector.signals.takes_int as u16)
+        && makes(board, Move::Dma, vector.signals.dma_cycles)
+}
+
+/// Whether a board is as a vector says, at a boundary at this cycle.
+fn is_due(board: &Board, vector: &Vector, end: u64) -> bool
+    requires { board.now.phase ≡ Phase.Boundary }
+{
+    board.now() == end
+        && board.next_is_instruction()
+        && State::of(board.cpu()) == vector.after
+        && vector.calls.is_empty()
+        && is_kept(board, vector)
+}
+
 /// Whether the moves of a board are those of a vector and leave what the vector says.
 pub fn passes(alloc: Global, vector: &Vector) -> Result<bool, VectorFault> {
     let mut board = board_before(alloc, vector)?;
     let end = end_of(vector);
     let counter = board.cpu().r(board.cpu().p());
-    let begins = makes(
-        &mut board,
-        Move::Instruction(counter),
-        vector.has_instruction as u16,
-    );
-    let signalled = vector.dma_cycles.saturating_add(vector.takes_int as u16);
+    let first = Move::Instruction(counter);
+    let begins = makes(&mut board, first, vector.kind.has_instruction as u16);
+    let signalled = vector.signals.cycles();
     let idle = end
         .saturating_sub(board.now())
         .saturating_sub(u64::from(signalled));
     Ok(
         begins
             && idle < 65536
-            && makes(&mut board, Move::Idle, idle as u16)
-            && makes(&mut board, Move::Interrupt, vector.takes_int as u16)
-            && makes(&mut board, Move::Dma, vector.dma_cycles)
-            && board.now() == end
-            && board.next_is_instruction()
-            && State::of(board.cpu()) == vector.after
-            && vector.calls.is_empty()
-            && is_kept(&board, vector),
+            && makes_signalled(&mut board, vector, idle as u16)
+            && is_due(&board, vector, end),
     )
 }

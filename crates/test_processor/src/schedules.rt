@@ -65,51 +65,85 @@ fn brought(link: &Link, sent: u32, received: &[u8]) -> bool {
 /// Tries the rows: no move, 1,000 moves of A alone, 160 pairs A, B, one byte too many, and both ROMs against their texts.
 pub fn rows(alloc: Global) -> Result<Counts, LinkFault> {
     let mut counts = Counts::none();
-    let mut alone = Link::new(alloc, SHORT)?;
-    counts.add(brought(&alone, 0, b""));
-    for _move in 0..1_000 {
-        step(&mut alone, Side::A);
-    }
-    counts.add(brought(&alone, 1, b""));
-    let mut pairs = Link::new(alloc, SHORT)?;
-    alternate(&mut pairs, 320);
-    counts.add(brought(&pairs, 2, SHORT));
-    let large = vec![in alloc; 0; 3_001]?;
-    counts.add(matches!(
-        Link::new(alloc, &large),
-        Err(LinkFault::MessageTooLarge(3_001))
-    ));
+    try_alone(alloc, &mut counts)?;
+    counts.add(pairs_bring(alloc)?);
+    counts.add(refuses_too_long(alloc)?);
     counts.add(check_link(alloc).is_ok());
     Ok(counts)
 }
 
-/// Makes the moves of a schedule, a bit a move, behind so many in turn, and then enough to bring the message.
+/// Tries no move, and 1,000 moves of A alone, which send one byte.
+fn try_alone(alloc: Global, counts: &mut Counts) -> Result<(), LinkFault> {
+    let mut link = Link::new(alloc, SHORT)?;
+    counts.add(brought(&link, 0, b""));
+    for _move in 0..1_000 {
+        step(&mut link, Side::A);
+    }
+    counts.add(brought(&link, 1, b""));
+    Ok(())
+}
+
+/// Whether 160 pairs A, B bring the message.
+fn pairs_bring(alloc: Global) -> Result<bool, LinkFault> {
+    let mut link = Link::new(alloc, SHORT)?;
+    alternate(&mut link, 320);
+    Ok(brought(&link, 2, SHORT))
+}
+
+/// Whether a message is refused that has one byte too many.
+fn refuses_too_long(alloc: Global) -> Result<bool, LinkFault> {
+    let message = vec![in alloc; 0; 3_001]?;
+    let made = Link::new(alloc, &message);
+    Ok(matches!(made, Err(LinkFault::MessageTooLarge(3_001))))
+}
+
+/// Makes the moves of a schedule, a bit a move. False where a move leaves what is no part of the message.
+fn follows(link: &mut Link, schedule: u16) -> bool {
+    for bit in 0..TRIED {
+        step(link, in_turn(u32::from(schedule) >> bit));
+        if !is_part(link, SHORT) {
+            return false;
+        }
+    }
+    true
+}
+
+/// Makes moves enough to bring the message. Answers whether they bring it.
+fn brings(link: &mut Link) -> bool {
+    alternate(link, ENOUGH);
+    brought(link, 2, SHORT)
+}
+
+/// Makes the moves of a schedule behind so many in turn, and then enough to bring the message.
 fn passes(alloc: Global, before: u32, schedule: u16) -> Result<bool, LinkFault> {
     let mut link = Link::new(alloc, SHORT)?;
     alternate(&mut link, before);
-    for bit in 0..TRIED {
-        step(&mut link, in_turn(u32::from(schedule) >> bit));
-        if !is_part(&link, SHORT) {
-            return Ok(false);
-        }
+    Ok(follows(&mut link, schedule) && brings(&mut link))
+}
+
+/// Tries every schedule of 16 moves behind so many in turn.
+fn try_each(alloc: Global, before: u32, counts: &mut Counts) -> Result<(), LinkFault> {
+    for schedule in 0..=u16::MAX {
+        counts.add(passes(alloc, before, schedule)?);
     }
-    alternate(&mut link, ENOUGH);
-    Ok(link.received() == SHORT && link.sent() == 2)
+    Ok(())
+}
+
+/// Makes the move of a number of both in turn. Answers whether it puts a byte on the wire or takes it.
+fn hands_over(link: &mut Link, number: u32) -> bool {
+    let sent = link.sent();
+    let received = link.received().len();
+    step(link, in_turn(number));
+    link.sent() != sent || link.received().len() != received
 }
 
 /// Tries every schedule of 16 moves around each move of a run in turn that puts a byte on the wire or takes it.
 pub fn around_each_hand_over(alloc: Global) -> Result<Counts, LinkFault> {
     let mut counts = Counts::none();
     let mut link = Link::new(alloc, SHORT)?;
-    let mut seen = (0, 0);
     for number in 0..ENOUGH {
-        step(&mut link, in_turn(number));
-        let now = (link.sent(), link.received().len());
-        if now != seen {
-            seen = now;
-            for schedule in 0..=u16::MAX {
-                counts.add(passes(alloc, number.saturating_sub(BEFORE), schedule)?);
-            }
+        if hands_over(&mut link, number) {
+            try_each(alloc, number.saturating_sub(BEFORE), &mut counts)?;
         }
     }
     Ok(counts)
@@ -127,23 +161,31 @@ fn message_of(alloc: Global, length: u32, number: u32) -> Result<Vec<u8>, LinkFa
     Ok(message)
 }
 
+/// Makes 40 times so many random moves. False where some leave what is no part of the message.
+fn follows_random(link: &mut Link, message: &[u8], number: u32, moves: u32) -> bool {
+    for part in 0..40 {
+        run(link, number.wrapping_add(part), moves);
+        if !is_part(link, message) {
+            return false;
+        }
+    }
+    true
+}
+
+/// Tries the random schedule of a number.
+fn passes_random(alloc: Global, number: u32) -> Result<bool, LinkFault> {
+    let length = LENGTHS[(number % 7) as usize];
+    let message = message_of(alloc, length, number)?;
+    let mut link = Link::new(alloc, &message)?;
+    let moves = length.saturating_add(4);
+    Ok(follows_random(&mut link, &message, number, moves) && link.received() == message.as_slice())
+}
+
 /// Tries random schedules, with messages of several lengths.
 pub fn at_random(alloc: Global) -> Result<Counts, LinkFault> {
     let mut counts = Counts::none();
     for number in 0..RANDOM {
-        let length = LENGTHS[(number % 7) as usize];
-        let message = message_of(alloc, length, number)?;
-        let mut link = Link::new(alloc, &message)?;
-        let mut passes = true;
-        for part in 0..40 {
-            run(
-                &mut link,
-                number.wrapping_add(part),
-                length.saturating_add(4),
-            );
-            passes = passes && is_part(&link, &message);
-        }
-        counts.add(passes && link.received() == message.as_slice());
+        counts.add(passes_random(alloc, number)?);
     }
     Ok(counts)
 }

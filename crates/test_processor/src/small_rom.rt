@@ -5,7 +5,6 @@ ghost use Rattle.std.specs.Prelude.{◌≡◌, ◌≤◌, IfOk, length, vec_len}
 use crate::vector::VectorFault;
 use hex::FromHex;
 use std::alloc::Global;
-use std::str::SplitWhitespace;
 use vip_board::{Board, Moved};
 use vip_cpu::{Parts, Phase};
 use vip_keypad::{Script, read_script};
@@ -16,21 +15,65 @@ const KEY: u8 = 5;
 /// The most bytes of a key script.
 const MOST_SCRIPT: usize = 1_048_576;
 
+/// What a board says by one number.
+#[derive(Clone, Copy)]
+enum Reading {
+    /// The cycle.
+    Now,
+    /// How many pictures are finished.
+    Pictures,
+    /// 1 or 0: the display is on, the processor idles, the boot latch is set, Q is set.
+    On,
+    Idle,
+    Latch,
+    Q,
+    /// The latched key.
+    Key,
+}
+
+/// What the first word of a line says.
+#[derive(Clone, Copy)]
+enum Word {
+    Fill,
+    Rom,
+    Ram,
+    Keys,
+    From,
+    To,
+    Line,
+    R,
+    Byte,
+    Is(Reading),
+}
+
+const WORDS: [(&str, Word); 16] = [
+    ("fill", Word::Fill),
+    ("rom", Word::Rom),
+    ("ram", Word::Ram),
+    ("keys", Word::Keys),
+    ("from", Word::From),
+    ("to", Word::To),
+    ("now", Word::Is(Reading::Now)),
+    ("pictures", Word::Is(Reading::Pictures)),
+    ("line", Word::Line),
+    ("on", Word::Is(Reading::On)),
+    ("idle", Word::Is(Reading::Idle)),
+    ("latch", Word::Is(Reading::Latch)),
+    ("q", Word::Is(Reading::Q)),
+    ("r", Word::R),
+    ("byte", Word::Byte),
+    ("key", Word::Is(Reading::Key)),
+];
+
 /// What is done next, or due now.
 #[derive(Clone, Copy)]
 enum Step {
     /// All moves are made that end by this cycle.
     To(u64),
-    Now(u64),
-    Pictures(u64),
+    Is(Reading, u64),
     Line(u64, [u8; 8]),
-    On(u64),
-    Idle(u64),
-    Latch(u64),
-    Q(u64),
     R(u64, u16),
     Byte(u16, u8),
-    Key(u64),
 }
 
 #[derive(Drop)]
@@ -65,20 +108,24 @@ impl SmallRom {
 
     /// Takes a further line of the run: its word, and the rest of it.
     pub fn add(&mut self, word: &str, rest: &str) -> Result<(), VectorFault> {
-        match word {
-            "fill" => {
+        match word_of(word)? {
+            Word::Fill => {
                 let [byte] = <[u8; 1]>::from_hex(rest)?;
                 self.rom.fill(byte);
             }
-            "rom" => put(&mut self.rom, rest)?,
-            "ram" => put(&mut self.ram, rest)?,
-            "keys" => {
-                self.script.extend_from_slice(rest.as_bytes())?;
-                self.script.push(b'\n')?;
-            }
-            "from" => self.from = Some(decimal(rest)?),
-            _ => self.steps.push(read_step(word, rest)?)?,
+            Word::Rom => put(&mut self.rom, rest)?,
+            Word::Ram => put(&mut self.ram, rest)?,
+            Word::Keys => self.add_keys(rest)?,
+            Word::From => self.from = Some(decimal(rest)?),
+            word => self.steps.push(read_step(word, rest)?)?,
         }
+        Ok(())
+    }
+
+    /// Takes an event of the key script.
+    fn add_keys(&mut self, event: &str) -> Result<(), VectorFault> {
+        self.script.extend_from_slice(event.as_bytes())?;
+        self.script.push(b'\n')?;
         Ok(())
     }
 
@@ -152,29 +199,31 @@ fn run(board: &mut Board, limit: u64)
     }
 }
 
+/// What a board says now.
+fn number_of(board: &Board, what: Reading) -> u64 {
+    match what {
+        Reading::Now => board.now(),
+        Reading::Pictures => board.video().count(),
+        Reading::On => u64::from(board.video().is_on()),
+        Reading::Idle => u64::from(board.cpu().idle()),
+        Reading::Latch => u64::from(board.memory().latch_set()),
+        Reading::Q => u64::from(board.cpu().q()),
+        Reading::Key => u64::from(board.keypad().latched()),
+    }
+}
+
 /// Whether a board is as it is due.
 fn is_met(board: &Board, due: Step) -> bool {
-    let cpu = board.cpu();
     match due {
         Step::To(_) => true,
-        Step::Now(cycle) => board.now() == cycle,
-        Step::Pictures(count) => board.video().count() == count,
+        Step::Is(what, number) => number_of(board, what) == number,
         Step::Line(line, bytes) => match board.video().finished() {
             Some(picture) => picture.lines[(line % 128) as usize] == bytes,
             None => false,
         },
-        Step::On(on) => board.video().is_on() == (on == 1),
-        Step::Idle(idle) => cpu.idle() == (idle == 1),
-        Step::Latch(set) => board.memory().latch_set() == (set == 1),
-        Step::Q(q) => cpu.q() == (q == 1),
-        Step::R(n, word) => cpu.r((n % 16) as u8) == word,
+        Step::R(n, word) => board.cpu().r((n % 16) as u8) == word,
         Step::Byte(address, byte) => board.memory().read(address) == byte,
-        Step::Key(key) => u64::from(board.keypad().latched()) == key,
     }
-}
-
-fn next<'a>(words: &mut SplitWhitespace<'a>) -> Result<&'a str, VectorFault> {
-    words.next().ok_or(VectorFault::NotAVector)
 }
 
 fn decimal(word: &str) -> Result<u64, VectorFault> {
@@ -185,7 +234,7 @@ fn decimal(word: &str) -> Result<u64, VectorFault> {
 }
 
 /// A number of four hexadecimal digits.
-fn word_of(digits: &str) -> Result<u16, VectorFault> {
+fn hex_word(digits: &str) -> Result<u16, VectorFault> {
     let [high, low] = <[u8; 2]>::from_hex(digits)?;
     Ok(high as u16 * 256 + low as u16)
 }
@@ -194,36 +243,37 @@ fn word_of(digits: &str) -> Result<u16, VectorFault> {
 fn put(bytes: &mut [u8], rest: &str) -> Result<(), VectorFault>
     ensures { length bytes.new ≡ length bytes.old }
 {
-    let mut words = rest.split_whitespace();
-    let place = word_of(next(&mut words)?)? as usize;
-    for (i, digits) in next(&mut words)?.as_bytes().chunks(2).enumerate() {
-        let [byte] = <[u8; 1]>::from_hex(digits)?;
-        if i < bytes.len() && place < bytes.len() - i {
-            bytes[place + i] = byte;
-        }
-    }
+    let (place, digits) = rest.split_once(' ').ok_or(VectorFault::NotAVector)?;
+    let place = hex_word(place)? as usize;
+    let Some(into) = bytes.get_mut(place..place + digits.len() / 2) else {
+        return Err(VectorFault::NotAVector);
+    };
+    hex::decode_to_slice(digits, into)?;
     Ok(())
 }
 
-/// The step of a line: its word, and the rest of it.
-fn read_step(word: &str, rest: &str) -> Result<Step, VectorFault> {
-    let mut words = rest.split_whitespace();
-    let first = next(&mut words)?;
-    Ok(match word {
-        "to" => Step::To(decimal(first)?),
-        "now" => Step::Now(decimal(first)?),
-        "pictures" => Step::Pictures(decimal(first)?),
-        "line" => Step::Line(decimal(first)?, <[u8; 8]>::from_hex(next(&mut words)?)?),
-        "on" => Step::On(decimal(first)?),
-        "idle" => Step::Idle(decimal(first)?),
-        "latch" => Step::Latch(decimal(first)?),
-        "q" => Step::Q(decimal(first)?),
-        "r" => Step::R(decimal(first)?, word_of(next(&mut words)?)?),
-        "byte" => {
-            let [byte] = <[u8; 1]>::from_hex(next(&mut words)?)?;
-            Step::Byte(word_of(first)?, byte)
+/// What a word says.
+fn word_of(word: &str) -> Result<Word, VectorFault> {
+    for (name, meaning) in WORDS {
+        if name == word {
+            return Ok(meaning);
         }
-        "key" => Step::Key(decimal(first)?),
-        _ => return Err(VectorFault::NotAVector),
-    })
+    }
+    Err(VectorFault::NotAVector)
+}
+
+/// The step of a line: what its word says, and the rest of it.
+fn read_step(word: Word, rest: &str) -> Result<Step, VectorFault> {
+    let (first, second) = rest.split_once(' ').unwrap_or((rest, ""));
+    match word {
+        Word::To => Ok(Step::To(decimal(first)?)),
+        Word::Is(what) => Ok(Step::Is(what, decimal(first)?)),
+        Word::Line => Ok(Step::Line(decimal(first)?, <[u8; 8]>::from_hex(second)?)),
+        Word::R => Ok(Step::R(decimal(first)?, hex_word(second)?)),
+        Word::Byte => {
+            let [byte] = <[u8; 1]>::from_hex(second)?;
+            Ok(Step::Byte(hex_word(first)?, byte))
+        }
+        _ => Err(VectorFault::NotAVector),
+    }
 }

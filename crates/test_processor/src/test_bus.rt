@@ -44,7 +44,7 @@ impl TestBus {
     /// Memory, flags and ports as a vector has them, and no calls yet.
     pub fn prepare(&mut self, vector: &Vector) {
         self.fill(0);
-        self.is_board = vector.is_board;
+        self.is_board = vector.kind.is_board;
         if self.is_board {
             self.bytes[0x1000..0x8000].fill(0xFF);
             self.bytes[0x8800..SIZE].fill(0xFF);

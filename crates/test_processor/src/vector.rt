@@ -4,12 +4,11 @@ ghost use Rattle.std.specs.Prelude.{◌<◌};
 
 use hex::{FromHex, FromHexError};
 use std::alloc::{AllocError, AllocFailed, Global};
-use std::str::SplitWhitespace;
 use thiserror::Error;
 use vip_cpu::{Cpu, Parts};
 
 /// Why a line gave no vector.
-#[derive(Clone, Copy, Debug, PartialEq, Eq, Error)]
+#[derive(Clone, Copy, Debug, Error)]
 pub enum VectorFault {
     #[error("not a vector")]
     NotAVector,
@@ -55,12 +54,31 @@ pub enum Call {
     Inp(u8),
 }
 
-#[derive(Drop)]
-pub struct Vector {
+/// What a vector is of.
+#[derive(Clone, Copy)]
+pub struct Kind {
     /// Memory is that of the board.
     pub is_board: bool,
     /// It was measured with the display on.
     pub has_display: bool,
+    /// It begins with an instruction, and not with a move that a signal wants.
+    pub has_instruction: bool,
+}
+
+/// What comes after an instruction.
+#[derive(Clone, Copy)]
+pub struct Signals {
+    /// INT is active, with IE = 0.
+    pub ignores_int: bool,
+    /// An interrupt cycle comes.
+    pub takes_int: bool,
+    /// How many DMA cycles come.
+    pub dma_cycles: u16,
+}
+
+#[derive(Drop)]
+pub struct Vector {
+    pub kind: Kind,
     pub before: State,
     pub after: State,
     /// EF1 to EF4.
@@ -71,16 +89,36 @@ pub struct Vector {
     pub memory: Vec<[u8; 3]>,
     /// What the instruction does on the bus, the port first.
     pub calls: Vec<Call>,
-    /// It begins with an instruction, and not with a move that a signal wants.
-    pub has_instruction: bool,
-    /// INT is active after the instruction, with IE = 0.
-    pub ignores_int: bool,
-    /// An interrupt cycle comes after the instruction.
-    pub takes_int: bool,
-    /// How many DMA cycles come after the instruction.
-    pub dma_cycles: u16,
+    pub signals: Signals,
     /// All machine cycles, those of idling too.
     pub cycles: u16,
+}
+
+impl Kind {
+    /// The kind of a letter.
+    fn of(letter: &str) -> Kind {
+        Kind {
+            is_board: letter != "f",
+            has_display: letter == "s" || letter == "m",
+            has_instruction: letter != "m",
+        }
+    }
+}
+
+impl Signals {
+    /// Those of the letters of the moves after an instruction.
+    fn of(moves: &str) -> Signals {
+        Signals {
+            ignores_int: moves.starts_with('i'),
+            takes_int: moves.starts_with('I'),
+            dma_cycles: dma_cycles_of(moves),
+        }
+    }
+
+    /// The machine cycles that come.
+    pub fn cycles(&self) -> u16 {
+        self.dma_cycles.saturating_add(self.takes_int as u16)
+    }
 }
 
 impl State {
@@ -215,38 +253,53 @@ fn dma_cycles_of(moves: &str) -> u16 {
     count
 }
 
-fn next<'a>(fields: &mut SplitWhitespace<'a>) -> Result<&'a str, VectorFault> {
-    fields.next().ok_or(VectorFault::NotAVector)
+fn number_of(text: &str) -> Result<u16, VectorFault> {
+    match text.parse::<u16>() {
+        Ok(number) => Ok(number),
+        Err(_) => Err(VectorFault::NotAVector),
+    }
 }
 
 impl Vector {
     /// The vector of a line.
     pub fn read(alloc: Global, line: &str) -> Result<Vector, VectorFault> {
-        let mut fields = line.split_whitespace();
-        let _id = next(&mut fields)?;
-        let kind = next(&mut fields)?;
-        let before = State::read(next(&mut fields)?, next(&mut fields)?)?;
-        let [flags, taken] = <[u8; 2]>::from_hex(next(&mut fields)?)?;
-        let memory = read_list(alloc, next(&mut fields)?)?;
-        let after = read_changes(alloc, &before, next(&mut fields)?)?;
-        let calls = read_calls(alloc, next(&mut fields)?, next(&mut fields)?)?;
-        let Ok(cycles) = next(&mut fields)?.parse::<u16>() else {
+        let fields: Vec<&str> = line.split_whitespace().collect(alloc)?;
+        Vector::of(alloc, &fields)
+    }
+
+    /// The vector of the fields of a line.
+    fn of(alloc: Global, fields: &[&str]) -> Result<Vector, VectorFault> {
+        let &[
+            _,
+            kind,
+            registers,
+            others,
+            inputs,
+            memory,
+            changes,
+            writes,
+            port,
+            cycles,
+            moves,
+        ] = fields
+        else {
             return Err(VectorFault::NotAVector);
         };
-        let moves = next(&mut fields)?;
+        let before = State::read(registers, others)?;
+        let after = read_changes(alloc, &before, changes)?;
+        let [flags, taken] = <[u8; 2]>::from_hex(inputs)?;
+        let cycles = number_of(cycles)?;
+        let memory = read_list(alloc, memory)?;
+        let calls = read_calls(alloc, writes, port)?;
         Ok(Vector {
-            is_board: kind != "f",
-            has_display: kind == "s" || kind == "m",
+            kind: Kind::of(kind),
             before,
             after,
             flags: flags_of(flags),
             taken,
             memory,
             calls,
-            has_instruction: kind != "m",
-            ignores_int: moves.starts_with('i'),
-            takes_int: moves.starts_with('I'),
-            dma_cycles: dma_cycles_of(moves),
+            signals: Signals::of(moves),
             cycles,
         })
     }
