@@ -3,7 +3,7 @@
 ghost use Rattle.std.specs.Prelude.{◌≡◌};
 ghost use Rattle.vip_cpu.specs.declared.cpu.Phase.TheVariants.{Boundary};
 
-use crate::edition::{GAME, MOST_SCREEN, Places};
+use crate::edition::{GAME, MOST_SCREEN, Places, copy_pages};
 use chip8_image::{IMAGE, TALL};
 use chip8_lang::Edition;
 use std::alloc::{AllocError, Global};
@@ -15,7 +15,7 @@ use vip_video::Picture;
 const MOST_GAME: usize = 3_232;
 
 /// What the next move is for the interpreter.
-#[derive(Clone, Copy, PartialEq, Eq)]
+#[derive(Clone, Copy)]
 pub enum Next {
     /// A DMA cycle, an interrupt cycle or an idle cycle.
     Signal,
@@ -127,15 +127,7 @@ impl Console {
     /// The bytes of the screen, and 00 behind them where it is smaller than the greatest.
     pub fn screen(&self) -> [u8; MOST_SCREEN] {
         let mut bytes = [0; MOST_SCREEN];
-        let memory = self.board.memory();
-        let pages = self.places.screen_page..=0x0F;
-        for (half, number) in bytes.chunks_mut(256).zip(pages) {
-            if let Some(page) = memory.page(number)
-                && page.len() == half.len()
-            {
-                half.copy_from_slice(page);
-            }
-        }
+        copy_pages(self.board.memory(), self.places.screen_page, &mut bytes);
         bytes
     }
 

@@ -6,10 +6,10 @@ ghost use Rattle.vip_show.specs.Answers.{IsFresh};
 
 use crate::edition::EDITIONS;
 use crate::numbers::Numbers;
-use crate::runs::RunFault;
+use crate::runs::{RunFault, script_of};
 use chip8_lang::Edition;
 use std::alloc::{AllocError, Global};
-use vip_keypad::{Script, read_script};
+use vip_keypad::Script;
 use vip_outside::{Failed, MemSink};
 use vip_relation::Vip;
 use vip_show::show_trace;
@@ -26,9 +26,6 @@ const OPCODES: u16 = 1_488;
 const MOST_EVENTS: u16 = 24;
 
 const MOST_APART: u16 = 9_000;
-
-/// More bytes than a key script of so many events can have.
-const MOST_SCRIPT: usize = 1_024;
 
 /// The limits lie below this one, in machine cycles.
 const LIMITS: u64 = 120_000;
@@ -82,23 +79,22 @@ impl Numbers {
         Ok(game)
     }
 
-    /// A key script.
-    fn script(&mut self, alloc: Global) -> Result<Script, RunFault> {
+    /// An event of a key script in a cycle.
+    fn event(&mut self, alloc: Global, cycle: u32) -> Result<String, AllocError> {
+        let turn = if self.next() % 2 == 0 { "down" } else { "up" };
+        let key = self.next() % 16;
+        format!(in alloc; "{cycle} {turn} {key:X}\n")
+    }
+
+    /// The text of a key script.
+    fn events(&mut self, alloc: Global) -> Result<String, AllocError> {
         let mut text = String::new(alloc);
         let mut cycle = 0u32;
         for _ in 0..self.next() % MOST_EVENTS {
             cycle = cycle.saturating_add(u32::from(self.next() % MOST_APART));
-            let turn = if self.next() % 2 == 0 { "down" } else { "up" };
-            let key = self.next() % 16;
-            text.push_str(&format!(in alloc; "{cycle} {turn} {key:X}\n")?)?;
+            text.push_str(&self.event(alloc, cycle)?)?;
         }
-        if text.len() > MOST_SCRIPT {
-            return Err(RunFault::NotAScript);
-        }
-        match read_script(alloc, text.as_bytes()) {
-            Ok(script) => Ok(script),
-            Err(_) => Err(RunFault::NotAScript),
-        }
+        Ok(text)
     }
 
     /// A limit.
@@ -152,6 +148,36 @@ fn resume(alloc: Global, cut: &Cut<'_>, file: &[u8]) -> Result<Written<RunEnd>, 
     Ok(Written { out, end })
 }
 
+/// Goes on from the file of a run up to its last limit. Answers whether that is the rest of the trace in one go, behind the early part.
+fn goes_on(
+    alloc: Global,
+    cut: &Cut<'_>,
+    file: &[u8],
+    early: &[u8],
+    seen: &mut Seen,
+) -> Result<bool, RunFault>
+    requires { cut.now.last ≤ 120_000 }
+{
+    let late = resume(alloc, cut, file)?;
+    let whole = trace(alloc, cut, cut.last)?;
+    seen.records = seen.records.saturating_add(u64::from(late.out.calls()));
+    if let Ok(RunEnd::AtStop(_)) = late.end {
+        seen.stops = seen.stops.saturating_add(1);
+    }
+    let rest = whole.out.bytes().strip_prefix(early);
+    Ok(whole.end == late.end && rest == Some(late.out.bytes()))
+}
+
+/// No file was written, since there is nothing to save.
+fn is_unsaved(saved: &Written<Option<RunEnd>>) -> bool {
+    saved.end == Ok(None) && saved.out.calls() == 0
+}
+
+/// A file was written at once, and the run ended as its trace did.
+fn is_saved(early: &Written<RunEnd>, saved: &Written<Option<RunEnd>>) -> bool {
+    saved.end == early.end.map(Some) && saved.out.calls() == 1
+}
+
 /// Cuts a run, and compares its parts with the whole.
 fn compare(alloc: Global, cut: &Cut<'_>, seen: &mut Seen) -> Result<bool, RunFault>
     requires first { cut.now.first ≤ 120_000 }
@@ -161,17 +187,45 @@ fn compare(alloc: Global, cut: &Cut<'_>, seen: &mut Seen) -> Result<bool, RunFau
     let saved = save(alloc, cut)?;
     if early.out.calls() == 0 {
         seen.unsaved = seen.unsaved.saturating_add(1);
-        return Ok(saved.end == Ok(None) && saved.out.calls() == 0);
+        return Ok(is_unsaved(&saved));
     }
-    let late = resume(alloc, cut, saved.out.bytes())?;
-    let whole = trace(alloc, cut, cut.last)?;
-    seen.records = seen.records.saturating_add(u64::from(late.out.calls()));
-    if let Ok(RunEnd::AtStop(_)) = late.end {
-        seen.stops = seen.stops.saturating_add(1);
+    let goes_on = goes_on(alloc, cut, saved.out.bytes(), early.out.bytes(), seen)?;
+    Ok(is_saved(&early, &saved) && goes_on)
+}
+
+/// Cuts the run of a game in an edition.
+fn cut_in(
+    alloc: Global,
+    numbers: &mut Numbers,
+    edition: Edition,
+    game: &[u8],
+    script: &Script,
+    seen: &mut Seen,
+) -> Result<(), RunFault> {
+    let one = numbers.limit();
+    let other = numbers.limit();
+    let cut = Cut {
+        edition,
+        game,
+        script,
+        first: one.min(other),
+        last: one.max(other),
+    };
+    seen.cut = seen.cut.saturating_add(1);
+    if !compare(alloc, &cut, seen)? {
+        seen.wrong = seen.wrong.saturating_add(1);
     }
-    let ends = whole.end == late.end && saved.end == early.end.map(Some) && saved.out.calls() == 1;
-    let rest = whole.out.bytes().strip_prefix(early.out.bytes());
-    Ok(ends && rest == Some(late.out.bytes()))
+    Ok(())
+}
+
+/// Cuts the runs of a random game in both editions.
+fn cut_game(alloc: Global, numbers: &mut Numbers, seen: &mut Seen) -> Result<(), RunFault> {
+    let game = numbers.game(alloc)?;
+    let script = script_of(alloc, &numbers.events(alloc)?)?;
+    for edition in EDITIONS {
+        cut_in(alloc, numbers, edition, &game, &script, seen)?;
+    }
+    Ok(())
 }
 
 /// Cuts the runs of random games.
@@ -185,23 +239,7 @@ pub fn cut_runs(alloc: Global) -> Result<Seen, RunFault> {
         wrong: 0,
     };
     for _ in 0..GAMES {
-        let game = numbers.game(alloc)?;
-        let script = numbers.script(alloc)?;
-        for edition in EDITIONS {
-            let one = numbers.limit();
-            let other = numbers.limit();
-            let cut = Cut {
-                edition,
-                game: game.as_slice(),
-                script: &script,
-                first: one.min(other),
-                last: one.max(other),
-            };
-            seen.cut = seen.cut.saturating_add(1);
-            if !compare(alloc, &cut, &mut seen)? {
-                seen.wrong = seen.wrong.saturating_add(1);
-            }
-        }
+        cut_game(alloc, &mut numbers, &mut seen)?;
     }
     Ok(seen)
 }

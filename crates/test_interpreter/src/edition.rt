@@ -2,6 +2,7 @@
 
 use chip8_image::{FETCH, HALT, TALL_FETCH, TALL_HALT};
 use chip8_lang::Edition;
+use vip_memory::Memory;
 
 /// The first address of game memory.
 pub const GAME: u16 = 0x0200;
@@ -53,5 +54,16 @@ pub fn name(edition: Edition) -> &'static str {
     match edition {
         Edition::Usual => "usual",
         Edition::Tall => "tall",
+    }
+}
+
+/// Copies the pages of RAM from one on, as many as there is room for.
+pub fn copy_pages(memory: &Memory, first: u8, into: &mut [u8]) {
+    for (bytes, number) in into.chunks_mut(256).zip(first..=0x0F) {
+        if let Some(page) = memory.page(number)
+            && page.len() == bytes.len()
+        {
+            bytes.copy_from_slice(page);
+        }
     }
 }

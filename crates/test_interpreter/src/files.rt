@@ -48,46 +48,65 @@ impl Numbers {
         (frame * FRAME + place).min(LIMIT)
     }
 
-    /// A file that is accepted.
-    fn file(&mut self, alloc: Global, edition: Edition) -> Result<Vec<u8>, AllocError> {
+    /// What a register holds at a dispatch point.
+    fn register(&mut self, number: u8, edition: Edition) -> u16 {
         let places = Places::of(edition);
-        let (number, entry, top) = match edition {
-            Edition::Usual => (0, ENTRY, 0x0ECF),
-            Edition::Tall => (1, TALL_ENTRY, 0x0DCF),
+        let (entry, top) = match edition {
+            Edition::Usual => (ENTRY, 0x0ECF),
+            Edition::Tall => (TALL_ENTRY, 0x0DCF),
         };
-        let mut file = Vec::from_slice(alloc, &[0x56, 0x49, 0x50, 0x53, 0x01, number])?;
-        file.extend_from_slice(&self.cycle().to_be_bytes())?;
-        for register in 0..16u8 {
-            let word = match register {
-                1 => entry,
-                2 => top - self.next() % 13 * 2,
-                4 => places.fetch,
-                5 => GAME + self.next() % 0xB80 / 2 * 2,
-                0xB => u16::from(places.screen_page) * 256 + self.next() % 256,
-                _ => self.next(),
-            };
-            file.extend_from_slice(&word.to_be_bytes())?;
+        match number {
+            1 => entry,
+            2 => top - self.next() % 13 * 2,
+            4 => places.fetch,
+            5 => GAME + self.next() % 0xB80 / 2 * 2,
+            0xB => u16::from(places.screen_page) * 256 + self.next() % 256,
+            _ => self.next(),
         }
-        let flags = [
+    }
+
+    /// The bytes of D, T, X and P, Q and DF, and the latched key.
+    fn flags(&mut self) -> [u8; 5] {
+        [
             self.byte(),
             self.byte(),
             self.byte() / 16 * 16 + 4,
             self.byte() % 4,
             self.byte() % 16,
-        ];
-        file.extend_from_slice(&flags)?;
-        let game = self.next() % 4;
-        for address in (0..0x1000u16).step_by(2) {
-            let word = match game {
-                _ if address < GAME || address >= places.game_end => self.next(),
-                0 => self.next(),
-                1 => self.opcode(false),
-                _ if address >= places.game_end - 4 => 0x1000 + GAME,
-                _ => self.opcode(true),
-            };
-            file.extend_from_slice(&word.to_be_bytes())?;
+        ]
+    }
+
+    /// Two bytes of RAM, in a game of one of four kinds.
+    fn word(&mut self, kind: u16, address: u16, places: &Places) -> u16 {
+        match kind {
+            _ if address < GAME || address >= places.game_end => self.next(),
+            0 => self.next(),
+            1 => self.opcode(false),
+            _ if address >= places.game_end.saturating_sub(4) => 0x1000 + GAME,
+            _ => self.opcode(true),
         }
+    }
+
+    /// A file that is accepted.
+    fn file(&mut self, alloc: Global, edition: Edition) -> Result<Vec<u8>, AllocError> {
+        let number = u8::from(edition == Edition::Tall);
+        let mut file = Vec::from_slice(alloc, &[0x56, 0x49, 0x50, 0x53, 0x01, number])?;
+        file.extend_from_slice(&self.cycle().to_be_bytes())?;
+        for register in 0..16u8 {
+            file.extend_from_slice(&self.register(register, edition).to_be_bytes())?;
+        }
+        file.extend_from_slice(&self.flags())?;
+        self.push_ram(&mut file, &Places::of(edition))?;
         Ok(file)
+    }
+
+    /// Puts the bytes of RAM behind others.
+    fn push_ram(&mut self, file: &mut Vec<u8>, places: &Places) -> Result<(), AllocError> {
+        let kind = self.next() % 4;
+        for address in (0..0x1000u16).step_by(2) {
+            file.extend_from_slice(&self.word(kind, address, places).to_be_bytes())?;
+        }
+        Ok(())
     }
 }
 

@@ -1,7 +1,7 @@
 //! The language by its page, `docs/LANGUAGE.md`: a state, and where a step of it may lead. This is written from that page alone, and stands on none of
 //! the definitions that contracts cite.
 
-use crate::edition::{GAME, MOST_SCREEN, Places};
+use crate::edition::{GAME, MOST_SCREEN, Places, copy_pages};
 use chip8_image::IMAGE;
 use chip8_lang::{StateView, Stop};
 use vip_board::Board;
@@ -118,6 +118,13 @@ impl State {
         }
     }
 
+    // The next random byte.
+    fn random(&mut self) -> u8 {
+        let n = (self.n % 256) as u8;
+        self.b = self.b.wrapping_mul(5).wrapping_add(n).wrapping_add(113);
+        self.b
+    }
+
     // 8XYN: the flag is written last
     fn compute(&mut self, opcode: u16) -> Result<(), Stop> {
         let x = usize::from(opcode / 256 % 16);
@@ -158,13 +165,9 @@ impl Language {
     /// Those that lie in a board.
     pub fn on(board: &Board, places: Places) -> Language {
         let mut memory = [0; 0x1000];
-        for (page, number) in memory.chunks_mut(256).zip(0..0x10) {
-            copy_page(board, number, page);
-        }
+        copy_pages(board.memory(), 0, &mut memory);
         let mut screen = [0; MOST_SCREEN];
-        for (page, number) in screen.chunks_mut(256).zip(places.screen_page..=0x0F) {
-            copy_page(board, number, page);
-        }
+        copy_pages(board.memory(), places.screen_page, &mut screen);
         Language {
             places,
             memory,
@@ -241,14 +244,7 @@ impl Language {
             7 => to.v[x] = to.v[x].wrapping_add(kk),
             8 => to.compute(opcode)?,
             0xA => to.i = opcode % 0x1000,
-            0xC => {
-                to.b = from
-                    .b
-                    .wrapping_mul(5)
-                    .wrapping_add((from.n % 256) as u8)
-                    .wrapping_add(113);
-                to.v[x] = to.b & kk;
-            }
+            0xC => to.v[x] = to.random() & kk,
             0xD => to.v[15] = self.put_out(from, opcode)?,
             0xF => self.other(&mut to, opcode)?,
             _ => {
@@ -275,15 +271,19 @@ impl Language {
                 self.can_write(to.i, count)?;
                 to.i = to.i.wrapping_add(count);
             }
-            0x65 => {
-                self.can_read(to.i, count)?;
-                for (variable, k) in to.v.iter_mut().zip(0..count) {
-                    *variable = self.byte(to.i.wrapping_add(k));
-                }
-                to.i = to.i.wrapping_add(count);
-            }
+            0x65 => self.fetch(to, count)?,
             _ => return Err(Stop::Unknown),
         }
+        Ok(())
+    }
+
+    // FX65
+    fn fetch(&self, to: &mut State, count: u16) -> Result<(), Stop> {
+        self.can_read(to.i, count)?;
+        for (variable, k) in to.v.iter_mut().zip(0..count) {
+            *variable = self.byte(to.i.wrapping_add(k));
+        }
+        to.i = to.i.wrapping_add(count);
         Ok(())
     }
 
@@ -374,13 +374,5 @@ impl Language {
             Ok(state) => state.ticked(ticks.saturating_sub(early)) == *to,
             Err(_) => false,
         })
-    }
-}
-
-fn copy_page(board: &Board, number: u8, into: &mut [u8]) {
-    if let Some(page) = board.memory().page(number)
-        && page.len() == into.len()
-    {
-        into.copy_from_slice(page);
     }
 }

@@ -31,31 +31,21 @@ use crate::cuts::cut_runs;
 use crate::edition::{EDITIONS, name};
 use crate::files::run_files;
 use crate::report::{write_costs, write_cuts, write_files, write_form, write_frames, write_wrong};
-use crate::runs::{RunFault, run_demos, run_instructions};
-use crate::source::Source;
+use crate::runs::{run_demos, run_instructions, script_of};
+use crate::source::form_of;
 use crate::watch::{KeyTests, Watch};
 use crate::wrong::run_wrong;
 use chip8_lang::Edition;
-use chip8_source::{source, tall_source};
 use std::fs;
-use vip_keypad::read_script;
 
 /// The key script under which instructions are measured.
-const MEASURED_KEYS: &[u8] = b"0 down F\n30000 up F\n";
+const MEASURED_KEYS: &str = "0 down F\n30000 up F\n";
 
 /// Looks at an edition's source, and writes its form. Answers where it tests keys.
 fn look_at_source(rt: &HostRuntime, edition: Edition) -> anyhow::Result<KeyTests> {
-    let text = match edition {
-        Edition::Usual => source(rt.alloc())?,
-        Edition::Tall => tall_source(rt.alloc())?,
-    };
-    let source = Source::new(rt.alloc(), text)?;
-    println!(rt; "{}, source:", name(edition))?;
-    write_form(rt, &source.form()?)?;
-    Ok(KeyTests {
-        first: source.label("key_test")?,
-        last: source.label("key_held")?,
-    })
+    let form = form_of(rt.alloc(), edition)?;
+    write_form(rt, edition, &form)?;
+    Ok(form.key_tests)
 }
 
 /// Measures an edition, and writes what was seen.
@@ -65,16 +55,12 @@ fn measure(
     text: &str,
     key_tests: KeyTests,
 ) -> anyhow::Result<()> {
-    let Ok(keys) = read_script(rt.alloc(), MEASURED_KEYS) else {
-        return Err(RunFault::NotAScript.into());
-    };
+    let keys = script_of(rt.alloc(), MEASURED_KEYS)?;
     let mut watch = Watch::new(key_tests);
     run_demos(rt.alloc(), edition, &mut watch)?;
-    println!(rt; "{}, random games:", name(edition))?;
-    write_frames(rt, &watch)?;
+    write_frames(rt, edition, "random games", &watch)?;
     run_instructions(rt.alloc(), edition, text, &keys, &mut watch)?;
-    println!(rt; "{}, these and each instruction:", name(edition))?;
-    write_frames(rt, &watch)?;
+    write_frames(rt, edition, "these and each instruction", &watch)?;
     write_costs(rt, &watch.costs)
 }
 
@@ -97,14 +83,25 @@ fn run_wrong_ones(
     Ok(())
 }
 
-fn main(rt: HostRuntime) -> anyhow::Result<()> {
-    let costs = fs::read_to_string(&rt, "costs.txt")?;
-    let wrong = fs::read_to_string(&rt, "wrong.txt")?;
+/// Looks at an edition, with the texts of what is measured and of what is wrong.
+fn run_edition(rt: &HostRuntime, edition: Edition, costs: &str, wrong: &str) -> anyhow::Result<()> {
+    let key_tests = look_at_source(rt, edition)?;
+    measure(rt, edition, costs, key_tests)?;
+    run_wrong_ones(rt, edition, wrong, key_tests)
+}
+
+/// Looks at both editions.
+fn run_editions(rt: &HostRuntime) -> anyhow::Result<()> {
+    let costs = fs::read_to_string(rt, "costs.txt")?;
+    let wrong = fs::read_to_string(rt, "wrong.txt")?;
     for edition in EDITIONS {
-        let key_tests = look_at_source(&rt, edition)?;
-        measure(&rt, edition, &costs, key_tests)?;
-        run_wrong_ones(&rt, edition, &wrong, key_tests)?;
+        run_edition(rt, edition, &costs, &wrong)?;
     }
+    Ok(())
+}
+
+fn main(rt: HostRuntime) -> anyhow::Result<()> {
+    run_editions(&rt)?;
     write_files(&rt, &run_files(rt.alloc())?)?;
     write_cuts(&rt, &cut_runs(rt.alloc())?)
 }

@@ -2,12 +2,15 @@
 
 use crate::costs::{Costs, Most};
 use crate::cuts::Seen as SeenCuts;
+use crate::edition::name;
 use crate::files::Seen;
 use crate::source::Form;
 use crate::watch::Watch;
+use chip8_lang::Edition;
 
 /// Writes what was found in a source.
-pub fn write_form(rt: &HostRuntime, form: &Form) -> anyhow::Result<()> {
+pub fn write_form(rt: &HostRuntime, edition: Edition, form: &Form) -> anyhow::Result<()> {
+    println!(rt; "{}, source:", name(edition))?;
     println!(rt;
         "  {} instructions, {} lines of data outside the font and the dispatch table",
         form.instructions, form.stray
@@ -20,7 +23,13 @@ pub fn write_form(rt: &HostRuntime, form: &Form) -> anyhow::Result<()> {
 }
 
 /// Writes what was seen of frames.
-pub fn write_frames(rt: &HostRuntime, watch: &Watch) -> anyhow::Result<()> {
+pub fn write_frames(
+    rt: &HostRuntime,
+    edition: Edition,
+    of: &str,
+    watch: &Watch,
+) -> anyhow::Result<()> {
+    println!(rt; "{}, {of}:", name(edition))?;
     println!(rt;
         "  {} dispatch points, {} frames, {} interrupts, {} of them not at cycle 1092",
         watch.dispatches, watch.frames, watch.interrupts, watch.strays
@@ -47,12 +56,21 @@ pub fn write_wrong(rt: &HostRuntime, name: &str, watch: &Watch) -> anyhow::Resul
 
 /// Writes the most cycles of each kind of step, beside its bound, and of its parts.
 pub fn write_costs(rt: &HostRuntime, costs: &Costs) -> anyhow::Result<()> {
-    write_most(rt, "boot", costs.boot, 1_000)?;
-    write_most(rt, "00E0", costs.clear, 7_600)?;
-    write_most(rt, "DXYN", costs.draw, 14_672)?;
-    write_most(rt, "FX33, FX55, FX65", costs.transfer, 2_600)?;
-    write_most(rt, "other instructions but FX0A", costs.ordinary, 2_200)?;
-    write_most(rt, "stops", costs.stop, 2_200)?;
+    for (what, most, bound) in [
+        ("boot", costs.boot, 1_000),
+        ("00E0", costs.clear, 7_600),
+        ("DXYN", costs.draw, 14_672),
+        ("FX33, FX55, FX65", costs.transfer, 2_600),
+        ("other instructions but FX0A", costs.ordinary, 2_200),
+        ("stops", costs.stop, 2_200),
+    ] {
+        write_most(rt, what, most, bound)?;
+    }
+    write_parts(rt, costs)
+}
+
+/// Writes the cycles of the parts of some steps.
+fn write_parts(rt: &HostRuntime, costs: &Costs) -> anyhow::Result<()> {
     println!(rt;
         "  main code from a dispatch point to the routine of its opcode: {} to {} cycles",
         costs.dispatch.least, costs.dispatch.most

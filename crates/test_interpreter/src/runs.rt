@@ -9,7 +9,7 @@ use hex::{FromHex, FromHexError};
 use std::alloc::{AllocError, Global};
 use std::str::SplitWhitespace;
 use thiserror::Error;
-use vip_keypad::Script;
+use vip_keypad::{Script, read_script};
 
 /// The cycles of a run that measures an instruction.
 const MEASURED_CYCLES: u64 = 45_000;
@@ -29,8 +29,11 @@ const EARLY_LOADS: usize = 9;
 /// How many additions, each four cycles longer than a load, take as much longer as two loads.
 const MOST_ADDS: usize = 44;
 
+/// The most bytes of a key script.
+const MOST_SCRIPT: usize = 1_024;
+
 /// Why something could not be measured.
-#[derive(Clone, Copy, Debug, PartialEq, Eq, Error)]
+#[derive(Clone, Copy, Debug, Error)]
 pub enum RunFault {
     #[error("not an instruction")]
     NotAnInstruction,
@@ -54,6 +57,17 @@ impl From<FromHexError> for RunFault {
     }
 }
 
+/// The key script of a text.
+pub fn script_of(alloc: Global, text: &str) -> Result<Script, RunFault> {
+    if text.len() > MOST_SCRIPT {
+        return Err(RunFault::NotAScript);
+    }
+    match read_script(alloc, text.as_bytes()) {
+        Ok(script) => Ok(script),
+        Err(_) => Err(RunFault::NotAScript),
+    }
+}
+
 /// Runs random games, each from reset on, until they have enough dispatch points.
 pub fn run_demos(alloc: Global, edition: Edition, watch: &mut Watch) -> Result<(), RunFault> {
     let keys = Script::empty(alloc);
@@ -65,8 +79,7 @@ pub fn run_demos(alloc: Global, edition: Edition, watch: &mut Watch) -> Result<(
             break;
         }
         let game = demo(alloc, number, opcodes)?;
-        let mut console = Console::start(alloc, edition, &game, &keys)?;
-        watch.run(&mut console, DEMO_CYCLES);
+        watch.run_game(alloc, edition, &game, &keys, DEMO_CYCLES)?;
     }
     Ok(())
 }
@@ -84,18 +97,29 @@ pub fn run_instructions(
         if line.starts_with('#') {
             continue;
         }
-        let waits = line.contains("| D") || line.contains("| 00E0");
-        for loads in 0..MOST_LOADS {
-            let adds = if waits && loads < EARLY_LOADS {
-                MOST_ADDS
-            } else {
-                1
-            };
-            for more in 0..adds {
-                let game = measured_game(alloc, line, loads, more)?;
-                let mut console = Console::start(alloc, edition, &game, keys)?;
-                watch.run(&mut console, MEASURED_CYCLES);
-            }
+        run_instruction(alloc, edition, line, keys, watch)?;
+    }
+    Ok(())
+}
+
+/// Runs the instruction of a line of the table.
+fn run_instruction(
+    alloc: Global,
+    edition: Edition,
+    line: &str,
+    keys: &Script,
+    watch: &mut Watch,
+) -> Result<(), RunFault> {
+    let waits = line.contains("| D") || line.contains("| 00E0");
+    for loads in 0..MOST_LOADS {
+        let adds = if waits && loads < EARLY_LOADS {
+            MOST_ADDS
+        } else {
+            1
+        };
+        for more in 0..adds {
+            let game = measured_game(alloc, line, loads, more)?;
+            watch.run_game(alloc, edition, &game, keys, MEASURED_CYCLES)?;
         }
     }
     Ok(())
@@ -121,6 +145,22 @@ fn measured_game(
     }
     push_opcodes(&mut game, opcode.split_whitespace())?;
     Ok(game)
+}
+
+impl Watch {
+    /// Runs a game from reset on.
+    fn run_game(
+        &mut self,
+        alloc: Global,
+        edition: Edition,
+        game: &[u8],
+        keys: &Script,
+        limit: u64,
+    ) -> Result<(), AllocError> {
+        let mut console = Console::start(alloc, edition, game, keys)?;
+        self.run(&mut console, limit);
+        Ok(())
+    }
 }
 
 /// Puts the bytes of opcodes in hexadecimal behind others.

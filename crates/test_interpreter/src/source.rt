@@ -1,7 +1,12 @@
 //! The form of the interpreter's source: what is written in mnemonics, and what is a table.
 
+ghost use Rattle.std.specs.Prelude.{◌≤◌, IfOk, vec_len};
+
+use crate::watch::KeyTests;
 use asm_core::{AsmFault, Assembly, assemble, next_line};
 use asm_lex::{Word, line};
+use chip8_lang::Edition;
+use chip8_source::{source, tall_source};
 use std::alloc::{AllocError, Global};
 use thiserror::Error;
 
@@ -38,11 +43,8 @@ const SHIFTS: [&str; 7] = [
     "shift7", "shift6", "shift5", "shift4", "shift3", "shift2", "shift1",
 ];
 
-/// The most bytes of a source.
-const MOST_SOURCE: usize = 1_048_576;
-
 /// Why a source couldn't be looked at.
-#[derive(Clone, Copy, Debug, PartialEq, Eq, Error)]
+#[derive(Clone, Copy, Debug, Error)]
 pub enum SourceFault {
     #[error("{0}")]
     Assembly(AsmFault),
@@ -50,8 +52,6 @@ pub enum SourceFault {
     NoMemory,
     #[error("no label {0}")]
     NoLabel(&'static str),
-    #[error("too long")]
-    TooLong,
 }
 
 impl From<AllocError> for SourceFault {
@@ -71,6 +71,8 @@ pub struct Form {
     pub routines: usize,
     /// Shifts of a sprite's row that stand in line, one behind the other.
     pub shifts: usize,
+    /// Where keys are tested.
+    pub key_tests: KeyTests,
 }
 
 /// The word of a line.
@@ -81,18 +83,33 @@ fn word_of(bytes: &[u8]) -> Option<Word> {
     }
 }
 
+/// The source of an edition.
+fn text_of(alloc: Global, edition: Edition) -> Result<Vec<u8>, AllocError>
+    ensures { IfOk result (λ text. vec_len text ≤ 1048576) }
+{
+    match edition {
+        Edition::Usual => source(alloc),
+        Edition::Tall => tall_source(alloc),
+    }
+}
+
+/// What is found in the source of an edition.
+pub fn form_of(alloc: Global, edition: Edition) -> Result<Form, SourceFault> {
+    let source = Source::new(alloc, edition)?;
+    source.form()
+}
+
 /// A source and its assembly.
 #[derive(Drop)]
-pub struct Source {
+struct Source {
     text: Vec<u8>,
     made: Assembly,
 }
 
 impl Source {
-    pub fn new(alloc: Global, text: Vec<u8>) -> Result<Source, SourceFault> {
-        if text.len() > MOST_SOURCE {
-            return Err(SourceFault::TooLong);
-        }
+    /// Those of an edition.
+    fn new(alloc: Global, edition: Edition) -> Result<Source, SourceFault> {
+        let text = text_of(alloc, edition)?;
         match assemble(alloc, &text) {
             Ok(made) => Ok(Source { text, made }),
             Err(fault) => Err(SourceFault::Assembly(fault)),
@@ -100,11 +117,18 @@ impl Source {
     }
 
     /// The value of a label.
-    pub fn label(&self, name: &'static str) -> Result<u16, SourceFault> {
+    fn label(&self, name: &'static str) -> Result<u16, SourceFault> {
         self.made.symbol(name).ok_or(SourceFault::NoLabel(name))
     }
 
-    pub fn form(&self) -> Result<Form, SourceFault> {
+    fn key_tests(&self) -> Result<KeyTests, SourceFault> {
+        Ok(KeyTests {
+            first: self.label("key_test")?,
+            last: self.label("key_held")?,
+        })
+    }
+
+    fn form(&self) -> Result<Form, SourceFault> {
         let table = self.label("table")?;
         let (instructions, stray) = self.lines(table);
         Ok(Form {
@@ -112,6 +136,7 @@ impl Source {
             stray,
             routines: self.routines(table),
             shifts: self.shifts(),
+            key_tests: self.key_tests()?,
         })
     }
 
@@ -145,14 +170,19 @@ impl Source {
         })
     }
 
+    // These two bytes lie at an address.
+    fn has_word(&self, at: u16, word: u16) -> bool {
+        let [high, low] = word.to_be_bytes();
+        self.made.byte(at) == Some(high) && self.made.byte(at.wrapping_add(1)) == Some(low)
+    }
+
     fn routines(&self, table: u16) -> usize {
         let mut count = 0usize;
         let mut at = table;
         for name in ROUTINES {
-            let high = self.made.byte(at);
-            let low = self.made.byte(at.wrapping_add(1));
-            let word = self.made.symbol(name).map(u16::to_be_bytes);
-            if word.is_some_and(|[a, b]| high == Some(a) && low == Some(b)) {
+            if let Some(routine) = self.made.symbol(name)
+                && self.has_word(at, routine)
+            {
                 count = count.saturating_add(1);
             }
             at = at.wrapping_add(2);

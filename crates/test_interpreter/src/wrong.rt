@@ -24,13 +24,25 @@ pub fn run_wrong<'a>(
 ) -> Result<&'a str, RunFault> {
     let (name, rest) = line.split_once('|').ok_or(RunFault::NotAnInstruction)?;
     let (changes, opcodes) = rest.split_once('|').ok_or(RunFault::NotAnInstruction)?;
+    run_changed(alloc, edition, changes, opcodes, watch)?;
+    Ok(name.trim_end())
+}
+
+/// Runs a game on an edition's ROM with changes.
+fn run_changed(
+    alloc: Global,
+    edition: Edition,
+    changes: &str,
+    opcodes: &str,
+    watch: &mut Watch,
+) -> Result<(), RunFault> {
     let mut rom = *rom_of(edition);
     change(&mut rom, changes.split_whitespace())?;
     let mut game = Vec::new(alloc);
     push_opcodes(&mut game, opcodes.split_whitespace())?;
     let mut console = Console::with_rom(alloc, edition, &rom, &game, &Script::empty(alloc))?;
     watch.run(&mut console, CYCLES);
-    Ok(name.trim_end())
+    Ok(())
 }
 
 /// Puts bytes into a ROM: each word has the four digits of an address and the two of its byte.
