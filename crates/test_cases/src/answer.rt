@@ -13,10 +13,31 @@ pub struct Answer {
     pub height: usize,
 }
 
+/// What is counted of an answer.
+#[derive(Clone, Copy)]
+pub enum Counted {
+    /// Bytes of output, and puts to it.
+    Bytes,
+    Puts,
+    /// Puts to the report.
+    Reports,
+    Records,
+}
+
 impl Answer {
     /// The lines of the output.
     pub fn lines(&self) -> Lines<'_> {
         Lines::new(self.out.bytes())
+    }
+
+    /// How many of these it has.
+    pub fn count(&self, what: Counted) -> u64 {
+        match what {
+            Counted::Bytes => self.out.bytes().len() as u64,
+            Counted::Puts => u64::from(self.out.calls()),
+            Counted::Reports => u64::from(self.err.calls()),
+            Counted::Records => self.records(),
+        }
     }
 
     /// How many records the output has.

@@ -4,6 +4,8 @@ use crate::answer::Answer;
 use crate::due::{Due, Fact};
 use crate::fault::CaseFault;
 use crate::pattern::number;
+use crate::screen::Screen;
+use crate::word::{Line, Word};
 use hex::FromHex;
 use std::alloc::{AllocError, Global};
 use vip_call::vip_main;
@@ -63,21 +65,31 @@ impl Case {
         })
     }
 
-    /// Takes a further line of the case: its word, and the rest of it.
-    pub fn add(&mut self, alloc: Global, word: &str, rest: &str) -> Result<(), CaseFault> {
-        match word {
-            "words" => self.words = words_of(alloc, rest)?,
-            "both" => self.both = true,
-            "fails" => self.fail(rest)?,
-            "file" => self.add_file(alloc, rest)?,
-            "hex" | "text" | "part" | "repeat" => push_piece(self.bytes()?, alloc, word, rest)?,
-            "row" => self.set_row(rest)?,
-            _ => self.add_fact(alloc, word, rest)?,
+    /// Takes a further line of the case.
+    pub fn add(&mut self, alloc: Global, line: &Line<'_>) -> Result<(), CaseFault> {
+        let rest = line.rest;
+        match line.word {
+            Word::Words => self.words = words_of(alloc, rest)?,
+            Word::Both => self.both = true,
+            Word::Fails => self.fail(rest)?,
+            Word::File => self.add_file(alloc, rest)?,
+            Word::Hex | Word::Text | Word::Part | Word::Repeat => {
+                push_piece(self.bytes()?, alloc, line)?;
+            }
+            Word::Row => self.set_row(rest)?,
+            _ => self.add_fact(alloc, line)?,
         }
-        match self.facts.last_mut() {
-            Some(fact) if self.open == Open::Fact => Ok(fact.note(word, rest)?),
-            _ => Ok(()),
+        self.note(line.text)
+    }
+
+    // A line behind something that is due says more of it.
+    fn note(&mut self, line: &str) -> Result<(), CaseFault> {
+        if self.open == Open::Fact
+            && let Some(fact) = self.facts.last_mut()
+        {
+            fact.note(line)?;
         }
+        Ok(())
     }
 
     fn add_file(&mut self, alloc: Global, rest: &str) -> Result<(), CaseFault> {
@@ -90,13 +102,13 @@ impl Case {
         Ok(())
     }
 
-    fn add_fact(&mut self, alloc: Global, word: &str, rest: &str) -> Result<(), CaseFault> {
+    fn add_fact(&mut self, alloc: Global, line: &Line<'_>) -> Result<(), CaseFault> {
         if let Some(fact) = self.facts.last_mut()
-            && fact.due.extend(alloc, word, rest)?
+            && fact.due.extend(alloc, line)?
         {
             return Ok(());
         }
-        let due = Due::read(alloc, word, rest)?;
+        let due = Due::read(alloc, line)?;
         self.facts.push(Fact {
             text: String::new(alloc),
             due,
@@ -120,15 +132,19 @@ impl Case {
         }
     }
 
+    // The screen of which a row is set.
+    fn screen(&mut self) -> Result<&mut Screen, CaseFault> {
+        match self.facts.last_mut() {
+            Some(fact) => fact.due.screen().ok_or(CaseFault::NotACase),
+            None => Err(CaseFault::NotACase),
+        }
+    }
+
     fn set_row(&mut self, rest: &str) -> Result<(), CaseFault> {
         let (row, pixels) = rest.split_once(' ').ok_or(CaseFault::NotACase)?;
         let row = number(row)?;
         let pixels = <[u8; 8]>::from_hex(pixels)?;
-        let Some(fact) = self.facts.last_mut() else {
-            return Err(CaseFault::NotACase);
-        };
-        let screen = fact.due.screen().ok_or(CaseFault::NotACase)?;
-        if screen.set(row, pixels) {
+        if self.screen()?.set(row, pixels) {
             Ok(())
         } else {
             Err(CaseFault::NotACase)
@@ -163,6 +179,14 @@ impl Case {
         if self.facts.is_empty() {
             return Err(CaseFault::NotACase);
         }
+        let words = self.words(alloc, tall)?;
+        let mut files = self.files(alloc)?;
+        let out = sink(alloc, OUT_ROOM, self.failing_out)?;
+        let err = sink(alloc, ERR_ROOM, self.failing_err)?;
+        Ok(answer(alloc, words.as_slice(), &mut files, out, err))
+    }
+
+    fn words(&self, alloc: Global, tall: bool) -> Result<Vec<String>, CaseFault> {
         let mut words = Vec::new(alloc);
         for word in self.words.iter() {
             words.push(word.clone()?)?;
@@ -170,10 +194,7 @@ impl Case {
         if tall {
             words.push(String::from_str(alloc, "--tall")?)?;
         }
-        let mut files = self.files(alloc)?;
-        let out = sink(alloc, OUT_ROOM, self.failing_out)?;
-        let err = sink(alloc, ERR_ROOM, self.failing_err)?;
-        Ok(answer(alloc, words.as_slice(), &mut files, out, err))
+        Ok(words)
     }
 
     /// The lines of what was due and didn't come.
@@ -251,19 +272,21 @@ pub fn push_hex(bytes: &mut Vec<u8>, text: &str) -> Result<(), CaseFault> {
     Ok(())
 }
 
-// Adds the bytes of a line behind another: its word, and the rest of it.
-fn push_piece(bytes: &mut Vec<u8>, alloc: Global, word: &str, rest: &str) -> Result<(), CaseFault> {
-    match word {
-        "hex" => push_hex(bytes, rest),
-        "repeat" => push_repeated(bytes, alloc, rest),
-        _ => {
-            bytes.extend_from_slice(rest.as_bytes())?;
-            if word == "text" {
-                bytes.push(b'\n')?;
-            }
-            Ok(())
-        }
+// Adds the bytes of a line behind another.
+fn push_piece(bytes: &mut Vec<u8>, alloc: Global, line: &Line<'_>) -> Result<(), CaseFault> {
+    match line.word {
+        Word::Hex => push_hex(bytes, line.rest)?,
+        Word::Repeat => push_repeated(bytes, alloc, line.rest)?,
+        Word::Text => push_text(bytes, line.rest)?,
+        _ => bytes.extend_from_slice(line.rest.as_bytes())?,
     }
+    Ok(())
+}
+
+fn push_text(bytes: &mut Vec<u8>, text: &str) -> Result<(), AllocError> {
+    bytes.extend_from_slice(text.as_bytes())?;
+    bytes.push(b'\n')?;
+    Ok(())
 }
 
 fn push_repeated(bytes: &mut Vec<u8>, alloc: Global, text: &str) -> Result<(), CaseFault> {

@@ -1,10 +1,11 @@
 //! What is due to a case, and whether it came.
 
-use crate::answer::Answer;
+use crate::answer::{Answer, Counted};
 use crate::case::push_hex;
 use crate::fault::CaseFault;
 use crate::pattern::{Range, fits, number};
 use crate::screen::Screen;
+use crate::word::{Line, Word};
 use std::alloc::{AllocError, Global};
 
 /// Something that is due.
@@ -16,11 +17,9 @@ pub struct Fact {
 }
 
 impl Fact {
-    /// Adds a line to the text: its word, and the rest of it.
-    pub fn note(&mut self, word: &str, rest: &str) -> Result<(), AllocError> {
-        self.text.push_str(word)?;
-        self.text.push(' ')?;
-        self.text.push_str(rest)?;
+    /// Adds a line to the text.
+    pub fn note(&mut self, line: &str) -> Result<(), AllocError> {
+        self.text.push_str(line)?;
         self.text.push('\n')?;
         Ok(())
     }
@@ -35,11 +34,8 @@ pub enum Due {
     Report(Vec<u8>),
     /// The bytes of the output.
     Output(Vec<u8>),
-    /// How many bytes of output, puts to it and puts to the report.
-    Bytes(Range),
-    Puts(Range),
-    Reports(Range),
-    Records(Range),
+    /// How many of these the answer has.
+    Count(Counted, Range),
     /// One of these is the last record.
     Last(Vec<String>),
     /// A line of the output by its number, counted from 1.
@@ -53,31 +49,31 @@ pub enum Due {
 }
 
 impl Due {
-    /// What a line says that is due: its word, and the rest of it.
-    pub fn read(alloc: Global, word: &str, rest: &str) -> Result<Due, CaseFault> {
-        Ok(match word {
-            "status" => Due::Status(numbers(alloc, rest)?),
-            "report" => Due::Report(line_of(alloc, rest)?),
-            "err" => Due::Report(Vec::new(alloc)),
-            "out" => Due::Output(Vec::new(alloc)),
-            "bytes" => Due::Bytes(Range::read(rest)?),
-            "puts" => Due::Puts(Range::read(rest)?),
-            "reports" => Due::Reports(Range::read(rest)?),
-            "records" => Due::Records(Range::read(rest)?),
-            "last" => Due::Last(vec![in alloc; String::from_str(alloc, rest)?]?),
-            "line" => numbered_line(alloc, rest)?,
-            "from" => placed_bytes(alloc, rest)?,
-            "screen" => Due::Screen(Screen::dark()),
-            "pictures" => Due::Pictures(vec![in alloc; (number(rest)?, Screen::dark())]?),
-            _ => return Err(CaseFault::NotACase),
-        })
+    /// What a line says that is due.
+    pub fn read(alloc: Global, line: &Line<'_>) -> Result<Due, CaseFault> {
+        let rest = line.rest;
+        match line.word {
+            Word::Status => Ok(Due::Status(numbers(alloc, rest)?)),
+            Word::Report => Ok(Due::Report(line_of(alloc, rest)?)),
+            Word::Err => Ok(Due::Report(Vec::new(alloc))),
+            Word::Out => Ok(Due::Output(Vec::new(alloc))),
+            Word::Count(what) => Ok(Due::Count(what, Range::read(rest)?)),
+            Word::Last => last_line(alloc, rest),
+            Word::Line => numbered_line(alloc, rest),
+            Word::From => placed_bytes(alloc, rest),
+            Word::Screen => Ok(Due::Screen(Screen::dark())),
+            Word::Pictures => pictures(alloc, rest),
+            _ => Err(CaseFault::NotACase),
+        }
     }
 
     /// Takes a line behind another with the same word, as `last` and `pictures` have them. False where it isn't one.
-    pub fn extend(&mut self, alloc: Global, word: &str, rest: &str) -> Result<bool, CaseFault> {
-        match (self, word) {
-            (Due::Last(lines), "last") => lines.push(String::from_str(alloc, rest)?)?,
-            (Due::Pictures(runs), "pictures") => runs.push((number(rest)?, Screen::dark()))?,
+    pub fn extend(&mut self, alloc: Global, line: &Line<'_>) -> Result<bool, CaseFault> {
+        match (self, line.word) {
+            (Due::Last(lines), Word::Last) => lines.push(String::from_str(alloc, line.rest)?)?,
+            (Due::Pictures(runs), Word::Pictures) => {
+                runs.push((number(line.rest)?, Screen::dark()))?;
+            }
             _ => return Ok(false),
         }
         Ok(true)
@@ -110,18 +106,12 @@ impl Due {
             Due::Status(statuses) => statuses.contains(&u64::from(came.status)),
             Due::Report(bytes) => came.err.bytes() == bytes.as_slice(),
             Due::Output(bytes) => out == bytes.as_slice(),
-            Due::Bytes(count) => count.contains(out.len() as u64),
-            Due::Puts(count) => count.contains(u64::from(came.out.calls())),
-            Due::Reports(count) => count.contains(u64::from(came.err.calls())),
-            Due::Records(count) => count.contains(came.records()) && puts_records(came),
-            Due::Last(lines) => match came.last_record() {
-                Some(record) => lines.iter().any(|line| fits(line, record)),
-                None => false,
-            },
-            Due::Line(n, line) => match came.lines().nth(n.saturating_sub(1) as usize) {
-                Some(bytes) => fits(line, bytes),
-                None => false,
-            },
+            Due::Count(Counted::Records, count) => {
+                count.contains(came.records()) && puts_records(came)
+            }
+            Due::Count(what, count) => count.contains(came.count(*what)),
+            Due::Last(lines) => is_last(lines, came),
+            Due::Line(n, line) => has_line(*n, line, came),
             Due::From(n, bytes) => match out.get(*n as usize..) {
                 Some(behind) => behind.starts_with(bytes),
                 None => false,
@@ -129,6 +119,22 @@ impl Due {
             Due::Screen(screen) => out.ends_with(&screen.text(alloc, came.height)?),
             Due::Pictures(runs) => shows(alloc, runs, came)?,
         })
+    }
+}
+
+// The last record is one of these lines.
+fn is_last(lines: &[String], came: &Answer) -> bool {
+    match came.last_record() {
+        Some(record) => lines.iter().any(|line| fits(line, record)),
+        None => false,
+    }
+}
+
+// This line of the output, counted from 1, is the one that is due.
+fn has_line(n: u64, due: &str, came: &Answer) -> bool {
+    match came.lines().nth(n.saturating_sub(1) as usize) {
+        Some(line) => fits(due, line),
+        None => false,
     }
 }
 
@@ -170,6 +176,16 @@ fn line_of(alloc: Global, text: &str) -> Result<Vec<u8>, AllocError> {
         bytes.push(b'\n')?;
     }
     Ok(bytes)
+}
+
+fn last_line(alloc: Global, text: &str) -> Result<Due, CaseFault> {
+    let line = String::from_str(alloc, text)?;
+    Ok(Due::Last(vec![in alloc; line]?))
+}
+
+fn pictures(alloc: Global, text: &str) -> Result<Due, CaseFault> {
+    let count = number(text)?;
+    Ok(Due::Pictures(vec![in alloc; (count, Screen::dark())]?))
 }
 
 fn numbered_line(alloc: Global, text: &str) -> Result<Due, CaseFault> {

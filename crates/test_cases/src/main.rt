@@ -17,14 +17,16 @@ mod answer;
 mod case;
 mod due;
 mod fault;
+mod group;
 mod outside;
 mod pattern;
 mod screen;
 mod texts;
+mod word;
 
 use crate::answer::{Answer, is_record};
 use crate::case::Case;
-use crate::fault::CaseFault;
+use crate::group::{Group, groups_of};
 use crate::outside::{write_files, write_streams};
 use crate::texts::{write_faults, write_refusals};
 use std::fs;
@@ -42,32 +44,49 @@ struct Count {
 
 impl Count {
     const NONE: Count = Count { run: 0, right: 0 };
+
+    fn add(&mut self, is_right: bool) {
+        self.run = self.run.saturating_add(1);
+        self.right = self.right.saturating_add(u32::from(is_right));
+    }
 }
 
-/// Runs a case, in both editions where it is for both, and writes what isn't as it must be.
-fn judge(rt: &HostRuntime, case: &Case, count: &mut Count) -> anyhow::Result<()> {
-    for tall in [false, true] {
-        if tall && !case.both {
-            continue;
-        }
-        let answer = case.run(rt.alloc(), tall)?;
-        count.run = count.run.saturating_add(1);
-        let missed = case.missed(rt.alloc(), &answer)?;
-        if missed.is_empty() {
-            count.right = count.right.saturating_add(1);
-        } else {
-            println!(rt; "{}{}", case.name, if tall { ", tall" } else { "" })?;
-            write_missed(rt, missed.as_str(), &answer)?;
-        }
+/// Runs a case in an edition, and writes what isn't as it must be.
+fn judge(rt: &HostRuntime, case: &Case, tall: bool, count: &mut Count) -> anyhow::Result<()> {
+    let answer = case.run(rt.alloc(), tall)?;
+    let missed = case.missed(rt.alloc(), &answer)?;
+    count.add(missed.is_empty());
+    if missed.is_empty() {
+        return Ok(());
+    }
+    write_missed(rt, case, tall, &missed, &answer)
+}
+
+/// Writes what was due to a case, and what came.
+fn write_missed(
+    rt: &HostRuntime,
+    case: &Case,
+    tall: bool,
+    missed: &str,
+    answer: &Answer,
+) -> anyhow::Result<()> {
+    println!(rt; "{}{}", case.name, if tall { ", tall" } else { "" })?;
+    write_due(rt, missed)?;
+    write_came(rt, answer)?;
+    write_records(rt, answer)?;
+    write_rows(rt, answer)
+}
+
+/// Writes what was due, a line each.
+fn write_due(rt: &HostRuntime, missed: &str) -> anyhow::Result<()> {
+    for line in missed.lines() {
+        println!(rt; "  due:  {line}")?;
     }
     Ok(())
 }
 
-/// Writes what was due, a line each, and what came.
-fn write_missed(rt: &HostRuntime, missed: &str, answer: &Answer) -> anyhow::Result<()> {
-    for line in missed.lines() {
-        println!(rt; "  due:  {line}")?;
-    }
+/// Writes what came.
+fn write_came(rt: &HostRuntime, answer: &Answer) -> anyhow::Result<()> {
     println!(rt; "  came: status {}", answer.status)?;
     println!(rt; "  came: report {}", answer.err.bytes().escape_ascii())?;
     println!(rt;
@@ -77,12 +96,22 @@ fn write_missed(rt: &HostRuntime, missed: &str, answer: &Answer) -> anyhow::Resu
         answer.err.calls(),
         answer.records()
     )?;
+    Ok(())
+}
+
+/// Writes the first records of an output, and its last.
+fn write_records(rt: &HostRuntime, answer: &Answer) -> anyhow::Result<()> {
     for line in answer.lines().filter(|line| is_record(line)).take(SHOWN) {
         println!(rt; "  came: {}", line.escape_ascii())?;
     }
     if let Some(record) = answer.last_record() {
         println!(rt; "  came: last {}", record.escape_ascii())?;
     }
+    Ok(())
+}
+
+/// Writes the lit rows of an output's screen.
+fn write_rows(rt: &HostRuntime, answer: &Answer) -> anyhow::Result<()> {
     let mut y = 0usize;
     for row in answer.lines().filter(|line| !is_record(line)) {
         if row.contains(&b'#') {
@@ -93,15 +122,27 @@ fn write_missed(rt: &HostRuntime, missed: &str, answer: &Answer) -> anyhow::Resu
     Ok(())
 }
 
-/// Writes how the cases of a group went, and begins to count anew.
-fn end_group(rt: &HostRuntime, group: &str, count: &mut Count) -> anyhow::Result<()> {
-    if count.run > 0 {
-        println!(rt;
-            "{group}: {} of {} cases as they must be",
-            count.right, count.run
-        )?;
+/// Runs the cases of a group, those for both editions in each, and writes how they went.
+fn run_group(rt: &HostRuntime, group: &Group) -> anyhow::Result<()> {
+    let mut count = Count::NONE;
+    for case in group.cases.iter() {
+        judge(rt, case, false, &mut count)?;
+        if case.both {
+            judge(rt, case, true, &mut count)?;
+        }
     }
-    *count = Count::NONE;
+    println!(rt;
+        "{}: {} of {} cases as they must be",
+        group.name, count.right, count.run
+    )?;
+    Ok(())
+}
+
+/// Runs the groups of a text.
+fn run_groups(rt: &HostRuntime, text: &str) -> anyhow::Result<()> {
+    for group in groups_of(rt.alloc(), text)?.iter() {
+        run_group(rt, group)?;
+    }
     Ok(())
 }
 
@@ -118,34 +159,7 @@ fn write_demo_game(rt: &HostRuntime) -> anyhow::Result<()> {
 }
 
 fn main(rt: HostRuntime) -> anyhow::Result<()> {
-    let text = fs::read_to_string(&rt, "cases.txt")?;
-    let mut group = String::new(rt.alloc());
-    let mut count = Count::NONE;
-    let mut case: Option<Case> = None;
-    for line in text.lines() {
-        let line = line.trim_start();
-        if line.is_empty() || line.starts_with('#') {
-            continue;
-        }
-        let (word, rest) = line.split_once(' ').unwrap_or((line, ""));
-        let begins = word == "case" || word == "group";
-        if begins && let Some(case) = case.take() {
-            judge(&rt, &case, &mut count)?;
-        }
-        if word == "group" {
-            end_group(&rt, group.as_str(), &mut count)?;
-            group = String::from_str(rt.alloc(), rest)?;
-        } else if begins {
-            case = Some(Case::new(rt.alloc(), rest)?);
-        } else {
-            let case = case.as_mut().ok_or(CaseFault::NotACase)?;
-            case.add(rt.alloc(), word, rest)?;
-        }
-    }
-    if let Some(case) = case.take() {
-        judge(&rt, &case, &mut count)?;
-    }
-    end_group(&rt, group.as_str(), &mut count)?;
+    run_groups(&rt, &fs::read_to_string(&rt, "cases.txt")?)?;
     write_demo_game(&rt)?;
     write_refusals(&rt)?;
     write_faults(&rt)?;
