@@ -46,7 +46,7 @@ enum Word {
     Is(Reading),
 }
 
-const WORDS: [(&str, Word); 16] = [
+const WORDS: &[(&str, Word)] = &[
     ("fill", Word::Fill),
     ("rom", Word::Rom),
     ("ram", Word::Ram),
@@ -255,8 +255,8 @@ fn put(bytes: &mut [u8], rest: &str) -> Result<(), VectorFault>
 /// What a word says.
 fn word_of(word: &str) -> Result<Word, VectorFault> {
     for (name, meaning) in WORDS {
-        if name == word {
-            return Ok(meaning);
+        if *name == word {
+            return Ok(*meaning);
         }
     }
     Err(VectorFault::NotAVector)
