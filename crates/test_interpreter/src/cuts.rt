@@ -97,6 +97,12 @@ impl Numbers {
         Ok(text)
     }
 
+    /// A key script.
+    fn script(&mut self, alloc: Global) -> Result<Script, RunFault> {
+        let text = self.events(alloc)?;
+        script_of(alloc, &text)
+    }
+
     /// A limit.
     fn limit(&mut self) -> u64
         ensures { result ≤ 120_000 }
@@ -119,8 +125,8 @@ fn start(alloc: Global, cut: &Cut<'_>) -> Result<Vip, RunFault>
 fn trace(alloc: Global, cut: &Cut<'_>, limit: u64) -> Result<Written<RunEnd>, RunFault>
     requires { limit ≤ 120_000 }
 {
-    let mut vip = start(alloc, cut)?;
     let mut out = MemSink::new(alloc, ROOM)?;
+    let mut vip = start(alloc, cut)?;
     let end = show_trace(&mut vip, limit, true, false, &mut out);
     Ok(Written { out, end })
 }
@@ -129,8 +135,8 @@ fn trace(alloc: Global, cut: &Cut<'_>, limit: u64) -> Result<Written<RunEnd>, Ru
 fn save(alloc: Global, cut: &Cut<'_>) -> Result<Written<Option<RunEnd>>, RunFault>
     requires { cut.now.first ≤ 120_000 }
 {
-    let mut vip = start(alloc, cut)?;
     let mut out = MemSink::new(alloc, ROOM)?;
+    let mut vip = start(alloc, cut)?;
     let end = show_saved(&mut vip, cut.first, &mut out);
     Ok(Written { out, end })
 }
@@ -139,11 +145,10 @@ fn save(alloc: Global, cut: &Cut<'_>) -> Result<Written<Option<RunEnd>>, RunFaul
 fn resume(alloc: Global, cut: &Cut<'_>, file: &[u8]) -> Result<Written<RunEnd>, RunFault>
     requires { cut.now.last ≤ 120_000 }
 {
-    let mut run = match Resumed::open(alloc, file, cut.script) {
-        Ok(run) => run,
-        Err(_) => return Err(RunFault::NotAState),
-    };
     let mut out = MemSink::new(alloc, ROOM)?;
+    let Ok(mut run) = Resumed::open(alloc, file, cut.script) else {
+        return Err(RunFault::NotAState);
+    };
     let end = show_resumed(&mut run, cut.last, true, &mut out);
     Ok(Written { out, end })
 }
@@ -221,7 +226,7 @@ fn cut_in(
 /// Cuts the runs of a random game in both editions.
 fn cut_game(alloc: Global, numbers: &mut Numbers, seen: &mut Seen) -> Result<(), RunFault> {
     let game = numbers.game(alloc)?;
-    let script = script_of(alloc, &numbers.events(alloc)?)?;
+    let script = numbers.script(alloc)?;
     for edition in EDITIONS {
         cut_in(alloc, numbers, edition, &game, &script, seen)?;
     }

@@ -16,7 +16,7 @@ const FONT: u16 = 0x8700;
 const FONT_END: u16 = 0x8750;
 
 /// The labels in the dispatch table, by the first digit of an opcode.
-const ROUTINES: [&str; 16] = [
+const ROUTINES: &[&str] = &[
     "system",
     "jump",
     "call",
@@ -39,7 +39,7 @@ const ROUTINES: [&str; 16] = [
 const SHIFT: [u8; 6] = [0x9C, 0xF6, 0xBC, 0x8C, 0x76, 0xAC];
 
 /// The labels of the shifts, in order.
-const SHIFTS: [&str; 7] = [
+const SHIFTS: &[&str] = &[
     "shift7", "shift6", "shift5", "shift4", "shift3", "shift2", "shift1",
 ];
 
@@ -180,7 +180,7 @@ impl Source {
         let mut count = 0usize;
         let mut at = table;
         for name in ROUTINES {
-            if let Some(routine) = self.made.symbol(name)
+            if let Some(routine) = self.made.symbol(*name)
                 && self.has_word(at, routine)
             {
                 count = count.saturating_add(1);
@@ -194,7 +194,7 @@ impl Source {
         let mut count = 0usize;
         let mut at = self.made.symbol(SHIFTS[0]).unwrap_or(0);
         for name in SHIFTS {
-            if self.is_shift(at) && self.made.symbol(name) == Some(at) {
+            if self.is_shift(at) && self.made.symbol(*name) == Some(at) {
                 count = count.saturating_add(1);
             }
             at = at.wrapping_add(6);
