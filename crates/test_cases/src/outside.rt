@@ -2,7 +2,7 @@
 
 use std::io::{ErrorKind, Write};
 use std::{fs, io};
-use vip_outside::{Files, RealFiles, Sink, StdSink};
+use vip_outside::{Files, Loaded, ReadFail, RealFiles, Sink, StdSink};
 
 /// A file that these tests write, read and remove.
 const SCRATCH: &str = "scratch.bin";
@@ -42,27 +42,31 @@ pub fn write_streams(rt: &HostRuntime) -> anyhow::Result<()> {
     Ok(())
 }
 
-/// Writes what a file of the system holds that was put piece by piece, what reads of its start answer, and one of it when it is gone.
-pub fn write_files(rt: &HostRuntime) -> anyhow::Result<()> {
+/// Writes what puts to a file come to.
+fn write_puts(rt: &HostRuntime) -> anyhow::Result<()> {
     let mut sink = StdSink::new(fs::create(rt, SCRATCH)?);
     for piece in ["ab", "", "c"] {
-        println!(rt;
-            "put of {piece:?} to a file: {:?}",
-            sink.put(piece.as_bytes())
-        )?;
+        let answer = sink.put(piece.as_bytes());
+        println!(rt; "put of {piece:?} to a file: {answer:?}")?;
     }
-    println!(rt;
-        "the file holds {:?}",
-        fs::read_to_string(rt, SCRATCH)?.as_str()
-    )?;
+    Ok(())
+}
+
+/// What a read of the start of the file answers.
+fn read(rt: &HostRuntime, most: usize) -> Result<Loaded, ReadFail> {
     let mut files = RealFiles::new(rt, rt.alloc());
+    files.read(rt.alloc(), SCRATCH, most)
+}
+
+/// Writes what a file of the system holds that was put piece by piece, what reads of its start answer, and one of it when it is gone.
+pub fn write_files(rt: &HostRuntime) -> anyhow::Result<()> {
+    write_puts(rt)?;
+    let held = fs::read_to_string(rt, SCRATCH)?;
+    println!(rt; "the file holds {:?}", held.as_str())?;
     for most in [0, 2, 3, 9] {
-        println!(rt;
-            "its first {most} bytes: {:?}",
-            files.read(rt.alloc(), SCRATCH, most)
-        )?;
+        println!(rt; "its first {most} bytes: {:?}", read(rt, most))?;
     }
     fs::remove_file(rt, SCRATCH)?;
-    println!(rt; "when it is gone: {:?}", files.read(rt.alloc(), SCRATCH, 9))?;
+    println!(rt; "when it is gone: {:?}", read(rt, 9))?;
     Ok(())
 }
