@@ -1,6 +1,7 @@
 //! Runs the whole interpreter's ROM on the board, in both editions, and says what it did.
 //!
-//! The source's form is looked at: which of its lines are data. Some thousand frames of random games and each instruction of
+//! Short sources are compared with a ROM. The source's form is looked at: which of its lines are data, where its labels lie, and that the text of each part
+//! gives the bytes at that part's addresses and no others. Some thousand frames of random games and each instruction of
 //! `data/costs.txt` are measured: the most machine cycles of each kind of step, which `docs/MACHINE.md` sets beside the bounds, the place
 //! and the length of each interrupt, each picture against the screen of the last dispatch point before it, whether each window has one, and whether
 //! an interrupt comes between a write to the screen and the next dispatch point. The same is said of the wrong interpreters of `data/wrong.txt`, of
@@ -13,6 +14,7 @@
 //! bounds is proved in `rom_run`; what is measured here says how far below them it stays. Nothing here is proved but that it is safe.
 #![tactic(auto)]
 
+mod compared;
 mod console;
 mod costs;
 mod cuts;
@@ -27,10 +29,13 @@ mod source;
 mod watch;
 mod wrong;
 
+use crate::compared::compared;
 use crate::cuts::cut_runs;
 use crate::edition::{EDITIONS, name};
 use crate::files::run_files;
-use crate::report::{write_costs, write_cuts, write_files, write_form, write_frames, write_wrong};
+use crate::report::{
+    write_compared, write_costs, write_cuts, write_files, write_form, write_frames, write_wrong,
+};
 use crate::runs::{run_demos, run_instructions, script_of};
 use crate::source::form_of;
 use crate::watch::{KeyTests, Watch};
@@ -101,6 +106,7 @@ fn run_editions(rt: &HostRuntime) -> anyhow::Result<()> {
 }
 
 fn main(rt: HostRuntime) -> anyhow::Result<()> {
+    write_compared(&rt, compared(rt.alloc()))?;
     run_editions(&rt)?;
     write_files(&rt, &run_files(rt.alloc())?)?;
     write_cuts(&rt, &cut_runs(rt.alloc())?)

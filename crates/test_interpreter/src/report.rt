@@ -19,6 +19,16 @@ pub fn write_form(rt: &HostRuntime, edition: Edition, form: &Form) -> anyhow::Re
         "  {} of 16 routines in the dispatch table, {} of 7 shifts in line",
         form.routines, form.shifts
     )?;
+    println!(rt;
+        "  {} of 3 labels at their addresses, {} bytes outside the text of their part",
+        form.labels, form.misplaced
+    )?;
+    Ok(())
+}
+
+/// Writes how many of so many short sources were compared with a ROM as they must be.
+pub fn write_compared(rt: &HostRuntime, (right, all): (usize, usize)) -> anyhow::Result<()> {
+    println!(rt; "short sources: {right} of {all} compared as they must be")?;
     Ok(())
 }
 

@@ -1,10 +1,11 @@
-//! The form of the interpreter's source: what is written in mnemonics, and what is a table.
+//! The form of the interpreter's source: what is written in mnemonics, what is a table, where its labels lie, and which bytes the text of each part gives.
 
 ghost use Rattle.std.specs.Prelude.{◌≤◌, IfOk, vec_len};
 
 use crate::watch::KeyTests;
 use asm_core::{AsmFault, Assembly, assemble, next_line};
 use asm_lex::{Word, line};
+use chip8_image::{AREAS, ENTRY, FETCH, HALT, Part, TALL_ENTRY, TALL_FETCH, TALL_HALT};
 use chip8_lang::Edition;
 use chip8_source::{source, tall_source};
 use std::alloc::{AllocError, Global};
@@ -43,6 +44,20 @@ const SHIFTS: &[&str] = &[
     "shift7", "shift6", "shift5", "shift4", "shift3", "shift2", "shift1",
 ];
 
+/// The labels whose addresses `chip8_image` has, in the order of these addresses' names there.
+const LABELS: &[&str] = &["fetch", "halt", "entry"];
+
+/// The headings of the texts of the parts, in order. Each stands at the head of the one file that has the part's text.
+const HEADINGS: &[(&str, Part)] = &[
+    ("; FETCH: ", Part::Fetch),
+    ("; ARITH: ", Part::Arith),
+    ("; MEMORY: ", Part::Memory),
+    ("; SPRITE: ", Part::Sprite),
+    ("; TIMER: ", Part::Timer),
+    ("; KEYS: ", Part::Keys),
+    ("; THE FONT, ", Part::Other),
+];
+
 /// Why a source couldn't be looked at.
 #[derive(Clone, Copy, Debug, Error)]
 pub enum SourceFault {
@@ -71,6 +86,10 @@ pub struct Form {
     pub routines: usize,
     /// Shifts of a sprite's row that stand in line, one behind the other.
     pub shifts: usize,
+    /// Labels that have the addresses of `chip8_image`.
+    pub labels: usize,
+    /// Addresses whose byte isn't given by the text of the part that they belong to.
+    pub misplaced: u32,
     /// Where keys are tested.
     pub key_tests: KeyTests,
 }
@@ -81,6 +100,38 @@ fn word_of(bytes: &[u8]) -> Option<Word> {
         Ok(line) => line.word,
         Err(_) => None,
     }
+}
+
+/// The addresses of the labels of an edition.
+fn addresses_of(edition: Edition) -> [u16; 3] {
+    match edition {
+        Edition::Usual => [FETCH, HALT, ENTRY],
+        Edition::Tall => [TALL_FETCH, TALL_HALT, TALL_ENTRY],
+    }
+}
+
+/// The part whose text begins with this line.
+fn heading_of(bytes: &[u8]) -> Option<Part> {
+    for (heading, part) in HEADINGS {
+        if bytes.starts_with(heading.as_bytes()) {
+            return Some(*part);
+        }
+    }
+    None
+}
+
+/// The part whose text gives the byte at an address. The dispatch table, which is no code, stands with the fetch.
+fn part_due(address: u16, table: u16) -> Option<Part> {
+    for area in AREAS {
+        if area.holds(address) {
+            return Some(if area.first == table {
+                Part::Fetch
+            } else {
+                area.part
+            });
+        }
+    }
+    None
 }
 
 /// The source of an edition.
@@ -102,6 +153,7 @@ pub fn form_of(alloc: Global, edition: Edition) -> Result<Form, SourceFault> {
 /// A source and its assembly.
 #[derive(Drop)]
 struct Source {
+    edition: Edition,
     text: Vec<u8>,
     made: Assembly,
 }
@@ -111,7 +163,11 @@ impl Source {
     fn new(alloc: Global, edition: Edition) -> Result<Source, SourceFault> {
         let text = text_of(alloc, edition)?;
         match assemble(alloc, &text) {
-            Ok(made) => Ok(Source { text, made }),
+            Ok(made) => Ok(Source {
+                edition,
+                text,
+                made,
+            }),
             Err(fault) => Err(SourceFault::Assembly(fault)),
         }
     }
@@ -136,6 +192,8 @@ impl Source {
             stray,
             routines: self.routines(table),
             shifts: self.shifts(),
+            labels: self.labels(),
+            misplaced: self.misplaced(table),
             key_tests: self.key_tests()?,
         })
     }
@@ -198,6 +256,45 @@ impl Source {
                 count = count.saturating_add(1);
             }
             at = at.wrapping_add(6);
+        }
+        count
+    }
+
+    fn labels(&self) -> usize {
+        let mut count = 0usize;
+        for (name, address) in LABELS.iter().zip(addresses_of(self.edition)) {
+            if self.made.symbol(*name) == Some(address) {
+                count = count.saturating_add(1);
+            }
+        }
+        count
+    }
+
+    // The part in whose text a line stands: that of the last heading before it.
+    fn part_of_line(&self, number: u32) -> Option<Part> {
+        let mut found = None;
+        let mut rest = self.text.as_slice();
+        for _line in 1..number {
+            let Some((bytes, more)) = next_line(rest) else {
+                break;
+            };
+            rest = more;
+            found = heading_of(bytes).or(found);
+        }
+        found
+    }
+
+    // How many addresses have a byte of another part's text, or none where one is due.
+    fn misplaced(&self, table: u16) -> u32 {
+        let mut count = 0u32;
+        for address in 0..=u16::MAX {
+            let given = match self.made.line_of(address) {
+                Some(number) => self.part_of_line(number),
+                None => None,
+            };
+            if given != part_due(address, table) {
+                count = count.saturating_add(1);
+            }
         }
         count
     }
