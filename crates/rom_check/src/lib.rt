@@ -13,4 +13,3 @@ pub mod laws;
 
 pub use crate::comparison::{check_image, check_tall, compare};
 pub use crate::fault::ImageFault;
-
