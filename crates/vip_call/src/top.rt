@@ -31,8 +31,8 @@ fn understood<'a>(alloc: Global, words: &'a [String]) -> Result<Request<'a>, Ref
     }
 }
 
-/// Opens what the words ask for: reads the files that they name, in their order, each once, up to the first that is refused, and judges them. Want of
-/// memory is answered here or nowhere.
+/// Opens what the words ask for: reads the files that they name, in their order, each once, up to the first that is refused, and judges them. What
+/// was opened is performed without want of memory.
 pub fn open<'a, F: Files>(
     alloc: Global,
     words: &'a [String],
