@@ -1,5 +1,5 @@
 use Rattle.std.proofs.Common.{◌≡◌, ◌∙◌, refl, sym, subst, ap}
-use Rattle.vip_board.specs.Seen.{cycled}
+use Rattle.vip_board.specs.Seen.{cycle_of, cycled}
 use Rattle.vip_board.specs.Wired.{seen_of}
 use Rattle.vip_board.specs.declared.wires.Wires.{Wires}
 use Rattle.vip_board.proofs.Calls.{made, seen_after}
@@ -25,3 +25,11 @@ returns-clause-board c =
     (subst On (sym c.seek_if.ensures) c.self.invariant) m c.byte_in.ensures c.end_cycle.ensures
     ∙ ap (λ w. cycled (seen_of cpu w)) c.seek_if.ensures
     ∙ ap cycled c.self.view_is
+
+pub returns-clause-did : goal.returns-clause-did
+returns-clause-did c =
+    let m =
+    made c.self.inside.cpu c.seek_if.new.self c.seek_if.new.self.video.cycles c.requests-requests.result.dma c.requests-requests.result.int
+    c.cycle-did.new.self c.cycle-did.new.bus c.cycle-did.result
+    refl c.requests-requests.ensures.dma c.requests-requests.ensures.int c.cycle-did.ensures in
+    m.did ∙ ap (λ w. (cycle_of (seen_of c.self.inside.cpu w)).did) c.seek_if.ensures ∙ ap (λ s. (cycle_of s).did) c.self.view_is

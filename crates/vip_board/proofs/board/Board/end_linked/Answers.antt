@@ -1,9 +1,10 @@
 use Rattle.std.proofs.Common.{◌≡◌, ◌∙◌, sym, subst, ap}
 use Rattle.vip_board.specs.Seen.{Seen}
 use Rattle.vip_board.specs.Wired.{seen_of}
-use Rattle.vip_board.specs.Joins.{last_cycled}
+use Rattle.vip_board.specs.Linked.{incoming_after, outgoing_after}
+use Rattle.vip_board.specs.Joins.{last_cycle, last_cycled}
 use Rattle.vip_board.specs.declared.wires.Wires.{Wires}
-use Rattle.vip_board.proofs.Joins.{made-last, seen-last}
+use Rattle.vip_board.proofs.Joins.{MadeLast, made-last, seen-last}
 use Rattle.vip_board.proofs.board.Board.end_linked.Goals as goal
 
 pub returns-clause-board : goal.returns-clause-board
@@ -17,3 +18,23 @@ returns-clause-board c =
     (subst On (sym c.seek_if.ensures) c.self.invariant) m c.end_cycle.ensures
     ∙ (λ t. last_cycled (seen_of cpu (c.seek_if.ensures t)) (c.full.ensures t) (c.full-2.ensures t))
     ∙ ap (λ s. last_cycled s c.args.incoming.now c.args.outgoing.now) c.self.view_is
+
+pub returns-clause-incoming : goal.returns-clause-incoming
+returns-clause-incoming c =
+    let cpu = c.self.inside.cpu in
+    let m : MadeLast cpu c.seek_if.new.self c.full.result c.full-2.result c.cycle.new.self c.cycle.new.bus.wires.now c.cycle.new.bus.incoming c.cycle.new.bus.outgoing =
+    made-last c.requires.last.0 cpu _ c.cycle.new.bus c.cycle.new.self c.cycle.result
+    (ap (λ (s : Seen). s.phase) c.self.view_is ∙ c.requires.last.1) c.cycle.ensures in
+    c.set.ensures ∙ m.incoming_is
+    ∙ (λ t. incoming_after (last_cycle (seen_of cpu (c.seek_if.ensures t)) (c.full.ensures t) (c.full-2.ensures t)).effect.port (c.full.ensures t))
+    ∙ ap (λ s. incoming_after (last_cycle s c.args.incoming.now c.args.outgoing.now).effect.port c.args.incoming.now) c.self.view_is
+
+pub returns-clause-outgoing : goal.returns-clause-outgoing
+returns-clause-outgoing c =
+    let cpu = c.self.inside.cpu in
+    let m : MadeLast cpu c.seek_if.new.self c.full.result c.full-2.result c.cycle.new.self c.cycle.new.bus.wires.now c.cycle.new.bus.incoming c.cycle.new.bus.outgoing =
+    made-last c.requires.last.0 cpu _ c.cycle.new.bus c.cycle.new.self c.cycle.result
+    (ap (λ (s : Seen). s.phase) c.self.view_is ∙ c.requires.last.1) c.cycle.ensures in
+    c.set-2.ensures ∙ m.outgoing_is
+    ∙ (λ t. outgoing_after (last_cycle (seen_of cpu (c.seek_if.ensures t)) (c.full.ensures t) (c.full-2.ensures t)).effect.port (c.full-2.ensures t))
+    ∙ ap (λ s. outgoing_after (last_cycle s c.args.incoming.now c.args.outgoing.now).effect.port c.args.outgoing.now) c.self.view_is
