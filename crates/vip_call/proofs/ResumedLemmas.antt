@@ -13,7 +13,7 @@ use Rattle.rom_law.specs.Language.{GoesOn, events_behind}
 use Rattle.vip_language.specs.Program.{IsRunBehind, numbered, program}
 use Rattle.vip_relation.specs.Interpreters.{interpreter_of}
 use Rattle.vip_show.specs.Endings.{ending_after}
-use Rattle.vip_state.specs.File.{shown, IsAccepted}
+use Rattle.state_check.specs.File.{shown, IsAccepted}
 use Rattle.vip_state.specs.Points.{points_behind, points_of}
 use Rattle.vip_state.proofs.Points.{points_of-events_at}
 use Rattle.vip_text.specs.Endings.{Ending}

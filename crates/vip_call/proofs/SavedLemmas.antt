@@ -7,7 +7,7 @@ use Rattle.chip8_lang.specs.State.{memory_size}
 use Rattle.vip_outside.specs.Files.{FilesMeaning}
 use Rattle.vip_relation.specs.Interpreters.{interpreter_of}
 use Rattle.vip_show.specs.Output.{trace_lines, trace_pieces}
-use Rattle.vip_state.specs.File.{shown}
+use Rattle.state_check.specs.File.{shown}
 use Rattle.vip_state.specs.Laws.{IsRest as IsRestOfRun, SavedGoesOn}
 use Rattle.vip_state.specs.Output.{saved_file}
 use Rattle.vip_state.specs.Points.{points_behind}

@@ -16,7 +16,7 @@ use Rattle.vip_relation.specs.Interpreters.{interpreter_of}
 use Rattle.vip_relation.specs.State.{started}
 use Rattle.vip_text.specs.Endings.{Ending}
 use Rattle.vip_show.specs.Output.{picture_pieces, summary, trace_lines, trace_piece}
-use Rattle.vip_state.specs.File.{bank_in, shown, IsAccepted}
+use Rattle.state_check.specs.File.{bank_in, shown, IsAccepted}
 use Rattle.vip_state.specs.Points.{points_of as points_among}
 use Rattle.vip_outside.specs.Files.{FilesMeaning}
 use Rattle.vip_words.specs.Asked.{Asked, AskedResume, trace, play, debug, demo, save, resume, link, trace_program, play_program, debug_program, asm, list, dis, source, bounds, within, safe, certify}

@@ -8,7 +8,7 @@ use Rattle.chip8_lang.specs.View.{opcode_at}
 use Rattle.rom_law.specs.Language.{Also, events_behind}
 use Rattle.vip_language.specs.Program.{IsRun, IsRunBehind}
 use Rattle.vip_relation.specs.Interpreters.{interpreter_of}
-use Rattle.vip_state.specs.File.{shown, IsAccepted}
+use Rattle.state_check.specs.File.{shown, IsAccepted}
 use Rattle.vip_state.specs.Output.{saved_ending}
 use Rattle.vip_state.specs.Points.{points_of}
 use Rattle.vip_text.specs.Endings.{Ending}

@@ -1,6 +1,6 @@
 -- What was saved of a run goes on as that run.
 use Rattle.std.specs.Prelude.{◌≡◌, ◌≤◌, ℕ, Bool, false, List, [], ◌∷◌, ◌++◌}
-use Rattle.vip_state.specs.File.{IsAccepted}
+use Rattle.state_check.specs.File.{IsAccepted}
 use Rattle.vip_report.specs.declared.status.Status.{Status}
 use Rattle.vip_tools.specs.Outcome.{Outcome}
 use Rattle.vip_tools.specs.Outcome.Outcome.{Shown}

@@ -24,7 +24,7 @@ use Rattle.vip_text.specs.Stops.{stop_line}
 use Rattle.vip_text.specs.Summaries.{summary_line}
 use Rattle.vip_text.specs.Traces.{trace_line}
 use Rattle.vip_show.specs.Output.{lit_in_rows}
-use Rattle.vip_state.specs.File.{bytes_at, edition_byte}
+use Rattle.state_check.specs.File.{bytes_at, edition_byte}
 use Rattle.vip_words.specs.Asked.{Asked, trace, play, debug, demo, resume}
 use Rattle.vip_commands.specs.Grammar.{commands_of}
 use Rattle.vip_commands.specs.declared.commands.Command.{Command}

@@ -6,7 +6,7 @@ use Rattle.std.proofs.lemmas.List.{take-append-drop}
 use Rattle.std.proofs.lemmas.Nat.{be_bytes_8}
 use Rattle.chip8_lang.specs.declared.view.Edition.{Edition}
 use Rattle.vip_cpu.specs.Bit.{bit}
-use Rattle.vip_state.specs.File.{shown, bank_in, bytes_at, cycle_in, file_size, head, edition_byte, IsAccepted}
+use Rattle.state_check.specs.File.{shown, bank_in, bytes_at, cycle_in, file_size, head, edition_byte, IsAccepted}
 use Rattle.vip_state.specs.Laws.{WritesTheSame}
 use Rattle.vip_state.specs.Written.{file_of, head_of, register_bytes}
 

@@ -20,7 +20,7 @@ use Rattle.vip_cpu.specs.Bit.{bit}
 use Rattle.vip_relation.specs.Follows.{Follows}
 use Rattle.vip_relation.specs.Interpreters.{interpreter_of}
 use Rattle.vip_relation.specs.State.{VipState, most_cycles, interpreter}
-use Rattle.vip_state.specs.File.{shown, bank_in, regs_in, cycle_in, word_at, file_size, head, edition_byte, IsAccepted, IsCycle}
+use Rattle.state_check.specs.File.{shown, bank_in, regs_in, cycle_in, word_at, file_size, head, edition_byte, IsAccepted, IsCycle}
 use Rattle.vip_state.specs.Written.{file_of, head_of}
 use Rattle.vip_state.proofs.Dispatched.{dispatch-starts}
 use Rattle.vip_state.proofs.Starts.{same_fetch, same_entry}

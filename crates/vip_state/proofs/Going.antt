@@ -15,7 +15,7 @@ use Rattle.vip_board.specs.Moves.{moved}
 use Rattle.vip_relation.specs.State.{most_cycles}
 use Rattle.vip_relation.specs.Points.{point_of}
 use Rattle.vip_relation.specs.declared.point.Point.TheVariants.{Dispatch as DispatchPoint, Stop as StopPoint, Other as OtherPoint}
-use Rattle.vip_state.specs.File.{shown}
+use Rattle.state_check.specs.File.{shown}
 use Rattle.vip_state.specs.Points.{points_behind, ahead}
 use Rattle.vip_state.specs.State.{ResumedState, interpreter, points_to, points_left, Follows}
 use Rattle.vip_state.specs.Meets.{stop_record, IsSame, MeetsOne, MeetsNext, Passes}

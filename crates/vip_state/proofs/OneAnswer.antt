@@ -1,8 +1,8 @@
 -- A file of a machine state has one edition, and one that is accepted has no fault.
-use Rattle.std.proofs.Common.{◌≡◌, ℕ, ◌<◌, List, slice_index, refl, sym, ◌∙◌, subst, arith, Err}
+use Rattle.std.proofs.Common.{◌≡◌, ℕ, ◌<◌, List, refl, sym, ◌∙◌, subst, arith, Err}
 use Rattle.chip8_lang.specs.declared.view.Edition.{Edition}
 use Rattle.chip8_lang.specs.declared.view.Edition.TheVariants.{Usual, Tall}
-use Rattle.vip_state.specs.File.{edition_byte, IsAccepted, IsMachine, Judges}
+use Rattle.state_check.specs.File.{edition_byte, IsAccepted, IsMachine, Judges}
 use Rattle.vip_text.specs.declared.fault.StateFault.{StateFault}
 use Rattle.vip_text.specs.declared.fault.StateFault.TheVariants.{BadLength, BadHead, BadEdition, BadCycle, BadMachine}
 

@@ -12,7 +12,7 @@ use Rattle.vip_board.specs.Seen.{Seen}
 use Rattle.vip_cpu.specs.declared.cpu.Phase.TheVariants.{Boundary}
 use Rattle.vip_relation.specs.Interpreters.{interpreter_of}
 use Rattle.vip_video.specs.Chip.{nothing_before}
-use Rattle.vip_state.specs.File.{shown, regs_in, cycle_in, IsAccepted}
+use Rattle.state_check.specs.File.{shown, regs_in, cycle_in, IsAccepted}
 use Rattle.vip_state.specs.Points.{points_behind}
 use Rattle.vip_state.specs.State.{ResumedState, Follows}
 use Rattle.vip_state.specs.Meets.{opened}

@@ -27,7 +27,7 @@ use Rattle.vip_relation.proofs.Meetings.{last-dispatched}
 use Rattle.vip_relation.proofs.Past.{state, earlier, before as cycle_before, past, pictures, point, Runs, events-last, events-stop}
 use Rattle.vip_show.specs.Endings.{ending_after, ending_of}
 use Rattle.vip_show.specs.Output.{trace_lines, trace_piece}
-use Rattle.vip_state.specs.File.{shown}
+use Rattle.state_check.specs.File.{shown}
 use Rattle.vip_state.specs.Laws.{IsRest, SavedGoesOn}
 use Rattle.vip_state.specs.Points.{points_of, points_behind}
 use Rattle.vip_state.specs.Written.{file_of}

@@ -1,7 +1,7 @@
 -- The machine state of an accepted file may start a run.
-use Rattle.std.proofs.Common.{◌≡◌, ℕ, ◌+◌, ◌-◌, ◌*◌, ◌/◌, ◌%◌, ◌<◌, ◌≤◌, List, length, drop, slice_index, min, refl, sym, ap, ◌∙◌, arith}
+use Rattle.std.proofs.Common.{◌≡◌, ℕ, ◌+◌, ◌-◌, ◌*◌, ◌/◌, ◌<◌, ◌≤◌, List, length, drop, slice_index, min, refl, sym, ap, ◌∙◌, arith}
 use Rattle.std.proofs.lemmas.List.{length-drop, get_or-drop}
-use Rattle.machine.specs.Bank.{Word, word, word_of, value}
+use Rattle.machine.specs.Bank.{word_of, value}
 use Rattle.machine.specs.Ranges.{FitsWord, FitsBank, FitsMachine}
 use Rattle.chip8_lang.specs.declared.view.Edition.{Edition}
 use Rattle.chip8_lang.specs.declared.view.Edition.TheVariants.{Usual, Tall}
@@ -10,14 +10,9 @@ use Rattle.chip8_lang.specs.Places.{state_of, most_addresses}
 use Rattle.rom_law.proofs.Places.{addresses_length}
 use Rattle.rom_rows.specs.Rom.{vip}
 use Rattle.vip_relation.specs.Interpreters.{interpreter_of}
-use Rattle.vip_state.specs.File.{shown, bank_in, word_at, IsAccepted}
+use Rattle.state_check.proofs.Files.{word_of-value}
+use Rattle.state_check.specs.File.{shown, bank_in, word_at, IsAccepted}
 use Rattle.vip_state.specs.Laws.{FileMayStart}
-
-pub word_of-value : (w : Word) → w.hi < 256 → w.lo < 256 → word_of (value w) ≡ w
-word_of-value w hi lo =
-    let high : value w / 256 ≡ w.hi = omega (arith, lo) in
-    let low : value w % 256 ≡ w.lo = omega (arith, lo) in
-    ap (λ h. word h (value w % 256)) high ∙ ap (word w.hi) low
 
 module _ (e : Edition) (f : List ℕ) (bytes : (k : ℕ) → slice_index f k < 256) (a : IsAccepted e f) where
   fits_at : (k : ℕ) → FitsWord (word_at f k)

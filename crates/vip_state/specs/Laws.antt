@@ -15,7 +15,7 @@ use Rattle.vip_relation.specs.Interpreters.{interpreter_of}
 use Rattle.vip_relation.specs.State.{most_cycles}
 use Rattle.vip_show.specs.Endings.{ending_after, ending_of}
 use Rattle.vip_show.specs.Output.{trace_lines}
-use Rattle.vip_state.specs.File.{shown, IsAccepted}
+use Rattle.state_check.specs.File.{shown, IsAccepted}
 use Rattle.vip_state.specs.Output.{saved_file}
 use Rattle.vip_state.specs.Points.{points_behind, points_of}
 use Rattle.vip_state.specs.Written.{file_of}

@@ -1,4 +1,3 @@
-pub mod File
 pub mod Written
 pub mod Points
 pub mod State

@@ -12,7 +12,7 @@ use Rattle.vip_cpu.specs.declared.cpu.Phase.TheVariants.{Boundary}
 use Rattle.vip_relation.specs.Interpreters.{interpreter_of}
 use Rattle.vip_relation.specs.Stops.{stop_at}
 use Rattle.vip_video.specs.Chip.{nothing_before}
-use Rattle.vip_state.specs.File.{shown, IsAccepted, Judges}
+use Rattle.state_check.specs.File.{shown, IsAccepted, Judges}
 use Rattle.vip_state.specs.State.{ResumedState, interpreter, points_left}
 use Rattle.vip_state.specs.declared.fault.ResumeFault.{ResumeFault}
 use Rattle.vip_state.specs.declared.fault.ResumeFault.TheVariants.{State, NoMemory}

@@ -8,7 +8,7 @@ use Rattle.vip_board.specs.Seen.{Seen, held_by}
 use Rattle.vip_cpu.specs.declared.cpu.Phase.TheVariants.{Boundary}
 use Rattle.vip_relation.specs.Interpreters.{interpreter_of}
 use Rattle.vip_relation.specs.State.{most_cycles}
-use Rattle.vip_state.specs.File.{shown, IsAccepted}
+use Rattle.state_check.specs.File.{shown, IsAccepted}
 use Rattle.vip_state.specs.Points.{points_behind, ahead}
 
 -- The edition and the file; how many points were met; the board with its key script; the pc and the opcode of the last dispatch point met, or of

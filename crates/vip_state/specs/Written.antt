@@ -5,7 +5,7 @@ use Rattle.machine.specs.Bank.{Bank, get}
 use Rattle.machine.specs.Board.{Machine}
 use Rattle.chip8_lang.specs.declared.view.Edition.{Edition}
 use Rattle.vip_cpu.specs.Bit.{bit}
-use Rattle.vip_state.specs.File.{head, edition_byte}
+use Rattle.state_check.specs.File.{head, edition_byte}
 
 -- R(0) up to before R(n)
 abbrev pub register_bytes : Bank → ℕ → List ℕ

@@ -3,8 +3,8 @@
 ghost use Rattle.std.specs.Prelude.{◌≡◌, ◌≤◌, true, false, IfOk};
 
 use crate::fault::ResumeFault;
-use crate::file::{KEY, RAM, check_state, cycle, parts};
 use chip8_lang::{Edition, StateView, StopRecord};
+use state_check::{KEY, RAM, check_state, cycle, parts};
 use std::alloc::Global;
 use std::marker::Model;
 use vip_board::{Board, Moved};

@@ -6,7 +6,7 @@ ghost use Rattle.chip8_lang.specs.Events.{is_dispatch};
 ghost use Rattle.vip_cpu.specs.Bit.{bit};
 ghost use Rattle.vip_memory.specs.Contents.{page_at};
 ghost use Rattle.vip_relation.specs.State.{interpreter};
-ghost use Rattle.vip_state.specs.File.{shown, edition_byte, IsAccepted};
+ghost use Rattle.state_check.specs.File.{shown, edition_byte, IsAccepted};
 ghost use Rattle.vip_state.specs.Written.{file_of, head_of, register_bytes};
 
 use chip8_lang::Edition;

@@ -8,11 +8,11 @@ ghost use Rattle.vip_tools.specs.Files.{commands_file, file, game_file, game_kin
 
 use arrayvec::ArrayVec;
 use chip8_lang::Edition;
+use state_check::check_state;
 use std::alloc::Global;
 use vip_byte::MOST_TEXT;
 use vip_outside::{Files, ReadFail};
 use vip_report::{Kind, Refusal};
-use vip_state::check_state;
 use vip_text::StateFault;
 use vip_words::{Memory, Request, RunRequest};
 

@@ -20,7 +20,7 @@ use Rattle.vip_outside.specs.Pieces.{PutsAll, FailsWithin}
 use Rattle.vip_relation.specs.State.{VipState, interpreter, started, state_after}
 use Rattle.vip_outside.specs.declared.sink.Failed.{Failed}
 use Rattle.vip_show.specs.Answers.{ShowAnswers, traced, pictured, summed}
-use Rattle.vip_state.specs.File.{IsAccepted}
+use Rattle.state_check.specs.File.{IsAccepted}
 use Rattle.vip_state.specs.Output.{ResumedAnswers, SavedAnswers, ending_left, records_left}
 use Rattle.vip_state.specs.State.{ResumedState}
 use Rattle.vip_text.specs.Endings.Ending.{AtLimit}

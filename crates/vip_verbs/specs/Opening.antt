@@ -9,7 +9,7 @@ use Rattle.vip_relation.specs.Meets.{HasStopped}
 use Rattle.vip_relation.specs.State.{VipState, started}
 use Rattle.vip_report.specs.declared.refusal.Refusal.{Refusal}
 use Rattle.vip_report.specs.declared.refusal.Refusal.TheVariants.{Script, Rom, NoMemory}
-use Rattle.vip_state.specs.File.{IsAccepted}
+use Rattle.state_check.specs.File.{IsAccepted}
 use Rattle.vip_state.specs.Meets.{opened}
 use Rattle.vip_state.specs.State.{ResumedState, interpreter}
 use Rattle.vip_tools.specs.Outcome.{script_in}

@@ -29,7 +29,7 @@ use Rattle.vip_relation.specs.Interpreters.{interpreter_of}
 use Rattle.vip_relation.specs.State.{VipState, interpreter, started, state_after}
 use Rattle.vip_show.specs.Endings.{ending_after, ending_of}
 use Rattle.vip_show.specs.Output.{trace_lines, trace_pieces, picture_pieces, summary}
-use Rattle.vip_state.specs.File.{shown, IsAccepted}
+use Rattle.state_check.specs.File.{shown, IsAccepted}
 use Rattle.vip_state.specs.Output.{saved_ending, saved_pieces}
 use Rattle.vip_state.specs.Points.{points_behind}
 use Rattle.vip_text.specs.Endings.{Ending}

@@ -1,5 +1,5 @@
 use Rattle.rom_run.proofs.Run.{from_any_start}
-use Rattle.vip_state.specs.File.{shown}
+use Rattle.state_check.specs.File.{shown}
 use Rattle.vip_state.proofs.Starts.{file_may_start}
 use Rattle.vip_state.proofs.Points.{points_of-behind}
 use Rattle.vip_state.proofs.laws.runs_as_chip8.Goals as goal

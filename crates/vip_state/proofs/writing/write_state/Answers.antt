@@ -3,7 +3,7 @@ use Rattle.vip_board.specs.Seen.{Seen}
 use Rattle.vip_memory.specs.Contents.{Contents}
 use Rattle.vip_relation.specs.State.{VipState}
 use Rattle.rom_run.specs.States.{MayStart}
-use Rattle.vip_state.specs.File.{shown, IsAccepted}
+use Rattle.state_check.specs.File.{shown, IsAccepted}
 use Rattle.vip_state.proofs.Copied.{written, saved-starts, shown-file_of, accepted-file_of}
 use Rattle.vip_state.proofs.writing.write_state.Goals as goal
 

@@ -1,8 +1,11 @@
-use Rattle.std.proofs.Common.{refl, sym, subst}
+use Rattle.std.proofs.Common.{◌≡◌, false, refl, sym, subst}
 use Rattle.std.proofs.lemmas.List.{take_rest}
 use Rattle.chip8_lang.specs.View.{seen}
-use Rattle.vip_state.specs.State.{Follows}
-use Rattle.vip_state.proofs.Opened.{opened-is, follows-opened}
+use Rattle.chip8_lang.specs.Events.{is_stop}
+use Rattle.vip_relation.specs.Interpreters.{interpreter_of}
+use Rattle.state_check.specs.File.{shown}
+use Rattle.vip_state.specs.State.{Follows, ResumedState, interpreter}
+use Rattle.vip_state.proofs.Opened.{opened-is, follows-opened, no-stop-by-4}
 use Rattle.vip_state.proofs.resumed.Resumed.open.Goals as goal
 
 pub invariant_of-result : goal.invariant_of-result
@@ -25,3 +28,10 @@ returns-clause-follows c =
     (sym (opened-is c.in_ok-edition.edition c.args.bytes.now c.args.script.now _ _ _ _ _ _ _ (seen c.view_of-view.result) c.in_ok-file.ensures.items
     c.in_ok-board.ensures.board c.parts-parts.ensures.regs (take_rest c.args.bytes.now 51) refl c.cycle.ensures c.of.ensures.rom c.view_of-view.ensures))
     (follows-opened c.in_ok-edition.edition c.args.bytes.now c.args.script.now c.in_ok-edition.ensures)
+
+pub returns-clause-runs : goal.returns-clause-runs
+returns-clause-runs c =
+    subst (λ (v : ResumedState). is_stop (interpreter v) v.board.machine ≡ false)
+    (sym (opened-is c.in_ok-edition.edition c.args.bytes.now c.args.script.now _ _ _ _ _ _ _ (seen c.view_of-view.result) c.in_ok-file.ensures.items
+    c.in_ok-board.ensures.board c.parts-parts.ensures.regs (take_rest c.args.bytes.now 51) refl c.cycle.ensures c.of.ensures.rom c.view_of-view.ensures))
+    (no-stop-by-4 (interpreter_of c.in_ok-edition.edition) (shown c.args.bytes.now) c.in_ok-edition.ensures.machine.p)

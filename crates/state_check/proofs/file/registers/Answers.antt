@@ -1,7 +1,7 @@
 use Rattle.std.proofs.Common.{◌∙◌}
 use Rattle.std.proofs.lemmas.List.{length-set}
-use Rattle.vip_state.proofs.Files.{registers-read}
-use Rattle.vip_state.proofs.file.registers.Goals as goal
+use Rattle.state_check.proofs.Files.{registers-read}
+use Rattle.state_check.proofs.file.registers.Goals as goal
 
 pub loop-k-preserved : goal.loop-k-preserved
 loop-k-preserved c = (

@@ -1,7 +1,7 @@
 use Rattle.std.proofs.Common.{arith}
 use Rattle.std.proofs.lemmas.Bool.Decides.{nat_tests}
-use Rattle.vip_state.proofs.Files.{stack-there, stack-few}
-use Rattle.vip_state.proofs.file.is_stack.Goals as goal
+use Rattle.state_check.proofs.Files.{stack-there, stack-few}
+use Rattle.state_check.proofs.file.is_stack.Goals as goal
 
 pub returns-then-above-eq0 : goal.returns-then-above-eq0
 returns-then-above-eq0 c = (

@@ -1,7 +1,7 @@
 use Rattle.std.proofs.Common.{◌≡◌, ◌+◌, ◌<◌, ℕ, length, slice_index}
 use Rattle.machine.specs.Bank.{value}
-use Rattle.vip_state.specs.File.{word_at}
-use Rattle.vip_state.proofs.file.registers.Given as goal
+use Rattle.state_check.specs.File.{word_at}
+use Rattle.state_check.proofs.file.registers.Given as goal
 
 -- the registers up to this one are there
 abbrev pub invariant-loop-k : goal.invariant-loop-k

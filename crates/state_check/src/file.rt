@@ -5,7 +5,7 @@ ghost use Rattle.machine.specs.Bank.{value};
 ghost use Rattle.machine.specs.Instruction.{Regs};
 ghost use Rattle.vip_cpu.specs.Parts.{regs_of};
 ghost use Rattle.vip_relation.specs.Interpreters.{interpreter_of};
-ghost use Rattle.vip_state.specs.File.{file_size, head, cycle_in, word_at, regs_in, IsCycle, IsStack, IsMachine, Judges};
+ghost use Rattle.state_check.specs.File.{file_size, head, cycle_in, word_at, regs_in, IsCycle, IsStack, IsMachine, Judges};
 
 use chip8_image::{ENTRY, TALL_ENTRY};
 use chip8_lang::Edition;
