@@ -11,7 +11,7 @@ use chip8_lang::Edition;
 use std::alloc::{AllocError, Global};
 use vip_keypad::Script;
 use vip_outside::{Failed, MemSink};
-use vip_relation::Vip;
+use vip_relation::{Run, Vip};
 use vip_show::show_trace;
 use vip_state::{Resumed, show_resumed, show_saved};
 use vip_text::RunEnd;
@@ -112,11 +112,11 @@ impl Numbers {
 }
 
 /// A machine that begins to run a game.
-fn start(alloc: Global, cut: &Cut<'_>) -> Result<Vip, RunFault>
-    ensures { IfOk result (λ vip. IsFresh vip) }
+fn start(alloc: Global, cut: &Cut<'_>) -> Result<Run, RunFault>
+    ensures { IfOk result (λ run. IsFresh run) }
 {
-    match Vip::start_as(alloc, cut.edition, cut.game, cut.script) {
-        Ok(vip) => Ok(vip),
+    match Run::start_as(alloc, cut.edition, cut.game, cut.script) {
+        Ok(run) => Ok(run),
         Err(_) => Err(RunFault::NoMemory),
     }
 }
@@ -126,8 +126,8 @@ fn trace(alloc: Global, cut: &Cut<'_>, limit: u64) -> Result<Written<RunEnd>, Ru
     requires { limit ≤ 120_000 }
 {
     let mut out = MemSink::new(alloc, ROOM)?;
-    let mut vip = start(alloc, cut)?;
-    let end = show_trace(&mut vip, limit, true, false, &mut out);
+    let mut run = start(alloc, cut)?;
+    let end = show_trace(&mut run, limit, true, false, &mut out);
     Ok(Written { out, end })
 }
 
@@ -136,7 +136,7 @@ fn save(alloc: Global, cut: &Cut<'_>) -> Result<Written<Option<RunEnd>>, RunFaul
     requires { cut.now.first ≤ 120_000 }
 {
     let mut out = MemSink::new(alloc, ROOM)?;
-    let mut vip = start(alloc, cut)?;
+    let mut vip = Vip::of(start(alloc, cut)?);
     let end = show_saved(&mut vip, cut.first, &mut out);
     Ok(Written { out, end })
 }

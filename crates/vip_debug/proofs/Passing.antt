@@ -8,7 +8,7 @@ use Rattle.chip8_lang.specs.View.{view_at}
 use Rattle.vip_relation.specs.State.{VipState, events_to, events_left, run_of, moves_by}
 use Rattle.vip_relation.specs.Follows.{Follows, dispatch_of}
 use Rattle.vip_relation.specs.Meets.{IsSame, MeetsNext, HasStopped, StopsAgain}
-use Rattle.vip_relation.specs.declared.vip.Met.TheVariants as met
+use Rattle.vip_relation.specs.declared.run.Met.TheVariants as met
 use Rattle.vip_relation.proofs.Steps.{Others, others-to}
 use Rattle.vip_relation.proofs.Waits.{none-behind-dispatch}
 use Rattle.vip_relation.proofs.Nexts.{Dispatched, Pictured, Halted, Ended, at_stop}

@@ -31,8 +31,8 @@ use Rattle.vip_relation.specs.Follows.{Follows}
 use Rattle.vip_relation.specs.Meets.{HasStopped, MeetsNext}
 use Rattle.vip_relation.specs.State.{VipState, interpreter, events_left, events_met, events_to, run_of}
 use Rattle.vip_relation.specs.Stops.{stop_at, stop_numbered, stop_record}
-use Rattle.vip_relation.specs.declared.vip.Met.{Met}
-use Rattle.vip_relation.specs.declared.vip.Met.TheVariants as met
+use Rattle.vip_relation.specs.declared.run.Met.{Met}
+use Rattle.vip_relation.specs.declared.run.Met.TheVariants as met
 use Rattle.vip_relation.proofs.Steps.{Others, others-to}
 use Rattle.vip_relation.proofs.Waits.{last-at-stop}
 use Rattle.vip_language.specs.Answers.{BeginsAt, GoesOnFrom, Speaks, StepsTo, StopsAt, last_met, pictures_met}

@@ -12,8 +12,8 @@ use Rattle.rom_law.specs.Pictures.{ShowsScreen}
 use Rattle.rom_law.specs.Program.{Dispatches}
 use Rattle.vip_relation.specs.Follows.{last_dispatch}
 use Rattle.vip_relation.specs.State.{VipState, events_met, run_of}
-use Rattle.vip_relation.specs.declared.vip.Met.{Met}
-use Rattle.vip_relation.specs.declared.vip.Met.TheVariants.{Picture, Dispatch, Stopped, End}
+use Rattle.vip_relation.specs.declared.run.Met.{Met}
+use Rattle.vip_relation.specs.declared.run.Met.TheVariants.{Picture, Dispatch, Stopped, End}
 use Rattle.vip_language.specs.Program.{numbered, program}
 
 -- The last dispatch point that was met, if one was. What `last` tells is its view, and what `shown` tells its screen.

@@ -8,7 +8,7 @@ use Rattle.rom_run.specs.States.{MayStart}
 use Rattle.vip_relation.specs.Follows.{Follows}
 use Rattle.vip_relation.specs.Meets.{HasStopped, MeetsNext}
 use Rattle.vip_relation.specs.State.{VipState, events_left}
-use Rattle.vip_relation.specs.declared.vip.Met.{Met}
+use Rattle.vip_relation.specs.declared.run.Met.{Met}
 use Rattle.vip_language.specs.Answers.{GoesOnFrom, Speaks, last_met}
 use Rattle.vip_language.specs.Boards.{IsKnown}
 use Rattle.vip_language.specs.Program.{IsRun, IsRunBehind, numbered}

@@ -15,8 +15,8 @@ use Rattle.vip_relation.specs.Stops.{stop_record}
 use Rattle.vip_relation.specs.Follows.{Follows}
 use Rattle.vip_relation.specs.Meets.{IsSame, MeetsOne, TellsSame, MeetsNext, HasStopped, MovesOn}
 use Rattle.vip_relation.specs.Parts.{MeetsFirst, MeetsAll, Passes, Runs, Steps}
-use Rattle.vip_relation.specs.declared.vip.Met.{Met}
-use Rattle.vip_relation.specs.declared.vip.Met.TheVariants.{Picture as PictureMet, Dispatch as DispatchMet, Stopped as StoppedMet, End}
+use Rattle.vip_relation.specs.declared.run.Met.{Met}
+use Rattle.vip_relation.specs.declared.run.Met.TheVariants.{Picture as PictureMet, Dispatch as DispatchMet, Stopped as StoppedMet, End}
 use Rattle.vip_relation.proofs.Steps.{none-left, all-moves, none-before, moves-before, others-to}
 
 -- ---- within an advance

@@ -19,12 +19,13 @@ use Rattle.vip_relation.specs.Meets.{HasStopped}
 use Rattle.vip_relation.specs.Parts.{Steps}
 use Rattle.vip_relation.specs.Points.{point_of}
 use Rattle.vip_relation.specs.Waiting.{waits_by}
-use Rattle.vip_relation.specs.Kept.{state_of, IsKept}
+use Rattle.vip_relation.specs.Kept.{by_run, state_of, IsKept, HasWaiting}
 use Rattle.vip_relation.specs.declared.point.Point.{Point}
-use Rattle.vip_relation.specs.declared.vip.Waits.{Waits}
-use Rattle.vip_relation.specs.declared.vip.Vip.TheInside.{Inside}
+use Rattle.vip_relation.specs.declared.run.Waits.{Waits}
+use Rattle.vip_relation.specs.declared.run.Run.TheInside.{Inside}
+use Rattle.vip_relation.proofs.ByRun.{as-run, follows-run, named-run}
 use Rattle.vip_relation.proofs.Past.{past}
-use Rattle.vip_relation.proofs.Steps.{events-here, follows-on, waits-on, later-on, goes-on}
+use Rattle.vip_relation.proofs.Steps.{stepped, events-here, follows-on, waits-on, later-on, goes-on}
 
 -- ---- before the first move
 
@@ -67,11 +68,14 @@ module _ (a : Inside) (k : IsKept a) (met : events_waiting (state_of a) ≡ []) 
 
   kept_moved : CarriesOn a.board (moved a.board) → (moved a.board).machine.cycle ≤ most_cycles → IsKept (then (moved a.board) (point_of (interpreter_of a.edition) (moved a.board).machine) (waits_by a.board.pictures.count (moved a.board).pictures.count))
   kept_moved carries in_time =
+      let f = follows-on v k.follows met runs carries in_time in
       record {
-        follows = follows-on v k.follows met runs carries in_time;
+        follows = follows-run (stepped v k.follows met runs) f;
         point = refl;
-        waiting = waits-on v k.follows met runs carries;
-        size = k.size;
+        waiting =
+            as-run (λ w. HasWaiting (waits_by a.board.pictures.count (moved a.board).pictures.count) w (point_of (interpreter_of a.edition) (moved a.board).machine))
+            (stepped v k.follows met runs) f (waits-on v k.follows met runs carries);
+        last = named-run (stepped v k.follows met runs) f a.last k.last;
       }
 
   pub kept-step : (s : Seen) (point : Point) (waits : Waits) → s ≡ moved a.board → CarriesOn a.board s → s.machine.cycle ≤ most_cycles → point ≡ point_of (interpreter_of a.edition) s.machine → waits ≡ waits_by a.board.pictures.count s.pictures.count → IsKept (then s point waits)
@@ -79,10 +83,15 @@ module _ (a : Inside) (k : IsKept a) (met : events_waiting (state_of a) ≡ []) 
       let P : Seen → Type 0 = λ s. CarriesOn a.board s → s.machine.cycle ≤ most_cycles → IsKept (then s (point_of (interpreter_of a.edition) s.machine) (waits_by a.board.pictures.count s.pictures.count)) in
       subst₂ (λ p w. IsKept (then s p w)) (sym is_point) (sym is_waits) (subst P (sym is) kept_moved carries in_time)
 
-  pub steps-to : (s : Seen) (name : Move) → s ≡ moved a.board → name ≡ name_of a.board.machine → Steps v (record v { moves = v.moves + 1; board = s }) name
-  steps-to s name is named =
-      let P : Seen → Type 0 = λ s. Steps v (record v { moves = v.moves + 1; board = s }) name in
-      subst P (sym is) (record { state = refl; move = named; later = later-on v k.follows met runs; goes_on = goes-on v k.follows met runs })
+  steps_moved : (name : Move) → name ≡ name_of a.board.machine → CarriesOn a.board (moved a.board) → (moved a.board).machine.cycle ≤ most_cycles → Steps v (by_run (record v { moves = v.moves + 1; board = moved a.board })) name
+  steps_moved name named carries in_time =
+      as-run (λ w. Steps v w name) (stepped v k.follows met runs) (follows-on v k.follows met runs carries in_time)
+      (record { state = refl; move = named; later = later-on v k.follows met runs; goes_on = goes-on v k.follows met runs })
+
+  pub steps-to : (s : Seen) (name : Move) → s ≡ moved a.board → name ≡ name_of a.board.machine → CarriesOn a.board s → s.machine.cycle ≤ most_cycles → Steps v (by_run (record v { moves = v.moves + 1; board = s })) name
+  steps-to s name is named carries in_time =
+      let P : Seen → Type 0 = λ s. CarriesOn a.board s → s.machine.cycle ≤ most_cycles → Steps v (by_run (record v { moves = v.moves + 1; board = s })) name in
+      subst P (sym is) (steps_moved name named) carries in_time
 
 -- the cycle after a move that ended within the limit
 pub in-time : (s t : Seen) (limit : ℕ) → t ≡ moved s → (limit < s.machine.cycle + length_of s.rom s.machine → ⊥) → t.machine.cycle ≤ limit

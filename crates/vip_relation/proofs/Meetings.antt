@@ -19,8 +19,8 @@ use Rattle.vip_relation.specs.Meets.{MeetsOne, MeetsNext, HasStopped}
 use Rattle.vip_relation.specs.Parts.{MeetsFirst}
 use Rattle.vip_relation.specs.Kept.{PictureWaits}
 use Rattle.vip_relation.specs.declared.point.Point.{Point}
-use Rattle.vip_relation.specs.declared.vip.Met.{Met}
-use Rattle.vip_relation.specs.declared.vip.Met.TheVariants.{Picture as PictureMet, Dispatch as DispatchMet, Stopped as StoppedMet}
+use Rattle.vip_relation.specs.declared.run.Met.{Met}
+use Rattle.vip_relation.specs.declared.run.Met.TheVariants.{Picture as PictureMet, Dispatch as DispatchMet, Stopped as StoppedMet}
 use Rattle.vip_board.proofs.Along.{run-split, later-run, picture-later}
 use Rattle.vip_relation.proofs.Past.{onward}
 use Rattle.vip_relation.proofs.Steps.{Others, others-to, at_state}

@@ -7,7 +7,7 @@ use Rattle.chip8_lang.specs.Events.{Event}
 use Rattle.chip8_lang.specs.Events.Event.{Picture, Dispatch, Stopped}
 use Rattle.vip_relation.specs.Meets.{MeetsNext, MeetsPicture, MeetsDispatch, MeetsStop, Ends}
 use Rattle.vip_relation.specs.State.{VipState, events_left}
-use Rattle.vip_relation.specs.declared.vip.Met.TheVariants as met
+use Rattle.vip_relation.specs.declared.run.Met.TheVariants as met
 
 pub record Dispatched (limit : ℕ) (v v' : VipState) (left : List Event) : Type 0 where
   pub b : Machine

@@ -20,9 +20,10 @@ use Rattle.vip_relation.specs.Points.{point_of, point_events}
 use Rattle.vip_relation.specs.Waiting.{waits_by}
 use Rattle.vip_relation.specs.declared.point.Point.{Point}
 use Rattle.vip_relation.specs.declared.point.Point.TheVariants.{Other}
-use Rattle.vip_relation.specs.declared.vip.Waits.{Waits}
-use Rattle.vip_relation.specs.declared.vip.Waits.TheVariants.{Nothing}
-use Rattle.vip_relation.specs.declared.vip.Vip.TheInside.{Inside}
+use Rattle.vip_relation.specs.declared.run.Waits.{Waits}
+use Rattle.vip_relation.specs.declared.run.Waits.TheVariants.{Nothing}
+use Rattle.vip_relation.specs.declared.run.Run.TheInside.{Inside}
+use Rattle.vip_relation.proofs.ByRun.{whole, follows-run, named-run}
 use Rattle.vip_relation.proofs.Closing.{kept-step, steps-to}
 use Rattle.vip_relation.proofs.Steps.{follows-on, waits-point}
 
@@ -160,6 +161,7 @@ module _ (a : Inside) (keeps : IsKept a) (met : events_waiting (state_of a) ≡ 
       → RanTo a limit (behind (moved middle) (point_of i (moved middle).machine) (waits_by a.board.pictures.count (moved middle).pictures.count))
   by_fields point waits kept =
       let b = before point waits in
+      let here : VipState = record (state_of a) { moves = a.moves + n; board = middle } in
       let late : (moved middle).machine.cycle ≤ most_cycles = omega (arith, in_time, small) in
       let one : a.moves + n + 1 ≡ a.moves + suc n = omega arith in
       let s = moved middle in
@@ -176,7 +178,7 @@ module _ (a : Inside) (keeps : IsKept a) (met : events_waiting (state_of a) ≡ 
               middle = state_of b;
               passes =
                   record {
-                    state = refl;
+                    state = whole here stood.follows;
                     script = script_by a.board n;
                     moves = omega arith;
                     later = later_by a.board n;
@@ -184,11 +186,11 @@ module _ (a : Inside) (keeps : IsKept a) (met : events_waiting (state_of a) ≡ 
                     met = stood.met;
                     runs = stood.runs;
                   };
-              follows = stood.follows;
+              follows = follows-run here stood.follows;
               name = name_of middle.machine;
               steps =
                   subst (λ m. Steps (state_of b) (state_of (after_one m)) (name_of middle.machine)) one
-                  (steps-to b kept stood.met stood.runs (moved middle) (name_of middle.machine) refl refl);
+                  (steps-to b kept stood.met stood.runs (moved middle) (name_of middle.machine) refl refl (carries-on middle) late);
               within = in_time;
             };
       }
@@ -209,12 +211,13 @@ by_size a keeps met runs zero limit small passes in_time =
     by_fields a keeps met runs 0 limit small passes in_time a.point a.waits (subst (λ m. IsKept (record a { moves = m })) same keeps)
 by_size a keeps met runs (suc n) limit small passes in_time =
     let stood_here = stood a keeps met runs (suc n) limit small passes in_time in
+    let here : VipState = record (state_of a) { moves = a.moves + suc n; board = moved_by (suc n) a.board } in
     by_fields a keeps met runs (suc n) limit small passes in_time Other Nothing
     (record {
-      follows = stood_here.follows;
+      follows = follows-run here stood_here.follows;
       point = sym (no_point (interpreter_of a.edition) (moved_by (suc n) a.board).machine (passes (suc n) (omega arith) (omega arith)).apart);
       waiting = stood_here.met;
-      size = keeps.size;
+      last = named-run here stood_here.follows a.last keeps.last;
     })
 
 pub ran : (a : Inside) (limit made : ℕ) (s : Seen) (point : Point) (waits : Waits) → IsKept a → events_waiting (state_of a) ≡ []

@@ -21,7 +21,7 @@ use Rattle.std.specs.Prelude.{◌==◌, if◌then◌else◌}
 use Rattle.std.proofs.lemmas.Bool.Decides.{nat_tests}
 use Rattle.vip_relation.specs.Kept.{HasWaiting}
 use Rattle.vip_relation.specs.declared.point.Point.TheVariants.{Dispatch as DispatchPoint, Stop as StopPoint, Other as OtherPoint}
-use Rattle.vip_relation.specs.declared.vip.Waits.TheVariants.{Picture as PictureWaiting, Point as PointWaiting}
+use Rattle.vip_relation.specs.declared.run.Waits.TheVariants.{Picture as PictureWaiting, Point as PointWaiting}
 use Rattle.vip_board.proofs.Along.{states-more, length-states, cycles-some, in-turn, run-last, run-short}
 use Rattle.vip_relation.proofs.Past.{state, earlier, past, pictures, point, Runs, Goes, goes, events-last, events-short, few-events, Finishes, finishes}
 use Rattle.vip_relation.proofs.Past.Finishes.{NoPicture, OnePicture}

@@ -1,29 +1,31 @@
 -- What the fields of a machine that runs a game mean, and what holds of them.
-use Rattle.std.specs.Prelude.{length, ◌≡◌, ℕ, [], ◌∷◌, ◌<◌, ◌≤◌, Some}
+use Rattle.std.specs.Prelude.{◌≡◌, ℕ, [], ◌∷◌, ◌<◌, ◌≤◌, None, Some}
 use Rattle.std.specs.Option.{option_map}
 use Rattle.machine.specs.Pictures.{window_end, picture_of}
 use Rattle.chip8_lang.specs.Events.Event.{Picture as PictureEvent}
-use Rattle.chip8_lang.specs.View.{seen}
+use Rattle.chip8_lang.specs.View.{View}
 use Rattle.vip_relation.specs.Interpreters.{interpreter_of}
-use Rattle.vip_relation.specs.State.{screen_size, VipState, interpreter, events_waiting, state_after, states_before}
-use Rattle.vip_relation.specs.Follows.{Follows}
+use Rattle.vip_relation.specs.State.{VipState, interpreter, events_met, events_waiting, state_after, states_before}
+use Rattle.vip_relation.specs.Follows.{Follows, last_view, last_screen}
 use Rattle.vip_relation.specs.Points.{point_of, point_events}
 use Rattle.vip_relation.specs.declared.point.Point.{Point}
-use Rattle.vip_relation.specs.declared.vip.Waits.{Waits}
-use Rattle.vip_relation.specs.declared.vip.Waits.TheVariants.{Picture, Point as PointWaits, Nothing}
-use Rattle.vip_relation.specs.declared.vip.Vip.TheInside.{Inside}
+use Rattle.vip_relation.specs.declared.run.Named.{Named}
+use Rattle.vip_relation.specs.declared.run.Waits.{Waits}
+use Rattle.vip_relation.specs.declared.run.Waits.TheVariants.{Picture, Point as PointWaits, Nothing}
+use Rattle.vip_relation.specs.declared.run.Run.TheInside.{Inside}
+
+-- what is told of the last dispatch point met, by the run alone: no field keeps it
+abbrev pub by_run : VipState → VipState
+by_run v = record v { last = last_view v.edition (events_met v); shown = last_screen v.edition (events_met v) }
 
 abbrev pub state_of : Inside → VipState
 state_of a =
-    record {
-      edition = a.edition;
-      game = a.game.items;
-      moves = a.moves;
-      met = a.met;
-      board = a.board;
-      last = option_map seen a.last;
-      shown = a.shown.items;
-    }
+    by_run
+    (record { edition = a.edition; game = a.game.items; moves = a.moves; met = a.met; board = a.board; last = None; shown = [] })
+
+-- what a stop names of a dispatch point
+abbrev pub named : View → Named
+named view = record { pc = view.pc; opcode = view.opcode }
 
 -- the picture of a frame was finished by the last move, and its event waits with that of the point
 pub record PictureWaits (v : VipState) (point : Point) : Type 0 where
@@ -43,4 +45,4 @@ pub record IsKept (a : Inside) : Type 0 where
   pub follows : Follows (state_of a)
   pub point : a.point ≡ point_of (interpreter_of a.edition) a.board.machine
   pub waiting : HasWaiting a.waits (state_of a) a.point
-  pub size : length a.shown.items ≡ screen_size a.edition
+  pub last : a.last ≡ option_map named (state_of a).last

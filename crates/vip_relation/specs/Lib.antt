@@ -7,4 +7,5 @@ pub mod Meets
 pub mod Parts
 pub mod Waiting
 pub mod Kept
+pub mod Told
 pub mod Reading

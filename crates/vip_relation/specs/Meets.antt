@@ -13,8 +13,8 @@ use Rattle.vip_board.specs.Moves.{moved, name_of}
 use Rattle.vip_board.specs.declared.board.Move.{Move}
 use Rattle.vip_relation.specs.State.{VipState, interpreter, events_to, events_left, events_waiting, run_of, moves_by, screen_bytes, started, state_after}
 use Rattle.vip_relation.specs.Stops.{stop_record}
-use Rattle.vip_relation.specs.declared.vip.Met.{Met}
-use Rattle.vip_relation.specs.declared.vip.Met.TheVariants.{Picture as PictureMet, Dispatch as DispatchMet, Stopped as StoppedMet, End}
+use Rattle.vip_relation.specs.declared.run.Met.{Met}
+use Rattle.vip_relation.specs.declared.run.Met.TheVariants.{Picture as PictureMet, Dispatch as DispatchMet, Stopped as StoppedMet, End}
 use Rattle.vip_relation.specs.declared.start.StartFault.{StartFault}
 use Rattle.vip_relation.specs.declared.start.StartFault.TheVariants.{GameTooLarge, NoMemory}
 

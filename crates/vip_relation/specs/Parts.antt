@@ -6,7 +6,7 @@ use Rattle.vip_board.specs.declared.board.Move.{Move}
 use Rattle.vip_relation.specs.Follows.{Follows}
 use Rattle.vip_relation.specs.State.{VipState, interpreter, events_left, events_waiting}
 use Rattle.vip_relation.specs.Meets.{IsSame, MeetsNext, HasStopped}
-use Rattle.vip_relation.specs.declared.vip.Met.{Met}
+use Rattle.vip_relation.specs.declared.run.Met.{Met}
 
 -- the first event that waits at the present state is met, if there is one, and the board stays
 pub record MeetsFirst (old new : VipState) (answer : Met) : Type 0 where

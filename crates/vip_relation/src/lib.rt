@@ -3,13 +3,15 @@
 //! It stands on the board and its chips, on the bytes and labels of the ROM (`chip8_image`), and on the definition of the events of a run
 //! (`chip8_lang`), for both editions. No rule of the language stands here, and no law of the ROM. The layer above may rely on this, for
 //! every game that fits, every key script and every limit up to 4,000,000,000 cycles: after every call the board is the state of the defined
-//! run from reset after the moves made, its video chip has the pictures of these moves, and what `last` and `shown` tell is that of the last
-//! dispatch point met; `advance` answers exactly the next event of the run. Events, views and places are this project's profile
-//! (`docs/LANGUAGE.md`, `docs/MACHINE.md`).
+//! run from reset after the moves made, and its video chip has the pictures of these moves; `advance` answers exactly the next event of the
+//! run. A `Run` keeps of a dispatch point what a stop names, and lends the rest off the board that stands there; a `Vip` keeps the state and the
+//! screen, so `last` and `shown` tell those of the last dispatch point met wherever the board has gone. Events, views and places are this
+//! project's profile (`docs/LANGUAGE.md`, `docs/MACHINE.md`).
 #![tactic(auto)]
 
 mod places;
 mod point;
+mod run;
 mod seen;
 mod start;
 mod view;
@@ -17,6 +19,8 @@ mod vip;
 
 pub use places::Places;
 pub use point::{Point, point_at};
+pub use run::{Met, Run};
 pub use seen::{stop_of, view_of};
 pub use start::{StartFault, most_bytes};
-pub use vip::{Met, Vip};
+pub use view::{Screen, dark};
+pub use vip::Vip;

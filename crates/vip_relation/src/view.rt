@@ -124,7 +124,7 @@ fn variables(edition: Edition, memory: &Memory) -> [u8; 16]
 }
 
 /// The opcode at pc, where both its bytes lie in game memory.
-fn opcode(edition: Edition, memory: &Memory, pc: u16) -> Option<u16>
+pub fn opcode(edition: Edition, memory: &Memory, pc: u16) -> Option<u16>
     ensures { result ≡ opcode_in edition memory.now.ram pc }
 {
     if pc < GAME || pc > Places::of(edition).memory_end - 2 {

@@ -23,7 +23,7 @@ use Rattle.vip_relation.proofs.Steps.{few-met}
 use Rattle.vip_relation.specs.Interpreters.{interpreter_of}
 use Rattle.vip_relation.specs.State.{VipState, interpreter, run_of, events_to, events_left, screen_size, screen_bytes}
 use Rattle.vip_relation.specs.Stops.{pc_of, opcode_of}
-use Rattle.vip_relation.specs.declared.vip.Met.TheVariants as met
+use Rattle.vip_relation.specs.declared.run.Met.TheVariants as met
 use Rattle.vip_text.specs.Endings.{ending_in}
 use Rattle.vip_text.specs.Endings.Ending.{AtStop}
 use Rattle.vip_text.specs.declared.ending.RunEnd.{RunEnd}
@@ -190,7 +190,7 @@ puts-piece (Some piece) old new done put = PutsAll-one piece old new put
 module _ (shown : Shown) (limit : ℕ) (start : VipState) (out : SinkMeaning) (v v' : VipState) (out' : SinkMeaning) (dispatches pictures : ℕ) (g : Going shown limit start v out out' dispatches pictures) where
   dispatch_piece : (s : Shown) (d : Dispatched limit v v' (events_left v limit))
       → option_to_list (event_piece s met.Dispatch v') ≡ piece_of s start.edition (interpreter start).rom (run_of start limit) (Dispatch d.b)
-  dispatch_piece (Lines with_time) d = rw (d.meets.last, g.edition) refl
+  dispatch_piece (Lines with_time) d = rw (d.meets.machine, d.meets.one.same.edition, g.edition) refl
   dispatch_piece Pictures d = refl
   dispatch_piece Nothing d = refl
 
@@ -224,6 +224,12 @@ module _ (shown : Shown) (limit : ℕ) (start : VipState) (out : SinkMeaning) (v
         → PieceAnswers (event_piece shown met.Picture v') out' out'' (Err e)
         → FailsWithin (pieces_of shown start limit (events_to start limit)) out out''
     fails-picture d e fault = fails (Picture d.m) d.rest (event_piece shown met.Picture v') e d.split (picture_piece_is shown d) fault
+
+-- the screen of the dispatch point where the board stands is that of the last one met
+pub screen-here : (limit : ℕ) (v v' : VipState) (left : List Event) (d : Dispatched limit v v' left) (bytes : List ℕ)
+    → bytes ≡ screen_bytes v'.edition v'.board.machine → bytes ≡ v'.shown
+screen-here limit v v' left d bytes is =
+    is ∙ ap (λ e. screen_bytes e v'.board.machine) d.meets.one.same.edition ∙ ap (screen_bytes v.edition) d.meets.machine ∙ sym d.meets.shown
 
 -- at whatever error is passed on
 pub run-fails : (shown : Shown) (limit : ℕ) (old new : VipState) (out out' : SinkMeaning) (r : Result Tally Failed) → IsErr r

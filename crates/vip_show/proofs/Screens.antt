@@ -1,7 +1,7 @@
 -- The lit pixels of the screen that is told of.
 use Rattle.std.proofs.Common.{◌≡◌, ℕ, ◌+◌, ◌/◌, List, [], ◌∷◌, ◌++◌, length, refl, sym, ap, ap₂, ◌∙◌, arith, Bool, true, false, length-append}
-use Rattle.std.specs.Prelude.{if◌then◌else◌, filter, Some}
-use Rattle.std.specs.Option.{option_map_or}
+use Rattle.std.specs.Prelude.{if◌then◌else◌, filter, Option, Some, None}
+use Rattle.std.specs.Option.{option_map, option_map_or}
 use Rattle.std.specs.List.{range_with_len}
 use Rattle.std.proofs.lemmas.List.Elements.{filter-append}
 use Rattle.vip_byte.proofs.RangeLemmas.{range_with_len-more}
@@ -55,8 +55,21 @@ rows-more pixels n count row so_far is =
 
 -- ---- the lit pixels that are told
 
-pub lit-told : (v : VipState) (view : View) (rows : List ℕ) (lit : ℕ) → Some view ≡ v.last → rows ≡ v.shown → length rows ≡ screen_size v.edition
+-- a dispatch point was met where there is a pc of the last one, and none where there is none
+pub record Viewed (last : Option View) : Type 0 where
+  pub view : View
+  pub is : last ≡ Some view
+
+pub some-viewed : (last : Option View) (pc : ℕ) → Some pc ≡ option_map (λ view. view.pc) last → Viewed last
+some-viewed None pc is = cc
+some-viewed (Some view) pc is = record { view = view; is = refl }
+
+pub none-viewed : (last : Option View) → None ≡ option_map (λ view. view.pc) last → last ≡ None
+none-viewed None is = refl
+none-viewed (Some view) is = cc
+
+pub lit-told : (v : VipState) (view : View) (rows : List ℕ) (lit : ℕ) → v.last ≡ Some view → rows ≡ v.shown → length rows ≡ screen_size v.edition
     → lit ≡ lit_in_rows (pixels_of rows) (range_with_len 0 (length rows / 8)) → lit ≡ lit_told v
 lit-told v view rows lit told same size is =
     is ∙ ap₂ (λ n bytes. lit_in_rows (pixels n bytes) (range_with_len 0 n)) (rows_by v.edition (length rows) size) same
-    ∙ ap (λ last. option_map_or (λ view. lit_in_rows (pixels_told v) (range_with_len 0 (rows_of v.edition))) last 0) told
+    ∙ ap (λ last. option_map_or (λ view. lit_in_rows (pixels_told v) (range_with_len 0 (rows_of v.edition))) last 0) (sym told)

@@ -8,13 +8,14 @@ use Rattle.chip8_lang.specs.Editions.{rows_of}
 use Rattle.chip8_lang.specs.Events.{Event}
 use Rattle.chip8_lang.specs.Places.{pixels}
 use Rattle.chip8_lang.specs.Screen.{Pixels}
+use Rattle.chip8_lang.specs.View.{view_at}
 use Rattle.vip_outside.specs.Sink.{SinkMeaning, PutAnswers}
 use Rattle.vip_outside.specs.Pieces.{PutsAll, FailsWithin}
 use Rattle.vip_outside.specs.declared.sink.Failed.{Failed}
 use Rattle.vip_text.specs.Screens.{picture_file, screen_lines}
 use Rattle.vip_text.specs.Traces.{trace_line}
-use Rattle.vip_relation.specs.declared.vip.Met.{Met}
-use Rattle.vip_relation.specs.declared.vip.Met.TheVariants.{Dispatch as MetDispatch, Picture as MetPicture}
+use Rattle.vip_relation.specs.declared.run.Met.{Met}
+use Rattle.vip_relation.specs.declared.run.Met.TheVariants.{Dispatch as MetDispatch, Picture as MetPicture}
 use Rattle.vip_relation.specs.Follows.{last_view, last_screen}
 use Rattle.vip_relation.specs.State.{VipState, interpreter, run_of, events_to}
 use Rattle.vip_show.specs.declared.run.Shown.{Shown}
@@ -55,7 +56,7 @@ PieceAnswers None old new r = (r ≡ Ok tt) × (new ≡ old)
 
 -- what is put of an event that was just met
 abbrev pub event_piece : Shown → Met → VipState → Option (List ℕ)
-event_piece (Lines with_time) MetDispatch v = option_map (trace_line with_time) v.last
+event_piece (Lines with_time) MetDispatch v = Some (trace_line with_time (view_at v.edition v.board.machine))
 event_piece Pictures MetPicture v = option_map picture_file v.board.pictures.finished
 event_piece _ met v = None
 

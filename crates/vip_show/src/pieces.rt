@@ -1,9 +1,10 @@
 //! The output of a trace and of pictures.
 
-ghost use Rattle.std.specs.Prelude.{◌≤◌};
+ghost use Rattle.std.specs.Prelude.{◌≡◌, ◌≤◌, length};
 ghost use Rattle.std.specs.Option.{option_map};
 ghost use Rattle.chip8_lang.specs.Editions.{rows_of};
 ghost use Rattle.chip8_lang.specs.Places.{pixels};
+ghost use Rattle.vip_relation.specs.State.{screen_size};
 ghost use Rattle.vip_text.specs.Screens.{screen_lines};
 ghost use Rattle.vip_show.specs.Answers.{IsFresh, ShowAnswers, traced, pictured};
 ghost use Rattle.vip_show.specs.Run.{PieceAnswers, screen_told};
@@ -11,25 +12,27 @@ ghost use Rattle.vip_show.specs.Run.{PieceAnswers, screen_told};
 use crate::run::{Shown, run};
 use vip_byte::{Buffer, MOST_CYCLE};
 use vip_outside::{Failed, Sink};
-use vip_relation::Vip;
+use vip_relation::Run;
 use vip_text::{RunEnd, screen_text};
 
 /// Puts the screen at the last dispatch point, as one piece, or nothing where there was none.
-fn put_screen<O: Sink>(vip: &Vip, out: &mut O) -> Result<(), Failed>
+fn put_screen<O: Sink>(vip: &Run, screen: &[u8], out: &mut O) -> Result<(), Failed>
+    requires bytes { screen.now ≡ vip.now.shown }
+    requires size { length screen.now ≡ screen_size vip.now.edition }
     ensures { PieceAnswers (screen_told vip.now) (O.meaning out.old) (O.meaning out.new) result }
 {
-    let Some(_) = vip.last() else {
+    let Some(_) = vip.last_pc() else {
         return Ok(());
     };
     let mut text = Buffer::new();
-    screen_text(vip.shown(), &mut text);
+    screen_text(screen, &mut text);
     out.put(text.as_slice())
 }
 
 /// Runs a machine that begins, and puts the line of each dispatch point, and at the end the screen where it is asked for, each as one
 /// piece. A put that fails ends it.
 pub fn show_trace<O: Sink>(
-    vip: &mut Vip,
+    vip: &mut Run,
     limit: u64,
     with_time: bool,
     with_screen: bool,
@@ -39,18 +42,18 @@ pub fn show_trace<O: Sink>(
     requires limit { limit ≤ MOST_CYCLE }
     ensures { ShowAnswers vip.old limit (traced with_time with_screen vip.old limit) (O.meaning out.old) (O.meaning out.new) result }
 {
-    let tally = run(vip, limit, Shown::Lines { with_time }, out)?;
+    let tally = run(vip, limit, Shown::Lines { with_time }, with_screen, out)?;
     if with_screen {
-        put_screen(vip, out)?;
+        put_screen(vip, tally.screen.as_slice(), out)?;
     }
     Ok(tally.end)
 }
 
 /// Runs a machine that begins, and puts each finished picture, each as one piece. A put that fails ends it.
-pub fn show_pictures<O: Sink>(vip: &mut Vip, limit: u64, out: &mut O) -> Result<RunEnd, Failed>
+pub fn show_pictures<O: Sink>(vip: &mut Run, limit: u64, out: &mut O) -> Result<RunEnd, Failed>
     requires fresh { IsFresh vip.old }
     requires limit { limit ≤ MOST_CYCLE }
     ensures { ShowAnswers vip.old limit (pictured vip.old limit) (O.meaning out.old) (O.meaning out.new) result }
 {
-    Ok(run(vip, limit, Shown::Pictures, out)?.end)
+    Ok(run(vip, limit, Shown::Pictures, false, out)?.end)
 }

@@ -1,7 +1,10 @@
 //! A run from event to event.
 
-ghost use Rattle.std.specs.Prelude.{◌≤◌};
+ghost use Rattle.std.specs.Prelude.{◌≡◌, ◌≤◌, IfOk, IsTrue, length};
 ghost use Rattle.std.specs.Option.{option_map};
+ghost use Rattle.chip8_lang.specs.View.{view_at};
+ghost use Rattle.vip_outside.specs.Sink.{PutAnswers};
+ghost use Rattle.vip_relation.specs.State.{screen_bytes, screen_size};
 ghost use Rattle.vip_text.specs.Screens.{picture_file};
 ghost use Rattle.vip_text.specs.Traces.{trace_line};
 ghost use Rattle.vip_show.specs.Answers.{IsFresh};
@@ -9,7 +12,7 @@ ghost use Rattle.vip_show.specs.Run.{PieceAnswers, event_piece, RunAnswers};
 
 use vip_byte::{Buffer, MOST_CYCLE};
 use vip_outside::{Failed, Sink};
-use vip_relation::{Met, Vip};
+use vip_relation::{Met, Run, Screen, dark};
 use vip_text::{RunEnd, picture_text, trace_text};
 
 /// What is written of each event.
@@ -22,33 +25,31 @@ pub enum Shown {
     Nothing,
 }
 
-/// How a run ended, and how many dispatch points and pictures it had.
-#[derive(Clone, Copy)]
+/// How a run ended, how many dispatch points and pictures it had, and, where it was asked for, the screen at the last dispatch point.
+#[derive(Drop)]
 pub struct Tally {
     pub end: RunEnd,
     pub dispatches: u64,
     pub pictures: u64,
+    pub screen: Screen,
 }
 
-/// Puts the line of the last dispatch point met, where there is one. It is written over what `text` has.
+/// Puts the line of the dispatch point where the board stands. It is written over what `text` has.
 fn put_line<O: Sink>(
-    vip: &Vip,
+    vip: &Run,
     with_time: bool,
     text: &mut Buffer,
     out: &mut O,
 ) -> Result<(), Failed>
-    ensures { PieceAnswers (option_map (trace_line with_time) vip.now.last) (O.meaning out.old) (O.meaning out.new) result }
+    ensures { PutAnswers (trace_line with_time (view_at vip.now.edition vip.now.board.machine)) (O.meaning out.old) (O.meaning out.new) result }
 {
-    let Some(view) = vip.last() else {
-        return Ok(());
-    };
     text.clear();
-    trace_text(view, with_time, text);
+    trace_text(&vip.view(), with_time, text);
     out.put(text.as_slice())
 }
 
 /// Puts the last picture that was finished, where there is one. It is written over what `text` has.
-fn put_picture<O: Sink>(vip: &Vip, text: &mut Buffer, out: &mut O) -> Result<(), Failed>
+fn put_picture<O: Sink>(vip: &Run, text: &mut Buffer, out: &mut O) -> Result<(), Failed>
     ensures { PieceAnswers (option_map picture_file vip.now.board.pictures.finished) (O.meaning out.old) (O.meaning out.new) result }
 {
     let Some(picture) = vip.board().video().finished() else {
@@ -61,7 +62,7 @@ fn put_picture<O: Sink>(vip: &Vip, text: &mut Buffer, out: &mut O) -> Result<(),
 
 /// Puts what is shown of an event that was just met. It is written over what `text` has.
 fn put_event<O: Sink>(
-    vip: &Vip,
+    vip: &Run,
     met: &Met,
     shown: Shown,
     text: &mut Buffer,
@@ -76,36 +77,64 @@ fn put_event<O: Sink>(
     }
 }
 
+/// Copies the screen at the dispatch point where the board stands, where it is asked for.
+fn keep_screen(vip: &Run, is_asked: bool, screen: &mut Screen)
+    requires size { length screen.old.items ≡ screen_size vip.now.edition }
+    ensures screen { IsTrue is_asked → screen.new.items ≡ screen_bytes vip.now.edition vip.now.board.machine }
+    ensures size { length screen.new.items ≡ screen_size vip.now.edition }
+{
+    if is_asked {
+        vip.copy_screen(screen);
+    }
+}
+
 /// Runs a machine that begins up to its limit or its stop point, and puts what is shown of each event, each as one piece.
-pub fn run<O: Sink>(vip: &mut Vip, limit: u64, shown: Shown, out: &mut O) -> Result<Tally, Failed>
+pub fn run<O: Sink>(
+    vip: &mut Run,
+    limit: u64,
+    shown: Shown,
+    keeps_screen: bool,
+    out: &mut O,
+) -> Result<Tally, Failed>
     requires fresh { IsFresh vip.old }
     requires limit { limit ≤ MOST_CYCLE }
-    ensures { RunAnswers shown limit vip.old vip.new (O.meaning out.old) (O.meaning out.new) result }
+    ensures answer { RunAnswers shown limit vip.old vip.new (O.meaning out.old) (O.meaning out.new) result }
+    ensures screen { IsTrue keeps_screen → IfOk result (λ tally. tally.screen.items ≡ vip.new.shown) }
+    ensures size { IfOk result (λ tally. length tally.screen.items ≡ screen_size vip.new.edition) }
 {
     let mut dispatches = 0u64;
     let mut pictures = 0u64;
+    let mut screen = dark(vip.edition());
     // one for all events, since a new one is filled with 00 each time
     let mut text = Buffer::new();
     loop {
         let met = vip.advance(limit);
-        let end = match met {
+        match met {
             Met::Dispatch => {
                 dispatches += 1;
+                keep_screen(vip, keeps_screen, &mut screen);
                 put_event(vip, &met, shown, &mut text, out)?;
-                continue;
             }
             Met::Picture => {
                 pictures += 1;
                 put_event(vip, &met, shown, &mut text, out)?;
-                continue;
             }
-            Met::Stopped(stop) => RunEnd::AtStop(stop),
-            Met::End => RunEnd::AtLimit,
-        };
-        return Ok(Tally {
-            end,
-            dispatches,
-            pictures,
-        });
+            Met::Stopped(stop) => {
+                return Ok(Tally {
+                    end: RunEnd::AtStop(stop),
+                    dispatches,
+                    pictures,
+                    screen,
+                });
+            }
+            Met::End => {
+                return Ok(Tally {
+                    end: RunEnd::AtLimit,
+                    dispatches,
+                    pictures,
+                    screen,
+                });
+            }
+        }
     }
 }

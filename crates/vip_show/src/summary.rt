@@ -2,6 +2,7 @@
 
 ghost use Rattle.std.specs.Prelude.{◌≡◌, ◌+◌, ◌*◌, ◌/◌, ◌≤◌, length, if◌then◌else◌};
 ghost use Rattle.std.specs.List.{range_with_len};
+ghost use Rattle.vip_relation.specs.State.{screen_size};
 ghost use Rattle.vip_text.specs.Screens.{pixels_of};
 ghost use Rattle.vip_show.specs.Answers.{IsFresh, ShowAnswers, summed};
 ghost use Rattle.vip_show.specs.Output.{lit_in_row, lit_in_rows};
@@ -10,7 +11,7 @@ ghost use Rattle.vip_show.specs.Run.{lit_told};
 use crate::run::{Shown, run};
 use vip_byte::{Buffer, MOST_CYCLE};
 use vip_outside::{Failed, Sink};
-use vip_relation::Vip;
+use vip_relation::Run;
 use vip_text::{ROW_SIZE, RunEnd, WIDTH, is_lit, summary_text};
 
 /// How much a pixel adds to a count of lit ones.
@@ -47,19 +48,21 @@ fn lit_pixels(rows: &[u8]) -> u64
 }
 
 /// The lit pixels of the screen at the last dispatch point met, or 0 where none was met.
-fn lit(vip: &Vip) -> u64
+fn lit(vip: &Run, screen: &[u8]) -> u64
+    requires bytes { screen.now ≡ vip.now.shown }
+    requires size { length screen.now ≡ screen_size vip.now.edition }
     ensures { result ≡ lit_told vip.now }
 {
-    let Some(_) = vip.last() else {
+    let Some(_) = vip.last_pc() else {
         return 0;
     };
-    lit_pixels(vip.shown())
+    lit_pixels(screen)
 }
 
 /// Runs a machine that begins, and puts a line that sums its run up as that of the demonstration game of a number, as one piece: how many
 /// dispatch points and finished pictures it had, and how many pixels are lit at the last dispatch point.
 pub fn show_summary<O: Sink>(
-    vip: &mut Vip,
+    vip: &mut Run,
     limit: u64,
     number: u32,
     out: &mut O,
@@ -68,13 +71,13 @@ pub fn show_summary<O: Sink>(
     requires limit { limit ≤ MOST_CYCLE }
     ensures { ShowAnswers vip.old limit (summed number vip.old limit) (O.meaning out.old) (O.meaning out.new) result }
 {
-    let tally = run(vip, limit, Shown::Nothing, out)?;
+    let tally = run(vip, limit, Shown::Nothing, true, out)?;
     let mut text = Buffer::new();
     summary_text(
         number,
         tally.dispatches,
         tally.pictures,
-        lit(vip),
+        lit(vip, tally.screen.as_slice()),
         &mut text,
     );
     out.put(text.as_slice())?;

@@ -15,6 +15,7 @@ mod linked;
 mod opening;
 mod prepared;
 mod program;
+mod work;
 
 pub use opening::open;
 pub use prepared::{Prepared, perform};

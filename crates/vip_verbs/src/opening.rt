@@ -21,7 +21,7 @@ use rom_check::{ImageFault, check_image, check_tall};
 use std::alloc::Global;
 use vip_commands::Speaks;
 use vip_outside::Files;
-use vip_relation::{StartFault, Vip};
+use vip_relation::{Run, StartFault, Vip};
 use vip_report::Refusal;
 use vip_state::{ResumeFault, Resumed};
 use vip_tools::{
@@ -60,14 +60,14 @@ fn start<'a>(
     alloc: Global,
     edition: Edition,
     contents: &RunContents<'_>,
-) -> Result<Vip, Refusal<'a>>
+) -> Result<Run, Refusal<'a>>
     requires game { length contents.now.game.now ≤ memory_size edition }
     requires script { SmallScripts (script_list contents.now.script) }
     ensures { StartAnswers edition contents.now.game.now (script_list contents.now.script) result }
 {
     let script = read_keys(alloc, contents.script)?;
     check_rom(alloc, edition)?;
-    match Vip::start_as(alloc, edition, contents.game, &script) {
+    match Run::start_as(alloc, edition, contents.game, &script) {
         Ok(vip) => Ok(vip),
         Err(StartFault::GameTooLarge(_)) => Err(Refusal::TooLarge(game_kind(edition))),
         Err(StartFault::NoMemory) => Err(Refusal::NoMemory),
@@ -123,7 +123,7 @@ fn open_debug<'a>(
     let commands = read_debugging(alloc, Speaks::Chip8, contents.commands, run.cycles)?;
     let vip = start(alloc, run.edition, &contents.run)?;
     Ok(Prepared::Debug {
-        vip,
+        vip: Vip::of(vip),
         limit: run.cycles,
         commands,
     })
@@ -140,7 +140,7 @@ fn open_save<'a>(
 {
     let vip = start(alloc, wish.edition, contents)?;
     Ok(Prepared::Save {
-        vip,
+        vip: Vip::of(vip),
         limit: wish.cycles,
     })
 }

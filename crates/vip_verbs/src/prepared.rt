@@ -1,34 +1,31 @@
 //! A verb that is ready to write, and its work.
 
-ghost use Rattle.std.specs.Prelude.{◌≡◌};
-ghost use Rattle.vip_verbs.specs.Prepared.{IsReady, PerformAnswers, DebugEnds, output_of, run_ended, save_ended};
+ghost use Rattle.vip_verbs.specs.Prepared.{IsReady, PerformAnswers, output_of};
 
 use crate::linked::run_link;
-use crate::program::{debug_program, program_ran};
+use crate::program::{debug_program, play_program, trace_program};
+use crate::work::{debug, demo, play, put_text, resume, save, trace};
 use vip_board::Board;
 use vip_commands::Commands;
-use vip_debug::{DebugEnd, run_commands};
 use vip_link::Link;
 use vip_outside::{Failed, Sink};
-use vip_relation::Vip;
+use vip_relation::{Run, Vip};
 use vip_report::Ended;
-use vip_show::{show_pictures, show_summary, show_trace};
-use vip_state::{Resumed, show_resumed, show_saved};
-use vip_text::RunEnd;
+use vip_state::Resumed;
 
 /// A verb that is ready: its files are read and judged, and it needs no more memory. What it writes, and how it ends, is settled.
 #[derive(Drop)]
 pub enum Prepared {
     /// A game's run up to a limit in machine cycles, a line for each dispatch point, and at the end the screen where that is asked for.
     Trace {
-        vip: Vip,
+        vip: Run,
         limit: u64,
         with_time: bool,
         with_screen: bool,
     },
     /// A game's run up to a limit, picture by picture.
     Play {
-        vip: Vip,
+        vip: Run,
         limit: u64,
     },
     /// The debugger's commands on a game's run up to a limit.
@@ -50,7 +47,7 @@ pub enum Prepared {
     },
     /// The run of the demonstration game of a number up to a limit, counted.
     Demo {
-        vip: Vip,
+        vip: Run,
         limit: u64,
         number: u32,
     },
@@ -80,38 +77,6 @@ pub enum Prepared {
     Text(Vec<u8>),
 }
 
-/// How a run up to a limit ended.
-fn ran(limit: u64, end: Result<RunEnd, Failed>) -> Result<Ended, Failed>
-    ensures { result ≡ run_ended limit end }
-{
-    match end {
-        Ok(end) => Ok(Ended::Ran(limit, end)),
-        Err(failed) => Err(failed),
-    }
-}
-
-/// How a run up to a limit ended that was saved: None where it had no dispatch point.
-fn saved(limit: u64, end: Result<Option<RunEnd>, Failed>) -> Result<Ended, Failed>
-    ensures { result ≡ save_ended limit end }
-{
-    match end {
-        Ok(Some(end)) => Ok(Ended::Ran(limit, end)),
-        Ok(None) => Ok(Ended::NoDispatch),
-        Err(failed) => Err(failed),
-    }
-}
-
-/// How a run under the debugger ended.
-fn debugged(limit: u64, end: DebugEnd) -> Result<Ended, Failed>
-    ensures { DebugEnds limit end result }
-{
-    match end {
-        DebugEnd::Done => Ok(Ended::Ran(limit, RunEnd::AtLimit)),
-        DebugEnd::Stopped(stop) => Ok(Ended::Ran(limit, RunEnd::AtStop(stop))),
-        DebugEnd::WriteFault => Err(Failed),
-    }
-}
-
 /// Does the work of a verb that is ready: its output goes out piece by piece, each by one put, up to the first put that fails. It takes no memory,
 /// and so never wants any.
 pub fn perform<O: Sink>(prepared: Prepared, out: &mut O) -> Result<Ended, Failed>
@@ -120,50 +85,36 @@ pub fn perform<O: Sink>(prepared: Prepared, out: &mut O) -> Result<Ended, Failed
 {
     match prepared {
         Prepared::Trace {
-            mut vip,
+            vip,
             limit,
             with_time,
             with_screen,
-        } => ran(
-            limit,
-            show_trace(&mut vip, limit, with_time, with_screen, out),
-        ),
-        Prepared::Play { mut vip, limit } => ran(limit, show_pictures(&mut vip, limit, out)),
+        } => trace(vip, limit, with_time, with_screen, out),
+        Prepared::Play { vip, limit } => play(vip, limit, out),
         Prepared::Debug {
-            mut vip,
+            vip,
             limit,
             commands,
-        } => debugged(limit, run_commands(&mut vip, &commands, limit, out)),
-        Prepared::Save { mut vip, limit } => saved(limit, show_saved(&mut vip, limit, out)),
+        } => debug(vip, limit, commands, out),
+        Prepared::Save { vip, limit } => save(vip, limit, out),
         Prepared::Resume {
-            mut run,
+            run,
             limit,
             with_time,
-        } => ran(limit, show_resumed(&mut run, limit, with_time, out)),
-        Prepared::Demo {
-            mut vip,
-            limit,
-            number,
-        } => ran(limit, show_summary(&mut vip, limit, number, out)),
-        Prepared::TraceProgram { mut board, limit } => {
-            program_ran(limit, vip_program::show_trace(&mut board, limit, out))
-        }
-        Prepared::PlayProgram { mut board, limit } => {
-            program_ran(limit, vip_program::show_pictures(&mut board, limit, out))
-        }
+        } => resume(run, limit, with_time, out),
+        Prepared::Demo { vip, limit, number } => demo(vip, limit, number, out),
+        Prepared::TraceProgram { board, limit } => trace_program(board, limit, out),
+        Prepared::PlayProgram { board, limit } => play_program(board, limit, out),
         Prepared::DebugProgram {
-            mut board,
+            board,
             limit,
             commands,
-        } => debug_program(&mut board, &commands, limit, out),
+        } => debug_program(board, limit, commands, out),
         Prepared::Link {
             link,
             number,
             moves,
         } => run_link(link, number, moves, out),
-        Prepared::Text(text) => {
-            out.put(text.as_slice())?;
-            Ok(Ended::Worked)
-        }
+        Prepared::Text(text) => put_text(text, out),
     }
 }

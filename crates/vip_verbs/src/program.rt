@@ -4,18 +4,16 @@ ghost use Rattle.std.specs.Prelude.{◌≡◌, ◌≤◌, length};
 ghost use Rattle.vip_program.specs.Program.{most_bytes};
 ghost use Rattle.vip_tools.specs.Contents.{script_list};
 ghost use Rattle.vip_tools.specs.Opening.{SmallScripts};
-ghost use Rattle.vip_words.specs.Asked.{most_cycles};
-ghost use Rattle.vip_program.specs.Trace.{end_at};
-ghost use Rattle.vip_debug.specs.Programs.{machine_with, program_written};
-ghost use Rattle.vip_verbs.specs.Programs.{BoardAnswers, IsBegun, memory_in, program_ended};
-ghost use Rattle.vip_verbs.specs.Prepared.{PerformAnswers, program_output};
+ghost use Rattle.vip_verbs.specs.Programs.{BoardAnswers, memory_in, program_ended};
+ghost use Rattle.vip_verbs.specs.Prepared.{IsReady, PerformAnswers, output_of};
+ghost use Rattle.vip_verbs.specs.declared.prepared.Prepared.TheVariants as ready;
 
 use std::alloc::Global;
 use vip_board::Board;
 use vip_commands::Commands;
 use vip_debug::run_program_commands;
 use vip_outside::{Failed, Sink};
-use vip_program::{Memory, ProgramEnd, start_program};
+use vip_program::{Memory, ProgramEnd, show_pictures, show_trace, start_program};
 use vip_report::{Ended, Refusal};
 use vip_text::RunEnd;
 use vip_tools::{RunContents, read_keys};
@@ -46,7 +44,7 @@ pub fn start_board<'a>(
 }
 
 /// How the run of a program ended.
-pub fn program_ran(limit: u64, end: Result<ProgramEnd, Failed>) -> Result<Ended, Failed>
+fn program_ran(limit: u64, end: Result<ProgramEnd, Failed>) -> Result<Ended, Failed>
     ensures { result ≡ program_ended limit end }
 {
     match end {
@@ -56,16 +54,34 @@ pub fn program_ran(limit: u64, end: Result<ProgramEnd, Failed>) -> Result<Ended,
     }
 }
 
-/// Runs the debugger's commands on the board of a program that begins, up to a limit.
+/// Runs a program, and puts a line for each move or stretch of moves.
+pub fn trace_program<O: Sink>(mut board: Board, limit: u64, out: &mut O) -> Result<Ended, Failed>
+    requires { IsReady (ready.TraceProgram board limit) }
+    ensures { PerformAnswers (output_of (ready.TraceProgram board limit)) (O.meaning out.old) (O.meaning out.new) result }
+{
+    program_ran(limit, show_trace(&mut board, limit, out))
+}
+
+/// Runs a program, and puts each finished picture.
+pub fn play_program<O: Sink>(mut board: Board, limit: u64, out: &mut O) -> Result<Ended, Failed>
+    requires { IsReady (ready.PlayProgram board limit) }
+    ensures { PerformAnswers (output_of (ready.PlayProgram board limit)) (O.meaning out.old) (O.meaning out.new) result }
+{
+    program_ran(limit, show_pictures(&mut board, limit, out))
+}
+
+/// Runs the debugger's commands on a program.
 pub fn debug_program<O: Sink>(
-    board: &mut Board,
-    commands: &Commands,
+    mut board: Board,
     limit: u64,
+    commands: Commands,
     out: &mut O,
 ) -> Result<Ended, Failed>
-    requires begins { IsBegun board.old }
-    requires limit { limit ≤ most_cycles }
-    ensures { let s = board.old in PerformAnswers (program_output limit (program_written s limit commands.now) (end_at (machine_with s limit commands.now))) (O.meaning out.old) (O.meaning out.new) result }
+    requires { IsReady (ready.DebugProgram board limit commands) }
+    ensures { PerformAnswers (output_of (ready.DebugProgram board limit commands)) (O.meaning out.old) (O.meaning out.new) result }
 {
-    program_ran(limit, run_program_commands(board, commands, limit, out))
+    program_ran(
+        limit,
+        run_program_commands(&mut board, &commands, limit, out),
+    )
 }

@@ -1,14 +1,16 @@
-use Rattle.std.proofs.Common.{length}
+use Rattle.std.proofs.Common.{◌≡◌, true, length}
 use Rattle.vip_relation.specs.Meets.{HasStopped}
-use Rattle.vip_relation.specs.State.{events_left}
+use Rattle.vip_relation.specs.State.{events_left, screen_size}
 use Rattle.vip_show.proofs.Going.{Going}
 use Rattle.vip_show.proofs.run.run.Given as goal
 
--- what was met is written, and no stop was met
+-- what was met is written, no stop was met, and the screen is that of the last dispatch point where it is asked for
 abbrev pub invariant-loop-dispatches : goal.invariant-loop-dispatches
 invariant-loop-dispatches g l = record {
   runs : HasStopped l.vip → ⊥;
   going : Going l.shown l.limit l.fn.vip l.vip (g.O.Sink.meaning l.fn.out) (g.O.Sink.meaning l.out) l.dispatches l.pictures;
+  screen : l.keeps_screen ≡ true → l.screen.items ≡ l.vip.shown;
+  size : length l.screen.items ≡ screen_size l.vip.edition;
 }
 
 -- the events that are left

@@ -1,9 +1,11 @@
+use Rattle.std.proofs.Common.{sym, subst, Ok}
 use Rattle.vip_words.specs.Asked.Asked.{debug}
 use Rattle.vip_words.specs.Request.{asked_debug}
 use Rattle.vip_tools.specs.Contents.{debug_list, script_list}
 use Rattle.vip_tools.proofs.WorkLemmas.{passed}
 use Rattle.vip_verbs.specs.Outcome.{Comes}
 use Rattle.vip_verbs.specs.Prepared.{PrepareAnswers}
+use Rattle.vip_verbs.specs.declared.prepared.Prepared.TheVariants.{Debug}
 use Rattle.vip_verbs.proofs.WorkLemmas.{refused-commands, debug_run, refused-start, run-comes, started-of}
 use Rattle.vip_verbs.proofs.opening.open_debug.Goals as goal
 
@@ -26,4 +28,5 @@ returns c =
     let run =
     debug_run (asked_debug c.args.wish.now) c.args.contents.now.run.game.now c.args.contents.now.commands.now
     (script_list c.args.contents.now.run.script) c.in_ok-commands.commands c.in_ok-commands.ensures in
-    ((started-of _ _ _ _ c.in_ok-vip.ensures, c.requires.limit), run-comes _ run _ c.in_ok-vip.ensures)
+    subst (λ vip. PrepareAnswers (Comes (debug (asked_debug c.args.wish.now)) (debug_list c.args.contents.now)) (Ok (Debug vip c.args.wish.now.run.cycles c.in_ok-commands.commands)))
+    (sym c.of.ensures) ((started-of _ _ _ _ c.in_ok-vip.ensures, c.requires.limit), run-comes _ run _ c.in_ok-vip.ensures)

@@ -1,26 +1,4 @@
-use Rattle.std.proofs.Common.{[]}
-use Rattle.vip_outside.proofs.PiecesLemmas.{FailsWithin-snoc, PutsAll-nil}
-use Rattle.vip_verbs.proofs.ProgramLemmas.{program-performs}
-use Rattle.vip_verbs.proofs.WorkLemmas.{debug-performs, failed-at, save-performs, show-performs}
 use Rattle.vip_verbs.proofs.prepared.perform.Goals as goal
-
-pub returns-in_err-put-in-Text : goal.returns-in_err-put-in-Text
-returns-in_err-put-in-Text g c =
-    rw c.in-Text.is
-    (failed-at _ _ _ _ c.from_residual.ensures.0 (FailsWithin-snoc [] _ [] _ _ _ (PutsAll-nil _) (rw c.as_slice.ensures.value at c.in_err-put-in-Text.ensures.answer)))
-
-pub returns-in-Debug : goal.returns-in-Debug
-returns-in-Debug g c =
-    let ready = rw c.in-Debug.is at c.requires in
-    rw c.in-Debug.is (debug-performs _ _ _ _ _ _ ready.0 _ _ c.run_commands.ensures.answer c.debugged.ensures)
-
-pub debug_program-requires : goal.debug_program-requires
-debug_program-requires g c =
-    let ready = rw c.in-DebugProgram.is at c.requires in
-    record { begins = ready.0; limit = ready.1 }
-
-pub returns-in-DebugProgram : goal.returns-in-DebugProgram
-returns-in-DebugProgram g c = rw c.in-DebugProgram.is c.debug_program.ensures
 
 pub returns-in-Link : goal.returns-in-Link
 returns-in-Link g c = rw c.in-Link.is c.run_link.ensures
@@ -31,21 +9,62 @@ run_link-requires-clause-joined g c = let ready = rw c.in-Link.is at c.requires 
 pub run_link-requires-clause-moves : goal.run_link-requires-clause-moves
 run_link-requires-clause-moves g c = let ready = rw c.in-Link.is at c.requires in ready.1
 
+pub trace-requires : goal.trace-requires
+trace-requires g c = rw c.in-Trace.is at c.requires
+
 pub returns-in-Trace : goal.returns-in-Trace
-returns-in-Trace g c = rw (c.in-Trace.is, c.ran.ensures) (show-performs _ _ _ _ _ _ c.show_trace.ensures)
+returns-in-Trace g c = rw c.in-Trace.is c.trace.ensures
+
+pub play-requires : goal.play-requires
+play-requires g c = rw c.in-Play.is at c.requires
 
 pub returns-in-Play : goal.returns-in-Play
-returns-in-Play g c = rw (c.in-Play.is, c.ran-in-Play.ensures) (show-performs _ _ _ _ _ _ c.show_pictures.ensures)
+returns-in-Play g c = rw c.in-Play.is c.play.ensures
+
+pub debug-requires : goal.debug-requires
+debug-requires g c = rw c.in-Debug.is at c.requires
+
+pub returns-in-Debug : goal.returns-in-Debug
+returns-in-Debug g c = rw c.in-Debug.is c.debug.ensures
+
+pub save-requires : goal.save-requires
+save-requires g c = rw c.in-Save.is at c.requires
 
 pub returns-in-Save : goal.returns-in-Save
-returns-in-Save g c = rw (c.in-Save.is, c.saved.ensures) (save-performs _ _ _ _ _ c.show_saved.ensures)
+returns-in-Save g c = rw c.in-Save.is c.save.ensures
+
+pub resume-requires : goal.resume-requires
+resume-requires g c = rw c.in-Resume.is at c.requires
+
+pub returns-in-Resume : goal.returns-in-Resume
+returns-in-Resume g c = rw c.in-Resume.is c.resume.ensures
+
+pub demo-requires : goal.demo-requires
+demo-requires g c = rw c.in-Demo.is at c.requires
 
 pub returns-in-Demo : goal.returns-in-Demo
-returns-in-Demo g c = rw (c.in-Demo.is, c.ran-in-Demo.ensures) (show-performs _ _ _ _ _ _ c.show_summary.ensures)
+returns-in-Demo g c = rw c.in-Demo.is c.demo.ensures
+
+pub trace_program-requires : goal.trace_program-requires
+trace_program-requires g c = rw c.in-TraceProgram.is at c.requires
 
 pub returns-in-TraceProgram : goal.returns-in-TraceProgram
-returns-in-TraceProgram g c = rw (c.in-TraceProgram.is, c.program_ran.ensures) (program-performs _ _ _ _ _ _ c.show_trace-in-TraceProgram.ensures)
+returns-in-TraceProgram g c = rw c.in-TraceProgram.is c.trace_program.ensures
+
+pub play_program-requires : goal.play_program-requires
+play_program-requires g c = rw c.in-PlayProgram.is at c.requires
 
 pub returns-in-PlayProgram : goal.returns-in-PlayProgram
-returns-in-PlayProgram g c =
-    rw (c.in-PlayProgram.is, c.program_ran-in-PlayProgram.ensures) (program-performs _ _ _ _ _ _ c.show_pictures-in-PlayProgram.ensures)
+returns-in-PlayProgram g c = rw c.in-PlayProgram.is c.play_program.ensures
+
+pub debug_program-requires : goal.debug_program-requires
+debug_program-requires g c = rw c.in-DebugProgram.is at c.requires
+
+pub returns-in-DebugProgram : goal.returns-in-DebugProgram
+returns-in-DebugProgram g c = rw c.in-DebugProgram.is c.debug_program.ensures
+
+pub put_text-requires : goal.put_text-requires
+put_text-requires g c = rw c.in-Text.is at c.requires
+
+pub returns-in-Text : goal.returns-in-Text
+returns-in-Text g c = rw c.in-Text.is c.put_text.ensures

@@ -10,10 +10,10 @@ use Rattle.vip_relation.specs.State.{VipState, interpreter, events_waiting}
 use Rattle.vip_relation.specs.Parts.{Runs}
 use Rattle.vip_relation.specs.Waiting.{waits_by}
 use Rattle.vip_relation.specs.Kept.{state_of}
-use Rattle.vip_relation.specs.declared.vip.Waits.{Waits}
+use Rattle.vip_relation.specs.declared.run.Waits.{Waits}
 use Rattle.vip_relation.proofs.Passing.{ran, stops}
 use Rattle.vip_relation.proofs.Steps.{few-moves}
-use Rattle.vip_relation.proofs.vip.Vip.run.Goals as goal
+use Rattle.vip_relation.proofs.run.Run.run.Goals as goal
 
 by_places : (s : Seen) (made fetch halt : ℕ) (i : Interpreter) → fetch ≡ i.fetch → halt ≡ i.halt → ((k : ℕ) → 0 < k → k < made → Passes (fetch, halt) s (moved_by k s))
     → (k : ℕ) → 0 < k → k < made → Passes (stops i) s (moved_by k s)

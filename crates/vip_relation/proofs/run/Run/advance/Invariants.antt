@@ -1,6 +1,6 @@
 use Rattle.std.proofs.Common.{◌+◌, ◌-◌}
 use Rattle.vip_relation.proofs.Advances.{Reaches}
-use Rattle.vip_relation.proofs.vip.Vip.advance.Given as goal
+use Rattle.vip_relation.proofs.run.Run.advance.Given as goal
 
 -- the board came from the entry by moves alone, within the limit
 abbrev pub invariant-loop-met : goal.invariant-loop-met

@@ -14,11 +14,11 @@ use Rattle.vip_relation.specs.Points.{point_of}
 use Rattle.vip_relation.specs.Waiting.{waits_by}
 use Rattle.vip_relation.specs.Kept.{state_of, IsKept}
 use Rattle.vip_relation.specs.declared.point.Point.{Point}
-use Rattle.vip_relation.specs.declared.vip.Waits.{Waits}
-use Rattle.vip_relation.specs.declared.vip.Vip.TheInside.{Inside}
+use Rattle.vip_relation.specs.declared.run.Waits.{Waits}
+use Rattle.vip_relation.specs.declared.run.Run.TheInside.{Inside}
 use Rattle.vip_relation.proofs.Closing.{kept-step, steps-to, in-time}
 use Rattle.vip_relation.proofs.Steps.{few-moves}
-use Rattle.vip_relation.proofs.vip.Vip.step.Goals as goal
+use Rattle.vip_relation.proofs.run.Run.step.Goals as goal
 
 -- the machine behind a move of its board
 abbrev then : Inside → Seen → Point → Waits → Inside
@@ -27,7 +27,7 @@ then a s point waits = record a { board = s; moves = a.moves + 1; point = point;
 -- what is kept, and what is said of the move, by what was known before it and what the board did
 record Made (a : Inside) (now : VipState) (s : Seen) (point : Point) (waits : Waits) (name : Move) : Type 0 where
   kept : IsKept (then a s point waits)
-  steps : Steps now (record (state_of a) { moves = a.moves + 1; board = s }) name
+  steps : Steps now (state_of (then a s point waits)) name
 
 module _ (a : Inside) (now : VipState) (s : Seen) (limit : ℕ) (name : Move) (keeps : IsKept a) (view_is : state_of a ≡ now) where
   made : (point : Point) (waits : Waits) (before after : ℕ)
@@ -47,8 +47,8 @@ module _ (a : Inside) (now : VipState) (s : Seen) (limit : ℕ) (name : Move) (k
             kept-step a keeps met_all goes_on s point waits is.0 carries (omega (arith, ended, small)) is_point
             (is_waits ∙ ap (λ n. waits_by n after) is_before ∙ ap (λ n. waits_by a.board.pictures.count n) is_after);
         steps =
-            subst (λ old. Steps old (record (state_of a) { moves = a.moves + 1; board = s }) name) view_is
-            (steps-to a keeps met_all goes_on s name is.0 is.1);
+            subst (λ old. Steps old (state_of (then a s point waits)) name) view_is
+            (steps-to a keeps met_all goes_on s name is.0 is.1 carries (omega (arith, ended, small)));
       }
     where
       never : Done name ≡ End → ⊥

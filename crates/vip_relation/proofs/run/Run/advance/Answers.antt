@@ -1,0 +1,38 @@
+use Rattle.std.proofs.Common.{◌≡◌, ◌<◌, [], false, arith, sym, subst, refl}
+use Rattle.chip8_lang.specs.Events.{is_stop}
+use Rattle.vip_relation.specs.State.{VipState, interpreter, events_left, events_waiting}
+use Rattle.vip_relation.specs.Meets.{MeetsNext, HasStopped}
+use Rattle.vip_relation.specs.Kept.{state_of}
+use Rattle.vip_relation.specs.declared.run.Met.TheVariants.{End}
+use Rattle.vip_relation.proofs.Advances.{Reaches, reaches-run, meets-entry, ends-entry, ends-before, some-left, no-stop}
+use Rattle.vip_relation.proofs.run.Run.advance.Goals as goal
+
+pub returns-then-now-limit-clause-next : goal.returns-then-now-limit-clause-next
+returns-then-now-limit-clause-next c running =
+    let over : c.args.limit < c.self.inside.board.machine.cycle = omega (arith, c.if-now-limit.true, c.now.ensures) in
+    subst (λ v. (HasStopped v → ⊥) → MeetsNext c.args.limit v v (events_left v c.args.limit) End) c.self.view_is
+    (ends-before c.args.limit (state_of c.self.inside) c.self.invariant.follows over) running
+
+pub returns-in-Some-clause-next : goal.returns-in-Some-clause-next
+returns-in-Some-clause-next c running =
+    let r = c.loop-met.invariant in
+    meets-entry c.args.limit c.args.self.now c.loop-met.self c.meet.new.self r c.in-Some.met c.in-Some.ensures.first
+    (some-left c.args.limit c.loop-met.self c.meet.new.self c.in-Some.met c.in-Some.ensures.first r.follows r.within)
+
+pub run-requires-clause-runs : goal.run-requires-clause-runs
+run-requires-clause-runs c =
+    subst (λ (v : VipState). is_stop (interpreter v) v.board.machine ≡ false) (sym c.in_default.ensures.first.1)
+    (no-stop c.loop-met.self c.in_default.ensures.first.0 c.loop-met.invariant.goes_on)
+
+pub returns-then-not-run-clause-next : goal.returns-then-not-run-clause-next
+returns-then-not-run-clause-next c running =
+    let v = c.meet.new.self in
+    let r = subst (Reaches c.args.limit c.args.self.now) (sym c.in_default.ensures.first.1) c.loop-met.invariant in
+    subst (λ w. MeetsNext c.args.limit c.args.self.now w (events_left c.args.self.now c.args.limit) End) (sym (c.if-not-run.ensures.kept refl))
+    (ends-entry c.args.limit c.args.self.now v r (subst (λ v. events_waiting v ≡ []) (sym c.in_default.ensures.first.1) c.in_default.ensures.first.0)
+    (c.if-not-run.ensures.end refl))
+
+pub loop-met-preserved : goal.loop-met-preserved
+loop-met-preserved c =
+    let r = subst (Reaches c.args.limit c.args.self.now) (sym c.in_default.ensures.first.1) c.loop-met.invariant in
+    reaches-run c.args.limit c.args.self.now c.meet.new.self c.run.new.self r (c.if-not-run.ensures.moved refl) c.run.ensures.follows

@@ -1,0 +1,5 @@
+use Rattle.vip_verbs.proofs.WorkLemmas.{show-performs}
+use Rattle.vip_verbs.proofs.work.play.Goals as goal
+
+pub returns : goal.returns
+returns g c = rw c.ran.ensures (show-performs _ _ _ _ _ _ c.show_pictures.ensures)

@@ -1,0 +1,122 @@
+//! The work of each verb that runs a game, once it is ready, and of one that writes a text.
+
+ghost use Rattle.std.specs.Prelude.{◌≡◌};
+ghost use Rattle.vip_verbs.specs.Prepared.{IsReady, PerformAnswers, DebugEnds, output_of, run_ended, save_ended};
+ghost use Rattle.vip_verbs.specs.declared.prepared.Prepared.TheVariants as ready;
+
+use vip_commands::Commands;
+use vip_debug::{DebugEnd, run_commands};
+use vip_outside::{Failed, Sink};
+use vip_relation::{Run, Vip};
+use vip_report::Ended;
+use vip_show::{show_pictures, show_summary, show_trace};
+use vip_state::{Resumed, show_resumed, show_saved};
+use vip_text::RunEnd;
+
+/// How a run up to a limit ended.
+fn ran(limit: u64, end: Result<RunEnd, Failed>) -> Result<Ended, Failed>
+    ensures { result ≡ run_ended limit end }
+{
+    match end {
+        Ok(end) => Ok(Ended::Ran(limit, end)),
+        Err(failed) => Err(failed),
+    }
+}
+
+/// How a run up to a limit ended that was saved: None where it had no dispatch point.
+fn saved(limit: u64, end: Result<Option<RunEnd>, Failed>) -> Result<Ended, Failed>
+    ensures { result ≡ save_ended limit end }
+{
+    match end {
+        Ok(Some(end)) => Ok(Ended::Ran(limit, end)),
+        Ok(None) => Ok(Ended::NoDispatch),
+        Err(failed) => Err(failed),
+    }
+}
+
+/// How a run under the debugger ended.
+fn debugged(limit: u64, end: DebugEnd) -> Result<Ended, Failed>
+    ensures { DebugEnds limit end result }
+{
+    match end {
+        DebugEnd::Done => Ok(Ended::Ran(limit, RunEnd::AtLimit)),
+        DebugEnd::Stopped(stop) => Ok(Ended::Ran(limit, RunEnd::AtStop(stop))),
+        DebugEnd::WriteFault => Err(Failed),
+    }
+}
+
+/// Runs a game, and puts a line for each dispatch point, and at the end the screen where it is asked for.
+pub fn trace<O: Sink>(
+    mut vip: Run,
+    limit: u64,
+    with_time: bool,
+    with_screen: bool,
+    out: &mut O,
+) -> Result<Ended, Failed>
+    requires { IsReady (ready.Trace vip limit with_time with_screen) }
+    ensures { PerformAnswers (output_of (ready.Trace vip limit with_time with_screen)) (O.meaning out.old) (O.meaning out.new) result }
+{
+    ran(
+        limit,
+        show_trace(&mut vip, limit, with_time, with_screen, out),
+    )
+}
+
+/// Runs a game, and puts each finished picture.
+pub fn play<O: Sink>(mut vip: Run, limit: u64, out: &mut O) -> Result<Ended, Failed>
+    requires { IsReady (ready.Play vip limit) }
+    ensures { PerformAnswers (output_of (ready.Play vip limit)) (O.meaning out.old) (O.meaning out.new) result }
+{
+    ran(limit, show_pictures(&mut vip, limit, out))
+}
+
+/// Runs the debugger's commands on a game.
+pub fn debug<O: Sink>(
+    mut vip: Vip,
+    limit: u64,
+    commands: Commands,
+    out: &mut O,
+) -> Result<Ended, Failed>
+    requires { IsReady (ready.Debug vip limit commands) }
+    ensures { PerformAnswers (output_of (ready.Debug vip limit commands)) (O.meaning out.old) (O.meaning out.new) result }
+{
+    debugged(limit, run_commands(&mut vip, &commands, limit, out))
+}
+
+/// Runs a game, and puts the file of its state at the last dispatch point.
+pub fn save<O: Sink>(mut vip: Vip, limit: u64, out: &mut O) -> Result<Ended, Failed>
+    requires { IsReady (ready.Save vip limit) }
+    ensures { PerformAnswers (output_of (ready.Save vip limit)) (O.meaning out.old) (O.meaning out.new) result }
+{
+    saved(limit, show_saved(&mut vip, limit, out))
+}
+
+/// Goes on with a run, and puts a line for each dispatch point.
+pub fn resume<O: Sink>(
+    mut run: Resumed,
+    limit: u64,
+    with_time: bool,
+    out: &mut O,
+) -> Result<Ended, Failed>
+    requires { IsReady (ready.Resume run limit with_time) }
+    ensures { PerformAnswers (output_of (ready.Resume run limit with_time)) (O.meaning out.old) (O.meaning out.new) result }
+{
+    ran(limit, show_resumed(&mut run, limit, with_time, out))
+}
+
+/// Runs a demonstration game, and puts a line that sums its run up.
+pub fn demo<O: Sink>(mut vip: Run, limit: u64, number: u32, out: &mut O) -> Result<Ended, Failed>
+    requires { IsReady (ready.Demo vip limit number) }
+    ensures { PerformAnswers (output_of (ready.Demo vip limit number)) (O.meaning out.old) (O.meaning out.new) result }
+{
+    ran(limit, show_summary(&mut vip, limit, number, out))
+}
+
+/// Puts a text, as one piece.
+pub fn put_text<O: Sink>(text: Vec<u8>, out: &mut O) -> Result<Ended, Failed>
+    requires { IsReady (ready.Text text) }
+    ensures { PerformAnswers (output_of (ready.Text text)) (O.meaning out.old) (O.meaning out.new) result }
+{
+    out.put(text.as_slice())?;
+    Ok(Ended::Worked)
+}
