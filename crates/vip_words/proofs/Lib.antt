@@ -1,5 +1,6 @@
 mod Answered
 mod Arguments
+mod Asked
 mod Ends
 mod Flags
 mod Known

@@ -1,8 +1,8 @@
 //! The command that `clap` gets for a verb.
 
-ghost use Rattle.std.specs.Prelude.{◌≡◌, ◌≤◌, IfOk, false};
+ghost use Rattle.std.specs.Prelude.{◌≡◌, ◌≤◌, ◌∷◌, [], IfOk, false};
 ghost use Rattle.clap.specs.Words.{app_of, rule_of};
-ghost use Rattle.vip_words.specs.Command.{command_app, flag_rule, keys_rule, place_rule};
+ghost use Rattle.vip_words.specs.Command.{app_with, command_app, flag_rule, keys_rule, place_rule};
 
 use clap::{Arg, ArgAction, Command};
 use std::alloc::{AllocError, Global};
@@ -37,14 +37,21 @@ fn make_flag<'a>(alloc: Global, name: &'a str) -> Arg<'a>
     Arg::new(alloc, name).long(name).action(ArgAction::SetTrue)
 }
 
+// The command of a verb with the option `--keys` alone. It has no help and no version flag.
+fn make_bare<'a>(alloc: Global, verb: &'a str) -> Result<Command<'a>, AllocError>
+    ensures { IfOk result (λ command. app_of command ≡ app_with verb.entry.now (keys_rule ∷ [])) }
+{
+    Command::new(alloc, verb)
+        .disable_help_flag(true)
+        .disable_version_flag(true)
+        .arg(make_keys(alloc))
+}
+
 // The command of a verb with every option of the program and no positional word.
 fn make_options<'a>(alloc: Global, verb: &'a str) -> Result<Command<'a>, AllocError>
     ensures { IfOk result (λ command. app_of command ≡ command_app verb.entry.now 0) }
 {
-    let mut command = Command::new(alloc, verb)
-        .disable_help_flag(true)
-        .disable_version_flag(true)
-        .arg(make_keys(alloc))?;
+    let mut command = make_bare(alloc, verb)?;
     for flag in &FLAGS {
         command = command.arg(make_flag(alloc, flag))?;
     }
