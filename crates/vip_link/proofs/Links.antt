@@ -2,12 +2,10 @@
 use Rattle.std.proofs.Common.{◌≡◌, ℕ, ◌+◌, ◌*◌, ◌/◌, ◌%◌, ◌≤◌, refl, sym, ◌∙◌, ap, ap₂, subst, arith, Bool, true, false, cond, List, [], ◌∷◌, ◌++◌, length, take, drop, replicate}
 use Rattle.std.specs.Prelude.{Option, None, Vec, vec_capacity, ◌==◌}
 use Rattle.std.proofs.lemmas.List.{length-append, length-replicate, length-take-le, length_push, take_at, drop_at, drop-drop, take-replicate}
-use Rattle.machine.specs.Board.{Case, case_of, opcode_of, after_reset}
+use Rattle.machine.specs.Board.{Case, Machine, case_of, opcode_of, after_reset}
 use Rattle.machine.specs.Board.Case.{Dma, Interrupt, Idle, Instruction}
 use Rattle.std.proofs.Transfers.{starts_with_length}
-use Rattle.machine.specs.Keys.{Event, Keys, held_at}
-use Rattle.vip_cpu.specs.declared.cpu.Phase.TheVariants.{Boundary}
-use Rattle.vip_video.specs.Chip.{nothing_yet}
+use Rattle.machine.specs.Keys.{Keys, held_at}
 use Rattle.vip_memory.specs.Contents.{loaded}
 use Rattle.vip_board.specs.Seen.{Seen}
 use Rattle.vip_board.specs.Linked.{Joined, joined, linked_in, linked_move}
@@ -19,7 +17,7 @@ use Rattle.vip_link.specs.Pair.{Pair, no_keys, entered, left, stepped, scheduled
 use Rattle.vip_link.specs.Roms.{sender_rom, receiver_rom}
 use Rattle.vip_link.specs.Laws.{most_bytes, message_ram, start, after, Delivers}
 use Rattle.vip_link.specs.Links.{Linking, started}
-use Rattle.vip_link.specs.Kept.{Runs, Reached, IsKept, pair_of, linking_of}
+use Rattle.vip_link.specs.Kept.{Runs, AtStart, Reached, IsKept, pair_of, linking_of}
 use Rattle.vip_link.specs.declared.link.Link.TheInside.{Inside}
 use Rattle.vip_link.proofs.Law.{always_delivers}
 
@@ -267,16 +265,14 @@ module _ (l : Inside) (k : IsKept l) (b' : Seen) (to_a' to_b' : Option ℕ) (rec
 
 -- ---- the fields of a link at its start
 
-module _ (l : Inside) (a b : Seen) (short : length l.message.items ≤ most_bytes)
-    (is_a : l.a ≡ a) (is_b : l.b ≡ b) (runs_a : Runs sender_rom a) (runs_b : Runs receiver_rom b)
-    (ram : a.machine ≡ record after_reset { ram = message_ram l.message.items }) (reset : b.machine ≡ after_reset)
-    (to_b : l.to_b ≡ None) (to_a : l.to_a ≡ None) (received : l.received.items ≡ [])
+module _ (l : Inside) (a : AtStart sender_rom (start l.message.items).a l.a) (b : AtStart receiver_rom after_reset l.b)
+    (short : length l.message.items ≤ most_bytes) (to_b : l.to_b ≡ None) (to_a : l.to_a ≡ None) (received : l.received.items ≡ [])
     (sent : l.sent ≡ 0) (moves : l.moves ≡ 0) (room : most_bytes ≤ vec_capacity l.received) where
   is_start : pair_of l ≡ start l.message.items
   is_start =
       λ i. record {
-        a = (ap (λ (s : Seen). s.machine) is_a ∙ ram) i;
-        b = (ap (λ (s : Seen). s.machine) is_b ∙ reset) i;
+        a = a.machine_is i;
+        b = b.machine_is i;
         to_b = to_b i;
         to_a = to_a i;
         sent = ap (λ n. take n l.message.items) sent i;
@@ -289,8 +285,8 @@ module _ (l : Inside) (a b : Seen) (short : length l.message.items ≤ most_byte
   pub kept-at-start : IsKept l
   kept-at-start =
       record {
-        a = subst (Runs sender_rom) (sym is_a) runs_a;
-        b = subst (Runs receiver_rom) (sym is_b) runs_b;
+        a = a.runs;
+        b = b.runs;
         short = short;
         counted = omega (arith, sent);
         room = room;
@@ -298,31 +294,26 @@ module _ (l : Inside) (a b : Seen) (short : length l.message.items ≤ most_byte
         delivers = subst (Delivers l.message.items) (sym is_start) (always_delivers l.message.items [] short);
       }
 
--- a board after reset, with bytes loaded into its RAM
-abbrev pub reset_board : List ℕ → List Event → Seen
-reset_board rom script = record { machine = after_reset; phase = Boundary; pictures = nothing_yet; rom = rom; script = script }
-
+-- a board with bytes loaded into its RAM
 abbrev pub with_loaded : ℕ → List ℕ → Seen → Seen
 with_loaded address bytes s = record s { machine = record s.machine { ram = loaded s.machine.ram address bytes } }
 
-pub reset-runs : (rom rom' : List ℕ) (script : List Event) (s : Seen) → s ≡ reset_board rom' script → rom' ≡ rom → script ≡ [] → Runs rom s
-reset-runs rom rom' script s e r k =
-    record { rests = ap (λ (x : Seen). x.phase) e; rom_is = ap (λ (x : Seen). x.rom) e ∙ r; script = ap (λ (x : Seen). x.script) e ∙ k }
-
-module _ (rom rom' message : List ℕ) (script : List Event) (s u v : Seen) (e : s ≡ reset_board rom' script)
+module _ (rom message : List ℕ) (s u v : Seen) (reset : AtStart rom after_reset s)
     (f : u ≡ with_loaded 0x1fe (length_bytes message) s) (g : v ≡ with_loaded 0x200 message u) where
-  loaded_is : v ≡ with_loaded 0x200 message (with_loaded 0x1fe (length_bytes message) (reset_board rom' script))
-  loaded_is = g ∙ ap (with_loaded 0x200 message) (f ∙ ap (with_loaded 0x1fe (length_bytes message)) e)
+  loaded_is : v ≡ with_loaded 0x200 message (with_loaded 0x1fe (length_bytes message) s)
+  loaded_is = g ∙ ap (with_loaded 0x200 message) f
 
-  pub loaded-runs : rom' ≡ rom → script ≡ [] → Runs rom v
-  loaded-runs r k =
+  pub at-start-loaded : AtStart rom (start message).a v
+  at-start-loaded =
       record {
-        rests = ap (λ (x : Seen). x.phase) loaded_is;
-        rom_is = ap (λ (x : Seen). x.rom) loaded_is ∙ r;
-        script = ap (λ (x : Seen). x.script) loaded_is ∙ k;
+        runs =
+            record {
+              rests = ap (λ (x : Seen). x.phase) loaded_is ∙ reset.runs.rests;
+              rom_is = ap (λ (x : Seen). x.rom) loaded_is ∙ reset.runs.rom_is;
+              script = ap (λ (x : Seen). x.script) loaded_is ∙ reset.runs.script;
+            };
+        machine_is =
+            ap (λ (x : Seen). x.machine) loaded_is
+            ∙ ap (λ (m : Machine). record m { ram = loaded (loaded m.ram 0x1fe (length_bytes message)) 0x200 message }) reset.machine_is
+            ∙ ap (λ ram. record after_reset { ram = ram }) (loads-message message);
       }
-
-  pub loaded-ram : (items : List ℕ) → items ≡ message → v.machine ≡ record after_reset { ram = message_ram items }
-  loaded-ram items same =
-      ap (λ (x : Seen). x.machine) loaded_is
-      ∙ ap (λ ram. record after_reset { ram = ram }) (loads-message message ∙ ap message_ram (sym same))

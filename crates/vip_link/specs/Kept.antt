@@ -1,5 +1,6 @@
 -- What the fields of a link mean, and what holds of them.
 use Rattle.std.specs.Prelude.{◌≡◌, ℕ, ◌≤◌, List, [], length, take, vec_capacity}
+use Rattle.machine.specs.Board.{Machine}
 use Rattle.vip_link.specs.declared.side.Side.{Side}
 use Rattle.vip_link.specs.Pair.{Pair}
 use Rattle.vip_link.specs.Roms.{sender_rom, receiver_rom}
@@ -22,6 +23,11 @@ pub record Runs (rom : List ℕ) (s : Seen) : Type 0 where
   pub rests : s.phase ≡ Boundary
   pub rom_is : s.rom ≡ rom
   pub script : s.script ≡ []
+
+-- such a board whose machine is this one
+pub record AtStart (rom : List ℕ) (machine : Machine) (s : Seen) : Type 0 where
+  pub runs : Runs rom s
+  pub machine_is : s.machine ≡ machine
 
 -- the pair is where some schedule brings it, in as many moves
 pub record Reached (l : Linking) : Type 0 where

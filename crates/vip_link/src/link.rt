@@ -1,18 +1,20 @@
 //! The link.
 
-ghost use Rattle.std.specs.Prelude.{◌≡◌, ◌+◌, ◌<◌, ◌≤◌, ◌++◌, length, option_to_list, vec_capacity};
+ghost use Rattle.std.specs.Prelude.{◌≡◌, ◌+◌, ◌<◌, ◌≤◌, ◌++◌, [], length, option_to_list, vec_capacity, IfOk};
 ghost use Rattle.vip_link.specs.Pair.{stepped, scheduled, entered, left};
 ghost use Rattle.vip_link.specs.Roms.{sender_rom, receiver_rom};
-ghost use Rattle.vip_link.specs.Laws.{Delivers};
+ghost use Rattle.vip_link.specs.Laws.{most_bytes, start, Delivers};
 ghost use Rattle.vip_link.specs.Schedules.{schedule_by};
 ghost use Rattle.vip_board.specs.Moves.{name_of};
-ghost use Rattle.vip_link.specs.Links.{Starts, machine_of};
+ghost use Rattle.vip_link.specs.Links.{Starts, started, machine_of};
+ghost use Rattle.vip_link.specs.Kept.{AtStart};
+ghost use Rattle.machine.specs.Board.{after_reset};
 
 use crate::fault::LinkFault;
 use crate::image::{receiver_image, sender_image};
 use crate::schedule::{next_random, side_by};
 use crate::side::Side;
-use std::alloc::Global;
+use std::alloc::{AllocError, Global};
 use std::marker::Model;
 use vip_board::{Board, Move, Wire};
 use vip_keypad::Script;
@@ -52,6 +54,34 @@ fn store(received: &mut Vec<u8>, byte: Option<u8>)
     if let Some(byte) = byte {
         received.push(byte).unwrap();
     }
+}
+
+/// A board at reset with this ROM, and no key held down.
+fn at_reset(alloc: Global, rom: &[u8; 2048]) -> Result<Board, AllocError>
+    ensures { IfOk result (AtStart rom.now after_reset) }
+{
+    Board::reset(alloc, rom, &Script::empty(alloc))
+}
+
+/// A's board at reset, with the message in its RAM from 0200 on and the message's length at 01FE.
+fn board_a(alloc: Global, message: &[u8]) -> Result<Board, AllocError>
+    requires { length message.now ≤ most_bytes }
+    ensures { IfOk result (AtStart sender_rom (start message.now).a) }
+{
+    let mut a = at_reset(alloc, &sender_image())?;
+    let length = message.len();
+    a.load(LENGTH, &[(length / 256) as u8, (length % 256) as u8]);
+    a.load(MESSAGE, message);
+    Ok(a)
+}
+
+/// A copy of the message, and an empty vector with room for the longest.
+fn copies(alloc: Global, message: &[u8]) -> Result<(Vec<u8>, Vec<u8>), AllocError>
+    ensures { IfOk result (λ c. (c.0.items ≡ message.now) × (c.1.items ≡ []) × (most_bytes ≤ vec_capacity c.1)) }
+{
+    let copy = Vec::from_slice(alloc, message)?;
+    let received = Vec::with_capacity(alloc, MOST_BYTES)?;
+    Ok((copy, received))
 }
 
 /// Two boards that are joined by two wires, the message that A sends, and the bytes that B received.
@@ -94,15 +124,44 @@ impl Link {
         if message.len() > MOST_BYTES {
             return Err(LinkFault::MessageTooLarge(message.len()));
         }
-        let length = message.len();
-        let script = Script::empty(alloc);
-        let mut a = Board::reset(alloc, &sender_image(), &script)?;
-        a.load(LENGTH, &[(length / 256) as u8, (length % 256) as u8]);
-        a.load(MESSAGE, message);
-        let b = Board::reset(alloc, &receiver_image(), &script)?;
-        let message = Vec::from_slice(alloc, message)?;
-        let received = Vec::with_capacity(alloc, MOST_BYTES)?;
-        Ok(Link {
+        let a = board_a(alloc, message)?;
+        Ok(Link::with_b(alloc, a, message)?)
+    }
+
+    // `new` is split into small calls, as each place where memory may be lacking drops the boards and bytes that are alive there, and the cost
+    // of a function's proof grows faster than the number of those drops.
+
+    /// A's board joined to a new one of B.
+    fn with_b(alloc: Global, a: Board, message: &[u8]) -> Result<Link, AllocError>
+        requires a { AtStart sender_rom (start message.now).a a }
+        requires short { length message.now ≤ most_bytes }
+        ensures { IfOk result (λ l. l ≡ started message.now) }
+    {
+        let b = at_reset(alloc, &receiver_image())?;
+        Link::with_copies(alloc, a, b, message)
+    }
+
+    /// Both boards joined, with a copy of the message and room for the longest.
+    fn with_copies(alloc: Global, a: Board, b: Board, message: &[u8]) -> Result<Link, AllocError>
+        requires a { AtStart sender_rom (start message.now).a a }
+        requires b { AtStart receiver_rom after_reset b }
+        requires short { length message.now ≤ most_bytes }
+        ensures { IfOk result (λ l. l ≡ started message.now) }
+    {
+        let (message, received) = copies(alloc, message)?;
+        Ok(Link::joining(a, b, message, received))
+    }
+
+    /// Both boards with empty wires between them, before the first move.
+    fn joining(a: Board, b: Board, message: Vec<u8>, received: Vec<u8>) -> Link
+        requires a { AtStart sender_rom (start message.items).a a }
+        requires b { AtStart receiver_rom after_reset b }
+        requires short { length message.items ≤ most_bytes }
+        requires empty { received.items ≡ [] }
+        requires room { most_bytes ≤ vec_capacity received }
+        ensures { result ≡ started message.items }
+    {
+        Link {
             a,
             b,
             to_b: Wire::new(),
@@ -111,7 +170,7 @@ impl Link {
             received,
             sent: 0,
             moves: 0,
-        })
+        }
     }
 
     /// Makes one linked move of a side's board, and names it. It takes no memory.
