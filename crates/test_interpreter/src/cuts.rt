@@ -11,7 +11,7 @@ use chip8_lang::Edition;
 use std::alloc::{AllocError, Global};
 use vip_keypad::Script;
 use vip_outside::{Failed, MemSink};
-use vip_relation::{Run, Vip};
+use vip_relation::Run;
 use vip_show::show_trace;
 use vip_state::{Resumed, show_resumed, show_saved};
 use vip_text::RunEnd;
@@ -136,8 +136,8 @@ fn save(alloc: Global, cut: &Cut<'_>) -> Result<Written<Option<RunEnd>>, RunFaul
     requires { cut.now.first ≤ 120_000 }
 {
     let mut out = MemSink::new(alloc, ROOM)?;
-    let mut vip = Vip::of(start(alloc, cut)?);
-    let end = show_saved(&mut vip, cut.first, &mut out);
+    let mut run = start(alloc, cut)?;
+    let end = show_saved(&mut run, cut.first, &mut out);
     Ok(Written { out, end })
 }
 

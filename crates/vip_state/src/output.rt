@@ -11,26 +11,26 @@ ghost use Rattle.vip_state.specs.State.{interpreter};
 ghost use Rattle.vip_text.specs.Traces.{trace_line};
 
 use crate::resumed::{Resumed, Step};
-use crate::writing::write_state;
+use crate::writing::write_run;
 use chip8_lang::StateView;
 use vip_byte::{Buffer, MOST_CYCLE};
 use vip_outside::{Failed, Sink};
-use vip_relation::{Met, Vip};
+use vip_relation::{Met, Run};
 use vip_text::{RunEnd, trace_text};
 
 /// Runs a machine that begins up to its limit or its stop point. An empty buffer then has the file of the state at the last dispatch point, and is
 /// empty where there was none.
-fn keep_last(vip: &mut Vip, limit: u64, file: &mut Buffer) -> RunEnd
-    requires fresh { IsFresh vip.old }
+fn keep_last(run: &mut Run, limit: u64, file: &mut Buffer) -> RunEnd
+    requires fresh { IsFresh run.old }
     requires limit { limit ≤ MOST_CYCLE }
     requires empty { file.old.items ≡ [] }
-    ensures { Keeps vip.old limit vip.new file.new.items result }
+    ensures { Keeps run.old limit run.new file.new.items result }
 {
     loop {
-        match vip.advance(limit) {
+        match run.advance(limit) {
             Met::Dispatch => {
                 file.clear();
-                write_state(vip, file);
+                write_run(run, file);
             }
             Met::Picture => {}
             Met::Stopped(stop) => return RunEnd::AtStop(stop),
@@ -41,14 +41,14 @@ fn keep_last(vip: &mut Vip, limit: u64, file: &mut Buffer) -> RunEnd
 
 /// Runs a machine that begins, and puts the file of the state at its last dispatch point, as one piece. None comes exactly where there is no such
 /// point; nothing is put then. A put that fails ends it.
-pub fn show_saved<O: Sink>(vip: &mut Vip, limit: u64, out: &mut O) -> Result<Option<RunEnd>, Failed>
-    requires fresh { IsFresh vip.old }
+pub fn show_saved<O: Sink>(run: &mut Run, limit: u64, out: &mut O) -> Result<Option<RunEnd>, Failed>
+    requires fresh { IsFresh run.old }
     requires limit { limit ≤ MOST_CYCLE }
-    ensures { SavedAnswers vip.old limit (O.meaning out.old) (O.meaning out.new) result }
+    ensures { SavedAnswers run.old limit (O.meaning out.old) (O.meaning out.new) result }
 {
     let mut file = Buffer::new();
-    let end = keep_last(vip, limit, &mut file);
-    let Some(_) = vip.last() else {
+    let end = keep_last(run, limit, &mut file);
+    let Some(_) = run.last_pc() else {
         return Ok(None);
     };
     out.put(file.as_slice())?;

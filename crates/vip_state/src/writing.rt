@@ -14,7 +14,7 @@ use vip_board::Board;
 use vip_byte::{Buffer, put};
 use vip_cpu::Cpu;
 use vip_memory::Memory;
-use vip_relation::Vip;
+use vip_relation::{Run, Vip};
 
 /// Writes the file of the machine state at a dispatch point of a run into an empty buffer. The file is an accepted one of the run's edition, and
 /// shows the state of the board.
@@ -25,8 +25,27 @@ pub fn write_state(vip: &Vip, into: &mut Buffer)
     ensures accepted { IsAccepted vip.now.edition into.new.items }
     ensures shown { shown into.new.items ≡ vip.now.board.machine }
 {
-    let board = vip.board();
-    put_head(vip.edition(), board, into);
+    put_file(vip.edition(), vip.board(), into);
+}
+
+/// The same of a run that keeps nothing of its dispatch points.
+pub(crate) fn write_run(run: &Run, into: &mut Buffer)
+    requires dispatch { is_dispatch (interpreter run.now) run.now.board.machine ≡ true }
+    requires empty { into.old.items ≡ [] }
+    ensures bytes { into.new.items ≡ file_of run.now.edition run.now.board.machine }
+    ensures accepted { IsAccepted run.now.edition into.new.items }
+    ensures shown { shown into.new.items ≡ run.now.board.machine }
+{
+    put_file(run.edition(), run.board(), into);
+}
+
+/// Puts the file of a board of an edition into an empty buffer.
+fn put_file(edition: Edition, board: &Board, into: &mut Buffer)
+    requires ram { length board.now.machine.ram ≡ 0x1000 }
+    requires empty { into.old.items ≡ [] }
+    ensures { into.new.items ≡ file_of edition board.now.machine }
+{
+    put_head(edition, board, into);
     put_ram(board.memory(), into);
 }
 

@@ -140,7 +140,7 @@ fn open_save<'a>(
 {
     let vip = start(alloc, wish.edition, contents)?;
     Ok(Prepared::Save {
-        vip: Vip::of(vip),
+        vip,
         limit: wish.cycles,
     })
 }

@@ -36,7 +36,7 @@ pub enum Prepared {
     },
     /// A game's run up to a limit, of which the state at the last dispatch point is saved.
     Save {
-        vip: Vip,
+        vip: Run,
         limit: u64,
     },
     /// A run that goes on from a saved state up to a limit, a line for each dispatch point behind it.

@@ -84,7 +84,7 @@ pub fn debug<O: Sink>(
 }
 
 /// Runs a game, and puts the file of its state at the last dispatch point.
-pub fn save<O: Sink>(mut vip: Vip, limit: u64, out: &mut O) -> Result<Ended, Failed>
+pub fn save<O: Sink>(mut vip: Run, limit: u64, out: &mut O) -> Result<Ended, Failed>
     requires { IsReady (ready.Save vip limit) }
     ensures { PerformAnswers (output_of (ready.Save vip limit)) (O.meaning out.old) (O.meaning out.new) result }
 {

@@ -7,8 +7,8 @@ loop-file-init c = saving-first _ _ _ c.requires.fresh c.requires.empty
 
 -- ---- a dispatch point
 
-pub write_state-requires-clause-dispatch : goal.write_state-requires-clause-dispatch
-write_state-requires-clause-dispatch c =
+pub write_run-requires-clause-dispatch : goal.write_run-requires-clause-dispatch
+write_run-requires-clause-dispatch c =
     at-dispatch _ _ _ _ _ c.loop-file.invariant (at_dispatch _ _ _ _ (c.in-Dispatch.ensures.next c.loop-file.invariant.runs))
 
 pub loop-file-smaller-in-Dispatch : goal.loop-file-smaller-in-Dispatch
@@ -17,7 +17,7 @@ loop-file-smaller-in-Dispatch c = fewer-dispatch _ _ _ (at_dispatch _ _ _ _ (c.i
 pub loop-file-preserved-in-Dispatch : goal.loop-file-preserved-in-Dispatch
 loop-file-preserved-in-Dispatch c =
     saving-dispatch _ _ _ _ _ c.loop-file.invariant (at_dispatch _ _ _ _ (c.in-Dispatch.ensures.next c.loop-file.invariant.runs)) _
-    c.write_state.ensures.bytes
+    c.write_run.ensures.bytes
 
 -- ---- a picture
 

@@ -16,4 +16,4 @@ returns-in_err-vip c =
 pub returns : goal.returns
 returns c =
     let run = save_run c.args.contents.now.game.now (script_list c.args.contents.now.script) (asked_run c.args.wish.now) in
-    rw c.of.ensures ((started-of _ _ _ _ c.in_ok-vip.ensures, c.requires.limit), run-comes _ run _ c.in_ok-vip.ensures)
+    ((started-of _ _ _ _ c.in_ok-vip.ensures, c.requires.limit), run-comes _ run _ c.in_ok-vip.ensures)
