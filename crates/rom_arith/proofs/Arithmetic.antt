@@ -15,7 +15,7 @@ use Rattle.chip8_lang.specs.State.{variable, instr_at}
 use Rattle.chip8_lang.specs.Step.{set, set_with_flag, stop_of, done_by}
 use Rattle.chip8_lang.specs.Step.KeyInput.{Nothing}
 use Rattle.chip8_image.specs.Labels.{at_arith, at_slot0, at_flag, at_unknown82, at_halt}
-use Rattle.rom_moves.proofs.Moves.{AllGood, quicks, reaches_in, reaches_from}
+use Rattle.rom_law.proofs.Moves.{AllGood, quicks, reaches_in, reaches_from}
 use Rattle.rom_law.specs.Program.{code}
 use Rattle.rom_law.specs.Holding.{places, Holding}
 use Rattle.rom_law.specs.Rows.{Since, Grows, Ends, now}

@@ -11,7 +11,7 @@ use Rattle.chip8_lang.specs.declared.view.Edition.{Edition}
 use Rattle.chip8_lang.specs.State.{Lang, variable, instr_at}
 use Rattle.chip8_lang.specs.Step.{stop_of, stop_of_instr}
 use Rattle.chip8_image.specs.Labels.{at_fetch}
-use Rattle.rom_moves.proofs.Moves.{AllGood, quicks}
+use Rattle.rom_law.proofs.Moves.{AllGood, quicks}
 use Rattle.rom_law.specs.Program.{code}
 use Rattle.rom_law.specs.Holding.{places, Holding}
 use Rattle.rom_law.specs.Rows.{Since, now}

@@ -12,7 +12,7 @@ use Rattle.chip8_lang.specs.State.{variable, instr_at}
 use Rattle.chip8_lang.specs.Step.{skip_if, stop_of, step}
 use Rattle.chip8_lang.specs.Step.KeyInput.{Nothing}
 use Rattle.chip8_image.specs.Labels.{at_skip_eq, at_skip_ne, at_skip_same, at_skip_same_test, at_skip_differ, at_differ_test, at_skip, at_unknown81, at_halt}
-use Rattle.rom_moves.proofs.Moves.{AllGood, quicks}
+use Rattle.rom_law.proofs.Moves.{AllGood, quicks}
 use Rattle.rom_law.specs.Program.{code}
 use Rattle.rom_law.specs.Rows.{Since, now}
 use Rattle.rom_law.proofs.Places.{pc_is, pc_set}

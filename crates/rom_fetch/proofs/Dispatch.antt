@@ -10,8 +10,8 @@ use Rattle.machine.specs.Ranges.{FitsMachine}
 use Rattle.chip8_lang.specs.declared.view.Edition.{Edition}
 use Rattle.chip8_lang.specs.State.{is_fetchable}
 use Rattle.chip8_image.specs.Labels.{at_inside, at_table, at_halt, at_system, at_jump, at_call, at_skip_eq, at_skip_ne, at_skip_same, at_load, at_add, at_arith, at_skip_differ, at_index, at_jump_plus, at_random, at_draw, at_key_skip, at_misc}
-use Rattle.rom_moves.specs.Code.{is_event}
-use Rattle.rom_moves.proofs.Moves.{quicks, Reaches, reaches_in, reaches_from, rom_at, read_rom}
+use Rattle.rom_law.specs.Code.{is_event}
+use Rattle.rom_law.proofs.Moves.{quicks, Reaches, reaches_in, reaches_from, rom_at, read_rom}
 use Rattle.rom_law.specs.Program.{code}
 use Rattle.rom_law.specs.Rows.{Since, Grows, Ends, now}
 use Rattle.rom_law.proofs.Places.{pc_is, pc_set, memory_get, memory_fits}

@@ -8,7 +8,7 @@ use Rattle.machine.specs.Ranges.{FitsMachine}
 use Rattle.chip8_lang.specs.declared.view.Edition.{Edition}
 use Rattle.chip8_lang.specs.Editions.{memory_end}
 use Rattle.chip8_image.specs.Labels.{at_outside, at_fetch, at_upper, at_inside}
-use Rattle.rom_moves.proofs.Moves.{quicks, Reaches, reaches_in, reaches_from}
+use Rattle.rom_law.proofs.Moves.{quicks, Reaches, reaches_in, reaches_from}
 use Rattle.rom_law.specs.Program.{code}
 use Rattle.rom_law.specs.Rows.{Since, now}
 use Rattle.rom_law.proofs.Places.{pc_is}

@@ -9,7 +9,7 @@ use Rattle.chip8_lang.specs.declared.view.Edition.{Edition}
 use Rattle.chip8_lang.specs.declared.view.Stop.TheVariants.{Unknown as UnknownOpcode}
 use Rattle.chip8_lang.specs.Step.{stop_of}
 use Rattle.chip8_image.specs.Labels.{at_misc_0A, at_misc_15, at_misc_18, at_misc_1E, at_misc_29, at_misc_33, at_misc_55, at_misc_65, at_unknown83, at_get_delay, at_wait_key, at_set_delay, at_set_sound, at_add_index, at_digit, at_decimal, at_store, at_restore}
-use Rattle.rom_moves.proofs.Moves.{quicks, Reaches, reaches_in, reaches_from}
+use Rattle.rom_law.proofs.Moves.{quicks, Reaches, reaches_in, reaches_from}
 use Rattle.rom_law.specs.Program.{code}
 use Rattle.rom_law.specs.Rows.{Since, Grows, Ends, now}
 use Rattle.rom_law.proofs.Kept.{Comes}

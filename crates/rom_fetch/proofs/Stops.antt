@@ -10,7 +10,7 @@ use Rattle.chip8_lang.specs.Editions.{stop_cell}
 use Rattle.chip8_lang.specs.State.{Lang, is_fetchable}
 use Rattle.chip8_lang.specs.Step.{next, stop_of}
 use Rattle.chip8_image.specs.Labels.{at_outside, at_stop, at_stopped, at_leave81}
-use Rattle.rom_moves.proofs.Moves.{quicks, Reaches, reaches_in, reaches_from}
+use Rattle.rom_law.proofs.Moves.{quicks, Reaches, reaches_in, reaches_from}
 use Rattle.rom_law.specs.Program.{code}
 use Rattle.rom_law.specs.Holding.{places, Holding}
 use Rattle.rom_law.specs.Rows.{Since, now}

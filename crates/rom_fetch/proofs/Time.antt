@@ -8,8 +8,8 @@ use Rattle.chip8_lang.specs.declared.view.Edition.{Edition}
 use Rattle.chip8_lang.specs.State.{is_fetchable}
 use Rattle.chip8_image.specs.declared.TheConstants.{DISPATCH}
 use Rattle.chip8_image.specs.Labels.{at_fetch, at_upper, at_inside, at_stop, at_stopped, at_unknown83, at_leave81}
-use Rattle.rom_moves.specs.Code.{Code, Input, moved}
-use Rattle.rom_moves.proofs.Moves.{quicks}
+use Rattle.rom_law.specs.Code.{Code, Input, moved}
+use Rattle.rom_law.proofs.Moves.{quicks}
 use Rattle.rom_law.specs.Program.{code}
 use Rattle.rom_law.specs.Rows.{Since, InBlock, now, after_main}
 use Rattle.rom_law.proofs.Kept.{Comes, block_p, moved_p}

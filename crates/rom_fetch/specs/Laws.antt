@@ -8,7 +8,7 @@ use Rattle.chip8_lang.specs.State.{first, memory_size, is_fetchable}
 use Rattle.chip8_lang.specs.Events.{is_dispatch, is_stop}
 use Rattle.chip8_image.specs.declared.TheConstants.{DISPATCH}
 use Rattle.chip8_image.specs.declared.parts.Part.TheVariants.{Fetch}
-use Rattle.rom_moves.specs.Code.{Input, moved}
+use Rattle.rom_law.specs.Code.{Input, moved}
 use Rattle.rom_law.specs.Program.{code, Dispatches}
 use Rattle.rom_law.specs.Rows.{Since, InBlock, after_main}
 use Rattle.rom_rows.specs.Rom.{interpreter_of, program_of}

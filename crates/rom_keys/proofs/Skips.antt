@@ -15,7 +15,7 @@ use Rattle.chip8_lang.specs.Step.{stop_of}
 use Rattle.chip8_lang.specs.Step.KeyInput.{Held}
 use Rattle.chip8_lang.specs.Between.{SomeTime}
 use Rattle.chip8_image.specs.Labels.{at_key_skip, at_key_skip_up, at_skip_up, at_skip_down, at_unknown82, at_key_yes}
-use Rattle.rom_moves.specs.Code.{Input}
+use Rattle.rom_law.specs.Code.{Input}
 use Rattle.rom_law.specs.Rows.{Since, Grows, now}
 use Rattle.rom_law.proofs.Places.{v_get, pc_is, pc_set}
 use Rattle.rom_law.proofs.Steps.{now_same}

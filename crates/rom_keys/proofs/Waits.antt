@@ -16,7 +16,7 @@ use Rattle.chip8_lang.specs.Step.{next, stop_of}
 use Rattle.chip8_lang.specs.Step.KeyInput.{Chosen}
 use Rattle.chip8_lang.specs.Between.{IsAt}
 use Rattle.chip8_image.specs.Labels.{at_fetch, at_wait_key, at_key_next, at_key_test, at_key_count, at_key_held, at_key_freed}
-use Rattle.rom_moves.specs.Code.{Input}
+use Rattle.rom_law.specs.Code.{Input}
 use Rattle.rom_law.specs.Holding.{Places, places, Holding}
 use Rattle.rom_law.specs.Rows.{Since, Grows, now}
 use Rattle.rom_law.proofs.Places.{v_set, work_set, work_get}

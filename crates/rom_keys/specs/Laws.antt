@@ -7,7 +7,7 @@ use Rattle.chip8_lang.specs.declared.view.Edition.{Edition}
 use Rattle.chip8_lang.specs.State.{Lang}
 use Rattle.chip8_lang.specs.Between.{IsAt, LetGo}
 use Rattle.chip8_image.specs.declared.parts.Part.TheVariants.{Keys as IsKeys}
-use Rattle.rom_moves.specs.Code.{Input}
+use Rattle.rom_law.specs.Code.{Input}
 use Rattle.rom_law.specs.Program.{Program}
 use Rattle.rom_law.specs.Rows.{Since, InBlock, dispatched, after_main, after_tick}
 use Rattle.rom_rows.specs.Rom.{program_of}

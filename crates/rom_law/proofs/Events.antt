@@ -4,7 +4,7 @@ use Rattle.std.specs.Prelude.{◌==◌}
 use Rattle.machine.specs.Board.{Machine, case_of}
 use Rattle.machine.specs.Board.Case.{Instruction}
 use Rattle.chip8_lang.specs.Events.{is_instruction, is_at, is_dispatch, is_stop}
-use Rattle.rom_moves.specs.Code.{is_by, is_event}
+use Rattle.rom_law.specs.Code.{is_by, is_event}
 use Rattle.rom_law.specs.Program.{Program, code}
 
 and_true : (t u v : Bool) → t ≡ true → (t && u && v) ≡ (u && v)

@@ -11,13 +11,13 @@ use Rattle.machine.specs.Ranges.{FitsMachine, FitsRom}
 use Rattle.chip8_lang.specs.State.{Lang}
 use Rattle.chip8_lang.specs.Ticks.{ticks}
 use Rattle.chip8_lang.specs.Between.{Between}
-use Rattle.rom_moves.specs.Code.{Code, Input, moved, run, is_event}
-use Rattle.rom_moves.specs.Later.{After}
-use Rattle.rom_moves.proofs.Moves.{AllGood, Below, Calm, Fine, opcode_in, rom_inputs, quicks, Reaches, reaches_good, reaches_run, reaches_quicks, quicks_are, quicks_idle, quicks_clear, quicks_full, quicks_on, quicks_enabled, quicks_entry, quicks_above, after_quick, after_counter, after_cycles}
+use Rattle.rom_law.specs.Code.{Code, Input, moved, run, is_event}
+use Rattle.rom_law.specs.Later.{After}
+use Rattle.rom_law.proofs.Moves.{AllGood, Below, Calm, Fine, opcode_in, rom_inputs, quicks, Reaches, reaches_good, reaches_run, reaches_quicks, quicks_are, quicks_idle, quicks_clear, quicks_full, quicks_on, quicks_enabled, quicks_entry, quicks_above, after_quick, after_counter, after_cycles}
 use Rattle.machine.proofs.Fits.{main-fits}
-use Rattle.rom_moves.proofs.Ranges.{tick_fits}
-use Rattle.rom_moves.proofs.Ticks.{after_none}
-use Rattle.rom_moves.proofs.Ticks.{after_tick as later_tick}
+use Rattle.rom_law.proofs.Ranges.{tick_fits}
+use Rattle.rom_law.proofs.Ticks.{after_none}
+use Rattle.rom_law.proofs.Ticks.{after_tick as later_tick}
 use Rattle.rom_law.specs.Program.{Program, code, Dispatches, Halts}
 use Rattle.rom_law.specs.Rows.{Since, Grows, Ready, Pieces, InBlock, Row, Starts, Ends, Outcome, dispatched, after_main, after_tick, after_ticks}
 use Rattle.rom_law.specs.Rows.Ends.{Continues, Steps, Fails}

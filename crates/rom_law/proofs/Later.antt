@@ -9,7 +9,7 @@ use Rattle.chip8_lang.specs.Editions.{memory_start, memory_end, stack_top, varia
 use Rattle.chip8_lang.specs.State.{Lang}
 use Rattle.chip8_lang.specs.Ticks.{tick, ticks}
 use Rattle.chip8_lang.specs.Places.{pixels, addresses, most_addresses}
-use Rattle.rom_moves.specs.Later.{After, falls, ups, tones}
+use Rattle.rom_law.specs.Later.{After, falls, ups, tones}
 use Rattle.rom_law.specs.Program.{Program, code, Keeps, Dispatches, Halts}
 use Rattle.rom_law.proofs.Places.{Places, places, depth, lies_in, Holding, holding, keeping, range_same, addresses_same, stack_below, variables_below, memory_above, stack_room, most}
 

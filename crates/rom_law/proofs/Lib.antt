@@ -1,3 +1,8 @@
+pub mod Registers
+pub mod Passing
+pub mod Moves
+pub mod Ticks
+pub mod Ranges
 pub mod Language
 pub mod Places
 pub mod Later

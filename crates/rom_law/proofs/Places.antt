@@ -10,7 +10,7 @@ use Rattle.chip8_lang.specs.declared.view.Edition.TheVariants.{Usual, Tall}
 use Rattle.chip8_lang.specs.Editions.{memory_start, memory_end, stack_top, variables, screen_start, rows_of, random_cell}
 use Rattle.chip8_lang.specs.State.{Lang, memory_byte}
 use Rattle.chip8_lang.specs.Places.{state_of, pixels, addresses, most_addresses}
-use Rattle.rom_moves.proofs.Moves.{read_ram, written_is}
+use Rattle.rom_law.proofs.Moves.{read_ram, written_is}
 use Rattle.rom_law.specs.Program.{Program, Keeps}
 pub use Rattle.rom_law.specs.Holding.{Places, places, depth, lies_in, Holding}
 

@@ -7,10 +7,10 @@ use Rattle.machine.specs.Bank.{Word, value, up, down, Bank, get, put}
 use Rattle.machine.specs.Opcodes.{kind_of, opcode_number}
 use Rattle.machine.specs.Instruction.{Regs, Inputs, effect, stepped}
 use Rattle.machine.specs.Board.{Machine}
-use Rattle.rom_moves.specs.Code.{Code}
-use Rattle.rom_moves.proofs.Registers.{is_plain, put-r2}
-use Rattle.rom_moves.proofs.Passing.{Passes, first_of, second_of, true_from}
-use Rattle.rom_moves.proofs.Moves.{AllGood, Fine, Passable, opcode_in, quick, quicks, rom_inputs}
+use Rattle.rom_law.specs.Code.{Code}
+use Rattle.rom_law.proofs.Registers.{is_plain, put-r2}
+use Rattle.rom_law.proofs.Passing.{Passes, first_of, second_of, true_from}
+use Rattle.rom_law.proofs.Moves.{AllGood, Fine, Passable, opcode_in, quick, quicks, rom_inputs}
 use Rattle.rom_law.proofs.Kept.{at_move}
 
 -- n apart at most

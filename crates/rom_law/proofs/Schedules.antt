@@ -11,12 +11,12 @@ use Rattle.chip8_lang.specs.Editions.{memory_end}
 use Rattle.chip8_lang.specs.State.{Lang}
 use Rattle.chip8_lang.specs.Ticks.{ticks}
 use Rattle.chip8_lang.specs.Between.{Between}
-use Rattle.rom_moves.specs.Code.{Input, moved, is_by, is_event}
-use Rattle.rom_moves.specs.Later.{After}
+use Rattle.rom_law.specs.Code.{Input, moved, is_by, is_event}
+use Rattle.rom_law.specs.Later.{After}
 use Rattle.machine.proofs.Fits.{main-fits}
-use Rattle.rom_moves.proofs.Ranges.{tick_fits}
-use Rattle.rom_moves.proofs.Ticks.{after_none}
-use Rattle.rom_moves.proofs.Ticks.{after_tick as later_tick}
+use Rattle.rom_law.proofs.Ranges.{tick_fits}
+use Rattle.rom_law.proofs.Ticks.{after_none}
+use Rattle.rom_law.proofs.Ticks.{after_tick as later_tick}
 use Rattle.rom_law.specs.Program.{Program, code, Dispatches, Halts}
 use Rattle.rom_law.specs.Rows.{Since, Pieces, Row, Outcome, now, dispatched, after_main, after_tick}
 use Rattle.rom_law.specs.Rows.Outcome.{Still, Dispatched as Arrived, Halted}

@@ -8,7 +8,7 @@ use Rattle.chip8_lang.specs.declared.view.Edition.{Edition}
 use Rattle.chip8_lang.specs.Editions.{memory_start, memory_end, stack_top, variables, screen_start, rows_of, random_cell}
 use Rattle.chip8_lang.specs.State.{Lang}
 use Rattle.chip8_lang.specs.Places.{pixels, addresses, most_addresses}
-use Rattle.rom_moves.proofs.Moves.{written_is}
+use Rattle.rom_law.proofs.Moves.{written_is}
 use Rattle.rom_law.specs.Program.{Program}
 use Rattle.rom_law.proofs.Places.{changed, Places, Holding, depth, lies_in, range_past, addresses_same, addresses_length, stack_below, variables_below, screen_below, memory_above, stack_room, stack_length, stack_most, read_is}
 

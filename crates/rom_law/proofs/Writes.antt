@@ -8,11 +8,11 @@ use Rattle.machine.specs.Instruction.{Regs, Inputs, at, stepped, effect, execute
 use Rattle.machine.specs.Opcodes.{kind_of, opcode_number, cycles_of}
 use Rattle.machine.specs.declared.Kind.{Kind}
 use Rattle.machine.specs.declared.Kind.TheVariants.{Str, Inp, Stxd, Sav, Mark}
-use Rattle.rom_moves.specs.Code.{Code}
-use Rattle.rom_moves.specs.Later.{After, later_bank, later_regs, tones}
-use Rattle.rom_moves.proofs.Moves.{Below, Fine, Passable, in_rom, is_straight, opcode_in, opcode_is, rom_at, rom_inputs, after_counter}
-use Rattle.rom_moves.proofs.Passing.{Passes, first_of, second_of, true_from}
-use Rattle.rom_moves.proofs.Registers.{is_kept, is_plain, kept_of_plain, get-later, put-later, put-r8}
+use Rattle.rom_law.specs.Code.{Code}
+use Rattle.rom_law.specs.Later.{After, later_bank, later_regs, tones}
+use Rattle.rom_law.proofs.Moves.{Below, Fine, Passable, in_rom, is_straight, opcode_in, opcode_is, rom_at, rom_inputs, after_counter}
+use Rattle.rom_law.proofs.Passing.{Passes, first_of, second_of, true_from}
+use Rattle.rom_law.proofs.Registers.{is_kept, is_plain, kept_of_plain, get-later, put-later, put-r8}
 
 -- ---- by the kind
 

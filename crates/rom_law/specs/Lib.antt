@@ -1,3 +1,5 @@
+pub mod Code
+pub mod Later
 pub mod Program
 pub mod Holding
 pub mod Rows

@@ -10,7 +10,7 @@ use Rattle.chip8_lang.specs.Step.{stop_number, stop_of}
 use Rattle.chip8_lang.specs.Between.{ticks_between}
 use Rattle.chip8_lang.specs.Bounds.{bound_of}
 use Rattle.chip8_lang.specs.Places.{Interpreter, Lies}
-use Rattle.rom_moves.specs.Code.{Code}
+use Rattle.rom_law.specs.Code.{Code}
 
 -- An interpreter of an edition; whether its boot turns the display on, and what it leaves in R1 and RB.1; which stop fits a state, since
 -- an interpreter may know a part of the language alone; the cycle bound of a state; and the timer ticks between two cycles.

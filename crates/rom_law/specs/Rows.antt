@@ -7,8 +7,8 @@ use Rattle.chip8_lang.specs.declared.view.Stop.{Stop}
 use Rattle.chip8_lang.specs.State.{Lang}
 use Rattle.chip8_lang.specs.Ticks.{ticks}
 use Rattle.chip8_lang.specs.Between.{Between}
-use Rattle.rom_moves.specs.Code.{Input, run, is_event}
-use Rattle.rom_moves.specs.Later.{After}
+use Rattle.rom_law.specs.Code.{Input, run, is_event}
+use Rattle.rom_law.specs.Later.{After}
 use Rattle.rom_law.specs.Program.{Program, code, Dispatches, Halts}
 
 -- What came since the last dispatch: the cycle of that dispatch, the language state there, the ticks since, the main cycles since, and

@@ -9,7 +9,7 @@ use Rattle.chip8_lang.specs.Editions.{memory_end}
 use Rattle.chip8_lang.specs.State.{Lang}
 use Rattle.chip8_lang.specs.Ticks.{ticks}
 use Rattle.chip8_lang.specs.Between.{Between}
-use Rattle.rom_moves.specs.Code.{is_event}
+use Rattle.rom_law.specs.Code.{is_event}
 use Rattle.rom_law.specs.Program.{Program, code, Dispatches, Halts}
 
 -- so many ticks lead from b to c

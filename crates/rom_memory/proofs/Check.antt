@@ -11,8 +11,8 @@ use Rattle.chip8_lang.specs.declared.view.Edition.TheVariants.{Usual, Tall}
 use Rattle.chip8_lang.specs.Editions.{memory_start, memory_end, stack_top, variables, sprite_work}
 use Rattle.chip8_lang.specs.State.{Lang, is_in_memory, is_in_font}
 use Rattle.chip8_image.specs.Labels.{at_halt, at_check, at_check_game, at_check_font, at_check_low, at_in_game, at_in_font, at_nowhere}
-use Rattle.rom_moves.specs.Code.{is_event}
-use Rattle.rom_moves.proofs.Moves.{quicks, Reaches, reaches_in}
+use Rattle.rom_law.specs.Code.{is_event}
+use Rattle.rom_law.proofs.Moves.{quicks, Reaches, reaches_in}
 use Rattle.rom_law.specs.Program.{Program, code}
 use Rattle.rom_law.specs.Rows.{Since, Grows, Ends, now}
 use Rattle.rom_law.proofs.Places.{i_is, read_is, work_set, work_is}

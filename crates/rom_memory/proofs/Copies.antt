@@ -13,7 +13,7 @@ use Rattle.chip8_lang.specs.Editions.{memory_start, memory_end}
 use Rattle.chip8_lang.specs.State.{instr_at, is_in_memory, is_in_font, is_fetchable}
 use Rattle.chip8_lang.specs.Step.{next, stop_of, stored, bytes_from, is_readable}
 use Rattle.chip8_image.specs.Labels.{at_fetch, at_store, at_store_byte, at_store_end, at_restore, at_restore_byte, at_restore_end}
-use Rattle.rom_moves.proofs.Moves.{quicks, reaches_in}
+use Rattle.rom_law.proofs.Moves.{quicks, reaches_in}
 use Rattle.rom_law.specs.Program.{code}
 use Rattle.rom_law.specs.Holding.{places, Holding}
 use Rattle.rom_law.specs.Rows.{Since, now}

@@ -13,7 +13,7 @@ use Rattle.chip8_lang.specs.Editions.{memory_start, memory_end}
 use Rattle.chip8_lang.specs.State.{Lang, instr_at, is_in_memory, is_fetchable}
 use Rattle.chip8_lang.specs.Step.{next, stop_of, stored, digits}
 use Rattle.chip8_image.specs.Labels.{at_fetch, at_decimal, at_hundreds, at_hundreds_end, at_tens, at_tens_end}
-use Rattle.rom_moves.proofs.Moves.{reaches_in}
+use Rattle.rom_law.proofs.Moves.{reaches_in}
 use Rattle.rom_law.specs.Program.{Program, code}
 use Rattle.rom_law.specs.Holding.{Places, places, Holding}
 use Rattle.rom_law.specs.Rows.{Since, now}

@@ -8,7 +8,7 @@ use Rattle.chip8_lang.specs.declared.view.Stop.{Stop}
 use Rattle.chip8_lang.specs.State.{Lang}
 use Rattle.chip8_lang.specs.Step.{stop_of, stop_number}
 use Rattle.chip8_image.specs.Labels.{at_fetch, at_leave83}
-use Rattle.rom_moves.proofs.Moves.{Reaches}
+use Rattle.rom_law.proofs.Moves.{Reaches}
 use Rattle.rom_law.specs.Program.{code}
 use Rattle.rom_law.specs.Rows.{Since, now}
 use Rattle.rom_law.proofs.Kept.{Comes}

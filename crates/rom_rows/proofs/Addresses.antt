@@ -7,8 +7,8 @@ use Rattle.machine.specs.Board.{Machine}
 use Rattle.machine.specs.Ranges.{FitsMachine, FitsRom}
 use Rattle.chip8_image.specs.declared.parts.Part.{Part}
 use Rattle.chip8_lang.specs.declared.view.Edition.{Edition}
-use Rattle.rom_moves.specs.Code.{Code}
-use Rattle.rom_moves.proofs.Moves.{quicks}
+use Rattle.rom_law.specs.Code.{Code}
+use Rattle.rom_law.proofs.Moves.{quicks}
 use Rattle.rom_law.specs.Program.{Program, code}
 use Rattle.rom_law.specs.Rows.{Since}
 use Rattle.rom_law.proofs.Kept.{Comes, block_at}

@@ -7,8 +7,8 @@ use Rattle.machine.specs.Ranges.{FitsMachine}
 use Rattle.machine.proofs.Flags.{reads_flags}
 use Rattle.chip8_lang.specs.declared.view.Edition.{Edition}
 use Rattle.chip8_lang.specs.State.{Lang}
-use Rattle.rom_moves.specs.Code.{Input, moved}
-use Rattle.rom_moves.proofs.Moves.{opcode_in, in_rom, quicks, quick_any, quick_by, quick_by_is, flags_in, opcode_is}
+use Rattle.rom_law.specs.Code.{Input, moved}
+use Rattle.rom_law.proofs.Moves.{opcode_in, in_rom, quicks, quick_any, quick_by, quick_by_is, flags_in, opcode_is}
 use Rattle.rom_law.specs.Holding.{places, Holding}
 use Rattle.rom_law.specs.Program.{code}
 use Rattle.rom_law.specs.Rows.{Since, Grows, Ends, after_main}

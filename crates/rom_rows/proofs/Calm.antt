@@ -1,7 +1,7 @@
 -- The pieces before the waits of 00E0 and DXYN: what holds of them holds of the table's.
 use Rattle.machine.specs.Board.{Machine}
-use Rattle.rom_moves.specs.Code.{moved}
-use Rattle.rom_moves.proofs.Moves.{reaches_any}
+use Rattle.rom_law.specs.Code.{moved}
+use Rattle.rom_law.proofs.Moves.{reaches_any}
 use Rattle.rom_law.specs.Program.{Program, code}
 use Rattle.rom_law.specs.Rows.{Since, InBlock, Row, Starts, Ends, after_main, after_tick}
 use Rattle.rom_law.specs.Rows.Ends.{Continues, Steps, Fails}

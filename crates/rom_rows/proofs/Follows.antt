@@ -1,7 +1,7 @@
 -- A block or a place follows at the end of a block.
 use Rattle.std.proofs.Common.{◌≡◌, ℕ, sym, subst, false}
 use Rattle.machine.specs.Board.{Machine}
-use Rattle.rom_moves.specs.Code.{is_event}
+use Rattle.rom_law.specs.Code.{is_event}
 use Rattle.rom_law.specs.Program.{Program, code}
 use Rattle.rom_law.specs.Rows.{Since, Grows, Ends, now}
 use Rattle.rom_law.specs.Rows.Ends.{Continues}

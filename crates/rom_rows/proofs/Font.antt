@@ -5,7 +5,7 @@ use Rattle.machine.specs.Memory.{read}
 use Rattle.chip8_lang.specs.declared.view.Edition.{Edition}
 use Rattle.chip8_lang.specs.Editions.{memory_start, memory_end, font_start, font_end}
 use Rattle.chip8_lang.specs.State.{Lang, font, readable_byte}
-use Rattle.rom_moves.proofs.Moves.{read_rom}
+use Rattle.rom_law.proofs.Moves.{read_rom}
 use Rattle.rom_law.specs.Holding.{Places, Holding}
 use Rattle.rom_law.proofs.Places.{range_get, memory_get}
 use Rattle.rom_rows.specs.Rom.{program_of}

@@ -11,7 +11,7 @@ use Rattle.chip8_lang.specs.Screen.{Pixels}
 use Rattle.chip8_lang.specs.State.{Lang, variable, is_fetchable}
 use Rattle.chip8_lang.specs.Step.{next}
 use Rattle.chip8_lang.specs.Ticks.{tick, ticks}
-use Rattle.rom_moves.specs.Later.{After, Steady}
+use Rattle.rom_law.specs.Later.{After, Steady}
 use Rattle.rom_law.specs.Program.{Program, code}
 use Rattle.rom_law.specs.Holding.{places, Holding}
 use Rattle.rom_law.proofs.Later.{holding_after}

@@ -5,7 +5,7 @@ use Rattle.machine.specs.Board.{Machine}
 use Rattle.machine.specs.Ranges.{FitsMachine, FitsRom}
 use Rattle.chip8_lang.specs.declared.view.Edition.{Edition}
 use Rattle.chip8_lang.specs.Ticks.{ticks}
-use Rattle.rom_moves.specs.Later.{After}
+use Rattle.rom_law.specs.Later.{After}
 use Rattle.chip8_image.specs.Labels.{at_draw_wait}
 use Rattle.rom_law.specs.Program.{code}
 use Rattle.rom_law.specs.Rows.{Since, now, after_ticks}

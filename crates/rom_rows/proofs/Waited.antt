@@ -3,7 +3,7 @@ use Rattle.std.proofs.Common.{ℕ, sym, subst, false, ◌≡◌, List}
 use Rattle.machine.specs.Board.{Machine}
 use Rattle.machine.specs.Ranges.{FitsRom}
 use Rattle.chip8_lang.specs.declared.view.Edition.{Edition}
-use Rattle.rom_moves.specs.Code.{is_event}
+use Rattle.rom_law.specs.Code.{is_event}
 use Rattle.rom_law.specs.Program.{Program, code}
 use Rattle.rom_law.specs.Rows.{Since, Grows, InBlock, Row, Starts, Ends, now}
 use Rattle.rom_law.specs.Rows.Ends.{Continues, Steps, Fails}

@@ -4,7 +4,7 @@ use Rattle.machine.specs.Board.{Machine}
 use Rattle.machine.specs.Ranges.{FitsMachine}
 use Rattle.chip8_lang.specs.declared.view.Edition.{Edition}
 use Rattle.machine.specs.Schedule.{Tick}
-use Rattle.rom_moves.specs.Code.{Input, moved}
+use Rattle.rom_law.specs.Code.{Input, moved}
 use Rattle.rom_law.specs.Program.{Program, code}
 use Rattle.rom_law.specs.Rows.{Since, Pieces, InBlock, Row, Outcome, now, after_main, after_tick}
 use Rattle.rom_rows.specs.Heads.{Within, page_of}

@@ -4,8 +4,8 @@ use Rattle.machine.specs.Board.{Machine}
 use Rattle.machine.specs.Ranges.{FitsMachine}
 use Rattle.machine.specs.Schedule.{Tick}
 use Rattle.chip8_lang.specs.declared.view.Edition.{Edition}
-use Rattle.rom_moves.specs.Code.{Input, moved}
-use Rattle.rom_moves.proofs.Ranges.{tick_fits}
+use Rattle.rom_law.specs.Code.{Input, moved}
+use Rattle.rom_law.proofs.Ranges.{tick_fits}
 use Rattle.rom_law.specs.Program.{code}
 use Rattle.rom_law.specs.Rows.{Since, Row, Outcome, now, after_main, after_tick}
 use Rattle.rom_law.specs.Rows.Row.{Inside, Alone}

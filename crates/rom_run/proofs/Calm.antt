@@ -12,9 +12,9 @@ use Rattle.chip8_lang.specs.Editions.{stack_top, screen_start, rows_of}
 use Rattle.chip8_lang.specs.Places.{state_of, pixels}
 use Rattle.chip8_lang.specs.State.{Lang}
 use Rattle.chip8_lang.specs.Ticks.{ticks}
-use Rattle.rom_moves.specs.Code.{Input, moved}
-use Rattle.rom_moves.proofs.Moves.{in_rom, opcode_in, opcode_is, quick_by, quick_by_is, flags_in}
-use Rattle.rom_moves.proofs.Ticks.{after_none}
+use Rattle.rom_law.specs.Code.{Input, moved}
+use Rattle.rom_law.proofs.Moves.{in_rom, opcode_in, opcode_is, quick_by, quick_by_is, flags_in}
+use Rattle.rom_law.proofs.Ticks.{after_none}
 use Rattle.rom_law.specs.Program.{code, Dispatches}
 use Rattle.rom_law.specs.Rows.{Since, InBlock, Row, Outcome, now, dispatched, after_main, after_tick}
 use Rattle.rom_law.specs.Rows.Row.{Inside, Alone}

@@ -14,7 +14,7 @@ use Rattle.chip8_lang.specs.declared.view.Edition.{Edition}
 use Rattle.chip8_lang.specs.declared.view.Stop.{Stop}
 use Rattle.chip8_lang.specs.Events.{is_dispatch}
 use Rattle.chip8_lang.specs.Step.{stop_of}
-use Rattle.rom_moves.specs.Code.{Input, moved}
+use Rattle.rom_law.specs.Code.{Input, moved}
 use Rattle.rom_law.specs.Program.{Program, code}
 use Rattle.rom_law.specs.Rows.{Since, Row, Outcome, now, after_main, after_tick}
 use Rattle.rom_law.specs.Rows.Row.{Inside, Alone}

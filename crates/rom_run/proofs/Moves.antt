@@ -21,11 +21,11 @@ use Rattle.chip8_lang.specs.Ticks.{ticks}
 use Rattle.chip8_lang.specs.Between.{Between, ticks_between, keys_between}
 use Rattle.chip8_lang.specs.Events.{is_instruction, is_at, is_dispatch, is_stop}
 use Rattle.chip8_lang.proofs.Ticks.{ticks_counted}
-use Rattle.rom_moves.specs.Code.{Input, moved, is_event}
-use Rattle.rom_moves.specs.Later.{After}
-use Rattle.rom_moves.proofs.Ranges.{tick_fits}
-use Rattle.rom_moves.proofs.Ticks.{after_none}
-use Rattle.rom_moves.proofs.Ticks.{after_tick as one_tick}
+use Rattle.rom_law.specs.Code.{Input, moved, is_event}
+use Rattle.rom_law.specs.Later.{After}
+use Rattle.rom_law.proofs.Ranges.{tick_fits}
+use Rattle.rom_law.proofs.Ticks.{after_none}
+use Rattle.rom_law.proofs.Ticks.{after_tick as one_tick}
 use Rattle.rom_law.specs.Program.{Program, Keeps, code, Dispatches, Halts}
 use Rattle.rom_law.specs.Rows.{Since, Embeds, Row, Outcome, Stepped, Stopped, now, dispatched, after_main, after_tick}
 use Rattle.rom_law.specs.Rows.Outcome.{Still as Calm, Dispatched, Halted as Failed}

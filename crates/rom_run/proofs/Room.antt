@@ -9,7 +9,7 @@ use Rattle.chip8_lang.specs.declared.view.Edition.{Edition}
 use Rattle.chip8_lang.specs.Editions.{memory_end, variables}
 use Rattle.chip8_lang.specs.State.{Lang}
 use Rattle.chip8_image.specs.Labels.{at_inside}
-use Rattle.rom_moves.proofs.Moves.{quicks}
+use Rattle.rom_law.proofs.Moves.{quicks}
 use Rattle.rom_law.specs.Holding.{Places, places, Holding}
 use Rattle.rom_law.specs.Program.{Program, code}
 use Rattle.rom_law.specs.Rows.{Since, InBlock, Row, now}

@@ -6,7 +6,7 @@ use Rattle.chip8_lang.specs.declared.instr.Instr.{Instr}
 use Rattle.chip8_lang.specs.declared.instr.Instr.TheVariants.{Clear as IsClear, Draw as IsDraw}
 use Rattle.chip8_lang.specs.declared.view.Edition.{Edition}
 use Rattle.chip8_lang.specs.State.{Lang, instr_at}
-use Rattle.rom_moves.specs.Code.{is_event}
+use Rattle.rom_law.specs.Code.{is_event}
 use Rattle.rom_law.specs.Program.{code}
 use Rattle.rom_law.specs.Rows.{Since, Row, Outcome, now, after_tick}
 use Rattle.rom_law.specs.Rows.Row.{Inside, Alone}

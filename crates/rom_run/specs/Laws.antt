@@ -14,7 +14,7 @@ use Rattle.chip8_lang.specs.declared.view.Edition.{Edition}
 use Rattle.chip8_lang.specs.Bounds.{bound_of}
 use Rattle.chip8_lang.specs.Events.{game_run, events_of, numbers_from}
 use Rattle.chip8_lang.specs.State.{memory_size, is_fetchable}
-use Rattle.rom_moves.specs.Code.{Input, moved}
+use Rattle.rom_law.specs.Code.{Input, moved}
 use Rattle.rom_law.specs.Language.{Begins, GoesOn, events_behind, nothing_else, frames_of, end_cycle}
 use Rattle.rom_law.specs.Program.{code}
 use Rattle.rom_law.specs.Runs.{Moves, carried, state_after}

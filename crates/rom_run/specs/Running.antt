@@ -13,7 +13,7 @@ use Rattle.chip8_lang.specs.Places.{state_of}
 use Rattle.chip8_lang.specs.State.{Lang, first, memory_size}
 use Rattle.chip8_lang.specs.Bounds.{boot_bound}
 use Rattle.chip8_lang.specs.Events.{is_dispatch, is_stop}
-use Rattle.rom_moves.specs.Code.{is_event}
+use Rattle.rom_law.specs.Code.{is_event}
 use Rattle.rom_law.specs.Program.{code, Dispatches}
 use Rattle.rom_law.specs.Rows.{Since, Row, Stepped, Stopped, after_tick, dispatched}
 use Rattle.rom_law.specs.Runs.{Covers}

@@ -14,7 +14,7 @@ use Rattle.chip8_lang.specs.Editions.{rows_of}
 use Rattle.chip8_lang.specs.State.{Lang, variable, is_in_memory, is_in_font, is_fetchable}
 use Rattle.chip8_lang.specs.Step.{next, stop_of}
 use Rattle.chip8_image.specs.Labels.{at_fetch, at_draw, at_draw_check, at_draw_found, at_place, at_edge, at_fits, at_angle, at_begin}
-use Rattle.rom_moves.proofs.Moves.{quicks}
+use Rattle.rom_law.proofs.Moves.{quicks}
 use Rattle.rom_law.specs.Program.{Program, code}
 use Rattle.rom_law.specs.Holding.{Places, places, Holding}
 use Rattle.rom_law.specs.Rows.{Since, now}

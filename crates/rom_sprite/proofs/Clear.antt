@@ -13,8 +13,8 @@ use Rattle.chip8_lang.specs.State.{Lang, instr_at}
 use Rattle.chip8_lang.specs.Step.{next, stop_of, step, done_by}
 use Rattle.chip8_lang.specs.Step.KeyInput.{Nothing}
 use Rattle.chip8_image.specs.Labels.{at_fetch, at_clear, at_clear_wait, at_wipe, at_wipe3, at_wipe6, at_wiped, at_cleared}
-use Rattle.rom_moves.proofs.Moves.{quicks}
-use Rattle.rom_moves.proofs.Ticks.{after_wait}
+use Rattle.rom_law.proofs.Moves.{quicks}
+use Rattle.rom_law.proofs.Ticks.{after_wait}
 use Rattle.rom_law.specs.Program.{Program, code}
 use Rattle.rom_law.specs.Holding.{places, Holding}
 use Rattle.machine.specs.Schedule.{Tick}

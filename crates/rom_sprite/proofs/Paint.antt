@@ -15,8 +15,8 @@ use Rattle.chip8_lang.specs.State.{Lang, instr_at, readable_byte}
 use Rattle.chip8_lang.specs.Step.{next, stop_of, sprite_row}
 use Rattle.chip8_lang.specs.Ticks.{tick}
 use Rattle.chip8_image.specs.Labels.{at_fetch, at_ready, at_draw_wait, at_line, at_line_left, at_line_right, at_drawn}
-use Rattle.rom_moves.proofs.Moves.{quicks, read_rom}
-use Rattle.rom_moves.proofs.Ticks.{after_wait}
+use Rattle.rom_law.proofs.Moves.{quicks, read_rom}
+use Rattle.rom_law.proofs.Ticks.{after_wait}
 use Rattle.rom_law.specs.Program.{code}
 use Rattle.rom_law.specs.Holding.{Places, places, Holding}
 use Rattle.machine.specs.Schedule.{Tick}

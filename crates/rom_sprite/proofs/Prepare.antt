@@ -13,8 +13,8 @@ use Rattle.chip8_lang.specs.Editions.{memory_start, memory_end, font_start, font
 use Rattle.chip8_lang.specs.State.{Lang, is_in_memory, is_in_font}
 use Rattle.chip8_lang.specs.Step.{sprite_row}
 use Rattle.chip8_image.specs.Labels.{at_fetch, at_halt, at_row, at_row_byte, at_shift7, at_shifted, at_row_right, at_row_store, at_ready}
-use Rattle.rom_moves.specs.Code.{is_event}
-use Rattle.rom_moves.proofs.Moves.{AllGood, quicks, written_is}
+use Rattle.rom_law.specs.Code.{is_event}
+use Rattle.rom_law.proofs.Moves.{AllGood, quicks, written_is}
 use Rattle.rom_law.specs.Program.{code}
 use Rattle.rom_law.specs.Rows.{Since, Grows, Ends, now}
 use Rattle.rom_law.proofs.Places.{work_set}

@@ -11,9 +11,9 @@ use Rattle.machine.specs.Keys.{Keys}
 use Rattle.machine.specs.Run.{after_moves}
 use Rattle.machine.proofs.Flags.{reads_flags}
 use Rattle.machine.proofs.Moves.{case_dma, case_instruction, move_in}
-use Rattle.rom_moves.specs.Code.{Code, Input}
+use Rattle.rom_law.specs.Code.{Code, Input}
 use Rattle.rom_timer.specs.Routine.{RunsRoutine}
-use Rattle.rom_moves.proofs.Moves.{in_rom, opcode_in, opcode_is, quick, quicks, quick_by, quick_by_is, quick_any, plus}
+use Rattle.rom_law.proofs.Moves.{in_rom, opcode_in, opcode_is, quick, quicks, quick_by, quick_by_is, quick_any, plus}
 
 -- the machine at a cycle
 abbrev pub timed : ℕ → Machine → Machine

@@ -15,7 +15,7 @@ use Rattle.machine.specs.Run.{states, after_moves}
 use Rattle.machine.specs.Pictures.{is_dma, is_dma_in}
 use Rattle.machine.proofs.Moves.{case_dma, move_in}
 use Rattle.machine.proofs.Runs.{later-move}
-use Rattle.rom_moves.proofs.Moves.{read_ram}
+use Rattle.rom_law.proofs.Moves.{read_ram}
 use Rattle.rom_timer.specs.Scan.{fetched}
 use Rattle.rom_timer.proofs.Board.{timed, at_byte, up_is}
 

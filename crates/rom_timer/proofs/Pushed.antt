@@ -2,7 +2,7 @@
 use Rattle.std.proofs.Common.{◌≡◌, ℕ, ◌+◌, ◌<◌, ◌≤◌, ◌⊎◌, inl, inr, refl, sym, ◌∙◌, ap, subst, arith, false, List, slice_index, slice_set, length, length-set, get_or-set_same, get_or-set_other}
 use Rattle.std.proofs.lemmas.Bool.{cases_eq}
 use Rattle.machine.specs.Memory.{read, written}
-use Rattle.rom_moves.proofs.Moves.{read_ram, written_is}
+use Rattle.rom_law.proofs.Moves.{read_ram, written_is}
 
 -- u at a + 1, and then v at a
 abbrev pub pushed : List ℕ → ℕ → ℕ → ℕ → List ℕ

@@ -16,7 +16,7 @@ use Rattle.rom_law.specs.Rows.{Since, now}
 use Rattle.rom_law.specs.Program.{code}
 use Rattle.rom_law.proofs.Places.{v_get, v_set, timers_set}
 use Rattle.rom_law.proofs.Kept.{Comes, Holds}
-use Rattle.rom_moves.proofs.Moves.{quicks, reaches_in, reaches_from}
+use Rattle.rom_law.proofs.Moves.{quicks, reaches_in, reaches_from}
 use Rattle.rom_rows.specs.Heads.{high_byte, low_byte, page_of, Entered, Enters}
 use Rattle.rom_rows.specs.TimerBlocks.{Ended}
 use Rattle.rom_rows.specs.TimerBlocks.TimerBlock.{GetDelayPut, SetDelay, SetDelayEnd, SetSound, SetSoundEnd}

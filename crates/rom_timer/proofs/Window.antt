@@ -10,8 +10,8 @@ use Rattle.chip8_lang.specs.declared.view.Edition.{Edition}
 use Rattle.chip8_lang.specs.declared.view.Edition.TheVariants.{Usual, Tall}
 use Rattle.chip8_lang.specs.Editions.{screen_start}
 use Rattle.chip8_image.specs.Labels.{at_scan, at_scan1, at_scan2, at_scan3, at_delay}
-use Rattle.rom_moves.specs.Code.{Code}
-use Rattle.rom_moves.proofs.Moves.{quicks, quick_by}
+use Rattle.rom_law.specs.Code.{Code}
+use Rattle.rom_law.proofs.Moves.{quicks, quick_by}
 use Rattle.rom_law.specs.Program.{code}
 use Rattle.rom_rows.specs.Heads.{by_edition}
 use Rattle.rom_timer.proofs.Rom.{quick}

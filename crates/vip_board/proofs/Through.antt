@@ -17,6 +17,10 @@ use Rattle.vip_board.specs.Wired.{seen_of}
 use Rattle.vip_board.specs.declared.wires.Wires.{Wires}
 use Rattle.vip_board.proofs.Cases.{rests, moved-in}
 
+pub positive : (n : ℕ) → (n ≡ 0 → ⊥) → 0 < n
+positive zero h = absurd (h refl)
+positive (suc n) h = omega arith
+
 -- ---- idle cycles
 
 never : (ie : Bool) {x : Bool} → x ≡ false → (ie && x) ≡ false

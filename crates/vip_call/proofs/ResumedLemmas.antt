@@ -16,6 +16,7 @@ use Rattle.vip_show.specs.Endings.{ending_after}
 use Rattle.state_check.specs.File.{shown, IsAccepted}
 use Rattle.vip_state.specs.Points.{points_behind, points_of}
 use Rattle.vip_state.proofs.Points.{points_of-events_at}
+use Rattle.vip_state.proofs.Rest.{ending_of_points}
 use Rattle.vip_text.specs.Endings.{Ending}
 use Rattle.vip_text.specs.Endings.Ending.{AtStop}
 use Rattle.vip_tools.specs.Outcome.{Outcome}
@@ -46,13 +47,6 @@ module _ (e : Edition) (script : List KeyEvent) (limit : ℕ) (run : List Machin
         also_is = ap (λ stop. AtStop stop (state_of e b).pc (opcode_at e (state_of e b))) h.also_is;
         last = h.last;
       }
-
-ending_of_points : (e : Edition) (pc : ℕ) (opcode : Option ℕ) (es : List Event) → ending_after e pc opcode (points_of es) ≡ ending_after e pc opcode es
-unfolding ending_after
-ending_of_points e pc opcode [] = refl
-ending_of_points e pc opcode (Picture m ∷ es) = ending_of_points e pc opcode es
-ending_of_points e pc opcode (Dispatch b ∷ es) = ending_of_points e (view_at e b).pc (view_at e b).opcode es
-ending_of_points e pc opcode (Stopped b ∷ es) = refl
 
 pub points_behind_are : (i : Interpreter) (script : List KeyEvent) (b : Machine) (limit : ℕ) → points_of (events_behind i script b limit) ≡ points_behind i script b limit
 unfolding points_behind

@@ -2,7 +2,7 @@
 use Rattle.std.proofs.Common.{◌≡◌, ℕ, ◌+◌, ◌<◌, ap, ap₂, ◌∙◌, arith, false, List, slice_index, slice_set}
 use Rattle.machine.specs.Bank.{word, word_of, value, up, down}
 use Rattle.machine.specs.Memory.{read, written}
-use Rattle.rom_moves.proofs.Moves.{read_ram, written_is}
+use Rattle.rom_law.proofs.Moves.{read_ram, written_is}
 
 pub up_is : (a b : ℕ) → a + 1 ≡ b → b < 0x10000 → up (word_of a) ≡ word_of b
 up_is a b e l = ap₂ word (omega arith) (omega arith)

@@ -62,7 +62,7 @@ lines_append : (e : Edition) (with_time : Bool) (xs ys : List Event) → trace_l
 unfolding trace_lines
 lines_append e with_time xs ys = flat_map-append (trace_piece e with_time) xs ys
 
-ending_of_points : (e : Edition) (pc : ℕ) (opcode : Option ℕ) (es : List Event) → ending_after e pc opcode (points_of es) ≡ ending_after e pc opcode es
+pub ending_of_points : (e : Edition) (pc : ℕ) (opcode : Option ℕ) (es : List Event) → ending_after e pc opcode (points_of es) ≡ ending_after e pc opcode es
 unfolding ending_after
 ending_of_points e pc opcode [] = refl
 ending_of_points e pc opcode (Picture m ∷ es) = ending_of_points e pc opcode es

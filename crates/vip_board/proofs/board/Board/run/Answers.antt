@@ -2,12 +2,8 @@ use Rattle.std.proofs.Common.{◌≡◌, ◌+◌, ◌<◌, ◌≤◌, ◌∙◌,
 use Rattle.std.specs.Prelude.{IsTrue}
 use Rattle.machine.specs.Board.{length_of}
 use Rattle.vip_board.specs.Seen.{Seen}
-use Rattle.vip_board.proofs.Through.{phase-by, later-by, stays, few-made, made-more}
+use Rattle.vip_board.proofs.Through.{phase-by, later-by, stays, few-made, made-more, positive}
 use Rattle.vip_board.proofs.board.Board.run.Goals as goal
-
-positive : (n : ℕ) → (n ≡ 0 → ⊥) → 0 < n
-positive zero h = absurd (h refl)
-positive (suc n) h = omega arith
 
 not_both : (b : Bool) → IsTrue b → b ≡ false → ⊥
 not_both true h e = cc

@@ -1,10 +1,6 @@
 use Rattle.std.proofs.Common.{◌≡◌, ◌⊎◌, inl, inr, ◌+◌, ◌<◌, ◌≤◌, ◌∙◌, ℕ, zero, suc, arith}
-use Rattle.vip_board.proofs.Through.{worked-more, passes-more}
+use Rattle.vip_board.proofs.Through.{worked-more, passes-more, positive}
 use Rattle.vip_board.proofs.board.Board.work.Goals as goal
-
-positive : (n : ℕ) → (n ≡ 0 → ⊥) → 0 < n
-positive zero h = absurd (h (omega arith))
-positive (suc n) h = omega arith
 
 apart : (x place a b : ℕ) → x ≡ place → (x ≡ a → ⊥) → (x ≡ b → ⊥) → (place ≡ a) ⊎ (place ≡ b) → ⊥
 apart x place a b e f g (inl h) = f (e ∙ h)

@@ -5,8 +5,8 @@ use Rattle.machine.specs.declared.Kind.{Kind}
 use Rattle.machine.specs.declared.Kind.TheVariants.{Idl, Ldn, Inc, Dec, Br, Bq, Bz, Bdf, B1, B2, B3, B4, Skp, Bnq, Bnz, Bnf, Bn1, Bn2, Bn3, Bn4, Lda, Str, Irx, Out, Undefined, Inp, Ret, Dis, Ldxa, Stxd, Adc, Sdb, Shrc, Smb, Mark, Adci, Sdbi, Shlc, Smbi, Glo, Ghi, Plo, Phi, Lbr, Lbq, Lbz, Lbdf, Nop, Lsnq, Lsnz, Lsnf, Lskp, Lbnq, Lbnz, Lbnf, Lsie, Lsq, Lsz, Lsdf, Sep, Sex, Ldx, Or, And, Xor, Add, Sd, Shr, Sm, Ldi, Ori, Ani, Xri, Adi, Sdi, Shl, Smi}
 use Rattle.machine.specs.Bank.{Word, word, value, up, down, get, put}
 use Rattle.machine.specs.Instruction.{Regs, Inputs, Effect, effect, at}
-use Rattle.rom_moves.specs.Later.{Steady, later_bank, later_regs, tones}
-use Rattle.rom_moves.proofs.Registers.{is_kept, is_plain, kept_of_plain, get-later, put-later, put-r1, put-r2, put-r8, of_r2, r2_grows, r2_falls}
+use Rattle.rom_law.specs.Later.{Steady, later_bank, later_regs, tones}
+use Rattle.rom_law.proofs.Registers.{is_kept, is_plain, kept_of_plain, get-later, put-later, put-r1, put-r2, put-r8, of_r2, r2_grows, r2_falls}
 
 -- a condition, so that it computes to what is left to show: nothing, or that an address that is read is kept
 abbrev pub when : Bool → Type 0 → Type 0

@@ -2,7 +2,7 @@
 use Rattle.std.proofs.Common.{◌≡◌, ℕ, ◌+◌, ◌<◌, ◌≤◌, refl, sym, arith, Bool, true, false, zero, suc, le_refl, ◌⊎◌, inl, inr, true≢false}
 use Rattle.std.proofs.lemmas.Bool.{cases_eq, cases_lt}
 use Rattle.machine.specs.Bank.{Word, value, Bank, get, put}
-use Rattle.rom_moves.specs.Later.{later_bank}
+use Rattle.rom_law.specs.Later.{later_bank}
 
 -- ---- registers that ticks leave, but for R1, which main code doesn't use; and those of them but R2
 

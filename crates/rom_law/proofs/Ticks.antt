@@ -4,7 +4,7 @@ use Rattle.std.specs.Prelude.{◌==◌}
 use Rattle.machine.specs.Bank.{word, value, up}
 use Rattle.machine.specs.Board.{Machine}
 use Rattle.machine.specs.Schedule.{Tick, IsFree, fallen}
-use Rattle.rom_moves.specs.Later.{Steady, After, later}
+use Rattle.rom_law.specs.Later.{Steady, After, later}
 
 -- no tick
 pub after_none : (low : ℕ) (b : Machine) → After low 0 b b

@@ -12,10 +12,10 @@ use Rattle.machine.specs.Instruction.Port.{Send, Receive}
 use Rattle.machine.specs.Memory.{read, written}
 use Rattle.machine.specs.Board.{Machine, acted, flags_of, on_after, latch_after, ram_after, opcode_of}
 use Rattle.machine.proofs.Flags.{reads_flags, effect_flags}
-use Rattle.rom_moves.specs.Code.{Code, Input, nothing, moved, run, is_event}
-use Rattle.rom_moves.specs.Later.{Steady, After, later_bank, later_regs, later, tones}
-use Rattle.rom_moves.proofs.Registers.{is_plain, kept_of_plain, get-later, put-later, put-r1, put-r2, put-r8, get_put}
-use Rattle.rom_moves.proofs.Passing.{when, first_of, second_of, Passes, passes, stack_of, Written, idle_of, enabled_of, entry_of, later_effect}
+use Rattle.rom_law.specs.Code.{Code, Input, nothing, moved, run, is_event}
+use Rattle.rom_law.specs.Later.{Steady, After, later_bank, later_regs, later, tones}
+use Rattle.rom_law.proofs.Registers.{is_plain, kept_of_plain, get-later, put-later, put-r1, put-r2, put-r8, get_put}
+use Rattle.rom_law.proofs.Passing.{when, first_of, second_of, Passes, passes, stack_of, Written, idle_of, enabled_of, entry_of, later_effect}
 
 -- ---- bytes of the ROM and of RAM
 

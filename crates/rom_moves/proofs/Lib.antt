@@ -1,5 +1,0 @@
-pub mod Registers
-pub mod Passing
-pub mod Moves
-pub mod Ticks
-pub mod Ranges
