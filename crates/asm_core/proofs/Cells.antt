@@ -30,7 +30,8 @@ slice_get-push_other (y ∷ xs) x zero other = refl
 slice_get-push_other (y ∷ xs) x (suc k) other = slice_get-push_other xs x k (λ e. other (omega arith))
 
 module _ (line at : ℕ) where
-  cell_in-at : (bytes : List ℕ) (address : ℕ) → at ≤ address → cell_in line at bytes address ≡ option_map (λ byte. record { byte = byte; line = line }) (slice_get bytes (address - at))
+  cell_in-at : (bytes : List ℕ) (address : ℕ) → at ≤ address
+      → cell_in line at bytes address ≡ option_map (λ byte. record { byte = byte; line = line }) (slice_get bytes (address - at))
   cell_in-at bytes address above = cond-true (nat_le at address) _ None (le-leb at address above)
 
   cell_in-below : (bytes : List ℕ) (address : ℕ) → address < at → cell_in line at bytes address ≡ None
@@ -52,15 +53,18 @@ module _ (line at : ℕ) where
     cell_in-here =
         cell_in-at (take (offset + 1) bytes) (at + offset) (omega arith)
         ∙ ap (λ xs. option_map (λ byte. record { byte = byte; line = line }) (slice_get xs (at + offset - at))) more
-        ∙ ap (option_map (λ byte. record { byte = byte; line = line })) (slice_get-push_here (take offset bytes) (get_or bytes offset 0) (at + offset - at) (omega (arith, front)))
+        ∙ ap (option_map (λ byte. record { byte = byte; line = line }))
+        (slice_get-push_here (take offset bytes) (get_or bytes offset 0) (at + offset - at) (omega (arith, front)))
 
-    cell_in-other : (address : ℕ) → (address ≡ at + offset → ⊥) → cell_in line at (take (offset + 1) bytes) address ≡ cell_in line at (take offset bytes) address
+    cell_in-other : (address : ℕ) → (address ≡ at + offset → ⊥)
+        → cell_in line at (take (offset + 1) bytes) address ≡ cell_in line at (take offset bytes) address
     cell_in-other address other = elim (cases_lt address at) [
       | inl under ↦ cell_in-below (take (offset + 1) bytes) address under ∙ sym (cell_in-below (take offset bytes) address under)
       | inr above ↦
           cell_in-at (take (offset + 1) bytes) address above
           ∙ ap (λ xs. option_map (λ byte. record { byte = byte; line = line }) (slice_get xs (address - at))) more
-          ∙ ap (option_map (λ byte. record { byte = byte; line = line })) (slice_get-push_other (take offset bytes) (get_or bytes offset 0) (address - at) (λ e. other (omega (arith, front))))
+          ∙ ap (option_map (λ byte. record { byte = byte; line = line }))
+          (slice_get-push_other (take offset bytes) (get_or bytes offset 0) (address - at) (λ e. other (omega (arith, front))))
           ∙ sym (cell_in-at (take offset bytes) address above)
     ]
 
@@ -79,10 +83,13 @@ second_none None = refl
 second_none (Some cell) = refl
 
 -- one byte more, at an address that had none
-pub holds_more : (old cells : List (Option Cell)) (line at : ℕ) (bytes : List ℕ) (offset byte : ℕ) → Holds old cells line at bytes offset → offset < length bytes → at + length bytes ≤ length old
-    → byte ≡ get_or bytes offset 0 → entry cells (at + offset) ≡ None → Holds old (set cells (at + offset) (Some (record { byte = byte; line = line }))) line at bytes (offset + 1)
+pub holds_more : (old cells : List (Option Cell)) (line at : ℕ) (bytes : List ℕ) (offset byte : ℕ) → Holds old cells line at bytes offset
+    → offset < length bytes → at + length bytes ≤ length old
+    → byte ≡ get_or bytes offset 0 → entry cells (at + offset) ≡ None
+    → Holds old (set cells (at + offset) (Some (record { byte = byte; line = line }))) line at bytes (offset + 1)
 holds_more old cells line at bytes offset byte so_far below fits is empty =
-    let was : entry old (at + offset) ≡ None = first_none (entry old (at + offset)) (cell_in line at (take offset bytes) (at + offset)) (sym (so_far.entries (at + offset)) ∙ empty) in
+    let was : entry old (at + offset) ≡ None =
+    first_none (entry old (at + offset)) (cell_in line at (take offset bytes) (at + offset)) (sym (so_far.entries (at + offset)) ∙ empty) in
     let cell : Cell = record { byte = byte; line = line } in
     record {
       same_length = length-set cells (at + offset) (Some cell) ∙ so_far.same_length;
@@ -128,7 +135,8 @@ holds_all old cells line at bytes offset so_far past = (
 pub holds_overlap : (old cells : List (Option Cell)) (line at : ℕ) (bytes : List ℕ) (offset : ℕ) → Holds old cells line at bytes offset → offset < length bytes
     → is_some (entry cells (at + offset)) ≡ true → overlaps (entry old) at (length bytes) ≡ true
 holds_overlap old cells line at bytes offset so_far below taken =
-    let nothing : cell_in line at (take offset bytes) (at + offset) ≡ None = cell_in-past line at (take offset bytes) (at + offset) (omega (arith, length-take-le offset bytes (omega arith))) in
+    let nothing : cell_in line at (take offset bytes) (at + offset) ≡ None =
+    cell_in-past line at (take offset bytes) (at + offset) (omega (arith, length-take-le offset bytes (omega arith))) in
     let was : is_some (entry old (at + offset)) ≡ true =
     ap is_some (sym (so_far.entries (at + offset) ∙ ap (option_or (entry old (at + offset))) nothing ∙ second_none (entry old (at + offset)))) ∙ taken in
     list_any_at (λ k. is_some (entry old (at + k))) (range_with_len 0 (length bytes)) offset 0 (omega (arith, length-range (length bytes) 0))

@@ -12,7 +12,9 @@ values_in results = map (λ result. result_unwrap_or result 0) results
 
 -- all values, where those so far and whether each of them was in its range are known
 abbrev pub collect_from : Bool → List ℕ → List (Result ℕ ValueFault) → Result (List ℕ) ValueFault
-collect_from in_range values results = cond (list_any is_undefined results) (Err Undefined) (cond (not in_range || list_any is_err results) (Err Range) (Ok (values ++ values_in results)))
+collect_from in_range values results =
+    cond (list_any is_undefined results) (Err Undefined)
+    (cond (not in_range || list_any is_err results) (Err Range) (Ok (values ++ values_in results)))
 
 pub collect_none : (results : List (Result ℕ ValueFault)) → collect_from true [] results ≡ collected results
 unfolding collected

@@ -24,19 +24,24 @@ module _ (names : Names) (at : ℕ) (line : List ℕ) where
 
   pub laid_out-duplicate : (parts : Parsed) → parsed line ≡ Ok parts → is_duplicate names parts.label ≡ true → laid_out names at line ≡ Err Duplicate
   unfolding laid_parts
-  laid_out-duplicate parts e twice = laid_out-parts parts e ∙ cond-true (is_duplicate names parts.label) (Err Duplicate) (judged (is_some parts.label) (list_any has_large_number parts.operands) (placed names at parts.word parts.operands)) twice
+  laid_out-duplicate parts e twice =
+      laid_out-parts parts e ∙ cond-true (is_duplicate names parts.label) (Err Duplicate)
+      (judged (is_some parts.label) (list_any has_large_number parts.operands) (placed names at parts.word parts.operands)) twice
 
   pub laid_out-judged : (parts : Parsed) → parsed line ≡ Ok parts → is_duplicate names parts.label ≡ false
       → laid_out names at line ≡ judged (is_some parts.label) (list_any has_large_number parts.operands) (placed names at parts.word parts.operands)
   unfolding laid_parts
-  laid_out-judged parts e new = laid_out-parts parts e ∙ cond-false (is_duplicate names parts.label) (Err Duplicate) (judged (is_some parts.label) (list_any has_large_number parts.operands) (placed names at parts.word parts.operands)) new
+  laid_out-judged parts e new =
+      laid_out-parts parts e ∙ cond-false (is_duplicate names parts.label) (Err Duplicate)
+      (judged (is_some parts.label) (list_any has_large_number parts.operands) (placed names at parts.word parts.operands)) new
 
 pub label_in-parts : (line : List ℕ) (parts : Parsed) → parsed line ≡ Ok parts → label_in line ≡ parts.label
 unfolding label_in
 label_in-parts line parts e = ap label_from e
 
 -- the spans of a line lie in it
-pub label_within : (line : List ℕ) (label : Option Span) (operands : List Span) → AreWithin line (option_to_list label ++ operands) → IfSome label (IsWithin line)
+pub label_within : (line : List ℕ) (label : Option Span) (operands : List Span) → AreWithin line (option_to_list label ++ operands)
+    → IfSome label (IsWithin line)
 label_within line None operands all = tt
 label_within line (Some label) operands all = all 0 label (omega arith)
 

@@ -47,10 +47,12 @@ module _ (source : List (List ℕ)) where
   known_at-next number below = fold_more known_next known_first source number [] below
 
   -- the same names, as functions
-  same_names : (number : ℕ) (names : List (List ℕ × ℕ)) → ((name : List ℕ) → value_in names name ≡ (known_at source number).names name) → value_in names ≡ (known_at source number).names
+  same_names : (number : ℕ) (names : List (List ℕ × ℕ)) → ((name : List ℕ) → value_in names name ≡ (known_at source number).names name)
+      → value_in names ≡ (known_at source number).names
   same_names number names same = λ i name. same name i
 
-  pub laid_here : (number at : ℕ) (line : List ℕ) (names : List (List ℕ × ℕ)) → ((name : List ℕ) → value_in names name ≡ (known_at source number).names name) → at ≡ address_of source number → line_at source number ≡ line
+  pub laid_here : (number at : ℕ) (line : List ℕ) (names : List (List ℕ × ℕ))
+      → ((name : List ℕ) → value_in names name ≡ (known_at source number).names name) → at ≡ address_of source number → line_at source number ≡ line
       → laid_out (known_at source number).names (address_of source number) (line_at source number) ≡ laid_out (value_in names) at line
   laid_here number at line names same place here =
       ap (λ ns. laid_out ns (address_of source number) (line_at source number)) (sym (same_names number names same))
@@ -60,13 +62,16 @@ module _ (source : List (List ℕ)) where
   zero_is : (i : ℕ) → i ≤ 0 → i ≡ 0
   zero_is i below = omega arith
 
-  pub lays_out_none : (names : List (List ℕ × ℕ)) (addresses values : List ℕ) → names ≡ [] → addresses ≡ first_addresses → values ≡ [] → LaysOut source 0 names addresses values
+  pub lays_out_none : (names : List (List ℕ × ℕ)) (addresses values : List ℕ) → names ≡ [] → addresses ≡ first_addresses → values ≡ []
+      → LaysOut source 0 names addresses values
   lays_out_none names addresses values e f g = record {
     inside = omega arith;
     faultless = λ i below. absurd (omega arith);
     named = λ name. ap (λ ns. value_in ns name) e ∙ sym (ap (λ (k : Known). k.names name) known_at-first);
     count_is = ap length f;
-    placed = λ i below. ap (λ xs. get_or xs i 0) f ∙ first_is_zero i (omega arith) ∙ sym (ap (λ n. address_of source n) (zero_is i (omega arith)) ∙ ap (λ (k : Known). k.at) known_at-first);
+    placed =
+        λ i below. ap (λ xs. get_or xs i 0) f ∙ first_is_zero i (omega arith)
+        ∙ sym (ap (λ n. address_of source n) (zero_is i (omega arith)) ∙ ap (λ (k : Known). k.at) known_at-first);
     low = λ i below. omega (arith, ap (λ n. address_of source n) (zero_is i (omega arith)), ap (λ (k : Known). k.at) known_at-first);
     values_count = ap length g;
     valued = λ i below. absurd (omega arith);
@@ -77,7 +82,8 @@ module _ (source : List (List ℕ)) where
       laid_is : laid_out (known_at source number).names (address_of source number) (line_at source number) ≡ Ok laid
       laid_is = laid_here number at line names so_far.named place here ∙ adds.is
 
-      known_more : known_at source (number + 1) ≡ record { at = laid.next; names = with_label (known_at source number).names (label_in (line_at source number)) laid.value }
+      known_more : known_at source (number + 1)
+          ≡ record { at = laid.next; names = with_label (known_at source number).names (label_in (line_at source number)) laid.value }
       known_more = known_at-next number below ∙ ap (known_after (known_at source number) (label_in (line_at source number))) laid_is
 
       pub next_address : laid.next ≡ address_of source (number + 1)
@@ -122,7 +128,8 @@ module _ (source : List (List ℕ)) where
         ];
       }
 
-    pub first_fault : (at : ℕ) (line : List ℕ) (cause : AsmCause) → number < length source → at ≡ address_of source number → line_at source number ≡ line → laid_out (value_in names) at line ≡ Err cause
+    pub first_fault : (at : ℕ) (line : List ℕ) (cause : AsmCause) → number < length source → at ≡ address_of source number
+        → line_at source number ≡ line → laid_out (value_in names) at line ≡ Err cause
         → IsFirstFault (fault_1 source) (length source) number cause
     unfolding fault_1
     first_fault at line cause below place here e = record {

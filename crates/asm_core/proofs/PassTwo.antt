@@ -53,33 +53,42 @@ mapped_ok f g (Err e') y e = absurd (cc)
 collected_length : (results : List (Result ℕ ValueFault)) (values : List ℕ) → collected results ≡ Ok values → length values ≡ length results
 unfolding collected
 collected_length results values e =
-    elim (list_any is_undefined results) as (λ b. cond b (Err value.Undefined) (cond (list_any is_err results) (Err value.Range) (Ok (map (λ result. result_unwrap_or result 0) results))) ≡ Ok values → length values ≡ length results) [
+    elim (list_any is_undefined results)
+    as (λ b. cond b (Err value.Undefined)
+    (cond (list_any is_err results) (Err value.Range) (Ok (map (λ result. result_unwrap_or result 0) results))) ≡ Ok values
+    → length values ≡ length results) [
       | true ↦ λ h. absurd (cc)
-      | false ↦ λ h. elim (list_any is_err results) as (λ b. cond b (Err value.Range) (Ok (map (λ result. result_unwrap_or result 0) results)) ≡ Ok values → length values ≡ length results) [
-        | true ↦ λ k. absurd (cc)
-        | false ↦ λ k. let same : map (λ result. result_unwrap_or result 0) results ≡ values = cc in sym (ap length same) ∙ length-map results (λ result. result_unwrap_or result 0)
-      ] h
+      | false ↦ λ h. elim (list_any is_err results)
+          as (λ b. cond b (Err value.Range) (Ok (map (λ result. result_unwrap_or result 0) results)) ≡ Ok values → length values ≡ length results) [
+            | true ↦ λ k. absurd (cc)
+            | false ↦ λ k. let same : map (λ result. result_unwrap_or result 0) results ≡ values =
+                cc in sym (ap length same) ∙ length-map results (λ result. result_unwrap_or result 0)
+          ] h
     ] e
 
-values_length : (names : Names) (here most : ℕ) (operands : List (List ℕ)) (values : List ℕ) → values_of names here most operands ≡ Ok values → length values ≡ length operands
+values_length : (names : Names) (here most : ℕ) (operands : List (List ℕ)) (values : List ℕ) → values_of names here most operands ≡ Ok values
+    → length values ≡ length operands
 unfolding values_of
-values_length names here most operands values e = collected_length (map (operand_value names here most) operands) values e ∙ length-map operands (operand_value names here most)
+values_length names here most operands values e =
+    collected_length (map (operand_value names here most) operands) values e ∙ length-map operands (operand_value names here most)
 
 length-words : (values : List ℕ) → length (flat_map word_bytes values) ≡ 2 * length values
 length-words [] = refl
 length-words (v ∷ values) = omega (arith, length-words values)
 
 to_page_length : (at opcode target : ℕ) (bytes : List ℕ) → to_page at opcode target ≡ Ok bytes → length bytes ≡ 2
-to_page_length at opcode target bytes e = elim (target / 256 == (at + 1) / 256) as (λ b. cond b (Ok (opcode ∷ target % 256 ∷ [])) (Err OffPage) ≡ Ok bytes → length bytes ≡ 2) [
-  | true ↦ λ h. let same : (opcode ∷ target % 256 ∷ []) ≡ bytes = cc in sym (ap length same)
-  | false ↦ λ h. absurd (cc)
-] e
+to_page_length at opcode target bytes e =
+    elim (target / 256 == (at + 1) / 256) as (λ b. cond b (Ok (opcode ∷ target % 256 ∷ [])) (Err OffPage) ≡ Ok bytes → length bytes ≡ 2) [
+      | true ↦ λ h. let same : (opcode ∷ target % 256 ∷ []) ≡ bytes = cc in sym (ap length same)
+      | false ↦ λ h. absurd (cc)
+    ] e
 
 short_length : (at opcode : ℕ) (r : Result ℕ ValueFault) (bytes : List ℕ) → short_branch at opcode r ≡ Ok bytes → length bytes ≡ 2
 short_length at opcode (Ok target) bytes e = to_page_length at opcode target bytes e
 short_length at opcode (Err fault) bytes e = absurd (cc)
 
-instruction_length : (names : Names) (at opcode : ℕ) (operand : List ℕ) (bytes : List ℕ) → instruction names at opcode operand ≡ Ok bytes → length bytes ≡ size_at opcode
+instruction_length : (names : Names) (at opcode : ℕ) (operand : List ℕ) (bytes : List ℕ) → instruction names at opcode operand ≡ Ok bytes
+    → length bytes ≡ size_at opcode
 unfolding instruction
 instruction_length names at opcode operand bytes e =
     let word : Result ℕ ValueFault = operand_value names at 65535 operand in
@@ -88,15 +97,19 @@ instruction_length names at opcode operand bytes e =
     let rest_3 : Result (List ℕ) AsmCause = cond (size_at opcode == 3) (long_branch opcode word) rest_2 in
     elim (size_at opcode == 1) as (λ b. (size_at opcode == 1) ≡ b → cond b (Ok (opcode ∷ [])) rest_3 ≡ Ok bytes → length bytes ≡ size_at opcode) [
       | true ↦ λ one h. let same : (opcode ∷ []) ≡ bytes = cc in omega (arith, ap length same, eqb-true (size_at opcode) 1 one)
-      | false ↦ λ not_one h. elim (size_at opcode == 3) as (λ b. (size_at opcode == 3) ≡ b → cond b (long_branch opcode word) rest_2 ≡ Ok bytes → length bytes ≡ size_at opcode) [
-        | true ↦ λ three k. let found = mapped_ok (λ target. opcode ∷ word_bytes target) value_cause word bytes k in omega (arith, ap length found.2, eqb-true (size_at opcode) 3 three)
-        | false ↦ λ not_three k.
-            let two : length bytes ≡ 2 = elim (opcode / 16 == 3) as (λ b. cond b (short_branch at opcode word) (immediate opcode byte) ≡ Ok bytes → length bytes ≡ 2) [
-              | true ↦ λ m. short_length at opcode word bytes m
-              | false ↦ λ m. let found = mapped_ok (λ byte. opcode ∷ byte ∷ []) value_cause byte bytes m in sym (ap length found.2)
-            ] k in
-            omega (arith, two, (size_at-some opcode).0, (size_at-some opcode).1, eqb-false (size_at opcode) 1 not_one, eqb-false (size_at opcode) 3 not_three)
-      ] refl h
+      | false ↦ λ not_one h. elim (size_at opcode == 3)
+          as (λ b. (size_at opcode == 3) ≡ b → cond b (long_branch opcode word) rest_2 ≡ Ok bytes → length bytes ≡ size_at opcode) [
+            | true ↦ λ three k. let found =
+                mapped_ok (λ target. opcode ∷ word_bytes target) value_cause word bytes k in
+                omega (arith, ap length found.2, eqb-true (size_at opcode) 3 three)
+            | false ↦ λ not_three k.
+                let two : length bytes ≡ 2 =
+                elim (opcode / 16 == 3) as (λ b. cond b (short_branch at opcode word) (immediate opcode byte) ≡ Ok bytes → length bytes ≡ 2) [
+                  | true ↦ λ m. short_length at opcode word bytes m
+                  | false ↦ λ m. let found = mapped_ok (λ byte. opcode ∷ byte ∷ []) value_cause byte bytes m in sym (ap length found.2)
+                ] k in
+                omega (arith, two, (size_at-some opcode).0, (size_at-some opcode).1, eqb-false (size_at opcode) 1 not_one, eqb-false (size_at opcode) 3 not_three)
+          ] refl h
     ] refl e
 
 -- how many bytes a line has: those up to the next address, unless it moves the address or gives its label another value
@@ -148,7 +161,8 @@ parts_count before after at (Some Db) operands found bytes p e =
 parts_count before after at (Some Dw) operands found bytes p e =
     let same : laid at (at + 2 * length operands) ≡ found = cc in
     let values = mapped_ok (flat_map word_bytes) value_cause (values_of after at 65535 operands) bytes e in
-    let count : length bytes ≡ at + 2 * length operands - at = omega (arith, ap length values.2, length-words values.0, values_length after at 65535 operands values.0 values.1) in
+    let count : length bytes ≡ at + 2 * length operands - at =
+    omega (arith, ap length values.2, length-words values.0, values_length after at 65535 operands values.0 values.1) in
     count ∙ count_placed at (at + 2 * length operands) ∙ ap (count_in at) same
 parts_count before after at (Some Ds) operands found bytes p e =
     let from = mapped_ok (λ count. laid at (at + count)) (λ (fault : ValueFault). fault) (operand_value before at 65535 (first_operand operands)) found p in
@@ -171,18 +185,24 @@ judged_ok has_label large (Err fault) found e = absurd (cc)
 judged_ok has_label true (Ok l) found e = absurd (cc)
 judged_ok has_label false (Ok l) found e = ap Ok (chosen_ok (is_too_large has_label l) l found e)
 
-laid_parts_ok : (names : Names) (at : ℕ) (parts : Parsed) (found : Laid) → laid_parts names at parts ≡ Ok found → placed names at parts.word parts.operands ≡ Ok found
+laid_parts_ok : (names : Names) (at : ℕ) (parts : Parsed) (found : Laid) → laid_parts names at parts ≡ Ok found
+    → placed names at parts.word parts.operands ≡ Ok found
 unfolding laid_parts
 laid_parts_ok names at parts found e =
-    elim (is_duplicate names parts.label) as (λ b. cond b (Err Duplicate) (judged (is_some parts.label) (list_any has_large_number parts.operands) (placed names at parts.word parts.operands)) ≡ Ok found → placed names at parts.word parts.operands ≡ Ok found) [
+    elim (is_duplicate names parts.label)
+    as (λ b. cond b (Err Duplicate)
+    (judged (is_some parts.label) (list_any has_large_number parts.operands) (placed names at parts.word parts.operands)) ≡ Ok found
+    → placed names at parts.word parts.operands ≡ Ok found) [
       | true ↦ λ h. absurd (cc)
       | false ↦ λ h. judged_ok (is_some parts.label) (list_any has_large_number parts.operands) (placed names at parts.word parts.operands) found h
     ] e
 
 from_parts_count : (before after : Names) (at : ℕ) (r : Result Parsed LexFault) (found : Laid) (bytes : List ℕ)
-    → from_parts (laid_parts before at) r ≡ Ok found → from_parts (λ line. encoded_parts after at found.next line.word line.operands) r ≡ Ok bytes → length bytes ≡ count_in at found
+    → from_parts (laid_parts before at) r ≡ Ok found → from_parts (λ line. encoded_parts after at found.next line.word line.operands) r ≡ Ok bytes
+    → length bytes ≡ count_in at found
 from_parts_count before after at (Err fault) found bytes l e = absurd (cc)
-from_parts_count before after at (Ok parts) found bytes l e = parts_count before after at parts.word parts.operands found bytes (laid_parts_ok before at parts found l) e
+from_parts_count before after at (Ok parts) found bytes l e =
+    parts_count before after at parts.word parts.operands found bytes (laid_parts_ok before at parts found l) e
 
 line_count : (before after : Names) (at : ℕ) (line : List ℕ) (found : Laid) (bytes : List ℕ)
     → laid_out before at line ≡ Ok found → encoded after at found.next line ≡ Ok bytes → length bytes ≡ count_in at found
@@ -198,7 +218,8 @@ count_fits value at next low high = elim (value == at) as (λ b. at + cond b (ne
 
 line_fits : (before after : Names) (at : ℕ) (line : List ℕ) (found : Laid) (bytes : List ℕ) → at ≤ 65536 → found.next ≤ 65536
     → laid_out before at line ≡ Ok found → encoded after at found.next line ≡ Ok bytes → at + length bytes ≤ 65536
-line_fits before after at line found bytes low high l e = omega (arith, line_count before after at line found bytes l e, count_fits found.value at found.next low high)
+line_fits before after at line found bytes low high l e =
+    omega (arith, line_count before after at line found bytes l e, count_fits found.value at found.next low high)
 
 no_error : {X : Type 0} (r : Result X AsmCause) → result_err r ≡ None → (x : X) × (r ≡ Ok x)
 no_error (Ok x) e = (x, refl)
@@ -222,14 +243,17 @@ module _ (source : List (List ℕ)) where
       ∙ ap (λ n. count_between (value_from (laid_out (known_at source number).names at (line_at source number))) at n) (sym next)
 
   -- the bytes of a line end at address 65536 at most
-  pub bytes_fit : (names : List (List ℕ × ℕ)) (addresses values : List ℕ) → LaysOut source (length source) names addresses values → (number : ℕ) → number < length source → (after : Names) (bytes : List ℕ)
-      → encoded after (address_of source number) (address_of source (number + 1)) (line_at source number) ≡ Ok bytes → address_of source number + length bytes ≤ 65536
+  pub bytes_fit : (names : List (List ℕ × ℕ)) (addresses values : List ℕ) → LaysOut source (length source) names addresses values → (number : ℕ)
+      → number < length source → (after : Names) (bytes : List ℕ)
+      → encoded after (address_of source number) (address_of source (number + 1)) (line_at source number) ≡ Ok bytes
+      → address_of source number + length bytes ≤ 65536
   unfolding fault_1
   bytes_fit names addresses values plan number below after bytes e =
       let found = no_error (laid_out (known_at source number).names (address_of source number) (line_at source number)) (plan.faultless number below) in
       let next : address_of source (number + 1) ≡ found.0.next =
       ap (λ (k : Known). k.at) (known_at-next source number below ∙ ap (known_after (known_at source number) (label_in (line_at source number))) found.1) in
-      line_fits (known_at source number).names after (address_of source number) (line_at source number) found.0 bytes (plan.low number (omega arith)) (omega (arith, next, plan.low (number + 1) (omega arith))) found.1
+      line_fits (known_at source number).names after (address_of source number) (line_at source number) found.0 bytes (plan.low number (omega arith))
+      (omega (arith, next, plan.low (number + 1) (omega arith))) found.1
       (ap (λ n. encoded after (address_of source number) n (line_at source number)) (sym next) ∙ e)
 
   module _ (names : List (List ℕ × ℕ)) (addresses values : List ℕ) (plan : LaysOut source (length source) names addresses values) (number : ℕ) (below : number < length source) where
@@ -264,12 +288,14 @@ module _ (source : List (List ℕ)) where
           fault_here ∙ ap (fault_with (entry cells) at) puts.is
           ∙ ap (λ b. cond b (Some Overlap) None) puts.free
 
-      cell_here : (new : List (Option Cell)) (puts : PutsLine cells new (number + 1) at (encoded (value_in names) at next line)) (address : ℕ) → cell_of source number address ≡ cell_in (number + 1) at puts.bytes address
+      cell_here : (new : List (Option Cell)) (puts : PutsLine cells new (number + 1) at (encoded (value_in names) at next line)) (address : ℕ)
+          → cell_of source number address ≡ cell_in (number + 1) at puts.bytes address
       cell_here new puts address =
           ap (λ r. cell_in (number + 1) (address_of source number) (result_unwrap_or r []) address) (bytes_here line at next here place place_next ∙ puts.is)
           ∙ ap (λ a. cell_in (number + 1) a puts.bytes address) (sym place)
 
-      pub has_bytes_more : (new : List (Option Cell)) → PutsLine cells new (number + 1) at (encoded (value_in names) at next line) → HasBytes source (number + 1) new
+      pub has_bytes_more : (new : List (Option Cell)) → PutsLine cells new (number + 1) at (encoded (value_in names) at next line)
+          → HasBytes source (number + 1) new
       unfolding cell_before
       has_bytes_more new puts = record {
         faultless = below_more (λ i. fault_2 source i ≡ None) number so_far.faultless (none_here new puts);
@@ -282,7 +308,8 @@ module _ (source : List (List ℕ)) where
             ∙ grown;
       }
 
-      pub first_fault_2 : (cause : AsmCause) → fault_with (entry cells) at (encoded (value_in names) at next line) ≡ Some cause → IsFirstFault (fault_2 source) (length source) number cause
+      pub first_fault_2 : (cause : AsmCause) → fault_with (entry cells) at (encoded (value_in names) at next line) ≡ Some cause
+          → IsFirstFault (fault_2 source) (length source) number cause
       first_fault_2 cause e = record { inside = below; here = fault_here ∙ e; earlier = so_far.faultless }
 
 pub has_bytes_none : (source : List (List ℕ)) (cells : List (Option Cell)) → ((address : ℕ) → entry cells address ≡ None) → HasBytes source 0 cells
@@ -295,7 +322,8 @@ first_in_2 found fault count number (Fault line cause) is first = (number, is.0,
 first_in_2 found fault count number NoMemory is first = tt
 
 -- both passes give the assembly
-pub is_assembly : (source : List (List ℕ)) (made : Made) → LaysOut source (length source) made.names made.addresses made.values → HasBytes source (length source) made.cells → IsAssembly source made
+pub is_assembly : (source : List (List ℕ)) (made : Made) → LaysOut source (length source) made.names made.addresses made.values
+    → HasBytes source (length source) made.cells → IsAssembly source made
 is_assembly source made plan has = record {
   no_fault_1 = plan.faultless;
   no_fault_2 = has.faultless;

@@ -59,15 +59,19 @@ value_in-defined old new key value other here others =
       | false ↦ λ e.
           others (has_bytes other)
           (λ x y is. ap (λ bytes. is_eq (slice_cmp nat_cmp bytes y.items)) (bytes_same other x.items (sym (is_eq-slice_cmp other x.items) ∙ is)))
-          (λ k is. is_eq-slice_cmp other k.items ∙ ap (bytes_eq other) (sym (bytes_same key.items k.items (sym (is_eq-slice_cmp key.items k.items) ∙ is))) ∙ bytes_apart key.items other e)
+          (λ k is. is_eq-slice_cmp other k.items
+          ∙ ap (bytes_eq other) (sym (bytes_same key.items k.items (sym (is_eq-slice_cmp key.items k.items) ∙ is)))
+          ∙ bytes_apart key.items other e)
           ∙ sym (value_in-shown old other)
     ] refl
 
-below_all : (key : Key) (entries : List (Key × ℕ)) → AllByRecursion (λ other. key_cmp key other ≡ Less) (keys_of entries) → AllByRecursion (λ other. slice_cmp nat_cmp key.items other ≡ Less) (keys_of (shown entries))
+below_all : (key : Key) (entries : List (Key × ℕ)) → AllByRecursion (λ other. key_cmp key other ≡ Less) (keys_of entries)
+    → AllByRecursion (λ other. slice_cmp nat_cmp key.items other ≡ Less) (keys_of (shown entries))
 below_all key [] below = tt
 below_all key (e ∷ entries) below = (below.0, below_all key entries below.1)
 
-pub shown_in_order : (entries : List (Key × ℕ)) → IsStrictlySortedBy key_cmp (keys_of entries) → IsStrictlySortedBy (slice_cmp nat_cmp) (keys_of (shown entries))
+pub shown_in_order : (entries : List (Key × ℕ)) → IsStrictlySortedBy key_cmp (keys_of entries)
+    → IsStrictlySortedBy (slice_cmp nat_cmp) (keys_of (shown entries))
 unfolding IsStrictlySortedBy
 shown_in_order [] order = tt
 shown_in_order (e ∷ entries) order = (below_all e.0 entries order.0, shown_in_order entries order.1)

@@ -22,7 +22,8 @@ cell_code = code_by (ℕ × ℕ) (coded× coded_ℕ coded_ℕ) (λ cell. (cell.b
 abbrev pub made_code : Coded Made
 made_code =
     code_by (List (Option Cell) × (List (List ℕ × ℕ) × (List ℕ × List ℕ)))
-    (coded× (coded_list (coded_option cell_code)) (coded× (coded_list (coded× (coded_list coded_ℕ) coded_ℕ)) (coded× (coded_list coded_ℕ) (coded_list coded_ℕ))))
+    (coded× (coded_list (coded_option cell_code))
+    (coded× (coded_list (coded× (coded_list coded_ℕ) coded_ℕ)) (coded× (coded_list coded_ℕ) (coded_list coded_ℕ))))
     (λ made. (made.cells, (made.names, (made.addresses, made.values))))
     (λ parts. record { cells = parts.0; names = parts.1.0; addresses = parts.1.1.0; values = parts.1.1.1 })
     (λ _. refl)

@@ -45,16 +45,19 @@ behind-onto p x [] there = absurd (omega arith)
 behind-onto p x (part ∷ parts) there = refl
 
 -- parts of which none behind the first is empty
-parts_fit : (cuts : ℕ → Bool) (p : List ℕ → Bool) → p [] ≡ false → (xs : List ℕ) → behind_first p (slice_split cuts xs) ≡ true → weight (slice_split cuts xs) ≤ length xs
+parts_fit : (cuts : ℕ → Bool) (p : List ℕ → Bool) → p [] ≡ false → (xs : List ℕ) → behind_first p (slice_split cuts xs) ≡ true
+    → weight (slice_split cuts xs) ≤ length xs
 parts_fit cuts p empty [] all = omega arith
 parts_fit cuts p empty (x ∷ xs) all =
     let parts = slice_split cuts xs in
-    elim (cuts x) as (λ b. behind_first p (cond b ([] ∷ parts) (onto_first x parts)) ≡ true → weight (cond b ([] ∷ parts) (onto_first x parts)) ≤ suc (length xs)) [
+    elim (cuts x) as (λ b. behind_first p (cond b ([] ∷ parts) (onto_first x parts)) ≡ true
+    → weight (cond b ([] ∷ parts) (onto_first x parts)) ≤ suc (length xs)) [
       | true ↦ λ h. let found = from_all p empty parts (some_part cuts xs) h in omega (arith, found.1, parts_fit cuts p empty xs found.0)
       | false ↦ λ h. omega (arith, weight-onto x parts (some_part cuts xs), parts_fit cuts p empty xs (sym (behind-onto p x parts (some_part cuts xs)) ∙ h))
     ] all
 
-few_parts : (cuts : ℕ → Bool) (p : List ℕ → Bool) → p [] ≡ false → (xs : List ℕ) → list_all p (slice_split cuts xs) ≡ true → 2 * length (slice_split cuts xs) ≤ length xs + 1
+few_parts : (cuts : ℕ → Bool) (p : List ℕ → Bool) → p [] ≡ false → (xs : List ℕ) → list_all p (slice_split cuts xs) ≡ true
+    → 2 * length (slice_split cuts xs) ≤ length xs + 1
 few_parts cuts p empty xs all =
     let found = from_all p empty (slice_split cuts xs) (some_part cuts xs) all in
     omega (arith, found.1, parts_fit cuts p empty xs found.0)
@@ -67,13 +70,16 @@ no_expression = refl
 -- of more than 128 operands some one is no expression
 not_all : (text : List ℕ) → length text ≤ 255 → 128 < length (operands_in text) → list_all is_expression (operands_in text) ≡ false
 unfolding operands_in
-not_all text short many = elim (length text == 0) as (λ b. 128 < length (cond b [] (map trimmed (slice_split is_comma text))) → list_all is_expression (cond b [] (map trimmed (slice_split is_comma text))) ≡ false) [
-  | true ↦ λ h. absurd (omega arith)
-  | false ↦ λ h. false_from_ne_true _ (λ all.
-      let each : list_all (λ part. is_expression (trimmed part)) (slice_split is_comma text) ≡ true = sym (list_all-map is_expression trimmed (slice_split is_comma text)) ∙ all in
-      let few = few_parts is_comma (λ part. is_expression (trimmed part)) no_expression text each in
-      omega (arith, length-map (slice_split is_comma text) trimmed))
-] many
+not_all text short many =
+    elim (length text == 0) as (λ b. 128 < length (cond b [] (map trimmed (slice_split is_comma text)))
+    → list_all is_expression (cond b [] (map trimmed (slice_split is_comma text))) ≡ false) [
+      | true ↦ λ h. absurd (omega arith)
+      | false ↦ λ h. false_from_ne_true _ (λ all.
+          let each : list_all (λ part. is_expression (trimmed part)) (slice_split is_comma text) ≡ true =
+          sym (list_all-map is_expression trimmed (slice_split is_comma text)) ∙ all in
+          let few = few_parts is_comma (λ part. is_expression (trimmed part)) no_expression text each in
+          omega (arith, length-map (slice_split is_comma text) trimmed))
+    ] many
 
 none_written : (kind : Operands) (a b : List ℕ) (rest : List (List ℕ)) → number_written kind (a ∷ b ∷ rest) ≡ None
 none_written Register a b rest = refl
@@ -81,7 +87,8 @@ none_written Port a b rest = refl
 none_written Expression a b rest = refl
 none_written Nothing a b rest = cond-false (length (a ∷ b ∷ rest) == 0) (Some 0) None (ne_eqb (length (a ∷ b ∷ rest)) 0 (λ e. omega arith))
 
-not_taken : (directive : Word) (has_label : Bool) (a b : List ℕ) (rest : List (List ℕ)) → list_all is_expression (a ∷ b ∷ rest) ≡ false → takes directive has_label (a ∷ b ∷ rest) ≡ false
+not_taken : (directive : Word) (has_label : Bool) (a b : List ℕ) (rest : List (List ℕ)) → list_all is_expression (a ∷ b ∷ rest) ≡ false
+    → takes directive has_label (a ∷ b ∷ rest) ≡ false
 not_taken (Code opcode) has_label a b rest wrong = refl
 not_taken Org has_label a b rest wrong = refl
 not_taken Equ has_label a b rest wrong = and_right has_label false refl
@@ -90,7 +97,8 @@ not_taken Dw has_label a b rest wrong = and_right (not (length (a ∷ b ∷ rest
 not_taken Ds has_label a b rest wrong = refl
 not_taken Page has_label a b rest wrong = ne_eqb (length (a ∷ b ∷ rest)) 0 (λ e. omega arith)
 
-no_meaning : (entry : Entry) (has_label : Bool) (operands : List (List ℕ)) → 2 ≤ length operands → list_all is_expression operands ≡ false → meaning_of entry has_label operands ≡ None
+no_meaning : (entry : Entry) (has_label : Bool) (operands : List (List ℕ)) → 2 ≤ length operands → list_all is_expression operands ≡ false
+    → meaning_of entry has_label operands ≡ None
 unfolding meaning_of coded
 no_meaning entry has_label [] long wrong = absurd (omega arith)
 no_meaning entry has_label (a ∷ []) long wrong = absurd (omega arith)
@@ -98,5 +106,6 @@ no_meaning (Mnemonic opcode) has_label (a ∷ b ∷ rest) long wrong = rw (none_
 no_meaning (Directive directive) has_label (a ∷ b ∷ rest) long wrong = rw (not_taken directive has_label a b rest wrong) refl
 
 -- more than 128 operands are wrong for each word
-pub too_many : (entry : Entry) (has_label : Bool) (text : List ℕ) → length text ≤ 255 → 128 < length (operands_in text) → meaning_of entry has_label (operands_in text) ≡ None
+pub too_many : (entry : Entry) (has_label : Bool) (text : List ℕ) → length text ≤ 255 → 128 < length (operands_in text)
+    → meaning_of entry has_label (operands_in text) ≡ None
 too_many entry has_label text short many = no_meaning entry has_label (operands_in text) (omega arith) (not_all text short many)

@@ -24,7 +24,8 @@ get_or-opcodes k below = get_or-range 256 0 k below ∙ omega arith
 spells_at : (word : List ℕ) (k : ℕ) → k < 256 → spells word (mnemonic_at (get_or opcodes k 0)) ≡ spells word (mnemonic_at k)
 spells_at word k below = ap (λ opcode. spells word (mnemonic_at opcode)) (get_or-opcodes k below)
 
-pub named_first : (word : List ℕ) (i : ℕ) → i < 256 → ((k : ℕ) → k < i → spells word (mnemonic_at k) ≡ false) → spells word (mnemonic_at i) ≡ true → opcode_named word ≡ Some i
+pub named_first : (word : List ℕ) (i : ℕ) → i < 256 → ((k : ℕ) → k < i → spells word (mnemonic_at k) ≡ false) → spells word (mnemonic_at i) ≡ true
+    → opcode_named word ≡ Some i
 unfolding opcode_named
 named_first word i below before here =
     find_first (λ opcode. spells word (mnemonic_at opcode)) opcodes i (omega (arith, length-opcodes))

@@ -14,7 +14,8 @@ pub slice_split_whole : (p : ℕ → Bool) (xs : List ℕ) → position_or_len p
 slice_split_whole p xs e = slice_split_none p xs (λ k d below. fails_before_first p xs k d (omega (arith, e)))
 
 -- else its first part ends there
-pub slice_split_cut : (p : ℕ → Bool) (xs : List ℕ) → position_or_len p xs < length xs → slice_split p xs ≡ take (position_or_len p xs) xs ∷ slice_split p (drop (position_or_len p xs + 1) xs)
+pub slice_split_cut : (p : ℕ → Bool) (xs : List ℕ) → position_or_len p xs < length xs
+    → slice_split p xs ≡ take (position_or_len p xs) xs ∷ slice_split p (drop (position_or_len p xs + 1) xs)
 slice_split_cut p xs below = slice_split_first p xs 0 below
 
 -- the bytes at which a text is cut: none, or the first and those of what is left
@@ -22,22 +23,27 @@ pub filter_whole : (p : ℕ → Bool) (xs : List ℕ) → position_or_len p xs �
 filter_whole p [] e = refl
 filter_whole p (x ∷ xs) e = grind (arith, filter_whole p xs)
 
-pub filter_cut : (p : ℕ → Bool) (xs : List ℕ) → position_or_len p xs < length xs → filter p xs ≡ get_or xs (position_or_len p xs) 0 ∷ filter p (drop (position_or_len p xs + 1) xs)
+pub filter_cut : (p : ℕ → Bool) (xs : List ℕ) → position_or_len p xs < length xs
+    → filter p xs ≡ get_or xs (position_or_len p xs) 0 ∷ filter p (drop (position_or_len p xs + 1) xs)
 filter_cut p [] below = absurd (omega arith)
-filter_cut p (x ∷ xs) below = elim (p x) as (λ b. cond (not b) (1 + position_or_len p xs) 0 < length (x ∷ xs) → cond b (x ∷ filter p xs) (filter p xs) ≡ get_or (x ∷ xs) (cond (not b) (1 + position_or_len p xs) 0) 0 ∷ filter p (drop (cond (not b) (1 + position_or_len p xs) 0 + 1) (x ∷ xs))) [
-  | true ↦ λ h. refl
-  | false ↦ λ h.
-      let first : 1 + position_or_len p xs ≡ suc (position_or_len p xs) = omega arith in
-      let second : suc (position_or_len p xs) + 1 ≡ suc (position_or_len p xs + 1) = omega arith in
-      rw (first, second) (filter_cut p xs (omega arith))
-] below
+filter_cut p (x ∷ xs) below =
+    elim (p x) as (λ b. cond (not b) (1 + position_or_len p xs) 0 < length (x ∷ xs)
+    → cond b (x ∷ filter p xs) (filter p xs) ≡ get_or (x ∷ xs) (cond (not b) (1 + position_or_len p xs) 0) 0
+    ∷ filter p (drop (cond (not b) (1 + position_or_len p xs) 0 + 1) (x ∷ xs))) [
+      | true ↦ λ h. refl
+      | false ↦ λ h.
+          let first : 1 + position_or_len p xs ≡ suc (position_or_len p xs) = omega arith in
+          let second : suc (position_or_len p xs) + 1 ≡ suc (position_or_len p xs + 1) = omega arith in
+          rw (first, second) (filter_cut p xs (omega arith))
+    ] below
 
 -- the terms of a sum: one, or the first and those behind its sign
 pub signed_whole : (sign : ℕ) (xs : List ℕ) → position_or_len is_sign xs ≡ length xs → signed_terms sign xs ≡ (sign, xs) ∷ []
 signed_whole sign xs e = rw (slice_split_whole is_sign xs e, filter_whole is_sign xs e) refl
 
 pub signed_cut : (sign : ℕ) (xs : List ℕ) → position_or_len is_sign xs < length xs
-    → signed_terms sign xs ≡ (sign, take (position_or_len is_sign xs) xs) ∷ signed_terms (get_or xs (position_or_len is_sign xs) 0) (drop (position_or_len is_sign xs + 1) xs)
+    → signed_terms sign xs ≡ (sign, take (position_or_len is_sign xs) xs)
+    ∷ signed_terms (get_or xs (position_or_len is_sign xs) 0) (drop (position_or_len is_sign xs + 1) xs)
 signed_cut sign xs below = rw (slice_split_cut is_sign xs below, filter_cut is_sign xs below) refl
 
 -- whether a text is cut
@@ -68,7 +74,9 @@ pub find_none : (p : ℕ → Bool) (xs : List ℕ) → ((k : ℕ) → k < length
 find_none p [] h = refl
 find_none p (x ∷ xs) h = cond-false (p x) (Some x) (find p xs) (h 0 (omega arith)) ∙ find_none p xs (λ k below. h (suc k) (omega arith))
 
-pub find_first : (p : ℕ → Bool) (xs : List ℕ) (i : ℕ) → i < length xs → ((k : ℕ) → k < i → p (get_or xs k 0) ≡ false) → p (get_or xs i 0) ≡ true → find p xs ≡ Some (get_or xs i 0)
+pub find_first : (p : ℕ → Bool) (xs : List ℕ) (i : ℕ) → i < length xs → ((k : ℕ) → k < i → p (get_or xs k 0) ≡ false) → p (get_or xs i 0) ≡ true
+    → find p xs ≡ Some (get_or xs i 0)
 find_first p [] i below h e = absurd (omega arith)
 find_first p (x ∷ xs) zero below h e = cond-true (p x) (Some x) (find p xs) e
-find_first p (x ∷ xs) (suc i) below h e = cond-false (p x) (Some x) (find p xs) (h 0 (omega arith)) ∙ find_first p xs i (omega arith) (λ k under. h (suc k) (omega arith)) e
+find_first p (x ∷ xs) (suc i) below h e =
+    cond-false (p x) (Some x) (find p xs) (h 0 (omega arith)) ∙ find_first p xs i (omega arith) (λ k under. h (suc k) (omega arith)) e

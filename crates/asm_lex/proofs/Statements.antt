@@ -21,7 +21,8 @@ module _ (has_label : Bool) (operands : List (List ℕ)) (word : List ℕ) where
 
   word_meaning-some : 0 < length word → word_meaning has_label operands word ≡ entry_meaning has_label operands (entry_of word)
   unfolding word_meaning
-  word_meaning-some there = cond-false (length word == 0) (Ok None) (entry_meaning has_label operands (entry_of word)) (ne_eqb (length word) 0 (λ e. omega arith))
+  word_meaning-some there =
+      cond-false (length word == 0) (Ok None) (entry_meaning has_label operands (entry_of word)) (ne_eqb (length word) 0 (λ e. omega arith))
 
   -- a word that isn't in the table
   pub word_meaning-unknown : 0 < length word → entry_of word ≡ None → word_meaning has_label operands word ≡ Err UnknownMnemonic
@@ -29,12 +30,14 @@ module _ (has_label : Bool) (operands : List (List ℕ)) (word : List ℕ) where
   word_meaning-unknown there e = word_meaning-some there ∙ ap (entry_meaning has_label operands) e
 
   -- wrong operands
-  pub word_meaning-wrong : (entry : Entry) → 0 < length word → entry_of word ≡ Some entry → meaning_of entry has_label operands ≡ None → word_meaning has_label operands word ≡ Err BadOperand
+  pub word_meaning-wrong : (entry : Entry) → 0 < length word → entry_of word ≡ Some entry → meaning_of entry has_label operands ≡ None
+      → word_meaning has_label operands word ≡ Err BadOperand
   unfolding entry_meaning
   word_meaning-wrong entry there e wrong =
       word_meaning-some there ∙ ap (entry_meaning has_label operands) e ∙ ap (λ meaning. ok_or (option_map Some meaning) BadOperand) wrong
 
-  pub word_meaning-known : (entry : Entry) (meaning : Word) → 0 < length word → entry_of word ≡ Some entry → meaning_of entry has_label operands ≡ Some meaning → word_meaning has_label operands word ≡ Ok (Some meaning)
+  pub word_meaning-known : (entry : Entry) (meaning : Word) → 0 < length word → entry_of word ≡ Some entry
+      → meaning_of entry has_label operands ≡ Some meaning → word_meaning has_label operands word ≡ Ok (Some meaning)
   unfolding entry_meaning
   word_meaning-known entry meaning there e right =
       word_meaning-some there ∙ ap (entry_meaning has_label operands) e ∙ ap (λ meaning. ok_or (option_map Some meaning) BadOperand) right
@@ -68,14 +71,22 @@ parsed-code line e = cond-false (has_bad_bytes line) (Err BadText) (parsed_code 
 
 pub parsed-bad_name : (line : List ℕ) → has_bad_bytes line ≡ false → has_bad_name (code_of line) ≡ true → parsed line ≡ Err BadText
 unfolding parsed_code
-parsed-bad_name line allowed e = parsed-code line allowed ∙ cond-true (has_bad_name (code_of line)) (Err BadText) (with_meaning (code_of line) (word_meaning (is_some (label_of (code_of line))) (operands_in (behind_word (statement_of (code_of line)))) (word_of (statement_of (code_of line))))) e
+parsed-bad_name line allowed e =
+    parsed-code line allowed ∙ cond-true (has_bad_name (code_of line)) (Err BadText)
+    (with_meaning (code_of line) (word_meaning (is_some (label_of (code_of line))) (operands_in (behind_word (statement_of (code_of line))))
+    (word_of (statement_of (code_of line))))) e
 
 pub parsed-statement : (line : List ℕ) → has_bad_bytes line ≡ false → has_bad_name (code_of line) ≡ false → (meaning : Result (Option Word) LexFault)
-    → word_meaning (is_some (label_of (code_of line))) (operands_in (behind_word (statement_of (code_of line)))) (word_of (statement_of (code_of line))) ≡ meaning
-    → parsed line ≡ result_map_both (λ word. record { label = label_of (code_of line); word = word; operands = operands_in (behind_word (statement_of (code_of line))) }) (λ fault. fault) meaning
+    → word_meaning (is_some (label_of (code_of line))) (operands_in (behind_word (statement_of (code_of line))))
+    (word_of (statement_of (code_of line))) ≡ meaning
+    → parsed line ≡ result_map_both
+    (λ word. record { label = label_of (code_of line); word = word; operands = operands_in (behind_word (statement_of (code_of line))) })
+    (λ fault. fault) meaning
 unfolding parsed_code
 parsed-statement line allowed named meaning e =
-    parsed-code line allowed ∙ cond-false (has_bad_name (code_of line)) (Err BadText) (with_meaning (code_of line) (word_meaning (is_some (label_of (code_of line))) (operands_in (behind_word (statement_of (code_of line)))) (word_of (statement_of (code_of line))))) named
+    parsed-code line allowed ∙ cond-false (has_bad_name (code_of line)) (Err BadText)
+    (with_meaning (code_of line) (word_meaning (is_some (label_of (code_of line))) (operands_in (behind_word (statement_of (code_of line))))
+    (word_of (statement_of (code_of line))))) named
     ∙ ap (with_meaning (code_of line)) e
 
 pub positive : (n : ℕ) → (n == 0) ≡ false → 0 < n

@@ -23,7 +23,8 @@ completes_first names here text sum e = record {
 }
 
 -- one more term
-pub completes_next : (names : List ℕ → Option ℕ) (here : ℕ) (text : List ℕ) (sum : ℤ) (sign : ℕ) (terms term : List ℕ) (more : Option (ℕ × List ℕ)) (value : ℕ) (next : ℤ)
+pub completes_next : (names : List ℕ → Option ℕ) (here : ℕ) (text : List ℕ) (sum : ℤ) (sign : ℕ) (terms term : List ℕ) (more : Option (ℕ × List ℕ))
+    (value : ℕ) (next : ℤ)
     → Completes names here text sum (Some (sign, terms))
     → terms_of terms ≡ term ∷ left_terms more
     → signed_terms sign terms ≡ (sign, term) ∷ left_signed more
@@ -32,18 +33,23 @@ pub completes_next : (names : List ℕ → Option ℕ) (here : ℕ) (text : List
     → next ≡ cond (sign == 45) (sum -ℤ pos value) (sum +ℤ pos value)
     → Completes names here text next more
 completes_next names here text sum sign terms term more value next so_far parts signed there is step =
-    let undefined_too : list_any (λ term. is_none (term_value names here term)) (terms_of terms) ≡ (is_none (term_value names here term) || list_any (λ term. is_none (term_value names here term)) (left_terms more)) =
+    let undefined_too : list_any (λ term. is_none (term_value names here term)) (terms_of terms)
+    ≡ (is_none (term_value names here term) || list_any (λ term. is_none (term_value names here term)) (left_terms more)) =
     ap (list_any (λ term. is_none (term_value names here term))) parts in
-    let skips : (is_none (term_value names here term) || list_any (λ term. is_none (term_value names here term)) (left_terms more)) ≡ list_any (λ term. is_none (term_value names here term)) (left_terms more) =
+    let skips : (is_none (term_value names here term) || list_any (λ term. is_none (term_value names here term)) (left_terms more))
+    ≡ list_any (λ term. is_none (term_value names here term)) (left_terms more) =
     ap (λ b. b || list_any (λ term. is_none (term_value names here term)) (left_terms more)) (sym there) in
     let large_parts : has_large_number text ≡ false → (is_large term || list_any is_large (left_terms more)) ≡ false =
     λ h. sym (ap (list_any is_large) parts) ∙ so_far.small h in
     let one : has_large_number text ≡ false → with_term names here sum (sign, term) ≡ next =
-    λ h. ap (λ (v : Option ℕ). cond (sign == 45) (sum -ℤ pos (unwrap_or v 0)) (sum +ℤ pos (unwrap_or v 0))) (sym (is (or_parts _ _ (large_parts h)).0)) ∙ sym step in
+    λ h. ap (λ (v : Option ℕ). cond (sign == 45) (sum -ℤ pos (unwrap_or v 0)) (sum +ℤ pos (unwrap_or v 0)))
+    (sym (is (or_parts _ _ (large_parts h)).0)) ∙ sym step in
     record {
       undefined = so_far.undefined ∙ undefined_too ∙ skips;
       small = λ h. (or_parts _ _ (large_parts h)).1;
-      total = λ h. ap (λ s. fold (with_term names here) s (left_signed more)) (sym (one h)) ∙ sym (ap (fold (with_term names here) sum) signed) ∙ so_far.total h;
+      total =
+          λ h. ap (λ s. fold (with_term names here) s (left_signed more)) (sym (one h)) ∙ sym (ap (fold (with_term names here) sum) signed)
+          ∙ so_far.total h;
     }
 
 -- a term without a value
@@ -84,7 +90,8 @@ name_first terms term more parts e =
 pub bound_next : (m n : ℕ) → m ≤ n → n + 1 ≤ 256 → m ≤ 256
 bound_next m n within short = omega arith
 
-pub low_next : (m n : ℕ) (a b : ℤ) → m ≤ n → n + 1 ≤ 256 → pos 0 ≤ℤ (a +ℤ pos (65536 * (256 - (n + 1)))) → a ≤ℤ (b +ℤ pos 65536) → pos 0 ≤ℤ (b +ℤ pos (65536 * (256 - m)))
+pub low_next : (m n : ℕ) (a b : ℤ) → m ≤ n → n + 1 ≤ 256 → pos 0 ≤ℤ (a +ℤ pos (65536 * (256 - (n + 1)))) → a ≤ℤ (b +ℤ pos 65536)
+    → pos 0 ≤ℤ (b +ℤ pos (65536 * (256 - m)))
 low_next m n a b within short low step = omega (arith, ints)
 
 pub high_next : (m n : ℕ) (a b : ℤ) → m ≤ n → n + 1 ≤ 256 → a ≤ℤ pos (65536 * (256 - (n + 1))) → b ≤ℤ (a +ℤ pos 65536) → b ≤ℤ pos (65536 * (256 - m))

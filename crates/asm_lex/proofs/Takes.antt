@@ -23,7 +23,9 @@ is_for_expression Nothing = false
 
 -- where a kind takes no expression, its opcodes are instructions of one byte
 abbrev is_plain : Kind → Bool
-is_plain kind = is_for_expression (operands_of kind) || agree_below (λ number. size_of (kind_of (first_of kind + number)) == 1) (λ number. true) (suc (greatest_of kind))
+is_plain kind =
+    is_for_expression (operands_of kind)
+    || agree_below (λ number. size_of (kind_of (first_of kind + number)) == 1) (λ number. true) (suc (greatest_of kind))
 
 plain : (kind : Kind) → is_plain kind ≡ true
 plain Idl = refl
@@ -111,13 +113,15 @@ second : (a b : Bool) → (a || b) ≡ true → a ≡ false → b ≡ true
 second true b or not = absurd (cc)
 second false b or not = or
 
-one_byte : (kind : Kind) (number : ℕ) → is_for_expression (operands_of kind) ≡ false → number ≤ greatest_of kind → size_of (kind_of (first_of kind + number)) ≡ 1
+one_byte : (kind : Kind) (number : ℕ) → is_for_expression (operands_of kind) ≡ false → number ≤ greatest_of kind
+    → size_of (kind_of (first_of kind + number)) ≡ 1
 one_byte kind number other within =
     eqb-true (size_of (kind_of (first_of kind + number))) 1
     (agree_below_at (λ number. size_of (kind_of (first_of kind + number)) == 1) (λ number. true) (suc (greatest_of kind)) number
     (second (is_for_expression (operands_of kind)) _ (plain kind) other) (omega arith))
 
-is_written : (kind : Operands) (operands : List (List ℕ)) (number : ℕ) → number_written kind operands ≡ Some number → is_for_expression kind ≡ true → is_one_expression operands ≡ true
+is_written : (kind : Operands) (operands : List (List ℕ)) (number : ℕ) → number_written kind operands ≡ Some number → is_for_expression kind ≡ true
+    → is_one_expression operands ≡ true
 is_written Register operands number e is = absurd (cc)
 is_written Port operands number e is = absurd (cc)
 is_written Expression operands number e is = (cond_some (is_one_expression operands) 0 number e).0
@@ -143,7 +147,8 @@ taken Dw has_label operands e = e
 taken Ds has_label operands e = e
 taken Page has_label operands e = tt
 
-pub meant_operands : (entry : Entry) (has_label : Bool) (operands : List (List ℕ)) (word : Word) → meaning_of entry has_label operands ≡ Some word → HasItsOperands (Some word) operands
+pub meant_operands : (entry : Entry) (has_label : Bool) (operands : List (List ℕ)) (word : Word) → meaning_of entry has_label operands ≡ Some word
+    → HasItsOperands (Some word) operands
 unfolding meaning_of
 meant_operands (Directive directive) has_label operands word e =
     let parts = cond_some (takes directive has_label operands) directive word e in

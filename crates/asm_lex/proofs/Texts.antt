@@ -15,7 +15,8 @@ use Rattle.asm_lex.specs.Spans.{text_at, IsWithin, AreWithin, AreInOrder}
 use Rattle.asm_lex.proofs.Splits.{part_of_part}
 
 pub length-text : (line : List ℕ) (span : Span) → IsWithin line span → length (text_at line span) ≡ span.to - span.from
-length-text line span within = omega (arith, length-take (span.to - span.from) (drop span.from line), length-drop span.from line, within.in_order, within.inside)
+length-text line span within =
+    omega (arith, length-take (span.to - span.from) (drop span.from line), length-drop span.from line, within.in_order, within.inside)
 
 -- the whole line
 pub text-whole : (line : List ℕ) → take (length line - 0) (drop 0 line) ≡ line
@@ -31,7 +32,13 @@ text_behind line from mid to low high inside =
     let part : take (to - mid) (drop (from + (mid - from)) line) ≡ take (to - mid) (drop (mid - from) (take (to - from) (drop from line))) =
     ap (λ n. take n (drop (from + (mid - from)) line)) (sym keeps) ∙ part_of_part line from to (mid - from) (to - mid) (omega arith) in
     let rest : take (to - mid) (drop (mid - from) (take (to - from) (drop from line))) ≡ drop (mid - from) (take (to - from) (drop from line)) =
-    take_all (to - mid) _ (omega (arith, length-drop (mid - from) (take (to - from) (drop from line)), length-take (to - from) (drop from line), length-drop from line)) in
+    take_all (to - mid) _ (omega (
+      arith,
+      length-drop (mid - from) (take (to - from) (drop from line)),
+      length-take (to
+          - from) (drop from line),
+      length-drop from line,
+    )) in
     ap (λ n. take (to - mid) (drop n line)) (sym skips) ∙ part ∙ rest ∙ ap (λ n. drop n (take (to - from) (drop from line))) (sym front)
 
 -- the operands of an empty text, and of one that isn't
@@ -44,16 +51,26 @@ unfolding operands_in
 operands-some text there = sym (cond-false (length text == 0) [] (map trimmed (slice_split is_comma text)) (ne_eqb (length text) 0 (λ e. omega arith)))
 
 -- one more operand
-pub operands-step : (done : List (List ℕ)) (first operand : List ℕ) (whole rest all : List (List ℕ)) → done ++ map trimmed whole ≡ all → whole ≡ first ∷ rest → operand ≡ trimmed first
+pub operands-step : (done : List (List ℕ)) (first operand : List ℕ) (whole rest all : List (List ℕ)) → done ++ map trimmed whole ≡ all
+    → whole ≡ first ∷ rest → operand ≡ trimmed first
     → (done ++ operand ∷ []) ++ map trimmed rest ≡ all
 operands-step done first operand whole rest all so_far parts same =
     append_assoc done (operand ∷ []) (map trimmed rest) ∙ ap (λ o. done ++ (o ∷ map trimmed rest)) same ∙ ap (λ ps. done ++ map trimmed ps) (sym parts) ∙ so_far
 
-pub operands-full : (done : List (List ℕ)) (text : List ℕ) (all : List (List ℕ)) → done ++ map trimmed (slice_split is_comma text) ≡ all → length done ≡ 128 → 128 < length all
+pub operands-full : (done : List (List ℕ)) (text : List ℕ) (all : List (List ℕ)) → done ++ map trimmed (slice_split is_comma text) ≡ all
+    → length done ≡ 128 → 128 < length all
 operands-full done text all so_far full =
-    omega (arith, ap length so_far, length-append done (map trimmed (slice_split is_comma text)), length-map (slice_split is_comma text) trimmed, length-slice_split is_comma text)
+    omega (
+      arith,
+      ap length so_far,
+      length-append done (map trimmed
+          (slice_split is_comma text)),
+      length-map (slice_split is_comma text) trimmed,
+      length-slice_split is_comma text,
+    )
 
-pub in_order-push : (start : ℕ) (spans : List Span) (mid : ℕ) (span : Span) (end : ℕ) → AreInOrder start spans mid → mid ≤ span.from → span.from ≤ span.to → span.to ≤ end → AreInOrder start (spans ++ span ∷ []) end
+pub in_order-push : (start : ℕ) (spans : List Span) (mid : ℕ) (span : Span) (end : ℕ) → AreInOrder start spans mid → mid ≤ span.from
+    → span.from ≤ span.to → span.to ≤ end → AreInOrder start (spans ++ span ∷ []) end
 in_order-push start [] mid span end order before inside behind = (omega arith, inside, behind)
 in_order-push start (s ∷ spans) mid span end order before inside behind = (order.0, order.1, in_order-push s.to spans mid span end order.2 before inside behind)
 
@@ -102,7 +119,13 @@ pub empty_statement : (code : List ℕ) → length (word_of (statement_of code))
 empty_statement code e =
     let s = statement_of code in
     let none : length s ≡ 0 = empty_word _ e in
-    omega (arith, shorter-trailing (without_leading_blanks (drop (length (word_of s)) s)), shorter-leading (drop (length (word_of s)) s), length-drop (length (word_of s)) s)
+    omega (
+      arith,
+      shorter-trailing (without_leading_blanks (drop (length (word_of s)) s)),
+      shorter-leading (drop
+          (length (word_of s)) s),
+      length-drop (length (word_of s)) s,
+    )
 
 in_order-le : (spans : List Span) (start end : ℕ) → AreInOrder start spans end → start ≤ end
 in_order-le [] start end order = order
@@ -120,7 +143,8 @@ in_order-wider (s ∷ spans) low start high end a b o = (omega (arith, o.0), o.1
 
 -- the spans of a line in order: the label, the word's place aside, then the operands
 pub in_order-line : (label : Option Span) (word behind : Span) (operands : List Span) (end : ℕ)
-    → AreInOrder 0 (option_to_list label ++ word ∷ behind ∷ []) end → AreInOrder behind.from operands behind.to → AreInOrder 0 (option_to_list label ++ operands) end
+    → AreInOrder 0 (option_to_list label ++ word ∷ behind ∷ []) end → AreInOrder behind.from operands behind.to
+    → AreInOrder 0 (option_to_list label ++ operands) end
 in_order-line None word behind operands end order inner =
     in_order-wider operands 0 behind.from behind.to end (omega arith) order.2.2 inner
 in_order-line (Some label) word behind operands end order inner =

@@ -19,4 +19,5 @@ module _ {F : Type 0} (look : Shared F (Bor (List ℕ) × Unit {0}) (Option ℕ)
   TakesTerm term = (name : Bor (List ℕ)) → IsTrue (is_name term) → name.now ≡ term → look.pre f (name, tt)
 
   abbrev pub AnswersTermAs : List ℕ → (List ℕ → Option ℕ) → Type 0
-  AnswersTermAs term names = (name : Bor (List ℕ)) (answer : Option ℕ) → IsTrue (is_name term) → name.now ≡ term → look.post f (name, tt) answer → answer ≡ names term
+  AnswersTermAs term names =
+      (name : Bor (List ℕ)) (answer : Option ℕ) → IsTrue (is_name term) → name.now ≡ term → look.post f (name, tt) answer → answer ≡ names term

@@ -46,12 +46,15 @@ module _ (at : ℕ) (bytes : List ℕ) (bytes_low : AreBytes bytes) (fits : at +
   expression_ranged =
       let second = byte_low bytes bytes_low 1 in
       let third = byte_low bytes bytes_low 2 in
-      elim (size_at (opcode_in bytes) == 3) as (λ b. IsInRange (cond b (Target (slice_index bytes 1 * 256 + slice_index bytes 2)) (cond (opcode_in bytes / 16 == 3) (Target ((at + 1) / 256 * 256 + slice_index bytes 1)) (Byte (slice_index bytes 1))))) [
+      elim (size_at (opcode_in bytes) == 3)
+      as (λ b. IsInRange (cond b (Target (slice_index bytes 1 * 256 + slice_index bytes 2))
+      (cond (opcode_in bytes / 16 == 3) (Target ((at + 1) / 256 * 256 + slice_index bytes 1)) (Byte (slice_index bytes 1))))) [
         | true ↦ omega arith
-        | false ↦ elim (opcode_in bytes / 16 == 3) as (λ b. IsInRange (cond b (Target ((at + 1) / 256 * 256 + slice_index bytes 1)) (Byte (slice_index bytes 1)))) [
-          | true ↦ omega arith
-          | false ↦ second
-        ]
+        | false ↦ elim (opcode_in bytes / 16 == 3)
+            as (λ b. IsInRange (cond b (Target ((at + 1) / 256 * 256 + slice_index bytes 1)) (Byte (slice_index bytes 1)))) [
+              | true ↦ omega arith
+              | false ↦ second
+            ]
       ]
 
 module _ (at : ℕ) (bytes : List ℕ) (bytes_low : AreBytes bytes) (size : ℕ) (fits : (size ≡ 1 → ⊥) → at + 1 < 65536) where
@@ -88,7 +91,8 @@ module _ (names : Names) (at : ℕ) (line : List ℕ) (meaning : Word) (operands
   unfolding label_in
   has_no_label = ap label_from is
 
-  line_laid : (value next : ℕ) → placed names at (Some meaning) operands ≡ Ok (laid value next) → list_any has_large_number operands ≡ false → next ≤ 65536 → laid_out names at line ≡ Ok (laid value next)
+  line_laid : (value next : ℕ) → placed names at (Some meaning) operands ≡ Ok (laid value next) → list_any has_large_number operands ≡ false
+      → next ≤ 65536 → laid_out names at line ≡ Ok (laid value next)
   unfolding laid_out laid_parts judged
   line_laid value next place small low =
       ap (from_parts (laid_parts names at)) is
@@ -111,12 +115,17 @@ pub origin_makes : (names : Names) (at start : ℕ) → start < 65536 → Makes 
 unfolding encoded_parts placed
 origin_makes names at start low =
     let o : List ℕ = hex_text (hex4 start) in
-    let value : operand_value names at 65535 o ≡ Ok start = number_operand o (word_plain start low) (omega arith) start (word_number start low) (omega arith) names at 65535 (omega arith) in
+    let value : operand_value names at 65535 o ≡ Ok start =
+    number_operand o (word_plain start low) (omega arith) start (word_number start low) (omega arith) names at 65535 (omega arith) in
     let is : parsed (origin start) ≡ Ok (parts_of Org (o ∷ [])) = operand_parsed (codes "ORG") refl (omega arith) (omega arith) (Target start) low Org
-    (org_means (o ∷ []) ∙ ap (λ b. ok_or (option_map Some (cond b (Some Org) None)) BadOperand) (one_number o (word_plain start low) (omega arith) start (word_number start low))) in
+    (org_means (o ∷ []) ∙ ap (λ b. ok_or (option_map Some (cond b (Some Org) None)) BadOperand)
+    (one_number o (word_plain start low) (omega arith) start (word_number start low))) in
     record {
       unlabelled = has_no_label names at (origin start) Org (o ∷ []) is;
-      laid_is = line_laid names at (origin start) Org (o ∷ []) is start start (ap (λ r. result_map_both (λ address. laid address address) (λ fault. fault) r) value) (small_operands (Target start) low) (omega arith);
+      laid_is =
+          line_laid names at (origin start) Org (o ∷ []) is start start
+          (ap (λ r. result_map_both (λ address. laid address address) (λ fault. fault) r) value) (small_operands (Target start) low)
+          (omega arith);
       encoded_is = parts_encoded names at (origin start) Org (o ∷ []) is start [] refl;
     }
 
@@ -125,14 +134,19 @@ pub data_makes : (names : Names) (at byte : ℕ) → byte < 256 → at + 1 ≤ 6
 unfolding encoded_parts placed data_text values_of collected
 data_makes names at byte low fits =
     let o : List ℕ = hex_text (hex2 byte) in
-    let value : operand_value names at 255 o ≡ Ok byte = number_operand o (byte_plain byte low) (omega arith) byte (byte_number byte low) (omega arith) names at 255 (omega arith) in
+    let value : operand_value names at 255 o ≡ Ok byte =
+    number_operand o (byte_plain byte low) (omega arith) byte (byte_number byte low) (omega arith) names at 255 (omega arith) in
     let is : parsed (data_text byte) ≡ Ok (parts_of Db (o ∷ [])) = operand_parsed (codes "DB") refl (omega arith) (omega arith) (Byte byte) low Db
-    (mnemonic_means Undefined (o ∷ []) ∙ ap (λ b. ok_or (option_map Some (cond (b && true) (Some Db) None)) BadOperand) (one_number o (byte_plain byte low) (omega arith) byte (byte_number byte low))) in
+    (mnemonic_means Undefined (o ∷ [])
+    ∙ ap (λ b. ok_or (option_map Some (cond (b && true) (Some Db) None)) BadOperand)
+    (one_number o (byte_plain byte low) (omega arith) byte (byte_number byte low))) in
     record {
       unlabelled = has_no_label names at (data_text byte) Db (o ∷ []) is;
       laid_is = line_laid names at (data_text byte) Db (o ∷ []) is at (at + 1) refl (small_operands (Byte byte) low) fits;
       encoded_is = parts_encoded names at (data_text byte) Db (o ∷ []) is (at + 1) (byte ∷ [])
-          (ap (λ r. result_map_both (λ bytes. bytes) value_cause (cond (list_any is_undefined (r ∷ [])) (Err NoValue) (cond (list_any is_err (r ∷ [])) (Err Range) (Ok (map (λ result. result_unwrap_or result 0) (r ∷ [])))))) value);
+          (ap (λ r. result_map_both (λ bytes. bytes) value_cause
+          (cond (list_any is_undefined (r ∷ [])) (Err NoValue)
+          (cond (list_any is_err (r ∷ [])) (Err Range) (Ok (map (λ result. result_unwrap_or result 0) (r ∷ [])))))) value);
     }
 
 -- an instruction by its size
@@ -142,31 +156,40 @@ module _ (names : Names) (at opcode : ℕ) (operand : List ℕ) where
   one_byte e = cond-true (size_at opcode == 1) (Ok (opcode ∷ [])) _ (eq-eqb _ _ e)
 
   not_one : (size_at opcode ≡ 1 → ⊥) → (rest : Result (List ℕ) AsmCause)
-      → cond (size_at opcode == 3) (long_branch opcode (operand_value names at 65535 operand)) (cond (opcode / 16 == 3) (short_branch at opcode (operand_value names at 65535 operand)) (immediate opcode (operand_value names at 255 operand))) ≡ rest
+      → cond (size_at opcode == 3) (long_branch opcode (operand_value names at 65535 operand))
+      (cond (opcode / 16 == 3) (short_branch at opcode (operand_value names at 65535 operand))
+      (immediate opcode (operand_value names at 255 operand))) ≡ rest
       → instruction names at opcode operand ≡ rest
   unfolding instruction
   not_one other rest e = cond-false (size_at opcode == 1) (Ok (opcode ∷ [])) _ (ne_eqb _ _ other) ∙ e
 
-  three_bytes : (v : ℕ) → size_at opcode ≡ 3 → operand_value names at 65535 operand ≡ Ok v → instruction names at opcode operand ≡ Ok (opcode ∷ v / 256 ∷ v % 256 ∷ [])
+  three_bytes : (v : ℕ) → size_at opcode ≡ 3 → operand_value names at 65535 operand ≡ Ok v
+      → instruction names at opcode operand ≡ Ok (opcode ∷ v / 256 ∷ v % 256 ∷ [])
   three_bytes v e value =
       not_one (λ one. omega arith) (Ok (opcode ∷ v / 256 ∷ v % 256 ∷ []))
       (cond-true (size_at opcode == 3) (long_branch opcode (operand_value names at 65535 operand)) _ (eq-eqb _ _ e) ∙ ap (long_branch opcode) value)
 
   two_bytes : size_at opcode ≡ 2 → (rest : Result (List ℕ) AsmCause)
-      → cond (opcode / 16 == 3) (short_branch at opcode (operand_value names at 65535 operand)) (immediate opcode (operand_value names at 255 operand)) ≡ rest → instruction names at opcode operand ≡ rest
-  two_bytes e rest is = not_one (λ one. omega arith) rest (cond-false (size_at opcode == 3) (long_branch opcode (operand_value names at 65535 operand)) _ (ne_eqb _ _ (λ three. omega arith)) ∙ is)
+      → cond (opcode / 16 == 3) (short_branch at opcode (operand_value names at 65535 operand))
+      (immediate opcode (operand_value names at 255 operand)) ≡ rest → instruction names at opcode operand ≡ rest
+  two_bytes e rest is =
+      not_one (λ one. omega arith) rest
+      (cond-false (size_at opcode == 3) (long_branch opcode (operand_value names at 65535 operand)) _ (ne_eqb _ _ (λ three. omega arith)) ∙ is)
 
-  a_short_branch : (v : ℕ) → size_at opcode ≡ 2 → opcode / 16 ≡ 3 → operand_value names at 65535 operand ≡ Ok v → v / 256 ≡ (at + 1) / 256 → instruction names at opcode operand ≡ Ok (opcode ∷ v % 256 ∷ [])
+  a_short_branch : (v : ℕ) → size_at opcode ≡ 2 → opcode / 16 ≡ 3 → operand_value names at 65535 operand ≡ Ok v → v / 256 ≡ (at + 1) / 256
+      → instruction names at opcode operand ≡ Ok (opcode ∷ v % 256 ∷ [])
   a_short_branch v e branch value page =
       two_bytes e (Ok (opcode ∷ v % 256 ∷ []))
       (cond-true (opcode / 16 == 3) (short_branch at opcode (operand_value names at 65535 operand)) _ (eq-eqb _ _ branch)
       ∙ ap (short_branch at opcode) value
       ∙ cond-true (v / 256 == (at + 1) / 256) (Ok (opcode ∷ v % 256 ∷ [])) (Err OffPage) (eq-eqb _ _ page))
 
-  an_immediate : (v : ℕ) → size_at opcode ≡ 2 → (opcode / 16 ≡ 3 → ⊥) → operand_value names at 255 operand ≡ Ok v → instruction names at opcode operand ≡ Ok (opcode ∷ v ∷ [])
+  an_immediate : (v : ℕ) → size_at opcode ≡ 2 → (opcode / 16 ≡ 3 → ⊥) → operand_value names at 255 operand ≡ Ok v
+      → instruction names at opcode operand ≡ Ok (opcode ∷ v ∷ [])
   an_immediate v e other value =
       two_bytes e (Ok (opcode ∷ v ∷ []))
-      (cond-false (opcode / 16 == 3) (short_branch at opcode (operand_value names at 65535 operand)) (immediate opcode (operand_value names at 255 operand)) (ne_eqb _ _ other)
+      (cond-false (opcode / 16 == 3) (short_branch at opcode (operand_value names at 65535 operand))
+      (immediate opcode (operand_value names at 255 operand)) (ne_eqb _ _ other)
       ∙ ap (immediate opcode) value)
 
 -- the first bytes of some
@@ -201,7 +224,8 @@ by_sizes size P e one two three = elim (size == 1) as (λ b. (size == 1) ≡ b �
 
 module _ (at : ℕ) (bytes : List ℕ) where
   -- the operand of an instruction of more than one byte
-  long_operand : (kind : Kind) → size_at (opcode_in bytes) ≡ size_of kind → (size_at (opcode_in bytes) ≡ 1 → ⊥) → operand_by kind at bytes ≡ expression_at at bytes
+  long_operand : (kind : Kind) → size_at (opcode_in bytes) ≡ size_of kind → (size_at (opcode_in bytes) ≡ 1 → ⊥)
+      → operand_by kind at bytes ≡ expression_at at bytes
   long_operand Ldn is other = absurd (other is)
   long_operand Inc is other = absurd (other is)
   long_operand Dec is other = absurd (other is)
@@ -231,11 +255,16 @@ module _ (at : ℕ) (bytes : List ℕ) where
 
   target_is : size_at (opcode_in bytes) ≡ 3 → operand_at at bytes ≡ Target (slice_index bytes 1 * 256 + slice_index bytes 2)
   unfolding expression_at
-  target_is e = expressed (λ one. omega arith) ∙ cond-true (size_at (opcode_in bytes) == 3) (Target (slice_index bytes 1 * 256 + slice_index bytes 2)) _ (eq-eqb _ _ e)
+  target_is e =
+      expressed (λ one. omega arith)
+      ∙ cond-true (size_at (opcode_in bytes) == 3) (Target (slice_index bytes 1 * 256 + slice_index bytes 2)) _ (eq-eqb _ _ e)
 
-  two_is : size_at (opcode_in bytes) ≡ 2 → operand_at at bytes ≡ cond (opcode_in bytes / 16 == 3) (Target ((at + 1) / 256 * 256 + slice_index bytes 1)) (Byte (slice_index bytes 1))
+  two_is : size_at (opcode_in bytes) ≡ 2
+      → operand_at at bytes ≡ cond (opcode_in bytes / 16 == 3) (Target ((at + 1) / 256 * 256 + slice_index bytes 1)) (Byte (slice_index bytes 1))
   unfolding expression_at
-  two_is e = expressed (λ one. omega arith) ∙ cond-false (size_at (opcode_in bytes) == 3) (Target (slice_index bytes 1 * 256 + slice_index bytes 2)) _ (ne_eqb _ _ (λ three. omega arith))
+  two_is e =
+      expressed (λ one. omega arith)
+      ∙ cond-false (size_at (opcode_in bytes) == 3) (Target (slice_index bytes 1 * 256 + slice_index bytes 2)) _ (ne_eqb _ _ (λ three. omega arith))
 
   module _ (names : Names) (bytes_low : AreBytes bytes) (whole : size_at (opcode_in bytes) ≤ length bytes) (fits : at + size_at (opcode_in bytes) ≤ 65536) where
     abbrev opcode : ℕ
@@ -277,7 +306,8 @@ module _ (at : ℕ) (bytes : List ℕ) where
         let low : target % 256 ≡ second = omega arith in
         let inside : target < 65536 = omega arith in
         ap (λ o. instruction names at opcode (operand_of o)) (two_is e)
-        ∙ elim (opcode / 16 == 3) as (λ b. (opcode / 16 == 3) ≡ b → instruction names at opcode (operand_of (cond b (Target target) (Byte second))) ≡ Ok (opcode ∷ second ∷ [])) [
+        ∙ elim (opcode / 16 == 3) as (λ b. (opcode / 16 == 3) ≡ b
+        → instruction names at opcode (operand_of (cond b (Target target) (Byte second))) ≡ Ok (opcode ∷ second ∷ [])) [
           | true ↦ λ is.
               a_short_branch names at opcode (operand_of (Target target)) target e (eqb-true _ _ is) (target_value target inside) page
               ∙ ap (λ l. Ok (opcode ∷ l ∷ [])) low
@@ -287,7 +317,8 @@ module _ (at : ℕ) (bytes : List ℕ) where
 
     instruction_encoded : instruction names at opcode (operand_of (operand_at at bytes)) ≡ Ok (take (size_at opcode) bytes)
     instruction_encoded =
-        by_sizes (size_at opcode) (instruction names at opcode (operand_of (operand_at at bytes)) ≡ Ok (take (size_at opcode) bytes)) size_tested encoded_1 encoded_2 encoded_3
+        by_sizes (size_at opcode) (instruction names at opcode (operand_of (operand_at at bytes)) ≡ Ok (take (size_at opcode) bytes)) size_tested
+        encoded_1 encoded_2 encoded_3
 
 module _ (names : Names) (at : ℕ) (bytes : List ℕ) (bytes_low : AreBytes bytes) where
   -- a whole instruction
@@ -298,12 +329,19 @@ module _ (names : Names) (at : ℕ) (bytes : List ℕ) (bytes_low : AreBytes byt
       let opcode : ℕ = opcode_in bytes in
       let low : opcode < 256 = byte_low bytes bytes_low 0 in
       let operand : Operand = operand_at at bytes in
-      let in_range : IsInRange operand = ranged at bytes bytes_low (λ longer. by_sizes (size_at opcode) (at + 1 < 65536) (size_tested at bytes) (λ one. absurd (longer one)) (λ two. omega arith) (λ three. omega arith)) in
-      let is : parsed (instruction_text at bytes) ≡ Ok (parts_of (Code opcode) (operand_list operand)) = mnemonic_parsed opcode operand in_range (Code opcode) (instruction_means at bytes low other in_range) in
+      let in_range : IsInRange operand =
+      ranged at bytes bytes_low (λ longer. by_sizes (size_at opcode) (at + 1 < 65536) (size_tested at bytes) (λ one. absurd (longer one))
+      (λ two. omega arith) (λ three. omega arith)) in
+      let is : parsed (instruction_text at bytes) ≡ Ok (parts_of (Code opcode) (operand_list operand)) =
+      mnemonic_parsed opcode operand in_range (Code opcode) (instruction_means at bytes low other in_range) in
       record {
         unlabelled = has_no_label names at (instruction_text at bytes) (Code opcode) (operand_list operand) is;
-        laid_is = line_laid names at (instruction_text at bytes) (Code opcode) (operand_list operand) is at (at + size_at opcode) refl (small_operands operand in_range) fits;
-        encoded_is = parts_encoded names at (instruction_text at bytes) (Code opcode) (operand_list operand) is (at + size_at opcode) (take (size_at opcode) bytes)
+        laid_is =
+            line_laid names at (instruction_text at bytes) (Code opcode) (operand_list operand) is at (at + size_at opcode) refl
+            (small_operands operand in_range) fits;
+        encoded_is =
+            parts_encoded names at (instruction_text at bytes) (Code opcode) (operand_list operand) is (at + size_at opcode)
+            (take (size_at opcode) bytes)
             (instruction_encoded at bytes names bytes_low whole fits);
       }
 
@@ -314,7 +352,8 @@ module _ (names : Names) (at : ℕ) (bytes : List ℕ) (bytes_low : AreBytes byt
       let opcode : ℕ = opcode_in bytes in
       elim ((opcode == 0x68) || nat_lt (length bytes) (size_at opcode)) as (λ b. ((opcode == 0x68) || nat_lt (length bytes) (size_at opcode)) ≡ b
       → Makes names at (cond b (data_text opcode) (instruction_text at bytes)) at (at + cond b 1 (size_at opcode)) (take (cond b 1 (size_at opcode)) bytes)) [
-        | true ↦ λ is. subst (λ xs. Makes names at (data_text opcode) at (at + 1) xs) (sym (take_1 bytes some)) (data_makes names at opcode (byte_low bytes bytes_low 0) (omega arith))
+        | true ↦ λ is. subst (λ xs. Makes names at (data_text opcode) at (at + 1) xs) (sym (take_1 bytes some))
+            (data_makes names at opcode (byte_low bytes bytes_low 0) (omega arith))
         | false ↦ λ is.
             let parts = or_parts _ _ is in
             let whole : size_at opcode ≤ length bytes = ltb-false _ _ parts.1 in
@@ -326,13 +365,16 @@ pub taken_some : (bytes : List ℕ) → 1 ≤ taken bytes
 unfolding taken size_at
 taken_some bytes = elim (is_data bytes) as (λ b. 1 ≤ cond b 1 (size_of (kind_of (opcode_in bytes)))) [
   | true ↦ omega arith
-  | false ↦ by_sizes (size_of (kind_of (opcode_in bytes))) (1 ≤ size_of (kind_of (opcode_in bytes))) (has_size (kind_of (opcode_in bytes))) (λ e. omega arith) (λ e. omega arith) (λ e. omega arith)
+  | false ↦ by_sizes (size_of (kind_of (opcode_in bytes))) (1 ≤ size_of (kind_of (opcode_in bytes))) (has_size (kind_of (opcode_in bytes)))
+      (λ e. omega arith) (λ e. omega arith) (λ e. omega arith)
 ]
 
 pub taken_within : (bytes : List ℕ) → 0 < length bytes → taken bytes ≤ length bytes
 unfolding taken is_data
 taken_within bytes some =
-    elim ((opcode_in bytes == 0x68) || nat_lt (length bytes) (size_at (opcode_in bytes))) as (λ b. ((opcode_in bytes == 0x68) || nat_lt (length bytes) (size_at (opcode_in bytes))) ≡ b → cond b 1 (size_at (opcode_in bytes)) ≤ length bytes) [
+    elim ((opcode_in bytes == 0x68) || nat_lt (length bytes) (size_at (opcode_in bytes)))
+    as (λ b. ((opcode_in bytes == 0x68) || nat_lt (length bytes) (size_at (opcode_in bytes))) ≡ b
+    → cond b 1 (size_at (opcode_in bytes)) ≤ length bytes) [
       | true ↦ λ is. omega arith
       | false ↦ λ is. ltb-false _ _ (or_parts _ _ is).1
     ] refl

@@ -30,9 +30,12 @@ next_piece run k = ap (λ n. take 16 (drop n run)) (omega arith) ∙ ap (take 16
 
 later_pieces : (run : List Place) (n a : ℕ) → map (piece run) (range_with_len (a + 1) n) ≡ map (piece (drop 16 run)) (range_with_len a n)
 later_pieces run zero a = refl
-later_pieces run (suc n) a = ap (λ x. x ∷ map (piece run) (range_with_len (a + 1 + 1) n)) (next_piece run a) ∙ ap (λ xs. piece (drop 16 run) a ∷ xs) (later_pieces run n (a + 1))
+later_pieces run (suc n) a =
+    ap (λ x. x ∷ map (piece run) (range_with_len (a + 1 + 1) n)) (next_piece run a)
+    ∙ ap (λ xs. piece (drop 16 run) a ∷ xs) (later_pieces run n (a + 1))
 
-count_from : (run : List Place) (n : ℕ) → n ≡ suc ((length (drop 16 run) + 15) / 16) → map (piece run) (range_with_len 0 n) ≡ piece run 0 ∷ map (piece (drop 16 run)) (range_with_len 0 ((length (drop 16 run) + 15) / 16))
+count_from : (run : List Place) (n : ℕ) → n ≡ suc ((length (drop 16 run) + 15) / 16)
+    → map (piece run) (range_with_len 0 n) ≡ piece run 0 ∷ map (piece (drop 16 run)) (range_with_len 0 ((length (drop 16 run) + 15) / 16))
 count_from run n e =
     ap (λ n. map (piece run) (range_with_len 0 n)) e
     ∙ ap (λ xs. piece run 0 ∷ xs) (later_pieces run ((length (drop 16 run) + 15) / 16) 0)
@@ -74,7 +77,8 @@ some_run p row = ap not (ne_eqb (suc (length row)) 0 (λ e. omega arith))
 own_line-some : (p : Place) (row : List Place) → own_line (p ∷ row) ≡ line_text (p ∷ row)
 own_line-some p row = cond-false (suc (length row) == 0) [] (line_text (p ∷ row)) (ne_eqb (suc (length row)) 0 (λ e. omega arith))
 
-lines_of_row : (row : List Place) → length row ≤ 16 → (all : List (List Place)) → lines_in (cond (is_some_run row) (row ∷ all) all) ≡ own_line row ++ lines_in all
+lines_of_row : (row : List Place) → length row ≤ 16 → (all : List (List Place))
+    → lines_in (cond (is_some_run row) (row ∷ all) all) ≡ own_line row ++ lines_in all
 lines_of_row [] few all = refl
 lines_of_row (p ∷ row) few all =
     ap lines_in (cond-true (is_some_run (p ∷ row)) ((p ∷ row) ∷ all) all (some_run p row))
@@ -83,7 +87,8 @@ lines_of_row (p ∷ row) few all =
     ∙ ap (λ xs. xs ++ lines_in all) (append-nil (line_text (p ∷ row)) ∙ sym (own_line-some p row))
 
 -- a row ends before an address without a byte, and at the end
-pub dump-gap : (row : List Place) (gap : Place) (rest : List Place) → AllHaveBytes row → length row ≤ 16 → has_no_byte gap ≡ true → dump_of (row ++ gap ∷ rest) ≡ own_line row ++ dump_of rest
+pub dump-gap : (row : List Place) (gap : Place) (rest : List Place) → AllHaveBytes row → length row ≤ 16 → has_no_byte gap ≡ true
+    → dump_of (row ++ gap ∷ rest) ≡ own_line row ++ dump_of rest
 unfolding dump_of runs
 dump-gap row gap rest have few none =
     ap (λ all. lines_in (filter is_some_run all)) (slice_split_at has_no_byte row gap rest have none)
@@ -119,7 +124,8 @@ split-behind (p ∷ row) rest have =
 lines_behind_none : (all : List (List Place)) → flat_map line_text (pieces []) ++ lines_in all ≡ lines_in all
 lines_behind_none all = ap (λ ps. flat_map line_text ps ++ lines_in all) pieces-none
 
-some_lines : (part : List Place) (all : List (List Place)) → flat_map line_text (pieces part) ++ lines_in all ≡ lines_in (cond (is_some_run part) (part ∷ all) all)
+some_lines : (part : List Place) (all : List (List Place))
+    → flat_map line_text (pieces part) ++ lines_in all ≡ lines_in (cond (is_some_run part) (part ∷ all) all)
 some_lines [] all = lines_behind_none all
 some_lines (p ∷ part) all = sym (lines_in-cons (p ∷ part) all) ∙ sym (ap lines_in (cond-true (is_some_run (p ∷ part)) ((p ∷ part) ∷ all) all (some_run p part)))
 
@@ -128,7 +134,8 @@ full_run : (row : List Place) → length row ≡ 16 → (parts : List (List Plac
 full_run row full [] there = absurd (omega arith)
 full_run row full (part ∷ parts) there =
     let all : List (List Place) = filter is_some_run parts in
-    ap lines_in (cond-true (is_some_run (row ++ part)) ((row ++ part) ∷ all) all (ap not (ne_eqb (length (row ++ part)) 0 (λ e. omega (arith, length-append row part)))))
+    ap lines_in (cond-true (is_some_run (row ++ part)) ((row ++ part) ∷ all) all
+    (ap not (ne_eqb (length (row ++ part)) 0 (λ e. omega (arith, length-append row part)))))
     ∙ lines_in-cons (row ++ part) all
     ∙ ap (λ ps. flat_map line_text ps ++ lines_in all) (pieces-full row part full)
     ∙ append_assoc (line_text row) (flat_map line_text (pieces part)) (lines_in all)
@@ -174,7 +181,8 @@ row_text-some behind bytes there =
     ∙ line_of (behind - length bytes) bytes there
 
 -- a byte more in a row
-grown : (behind : ℕ) (bytes : List ℕ) (byte : ℕ) → length bytes ≤ behind → row_before (behind + 1) (bytes ++ byte ∷ []) ≡ row_before behind bytes ++ (behind, Some byte) ∷ []
+grown : (behind : ℕ) (bytes : List ℕ) (byte : ℕ) → length bytes ≤ behind
+    → row_before (behind + 1) (bytes ++ byte ∷ []) ≡ row_before behind bytes ++ (behind, Some byte) ∷ []
 grown behind bytes byte before =
     ap (λ n. enumerate_from n (map Some (bytes ++ byte ∷ []))) (omega (arith, length-append bytes (byte ∷ [])))
     ∙ ap (enumerate_from (behind - length bytes)) (map-append Some bytes (byte ∷ []))
@@ -197,8 +205,10 @@ module _ (made : Made) where
   dump-first = refl
 
   -- the address has a byte, which the row takes
-  pub dump-byte : (address byte : ℕ) (text : List ℕ) (bytes : List ℕ) → address < 65536 → length bytes ≤ address → Some byte ≡ option_map (λ cell. cell.byte) (cell_at made address)
-      → text ++ dump_of (row_before (address + 1) (bytes ++ byte ∷ []) ++ drop (address + 1) (places_of made)) ≡ text ++ dump_of (row_before address bytes ++ drop address (places_of made))
+  pub dump-byte : (address byte : ℕ) (text : List ℕ) (bytes : List ℕ) → address < 65536 → length bytes ≤ address
+      → Some byte ≡ option_map (λ cell. cell.byte) (cell_at made address)
+      → text ++ dump_of (row_before (address + 1) (bytes ++ byte ∷ []) ++ drop (address + 1) (places_of made)) ≡ text
+      ++ dump_of (row_before address bytes ++ drop address (places_of made))
   dump-byte address byte text bytes below before is =
       ap (λ row. text ++ dump_of (row ++ drop (address + 1) (places_of made))) (grown address bytes byte before)
       ∙ ap (λ ps. text ++ dump_of ps) (append_assoc (row_before address bytes) ((address, Some byte) ∷ []) (drop (address + 1) (places_of made)))
@@ -206,24 +216,31 @@ module _ (made : Made) where
       ∙ ap (λ ps. text ++ dump_of (row_before address bytes ++ ps)) (sym (places-next address below))
 
   -- the address has none, and the row ends
-  pub dump-none : (address : ℕ) (text : List ℕ) (bytes : List ℕ) → address < 65536 → length bytes ≤ 16 → None ≡ option_map (λ cell. cell.byte) (cell_at made address)
-      → (text ++ row_text address bytes) ++ dump_of (row_before (address + 1) [] ++ drop (address + 1) (places_of made)) ≡ text ++ dump_of (row_before address bytes ++ drop address (places_of made))
+  pub dump-none : (address : ℕ) (text : List ℕ) (bytes : List ℕ) → address < 65536 → length bytes ≤ 16
+      → None ≡ option_map (λ cell. cell.byte) (cell_at made address)
+      → (text ++ row_text address bytes) ++ dump_of (row_before (address + 1) [] ++ drop (address + 1) (places_of made)) ≡ text
+      ++ dump_of (row_before address bytes ++ drop address (places_of made))
   dump-none address text bytes below few is =
       append_assoc text (row_text address bytes) (dump_of (drop (address + 1) (places_of made)))
       ∙ ap (λ t. text ++ (t ++ dump_of (drop (address + 1) (places_of made)))) (sym (own_line-row address bytes))
-      ∙ ap (λ t. text ++ t) (sym (dump-gap (row_before address bytes) (address, None) (drop (address + 1) (places_of made)) (all_have (address - length bytes) bytes) (omega (arith, length-row address bytes)) refl))
+      ∙ ap (λ t. text ++ t) (sym (dump-gap (row_before address bytes) (address, None) (drop (address + 1) (places_of made))
+      (all_have (address - length bytes) bytes) (omega (arith, length-row address bytes)) refl))
       ∙ ap (λ b. text ++ dump_of (row_before address bytes ++ (address, b) ∷ drop (address + 1) (places_of made))) is
       ∙ ap (λ ps. text ++ dump_of (row_before address bytes ++ ps)) (sym (places-next address below))
 
   -- behind the last address
-  pub dump-last : (text : List ℕ) (bytes : List ℕ) → length bytes ≤ 16 → text ++ row_text 65536 bytes ≡ text ++ dump_of (row_before 65536 bytes ++ drop 65536 (places_of made))
+  pub dump-last : (text : List ℕ) (bytes : List ℕ) → length bytes ≤ 16
+      → text ++ row_text 65536 bytes ≡ text ++ dump_of (row_before 65536 bytes ++ drop 65536 (places_of made))
   dump-last text bytes few =
-      ap (λ t. text ++ t) (sym (own_line-row 65536 bytes) ∙ sym (dump-end (row_before 65536 bytes) (all_have (65536 - length bytes) bytes) (omega (arith, length-row 65536 bytes))))
+      ap (λ t. text ++ t) (sym (own_line-row 65536 bytes)
+      ∙ sym (dump-end (row_before 65536 bytes) (all_have (65536 - length bytes) bytes) (omega (arith, length-row 65536 bytes))))
       ∙ ap (λ ps. text ++ dump_of (row_before 65536 bytes ++ ps)) (sym (drop_all 65536 (places_of made) (omega (arith, length-places))))
 
 -- a full row ends before the next byte
-pub room-full : (behind : ℕ) (text : List ℕ) (bytes : List ℕ) (rest : List Place) → length bytes ≡ 16 → (text ++ row_text behind bytes) ++ dump_of (row_before behind [] ++ rest) ≡ text ++ dump_of (row_before behind bytes ++ rest)
+pub room-full : (behind : ℕ) (text : List ℕ) (bytes : List ℕ) (rest : List Place) → length bytes ≡ 16
+    → (text ++ row_text behind bytes) ++ dump_of (row_before behind [] ++ rest) ≡ text ++ dump_of (row_before behind bytes ++ rest)
 room-full behind text bytes rest full =
     append_assoc text (row_text behind bytes) (dump_of rest)
-    ∙ ap (λ t. text ++ (t ++ dump_of rest)) (cond-false (length bytes == 0) [] (line_text (row_before behind bytes)) (ne_eqb (length bytes) 0 (λ e. omega arith)))
+    ∙ ap (λ t. text ++ (t ++ dump_of rest))
+    (cond-false (length bytes == 0) [] (line_text (row_before behind bytes)) (ne_eqb (length bytes) 0 (λ e. omega arith)))
     ∙ ap (λ t. text ++ t) (sym (dump-full (row_before behind bytes) rest (all_have (behind - length bytes) bytes) (length-row behind bytes ∙ full)))

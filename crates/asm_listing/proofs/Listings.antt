@@ -43,7 +43,8 @@ module _ (made : Made) where
       ∙ ap (map (byte_at made)) (take-range 3 (count - 3 * k) (from + 3 * k))
 
   -- the digits of the first three
-  pub first-bytes : (from count : ℕ) → digits_of (bytes_from made from (min 3 count)) ++ blanks (6 - 2 * min 3 count) ≡ first_digits (bytes_from made from count)
+  pub first-bytes : (from count : ℕ)
+      → digits_of (bytes_from made from (min 3 count)) ++ blanks (6 - 2 * min 3 count) ≡ first_digits (bytes_from made from count)
   first-bytes from count =
       let three : bytes_from made from (min 3 count) ≡ three_at (bytes_from made from count) 0 =
       ap (λ a. bytes_from made a (min 3 count)) (omega arith) ∙ ap (bytes_from made (from + 3 * 0)) (omega arith) ∙ sym (three-bytes from count 0) in
@@ -71,7 +72,8 @@ pub further-none : (at : ℕ) (bytes text : List ℕ) → text ≡ text ++ flat_
 further-none at bytes text = sym (append-nil text)
 
 pub further-more : (at : ℕ) (bytes : List ℕ) (text : List ℕ) (row : ℕ) → 1 ≤ row
-    → (text ++ flat_map (further_line at bytes) (range_with_len 1 (row - 1))) ++ further_line at bytes row ≡ text ++ flat_map (further_line at bytes) (range_with_len 1 (row + 1 - 1))
+    → (text ++ flat_map (further_line at bytes) (range_with_len 1 (row - 1))) ++ further_line at bytes row ≡ text
+    ++ flat_map (further_line at bytes) (range_with_len 1 (row + 1 - 1))
 further-more at bytes text row some =
     let step : row + 1 - 1 ≡ row - 1 + 1 = omega arith in
     let last : 1 + (row - 1) ≡ row = omega arith in
@@ -84,13 +86,16 @@ further-more at bytes text row some =
     ∙ ap (flat_map f) (sym (range_push (row - 1) 1))
     ∙ ap (λ n. flat_map f (range_with_len 1 n)) (sym step))
 
-pub further-all : (at : ℕ) (bytes : List ℕ) (text : List ℕ) (row : ℕ) → row - 1 ≡ (length bytes + 2) / 3 - 1 → text ++ flat_map (further_line at bytes) (range_with_len 1 (row - 1)) ≡ text ++ further_lines at bytes
+pub further-all : (at : ℕ) (bytes : List ℕ) (text : List ℕ) (row : ℕ) → row - 1 ≡ (length bytes + 2) / 3 - 1
+    → text ++ flat_map (further_line at bytes) (range_with_len 1 (row - 1)) ≡ text ++ further_lines at bytes
 unfolding further_lines
 further-all at bytes text row e = ap (λ n. text ++ flat_map (further_line at bytes) (range_with_len 1 n)) e
 
 -- the parts of a line
 pub line-parts : (number shown at : ℕ) (bytes line : List ℕ)
-    → number_text number ++ (codes " " ++ (hex4 shown ++ (codes " " ++ (first_digits bytes ++ (codes " " ++ (line ++ (newline ++ further_lines at bytes))))))) ≡ line_listing number shown at bytes line
+    → number_text number ++ (codes " "
+    ++ (hex4 shown ++ (codes " " ++ (first_digits bytes ++ (codes " " ++ (line ++ (newline ++ further_lines at bytes)))))))
+    ≡ line_listing number shown at bytes line
 unfolding line_listing
 line-parts number shown at bytes line = refl
 
@@ -118,7 +123,8 @@ no_overlap : (b : Bool) → cond b (Some Overlap) None ≡ None → b ≡ false
 no_overlap true e = absurd (cc)
 no_overlap false e = refl
 
-no_fault_in : (given : ℕ → Option Cell) (at : ℕ) (r : Result (List ℕ) AsmCause) → fault_with given at r ≡ None → (bytes : List ℕ) × (r ≡ Ok bytes) × (overlaps given at (length bytes) ≡ false)
+no_fault_in : (given : ℕ → Option Cell) (at : ℕ) (r : Result (List ℕ) AsmCause) → fault_with given at r ≡ None
+    → (bytes : List ℕ) × (r ≡ Ok bytes) × (overlaps given at (length bytes) ≡ false)
 no_fault_in given at (Ok bytes) e = (bytes, refl, no_overlap (overlaps given at (length bytes)) e)
 no_fault_in given at (Err cause) e = absurd (cc)
 
@@ -156,7 +162,13 @@ module _ (source : List (List ℕ)) where
     counted = bytes_count source assembled.no_fault_1 i below bytes judged.1
 
     fits : at + length bytes ≤ 65536
-    fits = omega (arith, counted, count_fits (label_value source i) at (address_of source (i + 1)) (assembled.low i (omega arith)) (assembled.low (i + 1) (omega arith)))
+    fits =
+        omega (
+          arith,
+          counted,
+          count_fits (label_value source i) at (address_of source (i + 1)) (assembled.low i (omega arith)) (assembled.low (i + 1)
+              (omega arith)),
+        )
 
     cell_here : (j : ℕ) → j < length bytes → cell_before source (suc i) (at + j) ≡ Some (record { byte = get_or bytes j 0; line = i + 1 })
     unfolding cell_before
@@ -164,14 +176,16 @@ module _ (source : List (List ℕ)) where
         let offset : at + j - at ≡ j = omega arith in
         ap (λ o. option_or o (cell_of source i (at + j))) (free_before (cell_before source i) at (length bytes) j judged.2 inside)
         ∙ ap (λ r. cell_in (i + 1) at (result_unwrap_or r []) (at + j)) judged.1
-        ∙ cond-true (nat_le at (at + j)) (option_map (λ byte. record { byte = byte; line = i + 1 }) (slice_get bytes (at + j - at))) None (le-leb at (at + j) (omega arith))
+        ∙ cond-true (nat_le at (at + j)) (option_map (λ byte. record { byte = byte; line = i + 1 }) (slice_get bytes (at + j - at))) None
+        (le-leb at (at + j) (omega arith))
         ∙ ap (λ k. option_map (λ byte. record { byte = byte; line = i + 1 }) (slice_get bytes k)) offset
         ∙ ap (option_map (λ byte. record { byte = byte; line = i + 1 })) (some_here bytes j inside)
 
     read : (j : ℕ) → j < length bytes → byte_at made (at + j) ≡ get_or bytes j 0
     read j inside =
         ap (λ (o : Option Cell). option_map_or (λ cell. cell.byte) o 0)
-        (assembled.cells (at + j) (omega (arith, fits)) ∙ kept (length source) i (at + j) (record { byte = get_or bytes j 0; line = i + 1 }) below (cell_here j inside))
+        (assembled.cells (at + j) (omega (arith, fits))
+        ∙ kept (length source) i (at + j) (record { byte = get_or bytes j 0; line = i + 1 }) below (cell_here j inside))
 
     all_read : bytes_from made at (length bytes) ≡ bytes
     unfolding bytes_from
@@ -200,9 +214,11 @@ module _ (source : List (List ℕ)) where
 
     -- the line of the listing
     pub line-listed : (line : List ℕ) → line_at source i ≡ line
-        → line_listing (i + 1) ((line_place made i).value % 65536) (line_place made i).at (bytes_from made (line_place made i).at (byte_count (line_place made i))) line ≡ listed source i
+        → line_listing (i + 1) ((line_place made i).value % 65536) (line_place made i).at
+        (bytes_from made (line_place made i).at (byte_count (line_place made i))) line ≡ listed source i
     line-listed line here =
-        ap (λ v. line_listing (i + 1) (v % 65536) (line_place made i).at (bytes_from made (line_place made i).at (byte_count (line_place made i))) line) (assembled.values i below)
+        ap (λ v. line_listing (i + 1) (v % 65536) (line_place made i).at
+        (bytes_from made (line_place made i).at (byte_count (line_place made i))) line) (assembled.values i below)
         ∙ ap (λ a. line_listing (i + 1) (label_value source i % 65536) a (bytes_from made a (byte_count (line_place made i))) line) place_at
         ∙ ap (λ n. line_listing (i + 1) (label_value source i % 65536) at (bytes_from made at n) line) place_count
         ∙ ap (λ bs. line_listing (i + 1) (label_value source i % 65536) at bs line) (all_read ∙ sym (ap (λ r. result_unwrap_or r []) judged.1))

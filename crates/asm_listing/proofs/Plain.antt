@@ -18,7 +18,9 @@ use Rattle.asm_lex.proofs.Statements.{parsed-statement}
 
 -- a character of names and numbers
 abbrev pub is_plain : ℕ → Bool
-is_plain c = is_allowed c && (is_in_name c && (not (is_blank c) && (not (is_semicolon c) && (not (is_colon c) && (not (is_comma c) && (not (is_sign c) && not (is_prefix c)))))))
+is_plain c =
+    is_allowed c && (is_in_name c && (not (is_blank c)
+    && (not (is_semicolon c) && (not (is_colon c) && (not (is_comma c) && (not (is_sign c) && not (is_prefix c)))))))
 
 abbrev pub IsPlain : List ℕ → Type 0
 IsPlain text = list_all is_plain text ≡ true
@@ -131,7 +133,9 @@ leading-none xs there e = ap (λ n. drop n xs) (begins is_blank xs there e)
 trailing-none : (xs : List ℕ) → IsPlain xs → without_trailing_blanks xs ≡ xs
 unfolding without_trailing_blanks
 trailing-none xs plain =
-    let none : suffix_len is_blank xs ≡ length xs - length xs = suffix_len_is is_blank xs (length xs) 0 (omega arith) (λ k low high. absurd (omega arith)) (λ some. (each xs plain (length xs - 1) 0 (omega arith)).no_blank) in
+    let none : suffix_len is_blank xs ≡ length xs - length xs =
+    suffix_len_is is_blank xs (length xs) 0 (omega arith) (λ k low high. absurd (omega arith))
+    (λ some. (each xs plain (length xs - 1) 0 (omega arith)).no_blank) in
     take_all (length xs - suffix_len is_blank xs) xs (omega (arith, none))
 
 no_both : (b : Bool) → ((b && false) || false) ≡ false
@@ -195,9 +199,11 @@ module _ (line : List ℕ) (code : list_all is_code line ≡ true) (short : leng
         ∙ ap (λ s. has_long_name (behind_word s)) is_statement
         ∙ ap has_long_name behind ∙ named
 
-    is_meant : word_meaning (is_some (label_of (code_of line))) (operands_in (behind_word (statement_of (code_of line)))) (word_of (statement_of (code_of line))) ≡ Ok (Some meaning)
+    is_meant : word_meaning (is_some (label_of (code_of line))) (operands_in (behind_word (statement_of (code_of line))))
+        (word_of (statement_of (code_of line))) ≡ Ok (Some meaning)
     is_meant =
-        ap (λ label. word_meaning (is_some label) (operands_in (behind_word (statement_of (code_of line)))) (word_of (statement_of (code_of line)))) is_unlabelled
+        ap (λ label. word_meaning (is_some label) (operands_in (behind_word (statement_of (code_of line)))) (word_of (statement_of (code_of line))))
+        is_unlabelled
         ∙ ap (λ all. word_meaning false all (word_of (statement_of (code_of line)))) are_operands
         ∙ ap (λ s. word_meaning false operands (word_of s)) is_statement
         ∙ ap (word_meaning false operands) word
@@ -227,19 +233,25 @@ module _ (w : List ℕ) (plain : IsPlain w) (there : 0 < length w) where
       (ap word_of starts ∙ all) (ap behind_word starts ∙ ap trimmed rest) refl refl meant
 
   -- a word with an operand
-  pub parsed-with : length w ≤ 4 → (o : List ℕ) → IsPlain o → 0 < length o → length o ≤ 32 → (meaning : Word) → word_meaning false (o ∷ []) w ≡ Ok (Some meaning) → parsed (32 ∷ (w ++ (32 ∷ o))) ≡ Ok (parts_of meaning (o ∷ []))
+  pub parsed-with : length w ≤ 4 → (o : List ℕ) → IsPlain o → 0 < length o → length o ≤ 32 → (meaning : Word)
+      → word_meaning false (o ∷ []) w ≡ Ok (Some meaning) → parsed (32 ∷ (w ++ (32 ∷ o))) ≡ Ok (parts_of meaning (o ∷ []))
   parsed-with short o plain_o there_o short_o meaning meant =
       let line : List ℕ = 32 ∷ (w ++ (32 ∷ o)) in
-      let starts : without_leading_blanks line ≡ w ++ (32 ∷ o) = leading-blank (w ++ (32 ∷ o)) (omega (arith, length-append w (32 ∷ o))) (ap is_blank (get_or_append_left w (32 ∷ o) 0 0 there) ∙ word_visible) in
+      let starts : without_leading_blanks line ≡ w ++ (32 ∷ o) =
+      leading-blank (w ++ (32 ∷ o)) (omega (arith, length-append w (32 ∷ o)))
+      (ap is_blank (get_or_append_left w (32 ∷ o) 0 0 there) ∙ word_visible) in
       let place : position_or_len is_blank (w ++ (32 ∷ o)) ≡ length w =
       position_or_len_is is_blank (w ++ (32 ∷ o)) (length w) 0 (omega (arith, length-append w (32 ∷ o)))
       (λ k below. ap is_blank (get_or_append_left w (32 ∷ o) 0 k below) ∙ no_blanks k 0 below)
       (λ below. ap is_blank (get_or_at w 32 o 0 (length w) refl)) in
       let word : word_of (w ++ (32 ∷ o)) ≡ w = ap (λ n. take n (w ++ (32 ∷ o))) place ∙ take_at w (32 ∷ o) (length w) refl in
-      let rest : drop (length (word_of (w ++ (32 ∷ o)))) (w ++ (32 ∷ o)) ≡ 32 ∷ o = ap (λ v. drop (length v) (w ++ (32 ∷ o))) word ∙ drop_at w (32 ∷ o) (length w) refl in
-      is_parsed line (and_from _ _ refl (all_append is_code w (32 ∷ o) (all_code w plain) (and_from _ _ refl (all_code o plain_o)))) (omega (arith, length-append w (32 ∷ o))) w o (o ∷ []) meaning
+      let rest : drop (length (word_of (w ++ (32 ∷ o)))) (w ++ (32 ∷ o)) ≡ 32 ∷ o =
+      ap (λ v. drop (length v) (w ++ (32 ∷ o))) word ∙ drop_at w (32 ∷ o) (length w) refl in
+      is_parsed line (and_from _ _ refl (all_append is_code w (32 ∷ o) (all_code w plain) (and_from _ _ refl (all_code o plain_o))))
+      (omega (arith, length-append w (32 ∷ o))) w o (o ∷ []) meaning
       (ap word_of starts ∙ word)
-      (ap behind_word starts ∙ ap trimmed rest ∙ ap without_trailing_blanks (leading-blank o there_o (first_visible o plain_o there_o)) ∙ trailing-none o plain_o)
+      (ap behind_word starts ∙ ap trimmed rest ∙ ap without_trailing_blanks (leading-blank o there_o (first_visible o plain_o there_o))
+      ∙ trailing-none o plain_o)
       (one_operand o plain_o there_o) (no_long_name o plain_o there_o short_o) meant
 
 -- its first character is no prefix, and it has no sign

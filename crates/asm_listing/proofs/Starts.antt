@@ -13,7 +13,8 @@ starts-behind (byte ∷ bytes) (suc inside) at within =
     starts-behind bytes inside (at + 1) (omega arith) ∙ ap (λ a. starts 0 a (drop inside bytes)) (omega arith)
 
 -- the first line, and those behind it
-pub starts-first : (bytes : List ℕ) (at : ℕ) → 1 ≤ taken bytes → taken bytes ≤ length bytes → starts 0 at bytes ≡ (at, bytes) ∷ starts 0 (at + taken bytes) (drop (taken bytes) bytes)
+pub starts-first : (bytes : List ℕ) (at : ℕ) → 1 ≤ taken bytes → taken bytes ≤ length bytes
+    → starts 0 at bytes ≡ (at, bytes) ∷ starts 0 (at + taken bytes) (drop (taken bytes) bytes)
 starts-first [] at some within = absurd (omega arith)
 starts-first (byte ∷ bytes) at some within =
     let more : ℕ = taken (byte ∷ bytes) - 1 in

@@ -54,11 +54,14 @@ two_digits : (x y a b v : ℕ) → digit_value x ≡ a → digit_value y ≡ b �
 unfolding number_in
 two_digits x y a b v ex ey low_a low_b e =
     ap (λ d. from_two d (digit_value y)) ex ∙ ap (from_two a) ey
-    ∙ cond-true (nat_lt 0 2 && (nat_lt a 16 && (nat_lt b 16 && true))) (Some ((0 * 16 + a) * 16 + b)) None (and_from _ _ refl (and_from _ _ (lt-ltb a 16 low_a) (and_from _ _ (lt-ltb b 16 low_b) refl)))
+    ∙ cond-true (nat_lt 0 2 && (nat_lt a 16 && (nat_lt b 16 && true))) (Some ((0 * 16 + a) * 16 + b)) None
+    (and_from _ _ refl (and_from _ _ (lt-ltb a 16 low_a) (and_from _ _ (lt-ltb b 16 low_b) refl)))
     ∙ ap Some (omega (arith, e))
 
 byte_digits : (b : ℕ) → b < 256 → number_in 16 (hex2 b) ≡ Some b
-byte_digits b below = two_digits (hex_digit (b / 16)) (hex_digit (b % 16)) (b / 16) (b % 16) b (digit_is (b / 16) (omega arith)) (digit_is (b % 16) (omega arith)) (omega arith) (omega arith) (omega arith)
+byte_digits b below =
+    two_digits (hex_digit (b / 16)) (hex_digit (b % 16)) (b / 16) (b % 16) b (digit_is (b / 16) (omega arith)) (digit_is (b % 16) (omega arith))
+    (omega arith) (omega arith) (omega arith)
 
 abbrev from_four : ℕ → ℕ → ℕ → ℕ → Option ℕ
 from_four a b c d =
@@ -70,14 +73,18 @@ unfolding number_in
 four_digits x y z u a b c d v ex ey ez eu low_a low_b low_c low_d e =
     ap (λ k. from_four k (digit_value y) (digit_value z) (digit_value u)) ex ∙ ap (λ k. from_four a k (digit_value z) (digit_value u)) ey
     ∙ ap (λ k. from_four a b k (digit_value u)) ez ∙ ap (from_four a b c) eu
-    ∙ cond-true (nat_lt 0 4 && (nat_lt a 16 && (nat_lt b 16 && (nat_lt c 16 && (nat_lt d 16 && true))))) (Some ((((0 * 16 + a) * 16 + b) * 16 + c) * 16 + d)) None
-    (and_from _ _ refl (and_from _ _ (lt-ltb a 16 low_a) (and_from _ _ (lt-ltb b 16 low_b) (and_from _ _ (lt-ltb c 16 low_c) (and_from _ _ (lt-ltb d 16 low_d) refl)))))
+    ∙ cond-true (nat_lt 0 4 && (nat_lt a 16 && (nat_lt b 16 && (nat_lt c 16 && (nat_lt d 16 && true)))))
+    (Some ((((0 * 16 + a) * 16 + b) * 16 + c) * 16 + d)) None
+    (and_from _ _ refl (and_from _ _ (lt-ltb a 16 low_a)
+    (and_from _ _ (lt-ltb b 16 low_b) (and_from _ _ (lt-ltb c 16 low_c) (and_from _ _ (lt-ltb d 16 low_d) refl)))))
     ∙ ap Some (omega (arith, e))
 
 word_digits : (w : ℕ) → w < 65536 → number_in 16 (hex4 w) ≡ Some w
 word_digits w below =
-    four_digits (hex_digit (w / 256 / 16)) (hex_digit (w / 256 % 16)) (hex_digit (w % 256 / 16)) (hex_digit (w % 256 % 16)) (w / 256 / 16) (w / 256 % 16) (w % 256 / 16) (w % 256 % 16) w
-    (digit_is (w / 256 / 16) (omega arith)) (digit_is (w / 256 % 16) (omega arith)) (digit_is (w % 256 / 16) (omega arith)) (digit_is (w % 256 % 16) (omega arith))
+    four_digits (hex_digit (w / 256 / 16)) (hex_digit (w / 256 % 16)) (hex_digit (w % 256 / 16)) (hex_digit (w % 256 % 16)) (w / 256 / 16)
+    (w / 256 % 16) (w % 256 / 16) (w % 256 % 16) w
+    (digit_is (w / 256 / 16) (omega arith)) (digit_is (w / 256 % 16) (omega arith)) (digit_is (w % 256 / 16) (omega arith))
+    (digit_is (w % 256 % 16) (omega arith))
     (omega arith) (omega arith) (omega arith) (omega arith) (omega arith)
 
 pub byte_number : (b : ℕ) → b < 256 → written_value (hex_text (hex2 b)) ≡ Some b

@@ -33,12 +33,15 @@ use Rattle.asm_listing.proofs.Assembled.{AreBytes, Makes, origin_makes, line_mak
 allowed_line : (names : Names) (at : ℕ) (line : List ℕ) (value next : ℕ) → laid_out names at line ≡ Ok (laid value next) → list_all is_allowed line ≡ true
 unfolding laid_out parsed has_bad_bytes
 allowed_line names at line value next e =
-    elim (nat_lt 255 (length line)) as (λ b. from_parts (laid_parts names at) (cond (b || not (list_all is_allowed line)) (Err BadText) (parsed_code (code_of line))) ≡ Ok (laid value next) → list_all is_allowed line ≡ true) [
+    elim (nat_lt 255 (length line))
+    as (λ b. from_parts (laid_parts names at) (cond (b || not (list_all is_allowed line)) (Err BadText) (parsed_code (code_of line)))
+    ≡ Ok (laid value next) → list_all is_allowed line ≡ true) [
       | true ↦ λ h. absurd (cc)
-      | false ↦ λ h. elim (list_all is_allowed line) as (λ b. from_parts (laid_parts names at) (cond (not b) (Err BadText) (parsed_code (code_of line))) ≡ Ok (laid value next) → b ≡ true) [
-        | true ↦ λ k. refl
-        | false ↦ λ k. absurd (cc)
-      ] h
+      | false ↦ λ h. elim (list_all is_allowed line)
+          as (λ b. from_parts (laid_parts names at) (cond (not b) (Err BadText) (parsed_code (code_of line))) ≡ Ok (laid value next) → b ≡ true) [
+            | true ↦ λ k. refl
+            | false ↦ λ k. absurd (cc)
+          ] h
     ] e
 
 not_allowed : (c stop : ℕ) → is_allowed stop ≡ false → is_allowed c ≡ true → (c == stop) ≡ false
@@ -68,7 +71,8 @@ line_cut line rest all =
     (λ below. ap (λ c. c == 10) (get_or_at line 10 rest 0 (length line) refl)) in
     let front : take (position_or_len is_newline text) text ≡ line = ap (λ n. take n text) place ∙ take_at line (10 ∷ rest) (length line) refl in
     let back : drop (position_or_len is_newline text + 1) text ≡ rest =
-    ap (λ n. drop (n + 1) text) place ∙ ap (drop (length line + 1)) (sym (append_assoc line newline rest)) ∙ drop_at (line ++ newline) rest (length line + 1) (length-append line newline) in
+    ap (λ n. drop (n + 1) text) place ∙ ap (drop (length line + 1)) (sym (append_assoc line newline rest))
+    ∙ drop_at (line ++ newline) rest (length line + 1) (length-append line newline) in
     ap source_lines (append_assoc line newline rest)
     ∙ source_lines-next text (omega (arith, place, length-append line (10 ∷ rest)))
     ∙ ap (λ l. strip_carriage_return l ∷ source_lines (drop (position_or_len is_newline text + 1) text)) front
@@ -103,7 +107,8 @@ no_names : Names
 no_names name = None
 
 -- the source of the lines
-lines_cut : (rest : List (ℕ × List ℕ)) (at : ℕ) (bytes : List ℕ) → AreBytes bytes → at + length bytes ≤ 65536 → IsChain at bytes rest → source_lines (lines_from rest) ≡ map line_of rest
+lines_cut : (rest : List (ℕ × List ℕ)) (at : ℕ) (bytes : List ℕ) → AreBytes bytes → at + length bytes ≤ 65536 → IsChain at bytes rest
+    → source_lines (lines_from rest) ≡ map line_of rest
 lines_cut [] at bytes low fits linked = source_lines-empty
 lines_cut (start ∷ rest) at bytes low fits linked =
     let makes : Makes no_names at (first_line at bytes) at (at + taken bytes) (take (taken bytes) bytes) = line_makes no_names at bytes low linked.1 fits in
@@ -111,7 +116,9 @@ lines_cut (start ∷ rest) at bytes low fits linked =
     let allowed : list_all is_allowed (line_of start) ≡ true =
     ap (λ s. list_all is_allowed (line_of s)) linked.0 ∙ allowed_line no_names at (first_line at bytes) at (at + taken bytes) makes.laid_is in
     line_cut (line_of start) (lines_from rest) allowed
-    ∙ ap (λ more. line_of start ∷ more) (lines_cut rest (at + taken bytes) (drop (taken bytes) bytes) (low_drop (taken bytes) bytes low) (omega (arith, length-drop (taken bytes) bytes)) linked.2)
+    ∙ ap (λ more. line_of start ∷ more)
+    (lines_cut rest (at + taken bytes) (drop (taken bytes) bytes) (low_drop (taken bytes) bytes low)
+    (omega (arith, length-drop (taken bytes) bytes)) linked.2)
 
 -- the bytes at addresses, some of them and more behind them
 slice_get-append_left : (xs ys : List ℕ) (k : ℕ) → k < length xs → slice_get (xs ++ ys) k ≡ slice_get xs k
@@ -157,7 +164,8 @@ second_none : (o p : Option ℕ) → p ≡ None → option_or o p ≡ o
 second_none None p e = e
 second_none (Some y) p e = refl
 
-byte_in-append : (at : ℕ) (xs ys : List ℕ) (address : ℕ) → option_or (byte_in at xs address) (byte_in (at + length xs) ys address) ≡ byte_in at (xs ++ ys) address
+byte_in-append : (at : ℕ) (xs ys : List ℕ) (address : ℕ)
+    → option_or (byte_in at xs address) (byte_in (at + length xs) ys address) ≡ byte_in at (xs ++ ys) address
 byte_in-append at xs ys address = elim (cases_lt address at) [
   | inl under ↦
       ap (λ o. option_or o (byte_in (at + length xs) ys address)) (byte_in-below at xs address under)
@@ -184,10 +192,13 @@ byte_of-mapped line None = refl
 byte_of-mapped line (Some byte) = refl
 
 byte_of-cell_in : (line at : ℕ) (bytes : List ℕ) (address : ℕ) → byte_of (cell_in line at bytes address) ≡ byte_in at bytes address
-byte_of-cell_in line at bytes address = elim (nat_le at address) as (λ b. byte_of (cond b (option_map (λ byte. record { byte = byte; line = line }) (slice_get bytes (address - at))) None) ≡ cond b (slice_get bytes (address - at)) None) [
-  | true ↦ byte_of-mapped line (slice_get bytes (address - at))
-  | false ↦ refl
-]
+byte_of-cell_in line at bytes address =
+    elim (nat_le at address) as (λ b. byte_of
+    (cond b (option_map (λ byte. record { byte = byte; line = line }) (slice_get bytes (address - at))) None)
+    ≡ cond b (slice_get bytes (address - at)) None) [
+      | true ↦ byte_of-mapped line (slice_get bytes (address - at))
+      | false ↦ refl
+    ]
 
 byte_of-or : (o p : Option Cell) → byte_of (option_or o p) ≡ option_or (byte_of o) (byte_of p)
 byte_of-or None p = refl
@@ -264,7 +275,8 @@ module _ (source : List (List ℕ)) (start : ℕ) where
         ∙ ap (λ b. cond b (Some Overlap) None) none
 
   -- one line of bytes more
-  reached_next : (k at : ℕ) (done : List ℕ) (line made : List ℕ) → ((names : Names) → Makes names at line at (at + length made) made) → k < length source → line_at source k ≡ line
+  reached_next : (k at : ℕ) (done : List ℕ) (line made : List ℕ) → ((names : Names) → Makes names at line at (at + length made) made)
+      → k < length source → line_at source k ≡ line
       → Reached k at done → Reached (k + 1) (at + length made) (done ++ made)
   reached_next k at done line made makes below here so_far =
       let next : ℕ = at + length made in
@@ -274,7 +286,8 @@ module _ (source : List (List ℕ)) (start : ℕ) where
         bound = omega (arith, so_far.bound, length-append done made);
         no_fault_1 = below_more (λ i. fault_1 source i ≡ None) k so_far.no_fault_1 (no_fault k at line at next made makes below here so_far.place);
         no_fault_2 = below_more (λ i. fault_2 source i ≡ None) k so_far.no_fault_2
-            (no_overlap k at line at next made makes below here so_far.place (λ j under. so_far.bytes (at + j) ∙ byte_in-past start done (at + j) (omega (arith, so_far.bound))));
+            (no_overlap k at line at next made makes below here so_far.place
+            (λ j under. so_far.bytes (at + j) ∙ byte_in-past start done (at + j) (omega (arith, so_far.bound))));
         bytes = λ address.
             bytes_behind k at line at next made makes below here so_far.place address
             ∙ ap (λ o. option_or o (byte_in at made address)) (so_far.bytes address)
@@ -283,7 +296,8 @@ module _ (source : List (List ℕ)) (start : ℕ) where
       }
 
   -- all lines
-  reached_all : (rest : List (ℕ × List ℕ)) (k at : ℕ) (done left : List ℕ) → AreBytes left → at + length left ≤ 65536 → IsChain at left rest → drop k source ≡ map line_of rest → Reached k at done
+  reached_all : (rest : List (ℕ × List ℕ)) (k at : ℕ) (done left : List ℕ) → AreBytes left → at + length left ≤ 65536 → IsChain at left rest
+      → drop k source ≡ map line_of rest → Reached k at done
       → AssemblesTo source start (done ++ left)
   reached_all [] k at done left low fits linked source_is so_far =
       let last : k ≡ length source = no_line source k source_is so_far.inside in
@@ -291,7 +305,9 @@ module _ (source : List (List ℕ)) (start : ℕ) where
       record {
         no_fault_1 = subst (NoFault (fault_1 source)) last so_far.no_fault_1;
         no_fault_2 = subst (NoFault (fault_2 source)) last so_far.no_fault_2;
-        bytes_are = λ address. ap (λ n. byte_of (cell_before source n address)) (sym last) ∙ so_far.bytes address ∙ ap (λ xs. byte_in start xs address) (sym whole);
+        bytes_are =
+            λ address. ap (λ n. byte_of (cell_before source n address)) (sym last) ∙ so_far.bytes address
+            ∙ ap (λ xs. byte_in start xs address) (sym whole);
       }
   reached_all (s ∷ rest) k at done left low fits linked source_is so_far =
       let here = line_here source k (line_of s) (map line_of rest) source_is in
@@ -316,7 +332,8 @@ module _ (start : ℕ) (bytes : List ℕ) (low : AreBytes bytes) (fits : start +
   source_is : source_lines (disassembly start bytes) ≡ source_of
   unfolding disassembly
   source_is =
-      line_cut (origin start) (lines_from (starts 0 start bytes)) (allowed_line no_names 0 (origin start) start start (origin_makes no_names 0 start first).laid_is)
+      line_cut (origin start) (lines_from (starts 0 start bytes))
+      (allowed_line no_names 0 (origin start) start start (origin_makes no_names 0 start first).laid_is)
       ∙ ap (λ more. origin start ∷ more) (lines_cut (starts 0 start bytes) start bytes low fits (chain (length bytes) bytes start (omega arith)))
 
   -- behind it no address has a byte yet
@@ -330,7 +347,9 @@ module _ (start : ℕ) (bytes : List ℕ) (low : AreBytes bytes) (fits : start +
         inside = omega arith;
         place = next_place source_of start 0 0 (origin start) start start [] makes below refl place;
         bound = omega arith;
-        no_fault_1 = below_more (λ i. fault_1 source_of i ≡ None) 0 (λ i under. absurd (omega arith)) (no_fault source_of start 0 0 (origin start) start start [] makes below refl place);
+        no_fault_1 =
+            below_more (λ i. fault_1 source_of i ≡ None) 0 (λ i under. absurd (omega arith))
+            (no_fault source_of start 0 0 (origin start) start start [] makes below refl place);
         no_fault_2 = below_more (λ i. fault_2 source_of i ≡ None) 0 (λ i under. absurd (omega arith))
             (no_overlap source_of start 0 0 (origin start) start start [] makes below refl place (λ j under. absurd (omega arith)));
         bytes = λ address.

@@ -44,7 +44,8 @@ unfolding word_meaning entry_meaning meaning_of entry_of directive_of opcode_nam
 mnemonic_means Undefined operands = refl
 mnemonic_means _ operands = refl
 
-pub org_means : (operands : List (List ℕ)) → word_meaning false operands (codes "ORG") ≡ ok_or (option_map Some (cond (is_one_expression operands) (Some Org) None)) BadOperand
+pub org_means : (operands : List (List ℕ))
+    → word_meaning false operands (codes "ORG") ≡ ok_or (option_map Some (cond (is_one_expression operands) (Some Org) None)) BadOperand
 unfolding word_meaning entry_meaning meaning_of entry_of directive_of opcode_named spells opcodes mnemonic_at
 org_means operands = refl
 
@@ -86,7 +87,8 @@ port_is n some most =
 -- a register or a port is no large number
 small_register : (n : ℕ) → n < 16 → has_large_number (82 ∷ hex_digit n ∷ []) ≡ false
 unfolding has_large_number sum_in value_written number_in
-small_register n below = is_false (has_large_number (82 ∷ hex_digit n ∷ [])) (at-passes_below (λ n. not (has_large_number (82 ∷ hex_digit n ∷ []))) 16 refl n below)
+small_register n below =
+    is_false (has_large_number (82 ∷ hex_digit n ∷ [])) (at-passes_below (λ n. not (has_large_number (82 ∷ hex_digit n ∷ []))) 16 refl n below)
 
 small_port : (n : ℕ) → n < 16 → has_large_number (hex_digit n ∷ []) ≡ false
 unfolding has_large_number sum_in value_written number_in
@@ -103,7 +105,9 @@ small_operands (Target t) low = ap (λ b. b || false) (small_number (hex_text (h
 pub by_expression : (P : Operand → Type 0) (at : ℕ) (bytes : List ℕ) → ((t : ℕ) → P (Target t)) → ((b : ℕ) → P (Byte b)) → P (expression_at at bytes)
 unfolding expression_at
 by_expression P at bytes target byte =
-    elim (size_at (opcode_in bytes) == 3) as (λ b. P (cond b (Target (slice_index bytes 1 * 256 + slice_index bytes 2)) (cond (opcode_in bytes / 16 == 3) (Target ((at + 1) / 256 * 256 + slice_index bytes 1)) (Byte (slice_index bytes 1))))) [
+    elim (size_at (opcode_in bytes) == 3)
+    as (λ b. P (cond b (Target (slice_index bytes 1 * 256 + slice_index bytes 2))
+    (cond (opcode_in bytes / 16 == 3) (Target ((at + 1) / 256 * 256 + slice_index bytes 1)) (Byte (slice_index bytes 1))))) [
       | true ↦ target (slice_index bytes 1 * 256 + slice_index bytes 2)
       | false ↦ elim (opcode_in bytes / 16 == 3) as (λ b. P (cond b (Target ((at + 1) / 256 * 256 + slice_index bytes 1)) (Byte (slice_index bytes 1)))) [
         | true ↦ target ((at + 1) / 256 * 256 + slice_index bytes 1)
@@ -120,17 +124,21 @@ module _ (at : ℕ) (bytes : List ℕ) where
   abbrev n : ℕ
   n = opcode_number (opcode_in bytes)
 
-  by_size : (kind : Kind) (size : ℕ) → size ≡ size_of kind → n ≡ 0 → IsInRange (operand_of_size size at bytes) → number_written (operands_by_size kind) (operand_list (operand_of_size size at bytes)) ≡ Some n
+  by_size : (kind : Kind) (size : ℕ) → size ≡ size_of kind → n ≡ 0 → IsInRange (operand_of_size size at bytes)
+      → number_written (operands_by_size kind) (operand_list (operand_of_size size at bytes)) ≡ Some n
   by_size kind size same none low =
       let at_kind : IsInRange (operand_of_size (size_of kind) at bytes) = subst (λ size. IsInRange (operand_of_size size at bytes)) same low in
       ap (λ size. number_written (operands_by_size kind) (operand_list (operand_of_size size at bytes))) same
-      ∙ elim (size_of kind == 1) as (λ b. IsInRange (cond b Nothing (expression_at at bytes)) → number_written (cond b (operands_by_size Idl) (operands_by_size Br)) (operand_list (cond b Nothing (expression_at at bytes))) ≡ Some n) [
+      ∙ elim (size_of kind == 1) as (λ b. IsInRange (cond b Nothing (expression_at at bytes))
+      → number_written (cond b (operands_by_size Idl) (operands_by_size Br)) (operand_list (cond b Nothing (expression_at at bytes)))
+      ≡ Some n) [
         | true ↦ λ h. ap Some (sym none)
         | false ↦ λ h. cond-true (is_one_expression (operand_list (expression_at at bytes))) (Some 0) None (is_written at bytes h) ∙ ap Some (sym none)
       ] at_kind
 
   -- the number that an instruction's operand writes into the opcode
-  written : (kind : Kind) → least_of kind ≤ n → n ≤ greatest_of kind → size_at (opcode_in bytes) ≡ size_of kind → kind_of (opcode_in bytes) ≡ kind → IsInRange (operand_by kind at bytes)
+  written : (kind : Kind) → least_of kind ≤ n → n ≤ greatest_of kind → size_at (opcode_in bytes) ≡ size_of kind → kind_of (opcode_in bytes) ≡ kind
+      → IsInRange (operand_by kind at bytes)
       → number_written (operands_of kind) (operand_list (operand_by kind at bytes)) ≡ Some n
   written Ldn least most size is low = register_is n low
   written Inc least most size is low = register_is n low
@@ -164,7 +172,8 @@ module _ (at : ℕ) (bytes : List ℕ) where
 
     numbered : with_number (kind_of (opcode_in bytes)) n ≡ Some (opcode_in bytes)
     numbered =
-        cond-true (nat_le (least_of (kind_of (opcode_in bytes))) n && nat_le n (greatest_of (kind_of (opcode_in bytes)))) (Some (opcode_of (decoded (opcode_in bytes)))) None
+        cond-true (nat_le (least_of (kind_of (opcode_in bytes))) n && nat_le n (greatest_of (kind_of (opcode_in bytes))))
+        (Some (opcode_of (decoded (opcode_in bytes)))) None
         (and_from _ _ (le-leb _ _ least) (le-leb _ _ most))
         ∙ ap Some (opcode_of-decoded (opcode_in bytes) low)
 
@@ -183,7 +192,8 @@ undefined_opcode opcode kind low is undefined =
     let last : greatest_of (kind_of opcode) ≡ 0 = ap greatest_of kind_is in
     omega (arith, whole, none, first, last)
 
-meaning_coded : (kind : Kind) (operands : List (List ℕ)) → (kind ≡ Undefined → ⊥) → meaning_by kind operands ≡ ok_or (option_map Some (option_map Code (coded kind operands))) BadOperand
+meaning_coded : (kind : Kind) (operands : List (List ℕ)) → (kind ≡ Undefined → ⊥)
+    → meaning_by kind operands ≡ ok_or (option_map Some (option_map Code (coded kind operands))) BadOperand
 meaning_coded Undefined operands other = absurd (other refl)
 meaning_coded Idl operands other = refl
 meaning_coded _ operands other = refl
@@ -193,15 +203,18 @@ pub instruction_means : (at : ℕ) (bytes : List ℕ) → opcode_in bytes < 256 
 unfolding mnemonic_at
 instruction_means at bytes low other ranged =
     mnemonic_means (kind_of (opcode_in bytes)) (operand_list (operand_at at bytes))
-    ∙ meaning_coded (kind_of (opcode_in bytes)) (operand_list (operand_at at bytes)) (λ e. other (undefined_opcode (opcode_in bytes) (kind_of (opcode_in bytes)) low refl e))
+    ∙ meaning_coded (kind_of (opcode_in bytes)) (operand_list (operand_at at bytes))
+    (λ e. other (undefined_opcode (opcode_in bytes) (kind_of (opcode_in bytes)) low refl e))
     ∙ ap (λ o. ok_or (option_map Some (option_map Code o)) BadOperand) (coded_is at bytes low ranged)
 
 -- a line of a word and an operand
-pub operand_parsed : (w : List ℕ) → IsPlain w → 0 < length w → length w ≤ 4 → (operand : Operand) → IsInRange operand → (meaning : Word) → word_meaning false (operand_list operand) w ≡ Ok (Some meaning)
+pub operand_parsed : (w : List ℕ) → IsPlain w → 0 < length w → length w ≤ 4 → (operand : Operand) → IsInRange operand → (meaning : Word)
+    → word_meaning false (operand_list operand) w ≡ Ok (Some meaning)
     → parsed (32 ∷ (w ++ operand_text operand)) ≡ Ok (parts_of meaning (operand_list operand))
 operand_parsed w plain there short Nothing low meaning meant = ap (λ t. parsed (32 ∷ t)) (append-nil w) ∙ parsed-alone w plain there short meaning meant
 operand_parsed w plain there short (Register n) low meaning meant =
-    parsed-with w plain there short (82 ∷ hex_digit n ∷ []) (and_from _ _ refl (and_from _ _ (digit_plain n low) refl)) (omega arith) (omega arith) meaning meant
+    parsed-with w plain there short (82 ∷ hex_digit n ∷ []) (and_from _ _ refl (and_from _ _ (digit_plain n low) refl)) (omega arith)
+    (omega arith) meaning meant
 operand_parsed w plain there short (Port n) low meaning meant =
     parsed-with w plain there short (hex_digit n ∷ []) (and_from _ _ (digit_plain n (omega arith)) refl) (omega arith) (omega arith) meaning meant
 operand_parsed w plain there short (Byte b) low meaning meant =
@@ -209,10 +222,12 @@ operand_parsed w plain there short (Byte b) low meaning meant =
 operand_parsed w plain there short (Target t) low meaning meant =
     parsed-with w plain there short (hex_text (hex4 t)) (word_plain t low) (omega arith) (omega arith) meaning meant
 
-pub mnemonic_parsed : (opcode : ℕ) (operand : Operand) → IsInRange operand → (meaning : Word) → word_meaning false (operand_list operand) (mnemonic_at opcode) ≡ Ok (Some meaning)
+pub mnemonic_parsed : (opcode : ℕ) (operand : Operand) → IsInRange operand → (meaning : Word)
+    → word_meaning false (operand_list operand) (mnemonic_at opcode) ≡ Ok (Some meaning)
     → parsed (32 ∷ (mnemonic_at opcode ++ operand_text operand)) ≡ Ok (parts_of meaning (operand_list operand))
 unfolding mnemonic_at
 mnemonic_parsed opcode operand low meaning meant =
     let short = and_parts _ _ (short_mnemonic (kind_of opcode)) in
     let sized = and_parts _ _ short.1 in
-    operand_parsed (mnemonic_of (kind_of opcode)) short.0 (ltb-true 0 (length (mnemonic_of (kind_of opcode))) sized.0) (leb-true (length (mnemonic_of (kind_of opcode))) 4 sized.1) operand low meaning meant
+    operand_parsed (mnemonic_of (kind_of opcode)) short.0 (ltb-true 0 (length (mnemonic_of (kind_of opcode))) sized.0)
+    (leb-true (length (mnemonic_of (kind_of opcode))) 4 sized.1) operand low meaning meant

@@ -13,7 +13,9 @@ ticks_passed a e = (e - 1 + 2576) / 3668 - (a + 2576) / 3668
 
 pub ticks_counted : (a e : ℕ) → ticks_between a e ≡ ticks_passed a e
 unfolding ticks_between
-ticks_counted a e = count_from (λ m. nat_lt a (interrupt_at m) && nat_lt (interrupt_at m) e) ((a + 2576) / 3668) ((e - 1 + 2576) / 3668) passes fails e 0 (omega arith) ∙ omega arith
+ticks_counted a e =
+    count_from (λ m. nat_lt a (interrupt_at m) && nat_lt (interrupt_at m) e) ((a + 2576) / 3668) ((e - 1 + 2576) / 3668) passes fails e 0
+    (omega arith) ∙ omega arith
   where
     passes : (m : ℕ) → (nat_lt a (interrupt_at m) && nat_lt (interrupt_at m) e) ≡ true → ((a + 2576) / 3668 ≤ m) × (m < (e - 1 + 2576) / 3668)
     passes m h =

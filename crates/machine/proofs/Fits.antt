@@ -20,11 +20,13 @@ picked-fits : (b : Bool) (x y : ℕ) → x < 256 → y < 256 → cond b x y < 25
 picked-fits true x y f g = f
 picked-fits false x y f g = g
 
-pub read-fits : (rom ram : List ℕ) (latch : Bool) (a : ℕ) → ((k : ℕ) → slice_index rom k < 256) → ((k : ℕ) → slice_index ram k < 256) → read rom latch ram a < 256
+pub read-fits : (rom ram : List ℕ) (latch : Bool) (a : ℕ) → ((k : ℕ) → slice_index rom k < 256) → ((k : ℕ) → slice_index ram k < 256)
+    → read rom latch ram a < 256
 unfolding read
 read-fits rom ram latch a f g =
     picked-fits (nat_lt (mapped_address latch a) 0x1000) (slice_index ram (mapped_address latch a)) _ (g (mapped_address latch a))
-    (picked-fits (nat_le 0x8000 (mapped_address latch a) && nat_lt (mapped_address latch a) 0x8800) (slice_index rom (mapped_address latch a - 0x8000)) 0xff (f (mapped_address latch a - 0x8000)) (lit< tt))
+    (picked-fits (nat_le 0x8000 (mapped_address latch a) && nat_lt (mapped_address latch a) 0x8800)
+    (slice_index rom (mapped_address latch a - 0x8000)) 0xff (f (mapped_address latch a - 0x8000)) (lit< tt))
 
 set-fits : (l : List ℕ) (i v : ℕ) → ((k : ℕ) → slice_index l k < 256) → v < 256 → (k : ℕ) → slice_index (slice_set l i v) k < 256
 set-fits [] i v f h k = f k
@@ -135,7 +137,25 @@ reset-fits =
     record {
       regs =
           record {
-            r = record { r0 = zero-word; r1 = zero-word; r2 = zero-word; r3 = zero-word; r4 = zero-word; r5 = zero-word; r6 = zero-word; r7 = zero-word; r8 = zero-word; r9 = zero-word; ra = zero-word; rb = zero-word; rc = zero-word; rd = zero-word; re = zero-word; rf = zero-word };
+            r =
+                record {
+                  r0 = zero-word;
+                  r1 = zero-word;
+                  r2 = zero-word;
+                  r3 = zero-word;
+                  r4 = zero-word;
+                  r5 = zero-word;
+                  r6 = zero-word;
+                  r7 = zero-word;
+                  r8 = zero-word;
+                  r9 = zero-word;
+                  ra = zero-word;
+                  rb = zero-word;
+                  rc = zero-word;
+                  rd = zero-word;
+                  re = zero-word;
+                  rf = zero-word;
+                };
             d = lit< tt;
             df = omega arith;
             p = lit< tt;

@@ -69,7 +69,17 @@ module _ (e : Edition) (b : Machine) (h : Since) (f : FitsMachine b) where
   pub arith_comes : Enters (quick e) at_arith 8 b (now h) → h.spent ≡ 80 → Comes (quick e) (calm_pieces (quick e)) (OfArith Arith) b h
   arith_comes o spent = routine (OfArith Arith) o.entered _ (omega arith) refl (λ h' g. to_arith (quick e) g _ calm (Operation (low % 16)) (
     record {
-      entered = record { holds = o.entered.holds; inside = o.entered.inside; p = refl; r3 = ap₂ word (omega arith) branch; r4 = refl; r6 = refl; r7 = refl; rc = refl };
+      entered =
+          record {
+            holds = o.entered.holds;
+            inside = o.entered.inside;
+            p = refl;
+            r3 = ap₂ word (omega arith) branch;
+            r4 = refl;
+            r6 = refl;
+            r7 = refl;
+            rc = refl;
+          };
       digit = o.digit;
     },
     refl,
@@ -86,7 +96,9 @@ module _ (e : Edition) (b : Machine) (h : Since) (f : FitsMachine b) where
 
   -- 8XYN with this n
   abbrev Case : ℕ → Type 0
-  Case n = Enters (quick e) (at_slot0 + 2 * n) 8 b (now h) → low % 16 ≡ n → b.regs.x ≡ 6 → h.spent ≡ 92 → Comes (quick e) (calm_pieces (quick e)) (OfArith (Operation n)) b h
+  Case n =
+      Enters (quick e) (at_slot0 + 2 * n) 8 b (now h) → low % 16 ≡ n → b.regs.x ≡ 6 → h.spent ≡ 92
+      → Comes (quick e) (calm_pieces (quick e)) (OfArith (Operation n)) b h
 
   -- V0 to VF lie above the byte at R2
   abbrev Room : Type 0
@@ -101,33 +113,47 @@ module _ (e : Edition) (b : Machine) (h : Since) (f : FitsMachine b) where
 
     is_slot : Enters (quick e) (at_slot0 + 2 * n) 8 b (now h) → b.regs.x ≡ 6 → b ≡ slot
     unfolding pointed
-    is_slot o by_r6 = is_entered o.entered ∙ (λ i. record (entered e (at_slot0 + 2 * n) high low b) { regs = record (entered e (at_slot0 + 2 * n) high low b).regs { x = by_r6 i } })
+    is_slot o by_r6 =
+        is_entered o.entered ∙ (λ i. record (entered e
+        (at_slot0 + 2 * n) high low b) { regs = record (entered e (at_slot0 + 2 * n) high low b).regs { x = by_r6 i } })
 
     decoded : Enters (quick e) (at_slot0 + 2 * n) 8 b (now h) → low % 16 ≡ n → instr_at (now h) ≡ arithmetic n (high % 16) (low / 16) (high * 256 + low)
     decoded o nibble = rw (o.digit, nibble) refl
 
     -- its instructions lead to c; what follows there is given
-    operation : (c : Machine) → (Room → AllGood (code (quick e)) (calm_top e) (arith_moves (Operation n)) slot) → quicks (code (quick e)) (arith_moves (Operation n)) slot ≡ c → (Enters (quick e) (at_slot0 + 2 * n) 8 b (now h) → instr_at (now h) ≡ arithmetic n (high % 16) (low / 16) (high * 256 + low) → h.spent ≡ 92 → (h' : Since) → Grows h (arith_moves (Operation n)) 0 h' → Ends (quick e) (calm_pieces (quick e)) c h') → Case n
+    operation : (c : Machine) → (Room → AllGood (code (quick e)) (calm_top e) (arith_moves (Operation n)) slot)
+        → quicks (code (quick e)) (arith_moves (Operation n)) slot ≡ c
+        → (Enters (quick e) (at_slot0 + 2 * n) 8 b (now h) → instr_at (now h) ≡ arithmetic n (high % 16) (low / 16) (high * 256 + low) → h.spent ≡ 92
+        → (h' : Since) → Grows h (arith_moves (Operation n)) 0 h' → Ends (quick e) (calm_pieces (quick e)) c h') → Case n
     operation c good is ends o nibble by_r6 spent = record {
       runs = ready o.entered.holds;
       awake = o.entered.holds.awake;
       some = some (OfArith (Operation n));
       end = c;
-      reaches = reaches_from (code (quick e)) (calm_top e) (arith_moves (Operation n)) b _ _ (is_slot o by_r6) (reaches_in (code (quick e)) (calm_top e) (arith_moves (Operation n)) _ _ (good (room o.entered)) is);
+      reaches =
+          reaches_from (code (quick e)) (calm_top e) (arith_moves (Operation n)) b _ _ (is_slot o by_r6)
+          (reaches_in (code (quick e)) (calm_top e) (arith_moves (Operation n)) _ _ (good (room o.entered)) is);
       ends = ends o (decoded o nibble) spent;
     }
 
     -- The instruction has a flag: it puts value of VX and VY into VX, and flag of them into VF.
     abbrev Flagged : (value flag : ℕ → ℕ → ℕ) → Type 0
-    Flagged value flag = let i = arithmetic n (high % 16) (low / 16) (high * 256 + low) in Entered (quick e) (at_slot0 + 2 * n) b (now h) → (has_shared_end i ≡ true) × (done_by e i Nothing (now h) ≡ set_with_flag (high % 16) (value vx vy) (flag vx vy) (now h))
+    Flagged value flag =
+        let i = arithmetic n (high % 16) (low / 16) (high * 256 + low) in Entered (quick e) (at_slot0 + 2 * n) b (now h)
+        → (has_shared_end i ≡ true) × (done_by e i Nothing (now h) ≡ set_with_flag (high % 16) (value vx vy) (flag vx vy) (now h))
 
     -- its code leaves them in D and DF
-    flagged : (value flag : ℕ → ℕ → ℕ) → Flagged value flag → arith_moves (Operation n) ≤ 5 → (Room → AllGood (code (quick e)) (calm_top e) (arith_moves (Operation n)) slot) → quicks (code (quick e)) (arith_moves (Operation n)) slot ≡ pointed at_flag (value (byte_x e b (now h)) (byte_y e b (now h))) (flag (byte_x e b (now h)) (byte_y e b (now h))) → Case n
+    flagged : (value flag : ℕ → ℕ → ℕ) → Flagged value flag → arith_moves (Operation n) ≤ 5
+        → (Room → AllGood (code (quick e)) (calm_top e) (arith_moves (Operation n)) slot)
+        → quicks (code (quick e)) (arith_moves (Operation n)) slot
+        ≡ pointed at_flag (value (byte_x e b (now h)) (byte_y e b (now h))) (flag (byte_x e b (now h)) (byte_y e b (now h))) → Case n
     unfolding pointed
     flagged value flag does short good is = operation _ good is (λ o instr spent h' g. to_arith (quick e) g _ refl Flag (record {
       entered = goes o.entered at_flag _ _;
       shared = ap has_shared_end instr ∙ (does o.entered).0;
-      makes = ap (λ i. done_by e i Nothing (now h)) instr ∙ (does o.entered).1 ∙ ap₂ (λ x y. set_with_flag (high % 16) (value x y) (flag x y) (now h)) (sym (is_vx o.entered)) (sym (is_vy o.entered f));
+      makes =
+          ap (λ i. done_by e i Nothing (now h)) instr ∙ (does o.entered).1
+          ∙ ap₂ (λ x y. set_with_flag (high % 16) (value x y) (flag x y) (now h)) (sym (is_vx o.entered)) (sym (is_vy o.entered f));
     }) (omega (arith, spent, short, g.spent)))
 
   -- a byte z to which 0 is added stays in D, and DF is 0
@@ -136,19 +162,34 @@ module _ (e : Edition) (b : Machine) (h : Since) (f : FitsMachine b) where
 
   copy : Case 0
   unfolding pointed
-  copy = operation 0 _ (λ r. omega (arith, r)) refl (λ o instr spent h' g. steps e g (Copy (high % 16) (low / 16)) instr refl (rw (o.entered.inside, instr) refl) _ (subst (λ y. Holding (quick e) (record (places b) { ram = written b.latch b.ram (page_of e * 256 + (240 + high % 16)) (byte_y e b (now h)) }) (set (high % 16) y (now h))) (is_vy o.entered f) (v_set o.entered.holds _ (high % 16) _ (omega (arith, variables_is e)) (omega arith))) refl refl)
+  copy =
+      operation 0 _ (λ r. omega (arith, r)) refl
+      (λ o instr spent h' g. steps e g (Copy (high % 16) (low / 16)) instr refl (rw (o.entered.inside, instr) refl) _
+      (subst (λ y. Holding (quick e)
+      (record (places b) { ram = written b.latch b.ram (page_of e * 256 + (240 + high % 16)) (byte_y e b (now h)) })
+      (set (high % 16) y (now h))) (is_vy o.entered f)
+      (v_set o.entered.holds _ (high % 16) _ (omega (arith, variables_is e)) (omega arith))) refl refl)
 
   vx_or : Case 1
   unfolding pointed
-  vx_or = flagged 1 (λ x y. (bit_or y x + 0) % 256) (λ x y. (bit_or y x + 0) / 256) (λ o. (refl, cleared (bit_or vx vy) (bit_or vy vx) (or_comm vx vy) (or_lt 8 vy vx (y_fits o) (x_fits o)))) (omega arith) (λ r. omega (arith, r)) refl
+  vx_or =
+      flagged 1 (λ x y. (bit_or y x + 0) % 256) (λ x y. (bit_or y x + 0) / 256)
+      (λ o. (refl, cleared (bit_or vx vy) (bit_or vy vx) (or_comm vx vy) (or_lt 8 vy vx (y_fits o) (x_fits o)))) (omega arith)
+      (λ r. omega (arith, r)) refl
 
   vx_and : Case 2
   unfolding pointed
-  vx_and = flagged 2 (λ x y. (bit_and y x + 0) % 256) (λ x y. (bit_and y x + 0) / 256) (λ o. (refl, cleared (bit_and vx vy) (bit_and vy vx) (and_comm vx vy) (omega (arith, and_le_l vy vx, y_fits o)))) (omega arith) (λ r. omega (arith, r)) refl
+  vx_and =
+      flagged 2 (λ x y. (bit_and y x + 0) % 256) (λ x y. (bit_and y x + 0) / 256)
+      (λ o. (refl, cleared (bit_and vx vy) (bit_and vy vx) (and_comm vx vy) (omega (arith, and_le_l vy vx, y_fits o)))) (omega arith)
+      (λ r. omega (arith, r)) refl
 
   vx_xor : Case 3
   unfolding pointed
-  vx_xor = flagged 3 (λ x y. (bit_xor y x + 0) % 256) (λ x y. (bit_xor y x + 0) / 256) (λ o. (refl, cleared (bit_xor vx vy) (bit_xor vy vx) (xor_comm vx vy) (xor_lt 8 vy vx (y_fits o) (x_fits o)))) (omega arith) (λ r. omega (arith, r)) refl
+  vx_xor =
+      flagged 3 (λ x y. (bit_xor y x + 0) % 256) (λ x y. (bit_xor y x + 0) / 256)
+      (λ o. (refl, cleared (bit_xor vx vy) (bit_xor vy vx) (xor_comm vx vy) (xor_lt 8 vy vx (y_fits o) (x_fits o)))) (omega arith)
+      (λ r. omega (arith, r)) refl
 
   sum : Case 4
   unfolding pointed
@@ -171,21 +212,39 @@ module _ (e : Edition) (b : Machine) (h : Since) (f : FitsMachine b) where
   left = flagged 14 (λ x y. y * 2 % 256) (λ x y. y * 2 / 256) (λ o. (refl, refl)) (omega arith) (λ r. omega (arith, r)) refl
 
   -- where N is that of no instruction, the opcode is unknown
-  other : (n : ℕ) → arith_moves (Operation n) ≡ 1 → AllGood (code (quick e)) (calm_top e) (arith_moves (Operation n)) (slot n) → quicks (code (quick e)) (arith_moves (Operation n)) (slot n) ≡ pointed at_unknown82 b.regs.d b.regs.df → ((x y o : ℕ) → arithmetic n x y o ≡ IsUnknown o) → Case n
+  other : (n : ℕ) → arith_moves (Operation n) ≡ 1 → AllGood (code (quick e)) (calm_top e) (arith_moves (Operation n)) (slot n)
+      → quicks (code (quick e)) (arith_moves (Operation n)) (slot n) ≡ pointed at_unknown82 b.regs.d b.regs.df
+      → ((x y o : ℕ) → arithmetic n x y o ≡ IsUnknown o) → Case n
   unfolding pointed
-  other n one good is unknown = operation n _ (λ r. good) is (λ o instr spent h' g. to_arith (quick e) g _ refl Unknown82 (goes o.entered at_unknown82 _ _, rw (o.entered.inside, instr, unknown (high % 16) (low / 16) (high * 256 + low)) refl) (omega (arith, spent, one, g.spent)))
+  other n one good is unknown =
+      operation n _ (λ r. good) is (λ o instr spent h' g. to_arith (quick e) g _ refl Unknown82
+      (goes o.entered at_unknown82 _ _, rw (o.entered.inside, instr, unknown (high % 16) (low / 16) (high * 256 + low)) refl)
+      (omega (arith, spent, one, g.spent)))
 
   pub operation_comes : (n : ℕ) → Case n
   unfolding pointed
-  operation_comes n o nibble = by_digit Case copy vx_or vx_and vx_xor sum less right from (other 8 refl (omega arith) refl (λ x y o. refl)) (other 9 refl (omega arith) refl (λ x y o. refl)) (other 10 refl (omega arith) refl (λ x y o. refl)) (other 11 refl (omega arith) refl (λ x y o. refl)) (other 12 refl (omega arith) refl (λ x y o. refl)) (other 13 refl (omega arith) refl (λ x y o. refl)) left (other 15 refl (omega arith) refl (λ x y o. refl)) n (omega (arith, nibble)) o nibble
+  operation_comes n o nibble =
+      by_digit Case copy vx_or vx_and vx_xor sum less right from (other 8 refl (omega arith) refl (λ x y o. refl))
+      (other 9 refl (omega arith) refl (λ x y o. refl)) (other 10 refl (omega arith) refl (λ x y o. refl))
+      (other 11 refl (omega arith) refl (λ x y o. refl)) (other 12 refl (omega arith) refl (λ x y o. refl))
+      (other 13 refl (omega arith) refl (λ x y o. refl)) left (other 15 refl (omega arith) refl (λ x y o. refl)) n
+      (omega (arith, nibble)) o nibble
 
   -- ---- the ends
 
-  pub flag_comes : Ending (quick e) at_flag (set_with_flag (high % 16) b.regs.d b.regs.df (now h)) b (now h) → Comes (quick e) (calm_pieces (quick e)) (OfArith Flag) b h
-  flag_comes o = ending (OfArith Flag) o _ (omega arith) refl (rw flag (v_set (v_set o.entered.holds (page_of e * 256 + (240 + high % 16)) (high % 16) b.regs.d (omega (arith, variables_is e)) (omega arith)) _ 15 _ (omega (arith, variables_is e)) (omega arith))) refl refl
+  pub flag_comes : Ending (quick e) at_flag (set_with_flag (high % 16) b.regs.d b.regs.df (now h)) b (now h)
+      → Comes (quick e) (calm_pieces (quick e)) (OfArith Flag) b h
+  flag_comes o =
+      ending (OfArith Flag) o _ (omega arith) refl
+      (rw flag (v_set (v_set o.entered.holds (page_of e * 256 + (240 + high % 16)) (high % 16) b.regs.d (omega (arith, variables_is e))
+      (omega arith)) _ 15 _ (omega (arith, variables_is e)) (omega arith))) refl refl
     where
       flag : (0 * 2 + b.regs.df) % 256 ≡ b.regs.df
       flag = omega (arith, f.regs.df)
 
-  pub unknown82_comes : Entered (quick e) at_unknown82 b (now h) → stop_of e (now h) ≡ Some Unknown → h.spent ≤ 94 → Comes (quick e) (calm_pieces (quick e)) (OfArith Unknown82) b h
-  unknown82_comes o stop spent = routine (OfArith Unknown82) o _ (omega arith) refl (λ h' g. to_fetch (quick e) g _ refl (Leave 1) (record { holds = o.holds; p = refl; r3 = refl; stop = Unknown; fits = stop; number = refl }, omega arith) (omega (arith, spent, g.spent)))
+  pub unknown82_comes : Entered (quick e) at_unknown82 b (now h) → stop_of e (now h) ≡ Some Unknown → h.spent ≤ 94
+      → Comes (quick e) (calm_pieces (quick e)) (OfArith Unknown82) b h
+  unknown82_comes o stop spent =
+      routine (OfArith Unknown82) o _ (omega arith) refl
+      (λ h' g. to_fetch (quick e) g _ refl (Leave 1)
+      (record { holds = o.holds; p = refl; r3 = refl; stop = Unknown; fits = stop; number = refl }, omega arith) (omega (arith, spent, g.spent)))

@@ -46,36 +46,64 @@ module _ (e : Edition) (b : Machine) (h : Since) (f : FitsMachine b) where
   -- ---- 0MMM: which of them
 
   other_machine : (a : ℕ) → Enters (quick e) a 0 b (now h) → (high ≡ 0 → ⊥) → stop_of e (now h) ≡ Some MachineCall
-  other_machine a o d = rw (o.entered.inside, o.digit, ne_eqb (high % 16 * 256 + low) 0xe0 (λ k. d (omega (arith, k, o.digit))), ne_eqb (high % 16 * 256 + low) 0xee (λ k. d (omega (arith, k, o.digit)))) refl
+  other_machine a o d =
+      rw (
+        o.entered.inside,
+        o.digit,
+        ne_eqb (high % 16 * 256 + low) 0xe0 (λ k. d (omega (arith, k, o.digit))),
+        ne_eqb (high % 16 * 256
+            + low) 0xee (λ k. d (omega (arith, k, o.digit))),
+      ) refl
 
   low_machine : (a : ℕ) → Entered (quick e) a b (now h) → high ≡ 0 → (low ≡ 0xe0 → ⊥) → (low ≡ 0xee → ⊥) → stop_of e (now h) ≡ Some MachineCall
-  low_machine a o zero clear back = rw (o.inside, zero, ne_eqb (0 + low) 0xe0 (λ k. clear (omega (arith, k))), ne_eqb (0 + low) 0xee (λ k. back (omega (arith, k)))) refl
+  low_machine a o zero clear back =
+      rw (o.inside, zero, ne_eqb (0 + low) 0xe0 (λ k. clear (omega (arith, k))), ne_eqb (0 + low) 0xee (λ k. back (omega (arith, k)))) refl
 
   pub system_comes : Enters (quick e) at_system 0 b (now h) → h.spent ≡ 80 → Comes (quick e) (calm_pieces (quick e)) (OfArith System) b h
   system_comes o spent = branch (OfArith System) o.entered (looked e high low b high) (not (high == 0)) at_machine at_system_low (omega arith) refl
-      (λ k h' g. to_arith (quick e) g _ refl MachineCode (looks high at_machine o.entered, other_machine at_system o (nonzero high k)) (omega (arith, spent, g.spent)))
+      (λ k h' g. to_arith (quick e) g _ refl MachineCode (looks high at_machine o.entered, other_machine at_system o (nonzero high k))
+      (omega (arith, spent, g.spent)))
       (λ k h' g. to_arith (quick e) g _ refl SystemLow (looks high at_system_low o.entered, is_zero high k) (omega (arith, spent, g.spent)))
 
   pub system_low_comes : Entered (quick e) at_system_low b (now h) → high ≡ 0 → h.spent ≤ 84 → Comes (quick e) (calm_pieces (quick e)) (OfArith SystemLow) b h
-  system_low_comes o zero spent = branch (OfArith SystemLow) o (looked e high low b (bit_xor low 0xe0)) (bit_xor low 0xe0 == 0) at_clear at_system_back (omega arith) refl
+  system_low_comes o zero spent =
+      branch (OfArith SystemLow) o (looked e high low b (bit_xor low 0xe0)) (bit_xor low 0xe0 == 0) at_clear at_system_back (omega arith) refl
       (λ k h' g. to_sprite (quick e) g _ refl Clear tt (looks (bit_xor low 0xe0) at_clear o, (zero, xor_same low 0xe0 k)) (omega (arith, spent, g.spent)))
       (λ k h' g. to_arith (quick e) g _ refl SystemBack (looks (bit_xor low 0xe0) at_system_back o, zero, xor_other low 0xe0 k) (omega (arith, spent, g.spent)))
 
-  pub system_back_comes : Entered (quick e) at_system_back b (now h) → high ≡ 0 → (low ≡ 0xe0 → ⊥) → h.spent ≤ 90 → Comes (quick e) (calm_pieces (quick e)) (OfArith SystemBack) b h
-  system_back_comes o zero clear spent = branch (OfArith SystemBack) o (looked e high low b (bit_xor low 0xee)) (bit_xor low 0xee == 0) at_return at_machine (omega arith) refl
+  pub system_back_comes : Entered (quick e) at_system_back b (now h) → high ≡ 0 → (low ≡ 0xe0 → ⊥) → h.spent ≤ 90
+      → Comes (quick e) (calm_pieces (quick e)) (OfArith SystemBack) b h
+  system_back_comes o zero clear spent =
+      branch (OfArith SystemBack) o (looked e high low b (bit_xor low 0xee)) (bit_xor low 0xee == 0) at_return at_machine (omega arith) refl
       (λ k h' g. to_arith (quick e) g _ refl Return (looks (bit_xor low 0xee) at_return o, zero, xor_same low 0xee k) (omega (arith, spent, g.spent)))
-      (λ k h' g. to_arith (quick e) g _ refl MachineCode (looks (bit_xor low 0xee) at_machine o, low_machine at_system_back o zero clear (xor_other low 0xee k)) (omega (arith, spent, g.spent)))
+      (λ k h' g. to_arith (quick e) g _ refl MachineCode
+      (looks (bit_xor low 0xee) at_machine o, low_machine at_system_back o zero clear (xor_other low 0xee k)) (omega (arith, spent, g.spent)))
 
   -- ---- the stops: their number goes into D
 
-  pub machine_comes : Entered (quick e) at_machine b (now h) → stop_of e (now h) ≡ Some MachineCall → h.spent ≤ 96 → Comes (quick e) (calm_pieces (quick e)) (OfArith MachineCode) b h
-  machine_comes o stop spent = routine (OfArith MachineCode) o _ (omega arith) refl (λ h' g. to_fetch (quick e) g _ refl (Leave 0) (record { holds = o.holds; p = refl; r3 = refl; stop = MachineCall; fits = stop; number = refl }, omega arith) (omega (arith, spent, g.spent)))
+  pub machine_comes : Entered (quick e) at_machine b (now h) → stop_of e (now h) ≡ Some MachineCall → h.spent ≤ 96
+      → Comes (quick e) (calm_pieces (quick e)) (OfArith MachineCode) b h
+  machine_comes o stop spent =
+      routine (OfArith MachineCode) o _ (omega arith) refl
+      (λ h' g. to_fetch (quick e) g _ refl (Leave 0)
+      (record { holds = o.holds; p = refl; r3 = refl; stop = MachineCall; fits = stop; number = refl }, omega arith)
+      (omega (arith, spent, g.spent)))
 
-  pub empty_comes : Entered (quick e) at_empty b (now h) → stop_of e (now h) ≡ Some StackEmpty → h.spent ≤ 102 → Comes (quick e) (calm_pieces (quick e)) (OfArith Empty) b h
-  empty_comes o stop spent = routine (OfArith Empty) o _ (omega arith) refl (λ h' g. to_fetch (quick e) g _ refl (Leave 0) (record { holds = o.holds; p = refl; r3 = refl; stop = StackEmpty; fits = stop; number = refl }, omega arith) (omega (arith, spent, g.spent)))
+  pub empty_comes : Entered (quick e) at_empty b (now h) → stop_of e (now h) ≡ Some StackEmpty → h.spent ≤ 102
+      → Comes (quick e) (calm_pieces (quick e)) (OfArith Empty) b h
+  empty_comes o stop spent =
+      routine (OfArith Empty) o _ (omega arith) refl
+      (λ h' g. to_fetch (quick e) g _ refl (Leave 0)
+      (record { holds = o.holds; p = refl; r3 = refl; stop = StackEmpty; fits = stop; number = refl }, omega arith)
+      (omega (arith, spent, g.spent)))
 
-  pub full_comes : Entered (quick e) at_full b (now h) → stop_of e (now h) ≡ Some StackFull → h.spent ≤ 86 → Comes (quick e) (calm_pieces (quick e)) (OfArith Full) b h
-  full_comes o stop spent = routine (OfArith Full) o _ (omega arith) refl (λ h' g. to_fetch (quick e) g _ refl (Leave 0) (record { holds = o.holds; p = refl; r3 = refl; stop = StackFull; fits = stop; number = refl }, omega arith) (omega (arith, spent, g.spent)))
+  pub full_comes : Entered (quick e) at_full b (now h) → stop_of e (now h) ≡ Some StackFull → h.spent ≤ 86
+      → Comes (quick e) (calm_pieces (quick e)) (OfArith Full) b h
+  full_comes o stop spent =
+      routine (OfArith Full) o _ (omega arith) refl
+      (λ h' g. to_fetch (quick e) g _ refl (Leave 0)
+      (record { holds = o.holds; p = refl; r3 = refl; stop = StackFull; fits = stop; number = refl }, omega arith)
+      (omega (arith, spent, g.spent)))
 
   -- ---- 00EE
 
@@ -93,12 +121,24 @@ module _ (e : Edition) (b : Machine) (h : Since) (f : FitsMachine b) where
   r2_is o = omega (arith, o.holds.stack, stack_most o.holds, stack_top_is e, f.regs.r.r2.hi, f.regs.r.r2.lo)
 
   pub return_comes : Entered (quick e) at_return b (now h) → high ≡ 0 → low ≡ 0xee → h.spent ≤ 96 → Comes (quick e) (calm_pieces (quick e)) (OfArith Return) b h
-  return_comes o zero back spent = branch (OfArith Return) o (looked e high low b (bit_xor b.regs.r.r2.lo 0xcf)) (bit_xor b.regs.r.r2.lo 0xcf == 0) at_empty at_return_take (omega arith) refl
-      (λ k h' g. to_arith (quick e) g _ refl Empty (looks (bit_xor b.regs.r.r2.lo 0xcf) at_empty o, return_stops at_return o zero back (omega (arith, xor_same b.regs.r.r2.lo 0xcf k, r2_is o))) (omega (arith, spent, g.spent)))
-      (λ k h' g. to_arith (quick e) g _ refl ReturnTake (looks (bit_xor b.regs.r.r2.lo 0xcf) at_return_take o, zero, back, omega (arith, xor_other b.regs.r.r2.lo 0xcf k, r2_is o)) (omega (arith, spent, g.spent)))
+  return_comes o zero back spent =
+      branch (OfArith Return) o (looked e high low b (bit_xor b.regs.r.r2.lo 0xcf)) (bit_xor b.regs.r.r2.lo 0xcf == 0) at_empty at_return_take
+      (omega arith) refl
+      (λ k h' g. to_arith (quick e) g _ refl Empty (
+        looks (bit_xor b.regs.r.r2.lo 0xcf) at_empty o,
+        return_stops at_return o zero back (omega
+            (arith, xor_same b.regs.r.r2.lo 0xcf k, r2_is o)),
+      ) (omega (arith, spent, g.spent)))
+      (λ k h' g. to_arith (quick e) g _ refl ReturnTake
+      (looks (bit_xor b.regs.r.r2.lo 0xcf) at_return_take o, zero, back, omega (arith, xor_other b.regs.r.r2.lo 0xcf k, r2_is o))
+      (omega (arith, spent, g.spent)))
 
-  pub return_take_comes : Entered (quick e) at_return_take b (now h) → high ≡ 0 → low ≡ 0xee → 0 < depth → Comes (quick e) (calm_pieces (quick e)) (OfArith ReturnTake) b h
-  return_take_comes o zero back some = routine (OfArith ReturnTake) o _ (omega (arith, o.holds.stack, stack_top_is e, page_fits e, some, f.regs.r.r2.hi, f.regs.r.r2.lo)) refl (λ h' g. steps e g ReturnFrom (return_is at_return_take o zero back) refl (return_runs at_return_take o zero back some) _ (pc_set (pop o.holds f.regs.r.r2 some) taken _ (popped o.holds f.regs.r.r2 some)) refl refl)
+  pub return_take_comes : Entered (quick e) at_return_take b (now h) → high ≡ 0 → low ≡ 0xee → 0 < depth
+      → Comes (quick e) (calm_pieces (quick e)) (OfArith ReturnTake) b h
+  return_take_comes o zero back some =
+      routine (OfArith ReturnTake) o _ (omega (arith, o.holds.stack, stack_top_is e, page_fits e, some, f.regs.r.r2.hi, f.regs.r.r2.lo)) refl
+      (λ h' g. steps e g ReturnFrom (return_is at_return_take o zero back) refl (return_runs at_return_take o zero back some) _
+      (pc_set (pop o.holds f.regs.r.r2 some) taken _ (popped o.holds f.regs.r.r2 some)) refl refl)
     where
       taken : Word
       taken = word (read (both e) b.latch b.ram (value (up b.regs.r.r2))) (read (both e) b.latch b.ram (value (up (up b.regs.r.r2))))
@@ -115,7 +155,10 @@ module _ (e : Edition) (b : Machine) (h : Since) (f : FitsMachine b) where
   target = ap (λ d. d * 256 + low) (and_mask high 4)
 
   pub jump_comes : Enters (quick e) at_jump 1 b (now h) → Comes (quick e) (calm_pieces (quick e)) (OfArith JumpTo) b h
-  jump_comes o = routine (OfArith JumpTo) o.entered _ (omega arith) refl (λ h' g. steps e g (Jump (high % 16 * 256 + low)) (jump_is o) refl (jump_runs o) _ (pc_set o.entered.holds (word (bit_and high 15) low) (high % 16 * 256 + low) target) refl refl)
+  jump_comes o =
+      routine (OfArith JumpTo) o.entered _ (omega arith) refl
+      (λ h' g. steps e g (Jump (high % 16 * 256 + low)) (jump_is o) refl (jump_runs o) _
+      (pc_set o.entered.holds (word (bit_and high 15) low) (high % 16 * 256 + low) target) refl refl)
 
   -- ---- 2MMM
 
@@ -129,19 +172,41 @@ module _ (e : Edition) (b : Machine) (h : Since) (f : FitsMachine b) where
   call_runs o room = rw (o.entered.inside, o.digit, ne_eqb depth 12 (λ k. omega (arith, k, room))) refl
 
   pub call_comes : Enters (quick e) at_call 2 b (now h) → h.spent ≡ 80 → Comes (quick e) (calm_pieces (quick e)) (OfArith Call) b h
-  call_comes o spent = branch (OfArith Call) o.entered (looked e high low b (bit_xor b.regs.r.r2.lo 0xb7)) (bit_xor b.regs.r.r2.lo 0xb7 == 0) at_full at_call_put (omega arith) refl
-      (λ k h' g. to_arith (quick e) g _ refl Full (looks (bit_xor b.regs.r.r2.lo 0xb7) at_full o.entered, call_stops o (omega (arith, xor_same b.regs.r.r2.lo 0xb7 k, r2_is o.entered))) (omega (arith, spent, g.spent)))
-      (λ k h' g. to_arith (quick e) g _ refl CallPut (record { entered = looks (bit_xor b.regs.r.r2.lo 0xb7) at_call_put o.entered; digit = o.digit }, omega (arith, xor_other b.regs.r.r2.lo 0xb7 k, r2_is o.entered, stack_most o.entered.holds)) (omega (arith, spent, g.spent)))
+  call_comes o spent =
+      branch (OfArith Call) o.entered (looked e high low b (bit_xor b.regs.r.r2.lo 0xb7)) (bit_xor b.regs.r.r2.lo 0xb7 == 0) at_full at_call_put
+      (omega arith) refl
+      (λ k h' g. to_arith (quick e) g _ refl Full
+      (looks (bit_xor b.regs.r.r2.lo 0xb7) at_full o.entered, call_stops o (omega (arith, xor_same b.regs.r.r2.lo 0xb7 k, r2_is o.entered)))
+      (omega (arith, spent, g.spent)))
+      (λ k h' g. to_arith (quick e) g _ refl CallPut (
+        record {
+          entered = looks (bit_xor b.regs.r.r2.lo 0xb7) at_call_put o.entered;
+          digit = o.digit;
+        },
+        omega (arith, xor_other b.regs.r.r2.lo 0xb7 k, r2_is o.entered, stack_most o.entered.holds),
+      )
+      (omega (arith, spent, g.spent)))
 
   -- pc goes on the stack, past the opcode
   abbrev pushed : Places
-  pushed = record (places b) { ram = written b.latch (written b.latch b.ram (value b.regs.r.r2) b.regs.r.r5.lo) (value (down b.regs.r.r2)) b.regs.r.r5.hi; r2 = down (down b.regs.r.r2) }
+  pushed =
+      record (places b) {
+        ram = written b.latch (written b.latch b.ram (value b.regs.r.r2) b.regs.r.r5.lo) (value (down b.regs.r.r2)) b.regs.r.r5.hi;
+        r2 = down (down b.regs.r.r2);
+      }
 
-  pushes : {a : ℕ} → Enters (quick e) a 2 b (now h) → depth < 12 → Holding (quick e) pushed (record (next (now h)) { stack = (now h).stack ++ ((now h).pc + 2) ∷ [] })
-  pushes o room = subst (λ z. Holding (quick e) pushed (record (next (now h)) { stack = (now h).stack ++ z ∷ [] })) (pc_is o.entered.holds) (push o.entered.holds f.regs.r.r2 room b.regs.r.r5.hi b.regs.r.r5.lo)
+  pushes : {a : ℕ} → Enters (quick e) a 2 b (now h) → depth < 12
+      → Holding (quick e) pushed (record (next (now h)) { stack = (now h).stack ++ ((now h).pc + 2) ∷ [] })
+  pushes o room =
+      subst (λ z. Holding (quick e) pushed (record (next (now h)) { stack = (now h).stack ++ z ∷ [] })) (pc_is o.entered.holds)
+      (push o.entered.holds f.regs.r.r2 room b.regs.r.r5.hi b.regs.r.r5.lo)
 
   pub call_put_comes : Enters (quick e) at_call_put 2 b (now h) → depth < 12 → Comes (quick e) (calm_pieces (quick e)) (OfArith CallPut) b h
-  call_put_comes o room = routine (OfArith CallPut) o.entered _ (omega (arith, o.entered.holds.stack, stack_top_is e, page_fits e, f.regs.r.r2.hi, f.regs.r.r2.lo, room)) refl (λ h' g. steps e g (CallTo (high % 16 * 256 + low)) (call_is o) refl (call_runs o room) _ (pc_set (pushes o room) (word (bit_and high 15) low) (high % 16 * 256 + low) target) refl refl)
+  call_put_comes o room =
+      routine (OfArith CallPut) o.entered _
+      (omega (arith, o.entered.holds.stack, stack_top_is e, page_fits e, f.regs.r.r2.hi, f.regs.r.r2.lo, room)) refl
+      (λ h' g. steps e g (CallTo (high % 16 * 256 + low)) (call_is o) refl (call_runs o room) _
+      (pc_set (pushes o room) (word (bit_and high 15) low) (high % 16 * 256 + low) target) refl refl)
 
   -- ---- BMMM
 
@@ -155,8 +220,15 @@ module _ (e : Edition) (b : Machine) (h : Since) (f : FitsMachine b) where
   abbrev low_sum : ℕ
   low_sum = read (both e) b.latch b.ram (value (word (page_of e) 240)) + low
 
-  sum_is : Enters (quick e) at_jump_plus 11 b (now h) → value (word ((0 + bit_and high 15 + low_sum / 256) % 256) (low_sum % 256)) ≡ high % 16 * 256 + low + variable (now h) 0
-  sum_is o = rw (and_mask high 4, v_get o.entered.holds (value (word (page_of e) 240)) 0 (omega (arith, variables_is e)) (omega arith)) (omega (arith, v_byte o.entered.holds f.ram 0 (omega arith), low_fits o.entered f))
+  sum_is : Enters (quick e) at_jump_plus 11 b (now h)
+      → value (word ((0 + bit_and high 15 + low_sum / 256) % 256) (low_sum % 256)) ≡ high % 16 * 256 + low + variable (now h) 0
+  sum_is o =
+      rw (and_mask high 4, v_get o.entered.holds (value (word (page_of e) 240)) 0 (omega (arith, variables_is e)) (omega arith))
+      (omega (arith, v_byte o.entered.holds f.ram 0 (omega arith), low_fits o.entered f))
 
   pub jump_plus_comes : Enters (quick e) at_jump_plus 11 b (now h) → Comes (quick e) (calm_pieces (quick e)) (OfArith JumpPlus) b h
-  jump_plus_comes o = routine (OfArith JumpPlus) o.entered _ (omega (arith, o.entered.holds.stack, stack_top_is e, page_fits e)) refl (λ h' g. steps e g (JumpBy (high % 16 * 256 + low)) (plus_is o) refl (plus_runs o) _ (pc_set o.entered.holds (word ((0 + bit_and high 15 + low_sum / 256) % 256) (low_sum % 256)) (high % 16 * 256 + low + variable (now h) 0) (sum_is o)) refl refl)
+  jump_plus_comes o =
+      routine (OfArith JumpPlus) o.entered _ (omega (arith, o.entered.holds.stack, stack_top_is e, page_fits e)) refl
+      (λ h' g. steps e g (JumpBy (high % 16 * 256 + low)) (plus_is o) refl (plus_runs o) _
+      (pc_set o.entered.holds (word ((0 + bit_and high 15 + low_sum / 256) % 256) (low_sum % 256)) (high % 16 * 256 + low + variable (now h) 0)
+      (sum_is o)) refl refl)

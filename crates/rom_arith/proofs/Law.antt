@@ -25,7 +25,8 @@ use Rattle.rom_arith.proofs.Skips.{eq_comes, ne_comes, skip_same_comes, same_com
 use Rattle.rom_arith.proofs.Arithmetic.{arith_comes, operation_comes, flag_comes, unknown82_comes}
 use Rattle.rom_arith.specs.Code.{arith_rom}
 
-pub arith_block : (e : Edition) (l : ArithBlock) (b : Machine) (h : Since) → FitsMachine b → Head (quick e) (OfArith l) b h → Comes (quick e) (calm_pieces (quick e)) (OfArith l) b h
+pub arith_block : (e : Edition) (l : ArithBlock) (b : Machine) (h : Since) → FitsMachine b → Head (quick e) (OfArith l) b h
+    → Comes (quick e) (calm_pieces (quick e)) (OfArith l) b h
 arith_block e System b h f o = system_comes e b h f o.0 o.1
 arith_block e SystemLow b h f o = system_low_comes e b h f o.0.0 o.0.1 o.1
 arith_block e SystemBack b h f o = system_back_comes e b h f o.0.0 o.0.1 o.0.2 o.1
@@ -58,7 +59,8 @@ pub main_rows : ArithRows arith_rom
 main_rows e l = block_rows e (both_is e) (both_fits e) (OfArith l) (arith_block e l)
 
 module _ (e : Edition) (b : Machine) (h : Since) where
-  no_skip_follows : (i : ℕ) → i < 4 → Entered (quick e) (slice_index no_skip_labels i) b (now h) → Follows (quick e) (OfArith (NoSkip i)) (arith_addresses (NoSkip i)) b
+  no_skip_follows : (i : ℕ) → i < 4 → Entered (quick e) (slice_index no_skip_labels i) b (now h)
+      → Follows (quick e) (OfArith (NoSkip i)) (arith_addresses (NoSkip i)) b
   no_skip_follows zero l o = record { same = _; is = is_entered o; follows = refl }
   no_skip_follows (suc zero) l o = record { same = _; is = is_entered o; follows = refl }
   no_skip_follows (suc (suc zero)) l o = record { same = _; is = is_entered o; follows = refl }
@@ -69,7 +71,16 @@ module _ (e : Edition) (b : Machine) (h : Since) where
   SlotFollows n = Entered (quick e) (at_slot0 + 2 * n) b (now h) → Follows (quick e) (OfArith (Operation n)) (arith_addresses (Operation n)) b
 
   slot_follows : (n : ℕ) → low_byte (now h) % 16 ≡ n → SlotFollows n
-  slot_follows n is = by_digit SlotFollows (λ o. record { same = _; is = is_entered o; follows = refl }) (λ o. record { same = _; is = is_entered o; follows = refl }) (λ o. record { same = _; is = is_entered o; follows = refl }) (λ o. record { same = _; is = is_entered o; follows = refl }) (λ o. record { same = _; is = is_entered o; follows = refl }) (λ o. record { same = _; is = is_entered o; follows = refl }) (λ o. record { same = _; is = is_entered o; follows = refl }) (λ o. record { same = _; is = is_entered o; follows = refl }) (λ o. record { same = _; is = is_entered o; follows = refl }) (λ o. record { same = _; is = is_entered o; follows = refl }) (λ o. record { same = _; is = is_entered o; follows = refl }) (λ o. record { same = _; is = is_entered o; follows = refl }) (λ o. record { same = _; is = is_entered o; follows = refl }) (λ o. record { same = _; is = is_entered o; follows = refl }) (λ o. record { same = _; is = is_entered o; follows = refl }) (λ o. record { same = _; is = is_entered o; follows = refl }) n (omega (arith, is))
+  slot_follows n is =
+      by_digit SlotFollows (λ o. record { same = _; is = is_entered o; follows = refl }) (λ o. record { same = _; is = is_entered o; follows = refl })
+      (λ o. record { same = _; is = is_entered o; follows = refl }) (λ o. record { same = _; is = is_entered o; follows = refl })
+      (λ o. record { same = _; is = is_entered o; follows = refl }) (λ o. record { same = _; is = is_entered o; follows = refl })
+      (λ o. record { same = _; is = is_entered o; follows = refl }) (λ o. record { same = _; is = is_entered o; follows = refl })
+      (λ o. record { same = _; is = is_entered o; follows = refl }) (λ o. record { same = _; is = is_entered o; follows = refl })
+      (λ o. record { same = _; is = is_entered o; follows = refl }) (λ o. record { same = _; is = is_entered o; follows = refl })
+      (λ o. record { same = _; is = is_entered o; follows = refl }) (λ o. record { same = _; is = is_entered o; follows = refl })
+      (λ o. record { same = _; is = is_entered o; follows = refl }) (λ o. record { same = _; is = is_entered o; follows = refl }) n
+      (omega (arith, is))
 
 arith_follows : (e : Edition) (l : ArithBlock) (b : Machine) (h : Since) → Head (quick e) (OfArith l) b h → Follows (quick e) (OfArith l) (arith_addresses l) b
 arith_follows e System b h o = record { same = _; is = is_entered o.0.entered; follows = refl }

@@ -63,8 +63,13 @@ shared_runs e (Fetch x) s k = cc
 shared_runs e (Unknown o) s k = cc
 shared_runs e _ s k = refl
 
-pub ending : {e : Edition} {b : Machine} {h : Since} {a : ℕ} {z : Lang} (l : Block) → Ending (quick e) a z b (now h) → (c : Machine) → AllGood (code (quick e)) (calm_top e) (moves l) (entered e a (high_byte (now h)) (low_byte (now h)) b) → quicks (code (quick e)) (moves l) (entered e a (high_byte (now h)) (low_byte (now h)) b) ≡ c → Holding (quick e) (places c) z → c.regs.p ≡ 4 → c.regs.r.r4 ≡ word_of at_fetch → Comes (quick e) (calm_pieces (quick e)) l b h
-ending {e = e} {h = h} l o c good is holds p r4 = routine l o.entered c good is (λ h' g. steps e g (instr_at (now h)) refl (shared_prompt _ o.shared) runs c (subst (Holding (quick e) (places c)) (sym o.makes) holds) p r4)
+pub ending : {e : Edition} {b : Machine} {h : Since} {a : ℕ} {z : Lang} (l : Block) → Ending (quick e) a z b (now h) → (c : Machine)
+    → AllGood (code (quick e)) (calm_top e) (moves l) (entered e a (high_byte (now h)) (low_byte (now h)) b)
+    → quicks (code (quick e)) (moves l) (entered e a (high_byte (now h)) (low_byte (now h)) b) ≡ c → Holding (quick e) (places c) z → c.regs.p ≡ 4
+    → c.regs.r.r4 ≡ word_of at_fetch → Comes (quick e) (calm_pieces (quick e)) l b h
+ending {e = e} {h = h} l o c good is holds p r4 =
+    routine l o.entered c good is (λ h' g. steps e g (instr_at (now h)) refl (shared_prompt _ o.shared) runs c
+    (subst (Holding (quick e) (places c)) (sym o.makes) holds) p r4)
   where
     runs : stop_of e (now h) ≡ None
     runs = rw o.entered.inside (shared_runs e (instr_at (now h)) (now h) o.shared)

@@ -53,7 +53,10 @@ module _ (e : Edition) (b : Machine) (h : Since) (f : FitsMachine b) where
 
   -- behind a test of d with X = 6, at w
   abbrev tested : ℕ → Word → Machine
-  tested d w = record (entered e 0 high low b) { regs = record (entered e 0 high low b).regs { d = d; x = 6; r = record (entered e 0 high low b).regs.r { r3 = w } } }
+  tested d w =
+      record (entered e 0 high low b) {
+        regs = record (entered e 0 high low b).regs { d = d; x = 6; r = record (entered e 0 high low b).regs.r { r3 = w } };
+      }
 
   goes : {a : ℕ} (d w : ℕ) → Entered (quick e) a b (now h) → Entered (quick e) w (tested d (word_of w)) (now h)
   goes d w o = record { holds = o.holds; inside = o.inside; p = refl; r3 = refl; r4 = refl; r6 = refl; r7 = refl; rc = refl }
@@ -61,10 +64,15 @@ module _ (e : Edition) (b : Machine) (h : Since) (f : FitsMachine b) where
   -- ---- 3XKK, 4XKK, 5XY0 and 9XY0
 
   -- the block l tests d, and skips where t
-  skips : (l : ArithBlock) (i : ℕ) {a : ℕ} → Entered (quick e) a b (now h) → (d : ℕ) (t far : Bool) → t ≡ far → has_shared_end (instr_at (now h)) ≡ true → step e Nothing (now h) ≡ skip_if far (now h) → i < 4 → h.spent + 2 * arith_moves l ≤ 94 → AllGood (code (quick e)) (calm_top e) (arith_moves l) (entered e a high low b) → quicks (code (quick e)) (arith_moves l) (entered e a high low b) ≡ tested d (cond t (word_of at_skip) (word_of (slice_index no_skip_labels i))) → Comes (quick e) (calm_pieces (quick e)) (OfArith l) b h
+  skips : (l : ArithBlock) (i : ℕ) {a : ℕ} → Entered (quick e) a b (now h) → (d : ℕ) (t far : Bool) → t ≡ far
+      → has_shared_end (instr_at (now h)) ≡ true → step e Nothing (now h) ≡ skip_if far (now h) → i < 4 → h.spent + 2 * arith_moves l ≤ 94
+      → AllGood (code (quick e)) (calm_top e) (arith_moves l) (entered e a high low b)
+      → quicks (code (quick e)) (arith_moves l) (entered e a high low b)
+      ≡ tested d (cond t (word_of at_skip) (word_of (slice_index no_skip_labels i))) → Comes (quick e) (calm_pieces (quick e)) (OfArith l) b h
   skips l i o d t far same shared makes small spent good is = branch (OfArith l) o (tested d) t at_skip (slice_index no_skip_labels i) good is
       (λ k h' g. to_arith (quick e) g _ refl Skip (record { entered = goes d at_skip o; shared = shared; makes = made k }) (omega (arith, spent, g.spent)))
-      (λ k h' g. to_arith (quick e) g _ (no_halt i small) (NoSkip i) (record { entered = goes d (slice_index no_skip_labels i) o; shared = shared; makes = made k }, small) (omega (arith, spent, g.spent)))
+      (λ k h' g. to_arith (quick e) g _ (no_halt i small) (NoSkip i)
+      (record { entered = goes d (slice_index no_skip_labels i) o; shared = shared; makes = made k }, small) (omega (arith, spent, g.spent)))
     where
       made : {u : Bool} → t ≡ u → step e Nothing (now h) ≡ skip_if u (now h)
       made k = makes ∙ ap (λ u. skip_if u (now h)) (sym same ∙ k)
@@ -77,10 +85,14 @@ module _ (e : Edition) (b : Machine) (h : Since) (f : FitsMachine b) where
   kk_test o = xor_test low _ ∙ ap (λ v. v == low) (is_vx o)
 
   pub eq_comes : Enters (quick e) at_skip_eq 3 b (now h) → h.spent ≡ 80 → Comes (quick e) (calm_pieces (quick e)) (OfArith SkipEq) b h
-  eq_comes o spent = skips SkipEq 0 o.entered kk_x _ _ (kk_test o.entered) (rw o.digit refl) (rw o.digit refl) (omega arith) (omega (arith, spent)) (omega (arith, o.entered.holds.stack, stack_top_is e)) refl
+  eq_comes o spent =
+      skips SkipEq 0 o.entered kk_x _ _ (kk_test o.entered) (rw o.digit refl) (rw o.digit refl) (omega arith) (omega (arith, spent))
+      (omega (arith, o.entered.holds.stack, stack_top_is e)) refl
 
   pub ne_comes : Enters (quick e) at_skip_ne 4 b (now h) → h.spent ≡ 80 → Comes (quick e) (calm_pieces (quick e)) (OfArith SkipNe) b h
-  ne_comes o spent = skips SkipNe 1 o.entered kk_x _ _ (ap not (kk_test o.entered)) (rw o.digit refl) (rw o.digit refl) (omega arith) (omega (arith, spent)) (omega (arith, o.entered.holds.stack, stack_top_is e)) refl
+  ne_comes o spent =
+      skips SkipNe 1 o.entered kk_x _ _ (ap not (kk_test o.entered)) (rw o.digit refl) (rw o.digit refl) (omega arith) (omega (arith, spent))
+      (omega (arith, o.entered.holds.stack, stack_top_is e)) refl
 
   -- XOR of VY and VX
   abbrev y_x : ℕ
@@ -90,10 +102,15 @@ module _ (e : Edition) (b : Machine) (h : Since) (f : FitsMachine b) where
   y_test o = xor_test _ _ ∙ ap₂ (λ v w. v == w) (is_vx o) (is_vy o f)
 
   pub same_comes : Enters (quick e) at_skip_same_test 5 b (now h) → low % 16 ≡ 0 → h.spent ≡ 86 → Comes (quick e) (calm_pieces (quick e)) (OfArith SameTest) b h
-  same_comes o n spent = skips SameTest 2 o.entered y_x _ _ (y_test o.entered) (rw (o.digit, n) refl) (rw (o.digit, n) refl) (omega arith) (omega (arith, spent)) (omega (arith, o.entered.holds.stack, stack_top_is e)) refl
+  same_comes o n spent =
+      skips SameTest 2 o.entered y_x _ _ (y_test o.entered) (rw (o.digit, n) refl) (rw (o.digit, n) refl) (omega arith) (omega (arith, spent))
+      (omega (arith, o.entered.holds.stack, stack_top_is e)) refl
 
-  pub differ_comes : Enters (quick e) at_differ_test 9 b (now h) → low % 16 ≡ 0 → h.spent ≡ 86 → Comes (quick e) (calm_pieces (quick e)) (OfArith DifferTest) b h
-  differ_comes o n spent = skips DifferTest 3 o.entered y_x _ _ (ap not (y_test o.entered)) (rw (o.digit, n) refl) (rw (o.digit, n) refl) (omega arith) (omega (arith, spent)) (omega (arith, o.entered.holds.stack, stack_top_is e)) refl
+  pub differ_comes : Enters (quick e) at_differ_test 9 b (now h) → low % 16 ≡ 0 → h.spent ≡ 86
+      → Comes (quick e) (calm_pieces (quick e)) (OfArith DifferTest) b h
+  differ_comes o n spent =
+      skips DifferTest 3 o.entered y_x _ _ (ap not (y_test o.entered)) (rw (o.digit, n) refl) (rw (o.digit, n) refl) (omega arith)
+      (omega (arith, spent)) (omega (arith, o.entered.holds.stack, stack_top_is e)) refl
 
   -- ---- 5XYN and 9XYN: N is 0, or the opcode is unknown
 
@@ -104,20 +121,33 @@ module _ (e : Edition) (b : Machine) (h : Since) (f : FitsMachine b) where
   n_other k n = nonzero (bit_and low 15) k (and_mask low 4 ∙ n)
 
   -- the block l tests N, and where it is 0 goes on at the block m, at w
-  n_test : (l m : ArithBlock) (w : ℕ) {a d : ℕ} → (o : Enters (quick e) a d b (now h)) → h.spent + 2 * arith_moves l ≡ 86 → ((low % 16 ≡ 0 → ⊥) → stop_of e (now h) ≡ Some Unknown) → ((h' : Since) → h'.spent ≡ 86 → Within (arith_time m) h') → ((c : Machine) → Enters (quick e) w d c (now h) × (low % 16 ≡ 0) → arith_at (quick e) m c (now h)) → (value (word_of w) == at_halt) ≡ false → AllGood (code (quick e)) (calm_top e) (arith_moves l) (entered e a high low b) → quicks (code (quick e)) (arith_moves l) (entered e a high low b) ≡ looked e high low b (bit_and low 15) (cond (not (bit_and low 15 == 0)) (word_of at_unknown81) (word_of w)) → Comes (quick e) (calm_pieces (quick e)) (OfArith l) b h
-  n_test l m w o spent unknown time at calm good is = branch (OfArith l) o.entered (looked e high low b (bit_and low 15)) (not (bit_and low 15 == 0)) at_unknown81 w good is
+  n_test : (l m : ArithBlock) (w : ℕ) {a d : ℕ} → (o : Enters (quick e) a d b (now h)) → h.spent + 2 * arith_moves l ≡ 86
+      → ((low % 16 ≡ 0 → ⊥) → stop_of e (now h) ≡ Some Unknown) → ((h' : Since) → h'.spent ≡ 86 → Within (arith_time m) h')
+      → ((c : Machine) → Enters (quick e) w d c (now h) × (low % 16 ≡ 0) → arith_at (quick e) m c (now h)) → (value (word_of w) == at_halt) ≡ false
+      → AllGood (code (quick e)) (calm_top e) (arith_moves l) (entered e a high low b)
+      → quicks (code (quick e)) (arith_moves l) (entered e a high low b)
+      ≡ looked e high low b (bit_and low 15) (cond (not (bit_and low 15 == 0)) (word_of at_unknown81) (word_of w))
+      → Comes (quick e) (calm_pieces (quick e)) (OfArith l) b h
+  n_test l m w o spent unknown time at calm good is =
+      branch (OfArith l) o.entered (looked e high low b (bit_and low 15)) (not (bit_and low 15 == 0)) at_unknown81 w good is
       (λ k h' g. to_arith (quick e) g _ refl Unknown81 (looks (bit_and low 15) at_unknown81 o.entered, unknown (n_other k)) (omega (arith, spent, g.spent)))
-      (λ k h' g. to_arith (quick e) g _ calm m (at _ (record { entered = looks (bit_and low 15) w o.entered; digit = o.digit }, n_zero k)) (time h' (omega (arith, spent, g.spent))))
+      (λ k h' g. to_arith (quick e) g _ calm m (at _ (record { entered = looks (bit_and low 15) w o.entered; digit = o.digit }, n_zero k))
+      (time h' (omega (arith, spent, g.spent))))
 
   pub skip_same_comes : Enters (quick e) at_skip_same 5 b (now h) → h.spent ≡ 80 → Comes (quick e) (calm_pieces (quick e)) (OfArith SkipSame) b h
-  skip_same_comes o spent = n_test SkipSame SameTest at_skip_same_test o (omega (arith, spent)) (λ d. rw (o.entered.inside, o.digit, ne_eqb (low % 16) 0 d) refl) (λ h' t. t) (λ c z. z) refl (omega arith) refl
+  skip_same_comes o spent =
+      n_test SkipSame SameTest at_skip_same_test o (omega (arith, spent)) (λ d. rw (o.entered.inside, o.digit, ne_eqb (low % 16) 0 d) refl)
+      (λ h' t. t) (λ c z. z) refl (omega arith) refl
 
   pub skip_differ_comes : Enters (quick e) at_skip_differ 9 b (now h) → h.spent ≡ 80 → Comes (quick e) (calm_pieces (quick e)) (OfArith SkipDiffer) b h
-  skip_differ_comes o spent = n_test SkipDiffer DifferTest at_differ_test o (omega (arith, spent)) (λ d. rw (o.entered.inside, o.digit, ne_eqb (low % 16) 0 d) refl) (λ h' t. t) (λ c z. z) refl (omega arith) refl
+  skip_differ_comes o spent =
+      n_test SkipDiffer DifferTest at_differ_test o (omega (arith, spent)) (λ d. rw (o.entered.inside, o.digit, ne_eqb (low % 16) 0 d) refl)
+      (λ h' t. t) (λ c z. z) refl (omega arith) refl
 
   -- ---- the ends
 
-  pub no_skip_comes : (i : ℕ) → Ending (quick e) (slice_index no_skip_labels i) (skip_if false (now h)) b (now h) → i < 4 → Comes (quick e) (calm_pieces (quick e)) (OfArith (NoSkip i)) b h
+  pub no_skip_comes : (i : ℕ) → Ending (quick e) (slice_index no_skip_labels i) (skip_if false (now h)) b (now h) → i < 4
+      → Comes (quick e) (calm_pieces (quick e)) (OfArith (NoSkip i)) b h
   no_skip_comes zero o l = ending (OfArith (NoSkip 0)) o _ (omega arith) refl o.entered.holds refl refl
   no_skip_comes (suc zero) o l = ending (OfArith (NoSkip 1)) o _ (omega arith) refl o.entered.holds refl refl
   no_skip_comes (suc (suc zero)) o l = ending (OfArith (NoSkip 2)) o _ (omega arith) refl o.entered.holds refl refl
@@ -130,5 +160,9 @@ module _ (e : Edition) (b : Machine) (h : Since) (f : FitsMachine b) where
       two_on : value (up (up b.regs.r.r5)) ≡ (now h).pc + 4
       two_on = omega (arith, pc_is o.entered.holds, is_inside e (now h) o.entered.inside, memory_end_is e, page_fits e, f.regs.r.r5.hi, f.regs.r.r5.lo)
 
-  pub unknown81_comes : Entered (quick e) at_unknown81 b (now h) → stop_of e (now h) ≡ Some Unknown → h.spent ≤ 86 → Comes (quick e) (calm_pieces (quick e)) (OfArith Unknown81) b h
-  unknown81_comes o stop spent = routine (OfArith Unknown81) o _ (omega arith) refl (λ h' g. to_fetch (quick e) g _ refl (Leave 0) (record { holds = o.holds; p = refl; r3 = refl; stop = Unknown; fits = stop; number = refl }, omega arith) (omega (arith, spent, g.spent)))
+  pub unknown81_comes : Entered (quick e) at_unknown81 b (now h) → stop_of e (now h) ≡ Some Unknown → h.spent ≤ 86
+      → Comes (quick e) (calm_pieces (quick e)) (OfArith Unknown81) b h
+  unknown81_comes o stop spent =
+      routine (OfArith Unknown81) o _ (omega arith) refl
+      (λ h' g. to_fetch (quick e) g _ refl (Leave 0)
+      (record { holds = o.holds; p = refl; r3 = refl; stop = Unknown; fits = stop; number = refl }, omega arith) (omega (arith, spent, g.spent)))

@@ -10,7 +10,8 @@ use Rattle.rom_check.specs.Compared.{Bytes, Assembles, IsLeastDifference, OneAns
 no_fault : {found : Option AsmCause} {cause : AsmCause} → found ≡ None → found ≡ Some cause → ⊥
 no_fault none some = cc
 
-first_is_one : (f : ℕ → Option AsmCause) (n i j : ℕ) (c d : AsmCause) → IsFirstFault f n i c → IsFirstFault f n j d → BadRomSource (i + 1) c ≡ BadRomSource (j + 1) d
+first_is_one : (f : ℕ → Option AsmCause) (n i j : ℕ) (c d : AsmCause) → IsFirstFault f n i c → IsFirstFault f n j d
+    → BadRomSource (i + 1) c ≡ BadRomSource (j + 1) d
 first_is_one f n i j c d a b = go (cases_order i j)
   where
     same : i ≡ j → Some c ≡ Some d
@@ -63,4 +64,5 @@ answers_agree source image (Err (BadRomSource l c)) (Err (BadRomSource m d)) p q
 answers_agree source image (Err (BadRomSource l c)) (Err (RomDiffers j u v)) p q = absurd (fault_or_none source l c q.0 p)
 answers_agree source image (Err (RomDiffers i x y)) (Ok z) p q = absurd (q.1 i p.1.low p.1.differs)
 answers_agree source image (Err (RomDiffers i x y)) (Err (BadRomSource m d)) p q = absurd (fault_or_none source m d p.0 q)
-answers_agree source image (Err (RomDiffers i x y)) (Err (RomDiffers j u v)) p q = inl (ap (λ fault. Err fault) (difference_is_one (source_bytes source) image i j x y u v p.1 q.1))
+answers_agree source image (Err (RomDiffers i x y)) (Err (RomDiffers j u v)) p q =
+    inl (ap (λ fault. Err fault) (difference_is_one (source_bytes source) image i j x y u v p.1 q.1))

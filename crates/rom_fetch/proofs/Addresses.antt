@@ -24,9 +24,21 @@ fetch_follows e Fetch b h o = record { same = on_4 (word_of at_fetch) b; is = is
 fetch_follows e Upper b h o = record { same = on_4 (word_of at_upper) b; is = is_on_4 o.0.0; follows = refl }
 fetch_follows e Inside b h o = record { same = on_4 (word_of at_inside) b; is = is_on_4 o.0.0; follows = refl }
 fetch_follows e Outside b h o = record { same = on_4 (word_of at_outside) b; is = is_on_4 o.0.0; follows = refl }
-fetch_follows e (Misc i) b h o = record { same = on_3 (slice_index misc_labels i) b; is = is_on_3 (slice_index misc_labels i) b o.0.0.entered.p o.0.0.entered.r3; follows = agree_below_at (λ j. follows (code (quick e)) (fetch_addresses (Misc j)) 3 (on_3 (slice_index misc_labels j) b)) (λ j. true) 9 i refl o.0.2 }
+fetch_follows e (Misc i) b h o =
+    record {
+      same = on_3 (slice_index misc_labels i) b;
+      is = is_on_3 (slice_index misc_labels i) b o.0.0.entered.p o.0.0.entered.r3;
+      follows = agree_below_at (λ j. follows (code (quick e)) (fetch_addresses (Misc j)) 3 (on_3 (slice_index misc_labels j) b))
+          (λ j. true) 9 i refl o.0.2;
+    }
 fetch_follows e Unknown83 b h o = record { same = on_3 at_unknown83 b; is = is_on_3 at_unknown83 b o.0.0.entered.p o.0.0.entered.r3; follows = refl }
-fetch_follows e (Leave i) b h o = record { same = on_3 (at_leave81 + 0x100 * i) b; is = is_on_3 (at_leave81 + 0x100 * i) b o.0.0.p o.0.0.r3; follows = agree_below_at (λ j. follows (code (quick e)) (fetch_addresses (Leave j)) 3 (on_3 (at_leave81 + 0x100 * j) b)) (λ j. true) 4 i refl o.0.1 }
+fetch_follows e (Leave i) b h o =
+    record {
+      same = on_3 (at_leave81 + 0x100 * i) b;
+      is = is_on_3 (at_leave81 + 0x100 * i) b o.0.0.p o.0.0.r3;
+      follows = agree_below_at (λ j. follows (code (quick e)) (fetch_addresses (Leave j)) 3 (on_3 (at_leave81 + 0x100 * j) b))
+          (λ j. true) 4 i refl o.0.1;
+    }
 fetch_follows e Stop b h o = record { same = on_3 at_stop b; is = is_on_3 at_stop b o.0.p o.0.r3; follows = refl }
 fetch_follows e Stopped b h o = record { same = on_3 at_stopped b; is = is_on_3 at_stopped b o.0.p o.0.r3; follows = refl }
 

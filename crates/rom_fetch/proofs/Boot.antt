@@ -30,7 +30,16 @@ module _ (e : Edition) (held : ℕ → Keys) (ram : List ℕ) where
   booted =
       record {
         regs = record {
-          r = record zeros { r0 = word 0 7; r1 = word_of at_entry; r2 = word (page_of e) 0xcf; r3 = word 0x80 0x27; r4 = word_of at_fetch; r5 = word 2 0; rb = word (by_edition e 15 14) 0 };
+          r =
+              record zeros {
+                r0 = word 0 7;
+                r1 = word_of at_entry;
+                r2 = word (page_of e) 0xcf;
+                r3 = word 0x80 0x27;
+                r4 = word_of at_fetch;
+                r5 = word 2 0;
+                rb = word (by_edition e 15 14) 0;
+              };
           d = 0;
           df = 0;
           p = 4;
@@ -59,8 +68,20 @@ module _ (e : Edition) (held : ℕ → Keys) (ram : List ℕ) where
   no_event m l = quiet_moves (quick e).interpreter held 28 (booting 0) quiet m l
 
 -- the first state lies there
-booted_stands : (e : Edition) (held : ℕ → Keys) (game : List ℕ) → length game ≤ memory_size e → Dispatches (quick e) (booted e held (start game).ram) (first e game)
-booted_stands e held game room = record { keeps = record { lies = first_lies e game room (booted e held (start game).ram) refl refl (sym (stack_top_is e)) refl refl refl refl refl refl refl; on = refl; entry = refl; page = page e }; p = refl; r4 = refl }
+booted_stands : (e : Edition) (held : ℕ → Keys) (game : List ℕ) → length game ≤ memory_size e
+    → Dispatches (quick e) (booted e held (start game).ram) (first e game)
+booted_stands e held game room =
+    record {
+      keeps = record {
+        lies = first_lies e game room (booted e held (start game).ram) refl refl
+            (sym (stack_top_is e)) refl refl refl refl refl refl refl;
+        on = refl;
+        entry = refl;
+        page = page e;
+      };
+      p = refl;
+      r4 = refl;
+    }
   where
     page : (e : Edition) → by_edition e 15 14 ≡ screen_start e / 256
     page Usual = refl
@@ -74,8 +95,13 @@ BootBy e rom held game =
     × Dispatches (program_of e rom) (after_moves rom held (start game) boot_moves) (first e game)
 
 boot_by : (e : Edition) (held : ℕ → Keys) (game : List ℕ) → length game ≤ memory_size e → BootBy e (both e) held game
-boot_by e held game room =
-    (no_event e held (start game).ram, ap (λ (b : Machine). b.cycle) (boot_ends e held (start game).ram), subst (λ b. Dispatches (quick e) b (first e game)) (sym (boot_ends e held (start game).ram)) (booted_stands e held game room))
+boot_by e held game room = (
+  no_event e held (start game).ram,
+  ap (λ (b : Machine). b.cycle) (boot_ends e held (start game).ram),
+  subst (λ b. Dispatches (quick e) b
+      (first e game)) (sym (boot_ends e held (start game).ram)) (booted_stands e held game room),
+)
 
 pub every_boot : EveryBoot fetch_rom
-every_boot e held game room = let p = subst (λ rom. BootBy e rom held game) (both_is e) (boot_by e held game room) in record { quiet = p.0; cycle = p.1; stands = p.2 }
+every_boot e held game room =
+    let p = subst (λ rom. BootBy e rom held game) (both_is e) (boot_by e held game room) in record { quiet = p.0; cycle = p.1; stands = p.2 }

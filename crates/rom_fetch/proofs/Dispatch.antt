@@ -36,7 +36,9 @@ use Rattle.rom_fetch.proofs.Rom.{both, quick}
 
 -- the routines by the opcode's first digit
 abbrev routines : List ℕ
-routines = at_system ∷ at_jump ∷ at_call ∷ at_skip_eq ∷ at_skip_ne ∷ at_skip_same ∷ at_load ∷ at_add ∷ at_arith ∷ at_skip_differ ∷ at_index ∷ at_jump_plus ∷ at_random ∷ at_draw ∷ at_key_skip ∷ at_misc ∷ []
+routines =
+    at_system ∷ at_jump ∷ at_call ∷ at_skip_eq ∷ at_skip_ne ∷ at_skip_same ∷ at_load ∷ at_add ∷ at_arith ∷ at_skip_differ ∷ at_index ∷ at_jump_plus
+    ∷ at_random ∷ at_draw ∷ at_key_skip ∷ at_misc ∷ []
 
 module _ (e : Edition) where
   -- the address of the routine of a first digit, in the table
@@ -74,7 +76,9 @@ module _ (e : Edition) (b : Machine) (h : Since) (f : FitsMachine b) (o : Fetchi
   byte1 = ap (read (both e) b.latch b.ram) pc ∙ memory_get o.holds (now h).pc (is_inside e (now h) ins).0 (omega (arith, is_inside e (now h) ins))
 
   byte2 : read (both e) b.latch b.ram (value (up b.regs.r.r5)) ≡ low
-  byte2 = ap (read (both e) b.latch b.ram) one_on ∙ memory_get o.holds ((now h).pc + 1) (omega (arith, is_inside e (now h) ins)) (omega (arith, is_inside e (now h) ins))
+  byte2 =
+      ap (read (both e) b.latch b.ram) one_on
+      ∙ memory_get o.holds ((now h).pc + 1) (omega (arith, is_inside e (now h) ins)) (omega (arith, is_inside e (now h) ins))
 
   high_fits : high < 256
   high_fits = memory_fits o.holds f.ram (now h).pc (is_inside e (now h) ins).0 (omega (arith, is_inside e (now h) ins))
@@ -87,7 +91,10 @@ module _ (e : Edition) (b : Machine) (h : Since) (f : FitsMachine b) (o : Fetchi
 
   reaches : Reaches (code (quick e)) (calm_top e) 32 b entered
   unfolding entered
-  reaches = reaches_from (code (quick e)) (calm_top e) 32 b _ _ (is_on_4 o) (reaches_in (code (quick e)) (calm_top e) 32 _ _ (omega (arith, o.holds.stack, stack_top_is e, page_fits e, pc, one_on, is_inside e (now h) ins)) refl)
+  reaches =
+      reaches_from (code (quick e)) (calm_top e) 32 b _ _ (is_on_4 o)
+      (reaches_in (code (quick e)) (calm_top e) 32 _ _
+      (omega (arith, o.holds.stack, stack_top_is e, page_fits e, pc, one_on, is_inside e (now h) ins)) refl)
 
   -- RD.0 at the table
   offset : ℕ
@@ -101,11 +108,15 @@ module _ (e : Edition) (b : Machine) (h : Since) (f : FitsMachine b) (o : Fetchi
   digit_fits = omega (arith, high_fits)
 
   from_table : (a k : ℕ) → a ≡ at_table + 2 * (high / 16) + k → k < 2 → read (both e) b.latch b.ram a ≡ rom_at (both e) (at_table + 2 * (high / 16) + k)
-  from_table a k at small = ap (read (both e) b.latch b.ram) at ∙ read_rom (both e) b.latch b.ram (at_table + 2 * (high / 16) + k) (omega arith) (omega (arith, high_fits, small))
+  from_table a k at small =
+      ap (read (both e) b.latch b.ram) at
+      ∙ read_rom (both e) b.latch b.ram (at_table + 2 * (high / 16) + k) (omega arith) (omega (arith, high_fits, small))
 
   r3_is : entered.regs.r.r3 ≡ routine e (high / 16)
   unfolding entered offset
-  r3_is = ap₂ word (from_table (value (word 128 offset)) 0 (omega (arith, offset_is)) (omega arith)) (from_table (value (up (word 128 offset))) 1 (omega (arith, offset_is, high_fits)) (omega arith))
+  r3_is =
+      ap₂ word (from_table (value (word 128 offset)) 0 (omega (arith, offset_is)) (omega arith))
+      (from_table (value (up (word 128 offset))) 1 (omega (arith, offset_is, high_fits)) (omega arith))
 
   -- the places of VX and VY
   x_is : (bit_and (read (both e) b.latch b.ram (value b.regs.r.r5)) 15 + 240) % 256 ≡ 240 + high % 16

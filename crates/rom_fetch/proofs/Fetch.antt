@@ -38,9 +38,12 @@ module _ (e : Edition) (b : Machine) (h : Since) (f : FitsMachine b) (o : Fetchi
   end : Word → Machine
   end a = on_4 a (quicks (code (quick e)) 3 (on_4 (word_of at_fetch) b))
 
-  reaches : (a : Word) → cond (not ((b.regs.r.r5.hi + 256 - 2) / 256 == 1)) (word_of at_outside) (word_of at_upper) ≡ a → Reaches (code (quick e)) (calm_top e) 3 b (end a)
+  reaches : (a : Word) → cond (not ((b.regs.r.r5.hi + 256 - 2) / 256 == 1)) (word_of at_outside) (word_of at_upper) ≡ a
+      → Reaches (code (quick e)) (calm_top e) 3 b (end a)
   unfolding end
-  reaches a i = reaches_from (code (quick e)) (calm_top e) 3 b _ _ (is_on_4 o) (reaches_in (code (quick e)) (calm_top e) 3 _ _ (omega arith) (λ j. on_4 (i j) (quicks (code (quick e)) 3 (on_4 (word_of at_fetch) b))))
+  reaches a i =
+      reaches_from (code (quick e)) (calm_top e) 3 b _ _ (is_on_4 o)
+      (reaches_in (code (quick e)) (calm_top e) 3 _ _ (omega arith) (λ j. on_4 (i j) (quicks (code (quick e)) 3 (on_4 (word_of at_fetch) b))))
 
   fetching : (a : ℕ) → Fetching (quick e) a (end (word_of a)) (now h)
   unfolding end
@@ -57,7 +60,9 @@ module _ (e : Edition) (b : Machine) (h : Since) (f : FitsMachine b) (o : Fetchi
         some = omega arith;
         end = end (word_of at_outside);
         reaches = reaches (word_of at_outside) (taken _ (word_of at_outside) (word_of at_upper) (omega (arith, l, pc, f.regs.r.r5.lo, f.regs.r.r5.hi)));
-        ends = λ h' g. to_fetch (quick e) g (end (word_of at_outside)) refl Outside (fetching at_outside, rw (lt-leb 0x200 (now h).pc l) refl) (omega (arith, spent, g.spent));
+        ends =
+            λ h' g. to_fetch (quick e) g (end (word_of at_outside)) refl Outside (fetching at_outside, rw (lt-leb 0x200 (now h).pc l) refl)
+            (omega (arith, spent, g.spent));
       }
       go (inr l) = record {
         runs = ready o.holds;
@@ -83,7 +88,9 @@ module _ (e : Edition) (b : Machine) (h : Since) (f : FitsMachine b) (o : Fetchi
 
   check_reaches : (a : Word) → cond (not (carry == 1)) (word_of at_outside) (word_of at_inside) ≡ a → Reaches (code (quick e)) (calm_top e) 5 b (checked a)
   unfolding checked carry
-  check_reaches a i = reaches_from (code (quick e)) (calm_top e) 5 b _ _ (is_on_4 o) (reaches_in (code (quick e)) (calm_top e) 5 _ _ (omega arith) (λ j. on_4 (i j) (quicks (code (quick e)) 5 (on_4 (word_of at_upper) b))))
+  check_reaches a i =
+      reaches_from (code (quick e)) (calm_top e) 5 b _ _ (is_on_4 o)
+      (reaches_in (code (quick e)) (calm_top e) 5 _ _ (omega arith) (λ j. on_4 (i j) (quicks (code (quick e)) 5 (on_4 (word_of at_upper) b))))
 
   checking : (a : ℕ) → Fetching (quick e) a (checked (word_of a)) (now h)
   unfolding checked
@@ -108,7 +115,10 @@ module _ (e : Edition) (b : Machine) (h : Since) (f : FitsMachine b) (o : Fetchi
         some = omega arith;
         end = checked (word_of at_outside);
         reaches = check_reaches (word_of at_outside) (taken carry (word_of at_outside) (word_of at_inside) (too_high l));
-        ends = λ h' g. to_fetch (quick e) g (checked (word_of at_outside)) refl Outside (checking at_outside, rw (le-leb 0x200 (now h).pc low, lt-leb ((now h).pc + 2) (memory_end e) l) refl) (omega (arith, spent, g.spent));
+        ends =
+            λ h' g. to_fetch (quick e) g (checked (word_of at_outside)) refl Outside
+            (checking at_outside, rw (le-leb 0x200 (now h).pc low, lt-leb ((now h).pc + 2) (memory_end e) l) refl)
+            (omega (arith, spent, g.spent));
       }
       go (inr l) = record {
         runs = ready o.holds;
@@ -116,5 +126,7 @@ module _ (e : Edition) (b : Machine) (h : Since) (f : FitsMachine b) (o : Fetchi
         some = omega arith;
         end = checked (word_of at_inside);
         reaches = check_reaches (word_of at_inside) (passed carry (word_of at_outside) (word_of at_inside) (low_enough l));
-        ends = λ h' g. to_fetch (quick e) g (checked (word_of at_inside)) refl Inside (checking at_inside, rw (le-leb 0x200 (now h).pc low, le-leb ((now h).pc + 2) (memory_end e) l) refl) (omega (arith, spent, g.spent));
+        ends =
+            λ h' g. to_fetch (quick e) g (checked (word_of at_inside)) refl Inside
+            (checking at_inside, rw (le-leb 0x200 (now h).pc low, le-leb ((now h).pc + 2) (memory_end e) l) refl) (omega (arith, spent, g.spent));
       }

@@ -17,7 +17,8 @@ use Rattle.rom_fetch.proofs.Misc.{misc_comes, unknown_comes}
 use Rattle.rom_fetch.proofs.Stops.{outside_comes, leave_comes, stop_comes, stopped_comes}
 use Rattle.rom_fetch.specs.Code.{fetch_rom}
 
-pub fetch_block : (e : Edition) (l : FetchBlock) (b : Machine) (h : Since) → FitsMachine b → Head (quick e) (OfFetch l) b h → Comes (quick e) (calm_pieces (quick e)) (OfFetch l) b h
+pub fetch_block : (e : Edition) (l : FetchBlock) (b : Machine) (h : Since) → FitsMachine b → Head (quick e) (OfFetch l) b h
+    → Comes (quick e) (calm_pieces (quick e)) (OfFetch l) b h
 fetch_block e Fetch b h f o = fetch_comes e b h f o.0 o.1
 fetch_block e Upper b h f o = upper_comes e b h f o.0.0 o.0.1 o.1
 fetch_block e Inside b h f o = inside_comes e b h f o.0.0 o.0.1 o.1

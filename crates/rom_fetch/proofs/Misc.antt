@@ -46,15 +46,33 @@ module _ (e : Edition) (b : Machine) (h : Since) (f : FitsMachine b) where
 
   -- behind a test that looks for k, at w
   tested : ℕ → Word → Machine
-  tested k w = record (entered e 0 high low b) { regs = record (entered e 0 high low b).regs { d = bit_xor low k; r = record (entered e 0 high low b).regs.r { r3 = w } } }
+  tested k w =
+      record (entered e 0 high low b) {
+        regs = record (entered e 0 high low b).regs { d = bit_xor low k; r = record (entered e 0 high low b).regs.r { r3 = w } };
+      }
 
   goes : {a : ℕ} (k : ℕ) → Enters (quick e) a 15 b (now h) → (w : ℕ) → Enters (quick e) w 15 (tested k (word_of w)) (now h)
   unfolding tested
-  goes k o w = record { entered = record { holds = o.entered.holds; inside = o.entered.inside; p = refl; r3 = refl; r4 = refl; r6 = refl; r7 = refl; rc = refl }; digit = o.digit }
+  goes k o w =
+      record {
+        entered = record {
+          holds = o.entered.holds;
+          inside = o.entered.inside;
+          p = refl;
+          r3 = refl;
+          r4 = refl;
+          r6 = refl;
+          r7 = refl;
+          rc = refl;
+        };
+        digit = o.digit;
+      }
 
   module _ (i target other : ℕ) (o : Enters (quick e) (slice_index misc_labels i) 15 b (now h)) (reach : (w : Word) → cond (bit_xor low (slice_index misc_codes i) == 0) (word_of target) (word_of other) ≡ w → Reaches (code (quick e)) (calm_top e) 3 (entered e (slice_index misc_labels i) high low b) (tested (slice_index misc_codes i) w)) where
-    test : (low ≡ slice_index misc_codes i → (h' : Since) → Grows h 3 0 h' → Ends (quick e) (calm_pieces (quick e)) (tested (slice_index misc_codes i) (word_of target)) h')
-        → ((low ≡ slice_index misc_codes i → ⊥) → (h' : Since) → Grows h 3 0 h' → Ends (quick e) (calm_pieces (quick e)) (tested (slice_index misc_codes i) (word_of other)) h')
+    test : (low ≡ slice_index misc_codes i → (h' : Since) → Grows h 3 0 h'
+        → Ends (quick e) (calm_pieces (quick e)) (tested (slice_index misc_codes i) (word_of target)) h')
+        → ((low ≡ slice_index misc_codes i → ⊥) → (h' : Since) → Grows h 3 0 h'
+        → Ends (quick e) (calm_pieces (quick e)) (tested (slice_index misc_codes i) (word_of other)) h')
         → Comes (quick e) (calm_pieces (quick e)) (OfFetch (Misc i)) b h
     test found missed = go (cases_eq low (slice_index misc_codes i))
       where
@@ -64,7 +82,9 @@ module _ (e : Edition) (b : Machine) (h : Since) (f : FitsMachine b) where
           awake = o.entered.holds.awake;
           some = omega arith;
           end = tested (slice_index misc_codes i) (word_of target);
-          reaches = reaches_from (code (quick e)) (calm_top e) 3 b _ _ (is_entered o.entered) (reach (word_of target) (taken _ (word_of target) (word_of other) (same_xor low (slice_index misc_codes i) is)));
+          reaches =
+              reaches_from (code (quick e)) (calm_top e) 3 b _ _ (is_entered o.entered)
+              (reach (word_of target) (taken _ (word_of target) (word_of other) (same_xor low (slice_index misc_codes i) is)));
           ends = found is;
         }
         go (inr d) = record {
@@ -72,63 +92,95 @@ module _ (e : Edition) (b : Machine) (h : Since) (f : FitsMachine b) where
           awake = o.entered.holds.awake;
           some = omega arith;
           end = tested (slice_index misc_codes i) (word_of other);
-          reaches = reaches_from (code (quick e)) (calm_top e) 3 b _ _ (is_entered o.entered) (reach (word_of other) (passed _ (word_of target) (word_of other) (other_xor low (slice_index misc_codes i) d)));
+          reaches =
+              reaches_from (code (quick e)) (calm_top e) 3 b _ _ (is_entered o.entered)
+              (reach (word_of other) (passed _ (word_of target) (word_of other) (other_xor low (slice_index misc_codes i) d)));
           ends = missed d;
         }
 
   -- ---- the tests
 
-  pub misc_comes : (i : ℕ) → i < 9 → Enters (quick e) (slice_index misc_labels i) 15 b (now h) → NoneOf i low → h.spent ≡ 80 + 6 * i → Comes (quick e) (calm_pieces (quick e)) (OfFetch (Misc i)) b h
+  pub misc_comes : (i : ℕ) → i < 9 → Enters (quick e) (slice_index misc_labels i) 15 b (now h) → NoneOf i low → h.spent ≡ 80 + 6 * i
+      → Comes (quick e) (calm_pieces (quick e)) (OfFetch (Misc i)) b h
   unfolding tested
   misc_comes zero l o none spent =
       test 0 at_get_delay at_misc_0A o (λ w q. reaches_in (code (quick e)) (calm_top e) 3 _ _ (omega arith) (λ j. tested 0x07 (q j)))
       (λ is h' g. to_timer_place (quick e) g (tested 0x07 (word_of at_get_delay)) refl GetDelay (goes 0x07 o at_get_delay, is) (omega (arith, spent, g.spent)))
-      (λ d h' g. to_fetch (quick e) g (tested 0x07 (word_of at_misc_0A)) refl (Misc 1) (goes 0x07 o at_misc_0A, none_more 0 low none d, omega arith) (omega (arith, spent, g.spent)))
+      (λ d h' g. to_fetch (quick e) g (tested 0x07 (word_of at_misc_0A)) refl (Misc 1) (goes 0x07 o at_misc_0A, none_more 0 low none d, omega arith)
+      (omega (arith, spent, g.spent)))
   misc_comes (suc zero) l o none spent =
       test 1 at_wait_key at_misc_15 o (λ w q. reaches_in (code (quick e)) (calm_top e) 3 _ _ (omega arith) (λ j. tested 0x0a (q j)))
       (λ is h' g. to_key (quick e) g (tested 0x0a (word_of at_wait_key)) refl WaitKey (goes 0x0a o at_wait_key, is) (omega (arith, spent, g.spent)))
-      (λ d h' g. to_fetch (quick e) g (tested 0x0a (word_of at_misc_15)) refl (Misc 2) (goes 0x0a o at_misc_15, none_more 1 low none d, omega arith) (omega (arith, spent, g.spent)))
+      (λ d h' g. to_fetch (quick e) g (tested 0x0a (word_of at_misc_15)) refl (Misc 2) (goes 0x0a o at_misc_15, none_more 1 low none d, omega arith)
+      (omega (arith, spent, g.spent)))
   misc_comes (suc (suc zero)) l o none spent =
       test 2 at_set_delay at_misc_18 o (λ w q. reaches_in (code (quick e)) (calm_top e) 3 _ _ (omega arith) (λ j. tested 0x15 (q j)))
       (λ is h' g. to_timer (quick e) g (tested 0x15 (word_of at_set_delay)) refl SetDelay (goes 0x15 o at_set_delay, is) (omega (arith, spent, g.spent)))
-      (λ d h' g. to_fetch (quick e) g (tested 0x15 (word_of at_misc_18)) refl (Misc 3) (goes 0x15 o at_misc_18, none_more 2 low none d, omega arith) (omega (arith, spent, g.spent)))
+      (λ d h' g. to_fetch (quick e) g (tested 0x15 (word_of at_misc_18)) refl (Misc 3) (goes 0x15 o at_misc_18, none_more 2 low none d, omega arith)
+      (omega (arith, spent, g.spent)))
   misc_comes (suc (suc (suc zero))) l o none spent =
       test 3 at_set_sound at_misc_1E o (λ w q. reaches_in (code (quick e)) (calm_top e) 3 _ _ (omega arith) (λ j. tested 0x18 (q j)))
       (λ is h' g. to_timer (quick e) g (tested 0x18 (word_of at_set_sound)) refl SetSound (goes 0x18 o at_set_sound, is) (omega (arith, spent, g.spent)))
-      (λ d h' g. to_fetch (quick e) g (tested 0x18 (word_of at_misc_1E)) refl (Misc 4) (goes 0x18 o at_misc_1E, none_more 3 low none d, omega arith) (omega (arith, spent, g.spent)))
+      (λ d h' g. to_fetch (quick e) g (tested 0x18 (word_of at_misc_1E)) refl (Misc 4) (goes 0x18 o at_misc_1E, none_more 3 low none d, omega arith)
+      (omega (arith, spent, g.spent)))
   misc_comes (suc (suc (suc (suc zero)))) l o none spent =
       test 4 at_add_index at_misc_29 o (λ w q. reaches_in (code (quick e)) (calm_top e) 3 _ _ (omega arith) (λ j. tested 0x1e (q j)))
       (λ is h' g. to_memory (quick e) g (tested 0x1e (word_of at_add_index)) refl AddIndex (goes 0x1e o at_add_index, is) (omega (arith, spent, g.spent)))
-      (λ d h' g. to_fetch (quick e) g (tested 0x1e (word_of at_misc_29)) refl (Misc 5) (goes 0x1e o at_misc_29, none_more 4 low none d, omega arith) (omega (arith, spent, g.spent)))
+      (λ d h' g. to_fetch (quick e) g (tested 0x1e (word_of at_misc_29)) refl (Misc 5) (goes 0x1e o at_misc_29, none_more 4 low none d, omega arith)
+      (omega (arith, spent, g.spent)))
   misc_comes (suc (suc (suc (suc (suc zero))))) l o none spent =
       test 5 at_digit at_misc_33 o (λ w q. reaches_in (code (quick e)) (calm_top e) 3 _ _ (omega arith) (λ j. tested 0x29 (q j)))
       (λ is h' g. to_memory (quick e) g (tested 0x29 (word_of at_digit)) refl Digit (goes 0x29 o at_digit, is) (omega (arith, spent, g.spent)))
-      (λ d h' g. to_fetch (quick e) g (tested 0x29 (word_of at_misc_33)) refl (Misc 6) (goes 0x29 o at_misc_33, none_more 5 low none d, omega arith) (omega (arith, spent, g.spent)))
+      (λ d h' g. to_fetch (quick e) g (tested 0x29 (word_of at_misc_33)) refl (Misc 6) (goes 0x29 o at_misc_33, none_more 5 low none d, omega arith)
+      (omega (arith, spent, g.spent)))
   misc_comes (suc (suc (suc (suc (suc (suc zero)))))) l o none spent =
       test 6 at_decimal at_misc_55 o (λ w q. reaches_in (code (quick e)) (calm_top e) 3 _ _ (omega arith) (λ j. tested 0x33 (q j)))
       (λ is h' g. to_memory (quick e) g (tested 0x33 (word_of at_decimal)) refl Decimal (goes 0x33 o at_decimal, is) (omega (arith, spent, g.spent)))
-      (λ d h' g. to_fetch (quick e) g (tested 0x33 (word_of at_misc_55)) refl (Misc 7) (goes 0x33 o at_misc_55, none_more 6 low none d, omega arith) (omega (arith, spent, g.spent)))
+      (λ d h' g. to_fetch (quick e) g (tested 0x33 (word_of at_misc_55)) refl (Misc 7) (goes 0x33 o at_misc_55, none_more 6 low none d, omega arith)
+      (omega (arith, spent, g.spent)))
   misc_comes (suc (suc (suc (suc (suc (suc (suc zero))))))) l o none spent =
       test 7 at_store at_misc_65 o (λ w q. reaches_in (code (quick e)) (calm_top e) 3 _ _ (omega arith) (λ j. tested 0x55 (q j)))
       (λ is h' g. to_memory (quick e) g (tested 0x55 (word_of at_store)) refl Store (goes 0x55 o at_store, is) (omega (arith, spent, g.spent)))
-      (λ d h' g. to_fetch (quick e) g (tested 0x55 (word_of at_misc_65)) refl (Misc 8) (goes 0x55 o at_misc_65, none_more 7 low none d, omega arith) (omega (arith, spent, g.spent)))
+      (λ d h' g. to_fetch (quick e) g (tested 0x55 (word_of at_misc_65)) refl (Misc 8) (goes 0x55 o at_misc_65, none_more 7 low none d, omega arith)
+      (omega (arith, spent, g.spent)))
   misc_comes (suc (suc (suc (suc (suc (suc (suc (suc zero)))))))) l o none spent =
       test 8 at_restore at_unknown83 o (λ w q. reaches_in (code (quick e)) (calm_top e) 3 _ _ (omega arith) (λ j. tested 0x65 (q j)))
       (λ is h' g. to_memory (quick e) g (tested 0x65 (word_of at_restore)) refl Restore (goes 0x65 o at_restore, is) (omega (arith, spent, g.spent)))
-      (λ d h' g. to_fetch (quick e) g (tested 0x65 (word_of at_unknown83)) refl Unknown83 (goes 0x65 o at_unknown83, none_more 8 low none d) (omega (arith, spent, g.spent)))
+      (λ d h' g. to_fetch (quick e) g (tested 0x65 (word_of at_unknown83)) refl Unknown83 (goes 0x65 o at_unknown83, none_more 8 low none d)
+      (omega (arith, spent, g.spent)))
   misc_comes (suc (suc (suc (suc (suc (suc (suc (suc (suc i))))))))) l o none spent = absurd (omega (arith, l))
 
   -- ---- no test was met
 
   unknown_stop : Enters (quick e) at_unknown83 15 b (now h) → NoneOf 9 low → stop_of e (now h) ≡ Some UnknownOpcode
-  unknown_stop o none = rw (o.entered.inside, o.digit, ne_eqb low 0x07 (none 0 (omega arith)), ne_eqb low 0x0a (none 1 (omega arith)), ne_eqb low 0x15 (none 2 (omega arith)), ne_eqb low 0x18 (none 3 (omega arith)), ne_eqb low 0x1e (none 4 (omega arith)), ne_eqb low 0x29 (none 5 (omega arith)), ne_eqb low 0x33 (none 6 (omega arith)), ne_eqb low 0x55 (none 7 (omega arith)), ne_eqb low 0x65 (none 8 (omega arith))) refl
+  unknown_stop o none =
+      rw (
+        o.entered.inside,
+        o.digit,
+        ne_eqb low 0x07 (none 0 (omega arith)),
+        ne_eqb low 0x0a (none 1 (omega arith)),
+        ne_eqb low 0x15 (none 2
+            (omega arith)),
+        ne_eqb low 0x18 (none 3 (omega arith)),
+        ne_eqb low 0x1e (none 4 (omega arith)),
+        ne_eqb low 0x29 (none 5
+            (omega arith)),
+        ne_eqb low 0x33 (none 6 (omega arith)),
+        ne_eqb low 0x55 (none 7 (omega arith)),
+        ne_eqb low 0x65 (none 8 (omega arith)),
+      )
+      refl
 
-  pub unknown_comes : Enters (quick e) at_unknown83 15 b (now h) → NoneOf 9 low → h.spent ≡ 134 → Comes (quick e) (calm_pieces (quick e)) (OfFetch Unknown83) b h
+  pub unknown_comes : Enters (quick e) at_unknown83 15 b (now h) → NoneOf 9 low → h.spent ≡ 134
+      → Comes (quick e) (calm_pieces (quick e)) (OfFetch Unknown83) b h
   unknown_comes o none spent = record {
     runs = ready o.entered.holds;
     awake = o.entered.holds.awake;
     some = omega arith;
     end = quicks (code (quick e)) 2 (entered e at_unknown83 high low b);
     reaches = reaches_from (code (quick e)) (calm_top e) 2 b _ _ (is_entered o.entered) (reaches_in (code (quick e)) (calm_top e) 2 _ _ (omega arith) refl);
-    ends = λ h' g. to_fetch (quick e) g (quicks (code (quick e)) 2 (entered e at_unknown83 high low b)) refl (Leave 2) (record { holds = o.entered.holds; p = refl; r3 = refl; stop = UnknownOpcode; fits = unknown_stop o none; number = refl }, omega arith) (omega (arith, spent, g.spent));
+    ends =
+        λ h' g. to_fetch (quick e) g (quicks (code (quick e)) 2 (entered e at_unknown83 high low b)) refl (Leave 2)
+        (record { holds = o.entered.holds; p = refl; r3 = refl; stop = UnknownOpcode; fits = unknown_stop o none; number = refl }, omega arith)
+        (omega (arith, spent, g.spent));
   }

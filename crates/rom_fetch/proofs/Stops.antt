@@ -32,31 +32,39 @@ outside_stop : (e : Edition) (s : Lang) → is_fetchable e s ≡ false → stop_
 outside_stop e s h = rw h refl
 
 module _ (e : Edition) (b : Machine) (h : Since) (f : FitsMachine b) where
-  pub outside_comes : Fetching (quick e) at_outside b (now h) → is_fetchable e (now h) ≡ false → h.spent ≤ 16 → Comes (quick e) (calm_pieces (quick e)) (OfFetch Outside) b h
+  pub outside_comes : Fetching (quick e) at_outside b (now h) → is_fetchable e (now h) ≡ false → h.spent ≤ 16
+      → Comes (quick e) (calm_pieces (quick e)) (OfFetch Outside) b h
   outside_comes o out spent = record {
     runs = ready o.holds;
     awake = o.holds.awake;
     some = omega arith;
     end = quicks (code (quick e)) 7 (on_4 (word_of at_outside) b);
     reaches = reaches_from (code (quick e)) (calm_top e) 7 b _ _ (is_on_4 o) (reaches_in (code (quick e)) (calm_top e) 7 _ _ (omega arith) refl);
-    ends = λ h' g. to_fetch (quick e) g (quicks (code (quick e)) 7 (on_4 (word_of at_outside) b)) refl Stopped (record { holds = o.holds; p = refl; r3 = refl; stop = FetchOutside; fits = outside_stop e (now h) out; number = refl }) (omega (arith, spent, g.spent));
+    ends =
+        λ h' g. to_fetch (quick e) g (quicks (code (quick e)) 7 (on_4 (word_of at_outside) b)) refl Stopped
+        (record { holds = o.holds; p = refl; r3 = refl; stop = FetchOutside; fits = outside_stop e (now h) out; number = refl })
+        (omega (arith, spent, g.spent));
   }
 
   -- at a page's way to the stops, D goes into RE.0
   abbrev left : Machine
   left = record b { regs = record b.regs { d = 128; p = 3; r = record b.regs.r { r3 = word_of at_stop; re = word b.regs.r.re.hi b.regs.d } } }
 
-  leaves : (i : ℕ) → Reaches (code (quick e)) (calm_top e) 3 (on_3 (at_leave81 + 0x100 * i) b) left → Leaving (quick e) (at_leave81 + 0x100 * i) b (now h) → h.spent ≤ 210 → Comes (quick e) (calm_pieces (quick e)) (OfFetch (Leave i)) b h
+  leaves : (i : ℕ) → Reaches (code (quick e)) (calm_top e) 3 (on_3 (at_leave81 + 0x100 * i) b) left
+      → Leaving (quick e) (at_leave81 + 0x100 * i) b (now h) → h.spent ≤ 210 → Comes (quick e) (calm_pieces (quick e)) (OfFetch (Leave i)) b h
   leaves i reach o spent = record {
     runs = ready o.holds;
     awake = o.holds.awake;
     some = omega arith;
     end = left;
     reaches = reaches_from (code (quick e)) (calm_top e) 3 b _ _ (is_on_3 (at_leave81 + 0x100 * i) b o.p o.r3) reach;
-    ends = λ h' g. to_fetch (quick e) g left refl Stop (record { holds = o.holds; p = refl; r3 = refl; stop = o.stop; fits = o.fits; number = o.number }) (omega (arith, spent, g.spent));
+    ends =
+        λ h' g. to_fetch (quick e) g left refl Stop (record { holds = o.holds; p = refl; r3 = refl; stop = o.stop; fits = o.fits; number = o.number })
+        (omega (arith, spent, g.spent));
   }
 
-  pub leave_comes : (i : ℕ) → i < 4 → Leaving (quick e) (at_leave81 + 0x100 * i) b (now h) → h.spent ≤ 210 → Comes (quick e) (calm_pieces (quick e)) (OfFetch (Leave i)) b h
+  pub leave_comes : (i : ℕ) → i < 4 → Leaving (quick e) (at_leave81 + 0x100 * i) b (now h) → h.spent ≤ 210
+      → Comes (quick e) (calm_pieces (quick e)) (OfFetch (Leave i)) b h
   leave_comes zero l o spent = leaves 0 (reaches_in (code (quick e)) (calm_top e) 3 _ _ (omega arith) refl) o spent
   leave_comes (suc zero) l o spent = leaves 1 (reaches_in (code (quick e)) (calm_top e) 3 _ _ (omega arith) refl) o spent
   leave_comes (suc (suc zero)) l o spent = leaves 2 (reaches_in (code (quick e)) (calm_top e) 3 _ _ (omega arith) refl) o spent
@@ -70,8 +78,19 @@ module _ (e : Edition) (b : Machine) (h : Since) (f : FitsMachine b) where
     awake = o.holds.awake;
     some = omega arith;
     end = quicks (code (quick e)) 2 (on_3 at_stop b);
-    reaches = reaches_from (code (quick e)) (calm_top e) 2 b _ _ (is_on_3 at_stop b o.p o.r3) (reaches_in (code (quick e)) (calm_top e) 2 _ _ (omega arith) refl);
-    ends = λ h' g. to_fetch (quick e) g (quicks (code (quick e)) 2 (on_3 at_stop b)) refl Stopped (record { holds = pc_set o.holds (down (down b.regs.r.r5)) (now h).pc back; p = refl; r3 = refl; stop = o.stop; fits = o.fits; number = o.number }) (omega (arith, spent, g.spent));
+    reaches =
+        reaches_from (code (quick e)) (calm_top e) 2 b _ _ (is_on_3 at_stop b o.p o.r3)
+        (reaches_in (code (quick e)) (calm_top e) 2 _ _ (omega arith) refl);
+    ends =
+        λ h' g. to_fetch (quick e) g (quicks (code (quick e)) 2 (on_3 at_stop b)) refl Stopped
+        (record {
+          holds = pc_set o.holds (down (down b.regs.r.r5)) (now h).pc back;
+          p = refl;
+          r3 = refl;
+          stop = o.stop;
+          fits = o.fits;
+          number = o.number;
+        }) (omega (arith, spent, g.spent));
   }
     where
       back : value (down (down b.regs.r.r5)) ≡ (now h).pc
@@ -84,11 +103,16 @@ module _ (e : Edition) (b : Machine) (h : Since) (f : FitsMachine b) where
     awake = o.holds.awake;
     some = omega arith;
     end = quicks (code (quick e)) 6 (on_3 at_stopped b);
-    reaches = reaches_from (code (quick e)) (calm_top e) 6 b _ _ (is_on_3 at_stopped b o.p o.r3) (reaches_in (code (quick e)) (calm_top e) 6 _ _ (omega (arith, page_low e)) refl);
+    reaches =
+        reaches_from (code (quick e)) (calm_top e) 6 b _ _ (is_on_3 at_stopped b o.p o.r3)
+        (reaches_in (code (quick e)) (calm_top e) 6 _ _ (omega (arith, page_low e)) refl);
     ends = λ h' g. Fails o.stop (record {
       fits = ap (stop_of e) g.state ∙ sym (stop_ticks e h.ticks h.state) ∙ o.fits;
       halts = record {
-        keeps = keeping (quick e) (quicks (code (quick e)) 6 (on_3 at_stopped b)) (now h') (subst (Holding (quick e) (places (quicks (code (quick e)) 6 (on_3 at_stopped b)))) (sym (now_same g)) (cell_set o.holds stop_cell b.regs.r.re.lo (omega arith) (λ n. omega (arith, n))));
+        keeps =
+            keeping (quick e) (quicks (code (quick e)) 6 (on_3 at_stopped b)) (now h')
+            (subst (Holding (quick e) (places (quicks (code (quick e)) 6 (on_3 at_stopped b)))) (sym (now_same g))
+            (cell_set o.holds stop_cell b.regs.r.re.lo (omega arith) (λ n. omega (arith, n))));
         p = refl;
         r3 = refl;
         number = cell_is o.holds stop_cell b.regs.r.re.lo (omega arith) ∙ o.number;

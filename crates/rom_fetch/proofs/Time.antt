@@ -59,11 +59,23 @@ module _ (e : Edition) {l : FetchBlock} (u : Input) (b : Machine) (h : Since) (r
 
   -- where the block's machines have P = 3, P isn't 4
   late : (c : Machine) (m : ℕ) → r.start ≡ c → stays (code (quick e)) 3 m c ≡ true → r.k < m → b.regs.p ≡ 4 → ⊥
-  late c m is s l p = omega (arith, p, block_p (quick e) (pieces (quick e)) (sound e refl (both_fits e)) r comes ∙ ap (λ z. (quicks (code (quick e)) r.k z).regs.p) is ∙ stays_at (code (quick e)) 3 m c s r.k l)
+  late c m is s l p =
+      omega (
+        arith,
+        p,
+        block_p (quick e) (pieces (quick e)) (sound e refl
+            (both_fits e)) r comes ∙ ap (λ z. (quicks (code (quick e)) r.k z).regs.p) is ∙ stays_at (code (quick e)) 3 m c s r.k l,
+      )
 
   -- where P stays 4, it isn't 3 after the move
   early : (c : Machine) (m : ℕ) → r.start ≡ c → stays (code (quick e)) 4 m c ≡ true → suc r.k < m → (moved (code (quick e)) u b).regs.p ≡ 3 → ⊥
-  early c m is s l p = omega (arith, p, moved_p (quick e) (pieces (quick e)) (sound e refl (both_fits e)) r comes u ∙ ap (λ z. (quicks (code (quick e)) (suc r.k) z).regs.p) is ∙ stays_at (code (quick e)) 4 m c s (suc r.k) l)
+  early c m is s l p =
+      omega (
+        arith,
+        p,
+        moved_p (quick e) (pieces (quick e)) (sound e refl
+            (both_fits e)) r comes u ∙ ap (λ z. (quicks (code (quick e)) (suc r.k) z).regs.p) is ∙ stays_at (code (quick e)) 4 m c s (suc r.k) l,
+      )
 
   -- the opcode lies in game memory at the head too
   inside_then : is_fetchable e h.state ≡ true → is_fetchable e (now r.since) ≡ true
@@ -78,9 +90,15 @@ time_by e Inside u b h r i p q = go (cases_eq (suc r.k) 32)
     go (inl k) = omega (arith, k, r.grows.spent, r.head.1)
     go (inr d) = absurd (early e u b h r (on_4 (word_of at_inside) r.start) 32 (is_on_4 r.head.0.0) refl (omega (arith, r.inside, d)) q)
 time_by e Outside u b h r i p q = cc (r.head.0.1, inside_then e u b h r i)
-time_by e (Misc n) u b h r i p q = absurd (late e u b h r (on_3 (slice_index misc_labels n) r.start) 3 (is_on_3 (slice_index misc_labels n) r.start r.head.0.0.entered.p r.head.0.0.entered.r3) (agree_below_at (λ j. stays (code (quick e)) 3 3 (on_3 (slice_index misc_labels j) r.start)) (λ j. true) 9 n refl r.head.0.2) r.inside p)
-time_by e Unknown83 u b h r i p q = absurd (late e u b h r (on_3 at_unknown83 r.start) 2 (is_on_3 at_unknown83 r.start r.head.0.0.entered.p r.head.0.0.entered.r3) refl r.inside p)
-time_by e (Leave n) u b h r i p q = absurd (late e u b h r (on_3 (at_leave81 + 0x100 * n) r.start) 3 (is_on_3 (at_leave81 + 0x100 * n) r.start r.head.0.0.p r.head.0.0.r3) (agree_below_at (λ j. stays (code (quick e)) 3 3 (on_3 (at_leave81 + 0x100 * j) r.start)) (λ j. true) 4 n refl r.head.0.1) r.inside p)
+time_by e (Misc n) u b h r i p q =
+    absurd (late e u b h r (on_3 (slice_index misc_labels n) r.start) 3
+    (is_on_3 (slice_index misc_labels n) r.start r.head.0.0.entered.p r.head.0.0.entered.r3)
+    (agree_below_at (λ j. stays (code (quick e)) 3 3 (on_3 (slice_index misc_labels j) r.start)) (λ j. true) 9 n refl r.head.0.2) r.inside p)
+time_by e Unknown83 u b h r i p q =
+    absurd (late e u b h r (on_3 at_unknown83 r.start) 2 (is_on_3 at_unknown83 r.start r.head.0.0.entered.p r.head.0.0.entered.r3) refl r.inside p)
+time_by e (Leave n) u b h r i p q =
+    absurd (late e u b h r (on_3 (at_leave81 + 0x100 * n) r.start) 3 (is_on_3 (at_leave81 + 0x100 * n) r.start r.head.0.0.p r.head.0.0.r3)
+    (agree_below_at (λ j. stays (code (quick e)) 3 3 (on_3 (at_leave81 + 0x100 * j) r.start)) (λ j. true) 4 n refl r.head.0.1) r.inside p)
 time_by e Stop u b h r i p q = absurd (late e u b h r (on_3 at_stop r.start) 2 (is_on_3 at_stop r.start r.head.0.p r.head.0.r3) refl r.inside p)
 time_by e Stopped u b h r i p q = absurd (late e u b h r (on_3 at_stopped r.start) 6 (is_on_3 at_stopped r.start r.head.0.p r.head.0.r3) refl r.inside p)
 

@@ -1,4 +1,5 @@
--- The bytes of this part of the ROM: boot, the fetch and the dispatch with its table, the stops, and which of FXKK an opcode is. A line begins at a label of the source or 16 bytes behind the last one.
+-- The bytes of this part of the ROM: boot, the fetch and the dispatch with its table, the stops, and which of FXKK an opcode is. A line begins at a
+-- label of the source or 16 bytes behind the last one.
 use Rattle.std.specs.Prelude.{ℕ, List, [], ◌∷◌}
 use Rattle.chip8_lang.specs.declared.view.Edition.{Edition}
 use Rattle.rom_rows.specs.Rom.{Stretch, stretch, laid, image}

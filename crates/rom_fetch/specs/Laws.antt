@@ -46,7 +46,9 @@ boot_moves = 28
 -- From reset, whatever keys are down, boot comes to the first dispatch point at cycle 56: the game's first state lies there, and there
 -- is no event before.
 pub record Boot (e : Edition) (rom : List ℕ) (held : ℕ → Keys) (game : List ℕ) : Type 0 where
-  pub quiet : (m : ℕ) → m < boot_moves → (is_dispatch (interpreter_of rom) (after_moves rom held (start game) m) ≡ false) × (is_stop (interpreter_of rom) (after_moves rom held (start game) m) ≡ false)
+  pub quiet : (m : ℕ) → m < boot_moves
+      → (is_dispatch (interpreter_of rom) (after_moves rom held (start game) m) ≡ false)
+      × (is_stop (interpreter_of rom) (after_moves rom held (start game) m) ≡ false)
   pub cycle : (after_moves rom held (start game) boot_moves).cycle ≡ 56
   pub stands : Dispatches (program_of e rom) (after_moves rom held (start game) boot_moves) (first e game)
 

@@ -18,7 +18,8 @@ use Rattle.rom_keys.proofs.Skips.{key_skip_comes, key_skip_up_comes, skip_latch_
 use Rattle.rom_keys.proofs.Waits.{wait_key_comes, key_next_comes, key_test_holds, key_count_comes, key_held_holds, key_freed_comes}
 use Rattle.rom_keys.specs.Code.{keys_rom}
 
-pub key_block : (e : Edition) (l : KeyBlock) (b : Machine) (h : Since) → FitsMachine b → Head (quick e) (OfKey l) b h → Comes (quick e) (calm_pieces (quick e)) (OfKey l) b h
+pub key_block : (e : Edition) (l : KeyBlock) (b : Machine) (h : Since) → FitsMachine b → Head (quick e) (OfKey l) b h
+    → Comes (quick e) (calm_pieces (quick e)) (OfKey l) b h
 key_block e KeySkip b h f o = key_skip_comes e b h f o.0 o.1
 key_block e KeySkipUp b h f o = key_skip_up_comes e b h f o.0.0 o.0.1 o.0.2 o.1
 key_block e (SkipLatch down) b h f o = skip_latch_comes e b h f down o.0.0 o.0.1 o.0.2 o.1
@@ -32,7 +33,8 @@ key_block e KeyFreed b h f o = key_freed_comes e b h f o.0.0 o.0.1
 pub key_rows : KeyRows keys_rom
 key_rows e l = block_rows e (both_is e) (both_fits e) (OfKey l) (key_block e l)
 
-pub key_place : (e : Edition) (l : KeyPlace) (b : Machine) (h : Since) → FitsMachine b → At (quick e) (AtKey l) b h → Holds (quick e) (calm_pieces (quick e)) (AtKey l) b h
+pub key_place : (e : Edition) (l : KeyPlace) (b : Machine) (h : Since) → FitsMachine b → At (quick e) (AtKey l) b h
+    → Holds (quick e) (calm_pieces (quick e)) (AtKey l) b h
 key_place e (SkipTest down) b h f o = skip_test_holds e b h f down o.0.0 o.0.1 o o.1
 key_place e (KeyTest turn) b h f o = key_test_holds e b h f turn o.0.0 o.0.1 o.0.2 o o.1
 key_place e KeyHeld b h f o = key_held_holds e b h f o.0.0 o.0.1 o.0.2 o

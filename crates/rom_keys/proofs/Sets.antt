@@ -18,7 +18,8 @@ get_last [] k = refl
 get_last (j ∷ l) k = get_last l k
 
 pub last_set : (l : List Keys) (held : Keys) (k : ℕ) (down : Bool) → held k ≡ down → Last (l ++ held ∷ []) k down
-last_set l held k down is = record { time = length l; last = omega (arith, length_more l (held ∷ [])); at = record { held = held; there = get_last l held; is = is } }
+last_set l held k down is =
+    record { time = length l; last = omega (arith, length_more l (held ∷ [])); at = record { held = held; there = get_last l held; is = is } }
 
 pub some_last : {l : List Keys} {k : ℕ} {down : Bool} → Last l k down → SomeTime l k down
 some_last t = record { time = t.time; at = t.at }

@@ -61,31 +61,79 @@ module _ (e : Edition) (b : Machine) (h : Since) (f : FitsMachine b) where
   tested x d w = record (looked e high low b d w) { regs = record (looked e high low b d w).regs { x = x } }
 
   goes : {a d : ℕ} (x y w : ℕ) → Enters (quick e) a d b (now h) → Enters (quick e) w d (tested x y (word_of w)) (now h)
-  goes x y w o = record { entered = record { holds = o.entered.holds; inside = o.entered.inside; p = refl; r3 = refl; r4 = refl; r6 = refl; r7 = refl; rc = refl }; digit = o.digit }
+  goes x y w o =
+      record {
+        entered = record {
+          holds = o.entered.holds;
+          inside = o.entered.inside;
+          p = refl;
+          r3 = refl;
+          r4 = refl;
+          r6 = refl;
+          r7 = refl;
+          rc = refl;
+        };
+        digit = o.digit;
+      }
 
   pub key_skip_comes : Enters (quick e) at_key_skip 14 b (now h) → h.spent ≡ 80 → Comes (quick e) (calm_pieces (quick e)) (OfKey KeySkip) b h
   key_skip_comes o spent = branch (OfKey KeySkip) o.entered (tested 6 (bit_xor low 0x9e)) (bit_xor low 0x9e == 0) at_skip_down at_key_skip_up (omega arith) refl
-      (λ k h' g. to_key (quick e) g _ refl (SkipLatch true) (goes 6 (bit_xor low 0x9e) at_skip_down o, refl, xor_same low 0x9e k) (omega (arith, spent, g.spent)))
+      (λ k h' g. to_key (quick e) g _ refl (SkipLatch true) (goes 6 (bit_xor low 0x9e) at_skip_down o, refl, xor_same low 0x9e k)
+      (omega (arith, spent, g.spent)))
       (λ k h' g. to_key (quick e) g _ refl KeySkipUp (goes 6 (bit_xor low 0x9e) at_key_skip_up o, refl, xor_other low 0x9e k) (omega (arith, spent, g.spent)))
 
   unknown_stop : {a : ℕ} → Enters (quick e) a 14 b (now h) → (low ≡ 0x9e → ⊥) → (low ≡ 0xa1 → ⊥) → stop_of e (now h) ≡ Some Unknown
   unknown_stop o down up = rw (o.entered.inside, o.digit, ne_eqb low 0x9e down, ne_eqb low 0xa1 up) refl
 
-  pub key_skip_up_comes : Enters (quick e) at_key_skip_up 14 b (now h) → b.regs.x ≡ 6 → (low ≡ 0x9e → ⊥) → h.spent ≡ 88 → Comes (quick e) (calm_pieces (quick e)) (OfKey KeySkipUp) b h
-  key_skip_up_comes o x down spent = branch (OfKey KeySkipUp) o.entered (looked e high low b (bit_xor low 0xa1)) (not (bit_xor low 0xa1 == 0)) at_unknown82 at_skip_up (omega arith) refl
-      (λ k h' g. to_arith (quick e) g _ refl Unknown82 (looks (bit_xor low 0xa1) at_unknown82 o.entered, unknown_stop o down (λ same. nonzero _ k (eqb-true _ 0 (same_xor low 0xa1 same)))) (omega (arith, spent, g.spent)))
-      (λ k h' g. to_key (quick e) g _ refl (SkipLatch false) (record { entered = looks (bit_xor low 0xa1) at_skip_up o.entered; digit = o.digit }, x, xor_same low 0xa1 (rw (is_zero _ k) refl)) (omega (arith, spent, g.spent)))
+  pub key_skip_up_comes : Enters (quick e) at_key_skip_up 14 b (now h) → b.regs.x ≡ 6 → (low ≡ 0x9e → ⊥) → h.spent ≡ 88
+      → Comes (quick e) (calm_pieces (quick e)) (OfKey KeySkipUp) b h
+  key_skip_up_comes o x down spent =
+      branch (OfKey KeySkipUp) o.entered (looked e high low b (bit_xor low 0xa1)) (not (bit_xor low 0xa1 == 0)) at_unknown82 at_skip_up
+      (omega arith) refl
+      (λ k h' g. to_arith (quick e) g _ refl Unknown82
+      (looks (bit_xor low 0xa1) at_unknown82 o.entered, unknown_stop o down (λ same. nonzero _ k (eqb-true _ 0 (same_xor low 0xa1 same))))
+      (omega (arith, spent, g.spent)))
+      (λ k h' g. to_key (quick e) g _ refl (SkipLatch false)
+      (record { entered = looks (bit_xor low 0xa1) at_skip_up o.entered; digit = o.digit }, x, xor_same low 0xa1 (rw (is_zero _ k) refl))
+      (omega (arith, spent, g.spent)))
 
   -- ---- the key is latched
 
   latched_is : {a : ℕ} → Entered (quick e) a b (now h) → read (both e) b.latch b.ram (value (word (page_of e) (240 + high % 16))) % 16 ≡ skip_key (now h)
   latched_is o = ap (λ y. y % 16) (v_get o.holds (value (word (page_of e) (240 + high % 16))) (high % 16) (omega (arith, variables_is e)) (omega arith))
 
-  pub skip_latch_comes : (down : Bool) → Enters (quick e) (skip_label down) 14 b (now h) → b.regs.x ≡ 6 → low ≡ skip_code down → h.spent ≡ skip_time down → Comes (quick e) (calm_pieces (quick e)) (OfKey (SkipLatch down)) b h
-  skip_latch_comes true o x kk spent = straight (OfKey (SkipLatch true)) o.entered.holds (pointing at_skip_down) (is_pointing o.entered x) _ (omega (arith, o.entered.holds.stack, stack_top_is e, page_fits e)) refl
-      (λ h' g. to_key_place (quick e) g _ refl (SkipTest true) (record { holds = o.entered.holds; inside = o.entered.inside; p = refl; r3 = refl; r4 = refl; digit = o.digit; low = kk }, latched_is o.entered) (omega (arith, spent, g.spent)))
-  skip_latch_comes false o x kk spent = straight (OfKey (SkipLatch false)) o.entered.holds (pointing at_skip_up) (is_pointing o.entered x) _ (omega (arith, o.entered.holds.stack, stack_top_is e, page_fits e)) refl
-      (λ h' g. to_key_place (quick e) g _ refl (SkipTest false) (record { holds = o.entered.holds; inside = o.entered.inside; p = refl; r3 = refl; r4 = refl; digit = o.digit; low = kk }, latched_is o.entered) (omega (arith, spent, g.spent)))
+  pub skip_latch_comes : (down : Bool) → Enters (quick e) (skip_label down) 14 b (now h) → b.regs.x ≡ 6 → low ≡ skip_code down
+      → h.spent ≡ skip_time down → Comes (quick e) (calm_pieces (quick e)) (OfKey (SkipLatch down)) b h
+  skip_latch_comes true o x kk spent =
+      straight (OfKey (SkipLatch true)) o.entered.holds (pointing at_skip_down) (is_pointing o.entered x) _
+      (omega (arith, o.entered.holds.stack, stack_top_is e, page_fits e)) refl
+      (λ h' g. to_key_place (quick e) g _ refl (SkipTest true) (
+        record {
+          holds = o.entered.holds;
+          inside = o.entered.inside;
+          p = refl;
+          r3 = refl;
+          r4 = refl;
+          digit = o.digit;
+          low = kk;
+        },
+        latched_is o.entered,
+      ) (omega (arith, spent, g.spent)))
+  skip_latch_comes false o x kk spent =
+      straight (OfKey (SkipLatch false)) o.entered.holds (pointing at_skip_up) (is_pointing o.entered x) _
+      (omega (arith, o.entered.holds.stack, stack_top_is e, page_fits e)) refl
+      (λ h' g. to_key_place (quick e) g _ refl (SkipTest false) (
+        record {
+          holds = o.entered.holds;
+          inside = o.entered.inside;
+          p = refl;
+          r3 = refl;
+          r4 = refl;
+          digit = o.digit;
+          low = kk;
+        },
+        latched_is o.entered,
+      ) (omega (arith, spent, g.spent)))
 
   -- ---- the key is tested
 
@@ -104,13 +152,20 @@ module _ (e : Edition) (b : Machine) (h : Since) (f : FitsMachine b) where
   opposite true u k = ap not k
   opposite false u k = ap not k
 
-  pub skip_test_holds : (down : Bool) → Skipping (quick e) down (skip_test_label down) b (now h) → b.key ≡ skip_key (now h) → At (quick e) (AtKey (SkipTest down)) b h → h.spent ≡ skip_time down + 2 → Holds (quick e) (calm_pieces (quick e)) (AtKey (SkipTest down)) b h
-  skip_test_holds true o key at spent = alone_forks (AtKey (SkipTest true)) f at o.holds (on_3 (skip_test_label true) b) (is_on_3 (skip_test_label true) b o.p o.r3) refl refl gone (λ u. u.held b.key) at_key_yes (no_skip_label true) (λ u. refl)
+  pub skip_test_holds : (down : Bool) → Skipping (quick e) down (skip_test_label down) b (now h) → b.key ≡ skip_key (now h)
+      → At (quick e) (AtKey (SkipTest down)) b h → h.spent ≡ skip_time down + 2 → Holds (quick e) (calm_pieces (quick e)) (AtKey (SkipTest down)) b h
+  skip_test_holds true o key at spent =
+      alone_forks (AtKey (SkipTest true)) f at o.holds (on_3 (skip_test_label true) b) (is_on_3 (skip_test_label true) b o.p o.r3) refl refl gone
+      (λ u. u.held b.key) at_key_yes (no_skip_label true) (λ u. refl)
       (λ u k. to_key (quick e) (one_more u h) _ refl (Skip true) (skips_on at_key_yes o, found u true key k) (omega (arith, spent)))
       (λ u k. to_key (quick e) (one_more u h) _ refl (NoSkip true) (skips_on (no_skip_label true) o, found u false key k) (omega (arith, spent)))
-  skip_test_holds false o key at spent = alone_forks (AtKey (SkipTest false)) f at o.holds (on_3 (skip_test_label false) b) (is_on_3 (skip_test_label false) b o.p o.r3) refl refl gone (λ u. not (u.held b.key)) at_key_yes (no_skip_label false) (λ u. refl)
-      (λ u k. to_key (quick e) (one_more u h) _ refl (Skip false) (skips_on at_key_yes o, found u false key (opposite (u.held b.key) true k)) (omega (arith, spent)))
-      (λ u k. to_key (quick e) (one_more u h) _ refl (NoSkip false) (skips_on (no_skip_label false) o, found u true key (opposite (u.held b.key) false k)) (omega (arith, spent)))
+  skip_test_holds false o key at spent =
+      alone_forks (AtKey (SkipTest false)) f at o.holds (on_3 (skip_test_label false) b) (is_on_3 (skip_test_label false) b o.p o.r3) refl refl gone
+      (λ u. not (u.held b.key)) at_key_yes (no_skip_label false) (λ u. refl)
+      (λ u k. to_key (quick e) (one_more u h) _ refl (Skip false) (skips_on at_key_yes o, found u false key (opposite (u.held b.key) true k))
+      (omega (arith, spent)))
+      (λ u k. to_key (quick e) (one_more u h) _ refl (NoSkip false)
+      (skips_on (no_skip_label false) o, found u true key (opposite (u.held b.key) false k)) (omega (arith, spent)))
 
   -- ---- the step
 
@@ -128,19 +183,26 @@ module _ (e : Edition) (b : Machine) (h : Since) (f : FitsMachine b) where
 
   -- the key that was found may be taken
   allowed : {h' : Since} {k : ℕ} (t : Bool) → Grows h k 0 h' → SomeTime h.keys (skip_key (now h)) t → SomeTime h'.keys (variable h'.state (high % 16) % 16) t
-  allowed {h' = h'} t g s = subst (λ y. SomeTime h'.keys (y % 16) t) (sym (ap (λ z. variable z (high % 16)) (now_same g)) ∙ ticks_variable h'.ticks (high % 16) h'.state) (some_grown g s)
+  allowed {h' = h'} t g s =
+      subst (λ y. SomeTime h'.keys (y % 16) t) (sym (ap (λ z. variable z (high % 16)) (now_same g)) ∙ ticks_variable h'.ticks (high % 16) h'.state)
+      (some_grown g s)
 
-  pub no_skip_comes : (down : Bool) → Skipping (quick e) down (no_skip_label down) b (now h) → SomeTime h.keys (skip_key (now h)) (not down) → Comes (quick e) (calm_pieces (quick e)) (OfKey (NoSkip down)) b h
+  pub no_skip_comes : (down : Bool) → Skipping (quick e) down (no_skip_label down) b (now h) → SomeTime h.keys (skip_key (now h)) (not down)
+      → Comes (quick e) (calm_pieces (quick e)) (OfKey (NoSkip down)) b h
   no_skip_comes true o s = straight (OfKey (NoSkip true)) o.holds (on_3 (no_skip_label true) b) (is_on_3 (no_skip_label true) b o.p o.r3) _ (omega arith) refl
       (λ h' g. steps_with e g (skip_of true) (skip_is true o) (skip_runs true o) (Held false) (allowed false g s) tt _ o.holds refl o.r4)
-  no_skip_comes false o s = straight (OfKey (NoSkip false)) o.holds (on_3 (no_skip_label false) b) (is_on_3 (no_skip_label false) b o.p o.r3) _ (omega arith) refl
+  no_skip_comes false o s =
+      straight (OfKey (NoSkip false)) o.holds (on_3 (no_skip_label false) b) (is_on_3 (no_skip_label false) b o.p o.r3) _ (omega arith) refl
       (λ h' g. steps_with e g (skip_of false) (skip_is false o) (skip_runs false o) (Held true) (allowed true g s) tt _ o.holds refl o.r4)
 
   two_on : {down : Bool} {a : ℕ} → Skipping (quick e) down a b (now h) → value (up (up b.regs.r.r5)) ≡ (now h).pc + 4
   two_on o = omega (arith, pc_is o.holds, is_inside e (now h) o.inside, memory_end_is e, page_fits e, f.regs.r.r5.hi, f.regs.r.r5.lo)
 
-  pub skip_comes : (down : Bool) → Skipping (quick e) down at_key_yes b (now h) → SomeTime h.keys (skip_key (now h)) down → Comes (quick e) (calm_pieces (quick e)) (OfKey (Skip down)) b h
+  pub skip_comes : (down : Bool) → Skipping (quick e) down at_key_yes b (now h) → SomeTime h.keys (skip_key (now h)) down
+      → Comes (quick e) (calm_pieces (quick e)) (OfKey (Skip down)) b h
   skip_comes true o s = straight (OfKey (Skip true)) o.holds (on_3 at_key_yes b) (is_on_3 at_key_yes b o.p o.r3) _ (omega arith) refl
-      (λ h' g. steps_with e g (skip_of true) (skip_is true o) (skip_runs true o) (Held true) (allowed true g s) tt _ (pc_set o.holds (up (up b.regs.r.r5)) ((now h).pc + 4) (two_on o)) refl o.r4)
+      (λ h' g. steps_with e g (skip_of true) (skip_is true o) (skip_runs true o) (Held true) (allowed true g s) tt _
+      (pc_set o.holds (up (up b.regs.r.r5)) ((now h).pc + 4) (two_on o)) refl o.r4)
   skip_comes false o s = straight (OfKey (Skip false)) o.holds (on_3 at_key_yes b) (is_on_3 at_key_yes b o.p o.r3) _ (omega arith) refl
-      (λ h' g. steps_with e g (skip_of false) (skip_is false o) (skip_runs false o) (Held false) (allowed false g s) tt _ (pc_set o.holds (up (up b.regs.r.r5)) ((now h).pc + 4) (two_on o)) refl o.r4)
+      (λ h' g. steps_with e g (skip_of false) (skip_is false o) (skip_runs false o) (Held false) (allowed false g s) tt _
+      (pc_set o.holds (up (up b.regs.r.r5)) ((now h).pc + 4) (two_on o)) refl o.r4)

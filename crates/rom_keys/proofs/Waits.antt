@@ -46,7 +46,8 @@ no_turns sets = record { before = length sets; count = omega arith; up = λ i l.
 
 -- the key of the turn was up at its test, and the rest of the turn has passed
 turned_on : (turn : ℕ) {h h' : Since} → Grows h 2 0 h' → Turned turn 5 h.keys → Last h.keys (turn % 16) false → Turned (suc turn) 0 h'.keys
-turned_on turn {h = h} {h' = h'} g t last = record { before = t.before; count = omega (arith, t.count, length_grown g); up = λ i l. at_grown g (go i l (cases_eq i turn)) }
+turned_on turn {h = h} {h' = h'} g t last =
+    record { before = t.before; count = omega (arith, t.count, length_grown g); up = λ i l. at_grown g (go i l (cases_eq i turn)) }
   where
     go : (i : ℕ) → i < suc turn → (i ≡ turn) ⊎ (i ≡ turn → ⊥) → IsAt h.keys (t.before + 7 * i + 4) (i % 16) false
     go i l (inl e) = rw e (subst (λ u. IsAt h.keys u (turn % 16) false) (omega (arith, last.last, t.count)) last.at)
@@ -54,14 +55,26 @@ turned_on turn {h = h} {h' = h'} g t last = record { before = t.before; count = 
 
 -- the test of a turn has passed
 turned_test : {turn : ℕ} (u : Input) (h : Since) → Turned turn 4 h.keys → Turned turn 5 (h.keys ++ u.held ∷ [])
-turned_test u h t = record { before = t.before; count = omega (arith, t.count, length_more h.keys (u.held ∷ [])); up = λ i l. is_at_more (u.held ∷ []) (t.up i l) }
+turned_test u h t =
+    record { before = t.before; count = omega (arith, t.count, length_more h.keys (u.held ∷ [])); up = λ i l. is_at_more (u.held ∷ []) (t.up i l) }
 
 -- the machine in a turn of the loop
 abbrev pub turning : Edition → ℕ → ℕ → ℕ → Machine → Machine
-turning e a high low b = record (entered e a high low b) { regs = record (entered e a high low b).regs { x = 13; r = record (entered e a high low b).regs.r { rd = word (page_of e) 0xd0 } } }
+turning e a high low b =
+    record (entered e a high low b) {
+      regs = record (entered e a high low b).regs { x = 13; r = record (entered e a high low b).regs.r { rd = word (page_of e) 0xd0 } };
+    }
 
 pub is_turning : {e : Edition} {turn a : ℕ} {b : Machine} {s : Lang} → Turning (quick e) turn a b s → b ≡ turning e a (high_byte s) (low_byte s) b
-is_turning {e = e} {a = a} {b = b} {s = s} o = is_entered o.waiting.enters.entered ∙ (λ i. record (entered e a (high_byte s) (low_byte s) b) { regs = record (entered e a (high_byte s) (low_byte s) b).regs { x = o.pointer i; r = record (entered e a (high_byte s) (low_byte s) b).regs.r { rd = o.rd i } } })
+is_turning {e = e} {a = a} {b = b} {s = s} o =
+    is_entered o.waiting.enters.entered
+    ∙ (λ i. record (entered e a (high_byte s)
+    (low_byte s) b) {
+      regs = record (entered e a (high_byte s) (low_byte s) b).regs {
+        x = o.pointer i;
+        r = record (entered e a (high_byte s) (low_byte s) b).regs.r { rd = o.rd i };
+      };
+    })
 
 module _ (e : Edition) (b : Machine) (h : Since) (f : FitsMachine b) where
   abbrev high : ℕ
@@ -71,12 +84,38 @@ module _ (e : Edition) (b : Machine) (h : Since) (f : FitsMachine b) where
   low = low_byte (now h)
 
   -- FX0A goes on at w, in c
-  waits_in : {a : ℕ} (w : ℕ) (c : Machine) → Waiting (quick e) a b (now h) → Holding (quick e) (places c) (next (now h)) → c.regs.p ≡ 3 → c.regs.r.r3 ≡ word_of w → c.regs.r.r4 ≡ word_of at_fetch → c.regs.r.r6 ≡ word (page_of e) (240 + high % 16) → c.regs.r.r7 ≡ word (page_of e) (240 + low / 16) → c.regs.r.rc ≡ word high low → Waiting (quick e) w c (now h)
-  waits_in w c o holds p r3 r4 r6 r7 rc = record { enters = record { entered = record { holds = holds; inside = o.enters.entered.inside; p = p; r3 = r3; r4 = r4; r6 = r6; r7 = r7; rc = rc }; digit = o.enters.digit }; low = o.low }
+  waits_in : {a : ℕ} (w : ℕ) (c : Machine) → Waiting (quick e) a b (now h) → Holding (quick e) (places c) (next (now h)) → c.regs.p ≡ 3
+      → c.regs.r.r3 ≡ word_of w → c.regs.r.r4 ≡ word_of at_fetch → c.regs.r.r6 ≡ word (page_of e) (240 + high % 16)
+      → c.regs.r.r7 ≡ word (page_of e) (240 + low / 16) → c.regs.r.rc ≡ word high low → Waiting (quick e) w c (now h)
+  waits_in w c o holds p r3 r4 r6 r7 rc =
+      record {
+        enters = record {
+          entered = record {
+            holds = holds;
+            inside = o.enters.entered.inside;
+            p = p;
+            r3 = r3;
+            r4 = r4;
+            r6 = r6;
+            r7 = r7;
+            rc = rc;
+          };
+          digit = o.enters.digit;
+        };
+        low = o.low;
+      }
 
   pub wait_key_comes : Enters (quick e) at_wait_key 15 b (now h) → low ≡ 0x0a → h.spent ≡ 92 → Comes (quick e) (calm_pieces (quick e)) (OfKey WaitKey) b h
   wait_key_comes o kk spent = routine (OfKey WaitKey) o.entered _ (omega arith) refl
-      (λ h' g. to_key (quick e) g _ refl (KeyNext 0) (record { waiting = waits_in at_key_next _ (record { enters = o; low = kk }) o.entered.holds refl refl refl refl refl refl; count = refl; pointer = refl; rd = refl }, no_turns h'.keys) (omega (arith, spent, g.spent)))
+      (λ h' g. to_key (quick e) g _ refl (KeyNext 0) (
+        record {
+          waiting = waits_in at_key_next _ (record { enters = o; low = kk }) o.entered.holds refl refl refl refl refl refl;
+          count = refl;
+          pointer = refl;
+          rd = refl;
+        },
+        no_turns h'.keys,
+      ) (omega (arith, spent, g.spent)))
 
   -- ---- a turn
 
@@ -96,9 +135,23 @@ module _ (e : Edition) (b : Machine) (h : Since) (f : FitsMachine b) where
   words : (w : Word) (p l : ℕ) → w.hi ≡ p → w.lo ≡ l → w ≡ word p l
   words w p l hi lo = λ i. record { hi = hi i; lo = lo i }
 
-  pub key_next_comes : (turn : ℕ) → Turning (quick e) turn at_key_next b (now h) → Turned turn 0 h.keys → h.spent ≡ 106 + 14 * turn → Comes (quick e) (calm_pieces (quick e)) (OfKey (KeyNext turn)) b h
-  key_next_comes turn o t spent = straight (OfKey (KeyNext turn)) o.waiting.enters.entered.holds (turning e at_key_next high low b) (is_turning o) _ (omega (arith, o.waiting.enters.entered.holds.stack, stack_top_is e, page_fits e)) refl
-      (λ h' g. to_key_place (quick e) g _ refl (KeyTest turn) (record { waiting = waits_in at_key_test _ o.waiting (work_set o.waiting.enters.entered.holds work b.regs.r.re.lo above below) refl refl refl refl refl refl; count = o.count; pointer = refl; rd = words _ (page_of e) 0xd0 (omega (arith, page_fits e)) refl }, sent o, turned_grown g t) (omega (arith, spent, g.spent)))
+  pub key_next_comes : (turn : ℕ) → Turning (quick e) turn at_key_next b (now h) → Turned turn 0 h.keys → h.spent ≡ 106 + 14 * turn
+      → Comes (quick e) (calm_pieces (quick e)) (OfKey (KeyNext turn)) b h
+  key_next_comes turn o t spent =
+      straight (OfKey (KeyNext turn)) o.waiting.enters.entered.holds (turning e at_key_next high low b) (is_turning o) _
+      (omega (arith, o.waiting.enters.entered.holds.stack, stack_top_is e, page_fits e)) refl
+      (λ h' g. to_key_place (quick e) g _ refl (KeyTest turn) (
+        record {
+          waiting = waits_in at_key_test _ o.waiting
+              (work_set o.waiting.enters.entered.holds work b.regs.r.re.lo above below) refl refl refl refl refl refl;
+          count = o.count;
+          pointer = refl;
+          rd = words _ (page_of e) 0xd0 (omega (arith, page_fits e)) refl;
+        },
+        sent o,
+        turned_grown g t,
+      )
+      (omega (arith, spent, g.spent)))
 
   -- the machine behind a test of the key
   abbrev gone : Word → Machine
@@ -116,14 +169,30 @@ module _ (e : Edition) (b : Machine) (h : Since) (f : FitsMachine b) where
   digit_of : {turn a : ℕ} → Turning (quick e) turn a b (now h) → turn % 16 ≡ b.regs.r.re.lo % 16
   digit_of o = omega (arith, o.count)
 
-  pub key_test_holds : (turn : ℕ) → Turning (quick e) turn at_key_test b (now h) → b.key ≡ turn % 16 → Turned turn 4 h.keys → At (quick e) (AtKey (KeyTest turn)) b h → h.spent ≡ 114 + 14 * turn → Holds (quick e) (calm_pieces (quick e)) (AtKey (KeyTest turn)) b h
-  key_test_holds turn o key t at spent = alone_forks (AtKey (KeyTest turn)) f at o.waiting.enters.entered.holds (turning e at_key_test high low b) (is_turning o) refl refl gone (λ u. u.held b.key) at_key_held at_key_count (λ u. refl)
-      (λ u k. to_key_place (quick e) (one_more u h) _ refl KeyHeld (waits_on at_key_held o, key ∙ digit_of o, last_set h.keys u.held (b.regs.r.re.lo % 16) true (ap u.held (sym (key ∙ digit_of o)) ∙ k)) tt)
-      (λ u k. to_key (quick e) (one_more u h) _ refl (KeyCount turn) (turns_on at_key_count o, turned_test u h t, last_set h.keys u.held (turn % 16) false (ap u.held (sym key) ∙ k)) (omega (arith, spent)))
+  pub key_test_holds : (turn : ℕ) → Turning (quick e) turn at_key_test b (now h) → b.key ≡ turn % 16 → Turned turn 4 h.keys
+      → At (quick e) (AtKey (KeyTest turn)) b h → h.spent ≡ 114 + 14 * turn → Holds (quick e) (calm_pieces (quick e)) (AtKey (KeyTest turn)) b h
+  key_test_holds turn o key t at spent =
+      alone_forks (AtKey (KeyTest turn)) f at o.waiting.enters.entered.holds (turning e at_key_test high low b) (is_turning o) refl refl gone
+      (λ u. u.held b.key) at_key_held at_key_count (λ u. refl)
+      (λ u k. to_key_place (quick e) (one_more u h) _ refl KeyHeld
+      (waits_on at_key_held o, key ∙ digit_of o, last_set h.keys u.held (b.regs.r.re.lo % 16) true (ap u.held (sym (key ∙ digit_of o)) ∙ k))
+      tt)
+      (λ u k. to_key (quick e) (one_more u h) _ refl (KeyCount turn)
+      (turns_on at_key_count o, turned_test u h t, last_set h.keys u.held (turn % 16) false (ap u.held (sym key) ∙ k)) (omega (arith, spent)))
 
-  pub key_count_comes : (turn : ℕ) → Turning (quick e) turn at_key_count b (now h) → Turned turn 5 h.keys → Last h.keys (turn % 16) false → h.spent ≡ 116 + 14 * turn → Comes (quick e) (calm_pieces (quick e)) (OfKey (KeyCount turn)) b h
-  key_count_comes turn o t last spent = straight (OfKey (KeyCount turn)) o.waiting.enters.entered.holds (turning e at_key_count high low b) (is_turning o) _ (omega arith) refl
-      (λ h' g. to_key (quick e) g _ refl (KeyNext (suc turn)) (record { waiting = waits_in at_key_next _ o.waiting o.waiting.enters.entered.holds refl refl refl refl refl refl; count = counts; pointer = refl; rd = refl }, turned_on turn g t last) (omega (arith, spent, g.spent)))
+  pub key_count_comes : (turn : ℕ) → Turning (quick e) turn at_key_count b (now h) → Turned turn 5 h.keys → Last h.keys (turn % 16) false
+      → h.spent ≡ 116 + 14 * turn → Comes (quick e) (calm_pieces (quick e)) (OfKey (KeyCount turn)) b h
+  key_count_comes turn o t last spent =
+      straight (OfKey (KeyCount turn)) o.waiting.enters.entered.holds (turning e at_key_count high low b) (is_turning o) _ (omega arith) refl
+      (λ h' g. to_key (quick e) g _ refl (KeyNext (suc turn)) (
+        record {
+          waiting = waits_in at_key_next _ o.waiting o.waiting.enters.entered.holds refl refl refl refl refl refl;
+          count = counts;
+          pointer = refl;
+          rd = refl;
+        },
+        turned_on turn g t last,
+      ) (omega (arith, spent, g.spent)))
     where
       counts : (b.regs.r.re.lo + 1) % 256 ≡ suc turn % 256
       counts = omega (arith, o.count)
@@ -139,14 +208,24 @@ module _ (e : Edition) (b : Machine) (h : Since) (f : FitsMachine b) where
 
   -- the key that was down is up in a set more
   lets_go : {k : ℕ} (u : Input) → Last h.keys k true → u.held k ≡ false → JustUp (h.keys ++ u.held ∷ []) k
-  lets_go {k = k} u last is = record { time = last.time; last = omega (arith, last.last, length_more h.keys (u.held ∷ [])); down = is_at_more (u.held ∷ []) last.at; up = subst (λ z. IsAt (h.keys ++ u.held ∷ []) z k false) (omega (arith, last.last, up.last, length_more h.keys (u.held ∷ []))) up.at }
+  lets_go {k = k} u last is =
+      record {
+        time = last.time;
+        last = omega (arith, last.last, length_more h.keys (u.held ∷ []));
+        down = is_at_more (u.held ∷ []) last.at;
+        up = subst (λ z. IsAt (h.keys ++ u.held ∷ []) z k false) (omega (arith, last.last, up.last, length_more h.keys (u.held ∷ []))) up.at;
+      }
     where
       up : Last (h.keys ++ u.held ∷ []) k false
       up = last_set h.keys u.held k false is
 
-  pub key_held_holds : Waiting (quick e) at_key_held b (now h) → b.key ≡ b.regs.r.re.lo % 16 → Last h.keys (b.regs.r.re.lo % 16) true → At (quick e) (AtKey KeyHeld) b h → Holds (quick e) (calm_pieces (quick e)) (AtKey KeyHeld) b h
-  key_held_holds o key last at = alone_forks (AtKey KeyHeld) f at o.enters.entered.holds (entered e at_key_held high low b) (is_entered o.enters.entered) refl refl waiting (λ u. u.held b.key) at_key_held at_key_freed (λ u. refl)
-      (λ u k. to_key_place (quick e) (one_more u h) _ refl KeyHeld (waits_more at_key_held o, key, last_set h.keys u.held (b.regs.r.re.lo % 16) true (ap u.held (sym key) ∙ k)) tt)
+  pub key_held_holds : Waiting (quick e) at_key_held b (now h) → b.key ≡ b.regs.r.re.lo % 16 → Last h.keys (b.regs.r.re.lo % 16) true
+      → At (quick e) (AtKey KeyHeld) b h → Holds (quick e) (calm_pieces (quick e)) (AtKey KeyHeld) b h
+  key_held_holds o key last at =
+      alone_forks (AtKey KeyHeld) f at o.enters.entered.holds (entered e at_key_held high low b) (is_entered o.enters.entered) refl refl waiting
+      (λ u. u.held b.key) at_key_held at_key_freed (λ u. refl)
+      (λ u k. to_key_place (quick e) (one_more u h) _ refl KeyHeld
+      (waits_more at_key_held o, key, last_set h.keys u.held (b.regs.r.re.lo % 16) true (ap u.held (sym key) ∙ k)) tt)
       (λ u k. to_key (quick e) (one_more u h) _ refl KeyFreed (waits_more at_key_freed o, lets_go u last (ap u.held (sym key) ∙ k)) tt)
 
   -- ---- VX is that key
@@ -154,7 +233,8 @@ module _ (e : Edition) (b : Machine) (h : Since) (f : FitsMachine b) where
   abbrev put : ℕ → Places
   put v = record (places b) { ram = written b.latch b.ram (value (word (page_of e) (240 + high % 16))) v }
 
-  pub key_freed_comes : Waiting (quick e) at_key_freed b (now h) → JustUp h.keys (b.regs.r.re.lo % 16) → Comes (quick e) (calm_pieces (quick e)) (OfKey KeyFreed) b h
+  pub key_freed_comes : Waiting (quick e) at_key_freed b (now h) → JustUp h.keys (b.regs.r.re.lo % 16)
+      → Comes (quick e) (calm_pieces (quick e)) (OfKey KeyFreed) b h
   key_freed_comes o freed = routine (OfKey KeyFreed) o.enters.entered _ (omega (arith, o.enters.entered.holds.stack, stack_top_is e, page_fits e)) refl
       (λ h' g. steps_with e g (IsWaitKey (high % 16)) is runs (Chosen (b.regs.r.re.lo % 16)) (let_go_grown g (let_go freed (omega arith))) tt _ puts refl refl)
     where
@@ -165,4 +245,7 @@ module _ (e : Edition) (b : Machine) (h : Since) (f : FitsMachine b) where
       runs = rw (o.enters.entered.inside, o.enters.digit, o.low) refl
 
       puts : Holding (quick e) (put (bit_and b.regs.r.re.lo 15)) (record (next (now h)) { v = slice_set (now h).v (high % 16) (b.regs.r.re.lo % 16) })
-      puts = subst (λ v. Holding (quick e) (put (bit_and b.regs.r.re.lo 15)) (record (next (now h)) { v = slice_set (now h).v (high % 16) v })) (and_mask b.regs.r.re.lo 4) (v_set o.enters.entered.holds (value (word (page_of e) (240 + high % 16))) (high % 16) (bit_and b.regs.r.re.lo 15) (omega (arith, variables_is e)) (omega arith))
+      puts =
+          subst (λ v. Holding (quick e) (put (bit_and b.regs.r.re.lo 15)) (record (next (now h)) { v = slice_set (now h).v (high % 16) v }))
+          (and_mask b.regs.r.re.lo 4) (v_set o.enters.entered.holds (value (word (page_of e) (240 + high % 16))) (high % 16)
+          (bit_and b.regs.r.re.lo 15) (omega (arith, variables_is e)) (omega arith))

@@ -32,8 +32,11 @@ module _ (rom : List ℕ) (held : ℕ → Keys) where
       none = omega (arith, l)
   later_cycle b k (suc m) l = go (cases_eq k (suc m)) (λ d. later_cycle b k m d)
     where
-      go : (k ≡ suc m) ⊎ (k ≡ suc m → ⊥) → (k ≤ m → (after_moves rom held b k).cycle ≤ (after_moves rom held b m).cycle) → (after_moves rom held b k).cycle ≤ (after_moves rom held b (suc m)).cycle
-      go (inl e) f = subst (λ j. (after_moves rom held b j).cycle ≤ (after_moves rom held b (suc m)).cycle) (sym e) (le_refl (after_moves rom held b (suc m)).cycle)
+      go : (k ≡ suc m) ⊎ (k ≡ suc m → ⊥) → (k ≤ m → (after_moves rom held b k).cycle ≤ (after_moves rom held b m).cycle)
+          → (after_moves rom held b k).cycle ≤ (after_moves rom held b (suc m)).cycle
+      go (inl e) f =
+          subst (λ j. (after_moves rom held b j).cycle ≤ (after_moves rom held b (suc m)).cycle) (sym e)
+          (le_refl (after_moves rom held b (suc m)).cycle)
       go (inr d) f = omega (arith, f (omega (arith, l, d)), later-move rom held (after_moves rom held b m))
 
   -- ---- a test of all states

@@ -26,5 +26,9 @@ module _ (i : Interpreter) (held : ℕ → Keys) where
 
   pub quiet_moves : (n : ℕ) (b : Machine) → is_quiet n b ≡ true → (m : ℕ) → m < n → Quiet (after_moves i.rom held b m)
   quiet_moves zero b h m l = absurd (omega arith)
-  quiet_moves (suc n) b h zero l = let p = and_parts _ _ (and_parts (not (is_dispatch i b) && not (is_stop i b)) (is_quiet n (move i.rom held b)) h).0 in (not_set _ p.0, not_set _ p.1)
-  quiet_moves (suc n) b h (suc m) l = subst Quiet (move_first m b) (quiet_moves n (move i.rom held b) (and_parts (not (is_dispatch i b) && not (is_stop i b)) (is_quiet n (move i.rom held b)) h).1 m (omega arith))
+  quiet_moves (suc n) b h zero l =
+      let p = and_parts _ _ (and_parts (not (is_dispatch i b) && not (is_stop i b)) (is_quiet n (move i.rom held b)) h).0 in
+      (not_set _ p.0, not_set _ p.1)
+  quiet_moves (suc n) b h (suc m) l =
+      subst Quiet (move_first m b) (quiet_moves n (move i.rom held b)
+      (and_parts (not (is_dispatch i b) && not (is_stop i b)) (is_quiet n (move i.rom held b)) h).1 m (omega arith))

@@ -20,7 +20,10 @@ not_taken false i true e = cc
 not_taken false i false e = cc
 
 pub disabled_apart : (b : Machine) → b.regs.ie ≡ false → case_of b ≡ Interrupt → ⊥
-disabled_apart b off e = not_taken (dma_at b.cycle b.on) (int_at b.cycle b.on) b.regs.idle (subst (λ t. (if dma_at b.cycle b.on then Dma else if t && int_at b.cycle b.on then Interrupt else if b.regs.idle then Idle else Instruction) ≡ Interrupt) off e)
+disabled_apart b off e =
+    not_taken (dma_at b.cycle b.on) (int_at b.cycle b.on) b.regs.idle
+    (subst (λ t. (if dma_at b.cycle b.on then Dma else if t && int_at b.cycle b.on then Interrupt else if b.regs.idle then Idle else Instruction)
+    ≡ Interrupt) off e)
 
 module _ (rom : List ℕ) (held : ℕ → Keys) (b : Machine) (h : Since) where
   -- a main move more
@@ -74,5 +77,8 @@ module _ (rom : List ℕ) (held : ℕ → Keys) (b : Machine) (h : Since) where
   carried_disabled off = disabled_by off (case_of b) (disabled_apart b off)
 
 -- a step with the record's ticks and keys is one with those of the interval that it covers
-pub covers_between : (x : Program) (script : List KeyEvent) (c : Machine) (h : Since) (s : Lang) → Covers x script c h → Stepped x c h s → Between x.edition h.state (x.ticks_between h.from c.cycle) (keys_between script h.from c.cycle) s
-covers_between x script c h s i st = subst (λ n. Between x.edition h.state n (keys_between script h.from c.cycle) s) i.ticks (between_more i.keys x.edition h.state h.ticks s st.between)
+pub covers_between : (x : Program) (script : List KeyEvent) (c : Machine) (h : Since) (s : Lang) → Covers x script c h → Stepped x c h s
+    → Between x.edition h.state (x.ticks_between h.from c.cycle) (keys_between script h.from c.cycle) s
+covers_between x script c h s i st =
+    subst (λ n. Between x.edition h.state n (keys_between script h.from c.cycle) s) i.ticks
+    (between_more i.keys x.edition h.state h.ticks s st.between)

@@ -33,5 +33,8 @@ module _ (b : Machine) where
 
   -- neither a dispatch nor a stop point, whatever the next move is
   pub calm_points : (x : Program) → is_event (code x) b ≡ false → (is_dispatch x.interpreter b ≡ false) × (is_stop x.interpreter b ≡ false)
-  calm_points x e =
-      (and_neither (is_instruction (case_of b)) (b.regs.p == 4) _ (neither _ _ e).0, and_neither (is_instruction (case_of b)) (b.regs.p == 3) _ (neither _ _ e).1)
+  calm_points x e = (
+    and_neither (is_instruction (case_of b)) (b.regs.p == 4) _ (neither _ _ e).0,
+    and_neither (is_instruction (case_of b)) (b.regs.p
+        == 3) _ (neither _ _ e).1,
+  )

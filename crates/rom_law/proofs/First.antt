@@ -47,13 +47,19 @@ module _ (n m : ℕ) (game : List ℕ) where
   ram_length l = omega (arith, l, length-append (zeros m ++ game) (drop (m + length game) (zeros n)), front, behind)
 
   ram_before : (a : ℕ) → a < m → slice_index ram a ≡ 0
-  ram_before a l = get_or_append_left (zeros m ++ game) (drop (m + length game) (zeros n)) 0 a (omega (arith, l, front)) ∙ get_or_append_left (zeros m) game 0 a (omega (arith, l, zeros_length m)) ∙ zeros_at m a
+  ram_before a l =
+      get_or_append_left (zeros m ++ game) (drop (m + length game) (zeros n)) 0 a (omega (arith, l, front))
+      ∙ get_or_append_left (zeros m) game 0 a (omega (arith, l, zeros_length m)) ∙ zeros_at m a
 
   ram_inside : (a : ℕ) → m ≤ a → a < m + length game → slice_index ram a ≡ slice_index game (a - m)
-  ram_inside a l k = get_or_append_left (zeros m ++ game) (drop (m + length game) (zeros n)) 0 a (omega (arith, k, front)) ∙ get_or-append_right (zeros m) game m a 0 (zeros_length m) l
+  ram_inside a l k =
+      get_or_append_left (zeros m ++ game) (drop (m + length game) (zeros n)) 0 a (omega (arith, k, front))
+      ∙ get_or-append_right (zeros m) game m a 0 (zeros_length m) l
 
   ram_after : (a : ℕ) → m + length game ≤ a → slice_index ram a ≡ 0
-  ram_after a l = get_or-append_right (zeros m ++ game) (drop (m + length game) (zeros n)) (m + length game) a 0 front l ∙ get_or-drop (m + length game) (zeros n) (a - (m + length game)) 0 ∙ zeros_at n _
+  ram_after a l =
+      get_or-append_right (zeros m ++ game) (drop (m + length game) (zeros n)) (m + length game) a 0 front l
+      ∙ get_or-drop (m + length game) (zeros n) (a - (m + length game)) 0 ∙ zeros_at n _
 
   -- the game, and zeros after it
   ram_game : (k i : ℕ) → slice_index ram (m + i) ≡ slice_index (game ++ zeros k) i
@@ -75,7 +81,9 @@ module _ (n m : ℕ) (game : List ℕ) where
       go (inr l) (inr k) = rw (ram_after a k) (lit< tt)
 
 range_zero : (a z : ℕ) (l : List ℕ) → z ≤ length l → ((i : ℕ) → a ≤ i → slice_index l i ≡ 0) → slice_range l a z ≡ zeros (z - a)
-range_zero a z l fits h = ext_get_or 0 _ _ (range_length a z l fits ∙ sym (zeros_length (z - a))) (λ i k. range_get a z l i (omega (arith, k, range_length a z l fits)) ∙ h (a + i) (omega arith) ∙ sym (zeros_at (z - a) i))
+range_zero a z l fits h =
+    ext_get_or 0 _ _ (range_length a z l fits ∙ sym (zeros_length (z - a)))
+    (λ i k. range_get a z l i (omega (arith, k, range_length a z l fits)) ∙ h (a + i) (omega arith) ∙ sym (zeros_at (z - a) i))
 
 -- no pixel is lit in a screen of zeros
 dark : (rows n : ℕ) → pixels rows (zeros n) ≡ empty
@@ -108,13 +116,19 @@ module _ (e : Edition) (game : List ℕ) (room : length game ≤ memory_size e) 
       same = omega arith
 
   screen_first : pixels (rows_of e) (slice_range (ram 0x1000 0x200 game) (screen_start e) 0x1000) ≡ empty
-  screen_first = ap (pixels (rows_of e)) (range_zero (screen_start e) 0x1000 (ram 0x1000 0x200 game) (omega (arith, size)) (λ i l. beyond i (omega (arith, l, variables_below e)))) ∙ dark (rows_of e) (0x1000 - screen_start e)
+  screen_first =
+      ap (pixels (rows_of e)) (range_zero (screen_start e) 0x1000 (ram 0x1000 0x200 game) (omega (arith, size))
+      (λ i l. beyond i (omega (arith, l, variables_below e)))) ∙ dark (rows_of e) (0x1000 - screen_start e)
 
   memory_first : slice_range (ram 0x1000 0x200 game) memory_start (memory_end e) ≡ game ++ zeros (memory_size e - length game)
-  memory_first = ext_get_or 0 _ _ lengths (λ i k. range_get memory_start (memory_end e) (ram 0x1000 0x200 game) i (omega (arith, k, long)) ∙ ram_game 0x1000 0x200 game (memory_size e - length game) i)
+  memory_first =
+      ext_get_or 0 _ _ lengths (λ i k. range_get memory_start (memory_end e) (ram 0x1000 0x200 game) i (omega (arith, k, long))
+      ∙ ram_game 0x1000 0x200 game (memory_size e - length game) i)
     where
       long : length (slice_range (ram 0x1000 0x200 game) memory_start (memory_end e)) ≡ memory_end e - memory_start
-      long = range_length memory_start (memory_end e) (ram 0x1000 0x200 game) (omega (arith, size, variables_below e, screen_below e, stack_below e, stack_room e))
+      long =
+          range_length memory_start (memory_end e) (ram 0x1000 0x200 game)
+          (omega (arith, size, variables_below e, screen_below e, stack_below e, stack_room e))
 
       lengths : length (slice_range (ram 0x1000 0x200 game) memory_start (memory_end e)) ≡ length (game ++ zeros (memory_size e - length game))
       lengths = omega (arith, long, length-append game (zeros (memory_size e - length game)), zeros_length (memory_size e - length game), room)
@@ -124,11 +138,26 @@ module _ (e : Edition) (game : List ℕ) (room : length game ≤ memory_size e) 
 
   -- After boot the first state lies in the machine: RAM is as it was at the start, R5 is 0200 and R2 the top of the stack, and the
   -- timers, R9, I and Q are 0.
-  pub first_lies : (b : Machine) → b.ram ≡ (start game).ram → value b.regs.r.r5 ≡ memory_start → value b.regs.r.r2 ≡ stack_top e → value b.regs.r.ra ≡ 0 → b.regs.r.r8 ≡ word 0 0 → value b.regs.r.r9 ≡ 0 → b.regs.q ≡ false → b.latch ≡ false → b.regs.ie ≡ true → b.regs.idle ≡ false → Lies e b (first e game)
+  pub first_lies : (b : Machine) → b.ram ≡ (start game).ram → value b.regs.r.r5 ≡ memory_start → value b.regs.r.r2 ≡ stack_top e
+      → value b.regs.r.ra ≡ 0 → b.regs.r.r8 ≡ word 0 0 → value b.regs.r.r9 ≡ 0 → b.regs.q ≡ false → b.latch ≡ false → b.regs.ie ≡ true
+      → b.regs.idle ≡ false → Lies e b (first e game)
   unfolding state_of
   first_lies b old pc r2 i r8 n q latch ie idle =
       record {
-        is = λ j. record { v = v_is j; i = i j; pc = pc j; stack = stack_is j; memory = memory_is j; dt = (r8 j).hi; st = (r8 j).lo; tone = q j; n = n j; b = random_is j; screen = screen_is j };
+        is =
+            λ j. record {
+              v = v_is j;
+              i = i j;
+              pc = pc j;
+              stack = stack_is j;
+              memory = memory_is j;
+              dt = (r8 j).hi;
+              st = (r8 j).lo;
+              tone = q j;
+              n = n j;
+              b = random_is j;
+              screen = screen_is j;
+            };
         stack = omega (arith, r2);
         latch = latch;
         enabled = ie;
@@ -156,7 +185,13 @@ module _ (e : Edition) (game : List ℕ) (room : length game ≤ memory_size e) 
 -- ---- the ranges along a run
 
 pub start_fits : (game : List ℕ) → length game ≤ 0xe00 → ((i : ℕ) → slice_index game i < 256) → FitsMachine (start game)
-start_fits game room bytes = record { regs = reset-fits.regs; ram = ram_fits 0x1000 0x200 game bytes; size = ram_length 0x1000 0x200 game (omega (arith, room)); key = reset-fits.key }
+start_fits game room bytes =
+    record {
+      regs = reset-fits.regs;
+      ram = ram_fits 0x1000 0x200 game bytes;
+      size = ram_length 0x1000 0x200 game (omega (arith, room));
+      key = reset-fits.key;
+    }
 
 pub moves_fit : (rom : List ℕ) → FitsRom rom → (held : ℕ → Keys) (b : Machine) → FitsMachine b → (n : ℕ) → FitsMachine (after_moves rom held b n)
 moves_fit rom r held b f zero = f

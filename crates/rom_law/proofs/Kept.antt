@@ -47,7 +47,9 @@ module _ (x : Code) (top : Option ℕ) where
   at_move k m b l g = (prefix (suc k) m b l g).1.0
 
   -- what it writes lies below the top
-  below_move : (k m : ℕ) (b : Machine) → k < m → AllGood x top m b → Below top (executed (opcode_in x (quicks x k b)) (stepped (quicks x k b).regs (quicks x k b).regs.p) (rom_inputs x (quicks x k b) (λ f. false))).write
+  below_move : (k m : ℕ) (b : Machine) → k < m → AllGood x top m b
+      → Below top (executed (opcode_in x (quicks x k b)) (stepped (quicks x k b).regs (quicks x k b).regs.p)
+      (rom_inputs x (quicks x k b) (λ f. false))).write
   below_move k m b l g = (prefix (suc k) m b l g).2
 
   -- no event between
@@ -58,10 +60,12 @@ module _ (x : Code) (top : Option ℕ) where
   run_is k m b l g = quicks_are x top k b (prefix k m b l g)
 
   -- a main move of a state after n ticks of the k-th state is one of the next
-  moved_in : (u : Input) (k m n : ℕ) (start b : Machine) → start.latch ≡ false → length start.ram ≡ 4096 → AllGood x top m start → k < m → After x.low n (run x k start) b → After x.low n (run x (suc k) start) (moved x u b)
+  moved_in : (u : Input) (k m n : ℕ) (start b : Machine) → start.latch ≡ false → length start.ram ≡ 4096 → AllGood x top m start → k < m
+      → After x.low n (run x k start) b → After x.low n (run x (suc k) start) (moved x u b)
   moved_in u k m n start b clear full g l h =
       subst (λ z. After x.low n z (moved x u b)) (run_is (suc k) m start l g)
-      (after_quick x u n (quicks x k start) b (at_move k m start l g) (quicks_clear x k start clear) (quicks_full x k start full) (subst (λ z. After x.low n z b) (sym (run_is k m start (omega arith) g)) h))
+      (after_quick x u n (quicks x k start) b (at_move k m start l g) (quicks_clear x k start clear) (quicks_full x k start full)
+      (subst (λ z. After x.low n z b) (sym (run_is k m start (omega arith) g)) h))
 
 module _ (x : Code) where
   run_fits : FitsRom x.rom → (k : ℕ) (b : Machine) → FitsMachine b → FitsMachine (run x k b)
@@ -105,7 +109,8 @@ pub record Proved (x : Program) (t : Pieces) : Type 0 where
 pub record Sound (x : Program) (t : Pieces) : Type 0 where
   pub rom : FitsRom x.interpreter.rom
   pub some : (l : t.Block) (b : Machine) (h : Since) → FitsMachine b → t.Head l b h → 0 < t.moves l h
-  pub later : (l : t.Place) (b : Machine) (h : Since) → FitsMachine b → t.At l b h → b.regs.idle ≡ false → (n : ℕ) (c : Machine) → After (code x).low n b c → t.At l c (after_ticks n h)
+  pub later : (l : t.Place) (b : Machine) (h : Since) → FitsMachine b → t.At l b h → b.regs.idle ≡ false → (n : ℕ) (c : Machine)
+      → After (code x).low n b c → t.At l c (after_ticks n h)
 
 pub sound_of : (x : Program) (t : Pieces) → Proved x t → Sound x t
 sound_of x t p = record { rom = p.rom; some = λ l b h f head. (p.blocks l b h f head).some; later = λ l b h f at. (p.places l b h f at).later }
@@ -140,7 +145,8 @@ grows_main h k n h' u g =
     }
 
 grows_tick : (h : Since) (k n : ℕ) (h' : Since) → Grows h k n h' → Grows h k (suc n) (after_tick h')
-grows_tick h k n h' g = record { from = g.from; state = g.state; ticks = omega (arith, g.ticks); spent = g.spent; more = g.more; keys = g.keys; count = g.count }
+grows_tick h k n h' g =
+    record { from = g.from; state = g.state; ticks = omega (arith, g.ticks); spent = g.spent; more = g.more; keys = g.keys; count = g.count }
 
 -- the record before the n ticks
 abbrev unticked : Since → Since → Since
@@ -157,7 +163,18 @@ grows_on h k n h' g = record { from = refl; state = refl; ticks = g.ticks; spent
 module _ (x : Program) (t : Pieces) (sound : Sound x t) where
   -- a block begins
   begins : (l : t.Block) (b : Machine) (h : Since) → FitsMachine b → t.Head l b h → InBlock x t l b h
-  begins l b h f head = record { start = b; since = h; k = 0; n = 0; inside = sound.some l b h f head; grows = grows_none h; fits = f; head = head; after = after_none (code x).low b }
+  begins l b h f head =
+      record {
+        start = b;
+        since = h;
+        k = 0;
+        n = 0;
+        inside = sound.some l b h f head;
+        grows = grows_none h;
+        fits = f;
+        head = head;
+        after = after_none (code x).low b;
+      }
 
   -- a piece begins
   pub starts_row : (b : Machine) (h : Since) → FitsMachine b → Starts t b h → Row x t b h
@@ -165,14 +182,27 @@ module _ (x : Program) (t : Pieces) (sound : Sound x t) where
   starts_row b h f (Meets l at) = Alone l at
 
   -- the same, n ticks later
-  starts_later : (c b : Machine) (h : Since) (k n : ℕ) (h' : Since) → Grows h k n h' → FitsMachine c → c.regs.idle ≡ false → After (code x).low n c b → Starts t c (unticked h h') → Row x t b h'
+  starts_later : (c b : Machine) (h : Since) (k n : ℕ) (h' : Since) → Grows h k n h' → FitsMachine c → c.regs.idle ≡ false → After (code x).low n c b
+      → Starts t c (unticked h h') → Row x t b h'
   starts_later c b h k n h' g f i a (Enters l head) =
       Inside l
-      (record { start = c; since = unticked h h'; k = 0; n = n; inside = sound.some l c (unticked h h') f head; grows = grows_on h k n h' g; fits = f; head = head; after = a })
-  starts_later c b h k n h' g f i a (Meets l at) = Alone l (subst (λ m. t.At l b (record h' { ticks = m })) (sym g.ticks) (sound.later l c (unticked h h') f at i n b a))
+      (record {
+        start = c;
+        since = unticked h h';
+        k = 0;
+        n = n;
+        inside = sound.some l c (unticked h h') f head;
+        grows = grows_on h k n h' g;
+        fits = f;
+        head = head;
+        after = a;
+      })
+  starts_later c b h k n h' g f i a (Meets l at) =
+      Alone l (subst (λ m. t.At l b (record h' { ticks = m })) (sym g.ticks) (sound.later l c (unticked h h') f at i n b a))
 
   -- the end of a block, with n ticks since
-  ended : (c b : Machine) (h : Since) (k n : ℕ) (h' : Since) → Grows h k n h' → FitsMachine c → c.regs.idle ≡ false → After (code x).low n c b → Ends x t c (unticked h h') → Outcome x t b h'
+  ended : (c b : Machine) (h : Since) (k n : ℕ) (h' : Since) → Grows h k n h' → FitsMachine c → c.regs.idle ≡ false → After (code x).low n c b
+      → Ends x t c (unticked h h') → Outcome x t b h'
   ended c b h k n h' g f i a (Continues calm s) = Still (ap (is_event (code x)) a.is ∙ calm) (starts_later c b h k n h' g f i a s)
   ended c b h k n h' g f i a (Steps s st) =
       Dispatched (ticks n s)
@@ -185,7 +215,9 @@ module _ (x : Program) (t : Pieces) (sound : Sound x t) where
       Halted stop
       (record {
         fits = st.fits;
-        halts = subst (λ z. Halts x b z stop) (ticks_add n h.ticks h'.state ∙ ap (λ m. ticks m h'.state) (sym g.ticks)) (halts_after x n c b a f (ticks h.ticks h'.state) stop st.halts);
+        halts =
+            subst (λ z. Halts x b z stop) (ticks_add n h.ticks h'.state ∙ ap (λ m. ticks m h'.state) (sym g.ticks))
+            (halts_after x n c b a f (ticks h.ticks h'.state) stop st.halts);
       })
 
   module _ {l : t.Block} {b : Machine} {h : Since} (r : InBlock x t l b h) (comes : Comes x t l r.start r.since) where
@@ -200,14 +232,20 @@ module _ (x : Program) (t : Pieces) (sound : Sound x t) where
 
     -- main code runs inside a block
     awake_in : b.regs.idle ≡ false
-    awake_in = ap (λ (z : Machine). z.regs.idle) r.after.is ∙ sym (ap (λ (z : Machine). z.regs.idle) is_quicks) ∙ quicks_idle (code x) t.top r.k r.start good_k ∙ comes.awake
+    awake_in =
+        ap (λ (z : Machine). z.regs.idle) r.after.is ∙ sym (ap (λ (z : Machine). z.regs.idle) is_quicks)
+        ∙ quicks_idle (code x) t.top r.k r.start good_k ∙ comes.awake
 
     block_runs : Ready x b
     block_runs =
         record {
           latch = ap (λ (z : Machine). z.latch) r.after.is ∙ sym (ap (λ (z : Machine). z.latch) is_quicks) ∙ quicks_clear (code x) r.k r.start comes.runs.latch;
-          enabled = ap (λ (z : Machine). z.regs.ie) r.after.is ∙ sym (ap (λ (z : Machine). z.regs.ie) is_quicks) ∙ quicks_enabled (code x) t.top r.k r.start good_k ∙ comes.runs.enabled;
-          entry = ap (λ (z : Machine). z.regs.r.r1) r.after.is ∙ sym (ap (λ (z : Machine). z.regs.r.r1) is_quicks) ∙ quicks_entry (code x) t.top r.k r.start good_k ∙ comes.runs.entry;
+          enabled =
+              ap (λ (z : Machine). z.regs.ie) r.after.is ∙ sym (ap (λ (z : Machine). z.regs.ie) is_quicks)
+              ∙ quicks_enabled (code x) t.top r.k r.start good_k ∙ comes.runs.enabled;
+          entry =
+              ap (λ (z : Machine). z.regs.r.r1) r.after.is ∙ sym (ap (λ (z : Machine). z.regs.r.r1) is_quicks)
+              ∙ quicks_entry (code x) t.top r.k r.start good_k ∙ comes.runs.entry;
           on = ap (λ (z : Machine). z.on) r.after.is ∙ sym (ap (λ (z : Machine). z.on) is_quicks) ∙ quicks_on (code x) t.top r.k r.start good_k ∙ comes.runs.on;
         }
 
@@ -222,10 +260,13 @@ module _ (x : Program) (t : Pieces) (sound : Sound x t) where
     block_cycles = after_cycles (code x) r.n (quicks (code x) r.k r.start) b fine later
 
     -- where its instruction writes, that lies below the top
-    pub block_writes : (top : ℕ) → t.top ≡ Some top → (j : Inputs) (w : ℕ × ℕ) → (executed (opcode_of x.interpreter.rom b) (stepped b.regs b.regs.p) j).write ≡ Some w → w.0 < top
+    pub block_writes : (top : ℕ) → t.top ≡ Some top → (j : Inputs) (w : ℕ × ℕ)
+        → (executed (opcode_of x.interpreter.rom b) (stepped b.regs b.regs.p) j).write ≡ Some w → w.0 < top
     block_writes top is =
         writes_below (code x) r.n (quicks (code x) r.k r.start) b fine later top
-        (subst (λ y. Below y (executed (opcode_in (code x) (quicks (code x) r.k r.start)) (stepped (quicks (code x) r.k r.start).regs (quicks (code x) r.k r.start).regs.p) (rom_inputs (code x) (quicks (code x) r.k r.start) (λ f. false))).write) is
+        (subst (λ y. Below y (executed (opcode_in (code x) (quicks (code x) r.k r.start))
+        (stepped (quicks (code x) r.k r.start).regs (quicks (code x) r.k r.start).regs.p)
+        (rom_inputs (code x) (quicks (code x) r.k r.start) (λ f. false))).write) is
         (below_move (code x) t.top r.k (t.moves l r.since) r.start r.inside good))
 
     -- the address at the program counter
@@ -247,25 +288,32 @@ module _ (x : Program) (t : Pieces) (sound : Sound x t) where
     next : (u : Input) → After (code x).low r.n (run (code x) (suc r.k) r.start) (moved (code x) u b)
     next u = moved_in (code x) t.top u r.k (t.moves l r.since) r.n r.start b comes.runs.latch r.fits.size good r.inside r.after
 
-    pub block_above_next : (u : Input) (top a : ℕ) → t.top ≡ Some top → top ≤ a → value (moved (code x) u b).regs.r.r2 < a → slice_index (moved (code x) u b).ram a ≡ slice_index r.start.ram a
+    pub block_above_next : (u : Input) (top a : ℕ) → t.top ≡ Some top → top ≤ a → value (moved (code x) u b).regs.r.r2 < a
+        → slice_index (moved (code x) u b).ram a ≡ slice_index r.start.ram a
     block_above_next u top a is low above =
         (next u).ram a (λ k. subst (λ w. value w < a) (ap (λ (z : Machine). z.regs.r.r2) (next u).is) above)
         ∙ ap (λ (z : Machine). slice_index z.ram a) (sym (run_is (code x) t.top (suc r.k) (t.moves l r.since) r.start (omega (arith, r.inside)) good))
-        ∙ quicks_above (code x) top (suc r.k) r.start (subst (λ y. AllGood (code x) y (suc r.k) r.start) is (prefix (code x) t.top (suc r.k) (t.moves l r.since) r.start (omega (arith, r.inside)) good)) a low
+        ∙ quicks_above (code x) top (suc r.k) r.start
+        (subst (λ y. AllGood (code x) y (suc r.k) r.start) is
+        (prefix (code x) t.top (suc r.k) (t.moves l r.since) r.start (omega (arith, r.inside)) good)) a low
 
     -- the number of the program counter, and what it is after a move
     pub block_p : b.regs.p ≡ (quicks (code x) r.k r.start).regs.p
     block_p = ap (λ (z : Machine). z.regs.p) r.after.is ∙ sym (ap (λ (z : Machine). z.regs.p) is_quicks)
 
     pub moved_p : (u : Input) → (moved (code x) u b).regs.p ≡ (quicks (code x) (suc r.k) r.start).regs.p
-    moved_p u = ap (λ (z : Machine). z.regs.p) (next u).is ∙ sym (ap (λ (z : Machine). z.regs.p) (run_is (code x) t.top (suc r.k) (t.moves l r.since) r.start (omega (arith, r.inside)) good))
+    moved_p u =
+        ap (λ (z : Machine). z.regs.p) (next u).is
+        ∙ sym (ap (λ (z : Machine). z.regs.p) (run_is (code x) t.top (suc r.k) (t.moves l r.since) r.start (omega (arith, r.inside)) good))
 
     -- the block's last move
     last : (u : Input) → suc r.k ≡ t.moves l r.since → Outcome x t (moved (code x) u b) (after_main u h)
     last u e =
-        ended comes.end (moved (code x) u b) r.since (suc r.k) r.n (after_main u h) grown (subst FitsMachine there (run_fits (code x) sound.rom (suc r.k) r.start r.fits)) awake
+        ended comes.end (moved (code x) u b) r.since (suc r.k) r.n (after_main u h) grown
+        (subst FitsMachine there (run_fits (code x) sound.rom (suc r.k) r.start r.fits)) awake
         (subst (λ z. After (code x).low r.n z (moved (code x) u b)) there (next u))
-        (comes.ends (unticked r.since (after_main u h)) (subst (λ m. Grows r.since m 0 (unticked r.since (after_main u h))) e (grows_back r.since (suc r.k) r.n (after_main u h) grown)))
+        (comes.ends (unticked r.since (after_main u h))
+        (subst (λ m. Grows r.since m 0 (unticked r.since (after_main u h))) e (grows_back r.since (suc r.k) r.n (after_main u h) grown)))
       where
         grown : Grows r.since (suc r.k) r.n (after_main u h)
         grown = grows_main r.since r.k r.n h u r.grows
@@ -274,19 +322,34 @@ module _ (x : Program) (t : Pieces) (sound : Sound x t) where
         there = ap (λ m. run (code x) m r.start) e ∙ reaches_run (code x) t.top (t.moves l r.since) r.start comes.end comes.reaches
 
         awake : comes.end.regs.idle ≡ false
-        awake = ap (λ (z : Machine). z.regs.idle) (sym (reaches_quicks (code x) t.top (t.moves l r.since) r.start comes.end comes.reaches)) ∙ quicks_idle (code x) t.top (t.moves l r.since) r.start good ∙ comes.awake
+        awake =
+            ap (λ (z : Machine). z.regs.idle) (sym (reaches_quicks (code x) t.top (t.moves l r.since) r.start comes.end comes.reaches))
+            ∙ quicks_idle (code x) t.top (t.moves l r.since) r.start good ∙ comes.awake
 
     -- a move inside the block
     within : (u : Input) → (suc r.k ≡ t.moves l r.since → ⊥) → Outcome x t (moved (code x) u b) (after_main u h)
     within u e =
         Still calm
-        (Inside l (record { start = r.start; since = r.since; k = suc r.k; n = r.n; inside = more; grows = grows_main r.since r.k r.n h u r.grows; fits = r.fits; head = r.head; after = next u }))
+        (Inside l (record {
+          start = r.start;
+          since = r.since;
+          k = suc r.k;
+          n = r.n;
+          inside = more;
+          grows = grows_main r.since r.k r.n h u r.grows;
+          fits = r.fits;
+          head = r.head;
+          after = next u;
+        }))
       where
         more : suc r.k < t.moves l r.since
         more = omega (arith, r.inside, e)
 
         calm : is_event (code x) (moved (code x) u b) ≡ false
-        calm = ap (is_event (code x)) (next u).is ∙ ap (is_event (code x)) (sym (run_is (code x) t.top (suc r.k) (t.moves l r.since) r.start (omega (arith, r.inside)) good)) ∙ quiet _ (calm_in (code x) t.top r.k (t.moves l r.since) r.start more good)
+        calm =
+            ap (is_event (code x)) (next u).is
+            ∙ ap (is_event (code x)) (sym (run_is (code x) t.top (suc r.k) (t.moves l r.since) r.start (omega (arith, r.inside)) good))
+            ∙ quiet _ (calm_in (code x) t.top r.k (t.moves l r.since) r.start more good)
 
     pub block_moves : (u : Input) → Outcome x t (moved (code x) u b) (after_main u h)
     block_moves u = go (cases_eq (suc r.k) (t.moves l r.since))
@@ -296,7 +359,18 @@ module _ (x : Program) (t : Pieces) (sound : Sound x t) where
         go (inr e) = within u e
 
     pub block_ticks : (c : Machine) → Tick (code x).low b c → Row x t c (after_tick h)
-    block_ticks c k = Inside l (record { start = r.start; since = r.since; k = r.k; n = suc r.n; inside = r.inside; grows = grows_tick r.since r.k r.n h r.grows; fits = r.fits; head = r.head; after = later_tick (code x).low r.n (run (code x) r.k r.start) b c idle r.after k })
+    block_ticks c k =
+        Inside l (record {
+          start = r.start;
+          since = r.since;
+          k = r.k;
+          n = suc r.n;
+          inside = r.inside;
+          grows = grows_tick r.since r.k r.n h r.grows;
+          fits = r.fits;
+          head = r.head;
+          after = later_tick (code x).low r.n (run (code x) r.k r.start) b c idle r.after k;
+        })
       where
         idle : (run (code x) r.k r.start).regs.idle ≡ false
         idle = sym (ap (λ (z : Machine). z.regs.idle) is_quicks) ∙ quicks_idle (code x) t.top r.k r.start good_k ∙ comes.awake
@@ -306,7 +380,18 @@ module _ (x : Program) (t : Pieces) (sound : Sound x t) where
   at_cycle n b c k a = record { is = ap (λ (z : Machine). record z { cycle = k }) a.is; size = a.size; ram = a.ram }
 
   pub block_cycle : {l : t.Block} (b : Machine) (h : Since) (k : ℕ) → InBlock x t l b h → InBlock x t l (record b { cycle = k }) h
-  block_cycle b h k r = record { start = r.start; since = r.since; k = r.k; n = r.n; inside = r.inside; grows = r.grows; fits = r.fits; head = r.head; after = at_cycle r.n _ b k r.after }
+  block_cycle b h k r =
+      record {
+        start = r.start;
+        since = r.since;
+        k = r.k;
+        n = r.n;
+        inside = r.inside;
+        grows = r.grows;
+        fits = r.fits;
+        head = r.head;
+        after = at_cycle r.n _ b k r.after;
+      }
 
   -- what a place comes to, at once
   place_ended : (b : Machine) (h : Since) → FitsMachine b → Ends x t b h → Outcome x t b h
@@ -314,7 +399,8 @@ module _ (x : Program) (t : Pieces) (sound : Sound x t) where
   place_ended b h f (Steps s st) = Dispatched s st
   place_ended b h f (Fails stop st) = Halted stop st
 
-  pub place_moves : (l : t.Place) (b : Machine) (h : Since) → FitsMachine b → Holds x t l b h → b.regs.idle ≡ false → (u : Input) → Outcome x t (moved (code x) u b) (after_main u h)
+  pub place_moves : (l : t.Place) (b : Machine) (h : Since) → FitsMachine b → Holds x t l b h → b.regs.idle ≡ false → (u : Input)
+      → Outcome x t (moved (code x) u b) (after_main u h)
   place_moves l b h f holds i u = place_ended (moved (code x) u b) (after_main u h) (main-fits x.interpreter.rom sound.rom u.efx u.held b f) (holds.moves i u)
 
   -- a tick keeps the rows at a place
@@ -325,7 +411,9 @@ module _ (x : Program) (t : Pieces) (sound : Sound x t) where
       more = omega arith
 
       go : (i : Bool) → b.regs.idle ≡ i → Row x t c (after_tick h)
-      go false e = Alone l (subst (λ m. t.At l c (record h { ticks = m })) more (holds.later e 1 c (later_tick (code x).low 0 b b c e (after_none (code x).low b) k)))
+      go false e =
+          Alone l (subst (λ m. t.At l c (record h { ticks = m })) more
+          (holds.later e 1 c (later_tick (code x).low 0 b b c e (after_none (code x).low b) k)))
       go true e = starts_row c (after_tick h) (tick_fits (code x).low b c f k) (holds.wakes e c k)
 
 module _ (x : Program) (t : Pieces) (proved : Proved x t) where
@@ -364,7 +452,9 @@ module _ (x : Program) (t : Pieces) (proved : Proved x t) where
   -- a row of main code that runs says nothing of the cycle number
   pub row_cycle : (b : Machine) (h : Since) (k : ℕ) → FitsMachine b → b.regs.idle ≡ false → Row x t b h → Row x t (record b { cycle = k }) h
   row_cycle b h k f i (Inside l r) = Inside l (block_cycle x t sound b h k r)
-  row_cycle b h k f i (Alone l at) = Alone l (subst (λ m. t.At l (record b { cycle = k }) (record h { ticks = m })) same ((proved.places l b h f at).later i 0 (record b { cycle = k }) (at_cycle x t sound 0 b b k (after_none (code x).low b))))
+  row_cycle b h k f i (Alone l at) =
+      Alone l (subst (λ m. t.At l (record b { cycle = k }) (record h { ticks = m })) same
+      ((proved.places l b h f at).later i 0 (record b { cycle = k }) (at_cycle x t sound 0 b b k (after_none (code x).low b))))
     where
       same : h.ticks + 0 ≡ h.ticks
       same = omega arith

@@ -46,7 +46,9 @@ module _ (e : Edition) (s : Lang) (n : ℕ) (sets : List Keys) (z : Lang) (h : B
       }
 
   -- a tick before the step
-  before_step : h.after ≡ 0 → WaitsWell (instr_at s) (suc h.before) 0 → done_by e (instr_at s) h.key (tick (ticks h.before s)) ≡ tick (done_by e (instr_at s) h.key (ticks h.before s)) → Between e s (suc n) sets (tick z)
+  before_step : h.after ≡ 0 → WaitsWell (instr_at s) (suc h.before) 0
+      → done_by e (instr_at s) h.key (tick (ticks h.before s)) ≡ tick (done_by e (instr_at s) h.key (ticks h.before s))
+      → Between e s (suc n) sets (tick z)
   before_step none w swap =
       record {
         runs = h.runs;
@@ -64,8 +66,12 @@ module _ (e : Edition) (s : Lang) (n : ℕ) (sets : List Keys) (z : Lang) (h : B
       }
 
   go : (i : Instr) → i ≡ instr_at s → WaitsWell i h.before h.after → Between e s (suc n) sets (tick z)
-  go Clear eq w = before_step w.1 (subst (λ i. WaitsWell i (suc h.before) 0) eq (omega arith, refl)) (subst (λ i. done_by e i h.key (tick (ticks h.before s)) ≡ tick (done_by e i h.key (ticks h.before s))) eq refl)
-  go (Draw x y m) eq w = before_step w.1 (subst (λ i. WaitsWell i (suc h.before) 0) eq (omega arith, refl)) (subst (λ i. done_by e i h.key (tick (ticks h.before s)) ≡ tick (done_by e i h.key (ticks h.before s))) eq refl)
+  go Clear eq w =
+      before_step w.1 (subst (λ i. WaitsWell i (suc h.before) 0) eq (omega arith, refl))
+      (subst (λ i. done_by e i h.key (tick (ticks h.before s)) ≡ tick (done_by e i h.key (ticks h.before s))) eq refl)
+  go (Draw x y m) eq w =
+      before_step w.1 (subst (λ i. WaitsWell i (suc h.before) 0) eq (omega arith, refl))
+      (subst (λ i. done_by e i h.key (tick (ticks h.before s)) ≡ tick (done_by e i h.key (ticks h.before s))) eq refl)
   go i eq w = after_step (subst (λ i. WaitsWell i h.before (suc h.after)) eq tt)
 
   between_tick : Between e s (suc n) sets (tick z)
@@ -76,7 +82,8 @@ between_ticks zero e s n sets z h = subst (λ k. Between e s k sets z) same h
   where
     same : n ≡ n + 0
     same = omega arith
-between_ticks (suc m) e s n sets z h = subst (λ k. Between e s k sets (ticks (suc m) z)) more (between_tick e s (n + m) sets (ticks m z) (between_ticks m e s n sets z h))
+between_ticks (suc m) e s n sets z h =
+    subst (λ k. Between e s k sets (ticks (suc m) z)) more (between_tick e s (n + m) sets (ticks m z) (between_ticks m e s n sets z h))
   where
     more : suc (n + m) ≡ n + suc m
     more = omega arith
@@ -147,7 +154,8 @@ keys_from_get script (suc n) a (suc u) l = keys_from_get script n (a + 1) u (ome
     same = omega arith
 
 -- a set of a list with one more at its end is one of the list, or the last
-pub last_or_before : (l : List Keys) (k : Keys) (u : ℕ) (held : Keys) → slice_get (l ++ k ∷ []) u ≡ Some held → (slice_get l u ≡ Some held) ⊎ ((u ≡ length l) × (held ≡ k))
+pub last_or_before : (l : List Keys) (k : Keys) (u : ℕ) (held : Keys) → slice_get (l ++ k ∷ []) u ≡ Some held
+    → (slice_get l u ≡ Some held) ⊎ ((u ≡ length l) × (held ≡ k))
 last_or_before [] k zero held h = inr (refl, is h)
   where
     is : Some k ≡ Some held → held ≡ k

@@ -26,7 +26,8 @@ later_places n p = record p { r8 = falls n p.r8; r9 = ups n p.r9; q = tones n p.
 
 lies_ticks : (e : Edition) (n : ℕ) (p : Places) → FitsWord p.r9 → lies_in e (later_places n p) ≡ ticks n (lies_in e p)
 lies_ticks e zero p f = refl
-lies_ticks e (suc n) p f = (λ i. record (lies_in e (later_places (suc n) p)) { n = sym (up_value (ups n p.r9) (ups_fit n p.r9 f)) i }) ∙ ap tick (lies_ticks e n p f)
+lies_ticks e (suc n) p f =
+    (λ i. record (lies_in e (later_places (suc n) p)) { n = sym (up_value (ups n p.r9) (ups_fit n p.r9 f)) i }) ∙ ap tick (lies_ticks e n p f)
 
 ticks_stack : (n : ℕ) (s : Lang) → (ticks n s).stack ≡ s.stack
 ticks_stack zero s = refl
@@ -59,7 +60,9 @@ module _ (x : Program) (n : ℕ) (b c : Machine) (s : Lang) (h : After (code x).
   random_same = same_below random_cell (omega (arith, memory_above e))
 
   stack_same : addresses c.ram (stack_top e) (depth e (value b.regs.r.r2)) ≡ addresses b.ram (stack_top e) (depth e (value b.regs.r.r2))
-  stack_same = addresses_same (depth e (value b.regs.r.r2)) (stack_top e) b.ram c.ram (omega (arith, stack_room e, most most_addresses ((stack_top e - value b.regs.r.r2) / 2))) (λ a l m. same_above a (omega (arith, l, less)))
+  stack_same =
+      addresses_same (depth e (value b.regs.r.r2)) (stack_top e) b.ram c.ram
+      (omega (arith, stack_room e, most most_addresses ((stack_top e - value b.regs.r.r2) / 2))) (λ a l m. same_above a (omega (arith, l, less)))
     where
       less : 2 * depth e (value b.regs.r.r2) ≤ stack_top e - value b.regs.r.r2
       less = omega arith
@@ -82,7 +85,9 @@ module _ (x : Program) (n : ℕ) (b c : Machine) (s : Lang) (h : After (code x).
   holding_after =
       record {
         is = lies_after;
-        stack = subst (λ (w : Word). value w + 2 * length (ticks n s).stack ≡ stack_top e) (sym (ap (λ (z : Machine). z.regs.r.r2) h.is)) (ap (λ l. value b.regs.r.r2 + 2 * length l) (ticks_stack n s) ∙ o.stack);
+        stack =
+            subst (λ (w : Word). value w + 2 * length (ticks n s).stack ≡ stack_top e) (sym (ap (λ (z : Machine). z.regs.r.r2) h.is))
+            (ap (λ l. value b.regs.r.r2 + 2 * length l) (ticks_stack n s) ∙ o.stack);
         size = h.size ∙ o.size;
         latch = ap (λ (z : Machine). z.latch) h.is ∙ o.latch;
         enabled = ap (λ (z : Machine). z.regs.ie) h.is ∙ o.enabled;
@@ -97,7 +102,8 @@ module _ (x : Program) (n : ℕ) (b c : Machine) (h : After (code x).low n b c) 
   keeps_after s o = keeping x c (ticks n s) (holding_after x n b c s h (holding x b s f.size o) f.regs.r.r9)
 
   pub dispatches_after : (s : Lang) → Dispatches x b s → Dispatches x c (ticks n s)
-  dispatches_after s o = record { keeps = keeps_after s o.keeps; p = ap (λ (z : Machine). z.regs.p) h.is ∙ o.p; r4 = ap (λ (z : Machine). z.regs.r.r4) h.is ∙ o.r4 }
+  dispatches_after s o =
+      record { keeps = keeps_after s o.keeps; p = ap (λ (z : Machine). z.regs.p) h.is ∙ o.p; r4 = ap (λ (z : Machine). z.regs.r.r4) h.is ∙ o.r4 }
 
   pub halts_after : (s : Lang) (stop : Stop) → Halts x b s stop → Halts x c (ticks n s) stop
   halts_after s stop o =

@@ -28,7 +28,9 @@ abbrev pub in_rom : Word → Bool
 in_rom w = nat_lt 0x7f w.hi && nat_lt w.hi 0x88 && nat_lt w.lo 0x100 && nat_lt 0x7fff (value w) && nat_lt (value w) 0x87fe
 
 or_high : (a : ℕ) → 0x8000 ≤ a → a < 0x8800 → bit_or a 0x8000 ≡ a
-or_high a l h = subst (λ z. bit_or z 0x8000 ≡ z) back (eqb-true _ _ (agree_below_at (λ k. bit_or (0x8000 + k) 0x8000 == 0x8000 + k) (λ k. true) 0x800 (a - 0x8000) refl (omega arith)))
+or_high a l h =
+    subst (λ z. bit_or z 0x8000 ≡ z) back
+    (eqb-true _ _ (agree_below_at (λ k. bit_or (0x8000 + k) 0x8000 == 0x8000 + k) (λ k. true) 0x800 (a - 0x8000) refl (omega arith)))
   where
     back : 0x8000 + (a - 0x8000) ≡ a
     back = omega arith
@@ -75,9 +77,11 @@ module _ (low : ℕ) (s : Regs) (old new : List ℕ) (full : length old ≡ 4096
     where
       there : a ≡ j → (j < length old) ⊎ (length old ≤ j) → slice_index (slice_set new j y) a ≡ slice_index (slice_set old j y) a
       there e (inl f) = rw e (get_or-set_same new j y 0 (omega (arith, h.0)) ∙ sym (get_or-set_same old j y 0 f))
-      there e (inr f) = rw (set_past new j y (omega (arith, h.0)), set_past old j y f, e) (get_or_past new j 0 (omega (arith, h.0)) ∙ sym (get_or_past old j 0 f))
+      there e (inr f) =
+          rw (set_past new j y (omega (arith, h.0)), set_past old j y f, e) (get_or_past new j 0 (omega (arith, h.0)) ∙ sym (get_or_past old j 0 f))
 
-      go : Steady low s a ⊎ (a ≡ j) → (a ≡ j) ⊎ (a ≡ j → ⊥) → (j < length old) ⊎ (length old ≤ j) → slice_index (slice_set new j y) a ≡ slice_index (slice_set old j y) a
+      go : Steady low s a ⊎ (a ≡ j) → (a ≡ j) ⊎ (a ≡ j → ⊥) → (j < length old) ⊎ (length old ≤ j)
+          → slice_index (slice_set new j y) a ≡ slice_index (slice_set old j y) a
       go (inr e) d f = there e f
       go (inl k) (inl e) f = there e f
       go (inl k) (inr e) f = get_or-set_other new j a y 0 e ∙ h.1 a k ∙ sym (get_or-set_other old j a y 0 e)
@@ -258,7 +262,9 @@ module _ (x : Code) where
       after = sym (read_rom x.rom b.latch b.ram (value (up (up w))) (omega (arith, i)) (omega (arith, i))) ∙ ap (λ z. m (value (up z))) (sym pc)
 
   pub opcode_is : (b : Machine) → in_rom (get b.regs.r b.regs.p) ≡ true → opcode_in x b ≡ opcode_of x.rom b
-  opcode_is b e = let i = rom_parts (get b.regs.r b.regs.p) e in sym (read_rom x.rom b.latch b.ram (value (get b.regs.r b.regs.p)) (omega (arith, i)) (omega (arith, i)))
+  opcode_is b e =
+      let i = rom_parts (get b.regs.r b.regs.p) e in
+      sym (read_rom x.rom b.latch b.ram (value (get b.regs.r b.regs.p)) (omega (arith, i)) (omega (arith, i)))
 
   fine_kind : (b : Machine) → Fine x b → is_straight (kind_of (opcode_in x b)) (opcode_number (opcode_in x b)) ≡ true
   fine_kind b h = (and_parts _ _ (first_of _ _ h)).0
@@ -271,7 +277,9 @@ module _ (x : Code) where
 
   -- an instruction in the ROM that reads no flag, also where ticks may not pass it
   pub quick_any : (u : Input) (b : Machine) → reads_flags (kind_of (opcode_in x b)) ≡ false → in_rom (get b.regs.r b.regs.p) ≡ true → quick x b ≡ moved x u b
-  quick_any u b h k = ap (λ e. acted e b) (sym (effect_flags (kind_of (opcode_in x b)) (opcode_number (opcode_in x b)) (stepped b.regs b.regs.p) (rom_inputs x b (λ k. false)) (flags_in u b) h)) ∙ quick_by_is u b k
+  quick_any u b h k =
+      ap (λ e. acted e b) (sym (effect_flags (kind_of (opcode_in x b)) (opcode_number (opcode_in x b)) (stepped b.regs b.regs.p)
+      (rom_inputs x b (λ k. false)) (flags_in u b) h)) ∙ quick_by_is u b k
 
   pub quick_is : (u : Input) (b : Machine) → Fine x b → quick x b ≡ moved x u b
   quick_is u b h = quick_any u b (straight_flags _ _ (fine_kind b h)) (rom_from b (second_of _ _ h))
@@ -323,7 +331,10 @@ module _ (x : Code) (u : Input) (n : ℕ) (v w : Word) (t : ℕ) (ram : List ℕ
 
   fetched : stepped c.regs c.regs.p ≡ later_regs n v w t s
   unfolding c s
-  fetched = ap₂ (λ z y. record b.regs { r = z; t = t; q = tones n y b.regs.q }) (ap (λ z. put (later_bank n v w b.regs.r) b.regs.p (up z)) pc ∙ put-later b.regs.p n v w b.regs.r _ (kept_of_plain b.regs.p ok)) (sym (put-r8 b.regs.p b.regs.r _ (kept_of_plain b.regs.p ok)))
+  fetched =
+      ap₂ (λ z y. record b.regs { r = z; t = t; q = tones n y b.regs.q })
+      (ap (λ z. put (later_bank n v w b.regs.r) b.regs.p (up z)) pc ∙ put-later b.regs.p n v w b.regs.r _ (kept_of_plain b.regs.p ok))
+      (sym (put-r8 b.regs.p b.regs.r _ (kept_of_plain b.regs.p ok)))
 
   by_bytes : executed op (later_regs n v w t s) (record i { byte = read x.rom b.latch ram }) ≡ later_effect n v w t e
   unfolding e i
@@ -332,25 +343,43 @@ module _ (x : Code) (u : Input) (n : ℕ) (v w : Word) (t : ℕ) (ram : List ℕ
   whole : moved x u c ≡ later n v w t (ram_after e.write b.latch ram) cycle (quick_by x (flags_in u b) b)
   unfolding c s op i e
   whole = sym (quick_by_is x u c (ap in_rom pc ∙ inside))
-      ∙ ap (λ z. acted (executed (rom_at x.rom (value z)) (stepped c.regs c.regs.p) (record { byte = read x.rom b.latch ram; next = rom_at x.rom (value (up z)); after = rom_at x.rom (value (up (up z))); flag = flags_in u b; taken = 0 })) c) pc
+      ∙ ap (λ z. acted (executed (rom_at x.rom (value z)) (stepped c.regs c.regs.p)
+      (record {
+        byte = read x.rom b.latch ram;
+        next = rom_at x.rom (value (up z));
+        after = rom_at x.rom (value (up (up z)));
+        flag = flags_in u b;
+        taken = 0;
+      })) c) pc
       ∙ ap (λ z. acted (executed op z (record i { byte = read x.rom b.latch ram })) c) fetched
       ∙ ap (λ z. acted z c) by_bytes
 
   sames : Same x.low e.regs (ram_after e.write b.latch b.ram) (ram_after e.write b.latch ram)
   unfolding s op i e
-  sames = subst (λ z. Same x.low e.regs (ram_after e.write z b.ram) (ram_after e.write z ram)) (sym clear) (length_after e.write false ram ∙ same.0 ∙ sym (length_after e.write false b.ram), λ a k. after-same x.low s b.ram ram full same_s e.write a (stack_of x.low s i (opcode_number op) a (kind_of op) may k))
+  sames =
+      subst (λ z. Same x.low e.regs (ram_after e.write z b.ram) (ram_after e.write z ram)) (sym clear) (
+        length_after e.write false ram ∙ same.0 ∙ sym (length_after e.write false
+            b.ram),
+        λ a k. after-same x.low s b.ram ram full same_s e.write a (stack_of x.low s i (opcode_number op) a (kind_of op) may k),
+      )
 
   after_later : After x.low n (quick_by x (flags_in u b) b) (moved x u (later n v w t ram cycle b))
   unfolding c s op i e
   after_later = subst (λ z. After x.low n (quick_by x (flags_in u b) b) z) (sym whole) (record { is = refl; size = sames.0; ram = sames.1 })
 
 module _ (x : Code) where
-  pub after_move : (u : Input) (n : ℕ) (b c : Machine) → Passable x b → b.latch ≡ false → length b.ram ≡ 4096 → After x.low n b c → After x.low n (quick_by x (flags_in u b) b) (moved x u c)
-  after_move u n b c g l f h = subst (λ z. After x.low n (quick_by x (flags_in u b) b) (moved x u z)) (sym h.is) (after_later x u n c.regs.r.r0 c.regs.r.rf c.regs.t c.ram c.cycle b g l f (h.size, h.ram))
+  pub after_move : (u : Input) (n : ℕ) (b c : Machine) → Passable x b → b.latch ≡ false → length b.ram ≡ 4096 → After x.low n b c
+      → After x.low n (quick_by x (flags_in u b) b) (moved x u c)
+  after_move u n b c g l f h =
+      subst (λ z. After x.low n (quick_by x (flags_in u b) b) (moved x u z)) (sym h.is)
+      (after_later x u n c.regs.r.r0 c.regs.r.rf c.regs.t c.ram c.cycle b g l f (h.size, h.ram))
 
   -- the same for an instruction that reads no flag
-  pub after_quick : (u : Input) (n : ℕ) (b c : Machine) → Fine x b → b.latch ≡ false → length b.ram ≡ 4096 → After x.low n b c → After x.low n (quick x b) (moved x u c)
-  after_quick u n b c g l f h = subst (λ z. After x.low n z (moved x u c)) (quick_by_is x u b (rom_from x b (second_of _ _ g)) ∙ sym (quick_is x u b g)) (after_move u n b c (second_of _ _ g) l f h)
+  pub after_quick : (u : Input) (n : ℕ) (b c : Machine) → Fine x b → b.latch ≡ false → length b.ram ≡ 4096 → After x.low n b c
+      → After x.low n (quick x b) (moved x u c)
+  after_quick u n b c g l f h =
+      subst (λ z. After x.low n z (moved x u c)) (quick_by_is x u b (rom_from x b (second_of _ _ g)) ∙ sym (quick_is x u b g))
+      (after_move u n b c (second_of _ _ g) l f h)
 
 module _ (x : Code) (n : ℕ) (b c : Machine) (g : Fine x b) (h : After x.low n b c) where
   pass : Passable x b
@@ -358,14 +387,18 @@ module _ (x : Code) (n : ℕ) (b c : Machine) (g : Fine x b) (h : After x.low n 
 
   -- the program counter is the same after ticks
   pub after_counter : get c.regs.r c.regs.p ≡ get b.regs.r b.regs.p
-  after_counter = ap (λ (z : Machine). get z.regs.r z.regs.p) h.is ∙ get-later b.regs.p n c.regs.r.r0 c.regs.r.rf b.regs.r (kept_of_plain b.regs.p (plain_from x b pass))
+  after_counter =
+      ap (λ (z : Machine). get z.regs.r z.regs.p) h.is
+      ∙ get-later b.regs.p n c.regs.r.r0 c.regs.r.rf b.regs.r (kept_of_plain b.regs.p (plain_from x b pass))
 
   inside_rom : in_rom (get c.regs.r c.regs.p) ≡ true
   inside_rom = ap in_rom after_counter ∙ rom_from x b pass
 
   -- and so is the opcode, so that it takes as many cycles
   pub after_cycles : cycles_of (opcode_of x.rom c) ≡ 2
-  after_cycles = ap cycles_of (sym (opcode_is x c inside_rom) ∙ ap (λ w. rom_at x.rom (value w)) after_counter ∙ opcode_is x b (rom_from x b (second_of _ _ g))) ∙ fine_cycles x b g
+  after_cycles =
+      ap cycles_of (sym (opcode_is x c inside_rom) ∙ ap (λ w. rom_at x.rom (value w)) after_counter ∙ opcode_is x b (rom_from x b (second_of _ _ g)))
+      ∙ fine_cycles x b g
 
 -- ---- several moves
 
@@ -389,14 +422,23 @@ module _ (x : Code) (top : Option ℕ) where
 
   pub quicks_idle : (k : ℕ) (b : Machine) → AllGood x top k b → (quicks x k b).regs.idle ≡ b.regs.idle
   quicks_idle zero b g = refl
-  quicks_idle (suc k) b g = idle_of x.low (kind_of (opcode_in x (quicks x k b))) (opcode_number (opcode_in x (quicks x k b))) (stepped (quicks x k b).regs (quicks x k b).regs.p) (rom_inputs x (quicks x k b) (λ k. false)) (second_of _ _ (second_of _ _ g.1.0)) ∙ quicks_idle k b g.0
+  quicks_idle (suc k) b g =
+      idle_of x.low (kind_of (opcode_in x (quicks x k b))) (opcode_number (opcode_in x (quicks x k b)))
+      (stepped (quicks x k b).regs (quicks x k b).regs.p) (rom_inputs x (quicks x k b) (λ k. false)) (second_of _ _ (second_of _ _ g.1.0))
+      ∙ quicks_idle k b g.0
 
   pub quicks_enabled : (k : ℕ) (b : Machine) → AllGood x top k b → (quicks x k b).regs.ie ≡ b.regs.ie
   quicks_enabled zero b g = refl
-  quicks_enabled (suc k) b g = enabled_of x.low (kind_of (opcode_in x (quicks x k b))) (opcode_number (opcode_in x (quicks x k b))) (stepped (quicks x k b).regs (quicks x k b).regs.p) (rom_inputs x (quicks x k b) (λ k. false)) (second_of _ _ (second_of _ _ g.1.0)) ∙ quicks_enabled k b g.0
+  quicks_enabled (suc k) b g =
+      enabled_of x.low (kind_of (opcode_in x (quicks x k b))) (opcode_number (opcode_in x (quicks x k b)))
+      (stepped (quicks x k b).regs (quicks x k b).regs.p) (rom_inputs x (quicks x k b) (λ k. false)) (second_of _ _ (second_of _ _ g.1.0))
+      ∙ quicks_enabled k b g.0
 
   quick_entry : (b : Machine) → Fine x b → (quick x b).regs.r.r1 ≡ b.regs.r.r1
-  quick_entry b g = entry_of x.low (stepped b.regs b.regs.p) (rom_inputs x b (λ k. false)) (opcode_number (opcode_in x b)) (kind_of (opcode_in x b)) (second_of _ _ (second_of _ _ g)) ∙ put-r1 b.regs.p b.regs.r (up (get b.regs.r b.regs.p)) (kept_of_plain b.regs.p (plain_from x b (second_of _ _ g)))
+  quick_entry b g =
+      entry_of x.low (stepped b.regs b.regs.p) (rom_inputs x b (λ k. false)) (opcode_number (opcode_in x b)) (kind_of (opcode_in x b))
+      (second_of _ _ (second_of _ _ g))
+      ∙ put-r1 b.regs.p b.regs.r (up (get b.regs.r b.regs.p)) (kept_of_plain b.regs.p (plain_from x b (second_of _ _ g)))
 
   pub quicks_entry : (k : ℕ) (b : Machine) → AllGood x top k b → (quicks x k b).regs.r.r1 ≡ b.regs.r.r1
   quicks_entry zero b g = refl
@@ -404,7 +446,10 @@ module _ (x : Code) (top : Option ℕ) where
 
   pub quicks_on : (k : ℕ) (b : Machine) → AllGood x top k b → (quicks x k b).on ≡ b.on
   quicks_on zero b g = refl
-  quicks_on (suc k) b g = straight_on (kind_of (opcode_in x (quicks x k b))) (opcode_number (opcode_in x (quicks x k b))) (stepped (quicks x k b).regs (quicks x k b).regs.p) (rom_inputs x (quicks x k b) (λ k. false)) (quicks x k b).on (fine_kind x (quicks x k b) g.1.0) ∙ quicks_on k b g.0
+  quicks_on (suc k) b g =
+      straight_on (kind_of (opcode_in x (quicks x k b))) (opcode_number (opcode_in x (quicks x k b)))
+      (stepped (quicks x k b).regs (quicks x k b).regs.p) (rom_inputs x (quicks x k b) (λ k. false)) (quicks x k b).on
+      (fine_kind x (quicks x k b) g.1.0) ∙ quicks_on k b g.0
 
   -- from b, main code comes to c in k moves that ticks may pass
   pub Reaches : ℕ → Machine → Machine → Type 0
@@ -455,7 +500,8 @@ above_written false ram j y a l = above_cond (nat_lt j 4096) ram (slice_set ram 
 
 -- code that writes below an address leaves RAM from there on
 module _ (x : Code) (top : ℕ) where
-  above_after : (w : Option (ℕ × ℕ)) (latch : Bool) (ram : List ℕ) (a : ℕ) → top ≤ a → Below (Some top) w → slice_index (ram_after w latch ram) a ≡ slice_index ram a
+  above_after : (w : Option (ℕ × ℕ)) (latch : Bool) (ram : List ℕ) (a : ℕ) → top ≤ a → Below (Some top) w
+      → slice_index (ram_after w latch ram) a ≡ slice_index ram a
   above_after None latch ram a l h = refl
   above_after (Some w) latch ram a l h = above_written latch ram w.0 w.1 a (omega (arith, l, h))
 

@@ -137,10 +137,27 @@ module _ (low n : ℕ) (v w : Word) (t : ℕ) (s : Regs) (i : Inputs) (m : ℕ) 
   pc h = kept_of_plain s.p (true_from _ h)
 
   -- a register after a function of it, in the whole effect
-  placed : (e : Effect) (k : ℕ) (f : Word → Word) → is_kept k ≡ true → record e { regs = record e.regs { r = put (later_bank n v w s.r) k (f (get (later_bank n v w s.r) k)); q = tones n s.r.r8 s.q } } ≡ record e { regs = record e.regs { r = later_bank n v w (put s.r k (f (get s.r k))); q = tones n (put s.r k (f (get s.r k))).r8 s.q } }
-  placed e k f h = ap₂ (λ z y. record e { regs = record e.regs { r = z; q = tones n y s.q } }) (ap (λ z. put (later_bank n v w s.r) k (f z)) (same k h) ∙ put-later k n v w s.r _ h) (sym (put-r8 k s.r _ h))
+  placed : (e : Effect) (k : ℕ) (f : Word → Word) → is_kept k ≡ true
+      → record e { regs = record e.regs { r = put (later_bank n v w s.r) k (f (get (later_bank n v w s.r) k)); q = tones n s.r.r8 s.q } }
+      ≡ record e { regs = record e.regs { r = later_bank n v w (put s.r k (f (get s.r k))); q = tones n (put s.r k (f (get s.r k))).r8 s.q } }
+  placed e k f h =
+      ap₂ (λ z y. record e { regs = record e.regs { r = z; q = tones n y s.q } })
+      (ap (λ z. put (later_bank n v w s.r) k (f z)) (same k h) ∙ put-later k n v w s.r _ h) (sym (put-r8 k s.r _ h))
 
-  short : (e : Effect) (c : Bool) → T (is_plain s.p) → record e { regs = record e.regs { r = put (later_bank n v w s.r) s.p (if c then word (get (later_bank n v w s.r) s.p).hi i.next else up (get (later_bank n v w s.r) s.p)); q = tones n s.r.r8 s.q } } ≡ record e { regs = record e.regs { r = later_bank n v w (put s.r s.p (if c then word (get s.r s.p).hi i.next else up (get s.r s.p))); q = tones n (put s.r s.p (if c then word (get s.r s.p).hi i.next else up (get s.r s.p))).r8 s.q } }
+  short : (e : Effect) (c : Bool) → T (is_plain s.p)
+      → record e {
+        regs = record e.regs {
+          r = put (later_bank n v w s.r) s.p
+              (if c then word (get (later_bank n v w s.r) s.p).hi i.next else up (get (later_bank n v w s.r) s.p));
+          q = tones n s.r.r8 s.q;
+        };
+      }
+      ≡ record e {
+        regs = record e.regs {
+          r = later_bank n v w (put s.r s.p (if c then word (get s.r s.p).hi i.next else up (get s.r s.p)));
+          q = tones n (put s.r s.p (if c then word (get s.r s.p).hi i.next else up (get s.r s.p))).r8 s.q;
+        };
+      }
   short e c h = placed e s.p (λ y. if c then word y.hi i.next else up y) (pc h)
 
   pub passes : (k : Kind) → Passes low k m s → effect k m S J ≡ later_effect n v w t (effect k m s i)
@@ -168,7 +185,9 @@ module _ (low n : ℕ) (v w : Word) (t : ℕ) (s : Regs) (i : Inputs) (m : ℕ) 
   passes Undefined h = refl
   passes Inp h = ap (λ z. written_at (effect Inp m S J) z i.taken) (address s.x (true_from _ h))
   passes Ldxa h = ap (given Ldxa) (byte_0 s.x _ h) ∙ placed (given Ldxa (i.byte (at s s.x))) s.x up (first _ _ h)
-  passes Stxd h = ap (λ z. written_at (effect Stxd m S J) z s.d) (address s.x (first _ _ h)) ∙ placed (written_at (effect Stxd m S J) (at s s.x) s.d) s.x down (first _ _ h)
+  passes Stxd h =
+      ap (λ z. written_at (effect Stxd m S J) z s.d) (address s.x (first _ _ h))
+      ∙ placed (written_at (effect Stxd m S J) (at s s.x) s.d) s.x down (first _ _ h)
   passes Adc h = ap (given Adc) (byte s.x h)
   passes Sdb h = ap (given Sdb) (byte s.x h)
   passes Shrc h = refl
@@ -243,10 +262,15 @@ module _ (low : ℕ) (s : Regs) (i : Inputs) (m a : ℕ) where
   stack_of Bn2 h z = inl (alike (put-r2 s.p s.r _ (true_from _ h)) z)
   stack_of Bn3 h z = inl (alike (put-r2 s.p s.r _ (true_from _ h)) z)
   stack_of Bn4 h z = inl (alike (put-r2 s.p s.r _ (true_from _ h)) z)
-  stack_of Lda h z = inl (grown (r2_grows m s.r _ (first_of _ _ h) (second_of _ (Steady low s (at s m) × of_r2 m (value s.r.r2 ≤ value (up (get s.r m)))) h).1) z)
+  stack_of Lda h z =
+      inl (grown (r2_grows m s.r _ (first_of _ _ h) (second_of _ (Steady low s (at s m) × of_r2 m (value s.r.r2 ≤ value (up (get s.r m)))) h).1) z)
   stack_of Irx h z = inl (grown (r2_grows s.x s.r _ (first_of _ _ h) (second_of _ _ h)) z)
-  stack_of Out h z = inl (grown (r2_grows s.x s.r _ (first_of _ _ h) (second_of _ (Steady low s (at s s.x) × of_r2 s.x (value s.r.r2 ≤ value (up (get s.r s.x)))) h).1) z)
-  stack_of Ldxa h z = inl (grown (r2_grows s.x s.r _ (first_of _ _ h) (second_of _ (Steady low s (at s s.x) × of_r2 s.x (value s.r.r2 ≤ value (up (get s.r s.x)))) h).1) z)
+  stack_of Out h z =
+      inl (grown (r2_grows s.x s.r _ (first_of _ _ h)
+      (second_of _ (Steady low s (at s s.x) × of_r2 s.x (value s.r.r2 ≤ value (up (get s.r s.x)))) h).1) z)
+  stack_of Ldxa h z =
+      inl (grown (r2_grows s.x s.r _ (first_of _ _ h)
+      (second_of _ (Steady low s (at s s.x) × of_r2 s.x (value s.r.r2 ≤ value (up (get s.r s.x)))) h).1) z)
   stack_of Stxd h z = r2_falls low s.x s.r _ a (first_of _ _ h) (second_of _ _ h) z
   stack_of Adci h z = inl (alike (put-r2 s.p s.r _ (true_from _ h)) z)
   stack_of Sdbi h z = inl (alike (put-r2 s.p s.r _ (true_from _ h)) z)

@@ -13,12 +13,24 @@ fallen_fits w f = record { hi = omega (arith, f.hi); lo = omega (arith, f.lo) }
 
 -- a tick
 pub tick_fits : (low : ℕ) (b c : Machine) → FitsMachine b → Tick low b c → FitsMachine c
-tick_fits low b c h k = record { regs = subst FitsRegs (sym (ap (λ (z : Machine). z.regs) k.is)) regs; ram = ram; size = k.size ∙ h.size; key = subst (λ z. z < 16) (sym (ap (λ (z : Machine). z.key) k.is)) h.key }
+tick_fits low b c h k =
+    record {
+      regs = subst FitsRegs (sym (ap (λ (z : Machine). z.regs) k.is)) regs;
+      ram = ram;
+      size = k.size ∙ h.size;
+      key = subst (λ z. z < 16) (sym (ap (λ (z : Machine). z.key) k.is)) h.key;
+    }
   where
     r : FitsBank b.regs.r
     r = h.regs.r
 
-    regs : FitsRegs (record b.regs { r = record b.regs.r { r0 = c.regs.r.r0; r8 = fallen b.regs.r.r8; r9 = up b.regs.r.r9; rf = word b.regs.r.rf.hi c.regs.r.rf.lo }; t = c.regs.t; q = not (b.regs.r.r8.lo == 0); idle = false })
+    regs : FitsRegs (record b.regs {
+      r =
+          record b.regs.r { r0 = c.regs.r.r0; r8 = fallen b.regs.r.r8; r9 = up b.regs.r.r9; rf = word b.regs.r.rf.hi c.regs.r.rf.lo };
+      t = c.regs.t;
+      q = not (b.regs.r.r8.lo == 0);
+      idle = false;
+    })
     regs =
         record {
           r = record {

@@ -187,7 +187,8 @@ falls_2 low m n a h l = go (cases_lt m a) (cases_lt a low) (cases_eq a m)
     go (inr x) (inr y) (inr z) = absurd (z (omega (arith, l y)))
 
 -- after a push: what lies above R2 lay above it before, or was written
-pub r2_falls : (low k : ℕ) (r : Bank) (y : Word) (a : ℕ) → is_kept k ≡ true → of_r2 k (value r.r2 ≤ value y + 1) → (low ≤ a → value (put r k y).r2 < a) → (low ≤ a → value r.r2 < a) ⊎ (a ≡ value (get r k))
+pub r2_falls : (low k : ℕ) (r : Bank) (y : Word) (a : ℕ) → is_kept k ≡ true → of_r2 k (value r.r2 ≤ value y + 1)
+    → (low ≤ a → value (put r k y).r2 < a) → (low ≤ a → value r.r2 < a) ⊎ (a ≡ value (get r k))
 r2_falls low zero r y a e h l = false≢true e
 r2_falls low (suc zero) r y a e h l = inl l
 r2_falls low (suc (suc zero)) r y a e h l = falls_2 low (value r.r2) (value y) a h l

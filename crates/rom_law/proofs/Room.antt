@@ -109,22 +109,35 @@ module _ (x : Code) where
   may b h = second_of _ _ h
 
   near_quick : (b : Machine) → Fine x b → 0 < value b.regs.r.r2 → value b.regs.r.r2 < 65535 → Near 1 (value b.regs.r.r2) (value (quick x b).regs.r.r2)
-  near_quick b h some room = subst (λ w. Near 1 (value w) (value (quick x b).regs.r.r2)) r2 (near_of x.low (stepped b.regs b.regs.p) (rom_inputs x b (λ k. false)) (opcode_number (opcode_in x b)) (subst (λ w. 0 < value w) (sym r2) some) (subst (λ w. value w < 65535) (sym r2) room) (kind_of (opcode_in x b)) (may b (passed b h)))
+  near_quick b h some room =
+      subst (λ w. Near 1 (value w) (value (quick x b).regs.r.r2)) r2
+      (near_of x.low (stepped b.regs b.regs.p) (rom_inputs x b (λ k. false)) (opcode_number (opcode_in x b))
+      (subst (λ w. 0 < value w) (sym r2) some) (subst (λ w. value w < 65535) (sym r2) room) (kind_of (opcode_in x b)) (may b (passed b h)))
     where
       r2 : (stepped b.regs b.regs.p).r.r2 ≡ b.regs.r.r2
       r2 = put-r2 b.regs.p b.regs.r (up (get b.regs.r b.regs.p)) (plain b (passed b h))
 
   -- from the j-th to the k-th of m instructions
-  pub near_quicks : (top : Option ℕ) (m : ℕ) (b : Machine) → AllGood x top m b → (j : ℕ) → m ≤ value (quicks x j b).regs.r.r2 → value (quicks x j b).regs.r.r2 + m < 65535 → (k : ℕ) → j ≤ k → k < m → Near (k - j) (value (quicks x j b).regs.r.r2) (value (quicks x k b).regs.r.r2)
-  near_quicks top m b g j some room zero l h = subst (λ z. Near (0 - j) (value (quicks x z b).regs.r.r2) (value b.regs.r.r2)) (sym none) (record { above = omega arith; below = omega arith })
+  pub near_quicks : (top : Option ℕ) (m : ℕ) (b : Machine) → AllGood x top m b → (j : ℕ) → m ≤ value (quicks x j b).regs.r.r2
+      → value (quicks x j b).regs.r.r2 + m < 65535 → (k : ℕ) → j ≤ k → k < m
+      → Near (k - j) (value (quicks x j b).regs.r.r2) (value (quicks x k b).regs.r.r2)
+  near_quicks top m b g j some room zero l h =
+      subst (λ z. Near (0 - j) (value (quicks x z b).regs.r.r2) (value b.regs.r.r2)) (sym none) (record { above = omega arith; below = omega arith })
     where
       none : j ≡ 0
       none = omega (arith, l)
   near_quicks top m b g j some room (suc k) l h = go (cases_eq j (suc k)) (λ d. near_quicks top m b g j some room k d (omega (arith, h)))
     where
-      go : (j ≡ suc k) ⊎ (j ≡ suc k → ⊥) → (j ≤ k → Near (k - j) (value (quicks x j b).regs.r.r2) (value (quicks x k b).regs.r.r2)) → Near (suc k - j) (value (quicks x j b).regs.r.r2) (value (quicks x (suc k) b).regs.r.r2)
-      go (inl e) f = subst (λ z. Near (suc k - z) (value (quicks x z b).regs.r.r2) (value (quicks x (suc k) b).regs.r.r2)) (sym e) (record { above = omega arith; below = omega arith })
+      go : (j ≡ suc k) ⊎ (j ≡ suc k → ⊥) → (j ≤ k → Near (k - j) (value (quicks x j b).regs.r.r2) (value (quicks x k b).regs.r.r2))
+          → Near (suc k - j) (value (quicks x j b).regs.r.r2) (value (quicks x (suc k) b).regs.r.r2)
+      go (inl e) f =
+          subst (λ z. Near (suc k - z) (value (quicks x z b).regs.r.r2) (value (quicks x (suc k) b).regs.r.r2)) (sym e)
+          (record { above = omega arith; below = omega arith })
       go (inr d) f = joined (f (omega (arith, l, d)))
         where
-          joined : Near (k - j) (value (quicks x j b).regs.r.r2) (value (quicks x k b).regs.r.r2) → Near (suc k - j) (value (quicks x j b).regs.r.r2) (value (quicks x (suc k) b).regs.r.r2)
-          joined n = let o = near_quick (quicks x k b) (at_move x top k m b (omega (arith, h)) g) (omega (arith, n.above, n.below, some, h, l, d)) (omega (arith, n.above, n.below, room, h, l, d)) in record { above = omega (arith, n.above, o.above, l, d); below = omega (arith, n.below, o.below, l, d) }
+          joined : Near (k - j) (value (quicks x j b).regs.r.r2) (value (quicks x k b).regs.r.r2)
+              → Near (suc k - j) (value (quicks x j b).regs.r.r2) (value (quicks x (suc k) b).regs.r.r2)
+          joined n =
+              let o = near_quick (quicks x k b) (at_move x top k m b (omega (arith, h)) g) (omega (arith, n.above, n.below, some, h, l, d))
+              (omega (arith, n.above, n.below, room, h, l, d)) in
+              record { above = omega (arith, n.above, o.above, l, d); below = omega (arith, n.below, o.below, l, d) }

@@ -32,15 +32,20 @@ pub record Shown (x : Program) (run : List Machine) (m : ℕ) (s : Lang) : Type 
 -- each move comes to what it should, with the record carried on, and in time; none goes past the end of a window; where a window ends in one, the
 -- picture shows the screen at the last dispatch point
 pub record Carries (x : Program) (script : List KeyEvent) (limit : ℕ) (run : List Machine) (Running : Machine → Since → Type 0) : Type 0 where
-  pub moves : (b : Machine) (h : Since) → Running b h → Moves x script Running (carried x.interpreter.rom (held_at script) b h) (move x.interpreter.rom (held_at script) b)
+  pub moves : (b : Machine) (h : Since) → Running b h
+      → Moves x script Running (carried x.interpreter.rom (held_at script) b h) (move x.interpreter.rom (held_at script) b)
   pub timely : (b : Machine) (h : Since) → Running b h → InTime x script h.from h.state (move x.interpreter.rom (held_at script) b).cycle
   pub meets : (b : Machine) (h : Since) (m : ℕ) → Running b h → b.cycle < window_end m → (move x.interpreter.rom (held_at script) b).cycle ≤ window_end m
-  pub shown : (b : Machine) (h : Since) (m : ℕ) → Running b h → b.cycle < window_end m → window_end m ≤ (move x.interpreter.rom (held_at script) b).cycle → (move x.interpreter.rom (held_at script) b).cycle ≤ limit → Shown x run m h.state
+  pub shown : (b : Machine) (h : Since) (m : ℕ) → Running b h → b.cycle < window_end m
+      → window_end m ≤ (move x.interpreter.rom (held_at script) b).cycle → (move x.interpreter.rom (held_at script) b).cycle ≤ limit
+      → Shown x run m h.state
 
 -- boot comes to a first dispatch, with no event before
 pub record Boots (x : Program) (game : List ℕ) (script : List KeyEvent) (Running : Machine → Since → Type 0) : Type 0 where
   pub moves : ℕ
-  pub quiet : (m : ℕ) → m < moves → (is_dispatch x.interpreter (state_after x script (start game) m) ≡ false) × (is_stop x.interpreter (state_after x script (start game) m) ≡ false)
+  pub quiet : (m : ℕ) → m < moves
+      → (is_dispatch x.interpreter (state_after x script (start game) m) ≡ false)
+      × (is_stop x.interpreter (state_after x script (start game) m) ≡ false)
   pub soon : (state_after x script (start game) moves).cycle ≤ boot_bound
   pub dispatch : is_dispatch x.interpreter (state_after x script (start game) moves) ≡ true
   pub runs : is_stop x.interpreter (state_after x script (start game) moves) ≡ false
@@ -89,7 +94,8 @@ module _ (x : Program) (script : List KeyEvent) (limit : ℕ) (run : List Machin
         here : Shown x run k (state_at x b)
         here = each k (omega (arith, from, windows before)) (omega (arith, to, windows t))
 
-        go : (shown : Bool) → shown ≡ true → Goes (k + 1) b (map Picture (frames (k + 1) n) ++ r) → Goes k b (map Picture (cond shown (k ∷ frames (k + 1) n) (frames (k + 1) n)) ++ r)
+        go : (shown : Bool) → shown ≡ true → Goes (k + 1) b (map Picture (frames (k + 1) n) ++ r)
+            → Goes k b (map Picture (cond shown (k ∷ frames (k + 1) n) (frames (k + 1) n)) ++ r)
         go true e on = (refl, here.shows, on)
         go false e on = cc
 
@@ -99,10 +105,12 @@ module _ (x : Program) (script : List KeyEvent) (limit : ℕ) (run : List Machin
 
   -- behind a dispatch point b
   module _ (b : Machine) (before : ℕ) (c : Machine) (bs : List Machine) (order : before ≤ c.cycle) (each : Each before c.cycle (state_at x b)) where
-    on_quiet : is_dispatch x.interpreter c ≡ false → is_stop x.interpreter c ≡ false → Goes (windows_ended c.cycle) b (events c.cycle bs) → Goes (windows_ended before) b (events before (c ∷ bs))
+    on_quiet : is_dispatch x.interpreter c ≡ false → is_stop x.interpreter c ≡ false → Goes (windows_ended c.cycle) b (events c.cycle bs)
+        → Goes (windows_ended before) b (events before (c ∷ bs))
     on_quiet d s on = rw (d, s) (pictures_on b before c.cycle order each (events c.cycle bs) on)
 
-    on_dispatch : is_dispatch x.interpreter c ≡ true → is_stop x.interpreter c ≡ false → Goes (windows_ended c.cycle) b (Dispatch c ∷ events c.cycle bs) → Goes (windows_ended before) b (events before (c ∷ bs))
+    on_dispatch : is_dispatch x.interpreter c ≡ true → is_stop x.interpreter c ≡ false
+        → Goes (windows_ended c.cycle) b (Dispatch c ∷ events c.cycle bs) → Goes (windows_ended before) b (events before (c ∷ bs))
     on_dispatch d s on = rw (d, s) (pictures_on b before c.cycle order each (Dispatch c ∷ events c.cycle bs) on)
 
     on_stop : is_stop x.interpreter c ≡ true → Goes (windows_ended c.cycle) b (Stopped c ∷ []) → Goes (windows_ended before) b (events before (c ∷ bs))
@@ -164,7 +172,8 @@ module _ (x : Program) (script : List KeyEvent) (limit : ℕ) (run : List Machin
     comes : (next c).cycle ≤ limit → Comes x script limit (windows_ended (next c).cycle) b (next c).cycle
     comes here = record { later = omega (arith, behind_b, later c); within = here; soon = in_time; shown = refl }
 
-    moved : (fuel : ℕ) → Kept fuel → limit < c.cycle + suc fuel → (next c).cycle ≤ limit → Moves x script Running h' (next c) → Behind b c.cycle (next c ∷ rest (next (next c)))
+    moved : (fuel : ℕ) → Kept fuel → limit < c.cycle + suc fuel → (next c).cycle ≤ limit → Moves x script Running h' (next c)
+        → Behind b c.cycle (next c ∷ rest (next (next c)))
     moved fuel on enough here (Still d z r') =
         on_quiet x script limit run b c.cycle (next c) (rest (next (next c))) order (each here) d z
         (on b (next c) h' from_b state_b r' (omega (arith, behind_b, later c)) here (omega (arith, enough, later c)))
@@ -173,7 +182,9 @@ module _ (x : Program) (script : List KeyEvent) (limit : ℕ) (run : List Machin
           comes here,
           record {
             runs = ap x.stop_of (sym state_b) ∙ st.runs;
-            between = subst₂ (λ y a. Between x.edition y (x.ticks_between a (next c).cycle) (keys_between script a (next c).cycle) (state_at x (next c))) state_b from_b (covers_between x script (next c) h' (state_at x (next c)) i st);
+            between =
+                subst₂ (λ y a. Between x.edition y (x.ticks_between a (next c).cycle) (keys_between script a (next c).cycle) (state_at x (next c)))
+                state_b from_b (covers_between x script (next c) h' (state_at x (next c)) i st);
             stands = st.stands;
           },
           on (next c) (next c) (dispatched (next c).cycle (state_at x (next c))) refl refl r' (le_refl (next c).cycle) here (omega (arith, enough, later c)),
@@ -186,7 +197,9 @@ module _ (x : Program) (script : List KeyEvent) (limit : ℕ) (run : List Machin
               record {
                 stop = stop;
                 fits = ap x.stop_of (sym state_b) ∙ st.fits;
-                halts = subst₂ (λ y a. Halts x (next c) (ticks (x.ticks_between a (next c).cycle) y) stop) state_b from_b (subst (λ n. Halts x (next c) (ticks n h'.state) stop) i.ticks st.halts);
+                halts =
+                    subst₂ (λ y a. Halts x (next c) (ticks (x.ticks_between a (next c).cycle) y) stop) state_b from_b
+                    (subst (λ n. Halts x (next c) (ticks n h'.state) stop) i.ticks st.halts);
               };
           also_is = tt;
           last = refl;
@@ -236,15 +249,22 @@ module _ (x : Program) (script : List KeyEvent) (limit : ℕ) (Running : Machine
   abbrev After : List Machine → List Machine → Type 0
   After all bs = GoesOn x script limit all nothing_else (windows_ended b.cycle) b (events_at x.interpreter all b.cycle bs)
 
-  pub goes_on : Carries x script limit run_from Running → Running b (dispatched b.cycle (state_at x b)) → GoesOn x script limit run_from nothing_else (windows_ended b.cycle) b (events_behind x.interpreter script b limit)
+  pub goes_on : Carries x script limit run_from Running → Running b (dispatched b.cycle (state_at x b))
+      → GoesOn x script limit run_from nothing_else (windows_ended b.cycle) b (events_behind x.interpreter script b limit)
   goes_on carries running = go (cases_lt limit b.cycle)
     where
       go : (limit < b.cycle) ⊎ (b.cycle ≤ limit) → After run_from (run_to x.interpreter.rom (held_at script) (move x.interpreter.rom (held_at script) b) limit)
       go (inl past) =
           subst₂ After
           (sym (run_to-past x.interpreter.rom (held_at script) limit b past))
-          (sym (run_to-past x.interpreter.rom (held_at script) limit (move x.interpreter.rom (held_at script) b) (omega (arith, past, later-move x.interpreter.rom (held_at script) b))))
-          (record { soon = in_time_first x script b.cycle (state_at x b) (limit + 1) (omega (arith, past)); shown = λ l. absurd (omega (arith, past, l)); also_is = tt })
+          (sym (run_to-past x.interpreter.rom (held_at script) limit (move x.interpreter.rom (held_at script) b)
+          (omega (arith, past, later-move x.interpreter.rom (held_at script) b))))
+          (record {
+            soon = in_time_first x script b.cycle (state_at x b) (limit + 1) (omega (arith, past));
+            shown =
+                λ l. absurd (omega (arith, past, l));
+            also_is = tt;
+          })
       go (inr here) = behind x script limit run_from Running carries b running here
 
 -- ---- a run from reset
@@ -267,15 +287,19 @@ module _ (x : Program) (game : List ℕ) (script : List KeyEvent) (limit : ℕ) 
     begins : (before : ℕ) → Begun before (run_to x.interpreter.rom (held_at script) (booted boots.moves) limit)
     begins before = go (cases_lt limit (booted boots.moves).cycle)
       where
-        go : (limit < (booted boots.moves).cycle) ⊎ ((booted boots.moves).cycle ≤ limit) → Begun before (run_to x.interpreter.rom (held_at script) (booted boots.moves) limit)
+        go : (limit < (booted boots.moves).cycle) ⊎ ((booted boots.moves).cycle ≤ limit)
+            → Begun before (run_to x.interpreter.rom (held_at script) (booted boots.moves) limit)
         go (inl past) = none before boots.moves boots.soon past
         go (inr here) =
             subst (Begins x script limit run_of nothing_else game)
-            (sym (ap (events_at x.interpreter run_of before) (run_to-next x.interpreter.rom (held_at script) limit (booted boots.moves) here) ∙ boot_dispatch x script limit run_of before (booted boots.moves) _ boots.soon boots.dispatch boots.runs)) (
+            (sym (ap (events_at x.interpreter run_of before) (run_to-next x.interpreter.rom (held_at script) limit (booted boots.moves) here)
+            ∙ boot_dispatch x script limit run_of before (booted boots.moves) _ boots.soon boots.dispatch boots.runs)) (
               boots.stands,
               boots.soon,
               here,
-              subst (λ k. GoesOn x script limit run_of nothing_else k (booted boots.moves) (events_at x.interpreter run_of (booted boots.moves).cycle (run_to x.interpreter.rom (held_at script) (booted (suc boots.moves)) limit))) first_frame
+              subst (λ k. GoesOn x script limit run_of nothing_else k (booted boots.moves)
+                  (events_at x.interpreter run_of (booted boots.moves).cycle
+                  (run_to x.interpreter.rom (held_at script) (booted (suc boots.moves)) limit))) first_frame
                   (behind x script limit run_of Running carries (booted boots.moves) boots.running here),
             )
           where
@@ -295,7 +319,8 @@ module _ (x : Program) (game : List ℕ) (script : List KeyEvent) (limit : ℕ) 
         go (inl past) = none before m soon past
         go (inr here) =
             subst (Begins x script limit run_of nothing_else game)
-            (sym (ap (events_at x.interpreter run_of before) (run_to-next x.interpreter.rom (held_at script) limit (booted m) here) ∙ boot_quiet x script limit run_of before (booted m) _ soon (boots.quiet m inside).0 (boots.quiet m inside).1))
+            (sym (ap (events_at x.interpreter run_of before) (run_to-next x.interpreter.rom (held_at script) limit (booted m) here)
+            ∙ boot_quiet x script limit run_of before (booted m) _ soon (boots.quiet m inside).0 (boots.quiet m inside).1))
             ahead.1
 
     boot : (r m : ℕ) → m + r ≡ boots.moves → (before : ℕ) → From m before

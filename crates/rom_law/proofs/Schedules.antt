@@ -72,15 +72,43 @@ module _ (x : Program) (t : Pieces) (proved : Proved x t) (b : Machine) (s : Lan
     row : Row x t c since
     range : FitsMachine c
 
-  known_main : (n : ℕ) (sets : List Keys) (c : Machine) (u : Input) (k : Known n sets c) → is_event (code x) (moved (code x) u c) ≡ false → Outcome x t (moved (code x) u c) (after_main u k.since) → Known n (sets ++ u.held ∷ []) (moved (code x) u c)
-  known_main n sets c u k e (Still calm row) = record { since = after_main u k.since; state = k.state; ticks = k.ticks; keys = ap (λ l. l ++ u.held ∷ []) k.keys; row = row; range = main-fits x.interpreter.rom proved.rom u.efx u.held c k.range }
+  known_main : (n : ℕ) (sets : List Keys) (c : Machine) (u : Input) (k : Known n sets c) → is_event (code x) (moved (code x) u c) ≡ false
+      → Outcome x t (moved (code x) u c) (after_main u k.since) → Known n (sets ++ u.held ∷ []) (moved (code x) u c)
+  known_main n sets c u k e (Still calm row) =
+      record {
+        since = after_main u k.since;
+        state = k.state;
+        ticks = k.ticks;
+        keys = ap (λ l. l ++ u.held ∷ []) k.keys;
+        row = row;
+        range = main-fits x.interpreter.rom proved.rom u.efx u.held c k.range;
+      }
   known_main n sets c u k e (Arrived z st) = differ (dispatch_event x (moved (code x) u c) z st.stands) e
   known_main n sets c u k e (Halted stop st) = differ (halt_event x (moved (code x) u c) (now (after_main u k.since)) stop st.halts) e
 
   known : (n : ℕ) (sets : List Keys) (c : Machine) → Leads x b n sets c → Known n sets c
-  known _ _ _ Here = record { since = dispatched 0 s; state = refl; ticks = refl; keys = refl; row = row_starts x t proved b (dispatched 0 s) fits (proved.fetch 0 b s fits stands); range = fits }
-  known _ _ _ (ByTick n sets c d l k) = let r = known n sets c l in record { since = after_tick r.since; state = r.state; ticks = ap suc r.ticks; keys = r.keys; row = row_ticks x t proved c d r.since r.range k r.row; range = tick_fits (memory_end x.edition) c d r.range k }
-  known _ _ _ (ByMain n sets c d efx held l m e) = let r = known n sets c l in let u : Input = record { efx = efx; held = held } in subst (Known n (sets ++ held ∷ [])) (sym m.moved) (known_main n sets c u r (subst (λ z. is_event (code x) z ≡ false) m.moved e) (row_moves x t proved u c r.since r.range m.awake r.row))
+  known _ _ _ Here =
+      record {
+        since = dispatched 0 s;
+        state = refl;
+        ticks = refl;
+        keys = refl;
+        row = row_starts x t proved b (dispatched 0 s) fits (proved.fetch 0 b s fits stands);
+        range = fits;
+      }
+  known _ _ _ (ByTick n sets c d l k) =
+      let r = known n sets c l in record {
+        since = after_tick r.since;
+        state = r.state;
+        ticks = ap suc r.ticks;
+        keys = r.keys;
+        row = row_ticks x t proved c d r.since r.range k r.row;
+        range = tick_fits (memory_end x.edition) c d r.range k;
+      }
+  known _ _ _ (ByMain n sets c d efx held l m e) =
+      let r = known n sets c l in let u : Input = record { efx = efx; held = held } in
+      subst (Known n (sets ++ held ∷ [])) (sym m.moved)
+      (known_main n sets c u r (subst (λ z. is_event (code x) z ≡ false) m.moved e) (row_moves x t proved u c r.since r.range m.awake r.row))
 
   -- the event, and ticks after it
   module _ (n : ℕ) (sets : List Keys) (c : Machine) (k : Known n sets c) (u : Input) (m : ℕ) (e : Machine) where
@@ -91,11 +119,15 @@ module _ (x : Program) (t : Pieces) (proved : Proved x t) (b : Machine) (s : Lan
     follows f l v (Still calm row) = differ v calm
     follows f l v (Arrived z st) =
         Dispatched (ticks m z) (subst (λ y. x.stop_of y ≡ None) k.state st.runs)
-        (subst (λ y. Between x.edition y (n + m) (sets ++ u.held ∷ []) (ticks m z)) k.state (subst (λ i. Between x.edition k.since.state (i + m) (sets ++ u.held ∷ []) (ticks m z)) k.ticks (subst (λ y. Between x.edition k.since.state (k.since.ticks + m) (y ++ u.held ∷ []) (ticks m z)) k.keys (between_ticks m x.edition k.since.state k.since.ticks (k.since.keys ++ u.held ∷ []) z st.between))))
+        (subst (λ y. Between x.edition y (n + m) (sets ++ u.held ∷ []) (ticks m z)) k.state
+        (subst (λ i. Between x.edition k.since.state (i + m) (sets ++ u.held ∷ []) (ticks m z)) k.ticks
+        (subst (λ y. Between x.edition k.since.state (k.since.ticks + m) (y ++ u.held ∷ []) (ticks m z)) k.keys
+        (between_ticks m x.edition k.since.state k.since.ticks (k.since.keys ++ u.held ∷ []) z st.between))))
         (dispatches_after x m d e (ticked_after x d m e st.stands.keeps.lies.awake l) f z st.stands)
     follows f l v (Halted stop st) =
         Stopped stop (subst (λ y. x.stop_of y ≡ Some stop) k.state st.fits)
-        (subst (λ y. Halts x e y stop) (ticks_add m k.since.ticks k.since.state ∙ ap₂ ticks (ap (λ i. i + m) k.ticks) k.state) (halts_after x m d e (ticked_after x d m e st.halts.keeps.lies.awake l) f (now k.since) stop st.halts))
+        (subst (λ y. Halts x e y stop) (ticks_add m k.since.ticks k.since.state ∙ ap₂ ticks (ap (λ i. i + m) k.ticks) k.state)
+        (halts_after x m d e (ticked_after x d m e st.halts.keeps.lies.awake l) f (now k.since) stop st.halts))
 
 pub every_schedule : (x : Program) (t : Pieces) → Proved x t → EverySchedule x
 every_schedule x t proved b s fits stands n sets c l efx held d m v j e k = go (known x t proved b s fits stands n sets c l)
@@ -104,4 +136,7 @@ every_schedule x t proved b s fits stands n sets c l efx held d m v j e k = go (
     u = record { efx = efx; held = held }
 
     go : Known x t proved b s fits stands n sets c → Follows x s (n + j) (sets ++ held ∷ []) e
-    go r = follows x t proved b s fits stands n sets c r u j e (main-fits x.interpreter.rom proved.rom efx held c r.range) (subst (λ z. Ticked x z j e) m.moved k) (subst (λ z. is_event (code x) z ≡ true) m.moved v) (row_moves x t proved u c r.since r.range m.awake r.row)
+    go r =
+        follows x t proved b s fits stands n sets c r u j e (main-fits x.interpreter.rom proved.rom efx held c r.range)
+        (subst (λ z. Ticked x z j e) m.moved k) (subst (λ z. is_event (code x) z ≡ true) m.moved v)
+        (row_moves x t proved u c r.since r.range m.awake r.row)

@@ -13,7 +13,8 @@ use Rattle.rom_law.specs.Program.{Program}
 use Rattle.rom_law.proofs.Places.{changed, Places, Holding, depth, lies_in, range_past, addresses_same, addresses_length, stack_below, variables_below, screen_below, memory_above, stack_room, stack_length, stack_most, read_is}
 
 -- one address more lies behind the others
-pub addresses_more : (n low : ℕ) (ram : List ℕ) → 2 * n ≤ low → addresses ram low (suc n) ≡ addresses ram low n ++ (slice_index ram (low - 2 * n - 1) * 256 + slice_index ram (low - 2 * n)) ∷ []
+pub addresses_more : (n low : ℕ) (ram : List ℕ) → 2 * n ≤ low
+    → addresses ram low (suc n) ≡ addresses ram low n ++ (slice_index ram (low - 2 * n - 1) * 256 + slice_index ram (low - 2 * n)) ∷ []
 addresses_more zero low ram room = ap₂ (λ a b. (slice_index ram a * 256 + slice_index ram b) ∷ []) high lower
   where
     high : low - 1 ≡ low - 2 * 0 - 1
@@ -21,7 +22,10 @@ addresses_more zero low ram room = ap₂ (λ a b. (slice_index ram a * 256 + sli
 
     lower : low ≡ low - 2 * 0
     lower = omega arith
-addresses_more (suc n) low ram room = ap (λ l. (slice_index ram (low - 1) * 256 + slice_index ram low) ∷ l) (addresses_more n (low - 2) ram (omega arith) ∙ ap₂ (λ a b. addresses ram (low - 2) n ++ (slice_index ram a * 256 + slice_index ram b) ∷ []) high lower)
+addresses_more (suc n) low ram room =
+    ap (λ l. (slice_index ram (low - 1) * 256 + slice_index ram low) ∷ l)
+    (addresses_more n (low - 2) ram (omega arith)
+    ∙ ap₂ (λ a b. addresses ram (low - 2) n ++ (slice_index ram a * 256 + slice_index ram b) ∷ []) high lower)
   where
     high : low - 2 - 2 * n - 1 ≡ low - 2 * suc n - 1
     high = omega arith
@@ -71,13 +75,17 @@ module _ {x : Program} {p : Places} {s : Lang} (h : Holding x p s) (f : FitsWord
   pushed_size = length-set (slice_set p.ram r2 low) (r2 - 1) high ∙ length-set p.ram r2 low ∙ h.size
 
   at_low : slice_index pushed r2 ≡ low
-  at_low = get_or-set_other (slice_set p.ram r2 low) (r2 - 1) r2 high 0 (λ k. omega (arith, k, above)) ∙ get_or-set_same p.ram r2 low 0 (omega (arith, small, h.size))
+  at_low =
+      get_or-set_other (slice_set p.ram r2 low) (r2 - 1) r2 high 0 (λ k. omega (arith, k, above))
+      ∙ get_or-set_same p.ram r2 low 0 (omega (arith, small, h.size))
 
   at_high : slice_index pushed (r2 - 1) ≡ high
   at_high = get_or-set_same (slice_set p.ram r2 low) (r2 - 1) high 0 (omega (arith, small, h.size, length-set p.ram r2 low))
 
   elsewhere : (a : ℕ) → (a < r2 - 1) ⊎ (r2 < a) → slice_index pushed a ≡ slice_index p.ram a
-  elsewhere a k = get_or-set_other (slice_set p.ram r2 low) (r2 - 1) a high 0 (λ g. omega (arith, g, k, above)) ∙ get_or-set_other p.ram r2 a low 0 (λ g. omega (arith, g, k, above))
+  elsewhere a k =
+      get_or-set_other (slice_set p.ram r2 low) (r2 - 1) a high 0 (λ g. omega (arith, g, k, above))
+      ∙ get_or-set_other p.ram r2 a low 0 (λ g. omega (arith, g, k, above))
 
   past : (a z : ℕ) → (r2 < a) ⊎ (z ≤ r2 - 1) → slice_range pushed a z ≡ slice_range p.ram a z
   past a z k = range_past a z (slice_set p.ram r2 low) (r2 - 1) high (first k) ∙ range_past a z p.ram r2 low (second k)
@@ -100,7 +108,9 @@ module _ {x : Program} {p : Places} {s : Lang} (h : Holding x p s) (f : FitsWord
   stack_is =
       ap (addresses pushed (stack_top e)) new_depth
       ∙ addresses_more d (stack_top e) pushed (omega (arith, h.stack))
-      ∙ ap₂ (λ l y. l ++ y ∷ []) (addresses_same d (stack_top e) p.ram pushed (omega (arith, h.stack)) (λ a l m. elsewhere a (inr (omega (arith, l, h.stack)))) ∙ ap (addresses p.ram (stack_top e)) (sym old_depth) ∙ ap (λ (z : Lang). z.stack) h.is) entry
+      ∙ ap₂ (λ l y. l ++ y ∷ []) (addresses_same d (stack_top e) p.ram pushed (omega (arith, h.stack))
+      (λ a l m. elsewhere a (inr (omega (arith, l, h.stack)))) ∙ ap (addresses p.ram (stack_top e)) (sym old_depth)
+      ∙ ap (λ (z : Lang). z.stack) h.is) entry
     where
       where_low : stack_top e - 2 * d ≡ r2
       where_low = omega (arith, h.stack)
@@ -122,7 +132,8 @@ module _ {x : Program} {p : Places} {s : Lang} (h : Holding x p s) (f : FitsWord
       (omega (arith, h.stack, lowest, above, length-append s.stack ((high * 256 + low) ∷ [])))
       pushed_size
 
-  pub push : Holding x (record p { ram = written p.latch (written p.latch p.ram (value p.r2) low) (value (down p.r2)) high; r2 = down (down p.r2) }) (record s { stack = s.stack ++ (high * 256 + low) ∷ [] })
+  pub push : Holding x (record p { ram = written p.latch (written p.latch p.ram (value p.r2) low) (value (down p.r2)) high; r2 = down (down p.r2) })
+      (record s { stack = s.stack ++ (high * 256 + low) ∷ [] })
   push = subst (λ r. Holding x (record p { ram = r; r2 = down (down p.r2) }) (record s { stack = s.stack ++ (high * 256 + low) ∷ [] })) (sym is_pushed) push_at
 
 -- ---- a pop: the high byte lies above R2, and the low byte above that
@@ -150,7 +161,9 @@ module _ {x : Program} {p : Places} {s : Lang} (h : Holding x p s) (f : FitsWord
   last = slice_index p.ram (stack_top x.edition - 2 * m - 1) * 256 + slice_index p.ram (stack_top x.edition - 2 * m)
 
   stack_is_rest : s.stack ≡ rest ++ last ∷ []
-  stack_is_rest = sym (ap (λ (z : Lang). z.stack) h.is) ∙ ap (addresses p.ram (stack_top x.edition)) depth_is ∙ addresses_more m (stack_top x.edition) p.ram (omega (arith, h.stack))
+  stack_is_rest =
+      sym (ap (λ (z : Lang). z.stack) h.is) ∙ ap (addresses p.ram (stack_top x.edition)) depth_is
+      ∙ addresses_more m (stack_top x.edition) p.ram (omega (arith, h.stack))
 
   rest_length : length rest ≡ m
   rest_length = addresses_length m (stack_top x.edition) p.ram
@@ -168,11 +181,14 @@ module _ {x : Program} {p : Places} {s : Lang} (h : Holding x p s) (f : FitsWord
   place_low = omega (arith, h.stack, some)
 
   -- the two bytes are those of the newest address
-  pub popped : read x.interpreter.rom p.latch p.ram (value (up p.r2)) * 256 + read x.interpreter.rom p.latch p.ram (value (up (up p.r2))) ≡ slice_index s.stack (length s.stack - 1)
+  pub popped : read x.interpreter.rom p.latch p.ram (value (up p.r2)) * 256 + read x.interpreter.rom p.latch p.ram (value (up (up p.r2)))
+      ≡ slice_index s.stack (length s.stack - 1)
   popped =
       ap₂ (λ y z. y * 256 + z)
-      (ap (read x.interpreter.rom p.latch p.ram) one_up ∙ read_is h (value p.r2 + 1) (omega (arith, h.stack, top_small, some)) ∙ ap (slice_index p.ram) (sym place_high))
-      (ap (read x.interpreter.rom p.latch p.ram) two_up ∙ read_is h (value p.r2 + 2) (omega (arith, h.stack, top_small, some)) ∙ ap (slice_index p.ram) (sym place_low))
+      (ap (read x.interpreter.rom p.latch p.ram) one_up ∙ read_is h (value p.r2 + 1) (omega (arith, h.stack, top_small, some))
+      ∙ ap (slice_index p.ram) (sym place_high))
+      (ap (read x.interpreter.rom p.latch p.ram) two_up ∙ read_is h (value p.r2 + 2) (omega (arith, h.stack, top_small, some))
+      ∙ ap (slice_index p.ram) (sym place_low))
       ∙ sym last_on_stack
 
   depth_less : depth x.edition (value (up (up p.r2))) ≡ m
@@ -181,6 +197,7 @@ module _ {x : Program} {p : Places} {s : Lang} (h : Holding x p s) (f : FitsWord
   pub pop : Holding x (record p { r2 = up (up p.r2) }) (record s { stack = take (length s.stack - 1) s.stack })
   pop =
       changed h p.ram (up (up p.r2)) p.r5 p.r8 p.ra
-      ((λ i. record (lies_in x.edition p) { stack = (ap (addresses p.ram (stack_top x.edition)) depth_less ∙ rest_is) i }) ∙ ap (λ (z : Lang). record z { stack = take m s.stack }) h.is)
+      ((λ i. record (lies_in x.edition p) { stack = (ap (addresses p.ram (stack_top x.edition)) depth_less ∙ rest_is) i })
+      ∙ ap (λ (z : Lang). record z { stack = take m s.stack }) h.is)
       (omega (arith, two_up, h.stack, some, ap length (sym rest_is), rest_length))
       h.size

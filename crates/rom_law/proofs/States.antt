@@ -17,7 +17,8 @@ passed a b e = rw e refl
 
 module _
     (x : Program) (script : List KeyEvent) (Running : Machine → Since → Type 0)
-    (moves : (b : Machine) (h : Since) → Running b h → Moves x script Running (carried x.interpreter.rom (held_at script) b h) (move x.interpreter.rom (held_at script) b))
+    (moves : (b : Machine) (h : Since) → Running b h
+    → Moves x script Running (carried x.interpreter.rom (held_at script) b h) (move x.interpreter.rom (held_at script) b))
     (first : Machine) where
   abbrev at : ℕ → Machine
   at n = state_after x script first n

@@ -65,10 +65,13 @@ module _ (x : Code) (n : ℕ) (b c : Machine) (g : Fine x b) (h : After x.low n 
   fetched =
       ap (λ (z : Machine). stepped z.regs z.regs.p) h.is
       ∙ ap₂ (λ z y. record b.regs { r = z; t = c.regs.t; q = tones n y b.regs.q })
-      (ap (λ z. put (later_bank n c.regs.r.r0 c.regs.r.rf b.regs.r) b.regs.p (up z)) (get-later b.regs.p n c.regs.r.r0 c.regs.r.rf b.regs.r kept) ∙ put-later b.regs.p n c.regs.r.r0 c.regs.r.rf b.regs.r _ kept)
+      (ap (λ z. put (later_bank n c.regs.r.r0 c.regs.r.rf b.regs.r) b.regs.p (up z)) (get-later b.regs.p n c.regs.r.r0 c.regs.r.rf b.regs.r kept)
+      ∙ put-later b.regs.p n c.regs.r.r0 c.regs.r.rf b.regs.r _ kept)
       (sym (put-r8 b.regs.p b.regs.r _ kept))
 
-  pub writes_below : (top : ℕ) → Below (Some top) (executed (opcode_in x b) (stepped b.regs b.regs.p) (rom_inputs x b (λ k. false))).write → (j : Inputs) (z : ℕ × ℕ) → (executed (opcode_of x.rom c) (stepped c.regs c.regs.p) j).write ≡ Some z → z.0 < top
+  pub writes_below : (top : ℕ) → Below (Some top) (executed (opcode_in x b) (stepped b.regs b.regs.p) (rom_inputs x b (λ k. false))).write
+      → (j : Inputs) (z : ℕ × ℕ) → (executed (opcode_of x.rom c) (stepped c.regs c.regs.p) j).write ≡ Some z → z.0 < top
   writes_below top below j z e =
-      below_later x.low n c.regs.r.r0 c.regs.r.rf c.regs.t (stepped b.regs b.regs.p) (rom_inputs x b (λ k. false)) j (opcode_number (opcode_in x b)) top (kind_of (opcode_in x b)) (second_of _ _ pass) below z
+      below_later x.low n c.regs.r.r0 c.regs.r.rf c.regs.t (stepped b.regs b.regs.p) (rom_inputs x b (λ k. false)) j
+      (opcode_number (opcode_in x b)) top (kind_of (opcode_in x b)) (second_of _ _ pass) below z
       (sym (ap₂ (λ o s. (executed o s j).write) op fetched) ∙ e)

@@ -60,5 +60,6 @@ pub record Covers (x : Program) (script : List KeyEvent) (c : Machine) (h : Sinc
 -- dispatch, with the step made, from which a new record begins; or the stop of the state.
 pub data Moves (x : Program) (script : List KeyEvent) (Running : Machine → Since → Type 0) (h : Since) (c : Machine) : Type 0 where
   Still : is_dispatch x.interpreter c ≡ false → is_stop x.interpreter c ≡ false → Running c h → Moves x script Running h c
-  Arrived : is_dispatch x.interpreter c ≡ true → is_stop x.interpreter c ≡ false → Covers x script c h → Stepped x c h (state_at x c) → Running c (dispatched c.cycle (state_at x c)) → Moves x script Running h c
+  Arrived : is_dispatch x.interpreter c ≡ true → is_stop x.interpreter c ≡ false → Covers x script c h → Stepped x c h (state_at x c)
+      → Running c (dispatched c.cycle (state_at x c)) → Moves x script Running h c
   Halted : is_stop x.interpreter c ≡ true → Covers x script c h → (stop : Stop) → StoppedBy x c h stop → Moves x script Running h c

@@ -22,7 +22,8 @@ pub data Ticked (x : Program) (b : Machine) : ℕ → Machine → Type 0 where
 pub data Leads (x : Program) (b : Machine) : ℕ → List Keys → Machine → Type 0 where
   Here : Leads x b 0 [] b
   ByTick : (n : ℕ) (sets : List Keys) (c d : Machine) → Leads x b n sets c → Tick (memory_end x.edition) c d → Leads x b (suc n) sets d
-  ByMain : (n : ℕ) (sets : List Keys) (c d : Machine) (efx : Bool) (held : Keys) → Leads x b n sets c → IsMain x.interpreter.rom efx held c d → is_event (code x) d ≡ false → Leads x b n (sets ++ held ∷ []) d
+  ByMain : (n : ℕ) (sets : List Keys) (c d : Machine) (efx : Bool) (held : Keys) → Leads x b n sets c → IsMain x.interpreter.rom efx held c d
+      → is_event (code x) d ≡ false → Leads x b n (sets ++ held ∷ []) d
 
 -- what comes after the dispatch of s, with so many ticks and these sets of keys: a next dispatch, or the stop of s
 pub data Follows (x : Program) (s : Lang) (n : ℕ) (sets : List Keys) (b : Machine) : Type 0 where

@@ -70,7 +70,8 @@ other_page a n some other = go (cases_lt a 0x8700)
 -- ---- behind the check
 
 -- the caller goes on
-found : {e : Edition} {h h' : Since} {d : Machine} (c : Caller) (answer : Answer) → Grows h 2 0 h' → Checked (quick e) c answer d (now h) → h'.spent ≤ call_time c + 50 → is_event (code (quick e)) d ≡ false → Ends (quick e) (calm_pieces (quick e)) d h'
+found : {e : Edition} {h h' : Since} {d : Machine} (c : Caller) (answer : Answer) → Grows h 2 0 h' → Checked (quick e) c answer d (now h)
+    → h'.spent ≤ call_time c + 50 → is_event (code (quick e)) d ≡ false → Ends (quick e) (calm_pieces (quick e)) d h'
 found {e = e} ForDecimal answer g o spent calm = to_memory (quick e) g _ calm (DecimalFound answer) o spent
 found {e = e} ForStore answer g o spent calm = to_memory (quick e) g _ calm (StoreFound answer) o spent
 found {e = e} ForRestore answer g o spent calm = to_memory (quick e) g _ calm (RestoreFound answer) o spent
@@ -95,7 +96,8 @@ pub is_checking : {x : Program} {c : Caller} {a : ℕ} {b : Machine} {s : Lang} 
 is_checking {b = b} o = λ j. record b { regs = record b.regs { p = o.p j; r = record b.regs.r { rd = o.rd j } } }
 
 pub is_comparing : {e : Edition} {c : Caller} {a : ℕ} {b : Machine} {s : Lang} → Comparing (quick e) c a b s → b ≡ comparing e a b
-is_comparing {b = b} o = λ j. record b { regs = record b.regs { p = o.checking.p j; x = o.pointer j; r = record b.regs.r { rc = o.rc j; rd = o.checking.rd j } } }
+is_comparing {b = b} o =
+    λ j. record b { regs = record b.regs { p = o.checking.p j; x = o.pointer j; r = record b.regs.r { rc = o.rc j; rd = o.checking.rd j } } }
 
 -- RD is changed
 abbrev on_at : Machine → Word → Machine
@@ -135,12 +137,40 @@ module _ (e : Edition) (b : Machine) (h : Since) (f : FitsMachine b) (c : Caller
 
   module _ (o : Checking (quick e) c at_check b (now h)) where
     checked_on : (a : ℕ) → Checking (quick e) c a (compared (word_of a)) (now h)
-    checked_on a = record { called = record { holds = work_set o.called.holds work b.regs.r.ra.lo above below; inside = o.called.inside; calls = o.called.calls; r4 = o.called.r4; r6 = o.called.r6; r7 = o.called.r7 }; p = refl; rd = refl; r3 = o.r3; count = o.count }
+    checked_on a =
+        record {
+          called = record {
+            holds = work_set o.called.holds work b.regs.r.ra.lo above below;
+            inside = o.called.inside;
+            calls = o.called.calls;
+            r4 = o.called.r4;
+            r6 = o.called.r6;
+            r7 = o.called.r7;
+          };
+          p = refl;
+          rd = refl;
+          r3 = o.r3;
+          count = o.count;
+        }
 
     pub check_comes : h.spent ≤ call_time c → Comes (quick e) (calm_pieces (quick e)) (OfMemory (Check c)) b h
-    check_comes spent = forks (OfMemory (Check c)) o.called.holds (checking at_check b) (is_checking o) compared (not (first_df == 1)) at_nowhere at_check_game (omega arith) refl
-        (λ k h' g. to_memory (quick e) g _ refl (Answering c Nowhere) (checked_on at_nowhere, below_all e i asked (omega (arith, borrowed first_df k, i_is o.called.holds, f.regs.r.ra.hi, f.regs.r.ra.lo))) (omega (arith, spent, g.spent)))
-        (λ k h' g. to_memory (quick e) g _ refl (CheckGame c) (record { checking = checked_on at_check_game; pointer = refl; rc = refl; low = ap (slice_index (compared (word_of at_check_game)).ram) work_there ∙ work_is o.called.holds work b.regs.r.ra.lo below }, omega (arith, not_borrowed first_df k, i_is o.called.holds)) (omega (arith, spent, g.spent)))
+    check_comes spent =
+        forks (OfMemory (Check c)) o.called.holds (checking at_check b) (is_checking o) compared (not (first_df == 1)) at_nowhere at_check_game
+        (omega arith) refl
+        (λ k h' g. to_memory (quick e) g _ refl (Answering c Nowhere)
+        (checked_on at_nowhere, below_all e i asked (omega (arith, borrowed first_df k, i_is o.called.holds, f.regs.r.ra.hi, f.regs.r.ra.lo)))
+        (omega (arith, spent, g.spent)))
+        (λ k h' g. to_memory (quick e) g _ refl (CheckGame c) (
+          record {
+            checking = checked_on at_check_game;
+            pointer = refl;
+            rc = refl;
+            low = ap (slice_index (compared (word_of at_check_game)).ram) work_there
+                ∙ work_is o.called.holds work b.regs.r.ra.lo below;
+          },
+          omega (arith, not_borrowed first_df k, i_is o.called.holds),
+        )
+        (omega (arith, spent, g.spent)))
 
   -- ---- do the bytes lie in game memory, or in the font
 
@@ -163,7 +193,26 @@ module _ (e : Edition) (b : Machine) (h : Since) (f : FitsMachine b) (c : Caller
     left d df w = record (comparing e a b) { regs = record (comparing e a b).regs { d = d; df = df; r = record (comparing e a b).regs.r { rd = w } } }
 
     leaves : (d df t : ℕ) → Comparing (quick e) c t (left d df (word_of t)) (now h)
-    leaves d df t = record { checking = record { called = record { holds = o.checking.called.holds; inside = o.checking.called.inside; calls = o.checking.called.calls; r4 = o.checking.called.r4; r6 = o.checking.called.r6; r7 = o.checking.called.r7 }; p = refl; rd = refl; r3 = o.checking.r3; count = o.checking.count }; pointer = refl; rc = refl; low = o.low }
+    leaves d df t =
+        record {
+          checking = record {
+            called = record {
+              holds = o.checking.called.holds;
+              inside = o.checking.called.inside;
+              calls = o.checking.called.calls;
+              r4 = o.checking.called.r4;
+              r6 = o.checking.called.r6;
+              r7 = o.checking.called.r7;
+            };
+            p = refl;
+            rd = refl;
+            r3 = o.checking.r3;
+            count = o.checking.count;
+          };
+          pointer = refl;
+          rc = refl;
+          low = o.low;
+        }
 
   -- I is taken from END - n: the low bytes, and the high bytes
   abbrev game_low : ℕ
@@ -172,10 +221,46 @@ module _ (e : Edition) (b : Machine) (h : Since) (f : FitsMachine b) (c : Caller
   abbrev game_high : ℕ
   game_high = page_of e + 256 - b.regs.r.ra.hi - (1 - game_low / 256)
 
-  pub check_game_comes : (o : Comparing (quick e) c at_check_game b (now h)) → memory_start ≤ i → h.spent ≤ call_time c + 20 → Comes (quick e) (calm_pieces (quick e)) (OfMemory (CheckGame c)) b h
-  check_game_comes o first spent = forks (OfMemory (CheckGame c)) o.checking.called.holds _ (is_comparing o) (left o (game_high % 256) (game_high / 256)) (game_high / 256 == 1) at_in_game at_check_font (omega (arith, steady o)) refl
-      (λ k h' g. to_memory (quick e) g _ refl (Answering c InGame) ((leaves o (game_high % 256) (game_high / 256) at_in_game).checking, in_memory e i asked first (omega (arith, eqb-true (game_high / 256) 1 k, low_is o, o.checking.count, few o, place o, memory_end_is e, page_fits e, f.regs.r.ra.hi, f.regs.r.ra.lo))) (omega (arith, spent, g.spent)))
-      (λ k h' g. to_memory (quick e) g _ refl (CheckFont c) (leaves o (game_high % 256) (game_high / 256) at_check_font, past_memory e i asked first (omega (arith, eqb-false (game_high / 256) 1 k, low_is o, o.checking.count, few o, place o, memory_end_is e, page_fits e, f.regs.r.ra.hi, f.regs.r.ra.lo))) (omega (arith, spent, g.spent)))
+  pub check_game_comes : (o : Comparing (quick e) c at_check_game b (now h)) → memory_start ≤ i → h.spent ≤ call_time c + 20
+      → Comes (quick e) (calm_pieces (quick e)) (OfMemory (CheckGame c)) b h
+  check_game_comes o first spent =
+      forks (OfMemory (CheckGame c)) o.checking.called.holds _ (is_comparing o) (left o (game_high % 256) (game_high / 256))
+      (game_high / 256 == 1) at_in_game at_check_font (omega (arith, steady o)) refl
+      (λ k h' g. to_memory (quick e) g _ refl (Answering c InGame) (
+        (leaves o (game_high % 256) (game_high / 256) at_in_game).checking,
+        in_memory e i asked first (omega (
+          arith,
+          eqb-true (game_high
+              / 256) 1 k,
+          low_is o,
+          o.checking.count,
+          few o,
+          place o,
+          memory_end_is e,
+          page_fits e,
+          f.regs.r.ra.hi,
+          f.regs.r.ra.lo,
+        )),
+      )
+      (omega (arith, spent, g.spent)))
+      (λ k h' g. to_memory (quick e) g _ refl (CheckFont c) (
+        leaves o (game_high % 256) (game_high
+            / 256) at_check_font,
+        past_memory e i asked first (omega (
+          arith,
+          eqb-false (game_high
+              / 256) 1 k,
+          low_is o,
+          o.checking.count,
+          few o,
+          place o,
+          memory_end_is e,
+          page_fits e,
+          f.regs.r.ra.hi,
+          f.regs.r.ra.lo,
+        )),
+      )
+      (omega (arith, spent, g.spent)))
 
   -- is I in the font's page
   abbrev page_xor : ℕ
@@ -184,19 +269,53 @@ module _ (e : Edition) (b : Machine) (h : Since) (f : FitsMachine b) (c : Caller
   high_is : (o : Comparing (quick e) c at_check_font b (now h)) → i / 256 ≡ b.regs.r.ra.hi
   high_is o = omega (arith, place o, f.regs.r.ra.lo)
 
-  pub check_font_comes : (o : Comparing (quick e) c at_check_font b (now h)) → is_in_memory e i asked ≡ false → h.spent ≤ call_time c + 32 → Comes (quick e) (calm_pieces (quick e)) (OfMemory (CheckFont c)) b h
-  check_font_comes o outside spent = forks (OfMemory (CheckFont c)) o.checking.called.holds _ (is_comparing o) (left o page_xor b.regs.df) (not (page_xor == 0)) at_nowhere at_check_low (omega arith) refl
-      (λ k h' g. to_memory (quick e) g _ refl (Answering c Nowhere) ((leaves o page_xor b.regs.df at_nowhere).checking, (outside, other_page i asked (few o).0 (λ z. nonzero page_xor k (omega (arith, eqb-true page_xor 0 (same_xor b.regs.r.ra.hi 0x87 (sym (high_is o) ∙ z))))))) (omega (arith, spent, g.spent)))
-      (λ k h' g. to_memory (quick e) g _ refl (CheckLow c) (leaves o page_xor b.regs.df at_check_low, outside, high_is o ∙ xor_same b.regs.r.ra.hi 0x87 (eq-eqb page_xor 0 (is_zero page_xor k))) (omega (arith, spent, g.spent)))
+  pub check_font_comes : (o : Comparing (quick e) c at_check_font b (now h)) → is_in_memory e i asked ≡ false → h.spent ≤ call_time c + 32
+      → Comes (quick e) (calm_pieces (quick e)) (OfMemory (CheckFont c)) b h
+  check_font_comes o outside spent =
+      forks (OfMemory (CheckFont c)) o.checking.called.holds _ (is_comparing o) (left o page_xor b.regs.df)
+      (not (page_xor == 0)) at_nowhere at_check_low (omega arith) refl
+      (λ k h' g. to_memory (quick e) g _ refl (Answering c Nowhere) (
+        (leaves o page_xor b.regs.df at_nowhere).checking,
+        (
+          outside,
+          other_page i asked (few o).0 (λ z. nonzero page_xor k
+              (omega (arith, eqb-true page_xor 0 (same_xor b.regs.r.ra.hi 0x87 (sym (high_is o) ∙ z))))),
+        ),
+      )
+      (omega (arith, spent, g.spent)))
+      (λ k h' g. to_memory (quick e) g _ refl (CheckLow c)
+      (leaves o page_xor b.regs.df at_check_low, outside, high_is o ∙ xor_same b.regs.r.ra.hi 0x87 (eq-eqb page_xor 0 (is_zero page_xor k)))
+      (omega (arith, spent, g.spent)))
 
   -- the low byte of I is taken from that of FONT_END - n
   abbrev font_low : ℕ
   font_low = (0x50 + 256 - b.regs.r.re.lo) % 256 + 256 - read (both e) b.latch b.ram work
 
-  pub check_low_comes : (o : Comparing (quick e) c at_check_low b (now h)) → is_in_memory e i asked ≡ false → i / 256 ≡ 0x87 → h.spent ≤ call_time c + 38 → Comes (quick e) (calm_pieces (quick e)) (OfMemory (CheckLow c)) b h
-  check_low_comes o outside page spent = forks (OfMemory (CheckLow c)) o.checking.called.holds _ (is_comparing o) (left o (font_low % 256) (font_low / 256)) (not (font_low / 256 == 1)) at_nowhere at_in_font (omega (arith, steady o)) refl
-      (λ k h' g. to_memory (quick e) g _ refl (Answering c Nowhere) ((leaves o (font_low % 256) (font_low / 256) at_nowhere).checking, (outside, past_font i asked (omega (arith, page)) (omega (arith, borrowed (font_low / 256) k, low_is o, o.checking.count, few o, place o, page, f.regs.r.ra.lo)))) (omega (arith, spent, g.spent)))
-      (λ k h' g. to_memory (quick e) g _ refl (Answering c InFont) ((leaves o (font_low % 256) (font_low / 256) at_in_font).checking, (outside, in_font i asked (omega (arith, page)) (omega (arith, not_borrowed (font_low / 256) k, low_is o, o.checking.count, few o, place o, page, f.regs.r.ra.lo)))) (omega (arith, spent, g.spent)))
+  pub check_low_comes : (o : Comparing (quick e) c at_check_low b (now h)) → is_in_memory e i asked ≡ false → i / 256 ≡ 0x87
+      → h.spent ≤ call_time c + 38 → Comes (quick e) (calm_pieces (quick e)) (OfMemory (CheckLow c)) b h
+  check_low_comes o outside page spent =
+      forks (OfMemory (CheckLow c)) o.checking.called.holds _ (is_comparing o) (left o (font_low % 256) (font_low / 256))
+      (not (font_low / 256 == 1)) at_nowhere at_in_font (omega (arith, steady o)) refl
+      (λ k h' g. to_memory (quick e) g _ refl (Answering c Nowhere) (
+        (leaves o (font_low % 256) (font_low / 256)
+            at_nowhere).checking,
+        (
+          outside,
+          past_font i asked (omega (arith, page)) (omega
+              (arith, borrowed (font_low / 256) k, low_is o, o.checking.count, few o, place o, page, f.regs.r.ra.lo)),
+        ),
+      )
+      (omega (arith, spent, g.spent)))
+      (λ k h' g. to_memory (quick e) g _ refl (Answering c InFont) (
+        (leaves o (font_low % 256) (font_low / 256)
+            at_in_font).checking,
+        (
+          outside,
+          in_font i asked (omega (arith, page)) (omega
+              (arith, not_borrowed (font_low / 256) k, low_is o, o.checking.count, few o, place o, page, f.regs.r.ra.lo)),
+        ),
+      )
+      (omega (arith, spent, g.spent)))
 
   -- ---- the answers: back to the caller
 
@@ -211,8 +330,27 @@ module _ (e : Edition) (b : Machine) (h : Since) (f : FitsMachine b) (c : Caller
   goes_back InFont = reaches_in (code (quick e)) (calm_top e) 2 _ _ (omega arith) refl
   goes_back Nowhere = reaches_in (code (quick e)) (calm_top e) 2 _ _ (omega arith) refl
 
-  pub answering_comes : (answer : Answer) → Checking (quick e) c (answer_label answer) b (now h) → IsAnswer e answer i asked → h.spent ≤ call_time c + 46 → Comes (quick e) (calm_pieces (quick e)) (OfMemory (Answering c answer)) b h
-  answering_comes answer o is spent = reached (OfMemory (Answering c answer)) o.called.holds (answering (answer_label answer)) (λ j. record b { regs = record b.regs { p = o.p j; r = record b.regs.r { r3 = o.r3 j; rd = o.rd j } } }) (back answer) (goes_back answer) (λ h' g. found c answer g there (omega (arith, spent, g.spent)) (no_halt c))
+  pub answering_comes : (answer : Answer) → Checking (quick e) c (answer_label answer) b (now h) → IsAnswer e answer i asked
+      → h.spent ≤ call_time c + 46 → Comes (quick e) (calm_pieces (quick e)) (OfMemory (Answering c answer)) b h
+  answering_comes answer o is spent =
+      reached (OfMemory (Answering c answer)) o.called.holds (answering (answer_label answer))
+      (λ j. record b { regs = record b.regs { p = o.p j; r = record b.regs.r { r3 = o.r3 j; rd = o.rd j } } }) (back answer) (goes_back answer)
+      (λ h' g. found c answer g there (omega (arith, spent, g.spent)) (no_halt c))
     where
       there : Checked (quick e) c answer (back answer) (now h)
-      there = record { called = record { holds = o.called.holds; inside = o.called.inside; calls = o.called.calls; r4 = o.called.r4; r6 = o.called.r6; r7 = o.called.r7 }; p = refl; r3 = refl; d = refl; count = o.count; is = is }
+      there =
+          record {
+            called = record {
+              holds = o.called.holds;
+              inside = o.called.inside;
+              calls = o.called.calls;
+              r4 = o.called.r4;
+              r6 = o.called.r6;
+              r7 = o.called.r7;
+            };
+            p = refl;
+            r3 = refl;
+            d = refl;
+            count = o.count;
+            is = is;
+          }

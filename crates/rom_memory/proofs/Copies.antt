@@ -57,39 +57,125 @@ module _ (e : Edition) (b : Machine) (h : Since) (f : FitsMachine b) where
   count_is : (bit_and high 15 + 1) % 256 ≡ last + 1
   count_is = rw (and_mask high 4) (omega arith)
 
-  pub store_comes : Enters (quick e) at_store 15 b (now h) → low_byte (now h) ≡ 0x55 → h.spent ≡ 128 → Comes (quick e) (calm_pieces (quick e)) (OfMemory Store) b h
+  pub store_comes : Enters (quick e) at_store 15 b (now h) → low_byte (now h) ≡ 0x55 → h.spent ≡ 128
+      → Comes (quick e) (calm_pieces (quick e)) (OfMemory Store) b h
   store_comes o kk spent = routine (OfMemory Store) o.entered _ (omega arith) refl
-      (λ h' g. to_memory (quick e) g _ refl (Check ForStore) (record { called = record { holds = o.entered.holds; inside = o.entered.inside; calls = (o.digit, kk); r4 = refl; r6 = refl; r7 = refl }; p = refl; rd = refl; r3 = refl; count = count_is }) (omega (arith, spent, g.spent)))
+      (λ h' g. to_memory (quick e) g _ refl (Check ForStore)
+      (record {
+        called = record {
+          holds = o.entered.holds;
+          inside = o.entered.inside;
+          calls = (o.digit, kk);
+          r4 = refl;
+          r6 = refl;
+          r7 = refl;
+        };
+        p = refl;
+        rd = refl;
+        r3 = refl;
+        count = count_is;
+      }) (omega (arith, spent, g.spent)))
 
-  pub restore_comes : Enters (quick e) at_restore 15 b (now h) → low_byte (now h) ≡ 0x65 → h.spent ≡ 134 → Comes (quick e) (calm_pieces (quick e)) (OfMemory Restore) b h
+  pub restore_comes : Enters (quick e) at_restore 15 b (now h) → low_byte (now h) ≡ 0x65 → h.spent ≡ 134
+      → Comes (quick e) (calm_pieces (quick e)) (OfMemory Restore) b h
   restore_comes o kk spent = routine (OfMemory Restore) o.entered _ (omega arith) refl
-      (λ h' g. to_memory (quick e) g _ refl (Check ForRestore) (record { called = record { holds = o.entered.holds; inside = o.entered.inside; calls = (o.digit, kk); r4 = refl; r6 = refl; r7 = refl }; p = refl; rd = refl; r3 = refl; count = count_is }) (omega (arith, spent, g.spent)))
+      (λ h' g. to_memory (quick e) g _ refl (Check ForRestore)
+      (record {
+        called = record {
+          holds = o.entered.holds;
+          inside = o.entered.inside;
+          calls = (o.digit, kk);
+          r4 = refl;
+          r6 = refl;
+          r7 = refl;
+        };
+        p = refl;
+        rd = refl;
+        r3 = refl;
+        count = count_is;
+      }) (omega (arith, spent, g.spent)))
 
   -- ---- behind it
 
   store_stops : is_fetchable e (now h) ≡ true → Calls ForStore (now h) → is_in_memory e i (last + 1) ≡ false → stop_of e (now h) ≡ Some WriteOutside
   store_stops inside k outside = rw (inside, k.0, k.1, outside) refl
 
-  pub store_found_comes : (answer : Answer) → Checked (quick e) ForStore answer b (now h) → h.spent ≤ 196 → Comes (quick e) (calm_pieces (quick e)) (OfMemory (StoreFound answer)) b h
+  pub store_found_comes : (answer : Answer) → Checked (quick e) ForStore answer b (now h) → h.spent ≤ 196
+      → Comes (quick e) (calm_pieces (quick e)) (OfMemory (StoreFound answer)) b h
   store_found_comes InGame o spent = straight (OfMemory (StoreFound InGame)) o.called.holds _ (is_resumed o) _ (omega arith) refl
-      (λ h' g. to_memory (quick e) g _ refl (StoreByte 0) (record { holds = subst (λ z. Holding (quick e) (places b) (record (next (now h)) { i = z })) (none_more i) o.called.holds; inside = o.called.inside; calls = o.called.calls; p = refl; r3 = refl; r4 = refl }, record { left = omega arith; rd = refl; re = omega (arith, o.count) }, o.is) (omega (arith, spent, g.spent)))
-  store_found_comes InFont o spent = refused (OfMemory (StoreFound InFont)) WriteOutside o (store_stops o.called.inside o.called.calls o.is.0) (reaches_in (code (quick e)) (calm_top e) 3 _ _ (omega arith) refl) (omega (arith, spent))
-  store_found_comes Nowhere o spent = refused (OfMemory (StoreFound Nowhere)) WriteOutside o (store_stops o.called.inside o.called.calls o.is.0) (reaches_in (code (quick e)) (calm_top e) 3 _ _ (omega arith) refl) (omega (arith, spent))
+      (λ h' g. to_memory (quick e) g _ refl (StoreByte 0) (
+        record {
+          holds = subst (λ z. Holding (quick e) (places b) (record (next (now h)) { i = z })) (none_more i) o.called.holds;
+          inside = o.called.inside;
+          calls = o.called.calls;
+          p = refl;
+          r3 = refl;
+          r4 = refl;
+        },
+        record {
+          left = omega arith;
+          rd = refl;
+          re = omega (arith, o.count);
+        },
+        o.is,
+      ) (omega (arith, spent, g.spent)))
+  store_found_comes InFont o spent =
+      refused (OfMemory (StoreFound InFont)) WriteOutside o (store_stops o.called.inside o.called.calls o.is.0)
+      (reaches_in (code (quick e)) (calm_top e) 3 _ _ (omega arith) refl) (omega (arith, spent))
+  store_found_comes Nowhere o spent =
+      refused (OfMemory (StoreFound Nowhere)) WriteOutside o (store_stops o.called.inside o.called.calls o.is.0)
+      (reaches_in (code (quick e)) (calm_top e) 3 _ _ (omega arith) refl) (omega (arith, spent))
 
-  restore_stops : is_fetchable e (now h) ≡ true → Calls ForRestore (now h) → is_in_memory e i (last + 1) ≡ false → is_in_font i (last + 1) ≡ false → stop_of e (now h) ≡ Some ReadOutside
+  restore_stops : is_fetchable e (now h) ≡ true → Calls ForRestore (now h) → is_in_memory e i (last + 1) ≡ false → is_in_font i (last + 1) ≡ false
+      → stop_of e (now h) ≡ Some ReadOutside
   restore_stops inside k game font = rw (inside, k.0, k.1, game, font) refl
 
   -- at the first byte
   abbrev begun : Machine
-  begun = record b { regs = record b.regs { d = 0xf0; p = 3; r = record b.regs.r { r3 = word_of at_restore_byte; r4 = word_of at_fetch; r6 = word (page_of e) (240 + high % 16); rd = word (page_of e) 0xf0 } } }
+  begun =
+      record b {
+        regs = record b.regs {
+          d = 0xf0;
+          p = 3;
+          r = record b.regs.r {
+            r3 = word_of at_restore_byte;
+            r4 = word_of at_fetch;
+            r6 = word (page_of e) (240 + high % 16);
+            rd = word (page_of e) 0xf0;
+          };
+        };
+      }
 
-  begins : {answer : Answer} → Checked (quick e) ForRestore answer b (now h) → is_readable e i (last + 1) ≡ true → memory_at (quick e) (RestoreByte 0) begun (now h)
-  begins o readable = (record { holds = subst (λ z. Holding (quick e) (places b) (record (next (now h)) { i = z })) (none_more i) o.called.holds; inside = o.called.inside; calls = o.called.calls; p = refl; r3 = refl; r4 = refl }, record { left = omega arith; rd = refl; re = omega (arith, o.count) }, readable)
+  begins : {answer : Answer} → Checked (quick e) ForRestore answer b (now h) → is_readable e i (last + 1) ≡ true
+      → memory_at (quick e) (RestoreByte 0) begun (now h)
+  begins o readable = (
+    record {
+      holds = subst (λ z. Holding (quick e) (places b) (record (next (now h)) { i = z })) (none_more i) o.called.holds;
+      inside = o.called.inside;
+      calls = o.called.calls;
+      p = refl;
+      r3 = refl;
+      r4 = refl;
+    },
+    record {
+      left = omega arith;
+      rd = refl;
+      re = omega (arith, o.count);
+    },
+    readable,
+  )
 
-  pub restore_found_comes : (answer : Answer) → Checked (quick e) ForRestore answer b (now h) → h.spent ≤ 202 → Comes (quick e) (calm_pieces (quick e)) (OfMemory (RestoreFound answer)) b h
-  restore_found_comes InGame o spent = straight (OfMemory (RestoreFound InGame)) o.called.holds _ (is_resumed o) begun (omega arith) refl (λ h' g. to_memory (quick e) g begun refl (RestoreByte 0) (begins o (rw o.is refl)) (omega (arith, spent, g.spent)))
-  restore_found_comes InFont o spent = straight (OfMemory (RestoreFound InFont)) o.called.holds _ (is_resumed o) begun (omega arith) refl (λ h' g. to_memory (quick e) g begun refl (RestoreByte 0) (begins o (rw (o.is.0, o.is.1) refl)) (omega (arith, spent, g.spent)))
-  restore_found_comes Nowhere o spent = refused (OfMemory (RestoreFound Nowhere)) ReadOutside o (restore_stops o.called.inside o.called.calls o.is.0 o.is.1) (reaches_in (code (quick e)) (calm_top e) 4 _ _ (omega arith) refl) (omega (arith, spent))
+  pub restore_found_comes : (answer : Answer) → Checked (quick e) ForRestore answer b (now h) → h.spent ≤ 202
+      → Comes (quick e) (calm_pieces (quick e)) (OfMemory (RestoreFound answer)) b h
+  restore_found_comes InGame o spent =
+      straight (OfMemory (RestoreFound InGame)) o.called.holds _ (is_resumed o) begun (omega arith) refl
+      (λ h' g. to_memory (quick e) g begun refl (RestoreByte 0) (begins o (rw o.is refl)) (omega (arith, spent, g.spent)))
+  restore_found_comes InFont o spent =
+      straight (OfMemory (RestoreFound InFont)) o.called.holds _ (is_resumed o) begun (omega arith) refl
+      (λ h' g. to_memory (quick e) g begun refl (RestoreByte 0) (begins o (rw (o.is.0, o.is.1) refl)) (omega (arith, spent, g.spent)))
+  restore_found_comes Nowhere o spent =
+      refused (OfMemory (RestoreFound Nowhere)) ReadOutside o (restore_stops o.called.inside o.called.calls o.is.0 o.is.1)
+      (reaches_in (code (quick e)) (calm_top e) 4 _ _ (omega arith) refl) (omega (arith, spent))
 
   -- ---- a turn
 
@@ -148,24 +234,64 @@ module _ (e : Edition) (b : Machine) (h : Since) (f : FitsMachine b) where
     room : (memory_start ≤ i) × (i + (last + 1) ≤ memory_end e)
     room = memory_bounds e i (last + 1) fits
 
-    store_holds : Holding (quick e) (record (places b) { ram = written b.latch b.ram (value b.regs.r.ra) (vk k); ra = up b.regs.r.ra }) (stored_to (suc k) (now h))
-    store_holds = subst (λ m. Holding (quick e) (record (places b) { ram = written b.latch b.ram (value b.regs.r.ra) (vk k); ra = up b.regs.r.ra }) (record (next (now h)) { memory = m; i = i + suc k })) more
-        (i_set (memory_set o.holds (value b.regs.r.ra) (i - memory_start + k) (vk k) (omega (arith, place, room)) (omega (arith, room, left))) (up b.regs.r.ra) (i + suc k) (omega (arith, place, room, left, memory_end_is e, page_fits e, f.regs.r.ra.hi, f.regs.r.ra.lo)))
+    store_holds : Holding (quick e) (record (places b) { ram = written b.latch b.ram (value b.regs.r.ra) (vk k); ra = up b.regs.r.ra })
+        (stored_to (suc k) (now h))
+    store_holds =
+        subst (λ m. Holding (quick e) (record (places b) { ram = written b.latch b.ram (value b.regs.r.ra) (vk k); ra = up b.regs.r.ra })
+        (record (next (now h)) { memory = m; i = i + suc k })) more
+        (i_set (memory_set o.holds (value b.regs.r.ra) (i - memory_start + k) (vk k) (omega (arith, place, room)) (omega (arith, room, left)))
+        (up b.regs.r.ra) (i + suc k) (omega (arith, place, room, left, memory_end_is e, page_fits e, f.regs.r.ra.hi, f.regs.r.ra.lo)))
       where
         byte : vk k ≡ slice_index (now h).v k
         byte = v_get o.holds (value (word (page_of e) (0xf0 + k))) k (omega (arith, variables_is e)) small
 
-        more : slice_set (stored (now h).memory (i - memory_start) (take k (now h).v)) (i - memory_start + k) (vk k) ≡ stored (now h).memory (i - memory_start) (take (suc k) (now h).v)
-        more = ap (slice_set (stored (now h).memory (i - memory_start) (take k (now h).v)) (i - memory_start + k)) byte ∙ stored_next (now h).memory (i - memory_start) (now h).v k (omega (arith, small, v_length o.holds))
+        more : slice_set (stored (now h).memory (i - memory_start) (take k (now h).v)) (i - memory_start + k) (vk k)
+            ≡ stored (now h).memory (i - memory_start) (take (suc k) (now h).v)
+        more =
+            ap (slice_set (stored (now h).memory (i - memory_start) (take k (now h).v)) (i - memory_start + k)) byte
+            ∙ stored_next (now h).memory (i - memory_start) (now h).v k (omega (arith, small, v_length o.holds))
 
-  pub store_byte_comes : (k : ℕ) → Copying (quick e) ForStore at_store_byte (stored_to k (now h)) b (now h) → Turn (quick e) k b (now h) → is_in_memory e i (last + 1) ≡ true → h.spent ≤ 206 + 12 * k → Comes (quick e) (calm_pieces (quick e)) (OfMemory (StoreByte k)) b h
-  store_byte_comes k o t fits spent = forks (OfMemory (StoreByte k)) o.holds (turning at_store_byte k) (λ j. record b { regs = record b.regs { p = o.p j; r = record b.regs.r { r3 = o.r3 j; r4 = o.r4 j; rd = t.rd j } } }) (on_at (quicks (code (quick e)) 6 (turning at_store_byte k))) (not (rest t == 0)) at_store_byte at_store_end (omega (arith, o.holds.stack, stack_top_is e, place o fits t.left, room o fits t.left, t.left, memory_end_is e)) refl
-      (λ n h' g. to_memory (quick e) g _ refl (StoreByte (suc k)) (record { holds = store_holds o fits t.left; inside = o.inside; calls = o.calls; p = refl; r3 = refl; r4 = refl }, turns t _ (some_left t n) refl refl, fits) (omega (arith, spent, g.spent)))
-      (λ n h' g. to_memory (quick e) g _ refl StoreEnd (record { holds = subst (λ m. Holding (quick e) (places (on_at (quicks (code (quick e)) 6 (turning at_store_byte k)) (word_of at_store_end))) (stored_to m (now h))) (done t n) (store_holds o fits t.left); inside = o.inside; calls = o.calls; p = refl; r3 = refl; r4 = refl }, fits) (omega (arith, spent, g.spent, none_left t n)))
+  pub store_byte_comes : (k : ℕ) → Copying (quick e) ForStore at_store_byte (stored_to k (now h)) b (now h) → Turn (quick e) k b (now h)
+      → is_in_memory e i (last + 1) ≡ true → h.spent ≤ 206 + 12 * k → Comes (quick e) (calm_pieces (quick e)) (OfMemory (StoreByte k)) b h
+  store_byte_comes k o t fits spent =
+      forks (OfMemory (StoreByte k)) o.holds (turning at_store_byte k)
+      (λ j. record b { regs = record b.regs { p = o.p j; r = record b.regs.r { r3 = o.r3 j; r4 = o.r4 j; rd = t.rd j } } })
+      (on_at (quicks (code (quick e)) 6 (turning at_store_byte k))) (not (rest t == 0)) at_store_byte at_store_end
+      (omega (arith, o.holds.stack, stack_top_is e, place o fits t.left, room o fits t.left, t.left, memory_end_is e)) refl
+      (λ n h' g. to_memory (quick e) g _ refl (StoreByte (suc k)) (
+        record {
+          holds = store_holds o fits t.left;
+          inside = o.inside;
+          calls = o.calls;
+          p = refl;
+          r3 = refl;
+          r4 = refl;
+        },
+        turns t _ (some_left t n) refl refl,
+        fits,
+      ) (omega (arith, spent, g.spent)))
+      (λ n h' g. to_memory (quick e) g _ refl StoreEnd (
+        record {
+          holds = subst (λ m. Holding (quick e)
+              (places (on_at (quicks (code (quick e)) 6 (turning at_store_byte k)) (word_of at_store_end))) (stored_to m (now h)))
+              (done t n) (store_holds o fits t.left);
+          inside = o.inside;
+          calls = o.calls;
+          p = refl;
+          r3 = refl;
+          r4 = refl;
+        },
+        fits,
+      )
+      (omega (arith, spent, g.spent, none_left t n)))
 
-  pub store_end_comes : Copying (quick e) ForStore at_store_end (stored_to (last + 1) (now h)) b (now h) → is_in_memory e i (last + 1) ≡ true → Comes (quick e) (calm_pieces (quick e)) (OfMemory StoreEnd) b h
-  store_end_comes o fits = straight (OfMemory StoreEnd) o.holds (ending at_store_end) (λ j. record b { regs = record b.regs { p = o.p j; r = record b.regs.r { r3 = o.r3 j; r4 = o.r4 j } } }) _ (omega arith) refl
-      (λ h' g. steps e g (IsStore last) is refl runs _ (subst (λ n. Holding (quick e) (places b) (record (stored_to (last + 1) (now h)) { i = n })) past o.holds) refl refl)
+  pub store_end_comes : Copying (quick e) ForStore at_store_end (stored_to (last + 1) (now h)) b (now h) → is_in_memory e i (last + 1) ≡ true
+      → Comes (quick e) (calm_pieces (quick e)) (OfMemory StoreEnd) b h
+  store_end_comes o fits =
+      straight (OfMemory StoreEnd) o.holds (ending at_store_end)
+      (λ j. record b { regs = record b.regs { p = o.p j; r = record b.regs.r { r3 = o.r3 j; r4 = o.r4 j } } }) _ (omega arith) refl
+      (λ h' g. steps e g (IsStore last) is refl runs _
+      (subst (λ n. Holding (quick e) (places b) (record (stored_to (last + 1) (now h)) { i = n })) past o.holds) refl refl)
     where
       is : instr_at (now h) ≡ IsStore last
       is = rw (o.calls.0, o.calls.1) refl
@@ -185,21 +311,63 @@ module _ (e : Edition) (b : Machine) (h : Since) (f : FitsMachine b) where
     abbrev byte : ℕ
     byte = read (both e) b.latch b.ram (value b.regs.r.ra)
 
-    restore_holds : Holding (quick e) (record (places b) { ram = written b.latch b.ram (value (word (page_of e) (0xf0 + k))) byte; ra = up b.regs.r.ra }) (fetched_to (suc k) (now h))
-    restore_holds = subst (λ v. Holding (quick e) (record (places b) { ram = written b.latch b.ram (value (word (page_of e) (0xf0 + k))) byte; ra = up b.regs.r.ra }) (record (next (now h)) { v = v; i = i + suc k })) more
-        (i_set (v_set o.holds (value (word (page_of e) (0xf0 + k))) k byte (omega (arith, variables_is e)) (omega (arith, left))) (up b.regs.r.ra) (i + suc k) (omega (arith, source, readable, memory_end_is e, page_fits e, f.regs.r.ra.hi, f.regs.r.ra.lo)))
+    restore_holds : Holding (quick e)
+        (record (places b) { ram = written b.latch b.ram (value (word (page_of e) (0xf0 + k))) byte; ra = up b.regs.r.ra })
+        (fetched_to (suc k) (now h))
+    restore_holds =
+        subst (λ v. Holding (quick e) (record
+        (places b) { ram = written b.latch b.ram (value (word (page_of e) (0xf0 + k))) byte; ra = up b.regs.r.ra })
+        (record (next (now h)) { v = v; i = i + suc k })) more
+        (i_set (v_set o.holds (value (word (page_of e) (0xf0 + k))) k byte (omega (arith, variables_is e)) (omega (arith, left))) (up b.regs.r.ra)
+        (i + suc k) (omega (arith, source, readable, memory_end_is e, page_fits e, f.regs.r.ra.hi, f.regs.r.ra.lo)))
       where
         more : slice_set (bytes_from (now h) i k ++ drop k (now h).v) k byte ≡ bytes_from (now h) i (suc k) ++ drop (suc k) (now h).v
-        more = ap (slice_set (bytes_from (now h) i k ++ drop k (now h).v) k) (ap (read (both e) b.latch b.ram) source ∙ readable_get (both_font e) o.holds (i + k) readable) ∙ fetched_next (now h) i (now h).v k (omega (arith, left, fetched_length (now h) i k (now h).v, v_length o.holds))
+        more =
+            ap (slice_set (bytes_from (now h) i k ++ drop k (now h).v) k)
+            (ap (read (both e) b.latch b.ram) source ∙ readable_get (both_font e) o.holds (i + k) readable)
+            ∙ fetched_next (now h) i (now h).v k (omega (arith, left, fetched_length (now h) i k (now h).v, v_length o.holds))
 
-  pub restore_byte_comes : (k : ℕ) → Copying (quick e) ForRestore at_restore_byte (fetched_to k (now h)) b (now h) → Turn (quick e) k b (now h) → is_readable e i (last + 1) ≡ true → h.spent ≤ 214 + 12 * k → Comes (quick e) (calm_pieces (quick e)) (OfMemory (RestoreByte k)) b h
-  restore_byte_comes k o t fits spent = forks (OfMemory (RestoreByte k)) o.holds (turning at_restore_byte k) (λ j. record b { regs = record b.regs { p = o.p j; r = record b.regs.r { r3 = o.r3 j; r4 = o.r4 j; rd = t.rd j } } }) (on_at (quicks (code (quick e)) 6 (turning at_restore_byte k))) (not (rest t == 0)) at_restore_byte at_restore_end (omega (arith, o.holds.stack, stack_top_is e, memory_end_is e, page_fits e, source o fits t.left, readable o fits t.left)) refl
-      (λ n h' g. to_memory (quick e) g _ refl (RestoreByte (suc k)) (record { holds = restore_holds o fits t.left; inside = o.inside; calls = o.calls; p = refl; r3 = refl; r4 = refl }, turns t _ (some_left t n) refl refl, fits) (omega (arith, spent, g.spent)))
-      (λ n h' g. to_memory (quick e) g _ refl RestoreEnd (record { holds = subst (λ m. Holding (quick e) (places (on_at (quicks (code (quick e)) 6 (turning at_restore_byte k)) (word_of at_restore_end))) (fetched_to m (now h))) (done t n) (restore_holds o fits t.left); inside = o.inside; calls = o.calls; p = refl; r3 = refl; r4 = refl }, fits) (omega (arith, spent, g.spent, none_left t n)))
+  pub restore_byte_comes : (k : ℕ) → Copying (quick e) ForRestore at_restore_byte (fetched_to k (now h)) b (now h) → Turn (quick e) k b (now h)
+      → is_readable e i (last + 1) ≡ true → h.spent ≤ 214 + 12 * k → Comes (quick e) (calm_pieces (quick e)) (OfMemory (RestoreByte k)) b h
+  restore_byte_comes k o t fits spent =
+      forks (OfMemory (RestoreByte k)) o.holds (turning at_restore_byte k)
+      (λ j. record b { regs = record b.regs { p = o.p j; r = record b.regs.r { r3 = o.r3 j; r4 = o.r4 j; rd = t.rd j } } })
+      (on_at (quicks (code (quick e)) 6 (turning at_restore_byte k))) (not (rest t == 0)) at_restore_byte at_restore_end
+      (omega (arith, o.holds.stack, stack_top_is e, memory_end_is e, page_fits e, source o fits t.left, readable o fits t.left)) refl
+      (λ n h' g. to_memory (quick e) g _ refl (RestoreByte (suc k)) (
+        record {
+          holds = restore_holds o fits t.left;
+          inside = o.inside;
+          calls = o.calls;
+          p = refl;
+          r3 = refl;
+          r4 = refl;
+        },
+        turns t _ (some_left t n) refl refl,
+        fits,
+      ) (omega (arith, spent, g.spent)))
+      (λ n h' g. to_memory (quick e) g _ refl RestoreEnd (
+        record {
+          holds = subst (λ m. Holding (quick e)
+              (places (on_at (quicks (code (quick e)) 6 (turning at_restore_byte k)) (word_of at_restore_end))) (fetched_to m (now h)))
+              (done t n) (restore_holds o fits t.left);
+          inside = o.inside;
+          calls = o.calls;
+          p = refl;
+          r3 = refl;
+          r4 = refl;
+        },
+        fits,
+      )
+      (omega (arith, spent, g.spent, none_left t n)))
 
-  pub restore_end_comes : Copying (quick e) ForRestore at_restore_end (fetched_to (last + 1) (now h)) b (now h) → is_readable e i (last + 1) ≡ true → Comes (quick e) (calm_pieces (quick e)) (OfMemory RestoreEnd) b h
-  restore_end_comes o fits = straight (OfMemory RestoreEnd) o.holds (ending at_restore_end) (λ j. record b { regs = record b.regs { p = o.p j; r = record b.regs.r { r3 = o.r3 j; r4 = o.r4 j } } }) _ (omega arith) refl
-      (λ h' g. steps e g (IsFetch last) is refl runs _ (subst (λ n. Holding (quick e) (places b) (record (fetched_to (last + 1) (now h)) { i = n })) past o.holds) refl refl)
+  pub restore_end_comes : Copying (quick e) ForRestore at_restore_end (fetched_to (last + 1) (now h)) b (now h) → is_readable e i (last + 1) ≡ true
+      → Comes (quick e) (calm_pieces (quick e)) (OfMemory RestoreEnd) b h
+  restore_end_comes o fits =
+      straight (OfMemory RestoreEnd) o.holds (ending at_restore_end)
+      (λ j. record b { regs = record b.regs { p = o.p j; r = record b.regs.r { r3 = o.r3 j; r4 = o.r4 j } } }) _ (omega arith) refl
+      (λ h' g. steps e g (IsFetch last) is refl runs _
+      (subst (λ n. Holding (quick e) (places b) (record (fetched_to (last + 1) (now h)) { i = n })) past o.holds) refl refl)
     where
       is : instr_at (now h) ≡ IsFetch last
       is = rw (o.calls.0, o.calls.1) refl

@@ -39,8 +39,13 @@ use Rattle.rom_memory.proofs.Digits.{taken, counted}
 use Rattle.rom_memory.proofs.Found.{is_resumed, refused}
 
 -- three bytes of game memory are written
-pub three_set : {x : Program} {p : Places} {s : Lang} (o : Holding x p s) (k : ℕ) (a b c y z w : ℕ) → a ≡ memory_start + k → b ≡ memory_start + (k + 1) → c ≡ memory_start + (k + 1 + 1) → memory_start + (k + 2) < memory_end x.edition → Holding x (record p { ram = written p.latch (written p.latch (written p.latch p.ram a y) b z) c w }) (record s { memory = stored s.memory k (y ∷ z ∷ w ∷ []) })
-three_set o k a b c y z w first second third room = memory_set (memory_set (memory_set o a k y first (omega (arith, room))) b (k + 1) z second (omega (arith, room))) c (k + 1 + 1) w third (omega (arith, room))
+pub three_set : {x : Program} {p : Places} {s : Lang} (o : Holding x p s) (k : ℕ) (a b c y z w : ℕ) → a ≡ memory_start + k
+    → b ≡ memory_start + (k + 1) → c ≡ memory_start + (k + 1 + 1) → memory_start + (k + 2) < memory_end x.edition
+    → Holding x (record p { ram = written p.latch (written p.latch (written p.latch p.ram a y) b z) c w })
+    (record s { memory = stored s.memory k (y ∷ z ∷ w ∷ []) })
+three_set o k a b c y z w first second third room =
+    memory_set (memory_set (memory_set o a k y first (omega (arith, room))) b (k + 1) z second (omega (arith, room))) c (k + 1 + 1) w third
+    (omega (arith, room))
 
 module _ (e : Edition) (b : Machine) (h : Since) (f : FitsMachine b) where
   abbrev high : ℕ
@@ -57,15 +62,55 @@ module _ (e : Edition) (b : Machine) (h : Since) (f : FitsMachine b) where
 
   -- ---- up to the loops
 
-  pub decimal_comes : Enters (quick e) at_decimal 15 b (now h) → low_byte (now h) ≡ 0x33 → h.spent ≡ 122 → Comes (quick e) (calm_pieces (quick e)) (OfMemory Decimal) b h
+  pub decimal_comes : Enters (quick e) at_decimal 15 b (now h) → low_byte (now h) ≡ 0x33 → h.spent ≡ 122
+      → Comes (quick e) (calm_pieces (quick e)) (OfMemory Decimal) b h
   decimal_comes o kk spent = routine (OfMemory Decimal) o.entered _ (omega arith) refl
-      (λ h' g. to_memory (quick e) g _ refl (Check ForDecimal) (record { called = record { holds = o.entered.holds; inside = o.entered.inside; calls = (o.digit, kk); r4 = refl; r6 = refl; r7 = refl }; p = refl; rd = refl; r3 = refl; count = refl }) (omega (arith, spent, g.spent)))
+      (λ h' g. to_memory (quick e) g _ refl (Check ForDecimal)
+      (record {
+        called = record {
+          holds = o.entered.holds;
+          inside = o.entered.inside;
+          calls = (o.digit, kk);
+          r4 = refl;
+          r6 = refl;
+          r7 = refl;
+        };
+        p = refl;
+        rd = refl;
+        r3 = refl;
+        count = refl;
+      }) (omega (arith, spent, g.spent)))
 
-  pub decimal_found_comes : (answer : Answer) → Checked (quick e) ForDecimal answer b (now h) → h.spent ≤ 186 → Comes (quick e) (calm_pieces (quick e)) (OfMemory (DecimalFound answer)) b h
-  decimal_found_comes InGame o spent = straight (OfMemory (DecimalFound InGame)) o.called.holds _ (is_resumed o) _ (omega (arith, o.called.holds.stack, stack_top_is e)) refl
-      (λ h' g. to_memory (quick e) g _ refl (Hundreds 0) (record { called = record { holds = o.called.holds; inside = o.called.inside; calls = o.called.calls; r4 = refl; r6 = refl; r7 = o.called.r7 }; fits = o.is; p = refl; r3 = refl; rc = refl; rd = refl; re = refl; d = omega (arith, vx_get (now h) o.called.holds) }, omega arith) (omega (arith, spent, g.spent)))
-  decimal_found_comes InFont o spent = refused (OfMemory (DecimalFound InFont)) WriteOutside o (decimal_stops o.called.inside o.called.calls o.is.0) (reaches_in (code (quick e)) (calm_top e) 3 _ _ (omega arith) refl) (omega (arith, spent))
-  decimal_found_comes Nowhere o spent = refused (OfMemory (DecimalFound Nowhere)) WriteOutside o (decimal_stops o.called.inside o.called.calls o.is.0) (reaches_in (code (quick e)) (calm_top e) 3 _ _ (omega arith) refl) (omega (arith, spent))
+  pub decimal_found_comes : (answer : Answer) → Checked (quick e) ForDecimal answer b (now h) → h.spent ≤ 186
+      → Comes (quick e) (calm_pieces (quick e)) (OfMemory (DecimalFound answer)) b h
+  decimal_found_comes InGame o spent =
+      straight (OfMemory (DecimalFound InGame)) o.called.holds _ (is_resumed o) _ (omega (arith, o.called.holds.stack, stack_top_is e)) refl
+      (λ h' g. to_memory (quick e) g _ refl (Hundreds 0) (
+        record {
+          called = record {
+            holds = o.called.holds;
+            inside = o.called.inside;
+            calls = o.called.calls;
+            r4 = refl;
+            r6 = refl;
+            r7 = o.called.r7;
+          };
+          fits = o.is;
+          p = refl;
+          r3 = refl;
+          rc = refl;
+          rd = refl;
+          re = refl;
+          d = omega (arith, vx_get (now h) o.called.holds);
+        },
+        omega arith,
+      ) (omega (arith, spent, g.spent)))
+  decimal_found_comes InFont o spent =
+      refused (OfMemory (DecimalFound InFont)) WriteOutside o (decimal_stops o.called.inside o.called.calls o.is.0)
+      (reaches_in (code (quick e)) (calm_top e) 3 _ _ (omega arith) refl) (omega (arith, spent))
+  decimal_found_comes Nowhere o spent =
+      refused (OfMemory (DecimalFound Nowhere)) WriteOutside o (decimal_stops o.called.inside o.called.calls o.is.0)
+      (reaches_in (code (quick e)) (calm_top e) 3 _ _ (omega arith) refl) (omega (arith, spent))
 
   -- ---- the loops
 
@@ -78,24 +123,82 @@ module _ (e : Edition) (b : Machine) (h : Since) (f : FitsMachine b) where
     lessened w = b.regs.d + 256 - w
 
     abbrev lowered : ℕ → Word → Word → Word → Machine
-    lowered w rd re at = record b { regs = record b.regs { d = lessened w % 256; df = lessened w / 256; p = 3; r = record b.regs.r { r3 = at; rd = rd; re = re } } }
+    lowered w rd re at =
+        record b { regs = record b.regs { d = lessened w % 256; df = lessened w / 256; p = 3; r = record b.regs.r { r3 = at; rd = rd; re = re } } }
 
-    goes_on : (w : ℕ) (rd re : Word) (a' n' m' d' : ℕ) → rd.lo ≡ n' → re.lo ≡ m' → lessened w % 256 ≡ d' → Dividing (quick e) a' n' m' d' (lowered w rd re (word_of a')) (now h)
-    goes_on w rd re a' n' m' d' is_rd is_re is_d = record { called = record { holds = o.called.holds; inside = o.called.inside; calls = o.called.calls; r4 = o.called.r4; r6 = o.called.r6; r7 = o.called.r7 }; fits = o.fits; p = refl; r3 = refl; rc = o.rc; rd = is_rd; re = is_re; d = is_d }
+    goes_on : (w : ℕ) (rd re : Word) (a' n' m' d' : ℕ) → rd.lo ≡ n' → re.lo ≡ m' → lessened w % 256 ≡ d'
+        → Dividing (quick e) a' n' m' d' (lowered w rd re (word_of a')) (now h)
+    goes_on w rd re a' n' m' d' is_rd is_re is_d =
+        record {
+          called = record {
+            holds = o.called.holds;
+            inside = o.called.inside;
+            calls = o.called.calls;
+            r4 = o.called.r4;
+            r6 = o.called.r6;
+            r7 = o.called.r7;
+          };
+          fits = o.fits;
+          p = refl;
+          r3 = refl;
+          rc = o.rc;
+          rd = is_rd;
+          re = is_re;
+          d = is_d;
+        }
 
-  pub hundreds_comes : (k : ℕ) → Dividing (quick e) at_hundreds k 0 (vx - k * 100) b (now h) → k * 100 ≤ vx → h.spent ≤ 204 + 6 * k → Comes (quick e) (calm_pieces (quick e)) (OfMemory (Hundreds k)) b h
-  hundreds_comes k o left spent = forks (OfMemory (Hundreds k)) o.called.holds (on_3 at_hundreds b) (is_on_3 at_hundreds b o.p o.r3) (lowered o 100 (up b.regs.r.rd) b.regs.r.re) (lessened o 100 / 256 == 1) at_hundreds at_hundreds_end (omega arith) refl
-      (λ t h' g. let more = taken vx 100 k b.regs.d (fits o) (omega arith) (omega arith) left o.d (eqb-true (lessened o 100 / 256) 1 t) in to_memory (quick e) g _ refl (Hundreds (suc k)) (goes_on o 100 _ _ at_hundreds (suc k) 0 (vx - suc k * 100) (omega (arith, o.rd, left, fits o)) o.re more.1, more.0) (omega (arith, spent, g.spent)))
-      (λ t h' g. let all = counted vx 100 k b.regs.d (fits o) (omega arith) (omega arith) left o.d (eqb-false (lessened o 100 / 256) 1 t) in to_memory (quick e) g _ refl HundredsEnd (goes_on o 100 _ _ at_hundreds_end (vx / 100 + 1) 0 (vx % 100 + 156) (omega (arith, o.rd, all.0, fits o)) o.re (omega (arith, all.1))) (omega (arith, spent, g.spent, left, fits o)))
+  pub hundreds_comes : (k : ℕ) → Dividing (quick e) at_hundreds k 0 (vx - k * 100) b (now h) → k * 100 ≤ vx → h.spent ≤ 204 + 6 * k
+      → Comes (quick e) (calm_pieces (quick e)) (OfMemory (Hundreds k)) b h
+  hundreds_comes k o left spent =
+      forks (OfMemory (Hundreds k)) o.called.holds (on_3 at_hundreds b) (is_on_3 at_hundreds b o.p o.r3) (lowered o 100 (up b.regs.r.rd) b.regs.r.re)
+      (lessened o 100 / 256 == 1) at_hundreds at_hundreds_end (omega arith) refl
+      (λ t h' g. let more = taken vx 100 k b.regs.d (fits o) (omega arith) (omega arith) left o.d (eqb-true (lessened o 100 / 256) 1 t) in
+      to_memory (quick e) g _ refl (Hundreds (suc k))
+      (goes_on o 100 _ _ at_hundreds (suc k) 0 (vx - suc k * 100) (omega (arith, o.rd, left, fits o)) o.re more.1, more.0)
+      (omega (arith, spent, g.spent)))
+      (λ t h' g. let all = counted vx 100 k b.regs.d (fits o) (omega arith) (omega arith) left o.d (eqb-false (lessened o 100 / 256) 1 t) in
+      to_memory (quick e) g _ refl HundredsEnd
+      (goes_on o 100 _ _ at_hundreds_end (vx / 100 + 1) 0 (vx % 100 + 156) (omega (arith, o.rd, all.0, fits o)) o.re (omega (arith, all.1)))
+      (omega (arith, spent, g.spent, left, fits o)))
 
-  pub hundreds_end_comes : Dividing (quick e) at_hundreds_end (vx / 100 + 1) 0 (vx % 100 + 156) b (now h) → h.spent ≤ 222 → Comes (quick e) (calm_pieces (quick e)) (OfMemory HundredsEnd) b h
+  pub hundreds_end_comes : Dividing (quick e) at_hundreds_end (vx / 100 + 1) 0 (vx % 100 + 156) b (now h) → h.spent ≤ 222
+      → Comes (quick e) (calm_pieces (quick e)) (OfMemory HundredsEnd) b h
   hundreds_end_comes o spent = straight (OfMemory HundredsEnd) o.called.holds (on_3 at_hundreds_end b) (is_on_3 at_hundreds_end b o.p o.r3) _ (omega arith) refl
-      (λ h' g. to_memory (quick e) g _ refl (Tens 0) (record { called = record { holds = o.called.holds; inside = o.called.inside; calls = o.called.calls; r4 = o.called.r4; r6 = o.called.r6; r7 = o.called.r7 }; fits = o.fits; p = refl; r3 = refl; rc = o.rc; rd = omega (arith, o.rd, fits o); re = o.re; d = omega (arith, o.d) }, omega arith) (omega (arith, spent, g.spent)))
+      (λ h' g. to_memory (quick e) g _ refl (Tens 0) (
+        record {
+          called = record {
+            holds = o.called.holds;
+            inside = o.called.inside;
+            calls = o.called.calls;
+            r4 = o.called.r4;
+            r6 = o.called.r6;
+            r7 = o.called.r7;
+          };
+          fits = o.fits;
+          p = refl;
+          r3 = refl;
+          rc = o.rc;
+          rd = omega (arith, o.rd, fits o);
+          re = o.re;
+          d = omega (arith, o.d);
+        },
+        omega arith,
+      ) (omega (arith, spent, g.spent)))
 
-  pub tens_comes : (k : ℕ) → Dividing (quick e) at_tens (vx / 100) k (vx % 100 - k * 10) b (now h) → k * 10 ≤ vx % 100 → h.spent ≤ 226 + 6 * k → Comes (quick e) (calm_pieces (quick e)) (OfMemory (Tens k)) b h
-  tens_comes k o left spent = forks (OfMemory (Tens k)) o.called.holds (on_3 at_tens b) (is_on_3 at_tens b o.p o.r3) (lowered o 10 b.regs.r.rd (up b.regs.r.re)) (lessened o 10 / 256 == 1) at_tens at_tens_end (omega arith) refl
-      (λ t h' g. let more = taken (vx % 100) 10 k b.regs.d (omega arith) (omega arith) (omega arith) left o.d (eqb-true (lessened o 10 / 256) 1 t) in to_memory (quick e) g _ refl (Tens (suc k)) (goes_on o 10 _ _ at_tens (vx / 100) (suc k) (vx % 100 - suc k * 10) o.rd (omega (arith, o.re, left)) more.1, more.0) (omega (arith, spent, g.spent)))
-      (λ t h' g. let all = counted (vx % 100) 10 k b.regs.d (omega arith) (omega arith) (omega arith) left o.d (eqb-false (lessened o 10 / 256) 1 t) in to_memory (quick e) g _ refl TensEnd (goes_on o 10 _ _ at_tens_end (vx / 100) (vx / 10 % 10 + 1) (vx % 10 + 246) o.rd (omega (arith, o.re, all.0)) (omega (arith, all.1))) (omega (arith, spent, g.spent, left)))
+  pub tens_comes : (k : ℕ) → Dividing (quick e) at_tens (vx / 100) k (vx % 100 - k * 10) b (now h) → k * 10 ≤ vx % 100 → h.spent ≤ 226 + 6 * k
+      → Comes (quick e) (calm_pieces (quick e)) (OfMemory (Tens k)) b h
+  tens_comes k o left spent =
+      forks (OfMemory (Tens k)) o.called.holds (on_3 at_tens b) (is_on_3 at_tens b o.p o.r3) (lowered o 10 b.regs.r.rd (up b.regs.r.re))
+      (lessened o 10 / 256 == 1) at_tens at_tens_end (omega arith) refl
+      (λ t h' g. let more = taken (vx % 100) 10 k b.regs.d (omega arith) (omega arith) (omega arith) left o.d (eqb-true (lessened o 10 / 256) 1 t) in
+      to_memory (quick e) g _ refl (Tens (suc k))
+      (goes_on o 10 _ _ at_tens (vx / 100) (suc k) (vx % 100 - suc k * 10) o.rd (omega (arith, o.re, left)) more.1, more.0)
+      (omega (arith, spent, g.spent)))
+      (λ t h' g. let all =
+      counted (vx % 100) 10 k b.regs.d (omega arith) (omega arith) (omega arith) left o.d (eqb-false (lessened o 10 / 256) 1 t) in
+      to_memory (quick e) g _ refl TensEnd
+      (goes_on o 10 _ _ at_tens_end (vx / 100) (vx / 10 % 10 + 1) (vx % 10 + 246) o.rd (omega (arith, o.re, all.0)) (omega (arith, all.1)))
+      (omega (arith, spent, g.spent, left)))
 
   -- ---- the digits are written
 
@@ -109,11 +212,22 @@ module _ (e : Edition) (b : Machine) (h : Since) (f : FitsMachine b) where
   ones = (b.regs.d + 10) % 256
 
   abbrev written_places : Places
-  written_places = record (places b) { ram = written b.latch (written b.latch (written b.latch b.ram (value b.regs.r.ra) b.regs.r.rd.lo) (value (up b.regs.r.ra)) tens) (value (up (up b.regs.r.ra))) ones }
+  written_places =
+      record (places b) {
+        ram = written b.latch
+            (written b.latch (written b.latch b.ram (value b.regs.r.ra) b.regs.r.rd.lo) (value (up b.regs.r.ra)) tens)
+            (value (up (up b.regs.r.ra))) ones;
+      }
 
-  pub tens_end_comes : Dividing (quick e) at_tens_end (vx / 100) (vx / 10 % 10 + 1) (vx % 10 + 246) b (now h) → Comes (quick e) (calm_pieces (quick e)) (OfMemory TensEnd) b h
-  tens_end_comes o = straight (OfMemory TensEnd) o.called.holds ending (λ j. record b { regs = record b.regs { p = o.p j; r = record b.regs.r { r3 = o.r3 j; r4 = o.called.r4 j; rc = o.rc j } } }) _ (omega (arith, i_is o.called.holds, room, memory_end_is e, page_fits e, f.regs.r.ra.hi, f.regs.r.ra.lo)) refl
-      (λ h' g. steps e g (IsDecimal (high % 16)) is refl runs _ (subst (λ l. Holding (quick e) written_places (record (next (now h)) { memory = stored (now h).memory (i - memory_start) l })) digits_are holds) refl refl)
+  pub tens_end_comes : Dividing (quick e) at_tens_end (vx / 100) (vx / 10 % 10 + 1) (vx % 10 + 246) b (now h)
+      → Comes (quick e) (calm_pieces (quick e)) (OfMemory TensEnd) b h
+  tens_end_comes o =
+      straight (OfMemory TensEnd) o.called.holds ending
+      (λ j. record b { regs = record b.regs { p = o.p j; r = record b.regs.r { r3 = o.r3 j; r4 = o.called.r4 j; rc = o.rc j } } }) _
+      (omega (arith, i_is o.called.holds, room, memory_end_is e, page_fits e, f.regs.r.ra.hi, f.regs.r.ra.lo)) refl
+      (λ h' g. steps e g (IsDecimal (high % 16)) is refl runs _
+      (subst (λ l. Holding (quick e) written_places (record (next (now h)) { memory = stored (now h).memory (i - memory_start) l }))
+      digits_are holds) refl refl)
     where
       is : instr_at (now h) ≡ IsDecimal (high % 16)
       is = rw (o.called.calls.0, o.called.calls.1) refl

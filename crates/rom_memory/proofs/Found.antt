@@ -22,16 +22,36 @@ use Rattle.rom_memory.proofs.Rom.{quick}
 
 -- the machine back at the caller
 abbrev pub resumed : Edition → Caller → ℕ → ℕ → Machine → Machine
-resumed e c high d b = record b { regs = record b.regs { d = d; p = 3; r = record b.regs.r { r3 = word_of (return_of c); r4 = word_of at_fetch; r6 = word (page_of e) (240 + high % 16) } } }
+resumed e c high d b =
+    record b {
+      regs = record b.regs {
+        d = d;
+        p = 3;
+        r = record b.regs.r { r3 = word_of (return_of c); r4 = word_of at_fetch; r6 = word (page_of e) (240 + high % 16) };
+      };
+    }
 
 -- the machine at this page's way to the stops
 abbrev pub refusing : Edition → Caller → ℕ → Stop → Machine → Machine
-refusing e c high stop b = record b { regs = record b.regs { d = stop_number stop; p = 3; r = record b.regs.r { r3 = word_of at_leave83; r4 = word_of at_fetch; r6 = word (page_of e) (240 + high % 16) } } }
+refusing e c high stop b =
+    record b {
+      regs = record b.regs {
+        d = stop_number stop;
+        p = 3;
+        r = record b.regs.r { r3 = word_of at_leave83; r4 = word_of at_fetch; r6 = word (page_of e) (240 + high % 16) };
+      };
+    }
 
 module _ {e : Edition} {b : Machine} {c : Caller} {answer : Answer} where
   pub is_resumed : {s : Lang} → Checked (quick e) c answer b s → b ≡ resumed e c (high_byte s) (answer_number answer) b
   is_resumed o = λ j. record b { regs = record b.regs { d = o.d j; p = o.p j; r = record b.regs.r { r3 = o.r3 j; r4 = o.called.r4 j; r6 = o.called.r6 j } } }
 
   -- the bytes may not be used
-  pub refused : {h : Since} (l : Block) (stop : Stop) → Checked (quick e) c answer b (now h) → stop_of e (now h) ≡ Some stop → Reaches (code (quick e)) (calm_top e) (moves l) (resumed e c (high_byte (now h)) (answer_number answer) b) (refusing e c (high_byte (now h)) stop b) → h.spent + 2 * moves l ≤ 210 → Comes (quick e) (calm_pieces (quick e)) l b h
-  refused l stop o fits reaches spent = reached l o.called.holds _ (is_resumed o) _ reaches (λ h' g. to_fetch (quick e) g _ refl (Leave 2) (record { holds = o.called.holds; p = refl; r3 = refl; stop = stop; fits = fits; number = refl }, omega arith) (omega (arith, spent, g.spent)))
+  pub refused : {h : Since} (l : Block) (stop : Stop) → Checked (quick e) c answer b (now h) → stop_of e (now h) ≡ Some stop
+      → Reaches (code (quick e)) (calm_top e) (moves l) (resumed e c (high_byte (now h)) (answer_number answer) b)
+      (refusing e c (high_byte (now h)) stop b) → h.spent + 2 * moves l ≤ 210 → Comes (quick e) (calm_pieces (quick e)) l b h
+  refused l stop o fits reaches spent =
+      reached l o.called.holds _ (is_resumed o) _ reaches
+      (λ h' g. to_fetch (quick e) g _ refl (Leave 2)
+      (record { holds = o.called.holds; p = refl; r3 = refl; stop = stop; fits = fits; number = refl }, omega arith)
+      (omega (arith, spent, g.spent)))

@@ -45,7 +45,10 @@ module _ (e : Edition) (b : Machine) (h : Since) (f : FitsMachine b) where
   -- ---- AMMM
 
   pub index_comes : Enters (quick e) at_index 10 b (now h) → Comes (quick e) (calm_pieces (quick e)) (OfMemory Index) b h
-  index_comes o = routine (OfMemory Index) o.entered _ (omega arith) refl (λ h' g. steps e g (IsIndex (high % 16 * 256 + low)) is refl runs _ (i_set o.entered.holds (word (bit_and high 15) low) (high % 16 * 256 + low) target) refl refl)
+  index_comes o =
+      routine (OfMemory Index) o.entered _ (omega arith) refl
+      (λ h' g. steps e g (IsIndex (high % 16 * 256 + low)) is refl runs _
+      (i_set o.entered.holds (word (bit_and high 15) low) (high % 16 * 256 + low) target) refl refl)
     where
       is : instr_at (now h) ≡ IsIndex (high % 16 * 256 + low)
       is = rw o.digit refl
@@ -63,7 +66,9 @@ module _ (e : Edition) (b : Machine) (h : Since) (f : FitsMachine b) where
   byte = read (both e) b.latch b.ram (value (word (page_of e) (240 + high % 16)))
 
   pub add_index_comes : Enters (quick e) at_add_index 15 b (now h) → low ≡ 0x1e → Comes (quick e) (calm_pieces (quick e)) (OfMemory AddIndex) b h
-  add_index_comes o kk = routine (OfMemory AddIndex) o.entered _ (omega (arith, o.entered.holds.stack, stack_top_is e)) refl (λ h' g. steps e g (IsAddIndex (high % 16)) is refl runs _ (i_set o.entered.holds _ _ sum) refl refl)
+  add_index_comes o kk =
+      routine (OfMemory AddIndex) o.entered _ (omega (arith, o.entered.holds.stack, stack_top_is e)) refl
+      (λ h' g. steps e g (IsAddIndex (high % 16)) is refl runs _ (i_set o.entered.holds _ _ sum) refl refl)
     where
       is : instr_at (now h) ≡ IsAddIndex (high % 16)
       is = rw (o.digit, kk) refl
@@ -83,7 +88,9 @@ module _ (e : Edition) (b : Machine) (h : Since) (f : FitsMachine b) where
   work = value (word (page_of e) 0xd0)
 
   pub digit_comes : Enters (quick e) at_digit 15 b (now h) → low ≡ 0x29 → Comes (quick e) (calm_pieces (quick e)) (OfMemory Digit) b h
-  digit_comes o kk = routine (OfMemory Digit) o.entered _ (omega (arith, o.entered.holds.stack, stack_top_is e)) refl (λ h' g. steps e g (Font (high % 16)) is refl runs _ (i_set (work_set o.entered.holds work digit above below) _ _ sum) refl refl)
+  digit_comes o kk =
+      routine (OfMemory Digit) o.entered _ (omega (arith, o.entered.holds.stack, stack_top_is e)) refl
+      (λ h' g. steps e g (Font (high % 16)) is refl runs _ (i_set (work_set o.entered.holds work digit above below) _ _ sum) refl refl)
     where
       is : instr_at (now h) ≡ Font (high % 16)
       is = rw (o.digit, kk) refl
@@ -100,5 +107,6 @@ module _ (e : Edition) (b : Machine) (h : Since) (f : FitsMachine b) where
       digit_is : digit ≡ variable_x (now h) % 16
       digit_is = and_mask byte 4 ∙ ap (λ z. z % 16) (vx_get (now h) o.entered.holds)
 
-      sum : value (word 0x87 ((read (both e) b.latch (written b.latch b.ram work digit) work + digit * 2 % 256 * 2 % 256) % 256)) ≡ font_start + 5 * (variable_x (now h) % 16)
+      sum : value (word 0x87 ((read (both e) b.latch (written b.latch b.ram work digit) work + digit * 2 % 256 * 2 % 256) % 256)) ≡ font_start + 5
+          * (variable_x (now h) % 16)
       sum = omega (arith, digit_is, work_get o.entered.holds work digit below)

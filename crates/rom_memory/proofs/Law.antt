@@ -17,7 +17,8 @@ use Rattle.rom_memory.proofs.Decimal.{decimal_comes, decimal_found_comes, hundre
 use Rattle.rom_memory.proofs.Copies.{store_comes, store_found_comes, store_byte_comes, store_end_comes, restore_comes, restore_found_comes, restore_byte_comes, restore_end_comes}
 use Rattle.rom_memory.specs.Code.{memory_rom}
 
-pub memory_block : (e : Edition) (l : MemoryBlock) (b : Machine) (h : Since) → FitsMachine b → Head (quick e) (OfMemory l) b h → Comes (quick e) (calm_pieces (quick e)) (OfMemory l) b h
+pub memory_block : (e : Edition) (l : MemoryBlock) (b : Machine) (h : Since) → FitsMachine b → Head (quick e) (OfMemory l) b h
+    → Comes (quick e) (calm_pieces (quick e)) (OfMemory l) b h
 memory_block e Index b h f o = index_comes e b h f o.0
 memory_block e AddIndex b h f o = add_index_comes e b h f o.0.0 o.0.1
 memory_block e Digit b h f o = digit_comes e b h f o.0.0 o.0.1

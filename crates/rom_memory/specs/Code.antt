@@ -1,4 +1,5 @@
--- The bytes of this part of the ROM: AMMM, FX1E, FX29, FX33, FX55, FX65, and the range check. A line begins at a label of the source or 16 bytes behind the last one.
+-- The bytes of this part of the ROM: AMMM, FX1E, FX29, FX33, FX55, FX65, and the range check. A line begins at a label of the source or 16 bytes
+-- behind the last one.
 use Rattle.std.specs.Prelude.{ℕ, List, [], ◌∷◌}
 use Rattle.chip8_lang.specs.declared.view.Edition.{Edition}
 use Rattle.rom_rows.specs.Rom.{Stretch, stretch, laid, image}

@@ -25,14 +25,16 @@ abbrev pub follows : Code → List ℕ → ℕ → Machine → Bool
 follows x l zero b = true
 follows x l (suc k) b = follows x l k b && at (quicks x k b).regs (quicks x k b).regs.p == slice_index l k
 
-follows_at : (x : Code) (l : List ℕ) (k : ℕ) (b : Machine) → follows x l k b ≡ true → (j : ℕ) → j < k → at (quicks x j b).regs (quicks x j b).regs.p ≡ slice_index l j
+follows_at : (x : Code) (l : List ℕ) (k : ℕ) (b : Machine) → follows x l k b ≡ true → (j : ℕ) → j < k
+    → at (quicks x j b).regs (quicks x j b).regs.p ≡ slice_index l j
 follows_at x l zero b s j m = absurd (omega (arith, m))
 follows_at x l (suc k) b s j m = go (cases_eq j k) (follows_at x l k b parts.0 j)
   where
     parts : (follows x l k b ≡ true) × ((at (quicks x k b).regs (quicks x k b).regs.p == slice_index l k) ≡ true)
     parts = and_parts (follows x l k b) (at (quicks x k b).regs (quicks x k b).regs.p == slice_index l k) s
 
-    go : (j ≡ k) ⊎ (j ≡ k → ⊥) → (j < k → at (quicks x j b).regs (quicks x j b).regs.p ≡ slice_index l j) → at (quicks x j b).regs (quicks x j b).regs.p ≡ slice_index l j
+    go : (j ≡ k) ⊎ (j ≡ k → ⊥) → (j < k → at (quicks x j b).regs (quicks x j b).regs.p ≡ slice_index l j)
+        → at (quicks x j b).regs (quicks x j b).regs.p ≡ slice_index l j
     go (inl e) before = subst (λ i. at (quicks x i b).regs (quicks x i b).regs.p ≡ slice_index l i) (sym e) (eqb-true _ _ parts.1)
     go (inr d) before = before (omega (arith, m, d))
 
@@ -42,11 +44,20 @@ pub record Follows (x : Program) (l : Block) (addresses : List ℕ) (b : Machine
   pub is : b ≡ same
   pub follows : follows (code x) addresses (moves l) same ≡ true
 
-pub runs_at_in : (e : Edition) {rom last : List ℕ} → rom ≡ last → FitsRom rom → (l : Block) (addresses : List ℕ) → ((b : Machine) (h : Since) → FitsMachine b → Head (program_of e rom) l b h → Comes (program_of e rom) (pieces (program_of e rom)) l b h) → ((b : Machine) (h : Since) → Head (program_of e rom) l b h → Follows (program_of e rom) l addresses b) → RunsAt (program_of e last) l addresses
-runs_at_in e {rom = rom} same fits l addresses comes goes = subst (λ rom. RunsAt (program_of e rom) l addresses) same (λ b h r. let w = goes r.start r.since r.head in block_at (program_of e rom) (pieces (program_of e rom)) (sound e refl fits) r (comes r.start r.since r.fits r.head) ∙ ap (λ z. at (quicks (code (program_of e rom)) r.k z).regs (quicks (code (program_of e rom)) r.k z).regs.p) w.is ∙ follows_at (code (program_of e rom)) addresses (moves l) w.same w.follows r.k r.inside)
+pub runs_at_in : (e : Edition) {rom last : List ℕ} → rom ≡ last → FitsRom rom → (l : Block) (addresses : List ℕ)
+    → ((b : Machine) (h : Since) → FitsMachine b → Head (program_of e rom) l b h → Comes (program_of e rom) (pieces (program_of e rom)) l b h)
+    → ((b : Machine) (h : Since) → Head (program_of e rom) l b h → Follows (program_of e rom) l addresses b) → RunsAt (program_of e last) l addresses
+runs_at_in e {rom = rom} same fits l addresses comes goes =
+    subst (λ rom. RunsAt (program_of e rom) l addresses) same
+    (λ b h r. let w = goes r.start r.since r.head in
+    block_at (program_of e rom) (pieces (program_of e rom)) (sound e refl fits) r (comes r.start r.since r.fits r.head)
+    ∙ ap (λ z. at (quicks (code (program_of e rom)) r.k z).regs (quicks (code (program_of e rom)) r.k z).regs.p) w.is
+    ∙ follows_at (code (program_of e rom)) addresses (moves l) w.same w.follows r.k r.inside)
 
 -- the same of the calm pieces
-pub runs_at : (e : Edition) {rom last : List ℕ} → rom ≡ last → FitsRom rom → (l : Block) (addresses : List ℕ) → ((b : Machine) (h : Since) → FitsMachine b → Head (program_of e rom) l b h → Comes (program_of e rom) (calm_pieces (program_of e rom)) l b h) → ((b : Machine) (h : Since) → Head (program_of e rom) l b h → Follows (program_of e rom) l addresses b) → RunsAt (program_of e last) l addresses
+pub runs_at : (e : Edition) {rom last : List ℕ} → rom ≡ last → FitsRom rom → (l : Block) (addresses : List ℕ)
+    → ((b : Machine) (h : Since) → FitsMachine b → Head (program_of e rom) l b h → Comes (program_of e rom) (calm_pieces (program_of e rom)) l b h)
+    → ((b : Machine) (h : Since) → Head (program_of e rom) l b h → Follows (program_of e rom) l addresses b) → RunsAt (program_of e last) l addresses
 runs_at e same fits l addresses comes goes = runs_at_in e same fits l addresses (λ b h f head. comes_calm (comes b h f head)) goes
 
 -- ---- the block of an address
@@ -68,7 +79,8 @@ module _ (B : Type 0) (moves : B → ℕ) (addresses : B → List ℕ) where
   has_is l zero a m e = absurd (never e)
   has_is l (suc k) a m e = go (or_parts (slice_index (addresses l) k == a) (has (addresses l) k a) e) (has_is l k a (omega (arith, m)))
     where
-      go : ((slice_index (addresses l) k == a) ≡ true) ⊎ (has (addresses l) k a ≡ true) → (has (addresses l) k a ≡ true → IsIn B moves addresses a) → IsIn B moves addresses a
+      go : ((slice_index (addresses l) k == a) ≡ true) ⊎ (has (addresses l) k a ≡ true) → (has (addresses l) k a ≡ true → IsIn B moves addresses a)
+          → IsIn B moves addresses a
       go (inl f) before = record { block = l; k = k; inside = omega (arith, m); is = eqb-true _ _ f }
       go (inr f) before = before f
 

@@ -23,11 +23,17 @@ pub one_more : (u : Input) (h : Since) → Grows h 1 0 (after_main u h)
 one_more u h = record { from = refl; state = refl; ticks = omega arith; spent = omega arith; more = u.held ∷ []; keys = refl; count = refl }
 
 -- At the place l the machine is c. Its instruction reads no flag and takes two cycles, and what follows behind it is given.
-pub alone : {e : Edition} {rom : List ℕ} {b : Machine} {h : Since} {s : Lang} (l : Place) → FitsMachine b → At (program_of e rom) l b h → Holding (program_of e rom) (places b) s → (c : Machine) → b ≡ c → reads_flags (kind_of (opcode_in (code (program_of e rom)) c)) ≡ false → in_rom (get c.regs.r c.regs.p) ≡ true → cycles_of (opcode_in (code (program_of e rom)) c) ≡ 2 → ((u : Input) → Ends (program_of e rom) (calm_pieces (program_of e rom)) (quicks (code (program_of e rom)) 1 c) (after_main u h)) → Holds (program_of e rom) (calm_pieces (program_of e rom)) l b h
+pub alone : {e : Edition} {rom : List ℕ} {b : Machine} {h : Since} {s : Lang} (l : Place) → FitsMachine b → At (program_of e rom) l b h
+    → Holding (program_of e rom) (places b) s → (c : Machine) → b ≡ c → reads_flags (kind_of (opcode_in (code (program_of e rom)) c)) ≡ false
+    → in_rom (get c.regs.r c.regs.p) ≡ true → cycles_of (opcode_in (code (program_of e rom)) c) ≡ 2
+    → ((u : Input) → Ends (program_of e rom) (calm_pieces (program_of e rom)) (quicks (code (program_of e rom)) 1 c) (after_main u h))
+    → Holds (program_of e rom) (calm_pieces (program_of e rom)) l b h
 alone {e = e} {rom = rom} {b = b} {h = h} l f at o c is flags inside two ends =
     record {
       runs = ready o;
-      moves = λ i u. subst (λ z. Ends (program_of e rom) (calm_pieces (program_of e rom)) z (after_main u h)) (quick_any (code (program_of e rom)) u c flags inside ∙ ap (moved (code (program_of e rom)) u) (sym is)) (ends u);
+      moves =
+          λ i u. subst (λ z. Ends (program_of e rom) (calm_pieces (program_of e rom)) z (after_main u h))
+          (quick_any (code (program_of e rom)) u c flags inside ∙ ap (moved (code (program_of e rom)) u) (sym is)) (ends u);
       cycles = λ i. subst (λ z. cycles_of (opcode_of rom z) ≡ 2) (sym is) (ap cycles_of (sym (opcode_is (code (program_of e rom)) c inside)) ∙ two);
       later = λ i n d k. later e rom l b h f at i n d k;
       wakes = λ i d k. absurd (sleeps (sym o.awake ∙ i));
@@ -37,11 +43,19 @@ alone {e = e} {rom = rom} {b = b} {h = h} l f at o c is flags inside two ends =
     sleeps k = cc
 
 -- The same, where the instruction is a branch on t, which a flag or the keys decide: the program counter is then one word or the other.
-pub alone_forks : {e : Edition} {rom : List ℕ} {b : Machine} {h : Since} {s : Lang} (l : Place) → FitsMachine b → At (program_of e rom) l b h → Holding (program_of e rom) (places b) s → (d : Machine) → b ≡ d → in_rom (get d.regs.r d.regs.p) ≡ true → cycles_of (opcode_in (code (program_of e rom)) d) ≡ 2 → (c : Word → Machine) (t : Input → Bool) (target other : ℕ) → ((u : Input) → quick_by (code (program_of e rom)) (flags_in u d) d ≡ c (cond (t u) (word_of target) (word_of other))) → ((u : Input) → t u ≡ true → Ends (program_of e rom) (calm_pieces (program_of e rom)) (c (word_of target)) (after_main u h)) → ((u : Input) → t u ≡ false → Ends (program_of e rom) (calm_pieces (program_of e rom)) (c (word_of other)) (after_main u h)) → Holds (program_of e rom) (calm_pieces (program_of e rom)) l b h
+pub alone_forks : {e : Edition} {rom : List ℕ} {b : Machine} {h : Since} {s : Lang} (l : Place) → FitsMachine b → At (program_of e rom) l b h
+    → Holding (program_of e rom) (places b) s → (d : Machine) → b ≡ d → in_rom (get d.regs.r d.regs.p) ≡ true
+    → cycles_of (opcode_in (code (program_of e rom)) d) ≡ 2 → (c : Word → Machine) (t : Input → Bool) (target other : ℕ)
+    → ((u : Input) → quick_by (code (program_of e rom)) (flags_in u d) d ≡ c (cond (t u) (word_of target) (word_of other)))
+    → ((u : Input) → t u ≡ true → Ends (program_of e rom) (calm_pieces (program_of e rom)) (c (word_of target)) (after_main u h))
+    → ((u : Input) → t u ≡ false → Ends (program_of e rom) (calm_pieces (program_of e rom)) (c (word_of other)) (after_main u h))
+    → Holds (program_of e rom) (calm_pieces (program_of e rom)) l b h
 alone_forks {e = e} {rom = rom} {b = b} {h = h} l f at o d is inside two c t target other goes on off =
     record {
       runs = ready o;
-      moves = λ i u. subst (λ z. Ends (program_of e rom) (calm_pieces (program_of e rom)) z (after_main u h)) (sym (goes u) ∙ quick_by_is (code (program_of e rom)) u d inside ∙ ap (moved (code (program_of e rom)) u) (sym is)) (ends u (t u) refl);
+      moves =
+          λ i u. subst (λ z. Ends (program_of e rom) (calm_pieces (program_of e rom)) z (after_main u h))
+          (sym (goes u) ∙ quick_by_is (code (program_of e rom)) u d inside ∙ ap (moved (code (program_of e rom)) u) (sym is)) (ends u (t u) refl);
       cycles = λ i. subst (λ z. cycles_of (opcode_of rom z) ≡ 2) (sym is) (ap cycles_of (sym (opcode_is (code (program_of e rom)) d inside)) ∙ two);
       later = λ i n d k. later e rom l b h f at i n d k;
       wakes = λ i d k. absurd (sleeps (sym o.awake ∙ i));
@@ -50,6 +64,11 @@ alone_forks {e = e} {rom = rom} {b = b} {h = h} l f at o d is inside two c t tar
     sleeps : false ≡ true → ⊥
     sleeps k = cc
 
-    ends : (u : Input) (v : Bool) → t u ≡ v → Ends (program_of e rom) (calm_pieces (program_of e rom)) (c (cond (t u) (word_of target) (word_of other))) (after_main u h)
-    ends u true k = subst (λ v. Ends (program_of e rom) (calm_pieces (program_of e rom)) (c (cond v (word_of target) (word_of other))) (after_main u h)) (sym k) (on u k)
-    ends u false k = subst (λ v. Ends (program_of e rom) (calm_pieces (program_of e rom)) (c (cond v (word_of target) (word_of other))) (after_main u h)) (sym k) (off u k)
+    ends : (u : Input) (v : Bool) → t u ≡ v
+        → Ends (program_of e rom) (calm_pieces (program_of e rom)) (c (cond (t u) (word_of target) (word_of other))) (after_main u h)
+    ends u true k =
+        subst (λ v. Ends (program_of e rom) (calm_pieces (program_of e rom)) (c (cond v (word_of target) (word_of other))) (after_main u h)) (sym k)
+        (on u k)
+    ends u false k =
+        subst (λ v. Ends (program_of e rom) (calm_pieces (program_of e rom)) (c (cond v (word_of target) (word_of other))) (after_main u h)) (sym k)
+        (off u k)

@@ -28,7 +28,15 @@ module _ (x : Program) (b : Machine) (h : Since) where
   row_calm (Alone l at) = Alone l at
 
 pub comes_calm : {x : Program} {l : Block} {b : Machine} {h : Since} → Comes x (calm_pieces x) l b h → Comes x (pieces x) l b h
-comes_calm {x = x} {l = l} {b = b} {h = h} c = record { runs = c.runs; awake = c.awake; some = c.some; end = c.end; reaches = reaches_any (code x) _ (moves l) b c.end c.reaches; ends = λ h' g. ends_calm x c.end h' (c.ends h' g) }
+comes_calm {x = x} {l = l} {b = b} {h = h} c =
+    record {
+      runs = c.runs;
+      awake = c.awake;
+      some = c.some;
+      end = c.end;
+      reaches = reaches_any (code x) _ (moves l) b c.end c.reaches;
+      ends = λ h' g. ends_calm x c.end h' (c.ends h' g);
+    }
 
 pub holds_calm : {x : Program} {l : Place} {b : Machine} {h : Since} → Holds x (calm_pieces x) l b h → Holds x (pieces x) l b h
 holds_calm {x = x} {b = b} {h = h} o =

@@ -37,7 +37,17 @@ is_on_3 a b p r3 = λ i. record b { regs = record b.regs { p = p i; r = record b
 abbrev pub entered : Edition → ℕ → ℕ → ℕ → Machine → Machine
 entered e a high low b =
     record b {
-      regs = record b.regs { p = 3; r = record b.regs.r { r3 = word_of a; r4 = word_of at_fetch; r6 = word (page_of e) (240 + high % 16); r7 = word (page_of e) (240 + low / 16); rc = word high low } };
+      regs =
+          record b.regs {
+            p = 3;
+            r = record b.regs.r {
+              r3 = word_of a;
+              r4 = word_of at_fetch;
+              r6 = word (page_of e) (240 + high % 16);
+              r7 = word (page_of e) (240 + low / 16);
+              rc = word high low;
+            };
+          };
     }
 
 pub is_inside : (e : Edition) (s : Lang) → is_fetchable e s ≡ true → (0x200 ≤ s.pc) × (s.pc + 2 ≤ memory_end e)

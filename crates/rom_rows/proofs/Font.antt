@@ -25,7 +25,9 @@ Readable e a = ((memory_start ≤ a) × (a < memory_end e)) ⊎ ((font_start ≤
 module _ {e : Edition} {rom : List ℕ} (lies : HasFont rom) {p : Places} {s : Lang} (h : Holding (program_of e rom) p s) where
   pub readable_get : (a : ℕ) → Readable e a → read rom p.latch p.ram a ≡ readable_byte s a
   readable_get a (inl k) = rw (lt-ltb a font_start (omega (arith, k.1, memory_end_is e, page_fits e))) (memory_get h a k.0 k.1)
-  readable_get a (inr k) = rw (le-ltb a font_start k.0) (read_rom rom p.latch p.ram a (omega (arith, k)) (omega (arith, k)) ∙ ap (slice_index rom) place ∙ font_byte rom lies (a - font_start) (omega (arith, k)))
+  readable_get a (inr k) =
+      rw (le-ltb a font_start k.0) (read_rom rom p.latch p.ram a (omega (arith, k)) (omega (arith, k)) ∙ ap (slice_index rom) place
+      ∙ font_byte rom lies (a - font_start) (omega (arith, k)))
     where
       place : a - 0x8000 ≡ 0x700 + (a - font_start)
       place = omega (arith, k)

@@ -50,7 +50,8 @@ timed t s = record s { dt = t.dt; st = t.st; tone = t.tone; n = t.n }
 
 ticks_timed : (n : ℕ) (s : Lang) → timed (ticks n s) s ≡ ticks n s
 ticks_timed zero s = refl
-ticks_timed (suc n) s = λ i. record (ticks_timed n s i) { dt = (ticks (suc n) s).dt; st = (ticks (suc n) s).st; tone = (ticks (suc n) s).tone; n = (ticks (suc n) s).n }
+ticks_timed (suc n) s =
+    λ i. record (ticks_timed n s i) { dt = (ticks (suc n) s).dt; st = (ticks (suc n) s).st; tone = (ticks (suc n) s).tone; n = (ticks (suc n) s).n }
 
 ticks_shown : (n : ℕ) (d : Pixels) (s : Lang) → ticks n (record (next s) { screen = d }) ≡ record (next (ticks n s)) { screen = d }
 ticks_shown zero d s = refl
@@ -83,7 +84,9 @@ module _ (x : Program) (n : ℕ) {b c : Machine} (k : After (code x).low n b c) 
 
   -- D was loaded with VX
   pub loaded_later : b.regs.d ≡ variable s (high_byte s % 16) → c.regs.d ≡ variable (ticks n s) (high_byte (ticks n s) % 16)
-  loaded_later d = ap (λ (z : Machine). z.regs.d) k.is ∙ d ∙ sym (ticks_variable n (high_byte s % 16) s) ∙ ap (λ y. variable (ticks n s) (y % 16)) (sym (ticks_high n s))
+  loaded_later d =
+      ap (λ (z : Machine). z.regs.d) k.is ∙ d ∙ sym (ticks_variable n (high_byte s % 16) s)
+      ∙ ap (λ y. variable (ticks n s) (y % 16)) (sym (ticks_high n s))
 
   pub mixes_later : Mixes b → Mixes c
   mixes_later o = record { rd = ap (λ (z : Machine). z.regs.r.rd) k.is ∙ o.rd; x = ap (λ (z : Machine). z.regs.x) k.is ∙ o.x }
@@ -134,11 +137,15 @@ module _ (x : Program) (n : ℕ) {b c : Machine} (k : After (code x).low n b c) 
         rd = ap (λ (z : Machine). value z.regs.r.rd + 1) k.is ∙ o.rd;
       }
 
-  pub painting_later : (a : ℕ) → Painting x a 0 0 (height x.edition s) (lit x.edition 0 s) b s → Painting x a 0 0 (height x.edition (ticks n s)) (lit x.edition 0 (ticks n s)) c (ticks n s)
+  pub painting_later : (a : ℕ) → Painting x a 0 0 (height x.edition s) (lit x.edition 0 s) b s
+      → Painting x a 0 0 (height x.edition (ticks n s)) (lit x.edition 0 (ticks n s)) c (ticks n s)
   painting_later a o = subst (λ z. Painting x a 0 0 (height x.edition z) (lit x.edition 0 z) c z) (ticks_timed n s)
       (record {
         draws = record { inside = o.draws.inside; digit = o.draws.digit; readable = o.draws.readable };
-        holds = subst (Holding x (places c)) (ticks_shown n (painted (lit x.edition 0 s) s).screen s ∙ ap (λ z. record (next z) { screen = (painted (lit x.edition 0 s) s).screen }) (sym (ticks_timed n s))) (holding_after x n b c (painted (lit x.edition 0 s) s) k o.holds f.regs.r.r9);
+        holds =
+            subst (Holding x (places c)) (ticks_shown n (painted (lit x.edition 0 s) s).screen s
+            ∙ ap (λ z. record (next z) { screen = (painted (lit x.edition 0 s) s).screen }) (sym (ticks_timed n s)))
+            (holding_after x n b c (painted (lit x.edition 0 s) s) k o.holds f.regs.r.r9);
         prepared = record { lefts = λ j l. k.ram _ (above j l) ∙ o.prepared.lefts j l; rights = λ j l. k.ram _ (above' j l) ∙ o.prepared.rights j l };
         p = ap (λ (z : Machine). z.regs.p) k.is ∙ o.p;
         r3 = ap (λ (z : Machine). z.regs.r.r3) k.is ∙ o.r3;

@@ -172,21 +172,40 @@ within_later Anytime h n w = w
 within_later (Waited m) h n w = (w.0, omega (arith, w.1))
 
 module _ (e : Edition) (rom : List ℕ) where
-  pub later : (l : AnyPlace) (b : Machine) (h : Since) → FitsMachine b → At (program_of e rom) l b h → b.regs.idle ≡ false → (n : ℕ) (c : Machine) → After (code (program_of e rom)).low n b c → At (program_of e rom) l c (after_ticks n h)
-  later (AtTimer l) b h f o i n c k = (subst (timer_place_at (program_of e rom) l c) (ticks_add n h.ticks h.state) (timer_later l o.0), within_later (timer_place_time l) h n o.1)
+  pub later : (l : AnyPlace) (b : Machine) (h : Since) → FitsMachine b → At (program_of e rom) l b h → b.regs.idle ≡ false → (n : ℕ) (c : Machine)
+      → After (code (program_of e rom)).low n b c → At (program_of e rom) l c (after_ticks n h)
+  later (AtTimer l) b h f o i n c k =
+      (subst (timer_place_at (program_of e rom) l c) (ticks_add n h.ticks h.state) (timer_later l o.0), within_later (timer_place_time l) h n o.1)
     where
       timer_later : (l : TimerPlace) → timer_place_at (program_of e rom) l b (now h) → timer_place_at (program_of e rom) l c (ticks n (now h))
       timer_later RandomCount p = (enters_later (program_of e rom) n k f (now h) _ _ p.0, mixes_later (program_of e rom) n k f (now h) p.1)
       timer_later GetDelay p = (enters_later (program_of e rom) n k f (now h) _ _ p.0, ticks_low n (now h) ∙ p.1)
-      timer_later SetDelayPut p = (enters_later (program_of e rom) n k f (now h) _ _ p.0, ticks_low n (now h) ∙ p.1, loaded_later (program_of e rom) n k f (now h) p.2)
-      timer_later SetSoundPut p = (enters_later (program_of e rom) n k f (now h) _ _ p.0, ticks_low n (now h) ∙ p.1, loaded_later (program_of e rom) n k f (now h) p.2)
-  later (AtKey l) b h f o i n c k = (subst (λ s. key_place_at (program_of e rom) l c s h.keys) (ticks_add n h.ticks h.state) (key_later l o.0), within_later (key_place_time l) h n o.1)
+      timer_later SetDelayPut p =
+          (enters_later (program_of e rom) n k f (now h) _ _ p.0, ticks_low n (now h) ∙ p.1, loaded_later (program_of e rom) n k f (now h) p.2)
+      timer_later SetSoundPut p =
+          (enters_later (program_of e rom) n k f (now h) _ _ p.0, ticks_low n (now h) ∙ p.1, loaded_later (program_of e rom) n k f (now h) p.2)
+  later (AtKey l) b h f o i n c k = (
+    subst (λ s. key_place_at (program_of e rom) l c s h.keys) (ticks_add n h.ticks h.state) (key_later l o.0),
+    within_later (key_place_time
+        l) h n o.1,
+  )
     where
       key_later : (l : KeyPlace) → key_place_at (program_of e rom) l b (now h) h.keys → key_place_at (program_of e rom) l c (ticks n (now h)) h.keys
-      key_later (SkipTest down) p = (skipping_later (program_of e rom) n k f (now h) down _ p.0, latched_later (program_of e rom) n k f (now h) ∙ p.1 ∙ sym (skip_key_later n (now h)))
+      key_later (SkipTest down) p = (
+        skipping_later (program_of e rom) n k f (now h) down _ p.0,
+        latched_later (program_of e rom) n k f (now h) ∙ p.1 ∙ sym (skip_key_later n
+            (now h)),
+      )
       key_later (KeyTest turn) p = (turning_later (program_of e rom) n k f (now h) turn _ p.0, latched_later (program_of e rom) n k f (now h) ∙ p.1, p.2)
-      key_later KeyHeld p = (waiting_later (program_of e rom) n k f (now h) _ p.0, latched_later (program_of e rom) n k f (now h) ∙ p.1 ∙ ap (λ y. y % 16) (sym (counted_later (program_of e rom) n k f (now h))), subst (λ y. Last h.keys (y % 16) true) (sym (counted_later (program_of e rom) n k f (now h))) p.2)
-  later (AtSprite l) b h f o i n c k = (subst (sprite_place_at (program_of e rom) l c) (ticks_add n h.ticks h.state) (sprite_later l o.0), within_later (sprite_place_time l) h n o.1)
+      key_later KeyHeld p = (
+        waiting_later (program_of e rom) n k f (now h) _ p.0,
+        latched_later (program_of e rom) n k f (now h) ∙ p.1 ∙ ap (λ y. y
+            % 16) (sym (counted_later (program_of e rom) n k f (now h))),
+        subst (λ y. Last h.keys (y % 16) true) (sym
+            (counted_later (program_of e rom) n k f (now h))) p.2,
+      )
+  later (AtSprite l) b h f o i n c k =
+      (subst (sprite_place_at (program_of e rom) l c) (ticks_add n h.ticks h.state) (sprite_later l o.0), within_later (sprite_place_time l) h n o.1)
     where
       asleep : true ≡ false → ⊥
       asleep r = cc
@@ -205,25 +224,44 @@ module _ (e : Edition) {rom last : List ℕ} (is : rom ≡ last) (fits : FitsRom
   calm_sound = record { rom = fits; some = λ l b h f head. some l; later = later e rom }
 
   -- the rows of a block, where each machine at its head comes to what it should
-  pub block_rows_in : (l : Block) → ((b : Machine) (h : Since) → FitsMachine b → Head (program_of e rom) l b h → Comes (program_of e rom) (pieces (program_of e rom)) l b h) → BlockRows (program_of e last) l
-  block_rows_in l comes = subst (λ rom. BlockRows (program_of e rom) l) is (λ u b h r. block_moves (program_of e rom) (pieces (program_of e rom)) sound r (comes r.start r.since r.fits r.head) u)
+  pub block_rows_in : (l : Block)
+      → ((b : Machine) (h : Since) → FitsMachine b → Head (program_of e rom) l b h → Comes (program_of e rom) (pieces (program_of e rom)) l b h)
+      → BlockRows (program_of e last) l
+  block_rows_in l comes =
+      subst (λ rom. BlockRows (program_of e rom) l) is
+      (λ u b h r. block_moves (program_of e rom) (pieces (program_of e rom)) sound r (comes r.start r.since r.fits r.head) u)
 
   -- the rows of a place, where each machine at it comes to what it should
-  pub place_rows_in : (l : AnyPlace) → ((b : Machine) (h : Since) → FitsMachine b → At (program_of e rom) l b h → Holds (program_of e rom) (pieces (program_of e rom)) l b h) → ((b : Machine) (h : Since) → At (program_of e rom) l b h → b.regs.idle ≡ false) → PlaceRows (program_of e last) l
-  place_rows_in l holds awake = subst (λ rom. PlaceRows (program_of e rom) l) is (λ u b h f at. place_moves (program_of e rom) (pieces (program_of e rom)) sound l b h f (holds b h f at) (awake b h at) u)
+  pub place_rows_in : (l : AnyPlace)
+      → ((b : Machine) (h : Since) → FitsMachine b → At (program_of e rom) l b h → Holds (program_of e rom) (pieces (program_of e rom)) l b h)
+      → ((b : Machine) (h : Since) → At (program_of e rom) l b h → b.regs.idle ≡ false) → PlaceRows (program_of e last) l
+  place_rows_in l holds awake =
+      subst (λ rom. PlaceRows (program_of e rom) l) is
+      (λ u b h f at. place_moves (program_of e rom) (pieces (program_of e rom)) sound l b h f (holds b h f at) (awake b h at) u)
 
   -- the rows of a place, where each machine at it comes to what it should
-  pub awake_rows_in : (l : AnyPlace) → ((b : Machine) (h : Since) → FitsMachine b → At (program_of e rom) l b h → Holds (program_of e rom) (pieces (program_of e rom)) l b h) → AwakeRows (program_of e last) l
-  awake_rows_in l holds = subst (λ rom. AwakeRows (program_of e rom) l) is (λ u b h f i at. place_moves (program_of e rom) (pieces (program_of e rom)) sound l b h f (holds b h f at) i u)
+  pub awake_rows_in : (l : AnyPlace)
+      → ((b : Machine) (h : Since) → FitsMachine b → At (program_of e rom) l b h → Holds (program_of e rom) (pieces (program_of e rom)) l b h)
+      → AwakeRows (program_of e last) l
+  awake_rows_in l holds =
+      subst (λ rom. AwakeRows (program_of e rom) l) is
+      (λ u b h f i at. place_moves (program_of e rom) (pieces (program_of e rom)) sound l b h f (holds b h f at) i u)
 
   -- and ticks there
-  pub tick_rows_in : (l : AnyPlace) → ((b : Machine) (h : Since) → FitsMachine b → At (program_of e rom) l b h → Holds (program_of e rom) (pieces (program_of e rom)) l b h) → TickRows (program_of e last) l
-  tick_rows_in l holds = subst (λ rom. TickRows (program_of e rom) l) is (λ b c h f k at. place_ticks (program_of e rom) (pieces (program_of e rom)) sound l b c h f k at (holds b h f at))
+  pub tick_rows_in : (l : AnyPlace)
+      → ((b : Machine) (h : Since) → FitsMachine b → At (program_of e rom) l b h → Holds (program_of e rom) (pieces (program_of e rom)) l b h)
+      → TickRows (program_of e last) l
+  tick_rows_in l holds =
+      subst (λ rom. TickRows (program_of e rom) l) is
+      (λ b c h f k at. place_ticks (program_of e rom) (pieces (program_of e rom)) sound l b c h f k at (holds b h f at))
 
   -- ---- of the calm pieces
 
-  pub block_rows : (l : Block) → ((b : Machine) (h : Since) → FitsMachine b → Head (program_of e rom) l b h → Comes (program_of e rom) (calm_pieces (program_of e rom)) l b h) → BlockRows (program_of e last) l
+  pub block_rows : (l : Block) → ((b : Machine) (h : Since) → FitsMachine b → Head (program_of e rom) l b h
+      → Comes (program_of e rom) (calm_pieces (program_of e rom)) l b h) → BlockRows (program_of e last) l
   block_rows l comes = block_rows_in l (λ b h f head. comes_calm (comes b h f head))
 
-  pub place_rows : (l : AnyPlace) → ((b : Machine) (h : Since) → FitsMachine b → At (program_of e rom) l b h → Holds (program_of e rom) (calm_pieces (program_of e rom)) l b h) → ((b : Machine) (h : Since) → At (program_of e rom) l b h → b.regs.idle ≡ false) → PlaceRows (program_of e last) l
+  pub place_rows : (l : AnyPlace)
+      → ((b : Machine) (h : Since) → FitsMachine b → At (program_of e rom) l b h → Holds (program_of e rom) (calm_pieces (program_of e rom)) l b h)
+      → ((b : Machine) (h : Since) → At (program_of e rom) l b h → b.regs.idle ≡ false) → PlaceRows (program_of e last) l
   place_rows l holds awake = place_rows_in l (λ b h f at. holds_calm (holds b h f at)) awake

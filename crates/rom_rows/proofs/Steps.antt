@@ -66,15 +66,25 @@ module _ (e : Edition) {k : ℕ} {h h' : Since} (g : Grows h k 0 h') (i : Instr)
   stepped key = ap (λ j. done_by e j key (now h)) (sym is) ∙ ap (step e key) (sym (now_same g))
 
   -- what it took from the keypad is allowed
-  pub steps_with : {rom : List ℕ} {t : Pieces} (key : KeyInput) → Allows i h'.state h'.keys key → WaitsWell i h'.ticks 0 → (c : Machine) → Holding (program_of e rom) (places c) (done_by e i key (now h)) → c.regs.p ≡ 4 → c.regs.r.r4 ≡ word_of at_fetch → Ends (program_of e rom) t c h'
+  pub steps_with : {rom : List ℕ} {t : Pieces} (key : KeyInput) → Allows i h'.state h'.keys key → WaitsWell i h'.ticks 0 → (c : Machine)
+      → Holding (program_of e rom) (places c) (done_by e i key (now h)) → c.regs.p ≡ 4 → c.regs.r.r4 ≡ word_of at_fetch
+      → Ends (program_of e rom) t c h'
   steps_with {rom = rom} key allowed waits c o p r4 = Steps (step e key (now h')) (record {
     runs = no_stop;
     between = step_made e h' i key no_stop (sym (instr_now h') ∙ ap instr_at (now_same g) ∙ is) allowed waits;
-    stands = record { keeps = keeping (program_of e rom) c (step e key (now h')) (subst (Holding (program_of e rom) (places c)) (stepped key) o); p = p; r4 = r4 };
+    stands =
+        record {
+          keeps = keeping (program_of e rom) c (step e key (now h')) (subst (Holding (program_of e rom) (places c)) (stepped key) o);
+          p = p;
+          r4 = r4;
+        };
   })
 
 -- the same, where it takes no key and doesn't wait
-pub steps : (e : Edition) {rom : List ℕ} {k : ℕ} {h h' : Since} (g : Grows h k 0 h') (i : Instr) (is : instr_at (now h) ≡ i) (prompt : is_prompt i ≡ true) (runs : stop_of e (now h) ≡ None) (c : Machine) → Holding (program_of e rom) (places c) (done_by e i Nothing (now h)) → c.regs.p ≡ 4 → c.regs.r.r4 ≡ word_of at_fetch → Ends (program_of e rom) (calm_pieces (program_of e rom)) c h'
+pub steps : (e : Edition) {rom : List ℕ} {k : ℕ} {h h' : Since} (g : Grows h k 0 h') (i : Instr) (is : instr_at (now h) ≡ i)
+    (prompt : is_prompt i ≡ true) (runs : stop_of e (now h) ≡ None) (c : Machine)
+    → Holding (program_of e rom) (places c) (done_by e i Nothing (now h)) → c.regs.p ≡ 4 → c.regs.r.r4 ≡ word_of at_fetch
+    → Ends (program_of e rom) (calm_pieces (program_of e rom)) c h'
 steps e {h' = h'} g i is prompt runs c o p r4 = steps_with e g i is runs Nothing (keyless i prompt h') (no_wait i prompt h'.ticks) c o p r4
 
 -- for 00E0 and DXYN, where a tick came
@@ -82,8 +92,12 @@ module _ (e : Edition) {k : ℕ} {h h' : Since} (g : Grows h k 0 h') (tick : 1 �
   waited : 1 ≤ h'.ticks
   waited = omega (arith, tick, g.ticks)
 
-  pub clears : {rom : List ℕ} {t : Pieces} → instr_at (now h) ≡ Clear → (c : Machine) → Holding (program_of e rom) (places c) (done_by e Clear Nothing (now h)) → c.regs.p ≡ 4 → c.regs.r.r4 ≡ word_of at_fetch → Ends (program_of e rom) t c h'
+  pub clears : {rom : List ℕ} {t : Pieces} → instr_at (now h) ≡ Clear → (c : Machine)
+      → Holding (program_of e rom) (places c) (done_by e Clear Nothing (now h)) → c.regs.p ≡ 4 → c.regs.r.r4 ≡ word_of at_fetch
+      → Ends (program_of e rom) t c h'
   clears is c o p r4 = steps_with e g Clear is runs Nothing tt (waited, refl) c o p r4
 
-  pub draws : {rom : List ℕ} {t : Pieces} {x y n : ℕ} → instr_at (now h) ≡ Draw x y n → (c : Machine) → Holding (program_of e rom) (places c) (done_by e (Draw x y n) Nothing (now h)) → c.regs.p ≡ 4 → c.regs.r.r4 ≡ word_of at_fetch → Ends (program_of e rom) t c h'
+  pub draws : {rom : List ℕ} {t : Pieces} {x y n : ℕ} → instr_at (now h) ≡ Draw x y n → (c : Machine)
+      → Holding (program_of e rom) (places c) (done_by e (Draw x y n) Nothing (now h)) → c.regs.p ≡ 4 → c.regs.r.r4 ≡ word_of at_fetch
+      → Ends (program_of e rom) t c h'
   draws {x = x} {y = y} {n = n} is c o p r4 = steps_with e g (Draw x y n) is runs Nothing tt (waited, refl) c o p r4

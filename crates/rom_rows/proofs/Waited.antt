@@ -19,7 +19,8 @@ use Rattle.rom_rows.specs.Table.Block.{OfSprite}
 use Rattle.rom_rows.proofs.Sounds.{some}
 
 -- a block behind a wait follows at the end of one
-pub to_waited : (x : Program) {k : ℕ} {h h' : Since} (g : Grows h k 0 h') (c : Machine) (calm : is_event (code x) c ≡ false) (l : SpriteBlock) (w : IsWaited l) → sprite_at x l c (now h) → Within (sprite_time l) h' → Ends x (waited_pieces x) c h'
+pub to_waited : (x : Program) {k : ℕ} {h h' : Since} (g : Grows h k 0 h') (c : Machine) (calm : is_event (code x) c ≡ false) (l : SpriteBlock)
+    (w : IsWaited l) → sprite_at x l c (now h) → Within (sprite_time l) h' → Ends x (waited_pieces x) c h'
 to_waited x g c calm l w at t = Continues calm (Enters (l, w) (subst (sprite_at x l c) (sym (now_same g)) at, t))
 
 pub joined : (x : Program) {l : (waited_pieces x).Block} {b : Machine} {h : Since} → InBlock x (waited_pieces x) l b h → InBlock x (pieces x) (OfSprite l.0) b h
@@ -39,8 +40,10 @@ module _ (x : Program) (b : Machine) (h : Since) where
   row_joined (Inside l r) = Inside (OfSprite l.0) (joined x r)
   row_joined (Alone l at) = absurd at
 
-pub comes_joined : {x : Program} {l : SpriteBlock} {w : IsWaited l} {b : Machine} {h : Since} → Comes x (waited_pieces x) (l, w) b h → Comes x (pieces x) (OfSprite l) b h
-comes_joined {x = x} c = record { runs = c.runs; awake = c.awake; some = c.some; end = c.end; reaches = c.reaches; ends = λ h' g. ends_joined x c.end h' (c.ends h' g) }
+pub comes_joined : {x : Program} {l : SpriteBlock} {w : IsWaited l} {b : Machine} {h : Since} → Comes x (waited_pieces x) (l, w) b h
+    → Comes x (pieces x) (OfSprite l) b h
+comes_joined {x = x} c =
+    record { runs = c.runs; awake = c.awake; some = c.some; end = c.end; reaches = c.reaches; ends = λ h' g. ends_joined x c.end h' (c.ends h' g) }
 
 pub waited_sound : (e : Edition) {rom : List ℕ} → FitsRom rom → Sound (program_of e rom) (waited_pieces (program_of e rom))
 waited_sound e fits = record { rom = fits; some = λ l b h f head. some (OfSprite l.0); later = λ l b h f at. absurd at }

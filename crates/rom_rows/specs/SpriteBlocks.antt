@@ -223,7 +223,8 @@ sprite_at x (RowStore r) b s = Preparing x at_row_store (r + 1) r (r + 1) b s ×
 sprite_at x Ready b s = let h = height x.edition s in Preparing x at_ready h h h b s
 sprite_at x (Line r) b s = Painting x at_line (2 * r) (8 * r) (height x.edition s - r) (lit x.edition r s) b s × (r ≤ height x.edition s)
 sprite_at x (LineLeft r) b s = Painting x at_line_left (2 * r) (8 * r) (height x.edition s - r) (lit x.edition r s) b s × (r < height x.edition s)
-sprite_at x (LineRight r) b s = Painting x at_line_right (2 * r + 1) (8 * r + 1) (height x.edition s - (r + 1)) (half_lit x.edition r s) b s × (r < height x.edition s)
+sprite_at x (LineRight r) b s =
+    Painting x at_line_right (2 * r + 1) (8 * r + 1) (height x.edition s - (r + 1)) (half_lit x.edition r s) b s × (r < height x.edition s)
 sprite_at x Drawn b s = let h = height x.edition s in Painting x at_drawn (2 * h) (8 * h) 0 (lit x.edition h s) b s
 
 abbrev pub sprite_place_at : Program → SpritePlace → Machine → Lang → Type 0

@@ -77,7 +77,15 @@ calm_pieces x =
 
 -- The blocks behind the waits of 00E0 and DXYN as pieces of their own: main code stays in them up to the dispatch.
 abbrev pub waited_pieces : Program → Pieces
-waited_pieces x = record { Block = (l : SpriteBlock) × IsWaited l; Head = λ l. Head x (OfSprite l.0); moves = λ l h. sprite_moves l.0; top = None; Place = ⊥; At = λ l b h. ⊥ }
+waited_pieces x =
+    record {
+      Block = (l : SpriteBlock) × IsWaited l;
+      Head = λ l. Head x (OfSprite l.0);
+      moves = λ l h. sprite_moves l.0;
+      top = None;
+      Place = ⊥;
+      At = λ l b h. ⊥;
+    }
 
 -- From each state in the row of a block a main move comes to a row without an event, to a dispatch or to a stop.
 abbrev pub BlockRows : Program → Block → Type 0

@@ -22,8 +22,10 @@ use Rattle.rom_run.proofs.Waits.{timed, sleeps, timer_awake, key_awake}
 -- ---- over the joined bytes
 
 module _ (e : Edition) where
-  quick_moves : (u : Input) (b : Machine) (h : Since) → Row (quick e) (waited_pieces (quick e)) b h → Outcome (quick e) (waited_pieces (quick e)) (moved (code (quick e)) u b) (after_main u h)
-  quick_moves u b h (Inside l r) = block_moves (quick e) (waited_pieces (quick e)) (waited_sound e (both_fits e)) r (sprite_waited e l.0 l.1 r.start r.since r.fits r.head) u
+  quick_moves : (u : Input) (b : Machine) (h : Since) → Row (quick e) (waited_pieces (quick e)) b h
+      → Outcome (quick e) (waited_pieces (quick e)) (moved (code (quick e)) u b) (after_main u h)
+  quick_moves u b h (Inside l r) =
+      block_moves (quick e) (waited_pieces (quick e)) (waited_sound e (both_fits e)) r (sprite_waited e l.0 l.1 r.start r.since r.fits r.head) u
   quick_moves u b h (Alone l o) = absurd o
 
   quick_cycle : (b : Machine) (h : Since) (t : ℕ) → Row (quick e) (waited_pieces (quick e)) b h → Row (quick e) (waited_pieces (quick e)) (timed t b) h
@@ -34,25 +36,40 @@ module _ (e : Edition) where
   quick_awake b h (Inside l r) = block_awake (quick e) (pieces (quick e)) (proved_quick e) (joined (quick e) r)
   quick_awake b h (Alone l o) = absurd o
 
-  quick_wakes : (b c : Machine) (h : Since) → FitsMachine b → b.regs.idle ≡ true → Tick (code (quick e)).low b c → Row (quick e) (pieces (quick e)) b h → Row (quick e) (waited_pieces (quick e)) c (after_tick h)
+  quick_wakes : (b c : Machine) (h : Since) → FitsMachine b → b.regs.idle ≡ true → Tick (code (quick e)).low b c
+      → Row (quick e) (pieces (quick e)) b h → Row (quick e) (waited_pieces (quick e)) c (after_tick h)
   quick_wakes b c h f i k (Inside l r) = absurd (sleeps (sym i ∙ block_awake (quick e) (pieces (quick e)) (proved_quick e) r))
   quick_wakes b c h f i k (Alone (AtTimer l) o) = absurd (sleeps (sym i ∙ timer_awake (quick e) b (now h) l o.0))
   quick_wakes b c h f i k (Alone (AtKey l) o) = absurd (sleeps (sym i ∙ key_awake (quick e) b (now h) l h.keys o.0))
-  quick_wakes b c h f i k (Alone (AtSprite l) o) = starts_row (quick e) (waited_pieces (quick e)) (waited_sound e (both_fits e)) c (after_tick h) (tick_fits (code (quick e)).low b c f k) (sprite_wakes e l b h f i o c k)
+  quick_wakes b c h f i k (Alone (AtSprite l) o) =
+      starts_row (quick e) (waited_pieces (quick e)) (waited_sound e (both_fits e)) c (after_tick h) (tick_fits (code (quick e)).low b c f k)
+      (sprite_wakes e l b h f i o c k)
 
 -- ---- over the image
 
 module _ (e : Edition) where
-  pub waited_moves : (u : Input) (b : Machine) (h : Since) → Row (vip e) (waited_pieces (vip e)) b h → Outcome (vip e) (waited_pieces (vip e)) (moved (code (vip e)) u b) (after_main u h)
-  waited_moves = subst (λ rom. (u : Input) (b : Machine) (h : Since) → Row (program_of e rom) (waited_pieces (program_of e rom)) b h → Outcome (program_of e rom) (waited_pieces (program_of e rom)) (moved (code (program_of e rom)) u b) (after_main u h)) (both_is e) (quick_moves e)
+  pub waited_moves : (u : Input) (b : Machine) (h : Since) → Row (vip e) (waited_pieces (vip e)) b h
+      → Outcome (vip e) (waited_pieces (vip e)) (moved (code (vip e)) u b) (after_main u h)
+  waited_moves =
+      subst (λ rom. (u : Input) (b : Machine) (h : Since) → Row (program_of e rom) (waited_pieces (program_of e rom)) b h
+      → Outcome (program_of e rom) (waited_pieces (program_of e rom)) (moved (code (program_of e rom)) u b) (after_main u h)) (both_is e)
+      (quick_moves e)
 
   pub waited_cycle : (b : Machine) (h : Since) (t : ℕ) → Row (vip e) (waited_pieces (vip e)) b h → Row (vip e) (waited_pieces (vip e)) (timed t b) h
-  waited_cycle = subst (λ rom. (b : Machine) (h : Since) (t : ℕ) → Row (program_of e rom) (waited_pieces (program_of e rom)) b h → Row (program_of e rom) (waited_pieces (program_of e rom)) (timed t b) h) (both_is e) (quick_cycle e)
+  waited_cycle =
+      subst (λ rom. (b : Machine) (h : Since) (t : ℕ) → Row (program_of e rom) (waited_pieces (program_of e rom)) b h
+      → Row (program_of e rom) (waited_pieces (program_of e rom)) (timed t b) h) (both_is e) (quick_cycle e)
 
   -- main code doesn't wait there
   pub waited_awake : (b : Machine) (h : Since) → Row (vip e) (waited_pieces (vip e)) b h → b.regs.idle ≡ false
-  waited_awake = subst (λ rom. (b : Machine) (h : Since) → Row (program_of e rom) (waited_pieces (program_of e rom)) b h → b.regs.idle ≡ false) (both_is e) (quick_awake e)
+  waited_awake =
+      subst (λ rom. (b : Machine) (h : Since) → Row (program_of e rom) (waited_pieces (program_of e rom)) b h → b.regs.idle ≡ false) (both_is e)
+      (quick_awake e)
 
   -- a tick ends a wait
-  pub row_wakes : (b c : Machine) (h : Since) → FitsMachine b → b.regs.idle ≡ true → Tick (code (vip e)).low b c → Row (vip e) (pieces (vip e)) b h → Row (vip e) (waited_pieces (vip e)) c (after_tick h)
-  row_wakes = subst (λ rom. (b c : Machine) (h : Since) → FitsMachine b → b.regs.idle ≡ true → Tick (code (program_of e rom)).low b c → Row (program_of e rom) (pieces (program_of e rom)) b h → Row (program_of e rom) (waited_pieces (program_of e rom)) c (after_tick h)) (both_is e) (quick_wakes e)
+  pub row_wakes : (b c : Machine) (h : Since) → FitsMachine b → b.regs.idle ≡ true → Tick (code (vip e)).low b c → Row (vip e) (pieces (vip e)) b h
+      → Row (vip e) (waited_pieces (vip e)) c (after_tick h)
+  row_wakes =
+      subst (λ rom. (b c : Machine) (h : Since) → FitsMachine b → b.regs.idle ≡ true → Tick (code (program_of e rom)).low b c
+      → Row (program_of e rom) (pieces (program_of e rom)) b h → Row (program_of e rom) (waited_pieces (program_of e rom)) c (after_tick h))
+      (both_is e) (quick_wakes e)

@@ -107,7 +107,13 @@ module _ (e : Edition) (script : List Event) where
   running b k = awake_by (dma_at b.cycle b.on) _ b.regs.idle k
 
   too_low : (b : Machine) (h : Since) → Row x (calm_pieces x) b h → WritesScreen e held b → ⊥
-  too_low b h r w = omega (arith, w.screen, calm_writes e b h (running b w.runs) r (inputs (stepped b.regs b.regs.p) (byte_of (image e) b) (flags_of (efx_at (b.cycle + 1) b.on) (held (b.cycle + 1) b.key)) 0) w.write w.is)
+  too_low b h r w =
+      omega (
+        arith,
+        w.screen,
+        calm_writes e b h (running b w.runs) r (inputs (stepped b.regs b.regs.p) (byte_of (image e) b)
+            (flags_of (efx_at (b.cycle + 1) b.on) (held (b.cycle + 1) b.key)) 0) w.write w.is,
+      )
 
   writes_woken : (b : Machine) (h : Since) → Running e script b h → WritesScreen e held b → Woken e b h
   writes_woken b h (InMain (AtRow t row n (Before s r))) w = absurd (too_low b h r w)
@@ -126,7 +132,8 @@ module _ (e : Edition) (script : List Event) where
   woken_row : (b : Machine) (h : Since) → Running e script b h → Woken e b h → InRow b h
   woken_row b h (InMain (AtRow t row n time)) w = record { interval = t; row = row }
   woken_row b h (InMain (AtEvent t p d late y)) w = absurd (woken_apart e b h 0 (omega arith) w (omega (arith, p)))
-  woken_row b h (InRoutine s) w = let i = served_within e script b h s in absurd (omega (arith, i.0, i.1, later-move (image e) held b, woken_since e script b h w))
+  woken_row b h (InRoutine s) w =
+      let i = served_within e script b h s in absurd (omega (arith, i.0, i.1, later-move (image e) held b, woken_since e script b h w))
 
   module _ (b : Machine) (h : Since) (r : InRow b h) (w : Woken e b h) where
     apart : place b.cycle ≡ interrupt_place → ⊥
@@ -143,27 +150,48 @@ module _ (e : Edition) (script : List Event) where
 
     -- the next state, where it is no dispatch point
     stays : is_dispatch x.interpreter c ≡ false → Outcome x (waited_pieces x) c (after_main u (record h { spent = w.late })) → Woken e c (after_main u h)
-    stays d (Calm calm row) = record { woke = w.woke; return = w.return; base = w.base; waits = w.waits; late = w.late + 2; since = omega (arith, w.since); least = omega (arith, w.least); row = row }
+    stays d (Calm calm row) =
+        record {
+          woke = w.woke;
+          return = w.return;
+          base = w.base;
+          waits = w.waits;
+          late = w.late + 2;
+          since = omega (arith, w.since);
+          least = omega (arith, w.least);
+          row = row;
+        }
     stays d (Dispatched s st) =
-        absurd (sleeps (sym (dispatch_there e script c s st.stands (keeps_place b.cycle (record { outside = r.interval.outside; even = r.interval.even awake }) apart).outside (woken_apart e b h 2 (omega arith) w)).0 ∙ d))
+        absurd (sleeps (sym (dispatch_there e script c s st.stands
+        (keeps_place b.cycle (record { outside = r.interval.outside; even = r.interval.even awake }) apart).outside
+        (woken_apart e b h 2 (omega arith) w)).0 ∙ d))
     stays d (Failed stop st) = absurd (no_stop (sym (row_goes e b (record h { spent = w.late }) w.row) ∙ st.fits))
 
     outcome : Outcome x (waited_pieces x) c (after_main u (record h { spent = w.late }))
-    outcome = waited_moves e u (record b { cycle = b.cycle + 2 }) (record h { spent = w.late }) (waited_cycle e b (record h { spent = w.late }) (b.cycle + 2) w.row)
+    outcome =
+        waited_moves e u (record b { cycle = b.cycle + 2 }) (record h { spent = w.late })
+        (waited_cycle e b (record h { spent = w.late }) (b.cycle + 2) w.row)
 
     go : is_dispatch x.interpreter (next b) ≡ false → Makes (image e) held b (next b) → Woken e (next b) (on b h)
-    go d (Runs p i m) = subst₂ (Woken e) (sym main) (sym (counts_main e script b h r.interval r.row p i)) (stays (ap (is_dispatch x.interpreter) (sym main) ∙ d) outcome)
+    go d (Runs p i m) =
+        subst₂ (Woken e) (sym main) (sym (counts_main e script b h r.interval r.row p i))
+        (stays (ap (is_dispatch x.interpreter) (sym main) ∙ d) outcome)
       where
         main : next b ≡ c
-        main = m ∙ ap (λ n. record (main_move (image e) (efx_at (b.cycle + 1) true) (held (b.cycle + 1)) b) { cycle = b.cycle + n }) (row_cycles x (pieces x) (proved e) b h r.interval.fits awake r.row)
+        main =
+            m ∙ ap (λ n. record (main_move (image e) (efx_at (b.cycle + 1) true) (held (b.cycle + 1)) b) { cycle = b.cycle + n })
+            (row_cycles x (pieces x) (proved e) b h r.interval.fits awake r.row)
     go d (Waits p i m) = absurd (sleeps (sym i ∙ awake))
     go d (Accepts at m) = absurd (apart (omega (arith, at)))
 
     woken_on : is_dispatch x.interpreter (next b) ≡ false → Woken e (next b) (on b h)
-    woken_on d = let ready = row_runs x (pieces x) (proved e) b h r.interval.fits r.row in go d (every_move (image e) held b ready.on ready.enabled r.interval.outside)
+    woken_on d =
+        let ready = row_runs x (pieces x) (proved e) b h r.interval.fits r.row in
+        go d (every_move (image e) held b ready.on ready.enabled r.interval.outside)
 
     instruction_there : case_of b ≡ Instruction
-    instruction_there = let ready = row_runs x (pieces x) (proved e) b h r.interval.fits r.row in case_runs b ready.on ready.enabled r.interval.outside apart awake
+    instruction_there =
+        let ready = row_runs x (pieces x) (proved e) b h r.interval.fits r.row in case_runs b ready.on ready.enabled r.interval.outside apart awake
 
     main_there : RunsMain b
     main_there = record { main = (row_runs x (pieces x) (proved e) b h r.interval.fits r.row).enabled; awake = awake }
@@ -177,7 +205,8 @@ module _ (e : Edition) (script : List Event) where
     Past : Woken e b h → Begun b h
 
   -- the routine has returned
-  woken_at : (b : Machine) (h : Since) (m : ℕ) → Outside e script b h → b.cycle ≡ interrupt_at m → b.regs.idle ≡ true → Woken e (after_moves (image e) held b routine_moves) (after_tick h)
+  woken_at : (b : Machine) (h : Since) (m : ℕ) → Outside e script b h → b.cycle ≡ interrupt_at m → b.regs.idle ≡ true
+      → Woken e (after_moves (image e) held b routine_moves) (after_tick h)
   woken_at b h m (AtRow t row n time) at i =
       let w = row_waits e b h i row in
       let tick : IsTick e (image e) m b held = run_tick e m b held (interrupted e script b h m (AtRow t row n time) at) in
@@ -216,7 +245,8 @@ module _ (e : Edition) (script : List Event) where
             i
 
   -- where it waits
-  idles_on : (b : Machine) (h : Since) (o : Outside e script b h) → b.on ≡ true → b.regs.ie ≡ true → b.regs.idle ≡ true → Makes (image e) held b (next b) → Begun (next b) (on b h)
+  idles_on : (b : Machine) (h : Since) (o : Outside e script b h) → b.on ≡ true → b.regs.ie ≡ true → b.regs.idle ≡ true
+      → Makes (image e) held b (next b) → Begun (next b) (on b h)
   idles_on b h o on_is ie i (Runs p j m) = absurd (sleeps (sym i ∙ j))
   idles_on b h o on_is ie i (Waits p j m) = Idles (ap (λ (z : Machine). z.regs.idle) m ∙ i)
   idles_on b h o on_is ie i (Accepts at m) =
@@ -236,7 +266,9 @@ module _ (e : Edition) (script : List Event) where
       i
 
   begun_next : (b : Machine) (h : Since) → Running e script b h → Begun b h → is_dispatch x.interpreter (next b) ≡ false → Begun (next b) (on b h)
-  begun_next b h (InMain (AtRow t row n time)) (Idles i) d = let ready = row_runs x (pieces x) (proved e) b h t.fits row in idles_on b h (AtRow t row n time) ready.on ready.enabled i (every_move (image e) held b ready.on ready.enabled t.outside)
+  begun_next b h (InMain (AtRow t row n time)) (Idles i) d =
+      let ready = row_runs x (pieces x) (proved e) b h t.fits row in
+      idles_on b h (AtRow t row n time) ready.on ready.enabled i (every_move (image e) held b ready.on ready.enabled t.outside)
   begun_next b h (InMain (AtEvent t p due late y)) (Idles i) d = absurd (due_awake e script b h i due)
   begun_next b h (InRoutine s) (Idles i) d = absurd (sleeps (sym i ∙ served_awake e script b h s))
   begun_next b h r (Serves s i) d = serves_on b h s i
@@ -269,7 +301,8 @@ module _ (e : Edition) (script : List Event) where
     begun_after k (suc r) u same i =
         subst BegunAt more
         (subst (Begun (at (suc (k + r)))) (sym (since_still x script (Running e script) (board_moves e script) first (k + r) quiet))
-        (begun_next (at (k + r)) (since (k + r)) (runs (k + r) (λ j l. u j (omega (arith, l)))) (begun_after k r (λ j l. u j (omega (arith, l))) (λ j l m. same j l (omega (arith, m))) i) quiet))
+        (begun_next (at (k + r)) (since (k + r)) (runs (k + r) (λ j l. u j (omega (arith, l))))
+        (begun_after k r (λ j l. u j (omega (arith, l))) (λ j l m. same j l (omega (arith, m))) i) quiet))
       where
         more : suc (k + r) ≡ k + suc r
         more = omega arith
@@ -302,12 +335,23 @@ module _ (e : Edition) (script : List Event) where
     begins_behind : (n : ℕ) (w : Woken e (at n) (since n)) → StaysBehind w.woke n
     begins_behind n w = record { woken = w; from = omega (arith, w.since, w.least); to = omega (arith, w.since, woken_few e (at n) (since n) w) }
 
-    stays_behind : (woke n : ℕ) → place woke ≡ interrupt_place + routine_cycles → Unstopped e script first (suc n) → is_dispatch x.interpreter (at (suc n)) ≡ false → StaysBehind woke n → StaysBehind woke (suc n)
+    stays_behind : (woke n : ℕ) → place woke ≡ interrupt_place + routine_cycles → Unstopped e script first (suc n)
+        → is_dispatch x.interpreter (at (suc n)) ≡ false → StaysBehind woke n → StaysBehind woke (suc n)
     stays_behind woke n p u d o =
         record {
           woken = subst (Woken e (at (suc n))) (sym (since_still x script (Running e script) (board_moves e script) first n d)) w;
           from = omega (arith, o.from, later-move (image e) held (at n));
-          to = omega (arith, p, o.to, o.from, few_later (image e) held (at n), later-move (image e) held (at n), woken_since e script (at (suc n)) (on (at n) (since n)) w);
+          to =
+              omega (
+                arith,
+                p,
+                o.to,
+                o.from,
+                few_later (image e) held (at n),
+                later-move (image e) held (at n),
+                woken_since e script (at (suc n)) (on
+                    (at n) (since n)) w,
+              );
         }
       where
         w : Woken e (at (suc n)) (on (at n) (since n))
@@ -320,13 +364,15 @@ module _ (e : Edition) (script : List Event) where
         none = omega arith
     behind_after j (suc r) u same w =
         subst (StaysBehind w.woke) more
-        (stays_behind w.woke (j + r) w.return (λ n l. u n (omega (arith, l))) (same (suc (j + r)) (omega arith) (omega arith)) (behind_after j r (λ n l. u n (omega (arith, l))) (λ n l m. same n l (omega (arith, m))) w))
+        (stays_behind w.woke (j + r) w.return (λ n l. u n (omega (arith, l))) (same (suc (j + r)) (omega arith) (omega arith))
+        (behind_after j r (λ n l. u n (omega (arith, l))) (λ n l m. same n l (omega (arith, m))) w))
       where
         more : suc (j + r) ≡ j + suc r
         more = omega arith
 
     behind_at : (j i : ℕ) → j ≤ i → Unstopped e script first (suc i) → Same j i → (w : Woken e (at j) (since j)) → StaysBehind w.woke i
-    behind_at j i l u same w = subst (StaysBehind w.woke) split (behind_after j (i - j) (λ n m. u n (omega (arith, m, l))) (λ n m o. same n m (omega (arith, o, l))) w)
+    behind_at j i l u same w =
+        subst (StaysBehind w.woke) split (behind_after j (i - j) (λ n m. u n (omega (arith, m, l))) (λ n m o. same n m (omega (arith, o, l))) w)
       where
         split : j + (i - j) ≡ i
         split = omega (arith, l)
@@ -340,10 +386,13 @@ module _ (e : Edition) (script : List Event) where
             let w' = woken_on (at i) (since i) (woken_row (at i) (since i) r w) w d in
             inr (main_there (at (suc i)) (on (at i) (since i)) (woken_row (at (suc i)) (on (at i) (since i)) k w') w')
         after (Arrived d z j st k) = inl d
-        after (Halted z j stop st) = absurd (no_stop (sym (ap (stop_of e) (carried_state (image e) held (at i) (since i)) ∙ row_goes e (at i) (record (since i) { spent = w.late }) w.row) ∙ st.fits))
+        after (Halted z j stop st) =
+            absurd (no_stop (sym (ap (stop_of e) (carried_state (image e) held (at i) (since i))
+            ∙ row_goes e (at i) (record (since i) { spent = w.late }) w.row) ∙ st.fits))
 
     -- from the return on up to the end of its next move
-    changes_from : (j i woke : ℕ) → place woke ≡ interrupt_place + routine_cycles → woke ≤ (at j).cycle → Running e script (at i) (since i) → StaysBehind woke i → Changes e script first j i
+    changes_from : (j i woke : ℕ) → place woke ≡ interrupt_place + routine_cycles → woke ≤ (at j).cycle → Running e script (at i) (since i)
+        → StaysBehind woke i → Changes e script first j i
     changes_from j i woke p from r o =
         record {
           most = o.woken.base;

@@ -29,10 +29,14 @@ soon_first c u w l m = record { here = omega (arith, l, m); return = λ i r. ome
 
 -- the interrupt, and a move of the routine
 pub soon_interrupt : (b w : ℕ) → Soon b w → place b ≡ interrupt_place → Soon (b + 1) w
-soon_interrupt b w s i = let r : b + return_place < w + key_cycles + place b = s.return (omega (arith, i)) (omega (arith, i)) in record { here = omega (arith, r, i); return = λ k l. omega (arith, r, i) }
+soon_interrupt b w s i =
+    let r : b + return_place < w + key_cycles + place b = s.return (omega (arith, i)) (omega (arith, i)) in
+    record { here = omega (arith, r, i); return = λ k l. omega (arith, r, i) }
 
 pub soon_routine : (m b c w : ℕ) → Soon b w → interrupt_at m < b → b < interrupt_at m + routine_cycles → b < c → c ≤ interrupt_at m + routine_cycles → Soon c w
-soon_routine m b c w s l k n o = let r : b + return_place < w + key_cycles + place b = s.return (omega (arith, l, k)) (omega (arith, l, k)) in record { here = omega (arith, r, l, k, o); return = λ i j. omega (arith, r, l, k, n, o, i, j) }
+soon_routine m b c w s l k n o =
+    let r : b + return_place < w + key_cycles + place b = s.return (omega (arith, l, k)) (omega (arith, l, k)) in
+    record { here = omega (arith, r, l, k, o); return = λ i j. omega (arith, r, l, k, n, o, i, j) }
 
 -- so few main moves end before a key was down for long enough
 pub few_passed : (from n c u : ℕ) → Passed from n c → 2 * n ≤ 354 → from ≤ u → c < u + key_cycles
@@ -41,10 +45,18 @@ few_passed from n c u p l f = omega (arith, p.outside, p.after, p.count, l, f)
 -- where no more than six main moves have been made since a cycle before w
 module _ (from j t n c w : ℕ) (p : Passed from j t) (q : Passed from n c) (few : n ≤ j + 6) (order : t ≤ c) (l : t < w) where
   pub soon_main : Soon (c + 2) w
-  soon_main = record { here = omega (arith, p.outside, p.after, p.count, q.outside, q.after, q.count, few, order, l); return = λ i k. omega (arith, p.outside, p.after, p.count, q.outside, q.after, q.count, few, order, l, i, k) }
+  soon_main =
+      record {
+        here = omega (arith, p.outside, p.after, p.count, q.outside, q.after, q.count, few, order, l);
+        return = λ i k. omega (arith, p.outside, p.after, p.count, q.outside, q.after, q.count, few, order, l, i, k);
+      }
 
   pub soon_next : Soon (c + 1) w
-  soon_next = record { here = omega (arith, p.outside, p.after, p.count, q.outside, q.after, q.count, few, order, l); return = λ i k. omega (arith, p.outside, p.after, p.count, q.outside, q.after, q.count, few, order, l, i, k) }
+  soon_next =
+      record {
+        here = omega (arith, p.outside, p.after, p.count, q.outside, q.after, q.count, few, order, l);
+        return = λ i k. omega (arith, p.outside, p.after, p.count, q.outside, q.after, q.count, few, order, l, i, k);
+      }
 
 -- ---- the cycles in which a key is down
 

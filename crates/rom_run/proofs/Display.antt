@@ -56,7 +56,8 @@ module _ (e : Edition) (script : List Event) where
   pub woken_since : (b : Machine) (h : Since) (w : Woken e b h) → since_return b.cycle ≤ most_changing
   woken_since b h w = since b.cycle w.base w.woke w.late w.return w.since w.least (woken_few e b h w)
     where
-      since : (cycle base woke late : ℕ) → place woke ≡ interrupt_place + routine_cycles → cycle + base ≡ woke + late → base ≤ late → late ≤ base + most_changing → since_return cycle ≤ most_changing
+      since : (cycle base woke late : ℕ) → place woke ≡ interrupt_place + routine_cycles → cycle + base ≡ woke + late → base ≤ late
+          → late ≤ base + most_changing → since_return cycle ≤ most_changing
       since cycle base woke late r s l m = omega (arith, r, s, l, m)
 
   -- ---- a wait

@@ -205,10 +205,14 @@ goes_up = subst GoesUp keys_roms part_keys_goes_up
 -- ---- what a block and a place come to, of the image as one list for both editions
 
 abbrev BlockComes : (B : Type 0) → (B → Block) → (Edition → List ℕ) → Type 0
-BlockComes B of rom = (e : Edition) (l : B) (b : Machine) (h : Since) → FitsMachine b → Head (program_of e (rom e)) (of l) b h → Comes (program_of e (rom e)) (calm_pieces (program_of e (rom e))) (of l) b h
+BlockComes B of rom =
+    (e : Edition) (l : B) (b : Machine) (h : Since) → FitsMachine b → Head (program_of e (rom e)) (of l) b h
+    → Comes (program_of e (rom e)) (calm_pieces (program_of e (rom e))) (of l) b h
 
 abbrev PlaceHolds : (B : Type 0) → (B → Place) → (Edition → List ℕ) → Type 0
-PlaceHolds B of rom = (e : Edition) (l : B) (b : Machine) (h : Since) → FitsMachine b → At (program_of e (rom e)) (of l) b h → Holds (program_of e (rom e)) (calm_pieces (program_of e (rom e))) (of l) b h
+PlaceHolds B of rom =
+    (e : Edition) (l : B) (b : Machine) (h : Since) → FitsMachine b → At (program_of e (rom e)) (of l) b h
+    → Holds (program_of e (rom e)) (calm_pieces (program_of e (rom e))) (of l) b h
 
 pub fetch_block : BlockComes FetchBlock (λ l. OfFetch l) both
 fetch_block = subst (BlockComes FetchBlock (λ l. OfFetch l)) fetch_joined part_fetch_fetch_block
@@ -232,37 +236,49 @@ pub key_place : PlaceHolds KeyPlace (λ l. AtKey l) both
 key_place = subst (PlaceHolds KeyPlace (λ l. AtKey l)) keys_joined part_keys_key_place
 
 abbrev EarlyComes : (Edition → List ℕ) → Type 0
-EarlyComes rom = (e : Edition) (l : SpriteBlock) → IsEarly l → (b : Machine) (h : Since) → FitsMachine b → Head (program_of e (rom e)) (OfSprite l) b h → Comes (program_of e (rom e)) (calm_pieces (program_of e (rom e))) (OfSprite l) b h
+EarlyComes rom =
+    (e : Edition) (l : SpriteBlock) → IsEarly l → (b : Machine) (h : Since) → FitsMachine b → Head (program_of e (rom e)) (OfSprite l) b h
+    → Comes (program_of e (rom e)) (calm_pieces (program_of e (rom e))) (OfSprite l) b h
 
 pub sprite_block : EarlyComes both
 sprite_block = subst EarlyComes sprite_joined part_sprite_sprite_block
 
 abbrev AnyComes : (Edition → List ℕ) → Type 0
-AnyComes rom = (e : Edition) (l : SpriteBlock) (b : Machine) (h : Since) → FitsMachine b → Head (program_of e (rom e)) (OfSprite l) b h → Comes (program_of e (rom e)) (pieces (program_of e (rom e))) (OfSprite l) b h
+AnyComes rom =
+    (e : Edition) (l : SpriteBlock) (b : Machine) (h : Since) → FitsMachine b → Head (program_of e (rom e)) (OfSprite l) b h
+    → Comes (program_of e (rom e)) (pieces (program_of e (rom e))) (OfSprite l) b h
 
 pub sprite_any : AnyComes both
 sprite_any = subst AnyComes sprite_joined part_sprite_sprite_any
 
 abbrev AnyHolds : (Edition → List ℕ) → Type 0
-AnyHolds rom = (e : Edition) (l : SpritePlace) (b : Machine) (h : Since) → FitsMachine b → At (program_of e (rom e)) (AtSprite l) b h → Holds (program_of e (rom e)) (pieces (program_of e (rom e))) (AtSprite l) b h
+AnyHolds rom =
+    (e : Edition) (l : SpritePlace) (b : Machine) (h : Since) → FitsMachine b → At (program_of e (rom e)) (AtSprite l) b h
+    → Holds (program_of e (rom e)) (pieces (program_of e (rom e))) (AtSprite l) b h
 
 pub sprite_place : AnyHolds both
 sprite_place = subst AnyHolds sprite_joined part_sprite_sprite_place
 
 abbrev EarlyHolds : (Edition → List ℕ) → Type 0
-EarlyHolds rom = (e : Edition) (l : SpritePlace) (b : Machine) (h : Since) → FitsMachine b → b.regs.idle ≡ false → At (program_of e (rom e)) (AtSprite l) b h → Holds (program_of e (rom e)) (calm_pieces (program_of e (rom e))) (AtSprite l) b h
+EarlyHolds rom =
+    (e : Edition) (l : SpritePlace) (b : Machine) (h : Since) → FitsMachine b → b.regs.idle ≡ false → At (program_of e (rom e)) (AtSprite l) b h
+    → Holds (program_of e (rom e)) (calm_pieces (program_of e (rom e))) (AtSprite l) b h
 
 pub sprite_place_early : EarlyHolds both
 sprite_place_early = subst EarlyHolds sprite_joined part_sprite_sprite_place_early
 
 abbrev WaitedComes : (Edition → List ℕ) → Type 0
-WaitedComes rom = (e : Edition) (l : SpriteBlock) (w : IsWaited l) (b : Machine) (h : Since) → FitsMachine b → Head (program_of e (rom e)) (OfSprite l) b h → Comes (program_of e (rom e)) (waited_pieces (program_of e (rom e))) (l, w) b h
+WaitedComes rom =
+    (e : Edition) (l : SpriteBlock) (w : IsWaited l) (b : Machine) (h : Since) → FitsMachine b → Head (program_of e (rom e)) (OfSprite l) b h
+    → Comes (program_of e (rom e)) (waited_pieces (program_of e (rom e))) (l, w) b h
 
 pub sprite_waited : WaitedComes both
 sprite_waited = subst WaitedComes sprite_joined part_sprite_sprite_waited
 
 abbrev WakesThere : (Edition → List ℕ) → Type 0
-WakesThere rom = (e : Edition) (l : SpritePlace) (b : Machine) (h : Since) → FitsMachine b → b.regs.idle ≡ true → At (program_of e (rom e)) (AtSprite l) b h → (c : Machine) → Tick (code (program_of e (rom e))).low b c → Starts (waited_pieces (program_of e (rom e))) c (after_tick h)
+WakesThere rom =
+    (e : Edition) (l : SpritePlace) (b : Machine) (h : Since) → FitsMachine b → b.regs.idle ≡ true → At (program_of e (rom e)) (AtSprite l) b h
+    → (c : Machine) → Tick (code (program_of e (rom e))).low b c → Starts (waited_pieces (program_of e (rom e))) c (after_tick h)
 
 pub sprite_wakes : WakesThere both
 sprite_wakes = subst WakesThere sprite_joined part_sprite_sprite_wakes

@@ -86,7 +86,13 @@ module _ (e : Edition) (script : List Event) where
 
   -- the keys stay
   passes : (t n : ℕ) (h : Since) → t ≤ n → Known t h → ((u w : ℕ) → Pressing h.from h.state u w → Soon n w) → Known n h
-  passes t n h l k soon = record { counted = k.counted; sampled = λ f j i. let s = k.sampled f j i in record { cycle = s.cycle; made = s.made; before = omega (arith, s.before, l); there = s.there }; soon = soon }
+  passes t n h l k soon =
+      record {
+        counted = k.counted;
+        sampled = λ f j i. let s = k.sampled f j i in
+            record { cycle = s.cycle; made = s.made; before = omega (arith, s.before, l); there = s.there };
+        soon = soon;
+      }
 
   ticked : (t : ℕ) (h : Since) → Known t h → Known t (after_tick h)
   ticked t h k = record { counted = k.counted; sampled = k.sampled; soon = k.soon }
@@ -125,24 +131,46 @@ module _ (e : Edition) (script : List Event) where
           s = known.sampled q.free l.time (slice_get_within h.keys l.time l.at.held l.at.there)
 
           go : (s.cycle < w) ⊎ (w ≤ s.cycle) → Early w
-          go (inl early) = record { j = l.time; cycle = s.cycle; passed = s.made; few = omega (arith, l.late, six); order = omega (arith, s.before); early = early }
-          go (inr late) = absurd (clash (slice_get h.keys l.time) l.at.held (held (s.cycle + 1)) k l.at.there s.there l.at.is (q.pressed.up (s.cycle + 1) k (omega (arith, late)) (omega (arith, s.before, here)) fits))
+          go (inl early) =
+              record {
+                j = l.time;
+                cycle = s.cycle;
+                passed = s.made;
+                few = omega (arith, l.late, six);
+                order = omega (arith, s.before);
+                early = early;
+              }
+          go (inr late) =
+              absurd (clash (slice_get h.keys l.time) l.at.held (held (s.cycle + 1)) k l.at.there s.there l.at.is
+              (q.pressed.up (s.cycle + 1) k (omega (arith, late)) (omega (arith, s.before, here)) fits))
 
       -- the loop finds the key while it is down
       finds : Scans x b h → w ≤ b.cycle → ⊥
-      finds scans late = clash (slice_get h.keys up.time) (held (s.cycle + 1)) up.at.held q.pressed.key s.there up.at.there (q.pressed.down (s.cycle + 1) (omega (arith, from_u h.from u v.0 up.time s.cycle q.since s.made v.1 up.from)) (while_down h.from u v.0 up.time s.cycle q.since s.made v.1 up.before)) up.at.is
+      finds scans late =
+          clash (slice_get h.keys up.time) (held (s.cycle + 1)) up.at.held q.pressed.key s.there up.at.there
+          (q.pressed.down (s.cycle + 1) (omega (arith, from_u h.from u v.0 up.time s.cycle q.since s.made v.1 up.from))
+          (while_down h.from u v.0 up.time s.cycle q.since s.made v.1 up.before)) up.at.is
         where
           v : (v : ℕ) × Next u v
           v = next_main u
 
           up : Within (moves_to h.from v.0) 400 h.keys q.pressed.key false
-          up = none_stays e b h scans known.counted (moves_to h.from v.0) (all_made h.from u v.0 (length h.keys) b.cycle q.since (made q.free) v.1 (omega (arith, q.pressed.behind, late))) q.pressed.key q.pressed.fits
+          up =
+              none_stays e b h scans known.counted (moves_to h.from v.0)
+              (all_made h.from u v.0 (length h.keys) b.cycle q.since (made q.free) v.1 (omega (arith, q.pressed.behind, late))) q.pressed.key
+              q.pressed.fits
 
           s : Sample h.keys h.from b.cycle up.time
           s = known.sampled q.free up.time (slice_get_within h.keys up.time up.at.held up.at.there)
 
       early_by : KeyRow e b h → Early w
-      early_by (Comes l) = now_early (omega (arith, few_passed h.from (length h.keys) b.cycle u (made q.free) (omega (arith, l, known.counted)) q.since, q.pressed.behind))
+      early_by (Comes l) =
+          now_early (omega (
+            arith,
+            few_passed h.from (length h.keys) b.cycle u (made q.free) (omega
+                (arith, l, known.counted)) q.since,
+            q.pressed.behind,
+          ))
       early_by (Seeks scans) = go (cases_lt b.cycle w)
         where
           go : (b.cycle < w) ⊎ (w ≤ b.cycle) → Early w
@@ -152,7 +180,12 @@ module _ (e : Edition) (script : List Event) where
       early_by (Leaves r) = key_late 5 (r.start.regs.r.re.lo % 16) (omega arith) (omega arith) (goes_up e b h r).1
 
       soon_by : Soon (b.cycle + 2) w × Soon (b.cycle + 1) w
-      soon_by = let o = early_by (key_row e b h q.free row) in (soon_main h.from o.j o.cycle (length h.keys) b.cycle w o.passed (made q.free) o.few o.order o.early, soon_next h.from o.j o.cycle (length h.keys) b.cycle w o.passed (made q.free) o.few o.order o.early)
+      soon_by =
+          let o = early_by (key_row e b h q.free row) in (
+            soon_main h.from o.j o.cycle (length h.keys) b.cycle w o.passed (made q.free) o.few o.order o.early,
+            soon_next h.from o.j o.cycle (length
+                h.keys) b.cycle w o.passed (made q.free) o.few o.order o.early,
+          )
 
     -- a main move adds its set
     abbrev set : Keys
@@ -162,8 +195,12 @@ module _ (e : Edition) (script : List Event) where
     new_sample free j l = go (cases_eq j (length h.keys))
       where
         go : (j ≡ length h.keys) ⊎ (j ≡ length h.keys → ⊥) → Sample (h.keys ++ set ∷ []) h.from (b.cycle + 2) j
-        go (inl is) = subst (Sample (h.keys ++ set ∷ []) h.from (b.cycle + 2)) (sym is) (record { cycle = b.cycle; made = made free; before = omega arith; there = get_last h.keys set })
-        go (inr d) = let s = known.sampled free j (omega (arith, l, d, length_more h.keys (set ∷ []))) in record { cycle = s.cycle; made = s.made; before = omega (arith, s.before); there = get_append h.keys (set ∷ []) j _ s.there }
+        go (inl is) =
+            subst (Sample (h.keys ++ set ∷ []) h.from (b.cycle + 2)) (sym is)
+            (record { cycle = b.cycle; made = made free; before = omega arith; there = get_last h.keys set })
+        go (inr d) =
+            let s = known.sampled free j (omega (arith, l, d, length_more h.keys (set ∷ []))) in
+            record { cycle = s.cycle; made = s.made; before = omega (arith, s.before); there = get_append h.keys (set ∷ []) j _ s.there }
 
     main_known : Known (b.cycle + 2) (main_more (image e) held b h 2)
     main_known = record { counted = omega (arith, known.counted, length_more h.keys (set ∷ [])); sampled = new_sample; soon = λ u w q. (soon_by u w q).0 }
@@ -172,22 +209,32 @@ module _ (e : Edition) (script : List Event) where
     next_known = passes b.cycle (b.cycle + 1) h (omega arith) known (λ u w q. (soon_by u w q).1)
 
     row_known : b.on ≡ true → b.regs.ie ≡ true → Makes (image e) held b (next b) → Known (next b).cycle (carried (image e) held b h)
-    row_known on ie (Runs d i m) = subst₂ Known (sym (ap (λ (z : Machine). z.cycle) m ∙ ap (λ z. b.cycle + z) (row_cycles x (pieces x) (proved e) b h t.fits i row))) (sym (counts_main e script b h t row d i)) main_known
-    row_known on ie (Waits d i m) = subst₂ Known (sym (ap (λ (z : Machine). z.cycle) m)) (sym (carried_idle (image e) held b h (case_waits b on ie t.outside d i))) next_known
-    row_known on ie (Accepts i m) = subst₂ Known (sym (ap (λ (z : Machine). z.cycle) m)) (sym (carried_interrupt (image e) held b h (case_accepts b on ie (omega (arith, i))))) (ticked (b.cycle + 1) h next_known)
+    row_known on ie (Runs d i m) =
+        subst₂ Known (sym (ap (λ (z : Machine). z.cycle) m ∙ ap (λ z. b.cycle + z) (row_cycles x (pieces x) (proved e) b h t.fits i row)))
+        (sym (counts_main e script b h t row d i)) main_known
+    row_known on ie (Waits d i m) =
+        subst₂ Known (sym (ap (λ (z : Machine). z.cycle) m)) (sym (carried_idle (image e) held b h (case_waits b on ie t.outside d i))) next_known
+    row_known on ie (Accepts i m) =
+        subst₂ Known (sym (ap (λ (z : Machine). z.cycle) m)) (sym (carried_interrupt (image e) held b h (case_accepts b on ie (omega (arith, i)))))
+        (ticked (b.cycle + 1) h next_known)
 
   -- ---- every move
 
   pub known_on : (b : Machine) (h : Since) → Running e script b h → Known b.cycle h → Known (next b).cycle (carried (image e) held b h)
-  known_on b h (InMain (AtRow t row n time)) k = let ready = row_runs x (pieces x) (proved e) b h t.fits row in row_known b h t row time k ready.on ready.enabled (every_move (image e) held b ready.on ready.enabled t.outside)
+  known_on b h (InMain (AtRow t row n time)) k =
+      let ready = row_runs x (pieces x) (proved e) b h t.fits row in
+      row_known b h t row time k ready.on ready.enabled (every_move (image e) held b ready.on ready.enabled t.outside)
   known_on b h (InMain (AtEvent t p d late y)) k =
       let o = interrupted e script b h (b.cycle / 3668) (AtEvent t p d late y) (omega (arith, p)) in
-      subst₂ Known (sym (ap (λ (z : Machine). z.cycle) (accepted (image e) held b o.on o.enabled p))) (sym (carried_interrupt (image e) held b h (case_accepts b o.on o.enabled p)))
+      subst₂ Known (sym (ap (λ (z : Machine). z.cycle) (accepted (image e) held b o.on o.enabled p)))
+      (sym (carried_interrupt (image e) held b h (case_accepts b o.on o.enabled p)))
       (ticked (b.cycle + 1) h (passes b.cycle (b.cycle + 1) h (omega arith) k (λ u w q. soon_interrupt b.cycle w (k.soon u w q) p)))
   known_on b h (InRoutine s) k =
       let i = served_within e script b h s in
       subst (Known (next b).cycle) (sym (carried_disabled (image e) held b h (served_disabled e script b h s)))
-      (passes b.cycle (next b).cycle h (omega (arith, later-move (image e) held b)) k (λ u w q. soon_routine s.m b.cycle (next b).cycle w (k.soon u w q) i.0 (omega (arith, later-move (image e) held b, i.1)) (later-move (image e) held b) i.1))
+      (passes b.cycle (next b).cycle h (omega (arith, later-move (image e) held b)) k
+      (λ u w q. soon_routine s.m b.cycle (next b).cycle w (k.soon u w q) i.0 (omega (arith, later-move (image e) held b, i.1))
+      (later-move (image e) held b) i.1))
 
   -- ---- in time
 

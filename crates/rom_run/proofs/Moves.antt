@@ -86,10 +86,16 @@ module _ (e : Edition) (script : List Event) where
     interrupted_there : place c.cycle ≡ interrupt_place → (p a : ℕ) → is_at p a c ≡ false
     interrupted_there i p a = at_other c (ap is_instruction (case_accepts c k.on k.lies.enabled i)) p a
 
-  pub dispatch_there : (c : Machine) (s : Lang) → Dispatches x c s → IsOutside c.cycle → (place c.cycle ≡ interrupt_place → ⊥) → (is_dispatch x.interpreter c ≡ true) × (is_stop x.interpreter c ≡ false)
-  dispatch_there c s st out d = (at_instruction c (runs_there c s st.keeps out d) 4 x.interpreter.fetch ∙ dispatch_by x c s st, at_instruction c (runs_there c s st.keeps out d) 3 x.interpreter.halt ∙ other_pc _ 3 st.p refl)
+  pub dispatch_there : (c : Machine) (s : Lang) → Dispatches x c s → IsOutside c.cycle → (place c.cycle ≡ interrupt_place → ⊥)
+      → (is_dispatch x.interpreter c ≡ true) × (is_stop x.interpreter c ≡ false)
+  dispatch_there c s st out d = (
+    at_instruction c (runs_there c s st.keeps out d) 4 x.interpreter.fetch ∙ dispatch_by x c s st,
+    at_instruction c (runs_there c s st.keeps out
+        d) 3 x.interpreter.halt ∙ other_pc _ 3 st.p refl,
+  )
 
-  stop_there : (c : Machine) (h : Since) {stop : Stop} → Halts x c (now h) stop → IsOutside c.cycle → (place c.cycle ≡ interrupt_place → ⊥) → is_stop x.interpreter c ≡ true
+  stop_there : (c : Machine) (h : Since) {stop : Stop} → Halts x c (now h) stop → IsOutside c.cycle → (place c.cycle ≡ interrupt_place → ⊥)
+      → is_stop x.interpreter c ≡ true
   stop_there c h st out d = at_instruction c (runs_there c (now h) st.keeps out d) 3 x.interpreter.halt ∙ halt_by x c (now h) _ st
 
   -- ---- a dispatch point
@@ -104,11 +110,20 @@ module _ (e : Edition) (script : List Event) where
       never u k h = cc
 
   -- the record begins anew
-  pub renewed : (c : Machine) (s : Lang) → FitsMachine c → Dispatches x c s → IsMainPlace c.cycle → (place c.cycle ≡ interrupt_place → ⊥) → Goes c (dispatched c.cycle s)
+  pub renewed : (c : Machine) (s : Lang) → FitsMachine c → Dispatches x c s → IsMainPlace c.cycle → (place c.cycle ≡ interrupt_place → ⊥)
+      → Goes c (dispatched c.cycle s)
   renewed c s f d p i =
       InMain (
       AtRow
-      (record { fits = f; outside = p.outside; even = λ a. p.even; from = le_refl c.cycle; begun = i; covers = record { ticks = none_yet c.cycle; keys = embeds_none (keys_between script c.cycle c.cycle) } })
+      (record {
+        fits = f;
+        outside = p.outside;
+        even = λ a. p.even;
+        from = le_refl c.cycle;
+        begun = i;
+        covers =
+            record { ticks = none_yet c.cycle; keys = embeds_none (keys_between script c.cycle c.cycle) };
+      })
       (row_starts x (pieces x) (proved e) c (dispatched c.cycle s) f ((proved e).fetch c.cycle c s f d))
       (Renewed d.keeps.lies.awake i)
       (Before (omega arith) (calm_starts e c.cycle c s f d))
@@ -124,23 +139,31 @@ module _ (e : Edition) (script : List Event) where
         here = subst (Stepped x c h) (sym st.stands.keeps.lies.is) st
 
         go : (place c.cycle ≡ interrupt_place) ⊎ (place c.cycle ≡ interrupt_place → ⊥) → Comes h c
-        go (inl i) = Still (interrupted_there c s st.stands.keeps i 4 x.interpreter.fetch) (interrupted_there c s st.stands.keeps i 3 x.interpreter.halt) (InMain (AtEvent t i (Arrives s st) soon (shows i)))
-        go (inr d) = Arrived (dispatch_there c s st.stands t.outside d).0 (dispatch_there c s st.stands t.outside d).1 t.covers here (renewed c (state_at x c) t.fits here.stands p d)
+        go (inl i) =
+            Still (interrupted_there c s st.stands.keeps i 4 x.interpreter.fetch) (interrupted_there c s st.stands.keeps i 3 x.interpreter.halt)
+            (InMain (AtEvent t i (Arrives s st) soon (shows i)))
+        go (inr d) =
+            Arrived (dispatch_there c s st.stands t.outside d).0 (dispatch_there c s st.stands t.outside d).1 t.covers here
+            (renewed c (state_at x c) t.fits here.stands p d)
 
     ends : (stop : Stop) → Stopped x c h stop → Comes h c
     ends stop st = go (cases_eq (place c.cycle) interrupt_place)
       where
         go : (place c.cycle ≡ interrupt_place) ⊎ (place c.cycle ≡ interrupt_place → ⊥) → Comes h c
-        go (inl i) = Still (interrupted_there c (now h) st.halts.keeps i 4 x.interpreter.fetch) (interrupted_there c (now h) st.halts.keeps i 3 x.interpreter.halt) (InMain (AtEvent t i (Ends stop st) soon (shows i)))
+        go (inl i) =
+            Still (interrupted_there c (now h) st.halts.keeps i 4 x.interpreter.fetch)
+            (interrupted_there c (now h) st.halts.keeps i 3 x.interpreter.halt) (InMain (AtEvent t i (Ends stop st) soon (shows i)))
         go (inr d) = Halted (stop_there c h st.halts t.outside d) t.covers stop st
 
   -- ---- a main move
 
   -- it adds two cycles and its set of keys
-  pub counts_main : (b : Machine) (h : Since) → Interval e script b h → Row x (pieces x) b h → (place b.cycle ≡ interrupt_place → ⊥) → b.regs.idle ≡ false → carried (image e) held b h ≡ main_more (image e) held b h 2
+  pub counts_main : (b : Machine) (h : Since) → Interval e script b h → Row x (pieces x) b h → (place b.cycle ≡ interrupt_place → ⊥)
+      → b.regs.idle ≡ false → carried (image e) held b h ≡ main_more (image e) held b h 2
   counts_main b h t row i awake =
       let ready = row_runs x (pieces x) (proved e) b h t.fits row in
-      carried_main (image e) held b h (case_runs b ready.on ready.enabled t.outside i awake) ready.enabled (row_cycles x (pieces x) (proved e) b h t.fits awake row)
+      carried_main (image e) held b h (case_runs b ready.on ready.enabled t.outside i awake) ready.enabled
+      (row_cycles x (pieces x) (proved e) b h t.fits awake row)
 
   module _ (b : Machine) (h : Since) (t : Interval e script b h) (row : Row x (pieces x) b h) (i : place b.cycle ≡ interrupt_place → ⊥) (awake : b.regs.idle ≡ false) (time : Timed e b h) where
     u : Input
@@ -152,16 +175,24 @@ module _ (e : Edition) (script : List Event) where
     h' : Since
     h' = after_main u h
 
-    main_is : move x.interpreter.rom held b ≡ record (main_move x.interpreter.rom (efx_at (b.cycle + 1) true) (held (b.cycle + 1)) b) { cycle = b.cycle + cycles_of (opcode_of x.interpreter.rom b) } → move x.interpreter.rom held b ≡ c
+    main_is : move x.interpreter.rom held b
+        ≡ record (main_move x.interpreter.rom (efx_at (b.cycle + 1) true) (held (b.cycle + 1)) b) {
+          cycle = b.cycle
+              + cycles_of (opcode_of x.interpreter.rom b);
+        } → move x.interpreter.rom held b ≡ c
     unfolding c u
-    main_is m = m ∙ ap (λ n. record (main_move x.interpreter.rom (efx_at (b.cycle + 1) true) (held (b.cycle + 1)) b) { cycle = b.cycle + n }) (row_cycles x (pieces x) (proved e) b h t.fits awake row)
+    main_is m =
+        m ∙ ap (λ n. record (main_move x.interpreter.rom (efx_at (b.cycle + 1) true) (held (b.cycle + 1)) b) { cycle = b.cycle + n })
+        (row_cycles x (pieces x) (proved e) b h t.fits awake row)
 
     there : IsMainPlace (b.cycle + 2)
     there = keeps_place b.cycle (record { outside = t.outside; even = t.even awake }) i
 
     fits : FitsMachine c
     unfolding c u
-    fits = main-fits x.interpreter.rom (proved e).rom u.efx u.held (record b { cycle = b.cycle + 2 }) (record { regs = t.fits.regs; ram = t.fits.ram; size = t.fits.size; key = t.fits.key })
+    fits =
+        main-fits x.interpreter.rom (proved e).rom u.efx u.held (record b { cycle = b.cycle + 2 })
+        (record { regs = t.fits.regs; ram = t.fits.ram; size = t.fits.size; key = t.fits.key })
 
     fits_there : FitsMachine (record b { cycle = b.cycle + 2 })
     fits_there = record { regs = t.fits.regs; ram = t.fits.ram; size = t.fits.size; key = t.fits.key }
@@ -183,7 +214,19 @@ module _ (e : Edition) (script : List Event) where
     -- behind a wait it stays in the row of the latest wait
     woken_on : is_event (code x) c ≡ false → Woken e b h → Woken e c h'
     unfolding c u h'
-    woken_on calm w = record { woke = w.woke; return = w.return; base = w.base; waits = w.waits; late = w.late + 2; since = omega (arith, w.since); least = omega (arith, w.least); row = calm_row e c (after_main u (record h { spent = w.late })) calm (waited_moves e u (record b { cycle = b.cycle + 2 }) (record h { spent = w.late }) (waited_cycle e b (record h { spent = w.late }) (b.cycle + 2) w.row)) }
+    woken_on calm w =
+        record {
+          woke = w.woke;
+          return = w.return;
+          base = w.base;
+          waits = w.waits;
+          late = w.late + 2;
+          since = omega (arith, w.since);
+          least = omega (arith, w.least);
+          row = calm_row e c (after_main u (record h { spent = w.late })) calm
+              (waited_moves e u (record b { cycle = b.cycle + 2 }) (record h { spent = w.late })
+              (waited_cycle e b (record h { spent = w.late }) (b.cycle + 2) w.row));
+        }
 
     -- and the board isn't interrupted
     apart : Woken e b h → place c.cycle ≡ interrupt_place → Showing e c h'
@@ -196,7 +239,9 @@ module _ (e : Edition) (script : List Event) where
 
     soon : DueInTime e c h'
     unfolding h'
-    soon = let s = row_in_time e script b h t row time in record { waited = s.waited; spends = spends s.waited s.spends; suffices = λ bound k. fewer bound _ _ (omega arith) (s.suffices bound k) }
+    soon =
+        let s = row_in_time e script b h t row time in
+        record { waited = s.waited; spends = spends s.waited s.spends; suffices = λ bound k. fewer bound _ _ (omega arith) (s.suffices bound k) }
 
     carried_is : carried x.interpreter.rom held b h ≡ h'
     unfolding h' u
@@ -211,7 +256,11 @@ module _ (e : Edition) (script : List Event) where
           even = λ a. there.even;
           from = omega (arith, t.from);
           begun = t.begun;
-          covers = record { ticks = t.covers.ticks ∙ sym (ticks_main h.from b.cycle (t.even awake) i); keys = embeds_more script h.from b.cycle t.from h.keys t.covers.keys };
+          covers =
+              record {
+                ticks = t.covers.ticks ∙ sym (ticks_main h.from b.cycle (t.even awake) i);
+                keys = embeds_more script h.from b.cycle t.from h.keys t.covers.keys;
+              };
         }
 
     main_place : IsMainPlace c.cycle
@@ -236,7 +285,11 @@ module _ (e : Edition) (script : List Event) where
     main_run (Waiting n s l idle r) = absurd (sleeps (sym idle ∙ awake))
     main_run (Behind n s l r w) = run_behind n s l w (behind r)
 
-    main_comes : move x.interpreter.rom held b ≡ record (main_move x.interpreter.rom (efx_at (b.cycle + 1) true) (held (b.cycle + 1)) b) { cycle = b.cycle + cycles_of (opcode_of x.interpreter.rom b) } → Comes (carried x.interpreter.rom held b h) (move x.interpreter.rom held b)
+    main_comes : move x.interpreter.rom held b
+        ≡ record (main_move x.interpreter.rom (efx_at (b.cycle + 1) true) (held (b.cycle + 1)) b) {
+          cycle = b.cycle
+              + cycles_of (opcode_of x.interpreter.rom b);
+        } → Comes (carried x.interpreter.rom held b h) (move x.interpreter.rom held b)
     main_comes m = subst₂ Comes (sym carried_is) (sym (main_is m)) (main_run time)
 
   -- ---- an idle cycle
@@ -246,7 +299,8 @@ module _ (e : Edition) (script : List Event) where
   uncounted b (Renewed a d) (inl i) = absurd (sleeps (sym i ∙ a))
   uncounted b (Renewed a d) (inr p) = absurd (d p)
 
-  idle_interval : (b : Machine) (h : Since) → Interval e script b h → (place b.cycle ≡ interrupt_place → ⊥) → b.regs.idle ≡ true → Interval e script (timed (b.cycle + 1) b) h
+  idle_interval : (b : Machine) (h : Since) → Interval e script b h → (place b.cycle ≡ interrupt_place → ⊥) → b.regs.idle ≡ true
+      → Interval e script (timed (b.cycle + 1) b) h
   idle_interval b h t i idle =
       record {
         fits = record { regs = t.fits.regs; ram = t.fits.ram; size = t.fits.size; key = t.fits.key };
@@ -254,16 +308,27 @@ module _ (e : Edition) (script : List Event) where
         even = λ a. absurd (sleeps (sym idle ∙ a));
         from = omega (arith, t.from);
         begun = t.begun;
-        covers = record { ticks = t.covers.ticks ∙ sym (ticks_wait h.from b.cycle i); keys = embeds_longer script h.from b.cycle (b.cycle + 1) h.keys (omega arith) t.covers.keys };
+        covers =
+            record {
+              ticks = t.covers.ticks ∙ sym (ticks_wait h.from b.cycle i);
+              keys = embeds_longer script h.from b.cycle (b.cycle + 1) h.keys (omega arith) t.covers.keys;
+            };
       }
 
-  idle_timed : (b : Machine) (h : Since) → Interval e script b h → (place b.cycle ≡ interrupt_place → ⊥) → b.regs.idle ≡ true → Timed e b h → Timed e (timed (b.cycle + 1) b) h
-  idle_timed b h t i idle (Before s r) = Waiting 1 (omega (arith, s)) (omega (arith, waits_more b.cycle t.outside i)) idle (calm_idle e b h (b.cycle + 1) idle r)
-  idle_timed b h t i idle (Waiting n s l _ r) = Waiting (n + 1) (omega (arith, s)) (omega (arith, l, waits_more b.cycle t.outside i)) idle (calm_idle e b h (b.cycle + 1) idle r)
+  idle_timed : (b : Machine) (h : Since) → Interval e script b h → (place b.cycle ≡ interrupt_place → ⊥) → b.regs.idle ≡ true → Timed e b h
+      → Timed e (timed (b.cycle + 1) b) h
+  idle_timed b h t i idle (Before s r) =
+      Waiting 1 (omega (arith, s)) (omega (arith, waits_more b.cycle t.outside i)) idle (calm_idle e b h (b.cycle + 1) idle r)
+  idle_timed b h t i idle (Waiting n s l _ r) =
+      Waiting (n + 1) (omega (arith, s)) (omega (arith, l, waits_more b.cycle t.outside i)) idle (calm_idle e b h (b.cycle + 1) idle r)
   idle_timed b h t i idle (Behind n s l r w) = absurd (sleeps (sym idle ∙ waited_awake e b h r))
 
-  idle_comes : (b : Machine) (h : Since) → Interval e script b h → Row x (pieces x) b h → Counted e b → Timed e b h → (place b.cycle ≡ interrupt_place → ⊥) → b.regs.idle ≡ true → Comes h (timed (b.cycle + 1) b)
-  idle_comes b h t row n time i idle = let calm = uncounted b n (inl idle) in Still (calm_points (timed (b.cycle + 1) b) x calm).0 (calm_points (timed (b.cycle + 1) b) x calm).1 (InMain (AtRow (idle_interval b h t i idle) (idle_cycle e b h (b.cycle + 1) idle row) (NoEvent calm) (idle_timed b h t i idle time)))
+  idle_comes : (b : Machine) (h : Since) → Interval e script b h → Row x (pieces x) b h → Counted e b → Timed e b h
+      → (place b.cycle ≡ interrupt_place → ⊥) → b.regs.idle ≡ true → Comes h (timed (b.cycle + 1) b)
+  idle_comes b h t row n time i idle =
+      let calm = uncounted b n (inl idle) in
+      Still (calm_points (timed (b.cycle + 1) b) x calm).0 (calm_points (timed (b.cycle + 1) b) x calm).1
+      (InMain (AtRow (idle_interval b h t i idle) (idle_cycle e b h (b.cycle + 1) idle row) (NoEvent calm) (idle_timed b h t i idle time)))
 
   -- ---- the interrupt routine
 
@@ -292,7 +357,9 @@ module _ (e : Edition) (script : List Event) where
           begun = t.begun;
           covers =
               record {
-                ticks = ap suc (t.covers.ticks ∙ ap (ticks_between h.from) cycle) ∙ sym (ticks_served h.from m (omega (arith, t.from, cycle, t.begun))) ∙ ap (ticks_between h.from) (sym at);
+                ticks =
+                    ap suc (t.covers.ticks ∙ ap (ticks_between h.from) cycle) ∙ sym (ticks_served h.from m (omega (arith, t.from, cycle, t.begun)))
+                    ∙ ap (ticks_between h.from) (sym at);
                 keys = embeds_longer script h.from b.cycle c.cycle h.keys (omega (arith, cycle, at)) t.covers.keys;
               };
         }
@@ -334,7 +401,8 @@ module _ (e : Edition) (script : List Event) where
     returned : Outside e script b h → Comes (after_tick h) c
     returned (AtRow t row n time) =
         let calm = ap (is_event (code x)) k.is ∙ uncounted b n (inr in_place) in
-        Still (calm_points c x calm).0 (calm_points c x calm).1 (InMain (AtRow (tick_interval t) (row_ticks x (pieces x) (proved e) b c h t.fits k row) (NoEvent calm) (tick_timed t row time)))
+        Still (calm_points c x calm).0 (calm_points c x calm).1
+        (InMain (AtRow (tick_interval t) (row_ticks x (pieces x) (proved e) b c h t.fits k row) (NoEvent calm) (tick_timed t row time)))
     returned (AtEvent t _ (Arrives s st) late y) =
         arrives c (after_tick h) (tick_interval t) p (tick_soon late) behind_it (ticks 1 s) (
         record {
@@ -344,7 +412,8 @@ module _ (e : Edition) (script : List Event) where
         }
         )
     returned (AtEvent t _ (Ends stop st) late y) =
-        ends c (after_tick h) (tick_interval t) p (tick_soon late) behind_it stop (record { fits = st.fits; halts = halts_after x 1 b c (ticked st.halts.keeps.lies.awake) t.fits (now h) stop st.halts })
+        ends c (after_tick h) (tick_interval t) p (tick_soon late) behind_it stop
+        (record { fits = st.fits; halts = halts_after x 1 b c (ticked st.halts.keeps.lies.awake) t.fits (now h) stop st.halts })
 
   module _ (b : Machine) (h : Since) (m : ℕ) (o : Outside e script b h) (cycle : b.cycle ≡ interrupt_at m) where
     tick : IsTick e (image e) m b held
@@ -354,7 +423,19 @@ module _ (e : Edition) (script : List Event) where
     serves : (k : ℕ) → suc k < routine_moves → Comes (after_tick h) (after_moves (image e) held b (suc k))
     serves k l =
         let quiet = by_r1 (after_moves (image e) held b (suc k)) (tick.inside (suc k) (omega arith) l).by_r1 in
-        Still quiet.0 quiet.1 (InRoutine (record { start = b; before = h; counted = refl; outside = o; m = m; cycle = cycle; k = suc k; some = omega arith; inside = l; is = refl }))
+        Still quiet.0 quiet.1 (InRoutine
+        (record {
+          start = b;
+          before = h;
+          counted = refl;
+          outside = o;
+          m = m;
+          cycle = cycle;
+          k = suc k;
+          some = omega arith;
+          inside = l;
+          is = refl;
+        }))
 
     returns : Comes (after_tick h) (after_moves (image e) held b routine_moves)
     returns = returned b h m cycle (after_moves (image e) held b routine_moves) tick.tick tick.cycle tick.place o
@@ -372,18 +453,28 @@ module _ (e : Edition) (script : List Event) where
   accepts : (b : Machine) (h : Since) → b.on ≡ true → b.regs.ie ≡ true → b.cycle ≡ interrupt_at (b.cycle / 3668) → carried (image e) held b h ≡ after_tick h
   accepts b h on ie i = carried_interrupt (image e) held b h (case_accepts b on ie (omega (arith, i)))
 
-  row_comes : (b : Machine) (h : Since) (t : Interval e script b h) (row : Row x (pieces x) b h) (n : Counted e b) (time : Timed e b h) → b.on ≡ true → b.regs.ie ≡ true → Makes (image e) held b (move (image e) held b) → Comes (carried (image e) held b h) (move (image e) held b)
+  row_comes : (b : Machine) (h : Since) (t : Interval e script b h) (row : Row x (pieces x) b h) (n : Counted e b) (time : Timed e b h) → b.on ≡ true
+      → b.regs.ie ≡ true → Makes (image e) held b (move (image e) held b) → Comes (carried (image e) held b h) (move (image e) held b)
   row_comes b h t row n time on ie (Runs d i m) = main_comes b h t row d i time m
-  row_comes b h t row n time on ie (Waits d i m) = subst₂ Comes (sym (carried_idle (image e) held b h (case_waits b on ie t.outside d i))) (sym m) (idle_comes b h t row n time d i)
-  row_comes b h t row n time on ie (Accepts i m) = subst (λ z. Comes z (move (image e) held b)) (sym (accepts b h on ie i)) (routine_comes b h _ (AtRow t row n time) i 0 (omega arith))
+  row_comes b h t row n time on ie (Waits d i m) =
+      subst₂ Comes (sym (carried_idle (image e) held b h (case_waits b on ie t.outside d i))) (sym m) (idle_comes b h t row n time d i)
+  row_comes b h t row n time on ie (Accepts i m) =
+      subst (λ z. Comes z (move (image e) held b)) (sym (accepts b h on ie i)) (routine_comes b h _ (AtRow t row n time) i 0 (omega arith))
 
   pub board_moves : (b : Machine) (h : Since) → Goes b h → Comes (carried (image e) held b h) (move (image e) held b)
-  board_moves b h (InMain (AtRow t row n time)) = let ready = row_runs x (pieces x) (proved e) b h t.fits row in row_comes b h t row n time ready.on ready.enabled (every_move (image e) held b ready.on ready.enabled t.outside)
-  board_moves b h (InMain (AtEvent t p d late y)) = let o = interrupted b h (b.cycle / 3668) (AtEvent t p d late y) at in subst (λ z. Comes z (move (image e) held b)) (sym (accepts b h o.on o.enabled at)) (routine_comes b h (b.cycle / 3668) (AtEvent t p d late y) at 0 (omega arith))
+  board_moves b h (InMain (AtRow t row n time)) =
+      let ready = row_runs x (pieces x) (proved e) b h t.fits row in
+      row_comes b h t row n time ready.on ready.enabled (every_move (image e) held b ready.on ready.enabled t.outside)
+  board_moves b h (InMain (AtEvent t p d late y)) =
+      let o = interrupted b h (b.cycle / 3668) (AtEvent t p d late y) at in
+      subst (λ z. Comes z (move (image e) held b)) (sym (accepts b h o.on o.enabled at))
+      (routine_comes b h (b.cycle / 3668) (AtEvent t p d late y) at 0 (omega arith))
     where
       at : b.cycle ≡ interrupt_at (b.cycle / 3668)
       at = omega (arith, p)
-  board_moves b h (InRoutine s) = subst₂ Comes (sym s.counted ∙ sym (carried_disabled (image e) held b h disabled)) (ap (move (image e) held) (sym s.is)) (routine_comes s.start s.before s.m s.outside s.cycle s.k s.inside)
+  board_moves b h (InRoutine s) =
+      subst₂ Comes (sym s.counted ∙ sym (carried_disabled (image e) held b h disabled)) (ap (move (image e) held) (sym s.is))
+      (routine_comes s.start s.before s.m s.outside s.cycle s.k s.inside)
     where
       disabled : b.regs.ie ≡ false
       disabled = ap (λ (z : Machine). z.regs.ie) s.is ∙ ((tick s.start s.before s.m s.outside s.cycle).inside s.k s.some s.inside).disabled

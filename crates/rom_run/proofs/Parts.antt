@@ -38,5 +38,10 @@ boot_rows e script game b o = subst (λ z. FromBoot e script game (move (image e
         (subst (λ z. Running e script c (dispatched c.cycle z)) to.first_is (starts_running e script c to.starts))
 
     go : (suc o.k ≡ boot_moves) ⊎ (suc o.k ≡ boot_moves → ⊥) → FromBoot e script game (after_moves (image e) (held_at script) (start game) (suc o.k))
-    go (inl last) = subst (λ n. FromBoot e script game (after_moves (image e) (held_at script) (start game) n)) (sym last) (begins (after_moves (image e) (held_at script) (start game) boot_moves) (booted e game o.room o.bytes script) boots.stands)
-    go (inr d) = let more : suc o.k < boot_moves = omega (arith, o.inside, d) in Boots (boots.quiet (suc o.k) more).0 (boots.quiet (suc o.k) more).1 (record { room = o.room; bytes = o.bytes; k = suc o.k; inside = more; is = refl })
+    go (inl last) =
+        subst (λ n. FromBoot e script game (after_moves (image e) (held_at script) (start game) n)) (sym last)
+        (begins (after_moves (image e) (held_at script) (start game) boot_moves) (booted e game o.room o.bytes script) boots.stands)
+    go (inr d) =
+        let more : suc o.k < boot_moves = omega (arith, o.inside, d) in
+        Boots (boots.quiet (suc o.k) more).0 (boots.quiet (suc o.k) more).1
+        (record { room = o.room; bytes = o.bytes; k = suc o.k; inside = more; is = refl })

@@ -48,13 +48,16 @@ module _ (e : Edition) (script : List Event) where
 
   -- ---- the cycle of an interrupt isn't passed over
 
-  main_before : (b : Machine) (h : Since) (m : ℕ) (row : Row x (pieces x) b h) → (b.regs.idle ≡ false → b.cycle % 2 ≡ 0) → FitsMachine b → Makes (image e) held b (next b) → b.cycle < interrupt_at m → (next b).cycle ≤ interrupt_at m
+  main_before : (b : Machine) (h : Since) (m : ℕ) (row : Row x (pieces x) b h) → (b.regs.idle ≡ false → b.cycle % 2 ≡ 0) → FitsMachine b
+      → Makes (image e) held b (next b) → b.cycle < interrupt_at m → (next b).cycle ≤ interrupt_at m
   main_before b h m row even f (Runs d i k) l = omega (arith, ap (λ (z : Machine). z.cycle) k, row_cycles x (pieces x) (proved e) b h f i row, even i, l)
   main_before b h m row even f (Waits d i k) l = omega (arith, ap (λ (z : Machine). z.cycle) k, l)
   main_before b h m row even f (Accepts i k) l = omega (arith, ap (λ (z : Machine). z.cycle) k, l)
 
   pub stops_before : (b : Machine) (h : Since) (m : ℕ) → Running e script b h → b.cycle < interrupt_at m → (next b).cycle ≤ interrupt_at m
-  stops_before b h m (InMain (AtRow t row n time)) l = let ready = row_runs x (pieces x) (proved e) b h t.fits row in main_before b h m row t.even t.fits (every_move (image e) held b ready.on ready.enabled t.outside) l
+  stops_before b h m (InMain (AtRow t row n time)) l =
+      let ready = row_runs x (pieces x) (proved e) b h t.fits row in
+      main_before b h m row t.even t.fits (every_move (image e) held b ready.on ready.enabled t.outside) l
   stops_before b h m (InMain (AtEvent t p d late y)) l = omega (arith, few_later (image e) held b, p, l)
   stops_before b h m (InRoutine s) l = let i = served_within e script b h s in omega (arith, i.0, i.1, l)
 
@@ -92,10 +95,12 @@ module _ (e : Edition) (script : List Event) where
       pub is : b ≡ after i
       pub came : (m : ℕ) → interrupt_at m < b.cycle → b.cycle < window_end m → Interrupted m h
 
-    came_next : (b : Machine) (h : Since) → Running e script b h → (r : InRun b h) (m : ℕ) → interrupt_at m < (next b).cycle → (next b).cycle < window_end m → Interrupted m (carried (image e) held b h)
+    came_next : (b : Machine) (h : Since) → Running e script b h → (r : InRun b h) (m : ℕ) → interrupt_at m < (next b).cycle
+        → (next b).cycle < window_end m → Interrupted m (carried (image e) held b h)
     came_next b h running r m l u = go (cases_lt b.cycle (interrupt_at m)) (cases_eq b.cycle (interrupt_at m))
       where
-        go : (b.cycle < interrupt_at m) ⊎ (interrupt_at m ≤ b.cycle) → (b.cycle ≡ interrupt_at m) ⊎ (b.cycle ≡ interrupt_at m → ⊥) → Interrupted m (carried (image e) held b h)
+        go : (b.cycle < interrupt_at m) ⊎ (interrupt_at m ≤ b.cycle) → (b.cycle ≡ interrupt_at m) ⊎ (b.cycle ≡ interrupt_at m → ⊥)
+            → Interrupted m (carried (image e) held b h)
         go (inl k) d = absurd (omega (arith, stops_before b h m running k, l))
         go (inr k) (inl d) =
             record {
@@ -110,7 +115,8 @@ module _ (e : Edition) (script : List Event) where
             record { i = o.i; before = o.before; outside = o.outside; cycle = o.cycle; same = carried_state (image e) held b h ∙ o.same }
 
     -- at a dispatch point no window is scanned
-    none_came : (c : Machine) (t : ℕ) (m : ℕ) → Running e script c (dispatched t (state_at x c)) → interrupt_at m < c.cycle → c.cycle < window_end m → Interrupted m (dispatched t (state_at x c))
+    none_came : (c : Machine) (t : ℕ) (m : ℕ) → Running e script c (dispatched t (state_at x c)) → interrupt_at m < c.cycle → c.cycle < window_end m
+        → Interrupted m (dispatched t (state_at x c))
     none_came c t m (InMain (AtRow i row n time)) l u = absurd (outside_window c.cycle m i.outside l u)
       where
         outside_window : (cycle m : ℕ) → (place cycle ≤ interrupt_place) ⊎ (208 * 14 ≤ place cycle) → interrupt_at m < cycle → cycle < window_end m → ⊥
@@ -132,14 +138,17 @@ module _ (e : Edition) (script : List Event) where
 
     -- ---- the picture
 
-    pub shows : (limit : ℕ) (b : Machine) (h : Since) (m : ℕ) → InRun b h → b.cycle < window_end m → window_end m ≤ (next b).cycle → (next b).cycle ≤ limit → Shown x (run_to (image e) held first limit) m h.state
+    pub shows : (limit : ℕ) (b : Machine) (h : Since) (m : ℕ) → InRun b h → b.cycle < window_end m → window_end m ≤ (next b).cycle
+        → (next b).cycle ≤ limit → Shown x (run_to (image e) held first limit) m h.state
     shows limit b h m r u n l =
         record {
           shown = scanned.shown;
           shows = record {
             lines = scanned.shows.lines;
             bytes = scanned.shows.bytes;
-            dots = λ k px line get inside. scanned.shows.dots k px line get inside ∙ seen px (k / lines_of e) inside (high k line get) ∙ ap (λ (z : Lang). z.screen px (k / lines_of e)) (sym o.same);
+            dots =
+                λ k px line get inside. scanned.shows.dots k px line get inside ∙ seen px (k / lines_of e) inside (high k line get)
+                ∙ ap (λ (z : Lang). z.screen px (k / lines_of e)) (sym o.same);
           };
         }
       where
@@ -157,4 +166,5 @@ module _ (e : Edition) (script : List Event) where
         rows Tall k h = omega (arith, h)
 
         high : (k : ℕ) (line : List ℕ) → slice_get (picture_of (image e) (run_to (image e) held first limit) m) k ≡ Some line → k / lines_of e < rows_of e
-        high k line get = rows e k (omega (arith, slice_get_within (picture_of (image e) (run_to (image e) held first limit) m) k line get, scanned.shows.lines))
+        high k line get =
+            rows e k (omega (arith, slice_get_within (picture_of (image e) (run_to (image e) held first limit) m) k line get, scanned.shows.lines))

@@ -20,7 +20,8 @@ use Rattle.rom_run.specs.Laws.{AnySchedule}
 
 -- ---- the blocks and places before a wait
 
-pub calm_block : (e : Edition) (l : Block) → IsBefore l → (b : Machine) (h : Since) → FitsMachine b → Head (quick e) l b h → Comes (quick e) (calm_pieces (quick e)) l b h
+pub calm_block : (e : Edition) (l : Block) → IsBefore l → (b : Machine) (h : Since) → FitsMachine b → Head (quick e) l b h
+    → Comes (quick e) (calm_pieces (quick e)) l b h
 calm_block e (OfFetch l) w = fetch_block e l
 calm_block e (OfArith l) w = arith_block e l
 calm_block e (OfMemory l) w = memory_block e l
@@ -29,7 +30,8 @@ calm_block e (OfTimer l) w = timer_block e l
 calm_block e (OfKey l) w = key_block e l
 
 -- where main code runs
-pub calm_place : (e : Edition) (l : Place) (b : Machine) (h : Since) → FitsMachine b → b.regs.idle ≡ false → At (quick e) l b h → Holds (quick e) (calm_pieces (quick e)) l b h
+pub calm_place : (e : Edition) (l : Place) (b : Machine) (h : Since) → FitsMachine b → b.regs.idle ≡ false → At (quick e) l b h
+    → Holds (quick e) (calm_pieces (quick e)) l b h
 calm_place e (AtTimer l) b h f i = timer_place e l b h f
 calm_place e (AtKey l) b h f i = key_place e l b h f
 calm_place e (AtSprite l) b h f i = sprite_place_early e l b h f i

@@ -226,8 +226,13 @@ module _ (e : Edition) {l : Block} {b : Machine} {h : Since} (r : InBlock (quick
   comes = block e l r.start r.since r.fits r.head
 
   -- R2 is as it was j instructions into the block, and b is at most 21 later
-  room_from : (j : ℕ) → (quicks (code (quick e)) j r.start).regs.r.r2 ≡ r.start.regs.r.r2 → (z : Lang) → Holding (quick e) (places r.start) z → moves l ≤ 32 → j ≤ r.k → r.k < j + 22 → Room e b
-  room_from j same z o few from near = record { low = omega (arith, is, at, n.below, has_room o, from, near); high = omega (arith, is, at, n.above, in_stack o, from, near, stack_top_is e, variables_is e) }
+  room_from : (j : ℕ) → (quicks (code (quick e)) j r.start).regs.r.r2 ≡ r.start.regs.r.r2 → (z : Lang) → Holding (quick e) (places r.start) z
+      → moves l ≤ 32 → j ≤ r.k → r.k < j + 22 → Room e b
+  room_from j same z o few from near =
+      record {
+        low = omega (arith, is, at, n.below, has_room o, from, near);
+        high = omega (arith, is, at, n.above, in_stack o, from, near, stack_top_is e, variables_is e);
+      }
     where
       at : value (quicks (code (quick e)) j r.start).regs.r.r2 ≡ value r.start.regs.r.r2
       at = ap value same
@@ -236,7 +241,10 @@ module _ (e : Edition) {l : Block} {b : Machine} {h : Since} (r : InBlock (quick
       is = ap value (block_r2 (quick e) (pieces (quick e)) (sound e refl (both_fits e)) r comes)
 
       n : Near (r.k - j) (value (quicks (code (quick e)) j r.start).regs.r.r2) (value (quicks (code (quick e)) r.k r.start).regs.r.r2)
-      n = near_quicks (code (quick e)) None (moves l) r.start (good (quick e) (pieces (quick e)) (sound e refl (both_fits e)) r comes) j (omega (arith, at, has_room o, few, memory_end_is e, page_low e)) (omega (arith, at, in_stack o, few, stack_top_is e, page_fits e)) r.k from r.inside
+      n =
+          near_quicks (code (quick e)) None (moves l) r.start (good (quick e) (pieces (quick e)) (sound e refl (both_fits e)) r comes) j
+          (omega (arith, at, has_room o, few, memory_end_is e, page_low e))
+          (omega (arith, at, in_stack o, few, stack_top_is e, page_fits e)) r.k from r.inside
 
 -- the one long block leaves R2 for its first 16 instructions
 inside_r2 : (e : Edition) (b : Machine) → (quicks (code (quick e)) 16 (on_4 (word_of at_inside) b)).regs.r.r2 ≡ b.regs.r.r2

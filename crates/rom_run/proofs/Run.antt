@@ -76,7 +76,10 @@ module _ (e : Edition) (game : List ℕ) (small : length game ≤ memory_size e)
   boot = every_boot e (held_at script) game small
 
   pub booted : BootsTo e game (state_after (vip e) script (start game) boot_moves)
-  booted = boots_to e game (state_after (vip e) script (start game) boot_moves) (moves_fit (image e) (proved e).rom (held_at script) (start game) (start_fits game (omega (arith, small, room e)) bytes) boot_moves) boot.cycle boot.stands
+  booted =
+      boots_to e game (state_after (vip e) script (start game) boot_moves)
+      (moves_fit (image e) (proved e).rom (held_at script) (start game) (start_fits game (omega (arith, small, room e)) bytes) boot_moves)
+      boot.cycle boot.stands
 
 pub boot_starts : BootStarts
 boot_starts e game small bytes script = booted e game small bytes script
@@ -98,11 +101,18 @@ module _ (e : Edition) (script : List Event) (first : Machine) where
     pub known : Known e script b.cycle h
     pub in_run : InRun e script first b h
 
-  runs_on : (b : Machine) (h : Since) → RunsFrom b h → Moves x script (Running e script) (carried (image e) held b h) (next b) → Moves x script RunsFrom (carried (image e) held b h) (next b)
-  runs_on b h r (Still d z k) = Still d z (record { running = k; known = known_on e script b h r.running r.known; in_run = run_on e script first b h r.running r.in_run })
+  runs_on : (b : Machine) (h : Since) → RunsFrom b h → Moves x script (Running e script) (carried (image e) held b h) (next b)
+      → Moves x script RunsFrom (carried (image e) held b h) (next b)
+  runs_on b h r (Still d z k) =
+      Still d z (record { running = k; known = known_on e script b h r.running r.known; in_run = run_on e script first b h r.running r.in_run })
   runs_on b h r (Arrived d z i st k) =
       Arrived d z i st
-      (record { running = k; known = begins e script (next b).cycle (state_at x (next b)); in_run = run_begins e script first (next b) (suc r.in_run.i) (ap next r.in_run.is) k })
+      (record {
+        running = k;
+        known = begins e script (next b).cycle (state_at x (next b));
+        in_run =
+            run_begins e script first (next b) (suc r.in_run.i) (ap next r.in_run.is) k;
+      })
   runs_on b h r (Halted z i stop st) = Halted z i stop st
 
   carries : (limit : ℕ) → Carries x script limit (run_to (image e) held first limit) RunsFrom
@@ -116,7 +126,9 @@ module _ (e : Edition) (script : List Event) (first : Machine) where
 
   -- so many moves on, at a machine that may start
   runs_from : (b : Machine) (i : ℕ) → b ≡ state_after x script first i → MayStart e b → RunsFrom b (dispatched b.cycle (state_at x b))
-  runs_from b i is m = let running = starts_running e script b m in record { running = running; known = begins e script b.cycle (state_at x b); in_run = run_begins e script first b i is running }
+  runs_from b i is m =
+      let running = starts_running e script b m in
+      record { running = running; known = begins e script b.cycle (state_at x b); in_run = run_begins e script first b i is running }
 
 -- ---- the laws
 
@@ -143,7 +155,8 @@ module _ (e : Edition) (game : List ℕ) (small : length game ≤ memory_size e)
       }
 
 pub every_run : EveryRun
-every_run e game small bytes script limit = begins_so (vip e) game script limit (RunsFrom e script (start game)) (boots e game small bytes script) (carries e script (start game) limit)
+every_run e game small bytes script limit =
+    begins_so (vip e) game script limit (RunsFrom e script (start game)) (boots e game small bytes script) (carries e script (start game) limit)
 
 -- ---- the frames with a picture
 

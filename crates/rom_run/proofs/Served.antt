@@ -32,7 +32,10 @@ module _ (e : Edition) (script : List Event) where
   -- where the cycle is that of an interrupt, main code runs or waits
   pub main_there : (b : Machine) (h : Since) → Running e script b h → place b.cycle ≡ interrupt_place → Outside e script b h
   main_there b h (InMain o) p = o
-  main_there b h (InRoutine s) p = absurd (not_there s.m s.cycle (later-move (image e) held s.start) (later_cycle (image e) held s.start 1 s.k s.some) (later_cycle (image e) held s.start s.k routine_moves (less s.k s.inside)) (tick_of s.start s.before s.m s.outside s.cycle).cycle (ap (λ (z : Machine). z.cycle) s.is) p)
+  main_there b h (InRoutine s) p =
+      absurd (not_there s.m s.cycle (later-move (image e) held s.start) (later_cycle (image e) held s.start 1 s.k s.some)
+      (later_cycle (image e) held s.start s.k routine_moves (less s.k s.inside)) (tick_of s.start s.before s.m s.outside s.cycle).cycle
+      (ap (λ (z : Machine). z.cycle) s.is) p)
     where
       less : (k : ℕ) → k < routine_moves → k ≤ routine_moves
       less k l = omega (arith, l)
@@ -40,12 +43,29 @@ module _ (e : Edition) (script : List Event) where
   pub whole_tick : (b : Machine) (h : Since) (m : ℕ) → Running e script b h → b.cycle ≡ interrupt_at m → IsTick e (image e) m b held
   whole_tick b h m r i = tick_of b h m (main_there b h r (omega (arith, i))) i
 
-  pub tick_comes : (b : Machine) (h : Since) (m : ℕ) → Running e script b h → b.cycle ≡ interrupt_at m → Moves (vip e) script (Running e script) (after_tick h) (after_moves (image e) held b routine_moves)
+  pub tick_comes : (b : Machine) (h : Since) (m : ℕ) → Running e script b h → b.cycle ≡ interrupt_at m
+      → Moves (vip e) script (Running e script) (after_tick h) (after_moves (image e) held b routine_moves)
   tick_comes b h m r i = routine_comes e script b h m (main_there b h r (omega (arith, i))) i 1434 (omega arith)
 
   -- a state of the routine and the next one, in the time from the interrupt to the return
-  pub served_within : (b : Machine) (h : Since) (s : Serving e script b h) → (interrupt_at s.m < b.cycle) × ((move (image e) held b).cycle ≤ interrupt_at s.m + routine_cycles)
-  served_within b h s = subst (λ (z : Machine). (interrupt_at s.m < z.cycle) × ((move (image e) held z).cycle ≤ interrupt_at s.m + routine_cycles)) (sym s.is) (omega (arith, s.cycle, later-move (image e) held s.start, later_cycle (image e) held s.start 1 s.k s.some), omega (arith, later_cycle (image e) held s.start (suc s.k) routine_moves (omega (arith, s.inside)), (tick_of s.start s.before s.m s.outside s.cycle).cycle))
+  pub served_within : (b : Machine) (h : Since) (s : Serving e script b h)
+      → (interrupt_at s.m < b.cycle) × ((move (image e) held b).cycle ≤ interrupt_at s.m + routine_cycles)
+  served_within b h s =
+      subst (λ (z : Machine). (interrupt_at s.m < z.cycle) × ((move (image e) held z).cycle ≤ interrupt_at s.m + routine_cycles)) (sym s.is) (
+        omega (
+          arith,
+          s.cycle,
+          later-move (image e) held s.start,
+          later_cycle (image
+              e) held s.start 1 s.k s.some,
+        ),
+        omega (
+          arith,
+          later_cycle (image e) held s.start (suc s.k) routine_moves (omega
+              (arith, s.inside)),
+          (tick_of s.start s.before s.m s.outside s.cycle).cycle,
+        ),
+      )
 
   -- no move of the routine goes past the end of the window
   pub served_meets : (b : Machine) (h : Since) (s : Serving e script b h) (m : ℕ) → b.cycle < window_end m → (move (image e) held b).cycle ≤ window_end m
@@ -58,8 +78,26 @@ module _ (e : Edition) (script : List Event) where
       met open_yet = go (cases_lt s.k window_moves)
         where
           go : (s.k < window_moves) ⊎ (window_moves ≤ s.k) → (after_moves (image e) held s.start (suc s.k)).cycle ≤ window_end m
-          go (inl k) = omega (arith, tick.window, later_cycle (image e) held s.start (suc s.k) window_moves (omega (arith, k)), s.cycle, later_cycle (image e) held s.start 0 s.k (omega arith), open_yet)
-          go (inr k) = omega (arith, tick.window, tick.cycle, later_cycle (image e) held s.start window_moves s.k k, later_cycle (image e) held s.start (suc s.k) routine_moves (omega (arith, s.inside)), open_yet)
+          go (inl k) =
+              omega (
+                arith,
+                tick.window,
+                later_cycle (image e) held s.start (suc s.k) window_moves (omega
+                    (arith, k)),
+                s.cycle,
+                later_cycle (image e) held s.start 0 s.k (omega arith),
+                open_yet,
+              )
+          go (inr k) =
+              omega (
+                arith,
+                tick.window,
+                tick.cycle,
+                later_cycle (image e) held s.start window_moves s.k k,
+                later_cycle (image e) held s.start (suc
+                    s.k) routine_moves (omega (arith, s.inside)),
+                open_yet,
+              )
 
   pub served_disabled : (b : Machine) (h : Since) → Serving e script b h → b.regs.ie ≡ false
   served_disabled b h s = ap (λ (z : Machine). z.regs.ie) s.is ∙ ((tick_of s.start s.before s.m s.outside s.cycle).inside s.k s.some s.inside).disabled

@@ -43,7 +43,10 @@ module _ (e : Edition) (script : List Event) (game : List ℕ) (small : length g
 
   -- where boot ends
   first_runs : (n : ℕ) → suc n ≡ boot_moves → RunsAt (suc n)
-  first_runs n last = subst (Running e script (at (suc n))) (sym (since_dispatch (vip e) script (Running e script) (board_moves e script) (start game) n (starts_event e script (at (suc n)) starts).0)) (starts_running e script (at (suc n)) starts)
+  first_runs n last =
+      subst (Running e script (at (suc n)))
+      (sym (since_dispatch (vip e) script (Running e script) (board_moves e script) (start game) n (starts_event e script (at (suc n)) starts).0))
+      (starts_running e script (at (suc n)) starts)
     where
       starts : MayStart e (at (suc n))
       starts = subst (λ k. MayStart e (at k)) (sym last) (booted e game small bytes script).starts
@@ -53,7 +56,9 @@ module _ (e : Edition) (script : List Event) (game : List ℕ) (small : length g
     where
       go : (i < boot_moves) ⊎ (boot_moves ≤ i) → Known e script (start game) i
       go (inl l) = InBoot game refl l (record { room = small; bytes = bytes; k = i; inside = l; is = refl })
-      go (inr l) = Runs (subst RunsAt split (holds_behind (vip e) script (Running e script) (board_moves e script) (start game) boot_moves (first_runs 27 refl) (i - boot_moves) (λ j k. u j (omega (arith, k, l)))))
+      go (inr l) =
+          Runs (subst RunsAt split (holds_behind (vip e) script (Running e script) (board_moves e script) (start game) boot_moves (first_runs 27 refl)
+          (i - boot_moves) (λ j k. u j (omega (arith, k, l)))))
         where
           split : boot_moves + (i - boot_moves) ≡ i
           split = omega (arith, l)
@@ -102,7 +107,8 @@ module _ (e : Edition) (script : List Event) (b : Machine) (h : Since) where
       enabled : b.regs.ie ≡ true
       enabled = (row_runs (vip e) (pieces (vip e)) (proved e) b h t.fits row).enabled
 
-      go : (place b.cycle ≡ interrupt_place) ⊎ (place b.cycle ≡ interrupt_place → ⊥) → (b.regs.idle ≡ true) ⊎ (b.regs.idle ≡ false) → place b.cycle ≡ interrupt_place
+      go : (place b.cycle ≡ interrupt_place) ⊎ (place b.cycle ≡ interrupt_place → ⊥) → (b.regs.idle ≡ true) ⊎ (b.regs.idle ≡ false)
+          → place b.cycle ≡ interrupt_place
       go (inl p) i = p
       go (inr d) (inl i) = absurd (other (case_waits b on enabled t.outside d i) k no_idle)
       go (inr d) (inr i) = absurd (other (case_runs b on enabled t.outside d i) k no_instruction)
@@ -116,8 +122,15 @@ module _ (e : Edition) (script : List Event) (b : Machine) (h : Since) where
   interrupted_there r = (λ k. in_frame b.cycle (taken_there r k), λ k. there_taken r (its_place b.cycle k))
 
 -- boot ends long before the first one
-boot_early : (e : Edition) (script : List Event) (game : List ℕ) (i : ℕ) → i < boot_moves → Booting e script game (state_after (vip e) script (start game) i) → (state_after (vip e) script (start game) (suc i)).cycle ≤ 56
-boot_early e script game i l b = omega (arith, later_cycle (image e) (held_at script) (start game) (suc i) boot_moves (omega (arith, l)), (boot e game b.room b.bytes script).cycle)
+boot_early : (e : Edition) (script : List Event) (game : List ℕ) (i : ℕ) → i < boot_moves
+    → Booting e script game (state_after (vip e) script (start game) i) → (state_after (vip e) script (start game) (suc i)).cycle ≤ 56
+boot_early e script game i l b =
+    omega (
+      arith,
+      later_cycle (image e) (held_at script) (start game) (suc i) boot_moves (omega
+          (arith, l)),
+      (boot e game b.room b.bytes script).cycle,
+    )
 
 early_apart : (b : Machine) → b.cycle ≤ 56 → InterruptedThere b
 early_apart b l = (
@@ -131,10 +144,13 @@ module _ (e : Edition) (script : List Event) (first : Machine) where
 
   -- a state of boot, and the next one
   early : (game : List ℕ) (i : ℕ) → first ≡ start game → i < boot_moves → Booting e script game (after i) → (after (suc i)).cycle ≤ 56
-  early game i is l b = subst (λ z. Booting e script game (state_after (vip e) script z i) → (state_after (vip e) script z (suc i)).cycle ≤ 56) (sym is) (boot_early e script game i l) b
+  early game i is l b =
+      subst (λ z. Booting e script game (state_after (vip e) script z i) → (state_after (vip e) script z (suc i)).cycle ≤ 56) (sym is)
+      (boot_early e script game i l) b
 
   known_apart : (i : ℕ) → Known e script first i → InterruptedThere (after i)
-  known_apart i (InBoot game is l b) = early_apart (after i) (omega (arith, early game i is l b, later_cycle (image e) (held_at script) first i (suc i) (omega arith)))
+  known_apart i (InBoot game is l b) =
+      early_apart (after i) (omega (arith, early game i is l b, later_cycle (image e) (held_at script) first i (suc i) (omega arith)))
   known_apart i (Runs r) = interrupted_there e script (after i) (record_after (vip e) script first i) r
 
   -- no move goes past one
@@ -142,11 +158,13 @@ module _ (e : Edition) (script : List Event) (first : Machine) where
   not_past i m (InBoot game is l b) k = omega (arith, early game i is l b)
   not_past i m (Runs r) k = stops_before e script (after i) (record_after (vip e) script first i) m r k
 
-  meets : Beginning e first → (i : ℕ) → Unstopped e script first i → (m : ℕ) → first.cycle ≤ interrupt_at m → interrupt_at m ≤ (after i).cycle → Meets e script first i (interrupt_at m)
+  meets : Beginning e first → (i : ℕ) → Unstopped e script first i → (m : ℕ) → first.cycle ≤ interrupt_at m → interrupt_at m ≤ (after i).cycle
+      → Meets e script first i (interrupt_at m)
   meets begins zero u m from to = record { j = 0; up_to = omega arith; cycle = omega (arith, from, to) }
   meets begins (suc i) u m from to = go (cases_lt (after i).cycle (interrupt_at m)) (meets begins i (λ j k. u j (omega (arith, k))) m from)
     where
-      go : ((after i).cycle < interrupt_at m) ⊎ (interrupt_at m ≤ (after i).cycle) → (interrupt_at m ≤ (after i).cycle → Meets e script first i (interrupt_at m)) → Meets e script first (suc i) (interrupt_at m)
+      go : ((after i).cycle < interrupt_at m) ⊎ (interrupt_at m ≤ (after i).cycle)
+          → (interrupt_at m ≤ (after i).cycle → Meets e script first i (interrupt_at m)) → Meets e script first (suc i) (interrupt_at m)
       go (inl past) before = record { j = suc i; up_to = omega arith; cycle = omega (arith, to, not_past i m (every_state e script first begins i u) past) }
       go (inr by) before = let o = before by in record { j = o.j; up_to = omega (arith, o.up_to); cycle = o.cycle }
 

@@ -232,7 +232,8 @@ module _ (e : Edition) where
   memory_soon (DecimalFound InGame) b h f o = quick h (memory_moves (DecimalFound InGame)) (omega (arith, o.1))
   memory_soon (DecimalFound InFont) b h f o = quick h (memory_moves (DecimalFound InFont)) (omega (arith, o.1))
   memory_soon (DecimalFound Nowhere) b h f o = quick h (memory_moves (DecimalFound Nowhere)) (omega (arith, o.1))
-  memory_soon (Hundreds k) b h f o = quick h (memory_moves (Hundreds k)) (omega (arith, o.1, o.0.1, v_byte o.0.0.called.holds f.ram (high_byte (now h) % 16) (omega arith)))
+  memory_soon (Hundreds k) b h f o =
+      quick h (memory_moves (Hundreds k)) (omega (arith, o.1, o.0.1, v_byte o.0.0.called.holds f.ram (high_byte (now h) % 16) (omega arith)))
   memory_soon HundredsEnd b h f o = quick h (memory_moves HundredsEnd) (omega (arith, o.1))
   memory_soon (Tens k) b h f o = quick h (memory_moves (Tens k)) (omega (arith, o.1, o.0.1))
   memory_soon TensEnd b h f o = quick h (memory_moves TensEnd) (omega (arith, o.1))
@@ -240,24 +241,33 @@ module _ (e : Edition) where
   memory_soon (StoreFound InGame) b h f o = quick h (memory_moves (StoreFound InGame)) (omega (arith, o.1))
   memory_soon (StoreFound InFont) b h f o = quick h (memory_moves (StoreFound InFont)) (omega (arith, o.1))
   memory_soon (StoreFound Nowhere) b h f o = quick h (memory_moves (StoreFound Nowhere)) (omega (arith, o.1))
-  memory_soon (StoreByte k) b h f o = long h (memory_moves (StoreByte k)) (omega (arith, o.1, o.0.1.left)) (rw (o.0.0.inside, o.0.0.calls.0, o.0.0.calls.1, o.0.2) refl)
+  memory_soon (StoreByte k) b h f o =
+      long h (memory_moves (StoreByte k)) (omega (arith, o.1, o.0.1.left)) (rw (o.0.0.inside, o.0.0.calls.0, o.0.0.calls.1, o.0.2) refl)
   memory_soon StoreEnd b h f o = long h (memory_moves StoreEnd) (omega (arith, o.1)) (rw (o.0.0.inside, o.0.0.calls.0, o.0.0.calls.1, o.0.1) refl)
   memory_soon Restore b h f o = quick h (memory_moves Restore) (omega (arith, o.1))
   memory_soon (RestoreFound InGame) b h f o = quick h (memory_moves (RestoreFound InGame)) (omega (arith, o.1))
   memory_soon (RestoreFound InFont) b h f o = quick h (memory_moves (RestoreFound InFont)) (omega (arith, o.1))
   memory_soon (RestoreFound Nowhere) b h f o = quick h (memory_moves (RestoreFound Nowhere)) (omega (arith, o.1))
-  memory_soon (RestoreByte k) b h f o = long h (memory_moves (RestoreByte k)) (omega (arith, o.1, o.0.1.left)) (rw (o.0.0.inside, o.0.0.calls.0, o.0.0.calls.1, o.0.2) refl)
+  memory_soon (RestoreByte k) b h f o =
+      long h (memory_moves (RestoreByte k)) (omega (arith, o.1, o.0.1.left)) (rw (o.0.0.inside, o.0.0.calls.0, o.0.0.calls.1, o.0.2) refl)
   memory_soon RestoreEnd b h f o = long h (memory_moves RestoreEnd) (omega (arith, o.1)) (rw (o.0.0.inside, o.0.0.calls.0, o.0.0.calls.1, o.0.1) refl)
 
-  waited_time : {Else : Type 0} (l : SpriteBlock) → IsWaited l → (b : Machine) (h : Since) (n : ℕ) → n ≤ most_wait → Head x (OfSprite l) b h → Pace e Else h n (sprite_moves l)
-  waited_time (Wipe k) w b h n l o = clearing h n (sprite_moves (Wipe k)) (omega (arith, o.1.0, o.0.1, few_rows e)) l (clears_bound e (now h) o.0.0.inside o.0.0.clears)
-  waited_time (Wipe3 k) w b h n l o = clearing h n (sprite_moves (Wipe3 k)) (omega (arith, o.1.0, o.0.1, few_rows e)) l (clears_bound e (now h) o.0.0.inside o.0.0.clears)
-  waited_time (Wipe6 k) w b h n l o = clearing h n (sprite_moves (Wipe6 k)) (omega (arith, o.1.0, o.0.1, few_rows e)) l (clears_bound e (now h) o.0.0.inside o.0.0.clears)
-  waited_time (Wiped k) w b h n l o = clearing h n (sprite_moves (Wiped k)) (omega (arith, o.1.0, o.0.1, few_rows e)) l (clears_bound e (now h) o.0.0.inside o.0.0.clears)
+  waited_time : {Else : Type 0} (l : SpriteBlock) → IsWaited l → (b : Machine) (h : Since) (n : ℕ) → n ≤ most_wait → Head x (OfSprite l) b h
+      → Pace e Else h n (sprite_moves l)
+  waited_time (Wipe k) w b h n l o =
+      clearing h n (sprite_moves (Wipe k)) (omega (arith, o.1.0, o.0.1, few_rows e)) l (clears_bound e (now h) o.0.0.inside o.0.0.clears)
+  waited_time (Wipe3 k) w b h n l o =
+      clearing h n (sprite_moves (Wipe3 k)) (omega (arith, o.1.0, o.0.1, few_rows e)) l (clears_bound e (now h) o.0.0.inside o.0.0.clears)
+  waited_time (Wipe6 k) w b h n l o =
+      clearing h n (sprite_moves (Wipe6 k)) (omega (arith, o.1.0, o.0.1, few_rows e)) l (clears_bound e (now h) o.0.0.inside o.0.0.clears)
+  waited_time (Wiped k) w b h n l o =
+      clearing h n (sprite_moves (Wiped k)) (omega (arith, o.1.0, o.0.1, few_rows e)) l (clears_bound e (now h) o.0.0.inside o.0.0.clears)
   waited_time Cleared w b h n l o = clearing h n (sprite_moves Cleared) (omega (arith, o.1.0)) l (clears_bound e (now h) o.0.0.inside o.0.1)
   waited_time (Line r) w b h n l o = drawing h n (sprite_moves (Line r)) (omega (arith, o.1.0, o.0.1, few e (now h))) l (draws_bound e (now h) o.0.0.draws)
-  waited_time (LineLeft r) w b h n l o = drawing h n (sprite_moves (LineLeft r)) (omega (arith, o.1.0, o.0.1, few e (now h))) l (draws_bound e (now h) o.0.0.draws)
-  waited_time (LineRight r) w b h n l o = drawing h n (sprite_moves (LineRight r)) (omega (arith, o.1.0, o.0.1, few e (now h))) l (draws_bound e (now h) o.0.0.draws)
+  waited_time (LineLeft r) w b h n l o =
+      drawing h n (sprite_moves (LineLeft r)) (omega (arith, o.1.0, o.0.1, few e (now h))) l (draws_bound e (now h) o.0.0.draws)
+  waited_time (LineRight r) w b h n l o =
+      drawing h n (sprite_moves (LineRight r)) (omega (arith, o.1.0, o.0.1, few e (now h))) l (draws_bound e (now h) o.0.0.draws)
   waited_time Drawn w b h n l o = drawing h n (sprite_moves Drawn) (omega (arith, o.1.0)) l (draws_bound e (now h) o.0.draws)
   waited_time _ w b h n l o = absurd w
 
@@ -278,12 +288,18 @@ module _ (e : Edition) where
   sprite_soon Fits b h f o = quick h (sprite_moves Fits) (omega (arith, o.1))
   sprite_soon Angle b h f o = quick h (sprite_moves Angle) (omega (arith, o.1))
   sprite_soon Begin b h f o = quick h (sprite_moves Begin) (omega (arith, o.1))
-  sprite_soon (RowTest r) b h f o = drawing h 0 (sprite_moves (RowTest r)) (omega (arith, o.1, o.0.1, few e (now h))) (omega arith) (draws_bound e (now h) o.0.0.draws)
-  sprite_soon (RowByte r) b h f o = drawing h 0 (sprite_moves (RowByte r)) (omega (arith, o.1, o.0.1, few e (now h))) (omega arith) (draws_bound e (now h) o.0.0.draws)
-  sprite_soon (Shift r j) b h f o = drawing h 0 (sprite_moves (Shift r j)) (omega (arith, o.1, o.0.1, few e (now h))) (omega arith) (draws_bound e (now h) o.0.0.draws)
-  sprite_soon (Shifted r) b h f o = drawing h 0 (sprite_moves (Shifted r)) (omega (arith, o.1, o.0.1, few e (now h))) (omega arith) (draws_bound e (now h) o.0.0.draws)
-  sprite_soon (RowRight r) b h f o = drawing h 0 (sprite_moves (RowRight r)) (omega (arith, o.1, o.0.1, few e (now h))) (omega arith) (draws_bound e (now h) o.0.0.draws)
-  sprite_soon (RowStore r) b h f o = drawing h 0 (sprite_moves (RowStore r)) (omega (arith, o.1, o.0.1, few e (now h))) (omega arith) (draws_bound e (now h) o.0.0.draws)
+  sprite_soon (RowTest r) b h f o =
+      drawing h 0 (sprite_moves (RowTest r)) (omega (arith, o.1, o.0.1, few e (now h))) (omega arith) (draws_bound e (now h) o.0.0.draws)
+  sprite_soon (RowByte r) b h f o =
+      drawing h 0 (sprite_moves (RowByte r)) (omega (arith, o.1, o.0.1, few e (now h))) (omega arith) (draws_bound e (now h) o.0.0.draws)
+  sprite_soon (Shift r j) b h f o =
+      drawing h 0 (sprite_moves (Shift r j)) (omega (arith, o.1, o.0.1, few e (now h))) (omega arith) (draws_bound e (now h) o.0.0.draws)
+  sprite_soon (Shifted r) b h f o =
+      drawing h 0 (sprite_moves (Shifted r)) (omega (arith, o.1, o.0.1, few e (now h))) (omega arith) (draws_bound e (now h) o.0.0.draws)
+  sprite_soon (RowRight r) b h f o =
+      drawing h 0 (sprite_moves (RowRight r)) (omega (arith, o.1, o.0.1, few e (now h))) (omega arith) (draws_bound e (now h) o.0.0.draws)
+  sprite_soon (RowStore r) b h f o =
+      drawing h 0 (sprite_moves (RowStore r)) (omega (arith, o.1, o.0.1, few e (now h))) (omega arith) (draws_bound e (now h) o.0.0.draws)
   sprite_soon Ready b h f o = drawing h 0 (sprite_moves Ready) (omega (arith, o.1)) (omega arith) (draws_bound e (now h) o.0.draws)
   sprite_soon (Line r) b h f o = waited_time (Line r) tt b h 0 (omega arith) o
   sprite_soon (LineLeft r) b h f o = waited_time (LineLeft r) tt b h 0 (omega arith) o
@@ -306,8 +322,10 @@ module _ (e : Edition) where
   key_soon (NoSkip down) b h f o = quick h (key_moves (NoSkip down)) (omega (arith, o.1, skip_most down))
   key_soon (Skip down) b h f o = quick h (key_moves (Skip down)) (omega (arith, o.1, skip_most down))
   key_soon WaitKey b h f o = quick h (key_moves WaitKey) (omega (arith, o.1))
-  key_soon (KeyNext turn) b h f o = endless h (key_moves (KeyNext turn)) tt (key_bound e (now h) o.0.0.waiting.enters.entered.inside o.0.0.waiting.enters.digit o.0.0.waiting.low)
-  key_soon (KeyCount turn) b h f o = endless h (key_moves (KeyCount turn)) tt (key_bound e (now h) o.0.0.waiting.enters.entered.inside o.0.0.waiting.enters.digit o.0.0.waiting.low)
+  key_soon (KeyNext turn) b h f o =
+      endless h (key_moves (KeyNext turn)) tt (key_bound e (now h) o.0.0.waiting.enters.entered.inside o.0.0.waiting.enters.digit o.0.0.waiting.low)
+  key_soon (KeyCount turn) b h f o =
+      endless h (key_moves (KeyCount turn)) tt (key_bound e (now h) o.0.0.waiting.enters.entered.inside o.0.0.waiting.enters.digit o.0.0.waiting.low)
   key_soon KeyFreed b h f o = endless h (key_moves KeyFreed) tt (key_bound e (now h) o.0.0.enters.entered.inside o.0.0.enters.digit o.0.0.low)
 
   pub head_soon : (l : Block) (b : Machine) (h : Since) → FitsMachine b → Head x l b h → Paced l h
@@ -335,7 +353,9 @@ module _ (e : Edition) where
 
   -- where main code doesn't wait and hasn't waited
   pub row_soon : (b : Machine) (h : Since) → Row x (pieces x) b h → Budget e h 0 1
-  row_soon b h (InRow l r) bound k = fewer bound _ _ (omega (arith, r.grows.spent, r.inside)) (budget free_budget (head_soon l r.start r.since r.fits r.head) bound (ap (bound_of e) (sym r.grows.state) ∙ k))
+  row_soon b h (InRow l r) bound k =
+      fewer bound _ _ (omega (arith, r.grows.spent, r.inside))
+      (budget free_budget (head_soon l r.start r.since r.fits r.head) bound (ap (bound_of e) (sym r.grows.state) ∙ k))
   row_soon b h (Alone l o) bound k = budget free_budget (at_soon l b h o) bound k
 
   -- where it waits
@@ -363,7 +383,9 @@ pub record Soon (e : Edition) (b : Machine) (h : Since) : Type 0 where
   pub spends : Spends b h waited
   pub suffices : Budget e h waited 1
 
-pub row_in_time : (e : Edition) (script : List Event) (b : Machine) (h : Since) → Interval e script b h → Row (vip e) (pieces (vip e)) b h → Timed e b h → Soon e b h
+pub row_in_time : (e : Edition) (script : List Event) (b : Machine) (h : Since) → Interval e script b h → Row (vip e) (pieces (vip e)) b h
+    → Timed e b h → Soon e b h
 row_in_time e script b h t row (Before s z) = record { waited = 0; spends = s; suffices = row_soon e b h row }
-row_in_time e script b h t row (Waiting n s l i z) = record { waited = n; spends = s; suffices = budget e absurd (idle_pace e b h n (omega (arith, l, waits_most b.cycle t.outside)) i row) }
+row_in_time e script b h t row (Waiting n s l i z) =
+    record { waited = n; spends = s; suffices = budget e absurd (idle_pace e b h n (omega (arith, l, waits_most b.cycle t.outside)) i row) }
 row_in_time e script b h t row (Behind n s l r w) = record { waited = n; spends = s; suffices = budget e absurd (waited_pace e b h n l r) }

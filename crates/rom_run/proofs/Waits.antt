@@ -65,7 +65,8 @@ module _ (x : Program) (b : Machine) (s : Lang) where
   sprite_timed t DrawWait i o = absurd (sleeps (sym i ∙ o.holds.awake))
   sprite_timed t DrawIdle i o = (painting_timed t _ _ _ _ _ o.0, o.1)
 
-pub idle_cycle : (e : Edition) (b : Machine) (h : Since) (t : ℕ) → b.regs.idle ≡ true → Row (vip e) (pieces (vip e)) b h → Row (vip e) (pieces (vip e)) (timed t b) h
+pub idle_cycle : (e : Edition) (b : Machine) (h : Since) (t : ℕ) → b.regs.idle ≡ true → Row (vip e) (pieces (vip e)) b h
+    → Row (vip e) (pieces (vip e)) (timed t b) h
 idle_cycle e b h t i (Inside l r) = absurd (sleeps (sym i ∙ block_awake (vip e) (pieces (vip e)) (proved e) r))
 idle_cycle e b h t i (Alone (AtTimer l) o) = absurd (sleeps (sym i ∙ timer_awake (vip e) b (now h) l o.0))
 idle_cycle e b h t i (Alone (AtKey l) o) = absurd (sleeps (sym i ∙ key_awake (vip e) b (now h) l h.keys o.0))

@@ -55,9 +55,21 @@ row_waits e b h i (Inside l r) = absurd (sleeps (sym i ∙ block_awake (vip e) (
 row_waits e b h i (Alone (AtTimer l) o) = absurd (sleeps (sym i ∙ timer_awake (vip e) b (now h) l o.0))
 row_waits e b h i (Alone (AtKey l) o) = absurd (sleeps (sym i ∙ key_awake (vip e) b (now h) l h.keys o.0))
 row_waits e b h i (Alone (AtSprite ClearWait) o) = absurd (sleeps (sym i ∙ o.0.holds.awake))
-row_waits e b h i (Alone (AtSprite ClearIdle) o) = record { base = 102; waits = ToClear (instr_then h (to_clear (now h) o.0.0.clears)); soon = o.1; row = Alone (AtSprite ClearIdle) (o.0, omega arith) }
+row_waits e b h i (Alone (AtSprite ClearIdle) o) =
+    record {
+      base = 102;
+      waits = ToClear (instr_then h (to_clear (now h) o.0.0.clears));
+      soon = o.1;
+      row = Alone (AtSprite ClearIdle) (o.0, omega arith);
+    }
 row_waits e b h i (Alone (AtSprite DrawWait) o) = absurd (sleeps (sym i ∙ o.0.holds.awake))
-row_waits e b h i (Alone (AtSprite DrawIdle) o) = record { base = 2154; waits = ToDraw _ _ _ (instr_then h (to_draw (now h) o.0.0.draws.digit)); soon = o.1; row = Alone (AtSprite DrawIdle) (o.0, omega arith) }
+row_waits e b h i (Alone (AtSprite DrawIdle) o) =
+    record {
+      base = 2154;
+      waits = ToDraw _ _ _ (instr_then h (to_draw (now h) o.0.0.draws.digit));
+      soon = o.1;
+      row = Alone (AtSprite DrawIdle) (o.0, omega arith);
+    }
 
 -- ---- behind the wait
 
@@ -81,22 +93,36 @@ module _ (e : Edition) where
   clears_at : (g h : Since) → h.state ≡ g.state → Clears (now g) → instr_at h.state ≡ IsClear
   clears_at g h same is = ap instr_at same ∙ instr_then g (to_clear (now g) is)
 
-  draws_at : (g h : Since) → h.state ≡ g.state → high_byte (now g) / 16 ≡ 13 → instr_at h.state ≡ IsDraw (high_byte (now g) % 16) (low_byte (now g) / 16) (low_byte (now g) % 16)
+  draws_at : (g h : Since) → h.state ≡ g.state → high_byte (now g) / 16 ≡ 13
+      → instr_at h.state ≡ IsDraw (high_byte (now g) % 16) (low_byte (now g) / 16) (low_byte (now g) % 16)
   draws_at g h same is = ap instr_at same ∙ instr_then g (to_draw (now g) is)
 
-  head_few : (l : SpriteBlock) → IsWaited l → (c : Machine) (g h : Since) (base k : ℕ) → h.state ≡ g.state → WaitsBy h.state base → k < sprite_moves l → Head (vip e) (OfSprite l) c g → g.spent + 2 * k ≤ base + most_changing
-  head_few (Wipe k) w c g h base j same t i o = clearing h.state base (g.spent + 2 * j) (24 * (63 - k) + 4) t (clears_at g h same o.0.0.clears) (omega (arith, o.1.0, i)) (omega arith)
-  head_few (Wipe3 k) w c g h base j same t i o = clearing h.state base (g.spent + 2 * j) (24 * (63 - k) + 10) t (clears_at g h same o.0.0.clears) (omega (arith, o.1.0, i)) (omega arith)
-  head_few (Wipe6 k) w c g h base j same t i o = clearing h.state base (g.spent + 2 * j) (24 * (63 - k) + 16) t (clears_at g h same o.0.0.clears) (omega (arith, o.1.0, i)) (omega arith)
-  head_few (Wiped k) w c g h base j same t i o = clearing h.state base (g.spent + 2 * j) (24 * (63 - k) + 22) t (clears_at g h same o.0.0.clears) (omega (arith, o.1.0, i)) (omega arith)
+  head_few : (l : SpriteBlock) → IsWaited l → (c : Machine) (g h : Since) (base k : ℕ) → h.state ≡ g.state → WaitsBy h.state base → k < sprite_moves l
+      → Head (vip e) (OfSprite l) c g → g.spent + 2 * k ≤ base + most_changing
+  head_few (Wipe k) w c g h base j same t i o =
+      clearing h.state base (g.spent + 2 * j) (24 * (63 - k) + 4) t (clears_at g h same o.0.0.clears) (omega (arith, o.1.0, i)) (omega arith)
+  head_few (Wipe3 k) w c g h base j same t i o =
+      clearing h.state base (g.spent + 2 * j) (24 * (63 - k) + 10) t (clears_at g h same o.0.0.clears) (omega (arith, o.1.0, i)) (omega arith)
+  head_few (Wipe6 k) w c g h base j same t i o =
+      clearing h.state base (g.spent + 2 * j) (24 * (63 - k) + 16) t (clears_at g h same o.0.0.clears) (omega (arith, o.1.0, i)) (omega arith)
+  head_few (Wiped k) w c g h base j same t i o =
+      clearing h.state base (g.spent + 2 * j) (24 * (63 - k) + 22) t (clears_at g h same o.0.0.clears) (omega (arith, o.1.0, i)) (omega arith)
   head_few Cleared w c g h base j same t i o = clearing h.state base (g.spent + 2 * j) 1536 t (clears_at g h same o.0.1) (omega (arith, o.1.0, i)) (omega arith)
-  head_few (Line r) w c g h base j same t i o = drawing h.state base (g.spent + 2 * j) (58 * r + 2) _ _ _ t (draws_at g h same o.0.0.draws.digit) (omega (arith, o.1.0, i)) (omega (arith, o.0.1, few e (now g)))
-  head_few (LineLeft r) w c g h base j same t i o = drawing h.state base (g.spent + 2 * j) (58 * r + 24) _ _ _ t (draws_at g h same o.0.0.draws.digit) (omega (arith, o.1.0, i)) (omega (arith, o.0.1, few e (now g)))
-  head_few (LineRight r) w c g h base j same t i o = drawing h.state base (g.spent + 2 * j) (58 * r + 56) _ _ _ t (draws_at g h same o.0.0.draws.digit) (omega (arith, o.1.0, i)) (omega (arith, o.0.1, few e (now g)))
-  head_few Drawn w c g h base j same t i o = drawing h.state base (g.spent + 2 * j) 892 _ _ _ t (draws_at g h same o.0.draws.digit) (omega (arith, o.1.0, i)) (omega arith)
+  head_few (Line r) w c g h base j same t i o =
+      drawing h.state base (g.spent + 2 * j) (58 * r + 2) _ _ _ t (draws_at g h same o.0.0.draws.digit) (omega (arith, o.1.0, i))
+      (omega (arith, o.0.1, few e (now g)))
+  head_few (LineLeft r) w c g h base j same t i o =
+      drawing h.state base (g.spent + 2 * j) (58 * r + 24) _ _ _ t (draws_at g h same o.0.0.draws.digit) (omega (arith, o.1.0, i))
+      (omega (arith, o.0.1, few e (now g)))
+  head_few (LineRight r) w c g h base j same t i o =
+      drawing h.state base (g.spent + 2 * j) (58 * r + 56) _ _ _ t (draws_at g h same o.0.0.draws.digit) (omega (arith, o.1.0, i))
+      (omega (arith, o.0.1, few e (now g)))
+  head_few Drawn w c g h base j same t i o =
+      drawing h.state base (g.spent + 2 * j) 892 _ _ _ t (draws_at g h same o.0.draws.digit) (omega (arith, o.1.0, i)) (omega arith)
   head_few _ w c g h base j same t i o = absurd w
 
-  row_few : (b : Machine) (h : Since) (base late : ℕ) → WaitsBy h.state base → Row (vip e) (waited_pieces (vip e)) b (record h { spent = late }) → late ≤ base + most_changing
+  row_few : (b : Machine) (h : Since) (base late : ℕ) → WaitsBy h.state base → Row (vip e) (waited_pieces (vip e)) b (record h { spent = late })
+      → late ≤ base + most_changing
   row_few b h base late t (Inside l r) = omega (arith, head_few l.0 l.1 r.start r.since h base r.k r.grows.state t r.inside r.head, r.grows.spent)
   row_few b h base late t (Alone l o) = absurd o
 
@@ -107,15 +133,28 @@ module _ (e : Edition) where
   pub woken_apart : (b : Machine) (h : Since) (n : ℕ) → n ≤ 2 → Woken e b h → place (b.cycle + n) ≡ interrupt_place → ⊥
   woken_apart b h n l w i = apart b.cycle n w.base w.woke w.late l w.return w.since w.least (woken_few b h w) i
     where
-      apart : (cycle n base woke late : ℕ) → n ≤ 2 → place woke ≡ interrupt_place + routine_cycles → cycle + base ≡ woke + late → base ≤ late → late ≤ base + most_changing → place (cycle + n) ≡ interrupt_place → ⊥
+      apart : (cycle n base woke late : ℕ) → n ≤ 2 → place woke ≡ interrupt_place + routine_cycles → cycle + base ≡ woke + late → base ≤ late
+          → late ≤ base + most_changing → place (cycle + n) ≡ interrupt_place → ⊥
       apart cycle n base woke late l r s m k i = omega (arith, l, r, s, m, k, i)
 
   -- where a main move comes to no event, it comes to a row behind the wait
-  pub calm_row : (c : Machine) (h : Since) → is_event (code (vip e)) c ≡ false → Outcome (vip e) (waited_pieces (vip e)) c h → Row (vip e) (waited_pieces (vip e)) c h
+  pub calm_row : (c : Machine) (h : Since) → is_event (code (vip e)) c ≡ false → Outcome (vip e) (waited_pieces (vip e)) c h
+      → Row (vip e) (waited_pieces (vip e)) c h
   calm_row c h calm (Still k r) = r
   calm_row c h calm (Dispatched s st) = absurd (sleeps (sym (dispatch_by (vip e) c s st.stands) ∙ (neither _ _ calm).0))
   calm_row c h calm (Halted stop st) = absurd (sleeps (sym (halt_by (vip e) c (now h) stop st.halts) ∙ (neither _ _ calm).1))
 
   -- the interrupt routine has returned
-  pub wakes : (b c : Machine) (h : Since) (m : ℕ) (t : Waits e b h) → Row (vip e) (waited_pieces (vip e)) c (after_tick (record h { spent = t.base })) → c.cycle ≡ interrupt_at m + routine_cycles → Woken e c (after_tick h)
-  wakes b c h m t row at = record { woke = c.cycle; return = omega (arith, at); base = t.base; waits = t.waits; late = t.base; since = refl; least = omega arith; row = row }
+  pub wakes : (b c : Machine) (h : Since) (m : ℕ) (t : Waits e b h) → Row (vip e) (waited_pieces (vip e)) c (after_tick (record h { spent = t.base }))
+      → c.cycle ≡ interrupt_at m + routine_cycles → Woken e c (after_tick h)
+  wakes b c h m t row at =
+      record {
+        woke = c.cycle;
+        return = omega (arith, at);
+        base = t.base;
+        waits = t.waits;
+        late = t.base;
+        since = refl;
+        least = omega arith;
+        row = row;
+      }

@@ -47,7 +47,8 @@ SameInterval e script first j i = (k : ℕ) → j < k → k ≤ i → is_dispatc
 
 -- In the state after j moves main code runs behind the wait for the display in which it was after k moves; or its next move writes to the screen.
 pub data AtDisplay (e : Edition) (script : List Event) (first : Machine) (j : ℕ) : Type 0 where
-  HasWaited : (k : ℕ) → k ≤ j → SameInterval e script first k j → (state_after (vip e) script first k).regs.idle ≡ true → RunsMain (state_after (vip e) script first j) → AtDisplay e script first j
+  HasWaited : (k : ℕ) → k ≤ j → SameInterval e script first k j → (state_after (vip e) script first k).regs.idle ≡ true
+      → RunsMain (state_after (vip e) script first j) → AtDisplay e script first j
   Writes : WritesScreen e (held_at script) (state_after (vip e) script first j) → AtDisplay e script first j
 
 -- the most cycles from the end of a wait to the next dispatch point

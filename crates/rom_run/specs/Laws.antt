@@ -48,7 +48,8 @@ FromAnyStart =
     (e : Edition) (b : Machine)
     → MayStart e b
     → (script : List Event) (limit : ℕ)
-    → GoesOn (vip e) script limit (run_to (image e) (held_at script) b limit) nothing_else (windows_ended b.cycle) b (events_behind (vip e).interpreter script b limit)
+    → GoesOn (vip e) script limit (run_to (image e) (held_at script) b limit) nothing_else (windows_ended b.cycle) b
+    (events_behind (vip e).interpreter script b limit)
 
 -- boot comes to such a machine
 abbrev pub BootStarts : Type 0
@@ -85,7 +86,9 @@ EveryState = (e : Edition) (script : List Event) (first : Machine) → Beginning
 
 -- the next move of each of these is an interrupt exactly in the cycle of a frame's interrupt
 abbrev pub EveryInterrupt : Type 0
-EveryInterrupt = (e : Edition) (script : List Event) (first : Machine) → Beginning e first → (i : ℕ) → Unstopped e script first (suc i) → InterruptedThere (state_after (vip e) script first i)
+EveryInterrupt =
+    (e : Edition) (script : List Event) (first : Machine) → Beginning e first → (i : ℕ) → Unstopped e script first (suc i)
+    → InterruptedThere (state_after (vip e) script first i)
 
 -- and none of these cycles is passed over
 abbrev pub NoneMissing : Type 0

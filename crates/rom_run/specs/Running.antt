@@ -89,4 +89,5 @@ pub record Booting (e : Edition) (script : List Event) (game : List ℕ) (b : Ma
 -- begins.
 pub data FromBoot (e : Edition) (script : List Event) (game : List ℕ) (c : Machine) : Type 0 where
   Boots : is_dispatch (vip e).interpreter c ≡ false → is_stop (vip e).interpreter c ≡ false → Booting e script game c → FromBoot e script game c
-  Begins : is_dispatch (vip e).interpreter c ≡ true → is_stop (vip e).interpreter c ≡ false → c.cycle ≤ boot_bound → Dispatches (vip e) c (first e game) → Running e script c (dispatched c.cycle (first e game)) → FromBoot e script game c
+  Begins : is_dispatch (vip e).interpreter c ≡ true → is_stop (vip e).interpreter c ≡ false → c.cycle ≤ boot_bound
+      → Dispatches (vip e) c (first e game) → Running e script c (dispatched c.cycle (first e game)) → FromBoot e script game c

@@ -25,7 +25,8 @@ use Rattle.rom_sprite.proofs.Paint.{is_painting}
 use Rattle.rom_sprite.proofs.Prepare.{is_preparing}
 use Rattle.rom_sprite.specs.Code.{sprite_rom}
 
-sprite_follows : (e : Edition) (l : SpriteBlock) (b : Machine) (h : Since) → Head (quick e) (OfSprite l) b h → Follows (quick e) (OfSprite l) (sprite_addresses l) b
+sprite_follows : (e : Edition) (l : SpriteBlock) (b : Machine) (h : Since) → Head (quick e) (OfSprite l) b h
+    → Follows (quick e) (OfSprite l) (sprite_addresses l) b
 sprite_follows e Clear b h o = record { same = _; is = is_entered o.0.0; follows = refl }
 sprite_follows e (Wipe k) b h o = record { same = _; is = is_clearing o.0.0; follows = refl }
 sprite_follows e (Wipe3 k) b h o = record { same = _; is = is_clearing o.0.0; follows = refl }

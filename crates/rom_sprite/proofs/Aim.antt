@@ -61,23 +61,53 @@ below_rows Tall v = omega arith
 -- ---- the machine
 
 abbrev pub aiming : Edition → ℕ → ℕ → ℕ → Machine → Machine
-aiming e a high low b = record b { regs = record b.regs { p = 3; r = record b.regs.r { r3 = word_of a; r4 = word_of at_fetch; r6 = word (page_of e) (240 + high % 16); r7 = word (page_of e) (240 + low / 16) } } }
+aiming e a high low b =
+    record b {
+      regs = record b.regs {
+        p = 3;
+        r = record b.regs.r {
+          r3 = word_of a;
+          r4 = word_of at_fetch;
+          r6 = word (page_of e) (240 + high % 16);
+          r7 = word (page_of e) (240 + low / 16);
+        };
+      };
+    }
 
 abbrev pub summing : Edition → ℕ → ℕ → ℕ → Machine → Machine
-summing e a high low b = record (aiming e a high low b) { regs = record (aiming e a high low b).regs { x = 13; r = record (aiming e a high low b).regs.r { rd = word (page_of e) 0xd0 } } }
+summing e a high low b =
+    record (aiming e a high low b) {
+      regs = record (aiming e a high low b).regs { x = 13; r = record (aiming e a high low b).regs.r { rd = word (page_of e) 0xd0 } };
+    }
 
 pub is_aiming : {e : Edition} {a n : ℕ} {b : Machine} {s : Lang} → Aiming (quick e) a n b s → b ≡ aiming e a (high_byte s) (low_byte s) b
 is_aiming {b = b} o = λ i. record b { regs = record b.regs { p = o.p i; r = record b.regs.r { r3 = o.r3 i; r4 = o.r4 i; r6 = o.r6 i; r7 = o.r7 i } } }
 
-pub is_summing : {e : Edition} {a n : ℕ} {b : Machine} {s : Lang} → Aiming (quick e) a n b s → Summing (quick e) b → b ≡ summing e a (high_byte s) (low_byte s) b
-is_summing {b = b} o w = λ i. record b { regs = record b.regs { p = o.p i; x = w.pointer i; r = record b.regs.r { r3 = o.r3 i; r4 = o.r4 i; r6 = o.r6 i; r7 = o.r7 i; rd = w.rd i } } }
+pub is_summing : {e : Edition} {a n : ℕ} {b : Machine} {s : Lang} → Aiming (quick e) a n b s → Summing (quick e) b
+    → b ≡ summing e a (high_byte s) (low_byte s) b
+is_summing {b = b} o w =
+    λ i. record b {
+      regs = record b.regs {
+        p = o.p i;
+        x = w.pointer i;
+        r = record b.regs.r { r3 = o.r3 i; r4 = o.r4 i; r6 = o.r6 i; r7 = o.r7 i; rd = w.rd i };
+      };
+    }
 
 -- the machine behind the range check
 abbrev pub resumed : Edition → ℕ → ℕ → ℕ → Machine → Machine
 resumed e high low d b = record (aiming e at_draw_found high low b) { regs = record (aiming e at_draw_found high low b).regs { d = d } }
 
-pub is_resumed : {e : Edition} {answer : Answer} {b : Machine} {s : Lang} → Checked (quick e) ForDraw answer b s → b ≡ resumed e (high_byte s) (low_byte s) (answer_number answer) b
-is_resumed {b = b} o = λ i. record b { regs = record b.regs { d = o.d i; p = o.p i; r = record b.regs.r { r3 = o.r3 i; r4 = o.called.r4 i; r6 = o.called.r6 i; r7 = o.called.r7 i } } }
+pub is_resumed : {e : Edition} {answer : Answer} {b : Machine} {s : Lang} → Checked (quick e) ForDraw answer b s
+    → b ≡ resumed e (high_byte s) (low_byte s) (answer_number answer) b
+is_resumed {b = b} o =
+    λ i. record b {
+      regs = record b.regs {
+        d = o.d i;
+        p = o.p i;
+        r = record b.regs.r { r3 = o.r3 i; r4 = o.called.r4 i; r6 = o.called.r6 i; r7 = o.called.r7 i };
+      };
+    }
 
 -- R3 is changed
 abbrev pub on_at : Machine → Word → Machine
@@ -85,7 +115,18 @@ on_at c w = record c { regs = record c.regs { r = record c.regs.r { r3 = w } } }
 
 -- RB.0 plays no part in the language state
 low_set : {x : Program} {p : Places} {s : Lang} → Holding x p s → (y : ℕ) → Holding x (record p { rb = word p.rb.hi y }) s
-low_set o y = record { is = o.is; stack = o.stack; size = o.size; latch = o.latch; enabled = o.enabled; awake = o.awake; on = o.on; entry = o.entry; page = o.page }
+low_set o y =
+    record {
+      is = o.is;
+      stack = o.stack;
+      size = o.size;
+      latch = o.latch;
+      enabled = o.enabled;
+      awake = o.awake;
+      on = o.on;
+      entry = o.entry;
+      page = o.page;
+    }
 
 module _ (e : Edition) (b : Machine) (h : Since) (f : FitsMachine b) where
   abbrev high : ℕ
@@ -100,28 +141,108 @@ module _ (e : Edition) (b : Machine) (h : Since) (f : FitsMachine b) where
   none_asked n = eq-eqb _ _ n
 
   pub draw_comes : Enters (quick e) at_draw 13 b (now h) → h.spent ≡ 80 → Comes (quick e) (calm_pieces (quick e)) (OfSprite Draw) b h
-  draw_comes o spent = branch (OfSprite Draw) o.entered (on_at (quicks (code (quick e)) 4 (entered e at_draw high low b))) (bit_and low 15 == 0) at_place at_draw_check (omega arith) refl
-      (λ k h' g. to_sprite (quick e) g _ refl Place tt (record { draws = record { inside = o.entered.inside; digit = o.digit; readable = rw (none_asked (sym (and_mask low 4) ∙ eqb-true _ _ k)) refl }; holds = o.entered.holds; p = refl; r3 = refl; r4 = refl; r6 = refl; r7 = refl; count = and_mask low 4 }) (omega (arith, spent, g.spent)))
-      (λ k h' g. to_sprite (quick e) g _ refl DrawCheck tt (record { entered = record { holds = o.entered.holds; inside = o.entered.inside; p = refl; r3 = refl; r4 = refl; r6 = refl; r7 = refl; rc = refl }; digit = o.digit }, and_mask low 4, some k) (omega (arith, spent, g.spent)))
+  draw_comes o spent =
+      branch (OfSprite Draw) o.entered (on_at (quicks (code (quick e)) 4 (entered e at_draw high low b))) (bit_and low 15 == 0) at_place at_draw_check
+      (omega arith) refl
+      (λ k h' g. to_sprite (quick e) g _ refl Place tt
+      (record {
+        draws = record {
+          inside = o.entered.inside;
+          digit = o.digit;
+          readable = rw (none_asked (sym (and_mask low 4) ∙ eqb-true _ _ k)) refl;
+        };
+        holds = o.entered.holds;
+        p = refl;
+        r3 = refl;
+        r4 = refl;
+        r6 = refl;
+        r7 = refl;
+        count = and_mask low 4;
+      }) (omega (arith, spent, g.spent)))
+      (λ k h' g. to_sprite (quick e) g _ refl DrawCheck tt (
+        record {
+          entered = record {
+            holds = o.entered.holds;
+            inside = o.entered.inside;
+            p = refl;
+            r3 = refl;
+            r4 = refl;
+            r6 = refl;
+            r7 = refl;
+            rc = refl;
+          };
+          digit = o.digit;
+        },
+        and_mask low 4,
+        some k,
+      ) (omega (arith, spent, g.spent)))
     where
       some : (bit_and low 15 == 0) ≡ false → 0 < low % 16
       some k = omega (arith, and_mask low 4, eqb-false (bit_and low 15) 0 k)
 
-  pub draw_check_comes : Enters (quick e) at_draw_check 13 b (now h) → b.regs.r.re.lo ≡ asked (now h) → 0 < asked (now h) → h.spent ≤ 88 → Comes (quick e) (calm_pieces (quick e)) (OfSprite DrawCheck) b h
+  pub draw_check_comes : Enters (quick e) at_draw_check 13 b (now h) → b.regs.r.re.lo ≡ asked (now h) → 0 < asked (now h) → h.spent ≤ 88
+      → Comes (quick e) (calm_pieces (quick e)) (OfSprite DrawCheck) b h
   draw_check_comes o count some spent = routine (OfSprite DrawCheck) o.entered _ (omega arith) refl
-      (λ h' g. to_memory (quick e) g _ refl (Check ForDraw) (record { called = record { holds = o.entered.holds; inside = o.entered.inside; calls = (o.digit, some); r4 = refl; r6 = refl; r7 = refl }; p = refl; rd = refl; r3 = refl; count = count }) (omega (arith, spent, g.spent)))
+      (λ h' g. to_memory (quick e) g _ refl (Check ForDraw)
+      (record {
+        called = record {
+          holds = o.entered.holds;
+          inside = o.entered.inside;
+          calls = (o.digit, some);
+          r4 = refl;
+          r6 = refl;
+          r7 = refl;
+        };
+        p = refl;
+        rd = refl;
+        r3 = refl;
+        count = count;
+      }) (omega (arith, spent, g.spent)))
 
-  draw_stops : is_fetchable e (now h) ≡ true → Calls ForDraw (now h) → is_in_memory e (now h).i (low % 16) ≡ false → is_in_font (now h).i (low % 16) ≡ false → stop_of e (now h) ≡ Some ReadOutside
+  draw_stops : is_fetchable e (now h) ≡ true → Calls ForDraw (now h) → is_in_memory e (now h).i (low % 16) ≡ false
+      → is_in_font (now h).i (low % 16) ≡ false → stop_of e (now h) ≡ Some ReadOutside
   draw_stops inside k game font = rw (inside, k.0, ne_eqb (low % 16) 0 (λ z. omega (arith, z, k.1)), game, font) refl
 
   -- at the first of the rows to count
-  found : {answer : Answer} → Checked (quick e) ForDraw answer b (now h) → (is_in_memory e (now h).i (low % 16) || is_in_font (now h).i (low % 16)) ≡ true → (c : Machine) → Holding (quick e) (places c) (next (now h)) → c.regs.p ≡ 3 → c.regs.r.r3 ≡ word_of at_place → c.regs.r.r4 ≡ word_of at_fetch → c.regs.r.r6 ≡ word (page_of e) (0xf0 + high % 16) → c.regs.r.r7 ≡ word (page_of e) (0xf0 + low / 16) → c.regs.r.re.lo ≡ b.regs.r.re.lo → Aiming (quick e) at_place (asked (now h)) c (now h)
-  found o fits c holds p r3 r4 r6 r7 re = record { draws = record { inside = o.called.inside; digit = o.called.calls.0; readable = or_right (asked (now h) == 0) _ fits }; holds = holds; p = p; r3 = r3; r4 = r4; r6 = r6; r7 = r7; count = re ∙ o.count }
+  found : {answer : Answer} → Checked (quick e) ForDraw answer b (now h)
+      → (is_in_memory e (now h).i (low % 16) || is_in_font (now h).i (low % 16)) ≡ true → (c : Machine) → Holding (quick e) (places c) (next (now h))
+      → c.regs.p ≡ 3 → c.regs.r.r3 ≡ word_of at_place → c.regs.r.r4 ≡ word_of at_fetch → c.regs.r.r6 ≡ word (page_of e) (0xf0 + high % 16)
+      → c.regs.r.r7 ≡ word (page_of e) (0xf0 + low / 16) → c.regs.r.re.lo ≡ b.regs.r.re.lo → Aiming (quick e) at_place (asked (now h)) c (now h)
+  found o fits c holds p r3 r4 r6 r7 re =
+      record {
+        draws = record { inside = o.called.inside; digit = o.called.calls.0; readable = or_right (asked (now h) == 0) _ fits };
+        holds = holds;
+        p = p;
+        r3 = r3;
+        r4 = r4;
+        r6 = r6;
+        r7 = r7;
+        count = re ∙ o.count;
+      }
 
-  pub draw_found_comes : (answer : Answer) → Checked (quick e) ForDraw answer b (now h) → h.spent ≤ 148 → Comes (quick e) (calm_pieces (quick e)) (OfSprite (DrawFound answer)) b h
-  draw_found_comes InGame o spent = straight (OfSprite (DrawFound InGame)) o.called.holds _ (is_resumed o) _ (omega arith) refl (λ h' g. to_sprite (quick e) g _ refl Place tt (found o (rw o.is refl) _ o.called.holds refl refl refl refl refl refl) (omega (arith, spent, g.spent)))
-  draw_found_comes InFont o spent = straight (OfSprite (DrawFound InFont)) o.called.holds _ (is_resumed o) _ (omega arith) refl (λ h' g. to_sprite (quick e) g _ refl Place tt (found o (rw (o.is.0, o.is.1) refl) _ o.called.holds refl refl refl refl refl refl) (omega (arith, spent, g.spent)))
-  draw_found_comes Nowhere o spent = straight (OfSprite (DrawFound Nowhere)) o.called.holds _ (is_resumed o) _ (omega arith) refl (λ h' g. to_fetch (quick e) g _ refl (Leave 3) (record { holds = o.called.holds; p = refl; r3 = refl; stop = ReadOutside; fits = draw_stops o.called.inside o.called.calls o.is.0 o.is.1; number = refl }, omega arith) (omega (arith, spent, g.spent)))
+  pub draw_found_comes : (answer : Answer) → Checked (quick e) ForDraw answer b (now h) → h.spent ≤ 148
+      → Comes (quick e) (calm_pieces (quick e)) (OfSprite (DrawFound answer)) b h
+  draw_found_comes InGame o spent =
+      straight (OfSprite (DrawFound InGame)) o.called.holds _ (is_resumed o) _ (omega arith) refl
+      (λ h' g. to_sprite (quick e) g _ refl Place tt (found o (rw o.is refl) _ o.called.holds refl refl refl refl refl refl)
+      (omega (arith, spent, g.spent)))
+  draw_found_comes InFont o spent =
+      straight (OfSprite (DrawFound InFont)) o.called.holds _ (is_resumed o) _ (omega arith) refl
+      (λ h' g. to_sprite (quick e) g _ refl Place tt (found o (rw (o.is.0, o.is.1) refl) _ o.called.holds refl refl refl refl refl refl)
+      (omega (arith, spent, g.spent)))
+  draw_found_comes Nowhere o spent =
+      straight (OfSprite (DrawFound Nowhere)) o.called.holds _ (is_resumed o) _ (omega arith) refl
+      (λ h' g. to_fetch (quick e) g _ refl (Leave 3) (
+        record {
+          holds = o.called.holds;
+          p = refl;
+          r3 = refl;
+          stop = ReadOutside;
+          fits = draw_stops o.called.inside o.called.calls o.is.0 o.is.1;
+          number = refl;
+        },
+        omega arith,
+      ) (omega (arith, spent, g.spent)))
 
   -- ---- VX, VY and the work
 
@@ -147,7 +268,12 @@ module _ (e : Edition) (b : Machine) (h : Since) (f : FitsMachine b) where
 
   module _ {a n : ℕ} (o : Aiming (quick e) a n b (now h)) where
     y_fits : low / 16 < 16
-    y_fits = omega (arith, memory_fits o.holds f.ram ((now h).pc + 1) (omega (arith, is_inside e (now h) o.draws.inside)) (omega (arith, is_inside e (now h) o.draws.inside)))
+    y_fits =
+        omega (
+          arith,
+          memory_fits o.holds f.ram ((now h).pc
+              + 1) (omega (arith, is_inside e (now h) o.draws.inside)) (omega (arith, is_inside e (now h) o.draws.inside)),
+        )
 
     x_is : vx ≡ variable (now h) (high % 16)
     x_is = v_get o.holds (value (word (page_of e) (240 + high % 16))) (high % 16) (omega (arith, variables_is e)) (omega arith)
@@ -177,9 +303,36 @@ module _ (e : Edition) (b : Machine) (h : Since) (f : FitsMachine b) where
   more_df = (b.regs.r.re.lo + 256 - again down_to) / 256
 
   pub place_comes : Aiming (quick e) at_place (asked (now h)) b (now h) → h.spent ≤ 152 → Comes (quick e) (calm_pieces (quick e)) (OfSprite Place) b h
-  place_comes o spent = forks (OfSprite Place) o.holds (aiming e at_place high low b) (is_aiming o) (on_at (quicks (code (quick e)) 12 (aiming e at_place high low b))) (not (more_df == 1)) at_fits at_edge (omega (arith, stack_there o, page_low e)) refl
-      (λ k h' g. to_sprite (quick e) g _ refl Fits tt (record { draws = o.draws; holds = works o down_to; p = refl; r3 = refl; r4 = refl; r6 = refl; r7 = refl; count = omega (arith, less k, o.count) }, record { rd = refl; pointer = refl }) (omega (arith, spent, g.spent)))
-      (λ k h' g. to_sprite (quick e) g _ refl Edge tt (record { draws = o.draws; holds = works o down_to; p = refl; r3 = refl; r4 = refl; r6 = refl; r7 = refl; count = o.count }, record { rd = refl; pointer = refl }, omega (arith, more k)) (omega (arith, spent, g.spent)))
+  place_comes o spent =
+      forks (OfSprite Place) o.holds (aiming e at_place high low b) (is_aiming o) (on_at (quicks (code (quick e)) 12 (aiming e at_place high low b)))
+      (not (more_df == 1)) at_fits at_edge (omega (arith, stack_there o, page_low e)) refl
+      (λ k h' g. to_sprite (quick e) g _ refl Fits tt (
+        record {
+          draws = o.draws;
+          holds = works o down_to;
+          p = refl;
+          r3 = refl;
+          r4 = refl;
+          r6 = refl;
+          r7 = refl;
+          count = omega (arith, less k, o.count);
+        },
+        record { rd = refl; pointer = refl },
+      ) (omega (arith, spent, g.spent)))
+      (λ k h' g. to_sprite (quick e) g _ refl Edge tt (
+        record {
+          draws = o.draws;
+          holds = works o down_to;
+          p = refl;
+          r3 = refl;
+          r4 = refl;
+          r6 = refl;
+          r7 = refl;
+          count = o.count;
+        },
+        record { rd = refl; pointer = refl },
+        omega (arith, more k),
+      ) (omega (arith, spent, g.spent)))
     where
       less : not (more_df == 1) ≡ true → asked (now h) < rows_of e - top e (now h)
       less k = omega (arith, borrowed more_df k, again_is o down_to, down_is o, o.count, f.regs.r.re.lo, few_rows e)
@@ -187,9 +340,22 @@ module _ (e : Edition) (b : Machine) (h : Since) (f : FitsMachine b) where
       more : not (more_df == 1) ≡ false → rows_of e - top e (now h) ≤ asked (now h)
       more k = omega (arith, not_borrowed more_df k, again_is o down_to, down_is o, o.count, few_rows e)
 
-  pub edge_comes : Aiming (quick e) at_edge (asked (now h)) b (now h) → Summing (quick e) b → rows_of e ≤ top e (now h) + asked (now h) → h.spent ≤ 176 → Comes (quick e) (calm_pieces (quick e)) (OfSprite Edge) b h
+  pub edge_comes : Aiming (quick e) at_edge (asked (now h)) b (now h) → Summing (quick e) b → rows_of e ≤ top e (now h) + asked (now h)
+      → h.spent ≤ 176 → Comes (quick e) (calm_pieces (quick e)) (OfSprite Edge) b h
   edge_comes o w past spent = straight (OfSprite Edge) o.holds (summing e at_edge high low b) (is_summing o w) _ (omega (arith, stack_there o, page_low e)) refl
-      (λ h' g. to_sprite (quick e) g _ refl Fits tt (record { draws = o.draws; holds = o.holds; p = refl; r3 = refl; r4 = refl; r6 = refl; r7 = refl; count = omega (arith, down_is o, past) }, record { rd = refl; pointer = refl }) (omega (arith, spent, g.spent)))
+      (λ h' g. to_sprite (quick e) g _ refl Fits tt (
+        record {
+          draws = o.draws;
+          holds = o.holds;
+          p = refl;
+          r3 = refl;
+          r4 = refl;
+          r6 = refl;
+          r7 = refl;
+          count = omega (arith, down_is o, past);
+        },
+        record { rd = refl; pointer = refl },
+      ) (omega (arith, spent, g.spent)))
 
   -- ---- the place on the screen
 
@@ -206,12 +372,40 @@ module _ (e : Edition) (b : Machine) (h : Since) (f : FitsMachine b) where
   abbrev fitted : Machine
   fitted = quicks (code (quick e)) 20 (summing e at_fits high low b)
 
-  pub fits_comes : Aiming (quick e) at_fits (height e (now h)) b (now h) → Summing (quick e) b → h.spent ≤ 184 → Comes (quick e) (calm_pieces (quick e)) (OfSprite Fits) b h
+  pub fits_comes : Aiming (quick e) at_fits (height e (now h)) b (now h) → Summing (quick e) b → h.spent ≤ 184
+      → Comes (quick e) (calm_pieces (quick e)) (OfSprite Fits) b h
   fits_comes o w spent = straight (OfSprite Fits) o.holds (summing e at_fits high low b) (is_summing o w) fitted (omega (arith, stack_there o, page_low e)) refl
-      (λ h' g. to_sprite (quick e) g fitted refl Angle tt (record { draws = o.draws; holds = low_set (works o x8) ((again x8 + y8) % 256); p = refl; r3 = refl; r4 = refl; r6 = refl; r7 = refl; count = o.count }, record { rd = refl; pointer = refl }, record { rows = o.count; place = there }) (omega (arith, spent, g.spent)))
+      (λ h' g. to_sprite (quick e) g fitted refl Angle tt (
+        record {
+          draws = o.draws;
+          holds = low_set (works o x8) ((again x8 + y8) % 256);
+          p = refl;
+          r3 = refl;
+          r4 = refl;
+          r6 = refl;
+          r7 = refl;
+          count = o.count;
+        },
+        record { rd = refl; pointer = refl },
+        record { rows = o.count; place = there },
+      )
+      (omega (arith, spent, g.spent)))
     where
       sum : (by_edition e 15 14 + 0 + y8_df) % 256 * 256 + (again x8 + y8) % 256 ≡ corner e (now h)
-      sum = omega (arith, screen_page e, screen_is e, page_fits e, again_is o x8, top_is o, few_rows e, below_rows e (variable (now h) (low / 16)), and_mask vx 6, x_is o)
+      sum =
+          omega (
+            arith,
+            screen_page e,
+            screen_is e,
+            page_fits e,
+            again_is o x8,
+            top_is o,
+            few_rows e,
+            below_rows e (variable (now h)
+                (low / 16)),
+            and_mask vx 6,
+            x_is o,
+          )
 
       there : fitted.regs.r.rc.hi * 256 + fitted.regs.r.rb.lo ≡ corner e (now h)
       there = sum
@@ -221,9 +415,23 @@ module _ (e : Edition) (b : Machine) (h : Since) (f : FitsMachine b) where
   abbrev left_out : ℕ
   left_out = (7 + 256 - bit_and vx 7) % 256
 
-  pub angle_comes : Aiming (quick e) at_angle (height e (now h)) b (now h) → Summing (quick e) b → Aimed (quick e) b (now h) → h.spent ≤ 224 → Comes (quick e) (calm_pieces (quick e)) (OfSprite Angle) b h
+  pub angle_comes : Aiming (quick e) at_angle (height e (now h)) b (now h) → Summing (quick e) b → Aimed (quick e) b (now h) → h.spent ≤ 224
+      → Comes (quick e) (calm_pieces (quick e)) (OfSprite Angle) b h
   angle_comes o w z spent = straight (OfSprite Angle) o.holds (summing e at_angle high low b) (is_summing o w) _ (omega (arith, stack_there o, page_low e)) refl
-      (λ h' g. to_sprite (quick e) g _ refl Begin tt (record { draws = o.draws; holds = works o left_out; p = refl; r3 = refl; r4 = refl; r6 = refl; r7 = refl; count = o.count }, record { rows = z.rows; place = z.place }, entry) (omega (arith, spent, g.spent)))
+      (λ h' g. to_sprite (quick e) g _ refl Begin tt (
+        record {
+          draws = o.draws;
+          holds = works o left_out;
+          p = refl;
+          r3 = refl;
+          r4 = refl;
+          r6 = refl;
+          r7 = refl;
+          count = o.count;
+        },
+        record { rows = z.rows; place = z.place },
+        entry,
+      ) (omega (arith, spent, g.spent)))
     where
       entry : ((again left_out + left_out * 2 % 256) % 256 * 2 % 256 + 0x65) % 256 ≡ entry_of (now h)
       entry = omega (arith, again_is o left_out, and_mask vx 3, x_is o)
@@ -236,6 +444,23 @@ module _ (e : Edition) (b : Machine) (h : Since) (f : FitsMachine b) where
   no_less : (n : ℕ) → n ≡ n - 0
   no_less n = omega arith
 
-  pub begin_comes : Aiming (quick e) at_begin (height e (now h)) b (now h) → Aimed (quick e) b (now h) → b.regs.r.rc.lo ≡ entry_of (now h) → h.spent ≤ 242 → Comes (quick e) (calm_pieces (quick e)) (OfSprite Begin) b h
+  pub begin_comes : Aiming (quick e) at_begin (height e (now h)) b (now h) → Aimed (quick e) b (now h) → b.regs.r.rc.lo ≡ entry_of (now h)
+      → h.spent ≤ 242 → Comes (quick e) (calm_pieces (quick e)) (OfSprite Begin) b h
   begin_comes o z entry spent = straight (OfSprite Begin) o.holds (aiming e at_begin high low b) (is_aiming o) _ (omega arith) refl
-      (λ h' g. to_sprite (quick e) g _ refl (Row 0) tt (record { draws = o.draws; holds = o.holds; prepared = record { lefts = λ j l. absurd (omega (arith, l)); rights = λ j l. absurd (omega (arith, l)) }; p = refl; r3 = refl; r4 = refl; entry = entry; place = z.place; rows = z.rows; count = o.count ∙ no_less (height e (now h)); r7 = refl; rd = i_is o.holds ∙ no_more (now h).i }, omega arith) (omega (arith, spent, g.spent)))
+      (λ h' g. to_sprite (quick e) g _ refl (Row 0) tt (
+        record {
+          draws = o.draws;
+          holds = o.holds;
+          prepared = record { lefts = λ j l. absurd (omega (arith, l)); rights = λ j l. absurd (omega (arith, l)) };
+          p = refl;
+          r3 = refl;
+          r4 = refl;
+          entry = entry;
+          place = z.place;
+          rows = z.rows;
+          count = o.count ∙ no_less (height e (now h));
+          r7 = refl;
+          rd = i_is o.holds ∙ no_more (now h).i;
+        },
+        omega arith,
+      ) (omega (arith, spent, g.spent)))

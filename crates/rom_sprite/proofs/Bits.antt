@@ -45,13 +45,20 @@ pub word_lower : (w p : ℕ) → 8 ≤ p → p < 16 → bit_at (w % 256) (15 - p
 word_lower w p l h = bit_at_lower w (15 - p) (omega arith)
 
 -- the same as tests
-pub word_tells : (b k p : ℕ) → b < 256 → k < 8 → p < 16 → Decides (is_set (b * 256 / 2 ^ k) (15 - p)) ((c : ℕ) × (c < 8) × (p ≡ k + c) × is_set b (7 - c) ≡ true)
+pub word_tells : (b k p : ℕ) → b < 256 → k < 8 → p < 16
+    → Decides (is_set (b * 256 / 2 ^ k) (15 - p)) ((c : ℕ) × (c < 8) × (p ≡ k + c) × is_set b (7 - c) ≡ true)
 word_tells b k p small l h = (λ e. from (eqb-true _ _ e) (cases_lt p k) (cases_lt p (k + 8)), λ z. to z)
   where
     from : bit_at (b * 256 / 2 ^ k) (15 - p) ≡ 1 → (p < k) ⊎ (k ≤ p) → (p < k + 8) ⊎ (k + 8 ≤ p) → (c : ℕ) × (c < 8) × (p ≡ k + c) × is_set b (7 - c) ≡ true
     from e (inl x) y = absurd (omega (arith, e, word_before b k p small l x))
     from e (inr x) (inr y) = absurd (omega (arith, e, word_after b k p h y))
-    from e (inr x) (inl y) = (p - k, omega arith, omega arith, eq-eqb _ _ (sym (word_bit b k (p - k) (omega arith) (omega arith)) ∙ ap (λ m. bit_at (b * 256 / 2 ^ k) (15 - m)) (omega arith) ∙ e))
+    from e (inr x) (inl y) = (
+      p - k,
+      omega arith,
+      omega arith,
+      eq-eqb _ _ (sym (word_bit b k (p - k) (omega arith) (omega arith))
+          ∙ ap (λ m. bit_at (b * 256 / 2 ^ k) (15 - m)) (omega arith) ∙ e),
+    )
 
     to : (c : ℕ) × (c < 8) × (p ≡ k + c) × is_set b (7 - c) ≡ true → is_set (b * 256 / 2 ^ k) (15 - p) ≡ true
     to (c, small, e, s) = eq-eqb _ _ (ap (λ m. bit_at (b * 256 / 2 ^ k) (15 - m)) e ∙ word_bit b k c small (omega arith) ∙ eqb-true _ _ s)
@@ -87,9 +94,19 @@ pub and_tells : (a b : ℕ) → a < 256 → Decides (not (bit_and a b == 0)) ((k
 and_tells a b small = (λ e. from e (cases_Bool (some_below (λ k. is_set a k && is_set b k) 8)), to)
   where
     none : some_below (λ k. is_set a k && is_set b k) 8 ≡ false → bit_and a b ≡ 0
-    none e = same_from_bits_below 8 (bit_and a b) 0 (omega (arith, and_le_l a b)) (omega arith) (λ i h. omega (arith, bit_at-zero i, bit_at-lt (bit_and a b) i, eqb-false _ _ (and_bit a b i ∙ false_from_ne_true _ (λ z. both_ways _ e ((some_tells _ 8).1 (i, h, z))))))
+    none e =
+        same_from_bits_below 8 (bit_and a b) 0 (omega (arith, and_le_l a b)) (omega arith)
+        (λ i h. omega (
+          arith,
+          bit_at-zero i,
+          bit_at-lt (bit_and a b) i,
+          eqb-false _ _ (and_bit a b i
+              ∙ false_from_ne_true _ (λ z. both_ways _ e ((some_tells _ 8).1 (i, h, z)))),
+        ))
 
-    from : not (bit_and a b == 0) ≡ true → (some_below (λ k. is_set a k && is_set b k) 8 ≡ true) ⊎ (some_below (λ k. is_set a k && is_set b k) 8 ≡ false) → (k : ℕ) × (k < 8) × (is_set a k && is_set b k) ≡ true
+    from : not (bit_and a b == 0) ≡ true
+        → (some_below (λ k. is_set a k && is_set b k) 8 ≡ true) ⊎ (some_below (λ k. is_set a k && is_set b k) 8 ≡ false)
+        → (k : ℕ) × (k < 8) × (is_set a k && is_set b k) ≡ true
     from e (inl x) = (some_tells _ 8).0 x
     from e (inr x) = absurd (eqb-false _ _ (not-true _ e) (none x))
 

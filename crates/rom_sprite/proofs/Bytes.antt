@@ -27,10 +27,14 @@ module _ (rows a p : ℕ) (l : List ℕ) (size : length l ≡ 8 * rows) where
   place x y = 8 * y + x / 8
 
   -- the byte of a pixel afterwards
-  bit_after : (x y : ℕ) → x < 64 → y < rows → is_set (slice_index (slice_set l a (bit_xor p (slice_index l a))) (place x y)) (7 - x % 8) ≡ one_of (is_set (slice_index l (place x y)) (7 - x % 8)) (place x y == a && is_set p (7 - x % 8))
+  bit_after : (x y : ℕ) → x < 64 → y < rows
+      → is_set (slice_index (slice_set l a (bit_xor p (slice_index l a))) (place x y)) (7 - x % 8)
+      ≡ one_of (is_set (slice_index l (place x y)) (7 - x % 8)) (place x y == a && is_set p (7 - x % 8))
   bit_after x y h k = go (cases_eq (place x y) a)
     where
-      go : (place x y ≡ a) ⊎ (place x y ≡ a → ⊥) → is_set (slice_index (slice_set l a (bit_xor p (slice_index l a))) (place x y)) (7 - x % 8) ≡ one_of (is_set (slice_index l (place x y)) (7 - x % 8)) (place x y == a && is_set p (7 - x % 8))
+      go : (place x y ≡ a) ⊎ (place x y ≡ a → ⊥)
+          → is_set (slice_index (slice_set l a (bit_xor p (slice_index l a))) (place x y)) (7 - x % 8)
+          ≡ one_of (is_set (slice_index l (place x y)) (7 - x % 8)) (place x y == a && is_set p (7 - x % 8))
       go (inl e) = rw (eq-eqb _ _ e, e, get_or-set_same l a (bit_xor p (slice_index l a)) 0 (omega (arith, e))) (xor_bit p (slice_index l a) (7 - x % 8))
       go (inr e) = rw (ne_eqb _ _ e, get_or-set_other l a (place x y) (bit_xor p (slice_index l a)) 0 e) (one_of_false _)
 
@@ -38,7 +42,8 @@ module _ (rows a p : ℕ) (l : List ℕ) (size : length l ≡ 8 * rows) where
   pub drawn_pixels : pixels rows (slice_set l a (bit_xor p (slice_index l a))) ≡ difference (pixels rows l) (dots_of_byte rows a p)
   drawn_pixels i x y = at x y (cases_Bool (nat_lt x 64 && nat_lt y rows)) i
     where
-      at : (x y : ℕ) → ((nat_lt x 64 && nat_lt y rows) ≡ true) ⊎ ((nat_lt x 64 && nat_lt y rows) ≡ false) → pixels rows (slice_set l a (bit_xor p (slice_index l a))) x y ≡ difference (pixels rows l) (dots_of_byte rows a p) x y
+      at : (x y : ℕ) → ((nat_lt x 64 && nat_lt y rows) ≡ true) ⊎ ((nat_lt x 64 && nat_lt y rows) ≡ false)
+          → pixels rows (slice_set l a (bit_xor p (slice_index l a))) x y ≡ difference (pixels rows l) (dots_of_byte rows a p) x y
       at x y (inl e) = rw e (let q = and_parts _ _ e in bit_after x y (ltb-true _ _ q.0) (ltb-true _ _ q.1))
       at x y (inr e) = rw e refl
 
@@ -47,7 +52,12 @@ abbrev pub Common : ℕ → Pixels → Pixels → Type 0
 Common rows s d = (y : ℕ) × (y < rows) × (x : ℕ) × (x < 64) × (s x y ≡ true) × (d x y ≡ true)
 
 pub meets_tells : (rows : ℕ) (s d : Pixels) → Decides (meets rows s d) (Common rows s d)
-meets_tells rows s d = (λ e. let (y, k, f) = (some_tells _ rows).0 e in let (x, h, z) = (some_tells _ 64).0 f in let q = and_parts _ _ z in (y, k, x, h, q.0, q.1), λ (y, k, x, h, f, g). (some_tells _ rows).1 (y, k, (some_tells _ 64).1 (x, h, and_from _ _ f g)))
+meets_tells rows s d = (
+  λ e. let (y, k, f) = (some_tells _ rows).0 e in let (x, h, z) = (some_tells _
+      64).0 f in let q = and_parts _ _ z in (y, k, x, h, q.0, q.1),
+  λ (y, k, x, h, f, g). (some_tells _
+      rows).1 (y, k, (some_tells _ 64).1 (x, h, and_from _ _ f g)),
+)
 
 -- a byte shares a bit with the screen's exactly where its pixels meet the screen's
 module _ (rows a p : ℕ) (small : p < 256) (l : List ℕ) (size : length l ≡ 8 * rows) where
@@ -63,7 +73,16 @@ module _ (rows a p : ℕ) (small : p < 256) (l : List ℕ) (size : length l ≡ 
   and_tells_meets = (λ e. let (k, h, z) = (and_tells p (slice_index l a) small).0 e in let q = and_parts _ _ z in at k h q.0 q.1, to)
     where
       at : (k : ℕ) → k < 8 → is_set p k ≡ true → is_set (slice_index l a) k ≡ true → Common rows (pixels rows l) (dots_of_byte rows a p)
-      at k h f g = (a / 8, omega (arith, placed k g), 8 * (a % 8) + (7 - k), omega arith, inside rows _ _ _ (omega arith) (omega (arith, placed k g)) (rw (bit, where_is) g), inside rows _ _ _ (omega arith) (omega (arith, placed k g)) (and_from _ _ (eq-eqb _ _ where_is) (rw bit f)))
+      at k h f g = (
+        a / 8,
+        omega (arith, placed k g),
+        8 * (a % 8) + (7
+            - k),
+        omega arith,
+        inside rows _ _ _ (omega arith) (omega (arith, placed k g)) (rw
+            (bit, where_is) g),
+        inside rows _ _ _ (omega arith) (omega (arith, placed k g)) (and_from _ _ (eq-eqb _ _ where_is) (rw bit f)),
+      )
         where
           bit : 7 - (8 * (a % 8) + (7 - k)) % 8 ≡ k
           bit = omega arith

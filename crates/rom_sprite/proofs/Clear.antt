@@ -56,18 +56,53 @@ module _ (e : Edition) (b : Machine) (h : Since) (f : FitsMachine b) where
 
   pub clear_comes : Entered (quick e) at_clear b (now h) → Clears (now h) → h.spent ≤ 90 → Comes (quick e) (calm_pieces (quick e)) (OfSprite Clear) b h
   clear_comes o is spent = routine (OfSprite Clear) o _ (omega arith) refl
-      (λ h' g. to_sprite_place (quick e) g _ refl ClearWait (record { holds = subst (λ z. Holding (quick e) (places b) (record (next (now h)) { screen = z })) (all_left o.holds) o.holds; inside = o.inside; clears = is; p = refl; r3 = refl; r4 = refl; pointer = refl; rd = omega (arith, screen_ends e) }) (omega (arith, spent, g.spent)))
+      (λ h' g. to_sprite_place (quick e) g _ refl ClearWait
+      (record {
+        holds = subst (λ z. Holding (quick e) (places b) (record (next (now h)) { screen = z })) (all_left o.holds) o.holds;
+        inside = o.inside;
+        clears = is;
+        p = refl;
+        r3 = refl;
+        r4 = refl;
+        pointer = refl;
+        rd = omega (arith, screen_ends e);
+      })
+      (omega (arith, spent, g.spent)))
 
   -- ---- the wait
 
-  pub clear_wait_holds : Clearing (quick e) at_clear_wait (8 * rows_of e) b (now h) → At (quick e) (AtSprite ClearWait) b h → h.spent ≤ 100 → Holds (quick e) (calm_pieces (quick e)) (AtSprite ClearWait) b h
+  pub clear_wait_holds : Clearing (quick e) at_clear_wait (8 * rows_of e) b (now h) → At (quick e) (AtSprite ClearWait) b h → h.spent ≤ 100
+      → Holds (quick e) (calm_pieces (quick e)) (AtSprite ClearWait) b h
   clear_wait_holds o at spent = alone (AtSprite ClearWait) f at o.holds (clearing at_clear_wait b) (is_clearing o) refl refl refl
-      (λ u. to_sprite_place (quick e) (one_more u h) _ refl ClearIdle (record { holds = waking o.holds; inside = o.inside; clears = o.clears; p = refl; r3 = refl; r4 = refl; pointer = refl; rd = o.rd }, refl) (omega (arith, spent)))
+      (λ u. to_sprite_place (quick e) (one_more u h) _ refl ClearIdle (
+        record {
+          holds = waking o.holds;
+          inside = o.inside;
+          clears = o.clears;
+          p = refl;
+          r3 = refl;
+          r4 = refl;
+          pointer = refl;
+          rd = o.rd;
+        },
+        refl,
+      ) (omega (arith, spent)))
 
-  pub clear_wakes : Clearing (quick e) at_wipe (8 * rows_of e) (woken b) (now h) → h.spent ≤ 102 → (c : Machine) → Tick (code (quick e)).low b c → Starts (waited_pieces (quick e)) c (after_tick h)
-  clear_wakes o spent c k = Enters (Wipe (rows_of e - 1), tt) ((recounted (8 * rows_of e) (8 * (rows_of e - 1) + 8) (omega (arith, some_rows e)) (clearing_later (quick e) 1 (after_wait (code (quick e)).low b c k) (woken_fits b f) (now h) at_wipe (8 * rows_of e) o), omega (arith, some_rows e)), (omega (arith, spent, few_rows e, some_rows e), omega arith))
+  pub clear_wakes : Clearing (quick e) at_wipe (8 * rows_of e) (woken b) (now h) → h.spent ≤ 102 → (c : Machine) → Tick (code (quick e)).low b c
+      → Starts (waited_pieces (quick e)) c (after_tick h)
+  clear_wakes o spent c k =
+      Enters (Wipe (rows_of e - 1), tt) (
+        (
+          recounted (8 * rows_of e) (8 * (rows_of e - 1)
+              + 8) (omega (arith, some_rows e)) (clearing_later (quick e) 1 (after_wait (code (quick e)).low b c k) (woken_fits b f)
+              (now h) at_wipe (8 * rows_of e) o),
+          omega (arith, some_rows e),
+        ),
+        (omega (arith, spent, few_rows e, some_rows e), omega arith),
+      )
 
-  pub clear_idle_holds : Clearing (quick e) at_wipe (8 * rows_of e) (woken b) (now h) → b.regs.idle ≡ true → h.spent ≤ 102 → Holds (quick e) (pieces (quick e)) (AtSprite ClearIdle) b h
+  pub clear_idle_holds : Clearing (quick e) at_wipe (8 * rows_of e) (woken b) (now h) → b.regs.idle ≡ true → h.spent ≤ 102
+      → Holds (quick e) (pieces (quick e)) (AtSprite ClearIdle) b h
   clear_idle_holds o idle spent = waits (AtSprite ClearIdle) o.holds idle
       (λ c k. starts_joined (quick e) c (after_tick h) (clear_wakes o spent c k))
 
@@ -87,11 +122,22 @@ module _ (e : Edition) (b : Machine) (h : Since) (f : FitsMachine b) where
     fourth : (m : ℕ) → n ≡ m + 3 → value (down (down (down rd))) ≡ screen_start e + m - 1
     fourth m k = omega (arith, k, o.rd, f.regs.r.rd.hi, f.regs.r.rd.lo, screen_is e)
 
-    two : (m : ℕ) → n ≡ m + 2 → n ≤ 8 * rows_of e → Holding (quick e) (record (places b) { ram = written b.latch (written b.latch b.ram (value rd) 0) (value (down rd)) 0 }) (cleared_to m (now h))
-    two m k room = cleared_one (now h) (m + 1) m _ (omega arith) (cleared_one (now h) n (m + 1) _ (omega (arith, k)) o.holds (omega (arith, o.rd, k)) (omega (arith, k, room))) (omega (arith, second (m + 1) (omega (arith, k)) (omega (arith, k)))) (omega (arith, k, room))
+    two : (m : ℕ) → n ≡ m + 2 → n ≤ 8 * rows_of e
+        → Holding (quick e) (record (places b) { ram = written b.latch (written b.latch b.ram (value rd) 0) (value (down rd)) 0 })
+        (cleared_to m (now h))
+    two m k room =
+        cleared_one (now h) (m + 1) m _ (omega arith)
+        (cleared_one (now h) n (m + 1) _ (omega (arith, k)) o.holds (omega (arith, o.rd, k)) (omega (arith, k, room)))
+        (omega (arith, second (m + 1) (omega (arith, k)) (omega (arith, k)))) (omega (arith, k, room))
 
-    three : (m : ℕ) → n ≡ m + 3 → n ≤ 8 * rows_of e → Holding (quick e) (record (places b) { ram = written b.latch (written b.latch (written b.latch b.ram (value rd) 0) (value (down rd)) 0) (value (down (down rd))) 0 }) (cleared_to m (now h))
-    three m k room = cleared_one (now h) (m + 1) m _ (omega arith) (two (m + 1) (omega (arith, k)) room) (omega (arith, third (m + 1) (omega (arith, k)))) (omega (arith, k, room))
+    three : (m : ℕ) → n ≡ m + 3 → n ≤ 8 * rows_of e
+        → Holding (quick e) (record (places b) {
+          ram = written b.latch (written b.latch (written b.latch b.ram (value rd) 0) (value (down rd)) 0)
+              (value (down (down rd))) 0;
+        }) (cleared_to m (now h))
+    three m k room =
+        cleared_one (now h) (m + 1) m _ (omega arith) (two (m + 1) (omega (arith, k)) room) (omega (arith, third (m + 1) (omega (arith, k))))
+        (omega (arith, k, room))
 
   -- with D = 0
   abbrev zeroed : ℕ → Machine
@@ -100,17 +146,61 @@ module _ (e : Edition) (b : Machine) (h : Since) (f : FitsMachine b) where
   is_zeroed : {a n : ℕ} → Clearing (quick e) a n b (now h) → b.regs.d ≡ 0 → b ≡ zeroed a
   is_zeroed {a = a} o d = is_clearing o ∙ (λ i. record (clearing a b) { regs = record (clearing a b).regs { d = d i } })
 
-  pub wipe_comes : (k : ℕ) → Clearing (quick e) at_wipe (8 * k + 8) b (now h) → k < rows_of e → h.spent ≤ 102 + 24 * (63 - k) → 1 ≤ h.ticks → Comes (quick e) (waited_pieces (quick e)) (Wipe k, tt) b h
+  pub wipe_comes : (k : ℕ) → Clearing (quick e) at_wipe (8 * k + 8) b (now h) → k < rows_of e → h.spent ≤ 102 + 24 * (63 - k) → 1 ≤ h.ticks
+      → Comes (quick e) (waited_pieces (quick e)) (Wipe k, tt) b h
   wipe_comes k o inside spent tick = straight_on (Wipe k) tt o.holds (clearing at_wipe b) (is_clearing o) _ (omega arith) refl
-      (λ h' g. to_waited (quick e) g _ refl (Wipe3 k) tt (record { holds = two o (8 * k + 6) (omega arith) (omega (arith, inside)); inside = o.inside; clears = o.clears; p = refl; r3 = refl; r4 = refl; pointer = refl; rd = omega (arith, third o (8 * k + 6) (omega arith), screen_is e) }, inside, refl) (omega (arith, spent, g.spent), omega (arith, tick, g.ticks)))
+      (λ h' g. to_waited (quick e) g _ refl (Wipe3 k) tt (
+        record {
+          holds = two o (8 * k + 6) (omega arith) (omega (arith, inside));
+          inside = o.inside;
+          clears = o.clears;
+          p = refl;
+          r3 = refl;
+          r4 = refl;
+          pointer = refl;
+          rd = omega (arith, third o (8 * k + 6) (omega arith), screen_is e);
+        },
+        inside,
+        refl,
+      )
+      (omega (arith, spent, g.spent), omega (arith, tick, g.ticks)))
 
-  pub wipe3_comes : (k : ℕ) → Clearing (quick e) at_wipe3 (8 * k + 6) b (now h) → k < rows_of e → b.regs.d ≡ 0 → h.spent ≤ 108 + 24 * (63 - k) → 1 ≤ h.ticks → Comes (quick e) (waited_pieces (quick e)) (Wipe3 k, tt) b h
+  pub wipe3_comes : (k : ℕ) → Clearing (quick e) at_wipe3 (8 * k + 6) b (now h) → k < rows_of e → b.regs.d ≡ 0 → h.spent ≤ 108 + 24 * (63 - k)
+      → 1 ≤ h.ticks → Comes (quick e) (waited_pieces (quick e)) (Wipe3 k, tt) b h
   wipe3_comes k o inside d spent tick = straight_on (Wipe3 k) tt o.holds (zeroed at_wipe3) (is_zeroed o d) _ (omega arith) refl
-      (λ h' g. to_waited (quick e) g _ refl (Wipe6 k) tt (record { holds = three o (8 * k + 3) (omega arith) (omega (arith, inside)); inside = o.inside; clears = o.clears; p = refl; r3 = refl; r4 = refl; pointer = refl; rd = omega (arith, fourth o (8 * k + 3) (omega arith), screen_is e) }, inside, refl) (omega (arith, spent, g.spent), omega (arith, tick, g.ticks)))
+      (λ h' g. to_waited (quick e) g _ refl (Wipe6 k) tt (
+        record {
+          holds = three o (8 * k + 3) (omega arith) (omega (arith, inside));
+          inside = o.inside;
+          clears = o.clears;
+          p = refl;
+          r3 = refl;
+          r4 = refl;
+          pointer = refl;
+          rd = omega (arith, fourth o (8 * k + 3) (omega arith), screen_is e);
+        },
+        inside,
+        refl,
+      )
+      (omega (arith, spent, g.spent), omega (arith, tick, g.ticks)))
 
-  pub wipe6_comes : (k : ℕ) → Clearing (quick e) at_wipe6 (8 * k + 3) b (now h) → k < rows_of e → b.regs.d ≡ 0 → h.spent ≤ 114 + 24 * (63 - k) → 1 ≤ h.ticks → Comes (quick e) (waited_pieces (quick e)) (Wipe6 k, tt) b h
+  pub wipe6_comes : (k : ℕ) → Clearing (quick e) at_wipe6 (8 * k + 3) b (now h) → k < rows_of e → b.regs.d ≡ 0 → h.spent ≤ 114 + 24 * (63 - k)
+      → 1 ≤ h.ticks → Comes (quick e) (waited_pieces (quick e)) (Wipe6 k, tt) b h
   wipe6_comes k o inside d spent tick = straight_on (Wipe6 k) tt o.holds (zeroed at_wipe6) (is_zeroed o d) _ (omega arith) refl
-      (λ h' g. to_waited (quick e) g _ refl (Wiped k) tt (record { holds = three o (8 * k) (omega arith) (omega (arith, inside)); inside = o.inside; clears = o.clears; p = refl; r3 = refl; r4 = refl; pointer = refl; rd = omega (arith, fourth o (8 * k) (omega arith), screen_is e) }, inside) (omega (arith, spent, g.spent), omega (arith, tick, g.ticks)))
+      (λ h' g. to_waited (quick e) g _ refl (Wiped k) tt (
+        record {
+          holds = three o (8 * k) (omega arith) (omega (arith, inside));
+          inside = o.inside;
+          clears = o.clears;
+          p = refl;
+          r3 = refl;
+          r4 = refl;
+          pointer = refl;
+          rd = omega (arith, fourth o (8 * k) (omega arith), screen_is e);
+        },
+        inside,
+      )
+      (omega (arith, spent, g.spent), omega (arith, tick, g.ticks)))
 
   -- ---- is RD below the screen
 
@@ -122,7 +212,15 @@ module _ (e : Edition) (b : Machine) (h : Since) (f : FitsMachine b) where
 
   module _ {a k : ℕ} (o : Clearing (quick e) a (8 * k) b (now h)) where
     on_screen : not (below == 0) ≡ true → 0 < k
-    on_screen n = omega (arith, o.rd, screen_is e, f.regs.r.rd.lo, λ (same : b.regs.r.rd.hi ≡ page_of e). nonzero below n (eqb-true below 0 (same_xor _ _ same)))
+    on_screen n =
+        omega (
+          arith,
+          o.rd,
+          screen_is e,
+          f.regs.r.rd.lo,
+          λ (same : b.regs.r.rd.hi
+              ≡ page_of e). nonzero below n (eqb-true below 0 (same_xor _ _ same)),
+        )
 
     past_screen : not (below == 0) ≡ false → k ≡ 0
     past_screen n = omega (arith, o.rd, screen_is e, f.regs.r.rd.lo, xor_same b.regs.r.rd.hi (page_of e) (eq-eqb below 0 (is_zero below n)))
@@ -132,15 +230,37 @@ module _ (e : Edition) (b : Machine) (h : Since) (f : FitsMachine b) where
   on_at c w = record c { regs = record c.regs { r = record c.regs.r { r3 = w } } }
 
   empties : {a k : ℕ} → Clearing (quick e) a (8 * k) b (now h) → k ≡ 0 → Holding (quick e) (places b) (step e Nothing (now h))
-  empties {k = k} o none = subst (Holding (quick e) (places b)) (ap (λ m. cleared_to m (now h)) empty_now ∙ ap (λ z. record (next (now h)) { screen = z }) (none_left (now h).screen) ∙ ap (λ j. done_by e j Nothing (now h)) (sym (clear_is o.clears))) o.holds
+  empties {k = k} o none =
+      subst (Holding (quick e) (places b))
+      (ap (λ m. cleared_to m (now h)) empty_now ∙ ap (λ z. record (next (now h)) { screen = z }) (none_left (now h).screen)
+      ∙ ap (λ j. done_by e j Nothing (now h)) (sym (clear_is o.clears))) o.holds
     where
       empty_now : 8 * k ≡ 0
       empty_now = omega (arith, none)
 
-  pub wiped_comes : (k : ℕ) → Clearing (quick e) at_wiped (8 * k) b (now h) → k < rows_of e → h.spent ≤ 120 + 24 * (63 - k) → 1 ≤ h.ticks → Comes (quick e) (waited_pieces (quick e)) (Wiped k, tt) b h
-  wiped_comes k o inside spent tick = forks_on (Wiped k) tt o.holds (clearing at_wiped b) (is_clearing o) (on_at (quicks (code (quick e)) 3 (clearing at_wiped b))) (not (below == 0)) at_wipe at_cleared (omega arith) refl
-      (λ n h' g. to_waited (quick e) g _ refl (Wipe (k - 1)) tt (recounted (8 * k) (8 * (k - 1) + 8) (omega (arith, on_screen o n)) (record { holds = o.holds; inside = o.inside; clears = o.clears; p = refl; r3 = refl; r4 = refl; pointer = refl; rd = o.rd }), omega (arith, inside)) (omega (arith, spent, g.spent, inside, on_screen o n, few_rows e), omega (arith, tick, g.ticks)))
-      (λ n h' g. to_waited (quick e) g _ refl Cleared tt (record { holds = empties o (past_screen o n); inside = o.inside; p = refl; r3 = refl; r4 = refl }, o.clears) (omega (arith, spent, g.spent, past_screen o n), omega (arith, tick, g.ticks)))
+  pub wiped_comes : (k : ℕ) → Clearing (quick e) at_wiped (8 * k) b (now h) → k < rows_of e → h.spent ≤ 120 + 24 * (63 - k) → 1 ≤ h.ticks
+      → Comes (quick e) (waited_pieces (quick e)) (Wiped k, tt) b h
+  wiped_comes k o inside spent tick =
+      forks_on (Wiped k) tt o.holds (clearing at_wiped b) (is_clearing o) (on_at (quicks (code (quick e)) 3 (clearing at_wiped b)))
+      (not (below == 0)) at_wipe at_cleared (omega arith) refl
+      (λ n h' g. to_waited (quick e) g _ refl (Wipe (k - 1)) tt (
+        recounted (8 * k) (8 * (k - 1)
+            + 8) (omega (arith, on_screen o n)) (record {
+              holds = o.holds;
+              inside = o.inside;
+              clears = o.clears;
+              p = refl;
+              r3 = refl;
+              r4 = refl;
+              pointer = refl;
+              rd = o.rd;
+            }),
+        omega (arith, inside),
+      )
+      (omega (arith, spent, g.spent, inside, on_screen o n, few_rows e), omega (arith, tick, g.ticks)))
+      (λ n h' g. to_waited (quick e) g _ refl Cleared tt
+      (record { holds = empties o (past_screen o n); inside = o.inside; p = refl; r3 = refl; r4 = refl }, o.clears)
+      (omega (arith, spent, g.spent, past_screen o n), omega (arith, tick, g.ticks)))
 
   pub cleared_comes : Done (quick e) at_cleared b (now h) → Clears (now h) → 1 ≤ h.ticks → Comes (quick e) (waited_pieces (quick e)) (Cleared, tt) b h
   cleared_comes o is tick = straight_on Cleared tt o.holds (on_3 at_cleared b) (is_on_3 at_cleared b o.p o.r3) _ (omega arith) refl

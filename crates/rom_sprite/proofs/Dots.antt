@@ -20,11 +20,33 @@ dot_tells rows bytes x0 y0 r x y = (from, to)
     from : dots_of_row rows bytes x0 y0 r x y ≡ true → Dot rows bytes x0 y0 r x y
     from e = let (c, h, f) = (some_tells _ 8).0 e in at c h f
       where
-        at : (c : ℕ) → c < 8 → ((x == x0 + c && y == y0 + r) && (is_set (bytes r) (7 - c) && (nat_lt (x0 + c) 64 && nat_lt (y0 + r) rows))) ≡ true → Dot rows bytes x0 y0 r x y
-        at c h f = let p = and_parts (x == x0 + c && y == y0 + r) _ f in let q = and_parts (x == x0 + c) (y == y0 + r) p.0 in let u = and_parts (is_set (bytes r) (7 - c)) _ p.1 in let v = and_parts (nat_lt (x0 + c) 64) (nat_lt (y0 + r) rows) u.1 in (c, h, eqb-true _ _ q.0, eqb-true _ _ q.1, u.0, omega (arith, eqb-true x (x0 + c) q.0, ltb-true (x0 + c) 64 v.0), omega (arith, eqb-true y (y0 + r) q.1, ltb-true (y0 + r) rows v.1))
+        at : (c : ℕ) → c < 8 → ((x == x0 + c && y == y0 + r) && (is_set (bytes r) (7 - c) && (nat_lt (x0 + c) 64 && nat_lt (y0 + r) rows))) ≡ true
+            → Dot rows bytes x0 y0 r x y
+        at c h f =
+            let p = and_parts (x == x0 + c && y == y0 + r) _ f in let q = and_parts (x == x0 + c) (y == y0 + r) p.0 in
+            let u = and_parts (is_set (bytes r) (7 - c)) _ p.1 in let v = and_parts (nat_lt (x0 + c) 64) (nat_lt (y0 + r) rows) u.1 in (
+              c,
+              h,
+              eqb-true _ _ q.0,
+              eqb-true _ _ q.1,
+              u.0,
+              omega (
+                arith,
+                eqb-true x (x0 + c) q.0,
+                ltb-true (x0
+                    + c) 64 v.0,
+              ),
+              omega (arith, eqb-true y (y0 + r) q.1, ltb-true (y0 + r) rows v.1),
+            )
 
     to : Dot rows bytes x0 y0 r x y → dots_of_row rows bytes x0 y0 r x y ≡ true
-    to (c, h, i, j, s, k, l) = (some_tells _ 8).1 (c, h, and_from _ _ (and_from _ _ (eq-eqb _ _ i) (eq-eqb _ _ j)) (and_from _ _ s (and_from _ _ (lt-ltb (x0 + c) 64 (omega (arith, i, k))) (lt-ltb (y0 + r) rows (omega (arith, j, l))))))
+    to (c, h, i, j, s, k, l) =
+        (some_tells _ 8).1 (
+          c,
+          h,
+          and_from _ _ (and_from _ _ (eq-eqb _ _ i) (eq-eqb _ _ j)) (and_from _ _ s
+              (and_from _ _ (lt-ltb (x0 + c) 64 (omega (arith, i, k))) (lt-ltb (y0 + r) rows (omega (arith, j, l))))),
+        )
 
 turned : (d e f : Bool) → ((d || e) || f) ≡ ((e || f) || d)
 turned true true f = refl
@@ -70,14 +92,21 @@ module _ (rows : ℕ) (bytes : ℕ → ℕ) (x0 y0 : ℕ) (start : x0 < 64) wher
       tells p h = word_tells (bytes r) (x0 % 8) p small (omega arith) h
 
       lower : (m : ℕ) → m < 8 → is_set (shifted x0 (bytes r) % 256) (7 - m) ≡ is_set (shifted x0 (bytes r)) (15 - (8 + m))
-      lower m h = ap (is_set (shifted x0 (bytes r) % 256)) (omega arith) ∙ ap (λ z. z == 1) (word_lower (shifted x0 (bytes r)) (8 + m) (omega arith) (omega arith))
+      lower m h =
+          ap (is_set (shifted x0 (bytes r) % 256)) (omega arith)
+          ∙ ap (λ z. z == 1) (word_lower (shifted x0 (bytes r)) (8 + m) (omega arith) (omega arith))
 
       upper : (m : ℕ) → m < 8 → is_set (left x0 (bytes r)) (7 - m) ≡ is_set (shifted x0 (bytes r)) (15 - m)
       upper m h = ap (λ z. z == 1) (word_upper (shifted x0 (bytes r)) m h)
 
       from : (left_dots r x y ≡ true) ⊎ (right_dots r x y ≡ true) → Dot rows bytes x0 y0 r x y
-      from (inl e) = let (h, k, i, s) = at_byte _ _ x y e in let f = left_place r x y e in let (c, l, j, t) = (tells (x % 8) (omega arith)).0 (sym (upper (x % 8) (omega arith)) ∙ s) in (c, l, omega (arith, f.1), f.0, t, h, k)
-      from (inr e) = let (h, k, i, s) = at_byte _ _ x y e in let f = right_place r x y e in let (c, l, j, t) = (tells (8 + x % 8) (omega arith)).0 (sym (lower (x % 8) (omega arith)) ∙ (before_last r _ s).1) in (c, l, omega (arith, f.1), f.0, t, h, k)
+      from (inl e) =
+          let (h, k, i, s) = at_byte _ _ x y e in let f = left_place r x y e in
+          let (c, l, j, t) = (tells (x % 8) (omega arith)).0 (sym (upper (x % 8) (omega arith)) ∙ s) in (c, l, omega (arith, f.1), f.0, t, h, k)
+      from (inr e) =
+          let (h, k, i, s) = at_byte _ _ x y e in let f = right_place r x y e in
+          let (c, l, j, t) = (tells (8 + x % 8) (omega arith)).0 (sym (lower (x % 8) (omega arith)) ∙ (before_last r _ s).1) in
+          (c, l, omega (arith, f.1), f.0, t, h, k)
 
       to : Dot rows bytes x0 y0 r x y → (left_dots r x y || right_dots r x y) ≡ true
       to (c, h, i, j, s, k, l) = at (cases_lt (x0 % 8 + c) 8)
@@ -86,13 +115,22 @@ module _ (rows : ℕ) (bytes : ℕ → ℕ) (x0 y0 : ℕ) (start : x0 < 64) wher
           word = (tells (x0 % 8 + c) (omega (arith, h))).1 (c, h, refl, s)
 
           at : (x0 % 8 + c < 8) ⊎ (8 ≤ x0 % 8 + c) → (left_dots r x y || right_dots r x y) ≡ true
-          at (inl z) = or_left _ _ (inside rows x y _ k l (and_from _ _ (eq-eqb (8 * y + x / 8) (place r) (omega (arith, i, j, z))) (upper (x % 8) (omega arith) ∙ ap (λ m. is_set (shifted x0 (bytes r)) (15 - m)) (omega (arith, i, z)) ∙ word)))
-          at (inr z) = or_right _ _ (inside rows x y _ k l (and_from _ _ (eq-eqb (8 * y + x / 8) (place r + 1) (omega (arith, i, j, z, h, k))) (rw (ne_eqb (x0 / 8) 7 (λ f. omega (arith, f, i, z, k, h))) (lower (x % 8) (omega arith) ∙ ap (λ m. is_set (shifted x0 (bytes r)) (15 - m)) (omega (arith, i, z, h)) ∙ word))))
+          at (inl z) =
+              or_left _ _ (inside rows x y _ k l
+              (and_from _ _ (eq-eqb (8 * y + x / 8) (place r) (omega (arith, i, j, z)))
+              (upper (x % 8) (omega arith) ∙ ap (λ m. is_set (shifted x0 (bytes r)) (15 - m)) (omega (arith, i, z)) ∙ word)))
+          at (inr z) =
+              or_right _ _ (inside rows x y _ k l
+              (and_from _ _ (eq-eqb (8 * y + x / 8) (place r + 1) (omega (arith, i, j, z, h, k)))
+              (rw (ne_eqb (x0 / 8) 7 (λ f. omega (arith, f, i, z, k, h)))
+              (lower (x % 8) (omega arith) ∙ ap (λ m. is_set (shifted x0 (bytes r)) (15 - m)) (omega (arith, i, z, h)) ∙ word))))
 
   -- one row more
   pub rows_grow : (r : ℕ) → bytes r < 256 → either (either (dots rows bytes x0 y0 r) (left_dots r)) (right_dots r) ≡ dots rows bytes x0 y0 (suc r)
   unfolding some_below
-  rows_grow r small = λ i x y. (turned (dots rows bytes x0 y0 r x y) (left_dots r x y) (right_dots r x y) ∙ ap (λ t. t || dots rows bytes x0 y0 r x y) (same_from_decides _ _ (row_tells r small x y) (dot_tells rows bytes x0 y0 r x y))) i
+  rows_grow r small =
+      λ i x y. (turned (dots rows bytes x0 y0 r x y) (left_dots r x y) (right_dots r x y)
+      ∙ ap (λ t. t || dots rows bytes x0 y0 r x y) (same_from_decides _ _ (row_tells r small x y) (dot_tells rows bytes x0 y0 r x y))) i
 
   pub left_small : (r : ℕ) → bytes r < 256 → left x0 (bytes r) < 256
   left_small r small = omega (arith, small, shr_le (bytes r * 256) (x0 % 8))
@@ -109,7 +147,9 @@ module _ (rows : ℕ) (bytes : ℕ → ℕ) (x0 y0 : ℕ) (start : x0 < 64) wher
 
   -- earlier rows lie above
   pub above : (r x y : ℕ) → dots rows bytes x0 y0 r x y ≡ true → y < y0 + r
-  above r x y e = let (k, h, f) = (some_tells (λ r. dots_of_row rows bytes x0 y0 r x y) r).0 e in let (c, i, j, z, q, u, v) = (dot_tells rows bytes x0 y0 k x y).0 f in omega (arith, h, z)
+  above r x y e =
+      let (k, h, f) = (some_tells (λ r. dots_of_row rows bytes x0 y0 r x y) r).0 e in
+      let (c, i, j, z, q, u, v) = (dot_tells rows bytes x0 y0 k x y).0 f in omega (arith, h, z)
 
   -- and so does the first byte of a row before its second
   pub apart_left : (r : ℕ) → Apart (dots rows bytes x0 y0 r) (left_dots r)

@@ -25,7 +25,8 @@ use Rattle.rom_sprite.proofs.Prepare.{row_comes, row_byte_comes, shift_comes, sh
 use Rattle.rom_sprite.specs.Code.{sprite_rom}
 
 -- before a wait
-pub sprite_block : (e : Edition) (l : SpriteBlock) → IsEarly l → (b : Machine) (h : Since) → FitsMachine b → Head (quick e) (OfSprite l) b h → Comes (quick e) (calm_pieces (quick e)) (OfSprite l) b h
+pub sprite_block : (e : Edition) (l : SpriteBlock) → IsEarly l → (b : Machine) (h : Since) → FitsMachine b → Head (quick e) (OfSprite l) b h
+    → Comes (quick e) (calm_pieces (quick e)) (OfSprite l) b h
 sprite_block e Clear w b h f o = clear_comes e b h f o.0.0 o.0.1 o.1
 sprite_block e Draw w b h f o = draw_comes e b h f o.0 o.1
 sprite_block e DrawCheck w b h f o = draw_check_comes e b h f o.0.0 o.0.1 o.0.2 o.1
@@ -45,7 +46,8 @@ sprite_block e Ready w b h f o = ready_comes e b h f o.0 o.1
 sprite_block e _ w b h f o = absurd w
 
 -- behind a wait main code stays behind it
-pub sprite_waited : (e : Edition) (l : SpriteBlock) (w : IsWaited l) (b : Machine) (h : Since) → FitsMachine b → Head (quick e) (OfSprite l) b h → Comes (quick e) (waited_pieces (quick e)) (l, w) b h
+pub sprite_waited : (e : Edition) (l : SpriteBlock) (w : IsWaited l) (b : Machine) (h : Since) → FitsMachine b → Head (quick e) (OfSprite l) b h
+    → Comes (quick e) (waited_pieces (quick e)) (l, w) b h
 sprite_waited e (Wipe k) w b h f o = wipe_comes e b h f k o.0.0 o.0.1 o.1.0 o.1.1
 sprite_waited e (Wipe3 k) w b h f o = wipe3_comes e b h f k o.0.0 o.0.1 o.0.2 o.1.0 o.1.1
 sprite_waited e (Wipe6 k) w b h f o = wipe6_comes e b h f k o.0.0 o.0.1 o.0.2 o.1.0 o.1.1
@@ -58,7 +60,8 @@ sprite_waited e Drawn w b h f o = drawn_comes e b h f o.0 o.1.1
 sprite_waited e _ w b h f o = absurd w
 
 -- before it and behind it
-pub sprite_any : (e : Edition) (l : SpriteBlock) (b : Machine) (h : Since) → FitsMachine b → Head (quick e) (OfSprite l) b h → Comes (quick e) (pieces (quick e)) (OfSprite l) b h
+pub sprite_any : (e : Edition) (l : SpriteBlock) (b : Machine) (h : Since) → FitsMachine b → Head (quick e) (OfSprite l) b h
+    → Comes (quick e) (pieces (quick e)) (OfSprite l) b h
 sprite_any e Clear b h f o = comes_calm (sprite_block e Clear tt b h f o)
 sprite_any e (Wipe k) b h f o = comes_joined (wipe_comes e b h f k o.0.0 o.0.1 o.1.0 o.1.1)
 sprite_any e (Wipe3 k) b h f o = comes_joined (wipe3_comes e b h f k o.0.0 o.0.1 o.0.2 o.1.0 o.1.1)
@@ -88,21 +91,24 @@ sprite_any e Drawn b h f o = comes_joined (drawn_comes e b h f o.0 o.1.1)
 pub sprite_rows : SpriteRows sprite_rom
 sprite_rows e l = block_rows_in e (both_is e) (both_fits e) (OfSprite l) (sprite_any e l)
 
-pub sprite_place : (e : Edition) (l : SpritePlace) (b : Machine) (h : Since) → FitsMachine b → At (quick e) (AtSprite l) b h → Holds (quick e) (pieces (quick e)) (AtSprite l) b h
+pub sprite_place : (e : Edition) (l : SpritePlace) (b : Machine) (h : Since) → FitsMachine b → At (quick e) (AtSprite l) b h
+    → Holds (quick e) (pieces (quick e)) (AtSprite l) b h
 sprite_place e ClearWait b h f o = holds_calm (clear_wait_holds e b h f o.0 o o.1)
 sprite_place e ClearIdle b h f o = clear_idle_holds e b h f o.0.0 o.0.1 o.1
 sprite_place e DrawWait b h f o = holds_calm (draw_wait_holds e b h f o.0 o o.1)
 sprite_place e DrawIdle b h f o = draw_idle_holds e b h f o.0.0 o.0.1 o.1
 
 -- where main code runs
-pub sprite_place_early : (e : Edition) (l : SpritePlace) (b : Machine) (h : Since) → FitsMachine b → b.regs.idle ≡ false → At (quick e) (AtSprite l) b h → Holds (quick e) (calm_pieces (quick e)) (AtSprite l) b h
+pub sprite_place_early : (e : Edition) (l : SpritePlace) (b : Machine) (h : Since) → FitsMachine b → b.regs.idle ≡ false
+    → At (quick e) (AtSprite l) b h → Holds (quick e) (calm_pieces (quick e)) (AtSprite l) b h
 sprite_place_early e ClearWait b h f i o = clear_wait_holds e b h f o.0 o o.1
 sprite_place_early e ClearIdle b h f i o = cc (o.0.1, i)
 sprite_place_early e DrawWait b h f i o = draw_wait_holds e b h f o.0 o o.1
 sprite_place_early e DrawIdle b h f i o = cc (o.0.1, i)
 
 -- a tick that ends a wait comes behind it
-pub sprite_wakes : (e : Edition) (l : SpritePlace) (b : Machine) (h : Since) → FitsMachine b → b.regs.idle ≡ true → At (quick e) (AtSprite l) b h → (c : Machine) → Tick (code (quick e)).low b c → Starts (waited_pieces (quick e)) c (after_tick h)
+pub sprite_wakes : (e : Edition) (l : SpritePlace) (b : Machine) (h : Since) → FitsMachine b → b.regs.idle ≡ true → At (quick e) (AtSprite l) b h
+    → (c : Machine) → Tick (code (quick e)).low b c → Starts (waited_pieces (quick e)) c (after_tick h)
 sprite_wakes e ClearWait b h f i o c k = cc (o.0.holds.awake, i)
 sprite_wakes e ClearIdle b h f i o c k = clear_wakes e b h f o.0.0 o.1 c k
 sprite_wakes e DrawWait b h f i o c k = cc (o.0.holds.awake, i)

@@ -53,7 +53,10 @@ use Rattle.rom_sprite.proofs.Waits.{waking, woken_fits, waits}
 
 -- the machine while the rows are drawn
 abbrev pub painting : Edition → ℕ → ℕ → Machine → Machine
-painting e a w b = record b { regs = record b.regs { p = 3; x = 13; r = record b.regs.r { r3 = word_of a; r4 = word_of at_fetch; r7 = word (page_of e) (0xd0 + w) } } }
+painting e a w b =
+    record b {
+      regs = record b.regs { p = 3; x = 13; r = record b.regs.r { r3 = word_of a; r4 = word_of at_fetch; r7 = word (page_of e) (0xd0 + w) } };
+    }
 
 pub is_painting : {e : Edition} {a w m n : ℕ} {d : Pixels} {b : Machine} {s : Lang} → Painting (quick e) a w m n d b s → b ≡ painting e a w b
 is_painting {b = b} o = λ i. record b { regs = record b.regs { p = o.p i; x = o.pointer i; r = record b.regs.r { r3 = o.r3 i; r4 = o.r4 i; r7 = o.r7 i } } }
@@ -77,7 +80,9 @@ module _ (e : Edition) (b : Machine) (h : Since) (f : FitsMachine b) where
   ready_comes o spent = straight (OfSprite Ready) o.holds (preparing e at_ready (rows + rows) b) (is_preparing o) _ (omega arith) refl
       (λ h' g. to_sprite_place (quick e) g _ refl DrawWait (record {
         draws = o.draws;
-        holds = subst (λ z. Holding (quick e) (places b) (record (next (now h)) { screen = z })) (none_drawn (rows_of e) (sprite_row (now h)) (column (now h)) (top e (now h)) (now h).screen) o.holds;
+        holds =
+            subst (λ z. Holding (quick e) (places b) (record (next (now h)) { screen = z }))
+            (none_drawn (rows_of e) (sprite_row (now h)) (column (now h)) (top e (now h)) (now h).screen) o.holds;
         prepared = record { lefts = o.prepared.lefts; rights = o.prepared.rights };
         p = refl;
         r3 = refl;
@@ -92,23 +97,59 @@ module _ (e : Edition) (b : Machine) (h : Since) (f : FitsMachine b) where
 
   -- ---- the wait
 
-  pub draw_wait_holds : Painting (quick e) at_draw_wait 0 0 rows (lit e 0 (now h)) b (now h) → At (quick e) (AtSprite DrawWait) b h → h.spent ≤ 2152 → Holds (quick e) (calm_pieces (quick e)) (AtSprite DrawWait) b h
+  pub draw_wait_holds : Painting (quick e) at_draw_wait 0 0 rows (lit e 0 (now h)) b (now h) → At (quick e) (AtSprite DrawWait) b h → h.spent ≤ 2152
+      → Holds (quick e) (calm_pieces (quick e)) (AtSprite DrawWait) b h
   draw_wait_holds o at spent = alone (AtSprite DrawWait) f at o.holds (painting e at_draw_wait 0 b) (is_painting o) refl refl refl
-      (λ u. to_sprite_place (quick e) (one_more u h) _ refl DrawIdle (record { draws = o.draws; holds = waking o.holds; prepared = record { lefts = o.prepared.lefts; rights = o.prepared.rights }; p = refl; r3 = refl; r4 = refl; pointer = refl; r7 = refl; rd = o.rd; count = o.count; few = o.few; hit = o.hit }, refl) (omega (arith, spent)))
+      (λ u. to_sprite_place (quick e) (one_more u h) _ refl DrawIdle (
+        record {
+          draws = o.draws;
+          holds = waking o.holds;
+          prepared = record { lefts = o.prepared.lefts; rights = o.prepared.rights };
+          p = refl;
+          r3 = refl;
+          r4 = refl;
+          pointer = refl;
+          r7 = refl;
+          rd = o.rd;
+          count = o.count;
+          few = o.few;
+          hit = o.hit;
+        },
+        refl,
+      )
+      (omega (arith, spent)))
 
-  pub draw_wakes : Painting (quick e) at_line 0 0 rows (lit e 0 (now h)) (woken b) (now h) → h.spent ≤ 2154 → (c : Machine) → Tick (code (quick e)).low b c → Starts (waited_pieces (quick e)) c (after_tick h)
-  draw_wakes o spent c k = Enters (Line 0, tt) ((subst (λ n. Painting (quick e) at_line 0 0 n (lit e 0 (tick (now h))) c (tick (now h))) (no_less (height e (tick (now h)))) (painting_later (quick e) 1 (after_wait (code (quick e)).low b c k) (woken_fits b f) (now h) at_line o), omega arith), (omega (arith, spent), omega arith))
+  pub draw_wakes : Painting (quick e) at_line 0 0 rows (lit e 0 (now h)) (woken b) (now h) → h.spent ≤ 2154 → (c : Machine)
+      → Tick (code (quick e)).low b c → Starts (waited_pieces (quick e)) c (after_tick h)
+  draw_wakes o spent c k =
+      Enters (Line 0, tt) (
+        (
+          subst (λ n. Painting (quick e) at_line 0 0 n (lit e 0 (tick (now h))) c (tick (now h))) (no_less
+              (height e (tick (now h)))) (painting_later (quick e) 1 (after_wait (code (quick e)).low b c k) (woken_fits b f)
+              (now h) at_line o),
+          omega arith,
+        ),
+        (omega (arith, spent), omega arith),
+      )
 
-  pub draw_idle_holds : Painting (quick e) at_line 0 0 rows (lit e 0 (now h)) (woken b) (now h) → b.regs.idle ≡ true → h.spent ≤ 2154 → Holds (quick e) (pieces (quick e)) (AtSprite DrawIdle) b h
+  pub draw_idle_holds : Painting (quick e) at_line 0 0 rows (lit e 0 (now h)) (woken b) (now h) → b.regs.idle ≡ true → h.spent ≤ 2154
+      → Holds (quick e) (pieces (quick e)) (AtSprite DrawIdle) b h
   draw_idle_holds o idle spent = waits (AtSprite DrawIdle) o.holds idle
       (λ c k. starts_joined (quick e) c (after_tick h) (draw_wakes o spent c k))
 
   -- ---- are all rows drawn
 
-  pub line_comes : (r : ℕ) → Painting (quick e) at_line (2 * r) (8 * r) (rows - r) (lit e r (now h)) b (now h) → r ≤ rows → h.spent ≤ 2154 + 58 * r → 1 ≤ h.ticks → Comes (quick e) (waited_pieces (quick e)) (Line r, tt) b h
-  line_comes r o inside spent tick = forks_on (Line r) tt o.holds (on_3 at_line b) (is_on_3 at_line b o.p o.r3) (on_at (quicks (code (quick e)) 2 (on_3 at_line b))) (b.regs.r.re.lo == 0) at_drawn at_line_left (omega arith) refl
-      (λ k h' g. to_waited (quick e) g _ refl Drawn tt (subst (λ z. Painting (quick e) at_drawn (2 * z) (8 * z) 0 (lit e z (now h)) (on_at (quicks (code (quick e)) 2 (on_3 at_line b)) (word_of at_drawn)) (now h)) (all k) (goes at_drawn 0 (eqb-true b.regs.r.re.lo 0 k))) (omega (arith, spent, g.spent, few, all k), omega (arith, tick, g.ticks)))
-      (λ k h' g. to_waited (quick e) g _ refl (LineLeft r) tt (goes at_line_left (rows - r) o.count, more k) (omega (arith, spent, g.spent), omega (arith, tick, g.ticks)))
+  pub line_comes : (r : ℕ) → Painting (quick e) at_line (2 * r) (8 * r) (rows - r) (lit e r (now h)) b (now h) → r ≤ rows → h.spent ≤ 2154 + 58 * r
+      → 1 ≤ h.ticks → Comes (quick e) (waited_pieces (quick e)) (Line r, tt) b h
+  line_comes r o inside spent tick =
+      forks_on (Line r) tt o.holds (on_3 at_line b) (is_on_3 at_line b o.p o.r3) (on_at (quicks (code (quick e)) 2 (on_3 at_line b)))
+      (b.regs.r.re.lo == 0) at_drawn at_line_left (omega arith) refl
+      (λ k h' g. to_waited (quick e) g _ refl Drawn tt
+      (subst (λ z. Painting (quick e) at_drawn (2 * z) (8 * z) 0 (lit e z (now h))
+      (on_at (quicks (code (quick e)) 2 (on_3 at_line b)) (word_of at_drawn)) (now h)) (all k)
+      (goes at_drawn 0 (eqb-true b.regs.r.re.lo 0 k))) (omega (arith, spent, g.spent, few, all k), omega (arith, tick, g.ticks)))
+      (λ k h' g. to_waited (quick e) g _ refl (LineLeft r) tt (goes at_line_left (rows - r) o.count, more k)
+      (omega (arith, spent, g.spent), omega (arith, tick, g.ticks)))
     where
       all : (b.regs.r.re.lo == 0) ≡ true → r ≡ rows
       all k = omega (arith, eqb-true b.regs.r.re.lo 0 k, o.count, inside)
@@ -116,8 +157,23 @@ module _ (e : Edition) (b : Machine) (h : Since) (f : FitsMachine b) where
       more : (b.regs.r.re.lo == 0) ≡ false → r < rows
       more k = omega (arith, eqb-false b.regs.r.re.lo 0 k, o.count, inside)
 
-      goes : (a n : ℕ) → b.regs.r.re.lo ≡ n → Painting (quick e) a (2 * r) (8 * r) n (lit e r (now h)) (on_at (quicks (code (quick e)) 2 (on_3 at_line b)) (word_of a)) (now h)
-      goes a n count = record { draws = o.draws; holds = o.holds; prepared = record { lefts = o.prepared.lefts; rights = o.prepared.rights }; p = refl; r3 = refl; r4 = o.r4; pointer = o.pointer; r7 = o.r7; rd = o.rd; count = count; few = o.few; hit = o.hit }
+      goes : (a n : ℕ) → b.regs.r.re.lo ≡ n
+          → Painting (quick e) a (2 * r) (8 * r) n (lit e r (now h)) (on_at (quicks (code (quick e)) 2 (on_3 at_line b)) (word_of a)) (now h)
+      goes a n count =
+          record {
+            draws = o.draws;
+            holds = o.holds;
+            prepared = record { lefts = o.prepared.lefts; rights = o.prepared.rights };
+            p = refl;
+            r3 = refl;
+            r4 = o.r4;
+            pointer = o.pointer;
+            r7 = o.r7;
+            rd = o.rd;
+            count = count;
+            few = o.few;
+            hit = o.hit;
+          }
 
   -- ---- a byte is drawn
 
@@ -140,9 +196,20 @@ module _ (e : Edition) (b : Machine) (h : Since) (f : FitsMachine b) where
     more_dots = either d (dots_of_byte (rows_of e) m q)
 
     byte_holds : Holding (quick e) (record (places b) { ram = changed w }) (painted more_dots (now h))
-    byte_holds = subst (λ k. Holding (quick e) (record (places b) { ram = written b.latch b.ram k (bit_xor (mine w) (read (both e) b.latch b.ram k)) }) (painted more_dots (now h))) (sym at)
-        (subst (λ k. Holding (quick e) (record (places b) { ram = written b.latch b.ram (screen_start e + m) (bit_xor k (read (both e) b.latch b.ram (screen_start e + m))) }) (painted more_dots (now h))) (sym is)
-        (subst (λ z. Holding (quick e) (record (places b) { ram = written b.latch b.ram (screen_start e + m) (bit_xor q (read (both e) b.latch b.ram (screen_start e + m))) }) (record (next (now h)) { screen = z })) (difference_either (now h).screen d (dots_of_byte (rows_of e) m q) apart) (screen_put o.holds m q near small last)))
+    byte_holds =
+        subst (λ k. Holding (quick e) (record (places b) { ram = written b.latch b.ram k (bit_xor (mine w) (read (both e) b.latch b.ram k)) })
+        (painted more_dots (now h))) (sym at)
+        (subst (λ k. Holding (quick e)
+        (record (places b) {
+          ram = written b.latch b.ram (screen_start e + m)
+              (bit_xor k (read (both e) b.latch b.ram (screen_start e + m)));
+        }) (painted more_dots (now h))) (sym is)
+        (subst (λ z. Holding (quick e)
+        (record (places b) {
+          ram = written b.latch b.ram (screen_start e + m)
+              (bit_xor q (read (both e) b.latch b.ram (screen_start e + m)));
+        }) (record (next (now h)) { screen = z }))
+        (difference_either (now h).screen d (dots_of_byte (rows_of e) m q) apart) (screen_put o.holds m q near small last)))
 
     bits_fit : bit_and (mine w) theirs < 256
     bits_fit = omega (arith, is, small, and_le_l (mine w) theirs)
@@ -151,7 +218,9 @@ module _ (e : Edition) (b : Machine) (h : Since) (f : FitsMachine b) where
     meeting = ap₂ (λ k j. not (bit_and k (read (both e) b.latch b.ram j) == 0)) is at ∙ screen_hit o.holds m q near small last
 
     byte_hit : not (count_after w == 0) ≡ meets (rows_of e) (now h).screen more_dots
-    byte_hit = counted b.regs.r.rc.lo (bit_and (mine w) theirs) (omega (arith, o.few, room)) bits_fit ∙ ap₂ (λ t u. t || u) o.hit meeting ∙ sym (meets_either (rows_of e) (now h).screen d (dots_of_byte (rows_of e) m q) apart)
+    byte_hit =
+        counted b.regs.r.rc.lo (bit_and (mine w) theirs) (omega (arith, o.few, room)) bits_fit ∙ ap₂ (λ t u. t || u) o.hit meeting
+        ∙ sym (meets_either (rows_of e) (now h).screen d (dots_of_byte (rows_of e) m q) apart)
 
     byte_few : count_after w ≤ w + 1
     byte_few = omega (arith, o.few, room, bits_fit)
@@ -182,7 +251,8 @@ module _ (e : Edition) (b : Machine) (h : Since) (f : FitsMachine b) where
     near_edge : place < 8 * rows_of e
     near_edge = omega (arith, inside)
 
-    row_small : {p : Places} (d : Pixels) → Draws (quick e) (now h) → Holding (quick e) p (painted d (now h)) → ((i : ℕ) → slice_index p.ram i < 256) → sprite_row (now h) r < 256
+    row_small : {p : Places} (d : Pixels) → Draws (quick e) (now h) → Holding (quick e) p (painted d (now h)) → ((i : ℕ) → slice_index p.ram i < 256)
+        → sprite_row (now h) r < 256
     row_small d t o bytes = byte_small o bytes ((now h).i + r) (readable_row e (now h).i (asked (now h)) r (omega (arith, inside)) t.readable)
 
     start : column (now h) < 64
@@ -199,8 +269,11 @@ module _ (e : Edition) (b : Machine) (h : Since) (f : FitsMachine b) where
     abbrev painted_left : Machine
     painted_left = quicks (code (quick e)) 11 (painting e at_line_left (2 * r) b)
 
-    pub line_left_comes : Painting (quick e) at_line_left (2 * r) (8 * r) (rows - r) (lit e r (now h)) b (now h) → h.spent ≤ 2158 + 58 * r → 1 ≤ h.ticks → Comes (quick e) (waited_pieces (quick e)) (LineLeft r, tt) b h
-    line_left_comes o spent tick = straight_on (LineLeft r) tt o.holds (painting e at_line_left (2 * r) b) (is_painting o) painted_left (omega (arith, o.holds.stack, stack_top_is e, page_low e, o.rd, screen_is e)) refl
+    pub line_left_comes : Painting (quick e) at_line_left (2 * r) (8 * r) (rows - r) (lit e r (now h)) b (now h) → h.spent ≤ 2158 + 58 * r
+        → 1 ≤ h.ticks → Comes (quick e) (waited_pieces (quick e)) (LineLeft r, tt) b h
+    line_left_comes o spent tick =
+        straight_on (LineLeft r) tt o.holds (painting e at_line_left (2 * r) b) (is_painting o) painted_left
+        (omega (arith, o.holds.stack, stack_top_is e, page_low e, o.rd, screen_is e)) refl
         (λ h' g. to_waited (quick e) g painted_left refl (LineRight r) tt (
           record {
             draws = o.draws;
@@ -226,7 +299,9 @@ module _ (e : Edition) (b : Machine) (h : Since) (f : FitsMachine b) where
         place_below = omega (arith, at, near_edge, screen_ends e)
 
         is : mine (2 * r) ≡ left_byte
-        is = read_is o.holds (value (word (page_of e) (0xd0 + 2 * r))) (omega (arith, inside, few, page_fits e)) ∙ ap (slice_index b.ram) (omega (arith, work_is e)) ∙ o.prepared.lefts r inside
+        is =
+            read_is o.holds (value (word (page_of e) (0xd0 + 2 * r))) (omega (arith, inside, few, page_fits e))
+            ∙ ap (slice_index b.ram) (omega (arith, work_is e)) ∙ o.prepared.lefts r inside
 
         near : place ≤ 8 * rows_of e
         near = omega (arith, near_edge)
@@ -248,8 +323,11 @@ module _ (e : Edition) (b : Machine) (h : Since) (f : FitsMachine b) where
     abbrev painted_right : Machine
     painted_right = quicks (code (quick e)) 16 (painting e at_line_right (2 * r + 1) b)
 
-    pub line_right_comes : Painting (quick e) at_line_right (2 * r + 1) (8 * r + 1) (rows - (r + 1)) (half_lit e r (now h)) b (now h) → h.spent ≤ 2180 + 58 * r → 1 ≤ h.ticks → Comes (quick e) (waited_pieces (quick e)) (LineRight r, tt) b h
-    line_right_comes o spent tick = straight_on (LineRight r) tt o.holds (painting e at_line_right (2 * r + 1) b) (is_painting o) painted_right (omega (arith, o.holds.stack, stack_top_is e, page_low e, o.rd, screen_is e)) refl
+    pub line_right_comes : Painting (quick e) at_line_right (2 * r + 1) (8 * r + 1) (rows - (r + 1)) (half_lit e r (now h)) b (now h)
+        → h.spent ≤ 2180 + 58 * r → 1 ≤ h.ticks → Comes (quick e) (waited_pieces (quick e)) (LineRight r, tt) b h
+    line_right_comes o spent tick =
+        straight_on (LineRight r) tt o.holds (painting e at_line_right (2 * r + 1) b) (is_painting o) painted_right
+        (omega (arith, o.holds.stack, stack_top_is e, page_low e, o.rd, screen_is e)) refl
         (λ h' g. to_waited (quick e) g painted_right refl (Line (suc r)) tt (
           subst (λ z. Painting (quick e) at_line (2 * suc r) (8 * suc r) (rows - suc r) z painted_right (now h)) grown (record {
             draws = o.draws;
@@ -275,7 +353,9 @@ module _ (e : Edition) (b : Machine) (h : Since) (f : FitsMachine b) where
         place_below = omega (arith, at, near_edge, screen_ends e)
 
         is : mine (2 * r + 1) ≡ right_byte
-        is = read_is o.holds (value (word (page_of e) (0xd0 + (2 * r + 1)))) (omega (arith, inside, few, page_fits e)) ∙ ap (slice_index b.ram) (omega (arith, work_is e)) ∙ o.prepared.rights r inside
+        is =
+            read_is o.holds (value (word (page_of e) (0xd0 + (2 * r + 1)))) (omega (arith, inside, few, page_fits e))
+            ∙ ap (slice_index b.ram) (omega (arith, work_is e)) ∙ o.prepared.rights r inside
 
         near : place + 1 ≤ 8 * rows_of e
         near = omega (arith, near_edge)
@@ -304,8 +384,11 @@ module _ (e : Edition) (b : Machine) (h : Since) (f : FitsMachine b) where
   abbrev drawn_by : Pixels → Lang
   drawn_by d = record (next (now h)) { screen = difference (now h).screen d; v = slice_set (now h).v 15 (flag (meets (rows_of e) (now h).screen d)) }
 
-  pub drawn_comes : Painting (quick e) at_drawn (2 * rows) (8 * rows) 0 (lit e rows (now h)) b (now h) → 1 ≤ h.ticks → Comes (quick e) (waited_pieces (quick e)) (Drawn, tt) b h
-  drawn_comes o tick = straight_on Drawn tt o.holds (painting e at_drawn (2 * rows) b) (is_painting o) (quicks (code (quick e)) 10 (painting e at_drawn (2 * rows) b)) (omega (arith, o.holds.stack, stack_top_is e, page_low e)) refl
+  pub drawn_comes : Painting (quick e) at_drawn (2 * rows) (8 * rows) 0 (lit e rows (now h)) b (now h) → 1 ≤ h.ticks
+      → Comes (quick e) (waited_pieces (quick e)) (Drawn, tt) b h
+  drawn_comes o tick =
+      straight_on Drawn tt o.holds (painting e at_drawn (2 * rows) b) (is_painting o) (quicks (code (quick e)) 10 (painting e at_drawn (2 * rows) b))
+      (omega (arith, o.holds.stack, stack_top_is e, page_low e)) refl
       (λ h' g. draws e g tick runs instr _ puts refl refl)
     where
       instr : instr_at (now h) ≡ IsDraw (high_byte (now h) % 16) (low_byte (now h) / 16) (low_byte (now h) % 16)
@@ -318,6 +401,12 @@ module _ (e : Edition) (b : Machine) (h : Since) (f : FitsMachine b) where
       met true k = omega (arith, few, o.few, f.regs.r.rc.lo, nonzero b.regs.r.rc.lo k)
       met false k = omega (arith, is_zero b.regs.r.rc.lo k)
 
-      puts : Holding (quick e) (record (places b) { ram = written b.latch b.ram (value (word (page_of e) 0xff)) put_out }) (drawn_by (dots (rows_of e) (sprite_row (now h)) (column (now h)) (top e (now h)) (low_byte (now h) % 16)))
-      puts = subst (λ d. Holding (quick e) (record (places b) { ram = written b.latch b.ram (value (word (page_of e) 0xff)) put_out }) (drawn_by d)) (bottom (rows_of e) (sprite_row (now h)) (column (now h)) (top e (now h)) (omega arith) (low_byte (now h) % 16))
-          (subst (λ v. Holding (quick e) (record (places b) { ram = written b.latch b.ram (value (word (page_of e) 0xff)) put_out }) (record (painted (lit e rows (now h)) (now h)) { v = slice_set (now h).v 15 v })) (met (meets (rows_of e) (now h).screen (lit e rows (now h))) o.hit) (v_set o.holds (value (word (page_of e) 0xff)) 15 put_out (omega (arith, variables_is e)) (omega arith)))
+      puts : Holding (quick e) (record (places b) { ram = written b.latch b.ram (value (word (page_of e) 0xff)) put_out })
+          (drawn_by (dots (rows_of e) (sprite_row (now h)) (column (now h)) (top e (now h)) (low_byte (now h) % 16)))
+      puts =
+          subst (λ d. Holding (quick e) (record (places b) { ram = written b.latch b.ram (value (word (page_of e) 0xff)) put_out }) (drawn_by d))
+          (bottom (rows_of e) (sprite_row (now h)) (column (now h)) (top e (now h)) (omega arith) (low_byte (now h) % 16))
+          (subst (λ v. Holding (quick e) (record (places b) { ram = written b.latch b.ram (value (word (page_of e) 0xff)) put_out })
+          (record (painted (lit e rows (now h)) (now h)) { v = slice_set (now h).v 15 v }))
+          (met (meets (rows_of e) (now h).screen (lit e rows (now h))) o.hit)
+          (v_set o.holds (value (word (page_of e) 0xff)) 15 put_out (omega (arith, variables_is e)) (omega arith)))

@@ -46,7 +46,9 @@ module _ {e : Edition} {p : Places} {z : Lang} (o : Holding (quick e) p z) (m q 
 
   -- the test
   pub screen_hit : not (bit_and q byte == 0) ≡ meets (rows_of e) z.screen (dots_of_byte (rows_of e) m q)
-  screen_hit = ap (λ y. not (y == 0)) (go (cases_lt m (8 * rows_of e))) ∙ and_meets (rows_of e) m q small shot (screen_size o) ∙ ap (λ d. meets (rows_of e) d (dots_of_byte (rows_of e) m q)) (shown o)
+  screen_hit =
+      ap (λ y. not (y == 0)) (go (cases_lt m (8 * rows_of e))) ∙ and_meets (rows_of e) m q small shot (screen_size o)
+      ∙ ap (λ d. meets (rows_of e) d (dots_of_byte (rows_of e) m q)) (shown o)
     where
       go : (m < 8 * rows_of e) ⊎ (8 * rows_of e ≤ m) → bit_and q byte ≡ bit_and q (slice_index shot m)
       go (inl l) = ap (bit_and q) (get l)
@@ -56,12 +58,21 @@ module _ {e : Edition} {p : Places} {z : Lang} (o : Holding (quick e) p z) (m q 
   turned = drawn_pixels (rows_of e) m q shot (screen_size o) ∙ ap (λ d. difference d (dots_of_byte (rows_of e) m q)) (shown o)
 
   -- the write
-  pub screen_put : Holding (quick e) (record p { ram = written p.latch p.ram (screen_start e + m) (bit_xor q byte) }) (record z { screen = difference z.screen (dots_of_byte (rows_of e) m q) })
+  pub screen_put : Holding (quick e) (record p { ram = written p.latch p.ram (screen_start e + m) (bit_xor q byte) })
+      (record z { screen = difference z.screen (dots_of_byte (rows_of e) m q) })
   screen_put = go (cases_lt m (8 * rows_of e))
     where
-      go : (m < 8 * rows_of e) ⊎ (8 * rows_of e ≤ m) → Holding (quick e) (record p { ram = written p.latch p.ram (screen_start e + m) (bit_xor q byte) }) (record z { screen = difference z.screen (dots_of_byte (rows_of e) m q) })
-      go (inl l) = subst (λ d. Holding (quick e) (record p { ram = written p.latch p.ram (screen_start e + m) (bit_xor q byte) }) (record z { screen = d })) (ap (λ y. pixels (rows_of e) (slice_set shot m (bit_xor q y))) (get l) ∙ turned) (screen_set o (screen_start e + m) m (bit_xor q byte) refl (omega (arith, l, screen_ends e)))
-      go (inr l) = subst (λ r. Holding (quick e) (record p { ram = r }) (record z { screen = difference z.screen (dots_of_byte (rows_of e) m q) })) (sym (unwritten p.latch p.ram (screen_start e + m) (bit_xor q byte) o.latch (omega (arith, l, screen_ends e)))) (subst (λ d. Holding (quick e) p (record z { screen = d })) same o)
+      go : (m < 8 * rows_of e) ⊎ (8 * rows_of e ≤ m)
+          → Holding (quick e) (record p { ram = written p.latch p.ram (screen_start e + m) (bit_xor q byte) })
+          (record z { screen = difference z.screen (dots_of_byte (rows_of e) m q) })
+      go (inl l) =
+          subst (λ d. Holding (quick e) (record p { ram = written p.latch p.ram (screen_start e + m) (bit_xor q byte) }) (record z { screen = d }))
+          (ap (λ y. pixels (rows_of e) (slice_set shot m (bit_xor q y))) (get l) ∙ turned)
+          (screen_set o (screen_start e + m) m (bit_xor q byte) refl (omega (arith, l, screen_ends e)))
+      go (inr l) =
+          subst (λ r. Holding (quick e) (record p { ram = r }) (record z { screen = difference z.screen (dots_of_byte (rows_of e) m q) }))
+          (sym (unwritten p.latch p.ram (screen_start e + m) (bit_xor q byte) o.latch (omega (arith, l, screen_ends e))))
+          (subst (λ d. Holding (quick e) p (record z { screen = d })) same o)
         where
           same : z.screen ≡ difference z.screen (dots_of_byte (rows_of e) m q)
           same = sym (shown o) ∙ ap (pixels (rows_of e)) (sym (set_past shot m (bit_xor q (slice_index shot m)) (omega (arith, l, screen_size o)))) ∙ turned

@@ -54,8 +54,12 @@ pub readable_row : (e : Edition) (a n r : ℕ) → r < n → (n == 0 || (is_in_m
 readable_row e a n r l h = some (or_cases (n == 0) _ h)
   where
     lies : (is_in_memory e a n ≡ true) ⊎ (is_in_font a n ≡ true) → Readable e (a + r)
-    lies (inl y) = let p = and_parts (nat_le memory_start a) (nat_le (a + n) (memory_end e)) y in inl (omega (arith, leb-true memory_start a p.0), omega (arith, leb-true (a + n) (memory_end e) p.1, l))
-    lies (inr y) = let p = and_parts (nat_le font_start a) (nat_le (a + n) font_end) y in inr (omega (arith, leb-true font_start a p.0), omega (arith, leb-true (a + n) font_end p.1, l))
+    lies (inl y) =
+        let p = and_parts (nat_le memory_start a) (nat_le (a + n) (memory_end e)) y in
+        inl (omega (arith, leb-true memory_start a p.0), omega (arith, leb-true (a + n) (memory_end e) p.1, l))
+    lies (inr y) =
+        let p = and_parts (nat_le font_start a) (nat_le (a + n) font_end) y in
+        inr (omega (arith, leb-true font_start a p.0), omega (arith, leb-true (a + n) font_end p.1, l))
 
     some : ((n == 0) ≡ true) ⊎ ((is_in_memory e a n || is_in_font a n) ≡ true) → Readable e (a + r)
     some (inl z) = absurd (omega (arith, eqb-true n 0 z, l))
@@ -67,7 +71,10 @@ abbrev pub preparing : Edition → ℕ → ℕ → Machine → Machine
 preparing e a w b = record b { regs = record b.regs { p = 3; r = record b.regs.r { r3 = word_of a; r4 = word_of at_fetch; r7 = word (page_of e) (0xd0 + w) } } }
 
 pub is_preparing : {e : Edition} {a l r n : ℕ} {b : Machine} {s : Lang} → Preparing (quick e) a l r n b s → b ≡ preparing e a (l + r) b
-is_preparing {e = e} {l = l} {r = r} {b = b} o = λ i. record b { regs = record b.regs { p = o.p i; r = record b.regs.r { r3 = o.r3 i; r4 = o.r4 i; r7 = (o.r7 ∙ ap (word (page_of e)) place) i } } }
+is_preparing {e = e} {l = l} {r = r} {b = b} o =
+    λ i. record b {
+      regs = record b.regs { p = o.p i; r = record b.regs.r { r3 = o.r3 i; r4 = o.r4 i; r7 = (o.r7 ∙ ap (word (page_of e)) place) i } };
+    }
   where
     place : 0xd0 + l + r ≡ 0xd0 + (l + r)
     place = omega arith
@@ -84,9 +91,14 @@ module _ (e : Edition) (b : Machine) (h : Since) (f : FitsMachine b) (r : ℕ) w
 
   -- ---- are all rows prepared
 
-  pub row_comes : Preparing (quick e) at_row r r r b (now h) → r ≤ rows → h.spent ≤ 266 + 124 * r → Comes (quick e) (calm_pieces (quick e)) (OfSprite (Row r)) b h
-  row_comes o inside spent = forks (OfSprite (Row r)) o.holds (on_3 at_row b) (is_on_3 at_row b o.p o.r3) (on_at (quicks (code (quick e)) 2 (on_3 at_row b))) (b.regs.r.re.lo == 0) at_ready at_row_byte (omega arith) refl
-      (λ k h' g. to_sprite (quick e) g _ refl Ready tt (subst (λ z. Preparing (quick e) at_ready z z z (on_at (quicks (code (quick e)) 2 (on_3 at_row b)) (word_of at_ready)) (now h)) (all k) (goes at_ready)) (omega (arith, spent, g.spent, few_rows_drawn, all k)))
+  pub row_comes : Preparing (quick e) at_row r r r b (now h) → r ≤ rows → h.spent ≤ 266 + 124 * r
+      → Comes (quick e) (calm_pieces (quick e)) (OfSprite (Row r)) b h
+  row_comes o inside spent =
+      forks (OfSprite (Row r)) o.holds (on_3 at_row b) (is_on_3 at_row b o.p o.r3) (on_at (quicks (code (quick e)) 2 (on_3 at_row b)))
+      (b.regs.r.re.lo == 0) at_ready at_row_byte (omega arith) refl
+      (λ k h' g. to_sprite (quick e) g _ refl Ready tt
+      (subst (λ z. Preparing (quick e) at_ready z z z (on_at (quicks (code (quick e)) 2 (on_3 at_row b)) (word_of at_ready)) (now h)) (all k)
+      (goes at_ready)) (omega (arith, spent, g.spent, few_rows_drawn, all k)))
       (λ k h' g. to_sprite (quick e) g _ refl (RowByte r) tt (goes at_row_byte, more k) (omega (arith, spent, g.spent)))
     where
       all : (b.regs.r.re.lo == 0) ≡ true → r ≡ rows
@@ -96,7 +108,21 @@ module _ (e : Edition) (b : Machine) (h : Since) (f : FitsMachine b) (r : ℕ) w
       more k = omega (arith, eqb-false b.regs.r.re.lo 0 k, o.count, inside)
 
       goes : (a : ℕ) → Preparing (quick e) a r r r (on_at (quicks (code (quick e)) 2 (on_3 at_row b)) (word_of a)) (now h)
-      goes a = record { draws = o.draws; holds = o.holds; prepared = record { lefts = o.prepared.lefts; rights = o.prepared.rights }; p = refl; r3 = refl; r4 = o.r4; entry = o.entry; place = o.place; rows = o.rows; count = o.count; r7 = o.r7; rd = o.rd }
+      goes a =
+          record {
+            draws = o.draws;
+            holds = o.holds;
+            prepared = record { lefts = o.prepared.lefts; rights = o.prepared.rights };
+            p = refl;
+            r3 = refl;
+            r4 = o.r4;
+            entry = o.entry;
+            place = o.place;
+            rows = o.rows;
+            count = o.count;
+            r7 = o.r7;
+            rd = o.rd;
+          }
 
   -- ---- the byte of the row, and the entry of the shifts
 
@@ -114,7 +140,21 @@ module _ (e : Edition) (b : Machine) (h : Since) (f : FitsMachine b) (r : ℕ) w
     byte_is = ap (read (both e) b.latch b.ram) o.rd ∙ readable_get (both_font e) o.holds ((now h).i + r) readable
 
     goes_on : (a : ℕ) → Preparing (quick e) a r r (r + 1) (loaded (word_of a)) (now h)
-    goes_on a = record { draws = o.draws; holds = o.holds; prepared = record { lefts = o.prepared.lefts; rights = o.prepared.rights }; p = refl; r3 = refl; r4 = o.r4; entry = o.entry; place = o.place; rows = omega (arith, o.rows, o.count, inside, f.regs.r.re.hi, f.regs.r.re.lo); count = omega (arith, o.count, inside, few_rows_drawn); r7 = o.r7; rd = omega (arith, o.rd, readable, memory_end_is e, page_fits e, f.regs.r.rd.hi, f.regs.r.rd.lo) }
+    goes_on a =
+        record {
+          draws = o.draws;
+          holds = o.holds;
+          prepared = record { lefts = o.prepared.lefts; rights = o.prepared.rights };
+          p = refl;
+          r3 = refl;
+          r4 = o.r4;
+          entry = o.entry;
+          place = o.place;
+          rows = omega (arith, o.rows, o.count, inside, f.regs.r.re.hi, f.regs.r.re.lo);
+          count = omega (arith, o.count, inside, few_rows_drawn);
+          r7 = o.r7;
+          rd = omega (arith, o.rd, readable, memory_end_is e, page_fits e, f.regs.r.rd.hi, f.regs.r.rd.lo);
+        }
 
     none_yet : (a : ℕ) → Shifting r k (loaded (word_of a)) (now h)
     none_yet a = whole ∙ ap (λ z. byte_of * 256 / 2 ^ z) none
@@ -144,10 +184,18 @@ module _ (e : Edition) (b : Machine) (h : Since) (f : FitsMachine b) (r : ℕ) w
         steady = omega (arith, o.holds.stack, stack_top_is e, memory_end_is e, page_fits e, o.rd, readable)
 
         go : (k ≡ 0) ⊎ (k ≡ 0 → ⊥) → Comes (quick e) (calm_pieces (quick e)) (OfSprite (RowByte r)) b h
-        go (inl z) = straight (OfSprite (RowByte r)) o.holds (on_3 at_row_byte b) (is_on_3 at_row_byte b o.p o.r3) (loaded (word_of at_shifted)) steady (entered_at at_shifted (omega (arith, z)))
-            (λ h' g. to_sprite (quick e) g _ refl (Shifted r) tt (goes_on at_shifted, inside, subst (λ j. Shifting r j (loaded (word_of at_shifted)) (now h)) z (none_yet at_shifted)) (omega (arith, spent, g.spent)))
-        go (inr z) = straight (OfSprite (RowByte r)) o.holds (on_3 at_row_byte b) (is_on_3 at_row_byte b o.p o.r3) (loaded (word_of (at_shift7 + 6 * (7 - k)))) steady (entered_at (at_shift7 + 6 * (7 - k)) refl)
-            (λ h' g. to_sprite (quick e) g _ (no_stop (at_shift7 + 6 * (7 - k)) refl) (Shift r k) tt (goes_on (at_shift7 + 6 * (7 - k)), inside, none_yet (at_shift7 + 6 * (7 - k)), omega (arith, z), omega arith) (omega (arith, spent, g.spent)))
+        go (inl z) =
+            straight (OfSprite (RowByte r)) o.holds (on_3 at_row_byte b) (is_on_3 at_row_byte b o.p o.r3) (loaded (word_of at_shifted)) steady
+            (entered_at at_shifted (omega (arith, z)))
+            (λ h' g. to_sprite (quick e) g _ refl (Shifted r) tt
+            (goes_on at_shifted, inside, subst (λ j. Shifting r j (loaded (word_of at_shifted)) (now h)) z (none_yet at_shifted))
+            (omega (arith, spent, g.spent)))
+        go (inr z) =
+            straight (OfSprite (RowByte r)) o.holds (on_3 at_row_byte b) (is_on_3 at_row_byte b o.p o.r3)
+            (loaded (word_of (at_shift7 + 6 * (7 - k)))) steady (entered_at (at_shift7 + 6 * (7 - k)) refl)
+            (λ h' g. to_sprite (quick e) g _ (no_stop (at_shift7 + 6 * (7 - k)) refl) (Shift r k) tt
+            (goes_on (at_shift7 + 6 * (7 - k)), inside, none_yet (at_shift7 + 6 * (7 - k)), omega (arith, z), omega arith)
+            (omega (arith, spent, g.spent)))
 
   -- ---- a shift
 
@@ -159,7 +207,14 @@ module _ (e : Edition) (b : Machine) (h : Since) (f : FitsMachine b) (r : ℕ) w
 
   -- the machine after it
   abbrev halved : ℕ → Machine
-  halved a = record (on_3 a b) { regs = record (on_3 a b).regs { d = lo / 2 + 128 * (hi % 2); df = lo % 2; r = record (on_3 a b).regs.r { rc = word (hi / 2) (lo / 2 + 128 * (hi % 2)) } } }
+  halved a =
+      record (on_3 a b) {
+        regs = record (on_3 a b).regs {
+          d = lo / 2 + 128 * (hi % 2);
+          df = lo % 2;
+          r = record (on_3 a b).regs.r { rc = word (hi / 2) (lo / 2 + 128 * (hi % 2)) };
+        };
+      }
 
   module _ (j : ℕ) (o : Preparing (quick e) (at_shift7 + 6 * (7 - suc j)) r r (r + 1) b (now h)) (inside : r < rows) (shifts : Shifting r (suc j) b (now h)) (few : suc j ≤ k) (spent : h.spent ≤ 284 + 124 * r + 12 * (7 - suc j)) where
     one_less : Shifting r j (halved at_shifted) (now h)
@@ -172,21 +227,50 @@ module _ (e : Edition) (b : Machine) (h : Since) (f : FitsMachine b) (r : ℕ) w
         fewer = omega (arith, few)
 
     moves_on : (a : ℕ) → Preparing (quick e) a r r (r + 1) (halved a) (now h)
-    moves_on a = record { draws = o.draws; holds = o.holds; prepared = record { lefts = o.prepared.lefts; rights = o.prepared.rights }; p = refl; r3 = refl; r4 = o.r4; entry = o.entry; place = o.place; rows = o.rows; count = o.count; r7 = o.r7; rd = o.rd }
+    moves_on a =
+        record {
+          draws = o.draws;
+          holds = o.holds;
+          prepared = record { lefts = o.prepared.lefts; rights = o.prepared.rights };
+          p = refl;
+          r3 = refl;
+          r4 = o.r4;
+          entry = o.entry;
+          place = o.place;
+          rows = o.rows;
+          count = o.count;
+          r7 = o.r7;
+          rd = o.rd;
+        }
 
     -- where a shift is computed
-    shifting : AllGood (code (quick e)) (calm_top e) 6 (on_3 (at_shift7 + 6 * (7 - suc j)) b) → quicks (code (quick e)) 6 (on_3 (at_shift7 + 6 * (7 - suc j)) b) ≡ halved (at_shift7 + 6 * (7 - j)) → is_event (code (quick e)) (halved (at_shift7 + 6 * (7 - j))) ≡ false → Comes (quick e) (calm_pieces (quick e)) (OfSprite (Shift r (suc j))) b h
-    shifting good runs calm = straight (OfSprite (Shift r (suc j))) o.holds (on_3 (at_shift7 + 6 * (7 - suc j)) b) (is_on_3 (at_shift7 + 6 * (7 - suc j)) b o.p o.r3) (halved (at_shift7 + 6 * (7 - j))) good runs
+    shifting : AllGood (code (quick e)) (calm_top e) 6 (on_3 (at_shift7 + 6 * (7 - suc j)) b)
+        → quicks (code (quick e)) 6 (on_3 (at_shift7 + 6 * (7 - suc j)) b) ≡ halved (at_shift7 + 6 * (7 - j))
+        → is_event (code (quick e)) (halved (at_shift7 + 6 * (7 - j))) ≡ false
+        → Comes (quick e) (calm_pieces (quick e)) (OfSprite (Shift r (suc j))) b h
+    shifting good runs calm =
+        straight (OfSprite (Shift r (suc j))) o.holds (on_3 (at_shift7 + 6 * (7 - suc j)) b) (is_on_3 (at_shift7 + 6 * (7 - suc j)) b o.p o.r3)
+        (halved (at_shift7 + 6 * (7 - j))) good runs
         (λ h' g. go (cases_eq j 0) h' g)
       where
         go : (j ≡ 0) ⊎ (j ≡ 0 → ⊥) → (h' : Since) → Grows h 6 0 h' → Ends (quick e) (calm_pieces (quick e)) (halved (at_shift7 + 6 * (7 - j))) h'
-        go (inl z) h' g = to_sprite (quick e) g _ calm (Shifted r) tt (subst (λ i. Preparing (quick e) at_shifted r r (r + 1) (halved i) (now h)) last (moves_on at_shifted), inside, subst (λ i. Shifting r i (halved at_shifted) (now h)) z one_less) (omega (arith, spent, g.spent, z))
+        go (inl z) h' g =
+            to_sprite (quick e) g _ calm (Shifted r) tt (
+              subst (λ i. Preparing (quick e) at_shifted r r (r + 1) (halved i)
+                  (now h)) last (moves_on at_shifted),
+              inside,
+              subst (λ i. Shifting r i (halved at_shifted) (now h)) z one_less,
+            )
+            (omega (arith, spent, g.spent, z))
           where
             last : at_shifted ≡ at_shift7 + 6 * (7 - j)
             last = omega (arith, z)
-        go (inr z) h' g = to_sprite (quick e) g _ calm (Shift r j) tt (moves_on (at_shift7 + 6 * (7 - j)), inside, one_less, omega (arith, z), omega (arith, few)) (omega (arith, spent, g.spent, few))
+        go (inr z) h' g =
+            to_sprite (quick e) g _ calm (Shift r j) tt (moves_on (at_shift7 + 6 * (7 - j)), inside, one_less, omega (arith, z), omega (arith, few))
+            (omega (arith, spent, g.spent, few))
 
-  pub shift_comes : (j : ℕ) → Preparing (quick e) (at_shift7 + 6 * (7 - j)) r r (r + 1) b (now h) → r < rows → Shifting r j b (now h) → 0 < j → j ≤ k → h.spent ≤ 284 + 124 * r + 12 * (7 - j) → Comes (quick e) (calm_pieces (quick e)) (OfSprite (Shift r j)) b h
+  pub shift_comes : (j : ℕ) → Preparing (quick e) (at_shift7 + 6 * (7 - j)) r r (r + 1) b (now h) → r < rows → Shifting r j b (now h) → 0 < j → j ≤ k
+      → h.spent ≤ 284 + 124 * r + 12 * (7 - j) → Comes (quick e) (calm_pieces (quick e)) (OfSprite (Shift r j)) b h
   shift_comes zero o inside s some few spent = absurd (omega (arith, some))
   shift_comes (suc zero) o inside s some few spent = shifting 0 o inside s few spent (omega arith) refl refl
   shift_comes (suc (suc zero)) o inside s some few spent = shifting 1 o inside s few spent (omega arith) refl refl
@@ -240,32 +324,99 @@ module _ (e : Edition) (b : Machine) (h : Since) (f : FitsMachine b) (r : ℕ) w
     first_small = omega (arith, inside, few_rows_drawn, page_fits e)
 
     goes_left : (a : ℕ) → Preparing (quick e) a (r + 1) r (r + 1) (stored (word_of a)) (now h)
-    goes_left a = record { draws = o.draws; holds = work_set o.holds first hi (omega (arith, stack_top_is e)) (omega (arith, variables_is e, inside, few_rows_drawn)); prepared = record { lefts = lefts; rights = λ j l. get_other b.latch b.ram _ first hi o.holds.latch first_small (λ z. omega (arith, z, first_there)) ∙ o.prepared.rights j l }; p = refl; r3 = refl; r4 = refl; entry = o.entry; place = o.place; rows = o.rows; count = o.count; r7 = ap₂ word (omega (arith, inside, few_rows_drawn, page_fits e)) (omega (arith, inside, few_rows_drawn)); rd = o.rd }
+    goes_left a =
+        record {
+          draws = o.draws;
+          holds = work_set o.holds first hi (omega (arith, stack_top_is e))
+              (omega (arith, variables_is e, inside, few_rows_drawn));
+          prepared = record {
+            lefts = lefts;
+            rights = λ j l. get_other b.latch b.ram _ first hi o.holds.latch first_small (λ z. omega (arith, z, first_there))
+                ∙ o.prepared.rights j l;
+          };
+          p = refl;
+          r3 = refl;
+          r4 = refl;
+          entry = o.entry;
+          place = o.place;
+          rows = o.rows;
+          count = o.count;
+          r7 = ap₂ word (omega (arith, inside, few_rows_drawn, page_fits e)) (omega (arith, inside, few_rows_drawn));
+          rd = o.rd;
+        }
       where
         lefts : (j : ℕ) → j < r + 1 → slice_index (stored (word_of a)).ram (sprite_work e + 2 * j) ≡ left (column (now h)) (sprite_row (now h) j)
         lefts j l = go (cases_eq j r)
           where
             go : (j ≡ r) ⊎ (j ≡ r → ⊥) → slice_index (stored (word_of a)).ram (sprite_work e + 2 * j) ≡ left (column (now h)) (sprite_row (now h) j)
-            go (inl z) = get_same b.latch b.ram (sprite_work e + 2 * j) first hi o.holds.latch o.holds.size first_small (omega (arith, z, first_there)) ∙ left_is ∙ ap (λ i. left (column (now h)) (sprite_row (now h) i)) (sym z)
-            go (inr z) = get_other b.latch b.ram (sprite_work e + 2 * j) first hi o.holds.latch first_small (λ y. omega (arith, z, y, first_there)) ∙ o.prepared.lefts j (omega (arith, z, l))
+            go (inl z) =
+                get_same b.latch b.ram (sprite_work e + 2 * j) first hi o.holds.latch o.holds.size first_small (omega (arith, z, first_there))
+                ∙ left_is ∙ ap (λ i. left (column (now h)) (sprite_row (now h) i)) (sym z)
+            go (inr z) =
+                get_other b.latch b.ram (sprite_work e + 2 * j) first hi o.holds.latch first_small (λ y. omega (arith, z, y, first_there))
+                ∙ o.prepared.lefts j (omega (arith, z, l))
 
     pub shifted_comes : h.spent ≤ 368 + 124 * r → Comes (quick e) (calm_pieces (quick e)) (OfSprite (Shifted r)) b h
-    shifted_comes spent = forks (OfSprite (Shifted r)) o.holds (preparing e at_shifted (r + r) b) (is_preparing o) stored (last_column == 0) at_row_store at_row_right (omega (arith, o.holds.stack, stack_top_is e)) refl
+    shifted_comes spent =
+        forks (OfSprite (Shifted r)) o.holds (preparing e at_shifted (r + r) b) (is_preparing o) stored (last_column == 0) at_row_store at_row_right
+        (omega (arith, o.holds.stack, stack_top_is e)) refl
         (λ z h' g. to_sprite (quick e) g _ refl (RowStore r) tt (goes_left at_row_store, inside, right_none z) (omega (arith, spent, g.spent)))
         (λ z h' g. to_sprite (quick e) g _ refl (RowRight r) tt (goes_left at_row_right, inside, right_is z) (omega (arith, spent, g.spent)))
 
-  pub row_right_comes : Preparing (quick e) at_row_right (r + 1) r (r + 1) b (now h) → r < rows → lo ≡ right (column (now h)) byte_of → h.spent ≤ 382 + 124 * r → Comes (quick e) (calm_pieces (quick e)) (OfSprite (RowRight r)) b h
+  pub row_right_comes : Preparing (quick e) at_row_right (r + 1) r (r + 1) b (now h) → r < rows → lo ≡ right (column (now h)) byte_of
+      → h.spent ≤ 382 + 124 * r → Comes (quick e) (calm_pieces (quick e)) (OfSprite (RowRight r)) b h
   row_right_comes o inside is spent = straight (OfSprite (RowRight r)) o.holds (on_3 at_row_right b) (is_on_3 at_row_right b o.p o.r3) _ (omega arith) refl
-      (λ h' g. to_sprite (quick e) g _ refl (RowStore r) tt (record { draws = o.draws; holds = o.holds; prepared = record { lefts = o.prepared.lefts; rights = o.prepared.rights }; p = refl; r3 = refl; r4 = o.r4; entry = o.entry; place = o.place; rows = o.rows; count = o.count; r7 = o.r7; rd = o.rd }, inside, is) (omega (arith, spent, g.spent)))
+      (λ h' g. to_sprite (quick e) g _ refl (RowStore r) tt (
+        record {
+          draws = o.draws;
+          holds = o.holds;
+          prepared = record { lefts = o.prepared.lefts; rights = o.prepared.rights };
+          p = refl;
+          r3 = refl;
+          r4 = o.r4;
+          entry = o.entry;
+          place = o.place;
+          rows = o.rows;
+          count = o.count;
+          r7 = o.r7;
+          rd = o.rd;
+        },
+        inside,
+        is,
+      )
+      (omega (arith, spent, g.spent)))
 
   -- ---- the second one is stored
 
   abbrev second : ℕ
   second = value (word (page_of e) (0xd0 + (r + 1 + r)))
 
-  pub row_store_comes : Preparing (quick e) at_row_store (r + 1) r (r + 1) b (now h) → r < rows → b.regs.d ≡ right (column (now h)) byte_of → h.spent ≤ 384 + 124 * r → Comes (quick e) (calm_pieces (quick e)) (OfSprite (RowStore r)) b h
-  row_store_comes o inside is spent = straight (OfSprite (RowStore r)) o.holds (preparing e at_row_store (r + 1 + r) b) (is_preparing o) ended (omega arith) refl
-      (λ h' g. to_sprite (quick e) g ended refl (Row (r + 1)) tt (record { draws = o.draws; holds = work_set o.holds second b.regs.d (omega (arith, stack_top_is e)) (omega (arith, variables_is e, inside, few_rows_drawn)); prepared = record { lefts = λ j l. get_other b.latch b.ram _ second b.regs.d o.holds.latch second_small (λ z. omega (arith, z, second_there)) ∙ o.prepared.lefts j l; rights = rights }; p = refl; r3 = refl; r4 = refl; entry = o.entry; place = o.place; rows = o.rows; count = o.count; r7 = ap₂ word (omega (arith, inside, few_rows_drawn, page_fits e)) (omega (arith, inside, few_rows_drawn)); rd = o.rd }, omega (arith, inside)) (omega (arith, spent, g.spent)))
+  pub row_store_comes : Preparing (quick e) at_row_store (r + 1) r (r + 1) b (now h) → r < rows → b.regs.d ≡ right (column (now h)) byte_of
+      → h.spent ≤ 384 + 124 * r → Comes (quick e) (calm_pieces (quick e)) (OfSprite (RowStore r)) b h
+  row_store_comes o inside is spent =
+      straight (OfSprite (RowStore r)) o.holds (preparing e at_row_store (r + 1 + r) b) (is_preparing o) ended (omega arith) refl
+      (λ h' g. to_sprite (quick e) g ended refl (Row (r + 1)) tt (
+        record {
+          draws = o.draws;
+          holds = work_set o.holds second b.regs.d (omega (arith, stack_top_is e))
+              (omega (arith, variables_is e, inside, few_rows_drawn));
+          prepared = record {
+            lefts = λ j l. get_other b.latch b.ram _ second b.regs.d o.holds.latch second_small
+                (λ z. omega (arith, z, second_there)) ∙ o.prepared.lefts j l;
+            rights = rights;
+          };
+          p = refl;
+          r3 = refl;
+          r4 = refl;
+          entry = o.entry;
+          place = o.place;
+          rows = o.rows;
+          count = o.count;
+          r7 = ap₂ word (omega (arith, inside, few_rows_drawn, page_fits e)) (omega (arith, inside, few_rows_drawn));
+          rd = o.rd;
+        },
+        omega (arith, inside),
+      ) (omega (arith, spent, g.spent)))
     where
       ended : Machine
       ended = quicks (code (quick e)) 3 (preparing e at_row_store (r + 1 + r) b)
@@ -280,5 +431,9 @@ module _ (e : Edition) (b : Machine) (h : Since) (f : FitsMachine b) (r : ℕ) w
       rights j l = go (cases_eq j r)
         where
           go : (j ≡ r) ⊎ (j ≡ r → ⊥) → slice_index ended.ram (sprite_work e + 2 * j + 1) ≡ right (column (now h)) (sprite_row (now h) j)
-          go (inl z) = get_same b.latch b.ram (sprite_work e + 2 * j + 1) second b.regs.d o.holds.latch o.holds.size second_small (omega (arith, z, second_there)) ∙ is ∙ ap (λ i. right (column (now h)) (sprite_row (now h) i)) (sym z)
-          go (inr z) = get_other b.latch b.ram (sprite_work e + 2 * j + 1) second b.regs.d o.holds.latch second_small (λ y. omega (arith, z, y, second_there)) ∙ o.prepared.rights j (omega (arith, z, l))
+          go (inl z) =
+              get_same b.latch b.ram (sprite_work e + 2 * j + 1) second b.regs.d o.holds.latch o.holds.size second_small
+              (omega (arith, z, second_there)) ∙ is ∙ ap (λ i. right (column (now h)) (sprite_row (now h) i)) (sym z)
+          go (inr z) =
+              get_other b.latch b.ram (sprite_work e + 2 * j + 1) second b.regs.d o.holds.latch second_small (λ y. omega (arith, z, y, second_there))
+              ∙ o.prepared.rights j (omega (arith, z, l))

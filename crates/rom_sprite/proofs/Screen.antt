@@ -44,7 +44,9 @@ zero_put rows m l s inside e = λ i x y. go x y (cases_order (8 * y + x / 8) m) 
     go : (x y : ℕ) → (8 * y + x / 8 ≡ m) ⊎ ((8 * y + x / 8 < m) ⊎ (m < 8 * y + x / 8)) → pixels rows (slice_set l m 0) x y ≡ first_bytes m s x y
     go x y (inl f) = rw (f, get_or-set_same l m 0 0 inside, bit_at-zero (7 - x % 8), le-ltb m m (omega arith)) (and_right _ _ refl)
     go x y (inr (inl f)) = other x y (λ z. omega (arith, f, z)) ∙ rw (lt-ltb _ _ f, lt-ltb (8 * y + x / 8) (suc m) (omega (arith, f))) refl
-    go x y (inr (inr f)) = other x y (λ z. omega (arith, f, z)) ∙ rw (le-ltb (8 * y + x / 8) m (omega (arith, f)), le-ltb (8 * y + x / 8) (suc m) (omega (arith, f))) refl
+    go x y (inr (inr f)) =
+        other x y (λ z. omega (arith, f, z))
+        ∙ rw (le-ltb (8 * y + x / 8) m (omega (arith, f)), le-ltb (8 * y + x / 8) (suc m) (omega (arith, f))) refl
 
 -- none are left
 pub none_left : (s : Pixels) → first_bytes 0 s ≡ (λ x y. false)
@@ -65,10 +67,18 @@ module _ {e : Edition} {p : Places} {s : Lang} where
   pub all_left : Holding (quick e) p s → s.screen ≡ first_bytes (8 * rows_of e) s.screen
   all_left o = sym (shown o) ∙ (λ i x y. go x y (cases_Bool (nat_lt x 64 && nat_lt y (rows_of e))) i) ∙ ap (first_bytes (8 * rows_of e)) (shown o)
     where
-      go : (x y : ℕ) → ((nat_lt x 64 && nat_lt y (rows_of e)) ≡ true) ⊎ ((nat_lt x 64 && nat_lt y (rows_of e)) ≡ false) → pixels (rows_of e) (slice_range p.ram (screen_start e) 0x1000) x y ≡ first_bytes (8 * rows_of e) (pixels (rows_of e) (slice_range p.ram (screen_start e) 0x1000)) x y
-      go x y (inl k) = let q = and_parts (nat_lt x 64) (nat_lt y (rows_of e)) k in rw (lt-ltb (8 * y + x / 8) (8 * rows_of e) (omega (arith, ltb-true x 64 q.0, ltb-true y (rows_of e) q.1))) refl
+      go : (x y : ℕ) → ((nat_lt x 64 && nat_lt y (rows_of e)) ≡ true) ⊎ ((nat_lt x 64 && nat_lt y (rows_of e)) ≡ false)
+          → pixels (rows_of e) (slice_range p.ram (screen_start e) 0x1000) x y
+          ≡ first_bytes (8 * rows_of e) (pixels (rows_of e) (slice_range p.ram (screen_start e) 0x1000)) x y
+      go x y (inl k) =
+          let q = and_parts (nat_lt x 64) (nat_lt y (rows_of e)) k in
+          rw (lt-ltb (8 * y + x / 8) (8 * rows_of e) (omega (arith, ltb-true x 64 q.0, ltb-true y (rows_of e) q.1))) refl
       go x y (inr k) = rw k (sym (and_right (nat_lt (8 * y + x / 8) (8 * rows_of e)) false refl))
 
 -- the last byte that was left is cleared
-pub cleared_one : {e : Edition} {p : Places} (s : Lang) (n m a : ℕ) → n ≡ suc m → Holding (quick e) p (cleared_to n s) → a ≡ screen_start e + m → m < 8 * rows_of e → Holding (quick e) (record p { ram = written p.latch p.ram a 0 }) (cleared_to m s)
-cleared_one {e = e} {p = p} s n m a step o at inside = subst (λ z. Holding (quick e) (record p { ram = written p.latch p.ram a 0 }) (record (cleared_to m s) { screen = z })) (zero_put (rows_of e) m _ s.screen (omega (arith, screen_size o, inside)) (shown o ∙ ap (λ z. first_bytes z s.screen) step)) (screen_set o a m 0 at (omega (arith, screen_ends e, inside)))
+pub cleared_one : {e : Edition} {p : Places} (s : Lang) (n m a : ℕ) → n ≡ suc m → Holding (quick e) p (cleared_to n s) → a ≡ screen_start e + m
+    → m < 8 * rows_of e → Holding (quick e) (record p { ram = written p.latch p.ram a 0 }) (cleared_to m s)
+cleared_one {e = e} {p = p} s n m a step o at inside =
+    subst (λ z. Holding (quick e) (record p { ram = written p.latch p.ram a 0 }) (record (cleared_to m s) { screen = z }))
+    (zero_put (rows_of e) m _ s.screen (omega (arith, screen_size o, inside)) (shown o ∙ ap (λ z. first_bytes z s.screen) step))
+    (screen_set o a m 0 at (omega (arith, screen_ends e, inside)))

@@ -18,11 +18,25 @@ pub waking : {x : Program} {p : Places} {s : Lang} → Holding x p s → Holding
 waking o = record { is = o.is; stack = o.stack; size = o.size; latch = o.latch; enabled = o.enabled; awake = refl; on = o.on; entry = o.entry; page = o.page }
 
 pub woken_fits : (b : Machine) → FitsMachine b → FitsMachine (woken b)
-woken_fits b f = record { regs = record { r = f.regs.r; d = f.regs.d; df = f.regs.df; p = f.regs.p; x = f.regs.x; t = f.regs.t }; ram = f.ram; size = f.size; key = f.key }
+woken_fits b f =
+    record {
+      regs = record { r = f.regs.r; d = f.regs.d; df = f.regs.df; p = f.regs.p; x = f.regs.x; t = f.regs.t };
+      ram = f.ram;
+      size = f.size;
+      key = f.key;
+    }
 
 -- what a place comes to where main code waits: a tick wakes it
-pub waits : {e : Edition} {b : Machine} {h : Since} {s : Lang} (l : Place) → Holding (quick e) (places (woken b)) s → b.regs.idle ≡ true → ((c : Machine) → Tick (code (quick e)).low b c → Starts (pieces (quick e)) c (after_tick h)) → Holds (quick e) (pieces (quick e)) l b h
-waits l o idle wakes = record { runs = record { latch = o.latch; enabled = o.enabled; on = o.on; entry = o.entry }; moves = λ i. absurd (awake (sym idle ∙ i)); cycles = λ i. absurd (awake (sym idle ∙ i)); later = λ i. absurd (awake (sym idle ∙ i)); wakes = λ i. wakes }
+pub waits : {e : Edition} {b : Machine} {h : Since} {s : Lang} (l : Place) → Holding (quick e) (places (woken b)) s → b.regs.idle ≡ true
+    → ((c : Machine) → Tick (code (quick e)).low b c → Starts (pieces (quick e)) c (after_tick h)) → Holds (quick e) (pieces (quick e)) l b h
+waits l o idle wakes =
+    record {
+      runs = record { latch = o.latch; enabled = o.enabled; on = o.on; entry = o.entry };
+      moves = λ i. absurd (awake (sym idle ∙ i));
+      cycles = λ i. absurd (awake (sym idle ∙ i));
+      later = λ i. absurd (awake (sym idle ∙ i));
+      wakes = λ i. wakes;
+    }
   where
     awake : true ≡ false → ⊥
     awake k = cc

@@ -70,8 +70,11 @@ up_is a l = ap₂ word (omega arith) (omega arith)
 
 module _ (x : Code) (held : ℕ → Keys) where
   -- what the move is, with a value of EFX
-  pub move_by : (efx : Bool) (b : Machine) → Served x b → dma_at b.cycle true ≡ false → efx_at (b.cycle + 1) true ≡ efx → move x.rom held b ≡ record (quick_by x (flags_of efx (held (b.cycle + 1) b.key)) b) { cycle = b.cycle + cycles_of (opcode_in x b) }
-  move_by efx b s dma e = move_in x.rom held b Instruction (case_instruction b (ap (dma_at b.cycle) s.on ∙ dma) (rw s.ie refl) s.idle) ∙ (λ i. record (asked i) { cycle = b.cycle + cycles_of (sym (opcode_is x b s.inside) i) })
+  pub move_by : (efx : Bool) (b : Machine) → Served x b → dma_at b.cycle true ≡ false → efx_at (b.cycle + 1) true ≡ efx
+      → move x.rom held b ≡ record (quick_by x (flags_of efx (held (b.cycle + 1) b.key)) b) { cycle = b.cycle + cycles_of (opcode_in x b) }
+  move_by efx b s dma e =
+      move_in x.rom held b Instruction (case_instruction b (ap (dma_at b.cycle) s.on ∙ dma) (rw s.ie refl) s.idle)
+      ∙ (λ i. record (asked i) { cycle = b.cycle + cycles_of (sym (opcode_is x b s.inside) i) })
     where
       u : Input
       u = record { efx = efx; held = held (b.cycle + 1) }
@@ -79,8 +82,11 @@ module _ (x : Code) (held : ℕ → Keys) where
       asked : main_move x.rom (efx_at (b.cycle + 1) b.on) (held (b.cycle + 1)) b ≡ quick_by x (flags_of efx (held (b.cycle + 1) b.key)) b
       asked = ap (λ z. main_move x.rom z (held (b.cycle + 1)) b) (ap (efx_at (b.cycle + 1)) s.on ∙ e) ∙ sym (quick_by_is x u b s.inside)
 
-  move_quick : (b : Machine) → Served x b → reads_flags (kind_of (opcode_in x b)) ≡ false → dma_at b.cycle true ≡ false → move x.rom held b ≡ record (quick x b) { cycle = b.cycle + cycles_of (opcode_in x b) }
-  move_quick b s plain dma = move_by (efx_at (b.cycle + 1) true) b s dma refl ∙ ap (timed (b.cycle + cycles_of (opcode_in x b))) (quick_by_is x u b s.inside ∙ sym (quick_any x u b plain s.inside))
+  move_quick : (b : Machine) → Served x b → reads_flags (kind_of (opcode_in x b)) ≡ false → dma_at b.cycle true ≡ false
+      → move x.rom held b ≡ record (quick x b) { cycle = b.cycle + cycles_of (opcode_in x b) }
+  move_quick b s plain dma =
+      move_by (efx_at (b.cycle + 1) true) b s dma refl
+      ∙ ap (timed (b.cycle + cycles_of (opcode_in x b))) (quick_by_is x u b s.inside ∙ sym (quick_any x u b plain s.inside))
     where
       u : Input
       u = record { efx = efx_at (b.cycle + 1) true; held = held (b.cycle + 1) }
@@ -126,14 +132,17 @@ module _ (x : Code) (held : ℕ → Keys) where
   some_cycles : (byte : ℕ) → 1 ≤ cycles_of byte
   some_cycles byte = grind arith
 
-  pub instructions : (k t : ℕ) (b : Machine) → are_served x k b ≡ true → NoDma t (cycles_in x k b) → Serves k (timed t b) (timed (t + cycles_in x k b) (quicks x k b))
+  pub instructions : (k t : ℕ) (b : Machine) → are_served x k b ≡ true → NoDma t (cycles_in x k b)
+      → Serves k (timed t b) (timed (t + cycles_in x k b) (quicks x k b))
   instructions zero t b h d = subst (λ z. Serves 0 (timed t b) (timed z b)) same (serves_none (timed t b))
     where
       same : t ≡ t + 0
       same = omega arith
   instructions (suc k) t b h d =
       subst₂ (λ i z. Serves i (timed t b) (timed z (quicks x (suc k) b))) count time
-      (serves_join (instructions k t b p.0 (λ u l m. d u l (omega (arith, m)))) (one at _ (record { by_r1 = s.p; disabled = s.ie; awake = s.idle; on = s.on }) (move_quick at s (not-true _ q.1) (d (t + cycles_in x k b) (omega arith) (omega (arith, some_cycles (opcode_in x c)))))))
+      (serves_join (instructions k t b p.0 (λ u l m. d u l (omega (arith, m))))
+      (one at _ (record { by_r1 = s.p; disabled = s.ie; awake = s.idle; on = s.on })
+      (move_quick at s (not-true _ q.1) (d (t + cycles_in x k b) (omega arith) (omega (arith, some_cycles (opcode_in x c)))))))
     where
       c : Machine
       c = quicks x k b
@@ -158,8 +167,11 @@ module _ (x : Code) (held : ℕ → Keys) where
 
   -- ---- DMA cycles
 
-  pub dmas : (k t a : ℕ) (b : Machine) → a + k < 0x10000 → ((u : ℕ) → t ≤ u → u < t + k → dma_at u true ≡ true) → Serves k (timed t (at_byte (word_of a) b)) (timed (t + k) (at_byte (word_of (a + k)) b))
-  dmas zero t a b l d = subst₂ (λ z y. Serves 0 (timed t (at_byte (word_of a) b)) (timed z (at_byte (word_of y) b))) t0 a0 (serves_none (timed t (at_byte (word_of a) b)))
+  pub dmas : (k t a : ℕ) (b : Machine) → a + k < 0x10000 → ((u : ℕ) → t ≤ u → u < t + k → dma_at u true ≡ true)
+      → Serves k (timed t (at_byte (word_of a) b)) (timed (t + k) (at_byte (word_of (a + k)) b))
+  dmas zero t a b l d =
+      subst₂ (λ z y. Serves 0 (timed t (at_byte (word_of a) b)) (timed z (at_byte (word_of y) b))) t0 a0
+      (serves_none (timed t (at_byte (word_of a) b)))
     where
       t0 : t ≡ t + 0
       t0 = omega arith
@@ -169,7 +181,9 @@ module _ (x : Code) (held : ℕ → Keys) where
   dmas (suc k) t a b l d =
       subst₂ (λ i z. Serves i (timed t (at_byte (word_of a) b)) (timed z (at_byte (word_of (a + suc k)) b))) count time
       (serves_join (dmas k t a b (omega arith) (λ u m n. d u m (omega arith)))
-      (one at _ (record { by_r1 = refl; disabled = refl; awake = refl; on = refl }) (move_in x.rom held at Dma (case_dma at (d (t + k) (omega arith) (omega arith))) ∙ ap (λ w. timed (t + k + 1) (at_byte w b)) (up_is (a + k) (omega arith) ∙ ap word_of next))))
+      (one at _ (record { by_r1 = refl; disabled = refl; awake = refl; on = refl })
+      (move_in x.rom held at Dma (case_dma at (d (t + k) (omega arith) (omega arith)))
+      ∙ ap (λ w. timed (t + k + 1) (at_byte w b)) (up_is (a + k) (omega arith) ∙ ap word_of next))))
     where
       at : Machine
       at = timed (t + k) (at_byte (word_of (a + k)) b)

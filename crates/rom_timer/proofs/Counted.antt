@@ -70,12 +70,15 @@ and_true false = refl
 
 module _ (rom : List ℕ) (held : ℕ → Keys) where
   -- two tests that agree in the time of these states take the same ones
-  same_taken : (p q : Machine → Bool) (n : ℕ) (b : Machine) → ((s : Machine) → b.cycle ≤ s.cycle → s.cycle < (after_moves rom held b n).cycle → p s ≡ q s) → filter p (states rom held b n) ≡ filter q (states rom held b n)
+  same_taken : (p q : Machine → Bool) (n : ℕ) (b : Machine)
+      → ((s : Machine) → b.cycle ≤ s.cycle → s.cycle < (after_moves rom held b n).cycle → p s ≡ q s)
+      → filter p (states rom held b n) ≡ filter q (states rom held b n)
   same_taken p q zero b h = refl
   same_taken p q (suc n) b h =
       ap₂ (λ t l. cond t (b ∷ l) l)
       (h b (omega arith) (omega (arith, no_earlier rom held n b, later-move rom held (after_moves rom held b n))))
-      (same_taken p q n (move rom held b) (λ s l m. h s (omega (arith, l, later-move rom held b)) (subst (λ (z : Machine). s.cycle < z.cycle) (move_first rom held n b) m)))
+      (same_taken p q n (move rom held b)
+      (λ s l m. h s (omega (arith, l, later-move rom held b)) (subst (λ (z : Machine). s.cycle < z.cycle) (move_first rom held n b) m)))
 
   -- n moves from the interrupt of frame m to the routine's return, with eight DMA cycles in each line of the window
   module _
@@ -97,7 +100,8 @@ module _ (rom : List ℕ) (held : ℕ → Keys) where
     none_below : filter is_dma_cycle run ≡ filter (is_dma_before (top + 128)) run
     none_below = same_taken is_dma_cycle (is_dma_before (top + 128)) n b (λ s l h. late s (omega (arith, h, end)) (cases_lt (s.cycle / 14) (top + 128)))
       where
-        late : (s : Machine) → s.cycle < interrupt_at m + routine_cycles → (s.cycle / 14 < top + 128) ⊎ (top + 128 ≤ s.cycle / 14) → is_dma_cycle s ≡ is_dma_before (top + 128) s
+        late : (s : Machine) → s.cycle < interrupt_at m + routine_cycles → (s.cycle / 14 < top + 128) ⊎ (top + 128 ≤ s.cycle / 14)
+            → is_dma_cycle s ≡ is_dma_before (top + 128) s
         late s l (inl h) = rw (lt-ltb (s.cycle / 14) (top + 128) h) (and_true (is_dma (case_of s)))
         late s l (inr h) = rw (no_case s (no_dma_in s.cycle (inr (omega (arith, l, h))))) refl
 

@@ -46,13 +46,16 @@ module _ (rom : List ℕ) (held : ℕ → Keys) where
     where
       same : 0 + k ≡ k
       same = omega arith
-  states_join (suc n) k b = ap (states rom held b) same ∙ ap (λ l. b ∷ l) (states_join n k (move rom held b) ∙ ap (λ z. states rom held (move rom held b) n ++ states rom held z k) (move_first n b))
+  states_join (suc n) k b =
+      ap (states rom held b) same ∙ ap (λ l. b ∷ l)
+      (states_join n k (move rom held b) ∙ ap (λ z. states rom held (move rom held b) n ++ states rom held z k) (move_first n b))
     where
       same : suc n + k ≡ suc (n + k)
       same = omega arith
 
   pub fetched_append : (line : ℕ) (l r : List Machine) → fetched rom line (l ++ r) ≡ fetched rom line l ++ fetched rom line r
-  fetched_append line l r = ap (map (dma_byte rom)) (filter-append (is_dma_in line) l r) ∙ map-append (dma_byte rom) (filter (is_dma_in line) l) (filter (is_dma_in line) r)
+  fetched_append line l r =
+      ap (map (dma_byte rom)) (filter-append (is_dma_in line) l r) ∙ map-append (dma_byte rom) (filter (is_dma_in line) l) (filter (is_dma_in line) r)
 
   pub no_earlier : (n : ℕ) (b : Machine) → b.cycle ≤ (after_moves rom held b n).cycle
   no_earlier zero b = omega arith
@@ -66,16 +69,21 @@ module _ (rom : List ℕ) (held : ℕ → Keys) where
   past_one line b (inl h) = and_right (is_dma (case_of b)) (b.cycle / 14 == line) h
   past_one line b (inr h) = and_left (is_dma (case_of b)) (b.cycle / 14 == line) (no_case b h)
 
-  pub none_fetched : (line n : ℕ) (b : Machine) → ((u : ℕ) → b.cycle ≤ u → u < (after_moves rom held b n).cycle → IsPast line u) → fetched rom line (states rom held b n) ≡ []
+  pub none_fetched : (line n : ℕ) (b : Machine) → ((u : ℕ) → b.cycle ≤ u → u < (after_moves rom held b n).cycle → IsPast line u)
+      → fetched rom line (states rom held b n) ≡ []
   none_fetched line zero b h = refl
-  none_fetched line (suc n) b h = rw (past_one line b (h b.cycle (omega arith) (omega (arith, no_earlier n b, later-move rom held (after_moves rom held b n))))) (none_fetched line n (move rom held b) (λ u l m. h u (omega (arith, l, later-move rom held b)) (subst (λ (z : Machine). u < z.cycle) (move_first n b) m)))
+  none_fetched line (suc n) b h =
+      rw (past_one line b (h b.cycle (omega arith) (omega (arith, no_earlier n b, later-move rom held (after_moves rom held b n)))))
+      (none_fetched line n (move rom held b)
+      (λ u l m. h u (omega (arith, l, later-move rom held b)) (subst (λ (z : Machine). u < z.cycle) (move_first n b) m)))
 
   fetched_one : (line : ℕ) (b : Machine) (l : List Machine) → is_dma_in line b ≡ true → fetched rom line (b ∷ l) ≡ dma_byte rom b ∷ fetched rom line l
   fetched_one line b l h = ap (λ t. map (dma_byte rom) (cond t (b ∷ filter (is_dma_in line) l) (filter (is_dma_in line) l))) h
 
   -- eight DMA cycles in a line, say, from a on, where RAM is as an older RAM from an address on
   module _ (line : ℕ) (c : Machine) (clear : c.latch ≡ false) (old : List ℕ) (full : length old ≡ 0x1000) (low : ℕ) (same : (j : ℕ) → low ≤ j → slice_index c.ram j ≡ slice_index old j) where
-    pub bytes_fetched : (k t a : ℕ) → low ≤ a → a + k ≤ 0x1000 → ((u : ℕ) → t ≤ u → u < t + k → (u / 14 ≡ line) × (dma_at u true ≡ true)) → fetched rom line (states rom held (timed t (at_byte (word_of a) c)) k) ≡ slice_range old a (a + k)
+    pub bytes_fetched : (k t a : ℕ) → low ≤ a → a + k ≤ 0x1000 → ((u : ℕ) → t ≤ u → u < t + k → (u / 14 ≡ line) × (dma_at u true ≡ true))
+        → fetched rom line (states rom held (timed t (at_byte (word_of a) c)) k) ≡ slice_range old a (a + k)
     bytes_fetched zero t a from room h = none
       where
         none : [] ≡ slice_range old a (a + 0)
@@ -105,7 +113,9 @@ module _ (rom : List ℕ) (held : ℕ → Keys) where
         byte = ap₂ (λ l j. read rom l c.ram j) clear address ∙ read_ram rom c.ram a (omega arith) ∙ same a from
 
         slices : slice_index old a ∷ slice_range old (a + 1) (a + 1 + k) ≡ slice_range old a (a + suc k)
-        slices = ap₂ (λ n i. slice_index old a ∷ take n (drop i old)) count next ∙ ap (take (suc k)) (sym (drop-cons old a 0 (omega (arith, full)))) ∙ ap (λ n. take n (drop a old)) count'
+        slices =
+            ap₂ (λ n i. slice_index old a ∷ take n (drop i old)) count next ∙ ap (take (suc k)) (sym (drop-cons old a 0 (omega (arith, full))))
+            ∙ ap (λ n. take n (drop a old)) count'
           where
             count : a + 1 + k - (a + 1) ≡ k
             count = omega arith

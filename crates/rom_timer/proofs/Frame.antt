@@ -62,7 +62,8 @@ module _ (b : Machine) (on : b.on ≡ true) (ie : b.regs.ie ≡ true) where
   case_waits out d i = case_idle b (no_wish out) (no_interrupt out d) i
 
 -- the interrupt
-pub accepted : (rom : List ℕ) (held : ℕ → Keys) (b : Machine) → b.on ≡ true → b.regs.ie ≡ true → place b.cycle ≡ interrupt_place → move rom held b ≡ record b { regs = interrupted b.regs; cycle = b.cycle + 1 }
+pub accepted : (rom : List ℕ) (held : ℕ → Keys) (b : Machine) → b.on ≡ true → b.regs.ie ≡ true → place b.cycle ≡ interrupt_place
+    → move rom held b ≡ record b { regs = interrupted b.regs; cycle = b.cycle + 1 }
 accepted rom held b on ie e = move_in rom held b Interrupt (case_accepts b on ie e)
 
 pub every_move : EveryMove
@@ -71,10 +72,13 @@ every_move rom held b on ie out = go (cases_eq (place b.cycle) interrupt_place) 
     at_place : place b.cycle ≡ interrupt_place → b.cycle ≡ 3668 * (b.cycle / 3668) + 78 * 14
     at_place e = omega arith
 
-    go : (place b.cycle ≡ interrupt_place) ⊎ (place b.cycle ≡ interrupt_place → ⊥) → (b.regs.idle ≡ true) ⊎ (b.regs.idle ≡ false) → Makes rom held b (move rom held b)
+    go : (place b.cycle ≡ interrupt_place) ⊎ (place b.cycle ≡ interrupt_place → ⊥) → (b.regs.idle ≡ true) ⊎ (b.regs.idle ≡ false)
+        → Makes rom held b (move rom held b)
     go (inl e) i = Accepts (at_place e) (accepted rom held b on ie e)
     go (inr d) (inl i) = Waits d i (move_in rom held b Idle (case_waits b on ie out d i))
-    go (inr d) (inr i) = Runs d i (move_in rom held b Instruction (case_runs b on ie out d i) ∙ ap (λ o. record (main_move rom (efx_at (b.cycle + 1) o) (held (b.cycle + 1)) b) { cycle = b.cycle + cycles_of (opcode_of rom b) }) on)
+    go (inr d) (inr i) =
+        Runs d i (move_in rom held b Instruction (case_runs b on ie out d i)
+        ∙ ap (λ o. record (main_move rom (efx_at (b.cycle + 1) o) (held (b.cycle + 1)) b) { cycle = b.cycle + cycles_of (opcode_of rom b) }) on)
 
 -- ---- the places that follow
 

@@ -76,12 +76,19 @@ module _ (script : List Event) where
       inside = omega (arith, slice_get_within (keys_from script a n) u k h, keys_length n a)
 
   pub embeds_longer : (a e e' : ℕ) (sets : List Keys) → e ≤ e' → Embeds sets (keys_between script a e) → Embeds sets (keys_between script a e')
-  embeds_longer a e e' sets l m = record { place = m.place; there = λ u k h. keys_longer a (e - a) (e' - a) (m.place u) k (omega arith) (m.there u k h); order = m.order }
+  embeds_longer a e e' sets l m =
+      record { place = m.place; there = λ u k h. keys_longer a (e - a) (e' - a) (m.place u) k (omega arith) (m.there u k h); order = m.order }
 
   -- the set of a main move, in the cycle after its fetch, comes behind those before
   module _ (a t : ℕ) (from : a ≤ t) (sets : List Keys) (m : Embeds sets (keys_between script a t)) where
     before_it : (u : ℕ) → u < length sets → m.place u < t - a
-    before_it u l = omega (arith, slice_get_within (keys_from script a (t - a)) (m.place u) _ (m.there u (get_or sets u nobody) (slice_get-get_or sets u nobody l)), keys_length (t - a) a)
+    before_it u l =
+        omega (
+          arith,
+          slice_get_within (keys_from script a (t - a)) (m.place u) _ (m.there u (get_or sets u nobody)
+              (slice_get-get_or sets u nobody l)),
+          keys_length (t - a) a,
+        )
       where
         nobody : Keys
         nobody = λ k. false
@@ -97,12 +104,18 @@ module _ (script : List Event) where
     unfolding place_more
     place_new u l = rw (le-ltb u (length sets) l) refl
 
-    there_more : (u : ℕ) (k : Keys) → slice_get (sets ++ held_at script (t + 1) ∷ []) u ≡ Some k → slice_get (keys_between script a (t + 2)) (place_more u) ≡ Some k
+    there_more : (u : ℕ) (k : Keys) → slice_get (sets ++ held_at script (t + 1) ∷ []) u ≡ Some k
+        → slice_get (keys_between script a (t + 2)) (place_more u) ≡ Some k
     there_more u k h = go (last_or_before sets (held_at script (t + 1)) u k h)
       where
-        go : (slice_get sets u ≡ Some k) ⊎ ((u ≡ length sets) × (k ≡ held_at script (t + 1))) → slice_get (keys_between script a (t + 2)) (place_more u) ≡ Some k
-        go (inl f) = ap (slice_get (keys_between script a (t + 2))) (place_old u (slice_get_within sets u k f)) ∙ keys_longer a (t - a) (t + 2 - a) (m.place u) k (omega arith) (m.there u k f)
-        go (inr f) = ap (slice_get (keys_between script a (t + 2))) (place_new u (omega (arith, f.0)) ∙ last) ∙ keys_from_get script (t + 2 - a) a (t + 1 - a) (omega arith) ∙ ap Some (ap (held_at script) at ∙ sym f.1)
+        go : (slice_get sets u ≡ Some k) ⊎ ((u ≡ length sets) × (k ≡ held_at script (t + 1)))
+            → slice_get (keys_between script a (t + 2)) (place_more u) ≡ Some k
+        go (inl f) =
+            ap (slice_get (keys_between script a (t + 2))) (place_old u (slice_get_within sets u k f))
+            ∙ keys_longer a (t - a) (t + 2 - a) (m.place u) k (omega arith) (m.there u k f)
+        go (inr f) =
+            ap (slice_get (keys_between script a (t + 2))) (place_new u (omega (arith, f.0)) ∙ last)
+            ∙ keys_from_get script (t + 2 - a) a (t + 1 - a) (omega arith) ∙ ap Some (ap (held_at script) at ∙ sym f.1)
           where
             last : t + 1 - a + (u - length sets) ≡ t + 1 - a
             last = omega (arith, f.0)

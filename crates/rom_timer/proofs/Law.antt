@@ -18,7 +18,8 @@ use Rattle.rom_timer.proofs.Randoms.{random_comes, random_count_holds, random_mi
 use Rattle.rom_timer.proofs.Timers.{get_delay_holds, get_delay_put_comes, set_delay_comes, set_delay_put_holds, set_delay_end_comes, set_sound_comes, set_sound_put_holds, set_sound_end_comes}
 use Rattle.rom_timer.specs.Code.{timer_rom}
 
-pub timer_block : (e : Edition) (l : TimerBlock) (b : Machine) (h : Since) → FitsMachine b → Head (quick e) (OfTimer l) b h → Comes (quick e) (calm_pieces (quick e)) (OfTimer l) b h
+pub timer_block : (e : Edition) (l : TimerBlock) (b : Machine) (h : Since) → FitsMachine b → Head (quick e) (OfTimer l) b h
+    → Comes (quick e) (calm_pieces (quick e)) (OfTimer l) b h
 timer_block e Random b h f o = random_comes e b h f o.0 o.1
 timer_block e RandomMix b h f o = random_mix_comes e b h f o.0.0 o.0.1 o.0.2
 timer_block e GetDelayPut b h f o = get_delay_put_comes e b h f o.0.0 o.0.1 o.0.2
@@ -30,7 +31,8 @@ timer_block e SetSoundEnd b h f o = set_sound_end_comes e b h f o.0
 pub timer_rows : TimerRows timer_rom
 timer_rows e l = block_rows e (both_is e) (both_fits e) (OfTimer l) (timer_block e l)
 
-pub timer_place : (e : Edition) (l : TimerPlace) (b : Machine) (h : Since) → FitsMachine b → At (quick e) (AtTimer l) b h → Holds (quick e) (calm_pieces (quick e)) (AtTimer l) b h
+pub timer_place : (e : Edition) (l : TimerPlace) (b : Machine) (h : Since) → FitsMachine b → At (quick e) (AtTimer l) b h
+    → Holds (quick e) (calm_pieces (quick e)) (AtTimer l) b h
 timer_place e RandomCount b h f o = random_count_holds e b h f o.0.0 o.0.1 o o.1
 timer_place e GetDelay b h f o = get_delay_holds e b h f o.0.0 o.0.1 o o.1
 timer_place e SetDelayPut b h f o = set_delay_put_holds e b h f o.0.0 o.0.1 o.0.2 o o.1

@@ -54,26 +54,32 @@ row_inside Usual k h = omega arith
 row_inside Tall k h = omega arith
 
 module _ (e : Edition) (ram : List ℕ) (k : ℕ) (some : k < 128) where
-  dots : (x : ℕ) → x < 64 → dot (slice_range ram (row_start e k) (row_start e k + 8)) x ≡ pixels (rows_of e) (slice_range ram (screen_start e) 0x1000) x (k / lines_of e)
+  dots : (x : ℕ) → x < 64 → dot (slice_range ram (row_start e k) (row_start e k + 8)) x
+      ≡ pixels (rows_of e) (slice_range ram (screen_start e) 0x1000) x (k / lines_of e)
   dots x h =
-      ap (λ y. is_set y (7 - x % 8)) (range_get (row_start e k) (row_start e k + 8) ram (x / 8) (omega arith) ∙ ap (slice_index ram) same ∙ sym (range_get (screen_start e) 0x1000 ram (8 * (k / lines_of e) + x / 8) (omega (arith, row_fits e k some))))
+      ap (λ y. is_set y (7 - x % 8))
+      (range_get (row_start e k) (row_start e k + 8) ram (x / 8) (omega arith) ∙ ap (slice_index ram) same
+      ∙ sym (range_get (screen_start e) 0x1000 ram (8 * (k / lines_of e) + x / 8) (omega (arith, row_fits e k some))))
       ∙ sym inside
     where
       same : row_start e k + x / 8 ≡ screen_start e + (8 * (k / lines_of e) + x / 8)
       same = omega arith
 
-      inside : pixels (rows_of e) (slice_range ram (screen_start e) 0x1000) x (k / lines_of e) ≡ is_set (slice_index (slice_range ram (screen_start e) 0x1000) (8 * (k / lines_of e) + x / 8)) (7 - x % 8)
+      inside : pixels (rows_of e) (slice_range ram (screen_start e) 0x1000) x (k / lines_of e)
+          ≡ is_set (slice_index (slice_range ram (screen_start e) 0x1000) (8 * (k / lines_of e) + x / 8)) (7 - x % 8)
       inside = rw (lt-ltb x 64 h, lt-ltb (k / lines_of e) (rows_of e) (row_inside e k some)) refl
 
 -- ---- the bytes of a line in a run
 
 module _ (rom : List ℕ) (held : ℕ → Keys) where
   -- a line that ends by the limit loses nothing at the limit
-  line_kept : (line limit : ℕ) → 14 * line + 13 ≤ limit → (l : List Machine) → filter (is_dma_in line) (filter (λ s. nat_le s.cycle limit) l) ≡ filter (is_dma_in line) l
+  line_kept : (line limit : ℕ) → 14 * line + 13 ≤ limit → (l : List Machine)
+      → filter (is_dma_in line) (filter (λ s. nat_le s.cycle limit) l) ≡ filter (is_dma_in line) l
   line_kept line limit ended [] = refl
   line_kept line limit ended (s ∷ l) = go (line_kept line limit ended l) (cases_lt limit s.cycle)
     where
-      go : filter (is_dma_in line) (filter (λ s. nat_le s.cycle limit) l) ≡ filter (is_dma_in line) l → (limit < s.cycle) ⊎ (s.cycle ≤ limit) → filter (is_dma_in line) (filter (λ s. nat_le s.cycle limit) (s ∷ l)) ≡ filter (is_dma_in line) (s ∷ l)
+      go : filter (is_dma_in line) (filter (λ s. nat_le s.cycle limit) l) ≡ filter (is_dma_in line) l → (limit < s.cycle) ⊎ (s.cycle ≤ limit)
+          → filter (is_dma_in line) (filter (λ s. nat_le s.cycle limit) (s ∷ l)) ≡ filter (is_dma_in line) (s ∷ l)
       go same (inl h) = rw (lt-leb s.cycle limit h, and_right (is_dma (case_of s)) _ (ne_eqb (s.cycle / 14) line (λ f. omega arith))) same
       go same (inr h) = rw (le-leb s.cycle limit h) (ap (λ z. cond (is_dma_in line s) (s ∷ z) z) same)
 
@@ -95,18 +101,23 @@ module _ (rom : List ℕ) (held : ℕ → Keys) where
 
     pieces : states rom held first (limit + 1) ≡ states rom held first i ++ (states rom held b moves ++ states rom held d rest)
     unfolding b d
-    pieces = ap (states rom held first) count ∙ states_join rom held i (moves + rest) first ∙ ap (λ l. states rom held first i ++ l) (states_join rom held moves rest b)
+    pieces =
+        ap (states rom held first) count ∙ states_join rom held i (moves + rest) first
+        ∙ ap (λ l. states rom held first i ++ l) (states_join rom held moves rest b)
       where
         count : limit + 1 ≡ i + (moves + rest)
         count = omega (arith, at, few, ended, cycles_pass i first)
 
-    pub in_run : (k : ℕ) → k < 128 → fetched rom (262 * m + 80 + k) (run_to rom held first limit) ≡ fetched rom (262 * m + 80 + k) (states rom held (after_moves rom held first i) moves)
+    pub in_run : (k : ℕ) → k < 128
+        → fetched rom (262 * m + 80 + k) (run_to rom held first limit)
+        ≡ fetched rom (262 * m + 80 + k) (states rom held (after_moves rom held first i) moves)
     unfolding run_to b d
     in_run k some =
         ap (map (dma_byte rom)) (line_kept line limit (omega (arith, ended)) (states rom held first (limit + 1)))
         ∙ ap (fetched rom line) pieces
         ∙ fetched_append rom held line (states rom held first i) (states rom held b moves ++ states rom held d rest)
-        ∙ ap₂ (λ x y. x ++ y) before (fetched_append rom held line (states rom held b moves) (states rom held d rest) ∙ ap (λ y. fetched rom line (states rom held b moves) ++ y) after)
+        ∙ ap₂ (λ x y. x ++ y) before (fetched_append rom held line (states rom held b moves) (states rom held d rest)
+        ∙ ap (λ y. fetched rom line (states rom held b moves) ++ y) after)
         ∙ append-nil (fetched rom line (states rom held b moves))
       where
         line : ℕ
@@ -120,7 +131,9 @@ module _ (rom : List ℕ) (held : ℕ → Keys) where
 
 -- ---- the picture
 
-shows : (e : Edition) (rom : List ℕ) (run : List Machine) (m : ℕ) (b : Machine) → length b.ram ≡ 0x1000 → ((j : ℕ) → slice_index b.ram j < 256) → ((k : ℕ) → k < 128 → fetched rom (262 * m + 80 + k) run ≡ slice_range b.ram (row_start e k) (row_start e k + 8)) → ShowsScreen e (picture_of rom run m) (state_of e b).screen
+shows : (e : Edition) (rom : List ℕ) (run : List Machine) (m : ℕ) (b : Machine) → length b.ram ≡ 0x1000 → ((j : ℕ) → slice_index b.ram j < 256)
+    → ((k : ℕ) → k < 128 → fetched rom (262 * m + 80 + k) run ≡ slice_range b.ram (row_start e k) (row_start e k + 8))
+    → ShowsScreen e (picture_of rom run m) (state_of e b).screen
 unfolding picture_of state_of
 shows e rom run m b size fit scan =
     record {
@@ -133,19 +146,27 @@ shows e rom run m b size fit scan =
     within k line get = subst (λ n. k < n) (lines_length rom run 128 (262 * m + 80)) (slice_get_within (lines_from rom run (262 * m + 80) 128) k line get)
 
     bytes : (k : ℕ) → k < 128 → line_bytes rom run (262 * m + 80 + k) ≡ slice_range b.ram (row_start e k) (row_start e k + 8)
-    bytes k some = ap filled (scan k some) ∙ filled_up _ (range_length (row_start e k) (row_start e k + 8) b.ram (omega (arith, size, row_fits e k some)) ∙ eight (row_start e k))
+    bytes k some =
+        ap filled (scan k some) ∙ filled_up _
+        (range_length (row_start e k) (row_start e k + 8) b.ram (omega (arith, size, row_fits e k some)) ∙ eight (row_start e k))
       where
         eight : (a : ℕ) → a + 8 - a ≡ 8
         eight a = omega arith
 
-    line_is : (k : ℕ) (line : List ℕ) → k < 128 → slice_get (lines_from rom run (262 * m + 80) 128) k ≡ Some line → line ≡ slice_range b.ram (row_start e k) (row_start e k + 8)
+    line_is : (k : ℕ) (line : List ℕ) → k < 128 → slice_get (lines_from rom run (262 * m + 80) 128) k ≡ Some line
+        → line ≡ slice_range b.ram (row_start e k) (row_start e k + 8)
     line_is k line some get = same_Some line (line_bytes rom run (262 * m + 80 + k)) (sym get ∙ lines_get rom run 128 (262 * m + 80) k some) ∙ bytes k some
 
     line_of : (k : ℕ) (line : List ℕ) → k < 128 → slice_get (lines_from rom run (262 * m + 80) 128) k ≡ Some line → IsLine line
     line_of k line some get =
-        subst IsLine (sym (line_is k line some get)) (record { count = range_length (row_start e k) (row_start e k + 8) b.ram (omega (arith, size, row_fits e k some)) ∙ omega arith; fit = range_fits (row_start e k) b.ram fit })
+        subst IsLine (sym (line_is k line some get))
+        (record {
+          count = range_length (row_start e k) (row_start e k + 8) b.ram (omega (arith, size, row_fits e k some)) ∙ omega arith;
+          fit = range_fits (row_start e k) b.ram fit;
+        })
 
-    dots_of : (k x : ℕ) (line : List ℕ) → k < 128 → slice_get (lines_from rom run (262 * m + 80) 128) k ≡ Some line → x < 64 → dot line x ≡ pixels (rows_of e) (slice_range b.ram (screen_start e) 0x1000) x (k / lines_of e)
+    dots_of : (k x : ℕ) (line : List ℕ) → k < 128 → slice_get (lines_from rom run (262 * m + 80) 128) k ≡ Some line → x < 64
+        → dot line x ≡ pixels (rows_of e) (slice_range b.ram (screen_start e) 0x1000) x (k / lines_of e)
     dots_of k x line some get h =
         ap (λ l. dot l x) (line_is k line some get)
         ∙ dots e b.ram k some x h
@@ -187,9 +208,19 @@ module _ (e : Edition) (m i : ℕ) (held : ℕ → Keys) (first : Machine) (o : 
           split = omega (arith, l)
 
       go : (j < i) ⊎ (i ≤ j) → (j < i + routine_moves) ⊎ (i + routine_moves ≤ j) → ((after j).on || not (is_within (timer_rom e) run m (after j))) ≡ true
-      go (inl l) k = before_them (after j).on _ _ (le-ltb (interrupt_at m) ((after j).cycle + length_of (timer_rom e) (after j)) (omega (arith, cycle-move (timer_rom e) held (after j), later_cycle (timer_rom e) held first (suc j) i (omega (arith, l)), o.cycle)))
+      go (inl l) k =
+          before_them (after j).on _ _ (le-ltb (interrupt_at m) ((after j).cycle + length_of (timer_rom e) (after j))
+          (omega (arith, cycle-move (timer_rom e) held (after j), later_cycle (timer_rom e) held first (suc j) i (omega (arith, l)), o.cycle)))
       go (inr l) (inl k) = lit (after j).on _ (ap (λ (z : Machine). z.on) (behind l) ∙ on_there (j - i) (omega (arith, l, k)))
-      go (inr l) (inr k) = behind_them (after j).on _ _ (le-ltb (after j).cycle (window_end m) (omega (arith, ap (λ (z : Machine). z.cycle) (behind l), later_cycle (timer_rom e) held (after i) routine_moves (j - i) (omega (arith, l, k)), tick.cycle)))
+      go (inr l) (inr k) =
+          behind_them (after j).on _ _ (le-ltb (after j).cycle (window_end m)
+          (omega (
+            arith,
+            ap (λ (z : Machine). z.cycle) (behind l),
+            later_cycle (timer_rom e) held (after i) routine_moves (j
+                - i) (omega (arith, l, k)),
+            tick.cycle,
+          )))
 
 pub run_picture : RunPicture timer_rom
 unfolding is_shown
@@ -198,5 +229,7 @@ run_picture e m i limit held first o ended =
       shown = all_in_run (timer_rom e) held _ limit first (is_on e m i held first o (run_to (timer_rom e) held first limit));
       shows =
           shows e (timer_rom e) (run_to (timer_rom e) held first limit) m (after_moves (timer_rom e) held first i) o.fits.size o.fits.ram
-          (λ k some. in_run (timer_rom e) held first m i routine_moves limit o.cycle (omega arith) (omega (arith, (run_tick e m (after_moves (timer_rom e) held first i) held o).cycle)) ended k some ∙ (run_scan e m (after_moves (timer_rom e) held first i) held o).lines k some);
+          (λ k some. in_run (timer_rom e) held first m i routine_moves limit o.cycle (omega arith)
+          (omega (arith, (run_tick e m (after_moves (timer_rom e) held first i) held o).cycle)) ended k some
+          ∙ (run_scan e m (after_moves (timer_rom e) held first i) held o).lines k some);
     }

@@ -42,18 +42,59 @@ module _ (e : Edition) (b : Machine) (h : Since) (f : FitsMachine b) where
 
   pub random_comes : Enters (quick e) at_random 12 b (now h) → h.spent ≡ 80 → Comes (quick e) (calm_pieces (quick e)) (OfTimer Random) b h
   random_comes o spent = routine (OfTimer Random) o.entered _ (omega arith) refl
-      (λ h' g. to_timer_place (quick e) g _ refl RandomCount (record { entered = record { holds = o.entered.holds; inside = o.entered.inside; p = refl; r3 = refl; r4 = refl; r6 = refl; r7 = refl; rc = refl }; digit = o.digit }, record { rd = refl; x = refl }) (omega (arith, spent, g.spent)))
+      (λ h' g. to_timer_place (quick e) g _ refl RandomCount (
+        record {
+          entered = record {
+            holds = o.entered.holds;
+            inside = o.entered.inside;
+            p = refl;
+            r3 = refl;
+            r4 = refl;
+            r6 = refl;
+            r7 = refl;
+            rc = refl;
+          };
+          digit = o.digit;
+        },
+        record { rd = refl; x = refl },
+      ) (omega (arith, spent, g.spent)))
 
   -- the machine with RD at the random byte
   abbrev mixing : ℕ → Machine
-  mixing a = record (entered e a high low b) { regs = record (entered e a high low b).regs { x = 13; r = record (entered e a high low b).regs.r { rd = word_of random_cell } } }
+  mixing a =
+      record (entered e a high low b) {
+        regs = record (entered e a high low b).regs { x = 13; r = record (entered e a high low b).regs.r { rd = word_of random_cell } };
+      }
 
   is_mixing : {a : ℕ} → Entered (quick e) a b (now h) → Mixes b → b ≡ mixing a
-  is_mixing {a = a} o m = is_entered o ∙ (λ i. record (entered e a high low b) { regs = record (entered e a high low b).regs { x = m.x i; r = record (entered e a high low b).regs.r { rd = m.rd i } } })
+  is_mixing {a = a} o m =
+      is_entered o ∙ (λ i. record (entered e a high low b) {
+        regs = record (entered e a high low b).regs { x = m.x i; r = record (entered e a high low b).regs.r { rd = m.rd i } };
+      })
 
-  pub random_count_holds : Enters (quick e) at_random_count 12 b (now h) → Mixes b → At (quick e) (AtTimer RandomCount) b h → h.spent ≡ 90 → Holds (quick e) (calm_pieces (quick e)) (AtTimer RandomCount) b h
+  pub random_count_holds : Enters (quick e) at_random_count 12 b (now h) → Mixes b → At (quick e) (AtTimer RandomCount) b h → h.spent ≡ 90
+      → Holds (quick e) (calm_pieces (quick e)) (AtTimer RandomCount) b h
   random_count_holds o m at spent = alone (AtTimer RandomCount) f at o.entered.holds (mixing at_random_count) (is_mixing o.entered m) refl refl refl
-      (λ u. to_timer (quick e) (one_more u h) _ refl RandomMix (record { entered = record { holds = o.entered.holds; inside = o.entered.inside; p = refl; r3 = refl; r4 = refl; r6 = refl; r7 = refl; rc = refl }; digit = o.digit }, record { rd = refl; x = refl }, omega (arith, ap (λ (z : Lang). z.n) o.entered.holds.is, f.regs.r.r9.lo)) (omega (arith, spent)))
+      (λ u. to_timer (quick e) (one_more u h) _ refl RandomMix (
+        record {
+          entered = record {
+            holds = o.entered.holds;
+            inside = o.entered.inside;
+            p = refl;
+            r3 = refl;
+            r4 = refl;
+            r6 = refl;
+            r7 = refl;
+            rc = refl;
+          };
+          digit = o.digit;
+        },
+        record {
+          rd = refl;
+          x = refl;
+        },
+        omega (arith, ap (λ (z : Lang). z.n) o.entered.holds.is, f.regs.r.r9.lo),
+      ) (omega (arith, spent)))
 
   -- ---- the next random byte
 
@@ -80,20 +121,29 @@ module _ (e : Edition) (b : Machine) (h : Since) (f : FitsMachine b) where
   byte = bit_and low (read (both e) b.latch stored random_cell)
 
   byte_is : Enters (quick e) at_random_mix 12 b (now h) → b.regs.d ≡ (now h).n % 256 → byte ≡ bit_and (random (now h)) low
-  byte_is o d = ap (bit_and low) (read_is (random_set o.entered.holds mixed) random_cell (omega arith) ∙ ap (λ (z : Lang). z.b) (random_set o.entered.holds mixed).is ∙ mixed_is o d) ∙ and_comm low (random (now h))
+  byte_is o d =
+      ap (bit_and low) (read_is (random_set o.entered.holds mixed) random_cell (omega arith)
+      ∙ ap (λ (z : Lang). z.b) (random_set o.entered.holds mixed).is ∙ mixed_is o d) ∙ and_comm low (random (now h))
 
   abbrev put : Places
   put = record (places b) { ram = written b.latch stored (value (word (page_of e) (240 + high % 16))) byte }
 
-  pub random_mix_comes : Enters (quick e) at_random_mix 12 b (now h) → Mixes b → b.regs.d ≡ (now h).n % 256 → Comes (quick e) (calm_pieces (quick e)) (OfTimer RandomMix) b h
+  pub random_mix_comes : Enters (quick e) at_random_mix 12 b (now h) → Mixes b → b.regs.d ≡ (now h).n % 256
+      → Comes (quick e) (calm_pieces (quick e)) (OfTimer RandomMix) b h
   random_mix_comes o m d = record {
     runs = ready o.entered.holds;
     awake = o.entered.holds.awake;
     some = omega arith;
     end = quicks (code (quick e)) 11 (mixing at_random_mix);
-    reaches = reaches_from (code (quick e)) (calm_top e) 11 b _ _ (is_mixing o.entered m) (reaches_in (code (quick e)) (calm_top e) 11 _ _ (omega (arith, o.entered.holds.stack, stack_top_is e, memory_end_is e, page_fits e, page_low e)) refl);
+    reaches =
+        reaches_from (code (quick e)) (calm_top e) 11 b _ _ (is_mixing o.entered m)
+        (reaches_in (code (quick e)) (calm_top e) 11 _ _
+        (omega (arith, o.entered.holds.stack, stack_top_is e, memory_end_is e, page_fits e, page_low e)) refl);
     ends = λ h' g. steps e g (RandomByte (high % 16) low) (random_is o) refl (random_runs o) _ puts refl refl;
   }
     where
       puts : Holding (quick e) put (record (next (now h)) { v = slice_set (now h).v (high % 16) (bit_and (random (now h)) low); b = random (now h) })
-      puts = subst (Holding (quick e) put) (λ i. record (next (now h)) { v = slice_set (now h).v (high % 16) (byte_is o d i); b = mixed_is o d i }) (v_set (random_set o.entered.holds mixed) (value (word (page_of e) (240 + high % 16))) (high % 16) byte (omega (arith, variables_is e)) (omega arith))
+      puts =
+          subst (Holding (quick e) put) (λ i. record (next (now h)) { v = slice_set (now h).v (high % 16) (byte_is o d i); b = mixed_is o d i })
+          (v_set (random_set o.entered.holds mixed) (value (word (page_of e) (240 + high % 16))) (high % 16) byte (omega (arith, variables_is e))
+          (omega arith))

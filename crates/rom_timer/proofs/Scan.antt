@@ -64,11 +64,15 @@ module _ (e : Edition) (m : ℕ) (b : Machine) (held : ℕ → Keys) (o : IsInte
 
   comes : after_moves (both e) held b before ≡ c
   unfolding c
-  comes = moves_more (code (quick e)) held (13 + begun.moves) 1 b (timed (3668 * m + 1093) (taken b)) (first e m b held o) ∙ (serves_join (code (quick e)) held (opens e held m b) begun.serves).ends
+  comes =
+      moves_more (code (quick e)) held (13 + begun.moves) 1 b (timed (3668 * m + 1093) (taken b)) (first e m b held o)
+      ∙ (serves_join (code (quick e)) held (opens e held m b) begun.serves).ends
 
   after : after_moves (both e) held c 8 ≡ timed (14 * line + 2 + 8) (at_byte (word_of (address + 8)) begun.at)
   unfolding c
-  after = (dmas (code (quick e)) held 8 (14 * line + 2) address begun.at (omega (arith, row_fits e k some)) (λ u l h. wanted u (omega arith) (omega arith) (omega arith) (omega arith))).ends
+  after =
+      (dmas (code (quick e)) held 8 (14 * line + 2) address begun.at (omega (arith, row_fits e k some))
+      (λ u l h. wanted u (omega arith) (omega arith) (omega arith) (omega arith))).ends
 
   d : Machine
   d = timed (14 * line + 2 + 8) (at_byte (word_of (address + 8)) begun.at)
@@ -82,7 +86,8 @@ module _ (e : Edition) (m : ℕ) (b : Machine) (held : ℕ → Keys) (o : IsInte
       ap (states (both e) held b) count
       ∙ states_join (both e) held before (8 + rest) b
       ∙ ap (λ z. states (both e) held b before ++ states (both e) held z (8 + rest)) comes
-      ∙ ap (λ l. states (both e) held b before ++ l) (states_join (both e) held 8 rest c ∙ ap (λ z. states (both e) held c 8 ++ states (both e) held z rest) after)
+      ∙ ap (λ l. states (both e) held b before ++ l)
+      (states_join (both e) held 8 rest c ∙ ap (λ z. states (both e) held c 8 ++ states (both e) held z rest) after)
     where
       count : routine_moves ≡ before + (8 + rest)
       count = omega (arith, begun.few)
@@ -112,13 +117,16 @@ module _ (e : Edition) (m : ℕ) (b : Machine) (held : ℕ → Keys) (o : IsInte
 
   bytes : fetched (both e) line (states (both e) held c 8) ≡ slice_range b.ram address (address + 8)
   unfolding c
-  bytes = bytes_fetched (both e) held line begun.at begun.latch b.ram o.fits.size (screen_start e) same 8 (14 * line + 2) address (omega arith) (row_fits e k some) (λ u l h. (omega arith, wanted u (omega arith) (omega arith) (omega arith) (omega arith)))
+  bytes =
+      bytes_fetched (both e) held line begun.at begun.latch b.ram o.fits.size (screen_start e) same 8 (14 * line + 2) address (omega arith)
+      (row_fits e k some) (λ u l h. (omega arith, wanted u (omega arith) (omega arith) (omega arith) (omega arith)))
 
   scanned : fetched (both e) line (states (both e) held b routine_moves) ≡ slice_range b.ram address (address + 8)
   scanned =
       ap (fetched (both e) line) pieces
       ∙ fetched_append (both e) held line (states (both e) held b before) (states (both e) held c 8 ++ states (both e) held d rest)
-      ∙ ap₂ (λ x y. x ++ y) none_before (fetched_append (both e) held line (states (both e) held c 8) (states (both e) held d rest) ∙ ap₂ (λ x y. x ++ y) bytes none_after)
+      ∙ ap₂ (λ x y. x ++ y) none_before
+      (fetched_append (both e) held line (states (both e) held c 8) (states (both e) held d rest) ∙ ap₂ (λ x y. x ++ y) bytes none_after)
       ∙ append-nil (slice_range b.ram address (address + 8))
 
 -- ---- the window
@@ -130,7 +138,8 @@ run_scan e m b held o =
       lines = line;
     }
   where
-    line : (k : ℕ) → k < 128 → fetched (timer_rom e) (262 * m + 80 + k) (states (timer_rom e) held b routine_moves) ≡ slice_range b.ram (row_start e k) (row_start e k + 8)
+    line : (k : ℕ) → k < 128 → fetched (timer_rom e) (262 * m + 80 + k) (states (timer_rom e) held b routine_moves)
+        ≡ slice_range b.ram (row_start e k) (row_start e k + 8)
     line k some =
         subst (λ rom. fetched rom (262 * m + 80 + k) (states rom held b routine_moves) ≡ slice_range b.ram (row_start e k) (row_start e k + 8))
         (both_is e) (scanned e m b held o k some)

@@ -58,8 +58,12 @@ screen_is Usual = refl
 screen_is Tall = refl
 
 module _ (e : Edition) (held : ℕ → Keys) where
-  pub opens : (m : ℕ) (b : Machine) → Serves (code (quick e)) held 13 (timed (3668 * m + 1093) (taken b)) (timed (14 * (262 * m + 80)) (scanning (entered b) at_scan (screen_start e) 0))
-  opens m b = serves_to (code (quick e)) held (ap₂ timed time (ap (λ w. at_byte w (scanning (entered b) at_scan (screen_start e) 0)) (screen_is e))) (instructions (code (quick e)) held 13 (3668 * m + 1093) (taken b) refl (λ u l h. before m u l (omega arith)))
+  pub opens : (m : ℕ) (b : Machine)
+      → Serves (code (quick e)) held 13 (timed (3668 * m + 1093) (taken b))
+      (timed (14 * (262 * m + 80)) (scanning (entered b) at_scan (screen_start e) 0))
+  opens m b =
+      serves_to (code (quick e)) held (ap₂ timed time (ap (λ w. at_byte w (scanning (entered b) at_scan (screen_start e) 0)) (screen_is e)))
+      (instructions (code (quick e)) held 13 (3668 * m + 1093) (taken b) refl (λ u l h. before m u l (omega arith)))
     where
       time : 3668 * m + 1093 + 27 ≡ 14 * (262 * m + 80)
       time = omega arith
@@ -96,7 +100,8 @@ module _ (e : Edition) (held : ℕ → Keys) where
   pub record Delays (m : ℕ) (b : Machine) (d : ℕ) (rf r8 : Word) (q : Bool) : Type 0 where
     pub d' : ℕ
     pub f : ℕ
-    pub serves : Serves (code (quick e)) held 6 (timed (3668 * m + 2912) (serving b at_delay d rf r8 q)) (timed (3668 * m + 2924) (serving b at_sound d' (word rf.hi f) (word (r8.hi - 1) r8.lo) q))
+    pub serves : Serves (code (quick e)) held 6 (timed (3668 * m + 2912) (serving b at_delay d rf r8 q))
+        (timed (3668 * m + 2924) (serving b at_sound d' (word rf.hi f) (word (r8.hi - 1) r8.lo) q))
     pub fits : f < 256
 
   module _ (m : ℕ) (b : Machine) (d : ℕ) (rf r8 : Word) (q : Bool) (frf : FitsWord rf) (fr8 : FitsWord r8) where
@@ -107,8 +112,14 @@ module _ (e : Edition) (held : ℕ → Keys) where
           f = rf.lo;
           serves =
               serves_join (code (quick e)) held
-              (serves_to (code (quick e)) held (ap₂ timed time (ap (sets_pc (serving b at_delay r8.hi rf r8 q)) (test_0 r8.hi (word_of at_delay_none) (word_of at_delay_down) h))) (instructions (code (quick e)) held 2 (3668 * m + 2912) (serving b at_delay d rf r8 q) refl (λ u l k. behind m u l (omega arith))))
-              (serves_to (code (quick e)) held (ap₂ timed time' (ap (λ z. serving b at_sound r8.hi rf (word z r8.lo) q) none)) (instructions (code (quick e)) held 4 (3668 * m + 2916) (serving b at_delay_none r8.hi rf r8 q) refl (λ u l k. behind m u (omega arith) (omega arith))));
+              (serves_to (code (quick e)) held
+              (ap₂ timed time (ap (sets_pc (serving b at_delay r8.hi rf r8 q))
+              (test_0 r8.hi (word_of at_delay_none) (word_of at_delay_down) h)))
+              (instructions (code (quick e)) held 2 (3668 * m + 2912) (serving b at_delay d rf r8 q) refl
+              (λ u l k. behind m u l (omega arith))))
+              (serves_to (code (quick e)) held (ap₂ timed time' (ap (λ z. serving b at_sound r8.hi rf (word z r8.lo) q) none))
+              (instructions (code (quick e)) held 4 (3668 * m + 2916) (serving b at_delay_none r8.hi rf r8 q) refl
+              (λ u l k. behind m u (omega arith) (omega arith))));
           fits = frf.lo;
         }
       where
@@ -128,8 +139,14 @@ module _ (e : Edition) (held : ℕ → Keys) where
           f = r8.hi - 1;
           serves =
               serves_join (code (quick e)) held
-              (serves_to (code (quick e)) held (ap₂ timed time (ap (sets_pc (serving b at_delay r8.hi rf r8 q)) (test r8.hi (word_of at_delay_none) (word_of at_delay_down) h))) (instructions (code (quick e)) held 2 (3668 * m + 2912) (serving b at_delay d rf r8 q) refl (λ u l k. behind m u l (omega arith))))
-              (serves_to (code (quick e)) held (ap₂ timed time' (λ i. serving b at_sound (low i) (word (high i) (low i)) (word (low i) r8.lo) q)) (instructions (code (quick e)) held 4 (3668 * m + 2916) (serving b at_delay_down r8.hi rf r8 q) refl (λ u l k. behind m u (omega arith) (omega arith))));
+              (serves_to (code (quick e)) held
+              (ap₂ timed time (ap (sets_pc (serving b at_delay r8.hi rf r8 q))
+              (test r8.hi (word_of at_delay_none) (word_of at_delay_down) h)))
+              (instructions (code (quick e)) held 2 (3668 * m + 2912) (serving b at_delay d rf r8 q) refl
+              (λ u l k. behind m u l (omega arith))))
+              (serves_to (code (quick e)) held (ap₂ timed time' (λ i. serving b at_sound (low i) (word (high i) (low i)) (word (low i) r8.lo) q))
+              (instructions (code (quick e)) held 4 (3668 * m + 2916) (serving b at_delay_down r8.hi rf r8 q) refl
+              (λ u l k. behind m u (omega arith) (omega arith))));
           fits = omega (arith, fr8.hi);
         }
       where
@@ -154,13 +171,20 @@ module _ (e : Edition) (held : ℕ → Keys) where
 
     -- the sound timer
     abbrev pub Sounds : Type 0
-    Sounds = Serves (code (quick e)) held 5 (timed (3668 * m + 2924) (serving b at_sound d rf r8 q)) (timed (3668 * m + 2934) (serving b at_resume r8.lo rf (word r8.hi (r8.lo - 1)) (not (r8.lo == 0))))
+    Sounds =
+        Serves (code (quick e)) held 5 (timed (3668 * m + 2924) (serving b at_sound d rf r8 q))
+        (timed (3668 * m + 2934) (serving b at_resume r8.lo rf (word r8.hi (r8.lo - 1)) (not (r8.lo == 0))))
 
     sound_none : r8.lo ≡ 0 → Sounds
     sound_none h =
         serves_join (code (quick e)) held
-        (serves_to (code (quick e)) held (ap₂ timed time (ap (sets_pc (serving b at_sound r8.lo rf r8 q)) (test_0 r8.lo (word_of at_sound_none) (word_of at_sound_down) h))) (instructions (code (quick e)) held 2 (3668 * m + 2924) (serving b at_sound d rf r8 q) refl (λ u l k. behind m u (omega arith) (omega arith))))
-        (serves_to (code (quick e)) held (ap₂ timed time' (λ i. serving b at_resume r8.lo rf (word r8.hi (none i)) (silent i))) (instructions (code (quick e)) held 3 (3668 * m + 2928) (serving b at_sound_none r8.lo rf r8 q) refl (λ u l k. behind m u (omega arith) (omega arith))))
+        (serves_to (code (quick e)) held
+        (ap₂ timed time (ap (sets_pc (serving b at_sound r8.lo rf r8 q)) (test_0 r8.lo (word_of at_sound_none) (word_of at_sound_down) h)))
+        (instructions (code (quick e)) held 2 (3668 * m + 2924) (serving b at_sound d rf r8 q) refl
+        (λ u l k. behind m u (omega arith) (omega arith))))
+        (serves_to (code (quick e)) held (ap₂ timed time' (λ i. serving b at_resume r8.lo rf (word r8.hi (none i)) (silent i)))
+        (instructions (code (quick e)) held 3 (3668 * m + 2928) (serving b at_sound_none r8.lo rf r8 q) refl
+        (λ u l k. behind m u (omega arith) (omega arith))))
       where
         time : 3668 * m + 2924 + 4 ≡ 3668 * m + 2928
         time = omega arith
@@ -177,8 +201,13 @@ module _ (e : Edition) (held : ℕ → Keys) where
     sound_down : (r8.lo ≡ 0 → ⊥) → Sounds
     sound_down h =
         serves_join (code (quick e)) held
-        (serves_to (code (quick e)) held (ap₂ timed time (ap (sets_pc (serving b at_sound r8.lo rf r8 q)) (test r8.lo (word_of at_sound_none) (word_of at_sound_down) h))) (instructions (code (quick e)) held 2 (3668 * m + 2924) (serving b at_sound d rf r8 q) refl (λ u l k. behind m u (omega arith) (omega arith))))
-        (serves_to (code (quick e)) held (ap₂ timed time' (λ i. serving b at_resume r8.lo rf (word (high i) (low i)) (sounds i))) (instructions (code (quick e)) held 3 (3668 * m + 2928) (serving b at_sound_down r8.lo rf r8 q) refl (λ u l k. behind m u (omega arith) (omega arith))))
+        (serves_to (code (quick e)) held
+        (ap₂ timed time (ap (sets_pc (serving b at_sound r8.lo rf r8 q)) (test r8.lo (word_of at_sound_none) (word_of at_sound_down) h)))
+        (instructions (code (quick e)) held 2 (3668 * m + 2924) (serving b at_sound d rf r8 q) refl
+        (λ u l k. behind m u (omega arith) (omega arith))))
+        (serves_to (code (quick e)) held (ap₂ timed time' (λ i. serving b at_resume r8.lo rf (word (high i) (low i)) (sounds i)))
+        (instructions (code (quick e)) held 3 (3668 * m + 2928) (serving b at_sound_down r8.lo rf r8 q) refl
+        (λ u l k. behind m u (omega arith) (omega arith))))
       where
         time : 3668 * m + 2924 + 4 ≡ 3668 * m + 2928
         time = omega arith
@@ -215,8 +244,13 @@ module _ (e : Edition) (held : ℕ → Keys) where
         };
       }
 
-  pub resumes : (m : ℕ) (b : Machine) (d : ℕ) (rf r8 : Word) (q : Bool) → Serves (code (quick e)) held 2 (timed (3668 * m + 2934) (serving b at_resume d rf r8 q)) (timed (3668 * m + 2938) (resumed (serving b at_resume d rf r8 q)))
-  resumes m b d rf r8 q = serves_to (code (quick e)) held (ap (λ t. timed t (resumed (serving b at_resume d rf r8 q))) time) (instructions (code (quick e)) held 2 (3668 * m + 2934) (serving b at_resume d rf r8 q) refl (λ u l k. behind m u (omega arith) (omega arith)))
+  pub resumes : (m : ℕ) (b : Machine) (d : ℕ) (rf r8 : Word) (q : Bool)
+      → Serves (code (quick e)) held 2 (timed (3668 * m + 2934) (serving b at_resume d rf r8 q))
+      (timed (3668 * m + 2938) (resumed (serving b at_resume d rf r8 q)))
+  resumes m b d rf r8 q =
+      serves_to (code (quick e)) held (ap (λ t. timed t (resumed (serving b at_resume d rf r8 q))) time)
+      (instructions (code (quick e)) held 2 (3668 * m + 2934) (serving b at_resume d rf r8 q) refl
+      (λ u l k. behind m u (omega arith) (omega arith)))
     where
       time : 3668 * m + 2934 + 4 ≡ 3668 * m + 2938
       time = omega arith

@@ -89,12 +89,16 @@ module _ (e : Edition) (m : ℕ) (b : Machine) (held : ℕ → Keys) (o : IsInte
   c0 = at_byte (word_of (shown e 32)) (entered b)
 
   end : Machine
-  end = timed (3668 * m + 2938) (resumed e held (serving e held c0 at_resume b.regs.r.r8.lo rf (word (b.regs.r.r8.hi - 1) (b.regs.r.r8.lo - 1)) (not (b.regs.r.r8.lo == 0))))
+  end =
+      timed (3668 * m + 2938) (resumed e held
+      (serving e held c0 at_resume b.regs.r.r8.lo rf (word (b.regs.r.r8.hi - 1) (b.regs.r.r8.lo - 1)) (not (b.regs.r.r8.lo == 0))))
 
-  to_window : Serves (code (quick e)) held 1421 (timed (3668 * m + 1093) (taken b)) (timed (3668 * m + 2912) (scanning (entered b) at_delay (shown e 32) (left e held 0 32)))
+  to_window : Serves (code (quick e)) held 1421 (timed (3668 * m + 1093) (taken b))
+      (timed (3668 * m + 2912) (scanning (entered b) at_delay (shown e 32) (left e held 0 32)))
   to_window =
       serves_join (code (quick e)) held (opens e held m b)
-      (serves_to (code (quick e)) held (ap (λ t. timed t (scanning (entered b) at_delay (shown e 32) (left e held 0 32))) time) (window e held (entered b) (262 * m + 80) 0 line))
+      (serves_to (code (quick e)) held (ap (λ t. timed t (scanning (entered b) at_delay (shown e 32) (left e held 0 32))) time)
+      (window e held (entered b) (262 * m + 80) 0 line))
     where
       line : (262 * m + 80) % 262 ≡ 80
       line = omega arith
@@ -111,10 +115,25 @@ module _ (e : Edition) (m : ℕ) (b : Machine) (held : ℕ → Keys) (o : IsInte
       to_window
       delayed.serves)
       (sounds e held m (at_byte (word_of (shown e 32)) (entered b)) delayed.d' rf r8 b.regs.q rf_fits r8_fits))
-      (resumes e held m (at_byte (word_of (shown e 32)) (entered b)) b.regs.r.r8.lo rf (word (b.regs.r.r8.hi - 1) (b.regs.r.r8.lo - 1)) (not (b.regs.r.r8.lo == 0)))
+      (resumes e held m (at_byte (word_of (shown e 32)) (entered b)) b.regs.r.r8.lo rf (word (b.regs.r.r8.hi - 1) (b.regs.r.r8.lo - 1))
+      (not (b.regs.r.r8.lo == 0)))
 
   pub first : move (both e) held b ≡ timed (3668 * m + 1093) (taken b)
-  first = accepted (both e) held b o.on o.enabled (omega (arith, o.cycle)) ∙ (λ i. record b { regs = record b.regs { r = record b.regs.r { r1 = o.entry i }; t = b.regs.x * 16 + b.regs.p; p = 1; x = 2; ie = false; idle = false }; latch = o.latch i; on = o.on i; cycle = time i })
+  first =
+      accepted (both e) held b o.on o.enabled (omega (arith, o.cycle))
+      ∙ (λ i. record b {
+        regs = record b.regs {
+          r = record b.regs.r { r1 = o.entry i };
+          t = b.regs.x * 16 + b.regs.p;
+          p = 1;
+          x = 2;
+          ie = false;
+          idle = false;
+        };
+        latch = o.latch i;
+        on = o.on i;
+        cycle = time i;
+      })
     where
       time : b.cycle + 1 ≡ 3668 * m + 1093
       time = omega (arith, o.cycle)
@@ -127,7 +146,9 @@ module _ (e : Edition) (m : ℕ) (b : Machine) (held : ℕ → Keys) (o : IsInte
   meets = ap (λ (z : Machine). z.cycle) (moves_more (code (quick e)) held 1421 1 b (timed (3668 * m + 1093) (taken b)) first ∙ to_window.ends) ∙ omega arith
 
   inside : (k : ℕ) → 0 < k → k < routine_moves → RunsRoutine (after_moves (both e) held b k)
-  inside k l h = subst RunsRoutine (sym (ap (after_moves (both e) held b) split ∙ moves_more (code (quick e)) held (k - 1) 1 b (timed (3668 * m + 1093) (taken b)) first)) (serves.inside (k - 1) (omega arith))
+  inside k l h =
+      subst RunsRoutine (sym (ap (after_moves (both e) held b) split
+      ∙ moves_more (code (quick e)) held (k - 1) 1 b (timed (3668 * m + 1093) (taken b)) first)) (serves.inside (k - 1) (omega arith))
     where
       split : k ≡ 1 + (k - 1)
       split = omega arith
@@ -210,7 +231,18 @@ TickBy e m b held rom =
     × ((after_moves rom held b window_moves).cycle ≡ window_end m)
 
 tick_by : (e : Edition) (m : ℕ) (b : Machine) (held : ℕ → Keys) → IsInterrupted e m b → TickBy e m b held (both e)
-tick_by e m b held o = (subst (Tick (memory_end e) b) (sym (ends e m b held o)) (is_tick e m b held o), ap (λ (z : Machine). z.cycle) (ends e m b held o) ∙ time_is e m b held o, subst (λ (z : Machine). IsMainPlace z.cycle) (sym (ends e m b held o)) (place_is e m b held o), inside e m b held o, meets e m b held o)
+tick_by e m b held o = (
+  subst (Tick (memory_end e) b) (sym
+      (ends e m b held o)) (is_tick e m b held o),
+  ap (λ (z : Machine). z.cycle) (ends e m b held
+      o) ∙ time_is e m b held o,
+  subst (λ (z : Machine). IsMainPlace z.cycle) (sym
+      (ends e m b held o)) (place_is e m b held o),
+  inside e m b held o,
+  meets e m b held o,
+)
 
 pub run_tick : RunTick timer_rom
-run_tick e m b held o = let t = subst (TickBy e m b held) (both_is e) (tick_by e m b held o) in record { tick = t.0; cycle = t.1; place = t.2; inside = t.3; window = t.4 }
+run_tick e m b held o =
+    let t = subst (TickBy e m b held) (both_is e) (tick_by e m b held o) in
+    record { tick = t.0; cycle = t.1; place = t.2; inside = t.3; window = t.4 }

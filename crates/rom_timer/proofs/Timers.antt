@@ -49,9 +49,12 @@ module _ (e : Edition) (b : Machine) (h : Since) (f : FitsMachine b) where
 
   -- ---- FX07
 
-  pub get_delay_holds : Enters (quick e) at_get_delay 15 b (now h) → low ≡ 0x07 → At (quick e) (AtTimer GetDelay) b h → h.spent ≡ 86 → Holds (quick e) (calm_pieces (quick e)) (AtTimer GetDelay) b h
+  pub get_delay_holds : Enters (quick e) at_get_delay 15 b (now h) → low ≡ 0x07 → At (quick e) (AtTimer GetDelay) b h → h.spent ≡ 86
+      → Holds (quick e) (calm_pieces (quick e)) (AtTimer GetDelay) b h
   get_delay_holds o kk at spent = alone (AtTimer GetDelay) f at o.entered.holds (entered e at_get_delay high low b) (is_entered o.entered) refl refl refl
-      (λ u. to_timer (quick e) (one_more u h) _ refl GetDelayPut (record { entered = looks b.regs.r.r8.hi at_get_delay_put o.entered; digit = o.digit }, kk, ap (λ (z : Lang). z.dt) o.entered.holds.is) (omega (arith, spent)))
+      (λ u. to_timer (quick e) (one_more u h) _ refl GetDelayPut
+      (record { entered = looks b.regs.r.r8.hi at_get_delay_put o.entered; digit = o.digit }, kk, ap (λ (z : Lang). z.dt) o.entered.holds.is)
+      (omega (arith, spent)))
 
   get_is : {a : ℕ} → Enters (quick e) a 15 b (now h) → low ≡ 0x07 → instr_at (now h) ≡ GetTimer (high % 16)
   get_is o kk = rw (o.digit, kk) refl
@@ -63,17 +66,25 @@ module _ (e : Edition) (b : Machine) (h : Since) (f : FitsMachine b) where
   abbrev put : ℕ → Places
   put v = record (places b) { ram = written b.latch b.ram (value (word (page_of e) (240 + high % 16))) v }
 
-  pub get_delay_put_comes : Enters (quick e) at_get_delay_put 15 b (now h) → low ≡ 0x07 → b.regs.d ≡ (now h).dt → Comes (quick e) (calm_pieces (quick e)) (OfTimer GetDelayPut) b h
-  get_delay_put_comes o kk d = routine (OfTimer GetDelayPut) o.entered _ (omega arith) refl (λ h' g. steps e g (GetTimer (high % 16)) (get_is o kk) refl (get_runs o kk) _ puts refl refl)
+  pub get_delay_put_comes : Enters (quick e) at_get_delay_put 15 b (now h) → low ≡ 0x07 → b.regs.d ≡ (now h).dt
+      → Comes (quick e) (calm_pieces (quick e)) (OfTimer GetDelayPut) b h
+  get_delay_put_comes o kk d =
+      routine (OfTimer GetDelayPut) o.entered _ (omega arith) refl
+      (λ h' g. steps e g (GetTimer (high % 16)) (get_is o kk) refl (get_runs o kk) _ puts refl refl)
     where
       puts : Holding (quick e) (put b.regs.d) (record (next (now h)) { v = slice_set (now h).v (high % 16) (now h).dt })
-      puts = subst (λ v. Holding (quick e) (put b.regs.d) (record (next (now h)) { v = slice_set (now h).v (high % 16) v })) d (v_set o.entered.holds (value (word (page_of e) (240 + high % 16))) (high % 16) b.regs.d (omega (arith, variables_is e)) (omega arith))
+      puts =
+          subst (λ v. Holding (quick e) (put b.regs.d) (record (next (now h)) { v = slice_set (now h).v (high % 16) v })) d
+          (v_set o.entered.holds (value (word (page_of e) (240 + high % 16))) (high % 16) b.regs.d (omega (arith, variables_is e)) (omega arith))
 
   -- ---- FX15
 
   pub set_delay_comes : Enters (quick e) at_set_delay 15 b (now h) → low ≡ 0x15 → h.spent ≡ 98 → Comes (quick e) (calm_pieces (quick e)) (OfTimer SetDelay) b h
-  set_delay_comes o kk spent = routine (OfTimer SetDelay) o.entered (looked e high low b vx (word_of at_set_delay_put)) (omega (arith, o.entered.holds.stack, stack_top_is e, page_fits e)) refl
-      (λ h' g. to_timer_place (quick e) g _ refl SetDelayPut (record { entered = looks vx at_set_delay_put o.entered; digit = o.digit }, kk, vx_is o.entered) (omega (arith, spent, g.spent)))
+  set_delay_comes o kk spent =
+      routine (OfTimer SetDelay) o.entered (looked e high low b vx (word_of at_set_delay_put))
+      (omega (arith, o.entered.holds.stack, stack_top_is e, page_fits e)) refl
+      (λ h' g. to_timer_place (quick e) g _ refl SetDelayPut
+      (record { entered = looks vx at_set_delay_put o.entered; digit = o.digit }, kk, vx_is o.entered) (omega (arith, spent, g.spent)))
 
   delay_is : high / 16 ≡ 15 → low ≡ 0x15 → instr_at (now h) ≡ SetTimer (high % 16)
   delay_is digit kk = rw (digit, kk) refl
@@ -81,15 +92,23 @@ module _ (e : Edition) (b : Machine) (h : Since) (f : FitsMachine b) where
   delay_runs : is_fetchable e (now h) ≡ true → high / 16 ≡ 15 → low ≡ 0x15 → stop_of e (now h) ≡ None
   delay_runs inside digit kk = rw (inside, digit, kk) refl
 
-  pub set_delay_put_holds : Enters (quick e) at_set_delay_put 15 b (now h) → low ≡ 0x15 → b.regs.d ≡ variable (now h) (high % 16) → At (quick e) (AtTimer SetDelayPut) b h → h.spent ≡ 100 → Holds (quick e) (calm_pieces (quick e)) (AtTimer SetDelayPut) b h
-  set_delay_put_holds o kk d at spent = alone (AtTimer SetDelayPut) f at o.entered.holds (entered e at_set_delay_put high low b) (is_entered o.entered) refl refl refl
-      (λ u. to_timer (quick e) (one_more u h) _ refl SetDelayEnd (record { done = record { holds = writes; inside = o.entered.inside; p = refl; r3 = refl; r4 = refl }; digit = o.digit; low = kk }) (omega (arith, spent)))
+  pub set_delay_put_holds : Enters (quick e) at_set_delay_put 15 b (now h) → low ≡ 0x15 → b.regs.d ≡ variable (now h) (high % 16)
+      → At (quick e) (AtTimer SetDelayPut) b h → h.spent ≡ 100 → Holds (quick e) (calm_pieces (quick e)) (AtTimer SetDelayPut) b h
+  set_delay_put_holds o kk d at spent =
+      alone (AtTimer SetDelayPut) f at o.entered.holds (entered e at_set_delay_put high low b) (is_entered o.entered) refl refl refl
+      (λ u. to_timer (quick e) (one_more u h) _ refl SetDelayEnd
+      (record { done = record { holds = writes; inside = o.entered.inside; p = refl; r3 = refl; r4 = refl }; digit = o.digit; low = kk })
+      (omega (arith, spent)))
     where
       same : record (next (now h)) { dt = b.regs.d; st = b.regs.r.r8.lo } ≡ step e Nothing (now h)
-      same = (λ i. record (next (now h)) { dt = d i; st = ap (λ (z : Lang). z.st) o.entered.holds.is i }) ∙ ap (λ j. done_by e j Nothing (now h)) (sym (delay_is o.digit kk))
+      same =
+          (λ i. record (next (now h)) { dt = d i; st = ap (λ (z : Lang). z.st) o.entered.holds.is i })
+          ∙ ap (λ j. done_by e j Nothing (now h)) (sym (delay_is o.digit kk))
 
       writes : Holding (quick e) (record (places b) { r8 = word b.regs.d b.regs.r.r8.lo }) (step e Nothing (now h))
-      writes = subst (Holding (quick e) (record (places b) { r8 = word b.regs.d b.regs.r.r8.lo })) same (timers_set o.entered.holds (word b.regs.d b.regs.r.r8.lo))
+      writes =
+          subst (Holding (quick e) (record (places b) { r8 = word b.regs.d b.regs.r.r8.lo })) same
+          (timers_set o.entered.holds (word b.regs.d b.regs.r.r8.lo))
 
   pub set_delay_end_comes : Ended (quick e) at_set_delay_end 0x15 b (now h) → Comes (quick e) (calm_pieces (quick e)) (OfTimer SetDelayEnd) b h
   set_delay_end_comes o = record {
@@ -97,15 +116,22 @@ module _ (e : Edition) (b : Machine) (h : Since) (f : FitsMachine b) where
     awake = o.done.holds.awake;
     some = omega arith;
     end = quicks (code (quick e)) 1 (on_3 at_set_delay_end b);
-    reaches = reaches_from (code (quick e)) (calm_top e) 1 b _ _ (is_on_3 at_set_delay_end b o.done.p o.done.r3) (reaches_in (code (quick e)) (calm_top e) 1 _ _ (omega arith) refl);
-    ends = λ h' g. steps e g (SetTimer (high % 16)) (delay_is o.digit o.low) refl (delay_runs o.done.inside o.digit o.low) _ (subst (λ j. Holding (quick e) (places b) (done_by e j Nothing (now h))) (delay_is o.digit o.low) o.done.holds) refl o.done.r4;
+    reaches =
+        reaches_from (code (quick e)) (calm_top e) 1 b _ _ (is_on_3 at_set_delay_end b o.done.p o.done.r3)
+        (reaches_in (code (quick e)) (calm_top e) 1 _ _ (omega arith) refl);
+    ends =
+        λ h' g. steps e g (SetTimer (high % 16)) (delay_is o.digit o.low) refl (delay_runs o.done.inside o.digit o.low) _
+        (subst (λ j. Holding (quick e) (places b) (done_by e j Nothing (now h))) (delay_is o.digit o.low) o.done.holds) refl o.done.r4;
   }
 
   -- ---- FX18
 
   pub set_sound_comes : Enters (quick e) at_set_sound 15 b (now h) → low ≡ 0x18 → h.spent ≡ 104 → Comes (quick e) (calm_pieces (quick e)) (OfTimer SetSound) b h
-  set_sound_comes o kk spent = routine (OfTimer SetSound) o.entered (looked e high low b vx (word_of at_set_sound_put)) (omega (arith, o.entered.holds.stack, stack_top_is e, page_fits e)) refl
-      (λ h' g. to_timer_place (quick e) g _ refl SetSoundPut (record { entered = looks vx at_set_sound_put o.entered; digit = o.digit }, kk, vx_is o.entered) (omega (arith, spent, g.spent)))
+  set_sound_comes o kk spent =
+      routine (OfTimer SetSound) o.entered (looked e high low b vx (word_of at_set_sound_put))
+      (omega (arith, o.entered.holds.stack, stack_top_is e, page_fits e)) refl
+      (λ h' g. to_timer_place (quick e) g _ refl SetSoundPut
+      (record { entered = looks vx at_set_sound_put o.entered; digit = o.digit }, kk, vx_is o.entered) (omega (arith, spent, g.spent)))
 
   sound_is : high / 16 ≡ 15 → low ≡ 0x18 → instr_at (now h) ≡ SetTone (high % 16)
   sound_is digit kk = rw (digit, kk) refl
@@ -113,15 +139,23 @@ module _ (e : Edition) (b : Machine) (h : Since) (f : FitsMachine b) where
   sound_runs : is_fetchable e (now h) ≡ true → high / 16 ≡ 15 → low ≡ 0x18 → stop_of e (now h) ≡ None
   sound_runs inside digit kk = rw (inside, digit, kk) refl
 
-  pub set_sound_put_holds : Enters (quick e) at_set_sound_put 15 b (now h) → low ≡ 0x18 → b.regs.d ≡ variable (now h) (high % 16) → At (quick e) (AtTimer SetSoundPut) b h → h.spent ≡ 106 → Holds (quick e) (calm_pieces (quick e)) (AtTimer SetSoundPut) b h
-  set_sound_put_holds o kk d at spent = alone (AtTimer SetSoundPut) f at o.entered.holds (entered e at_set_sound_put high low b) (is_entered o.entered) refl refl refl
-      (λ u. to_timer (quick e) (one_more u h) _ refl SetSoundEnd (record { done = record { holds = writes; inside = o.entered.inside; p = refl; r3 = refl; r4 = refl }; digit = o.digit; low = kk }) (omega (arith, spent)))
+  pub set_sound_put_holds : Enters (quick e) at_set_sound_put 15 b (now h) → low ≡ 0x18 → b.regs.d ≡ variable (now h) (high % 16)
+      → At (quick e) (AtTimer SetSoundPut) b h → h.spent ≡ 106 → Holds (quick e) (calm_pieces (quick e)) (AtTimer SetSoundPut) b h
+  set_sound_put_holds o kk d at spent =
+      alone (AtTimer SetSoundPut) f at o.entered.holds (entered e at_set_sound_put high low b) (is_entered o.entered) refl refl refl
+      (λ u. to_timer (quick e) (one_more u h) _ refl SetSoundEnd
+      (record { done = record { holds = writes; inside = o.entered.inside; p = refl; r3 = refl; r4 = refl }; digit = o.digit; low = kk })
+      (omega (arith, spent)))
     where
       same : record (next (now h)) { dt = b.regs.r.r8.hi; st = b.regs.d } ≡ step e Nothing (now h)
-      same = (λ i. record (next (now h)) { dt = ap (λ (z : Lang). z.dt) o.entered.holds.is i; st = d i }) ∙ ap (λ j. done_by e j Nothing (now h)) (sym (sound_is o.digit kk))
+      same =
+          (λ i. record (next (now h)) { dt = ap (λ (z : Lang). z.dt) o.entered.holds.is i; st = d i })
+          ∙ ap (λ j. done_by e j Nothing (now h)) (sym (sound_is o.digit kk))
 
       writes : Holding (quick e) (record (places b) { r8 = word b.regs.r.r8.hi b.regs.d }) (step e Nothing (now h))
-      writes = subst (Holding (quick e) (record (places b) { r8 = word b.regs.r.r8.hi b.regs.d })) same (timers_set o.entered.holds (word b.regs.r.r8.hi b.regs.d))
+      writes =
+          subst (Holding (quick e) (record (places b) { r8 = word b.regs.r.r8.hi b.regs.d })) same
+          (timers_set o.entered.holds (word b.regs.r.r8.hi b.regs.d))
 
   pub set_sound_end_comes : Ended (quick e) at_set_sound_end 0x18 b (now h) → Comes (quick e) (calm_pieces (quick e)) (OfTimer SetSoundEnd) b h
   set_sound_end_comes o = record {
@@ -129,6 +163,10 @@ module _ (e : Edition) (b : Machine) (h : Since) (f : FitsMachine b) where
     awake = o.done.holds.awake;
     some = omega arith;
     end = quicks (code (quick e)) 1 (on_3 at_set_sound_end b);
-    reaches = reaches_from (code (quick e)) (calm_top e) 1 b _ _ (is_on_3 at_set_sound_end b o.done.p o.done.r3) (reaches_in (code (quick e)) (calm_top e) 1 _ _ (omega arith) refl);
-    ends = λ h' g. steps e g (SetTone (high % 16)) (sound_is o.digit o.low) refl (sound_runs o.done.inside o.digit o.low) _ (subst (λ j. Holding (quick e) (places b) (done_by e j Nothing (now h))) (sound_is o.digit o.low) o.done.holds) refl o.done.r4;
+    reaches =
+        reaches_from (code (quick e)) (calm_top e) 1 b _ _ (is_on_3 at_set_sound_end b o.done.p o.done.r3)
+        (reaches_in (code (quick e)) (calm_top e) 1 _ _ (omega arith) refl);
+    ends =
+        λ h' g. steps e g (SetTone (high % 16)) (sound_is o.digit o.low) refl (sound_runs o.done.inside o.digit o.low) _
+        (subst (λ j. Holding (quick e) (places b) (done_by e j Nothing (now h))) (sound_is o.digit o.low) o.done.holds) refl o.done.r4;
   }

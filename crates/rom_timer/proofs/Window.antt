@@ -31,7 +31,8 @@ wanted u l k h i = rw (le-leb 80 (line_of u) l, lt-ltb (line_of u) 208 k, le-leb
 
 -- EFX is active in the last four lines of the window, and in none of its others
 last_four : (u : ℕ) → 204 ≤ line_of u → line_of u < 208 → efx_at u true ≡ true
-last_four u l k = rw (le-ltb (line_of u) 80 (omega (arith, l)), le-leb 204 (line_of u) l, lt-ltb (line_of u) 208 k, le-leb 76 (line_of u) (omega (arith, l))) refl
+last_four u l k =
+    rw (le-ltb (line_of u) 80 (omega (arith, l)), le-leb 204 (line_of u) l, lt-ltb (line_of u) 208 k, le-leb 76 (line_of u) (omega (arith, l))) refl
 
 not_yet : (u : ℕ) → 80 ≤ line_of u → line_of u < 204 → efx_at u true ≡ false
 not_yet u l k = rw (le-ltb (line_of u) 80 l, lt-leb 204 (line_of u) k, le-leb 76 (line_of u) (omega (arith, l))) refl
@@ -80,7 +81,15 @@ row_usual : (a : ℕ) → a % 8 ≡ 0 → a + 8 ≤ 0x1000 → IsRow Usual a
 row_usual a h l = record { fits = l; high = omega arith; first = omega arith; third = omega arith; or = or_none (a % 256) (omega arith) ∙ omega arith }
 
 row_tall : (a : ℕ) → a % 16 ≡ 0 → a + 16 ≤ 0x1000 → IsRow Tall a
-row_tall a h l = record { fits = l; high = omega arith; first = omega arith; third = omega arith; or = ap (λ z. bit_or z 8) sixteen ∙ or_8 (a % 256 / 16) (omega arith) ∙ omega arith }
+row_tall a h l =
+    record {
+      fits = l;
+      high = omega arith;
+      first = omega arith;
+      third = omega arith;
+      or = ap (λ z. bit_or z 8) sixteen
+          ∙ or_8 (a % 256 / 16) (omega arith) ∙ omega arith;
+    }
   where
     sixteen : a % 256 ≡ 16 * (a % 256 / 16)
     sixteen = omega arith
@@ -124,17 +133,24 @@ module _ (e : Edition) (held : ℕ → Keys) where
   x = code (quick e)
 
   -- an instruction and eight DMA cycles
-  opening : (k l a : ℕ) (b c : Machine) → k ≤ 8 → 80 ≤ l % 262 → l % 262 < 208 → a + 8 < 0x10000 → are_served (code (quick e)) 1 b ≡ true → cycles_in (code (quick e)) 1 b ≡ 2 → quicks (code (quick e)) 1 b ≡ at_byte (word_of a) c → Serves (code (quick e)) held (1 + k) (timed (14 * l) b) (timed (14 * l + 2 + k) (at_byte (word_of (a + k)) c))
+  opening : (k l a : ℕ) (b c : Machine) → k ≤ 8 → 80 ≤ l % 262 → l % 262 < 208 → a + 8 < 0x10000 → are_served (code (quick e)) 1 b ≡ true
+      → cycles_in (code (quick e)) 1 b ≡ 2 → quicks (code (quick e)) 1 b ≡ at_byte (word_of a) c
+      → Serves (code (quick e)) held (1 + k) (timed (14 * l) b) (timed (14 * l + 2 + k) (at_byte (word_of (a + k)) c))
   opening k l a b c small low high room h two is =
       serves_join (code (quick e)) held
-      (serves_to (code (quick e)) held (ap₂ timed (ap (λ z. 14 * l + z) two) is) (instructions (code (quick e)) held 1 (14 * l) b h (λ u m n. early u (omega (arith, n, two)))))
+      (serves_to (code (quick e)) held (ap₂ timed (ap (λ z. 14 * l + z) two) is)
+      (instructions (code (quick e)) held 1 (14 * l) b h (λ u m n. early u (omega (arith, n, two)))))
       (dmas (code (quick e)) held k (14 * l + 2) a c (omega arith) (λ u m n. wanted u (omega arith) (omega arith) (omega arith) (omega arith)))
 
-  line : (l a : ℕ) (b c d : Machine) → 80 ≤ l % 262 → l % 262 < 208 → a + 8 < 0x10000 → are_served (code (quick e)) 1 b ≡ true → cycles_in (code (quick e)) 1 b ≡ 2 → quicks (code (quick e)) 1 b ≡ at_byte (word_of a) c → are_served (code (quick e)) 2 (at_byte (word_of (a + 8)) c) ≡ true → cycles_in (code (quick e)) 2 (at_byte (word_of (a + 8)) c) ≡ 4 → quicks (code (quick e)) 2 (at_byte (word_of (a + 8)) c) ≡ d → Serves (code (quick e)) held 11 (timed (14 * l) b) (timed (14 * (l + 1)) d)
+  line : (l a : ℕ) (b c d : Machine) → 80 ≤ l % 262 → l % 262 < 208 → a + 8 < 0x10000 → are_served (code (quick e)) 1 b ≡ true
+      → cycles_in (code (quick e)) 1 b ≡ 2 → quicks (code (quick e)) 1 b ≡ at_byte (word_of a) c
+      → are_served (code (quick e)) 2 (at_byte (word_of (a + 8)) c) ≡ true → cycles_in (code (quick e)) 2 (at_byte (word_of (a + 8)) c) ≡ 4
+      → quicks (code (quick e)) 2 (at_byte (word_of (a + 8)) c) ≡ d → Serves (code (quick e)) held 11 (timed (14 * l) b) (timed (14 * (l + 1)) d)
   line l a b c d low high room h two is h' four is' =
       serves_join (code (quick e)) held
       (opening 8 l a b c (omega arith) low high room h two is)
-      (serves_to (code (quick e)) held (ap₂ timed time is') (instructions (code (quick e)) held 2 (14 * l + 2 + 8) (at_byte (word_of (a + 8)) c) h' (λ u m n. late u (omega (arith, n, four)))))
+      (serves_to (code (quick e)) held (ap₂ timed time is')
+      (instructions (code (quick e)) held 2 (14 * l + 2 + 8) (at_byte (word_of (a + 8)) c) h' (λ u m n. late u (omega (arith, n, four)))))
     where
       time : 14 * l + 2 + 8 + cycles_in (code (quick e)) 2 (at_byte (word_of (a + 8)) c) ≡ 14 * (l + 1)
       time = omega (arith, four)
@@ -147,22 +163,40 @@ module _ (e : Edition) (held : ℕ → Keys) where
     room' = omega (arith, row.fits, step_is e)
 
     line_0 : (d : ℕ) → Serves (code (quick e)) held 11 (timed (14 * l) (scanning b at_scan a d)) (timed (14 * (l + 1)) (scanning b at_scan1 a (a % 256)))
-    line_0 d = line l a (scanning b at_scan a d) (scanning b (at_scan + 1) a (a % 256)) (scanning b at_scan1 a (a % 256)) low high room refl refl refl refl refl (ap (λ w. at_byte w (scanning b at_scan1 a (a % 256))) (back_0 a room row.first))
+    line_0 d =
+        line l a (scanning b at_scan a d) (scanning b (at_scan + 1) a (a % 256))
+        (scanning b at_scan1 a (a % 256)) low high room refl refl refl refl refl
+        (ap (λ w. at_byte w (scanning b at_scan1 a (a % 256))) (back_0 a room row.first))
 
-    line_1 : Serves (code (quick e)) held 11 (timed (14 * l) (scanning b at_scan1 a (a % 256))) (timed (14 * (l + 1)) (scanning b at_scan2 (a + next e) ((a + next e) % 256)))
-    line_1 = line l a (scanning b at_scan1 a (a % 256)) (scanning b (at_scan1 + 2) a ((a + next e) % 256)) (scanning b at_scan2 (a + next e) ((a + next e) % 256)) low high room refl refl (ap (scanning b (at_scan1 + 2) a) row.or) refl refl (ap (λ w. at_byte w (scanning b at_scan2 a ((a + next e) % 256))) (back a (next e) room row.high))
+    line_1 : Serves (code (quick e)) held 11 (timed (14 * l) (scanning b at_scan1 a (a % 256)))
+        (timed (14 * (l + 1)) (scanning b at_scan2 (a + next e) ((a + next e) % 256)))
+    line_1 =
+        line l a (scanning b at_scan1 a (a % 256)) (scanning b (at_scan1 + 2) a ((a + next e) % 256))
+        (scanning b at_scan2 (a + next e) ((a + next e) % 256)) low high room refl refl (ap (scanning b (at_scan1 + 2) a) row.or) refl refl
+        (ap (λ w. at_byte w (scanning b at_scan2 a ((a + next e) % 256))) (back a (next e) room row.high))
 
-    line_2 : Serves (code (quick e)) held 11 (timed (14 * l) (scanning b at_scan2 (a + next e) ((a + next e) % 256))) (timed (14 * (l + 1)) (scanning b at_scan3 (a + next e) ((a + next e) % 256)))
-    line_2 = line l (a + next e) (scanning b at_scan2 (a + next e) ((a + next e) % 256)) (scanning b (at_scan2 + 1) (a + next e) ((a + next e) % 256)) (scanning b at_scan3 (a + next e) ((a + next e) % 256)) low high room' refl refl refl refl refl (ap (λ w. at_byte w (scanning b at_scan3 a ((a + next e) % 256))) (back_0 (a + next e) room' row.third))
+    line_2 : Serves (code (quick e)) held 11 (timed (14 * l) (scanning b at_scan2 (a + next e) ((a + next e) % 256)))
+        (timed (14 * (l + 1)) (scanning b at_scan3 (a + next e) ((a + next e) % 256)))
+    line_2 =
+        line l (a + next e) (scanning b at_scan2 (a + next e) ((a + next e) % 256)) (scanning b (at_scan2 + 1) (a + next e) ((a + next e) % 256))
+        (scanning b at_scan3 (a + next e) ((a + next e) % 256)) low high room' refl refl refl refl refl
+        (ap (λ w. at_byte w (scanning b at_scan3 a ((a + next e) % 256))) (back_0 (a + next e) room' row.third))
 
     -- the last of four lines goes back to the first, or leaves the window where EFX is active
-    line_3 : (efx : Bool) → efx_at (14 * l + 13) true ≡ efx → Serves (code (quick e)) held 11 (timed (14 * l) (scanning b at_scan3 (a + next e) ((a + next e) % 256))) (timed (14 * (l + 1)) (scanning b (cond efx at_delay at_scan) (a + step e) ((a + next e) % 256)))
+    line_3 : (efx : Bool) → efx_at (14 * l + 13) true ≡ efx
+        → Serves (code (quick e)) held 11 (timed (14 * l) (scanning b at_scan3 (a + next e) ((a + next e) % 256)))
+        (timed (14 * (l + 1)) (scanning b (cond efx at_delay at_scan) (a + step e) ((a + next e) % 256)))
     line_3 efx f =
         serves_join (code (quick e)) held
         (serves_join (code (quick e)) held
-        (opening 8 l (a + next e) (scanning b at_scan3 (a + next e) ((a + next e) % 256)) (scanning b (at_scan3 + 1) (a + next e) ((a + next e) % 256)) (omega arith) low high room' refl refl refl)
-        (serves_to (code (quick e)) held (ap (λ t. timed t (scanning b (at_scan3 + 2) (a + next e + 8) ((a + next e) % 256))) time) (instructions (code (quick e)) held 1 (14 * l + 2 + 8) (scanning b (at_scan3 + 1) (a + next e + 8) ((a + next e) % 256)) refl (λ u m n. late u (omega arith)))))
-        (one (code (quick e)) held at _ (record { by_r1 = refl; disabled = refl; awake = refl; on = refl }) (move_by (code (quick e)) held efx at (served (code (quick e)) at refl) (late (14 * l + 12) (omega arith)) (ap (λ t. efx_at t true) time' ∙ f) ∙ ends efx))
+        (opening 8 l (a + next e) (scanning b at_scan3 (a + next e) ((a + next e) % 256))
+        (scanning b (at_scan3 + 1) (a + next e) ((a + next e) % 256)) (omega arith) low high room' refl refl refl)
+        (serves_to (code (quick e)) held (ap (λ t. timed t (scanning b (at_scan3 + 2) (a + next e + 8) ((a + next e) % 256))) time)
+        (instructions (code (quick e)) held 1 (14 * l + 2 + 8) (scanning b (at_scan3 + 1) (a + next e + 8) ((a + next e) % 256)) refl
+        (λ u m n. late u (omega arith)))))
+        (one (code (quick e)) held at _ (record { by_r1 = refl; disabled = refl; awake = refl; on = refl })
+        (move_by (code (quick e)) held efx at (served (code (quick e)) at refl) (late (14 * l + 12) (omega arith))
+        (ap (λ t. efx_at t true) time' ∙ f) ∙ ends efx))
       where
         at : Machine
         at = timed (14 * l + 12) (scanning b (at_scan3 + 2) (a + next e + 8) ((a + next e) % 256))
@@ -179,19 +213,23 @@ module _ (e : Edition) (held : ℕ → Keys) where
         bytes : a + next e + 8 ≡ a + step e
         bytes = omega (arith, step_is e)
 
-        ends : (efx : Bool) → record (quick_by (code (quick e)) (flags_of efx (held (14 * l + 12 + 1) b.key)) at) { cycle = 14 * l + 12 + 2 } ≡ timed (14 * (l + 1)) (scanning b (cond efx at_delay at_scan) (a + step e) ((a + next e) % 256))
+        ends : (efx : Bool) → record (quick_by (code (quick e)) (flags_of efx (held (14 * l + 12 + 1) b.key)) at) { cycle = 14 * l + 12 + 2 }
+            ≡ timed (14 * (l + 1)) (scanning b (cond efx at_delay at_scan) (a + step e) ((a + next e) % 256))
         ends true = λ i. timed (end i) (scanning b at_delay (bytes i) ((a + next e) % 256))
         ends false = λ i. timed (end i) (scanning b at_scan (bytes i) ((a + next e) % 256))
 
   -- ---- four lines, and the whole window
 
-  turn : (b : Machine) (l a d : ℕ) (efx : Bool) → 80 ≤ l % 262 → l % 262 + 3 < 208 → IsRow e a → efx_at (14 * (l + 1 + 1 + 1) + 13) true ≡ efx → Serves (code (quick e)) held 44 (timed (14 * l) (scanning b at_scan a d)) (timed (14 * (l + 4)) (scanning b (cond efx at_delay at_scan) (a + step e) ((a + next e) % 256)))
+  turn : (b : Machine) (l a d : ℕ) (efx : Bool) → 80 ≤ l % 262 → l % 262 + 3 < 208 → IsRow e a → efx_at (14 * (l + 1 + 1 + 1) + 13) true ≡ efx
+      → Serves (code (quick e)) held 44 (timed (14 * l) (scanning b at_scan a d))
+      (timed (14 * (l + 4)) (scanning b (cond efx at_delay at_scan) (a + step e) ((a + next e) % 256)))
   turn b l a d efx low high row f =
       serves_join (code (quick e)) held
       (serves_join (code (quick e)) held
       (serves_join (code (quick e)) held (line_0 b l a low (omega arith) row d) (line_1 b (l + 1) a (omega arith) (omega arith) row))
       (line_2 b (l + 1 + 1) a (omega arith) (omega arith) row))
-      (serves_to (code (quick e)) held (ap (λ t. timed t (scanning b (cond efx at_delay at_scan) (a + step e) ((a + next e) % 256))) time) (line_3 b (l + 1 + 1 + 1) a (omega arith) (omega arith) row efx f))
+      (serves_to (code (quick e)) held (ap (λ t. timed t (scanning b (cond efx at_delay at_scan) (a + step e) ((a + next e) % 256))) time)
+      (line_3 b (l + 1 + 1 + 1) a (omega arith) (omega arith) row efx f))
     where
       time : 14 * (l + 1 + 1 + 1 + 1) ≡ 14 * (l + 4)
       time = omega arith
@@ -201,14 +239,21 @@ module _ (e : Edition) (held : ℕ → Keys) where
   left d zero = d
   left d (suc g) = (shown e g + next e) % 256
 
-  turns : (b : Machine) (l d g : ℕ) → l % 262 ≡ 80 → g < 32 → Serves (code (quick e)) held (44 * g) (timed (14 * l) (scanning b at_scan (screen_start e) d)) (timed (14 * (l + 4 * g)) (scanning b at_scan (shown e g) (left d g)))
-  turns b l d zero h k = serves_to (code (quick e)) held (ap (λ t. timed t (scanning b at_scan (screen_start e) d)) time) (serves_none (code (quick e)) held (timed (14 * l) (scanning b at_scan (screen_start e) d)))
+  turns : (b : Machine) (l d g : ℕ) → l % 262 ≡ 80 → g < 32
+      → Serves (code (quick e)) held (44 * g) (timed (14 * l) (scanning b at_scan (screen_start e) d))
+      (timed (14 * (l + 4 * g)) (scanning b at_scan (shown e g) (left d g)))
+  turns b l d zero h k =
+      serves_to (code (quick e)) held (ap (λ t. timed t (scanning b at_scan (screen_start e) d)) time)
+      (serves_none (code (quick e)) held (timed (14 * l) (scanning b at_scan (screen_start e) d)))
     where
       time : 14 * l ≡ 14 * (l + 4 * 0)
       time = omega arith
   turns b l d (suc g) h k =
-      subst₂ (λ n t. Serves (code (quick e)) held n (timed (14 * l) (scanning b at_scan (screen_start e) d)) (timed (14 * t) (scanning b at_scan (shown e (suc g)) (left d (suc g))))) count lines
-      (serves_join (code (quick e)) held (turns b l d g h (omega arith)) (turn b (l + 4 * g) (shown e g) (left d g) false (omega (arith, h)) (omega (arith, h)) (shown_row e g (omega arith)) (not_yet (14 * (l + 4 * g + 1 + 1 + 1) + 13) (omega (arith, h)) (omega (arith, h)))))
+      subst₂ (λ n t. Serves (code (quick e)) held n (timed (14 * l) (scanning b at_scan (screen_start e) d))
+      (timed (14 * t) (scanning b at_scan (shown e (suc g)) (left d (suc g))))) count lines
+      (serves_join (code (quick e)) held (turns b l d g h (omega arith))
+      (turn b (l + 4 * g) (shown e g) (left d g) false (omega (arith, h)) (omega (arith, h)) (shown_row e g (omega arith))
+      (not_yet (14 * (l + 4 * g + 1 + 1 + 1) + 13) (omega (arith, h)) (omega (arith, h)))))
     where
       count : 44 * g + 44 ≡ 44 * suc g
       count = omega arith
@@ -217,10 +262,14 @@ module _ (e : Edition) (held : ℕ → Keys) where
       lines = omega arith
 
   -- from the first line of a window to the end of its last one
-  pub window : (b : Machine) (l d : ℕ) → l % 262 ≡ 80 → Serves (code (quick e)) held 1408 (timed (14 * l) (scanning b at_scan (screen_start e) d)) (timed (14 * (l + 128)) (scanning b at_delay (shown e 32) (left d 32)))
+  pub window : (b : Machine) (l d : ℕ) → l % 262 ≡ 80
+      → Serves (code (quick e)) held 1408 (timed (14 * l) (scanning b at_scan (screen_start e) d))
+      (timed (14 * (l + 128)) (scanning b at_delay (shown e 32) (left d 32)))
   window b l d h =
       serves_to (code (quick e)) held (ap (λ t. timed (14 * t) (scanning b at_delay (shown e 32) (left d 32))) lines)
-      (serves_join (code (quick e)) held (turns b l d 31 h (omega arith)) (turn b (l + 4 * 31) (shown e 31) (left d 31) true (omega (arith, h)) (omega (arith, h)) (shown_row e 31 (omega arith)) (last_four (14 * (l + 4 * 31 + 1 + 1 + 1) + 13) (omega (arith, h)) (omega (arith, h)))))
+      (serves_join (code (quick e)) held (turns b l d 31 h (omega arith))
+      (turn b (l + 4 * 31) (shown e 31) (left d 31) true (omega (arith, h)) (omega (arith, h)) (shown_row e 31 (omega arith))
+      (last_four (14 * (l + 4 * 31 + 1 + 1 + 1) + 13) (omega (arith, h)) (omega (arith, h)))))
     where
       lines : l + 4 * 31 + 4 ≡ l + 128
       lines = omega arith
@@ -236,7 +285,9 @@ module _ (e : Edition) (held : ℕ → Keys) where
     pub latch : at.latch ≡ b.latch
     pub serves : Serves (code (quick e)) held moves s (timed (14 * l + 2) (at_byte (word_of address) at))
 
-  begin : (b s : Machine) (n l address : ℕ) (c d : Machine) → n ≤ 1399 → are_served (code (quick e)) 1 c ≡ true → cycles_in (code (quick e)) 1 c ≡ 2 → quicks (code (quick e)) 1 c ≡ at_byte (word_of address) d → d.ram ≡ b.ram → d.latch ≡ b.latch → Serves (code (quick e)) held n s (timed (14 * l) c) → Begins b s l address
+  begin : (b s : Machine) (n l address : ℕ) (c d : Machine) → n ≤ 1399 → are_served (code (quick e)) 1 c ≡ true → cycles_in (code (quick e)) 1 c ≡ 2
+      → quicks (code (quick e)) 1 c ≡ at_byte (word_of address) d → d.ram ≡ b.ram → d.latch ≡ b.latch
+      → Serves (code (quick e)) held n s (timed (14 * l) c) → Begins b s l address
   begin b s n l address c d few h two is ram latch f =
       record {
         moves = n + 1;
@@ -244,7 +295,10 @@ module _ (e : Edition) (held : ℕ → Keys) where
         at = d;
         ram = ram;
         latch = latch;
-        serves = serves_join (code (quick e)) held f (serves_to (code (quick e)) held (ap₂ timed (ap (λ z. 14 * l + z) two) is) (instructions (code (quick e)) held 1 (14 * l) c h (λ u m n. early u (omega (arith, n, two)))));
+        serves =
+            serves_join (code (quick e)) held f
+            (serves_to (code (quick e)) held (ap₂ timed (ap (λ z. 14 * l + z) two) is)
+            (instructions (code (quick e)) held 1 (14 * l) c h (λ u m n. early u (omega (arith, n, two)))));
       }
 
   module _ (b : Machine) (l d g : ℕ) (top : l % 262 ≡ 80) (some : g < 32) where
@@ -266,39 +320,58 @@ module _ (e : Edition) (held : ℕ → Keys) where
     third_line : Serves (code (quick e)) held (44 * g + 11 + 11) s (timed (14 * (l + 4 * g + 1 + 1)) (scanning b at_scan2 (a + next e) ((a + next e) % 256)))
     third_line = serves_join (code (quick e)) held second_line (line_1 b (l + 4 * g + 1) a (omega (arith, top, some)) (omega (arith, top, some)) row)
 
-    fourth_line : Serves (code (quick e)) held (44 * g + 11 + 11 + 11) s (timed (14 * (l + 4 * g + 1 + 1 + 1)) (scanning b at_scan3 (a + next e) ((a + next e) % 256)))
+    fourth_line : Serves (code (quick e)) held (44 * g + 11 + 11 + 11) s
+        (timed (14 * (l + 4 * g + 1 + 1 + 1)) (scanning b at_scan3 (a + next e) ((a + next e) % 256)))
     fourth_line = serves_join (code (quick e)) held third_line (line_2 b (l + 4 * g + 1 + 1) a (omega (arith, top, some)) (omega (arith, top, some)) row)
 
     pub begins_0 : Begins b s (l + 4 * g) a
-    begins_0 = begin b s (44 * g) (l + 4 * g) a (scanning b at_scan a (left d g)) (scanning b (at_scan + 1) a (a % 256)) (omega (arith, some)) refl refl refl refl refl first_line
+    begins_0 =
+        begin b s (44 * g) (l + 4 * g) a (scanning b at_scan a (left d g)) (scanning b (at_scan + 1) a (a % 256))
+        (omega (arith, some)) refl refl refl refl refl first_line
 
     pub begins_1 : Begins b s (l + 4 * g + 1) a
-    begins_1 = begin b s (44 * g + 11) (l + 4 * g + 1) a (scanning b at_scan1 a (a % 256)) (scanning b (at_scan1 + 2) a ((a + next e) % 256)) (omega (arith, some)) refl refl (ap (scanning b (at_scan1 + 2) a) row.or) refl refl second_line
+    begins_1 =
+        begin b s (44 * g + 11) (l + 4 * g + 1) a (scanning b at_scan1 a (a % 256)) (scanning b (at_scan1 + 2) a ((a + next e) % 256))
+        (omega (arith, some)) refl refl (ap (scanning b (at_scan1 + 2) a) row.or) refl refl second_line
 
     pub begins_2 : Begins b s (l + 4 * g + 1 + 1) (a + next e)
-    begins_2 = begin b s (44 * g + 11 + 11) (l + 4 * g + 1 + 1) (a + next e) (scanning b at_scan2 (a + next e) ((a + next e) % 256)) (scanning b (at_scan2 + 1) (a + next e) ((a + next e) % 256)) (omega (arith, some)) refl refl refl refl refl third_line
+    begins_2 =
+        begin b s (44 * g + 11 + 11) (l + 4 * g + 1 + 1) (a + next e) (scanning b at_scan2 (a + next e) ((a + next e) % 256))
+        (scanning b (at_scan2 + 1) (a + next e) ((a + next e) % 256)) (omega (arith, some)) refl refl refl refl refl third_line
 
     pub begins_3 : Begins b s (l + 4 * g + 1 + 1 + 1) (a + next e)
-    begins_3 = begin b s (44 * g + 11 + 11 + 11) (l + 4 * g + 1 + 1 + 1) (a + next e) (scanning b at_scan3 (a + next e) ((a + next e) % 256)) (scanning b (at_scan3 + 1) (a + next e) ((a + next e) % 256)) (omega (arith, some)) refl refl refl refl refl fourth_line
+    begins_3 =
+        begin b s (44 * g + 11 + 11 + 11) (l + 4 * g + 1 + 1 + 1) (a + next e) (scanning b at_scan3 (a + next e) ((a + next e) % 256))
+        (scanning b (at_scan3 + 1) (a + next e) ((a + next e) % 256)) (omega (arith, some)) refl refl refl refl refl fourth_line
 
   -- each line of the window, with the address of its row
-  pub begins : (b : Machine) (l d k address : ℕ) → l % 262 ≡ 80 → k < 128 → cond (nat_lt (k % 4) 2) (shown e (k / 4)) (shown e (k / 4) + next e) ≡ address → Begins b (timed (14 * l) (scanning b at_scan (screen_start e) d)) (l + k) address
+  pub begins : (b : Machine) (l d k address : ℕ) → l % 262 ≡ 80 → k < 128
+      → cond (nat_lt (k % 4) 2) (shown e (k / 4)) (shown e (k / 4) + next e) ≡ address
+      → Begins b (timed (14 * l) (scanning b at_scan (screen_start e) d)) (l + k) address
   begins b l d k address top some is = go (k % 4) refl (omega arith)
     where
       go : (q : ℕ) → k % 4 ≡ q → q < 4 → Begins b (timed (14 * l) (scanning b at_scan (screen_start e) d)) (l + k) address
-      go zero h r = subst₂ (Begins b (timed (14 * l) (scanning b at_scan (screen_start e) d))) same (ap (λ z. cond (nat_lt z 2) (shown e (k / 4)) (shown e (k / 4) + next e)) (sym h) ∙ is) (begins_0 b l d (k / 4) top (omega arith))
+      go zero h r =
+          subst₂ (Begins b (timed (14 * l) (scanning b at_scan (screen_start e) d))) same
+          (ap (λ z. cond (nat_lt z 2) (shown e (k / 4)) (shown e (k / 4) + next e)) (sym h) ∙ is) (begins_0 b l d (k / 4) top (omega arith))
         where
           same : l + 4 * (k / 4) ≡ l + k
           same = omega (arith, h)
-      go (suc zero) h r = subst₂ (Begins b (timed (14 * l) (scanning b at_scan (screen_start e) d))) same (ap (λ z. cond (nat_lt z 2) (shown e (k / 4)) (shown e (k / 4) + next e)) (sym h) ∙ is) (begins_1 b l d (k / 4) top (omega arith))
+      go (suc zero) h r =
+          subst₂ (Begins b (timed (14 * l) (scanning b at_scan (screen_start e) d))) same
+          (ap (λ z. cond (nat_lt z 2) (shown e (k / 4)) (shown e (k / 4) + next e)) (sym h) ∙ is) (begins_1 b l d (k / 4) top (omega arith))
         where
           same : l + 4 * (k / 4) + 1 ≡ l + k
           same = omega (arith, h)
-      go (suc (suc zero)) h r = subst₂ (Begins b (timed (14 * l) (scanning b at_scan (screen_start e) d))) same (ap (λ z. cond (nat_lt z 2) (shown e (k / 4)) (shown e (k / 4) + next e)) (sym h) ∙ is) (begins_2 b l d (k / 4) top (omega arith))
+      go (suc (suc zero)) h r =
+          subst₂ (Begins b (timed (14 * l) (scanning b at_scan (screen_start e) d))) same
+          (ap (λ z. cond (nat_lt z 2) (shown e (k / 4)) (shown e (k / 4) + next e)) (sym h) ∙ is) (begins_2 b l d (k / 4) top (omega arith))
         where
           same : l + 4 * (k / 4) + 1 + 1 ≡ l + k
           same = omega (arith, h)
-      go (suc (suc (suc zero))) h r = subst₂ (Begins b (timed (14 * l) (scanning b at_scan (screen_start e) d))) same (ap (λ z. cond (nat_lt z 2) (shown e (k / 4)) (shown e (k / 4) + next e)) (sym h) ∙ is) (begins_3 b l d (k / 4) top (omega arith))
+      go (suc (suc (suc zero))) h r =
+          subst₂ (Begins b (timed (14 * l) (scanning b at_scan (screen_start e) d))) same
+          (ap (λ z. cond (nat_lt z 2) (shown e (k / 4)) (shown e (k / 4) + next e)) (sym h) ∙ is) (begins_3 b l d (k / 4) top (omega arith))
         where
           same : l + 4 * (k / 4) + 1 + 1 + 1 ≡ l + k
           same = omega (arith, h)

@@ -29,7 +29,9 @@ pub record IsMainPlace (t : ℕ) : Type 0 where
 -- What the move of the board is: at the interrupt's place the interrupt, and elsewhere a main move with EFX and the keys of the cycle
 -- after its fetch, or an idle cycle where the processor waits.
 pub data Makes (rom : List ℕ) (held : ℕ → Keys) (b c : Machine) : Type 0 where
-  Runs : (place b.cycle ≡ interrupt_place → ⊥) → b.regs.idle ≡ false → c ≡ record (main_move rom (efx_at (b.cycle + 1) true) (held (b.cycle + 1)) b) { cycle = b.cycle + cycles_of (opcode_of rom b) } → Makes rom held b c
+  Runs : (place b.cycle ≡ interrupt_place → ⊥) → b.regs.idle ≡ false
+      → c ≡ record (main_move rom (efx_at (b.cycle + 1) true) (held (b.cycle + 1)) b) { cycle = b.cycle + cycles_of (opcode_of rom b) }
+      → Makes rom held b c
   Waits : (place b.cycle ≡ interrupt_place → ⊥) → b.regs.idle ≡ true → c ≡ record b { cycle = b.cycle + 1 } → Makes rom held b c
   Accepts : b.cycle ≡ interrupt_at (b.cycle / frame) → c ≡ record b { regs = interrupted b.regs; cycle = b.cycle + 1 } → Makes rom held b c
 

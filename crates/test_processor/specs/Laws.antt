@@ -18,7 +18,8 @@ pub stores-keeps : (b : TestBus) (a v : ℕ) (c : TestBus) → Stores b a v c �
 stores-keeps b a v c (inl e) k h = rw e refl
 stores-keeps b a v c (inr e) k h = rw e (get_or-set_other b.bytes.items a k v 0 h)
 
-pub stores-puts : (b : TestBus) (a v : ℕ) (c : TestBus) → Stores b a v c → (slice_index c.bytes.items a ≡ v) ⊎ (slice_index c.bytes.items a ≡ slice_index b.bytes.items a)
+pub stores-puts : (b : TestBus) (a v : ℕ) (c : TestBus) → Stores b a v c
+    → (slice_index c.bytes.items a ≡ v) ⊎ (slice_index c.bytes.items a ≡ slice_index b.bytes.items a)
 stores-puts b a v c (inl e) = rw e (inr refl)
 stores-puts b a v c (inr e) = rw e (same_or_put b.bytes.items a v)
 

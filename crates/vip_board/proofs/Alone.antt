@@ -32,7 +32,8 @@ module _ (rom : List ℕ) (held : ℕ → Keys) (b : Machine) where
   moved_alone Interrupt = refl
   moved_alone Idle = refl
   moved_alone Instruction =
-      λ i. record (acted (instruction b.regs (byte_of rom b) (λ flag. flags_alone (efx_at (b.cycle + 1) b.on) (held (b.cycle + 1) b.key) flag i) (taken_alone (opcode_number (opcode_of rom b)) i)) b) {
+      λ i. record (acted (instruction b.regs (byte_of rom b) (λ flag. flags_alone (efx_at (b.cycle + 1) b.on) (held (b.cycle + 1) b.key) flag i)
+      (taken_alone (opcode_number (opcode_of rom b)) i)) b) {
         cycle = b.cycle + cycles_of (opcode_of rom b);
       }
 

@@ -43,7 +43,8 @@ module _ (rom : List ℕ) (held : ℕ → Keys) where
   in-turn zero k b order = let same : k ≡ 0 = omega (arith, order) in rw same (omega arith)
   in-turn (suc n) k b order = by_test (in-turn n k b) (cases_lt n k)
     where
-      by_test : (k ≤ n → (after_moves rom held b k).cycle ≤ (after_moves rom held b n).cycle) → (n < k) ⊎ (k ≤ n) → (after_moves rom held b k).cycle ≤ (after_moves rom held b (suc n)).cycle
+      by_test : (k ≤ n → (after_moves rom held b k).cycle ≤ (after_moves rom held b n).cycle) → (n < k) ⊎ (k ≤ n)
+          → (after_moves rom held b k).cycle ≤ (after_moves rom held b (suc n)).cycle
       by_test earlier (inl l) = let same : k ≡ suc n = omega (arith, l, order) in rw same (omega arith)
       by_test earlier (inr l) = omega (arith, earlier l, later-move rom held (after_moves rom held b n))
 
@@ -59,7 +60,8 @@ module _ (rom : List ℕ) (held : ℕ → Keys) where
   soon-move b = omega (arith, cycle-move rom held b, few (case_of b) b)
 
   -- a run is the states before one within the limit, and the run from that one on
-  pub run-split : (limit n : ℕ) (b : Machine) → (after_moves rom held b n).cycle ≤ limit → run_to rom held b limit ≡ states rom held b n ++ run_to rom held (after_moves rom held b n) limit
+  pub run-split : (limit n : ℕ) (b : Machine) → (after_moves rom held b n).cycle ≤ limit
+      → run_to rom held b limit ≡ states rom held b n ++ run_to rom held (after_moves rom held b n) limit
   run-split limit zero b within = refl
   run-split limit (suc n) b within =
       let first : b.cycle ≤ limit = omega (arith, cycles-some (suc n) b) in
@@ -69,7 +71,8 @@ module _ (rom : List ℕ) (held : ℕ → Keys) where
       ∙ ap (λ c. states rom held (move rom held b) n ++ run_to rom held c limit) (move-first n b))
 
   -- up to a limit before the next state there are no others
-  pub run-last : (limit n : ℕ) (b : Machine) → (after_moves rom held b n).cycle ≤ limit → limit < (after_moves rom held b (suc n)).cycle → run_to rom held b limit ≡ states rom held b (suc n)
+  pub run-last : (limit n : ℕ) (b : Machine) → (after_moves rom held b n).cycle ≤ limit → limit < (after_moves rom held b (suc n)).cycle
+      → run_to rom held b limit ≡ states rom held b (suc n)
   run-last limit n b within past =
       run-split limit n b within
       ∙ ap (λ tail. states rom held b n ++ tail)
@@ -82,7 +85,8 @@ module _ (rom : List ℕ) (held : ℕ → Keys) where
   run-short limit zero b past = rw (run_to-past rom held limit b past) (omega arith)
   run-short limit (suc n) b past = by_test (run-short limit n b) (nat_le (after_moves rom held b n).cycle limit) refl
     where
-      by_test : (limit < (after_moves rom held b n).cycle → length (run_to rom held b limit) ≤ n) → (t : Bool) → nat_le (after_moves rom held b n).cycle limit ≡ t → length (run_to rom held b limit) ≤ suc n
+      by_test : (limit < (after_moves rom held b n).cycle → length (run_to rom held b limit) ≤ n) → (t : Bool)
+          → nat_le (after_moves rom held b n).cycle limit ≡ t → length (run_to rom held b limit) ≤ suc n
       by_test shorter true h =
           let within : (after_moves rom held b n).cycle ≤ limit = grind (arith, nat_tests) in
           rw (run-last limit n b within past, length-states (suc n) b) (omega arith)
@@ -112,7 +116,8 @@ later-filter p t (b ∷ bs) h = by_test (p b) (later-filter p t bs h.1)
 
 pub later-run : (rom : List ℕ) (held : ℕ → Keys) (limit : ℕ) (b : Machine) → Later b.cycle (run_to rom held b limit)
 unfolding run_to
-later-run rom held limit b = later-filter (λ s. nat_le s.cycle limit) b.cycle (states rom held b (limit + 1)) (later-states rom held b.cycle (limit + 1) b (omega arith))
+later-run rom held limit b =
+    later-filter (λ s. nat_le s.cycle limit) b.cycle (states rom held b (limit + 1)) (later-states rom held b.cycle (limit + 1) b (omega arith))
 
 pub later-one : (b : Machine) → Later b.cycle (b ∷ [])
 unfolding Later
@@ -122,7 +127,8 @@ later-one b = (omega arith, tt)
 
 module _ (rom : List ℕ) (t : ℕ) where
   outside : (run : List Machine) (m : ℕ) (b : Machine) → window_end m ≤ t → t ≤ b.cycle → is_within rom run m b ≡ false
-  outside run m b ended from = ap (λ first. first && nat_lt (interrupt_at m) (b.cycle + length_of rom b)) (past (window_end m) b.cycle (omega (arith, ended, from)))
+  outside run m b ended from =
+      ap (λ first. first && nat_lt (interrupt_at m) (b.cycle + length_of rom b)) (past (window_end m) b.cycle (omega (arith, ended, from)))
     where
       past : (x y : ℕ) → x ≤ y → nat_lt y x ≡ false
       past x y h = grind (arith, nat_tests)
@@ -154,7 +160,8 @@ module _ (rom : List ℕ) (t : ℕ) where
   unfolding Later
   none_of line [] ended later = refl
   none_of line (b ∷ ys) ended later =
-      ap (λ keep. cond keep (b ∷ filter (is_dma_in line) ys) (filter (is_dma_in line) ys)) (elsewhere (is_dma (case_of b)) (b.cycle / 14) line (omega (arith, ended, later.0)))
+      ap (λ keep. cond keep (b ∷ filter (is_dma_in line) ys) (filter (is_dma_in line) ys))
+      (elsewhere (is_dma (case_of b)) (b.cycle / 14) line (omega (arith, ended, later.0)))
       ∙ none_of line ys ended later.1
     where
       elsewhere : (dma : Bool) (x line : ℕ) → line < x → (dma && x == line) ≡ false

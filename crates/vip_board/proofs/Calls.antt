@@ -24,7 +24,8 @@ use Rattle.vip_board.specs.declared.wires.Wires.{Wires}
 abbrev pub SendsAlone : Effect → Type 0
 SendsAlone e = (port byte : ℕ) → e.port ≡ Some (Send port byte) → e.write ≡ None
 
-first-sends : (s t u v : Regs) (c : Cycle) (p q r : Phase) (d e f : Did) (dma int idle : Bool) → c.effect.port ≡ None → SendsAlone (if dma then quiet s p d else if int then quiet t q e else if idle then quiet u r f else c).effect
+first-sends : (s t u v : Regs) (c : Cycle) (p q r : Phase) (d e f : Did) (dma int idle : Bool) → c.effect.port ≡ None
+    → SendsAlone (if dma then quiet s p d else if int then quiet t q e else if idle then quiet u r f else c).effect
 first-sends s t u v c p q r d e f true int idle n port byte h = cc
 first-sends s t u v c p q r d e f false true idle n port byte h = cc
 first-sends s t u v c p q r d e f false false true n port byte h = cc
@@ -60,7 +61,8 @@ Sends w port value after = after ≡ after_port (Send port value) w
 abbrev pub Receives : Wires → ℕ → ℕ → Wires → Type 0
 Receives w port value after = (value ≡ 0) × (after ≡ after_port (Receive port) w)
 
-pub calls-are : (port : Option Port) (write : Option (ℕ × ℕ)) (taken : ℕ) (w v : Wires) → ((p b : ℕ) → port ≡ Some (Send p b) → write ≡ None) → Calls Writes Sends Receives port write taken w v → (taken ≡ 0) × (v ≡ after_calls port write w)
+pub calls-are : (port : Option Port) (write : Option (ℕ × ℕ)) (taken : ℕ) (w v : Wires) → ((p b : ℕ) → port ≡ Some (Send p b) → write ≡ None)
+    → Calls Writes Sends Receives port write taken w v → (taken ≡ 0) × (v ≡ after_calls port write w)
 calls-are None None taken w v a c = (c.0, c.1)
 calls-are None (Some x) taken w v a c = (c.0, c.1)
 calls-are (Some (Send p b)) None taken w v a c = (c.0, c.1)
@@ -85,18 +87,23 @@ abbrev pub Answers : Processor → Wires → Bool → Bool → Processor → Wir
 Answers cpu w dma int p v did =
     (taken : ℕ) × (let c = cycle cpu (bytes w) (flags w) dma int taken in (p ≡ after c) × (did ≡ c.did) × Acts Writes Sends Receives c.effect taken w v)
 
-made_at : (cpu : Processor) (w : Wires) (p : Processor) (v : Wires) (did : Did) → Answers cpu w (dma_at w.video.cycles w.video.on) (int_at w.video.cycles w.video.on) p v did → Made cpu w p v did
+made_at : (cpu : Processor) (w : Wires) (p : Processor) (v : Wires) (did : Did)
+    → Answers cpu w (dma_at w.video.cycles w.video.on) (int_at w.video.cycles w.video.on) p v did → Made cpu w p v did
 made_at cpu w p v did h =
     let taken = h.0 in
     let with_byte : ℕ → Cycle = λ n. cycle cpu (bytes w) (flags w) (dma_at w.video.cycles w.video.on) (int_at w.video.cycles w.video.on) n in
-    let calls = calls-are (with_byte taken).effect.port (with_byte taken).effect.write taken w v (cycle-sends cpu.phase cpu.regs (bytes w) (flags w) (dma_at w.video.cycles w.video.on) (int_at w.video.cycles w.video.on) taken) h.1.2 in
+    let calls =
+    calls-are (with_byte taken).effect.port (with_byte taken).effect.write taken w v
+    (cycle-sends cpu.phase cpu.regs (bytes w) (flags w) (dma_at w.video.cycles w.video.on) (int_at w.video.cycles w.video.on) taken)
+    h.1.2 in
     record {
       processor = h.1.0 ∙ ap (λ n. after (with_byte n)) calls.0;
       did = h.1.1 ∙ ap (λ n. (with_byte n).did) calls.0;
       wires = calls.1 ∙ ap (λ n. after_calls (with_byte n).effect.port (with_byte n).effect.write w) calls.0;
     }
 
-pub made : (cpu : Processor) (w : Wires) (now : ℕ) (dma int : Bool) (p : Processor) (v : Wires) (did : Did) → now ≡ w.video.cycles → dma ≡ dma_at now w.video.on → int ≡ int_at now w.video.on → Answers cpu w dma int p v did → Made cpu w p v did
+pub made : (cpu : Processor) (w : Wires) (now : ℕ) (dma int : Bool) (p : Processor) (v : Wires) (did : Did) → now ≡ w.video.cycles
+    → dma ≡ dma_at now w.video.on → int ≡ int_at now w.video.on → Answers cpu w dma int p v did → Made cpu w p v did
 made cpu w now dma int p v did n d i h =
     let D : Bool → Type 0 = λ x. Answers cpu w x int p v did in
     let I : Bool → Type 0 = λ x. Answers cpu w (dma_at w.video.cycles w.video.on) x p v did in
@@ -104,7 +111,8 @@ made cpu w now dma int p v did n d i h =
 
 -- ---- the first cycle of a move calls nothing
 
-first-calls : (a i e : Bool) (x y z f : Cycle) → SendsNothing x → SendsNothing y → SendsNothing z → SendsNothing f → SendsNothing (if a then x else if i then y else if e then z else f)
+first-calls : (a i e : Bool) (x y z f : Cycle) → SendsNothing x → SendsNothing y → SendsNothing z → SendsNothing f
+    → SendsNothing (if a then x else if i then y else if e then z else f)
 first-calls true i e x y z f hx hy hz hf = hx
 first-calls false true e x y z f hx hy hz hf = hy
 first-calls false false true x y z f hx hy hz hf = hz
@@ -113,7 +121,8 @@ first-calls false false false x y z f hx hy hz hf = hf
 begun-calls : (s : Regs) (m : ℕ → ℕ) (dma int : Bool) → SendsNothing (begun s m dma int)
 begun-calls s m dma int = first-calls dma (s.ie && int) s.idle _ _ _ _ (refl, refl) (refl, refl) (refl, refl) (refl, refl)
 
-first-byte : (a i e : Bool) (x y z f : Cycle) → byte_in y.did ≡ None → byte_in z.did ≡ None → byte_in f.did ≡ None → IsSome (byte_in (if a then x else if i then y else if e then z else f).did) → a ≡ true
+first-byte : (a i e : Bool) (x y z f : Cycle) → byte_in y.did ≡ None → byte_in z.did ≡ None → byte_in f.did ≡ None
+    → IsSome (byte_in (if a then x else if i then y else if e then z else f).did) → a ≡ true
 first-byte true i e x y z f hy hz hf some = refl
 first-byte false true e x y z f hy hz hf some = absurd (none_some _ hy some)
 first-byte false false true x y z f hy hz hf some = absurd (none_some _ hz some)
@@ -144,7 +153,8 @@ begun-made s cpu w dma int p did view h d i is_p is_did =
     }
 
 -- and it is no cycle of an instruction after its fetch
-first-did : (a i e : Bool) (x y z f : Cycle) → (x.did ≡ Execute → ⊥) → (y.did ≡ Execute → ⊥) → (z.did ≡ Execute → ⊥) → (f.did ≡ Execute → ⊥) → (if a then x else if i then y else if e then z else f).did ≡ Execute → ⊥
+first-did : (a i e : Bool) (x y z f : Cycle) → (x.did ≡ Execute → ⊥) → (y.did ≡ Execute → ⊥) → (z.did ≡ Execute → ⊥) → (f.did ≡ Execute → ⊥)
+    → (if a then x else if i then y else if e then z else f).did ≡ Execute → ⊥
 first-did true i e x y z f hx hy hz hf d = hx d
 first-did false true e x y z f hx hy hz hf d = hy d
 first-did false false true x y z f hx hy hz hf d = hz d
@@ -165,12 +175,14 @@ by_requests : (phase : Phase) (s : Regs) (m : ℕ → ℕ) (f : ℕ → Bool) (d
 by_requests Boundary s m f dma int dma' int' taken going = absurd (going refl)
 by_requests (Middle opcode left) s m f dma int dma' int' taken going = refl
 
-pub made-on : (cpu : Processor) (w : Wires) (dma int : Bool) (p : Processor) (v : Wires) (did : Did) → (cpu.phase ≡ Boundary → ⊥) → Answers cpu w dma int p v did → Made cpu w p v did
+pub made-on : (cpu : Processor) (w : Wires) (dma int : Bool) (p : Processor) (v : Wires) (did : Did) → (cpu.phase ≡ Boundary → ⊥)
+    → Answers cpu w dma int p v did → Made cpu w p v did
 made-on cpu w dma int p v did going h =
     let same = by_requests cpu.phase cpu.regs (bytes w) (flags w) dma int (dma_at w.video.cycles w.video.on) (int_at w.video.cycles w.video.on) h.0 going in
     made_at cpu w p v did (h.0, subst (λ (c : Cycle). (p ≡ after c) × (did ≡ c.did) × Acts Writes Sends Receives c.effect h.0 w v) same h.1)
 
-executes : (phase : Phase) (s : Regs) (m : ℕ → ℕ) (f : ℕ → Bool) (dma int : Bool) (taken : ℕ) → (phase ≡ Boundary → ⊥) → (cycle_in phase s m f dma int taken).did ≡ Execute
+executes : (phase : Phase) (s : Regs) (m : ℕ → ℕ) (f : ℕ → Bool) (dma int : Bool) (taken : ℕ) → (phase ≡ Boundary → ⊥)
+    → (cycle_in phase s m f dma int taken).did ≡ Execute
 executes Boundary s m f dma int taken going = absurd (going refl)
 executes (Middle opcode left) s m f dma int taken going = by_last (left == 1)
   where
@@ -183,5 +195,6 @@ pub no-byte : (cpu : Processor) (w : Wires) (p : Processor) (v : Wires) (did : D
 no-byte cpu w p v did going m = sym (ap byte_in (m.did ∙ executes cpu.phase cpu.regs _ _ _ _ _ going))
 
 -- the video chip ends the cycle
-pub seen_after : (cpu : Processor) (w : Wires) (p : Processor) (v : Wires) (did : Did) (byte : Option ℕ) (chip : Chip) → w.video.cycle_on ≡ w.video.on → Made cpu w p v did → byte ≡ byte_in did → chip ≡ video_ended byte v.video → seen_of p (record v { video = chip }) ≡ cycled (seen_of cpu w)
+pub seen_after : (cpu : Processor) (w : Wires) (p : Processor) (v : Wires) (did : Did) (byte : Option ℕ) (chip : Chip) → w.video.cycle_on ≡ w.video.on
+    → Made cpu w p v did → byte ≡ byte_in did → chip ≡ video_ended byte v.video → seen_of p (record v { video = chip }) ≡ cycled (seen_of cpu w)
 seen_after cpu w p v did byte chip on m b c = rw (c, b, m.processor, m.wires, m.did, on)

@@ -28,25 +28,30 @@ rests s h = ap (λ p. record s { phase = p }) h
 pub moved-rests : (s : Seen) → s.phase ≡ Boundary → moved (at_rest s) ≡ moved s
 moved-rests s h = sym (ap moved (rests s h))
 
-pub moved-in : (rom : List ℕ) (script : List Event) (b : Machine) (p : Pictures) (k : Case) → case_of b ≡ k → moved (resting rom script b p) ≡ resting rom script (moved_in k rom (held_at script) b) (scanned_over (length_in k rom b) b.cycle b.on (bus_byte_in k rom b) p)
+pub moved-in : (rom : List ℕ) (script : List Event) (b : Machine) (p : Pictures) (k : Case) → case_of b ≡ k
+    → moved (resting rom script b p)
+    ≡ resting rom script (moved_in k rom (held_at script) b) (scanned_over (length_in k rom b) b.cycle b.on (bus_byte_in k rom b) p)
 unfolding pictures_after
 moved-in rom script b p k e = rw e
 
 -- ---- which case a cycle is
 
-by_dma : (c i e f : Cycle) (x y z : Bool) (v : ℕ) → i.did ≡ Interrupt → e.did ≡ Idle → f.did ≡ Fetch → (if x then c else if y then i else if z then e else f).did ≡ Dma v → x ≡ true
+by_dma : (c i e f : Cycle) (x y z : Bool) (v : ℕ) → i.did ≡ Interrupt → e.did ≡ Idle → f.did ≡ Fetch
+    → (if x then c else if y then i else if z then e else f).did ≡ Dma v → x ≡ true
 by_dma c i e f true y z v p q r h = refl
 by_dma c i e f false true z v p q r h = cc
 by_dma c i e f false false true v p q r h = cc
 by_dma c i e f false false false v p q r h = cc
 
-by_interrupt : (c i e f : Cycle) (x y z : Bool) (v : ℕ) → c.did ≡ Dma v → e.did ≡ Idle → f.did ≡ Fetch → (if x then c else if y then i else if z then e else f).did ≡ Interrupt → (x ≡ false) × (y ≡ true)
+by_interrupt : (c i e f : Cycle) (x y z : Bool) (v : ℕ) → c.did ≡ Dma v → e.did ≡ Idle → f.did ≡ Fetch
+    → (if x then c else if y then i else if z then e else f).did ≡ Interrupt → (x ≡ false) × (y ≡ true)
 by_interrupt c i e f true y z v p q r h = cc
 by_interrupt c i e f false true z v p q r h = (refl, refl)
 by_interrupt c i e f false false true v p q r h = cc
 by_interrupt c i e f false false false v p q r h = cc
 
-by_idle : (c i e f : Cycle) (x y z : Bool) (v : ℕ) → c.did ≡ Dma v → i.did ≡ Interrupt → f.did ≡ Fetch → (if x then c else if y then i else if z then e else f).did ≡ Idle → (x ≡ false) × (y ≡ false) × (z ≡ true)
+by_idle : (c i e f : Cycle) (x y z : Bool) (v : ℕ) → c.did ≡ Dma v → i.did ≡ Interrupt → f.did ≡ Fetch
+    → (if x then c else if y then i else if z then e else f).did ≡ Idle → (x ≡ false) × (y ≡ false) × (z ≡ true)
 by_idle c i e f true y z v p q r h = cc
 by_idle c i e f false true z v p q r h = cc
 by_idle c i e f false false true v p q r h = (refl, refl, refl)
@@ -88,14 +93,18 @@ module _ (rom : List ℕ) (script : List Event) (b : Machine) (p : Pictures) whe
 
   is_interrupt : (cycle_of first).did ≡ Interrupt → Is first InterruptCase
   is_interrupt h =
-      let t = by_interrupt dma_cycle interrupt_cycle idle_cycle fetch_cycle (dma_at b.cycle b.on) (b.regs.ie && int_at b.cycle b.on) b.regs.idle _ refl refl refl h in
+      let t =
+      by_interrupt dma_cycle interrupt_cycle idle_cycle fetch_cycle (dma_at b.cycle b.on)
+      (b.regs.ie && int_at b.cycle b.on) b.regs.idle _ refl refl refl h in
       let k : case_of b ≡ InterruptCase = case_interrupt b t.0 t.1 in
       let step : cycled first ≡ landed InterruptCase = rw (t.0, t.1) in
       record { case = k; whole = step ∙ sym (moved-in rom script b p InterruptCase k) }
 
   is_idle : (cycle_of first).did ≡ Idle → Is first IdleCase
   is_idle h =
-      let t = by_idle dma_cycle interrupt_cycle idle_cycle fetch_cycle (dma_at b.cycle b.on) (b.regs.ie && int_at b.cycle b.on) b.regs.idle _ refl refl refl h in
+      let t =
+      by_idle dma_cycle interrupt_cycle idle_cycle fetch_cycle (dma_at b.cycle b.on)
+      (b.regs.ie && int_at b.cycle b.on) b.regs.idle _ refl refl refl h in
       let k : case_of b ≡ IdleCase = case_idle b t.0 t.1 t.2 in
       let step : cycled first ≡ landed IdleCase = rw (t.0, t.1, t.2) in
       record { case = k; whole = step ∙ sym (moved-in rom script b p IdleCase k) }

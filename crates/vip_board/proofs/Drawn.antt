@@ -41,7 +41,8 @@ pub record Next (shown : ℕ → Bool) (bytes : ℕ → List ℕ) (t : ℕ) (on 
 
 -- ---- lists of lines
 
-bytes_from-same : (bytes bytes' : ℕ → List ℕ) (line n : ℕ) → ((k : ℕ) → line ≤ k → k < line + n → bytes' k ≡ bytes k) → bytes_from bytes' line n ≡ bytes_from bytes line n
+bytes_from-same : (bytes bytes' : ℕ → List ℕ) (line n : ℕ) → ((k : ℕ) → line ≤ k → k < line + n → bytes' k ≡ bytes k)
+    → bytes_from bytes' line n ≡ bytes_from bytes line n
 bytes_from-same bytes bytes' line zero h = refl
 bytes_from-same bytes bytes' line (suc n) h =
     ap (λ l. l ∷ bytes_from bytes' (line + 1) n) (h line (omega arith) (omega arith))
@@ -54,7 +55,8 @@ bytes_from-none bytes line (suc n) h =
     ∙ ap (λ ls. [] ∷ ls) (bytes_from-none bytes (line + 1) n (λ k a. h k (omega arith)))
 
 -- one more byte in line `line + k`
-bytes_from-more : (bytes bytes' : ℕ → List ℕ) (line n k at b : ℕ) → at ≡ line + k → k < n → bytes' at ≡ bytes at ++ b ∷ [] → ((l : ℕ) → l ≢ at → bytes' l ≡ bytes l) → with_byte k (Some b) (bytes_from bytes line n) ≡ bytes_from bytes' line n
+bytes_from-more : (bytes bytes' : ℕ → List ℕ) (line n k at b : ℕ) → at ≡ line + k → k < n → bytes' at ≡ bytes at ++ b ∷ []
+    → ((l : ℕ) → l ≢ at → bytes' l ≡ bytes l) → with_byte k (Some b) (bytes_from bytes line n) ≡ bytes_from bytes' line n
 bytes_from-more bytes bytes' line zero k at b e l h o = absurd (omega arith)
 bytes_from-more bytes bytes' line (suc n) zero at b e l h o =
     let here : at ≡ line = omega arith in
@@ -139,7 +141,8 @@ module _ (shown : ℕ → Bool) (bytes : ℕ → List ℕ) (t : ℕ) (on : Bool)
   unfolding window_bytes
   lines-of None h f g = sym (bytes_from-same bytes bytes' (frame_lines * (t / frame) + window_line) window_lines (λ k a b. everywhere h k))
   lines-of (Some b) h f g =
-      bytes_from-more bytes bytes' (frame_lines * (t / frame) + window_line) window_lines (line_of t - window_line) (t / line_cycles) b (omega (arith, f refl)) (omega (arith, f refl, g refl)) h x.elsewhere
+      bytes_from-more bytes bytes' (frame_lines * (t / frame) + window_line) window_lines (line_of t - window_line) (t / line_cycles) b
+      (omega (arith, f refl)) (omega (arith, f refl, g refl)) h x.elsewhere
 
   drawn-lines : (drawn t on byte p).lines ≡ window_bytes bytes' (t / frame)
   drawn-lines = ap (with_byte (line_of t - window_line) byte) d.lines ∙ lines-of byte x.here x.from x.to

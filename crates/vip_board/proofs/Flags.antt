@@ -33,6 +33,8 @@ second true y h e = cc
 second false true h e = cc
 second false false h e = refl
 
-pub executed-flags : (byte : ℕ) → (cycles_of byte == 2) ≡ false → (s : Regs) (m : ℕ → ℕ) (f g : ℕ → Bool) (v : ℕ) → executed byte s (inputs s m f v) ≡ executed byte s (inputs s m g v)
+pub executed-flags : (byte : ℕ) → (cycles_of byte == 2) ≡ false → (s : Regs) (m : ℕ → ℕ) (f g : ℕ → Bool) (v : ℕ)
+    → executed byte s (inputs s m f v) ≡ executed byte s (inputs s m g v)
 executed-flags byte e s m f g v =
-    sym (effect_flags (kind_of byte) (opcode_number byte) s (inputs s m f v) g (second (cycles_of byte == 2) (reads_flags (kind_of byte)) (short_or_no_flags byte) e))
+    sym (effect_flags (kind_of byte) (opcode_number byte) s (inputs s m f v) g
+    (second (cycles_of byte == 2) (reads_flags (kind_of byte)) (short_or_no_flags byte) e))

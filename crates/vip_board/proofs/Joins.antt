@@ -34,13 +34,18 @@ use Rattle.vip_board.proofs.Whole.{Fetches, fetched, fetches_of}
 -- ---- the calls on the wires of a joined board
 
 abbrev pub JoinedWrites : Joined → ℕ → ℕ → Joined → Type 0
-JoinedWrites j a v k = (k.wires.ghost_name ≡ j.wires.ghost_name) × (k.wires.now ≡ after_write a v j.wires.now) × (k.incoming ≡ j.incoming) × (k.outgoing ≡ j.outgoing)
+JoinedWrites j a v k =
+    (k.wires.ghost_name ≡ j.wires.ghost_name) × (k.wires.now ≡ after_write a v j.wires.now) × (k.incoming ≡ j.incoming) × (k.outgoing ≡ j.outgoing)
 
 abbrev pub JoinedSends : Joined → ℕ → ℕ → Joined → Type 0
-JoinedSends j p v k = (k.wires.ghost_name ≡ j.wires.ghost_name) × (k.wires.now ≡ after_port (Send p v) j.wires.now) × (k.incoming ≡ j.incoming) × (k.outgoing ≡ outgoing_after (Some (Send p v)) j.outgoing)
+JoinedSends j p v k =
+    (k.wires.ghost_name ≡ j.wires.ghost_name) × (k.wires.now ≡ after_port (Send p v) j.wires.now) × (k.incoming ≡ j.incoming)
+    × (k.outgoing ≡ outgoing_after (Some (Send p v)) j.outgoing)
 
 abbrev pub JoinedReceives : Joined → ℕ → ℕ → Joined → Type 0
-JoinedReceives j p v k = (v ≡ taken_at p j.incoming) × (k.wires.ghost_name ≡ j.wires.ghost_name) × (k.wires.now ≡ after_port (Receive p) j.wires.now) × (k.incoming ≡ incoming_after (Some (Receive p)) j.incoming) × (k.outgoing ≡ j.outgoing)
+JoinedReceives j p v k =
+    (v ≡ taken_at p j.incoming) × (k.wires.ghost_name ≡ j.wires.ghost_name) × (k.wires.now ≡ after_port (Receive p) j.wires.now)
+    × (k.incoming ≡ incoming_after (Some (Receive p)) j.incoming) × (k.outgoing ≡ j.outgoing)
 
 -- the byte that the bus takes from a port
 abbrev taken_by : Option Port → Option ℕ → ℕ
@@ -60,7 +65,13 @@ no_write e = cc
 calls-made : (port : Option Port) (write : Option (ℕ × ℕ)) (taken : ℕ) (j k : Joined) → ((p v : ℕ) → port ≡ Some (Send p v) → write ≡ None)
     → Calls JoinedWrites JoinedSends JoinedReceives port write taken j k → CallsMade port write taken j k
 calls-made None None taken j k a c =
-    record { byte = c.0; wires = ap (λ (x : Joined). x.wires.now) c.1; incoming = ap (λ (x : Joined). x.incoming) c.1; outgoing = ap (λ (x : Joined). x.outgoing) c.1 }
+    record {
+      byte = c.0;
+      wires = ap (λ (x : Joined). x.wires.now) c.1;
+      incoming = ap (λ (x : Joined). x.incoming) c.1;
+      outgoing =
+          ap (λ (x : Joined). x.outgoing) c.1;
+    }
 calls-made None (Some x) taken j k a c = record { byte = c.0; wires = c.1.1; incoming = c.1.2; outgoing = c.1.3 }
 calls-made (Some (Send p v)) None taken j k a c = record { byte = c.0; wires = c.1.1; incoming = c.1.2; outgoing = c.1.3 }
 calls-made (Some (Send p v)) (Some x) taken j k a c = absurd (no_write (a p v refl))
@@ -69,7 +80,8 @@ calls-made (Some (Receive p)) (Some x) taken j k a c =
     record { byte = c.1.0; wires = c.2.1 ∙ ap (after_write x.0 x.1) c.1.2; incoming = c.2.2 ∙ c.1.3; outgoing = c.2.3 ∙ c.1.4 }
 
 -- only INP uses the byte, and its port is the number in its opcode
-effect-takes : (k : Kind) (n : ℕ) (s : Regs) (i : Inputs) (incoming : Option ℕ) → i.taken ≡ taken_by (effect k n s i).port incoming → effect k n s i ≡ effect k n s (record i { taken = taken_at n incoming })
+effect-takes : (k : Kind) (n : ℕ) (s : Regs) (i : Inputs) (incoming : Option ℕ) → i.taken ≡ taken_by (effect k n s i).port incoming
+    → effect k n s i ≡ effect k n s (record i { taken = taken_at n incoming })
 effect-takes Inp n s i incoming h = ap (λ v. effect Inp n s (record i { taken = v })) h
 effect-takes _ n s i incoming h = refl
 
@@ -87,22 +99,28 @@ module _ (j : Joined) where
 
   abbrev joined_flags : ℕ → Bool
   joined_flags =
-      linked_flags (efx_at j.wires.now.video.cycles j.wires.now.video.on) (held_at j.wires.now.keypad.script j.wires.now.video.cycles j.wires.now.keypad.latched) j.incoming j.outgoing
+      linked_flags (efx_at j.wires.now.video.cycles j.wires.now.video.on)
+      (held_at j.wires.now.keypad.script j.wires.now.video.cycles j.wires.now.keypad.latched) j.incoming j.outgoing
 
 abbrev pub JoinedAnswers : Processor → Joined → Processor → Joined → Did → Type 0
 JoinedAnswers cpu j p k did =
-    (taken : ℕ) × (let c = cycle cpu (joined_bytes j) (joined_flags j) false false taken in (p ≡ after c) × (did ≡ c.did) × Acts JoinedWrites JoinedSends JoinedReceives c.effect taken j k)
+    (taken : ℕ) × (let c = cycle cpu (joined_bytes j) (joined_flags j) false false taken in
+    (p ≡ after c) × (did ≡ c.did) × Acts JoinedWrites JoinedSends JoinedReceives c.effect taken j k)
 
 abbrev Lasts : Processor → Joined → Processor → Joined → Type 0
 Lasts cpu j p k = MadeLast cpu j.wires.now j.incoming j.outgoing p k.wires.now k.incoming k.outgoing
 
-made_in : (opcode : ℕ) (s : Regs) (j k : Joined) (p : Processor) (did : Did) → JoinedAnswers (record { regs = s; phase = Middle opcode 1 }) j p k did → Lasts (record { regs = s; phase = Middle opcode 1 }) j p k
+made_in : (opcode : ℕ) (s : Regs) (j k : Joined) (p : Processor) (did : Did) → JoinedAnswers (record { regs = s; phase = Middle opcode 1 }) j p k did
+    → Lasts (record { regs = s; phase = Middle opcode 1 }) j p k
 made_in opcode s j k p did h =
     let taken = h.0 in
     let number = opcode_number opcode in
     let i : ℕ → Inputs = λ v. inputs s (joined_bytes j) (joined_flags j) v in
-    let calls = calls-made (effect (kind_of opcode) number s (i taken)).port (effect (kind_of opcode) number s (i taken)).write taken j k (λ q v e. send-writes_nothing (kind_of opcode) number s (i taken) q v e) h.1.2 in
-    let same : effect (kind_of opcode) number s (i taken) ≡ effect (kind_of opcode) number s (i (taken_at number j.incoming)) = effect-takes (kind_of opcode) number s (i taken) j.incoming calls.byte in
+    let calls =
+    calls-made (effect (kind_of opcode) number s (i taken)).port (effect (kind_of opcode) number s (i taken)).write taken j k
+    (λ q v e. send-writes_nothing (kind_of opcode) number s (i taken) q v e) h.1.2 in
+    let same : effect (kind_of opcode) number s (i taken) ≡ effect (kind_of opcode) number s (i (taken_at number j.incoming)) =
+    effect-takes (kind_of opcode) number s (i taken) j.incoming calls.byte in
     record {
       processor = h.1.0 ∙ ap (λ (e : Effect). after (record { effect = e; phase = Boundary; did = Execute })) same;
       wires = calls.wires ∙ ap (λ (e : Effect). after_calls e.port e.write j.wires.now) same;
@@ -110,23 +128,31 @@ made_in opcode s j k p did h =
       outgoing_is = calls.outgoing ∙ ap (λ (e : Effect). outgoing_after e.port j.outgoing) same;
     }
 
-pub made-last : (opcode : ℕ) (cpu : Processor) (j k : Joined) (p : Processor) (did : Did) → cpu.phase ≡ Middle opcode 1 → JoinedAnswers cpu j p k did → Lasts cpu j p k
+pub made-last : (opcode : ℕ) (cpu : Processor) (j k : Joined) (p : Processor) (did : Did) → cpu.phase ≡ Middle opcode 1 → JoinedAnswers cpu j p k did
+    → Lasts cpu j p k
 made-last opcode cpu j k p did e h =
-    let P : Phase → Type 0 = λ phase. JoinedAnswers (record { regs = cpu.regs; phase = phase }) j p k did → Lasts (record { regs = cpu.regs; phase = phase }) j p k in
+    let P : Phase → Type 0 =
+    λ phase. JoinedAnswers (record { regs = cpu.regs; phase = phase }) j p k did → Lasts (record { regs = cpu.regs; phase = phase }) j p k in
     subst P (sym e) (made_in opcode cpu.regs j k p did) h
 
 -- the video chip ends the cycle
-pub seen-last : (cpu : Processor) (w : Wires) (incoming outgoing : Option ℕ) (p : Processor) (v : Wires) (incoming' outgoing' : Option ℕ) (chip : Chip) → w.video.cycle_on ≡ w.video.on
-    → MadeLast cpu w incoming outgoing p v incoming' outgoing' → chip ≡ video_ended None v.video → seen_of p (record v { video = chip }) ≡ last_cycled (seen_of cpu w) incoming outgoing
+pub seen-last : (cpu : Processor) (w : Wires) (incoming outgoing : Option ℕ) (p : Processor) (v : Wires) (incoming' outgoing' : Option ℕ)
+    (chip : Chip) → w.video.cycle_on ≡ w.video.on
+    → MadeLast cpu w incoming outgoing p v incoming' outgoing' → chip ≡ video_ended None v.video
+    → seen_of p (record v { video = chip }) ≡ last_cycled (seen_of cpu w) incoming outgoing
 seen-last cpu w incoming outgoing p v incoming' outgoing' chip on m c = rw (c, m.processor, m.wires, on)
 
 -- ---- the whole move
 
 module _ (rom : List ℕ) (script : List Event) (b : Machine) (p : Pictures) (incoming outgoing : Option ℕ) where
-  linked-case : (k : Case) → case_of b ≡ k → linked_move rom (held_at script) (joined b incoming outgoing) ≡ linked_in k rom (held_at script) (joined b incoming outgoing)
+  linked-case : (k : Case) → case_of b ≡ k
+      → linked_move rom (held_at script) (joined b incoming outgoing) ≡ linked_in k rom (held_at script) (joined b incoming outgoing)
   linked-case k e = rw e
 
-  linked-moved-in : (k : Case) → case_of b ≡ k → linked_moved (resting rom script b p) incoming outgoing ≡ resting rom script (linked_in k rom (held_at script) (joined b incoming outgoing)).machine (scanned_over (length_in k rom b) b.cycle b.on (bus_byte_in k rom b) p)
+  linked-moved-in : (k : Case) → case_of b ≡ k
+      → linked_moved (resting rom script b p) incoming outgoing
+      ≡ resting rom script (linked_in k rom (held_at script) (joined b incoming outgoing)).machine
+      (scanned_over (length_in k rom b) b.cycle b.on (bus_byte_in k rom b) p)
   unfolding pictures_after
   linked-moved-in k e = rw e
 
@@ -144,7 +170,9 @@ leaves_in : (s : Seen) (incoming outgoing : Option ℕ) (k : Case) → case_of s
 leaves_in s incoming outgoing k e h =
     let same = linked-case s.rom s.script s.machine s.pictures incoming outgoing k e ∙ h in
     record {
-      board = ap (λ m. record s { machine = m; pictures = pictures_after s.rom s.machine s.pictures }) (move_in s.rom (held_by s) s.machine k e ∙ ap (λ j. j.machine) (sym same));
+      board =
+          ap (λ m. record s { machine = m; pictures = pictures_after s.rom s.machine s.pictures })
+          (move_in s.rom (held_by s) s.machine k e ∙ ap (λ j. j.machine) (sym same));
       incoming_is = ap (λ j. j.incoming) (sym same);
       outgoing_is = ap (λ j. j.outgoing) (sym same);
     }
@@ -182,7 +210,10 @@ module _ (rom : List ℕ) (script : List Event) (b : Machine) (p : Pictures) (f 
 
   -- what the instruction makes with the flags of a cycle, and the board after it, in n cycles
   abbrev made_by : ℕ → Effect
-  made_by t = executed (opcode_of rom b) (stepped b.regs b.regs.p) (inputs (stepped b.regs b.regs.p) (byte_of rom b) (linked_flags (efx_at t b.on) (held_at script t b.key) incoming outgoing) (taken_at (opcode_number (opcode_of rom b)) incoming))
+  made_by t =
+      executed (opcode_of rom b) (stepped b.regs b.regs.p)
+      (inputs (stepped b.regs b.regs.p) (byte_of rom b) (linked_flags (efx_at t b.on) (held_at script t b.key) incoming outgoing)
+      (taken_at (opcode_number (opcode_of rom b)) incoming))
 
   abbrev whole : ℕ → Seen
   whole n = resting rom script (record (acted (made_by (b.cycle + 1)) b) { cycle = b.cycle + n }) (scanned_over n b.cycle b.on None p)
@@ -227,7 +258,8 @@ module _ (rom : List ℕ) (script : List Event) (b : Machine) (p : Pictures) (f 
         last = (opcode_of rom b, refl);
         board =
             (let later : b.cycle + 1 + 1 + 1 ≡ b.cycle + 3 = omega arith in
-            ap (λ (x : Effect). resting rom script (record (acted x (fetched rom b)) { cycle = b.cycle + 1 + 1 + 1 }) (scanned_over 3 b.cycle b.on None p)) (same h)
+            ap (λ (x : Effect). resting rom script (record (acted x (fetched rom b)) { cycle = b.cycle + 1 + 1 + 1 })
+            (scanned_over 3 b.cycle b.on None p)) (same h)
             ∙ ap (λ t. record (whole 3) { machine = record (whole 3).machine { cycle = t } }) later);
         port = same h;
       })
@@ -239,8 +271,12 @@ module _ (rom : List ℕ) (script : List Event) (b : Machine) (p : Pictures) (f 
       record {
         last = (t.last.0, ap (λ (s : Seen). s.phase) at ∙ t.last.1);
         board = ap (λ s. last_cycled s incoming outgoing) at ∙ t.board ∙ sym moved-linked;
-        incoming_is = ap (λ s. incoming_after (last_cycle s incoming outgoing).effect.port incoming) at ∙ ap (λ (x : Effect). incoming_after x.port incoming) t.port ∙ sym (ap (λ j. j.incoming) wires-linked);
-        outgoing_is = ap (λ s. outgoing_after (last_cycle s incoming outgoing).effect.port outgoing) at ∙ ap (λ (x : Effect). outgoing_after x.port outgoing) t.port ∙ sym (ap (λ j. j.outgoing) wires-linked);
+        incoming_is =
+            ap (λ s. incoming_after (last_cycle s incoming outgoing).effect.port incoming) at
+            ∙ ap (λ (x : Effect). incoming_after x.port incoming) t.port ∙ sym (ap (λ j. j.incoming) wires-linked);
+        outgoing_is =
+            ap (λ s. outgoing_after (last_cycle s incoming outgoing).effect.port outgoing) at
+            ∙ ap (λ (x : Effect). outgoing_after x.port outgoing) t.port ∙ sym (ap (λ j. j.outgoing) wires-linked);
       }
 
   length_of-fetch : length_of rom b ≡ cycles_of (opcode_of rom b)
@@ -262,7 +298,8 @@ module _ (s : Seen) (n : ℕ) (incoming outgoing : Option ℕ) (h : s.phase ≡ 
   pub two-ends : (n ≡ 3 → ⊥) → EndsLinked s (cycled s) incoming outgoing
   two-ends short =
       subst (λ v. EndsLinked v (cycled v) incoming outgoing) (sym (rests s h))
-      (two s.rom s.script s.machine s.pictures (fetches_of s h d) incoming outgoing (two_of_test (opcode_of s.rom s.machine / 16 == 12) (λ e. short (long ∙ e))))
+      (two s.rom s.script s.machine s.pictures (fetches_of s h d) incoming outgoing
+      (two_of_test (opcode_of s.rom s.machine / 16 == 12) (λ e. short (long ∙ e))))
 
   pub three-ends : n ≡ 3 → EndsLinked s (cycled (cycled s)) incoming outgoing
   three-ends e =

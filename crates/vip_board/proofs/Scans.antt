@@ -70,7 +70,8 @@ scanned-by s h count dma (suc n) l =
     let byte = dma_byte s.rom (taken_by n s).machine in
     let v = taken_by (suc n) s in
     ap (with_chip v) (ended_with-more (dma_bytes n s) byte (chip_of s))
-    ∙ ap (λ on. with_chip v (record (ended (Some byte) c) { pictures = scanned c.cycles on (Some byte) c.pictures })) (switches (dma_bytes n s) (chip_of s) refl)
+    ∙ ap (λ on. with_chip v (record (ended (Some byte) c) { pictures = scanned c.cycles on (Some byte) c.pictures }))
+    (switches (dma_bytes n s) (chip_of s) refl)
     ∙ ap (λ p. record (with_chip v (record (ended (Some byte) c) { pictures = scanned c.cycles c.on (Some byte) c.pictures })) { phase = p }) h
     ∙ sym (moved-in s.rom s.script u.machine u.pictures DmaCase case)
     ∙ moved-rests u h
@@ -82,7 +83,8 @@ module _ (cpu : Processor) (w : Wires) (chip : Chip) (s : Seen) (n : ℕ) (bytes
   pub scan-switch : chip.cycle_on ≡ chip.on
   scan-switch = subst (λ (x : Chip). x.cycle_on ≡ x.on) (sym ends) (switches bytes w.video switch)
 
-  pub scan-moved : s.phase ≡ Boundary → ((k : ℕ) → k < n → dma_at (s.machine.cycle + k) s.machine.on ≡ true) → seen_of cpu (record w { video = chip }) ≡ moved_by n s
+  pub scan-moved : s.phase ≡ Boundary → ((k : ℕ) → k < n → dma_at (s.machine.cycle + k) s.machine.on ≡ true)
+      → seen_of cpu (record w { video = chip }) ≡ moved_by n s
   scan-moved h dma =
       ap (λ x. with_chip x chip) view
       ∙ ap (with_chip (taken_by n s)) ends

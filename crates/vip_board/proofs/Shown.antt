@@ -37,7 +37,8 @@ last-is : (rom : List ℕ) (run : List Machine) (o : Option ℕ) → option_map 
 last-is rom run None = refl
 last-is rom run (Some m) = ap Some (picture-is rom run m)
 
-to-drawn : (from : ℕ) (rom : List ℕ) (run : List Machine) (t : ℕ) (p : Pictures) → ShowsSince from rom run t p → Drawn (shown_since from rom run) (dma_bytes rom run) t p
+to-drawn : (from : ℕ) (rom : List ℕ) (run : List Machine) (t : ℕ) (p : Pictures) → ShowsSince from rom run t p
+    → Drawn (shown_since from rom run) (dma_bytes rom run) t p
 to-drawn from rom run t p s =
     record {
       present = s.shown;
@@ -54,7 +55,8 @@ frames-same shown shown' h (suc n) =
     ap (λ b. cond b (n ∷ shown_frames shown' n) (shown_frames shown' n)) (h n)
     ∙ ap (λ l. cond (shown n) (n ∷ l) l) (frames-same shown shown' h n)
 
-from-drawn : (from : ℕ) (rom : List ℕ) (run : List Machine) (shown : ℕ → Bool) (t : ℕ) (p : Pictures) → ((m : ℕ) → shown_since from rom run m ≡ shown m) → Drawn shown (dma_bytes rom run) t p → ShowsSince from rom run t p
+from-drawn : (from : ℕ) (rom : List ℕ) (run : List Machine) (shown : ℕ → Bool) (t : ℕ) (p : Pictures)
+    → ((m : ℕ) → shown_since from rom run m ≡ shown m) → Drawn shown (dma_bytes rom run) t p → ShowsSince from rom run t p
 from-drawn from rom run shown t p h d =
     let same = frames-same shown (shown_since from rom run) h (windows_ended t) in
     record {
@@ -143,7 +145,8 @@ module _ (from : ℕ) (rom : List ℕ) (run : List Machine) (b : Machine) where
   byte-here : bytes_after (b.cycle / line_cycles) ≡ dma_bytes rom run (b.cycle / line_cycles) ++ option_to_list (bus_byte_in (case_of b) rom b)
   byte-here =
       bytes-one (b.cycle / line_cycles)
-      ∙ ap (λ l. dma_bytes rom run (b.cycle / line_cycles) ++ l) (own (case_of b) (b.cycle / line_cycles == b.cycle / line_cycles) (eq-eqb (b.cycle / line_cycles) (b.cycle / line_cycles) refl))
+      ∙ ap (λ l. dma_bytes rom run (b.cycle / line_cycles) ++ l)
+      (own (case_of b) (b.cycle / line_cycles == b.cycle / line_cycles) (eq-eqb (b.cycle / line_cycles) (b.cycle / line_cycles) refl))
 
   byte-elsewhere : (line : ℕ) → line ≢ b.cycle / line_cycles → bytes_after line ≡ dma_bytes rom run line
   byte-elsewhere line n =
@@ -176,7 +179,8 @@ module _ (from : ℕ) (rom : List ℕ) (run : List Machine) (b : Machine) where
       }
 
   -- n cycles more after the first j
-  others : (n j u e v : ℕ) (p : Pictures) → u ≡ b.cycle + j → 1 ≤ j → e ≡ j + n → v ≡ u + n → Drawn (shown_after j) bytes_after u p → Drawn (shown_after e) bytes_after v (scanned_over n u b.on None p)
+  others : (n j u e v : ℕ) (p : Pictures) → u ≡ b.cycle + j → 1 ≤ j → e ≡ j + n → v ≡ u + n → Drawn (shown_after j) bytes_after u p
+      → Drawn (shown_after e) bytes_after v (scanned_over n u b.on None p)
   others zero j u e v p i h f g d =
       let J : ℕ → Type 0 = λ x. Drawn (shown_after x) bytes_after v p in
       let U : ℕ → Type 0 = λ x. Drawn (shown_after j) bytes_after x p in
@@ -196,12 +200,15 @@ module _ (from : ℕ) (rom : List ℕ) (run : List Machine) (b : Machine) where
   some_length Interrupt = omega arith
   some_length Idle = omega arith
 
-  whole : (n k : ℕ) (p : Pictures) → n ≡ suc k → ShowsSince from rom run b.cycle p → Drawn (shown_after n) bytes_after (b.cycle + n) (scanned_over n b.cycle b.on (bus_byte_in (case_of b) rom b) p)
+  whole : (n k : ℕ) (p : Pictures) → n ≡ suc k → ShowsSince from rom run b.cycle p
+      → Drawn (shown_after n) bytes_after (b.cycle + n) (scanned_over n b.cycle b.on (bus_byte_in (case_of b) rom b) p)
   whole n k p e s =
       let N : ℕ → Type 0 = λ x. Drawn (shown_after x) bytes_after (b.cycle + x) (scanned_over x b.cycle b.on (bus_byte_in (case_of b) rom b) p) in
       subst N (sym e)
-      (others k 1 (b.cycle + 1) (suc k) (b.cycle + suc k) (scanned b.cycle b.on (bus_byte_in (case_of b) rom b) p) refl (omega arith) (omega arith) (omega arith)
-      (after-cycle (shown_since from rom run) (dma_bytes rom run) b.cycle b.on (bus_byte_in (case_of b) rom b) (shown_after 1) bytes_after p (to-drawn from rom run b.cycle p s) first))
+      (others k 1 (b.cycle + 1) (suc k) (b.cycle + suc k) (scanned b.cycle b.on (bus_byte_in (case_of b) rom b) p) refl (omega arith) (omega arith)
+      (omega arith)
+      (after-cycle (shown_since from rom run) (dma_bytes rom run) b.cycle b.on (bus_byte_in (case_of b) rom b) (shown_after 1) bytes_after p
+      (to-drawn from rom run b.cycle p s) first))
 
   pub shows-move : (p : Pictures) → ShowsSince from rom run b.cycle p → ShowsSince from rom (run ++ b ∷ []) (b.cycle + length_of rom b) (pictures_after rom b p)
   unfolding pictures_after

@@ -178,7 +178,8 @@ one-made limit stops s v is in_time =
 -- ---- instructions whose cycles aren't counted yet
 
 module _ (most : ℕ) (stops : ℕ × ℕ) (entry v w : Seen) (n passed length : ℕ) (worked : Worked most stops entry v n passed) (here : 0 < n → Passes stops entry (later v passed))
-    (works : Works length v w) (quiet : (k : ℕ) → k < most → IsQuiet entry.machine.on entry.machine.on (entry.machine.cycle + k)) (few : passed + length ≤ most) (some : 0 < length) where
+    (works : Works length v w) (quiet : (k : ℕ) → k < most → IsQuiet entry.machine.on entry.machine.on (entry.machine.cycle + k))
+    (few : passed + length ≤ most) (some : 0 < length) where
   here_quiet : (k : ℕ) → k < length → IsQuiet v.machine.on v.machine.on (v.machine.cycle + passed + k)
   here_quiet k l =
       let at_cycle : entry.machine.cycle + (passed + k) ≡ v.machine.cycle + passed + k = omega (arith, worked.cycle) in
@@ -225,7 +226,8 @@ none-worked most stops entry =
     later-none s = let same : s.machine.cycle + 0 ≡ s.machine.cycle = omega arith in ap (λ t. record s { machine = record s.machine { cycle = t } }) same
 
 -- where the cycles are counted
-pub worked-counted : (most limit : ℕ) (stops : ℕ × ℕ) (entry v : Seen) (n passed : ℕ) → Worked most stops entry v n passed → (0 < most → entry.machine.cycle + most ≤ limit)
+pub worked-counted : (most limit : ℕ) (stops : ℕ × ℕ) (entry v : Seen) (n passed : ℕ) → Worked most stops entry v n passed
+    → (0 < most → entry.machine.cycle + most ≤ limit)
     → Made limit stops entry (later v passed) n
 worked-counted most limit stops entry v n passed worked within =
     record {

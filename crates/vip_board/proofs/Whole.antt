@@ -24,7 +24,8 @@ pub record Fetches (b : Machine) : Type 0 where
   pub no_int : (b.regs.ie && int_at b.cycle b.on) ≡ false
   pub awake : b.regs.idle ≡ false
 
-by_rest : (s : Regs) (c : Cycle) (a i : Bool) → (if a then quiet (interrupted s) Boundary Interrupt else if i then quiet s Boundary Idle else c).did ≡ Fetch → (a ≡ false) × (i ≡ false)
+by_rest : (s : Regs) (c : Cycle) (a i : Bool)
+    → (if a then quiet (interrupted s) Boundary Interrupt else if i then quiet s Boundary Idle else c).did ≡ Fetch → (a ≡ false) × (i ≡ false)
 by_rest s c true i h = cc
 by_rest s c false true h = cc
 by_rest s c false false h = (refl, refl)
@@ -115,7 +116,8 @@ make_two s n h d l short =
     let is_two = by_test (opcode_of s.rom s.machine / 16 == 12) (λ e. short (len ∙ e)) in
     ap (λ x. cycled (cycled x)) (rests s h) ∙ two s.rom s.script s.machine s.pictures f is_two ∙ moved-rests s h
 
-pub make_three : (s : Seen) (n : ℕ) → s.phase ≡ Boundary → (cycle_of s).did ≡ Fetch → n ≡ length_of s.rom s.machine → n ≡ 3 → cycled (cycled (cycled s)) ≡ moved s
+pub make_three : (s : Seen) (n : ℕ) → s.phase ≡ Boundary → (cycle_of s).did ≡ Fetch → n ≡ length_of s.rom s.machine → n ≡ 3
+    → cycled (cycled (cycled s)) ≡ moved s
 make_three s n h d l e =
     let f = fetches_of s h d in
     let is_three : cycles_of (opcode_of s.rom s.machine) ≡ 3 = sym (l ∙ length_of-fetch s.rom s.script s.machine s.pictures f) ∙ e in
@@ -135,7 +137,8 @@ is-fetched s h d e =
     let is = ap cycled (rests s h) ∙ cycled-fetch s.rom s.script s.machine s.pictures f in
     not_boundary (opcode_of s.rom s.machine) (cycles_of (opcode_of s.rom s.machine) - 1) (sym (ap (λ (x : Seen). x.phase) is) ∙ e)
 
-pub is-going : (s : Seen) (n : ℕ) → s.phase ≡ Boundary → (cycle_of s).did ≡ Fetch → n ≡ length_of s.rom s.machine → n ≡ 3 → (cycled (cycled s)).phase ≡ Boundary → ⊥
+pub is-going : (s : Seen) (n : ℕ) → s.phase ≡ Boundary → (cycle_of s).did ≡ Fetch → n ≡ length_of s.rom s.machine → n ≡ 3
+    → (cycled (cycled s)).phase ≡ Boundary → ⊥
 is-going s n h d l three e =
     let f = fetches_of s h d in
     let is_three : cycles_of (opcode_of s.rom s.machine) ≡ 3 = sym (l ∙ length_of-fetch s.rom s.script s.machine s.pictures f) ∙ three in

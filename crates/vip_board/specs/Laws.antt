@@ -24,18 +24,26 @@ same_or_put [] a v = inr refl
 same_or_put (x ∷ xs) zero v = inl refl
 same_or_put (x ∷ xs) (suc a) v = same_or_put xs a v
 
-puts : (ram rom : List ℕ) (latch : Bool) (a v : ℕ) → (read rom latch (written latch ram a v) a ≡ v) ⊎ (read rom latch (written latch ram a v) a ≡ read rom latch ram a)
+puts : (ram rom : List ℕ) (latch : Bool) (a v : ℕ)
+    → (read rom latch (written latch ram a v) a ≡ v) ⊎ (read rom latch (written latch ram a v) a ≡ read rom latch ram a)
 unfolding read written
 puts ram rom true a v = inr refl
 puts ram rom false a v =
-    elim (nat_lt a 4096) as (λ b. (cond b (slice_index (cond b (slice_set ram a v) ram) a) (cond (nat_le 32768 a && nat_lt a 34816) (slice_index rom (a - 32768)) 255) ≡ v) ⊎ (cond b (slice_index (cond b (slice_set ram a v) ram) a) (cond (nat_le 32768 a && nat_lt a 34816) (slice_index rom (a - 32768)) 255) ≡ cond b (slice_index ram a) (cond (nat_le 32768 a && nat_lt a 34816) (slice_index rom (a - 32768)) 255)))
+    elim (nat_lt a 4096) as (λ b. (cond b (slice_index (cond b (slice_set ram a v) ram) a)
+    (cond (nat_le 32768 a && nat_lt a 34816) (slice_index rom (a - 32768)) 255) ≡ v)
+    ⊎ (cond b (slice_index (cond b (slice_set ram a v) ram) a) (cond (nat_le 32768 a && nat_lt a 34816) (slice_index rom (a - 32768)) 255)
+    ≡ cond b (slice_index ram a) (cond (nat_le 32768 a && nat_lt a 34816) (slice_index rom (a - 32768)) 255)))
     [ true ↦ same_or_put ram a v | false ↦ inr refl ]
 
-pub write-keeps : (b : Wires) (a v : ℕ) (c : Wires) → c ≡ after_write a v b → (k : ℕ) → k ≢ a → read c.memory.rom c.memory.latch c.memory.ram k ≡ read b.memory.rom b.memory.latch b.memory.ram k
+pub write-keeps : (b : Wires) (a v : ℕ) (c : Wires) → c ≡ after_write a v b → (k : ℕ) → k ≢ a
+    → read c.memory.rom c.memory.latch c.memory.ram k ≡ read b.memory.rom b.memory.latch b.memory.ram k
 write-keeps b a v c e k h = ap (λ (w : Wires). read w.memory.rom w.memory.latch w.memory.ram k) e ∙ keeps b.memory.ram b.memory.rom b.memory.latch a v k h
 
-pub write-puts : (b : Wires) (a v : ℕ) (c : Wires) → c ≡ after_write a v b → (read c.memory.rom c.memory.latch c.memory.ram a ≡ v) ⊎ (read c.memory.rom c.memory.latch c.memory.ram a ≡ read b.memory.rom b.memory.latch b.memory.ram a)
+pub write-puts : (b : Wires) (a v : ℕ) (c : Wires) → c ≡ after_write a v b
+    → (read c.memory.rom c.memory.latch c.memory.ram a ≡ v)
+    ⊎ (read c.memory.rom c.memory.latch c.memory.ram a ≡ read b.memory.rom b.memory.latch b.memory.ram a)
 write-puts b a v c e = rw e (puts b.memory.ram b.memory.rom b.memory.latch a v)
 
-pub receive-keeps : (b : Wires) (p v : ℕ) (c : Wires) → (v ≡ 0) × (c ≡ after_port (Receive p) b) → (k : ℕ) → read c.memory.rom c.memory.latch c.memory.ram k ≡ read b.memory.rom b.memory.latch b.memory.ram k
+pub receive-keeps : (b : Wires) (p v : ℕ) (c : Wires) → (v ≡ 0) × (c ≡ after_port (Receive p) b) → (k : ℕ)
+    → read c.memory.rom c.memory.latch c.memory.ram k ≡ read b.memory.rom b.memory.latch b.memory.ram k
 receive-keeps b p v c e k = ap (λ (w : Wires). read w.memory.rom w.memory.latch w.memory.ram k) e.1

@@ -72,7 +72,8 @@ words_first-blank : (line : List ℕ) → 0 < position_or_len is_blank line → 
 unfolding words
 words_first-blank line some within =
     ap (filter is_word) (slice_split_first is_blank line 0 within)
-    ∙ filter-word (before_first is_blank line) (slice_split is_blank (after_first is_blank line)) (omega (arith, length-take-le (position_or_len is_blank line) line))
+    ∙ filter-word (before_first is_blank line) (slice_split is_blank (after_first is_blank line))
+    (omega (arith, length-take-le (position_or_len is_blank line) line))
 
 -- a line that is one word
 words_first-whole : (line : List ℕ) → 0 < length line → length line ≤ position_or_len is_blank line → words line ≡ line ∷ []
@@ -86,7 +87,8 @@ pub words_first : (line : List ℕ) (end : ℕ) → end ≡ position_or_len is_b
 unfolding words
 words_first line end at some within = elim (cases_lt end (length line)) [
   | inl blank ↦
-      rw at (words_first-blank line (omega arith) (omega arith) ∙ ap (λ more. take (position_or_len is_blank line) line ∷ more) (words-after_first line (omega arith)))
+      rw at (words_first-blank line (omega arith) (omega arith)
+      ∙ ap (λ more. take (position_or_len is_blank line) line ∷ more) (words-after_first line (omega arith)))
   | inr none ↦
       let whole : end ≡ length line = omega arith in
       rw (whole, take-length, drop-length) (words_first-whole line (omega arith) (omega arith))
@@ -102,7 +104,12 @@ unfolding words
 words_none line none = elim (cases_lt (prefix_len is_blank line) (length line)) [
   | inl within ↦
       let rest = rw (drop-cons line (prefix_len is_blank line) 0 within) at none in
-      absurd (omega (arith, rest, word-cons (get_or line (prefix_len is_blank line) 0) (drop (suc (prefix_len is_blank line)) line) (prefix_len_stops is_blank line 0 within)))
+      absurd (omega (
+        arith,
+        rest,
+        word-cons (get_or line (prefix_len is_blank line) 0) (drop
+            (suc (prefix_len is_blank line)) line) (prefix_len_stops is_blank line 0 within),
+      ))
   | inr all ↦ words_blanks line ∙ ap words (drop_of_length-le line all)
 ]
 

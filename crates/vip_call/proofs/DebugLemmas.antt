@@ -36,7 +36,8 @@ module _ (e : Edition) where
   stop_behind last b = AtStop (stop_at b) (pc_of (option_map (view_at e) last)) (opcode_of (option_map (view_at e) last))
 
   -- by events of which the stop b is the first stop point, and the last event
-  ending_stop : (last : Option Machine) (es : List Event) (b : Machine) → NoStop es → ending_behind last (es ++ Stopped b ∷ []) ≡ stop_behind (last_after last es) b
+  ending_stop : (last : Option Machine) (es : List Event) (b : Machine) → NoStop es
+      → ending_behind last (es ++ Stopped b ∷ []) ≡ stop_behind (last_after last es) b
   unfolding ending_after NoStop last_after
   ending_stop last [] b none = refl
   ending_stop last (Picture m ∷ es) b none = ending_stop last es b none
@@ -77,6 +78,7 @@ module _ (e : Edition) where
 
         by_test :
             (stop : Bool) → is_stop i (at_state n) ≡ stop
-            → ((if stop then stopped_by (stop_by v n) else AtLimit) ≡ AtLimit) ⊎ ((if stop then stopped_by (stop_by v n) else AtLimit) ≡ run_ending e game limit script)
+            → ((if stop then stopped_by (stop_by v n) else AtLimit) ≡ AtLimit)
+            ⊎ ((if stop then stopped_by (stop_by v n) else AtLimit) ≡ run_ending e game limit script)
         by_test true is = inr (stop_is n (commands_reach e game script limit commands) is)
         by_test false is = inl refl

@@ -258,7 +258,8 @@ module _ (e : Edition) (game : List ℕ) (script : List KeyEvent) (limit : ℕ) 
   unfolding lines_at view_at
   sought_found b a =
       let f = found b a in
-      ap (λ stop. if stop then stop_text (stop_by v (moves_until v b.cycle)) ∷ [] else trace_line false (view_at e (at_state (moves_until v b.cycle))) ∷ []) f.runs
+      ap (λ stop. if stop then stop_text (stop_by v (moves_until v b.cycle)) ∷ [] else trace_line false (view_at e (at_state (moves_until v b.cycle)))
+      ∷ []) f.runs
       ∙ ap (λ (c : Machine). trace_line false (view_at e c) ∷ []) f.there
 
   -- or to the end of the run
@@ -286,7 +287,8 @@ module _ (e : Edition) (game : List ℕ) (script : List KeyEvent) (limit : ℕ) 
   seeks :
       (Is : Point → Type 0) (p : Place) (j : ℕ) (to : Option Machine) → to ≡ slice_get (points_ahead v limit p) j
       → ((b : Machine) → to ≡ Some b → Is (point_of e b))
-      → Names e points (line e points false) Is (seeking_lines v (at_point v limit to)) ⊎ (seeking_lines v (at_point v limit to) ≡ end_line e points ending ∷ [])
+      → Names e points (line e points false) Is (seeking_lines v (at_point v limit to))
+      ⊎ (seeking_lines v (at_point v limit to) ≡ end_line e points ending ∷ [])
   seeks Is p j None at is = inr sought_end
   seeks Is p j (Some b) at is =
       let a = dropped b p.met j events (sym at) in

@@ -127,7 +127,8 @@ module _ (law : EveryRun) where
   }
 
   shows :
-      (from : FromFile) (old : FilesMeaning) (asked : Asked) (contents pieces : List (List ℕ)) (status : Status) (report : List ℕ) → HasAll old (needed asked) contents
+      (from : FromFile) (old : FilesMeaning) (asked : Asked) (contents pieces : List (List ℕ)) (status : Status) (report : List ℕ)
+      → HasAll old (needed asked) contents
       → Comes asked contents (Shown pieces status report) → ShowsChip8 asked contents status report
   unfolding OfRun OfDebug OfSaved OfResumed
   shows from old (trace a) [] pieces status report read comes = tt

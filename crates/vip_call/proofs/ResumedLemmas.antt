@@ -48,7 +48,8 @@ module _ (e : Edition) (script : List KeyEvent) (limit : ℕ) (run : List Machin
         last = h.last;
       }
 
-pub points_behind_are : (i : Interpreter) (script : List KeyEvent) (b : Machine) (limit : ℕ) → points_of (events_behind i script b limit) ≡ points_behind i script b limit
+pub points_behind_are : (i : Interpreter) (script : List KeyEvent) (b : Machine) (limit : ℕ)
+    → points_of (events_behind i script b limit) ≡ points_behind i script b limit
 unfolding points_behind
 points_behind_are i script b limit =
     points_of-events_at i (run_to i.rom (held_at script) b limit) b.cycle (run_to i.rom (held_at script) (move i.rom (held_at script) b) limit)

@@ -88,7 +88,8 @@ module _
   whole : (first : List (List ℕ)) → first ≡ trace_lines e with_time (events_in e game script a.cycles) → IsRest a game scripts with_time later first behind
   whole first are =
       let outcome : RunTo e scripts (trace_outcome later) (trace_outcome later script) = Runs script reads rom in
-      let lines : trace_lines e with_time (events_in e game script later) ++ [] ≡ first ++ trace_lines e with_time (points_behind (interpreter_of e) script (shown file) later) =
+      let lines : trace_lines e with_time (events_in e game script later) ++ [] ≡ first
+      ++ trace_lines e with_time (points_behind (interpreter_of e) script (shown file) later) =
       append-nil (trace_lines e with_time (events_in e game script later)) ∙ run.records with_time later more
       ∙ ap (λ first. first ++ trace_lines e with_time (points_behind (interpreter_of e) script (shown file) later)) (sym are) in
       subst (λ ending. RunTo e scripts (trace_outcome later)
@@ -100,7 +101,8 @@ module _
   abbrev asked : Asked
   asked = resumed a name with_time later
 
-  rest : (first : List (List ℕ)) (status : Status) (report : List ℕ) (o : Outcome) → Comes (traced a with_time a.cycles) (game ∷ scripts) (Shown first status report)
+  rest : (first : List (List ℕ)) (status : Status) (report : List ℕ) (o : Outcome)
+      → Comes (traced a with_time a.cycles) (game ∷ scripts) (Shown first status report)
       → Comes asked (file ∷ scripts) o → IsRest a game scripts with_time later first o
   rest first status report o comes x =
       by_run o (subst (λ d. RunTo d scripts (resumed_outcome (record { state = name; cycles = later; keys = a.keys; with_time = with_time }) d file) o)
@@ -114,7 +116,8 @@ module _
       by_run _ (FaultyScript l c y) = absurd (cc)
       by_run _ (FaultyRom t f y is differs) = absurd (rom_is_fine_or_not e f is rom differs)
       by_run _ (Runs t y rom') =
-          subst (λ t. IsRest a game scripts with_time later first (resumed_outcome (record { state = name; cycles = later; keys = a.keys; with_time = with_time }) e file t))
+          subst (λ t. IsRest a game scripts with_time later first
+          (resumed_outcome (record { state = name; cycles = later; keys = a.keys; with_time = with_time }) e file t))
           (sym (same_script scripts script t reads y)) (whole first are)
 
 -- ---- a command
@@ -128,7 +131,9 @@ module _ (law : SavedGoesOn) where
   saves a game scripts file others status report fits bytes comes low =
       let s : Shows a.edition scripts (λ script. saved a.edition a.cycles (events_in a.edition game script a.cycles)) (Shown (file ∷ others) status report) =
       shows_of a.edition scripts _ (file ∷ others) status report comes in
-      let is = one_piece (saved_file a.edition (events_in a.edition game s.script a.cycles)) file others (same_pieces _ (file ∷ others) _ status _ report s.is) in
+      let is =
+      one_piece (saved_file a.edition (events_in a.edition game s.script a.cycles)) file others
+      (same_pieces _ (file ∷ others) _ status _ report s.is) in
       let run : IsRestOfRun a.edition game s.script a.cycles file = law a.edition game fits bytes s.script a.cycles low file is.0 in (
         is.1,
         record {

@@ -147,7 +147,8 @@ module _ (d : Edition) (scripts : List (List ℕ)) (outcome : List KeyEvent → 
   runs_agree _ _ (Runs s a rom) (Runs t b rom') = let same : s ≡ t = cc in subst (λ t. Agree (outcome s) (outcome t)) same (agree_self (outcome s))
 
 -- a file has one edition
-resumes_agree : (a : AskedResume) (file : List ℕ) (scripts : List (List ℕ)) (o p : Outcome) → ResumeComes a file scripts o → ResumeComes a file scripts p → Agree o p
+resumes_agree : (a : AskedResume) (file : List ℕ) (scripts : List (List ℕ)) (o p : Outcome) → ResumeComes a file scripts o
+    → ResumeComes a file scripts p → Agree o p
 resumes_agree a file scripts o p x y =
     runs_agree x.edition scripts _ o p x.comes
     (subst (λ e. RunTo e scripts (resumed_outcome e) p) (one_edition y.edition x.edition file y.accepted x.accepted) y.comes)
@@ -198,7 +199,8 @@ module _ (memory : Memory) (bytes : List ℕ) (limit : ℕ) (scripts : List (Lis
   debugged_agree (Err debug_fault.NoMemory) o p x y = absurd x
 
   -- none of them is given up
-  no_program : (pieces : Seen → List (List ℕ)) (ended : Seen → ProgramEnd) (report : List ℕ) → ProgramComes memory bytes limit scripts pieces ended (GivenUp report) → ⊥
+  no_program : (pieces : Seen → List (List ℕ)) (ended : Seen → ProgramEnd) (report : List ℕ)
+      → ProgramComes memory bytes limit scripts pieces ended (GivenUp report) → ⊥
   no_program pieces ended report x = go (GivenUp report) refl x
     where
       go : (o : Outcome) → o ≡ GivenUp report → ProgramComes memory bytes limit scripts pieces ended o → ⊥
@@ -569,7 +571,8 @@ module _ (call : Call) (asked : Asked) (files : FileMap) (offers : Offers call a
       due_refused status report o (agree asked cs (Refused status report) o (subst (λ c. Comes asked c (Refused status report)) read given) comes)
   due_whole _ _ (Showing contents pieces status report given out err) cs o e comes =
       let read : contents ≡ cs = cc in
-      due_shown pieces status report o out err (agree asked cs (Shown pieces status report) o (subst (λ c. Comes asked c (Shown pieces status report)) read given) comes)
+      due_shown pieces status report o out err
+      (agree asked cs (Shown pieces status report) o (subst (λ c. Comes asked c (Shown pieces status report)) read given) comes)
 
   module _ (r : Reading) (read : Reads files (needed asked) r) (due : Status) (given : Due call asked r due) where
     -- all contents were read, and no others
@@ -609,7 +612,8 @@ module _ (call : Call) (asked : Asked) (files : FileMap) (offers : Offers call a
 
   larger_here : (status : Status) (says : Oversize status call) → Reads files (needed asked) (Larger says.at.this.kind)
   larger_here status says =
-      refused_at _ (Larger says.at.this.kind) (λ content. refl) says.asked says.words says.at (larger call.files files offers.told says.at.this says.at.after says.at.here.0)
+      refused_at _ (Larger says.at.this.kind) (λ content. refl) says.asked says.words says.at
+      (larger call.files files offers.told says.at.this says.at.after says.at.here.0)
 
   faulted_here : FaultyState call → Reads files (needed asked) Faulted
   faulted_here says =
@@ -796,7 +800,8 @@ module _ (words : List (List ℕ)) (files files' : FilesMeaning) (out err err' :
     at = there_too files files' (needed given.asked) _ _ given.here (given.here.here.0, given.here.here.1, record { out = refl; err = report });
   })
   refused_with (refusal.Rom (image.BadRomSource line cause)) given report = rejected (refusal.Rom (image.BadRomSource line cause)) given report
-  refused_with (refusal.Rom (image.RomDiffers address assembled here)) given report = rejected (refusal.Rom (image.RomDiffers address assembled here)) given report
+  refused_with (refusal.Rom (image.RomDiffers address assembled here)) given report =
+      rejected (refusal.Rom (image.RomDiffers address assembled here)) given report
   refused_with (refusal.Rom image.NoMemory) given report = record {
     files = inr (record { asked = given.asked; words_are = given.words_are; here = some_all files files' (needed given.asked) given.here.names });
     refused = record { out = refl; err = report };

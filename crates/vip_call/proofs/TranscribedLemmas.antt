@@ -62,7 +62,8 @@ module _ (law : EveryRun) (from : FromAccepted) where
   OfRun : Edition → List ℕ → List (List ℕ) → ℕ → (List (List ℕ) → List Point → Ending → ℕ → Type 0) → (Ending → Ending → Type 0) → Outcome → Type 0
   OfRun e game scripts limit Written Reported (Refused status report) = Unit {0}
   OfRun e game scripts limit Written Reported (GivenUp report) = Unit {0}
-  OfRun e game scripts limit Written Reported (Shown pieces status report) = Transcribed (OfGame e game limit) scripts limit (Written pieces) Reported status report
+  OfRun e game scripts limit Written Reported (Shown pieces status report) =
+      Transcribed (OfGame e game limit) scripts limit (Written pieces) Reported status report
 
   module _
       (e : Edition) (game : List ℕ) (fits : length game ≤ memory_size e) (bytes : (i : ℕ) → slice_index game i < 256) (limit : ℕ)
@@ -193,7 +194,8 @@ module _ (law : EveryRun) (from : FromAccepted) where
   transcribes old (debug a) [] pieces status report read comes = tt
   transcribes old (debug a) (game ∷ []) pieces status report read comes = tt
   transcribes old (debug a) (game ∷ text ∷ scripts) pieces status report read comes =
-      debug_transcribed a.run.edition game read.0.fits read.0.bytes a.run.cycles scripts (commands_of Chip8 a.run.cycles text) (Shown pieces status report) comes
+      debug_transcribed a.run.edition game read.0.fits read.0.bytes a.run.cycles scripts (commands_of Chip8 a.run.cycles text)
+      (Shown pieces status report) comes
   transcribes old (demo a) [] pieces status report read comes =
       let game = demo_game a.number in
       let fits : length game ≤ memory_size Usual = omega (arith, length-game a.number) in
@@ -204,7 +206,8 @@ module _ (law : EveryRun) (from : FromAccepted) where
   transcribes old (demo a) (c ∷ cs) pieces status report read comes = absurd comes
   transcribes old (save a) contents pieces status report read comes = tt
   transcribes old (resume a) [] pieces status report read comes = tt
-  transcribes old (resume a) (file ∷ scripts) pieces status report read comes = resumed_transcribed a file scripts read.0.bytes (Shown pieces status report) comes
+  transcribes old (resume a) (file ∷ scripts) pieces status report read comes =
+      resumed_transcribed a file scripts read.0.bytes (Shown pieces status report) comes
   transcribes old (link a) contents pieces status report read comes = tt
   transcribes old (trace_program a) contents pieces status report read comes = tt
   transcribes old (play_program a) contents pieces status report read comes = tt

@@ -9,7 +9,8 @@ use Rattle.vip_verbs.specs.Outcome.{Comes}
 
 -- The trace of the run of which a state is saved, up to some limit; and what goes on from the file, of this name, under the same script.
 abbrev pub traced : AskedRun → Bool → ℕ → Asked
-traced a with_time limit = trace (record { run = record { game = a.game; cycles = limit; keys = a.keys; edition = a.edition }; with_time = with_time; with_screen = false })
+traced a with_time limit =
+    trace (record { run = record { game = a.game; cycles = limit; keys = a.keys; edition = a.edition }; with_time = with_time; with_screen = false })
 
 abbrev pub resumed : AskedRun → List ℕ → Bool → ℕ → Asked
 resumed a name with_time limit = resume (record { state = name; cycles = limit; keys = a.keys; with_time = with_time })

@@ -63,7 +63,8 @@ pub record Unread (call : Call) : Type 0 where
 pub record Oversize (status : Status) (call : Call) : Type 0 where
   pub asked : Asked
   pub words : asked_by call.words ≡ Some asked
-  pub at : ComesTo call.files call.files' (needed asked) (λ n. IsLarger call.files n × (status ≡ too_large_status n.kind) × Refuses (too_large_report n.kind) call)
+  pub at : ComesTo call.files call.files' (needed asked)
+      (λ n. IsLarger call.files n × (status ≡ too_large_status n.kind) × Refuses (too_large_report n.kind) call)
 
 -- A saved state has a fault, its first one, which the report names. Those before it were read, each once, and none behind it; no read was a fault.
 pub record FaultyState (call : Call) : Type 0 where
@@ -222,8 +223,11 @@ pub data Due (call : Call) (asked : Asked) : Reading → Status → Type 0 where
   Lacking : Due call asked Lacks ReadFault
   TooLarge : (kind : Kind) → Due call asked (Larger kind) (too_large_status kind)
   Faulting : Due call asked Faulted BadState
-  Refusing : (contents : List (List ℕ)) (status : Status) (report : List ℕ) → Comes asked contents (Refused status report) → Due call asked (Whole contents) status
-  Showing : (contents : List (List ℕ)) (pieces : List (List ℕ)) (status : Status) (report : List ℕ) → Comes asked contents (Shown pieces status report) → IsQuiet call.out.faults call.out'.faults → IsQuiet call.err.faults call.err'.faults → Due call asked (Whole contents) status
+  Refusing : (contents : List (List ℕ)) (status : Status) (report : List ℕ) → Comes asked contents (Refused status report)
+      → Due call asked (Whole contents) status
+  Showing : (contents : List (List ℕ)) (pieces : List (List ℕ)) (status : Status) (report : List ℕ)
+      → Comes asked contents (Shown pieces status report) → IsQuiet call.out.faults call.out'.faults → IsQuiet call.err.faults call.err'.faults
+      → Due call asked (Whole contents) status
 
 -- words that are refused give Usage, or want of memory
 abbrev pub RefusesWords : Status → Call → Type 0

@@ -4,7 +4,8 @@ use Rattle.machine.specs.Bank.{word_of, Bank, get, put, bank_of, zeros}
 use Rattle.machine.specs.Ranges.{FitsWord, FitsBank}
 
 -- what holds of 0 to 14, and of all numbers from 15 on, holds of each number
-by_register : (P : ℕ → Type 0) → P 0 → P 1 → P 2 → P 3 → P 4 → P 5 → P 6 → P 7 → P 8 → P 9 → P 10 → P 11 → P 12 → P 13 → P 14 → ((n : ℕ) → P (suc (suc (suc (suc (suc (suc (suc (suc (suc (suc (suc (suc (suc (suc (suc n)))))))))))))))) → (n : ℕ) → P n
+by_register : (P : ℕ → Type 0) → P 0 → P 1 → P 2 → P 3 → P 4 → P 5 → P 6 → P 7 → P 8 → P 9 → P 10 → P 11 → P 12 → P 13 → P 14
+    → ((n : ℕ) → P (suc (suc (suc (suc (suc (suc (suc (suc (suc (suc (suc (suc (suc (suc (suc n)))))))))))))))) → (n : ℕ) → P n
 by_register P p0 p1 p2 p3 p4 p5 p6 p7 p8 p9 pa pb pc pd pe pf zero = p0
 by_register P p0 p1 p2 p3 p4 p5 p6 p7 p8 p9 pa pb pc pd pe pf (suc zero) = p1
 by_register P p0 p1 p2 p3 p4 p5 p6 p7 p8 p9 pa pb pc pd pe pf (suc (suc zero)) = p2
@@ -23,20 +24,27 @@ by_register P p0 p1 p2 p3 p4 p5 p6 p7 p8 p9 pa pb pc pd pe pf (suc (suc (suc (su
 by_register P p0 p1 p2 p3 p4 p5 p6 p7 p8 p9 pa pb pc pd pe pf (suc (suc (suc (suc (suc (suc (suc (suc (suc (suc (suc (suc (suc (suc (suc n))))))))))))))) = pf n
 
 -- at R(F) alone, from what holds of 15
-at_last : (P : ℕ → Type 0) → P 15 → (n : ℕ) → suc (suc (suc (suc (suc (suc (suc (suc (suc (suc (suc (suc (suc (suc (suc n)))))))))))))) < 16 → P (suc (suc (suc (suc (suc (suc (suc (suc (suc (suc (suc (suc (suc (suc (suc n)))))))))))))))
+at_last : (P : ℕ → Type 0) → P 15 → (n : ℕ) → suc (suc (suc (suc (suc (suc (suc (suc (suc (suc (suc (suc (suc (suc (suc n)))))))))))))) < 16
+    → P (suc (suc (suc (suc (suc (suc (suc (suc (suc (suc (suc (suc (suc (suc (suc n)))))))))))))))
 at_last P p zero h = p
 at_last P p (suc n) h = absurd (omega arith)
 
 pub get_bank_of : (l : List ℕ) (n : ℕ) → n < 16 → get (bank_of l) n ≡ word_of (slice_index l n)
 unfolding bank_of
-get_bank_of l = by_register (λ n. n < 16 → get (bank_of l) n ≡ word_of (slice_index l n)) (λ _. refl) (λ _. refl) (λ _. refl) (λ _. refl) (λ _. refl) (λ _. refl) (λ _. refl) (λ _. refl) (λ _. refl) (λ _. refl) (λ _. refl) (λ _. refl) (λ _. refl) (λ _. refl) (λ _. refl) (at_last (λ n. get (bank_of l) n ≡ word_of (slice_index l n)) refl)
+get_bank_of l =
+    by_register (λ n. n < 16 → get (bank_of l) n ≡ word_of (slice_index l n)) (λ _. refl) (λ _. refl) (λ _. refl) (λ _. refl) (λ _. refl) (λ _. refl)
+    (λ _. refl) (λ _. refl) (λ _. refl) (λ _. refl) (λ _. refl) (λ _. refl) (λ _. refl) (λ _. refl) (λ _. refl)
+    (at_last (λ n. get (bank_of l) n ≡ word_of (slice_index l n)) refl)
 
 pub put_bank_of : (l : List ℕ) (n v : ℕ) → length l ≡ 16 → n < 16 → bank_of (slice_set l n v) ≡ put (bank_of l) n (word_of v)
 unfolding bank_of
 put_bank_of (x0 ∷ x1 ∷ x2 ∷ x3 ∷ x4 ∷ x5 ∷ x6 ∷ x7 ∷ x8 ∷ x9 ∷ xa ∷ xb ∷ xc ∷ xd ∷ xe ∷ xf ∷ []) n v e h =
-    by_register (λ n. n < 16 → bank_of (slice_set (x0 ∷ x1 ∷ x2 ∷ x3 ∷ x4 ∷ x5 ∷ x6 ∷ x7 ∷ x8 ∷ x9 ∷ xa ∷ xb ∷ xc ∷ xd ∷ xe ∷ xf ∷ []) n v) ≡ put (bank_of (x0 ∷ x1 ∷ x2 ∷ x3 ∷ x4 ∷ x5 ∷ x6 ∷ x7 ∷ x8 ∷ x9 ∷ xa ∷ xb ∷ xc ∷ xd ∷ xe ∷ xf ∷ [])) n (word_of v))
-    (λ _. refl) (λ _. refl) (λ _. refl) (λ _. refl) (λ _. refl) (λ _. refl) (λ _. refl) (λ _. refl) (λ _. refl) (λ _. refl) (λ _. refl) (λ _. refl) (λ _. refl) (λ _. refl) (λ _. refl)
-    (at_last (λ n. bank_of (slice_set (x0 ∷ x1 ∷ x2 ∷ x3 ∷ x4 ∷ x5 ∷ x6 ∷ x7 ∷ x8 ∷ x9 ∷ xa ∷ xb ∷ xc ∷ xd ∷ xe ∷ xf ∷ []) n v) ≡ put (bank_of (x0 ∷ x1 ∷ x2 ∷ x3 ∷ x4 ∷ x5 ∷ x6 ∷ x7 ∷ x8 ∷ x9 ∷ xa ∷ xb ∷ xc ∷ xd ∷ xe ∷ xf ∷ [])) n (word_of v)) refl) n h
+    by_register (λ n. n < 16 → bank_of (slice_set (x0 ∷ x1 ∷ x2 ∷ x3 ∷ x4 ∷ x5 ∷ x6 ∷ x7 ∷ x8 ∷ x9 ∷ xa ∷ xb ∷ xc ∷ xd ∷ xe ∷ xf ∷ []) n v)
+    ≡ put (bank_of (x0 ∷ x1 ∷ x2 ∷ x3 ∷ x4 ∷ x5 ∷ x6 ∷ x7 ∷ x8 ∷ x9 ∷ xa ∷ xb ∷ xc ∷ xd ∷ xe ∷ xf ∷ [])) n (word_of v))
+    (λ _. refl) (λ _. refl) (λ _. refl) (λ _. refl) (λ _. refl) (λ _. refl) (λ _. refl) (λ _. refl) (λ _. refl) (λ _. refl) (λ _. refl) (λ _. refl)
+    (λ _. refl) (λ _. refl) (λ _. refl)
+    (at_last (λ n. bank_of (slice_set (x0 ∷ x1 ∷ x2 ∷ x3 ∷ x4 ∷ x5 ∷ x6 ∷ x7 ∷ x8 ∷ x9 ∷ xa ∷ xb ∷ xc ∷ xd ∷ xe ∷ xf ∷ []) n v)
+    ≡ put (bank_of (x0 ∷ x1 ∷ x2 ∷ x3 ∷ x4 ∷ x5 ∷ x6 ∷ x7 ∷ x8 ∷ x9 ∷ xa ∷ xb ∷ xc ∷ xd ∷ xe ∷ xf ∷ [])) n (word_of v)) refl) n h
 put_bank_of _ n v e h = absurd (omega arith)
 
 pub bank_of_zeros : bank_of (replicate 16 0) ≡ zeros

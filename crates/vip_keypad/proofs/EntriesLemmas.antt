@@ -39,8 +39,11 @@ held_after-push events event k =
 last_cycle-entries : (entries : List Entry) (cycle : ℕ) → last_cycle (map event_of_entry entries) ≤ cycle
     → (d : Entry) → 0 < length entries → (get_or entries (length entries - 1) d).cycle ≤ cycle
 last_cycle-entries entries cycle above d some =
-    let last : slice_get (map event_of_entry entries) (length (map event_of_entry entries) - 1) ≡ Some (event_of_entry (get_or entries (length entries - 1) d)) =
-    rw (length-map entries event_of_entry) (slice_get-get_or (map event_of_entry entries) (length entries - 1) (event_of_entry d) (omega (arith, length-map entries event_of_entry)) ∙ ap Some (get_or-map event_of_entry entries (length entries - 1) d (event_of_entry d) (omega arith))) in
+    let last : slice_get (map event_of_entry entries) (length (map event_of_entry entries) - 1)
+    ≡ Some (event_of_entry (get_or entries (length entries - 1) d)) =
+    rw (length-map entries event_of_entry)
+    (slice_get-get_or (map event_of_entry entries) (length entries - 1) (event_of_entry d) (omega (arith, length-map entries event_of_entry))
+    ∙ ap Some (get_or-map event_of_entry entries (length entries - 1) d (event_of_entry d) (omega arith))) in
     rw last at above
 
 -- an entry more, with the keys that are down after it
@@ -68,11 +71,15 @@ events_before-entries : (entries : List Entry) (t key n : ℕ) → n ≤ length 
 events_before-entries [] t key zero within past future = refl
 events_before-entries [] t key (suc n) within past future = refl
 events_before-entries (entry ∷ entries) t key zero within past future =
-    let rest = events_before-entries entries t key zero (omega arith) (λ k d low high. absurd (omega arith)) (λ k d low high. future (suc k) d (omega arith) (omega arith)) in
+    let rest =
+    events_before-entries entries t key zero (omega arith) (λ k d low high. absurd (omega arith))
+    (λ k d low high. future (suc k) d (omega arith) (omega arith)) in
     rw (future 0 entry (omega arith) (omega arith))
     (elim (cases_Bool (eqb entry.key key)) [ inl same ↦ rw same rest | inr other ↦ rw other rest ])
 events_before-entries (entry ∷ entries) t key (suc n) within past future =
-    let rest = events_before-entries entries t key n (omega arith) (λ k d low high. past (suc k) d (omega arith) (omega arith)) (λ k d low high. future (suc k) d (omega arith) (omega arith)) in
+    let rest =
+    events_before-entries entries t key n (omega arith) (λ k d low high. past (suc k) d (omega arith) (omega arith))
+    (λ k d low high. future (suc k) d (omega arith) (omega arith)) in
     rw (past 0 entry (omega arith) (omega arith))
     (elim (cases_Bool (eqb entry.key key)) [ inl same ↦ rw same (ap (λ events. event_of_entry entry ∷ events) rest) | inr other ↦ rw other rest ])
 

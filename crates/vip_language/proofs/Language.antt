@@ -59,7 +59,8 @@ stop_numbered-stop_number StackEmpty = refl
 
 -- with the number of the stop
 module _ (x : Program) (script : List KeyEvent) (limit : ℕ) (run : List Machine) where
-  goes_on_numbered : (k : ℕ) (b : Machine) (events : List Event) → GoesOn x script limit run nothing_else k b events → GoesOn x script limit run numbered k b events
+  goes_on_numbered : (k : ℕ) (b : Machine) (events : List Event) → GoesOn x script limit run nothing_else k b events
+      → GoesOn x script limit run numbered k b events
   goes_on_numbered k b [] h = record { soon = h.soon; shown = h.shown; also_is = tt }
   goes_on_numbered k b (Picture m ∷ events) h = (h.0, h.1, goes_on_numbered (k + 1) b events h.2)
   goes_on_numbered k b (Dispatch c ∷ events) h = (h.0, h.1, goes_on_numbered k c events h.2)
@@ -76,7 +77,8 @@ pub every_run : EveryRunOfRom → EveryRun
 every_run law e game fits bytes script limit =
     subst (λ (x : Program). Begins x script limit (game_run x.interpreter game script limit) numbered game (events_of x.interpreter game script limit))
     (is_program e)
-    (begins_numbered (vip e) script limit (game_run (vip e).interpreter game script limit) game (events_of (vip e).interpreter game script limit) (law e game fits bytes script limit))
+    (begins_numbered (vip e) script limit (game_run (vip e).interpreter game script limit) game (events_of (vip e).interpreter game script limit)
+    (law e game fits bytes script limit))
 
 -- the run from a machine state on, of any such interpreter
 record RunsBehind (x : Program) (b : Machine) (script : List KeyEvent) (limit : ℕ) : Type 0 where
@@ -106,7 +108,8 @@ module _ (x : Program) (v : VipState) (limit : ℕ) where
   Behind (Some b) k events = GoesOn x v.board.script limit (run_of v limit) numbered k b events
 
   -- behind some of them, of which none is a stop point
-  split : (last : Option Machine) (k : ℕ) (xs ys : List Event) → NoStop xs → Behind last k (xs ++ ys) → Behind (last_after last xs) (k + length (frames_of xs)) ys
+  split : (last : Option Machine) (k : ℕ) (xs ys : List Event) → NoStop xs → Behind last k (xs ++ ys)
+      → Behind (last_after last xs) (k + length (frames_of xs)) ys
   unfolding Behind NoStop last_after
   split last k [] ys none h = subst (λ n. Behind last n ys) same h
     where
@@ -180,7 +183,15 @@ module _ (law : EveryState) (v : VipState) (f : Follows v) where
       go (inr d) = no_stop k (omega (arith, l, d))
 
   booting : (game : List ℕ) (c : Machine) → start v.game ≡ start game → Booting v.edition v.board.script game c → Booting v.edition v.board.script v.game c
-  booting game c same o = record { room = f.fits; bytes = f.bytes; k = o.k; inside = o.inside; is = o.is ∙ ap (λ b. after_moves (image v.edition) (held_at v.board.script) b o.k) (sym same) }
+  booting game c same o =
+      record {
+        room = f.fits;
+        bytes = f.bytes;
+        k = o.k;
+        inside = o.inside;
+        is = o.is
+            ∙ ap (λ b. after_moves (image v.edition) (held_at v.board.script) b o.k) (sym same);
+      }
 
   known : is_stop (interpreter v) v.board.machine ≡ false → Known v.edition v.board.script (start v.game) v.moves → IsKnown v
   known runs (InBoot game same few o) = Boots runs (subst (Booting v.edition v.board.script v.game) there (booting game (rom_machine (vip v.edition)) same o))
@@ -192,7 +203,9 @@ module _ (law : EveryState) (v : VipState) (f : Follows v) where
   -- the stop
   halted : EveryRun → is_stop (interpreter v) v.board.machine ≡ true → HasHalted v
   unfolding Behind
-  halted run stop = by_last (last_after None (met_before v f)) refl (split (program v.edition) v v.board.machine.cycle None 0 (met_before v f) (Stopped (here v f) ∷ []) (none_before v f) begins)
+  halted run stop =
+      by_last (last_after None (met_before v f)) refl
+      (split (program v.edition) v v.board.machine.cycle None 0 (met_before v f) (Stopped (here v f) ∷ []) (none_before v f) begins)
     where
       all : events_to v v.board.machine.cycle ≡ met_before v f ++ Stopped (here v f) ∷ []
       all =
@@ -200,9 +213,14 @@ module _ (law : EveryState) (v : VipState) (f : Follows v) where
           ∙ ap (λ es. met_before v f ++ es) (stop_point (interpreter v) v.game v.board.script v.moves (ap (is_stop (interpreter v)) (sym f.machine) ∙ stop))
 
       begins : Behind (program v.edition) v v.board.machine.cycle None 0 (met_before v f ++ Stopped (here v f) ∷ [])
-      begins = (refl, subst (Begins (program v.edition) v.board.script v.board.machine.cycle (run_of v v.board.machine.cycle) numbered v.game) all (run v.edition v.game f.fits f.bytes v.board.script v.board.machine.cycle))
+      begins = (
+        refl,
+        subst (Begins (program v.edition) v.board.script v.board.machine.cycle
+            (run_of v v.board.machine.cycle) numbered v.game) all (run v.edition v.game f.fits f.bytes v.board.script v.board.machine.cycle),
+      )
 
-      by_last : (last : Option Machine) → last_after None (met_before v f) ≡ last → Behind (program v.edition) v v.board.machine.cycle last (0 + length (frames_of (met_before v f))) (Stopped (here v f) ∷ []) → HasHalted v
+      by_last : (last : Option Machine) → last_after None (met_before v f) ≡ last
+          → Behind (program v.edition) v v.board.machine.cycle last (0 + length (frames_of (met_before v f))) (Stopped (here v f) ∷ []) → HasHalted v
       by_last None is h = absurd h.1
       by_last (Some b) is h =
           record {
@@ -210,7 +228,9 @@ module _ (law : EveryState) (v : VipState) (f : Follows v) where
             b = b;
             told =
                 last-at-stop v f stop
-                ∙ ap (option_map (view_at v.edition)) (sym (last_of_events (events_to v v.board.machine.cycle)) ∙ ap (last_after None) all ∙ last_after_stop None (met_before v f) (here v f) ∙ is);
+                ∙ ap (option_map (view_at v.edition))
+                (sym (last_of_events (events_to v v.board.machine.cycle)) ∙ ap (last_after None) all
+                ∙ last_after_stop None (met_before v f) (here v f) ∙ is);
             stop = subst (IsStop (program v.edition) b) (sym f.machine) h.stop;
           }
 
@@ -244,7 +264,8 @@ module _ (limit : ℕ) (old new : VipState) where
   answer last [] met.Dispatch told m h = absurd m
   answer last [] (met.Stopped stop) told m h = absurd m
   answer None (Picture k ∷ es) a told m h = absurd h
-  answer (Some b) (Picture k ∷ es) met.Picture told m h = record { picture = picture_of (interpreter old).rom (run_of old limit) k; finished = m.picture; shows = h.1 }
+  answer (Some b) (Picture k ∷ es) met.Picture told m h =
+      record { picture = picture_of (interpreter old).rom (run_of old limit) k; finished = m.picture; shows = h.1 }
   answer (Some b) (Picture k ∷ es) met.Dispatch told m h = absurd m
   answer (Some b) (Picture k ∷ es) (met.Stopped stop) told m h = absurd m
   answer (Some b) (Picture k ∷ es) met.End told m h = absurd m

@@ -90,13 +90,15 @@ unfolding NoStop
 no_stop_pictures [] = tt
 no_stop_pictures (m ∷ ms) = no_stop_pictures ms
 
-no_stop_point : (stop dispatch : Bool) (b : Machine) → stop ≡ false → NoStop (point_events (if stop then StopPoint else if dispatch then DispatchPoint else OtherPoint) b)
+no_stop_point : (stop dispatch : Bool) (b : Machine) → stop ≡ false
+    → NoStop (point_events (if stop then StopPoint else if dispatch then DispatchPoint else OtherPoint) b)
 unfolding NoStop
 no_stop_point true dispatch b runs = cc
 no_stop_point false true b runs = tt
 no_stop_point false false b runs = tt
 
-one_stop : (stop dispatch : Bool) (b : Machine) → stop ≡ true → point_events (if stop then StopPoint else if dispatch then DispatchPoint else OtherPoint) b ≡ Stopped b ∷ []
+one_stop : (stop dispatch : Bool) (b : Machine) → stop ≡ true
+    → point_events (if stop then StopPoint else if dispatch then DispatchPoint else OtherPoint) b ≡ Stopped b ∷ []
 one_stop true dispatch b stops = refl
 one_stop false dispatch b stops = cc
 
@@ -172,9 +174,14 @@ module _ (v : VipState) (f : Follows v) where
       met_all stop more = goes_on (record { stop = stop; met = drop_all v.met (events_to v v.board.machine.cycle) (omega (arith, more, all)) })
         where
           all : length (events_to v v.board.machine.cycle) ≡ length met_before + 1
-          all = ap length (to_here ∙ ap (λ es. met_before ++ es) (stop_point i v.game v.board.script v.moves (is_here true stop))) ∙ length-append met_before (Stopped here ∷ [])
+          all =
+              ap length (to_here ∙ ap (λ es. met_before ++ es) (stop_point i v.game v.board.script v.moves (is_here true stop)))
+              ∙ length-append met_before (Stopped here ∷ [])
 
-      go : (is_stop i v.board.machine ≡ true) ⊎ (is_stop i v.board.machine ≡ false) → (length met_before < v.met) ⊎ (v.met ≤ length met_before) → NoStop (take v.met (met_before ++ last))
+      go : (is_stop i v.board.machine ≡ true) ⊎ (is_stop i v.board.machine ≡ false) → (length met_before < v.met) ⊎ (v.met ≤ length met_before)
+          → NoStop (take v.met (met_before ++ last))
       go (inl stop) (inl more) = absurd (met_all stop more)
       go (inl stop) (inr few) = subst NoStop (sym (take-append-le v.met met_before last few)) (no_stop_take v.met met_before none_before)
-      go (inr runs) d = no_stop_take v.met (met_before ++ last) (no_stop_append met_before last none_before (other_point i v.game v.board.script v.moves (is_here false runs)))
+      go (inr runs) d =
+          no_stop_take v.met (met_before ++ last)
+          (no_stop_append met_before last none_before (other_point i v.game v.board.script v.moves (is_here false runs)))

@@ -24,7 +24,8 @@ bytes_eq-names name other = sym (is_eq-slice_cmp name other) ∙ (eq_by_cmp_equi
 
 module _ {Y Z : Type 0} where
   find-entries : (name : List ℕ) (entries : List (String Y × Vec ℕ Z))
-      → find (slice_cmp nat_cmp) name (map (λ entry. (string_bytes entry.0, entry.1.items)) entries) ≡ option_map (λ file. file.items) (lookup (is_at (λ key. slice_cmp nat_cmp name (string_bytes key))) entries)
+      → find (slice_cmp nat_cmp) name (map (λ entry. (string_bytes entry.0, entry.1.items)) entries)
+      ≡ option_map (λ file. file.items) (lookup (is_at (λ key. slice_cmp nat_cmp name (string_bytes key))) entries)
   find-entries name [] = refl
   find-entries name (entry ∷ entries) = pick (eq_by_cmp (slice_cmp nat_cmp) name (string_bytes entry.0)) entry.1 _ _ (find-entries name entries)
 

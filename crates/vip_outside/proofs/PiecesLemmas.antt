@@ -71,9 +71,13 @@ FailsWithin-append first second old middle new before fault = record {
   after = fault.after;
   place = rw (append_assoc, fault.place) refl;
   kept = fault.kept;
-  held = rw (joined-append, append_assoc) (GrewBy-append (joined first) (joined fault.before ++ take fault.kept fault.piece) old middle new before.gains.held fault.held);
+  held =
+      rw (joined-append, append_assoc)
+      (GrewBy-append (joined first) (joined fault.before ++ take fault.kept fault.piece) old middle new before.gains.held fault.held);
   faults = Rose-after_same old.faults middle.faults new.faults before.gains.faults fault.faults;
-  calls = let count : length (first ++ fault.before) + 1 ≡ length first + (length fault.before + 1) = omega (arith, length-append first fault.before) in rw count (calls_rose_at_most (length first) (length fault.before + 1) old.calls middle.calls new.calls before.calls fault.calls);
+  calls =
+      let count : length (first ++ fault.before) + 1 ≡ length first + (length fault.before + 1) = omega (arith, length-append first fault.before) in
+      rw count (calls_rose_at_most (length first) (length fault.before + 1) old.calls middle.calls new.calls before.calls fault.calls);
 }
 
 -- a fault within pieces is one within them and more

@@ -55,6 +55,7 @@ IsPartSent-fault piece rest old middle new (Err e) bad before kept = IsPartSent-
 -- at the flush, after which nothing is to come
 pub IsPartSent-flush : (piece rest : List ℕ) (old middle new : Option (List ℕ)) (r : Result (Unit {0}) Failed) → IsPartSent piece rest old middle
     → length rest ≡ 0 → Keeps middle new → WriteAnswers piece old new r
-IsPartSent-flush piece [] old middle new (Ok done) before none kept = rw (before.whole, append-nil) (Appends-kept before.sent old middle new before.appends kept)
+IsPartSent-flush piece [] old middle new (Ok done) before none kept =
+    rw (before.whole, append-nil) (Appends-kept before.sent old middle new before.appends kept)
 IsPartSent-flush piece [] old middle new (Err e) before none kept = IsPartSent-part piece [] old middle new before kept
 IsPartSent-flush piece (byte ∷ rest) old middle new r before none kept = absurd (omega arith)

@@ -41,4 +41,9 @@ most_kept s = if is_spent s then 0 else min (unwrap_or (named_kept s) (room_left
 
 -- the sink after a put of a piece
 abbrev pub after_put : SinkInMemory → List ℕ → SinkInMemory
-after_put s piece = record s { held = s.held ++ take (most_kept s) piece; calls = raised (2 ^ 32) s.calls; faults = if is_fault s piece then raised (2 ^ 64) s.faults else s.faults }
+after_put s piece =
+    record s {
+      held = s.held ++ take (most_kept s) piece;
+      calls = raised (2 ^ 32) s.calls;
+      faults = if is_fault s piece then raised (2 ^ 64) s.faults else s.faults;
+    }

@@ -30,7 +30,8 @@ pub record Reaches (limit : ℕ) (entry v : VipState) : Type 0 where
   pub goes_on : HasStopped v → ⊥
   pub follows : Follows v
 
-reaches-next : (limit : ℕ) (entry v w : VipState) (name : Move) → Reaches limit entry v → Steps v w name → w.board.machine.cycle ≤ limit → Follows w → Reaches limit entry w
+reaches-next : (limit : ℕ) (entry v w : VipState) (name : Move) → Reaches limit entry v → Steps v w name → w.board.machine.cycle ≤ limit → Follows w
+    → Reaches limit entry w
 reaches-next limit entry v w name r s within follows =
     record {
       same =
@@ -136,7 +137,8 @@ module _ (limit : ℕ) (entry v w : VipState) (r : Reaches limit entry v) where
 
 -- the limit comes before the next move
 module _ (limit : ℕ) (entry v : VipState) (r : Reaches limit entry v) where
-  pub ends-entry : events_waiting v ≡ [] → limit < v.board.machine.cycle + length_of v.board.rom v.board.machine → MeetsNext limit entry v (events_left entry limit) End
+  pub ends-entry : events_waiting v ≡ [] → limit < v.board.machine.cycle + length_of v.board.rom v.board.machine
+      → MeetsNext limit entry v (events_left entry limit) End
   ends-entry met over =
       let left : events_left entry limit ≡ [] = sym (left_same limit entry v v r) ∙ none-left v r.follows limit r.within over ∙ met in
       let moves : moves_by entry limit ≡ v.moves = ap (λ run. length run - 1) (sym (run_same limit entry v v r)) ∙ all-moves v r.follows limit r.within over in

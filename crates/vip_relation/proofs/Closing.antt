@@ -66,29 +66,37 @@ module _ (a : Inside) (k : IsKept a) (met : events_waiting (state_of a) ≡ []) 
   abbrev then : Seen → Point → Waits → Inside
   then s point waits = record a { board = s; moves = a.moves + 1; point = point; waits = waits }
 
-  kept_moved : CarriesOn a.board (moved a.board) → (moved a.board).machine.cycle ≤ most_cycles → IsKept (then (moved a.board) (point_of (interpreter_of a.edition) (moved a.board).machine) (waits_by a.board.pictures.count (moved a.board).pictures.count))
+  kept_moved : CarriesOn a.board (moved a.board) → (moved a.board).machine.cycle ≤ most_cycles
+      → IsKept (then (moved a.board) (point_of (interpreter_of a.edition) (moved a.board).machine)
+      (waits_by a.board.pictures.count (moved a.board).pictures.count))
   kept_moved carries in_time =
       let f = follows-on v k.follows met runs carries in_time in
       record {
         follows = follows-run (stepped v k.follows met runs) f;
         point = refl;
         waiting =
-            as-run (λ w. HasWaiting (waits_by a.board.pictures.count (moved a.board).pictures.count) w (point_of (interpreter_of a.edition) (moved a.board).machine))
+            as-run (λ w. HasWaiting (waits_by a.board.pictures.count (moved a.board).pictures.count) w
+            (point_of (interpreter_of a.edition) (moved a.board).machine))
             (stepped v k.follows met runs) f (waits-on v k.follows met runs carries);
         last = named-run (stepped v k.follows met runs) f a.last k.last;
       }
 
-  pub kept-step : (s : Seen) (point : Point) (waits : Waits) → s ≡ moved a.board → CarriesOn a.board s → s.machine.cycle ≤ most_cycles → point ≡ point_of (interpreter_of a.edition) s.machine → waits ≡ waits_by a.board.pictures.count s.pictures.count → IsKept (then s point waits)
+  pub kept-step : (s : Seen) (point : Point) (waits : Waits) → s ≡ moved a.board → CarriesOn a.board s → s.machine.cycle ≤ most_cycles
+      → point ≡ point_of (interpreter_of a.edition) s.machine → waits ≡ waits_by a.board.pictures.count s.pictures.count → IsKept (then s point waits)
   kept-step s point waits is carries in_time is_point is_waits =
-      let P : Seen → Type 0 = λ s. CarriesOn a.board s → s.machine.cycle ≤ most_cycles → IsKept (then s (point_of (interpreter_of a.edition) s.machine) (waits_by a.board.pictures.count s.pictures.count)) in
+      let P : Seen → Type 0 =
+      λ s. CarriesOn a.board s → s.machine.cycle ≤ most_cycles
+      → IsKept (then s (point_of (interpreter_of a.edition) s.machine) (waits_by a.board.pictures.count s.pictures.count)) in
       subst₂ (λ p w. IsKept (then s p w)) (sym is_point) (sym is_waits) (subst P (sym is) kept_moved carries in_time)
 
-  steps_moved : (name : Move) → name ≡ name_of a.board.machine → CarriesOn a.board (moved a.board) → (moved a.board).machine.cycle ≤ most_cycles → Steps v (by_run (record v { moves = v.moves + 1; board = moved a.board })) name
+  steps_moved : (name : Move) → name ≡ name_of a.board.machine → CarriesOn a.board (moved a.board) → (moved a.board).machine.cycle ≤ most_cycles
+      → Steps v (by_run (record v { moves = v.moves + 1; board = moved a.board })) name
   steps_moved name named carries in_time =
       as-run (λ w. Steps v w name) (stepped v k.follows met runs) (follows-on v k.follows met runs carries in_time)
       (record { state = refl; move = named; later = later-on v k.follows met runs; goes_on = goes-on v k.follows met runs })
 
-  pub steps-to : (s : Seen) (name : Move) → s ≡ moved a.board → name ≡ name_of a.board.machine → CarriesOn a.board s → s.machine.cycle ≤ most_cycles → Steps v (by_run (record v { moves = v.moves + 1; board = s })) name
+  pub steps-to : (s : Seen) (name : Move) → s ≡ moved a.board → name ≡ name_of a.board.machine → CarriesOn a.board s → s.machine.cycle ≤ most_cycles
+      → Steps v (by_run (record v { moves = v.moves + 1; board = s })) name
   steps-to s name is named carries in_time =
       let P : Seen → Type 0 = λ s. CarriesOn a.board s → s.machine.cycle ≤ most_cycles → Steps v (by_run (record v { moves = v.moves + 1; board = s })) name in
       subst P (sym is) (steps_moved name named) carries in_time
@@ -96,7 +104,8 @@ module _ (a : Inside) (k : IsKept a) (met : events_waiting (state_of a) ≡ []) 
 -- the cycle after a move that ended within the limit
 pub in-time : (s t : Seen) (limit : ℕ) → t ≡ moved s → (limit < s.machine.cycle + length_of s.rom s.machine → ⊥) → t.machine.cycle ≤ limit
 in-time s t limit is made =
-    let cycle : t.machine.cycle ≡ s.machine.cycle + length_of s.rom s.machine = ap (λ (x : Seen). x.machine.cycle) is ∙ cycle-move s.rom (held_at s.script) s.machine in
+    let cycle : t.machine.cycle ≡ s.machine.cycle + length_of s.rom s.machine =
+    ap (λ (x : Seen). x.machine.cycle) is ∙ cycle-move s.rom (held_at s.script) s.machine in
     subst (λ c. c ≤ limit) (sym cycle) (not_above (s.machine.cycle + length_of s.rom s.machine) limit made)
   where
     not_above : (n limit : ℕ) → (limit < n → ⊥) → n ≤ limit

@@ -32,7 +32,8 @@ pub record Takes (n : ℕ) (xs : List Event) (e : Event) (es : List Event) : Typ
   pub left : drop (n + 1) xs ≡ es
   pub within : n + 1 ≤ length xs
 
-takes_suc : (n : ℕ) (xs : List Event) (e : Event) (es : List Event) → drop n xs ≡ e ∷ es → (take (suc n) xs ≡ take n xs ++ e ∷ []) × (drop (suc n) xs ≡ es) × (suc n ≤ length xs)
+takes_suc : (n : ℕ) (xs : List Event) (e : Event) (es : List Event) → drop n xs ≡ e ∷ es
+    → (take (suc n) xs ≡ take n xs ++ e ∷ []) × (drop (suc n) xs ≡ es) × (suc n ≤ length xs)
 takes_suc zero [] e es h = cc
 takes_suc zero (x ∷ xs) e es h = (ap (λ y. y ∷ []) (heads h), tails h, omega arith)
   where
@@ -58,7 +59,8 @@ takes n xs e es h =
 -- ---- the last dispatch point, with one event more
 
 last_of_more : (xs : List Machine) (b : Machine) → slice_get (xs ++ b ∷ []) (length (xs ++ b ∷ []) - 1) ≡ Some b
-last_of_more xs b = ap (λ n. slice_get (xs ++ b ∷ []) (n - 1)) (length-append xs (b ∷ [])) ∙ ap (λ n. slice_get (xs ++ b ∷ []) n) (one_less (length xs)) ∙ at_end xs
+last_of_more xs b =
+    ap (λ n. slice_get (xs ++ b ∷ []) (n - 1)) (length-append xs (b ∷ [])) ∙ ap (λ n. slice_get (xs ++ b ∷ []) n) (one_less (length xs)) ∙ at_end xs
   where
     one_less : (n : ℕ) → n + 1 - 1 ≡ n
     one_less n = omega arith
@@ -92,7 +94,8 @@ pub runs-on : (stop dispatch : Bool) → DispatchPoint ≡ (if stop then StopPoi
 runs-on true dispatch is = cc
 runs-on false dispatch is = refl
 
-stop_waits : (stop dispatch : Bool) (b : Machine) → stop ≡ true → point_events (if stop then StopPoint else if dispatch then DispatchPoint else OtherPoint) b ≡ [] → ⊥
+stop_waits : (stop dispatch : Bool) (b : Machine) → stop ≡ true
+    → point_events (if stop then StopPoint else if dispatch then DispatchPoint else OtherPoint) b ≡ [] → ⊥
 stop_waits true dispatch b stop none = cc
 stop_waits false dispatch b stop none = cc
 
@@ -112,7 +115,8 @@ module _ (v : VipState) (f : Follows v) (e : Event) (es : List Event) (waits : e
   next : Takes v.met (events_to v now) e es
   next = takes v.met (events_to v now) e es waits
 
-  pub follows-told : (last : Option View) (shown : List ℕ) → last ≡ last_view v.edition (events_met v ++ e ∷ []) → shown ≡ last_screen v.edition (events_met v ++ e ∷ []) → Follows (told v last shown)
+  pub follows-told : (last : Option View) (shown : List ℕ) → last ≡ last_view v.edition (events_met v ++ e ∷ [])
+      → shown ≡ last_screen v.edition (events_met v ++ e ∷ []) → Follows (told v last shown)
   follows-told last shown is_last is_shown =
       record {
         bytes = f.bytes;
@@ -146,10 +150,14 @@ module _ (v : VipState) (f : Follows v) (e : Event) (es : List Event) (waits : e
   pub waiting-less : (last : Option View) (shown : List ℕ) → events_waiting (told v last shown) ≡ es
   waiting-less last shown = next.left
 
-  pub meets-first : (last : Option View) (shown : List ℕ) (answer : Met) → ((limit : ℕ) (others : List Event) → now ≤ limit → MeetsOne limit v (told v last shown) others → MeetsNext limit v (told v last shown) (e ∷ others) answer) → MeetsFirst v (told v last shown) answer
+  pub meets-first : (last : Option View) (shown : List ℕ) (answer : Met)
+      → ((limit : ℕ) (others : List Event) → now ≤ limit → MeetsOne limit v (told v last shown) others
+      → MeetsNext limit v (told v last shown) (e ∷ others) answer) → MeetsFirst v (told v last shown) answer
   meets-first last shown answer meets =
       record {
-        next = λ limit within. subst (λ left. MeetsNext limit v (told v last shown) left answer) (sym (left-old limit within)) (meets limit (es ++ (o limit within).others) within (one-more limit within last shown));
+        next =
+            λ limit within. subst (λ left. MeetsNext limit v (told v last shown) left answer) (sym (left-old limit within))
+            (meets limit (es ++ (o limit within).others) within (one-more limit within last shown));
         same = record { edition = refl; game = refl; script = refl };
         waiting = ap length waits ∙ sym (add-one (length es)) ∙ ap (λ xs. length xs + 1) (sym (waiting-less last shown));
         board = refl;
@@ -173,12 +181,16 @@ module _ (v : VipState) (f : Follows v) (point : Point) (p : PictureWaits v poin
   pub follows-picture : Follows (told v v.last v.shown)
   follows-picture = follows-told v f (Picture p.frame) es p.events v.last v.shown view_kept screen_kept
 
-  the_picture : (limit : ℕ) → v.board.machine.cycle ≤ limit → picture_of (interpreter v).rom (states_before v v.moves) p.frame ≡ picture_of (interpreter v).rom (run_of v limit) p.frame
+  the_picture : (limit : ℕ) → v.board.machine.cycle ≤ limit
+      → picture_of (interpreter v).rom (states_before v v.moves) p.frame ≡ picture_of (interpreter v).rom (run_of v limit) p.frame
   the_picture limit within =
       let here : v.board.machine.cycle ≡ (at_state v f v.moves).cycle = ap (λ (b : Machine). b.cycle) f.machine in
       sym (
-      ap (λ run. picture_of (interpreter v).rom run p.frame) (run-split (interpreter v).rom (held_at v.board.script) limit v.moves (start v.game) (omega (arith, here, within)))
-      ∙ picture-later (interpreter v).rom (at_state v f v.moves).cycle p.frame (states_before v v.moves) (onward (interpreter v) v.game v.board.script limit v.moves) (omega (arith, here, p.ended)) (later-run (interpreter v).rom (held_at v.board.script) limit (at_state v f v.moves)))
+      ap (λ run. picture_of (interpreter v).rom run p.frame)
+      (run-split (interpreter v).rom (held_at v.board.script) limit v.moves (start v.game) (omega (arith, here, within)))
+      ∙ picture-later (interpreter v).rom (at_state v f v.moves).cycle p.frame (states_before v v.moves)
+      (onward (interpreter v) v.game v.board.script limit v.moves) (omega (arith, here, p.ended))
+      (later-run (interpreter v).rom (held_at v.board.script) limit (at_state v f v.moves)))
 
   goes_on : point ≡ point_of (interpreter v) v.board.machine → HasStopped (told v v.last v.shown) → ⊥
   goes_on is stopped =
@@ -212,7 +224,14 @@ module _ (v : VipState) (f : Follows v) (waits : events_waiting v ≡ Dispatch v
   pub meets-dispatch : is_stop (interpreter v) b ≡ false → MeetsFirst v (told v (Some (view_at v.edition b)) (screen_bytes v.edition b)) DispatchMet
   meets-dispatch runs =
       meets-first v f (Dispatch b) [] waits (Some (view_at v.edition b)) (screen_bytes v.edition b) DispatchMet
-      (λ limit others within one. record { one = one; machine = refl; last = refl; shown = refl; goes_on = λ stopped. not_both (is_stop (interpreter v) b) runs stopped.stop })
+      (λ limit others within one. record {
+        one = one;
+        machine = refl;
+        last = refl;
+        shown = refl;
+        goes_on =
+            λ stopped. not_both (is_stop (interpreter v) b) runs stopped.stop;
+      })
 
 -- ---- a stop point
 

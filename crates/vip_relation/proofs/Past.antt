@@ -34,7 +34,8 @@ filter_same p q w (suc n) h =
     ∙ ap (λ others. cond (q w) (w ∷ others) others) (filter_same p q (w + 1) n (λ m l. h m (omega (arith, l))))
 
 -- they don't depend on the states from there on
-pub pictures-later : (i : Interpreter) (xs ys : List Machine) (before t : ℕ) → before ≤ t → Later t ys → pictures_at i (xs ++ ys) before t ≡ pictures_at i xs before t
+pub pictures-later : (i : Interpreter) (xs ys : List Machine) (before t : ℕ) → before ≤ t → Later t ys
+    → pictures_at i (xs ++ ys) before t ≡ pictures_at i xs before t
 pictures-later i xs ys before t order later =
     ap (map Picture)
     (filter_same (is_shown i.rom (xs ++ ys)) (is_shown i.rom xs) (windows_ended before) (windows_ended t - windows_ended before)
@@ -78,16 +79,22 @@ module _ (i : Interpreter) (game : List ℕ) (script : List KeyEvent) where
 
   -- ---- the events of the run up to a limit
 
-  goes_on : (stop dispatch : Bool) (b : Machine) (others : List Event) → stop ≡ false → (if stop then Stopped b ∷ [] else if dispatch then Dispatch b ∷ others else others) ≡ point_events (if stop then StopPoint else if dispatch then DispatchPoint else OtherPoint) b ++ others
+  goes_on : (stop dispatch : Bool) (b : Machine) (others : List Event) → stop ≡ false
+      → (if stop then Stopped b ∷ [] else if dispatch then Dispatch b ∷ others else others)
+      ≡ point_events (if stop then StopPoint else if dispatch then DispatchPoint else OtherPoint) b ++ others
   goes_on true dispatch b others runs = cc
   goes_on false true b others runs = refl
   goes_on false false b others runs = refl
 
-  stops : (stop dispatch : Bool) (b : Machine) (others : List Event) → stop ≡ true → (if stop then Stopped b ∷ [] else if dispatch then Dispatch b ∷ others else others) ≡ point_events (if stop then StopPoint else if dispatch then DispatchPoint else OtherPoint) b
+  stops : (stop dispatch : Bool) (b : Machine) (others : List Event) → stop ≡ true
+      → (if stop then Stopped b ∷ [] else if dispatch then Dispatch b ∷ others else others)
+      ≡ point_events (if stop then StopPoint else if dispatch then DispatchPoint else OtherPoint) b
   stops true dispatch b others runs = refl
   stops false dispatch b others runs = cc
 
-  last_one : (stop dispatch : Bool) (b : Machine) → (if stop then Stopped b ∷ [] else if dispatch then Dispatch b ∷ [] else []) ≡ point_events (if stop then StopPoint else if dispatch then DispatchPoint else OtherPoint) b
+  last_one : (stop dispatch : Bool) (b : Machine)
+      → (if stop then Stopped b ∷ [] else if dispatch then Dispatch b ∷ [] else [])
+      ≡ point_events (if stop then StopPoint else if dispatch then DispatchPoint else OtherPoint) b
   last_one true dispatch b = refl
   last_one false true b = refl
   last_one false false b = refl
@@ -106,19 +113,24 @@ module _ (i : Interpreter) (game : List ℕ) (script : List KeyEvent) where
   ahead_here : (limit n : ℕ) → (state n).cycle ≤ limit → is_stop i (state n) ≡ false → ahead limit n ≡ pictures n ++ (point n ++ ahead limit (suc n))
   ahead_here limit n within runs =
       ap (events_at i (game_run i game script limit) (before n)) (run_to-next i.rom (held_at script) limit (state n) within)
-      ∙ ap (λ first. pictures_at i (game_run i game script limit) (before n) (state n).cycle ++ first) (goes_on (is_stop i (state n)) (is_dispatch i (state n)) (state n) (ahead limit (suc n)) runs)
+      ∙ ap (λ first. pictures_at i (game_run i game script limit) (before n) (state n).cycle ++ first)
+      (goes_on (is_stop i (state n)) (is_dispatch i (state n)) (state n) (ahead limit (suc n)) runs)
       ∙ ap (λ first. first ++ (point n ++ ahead limit (suc n))) (pictures_whole limit n within)
 
   ahead_stop : (limit n : ℕ) → (state n).cycle ≤ limit → is_stop i (state n) ≡ true → ahead limit n ≡ pictures n ++ point n
   ahead_stop limit n within stop =
       ap (events_at i (game_run i game script limit) (before n)) (run_to-next i.rom (held_at script) limit (state n) within)
-      ∙ ap (λ first. pictures_at i (game_run i game script limit) (before n) (state n).cycle ++ first) (stops (is_stop i (state n)) (is_dispatch i (state n)) (state n) (ahead limit (suc n)) stop)
+      ∙ ap (λ first. pictures_at i (game_run i game script limit) (before n) (state n).cycle ++ first)
+      (stops (is_stop i (state n)) (is_dispatch i (state n)) (state n) (ahead limit (suc n)) stop)
       ∙ ap (λ first. first ++ point n) (pictures_whole limit n within)
 
   ahead_last : (limit n : ℕ) → (state n).cycle ≤ limit → limit < (state (suc n)).cycle → ahead limit n ≡ pictures n ++ point n
   ahead_last limit n within over =
-      ap (events_at i (game_run i game script limit) (before n)) (run_to-next i.rom (held_at script) limit (state n) within ∙ ap (λ tail. state n ∷ tail) (run_to-past i.rom (held_at script) limit (state (suc n)) over))
-      ∙ ap (λ first. pictures_at i (game_run i game script limit) (before n) (state n).cycle ++ first) (last_one (is_stop i (state n)) (is_dispatch i (state n)) (state n))
+      ap (events_at i (game_run i game script limit) (before n))
+      (run_to-next i.rom (held_at script) limit (state n) within
+      ∙ ap (λ tail. state n ∷ tail) (run_to-past i.rom (held_at script) limit (state (suc n)) over))
+      ∙ ap (λ first. pictures_at i (game_run i game script limit) (before n) (state n).cycle ++ first)
+      (last_one (is_stop i (state n)) (is_dispatch i (state n)) (state n))
       ∙ ap (λ first. first ++ point n) (pictures_whole limit n within)
 
   regroup : (a b c d : List Event) → a ++ (b ++ (c ++ d)) ≡ (a ++ b ++ c) ++ d
@@ -149,10 +161,12 @@ module _ (i : Interpreter) (game : List ℕ) (script : List KeyEvent) where
       all_ahead limit n within runs ∙ ap (λ others. past n ++ others) (ahead_stop limit n within stop) ∙ flat (past n) (pictures n) (point n)
 
   -- one that goes on
-  pub events-on : (limit n : ℕ) → (state n).cycle ≤ limit → is_stop i (state n) ≡ false → Runs n → events_of i game script limit ≡ past (suc n) ++ ahead limit (suc n)
+  pub events-on : (limit n : ℕ) → (state n).cycle ≤ limit → is_stop i (state n) ≡ false → Runs n
+      → events_of i game script limit ≡ past (suc n) ++ ahead limit (suc n)
   unfolding past
   events-on limit n within runs_here runs =
-      all_ahead limit n within runs ∙ ap (λ others. past n ++ others) (ahead_here limit n within runs_here) ∙ regroup (past n) (pictures n) (point n) (ahead limit (suc n))
+      all_ahead limit n within runs ∙ ap (λ others. past n ++ others) (ahead_here limit n within runs_here)
+      ∙ regroup (past n) (pictures n) (point n) (ahead limit (suc n))
 
   -- either way, those up to the n-th state come first, and a stop point is the last
   pub record Goes (limit n : ℕ) : Type 0 where
@@ -172,7 +186,8 @@ module _ (i : Interpreter) (game : List ℕ) (script : List KeyEvent) where
   events-short limit zero over runs = absurd (omega (arith, over))
   events-short limit (suc n) over runs = by_test (λ short. events-short limit n short (λ k l. runs k (omega (arith, l)))) (nat_le (state n).cycle limit) refl
     where
-      by_test : (limit < (state n).cycle → length (events_of i game script limit) ≤ length (past n)) → (t : Bool) → nat_le (state n).cycle limit ≡ t → length (events_of i game script limit) ≤ length (past (suc n))
+      by_test : (limit < (state n).cycle → length (events_of i game script limit) ≤ length (past n)) → (t : Bool) → nat_le (state n).cycle limit ≡ t
+          → length (events_of i game script limit) ≤ length (past (suc n))
       by_test shorter true h =
           let within : (state n).cycle ≤ limit = grind (arith, nat_tests) in
           rw (events-last limit n within over (λ k l. runs k (omega (arith, l)))) (omega arith)
@@ -187,17 +202,23 @@ module _ (i : Interpreter) (game : List ℕ) (script : List KeyEvent) where
   -- what the video chip has of pictures at the next state, by what it had at this one
   pub data Finishes (n count count' : ℕ) (finished' : Option (List (List ℕ))) : Type 0 where
     NoPicture : count' ≡ count → pictures (suc n) ≡ [] → Finishes n count count' finished'
-    OnePicture : (m : ℕ) → count' ≡ count + 1 → pictures (suc n) ≡ Picture m ∷ [] → window_end m ≤ (state (suc n)).cycle → (state n).cycle < window_end m → finished' ≡ Some (picture_of i.rom (earlier (suc n)) m) → Finishes n count count' finished'
+    OnePicture : (m : ℕ) → count' ≡ count + 1 → pictures (suc n) ≡ Picture m ∷ [] → window_end m ≤ (state (suc n)).cycle
+        → (state n).cycle < window_end m → finished' ≡ Some (picture_of i.rom (earlier (suc n)) m) → Finishes n count count' finished'
 
   -- one window at most ends in a move
-  one_window : (n : ℕ) → (windows_ended (state (suc n)).cycle ≡ windows_ended (state n).cycle) ⊎ (windows_ended (state (suc n)).cycle ≡ suc (windows_ended (state n).cycle))
-  one_window n = window-more (state n).cycle (state (suc n)).cycle (omega (arith, later-move i.rom (held_at script) (state n))) (soon-move i.rom (held_at script) (state n))
+  one_window : (n : ℕ) → (windows_ended (state (suc n)).cycle ≡ windows_ended (state n).cycle)
+      ⊎ (windows_ended (state (suc n)).cycle ≡ suc (windows_ended (state n).cycle))
+  one_window n =
+      window-more (state n).cycle (state (suc n)).cycle (omega (arith, later-move i.rom (held_at script) (state n)))
+      (soon-move i.rom (held_at script) (state n))
 
   -- the frames shown so far are the same by one state more
-  frames_kept : (n : ℕ) → shown_frames (is_shown i.rom (earlier (suc n))) (windows_ended (state n).cycle) ≡ shown_frames (is_shown i.rom (earlier n)) (windows_ended (state n).cycle)
+  frames_kept : (n : ℕ) → shown_frames (is_shown i.rom (earlier (suc n))) (windows_ended (state n).cycle)
+      ≡ shown_frames (is_shown i.rom (earlier n)) (windows_ended (state n).cycle)
   frames_kept n =
       shown-same (is_shown i.rom (earlier (suc n))) (is_shown i.rom (earlier n)) (windows_ended (state n).cycle)
-      (λ m l. ap (λ run. is_shown i.rom run m) (states-more i.rom (held_at script) n (start game)) ∙ shown-later i.rom (state n).cycle m (earlier n) (state n ∷ []) (ended m (state n).cycle l) (later-one (state n)))
+      (λ m l. ap (λ run. is_shown i.rom run m) (states-more i.rom (held_at script) n (start game))
+      ∙ shown-later i.rom (state n).cycle m (earlier n) (state n ∷ []) (ended m (state n).cycle l) (later-one (state n)))
 
   -- n windows, or one more, by the frames and by the numbers of their pictures
   none_more : (p : ℕ → Bool) (w w' : ℕ) → w' ≡ w → map Picture (filter p (numbers_from w (w' - w))) ≡ []
@@ -224,7 +245,8 @@ module _ (i : Interpreter) (game : List ℕ) (script : List KeyEvent) where
     frames_here : p.count ≡ length (shown_frames is_shown_next (windows_ended (state n).cycle))
     frames_here = counted i.rom (earlier n) (state n).cycle p shows ∙ ap length (sym (frames_kept n))
 
-    by_frame : (keep : Bool) → is_shown_next (windows_ended (state n).cycle) ≡ keep → windows_ended (state (suc n)).cycle ≡ suc (windows_ended (state n).cycle) → Finishes n p.count p'.count p'.finished
+    by_frame : (keep : Bool) → is_shown_next (windows_ended (state n).cycle) ≡ keep
+        → windows_ended (state (suc n)).cycle ≡ suc (windows_ended (state n).cycle) → Finishes n p.count p'.count p'.finished
     by_frame true shown next =
         let w = windows_ended (state n).cycle in
         let frames : shown_frames is_shown_next (windows_ended (state (suc n)).cycle) ≡ w ∷ shown_frames is_shown_next w =
@@ -234,7 +256,8 @@ module _ (i : Interpreter) (game : List ℕ) (script : List KeyEvent) where
         (one_more is_shown_next w (windows_ended (state (suc n)).cycle) next ∙ ap (λ keep. cond keep (Picture w ∷ []) []) shown)
         (ended w (state (suc n)).cycle (omega (arith, next)))
         (not_ended (state n).cycle)
-        (last-finished i.rom (earlier (suc n)) (state (suc n)).cycle p' shows' ∙ ap (λ l. option_map (picture_of i.rom (earlier (suc n))) (slice_get l 0)) frames)
+        (last-finished i.rom (earlier (suc n)) (state (suc n)).cycle p' shows'
+        ∙ ap (λ l. option_map (picture_of i.rom (earlier (suc n))) (slice_get l 0)) frames)
     by_frame false shown next =
         let w = windows_ended (state n).cycle in
         let frames : shown_frames is_shown_next (windows_ended (state (suc n)).cycle) ≡ shown_frames is_shown_next w =
@@ -243,7 +266,8 @@ module _ (i : Interpreter) (game : List ℕ) (script : List KeyEvent) where
         (counted i.rom (earlier (suc n)) (state (suc n)).cycle p' shows' ∙ ap length frames ∙ sym frames_here)
         (one_more is_shown_next w (windows_ended (state (suc n)).cycle) next ∙ ap (λ keep. cond keep (Picture w ∷ []) []) shown)
 
-    by_window : (windows_ended (state (suc n)).cycle ≡ windows_ended (state n).cycle) ⊎ (windows_ended (state (suc n)).cycle ≡ suc (windows_ended (state n).cycle)) → Finishes n p.count p'.count p'.finished
+    by_window : (windows_ended (state (suc n)).cycle ≡ windows_ended (state n).cycle)
+        ⊎ (windows_ended (state (suc n)).cycle ≡ suc (windows_ended (state n).cycle)) → Finishes n p.count p'.count p'.finished
     by_window (inl same) =
         NoPicture
         (counted i.rom (earlier (suc n)) (state (suc n)).cycle p' shows' ∙ ap (λ w. length (shown_frames is_shown_next w)) same ∙ sym frames_here)
@@ -262,7 +286,8 @@ module _ (i : Interpreter) (game : List ℕ) (script : List KeyEvent) where
   short_filter p w zero = omega arith
   short_filter p w (suc n) = by_case (p w) (short_filter p (w + 1) n)
     where
-      by_case : (keep : Bool) → length (filter p (numbers_from (w + 1) n)) ≤ n → length (cond keep (w ∷ filter p (numbers_from (w + 1) n)) (filter p (numbers_from (w + 1) n))) ≤ suc n
+      by_case : (keep : Bool) → length (filter p (numbers_from (w + 1) n)) ≤ n
+          → length (cond keep (w ∷ filter p (numbers_from (w + 1) n)) (filter p (numbers_from (w + 1) n))) ≤ suc n
       by_case true h = omega (arith, h)
       by_case false h = omega (arith, h)
 
@@ -270,9 +295,22 @@ module _ (i : Interpreter) (game : List ℕ) (script : List KeyEvent) where
   few_pictures zero = short_map _ 1 (omega (arith, short_filter (is_shown i.rom (earlier 0)) (windows_ended 0) (windows_ended 0 - windows_ended 0)))
   few_pictures (suc n) = by_window (one_window n)
     where
-      by_window : (windows_ended (state (suc n)).cycle ≡ windows_ended (state n).cycle) ⊎ (windows_ended (state (suc n)).cycle ≡ suc (windows_ended (state n).cycle)) → length (pictures (suc n)) ≤ 1
-      by_window (inl same) = short_map _ 1 (omega (arith, same, short_filter (is_shown i.rom (earlier (suc n))) (windows_ended (state n).cycle) (windows_ended (state (suc n)).cycle - windows_ended (state n).cycle)))
-      by_window (inr next) = short_map _ 1 (omega (arith, next, short_filter (is_shown i.rom (earlier (suc n))) (windows_ended (state n).cycle) (windows_ended (state (suc n)).cycle - windows_ended (state n).cycle)))
+      by_window : (windows_ended (state (suc n)).cycle ≡ windows_ended (state n).cycle)
+          ⊎ (windows_ended (state (suc n)).cycle ≡ suc (windows_ended (state n).cycle)) → length (pictures (suc n)) ≤ 1
+      by_window (inl same) =
+          short_map _ 1 (omega (
+            arith,
+            same,
+            short_filter (is_shown i.rom (earlier (suc n))) (windows_ended (state n).cycle) (windows_ended
+                (state (suc n)).cycle - windows_ended (state n).cycle),
+          ))
+      by_window (inr next) =
+          short_map _ 1 (omega (
+            arith,
+            next,
+            short_filter (is_shown i.rom (earlier (suc n))) (windows_ended (state n).cycle) (windows_ended
+                (state (suc n)).cycle - windows_ended (state n).cycle),
+          ))
 
   few_points : (n : ℕ) → length (point n) ≤ 1
   few_points n = by_case (point_of i (state n))

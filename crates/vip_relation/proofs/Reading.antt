@@ -31,7 +31,8 @@ page_of-byte m a low =
     rw (lt-ltb (a / 256) 16 high) (page_at-byte m.ram a)
 
 -- one page more of the bytes from a place on
-pub page-more : (ram : List ℕ) (from high : ℕ) → from ≤ high * 256 → slice_range ram from (high * 256) ++ page_at ram high ≡ slice_range ram from ((high + 1) * 256)
+pub page-more : (ram : List ℕ) (from high : ℕ) → from ≤ high * 256
+    → slice_range ram from (high * 256) ++ page_at ram high ≡ slice_range ram from ((high + 1) * 256)
 page-more ram from high order =
     let n : ℕ = high * 256 - from in
     let place : high * 256 ≡ from + n = omega (arith, order) in
@@ -50,7 +51,8 @@ length-addresses ram low zero = refl
 length-addresses ram low (suc n) = ap suc (length-addresses ram (low - 2) n)
 
 -- one address more, below the others
-pub addresses-more : (ram : List ℕ) (low n : ℕ) → addresses ram low (suc n) ≡ addresses ram low n ++ (slice_index ram (low - 2 * n - 1) * 256 + slice_index ram (low - 2 * n)) ∷ []
+pub addresses-more : (ram : List ℕ) (low n : ℕ)
+    → addresses ram low (suc n) ≡ addresses ram low n ++ (slice_index ram (low - 2 * n - 1) * 256 + slice_index ram (low - 2 * n)) ∷ []
 addresses-more ram low zero = ap (λ place. (slice_index ram (place - 1) * 256 + slice_index ram place) ∷ []) (first low)
   where
     first : (low : ℕ) → low ≡ low - 2 * 0
@@ -75,7 +77,8 @@ tall_variables m =
     take-take : (xs : List ℕ) → take 16 (take 16 xs) ≡ take 16 xs
     take-take xs = grind arith
 
-pub variables_of-page : (e : Edition) (m : Contents) (high : ℕ) → high * 256 + 0xf0 ≡ variables e → slice_range (page_of m high) 0xf0 0x100 ≡ slice_range m.ram (variables e) (variables e + 16)
+pub variables_of-page : (e : Edition) (m : Contents) (high : ℕ) → high * 256 + 0xf0 ≡ variables e
+    → slice_range (page_of m high) 0xf0 0x100 ≡ slice_range m.ram (variables e) (variables e + 16)
 variables_of-page Usual m high place =
     let same : 0x0e ≡ high = omega (arith, place) in
     subst (λ k. slice_range (page_of m k) 0xf0 0x100 ≡ slice_range m.ram 0x0ef0 0x0f00) same (usual_variables m)

@@ -140,14 +140,16 @@ module _ (v : VipState) (f : Follows v) where
         events-last i v.game v.board.script now_on (suc v.moves) (omega (arith, cycle_on))
         (omega (arith, cycle_on, later-move i.rom (held_at v.board.script) (at_state (suc v.moves)))) runs_on
 
-    past_on : past_of (suc (suc v.moves)) ≡ past_of (suc v.moves) ++ (pictures i v.game v.board.script (suc v.moves) ++ point i v.game v.board.script (suc v.moves))
+    past_on : past_of (suc (suc v.moves)) ≡ past_of (suc v.moves)
+        ++ (pictures i v.game v.board.script (suc v.moves) ++ point i v.game v.board.script (suc v.moves))
     unfolding past
     past_on = simp append_assoc
 
     same_met : events_met stepped ≡ events_met v
     same_met =
         ap (take v.met) (events_on ∙ past_on)
-        ∙ take-append-le v.met (past_of (suc v.moves)) (pictures i v.game v.board.script (suc v.moves) ++ point i v.game v.board.script (suc v.moves)) (omega (arith, all_met))
+        ∙ take-append-le v.met (past_of (suc v.moves)) (pictures i v.game v.board.script (suc v.moves) ++ point i v.game v.board.script (suc v.moves))
+        (omega (arith, all_met))
         ∙ ap (take v.met) (sym events-here)
 
     pub waiting-on : events_waiting stepped ≡ pictures i v.game v.board.script (suc v.moves) ++ point i v.game v.board.script (suc v.moves)
@@ -188,20 +190,24 @@ module _ (v : VipState) (f : Follows v) where
       finishes_on : Finishes i v.game v.board.script v.moves v.board.pictures.count (moved v.board).pictures.count (moved v.board).pictures.finished
       finishes_on =
           finishes i v.game v.board.script v.moves v.board.pictures (moved v.board).pictures
-          (subst (λ t. Shows i.rom (earlier i v.game v.board.script v.moves) t v.board.pictures) cycle_is (subst (λ rom. Shows rom (earlier i v.game v.board.script v.moves) now v.board.pictures) f.rom f.pictures))
-          (subst (λ t. Shows i.rom (earlier i v.game v.board.script (suc v.moves)) t (moved v.board).pictures) cycle_on (subst (λ rom. Shows rom (earlier i v.game v.board.script (suc v.moves)) now_on (moved v.board).pictures) f.rom shows_on))
+          (subst (λ t. Shows i.rom (earlier i v.game v.board.script v.moves) t v.board.pictures) cycle_is
+          (subst (λ rom. Shows rom (earlier i v.game v.board.script v.moves) now v.board.pictures) f.rom f.pictures))
+          (subst (λ t. Shows i.rom (earlier i v.game v.board.script (suc v.moves)) t (moved v.board).pictures) cycle_on
+          (subst (λ rom. Shows rom (earlier i v.game v.board.script (suc v.moves)) now_on (moved v.board).pictures) f.rom shows_on))
 
       pub waits-point : (moved v.board).pictures.count ≡ v.board.pictures.count → HasWaiting PointWaiting stepped (point_of i (moved v.board).machine)
       waits-point same = by_case finishes_on
         where
-          by_case : Finishes i v.game v.board.script v.moves v.board.pictures.count (moved v.board).pictures.count (moved v.board).pictures.finished → HasWaiting PointWaiting stepped (point_of i (moved v.board).machine)
+          by_case : Finishes i v.game v.board.script v.moves v.board.pictures.count (moved v.board).pictures.count (moved v.board).pictures.finished
+              → HasWaiting PointWaiting stepped (point_of i (moved v.board).machine)
           by_case (NoPicture count none) = waiting-on ∙ ap (λ ps. ps ++ point i v.game v.board.script (suc v.moves)) none ∙ point_on
           by_case (OnePicture m count one ended not_yet finished) = absurd (omega (arith, count, same))
 
       pub waits-picture : ((moved v.board).pictures.count ≡ v.board.pictures.count → ⊥) → HasWaiting PictureWaiting stepped (point_of i (moved v.board).machine)
       waits-picture differs = by_case finishes_on
         where
-          by_case : Finishes i v.game v.board.script v.moves v.board.pictures.count (moved v.board).pictures.count (moved v.board).pictures.finished → HasWaiting PictureWaiting stepped (point_of i (moved v.board).machine)
+          by_case : Finishes i v.game v.board.script v.moves v.board.pictures.count (moved v.board).pictures.count (moved v.board).pictures.finished
+              → HasWaiting PictureWaiting stepped (point_of i (moved v.board).machine)
           by_case (NoPicture count none) = absurd (differs count)
           by_case (OnePicture m count one ended not_yet finished) =
               record {
@@ -215,15 +221,20 @@ module _ (v : VipState) (f : Follows v) where
       pub waits-on : HasWaiting (waits_by v.board.pictures.count (moved v.board).pictures.count) stepped (point_of i (moved v.board).machine)
       waits-on = by_test ((moved v.board).pictures.count == v.board.pictures.count) refl
         where
-          by_test : (t : Bool) → ((moved v.board).pictures.count == v.board.pictures.count) ≡ t → HasWaiting (if t then PointWaiting else PictureWaiting) stepped (point_of i (moved v.board).machine)
+          by_test : (t : Bool) → ((moved v.board).pictures.count == v.board.pictures.count) ≡ t
+              → HasWaiting (if t then PointWaiting else PictureWaiting) stepped (point_of i (moved v.board).machine)
           by_test true h = waits-point (grind (arith, nat_tests))
           by_test false h = waits-picture (λ same. absurd (grind (arith, nat_tests)))
 
     -- a stop point's event waits there
     pub goes-on : HasStopped stepped → ⊥
-    goes-on stopped = nothing (is_stop i (moved v.board).machine) (is_dispatch i (moved v.board).machine) stopped.stop (ap (λ ps. pictures i v.game v.board.script (suc v.moves) ++ ps) (sym point_on) ∙ sym waiting-on ∙ stopped.met)
+    goes-on stopped =
+        nothing (is_stop i (moved v.board).machine) (is_dispatch i (moved v.board).machine) stopped.stop
+        (ap (λ ps. pictures i v.game v.board.script (suc v.moves) ++ ps) (sym point_on) ∙ sym waiting-on ∙ stopped.met)
       where
-        nothing : (stop dispatch : Bool) → stop ≡ true → pictures i v.game v.board.script (suc v.moves) ++ point_events (if stop then StopPoint else if dispatch then DispatchPoint else OtherPoint) (moved v.board).machine ≡ [] → ⊥
+        nothing : (stop dispatch : Bool) → stop ≡ true
+            → pictures i v.game v.board.script (suc v.moves)
+            ++ point_events (if stop then StopPoint else if dispatch then DispatchPoint else OtherPoint) (moved v.board).machine ≡ [] → ⊥
         nothing false dispatch h e = cc
         nothing true dispatch h e = last_stays (pictures i v.game v.board.script (suc v.moves)) e
           where

@@ -50,7 +50,8 @@ stopped_or_not v = by_test (is_stop (interpreter v) v.board.machine) (events_wai
     not_both : is_stop (interpreter v) v.board.machine ≡ false → is_stop (interpreter v) v.board.machine ≡ true → ⊥
     not_both runs stop = cc
 
-    by_test : (stop : Bool) (waiting : List Event) → is_stop (interpreter v) v.board.machine ≡ stop → events_waiting v ≡ waiting → HasStopped v ⊎ (HasStopped v → ⊥)
+    by_test : (stop : Bool) (waiting : List Event) → is_stop (interpreter v) v.board.machine ≡ stop → events_waiting v ≡ waiting
+        → HasStopped v ⊎ (HasStopped v → ⊥)
     by_test true [] stop none = inl (record { stop = stop; met = none })
     by_test true (e ∷ es) stop some = inr (λ s. some_wait e es some s.met)
     by_test false waiting runs is = inr (λ s. not_both runs s.stop)
@@ -63,7 +64,12 @@ stays-by limit v w answer other again next = by_case (stopped_or_not v)
     by_case (inl stopped) =
         let is = (again stopped).same in
         record {
-          same = record { edition = ap (λ (x : VipState). x.edition) is; game = ap (λ (x : VipState). x.game) is; script = ap (λ (x : VipState). x.board.script) is };
+          same =
+              record {
+                edition = ap (λ (x : VipState). x.edition) is;
+                game = ap (λ (x : VipState). x.game) is;
+                script = ap (λ (x : VipState). x.board.script) is;
+              };
           told = record { last = ap (λ (x : VipState). x.last) is; shown = ap (λ (x : VipState). x.shown) is };
         }
     by_case (inr running) = stays limit v w (events_left v limit) answer other (next running)
@@ -93,7 +99,9 @@ tells-here limit v a follows next last shown size =
     let d = at_dispatch limit v a.run (events_left v limit) next in
     record {
       follows = follows;
-      last = last ∙ ap (λ e. Some (view_at e a.run.board.machine)) d.meets.one.same.edition ∙ ap (λ b. Some (view_at v.edition b)) d.meets.machine ∙ sym d.meets.last;
+      last =
+          last ∙ ap (λ e. Some (view_at e a.run.board.machine)) d.meets.one.same.edition ∙ ap (λ b. Some (view_at v.edition b)) d.meets.machine
+          ∙ sym d.meets.last;
       shown = shown ∙ ap (λ e. screen_bytes e a.run.board.machine) d.meets.one.same.edition ∙ ap (screen_bytes v.edition) d.meets.machine ∙ sym d.meets.shown;
       size = size;
     }
@@ -118,6 +126,7 @@ tells-moved a t w (Done name) follows rests made =
 pub dark-told : (v : VipState) → Follows v → v.last ≡ None → v.shown ≡ replicate (screen_size v.edition) 0
 dark-told v f none = f.shown ∙ by_point (last_dispatch (events_met v)) (sym f.last ∙ none)
   where
-    by_point : (point : Option Machine) → option_map (view_at v.edition) point ≡ None → option_map_or (screen_bytes v.edition) point (replicate (screen_size v.edition) 0) ≡ replicate (screen_size v.edition) 0
+    by_point : (point : Option Machine) → option_map (view_at v.edition) point ≡ None
+        → option_map_or (screen_bytes v.edition) point (replicate (screen_size v.edition) 0) ≡ replicate (screen_size v.edition) 0
     by_point None is = refl
     by_point (Some b) is = cc

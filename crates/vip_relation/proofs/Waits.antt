@@ -74,11 +74,13 @@ earlier-at t (Stopped c ∷ es) h k b at = earlier-at t es h k b at
 
 -- so are those of the states up to one before that cycle
 module _ (i : Interpreter) (game : List ℕ) (script : List KeyEvent) where
-  earlier_with : (t n : ℕ) → (state i game script n).cycle < t → Earlier (state i game script n).cycle (past i game script n) → Earlier t (past i game script (suc n))
+  earlier_with : (t n : ℕ) → (state i game script n).cycle < t → Earlier (state i game script n).cycle (past i game script n)
+      → Earlier t (past i game script (suc n))
   unfolding past
   earlier_with t n low others =
       earlier_append t (past i game script n ++ pictures i game script n) (point i game script n)
-      (earlier_append t (past i game script n) (pictures i game script n) (earlier_on (state i game script n).cycle t (past i game script n) (omega (arith, low)) others) (earlier_pictures t _))
+      (earlier_append t (past i game script n) (pictures i game script n)
+      (earlier_on (state i game script n).cycle t (past i game script n) (omega (arith, low)) others) (earlier_pictures t _))
       (earlier_point t (point_of i (state i game script n)) (state i game script n) low)
 
   earlier_past : (n : ℕ) → Earlier (state i game script n).cycle (past i game script n)
@@ -95,7 +97,8 @@ few_points StopPoint b = omega arith
 few_points OtherPoint b = omega arith
 
 -- one that comes at t or later is the last event
-last_one : (t k : ℕ) (xs ys others : List Event) (b : Machine) (rest : List Event) → Earlier t xs → length ys ≤ 1 → k < length (xs ++ ys) → t ≤ b.cycle → drop k ((xs ++ ys) ++ others) ≡ Dispatch b ∷ rest → length (xs ++ ys) ≤ k + 1
+last_one : (t k : ℕ) (xs ys others : List Event) (b : Machine) (rest : List Event) → Earlier t xs → length ys ≤ 1 → k < length (xs ++ ys)
+    → t ≤ b.cycle → drop k ((xs ++ ys) ++ others) ≡ Dispatch b ∷ rest → length (xs ++ ys) ≤ k + 1
 unfolding Earlier
 last_one t k [] ys others b rest before few below late is = omega (arith, few)
 last_one t zero (Picture m ∷ xs) ys others b rest before few below late is = cc
@@ -121,7 +124,8 @@ none_of_pictures : (ms : List ℕ) (es : List Event) → filter_map dispatch_of 
 none_of_pictures [] es none = none
 none_of_pictures (m ∷ ms) es none = none_of_pictures ms es none
 
-none_of_stop : (stop dispatch : Bool) (b : Machine) → stop ≡ true → filter_map dispatch_of (point_events (if stop then StopPoint else if dispatch then DispatchPoint else OtherPoint) b) ≡ []
+none_of_stop : (stop dispatch : Bool) (b : Machine) → stop ≡ true
+    → filter_map dispatch_of (point_events (if stop then StopPoint else if dispatch then DispatchPoint else OtherPoint) b) ≡ []
 none_of_stop true dispatch b h = refl
 none_of_stop false dispatch b h = cc
 
@@ -168,14 +172,18 @@ module _ (v : VipState) (f : Follows v) where
   here = events-here v f
 
   -- where the last event met is the present dispatch point, no event waits
-  pub none-behind-dispatch : (limit k : ℕ) (rest : List Event) → now ≤ limit → v.met ≡ k + 1 → drop k (events_to v limit) ≡ Dispatch v.board.machine ∷ rest → events_waiting v ≡ []
+  pub none-behind-dispatch : (limit k : ℕ) (rest : List Event) → now ≤ limit → v.met ≡ k + 1
+      → drop k (events_to v limit) ≡ Dispatch v.board.machine ∷ rest → events_waiting v ≡ []
   none-behind-dispatch limit k rest within met is =
       let o : Others v f limit = others-to v f limit within in
       let n : ℕ = v.moves in
       let cycle : now ≡ (at_state n).cycle = ap (λ (b : Machine). b.cycle) f.machine in
-      let early : Earlier (at_state n).cycle (past_of n ++ pictures_of n) = earlier_append (at_state n).cycle (past_of n) (pictures_of n) (earlier_past i v.game v.board.script n) (earlier_pictures (at_state n).cycle (frames_of n)) in
+      let early : Earlier (at_state n).cycle (past_of n ++ pictures_of n) =
+      earlier_append (at_state n).cycle (past_of n) (pictures_of n) (earlier_past i v.game v.board.script n)
+      (earlier_pictures (at_state n).cycle (frames_of n)) in
       let all : length ((past_of n ++ pictures_of n) ++ point_of_state n) ≤ k + 1 =
-      last_one (at_state n).cycle k (past_of n ++ pictures_of n) (point_of_state n) o.others v.board.machine rest early (few_points (point_of i (at_state n)) (at_state n)) (omega (arith, f.within, met, ap length here)) (omega (arith, cycle))
+      last_one (at_state n).cycle k (past_of n ++ pictures_of n) (point_of_state n) o.others v.board.machine rest early
+      (few_points (point_of i (at_state n)) (at_state n)) (omega (arith, f.within, met, ap length here)) (omega (arith, cycle))
       (ap (λ es. drop k (es ++ o.others)) (sym here) ∙ ap (drop k) (sym o.all) ∙ is) in
       drop_all v.met (events_to v now) (omega (arith, all, met, ap length here))
 
@@ -185,7 +193,8 @@ module _ (v : VipState) (f : Follows v) where
   past_met (suc n) is =
       let cycle : now ≡ (at_state (suc n)).cycle = ap (λ (b : Machine). b.cycle) f.machine ∙ ap (λ m. (at_state m).cycle) is in
       let next : (at_state n).cycle < (at_state (suc n)).cycle = later-move i.rom (held_at v.board.script) (at_state n) in
-      let all : events_to v (at_state n).cycle ≡ past_of (suc n) = events-last i v.game v.board.script (at_state n).cycle n (omega arith) next (λ k below. f.runs k (omega (arith, below, is))) in
+      let all : events_to v (at_state n).cycle ≡ past_of (suc n) =
+      events-last i v.game v.board.script (at_state n).cycle n (omega arith) next (λ k below. f.runs k (omega (arith, below, is))) in
       let few : length (events_to v (at_state n).cycle) ≤ v.met = f.behind (at_state n).cycle (omega (arith, next, cycle)) in
       omega (arith, few, ap length all)
 
@@ -193,7 +202,8 @@ module _ (v : VipState) (f : Follows v) where
   pub last-at-stop : is_stop (interpreter v) v.board.machine ≡ true → v.last ≡ last_view v.edition (events_to v now)
   last-at-stop stop =
       let n : ℕ = v.moves in
-      let point_none : filter_map dispatch_of (point_of_state n) ≡ [] = none_of_stop (is_stop i (at_state n)) (is_dispatch i (at_state n)) (at_state n) (ap (is_stop i) (sym f.machine) ∙ stop) in
+      let point_none : filter_map dispatch_of (point_of_state n) ≡ [] =
+      none_of_stop (is_stop i (at_state n)) (is_dispatch i (at_state n)) (at_state n) (ap (is_stop i) (sym f.machine) ∙ stop) in
       let none : filter_map dispatch_of (events_waiting v) ≡ [] =
       ap (λ es. filter_map dispatch_of (drop v.met es)) (here ∙ append_assoc (past_of n) (pictures_of n) (point_of_state n))
       ∙ none_behind v.met (past_of n) (pictures_of n ++ point_of_state n) (past_met n refl) (none_of_pictures (frames_of n) (point_of_state n) point_none) in

@@ -110,8 +110,17 @@ module _ (shown : Shown) (limit : ℕ) (start : VipState) (out : SinkMeaning) wh
     pub fails-next : (event : Event) (rest : List Event) (piece : List ℕ) → events_left v limit ≡ event ∷ rest → piece_here event ≡ piece ∷ []
         → PutFails piece out' out'' → FailsWithin (pieces_of shown start limit (events_to start limit)) out out''
     fails-next event rest piece split is fault =
-        rw (next event rest split, flat_map-append (piece_of shown start.edition (interpreter start).rom (run_of start limit)) (g.done ++ event ∷ []) rest, flat_map-append (piece_of shown start.edition (interpreter start).rom (run_of start limit)) g.done (event ∷ []), append-nil, is)
-        (FailsWithin-more (pieces_of shown start limit g.done ++ piece ∷ []) (pieces_of shown start limit rest) out out'' (FailsWithin-snoc (pieces_of shown start limit g.done) piece [] out out' out'' g.puts fault))
+        rw (
+          next event rest split,
+          flat_map-append (piece_of shown start.edition (interpreter start).rom (run_of start limit)) (g.done ++ event
+              ∷ []) rest,
+          flat_map-append (piece_of shown start.edition (interpreter start).rom (run_of start limit)) g.done (event
+              ∷ []),
+          append-nil,
+          is,
+        )
+        (FailsWithin-more (pieces_of shown start limit g.done ++ piece ∷ []) (pieces_of shown start limit rest) out out''
+        (FailsWithin-snoc (pieces_of shown start limit g.done) piece [] out out' out'' g.puts fault))
 
     pub going-dispatch : (d : Dispatched limit v v' (events_left v limit)) → PutsAll (piece_here (Dispatch d.b)) out' out''
         → Going shown limit start v' out out'' (dispatches + 1) pictures
@@ -126,8 +135,12 @@ module _ (shown : Shown) (limit : ℕ) (start : VipState) (out : SinkMeaning) wh
       dispatches_are = rw (count-more is_dispatch_event g.done (Dispatch d.b)) (ap (λ n. n + 1) g.dispatches_are);
       pictures_are = rw (count-more is_picture_event g.done (Dispatch d.b)) (g.pictures_are ∙ plus-none _);
       last = last_is;
-      screen = d.meets.shown ∙ ap (λ e. screen_bytes e d.b) g.edition ∙ sym (ap (λ p. option_map_or (screen_bytes start.edition) p (replicate (screen_size start.edition) 0)) (last-dispatched g.done d.b));
-      ends = g.ends ∙ ap (ending_after start.edition (pc_of v.last) (opcode_of v.last)) d.split ∙ here ∙ ap (λ left. ending_after start.edition (pc_of v'.last) (opcode_of v'.last) left) (sym d.meets.one.left);
+      screen =
+          d.meets.shown ∙ ap (λ e. screen_bytes e d.b) g.edition
+          ∙ sym (ap (λ p. option_map_or (screen_bytes start.edition) p (replicate (screen_size start.edition) 0)) (last-dispatched g.done d.b));
+      ends =
+          g.ends ∙ ap (ending_after start.edition (pc_of v.last) (opcode_of v.last)) d.split ∙ here
+          ∙ ap (λ left. ending_after start.edition (pc_of v'.last) (opcode_of v'.last) left) (sym d.meets.one.left);
     }
       where
         told : v'.last ≡ Some (view_at start.edition d.b)
@@ -136,7 +149,8 @@ module _ (shown : Shown) (limit : ℕ) (start : VipState) (out : SinkMeaning) wh
         last_is : v'.last ≡ last_view start.edition (g.done ++ Dispatch d.b ∷ [])
         last_is = told ∙ sym (ap (λ p. option_map (view_at start.edition) p) (last-dispatched g.done d.b))
 
-        here : ending_after start.edition (pc_of v.last) (opcode_of v.last) (Dispatch d.b ∷ d.rest) ≡ ending_after start.edition (pc_of v'.last) (opcode_of v'.last) d.rest
+        here : ending_after start.edition (pc_of v.last) (opcode_of v.last) (Dispatch d.b ∷ d.rest)
+            ≡ ending_after start.edition (pc_of v'.last) (opcode_of v'.last) d.rest
         here = unfold ending_after in rw told refl
 
     pub going-picture : (d : Pictured limit v v' (events_left v limit)) → PutsAll (piece_here (Picture d.m)) out' out''
@@ -152,17 +166,25 @@ module _ (shown : Shown) (limit : ℕ) (start : VipState) (out : SinkMeaning) wh
       dispatches_are = rw (count-more is_dispatch_event g.done (Picture d.m)) (g.dispatches_are ∙ plus-none _);
       pictures_are = rw (count-more is_picture_event g.done (Picture d.m)) (ap (λ n. n + 1) g.pictures_are);
       last = d.meets.told.last ∙ g.last ∙ sym (ap (λ p. option_map (view_at start.edition) p) (last-kept g.done (Picture d.m) refl));
-      screen = d.meets.told.shown ∙ g.screen ∙ sym (ap (λ p. option_map_or (screen_bytes start.edition) p (replicate (screen_size start.edition) 0)) (last-kept g.done (Picture d.m) refl));
-      ends = g.ends ∙ ap (ending_after start.edition (pc_of v.last) (opcode_of v.last)) d.split ∙ here ∙ ap (λ left. ending_after start.edition (pc_of v'.last) (opcode_of v'.last) left) (sym d.meets.one.left);
+      screen =
+          d.meets.told.shown ∙ g.screen ∙ sym
+          (ap (λ p. option_map_or (screen_bytes start.edition) p (replicate (screen_size start.edition) 0))
+          (last-kept g.done (Picture d.m) refl));
+      ends =
+          g.ends ∙ ap (ending_after start.edition (pc_of v.last) (opcode_of v.last)) d.split ∙ here
+          ∙ ap (λ left. ending_after start.edition (pc_of v'.last) (opcode_of v'.last) left) (sym d.meets.one.left);
     }
       where
-        here : ending_after start.edition (pc_of v.last) (opcode_of v.last) (Picture d.m ∷ d.rest) ≡ ending_after start.edition (pc_of v'.last) (opcode_of v'.last) d.rest
+        here : ending_after start.edition (pc_of v.last) (opcode_of v.last) (Picture d.m ∷ d.rest)
+            ≡ ending_after start.edition (pc_of v'.last) (opcode_of v'.last) d.rest
         here = unfold ending_after in rw d.meets.told.last refl
 
     -- the picture that is lent is that of the run
     pub picture-lent : (d : Pictured limit v v' (events_left v limit))
         → v'.board.pictures.finished ≡ Some (picture_of (interpreter start).rom (run_of start limit) d.m)
-    picture-lent d = d.meets.picture ∙ ap (λ rom. Some (picture_of rom (run_of v limit) d.m)) (rom_same start v g.edition) ∙ ap (λ run. Some (picture_of (interpreter start).rom run d.m)) (run_same limit start v g.edition g.game g.script)
+    picture-lent d =
+        d.meets.picture ∙ ap (λ rom. Some (picture_of rom (run_of v limit) d.m)) (rom_same start v g.edition)
+        ∙ ap (λ run. Some (picture_of (interpreter start).rom run d.m)) (run_same limit start v g.edition g.game g.script)
 
     -- at the limit all events are met
     pub ran-end : (e : Ended limit v v' (events_left v limit)) → (tally : Tally) → tally.end ≡ run.AtLimit → tally.dispatches ≡ dispatches
@@ -203,17 +225,22 @@ module _ (shown : Shown) (limit : ℕ) (start : VipState) (out : SinkMeaning) (v
   module _ (out'' : SinkMeaning) where
     pub puts-dispatch : (d : Dispatched limit v v' (events_left v limit)) (done : Unit {0})
         → PieceAnswers (event_piece shown met.Dispatch v') out' out'' (Ok done) → Going shown limit start v' out out'' (dispatches + 1) pictures
-    puts-dispatch d done put = going-dispatch shown limit start out v v' out' out'' dispatches pictures g d (rw (← dispatch_piece shown d) (puts-piece (event_piece shown met.Dispatch v') out' out'' done put))
+    puts-dispatch d done put =
+        going-dispatch shown limit start out v v' out' out'' dispatches pictures g d
+        (rw (← dispatch_piece shown d) (puts-piece (event_piece shown met.Dispatch v') out' out'' done put))
 
     pub puts-picture : (d : Pictured limit v v' (events_left v limit)) (done : Unit {0})
         → PieceAnswers (event_piece shown met.Picture v') out' out'' (Ok done) → Going shown limit start v' out out'' dispatches (pictures + 1)
-    puts-picture d done put = going-picture shown limit start out v v' out' out'' dispatches pictures g d (rw (← picture_piece_is shown d) (puts-piece (event_piece shown met.Picture v') out' out'' done put))
+    puts-picture d done put =
+        going-picture shown limit start out v v' out' out'' dispatches pictures g d
+        (rw (← picture_piece_is shown d) (puts-piece (event_piece shown met.Picture v') out' out'' done put))
 
     fails : (event : Event) (rest : List Event) (piece : Option (List ℕ)) (e : Failed) → events_left v limit ≡ event ∷ rest
         → option_to_list piece ≡ piece_of shown start.edition (interpreter start).rom (run_of start limit) event
         → PieceAnswers piece out' out'' (Err e) → FailsWithin (pieces_of shown start limit (events_to start limit)) out out''
     fails event rest None e split is fault = let bad = fault.0 in cc
-    fails event rest (Some piece) e split is fault = fails-next shown limit start out v v' out' out'' dispatches pictures g event rest piece split (sym is) fault
+    fails event rest (Some piece) e split is fault =
+        fails-next shown limit start out v v' out' out'' dispatches pictures g event rest piece split (sym is) fault
 
     pub fails-dispatch : (d : Dispatched limit v v' (events_left v limit)) (e : Failed)
         → PieceAnswers (event_piece shown met.Dispatch v') out' out'' (Err e)
@@ -243,13 +270,25 @@ module _ (shown : Shown) (limit : ℕ) (start : VipState) (out : SinkMeaning) (v
   pub ran-stop : (stop : StopRecord) (h : Halted limit v v' (events_left v limit) stop) (tally : Tally) → tally.end ≡ run.AtStop stop
       → tally.dispatches ≡ dispatches → tally.pictures ≡ pictures → Ran shown limit start v' out out' tally
   ran-stop stop h tally end ds ps = record {
-    puts = subst (λ events. PutsAll (pieces_of shown start limit events) out out') (sym all) (rw (flat_map-append (piece_of shown start.edition (interpreter start).rom (run_of start limit)) g.done (Stopped h.b ∷ []), none shown, append-nil) g.puts);
+    puts =
+        subst (λ events. PutsAll (pieces_of shown start limit events) out out') (sym all)
+        (rw (
+          flat_map-append (piece_of shown start.edition (interpreter start).rom (run_of start limit)) g.done (Stopped h.b
+              ∷ []),
+          none shown,
+          append-nil,
+        ) g.puts);
     ending = ap ending_in end ∙ sym (g.ends ∙ ap (ending_after start.edition (pc_of v.last) (opcode_of v.last)) h.split ∙ here);
     dispatches = ds ∙ g.dispatches_are ∙ plus-none _ ∙ sym (count-more is_dispatch_event g.done (Stopped h.b)) ∙ ap (count_of is_dispatch_event) (sym all);
     pictures = ps ∙ g.pictures_are ∙ plus-none _ ∙ sym (count-more is_picture_event g.done (Stopped h.b)) ∙ ap (count_of is_picture_event) (sym all);
     edition = h.meets.one.same.edition ∙ g.edition;
-    last = h.meets.told.last ∙ g.last ∙ sym (ap (λ p. option_map (view_at start.edition) p) (last-kept g.done (Stopped h.b) refl)) ∙ ap (last_view start.edition) (sym all);
-    screen = h.meets.told.shown ∙ g.screen ∙ sym (ap (λ p. option_map_or (screen_bytes start.edition) p (replicate (screen_size start.edition) 0)) (last-kept g.done (Stopped h.b) refl)) ∙ ap (last_screen start.edition) (sym all);
+    last =
+        h.meets.told.last ∙ g.last ∙ sym (ap (λ p. option_map (view_at start.edition) p) (last-kept g.done (Stopped h.b) refl))
+        ∙ ap (last_view start.edition) (sym all);
+    screen =
+        h.meets.told.shown ∙ g.screen ∙ sym
+        (ap (λ p. option_map_or (screen_bytes start.edition) p (replicate (screen_size start.edition) 0)) (last-kept g.done (Stopped h.b) refl))
+        ∙ ap (last_screen start.edition) (sym all);
   }
     where
       so_far : events_to start limit ≡ g.done ++ Stopped h.b ∷ h.rest
@@ -320,7 +359,10 @@ module _ (with_time : Bool) (limit : ℕ) (old new : VipState) (out out' out'' :
   pub traced-whole : (done : Unit {0}) → PieceAnswers (screen_told new) out' out'' (Ok done)
       → Shows old limit (traced with_time true old limit) out out'' tally.end
   traced-whole done put = record {
-    puts = PutsAll-append (trace_lines old.edition with_time (events_to old limit)) (screen_piece old.edition (last_dispatch (events_to old limit))) out out' out'' lines_out (rw (← screen) (puts-piece (screen_told new) out' out'' done put));
+    puts =
+        PutsAll-append (trace_lines old.edition with_time (events_to old limit))
+        (screen_piece old.edition (last_dispatch (events_to old limit))) out out' out'' lines_out
+        (rw (← screen) (puts-piece (screen_told new) out' out'' done put));
     ending = ran.ending;
   }
 
@@ -330,7 +372,8 @@ module _ (with_time : Bool) (limit : ℕ) (old new : VipState) (out out' out'' :
   fails_at : (piece : Option (List ℕ)) (e : Failed) → option_to_list piece ≡ screen_piece old.edition (last_dispatch (events_to old limit))
       → PieceAnswers piece out' out'' (Err e) → FailsWithin (traced with_time true old limit) out out''
   fails_at None e is fault = let bad = fault.0 in cc
-  fails_at (Some piece) e is fault = rw (← is) (FailsWithin-snoc (trace_lines old.edition with_time (events_to old limit)) piece [] out out' out'' lines_out fault)
+  fails_at (Some piece) e is fault =
+      rw (← is) (FailsWithin-snoc (trace_lines old.edition with_time (events_to old limit)) piece [] out out' out'' lines_out fault)
 
   pub traced-fails : (e : Failed) → PieceAnswers (screen_told new) out' out'' (Err e) → FailsWithin (traced with_time true old limit) out out''
   traced-fails e fault = fails_at (screen_told new) e screen fault
@@ -339,7 +382,8 @@ module _ (with_time : Bool) (limit : ℕ) (old new : VipState) (out out' out'' :
 pub traced-early : (with_time with_screen : Bool) (v : VipState) (limit : ℕ) (out out' : SinkMeaning)
     → FailsWithin (pieces_of (Lines with_time) v limit (events_to v limit)) out out' → FailsWithin (traced with_time with_screen v limit) out out'
 traced-early with_time with_screen v limit out out' fault =
-    FailsWithin-more (trace_lines v.edition with_time (events_to v limit)) (if with_screen then screen_piece v.edition (last_dispatch (events_to v limit)) else []) out out'
+    FailsWithin-more (trace_lines v.edition with_time (events_to v limit))
+    (if with_screen then screen_piece v.edition (last_dispatch (events_to v limit)) else []) out out'
     (subst (λ pieces. FailsWithin pieces out out') (lines-are with_time v limit) fault)
 
 -- ---- the line of summary
@@ -360,7 +404,9 @@ module _ (number limit : ℕ) (old new : VipState) (out out' out'' : SinkMeaning
 
   pub summed-whole : PutsWhole line_told out' out'' → Shows old limit (summed number old limit) out out'' tally.end
   summed-whole put = record {
-    puts = PutsAll-append [] (summary old.edition number (events_to old limit) ∷ []) out out' out'' nothing_out (subst (λ line. PutsAll (line ∷ []) out' out'') line_is (PutsAll-one line_told out' out'' put));
+    puts =
+        PutsAll-append [] (summary old.edition number (events_to old limit) ∷ []) out out' out'' nothing_out
+        (subst (λ line. PutsAll (line ∷ []) out' out'') line_is (PutsAll-one line_told out' out'' put));
     ending = ran.ending;
   }
 

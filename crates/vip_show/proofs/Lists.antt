@@ -63,4 +63,5 @@ closed-last (Stopped d ∷ e ∷ done) b rest c = cc
 pub stop-last : (i : Interpreter) (game : List ℕ) (script : List KeyEvent) (limit : ℕ) (done : List Event) (b : Machine) (rest : List Event)
     → events_of i game script limit ≡ done ++ Stopped b ∷ rest → rest ≡ []
 unfolding events_of
-stop-last i game script limit done b rest split = closed-last done b rest (subst Closed split (events-closed i (game_run i game script limit) 0 (game_run i game script limit)))
+stop-last i game script limit done b rest split =
+    closed-last done b rest (subst Closed split (events-closed i (game_run i game script limit) 0 (game_run i game script limit)))

@@ -58,7 +58,8 @@ lines_of_points e with_time (Picture m ∷ es) = lines_of_points e with_time es
 lines_of_points e with_time (Dispatch b ∷ es) = ap (λ lines. trace_piece e with_time (Dispatch b) ++ lines) (lines_of_points e with_time es)
 lines_of_points e with_time (Stopped b ∷ es) = lines_of_points e with_time es
 
-lines_append : (e : Edition) (with_time : Bool) (xs ys : List Event) → trace_lines e with_time (xs ++ ys) ≡ trace_lines e with_time xs ++ trace_lines e with_time ys
+lines_append : (e : Edition) (with_time : Bool) (xs ys : List Event)
+    → trace_lines e with_time (xs ++ ys) ≡ trace_lines e with_time xs ++ trace_lines e with_time ys
 unfolding trace_lines
 lines_append e with_time xs ys = flat_map-append (trace_piece e with_time) xs ys
 

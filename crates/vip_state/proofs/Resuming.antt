@@ -81,7 +81,8 @@ pub record Writing (with_time : Bool) (limit : ℕ) (start v : ResumedState) (ou
   pub puts : PutsAll (trace_lines start.edition with_time done) out out'
   pub ends : ending_left start limit ≡ ending_after start.edition v.pc v.opcode (points_left v limit)
 
-lines-append : (e : Edition) (with_time : Bool) (xs ys : List Event) → trace_lines e with_time (xs ++ ys) ≡ trace_lines e with_time xs ++ trace_lines e with_time ys
+lines-append : (e : Edition) (with_time : Bool) (xs ys : List Event)
+    → trace_lines e with_time (xs ++ ys) ≡ trace_lines e with_time xs ++ trace_lines e with_time ys
 unfolding trace_lines
 lines-append e with_time xs ys = flat_map-append (trace_piece e with_time) xs ys
 

@@ -57,7 +57,8 @@ are_dispatches i states before (b ∷ bs) =
     here false true is h = (is, h)
     here false false is h = h
 
-is_dispatch_in : (i : Interpreter) (before : List Event) (b : Machine) (rest : List Event) → AreDispatches i (before ++ Dispatch b ∷ rest) → is_dispatch i b ≡ true
+is_dispatch_in : (i : Interpreter) (before : List Event) (b : Machine) (rest : List Event) → AreDispatches i (before ++ Dispatch b ∷ rest)
+    → is_dispatch i b ≡ true
 unfolding AreDispatches
 is_dispatch_in i [] b rest h = h.0
 is_dispatch_in i (Picture m ∷ es) b rest h = is_dispatch_in i es b rest h

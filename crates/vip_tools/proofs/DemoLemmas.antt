@@ -27,7 +27,8 @@ opcodes-suc seed n =
 -- one opcode more
 bytes_to-suc : (seed n : ℕ) → bytes_to seed (suc n) ≡ bytes_to seed n ++ opcode_bytes (opcode_by (random seed (1 + n) / 65536))
 unfolding bytes_to
-bytes_to-suc seed n = ap (flat_map opcode_bytes) (opcodes-suc seed n) ∙ flat_map-append opcode_bytes (opcodes_to seed n) (opcode_by (random seed (1 + n) / 65536) ∷ [])
+bytes_to-suc seed n =
+    ap (flat_map opcode_bytes) (opcodes-suc seed n) ∙ flat_map-append opcode_bytes (opcodes_to seed n) (opcode_by (random seed (1 + n) / 65536) ∷ [])
 
 -- one random number more
 pub random-more : (seed n : ℕ) → random seed (n + 1) ≡ next_random (random seed n)
@@ -91,7 +92,8 @@ opcodes-low : (seed m n : ℕ) → 1 ≤ m → All (λ opcode. opcode < 65536) (
 opcodes-low seed m zero some = All-nil (λ opcode. opcode < 65536)
 opcodes-low seed m (suc n) some =
     let low : random seed m < 2 ^ 32 = random-low seed m some in
-    All-cons (λ opcode. opcode < 65536) (opcode_by (random seed m / 65536)) _ (opcode_by-low (random seed m / 65536) (omega arith)) (opcodes-low seed (m + 1) n (omega arith))
+    All-cons (λ opcode. opcode < 65536) (opcode_by (random seed m / 65536)) _ (opcode_by-low (random seed m / 65536) (omega arith))
+    (opcodes-low seed (m + 1) n (omega arith))
 
 bytes-low : (opcodes : List ℕ) → All (λ opcode. opcode < 65536) opcodes → (i : ℕ) → slice_index (flat_map opcode_bytes opcodes) i < 256
 bytes-low [] low i = omega arith
@@ -107,7 +109,8 @@ jumps-low = All-cons (λ o. o < 65536) 0x1200 (0x1200 ∷ []) (omega arith) (All
 game_to-low : (seed n i : ℕ) → slice_index (game_to seed n) i < 256
 unfolding game_to
 game_to-low seed n =
-    bytes-low (opcodes_to seed n ++ 0x1200 ∷ 0x1200 ∷ []) (All-cons (λ o. o < 65536) 0xf029 _ (omega arith) (All-append (λ o. o < 65536) _ _ (opcodes-low seed 1 n (omega arith)) jumps-low))
+    bytes-low (opcodes_to seed n ++ 0x1200 ∷ 0x1200 ∷ [])
+    (All-cons (λ o. o < 65536) 0xf029 _ (omega arith) (All-append (λ o. o < 65536) _ _ (opcodes-low seed 1 n (omega arith)) jumps-low))
 
 pub bytes-game : (seed i : ℕ) → slice_index (demo_game seed) i < 256
 bytes-game seed i = subst (λ game. slice_index game i < 256) (game_to-whole seed) (game_to-low seed 1613 i)

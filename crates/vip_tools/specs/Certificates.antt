@@ -50,8 +50,10 @@ within_line within = codes "yes " ++ hex4 within.entry ++ codes " within " ++ de
 
 -- The first fault of the source, the first fault of the certificate for its ROM, or the entry and the limit.
 pub data CyclesComes (source text : List ℕ) : Outcome → Type 0 where
-  NotAssembled : (line : ℕ) (cause : AsmCause) → HasFirstFault (source_lines source) line cause → CyclesComes source text (Refused BadSource (bad_source line cause))
-  FaultyCertificate : (line : ℕ) (cause : CertCause) → Assembled source → checked (rom_in source) text ≡ Err (cert.Fault line cause) → CyclesComes source text (Refused BadCertificate (bad_certificate line cause))
+  NotAssembled : (line : ℕ) (cause : AsmCause) → HasFirstFault (source_lines source) line cause
+      → CyclesComes source text (Refused BadSource (bad_source line cause))
+  FaultyCertificate : (line : ℕ) (cause : CertCause) → Assembled source → checked (rom_in source) text ≡ Err (cert.Fault line cause)
+      → CyclesComes source text (Refused BadCertificate (bad_certificate line cause))
   Leaves : (within : Within) → Assembled source → checked (rom_in source) text ≡ Ok within → CyclesComes source text (Shown (within_line within ∷ []) Done [])
 
 -- ---- a game's certificate
@@ -61,7 +63,8 @@ count_line count = codes "yes " ++ decimal count ++ newline
 
 -- the first fault of the certificate, or how many lines of it say something
 pub data SafeComes (e : Edition) (game text : List ℕ) : Outcome → Type 0 where
-  FaultyProof : (line : ℕ) (cause : ProofCause) → proof_of e game text ≡ Err (proof.Fault line cause) → SafeComes e game text (Refused BadProof (bad_proof line cause))
+  FaultyProof : (line : ℕ) (cause : ProofCause) → proof_of e game text ≡ Err (proof.Fault line cause)
+      → SafeComes e game text (Refused BadProof (bad_proof line cause))
   Proves : (count : ℕ) → proof_of e game text ≡ Ok count → SafeComes e game text (Shown (count_line count ∷ []) Done [])
 
 -- Some certificate that `safe` accepts, which is small enough for it; or where the search for one ended: of which games one is found, nothing is said.

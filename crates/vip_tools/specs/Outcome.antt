@@ -37,7 +37,8 @@ Writes text o = o ≡ Shown (text ∷ []) Done []
 -- ---- a source
 
 pub data SourceComes (source : List ℕ) (IsText : Made → List ℕ → Type 0) : Outcome → Type 0 where
-  FaultySource : (line : ℕ) (cause : AsmCause) → HasFirstFault (source_lines source) line cause → SourceComes source IsText (Refused BadSource (bad_source line cause))
+  FaultySource : (line : ℕ) (cause : AsmCause) → HasFirstFault (source_lines source) line cause
+      → SourceComes source IsText (Refused BadSource (bad_source line cause))
   Assembles : (made : Made) (text : List ℕ) → IsAssembly (source_lines source) made → IsText made text → SourceComes source IsText (Shown (text ∷ []) Done [])
 
 -- its bytes themselves, or their dump

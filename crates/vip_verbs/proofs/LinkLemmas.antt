@@ -37,7 +37,8 @@ module _ (a : AskedLink) (message : List ℕ) where
   refused-roms NoMemory answer = tt
 
   -- both boards are joined, so their output is settled
-  pub link-comes : (l : Linking) → l ≡ started message → ComparesLink (Ok tt) → LinkComes a message (shown (linked_output (linked_after a.number a.moves l.message)))
+  pub link-comes : (l : Linking) → l ≡ started message → ComparesLink (Ok tt)
+      → LinkComes a message (shown (linked_output (linked_after a.number a.moves l.message)))
   link-comes l e roms =
       subst (λ m. LinkComes a message (shown (linked_output (linked_after a.number a.moves m)))) (sym (ap (λ (l : Linking). l.message) e)) (Links roms _ refl)
 

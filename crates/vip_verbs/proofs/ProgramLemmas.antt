@@ -79,7 +79,8 @@ program-performs limit pieces board old new (Err failed) fails = fails
 
 -- what the commands answered
 pub program-debugs :
-    (limit : ℕ) (commands : List DebugCommand) (board board' : Seen) (old new : SinkMeaning) (r : Result ProgramEnd Failed) → ProgramAnswers limit commands board board' old new r
+    (limit : ℕ) (commands : List DebugCommand) (board board' : Seen) (old new : SinkMeaning) (r : Result ProgramEnd Failed)
+    → ProgramAnswers limit commands board board' old new r
     → PerformAnswers (program_output limit (program_written board limit commands) (end_at (machine_with board limit commands))) old new (program_ended limit r)
 program-debugs limit commands board board' old new (Ok program.AtLimit) runs = record {
   puts = runs.puts;
@@ -114,14 +115,17 @@ module _ (memory : Memory) (bytes text : List ℕ) (limit : ℕ) (scripts : List
 
   module _ (commands : List DebugCommand) (read : commands_of Processor limit text ≡ Ok commands) where
     -- they are, so it comes to what a program comes to
-    as_program : (o : Outcome) → ProgramComes memory bytes limit scripts (λ board. program_written board limit commands) (λ board. end_at (machine_with board limit commands)) o → There o
+    as_program : (o : Outcome) → ProgramComes memory bytes limit scripts (λ board. program_written board limit commands)
+        (λ board. end_at (machine_with board limit commands)) o → There o
     as_program o come = rw read come
 
     pub refused-program-board : (refusal : Refusal) → BoardAnswers memory bytes scripts (Err refusal) → RefusedBy There refusal
     refused-program-board refusal answer =
-        rw read (refused-board memory bytes scripts limit (λ board. program_written board limit commands) (λ board. end_at (machine_with board limit commands)) refusal answer)
+        rw read (refused-board memory bytes scripts limit (λ board. program_written board limit commands)
+        (λ board. end_at (machine_with board limit commands)) refusal answer)
 
     pub program-debug-comes : (board : Seen) → BeginsProgram memory bytes scripts board
         → There (shown (program_output limit (program_written board limit commands) (end_at (machine_with board limit commands))))
     program-debug-comes board begins =
-        as_program _ (program-comes memory bytes scripts limit (λ board. program_written board limit commands) (λ board. end_at (machine_with board limit commands)) board begins)
+        as_program _ (program-comes memory bytes scripts limit (λ board. program_written board limit commands)
+        (λ board. end_at (machine_with board limit commands)) board begins)

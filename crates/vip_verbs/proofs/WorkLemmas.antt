@@ -83,7 +83,8 @@ module _ (Here : Outcome → Type 0) (run : RunOf Here) where
 
 module _ (a : AskedDebug) (game text : List ℕ) (scripts : List (List ℕ)) where
   -- its commands aren't read
-  pub refused-commands : (refusal : Refusal) → DebugCommandsAnswer Chip8 a.run.cycles text (Err refusal) → RefusedBy (Comes (debug a) (game ∷ text ∷ scripts)) refusal
+  pub refused-commands : (refusal : Refusal) → DebugCommandsAnswer Chip8 a.run.cycles text (Err refusal)
+      → RefusedBy (Comes (debug a) (game ∷ text ∷ scripts)) refusal
   refused-commands Usage answer = absurd answer
   refused-commands (Unread name) answer = absurd answer
   refused-commands (TooLarge kind) answer = absurd answer

@@ -70,8 +70,10 @@ IsFault _ = Unit {0}
 
 -- A run comes to the first fault of its script, to a ROM that isn't what its source gives, or to what it makes of its script.
 pub data RunTo (e : Edition) (scripts : List (List ℕ)) (outcome : List KeyEvent → Outcome) : Outcome → Type 0 where
-  FaultyScript : (line : ℕ) (cause : ScriptCause) → script_in scripts ≡ Err (Fault line cause) → RunTo e scripts outcome (Refused BadScript (bad_script line cause))
-  FaultyRom : (script : List KeyEvent) (fault : ImageFault) → script_in scripts ≡ Ok script → IsFault fault → RomIs e (Err fault) → RunTo e scripts outcome (Refused (image_status fault) (image_report fault))
+  FaultyScript : (line : ℕ) (cause : ScriptCause) → script_in scripts ≡ Err (Fault line cause)
+      → RunTo e scripts outcome (Refused BadScript (bad_script line cause))
+  FaultyRom : (script : List KeyEvent) (fault : ImageFault) → script_in scripts ≡ Ok script → IsFault fault → RomIs e (Err fault)
+      → RunTo e scripts outcome (Refused (image_status fault) (image_report fault))
   Runs : (script : List KeyEvent) → script_in scripts ≡ Ok script → RomIs e (Ok tt) → RunTo e scripts outcome (outcome script)
 
 -- that is its output and its ending, where it is shown up to a limit
@@ -149,7 +151,8 @@ linked_after number moves message = after (schedule_by number moves) message
 -- received.
 pub data LinkComes (a : AskedLink) (message : List ℕ) : Outcome → Type 0 where
   FaultyRoms : (fault : ImageFault) → IsFault fault → ComparesLink (Err fault) → LinkComes a message (Refused (image_status fault) (image_report fault))
-  Links : ComparesLink (Ok tt) → (s : Pair) → s ≡ linked_after a.number a.moves message → LinkComes a message (Shown (s.received ∷ []) Done (linked_report (length s.sent) (length s.received)))
+  Links : ComparesLink (Ok tt) → (s : Pair) → s ≡ linked_after a.number a.moves message
+      → LinkComes a message (Shown (s.received ∷ []) Done (linked_report (length s.sent) (length s.received)))
 
 -- ---- a command
 

@@ -44,9 +44,13 @@ abbrev pub ended_at : ℕ → Seen → ProgramEnd
 ended_at limit board = end_at (last_machine board limit)
 
 -- A program comes to the first fault of its script, or to its output and its end.
-pub data ProgramComes (memory : AskedMemory) (bytes : List ℕ) (limit : ℕ) (scripts : List (List ℕ)) (pieces : Seen → List (List ℕ)) (ended : Seen → ProgramEnd) : Outcome → Type 0 where
-  FaultyScript : (line : ℕ) (cause : ScriptCause) → script_in scripts ≡ Err (Fault line cause) → ProgramComes memory bytes limit scripts pieces ended (Refused BadScript (bad_script line cause))
-  Runs : (script : List KeyEvent) → script_in scripts ≡ Ok script → ProgramComes memory bytes limit scripts pieces ended (Shown (pieces (started (memory_in memory) bytes script)) Done (program_report limit (ended (started (memory_in memory) bytes script))))
+pub data ProgramComes (memory : AskedMemory) (bytes : List ℕ) (limit : ℕ) (scripts : List (List ℕ)) (pieces : Seen → List (List ℕ))
+    (ended : Seen → ProgramEnd) : Outcome → Type 0 where
+  FaultyScript : (line : ℕ) (cause : ScriptCause) → script_in scripts ≡ Err (Fault line cause)
+      → ProgramComes memory bytes limit scripts pieces ended (Refused BadScript (bad_script line cause))
+  Runs : (script : List KeyEvent) → script_in scripts ≡ Ok script
+      → ProgramComes memory bytes limit scripts pieces ended
+      (Shown (pieces (started (memory_in memory) bytes script)) Done (program_report limit (ended (started (memory_in memory) bytes script))))
 
 -- Under the debugger it comes to the first fault of the commands, or else to their answers, and ends where they leave the board.
 abbrev pub ProgramDebugComes : AskedMemory → List ℕ → ℕ → List (List ℕ) → Result (List Command) CommandFault → Outcome → Type 0

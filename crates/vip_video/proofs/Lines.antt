@@ -11,19 +11,22 @@ filled-so_far (l ∷ ls) [] f e = cc
 filled-so_far (l ∷ ls) (n ∷ ns) f e =
     ap (λ x. x ∷ map filled (so_far ls ns)) (sym f.1) ∙ ap (λ x. l ∷ x) (filled-so_far ls ns f.2 (omega arith))
 
-pub so_far-at : (ls : List (List ℕ)) (ns : List ℕ) → length ls ≡ length ns → (k : ℕ) → k < length ls → get_or (so_far ls ns) k [] ≡ take (get_or ns k 0) (get_or ls k [])
+pub so_far-at : (ls : List (List ℕ)) (ns : List ℕ) → length ls ≡ length ns → (k : ℕ) → k < length ls
+    → get_or (so_far ls ns) k [] ≡ take (get_or ns k 0) (get_or ls k [])
 so_far-at [] ns e k h = absurd (omega arith)
 so_far-at (l ∷ ls) [] e k h = cc
 so_far-at (l ∷ ls) (n ∷ ns) e zero h = refl
 so_far-at (l ∷ ls) (n ∷ ns) e (suc k) h = so_far-at ls ns (omega arith) k (omega arith)
 
-pub so_far-set : (ls : List (List ℕ)) (ns : List ℕ) → length ls ≡ length ns → (k : ℕ) (l : List ℕ) (n : ℕ) → so_far (set ls k l) (set ns k n) ≡ set (so_far ls ns) k (take n l)
+pub so_far-set : (ls : List (List ℕ)) (ns : List ℕ) → length ls ≡ length ns → (k : ℕ) (l : List ℕ) (n : ℕ)
+    → so_far (set ls k l) (set ns k n) ≡ set (so_far ls ns) k (take n l)
 so_far-set [] ns e k l n = refl
 so_far-set (m ∷ ls) [] e k l n = cc
 so_far-set (m ∷ ls) (i ∷ ns) e zero l n = refl
 so_far-set (m ∷ ls) (i ∷ ns) e (suc k) l n = ap (λ x. take i m ∷ x) (so_far-set ls ns (omega arith) k l n)
 
-pub AreFilled-set : (ls : List (List ℕ)) (ns : List ℕ) → AreFilled ls ns → (k : ℕ) (l : List ℕ) (n : ℕ) → n ≤ 8 → l ≡ filled (take n l) → AreFilled (set ls k l) (set ns k n)
+pub AreFilled-set : (ls : List (List ℕ)) (ns : List ℕ) → AreFilled ls ns → (k : ℕ) (l : List ℕ) (n : ℕ) → n ≤ 8 → l ≡ filled (take n l)
+    → AreFilled (set ls k l) (set ns k n)
 AreFilled-set [] ns f k l n h e = tt
 AreFilled-set (m ∷ ls) [] f zero l n h e = tt
 AreFilled-set (m ∷ ls) [] f (suc k) l n h e = tt
@@ -34,7 +37,8 @@ pub record FilledAt (l : List ℕ) (n : ℕ) : Type 0 where
   pub most : n ≤ 8
   pub is : l ≡ filled (take n l)
 
-pub filled-at : (ls : List (List ℕ)) (ns : List ℕ) → AreFilled ls ns → length ls ≡ length ns → (k : ℕ) → k < length ls → FilledAt (get_or ls k []) (get_or ns k 0)
+pub filled-at : (ls : List (List ℕ)) (ns : List ℕ) → AreFilled ls ns → length ls ≡ length ns → (k : ℕ) → k < length ls
+    → FilledAt (get_or ls k []) (get_or ns k 0)
 filled-at [] ns f e k h = absurd (omega arith)
 filled-at (l ∷ ls) [] f e k h = cc
 filled-at (l ∷ ls) (n ∷ ns) f e zero h = record { most = f.0; is = f.1 }
@@ -65,7 +69,8 @@ pub fill-more : (first bytes : List ℕ) (k : ℕ) → k < length bytes → leng
     → set (filled (first ++ take k bytes)) (length first + k) (get_or bytes k 0) ≡ filled (first ++ take (k + 1) bytes)
 fill-more first bytes k h room =
     let b = get_or bytes k 0 in
-    let size : length (first ++ take k bytes) ≡ length first + k = omega (arith, length-append first (take k bytes), length-take-le k bytes (omega (arith, h))) in
+    let size : length (first ++ take k bytes) ≡ length first + k =
+    omega (arith, length-append first (take k bytes), length-take-le k bytes (omega (arith, h))) in
     ap (λ m. set (filled (first ++ take k bytes)) m b) (sym size)
     ∙ filled-push (first ++ take k bytes) b (omega arith)
     ∙ ap filled (append_assoc first (take k bytes) (b ∷ []) ∙ ap (λ x. first ++ x) (sym (take_more bytes k 0 h)))

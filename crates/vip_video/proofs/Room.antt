@@ -16,7 +16,13 @@ pub record IsDmaPlace (t : ℕ) : Type 0 where
   pub before : t % line_cycles < 10
 
 pub dma-place : (t : ℕ) (on : Bool) → dma_at t on ≡ true → IsDmaPlace t
-dma-place t on h = record { from = grind (arith, nat_tests, h); to = grind (arith, nat_tests, h); column = grind (arith, nat_tests, h); before = grind (arith, nat_tests, h) }
+dma-place t on h =
+    record {
+      from = grind (arith, nat_tests, h);
+      to = grind (arith, nat_tests, h);
+      column = grind (arith, nat_tests, h);
+      before = grind (arith, nat_tests, h);
+    }
 
 same_or_not : (k n : ℕ) → (k ≡ n) ⊎ (k ≢ n)
 same_or_not k n = grind arith
@@ -50,7 +56,8 @@ module _ (t : ℕ) (lines : List (List ℕ)) (r : HasRoom t lines) (on : line_of
       let f = w refl in
       bytes_other (line_of t - window_line) k (b ∷ []) lines (λ e. omega (arith, f.from)) ∙ r.later k (omega arith)
 
-  present_after : (byte : Option ℕ) → (IsSome byte → IsDmaPlace t) → (k : ℕ) → line_of (t + 1) ≡ window_line + k → count (after t byte lines) k ≤ (t + 1) % line_cycles - 2
+  present_after : (byte : Option ℕ) → (IsSome byte → IsDmaPlace t) → (k : ℕ) → line_of (t + 1) ≡ window_line + k
+      → count (after t byte lines) k ≤ (t + 1) % line_cycles - 2
   present_after None w k e =
       elim (same_or_not (line_of t) (window_line + k)) [ inl s ↦ omega (arith, r.present k s) | inr n ↦ omega (arith, r.later k (omega arith)) ]
   present_after (Some b) w k e =
@@ -89,7 +96,8 @@ passed-blank t p h = rw h
 within_frame : (t : ℕ) → begins_frame (t + 1) ≡ false → line_of t ≤ line_of (t + 1)
 within_frame t h = let no : (t + 1) % frame ≢ 0 = grind (arith, nat_tests, h) in omega arith
 
-pub room-passed : (t : ℕ) (on : Bool) (byte : Option ℕ) (p : Pictures) → HasRoom t p.lines → (IsSome byte → IsDmaPlace t) → HasRoom (t + 1) (passed (t + 1) (drawn t on byte p)).lines
+pub room-passed : (t : ℕ) (on : Bool) (byte : Option ℕ) (p : Pictures) → HasRoom t p.lines → (IsSome byte → IsDmaPlace t)
+    → HasRoom (t + 1) (passed (t + 1) (drawn t on byte p)).lines
 room-passed t on byte p r w =
     elim (either (begins_frame (t + 1))) [
       | inl b ↦ rw (passed-blank (t + 1) (drawn t on byte p) b) (room-blank (t + 1))

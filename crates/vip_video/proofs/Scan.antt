@@ -19,7 +19,8 @@ pub scan-place : (t n : ℕ) (on : Bool) → 0 < n → ((k : ℕ) → k < n → 
 scan-place t n on some dma =
     let here : IsDmaPlace t = subst IsDmaPlace (add-zero t) (dma-place (t + 0) on (dma 0 some)) in
     let first = 10 - t % line_cycles in
-    let over : 10 < t % line_cycles + n → ⊥ = λ h. let f = dma-place (t + first) on (dma first (omega (arith, h, here.before))) in omega (arith, f.before, here.before) in
+    let over : 10 < t % line_cycles + n → ⊥ =
+    λ h. let f = dma-place (t + first) on (dma first (omega (arith, h, here.before))) in omega (arith, f.before, here.before) in
     record { place = here; most = omega (arith, over) }
 
 pub dma-on : (t : ℕ) (on : Bool) → dma_at t on ≡ true → on ≡ true
@@ -35,7 +36,8 @@ one t b p d =
     ap (chip (t + 1) true true) (passes (t + 1) _ goes_on ∙ ap (λ s. record p { shown = s; lines = lines }) (and-true p.shown))
 
 -- bytes behind others
-behind : (line : ℕ) (before bytes : List ℕ) (lines : List (List ℕ)) → with_bytes line bytes (with_bytes line before lines) ≡ with_bytes line (before ++ bytes) lines
+behind : (line : ℕ) (before bytes : List ℕ) (lines : List (List ℕ))
+    → with_bytes line bytes (with_bytes line before lines) ≡ with_bytes line (before ++ bytes) lines
 behind line before bytes lines =
     set-again lines line (get_or lines line [] ++ before) [] (λ x. x ++ bytes) ∙ ap (set lines line) (append_assoc (get_or lines line []) before bytes)
 
@@ -52,7 +54,8 @@ scanned (b ∷ bytes) t p dma =
     let here : IsDmaPlace t = subst IsDmaPlace (add-zero t) (dma-place (t + 0) true (dma 0 (omega arith))) in
     let same : line_of (t + 1) - window_line ≡ line = omega (arith, here.before) in
     let next : Pictures = record p { lines = with_bytes line (b ∷ []) p.lines } in
-    let later : (k : ℕ) → k < length bytes → dma_at (t + 1 + k) true ≡ true = λ k l. let e : t + (k + 1) ≡ t + 1 + k = omega arith in subst (λ u. dma_at u true ≡ true) e (dma (k + 1) (omega (arith, l))) in
+    let later : (k : ℕ) → k < length bytes → dma_at (t + 1 + k) true ≡ true =
+    λ k l. let e : t + (k + 1) ≡ t + 1 + k = omega arith in subst (λ u. dma_at u true ≡ true) e (dma (k + 1) (omega (arith, l))) in
     let over : t + 1 + length bytes ≡ t + length (b ∷ bytes) = omega arith in
     ap (ended_with bytes) (one t b p here)
     ∙ scanned bytes (t + 1) next later
@@ -74,7 +77,17 @@ room-scanned t bytes lines s r =
     let column : (t + length bytes) % line_cycles ≡ t % line_cycles + length bytes = omega (arith, s.most) in
     record {
       later = λ k l. bytes_other line k bytes lines (λ e. omega (arith, l, e, same, s.place.from)) ∙ r.later k (omega (arith, l, same));
-      present = λ k e. omega (arith, e, same, column, s.place.column, bytes_more line k bytes lines (omega (arith, e, same)), r.present k (omega (arith, e, same)));
+      present =
+          λ k e. omega (
+            arith,
+            e,
+            same,
+            column,
+            s.place.column,
+            bytes_more line k bytes lines (omega (arith, e, same)),
+            r.present k (omega
+                (arith, e, same)),
+          );
     }
 
 -- one more byte at the end

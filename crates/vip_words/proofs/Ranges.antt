@@ -90,7 +90,8 @@ play-low : (words : List Word) (given : Given) (wish : Asked) → play_by words 
 play-low [] given wish h = absurd (cc)
 play-low (file ∷ []) given wish h = absurd (cc)
 play-low (file ∷ cycles ∷ []) given wish h =
-    by_either file cycles given play_program play wish (λ r low. record { cycles = low; moves = omega arith }) (λ r low. record { cycles = low; moves = omega arith }) h
+    by_either file cycles given play_program play wish (λ r low. record { cycles = low; moves = omega arith })
+    (λ r low. record { cycles = low; moves = omega arith }) h
 play-low (file ∷ cycles ∷ more ∷ words) given wish h = absurd (cc)
 
 debug-low : (words : List Word) (given : Given) (wish : Asked) → debug_by words given ≡ Some wish → InRange wish
@@ -157,19 +158,22 @@ bounds-low (word ∷ words) wish h = absurd (cc)
 within-low : (words : List Word) (wish : Asked) → within_by words ≡ Some wish → InRange wish
 within-low [] wish h = absurd (cc)
 within-low (file ∷ []) wish h = absurd (cc)
-within-low (file ∷ certificate ∷ []) wish h = this-low (within (record { file = file; certificate = certificate })) wish (record { cycles = omega arith; moves = omega arith }) h
+within-low (file ∷ certificate ∷ []) wish h =
+    this-low (within (record { file = file; certificate = certificate })) wish (record { cycles = omega arith; moves = omega arith }) h
 within-low (file ∷ certificate ∷ more ∷ words) wish h = absurd (cc)
 
 safe-low : (words : List Word) (given : Given) (wish : Asked) → safe_by words given ≡ Some wish → InRange wish
 safe-low [] given wish h = absurd (cc)
 safe-low (game ∷ []) given wish h = absurd (cc)
 safe-low (game ∷ certificate ∷ []) given wish h =
-    this-low (safe (record { game = game; certificate = certificate; edition = edition_by given.tall })) wish (record { cycles = omega arith; moves = omega arith }) h
+    this-low (safe (record { game = game; certificate = certificate; edition = edition_by given.tall })) wish
+    (record { cycles = omega arith; moves = omega arith }) h
 safe-low (game ∷ certificate ∷ more ∷ words) given wish h = absurd (cc)
 
 certify-low : (words : List Word) (given : Given) (wish : Asked) → certify_by words given ≡ Some wish → InRange wish
 certify-low [] given wish h = absurd (cc)
-certify-low (game ∷ []) given wish h = this-low (certify (record { game = game; edition = edition_by given.tall })) wish (record { cycles = omega arith; moves = omega arith }) h
+certify-low (game ∷ []) given wish h =
+    this-low (certify (record { game = game; edition = edition_by given.tall })) wish (record { cycles = omega arith; moves = omega arith }) h
 certify-low (game ∷ more ∷ words) given wish h = absurd (cc)
 
 verb-low : (v : Verb) (given : Given) (wish : Asked) → asked_of_verb v given ≡ Some wish → InRange wish

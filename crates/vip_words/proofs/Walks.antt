@@ -394,7 +394,8 @@ twice_word name count words word (one_flag flag is) rest rows before x within th
 -- ---- the end of the words
 
 none_once : (keys : Bool) (given : Given) → all_once keys given [] ≡ true
-none_once keys given = rw (same_if keys, same_if given.at, same_if given.screen, same_if given.tall, same_if given.raw, same_if given.rom, same_if given.ram) refl
+none_once keys given =
+    rw (same_if keys, same_if given.at, same_if given.screen, same_if given.tall, same_if given.raw, same_if given.rom, same_if given.ram) refl
   where
     same_if : (b : Bool) → (if b then true else true) ≡ true
     same_if true = refl

@@ -9,4 +9,5 @@ returns-in-Some c = λ has_label text short many there. word_meaning-wrong has_l
     (sym c.entry_of.ensures ∙ c.in-Some.is) (too_many c.in-Some.field-0 has_label text short many)
 
 pub returns-in-None : goal.returns-in-None
-returns-in-None c = λ has_label text short many there. word_meaning-unknown has_label (operands_in text) c.args.word.now there (sym c.entry_of.ensures ∙ c.in-None.is)
+returns-in-None c =
+    λ has_label text short many there. word_meaning-unknown has_label (operands_in text) c.args.word.now there (sym c.entry_of.ensures ∙ c.in-None.is)

@@ -31,20 +31,24 @@ returns-in-Ok-clause-parsed c =
     let code = code_of bytes in
     let statement = statement_of code in
     let parts = c.parts_of-parts.result in
-    let flag : c.is_some.result ≡ is_some (label_of code) = c.is_some.ensures ∙ sym (is_some-map (text_at bytes) parts.label) ∙ ap is_some c.parts_of-parts.ensures.label in
+    let flag : c.is_some.result ≡ is_some (label_of code) =
+    c.is_some.ensures ∙ sym (is_some-map (text_at bytes) parts.label) ∙ ap is_some c.parts_of-parts.ensures.label in
     let meaning : word_meaning (is_some (label_of code)) (operands_in (behind_word statement)) (word_of statement) ≡ Ok c.in-Ok.statement.word =
     ap (λ flag. word_meaning flag (operands_in (behind_word statement)) (word_of statement)) (sym flag)
     ∙ ap (λ text. word_meaning c.is_some.result (operands_in text) (word_of statement)) (sym c.parts_of-parts.ensures.operands)
     ∙ ap (word_meaning c.is_some.result (operands_in (text_at bytes parts.operands))) (sym c.parts_of-parts.ensures.word)
     ∙ c.in-Ok.ensures.parts.1 in
     parsed-statement bytes (sym c.has_bad_bytes.ensures ∙ c.if-has_bad_bytes.false)
-    (sym (c.has_bad_name.ensures code c.parts_of-parts.ensures.label c.parts_of-parts.ensures.operands) ∙ c.if-has_bad_name.false) (Ok c.in-Ok.statement.word) meaning
+    (sym (c.has_bad_name.ensures code c.parts_of-parts.ensures.label c.parts_of-parts.ensures.operands) ∙ c.if-has_bad_name.false)
+    (Ok c.in-Ok.statement.word) meaning
     ∙ ap (λ label. Ok (made label c.in-Ok.statement.word (operands_in (behind_word statement)))) (sym c.parts_of-parts.ensures.label)
-    ∙ ap (λ operands. Ok (made (option_map (text_at bytes) parts.label) c.in-Ok.statement.word operands)) (ap operands_in (sym c.parts_of-parts.ensures.operands) ∙ sym c.in-Ok.ensures.parts.0)
+    ∙ ap (λ operands. Ok (made (option_map (text_at bytes) parts.label) c.in-Ok.statement.word operands))
+    (ap operands_in (sym c.parts_of-parts.ensures.operands) ∙ sym c.in-Ok.ensures.parts.0)
 
 pub returns-in-Ok-clause-order : goal.returns-in-Ok-clause-order
 returns-in-Ok-clause-order c =
-    in_order-line c.parts_of-parts.result.label c.parts_of-parts.result.word c.parts_of-parts.result.operands c.in-Ok.statement.operands.items (length c.args.bytes.now)
+    in_order-line c.parts_of-parts.result.label c.parts_of-parts.result.word c.parts_of-parts.result.operands c.in-Ok.statement.operands.items
+    (length c.args.bytes.now)
     c.parts_of-parts.ensures.order c.in-Ok.ensures.order
 
 pub returns-in-Err-clause-parsed : goal.returns-in-Err-clause-parsed
@@ -53,7 +57,8 @@ returns-in-Err-clause-parsed c =
     let code = code_of bytes in
     let statement = statement_of code in
     let parts = c.parts_of-parts.result in
-    let flag : c.is_some.result ≡ is_some (label_of code) = c.is_some.ensures ∙ sym (is_some-map (text_at bytes) parts.label) ∙ ap is_some c.parts_of-parts.ensures.label in
+    let flag : c.is_some.result ≡ is_some (label_of code) =
+    c.is_some.ensures ∙ sym (is_some-map (text_at bytes) parts.label) ∙ ap is_some c.parts_of-parts.ensures.label in
     let meaning : word_meaning (is_some (label_of code)) (operands_in (behind_word statement)) (word_of statement) ≡ Err c.in-Err.fault =
     ap (λ flag. word_meaning flag (operands_in (behind_word statement)) (word_of statement)) (sym flag)
     ∙ ap (λ text. word_meaning c.is_some.result (operands_in text) (word_of statement)) (sym c.parts_of-parts.ensures.operands)

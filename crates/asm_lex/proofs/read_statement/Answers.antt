@@ -44,10 +44,12 @@ meaning-requires c =
 pub returns-in-Some-meaning-clause-parts : goal.returns-in-Some-meaning-clause-parts
 returns-in-Some-meaning-clause-parts c =
     let line = c.args.line.now in
-    let texts : map (text_at line) c.as_slice.result.now ≡ operands_in (text_at line c.args.behind) = ap (map (text_at line)) c.as_slice.ensures.value ∙ c.in-Some.ensures.texts in (
+    let texts : map (text_at line) c.as_slice.result.now ≡ operands_in (text_at line c.args.behind) =
+    ap (map (text_at line)) c.as_slice.ensures.value ∙ c.in-Some.ensures.texts in (
       c.in-Some.ensures.texts,
       ap (word_meaning c.args.has_label (operands_in (text_at line c.args.behind))) (sym c.text_at-word.ensures)
-          ∙ word_meaning-known c.args.has_label (operands_in (text_at line c.args.behind)) c.text_at-word.result.now c.in-Some-entry_of.entry c.in-Some-meaning.word
+          ∙ word_meaning-known c.args.has_label
+          (operands_in (text_at line c.args.behind)) c.text_at-word.result.now c.in-Some-entry_of.entry c.in-Some-meaning.word
           (positive (length c.text_at-word.result.now) (sym c.is_empty.ensures ∙ c.if-is_empty.false)) (sym c.entry_of.ensures ∙ c.in-Some-entry_of.is)
           (ap (meaning_of c.in-Some-entry_of.entry c.args.has_label) (sym texts) ∙ sym c.meaning.ensures ∙ c.in-Some-meaning.is),
     )
@@ -55,7 +57,8 @@ returns-in-Some-meaning-clause-parts c =
 pub returns-in-None-clause-parts : goal.returns-in-None-clause-parts
 returns-in-None-clause-parts c =
     let line = c.args.line.now in
-    let texts : map (text_at line) c.as_slice.result.now ≡ operands_in (text_at line c.args.behind) = ap (map (text_at line)) c.as_slice.ensures.value ∙ c.in-Some.ensures.texts in
+    let texts : map (text_at line) c.as_slice.result.now ≡ operands_in (text_at line c.args.behind) =
+    ap (map (text_at line)) c.as_slice.ensures.value ∙ c.in-Some.ensures.texts in
     ap (word_meaning c.args.has_label (operands_in (text_at line c.args.behind))) (sym c.text_at-word.ensures)
     ∙ word_meaning-wrong c.args.has_label (operands_in (text_at line c.args.behind)) c.text_at-word.result.now c.in-Some-entry_of.entry
     (positive (length c.text_at-word.result.now) (sym c.is_empty.ensures ∙ c.if-is_empty.false)) (sym c.entry_of.ensures ∙ c.in-Some-entry_of.is)
@@ -72,4 +75,5 @@ returns-in-Some-meaning-clause-operands c =
     let line = c.args.line.now in
     let P : List Span → Type 0 = λ spans. HasItsOperands (Some c.in-Some-meaning.word) (map (text_at line) spans) in
     subst P c.as_slice.ensures.value
-    (meant_operands c.in-Some-entry_of.entry c.args.has_label (map (text_at line) c.as_slice.result.now) c.in-Some-meaning.word (sym c.meaning.ensures ∙ c.in-Some-meaning.is))
+    (meant_operands c.in-Some-entry_of.entry c.args.has_label (map (text_at line) c.as_slice.result.now) c.in-Some-meaning.word
+    (sym c.meaning.ensures ∙ c.in-Some-meaning.is))

@@ -5,4 +5,7 @@ use Rattle.std.proofs.lemmas.Iterator.Adapters.{YieldsList-from_skip, YieldsList
 use Rattle.vip_cli.proofs.words_after_name.Goals as goal
 
 pub returns : goal.returns
-returns c = items_from_collect _ c.collect.ensures.ran (YieldsList-from_skip 1 (YieldsList-from_vec (into_iter_items c.args.args) (ap into_iter_items c.skip.ensures.source) (search rules)) c.skip.ensures.count)
+returns c =
+    items_from_collect _ c.collect.ensures.ran
+    (YieldsList-from_skip 1 (YieldsList-from_vec (into_iter_items c.args.args) (ap into_iter_items c.skip.ensures.source) (search rules))
+    c.skip.ensures.count)

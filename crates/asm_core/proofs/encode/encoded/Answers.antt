@@ -11,4 +11,5 @@ encoded_parts-requires-clause-within c =
     let P : List Span → Type 0 = λ spans. AreWithin c.args.bytes.now spans in
     subst P (sym c.as_slice.ensures.value)
     (operands_within c.args.bytes.now c.in-Ok.line.label c.in-Ok.line.operands.items
-    (in_order-within c.args.bytes.now (option_to_list c.in-Ok.line.label ++ c.in-Ok.line.operands.items) 0 (length c.args.bytes.now) c.in-Ok.ensures.order (omega arith)))
+    (in_order-within c.args.bytes.now (option_to_list c.in-Ok.line.label ++ c.in-Ok.line.operands.items) 0
+    (length c.args.bytes.now) c.in-Ok.ensures.order (omega arith)))

@@ -20,18 +20,21 @@ returns-in-Err-clause-laid c =
 pub is_duplicate-requires : goal.is_duplicate-requires
 is_duplicate-requires c =
     label_within c.args.bytes.now c.in-Ok.line.label c.in-Ok.line.operands.items
-    (in_order-within c.args.bytes.now (option_to_list c.in-Ok.line.label ++ c.in-Ok.line.operands.items) 0 (length c.args.bytes.now) c.in-Ok.ensures.order (omega arith))
+    (in_order-within c.args.bytes.now (option_to_list c.in-Ok.line.label ++ c.in-Ok.line.operands.items) 0
+    (length c.args.bytes.now) c.in-Ok.ensures.order (omega arith))
 
 pub returns-then-is_duplicate-clause-laid : goal.returns-then-is_duplicate-clause-laid
 returns-then-is_duplicate-clause-laid c =
-    laid_out-duplicate (value_in c.args.names.now) c.args.at c.args.bytes.now (shown c.args.bytes.now c.in-Ok.line) c.in-Ok.ensures.parsed (sym c.is_duplicate.ensures ∙ c.if-is_duplicate.true)
+    laid_out-duplicate (value_in c.args.names.now) c.args.at c.args.bytes.now (shown c.args.bytes.now c.in-Ok.line) c.in-Ok.ensures.parsed
+    (sym c.is_duplicate.ensures ∙ c.if-is_duplicate.true)
 
 operands_in_line : (c : goal.After-placed-arg-1) → AreWithin c.args.bytes.now c.as_slice-operands.result.now
 operands_in_line c =
     let P : List Span → Type 0 = λ spans. AreWithin c.args.bytes.now spans in
     subst P (sym c.as_slice-operands.ensures.value)
     (operands_within c.args.bytes.now c.in-Ok.line.label c.in-Ok.line.operands.items
-    (in_order-within c.args.bytes.now (option_to_list c.in-Ok.line.label ++ c.in-Ok.line.operands.items) 0 (length c.args.bytes.now) c.in-Ok.ensures.order (omega arith)))
+    (in_order-within c.args.bytes.now (option_to_list c.in-Ok.line.label ++ c.in-Ok.line.operands.items) 0
+    (length c.args.bytes.now) c.in-Ok.ensures.order (omega arith)))
 
 pub placed-placed-requires-clause-within : goal.placed-placed-requires-clause-within
 placed-placed-requires-clause-within c = operands_in_line c
@@ -42,7 +45,8 @@ has_large_number_in-requires c =
     record {
       within = subst P (sym c.as_slice-operands.ensures.value)
           (operands_within c.args.bytes.now c.in-Ok.line.label c.in-Ok.line.operands.items
-          (in_order-within c.args.bytes.now (option_to_list c.in-Ok.line.label ++ c.in-Ok.line.operands.items) 0 (length c.args.bytes.now) c.in-Ok.ensures.order (omega arith)));
+          (in_order-within c.args.bytes.now (option_to_list c.in-Ok.line.label ++ c.in-Ok.line.operands.items) 0
+          (length c.args.bytes.now) c.in-Ok.ensures.order (omega arith)));
     }
 
 pub returns-in-Ok-judged-clause-laid : goal.returns-in-Ok-judged-clause-laid
@@ -50,12 +54,15 @@ returns-in-Ok-judged-clause-laid c =
     let bytes = c.args.bytes.now in
     let names = value_in c.args.names.now in
     let line = c.in-Ok.line in
-    let texts : map (text_at bytes) c.as_slice-operands.result.now ≡ map (text_at bytes) line.operands.items = ap (map (text_at bytes)) c.as_slice-operands.ensures.value in
+    let texts : map (text_at bytes) c.as_slice-operands.result.now ≡ map (text_at bytes) line.operands.items =
+    ap (map (text_at bytes)) c.as_slice-operands.ensures.value in
     laid_out-judged names c.args.at bytes (shown bytes line) c.in-Ok.ensures.parsed (sym c.is_duplicate.ensures ∙ c.if-is_duplicate.false)
-    ∙ ap (λ flag. judged flag (list_any has_large_number (map (text_at bytes) line.operands.items)) (placed names c.args.at line.word (map (text_at bytes) line.operands.items)))
+    ∙ ap (λ flag. judged flag (list_any has_large_number (map (text_at bytes) line.operands.items))
+    (placed names c.args.at line.word (map (text_at bytes) line.operands.items)))
     (is_some-map (text_at bytes) line.label ∙ sym c.is_some.ensures)
     ∙ ap (λ texts. judged c.is_some.result (list_any has_large_number texts) (placed names c.args.at line.word texts)) (sym texts)
-    ∙ ap (λ large. judged c.is_some.result large (placed names c.args.at line.word (map (text_at bytes) c.as_slice-operands.result.now))) (sym c.has_large_number_in.ensures)
+    ∙ ap (λ large. judged c.is_some.result large (placed names c.args.at line.word (map (text_at bytes) c.as_slice-operands.result.now)))
+    (sym c.has_large_number_in.ensures)
     ∙ ap (judged c.is_some.result c.has_large_number_in.result) (sym c.placed-placed.ensures)
     ∙ sym c.judged.ensures.cause ∙ c.in-Ok-judged.is
 
@@ -63,7 +70,8 @@ pub returns-in-Ok-judged-clause-label : goal.returns-in-Ok-judged-clause-label
 returns-in-Ok-judged-clause-label c = (
   label_in-parts c.args.bytes.now (shown c.args.bytes.now c.in-Ok.line) c.in-Ok.ensures.parsed,
   label_within c.args.bytes.now c.in-Ok.line.label c.in-Ok.line.operands.items
-      (in_order-within c.args.bytes.now (option_to_list c.in-Ok.line.label ++ c.in-Ok.line.operands.items) 0 (length c.args.bytes.now) c.in-Ok.ensures.order (omega arith)),
+      (in_order-within c.args.bytes.now (option_to_list c.in-Ok.line.label ++ c.in-Ok.line.operands.items) 0
+      (length c.args.bytes.now) c.in-Ok.ensures.order (omega arith)),
 )
 
 pub returns-in-Err-judged-clause-laid : goal.returns-in-Err-judged-clause-laid
@@ -71,11 +79,14 @@ returns-in-Err-judged-clause-laid c =
     let bytes = c.args.bytes.now in
     let names = value_in c.args.names.now in
     let line = c.in-Ok.line in
-    let texts : map (text_at bytes) c.as_slice-operands.result.now ≡ map (text_at bytes) line.operands.items = ap (map (text_at bytes)) c.as_slice-operands.ensures.value in
+    let texts : map (text_at bytes) c.as_slice-operands.result.now ≡ map (text_at bytes) line.operands.items =
+    ap (map (text_at bytes)) c.as_slice-operands.ensures.value in
     laid_out-judged names c.args.at bytes (shown bytes line) c.in-Ok.ensures.parsed (sym c.is_duplicate.ensures ∙ c.if-is_duplicate.false)
-    ∙ ap (λ flag. judged flag (list_any has_large_number (map (text_at bytes) line.operands.items)) (placed names c.args.at line.word (map (text_at bytes) line.operands.items)))
+    ∙ ap (λ flag. judged flag (list_any has_large_number (map (text_at bytes) line.operands.items))
+    (placed names c.args.at line.word (map (text_at bytes) line.operands.items)))
     (is_some-map (text_at bytes) line.label ∙ sym c.is_some.ensures)
     ∙ ap (λ texts. judged c.is_some.result (list_any has_large_number texts) (placed names c.args.at line.word texts)) (sym texts)
-    ∙ ap (λ large. judged c.is_some.result large (placed names c.args.at line.word (map (text_at bytes) c.as_slice-operands.result.now))) (sym c.has_large_number_in.ensures)
+    ∙ ap (λ large. judged c.is_some.result large (placed names c.args.at line.word (map (text_at bytes) c.as_slice-operands.result.now)))
+    (sym c.has_large_number_in.ensures)
     ∙ ap (judged c.is_some.result c.has_large_number_in.result) (sym c.placed-placed.ensures)
     ∙ sym c.judged.ensures.cause ∙ c.in-Err-judged.is

@@ -10,4 +10,10 @@ returns-in-Err-clause-fault c = first_of_1 (source_lines c.args.text.now) c.in-E
 pub returns-clause-made : goal.returns-clause-made
 returns-clause-made c =
     let P : Made → Type 0 = λ made. IsAssembly (source_lines c.args.text.now) made in
-    subst P (sym c.new.ensures) (is_assembly (source_lines c.args.text.now) (record { cells = c.in-Ok-pass_2.cells.items; names = c.in-Ok.plan.names; addresses = c.in-Ok.plan.addresses.items; values = c.in-Ok.plan.values.items }) c.in-Ok.ensures.ok c.in-Ok-pass_2.ensures.ok)
+    subst P (sym c.new.ensures) (is_assembly (source_lines c.args.text.now)
+    (record {
+      cells = c.in-Ok-pass_2.cells.items;
+      names = c.in-Ok.plan.names;
+      addresses = c.in-Ok.plan.addresses.items;
+      values = c.in-Ok.plan.values.items;
+    }) c.in-Ok.ensures.ok c.in-Ok-pass_2.ensures.ok)

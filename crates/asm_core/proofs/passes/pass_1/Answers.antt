@@ -15,7 +15,8 @@ loop-line-init c =
       rest = refl;
       found = lays_out_none source c.new-names.result c.push.new.self.items c.new-values.result.items c.new-names.ensures
           (c.push.ensures.items
-          ∙ cond-true (is_ok c.push.result) (c.new-addresses.result.items ++ first_addresses) c.new-addresses.result.items (c.is_err.ensures.negation ∙ ap not c.if-is_err.false)
+          ∙ cond-true (is_ok c.push.result) (c.new-addresses.result.items ++ first_addresses) c.new-addresses.result.items
+          (c.is_err.ensures.negation ∙ ap not c.if-is_err.false)
           ∙ ap (λ items. items ++ first_addresses) c.new-addresses.ensures.items)
           c.new-values.ensures.items;
       place = sym (ap (λ (known : Known). known.at) (known_at-first source));
@@ -30,18 +31,23 @@ loop-line-preserved c =
     let laid = c.in-Ok.laid in
     let items : c.push-in-Some.new.self.items ≡ c.loop-line.addresses.items ++ laid.next ∷ [] =
     c.push-in-Some.ensures.items
-    ∙ cond-true (is_ok c.push-in-Some.result) (c.loop-line.addresses.items ++ laid.next ∷ []) c.loop-line.addresses.items (c.is_err-in-Some.ensures.negation ∙ ap not c.if-is_err-2.false) in
+    ∙ cond-true (is_ok c.push-in-Some.result) (c.loop-line.addresses.items ++ laid.next ∷ []) c.loop-line.addresses.items
+    (c.is_err-in-Some.ensures.negation ∙ ap not c.if-is_err-2.false) in
     let values : c.push-in-Some-2.new.self.items ≡ c.loop-line.values.items ++ laid.value ∷ [] =
     c.push-in-Some-2.ensures.items
-    ∙ cond-true (is_ok c.push-in-Some-2.result) (c.loop-line.values.items ++ laid.value ∷ []) c.loop-line.values.items (c.is_err-in-Some-2.ensures.negation ∙ ap not c.if-is_err-3.false) in
+    ∙ cond-true (is_ok c.push-in-Some-2.result) (c.loop-line.values.items ++ laid.value ∷ []) c.loop-line.values.items
+    (c.is_err-in-Some-2.ensures.negation ∙ ap not c.if-is_err-3.false) in
     let P : List ℕ → Type 0 = λ items. LaysOut source (number + 1) c.add_line.new.names items c.push-in-Some-2.new.self.items in
     let Q : List ℕ → Type 0 = λ values. LaysOut source (number + 1) c.add_line.new.names (c.loop-line.addresses.items ++ laid.next ∷ []) values in
     record {
       rest = sym here.2;
       found = subst P (sym items) (subst Q (sym values)
-          (lays_out_more source number c.loop-line.names c.loop-line.addresses.items c.loop-line.values.items c.loop-line.invariant.found c.loop-line.at c.in-Some.line.now c.add_line.new.names laid
+          (lays_out_more source number c.loop-line.names c.loop-line.addresses.items c.loop-line.values.items c.loop-line.invariant.found
+          c.loop-line.at c.in-Some.line.now c.add_line.new.names laid
           here.0 c.loop-line.invariant.place here.1 c.in-Ok.ensures.ok));
-      place = next_address source number c.loop-line.names c.loop-line.addresses.items c.loop-line.values.items c.loop-line.invariant.found c.loop-line.at c.in-Some.line.now c.add_line.new.names laid
+      place =
+          next_address source number c.loop-line.names c.loop-line.addresses.items c.loop-line.values.items c.loop-line.invariant.found c.loop-line.at
+          c.in-Some.line.now c.add_line.new.names laid
           here.0 c.loop-line.invariant.place here.1 c.in-Ok.ensures.ok;
       few = omega (arith, c.in-Some.ensures.shorter, c.loop-line.invariant.few);
     }
@@ -51,8 +57,10 @@ returns-in-Err-clause-err c =
     let source = source_lines c.args.text.now in
     let number = c.loop-line.number in
     let here = line_here source number c.in-Some.line.now (source_lines c.in-Some.more.now) (sym c.loop-line.invariant.rest ∙ c.in-Some.ensures.lines) in
-    first_in (laid_out (value_in c.loop-line.names) c.loop-line.at c.in-Some.line.now) (fault_1 source) (length source) number c.in-Err.fault c.in-Err.ensures.err
-    (λ cause is. first_fault source number c.loop-line.names c.loop-line.addresses.items c.loop-line.values.items c.loop-line.invariant.found c.loop-line.at c.in-Some.line.now cause
+    first_in (laid_out (value_in c.loop-line.names) c.loop-line.at c.in-Some.line.now) (fault_1 source)
+    (length source) number c.in-Err.fault c.in-Err.ensures.err
+    (λ cause is. first_fault source number c.loop-line.names c.loop-line.addresses.items c.loop-line.values.items c.loop-line.invariant.found
+    c.loop-line.at c.in-Some.line.now cause
     here.0 c.loop-line.invariant.place here.1 is)
 
 pub returns-clause-ok : goal.returns-clause-ok

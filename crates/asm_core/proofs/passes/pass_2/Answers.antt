@@ -26,9 +26,11 @@ put_line-requires-clause-fits c = λ bytes e.
     let names = value_in plan.names in
     let here = line_here source number c.in-Some.line.now (source_lines c.in-Some.more.now) (sym c.loop-line.invariant.rest ∙ c.in-Some.ensures.lines) in
     let place : c.index-at.result.now ≡ address_of source number =
-    get_or_read plan.addresses.items number c.index-at.result.now (omega (arith, c.requires.plan.count_is, here.0)) c.index-at.ensures 0 ∙ c.requires.plan.placed number (omega (arith, here.0)) in
+    get_or_read plan.addresses.items number c.index-at.result.now (omega (arith, c.requires.plan.count_is, here.0)) c.index-at.ensures 0
+    ∙ c.requires.plan.placed number (omega (arith, here.0)) in
     let place_next : c.index-next.result.now ≡ address_of source (number + 1) =
-    get_or_read plan.addresses.items (number + 1) c.index-next.result.now (omega (arith, c.requires.plan.count_is, here.0)) c.index-next.ensures 0 ∙ c.requires.plan.placed (number + 1) (omega (arith, here.0)) in
+    get_or_read plan.addresses.items (number + 1) c.index-next.result.now (omega (arith, c.requires.plan.count_is, here.0)) c.index-next.ensures 0
+    ∙ c.requires.plan.placed (number + 1) (omega (arith, here.0)) in
     let fits = bytes_fit source plan.names plan.addresses.items plan.values.items c.requires.plan number here.0 names bytes
     (ap (λ at. encoded names at (address_of source (number + 1)) (line_at source number)) (sym place)
     ∙ ap (λ next. encoded names c.index-at.result.now next (line_at source number)) (sym place_next)
@@ -42,12 +44,16 @@ returns-in-Err-put_line-clause-err c =
     let plan = c.args.plan.now in
     let here = line_here source number c.in-Some.line.now (source_lines c.in-Some.more.now) (sym c.loop-line.invariant.rest ∙ c.in-Some.ensures.lines) in
     let place : c.index-at.result.now ≡ address_of source number =
-    get_or_read plan.addresses.items number c.index-at.result.now (omega (arith, c.requires.plan.count_is, here.0)) c.index-at.ensures 0 ∙ c.requires.plan.placed number (omega (arith, here.0)) in
+    get_or_read plan.addresses.items number c.index-at.result.now (omega (arith, c.requires.plan.count_is, here.0)) c.index-at.ensures 0
+    ∙ c.requires.plan.placed number (omega (arith, here.0)) in
     let place_next : c.index-next.result.now ≡ address_of source (number + 1) =
-    get_or_read plan.addresses.items (number + 1) c.index-next.result.now (omega (arith, c.requires.plan.count_is, here.0)) c.index-next.ensures 0 ∙ c.requires.plan.placed (number + 1) (omega (arith, here.0)) in
-    first_in_2 (fault_with (entry c.loop-line.cells.items) c.index-at.result.now (encoded (value_in plan.names) c.index-at.result.now c.index-next.result.now c.in-Some.line.now))
+    get_or_read plan.addresses.items (number + 1) c.index-next.result.now (omega (arith, c.requires.plan.count_is, here.0)) c.index-next.ensures 0
+    ∙ c.requires.plan.placed (number + 1) (omega (arith, here.0)) in
+    first_in_2 (fault_with (entry c.loop-line.cells.items) c.index-at.result.now
+    (encoded (value_in plan.names) c.index-at.result.now c.index-next.result.now c.in-Some.line.now))
     (fault_2 source) (length source) number c.in-Err-put_line.fault c.in-Err-put_line.ensures.err
-    (λ cause is. first_fault_2 source plan.names plan.addresses.items plan.values.items c.requires.plan number here.0 c.loop-line.cells.items c.loop-line.invariant.found c.in-Some.line.now
+    (λ cause is. first_fault_2 source plan.names plan.addresses.items plan.values.items c.requires.plan number here.0 c.loop-line.cells.items
+    c.loop-line.invariant.found c.in-Some.line.now
     c.index-at.result.now c.index-next.result.now here.1 place place_next cause is)
 
 pub loop-line-preserved : goal.loop-line-preserved
@@ -57,14 +63,18 @@ loop-line-preserved c =
     let plan = c.args.plan.now in
     let here = line_here source number c.in-Some.line.now (source_lines c.in-Some.more.now) (sym c.loop-line.invariant.rest ∙ c.in-Some.ensures.lines) in
     let place : c.index-at.result.now ≡ address_of source number =
-    get_or_read plan.addresses.items number c.index-at.result.now (omega (arith, c.requires.plan.count_is, here.0)) c.index-at.ensures 0 ∙ c.requires.plan.placed number (omega (arith, here.0)) in
+    get_or_read plan.addresses.items number c.index-at.result.now (omega (arith, c.requires.plan.count_is, here.0)) c.index-at.ensures 0
+    ∙ c.requires.plan.placed number (omega (arith, here.0)) in
     let place_next : c.index-next.result.now ≡ address_of source (number + 1) =
-    get_or_read plan.addresses.items (number + 1) c.index-next.result.now (omega (arith, c.requires.plan.count_is, here.0)) c.index-next.ensures 0 ∙ c.requires.plan.placed (number + 1) (omega (arith, here.0)) in
+    get_or_read plan.addresses.items (number + 1) c.index-next.result.now (omega (arith, c.requires.plan.count_is, here.0)) c.index-next.ensures 0
+    ∙ c.requires.plan.placed (number + 1) (omega (arith, here.0)) in
     record {
       rest = sym here.2;
       inside = omega (arith, here.0);
       count = c.put_line.ensures.count ∙ c.loop-line.invariant.count;
-      found = has_bytes_more source plan.names plan.addresses.items plan.values.items c.requires.plan number here.0 c.loop-line.cells.items c.loop-line.invariant.found c.in-Some.line.now
+      found =
+          has_bytes_more source plan.names plan.addresses.items plan.values.items c.requires.plan number here.0 c.loop-line.cells.items
+          c.loop-line.invariant.found c.in-Some.line.now
           c.index-at.result.now c.index-next.result.now here.1 place place_next c.put_line.new.cells.items c.in-Ok-put_line.ensures.ok;
       few = omega (arith, c.in-Some.ensures.shorter, c.loop-line.invariant.few);
     }

@@ -8,7 +8,8 @@ use Rattle.asm_core.proofs.source.next_line.Goals as goal
 
 pub returns-then-is_empty-clause-lines : goal.returns-then-is_empty-clause-lines
 returns-then-is_empty-clause-lines c =
-    ap source_lines (nil_from_length c.args.source.now (eqb-true (length c.args.source.now) 0 (sym c.is_empty.ensures ∙ c.if-is_empty.true))) ∙ source_lines-empty
+    ap source_lines (nil_from_length c.args.source.now (eqb-true (length c.args.source.now) 0 (sym c.is_empty.ensures ∙ c.if-is_empty.true)))
+    ∙ source_lines-empty
 
 pub returns-then-end-source-clause-lines : goal.returns-then-end-source-clause-lines
 returns-then-end-source-clause-lines c =

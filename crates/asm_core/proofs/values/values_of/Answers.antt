@@ -58,7 +58,8 @@ loop-operand-preserved c =
           record {
             completes = ap₂ (λ in_range v. collect_from in_range v.items (map value rest)) w.in_range-is w.values-is
                 ∙ (collect_range c.loop-operand.in_range values (map value rest)
-                ∙ (ap (λ r. collect_from c.loop-operand.in_range values (r ∷ map value rest)) (sym (w.in-Err-Range.is ∙ ap Err w.in-Err-Range.field-0-is)) ∙ completes));
+                ∙ (ap (λ r. collect_from c.loop-operand.in_range values (r ∷ map value rest))
+                (sym (w.in-Err-Range.is ∙ ap Err w.in-Err-Range.field-0-is)) ∙ completes));
             count = omega (arith, ap (λ v. length v.items) w.values-is, so_far.count);
             bounds = subst (λ items. All (λ value. value ≤ c.args.most) items) (sym (ap (λ v. v.items) w.values-is)) so_far.bounds;
             expressions = expressions;

@@ -9,4 +9,5 @@ returns-then-stops-clause-place c =
 
 pub returns-clause-place : goal.returns-clause-place
 returns-clause-place c =
-    sym (position_or_len_is (stops c.args.stop) c.args.text.now _ 0 (omega arith) (λ k below. c.loop-place.invariant k (omega arith)) (λ below. absurd (omega arith)))
+    sym (position_or_len_is (stops c.args.stop) c.args.text.now _ 0 (omega arith) (λ k below. c.loop-place.invariant k (omega arith))
+    (λ below. absurd (omega arith)))

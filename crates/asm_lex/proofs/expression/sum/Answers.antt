@@ -24,8 +24,11 @@ loop-rest-init g c = record {
 pub loop-rest-preserved : goal.loop-rest-preserved
 loop-rest-preserved g c =
     let P : Option (ℕ × Bor (List ℕ)) → Type 0 = λ r. list_all is_term (left_terms (left r)) ≡ true in
-    let Q : Option (ℕ × Bor (List ℕ)) → Type 0 = λ r. (t : List ℕ) → Contains (filter is_name (left_terms (left r))) t → Contains (names_in c.args.text.now) t in
-    let R : Option (ℕ × Bor (List ℕ)) → Type 0 = λ r. (names : List ℕ → Option ℕ) → AnswersAs g.F.Fn c.args.look.now c.args.text.now names → Completes names c.args.here c.args.text.now (to_z w64 c.loop-rest.sum-bits) (left r) in
+    let Q : Option (ℕ × Bor (List ℕ)) → Type 0 =
+    λ r. (t : List ℕ) → Contains (filter is_name (left_terms (left r))) t → Contains (names_in c.args.text.now) t in
+    let R : Option (ℕ × Bor (List ℕ)) → Type 0 =
+    λ r. (names : List ℕ → Option ℕ) → AnswersAs g.F.Fn c.args.look.now c.args.text.now names
+    → Completes names c.args.here c.args.text.now (to_z w64 c.loop-rest.sum-bits) (left r) in
     let terms = subst P c.in-Some.is c.loop-rest.invariant.terms in
     let names = subst Q c.in-Some.is c.loop-rest.invariant.names in
     let completes = subst R c.in-Some.is c.loop-rest.invariant.completes in
@@ -39,7 +42,8 @@ loop-rest-preserved g c =
     let low = subst M c.in-Some.is c.loop-rest.invariant.low in
     let high = subst N c.in-Some.is c.loop-rest.invariant.high in
     let same : to_z w64 (of_z w64 c.with_term-sum.result) ≡ c.with_term-sum.result = to_z-of_z w64 c.with_term-sum.result (search (arith, ints)) in
-    let told : (values : List ℕ → Option ℕ) → AnswersAs g.F.Fn c.args.look.now c.args.text.now values → AnswersTermAs g.F.Fn c.args.look.now c.first_term.result.0.now values =
+    let told : (values : List ℕ → Option ℕ) → AnswersAs g.F.Fn c.args.look.now c.args.text.now values
+    → AnswersTermAs g.F.Fn c.args.look.now c.first_term.result.0.now values =
     λ values answers name answer named is post.
     let S : List ℕ → Type 0 = λ t. Contains (names_in c.args.text.now) t in
     answers name answer (subst S (sym is) (names _ (name_first c.in-Some.terms.now c.first_term.result.0.now more parts named))) post ∙ ap values is in
@@ -58,8 +62,11 @@ loop-rest-preserved g c =
 
 pub returns-in_default-term_value-clause-undefined : goal.returns-in_default-term_value-clause-undefined
 returns-in_default-term_value-clause-undefined g c = λ values answers.
-    let Q : Option (ℕ × Bor (List ℕ)) → Type 0 = λ r. (t : List ℕ) → Contains (filter is_name (left_terms (left r))) t → Contains (names_in c.args.text.now) t in
-    let R : Option (ℕ × Bor (List ℕ)) → Type 0 = λ r. (names : List ℕ → Option ℕ) → AnswersAs g.F.Fn c.args.look.now c.args.text.now names → Completes names c.args.here c.args.text.now (to_z w64 c.loop-rest.sum-bits) (left r) in
+    let Q : Option (ℕ × Bor (List ℕ)) → Type 0 =
+    λ r. (t : List ℕ) → Contains (filter is_name (left_terms (left r))) t → Contains (names_in c.args.text.now) t in
+    let R : Option (ℕ × Bor (List ℕ)) → Type 0 =
+    λ r. (names : List ℕ → Option ℕ) → AnswersAs g.F.Fn c.args.look.now c.args.text.now names
+    → Completes names c.args.here c.args.text.now (to_z w64 c.loop-rest.sum-bits) (left r) in
     let names = subst Q c.in-Some.is c.loop-rest.invariant.names in
     let completes = subst R c.in-Some.is c.loop-rest.invariant.completes in
     let parts = c.first_term.ensures.terms in

@@ -27,17 +27,24 @@ returns-then-span-clause-texts c =
 
 pub returns-then-is_full-clause-texts : goal.returns-then-is_full-clause-texts
 returns-then-is_full-clause-texts c =
-    let P : Option Span → Type 0 = λ rest. map (text_at c.args.line.now) c.loop-rest.operands.items ++ map trimmed (parts_of is_comma (option_map (text_at c.args.line.now) rest)) ≡ operands_in (text_at c.args.line.now c.args.span) in
-    operands-full (map (text_at c.args.line.now) c.loop-rest.operands.items) (text_at c.args.line.now c.in-Some.left) (operands_in (text_at c.args.line.now c.args.span))
+    let P : Option Span → Type 0 =
+    λ rest. map (text_at c.args.line.now) c.loop-rest.operands.items
+    ++ map trimmed (parts_of is_comma (option_map (text_at c.args.line.now) rest)) ≡ operands_in (text_at c.args.line.now c.args.span) in
+    operands-full (map (text_at c.args.line.now) c.loop-rest.operands.items) (text_at c.args.line.now c.in-Some.left)
+    (operands_in (text_at c.args.line.now c.args.span))
     (subst P c.in-Some.is c.loop-rest.invariant.texts)
-    (length-map c.loop-rest.operands.items (text_at c.args.line.now) ∙ eqb-true (length c.loop-rest.operands.items) 128 (sym c.is_full.ensures.value ∙ c.if-is_full.true))
+    (length-map c.loop-rest.operands.items (text_at c.args.line.now)
+    ∙ eqb-true (length c.loop-rest.operands.items) 128 (sym c.is_full.ensures.value ∙ c.if-is_full.true))
 
 pub loop-rest-preserved : goal.loop-rest-preserved
 loop-rest-preserved c =
     let line = c.args.line.now in
-    let P : Option Span → Type 0 = λ rest. map (text_at line) c.loop-rest.operands.items ++ map trimmed (parts_of is_comma (option_map (text_at line) rest)) ≡ operands_in (text_at line c.args.span) in
+    let P : Option Span → Type 0 =
+    λ rest. map (text_at line) c.loop-rest.operands.items ++ map trimmed (parts_of is_comma (option_map (text_at line) rest))
+    ≡ operands_in (text_at line c.args.span) in
     let Q : Option Span → Type 0 = λ rest. IfSome rest (λ rest. (rest.from ≤ rest.to) × (rest.to ≡ c.args.span.to)) in
-    let R : Option Span → Type 0 = λ rest. AreInOrder c.args.span.from c.loop-rest.operands.items (option_map_or (λ (rest : Span). rest.from) rest c.args.span.to) in
+    let R : Option Span → Type 0 =
+    λ rest. AreInOrder c.args.span.from c.loop-rest.operands.items (option_map_or (λ (rest : Span). rest.from) rest c.args.span.to) in
     let texts = subst P c.in-Some.is c.loop-rest.invariant.texts in
     let within = subst Q c.in-Some.is c.loop-rest.invariant.within in
     let order = subst R c.in-Some.is c.loop-rest.invariant.order in
@@ -46,11 +53,16 @@ loop-rest-preserved c =
     let next = next_from c.cut-more.result.1 c.cut-more.result.0.to c.args.span.to rest_in (omega (arith, c.cut-more.ensures.within, within)) in
     record {
       texts = ap (λ items. map (text_at line) items ++ map trimmed (parts_of is_comma (option_map (text_at line) c.cut-more.result.1))) c.push.ensures.items
-          ∙ ap (λ done. done ++ map trimmed (parts_of is_comma (option_map (text_at line) c.cut-more.result.1))) (map-append (text_at line) c.loop-rest.operands.items (c.trimmed.result ∷ []))
-          ∙ operands-step (map (text_at line) c.loop-rest.operands.items) (text_at line c.cut-more.result.0) (text_at line c.trimmed.result) (slice_split is_comma (text_at line c.in-Some.left))
-          (parts_of is_comma (option_map (text_at line) c.cut-more.result.1)) (operands_in (text_at line c.args.span)) texts c.cut-more.ensures.parts c.trimmed.ensures.text;
+          ∙ ap (λ done. done ++ map trimmed (parts_of is_comma (option_map (text_at line) c.cut-more.result.1)))
+          (map-append (text_at line) c.loop-rest.operands.items (c.trimmed.result ∷ []))
+          ∙ operands-step (map (text_at line) c.loop-rest.operands.items) (text_at line c.cut-more.result.0) (text_at line c.trimmed.result)
+          (slice_split is_comma (text_at line c.in-Some.left))
+          (parts_of is_comma (option_map (text_at line) c.cut-more.result.1))
+          (operands_in (text_at line c.args.span)) texts c.cut-more.ensures.parts c.trimmed.ensures.text;
       within = next.1;
-      order = let S : List Span → Type 0 = λ items. AreInOrder c.args.span.from items (option_map_or (λ (rest : Span). rest.from) c.cut-more.result.1 c.args.span.to) in
+      order =
+          let S : List Span → Type 0 = λ items. AreInOrder c.args.span.from items
+          (option_map_or (λ (rest : Span). rest.from) c.cut-more.result.1 c.args.span.to) in
           subst S (sym c.push.ensures.items)
           (in_order-push c.args.span.from c.loop-rest.operands.items c.in-Some.left.from c.trimmed.result _ order
           (omega (arith, c.cut-more.ensures.within, c.trimmed.ensures.within)) (c.trimmed.ensures.within.1) (omega (arith, next.0, c.trimmed.ensures.within)));

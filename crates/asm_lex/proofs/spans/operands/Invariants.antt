@@ -10,7 +10,8 @@ use Rattle.asm_lex.proofs.spans.operands.Given as goal
 -- the operands so far and those that are left are the operands
 abbrev pub invariant-loop-rest : goal.invariant-loop-rest
 invariant-loop-rest l = record {
-  texts : map (text_at l.fn.line) l.operands.items ++ map trimmed (parts_of is_comma (option_map (text_at l.fn.line) l.rest)) ≡ operands_in (text_at l.fn.line l.fn.span);
+  texts : map (text_at l.fn.line) l.operands.items ++ map trimmed (parts_of is_comma (option_map (text_at l.fn.line) l.rest))
+      ≡ operands_in (text_at l.fn.line l.fn.span);
   within : IfSome l.rest (λ rest. (rest.from ≤ rest.to) × (rest.to ≡ l.fn.span.to));
   order : AreInOrder l.fn.span.from l.operands.items (option_map_or (λ rest. rest.from) l.rest l.fn.span.to);
 }

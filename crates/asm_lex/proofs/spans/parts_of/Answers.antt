@@ -26,7 +26,8 @@ returns-clause-operands c =
     let line = c.args.line.now in
     let statement = c.without_leading_blanks-statement.result in
     let word = c.before-word.result in
-    let part : take (statement.to - word.to) (drop word.to line) ≡ drop (length (take (word.to - statement.from) (drop statement.from line))) (text_at line statement) =
+    let part : take (statement.to - word.to) (drop word.to line)
+    ≡ drop (length (take (word.to - statement.from) (drop statement.from line))) (text_at line statement) =
     text_behind line statement.from word.to statement.to
     (omega (arith, c.before-word.ensures.within, c.before-word.ensures.from))
     (omega (arith, c.before-word.ensures.within))

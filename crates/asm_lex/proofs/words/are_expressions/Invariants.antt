@@ -7,4 +7,5 @@ use Rattle.asm_lex.proofs.words.are_expressions.Given as goal
 
 -- all operands are expressions exactly where those that are left are
 abbrev pub invariant-loop-operand : goal.invariant-loop-operand
-invariant-loop-operand l = list_all is_expression (map (text_at l.line) (drop l.operand-index l.operands)) ≡ list_all is_expression (map (text_at l.line) l.operands)
+invariant-loop-operand l =
+    list_all is_expression (map (text_at l.line) (drop l.operand-index l.operands)) ≡ list_all is_expression (map (text_at l.line) l.operands)

@@ -14,4 +14,5 @@ returns c = on_ok c.append-2.result (λ e.
     let first : c.append.new.text.items ≡ text ++ hex4 (c.args.behind - length row) = c.in_ok-append.ensures ∙ ap (λ digits. text ++ digits) c.hex4.ensures in
     e ∙ ap (λ t. t ++ newline) (c.in_ok-append_bytes.ensures ∙ ap (λ t. t ++ bytes_text row) first)
     ∙ all_appended (hex4 (c.args.behind - length row) ∷ bytes_text row ∷ []) text newline
-    ∙ ap (λ t. text ++ t) (sym (row_text-some c.args.behind row (omega (arith, eqb-false (length row) 0 (sym c.is_empty.ensures ∙ c.if-is_empty.false)))))) c.append-2.ensures
+    ∙ ap (λ t. text ++ t) (sym (row_text-some c.args.behind row
+    (omega (arith, eqb-false (length row) 0 (sym c.is_empty.ensures ∙ c.if-is_empty.false)))))) c.append-2.ensures

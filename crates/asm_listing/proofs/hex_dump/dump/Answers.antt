@@ -31,7 +31,8 @@ loop-address-preserved c =
           record {
             text = ap (λ t. t.items ++ dump_of (row_before (address + 1) c.match-byte.row.items ++ rest)) w.text-is
                 ∙ ap (λ r. w.make_room.new.text.items ++ dump_of (row_before (address + 1) r ++ rest)) items
-                ∙ dump-byte made address w.in-Some.byte w.make_room.new.text.items room c.loop-address-test.true w.in_ok-make_room-in-Some.ensures.few (sym w.in-Some.is ∙ c.byte.ensures)
+                ∙ dump-byte made address w.in-Some.byte w.make_room.new.text.items room c.loop-address-test.true w.in_ok-make_room-in-Some.ensures.few
+                (sym w.in-Some.is ∙ c.byte.ensures)
                 ∙ w.in_ok-make_room-in-Some.ensures.text (drop address (places_of made))
                 ∙ so_far.text;
             before = omega (arith, grown, w.in_ok-make_room-in-Some.ensures.few);
@@ -42,7 +43,8 @@ loop-address-preserved c =
           record {
             text = ap (λ t. t.items ++ dump_of (row_before (address + 1) c.match-byte.row.items ++ rest)) w.text-is
                 ∙ ap (λ r. w.append_row.new.text.items ++ dump_of (row_before (address + 1) r ++ rest)) items
-                ∙ ap (λ t. t ++ dump_of (row_before (address + 1) [] ++ rest)) (w.in_ok-append_row-in-None.ensures ∙ ap (λ r. text ++ row_text address r) w.as_slice.ensures.value)
+                ∙ ap (λ t. t ++ dump_of (row_before (address + 1) [] ++ rest))
+                (w.in_ok-append_row-in-None.ensures ∙ ap (λ r. text ++ row_text address r) w.as_slice.ensures.value)
                 ∙ dump-none made address text row c.loop-address-test.true so_far.few (sym w.in-None.is ∙ c.byte.ensures)
                 ∙ so_far.text;
             before = omega (arith, ap length items);

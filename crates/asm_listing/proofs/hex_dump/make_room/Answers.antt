@@ -9,5 +9,7 @@ pub returns-in_ok-append_row-clause-text : goal.returns-in_ok-append_row-clause-
 returns-in_ok-append_row-clause-text c = λ rest.
     let behind : ℕ = c.args.behind in
     ap (λ items. c.append_row.new.text.items ++ dump_of (row_before behind items ++ rest)) c.clear.ensures
-    ∙ ap (λ t. t ++ dump_of (row_before behind [] ++ rest)) (c.in_ok-append_row.ensures ∙ ap (λ row. c.args.text.now.items ++ row_text behind row) c.as_slice.ensures.value)
-    ∙ room-full behind c.args.text.now.items c.args.row.now.items rest (eqb-true (length c.args.row.now.items) 16 (sym c.is_full.ensures.value ∙ c.if-is_full.true))
+    ∙ ap (λ t. t ++ dump_of (row_before behind [] ++ rest))
+    (c.in_ok-append_row.ensures ∙ ap (λ row. c.args.text.now.items ++ row_text behind row) c.as_slice.ensures.value)
+    ∙ room-full behind c.args.text.now.items c.args.row.now.items rest
+    (eqb-true (length c.args.row.now.items) 16 (sym c.is_full.ensures.value ∙ c.if-is_full.true))

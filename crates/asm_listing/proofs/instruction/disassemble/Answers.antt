@@ -14,7 +14,8 @@ use Rattle.asm_listing.proofs.instruction.disassemble.Goals as goal
 pub loop-rest-init : goal.loop-rest-init
 loop-rest-init c =
     let one : c.append.new.text.items ≡ codes " ORG 0x" = c.in_ok-append.ensures ∙ ap (λ t. t ++ codes " ORG 0x") c.new-text.ensures.items in
-    let two : c.append-2.new.text.items ≡ origin c.args.address = c.in_ok-append-2.ensures ∙ ap (λ t. t ++ c.hex4.result) one ∙ ap (λ digits. codes " ORG 0x" ++ digits) c.hex4.ensures in
+    let two : c.append-2.new.text.items ≡ origin c.args.address =
+    c.in_ok-append-2.ensures ∙ ap (λ t. t ++ c.hex4.result) one ∙ ap (λ digits. codes " ORG 0x" ++ digits) c.hex4.ensures in
     let three : c.append-3.new.text.items ≡ origin c.args.address ++ newline = c.in_ok-append-3.ensures ∙ ap (λ t. t ++ newline) two in
     record {
       text = ap (λ t. t ++ lines_from (starts 0 c.from-at.result c.args.bytes.now)) three
@@ -33,11 +34,22 @@ loop-rest-preserved c =
     record {
       text = ap (λ left. c.append_line.new.text.items ++ lines_from (starts 0 (at + c.from-at-in-loop-rest.result) left)) (take_rest rest c.from.result)
           ∙ ap (λ t. t ++ lines_from (starts 0 (at + c.from-at-in-loop-rest.result) (drop c.from.result rest))) c.in_ok-shown.ensures.line
-          ∙ ap (λ n. (c.loop-rest.text.items ++ ended_line at rest) ++ lines_from (starts 0 (at + n) (drop c.from.result rest))) (c.from-at-in-loop-rest.ensures ∙ is)
+          ∙ ap (λ n. (c.loop-rest.text.items ++ ended_line at rest) ++ lines_from (starts 0 (at + n) (drop c.from.result rest)))
+          (c.from-at-in-loop-rest.ensures ∙ is)
           ∙ ap (λ n. (c.loop-rest.text.items ++ ended_line at rest) ++ lines_from (starts 0 (at + taken rest) (drop n rest))) (left ∙ is)
           ∙ lines-next c.loop-rest.text.items rest at (omega (arith, is, c.in_ok-shown.ensures.least)) (omega (arith, is, c.in_ok-shown.ensures.most))
           ∙ c.loop-rest.invariant.text;
-      fits = omega (arith, c.loop-rest.invariant.fits, c.in_ok-shown.ensures.most, c.from-at-in-loop-rest.ensures, left, ap length (take_rest rest c.from.result), length-drop c.from.result rest);
+      fits =
+          omega (
+            arith,
+            c.loop-rest.invariant.fits,
+            c.in_ok-shown.ensures.most,
+            c.from-at-in-loop-rest.ensures,
+            left,
+            ap length (take_rest rest
+                c.from.result),
+            length-drop c.from.result rest,
+          );
     }
 
 pub returns-clause-way_back : goal.returns-clause-way_back

@@ -12,5 +12,6 @@ pub loop-address-preserved : goal.loop-address-preserved
 loop-address-preserved c =
     c.in_ok-append.ensures
     ∙ ap (λ t. t ++ c.hex2.result) c.loop-address.invariant
-    ∙ ap (λ digits. (c.args.list.now.items ++ digits_of (bytes_from c.args.made.now c.args.from (c.loop-address.address - c.args.from))) ++ digits) (c.hex2.ensures ∙ ap hex2 c.byte_at.ensures)
+    ∙ ap (λ digits. (c.args.list.now.items ++ digits_of (bytes_from c.args.made.now c.args.from (c.loop-address.address - c.args.from))) ++ digits)
+    (c.hex2.ensures ∙ ap hex2 c.byte_at.ensures)
     ∙ digits-more c.args.made.now c.args.list.now.items c.args.from c.loop-address.address c.loop-address.auto.address

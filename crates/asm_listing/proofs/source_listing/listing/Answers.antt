@@ -20,7 +20,8 @@ append_line-requires c =
     let source = source_lines c.args.text.now in
     let index = c.loop-line.index in
     let here = line_here source index c.in-Some.line.now (source_lines c.in-Some.more.now) (sym c.loop-line.invariant.rest ∙ c.in-Some.ensures.lines) in
-    subst (λ (place : LinePlace). place.at + byte_count place ≤ 65536) (sym c.line_place-place.ensures) (place_fits source c.args.made.now c.requires index here.0)
+    subst (λ (place : LinePlace). place.at + byte_count place ≤ 65536) (sym c.line_place-place.ensures)
+    (place_fits source c.args.made.now c.requires index here.0)
 
 pub loop-line-preserved : goal.loop-line-preserved
 loop-line-preserved c =
@@ -32,7 +33,9 @@ loop-line-preserved c =
       rest = sym here.2;
       inside = omega (arith, here.0);
       text = c.in_ok-append_line.ensures
-          ∙ ap (λ (place : LinePlace). c.loop-line.list.items ++ line_listing (index + 1) (place.value % 65536) place.at (bytes_from made place.at (byte_count place)) c.in-Some.line.now) c.line_place-place.ensures
+          ∙ ap (λ (place : LinePlace). c.loop-line.list.items
+          ++ line_listing (index + 1) (place.value % 65536) place.at (bytes_from made place.at (byte_count place)) c.in-Some.line.now)
+          c.line_place-place.ensures
           ∙ ap (λ t. c.loop-line.list.items ++ t) (line-listed source made c.requires index here.0 c.in-Some.line.now here.1)
           ∙ ap (λ t. t ++ listed source index) c.loop-line.invariant.text
           ∙ sym (lines-more source index);

@@ -16,7 +16,8 @@ pub loop-line-preserved : goal.loop-line-preserved
 loop-line-preserved c =
     let read = rw c.in-Some.ensures.steps at c.loop-line.invariant in
     rw (c.in_ok-extend-in-Ok.ensures.ok, map-append)
-    (read_line script_format c.args.text.now _ c.in-Some.line.now c.next.new.self c.loop-line.script c.loop-line.number c.in-Ok.event read (sym c.in-Ok.ensures.refused)
+    (read_line script_format c.args.text.now _ c.in-Some.line.now c.next.new.self c.loop-line.script c.loop-line.number c.in-Ok.event read
+    (sym c.in-Ok.ensures.refused)
     c.in-Ok.ensures.event)
 
 pub returns-in-Err-clause-fault : goal.returns-in-Err-clause-fault

@@ -6,4 +6,5 @@ pub returns : goal.returns
 returns c = λ t k from until below.
     let entries = c.args.entries.now in
     c.keys_after.ensures k below
-    ∙ sym (held_at-entries entries t k c.count_until-count.result c.count_until-count.ensures.within (c.start_after.ensures t from) (c.end_after.ensures t until))
+    ∙ sym (held_at-entries entries t k c.count_until-count.result c.count_until-count.ensures.within (c.start_after.ensures t from)
+    (c.end_after.ensures t until))

@@ -12,7 +12,8 @@ returns-in-0-to-15-clause-bytes c =
     ap (λ k. take k (drop from c.deref.result.now)) width
     ∙ ap (λ l. take 256 (drop from l)) c.deref.ensures.value
     ∙ ap (page_at c.self.inside.map.items) c.from-start.ensures
-    ∙ sym (ap (λ (m : Contents). page_of m high) (sym c.self.view_is) ∙ of-ram (contents c.self.inside.map.items c.self.inside.latch) high there ∙ page-ram c.self.inside.map.items high there)
+    ∙ sym (ap (λ (m : Contents). page_of m high) (sym c.self.view_is) ∙ of-ram (contents c.self.inside.map.items c.self.inside.latch) high there
+    ∙ page-ram c.self.inside.map.items high there)
 
 pub returns-in-128-to-135-clause-bytes : goal.returns-in-128-to-135-clause-bytes
 returns-in-128-to-135-clause-bytes c =

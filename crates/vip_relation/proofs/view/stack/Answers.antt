@@ -8,4 +8,15 @@ push-requires c = omega (arith, ap length c.loop-k.invariant, length-addresses c
 
 pub loop-k-preserved : goal.loop-k-preserved
 loop-k-preserved c =
-    rw (c.push.ensures.items, c.loop-k.invariant, add-one, addresses-more c.args.memory.now.ram (stack_top c.args.edition) c.loop-k.k, c.from.ensures, c.from-in-loop-k.ensures, c.ram_byte.ensures, c.ram_byte-in-loop-k.ensures, c.of-top.ensures.stack_top)
+    rw (
+      c.push.ensures.items,
+      c.loop-k.invariant,
+      add-one,
+      addresses-more c.args.memory.now.ram (stack_top
+          c.args.edition) c.loop-k.k,
+      c.from.ensures,
+      c.from-in-loop-k.ensures,
+      c.ram_byte.ensures,
+      c.ram_byte-in-loop-k.ensures,
+      c.of-top.ensures.stack_top,
+    )

@@ -16,18 +16,24 @@ loop-dispatches-init g c = record {
 
 pub overflow_add-dispatches : goal.overflow_add-dispatches
 overflow_add-dispatches g c =
-    let few = counts-fit _ _ _ _ _ _ _ _ _ c.loop-dispatches.invariant.going c.in-Dispatch.ensures.follows (at_dispatch _ _ _ _ (c.in-Dispatch.ensures.next c.loop-dispatches.invariant.runs)).meets.one.met in
+    let few =
+    counts-fit _ _ _ _ _ _ _ _ _ c.loop-dispatches.invariant.going c.in-Dispatch.ensures.follows
+    (at_dispatch _ _ _ _ (c.in-Dispatch.ensures.next c.loop-dispatches.invariant.runs)).meets.one.met in
     let low : c.loop-dispatches.dispatches ≤ 8_000_000_001 = few.0 in omega (arith, low)
 
 pub keep_screen-requires : goal.keep_screen-requires
 keep_screen-requires g c = record {
-  size = c.loop-dispatches.invariant.size ∙ ap screen_size (sym (at_dispatch _ _ _ _ (c.in-Dispatch.ensures.next c.loop-dispatches.invariant.runs)).meets.one.same.edition);
+  size =
+      c.loop-dispatches.invariant.size
+      ∙ ap screen_size (sym (at_dispatch _ _ _ _ (c.in-Dispatch.ensures.next c.loop-dispatches.invariant.runs)).meets.one.same.edition);
 }
 
 pub returns-in_err-put_event-in-Dispatch-clause-answer : goal.returns-in_err-put_event-in-Dispatch-clause-answer
 returns-in_err-put_event-in-Dispatch-clause-answer g c =
     run-fails _ _ _ _ _ _ _ c.from_residual.ensures.0
-    (fails-dispatch _ _ _ _ _ _ _ _ _ c.loop-dispatches.invariant.going _ (at_dispatch _ _ _ _ (c.in-Dispatch.ensures.next c.loop-dispatches.invariant.runs)) _ (rw c.in-Dispatch.is at c.in_err-put_event-in-Dispatch.ensures))
+    (fails-dispatch _ _ _ _ _ _ _ _ _ c.loop-dispatches.invariant.going _
+    (at_dispatch _ _ _ _ (c.in-Dispatch.ensures.next c.loop-dispatches.invariant.runs)) _
+    (rw c.in-Dispatch.is at c.in_err-put_event-in-Dispatch.ensures))
 
 pub loop-dispatches-smaller-in-Continue-1 : goal.loop-dispatches-smaller-in-Continue-1
 loop-dispatches-smaller-in-Continue-1 g c = fewer-dispatch _ _ _ (at_dispatch _ _ _ _ (c.in-Dispatch.ensures.next c.loop-dispatches.invariant.runs))
@@ -46,13 +52,17 @@ loop-dispatches-preserved-in-Continue-1 g c =
 
 pub overflow_add-pictures : goal.overflow_add-pictures
 overflow_add-pictures g c =
-    let few = counts-fit _ _ _ _ _ _ _ _ _ c.loop-dispatches.invariant.going c.in-Picture.ensures.follows (at_picture _ _ _ _ (c.in-Picture.ensures.next c.loop-dispatches.invariant.runs)).meets.one.met in
+    let few =
+    counts-fit _ _ _ _ _ _ _ _ _ c.loop-dispatches.invariant.going c.in-Picture.ensures.follows
+    (at_picture _ _ _ _ (c.in-Picture.ensures.next c.loop-dispatches.invariant.runs)).meets.one.met in
     let low : c.loop-dispatches.pictures ≤ 8_000_000_001 = few.1 in omega (arith, low)
 
 pub returns-in_err-put_event-in-Picture-clause-answer : goal.returns-in_err-put_event-in-Picture-clause-answer
 returns-in_err-put_event-in-Picture-clause-answer g c =
     run-fails _ _ _ _ _ _ _ c.from_residual-in_err-put_event-in-Picture.ensures.0
-    (fails-picture _ _ _ _ _ _ _ _ _ c.loop-dispatches.invariant.going _ (at_picture _ _ _ _ (c.in-Picture.ensures.next c.loop-dispatches.invariant.runs)) _ (rw c.in-Picture.is at c.in_err-put_event-in-Picture.ensures))
+    (fails-picture _ _ _ _ _ _ _ _ _ c.loop-dispatches.invariant.going _
+    (at_picture _ _ _ _ (c.in-Picture.ensures.next c.loop-dispatches.invariant.runs)) _
+    (rw c.in-Picture.is at c.in_err-put_event-in-Picture.ensures))
 
 pub loop-dispatches-smaller : goal.loop-dispatches-smaller
 loop-dispatches-smaller g c = fewer-picture _ _ _ (at_picture _ _ _ _ (c.in-Picture.ensures.next c.loop-dispatches.invariant.runs))
@@ -71,7 +81,8 @@ loop-dispatches-preserved g c =
 
 pub returns-in-Stopped-clause-answer : goal.returns-in-Stopped-clause-answer
 returns-in-Stopped-clause-answer g c =
-    ran-stop _ _ _ _ _ _ _ _ _ c.loop-dispatches.invariant.going c.in-Stopped.stop (at_stop _ _ _ _ _ (c.in-Stopped.ensures.next c.loop-dispatches.invariant.runs)) _ refl refl refl
+    ran-stop _ _ _ _ _ _ _ _ _ c.loop-dispatches.invariant.going c.in-Stopped.stop
+    (at_stop _ _ _ _ _ (c.in-Stopped.ensures.next c.loop-dispatches.invariant.runs)) _ refl refl refl
 
 pub returns-in-Stopped-clause-screen : goal.returns-in-Stopped-clause-screen
 returns-in-Stopped-clause-screen g c asked =
@@ -79,11 +90,13 @@ returns-in-Stopped-clause-screen g c asked =
 
 pub returns-in-Stopped-clause-size : goal.returns-in-Stopped-clause-size
 returns-in-Stopped-clause-size g c =
-    c.loop-dispatches.invariant.size ∙ ap screen_size (sym (at_stop _ _ _ _ _ (c.in-Stopped.ensures.next c.loop-dispatches.invariant.runs)).meets.one.same.edition)
+    c.loop-dispatches.invariant.size
+    ∙ ap screen_size (sym (at_stop _ _ _ _ _ (c.in-Stopped.ensures.next c.loop-dispatches.invariant.runs)).meets.one.same.edition)
 
 pub returns-in-End-clause-answer : goal.returns-in-End-clause-answer
 returns-in-End-clause-answer g c =
-    ran-end _ _ _ _ _ _ _ (g.O.Sink.meaning c.loop-dispatches.out) _ _ c.loop-dispatches.invariant.going (at_end _ _ _ _ (c.in-End.ensures.next c.loop-dispatches.invariant.runs)) _ refl refl refl
+    ran-end _ _ _ _ _ _ _ (g.O.Sink.meaning c.loop-dispatches.out) _ _ c.loop-dispatches.invariant.going
+    (at_end _ _ _ _ (c.in-End.ensures.next c.loop-dispatches.invariant.runs)) _ refl refl refl
 
 pub returns-in-End-clause-screen : goal.returns-in-End-clause-screen
 returns-in-End-clause-screen g c asked =

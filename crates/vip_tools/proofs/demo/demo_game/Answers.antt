@@ -21,4 +21,6 @@ pub returns-clause-game : goal.returns-clause-game
 returns-clause-game c = whole-game c.args.number c.loop.counter _ _ (omega arith) c.loop.invariant.game c.in_ok-extend_from_slice-3.ensures.items
 
 pub returns-clause-size : goal.returns-clause-size
-returns-clause-size c = ap length (whole-game c.args.number c.loop.counter _ _ (omega arith) c.loop.invariant.game c.in_ok-extend_from_slice-3.ensures.items) ∙ length-game c.args.number
+returns-clause-size c =
+    ap length (whole-game c.args.number c.loop.counter _ _ (omega arith) c.loop.invariant.game c.in_ok-extend_from_slice-3.ensures.items)
+    ∙ length-game c.args.number

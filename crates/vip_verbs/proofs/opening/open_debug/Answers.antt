@@ -28,5 +28,6 @@ returns c =
     let run =
     debug_run (asked_debug c.args.wish.now) c.args.contents.now.run.game.now c.args.contents.now.commands.now
     (script_list c.args.contents.now.run.script) c.in_ok-commands.commands c.in_ok-commands.ensures in
-    subst (λ vip. PrepareAnswers (Comes (debug (asked_debug c.args.wish.now)) (debug_list c.args.contents.now)) (Ok (Debug vip c.args.wish.now.run.cycles c.in_ok-commands.commands)))
+    subst (λ vip. PrepareAnswers (Comes (debug (asked_debug c.args.wish.now)) (debug_list c.args.contents.now))
+    (Ok (Debug vip c.args.wish.now.run.cycles c.in_ok-commands.commands)))
     (sym c.of.ensures) ((started-of _ _ _ _ c.in_ok-vip.ensures, c.requires.limit), run-comes _ run _ c.in_ok-vip.ensures)

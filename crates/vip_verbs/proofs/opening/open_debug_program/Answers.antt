@@ -19,12 +19,14 @@ returns-in_err-board c =
     let a = asked_debug_program c.args.wish.now in
     let files = c.args.contents.now in
     passed (PrepareAnswers (Comes (debug_program a) (debug_list files))) _ _ c.from_residual-in_err-board.ensures.1
-    (refused-program-board a.run.memory files.run.game.now files.commands.now a.run.cycles (script_list files.run.script) c.in_ok-commands.commands c.in_ok-commands.ensures _ c.in_err-board.ensures)
+    (refused-program-board a.run.memory files.run.game.now files.commands.now a.run.cycles
+    (script_list files.run.script) c.in_ok-commands.commands c.in_ok-commands.ensures _ c.in_err-board.ensures)
 
 pub returns : goal.returns
 returns c =
     let a = asked_debug_program c.args.wish.now in
     let files = c.args.contents.now in (
       (begun-of _ _ _ _ c.in_ok-board.ensures, c.requires.limit),
-      program-debug-comes a.run.memory files.run.game.now files.commands.now a.run.cycles (script_list files.run.script) c.in_ok-commands.commands c.in_ok-commands.ensures _ c.in_ok-board.ensures,
+      program-debug-comes a.run.memory files.run.game.now files.commands.now a.run.cycles
+          (script_list files.run.script) c.in_ok-commands.commands c.in_ok-commands.ensures _ c.in_ok-board.ensures,
     )

@@ -4,7 +4,8 @@ use Rattle.vip_verbs.proofs.WorkLemmas.{no-contents, text-answers}
 use Rattle.vip_verbs.proofs.opening.prepare.Goals as goal
 
 pub returns-in-Asm : goal.returns-in-Asm
-returns-in-Asm c = rw (c.in-Asm.is, c.only_content.ensures, c.text.ensures) (text-answers (AsmComes c.in-Asm.wish.raw c.only_content.result.now) _ c.asm.ensures)
+returns-in-Asm c =
+    rw (c.in-Asm.is, c.only_content.ensures, c.text.ensures) (text-answers (AsmComes c.in-Asm.wish.raw c.only_content.result.now) _ c.asm.ensures)
 
 pub returns-in-List : goal.returns-in-List
 returns-in-List c =

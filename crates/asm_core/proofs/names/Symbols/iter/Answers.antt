@@ -7,4 +7,6 @@ use Rattle.asm_core.proofs.Symbols.{shown_in_order}
 use Rattle.asm_core.proofs.names.Symbols.iter.Goals as goal
 
 pub returns-clause-ordered : goal.returns-clause-ordered
-returns-clause-ordered c = subst (λ names. IsStrictlySortedBy (slice_cmp nat_cmp) (keys_of names)) c.self.view_is (shown_in_order c.self.inside.tree.entries c.iter.ensures.ordered)
+returns-clause-ordered c =
+    subst (λ names. IsStrictlySortedBy (slice_cmp nat_cmp) (keys_of names)) c.self.view_is
+    (shown_in_order c.self.inside.tree.entries c.iter.ensures.ordered)

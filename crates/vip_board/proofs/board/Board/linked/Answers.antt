@@ -86,9 +86,13 @@ end_linked-requires-clause-last c =
     let E : Seen → Type 0 = λ v. EndsLinked s v incoming outgoing in
     elim c.if-length-eq3.branch [
       | then-length-eq3 w ↦
-          (subst E (sym (w.self-is ∙ w.cycle-then-length-eq3.ensures.board ∙ ap cycled c.cycle.ensures.board)) (three-ends s c.next_length-length.result incoming outgoing c.requires.boundary is_fetch c.next_length-length.ensures w.if-length-eq3.true)).last
+          (subst E (sym (w.self-is ∙ w.cycle-then-length-eq3.ensures.board ∙ ap cycled c.cycle.ensures.board))
+          (three-ends s c.next_length-length.result incoming outgoing c.requires.boundary is_fetch c.next_length-length.ensures
+          w.if-length-eq3.true)).last
       | else-length-eq3 w ↦
-          (subst E (sym (w.self-is ∙ c.cycle.ensures.board)) (two-ends s c.next_length-length.result incoming outgoing c.requires.boundary is_fetch c.next_length-length.ensures w.if-length-eq3.false)).last
+          (subst E (sym (w.self-is ∙ c.cycle.ensures.board))
+          (two-ends s c.next_length-length.result incoming outgoing c.requires.boundary is_fetch c.next_length-length.ensures
+          w.if-length-eq3.false)).last
     ]
 
 pub returns-after-length-eq3-clause-moved : goal.returns-after-length-eq3-clause-moved
@@ -101,10 +105,14 @@ returns-after-length-eq3-clause-moved c =
     elim c.if-length-eq3.branch [
       | then-length-eq3 w ↦
           c.end_linked.ensures.board
-          ∙ (subst E (sym (w.self-is ∙ w.cycle-then-length-eq3.ensures.board ∙ ap cycled c.cycle.ensures.board)) (three-ends s c.next_length-length.result incoming outgoing c.requires.boundary is_fetch c.next_length-length.ensures w.if-length-eq3.true)).board
+          ∙ (subst E (sym (w.self-is ∙ w.cycle-then-length-eq3.ensures.board ∙ ap cycled c.cycle.ensures.board))
+          (three-ends s c.next_length-length.result incoming outgoing c.requires.boundary is_fetch c.next_length-length.ensures
+          w.if-length-eq3.true)).board
       | else-length-eq3 w ↦
           c.end_linked.ensures.board
-          ∙ (subst E (sym (w.self-is ∙ c.cycle.ensures.board)) (two-ends s c.next_length-length.result incoming outgoing c.requires.boundary is_fetch c.next_length-length.ensures w.if-length-eq3.false)).board
+          ∙ (subst E (sym (w.self-is ∙ c.cycle.ensures.board))
+          (two-ends s c.next_length-length.result incoming outgoing c.requires.boundary is_fetch c.next_length-length.ensures
+          w.if-length-eq3.false)).board
     ]
 
 pub returns-after-length-eq3-clause-incoming : goal.returns-after-length-eq3-clause-incoming
@@ -117,10 +125,14 @@ returns-after-length-eq3-clause-incoming c =
     elim c.if-length-eq3.branch [
       | then-length-eq3 w ↦
           c.end_linked.ensures.incoming
-          ∙ (subst E (sym (w.self-is ∙ w.cycle-then-length-eq3.ensures.board ∙ ap cycled c.cycle.ensures.board)) (three-ends s c.next_length-length.result incoming outgoing c.requires.boundary is_fetch c.next_length-length.ensures w.if-length-eq3.true)).incoming_is
+          ∙ (subst E (sym (w.self-is ∙ w.cycle-then-length-eq3.ensures.board ∙ ap cycled c.cycle.ensures.board))
+          (three-ends s c.next_length-length.result incoming outgoing c.requires.boundary is_fetch c.next_length-length.ensures
+          w.if-length-eq3.true)).incoming_is
       | else-length-eq3 w ↦
           c.end_linked.ensures.incoming
-          ∙ (subst E (sym (w.self-is ∙ c.cycle.ensures.board)) (two-ends s c.next_length-length.result incoming outgoing c.requires.boundary is_fetch c.next_length-length.ensures w.if-length-eq3.false)).incoming_is
+          ∙ (subst E (sym (w.self-is ∙ c.cycle.ensures.board))
+          (two-ends s c.next_length-length.result incoming outgoing c.requires.boundary is_fetch c.next_length-length.ensures
+          w.if-length-eq3.false)).incoming_is
     ]
 
 pub returns-after-length-eq3-clause-outgoing : goal.returns-after-length-eq3-clause-outgoing
@@ -133,10 +145,14 @@ returns-after-length-eq3-clause-outgoing c =
     elim c.if-length-eq3.branch [
       | then-length-eq3 w ↦
           c.end_linked.ensures.outgoing
-          ∙ (subst E (sym (w.self-is ∙ w.cycle-then-length-eq3.ensures.board ∙ ap cycled c.cycle.ensures.board)) (three-ends s c.next_length-length.result incoming outgoing c.requires.boundary is_fetch c.next_length-length.ensures w.if-length-eq3.true)).outgoing_is
+          ∙ (subst E (sym (w.self-is ∙ w.cycle-then-length-eq3.ensures.board ∙ ap cycled c.cycle.ensures.board))
+          (three-ends s c.next_length-length.result incoming outgoing c.requires.boundary is_fetch c.next_length-length.ensures
+          w.if-length-eq3.true)).outgoing_is
       | else-length-eq3 w ↦
           c.end_linked.ensures.outgoing
-          ∙ (subst E (sym (w.self-is ∙ c.cycle.ensures.board)) (two-ends s c.next_length-length.result incoming outgoing c.requires.boundary is_fetch c.next_length-length.ensures w.if-length-eq3.false)).outgoing_is
+          ∙ (subst E (sym (w.self-is ∙ c.cycle.ensures.board))
+          (two-ends s c.next_length-length.result incoming outgoing c.requires.boundary is_fetch c.next_length-length.ensures
+          w.if-length-eq3.false)).outgoing_is
     ]
 
 pub returns-after-length-eq3-clause-named : goal.returns-after-length-eq3-clause-named

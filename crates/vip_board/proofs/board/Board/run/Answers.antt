@@ -49,7 +49,8 @@ loop-stops-preserved c =
     record {
       made =
           made-more c.args.limit c.args.stops c.args.self.now c.loop-stops.self c.some-some.new.self c.loop-stops.made c.some-some.result
-          c.loop-stops.invariant.made c.loop-stops.invariant.here c.some-some.ensures.made.moves c.some-some.ensures.made.passes c.some-some.ensures.made.within;
+          c.loop-stops.invariant.made c.loop-stops.invariant.here c.some-some.ensures.made.moves c.some-some.ensures.made.passes
+          c.some-some.ensures.made.within;
       here =
           λ some. record {
             count =

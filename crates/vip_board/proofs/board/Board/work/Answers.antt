@@ -35,4 +35,5 @@ returns-then-address-stops c =
     let i = c.loop-stops.invariant in
     let some = positive c.instruct-length.result c.if-length-eq0.false in
     worked-more c.args.most c.args.stops c.args.self.now c.loop-stops.self c.instruct-length.new.self c.loop-stops.made c.loop-stops.passed
-    c.instruct-length.result i.worked i.here (c.instruct-length.ensures.worked some) c.requires.quiet (omega (arith, i.worked.few, c.instruct-length.ensures.few)) some
+    c.instruct-length.result i.worked i.here (c.instruct-length.ensures.worked some) c.requires.quiet
+    (omega (arith, i.worked.few, c.instruct-length.ensures.few)) some

@@ -41,7 +41,9 @@ invariant_of-self c =
     record {
       follows = follows-run (told v v.last v.shown) f;
       point = c.self.invariant.point;
-      waiting = waiting-less v c.self.invariant.follows (Picture p.frame) (point_events c.self.inside.point c.self.inside.board.machine) p.events v.last v.shown;
+      waiting =
+          waiting-less v c.self.invariant.follows (Picture p.frame)
+          (point_events c.self.inside.point c.self.inside.board.machine) p.events v.last v.shown;
       last = named-run (told v v.last v.shown) f c.self.inside.last c.self.invariant.last;
     }
 
@@ -92,7 +94,9 @@ pub returns-in-Point-Dispatch-clause-first : goal.returns-in-Point-Dispatch-clau
 returns-in-Point-Dispatch-clause-first c =
     let v : VipState = state_of c.self.inside in
     let waits = point_waits c.self.inside c.self.invariant c.in-Point-Dispatch.is-0 DispatchPoint c.in-Point-Dispatch.is-1 in
-    let runs = runs-on (is_stop (interpreter v) v.board.machine) (is_dispatch (interpreter v) v.board.machine) (sym c.in-Point-Dispatch.is-1 ∙ c.self.invariant.point) in
+    let runs =
+    runs-on (is_stop (interpreter v) v.board.machine) (is_dispatch (interpreter v) v.board.machine)
+    (sym c.in-Point-Dispatch.is-1 ∙ c.self.invariant.point) in
     subst (λ old. MeetsFirst old (by_run (here v)) DispatchMet) c.self.view_is
     (as-run (λ new. MeetsFirst v new DispatchMet) (here v) (follows-dispatch v c.self.invariant.follows waits)
     (meets-dispatch v c.self.invariant.follows waits runs))
@@ -129,4 +133,6 @@ returns-in-Point-Stop-clause-first c =
     let stop = c.stop_record-stop.ensures ∙ ap (λ (old : VipState). stop_record old.last old.board.machine) (sym c.self.view_is) in
     subst₂ (λ old answer. MeetsFirst old (by_run (told v v.last v.shown)) answer) c.self.view_is (ap StoppedMet (sym stop))
     (as-run (λ new. MeetsFirst v new (StoppedMet (stop_record v.last v.board.machine))) (told v v.last v.shown) (follows-stop v c.self.invariant.follows waits)
-    (meets-stop v c.self.invariant.follows waits (is-stop (is_stop (interpreter v) v.board.machine) (is_dispatch (interpreter v) v.board.machine) (sym c.in-Point-Stop.is-1 ∙ c.self.invariant.point))))
+    (meets-stop v c.self.invariant.follows waits
+    (is-stop (is_stop (interpreter v) v.board.machine) (is_dispatch (interpreter v) v.board.machine)
+    (sym c.in-Point-Stop.is-1 ∙ c.self.invariant.point))))

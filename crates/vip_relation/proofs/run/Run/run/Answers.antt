@@ -15,7 +15,8 @@ use Rattle.vip_relation.proofs.Passing.{ran, stops}
 use Rattle.vip_relation.proofs.Steps.{few-moves}
 use Rattle.vip_relation.proofs.run.Run.run.Goals as goal
 
-by_places : (s : Seen) (made fetch halt : ℕ) (i : Interpreter) → fetch ≡ i.fetch → halt ≡ i.halt → ((k : ℕ) → 0 < k → k < made → Passes (fetch, halt) s (moved_by k s))
+by_places : (s : Seen) (made fetch halt : ℕ) (i : Interpreter) → fetch ≡ i.fetch → halt ≡ i.halt
+    → ((k : ℕ) → 0 < k → k < made → Passes (fetch, halt) s (moved_by k s))
     → (k : ℕ) → 0 < k → k < made → Passes (stops i) s (moved_by k s)
 by_places s made fetch halt i is_fetch is_halt passes k some below =
     subst₂ (λ x y. Passes (x, y) s (moved_by k s)) is_fetch is_halt (passes k some below)

@@ -13,11 +13,13 @@ next_here v w answer m = m.next v.board.machine.cycle (omega arith)
 pub invariant_of-self : goal.invariant_of-self
 invariant_of-self c =
     tells-here c.self.inside.run.board.machine.cycle c.self.inside.run _ c.in-Some.ensures.follows
-    (subst (MeetsNext c.self.inside.run.board.machine.cycle c.self.inside.run c.meet-met.new.self (events_left c.self.inside.run c.self.inside.run.board.machine.cycle)) c.in-Dispatch.is
+    (subst (MeetsNext c.self.inside.run.board.machine.cycle c.self.inside.run c.meet-met.new.self
+    (events_left c.self.inside.run c.self.inside.run.board.machine.cycle)) c.in-Dispatch.is
     (next_here c.self.inside.run c.meet-met.new.self c.in-Some.event c.in-Some.ensures.first)) c.keep.ensures.last c.keep.ensures.shown c.keep.ensures.size
 
 pub invariant_of-self-in-Some : goal.invariant_of-self-in-Some
 invariant_of-self-in-Some c =
     tells-same c.self.inside c.self.invariant c.meet-met.new.self c.in-Some.ensures.follows
-    (stays c.self.inside.run.board.machine.cycle c.self.inside.run c.meet-met.new.self (events_left c.self.inside.run c.self.inside.run.board.machine.cycle) c.in-Some.event c.in_default-event.not-Dispatch
+    (stays c.self.inside.run.board.machine.cycle c.self.inside.run c.meet-met.new.self
+    (events_left c.self.inside.run c.self.inside.run.board.machine.cycle) c.in-Some.event c.in_default-event.not-Dispatch
     (next_here c.self.inside.run c.meet-met.new.self c.in-Some.event c.in-Some.ensures.first))

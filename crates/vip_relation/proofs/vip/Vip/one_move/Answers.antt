@@ -12,7 +12,8 @@ use Rattle.vip_relation.proofs.Advances.{moves-on}
 use Rattle.vip_relation.proofs.Telling.{tells-moved}
 use Rattle.vip_relation.proofs.vip.Vip.one_move.Goals as goal
 
-moves_by_answer : (u v w x : VipState) (r : Moved) → MeetsAll u v → IfDone r (λ name. Steps v w name) → MeetsAll w x → Follows x → IfDone r (λ name. MovesOn u x name)
+moves_by_answer : (u v w x : VipState) (r : Moved) → MeetsAll u v → IfDone r (λ name. Steps v w name) → MeetsAll w x → Follows x
+    → IfDone r (λ name. MovesOn u x name)
 moves_by_answer u v w x (Done name) before step after follows = moves-on u v w x name before step after follows
 moves_by_answer u v w x End before step after follows = tt
 
@@ -28,11 +29,13 @@ returns-then-rests-clause-end c = (λ e. subst (Rests c.args.limit) c.self.view_
 
 pub invariant_of-self : goal.invariant_of-self
 invariant_of-self c =
-    tells-moved c.self-2.inside c.self-2.invariant c.step-moved.new.self c.step-moved.result c.step-moved.ensures.follows c.step-moved.ensures.kept c.step-moved.ensures.moved
+    tells-moved c.self-2.inside c.self-2.invariant c.step-moved.new.self c.step-moved.result c.step-moved.ensures.follows c.step-moved.ensures.kept
+    c.step-moved.ensures.moved
 
 pub returns-clause-end : goal.returns-clause-end
 returns-clause-end c =
-    let goes_on : Rests c.args.limit c.args.self.now → ⊥ = λ r. not_true c.if-rests.false (c.rests.ensures.rests.1 (subst (Rests c.args.limit) (sym c.self.view_is) r)) in (
+    let goes_on : Rests c.args.limit c.args.self.now → ⊥ =
+    λ r. not_true c.if-rests.false (c.rests.ensures.rests.1 (subst (Rests c.args.limit) (sym c.self.view_is) r)) in (
       λ e. late c.args.limit c.args.self.now c.self-2.inside.run
           (subst (MeetsAll c.args.self.now) (sym c.self-2.view_is) c.meet_all.ensures.all) (c.step-moved.ensures.end.0 e),
       λ r. absurd (goes_on r),
@@ -44,4 +47,5 @@ returns-clause-end c =
 pub returns-clause-moved : goal.returns-clause-moved
 returns-clause-moved c =
     moves_by_answer c.args.self.now c.self-2.inside.run c.step-moved.new.self c.meet_all-2.new.self c.step-moved.result
-    (subst (MeetsAll c.args.self.now) (sym c.self-2.view_is) c.meet_all.ensures.all) c.step-moved.ensures.moved c.meet_all-2.ensures.all c.meet_all-2.ensures.follows
+    (subst (MeetsAll c.args.self.now) (sym c.self-2.view_is) c.meet_all.ensures.all) c.step-moved.ensures.moved c.meet_all-2.ensures.all
+    c.meet_all-2.ensures.follows

@@ -22,7 +22,8 @@ begun c =
     let l = get_or ls c.args.line [] in
     let within : c.args.line < length ls = omega (arith, c.self.invariant.lines, c.requires.line) in
     let f : FilledAt l n = filled-at ls ns c.self.invariant.filled (same c) c.args.line within in
-    let e : take n l ≡ get_or c.args.self.now c.args.line [] = sym (so_far-at ls ns (same c) c.args.line within) ∙ ap (λ v. get_or v c.args.line []) c.self.view_is in
+    let e : take n l ≡ get_or c.args.self.now c.args.line [] =
+    sym (so_far-at ls ns (same c) c.args.line within) ∙ ap (λ v. get_or v c.args.line []) c.self.view_is in
     let size : length (take n l) ≡ n = length-take-le n l (omega (arith, f.most, eight l n f)) in
     record { size = ap length (sym e) ∙ size; is = f.is ∙ ap filled e }
 
@@ -45,7 +46,9 @@ invariant_of-self c =
     (record {
       lines = length-set _ _ _ ∙ c.self.invariant.lines;
       lengths = length-set _ _ _ ∙ c.self.invariant.lengths;
-      filled = AreFilled-set ls ns c.self.invariant.filled c.args.line (filled (first ++ bytes)) n (omega (arith, b.size, c.requires.room)) (ap filled (sym taken));
+      filled =
+          AreFilled-set ls ns c.self.invariant.filled c.args.line (filled (first ++ bytes)) n (omega (arith, b.size, c.requires.room))
+          (ap filled (sym taken));
     })
 
 pub returns : goal.returns

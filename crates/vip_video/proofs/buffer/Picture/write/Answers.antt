@@ -11,7 +11,8 @@ loop-k-preserved c first size is =
     let put : List ℕ → List ℕ = λ (l : List ℕ). set l (c.args.place + k) (get_or bytes k 0) in
     let so_far : List ℕ = filled (first ++ take k bytes) in
     let room : length first + length bytes ≤ 8 = omega (arith, size, c.requires.room) in
-    let more : put so_far ≡ filled (first ++ take (k + 1) bytes) = ap (λ n. set so_far (n + k) (get_or bytes k 0)) (sym size) ∙ fill-more first bytes k c.loop-k-test.true room in
+    let more : put so_far ≡ filled (first ++ take (k + 1) bytes) =
+    ap (λ n. set so_far (n + k) (get_or bytes k 0)) (sym size) ∙ fill-more first bytes k c.loop-k-test.true room in
     ap (λ (m : List (List ℕ)). set m c.args.line (put (get_or m c.args.line []))) (c.loop-k.invariant first size is)
     ∙ set-again lines c.args.line so_far [] put
     ∙ ap (set lines c.args.line) more

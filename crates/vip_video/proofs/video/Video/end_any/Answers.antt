@@ -28,7 +28,9 @@ invariant_of-self-then-self-eq0 c =
       place = next;
       quiet = λ u from to. absurd (omega (arith, from, to));
       count = rw is (omega (arith, passed-count (t + 1) (drawn t inner.cycle_on c.args.byte inner.raster), c.self.invariant.count));
-      room = rw is (room-passed t inner.cycle_on c.args.byte inner.raster (subst Room present c.self.invariant.room) (λ s. dma-place t _ (c.requires.wanted s)));
+      room =
+          rw is (room-passed t inner.cycle_on c.args.byte inner.raster (subst Room present c.self.invariant.room)
+          (λ s. dma-place t _ (c.requires.wanted s)));
     }
 
 pub invariant_of-self-else-self-eq0 : goal.invariant_of-self-else-self-eq0
@@ -48,7 +50,9 @@ invariant_of-self-else-self-eq0 c =
       place = next;
       quiet = λ u from to. absurd (omega (arith, from, to));
       count = rw is (omega (arith, c.self.invariant.count));
-      room = rw is (room-drawn t inner.cycle_on c.args.byte inner.raster (subst Room present c.self.invariant.room) (λ s. dma-place t _ (c.requires.wanted s)) (omega arith));
+      room =
+          rw is (room-drawn t inner.cycle_on c.args.byte inner.raster (subst Room present c.self.invariant.room)
+          (λ s. dma-place t _ (c.requires.wanted s)) (omega arith));
     }
 
 -- ---- a quiet cycle
@@ -74,7 +78,8 @@ returns-then-self c =
     let inner = c.self.inside in
     let present : inner.cycles ≡ t = ap (λ (v : Chip). v.cycles) c.self.view_is ∙ sym c.requires.present in
     let quiet = c.self.invariant.quiet inner.cycles (omega arith) c.if-self.true in
-    let wanted : IsSome c.args.byte → IsTrue (dma_at inner.cycles inner.on) = λ s. subst₂ (λ n x. IsTrue (dma_at n x)) (sym present) (ap (λ (v : Chip). v.on) (sym c.self.view_is)) (c.requires.wanted s) in
+    let wanted : IsSome c.args.byte → IsTrue (dma_at inner.cycles inner.on) =
+    λ s. subst₂ (λ n x. IsTrue (dma_at n x)) (sym present) (ap (λ (v : Chip). v.on) (sym c.self.view_is)) (c.requires.wanted s) in
     ap (λ n. chip (n + 1) inner.on inner.cycle_on inner.raster) (sym present)
     ∙ quiet-ended inner.cycles inner.on inner.cycle_on c.args.byte inner.raster quiet wanted
     ∙ ap (ended c.args.byte) c.self.view_is

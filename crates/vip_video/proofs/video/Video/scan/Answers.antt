@@ -29,7 +29,8 @@ begun c =
     let inner = c.self.inside in
     let t = inner.cycles in
     let n = length c.args.bytes.now in
-    let dma : (k : ℕ) → k < n → dma_at (t + k) inner.on ≡ true = λ k l. subst (λ (v : Chip). dma_at (v.cycles + k) v.on ≡ true) (sym c.self.view_is) (c.requires.wanted k l) in
+    let dma : (k : ℕ) → k < n → dma_at (t + k) inner.on ≡ true =
+    λ k l. subst (λ (v : Chip). dma_at (v.cycles + k) v.on ≡ true) (sym c.self.view_is) (c.requires.wanted k l) in
     let more : 0 < n = some n c.if-is_empty.ensures in
     let scan : IsScan t n = scan-place t n inner.on more dma in
     let here : dma_at t inner.on ≡ true = subst (λ u. dma_at u inner.on ≡ true) (omega arith) (dma 0 more) in
@@ -50,7 +51,8 @@ add_all-requires-clause-room c =
     let t = c.self.inside.cycles in
     let lines = c.self.inside.raster.lines in
     let Fits : Place → Type 0 = λ p. length (get_or lines (p.line - window_line) []) + length c.args.bytes.now ≤ 8 in
-    let room : length (get_or lines (line_of t - window_line) []) ≤ t % line_cycles - 2 = c.self.invariant.room.present (line_of t - window_line) (omega (arith, b.scan.place.from)) in
+    let room : length (get_or lines (line_of t - window_line) []) ≤ t % line_cycles - 2 =
+    c.self.invariant.room.present (line_of t - window_line) (omega (arith, b.scan.place.from)) in
     subst Fits (sym b.here) (omega (arith, room, b.scan.most, b.scan.place.column))
 
 pub overflow_cast-self : goal.overflow_cast-self
@@ -64,7 +66,10 @@ overflow_add-self-2 c =
 
 -- the pictures that are left
 drawn : (c : After-add_all) → Begun c.self.inside.cycles (length c.args.bytes.now) c.self.inside.place c.self.inside.on c.self.inside.cycle_on
-    → c.add_all.new.self ≡ record c.self.inside.raster { lines = with_bytes (line_of c.self.inside.cycles - window_line) c.args.bytes.now c.self.inside.raster.lines }
+    → c.add_all.new.self ≡ record c.self.inside.raster {
+      lines =
+          with_bytes (line_of c.self.inside.cycles - window_line) c.args.bytes.now c.self.inside.raster.lines;
+    }
 drawn c b =
     c.add_all.ensures
     ∙ ap (λ (p : Place). record c.self.inside.raster { lines = with_bytes (p.line - window_line) c.args.bytes.now c.self.inside.raster.lines }) b.here
@@ -92,6 +97,7 @@ returns c =
     let bytes : List ℕ = c.args.bytes.now in
     let b = begun (goal.at.returns c).After-self in
     ap (chip (t + length bytes) inner.on inner.cycle_on) (drawn (goal.at.returns c).After-add_all b)
-    ∙ subst₂ (λ x y. chip (t + length bytes) x y (record inner.raster { lines = with_bytes (line_of t - window_line) bytes inner.raster.lines }) ≡ ended_with bytes (chip t x y inner.raster))
+    ∙ subst₂ (λ x y. chip (t + length bytes) x y (record inner.raster { lines = with_bytes (line_of t - window_line) bytes inner.raster.lines })
+    ≡ ended_with bytes (chip t x y inner.raster))
     (sym b.is_on) (sym b.is_shown) (sym (scanned bytes t inner.raster b.dma))
     ∙ ap (ended_with bytes) c.self.view_is
