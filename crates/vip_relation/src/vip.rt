@@ -81,6 +81,13 @@ impl Vip {
         }
     }
 
+    /// The run alone, without what is kept of its dispatch points.
+    pub fn as_run(&self) -> &Run
+        ensures { result.now ≡ self.now }
+    {
+        &self.run
+    }
+
     /// The edition.
     pub fn edition(&self) -> Edition
         ensures { result ≡ self.now.edition }

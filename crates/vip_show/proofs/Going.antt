@@ -37,6 +37,7 @@ use Rattle.vip_show.specs.Output.{count_of, is_dispatch_event, is_picture_event,
 use Rattle.vip_show.specs.Run.{piece_of, pieces_of, event_piece, screen_told, lit_told, PieceAnswers, Ran, RunAnswers}
 use Rattle.vip_relation.proofs.Meetings.{last-dispatched, last-kept}
 use Rattle.vip_relation.proofs.Nexts.{Dispatched, Pictured, Halted, Ended}
+use Rattle.vip_show.proofs.Endings.{last-told, ends-dispatch, ends-picture}
 use Rattle.vip_show.proofs.Lists.{count-more, counted, stop-last}
 
 -- ---- the same run
@@ -138,20 +139,11 @@ module _ (shown : Shown) (limit : ℕ) (start : VipState) (out : SinkMeaning) wh
       screen =
           d.meets.shown ∙ ap (λ e. screen_bytes e d.b) g.edition
           ∙ sym (ap (λ p. option_map_or (screen_bytes start.edition) p (replicate (screen_size start.edition) 0)) (last-dispatched g.done d.b));
-      ends =
-          g.ends ∙ ap (ending_after start.edition (pc_of v.last) (opcode_of v.last)) d.split ∙ here
-          ∙ ap (λ left. ending_after start.edition (pc_of v'.last) (opcode_of v'.last) left) (sym d.meets.one.left);
+      ends = g.ends ∙ ends-dispatch start.edition limit v v' g.edition d;
     }
       where
-        told : v'.last ≡ Some (view_at start.edition d.b)
-        told = d.meets.last ∙ ap (λ e. Some (view_at e d.b)) g.edition
-
         last_is : v'.last ≡ last_view start.edition (g.done ++ Dispatch d.b ∷ [])
-        last_is = told ∙ sym (ap (λ p. option_map (view_at start.edition) p) (last-dispatched g.done d.b))
-
-        here : ending_after start.edition (pc_of v.last) (opcode_of v.last) (Dispatch d.b ∷ d.rest)
-            ≡ ending_after start.edition (pc_of v'.last) (opcode_of v'.last) d.rest
-        here = unfold ending_after in rw told refl
+        last_is = last-told start.edition limit v v' g.edition d ∙ sym (ap (λ p. option_map (view_at start.edition) p) (last-dispatched g.done d.b))
 
     pub going-picture : (d : Pictured limit v v' (events_left v limit)) → PutsAll (piece_here (Picture d.m)) out' out''
         → Going shown limit start v' out out'' dispatches (pictures + 1)
@@ -170,14 +162,8 @@ module _ (shown : Shown) (limit : ℕ) (start : VipState) (out : SinkMeaning) wh
           d.meets.told.shown ∙ g.screen ∙ sym
           (ap (λ p. option_map_or (screen_bytes start.edition) p (replicate (screen_size start.edition) 0))
           (last-kept g.done (Picture d.m) refl));
-      ends =
-          g.ends ∙ ap (ending_after start.edition (pc_of v.last) (opcode_of v.last)) d.split ∙ here
-          ∙ ap (λ left. ending_after start.edition (pc_of v'.last) (opcode_of v'.last) left) (sym d.meets.one.left);
+      ends = g.ends ∙ ends-picture start.edition limit v v' d;
     }
-      where
-        here : ending_after start.edition (pc_of v.last) (opcode_of v.last) (Picture d.m ∷ d.rest)
-            ≡ ending_after start.edition (pc_of v'.last) (opcode_of v'.last) d.rest
-        here = unfold ending_after in rw d.meets.told.last refl
 
     -- the picture that is lent is that of the run
     pub picture-lent : (d : Pictured limit v v' (events_left v limit))

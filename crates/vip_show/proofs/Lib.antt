@@ -1,3 +1,4 @@
 pub mod Lists
 pub mod Screens
+pub mod Endings
 pub mod Going

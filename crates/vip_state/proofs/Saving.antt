@@ -22,6 +22,7 @@ use Rattle.vip_relation.proofs.Meetings.{last-dispatched, last-kept}
 use Rattle.vip_relation.proofs.Nexts.{Dispatched, Pictured, Halted, Ended}
 use Rattle.vip_show.specs.Answers.{IsFresh}
 use Rattle.vip_show.specs.Endings.{ending_after, ending_of}
+use Rattle.vip_show.proofs.Endings.{last-told, ends-dispatch, ends-picture}
 use Rattle.vip_show.proofs.Lists.{stop-last}
 use Rattle.vip_text.specs.Endings.Ending.{AtStop}
 use Rattle.vip_text.specs.declared.ending.RunEnd.{RunEnd}
@@ -117,23 +118,14 @@ module _ (limit : ℕ) (start : VipState) where
       edition = d.meets.one.same.edition ∙ g.edition;
       done = g.done ++ Dispatch d.b ∷ [];
       split = next (Dispatch d.b) d.rest d.split ∙ ap (λ left. (g.done ++ Dispatch d.b ∷ []) ++ left) (sym d.meets.one.left);
-      last = told ∙ sym (ap (λ p. option_map (view_at start.edition) p) (last-dispatched g.done d.b));
+      last = last-told start.edition limit v v' g.edition d ∙ sym (ap (λ p. option_map (view_at start.edition) p) (last-dispatched g.done d.b));
       bytes_are =
           is
           ∙ ap (λ e. file_of e v'.board.machine) (d.meets.one.same.edition ∙ g.edition)
           ∙ ap (file_of start.edition) d.meets.machine
           ∙ sym (ap (λ f. unwrap_or f []) (last_with (Dispatch d.b) (Some d.b) (last-dispatched g.done d.b)));
-      ends =
-          g.ends ∙ ap (ending_after start.edition (pc_of v.last) (opcode_of v.last)) d.split ∙ here
-          ∙ ap (λ left. ending_after start.edition (pc_of v'.last) (opcode_of v'.last) left) (sym d.meets.one.left);
+      ends = g.ends ∙ ends-dispatch start.edition limit v v' g.edition d;
     }
-      where
-        told : v'.last ≡ Some (view_at start.edition d.b)
-        told = d.meets.last ∙ ap (λ e. Some (view_at e d.b)) g.edition
-
-        here : ending_after start.edition (pc_of v.last) (opcode_of v.last) (Dispatch d.b ∷ d.rest)
-            ≡ ending_after start.edition (pc_of v'.last) (opcode_of v'.last) d.rest
-        here = unfold ending_after in rw told refl
 
     pub saving-picture : (d : Pictured limit v v' (events_left v limit)) → Saving limit start v' bytes
     saving-picture d = record {
@@ -145,14 +137,8 @@ module _ (limit : ℕ) (start : VipState) where
       bytes_are =
           g.bytes_are
           ∙ sym (ap (λ f. unwrap_or f []) (last_with (Picture d.m) (last_dispatch g.done) (last-kept g.done (Picture d.m) refl)));
-      ends =
-          g.ends ∙ ap (ending_after start.edition (pc_of v.last) (opcode_of v.last)) d.split ∙ here
-          ∙ ap (λ left. ending_after start.edition (pc_of v'.last) (opcode_of v'.last) left) (sym d.meets.one.left);
+      ends = g.ends ∙ ends-picture start.edition limit v v' d;
     }
-      where
-        here : ending_after start.edition (pc_of v.last) (opcode_of v.last) (Picture d.m ∷ d.rest)
-            ≡ ending_after start.edition (pc_of v'.last) (opcode_of v'.last) d.rest
-        here = unfold ending_after in rw d.meets.told.last refl
 
     -- at the limit all events are met
     pub kept-end : (e : Ended limit v v' (events_left v limit)) → Keeps start limit v' bytes run.AtLimit

@@ -25,10 +25,10 @@ pub fn write_state(vip: &Vip, into: &mut Buffer)
     ensures accepted { IsAccepted vip.now.edition into.new.items }
     ensures shown { shown into.new.items ≡ vip.now.board.machine }
 {
-    put_file(vip.edition(), vip.board(), into);
+    write_run(vip.as_run(), into);
 }
 
-/// The same of a run that keeps nothing of its dispatch points.
+/// The same of a run alone, which keeps nothing of its dispatch points.
 pub(crate) fn write_run(run: &Run, into: &mut Buffer)
     requires dispatch { is_dispatch (interpreter run.now) run.now.board.machine ≡ true }
     requires empty { into.old.items ≡ [] }
