@@ -1,8 +1,8 @@
 -- The numbers of a line.
-use Rattle.std.proofs.Common.{◌≡◌, ℕ, ◌<◌, true, false, List, [], ◌∷◌, ◌++◌, length, Some, None, Err, refl, sym, ap, ◌∙◌, arith, append_assoc, inl, inr}
+use Rattle.std.proofs.Common.{◌≡◌, ℕ, ◌<◌, true, false, List, [], ◌∷◌, ◌++◌, length, None, Err, refl, ap, ◌∙◌, arith, inl, inr}
 use Rattle.std.specs.Option.{unwrap_or}
 use Rattle.std.proofs.lemmas.Bool.{cases_Bool, lt-leb}
-use Rattle.std.proofs.lemmas.List.{append-nil, length-append, length-map, map-append}
+use Rattle.std.proofs.lemmas.List.{append-nil, length-append, length-map}
 use Rattle.std.proofs.lemmas.List.Folds.{list_all-append}
 use Rattle.game_check.specs.declared.fault.ProofCause.TheVariants.{BadLine}
 use Rattle.game_check.specs.Grammar.{are_words, claim_by, claim_of, values, word_of}
@@ -12,17 +12,6 @@ pub record AreReadUpTo (all done left : List (List ℕ)) (numbers : List ℕ) : 
   pub whole : all ≡ done ++ left
   pub words : are_words done ≡ true
   pub worth : numbers ≡ values done
-
-pub read_first : (word : List ℕ) (left : List (List ℕ)) (number : ℕ) → word_of word ≡ Some number → AreReadUpTo (word ∷ left) (word ∷ []) left (number ∷ [])
-read_first word left number is = record { whole = refl; words = rw is refl; worth = rw is refl }
-
-pub read_more : (all done : List (List ℕ)) (word : List ℕ) (left : List (List ℕ)) (numbers : List ℕ) (number : ℕ)
-    → AreReadUpTo all done (word ∷ left) numbers → word_of word ≡ Some number → AreReadUpTo all (done ++ word ∷ []) left (numbers ++ number ∷ [])
-read_more all done word left numbers number so_far is = record {
-  whole = so_far.whole ∙ sym (append_assoc done (word ∷ []) left);
-  words = list_all-append _ done (word ∷ []) ∙ rw (so_far.words, is) refl;
-  worth = rw (map-append, is, ← so_far.worth) refl;
-}
 
 -- a word that is no number
 not_words : (done : List (List ℕ)) (word : List ℕ) (left : List (List ℕ)) → are_words done ≡ true → word_of word ≡ None

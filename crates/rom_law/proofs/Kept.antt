@@ -448,13 +448,3 @@ module _ (x : Program) (t : Pieces) (proved : Proved x t) where
   pub row_cycles : (b : Machine) (h : Since) → FitsMachine b → b.regs.idle ≡ false → Row x t b h → cycles_of (opcode_of x.interpreter.rom b) ≡ 2
   row_cycles b h f i (Inside l r) = block_cycles x t sound r (comes r)
   row_cycles b h f i (Alone l at) = (proved.places l b h f at).cycles i
-
-  -- a row of main code that runs says nothing of the cycle number
-  pub row_cycle : (b : Machine) (h : Since) (k : ℕ) → FitsMachine b → b.regs.idle ≡ false → Row x t b h → Row x t (record b { cycle = k }) h
-  row_cycle b h k f i (Inside l r) = Inside l (block_cycle x t sound b h k r)
-  row_cycle b h k f i (Alone l at) =
-      Alone l (subst (λ m. t.At l (record b { cycle = k }) (record h { ticks = m })) same
-      ((proved.places l b h f at).later i 0 (record b { cycle = k }) (at_cycle x t sound 0 b b k (after_none (code x).low b))))
-    where
-      same : h.ticks + 0 ≡ h.ticks
-      same = omega arith

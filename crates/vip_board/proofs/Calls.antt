@@ -1,6 +1,6 @@
 -- The calls of a machine cycle make of the wires what the cycle's effect makes of the machine.
 use Rattle.std.proofs.Common.{◌≡◌, ◌-◌, ◌∙◌, ℕ, Bool, true, false, ◌&&◌, if◌then◌else◌, refl, ap, sym, subst}
-use Rattle.std.specs.Prelude.{◌==◌, Option, Some, None, IsSome}
+use Rattle.std.specs.Prelude.{◌==◌, Option, Some, None}
 use Rattle.machine.specs.Opcodes.{kind_of, opcode_number, cycles_of}
 use Rattle.machine.specs.Instruction.{Regs, Effect, Port, at, stepped, inputs}
 use Rattle.machine.specs.Instruction.Port.{Send, Receive}
@@ -46,10 +46,6 @@ cycle-sends (Middle opcode left) s m f dma int taken =
 -- it neither uses a port nor writes
 abbrev SendsNothing : Cycle → Type 0
 SendsNothing c = (c.effect.port ≡ None) × (c.effect.write ≡ None)
-
-none_some : (o : Option ℕ) → o ≡ None → IsSome o → ⊥
-none_some None e h = cc
-none_some (Some x) e h = cc
 
 -- what a bus of the wires means by its calls
 abbrev pub Writes : Wires → ℕ → ℕ → Wires → Type 0
@@ -120,17 +116,6 @@ first-calls false false false x y z f hx hy hz hf = hf
 
 begun-calls : (s : Regs) (m : ℕ → ℕ) (dma int : Bool) → SendsNothing (begun s m dma int)
 begun-calls s m dma int = first-calls dma (s.ie && int) s.idle _ _ _ _ (refl, refl) (refl, refl) (refl, refl) (refl, refl)
-
-first-byte : (a i e : Bool) (x y z f : Cycle) → byte_in y.did ≡ None → byte_in z.did ≡ None → byte_in f.did ≡ None
-    → IsSome (byte_in (if a then x else if i then y else if e then z else f).did) → a ≡ true
-first-byte true i e x y z f hy hz hf some = refl
-first-byte false true e x y z f hy hz hf some = absurd (none_some _ hy some)
-first-byte false false true x y z f hy hz hf some = absurd (none_some _ hz some)
-first-byte false false false x y z f hy hz hf some = absurd (none_some _ hf some)
-
--- it puts a byte on the bus only where DMA is wanted
-pub begun-byte : (s : Regs) (m : ℕ → ℕ) (dma int : Bool) → IsSome (byte_in (begun s m dma int).did) → dma ≡ true
-begun-byte s m dma int some = first-byte dma (s.ie && int) s.idle _ _ _ _ refl refl refl some
 
 pub begun-made : (s : Seen) (cpu : Processor) (w : Wires) (dma int : Bool) (p : Processor) (did : Did) → seen_of cpu w ≡ s → s.phase ≡ Boundary
     → dma ≡ dma_at s.machine.cycle s.machine.on → int ≡ int_at s.machine.cycle s.machine.on

@@ -193,13 +193,7 @@ pub record Looking (limit : ℕ) (pc : ℕ) (old v : VipState) : Type 0 where
 find_first : (p : Machine → Bool) (b : Machine) (bs : List Machine) → p b ≡ true → find p (b ∷ bs) ≡ Some b
 find_first p b bs h = rw h refl
 
-find_next : (p : Machine → Bool) (b : Machine) (bs : List Machine) → p b ≡ false → find p (b ∷ bs) ≡ find p bs
-find_next p b bs h = rw h refl
-
 module _ (limit pc : ℕ) (old v v' : VipState) (s : Looking limit pc old v) (f : Follows v') where
-  has_same : IsSame old v' → (b : Machine) → has_pc old pc b ≡ has_pc v' pc b
-  has_same same b = ap (λ e. has_pc (record old { edition = e }) pc b) (sym same.edition)
-
   pub looked-none : PassesNone limit v v' → FindAnswers limit old v' (find (has_pc old pc) (points_left old limit)) false
   looked-none p =
       rw (s.points ∙ ap (find (has_pc old pc)) p.none)

@@ -1,5 +1,5 @@
 -- RAM and ROM in a list with a byte for each address.
-use Rattle.std.proofs.Common.{◌≡◌, ◌+◌, ◌-◌, ◌*◌, ◌<◌, ◌≤◌, ℕ, zero, suc, Bool, true, false, List, [], ◌∷◌, ◌++◌, length, get_or, get_or-set_other, set, take, drop, replicate, ap, sym, ◌∙◌, refl, arith, append_assoc, drop-cons, length-append, length-set}
+use Rattle.std.proofs.Common.{◌≡◌, ◌+◌, ◌-◌, ◌*◌, ◌<◌, ◌≤◌, ℕ, zero, suc, Bool, true, false, List, [], ◌∷◌, ◌++◌, length, get_or, set, take, drop, replicate, ap, sym, ◌∙◌, refl, arith, append_assoc, drop-cons, length-append}
 use Rattle.std.specs.Prelude.{◌&&◌, if◌then◌else◌, nat_lt, nat_le}
 use Rattle.std.proofs.Math.ListN.{get_or-append}
 use Rattle.std.proofs.Math.Seq.{take-append_seam, drop-append_seam, take-set-lt}
@@ -47,14 +47,6 @@ module _ (map : List ℕ) (m : IsMap map) (a v : ℕ) (within : a < 0x1000) wher
 
   pub rom-put : rom_in (set map a v) ≡ rom_in map
   rom-put = ap (take 0x800) (drop-set-lt 0x8000 map a v (omega (arith, within)))
-
-  pub map-put : IsMap (set map a v)
-  map-put =
-      record {
-        size = length-set _ _ _ ∙ m.size;
-        between = λ k from to. get_or-set_other map a k v 0 (λ e. omega (arith, e, from, within)) ∙ m.between k from to;
-        behind = λ k from to. get_or-set_other map a k v 0 (λ e. omega (arith, e, from, within)) ∙ m.behind k from to;
-      }
 
 -- ---- bytes loaded, none and one more
 

@@ -134,9 +134,6 @@ module _ {X : Type 0} (seen : X → Seen) (ends : X → Machine → Bool) (leads
       within-next =
           subst (λ (s : Seen). s.machine.cycle ≤ limit) (sym m.0) (next-within (at_move old moves x) g.going.stands limit goes_on)
 
-  pub gone-kept : (limit : ℕ) (old x x' : X) (moves : ℕ) → x' ≡ x → Gone limit old x moves → Gone limit old x' moves
-  gone-kept limit old x x' moves kept g = subst (λ y. Gone limit old y moves) (sym kept) g
-
 -- ---- looking for a state
 
 -- the first number of a range that passes a test, or none

@@ -1,9 +1,9 @@
 -- Several puts in turn are as one put of their bytes, as far as the first fault.
-use Rattle.std.proofs.Common.{◌≡◌, ℕ, ◌+◌, ◌≤◌, min, List, [], ◌++◌, length, take, Result, Ok, Err, IsErr, refl, ◌∙◌, arith}
+use Rattle.std.proofs.Common.{◌≡◌, ℕ, ◌+◌, ◌≤◌, min, List, [], ◌++◌, length, take, Result, Ok, Err, refl, ◌∙◌, arith}
 use Rattle.std.proofs.Math.Seq.{take-append-add}
 use Rattle.std.proofs.lemmas.List.{take-append-le, take_min}
 use Rattle.vip_outside.specs.Count.{Rose}
-use Rattle.vip_outside.specs.Sink.{SinkMeaning, GrewBy, Gains, GainsPart, GainAnswers, PutAnswers}
+use Rattle.vip_outside.specs.Sink.{SinkMeaning, GrewBy, Gains, GainsPart, GainAnswers}
 use Rattle.vip_outside.specs.declared.sink.Failed.{Failed}
 use Rattle.vip_outside.proofs.StreamLemmas.{Appends-append, Appends-nil}
 
@@ -42,13 +42,3 @@ GainsPart-append a b old new fault = record {
   held = rw prefix_of_first fault.held;
   faults = fault.faults;
 }
-
--- a fault, at whatever error is passed on
-pub GainAnswers-err : (a : List ℕ) (old new : SinkMeaning) (r : Result (Unit {0}) Failed) → IsErr r → GainsPart a old new → GainAnswers a old new r
-GainAnswers-err a old new (Ok done) bad fault = cc
-GainAnswers-err a old new (Err e) bad fault = fault
-
--- one put
-pub GainAnswers-put : (piece : List ℕ) (old new : SinkMeaning) (r : Result (Unit {0}) Failed) → PutAnswers piece old new r → GainAnswers piece old new r
-GainAnswers-put piece old new (Ok done) put = put.gains
-GainAnswers-put piece old new (Err e) put = put.gains

@@ -9,7 +9,7 @@ use Rattle.vip_cpu.specs.declared.cpu.Phase.TheVariants.{Boundary}
 use Rattle.vip_outside.specs.Sink.{SinkMeaning, PutsWhole, PutFails}
 use Rattle.vip_outside.specs.Pieces.{PutsAll, FailsWithin}
 use Rattle.vip_outside.specs.declared.sink.Failed.{Failed}
-use Rattle.vip_outside.proofs.PiecesLemmas.{PutsAll-nil, PutsAll-snoc, FailsWithin-snoc}
+use Rattle.vip_outside.proofs.PiecesLemmas.{PutsAll-snoc, FailsWithin-snoc}
 use Rattle.vip_program.specs.Moves.{goes_on, TakesLine}
 use Rattle.vip_program.specs.Trace.{Traces, TraceFails, TraceAnswers, lines, lines_of, moves_ahead, stretches}
 use Rattle.vip_program.proofs.Runs.{moved-more, moves-rest}
@@ -29,24 +29,6 @@ pub record Tracing (count limit : ℕ) (start v : Seen) (out out' : SinkMeaning)
   pub all : lines_of start (moves_ahead start limit count) ≡ written ++ lines_of v (moves_ahead v limit (count - made))
 
 module _ (count limit : ℕ) (start : Seen) (out : SinkMeaning) where
-  pub tracing-first : start.phase ≡ Boundary → start.machine.cycle ≤ limit → Tracing count limit start start out out 0
-  tracing-first boundary here = record {
-    few = omega arith;
-    boundary = boundary;
-    within = here;
-    moved = refl;
-    ahead = ahead_is;
-    written = [];
-    puts = PutsAll-nil out;
-    all = ap (λ n. lines_of start (moves_ahead start limit n)) all_left;
-  }
-    where
-      all_left : count ≡ count - 0
-      all_left = omega arith
-
-      ahead_is : moves_ahead start limit count ≡ 0 + moves_ahead start limit (count - 0)
-      ahead_is = omega arith
-
   module _ (v v' : Seen) (out' out'' : SinkMeaning) (made more : ℕ) (t : Tracing count limit start v out out' made) (line : List ℕ)
       (l : TakesLine (count - made) limit v v' line more) where
     left_is : count - made - more ≡ count - (made + more)

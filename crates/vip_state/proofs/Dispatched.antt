@@ -25,11 +25,6 @@ use Rattle.rom_run.proofs.Served.{served_disabled}
 use Rattle.rom_run.proofs.States.{every_state, there_taken}
 use Rattle.vip_state.proofs.Points.{no-stop}
 
--- a dispatch point is made by an instruction
-case_there : (k : Case) (x : Bool) → (is_instruction k && x) ≡ true → k ≡ Instruction
-case_there Instruction x h = refl
-case_there _ x h = cc
-
 apart : Instruction ≡ Interrupt → ⊥
 apart h = cc
 

@@ -228,10 +228,6 @@ pub record Reaches (limit : ℕ) (old new : ResumedState) : Type 0 where
   pub left : points_left new limit ≡ points_left old limit
   pub goes_on : is_stop (interpreter new) new.board.machine ≡ false
 
-pub reaches-none : (limit : ℕ) (v : ResumedState) → is_stop (interpreter v) v.board.machine ≡ false → Reaches limit v v
-reaches-none limit v runs =
-    record { same = record { edition = refl; file = refl; script = refl }; met = refl; pc = refl; opcode = refl; left = refl; goes_on = runs }
-
 same_on : (u v w : ResumedState) → IsSame u v → IsSame v w → IsSame u w
 same_on u v w s t = record { edition = t.edition ∙ s.edition; file = t.file ∙ s.file; script = t.script ∙ s.script }
 
