@@ -1,10 +1,11 @@
-//! The CHIP-8 interpreter's ROM as bytes, for both editions, with the addresses of its labels and the map of its parts.
+//! The CHIP-8 interpreter's ROM as bytes, for both editions, with the addresses of its labels, the map of its parts and its places in RAM.
 //!
-//! The ROM is here for the programs that run it, and its labels and its map for the proofs and tests that speak of its code. It stands on
-//! no other crate. The two ROMs have the same labels and the same instructions at the same addresses; 24 operand bytes differ, each the
-//! value of a name in the source's head. The layer above may rely on this: `AREAS` is the one place that says which addresses belong to
-//! which part, and `part` and `tall_part` look an address up in it. That the bytes are what the source assembles to is compared at each
-//! run; that each part's bytes lie where the map says is proved in `rom_run`.
+//! The ROM is here for the programs that run it, its labels and its map for the proofs and tests that speak of its code, and the places in RAM
+//! where it keeps its state for those that look there. It stands on `chip8_lang` for the edition and for where the definitions have these places.
+//! The two ROMs have the same labels and the same instructions at the same addresses; 24 operand bytes differ, each the value of a name in the
+//! source's head. The layer above may rely on this: `AREAS` is the one place that says which addresses belong to which part, and `part` and
+//! `tall_part` look an address up in it; `Places::of` has what the definitions say of an edition. That the bytes are what the source assembles to
+//! is compared at each run; that each part's bytes lie where the map says is proved in `rom_run`.
 #![tactic(auto)]
 
 ghost use Rattle.std.specs.Prelude.{◌≡◌};
@@ -14,10 +15,12 @@ mod image;
 pub mod laws;
 mod map;
 mod parts;
+mod places;
 
 pub use image::{IMAGE, TALL};
 pub use map::{AREAS, Area};
 pub use parts::Part;
+pub use places::{GAME, Places, RAM_END, RANDOM_CELL, STOP_CELL};
 
 /// The label `fetch` of the usual edition. A dispatch point is the start of an instruction there with P = 4.
 pub const FETCH: u16 = 0x8031;

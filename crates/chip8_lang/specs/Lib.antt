@@ -9,3 +9,4 @@ pub mod Bounds
 pub mod Places
 pub mod Events
 pub mod View
+pub mod Samples

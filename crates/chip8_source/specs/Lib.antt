@@ -1,1 +1,4 @@
 pub mod Texts
+pub mod Compared
+pub mod Faults
+pub mod Made

@@ -9,3 +9,4 @@ pub mod Run
 pub mod Pictures
 pub mod Schedule
 pub mod Ranges
+pub mod Samples

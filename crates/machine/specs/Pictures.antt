@@ -1,6 +1,6 @@
 -- The pictures that the CDP1861 shows in a run (data sheet, "Display"; the places in a frame are this project's profile): the 128 lines
 -- of the window, each of 8 bytes that DMA cycles put on the bus.
-use Rattle.std.specs.Prelude.{ℕ, zero, suc, ◌+◌, ◌-◌, ◌*◌, ◌/◌, ◌==◌, ◌&&◌, ◌||◌, not, nat_lt, nat_le, Bool, true, false, List, [], ◌∷◌, ◌++◌, length, filter, map, replicate}
+use Rattle.std.specs.Prelude.{ℕ, zero, suc, ◌+◌, ◌-◌, ◌*◌, ◌/◌, ◌%◌, ◌==◌, ◌&&◌, ◌||◌, not, nat_lt, nat_le, Bool, true, false, List, [], ◌∷◌, ◌++◌, length, filter, map, replicate}
 use Rattle.std.specs.List.{list_all, range_with_len}
 use Rattle.machine.specs.Board.{Machine, Case, case_of, dma_byte, length_of}
 use Rattle.machine.specs.Board.Case.{Dma}
@@ -9,6 +9,16 @@ use Rattle.machine.specs.Signals.{line_cycles, frame_lines, interrupt_line, wind
 -- the cycles of a frame
 abbrev pub frame : ℕ
 frame = frame_lines * line_cycles
+
+-- the place of a cycle in its frame, that of the interrupt, and that at which the window has ended
+abbrev pub place : ℕ → ℕ
+place t = t % frame
+
+abbrev pub interrupt_place : ℕ
+interrupt_place = interrupt_line * line_cycles
+
+abbrev pub window_place : ℕ
+window_place = window_end_line * line_cycles
 
 -- the cycle in which the interrupt of frame m starts, and the cycle at which its window has ended
 abbrev pub interrupt_at : ℕ → ℕ

@@ -1,12 +1,14 @@
-//! The COSMAC VIP by definitions, on which all else stands: registers and opcodes, one instruction, the address map, the video signals,
-//! the keys that are held down, the state of the machine with its moves, the run of a board and its pictures, and schedules. It uses no
-//! other crate. The layers above may rely on the definitions in `specs/`, and on what `proofs/` says of them: a move keeps the ranges of
-//! registers, RAM and key, and takes the cycles of its length. The standards are RCA's data sheets of the CDP1802 and the CDP1861 and
+//! The COSMAC VIP by definitions, on which all else stands: registers and opcodes, one instruction, the address map, the video signals, the keys
+//! that are held down, the state of the machine with its moves, the run of a board and its pictures, and schedules. It uses no other crate. The
+//! layers above may rely on the definitions in `specs/`, and on what `proofs/` says of them: a move keeps the ranges of registers, RAM and key, and
+//! takes the cycles of its length. `examples` has worked examples of them. The standards are RCA's data sheets of the CDP1802 and the CDP1861 and
 //! RCA's instruction manual of the COSMAC VIP; what they leave open is this project's profile (`docs/MACHINE.md`).
 //!
-//! The definitions speak of plain data and call no code. The processor, the memory, the video chip and the board are each proved to do
-//! what they say, and the interpreter's ROM is proved over them: neither side needs the other.
+//! The definitions speak of plain data and call no code. The processor, the memory, the video chip and the board are each proved to do what they
+//! say, and the interpreter's ROM is proved over them: neither side needs the other.
 #![tactic(auto)]
+
+pub mod examples;
 
 /// The kinds of instruction of the CDP1802, one for each mnemonic of its data sheet. `Undefined` is opcode 68, which has none.
 #[derive(Clone, Copy, Debug, PartialEq, Eq)]

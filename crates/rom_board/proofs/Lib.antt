@@ -1,2 +1,4 @@
 pub mod Keeps
 pub mod Ran
+pub mod Passed
+pub mod Speaking

@@ -2,7 +2,7 @@
 use Rattle.std.proofs.Common.{◌≡◌, ℕ, zero, suc, ◌+◌, ◌-◌, ◌*◌, ◌^◌, ◌<◌, ◌≤◌, ◌↔◌, refl, sym, ◌∙◌, ap, subst, arith}
 use Rattle.machine.specs.Board.{Machine, case_of, move, length_of}
 use Rattle.machine.specs.Keys.{held_at}
-use Rattle.machine.specs.Pictures.{interrupt_at}
+use Rattle.machine.specs.Pictures.{interrupt_at, place, interrupt_place}
 use Rattle.machine.specs.Run.{after_moves}
 use Rattle.machine.specs.Schedule.{Tick}
 use Rattle.machine.proofs.Runs.{cycle-move, later-move}
@@ -11,7 +11,6 @@ use Rattle.chip8_lang.specs.Editions.{memory_end}
 use Rattle.rom_law.specs.Rows.{Since, after_tick}
 use Rattle.rom_law.specs.Runs.{Moves}
 use Rattle.rom_rows.specs.Rom.{image, vip}
-use Rattle.rom_timer.specs.Frame.{place, interrupt_place}
 use Rattle.rom_timer.specs.Routine.{IsTick, routine_moves, routine_cycles}
 use Rattle.rom_timer.specs.Scan.{Scans}
 use Rattle.rom_run.specs.Running.{Running}

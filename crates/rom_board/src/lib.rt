@@ -1,10 +1,16 @@
-//! The moves of a board that runs the interpreter's ROM, one at a time and over a run of the interrupt routine.
+//! A board that runs the interpreter's ROM: its moves, one at a time and over a run of the interrupt routine, and its run as a run of CHIP-8.
 //!
-//! This is where the proof of the ROM, which speaks of states of the machine, meets the board that makes them. It stands on the board, through
-//! its contract alone, and on the laws of the ROM in `rom_run`. The layer above may rely on the contracts of `one_move` and `run_tick` and on
-//! the laws in `laws`: a move is the board's own, and where what is known of a running interpreter holds before it, it holds behind it, with
-//! the record of what came since the last dispatch point carried on; a run of the routine is one timer tick. Both are for any caller: what is
-//! known of the board is the premise of the clauses that need it, so that nobody has to prove it for a call.
+//! This is where the proof of the ROM, which speaks of states of the machine, meets the board that makes them. It stands on the board, through its
+//! contract alone, on the machine as its callers see it (`vip_relation`), of which only the events of the defined run are known, and on the laws of
+//! the ROM in `rom_run`. The layer above needs no law of the ROM.
+//!
+//! It may rely on the laws in `language`: they hold of every machine of which `Follows` holds, as it does after every call of `Vip`, in both
+//! editions. The language is RCA's, as `chip8_lang` defines it; times are this project's profile.
+//!
+//! And it may rely on the contracts of `one_move` and `run_tick` and on the laws in `laws`: a move is the board's own, and where what is known of a
+//! running interpreter holds before it, it holds behind it, with the record of what came since the last dispatch point carried on; a run of the
+//! routine is one timer tick. Both are for any caller: what is known of the board is the premise of the clauses that need it, so that nobody has to
+//! prove it for a call.
 #![tactic(auto)]
 
 ghost use Rattle.std.specs.Prelude.{◌≡◌, ◌+◌, ◌<◌, ◌^◌, ◌↔◌};
@@ -20,6 +26,7 @@ ghost use Rattle.rom_board.specs.Ticks.{moved_times, most_cycles, StartsTick, Ma
 
 use vip_board::{Board, Moved};
 
+pub mod language;
 pub mod laws;
 #[cfg(test)]
 mod tests;

@@ -7,7 +7,7 @@ use Rattle.machine.specs.Instruction.{inputs, stepped}
 use Rattle.machine.specs.Board.{Machine, byte_of, case_of, flags_of, main_move, move}
 use Rattle.machine.specs.Board.Case.{Dma, Interrupt, Idle, Instruction}
 use Rattle.machine.specs.Keys.{Event, Keys, held_at}
-use Rattle.machine.specs.Pictures.{interrupt_at}
+use Rattle.machine.specs.Pictures.{interrupt_at, place, interrupt_place}
 use Rattle.machine.specs.Run.{after_moves}
 use Rattle.machine.proofs.Runs.{later-move}
 use Rattle.chip8_lang.specs.declared.view.Edition.{Edition}
@@ -30,7 +30,7 @@ use Rattle.rom_rows.specs.SpriteBlocks.SpriteBlock.{Wipe, Wipe3, Wipe6, Wiped, C
 use Rattle.rom_rows.specs.Table.{Head, pieces, calm_pieces, waited_pieces}
 use Rattle.rom_rows.specs.Table.Block.{OfSprite}
 use Rattle.rom_rows.proofs.Steps.{stop_ticks}
-use Rattle.rom_timer.specs.Frame.{place, interrupt_place, Makes}
+use Rattle.rom_timer.specs.Frame.{Makes}
 use Rattle.rom_timer.specs.Frame.Makes.{Runs, Waits, Accepts}
 use Rattle.rom_timer.specs.Routine.{IsTick, routine_moves, routine_cycles}
 use Rattle.rom_timer.proofs.Frame.{case_accepts, case_runs, every_move, keeps_place}

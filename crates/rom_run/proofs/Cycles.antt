@@ -1,10 +1,10 @@
 -- The cycles of the main moves since a dispatch point, where main code doesn't wait for the display.
 use Rattle.std.proofs.Common.{◌≡◌, ℕ, ◌+◌, ◌-◌, ◌*◌, ◌/◌, ◌<◌, ◌≤◌, ◌⊎◌, inl, inr, refl, arith}
 use Rattle.std.proofs.lemmas.Bool.{cases_lt}
-use Rattle.machine.specs.Pictures.{interrupt_at}
+use Rattle.machine.specs.Pictures.{interrupt_at, place, interrupt_place}
 use Rattle.chip8_lang.specs.Bounds.{key_cycles}
 use Rattle.chip8_lang.proofs.Ticks.{ticks_passed}
-use Rattle.rom_timer.specs.Frame.{place, interrupt_place, IsOutside}
+use Rattle.rom_timer.specs.Frame.{IsOutside}
 use Rattle.rom_timer.specs.Routine.{routine_cycles}
 
 -- main code runs in cycle c, with n main moves since a dispatch point in cycle `from`

@@ -15,11 +15,10 @@ use Rattle.rom_rows.specs.FetchBlocks.{FetchBlock}
 use Rattle.rom_rows.specs.Rom.{image, vip}
 use Rattle.rom_rows.specs.Table.{pieces}
 use Rattle.rom_rows.specs.Table.Block.{OfFetch}
-use Rattle.rom_run.proofs.Image.{dispatch_time}
+use Rattle.rom_run.proofs.Image.{dispatch_time, run_tick}
 use Rattle.rom_timer.specs.Frame.{Makes}
 use Rattle.rom_timer.specs.Frame.Makes.{Runs, Waits, Accepts}
 use Rattle.rom_timer.proofs.Frame.{every_move}
-use Rattle.rom_run.proofs.Image.{run_tick}
 use Rattle.rom_run.specs.Laws.{IsIn, DispatchIn}
 use Rattle.rom_run.specs.Running.{Interval, Outside, Running}
 use Rattle.rom_run.specs.Running.Outside.{AtRow, AtEvent}

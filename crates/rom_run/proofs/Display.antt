@@ -8,7 +8,7 @@ use Rattle.chip8_lang.specs.Editions.{variables, screen_start}
 use Rattle.rom_law.specs.Rows.{Since, Row}
 use Rattle.rom_rows.specs.Rom.{vip}
 use Rattle.rom_rows.specs.Table.{calm_pieces}
-use Rattle.rom_timer.specs.Frame.{place, interrupt_place}
+use Rattle.machine.specs.Pictures.{place, interrupt_place}
 use Rattle.rom_timer.specs.Routine.{routine_cycles}
 use Rattle.rom_run.specs.Display.{Display}
 use Rattle.rom_run.specs.Laws.{Undisturbed, WaitsSoon}

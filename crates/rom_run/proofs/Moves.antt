@@ -11,7 +11,7 @@ use Rattle.machine.specs.Keys.{Keys, Event, held_at}
 use Rattle.machine.specs.Run.{after_moves}
 use Rattle.machine.specs.Schedule.{Tick}
 use Rattle.machine.specs.Ranges.{FitsMachine}
-use Rattle.machine.specs.Pictures.{interrupt_at}
+use Rattle.machine.specs.Pictures.{interrupt_at, place, interrupt_place}
 use Rattle.machine.proofs.Fits.{main-fits}
 use Rattle.chip8_lang.specs.declared.view.Edition.{Edition}
 use Rattle.chip8_lang.specs.declared.view.Stop.{Stop}
@@ -41,7 +41,7 @@ use Rattle.rom_rows.specs.Rom.{image, vip}
 use Rattle.rom_rows.specs.Table.{pieces, calm_pieces, waited_pieces}
 use Rattle.rom_rows.proofs.Calm.{row_calm}
 use Rattle.rom_rows.proofs.Waited.{row_joined}
-use Rattle.rom_timer.specs.Frame.{place, interrupt_place, IsOutside, IsMainPlace, Makes}
+use Rattle.rom_timer.specs.Frame.{IsOutside, IsMainPlace, Makes}
 use Rattle.rom_timer.specs.Frame.Makes.{Runs, Waits, Accepts}
 use Rattle.rom_timer.specs.Routine.{IsInterrupted, IsTick, routine_moves, routine_cycles}
 use Rattle.rom_timer.proofs.Frame.{case_accepts, case_runs, case_waits, every_move, keeps_place, keeps_waiting}

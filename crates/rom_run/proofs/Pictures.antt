@@ -7,7 +7,7 @@ use Rattle.std.proofs.lemmas.Option.{slice_get_within}
 use Rattle.machine.specs.Board.{Machine, move}
 use Rattle.machine.specs.Keys.{Keys, Event, held_at}
 use Rattle.machine.specs.Run.{run_to}
-use Rattle.machine.specs.Pictures.{interrupt_at, window_end, picture_of}
+use Rattle.machine.specs.Pictures.{interrupt_at, window_end, picture_of, place, interrupt_place}
 use Rattle.machine.specs.Ranges.{FitsMachine}
 use Rattle.machine.proofs.Runs.{later-move}
 use Rattle.chip8_lang.specs.declared.view.Edition.{Edition}
@@ -22,7 +22,7 @@ use Rattle.rom_law.proofs.Kept.{row_runs, row_cycles}
 use Rattle.rom_law.proofs.Runs.{Shown}
 use Rattle.rom_rows.specs.Rom.{image, vip}
 use Rattle.rom_rows.specs.Table.{pieces}
-use Rattle.rom_timer.specs.Frame.{place, interrupt_place, IsOutside, Makes}
+use Rattle.rom_timer.specs.Frame.{IsOutside, Makes}
 use Rattle.rom_timer.specs.Frame.Makes.{Runs, Waits, Accepts}
 use Rattle.rom_timer.specs.Scan.{Pictured}
 use Rattle.rom_timer.proofs.Frame.{every_move}

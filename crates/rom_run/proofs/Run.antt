@@ -5,7 +5,7 @@ use Rattle.machine.specs.Board.{Machine, move, start}
 use Rattle.machine.specs.Keys.{Event, Keys, held_at}
 use Rattle.machine.specs.Run.{run_to}
 use Rattle.machine.specs.Ranges.{FitsMachine}
-use Rattle.machine.specs.Pictures.{windows_ended}
+use Rattle.machine.specs.Pictures.{windows_ended, place, interrupt_place, window_place}
 use Rattle.machine.proofs.Counts.{windows}
 use Rattle.machine.proofs.Runs.{later-move, run_to-past}
 use Rattle.chip8_lang.specs.declared.view.Edition.{Edition}
@@ -22,7 +22,7 @@ use Rattle.rom_law.proofs.Frames.{frames_on, frames_begin}
 use Rattle.rom_law.proofs.Runs.{Carries, Boots, goes_on, begins_so}
 use Rattle.rom_rows.specs.Rom.{image, vip}
 use Rattle.rom_fetch.specs.Laws.{Boot, boot_moves}
-use Rattle.rom_timer.specs.Frame.{place, interrupt_place, window_place, IsMainPlace}
+use Rattle.rom_timer.specs.Frame.{IsMainPlace}
 use Rattle.rom_run.specs.Laws.{EveryRun, FromAnyStart, BootStarts, EveryPicture, EveryPictureBehind}
 use Rattle.rom_run.specs.Running.{Running}
 use Rattle.rom_run.specs.States.{MayStart, BootsTo}

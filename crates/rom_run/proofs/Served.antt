@@ -3,7 +3,7 @@ use Rattle.std.proofs.Common.{◌≡◌, ℕ, suc, ◌+◌, ◌<◌, ◌≤◌, 
 use Rattle.std.proofs.lemmas.Bool.{cases_lt}
 use Rattle.machine.specs.Board.{Machine, move}
 use Rattle.machine.specs.Keys.{Event, Keys, held_at}
-use Rattle.machine.specs.Pictures.{interrupt_at, window_end}
+use Rattle.machine.specs.Pictures.{interrupt_at, window_end, place, interrupt_place}
 use Rattle.machine.specs.Run.{after_moves}
 use Rattle.machine.proofs.Runs.{later-move}
 use Rattle.chip8_lang.specs.declared.view.Edition.{Edition}
@@ -11,7 +11,6 @@ use Rattle.rom_law.specs.Rows.{Since, after_tick}
 use Rattle.rom_law.specs.Runs.{Moves}
 use Rattle.rom_law.proofs.Ahead.{later_cycle}
 use Rattle.rom_rows.specs.Rom.{image, vip}
-use Rattle.rom_timer.specs.Frame.{place, interrupt_place}
 use Rattle.rom_timer.specs.Routine.{IsTick, routine_moves, routine_cycles, window_moves}
 use Rattle.rom_run.proofs.Image.{run_tick}
 use Rattle.rom_run.specs.Running.{Outside, Running, Serving}

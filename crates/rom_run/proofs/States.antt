@@ -4,7 +4,7 @@ use Rattle.std.proofs.lemmas.Bool.{cases_Bool, cases_eq, cases_lt}
 use Rattle.machine.specs.Board.{Machine, Case, case_of, start}
 use Rattle.machine.specs.Board.Case.{Dma, Interrupt, Idle, Instruction}
 use Rattle.machine.specs.Keys.{Event, held_at}
-use Rattle.machine.specs.Pictures.{interrupt_at}
+use Rattle.machine.specs.Pictures.{interrupt_at, place, interrupt_place}
 use Rattle.machine.specs.Signals.{int_at, dma_at}
 use Rattle.chip8_lang.specs.declared.view.Edition.{Edition}
 use Rattle.chip8_lang.specs.State.{memory_size}
@@ -17,7 +17,6 @@ use Rattle.rom_law.proofs.States.{holds_after, holds_behind, since_dispatch}
 use Rattle.rom_rows.specs.Rom.{image, vip}
 use Rattle.rom_rows.specs.Table.{pieces}
 use Rattle.rom_fetch.specs.Laws.{boot_moves}
-use Rattle.rom_timer.specs.Frame.{place, interrupt_place}
 use Rattle.rom_timer.proofs.Frame.{calm, case_accepts, case_runs, case_waits}
 use Rattle.rom_run.specs.Laws.{EveryState, EveryInterrupt, NoneMissing}
 use Rattle.rom_run.specs.Running.{Running, Booting}

@@ -5,11 +5,11 @@ use Rattle.machine.specs.Opcodes.{cycles_of}
 use Rattle.machine.specs.Board.{Machine, Case, case_of, move, length_in}
 use Rattle.machine.specs.Board.Case.{Instruction}
 use Rattle.machine.specs.Keys.{Keys}
-use Rattle.machine.specs.Pictures.{frame}
+use Rattle.machine.specs.Pictures.{frame, place, interrupt_place}
 use Rattle.machine.proofs.Runs.{cycle-move}
 use Rattle.chip8_lang.specs.Between.{ticks_between}
 use Rattle.chip8_lang.proofs.Ticks.{ticks_counted}
-use Rattle.rom_timer.specs.Frame.{place, interrupt_place, IsOutside}
+use Rattle.rom_timer.specs.Frame.{IsOutside}
 use Rattle.rom_timer.specs.Routine.{routine_cycles}
 use Rattle.rom_run.specs.Time.{Suffices, since_window, most_wait}
 

@@ -1,7 +1,7 @@
 -- Behind a wait main code is done before the next interrupt: so none comes while the screen is changed.
 use Rattle.std.proofs.Common.{◌-◌, ◌≡◌, ℕ, ◌+◌, ◌*◌, ◌/◌, ◌%◌, ◌<◌, ◌≤◌, refl, sym, ◌∙◌, ap, arith, true, false}
 use Rattle.machine.specs.Board.{Machine}
-use Rattle.machine.specs.Pictures.{interrupt_at}
+use Rattle.machine.specs.Pictures.{interrupt_at, place, interrupt_place}
 use Rattle.chip8_lang.specs.declared.instr.Instr.{Instr}
 use Rattle.chip8_lang.specs.declared.instr.Instr.TheVariants.{Clear as IsClear, Draw as IsDraw}
 use Rattle.chip8_lang.specs.declared.view.Edition.{Edition}
@@ -23,7 +23,6 @@ use Rattle.rom_rows.specs.SpriteBlocks.SpritePlace.{ClearWait, ClearIdle, DrawWa
 use Rattle.rom_rows.specs.Table.{Head, pieces, waited_pieces}
 use Rattle.rom_rows.specs.Table.Block.{OfSprite}
 use Rattle.rom_rows.specs.Table.Place.{AtTimer, AtKey, AtSprite}
-use Rattle.rom_timer.specs.Frame.{place, interrupt_place}
 use Rattle.rom_timer.specs.Routine.{routine_cycles}
 use Rattle.rom_run.specs.Time.{WaitsBy, Woken, most_changing}
 use Rattle.rom_run.specs.Time.WaitsBy.{ToClear, ToDraw}

@@ -3,7 +3,7 @@ use Rattle.std.specs.Prelude.{◌≡◌, ℕ, suc, ◌+◌, ◌-◌, ◌<◌, �
 use Rattle.machine.specs.Instruction.{at}
 use Rattle.machine.specs.Board.{Machine, move, start}
 use Rattle.machine.specs.Keys.{Event, held_at}
-use Rattle.machine.specs.Pictures.{interrupt_at, windows_ended}
+use Rattle.machine.specs.Pictures.{interrupt_at, windows_ended, place, interrupt_place}
 use Rattle.machine.specs.Ranges.{FitsMachine}
 use Rattle.machine.specs.Run.{run_to}
 use Rattle.chip8_image.specs.declared.parts.Part.{Part}
@@ -23,7 +23,6 @@ use Rattle.rom_law.specs.Schedules.{EverySchedule}
 use Rattle.rom_rows.specs.Rom.{image, vip}
 use Rattle.rom_rows.specs.Table.{pieces}
 use Rattle.rom_fetch.specs.Laws.{boot_moves}
-use Rattle.rom_timer.specs.Frame.{place, interrupt_place}
 use Rattle.rom_run.specs.Display.{Display, WritesScreen, SameInterval, AtDisplay, Changes}
 use Rattle.rom_run.specs.Running.{Running, Booting, FromBoot, Showing}
 use Rattle.rom_run.specs.Time.{since_return, most_changing}

@@ -5,7 +5,7 @@ use Rattle.machine.specs.Board.{Machine, start}
 use Rattle.machine.specs.Keys.{Event, held_at}
 use Rattle.machine.specs.Run.{after_moves}
 use Rattle.machine.specs.Ranges.{FitsMachine}
-use Rattle.machine.specs.Pictures.{interrupt_at}
+use Rattle.machine.specs.Pictures.{interrupt_at, place, interrupt_place}
 use Rattle.chip8_lang.specs.declared.view.Edition.{Edition}
 use Rattle.chip8_lang.specs.declared.view.Stop.{Stop}
 use Rattle.chip8_lang.specs.Editions.{rows_of}
@@ -20,7 +20,7 @@ use Rattle.rom_law.specs.Runs.{Covers}
 use Rattle.rom_rows.specs.Rom.{image, vip}
 use Rattle.rom_rows.specs.Table.{pieces}
 use Rattle.rom_fetch.specs.Laws.{boot_moves}
-use Rattle.rom_timer.specs.Frame.{place, interrupt_place, IsOutside}
+use Rattle.rom_timer.specs.Frame.{IsOutside}
 use Rattle.rom_timer.specs.Routine.{routine_moves}
 use Rattle.rom_run.specs.Time.{Timed, DueInTime}
 

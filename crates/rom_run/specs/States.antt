@@ -3,7 +3,7 @@ use Rattle.std.specs.Prelude.{◌≡◌, ℕ, ◌%◌, ◌<◌, ◌≤◌, ◌�
 use Rattle.machine.specs.Board.{Machine, case_of, start}
 use Rattle.machine.specs.Board.Case.{Interrupt}
 use Rattle.machine.specs.Keys.{Event}
-use Rattle.machine.specs.Pictures.{interrupt_at}
+use Rattle.machine.specs.Pictures.{interrupt_at, place, interrupt_place, window_place}
 use Rattle.machine.specs.Ranges.{FitsMachine}
 use Rattle.chip8_lang.specs.declared.view.Edition.{Edition}
 use Rattle.chip8_lang.specs.Events.{is_stop}
@@ -12,7 +12,6 @@ use Rattle.rom_law.specs.Program.{Dispatches}
 use Rattle.rom_law.specs.Runs.{state_at, state_after, record_after}
 use Rattle.rom_rows.specs.Rom.{vip}
 use Rattle.rom_fetch.specs.Laws.{boot_moves}
-use Rattle.rom_timer.specs.Frame.{place, interrupt_place, window_place}
 use Rattle.rom_run.specs.Running.{Running, Booting}
 
 -- ---- where a run may begin

@@ -1,7 +1,7 @@
 -- The time since the last dispatch point: the cycles of main code, of the interrupt routine and of the wait for the display.
 use Rattle.std.specs.Prelude.{◌≡◌, ℕ, ◌+◌, ◌-◌, ◌*◌, ◌%◌, ◌≤◌, true, Some}
 use Rattle.machine.specs.Board.{Machine}
-use Rattle.machine.specs.Pictures.{frame}
+use Rattle.machine.specs.Pictures.{frame, place, interrupt_place, window_place}
 use Rattle.chip8_lang.specs.declared.instr.Instr.TheVariants.{Clear, Draw}
 use Rattle.chip8_lang.specs.declared.view.Edition.{Edition}
 use Rattle.chip8_lang.specs.State.{Lang, instr_at}
@@ -9,7 +9,6 @@ use Rattle.chip8_lang.specs.Bounds.{bound_of}
 use Rattle.rom_law.specs.Rows.{Since, Row}
 use Rattle.rom_rows.specs.Rom.{vip}
 use Rattle.rom_rows.specs.Table.{calm_pieces, waited_pieces}
-use Rattle.rom_timer.specs.Frame.{place, interrupt_place, window_place}
 use Rattle.rom_timer.specs.Routine.{routine_cycles}
 
 -- The cycles of the interval: those of main code, those of the routine for each tick, and n in which main code waited.

@@ -8,7 +8,8 @@ use Rattle.machine.specs.Board.{Machine, case_of, move, main_move, opcode_of}
 use Rattle.machine.specs.Board.Case.{Interrupt, Idle, Instruction}
 use Rattle.machine.specs.Keys.{Keys}
 use Rattle.machine.proofs.Moves.{case_instruction, case_interrupt, case_idle, move_in}
-use Rattle.rom_timer.specs.Frame.{place, interrupt_place, window_place, IsOutside, Makes, EveryMove, KeepsPlace, KeepsWaiting}
+use Rattle.machine.specs.Pictures.{place, interrupt_place, window_place}
+use Rattle.rom_timer.specs.Frame.{IsOutside, Makes, EveryMove, KeepsPlace, KeepsWaiting}
 use Rattle.rom_timer.specs.Frame.Makes.{Runs, Waits, Accepts}
 
 -- ---- where a frame lies in lines

@@ -6,7 +6,7 @@ use Rattle.std.proofs.lemmas.Option.{slice_get_within, slice_get-get_or}
 use Rattle.machine.specs.Bank.{value}
 use Rattle.machine.specs.Board.{Machine}
 use Rattle.machine.specs.Keys.{Event, Keys, held_at}
-use Rattle.machine.specs.Pictures.{interrupt_at}
+use Rattle.machine.specs.Pictures.{interrupt_at, place, interrupt_place}
 use Rattle.machine.specs.Ranges.{FitsMachine}
 use Rattle.chip8_lang.specs.declared.view.Edition.{Edition}
 use Rattle.chip8_lang.specs.Editions.{memory_end, stack_top}
@@ -20,7 +20,6 @@ use Rattle.rom_law.proofs.Language.{keys_from_get, last_or_before}
 use Rattle.rom_law.proofs.Places.{holding, stack_most, stack_below}
 use Rattle.rom_rows.specs.Rom.{vip}
 use Rattle.rom_rows.proofs.Bytes.{memory_end_is, stack_top_is}
-use Rattle.rom_timer.specs.Frame.{place, interrupt_place}
 use Rattle.rom_timer.specs.Routine.{IsInterrupted, routine_cycles}
 
 -- ---- ticks

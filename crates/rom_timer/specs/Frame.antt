@@ -5,18 +5,7 @@ use Rattle.machine.specs.Instruction.{interrupted}
 use Rattle.machine.specs.Signals.{efx_at}
 use Rattle.machine.specs.Board.{Machine, main_move, move, opcode_of}
 use Rattle.machine.specs.Keys.{Keys}
-use Rattle.machine.specs.Pictures.{frame, interrupt_at}
-
--- the place of a cycle in its frame, and that of the interrupt
-abbrev pub place : ℕ → ℕ
-place t = t % frame
-
-abbrev pub interrupt_place : ℕ
-interrupt_place = 78 * 14
-
--- the place where the window has ended
-abbrev pub window_place : ℕ
-window_place = 208 * 14
+use Rattle.machine.specs.Pictures.{frame, place, interrupt_at, interrupt_place, window_place}
 
 -- Main code runs or waits at the places up to that of the interrupt, and from the end of the window on. Where it runs, the cycle is even.
 abbrev pub IsOutside : ℕ → Type 0

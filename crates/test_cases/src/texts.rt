@@ -2,13 +2,13 @@
 
 use asm_core::{AsmCause, AsmFault};
 use asm_lex::{LexFault, ValueFault};
-use rom_check::ImageFault;
+use chip8_source::ImageFault;
 use vip_byte::NumFault;
-use vip_commands::{CommandCause, CommandFault};
 use vip_keypad::{ScriptCause, ScriptFault};
 use vip_outside::{Failed, MemSink};
 use vip_relation::StartFault;
-use vip_report::{Refusal, put_refusal};
+use vip_tools::{Refusal, put_refusal};
+use vip_words::{CommandCause, CommandFault};
 
 /// Room for a report.
 const REPORT_ROOM: usize = 80;

@@ -1,7 +1,7 @@
 //! Short sources against a ROM of 00: the least address that differs, or the source's first fault, which no words of the program reach.
 
 use asm_core::AsmCause;
-use rom_check::{ImageFault, compare};
+use chip8_source::{ImageFault, compare};
 use std::alloc::Global;
 
 /// A ROM without a byte but 00.

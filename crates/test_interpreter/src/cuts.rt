@@ -12,8 +12,7 @@ use std::alloc::{AllocError, Global};
 use vip_keypad::Script;
 use vip_outside::{Failed, MemSink};
 use vip_relation::Run;
-use vip_show::show_trace;
-use vip_state::{Resumed, show_resumed, show_saved};
+use vip_show::{Resumed, show_resumed, show_saved, show_trace};
 use vip_text::RunEnd;
 
 /// How many games are cut, each in both editions.

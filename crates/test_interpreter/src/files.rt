@@ -9,7 +9,7 @@ use chip8_lang::{Edition, StopRecord};
 use std::alloc::{AllocError, Global};
 use vip_keypad::Script;
 use vip_relation::view_of;
-use vip_state::{Resumed, Step};
+use vip_show::{Resumed, Step};
 
 /// How many files are made.
 const FILES: u32 = 500;

@@ -10,7 +10,7 @@
 //! Then machine states in files are made by random numbers, and each is gone on from: every point is compared with the step of the language from the
 //! one before it, as `docs/LANGUAGE.md` has it. Last, runs of random games are saved and gone on with, and compared with the trace in one go.
 //!
-//! It stands on the board, the assembler, the ROM and `vip_state`; the traces of runs in one go are those of `vip_show`. That the ROM is CHIP-8 within the
+//! It stands on the board, the assembler, the ROM and `vip_show`, which has the traces of runs in one go too. That the ROM is CHIP-8 within the
 //! bounds is proved in `rom_run`; what is measured here says how far below them it stays. Nothing here is proved but that it is safe.
 #![tactic(auto)]
 

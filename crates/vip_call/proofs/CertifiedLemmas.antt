@@ -13,12 +13,12 @@ use Rattle.game_check.specs.Laws.{CertifiedGames}
 use Rattle.game_check.specs.Proof.{IsAccepted}
 use Rattle.game_check.specs.States.{IsRunFrom, NeverStops, last_of}
 use Rattle.rom_law.specs.Language.{Begins, GoesOn}
-use Rattle.vip_language.specs.Laws.{EveryRun}
-use Rattle.vip_language.specs.Program.{numbered, program}
-use Rattle.vip_relation.specs.Interpreters.{interpreter_of}
+use Rattle.rom_board.specs.Laws.{EveryRun}
+use Rattle.rom_board.specs.Program.{numbered, program}
+use Rattle.chip8_image.specs.Interpreters.{interpreter_of}
 use Rattle.vip_outside.specs.Files.{FilesMeaning}
 use Rattle.vip_words.specs.Asked.{Asked, trace, play, debug, save, resume, demo, link, trace_program, play_program, debug_program, asm, list, dis, source as interpreter, bounds, within, safe, certify}
-use Rattle.vip_report.specs.declared.status.Status.{Status}
+use Rattle.vip_tools.specs.declared.status.Status.{Status}
 use Rattle.vip_tools.specs.Certificates.{CertifyComes, CyclesComes, SafeComes}
 use Rattle.vip_tools.specs.Certificates.CertifyComes.{Finds}
 use Rattle.vip_tools.specs.Certificates.CyclesComes.{Leaves}

@@ -11,16 +11,16 @@ use Rattle.chip8_lang.specs.Events.Event.{Picture, Dispatch, Stopped}
 use Rattle.chip8_lang.specs.Places.{Interpreter}
 use Rattle.chip8_lang.specs.View.{view_at}
 use Rattle.vip_relation.specs.Follows.{last_dispatch}
-use Rattle.vip_relation.specs.Interpreters.{interpreter_of}
+use Rattle.chip8_image.specs.Interpreters.{interpreter_of}
 use Rattle.vip_relation.specs.State.{VipState, started}
 use Rattle.vip_relation.specs.Stops.{stop_at, pc_of, opcode_of}
-use Rattle.vip_language.proofs.Passed.{NoStop, before_point, events_to_stop, last_after, last_after_stop, last_of_events, no_stop_before}
+use Rattle.rom_board.proofs.Passed.{NoStop, before_point, events_to_stop, last_after, last_after_stop, last_of_events, no_stop_before}
 use Rattle.vip_text.specs.Endings.{Ending}
 use Rattle.vip_text.specs.Endings.Ending.{AtLimit, AtStop}
 use Rattle.vip_show.specs.Endings.{ending_after}
-use Rattle.vip_commands.specs.declared.commands.Command.{Command}
+use Rattle.vip_words.specs.declared.debug_commands.Command.{Command}
 use Rattle.vip_debug.specs.Answers.{stop_by, place_after, at_start}
-use Rattle.vip_monitor.proofs.Runs.{Reached}
+use Rattle.vip_debug.proofs.TargetRuns.{Reached}
 use Rattle.vip_debug.specs.Game.{run_at}
 use Rattle.vip_debug.proofs.Reaching.{commands_reach}
 use Rattle.vip_verbs.specs.Outcome.{run_ending, stopped_by, debug_ending}

@@ -19,23 +19,23 @@ use Rattle.chip8_lang.specs.Screen.{empty, is_set}
 use Rattle.chip8_lang.specs.View.{view_at}
 use Rattle.vip_byte.specs.Text.{newline}
 use Rattle.vip_relation.specs.Follows.{dispatch_of, last_dispatch}
-use Rattle.vip_relation.specs.Interpreters.{interpreter_of}
+use Rattle.chip8_image.specs.Interpreters.{interpreter_of}
 use Rattle.vip_relation.specs.Points.{point_events}
 use Rattle.vip_relation.specs.declared.point.Point.TheVariants.{Dispatch as DispatchPoint, Stop as StopPoint, Other as OtherPoint}
 use Rattle.vip_relation.specs.State.{VipState, events_to, screen_bytes, screen_size, started}
 use Rattle.vip_board.proofs.Along.{in-turn}
 use Rattle.vip_relation.proofs.Past.{state, earlier, before, past, pictures, point, goes}
-use Rattle.vip_language.proofs.Passed.{NoStop, no_stop_append, no_stop_before, other_point, with_point, before_point}
+use Rattle.rom_board.proofs.Passed.{NoStop, no_stop_append, no_stop_before, other_point, with_point, before_point}
 use Rattle.vip_text.specs.Endings.{Ending}
 use Rattle.vip_text.specs.Endings.Ending.{AtLimit}
 use Rattle.vip_text.specs.Screens.{screen_lines}
 use Rattle.vip_text.specs.Traces.{trace_line}
 use Rattle.vip_show.specs.Endings.{ending_after}
-use Rattle.vip_commands.specs.declared.commands.Command.{Command}
-use Rattle.vip_commands.specs.declared.commands.Command.TheVariants as command
-use Rattle.vip_commands.specs.declared.commands.Seeking.TheVariants.{Next, Break}
-use Rattle.vip_commands.specs.declared.commands.Telling.TheVariants.{State, Screen}
-use Rattle.vip_monitor.proofs.Runs.{Reached, all-moves, last-here, until}
+use Rattle.vip_words.specs.declared.debug_commands.Command.{Command}
+use Rattle.vip_words.specs.declared.debug_commands.Command.TheVariants as command
+use Rattle.vip_words.specs.declared.debug_commands.Seeking.TheVariants.{Next, Break}
+use Rattle.vip_words.specs.declared.debug_commands.Telling.TheVariants.{State, Screen}
+use Rattle.vip_debug.proofs.TargetRuns.{Reached, all-moves, last-here, until}
 use Rattle.vip_debug.specs.Answers.{Place, at_point, at_start, events_by, has_pc, met_at, moves_until, place_with, points_ahead, lines_at, seeking_lines, stop_by, stop_text, told, written}
 use Rattle.vip_debug.specs.Answers.{pieces as pieces_of}
 use Rattle.vip_debug.specs.Game.{run_at}

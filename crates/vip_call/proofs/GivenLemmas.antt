@@ -4,17 +4,17 @@ use Rattle.machine.specs.Keys.{Event as KeyEvent}
 use Rattle.chip8_lang.specs.declared.view.Edition.{Edition}
 use Rattle.chip8_lang.specs.declared.view.Edition.TheVariants.{Usual, Tall}
 use Rattle.asm_core.specs.Made.{Made}
-use Rattle.rom_check.specs.Compared.{SourceGivesRom}
+use Rattle.chip8_source.specs.Compared.{SourceGivesRom}
 use Rattle.vip_board.specs.Seen.{Seen}
-use Rattle.vip_commands.specs.Grammar.{commands_of}
-use Rattle.vip_commands.specs.declared.commands.Command.{Command}
-use Rattle.vip_commands.specs.declared.commands.Speaks.TheVariants.{Chip8, Machine as Processor}
-use Rattle.vip_commands.specs.declared.commands.CommandFault.{CommandFault}
-use Rattle.vip_commands.specs.declared.commands.CommandFault.TheVariants as debug_fault
+use Rattle.vip_words.specs.DebugGrammar.{commands_of}
+use Rattle.vip_words.specs.declared.debug_commands.Command.{Command}
+use Rattle.vip_words.specs.declared.debug_commands.Speaks.TheVariants.{Chip8, Machine as Processor}
+use Rattle.vip_words.specs.declared.debug_commands.CommandFault.{CommandFault}
+use Rattle.vip_words.specs.declared.debug_commands.CommandFault.TheVariants as debug_fault
 use Rattle.vip_link.specs.Checked.{ComparesLink}
 use Rattle.vip_program.specs.declared.trace.ProgramEnd.{ProgramEnd}
-use Rattle.vip_report.specs.declared.status.Status.{Status}
-use Rattle.vip_report.specs.declared.status.Status.TheVariants.{BadRomSource, RomDiffers}
+use Rattle.vip_tools.specs.declared.status.Status.{Status}
+use Rattle.vip_tools.specs.declared.status.Status.TheVariants.{BadRomSource, RomDiffers}
 use Rattle.vip_tools.specs.Certificates.{CertifyComes, CyclesComes, SafeComes}
 use Rattle.vip_tools.specs.Certificates.CertifyComes.{Finds, FindsNone}
 use Rattle.vip_tools.specs.Certificates.CyclesComes.{NotAssembled, FaultyCertificate, Leaves}

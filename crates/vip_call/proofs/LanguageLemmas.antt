@@ -8,15 +8,15 @@ use Rattle.chip8_lang.specs.Events.{Event}
 use Rattle.chip8_lang.specs.Events.Event.{Picture, Dispatch, Stopped}
 use Rattle.chip8_lang.specs.State.{memory_size}
 use Rattle.rom_law.specs.Language.{Begins}
-use Rattle.vip_language.specs.Laws.{EveryRun}
-use Rattle.vip_language.specs.Program.{numbered, program}
+use Rattle.rom_board.specs.Laws.{EveryRun}
+use Rattle.rom_board.specs.Program.{numbered, program}
 use Rattle.vip_relation.specs.State.{started}
 use Rattle.vip_show.specs.Endings.{ending_after, ending_of}
-use Rattle.vip_commands.specs.Grammar.{commands_of}
-use Rattle.vip_commands.specs.declared.commands.Command.{Command}
-use Rattle.vip_commands.specs.declared.commands.Speaks.TheVariants.{Chip8}
-use Rattle.vip_commands.specs.declared.commands.CommandFault.{CommandFault}
-use Rattle.vip_commands.specs.declared.commands.CommandFault.TheVariants.{Fault, NoMemory}
+use Rattle.vip_words.specs.DebugGrammar.{commands_of}
+use Rattle.vip_words.specs.declared.debug_commands.Command.{Command}
+use Rattle.vip_words.specs.declared.debug_commands.Speaks.TheVariants.{Chip8}
+use Rattle.vip_words.specs.declared.debug_commands.CommandFault.{CommandFault}
+use Rattle.vip_words.specs.declared.debug_commands.CommandFault.TheVariants.{Fault, NoMemory}
 use Rattle.vip_outside.specs.Files.{FilesMeaning}
 use Rattle.vip_words.specs.Asked.{Asked, trace, play, debug, save, resume, demo, link, trace_program, play_program, debug_program, asm, list, dis, source as interpreter, bounds, within, safe, certify}
 use Rattle.vip_tools.specs.Demo.{demo_game}
@@ -27,7 +27,7 @@ use Rattle.vip_tools.specs.Outcome.Outcome.{Refused, Shown, GivenUp}
 use Rattle.vip_verbs.specs.Outcome.{Comes, RunComes, DebugComes, SaveComes, run_of, events_in, run_ending, debug_ending}
 use Rattle.vip_verbs.specs.Outcome.RunTo.{FaultyScript, FaultyRom, Runs}
 use Rattle.vip_call.specs.Top.{Call, SpeaksChip8}
-use Rattle.vip_report.specs.declared.status.Status.{Status}
+use Rattle.vip_tools.specs.declared.status.Status.{Status}
 use Rattle.vip_call.proofs.DebugLemmas.{debug_ends}
 use Rattle.vip_call.proofs.ResumedLemmas.{FromFile, OfResumed, goes_on, resumed_shows}
 use Rattle.vip_tools.proofs.DemoLemmas.{length-game, bytes-game}

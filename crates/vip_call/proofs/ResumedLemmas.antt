@@ -10,13 +10,13 @@ use Rattle.chip8_lang.specs.Events.Event.{Picture, Dispatch, Stopped}
 use Rattle.chip8_lang.specs.Places.{Interpreter, state_of}
 use Rattle.chip8_lang.specs.View.{opcode_at, view_at}
 use Rattle.rom_law.specs.Language.{GoesOn, events_behind}
-use Rattle.vip_language.specs.Program.{IsRunBehind, numbered, program}
-use Rattle.vip_relation.specs.Interpreters.{interpreter_of}
+use Rattle.rom_board.specs.Program.{IsRunBehind, numbered, program}
+use Rattle.chip8_image.specs.Interpreters.{interpreter_of}
 use Rattle.vip_show.specs.Endings.{ending_after}
-use Rattle.state_check.specs.File.{shown, IsAccepted}
-use Rattle.vip_state.specs.Points.{points_behind, points_of}
-use Rattle.vip_state.proofs.Points.{points_of-events_at}
-use Rattle.vip_state.proofs.Rest.{ending_of_points}
+use Rattle.vip_text.specs.StateFile.{shown, IsAccepted}
+use Rattle.vip_show.specs.Points.{points_behind, points_of}
+use Rattle.vip_show.proofs.Points.{points_of-events_at}
+use Rattle.vip_show.proofs.Rest.{ending_of_points}
 use Rattle.vip_text.specs.Endings.{Ending}
 use Rattle.vip_text.specs.Endings.Ending.{AtStop}
 use Rattle.vip_tools.specs.Outcome.{Outcome}

@@ -5,15 +5,15 @@ use Rattle.machine.specs.Keys.{Event as KeyEvent}
 use Rattle.chip8_lang.specs.declared.view.Edition.{Edition}
 use Rattle.chip8_lang.specs.State.{memory_size}
 use Rattle.vip_outside.specs.Files.{FilesMeaning}
-use Rattle.vip_relation.specs.Interpreters.{interpreter_of}
+use Rattle.chip8_image.specs.Interpreters.{interpreter_of}
 use Rattle.vip_show.specs.Output.{trace_lines, trace_pieces}
-use Rattle.state_check.specs.File.{shown}
-use Rattle.vip_state.specs.Laws.{IsRest as IsRestOfRun, SavedGoesOn}
-use Rattle.vip_state.specs.Output.{saved_file}
-use Rattle.vip_state.specs.Points.{points_behind}
-use Rattle.vip_report.specs.Report.{end_report}
-use Rattle.vip_report.specs.Status.{end_status}
-use Rattle.vip_report.specs.declared.status.Status.{Status}
+use Rattle.vip_text.specs.StateFile.{shown}
+use Rattle.vip_show.specs.Laws.{IsRest as IsRestOfRun, SavedGoesOn}
+use Rattle.vip_show.specs.StateOutput.{saved_file}
+use Rattle.vip_show.specs.Points.{points_behind}
+use Rattle.vip_tools.specs.Report.{end_report}
+use Rattle.vip_tools.specs.Status.{end_status}
+use Rattle.vip_tools.specs.declared.status.Status.{Status}
 use Rattle.vip_words.specs.Asked.{Asked, AskedRun, most_cycles, trace, play, debug, save, resume, demo, link, trace_program, play_program, debug_program, asm, list, dis, source as interpreter, bounds, within, safe, certify}
 use Rattle.vip_tools.specs.Files.{needed, HasAll}
 use Rattle.vip_tools.specs.Outcome.{Outcome, script_in}
@@ -22,7 +22,7 @@ use Rattle.vip_verbs.specs.Outcome.{Comes, RunTo, RomIs, events_in, run_ending, 
 use Rattle.vip_verbs.specs.Outcome.RunTo.{FaultyScript, FaultyRom, Runs}
 use Rattle.vip_call.specs.Saved.{Continues, GoesOnAsRun, IsRest, traced, resumed}
 use Rattle.vip_call.specs.Top.{Call, ContinuesSaved}
-use Rattle.vip_state.proofs.OneAnswer.{one_edition}
+use Rattle.vip_show.proofs.OneAnswer.{one_edition}
 use Rattle.vip_call.proofs.TopLemmas.{rom_is_fine_or_not}
 
 -- ---- the parts of what is shown

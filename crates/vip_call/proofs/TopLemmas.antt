@@ -9,21 +9,21 @@ use Rattle.asm_core.specs.Sources.{NoFault, IsFirstFault, HasFirstFault, source_
 use Rattle.asm_core.specs.declared.fault.AsmCause.{AsmCause}
 use Rattle.vip_link.specs.Checked.{ComparesLink}
 use Rattle.vip_link.specs.Roms.{sender_rom, receiver_rom, sender_text, receiver_text}
-use Rattle.rom_check.specs.Compared.{Compares}
-use Rattle.rom_check.proofs.OneAnswer.{answers_agree}
-use Rattle.rom_check.specs.declared.fault.ImageFault.{ImageFault}
-use Rattle.rom_check.specs.declared.fault.ImageFault.TheVariants as image
-use Rattle.vip_commands.specs.Grammar.{commands_of}
-use Rattle.vip_commands.specs.declared.commands.Command.{Command}
-use Rattle.vip_commands.specs.declared.commands.Speaks.TheVariants.{Chip8, Machine as Processor}
-use Rattle.vip_commands.specs.declared.commands.CommandFault.{CommandFault}
-use Rattle.vip_commands.specs.declared.commands.CommandFault.TheVariants as debug_fault
+use Rattle.chip8_source.specs.Compared.{Compares}
+use Rattle.chip8_source.proofs.OneAnswer.{answers_agree}
+use Rattle.chip8_source.specs.declared.fault.ImageFault.{ImageFault}
+use Rattle.chip8_source.specs.declared.fault.ImageFault.TheVariants as image
+use Rattle.vip_words.specs.DebugGrammar.{commands_of}
+use Rattle.vip_words.specs.declared.debug_commands.Command.{Command}
+use Rattle.vip_words.specs.declared.debug_commands.Speaks.TheVariants.{Chip8, Machine as Processor}
+use Rattle.vip_words.specs.declared.debug_commands.CommandFault.{CommandFault}
+use Rattle.vip_words.specs.declared.debug_commands.CommandFault.TheVariants as debug_fault
 use Rattle.vip_outside.specs.Count.{Rose}
 use Rattle.vip_outside.specs.Files.{FileMap, FilesMeaning}
 use Rattle.vip_outside.specs.Sink.{SinkMeaning}
 use Rattle.vip_outside.specs.declared.sink.Failed.{Failed}
-use Rattle.vip_relation.specs.Interpreters.{interpreter_of}
-use Rattle.vip_state.proofs.OneAnswer.{accepted_or_not, one_edition}
+use Rattle.chip8_image.specs.Interpreters.{interpreter_of}
+use Rattle.vip_show.proofs.OneAnswer.{accepted_or_not, one_edition}
 use Rattle.vip_words.specs.Asked.{Asked, AskedLink, AskedResume, trace, play, debug, save, resume, demo, link, trace_program, play_program, debug_program, asm, list, dis, source as interpreter, bounds, within, safe, certify, asked_by}
 use Rattle.vip_tools.specs.Certificates.{CertifyComes, CyclesComes, SafeComes}
 use Rattle.vip_tools.specs.Certificates.CertifyComes.{Finds, FindsNone}
@@ -32,10 +32,9 @@ use Rattle.vip_tools.specs.Certificates.SafeComes.{FaultyProof, Proves}
 use Rattle.vip_call.specs.Words.{Faults, FinishAnswers, OfWords, OpensWords, PerformsAnswer, Reports, performed_status}
 use Rattle.vip_text.specs.declared.fault.StateFault.{StateFault}
 use Rattle.vip_tools.specs.Files.{Needed, needed, HasAll, HasFault, IsRight, ComesTo, IsFaulty, IsLarger, ReadsSome, with_names}
-use Rattle.vip_tools.specs.Outcome.{Outcome, SourceComes}
+use Rattle.vip_tools.specs.Outcome.{Outcome, SourceComes, rom_text}
 use Rattle.vip_tools.specs.Outcome.Outcome.{Refused, Shown, GivenUp}
 use Rattle.vip_tools.specs.Outcome.SourceComes.{FaultySource, Assembles}
-use Rattle.vip_tools.specs.Outcome.{rom_text}
 use Rattle.vip_verbs.specs.Outcome.{Comes, RunTo, DebugComes, ResumeComes, LinkComes, RomIs, IsFault, resumed}
 use Rattle.vip_verbs.specs.Outcome.RunTo.{FaultyScript, FaultyRom, Runs}
 use Rattle.vip_verbs.specs.Outcome.LinkComes.{FaultyRoms, Links}
@@ -47,19 +46,19 @@ use Rattle.vip_words.specs.declared.request.Memory.{Memory}
 use Rattle.vip_verbs.specs.Prepared.{OfFiles, output_of}
 use Rattle.vip_verbs.specs.declared.prepared.Prepared.{Prepared}
 use Rattle.vip_text.specs.declared.ending.RunEnd.TheVariants as end
-use Rattle.vip_report.specs.Refusal.{image_status, status_of, too_large_status}
-use Rattle.vip_report.specs.Reported.{IsPut, RefusalAnswers}
-use Rattle.vip_report.specs.Status.{ended_status}
-use Rattle.vip_report.specs.declared.ended.Ended.{Ended}
-use Rattle.vip_report.specs.declared.ended.Ended.TheVariants.{Worked, Ran, NoDispatch as Undispatched, Idle, Linked}
-use Rattle.vip_report.specs.Report.{cannot_read, no_certificate, report_of, too_large_report}
+use Rattle.vip_tools.specs.Refusal.{image_status, status_of, too_large_status}
+use Rattle.vip_tools.specs.Reported.{IsPut, RefusalAnswers}
+use Rattle.vip_tools.specs.Status.{ended_status}
+use Rattle.vip_tools.specs.declared.ended.Ended.{Ended}
+use Rattle.vip_tools.specs.declared.ended.Ended.TheVariants.{Worked, Ran, NoDispatch as Undispatched, Idle, Linked}
+use Rattle.vip_tools.specs.Report.{cannot_read, no_certificate, report_of, too_large_report}
 use Rattle.vip_call.specs.Top.{Call, call_of, Asks, Oversize, Rejects, GivesUp, Shows, Faulty, Says, IsQuiet, Reading, Lacks, Larger, Whole, with_content, Due, Lacking, TooLarge, Refusing, Showing, RefusesWords, Offers, IsSearch, IsFree, GivesDue, IsOfRom, AreRefused, Completes, FaultyState, Faulted, ReadsContent, ReadsOne, Reads, Faulting}
-use Rattle.vip_report.specs.declared.refusal.Kind.{Kind}
-use Rattle.vip_report.specs.declared.refusal.Kind.TheVariants as kind
-use Rattle.vip_report.specs.declared.refusal.Refusal.{Refusal}
-use Rattle.vip_report.specs.declared.refusal.Refusal.TheVariants as refusal
-use Rattle.vip_report.specs.declared.status.Status.{Status}
-use Rattle.vip_report.specs.declared.status.Status.TheVariants.{Done, Stopped, Usage, ReadFault, GameTooLarge, ScriptTooLarge, BadScript, BadSource, BadRomSource, RomDiffers, WriteFault, NoMemory, BadCommand, SourceTooLarge, CommandsTooLarge, BadState, NoDispatch, BadCertificate, MessageTooLarge, BadProof, CertificateTooLarge, NoCertificate, RomTooLarge, RamTooLarge}
+use Rattle.vip_tools.specs.declared.refusal.Kind.{Kind}
+use Rattle.vip_tools.specs.declared.refusal.Kind.TheVariants as kind
+use Rattle.vip_tools.specs.declared.refusal.Refusal.{Refusal}
+use Rattle.vip_tools.specs.declared.refusal.Refusal.TheVariants as refusal
+use Rattle.vip_tools.specs.declared.status.Status.{Status}
+use Rattle.vip_tools.specs.declared.status.Status.TheVariants.{Done, Stopped, Usage, ReadFault, GameTooLarge, ScriptTooLarge, BadScript, BadSource, BadRomSource, RomDiffers, WriteFault, NoMemory, BadCommand, SourceTooLarge, CommandsTooLarge, BadState, NoDispatch, BadCertificate, MessageTooLarge, BadProof, CertificateTooLarge, NoCertificate, RomTooLarge, RamTooLarge}
 
 -- ---- one outcome
 

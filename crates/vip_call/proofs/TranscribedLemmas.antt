@@ -11,22 +11,22 @@ use Rattle.chip8_lang.specs.Events.Event.{Picture, Dispatch, Stopped}
 use Rattle.chip8_lang.specs.Places.{state_of}
 use Rattle.chip8_lang.specs.State.{memory_size}
 use Rattle.rom_law.specs.Language.{end_cycle, events_behind}
-use Rattle.vip_language.specs.Laws.{EveryRun}
-use Rattle.vip_relation.specs.Interpreters.{interpreter_of}
+use Rattle.rom_board.specs.Laws.{EveryRun}
+use Rattle.chip8_image.specs.Interpreters.{interpreter_of}
 use Rattle.vip_relation.specs.State.{started}
 use Rattle.vip_text.specs.Endings.{Ending}
 use Rattle.vip_show.specs.Output.{picture_pieces, summary, trace_lines, trace_piece}
-use Rattle.state_check.specs.File.{bank_in, shown, IsAccepted}
-use Rattle.vip_state.specs.Points.{points_of as points_among}
+use Rattle.vip_text.specs.StateFile.{bank_in, shown, IsAccepted}
+use Rattle.vip_show.specs.Points.{points_of as points_among}
 use Rattle.vip_outside.specs.Files.{FilesMeaning}
 use Rattle.vip_words.specs.Asked.{Asked, AskedResume, trace, play, debug, demo, save, resume, link, trace_program, play_program, debug_program, asm, list, dis, source, bounds, within, safe, certify}
-use Rattle.vip_commands.specs.Grammar.{commands_of}
-use Rattle.vip_commands.specs.declared.commands.Command.{Command}
-use Rattle.vip_commands.specs.declared.commands.CommandFault.{CommandFault}
-use Rattle.vip_commands.specs.declared.commands.CommandFault.TheVariants as command
-use Rattle.vip_commands.specs.declared.commands.Speaks.TheVariants.{Chip8}
-use Rattle.vip_report.specs.declared.status.Status.{Status}
-use Rattle.vip_report.specs.declared.status.Status.TheVariants.{Done, Stopped, Usage, ReadFault, GameTooLarge, ScriptTooLarge, BadScript, BadSource, BadRomSource, RomDiffers, WriteFault, NoMemory, BadCommand, SourceTooLarge, CommandsTooLarge, BadState, NoDispatch, BadCertificate, MessageTooLarge, BadProof, CertificateTooLarge, NoCertificate, RomTooLarge, RamTooLarge}
+use Rattle.vip_words.specs.DebugGrammar.{commands_of}
+use Rattle.vip_words.specs.declared.debug_commands.Command.{Command}
+use Rattle.vip_words.specs.declared.debug_commands.CommandFault.{CommandFault}
+use Rattle.vip_words.specs.declared.debug_commands.CommandFault.TheVariants as command
+use Rattle.vip_words.specs.declared.debug_commands.Speaks.TheVariants.{Chip8}
+use Rattle.vip_tools.specs.declared.status.Status.{Status}
+use Rattle.vip_tools.specs.declared.status.Status.TheVariants.{Done, Stopped, Usage, ReadFault, GameTooLarge, ScriptTooLarge, BadScript, BadSource, BadRomSource, RomDiffers, WriteFault, NoMemory, BadCommand, SourceTooLarge, CommandsTooLarge, BadState, NoDispatch, BadCertificate, MessageTooLarge, BadProof, CertificateTooLarge, NoCertificate, RomTooLarge, RamTooLarge}
 use Rattle.vip_tools.specs.Demo.{demo_game}
 use Rattle.vip_tools.specs.Files.{needed, HasAll}
 use Rattle.vip_tools.specs.Outcome.{Outcome}

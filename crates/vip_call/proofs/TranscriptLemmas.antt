@@ -16,7 +16,7 @@ use Rattle.chip8_lang.specs.Events.Event.{Picture, Dispatch, Stopped}
 use Rattle.chip8_lang.specs.Places.{state_of}
 use Rattle.chip8_lang.specs.View.{view_at}
 use Rattle.rom_law.specs.Language.{Begins as BeginsRun, GoesOn as GoesOnRun, end_cycle}
-use Rattle.vip_language.specs.Program.{program}
+use Rattle.rom_board.specs.Program.{program}
 use Rattle.vip_relation.specs.Follows.{dispatch_of, last_dispatch}
 use Rattle.vip_text.specs.Endings.{Ending}
 use Rattle.vip_text.specs.Screens.{picture_file}

@@ -8,7 +8,7 @@ use Rattle.cycle_check.specs.Leaving.{IsWithin}
 use Rattle.cycle_check.specs.declared.Within.{Within}
 use Rattle.game_check.specs.Proof.{IsAccepted}
 use Rattle.game_check.specs.States.{NeverStops}
-use Rattle.vip_relation.specs.Interpreters.{interpreter_of}
+use Rattle.chip8_image.specs.Interpreters.{interpreter_of}
 use Rattle.vip_words.specs.Asked.{Asked, within, safe, certify}
 use Rattle.vip_tools.specs.Certificates.{rom_in, within_line}
 

@@ -6,20 +6,20 @@ use Rattle.chip8_lang.specs.declared.view.Edition.TheVariants.{Usual}
 use Rattle.chip8_lang.specs.Places.{state_of}
 use Rattle.chip8_lang.specs.View.{opcode_at}
 use Rattle.rom_law.specs.Language.{Also, events_behind}
-use Rattle.vip_language.specs.Program.{IsRun, IsRunBehind}
-use Rattle.vip_relation.specs.Interpreters.{interpreter_of}
-use Rattle.state_check.specs.File.{shown, IsAccepted}
-use Rattle.vip_state.specs.Output.{saved_ending}
-use Rattle.vip_state.specs.Points.{points_of}
+use Rattle.rom_board.specs.Program.{IsRun, IsRunBehind}
+use Rattle.chip8_image.specs.Interpreters.{interpreter_of}
+use Rattle.vip_text.specs.StateFile.{shown, IsAccepted}
+use Rattle.vip_show.specs.StateOutput.{saved_ending}
+use Rattle.vip_show.specs.Points.{points_of}
 use Rattle.vip_text.specs.Endings.{Ending}
 use Rattle.vip_text.specs.Endings.Ending.{AtLimit, AtStop}
 use Rattle.vip_words.specs.Asked.{Asked, trace, play, debug, demo, resume, save}
 use Rattle.vip_tools.specs.Demo.{demo_game}
-use Rattle.vip_report.specs.Status.{end_status}
+use Rattle.vip_tools.specs.Status.{end_status}
 use Rattle.vip_tools.specs.Outcome.{script_in}
 use Rattle.vip_verbs.specs.Outcome.{events_in, points_in, run_ending, saved_report, saved_status}
-use Rattle.vip_report.specs.Report.{end_report}
-use Rattle.vip_report.specs.declared.status.Status.{Status}
+use Rattle.vip_tools.specs.Report.{end_report}
+use Rattle.vip_tools.specs.declared.status.Status.{Status}
 
 -- ---- a run
 

@@ -3,7 +3,7 @@ use Rattle.std.specs.Prelude.{◌≡◌, ℕ, ◌+◌, ◌*◌, ◌≤◌, List,
 use Rattle.vip_link.specs.Laws.{Delivers}
 use Rattle.vip_link.specs.Pair.{Pair}
 use Rattle.vip_words.specs.Asked.{AskedLink}
-use Rattle.vip_report.specs.Report.{linked_report}
+use Rattle.vip_tools.specs.Report.{linked_report}
 use Rattle.vip_verbs.specs.Outcome.{linked_after}
 
 -- Of both boards after the moves that were asked for: what A sent is a prefix of the message, and what B received a prefix of that, which lies in

@@ -1,7 +1,7 @@
 -- What was saved of a run goes on as that run.
 use Rattle.std.specs.Prelude.{◌≡◌, ◌≤◌, ℕ, Bool, false, List, [], ◌∷◌, ◌++◌}
-use Rattle.state_check.specs.File.{IsAccepted}
-use Rattle.vip_report.specs.declared.status.Status.{Status}
+use Rattle.vip_text.specs.StateFile.{IsAccepted}
+use Rattle.vip_tools.specs.declared.status.Status.{Status}
 use Rattle.vip_tools.specs.Outcome.{Outcome}
 use Rattle.vip_tools.specs.Outcome.Outcome.{Shown}
 use Rattle.vip_words.specs.Asked.{Asked, AskedRun, most_cycles, resume, save, trace}

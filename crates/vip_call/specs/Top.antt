@@ -5,9 +5,9 @@ use Rattle.vip_outside.specs.Files.{FileMap, FilesMeaning}
 use Rattle.vip_outside.specs.Sink.{SinkMeaning}
 use Rattle.vip_outside.specs.Pieces.{PutsAll, FailsWithin}
 use Rattle.vip_words.specs.Asked.{Asked, AskedLink, asked_by, certify, link}
-use Rattle.vip_report.specs.declared.refusal.Kind.{Kind}
-use Rattle.vip_report.specs.declared.status.Status.{Status}
-use Rattle.vip_report.specs.declared.status.Status.TheVariants.{Done, Stopped, Usage, ReadFault, GameTooLarge, ScriptTooLarge, BadScript, BadSource, BadRomSource, RomDiffers, WriteFault, NoMemory, BadCommand, SourceTooLarge, CommandsTooLarge, BadState, NoDispatch, BadCertificate, MessageTooLarge, BadProof, CertificateTooLarge, NoCertificate, RomTooLarge, RamTooLarge}
+use Rattle.vip_tools.specs.declared.refusal.Kind.{Kind}
+use Rattle.vip_tools.specs.declared.status.Status.{Status}
+use Rattle.vip_tools.specs.declared.status.Status.TheVariants.{Done, Stopped, Usage, ReadFault, GameTooLarge, ScriptTooLarge, BadScript, BadSource, BadRomSource, RomDiffers, WriteFault, NoMemory, BadCommand, SourceTooLarge, CommandsTooLarge, BadState, NoDispatch, BadCertificate, MessageTooLarge, BadProof, CertificateTooLarge, NoCertificate, RomTooLarge, RamTooLarge}
 use Rattle.vip_text.specs.declared.fault.StateFault.{StateFault}
 use Rattle.vip_tools.specs.Files.{Needed, needed, HasAll, HasFault, IsRight, ComesTo, IsFaulty, IsLarger, IsUnread, OnlyReads, ReadsSome, with_names}
 use Rattle.vip_call.specs.Certified.{Certifies}
@@ -18,9 +18,9 @@ use Rattle.vip_call.specs.Transcript.{Transcribes}
 use Rattle.vip_call.specs.Words.{OfWords}
 use Rattle.vip_verbs.specs.Outcome.{Comes}
 use Rattle.vip_tools.specs.Outcome.Outcome.{Refused, Shown, GivenUp}
-use Rattle.vip_report.specs.Refusal.{too_large_status}
-use Rattle.vip_report.specs.Report.{usage, bad_state, cannot_read, too_large_report, write_fault, no_memory, report_pieces}
-use Rattle.vip_report.specs.Reported.{IsPut}
+use Rattle.vip_tools.specs.Refusal.{too_large_status}
+use Rattle.vip_tools.specs.Report.{usage, bad_state, cannot_read, too_large_report, write_fault, no_memory, report_pieces}
+use Rattle.vip_tools.specs.Reported.{IsPut}
 
 -- one call: its words, and what the outside meant before it and after it
 pub record Call : Type 0 where

@@ -24,18 +24,18 @@ use Rattle.vip_text.specs.Stops.{stop_line}
 use Rattle.vip_text.specs.Summaries.{summary_line}
 use Rattle.vip_text.specs.Traces.{trace_line}
 use Rattle.vip_show.specs.Output.{lit_in_rows}
-use Rattle.state_check.specs.File.{bytes_at, edition_byte}
+use Rattle.vip_text.specs.StateFile.{bytes_at, edition_byte}
 use Rattle.vip_words.specs.Asked.{Asked, trace, play, debug, demo, resume}
-use Rattle.vip_commands.specs.Grammar.{commands_of}
-use Rattle.vip_commands.specs.declared.commands.Command.{Command}
-use Rattle.vip_commands.specs.declared.commands.Command.TheVariants.{Seeks, Tells}
-use Rattle.vip_commands.specs.declared.commands.CommandFault.{CommandFault}
-use Rattle.vip_commands.specs.declared.commands.Seeking.TheVariants.{Next, Break}
-use Rattle.vip_commands.specs.declared.commands.Speaks.TheVariants.{Chip8}
-use Rattle.vip_commands.specs.declared.commands.Telling.TheVariants.{Screen, State}
-use Rattle.vip_report.specs.Report.{end_report}
-use Rattle.vip_report.specs.Status.{end_status}
-use Rattle.vip_report.specs.declared.status.Status.{Status}
+use Rattle.vip_words.specs.DebugGrammar.{commands_of}
+use Rattle.vip_words.specs.declared.debug_commands.Command.{Command}
+use Rattle.vip_words.specs.declared.debug_commands.Command.TheVariants.{Seeks, Tells}
+use Rattle.vip_words.specs.declared.debug_commands.CommandFault.{CommandFault}
+use Rattle.vip_words.specs.declared.debug_commands.Seeking.TheVariants.{Next, Break}
+use Rattle.vip_words.specs.declared.debug_commands.Speaks.TheVariants.{Chip8}
+use Rattle.vip_words.specs.declared.debug_commands.Telling.TheVariants.{Screen, State}
+use Rattle.vip_tools.specs.Report.{end_report}
+use Rattle.vip_tools.specs.Status.{end_status}
+use Rattle.vip_tools.specs.declared.status.Status.{Status}
 use Rattle.vip_tools.specs.Demo.{demo_game}
 use Rattle.vip_tools.specs.Outcome.{script_in}
 

@@ -7,14 +7,14 @@ use Rattle.vip_outside.specs.declared.sink.Failed.{Failed}
 use Rattle.vip_words.specs.Asked.{Asked, asked_by}
 use Rattle.vip_words.specs.Request.{asked_of}
 use Rattle.vip_words.specs.declared.request.Request.{Request}
-use Rattle.vip_report.specs.declared.ended.Ended.{Ended}
-use Rattle.vip_report.specs.declared.refusal.Refusal.{Refusal}
-use Rattle.vip_report.specs.declared.refusal.Refusal.TheVariants.{Usage, NoMemory}
-use Rattle.vip_report.specs.Report.{report_pieces, write_fault}
-use Rattle.vip_report.specs.Reported.{IsPut, RefusalAnswers}
-use Rattle.vip_report.specs.Status.{ended_status}
-use Rattle.vip_report.specs.declared.status.Status.{Status}
-use Rattle.vip_report.specs.declared.status.Status.TheVariants.{WriteFault}
+use Rattle.vip_tools.specs.declared.ended.Ended.{Ended}
+use Rattle.vip_tools.specs.declared.refusal.Refusal.{Refusal}
+use Rattle.vip_tools.specs.declared.refusal.Refusal.TheVariants.{Usage, NoMemory}
+use Rattle.vip_tools.specs.Report.{report_pieces, write_fault}
+use Rattle.vip_tools.specs.Reported.{IsPut, RefusalAnswers}
+use Rattle.vip_tools.specs.Status.{ended_status}
+use Rattle.vip_tools.specs.declared.status.Status.{Status}
+use Rattle.vip_tools.specs.declared.status.Status.TheVariants.{WriteFault}
 use Rattle.vip_tools.specs.Files.{needed, ReadsSome}
 use Rattle.vip_verbs.specs.Prepared.{OpenAnswers, Output, output_of}
 use Rattle.vip_verbs.specs.declared.prepared.Prepared.{Prepared}

@@ -7,15 +7,15 @@ ghost use Rattle.vip_verbs.specs.Prepared.{IsReady, output_of};
 ghost use Rattle.vip_call.specs.Words.{FinishAnswers, OpensWords, PerformsAnswer, UnderstoodAnswers, performed_status};
 ghost use Rattle.vip_call.specs.Top.{call_of, Says, Promises};
 
+use chip8_source::laws::source_gives_rom;
 use cycle_check::laws::accepted_leaves;
 use game_check::laws::certified_games;
-use rom_check::laws::source_gives_rom;
+use rom_board::language::{every_run, every_start};
 use std::alloc::Global;
-use vip_language::laws::{every_run, every_start};
 use vip_link::laws::{every_schedule, sources_give_roms};
 use vip_outside::{Failed, Files, Sink};
-use vip_report::{Ended, Refusal, Status, put_end, put_refusal, put_write_fault};
-use vip_state::laws::{file_may_start, saved_goes_on};
+use vip_show::laws::{file_may_start, saved_goes_on};
+use vip_tools::{Ended, Refusal, Status, put_end, put_refusal, put_write_fault};
 use vip_verbs::Prepared;
 use vip_words::{Request, WordsFail, read_words};
 

@@ -4,11 +4,11 @@ use Rattle.std.specs.Prelude.{Vec, String, string_bytes}
 use Rattle.std.specs.declared.alloc.Global.{Global}
 use Rattle.vip_outside.specs.Files.{FilesMeaning}
 use Rattle.vip_outside.specs.Sink.{SinkMeaning}
-use Rattle.vip_report.specs.declared.refusal.Refusal.{Refusal}
-use Rattle.vip_report.specs.declared.refusal.Refusal.TheVariants as refusal
-use Rattle.vip_report.specs.declared.status.Status.{Status}
-use Rattle.vip_report.specs.Reported.{RefusalAnswers}
-use Rattle.vip_report.specs.Status.{status_number}
+use Rattle.vip_tools.specs.declared.refusal.Refusal.{Refusal}
+use Rattle.vip_tools.specs.declared.refusal.Refusal.TheVariants as refusal
+use Rattle.vip_tools.specs.declared.status.Status.{Status}
+use Rattle.vip_tools.specs.Reported.{RefusalAnswers}
+use Rattle.vip_tools.specs.Status.{status_number}
 use Rattle.vip_call.specs.Top.{Promises, call_of}
 use Rattle.vip_cli.specs.Process.{CommandLine, ProcessAnswers, Runs, WordsAnswer}
 

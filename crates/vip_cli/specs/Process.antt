@@ -6,13 +6,13 @@ use Rattle.std.specs.declared.io.Error.{Error}
 use Rattle.std.specs.declared.alloc.Global.{Global}
 use Rattle.vip_outside.specs.Files.{FilesMeaning}
 use Rattle.vip_outside.specs.Sink.{SinkMeaning}
-use Rattle.vip_report.specs.declared.refusal.Refusal.{Refusal}
-use Rattle.vip_report.specs.declared.refusal.Refusal.TheVariants as refusal
-use Rattle.vip_report.specs.declared.status.Status.{Status}
-use Rattle.vip_report.specs.declared.status.Status.TheVariants.{Usage, NoMemory}
-use Rattle.vip_report.specs.Report.{no_memory, usage}
-use Rattle.vip_report.specs.Reported.{IsPut}
-use Rattle.vip_report.specs.Status.{status_number}
+use Rattle.vip_tools.specs.declared.refusal.Refusal.{Refusal}
+use Rattle.vip_tools.specs.declared.refusal.Refusal.TheVariants as refusal
+use Rattle.vip_tools.specs.declared.status.Status.{Status}
+use Rattle.vip_tools.specs.declared.status.Status.TheVariants.{Usage, NoMemory}
+use Rattle.vip_tools.specs.Report.{no_memory, usage}
+use Rattle.vip_tools.specs.Reported.{IsPut}
+use Rattle.vip_tools.specs.Status.{status_number}
 use Rattle.vip_call.specs.Top.{Promises, call_of}
 
 -- the command line: the program's name, and the words behind it; or an error, as where one isn't UTF-8

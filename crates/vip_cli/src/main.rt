@@ -1,6 +1,6 @@
 //! The program `vip`: it makes the one call of `vip_call` on the words of its command line, the files of the file system, and its standard
 //! output and standard error, and ends with the status that the call answers. It stands on that call, on the outside of `vip_outside` and on the
-//! reports of `vip_report`. `process` is generic over the files and the two streams, and proved as such: the words are all those behind the
+//! statuses of `vip_tools`. `process` is generic over the files and the two streams, and proved as such: the words are all those behind the
 //! program's name, what goes to the streams is what the call put, and the process ends with the number of its status. `main` hands it the real ones,
 //! of which no contract can speak.
 #![tactic(auto)]
@@ -16,7 +16,7 @@ use std::io::{self, ErrorKind, Write};
 use std::process::ExitCode;
 use vip_call::vip_main;
 use vip_outside::{Files, RealFiles, StdSink};
-use vip_report::{Refusal, put_refusal};
+use vip_tools::{Refusal, put_refusal};
 
 /// The words behind the program's name, all of them.
 fn words_after_name(alloc: Global, args: env::Args) -> Result<Vec<String>, AllocError>

@@ -12,7 +12,7 @@ use Rattle.vip_relation.specs.Follows.{Follows, last_view, last_screen}
 use Rattle.vip_relation.specs.Meets.{IsSame}
 use Rattle.vip_relation.specs.Stops.{stop_record}
 use Rattle.vip_relation.proofs.Waits.{last-at-stop}
-use Rattle.vip_commands.specs.declared.commands.Telling.TheVariants.{State, Screen}
+use Rattle.vip_words.specs.declared.debug_commands.Telling.TheVariants.{State, Screen}
 use Rattle.vip_debug.specs.Shown.{state_line, screen_text}
 use Rattle.vip_debug.specs.Answers.{begun, Place, place_of, Arrival, stop_by, stop_text, lines_at, told, StandsAt}
 use Rattle.vip_debug.proofs.Places.{begun-same, state-same}

@@ -8,8 +8,8 @@ use Rattle.vip_outside.proofs.PiecesLemmas.{PutsAll-append, FailsWithin-append, 
 use Rattle.vip_relation.specs.State.{VipState, interpreter}
 use Rattle.vip_relation.specs.Follows.{Follows}
 use Rattle.vip_relation.specs.Meets.{IsSame}
-use Rattle.vip_commands.specs.declared.commands.Command.{Command}
-use Rattle.vip_monitor.proofs.Folding.{after-more, pieces-more, pieces-last}
+use Rattle.vip_words.specs.declared.debug_commands.Command.{Command}
+use Rattle.vip_debug.proofs.TargetFolding.{after-more, pieces-more, pieces-last}
 use Rattle.vip_debug.specs.declared.run.DebugEnd.TheVariants.{Done, Stopped, WriteFault}
 use Rattle.vip_debug.specs.Answers.{begun, Place, place_of, pieces, stop_by, place_with, place_after, written, RunsWhole, DebugAnswers}
 use Rattle.vip_debug.specs.Parts.{Makes}

@@ -5,3 +5,8 @@ pub mod Answering
 pub mod Folding
 pub mod Reaching
 pub mod Sleeping
+pub mod TargetRuns
+pub mod TargetMoving
+pub mod Lines
+pub mod Disassembling
+pub mod TargetFolding

@@ -8,17 +8,17 @@ use Rattle.vip_board.specs.Seen.{Seen}
 use Rattle.vip_board.specs.Moves.{IfDone, moved}
 use Rattle.vip_board.specs.declared.board.Moved.{Moved}
 use Rattle.vip_board.specs.declared.board.Moved.TheVariants.{Done, End}
-use Rattle.vip_relation.specs.Interpreters.{interpreter_of}
+use Rattle.chip8_image.specs.Interpreters.{interpreter_of}
 use Rattle.vip_relation.specs.State.{VipState, interpreter, state_after, events_waiting}
 use Rattle.vip_relation.specs.Follows.{Follows}
 use Rattle.vip_relation.specs.Meets.{IsSame, MovesOn}
-use Rattle.vip_commands.specs.declared.commands.Running.{Running}
-use Rattle.vip_commands.specs.declared.commands.Seeking.TheVariants.{Next, Break}
-use Rattle.vip_commands.specs.declared.commands.Showing.{Showing}
-use Rattle.vip_monitor.specs.Answered.{shown}
-use Rattle.vip_monitor.specs.Run.{run_from}
-use Rattle.vip_monitor.specs.Commands.{came}
-use Rattle.vip_monitor.specs.Parts.{HasMoved, Arrives as Arrived}
+use Rattle.vip_words.specs.declared.debug_commands.Running.{Running}
+use Rattle.vip_words.specs.declared.debug_commands.Seeking.TheVariants.{Next, Break}
+use Rattle.vip_words.specs.declared.debug_commands.Showing.{Showing}
+use Rattle.vip_debug.specs.Answered.{shown}
+use Rattle.vip_debug.specs.TargetRun.{run_from}
+use Rattle.vip_debug.specs.Commands.{came}
+use Rattle.vip_debug.specs.BoardParts.{HasMoved, Arrives as Arrived}
 use Rattle.vip_debug.specs.declared.game.Game.{Game}
 use Rattle.vip_debug.specs.Game.{run_at, Leads}
 use Rattle.vip_debug.specs.GameLaws.{GameLeads}

@@ -8,8 +8,8 @@ use Rattle.vip_relation.specs.State.{VipState, interpreter, events_to, events_le
 use Rattle.vip_relation.specs.Follows.{Follows}
 use Rattle.vip_relation.specs.Meets.{IsSame, HasStopped, Rests}
 use Rattle.vip_relation.proofs.Steps.{Others, others-to}
-use Rattle.vip_monitor.proofs.Runs.{Progress, Stands}
-use Rattle.vip_monitor.proofs.Runs as runs
+use Rattle.vip_debug.proofs.TargetRuns.{Progress, Stands}
+use Rattle.vip_debug.proofs.TargetRuns as runs
 use Rattle.vip_debug.specs.Game.{run_at}
 use Rattle.vip_debug.specs.Answers.{begun, moves_until, place_of, all_met}
 

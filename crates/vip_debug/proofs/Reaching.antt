@@ -8,22 +8,22 @@ use Rattle.machine.specs.Keys.{Event as KeyEvent, held_at}
 use Rattle.chip8_lang.specs.declared.view.Edition.{Edition}
 use Rattle.chip8_lang.specs.Events.{Event, is_stop}
 use Rattle.chip8_lang.specs.Places.{Interpreter}
-use Rattle.vip_relation.specs.Interpreters.{interpreter_of}
+use Rattle.chip8_image.specs.Interpreters.{interpreter_of}
 use Rattle.vip_relation.specs.State.{VipState, events_to, started}
 use Rattle.vip_board.proofs.Along.{in-turn}
 use Rattle.vip_relation.proofs.Past.{state, past, events-last, events-stop}
 use Rattle.vip_relation.proofs.Waits.{Earlier, earlier-at, earlier-drop, earlier-next}
-use Rattle.vip_commands.specs.declared.commands.Command.{Command}
-use Rattle.vip_commands.specs.declared.commands.Command.TheVariants as command
-use Rattle.vip_commands.specs.declared.commands.Running.{Running}
-use Rattle.vip_commands.specs.declared.commands.Running.TheVariants.{Step, To, At, Watch}
-use Rattle.vip_commands.specs.declared.commands.Seeking.{Seeking}
-use Rattle.vip_commands.specs.declared.commands.Seeking.TheVariants.{Next, Break}
-use Rattle.vip_monitor.specs.Run.{Run}
-use Rattle.vip_monitor.specs.Run as run
-use Rattle.vip_monitor.specs.Commands.{came, found_or_last}
-use Rattle.vip_monitor.proofs.Runs.{Reached, reached, reached-next, some-here, all-moves, until, until-from, until-past}
-use Rattle.vip_monitor.proofs.Moving.{find-within}
+use Rattle.vip_words.specs.declared.debug_commands.Command.{Command}
+use Rattle.vip_words.specs.declared.debug_commands.Command.TheVariants as command
+use Rattle.vip_words.specs.declared.debug_commands.Running.{Running}
+use Rattle.vip_words.specs.declared.debug_commands.Running.TheVariants.{Step, To, At, Watch}
+use Rattle.vip_words.specs.declared.debug_commands.Seeking.{Seeking}
+use Rattle.vip_words.specs.declared.debug_commands.Seeking.TheVariants.{Next, Break}
+use Rattle.vip_debug.specs.TargetRun.{Run}
+use Rattle.vip_debug.specs.TargetRun as run
+use Rattle.vip_debug.specs.Commands.{came, found_or_last}
+use Rattle.vip_debug.proofs.TargetRuns.{Reached, reached, reached-next, some-here, all-moves, until, until-from, until-past}
+use Rattle.vip_debug.proofs.TargetMoving.{find-within}
 use Rattle.vip_debug.specs.Game.{run_at}
 use Rattle.vip_debug.specs.Answers.{Place, moves_until, all_met, moved_on, at_point, points_ahead, has_pc, sought, place_with, place_after, at_start}
 

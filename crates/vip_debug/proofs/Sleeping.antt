@@ -10,9 +10,9 @@ use Rattle.vip_board.specs.Seen.{Seen, held_by}
 use Rattle.vip_board.specs.declared.board.Moved.{Moved}
 use Rattle.vip_board.specs.declared.board.Moved.TheVariants.{Done, End}
 use Rattle.vip_byte.specs.Text.{newline}
-use Rattle.vip_commands.specs.declared.commands.Command.{Command}
-use Rattle.vip_commands.specs.declared.commands.Running.{Running}
-use Rattle.vip_commands.specs.declared.commands.Running.TheVariants.{Step}
+use Rattle.vip_words.specs.declared.debug_commands.Command.{Command}
+use Rattle.vip_words.specs.declared.debug_commands.Running.{Running}
+use Rattle.vip_words.specs.declared.debug_commands.Running.TheVariants.{Step}
 use Rattle.vip_cpu.specs.declared.cpu.Phase.TheVariants.{Boundary}
 use Rattle.vip_outside.specs.Sink.{SinkMeaning}
 use Rattle.vip_outside.specs.Pieces.{PutsAll, FailsWithin, StreamAnswers}
@@ -22,12 +22,12 @@ use Rattle.vip_program.specs.Trace.{sleeps, up_to_sleep, idle_address, end_at, l
 use Rattle.vip_program.specs.declared.trace.ProgramEnd.{ProgramEnd}
 use Rattle.vip_program.specs.declared.trace.ProgramEnd.TheVariants as end
 use Rattle.vip_program.proofs.Runs.{rom-by, script-by, phase-by, machine-by}
-use Rattle.vip_monitor.specs.Run.{run_from, state_of, up_to_end, moves_until, Rests}
-use Rattle.vip_monitor.specs.Commands.{Came}
-use Rattle.vip_monitor.specs.Parts.{Arrives, HasMoved}
-use Rattle.vip_monitor.specs.Fold.{all_pieces}
-use Rattle.vip_monitor.proofs.Folding.{after-more, pieces-more, pieces-last}
-use Rattle.vip_monitor.proofs.Runs.{reached, some-here, until}
+use Rattle.vip_debug.specs.TargetRun.{run_from, state_of, up_to_end, moves_until, Rests}
+use Rattle.vip_debug.specs.Commands.{Came}
+use Rattle.vip_debug.specs.BoardParts.{Arrives, HasMoved}
+use Rattle.vip_debug.specs.Fold.{all_pieces}
+use Rattle.vip_debug.proofs.TargetFolding.{after-more, pieces-more, pieces-last}
+use Rattle.vip_debug.proofs.TargetRuns.{reached, some-here, until}
 use Rattle.vip_debug.specs.declared.program.Program.{Program}
 use Rattle.vip_debug.specs.ProgramLaws.{ProgramLeads}
 use Rattle.vip_debug.specs.Programs.{idle_line, ended_lines, comes, comes_to, ran_lines, gone_lines, program_pieces, machine_after, machine_with, program_written, StandsAs, ProgramAnswers, OneAnswers}

@@ -16,17 +16,17 @@ use Rattle.vip_relation.specs.Meets.{IsSame}
 use Rattle.vip_relation.specs.Stops.{stop_record}
 use Rattle.vip_debug.specs.Shown.{state_line, screen_text}
 use Rattle.vip_debug.specs.Game.{run_at}
-use Rattle.vip_monitor.specs.Run as run
-use Rattle.vip_monitor.specs.Fold.{after_all, all_pieces}
-use Rattle.vip_monitor.specs.Commands.{came}
-use Rattle.vip_monitor.specs.Answered.{completed_lines, shown}
-use Rattle.vip_commands.specs.declared.commands.Command.{Command}
-use Rattle.vip_commands.specs.declared.commands.Command.TheVariants.{Runs, Shows, Seeks, Tells}
-use Rattle.vip_commands.specs.declared.commands.Running.{Running}
-use Rattle.vip_commands.specs.declared.commands.Seeking.{Seeking}
-use Rattle.vip_commands.specs.declared.commands.Seeking.TheVariants.{Next, Break}
-use Rattle.vip_commands.specs.declared.commands.Telling.{Telling}
-use Rattle.vip_commands.specs.declared.commands.Telling.TheVariants.{State, Screen}
+use Rattle.vip_debug.specs.TargetRun as run
+use Rattle.vip_debug.specs.Fold.{after_all, all_pieces}
+use Rattle.vip_debug.specs.Commands.{came}
+use Rattle.vip_debug.specs.Answered.{completed_lines, shown}
+use Rattle.vip_words.specs.declared.debug_commands.Command.{Command}
+use Rattle.vip_words.specs.declared.debug_commands.Command.TheVariants.{Runs, Shows, Seeks, Tells}
+use Rattle.vip_words.specs.declared.debug_commands.Running.{Running}
+use Rattle.vip_words.specs.declared.debug_commands.Seeking.{Seeking}
+use Rattle.vip_words.specs.declared.debug_commands.Seeking.TheVariants.{Next, Break}
+use Rattle.vip_words.specs.declared.debug_commands.Telling.{Telling}
+use Rattle.vip_words.specs.declared.debug_commands.Telling.TheVariants.{State, Screen}
 use Rattle.vip_debug.specs.declared.run.DebugEnd.{DebugEnd}
 use Rattle.vip_debug.specs.declared.run.DebugEnd.TheVariants.{Done, Stopped, WriteFault}
 

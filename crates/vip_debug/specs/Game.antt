@@ -3,7 +3,7 @@ use Rattle.std.specs.Prelude.{◌≡◌, ℕ, ◌+◌, length}
 use Rattle.chip8_lang.specs.Events.{is_stop}
 use Rattle.vip_relation.specs.State.{VipState, interpreter, events_to, state_after}
 use Rattle.vip_relation.specs.Meets.{IsSame}
-use Rattle.vip_monitor.specs.Run.{Run}
+use Rattle.vip_debug.specs.TargetRun.{Run}
 
 -- the run of its board from the state after so many moves on, which ends at the stop point
 abbrev pub run_at : VipState → ℕ → Run

@@ -5,3 +5,9 @@ pub mod Answers
 pub mod Parts
 pub mod Programs
 pub mod ProgramLaws
+pub mod TargetRun
+pub mod BoardShown
+pub mod Commands
+pub mod Answered
+pub mod BoardParts
+pub mod Fold

@@ -4,7 +4,7 @@ use Rattle.machine.specs.Board.{Machine}
 use Rattle.chip8_lang.specs.View.{view_at}
 use Rattle.vip_relation.specs.State.{VipState, events_waiting}
 use Rattle.vip_relation.specs.Meets.{IsSame}
-use Rattle.vip_commands.specs.declared.commands.Seeking.{Seeking}
+use Rattle.vip_words.specs.declared.debug_commands.Seeking.{Seeking}
 use Rattle.vip_debug.specs.Answers.{begun, moves_until, Place, place_of, points_ahead, sought}
 
 -- what is told is the present state

@@ -5,20 +5,20 @@ use Rattle.machine.specs.Keys.{Event, held_at}
 use Rattle.vip_board.specs.Seen.{Seen}
 use Rattle.vip_byte.specs.HexText.{hex4}
 use Rattle.vip_byte.specs.Text.{newline}
-use Rattle.vip_commands.specs.declared.commands.Command.{Command}
-use Rattle.vip_commands.specs.declared.commands.Command.TheVariants.{Runs, Shows}
-use Rattle.vip_commands.specs.declared.commands.Running.{Running}
-use Rattle.vip_commands.specs.declared.commands.Running.TheVariants.{Step}
+use Rattle.vip_words.specs.declared.debug_commands.Command.{Command}
+use Rattle.vip_words.specs.declared.debug_commands.Command.TheVariants.{Runs, Shows}
+use Rattle.vip_words.specs.declared.debug_commands.Running.{Running}
+use Rattle.vip_words.specs.declared.debug_commands.Running.TheVariants.{Step}
 use Rattle.vip_cpu.specs.declared.cpu.Phase.TheVariants.{Boundary}
 use Rattle.vip_outside.specs.Sink.{SinkMeaning}
 use Rattle.vip_outside.specs.Pieces.{PutsAll, FailsWithin}
 use Rattle.vip_outside.specs.declared.sink.Failed.{Failed}
 use Rattle.vip_program.specs.Trace.{sleeps, idle_address, lines, end_at}
 use Rattle.vip_program.specs.declared.trace.ProgramEnd.{ProgramEnd}
-use Rattle.vip_monitor.specs.Run.{Run, state_of}
-use Rattle.vip_monitor.specs.Commands.{Came, came}
-use Rattle.vip_monitor.specs.Answered.{completed_lines, shown}
-use Rattle.vip_monitor.specs.Fold.{after_all, all_pieces}
+use Rattle.vip_debug.specs.TargetRun.{Run, state_of}
+use Rattle.vip_debug.specs.Commands.{Came, came}
+use Rattle.vip_debug.specs.Answered.{completed_lines, shown}
+use Rattle.vip_debug.specs.Fold.{after_all, all_pieces}
 
 -- what is said of a processor that sleeps: the address of its IDL
 abbrev pub idle_line : ℕ → List ℕ

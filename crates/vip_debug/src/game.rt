@@ -2,18 +2,19 @@
 
 ghost use Rattle.std.specs.Prelude.{◌≡◌, ◌≤◌, true};
 ghost use Rattle.vip_relation.specs.Follows.{Follows};
-ghost use Rattle.vip_monitor.specs.Commands.{came};
-ghost use Rattle.vip_monitor.specs.Parts.{Arrives, HasMoved, IsShown};
+ghost use Rattle.vip_debug.specs.Commands.{came};
+ghost use Rattle.vip_debug.specs.BoardParts.{Arrives, HasMoved, IsShown};
 ghost use Rattle.vip_relation.specs.State.{interpreter};
 ghost use Rattle.chip8_lang.specs.Events.{is_stop};
 ghost use Rattle.vip_debug.specs.Game.{Leads, run_at};
 ghost use Rattle.vip_debug.specs.GameLaws.{GameLeads, leads-on};
 
+use crate::moves::{Change, go};
+use crate::target::Target;
 use vip_board::{Board, Moved};
 use vip_byte::MOST_CYCLE;
-use vip_commands::Running;
-use vip_monitor::{Change, Target, go};
 use vip_relation::Vip;
+use vip_words::Running;
 
 /// A machine that runs a game. Its run ends at the stop point.
 #[derive(Drop)]

@@ -7,8 +7,8 @@ ghost use Rattle.vip_debug.specs.Answers.{has_pc};
 ghost use Rattle.vip_debug.specs.Parts.{Arrives, FindAnswers, PassAnswers, TellsPresent, points_left};
 
 use vip_byte::MOST_CYCLE;
-use vip_commands::Seeking;
 use vip_relation::{Met, Vip};
+use vip_words::Seeking;
 
 /// Runs to the next dispatch point, past pictures, or to the end of the run. Answers whether there is one.
 fn pass(vip: &mut Vip, limit: u64) -> bool

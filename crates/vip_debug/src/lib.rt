@@ -1,19 +1,32 @@
-//! The debugger: commands that make moves of a board that runs a game, and show what it holds.
+//! The debugger: commands that make moves of a board and show what it holds.
 //!
-//! It stands on the commands that `vip_commands` reads, on `vip_relation`, which runs the game from event to event and move by move, on the
-//! texts of `vip_text`, on the disassembly of `asm_listing`, and on the sinks of `vip_outside`. The layer above may rely on this:
-//! `run_commands` puts exactly the pieces of `specs/Answers.antt`, up to the first put that fails, and leaves the board at the place that it
-//! says. That is a fold over the commands in terms of the defined run, from the place of the board on: the moves made and the events met, of
-//! which some may wait at its present state. No call takes memory.
+//! It stands on the commands that `vip_words` reads, on the board, on the disassembly of `asm_listing`, and on the sinks of `vip_outside`. What
+//! commands ask of any board is said once: a board that goes along a run of its own is a [`Target`], which is moved by number, up to a cycle, to an
+//! address or to a change of memory, and whose registers and bytes are shown. Two boards are such: one that runs a game from event to event
+//! (`vip_relation`), of which the language state and the screen are shown too by the texts of `vip_text`, and one that runs any program
+//! (`vip_program`).
+//!
+//! The layer above may rely on this: the moves that a command makes are exactly those of `specs/Commands.antt`, none behind the end of the run or
+//! the limit; `run_commands` puts exactly the pieces of `specs/Answers.antt`, up to the first put that fails, and leaves the board at the place
+//! that it says. That is a fold over the commands in terms of the defined run, from the place of the board on: the moves made and the events met,
+//! of which some may wait at its present state. `run_program_commands` says the same of any program (`specs/Programs.antt`). Bytes are those that
+//! the processor would read. No call takes memory.
 //!
 //! The commands and their answers are this project's format (`docs/FORMATS.md`).
 #![tactic(auto)]
 
+mod answer;
+mod bytes;
 mod game;
 mod going;
+mod moves;
 mod program;
+mod registers;
 mod run;
 mod show;
+mod target;
 
+pub use moves::Change;
 pub use program::run_program_commands;
 pub use run::{DebugEnd, run_commands};
+pub use target::Target;

@@ -5,18 +5,20 @@ ghost use Rattle.vip_cpu.specs.declared.cpu.Phase.{Phase};
 ghost use Rattle.vip_outside.specs.Sink.{PutAnswers};
 ghost use Rattle.vip_outside.specs.Pieces.{StreamAnswers};
 ghost use Rattle.vip_program.specs.Trace.{sleeps};
-ghost use Rattle.vip_monitor.specs.Run.{run_from};
-ghost use Rattle.vip_monitor.specs.Commands.{came};
-ghost use Rattle.vip_monitor.specs.Parts.{Arrives, IsShown};
+ghost use Rattle.vip_debug.specs.TargetRun.{run_from};
+ghost use Rattle.vip_debug.specs.Commands.{came};
+ghost use Rattle.vip_debug.specs.BoardParts.{Arrives, IsShown};
 ghost use Rattle.vip_debug.specs.Programs.{OneAnswers, ProgramAnswers, comes_to, ended_lines, gone_lines, idle_line, machine_after, program_pieces, ran_lines};
 ghost use Rattle.vip_debug.specs.ProgramLaws.{ProgramLeads, program-leads-on};
 
+use crate::answer::{put_completed, put_showing};
+use crate::moves::{Change, go};
+use crate::target::Target;
 use vip_board::{Board, Moved};
 use vip_byte::{Buffer, MOST_CYCLE, hex4, put};
-use vip_commands::{Command, Commands, Running};
-use vip_monitor::{Change, Target, go, put_completed, put_showing};
 use vip_outside::{Failed, Sink};
 use vip_program::{ProgramEnd, ending, trace_moves};
+use vip_words::{Command, Commands, Running};
 
 /// A board that runs any program. Its run ends where the processor idles with the display off, since no signal can wake it there.
 #[derive(Drop)]

@@ -9,16 +9,17 @@ ghost use Rattle.vip_text.specs.Traces.{trace_line};
 ghost use Rattle.vip_debug.specs.Answers.{DebugAnswers, begun, pieces, place_of, place_with, ran, running_lines, seeking_lines, sought, stop_text, told};
 ghost use Rattle.vip_debug.specs.Parts.{Makes, TellsPresent};
 
+use crate::answer::{put_completed, put_showing};
 use crate::game::run_game;
 use crate::going::seek;
+use crate::moves::Change;
 use crate::show::{put_screen, put_state};
 use chip8_lang::StopRecord;
 use vip_byte::{Buffer, MOST_CYCLE};
-use vip_commands::{Command, Commands, Running, Seeking, Telling};
-use vip_monitor::{Change, put_completed, put_showing};
 use vip_outside::{Failed, Sink};
 use vip_relation::Vip;
 use vip_text::trace_text;
+use vip_words::{Command, Commands, Running, Seeking, Telling};
 
 /// How the commands ended.
 #[derive(Clone, Copy, Debug, PartialEq, Eq)]

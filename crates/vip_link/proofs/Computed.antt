@@ -1,6 +1,6 @@
 -- The texts of SENDER and RECEIVER are assembled by computing.
 use Rattle.std.proofs.Common.{◌≡◌, refl, true, Ok}
-use Rattle.rom_check.proofs.Gives.{gives_text, text_gives_rom}
+use Rattle.chip8_source.proofs.Gives.{gives_text, text_gives_rom}
 use Rattle.vip_link.specs.Checked.{ComparesLink}
 use Rattle.vip_link.specs.Roms.{sender_rom, receiver_rom, sender_text, receiver_text}
 

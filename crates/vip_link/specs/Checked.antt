@@ -1,8 +1,8 @@
 -- The comparison of both ROMs with their texts, SENDER first.
 use Rattle.std.specs.Prelude.{◌⊎◌, Result, Ok, Err}
 use Rattle.asm_core.specs.Sources.{source_lines}
-use Rattle.rom_check.specs.Compared.{Compares}
-use Rattle.rom_check.specs.declared.fault.ImageFault.{ImageFault}
+use Rattle.chip8_source.specs.Compared.{Compares}
+use Rattle.chip8_source.specs.declared.fault.ImageFault.{ImageFault}
 use Rattle.vip_link.specs.Roms.{sender_rom, receiver_rom, sender_text, receiver_text}
 
 abbrev pub ComparesSender : Result Unit ImageFault → Type 0

@@ -12,7 +12,7 @@ use Rattle.vip_board.specs.Seen.{Seen}
 use Rattle.vip_board.specs.Shown.{CarriesOn}
 use Rattle.vip_board.specs.declared.board.Move.{Move}
 use Rattle.vip_board.proofs.Shown.{shows-nothing}
-use Rattle.vip_relation.specs.Interpreters.{interpreter_of}
+use Rattle.chip8_image.specs.Interpreters.{interpreter_of}
 use Rattle.vip_relation.specs.State.{VipState, events_waiting, most_cycles, started}
 use Rattle.vip_relation.specs.Follows.{Follows}
 use Rattle.vip_relation.specs.Meets.{HasStopped}

@@ -11,7 +11,7 @@ use Rattle.chip8_lang.specs.Places.{Interpreter}
 use Rattle.vip_board.specs.Moves.{moved, moved_by, name_of, StartsInstruction, StandsAt, Passes as BoardPasses}
 use Rattle.vip_board.specs.Seen.{Seen, held_by}
 use Rattle.vip_board.proofs.Shown.{carries-on}
-use Rattle.vip_relation.specs.Interpreters.{interpreter_of}
+use Rattle.chip8_image.specs.Interpreters.{interpreter_of}
 use Rattle.vip_relation.specs.State.{VipState, interpreter, events_waiting, most_cycles}
 use Rattle.vip_relation.specs.Follows.{Follows}
 use Rattle.vip_relation.specs.Kept.{state_of, IsKept}

@@ -4,7 +4,7 @@ use Rattle.std.specs.Option.{option_map}
 use Rattle.machine.specs.Pictures.{window_end, picture_of}
 use Rattle.chip8_lang.specs.Events.Event.{Picture as PictureEvent}
 use Rattle.chip8_lang.specs.View.{View}
-use Rattle.vip_relation.specs.Interpreters.{interpreter_of}
+use Rattle.chip8_image.specs.Interpreters.{interpreter_of}
 use Rattle.vip_relation.specs.State.{VipState, interpreter, events_met, events_waiting, state_after, states_before}
 use Rattle.vip_relation.specs.Follows.{Follows, last_view, last_screen}
 use Rattle.vip_relation.specs.Points.{point_of, point_events}

@@ -1,4 +1,3 @@
-pub mod Interpreters
 pub mod Stops
 pub mod Points
 pub mod State

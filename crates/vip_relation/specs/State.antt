@@ -11,7 +11,7 @@ use Rattle.chip8_lang.specs.View.{View}
 use Rattle.vip_board.specs.Seen.{Seen, held_by}
 use Rattle.vip_cpu.specs.declared.cpu.Phase.TheVariants.{Boundary}
 use Rattle.vip_video.specs.Chip.{nothing_yet}
-use Rattle.vip_relation.specs.Interpreters.{interpreter_of}
+use Rattle.chip8_image.specs.Interpreters.{interpreter_of}
 
 -- the most machine cycles of a run, which every limit keeps to
 abbrev pub most_cycles : ℕ

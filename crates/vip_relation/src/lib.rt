@@ -9,7 +9,6 @@
 //! project's profile (`docs/LANGUAGE.md`, `docs/MACHINE.md`).
 #![tactic(auto)]
 
-mod places;
 mod point;
 mod run;
 mod seen;
@@ -17,7 +16,6 @@ mod start;
 mod view;
 mod vip;
 
-pub use places::Places;
 pub use point::{Point, point_at};
 pub use run::{Met, Run};
 pub use seen::{stop_of, view_of};

@@ -1,11 +1,11 @@
 //! What a state of the run is to the language.
 
 ghost use Rattle.std.specs.Prelude.{◌≡◌};
-ghost use Rattle.vip_relation.specs.Interpreters.{interpreter_of};
+ghost use Rattle.chip8_image.specs.Interpreters.{interpreter_of};
 ghost use Rattle.vip_relation.specs.Stops.{stop_numbered};
 ghost use Rattle.vip_relation.specs.Points.{point_of};
 
-use crate::places::Places;
+use chip8_image::Places;
 use chip8_lang::{Edition, Stop};
 use vip_board::Board;
 use vip_cpu::Phase;

@@ -7,10 +7,10 @@ ghost use Rattle.vip_relation.specs.Kept.{named};
 ghost use Rattle.vip_relation.specs.State.{screen_bytes, screen_size};
 ghost use Rattle.vip_relation.specs.Waiting.{waits_by};
 
-use crate::places::{GAME, Places};
 use crate::point::{Point, point_at, stop_of_number};
 use crate::start::{StartFault, most_bytes};
 use crate::view::{Screen, copy_screen, opcode, stop_number, view};
+use chip8_image::{GAME, Places};
 use chip8_lang::{Edition, StateView, StopRecord};
 use std::alloc::Global;
 use std::marker::Model;

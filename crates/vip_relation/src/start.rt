@@ -3,7 +3,7 @@
 ghost use Rattle.std.specs.Prelude.{◌≡◌};
 ghost use Rattle.chip8_lang.specs.State.{memory_size};
 
-use crate::places::{GAME, Places};
+use chip8_image::{GAME, Places};
 use chip8_lang::Edition;
 use std::alloc::AllocError;
 use thiserror::Error;

@@ -8,8 +8,8 @@ ghost use Rattle.vip_memory.specs.Contents.{page_at};
 ghost use Rattle.vip_relation.specs.Reading.{opcode_in, stack_in};
 ghost use Rattle.vip_relation.specs.State.{screen_size};
 
-use crate::places::{GAME, Places, RAM_END, RANDOM_CELL, STOP_CELL};
 use arrayvec::ArrayVec;
+use chip8_image::{GAME, Places, RAM_END, RANDOM_CELL, STOP_CELL};
 use chip8_lang::{Edition, StateView};
 use vip_board::Board;
 use vip_memory::Memory;

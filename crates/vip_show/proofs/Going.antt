@@ -20,7 +20,7 @@ use Rattle.vip_outside.proofs.PiecesLemmas.{PutsAll-nil, PutsAll-append, PutsAll
 use Rattle.vip_text.specs.Summaries.{summary_line}
 use Rattle.vip_relation.specs.Follows.{Follows, last_dispatch, last_view, last_screen}
 use Rattle.vip_relation.proofs.Steps.{few-met}
-use Rattle.vip_relation.specs.Interpreters.{interpreter_of}
+use Rattle.chip8_image.specs.Interpreters.{interpreter_of}
 use Rattle.vip_relation.specs.State.{VipState, interpreter, run_of, events_to, events_left, screen_size, screen_bytes}
 use Rattle.vip_relation.specs.Stops.{pc_of, opcode_of}
 use Rattle.vip_relation.specs.declared.run.Met.TheVariants as met

@@ -2,3 +2,10 @@ pub mod Endings
 pub mod Output
 pub mod Answers
 pub mod Run
+pub mod Written
+pub mod Points
+pub mod State
+pub mod Meets
+pub mod Kept
+pub mod StateOutput
+pub mod Laws

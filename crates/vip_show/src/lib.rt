@@ -1,15 +1,31 @@
-//! What is written of a run: its trace, its pictures, or one line of summary.
+//! What is written of a run: its trace, its pictures, one line of summary, or the file of the machine's state; and how a run goes on from such a file.
 //!
-//! It stands on `vip_relation`, which gives the events of a run one by one, on `vip_text`, and on the sinks of `vip_outside`. The layer
-//! above may rely on this, for every run that begins: the pieces of the output are exactly those of `specs/Output.antt`, each put by a
-//! call of its own, up to the first put that fails; and the run ends as its events say. No call takes memory.
+//! It stands on `vip_relation`, which gives the events of a run one by one, and the chips under it, on the texts of `vip_text` and the files that it
+//! accepts, on the sinks of `vip_outside`, and, for its laws, on those of the ROM in `rom_run`. It makes no rule of the language and no law of the
+//! ROM. The layer above may rely on this, for every run that begins: the pieces of the output are exactly those of `specs/Output.antt`, and of a state
+//! those of `specs/StateOutput.antt`, each put by a call of its own, up to the first put that fails; and the run ends as its events say. No call takes
+//! memory for it.
 //!
-//! The texts are this project's; a picture is a file of Netpbm's PBM, form P4.
+//! `write_state` writes an accepted file, which shows the state of the board; a run that `Resumed` opens from any accepted file, whoever wrote it,
+//! meets exactly the dispatch points and the stop of the defined run from the state that the file shows; and the points behind a file's state are a
+//! run of CHIP-8, which goes on with the game's run where the file was saved there (`laws`).
+//!
+//! The texts and the format of a state are this project's profile (`docs/FORMATS.md`); a picture is a file of Netpbm's PBM, form P4.
 #![tactic(auto)]
 
+mod fault;
+pub mod laws;
+mod output;
 mod pieces;
+mod resumed;
 mod run;
 mod summary;
+mod writing;
 
+pub use fault::ResumeFault;
+pub use output::{show_resumed, show_saved};
 pub use pieces::{show_pictures, show_trace};
+pub use resumed::{Resumed, Step};
 pub use summary::show_summary;
+pub use vip_text::{StateFault, check_state};
+pub use writing::write_state;

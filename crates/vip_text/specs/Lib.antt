@@ -4,3 +4,4 @@ pub mod Screens
 pub mod Summaries
 pub mod Endings
 pub mod Bounds
+pub mod StateFile

@@ -8,10 +8,10 @@ use Rattle.std.specs.FinMap.{get}
 use Rattle.vip_outside.specs.Files.{FileMap, FilesMeaning, IsStartOf, ReadsStart, with_name}
 use Rattle.vip_outside.specs.declared.files.Loaded.{Loaded}
 use Rattle.vip_tools.specs.declared.files.Wanted.{Wanted}
-use Rattle.vip_report.specs.declared.refusal.Refusal.{Refusal}
-use Rattle.vip_report.specs.declared.refusal.Refusal.TheVariants.{Usage, Unread, TooLarge, Script, Command, Source, State, Rom, Certificate, Proof, NoCertificate, NoMemory}
+use Rattle.vip_tools.specs.declared.refusal.Refusal.{Refusal}
+use Rattle.vip_tools.specs.declared.refusal.Refusal.TheVariants.{Usage, Unread, TooLarge, Script, Command, Source, State, Rom, Certificate, Proof, NoCertificate, NoMemory}
 use Rattle.vip_text.specs.declared.fault.StateFault.{StateFault}
-use Rattle.vip_report.specs.declared.refusal.Kind.{Kind}
+use Rattle.vip_tools.specs.declared.refusal.Kind.{Kind}
 use Rattle.vip_tools.specs.Files.{Needed, Has, HasAll, HasThat, AreRight, FitAll, ComesTo, FileAnswers, FilesAnswer, IsFaulty, IsLarger, IsUnread, OnlyReads, ReadsSome, names_of, seen_wanted, with_names}
 
 has-suc :

@@ -2,8 +2,8 @@
 use Rattle.std.proofs.Common.{◌≡◌, ℕ, List, sym, subst, Result, Ok, Err, IsErrAnd}
 use Rattle.chip8_lang.specs.declared.view.Edition.{Edition}
 use Rattle.asm_core.specs.Made.{Made}
-use Rattle.vip_report.specs.declared.refusal.Refusal.{Refusal}
-use Rattle.vip_report.specs.declared.refusal.Refusal.TheVariants.{Usage, Unread, TooLarge, Script, Command, Source, State, Rom, Certificate, Proof, NoCertificate, NoMemory}
+use Rattle.vip_tools.specs.declared.refusal.Refusal.{Refusal}
+use Rattle.vip_tools.specs.declared.refusal.Refusal.TheVariants.{Usage, Unread, TooLarge, Script, Command, Source, State, Rom, Certificate, Proof, NoCertificate, NoMemory}
 use Rattle.vip_tools.specs.Certificates.{Assembled, CyclesComes, SafeComes, rom_in}
 use Rattle.vip_tools.specs.Certificates.CyclesComes.{NotAssembled, FaultyCertificate}
 use Rattle.vip_tools.specs.Certificates.SafeComes.{FaultyProof}

@@ -16,8 +16,8 @@ use Rattle.game_check.specs.Proof.{proof_of, IsAccepted}
 use Rattle.game_check.specs.declared.fault.Obstacle.{Obstacle}
 use Rattle.game_check.specs.declared.fault.ProofCause.{ProofCause}
 use Rattle.game_check.specs.declared.fault.ProofFault.TheVariants as proof
-use Rattle.vip_report.specs.Report.{bad_certificate, bad_proof, bad_source, no_certificate}
-use Rattle.vip_report.specs.declared.status.Status.TheVariants.{Done, BadCertificate, BadProof, BadSource}
+use Rattle.vip_tools.specs.Report.{bad_certificate, bad_proof, bad_source, no_certificate}
+use Rattle.vip_tools.specs.declared.status.Status.TheVariants.{Done, BadCertificate, BadProof, BadSource}
 use Rattle.vip_tools.specs.Files.{most_text}
 use Rattle.vip_tools.specs.Outcome.{Outcome}
 use Rattle.vip_tools.specs.Outcome.Outcome.{Refused, Shown, GivenUp}

@@ -7,8 +7,8 @@ use Rattle.cycle_check.specs.declared.Within.{Within}
 use Rattle.cycle_check.specs.declared.fault.CertFault.TheVariants as cert
 use Rattle.game_check.specs.Proof.{proof_of}
 use Rattle.game_check.specs.declared.fault.ProofFault.TheVariants as proof
-use Rattle.vip_report.specs.declared.refusal.Refusal.{Refusal}
-use Rattle.vip_report.specs.declared.refusal.Refusal.TheVariants.{Certificate, Proof, NoMemory}
+use Rattle.vip_tools.specs.declared.refusal.Refusal.{Refusal}
+use Rattle.vip_tools.specs.declared.refusal.Refusal.TheVariants.{Certificate, Proof, NoMemory}
 use Rattle.vip_tools.specs.Certificates.{Assembled, Bytes, rom_in}
 use Rattle.vip_tools.specs.Opening.{SourceAnswers}
 

@@ -7,16 +7,16 @@ use Rattle.vip_outside.specs.Files.{FilesMeaning, with_name}
 use Rattle.chip8_lang.specs.State.{memory_size}
 use Rattle.chip8_lang.specs.declared.view.Edition.{Edition}
 use Rattle.chip8_lang.specs.declared.view.Edition.TheVariants.{Usual, Tall}
-use Rattle.state_check.specs.File.{IsAccepted, Judges}
+use Rattle.vip_text.specs.StateFile.{IsAccepted, Judges}
 use Rattle.vip_text.specs.declared.fault.StateFault.{StateFault}
 use Rattle.vip_words.specs.Asked.{Asked, AskedRun, asm, bounds, certify, debug, debug_program, demo, dis, link, list, play, play_program, resume, safe, save, source, trace, trace_program, within}
 use Rattle.vip_words.specs.declared.request.Memory.{Memory}
 use Rattle.vip_words.specs.declared.request.Memory.TheVariants as memory
 use Rattle.vip_tools.specs.declared.files.Wanted.{Wanted}
-use Rattle.vip_report.specs.declared.refusal.Kind.{Kind}
-use Rattle.vip_report.specs.declared.refusal.Kind.TheVariants.{Game, TallGame, Script, Commands, Source, Certificate, State, Message, Rom, Ram}
-use Rattle.vip_report.specs.declared.refusal.Refusal.{Refusal}
-use Rattle.vip_report.specs.declared.refusal.Refusal.TheVariants.{Unread, TooLarge, State as BadState, NoMemory}
+use Rattle.vip_tools.specs.declared.refusal.Kind.{Kind}
+use Rattle.vip_tools.specs.declared.refusal.Kind.TheVariants.{Game, TallGame, Script, Commands, Source, Certificate, State, Message, Rom, Ram}
+use Rattle.vip_tools.specs.declared.refusal.Refusal.{Refusal}
+use Rattle.vip_tools.specs.declared.refusal.Refusal.TheVariants.{Unread, TooLarge, State as BadState, NoMemory}
 
 -- a file: its name, the most bytes that it may have, and what it is
 pub record Needed : Type 0 where

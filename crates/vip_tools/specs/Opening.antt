@@ -3,13 +3,13 @@ use Rattle.std.specs.Prelude.{◌≡◌, ◌≤◌, ℕ, List, [], ◌∷◌, le
 use Rattle.machine.specs.Keys.{Event as KeyEvent}
 use Rattle.asm_core.specs.Made.{Made, IsAssembly}
 use Rattle.asm_core.specs.Sources.{source_lines, HasFirstFault}
-use Rattle.vip_commands.specs.Grammar.{commands_of}
-use Rattle.vip_commands.specs.declared.commands.Command.{Command as DebugCommand}
-use Rattle.vip_commands.specs.declared.commands.CommandFault.TheVariants as command
-use Rattle.vip_commands.specs.declared.commands.Speaks.{Speaks}
+use Rattle.vip_words.specs.DebugGrammar.{commands_of}
+use Rattle.vip_words.specs.declared.debug_commands.Command.{Command as DebugCommand}
+use Rattle.vip_words.specs.declared.debug_commands.CommandFault.TheVariants as command
+use Rattle.vip_words.specs.declared.debug_commands.Speaks.{Speaks}
 use Rattle.vip_keypad.specs.declared.script.ScriptFault.TheVariants.{Fault}
-use Rattle.vip_report.specs.declared.refusal.Refusal.{Refusal}
-use Rattle.vip_report.specs.declared.refusal.Refusal.TheVariants.{Script, Command, Source, NoMemory}
+use Rattle.vip_tools.specs.declared.refusal.Refusal.{Refusal}
+use Rattle.vip_tools.specs.declared.refusal.Refusal.TheVariants.{Script, Command, Source, NoMemory}
 use Rattle.vip_tools.specs.Files.{most_text}
 use Rattle.vip_tools.specs.Outcome.{script_in}
 

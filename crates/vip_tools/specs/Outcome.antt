@@ -14,9 +14,9 @@ use Rattle.asm_listing.specs.Disassembly.{disassembly}
 use Rattle.vip_text.specs.Bounds.{bounds_table}
 use Rattle.vip_keypad.specs.KeyScript.{script_of}
 use Rattle.vip_keypad.specs.declared.script.ScriptFault.{ScriptFault}
-use Rattle.vip_report.specs.Report.{bad_source}
-use Rattle.vip_report.specs.declared.status.Status.{Status}
-use Rattle.vip_report.specs.declared.status.Status.TheVariants.{Done, BadSource}
+use Rattle.vip_tools.specs.Report.{bad_source}
+use Rattle.vip_tools.specs.declared.status.Status.{Status}
+use Rattle.vip_tools.specs.declared.status.Status.TheVariants.{Done, BadSource}
 
 -- Refused, with a status and its report; or output, piece by piece, with the status and the report of its end; or given up, with a report, which is
 -- never due.

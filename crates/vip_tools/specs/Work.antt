@@ -1,12 +1,12 @@
 -- What a verb without a board answers, where its request comes to certain outcomes.
 use Rattle.std.specs.Prelude.{ℕ, [], ◌∷◌, Result, Ok, Err, Vec}
-use Rattle.vip_report.specs.declared.refusal.Refusal.{Refusal}
-use Rattle.vip_report.specs.declared.refusal.Refusal.TheVariants.{Usage, Unread, TooLarge, State, NoCertificate, NoMemory}
-use Rattle.vip_report.specs.declared.status.Status.TheVariants.{Done}
+use Rattle.vip_tools.specs.declared.refusal.Refusal.{Refusal}
+use Rattle.vip_tools.specs.declared.refusal.Refusal.TheVariants.{Usage, Unread, TooLarge, State, NoCertificate, NoMemory}
+use Rattle.vip_tools.specs.declared.status.Status.TheVariants.{Done}
 use Rattle.vip_tools.specs.Outcome.{Outcome}
 use Rattle.vip_tools.specs.Outcome.Outcome.{Refused, Shown, GivenUp}
-use Rattle.vip_report.specs.Refusal.{status_of}
-use Rattle.vip_report.specs.Report.{no_certificate, report_of}
+use Rattle.vip_tools.specs.Refusal.{status_of}
+use Rattle.vip_tools.specs.Report.{no_certificate, report_of}
 
 -- A refusal by the contents of files is what the request comes to; of want of memory nothing is said; and none is of words, of a file that isn't
 -- read whole, or of a saved state, which was judged as it was read.

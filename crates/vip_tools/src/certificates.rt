@@ -7,6 +7,7 @@ ghost use Rattle.vip_tools.specs.Checks.{CertificateAnswers, ProofAnswers, RomAn
 ghost use Rattle.vip_tools.specs.Files.{most_text};
 ghost use Rattle.vip_tools.specs.Work.{TextAnswers};
 
+use crate::Refusal;
 use crate::files::are_bytes;
 use crate::tools::assembled;
 use asm_core::Assembly;
@@ -16,7 +17,6 @@ use game_check::{FindFault, ProofFault, check_game, find_certificate};
 use itoa::Buffer as Digits;
 use std::alloc::Global;
 use vip_byte::{Buffer, hex4, put};
-use vip_report::Refusal;
 
 /// The first address of the ROM.
 const ROM_START: u16 = 0x8000;

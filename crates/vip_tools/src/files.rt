@@ -3,17 +3,16 @@
 ghost use Rattle.std.specs.Prelude.{◌≡◌, ◌<◌, ◌∷◌, [], ℕ, map, option_map, slice_index};
 ghost use Rattle.chip8_lang.specs.State.{memory_size};
 ghost use Rattle.vip_words.specs.Request.{asked_of, asked_run};
-ghost use Rattle.vip_report.specs.declared.refusal.Kind.TheVariants.{Certificate, Source};
+ghost use Rattle.vip_tools.specs.declared.refusal.Kind.TheVariants.{Certificate, Source};
 ghost use Rattle.vip_tools.specs.Files.{commands_file, file, game_file, game_kind, message_file, most_text, needed, program_file, run_files, script_file, seen_wanted, state_file, FileAnswers, FilesAnswer, JudgeAnswers};
 
+use crate::{Kind, Refusal};
 use arrayvec::ArrayVec;
 use chip8_lang::Edition;
-use state_check::check_state;
 use std::alloc::Global;
 use vip_byte::MOST_TEXT;
 use vip_outside::{Files, ReadFail};
-use vip_report::{Kind, Refusal};
-use vip_text::StateFault;
+use vip_text::{StateFault, check_state};
 use vip_words::{Memory, Request, RunRequest};
 
 /// The addresses of the machine, 0000 to FFFF.

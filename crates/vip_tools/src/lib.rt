@@ -1,18 +1,28 @@
-//! What the verbs read, and the work of those that run no board: the files that a request names, the key script and the commands in them,
-//! and from a source or bytes the dump, the listing and the disassembly, the table of bounds, and certificates checked and found. The
-//! demonstration games are here too, which no file holds. The crate stands on the words of `vip_words`, on the commands of `vip_commands`, on the key scripts of
-//! `vip_keypad`, on the judging of saved states in `state_check`, on the assembler and its listings (`asm_core`, `asm_listing`), on certificates
-//! (`cycle_check`, `game_check`), on the texts of `vip_text`, and on the refusals of `vip_report`; it runs no machine. The layer above may rely on this:
-//! the files are read whole, in the order of `specs/Files.antt`, up to the first that is refused, and a saved state is judged as it is read; a text is
-//! read as `specs/Opening.antt` says; and each of the verbs comes to its output by one put, or to its refusal, as `specs/Outcome.antt` and `specs/Certificates.antt` say by the contents of its files. The
-//! demonstration games are this project's (`docs/FORMATS.md`).
+//! What all verbs share, and the work of those that run no board: the files that a request names, the key script and the commands in them; the
+//! statuses, the refusals and the line of report of each; from a source or bytes the dump, the listing and the disassembly, the table of bounds,
+//! and certificates checked and found. The demonstration games are here too, which no file holds.
+//!
+//! The crate stands on the words and the commands of `vip_words`, on the key scripts of `vip_keypad`, on the judging of saved states and the texts
+//! of `vip_text`, on the assembler and its listings (`asm_core`, `asm_listing`), on the comparison of a source with a ROM (`chip8_source`), on
+//! certificates (`cycle_check`, `game_check`), and on the files and sinks of `vip_outside`; it runs no machine. The layer above may rely on this:
+//! the files are read whole, in the order of `specs/Files.antt`, up to the first that is refused, and a saved state is judged as it is read; a text
+//! is read as `specs/Opening.antt` says; each of the verbs comes to its output by one put, or to its refusal, as `specs/Outcome.antt` and
+//! `specs/Certificates.antt` say by the contents of its files; and each refusal and each end has the status and the report of `specs/Status.antt`,
+//! `specs/Refusal.antt` and `specs/Report.antt`, and a report goes to a sink by one put. Of a refusal the line is made first, which takes memory;
+//! where there is none, it is want of memory that is reported. The end of a command takes none. The demonstration games, the statuses and the
+//! reports are this project's (`docs/FORMATS.md`).
 #![tactic(auto)]
 
 mod certificates;
 mod contents;
 mod demo;
+mod ended;
 mod files;
+mod obstacle;
 mod reading;
+mod refusal;
+mod report;
+mod status;
 mod tools;
 
 pub use certificates::{certify, cycles, safe};
@@ -21,6 +31,10 @@ pub use contents::{
     only_content, run_contents,
 };
 pub use demo::demo_game;
+pub use ended::Ended;
 pub use files::{Wanted, game_kind, open_files, wanted_files};
 pub use reading::{read_debugging, read_keys};
+pub use refusal::{Kind, Refusal};
+pub use report::{put_end, put_refusal, put_write_fault};
+pub use status::Status;
 pub use tools::{asm, bounds, dis, list, source};

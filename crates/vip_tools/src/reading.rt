@@ -5,10 +5,10 @@ ghost use Rattle.vip_tools.specs.Contents.{script_list};
 ghost use Rattle.vip_tools.specs.Files.{most_text};
 ghost use Rattle.vip_tools.specs.Opening.{SmallScripts, KeysAnswer, DebugCommandsAnswer};
 
+use crate::Refusal;
 use std::alloc::Global;
-use vip_commands::{CommandFault, Commands, Speaks, read_commands};
 use vip_keypad::{Script, ScriptFault, read_script};
-use vip_report::Refusal;
+use vip_words::{CommandFault, Commands, Speaks, read_commands};
 
 /// The key script of a run, which is empty where no file is given.
 pub fn read_keys<'a>(alloc: Global, script: Option<&[u8]>) -> Result<Script, Refusal<'a>>

@@ -6,12 +6,12 @@ ghost use Rattle.vip_tools.specs.Opening.{SourceAnswers};
 ghost use Rattle.vip_tools.specs.Outcome.{AsmComes, BoundsComes, DisComes, IsBytes, ListComes, TextComes};
 ghost use Rattle.vip_tools.specs.Work.{TextAnswers};
 
+use crate::Refusal;
 use asm_core::{AsmFault, Assembly, assemble};
 use asm_listing::{disassemble, dump, listing, raw};
 use chip8_lang::Edition;
 use std::alloc::{AllocError, Global};
 use vip_byte::Buffer;
-use vip_report::Refusal;
 use vip_text::bounds_text;
 
 /// The assembly of a source.

@@ -10,10 +10,10 @@ use Rattle.vip_outside.specs.Sink.{SinkMeaning, PutsWhole}
 use Rattle.vip_outside.proofs.PiecesLemmas.{PutsAll-one}
 use Rattle.vip_outside.specs.Pieces.{PutsAll}
 use Rattle.vip_words.specs.Asked.{AskedLink}
-use Rattle.vip_report.specs.Report.{linked_report}
-use Rattle.vip_report.specs.declared.ended.Ended.TheVariants.{Linked}
-use Rattle.vip_report.specs.declared.refusal.Refusal.{Refusal}
-use Rattle.vip_report.specs.declared.refusal.Refusal.TheVariants.{Usage, Unread, TooLarge, Script, Command, Source, State, Rom, Certificate, Proof, NoCertificate, NoMemory}
+use Rattle.vip_tools.specs.Report.{linked_report}
+use Rattle.vip_tools.specs.declared.ended.Ended.TheVariants.{Linked}
+use Rattle.vip_tools.specs.declared.refusal.Refusal.{Refusal}
+use Rattle.vip_tools.specs.declared.refusal.Refusal.TheVariants.{Usage, Unread, TooLarge, Script, Command, Source, State, Rom, Certificate, Proof, NoCertificate, NoMemory}
 use Rattle.vip_tools.specs.Work.{RefusedBy}
 use Rattle.vip_verbs.specs.Outcome.{LinkComes, linked_after}
 use Rattle.vip_verbs.specs.Opening.{LinkRomsAnswer}

@@ -1,9 +1,9 @@
 -- The verbs of a program: what their opening answers, from the answer of its start, and what their work does.
 use Rattle.std.proofs.Common.{◌≡◌, ℕ, List, refl, sym, ap, ◌∙◌, subst, Result, Ok, Err}
 use Rattle.vip_board.specs.Seen.{Seen}
-use Rattle.vip_commands.specs.Grammar.{commands_of}
-use Rattle.vip_commands.specs.declared.commands.Command.{Command as DebugCommand}
-use Rattle.vip_commands.specs.declared.commands.Speaks.TheVariants.{Machine as Processor}
+use Rattle.vip_words.specs.DebugGrammar.{commands_of}
+use Rattle.vip_words.specs.declared.debug_commands.Command.{Command as DebugCommand}
+use Rattle.vip_words.specs.declared.debug_commands.Speaks.TheVariants.{Machine as Processor}
 use Rattle.vip_debug.specs.Programs.{program_written, machine_with, ProgramAnswers}
 use Rattle.vip_outside.specs.Sink.{SinkMeaning}
 use Rattle.vip_outside.specs.declared.sink.Failed.{Failed}
@@ -11,8 +11,8 @@ use Rattle.vip_program.specs.Program.{machine_under}
 use Rattle.vip_program.specs.Trace.{ShowAnswers, end_at}
 use Rattle.vip_program.specs.declared.trace.ProgramEnd.{ProgramEnd}
 use Rattle.vip_program.specs.declared.trace.ProgramEnd.TheVariants as program
-use Rattle.vip_report.specs.declared.refusal.Refusal.{Refusal}
-use Rattle.vip_report.specs.declared.refusal.Refusal.TheVariants.{Usage, Unread, TooLarge, Script, Command, Source, State, Rom, Certificate, Proof, NoCertificate, NoMemory}
+use Rattle.vip_tools.specs.declared.refusal.Refusal.{Refusal}
+use Rattle.vip_tools.specs.declared.refusal.Refusal.TheVariants.{Usage, Unread, TooLarge, Script, Command, Source, State, Rom, Certificate, Proof, NoCertificate, NoMemory}
 use Rattle.vip_tools.specs.Opening.{DebugCommandsAnswer}
 use Rattle.vip_tools.specs.Outcome.{Outcome}
 use Rattle.vip_tools.specs.Work.{RefusedBy}

@@ -7,11 +7,11 @@ use Rattle.vip_link.specs.Checked.{ComparesLink}
 use Rattle.vip_keypad.specs.declared.script.ScriptFault.TheVariants.{Fault}
 use Rattle.vip_relation.specs.Meets.{HasStopped}
 use Rattle.vip_relation.specs.State.{VipState, started}
-use Rattle.vip_report.specs.declared.refusal.Refusal.{Refusal}
-use Rattle.vip_report.specs.declared.refusal.Refusal.TheVariants.{Script, Rom, NoMemory}
-use Rattle.state_check.specs.File.{IsAccepted}
-use Rattle.vip_state.specs.Meets.{opened}
-use Rattle.vip_state.specs.State.{ResumedState, interpreter}
+use Rattle.vip_tools.specs.declared.refusal.Refusal.{Refusal}
+use Rattle.vip_tools.specs.declared.refusal.Refusal.TheVariants.{Script, Rom, NoMemory}
+use Rattle.vip_text.specs.StateFile.{IsAccepted}
+use Rattle.vip_show.specs.Meets.{opened}
+use Rattle.vip_show.specs.State.{ResumedState, interpreter}
 use Rattle.vip_tools.specs.Outcome.{script_in}
 use Rattle.vip_verbs.specs.Outcome.{RomIs, IsFault}
 

@@ -8,38 +8,38 @@ use Rattle.chip8_lang.specs.declared.view.StopRecord.{StopRecord}
 use Rattle.chip8_lang.specs.Events.{Event, events_of, game_run, is_stop}
 use Rattle.chip8_lang.specs.View.{view_at}
 use Rattle.asm_core.specs.Sources.{source_lines}
-use Rattle.rom_check.specs.Compared.{Compares}
-use Rattle.rom_check.specs.declared.fault.ImageFault.{ImageFault}
-use Rattle.rom_check.specs.declared.fault.ImageFault.TheVariants.{NoMemory}
+use Rattle.chip8_source.specs.Compared.{Compares}
+use Rattle.chip8_source.specs.declared.fault.ImageFault.{ImageFault}
+use Rattle.chip8_source.specs.declared.fault.ImageFault.TheVariants.{NoMemory}
 use Rattle.vip_link.specs.Checked.{ComparesLink}
 use Rattle.vip_link.specs.Laws.{after}
 use Rattle.vip_link.specs.Pair.{Pair}
 use Rattle.vip_link.specs.Schedules.{schedule_by}
-use Rattle.vip_commands.specs.Grammar.{commands_of}
-use Rattle.vip_commands.specs.declared.commands.Command.{Command}
-use Rattle.vip_commands.specs.declared.commands.Speaks.TheVariants.{Chip8, Machine as Processor}
-use Rattle.vip_commands.specs.declared.commands.CommandFault.{CommandFault}
-use Rattle.vip_commands.specs.declared.commands.CommandFault.TheVariants as command
+use Rattle.vip_words.specs.DebugGrammar.{commands_of}
+use Rattle.vip_words.specs.declared.debug_commands.Command.{Command}
+use Rattle.vip_words.specs.declared.debug_commands.Speaks.TheVariants.{Chip8, Machine as Processor}
+use Rattle.vip_words.specs.declared.debug_commands.CommandFault.{CommandFault}
+use Rattle.vip_words.specs.declared.debug_commands.CommandFault.TheVariants as command
 use Rattle.vip_debug.specs.Answers.{at_start, place_after, stop_by, written}
 use Rattle.vip_keypad.specs.declared.script.ScriptCause.{ScriptCause}
 use Rattle.vip_keypad.specs.declared.script.ScriptFault.TheVariants.{Fault}
 use Rattle.vip_program.specs.Pictures.{pictured}
 use Rattle.vip_program.specs.Trace.{traced}
-use Rattle.vip_relation.specs.Interpreters.{interpreter_of}
+use Rattle.chip8_image.specs.Interpreters.{interpreter_of}
 use Rattle.vip_relation.specs.State.{VipState, interpreter, started, state_after}
 use Rattle.vip_show.specs.Endings.{ending_after, ending_of}
 use Rattle.vip_show.specs.Output.{trace_lines, trace_pieces, picture_pieces, summary}
-use Rattle.state_check.specs.File.{shown, IsAccepted}
-use Rattle.vip_state.specs.Output.{saved_ending, saved_pieces}
-use Rattle.vip_state.specs.Points.{points_behind}
+use Rattle.vip_text.specs.StateFile.{shown, IsAccepted}
+use Rattle.vip_show.specs.StateOutput.{saved_ending, saved_pieces}
+use Rattle.vip_show.specs.Points.{points_behind}
 use Rattle.vip_text.specs.Endings.{Ending}
 use Rattle.vip_text.specs.Endings.Ending.{AtLimit, AtStop}
 use Rattle.vip_words.specs.Asked.{Asked, AskedResume, trace, play, debug, demo, save, resume, asm, list, dis, source, bounds, within, safe, certify, trace_program, play_program, debug_program, AskedLink, link}
-use Rattle.vip_report.specs.Refusal.{image_status}
-use Rattle.vip_report.specs.Status.{end_status}
-use Rattle.vip_report.specs.Report.{bad_command, bad_script, image_report, end_report, no_dispatch, linked_report}
-use Rattle.vip_report.specs.declared.status.Status.{Status}
-use Rattle.vip_report.specs.declared.status.Status.TheVariants.{BadCommand, BadScript, NoDispatch, Done}
+use Rattle.vip_tools.specs.Refusal.{image_status}
+use Rattle.vip_tools.specs.Status.{end_status}
+use Rattle.vip_tools.specs.Report.{bad_command, bad_script, image_report, end_report, no_dispatch, linked_report}
+use Rattle.vip_tools.specs.declared.status.Status.{Status}
+use Rattle.vip_tools.specs.declared.status.Status.TheVariants.{BadCommand, BadScript, NoDispatch, Done}
 use Rattle.vip_tools.specs.Certificates.{CertifyComes, CyclesComes, SafeComes}
 use Rattle.vip_tools.specs.Demo.{demo_game}
 use Rattle.vip_tools.specs.Outcome.{Outcome, AsmComes, BoundsComes, DisComes, ListComes, TextComes, rom_text, script_in}

@@ -21,20 +21,20 @@ use Rattle.vip_relation.specs.Meets.{HasStopped}
 use Rattle.vip_relation.specs.State.{VipState, started, events_to}
 use Rattle.vip_show.specs.Answers.{traced, pictured, summed}
 use Rattle.vip_show.specs.Endings.{ending_of}
-use Rattle.vip_state.specs.Output.{ending_left, records_left, saved_ending, saved_pieces}
-use Rattle.vip_state.specs.State.{interpreter as resumed_interpreter}
+use Rattle.vip_show.specs.StateOutput.{ending_left, records_left, saved_ending, saved_pieces}
+use Rattle.vip_show.specs.State.{interpreter as resumed_interpreter}
 use Rattle.vip_text.specs.Endings.{Ending}
 use Rattle.vip_text.specs.declared.ending.RunEnd.{RunEnd}
 use Rattle.vip_text.specs.declared.ending.RunEnd.TheVariants as end
 use Rattle.vip_words.specs.Asked.{Asked, most_cycles, most_moves}
-use Rattle.vip_report.specs.declared.ended.Ended.{Ended}
-use Rattle.vip_report.specs.declared.ended.Ended.TheVariants.{NoDispatch, Ran}
-use Rattle.vip_report.specs.declared.refusal.Refusal.{Refusal}
-use Rattle.vip_report.specs.declared.refusal.Refusal.TheVariants.{Usage, Unread, TooLarge, State, NoMemory}
-use Rattle.vip_report.specs.declared.status.Status.{Status}
-use Rattle.vip_report.specs.declared.status.Status.TheVariants.{Done}
-use Rattle.vip_report.specs.Report.{end_report, ended_report, linked_report}
-use Rattle.vip_report.specs.Status.{end_status, ended_status}
+use Rattle.vip_tools.specs.declared.ended.Ended.{Ended}
+use Rattle.vip_tools.specs.declared.ended.Ended.TheVariants.{NoDispatch, Ran}
+use Rattle.vip_tools.specs.declared.refusal.Refusal.{Refusal}
+use Rattle.vip_tools.specs.declared.refusal.Refusal.TheVariants.{Usage, Unread, TooLarge, State, NoMemory}
+use Rattle.vip_tools.specs.declared.status.Status.{Status}
+use Rattle.vip_tools.specs.declared.status.Status.TheVariants.{Done}
+use Rattle.vip_tools.specs.Report.{end_report, ended_report, linked_report}
+use Rattle.vip_tools.specs.Status.{end_status, ended_status}
 use Rattle.vip_tools.specs.Files.{needed, ComesTo, HasAll, IsFaulty, IsLarger, IsUnread, OnlyReads, ReadsSome, with_names}
 use Rattle.vip_tools.specs.Outcome.{Outcome}
 use Rattle.vip_tools.specs.Outcome.Outcome.{Shown}

@@ -3,9 +3,9 @@ use Rattle.std.specs.Prelude.{◌≡◌, ℕ, List, [], Result, Ok, Err}
 use Rattle.machine.specs.Keys.{Event as KeyEvent}
 use Rattle.vip_board.specs.Seen.{Seen}
 use Rattle.vip_board.specs.Shown.{Shows}
-use Rattle.vip_commands.specs.declared.commands.Command.{Command}
-use Rattle.vip_commands.specs.declared.commands.CommandFault.{CommandFault}
-use Rattle.vip_commands.specs.declared.commands.CommandFault.TheVariants as command
+use Rattle.vip_words.specs.declared.debug_commands.Command.{Command}
+use Rattle.vip_words.specs.declared.debug_commands.CommandFault.{CommandFault}
+use Rattle.vip_words.specs.declared.debug_commands.CommandFault.TheVariants as command
 use Rattle.vip_debug.specs.Programs.{program_written, machine_with}
 use Rattle.vip_cpu.specs.declared.cpu.Phase.TheVariants.{Boundary}
 use Rattle.vip_keypad.specs.declared.script.ScriptCause.{ScriptCause}
@@ -17,12 +17,12 @@ use Rattle.vip_program.specs.declared.start.Memory.{Memory}
 use Rattle.vip_program.specs.declared.start.Memory.TheVariants.{Rom, Ram}
 use Rattle.vip_program.specs.declared.trace.ProgramEnd.{ProgramEnd}
 use Rattle.vip_program.specs.declared.trace.ProgramEnd.TheVariants as program
-use Rattle.vip_report.specs.Report.{bad_command, bad_script, done, idle_report}
-use Rattle.vip_report.specs.declared.ended.Ended.{Ended}
-use Rattle.vip_report.specs.declared.ended.Ended.TheVariants.{Idle, Ran}
-use Rattle.vip_report.specs.declared.refusal.Refusal.{Refusal}
-use Rattle.vip_report.specs.declared.refusal.Refusal.TheVariants.{Script, NoMemory}
-use Rattle.vip_report.specs.declared.status.Status.TheVariants.{BadCommand, BadScript, Done}
+use Rattle.vip_tools.specs.Report.{bad_command, bad_script, done, idle_report}
+use Rattle.vip_tools.specs.declared.ended.Ended.{Ended}
+use Rattle.vip_tools.specs.declared.ended.Ended.TheVariants.{Idle, Ran}
+use Rattle.vip_tools.specs.declared.refusal.Refusal.{Refusal}
+use Rattle.vip_tools.specs.declared.refusal.Refusal.TheVariants.{Script, NoMemory}
+use Rattle.vip_tools.specs.declared.status.Status.TheVariants.{BadCommand, BadScript, Done}
 use Rattle.vip_text.specs.declared.ending.RunEnd.TheVariants.{AtLimit}
 use Rattle.vip_tools.specs.Outcome.{Outcome, script_in}
 use Rattle.vip_tools.specs.Outcome.Outcome.{Refused, Shown}

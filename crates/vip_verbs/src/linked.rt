@@ -10,11 +10,11 @@ ghost use Rattle.vip_verbs.specs.Opening.{LinkRomsAnswer};
 ghost use Rattle.vip_verbs.specs.Prepared.{IsJoined, PrepareAnswers, PerformAnswers, linked_output};
 
 use crate::prepared::Prepared;
-use rom_check::ImageFault;
+use chip8_source::ImageFault;
 use std::alloc::Global;
 use vip_link::{Link, LinkFault, check_link};
 use vip_outside::{Failed, Sink};
-use vip_report::{Ended, Kind, Refusal};
+use vip_tools::{Ended, Kind, Refusal};
 use vip_words::LinkRequest;
 
 /// The refusal of two ROMs of which one isn't what its source gives.

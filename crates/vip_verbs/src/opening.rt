@@ -6,7 +6,7 @@ ghost use Rattle.vip_words.specs.Asked.{cycles_in, most_cycles, most_moves, move
 ghost use Rattle.vip_words.specs.Asked.Asked.{trace, play, debug, demo, resume, save, trace_program, play_program, debug_program};
 ghost use Rattle.vip_words.specs.Request.{asked_of, asked_run, asked_trace, asked_debug, asked_demo, asked_resume, asked_program, asked_debug_program};
 ghost use Rattle.vip_tools.specs.Contents.{script_list, run_list, debug_list};
-ghost use Rattle.vip_report.specs.declared.refusal.Kind.TheVariants.{State};
+ghost use Rattle.vip_tools.specs.declared.refusal.Kind.TheVariants.{State};
 ghost use Rattle.vip_tools.specs.Files.{needed, AreRight, FitAll, IsRight, contents_of};
 ghost use Rattle.vip_tools.specs.Opening.{SmallScripts};
 ghost use Rattle.vip_verbs.specs.Outcome.{Comes, RomIs};
@@ -17,21 +17,19 @@ use crate::linked::open_link;
 use crate::prepared::Prepared;
 use crate::program::start_board;
 use chip8_lang::Edition;
-use rom_check::{ImageFault, check_image, check_tall};
+use chip8_source::{ImageFault, check_image, check_tall};
 use std::alloc::Global;
-use vip_commands::Speaks;
 use vip_outside::Files;
 use vip_relation::{Run, StartFault, Vip};
-use vip_report::Refusal;
-use vip_state::{ResumeFault, Resumed};
+use vip_show::{ResumeFault, Resumed};
 use vip_tools::{
-    DebugContents, RunContents, asm, bounds, certified_contents, certify, cycles, debug_contents,
-    demo_game, dis, game_kind, list, only_content, open_files, read_debugging, read_keys,
-    run_contents, safe, source, wanted_files,
+    DebugContents, Refusal, RunContents, asm, bounds, certified_contents, certify, cycles,
+    debug_contents, demo_game, dis, game_kind, list, only_content, open_files, read_debugging,
+    read_keys, run_contents, safe, source, wanted_files,
 };
 use vip_words::{
     DebugProgramRequest, DebugRequest, DemoRequest, ProgramRequest, Request, ResumeRequest,
-    RunRequest, TraceRequest,
+    RunRequest, Speaks, TraceRequest,
 };
 
 /// Compares an edition's ROM with its built-in source.

@@ -6,12 +6,12 @@ use crate::linked::run_link;
 use crate::program::{debug_program, play_program, trace_program};
 use crate::work::{debug, demo, play, put_text, resume, save, trace};
 use vip_board::Board;
-use vip_commands::Commands;
 use vip_link::Link;
 use vip_outside::{Failed, Sink};
 use vip_relation::{Run, Vip};
-use vip_report::Ended;
-use vip_state::Resumed;
+use vip_show::Resumed;
+use vip_tools::Ended;
+use vip_words::Commands;
 
 /// A verb that is ready: its files are read and judged, and it needs no more memory. What it writes, and how it ends, is settled.
 #[derive(Drop)]

@@ -10,13 +10,12 @@ ghost use Rattle.vip_verbs.specs.declared.prepared.Prepared.TheVariants as ready
 
 use std::alloc::Global;
 use vip_board::Board;
-use vip_commands::Commands;
 use vip_debug::run_program_commands;
 use vip_outside::{Failed, Sink};
 use vip_program::{Memory, ProgramEnd, show_pictures, show_trace, start_program};
-use vip_report::{Ended, Refusal};
 use vip_text::RunEnd;
-use vip_tools::{RunContents, read_keys};
+use vip_tools::{Ended, Refusal, RunContents, read_keys};
+use vip_words::Commands;
 
 /// Where a program lies, by the words.
 fn memory_in(memory: vip_words::Memory) -> Memory

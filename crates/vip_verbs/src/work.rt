@@ -4,14 +4,13 @@ ghost use Rattle.std.specs.Prelude.{◌≡◌};
 ghost use Rattle.vip_verbs.specs.Prepared.{IsReady, PerformAnswers, DebugEnds, output_of, run_ended, save_ended};
 ghost use Rattle.vip_verbs.specs.declared.prepared.Prepared.TheVariants as ready;
 
-use vip_commands::Commands;
 use vip_debug::{DebugEnd, run_commands};
 use vip_outside::{Failed, Sink};
 use vip_relation::{Run, Vip};
-use vip_report::Ended;
-use vip_show::{show_pictures, show_summary, show_trace};
-use vip_state::{Resumed, show_resumed, show_saved};
+use vip_show::{Resumed, show_pictures, show_resumed, show_saved, show_summary, show_trace};
 use vip_text::RunEnd;
+use vip_tools::Ended;
+use vip_words::Commands;
 
 /// How a run up to a limit ended.
 fn ran(limit: u64, end: Result<RunEnd, Failed>) -> Result<Ended, Failed>

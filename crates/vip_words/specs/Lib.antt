@@ -5,3 +5,4 @@ pub mod Request
 pub mod Rules
 pub mod Table
 pub mod Usage
+pub mod DebugGrammar

@@ -1,8 +1,10 @@
-//! What a user asks for: the words of the command line, read exactly. The crate stands on the kit's `clap`, whose contracts say which words a
-//! simple command takes and what it finds in them, on `vip_byte` for numbers, and on `chip8_lang` for the name of an edition; it reads no file. The
-//! layer above may rely on `read_words`: it answers exactly the request that the rules of `specs/Rules.antt`, `specs/Table.antt` and
-//! `specs/Asked.antt` read in the words, and refuses exactly the words in which they read none. Want of memory is its one other answer. The
-//! rules are this project's profile (`docs/FORMATS.md`).
+//! What a user asks for: the words of the command line, and the commands of the debugger, read exactly. The crate stands on the kit's `clap`, whose
+//! contracts say which words a simple command takes and what it finds in them, on `vip_byte` for numbers and lines, on `vip_keypad` for the remarks
+//! that commands share with key scripts, and on `chip8_lang` for the name of an edition; it reads no file and knows no board. The layer above may
+//! rely on `read_words`: it answers exactly the request that the rules of `specs/Rules.antt`, `specs/Table.antt` and `specs/Asked.antt` read in the
+//! words, and refuses exactly the words in which they read none. It may rely on `read_commands`: its answer is the list of the commands that a text
+//! says, in order, or its first fault, exactly as `specs/DebugGrammar.antt` says. Want of memory is the one other answer of each. The rules are
+//! this project's profile (`docs/FORMATS.md`).
 //!
 //! ```text
 //!     words ──▶ the verb's usage ──▶ each word is plain or an option of it ──▶ clap ──▶ its numbers ──▶ Request
@@ -22,17 +24,23 @@
 //! | an address is hexadecimal and at most FFFF | `vip_byte` |
 //! | a program has one of `--rom` and `--ram`, and none of `--tall`, `--screen` and `--at` | `src/request.rt` |
 //!
-//! One `clap` command serves all verbs with as many positional words: it has every option, and a word that is an option of another verb
-//! doesn't come to it. So a verb is added by its line in the two tables (`src/table.rt`, `specs/Table.antt`), its variant and what its
-//! words ask for; an option of a verb, by its name in the verb's lines. A new option that takes no word is one name more among the flags
-//! (`src/command.rt`, `specs/Command.antt`), one field of what is given, and a line in each lemma on flags.
+//! One `clap` command serves all verbs with as many positional words: it has every option, and a word that is an option of another verb doesn't
+//! come to it. So a verb is added by its line in the two tables (`src/table.rt`, `specs/Table.antt`), its variant and what its words ask for; an
+//! option of a verb, by its name in the verb's lines. A new option that takes no word is one name more among the flags (`src/command.rt`,
+//! `specs/Command.antt`), one field of what is given, and a line in each lemma on flags.
 #![tactic(auto)]
 
 mod command;
+mod debug_commands;
+mod debug_line;
 mod given;
 mod request;
 mod table;
 
+pub use debug_commands::{
+    Command, CommandCause, CommandFault, Commands, Running, Seeking, Showing, Speaks, Telling,
+    read_commands,
+};
 pub use given::WordsFail;
 pub use request::{
     AsmRequest, CertifyRequest, CyclesRequest, DebugProgramRequest, DebugRequest, DemoRequest,

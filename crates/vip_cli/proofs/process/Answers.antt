@@ -1,5 +1,5 @@
 use Rattle.std.proofs.Common.{◌∙◌, ap}
-use Rattle.vip_report.specs.Status.{status_number}
+use Rattle.vip_tools.specs.Status.{status_number}
 use Rattle.vip_cli.proofs.ProcessLemmas.{runs, refuses}
 use Rattle.vip_cli.proofs.process.Goals as goal
 

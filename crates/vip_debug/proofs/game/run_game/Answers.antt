@@ -1,8 +1,8 @@
 use Rattle.std.proofs.Common.{sym, subst}
 use Rattle.vip_relation.specs.State.{VipState}
-use Rattle.vip_monitor.specs.Run.{Run}
-use Rattle.vip_monitor.specs.Commands.{came}
-use Rattle.vip_monitor.specs.Parts.{Arrives, HasMoved, IsShown}
+use Rattle.vip_debug.specs.TargetRun.{Run}
+use Rattle.vip_debug.specs.Commands.{came}
+use Rattle.vip_debug.specs.BoardParts.{Arrives, HasMoved, IsShown}
 use Rattle.vip_debug.specs.Game.{Leads, run_at}
 use Rattle.vip_debug.proofs.Moving.{from-game, game-stays, run-here}
 use Rattle.vip_debug.proofs.game.run_game.Goals as goal

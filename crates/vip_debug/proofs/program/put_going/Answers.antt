@@ -2,10 +2,10 @@ use Rattle.std.proofs.Common.{◌≡◌, ◌∙◌, refl, sym, ap₂, subst}
 use Rattle.vip_outside.specs.Pieces.{StreamAnswers}
 use Rattle.vip_outside.proofs.PiecesLemmas.{StreamAnswers-one}
 use Rattle.vip_program.specs.Trace.{sleeps}
-use Rattle.vip_monitor.specs.Run.{run_from, state_of}
-use Rattle.vip_monitor.specs.Commands.{came}
-use Rattle.vip_monitor.specs.Answered.{completed_lines}
-use Rattle.vip_monitor.proofs.Moving.{fits, lines-completed}
+use Rattle.vip_debug.specs.TargetRun.{run_from, state_of}
+use Rattle.vip_debug.specs.Commands.{came}
+use Rattle.vip_debug.specs.Answered.{completed_lines}
+use Rattle.vip_debug.proofs.TargetMoving.{fits, lines-completed}
 use Rattle.vip_debug.specs.Programs.{ended_lines, gone_lines, comes_to}
 use Rattle.vip_debug.proofs.Sleeping.{ended-idle, ended-goes, ended-early, one-answers, stands-there}
 use Rattle.vip_debug.proofs.program.put_going.Goals as goal

@@ -1,6 +1,6 @@
 use Rattle.std.proofs.Common.{subst, ap, ◌∙◌, ◌++◌}
 use Rattle.vip_outside.specs.Sink.{PutAnswers}
-use Rattle.vip_monitor.proofs.Lines.{joined-3}
+use Rattle.vip_debug.proofs.Lines.{joined-3}
 use Rattle.vip_debug.proofs.program.put_idle.Goals as goal
 
 pub returns : goal.returns

@@ -1,9 +1,9 @@
 use Rattle.std.proofs.Common.{sym, subst}
 use Rattle.vip_board.specs.Seen.{Seen}
 use Rattle.vip_program.specs.Trace.{sleeps}
-use Rattle.vip_monitor.specs.Run.{run_from}
-use Rattle.vip_monitor.specs.Commands.{came}
-use Rattle.vip_monitor.specs.Parts.{Arrives}
+use Rattle.vip_debug.specs.TargetRun.{run_from}
+use Rattle.vip_debug.specs.Commands.{came}
+use Rattle.vip_debug.specs.BoardParts.{Arrives}
 use Rattle.vip_debug.proofs.Sleeping.{program-stays}
 use Rattle.vip_debug.proofs.program.run_program.Goals as goal
 

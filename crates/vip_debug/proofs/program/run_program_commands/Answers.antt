@@ -1,7 +1,7 @@
 use Rattle.std.proofs.Common.{◌∙◌, sym, ap, subst}
 use Rattle.std.proofs.lemmas.List.{take_more}
 use Rattle.vip_program.specs.Trace.{end_at}
-use Rattle.vip_monitor.proofs.Folding.{split-at, all-taken}
+use Rattle.vip_debug.proofs.TargetFolding.{split-at, all-taken}
 use Rattle.vip_debug.specs.Programs.{ProgramAnswers}
 use Rattle.vip_debug.proofs.Sleeping.{Ran, ran-more, ran-fails, program-fails}
 use Rattle.vip_debug.proofs.program.run_program_commands.Goals as goal

@@ -1,9 +1,9 @@
 use Rattle.std.proofs.Common.{◌∙◌, sym, subst}
 use Rattle.vip_outside.specs.Pieces.{StreamAnswers}
 use Rattle.vip_outside.proofs.PiecesLemmas.{StreamAnswers-one}
-use Rattle.vip_monitor.specs.Answered.{completed_lines}
-use Rattle.vip_monitor.specs.Commands.{came}
-use Rattle.vip_monitor.proofs.Moving.{fits, lines-completed}
+use Rattle.vip_debug.specs.Answered.{completed_lines}
+use Rattle.vip_debug.specs.Commands.{came}
+use Rattle.vip_debug.proofs.TargetMoving.{fits, lines-completed}
 use Rattle.vip_debug.specs.Game.{run_at}
 use Rattle.vip_debug.specs.Answers.{begun, place_of, ran}
 use Rattle.vip_debug.proofs.Answering.{writes-stop, writes-lines, writes-end}

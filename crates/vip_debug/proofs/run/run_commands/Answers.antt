@@ -3,7 +3,7 @@ use Rattle.std.proofs.lemmas.List.{take_more}
 use Rattle.vip_board.specs.Seen.{Seen}
 use Rattle.vip_debug.specs.declared.run.DebugEnd.TheVariants.{Done, Stopped, WriteFault}
 use Rattle.vip_debug.specs.Answers.{begun, place_of, DebugAnswers}
-use Rattle.vip_monitor.proofs.Folding.{split-at, all-taken}
+use Rattle.vip_debug.proofs.TargetFolding.{split-at, all-taken}
 use Rattle.vip_debug.proofs.Folding.{Debugs, debugs-next, debugs-fail, debugged-done, debugged-stop}
 use Rattle.vip_debug.proofs.run.run_commands.Goals as goal
 

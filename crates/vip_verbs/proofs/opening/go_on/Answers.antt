@@ -1,5 +1,5 @@
 use Rattle.std.proofs.Common.{Ok, subst}
-use Rattle.vip_state.proofs.OneAnswer.{accepted_or_not}
+use Rattle.vip_show.proofs.OneAnswer.{accepted_or_not}
 use Rattle.vip_tools.specs.Contents.{script_list}
 use Rattle.vip_tools.proofs.WorkLemmas.{passed}
 use Rattle.vip_verbs.specs.Opening.{ResumeAnswers}

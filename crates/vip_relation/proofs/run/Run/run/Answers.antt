@@ -5,7 +5,7 @@ use Rattle.vip_board.specs.Moves.{moved_by, Passes}
 use Rattle.vip_board.specs.Seen.{Seen}
 use Rattle.vip_board.proofs.Through.{phase-by}
 use Rattle.vip_video.specs.Chip.{Chip}
-use Rattle.vip_relation.specs.Interpreters.{interpreter_of}
+use Rattle.chip8_image.specs.Interpreters.{interpreter_of}
 use Rattle.vip_relation.specs.State.{VipState, interpreter, events_waiting}
 use Rattle.vip_relation.specs.Parts.{Runs}
 use Rattle.vip_relation.specs.Waiting.{waits_by}

@@ -10,7 +10,7 @@ use Rattle.vip_memory.specs.Contents.{loaded}
 use Rattle.vip_video.specs.Chip.{nothing_yet}
 use Rattle.vip_relation.specs.Follows.{Follows}
 use Rattle.vip_relation.specs.Kept.{by_run, named}
-use Rattle.vip_relation.specs.Interpreters.{interpreter_of}
+use Rattle.chip8_image.specs.Interpreters.{interpreter_of}
 use Rattle.vip_relation.specs.Meets.{HasStopped}
 use Rattle.vip_relation.specs.Points.{point_of}
 use Rattle.vip_relation.specs.State.{VipState, events_waiting, started}

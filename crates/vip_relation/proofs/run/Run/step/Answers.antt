@@ -7,7 +7,7 @@ use Rattle.vip_board.specs.Shown.{CarriesOn}
 use Rattle.vip_board.specs.declared.board.Move.{Move}
 use Rattle.vip_board.specs.declared.board.Moved.TheVariants.{End, Done}
 use Rattle.vip_video.specs.Chip.{Chip}
-use Rattle.vip_relation.specs.Interpreters.{interpreter_of}
+use Rattle.chip8_image.specs.Interpreters.{interpreter_of}
 use Rattle.vip_relation.specs.State.{VipState, interpreter, events_waiting, most_cycles}
 use Rattle.vip_relation.specs.Parts.{Steps}
 use Rattle.vip_relation.specs.Points.{point_of}

@@ -1,0 +1,5 @@
+use Rattle.rom_board.proofs.Speaking.{every_board}
+use Rattle.rom_board.proofs.language.every_board.Goals as goal
+
+pub returns : goal.returns
+returns c = every_board c.every_state.ensures c.every_run.ensures

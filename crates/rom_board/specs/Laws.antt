@@ -1,0 +1,54 @@
+-- What holds of every machine that runs a game.
+use Rattle.std.specs.Prelude.{ℕ, ◌<◌, ◌≤◌, List, length, slice_index}
+use Rattle.machine.specs.Board.{Machine}
+use Rattle.machine.specs.Keys.{Event as KeyEvent}
+use Rattle.chip8_lang.specs.declared.view.Edition.{Edition}
+use Rattle.chip8_lang.specs.State.{memory_size}
+use Rattle.rom_run.specs.States.{MayStart}
+use Rattle.vip_relation.specs.Follows.{Follows}
+use Rattle.vip_relation.specs.Meets.{HasStopped, MeetsNext}
+use Rattle.vip_relation.specs.State.{VipState, events_left}
+use Rattle.vip_relation.specs.declared.run.Met.{Met}
+use Rattle.rom_board.specs.Answers.{GoesOnFrom, Speaks, last_met}
+use Rattle.rom_board.specs.Boards.{IsKnown}
+use Rattle.rom_board.specs.Program.{IsRun, IsRunBehind, numbered}
+
+-- the run of each game that fits is one of CHIP-8, under every script and up to every limit
+abbrev pub EveryRun : Type 0
+EveryRun =
+    (e : Edition) (game : List ℕ)
+    → length game ≤ memory_size e
+    → ((i : ℕ) → slice_index game i < 256)
+    → (script : List KeyEvent) (limit : ℕ)
+    → IsRun e game script limit numbered
+
+-- and so is the run from each machine that may start, behind the language state that lies in it
+abbrev pub EveryStart : Type 0
+EveryStart =
+    (e : Edition) (b : Machine)
+    → MayStart e b
+    → (script : List KeyEvent) (limit : ℕ)
+    → IsRunBehind e b script limit numbered
+
+-- after every call the board is known
+abbrev pub EveryBoard : Type 0
+EveryBoard = (v : VipState) → Follows v → IsKnown v
+
+-- the events that are left are those of a run of CHIP-8 from the last dispatch point met on
+abbrev pub EveryEvent : Type 0
+EveryEvent =
+    (v : VipState) (limit : ℕ)
+    → Follows v
+    → (HasStopped v → ⊥)
+    → v.board.machine.cycle ≤ limit
+    → GoesOnFrom v limit (last_met v) (events_left v limit)
+
+-- so each answer of `advance` says what comes next in such a run
+abbrev pub EveryAnswer : Type 0
+EveryAnswer =
+    (limit : ℕ) (old new : VipState) (met : Met)
+    → Follows old
+    → (HasStopped old → ⊥)
+    → old.board.machine.cycle ≤ limit
+    → MeetsNext limit old new (events_left old limit) met
+    → Speaks old limit new (last_met old) met

@@ -1,0 +1,47 @@
+//! What a machine that runs a game is to the language, each law the contract of a function without parameters.
+
+ghost use Rattle.rom_board.specs.Laws.{EveryAnswer, EveryBoard, EveryEvent, EveryRun, EveryStart};
+
+/// The run of every game that fits into game memory, under every key script and up to every limit, is a run of CHIP-8: its first event is a dispatch
+/// point of the game's first state; each next one comes by one step of the language, with the timer ticks and the keys of the cycles between, within
+/// the bound of the state before it, and a wait for a key within a frame's cycles of all keys up behind a frame's of one down; its pictures are
+/// those of all frames in turn, each the screen at the last dispatch point before it; and a stop is that of the last state.
+pub fn every_run()
+    ensures { EveryRun }
+{
+    rom_run::laws::every_run();
+}
+
+/// The run from every machine state that may start, under every key script and up to every limit, is a run of CHIP-8 from the language state that lies in
+/// it on.
+pub fn every_start()
+    ensures { EveryStart }
+{
+    rom_run::laws::from_any_start();
+}
+
+/// After every call the board of a machine that runs a game is in boot; or what is known of a running interpreter holds of it, with the record of its
+/// moves since the last dispatch point; or it is at the stop point, with the stop of the state of which `last` tells.
+pub fn every_board()
+    ensures { EveryBoard }
+{
+    rom_run::laws::every_state();
+    every_run();
+}
+
+/// Where no stop was met, the events that are left up to a limit are those of a run of CHIP-8 from the last dispatch point met on, whose view and
+/// screen are `last` and `shown`, or from reset where none was met.
+pub fn every_event()
+    ensures { EveryEvent }
+{
+    every_run();
+}
+
+/// So each answer of `advance` says what comes next in that run: a dispatch point stands for the state that comes from the last one by one step, in
+/// time; a picture is the screen of the last one; a stop is that of the last one, and names its pc and opcode; and where the limit comes first, the
+/// next point wouldn't be too late yet.
+pub fn every_answer()
+    ensures { EveryAnswer }
+{
+    every_event();
+}

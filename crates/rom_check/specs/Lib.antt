@@ -1,3 +1,0 @@
-pub mod Compared
-pub mod Faults
-pub mod Made

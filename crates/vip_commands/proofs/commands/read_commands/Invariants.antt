@@ -1,7 +1,0 @@
-use Rattle.std.proofs.Common.{map}
-use Rattle.vip_byte.proofs.ReadingLemmas.{IsReadUpTo}
-use Rattle.vip_commands.specs.Grammar.{command_format}
-use Rattle.vip_commands.proofs.commands.read_commands.Given as goal
-
-abbrev pub invariant-loop-line : goal.invariant-loop-line
-invariant-loop-line l = IsReadUpTo (command_format l.speaks l.limit) l.text (map (λ line. line.now) l.yielded) l.line-iterator l.list.items l.number

@@ -1,0 +1,31 @@
+-- What the commands write that speak of the machine, whatever runs on it: each line is a piece of its own.
+use Rattle.std.specs.Prelude.{ℕ, ◌-◌, List, [], ◌∷◌, ◌++◌}
+use Rattle.machine.specs.Board.{Machine, byte_of}
+use Rattle.machine.specs.Keys.{held_at}
+use Rattle.vip_byte.specs.Text.{newline}
+use Rattle.vip_words.specs.declared.debug_commands.Running.{Running}
+use Rattle.vip_words.specs.declared.debug_commands.Running.TheVariants.{Watch}
+use Rattle.vip_words.specs.declared.debug_commands.Showing.{Showing}
+use Rattle.vip_words.specs.declared.debug_commands.Showing.TheVariants.{Regs, Mem, Dis, List as Listed}
+use Rattle.vip_debug.specs.declared.bytes.Layout.TheVariants.{Source, Listing}
+use Rattle.vip_debug.specs.TargetRun.{Run, state_of}
+use Rattle.vip_program.specs.Lines.{line_of}
+use Rattle.vip_debug.specs.Commands.{bytes_at}
+use Rattle.vip_debug.specs.BoardShown.{cycle_text, regs_lines, mem_lines, instruction_lines}
+
+-- what has changed by the k-th move: the line of that move, then the bytes before and after
+abbrev pub change_lines : Run → ℕ → ℕ → ℕ → List (List ℕ)
+change_lines r address count k =
+    line_of r.rom (held_at r.script) (state_of r (k - 1) ∷ []) ∷ mem_lines (bytes_at r 0) address count ++ mem_lines (bytes_at r k) address count
+
+-- a command that ran up to the k-th move and is completed: the cycle, or what has changed
+abbrev pub completed_lines : Run → Running → ℕ → List (List ℕ)
+completed_lines r (Watch address count) k = change_lines r address count k
+completed_lines r running k = (cycle_text (state_of r k) ++ newline) ∷ []
+
+-- a command that shows what a machine holds, with a ROM
+abbrev pub shown : List ℕ → Machine → Showing → List (List ℕ)
+shown rom b Regs = regs_lines b
+shown rom b (Mem address count) = mem_lines (byte_of rom b) address count
+shown rom b (Dis address count) = instruction_lines (byte_of rom b) Source address count
+shown rom b (Listed address count) = instruction_lines (byte_of rom b) Listing address count

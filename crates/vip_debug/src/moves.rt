@@ -1,0 +1,138 @@
+//! The commands that run the board.
+
+ghost use Rattle.std.specs.Prelude.{◌≡◌, ◌≤◌, nat_le, true};
+ghost use Rattle.vip_cpu.specs.declared.cpu.Phase.{Phase};
+ghost use Rattle.vip_debug.specs.TargetRun.{run_from};
+ghost use Rattle.vip_debug.specs.Commands.{after_steps, at_address, at_change, at_cycle, came, starts_at};
+ghost use Rattle.vip_debug.specs.BoardParts.{Arrives, HasMoved, IsChange, IsShown};
+
+use crate::bytes::{Stretch, read_stretch};
+use crate::target::Target;
+use vip_board::{Board, Moved};
+use vip_byte::{Buffer, MOST_CYCLE};
+use vip_program::move_text;
+use vip_words::Running;
+
+/// Makes so many moves, or those up to the limit and the end of the run. Answers whether it made all.
+fn make_moves<T: Target>(target: &mut T, moves: u32, limit: u64) -> bool
+    requires boundary { (T.seen target.old).phase ≡ Phase.Boundary }
+    requires limit { limit ≤ MOST_CYCLE }
+    requires within { (T.seen target.old).machine.cycle ≤ limit }
+    ensures comes { let r = run_from (T.ends target.old) (T.seen target.old) in Arrives limit r (after_steps r limit moves) (T.seen target.new) result }
+    ensures moved { let r = run_from (T.ends target.old) (T.seen target.old) in HasMoved T.leads (after_steps r limit moves).moves target.old target.new }
+{
+    for _move in 0..moves {
+        if let Moved::End = target.one_move(limit) {
+            return false;
+        }
+    }
+    true
+}
+
+/// Makes the moves that end at or before a cycle, up to the limit and the end of the run. A cycle in the past makes none.
+fn move_to_cycle<T: Target>(target: &mut T, cycle: u64, limit: u64)
+    requires boundary { (T.seen target.old).phase ≡ Phase.Boundary }
+    requires limit { limit ≤ MOST_CYCLE }
+    requires within { (T.seen target.old).machine.cycle ≤ limit }
+    ensures comes { let r = run_from (T.ends target.old) (T.seen target.old) in Arrives limit r (at_cycle r limit cycle) (T.seen target.new) (nat_le cycle limit) }
+    ensures moved { let r = run_from (T.ends target.old) (T.seen target.old) in HasMoved T.leads (at_cycle r limit cycle).moves target.old target.new }
+{
+    let last = cycle.min(limit);
+    while let Moved::Done(_) = target.one_move(last) {}
+}
+
+/// Whether the next move is the instruction at an address. The board is at a boundary.
+fn starts_at(board: &Board, address: u16) -> bool
+    requires { board.now.phase ≡ Phase.Boundary }
+    ensures { result ≡ starts_at address board.now.machine }
+{
+    let cpu = board.cpu();
+    board.next_is_instruction() && cpu.r(cpu.p()) == address
+}
+
+/// Makes at least one move, and moves until the next one is the instruction at an address, up to the limit and the end of the run. Answers
+/// whether it came there.
+fn move_to_address<T: Target>(target: &mut T, address: u16, limit: u64) -> bool
+    requires boundary { (T.seen target.old).phase ≡ Phase.Boundary }
+    requires limit { limit ≤ MOST_CYCLE }
+    requires within { (T.seen target.old).machine.cycle ≤ limit }
+    ensures comes { let r = run_from (T.ends target.old) (T.seen target.old) in Arrives limit r (at_address r limit address) (T.seen target.new) result }
+    ensures moved { let r = run_from (T.ends target.old) (T.seen target.old) in HasMoved T.leads (at_address r limit address).moves target.old target.new }
+{
+    while let Moved::Done(_) = target.one_move(limit) {
+        if starts_at(target.board(), address) {
+            return true;
+        }
+    }
+    false
+}
+
+/// What a change of memory is shown by: the line of the move that made it, and the bytes that are watched, before and after.
+#[derive(Drop)]
+pub struct Change {
+    pub line: Buffer,
+    pub before: Stretch,
+    pub after: Stretch,
+}
+
+impl Change {
+    /// With nothing in it.
+    pub fn new() -> Change {
+        Change {
+            line: Buffer::new(),
+            before: Stretch::new(),
+            after: Stretch::new(),
+        }
+    }
+}
+
+/// Makes at least one move, and moves until one of so many bytes from an address on has changed, up to the limit and the end of the run.
+/// Answers whether one has; what shows it is then in `change`.
+fn move_to_change<T: Target>(
+    target: &mut T,
+    address: u16,
+    count: u32,
+    limit: u64,
+    change: &mut Change,
+) -> bool
+    requires boundary { (T.seen target.old).phase ≡ Phase.Boundary }
+    requires limit { limit ≤ MOST_CYCLE }
+    requires within { (T.seen target.old).machine.cycle ≤ limit }
+    ensures comes { let r = run_from (T.ends target.old) (T.seen target.old) in Arrives limit r (at_change r limit address count) (T.seen target.new) result }
+    ensures moved { let r = run_from (T.ends target.old) (T.seen target.old) in HasMoved T.leads (at_change r limit address count).moves target.old target.new }
+    ensures shown { let r = run_from (T.ends target.old) (T.seen target.old) in result ≡ true → IsChange r address count (at_change r limit address count).moves change.new }
+{
+    read_stretch(target.board().memory(), address, count, &mut change.before);
+    loop {
+        change.line.clear();
+        move_text(target.board(), &mut change.line);
+        if let Moved::End = target.one_move(limit) {
+            return false;
+        }
+        read_stretch(target.board().memory(), address, count, &mut change.after);
+        if change.before.as_slice() != change.after.as_slice() {
+            return true;
+        }
+    }
+}
+
+/// Runs a board as a command says, up to the limit and the end of its run. Answers whether the command is completed; what shows it then besides
+/// the board is in `change`.
+pub fn go<T: Target>(target: &mut T, running: Running, limit: u64, change: &mut Change) -> bool
+    requires boundary { (T.seen target.old).phase ≡ Phase.Boundary }
+    requires limit { limit ≤ MOST_CYCLE }
+    requires within { (T.seen target.old).machine.cycle ≤ limit }
+    ensures comes { let r = run_from (T.ends target.old) (T.seen target.old) in Arrives limit r (came r limit running) (T.seen target.new) result }
+    ensures moved { let r = run_from (T.ends target.old) (T.seen target.old) in HasMoved T.leads (came r limit running).moves target.old target.new }
+    ensures shown { let r = run_from (T.ends target.old) (T.seen target.old) in result ≡ true → IsShown running r (came r limit running).moves change.new }
+{
+    match running {
+        Running::Step(moves) => make_moves(target, moves, limit),
+        Running::To(cycle) => {
+            move_to_cycle(target, cycle, limit);
+            cycle <= limit
+        }
+        Running::At(address) => move_to_address(target, address, limit),
+        Running::Watch(address, count) => move_to_change(target, address, count, limit, change),
+    }
+}

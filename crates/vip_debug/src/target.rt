@@ -1,0 +1,37 @@
+//! What the commands make moves of.
+
+ghost use Rattle.std.specs.Prelude.{◌≡◌, ◌+◌, ◌≤◌, ◌↔◌, ℕ, Bool};
+ghost use Rattle.machine.specs.Board.{Machine};
+ghost use Rattle.vip_board.specs.Moves.{IfDone, moved};
+ghost use Rattle.vip_board.specs.Seen.{Seen};
+ghost use Rattle.vip_cpu.specs.declared.cpu.Phase.{Phase};
+ghost use Rattle.vip_debug.specs.TargetRun.{Rests};
+
+use vip_board::{Board, Moved};
+use vip_byte::MOST_CYCLE;
+
+/// A board that goes along a run, move by move, up to an end of the run.
+pub trait Target {
+    // the board, and the states at which its run ends
+    ghost seen: { Self → Seen };
+
+    ghost ends: { Self → Machine → Bool };
+
+    // so many moves lead from the first to the second, and what it keeps beside the board has come along
+    ghost leads: { ℕ → Self → Self → Type 0 };
+
+    /// The board.
+    fn board(&self) -> &Board
+        ensures { result.now ≡ seen self.now };
+
+    /// Makes the next move and names it. `End` comes exactly where the run has ended or the move would end after cycle `limit`, and changes
+    /// nothing.
+    fn one_move(&mut self, limit: u64) -> Moved
+        requires boundary { (seen self.old).phase ≡ Phase.Boundary }
+        requires limit { limit ≤ MOST_CYCLE }
+        ensures end { (result ≡ Moved.End) ↔ Rests (ends self.old) limit (seen self.old) }
+        ensures kept { result ≡ Moved.End → self.new ≡ self.old }
+        ensures moved { IfDone result (λ _. (seen self.new ≡ moved (seen self.old)) × (ends self.new ≡ ends self.old) × leads 1 self.old self.new) };
+
+    ghost leads_on: { (j k : ℕ) (a b c : Self) → leads j a b → leads k b c → leads (j + k) a c };
+}

@@ -1,4 +1,0 @@
-pub mod Program
-pub mod Boards
-pub mod Answers
-pub mod Laws

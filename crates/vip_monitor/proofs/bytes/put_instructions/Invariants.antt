@@ -1,6 +1,0 @@
-use Rattle.vip_monitor.specs.Parts.{reads}
-use Rattle.vip_monitor.proofs.Disassembling.{Disassembles}
-use Rattle.vip_monitor.proofs.bytes.put_instructions.Given as goal
-
-abbrev pub invariant-loop-line : goal.invariant-loop-line
-invariant-loop-line g l = Disassembles l.layout (reads l.memory) l.address l.count (g.O.Sink.meaning l.fn.out) (g.O.Sink.meaning l.out) l.at l._line

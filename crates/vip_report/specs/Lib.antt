@@ -1,4 +1,0 @@
-pub mod Status
-pub mod Refusal
-pub mod Report
-pub mod Reported

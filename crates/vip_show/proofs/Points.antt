@@ -1,0 +1,89 @@
+-- The points among the events of a run, and the rest of a run behind a dispatch point.
+use Rattle.std.proofs.Common.{◌≡◌, ℕ, suc, ◌≤◌, ◌&&◌, Bool, true, false, List, [], ◌∷◌, ◌++◌, map, filter, ◌-◌, refl, sym, ap, ◌∙◌, subst, arith}
+use Rattle.std.specs.Prelude.{if◌then◌else◌, ◌==◌}
+use Rattle.machine.specs.Instruction.{at}
+use Rattle.machine.specs.Board.{Machine, case_of, move}
+use Rattle.machine.specs.Keys.{Event as KeyEvent, held_at}
+use Rattle.machine.specs.Pictures.{is_shown, windows_ended}
+use Rattle.machine.specs.Run.{run_to}
+use Rattle.machine.proofs.Runs.{later-move}
+use Rattle.chip8_lang.specs.declared.view.Edition.{Edition}
+use Rattle.chip8_lang.specs.declared.view.Edition.TheVariants.{Usual, Tall}
+use Rattle.chip8_lang.specs.Events.{Event, is_dispatch, is_stop, is_instruction, events_at, events_of, game_run, numbers_from}
+use Rattle.chip8_lang.specs.Events.Event.{Picture, Dispatch, Stopped}
+use Rattle.chip8_lang.specs.Places.{Interpreter}
+use Rattle.rom_law.specs.Language.{events_behind}
+use Rattle.rom_rows.specs.Rom.{vip}
+use Rattle.chip8_image.specs.Interpreters.{interpreter_of}
+use Rattle.vip_relation.proofs.Past.{past, state, Runs, events-last, events-on}
+use Rattle.vip_show.specs.Points.{points_at, points_behind, points_of}
+use Rattle.vip_show.specs.Laws.{GoesOnWithRun}
+
+pub points_of-append : (xs ys : List Event) → points_of (xs ++ ys) ≡ points_of xs ++ points_of ys
+points_of-append [] ys = refl
+points_of-append (Picture m ∷ xs) ys = points_of-append xs ys
+points_of-append (Dispatch b ∷ xs) ys = ap (λ ps. Dispatch b ∷ ps) (points_of-append xs ys)
+points_of-append (Stopped b ∷ xs) ys = ap (λ ps. Stopped b ∷ ps) (points_of-append xs ys)
+
+points_of-pictures : (ms : List ℕ) (es : List Event) → points_of (map Picture ms ++ es) ≡ points_of es
+points_of-pictures [] es = refl
+points_of-pictures (m ∷ ms) es = points_of-pictures ms es
+
+here : (stop dispatch : Bool) (b : Machine) (es ps : List Event) → points_of es ≡ ps
+    → points_of (if stop then Stopped b ∷ [] else if dispatch then Dispatch b ∷ es else es) ≡
+    (if stop then Stopped b ∷ [] else if dispatch then Dispatch b ∷ ps else ps)
+here true dispatch b es ps h = refl
+here false true b es ps h = ap (λ xs. Dispatch b ∷ xs) h
+here false false b es ps h = h
+
+module _ (i : Interpreter) (run : List Machine) where
+  pub points_of-events_at : (before : ℕ) (bs : List Machine) → points_of (events_at i run before bs) ≡ points_at i bs
+  points_of-events_at before [] = refl
+  points_of-events_at before (b ∷ bs) =
+      points_of-pictures (filter (is_shown i.rom run) (numbers_from (windows_ended before) (windows_ended b.cycle - windows_ended before)))
+      (if is_stop i b then Stopped b ∷ [] else if is_dispatch i b then Dispatch b ∷ events_at i run b.cycle bs else events_at i run b.cycle bs)
+      ∙ here (is_stop i b) (is_dispatch i b) b (events_at i run b.cycle bs) (points_at i bs) (points_of-events_at b.cycle bs)
+
+pub same_interpreter : (e : Edition) → (vip e).interpreter ≡ interpreter_of e
+same_interpreter Usual = refl
+same_interpreter Tall = refl
+
+pub points_of-behind : (e : Edition) (script : List KeyEvent) (b : Machine) (limit : ℕ)
+    → points_of (events_behind (vip e).interpreter script b limit) ≡ points_behind (interpreter_of e) script b limit
+unfolding points_behind
+points_of-behind e script b limit =
+    points_of-events_at (vip e).interpreter _ b.cycle _
+    ∙ ap (λ (i : Interpreter). points_behind i script b limit) (same_interpreter e)
+
+-- a dispatch point is no stop point
+either_point : (s p q : Bool) (n : ℕ) → ((s && n == 4) && p) ≡ true → ((s && n == 3) && q) ≡ false
+either_point true p q n h = grind arith
+either_point false p q n h = refl
+
+pub no-stop : (i : Interpreter) (b : Machine) → is_dispatch i b ≡ true → is_stop i b ≡ false
+no-stop i b h = either_point (is_instruction (case_of b)) (at b.regs 4 == i.fetch) (at b.regs 3 == i.halt) b.regs.p h
+
+-- ---- the rest of a run
+
+-- the events of a run behind its n-th state
+module _ (i : Interpreter) (game : List ℕ) (script : List KeyEvent) where
+  rest : (n limit : ℕ) → Runs i game script n → is_stop i (state i game script n) ≡ false → (state i game script n).cycle ≤ limit
+      → points_of (events_of i game script limit) ≡ points_of (events_of i game script (state i game script n).cycle) ++ points_behind i script
+      (state i game script n) limit
+  unfolding points_behind
+  rest n limit runs goes_on within =
+      let b : Machine = state i game script n in
+      ap points_of (events-on i game script limit n within goes_on runs)
+      ∙ points_of-append (past i game script (suc n)) _
+      ∙ ap (λ ps. points_of (past i game script (suc n)) ++ ps)
+      (points_of-events_at i (game_run i game script limit) b.cycle (run_to i.rom (held_at script) (move i.rom (held_at script) b) limit))
+      ∙ ap (λ es. points_of es ++ points_at i (run_to i.rom (held_at script) (move i.rom (held_at script) b) limit))
+      (sym (events-last i game script b.cycle n (omega arith) (later-move i.rom (held_at script) b) runs))
+
+pub goes_on_with_run : GoesOnWithRun
+goes_on_with_run e game f script n limit runs dispatch is within =
+    let i : Interpreter = interpreter_of e in
+    subst (λ (b : Machine). b.cycle ≤ limit → points_of (events_of i game script limit) ≡ points_of (events_of i game script b.cycle) ++
+    points_behind i script b limit) (sym is)
+    (rest i game script n limit runs (no-stop i (state i game script n) dispatch))
+    within

@@ -1,0 +1,357 @@
+-- The rest of a run behind its last dispatch point, by the file that is saved there.
+use Rattle.std.proofs.Common.{◌≡◌, ℕ, zero, suc, ◌+◌, ◌<◌, ◌≤◌, Bool, true, false, List, [], ◌∷◌, ◌++◌, length, slice_index, refl, sym, ap, ◌∙◌, subst, arith, append-nil, append_assoc}
+use Rattle.std.specs.Prelude.{if◌then◌else◌, ◌-◌, nat_le, map, filter_map, filter, slice_get, Option, Some, None}
+use Rattle.std.specs.List.{flat_map}
+use Rattle.std.specs.Option.{option_map}
+use Rattle.std.proofs.lemmas.Bool.Decides.{nat_tests}
+use Rattle.std.proofs.lemmas.Grind.{flat_map-append}
+use Rattle.std.proofs.lemmas.List.Elements.{filter_map-append}
+use Rattle.machine.specs.Board.{Machine}
+use Rattle.machine.specs.Keys.{Event as KeyEvent, held_at}
+use Rattle.machine.specs.Pictures.{is_shown, windows_ended}
+use Rattle.machine.proofs.Runs.{later-move}
+use Rattle.chip8_lang.specs.declared.view.Edition.{Edition}
+use Rattle.chip8_lang.specs.Events.{Event, events_of, is_dispatch, is_stop, numbers_from}
+use Rattle.chip8_lang.specs.Events.Event.{Picture, Dispatch, Stopped}
+use Rattle.chip8_lang.specs.Places.{Interpreter}
+use Rattle.chip8_lang.specs.State.{memory_size}
+use Rattle.chip8_lang.specs.View.{view_at}
+use Rattle.rom_run.specs.States.{MayStart}
+use Rattle.vip_relation.specs.Follows.{dispatch_of, last_dispatch}
+use Rattle.chip8_image.specs.Interpreters.{interpreter_of}
+use Rattle.vip_relation.specs.Points.{point_of, point_events}
+use Rattle.vip_relation.specs.State.{most_cycles}
+use Rattle.vip_relation.specs.declared.point.Point.{Point}
+use Rattle.vip_relation.specs.declared.point.Point.TheVariants.{Dispatch as DispatchPoint, Stop as StopPoint, Other as OtherPoint}
+use Rattle.vip_relation.proofs.Meetings.{last-dispatched}
+use Rattle.vip_relation.proofs.Past.{state, earlier, before as cycle_before, past, pictures, point, Runs, events-last, events-stop}
+use Rattle.vip_show.specs.Endings.{ending_after, ending_of}
+use Rattle.vip_show.specs.Output.{trace_lines, trace_piece}
+use Rattle.vip_text.specs.StateFile.{shown}
+use Rattle.vip_show.specs.Laws.{IsRest, SavedGoesOn}
+use Rattle.vip_show.specs.Points.{points_of, points_behind}
+use Rattle.vip_show.specs.Written.{file_of}
+use Rattle.vip_show.proofs.Copied.{starts_by, shown-file_of, accepted-file_of}
+use Rattle.vip_show.proofs.ResumedGoing.{at-dispatch}
+use Rattle.vip_show.proofs.Points.{goes_on_with_run, no-stop, points_of-append}
+
+-- ---- what is written of events is that of their points
+
+-- the dispatch points among some events
+abbrev dispatches : List Event → List Machine
+dispatches = filter_map dispatch_of
+
+record_of : Edition → Bool → Machine → List (List ℕ)
+record_of e with_time b = trace_piece e with_time (Dispatch b)
+
+lines_by : (e : Edition) (with_time : Bool) (es : List Event) → trace_lines e with_time es ≡ flat_map (record_of e with_time) (dispatches es)
+unfolding trace_lines record_of
+lines_by e with_time [] = refl
+lines_by e with_time (Picture m ∷ es) = lines_by e with_time es
+lines_by e with_time (Dispatch b ∷ es) = ap (λ lines. trace_piece e with_time (Dispatch b) ++ lines) (lines_by e with_time es)
+lines_by e with_time (Stopped b ∷ es) = lines_by e with_time es
+
+lines_of_points : (e : Edition) (with_time : Bool) (es : List Event) → trace_lines e with_time (points_of es) ≡ trace_lines e with_time es
+unfolding trace_lines
+lines_of_points e with_time [] = refl
+lines_of_points e with_time (Picture m ∷ es) = lines_of_points e with_time es
+lines_of_points e with_time (Dispatch b ∷ es) = ap (λ lines. trace_piece e with_time (Dispatch b) ++ lines) (lines_of_points e with_time es)
+lines_of_points e with_time (Stopped b ∷ es) = lines_of_points e with_time es
+
+lines_append : (e : Edition) (with_time : Bool) (xs ys : List Event)
+    → trace_lines e with_time (xs ++ ys) ≡ trace_lines e with_time xs ++ trace_lines e with_time ys
+unfolding trace_lines
+lines_append e with_time xs ys = flat_map-append (trace_piece e with_time) xs ys
+
+pub ending_of_points : (e : Edition) (pc : ℕ) (opcode : Option ℕ) (es : List Event) → ending_after e pc opcode (points_of es) ≡ ending_after e pc opcode es
+unfolding ending_after
+ending_of_points e pc opcode [] = refl
+ending_of_points e pc opcode (Picture m ∷ es) = ending_of_points e pc opcode es
+ending_of_points e pc opcode (Dispatch b ∷ es) = ending_of_points e (view_at e b).pc (view_at e b).opcode es
+ending_of_points e pc opcode (Stopped b ∷ es) = refl
+
+-- ---- events without a stop
+
+NoStop : List Event → Type 0
+NoStop [] = Unit {0}
+NoStop (Picture m ∷ es) = NoStop es
+NoStop (Dispatch b ∷ es) = NoStop es
+NoStop (Stopped b ∷ es) = ⊥
+
+no_stop_append : (xs ys : List Event) → NoStop xs → NoStop ys → NoStop (xs ++ ys)
+unfolding NoStop
+no_stop_append [] ys h g = g
+no_stop_append (Picture m ∷ xs) ys h g = no_stop_append xs ys h g
+no_stop_append (Dispatch b ∷ xs) ys h g = no_stop_append xs ys h g
+no_stop_append (Stopped b ∷ xs) ys h g = absurd h
+
+no_stop_pictures : (ms : List ℕ) → NoStop (map Picture ms)
+unfolding NoStop
+no_stop_pictures [] = tt
+no_stop_pictures (m ∷ ms) = no_stop_pictures ms
+
+-- the ending behind a dispatch point before which there is no stop
+ending_behind : (e : Edition) (pc : ℕ) (opcode : Option ℕ) (xs : List Event) (b : Machine) (ys : List Event) → NoStop xs
+    → ending_after e pc opcode (xs ++ Dispatch b ∷ ys) ≡ ending_after e (view_at e b).pc (view_at e b).opcode ys
+unfolding ending_after NoStop
+ending_behind e pc opcode [] b ys none = refl
+ending_behind e pc opcode (Picture m ∷ xs) b ys none = ending_behind e pc opcode xs b ys none
+ending_behind e pc opcode (Dispatch c ∷ xs) b ys none = ending_behind e (view_at e c).pc (view_at e c).opcode xs b ys none
+ending_behind e pc opcode (Stopped c ∷ xs) b ys none = absurd none
+
+no_stop_points : (xs : List Event) → NoStop xs → NoStop (points_of xs)
+unfolding NoStop
+no_stop_points [] h = h
+no_stop_points (Picture m ∷ xs) h = no_stop_points xs h
+no_stop_points (Dispatch b ∷ xs) h = no_stop_points xs h
+no_stop_points (Stopped b ∷ xs) h = h
+
+-- ---- a run up to a limit
+
+module _ (i : Interpreter) (game : List ℕ) (script : List KeyEvent) where
+  abbrev at_state : ℕ → Machine
+  at_state n = state i game script n
+
+  one_more : (n : ℕ) → Runs i game script n → is_stop i (at_state n) ≡ false → Runs i game script (suc n)
+  one_more n runs here k below = by_test (nat_le n k) refl
+    where
+      by_test : (t : Bool) → nat_le n k ≡ t → is_stop i (at_state k) ≡ false
+      by_test true h =
+          let high : n ≤ k = grind (arith, nat_tests) in
+          let same : k ≡ n = omega (arith, high, below) in
+          ap (λ k. is_stop i (at_state k)) same ∙ here
+      by_test false h =
+          let low : k < n = grind (arith, nat_tests) in
+          runs k low
+
+  -- its last state: the events up to the limit are those of the states up to this one
+  record Reaches (limit : ℕ) : Type 0 where
+    n : ℕ
+    runs : Runs i game script n
+    within : (at_state n).cycle ≤ limit
+    events : events_of i game script limit ≡ past i game script (suc n)
+
+  reaches : (fuel n limit : ℕ) → Runs i game script n → (at_state n).cycle ≤ limit → limit < (at_state n).cycle + fuel → Reaches limit
+  reaches zero n limit runs within far = absurd (omega (arith, within, far))
+  reaches (suc fuel) n limit runs within far =
+      by_stop (λ goes_on next. reaches fuel (suc n) limit (one_more n runs goes_on) next (omega (arith, far, later))) (is_stop i (at_state n)) refl
+    where
+      later : (at_state n).cycle < (at_state (suc n)).cycle
+      later = later-move i.rom (held_at script) (at_state n)
+
+      by_limit : ((at_state (suc n)).cycle ≤ limit → Reaches limit) → (t : Bool) → nat_le (at_state (suc n)).cycle limit ≡ t → Reaches limit
+      by_limit further true h = further (grind (arith, nat_tests))
+      by_limit further false h =
+          let over : limit < (at_state (suc n)).cycle = grind (arith, nat_tests) in
+          record { n = n; runs = runs; within = within; events = events-last i game script limit n within over runs }
+
+      by_stop : (is_stop i (at_state n) ≡ false → (at_state (suc n)).cycle ≤ limit → Reaches limit) → (t : Bool) → is_stop i (at_state n) ≡ t → Reaches limit
+      by_stop further true h = record { n = n; runs = runs; within = within; events = events-stop i game script limit n within h runs }
+      by_stop further false h = by_limit (further h) (nat_le (at_state (suc n)).cycle limit) refl
+
+  from_reset : (limit : ℕ) → Reaches limit
+  from_reset limit = reaches (limit + 1) 0 limit (λ k below. absurd (omega (arith, below))) (omega arith) (omega arith)
+
+  -- ---- its last dispatch point
+
+  -- the frames whose pictures come at a state
+  abbrev frames : ℕ → List ℕ
+  frames n =
+      filter (is_shown i.rom (earlier i game script n))
+      (numbers_from (windows_ended (cycle_before i game script n)) (windows_ended (at_state n).cycle - windows_ended (cycle_before i game script n)))
+
+  no_stop_frames : (n : ℕ) → NoStop (pictures i game script n)
+  no_stop_frames n = no_stop_pictures (frames n)
+
+  no_stop_past : (n : ℕ) → Runs i game script n → NoStop (past i game script n)
+  unfolding past NoStop
+  no_stop_past zero runs = tt
+  no_stop_past (suc n) runs =
+      no_stop_append (past i game script n ++ pictures i game script n) (point i game script n)
+      (no_stop_append (past i game script n) (pictures i game script n) (no_stop_past n (λ k below. runs k (omega (arith, below)))) (no_stop_frames n))
+      (here (is_stop i (at_state n)) (is_dispatch i (at_state n)) (runs n (omega arith)))
+    where
+      here : (stop dispatch : Bool) → stop ≡ false
+          → NoStop (point_events (if stop then StopPoint else if dispatch then DispatchPoint else OtherPoint) (at_state n))
+      here true dispatch h = cc
+      here false true h = tt
+      here false false h = tt
+
+  no_dispatches : (ms : List ℕ) → dispatches (map Picture ms) ≡ []
+  no_dispatches [] = refl
+  no_dispatches (m ∷ ms) = no_dispatches ms
+
+  dispatches_next : (n : ℕ) → dispatches (past i game script (suc n)) ≡ dispatches (past i game script n) ++ dispatches (point i game script n)
+  unfolding past
+  dispatches_next n =
+      filter_map-append dispatch_of (past i game script n ++ pictures i game script n) (point i game script n)
+      ∙ ap (λ bs. bs ++ dispatches (point i game script n))
+      (filter_map-append dispatch_of (past i game script n) (pictures i game script n)
+      ∙ ap (λ none. dispatches (past i game script n) ++ none) (no_dispatches (frames n))
+      ∙ append-nil (dispatches (past i game script n)))
+
+  -- b is the last dispatch point of the first so many states, and that of the n-th state
+  record LastAt (m : ℕ) (b : Machine) : Type 0 where
+    n : ℕ
+    below : n < m
+    is : b ≡ at_state n
+    dispatch : is_dispatch i (at_state n) ≡ true
+    none : dispatches (past i game script m) ≡ dispatches (past i game script (suc n))
+
+  past_none : past i game script 0 ≡ []
+  unfolding past
+  past_none = refl
+
+  nowhere : (b : Machine) → last_dispatch [] ≡ Some b → ⊥
+  nowhere b h = cc
+
+  last_at : (m : ℕ) (b : Machine) → last_dispatch (past i game script m) ≡ Some b → LastAt m b
+  last_at zero b h = absurd (nowhere b (ap last_dispatch (sym past_none) ∙ h))
+  last_at (suc m) b h = by_point (last_at m b) (point_of i (at_state m)) refl
+    where
+      kept : (last_dispatch (past i game script m) ≡ Some b → LastAt m b) → dispatches (point i game script m) ≡ [] → LastAt (suc m) b
+      kept earlier_one nothing =
+          let same : dispatches (past i game script (suc m)) ≡ dispatches (past i game script m) =
+          dispatches_next m ∙ ap (λ bs. dispatches (past i game script m) ++ bs) nothing ∙ append-nil (dispatches (past i game script m)) in
+          let l : LastAt m b = earlier_one (ap (λ bs. slice_get bs (length bs - 1)) (sym same) ∙ h) in
+          record { n = l.n; below = omega (arith, l.below); is = l.is; dispatch = l.dispatch; none = same ∙ l.none }
+
+      here : Some b ≡ Some (at_state m) → b ≡ at_state m
+      here h = cc
+
+      past_here : point_of i (at_state m) ≡ DispatchPoint
+          → past i game script (suc m) ≡ (past i game script m ++ pictures i game script m) ++ Dispatch (at_state m) ∷ []
+      past_here is = unfold past in ap (λ p. past i game script m ++ pictures i game script m ++ point_events p (at_state m)) is
+
+      by_point : (last_dispatch (past i game script m) ≡ Some b → LastAt m b) → (p : Point) → point_of i (at_state m) ≡ p → LastAt (suc m) b
+      by_point earlier_one DispatchPoint is =
+          record {
+            n = m;
+            below = omega arith;
+            is = here (sym h ∙ ap last_dispatch (past_here is) ∙ last-dispatched (past i game script m ++ pictures i game script m) (at_state m));
+            dispatch = (at-dispatch i (at_state m) is).1;
+            none = refl;
+          }
+      by_point earlier_one StopPoint is = kept earlier_one (ap (λ p. dispatches (point_events p (at_state m))) is)
+      by_point earlier_one OtherPoint is = kept earlier_one (ap (λ p. dispatches (point_events p (at_state m))) is)
+
+  -- the cycles of the states rise
+  not_later : (n m : ℕ) → n < suc m → (at_state n).cycle ≤ (at_state m).cycle
+  not_later n zero below = let same : n ≡ 0 = omega (arith, below) in rw same (omega arith)
+  not_later n (suc m) below = by_test (not_later n m) (nat_le n m) refl
+    where
+      by_test : (n < suc m → (at_state n).cycle ≤ (at_state m).cycle) → (t : Bool) → nat_le n m ≡ t → (at_state n).cycle ≤ (at_state (suc m)).cycle
+      by_test so_far true h =
+          let low : n ≤ m = grind (arith, nat_tests) in
+          omega (arith, so_far (omega (arith, low)), later-move i.rom (held_at script) (at_state m))
+      by_test so_far false h =
+          let high : m < n = grind (arith, nat_tests) in
+          let same : n ≡ suc m = omega (arith, high, below) in
+          rw same (omega arith)
+
+-- ---- the rest of a run
+
+module _ (e : Edition) (game : List ℕ) (small : length game ≤ memory_size e) (bytes : (k : ℕ) → slice_index game k < 256) (script : List KeyEvent)
+    (limit : ℕ) (low : limit ≤ most_cycles) (b : Machine) (last : last_dispatch (events_of (interpreter_of e) game script limit) ≡ Some b) where
+  abbrev i : Interpreter
+  i = interpreter_of e
+
+  r : Reaches i game script limit
+  r = from_reset i game script limit
+
+  l : LastAt i game script (suc r.n) b
+  l = last_at i game script (suc r.n) b (ap last_dispatch (sym r.events) ∙ last)
+
+  abbrev c : Machine
+  c = state i game script l.n
+
+  runs : Runs i game script l.n
+  runs k below = r.runs k (omega (arith, below, l.below))
+
+  within : c.cycle ≤ limit
+  within = let early = not_later i game script l.n r.n l.below in omega (arith, early, r.within)
+
+  in_time : b.cycle ≤ most_cycles
+  in_time = omega (arith, within, low, ap (λ (b : Machine). b.cycle) l.is)
+
+  starts : MayStart e b
+  starts = subst (MayStart e) (sym l.is) (starts_by e game script l.n small bytes runs l.dispatch)
+
+  shown_is : shown (file_of e b) ≡ b
+  shown_is = shown-file_of e b starts in_time
+
+  -- the events up to the dispatch point
+  up_to : events_of i game script c.cycle ≡ past i game script (suc l.n)
+  up_to = events-last i game script c.cycle l.n (omega arith) (later-move i.rom (held_at script) c) runs
+
+  -- the points behind it
+  abbrev behind : ℕ → List Event
+  behind later = points_behind i script (shown (file_of e b)) later
+
+  points_are : (later : ℕ) → limit ≤ later
+      → points_of (events_of i game script later)
+      ≡ points_of (past i game script (suc l.n)) ++ behind later
+  points_are later more =
+      goes_on_with_run e game (file_of e b) script l.n later runs l.dispatch (shown_is ∙ l.is)
+      (omega (arith, within, more, ap (λ (b : Machine). b.cycle) (shown_is ∙ l.is)))
+      ∙ ap (λ es. points_of es ++ behind later)
+      (ap (λ (b : Machine). events_of i game script b.cycle) (shown_is ∙ l.is) ∙ up_to)
+
+  lines_up_to : (with_time : Bool) → trace_lines e with_time (past i game script (suc l.n)) ≡ trace_lines e with_time (events_of i game script limit)
+  lines_up_to with_time =
+      lines_by e with_time (past i game script (suc l.n))
+      ∙ ap (flat_map (record_of e with_time)) (sym l.none)
+      ∙ sym (lines_by e with_time (past i game script (suc r.n)))
+      ∙ ap (trace_lines e with_time) (sym r.events)
+
+  records : (with_time : Bool) (later : ℕ) → limit ≤ later
+      → trace_lines e with_time (events_of i game script later)
+      ≡ trace_lines e with_time (events_of i game script limit) ++ trace_lines e with_time (behind later)
+  records with_time later more =
+      sym (lines_of_points e with_time (events_of i game script later))
+      ∙ ap (trace_lines e with_time) (points_are later more)
+      ∙ lines_append e with_time (points_of (past i game script (suc l.n))) (behind later)
+      ∙ ap (λ lines. lines ++ trace_lines e with_time (behind later))
+      (lines_of_points e with_time (past i game script (suc l.n)) ∙ lines_up_to with_time)
+
+  -- the events before the dispatch point
+  abbrev before : List Event
+  before = past i game script l.n ++ pictures i game script l.n
+
+  past_is : past i game script (suc l.n) ≡ before ++ Dispatch c ∷ []
+  unfolding past
+  past_is = ap (λ p. before ++ point_events p c) (is_point (is_stop i c) (is_dispatch i c) (no-stop i c l.dispatch) l.dispatch)
+    where
+      is_point : (stop dispatch : Bool) → stop ≡ false → dispatch ≡ true
+          → (if stop then StopPoint else if dispatch then DispatchPoint else OtherPoint) ≡ DispatchPoint
+      is_point true dispatch s d = cc
+      is_point false true s d = refl
+      is_point false false s d = cc
+
+  ending : (later : ℕ) → limit ≤ later
+      → ending_of e (events_of i game script later)
+      ≡ ending_after e (view_at e (shown (file_of e b))).pc (view_at e (shown (file_of e b))).opcode (behind later)
+  ending later more =
+      sym (ending_of_points e 0 None (events_of i game script later))
+      ∙ ap (ending_after e 0 None) (points_are later more)
+      ∙ ap (λ es. ending_after e 0 None (points_of es ++ (behind later))) past_is
+      ∙ ap (λ ps. ending_after e 0 None (ps ++ (behind later))) (points_of-append before (Dispatch c ∷ []))
+      ∙ ap (ending_after e 0 None) (append_assoc (points_of before) (Dispatch c ∷ []) (behind later))
+      ∙ ending_behind e 0 None (points_of before) c (behind later)
+      (no_stop_points before
+      (no_stop_append (past i game script l.n) (pictures i game script l.n) (no_stop_past i game script l.n runs) (no_stop_frames i game script l.n)))
+      ∙ ap (λ (b : Machine). ending_after e (view_at e b).pc (view_at e b).opcode (behind later)) (sym (shown_is ∙ l.is))
+
+  is_rest : IsRest e game script limit (file_of e b)
+  is_rest = record { accepted = accepted-file_of e b starts in_time; records = records; ending = ending }
+
+pub saved_goes_on : SavedGoesOn
+saved_goes_on e game small bytes script limit low f saved = go (last_dispatch (events_of (interpreter_of e) game script limit)) refl saved
+  where
+    go : (last : Option Machine) → last_dispatch (events_of (interpreter_of e) game script limit) ≡ last
+        → option_map (file_of e) last ≡ Some f → IsRest e game script limit f
+    go None is same = absurd (cc)
+    go (Some b) is same = subst (IsRest e game script limit) (the_file same) (is_rest e game small bytes script limit low b is)
+      where
+        the_file : Some (file_of e b) ≡ Some f → file_of e b ≡ f
+        the_file h = cc

@@ -1,0 +1,239 @@
+-- A run on its way whose last dispatch point is saved.
+use Rattle.std.proofs.Common.{◌≡◌, ℕ, Bool, true, false, List, [], ◌∷◌, ◌++◌, refl, sym, ap, ◌∙◌, subst, append-nil, append_assoc}
+use Rattle.std.specs.Prelude.{if◌then◌else◌, map, filter, ◌-◌, Option, Some, None, unwrap_or, Result, Ok, Err, IsErr}
+use Rattle.std.specs.Option.{option_map, option_to_list}
+use Rattle.machine.specs.Board.{Machine}
+use Rattle.machine.specs.Keys.{Event as KeyEvent}
+use Rattle.machine.specs.Pictures.{windows_ended, is_shown}
+use Rattle.chip8_lang.specs.declared.view.StopRecord.{StopRecord}
+use Rattle.chip8_lang.specs.Events.{Event, events_at, events_of, game_run, is_dispatch, is_stop, numbers_from}
+use Rattle.chip8_lang.specs.Events.Event.{Picture, Dispatch, Stopped}
+use Rattle.chip8_lang.specs.Places.{Interpreter}
+use Rattle.chip8_lang.specs.View.{view_at}
+use Rattle.vip_outside.specs.Sink.{SinkMeaning, PutsWhole, PutFails}
+use Rattle.vip_outside.specs.Pieces.{PutsAll, FailsWithin}
+use Rattle.vip_outside.specs.declared.sink.Failed.{Failed}
+use Rattle.vip_outside.proofs.PiecesLemmas.{PutsAll-nil, PutsAll-one, FailsWithin-snoc}
+use Rattle.vip_relation.specs.Follows.{last_dispatch, last_view}
+use Rattle.vip_relation.specs.Meets.{HasStopped}
+use Rattle.vip_relation.specs.State.{VipState, interpreter, events_to, events_left}
+use Rattle.vip_relation.specs.Stops.{pc_of, opcode_of}
+use Rattle.vip_relation.proofs.Meetings.{last-dispatched, last-kept}
+use Rattle.vip_relation.proofs.Nexts.{Dispatched, Pictured, Halted, Ended}
+use Rattle.vip_show.specs.Answers.{IsFresh}
+use Rattle.vip_show.specs.Endings.{ending_after, ending_of}
+use Rattle.vip_show.proofs.Endings.{last-told, ends-dispatch, ends-picture}
+use Rattle.vip_show.proofs.Lists.{stop-last}
+use Rattle.vip_text.specs.Endings.Ending.{AtStop}
+use Rattle.vip_text.specs.declared.ending.RunEnd.{RunEnd}
+use Rattle.vip_text.specs.declared.ending.RunEnd.TheVariants as run
+use Rattle.vip_show.specs.StateOutput.{saved_file, saved_pieces, Keeps, Saves, SavedAnswers}
+use Rattle.vip_show.specs.Written.{file_of}
+
+-- ---- the dispatch points among the events of a run are such
+
+AreDispatches : Interpreter → List Event → Type 0
+AreDispatches i [] = Unit {0}
+AreDispatches i (Picture m ∷ es) = AreDispatches i es
+AreDispatches i (Dispatch b ∷ es) = (is_dispatch i b ≡ true) × AreDispatches i es
+AreDispatches i (Stopped b ∷ es) = AreDispatches i es
+
+behind_pictures : (i : Interpreter) (ms : List ℕ) (es : List Event) → AreDispatches i es → AreDispatches i (map Picture ms ++ es)
+unfolding AreDispatches
+behind_pictures i [] es h = h
+behind_pictures i (m ∷ ms) es h = behind_pictures i ms es h
+
+are_dispatches : (i : Interpreter) (states : List Machine) (before : ℕ) (bs : List Machine) → AreDispatches i (events_at i states before bs)
+unfolding AreDispatches
+are_dispatches i states before [] = tt
+are_dispatches i states before (b ∷ bs) =
+    behind_pictures i
+    (filter (is_shown i.rom states) (numbers_from (windows_ended before) (windows_ended b.cycle - windows_ended before)))
+    (if is_stop i b then Stopped b ∷ [] else if is_dispatch i b then Dispatch b ∷ events_at i states b.cycle bs else events_at i states b.cycle bs)
+    (here (is_stop i b) (is_dispatch i b) refl (are_dispatches i states b.cycle bs))
+  where
+    here : (stop dispatch : Bool) → is_dispatch i b ≡ dispatch → AreDispatches i (events_at i states b.cycle bs)
+        → AreDispatches i (if stop then Stopped b ∷ [] else if dispatch then Dispatch b ∷ events_at i states b.cycle bs else events_at i states b.cycle bs)
+    here true dispatch is h = tt
+    here false true is h = (is, h)
+    here false false is h = h
+
+is_dispatch_in : (i : Interpreter) (before : List Event) (b : Machine) (rest : List Event) → AreDispatches i (before ++ Dispatch b ∷ rest)
+    → is_dispatch i b ≡ true
+unfolding AreDispatches
+is_dispatch_in i [] b rest h = h.0
+is_dispatch_in i (Picture m ∷ es) b rest h = is_dispatch_in i es b rest h
+is_dispatch_in i (Dispatch c ∷ es) b rest h = is_dispatch_in i es b rest h.1
+is_dispatch_in i (Stopped c ∷ es) b rest h = is_dispatch_in i es b rest h
+
+of_run : (i : Interpreter) (game : List ℕ) (script : List KeyEvent) (limit : ℕ) → AreDispatches i (events_of i game script limit)
+unfolding events_of
+of_run i game script limit = are_dispatches i (game_run i game script limit) 0 (game_run i game script limit)
+
+-- ---- on its way
+
+-- From a start up to v: of the events up to the limit some are met, and the last dispatch point among them is saved in these bytes.
+pub record Saving (limit : ℕ) (start v : VipState) (bytes : List ℕ) : Type 0 where
+  pub runs : HasStopped v → ⊥
+  pub edition : v.edition ≡ start.edition
+  pub done : List Event
+  pub split : events_to start limit ≡ done ++ events_left v limit
+  pub last : v.last ≡ last_view start.edition done
+  pub bytes_are : bytes ≡ unwrap_or (saved_file start.edition done) []
+  pub ends : ending_of start.edition (events_to start limit) ≡ ending_after start.edition (pc_of v.last) (opcode_of v.last) (events_left v limit)
+
+module _ (limit : ℕ) (start : VipState) where
+  pub saving-first : (bytes : List ℕ) → IsFresh start → bytes ≡ [] → Saving limit start start bytes
+  saving-first bytes fresh empty = record {
+    runs = fresh.runs;
+    edition = refl;
+    done = [];
+    split = rw fresh.met refl;
+    last = fresh.last;
+    bytes_are = empty;
+    ends = rw (fresh.last, fresh.met) refl;
+  }
+
+  module _ (v v' : VipState) (bytes : List ℕ) (g : Saving limit start v bytes) where
+    -- what is left begins with this event: it is the next of all
+    next : (event : Event) (rest : List Event) → events_left v limit ≡ event ∷ rest → events_to start limit ≡ (g.done ++ event ∷ []) ++ rest
+    next event rest split = g.split ∙ ap (λ left. g.done ++ left) split ∙ sym (append_assoc g.done (event ∷ []) rest)
+
+    last_with : (event : Event) (b : Option Machine) → last_dispatch (g.done ++ event ∷ []) ≡ b
+        → saved_file start.edition (g.done ++ event ∷ []) ≡ option_map (file_of start.edition) b
+    last_with event b is = ap (option_map (file_of start.edition)) is
+
+    pub at-dispatch : (d : Dispatched limit v v' (events_left v limit)) → is_dispatch (interpreter v') v'.board.machine ≡ true
+    at-dispatch d =
+        ap (λ e. is_dispatch (interpreter (record v { edition = e })) v'.board.machine) (d.meets.one.same.edition ∙ g.edition)
+        ∙ ap (is_dispatch (interpreter start)) d.meets.machine
+        ∙ is_dispatch_in (interpreter start) g.done d.b d.rest
+        (subst (AreDispatches (interpreter start)) (g.split ∙ ap (λ left. g.done ++ left) d.split)
+        (of_run (interpreter start) start.game start.board.script limit))
+
+    pub saving-dispatch : (d : Dispatched limit v v' (events_left v limit)) (bytes' : List ℕ) → bytes' ≡ file_of v'.edition v'.board.machine
+        → Saving limit start v' bytes'
+    saving-dispatch d bytes' is = record {
+      runs = d.meets.goes_on;
+      edition = d.meets.one.same.edition ∙ g.edition;
+      done = g.done ++ Dispatch d.b ∷ [];
+      split = next (Dispatch d.b) d.rest d.split ∙ ap (λ left. (g.done ++ Dispatch d.b ∷ []) ++ left) (sym d.meets.one.left);
+      last = last-told start.edition limit v v' g.edition d ∙ sym (ap (λ p. option_map (view_at start.edition) p) (last-dispatched g.done d.b));
+      bytes_are =
+          is
+          ∙ ap (λ e. file_of e v'.board.machine) (d.meets.one.same.edition ∙ g.edition)
+          ∙ ap (file_of start.edition) d.meets.machine
+          ∙ sym (ap (λ f. unwrap_or f []) (last_with (Dispatch d.b) (Some d.b) (last-dispatched g.done d.b)));
+      ends = g.ends ∙ ends-dispatch start.edition limit v v' g.edition d;
+    }
+
+    pub saving-picture : (d : Pictured limit v v' (events_left v limit)) → Saving limit start v' bytes
+    saving-picture d = record {
+      runs = d.meets.goes_on;
+      edition = d.meets.one.same.edition ∙ g.edition;
+      done = g.done ++ Picture d.m ∷ [];
+      split = next (Picture d.m) d.rest d.split ∙ ap (λ left. (g.done ++ Picture d.m ∷ []) ++ left) (sym d.meets.one.left);
+      last = d.meets.told.last ∙ g.last ∙ sym (ap (λ p. option_map (view_at start.edition) p) (last-kept g.done (Picture d.m) refl));
+      bytes_are =
+          g.bytes_are
+          ∙ sym (ap (λ f. unwrap_or f []) (last_with (Picture d.m) (last_dispatch g.done) (last-kept g.done (Picture d.m) refl)));
+      ends = g.ends ∙ ends-picture start.edition limit v v' d;
+    }
+
+    -- at the limit all events are met
+    pub kept-end : (e : Ended limit v v' (events_left v limit)) → Keeps start limit v' bytes run.AtLimit
+    kept-end e = record {
+      last = e.ends.told.last ∙ g.last ∙ ap (last_view start.edition) (sym all);
+      bytes_are = g.bytes_are ∙ ap (λ events. unwrap_or (saved_file start.edition events) []) (sym all);
+      ending = sym (g.ends ∙ ap (ending_after start.edition (pc_of v.last) (opcode_of v.last)) e.none ∙ (unfold ending_after in refl));
+    }
+      where
+        all : events_to start limit ≡ g.done
+        all = g.split ∙ ap (λ left. g.done ++ left) e.none ∙ append-nil g.done
+
+    -- and at a stop
+    pub kept-stop : (stop : StopRecord) (h : Halted limit v v' (events_left v limit) stop) → Keeps start limit v' bytes (run.AtStop stop)
+    kept-stop stop h = record {
+      last =
+          h.meets.told.last ∙ g.last ∙ sym (ap (λ p. option_map (view_at start.edition) p) (last-kept g.done (Stopped h.b) refl))
+          ∙ ap (last_view start.edition) (sym all);
+      bytes_are =
+          g.bytes_are
+          ∙ sym (ap (λ f. unwrap_or f []) (last_with (Stopped h.b) (last_dispatch g.done) (last-kept g.done (Stopped h.b) refl)))
+          ∙ ap (λ events. unwrap_or (saved_file start.edition events) []) (sym all);
+      ending = sym (g.ends ∙ ap (ending_after start.edition (pc_of v.last) (opcode_of v.last)) h.split ∙ here);
+    }
+      where
+        so_far : events_to start limit ≡ g.done ++ Stopped h.b ∷ h.rest
+        so_far = g.split ∙ ap (λ left. g.done ++ left) h.split
+
+        all : events_to start limit ≡ g.done ++ Stopped h.b ∷ []
+        all =
+            so_far
+            ∙ ap (λ rest. g.done ++ Stopped h.b ∷ rest)
+            (stop-last (interpreter start) start.game start.board.script limit g.done h.b h.rest so_far)
+
+        here : ending_after start.edition (pc_of v.last) (opcode_of v.last) (Stopped h.b ∷ h.rest) ≡ AtStop stop.stop stop.pc stop.opcode
+        here = unfold ending_after in rw h.meets.stop refl
+
+-- ---- what goes out
+
+module _ (limit : ℕ) (old new : VipState) (bytes : List ℕ) (end : RunEnd) (k : Keeps old limit new bytes end) where
+  abbrev events : List Event
+  events = events_to old limit
+
+  -- no dispatch point was met
+  none_met : (last : Option Machine) → option_map (view_at old.edition) last ≡ None → last ≡ None
+  none_met None h = refl
+  none_met (Some b) h = cc
+
+  pub saves-none : (out : SinkMeaning) → new.last ≡ None → Saves old limit out out None
+  saves-none out none =
+      let nowhere : last_dispatch events ≡ None = none_met (last_dispatch events) (sym k.last ∙ none) in
+      record {
+        puts =
+            subst (λ last. PutsAll (option_to_list (option_map (file_of old.edition) last)) out out) (sym nowhere) (PutsAll-nil out);
+        ending = sym (ap (λ last. option_map (λ b. ending_of old.edition events) last) nowhere);
+      }
+
+  -- one was
+  record Met : Type 0 where
+    b : Machine
+    is : last_dispatch events ≡ Some b
+    file : bytes ≡ file_of old.edition b
+
+  one_met : (new.last ≡ None → ⊥) → Met
+  one_met some = go (last_dispatch events) refl k.last k.bytes_are
+    where
+      go : (last : Option Machine) → last_dispatch events ≡ last → new.last ≡ option_map (view_at old.edition) last
+          → bytes ≡ unwrap_or (option_map (file_of old.edition) last) [] → Met
+      go None is h same = absurd (some h)
+      go (Some b) is h same = record { b = b; is = is; file = same }
+
+  module _ (some : new.last ≡ None → ⊥) (out out' : SinkMeaning) (piece : List ℕ) (is : piece ≡ bytes) where
+    pieces_are : saved_pieces old.edition events ≡ piece ∷ []
+    pieces_are =
+        let m : Met = one_met some in
+        ap (λ last. option_to_list (option_map (file_of old.edition) last)) m.is ∙ ap (λ file. file ∷ []) (sym (is ∙ m.file))
+
+    pub saves-one : PutsWhole piece out out' → Saves old limit out out' (Some end)
+    saves-one put =
+        let m : Met = one_met some in
+        record {
+          puts = subst (λ pieces. PutsAll pieces out out') (sym pieces_are) (PutsAll-one piece out out' put);
+          ending = ap Some k.ending ∙ sym (ap (λ last. option_map (λ b. ending_of old.edition events) last) m.is);
+        }
+
+    pub save-fails : PutFails piece out out' → FailsWithin (saved_pieces old.edition events) out out'
+    save-fails fault =
+        subst (λ pieces. FailsWithin pieces out out') (sym pieces_are) (FailsWithin-snoc [] piece [] out out out' (PutsAll-nil out) fault)
+
+-- at whatever error is passed on
+pub save-passed : (v : VipState) (limit : ℕ) (out out' : SinkMeaning) (r : Result (Option RunEnd) Failed) → IsErr r
+    → FailsWithin (saved_pieces v.edition (events_to v limit)) out out' → SavedAnswers v limit out out' r
+save-passed v limit out out' (Ok end) bad fault = cc
+save-passed v limit out out' (Err e) bad fault = fault
+
+-- what is told of
+pub told : {X : Type 0} (last : Option X) (x : X) → last ≡ Some x → last ≡ None → ⊥
+told last x is none = cc

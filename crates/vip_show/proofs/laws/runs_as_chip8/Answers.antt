@@ -1,0 +1,12 @@
+use Rattle.rom_run.proofs.Run.{from_any_start}
+use Rattle.vip_text.specs.StateFile.{shown}
+use Rattle.vip_show.proofs.Starts.{file_may_start}
+use Rattle.vip_show.proofs.Points.{points_of-behind}
+use Rattle.vip_show.proofs.laws.runs_as_chip8.Goals as goal
+
+pub returns : goal.returns
+returns c e f bytes accepted script limit =
+    record {
+      language = from_any_start e (shown f) (file_may_start e f bytes accepted) script limit;
+      points = points_of-behind e script (shown f) limit;
+    }

@@ -1,0 +1,31 @@
+//! What is proved of accepted files, each law the contract of a function without parameters.
+
+ghost use Rattle.vip_show.specs.Laws.{FileMayStart, RunsAsChip8, GoesOnWithRun, SavedGoesOn, WritesTheSame};
+
+/// The machine state of any accepted file may start a run of CHIP-8: the board is at a dispatch point, and stands for the language state in it.
+pub fn file_may_start()
+    ensures { FileMayStart }
+{}
+
+/// The events of the run from any accepted file, under every script and up to every limit, are a run of CHIP-8 from the file's language state on; and
+/// its points are those that `Resumed` meets.
+pub fn runs_as_chip8()
+    ensures { RunsAsChip8 }
+{}
+
+/// A file that shows a dispatch point of a game's run goes on with that run: under the same script, up to every limit behind it, the points of the
+/// game's run are those up to the dispatch point, followed by those of the run from the file.
+pub fn goes_on_with_run()
+    ensures { GoesOnWithRun }
+{}
+
+/// What is saved of a game's run up to a limit is an accepted file. Under the same script, up to every later limit, the records of the game's run are
+/// those up to the first limit, followed by those of the run from the file; and the two runs end in the same way.
+pub fn saved_goes_on()
+    ensures { SavedGoesOn }
+{}
+
+/// The state that an accepted file shows, saved again, gives the same bytes.
+pub fn writes_the_same()
+    ensures { WritesTheSame }
+{}

@@ -1,0 +1,36 @@
+//! How the work of a verb ended.
+
+ghost use Rattle.std.specs.Prelude.{◌≡◌};
+ghost use Rattle.vip_tools.specs.Status.{ended_status};
+
+use crate::status::Status;
+use vip_text::RunEnd;
+
+/// How a command ended.
+#[derive(Clone, Copy, Debug, PartialEq, Eq)]
+pub enum Ended {
+    /// Its text was written.
+    Worked,
+    /// It ran for so many machine cycles at most.
+    Ran(u64, RunEnd),
+    /// It ran, and came to no dispatch point that could be saved.
+    NoDispatch,
+    /// A program's processor idles at this address, and no signal can wake it.
+    Idle(u16),
+    /// So many bytes of a message were sent, and so many received.
+    Linked { sent: u32, received: u32 },
+}
+
+impl Ended {
+    /// The status that says so.
+    pub fn status(&self) -> Status
+        ensures { result ≡ ended_status self.now }
+    {
+        match self {
+            Ended::Worked | Ended::Idle(_) | Ended::Linked { .. } => Status::Done,
+            Ended::Ran(_, RunEnd::AtLimit) => Status::Done,
+            Ended::Ran(_, RunEnd::AtStop(_)) => Status::Stopped,
+            Ended::NoDispatch => Status::NoDispatch,
+        }
+    }
+}

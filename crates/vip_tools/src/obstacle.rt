@@ -1,0 +1,71 @@
+//! The line that says where the search for a game's certificate ended.
+
+ghost use Rattle.std.specs.Prelude.{◌≡◌, ◌+◌, ◌*◌, ◌≤◌, ◌++◌, [], length};
+ghost use Rattle.arrayvec.specs.ArrayVec.{array_vec_len};
+ghost use Rattle.vip_byte.specs.HexText.{words_text};
+ghost use Rattle.vip_byte.specs.Room.{HasRoom};
+ghost use Rattle.vip_text.specs.Stops.{opcode_part};
+ghost use Rattle.vip_tools.specs.Report.{no_certificate, proof_cause};
+
+use game_check::{Obstacle, ProofCause};
+use vip_byte::{Buffer, hex4, put};
+
+/// The name of a cause.
+pub fn proof_cause(cause: ProofCause) -> &'static str
+    ensures text { result.now ≡ proof_cause cause }
+    ensures len { length result.now ≤ 7 }
+{
+    match cause {
+        ProofCause::BadLine => "BadLine",
+        ProofCause::Order => "Order",
+        ProofCause::NoStart => "NoStart",
+        ProofCause::Outside => "Outside",
+        ProofCause::Opcode => "Opcode",
+        ProofCause::Access => "Access",
+        ProofCause::Next => "Next",
+    }
+}
+
+/// Appends an opcode behind a blank, where there is one.
+fn put_opcode(into: &mut Buffer, opcode: Option<u16>)
+    requires { HasRoom into.old.items 5 }
+    ensures items { into.new.items ≡ into.old.items ++ opcode_part opcode }
+    ensures len { array_vec_len into.new ≤ array_vec_len into.old + 5 }
+{
+    if let Some(opcode) = opcode {
+        put(into, b" ");
+        put(into, &hex4(opcode));
+    }
+}
+
+/// Appends each address in four digits, behind a blank.
+fn put_addresses(into: &mut Buffer, addresses: &[u16])
+    requires { HasRoom into.old.items (5 * length addresses.now) }
+    ensures items { into.new.items ≡ into.old.items ++ words_text addresses.now }
+    ensures len { array_vec_len into.new ≡ array_vec_len into.old + 5 * length addresses.now }
+{
+    for address in addresses {
+        put(into, b" ");
+        put(into, &hex4(*address));
+    }
+}
+
+/// Writes the line into an empty buffer: the cause, the opcode where it has one, pc, the range of I, and the stack.
+pub fn obstacle_text(obstacle: &Obstacle, into: &mut Buffer)
+    requires { into.old.items ≡ [] }
+    ensures { into.new.items ≡ no_certificate obstacle.now }
+{
+    let claim = &obstacle.claim;
+    put(into, b"vip: no certificate: ");
+    put(into, proof_cause(obstacle.cause).as_bytes());
+    put_opcode(into, obstacle.opcode);
+    put(into, b" at ");
+    put(into, &hex4(claim.point.pc));
+    put(into, b" with I ");
+    put(into, &hex4(claim.low));
+    put(into, b" to ");
+    put(into, &hex4(claim.high));
+    put(into, b" stack");
+    put_addresses(into, claim.point.stack.as_slice());
+    put(into, b"\n");
+}

@@ -1,0 +1,159 @@
+-- The commands of the debugger: a text with one command a line (this project's format). Its lines, its words and its remarks are those of
+-- a key script.
+use Rattle.std.specs.Prelude.{ℕ, ◌+◌, if◌then◌else◌, nat_lt, List, [], ◌∷◌, length, codes, Option, Some, None, Result, Ok, Err, ok_or}
+use Rattle.std.specs.Result.{result_err, result_ok}
+use Rattle.std.specs.Str.{bytes_eq}
+use Rattle.vip_byte.specs.declared.number.NumFault.{NumFault}
+use Rattle.vip_byte.specs.declared.number.NumFault.TheVariants.{TooLarge}
+use Rattle.vip_byte.specs.Number.{decimal_number, hex_number}
+use Rattle.vip_byte.specs.Reading.{Format, read, ◌>>=◌}
+use Rattle.vip_byte.specs.Text.{words}
+use Rattle.vip_keypad.specs.KeyScript.{is_silent}
+use Rattle.vip_words.specs.declared.debug_line.TheConstants.{MOST_STEPS, MOST_SHOWN}
+use Rattle.vip_words.specs.declared.debug_commands.Command.{Command}
+use Rattle.vip_words.specs.declared.debug_commands.Command.TheVariants.{Runs, Shows, Seeks, Tells}
+use Rattle.vip_words.specs.declared.debug_commands.Running.TheVariants.{Step, To, At, Watch}
+use Rattle.vip_words.specs.declared.debug_commands.Showing.TheVariants.{Regs, Mem, Dis, List as Listed}
+use Rattle.vip_words.specs.declared.debug_commands.Seeking.TheVariants.{Next, Break}
+use Rattle.vip_words.specs.declared.debug_commands.Telling.TheVariants.{State, Screen}
+use Rattle.vip_words.specs.declared.debug_commands.Speaks.{Speaks}
+use Rattle.vip_words.specs.declared.debug_commands.Speaks.TheVariants.{Chip8, Machine}
+use Rattle.vip_words.specs.declared.debug_commands.CommandCause.{CommandCause}
+use Rattle.vip_words.specs.declared.debug_commands.CommandCause.TheVariants.{BadWord, BadCount, BadNumber, Range}
+use Rattle.vip_words.specs.declared.debug_commands.CommandFault.{CommandFault}
+use Rattle.vip_words.specs.declared.debug_commands.CommandFault.TheVariants.{Fault}
+
+-- ---- the words of a command
+
+-- so many operands
+abbrev pub no_operand : Command → List (List ℕ) → Result Command CommandCause
+no_operand command [] = Ok command
+no_operand command operands = Err BadCount
+
+abbrev pub one_operand : List (List ℕ) → Result (List ℕ) CommandCause
+one_operand (word ∷ []) = Ok word
+one_operand operands = Err BadCount
+
+abbrev pub two_operands : List (List ℕ) → Result (List ℕ × List ℕ) CommandCause
+two_operands (first ∷ second ∷ []) = Ok (first, second)
+two_operands operands = Err BadCount
+
+-- a number that is too large is out of its range
+abbrev pub cause_of : NumFault → CommandCause
+cause_of TooLarge = Range
+cause_of fault = BadNumber
+
+abbrev pub no_less_than : ℕ → Result ℕ NumFault → Result ℕ CommandCause
+no_less_than least (Ok number) = if nat_lt number least then Err Range else Ok number
+no_less_than least (Err fault) = Err (cause_of fault)
+
+-- a decimal number in these bounds
+unfoldable pub decimal_within : ℕ → ℕ → List ℕ → Result ℕ CommandCause
+decimal_within least most word = no_less_than least (decimal_number word most)
+
+-- one to four hexadecimal digits
+unfoldable pub address_of : List ℕ → Result ℕ CommandCause
+address_of word = if nat_lt 4 (length word) then Err BadNumber else ok_or (result_ok (hex_number word 0xffff)) BadNumber
+
+-- a number of moves or of dispatch points
+unfoldable pub steps_of : List (List ℕ) → Result ℕ CommandCause
+steps_of operands = do
+  word ← one_operand operands
+  decimal_within 1 MOST_STEPS word
+
+-- a cycle that is at most the limit
+unfoldable pub to_of : ℕ → List (List ℕ) → Result ℕ CommandCause
+to_of limit operands = do
+  word ← one_operand operands
+  decimal_within 0 limit word
+
+abbrev pub place_of : List (List ℕ) → Result ℕ CommandCause
+place_of operands = do
+  word ← one_operand operands
+  address_of word
+
+-- an address, and a number of bytes or lines from there on
+unfoldable pub span_of : List (List ℕ) → Result (ℕ × ℕ) CommandCause
+span_of operands = do
+  pair ← two_operands operands
+  address ← address_of pair.0
+  count ← decimal_within 1 MOST_SHOWN pair.1
+  Ok (address, count)
+
+-- bytes that end at FFFF at the latest
+unfoldable pub bytes_of : List (List ℕ) → Result (ℕ × ℕ) CommandCause
+bytes_of operands = do
+  span ← span_of operands
+  if nat_lt 0x10000 (span.0 + span.1) then Err Range else Ok span
+
+-- ---- the commands
+
+-- the command of the language that a word and its operands say, or the first cause for which they say none
+unfoldable pub language_command_of : List ℕ → List (List ℕ) → Result Command CommandCause
+language_command_of word operands =
+    if bytes_eq word (codes "screen") then no_operand (Tells Screen) operands
+    else if bytes_eq word (codes "state") then no_operand (Tells State) operands
+    else if bytes_eq word (codes "next") then (do
+      points ← steps_of operands
+      Ok (Seeks (Next points)))
+    else if bytes_eq word (codes "break") then (do
+      address ← place_of operands
+      Ok (Seeks (Break address)))
+    else Err BadWord
+
+-- there is none where the board runs no game
+abbrev pub spoken_of : Speaks → List ℕ → List (List ℕ) → Result Command CommandCause
+spoken_of Chip8 word operands = language_command_of word operands
+spoken_of Machine word operands = Err BadWord
+
+-- one that shows what the board holds, or one of the language
+unfoldable pub showing_of : Speaks → List ℕ → List (List ℕ) → Result Command CommandCause
+showing_of speaks word operands =
+    if bytes_eq word (codes "regs") then no_operand (Shows Regs) operands
+    else if bytes_eq word (codes "mem") then (do
+      span ← bytes_of operands
+      Ok (Shows (Mem span.0 span.1)))
+    else if bytes_eq word (codes "dis") then (do
+      span ← span_of operands
+      Ok (Shows (Dis span.0 span.1)))
+    else if bytes_eq word (codes "list") then (do
+      span ← span_of operands
+      Ok (Shows (Listed span.0 span.1)))
+    else spoken_of speaks word operands
+
+-- any
+unfoldable pub command_of : Speaks → ℕ → List ℕ → List (List ℕ) → Result Command CommandCause
+command_of speaks limit word operands =
+    if bytes_eq word (codes "step") then (do
+      moves ← steps_of operands
+      Ok (Runs (Step moves)))
+    else if bytes_eq word (codes "to") then (do
+      cycle ← to_of limit operands
+      Ok (Runs (To cycle)))
+    else if bytes_eq word (codes "at") then (do
+      address ← place_of operands
+      Ok (Runs (At address)))
+    else if bytes_eq word (codes "watch") then (do
+      span ← bytes_of operands
+      Ok (Runs (Watch span.0 span.1)))
+    else showing_of speaks word operands
+
+-- ---- the lines
+
+abbrev pub some_command : Speaks → ℕ → List (List ℕ) → Result (Option Command) CommandCause
+some_command speaks limit [] = Ok None
+some_command speaks limit (word ∷ operands) = do
+  command ← command_of speaks limit word operands
+  Ok (Some command)
+
+-- what a line says: nothing, or one command
+unfoldable pub said : Speaks → ℕ → List ℕ → Result (Option Command) CommandCause
+said speaks limit line = if is_silent (words line) then Ok None else some_command speaks limit (words line)
+
+-- a line is refused for what it says alone
+abbrev pub command_format : Speaks → ℕ → Format Command CommandCause CommandFault
+command_format speaks limit = record { said = said speaks limit; refused = λ before says. result_err says; fault = Fault }
+
+-- what a text of commands says: the list of its commands, or its first fault
+abbrev pub commands_of : Speaks → ℕ → List ℕ → Result (List Command) CommandFault
+commands_of speaks limit = read (command_format speaks limit)
