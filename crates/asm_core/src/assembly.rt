@@ -17,7 +17,7 @@ pub struct Assembly {
 }
 
 /// Where a line of a source stands.
-#[derive(Clone, Copy, Debug, PartialEq, Eq)]
+#[derive(Clone, Copy)]
 pub struct LinePlace {
     /// The value that a label of the line has or would have: that of EQU, the new address for ORG and PAGE, else `at`.
     pub value: u32,

@@ -61,7 +61,7 @@ pub(crate) fn value_cause(fault: ValueFault) -> AsmCause
 }
 
 /// Why a source is not assembled.
-#[derive(Clone, Copy, Debug, PartialEq, Eq, Error)]
+#[derive(Clone, Copy, Debug, Error)]
 pub enum AsmFault {
     /// The first fault of the source, with the number of its line, counted from 1.
     #[error("line {line}: {cause}")]

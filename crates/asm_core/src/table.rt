@@ -12,7 +12,7 @@ use std::alloc::{AllocError, Global};
 const ADDRESSES: usize = 65_536;
 
 /// A byte, and the number of the line that gave it, counted from 1.
-#[derive(Clone, Copy, Debug, PartialEq, Eq)]
+#[derive(Clone, Copy)]
 pub struct Cell {
     /// The byte.
     pub byte: u8,

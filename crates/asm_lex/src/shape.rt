@@ -4,7 +4,7 @@ use arrayvec::ArrayVec;
 use thiserror::Error;
 
 /// A part of a line: the bytes from the place `from` up to, and without, the place `to`.
-#[derive(Clone, Copy, Debug, Default, PartialEq, Eq)]
+#[derive(Clone, Copy, Default)]
 pub struct Span {
     /// The place of the first byte.
     pub from: u16,
@@ -13,7 +13,7 @@ pub struct Span {
 }
 
 /// What the word of a line means.
-#[derive(Clone, Copy, Debug, PartialEq, Eq)]
+#[derive(Clone, Copy)]
 pub enum Word {
     /// A mnemonic: the whole opcode byte, with the register or the port that the operand names.
     Code(u8),
@@ -32,7 +32,7 @@ pub enum Word {
 }
 
 /// The parts of a line, which lie in it in this order.
-#[derive(Debug, Drop)]
+#[derive(Drop)]
 pub struct Line {
     /// The name that the line defines.
     pub label: Option<Span>,
@@ -43,7 +43,7 @@ pub struct Line {
 }
 
 /// The first fault of a line by itself, in the order of the variants.
-#[derive(Clone, Copy, Debug, PartialEq, Eq, Error)]
+#[derive(Clone, Copy, Debug, Error)]
 pub enum LexFault {
     /// A byte that isn't allowed, more than 255 bytes, a label that isn't a name, or a name of more than 32 characters.
     #[error("BadText")]
@@ -57,7 +57,7 @@ pub enum LexFault {
 }
 
 /// The first fault of an expression's value, in the order of the variants.
-#[derive(Clone, Copy, Debug, PartialEq, Eq, Error)]
+#[derive(Clone, Copy, Debug, Error)]
 pub enum ValueFault {
     /// A name that has no value.
     #[error("Undefined")]

@@ -12,7 +12,7 @@ use crate::{Span, Word};
 use vip_isa::{Kind, Op, decode, encode, mnemonic, size};
 
 /// A word of the table.
-#[derive(Clone, Copy, Debug, PartialEq, Eq)]
+#[derive(Clone, Copy)]
 pub(crate) enum Entry {
     /// A mnemonic, by the first opcode that has it.
     Mnemonic(u8),
@@ -21,7 +21,7 @@ pub(crate) enum Entry {
 }
 
 /// What the operands of a mnemonic are.
-#[derive(Clone, Copy, Debug, PartialEq, Eq)]
+#[derive(Clone, Copy)]
 pub(crate) enum Operands {
     /// One register.
     Register,

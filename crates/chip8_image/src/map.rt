@@ -6,7 +6,7 @@ ghost use Rattle.chip8_image.specs.Parts.{holds};
 use crate::parts::Part;
 
 /// A stretch of the ROM from its first to its last address, both of them in it, and the part that it belongs to.
-#[derive(Clone, Copy, Debug, PartialEq, Eq)]
+#[derive(Clone, Copy)]
 pub struct Area {
     /// the address of its first byte
     pub first: u16,

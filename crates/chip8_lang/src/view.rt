@@ -3,14 +3,14 @@
 use arrayvec::ArrayVec;
 
 /// An edition of the language: its screen has 32 rows, or 64 of them, each half as high. This project's profile.
-#[derive(Clone, Copy, Debug, PartialEq, Eq)]
+#[derive(Clone, Copy, PartialEq, Eq)]
 pub enum Edition {
     Usual,
     Tall,
 }
 
 /// Why a game stopped.
-#[derive(Clone, Copy, Debug, PartialEq, Eq)]
+#[derive(Clone, Copy, PartialEq, Eq)]
 pub enum Stop {
     /// A call of machine code, 0MMM other than 00E0 and 00EE.
     MachineCall,
@@ -29,7 +29,7 @@ pub enum Stop {
 }
 
 /// A stop: its pc and opcode, which is none for `FetchOutside`, and the machine cycle of the stop point.
-#[derive(Clone, Copy, Debug, PartialEq, Eq)]
+#[derive(Clone, Copy, PartialEq, Eq)]
 pub struct StopRecord {
     pub stop: Stop,
     pub pc: u16,
@@ -40,7 +40,7 @@ pub struct StopRecord {
 /// A language state at a dispatch point, but for game memory and screen. The opcode is none where pc or pc + 1 lies outside game
 /// memory; the stack has the oldest address first; `n` counts the timer ticks, modulo 65536; `b` is the random byte; `cycle` is the
 /// machine cycle of the dispatch point.
-#[derive(Debug, Drop)]
+#[derive(Drop)]
 pub struct StateView {
     pub v: [u8; 16],
     pub i: u16,

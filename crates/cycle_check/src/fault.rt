@@ -5,7 +5,7 @@ use thiserror::Error;
 
 /// What is wrong with a line of a certificate. The first three are looked for line by line over all lines, in this order in a line; then
 /// `NoEntry`; and then the last two, again line by line.
-#[derive(Clone, Copy, Debug, PartialEq, Eq, Error)]
+#[derive(Clone, Copy, Debug, Error)]
 pub enum CertCause {
     /// The first line that says something is no `within` line, or a later one is no line of an address; or no line says anything, which is
     /// said of line 1.
@@ -30,7 +30,7 @@ pub enum CertCause {
 }
 
 /// Why a certificate is not accepted.
-#[derive(Clone, Copy, Debug, PartialEq, Eq, Error)]
+#[derive(Clone, Copy, Debug, Error)]
 pub enum CertFault {
     /// The first fault, with the number of its line, counted from 1.
     #[error("line {line}: {cause}")]

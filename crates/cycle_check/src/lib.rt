@@ -28,7 +28,7 @@ use std::alloc::Global;
 use vip_byte::MOST_TEXT;
 
 /// What an accepted certificate promises: from the entry the routine leaves before more than `limit` machine cycles have passed.
-#[derive(Clone, Copy, Debug, PartialEq, Eq)]
+#[derive(Clone, Copy)]
 pub struct Within {
     /// The address at which the routine is entered.
     pub entry: u16,

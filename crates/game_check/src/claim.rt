@@ -7,7 +7,7 @@ use arrayvec::ArrayVec;
 use std::cmp::Ordering;
 
 /// A point of control: pc, and the addresses on the stack, the oldest first.
-#[derive(Debug, Drop)]
+#[derive(Drop)]
 pub struct Point {
     pub pc: u16,
     pub stack: ArrayVec<u16, 12>,
@@ -25,7 +25,7 @@ impl Point {
 }
 
 /// That at a point of control the index I lies from one address to another, both of which it may be.
-#[derive(Debug, Drop)]
+#[derive(Drop)]
 pub struct Claim {
     pub point: Point,
     pub low: u16,

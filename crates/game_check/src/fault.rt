@@ -5,7 +5,7 @@ use std::alloc::AllocError;
 use thiserror::Error;
 
 /// Why a line of a certificate is refused. The first two are looked for in all lines before the third is, and the third before the others.
-#[derive(Clone, Copy, Debug, PartialEq, Eq, Error)]
+#[derive(Clone, Copy, Debug, Error)]
 pub enum ProofCause {
     /// The line has fewer than three or more than fifteen words, some word is not four hexadecimal digits, or the least I is above the
     /// greatest.
@@ -32,7 +32,7 @@ pub enum ProofCause {
 }
 
 /// Why a certificate was not accepted.
-#[derive(Clone, Copy, Debug, PartialEq, Eq, Error)]
+#[derive(Clone, Copy, Debug, Error)]
 pub enum ProofFault {
     /// The first faulty line, counted from 1, and the first cause in it.
     #[error("line {line}: {cause}")]
@@ -55,7 +55,7 @@ impl From<AllocError> for ProofFault {
 
 /// Where the search for a certificate ended without one: the claim that could not be closed, for which cause, and the opcode there, which is
 /// none where it does not lie in game memory.
-#[derive(Debug, Drop)]
+#[derive(Drop)]
 pub struct Obstacle {
     pub cause: ProofCause,
     pub opcode: Option<u16>,
@@ -63,7 +63,7 @@ pub struct Obstacle {
 }
 
 /// Why no certificate was found.
-#[derive(Debug, Drop)]
+#[derive(Drop)]
 pub enum FindFault {
     /// The search ended at this place.
     NotFound(Obstacle),

@@ -11,7 +11,7 @@
 pub mod examples;
 
 /// The kinds of instruction of the CDP1802, one for each mnemonic of its data sheet. `Undefined` is opcode 68, which has none.
-#[derive(Clone, Copy, Debug, PartialEq, Eq)]
+#[derive(Clone, Copy)]
 pub enum Kind {
     Idl,
     Ldn,

@@ -20,7 +20,7 @@ use vip_video::{Requests, Video};
 
 /// A move, the atomic step of the board: one DMA cycle, one interrupt cycle, one idle cycle, or one whole instruction with the address
 /// of its opcode.
-#[derive(Clone, Copy, Debug, PartialEq, Eq)]
+#[derive(Clone, Copy, PartialEq, Eq)]
 pub enum Move {
     Dma,
     Interrupt,
@@ -29,7 +29,7 @@ pub enum Move {
 }
 
 /// What `to_boundary` did: it made a move, or the next move would have ended after the limit.
-#[derive(Clone, Copy, Debug, PartialEq, Eq)]
+#[derive(Clone, Copy, PartialEq, Eq)]
 pub enum Moved {
     Done(Move),
     End,

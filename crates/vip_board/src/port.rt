@@ -9,7 +9,7 @@ use vip_cpu::Bus;
 /// A wire from one board to another. It is empty, or holds one byte.
 ///
 /// Clauses see it as the byte that it holds.
-#[derive(Debug, Drop)]
+#[derive(Drop)]
 pub struct Wire {
     byte: Option<u8>,
 }

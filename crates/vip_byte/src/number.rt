@@ -10,7 +10,7 @@ use thiserror::Error;
 pub const MOST_CYCLE: u64 = 4_000_000_000;
 
 /// Why a text is no number, or not one that is asked for.
-#[derive(Clone, Copy, Debug, PartialEq, Eq, Error)]
+#[derive(Clone, Copy, Debug, Error)]
 pub enum NumFault {
     /// The text has no bytes.
     #[error("Empty")]

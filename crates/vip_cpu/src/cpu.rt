@@ -16,7 +16,7 @@ use std::marker::Model;
 use vip_isa::{cycles, decode};
 
 /// Where a processor stands between two machine cycles.
-#[derive(Clone, Copy, Debug, PartialEq, Eq)]
+#[derive(Clone, Copy)]
 pub enum Phase {
     /// Where a move starts.
     Boundary,
@@ -25,7 +25,7 @@ pub enum Phase {
 }
 
 /// What kind of machine cycle was made.
-#[derive(Clone, Copy, Debug, PartialEq, Eq)]
+#[derive(Clone, Copy, PartialEq, Eq)]
 pub enum Did {
     /// An opcode was fetched.
     Fetch,

@@ -1,7 +1,7 @@
 //! What a processor is made of.
 
 /// All registers of a processor at a boundary, and whether it idles.
-#[derive(Clone, Copy, Debug, PartialEq, Eq)]
+#[derive(Clone, Copy)]
 pub struct Parts {
     /// R(0) to R(F).
     pub r: [u16; 16],

@@ -22,7 +22,7 @@ use vip_text::trace_text;
 use vip_words::{Command, Commands, Running, Seeking, Telling};
 
 /// How the commands ended.
-#[derive(Clone, Copy, Debug, PartialEq, Eq)]
+#[derive(Clone, Copy)]
 pub enum DebugEnd {
     /// All of them were run, and the board is at no stop point.
     Done,

@@ -19,7 +19,7 @@ use crate::table::{kind_at, number_at};
 pub use machine::Kind;
 
 /// An opcode by its parts.
-#[derive(Clone, Copy, Debug, PartialEq, Eq)]
+#[derive(Clone, Copy)]
 pub struct Op {
     /// What the opcode does.
     pub kind: Kind,

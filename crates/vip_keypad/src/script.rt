@@ -20,7 +20,7 @@ use thiserror::Error;
 use vip_byte::{Lines, MOST_TEXT};
 
 /// Why a line of a key script is no event, in the order in which the causes are looked for.
-#[derive(Clone, Copy, Debug, PartialEq, Eq, Error)]
+#[derive(Clone, Copy, Debug, Error)]
 pub enum ScriptCause {
     /// The line has not exactly three words, or the second is neither `down` nor `up`.
     #[error("BadLine")]
@@ -40,7 +40,7 @@ pub enum ScriptCause {
 }
 
 /// Why a key script was not read.
-#[derive(Clone, Copy, Debug, PartialEq, Eq, Error)]
+#[derive(Clone, Copy, Debug, Error)]
 pub enum ScriptFault {
     /// The first faulty line, counted from 1, and the first cause in it.
     #[error("line {line}: {cause}")]

@@ -6,7 +6,7 @@ use std::alloc::AllocError;
 use thiserror::Error;
 
 /// Why two boards were not joined.
-#[derive(Clone, Copy, Debug, PartialEq, Eq, Error)]
+#[derive(Clone, Copy, Debug, Error)]
 pub enum LinkFault {
     /// The message has this many bytes, more than 3,000.
     #[error("message larger than 3000 bytes")]

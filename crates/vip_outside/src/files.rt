@@ -16,7 +16,7 @@ pub struct Loaded {
 }
 
 /// Why a read gave nothing. Each text is the name of the variant.
-#[derive(Clone, Copy, Debug, PartialEq, Eq, Error)]
+#[derive(Clone, Copy, Debug, Error)]
 pub enum ReadFail {
     /// The files tell their map, and it has no such name.
     #[error("Absent")]

@@ -13,7 +13,7 @@ use std::marker::Model;
 /// Files in memory. They tell their map, and calls of `read` can be named that fail.
 ///
 /// Clauses see them as a `FilesInMemory`: the map, the named calls, and what was counted so far.
-#[derive(Debug, Drop)]
+#[derive(Drop)]
 pub struct MemFiles {
     alloc: Global,
     files: BTreeMap<String, Vec<u8>>,

@@ -13,7 +13,7 @@ use std::marker::Model;
 ///
 /// Clauses see it as a `SinkInMemory`: the bytes, the room, the named calls, and what was counted so
 /// far.
-#[derive(Debug, Drop)]
+#[derive(Drop)]
 pub struct MemSink {
     bytes: Vec<u8>,
     room: usize,

@@ -7,7 +7,7 @@ ghost use Rattle.vip_program.specs.Names.{names_in, IsNamed};
 use vip_isa::{Kind, Op};
 
 /// What an opcode names, beside what it does.
-#[derive(Clone, Copy, Debug, PartialEq, Eq)]
+#[derive(Clone, Copy)]
 pub enum Names {
     Nothing,
     /// The number of the register R(N), below 16.

@@ -12,7 +12,7 @@ use vip_keypad::Script;
 const ROM_SIZE: usize = 0x800;
 
 /// Where a program lies.
-#[derive(Clone, Copy, Debug, PartialEq, Eq)]
+#[derive(Clone, Copy)]
 pub enum Memory {
     /// In ROM, from address 8000 on.
     Rom,

@@ -10,7 +10,7 @@ use vip_byte::{Buffer, MOST_CYCLE, add16};
 use vip_outside::{Failed, Sink};
 
 /// How the run of a program ended.
-#[derive(Clone, Copy, Debug, PartialEq, Eq)]
+#[derive(Clone, Copy)]
 pub enum ProgramEnd {
     /// The next move would end after the limit.
     AtLimit,

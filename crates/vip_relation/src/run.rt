@@ -18,7 +18,7 @@ use vip_board::{Board, Moved};
 use vip_keypad::Script;
 
 /// What `advance` met: a picture that the video chip has finished, a dispatch point, the stop point, or the limit.
-#[derive(Clone, Copy, Debug, PartialEq, Eq)]
+#[derive(Clone, Copy)]
 pub enum Met {
     Picture,
     Dispatch,

@@ -7,7 +7,7 @@ use thiserror::Error;
 use vip_text::StateFault;
 
 /// Why a run wasn't gone on with.
-#[derive(Clone, Copy, Debug, PartialEq, Eq, Error)]
+#[derive(Clone, Copy, Debug, Error)]
 pub enum ResumeFault {
     /// The file isn't accepted.
     #[error("{0}")]

@@ -13,7 +13,7 @@ use vip_relation::{Point, point_at, stop_of, view_of};
 use vip_text::{KEY, RAM, check_state, cycle, parts};
 
 /// What `advance` met: a dispatch point, the stop, or the limit.
-#[derive(Debug, Drop)]
+#[derive(Drop)]
 pub enum Step {
     Dispatch(StateView),
     Stopped(StopRecord),

@@ -3,7 +3,7 @@
 use chip8_lang::StopRecord;
 
 /// How a run ended.
-#[derive(Clone, Copy, Debug, PartialEq, Eq)]
+#[derive(Clone, Copy, PartialEq, Eq)]
 pub enum RunEnd {
     /// Every event up to the limit was met.
     AtLimit,

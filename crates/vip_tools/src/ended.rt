@@ -7,7 +7,7 @@ use crate::status::Status;
 use vip_text::RunEnd;
 
 /// How a command ended.
-#[derive(Clone, Copy, Debug, PartialEq, Eq)]
+#[derive(Clone, Copy)]
 pub enum Ended {
     /// Its text was written.
     Worked,

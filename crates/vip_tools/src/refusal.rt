@@ -14,7 +14,7 @@ use vip_text::StateFault;
 use vip_words::CommandCause;
 
 /// Files that are limited in their size.
-#[derive(Clone, Copy, Debug, Default, PartialEq, Eq)]
+#[derive(Clone, Copy, Default)]
 pub enum Kind {
     /// A game for the usual edition, at most 3,232 bytes.
     #[default]
@@ -40,7 +40,7 @@ pub enum Kind {
 }
 
 /// A refusal: why a command isn't begun.
-#[derive(Debug, Drop)]
+#[derive(Drop)]
 pub enum Refusal<'a> {
     /// The words of the command line.
     Usage,

@@ -40,7 +40,7 @@ const DMA_COLUMN: u8 = 2;
 const DMA_END_COLUMN: u8 = 10;
 
 /// What the chip tells the board in a machine cycle.
-#[derive(Clone, Copy, Debug, PartialEq, Eq)]
+#[derive(Clone, Copy)]
 pub struct Signals {
     /// The interrupt request.
     pub int: bool,
@@ -51,7 +51,7 @@ pub struct Signals {
 }
 
 /// What the chip requests of the processor in a machine cycle.
-#[derive(Clone, Copy, Debug, PartialEq, Eq)]
+#[derive(Clone, Copy)]
 pub struct Requests {
     /// The interrupt request.
     pub int: bool,

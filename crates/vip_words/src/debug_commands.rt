@@ -73,7 +73,7 @@ pub enum Speaks {
 }
 
 /// Why a line says no command, in the order in which the causes are looked for.
-#[derive(Clone, Copy, Debug, PartialEq, Eq, Error)]
+#[derive(Clone, Copy, Debug, Error)]
 pub enum CommandCause {
     /// The first word is no command.
     #[error("BadWord")]
@@ -90,7 +90,7 @@ pub enum CommandCause {
 }
 
 /// Why a text of commands was not read.
-#[derive(Clone, Copy, Debug, PartialEq, Eq, Error)]
+#[derive(Clone, Copy, Debug, Error)]
 pub enum CommandFault {
     /// The first faulty line, counted from 1, and the first cause in it.
     #[error("line {line}: {cause}")]

@@ -87,7 +87,7 @@ pub struct ResumeRequest<'a> {
 }
 
 /// A memory of the board in which a program stands.
-#[derive(Clone, Copy, Debug, PartialEq, Eq)]
+#[derive(Clone, Copy)]
 pub enum Memory {
     /// The ROM, from 8000 on, in place of the interpreter.
     Rom,
