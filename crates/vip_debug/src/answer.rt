@@ -1,4 +1,4 @@
-//! What the commands write.
+//! What the commands write that speak of the machine, whatever runs on it.
 
 ghost use Rattle.std.specs.Prelude.{◌+◌, ◌≤◌, ◌∷◌, ◌++◌, length};
 ghost use Rattle.vip_byte.specs.Text.{newline};

@@ -1,4 +1,4 @@
-//! The commands that run the board.
+//! The commands that make moves, whatever runs on the board.
 
 ghost use Rattle.std.specs.Prelude.{◌≡◌, ◌≤◌, nat_le, true};
 ghost use Rattle.vip_cpu.specs.declared.cpu.Phase.{Phase};

@@ -27,5 +27,4 @@ pub use output::{show_resumed, show_saved};
 pub use pieces::{show_pictures, show_trace};
 pub use resumed::{Resumed, Step};
 pub use summary::show_summary;
-pub use vip_text::{StateFault, check_state};
 pub use writing::write_state;

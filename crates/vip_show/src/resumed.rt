@@ -10,7 +10,7 @@ use std::marker::Model;
 use vip_board::{Board, Moved};
 use vip_keypad::Script;
 use vip_relation::{Point, point_at, stop_of, view_of};
-use vip_text::{KEY, RAM, check_state, cycle, parts};
+use vip_text::state_file::{KEY, RAM, check_state, cycle, parts};
 
 /// What `advance` met: a dispatch point, the stop, or the limit.
 #[derive(Drop)]

@@ -7,7 +7,7 @@ use Rattle.vip_outside.specs.Files.{FilesMeaning, with_name}
 use Rattle.chip8_lang.specs.State.{memory_size}
 use Rattle.chip8_lang.specs.declared.view.Edition.{Edition}
 use Rattle.chip8_lang.specs.declared.view.Edition.TheVariants.{Usual, Tall}
-use Rattle.vip_text.specs.StateFile.{IsAccepted, Judges}
+use Rattle.vip_text.specs.StateFile.{file_size, IsAccepted, Judges}
 use Rattle.vip_text.specs.declared.fault.StateFault.{StateFault}
 use Rattle.vip_words.specs.Asked.{Asked, AskedRun, asm, bounds, certify, debug, debug_program, demo, dis, link, list, play, play_program, resume, safe, save, source, trace, trace_program, within}
 use Rattle.vip_words.specs.declared.request.Memory.{Memory}
@@ -50,7 +50,7 @@ script_file (Some name) = file Script most_text name ∷ []
 
 -- a saved state, which has so many bytes
 abbrev pub state_file : List ℕ → Needed
-state_file name = file State 4_147 name
+state_file name = file State file_size name
 
 -- a message that one board sends to another
 abbrev pub message_file : List ℕ → Needed

@@ -12,7 +12,8 @@ use chip8_lang::Edition;
 use std::alloc::Global;
 use vip_byte::MOST_TEXT;
 use vip_outside::{Files, ReadFail};
-use vip_text::{StateFault, check_state};
+use vip_text::StateFault;
+use vip_text::state_file::{SIZE, check_state};
 use vip_words::{Memory, Request, RunRequest};
 
 /// The addresses of the machine, 0000 to FFFF.
@@ -23,9 +24,6 @@ const USUAL_GAME: usize = 3_232;
 
 /// The bytes of game memory in the tall edition.
 const TALL_GAME: usize = 2_976;
-
-/// The bytes of a saved state.
-const STATE: usize = 4_147;
 
 /// The most bytes of a message.
 const MOST_MESSAGE: usize = 3_000;
@@ -80,7 +78,7 @@ fn state_file<'a>(name: &'a str) -> Wanted<'a>
 {
     Wanted {
         name,
-        most: STATE,
+        most: SIZE,
         kind: Kind::State,
     }
 }
