@@ -2,3 +2,4 @@ pub mod NumberLemmas
 pub mod TextLemmas
 pub mod RangeLemmas
 pub mod ReadingLemmas
+mod DigitLemmas

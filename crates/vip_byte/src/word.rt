@@ -1,10 +1,7 @@
-//! The halves and sums of machine words, and their hexadecimal digits.
+//! The halves and sums of machine words, and their hexadecimal digits, which `hex` writes with lower-case letters.
 
 ghost use Rattle.std.specs.Prelude.{◌≡◌, ◌+◌, ◌/◌, ◌%◌};
 ghost use Rattle.vip_byte.specs.HexText as text;
-
-/// The digit of each number below 16, in upper case.
-static DIGITS: [u8; 16] = *b"0123456789ABCDEF";
 
 /// The high four bits of a byte, as a number below 16.
 pub fn high(byte: u8) -> u8
@@ -32,7 +29,11 @@ pub fn add16(a: u16, b: u16) -> u16
 pub fn hex2(value: u8) -> [u8; 2]
     ensures { result ≡ text.hex2 value }
 {
-    [DIGITS[high(value) as usize], DIGITS[low(value) as usize]]
+    let mut digits = [0; 2];
+    // (Ok, since there is room for both)
+    let _ = hex::encode_to_slice([value], &mut digits);
+    digits.make_ascii_uppercase();
+    digits
 }
 
 /// The four hexadecimal digits of a word, the highest first, with upper-case letters.
@@ -40,8 +41,9 @@ pub fn hex2(value: u8) -> [u8; 2]
 pub fn hex4(value: u16) -> [u8; 4]
     ensures { result ≡ text.hex4 value }
 {
-    let [high_byte, low_byte] = value.to_be_bytes();
-    let [first, second] = hex2(high_byte);
-    let [third, fourth] = hex2(low_byte);
-    [first, second, third, fourth]
+    let mut digits = [0; 4];
+    // (Ok, since there is room for all four)
+    let _ = hex::encode_to_slice(value.to_be_bytes(), &mut digits);
+    digits.make_ascii_uppercase();
+    digits
 }
