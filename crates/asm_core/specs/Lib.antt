@@ -7,3 +7,4 @@ pub mod Made
 pub mod Cuts
 pub mod Bytes
 pub mod Passes
+pub mod FaultNames

@@ -3,3 +3,4 @@ pub mod Reading
 pub mod Table
 pub mod Closed
 pub mod Leaving
+pub mod FaultNames

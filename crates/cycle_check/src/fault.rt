@@ -1,32 +1,46 @@
 //! The faults of a certificate.
 
+ghost use Rattle.std.specs.Prelude.{◌≡◌};
+ghost use Rattle.cycle_check.specs.FaultNames.{cert_cause_name};
+
 use std::alloc::AllocError;
 use thiserror::Error;
 
 /// What is wrong with a line of a certificate. The first three are looked for line by line over all lines, in this order in a line; then
 /// `NoEntry`; and then the last two, again line by line.
 #[derive(Clone, Copy, Debug, Error)]
+#[error("{}", self.name())]
 pub enum CertCause {
     /// The first line that says something is no `within` line, or a later one is no line of an address; or no line says anything, which is
     /// said of line 1.
-    #[error("BadLine")]
     BadLine,
     /// A number is not of its digits or out of its range, or the counter register is the program counter.
-    #[error("BadNumber")]
     BadNumber,
     /// The address is not above that of the line before.
-    #[error("Order")]
     Order,
     /// No line has the entry; or its line asks for an X or for a fact, or leaves more cycles than the limit at a counter of 255.
-    #[error("NoEntry")]
     NoEntry,
     /// The opcode at the address is not allowed: a byte of the instruction lies outside the ROM, or the instruction idles, or could change
     /// the program counter or the counter register by another way than its row names.
-    #[error("Opcode")]
     Opcode,
     /// What the line says does not follow from what the lines behind its instruction say.
-    #[error("Step")]
     Step,
+}
+
+impl CertCause {
+    /// Its name, which its text and the reports show.
+    pub fn name(self) -> &'static str
+        ensures { result.now ≡ cert_cause_name self }
+    {
+        match self {
+            CertCause::BadLine => "BadLine",
+            CertCause::BadNumber => "BadNumber",
+            CertCause::Order => "Order",
+            CertCause::NoEntry => "NoEntry",
+            CertCause::Opcode => "Opcode",
+            CertCause::Step => "Step",
+        }
+    }
 }
 
 /// Why a certificate is not accepted.

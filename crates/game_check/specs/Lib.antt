@@ -4,3 +4,4 @@ pub mod Closed
 pub mod Proof
 pub mod States
 pub mod Laws
+pub mod FaultNames

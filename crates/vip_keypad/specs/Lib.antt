@@ -3,3 +3,4 @@ pub mod KeyScript
 pub mod KeypadState
 pub mod Stretches
 pub mod Entries
+pub mod FaultNames

@@ -7,6 +7,7 @@ ghost use Rattle.std.specs.Option.{ForSome, option_to_list};
 ghost use Rattle.std.specs.Result.{result_err};
 ghost use Rattle.machine.specs.Keys.{held_at};
 ghost use Rattle.vip_keypad.specs.Entries.{AreSearchable, event_of_entry, held_after};
+ghost use Rattle.vip_keypad.specs.FaultNames.{script_cause_name};
 ghost use Rattle.vip_keypad.specs.KeySet.{has_key};
 ghost use Rattle.vip_keypad.specs.KeyScript.{cause_after, last_cycle, said, script_of};
 ghost use Rattle.vip_keypad.specs.Stretches.{HoldsIn};
@@ -21,22 +22,33 @@ use vip_byte::{Lines, MOST_TEXT};
 
 /// Why a line of a key script is no event, in the order in which the causes are looked for.
 #[derive(Clone, Copy, Debug, Error)]
+#[error("{}", self.name())]
 pub enum ScriptCause {
     /// The line has not exactly three words, or the second is neither `down` nor `up`.
-    #[error("BadLine")]
     BadLine,
     /// The first word is no decimal number from 0 to 4,000,000,000.
-    #[error("BadCycle")]
     BadCycle,
     /// The third word is not one hexadecimal digit.
-    #[error("BadKey")]
     BadKey,
     /// The cycle is below that of the event before.
-    #[error("OutOfOrder")]
     OutOfOrder,
     /// The line has event 100,001.
-    #[error("TooMany")]
     TooMany,
+}
+
+impl ScriptCause {
+    /// Its name, which its text and the reports show.
+    pub fn name(self) -> &'static str
+        ensures { result.now ≡ script_cause_name self }
+    {
+        match self {
+            ScriptCause::BadLine => "BadLine",
+            ScriptCause::BadCycle => "BadCycle",
+            ScriptCause::BadKey => "BadKey",
+            ScriptCause::OutOfOrder => "OutOfOrder",
+            ScriptCause::TooMany => "TooMany",
+        }
+    }
 }
 
 /// Why a key script was not read.

@@ -5,3 +5,4 @@ pub mod Summaries
 pub mod Endings
 pub mod Bounds
 pub mod StateFile
+pub mod FaultNames

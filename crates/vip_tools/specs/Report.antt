@@ -2,20 +2,21 @@
 use Rattle.std.specs.Prelude.{ℕ, List, [], ◌∷◌, ◌++◌, codes, decimal}
 use Rattle.vip_byte.specs.HexText.{hex2, hex4, words_text}
 use Rattle.asm_core.specs.declared.fault.AsmCause.{AsmCause}
-use Rattle.asm_core.specs.declared.fault.AsmCause.TheVariants as asm
+use Rattle.asm_core.specs.FaultNames.{asm_cause_name}
 use Rattle.cycle_check.specs.declared.fault.CertCause.{CertCause}
-use Rattle.cycle_check.specs.declared.fault.CertCause.TheVariants as cert
+use Rattle.cycle_check.specs.FaultNames.{cert_cause_name}
 use Rattle.game_check.specs.declared.fault.Obstacle.{Obstacle}
 use Rattle.game_check.specs.declared.fault.ProofCause.{ProofCause}
-use Rattle.game_check.specs.declared.fault.ProofCause.TheVariants as proof
+use Rattle.game_check.specs.FaultNames.{proof_cause_name}
 use Rattle.chip8_source.specs.declared.fault.ImageFault.{ImageFault}
 use Rattle.chip8_source.specs.declared.fault.ImageFault.TheVariants as image
 use Rattle.vip_keypad.specs.declared.script.ScriptCause.{ScriptCause}
-use Rattle.vip_keypad.specs.declared.script.ScriptCause.TheVariants as script
+use Rattle.vip_keypad.specs.FaultNames.{script_cause_name}
 use Rattle.vip_words.specs.declared.debug_commands.CommandCause.{CommandCause}
-use Rattle.vip_words.specs.declared.debug_commands.CommandCause.TheVariants as command
+use Rattle.vip_words.specs.FaultNames.{command_cause_name}
 use Rattle.vip_text.specs.declared.fault.StateFault.{StateFault}
-use Rattle.vip_text.specs.declared.fault.StateFault.TheVariants as state
+use Rattle.vip_text.specs.declared.fault.StateFault.TheVariants.{BadLength}
+use Rattle.vip_text.specs.FaultNames.{state_fault_name}
 use Rattle.vip_text.specs.Stops.{opcode_part, stop_line}
 use Rattle.vip_byte.specs.Text.{newline}
 use Rattle.vip_text.specs.Endings.{Ending, ending_in}
@@ -63,57 +64,9 @@ report_pieces (byte ∷ bytes) = (byte ∷ bytes) ∷ []
 
 -- ---- refusals
 
-abbrev pub asm_cause : AsmCause → List ℕ
-asm_cause asm.BadText = codes "BadText"
-asm_cause asm.UnknownMnemonic = codes "UnknownMnemonic"
-asm_cause asm.BadOperand = codes "BadOperand"
-asm_cause asm.Range = codes "Range"
-asm_cause asm.Duplicate = codes "Duplicate"
-asm_cause asm.Undefined = codes "Undefined"
-asm_cause asm.OffPage = codes "OffPage"
-asm_cause asm.Overlap = codes "Overlap"
-asm_cause asm.TooLarge = codes "TooLarge"
-
-abbrev pub script_cause : ScriptCause → List ℕ
-script_cause script.BadLine = codes "BadLine"
-script_cause script.BadCycle = codes "BadCycle"
-script_cause script.BadKey = codes "BadKey"
-script_cause script.OutOfOrder = codes "OutOfOrder"
-script_cause script.TooMany = codes "TooMany"
-
-abbrev pub command_cause : CommandCause → List ℕ
-command_cause command.BadWord = codes "BadWord"
-command_cause command.BadCount = codes "BadCount"
-command_cause command.BadNumber = codes "BadNumber"
-command_cause command.Range = codes "Range"
-
-abbrev pub cert_cause : CertCause → List ℕ
-cert_cause cert.BadLine = codes "BadLine"
-cert_cause cert.BadNumber = codes "BadNumber"
-cert_cause cert.Order = codes "Order"
-cert_cause cert.NoEntry = codes "NoEntry"
-cert_cause cert.Opcode = codes "Opcode"
-cert_cause cert.Step = codes "Step"
-
-abbrev pub proof_cause : ProofCause → List ℕ
-proof_cause proof.BadLine = codes "BadLine"
-proof_cause proof.Order = codes "Order"
-proof_cause proof.NoStart = codes "NoStart"
-proof_cause proof.Outside = codes "Outside"
-proof_cause proof.Opcode = codes "Opcode"
-proof_cause proof.Access = codes "Access"
-proof_cause proof.Next = codes "Next"
-
 -- the first fault of a state file
-abbrev pub state_cause : StateFault → List ℕ
-state_cause state.BadLength = codes "BadLength"
-state_cause state.BadHead = codes "BadHead"
-state_cause state.BadEdition = codes "BadEdition"
-state_cause state.BadCycle = codes "BadCycle"
-state_cause state.BadMachine = codes "BadMachine"
-
 abbrev pub bad_state : StateFault → List ℕ
-bad_state fault = codes "vip: state file: " ++ (state_cause fault ++ newline)
+bad_state fault = codes "vip: state file: " ++ (state_fault_name fault ++ newline)
 
 -- the number of a line and what is wrong with it
 abbrev pub at_line : List ℕ → ℕ → List ℕ → List ℕ
@@ -126,7 +79,7 @@ too_large_report Script = codes "vip: key script larger than 1048576 bytes" ++ n
 too_large_report Commands = codes "vip: commands larger than 1048576 bytes" ++ newline
 too_large_report Source = codes "vip: source too large" ++ newline
 too_large_report Certificate = codes "vip: certificate larger than 1048576 bytes" ++ newline
-too_large_report State = bad_state state.BadLength
+too_large_report State = bad_state BadLength
 too_large_report Message = codes "vip: message larger than 3000 bytes" ++ newline
 too_large_report Rom = codes "vip: rom larger than 2048 bytes" ++ newline
 too_large_report Ram = codes "vip: program larger than 4096 bytes" ++ newline
@@ -140,24 +93,24 @@ cannot_read name = codes "vip: cannot read " ++ (name ++ newline)
 
 -- the first fault of a script, of the debugger's commands, of a source, and of a certificate of cycles and of a game
 abbrev pub bad_script : ℕ → ScriptCause → List ℕ
-bad_script line cause = at_line (codes "vip: key script line ") line (script_cause cause)
+bad_script line cause = at_line (codes "vip: key script line ") line (script_cause_name cause)
 
 abbrev pub bad_command : ℕ → CommandCause → List ℕ
-bad_command line cause = at_line (codes "vip: commands line ") line (command_cause cause)
+bad_command line cause = at_line (codes "vip: commands line ") line (command_cause_name cause)
 
 abbrev pub bad_source : ℕ → AsmCause → List ℕ
-bad_source line cause = at_line (codes "vip: source line ") line (asm_cause cause)
+bad_source line cause = at_line (codes "vip: source line ") line (asm_cause_name cause)
 
 abbrev pub bad_certificate : ℕ → CertCause → List ℕ
-bad_certificate line cause = at_line (codes "vip: certificate line ") line (cert_cause cause)
+bad_certificate line cause = at_line (codes "vip: certificate line ") line (cert_cause_name cause)
 
 abbrev pub bad_proof : ℕ → ProofCause → List ℕ
-bad_proof line cause = at_line (codes "vip: proof line ") line (proof_cause cause)
+bad_proof line cause = at_line (codes "vip: proof line ") line (proof_cause_name cause)
 
 -- where the search for a certificate ended: why, the opcode where it has one, pc, the range of I, and the stack
 unfoldable pub no_certificate : Obstacle → List ℕ
 no_certificate o =
-    codes "vip: no certificate: " ++ proof_cause o.cause ++ opcode_part o.opcode ++ codes " at " ++ hex4 o.claim.point.pc ++ codes " with I "
+    codes "vip: no certificate: " ++ proof_cause_name o.cause ++ opcode_part o.opcode ++ codes " at " ++ hex4 o.claim.point.pc ++ codes " with I "
     ++ hex4 o.claim.low ++ codes " to " ++ hex4 o.claim.high ++ codes " stack" ++ words_text o.claim.point.stack.items ++ newline
 
 abbrev pub no_memory : List ℕ
@@ -169,7 +122,7 @@ rom_differs address assembled here =
     codes "vip: rom differs at " ++ (hex4 address ++ (codes ": source " ++ (hex2 assembled ++ (codes " image " ++ (hex2 here ++ newline)))))
 
 abbrev pub image_report : ImageFault → List ℕ
-image_report (image.BadRomSource line cause) = at_line (codes "vip: rom source line ") line (asm_cause cause)
+image_report (image.BadRomSource line cause) = at_line (codes "vip: rom source line ") line (asm_cause_name cause)
 image_report (image.RomDiffers address assembled here) = rom_differs address assembled here
 image_report image.NoMemory = no_memory
 

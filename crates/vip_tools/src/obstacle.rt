@@ -5,26 +5,10 @@ ghost use Rattle.arrayvec.specs.ArrayVec.{array_vec_len};
 ghost use Rattle.vip_byte.specs.HexText.{words_text};
 ghost use Rattle.vip_byte.specs.Room.{HasRoom};
 ghost use Rattle.vip_text.specs.Stops.{opcode_part};
-ghost use Rattle.vip_tools.specs.Report.{no_certificate, proof_cause};
+ghost use Rattle.vip_tools.specs.Report.{no_certificate};
 
-use game_check::{Obstacle, ProofCause};
+use game_check::Obstacle;
 use vip_byte::{Buffer, hex4, put};
-
-/// The name of a cause.
-pub fn proof_cause(cause: ProofCause) -> &'static str
-    ensures text { result.now ≡ proof_cause cause }
-    ensures len { length result.now ≤ 7 }
-{
-    match cause {
-        ProofCause::BadLine => "BadLine",
-        ProofCause::Order => "Order",
-        ProofCause::NoStart => "NoStart",
-        ProofCause::Outside => "Outside",
-        ProofCause::Opcode => "Opcode",
-        ProofCause::Access => "Access",
-        ProofCause::Next => "Next",
-    }
-}
 
 /// Appends an opcode behind a blank, where there is one.
 fn put_opcode(into: &mut Buffer, opcode: Option<u16>)
@@ -57,7 +41,7 @@ pub fn obstacle_text(obstacle: &Obstacle, into: &mut Buffer)
 {
     let claim = &obstacle.claim;
     put(into, b"vip: no certificate: ");
-    put(into, proof_cause(obstacle.cause).as_bytes());
+    put(into, obstacle.cause.name().as_bytes());
     put_opcode(into, obstacle.opcode);
     put(into, b" at ");
     put(into, &hex4(claim.point.pc));

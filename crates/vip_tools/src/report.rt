@@ -4,24 +4,20 @@ ghost use Rattle.std.specs.Prelude.{◌≡◌, [], IfOk};
 ghost use Rattle.std.specs.List.{flat_map};
 ghost use Rattle.vip_outside.specs.Pieces.{StreamAnswers};
 ghost use Rattle.vip_outside.specs.Sink.{PutAnswers};
-ghost use Rattle.vip_tools.specs.Report.{ended_report, report_pieces, write_fault, asm_cause, at_line, cert_cause, command_cause, done, idle_report, image_report, linked_report, no_certificate, report_of, rom_differs, script_cause, state_cause, too_large_report};
+ghost use Rattle.vip_tools.specs.Report.{ended_report, report_pieces, write_fault, at_line, bad_state, done, idle_report, image_report, linked_report, no_certificate, report_of, rom_differs, too_large_report};
 ghost use Rattle.vip_tools.specs.Reported.{RefusalAnswers};
 
 use crate::ended::Ended;
-use crate::obstacle::{obstacle_text, proof_cause};
+use crate::obstacle::obstacle_text;
 use crate::refusal::{Kind, Refusal};
 use crate::status::Status;
-use asm_core::AsmCause;
 use chip8_source::ImageFault;
-use cycle_check::CertCause;
 use game_check::Obstacle;
 use itoa::Buffer as Digits;
 use std::alloc::{AllocError, Global};
 use vip_byte::{Buffer, hex2, hex4, put};
-use vip_keypad::ScriptCause;
 use vip_outside::{Failed, Sink};
 use vip_text::{RunEnd, StateFault, stop_text};
-use vip_words::CommandCause;
 
 /// A line of these parts.
 fn line(alloc: Global, parts: &[&[u8]]) -> Result<Vec<u8>, AllocError>
@@ -34,70 +30,6 @@ fn line(alloc: Global, parts: &[&[u8]]) -> Result<Vec<u8>, AllocError>
     Ok(line)
 }
 
-fn asm_cause(cause: AsmCause) -> &'static str
-    ensures { result.now ≡ asm_cause cause }
-{
-    match cause {
-        AsmCause::BadText => "BadText",
-        AsmCause::UnknownMnemonic => "UnknownMnemonic",
-        AsmCause::BadOperand => "BadOperand",
-        AsmCause::Range => "Range",
-        AsmCause::Duplicate => "Duplicate",
-        AsmCause::Undefined => "Undefined",
-        AsmCause::OffPage => "OffPage",
-        AsmCause::Overlap => "Overlap",
-        AsmCause::TooLarge => "TooLarge",
-    }
-}
-
-fn script_cause(cause: ScriptCause) -> &'static str
-    ensures { result.now ≡ script_cause cause }
-{
-    match cause {
-        ScriptCause::BadLine => "BadLine",
-        ScriptCause::BadCycle => "BadCycle",
-        ScriptCause::BadKey => "BadKey",
-        ScriptCause::OutOfOrder => "OutOfOrder",
-        ScriptCause::TooMany => "TooMany",
-    }
-}
-
-fn command_cause(cause: CommandCause) -> &'static str
-    ensures { result.now ≡ command_cause cause }
-{
-    match cause {
-        CommandCause::BadWord => "BadWord",
-        CommandCause::BadCount => "BadCount",
-        CommandCause::BadNumber => "BadNumber",
-        CommandCause::Range => "Range",
-    }
-}
-
-fn cert_cause(cause: CertCause) -> &'static str
-    ensures { result.now ≡ cert_cause cause }
-{
-    match cause {
-        CertCause::BadLine => "BadLine",
-        CertCause::BadNumber => "BadNumber",
-        CertCause::Order => "Order",
-        CertCause::NoEntry => "NoEntry",
-        CertCause::Opcode => "Opcode",
-        CertCause::Step => "Step",
-    }
-}
-
-fn state_cause(fault: StateFault) -> &'static str
-    ensures { result.now ≡ state_cause fault }
-{
-    match fault {
-        StateFault::BadLength => "BadLength",
-        StateFault::BadHead => "BadHead",
-        StateFault::BadEdition => "BadEdition",
-        StateFault::BadCycle => "BadCycle",
-        StateFault::BadMachine => "BadMachine",
-    }
-}
-
 /// The number of a line and what is wrong with it.
 fn at_line(alloc: Global, text: &[u8], number: u32, cause: &str) -> Result<Vec<u8>, AllocError>
     ensures { IfOk result (λ line. line.items ≡ at_line text.now number cause.now) }
@@ -107,20 +39,29 @@ fn at_line(alloc: Global, text: &[u8], number: u32, cause: &str) -> Result<Vec<u
     line(alloc, &[text, number, b": ", cause.as_bytes(), b"\n"])
 }
 
-fn too_large(kind: Kind) -> &'static [u8]
-    ensures { result.now ≡ too_large_report kind }
+/// The first fault of a state file.
+fn bad_state(alloc: Global, fault: StateFault) -> Result<Vec<u8>, AllocError>
+    ensures { IfOk result (λ line. line.items ≡ bad_state fault) }
+{
+    let name = fault.name().as_bytes();
+    line(alloc, &[b"vip: state file: ", name, b"\n"])
+}
+
+/// More bytes than a file of this kind may have.
+fn too_large(alloc: Global, kind: Kind) -> Result<Vec<u8>, AllocError>
+    ensures { IfOk result (λ line. line.items ≡ too_large_report kind) }
 {
     match kind {
-        Kind::Game => b"vip: game larger than 3232 bytes\n",
-        Kind::TallGame => b"vip: game larger than 2976 bytes\n",
-        Kind::Script => b"vip: key script larger than 1048576 bytes\n",
-        Kind::Commands => b"vip: commands larger than 1048576 bytes\n",
-        Kind::Source => b"vip: source too large\n",
-        Kind::Certificate => b"vip: certificate larger than 1048576 bytes\n",
-        Kind::State => b"vip: state file: BadLength\n",
-        Kind::Message => b"vip: message larger than 3000 bytes\n",
-        Kind::Rom => b"vip: rom larger than 2048 bytes\n",
-        Kind::Ram => b"vip: program larger than 4096 bytes\n",
+        Kind::Game => line(alloc, &[b"vip: game larger than 3232 bytes\n"]),
+        Kind::TallGame => line(alloc, &[b"vip: game larger than 2976 bytes\n"]),
+        Kind::Script => line(alloc, &[b"vip: key script larger than 1048576 bytes\n"]),
+        Kind::Commands => line(alloc, &[b"vip: commands larger than 1048576 bytes\n"]),
+        Kind::Source => line(alloc, &[b"vip: source too large\n"]),
+        Kind::Certificate => line(alloc, &[b"vip: certificate larger than 1048576 bytes\n"]),
+        Kind::State => bad_state(alloc, StateFault::BadLength),
+        Kind::Message => line(alloc, &[b"vip: message larger than 3000 bytes\n"]),
+        Kind::Rom => line(alloc, &[b"vip: rom larger than 2048 bytes\n"]),
+        Kind::Ram => line(alloc, &[b"vip: program larger than 4096 bytes\n"]),
     }
 }
 
@@ -150,7 +91,7 @@ fn image_fault(alloc: Global, fault: ImageFault) -> Result<Vec<u8>, AllocError>
 {
     match fault {
         ImageFault::BadRomSource { line, cause } => {
-            at_line(alloc, b"vip: rom source line ", line, asm_cause(cause))
+            at_line(alloc, b"vip: rom source line ", line, cause.name())
         }
         ImageFault::RomDiffers {
             address,
@@ -183,26 +124,23 @@ fn refusal_line(alloc: Global, refusal: &Refusal<'_>) -> Result<Vec<u8>, AllocEr
             &[b"usage: vip trace, play, debug, demo, asm, list, dis or bounds\n"],
         ),
         Refusal::Unread(name) => line(alloc, &[b"vip: cannot read ", name.as_bytes(), b"\n"]),
-        Refusal::TooLarge(kind) => line(alloc, &[too_large(*kind)]),
+        Refusal::TooLarge(kind) => too_large(alloc, *kind),
         Refusal::Script { line, cause } => {
-            at_line(alloc, b"vip: key script line ", *line, script_cause(*cause))
+            at_line(alloc, b"vip: key script line ", *line, cause.name())
         }
         Refusal::Command { line, cause } => {
-            at_line(alloc, b"vip: commands line ", *line, command_cause(*cause))
+            at_line(alloc, b"vip: commands line ", *line, cause.name())
         }
         Refusal::Source { line, cause } => {
-            at_line(alloc, b"vip: source line ", *line, asm_cause(*cause))
+            at_line(alloc, b"vip: source line ", *line, cause.name())
         }
-        Refusal::State(fault) => {
-            let cause = state_cause(*fault).as_bytes();
-            line(alloc, &[b"vip: state file: ", cause, b"\n"])
-        }
+        Refusal::State(fault) => bad_state(alloc, *fault),
         Refusal::Rom(fault) => image_fault(alloc, *fault),
         Refusal::Certificate { line, cause } => {
-            at_line(alloc, b"vip: certificate line ", *line, cert_cause(*cause))
+            at_line(alloc, b"vip: certificate line ", *line, cause.name())
         }
         Refusal::Proof { line, cause } => {
-            at_line(alloc, b"vip: proof line ", *line, proof_cause(*cause))
+            at_line(alloc, b"vip: proof line ", *line, cause.name())
         }
         Refusal::NoCertificate(found) => obstacle(alloc, found),
         Refusal::NoMemory => line(alloc, &[NO_MEMORY]),

@@ -6,3 +6,4 @@ pub mod Rules
 pub mod Table
 pub mod Usage
 pub mod DebugGrammar
+pub mod FaultNames

@@ -3,6 +3,7 @@
 ghost use Rattle.std.specs.Prelude.{◌≡◌, ◌≤◌, ◌⊎◌, ◌++◌, length, Ok, Err, OnOk, IfOk, IfErr};
 ghost use Rattle.std.specs.Option.{option_to_list};
 ghost use Rattle.vip_words.specs.DebugGrammar.{commands_of};
+ghost use Rattle.vip_words.specs.FaultNames.{command_cause_name};
 
 use crate::debug_line::read_line;
 use std::alloc::{AllocError, Global};
@@ -74,19 +75,30 @@ pub enum Speaks {
 
 /// Why a line says no command, in the order in which the causes are looked for.
 #[derive(Clone, Copy, Debug, Error)]
+#[error("{}", self.name())]
 pub enum CommandCause {
     /// The first word is no command.
-    #[error("BadWord")]
     BadWord,
     /// The command has another number of operands.
-    #[error("BadCount")]
     BadCount,
     /// An operand is not of its digits, or an address has more than four.
-    #[error("BadNumber")]
     BadNumber,
     /// A number is out of its range.
-    #[error("Range")]
     Range,
+}
+
+impl CommandCause {
+    /// Its name, which its text and the reports show.
+    pub fn name(self) -> &'static str
+        ensures { result.now ≡ command_cause_name self }
+    {
+        match self {
+            CommandCause::BadWord => "BadWord",
+            CommandCause::BadCount => "BadCount",
+            CommandCause::BadNumber => "BadNumber",
+            CommandCause::Range => "Range",
+        }
+    }
 }
 
 /// Why a text of commands was not read.

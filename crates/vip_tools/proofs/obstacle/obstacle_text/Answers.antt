@@ -19,7 +19,7 @@ returns c =
       c.put.ensures.items,
       c.requires,
       c.as_bytes.ensures.value,
-      c.proof_cause.ensures.text,
+      c.name.ensures.text,
       c.hex4.ensures,
       c.hex4-2.ensures,
       c.hex4-3.ensures,

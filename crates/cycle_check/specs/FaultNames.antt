@@ -1,0 +1,12 @@
+-- The name of each cause for which a certificate of cycles is refused, as texts and reports show it.
+use Rattle.std.specs.Prelude.{ℕ, List, codes}
+use Rattle.cycle_check.specs.declared.fault.CertCause.{CertCause}
+use Rattle.cycle_check.specs.declared.fault.CertCause.TheVariants.{BadLine, BadNumber, Order, NoEntry, Opcode, Step}
+
+abbrev pub cert_cause_name : CertCause → List ℕ
+cert_cause_name BadLine = codes "BadLine"
+cert_cause_name BadNumber = codes "BadNumber"
+cert_cause_name Order = codes "Order"
+cert_cause_name NoEntry = codes "NoEntry"
+cert_cause_name Opcode = codes "Opcode"
+cert_cause_name Step = codes "Step"
