@@ -5,8 +5,8 @@
 //! as they must be. A case that isn't is written with its name, what was due and what came. The stored output is what all cases must
 //! give.
 //!
-//! What no words put out is written behind them: a demonstration game, the reports of a ROM that isn't what its source gives, the texts of
-//! the faults, and what the real sink and the real files do with streams and files.
+//! What no words put out is written behind them: a demonstration game, the reports of a ROM that isn't what its source gives, the text of each
+//! variant of each error type beside the one that is due, and what the real sink and the real files do with streams and files.
 //!
 //! It stands on the program's call, on the files and sinks of `vip_outside`, and, but for the faults whose texts it writes, on nothing of what
 //! lies below. What is expected was worked out by hand from the rules: this is a test of the definitions that the proofs cite, and nothing
@@ -17,6 +17,7 @@ mod answer;
 mod case;
 mod due;
 mod fault;
+mod fault_texts;
 mod group;
 mod outside;
 mod pattern;
@@ -26,9 +27,10 @@ mod word;
 
 use crate::answer::{Answer, is_record};
 use crate::case::Case;
+use crate::fault_texts::write_fault_texts;
 use crate::group::{Group, groups_of};
 use crate::outside::{write_files, write_streams};
-use crate::texts::{write_faults, write_refusals};
+use crate::texts::write_refusals;
 use std::fs;
 use vip_tools::demo_game;
 
@@ -162,7 +164,7 @@ fn main(rt: HostRuntime) -> anyhow::Result<()> {
     run_groups(&rt, &fs::read_to_string(&rt, "cases.txt")?)?;
     write_demo_game(&rt)?;
     write_refusals(&rt)?;
-    write_faults(&rt)?;
+    write_fault_texts(&rt)?;
     write_streams(&rt)?;
     write_files(&rt)
 }

@@ -9,7 +9,7 @@ use thiserror::Error;
 #[derive(Clone, Copy, Debug, Error)]
 pub enum LinkFault {
     /// The message has this many bytes, more than 3,000.
-    #[error("message larger than 3000 bytes")]
+    #[error("MessageTooLarge {0}")]
     MessageTooLarge(usize),
     /// There was not enough memory.
     #[error("NoMemory")]
