@@ -1,5 +1,5 @@
 -- Each source gives its ROM, so nothing comes to the refusal of a ROM that isn't what its source gives.
-use Rattle.std.proofs.Common.{◌≡◌, ℕ, List, [], ◌∷◌, sym, subst, Result, Ok, Err}
+use Rattle.std.proofs.Common.{◌≡◌, ℕ, List, [], ◌∷◌, Option, Some, None, sym, subst, Result, Ok, Err}
 use Rattle.machine.specs.Keys.{Event as KeyEvent}
 use Rattle.chip8_lang.specs.declared.view.Edition.{Edition}
 use Rattle.chip8_lang.specs.declared.view.Edition.TheVariants.{Usual, Tall}
@@ -13,6 +13,7 @@ use Rattle.vip_words.specs.declared.debug_commands.CommandFault.{CommandFault}
 use Rattle.vip_words.specs.declared.debug_commands.CommandFault.TheVariants as debug_fault
 use Rattle.vip_link.specs.Checked.{ComparesLink}
 use Rattle.vip_program.specs.declared.trace.ProgramEnd.{ProgramEnd}
+use Rattle.vip_text.specs.Endings.{Ending}
 use Rattle.vip_tools.specs.declared.status.Status.{Status}
 use Rattle.vip_tools.specs.declared.status.Status.TheVariants.{BadRomSource, RomDiffers}
 use Rattle.vip_tools.specs.Certificates.{CertifyComes, CyclesComes, SafeComes}
@@ -22,7 +23,7 @@ use Rattle.vip_tools.specs.Certificates.SafeComes.{FaultyProof, Proves}
 use Rattle.vip_tools.specs.Outcome.{Outcome, SourceComes}
 use Rattle.vip_tools.specs.Outcome.Outcome.{Refused, Shown, GivenUp}
 use Rattle.vip_tools.specs.Outcome.SourceComes.{FaultySource, Assembles}
-use Rattle.vip_verbs.specs.Outcome.{Comes, RunTo, DebugComes, ResumeComes, LinkComes, RomIs}
+use Rattle.vip_verbs.specs.Outcome.{Comes, RunTo, DebugComes, ResumeComes, LinkComes, RomIs, saved_as}
 use Rattle.vip_verbs.specs.Outcome.RunTo.{FaultyScript, FaultyRom, Runs}
 use Rattle.vip_verbs.specs.Outcome.LinkComes.{FaultyRoms, Links}
 use Rattle.vip_verbs.specs.Programs.{ProgramComes, ProgramDebugComes}
@@ -68,6 +69,10 @@ proof_free e game text _ (Proves count is) = tt
 search_free : (e : Edition) (game : List ℕ) (o : Outcome) → CertifyComes e game o → Free o
 search_free e game _ (Finds text is fits) = tt
 search_free e game _ (FindsNone obstacle) = tt
+
+saved_free : (limit : ℕ) (ending : Ending) (file : Option (List ℕ)) → Free (saved_as limit ending file)
+saved_free limit ending None = λ x. x
+saved_free limit ending (Some file) = tt
 
 module _ (memory : Memory) (bytes : List ℕ) (limit : ℕ) (scripts : List (List ℕ)) where
   program_free : (pieces : Seen → List (List ℕ)) (ended : Seen → ProgramEnd) (o : Outcome)
@@ -124,7 +129,7 @@ module _ (given : RomsGiven) where
   comes_free (dis a) (bytes ∷ []) o x = alone_free _ o tt x
   comes_free (dis a) (bytes ∷ c ∷ cs) o x = absurd x
   comes_free (save a) [] o x = absurd x
-  comes_free (save a) (game ∷ scripts) o x = run_free a.edition scripts _ o (λ script. tt) x
+  comes_free (save a) (game ∷ scripts) o x = run_free a.edition scripts _ o (λ script. saved_free a.cycles _ _) x
   comes_free (resume a) [] o x = absurd x
   comes_free (resume a) (file ∷ scripts) o x = resume_free a file scripts o x
   comes_free (trace_program a) [] o x = absurd x

@@ -1,5 +1,5 @@
 -- The run of a game is a run of CHIP-8 with its ending, by the law of every run.
-use Rattle.std.proofs.Common.{ℕ, ◌<◌, ◌≤◌, List, [], ◌∷◌, length, Result, Ok, Err, slice_index, refl, arith}
+use Rattle.std.proofs.Common.{ℕ, ◌<◌, ◌≤◌, List, [], ◌∷◌, length, Option, Some, None, Result, Ok, Err, slice_index, refl, arith}
 use Rattle.machine.specs.Board.{Machine}
 use Rattle.machine.specs.Keys.{Event as KeyEvent}
 use Rattle.chip8_lang.specs.declared.view.Edition.{Edition}
@@ -12,6 +12,7 @@ use Rattle.rom_board.specs.Laws.{EveryRun}
 use Rattle.rom_board.specs.Program.{numbered, program}
 use Rattle.vip_relation.specs.State.{started}
 use Rattle.vip_show.specs.Endings.{ending_after, ending_of}
+use Rattle.vip_show.specs.StateOutput.{saved_file}
 use Rattle.vip_words.specs.DebugGrammar.{commands_of}
 use Rattle.vip_words.specs.declared.debug_commands.Command.{Command}
 use Rattle.vip_words.specs.declared.debug_commands.Speaks.TheVariants.{Chip8}
@@ -21,10 +22,10 @@ use Rattle.vip_outside.specs.Files.{FilesMeaning}
 use Rattle.vip_words.specs.Asked.{Asked, trace, play, debug, save, resume, demo, link, trace_program, play_program, debug_program, asm, list, dis, source as interpreter, bounds, within, safe, certify}
 use Rattle.vip_tools.specs.Demo.{demo_game}
 use Rattle.vip_tools.specs.Files.{needed, HasAll}
-use Rattle.vip_call.specs.Language.{named, IsChip8, RunIsChip8, DebugsChip8, SavesChip8, ShowsChip8}
+use Rattle.vip_call.specs.Language.{named, IsChip8, RunIsChip8, DebugsChip8, ShowsChip8}
 use Rattle.vip_tools.specs.Outcome.{Outcome}
 use Rattle.vip_tools.specs.Outcome.Outcome.{Refused, Shown, GivenUp}
-use Rattle.vip_verbs.specs.Outcome.{Comes, RunComes, DebugComes, SaveComes, run_of, events_in, run_ending, debug_ending}
+use Rattle.vip_verbs.specs.Outcome.{Comes, RunComes, DebugComes, SaveComes, run_of, events_in, run_ending, debug_ending, saved_as}
 use Rattle.vip_verbs.specs.Outcome.RunTo.{FaultyScript, FaultyRom, Runs}
 use Rattle.vip_call.specs.Top.{Call, SpeaksChip8}
 use Rattle.vip_tools.specs.declared.status.Status.{Status}
@@ -107,30 +108,30 @@ module _ (law : EveryRun) where
     debug_read (Err NoMemory) o comes = absurd comes
 
   -- a run that is saved
-  OfSaved : Edition → List ℕ → List (List ℕ) → ℕ → Outcome → Type 0
-  OfSaved e game scripts limit (Refused status report) = Unit {0}
-  OfSaved e game scripts limit (GivenUp report) = Unit {0}
-  OfSaved e game scripts limit (Shown pieces status report) = SavesChip8 e game scripts limit status report
-
   save_shows :
       (e : Edition) (game : List ℕ) (fits : length game ≤ memory_size e) (bytes : (i : ℕ) → slice_index game i < 256) (limit : ℕ)
-      (scripts : List (List ℕ)) (o : Outcome) → SaveComes e game limit scripts o → OfSaved e game scripts limit o
-  unfolding OfSaved
+      (scripts : List (List ℕ)) (o : Outcome) → SaveComes e game limit scripts o → OfRun e game scripts limit o
+  unfolding OfRun
   save_shows e game fits bytes limit scripts _ (FaultyScript line cause is) = tt
   save_shows e game fits bytes limit scripts _ (FaultyRom script fault is fault_is rom) = tt
-  save_shows e game fits bytes limit scripts _ (Runs script is rom) = record {
-    script = script;
-    reads = is;
-    run = is_chip8 e game script limit fits bytes;
-    status_is = refl;
-    report_is = refl;
-  }
+  save_shows e game fits bytes limit scripts _ (Runs script is rom) = go (saved_file e (events_in e game script limit))
+    where
+      go : (file : Option (List ℕ)) → OfRun e game scripts limit (saved_as limit (run_ending e game limit script) file)
+      go None = tt
+      go (Some file) = record {
+        script = script;
+        reads = is;
+        ending = run_ending e game limit script;
+        run = is_chip8 e game script limit fits bytes;
+        status_is = refl;
+        report_is = refl;
+      }
 
   shows :
       (from : FromFile) (old : FilesMeaning) (asked : Asked) (contents pieces : List (List ℕ)) (status : Status) (report : List ℕ)
       → HasAll old (needed asked) contents
       → Comes asked contents (Shown pieces status report) → ShowsChip8 asked contents status report
-  unfolding OfRun OfDebug OfSaved OfResumed
+  unfolding OfRun OfDebug OfResumed
   shows from old (trace a) [] pieces status report read comes = tt
   shows from old (trace a) (game ∷ scripts) pieces status report read comes =
       run_shows a.run.edition game read.0.fits read.0.bytes a.run.cycles scripts _ (Shown pieces status report) comes

@@ -1,12 +1,12 @@
 -- What was saved of a run goes on as that run.
 use Rattle.std.proofs.Common.{◌≡◌, ◌<◌, ◌≤◌, ℕ, Bool, false, List, [], ◌∷◌, ◌++◌, length, slice_index, Option, Some, None, Ok, refl, sym, ap, subst, ◌∙◌, append-nil}
-use Rattle.std.specs.Option.{option_to_list}
 use Rattle.machine.specs.Keys.{Event as KeyEvent}
 use Rattle.chip8_lang.specs.declared.view.Edition.{Edition}
 use Rattle.chip8_lang.specs.State.{memory_size}
 use Rattle.vip_outside.specs.Files.{FilesMeaning}
 use Rattle.chip8_image.specs.Interpreters.{interpreter_of}
 use Rattle.vip_show.specs.Output.{trace_lines, trace_pieces}
+use Rattle.vip_text.specs.Endings.{Ending}
 use Rattle.vip_text.specs.StateFile.{shown}
 use Rattle.vip_show.specs.Laws.{IsRest as IsRestOfRun, SavedGoesOn}
 use Rattle.vip_show.specs.StateOutput.{saved_file}
@@ -18,7 +18,7 @@ use Rattle.vip_words.specs.Asked.{Asked, AskedRun, most_cycles, trace, play, deb
 use Rattle.vip_tools.specs.Files.{needed, HasAll}
 use Rattle.vip_tools.specs.Outcome.{Outcome, script_in}
 use Rattle.vip_tools.specs.Outcome.Outcome.{Refused, Shown}
-use Rattle.vip_verbs.specs.Outcome.{Comes, RunTo, RomIs, events_in, run_ending, saved, resumed as resumed_outcome}
+use Rattle.vip_verbs.specs.Outcome.{Comes, RunTo, RomIs, events_in, run_ending, saved, saved_as, resumed as resumed_outcome}
 use Rattle.vip_verbs.specs.Outcome.RunTo.{FaultyScript, FaultyRom, Runs}
 use Rattle.vip_call.specs.Saved.{Continues, GoesOnAsRun, IsRest, traced, resumed}
 use Rattle.vip_call.specs.Top.{Call, ContinuesSaved}
@@ -50,10 +50,13 @@ shows_of e scripts outcome p a r x = go (Shown p a r) refl x
     go _ h (FaultyRom t f y is rom) = absurd (not_refused p _ a _ r h)
     go _ h (Runs t y rom) = record { script = t; reads = y; rom = rom; is = h }
 
--- one piece, of an option
-one_piece : (f : Option (List ℕ)) (file : List ℕ) (others : List (List ℕ)) → option_to_list f ≡ file ∷ others → (f ≡ Some file) × (others ≡ [])
-one_piece None file others h = absurd (cc)
-one_piece (Some g) file others h = (cc, cc)
+-- what is saved is one piece, and there it is
+one_piece :
+    (limit : ℕ) (ending : Ending) (f : Option (List ℕ)) (file : List ℕ) (others : List (List ℕ)) (status : Status) (report : List ℕ)
+    → saved_as limit ending f ≡ Shown (file ∷ others) status report → (f ≡ Some file) × (others ≡ [])
+one_piece limit ending None file others status report h = absurd (not_refused (file ∷ others) _ status _ report h)
+one_piece limit ending (Some g) file others status report h =
+    let same : g ∷ [] ≡ file ∷ others = same_pieces (g ∷ []) (file ∷ others) _ status _ report h in (cc, cc)
 
 same_script : (scripts : List (List ℕ)) (s t : List KeyEvent) → script_in scripts ≡ Ok s → script_in scripts ≡ Ok t → t ≡ s
 same_script scripts s t a b = cc
@@ -132,8 +135,8 @@ module _ (law : SavedGoesOn) where
       let s : Shows a.edition scripts (λ script. saved a.edition a.cycles (events_in a.edition game script a.cycles)) (Shown (file ∷ others) status report) =
       shows_of a.edition scripts _ (file ∷ others) status report comes in
       let is =
-      one_piece (saved_file a.edition (events_in a.edition game s.script a.cycles)) file others
-      (same_pieces _ (file ∷ others) _ status _ report s.is) in
+      one_piece a.cycles (run_ending a.edition game a.cycles s.script) (saved_file a.edition (events_in a.edition game s.script a.cycles)) file others
+      status report s.is in
       let run : IsRestOfRun a.edition game s.script a.cycles file = law a.edition game fits bytes s.script a.cycles low file is.0 in (
         is.1,
         record {

@@ -1,5 +1,5 @@
 -- The laws of the answers, from what each answer says, and what the steps of a call say together.
-use Rattle.std.proofs.Common.{◌≡◌, ℕ, suc, ◌<◌, ◌⊎◌, inl, inr, List, [], ◌∷◌, ◌++◌, Option, Some, None, IsSomeAnd, length, take, take_all, refl, sym, ap, subst, ◌∙◌, arith, Result, Ok, Err}
+use Rattle.std.proofs.Common.{◌≡◌, ℕ, suc, ◌<◌, ◌⊎◌, inl, inr, List, [], ◌∷◌, ◌++◌, Option, Some, None, IsErrAnd, IsSomeAnd, length, take, take_all, refl, sym, ap, subst, ◌∙◌, arith, Result, Ok, Err}
 use Rattle.std.specs.FinMap.{get}
 use Rattle.machine.specs.Keys.{Event as KeyEvent}
 use Rattle.chip8_lang.specs.declared.view.Edition.{Edition}
@@ -20,7 +20,8 @@ use Rattle.vip_words.specs.declared.debug_commands.CommandFault.{CommandFault}
 use Rattle.vip_words.specs.declared.debug_commands.CommandFault.TheVariants as debug_fault
 use Rattle.vip_outside.specs.Count.{Rose}
 use Rattle.vip_outside.specs.Files.{FileMap, FilesMeaning}
-use Rattle.vip_outside.specs.Sink.{SinkMeaning}
+use Rattle.vip_outside.specs.Sink.{SinkMeaning, PutAnswers}
+use Rattle.vip_outside.specs.Pieces.{PutsAll, FailsWithin}
 use Rattle.vip_outside.specs.declared.sink.Failed.{Failed}
 use Rattle.chip8_image.specs.Interpreters.{interpreter_of}
 use Rattle.vip_show.proofs.OneAnswer.{accepted_or_not, one_edition}
@@ -35,7 +36,7 @@ use Rattle.vip_tools.specs.Files.{Needed, needed, HasAll, HasFault, IsRight, Com
 use Rattle.vip_tools.specs.Outcome.{Outcome, SourceComes, rom_text}
 use Rattle.vip_tools.specs.Outcome.Outcome.{Refused, Shown, GivenUp}
 use Rattle.vip_tools.specs.Outcome.SourceComes.{FaultySource, Assembles}
-use Rattle.vip_verbs.specs.Outcome.{Comes, RunTo, DebugComes, ResumeComes, LinkComes, RomIs, IsFault, resumed}
+use Rattle.vip_verbs.specs.Outcome.{Comes, RunTo, DebugComes, ResumeComes, LinkComes, RomIs, IsFault, resumed, saved_as}
 use Rattle.vip_verbs.specs.Outcome.RunTo.{FaultyScript, FaultyRom, Runs}
 use Rattle.vip_verbs.specs.Outcome.LinkComes.{FaultyRoms, Links}
 use Rattle.vip_verbs.specs.Programs.{ProgramComes, ProgramDebugComes}
@@ -43,15 +44,18 @@ use Rattle.vip_verbs.specs.Programs.ProgramComes.{FaultyScript as FaultyKeys, Ru
 use Rattle.vip_board.specs.Seen.{Seen}
 use Rattle.vip_program.specs.declared.trace.ProgramEnd.{ProgramEnd}
 use Rattle.vip_words.specs.declared.request.Memory.{Memory}
-use Rattle.vip_verbs.specs.Prepared.{OfFiles, output_of}
+use Rattle.vip_verbs.specs.Prepared.{OfFiles, PerformAnswers, outcome_of}
 use Rattle.vip_verbs.specs.declared.prepared.Prepared.{Prepared}
+use Rattle.vip_text.specs.Endings.{Ending}
 use Rattle.vip_text.specs.declared.ending.RunEnd.TheVariants as end
 use Rattle.vip_tools.specs.Refusal.{image_status, status_of, too_large_status}
 use Rattle.vip_tools.specs.Reported.{IsPut, RefusalAnswers}
 use Rattle.vip_tools.specs.Status.{ended_status}
 use Rattle.vip_tools.specs.declared.ended.Ended.{Ended}
-use Rattle.vip_tools.specs.declared.ended.Ended.TheVariants.{Worked, Ran, NoDispatch as Undispatched, Idle, Linked}
-use Rattle.vip_tools.specs.Report.{cannot_read, no_certificate, report_of, too_large_report}
+use Rattle.vip_tools.specs.declared.ended.Ended.TheVariants.{Worked, Ran, Idle, Linked}
+use Rattle.vip_tools.specs.declared.fault.PerformFault.{PerformFault}
+use Rattle.vip_tools.specs.declared.fault.PerformFault.TheVariants as perform
+use Rattle.vip_tools.specs.Report.{cannot_read, ended_report, fault_report, no_certificate, no_dispatch, report_of, report_pieces, too_large_report, write_fault}
 use Rattle.vip_call.specs.Top.{Call, call_of, Asks, Oversize, Rejects, GivesUp, Shows, Faulty, Says, IsQuiet, Reading, Lacks, Larger, Whole, with_content, Due, Lacking, TooLarge, Refusing, Showing, RefusesWords, Offers, IsSearch, IsFree, GivesDue, IsOfRom, AreRefused, Completes, FaultyState, Faulted, ReadsContent, ReadsOne, Reads, Faulting}
 use Rattle.vip_tools.specs.declared.refusal.Kind.{Kind}
 use Rattle.vip_tools.specs.declared.refusal.Kind.TheVariants as kind
@@ -249,6 +253,11 @@ no_run d scripts outcome report never x = go (GivenUp report) refl x
 not_shown : (pieces : List (List ℕ)) (status : Status) (report r : List ℕ) → Shown pieces status report ≡ GivenUp r → ⊥
 not_shown pieces status report r h = cc
 
+-- nor is what is saved, or refused
+not_saved : (limit : ℕ) (ending : Ending) (file : Option (List ℕ)) (report : List ℕ) → saved_as limit ending file ≡ GivenUp report → ⊥
+not_saved limit ending None report h = cc
+not_saved limit ending (Some file) report h = cc
+
 no_resume : (a : AskedResume) (file : List ℕ) (scripts : List (List ℕ)) (report : List ℕ) → ResumeComes a file scripts (GivenUp report) → ⊥
 no_resume a file scripts report x = no_run x.edition scripts _ report (λ script h. not_shown _ _ _ report h) x.comes
 
@@ -356,7 +365,7 @@ given_up (dis a) [] report x = absurd x
 given_up (dis a) (bytes ∷ []) report x = absurd (cc)
 given_up (dis a) (bytes ∷ c ∷ cs) report x = absurd x
 given_up (save a) [] report x = absurd x
-given_up (save a) (game ∷ scripts) report x = no_run a.edition scripts _ report (λ script h. not_shown _ _ _ report h) x
+given_up (save a) (game ∷ scripts) report x = no_run a.edition scripts _ report (λ script h. not_saved _ _ _ report h) x
 given_up (resume a) [] report x = absurd x
 given_up (resume a) (file ∷ scripts) report x = absurd (no_resume a file scripts report x)
 given_up (trace_program a) [] report x = absurd x
@@ -647,7 +656,7 @@ module _ (call : Call) (asked : Asked) (files : FileMap) (offers : Offers call a
     | inl large ↦ oversize_due r read due given BadState large
     | inr bad ↦ inl (sym (due_faulted r due given (reads_once files (needed asked) r Faulted read (faulted_here bad))))
   ]
-  due_is NoDispatch says r read due given = shows_due r read due given NoDispatch says
+  due_is NoDispatch says r read due given = rejects_due r read due given NoDispatch says
   due_is BadCertificate says r read due given = rejects_due r read due given BadCertificate says
   due_is MessageTooLarge says r read due given = oversize_due r read due given MessageTooLarge says
   due_is BadProof says r read due given = rejects_due r read due given BadProof says
@@ -670,7 +679,7 @@ module _ (call : Call) (asked : Asked) (files : FileMap) (offers : Offers call a
 
     ends :
         (status : Status) → Says status call → IsQuiet call.out.faults call.out'.faults → IsQuiet call.err.faults call.err'.faults
-        → (status ≡ Done) ⊎ (status ≡ Stopped) ⊎ (status ≡ NoDispatch) ⊎ IsFree asked status
+        → (status ≡ Done) ⊎ (status ≡ Stopped) ⊎ IsFree asked status
     ends Done says out err = inl refl
     ends Stopped says out err = inr (inl refl)
     ends Usage says out err = absurd (nothing_asked call.words asked offers.words says.words)
@@ -686,7 +695,7 @@ module _ (call : Call) (asked : Asked) (files : FileMap) (offers : Offers call a
           | inl fails ↦ absurd (quiet _ _ fails.out.faults out)
           | inr fails ↦ absurd (quiet _ _ fails.err.faults err)
         ]
-    ends NoMemory says out err = inr (inr (inr (inl refl)))
+    ends NoMemory says out err = inr (inr (inl refl))
     ends BadCommand says out err = absurd (not_rejected BadCommand says)
     ends SourceTooLarge says out err = absurd (not_larger SourceTooLarge says)
     ends CommandsTooLarge says out err = absurd (not_larger CommandsTooLarge says)
@@ -694,12 +703,12 @@ module _ (call : Call) (asked : Asked) (files : FileMap) (offers : Offers call a
       | inl large ↦ absurd (not_larger BadState large)
       | inr bad ↦ let fault = reads_once files (needed asked) _ _ (faulted_here bad) there in absurd (cc)
     ]
-    ends NoDispatch says out err = inr (inr (inl refl))
+    ends NoDispatch says out err = absurd (not_rejected NoDispatch says)
     ends BadCertificate says out err = absurd (not_rejected BadCertificate says)
     ends MessageTooLarge says out err = absurd (not_larger MessageTooLarge says)
     ends BadProof says out err = absurd (not_rejected BadProof says)
     ends CertificateTooLarge says out err = absurd (not_larger CertificateTooLarge says)
-    ends NoCertificate says out err = inr (inr (inr (inr (refl, searches says))))
+    ends NoCertificate says out err = inr (inr (inr (refl, searches says)))
     ends RomTooLarge says out err = absurd (not_larger RomTooLarge says)
     ends RamTooLarge says out err = absurd (not_larger RamTooLarge says)
 
@@ -711,6 +720,47 @@ pub completes :
     → (status : Status) (call : Call) → Says status call → Completes status call
 completes free status call says asked files contents offers there accepted out err =
     ends call asked files offers contents there accepted (free asked contents) status says out err
+
+-- ---- what performing answers, by its work and its report
+
+-- a put that is answered
+is_put : (report : List ℕ) (old new : SinkMeaning) (r : Result (Unit {0}) Failed) → PutAnswers report old new r → IsPut report old new
+is_put report old new (Ok done) puts = inl puts
+is_put report old new (Err failed) fails = inr fails
+
+module _ (out out' err err' : SinkMeaning) where
+  pub end_reported :
+      (o : Outcome) (ended : Ended) → PerformAnswers o out out' (Ok ended) → PutsAll (report_pieces (ended_report ended)) err err'
+      → PerformsAnswer o out out' err err' (Ok ended)
+  end_reported (Shown pieces status report) ended performs puts = record {
+    whole = performs.puts;
+    reported = subst (λ r. PutsAll (report_pieces r) err err') (sym performs.report_is) puts;
+    status_is = performs.status_is;
+  }
+  end_reported (Refused status report) ended performs puts = absurd performs
+  end_reported (GivenUp report) ended performs puts = absurd performs
+
+  -- its report failed, and the fault is passed on
+  pub report_failed :
+      (o : Outcome) (ended : Ended) (r : Result Ended PerformFault) → PerformAnswers o out out' (Ok ended)
+      → FailsWithin (report_pieces (ended_report ended)) err err' → IsErrAnd r (λ f. f ≡ perform.WriteFault)
+      → PerformsAnswer o out out' err err' r
+  report_failed o ended (Ok e) performs fails bad = absurd bad
+  report_failed (Shown pieces status report) ended (Err f) performs fails bad =
+      rw bad (inr (performs.puts, subst (λ r. FailsWithin (report_pieces r) err err') (sym performs.report_is) fails))
+  report_failed (Refused status report) ended (Err f) performs fails bad = absurd performs
+  report_failed (GivenUp report) ended (Err f) performs fails bad = absurd performs
+
+  -- it came to no end
+  pub fault_reported :
+      (o : Outcome) (f : PerformFault) (r : Result (Unit {0}) Failed) → PerformAnswers o out out' (Err f) → PutAnswers (fault_report f) err err' r
+      → PerformsAnswer o out out' err err' (Err f)
+  fault_reported (Shown pieces status report) perform.WriteFault r fails puts = inl (fails, is_put write_fault err err' r puts)
+  fault_reported (Shown pieces status report) perform.NoDispatch r fails puts = absurd fails
+  fault_reported (Refused status report) perform.WriteFault r fails puts = absurd fails
+  fault_reported (Refused status report) perform.NoDispatch r refused puts =
+      (refused.0, refused.2, subst (λ text. IsPut text err err') (sym refused.1) (is_put no_dispatch err err' r puts))
+  fault_reported (GivenUp report) f r fails puts = absurd fails
 
 -- ---- what the steps of a call say together
 
@@ -858,51 +908,72 @@ module _ (words : List (List ℕ)) (files files' : FilesMeaning) (out out' err e
   abbrev asks_all : Asks performed_call given.asked given.here.1.contents
   asks_all = record { words = given.words_are; read = given.here.1.read }
 
-  shows : (ended : Ended) → Reports (output_of p) out out' err err' ended → Shows (ended_status ended) performed_call
-  shows ended reports = record {
-    asked = given.asked;
-    contents = given.here.1.contents;
-    asks = asks_all;
-    files = given.here.1.names;
-    pieces = (output_of p).pieces;
-    report = (output_of p).report;
-    comes = subst (λ status. Comes given.asked given.here.1.contents (Shown (output_of p).pieces status (output_of p).report)) reports.status given.here.1.here;
-    out = reports.whole;
-    err = reports.reported;
-  }
+  module _ (pieces : List (List ℕ)) (status : Status) (report : List ℕ) (comes : Comes given.asked given.here.1.contents (Shown pieces status report)) where
+    shows : (ended : Ended) → Reports pieces status report out out' err err' ended → Shows (ended_status ended) performed_call
+    shows ended reports = record {
+      asked = given.asked;
+      contents = given.here.1.contents;
+      asks = asks_all;
+      files = given.here.1.names;
+      pieces = pieces;
+      report = report;
+      comes = subst (λ status. Comes given.asked given.here.1.contents (Shown pieces status report)) reports.status_is comes;
+      out = reports.whole;
+      err = reports.reported;
+    }
+
+    faulty : Faults pieces report out out' err err' → Faulty performed_call
+    faulty faults = record {
+      asked = given.asked;
+      contents = given.here.1.contents;
+      asks = asks_all;
+      files = given.here.1.names;
+      pieces = pieces;
+      status = status;
+      report = report;
+      comes = comes;
+      fault = elim faults [
+        | inl fails ↦ inl (record { out = fails.0; err = fails.1 })
+        | inr fails ↦ inr (record { out = fails.0; err = fails.1 })
+      ];
+    }
 
   says_ended : (ended : Ended) → Shows (ended_status ended) performed_call → Says (ended_status ended) performed_call
   says_ended Worked says = says
   says_ended (Ran limit end.AtLimit) says = says
   says_ended (Ran limit (end.AtStop stop)) says = says
-  says_ended Undispatched says = says
   says_ended (Idle address) says = says
   says_ended (Linked sent received) says = says
 
-  faulty : Faults (output_of p) out out' err err' → Faulty performed_call
-  faulty faults = record {
+  -- a run that is to be saved is refused
+  undispatched :
+      (status : Status) (report : List ℕ) → Comes given.asked given.here.1.contents (Refused status report) → status ≡ NoDispatch → out' ≡ out
+      → IsPut report err err' → Rejects NoDispatch performed_call
+  undispatched status report comes is same put = record {
     asked = given.asked;
     contents = given.here.1.contents;
     asks = asks_all;
     files = given.here.1.names;
-    pieces = (output_of p).pieces;
-    status = (output_of p).status;
-    report = (output_of p).report;
-    comes = given.here.1.here;
-    fault = elim faults [
-      | inl fails ↦ inl (record { out = fails.0; err = fails.1 })
-      | inr fails ↦ inr (record { out = fails.0; err = fails.1 })
-    ];
+    report = report;
+    comes = subst (λ status. Comes given.asked given.here.1.contents (Refused status report)) is comes;
+    refused = record { out = same; err = put };
   }
 
-  says_performed : (r : Result Ended Failed) → PerformsAnswer (output_of p) out out' err err' r → Says (performed_status r) performed_call
-  says_performed (Ok ended) reports = says_ended ended (shows ended reports)
-  says_performed (Err failed) faults = faulty faults
+  says_performed :
+      (o : Outcome) (r : Result Ended PerformFault) → Comes given.asked given.here.1.contents o → PerformsAnswer o out out' err err' r
+      → Says (performed_status r) performed_call
+  says_performed (Shown pieces status report) (Ok ended) comes reports = says_ended ended (shows pieces status report comes ended reports)
+  says_performed (Shown pieces status report) (Err perform.WriteFault) comes faults = faulty pieces status report comes faults
+  says_performed (Shown pieces status report) (Err perform.NoDispatch) comes answer = absurd answer
+  says_performed (Refused status report) (Ok ended) comes answer = absurd answer
+  says_performed (Refused status report) (Err perform.WriteFault) comes answer = absurd answer
+  says_performed (Refused status report) (Err perform.NoDispatch) comes answer = undispatched status report comes answer.0 answer.1 answer.2
+  says_performed (GivenUp report) r comes answer = absurd answer
 
 pub says_finished :
     (words : List (List ℕ)) (files files' : FilesMeaning) (out out' err err' : SinkMeaning) (opened : Result Prepared Refusal) (status : Status)
     → OpensWords words files files' opened → FinishAnswers opened out out' err err' status → Says status (call_of words files files' out out' err err')
 says_finished words files files' out out' err err' (Ok p) status given answer =
-    rw answer.2 (says_performed words files files' out out' err err' p given answer.0 answer.1)
+    rw answer.2 (says_performed words files files' out out' err err' p given (outcome_of p) answer.0 given.here.1.here answer.1)
 says_finished words files files' out out' err err' (Err r) status given answer =
     rw answer.0 (says_refusal words files files' out err err' r status given answer.1)

@@ -9,7 +9,6 @@ use Rattle.rom_law.specs.Language.{Also, events_behind}
 use Rattle.rom_board.specs.Program.{IsRun, IsRunBehind}
 use Rattle.chip8_image.specs.Interpreters.{interpreter_of}
 use Rattle.vip_text.specs.StateFile.{shown, IsAccepted}
-use Rattle.vip_show.specs.StateOutput.{saved_ending}
 use Rattle.vip_show.specs.Points.{points_of}
 use Rattle.vip_text.specs.Endings.{Ending}
 use Rattle.vip_text.specs.Endings.Ending.{AtLimit, AtStop}
@@ -17,7 +16,7 @@ use Rattle.vip_words.specs.Asked.{Asked, trace, play, debug, demo, resume, save}
 use Rattle.vip_tools.specs.Demo.{demo_game}
 use Rattle.vip_tools.specs.Status.{end_status}
 use Rattle.vip_tools.specs.Outcome.{script_in}
-use Rattle.vip_verbs.specs.Outcome.{events_in, points_in, run_ending, saved_report, saved_status}
+use Rattle.vip_verbs.specs.Outcome.{points_in, run_ending}
 use Rattle.vip_tools.specs.Report.{end_report}
 use Rattle.vip_tools.specs.declared.status.Status.{Status}
 
@@ -58,14 +57,6 @@ pub record DebugsChip8 (e : Edition) (game : List ℕ) (scripts : List (List ℕ
   pub status_is : status ≡ end_status ending
   pub report_is : report ≡ end_report limit ending
 
--- A run that is saved: the status and the report are those of its end, or of one with no dispatch point.
-pub record SavesChip8 (e : Edition) (game : List ℕ) (scripts : List (List ℕ)) (limit : ℕ) (status : Status) (report : List ℕ) : Type 0 where
-  pub script : List KeyEvent
-  pub reads : script_in scripts ≡ Ok script
-  pub run : IsChip8 e game script limit (run_ending e game limit script)
-  pub status_is : status ≡ saved_status (saved_ending e (events_in e game script limit))
-  pub report_is : report ≡ saved_report limit (saved_ending e (events_in e game script limit))
-
 -- A run that goes on from a file, whoever wrote it, is one of CHIP-8 from the language state that lies in the file's machine on; its dispatch points and
 -- its stop are those of which the records tell.
 pub record ResumesChip8 (file : List ℕ) (scripts : List (List ℕ)) (limit : ℕ) (status : Status) (report : List ℕ) : Type 0 where
@@ -84,7 +75,7 @@ abbrev pub ShowsChip8 : Asked → List (List ℕ) → Status → List ℕ → Ty
 ShowsChip8 (trace a) (game ∷ scripts) status report = RunIsChip8 a.run.edition game scripts a.run.cycles status report
 ShowsChip8 (play a) (game ∷ scripts) status report = RunIsChip8 a.edition game scripts a.cycles status report
 ShowsChip8 (debug a) (game ∷ commands ∷ scripts) status report = DebugsChip8 a.run.edition game scripts a.run.cycles status report
-ShowsChip8 (save a) (game ∷ scripts) status report = SavesChip8 a.edition game scripts a.cycles status report
+ShowsChip8 (save a) (game ∷ scripts) status report = RunIsChip8 a.edition game scripts a.cycles status report
 ShowsChip8 (resume a) (file ∷ scripts) status report = ResumesChip8 file scripts a.cycles status report
 ShowsChip8 (demo a) _ status report = RunIsChip8 Usual (demo_game a.number) [] a.cycles status report
 ShowsChip8 _ _ status report = Unit {0}

@@ -173,7 +173,7 @@ Says BadCommand call = Rejects BadCommand call
 Says SourceTooLarge call = Oversize SourceTooLarge call
 Says CommandsTooLarge call = Oversize CommandsTooLarge call
 Says BadState call = Oversize BadState call ⊎ FaultyState call
-Says NoDispatch call = Shows NoDispatch call
+Says NoDispatch call = Rejects NoDispatch call
 Says BadCertificate call = Rejects BadCertificate call
 Says MessageTooLarge call = Oversize MessageTooLarge call
 Says BadProof call = Rejects BadProof call
@@ -217,8 +217,8 @@ abbrev pub Reads : FileMap → List Needed → Reading → Type 0
 Reads files [] reading = reading ≡ Whole []
 Reads files (n ∷ ns) reading = ReadsOne n (get files n.name) (Reads files ns) reading
 
--- The status that is due to what is asked, by the files of a told map: that of the first refusal in the order of the files, their
--- contents and the ROM, or, where no write is a fault, that of the end.
+-- The status that is due to what is asked, by the files of a told map: that of the first refusal in the order of the files, their contents, the ROM
+-- and, where it is saved, the run; or, where no write is a fault, that of the end.
 pub data Due (call : Call) (asked : Asked) : Reading → Status → Type 0 where
   Lacking : Due call asked Lacks ReadFault
   TooLarge : (kind : Kind) → Due call asked (Larger kind) (too_large_status kind)
@@ -263,13 +263,13 @@ IsOfRom BadRomSource = Unit {0}
 IsOfRom RomDiffers = Unit {0}
 IsOfRom _ = ⊥
 
--- The contents of the files are refused: commands, a script, a source or a certificate have a fault. That the ROM isn't what its source gives is no
--- such case: each source gives its ROM.
+-- The contents of the files are refused: commands, a script, a source or a certificate have a fault, or the run that is to be saved has no dispatch
+-- point. That the ROM isn't what its source gives is no such case: each source gives its ROM.
 abbrev pub AreRefused : Asked → List (List ℕ) → Type 0
 AreRefused asked contents = (status : Status) × (report : List ℕ) × Comes asked contents (Refused status report) × ¬ IsOfRom status
 
 -- Where the files are there with their sizes, a saved state is accepted, their contents aren't refused and no fault is counted, the answer is Done or
--- Stopped, or of a run that is to be saved NoDispatch, or a free one.
+-- Stopped, or a free one.
 abbrev pub Completes : Status → Call → Type 0
 Completes status call =
     (asked : Asked) (files : FileMap) (contents : List (List ℕ))
@@ -278,7 +278,7 @@ Completes status call =
     → ¬ AreRefused asked contents
     → IsQuiet call.out.faults call.out'.faults
     → IsQuiet call.err.faults call.err'.faults
-    → (status ≡ Done) ⊎ (status ≡ Stopped) ⊎ (status ≡ NoDispatch) ⊎ IsFree asked status
+    → (status ≡ Done) ⊎ (status ≡ Stopped) ⊎ IsFree asked status
 
 -- ---- what the output says of the language
 

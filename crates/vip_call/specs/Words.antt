@@ -3,20 +3,23 @@ use Rattle.std.specs.Prelude.{◌≡◌, ◌⊎◌, ℕ, List, Some, None, Resul
 use Rattle.vip_outside.specs.Files.{FilesMeaning}
 use Rattle.vip_outside.specs.Sink.{SinkMeaning}
 use Rattle.vip_outside.specs.Pieces.{PutsAll, FailsWithin}
-use Rattle.vip_outside.specs.declared.sink.Failed.{Failed}
 use Rattle.vip_words.specs.Asked.{Asked, asked_by}
 use Rattle.vip_words.specs.Request.{asked_of}
 use Rattle.vip_words.specs.declared.request.Request.{Request}
 use Rattle.vip_tools.specs.declared.ended.Ended.{Ended}
+use Rattle.vip_tools.specs.declared.fault.PerformFault.{PerformFault}
+use Rattle.vip_tools.specs.declared.fault.PerformFault.TheVariants.{NoDispatch, WriteFault}
 use Rattle.vip_tools.specs.declared.refusal.Refusal.{Refusal}
 use Rattle.vip_tools.specs.declared.refusal.Refusal.TheVariants.{Usage, NoMemory}
 use Rattle.vip_tools.specs.Report.{report_pieces, write_fault}
 use Rattle.vip_tools.specs.Reported.{IsPut, RefusalAnswers}
-use Rattle.vip_tools.specs.Status.{ended_status}
+use Rattle.vip_tools.specs.Status.{ended_status, fault_status}
 use Rattle.vip_tools.specs.declared.status.Status.{Status}
-use Rattle.vip_tools.specs.declared.status.Status.TheVariants.{WriteFault}
+use Rattle.vip_tools.specs.declared.status.Status.TheVariants.{NoDispatch as undispatched}
+use Rattle.vip_tools.specs.Outcome.{Outcome}
+use Rattle.vip_tools.specs.Outcome.Outcome.{Refused, Shown}
 use Rattle.vip_tools.specs.Files.{needed, ReadsSome}
-use Rattle.vip_verbs.specs.Prepared.{OpenAnswers, Output, output_of}
+use Rattle.vip_verbs.specs.Prepared.{OpenAnswers, outcome_of}
 use Rattle.vip_verbs.specs.declared.prepared.Prepared.{Prepared}
 
 -- what is understood
@@ -39,27 +42,30 @@ OpensWords words old new (Err NoMemory) = (new ≡ old) ⊎ OfWords words (λ as
 OpensWords words old new answer = OfWords words (λ asked. OpenAnswers asked old new answer)
 
 -- the output went out whole, and then its report
-pub record Reports (o : Output) (out out' err err' : SinkMeaning) (ended : Ended) : Type 0 where
-  pub whole : PutsAll o.pieces out out'
-  pub reported : PutsAll (report_pieces o.report) err err'
-  pub status : o.status ≡ ended_status ended
+pub record Reports (pieces : List (List ℕ)) (status : Status) (report : List ℕ) (out out' err err' : SinkMeaning) (ended : Ended) : Type 0 where
+  pub whole : PutsAll pieces out out'
+  pub reported : PutsAll (report_pieces report) err err'
+  pub status_is : status ≡ ended_status ended
 
 -- a fault of the output, which is reported; or of the report
-abbrev pub Faults : Output → SinkMeaning → SinkMeaning → SinkMeaning → SinkMeaning → Type 0
-Faults o out out' err err' =
-    (FailsWithin o.pieces out out' × IsPut write_fault err err') ⊎ (PutsAll o.pieces out out' × FailsWithin (report_pieces o.report) err err')
+abbrev pub Faults : List (List ℕ) → List ℕ → SinkMeaning → SinkMeaning → SinkMeaning → SinkMeaning → Type 0
+Faults pieces report out out' err err' =
+    (FailsWithin pieces out out' × IsPut write_fault err err') ⊎ (PutsAll pieces out out' × FailsWithin (report_pieces report) err err')
 
--- what performing answers; it can't be want of memory
-abbrev pub PerformsAnswer : Output → SinkMeaning → SinkMeaning → SinkMeaning → SinkMeaning → Result Ended Failed → Type 0
-PerformsAnswer o out out' err err' (Ok ended) = Reports o out out' err err' ended
-PerformsAnswer o out out' err err' (Err failed) = Faults o out out' err err'
+-- What performing answers; it can't be want of memory. A run that is to be saved and has no dispatch point is refused, with no output: whether its
+-- report could be written or not, the answer is the same.
+abbrev pub PerformsAnswer : Outcome → SinkMeaning → SinkMeaning → SinkMeaning → SinkMeaning → Result Ended PerformFault → Type 0
+PerformsAnswer (Shown pieces status report) out out' err err' (Ok ended) = Reports pieces status report out out' err err' ended
+PerformsAnswer (Shown pieces status report) out out' err err' (Err WriteFault) = Faults pieces report out out' err err'
+PerformsAnswer (Refused status report) out out' err err' (Err NoDispatch) = (status ≡ undispatched) × (out' ≡ out) × IsPut report err err'
+PerformsAnswer _ out out' err err' _ = ⊥
 
-abbrev pub performed_status : Result Ended Failed → Status
+abbrev pub performed_status : Result Ended PerformFault → Status
 performed_status (Ok ended) = ended_status ended
-performed_status (Err failed) = WriteFault
+performed_status (Err fault) = fault_status fault
 
 -- What is answered once something was opened, or nothing: what was performed, which is never want of memory; or a refusal, with no output.
 abbrev pub FinishAnswers : Result Prepared Refusal → SinkMeaning → SinkMeaning → SinkMeaning → SinkMeaning → Status → Type 0
 FinishAnswers (Ok p) out out' err err' status =
-    (answer : Result Ended Failed) × PerformsAnswer (output_of p) out out' err err' answer × (status ≡ performed_status answer)
+    (answer : Result Ended PerformFault) × PerformsAnswer (outcome_of p) out out' err err' answer × (status ≡ performed_status answer)
 FinishAnswers (Err refusal) out out' err err' status = (out' ≡ out) × RefusalAnswers refusal err err' status

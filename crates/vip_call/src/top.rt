@@ -3,7 +3,7 @@
 ghost use Rattle.std.specs.Prelude.{◌≡◌, IfOk, map, string_bytes};
 ghost use Rattle.vip_words.specs.Asked.{InRange};
 ghost use Rattle.vip_words.specs.Request.{asked_of};
-ghost use Rattle.vip_verbs.specs.Prepared.{IsReady, output_of};
+ghost use Rattle.vip_verbs.specs.Prepared.{IsReady, outcome_of};
 ghost use Rattle.vip_call.specs.Words.{FinishAnswers, OpensWords, PerformsAnswer, UnderstoodAnswers, performed_status};
 ghost use Rattle.vip_call.specs.Top.{call_of, Says, Promises};
 
@@ -13,9 +13,9 @@ use game_check::laws::certified_games;
 use rom_board::language::{every_run, every_start};
 use std::alloc::Global;
 use vip_link::laws::{every_schedule, sources_give_roms};
-use vip_outside::{Failed, Files, Sink};
+use vip_outside::{Files, Sink};
 use vip_show::laws::{file_may_start, saved_goes_on};
-use vip_tools::{Ended, Refusal, Status, put_end, put_refusal, put_write_fault};
+use vip_tools::{Ended, PerformFault, Refusal, Status, put_end, put_fault, put_refusal};
 use vip_verbs::Prepared;
 use vip_words::{Request, WordsFail, read_words};
 
@@ -44,35 +44,36 @@ pub fn open<'a, F: Files>(
     vip_verbs::open(alloc, &request, files)
 }
 
-/// Performs what was opened: its output goes to `out`, each piece by one put, and then one line of report to `err` by one put. It is handed no allocator,
-/// and no answer is want of memory. After a put that failed nothing more goes to that sink.
+/// Performs what was opened: its output goes to `out`, each piece by one put, and then one line of report to `err` by one put. A run that is to be saved
+/// is refused where it has no dispatch point: then nothing goes to `out`. It is handed no allocator, and no answer is want of memory. After a put that
+/// failed nothing more goes to that sink.
 pub fn perform<O: Sink, E: Sink>(
     prepared: Prepared,
     out: &mut O,
     err: &mut E,
-) -> Result<Ended, Failed>
+) -> Result<Ended, PerformFault>
     requires { IsReady prepared }
-    ensures { PerformsAnswer (output_of prepared) (O.meaning out.old) (O.meaning out.new) (E.meaning err.old) (E.meaning err.new) result }
+    ensures { PerformsAnswer (outcome_of prepared) (O.meaning out.old) (O.meaning out.new) (E.meaning err.old) (E.meaning err.new) result }
 {
     match vip_verbs::perform(prepared, out) {
-        Ok(ended) => match put_end(err, &ended) {
-            Ok(()) => Ok(ended),
-            Err(failed) => Err(failed),
-        },
-        Err(failed) => {
-            let _ = put_write_fault(err);
-            Err(failed)
+        Ok(ended) => {
+            put_end(err, &ended)?;
+            Ok(ended)
+        }
+        Err(fault) => {
+            let _ = put_fault(err, fault);
+            Err(fault)
         }
     }
 }
 
 /// The status of what was performed.
-fn performed(answer: Result<Ended, Failed>) -> Status
+fn performed(answer: Result<Ended, PerformFault>) -> Status
     ensures { result ≡ performed_status answer }
 {
     match answer {
         Ok(ended) => ended.status(),
-        Err(Failed) => Status::WriteFault,
+        Err(fault) => fault.status(),
     }
 }
 

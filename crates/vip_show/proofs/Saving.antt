@@ -1,7 +1,7 @@
 -- A run on its way whose last dispatch point is saved.
 use Rattle.std.proofs.Common.{◌≡◌, ℕ, Bool, true, false, List, [], ◌∷◌, ◌++◌, refl, sym, ap, ◌∙◌, subst, append-nil, append_assoc}
 use Rattle.std.specs.Prelude.{if◌then◌else◌, map, filter, ◌-◌, Option, Some, None, unwrap_or, Result, Ok, Err, IsErr}
-use Rattle.std.specs.Option.{option_map, option_to_list}
+use Rattle.std.specs.Option.{option_map}
 use Rattle.machine.specs.Board.{Machine}
 use Rattle.machine.specs.Keys.{Event as KeyEvent}
 use Rattle.machine.specs.Pictures.{windows_ended, is_shown}
@@ -11,7 +11,6 @@ use Rattle.chip8_lang.specs.Events.Event.{Picture, Dispatch, Stopped}
 use Rattle.chip8_lang.specs.Places.{Interpreter}
 use Rattle.chip8_lang.specs.View.{view_at}
 use Rattle.vip_outside.specs.Sink.{SinkMeaning, PutsWhole, PutFails}
-use Rattle.vip_outside.specs.Pieces.{PutsAll, FailsWithin}
 use Rattle.vip_outside.specs.declared.sink.Failed.{Failed}
 use Rattle.vip_outside.proofs.PiecesLemmas.{PutsAll-nil, PutsAll-one, FailsWithin-snoc}
 use Rattle.vip_relation.specs.Follows.{last_dispatch, last_view}
@@ -27,7 +26,7 @@ use Rattle.vip_show.proofs.Lists.{stop-last}
 use Rattle.vip_text.specs.Endings.Ending.{AtStop}
 use Rattle.vip_text.specs.declared.ending.RunEnd.{RunEnd}
 use Rattle.vip_text.specs.declared.ending.RunEnd.TheVariants as run
-use Rattle.vip_show.specs.StateOutput.{saved_file, saved_pieces, Keeps, Saves, SavedAnswers}
+use Rattle.vip_show.specs.StateOutput.{saved_file, Keeps, SavedAnswers}
 use Rattle.vip_show.specs.Written.{file_of}
 
 -- ---- the dispatch points among the events of a run are such
@@ -187,14 +186,8 @@ module _ (limit : ℕ) (old new : VipState) (bytes : List ℕ) (end : RunEnd) (k
   none_met None h = refl
   none_met (Some b) h = cc
 
-  pub saves-none : (out : SinkMeaning) → new.last ≡ None → Saves old limit out out None
-  saves-none out none =
-      let nowhere : last_dispatch events ≡ None = none_met (last_dispatch events) (sym k.last ∙ none) in
-      record {
-        puts =
-            subst (λ last. PutsAll (option_to_list (option_map (file_of old.edition) last)) out out) (sym nowhere) (PutsAll-nil out);
-        ending = sym (ap (λ last. option_map (λ b. ending_of old.edition events) last) nowhere);
-      }
+  pub saves-none : (out : SinkMeaning) → new.last ≡ None → SavedAnswers (saved_file old.edition events) (ending_of old.edition events) out out (Ok None)
+  saves-none out none = rw (none_met (last_dispatch events) (sym k.last ∙ none)) refl
 
   -- one was
   record Met : Type 0 where
@@ -211,28 +204,19 @@ module _ (limit : ℕ) (old new : VipState) (bytes : List ℕ) (end : RunEnd) (k
       go (Some b) is h same = record { b = b; is = is; file = same }
 
   module _ (some : new.last ≡ None → ⊥) (out out' : SinkMeaning) (piece : List ℕ) (is : piece ≡ bytes) where
-    pieces_are : saved_pieces old.edition events ≡ piece ∷ []
-    pieces_are =
+    file_is : saved_file old.edition events ≡ Some piece
+    file_is =
         let m : Met = one_met some in
-        ap (λ last. option_to_list (option_map (file_of old.edition) last)) m.is ∙ ap (λ file. file ∷ []) (sym (is ∙ m.file))
+        ap (option_map (file_of old.edition)) m.is ∙ ap Some (sym (is ∙ m.file))
 
-    pub saves-one : PutsWhole piece out out' → Saves old limit out out' (Some end)
-    saves-one put =
-        let m : Met = one_met some in
-        record {
-          puts = subst (λ pieces. PutsAll pieces out out') (sym pieces_are) (PutsAll-one piece out out' put);
-          ending = ap Some k.ending ∙ sym (ap (λ last. option_map (λ b. ending_of old.edition events) last) m.is);
-        }
+    pub saves-one : PutsWhole piece out out' → SavedAnswers (saved_file old.edition events) (ending_of old.edition events) out out' (Ok (Some end))
+    saves-one put = rw file_is (PutsAll-one piece out out' put, k.ending)
 
-    pub save-fails : PutFails piece out out' → FailsWithin (saved_pieces old.edition events) out out'
-    save-fails fault =
-        subst (λ pieces. FailsWithin pieces out out') (sym pieces_are) (FailsWithin-snoc [] piece [] out out out' (PutsAll-nil out) fault)
-
--- at whatever error is passed on
-pub save-passed : (v : VipState) (limit : ℕ) (out out' : SinkMeaning) (r : Result (Option RunEnd) Failed) → IsErr r
-    → FailsWithin (saved_pieces v.edition (events_to v limit)) out out' → SavedAnswers v limit out out' r
-save-passed v limit out out' (Ok end) bad fault = cc
-save-passed v limit out out' (Err e) bad fault = fault
+    -- a put that fails, whatever error is passed on
+    pub save-fails : (r : Result (Option RunEnd) Failed) → IsErr r → PutFails piece out out'
+        → SavedAnswers (saved_file old.edition events) (ending_of old.edition events) out out' r
+    save-fails (Ok end) bad fault = cc
+    save-fails (Err e) bad fault = rw file_is (FailsWithin-snoc [] piece [] out out out' (PutsAll-nil out) fault)
 
 -- what is told of
 pub told : {X : Type 0} (last : Option X) (x : X) → last ≡ Some x → last ≡ None → ⊥

@@ -1,6 +1,6 @@
 -- What is written of a run: the file of the state at its last dispatch point; and the records of a run that goes on from a file.
-use Rattle.std.specs.Prelude.{◌≡◌, ℕ, Bool, List, [], Option, unwrap_or, Result, Ok, Err}
-use Rattle.std.specs.Option.{option_map, option_to_list}
+use Rattle.std.specs.Prelude.{◌≡◌, ℕ, Bool, List, [], ◌∷◌, Option, Some, None, unwrap_or, Result, Ok, Err}
+use Rattle.std.specs.Option.{option_map}
 use Rattle.chip8_lang.specs.declared.view.Edition.{Edition}
 use Rattle.chip8_lang.specs.Events.{Event}
 use Rattle.vip_outside.specs.Sink.{SinkMeaning}
@@ -21,28 +21,18 @@ use Rattle.vip_show.specs.Written.{file_of}
 abbrev pub saved_file : Edition → List Event → Option (List ℕ)
 saved_file e events = option_map (file_of e) (last_dispatch events)
 
--- it is all that goes out
-abbrev pub saved_pieces : Edition → List Event → List (List ℕ)
-saved_pieces e events = option_to_list (saved_file e events)
-
--- how the run ends, and none where there is no dispatch point
-abbrev pub saved_ending : Edition → List Event → Option Ending
-saved_ending e events = option_map (λ b. ending_of e events) (last_dispatch events)
-
 -- a run up to its end: the last dispatch point is told, and these bytes are its file, or none where there is no such point
 pub record Keeps (old : VipState) (limit : ℕ) (new : VipState) (bytes : List ℕ) (end : RunEnd) : Type 0 where
   pub last : new.last ≡ last_view old.edition (events_to old limit)
   pub bytes_are : bytes ≡ unwrap_or (saved_file old.edition (events_to old limit)) []
   pub ending : ending_in end ≡ ending_of old.edition (events_to old limit)
 
--- the file went out, where there is one, and this is told of the run's end
-pub record Saves (v : VipState) (limit : ℕ) (old new : SinkMeaning) (end : Option RunEnd) : Type 0 where
-  pub puts : PutsAll (saved_pieces v.edition (events_to v limit)) old new
-  pub ending : option_map ending_in end ≡ saved_ending v.edition (events_to v limit)
-
-abbrev pub SavedAnswers : VipState → ℕ → SinkMeaning → SinkMeaning → Result (Option RunEnd) Failed → Type 0
-SavedAnswers v limit old new (Ok end) = Saves v limit old new end
-SavedAnswers v limit old new (Err e) = FailsWithin (saved_pieces v.edition (events_to v limit)) old new
+-- Where there is a file, it went out whole, and this is the run's end, or a part of it did. Where there is none, nothing was put, and no end is told.
+abbrev pub SavedAnswers : Option (List ℕ) → Ending → SinkMeaning → SinkMeaning → Result (Option RunEnd) Failed → Type 0
+SavedAnswers (Some file) ending old new (Ok (Some end)) = PutsAll (file ∷ []) old new × (ending_in end ≡ ending)
+SavedAnswers (Some file) ending old new (Err failed) = FailsWithin (file ∷ []) old new
+SavedAnswers None ending old new (Ok None) = new ≡ old
+SavedAnswers _ ending old new _ = ⊥
 
 -- ---- a run that goes on from a file
 

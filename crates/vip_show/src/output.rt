@@ -5,8 +5,10 @@ ghost use Rattle.chip8_lang.specs.Events.{is_stop};
 ghost use Rattle.chip8_lang.specs.View.{seen};
 ghost use Rattle.vip_outside.specs.Sink.{PutAnswers};
 ghost use Rattle.vip_relation.specs.Meets.{HasStopped};
+ghost use Rattle.vip_relation.specs.State.{events_to};
 ghost use Rattle.vip_show.specs.Answers.{IsFresh};
-ghost use Rattle.vip_show.specs.StateOutput.{Keeps, ResumedAnswers, SavedAnswers};
+ghost use Rattle.vip_show.specs.Endings.{ending_of};
+ghost use Rattle.vip_show.specs.StateOutput.{Keeps, ResumedAnswers, SavedAnswers, saved_file};
 ghost use Rattle.vip_show.specs.State.{interpreter};
 ghost use Rattle.vip_text.specs.Traces.{trace_line};
 
@@ -44,7 +46,7 @@ fn keep_last(run: &mut Run, limit: u64, file: &mut Buffer) -> RunEnd
 pub fn show_saved<O: Sink>(run: &mut Run, limit: u64, out: &mut O) -> Result<Option<RunEnd>, Failed>
     requires fresh { IsFresh run.old }
     requires limit { limit ≤ MOST_CYCLE }
-    ensures { SavedAnswers run.old limit (O.meaning out.old) (O.meaning out.new) result }
+    ensures { SavedAnswers (saved_file run.old.edition (events_to run.old limit)) (ending_of run.old.edition (events_to run.old limit)) (O.meaning out.old) (O.meaning out.new) result }
 {
     let mut file = Buffer::new();
     let end = keep_last(run, limit, &mut file);

@@ -22,7 +22,9 @@ use Rattle.vip_byte.specs.Text.{newline}
 use Rattle.vip_text.specs.Endings.{Ending, ending_in}
 use Rattle.vip_text.specs.Endings.Ending.{AtLimit, AtStop}
 use Rattle.vip_tools.specs.declared.ended.Ended.{Ended}
-use Rattle.vip_tools.specs.declared.ended.Ended.TheVariants.{Worked, Ran, NoDispatch, Idle, Linked}
+use Rattle.vip_tools.specs.declared.ended.Ended.TheVariants.{Worked, Ran, Idle, Linked}
+use Rattle.vip_tools.specs.declared.fault.PerformFault.{PerformFault}
+use Rattle.vip_tools.specs.declared.fault.PerformFault.TheVariants.{NoDispatch, WriteFault}
 use Rattle.vip_tools.specs.declared.refusal.Kind.{Kind}
 use Rattle.vip_tools.specs.declared.refusal.Kind.TheVariants.{Game, TallGame, Script, Commands, Source, Certificate, State, Message, Rom, Ram}
 use Rattle.vip_tools.specs.declared.refusal.Refusal.{Refusal}
@@ -37,10 +39,6 @@ abbrev pub end_report : ℕ → Ending → List ℕ
 end_report limit AtLimit = done limit
 end_report limit (AtStop stop pc opcode) = stop_line stop pc opcode
 
--- no dispatch point could be saved
-abbrev pub no_dispatch : List ℕ
-no_dispatch = codes "vip: no dispatch point" ++ newline
-
 -- the address of the instruction by which a program's processor idles
 abbrev pub idle_report : ℕ → List ℕ
 idle_report address = codes "idle at " ++ (hex4 address ++ newline)
@@ -53,7 +51,6 @@ linked_report sent received = codes "linked sent " ++ (decimal sent ++ (codes " 
 abbrev pub ended_report : Ended → List ℕ
 ended_report Worked = []
 ended_report (Ran limit end) = end_report limit (ending_in end)
-ended_report NoDispatch = no_dispatch
 ended_report (Idle address) = idle_report address
 ended_report (Linked sent received) = linked_report sent received
 
@@ -126,9 +123,17 @@ image_report (image.BadRomSource line cause) = at_line (codes "vip: rom source l
 image_report (image.RomDiffers address assembled here) = rom_differs address assembled here
 image_report image.NoMemory = no_memory
 
--- not all of the output could be written
+-- no dispatch point could be saved; not all of the output could be written
+abbrev pub no_dispatch : List ℕ
+no_dispatch = codes "vip: no dispatch point" ++ newline
+
 abbrev pub write_fault : List ℕ
 write_fault = codes "vip: write fault" ++ newline
+
+-- why a verb that was opened comes to no end
+abbrev pub fault_report : PerformFault → List ℕ
+fault_report NoDispatch = no_dispatch
+fault_report WriteFault = write_fault
 
 abbrev pub report_of : Refusal → List ℕ
 report_of refusal.Usage = usage

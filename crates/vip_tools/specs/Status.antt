@@ -1,9 +1,11 @@
--- The numbers of the statuses, and the status of each end.
+-- The numbers of the statuses, and the status of each end, and of what comes to none.
 use Rattle.std.specs.Prelude.{ℕ}
 use Rattle.vip_text.specs.Endings.{Ending, ending_in}
 use Rattle.vip_text.specs.Endings.Ending.{AtLimit, AtStop}
 use Rattle.vip_tools.specs.declared.ended.Ended.{Ended}
-use Rattle.vip_tools.specs.declared.ended.Ended.TheVariants.{Worked, Ran, NoDispatch as Undispatched, Idle, Linked}
+use Rattle.vip_tools.specs.declared.ended.Ended.TheVariants.{Worked, Ran, Idle, Linked}
+use Rattle.vip_tools.specs.declared.fault.PerformFault.{PerformFault}
+use Rattle.vip_tools.specs.declared.fault.PerformFault.TheVariants as fault
 use Rattle.vip_tools.specs.declared.status.Status.{Status}
 use Rattle.vip_tools.specs.declared.status.Status.TheVariants.{Done, Stopped, Usage, ReadFault, GameTooLarge, ScriptTooLarge, BadScript, BadSource, BadRomSource, RomDiffers, WriteFault, NoMemory, BadCommand, SourceTooLarge, CommandsTooLarge, BadState, NoDispatch, BadCertificate, MessageTooLarge, BadProof, CertificateTooLarge, NoCertificate, RomTooLarge, RamTooLarge}
 
@@ -41,6 +43,10 @@ end_status (AtStop stop pc opcode) = Stopped
 abbrev pub ended_status : Ended → Status
 ended_status Worked = Done
 ended_status (Ran limit end) = end_status (ending_in end)
-ended_status Undispatched = NoDispatch
 ended_status (Idle address) = Done
 ended_status (Linked sent received) = Done
+
+-- of a verb that was opened and comes to no end
+abbrev pub fault_status : PerformFault → Status
+fault_status fault.NoDispatch = NoDispatch
+fault_status fault.WriteFault = WriteFault

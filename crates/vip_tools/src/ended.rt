@@ -13,8 +13,6 @@ pub enum Ended {
     Worked,
     /// It ran for so many machine cycles at most.
     Ran(u64, RunEnd),
-    /// It ran, and came to no dispatch point that could be saved.
-    NoDispatch,
     /// A program's processor idles at this address, and no signal can wake it.
     Idle(u16),
     /// So many bytes of a message were sent, and so many received.
@@ -30,7 +28,6 @@ impl Ended {
             Ended::Worked | Ended::Idle(_) | Ended::Linked { .. } => Status::Done,
             Ended::Ran(_, RunEnd::AtLimit) => Status::Done,
             Ended::Ran(_, RunEnd::AtStop(_)) => Status::Stopped,
-            Ended::NoDispatch => Status::NoDispatch,
         }
     }
 }

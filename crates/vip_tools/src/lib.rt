@@ -8,15 +8,16 @@
 //! the files are read whole, in the order of `specs/Files.antt`, up to the first that is refused, and a saved state is judged as it is read; a text
 //! is read as `specs/Opening.antt` says; each of the verbs comes to its output by one put, or to its refusal, as `specs/Outcome.antt` and
 //! `specs/Certificates.antt` say by the contents of its files; and each refusal and each end has the status and the report of `specs/Status.antt`,
-//! `specs/Refusal.antt` and `specs/Report.antt`, and a report goes to a sink by one put. Of a refusal the line is made first, which takes memory;
-//! where there is none, it is want of memory that is reported. The end of a command takes none. The demonstration games, the statuses and the
-//! reports are this project's (`docs/FORMATS.md`).
+//! `specs/Refusal.antt` and `specs/Report.antt`, and a report goes to a sink by one put. Of a refusal by `open` the line is made first, which takes
+//! memory; where there is none, it is want of memory that is reported. The end of a command takes none, nor does why it comes to no end. The
+//! demonstration games, the statuses and the reports are this project's (`docs/FORMATS.md`).
 #![tactic(auto)]
 
 mod certificates;
 mod contents;
 mod demo;
 mod ended;
+mod fault;
 mod files;
 mod obstacle;
 mod reading;
@@ -32,9 +33,10 @@ pub use contents::{
 };
 pub use demo::demo_game;
 pub use ended::Ended;
+pub use fault::PerformFault;
 pub use files::{Wanted, game_kind, open_files, wanted_files};
 pub use reading::{read_debugging, read_keys};
 pub use refusal::{Kind, Refusal};
-pub use report::{put_end, put_refusal, put_write_fault};
+pub use report::{put_end, put_fault, put_refusal};
 pub use status::Status;
 pub use tools::{asm, bounds, dis, list, source};

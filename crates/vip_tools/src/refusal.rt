@@ -39,7 +39,7 @@ pub enum Kind {
     Ram,
 }
 
-/// A refusal: why a command isn't begun.
+/// A refusal: why a command isn't begun. One that only its run shows is a `PerformFault`.
 #[derive(Drop)]
 pub enum Refusal<'a> {
     /// The words of the command line.

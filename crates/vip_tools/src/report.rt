@@ -4,10 +4,11 @@ ghost use Rattle.std.specs.Prelude.{◌≡◌, [], IfOk};
 ghost use Rattle.std.specs.List.{flat_map};
 ghost use Rattle.vip_outside.specs.Pieces.{StreamAnswers};
 ghost use Rattle.vip_outside.specs.Sink.{PutAnswers};
-ghost use Rattle.vip_tools.specs.Report.{ended_report, report_pieces, write_fault, at_line, bad_state, done, idle_report, image_report, linked_report, no_certificate, report_of, rom_differs, too_large_report};
+ghost use Rattle.vip_tools.specs.Report.{ended_report, fault_report, report_pieces, at_line, bad_state, done, idle_report, image_report, linked_report, no_certificate, report_of, rom_differs, too_large_report};
 ghost use Rattle.vip_tools.specs.Reported.{RefusalAnswers};
 
 use crate::ended::Ended;
+use crate::fault::PerformFault;
 use crate::obstacle::obstacle_text;
 use crate::refusal::{Kind, Refusal};
 use crate::status::Status;
@@ -163,11 +164,14 @@ pub fn put_refusal<S: Sink>(alloc: Global, sink: &mut S, refusal: &Refusal<'_>) 
     }
 }
 
-/// Reports that not all of the output could be written.
-pub fn put_write_fault<S: Sink>(sink: &mut S) -> Result<(), Failed>
-    ensures { PutAnswers write_fault (S.meaning sink.old) (S.meaning sink.new) result }
+/// Reports by one put why a verb that was opened came to no end.
+pub fn put_fault<S: Sink>(sink: &mut S, fault: PerformFault) -> Result<(), Failed>
+    ensures { PutAnswers (fault_report fault) (S.meaning sink.old) (S.meaning sink.new) result }
 {
-    sink.put(b"vip: write fault\n")
+    match fault {
+        PerformFault::NoDispatch => sink.put(b"vip: no dispatch point\n"),
+        PerformFault::WriteFault => sink.put(b"vip: write fault\n"),
+    }
 }
 
 /// Writes that a run reached its limit into an empty buffer.
@@ -213,7 +217,6 @@ fn end_text(ended: &Ended, into: &mut Buffer)
         Ended::Worked => {}
         Ended::Ran(limit, RunEnd::AtLimit) => done_text(*limit, into),
         Ended::Ran(_, RunEnd::AtStop(stop)) => stop_text(stop, into),
-        Ended::NoDispatch => put(into, b"vip: no dispatch point\n"),
         Ended::Idle(address) => idle_text(*address, into),
         Ended::Linked { sent, received } => linked_text(*sent, *received, into),
     }

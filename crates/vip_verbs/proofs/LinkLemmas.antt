@@ -18,7 +18,8 @@ use Rattle.vip_tools.specs.Work.{RefusedBy}
 use Rattle.vip_verbs.specs.Outcome.{LinkComes, linked_after}
 use Rattle.vip_verbs.specs.Opening.{LinkRomsAnswer}
 use Rattle.vip_verbs.specs.Outcome.LinkComes.{FaultyRoms, Links}
-use Rattle.vip_verbs.specs.Prepared.{IsJoined, Performs, linked_output, shown}
+use Rattle.vip_tools.specs.declared.status.Status.TheVariants.{Done}
+use Rattle.vip_verbs.specs.Prepared.{IsJoined, Performs, linked}
 
 module _ (a : AskedLink) (message : List ℕ) where
   -- a ROM isn't what its source gives
@@ -38,9 +39,9 @@ module _ (a : AskedLink) (message : List ℕ) where
 
   -- both boards are joined, so their output is settled
   pub link-comes : (l : Linking) → l ≡ started message → ComparesLink (Ok tt)
-      → LinkComes a message (shown (linked_output (linked_after a.number a.moves l.message)))
+      → LinkComes a message (linked (linked_after a.number a.moves l.message))
   link-comes l e roms =
-      subst (λ m. LinkComes a message (shown (linked_output (linked_after a.number a.moves m)))) (sym (ap (λ (l : Linking). l.message) e)) (Links roms _ refl)
+      subst (λ m. LinkComes a message (linked (linked_after a.number a.moves m))) (sym (ap (λ (l : Linking). l.message) e)) (Links roms _ refl)
 
 pub joined-of : (message : List ℕ) (l : Linking) → l ≡ started message → length message ≤ most_bytes → IsJoined l
 joined-of message l e short = subst IsJoined (sym e) (record { is = refl; short = short })
@@ -56,11 +57,11 @@ pair-of l after number moves h e =
 -- the output went out
 pub link-performs :
     (s t : Pair) (old new : SinkMeaning) (piece received : List ℕ) (sent : ℕ) → s ≡ t → piece ≡ s.received → received ≡ s.received → sent ≡ length s.sent
-    → PutsWhole piece old new → Performs (linked_output t) old new (Linked sent (length received))
+    → PutsWhole piece old new → Performs (t.received ∷ []) Done (linked_report (length t.sent) (length t.received)) old new (Linked sent (length received))
 link-performs s t old new piece received sent same e f g puts =
-    subst (λ t. Performs (linked_output t) old new (Linked sent (length received))) same
+    subst (λ t. Performs (t.received ∷ []) Done (linked_report (length t.sent) (length t.received)) old new (Linked sent (length received))) same
     (record {
       puts = subst (λ p. PutsAll (p ∷ []) old new) e (PutsAll-one piece old new puts);
-      status = refl;
-      report = sym (ap₂ linked_report g (ap length f));
+      status_is = refl;
+      report_is = sym (ap₂ linked_report g (ap length f));
     })

@@ -16,7 +16,7 @@ use Rattle.vip_tools.specs.declared.refusal.Refusal.TheVariants.{Usage, Unread, 
 use Rattle.vip_tools.specs.Opening.{DebugCommandsAnswer}
 use Rattle.vip_tools.specs.Outcome.{Outcome}
 use Rattle.vip_tools.specs.Work.{RefusedBy}
-use Rattle.vip_verbs.specs.Prepared.{PerformAnswers, program_output, shown}
+use Rattle.vip_verbs.specs.Prepared.{PerformAnswers, program_shown}
 use Rattle.vip_verbs.specs.Programs.{BeginsProgram, BoardAnswers, IsBegun, ProgramComes, ProgramDebugComes, ended_at, memory_in, program_ended, program_report}
 use Rattle.vip_verbs.specs.Programs.ProgramComes.{FaultyScript, Runs}
 use Rattle.vip_words.specs.declared.request.Memory.{Memory}
@@ -55,23 +55,23 @@ module _ (memory : Memory) (bytes : List ℕ) (scripts : List (List ℕ)) where
     refused-board NoMemory answer = tt
 
     -- it begins, so its output is settled, with its end
-    pub program-comes : (board : Seen) → BeginsProgram memory bytes scripts board → Here (shown (program_output limit (pieces board) (ended board)))
+    pub program-comes : (board : Seen) → BeginsProgram memory bytes scripts board → Here (program_shown limit (pieces board) (ended board))
     program-comes board begins =
-        subst (λ b. Here (shown (program_output limit (pieces b) (ended b)))) (sym begins.is) (Runs begins.script begins.reads)
+        subst (λ b. Here (program_shown limit (pieces b) (ended b))) (sym begins.is) (Runs begins.script begins.reads)
 
 -- what was shown of a run
 pub program-performs :
     (limit : ℕ) (pieces : List (List ℕ)) (board : Seen) (old new : SinkMeaning) (r : Result ProgramEnd Failed) → ShowAnswers pieces limit board old new r
-    → PerformAnswers (program_output limit pieces (ended_at limit board)) old new (program_ended limit r)
+    → PerformAnswers (program_shown limit pieces (ended_at limit board)) old new (program_ended limit r)
 program-performs limit pieces board old new (Ok program.AtLimit) shows = record {
   puts = shows.puts;
-  status = refl;
-  report = ap (program_report limit) (sym shows.ending);
+  status_is = refl;
+  report_is = ap (program_report limit) (sym shows.ending);
 }
 program-performs limit pieces board old new (Ok (program.Idle address)) shows = record {
   puts = shows.puts;
-  status = refl;
-  report = ap (program_report limit) (sym shows.ending);
+  status_is = refl;
+  report_is = ap (program_report limit) (sym shows.ending);
 }
 program-performs limit pieces board old new (Err failed) fails = fails
 
@@ -81,16 +81,16 @@ program-performs limit pieces board old new (Err failed) fails = fails
 pub program-debugs :
     (limit : ℕ) (commands : List DebugCommand) (board board' : Seen) (old new : SinkMeaning) (r : Result ProgramEnd Failed)
     → ProgramAnswers limit commands board board' old new r
-    → PerformAnswers (program_output limit (program_written board limit commands) (end_at (machine_with board limit commands))) old new (program_ended limit r)
+    → PerformAnswers (program_shown limit (program_written board limit commands) (end_at (machine_with board limit commands))) old new (program_ended limit r)
 program-debugs limit commands board board' old new (Ok program.AtLimit) runs = record {
   puts = runs.puts;
-  status = refl;
-  report = ap (program_report limit) (sym runs.ending);
+  status_is = refl;
+  report_is = ap (program_report limit) (sym runs.ending);
 }
 program-debugs limit commands board board' old new (Ok (program.Idle address)) runs = record {
   puts = runs.puts;
-  status = refl;
-  report = ap (program_report limit) (sym runs.ending);
+  status_is = refl;
+  report_is = ap (program_report limit) (sym runs.ending);
 }
 program-debugs limit commands board board' old new (Err failed) fails = fails
 
@@ -125,7 +125,7 @@ module _ (memory : Memory) (bytes text : List ℕ) (limit : ℕ) (scripts : List
         (λ board. end_at (machine_with board limit commands)) refusal answer)
 
     pub program-debug-comes : (board : Seen) → BeginsProgram memory bytes scripts board
-        → There (shown (program_output limit (program_written board limit commands) (end_at (machine_with board limit commands))))
+        → There (program_shown limit (program_written board limit commands) (end_at (machine_with board limit commands)))
     program-debug-comes board begins =
         as_program _ (program-comes memory bytes scripts limit (λ board. program_written board limit commands)
         (λ board. end_at (machine_with board limit commands)) board begins)

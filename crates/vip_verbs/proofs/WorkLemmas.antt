@@ -1,5 +1,5 @@
 -- What a verb that is opened answers, from the answers of its parts, and what its work does.
-use Rattle.std.proofs.Common.{◌≡◌, ℕ, max, true, false, List, [], ◌∷◌, length, take_all, arith, refl, sym, ap, subst, Result, Ok, Err, IsErr}
+use Rattle.std.proofs.Common.{◌≡◌, ℕ, max, true, false, List, [], ◌∷◌, length, take_all, arith, refl, sym, ap, subst, Result, Ok, Err, IsErrAnd}
 use Rattle.std.specs.Prelude.{Bool, Option, Some, None, Vec}
 use Rattle.std.specs.declared.alloc.Global.{Global}
 use Rattle.std.proofs.Math.Nat.{max-zero}
@@ -23,9 +23,13 @@ use Rattle.vip_show.specs.Answers.{ShowAnswers, traced, pictured, summed}
 use Rattle.vip_text.specs.StateFile.{IsAccepted}
 use Rattle.vip_show.specs.StateOutput.{ResumedAnswers, SavedAnswers, ending_left, records_left}
 use Rattle.vip_show.specs.State.{ResumedState}
+use Rattle.vip_text.specs.Endings.{Ending}
 use Rattle.vip_text.specs.Endings.Ending.{AtLimit}
 use Rattle.vip_words.specs.Asked.{Asked, AskedRun, AskedTrace, AskedDebug, AskedDemo, trace, play, debug, demo, AskedResume, resume, save}
 use Rattle.vip_tools.specs.declared.ended.Ended.{Ended}
+use Rattle.vip_tools.specs.declared.fault.PerformFault.{PerformFault}
+use Rattle.vip_tools.specs.declared.fault.PerformFault.TheVariants.{WriteFault}
+use Rattle.vip_tools.specs.declared.status.Status.{Status}
 use Rattle.vip_tools.specs.declared.refusal.Refusal.{Refusal}
 use Rattle.vip_tools.specs.declared.refusal.Refusal.TheVariants.{Usage, Unread, TooLarge, Script, Command, Source, State, Rom, Certificate, Proof, NoCertificate, NoMemory}
 use Rattle.vip_tools.specs.Report.{end_report}
@@ -35,20 +39,21 @@ use Rattle.vip_tools.specs.Demo.{demo_game}
 use Rattle.vip_tools.specs.Files.{Needed, needed, FilesAnswer, FitAll, HasAll, with_names}
 use Rattle.vip_tools.specs.Opening.{DebugCommandsAnswer}
 use Rattle.vip_tools.specs.Outcome.{Outcome, script_in}
+use Rattle.vip_tools.specs.Outcome.Outcome.{Shown}
 use Rattle.vip_tools.specs.Work.{RefusedBy, TextAnswers}
 use Rattle.vip_verbs.specs.Opening.{StartAnswers, Begins, GoesOn, ResumeAnswers, RomAnswers}
-use Rattle.vip_verbs.specs.Outcome.{Comes, RunComes, RunTo, DebugComes, run_ending, saved_report, saved_status, stopped_by, debug_ending}
+use Rattle.vip_verbs.specs.Outcome.{Comes, RunComes, RunTo, DebugComes, run_ending, saved_as, stopped_by, debug_ending}
 use Rattle.vip_verbs.specs.Outcome.RunTo.{FaultyScript, FaultyRom, Runs}
-use Rattle.vip_verbs.specs.Prepared.{DebugEnds, IsStarted, OpenAnswers, Output, PerformAnswers, PrepareAnswers, ended_by, ran, run_ended, save_ended, saved_run, shown, texted}
+use Rattle.vip_verbs.specs.Prepared.{DebugEnds, IsStarted, OpenAnswers, PerformAnswers, PrepareAnswers, ended_by, ran, run_ended, save_ended, saved_run, texted}
 use Rattle.vip_verbs.specs.declared.prepared.Prepared.{Prepared}
 
--- a command that comes to what a run comes to, with the output and the ending of the machine that begins
+-- a command that comes to what a run comes to, by the machine that begins
 pub record RunOf (Here : Outcome → Type 0) : Type 0 where
   pub edition : Edition
   pub game : List ℕ
   pub scripts : List (List ℕ)
-  pub output : VipState → Output
-  pub fits : (o : Outcome) → RunTo edition scripts (λ script. shown (output (started edition game script))) o → Here o
+  pub outcome : VipState → Outcome
+  pub fits : (o : Outcome) → RunTo edition scripts (λ script. outcome (started edition game script)) o → Here o
 
 -- a machine that begins is a started one
 pub started-of : (e : Edition) (game : List ℕ) (scripts : List (List ℕ)) (v : VipState) → Begins e game scripts v → IsStarted v
@@ -75,9 +80,9 @@ module _ (Here : Outcome → Type 0) (run : RunOf Here) where
   refused-start (NoCertificate obstacle) answer = absurd answer
   refused-start NoMemory answer = tt
 
-  -- it begins, so its output is settled, with its ending
-  pub run-comes : (v : VipState) → Begins run.edition run.game run.scripts v → Here (shown (run.output v))
-  run-comes v begins = subst (λ w. Here (shown (run.output w))) (sym begins.is) (run.fits _ (Runs begins.script begins.reads begins.rom))
+  -- it begins, so what it comes to is settled
+  pub run-comes : (v : VipState) → Begins run.edition run.game run.scripts v → Here (run.outcome v)
+  run-comes v begins = subst (λ w. Here (run.outcome w)) (sym begins.is) (run.fits _ (Runs begins.script begins.reads begins.rom))
 
 -- ---- a run under the debugger
 
@@ -112,7 +117,7 @@ module _ (a : AskedDebug) (game text : List ℕ) (scripts : List (List ℕ)) whe
     edition = a.run.edition;
     game = game;
     scripts = scripts;
-    output = λ v. ran a.run.cycles (written v a.run.cycles commands at_start) (debug_ending v a.run.cycles commands);
+    outcome = λ v. ran a.run.cycles (written v a.run.cycles commands at_start) (debug_ending v a.run.cycles commands);
     fits = as-run commands read;
   }
 
@@ -155,31 +160,32 @@ pub show-performs :
     → PerformAnswers (ran limit pieces (ended_by limit v)) old new (run_ended limit r)
 show-performs limit pieces v old new (Ok end) shows = record {
   puts = shows.puts;
-  status = ap end_status (sym shows.ending);
-  report = ap (end_report limit) (sym shows.ending);
+  status_is = ap end_status (sym shows.ending);
+  report_is = ap (end_report limit) (sym shows.ending);
 }
 show-performs limit pieces v old new (Err failed) fails = fails
 
--- at a fault, whatever error is passed on
-pub failed-at : (o : Output) (old new : SinkMeaning) (r : Result Ended Failed) → IsErr r → FailsWithin o.pieces old new → PerformAnswers o old new r
-failed-at o old new (Ok ended) bad fails = cc
-failed-at o old new (Err failed) bad fails = fails
+-- a put that failed, of which the fault is passed on
+pub failed-at :
+    (pieces : List (List ℕ)) (status : Status) (report : List ℕ) (old new : SinkMeaning) (r : Result Ended PerformFault)
+    → IsErrAnd r (λ fault. fault ≡ WriteFault) → FailsWithin pieces old new → PerformAnswers (Shown pieces status report) old new r
+failed-at pieces status report old new (Ok ended) bad fails = absurd bad
+failed-at pieces status report old new (Err fault) bad fails = rw bad fails
 
--- a run that was saved
+-- a run that was saved, or refused
 pub save-performs :
-    (limit : ℕ) (v : VipState) (old new : SinkMeaning) (r : Result (Option RunEnd) Failed) → SavedAnswers v limit old new r
-    → PerformAnswers (saved_run limit v) old new (save_ended limit r)
-save-performs limit v old new (Ok None) saves = record {
-  puts = saves.puts;
-  status = ap saved_status (sym saves.ending);
-  report = ap (saved_report limit) (sym saves.ending);
+    (limit : ℕ) (ending : Ending) (file : Option (List ℕ)) (old new : SinkMeaning) (r : Result (Option RunEnd) Failed)
+    → SavedAnswers file ending old new r → PerformAnswers (saved_as limit ending file) old new (save_ended limit r)
+save-performs limit ending None old new (Ok None) same = (refl, refl, same)
+save-performs limit ending None old new (Ok (Some end)) saves = absurd saves
+save-performs limit ending None old new (Err failed) fails = absurd fails
+save-performs limit ending (Some file) old new (Ok None) same = absurd same
+save-performs limit ending (Some file) old new (Ok (Some end)) saves = record {
+  puts = saves.0;
+  status_is = ap end_status (sym saves.1);
+  report_is = ap (end_report limit) (sym saves.1);
 }
-save-performs limit v old new (Ok (Some end)) saves = record {
-  puts = saves.puts;
-  status = ap saved_status (sym saves.ending);
-  report = ap (saved_report limit) (sym saves.ending);
-}
-save-performs limit v old new (Err failed) fails = fails
+save-performs limit ending (Some file) old new (Err failed) fails = fails
 
 -- one that went on from a file
 pub resume-performs :
@@ -187,27 +193,26 @@ pub resume-performs :
     → PerformAnswers (ran limit (records_left with_time v limit) (ending_left v limit)) old new (run_ended limit r)
 resume-performs limit with_time v old new (Ok end) resumes = record {
   puts = resumes.puts;
-  status = ap end_status (sym resumes.ending);
-  report = ap (end_report limit) (sym resumes.ending);
+  status_is = ap end_status (sym resumes.ending);
+  report_is = ap (end_report limit) (sym resumes.ending);
 }
 resume-performs limit with_time v old new (Err failed) fails = fails
 
 module _ (limit : ℕ) (commands : List DebugCommand) (v w : VipState) (old new : SinkMeaning) (begins : IsStarted v) where
-  abbrev Output-is : Output
-  Output-is = ran limit (written v limit commands at_start) (debug_ending v limit commands)
+  abbrev Comes-to : Outcome
+  Comes-to = ran limit (written v limit commands at_start) (debug_ending v limit commands)
 
   -- commands that were run
   pub debug-performs :
-      (end : DebugEnd) (r : Result Ended Failed) → Answered limit commands v w old new begins end → DebugEnds limit end r
-      → PerformAnswers Output-is old new r
+      (end : DebugEnd) (r : Result Ended PerformFault) → Answered limit commands v w old new begins end → DebugEnds limit end r
+      → PerformAnswers Comes-to old new r
   debug-performs debugger.Done r answers is =
       let done = debug-done limit commands v w old new begins answers in
-      rw is (record { puts = done.1; status = ap end_status (sym done.0); report = ap (end_report limit) (sym done.0) })
+      rw is (record { puts = done.1; status_is = ap end_status (sym done.0); report_is = ap (end_report limit) (sym done.0) })
   debug-performs (debugger.Stopped stop) r answers is =
       let stopped = debug-stopped limit commands v w old new begins stop answers in
-      rw is (record { puts = stopped.1; status = ap end_status (sym stopped.0); report = ap (end_report limit) (sym stopped.0) })
-  debug-performs debugger.WriteFault (Ok ended) answers is = cc
-  debug-performs debugger.WriteFault (Err failed) answers is = debug-fails limit commands v w old new begins answers
+      rw is (record { puts = stopped.1; status_is = ap end_status (sym stopped.0); report_is = ap (end_report limit) (sym stopped.0) })
+  debug-performs debugger.WriteFault r answers is = rw is (debug-fails limit commands v w old new begins answers)
 
 -- ---- each command
 
@@ -226,7 +231,7 @@ module _ (a : AskedDemo) (game : List ℕ) (is : game ≡ demo_game a.number) wh
     edition = Usual;
     game = game;
     scripts = [];
-    output = λ v. ran a.cycles (summed a.number v a.cycles) (ended_by a.cycles v);
+    outcome = λ v. ran a.cycles (summed a.number v a.cycles) (ended_by a.cycles v);
     fits = demo-comes;
   }
 
@@ -236,7 +241,7 @@ module _ (game : List ℕ) (scripts : List (List ℕ)) where
     edition = a.run.edition;
     game = game;
     scripts = scripts;
-    output = λ v. ran a.run.cycles (traced a.with_time a.with_screen v a.run.cycles) (ended_by a.run.cycles v);
+    outcome = λ v. ran a.run.cycles (traced a.with_time a.with_screen v a.run.cycles) (ended_by a.run.cycles v);
     fits = λ o come. come;
   }
 
@@ -245,7 +250,7 @@ module _ (game : List ℕ) (scripts : List (List ℕ)) where
     edition = a.edition;
     game = game;
     scripts = scripts;
-    output = λ v. ran a.cycles (pictured v a.cycles) (ended_by a.cycles v);
+    outcome = λ v. ran a.cycles (pictured v a.cycles) (ended_by a.cycles v);
     fits = λ o come. come;
   }
 
@@ -254,7 +259,7 @@ module _ (game : List ℕ) (scripts : List (List ℕ)) where
     edition = a.edition;
     game = game;
     scripts = scripts;
-    output = saved_run a.cycles;
+    outcome = saved_run a.cycles;
     fits = λ o come. come;
   }
 
@@ -299,12 +304,12 @@ module _ (a : AskedResume) (file : List ℕ) (scripts : List (List ℕ)) where
   refused-resume NoMemory answer = tt
 
   -- it begins, so its records are settled, with its ending
-  abbrev resumed_run : ResumedState → Output
+  abbrev resumed_run : ResumedState → Outcome
   resumed_run v = ran a.cycles (records_left a.with_time v a.cycles) (ending_left v a.cycles)
 
-  pub resume-comes : (v : ResumedState) → GoesOn file scripts v → Comes (resume a) (file ∷ scripts) (shown (resumed_run v))
+  pub resume-comes : (v : ResumedState) → GoesOn file scripts v → Comes (resume a) (file ∷ scripts) (resumed_run v)
   resume-comes v goes =
-      subst (λ w. Comes (resume a) (file ∷ scripts) (shown (resumed_run w))) (sym goes.is)
+      subst (λ w. Comes (resume a) (file ∷ scripts) (resumed_run w)) (sym goes.is)
       (record { edition = v.edition; accepted = goes.accepted; comes = Runs goes.script goes.reads goes.rom })
 
 -- ---- what is opened

@@ -30,7 +30,7 @@ use Rattle.vip_relation.specs.State.{VipState, interpreter, started, state_after
 use Rattle.vip_show.specs.Endings.{ending_after, ending_of}
 use Rattle.vip_show.specs.Output.{trace_lines, trace_pieces, picture_pieces, summary}
 use Rattle.vip_text.specs.StateFile.{shown, IsAccepted}
-use Rattle.vip_show.specs.StateOutput.{saved_ending, saved_pieces}
+use Rattle.vip_show.specs.StateOutput.{saved_file}
 use Rattle.vip_show.specs.Points.{points_behind}
 use Rattle.vip_text.specs.Endings.{Ending}
 use Rattle.vip_text.specs.Endings.Ending.{AtLimit, AtStop}
@@ -38,7 +38,6 @@ use Rattle.vip_words.specs.Asked.{Asked, AskedResume, trace, play, debug, demo, 
 use Rattle.vip_tools.specs.Refusal.{image_status}
 use Rattle.vip_tools.specs.Status.{end_status}
 use Rattle.vip_tools.specs.Report.{bad_command, bad_script, image_report, end_report, no_dispatch, linked_report}
-use Rattle.vip_tools.specs.declared.status.Status.{Status}
 use Rattle.vip_tools.specs.declared.status.Status.TheVariants.{BadCommand, BadScript, NoDispatch, Done}
 use Rattle.vip_tools.specs.Certificates.{CertifyComes, CyclesComes, SafeComes}
 use Rattle.vip_tools.specs.Demo.{demo_game}
@@ -82,18 +81,13 @@ RunComes e limit scripts pieces ending = RunTo e scripts (λ script. Shown (piec
 
 -- ---- a run that is saved
 
--- how it ends: as the run does, or with no dispatch point
-abbrev pub saved_status : Option Ending → Status
-saved_status None = NoDispatch
-saved_status (Some ending) = end_status ending
+-- It comes to the file of the last dispatch point, and ends as the run does. Where there is no such point it is refused.
+abbrev pub saved_as : ℕ → Ending → Option (List ℕ) → Outcome
+saved_as limit ending None = Refused NoDispatch no_dispatch
+saved_as limit ending (Some file) = Shown (file ∷ []) (end_status ending) (end_report limit ending)
 
-abbrev pub saved_report : ℕ → Option Ending → List ℕ
-saved_report limit None = no_dispatch
-saved_report limit (Some ending) = end_report limit ending
-
--- the file of the last dispatch point of some events, if there is one
 abbrev pub saved : Edition → ℕ → List Event → Outcome
-saved e limit events = Shown (saved_pieces e events) (saved_status (saved_ending e events)) (saved_report limit (saved_ending e events))
+saved e limit events = saved_as limit (ending_of e events) (saved_file e events)
 
 abbrev pub SaveComes : Edition → List ℕ → ℕ → List (List ℕ) → Outcome → Type 0
 SaveComes e game limit scripts = RunTo e scripts (λ script. saved e limit (events_in e game script limit))

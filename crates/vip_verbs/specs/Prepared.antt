@@ -1,5 +1,5 @@
--- A verb that is ready to write: what it writes, and how it ends.
-use Rattle.std.specs.Prelude.{◌≡◌, ◌≤◌, ℕ, false, List, [], ◌∷◌, Option, Some, None, Result, Ok, Err, IsErr, Vec, length}
+-- A verb that is ready: what it comes to, and what its work answers.
+use Rattle.std.specs.Prelude.{◌≡◌, ◌≤◌, ℕ, false, List, [], ◌∷◌, Option, Some, None, Result, Ok, Err, Vec, length}
 use Rattle.std.specs.declared.alloc.Global.{Global}
 use Rattle.machine.specs.Keys.{Event as KeyEvent}
 use Rattle.chip8_lang.specs.Events.{is_stop}
@@ -21,75 +21,66 @@ use Rattle.vip_relation.specs.Meets.{HasStopped}
 use Rattle.vip_relation.specs.State.{VipState, started, events_to}
 use Rattle.vip_show.specs.Answers.{traced, pictured, summed}
 use Rattle.vip_show.specs.Endings.{ending_of}
-use Rattle.vip_show.specs.StateOutput.{ending_left, records_left, saved_ending, saved_pieces}
+use Rattle.vip_show.specs.StateOutput.{ending_left, records_left}
 use Rattle.vip_show.specs.State.{interpreter as resumed_interpreter}
 use Rattle.vip_text.specs.Endings.{Ending}
 use Rattle.vip_text.specs.declared.ending.RunEnd.{RunEnd}
 use Rattle.vip_text.specs.declared.ending.RunEnd.TheVariants as end
 use Rattle.vip_words.specs.Asked.{Asked, most_cycles, most_moves}
 use Rattle.vip_tools.specs.declared.ended.Ended.{Ended}
-use Rattle.vip_tools.specs.declared.ended.Ended.TheVariants.{NoDispatch, Ran}
+use Rattle.vip_tools.specs.declared.ended.Ended.TheVariants.{Ran}
+use Rattle.vip_tools.specs.declared.fault.PerformFault.{PerformFault}
+use Rattle.vip_tools.specs.declared.fault.PerformFault.TheVariants.{NoDispatch, WriteFault}
 use Rattle.vip_tools.specs.declared.refusal.Refusal.{Refusal}
 use Rattle.vip_tools.specs.declared.refusal.Refusal.TheVariants.{Usage, Unread, TooLarge, State, NoMemory}
 use Rattle.vip_tools.specs.declared.status.Status.{Status}
-use Rattle.vip_tools.specs.declared.status.Status.TheVariants.{Done}
-use Rattle.vip_tools.specs.Report.{end_report, ended_report, linked_report}
+use Rattle.vip_tools.specs.declared.status.Status.TheVariants.{Done, NoDispatch as undispatched}
+use Rattle.vip_tools.specs.Report.{end_report, ended_report, linked_report, no_dispatch}
 use Rattle.vip_tools.specs.Status.{end_status, ended_status}
 use Rattle.vip_tools.specs.Files.{needed, ComesTo, HasAll, IsFaulty, IsLarger, IsUnread, OnlyReads, ReadsSome, with_names}
 use Rattle.vip_tools.specs.Outcome.{Outcome}
-use Rattle.vip_tools.specs.Outcome.Outcome.{Shown}
+use Rattle.vip_tools.specs.Outcome.Outcome.{Refused, Shown}
 use Rattle.vip_tools.specs.Work.{RefusedBy}
-use Rattle.vip_verbs.specs.Outcome.{Comes, debug_ending, saved_report, saved_status, linked_after}
+use Rattle.vip_verbs.specs.Outcome.{Comes, debug_ending, linked_after, saved}
 use Rattle.vip_verbs.specs.declared.prepared.Prepared.{Prepared}
 use Rattle.vip_verbs.specs.declared.prepared.Prepared.TheVariants.{Trace, Play, Debug, Save, Resume, Demo, Text, TraceProgram, PlayProgram, DebugProgram, Link}
 use Rattle.vip_verbs.specs.Programs.{IsBegun, ended_at, program_report}
 
--- ---- what is written
+-- ---- what it comes to
 
--- the output, piece by piece, and the status and the report of its end
-pub record Output : Type 0 where
-  pub pieces : List (List ℕ)
-  pub status : Status
-  pub report : List ℕ
-
-abbrev pub shown : Output → Outcome
-shown o = Shown o.pieces o.status o.report
-
--- the output of a run up to a limit, with its ending
-abbrev pub ran : ℕ → List (List ℕ) → Ending → Output
-ran limit pieces ending = record { pieces = pieces; status = end_status ending; report = end_report limit ending }
+-- a run up to a limit that is shown, with its ending
+abbrev pub ran : ℕ → List (List ℕ) → Ending → Outcome
+ran limit pieces ending = Shown pieces (end_status ending) (end_report limit ending)
 
 -- how a run ends by its events
 abbrev pub ended_by : ℕ → VipState → Ending
 ended_by limit v = ending_of v.edition (events_to v limit)
 
--- the output of a run that is saved
-abbrev pub saved_run : ℕ → VipState → Output
-saved_run limit v =
-    let end = saved_ending v.edition (events_to v limit) in
-    record { pieces = saved_pieces v.edition (events_to v limit); status = saved_status end; report = saved_report limit end }
+-- a run that is saved
+abbrev pub saved_run : ℕ → VipState → Outcome
+saved_run limit v = saved v.edition limit (events_to v limit)
 
--- the output of a program, with its end
-abbrev pub program_output : ℕ → List (List ℕ) → ProgramEnd → Output
-program_output limit pieces end = record { pieces = pieces; status = Done; report = program_report limit end }
+-- a program that is shown, with its end
+abbrev pub program_shown : ℕ → List (List ℕ) → ProgramEnd → Outcome
+program_shown limit pieces end = Shown pieces Done (program_report limit end)
 
--- the output of two boards that are joined, by where they come to
-abbrev pub linked_output : Pair → Output
-linked_output s = record { pieces = s.received ∷ []; status = Done; report = linked_report (length s.sent) (length s.received) }
+-- two boards that are joined, by where they come to
+abbrev pub linked : Pair → Outcome
+linked s = Shown (s.received ∷ []) Done (linked_report (length s.sent) (length s.received))
 
--- what a verb that is ready writes
-abbrev pub output_of : Prepared → Output
-output_of (Trace vip limit with_time with_screen) = ran limit (traced with_time with_screen vip limit) (ended_by limit vip)
-output_of (Play vip limit) = ran limit (pictured vip limit) (ended_by limit vip)
-output_of (Debug vip limit commands) = ran limit (written vip limit commands at_start) (debug_ending vip limit commands)
-output_of (Save vip limit) = saved_run limit vip
-output_of (Resume run limit with_time) = ran limit (records_left with_time run limit) (ending_left run limit)
-output_of (Demo vip limit number) = ran limit (summed number vip limit) (ended_by limit vip)
-output_of (TraceProgram board limit) = program_output limit (program_lines board limit) (ended_at limit board)
-output_of (PlayProgram board limit) = program_output limit (program_pictures board limit) (ended_at limit board)
-output_of (DebugProgram board limit commands) = program_output limit (program_written board limit commands) (end_at (machine_with board limit commands))
-output_of (Link link number moves) = linked_output (linked_after number moves link.message)
-output_of (Text text) = record { pieces = text.items ∷ []; status = Done; report = [] }
+-- what a verb that is ready comes to
+abbrev pub outcome_of : Prepared → Outcome
+outcome_of (Trace vip limit with_time with_screen) = ran limit (traced with_time with_screen vip limit) (ended_by limit vip)
+outcome_of (Play vip limit) = ran limit (pictured vip limit) (ended_by limit vip)
+outcome_of (Debug vip limit commands) = ran limit (written vip limit commands at_start) (debug_ending vip limit commands)
+outcome_of (Save vip limit) = saved_run limit vip
+outcome_of (Resume run limit with_time) = ran limit (records_left with_time run limit) (ending_left run limit)
+outcome_of (Demo vip limit number) = ran limit (summed number vip limit) (ended_by limit vip)
+outcome_of (TraceProgram board limit) = program_shown limit (program_lines board limit) (ended_at limit board)
+outcome_of (PlayProgram board limit) = program_shown limit (program_pictures board limit) (ended_at limit board)
+outcome_of (DebugProgram board limit commands) = program_shown limit (program_written board limit commands) (end_at (machine_with board limit commands))
+outcome_of (Link link number moves) = linked (linked_after number moves link.message)
+outcome_of (Text text) = Shown (text.items ∷ []) Done []
 
 -- ---- what it needs to be ready
 
@@ -120,9 +111,9 @@ IsReady (Text text) = Unit {0}
 
 -- ---- the answers
 
--- what is ready writes what the request comes to, or the request comes to a refusal
+-- what is ready comes to what the request does, or the request comes to a refusal
 abbrev pub PrepareAnswers : (Outcome → Type 0) → Result Prepared Refusal → Type 0
-PrepareAnswers Comes (Ok p) = IsReady p × Comes (shown (output_of p))
+PrepareAnswers Comes (Ok p) = IsReady p × Comes (outcome_of p)
 PrepareAnswers Comes (Err refusal) = RefusedBy Comes refusal
 
 -- a text is ready
@@ -139,7 +130,7 @@ pub record OfFiles (asked : Asked) (old new : FilesMeaning) (Here : List (List �
 
 -- what opening answers
 abbrev pub OpenAnswers : Asked → FilesMeaning → FilesMeaning → Result Prepared Refusal → Type 0
-OpenAnswers asked old new (Ok p) = IsReady p × OfFiles asked old new (λ contents. Comes asked contents (shown (output_of p)))
+OpenAnswers asked old new (Ok p) = IsReady p × OfFiles asked old new (λ contents. Comes asked contents (outcome_of p))
 OpenAnswers asked old new (Err Usage) = ⊥
 OpenAnswers asked old new (Err (Unread name)) = ComesTo old new (needed asked) (λ n. (name.now ≡ n.name) × IsUnread old new n)
 OpenAnswers asked old new (Err (TooLarge kind)) = ComesTo old new (needed asked) (λ n. (kind ≡ n.kind) × IsLarger old n)
@@ -148,27 +139,29 @@ OpenAnswers asked old new (Err NoMemory) = ReadsSome (needed asked) old new
 OpenAnswers asked old new (Err refusal) = OfFiles asked old new (λ contents. RefusedBy (Comes asked contents) refusal)
 
 -- the output went out whole, and this is its end
-pub record Performs (o : Output) (old new : SinkMeaning) (ended : Ended) : Type 0 where
-  pub puts : PutsAll o.pieces old new
-  pub status : o.status ≡ ended_status ended
-  pub report : o.report ≡ ended_report ended
+pub record Performs (pieces : List (List ℕ)) (status : Status) (report : List ℕ) (old new : SinkMeaning) (ended : Ended) : Type 0 where
+  pub puts : PutsAll pieces old new
+  pub status_is : status ≡ ended_status ended
+  pub report_is : report ≡ ended_report ended
 
 -- how a run up to a limit ended, one that is saved, and one under the debugger
-abbrev pub run_ended : ℕ → Result RunEnd Failed → Result Ended Failed
+abbrev pub run_ended : ℕ → Result RunEnd Failed → Result Ended PerformFault
 run_ended limit (Ok end) = Ok (Ran limit end)
-run_ended limit (Err failed) = Err failed
+run_ended limit (Err failed) = Err WriteFault
 
-abbrev pub save_ended : ℕ → Result (Option RunEnd) Failed → Result Ended Failed
-save_ended limit (Ok None) = Ok NoDispatch
+abbrev pub save_ended : ℕ → Result (Option RunEnd) Failed → Result Ended PerformFault
+save_ended limit (Ok None) = Err NoDispatch
 save_ended limit (Ok (Some end)) = Ok (Ran limit end)
-save_ended limit (Err failed) = Err failed
+save_ended limit (Err failed) = Err WriteFault
 
-abbrev pub DebugEnds : ℕ → DebugEnd → Result Ended Failed → Type 0
+abbrev pub DebugEnds : ℕ → DebugEnd → Result Ended PerformFault → Type 0
 DebugEnds limit debugger.Done answer = answer ≡ Ok (Ran limit end.AtLimit)
 DebugEnds limit (debugger.Stopped stop) answer = answer ≡ Ok (Ran limit (end.AtStop stop))
-DebugEnds limit debugger.WriteFault answer = IsErr answer
+DebugEnds limit debugger.WriteFault answer = answer ≡ Err WriteFault
 
--- what the work of a verb answers: its output went out whole, or up to a fault
-abbrev pub PerformAnswers : Output → SinkMeaning → SinkMeaning → Result Ended Failed → Type 0
-PerformAnswers o old new (Ok ended) = Performs o old new ended
-PerformAnswers o old new (Err failed) = FailsWithin o.pieces old new
+-- What the work of a verb answers: its output went out whole, or up to a fault; or it is refused, for want of a dispatch point, and nothing was put.
+abbrev pub PerformAnswers : Outcome → SinkMeaning → SinkMeaning → Result Ended PerformFault → Type 0
+PerformAnswers (Shown pieces status report) old new (Ok ended) = Performs pieces status report old new ended
+PerformAnswers (Shown pieces status report) old new (Err WriteFault) = FailsWithin pieces old new
+PerformAnswers (Refused status report) old new (Err NoDispatch) = (status ≡ undispatched) × (report ≡ no_dispatch) × (new ≡ old)
+PerformAnswers _ old new _ = ⊥

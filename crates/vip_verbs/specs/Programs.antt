@@ -20,6 +20,8 @@ use Rattle.vip_program.specs.declared.trace.ProgramEnd.TheVariants as program
 use Rattle.vip_tools.specs.Report.{bad_command, bad_script, done, idle_report}
 use Rattle.vip_tools.specs.declared.ended.Ended.{Ended}
 use Rattle.vip_tools.specs.declared.ended.Ended.TheVariants.{Idle, Ran}
+use Rattle.vip_tools.specs.declared.fault.PerformFault.{PerformFault}
+use Rattle.vip_tools.specs.declared.fault.PerformFault.TheVariants.{WriteFault}
 use Rattle.vip_tools.specs.declared.refusal.Refusal.{Refusal}
 use Rattle.vip_tools.specs.declared.refusal.Refusal.TheVariants.{Script, NoMemory}
 use Rattle.vip_tools.specs.declared.status.Status.TheVariants.{BadCommand, BadScript, Done}
@@ -81,7 +83,7 @@ BoardAnswers memory bytes scripts (Err NoMemory) = Unit {0}
 BoardAnswers memory bytes scripts (Err _) = ⊥
 
 -- how the run of a program ended
-abbrev pub program_ended : ℕ → Result ProgramEnd Failed → Result Ended Failed
+abbrev pub program_ended : ℕ → Result ProgramEnd Failed → Result Ended PerformFault
 program_ended limit (Ok program.AtLimit) = Ok (Ran limit AtLimit)
 program_ended limit (Ok (program.Idle address)) = Ok (Idle address)
-program_ended limit (Err failed) = Err failed
+program_ended limit (Err failed) = Err WriteFault

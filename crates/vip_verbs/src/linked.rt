@@ -7,14 +7,14 @@ ghost use Rattle.vip_words.specs.Request.{asked_link};
 ghost use Rattle.vip_link.specs.Laws.{most_bytes};
 ghost use Rattle.vip_verbs.specs.Outcome.{Comes, linked_after};
 ghost use Rattle.vip_verbs.specs.Opening.{LinkRomsAnswer};
-ghost use Rattle.vip_verbs.specs.Prepared.{IsJoined, PrepareAnswers, PerformAnswers, linked_output};
+ghost use Rattle.vip_verbs.specs.Prepared.{IsJoined, PrepareAnswers, PerformAnswers, linked};
 
 use crate::prepared::Prepared;
 use chip8_source::ImageFault;
 use std::alloc::Global;
 use vip_link::{Link, LinkFault, check_link};
-use vip_outside::{Failed, Sink};
-use vip_tools::{Ended, Kind, Refusal};
+use vip_outside::Sink;
+use vip_tools::{Ended, Kind, PerformFault, Refusal};
 use vip_words::LinkRequest;
 
 /// The refusal of two ROMs of which one isn't what its source gives.
@@ -56,10 +56,10 @@ pub(crate) fn run_link<O: Sink>(
     number: u32,
     moves: u32,
     out: &mut O,
-) -> Result<Ended, Failed>
+) -> Result<Ended, PerformFault>
     requires moves { moves ≤ most_moves }
     requires joined { IsJoined link }
-    ensures { PerformAnswers (linked_output (linked_after number moves link.message)) (O.meaning out.old) (O.meaning out.new) result }
+    ensures { PerformAnswers (linked (linked_after number moves link.message)) (O.meaning out.old) (O.meaning out.new) result }
 {
     link.run(number, moves);
     out.put(link.received())?;

@@ -1,19 +1,20 @@
 //! A verb that is ready to write, and its work.
 
-ghost use Rattle.vip_verbs.specs.Prepared.{IsReady, PerformAnswers, output_of};
+ghost use Rattle.vip_verbs.specs.Prepared.{IsReady, PerformAnswers, outcome_of};
 
 use crate::linked::run_link;
 use crate::program::{debug_program, play_program, trace_program};
 use crate::work::{debug, demo, play, put_text, resume, save, trace};
 use vip_board::Board;
 use vip_link::Link;
-use vip_outside::{Failed, Sink};
+use vip_outside::Sink;
 use vip_relation::{Run, Vip};
 use vip_show::Resumed;
-use vip_tools::Ended;
+use vip_tools::{Ended, PerformFault};
 use vip_words::Commands;
 
-/// A verb that is ready: its files are read and judged, and it needs no more memory. What it writes, and how it ends, is settled.
+/// A verb that is ready: its files are read and judged, and it needs no more memory. What it comes to is settled: what it writes and how it ends, or
+/// that a run that is to be saved has no dispatch point.
 #[derive(Drop)]
 pub enum Prepared {
     /// A game's run up to a limit in machine cycles, a line for each dispatch point, and at the end the screen where that is asked for.
@@ -77,11 +78,11 @@ pub enum Prepared {
     Text(Vec<u8>),
 }
 
-/// Does the work of a verb that is ready: its output goes out piece by piece, each by one put, up to the first put that fails. It takes no memory,
-/// and so never wants any.
-pub fn perform<O: Sink>(prepared: Prepared, out: &mut O) -> Result<Ended, Failed>
+/// Does the work of a verb that is ready: its output goes out piece by piece, each by one put, up to the first put that fails. A run that is to be
+/// saved is refused where it has no dispatch point, and nothing is put. It takes no memory, and so never wants any.
+pub fn perform<O: Sink>(prepared: Prepared, out: &mut O) -> Result<Ended, PerformFault>
     requires { IsReady prepared }
-    ensures { PerformAnswers (output_of prepared) (O.meaning out.old) (O.meaning out.new) result }
+    ensures { PerformAnswers (outcome_of prepared) (O.meaning out.old) (O.meaning out.new) result }
 {
     match prepared {
         Prepared::Trace {

@@ -5,7 +5,7 @@ ghost use Rattle.vip_program.specs.Program.{most_bytes};
 ghost use Rattle.vip_tools.specs.Contents.{script_list};
 ghost use Rattle.vip_tools.specs.Opening.{SmallScripts};
 ghost use Rattle.vip_verbs.specs.Programs.{BoardAnswers, memory_in, program_ended};
-ghost use Rattle.vip_verbs.specs.Prepared.{IsReady, PerformAnswers, output_of};
+ghost use Rattle.vip_verbs.specs.Prepared.{IsReady, PerformAnswers, outcome_of};
 ghost use Rattle.vip_verbs.specs.declared.prepared.Prepared.TheVariants as ready;
 
 use std::alloc::Global;
@@ -14,7 +14,7 @@ use vip_debug::run_program_commands;
 use vip_outside::{Failed, Sink};
 use vip_program::{Memory, ProgramEnd, show_pictures, show_trace, start_program};
 use vip_text::RunEnd;
-use vip_tools::{Ended, Refusal, RunContents, read_keys};
+use vip_tools::{Ended, PerformFault, Refusal, RunContents, read_keys};
 use vip_words::Commands;
 
 /// Where a program lies, by the words.
@@ -43,28 +43,36 @@ pub fn start_board<'a>(
 }
 
 /// How the run of a program ended.
-fn program_ran(limit: u64, end: Result<ProgramEnd, Failed>) -> Result<Ended, Failed>
+fn program_ran(limit: u64, end: Result<ProgramEnd, Failed>) -> Result<Ended, PerformFault>
     ensures { result ≡ program_ended limit end }
 {
     match end {
         Ok(ProgramEnd::AtLimit) => Ok(Ended::Ran(limit, RunEnd::AtLimit)),
         Ok(ProgramEnd::Idle(address)) => Ok(Ended::Idle(address)),
-        Err(failed) => Err(failed),
+        Err(Failed) => Err(PerformFault::WriteFault),
     }
 }
 
 /// Runs a program, and puts a line for each move or stretch of moves.
-pub fn trace_program<O: Sink>(mut board: Board, limit: u64, out: &mut O) -> Result<Ended, Failed>
+pub fn trace_program<O: Sink>(
+    mut board: Board,
+    limit: u64,
+    out: &mut O,
+) -> Result<Ended, PerformFault>
     requires { IsReady (ready.TraceProgram board limit) }
-    ensures { PerformAnswers (output_of (ready.TraceProgram board limit)) (O.meaning out.old) (O.meaning out.new) result }
+    ensures { PerformAnswers (outcome_of (ready.TraceProgram board limit)) (O.meaning out.old) (O.meaning out.new) result }
 {
     program_ran(limit, show_trace(&mut board, limit, out))
 }
 
 /// Runs a program, and puts each finished picture.
-pub fn play_program<O: Sink>(mut board: Board, limit: u64, out: &mut O) -> Result<Ended, Failed>
+pub fn play_program<O: Sink>(
+    mut board: Board,
+    limit: u64,
+    out: &mut O,
+) -> Result<Ended, PerformFault>
     requires { IsReady (ready.PlayProgram board limit) }
-    ensures { PerformAnswers (output_of (ready.PlayProgram board limit)) (O.meaning out.old) (O.meaning out.new) result }
+    ensures { PerformAnswers (outcome_of (ready.PlayProgram board limit)) (O.meaning out.old) (O.meaning out.new) result }
 {
     program_ran(limit, show_pictures(&mut board, limit, out))
 }
@@ -75,9 +83,9 @@ pub fn debug_program<O: Sink>(
     limit: u64,
     commands: Commands,
     out: &mut O,
-) -> Result<Ended, Failed>
+) -> Result<Ended, PerformFault>
     requires { IsReady (ready.DebugProgram board limit commands) }
-    ensures { PerformAnswers (output_of (ready.DebugProgram board limit commands)) (O.meaning out.old) (O.meaning out.new) result }
+    ensures { PerformAnswers (outcome_of (ready.DebugProgram board limit commands)) (O.meaning out.old) (O.meaning out.new) result }
 {
     program_ran(
         limit,

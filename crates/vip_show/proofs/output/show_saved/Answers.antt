@@ -1,5 +1,5 @@
 use Rattle.vip_show.proofs.Screens.{some-viewed, none-viewed}
-use Rattle.vip_show.proofs.Saving.{save-fails, save-passed, saves-none, saves-one, told}
+use Rattle.vip_show.proofs.Saving.{save-fails, saves-none, saves-one, told}
 use Rattle.vip_show.proofs.output.show_saved.Goals as goal
 
 pub returns-in_default : goal.returns-in_default
@@ -7,8 +7,8 @@ returns-in_default g c = saves-none _ _ _ _ _ c.keep_last-end.ensures _ (none-vi
 
 pub returns-in_err-put : goal.returns-in_err-put
 returns-in_err-put g c =
-    save-passed _ _ _ _ _ c.from_residual.ensures.0
-    (save-fails _ _ _ _ _ c.keep_last-end.ensures (told _ _ (some-viewed _ _ c.in-Some.ensures).is) _ _ _ c.as_slice.ensures.value c.in_err-put.ensures.answer)
+    save-fails _ _ _ _ _ c.keep_last-end.ensures (told _ _ (some-viewed _ _ c.in-Some.ensures).is) _ _ _ c.as_slice.ensures.value _
+    c.from_residual.ensures.0 c.in_err-put.ensures.answer
 
 pub returns : goal.returns
 returns g c =

@@ -8,7 +8,7 @@ use Rattle.vip_verbs.proofs.linked.run_link.Goals as goal
 pub returns-in_err-put : goal.returns-in_err-put
 returns-in_err-put g c =
     let same = pair-of _ _ _ _ c.requires.joined c.run.ensures in
-    failed-at _ _ _ _ c.from_residual.ensures.0
+    failed-at _ _ _ _ _ _ c.from_residual.ensures.1
     (FailsWithin-snoc [] _ [] _ _ _ (PutsAll-nil _) (rw (c.received.ensures.value ∙ ap (λ (s : Pair). s.received) same) at c.in_err-put.ensures.answer))
 
 pub returns : goal.returns
