@@ -26,7 +26,6 @@ use Rattle.vip_isa.specs.Rows.{size_of}
 use Rattle.cycle_check.specs.declared.Within.{Within}
 use Rattle.cycle_check.specs.declared.fault.CertCause.{CertCause}
 use Rattle.cycle_check.specs.declared.fault.CertCause.TheVariants.{BadNumber}
-use Rattle.cycle_check.specs.declared.grammar.TheConstants.{MOST_LIMIT}
 use Rattle.cycle_check.specs.declared.grammar.Bound.{Bound}
 use Rattle.cycle_check.specs.declared.grammar.Fact.{Fact}
 use Rattle.cycle_check.specs.declared.grammar.Fact.TheVariants.{Any}
@@ -35,7 +34,7 @@ use Rattle.cycle_check.specs.declared.table.When.{When}
 use Rattle.cycle_check.specs.declared.table.Way.{Way}
 use Rattle.cycle_check.specs.declared.table.Ways.{Ways}
 use Rattle.cycle_check.specs.declared.closed.Instruction as declared
-use Rattle.cycle_check.specs.Certificate.{address_of, digit_of, decimal_of, hex_of, bound_in, bound_of, certificate_of, certificate_format, numbers_from}
+use Rattle.cycle_check.specs.Certificate.{address_of, digit_of, decimal_of, hex_of, bound_in, bound_of, certificate_of, certificate_format, most_limit, numbers_from}
 use Rattle.cycle_check.specs.Table.{is_refused, assigns_named, assigns_pointed, flow_of, ways_of, x_after}
 use Rattle.cycle_check.specs.Closed.{left, known_d, line_at, byte_at, instruction_at, is_apart, is_allowed, is_open, is_shown, fits_x, pays_for, counter_after, is_kept, holds_at, line_behind, is_way_closed, are_ways_closed, ways_at, is_closed, cause_at, takes_all, is_any, is_entered, fault_in, first_from, unless, judged, checked}
 use Rattle.cycle_check.specs.Leaving.{Outside, instructed, after, is_inside, StaysInside, Leaves, IsWithin, AcceptedIsWithin}
@@ -464,10 +463,10 @@ in-registers : (first second third fourth : List ℕ) (bound : Bound) → bound_
 unfolding bound_in
 in-registers first second third fourth bound is =
     let one = bind-ok (address_of first) (λ entry. digit_of second >>= (λ p. digit_of third >>=
-    (λ k. decimal_of MOST_LIMIT fourth >>= (λ limit. last_step entry p k limit)))) bound is in
-    let two = bind-ok (digit_of second) (λ p. digit_of third >>= (λ k. decimal_of MOST_LIMIT fourth >>= (λ limit. last_step one.0 p k limit))) bound one.2 in
-    let three = bind-ok (digit_of third) (λ k. decimal_of MOST_LIMIT fourth >>= (λ limit. last_step one.0 two.0 k limit)) bound two.2 in
-    let four = bind-ok (decimal_of MOST_LIMIT fourth) (λ limit. last_step one.0 two.0 three.0 limit) bound three.2 in
+    (λ k. decimal_of most_limit fourth >>= (λ limit. last_step entry p k limit)))) bound is in
+    let two = bind-ok (digit_of second) (λ p. digit_of third >>= (λ k. decimal_of most_limit fourth >>= (λ limit. last_step one.0 p k limit))) bound one.2 in
+    let three = bind-ok (digit_of third) (λ k. decimal_of most_limit fourth >>= (λ limit. last_step one.0 two.0 k limit)) bound two.2 in
+    let four = bind-ok (decimal_of most_limit fourth) (λ limit. last_step one.0 two.0 three.0 limit) bound three.2 in
     last-registers one.0 two.0 three.0 four.0 bound (hex_of-most 1 0xf third three.0 three.1) four.2
 
 bound-registers : (words : List (List ℕ)) (bound : Bound) → bound_of words ≡ Ok bound → HasRegisters bound

@@ -12,7 +12,6 @@ use Rattle.cycle_check.specs.declared.fault.CertCause.{CertCause}
 use Rattle.cycle_check.specs.declared.fault.CertCause.TheVariants.{BadLine, BadNumber, Order}
 use Rattle.cycle_check.specs.declared.fault.CertFault.{CertFault}
 use Rattle.cycle_check.specs.declared.fault.CertFault.TheVariants.{Fault}
-use Rattle.cycle_check.specs.declared.grammar.TheConstants.{MOST_LIMIT, MOST_LEFT}
 use Rattle.cycle_check.specs.declared.grammar.Bound.{Bound}
 use Rattle.cycle_check.specs.declared.grammar.Fact.{Fact}
 use Rattle.cycle_check.specs.declared.grammar.Fact.TheVariants.{Any, Copy, NonZero, Is}
@@ -47,12 +46,16 @@ x_of word = if bytes_eq word (codes "-") then Ok None else (do
 
 -- ---- the first line: `within ENTRY P K LIMIT`
 
+-- the greatest limit
+abbrev pub most_limit : ℕ
+most_limit = 1_000_000_000
+
 unfoldable pub bound_in : List ℕ → List ℕ → List ℕ → List ℕ → Result Bound CertCause
 bound_in first second third fourth = do
   entry ← address_of first
   p ← digit_of second
   k ← digit_of third
-  limit ← decimal_of MOST_LIMIT fourth
+  limit ← decimal_of most_limit fourth
   if k == p then Err BadNumber else Ok (record { entry = entry; p = p; k = k; limit = limit })
 
 unfoldable pub bound_of : List (List ℕ) → Result Bound CertCause
@@ -60,6 +63,10 @@ bound_of (word ∷ entry ∷ p ∷ k ∷ limit ∷ []) = if bytes_eq word (codes
 bound_of words = Err BadLine
 
 -- ---- the other lines: `ADDRESS X BASE STEP FACT`
+
+-- the greatest base, and the greatest step
+abbrev pub most_left : ℕ
+most_left = 1_000_000
 
 -- the fact is one word, or `is` and a byte
 unfoldable pub word_of_fact : List ℕ → Result Fact CertCause
@@ -83,8 +90,8 @@ unfoldable pub line_in : List ℕ → List ℕ → List ℕ → List ℕ → Fac
 line_in first second third fourth fact = do
   address ← address_of first
   x ← x_of second
-  base ← decimal_of MOST_LEFT third
-  step ← decimal_of MOST_LEFT fourth
+  base ← decimal_of most_left third
+  step ← decimal_of most_left fourth
   Ok (record { address = address; x = x; base = base; step = step; fact = fact })
 
 -- the form of a line goes before its numbers, and the fact has the last of the form

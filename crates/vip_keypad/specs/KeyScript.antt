@@ -6,11 +6,9 @@ use Rattle.std.specs.Option.{option_map_or}
 use Rattle.std.specs.Result.{result_ok}
 use Rattle.std.specs.Str.{bytes_eq}
 use Rattle.machine.specs.Keys.{Event}
-use Rattle.vip_byte.specs.declared.number.TheConstants.{MOST_CYCLE}
 use Rattle.vip_byte.specs.Number.{decimal_number}
 use Rattle.vip_byte.specs.Reading.{Format, read, ◌>>=◌}
 use Rattle.vip_byte.specs.Text.{words}
-use Rattle.vip_keypad.specs.declared.script.TheConstants.{MOST_EVENTS}
 use Rattle.vip_keypad.specs.declared.script.ScriptCause.{ScriptCause}
 use Rattle.vip_keypad.specs.declared.script.ScriptCause.TheVariants.{BadLine, BadCycle, BadKey, OutOfOrder, TooMany}
 use Rattle.vip_keypad.specs.declared.script.ScriptFault.{ScriptFault}
@@ -25,9 +23,9 @@ direction_of word =
     else if bytes_eq word (codes "up") then Ok false
     else Err BadLine
 
--- a decimal number
+-- a decimal number, from 0 to 4,000,000,000
 abbrev pub cycle_of : List ℕ → Result ℕ ScriptCause
-cycle_of word = ok_or (result_ok (decimal_number word MOST_CYCLE)) BadCycle
+cycle_of word = ok_or (result_ok (decimal_number word 4_000_000_000)) BadCycle
 
 -- one hexadecimal digit
 abbrev pub key_of : List ℕ → Result ℕ ScriptCause
@@ -60,13 +58,17 @@ said line = if is_silent (words line) then Ok None else (do
 abbrev pub last_cycle : List Event → ℕ
 last_cycle events = option_map_or (λ event. event.cycle) (slice_get events (length events - 1)) 0
 
+-- the most events of a script
+abbrev pub most_events : ℕ
+most_events = 100_000
+
 -- the first cause for which a line that says this is refused behind the events before it
 unfoldable pub cause_after : List Event → Result (Option Event) ScriptCause → Option ScriptCause
 cause_after before (Err cause) = Some cause
 cause_after before (Ok None) = None
 cause_after before (Ok (Some event)) =
     if nat_lt event.cycle (last_cycle before) then Some OutOfOrder
-    else if nat_le MOST_EVENTS (length before) then Some TooMany
+    else if nat_le most_events (length before) then Some TooMany
     else None
 
 -- ---- the whole script

@@ -23,7 +23,6 @@ use Rattle.chip8_lang.specs.Editions.{screen_start, stack_top}
 use Rattle.chip8_lang.specs.Places.{most_addresses}
 use Rattle.machine.specs.Pictures.{place, interrupt_place, window_place}
 use Rattle.chip8_image.specs.Interpreters.{interpreter_of}
-use Rattle.vip_byte.specs.declared.number.TheConstants.{MOST_CYCLE}
 use Rattle.vip_text.specs.declared.fault.StateFault.{StateFault}
 use Rattle.vip_text.specs.declared.fault.StateFault.TheVariants.{BadLength, BadHead, BadEdition, BadCycle, BadMachine}
 
@@ -100,10 +99,10 @@ shown f =
 
 -- ---- which files are accepted
 
--- An even cycle up to the most of a run, which lies in its frame before the interrupt, or behind the window: there main code runs.
+-- An even cycle up to 4,000,000,000, the most of a run, which lies in its frame before the interrupt, or behind the window: there main code runs.
 pub record IsCycle (t : ℕ) : Type 0 where
   pub even : t % 2 ≡ 0
-  pub most : t ≤ MOST_CYCLE
+  pub most : t ≤ 4_000_000_000
   pub outside : (place t < interrupt_place) ⊎ (window_place ≤ place t)
 
 -- R2 lies two bytes below the top of the stack for each address on it

@@ -1,7 +1,6 @@
 -- The files that a command reads, in their order, and what is known of them once they are read.
 use Rattle.std.specs.Prelude.{◌≡◌, ◌≤◌, ◌<◌, ◌-◌, ◌⊎◌, ℕ, List, [], ◌∷◌, ◌++◌, map, take, length, Option, Some, None, Result, Ok, Err, Vec, slice_index, IfSome, IsSomeAnd}
 use Rattle.std.specs.FinMap.{get}
-use Rattle.vip_byte.specs.declared.line.TheConstants.{MOST_TEXT}
 use Rattle.vip_outside.specs.Count.{Rose}
 use Rattle.vip_outside.specs.Files.{FilesMeaning, with_name}
 use Rattle.chip8_lang.specs.State.{memory_size}
@@ -26,7 +25,7 @@ pub record Needed : Type 0 where
 
 -- the most bytes of a key script, of the debugger's commands, of a source or of a certificate
 abbrev pub most_text : ℕ
-most_text = MOST_TEXT
+most_text = 1_048_576
 
 -- the addresses of the machine, 0000 to FFFF
 abbrev pub addresses : ℕ

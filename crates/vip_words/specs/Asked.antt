@@ -4,10 +4,8 @@ use Rattle.std.specs.Result.{result_ok}
 use Rattle.chip8_lang.specs.declared.view.Edition.{Edition}
 use Rattle.chip8_lang.specs.declared.view.Edition.TheVariants.{Usual, Tall}
 use Rattle.vip_byte.specs.Number.{decimal_number, hex_number}
-use Rattle.vip_byte.specs.declared.number.TheConstants.{MOST_CYCLE}
 use Rattle.vip_words.specs.Rules.{Given, Word, given_by}
 use Rattle.vip_words.specs.Table.{usage_of}
-use Rattle.vip_words.specs.declared.request.TheConstants.{MOST_MOVES}
 use Rattle.vip_words.specs.declared.request.Memory.{Memory}
 use Rattle.vip_words.specs.declared.request.Memory.TheVariants.{Rom, Ram}
 use Rattle.vip_words.specs.declared.table.Verb.{Verb}
@@ -131,7 +129,7 @@ moves_in _ = 0
 
 -- the most machine cycles of a run
 abbrev pub most_cycles : ℕ
-most_cycles = MOST_CYCLE
+most_cycles = 4_000_000_000
 
 -- a number of machine cycles: decimal, from 0 to 4,000,000,000
 abbrev pub cycles_of : Word → Option ℕ
@@ -143,7 +141,7 @@ seed_of word = result_ok (decimal_number word 4294967295)
 
 -- the most moves of joined boards
 abbrev pub most_moves : ℕ
-most_moves = MOST_MOVES
+most_moves = 10_000_000
 
 -- so many machine cycles and moves may be asked for
 pub record InRange (wish : Asked) : Type 0 where

@@ -9,7 +9,6 @@ use Rattle.vip_byte.specs.Number.{decimal_number, hex_number}
 use Rattle.vip_byte.specs.Reading.{Format, read, ◌>>=◌}
 use Rattle.vip_byte.specs.Text.{words}
 use Rattle.vip_keypad.specs.KeyScript.{is_silent}
-use Rattle.vip_words.specs.declared.debug_line.TheConstants.{MOST_STEPS, MOST_SHOWN}
 use Rattle.vip_words.specs.declared.debug_commands.Command.{Command}
 use Rattle.vip_words.specs.declared.debug_commands.Command.TheVariants.{Runs, Shows, Seeks, Tells}
 use Rattle.vip_words.specs.declared.debug_commands.Running.TheVariants.{Step, To, At, Watch}
@@ -55,11 +54,11 @@ decimal_within least most word = no_less_than least (decimal_number word most)
 unfoldable pub address_of : List ℕ → Result ℕ CommandCause
 address_of word = if nat_lt 4 (length word) then Err BadNumber else ok_or (result_ok (hex_number word 0xffff)) BadNumber
 
--- a number of moves or of dispatch points
+-- a number of moves or of dispatch points, from 1 to 1,000,000
 unfoldable pub steps_of : List (List ℕ) → Result ℕ CommandCause
 steps_of operands = do
   word ← one_operand operands
-  decimal_within 1 MOST_STEPS word
+  decimal_within 1 1_000_000 word
 
 -- a cycle that is at most the limit
 unfoldable pub to_of : ℕ → List (List ℕ) → Result ℕ CommandCause
@@ -72,12 +71,12 @@ place_of operands = do
   word ← one_operand operands
   address_of word
 
--- an address, and a number of bytes or lines from there on
+-- an address, and a number of bytes or lines from there on, from 1 to 4,096
 unfoldable pub span_of : List (List ℕ) → Result (ℕ × ℕ) CommandCause
 span_of operands = do
   pair ← two_operands operands
   address ← address_of pair.0
-  count ← decimal_within 1 MOST_SHOWN pair.1
+  count ← decimal_within 1 4_096 pair.1
   Ok (address, count)
 
 -- bytes that end at FFFF at the latest

@@ -123,7 +123,7 @@ fn read_to(operands: Words, limit: u64) -> Result<u64, CommandCause>
 #[tactic(auto, unfolding(crate::specs::DebugGrammar::span_of))]
 fn read_span(operands: Words) -> Result<(u16, u32), CommandCause>
     ensures value { result ≡ span_of operands.entry }
-    ensures within { IfOk result (λ span. span.1 ≤ MOST_SHOWN) }
+    ensures within { IfOk result (λ span. span.1 ≤ 4_096) }
 {
     let (first, second) = two(operands)?;
     let address = read_address(first)?;
