@@ -3,55 +3,55 @@
 //! makes its change and no other, and nothing changes the ROM. The map is that of RCA's instruction manual of the COSMAC VIP; the place and
 //! size of the ROM, and what an address without memory reads, are this project's profile.
 //!
-//! It keeps a byte for each of the 65,536 addresses, FF where there is no memory, so that a read is one look-up.
+//! RAM is kept as 16 pages of 256 bytes and ROM as 8. All addresses without memory share one page of FF, so that no read needs a test.
 #![tactic(auto)]
 
-ghost use Rattle.std.specs.Prelude.{◌≡◌, ◌+◌, ◌<◌, ◌≤◌, ◌⊎◌, ◌↔◌, ◌++◌, true, false, length, replicate, slice_set, IfOk, IfSome, IsSome, vec_len};
+ghost use Rattle.std.specs.Prelude.{◌≡◌, ◌+◌, ◌<◌, ◌≤◌, ◌⊎◌, ◌↔◌, true, false, length, replicate, slice_set, IfOk, IfSome, IsSome, vec_len};
 ghost use Rattle.machine.specs.Memory.{read, written};
 ghost use Rattle.vip_memory.specs.Contents.{loaded, page_of};
-ghost use Rattle.vip_memory.specs.Map.{map_with};
+ghost use Rattle.vip_memory.specs.Pages.{ram_in, rom_in, IsMemory};
 
 mod latch;
+mod page;
 
 use crate::latch::Latch;
+use crate::page::{PAGES, Page, RAM_PAGES, add_pages, page_number};
 use std::alloc::{AllocError, Global};
 use std::marker::Model;
-
-/// How many addresses there are.
-const ADDRESSES: usize = 0x1_0000;
 
 /// RAM, ROM and the boot latch. Addresses are those of the processor, 0000 to FFFF.
 #[derive(Drop)]
 pub struct Memory {
-    // what each address reads where the latch is clear
-    map: Vec<u8>,
+    // 16 of RAM, 8 of ROM, and one of FF
+    pages: Vec<Page>,
     latch: Latch,
 }
 
 impl Model for Memory {
     ghost use Rattle.std.specs.Prelude.{◌≡◌, vec_len};
     ghost use Rattle.vip_memory.specs.Contents.{Contents};
-    ghost use Rattle.vip_memory.specs.Map.{ram_in, rom_in, IsMap};
+    ghost use Rattle.vip_memory.specs.Pages.{ram_in, rom_in, IsMemory};
 
     ghost Value = { Contents };
 
-    ghost view = { λ a. record { ram = ram_in a.map.items; rom = rom_in a.map.items; latch = a.latch } };
+    ghost view = { λ a. record { ram = ram_in a.pages.items; rom = rom_in a.pages.items; latch = a.latch } };
 
-    ghost invariant = { λ a. record { size : vec_len a.map ≡ 0x10000; map : IsMap a.map.items } };
+    ghost invariant = { λ a. record { count : vec_len a.pages ≡ 25; pages : IsMemory a.pages.items } };
 }
 
-/// What each address reads at first: RAM is 00.
-fn map_with(alloc: Global, rom: &[u8]) -> Result<Vec<u8>, AllocError>
+/// The pages after reset, with the bytes of a ROM: RAM is 00.
+fn pages_with(alloc: Global, rom: &[u8]) -> Result<Vec<Page>, AllocError>
     requires { length rom.now ≡ 0x800 }
-    ensures size { IfOk result (λ map. vec_len map ≡ 0x10000) }
-    ensures items { IfOk result (λ map. map.items ≡ map_with rom.now) }
+    ensures count { IfOk result (λ pages. vec_len pages ≡ 25) }
+    ensures pages { IfOk result (λ pages. IsMemory pages.items) }
+    ensures ram { IfOk result (λ pages. ram_in pages.items ≡ replicate 0x1000 0) }
+    ensures rom { IfOk result (λ pages. rom_in pages.items ≡ rom.now) }
 {
-    let mut map = Vec::with_capacity(alloc, ADDRESSES)?;
-    map.extend_from_slice(&[0; 0x1000])?;
-    map.extend_from_slice(&[0xFF; 0x7000])?;
-    map.extend_from_slice(rom)?;
-    map.extend_from_slice(&[0xFF; 0x7800])?;
-    Ok(map)
+    let mut pages = Vec::with_capacity(alloc, PAGES)?;
+    add_pages(&mut pages, &[0; 0x1000])?;
+    add_pages(&mut pages, rom)?;
+    add_pages(&mut pages, &[0xFF; 0x100])?;
+    Ok(pages)
 }
 
 impl Memory {
@@ -60,9 +60,9 @@ impl Memory {
         requires { length rom.now ≡ 0x800 }
         ensures { IfOk result (λ m. m ≡ record { ram = replicate 0x1000 0; rom = rom.now; latch = true }) }
     {
-        let map = map_with(alloc, rom)?;
+        let pages = pages_with(alloc, rom)?;
         Ok(Memory {
-            map,
+            pages,
             latch: Latch::set(),
         })
     }
@@ -73,7 +73,8 @@ impl Memory {
     pub fn read(&self, address: u16) -> u8
         ensures { result ≡ read self.now.rom self.now.latch self.now.ram address }
     {
-        self.map[usize::from(self.latch.place(address))]
+        let place = self.latch.place(address);
+        self.pages[usize::from(page_number((place / 256) as u8))].bytes[usize::from(place % 256)]
     }
 
     /// Puts a byte into RAM, whatever the latch is.
@@ -81,7 +82,7 @@ impl Memory {
         requires { address < 0x1000 }
         ensures { self.new ≡ record self.old { ram = slice_set self.old.ram address value } }
     {
-        self.map[usize::from(address)] = value;
+        self.pages[usize::from(address / 256)].bytes[usize::from(address % 256)] = value;
     }
 
     /// Writes a byte into RAM. At an address outside RAM, and everywhere while the latch is set, it does nothing.
@@ -99,7 +100,7 @@ impl Memory {
         requires { address + length bytes.now ≤ 0x1000 }
         ensures { self.new ≡ record self.old { ram = loaded self.old.ram address bytes.now } }
     {
-        let _ = &self.map;
+        let _ = &self.pages;
         for (i, byte) in bytes.iter().enumerate() {
             self.put(address + i as u16, *byte);
         }
@@ -126,10 +127,9 @@ impl Memory {
         ensures bytes { IfSome result (λ s. s.now ≡ page_of self.now high) }
         ensures size { IfSome result (λ s. length s.now ≡ 256) }
     {
-        let start = usize::from(high) * 256;
         match high {
-            0x00..=0x0F => Some(&self.map[start..start + 256]),
-            0x80..=0x87 => Some(&self.map[start..start + 256]),
+            0x00..=0x0F => Some(&self.pages[usize::from(high)].bytes),
+            0x80..=0x87 => Some(&self.pages[RAM_PAGES + usize::from(high - 0x80)].bytes),
             _ => None,
         }
     }

@@ -2,7 +2,8 @@ use Rattle.std.proofs.Common.{◌≡◌, ◌+◌, ◌<◌, ap, sym, ◌∙◌, a
 use Rattle.std.proofs.Math.Seq.{take-suc}
 use Rattle.std.proofs.lemmas.List.{length-take-le}
 use Rattle.vip_memory.specs.Contents.{Contents, loaded}
-use Rattle.vip_memory.proofs.Map.{loaded-none, loaded-push}
+use Rattle.vip_memory.specs.Pages.{flat}
+use Rattle.vip_memory.proofs.Pages.{length-flat, loaded-none, loaded-push}
 use Rattle.vip_memory.proofs.Memory.load.Goals as goal
 
 pub loop-i-preserved : goal.loop-i-preserved
@@ -14,7 +15,9 @@ loop-i-preserved c =
     let value = get_or bytes i 0 in
     let done : length (take i bytes) ≡ i = length-take-le i bytes (omega arith) in
     let size : length m.ram ≡ 0x1000 =
-    sym (ap (λ (x : Contents). length x.ram) c.self.view_is) ∙ length-take-le 0x1000 c.self.inside.map.items (omega (arith, c.self.invariant.map.size)) in
+    sym (ap (λ (x : Contents). length x.ram) c.self.view_is)
+    ∙ length-take-le 0x1000 (flat c.self.inside.pages.items)
+    (omega (arith, length-flat c.self.inside.pages.items c.self.invariant.pages.each, c.self.invariant.pages.count)) in
     let room : a + length (take i bytes) < length m.ram = omega (arith, size, done, c.requires, c.loop-i-test.true) in
     c.put.ensures
     ∙ ap (λ (x : Contents). record x { ram = set x.ram (a + i) value }) c.loop-i.invariant
