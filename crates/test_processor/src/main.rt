@@ -5,12 +5,13 @@
 //! into the state before, over a plain memory, and makes one instruction, and then the moves that the signals of the vector want. Its
 //! registers, its calls on the bus and its machine cycles must be those of the vector. The vectors that were measured with the display
 //! on run on a whole board of `vip_board` too, whose video chip gives the signals. The program writes each vector that differs, and
-//! then the counts. Then it runs the small ROMs of `data/boards.txt` on a whole board, whose outcome was worked out by hand, and two boards that are
-//! joined by port 3 under many schedules.
+//! then the counts. Then it tries the rows of a memory, runs the small ROMs of `data/boards.txt` on a whole board, whose outcome was worked out by
+//! hand, and two boards that are joined by port 3 under many schedules.
 //!
 //! It is a test of the definitions of `machine`, which no proof can judge: nothing here is proved but that it is safe.
 #![tactic(auto)]
 
+mod memory_rows;
 mod on_board;
 mod schedules;
 mod small_rom;
@@ -199,6 +200,11 @@ fn run_vectors(rt: &HostRuntime, text: &str) -> anyhow::Result<()> {
     write_counts(rt, "of them on the board", &tried.on_board)
 }
 
+/// Tries the rows of a memory.
+fn run_memory_rows(rt: &HostRuntime) -> anyhow::Result<()> {
+    write_counts(rt, "rows of a memory", &memory_rows::rows(rt.alloc())?)
+}
+
 /// Runs two joined boards under many schedules.
 fn run_schedules(rt: &HostRuntime) -> anyhow::Result<()> {
     write_counts(rt, "rows of two boards", &schedules::rows(rt.alloc())?)?;
@@ -210,6 +216,7 @@ fn run_schedules(rt: &HostRuntime) -> anyhow::Result<()> {
 
 fn main(rt: HostRuntime) -> anyhow::Result<()> {
     run_vectors(&rt, &fs::read_to_string(&rt, "vectors.txt")?)?;
+    run_memory_rows(&rt)?;
     run_small_roms(&rt, &fs::read_to_string(&rt, "boards.txt")?)?;
     run_schedules(&rt)
 }
