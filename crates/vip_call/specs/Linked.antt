@@ -7,8 +7,8 @@ use Rattle.vip_tools.specs.Report.{linked_report}
 use Rattle.vip_verbs.specs.Outcome.{linked_after}
 
 -- Of both boards after the moves that were asked for: what A sent is a prefix of the message, and what B received a prefix of that, which lies in
--- its RAM; the output is what B received, and the report says how many bytes were sent and received. 1,320 moves for each byte and 2,640 more are
--- enough for the whole message, by the schedule of every number.
+-- its RAM, and both displays are off; the output is what B received, and the report says how many bytes were sent and received. 1,320 moves for each
+-- byte and 2,640 more are enough for the whole message, by the schedule of every number.
 pub record BringsMessage (a : AskedLink) (message : List ℕ) (pieces : List (List ℕ)) (report : List ℕ) : Type 0 where
   pub pair : Pair
   pub is : pair ≡ linked_after a.number a.moves message

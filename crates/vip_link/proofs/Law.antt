@@ -12,9 +12,9 @@ use Rattle.vip_link.specs.Roms.{sender_rom, receiver_rom}
 use Rattle.vip_link.specs.Laws.{message_ram, start, Delivers, after, AlwaysDelivers, PairsDeliver, TurnsDeliver, NumbersDeliver}
 use Rattle.vip_link.specs.Schedules.{schedule_by, turns}
 use Rattle.vip_link.proofs.Numbers.{turns-of-number}
-use Rattle.vip_link.proofs.Sending.{rom as rom_a}
+use Rattle.vip_link.proofs.Sending.{rom as rom_a, sends_off}
 use Rattle.vip_link.proofs.Sending.Place.{Reset as ResetA}
-use Rattle.vip_link.proofs.Receiving.{rom as rom_b, ram_is, enough}
+use Rattle.vip_link.proofs.Receiving.{rom as rom_b, ram_is, receives_off, enough}
 use Rattle.vip_link.proofs.Receiving.Place.{Reset as ResetB}
 use Rattle.vip_link.proofs.Start.{high_is, low_is, byte_of}
 use Rattle.vip_link.proofs.Both.{Wire, Holds, StepA, StepB, step_a, step_b, is_some_none}
@@ -168,6 +168,10 @@ module _ (message : List ℕ) (room : length message ≤ 3000) where
         close = omega (arith, near.1, ap length g.sent, ap length g.received, sent_long, received_long);
         on_wire = g.sent ∙ on_wire h.k h.j s.to_b g.within g.wire ∙ ap (λ x. x ++ option_to_list s.to_b) (sym g.received);
         stored = λ i l. there i (omega (arith, l, ap length g.received, received_long));
+        displays = (
+          sends_off (length message) (message_ram message) h.k s.to_b h.a s.a g.sender,
+          receives_off (length message) g.ram h.j s.to_b h.b s.b g.receiver,
+        );
       }
     where
       g : Held h.k h.j h.a h.b s

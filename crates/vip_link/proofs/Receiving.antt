@@ -129,6 +129,23 @@ module _ (n : ℕ) where
       same Step = refl
       same Again = refl
 
+  -- the display is off before each instruction
+  pub receives_off : (ram : List ℕ) (j : ℕ) (w : Option ℕ) (m : ℕ) (b : Machine) → Receives ram j w m b → b.on ≡ false
+  receives_off ram j w m b s = ap (λ (z : Machine). z.on) s.is ∙ off s.place
+    where
+      off : (p : Place) → (row p ram j s.d s.cycle).on ≡ false
+      off Reset = refl
+      off Unlatch = refl
+      off PageOfStore = refl
+      off PutPage = refl
+      off PlaceOfStore = refl
+      off PutPlace = refl
+      off Point = refl
+      off Wait = refl
+      off Take = refl
+      off Step = refl
+      off Again = refl
+
   -- as many moves are left as bytes are to come, and no fewer
   pub enough : (ram : List ℕ) (j : ℕ) (w : Option ℕ) (m : ℕ) (b : Machine) → Receives ram j w m b → n - j ≤ m
   enough ram j w m b s = rw s.moves_is (at_least s.place s.known)

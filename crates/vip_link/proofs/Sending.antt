@@ -1,5 +1,5 @@
 -- SENDER, instruction by instruction: what is known before each one, and what its move makes of that.
-use Rattle.std.proofs.Common.{◌≡◌, ℕ, ◌+◌, ◌-◌, ◌*◌, ◌/◌, ◌%◌, ◌<◌, ◌≤◌, ◌⊎◌, inl, inr, refl, sym, ap, subst, arith, Bool, true, false, not, cond, List, ◌++◌, slice_index}
+use Rattle.std.proofs.Common.{◌≡◌, ℕ, ◌+◌, ◌-◌, ◌*◌, ◌/◌, ◌%◌, ◌<◌, ◌≤◌, ◌⊎◌, inl, inr, refl, sym, ◌∙◌, ap, subst, arith, Bool, true, false, not, cond, List, ◌++◌, slice_index}
 use Rattle.std.specs.Prelude.{Option, Some, None, IsSome}
 use Rattle.std.proofs.lemmas.Bool.{cases_eq, ne_eqb, eq-eqb}
 use Rattle.machine.specs.Bank.{Word, word, word_of, up, zeros}
@@ -153,6 +153,32 @@ module _ (n : ℕ) (ram : List ℕ) where
       → Makes k w (moves_left p (n - k)) j
   stays p k d c w j e h s =
       Waits (row p k d c) e (record { place = p; d = d; cycle = c; is = refl; known = h; moves_is = refl }) s
+
+  -- the display is off before each instruction
+  pub sends_off : (k : ℕ) (w : Option ℕ) (m : ℕ) (b : Machine) → Sends k w m b → b.on ≡ false
+  sends_off k w m b s = ap (λ (z : Machine). z.on) s.is ∙ off s.place
+    where
+      off : (p : Place) → (row p k s.d s.cycle).on ≡ false
+      off Reset = refl
+      off Unlatch = refl
+      off PageOfLength = refl
+      off PutPage = refl
+      off PlaceOfLength = refl
+      off PutPlace = refl
+      off ReadHigh = refl
+      off PutHigh = refl
+      off ReadLow = refl
+      off PutLow = refl
+      off Point = refl
+      off TestHigh = refl
+      off BranchHigh = refl
+      off TestLow = refl
+      off BranchLow = refl
+      off Wait = refl
+      off Send = refl
+      off Count = refl
+      off Again = refl
+      off Done = refl
 
   -- when the byte is taken off the wire, it stays there
   known_taken : (p : Place) (k d : ℕ) (w : Option ℕ) → Known p k d w → Known p k d None

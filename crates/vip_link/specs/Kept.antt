@@ -42,5 +42,5 @@ pub record IsKept (l : Inside) : Type 0 where
   pub counted : l.sent ≤ length l.message.items
   pub room : most_bytes ≤ vec_capacity l.received
   pub reached : Reached (linking_of l)
-  -- so what was sent is a prefix of the message, and what was received a prefix of that, which lies in B's RAM
+  -- so what was sent is a prefix of the message, and what was received a prefix of that, which lies in B's RAM; and both displays are off
   pub delivers : Delivers l.message.items (pair_of l)

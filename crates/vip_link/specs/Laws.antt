@@ -1,5 +1,5 @@
 -- The law of every schedule of the two ROMs.
-use Rattle.std.specs.Prelude.{◌≡◌, ℕ, ◌+◌, ◌*◌, ◌/◌, ◌%◌, ◌≤◌, List, [], ◌∷◌, ◌++◌, length, drop, replicate, slice_index, EachIndex, None, option_to_list}
+use Rattle.std.specs.Prelude.{◌≡◌, ℕ, ◌+◌, ◌*◌, ◌/◌, ◌%◌, ◌≤◌, List, [], ◌∷◌, ◌++◌, length, drop, replicate, slice_index, EachIndex, None, option_to_list, false}
 use Rattle.std.specs.Io.{StartsWith}
 use Rattle.machine.specs.Board.{after_reset}
 use Rattle.vip_link.specs.declared.side.Side.{Side}
@@ -31,6 +31,8 @@ pub record Delivers (message : List ℕ) (s : Pair) : Type 0 where
   pub on_wire : s.sent ≡ s.received ++ option_to_list s.to_b
   -- B's RAM holds what was received
   pub stored : EachIndex s.received (λ k. slice_index s.b.ram (0x200 + k) ≡ slice_index s.received k)
+  -- both displays are off, so neither board makes a DMA or an interrupt cycle
+  pub displays : (s.a.on ≡ false) × (s.b.on ≡ false)
 
 -- after a schedule
 abbrev pub after : List Side → List ℕ → Pair

@@ -4,8 +4,8 @@
 //! It stands on `vip_board`, whose `linked` makes one linked move, on `rom_law` for how machine code reads ROM and RAM, and on `chip8_source`,
 //! which compares the ROMs with their texts. The layer above may rely on this: `Link::step` makes exactly the linked move of its side, and after
 //! every step what was sent is a prefix of the message, what was received is a prefix of that and at most one byte shorter, and lies in B's RAM
-//! from 0200 on; `Link::run` makes the moves of the schedule that a number gives; `laws::every_schedule` says of the definitions what holds after
-//! every step, and that a schedule brings the whole message in which B moves often enough right behind A.
+//! from 0200 on, and both displays are off; `Link::run` makes the moves of the schedule that a number gives; `laws::every_schedule` says of the
+//! definitions what holds after every step, and that a schedule brings the whole message in which B moves often enough right behind A.
 //!
 //! ```text
 //!     ┌───────────┐  OUT 3        to B        INP 3  ┌─────────────┐
