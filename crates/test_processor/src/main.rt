@@ -1,7 +1,7 @@
 //! Runs the CDP1802 of `vip_cpu` through single instructions, interrupts and DMA cycles whose outcome was measured elsewhere.
 //!
 //! The vectors in `data/vectors.txt` were measured on MAME 0.251, driver vip, core cdp1802; the head of that file says what its
-//! fields are. There are vectors of all opcodes but 68, and of interrupts, DMA cycles and idling. For each of them a processor is put
+//! fields are. There are vectors of all opcodes but 68, and of interrupts, DMA cycles and idling. For each of them a processor is brought
 //! into the state before, over a plain memory, and makes one instruction, and then the moves that the signals of the vector want. Its
 //! registers, its calls on the bus and its machine cycles must be those of the vector. The vectors that were measured with the display
 //! on run on a whole board of `vip_board` too, whose video chip gives the signals. The program writes each vector that differs, and
@@ -13,11 +13,13 @@
 
 mod memory_rows;
 mod on_board;
+mod preamble;
 mod schedules;
 mod small_rom;
 mod test_bus;
 mod vector;
 
+use crate::preamble::Preamble;
 use crate::small_rom::SmallRom;
 use crate::test_bus::TestBus;
 use crate::vector::{State, Vector, VectorFault};
@@ -60,9 +62,23 @@ fn makes_moves(cpu: &mut Cpu, bus: &mut TestBus, vector: &Vector, idle: u16) -> 
     true
 }
 
+/// A processor that was brought into the state before a vector, by instructions that the vector's memory has no part of.
+fn processor_before(vector: &Vector, bus: &mut TestBus) -> Cpu {
+    let preamble = Preamble::of(&vector.before, 0);
+    let mut cpu = Cpu::from_parts(&preamble.parts());
+    bus.lay(preamble.address(), preamble.bytes());
+    for _cycle in 0..preamble.cycles() {
+        let _ = cpu.cycle(bus, false, false);
+    }
+    cpu
+}
+
 fn passes(vector: &Vector, bus: &mut TestBus) -> bool {
-    let mut cpu = Cpu::from_parts(&vector.before.parts());
+    let mut cpu = processor_before(vector, bus);
     bus.prepare(vector);
+    if State::of(&cpu) != vector.before {
+        return false;
+    }
     let mut cycles = vector.signals.cycles();
     if vector.kind.has_instruction {
         cycles = cycles.saturating_add(run_instruction(&mut cpu, bus));

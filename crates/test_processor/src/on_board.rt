@@ -1,10 +1,12 @@
 //! The vectors that were measured with the display on, on a whole board.
 //!
 //! A vector names the interrupt and DMA cycles that came, and not the machine cycle in which it began. It is given one at which the
-//! video chip asks for these cycles then and for no other.
+//! video chip asks for these cycles then and for no other. The instructions that bring the board into the state before it lie in the cycles
+//! right before that one, and begin where the chip requests neither DMA nor an interrupt.
 
 ghost use Rattle.std.specs.Prelude.{◌≡◌, ◌<◌, IfOk, length};
 
+use crate::preamble::Preamble;
 use crate::vector::{State, Vector, VectorFault};
 use std::alloc::Global;
 use vip_board::{Board, Move, Moved};
@@ -15,6 +17,11 @@ use vip_keypad::{Script, read_script};
 const LINE: u64 = 14;
 
 const FRAME: u64 = 262 * LINE;
+
+/// The cycles of a frame from which on INT is active, and from which on it isn't any more.
+const INTERRUPT: u64 = 78 * LINE;
+
+const INTERRUPT_END: u64 = 80 * LINE;
 
 /// The key that is latched. The script holds it down where EF3 is active.
 const KEY: u8 = 5;
@@ -30,9 +37,9 @@ fn end_of(vector: &Vector) -> u64 {
         };
         line * LINE + 10
     } else if vector.signals.takes_int {
-        78 * LINE + 1
+        INTERRUPT + 1
     } else if vector.signals.ignores_int {
-        78 * LINE
+        INTERRUPT
     } else if vector.flags[0] {
         76 * LINE + 2
     } else {
@@ -54,19 +61,68 @@ fn fill(bytes: &mut [u8], from: u16, vector: &Vector)
     }
 }
 
-/// A board before a vector.
-fn board_before(alloc: Global, vector: &Vector) -> Result<Board, VectorFault>
-    ensures { IfOk result (λ board. board.phase ≡ Phase.Boundary) }
+/// RAM as a vector has it.
+fn ram_of(alloc: Global, vector: &Vector) -> Result<Vec<u8>, VectorFault>
+    ensures { IfOk result (λ ram. length ram.items ≡ 0x1000) }
 {
     let mut ram = vec![in alloc; 0; 0x1000]?;
-    let mut rom = vec![in alloc; 0; 0x800]?;
     fill(&mut ram, 0, vector);
+    Ok(ram)
+}
+
+/// Lays the instructions before a vector into RAM.
+fn lay(ram: &mut [u8], preamble: &Preamble)
+    ensures { length ram.new ≡ length ram.old }
+{
+    let mut place = preamble.address();
+    for byte in preamble.bytes().iter() {
+        let at = place as usize;
+        if at < ram.len() {
+            ram[at] = *byte;
+        }
+        place = place.wrapping_add(1);
+    }
+}
+
+/// The instructions before a vector that begins in a cycle. The first one, at which interrupts are still enabled, begins where INT isn't
+/// active.
+fn preamble_of(vector: &Vector, t: u64) -> Preamble {
+    let place = t.saturating_sub(2) % FRAME;
+    let fillers = if place >= INTERRUPT && place < INTERRUPT_END {
+        (place - INTERRUPT) / 2 + 1
+    } else {
+        0
+    };
+    Preamble::of(&vector.before, fillers as usize)
+}
+
+/// A board that was brought into the state before a vector which begins in this cycle, with memory as the vector has it.
+fn board_before(alloc: Global, vector: &Vector, t: u64) -> Result<Board, VectorFault>
+    ensures { IfOk result (λ board. board.phase ≡ Phase.Boundary) }
+{
+    let ram = ram_of(alloc, vector)?;
+    let mut first = ram_of(alloc, vector)?;
+    let mut rom = vec![in alloc; 0; 0x800]?;
     fill(&mut rom, 0x8000, vector);
     let script = script_of(alloc, vector.flags[2])?;
-    let t = end_of(vector).saturating_sub(u64::from(vector.cycles));
-    let parts = vector.before.parts();
-    let board = Board::restore(alloc, &rom, &script, &parts, &ram, KEY, t)?;
+    let preamble = preamble_of(vector, t);
+    lay(&mut first, &preamble);
+    let parts = preamble.parts();
+    let start = t.saturating_sub(u64::from(preamble.cycles()));
+    let mut board = Board::restore(alloc, &rom, &script, &parts, &first, KEY, start)?;
+    make_all(&mut board, preamble.count());
+    board.load(0, &ram);
     Ok(board)
+}
+
+/// Makes so many moves.
+fn make_all(board: &mut Board, count: u16)
+    requires { board.old.phase ≡ Phase.Boundary }
+    ensures { board.new.phase ≡ Phase.Boundary }
+{
+    for _move in 0..count {
+        let _ = board.to_boundary(u64::MAX);
+    }
 }
 
 fn script_of(alloc: Global, down: bool) -> Result<Script, VectorFault> {
@@ -125,10 +181,13 @@ fn is_due(board: &Board, vector: &Vector, end: u64) -> bool
 
 /// Whether the moves of a board are those of a vector and leave what the vector says.
 pub fn passes(alloc: Global, vector: &Vector) -> Result<bool, VectorFault> {
-    let mut board = board_before(alloc, vector)?;
     let end = end_of(vector);
-    let counter = board.cpu().r(board.cpu().p());
-    let first = Move::Instruction(counter);
+    let t = end.saturating_sub(u64::from(vector.cycles));
+    let mut board = board_before(alloc, vector, t)?;
+    if board.now() != t || State::of(board.cpu()) != vector.before {
+        return Ok(false);
+    }
+    let first = Move::Instruction(vector.before.counter());
     let begins = makes(&mut board, first, vector.kind.has_instruction as u16);
     let signalled = vector.signals.cycles();
     let idle = end

@@ -175,8 +175,6 @@ fn parts_at_0300() -> Parts
         p: 3,
         df: false,
         q: false,
-        ie: false,
-        idle: false,
     }
 }
 

@@ -41,6 +41,15 @@ impl TestBus {
         self.bytes.fill(byte);
     }
 
+    /// Puts bytes from an address on.
+    pub fn lay(&mut self, address: u16, bytes: &[u8]) {
+        let mut place = address;
+        for byte in bytes.iter() {
+            self.bytes[place as usize] = *byte;
+            place = place.wrapping_add(1);
+        }
+    }
+
     /// Memory, flags and ports as a vector has them, and no calls yet.
     pub fn prepare(&mut self, vector: &Vector) {
         self.fill(0);

@@ -137,7 +137,17 @@ impl State {
         }
     }
 
-    /// The parts of a processor in this state.
+    /// IE.
+    pub fn enables_interrupts(&self) -> bool {
+        self.bits / 4 % 2 == 1
+    }
+
+    /// R(P).
+    pub fn counter(&self) -> u16 {
+        self.r[(self.xp % 16) as usize]
+    }
+
+    /// The parts of a processor in this state, but that it has interrupts enabled.
     pub fn parts(&self) -> Parts
         ensures x { result.x < 16 }
         ensures p { result.p < 16 }
@@ -150,8 +160,6 @@ impl State {
             p: self.xp % 16,
             df: self.bits % 2 == 1,
             q: self.bits / 2 % 2 == 1,
-            ie: self.bits / 4 % 2 == 1,
-            idle: false,
         }
     }
 

@@ -94,8 +94,9 @@ impl Board {
     }
 
     /// A board at a boundary before machine cycle t, whose processor has these parts: with a ROM of 2,048 bytes, a key script, 4,096
-    /// bytes of RAM and a latched key, below 16; X and P are below 16 too. The boot latch is clear, and the display is on. There is no
-    /// picture yet, and the frame that is under way has one only where its interrupt starts at or after t.
+    /// bytes of RAM and a latched key, below 16; X and P are below 16 too. Interrupts are enabled, the processor doesn't idle, the boot latch
+    /// is clear, and the display is on. There is no picture yet, and the frame that is under way has one only where its interrupt starts at
+    /// or after t.
     pub fn restore(
         alloc: Global,
         rom: &[u8],
@@ -119,7 +120,7 @@ impl Board {
         memory.clear_latch();
         let mut keypad = Keypad::new(alloc, script)?;
         keypad.latch(key);
-        let video = Video::at(t, true);
+        let video = Video::at(t);
         let cpu = Cpu::from_parts(parts);
         Ok(Board {
             cpu,

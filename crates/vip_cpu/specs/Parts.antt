@@ -1,4 +1,5 @@
--- The registers that a processor is made of.
+-- The registers that a processor is made of: interrupts are enabled, and it doesn't idle.
+use Rattle.std.specs.Prelude.{true, false}
 use Rattle.machine.specs.Bank.{bank_of}
 use Rattle.machine.specs.Instruction.{Regs}
 use Rattle.vip_cpu.specs.declared.parts.Parts.{Parts}
@@ -14,6 +15,6 @@ regs_of parts =
       x = parts.x;
       t = parts.t;
       q = parts.q;
-      ie = parts.ie;
-      idle = parts.idle;
+      ie = true;
+      idle = false;
     }

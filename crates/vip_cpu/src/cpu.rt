@@ -69,7 +69,7 @@ impl Cpu {
         }
     }
 
-    /// A processor with these parts, at a boundary. X and P are below 16.
+    /// A processor with these parts, at a boundary, with interrupts enabled; it doesn't idle. X and P are below 16.
     pub fn from_parts(parts: &Parts) -> Cpu
         requires p { parts.now.p < 16 }
         requires x { parts.now.x < 16 }

@@ -1,6 +1,6 @@
 //! What a processor is made of.
 
-/// All registers of a processor at a boundary, and whether it idles.
+/// The registers that a processor is made of, at a boundary. Interrupts are then enabled, and it doesn't idle.
 #[derive(Clone, Copy)]
 pub struct Parts {
     /// R(0) to R(F).
@@ -17,8 +17,4 @@ pub struct Parts {
     pub df: bool,
     /// Q, the output flip-flop.
     pub q: bool,
-    /// IE, the interrupt enable flip-flop.
-    pub ie: bool,
-    /// It idles, from IDL on up to the next DMA or interrupt cycle.
-    pub idle: bool,
 }

@@ -77,7 +77,7 @@ impl Registers {
         }
     }
 
-    /// With these parts.
+    /// With these parts, interrupts enabled, and not idling.
     pub fn of(parts: &Parts) -> Registers
         requires p { parts.now.p < 16 }
         requires x { parts.now.x < 16 }
@@ -92,8 +92,8 @@ impl Registers {
             x: parts.x,
             df: parts.df,
             q: parts.q,
-            ie: parts.ie,
-            idle: parts.idle,
+            ie: true,
+            idle: false,
         }
     }
 

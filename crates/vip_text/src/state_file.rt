@@ -154,7 +154,5 @@ pub fn parts(bytes: &[u8]) -> Parts
         p: bytes[48] % 16,
         df: bytes[49] % 2 == 1,
         q: bytes[49] / 2 == 1,
-        ie: true,
-        idle: false,
     }
 }

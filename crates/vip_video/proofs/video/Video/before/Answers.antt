@@ -1,6 +1,6 @@
 use Rattle.std.proofs.Common.{refl, arith}
 use Rattle.vip_video.proofs.Room.{room-blank}
-use Rattle.vip_video.proofs.video.Video.at.Goals as goal
+use Rattle.vip_video.proofs.video.Video.before.Goals as goal
 
 pub invariant_of-result : goal.invariant_of-result
 invariant_of-result c =
