@@ -13,12 +13,6 @@ use Rattle.vip_memory.specs.declared.page.Page.{Page}
 
 -- ---- bytes in pages
 
--- what stands for a byte past the end plays no part
-pub by-default : (l : List ℕ) (i d e : ℕ) → i < length l → get_or l i d ≡ get_or l i e
-by-default [] i d e h = absurd (omega (arith, h))
-by-default (x ∷ l) zero d e h = refl
-by-default (x ∷ l) (suc i) d e h = by-default l i d e (omega (arith, h))
-
 -- byte n of all is byte j of page i
 pub at-flat : (ps : List Page) → ArePages ps → (i n j : ℕ) (d : Page) → n ≡ i * 256 + j → i < length ps → j < 256
     → get_or (flat ps) n 0 ≡ get_or (get_or ps i d).bytes j 0
