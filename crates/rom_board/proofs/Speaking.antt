@@ -44,7 +44,7 @@ use Rattle.rom_board.proofs.Passed.{NoStop, here, last_after, last_after_stop, l
 
 -- ---- the interpreter
 
-is_program : (e : Edition) → vip e ≡ program e
+pub is_program : (e : Edition) → vip e ≡ program e
 is_program Usual = refl
 is_program Tall = refl
 
@@ -173,7 +173,7 @@ module _ (law : EveryState) (v : VipState) (f : Follows v) where
   no_stop : (k : ℕ) → k < v.moves → is_stop (vip v.edition).interpreter (state_after (vip v.edition) v.board.script (start v.game) k) ≡ false
   no_stop k l = ap (λ (x : Program). is_stop x.interpreter (state_after x v.board.script (start v.game) k)) (is_program v.edition) ∙ f.runs k l
 
-  unstopped : is_stop (interpreter v) v.board.machine ≡ false → Unstopped v.edition v.board.script (start v.game) (suc v.moves)
+  unstopped : is_stop (interpreter v) v.board.machine ≡ false → Unstopped (vip v.edition) v.board.script (start v.game) (suc v.moves)
   unstopped runs k l = go (cases_eq k v.moves)
     where
       go : (k ≡ v.moves) ⊎ (k ≡ v.moves → ⊥) → is_stop (vip v.edition).interpreter (state_after (vip v.edition) v.board.script (start v.game) k) ≡ false

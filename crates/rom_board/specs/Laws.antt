@@ -1,6 +1,6 @@
 -- What holds of every machine that runs a game.
 use Rattle.std.specs.Prelude.{ℕ, ◌<◌, ◌≤◌, List, length, slice_index}
-use Rattle.machine.specs.Board.{Machine}
+use Rattle.machine.specs.Board.{Machine, start}
 use Rattle.machine.specs.Keys.{Event as KeyEvent}
 use Rattle.chip8_lang.specs.declared.view.Edition.{Edition}
 use Rattle.chip8_lang.specs.State.{memory_size}
@@ -11,7 +11,8 @@ use Rattle.vip_relation.specs.State.{VipState, events_left}
 use Rattle.vip_relation.specs.declared.run.Met.{Met}
 use Rattle.rom_board.specs.Answers.{GoesOnFrom, Speaks, last_met}
 use Rattle.rom_board.specs.Boards.{IsKnown}
-use Rattle.rom_board.specs.Program.{IsRun, IsRunBehind, numbered}
+use Rattle.rom_board.specs.Frames.{KeepsFrames}
+use Rattle.rom_board.specs.Program.{IsRun, IsRunBehind, numbered, program}
 
 -- the run of each game that fits is one of CHIP-8, under every script and up to every limit
 abbrev pub EveryRun : Type 0
@@ -29,6 +30,23 @@ EveryStart =
     → MayStart e b
     → (script : List KeyEvent) (limit : ℕ)
     → IsRunBehind e b script limit numbered
+
+-- Each of these runs keeps to its frames up to its stop: an interrupt comes exactly in cycle 0 of a frame's line 78, none of these cycles is passed over,
+-- and the screen is changed between them.
+abbrev pub EveryFrame : Type 0
+EveryFrame =
+    (e : Edition) (game : List ℕ)
+    → length game ≤ memory_size e
+    → ((i : ℕ) → slice_index game i < 256)
+    → (script : List KeyEvent)
+    → KeepsFrames (program e) script (start game)
+
+abbrev pub EveryFrameBehind : Type 0
+EveryFrameBehind =
+    (e : Edition) (b : Machine)
+    → MayStart e b
+    → (script : List KeyEvent)
+    → KeepsFrames (program e) script b
 
 -- after every call the board is known
 abbrev pub EveryBoard : Type 0

@@ -1,6 +1,6 @@
 //! What a machine that runs a game is to the language, each law the contract of a function without parameters.
 
-ghost use Rattle.rom_board.specs.Laws.{EveryAnswer, EveryBoard, EveryEvent, EveryRun, EveryStart};
+ghost use Rattle.rom_board.specs.Laws.{EveryAnswer, EveryBoard, EveryEvent, EveryFrame, EveryFrameBehind, EveryRun, EveryStart};
 
 /// The run of every game that fits into game memory, under every key script and up to every limit, is a run of CHIP-8: its first event is a dispatch
 /// point of the game's first state; each next one comes by one step of the language, with the timer ticks and the keys of the cycles between, within
@@ -18,6 +18,22 @@ pub fn every_start()
     ensures { EveryStart }
 {
     rom_run::laws::from_any_start();
+}
+
+/// These runs keep to their frames. Up to the stop the next move is an interrupt exactly in cycle 0 of a frame's line 78, boot included, and no such
+/// cycle is passed over. No interrupt disturbs the display: in the cycle of each one the screen in RAM is that of the last dispatch point; 00E0 and DXYN
+/// wait for the display after at most 102 and 2,154 main cycles, and nothing else waits or writes to the screen; they write at most 1,560 cycles after the
+/// return of the interrupt routine, and from there up to the next dispatch point each move is an instruction, with no interrupt's cycle among them.
+pub fn every_frame()
+    ensures from_reset { EveryFrame }
+    ensures from_any_start { EveryFrameBehind }
+{
+    rom_run::laws::every_state();
+    rom_run::laws::every_interrupt();
+    rom_run::laws::undisturbed();
+    rom_run::laws::waits_soon();
+    rom_run::laws::writes_soon();
+    rom_run::laws::changes_soon();
 }
 
 /// After every call the board of a machine that runs a game is in boot; or what is known of a running interpreter holds of it, with the record of its

@@ -4,8 +4,8 @@
 //! contract alone, on the machine as its callers see it (`vip_relation`), of which only the events of the defined run are known, and on the laws of
 //! the ROM in `rom_run`. The layer above needs no law of the ROM.
 //!
-//! It may rely on the laws in `language`: they hold of every machine of which `Follows` holds, as it does after every call of `Vip`, in both
-//! editions. The language is RCA's, as `chip8_lang` defines it; times are this project's profile.
+//! It may rely on the laws in `language`: they hold of every run from reset and from any machine that may start, and of every machine of which `Follows`
+//! holds, as it does after every call of `Vip`, in both editions. The language is RCA's, as `chip8_lang` defines it; times are this project's profile.
 //!
 //! And it may rely on the contracts of `one_move` and `run_tick` and on the laws in `laws`: a move is the board's own, and where what is known of a
 //! running interpreter holds before it, it holds behind it, with the record of what came since the last dispatch point carried on; a run of the

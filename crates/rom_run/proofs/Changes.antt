@@ -106,7 +106,7 @@ module _ (e : Edition) (script : List Event) where
   running : (b : Machine) → case_of b ≡ Instruction → b.regs.idle ≡ false
   running b k = awake_by (dma_at b.cycle b.on) _ b.regs.idle k
 
-  too_low : (b : Machine) (h : Since) → Row x (calm_pieces x) b h → WritesScreen e held b → ⊥
+  too_low : (b : Machine) (h : Since) → Row x (calm_pieces x) b h → WritesScreen x held b → ⊥
   too_low b h r w =
       omega (
         arith,
@@ -115,7 +115,7 @@ module _ (e : Edition) (script : List Event) where
             (flags_of (efx_at (b.cycle + 1) b.on) (held (b.cycle + 1) b.key)) 0) w.write w.is,
       )
 
-  writes_woken : (b : Machine) (h : Since) → Running e script b h → WritesScreen e held b → Woken e b h
+  writes_woken : (b : Machine) (h : Since) → Running e script b h → WritesScreen x held b → Woken e b h
   writes_woken b h (InMain (AtRow t row n (Before s r))) w = absurd (too_low b h r w)
   writes_woken b h (InMain (AtRow t row n (Waiting k s l i r))) w = absurd (too_low b h r w)
   writes_woken b h (InMain (AtRow t row n (Behind k s l r o))) w = o
@@ -283,17 +283,17 @@ module _ (e : Edition) (script : List Event) where
     abbrev since : ℕ → Since
     since n = record_after x script first n
 
-    runs : (n : ℕ) → Unstopped e script first (suc n) → Running e script (at n) (since n)
+    runs : (n : ℕ) → Unstopped x script first (suc n) → Running e script (at n) (since n)
     runs n u = holds_after x script (Running e script) (board_moves e script) first (starts_running e script first starts) n u
 
     abbrev Same : ℕ → ℕ → Type 0
-    Same j i = SameInterval e script first j i
+    Same j i = SameInterval x script first j i
 
     abbrev BegunAt : ℕ → Type 0
     BegunAt n = Begun (at n) (since n)
 
     -- where it waits, and r moves later
-    begun_after : (k r : ℕ) → Unstopped e script first (suc (k + r)) → Same k (k + r) → (at k).regs.idle ≡ true → BegunAt (k + r)
+    begun_after : (k r : ℕ) → Unstopped x script first (suc (k + r)) → Same k (k + r) → (at k).regs.idle ≡ true → BegunAt (k + r)
     begun_after k zero u same i = subst BegunAt none (Idles i)
       where
         none : k ≡ k + 0
@@ -310,14 +310,14 @@ module _ (e : Edition) (script : List Event) where
         quiet : is_dispatch x.interpreter (at (suc (k + r))) ≡ false
         quiet = same (suc (k + r)) (omega arith) (omega arith)
 
-    begun_at : (k j : ℕ) → k ≤ j → Unstopped e script first (suc j) → Same k j → (at k).regs.idle ≡ true → BegunAt j
+    begun_at : (k j : ℕ) → k ≤ j → Unstopped x script first (suc j) → Same k j → (at k).regs.idle ≡ true → BegunAt j
     begun_at k j l u same i = subst BegunAt split (begun_after k (j - k) (λ n m. u n (omega (arith, m, l))) (λ n m o. same n m (omega (arith, o, l))) i)
       where
         split : k + (j - k) ≡ j
         split = omega (arith, l)
 
     -- main code is behind the wait there
-    woken_there : (j : ℕ) → Unstopped e script first (suc j) → AtDisplay e script first j → Woken e (at j) (since j)
+    woken_there : (j : ℕ) → Unstopped x script first (suc j) → AtDisplay x script first j → Woken e (at j) (since j)
     woken_there j u (HasWaited k l same i main) = past (begun_at k j l u same i)
       where
         past : BegunAt j → Woken e (at j) (since j)
@@ -335,7 +335,7 @@ module _ (e : Edition) (script : List Event) where
     begins_behind : (n : ℕ) (w : Woken e (at n) (since n)) → StaysBehind w.woke n
     begins_behind n w = record { woken = w; from = omega (arith, w.since, w.least); to = omega (arith, w.since, woken_few e (at n) (since n) w) }
 
-    stays_behind : (woke n : ℕ) → place woke ≡ interrupt_place + routine_cycles → Unstopped e script first (suc n)
+    stays_behind : (woke n : ℕ) → place woke ≡ interrupt_place + routine_cycles → Unstopped x script first (suc n)
         → is_dispatch x.interpreter (at (suc n)) ≡ false → StaysBehind woke n → StaysBehind woke (suc n)
     stays_behind woke n p u d o =
         record {
@@ -357,7 +357,7 @@ module _ (e : Edition) (script : List Event) where
         w : Woken e (at (suc n)) (on (at n) (since n))
         w = woken_on (at n) (since n) (woken_row (at n) (since n) (runs n u) o.woken) o.woken d
 
-    behind_after : (j r : ℕ) → Unstopped e script first (suc (j + r)) → Same j (j + r) → (w : Woken e (at j) (since j)) → StaysBehind w.woke (j + r)
+    behind_after : (j r : ℕ) → Unstopped x script first (suc (j + r)) → Same j (j + r) → (w : Woken e (at j) (since j)) → StaysBehind w.woke (j + r)
     behind_after j zero u same w = subst (StaysBehind w.woke) none (begins_behind j w)
       where
         none : j ≡ j + 0
@@ -370,7 +370,7 @@ module _ (e : Edition) (script : List Event) where
         more : suc (j + r) ≡ j + suc r
         more = omega arith
 
-    behind_at : (j i : ℕ) → j ≤ i → Unstopped e script first (suc i) → Same j i → (w : Woken e (at j) (since j)) → StaysBehind w.woke i
+    behind_at : (j i : ℕ) → j ≤ i → Unstopped x script first (suc i) → Same j i → (w : Woken e (at j) (since j)) → StaysBehind w.woke i
     behind_at j i l u same w =
         subst (StaysBehind w.woke) split (behind_after j (i - j) (λ n m. u n (omega (arith, m, l))) (λ n m o. same n m (omega (arith, o, l))) w)
       where
@@ -392,7 +392,7 @@ module _ (e : Edition) (script : List Event) where
 
     -- from the return on up to the end of its next move
     changes_from : (j i woke : ℕ) → place woke ≡ interrupt_place + routine_cycles → woke ≤ (at j).cycle → Running e script (at i) (since i)
-        → StaysBehind woke i → Changes e script first j i
+        → StaysBehind woke i → Changes x script first j i
     changes_from j i woke p from r o =
         record {
           most = o.woken.base;
@@ -406,7 +406,7 @@ module _ (e : Edition) (script : List Event) where
           on = goes_on i r o.woken;
         }
 
-    pub changes : (j i : ℕ) → j ≤ i → Unstopped e script first (suc i) → Same j i → AtDisplay e script first j → Changes e script first j i
+    pub changes : (j i : ℕ) → j ≤ i → Unstopped x script first (suc i) → Same j i → AtDisplay x script first j → Changes x script first j i
     changes j i l u same display =
         let w = woken_there j (λ n m. u n (omega (arith, m, l))) display in
         changes_from j i w.woke w.return (begins_behind j w).from (runs i u) (behind_at j i l u same w)

@@ -20,5 +20,6 @@ pub mod Endless
 pub mod Keys
 pub mod Run
 pub mod States
+pub mod Starts
 pub mod Changes
 mod Together

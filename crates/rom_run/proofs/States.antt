@@ -50,7 +50,7 @@ module _ (e : Edition) (script : List Event) (game : List ℕ) (small : length g
       starts : MayStart e (at (suc n))
       starts = subst (λ k. MayStart e (at k)) (sym last) (booted e game small bytes script).starts
 
-  pub reset_known : (i : ℕ) → Unstopped e script (start game) (suc i) → Known e script (start game) i
+  pub reset_known : (i : ℕ) → Unstopped (vip e) script (start game) (suc i) → Known e script (start game) i
   reset_known i u = go (cases_lt i boot_moves)
     where
       go : (i < boot_moves) ⊎ (boot_moves ≤ i) → Known e script (start game) i
@@ -93,7 +93,7 @@ never_taken false false i false e k = cc
 in_frame : (t : ℕ) → place t ≡ interrupt_place → IsInterruptCycle t
 in_frame t p = (t / 3668, omega (arith, p))
 
-its_place : (t : ℕ) → IsInterruptCycle t → place t ≡ interrupt_place
+pub its_place : (t : ℕ) → IsInterruptCycle t → place t ≡ interrupt_place
 its_place t (m, is) = omega (arith, is)
 
 module _ (e : Edition) (script : List Event) (b : Machine) (h : Since) where
@@ -157,13 +157,13 @@ module _ (e : Edition) (script : List Event) (first : Machine) where
   not_past i m (InBoot game is l b) k = omega (arith, early game i is l b)
   not_past i m (Runs r) k = stops_before e script (after i) (record_after (vip e) script first i) m r k
 
-  meets : Beginning e first → (i : ℕ) → Unstopped e script first i → (m : ℕ) → first.cycle ≤ interrupt_at m → interrupt_at m ≤ (after i).cycle
-      → Meets e script first i (interrupt_at m)
+  meets : Beginning e first → (i : ℕ) → Unstopped (vip e) script first i → (m : ℕ) → first.cycle ≤ interrupt_at m → interrupt_at m ≤ (after i).cycle
+      → Meets (vip e) script first i (interrupt_at m)
   meets begins zero u m from to = record { j = 0; up_to = omega arith; cycle = omega (arith, from, to) }
   meets begins (suc i) u m from to = go (cases_lt (after i).cycle (interrupt_at m)) (meets begins i (λ j k. u j (omega (arith, k))) m from)
     where
       go : ((after i).cycle < interrupt_at m) ⊎ (interrupt_at m ≤ (after i).cycle)
-          → (interrupt_at m ≤ (after i).cycle → Meets e script first i (interrupt_at m)) → Meets e script first (suc i) (interrupt_at m)
+          → (interrupt_at m ≤ (after i).cycle → Meets (vip e) script first i (interrupt_at m)) → Meets (vip e) script first (suc i) (interrupt_at m)
       go (inl past) before = record { j = suc i; up_to = omega arith; cycle = omega (arith, to, not_past i m (every_state e script first begins i u) past) }
       go (inr by) before = let o = before by in record { j = o.j; up_to = omega (arith, o.up_to); cycle = o.cycle }
 

@@ -81,12 +81,12 @@ EveryPictureBehind =
 
 -- each state up to the stop is in boot, or `Running` holds of it with the record of the moves since the last dispatch point
 abbrev pub EveryState : Type 0
-EveryState = (e : Edition) (script : List Event) (first : Machine) → Beginning e first → (i : ℕ) → Unstopped e script first (suc i) → Known e script first i
+EveryState = (e : Edition) (script : List Event) (first : Machine) → Beginning e first → (i : ℕ) → Unstopped (vip e) script first (suc i) → Known e script first i
 
 -- the next move of each of these is an interrupt exactly in the cycle of a frame's interrupt
 abbrev pub EveryInterrupt : Type 0
 EveryInterrupt =
-    (e : Edition) (script : List Event) (first : Machine) → Beginning e first → (i : ℕ) → Unstopped e script first (suc i)
+    (e : Edition) (script : List Event) (first : Machine) → Beginning e first → (i : ℕ) → Unstopped (vip e) script first (suc i)
     → InterruptedThere (state_after (vip e) script first i)
 
 -- and none of these cycles is passed over
@@ -95,11 +95,11 @@ NoneMissing =
     (e : Edition) (script : List Event) (first : Machine)
     → Beginning e first
     → (i : ℕ)
-    → Unstopped e script first i
+    → Unstopped (vip e) script first i
     → (m : ℕ)
     → first.cycle ≤ interrupt_at m
     → interrupt_at m ≤ (state_after (vip e) script first i).cycle
-    → Meets e script first i (interrupt_at m)
+    → Meets (vip e) script first i (interrupt_at m)
 
 -- ---- a move
 
@@ -143,7 +143,7 @@ abbrev pub WritesSoon : Type 0
 WritesSoon =
     (e : Edition) (script : List Event) (b : Machine) (h : Since)
     → Running e script b h
-    → WritesScreen e (held_at script) b
+    → WritesScreen (vip e) (held_at script) b
     → Display h (λ most. since_return b.cycle ≤ most_changing)
 
 -- Behind the wait, and from the first write to the screen on, main code runs up to the next dispatch point, and no interrupt comes.
@@ -153,10 +153,10 @@ ChangesSoon =
     → MayStart e first
     → (j i : ℕ)
     → j ≤ i
-    → Unstopped e script first (suc i)
-    → SameInterval e script first j i
-    → AtDisplay e script first j
-    → Changes e script first j i
+    → Unstopped (vip e) script first (suc i)
+    → SameInterval (vip e) script first j i
+    → AtDisplay (vip e) script first j
+    → Changes (vip e) script first j i
 
 -- ---- a part of the ROM
 

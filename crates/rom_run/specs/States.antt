@@ -8,7 +8,7 @@ use Rattle.machine.specs.Ranges.{FitsMachine}
 use Rattle.chip8_lang.specs.declared.view.Edition.{Edition}
 use Rattle.chip8_lang.specs.Events.{is_stop}
 use Rattle.chip8_lang.specs.State.{first, memory_size}
-use Rattle.rom_law.specs.Program.{Dispatches}
+use Rattle.rom_law.specs.Program.{Program, Dispatches}
 use Rattle.rom_law.specs.Runs.{state_at, state_after, record_after}
 use Rattle.rom_rows.specs.Rom.{vip}
 use Rattle.rom_fetch.specs.Laws.{boot_moves}
@@ -38,8 +38,8 @@ pub record BootsTo (e : Edition) (game : List ℕ) (b : Machine) : Type 0 where
 -- ---- every state
 
 -- none of the first n states of the run is a stop point
-abbrev pub Unstopped : Edition → List Event → Machine → ℕ → Type 0
-Unstopped e script first n = (j : ℕ) → j < n → is_stop (vip e).interpreter (state_after (vip e) script first j) ≡ false
+abbrev pub Unstopped : Program → List Event → Machine → ℕ → Type 0
+Unstopped x script first n = (j : ℕ) → j < n → is_stop x.interpreter (state_after x script first j) ≡ false
 
 -- The state after i moves is in boot, or `Running` holds of it with the record of the moves since the last dispatch point.
 pub data Known (e : Edition) (script : List Event) (first : Machine) (i : ℕ) : Type 0 where
@@ -57,7 +57,7 @@ abbrev pub InterruptedThere : Machine → Type 0
 InterruptedThere b = (case_of b ≡ Interrupt) ↔ IsInterruptCycle b.cycle
 
 -- one of the states up to the one after i moves has this cycle
-pub record Meets (e : Edition) (script : List Event) (first : Machine) (i t : ℕ) : Type 0 where
+pub record Meets (x : Program) (script : List Event) (first : Machine) (i t : ℕ) : Type 0 where
   pub j : ℕ
   pub up_to : j ≤ i
-  pub cycle : (state_after (vip e) script first j).cycle ≡ t
+  pub cycle : (state_after x script first j).cycle ≡ t

@@ -5,7 +5,6 @@ pub mod Going
 pub mod Starts
 pub mod Along
 pub mod Points
-pub mod Dispatched
 pub mod Copied
 pub mod ResumedGoing
 pub mod Files

@@ -31,7 +31,7 @@ use Rattle.vip_text.specs.StateFile.{shown}
 use Rattle.vip_show.specs.Laws.{IsRest, SavedGoesOn}
 use Rattle.vip_show.specs.Points.{points_of, points_behind}
 use Rattle.vip_show.specs.Written.{file_of}
-use Rattle.vip_show.proofs.Copied.{starts_by, shown-file_of, accepted-file_of}
+use Rattle.vip_show.proofs.Copied.{one_more, starts_by, shown-file_of, accepted-file_of}
 use Rattle.vip_show.proofs.ResumedGoing.{at-dispatch}
 use Rattle.vip_show.proofs.Points.{goes_on_with_run, no-stop, points_of-append}
 
@@ -112,18 +112,6 @@ module _ (i : Interpreter) (game : List ℕ) (script : List KeyEvent) where
   abbrev at_state : ℕ → Machine
   at_state n = state i game script n
 
-  one_more : (n : ℕ) → Runs i game script n → is_stop i (at_state n) ≡ false → Runs i game script (suc n)
-  one_more n runs here k below = by_test (nat_le n k) refl
-    where
-      by_test : (t : Bool) → nat_le n k ≡ t → is_stop i (at_state k) ≡ false
-      by_test true h =
-          let high : n ≤ k = grind (arith, nat_tests) in
-          let same : k ≡ n = omega (arith, high, below) in
-          ap (λ k. is_stop i (at_state k)) same ∙ here
-      by_test false h =
-          let low : k < n = grind (arith, nat_tests) in
-          runs k low
-
   -- its last state: the events up to the limit are those of the states up to this one
   record Reaches (limit : ℕ) : Type 0 where
     n : ℕ
@@ -134,7 +122,7 @@ module _ (i : Interpreter) (game : List ℕ) (script : List KeyEvent) where
   reaches : (fuel n limit : ℕ) → Runs i game script n → (at_state n).cycle ≤ limit → limit < (at_state n).cycle + fuel → Reaches limit
   reaches zero n limit runs within far = absurd (omega (arith, within, far))
   reaches (suc fuel) n limit runs within far =
-      by_stop (λ goes_on next. reaches fuel (suc n) limit (one_more n runs goes_on) next (omega (arith, far, later))) (is_stop i (at_state n)) refl
+      by_stop (λ goes_on next. reaches fuel (suc n) limit (one_more i game script n runs goes_on) next (omega (arith, far, later))) (is_stop i (at_state n)) refl
     where
       later : (at_state n).cycle < (at_state (suc n)).cycle
       later = later-move i.rom (held_at script) (at_state n)
@@ -343,7 +331,13 @@ module _ (e : Edition) (game : List ℕ) (small : length game ≤ memory_size e)
       ∙ ap (λ (b : Machine). ending_after e (view_at e b).pc (view_at e b).opcode (behind later)) (sym (shown_is ∙ l.is))
 
   is_rest : IsRest e game script limit (file_of e b)
-  is_rest = record { accepted = accepted-file_of e b starts in_time; records = records; ending = ending }
+  is_rest =
+      record {
+        accepted = accepted-file_of e b starts in_time;
+        shows = last ∙ ap Some (sym shown_is);
+        records = records;
+        ending = ending;
+      }
 
 pub saved_goes_on : SavedGoesOn
 saved_goes_on e game small bytes script limit low f saved = go (last_dispatch (events_of (interpreter_of e) game script limit)) refl saved

@@ -12,6 +12,7 @@ use Rattle.rom_law.specs.Language.{GoesOn, events_behind, nothing_else}
 use Rattle.rom_rows.specs.Rom.{vip}
 use Rattle.rom_run.specs.States.{MayStart}
 use Rattle.chip8_image.specs.Interpreters.{interpreter_of}
+use Rattle.vip_relation.specs.Follows.{last_dispatch}
 use Rattle.vip_relation.specs.State.{most_cycles}
 use Rattle.vip_show.specs.Endings.{ending_after, ending_of}
 use Rattle.vip_show.specs.Output.{trace_lines}
@@ -54,6 +55,7 @@ GoesOnWithRun =
 -- followed by those behind the file's state; and it ends as the run from the file does, whose last instruction at first is the file's.
 pub record IsRest (e : Edition) (game : List ℕ) (script : List KeyEvent) (limit : ℕ) (f : List ℕ) : Type 0 where
   pub accepted : IsAccepted e f
+  pub shows : last_dispatch (events_of (interpreter_of e) game script limit) ≡ Some (shown f)
   pub records :
       (with_time : Bool) (later : ℕ)
       → limit ≤ later

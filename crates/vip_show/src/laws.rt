@@ -19,8 +19,9 @@ pub fn goes_on_with_run()
     ensures { GoesOnWithRun }
 {}
 
-/// What is saved of a game's run up to a limit is an accepted file. Under the same script, up to every later limit, the records of the game's run are
-/// those up to the first limit, followed by those of the run from the file; and the two runs end in the same way.
+/// What is saved of a game's run up to a limit is an accepted file, which shows the machine state at the last dispatch point up to there. Under the same
+/// script, up to every later limit, the records of the game's run are those up to the first limit, followed by those of the run from the file; and the
+/// two runs end in the same way.
 pub fn saved_goes_on()
     ensures { SavedGoesOn }
 {}
