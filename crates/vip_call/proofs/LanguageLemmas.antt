@@ -8,7 +8,7 @@ use Rattle.chip8_lang.specs.Events.{Event}
 use Rattle.chip8_lang.specs.Events.Event.{Picture, Dispatch, Stopped}
 use Rattle.chip8_lang.specs.State.{memory_size}
 use Rattle.rom_law.specs.Language.{Begins}
-use Rattle.rom_board.specs.Laws.{EveryRun}
+use Rattle.rom_board.specs.Laws.{EveryFrame, EveryRun}
 use Rattle.rom_board.specs.Program.{numbered, program}
 use Rattle.vip_relation.specs.State.{started}
 use Rattle.vip_show.specs.Endings.{ending_after, ending_of}
@@ -30,7 +30,7 @@ use Rattle.vip_verbs.specs.Outcome.RunTo.{FaultyScript, FaultyRom, Runs}
 use Rattle.vip_call.specs.Top.{Call, SpeaksChip8}
 use Rattle.vip_tools.specs.declared.status.Status.{Status}
 use Rattle.vip_call.proofs.DebugLemmas.{debug_ends}
-use Rattle.vip_call.proofs.ResumedLemmas.{FromFile, OfResumed, goes_on, resumed_shows}
+use Rattle.vip_call.proofs.ResumedLemmas.{FramesFromFile, FromFile, OfResumed, goes_on, resumed_shows}
 use Rattle.vip_tools.proofs.DemoLemmas.{length-game, bytes-game}
 
 -- ---- the ending by the events of a run
@@ -52,8 +52,9 @@ module _ (law : EveryRun) where
   is_chip8 e game script limit fits bytes =
       begins e script limit (run_of e game script limit) game (events_in e game script limit) (law e game fits bytes script limit)
 
-  -- ---- a command
+-- ---- a command
 
+module _ (law : EveryRun) (frames : EveryFrame) (frames_from : FramesFromFile) where
   -- a run that comes to output
   OfRun : Edition → List ℕ → List (List ℕ) → ℕ → Outcome → Type 0
   OfRun e game scripts limit (Refused status report) = Unit {0}
@@ -77,7 +78,8 @@ module _ (law : EveryRun) where
       script = script;
       reads = is;
       ending = run_ending e game limit script;
-      run = is_chip8 e game script limit fits bytes;
+      run = is_chip8 law e game script limit fits bytes;
+      frames = frames e game fits bytes script;
       status_is = refl;
       report_is = refl;
     }
@@ -91,7 +93,8 @@ module _ (law : EveryRun) where
     debug_shows commands _ (Runs script is rom) = record {
       script = script;
       reads = is;
-      run = is_chip8 e game script limit fits bytes;
+      run = is_chip8 law e game script limit fits bytes;
+      frames = frames e game fits bytes script;
       ending = debug_ending (started e game script) limit commands;
       ends = debug_ends e game script limit commands;
       status_is = refl;
@@ -122,7 +125,8 @@ module _ (law : EveryRun) where
         script = script;
         reads = is;
         ending = run_ending e game limit script;
-        run = is_chip8 e game script limit fits bytes;
+        run = is_chip8 law e game script limit fits bytes;
+        frames = frames e game fits bytes script;
         status_is = refl;
         report_is = refl;
       }
@@ -153,7 +157,7 @@ module _ (law : EveryRun) where
       save_shows a.edition game read.0.fits read.0.bytes a.cycles scripts (Shown pieces status report) comes
   shows from old (resume a) [] pieces status report read comes = tt
   shows from old (resume a) (file ∷ scripts) pieces status report read comes =
-      resumed_shows from a file scripts read.0.bytes (Shown pieces status report) comes
+      resumed_shows from frames_from a file scripts read.0.bytes (Shown pieces status report) comes
   shows from old (link a) contents pieces status report read comes = tt
   shows from old (trace_program a) contents pieces status report read comes = tt
   shows from old (play_program a) contents pieces status report read comes = tt

@@ -10,6 +10,7 @@ use Rattle.chip8_lang.specs.Events.Event.{Picture, Dispatch, Stopped}
 use Rattle.chip8_lang.specs.Places.{Interpreter, state_of}
 use Rattle.chip8_lang.specs.View.{opcode_at, view_at}
 use Rattle.rom_law.specs.Language.{GoesOn, events_behind}
+use Rattle.rom_board.specs.Frames.{KeepsFrames}
 use Rattle.rom_board.specs.Program.{IsRunBehind, numbered, program}
 use Rattle.chip8_image.specs.Interpreters.{interpreter_of}
 use Rattle.vip_show.specs.Endings.{ending_after}
@@ -61,6 +62,11 @@ FromFile =
     (e : Edition) (f : List ℕ) → ((k : ℕ) → slice_index f k < 256) → IsAccepted e f → (script : List KeyEvent) (limit : ℕ)
     → IsRunBehind e (shown f) script limit numbered
 
+-- which keeps to its frames
+abbrev pub FramesFromFile : Type 0
+FramesFromFile =
+    (e : Edition) (f : List ℕ) → ((k : ℕ) → slice_index f k < 256) → IsAccepted e f → (script : List KeyEvent) → KeepsFrames (program e) script (shown f)
+
 module _ (from : FromFile) (e : Edition) (f : List ℕ) (bytes : (k : ℕ) → slice_index f k < 256) (accepted : IsAccepted e f) (script : List KeyEvent) (limit : ℕ) where
   abbrev events : List Event
   events = events_behind (interpreter_of e) script (shown f) limit
@@ -83,7 +89,9 @@ module _ (from : FromFile) (e : Edition) (f : List ℕ) (bytes : (k : ℕ) → s
 
 -- ---- a command
 
-module _ (from : FromFile) (a : AskedResume) (file : List ℕ) (scripts : List (List ℕ)) (bytes : (k : ℕ) → slice_index file k < 256) where
+module _
+    (from : FromFile) (frames : FramesFromFile) (a : AskedResume) (file : List ℕ) (scripts : List (List ℕ))
+    (bytes : (k : ℕ) → slice_index file k < 256) where
   unfoldable pub OfResumed : Outcome → Type 0
   OfResumed (Refused status report) = Unit {0}
   OfResumed (GivenUp report) = Unit {0}
@@ -100,6 +108,7 @@ module _ (from : FromFile) (a : AskedResume) (file : List ℕ) (scripts : List (
     reads = is;
     ending = ending_from e file a.cycles script;
     run = is_run_behind from e file bytes accepted script a.cycles;
+    frames = frames e file bytes accepted script;
     points = points_behind_are (interpreter_of e) script (shown file) a.cycles;
     status_is = refl;
     report_is = refl;

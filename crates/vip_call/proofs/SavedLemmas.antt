@@ -141,6 +141,9 @@ module _ (law : SavedGoesOn) where
         is.1,
         record {
           accepted = run.accepted;
+          script = s.script;
+          reads = s.reads;
+          shows = run.shows;
           rest = λ with_time later name first status report o more x y.
               rest a game scripts file s.script s.reads s.rom run with_time later name more first status report o x y;
         },

@@ -1,12 +1,14 @@
--- What the run of a game says of the language: it is a run of CHIP-8, and its ending names the stop and its instruction.
+-- What the run of a game says of the language: it is a run of CHIP-8, which keeps to its frames, and its ending names the stop and its instruction.
 use Rattle.std.specs.Prelude.{◌≡◌, ℕ, ◌⊎◌, List, [], ◌∷◌, Ok}
+use Rattle.machine.specs.Board.{start}
 use Rattle.machine.specs.Keys.{Event as KeyEvent}
 use Rattle.chip8_lang.specs.declared.view.Edition.{Edition}
 use Rattle.chip8_lang.specs.declared.view.Edition.TheVariants.{Usual}
 use Rattle.chip8_lang.specs.Places.{state_of}
 use Rattle.chip8_lang.specs.View.{opcode_at}
 use Rattle.rom_law.specs.Language.{Also, events_behind}
-use Rattle.rom_board.specs.Program.{IsRun, IsRunBehind}
+use Rattle.rom_board.specs.Frames.{KeepsFrames}
+use Rattle.rom_board.specs.Program.{IsRun, IsRunBehind, program}
 use Rattle.chip8_image.specs.Interpreters.{interpreter_of}
 use Rattle.vip_text.specs.StateFile.{shown, IsAccepted}
 use Rattle.vip_show.specs.Points.{points_of}
@@ -43,6 +45,7 @@ pub record RunIsChip8 (e : Edition) (game : List ℕ) (scripts : List (List ℕ)
   pub reads : script_in scripts ≡ Ok script
   pub ending : Ending
   pub run : IsChip8 e game script limit ending
+  pub frames : KeepsFrames (program e) script (start game)
   pub status_is : status ≡ end_status ending
   pub report_is : report ≡ end_report limit ending
 
@@ -52,13 +55,14 @@ pub record DebugsChip8 (e : Edition) (game : List ℕ) (scripts : List (List ℕ
   pub script : List KeyEvent
   pub reads : script_in scripts ≡ Ok script
   pub run : IsChip8 e game script limit (run_ending e game limit script)
+  pub frames : KeepsFrames (program e) script (start game)
   pub ending : Ending
   pub ends : (ending ≡ AtLimit) ⊎ (ending ≡ run_ending e game limit script)
   pub status_is : status ≡ end_status ending
   pub report_is : report ≡ end_report limit ending
 
--- A run that goes on from a file, whoever wrote it, is one of CHIP-8 from the language state that lies in the file's machine on; its dispatch points and
--- its stop are those of which the records tell.
+-- A run that goes on from a file, whoever wrote it, is one of CHIP-8 from the language state that lies in the file's machine on, and keeps to its frames;
+-- its dispatch points and its stop are those of which the records tell.
 pub record ResumesChip8 (file : List ℕ) (scripts : List (List ℕ)) (limit : ℕ) (status : Status) (report : List ℕ) : Type 0 where
   pub edition : Edition
   pub accepted : IsAccepted edition file
@@ -66,6 +70,7 @@ pub record ResumesChip8 (file : List ℕ) (scripts : List (List ℕ)) (limit : �
   pub reads : script_in scripts ≡ Ok script
   pub ending : Ending
   pub run : IsRunBehind edition (shown file) script limit (named edition ending)
+  pub frames : KeepsFrames (program edition) script (shown file)
   pub points : points_of (events_behind (interpreter_of edition) script (shown file) limit) ≡ points_in edition file script limit
   pub status_is : status ≡ end_status ending
   pub report_is : report ≡ end_report limit ending

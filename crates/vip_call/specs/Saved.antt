@@ -1,11 +1,13 @@
 -- What was saved of a run goes on as that run.
-use Rattle.std.specs.Prelude.{◌≡◌, ◌≤◌, ℕ, Bool, false, List, [], ◌∷◌, ◌++◌}
-use Rattle.vip_text.specs.StateFile.{IsAccepted}
+use Rattle.std.specs.Prelude.{◌≡◌, ◌≤◌, ℕ, Bool, false, List, [], ◌∷◌, ◌++◌, Some, Ok}
+use Rattle.machine.specs.Keys.{Event as KeyEvent}
+use Rattle.vip_relation.specs.Follows.{last_dispatch}
+use Rattle.vip_text.specs.StateFile.{shown, IsAccepted}
 use Rattle.vip_tools.specs.declared.status.Status.{Status}
-use Rattle.vip_tools.specs.Outcome.{Outcome}
+use Rattle.vip_tools.specs.Outcome.{Outcome, script_in}
 use Rattle.vip_tools.specs.Outcome.Outcome.{Shown}
 use Rattle.vip_words.specs.Asked.{Asked, AskedRun, most_cycles, resume, save, trace}
-use Rattle.vip_verbs.specs.Outcome.{Comes}
+use Rattle.vip_verbs.specs.Outcome.{Comes, events_in}
 
 -- The trace of the run of which a state is saved, up to some limit; and what goes on from the file, of this name, under the same script.
 abbrev pub traced : AskedRun → Bool → ℕ → Asked
@@ -20,9 +22,13 @@ abbrev pub IsRest : AskedRun → List ℕ → List (List ℕ) → Bool → ℕ �
 IsRest a game scripts with_time later first (Shown rest status report) = Comes (traced a with_time later) (game ∷ scripts) (Shown (first ++ rest) status report)
 IsRest a game scripts with_time later first _ = ⊥
 
--- The file is accepted, and what goes on from it is never refused: up to every later limit it is the rest of the trace.
+-- The file is accepted, and shows the machine state at the last dispatch point of the run up to its limit. What goes on from it is never refused: up to
+-- every later limit it is the rest of the trace.
 pub record GoesOnAsRun (a : AskedRun) (game : List ℕ) (scripts : List (List ℕ)) (file : List ℕ) : Type 0 where
   pub accepted : IsAccepted a.edition file
+  pub script : List KeyEvent
+  pub reads : script_in scripts ≡ Ok script
+  pub shows : last_dispatch (events_in a.edition game script a.cycles) ≡ Some (shown file)
   pub rest :
       (with_time : Bool) (later : ℕ) (name : List ℕ) (first : List (List ℕ)) (status : Status) (report : List ℕ) (o : Outcome)
       → a.cycles ≤ later

@@ -283,8 +283,8 @@ Completes status call =
 -- ---- what the output says of the language
 
 -- Where the words and the contents of the files come to the output of a game's run, with this status and this report, it is that of a run
--- of CHIP-8, which ends so; under the debugger it ends where the commands do, and a stop there is that of the run. `Shows` and `Faulty` say
--- that this output went out, whole or in part.
+-- of CHIP-8, which keeps to its frames and ends so; under the debugger it ends where the commands do, and a stop there is that of the run. `Shows`
+-- and `Faulty` say that this output went out, whole or in part.
 abbrev pub SpeaksChip8 : Call → Type 0
 SpeaksChip8 call =
     (asked : Asked) (contents pieces : List (List ℕ)) (status : Status) (report : List ℕ)
@@ -313,8 +313,8 @@ ProvesCertified call =
 
 -- ---- what a state says that was saved
 
--- Where the words and the contents come to the file of a saved state, whoever resumes it goes on with the run: under the same script, up to every later
--- limit, it is the rest of the trace.
+-- Where the words and the contents come to the file of a saved state, it shows the board's state at the run's last dispatch point, and whoever resumes it
+-- goes on with the run: under the same script, up to every later limit, it is the rest of the trace.
 abbrev pub ContinuesSaved : Call → Type 0
 ContinuesSaved call =
     (asked : Asked) (contents pieces : List (List ℕ)) (status : Status) (report : List ℕ)
@@ -341,13 +341,13 @@ pub record Promises (status : Status) (call : Call) : Type 0 where
   -- what the answer says: exact output for Done and Stopped, each refusal's cause, and which files were read
   pub says : Says status call
   -- Where a game is run, its run is one of CHIP-8, within the bounds, also at a wait for a key; each picture is the screen at the last dispatch
-  -- point, and a stop names its instruction.
+  -- point, and a stop names its instruction. An interrupt comes exactly in its cycle of each frame, and none while the screen is changed.
   pub language : SpeaksChip8 call
   -- what went out of a game's run is a transcript of CHIP-8, in the terms of the language alone
   pub chip8 : TellsChip8 status call
   -- where a certificate is accepted or written, its routine leaves in time, or its game never stops
   pub certified : ProvesCertified call
-  -- what goes on from a saved state is the rest of the run
+  -- a saved state is that of the run's last dispatch point, and what goes on from it is the rest of the run
   pub saved : ContinuesSaved call
   -- where two boards are joined, what arrived is the beginning of the message, and all of it after enough moves
   pub linked : BringsMessages call

@@ -10,7 +10,7 @@ ghost use Rattle.vip_call.specs.Top.{call_of, Says, Promises};
 use chip8_source::laws::source_gives_rom;
 use cycle_check::laws::accepted_leaves;
 use game_check::laws::certified_games;
-use rom_board::language::{every_run, every_start};
+use rom_board::language::{every_frame, every_run, every_start};
 use std::alloc::Global;
 use vip_link::laws::{every_schedule, sources_give_roms};
 use vip_outside::{Files, Sink};
@@ -120,6 +120,7 @@ pub fn vip_main<F: Files, O: Sink, E: Sink>(
 {
     every_run();
     every_start();
+    every_frame();
     file_may_start();
     saved_goes_on();
     accepted_leaves();
