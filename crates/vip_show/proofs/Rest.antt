@@ -122,7 +122,8 @@ module _ (i : Interpreter) (game : List ℕ) (script : List KeyEvent) where
   reaches : (fuel n limit : ℕ) → Runs i game script n → (at_state n).cycle ≤ limit → limit < (at_state n).cycle + fuel → Reaches limit
   reaches zero n limit runs within far = absurd (omega (arith, within, far))
   reaches (suc fuel) n limit runs within far =
-      by_stop (λ goes_on next. reaches fuel (suc n) limit (one_more i game script n runs goes_on) next (omega (arith, far, later))) (is_stop i (at_state n)) refl
+      by_stop (λ goes_on next. reaches fuel (suc n) limit (one_more i game script n runs goes_on) next (omega (arith, far, later)))
+      (is_stop i (at_state n)) refl
     where
       later : (at_state n).cycle < (at_state (suc n)).cycle
       later = later-move i.rom (held_at script) (at_state n)
