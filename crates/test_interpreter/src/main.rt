@@ -8,7 +8,8 @@
 //! which a law of `rom_run` is false, so that it shows there. The stored output is what all of this must give.
 //!
 //! Then machine states in files are made by random numbers, and each is gone on from: every point is compared with the step of the language from the
-//! one before it, as `docs/LANGUAGE.md` has it. Last, runs of random games are saved and gone on with, and compared with the trace in one go.
+//! one before it, as `docs/LANGUAGE.md` has it. Then runs of random games are saved and gone on with, and compared with the trace in one go. Last, runs that
+//! keep what is told of a dispatch point are started, by calls that the program doesn't make.
 //!
 //! It stands on the board, the assembler, the ROM and `vip_show`, which has the traces of runs in one go too. That the ROM is CHIP-8 within the
 //! bounds is proved in `rom_run`; what is measured here says how far below them it stays. Nothing here is proved but that it is safe.
@@ -26,6 +27,7 @@ mod numbers;
 mod report;
 mod runs;
 mod source;
+mod starts;
 mod watch;
 mod wrong;
 
@@ -38,6 +40,7 @@ use crate::report::{
 };
 use crate::runs::{run_demos, run_instructions, script_of};
 use crate::source::form_of;
+use crate::starts::write_starts;
 use crate::watch::{KeyTests, Watch};
 use crate::wrong::run_wrong;
 use chip8_lang::Edition;
@@ -109,5 +112,6 @@ fn main(rt: HostRuntime) -> anyhow::Result<()> {
     write_compared(&rt, compared(rt.alloc()))?;
     run_editions(&rt)?;
     write_files(&rt, &run_files(rt.alloc())?)?;
-    write_cuts(&rt, &cut_runs(rt.alloc())?)
+    write_cuts(&rt, &cut_runs(rt.alloc())?)?;
+    write_starts(&rt)
 }
