@@ -9,4 +9,5 @@ pub mod Bounds
 pub mod Places
 pub mod Events
 pub mod View
+pub mod Timed
 pub mod Samples
