@@ -1,5 +1,5 @@
 -- 8XYN.
-use Rattle.std.proofs.Common.{◌≡◌, ℕ, ◌+◌, ◌-◌, ◌*◌, ◌/◌, ◌%◌, ◌<◌, ◌≤◌, refl, sym, ◌∙◌, ap, ap₂, arith, subst, true, false, bit_and}
+use Rattle.std.proofs.Common.{◌≡◌, ℕ, ◌+◌, ◌-◌, ◌*◌, ◌/◌, ◌%◌, ◌<◌, refl, sym, ◌∙◌, ap, ap₂, arith, subst, true, false, bit_and}
 use Rattle.std.specs.Prelude.{◌==◌, bit_or, bit_xor, Some}
 use Rattle.std.proofs.lemmas.Bool.{ne_eqb}
 use Rattle.std.proofs.lemmas.Nat.{and_mask, and_comm, or_comm, xor_comm, and_le_l, or_lt, xor_lt}
@@ -14,6 +14,7 @@ use Rattle.chip8_lang.specs.Decode.{arithmetic}
 use Rattle.chip8_lang.specs.State.{variable, instr_at}
 use Rattle.chip8_lang.specs.Step.{set, set_with_flag, stop_of, done_by}
 use Rattle.chip8_lang.specs.Step.KeyInput.{Nothing}
+use Rattle.chip8_lang.specs.Timed.{cycles}
 use Rattle.chip8_image.specs.Labels.{at_arith, at_slot0, at_flag, at_unknown82, at_halt}
 use Rattle.rom_law.proofs.Moves.{AllGood, quicks, reaches_in, reaches_from}
 use Rattle.rom_law.specs.Program.{code}
@@ -21,7 +22,7 @@ use Rattle.rom_law.specs.Holding.{places, Holding}
 use Rattle.rom_law.specs.Rows.{Since, Grows, Ends, now}
 use Rattle.rom_law.proofs.Places.{v_set, v_byte}
 use Rattle.rom_law.proofs.Kept.{Comes}
-use Rattle.rom_rows.specs.Heads.{high_byte, low_byte, page_of, Entered, Enters}
+use Rattle.rom_rows.specs.Heads.{to_stop, high_byte, low_byte, page_of, Entered, Enters}
 use Rattle.rom_rows.specs.FetchBlocks.FetchBlock.{Leave}
 use Rattle.rom_rows.specs.ArithBlocks.{has_shared_end, Ending, arith_moves}
 use Rattle.rom_rows.specs.ArithBlocks.ArithBlock.{Arith, Operation, Flag, Unknown82}
@@ -141,20 +142,21 @@ module _ (e : Edition) (b : Machine) (h : Since) (f : FitsMachine b) where
     Flagged value flag =
         let i = arithmetic n (high % 16) (low / 16) (high * 256 + low) in Entered (quick e) (at_slot0 + 2 * n) b (now h)
         → (has_shared_end i ≡ true) × (done_by e i Nothing (now h) ≡ set_with_flag (high % 16) (value vx vy) (flag vx vy) (now h))
+        × (cycles e i Nothing (now h) ≡ 110 + 2 * arith_moves (Operation n))
 
     -- its code leaves them in D and DF
-    flagged : (value flag : ℕ → ℕ → ℕ) → Flagged value flag → arith_moves (Operation n) ≤ 5
+    flagged : (value flag : ℕ → ℕ → ℕ) → Flagged value flag
         → (Room → AllGood (code (quick e)) (calm_top e) (arith_moves (Operation n)) slot)
         → quicks (code (quick e)) (arith_moves (Operation n)) slot
         ≡ pointed at_flag (value (byte_x e b (now h)) (byte_y e b (now h))) (flag (byte_x e b (now h)) (byte_y e b (now h))) → Case n
     unfolding pointed
-    flagged value flag does short good is = operation _ good is (λ o instr spent h' g. to_arith (quick e) g _ refl Flag (record {
+    flagged value flag does good is = operation _ good is (λ o instr spent h' g. to_arith (quick e) g _ refl Flag (record {
       entered = goes o.entered at_flag _ _;
       shared = ap has_shared_end instr ∙ (does o.entered).0;
       makes =
           ap (λ i. done_by e i Nothing (now h)) instr ∙ (does o.entered).1
           ∙ ap₂ (λ x y. set_with_flag (high % 16) (value x y) (flag x y) (now h)) (sym (is_vx o.entered)) (sym (is_vy o.entered f));
-    }) (omega (arith, spent, short, g.spent)))
+    }) (omega (arith, spent, g.spent, ap (λ i. cycles e i Nothing (now h)) instr ∙ (does o.entered).2)))
 
   -- a byte z to which 0 is added stays in D, and DF is 0
   cleared : (v z : ℕ) → v ≡ z → z < 256 → set_with_flag (high % 16) v 0 (now h) ≡ set_with_flag (high % 16) ((z + 0) % 256) ((z + 0) / 256) (now h)
@@ -174,42 +176,42 @@ module _ (e : Edition) (b : Machine) (h : Since) (f : FitsMachine b) where
   unfolding pointed
   vx_or =
       flagged 1 (λ x y. (bit_or y x + 0) % 256) (λ x y. (bit_or y x + 0) / 256)
-      (λ o. (refl, cleared (bit_or vx vy) (bit_or vy vx) (or_comm vx vy) (or_lt 8 vy vx (y_fits o) (x_fits o)))) (omega arith)
+      (λ o. (refl, cleared (bit_or vx vy) (bit_or vy vx) (or_comm vx vy) (or_lt 8 vy vx (y_fits o) (x_fits o)), refl))
       (λ r. omega (arith, r)) refl
 
   vx_and : Case 2
   unfolding pointed
   vx_and =
       flagged 2 (λ x y. (bit_and y x + 0) % 256) (λ x y. (bit_and y x + 0) / 256)
-      (λ o. (refl, cleared (bit_and vx vy) (bit_and vy vx) (and_comm vx vy) (omega (arith, and_le_l vy vx, y_fits o)))) (omega arith)
+      (λ o. (refl, cleared (bit_and vx vy) (bit_and vy vx) (and_comm vx vy) (omega (arith, and_le_l vy vx, y_fits o)), refl))
       (λ r. omega (arith, r)) refl
 
   vx_xor : Case 3
   unfolding pointed
   vx_xor =
       flagged 3 (λ x y. (bit_xor y x + 0) % 256) (λ x y. (bit_xor y x + 0) / 256)
-      (λ o. (refl, cleared (bit_xor vx vy) (bit_xor vy vx) (xor_comm vx vy) (xor_lt 8 vy vx (y_fits o) (x_fits o)))) (omega arith)
+      (λ o. (refl, cleared (bit_xor vx vy) (bit_xor vy vx) (xor_comm vx vy) (xor_lt 8 vy vx (y_fits o) (x_fits o)), refl))
       (λ r. omega (arith, r)) refl
 
   sum : Case 4
   unfolding pointed
-  sum = flagged 4 (λ x y. (x + y) % 256) (λ x y. (x + y) / 256) (λ o. (refl, refl)) (omega arith) (λ r. omega (arith, r)) refl
+  sum = flagged 4 (λ x y. (x + y) % 256) (λ x y. (x + y) / 256) (λ o. (refl, refl, refl)) (λ r. omega (arith, r)) refl
 
   less : Case 5
   unfolding pointed
-  less = flagged 5 (λ x y. (x + 256 - y) % 256) (λ x y. (x + 256 - y) / 256) (λ o. (refl, refl)) (omega arith) (λ r. omega (arith, r)) refl
+  less = flagged 5 (λ x y. (x + 256 - y) % 256) (λ x y. (x + 256 - y) / 256) (λ o. (refl, refl, refl)) (λ r. omega (arith, r)) refl
 
   right : Case 6
   unfolding pointed
-  right = flagged 6 (λ x y. y / 2) (λ x y. y % 2) (λ o. (refl, refl)) (omega arith) (λ r. omega (arith, r)) refl
+  right = flagged 6 (λ x y. y / 2) (λ x y. y % 2) (λ o. (refl, refl, refl)) (λ r. omega (arith, r)) refl
 
   from : Case 7
   unfolding pointed
-  from = flagged 7 (λ x y. (y + 256 - x) % 256) (λ x y. (y + 256 - x) / 256) (λ o. (refl, refl)) (omega arith) (λ r. omega (arith, r)) refl
+  from = flagged 7 (λ x y. (y + 256 - x) % 256) (λ x y. (y + 256 - x) / 256) (λ o. (refl, refl, refl)) (λ r. omega (arith, r)) refl
 
   left : Case 14
   unfolding pointed
-  left = flagged 14 (λ x y. y * 2 % 256) (λ x y. y * 2 / 256) (λ o. (refl, refl)) (omega arith) (λ r. omega (arith, r)) refl
+  left = flagged 14 (λ x y. y * 2 % 256) (λ x y. y * 2 / 256) (λ o. (refl, refl, refl)) (λ r. omega (arith, r)) refl
 
   -- where N is that of no instruction, the opcode is unknown
   other : (n : ℕ) → arith_moves (Operation n) ≡ 1 → AllGood (code (quick e)) (calm_top e) (arith_moves (Operation n)) (slot n)
@@ -219,7 +221,11 @@ module _ (e : Edition) (b : Machine) (h : Since) (f : FitsMachine b) where
   other n one good is unknown =
       operation n _ (λ r. good) is (λ o instr spent h' g. to_arith (quick e) g _ refl Unknown82
       (goes o.entered at_unknown82 _ _, rw (o.entered.inside, instr, unknown (high % 16) (low / 16) (high * 256 + low)) refl)
-      (omega (arith, spent, one, g.spent)))
+      (omega (arith, spent, one, g.spent, time o instr)))
+    where
+      time : Enters (quick e) (at_slot0 + 2 * n) 8 b (now h) → instr_at (now h) ≡ arithmetic n (high % 16) (low / 16) (high * 256 + low)
+          → to_stop (quick e) (now h) ≡ 120
+      time o instr = rw (o.entered.inside, instr, unknown (high % 16) (low / 16) (high * 256 + low), o.digit) refl
 
   pub operation_comes : (n : ℕ) → Case n
   unfolding pointed
@@ -242,7 +248,7 @@ module _ (e : Edition) (b : Machine) (h : Since) (f : FitsMachine b) where
       flag : (0 * 2 + b.regs.df) % 256 ≡ b.regs.df
       flag = omega (arith, f.regs.df)
 
-  pub unknown82_comes : Entered (quick e) at_unknown82 b (now h) → stop_of e (now h) ≡ Some Unknown → h.spent ≤ 94
+  pub unknown82_comes : Entered (quick e) at_unknown82 b (now h) → stop_of e (now h) ≡ Some Unknown → h.spent + 26 ≡ to_stop (quick e) (now h)
       → Comes (quick e) (calm_pieces (quick e)) (OfArith Unknown82) b h
   unknown82_comes o stop spent =
       routine (OfArith Unknown82) o _ (omega arith) refl

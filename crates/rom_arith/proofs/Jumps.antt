@@ -1,5 +1,5 @@
 -- 0MMM, 00EE, 1MMM, 2MMM and BMMM.
-use Rattle.std.proofs.Common.{◌≡◌, ℕ, ◌+◌, ◌*◌, ◌/◌, ◌%◌, ◌<◌, ◌≤◌, refl, ap, subst, arith, ◌∷◌, [], ◌++◌, length, bit_and, not}
+use Rattle.std.proofs.Common.{◌≡◌, ℕ, ◌+◌, ◌*◌, ◌/◌, ◌%◌, ◌<◌, refl, ap, subst, arith, ◌∷◌, [], ◌++◌, length, bit_and, not}
 use Rattle.std.specs.Prelude.{◌==◌, bit_xor, Some, None}
 use Rattle.std.proofs.lemmas.Bool.{ne_eqb}
 use Rattle.std.proofs.lemmas.Nat.{and_mask}
@@ -18,7 +18,7 @@ use Rattle.rom_law.specs.Rows.{Since, now}
 use Rattle.rom_law.proofs.Places.{pc_is, pc_set, v_get, v_byte, stack_most}
 use Rattle.rom_law.proofs.Stack.{push, pop, popped}
 use Rattle.rom_law.proofs.Kept.{Comes}
-use Rattle.rom_rows.specs.Heads.{high_byte, low_byte, page_of, Entered, Enters}
+use Rattle.rom_rows.specs.Heads.{to_stop, high_byte, low_byte, page_of, Entered, Enters}
 use Rattle.rom_rows.specs.FetchBlocks.FetchBlock.{Leave}
 use Rattle.rom_rows.specs.ArithBlocks.ArithBlock.{System, SystemLow, SystemBack, MachineCode, Return, ReturnTake, Empty, JumpTo, Call, CallPut, Full, JumpPlus}
 use Rattle.rom_rows.specs.SpriteBlocks.SpriteBlock.{Clear}
@@ -55,6 +55,20 @@ module _ (e : Edition) (b : Machine) (h : Since) (f : FitsMachine b) where
             + low) 0xee (λ k. d (omega (arith, k, o.digit))),
       ) refl
 
+  other_time : {a : ℕ} → Enters (quick e) a 0 b (now h) → (high ≡ 0 → ⊥) → to_stop (quick e) (now h) ≡ 110
+  other_time o d =
+      rw (
+        o.entered.inside,
+        o.digit,
+        ne_eqb (high % 16 * 256 + low) 0xe0 (λ k. d (omega (arith, k, o.digit))),
+        ne_eqb (high % 16 * 256 + low) 0xee (λ k. d (omega (arith, k, o.digit))),
+        ne_eqb high 0 d,
+      ) refl
+
+  low_time : {a : ℕ} → Entered (quick e) a b (now h) → high ≡ 0 → (low ≡ 0xe0 → ⊥) → (low ≡ 0xee → ⊥) → to_stop (quick e) (now h) ≡ 122
+  low_time o zero clear back =
+      rw (o.inside, zero, ne_eqb (0 + low) 0xe0 (λ k. clear (omega (arith, k))), ne_eqb (0 + low) 0xee (λ k. back (omega (arith, k))), zero) refl
+
   low_machine : (a : ℕ) → Entered (quick e) a b (now h) → high ≡ 0 → (low ≡ 0xe0 → ⊥) → (low ≡ 0xee → ⊥) → stop_of e (now h) ≡ Some MachineCall
   low_machine a o zero clear back =
       rw (o.inside, zero, ne_eqb (0 + low) 0xe0 (λ k. clear (omega (arith, k))), ne_eqb (0 + low) 0xee (λ k. back (omega (arith, k)))) refl
@@ -62,26 +76,27 @@ module _ (e : Edition) (b : Machine) (h : Since) (f : FitsMachine b) where
   pub system_comes : Enters (quick e) at_system 0 b (now h) → h.spent ≡ 80 → Comes (quick e) (calm_pieces (quick e)) (OfArith System) b h
   system_comes o spent = branch (OfArith System) o.entered (looked e high low b high) (not (high == 0)) at_machine at_system_low (omega arith) refl
       (λ k h' g. to_arith (quick e) g _ refl MachineCode (looks high at_machine o.entered, other_machine at_system o (nonzero high k))
-      (omega (arith, spent, g.spent)))
+      (omega (arith, spent, g.spent, other_time o (nonzero high k))))
       (λ k h' g. to_arith (quick e) g _ refl SystemLow (looks high at_system_low o.entered, is_zero high k) (omega (arith, spent, g.spent)))
 
-  pub system_low_comes : Entered (quick e) at_system_low b (now h) → high ≡ 0 → h.spent ≤ 84 → Comes (quick e) (calm_pieces (quick e)) (OfArith SystemLow) b h
+  pub system_low_comes : Entered (quick e) at_system_low b (now h) → high ≡ 0 → h.spent ≡ 84 → Comes (quick e) (calm_pieces (quick e)) (OfArith SystemLow) b h
   system_low_comes o zero spent =
       branch (OfArith SystemLow) o (looked e high low b (bit_xor low 0xe0)) (bit_xor low 0xe0 == 0) at_clear at_system_back (omega arith) refl
       (λ k h' g. to_sprite (quick e) g _ refl Clear tt (looks (bit_xor low 0xe0) at_clear o, (zero, xor_same low 0xe0 k)) (omega (arith, spent, g.spent)))
       (λ k h' g. to_arith (quick e) g _ refl SystemBack (looks (bit_xor low 0xe0) at_system_back o, zero, xor_other low 0xe0 k) (omega (arith, spent, g.spent)))
 
-  pub system_back_comes : Entered (quick e) at_system_back b (now h) → high ≡ 0 → (low ≡ 0xe0 → ⊥) → h.spent ≤ 90
+  pub system_back_comes : Entered (quick e) at_system_back b (now h) → high ≡ 0 → (low ≡ 0xe0 → ⊥) → h.spent ≡ 90
       → Comes (quick e) (calm_pieces (quick e)) (OfArith SystemBack) b h
   system_back_comes o zero clear spent =
       branch (OfArith SystemBack) o (looked e high low b (bit_xor low 0xee)) (bit_xor low 0xee == 0) at_return at_machine (omega arith) refl
       (λ k h' g. to_arith (quick e) g _ refl Return (looks (bit_xor low 0xee) at_return o, zero, xor_same low 0xee k) (omega (arith, spent, g.spent)))
       (λ k h' g. to_arith (quick e) g _ refl MachineCode
-      (looks (bit_xor low 0xee) at_machine o, low_machine at_system_back o zero clear (xor_other low 0xee k)) (omega (arith, spent, g.spent)))
+      (looks (bit_xor low 0xee) at_machine o, low_machine at_system_back o zero clear (xor_other low 0xee k))
+      (omega (arith, spent, g.spent, low_time o zero clear (xor_other low 0xee k))))
 
   -- ---- the stops: their number goes into D
 
-  pub machine_comes : Entered (quick e) at_machine b (now h) → stop_of e (now h) ≡ Some MachineCall → h.spent ≤ 96
+  pub machine_comes : Entered (quick e) at_machine b (now h) → stop_of e (now h) ≡ Some MachineCall → h.spent + 26 ≡ to_stop (quick e) (now h)
       → Comes (quick e) (calm_pieces (quick e)) (OfArith MachineCode) b h
   machine_comes o stop spent =
       routine (OfArith MachineCode) o _ (omega arith) refl
@@ -89,7 +104,7 @@ module _ (e : Edition) (b : Machine) (h : Since) (f : FitsMachine b) where
       (record { holds = o.holds; p = refl; r3 = refl; stop = MachineCall; fits = stop; number = refl }, omega arith)
       (omega (arith, spent, g.spent)))
 
-  pub empty_comes : Entered (quick e) at_empty b (now h) → stop_of e (now h) ≡ Some StackEmpty → h.spent ≤ 102
+  pub empty_comes : Entered (quick e) at_empty b (now h) → stop_of e (now h) ≡ Some StackEmpty → h.spent + 26 ≡ to_stop (quick e) (now h)
       → Comes (quick e) (calm_pieces (quick e)) (OfArith Empty) b h
   empty_comes o stop spent =
       routine (OfArith Empty) o _ (omega arith) refl
@@ -97,7 +112,7 @@ module _ (e : Edition) (b : Machine) (h : Since) (f : FitsMachine b) where
       (record { holds = o.holds; p = refl; r3 = refl; stop = StackEmpty; fits = stop; number = refl }, omega arith)
       (omega (arith, spent, g.spent)))
 
-  pub full_comes : Entered (quick e) at_full b (now h) → stop_of e (now h) ≡ Some StackFull → h.spent ≤ 86
+  pub full_comes : Entered (quick e) at_full b (now h) → stop_of e (now h) ≡ Some StackFull → h.spent + 26 ≡ to_stop (quick e) (now h)
       → Comes (quick e) (calm_pieces (quick e)) (OfArith Full) b h
   full_comes o stop spent =
       routine (OfArith Full) o _ (omega arith) refl
@@ -113,6 +128,9 @@ module _ (e : Edition) (b : Machine) (h : Since) (f : FitsMachine b) where
   return_stops : (a : ℕ) → Entered (quick e) a b (now h) → high ≡ 0 → low ≡ 0xee → depth ≡ 0 → stop_of e (now h) ≡ Some StackEmpty
   return_stops a o zero back none = rw (o.inside, zero, back, none) refl
 
+  return_time : {a : ℕ} → Entered (quick e) a b (now h) → high ≡ 0 → low ≡ 0xee → to_stop (quick e) (now h) ≡ 128
+  return_time o zero back = rw (o.inside, zero, back) refl
+
   return_runs : (a : ℕ) → Entered (quick e) a b (now h) → high ≡ 0 → low ≡ 0xee → 0 < depth → stop_of e (now h) ≡ None
   return_runs a o zero back some = rw (o.inside, zero, back, ne_eqb depth 0 (λ k. omega (arith, k, some))) refl
 
@@ -120,7 +138,7 @@ module _ (e : Edition) (b : Machine) (h : Since) (f : FitsMachine b) where
   r2_is : {a : ℕ} → Entered (quick e) a b (now h) → b.regs.r.r2.lo + 2 * depth ≡ 0xcf
   r2_is o = omega (arith, o.holds.stack, stack_most o.holds, stack_top_is e, f.regs.r.r2.hi, f.regs.r.r2.lo)
 
-  pub return_comes : Entered (quick e) at_return b (now h) → high ≡ 0 → low ≡ 0xee → h.spent ≤ 96 → Comes (quick e) (calm_pieces (quick e)) (OfArith Return) b h
+  pub return_comes : Entered (quick e) at_return b (now h) → high ≡ 0 → low ≡ 0xee → h.spent ≡ 96 → Comes (quick e) (calm_pieces (quick e)) (OfArith Return) b h
   return_comes o zero back spent =
       branch (OfArith Return) o (looked e high low b (bit_xor b.regs.r.r2.lo 0xcf)) (bit_xor b.regs.r.r2.lo 0xcf == 0) at_empty at_return_take
       (omega arith) refl
@@ -128,7 +146,7 @@ module _ (e : Edition) (b : Machine) (h : Since) (f : FitsMachine b) where
         looks (bit_xor b.regs.r.r2.lo 0xcf) at_empty o,
         return_stops at_return o zero back (omega
             (arith, xor_same b.regs.r.r2.lo 0xcf k, r2_is o)),
-      ) (omega (arith, spent, g.spent)))
+      ) (omega (arith, spent, g.spent, return_time o zero back)))
       (λ k h' g. to_arith (quick e) g _ refl ReturnTake
       (looks (bit_xor b.regs.r.r2.lo 0xcf) at_return_take o, zero, back, omega (arith, xor_other b.regs.r.r2.lo 0xcf k, r2_is o))
       (omega (arith, spent, g.spent)))
@@ -168,6 +186,9 @@ module _ (e : Edition) (b : Machine) (h : Since) (f : FitsMachine b) where
   call_stops : {a : ℕ} → Enters (quick e) a 2 b (now h) → depth ≡ 12 → stop_of e (now h) ≡ Some StackFull
   call_stops o full = rw (o.entered.inside, o.digit, full) refl
 
+  call_time : {a : ℕ} → Enters (quick e) a 2 b (now h) → to_stop (quick e) (now h) ≡ 112
+  call_time o = rw (o.entered.inside, o.digit) refl
+
   call_runs : {a : ℕ} → Enters (quick e) a 2 b (now h) → depth < 12 → stop_of e (now h) ≡ None
   call_runs o room = rw (o.entered.inside, o.digit, ne_eqb depth 12 (λ k. omega (arith, k, room))) refl
 
@@ -177,7 +198,7 @@ module _ (e : Edition) (b : Machine) (h : Since) (f : FitsMachine b) where
       (omega arith) refl
       (λ k h' g. to_arith (quick e) g _ refl Full
       (looks (bit_xor b.regs.r.r2.lo 0xb7) at_full o.entered, call_stops o (omega (arith, xor_same b.regs.r.r2.lo 0xb7 k, r2_is o.entered)))
-      (omega (arith, spent, g.spent)))
+      (omega (arith, spent, g.spent, call_time o)))
       (λ k h' g. to_arith (quick e) g _ refl CallPut (
         record {
           entered = looks (bit_xor b.regs.r.r2.lo 0xb7) at_call_put o.entered;

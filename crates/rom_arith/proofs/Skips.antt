@@ -1,5 +1,5 @@
 -- 3XKK, 4XKK, 5XY0 and 9XY0, and the stop of 5XYN and 9XYN with another N.
-use Rattle.std.proofs.Common.{◌≡◌, ℕ, zero, suc, ◌+◌, ◌*◌, ◌/◌, ◌%◌, ◌<◌, ◌≤◌, ◌⊎◌, inl, inr, refl, sym, ◌∙◌, ap, ap₂, arith, Bool, true, false, not, cond, bit_and, slice_index}
+use Rattle.std.proofs.Common.{◌≡◌, ℕ, zero, suc, ◌+◌, ◌*◌, ◌/◌, ◌%◌, ◌<◌, ◌⊎◌, inl, inr, refl, sym, ◌∙◌, ap, ap₂, arith, Bool, true, false, not, cond, bit_and, slice_index}
 use Rattle.std.specs.Prelude.{◌==◌, bit_xor, Some}
 use Rattle.std.proofs.lemmas.Bool.{cases_eq, eq-eqb, ne_eqb, agree_below_at}
 use Rattle.std.proofs.lemmas.Nat.{and_mask}
@@ -11,13 +11,14 @@ use Rattle.chip8_lang.specs.declared.view.Stop.TheVariants.{Unknown}
 use Rattle.chip8_lang.specs.State.{variable, instr_at}
 use Rattle.chip8_lang.specs.Step.{skip_if, stop_of, step}
 use Rattle.chip8_lang.specs.Step.KeyInput.{Nothing}
+use Rattle.chip8_lang.specs.Timed.{skip_cycles}
 use Rattle.chip8_image.specs.Labels.{at_skip_eq, at_skip_ne, at_skip_same, at_skip_same_test, at_skip_differ, at_differ_test, at_skip, at_unknown81, at_halt}
 use Rattle.rom_law.proofs.Moves.{AllGood, quicks}
 use Rattle.rom_law.specs.Program.{code}
 use Rattle.rom_law.specs.Rows.{Since, now}
 use Rattle.rom_law.proofs.Places.{pc_is, pc_set}
 use Rattle.rom_law.proofs.Kept.{Comes}
-use Rattle.rom_rows.specs.Heads.{Within, high_byte, low_byte, Entered, Enters}
+use Rattle.rom_rows.specs.Heads.{Within, to_stop, to_dispatch, high_byte, low_byte, Entered, Enters}
 use Rattle.rom_rows.specs.FetchBlocks.FetchBlock.{Leave}
 use Rattle.rom_rows.specs.ArithBlocks.{ArithBlock, no_skip_labels, has_shared_end, Ending, arith_at, arith_moves, arith_time}
 use Rattle.rom_rows.specs.ArithBlocks.ArithBlock.{SkipEq, SkipNe, SkipSame, SameTest, SkipDiffer, DifferTest, NoSkip, Skip, Unknown81}
@@ -65,17 +66,22 @@ module _ (e : Edition) (b : Machine) (h : Since) (f : FitsMachine b) where
 
   -- the block l tests d, and skips where t
   skips : (l : ArithBlock) (i : ℕ) {a : ℕ} → Entered (quick e) a b (now h) → (d : ℕ) (t far : Bool) → t ≡ far
-      → has_shared_end (instr_at (now h)) ≡ true → step e Nothing (now h) ≡ skip_if far (now h) → i < 4 → h.spent + 2 * arith_moves l ≤ 94
+      → has_shared_end (instr_at (now h)) ≡ true → step e Nothing (now h) ≡ skip_if far (now h) → i < 4 → (n : ℕ) → h.spent + 2 * arith_moves l + 2 ≡ n
+      → to_dispatch (quick e) (now h) ≡ skip_cycles n far
       → AllGood (code (quick e)) (calm_top e) (arith_moves l) (entered e a high low b)
       → quicks (code (quick e)) (arith_moves l) (entered e a high low b)
       ≡ tested d (cond t (word_of at_skip) (word_of (slice_index no_skip_labels i))) → Comes (quick e) (calm_pieces (quick e)) (OfArith l) b h
-  skips l i o d t far same shared makes small spent good is = branch (OfArith l) o (tested d) t at_skip (slice_index no_skip_labels i) good is
-      (λ k h' g. to_arith (quick e) g _ refl Skip (record { entered = goes d at_skip o; shared = shared; makes = made k }) (omega (arith, spent, g.spent)))
+  skips l i o d t far same shared makes small n spent time good is = branch (OfArith l) o (tested d) t at_skip (slice_index no_skip_labels i) good is
+      (λ k h' g. to_arith (quick e) g _ refl Skip (record { entered = goes d at_skip o; shared = shared; makes = made k })
+      (omega (arith, spent, g.spent, timed k)))
       (λ k h' g. to_arith (quick e) g _ (no_halt i small) (NoSkip i)
-      (record { entered = goes d (slice_index no_skip_labels i) o; shared = shared; makes = made k }, small) (omega (arith, spent, g.spent)))
+      (record { entered = goes d (slice_index no_skip_labels i) o; shared = shared; makes = made k }, small) (omega (arith, spent, g.spent, timed k)))
     where
       made : {u : Bool} → t ≡ u → step e Nothing (now h) ≡ skip_if u (now h)
       made k = makes ∙ ap (λ u. skip_if u (now h)) (sym same ∙ k)
+
+      timed : {u : Bool} → t ≡ u → to_dispatch (quick e) (now h) ≡ skip_cycles n u
+      timed k = time ∙ ap (skip_cycles n) (sym same ∙ k)
 
   -- XOR of KK and VX
   abbrev kk_x : ℕ
@@ -86,12 +92,13 @@ module _ (e : Edition) (b : Machine) (h : Since) (f : FitsMachine b) where
 
   pub eq_comes : Enters (quick e) at_skip_eq 3 b (now h) → h.spent ≡ 80 → Comes (quick e) (calm_pieces (quick e)) (OfArith SkipEq) b h
   eq_comes o spent =
-      skips SkipEq 0 o.entered kk_x _ _ (kk_test o.entered) (rw o.digit refl) (rw o.digit refl) (omega arith) (omega (arith, spent))
+      skips SkipEq 0 o.entered kk_x _ _ (kk_test o.entered) (rw o.digit refl) (rw o.digit refl) (omega arith) 90 (omega (arith, spent)) (rw o.digit refl)
       (omega (arith, o.entered.holds.stack, stack_top_is e)) refl
 
   pub ne_comes : Enters (quick e) at_skip_ne 4 b (now h) → h.spent ≡ 80 → Comes (quick e) (calm_pieces (quick e)) (OfArith SkipNe) b h
   ne_comes o spent =
-      skips SkipNe 1 o.entered kk_x _ _ (ap not (kk_test o.entered)) (rw o.digit refl) (rw o.digit refl) (omega arith) (omega (arith, spent))
+      skips SkipNe 1 o.entered kk_x _ _ (ap not (kk_test o.entered)) (rw o.digit refl) (rw o.digit refl) (omega arith) 90
+      (omega (arith, spent)) (rw o.digit refl)
       (omega (arith, o.entered.holds.stack, stack_top_is e)) refl
 
   -- XOR of VY and VX
@@ -103,14 +110,15 @@ module _ (e : Edition) (b : Machine) (h : Since) (f : FitsMachine b) where
 
   pub same_comes : Enters (quick e) at_skip_same_test 5 b (now h) → low % 16 ≡ 0 → h.spent ≡ 86 → Comes (quick e) (calm_pieces (quick e)) (OfArith SameTest) b h
   same_comes o n spent =
-      skips SameTest 2 o.entered y_x _ _ (y_test o.entered) (rw (o.digit, n) refl) (rw (o.digit, n) refl) (omega arith) (omega (arith, spent))
+      skips SameTest 2 o.entered y_x _ _ (y_test o.entered) (rw (o.digit, n) refl) (rw (o.digit, n) refl) (omega arith) 96
+      (omega (arith, spent)) (rw (o.digit, n) refl)
       (omega (arith, o.entered.holds.stack, stack_top_is e)) refl
 
   pub differ_comes : Enters (quick e) at_differ_test 9 b (now h) → low % 16 ≡ 0 → h.spent ≡ 86
       → Comes (quick e) (calm_pieces (quick e)) (OfArith DifferTest) b h
   differ_comes o n spent =
-      skips DifferTest 3 o.entered y_x _ _ (ap not (y_test o.entered)) (rw (o.digit, n) refl) (rw (o.digit, n) refl) (omega arith)
-      (omega (arith, spent)) (omega (arith, o.entered.holds.stack, stack_top_is e)) refl
+      skips DifferTest 3 o.entered y_x _ _ (ap not (y_test o.entered)) (rw (o.digit, n) refl) (rw (o.digit, n) refl) (omega arith) 96
+      (omega (arith, spent)) (rw (o.digit, n) refl) (omega (arith, o.entered.holds.stack, stack_top_is e)) refl
 
   -- ---- 5XYN and 9XYN: N is 0, or the opcode is unknown
 
@@ -122,26 +130,30 @@ module _ (e : Edition) (b : Machine) (h : Since) (f : FitsMachine b) where
 
   -- the block l tests N, and where it is 0 goes on at the block m, at w
   n_test : (l m : ArithBlock) (w : ℕ) {a d : ℕ} → (o : Enters (quick e) a d b (now h)) → h.spent + 2 * arith_moves l ≡ 86
-      → ((low % 16 ≡ 0 → ⊥) → stop_of e (now h) ≡ Some Unknown) → ((h' : Since) → h'.spent ≡ 86 → Within (arith_time m) h')
+      → ((low % 16 ≡ 0 → ⊥) → stop_of e (now h) ≡ Some Unknown) → ((low % 16 ≡ 0 → ⊥) → to_stop (quick e) (now h) ≡ 112) → ((h' : Since) → h'.spent ≡ 86
+      → Within (arith_time (quick e) m (now h)) h')
       → ((c : Machine) → Enters (quick e) w d c (now h) × (low % 16 ≡ 0) → arith_at (quick e) m c (now h)) → (value (word_of w) == at_halt) ≡ false
       → AllGood (code (quick e)) (calm_top e) (arith_moves l) (entered e a high low b)
       → quicks (code (quick e)) (arith_moves l) (entered e a high low b)
       ≡ looked e high low b (bit_and low 15) (cond (not (bit_and low 15 == 0)) (word_of at_unknown81) (word_of w))
       → Comes (quick e) (calm_pieces (quick e)) (OfArith l) b h
-  n_test l m w o spent unknown time at calm good is =
+  n_test l m w o spent unknown outside time at calm good is =
       branch (OfArith l) o.entered (looked e high low b (bit_and low 15)) (not (bit_and low 15 == 0)) at_unknown81 w good is
-      (λ k h' g. to_arith (quick e) g _ refl Unknown81 (looks (bit_and low 15) at_unknown81 o.entered, unknown (n_other k)) (omega (arith, spent, g.spent)))
+      (λ k h' g. to_arith (quick e) g _ refl Unknown81 (looks (bit_and low 15) at_unknown81 o.entered, unknown (n_other k))
+      (omega (arith, spent, g.spent, outside (n_other k))))
       (λ k h' g. to_arith (quick e) g _ calm m (at _ (record { entered = looks (bit_and low 15) w o.entered; digit = o.digit }, n_zero k))
       (time h' (omega (arith, spent, g.spent))))
 
   pub skip_same_comes : Enters (quick e) at_skip_same 5 b (now h) → h.spent ≡ 80 → Comes (quick e) (calm_pieces (quick e)) (OfArith SkipSame) b h
   skip_same_comes o spent =
       n_test SkipSame SameTest at_skip_same_test o (omega (arith, spent)) (λ d. rw (o.entered.inside, o.digit, ne_eqb (low % 16) 0 d) refl)
+      (λ d. rw (o.entered.inside, o.digit, ne_eqb (low % 16) 0 d, o.digit) refl)
       (λ h' t. t) (λ c z. z) refl (omega arith) refl
 
   pub skip_differ_comes : Enters (quick e) at_skip_differ 9 b (now h) → h.spent ≡ 80 → Comes (quick e) (calm_pieces (quick e)) (OfArith SkipDiffer) b h
   skip_differ_comes o spent =
       n_test SkipDiffer DifferTest at_differ_test o (omega (arith, spent)) (λ d. rw (o.entered.inside, o.digit, ne_eqb (low % 16) 0 d) refl)
+      (λ d. rw (o.entered.inside, o.digit, ne_eqb (low % 16) 0 d, o.digit) refl)
       (λ h' t. t) (λ c z. z) refl (omega arith) refl
 
   -- ---- the ends
@@ -160,7 +172,7 @@ module _ (e : Edition) (b : Machine) (h : Since) (f : FitsMachine b) where
       two_on : value (up (up b.regs.r.r5)) ≡ (now h).pc + 4
       two_on = omega (arith, pc_is o.entered.holds, is_inside e (now h) o.entered.inside, memory_end_is e, page_fits e, f.regs.r.r5.hi, f.regs.r.r5.lo)
 
-  pub unknown81_comes : Entered (quick e) at_unknown81 b (now h) → stop_of e (now h) ≡ Some Unknown → h.spent ≤ 86
+  pub unknown81_comes : Entered (quick e) at_unknown81 b (now h) → stop_of e (now h) ≡ Some Unknown → h.spent + 26 ≡ to_stop (quick e) (now h)
       → Comes (quick e) (calm_pieces (quick e)) (OfArith Unknown81) b h
   unknown81_comes o stop spent =
       routine (OfArith Unknown81) o _ (omega arith) refl

@@ -20,6 +20,7 @@ use Rattle.rom_rows.specs.Table.Block.{OfFetch}
 use Rattle.rom_rows.proofs.Bytes.{memory_end_is, page_fits}
 use Rattle.rom_rows.proofs.Entry.{ready, on_4, is_on_4}
 use Rattle.rom_rows.proofs.Follows.{to_fetch}
+use Rattle.rom_rows.proofs.Times.{stop_low, stop_high}
 use Rattle.rom_fetch.proofs.Rom.{quick}
 
 -- the branch on DF = 0
@@ -62,7 +63,7 @@ module _ (e : Edition) (b : Machine) (h : Since) (f : FitsMachine b) (o : Fetchi
         reaches = reaches (word_of at_outside) (taken _ (word_of at_outside) (word_of at_upper) (omega (arith, l, pc, f.regs.r.r5.lo, f.regs.r.r5.hi)));
         ends =
             λ h' g. to_fetch (quick e) g (end (word_of at_outside)) refl Outside (fetching at_outside, rw (lt-leb 0x200 (now h).pc l) refl)
-            (omega (arith, spent, g.spent));
+            (omega (arith, spent, g.spent, stop_low e (now h) l));
       }
       go (inr l) = record {
         runs = ready o.holds;
@@ -118,7 +119,7 @@ module _ (e : Edition) (b : Machine) (h : Since) (f : FitsMachine b) (o : Fetchi
         ends =
             λ h' g. to_fetch (quick e) g (checked (word_of at_outside)) refl Outside
             (checking at_outside, rw (le-leb 0x200 (now h).pc low, lt-leb ((now h).pc + 2) (memory_end e) l) refl)
-            (omega (arith, spent, g.spent));
+            (omega (arith, spent, g.spent, stop_high e (now h) low l));
       }
       go (inr l) = record {
         runs = ready o.holds;

@@ -13,7 +13,7 @@ use Rattle.rom_law.proofs.Moves.{quicks, Reaches, reaches_in, reaches_from}
 use Rattle.rom_law.specs.Program.{code}
 use Rattle.rom_law.specs.Rows.{Since, Grows, Ends, now}
 use Rattle.rom_law.proofs.Kept.{Comes}
-use Rattle.rom_rows.specs.Heads.{high_byte, low_byte, Enters}
+use Rattle.rom_rows.specs.Heads.{to_stop, high_byte, low_byte, Enters}
 use Rattle.rom_rows.specs.FetchBlocks.{NoneOf, misc_labels, misc_codes}
 use Rattle.rom_rows.specs.FetchBlocks.FetchBlock.{Misc, Unknown83, Leave}
 use Rattle.rom_rows.specs.MemoryBlocks.MemoryBlock.{AddIndex, Digit, Decimal, Store, Restore}
@@ -171,6 +171,26 @@ module _ (e : Edition) (b : Machine) (h : Since) (f : FitsMachine b) where
       )
       refl
 
+  unknown_time : Enters (quick e) at_unknown83 15 b (now h) → NoneOf 9 low → to_stop (quick e) (now h) ≡ 160
+  unknown_time o none =
+      rw (
+        o.entered.inside,
+        o.digit,
+        ne_eqb low 0x07 (none 0 (omega arith)),
+        ne_eqb low 0x0a (none 1 (omega arith)),
+        ne_eqb low 0x15 (none 2
+            (omega arith)),
+        ne_eqb low 0x18 (none 3 (omega arith)),
+        ne_eqb low 0x1e (none 4 (omega arith)),
+        ne_eqb low 0x29 (none 5
+            (omega arith)),
+        ne_eqb low 0x33 (none 6 (omega arith)),
+        ne_eqb low 0x55 (none 7 (omega arith)),
+        ne_eqb low 0x65 (none 8 (omega arith)),
+        o.digit,
+      )
+      refl
+
   pub unknown_comes : Enters (quick e) at_unknown83 15 b (now h) → NoneOf 9 low → h.spent ≡ 134
       → Comes (quick e) (calm_pieces (quick e)) (OfFetch Unknown83) b h
   unknown_comes o none spent = record {
@@ -182,5 +202,5 @@ module _ (e : Edition) (b : Machine) (h : Since) (f : FitsMachine b) where
     ends =
         λ h' g. to_fetch (quick e) g (quicks (code (quick e)) 2 (entered e at_unknown83 high low b)) refl (Leave 2)
         (record { holds = o.entered.holds; p = refl; r3 = refl; stop = UnknownOpcode; fits = unknown_stop o none; number = refl }, omega arith)
-        (omega (arith, spent, g.spent));
+        (omega (arith, spent, g.spent, unknown_time o none));
   }

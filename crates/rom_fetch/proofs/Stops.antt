@@ -1,5 +1,5 @@
 -- The stops: a pc outside game memory, each page's way to the stops, and the stop code.
-use Rattle.std.proofs.Common.{◌≡◌, ℕ, zero, suc, ◌+◌, ◌*◌, ◌<◌, ◌≤◌, refl, sym, ◌∙◌, ap, subst, arith, false}
+use Rattle.std.proofs.Common.{◌≡◌, ℕ, zero, suc, ◌+◌, ◌*◌, ◌<◌, refl, sym, ◌∙◌, ap, subst, arith, false}
 use Rattle.std.specs.Prelude.{Some}
 use Rattle.machine.specs.Bank.{word, word_of, value, down}
 use Rattle.machine.specs.Board.{Machine}
@@ -18,7 +18,7 @@ use Rattle.rom_law.specs.Rows.Ends.{Fails}
 use Rattle.rom_law.proofs.Places.{keeping, pc_is, pc_set, cell_set, cell_is}
 use Rattle.rom_law.proofs.Steps.{now_same}
 use Rattle.rom_law.proofs.Kept.{Comes}
-use Rattle.rom_rows.specs.Heads.{Fetching, Leaving, Stopping}
+use Rattle.rom_rows.specs.Heads.{to_stop, Fetching, Leaving, Stopping}
 use Rattle.rom_rows.specs.FetchBlocks.FetchBlock.{Outside, Leave, Stop, Stopped}
 use Rattle.rom_rows.specs.Table.{calm_pieces, calm_top}
 use Rattle.rom_rows.specs.Table.Block.{OfFetch}
@@ -32,7 +32,7 @@ outside_stop : (e : Edition) (s : Lang) → is_fetchable e s ≡ false → stop_
 outside_stop e s h = rw h refl
 
 module _ (e : Edition) (b : Machine) (h : Since) (f : FitsMachine b) where
-  pub outside_comes : Fetching (quick e) at_outside b (now h) → is_fetchable e (now h) ≡ false → h.spent ≤ 16
+  pub outside_comes : Fetching (quick e) at_outside b (now h) → is_fetchable e (now h) ≡ false → h.spent + 26 ≡ to_stop (quick e) (now h)
       → Comes (quick e) (calm_pieces (quick e)) (OfFetch Outside) b h
   outside_comes o out spent = record {
     runs = ready o.holds;
@@ -51,7 +51,8 @@ module _ (e : Edition) (b : Machine) (h : Since) (f : FitsMachine b) where
   left = record b { regs = record b.regs { d = 128; p = 3; r = record b.regs.r { r3 = word_of at_stop; re = word b.regs.r.re.hi b.regs.d } } }
 
   leaves : (i : ℕ) → Reaches (code (quick e)) (calm_top e) 3 (on_3 (at_leave81 + 0x100 * i) b) left
-      → Leaving (quick e) (at_leave81 + 0x100 * i) b (now h) → h.spent ≤ 210 → Comes (quick e) (calm_pieces (quick e)) (OfFetch (Leave i)) b h
+      → Leaving (quick e) (at_leave81 + 0x100 * i) b (now h) → h.spent + 22 ≡ to_stop (quick e) (now h)
+      → Comes (quick e) (calm_pieces (quick e)) (OfFetch (Leave i)) b h
   leaves i reach o spent = record {
     runs = ready o.holds;
     awake = o.holds.awake;
@@ -63,7 +64,7 @@ module _ (e : Edition) (b : Machine) (h : Since) (f : FitsMachine b) where
         (omega (arith, spent, g.spent));
   }
 
-  pub leave_comes : (i : ℕ) → i < 4 → Leaving (quick e) (at_leave81 + 0x100 * i) b (now h) → h.spent ≤ 210
+  pub leave_comes : (i : ℕ) → i < 4 → Leaving (quick e) (at_leave81 + 0x100 * i) b (now h) → h.spent + 22 ≡ to_stop (quick e) (now h)
       → Comes (quick e) (calm_pieces (quick e)) (OfFetch (Leave i)) b h
   leave_comes zero l o spent = leaves 0 (reaches_in (code (quick e)) (calm_top e) 3 _ _ (omega arith) refl) o spent
   leave_comes (suc zero) l o spent = leaves 1 (reaches_in (code (quick e)) (calm_top e) 3 _ _ (omega arith) refl) o spent
@@ -72,7 +73,8 @@ module _ (e : Edition) (b : Machine) (h : Since) (f : FitsMachine b) where
   leave_comes (suc (suc (suc (suc i)))) l o spent = absurd (omega (arith, l))
 
   -- pc goes back to the opcode
-  pub stop_comes : Stopping (quick e) at_stop next b (now h) → h.spent ≤ 216 → Comes (quick e) (calm_pieces (quick e)) (OfFetch Stop) b h
+  pub stop_comes : Stopping (quick e) at_stop next b (now h) → h.spent + 16 ≡ to_stop (quick e) (now h)
+      → Comes (quick e) (calm_pieces (quick e)) (OfFetch Stop) b h
   stop_comes o spent = record {
     runs = ready o.holds;
     awake = o.holds.awake;
@@ -97,7 +99,8 @@ module _ (e : Edition) (b : Machine) (h : Since) (f : FitsMachine b) where
       back = omega (arith, pc_is o.holds, f.regs.r.r5.hi, f.regs.r.r5.lo)
 
   -- the number of the stop goes into its cell
-  pub stopped_comes : Stopping (quick e) at_stopped (λ z. z) b (now h) → h.spent ≤ 220 → Comes (quick e) (calm_pieces (quick e)) (OfFetch Stopped) b h
+  pub stopped_comes : Stopping (quick e) at_stopped (λ z. z) b (now h) → h.spent + 12 ≡ to_stop (quick e) (now h)
+      → Comes (quick e) (calm_pieces (quick e)) (OfFetch Stopped) b h
   stopped_comes o spent = record {
     runs = ready o.holds;
     awake = o.holds.awake;

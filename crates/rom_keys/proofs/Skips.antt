@@ -20,7 +20,7 @@ use Rattle.rom_law.specs.Rows.{Since, Grows, now}
 use Rattle.rom_law.proofs.Places.{v_get, pc_is, pc_set}
 use Rattle.rom_law.proofs.Steps.{now_same}
 use Rattle.rom_law.proofs.Kept.{Comes, Holds}
-use Rattle.rom_rows.specs.Heads.{high_byte, low_byte, page_of, Entered, Enters}
+use Rattle.rom_rows.specs.Heads.{to_stop, high_byte, low_byte, page_of, Entered, Enters}
 use Rattle.rom_rows.specs.ArithBlocks.ArithBlock.{Unknown82}
 use Rattle.rom_rows.specs.KeyBlocks.{skip_code, skip_key, skip_label, skip_test_label, no_skip_label, skip_time, Skipping}
 use Rattle.rom_rows.specs.KeyBlocks.KeyBlock.{KeySkip, KeySkipUp, SkipLatch, NoSkip, Skip}
@@ -85,17 +85,23 @@ module _ (e : Edition) (b : Machine) (h : Since) (f : FitsMachine b) where
   unknown_stop : {a : ℕ} → Enters (quick e) a 14 b (now h) → (low ≡ 0x9e → ⊥) → (low ≡ 0xa1 → ⊥) → stop_of e (now h) ≡ Some Unknown
   unknown_stop o down up = rw (o.entered.inside, o.digit, ne_eqb low 0x9e down, ne_eqb low 0xa1 up) refl
 
+  unknown_time : {a : ℕ} → Enters (quick e) a 14 b (now h) → (low ≡ 0x9e → ⊥) → (low ≡ 0xa1 → ⊥) → to_stop (quick e) (now h) ≡ 120
+  unknown_time o down up = rw (o.entered.inside, o.digit, ne_eqb low 0x9e down, ne_eqb low 0xa1 up, o.digit) refl
+
   pub key_skip_up_comes : Enters (quick e) at_key_skip_up 14 b (now h) → b.regs.x ≡ 6 → (low ≡ 0x9e → ⊥) → h.spent ≡ 88
       → Comes (quick e) (calm_pieces (quick e)) (OfKey KeySkipUp) b h
   key_skip_up_comes o x down spent =
       branch (OfKey KeySkipUp) o.entered (looked e high low b (bit_xor low 0xa1)) (not (bit_xor low 0xa1 == 0)) at_unknown82 at_skip_up
       (omega arith) refl
       (λ k h' g. to_arith (quick e) g _ refl Unknown82
-      (looks (bit_xor low 0xa1) at_unknown82 o.entered, unknown_stop o down (λ same. nonzero _ k (eqb-true _ 0 (same_xor low 0xa1 same))))
-      (omega (arith, spent, g.spent)))
+      (looks (bit_xor low 0xa1) at_unknown82 o.entered, unknown_stop o down (other k))
+      (omega (arith, spent, g.spent, unknown_time o down (other k))))
       (λ k h' g. to_key (quick e) g _ refl (SkipLatch false)
       (record { entered = looks (bit_xor low 0xa1) at_skip_up o.entered; digit = o.digit }, x, xor_same low 0xa1 (rw (is_zero _ k) refl))
       (omega (arith, spent, g.spent)))
+    where
+      other : not (bit_xor low 0xa1 == 0) ≡ true → low ≡ 0xa1 → ⊥
+      other k same = nonzero _ k (eqb-true _ 0 (same_xor low 0xa1 same))
 
   -- ---- the key is latched
 

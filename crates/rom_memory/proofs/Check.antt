@@ -18,7 +18,7 @@ use Rattle.rom_law.specs.Rows.{Since, Grows, Ends, now}
 use Rattle.rom_law.proofs.Places.{i_is, read_is, work_set, work_is}
 use Rattle.rom_law.proofs.Kept.{Comes}
 use Rattle.rom_rows.specs.Heads.{page_of}
-use Rattle.rom_rows.specs.Checks.{Caller, Calls, count_of, return_of, call_time, Answer, answer_number, IsAnswer, Checking, Comparing, Checked}
+use Rattle.rom_rows.specs.Checks.{answer_time, Caller, Calls, count_of, return_of, call_time, Answer, answer_number, IsAnswer, Checking, Comparing, Checked}
 use Rattle.rom_rows.specs.Checks.Caller.{ForDecimal, ForStore, ForRestore, ForDraw}
 use Rattle.rom_rows.specs.Checks.Answer.{InGame, InFont, Nowhere}
 use Rattle.rom_rows.specs.MemoryBlocks.{answer_label}
@@ -28,6 +28,7 @@ use Rattle.rom_rows.specs.Table.{calm_pieces, calm_top}
 use Rattle.rom_rows.specs.Table.Block.{OfMemory}
 use Rattle.rom_rows.proofs.Bits.{same_xor, xor_same, nonzero, is_zero, borrowed, not_borrowed}
 use Rattle.rom_rows.proofs.Bytes.{memory_end_is, variables_is, stack_top_is, page_fits}
+use Rattle.rom_rows.proofs.Times.{outside_low, outside_page, outside_other}
 use Rattle.rom_rows.proofs.Follows.{to_memory, to_sprite}
 use Rattle.rom_rows.proofs.Ways.{reached, forks}
 use Rattle.rom_memory.proofs.Rom.{both, quick}
@@ -71,11 +72,11 @@ other_page a n some other = go (cases_lt a 0x8700)
 
 -- the caller goes on
 found : {e : Edition} {h h' : Since} {d : Machine} (c : Caller) (answer : Answer) → Grows h 2 0 h' → Checked (quick e) c answer d (now h)
-    → h'.spent ≤ call_time c + 50 → is_event (code (quick e)) d ≡ false → Ends (quick e) (calm_pieces (quick e)) d h'
-found {e = e} ForDecimal answer g o spent calm = to_memory (quick e) g _ calm (DecimalFound answer) o spent
-found {e = e} ForStore answer g o spent calm = to_memory (quick e) g _ calm (StoreFound answer) o spent
-found {e = e} ForRestore answer g o spent calm = to_memory (quick e) g _ calm (RestoreFound answer) o spent
-found {e = e} ForDraw answer g o spent calm = to_sprite (quick e) g _ calm (DrawFound answer) tt o spent
+    → h'.spent ≡ call_time c + answer_time answer (now h).i + 4 → is_event (code (quick e)) d ≡ false → Ends (quick e) (calm_pieces (quick e)) d h'
+found {e = e} ForDecimal answer g o spent calm = to_memory (quick e) g _ calm (DecimalFound answer) o (omega (arith, spent))
+found {e = e} ForStore answer g o spent calm = to_memory (quick e) g _ calm (StoreFound answer) o (omega (arith, spent))
+found {e = e} ForRestore answer g o spent calm = to_memory (quick e) g _ calm (RestoreFound answer) o (omega (arith, spent))
+found {e = e} ForDraw answer g o spent calm = to_sprite (quick e) g _ calm (DrawFound answer) tt o (omega (arith, spent))
 
 -- none of them is at the stop
 no_halt : (c : Caller) → (value (word_of (return_of c)) == at_halt) ≡ false
@@ -153,13 +154,12 @@ module _ (e : Edition) (b : Machine) (h : Since) (f : FitsMachine b) (c : Caller
           count = o.count;
         }
 
-    pub check_comes : h.spent ≤ call_time c → Comes (quick e) (calm_pieces (quick e)) (OfMemory (Check c)) b h
+    pub check_comes : h.spent ≡ call_time c → Comes (quick e) (calm_pieces (quick e)) (OfMemory (Check c)) b h
     check_comes spent =
         forks (OfMemory (Check c)) o.called.holds (checking at_check b) (is_checking o) compared (not (first_df == 1)) at_nowhere at_check_game
         (omega arith) refl
         (λ k h' g. to_memory (quick e) g _ refl (Answering c Nowhere)
-        (checked_on at_nowhere, below_all e i asked (omega (arith, borrowed first_df k, i_is o.called.holds, f.regs.r.ra.hi, f.regs.r.ra.lo)))
-        (omega (arith, spent, g.spent)))
+        (checked_on at_nowhere, below_all e i asked (low k)) (omega (arith, spent, g.spent, outside_low i (low k))))
         (λ k h' g. to_memory (quick e) g _ refl (CheckGame c) (
           record {
             checking = checked_on at_check_game;
@@ -171,6 +171,9 @@ module _ (e : Edition) (b : Machine) (h : Since) (f : FitsMachine b) (c : Caller
           omega (arith, not_borrowed first_df k, i_is o.called.holds),
         )
         (omega (arith, spent, g.spent)))
+      where
+        low : not (first_df == 1) ≡ true → i < memory_start
+        low k = omega (arith, borrowed first_df k, i_is o.called.holds, f.regs.r.ra.hi, f.regs.r.ra.lo)
 
   -- ---- do the bytes lie in game memory, or in the font
 
@@ -221,7 +224,7 @@ module _ (e : Edition) (b : Machine) (h : Since) (f : FitsMachine b) (c : Caller
   abbrev game_high : ℕ
   game_high = page_of e + 256 - b.regs.r.ra.hi - (1 - game_low / 256)
 
-  pub check_game_comes : (o : Comparing (quick e) c at_check_game b (now h)) → memory_start ≤ i → h.spent ≤ call_time c + 20
+  pub check_game_comes : (o : Comparing (quick e) c at_check_game b (now h)) → memory_start ≤ i → h.spent ≡ call_time c + 20
       → Comes (quick e) (calm_pieces (quick e)) (OfMemory (CheckGame c)) b h
   check_game_comes o first spent =
       forks (OfMemory (CheckGame c)) o.checking.called.holds _ (is_comparing o) (left o (game_high % 256) (game_high / 256))
@@ -259,6 +262,7 @@ module _ (e : Edition) (b : Machine) (h : Since) (f : FitsMachine b) (c : Caller
           f.regs.r.ra.hi,
           f.regs.r.ra.lo,
         )),
+        first,
       )
       (omega (arith, spent, g.spent)))
 
@@ -269,30 +273,29 @@ module _ (e : Edition) (b : Machine) (h : Since) (f : FitsMachine b) (c : Caller
   high_is : (o : Comparing (quick e) c at_check_font b (now h)) → i / 256 ≡ b.regs.r.ra.hi
   high_is o = omega (arith, place o, f.regs.r.ra.lo)
 
-  pub check_font_comes : (o : Comparing (quick e) c at_check_font b (now h)) → is_in_memory e i asked ≡ false → h.spent ≤ call_time c + 32
+  pub check_font_comes : (o : Comparing (quick e) c at_check_font b (now h)) → is_in_memory e i asked ≡ false → memory_start ≤ i → h.spent ≡ call_time c + 32
       → Comes (quick e) (calm_pieces (quick e)) (OfMemory (CheckFont c)) b h
-  check_font_comes o outside spent =
+  check_font_comes o outside first spent =
       forks (OfMemory (CheckFont c)) o.checking.called.holds _ (is_comparing o) (left o page_xor b.regs.df)
       (not (page_xor == 0)) at_nowhere at_check_low (omega arith) refl
       (λ k h' g. to_memory (quick e) g _ refl (Answering c Nowhere) (
         (leaves o page_xor b.regs.df at_nowhere).checking,
-        (
-          outside,
-          other_page i asked (few o).0 (λ z. nonzero page_xor k
-              (omega (arith, eqb-true page_xor 0 (same_xor b.regs.r.ra.hi 0x87 (sym (high_is o) ∙ z))))),
-        ),
+        (outside, other_page i asked (few o).0 (other k)),
       )
-      (omega (arith, spent, g.spent)))
+      (omega (arith, spent, g.spent, outside_other i first (other k))))
       (λ k h' g. to_memory (quick e) g _ refl (CheckLow c)
       (leaves o page_xor b.regs.df at_check_low, outside, high_is o ∙ xor_same b.regs.r.ra.hi 0x87 (eq-eqb page_xor 0 (is_zero page_xor k)))
       (omega (arith, spent, g.spent)))
+    where
+      other : not (page_xor == 0) ≡ true → i / 256 ≡ 0x87 → ⊥
+      other k z = nonzero page_xor k (omega (arith, eqb-true page_xor 0 (same_xor b.regs.r.ra.hi 0x87 (sym (high_is o) ∙ z))))
 
   -- the low byte of I is taken from that of FONT_END - n
   abbrev font_low : ℕ
   font_low = (0x50 + 256 - b.regs.r.re.lo) % 256 + 256 - read (both e) b.latch b.ram work
 
   pub check_low_comes : (o : Comparing (quick e) c at_check_low b (now h)) → is_in_memory e i asked ≡ false → i / 256 ≡ 0x87
-      → h.spent ≤ call_time c + 38 → Comes (quick e) (calm_pieces (quick e)) (OfMemory (CheckLow c)) b h
+      → h.spent ≡ call_time c + 38 → Comes (quick e) (calm_pieces (quick e)) (OfMemory (CheckLow c)) b h
   check_low_comes o outside page spent =
       forks (OfMemory (CheckLow c)) o.checking.called.holds _ (is_comparing o) (left o (font_low % 256) (font_low / 256))
       (not (font_low / 256 == 1)) at_nowhere at_in_font (omega (arith, steady o)) refl
@@ -305,7 +308,7 @@ module _ (e : Edition) (b : Machine) (h : Since) (f : FitsMachine b) (c : Caller
               (arith, borrowed (font_low / 256) k, low_is o, o.checking.count, few o, place o, page, f.regs.r.ra.lo)),
         ),
       )
-      (omega (arith, spent, g.spent)))
+      (omega (arith, spent, g.spent, outside_page i page)))
       (λ k h' g. to_memory (quick e) g _ refl (Answering c InFont) (
         (leaves o (font_low % 256) (font_low / 256)
             at_in_font).checking,
@@ -331,7 +334,7 @@ module _ (e : Edition) (b : Machine) (h : Since) (f : FitsMachine b) (c : Caller
   goes_back Nowhere = reaches_in (code (quick e)) (calm_top e) 2 _ _ (omega arith) refl
 
   pub answering_comes : (answer : Answer) → Checking (quick e) c (answer_label answer) b (now h) → IsAnswer e answer i asked
-      → h.spent ≤ call_time c + 46 → Comes (quick e) (calm_pieces (quick e)) (OfMemory (Answering c answer)) b h
+      → h.spent ≡ call_time c + answer_time answer i → Comes (quick e) (calm_pieces (quick e)) (OfMemory (Answering c answer)) b h
   answering_comes answer o is spent =
       reached (OfMemory (Answering c answer)) o.called.holds (answering (answer_label answer))
       (λ j. record b { regs = record b.regs { p = o.p j; r = record b.regs.r { r3 = o.r3 j; rd = o.rd j } } }) (back answer) (goes_back answer)

@@ -12,6 +12,7 @@ use Rattle.chip8_lang.specs.declared.view.Stop.TheVariants.{ReadOutside, WriteOu
 use Rattle.chip8_lang.specs.Editions.{memory_start, memory_end}
 use Rattle.chip8_lang.specs.State.{instr_at, is_in_memory, is_in_font, is_fetchable}
 use Rattle.chip8_lang.specs.Step.{next, stop_of, stored, bytes_from, is_readable}
+use Rattle.chip8_lang.specs.Timed.{outside_cycles, check_cycles}
 use Rattle.chip8_image.specs.Labels.{at_fetch, at_store, at_store_byte, at_store_end, at_restore, at_restore_byte, at_restore_end}
 use Rattle.rom_law.proofs.Moves.{quicks, reaches_in}
 use Rattle.rom_law.specs.Program.{code}
@@ -19,8 +20,8 @@ use Rattle.rom_law.specs.Holding.{places, Holding}
 use Rattle.rom_law.specs.Rows.{Since, now}
 use Rattle.rom_law.proofs.Places.{i_is, i_set, v_get, v_set, memory_set}
 use Rattle.rom_law.proofs.Kept.{Comes}
-use Rattle.rom_rows.specs.Heads.{high_byte, low_byte, page_of, Enters}
-use Rattle.rom_rows.specs.Checks.{Calls, Checked, Answer}
+use Rattle.rom_rows.specs.Heads.{to_stop, high_byte, low_byte, page_of, Enters}
+use Rattle.rom_rows.specs.Checks.{answer_time, Calls, Checked, Answer}
 use Rattle.rom_rows.specs.Checks.Caller.{ForStore, ForRestore}
 use Rattle.rom_rows.specs.Checks.Answer.{InGame, InFont, Nowhere}
 use Rattle.rom_rows.specs.MemoryBlocks.{memory_at, last_of, Copying, Turn, stored_to, fetched_to}
@@ -29,6 +30,7 @@ use Rattle.rom_rows.specs.Table.{calm_pieces, calm_top}
 use Rattle.rom_rows.specs.Table.Block.{OfMemory}
 use Rattle.rom_rows.proofs.Bits.{nonzero, is_zero}
 use Rattle.rom_rows.proofs.Bytes.{memory_end_is, variables_is, stack_top_is, page_fits}
+use Rattle.rom_rows.proofs.Times.{outside_font}
 use Rattle.rom_rows.proofs.Follows.{to_memory}
 use Rattle.rom_rows.proofs.Font.{Readable, readable_get}
 use Rattle.rom_rows.proofs.Straight.{routine}
@@ -100,7 +102,10 @@ module _ (e : Edition) (b : Machine) (h : Since) (f : FitsMachine b) where
   store_stops : is_fetchable e (now h) ≡ true → Calls ForStore (now h) → is_in_memory e i (last + 1) ≡ false → stop_of e (now h) ≡ Some WriteOutside
   store_stops inside k outside = rw (inside, k.0, k.1, outside) refl
 
-  pub store_found_comes : (answer : Answer) → Checked (quick e) ForStore answer b (now h) → h.spent ≤ 196
+  store_time : is_fetchable e (now h) ≡ true → Calls ForStore (now h) → to_stop (quick e) (now h) ≡ 198 + outside_cycles i
+  store_time inside k = rw (inside, k.0, k.1) refl
+
+  pub store_found_comes : (answer : Answer) → Checked (quick e) ForStore answer b (now h) → h.spent ≡ 150 + answer_time answer i
       → Comes (quick e) (calm_pieces (quick e)) (OfMemory (StoreFound answer)) b h
   store_found_comes InGame o spent = straight (OfMemory (StoreFound InGame)) o.called.holds _ (is_resumed o) _ (omega arith) refl
       (λ h' g. to_memory (quick e) g _ refl (StoreByte 0) (
@@ -121,10 +126,11 @@ module _ (e : Edition) (b : Machine) (h : Since) (f : FitsMachine b) where
       ) (omega (arith, spent, g.spent)))
   store_found_comes InFont o spent =
       refused (OfMemory (StoreFound InFont)) WriteOutside o (store_stops o.called.inside o.called.calls o.is.0)
-      (reaches_in (code (quick e)) (calm_top e) 3 _ _ (omega arith) refl) (omega (arith, spent))
+      (reaches_in (code (quick e)) (calm_top e) 3 _ _ (omega arith) refl)
+      (omega (arith, spent, store_time o.called.inside o.called.calls, outside_font i (last + 1) o.is.1))
   store_found_comes Nowhere o spent =
       refused (OfMemory (StoreFound Nowhere)) WriteOutside o (store_stops o.called.inside o.called.calls o.is.0)
-      (reaches_in (code (quick e)) (calm_top e) 3 _ _ (omega arith) refl) (omega (arith, spent))
+      (reaches_in (code (quick e)) (calm_top e) 3 _ _ (omega arith) refl) (omega (arith, spent, store_time o.called.inside o.called.calls))
 
   restore_stops : is_fetchable e (now h) ≡ true → Calls ForRestore (now h) → is_in_memory e i (last + 1) ≡ false → is_in_font i (last + 1) ≡ false
       → stop_of e (now h) ≡ Some ReadOutside
@@ -165,17 +171,26 @@ module _ (e : Edition) (b : Machine) (h : Since) (f : FitsMachine b) where
     readable,
   )
 
-  pub restore_found_comes : (answer : Answer) → Checked (quick e) ForRestore answer b (now h) → h.spent ≤ 202
+  restore_time : is_fetchable e (now h) ≡ true → Calls ForRestore (now h) → to_stop (quick e) (now h) ≡ 206 + outside_cycles i
+  restore_time inside k = rw (inside, k.0, k.1) refl
+
+  check_none : is_in_memory e i (last + 1) ≡ true → check_cycles e (now h) (last + 1) ≡ 0
+  check_none fits = rw fits refl
+
+  check_some : is_in_memory e i (last + 1) ≡ false → check_cycles e (now h) (last + 1) ≡ 14
+  check_some outside = rw outside refl
+
+  pub restore_found_comes : (answer : Answer) → Checked (quick e) ForRestore answer b (now h) → h.spent ≡ 156 + answer_time answer i
       → Comes (quick e) (calm_pieces (quick e)) (OfMemory (RestoreFound answer)) b h
   restore_found_comes InGame o spent =
       straight (OfMemory (RestoreFound InGame)) o.called.holds _ (is_resumed o) begun (omega arith) refl
-      (λ h' g. to_memory (quick e) g begun refl (RestoreByte 0) (begins o (rw o.is refl)) (omega (arith, spent, g.spent)))
+      (λ h' g. to_memory (quick e) g begun refl (RestoreByte 0) (begins o (rw o.is refl)) (omega (arith, spent, g.spent, check_none o.is)))
   restore_found_comes InFont o spent =
       straight (OfMemory (RestoreFound InFont)) o.called.holds _ (is_resumed o) begun (omega arith) refl
-      (λ h' g. to_memory (quick e) g begun refl (RestoreByte 0) (begins o (rw (o.is.0, o.is.1) refl)) (omega (arith, spent, g.spent)))
+      (λ h' g. to_memory (quick e) g begun refl (RestoreByte 0) (begins o (rw (o.is.0, o.is.1) refl)) (omega (arith, spent, g.spent, check_some o.is.0)))
   restore_found_comes Nowhere o spent =
       refused (OfMemory (RestoreFound Nowhere)) ReadOutside o (restore_stops o.called.inside o.called.calls o.is.0 o.is.1)
-      (reaches_in (code (quick e)) (calm_top e) 4 _ _ (omega arith) refl) (omega (arith, spent))
+      (reaches_in (code (quick e)) (calm_top e) 4 _ _ (omega arith) refl) (omega (arith, spent, restore_time o.called.inside o.called.calls))
 
   -- ---- a turn
 
@@ -252,7 +267,7 @@ module _ (e : Edition) (b : Machine) (h : Since) (f : FitsMachine b) where
             ∙ stored_next (now h).memory (i - memory_start) (now h).v k (omega (arith, small, v_length o.holds))
 
   pub store_byte_comes : (k : ℕ) → Copying (quick e) ForStore at_store_byte (stored_to k (now h)) b (now h) → Turn (quick e) k b (now h)
-      → is_in_memory e i (last + 1) ≡ true → h.spent ≤ 206 + 12 * k → Comes (quick e) (calm_pieces (quick e)) (OfMemory (StoreByte k)) b h
+      → is_in_memory e i (last + 1) ≡ true → h.spent ≡ 192 + 12 * k → Comes (quick e) (calm_pieces (quick e)) (OfMemory (StoreByte k)) b h
   store_byte_comes k o t fits spent =
       forks (OfMemory (StoreByte k)) o.holds (turning at_store_byte k)
       (λ j. record b { regs = record b.regs { p = o.p j; r = record b.regs.r { r3 = o.r3 j; r4 = o.r4 j; rd = t.rd j } } })
@@ -328,7 +343,8 @@ module _ (e : Edition) (b : Machine) (h : Since) (f : FitsMachine b) where
             ∙ fetched_next (now h) i (now h).v k (omega (arith, left, fetched_length (now h) i k (now h).v, v_length o.holds))
 
   pub restore_byte_comes : (k : ℕ) → Copying (quick e) ForRestore at_restore_byte (fetched_to k (now h)) b (now h) → Turn (quick e) k b (now h)
-      → is_readable e i (last + 1) ≡ true → h.spent ≤ 214 + 12 * k → Comes (quick e) (calm_pieces (quick e)) (OfMemory (RestoreByte k)) b h
+      → is_readable e i (last + 1) ≡ true → h.spent ≡ 200 + check_cycles e (now h) (last + 1) + 12 * k
+      → Comes (quick e) (calm_pieces (quick e)) (OfMemory (RestoreByte k)) b h
   restore_byte_comes k o t fits spent =
       forks (OfMemory (RestoreByte k)) o.holds (turning at_restore_byte k)
       (λ j. record b { regs = record b.regs { p = o.p j; r = record b.regs.r { r3 = o.r3 j; r4 = o.r4 j; rd = t.rd j } } })

@@ -12,6 +12,7 @@ use Rattle.chip8_lang.specs.declared.view.Stop.TheVariants.{WriteOutside}
 use Rattle.chip8_lang.specs.Editions.{memory_start, memory_end}
 use Rattle.chip8_lang.specs.State.{Lang, instr_at, is_in_memory, is_fetchable}
 use Rattle.chip8_lang.specs.Step.{next, stop_of, stored, digits}
+use Rattle.chip8_lang.specs.Timed.{outside_cycles}
 use Rattle.chip8_image.specs.Labels.{at_fetch, at_decimal, at_hundreds, at_hundreds_end, at_tens, at_tens_end}
 use Rattle.rom_law.proofs.Moves.{reaches_in}
 use Rattle.rom_law.specs.Program.{Program, code}
@@ -19,8 +20,8 @@ use Rattle.rom_law.specs.Holding.{Places, places, Holding}
 use Rattle.rom_law.specs.Rows.{Since, now}
 use Rattle.rom_law.proofs.Places.{i_is, memory_set}
 use Rattle.rom_law.proofs.Kept.{Comes}
-use Rattle.rom_rows.specs.Heads.{high_byte, low_byte, Enters}
-use Rattle.rom_rows.specs.Checks.{Calls, Checked, Answer}
+use Rattle.rom_rows.specs.Heads.{to_stop, high_byte, low_byte, Enters}
+use Rattle.rom_rows.specs.Checks.{Calls, Checked, Answer, answer_time}
 use Rattle.rom_rows.specs.Checks.Caller.{ForDecimal}
 use Rattle.rom_rows.specs.Checks.Answer.{InGame, InFont, Nowhere}
 use Rattle.rom_rows.specs.MemoryBlocks.{variable_x, Dividing}
@@ -29,6 +30,7 @@ use Rattle.rom_rows.specs.Table.{calm_pieces, calm_top}
 use Rattle.rom_rows.specs.Table.Block.{OfMemory}
 use Rattle.rom_rows.proofs.Bytes.{memory_end_is, stack_top_is, page_fits}
 use Rattle.rom_rows.proofs.Entry.{on_3, is_on_3}
+use Rattle.rom_rows.proofs.Times.{outside_font}
 use Rattle.rom_rows.proofs.Follows.{to_memory}
 use Rattle.rom_rows.proofs.Straight.{routine}
 use Rattle.rom_rows.proofs.Ways.{straight, forks}
@@ -60,6 +62,9 @@ module _ (e : Edition) (b : Machine) (h : Since) (f : FitsMachine b) where
   decimal_stops : is_fetchable e (now h) ≡ true → Calls ForDecimal (now h) → is_in_memory e i 3 ≡ false → stop_of e (now h) ≡ Some WriteOutside
   decimal_stops inside k outside = rw (inside, k.0, k.1, outside) refl
 
+  decimal_time : is_fetchable e (now h) ≡ true → Calls ForDecimal (now h) → to_stop (quick e) (now h) ≡ 188 + outside_cycles i
+  decimal_time inside k = rw (inside, k.0, k.1) refl
+
   -- ---- up to the loops
 
   pub decimal_comes : Enters (quick e) at_decimal 15 b (now h) → low_byte (now h) ≡ 0x33 → h.spent ≡ 122
@@ -81,7 +86,7 @@ module _ (e : Edition) (b : Machine) (h : Since) (f : FitsMachine b) where
         count = refl;
       }) (omega (arith, spent, g.spent)))
 
-  pub decimal_found_comes : (answer : Answer) → Checked (quick e) ForDecimal answer b (now h) → h.spent ≤ 186
+  pub decimal_found_comes : (answer : Answer) → Checked (quick e) ForDecimal answer b (now h) → h.spent ≡ 140 + answer_time answer i
       → Comes (quick e) (calm_pieces (quick e)) (OfMemory (DecimalFound answer)) b h
   decimal_found_comes InGame o spent =
       straight (OfMemory (DecimalFound InGame)) o.called.holds _ (is_resumed o) _ (omega (arith, o.called.holds.stack, stack_top_is e)) refl
@@ -107,10 +112,12 @@ module _ (e : Edition) (b : Machine) (h : Since) (f : FitsMachine b) where
       ) (omega (arith, spent, g.spent)))
   decimal_found_comes InFont o spent =
       refused (OfMemory (DecimalFound InFont)) WriteOutside o (decimal_stops o.called.inside o.called.calls o.is.0)
-      (reaches_in (code (quick e)) (calm_top e) 3 _ _ (omega arith) refl) (omega (arith, spent))
+      (reaches_in (code (quick e)) (calm_top e) 3 _ _ (omega arith) refl)
+      (omega (arith, spent, decimal_time o.called.inside o.called.calls, outside_font i 3 o.is.1))
   decimal_found_comes Nowhere o spent =
       refused (OfMemory (DecimalFound Nowhere)) WriteOutside o (decimal_stops o.called.inside o.called.calls o.is.0)
-      (reaches_in (code (quick e)) (calm_top e) 3 _ _ (omega arith) refl) (omega (arith, spent))
+      (reaches_in (code (quick e)) (calm_top e) 3 _ _ (omega arith) refl)
+      (omega (arith, spent, decimal_time o.called.inside o.called.calls))
 
   -- ---- the loops
 
@@ -147,7 +154,7 @@ module _ (e : Edition) (b : Machine) (h : Since) (f : FitsMachine b) where
           d = is_d;
         }
 
-  pub hundreds_comes : (k : ℕ) → Dividing (quick e) at_hundreds k 0 (vx - k * 100) b (now h) → k * 100 ≤ vx → h.spent ≤ 204 + 6 * k
+  pub hundreds_comes : (k : ℕ) → Dividing (quick e) at_hundreds k 0 (vx - k * 100) b (now h) → k * 100 ≤ vx → h.spent ≡ 190 + 6 * k
       → Comes (quick e) (calm_pieces (quick e)) (OfMemory (Hundreds k)) b h
   hundreds_comes k o left spent =
       forks (OfMemory (Hundreds k)) o.called.holds (on_3 at_hundreds b) (is_on_3 at_hundreds b o.p o.r3) (lowered o 100 (up b.regs.r.rd) b.regs.r.re)
@@ -159,9 +166,9 @@ module _ (e : Edition) (b : Machine) (h : Since) (f : FitsMachine b) where
       (λ t h' g. let all = counted vx 100 k b.regs.d (fits o) (omega arith) (omega arith) left o.d (eqb-false (lessened o 100 / 256) 1 t) in
       to_memory (quick e) g _ refl HundredsEnd
       (goes_on o 100 _ _ at_hundreds_end (vx / 100 + 1) 0 (vx % 100 + 156) (omega (arith, o.rd, all.0, fits o)) o.re (omega (arith, all.1)))
-      (omega (arith, spent, g.spent, left, fits o)))
+      (omega (arith, spent, g.spent, o.rd, all.0, fits o, left)))
 
-  pub hundreds_end_comes : Dividing (quick e) at_hundreds_end (vx / 100 + 1) 0 (vx % 100 + 156) b (now h) → h.spent ≤ 222
+  pub hundreds_end_comes : Dividing (quick e) at_hundreds_end (vx / 100 + 1) 0 (vx % 100 + 156) b (now h) → h.spent ≡ 196 + 6 * (vx / 100)
       → Comes (quick e) (calm_pieces (quick e)) (OfMemory HundredsEnd) b h
   hundreds_end_comes o spent = straight (OfMemory HundredsEnd) o.called.holds (on_3 at_hundreds_end b) (is_on_3 at_hundreds_end b o.p o.r3) _ (omega arith) refl
       (λ h' g. to_memory (quick e) g _ refl (Tens 0) (
@@ -185,7 +192,7 @@ module _ (e : Edition) (b : Machine) (h : Since) (f : FitsMachine b) where
         omega arith,
       ) (omega (arith, spent, g.spent)))
 
-  pub tens_comes : (k : ℕ) → Dividing (quick e) at_tens (vx / 100) k (vx % 100 - k * 10) b (now h) → k * 10 ≤ vx % 100 → h.spent ≤ 226 + 6 * k
+  pub tens_comes : (k : ℕ) → Dividing (quick e) at_tens (vx / 100) k (vx % 100 - k * 10) b (now h) → k * 10 ≤ vx % 100 → h.spent ≡ 200 + 6 * (vx / 100) + 6 * k
       → Comes (quick e) (calm_pieces (quick e)) (OfMemory (Tens k)) b h
   tens_comes k o left spent =
       forks (OfMemory (Tens k)) o.called.holds (on_3 at_tens b) (is_on_3 at_tens b o.p o.r3) (lowered o 10 b.regs.r.rd (up b.regs.r.re))
@@ -198,7 +205,7 @@ module _ (e : Edition) (b : Machine) (h : Since) (f : FitsMachine b) where
       counted (vx % 100) 10 k b.regs.d (omega arith) (omega arith) (omega arith) left o.d (eqb-false (lessened o 10 / 256) 1 t) in
       to_memory (quick e) g _ refl TensEnd
       (goes_on o 10 _ _ at_tens_end (vx / 100) (vx / 10 % 10 + 1) (vx % 10 + 246) o.rd (omega (arith, o.re, all.0)) (omega (arith, all.1)))
-      (omega (arith, spent, g.spent, left)))
+      (omega (arith, spent, g.spent, o.re, all.0, left)))
 
   -- ---- the digits are written
 

@@ -19,20 +19,20 @@ use Rattle.rom_rows.specs.Table.Block.{OfFetch, OfArith, OfMemory, OfSprite, OfT
 use Rattle.rom_rows.specs.Table.Place.{AtTimer, AtKey, AtSprite}
 
 module _ (x : Program) {k : ℕ} {h h' : Since} (g : Grows h k 0 h') (c : Machine) (calm : is_event (code x) c ≡ false) where
-  pub to_fetch : (l : FetchBlock) → fetch_at x l c (now h) → Within (fetch_time l) h' → Ends x (calm_pieces x) c h'
-  to_fetch l at w = Continues calm (Enters (OfFetch l) ((subst (fetch_at x l c) (sym (now_same g)) at, w), tt))
+  pub to_fetch : (l : FetchBlock) → fetch_at x l c (now h) → Within (fetch_time x l (now h)) h' → Ends x (calm_pieces x) c h'
+  to_fetch l at w = Continues calm (Enters (OfFetch l) (subst (λ s. fetch_at x l c s × Within (fetch_time x l s) h') (sym (now_same g)) (at, w), tt))
 
-  pub to_arith : (l : ArithBlock) → arith_at x l c (now h) → Within (arith_time l) h' → Ends x (calm_pieces x) c h'
-  to_arith l at w = Continues calm (Enters (OfArith l) ((subst (arith_at x l c) (sym (now_same g)) at, w), tt))
+  pub to_arith : (l : ArithBlock) → arith_at x l c (now h) → Within (arith_time x l (now h)) h' → Ends x (calm_pieces x) c h'
+  to_arith l at w = Continues calm (Enters (OfArith l) (subst (λ s. arith_at x l c s × Within (arith_time x l s) h') (sym (now_same g)) (at, w), tt))
 
-  pub to_memory : (l : MemoryBlock) → memory_at x l c (now h) → Within (memory_time l) h' → Ends x (calm_pieces x) c h'
-  to_memory l at w = Continues calm (Enters (OfMemory l) ((subst (memory_at x l c) (sym (now_same g)) at, w), tt))
+  pub to_memory : (l : MemoryBlock) → memory_at x l c (now h) → Within (memory_time x l (now h)) h' → Ends x (calm_pieces x) c h'
+  to_memory l at w = Continues calm (Enters (OfMemory l) (subst (λ s. memory_at x l c s × Within (memory_time x l s) h') (sym (now_same g)) (at, w), tt))
 
-  pub to_sprite : (l : SpriteBlock) → IsEarly l → sprite_at x l c (now h) → Within (sprite_time l) h' → Ends x (calm_pieces x) c h'
-  to_sprite l early at w = Continues calm (Enters (OfSprite l) ((subst (sprite_at x l c) (sym (now_same g)) at, w), early))
+  pub to_sprite : (l : SpriteBlock) → IsEarly l → sprite_at x l c (now h) → Within (sprite_time x l (now h)) h' → Ends x (calm_pieces x) c h'
+  to_sprite l early at w = Continues calm (Enters (OfSprite l) (subst (λ s. sprite_at x l c s × Within (sprite_time x l s) h') (sym (now_same g)) (at, w), early))
 
-  pub to_sprite_place : (l : SpritePlace) → sprite_place_at x l c (now h) → Within (sprite_place_time l) h' → Ends x (calm_pieces x) c h'
-  to_sprite_place l at w = Continues calm (Meets (AtSprite l) (subst (sprite_place_at x l c) (sym (now_same g)) at, w))
+  pub to_sprite_place : (l : SpritePlace) → sprite_place_at x l c (now h) → Within (sprite_place_time x l (now h)) h' → Ends x (calm_pieces x) c h'
+  to_sprite_place l at w = Continues calm (Meets (AtSprite l) (subst (λ s. sprite_place_at x l c s × Within (sprite_place_time x l s) h') (sym (now_same g)) (at, w)))
 
   pub to_timer : (l : TimerBlock) → timer_at x l c (now h) → Within (timer_time l) h' → Ends x (calm_pieces x) c h'
   to_timer l at w = Continues calm (Enters (OfTimer l) ((subst (timer_at x l c) (sym (now_same g)) at, w), tt))

@@ -4,6 +4,8 @@ use Rattle.machine.specs.Bank.{word, value}
 use Rattle.std.specs.Prelude.{◌==◌}
 use Rattle.machine.specs.Board.{Machine}
 use Rattle.machine.specs.Ranges.{FitsMachine}
+use Rattle.chip8_lang.specs.declared.instr.Instr.{Instr}
+use Rattle.chip8_lang.specs.declared.instr.Instr.TheVariants.{Draw}
 use Rattle.chip8_lang.specs.declared.view.Edition.{Edition}
 use Rattle.chip8_lang.specs.declared.view.Edition.TheVariants.{Usual, Tall}
 use Rattle.chip8_lang.specs.Editions.{stack_top, sprite_work}
@@ -11,12 +13,14 @@ use Rattle.chip8_lang.specs.Screen.{Pixels}
 use Rattle.chip8_lang.specs.State.{Lang, variable, is_fetchable}
 use Rattle.chip8_lang.specs.Step.{next}
 use Rattle.chip8_lang.specs.Ticks.{tick, ticks}
+use Rattle.chip8_lang.specs.Timed.{before_wait}
 use Rattle.rom_law.specs.Later.{After, Steady}
 use Rattle.rom_law.specs.Program.{Program, code}
 use Rattle.rom_law.specs.Holding.{places, Holding}
 use Rattle.rom_law.proofs.Later.{holding_after}
 use Rattle.rom_rows.specs.Heads.{high_byte, low_byte, page_of, Entered, Enters}
-use Rattle.rom_rows.specs.SpriteBlocks.{Clearing, cleared_to, Painting, painted, height, lit}
+use Rattle.rom_rows.specs.SpriteBlocks.{SpritePlace, sprite_place_time, Clearing, cleared_to, Painting, painted, height, lit}
+use Rattle.rom_rows.specs.SpriteBlocks.SpritePlace.{ClearWait, ClearIdle, DrawWait, DrawIdle}
 use Rattle.rom_rows.specs.TimerBlocks.{Mixes}
 use Rattle.rom_rows.specs.KeyBlocks.{Skipping, Waiting, Turning, skip_key}
 
@@ -52,6 +56,17 @@ ticks_timed : (n : ℕ) (s : Lang) → timed (ticks n s) s ≡ ticks n s
 ticks_timed zero s = refl
 ticks_timed (suc n) s =
     λ i. record (ticks_timed n s i) { dt = (ticks (suc n) s).dt; st = (ticks (suc n) s).st; tone = (ticks (suc n) s).tone; n = (ticks (suc n) s).n }
+
+-- so they leave how long 00E0 and DXYN take before they wait, and the time of a place
+pub before_ticks : (e : Edition) (i : Instr) (n : ℕ) (s : Lang) → before_wait e i (ticks n s) ≡ before_wait e i s
+before_ticks e (Draw x y k) n s = ap (before_wait e (Draw x y k)) (sym (ticks_timed n s))
+before_ticks e _ n s = refl
+
+pub place_time_later : (x : Program) (n : ℕ) (l : SpritePlace) (s : Lang) → sprite_place_time x l (ticks n s) ≡ sprite_place_time x l s
+place_time_later x n ClearWait s = refl
+place_time_later x n ClearIdle s = refl
+place_time_later x n DrawWait s = ap (sprite_place_time x DrawWait) (sym (ticks_timed n s))
+place_time_later x n DrawIdle s = ap (sprite_place_time x DrawIdle) (sym (ticks_timed n s))
 
 ticks_shown : (n : ℕ) (d : Pixels) (s : Lang) → ticks n (record (next s) { screen = d }) ≡ record (next (ticks n s)) { screen = d }
 ticks_shown zero d s = refl

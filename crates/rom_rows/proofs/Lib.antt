@@ -7,6 +7,7 @@ pub mod Steps
 pub mod Follows
 pub mod Calm
 pub mod Sounds
+pub mod Times
 pub mod Straight
 pub mod Branches
 pub mod Addresses

@@ -13,7 +13,7 @@ use Rattle.rom_law.proofs.Language.{ticks_add}
 use Rattle.rom_law.proofs.Kept.{Comes, Holds, Sound, block_moves, place_moves, place_ticks}
 use Rattle.rom_rows.specs.Rom.{program_of}
 use Rattle.rom_rows.specs.Heads.{Time, Within}
-use Rattle.rom_rows.specs.Heads.Time.{Exactly, AtMost, Anytime, Waited}
+use Rattle.rom_rows.specs.Heads.Time.{Exactly, Left, Anytime, Waited}
 use Rattle.rom_rows.specs.FetchBlocks.{FetchBlock, fetch_moves}
 use Rattle.rom_rows.specs.FetchBlocks.FetchBlock.{Fetch, Upper, Inside, Outside, Misc, Unknown83, Leave, Stop, Stopped}
 use Rattle.rom_rows.specs.ArithBlocks.ArithBlock.{System, SystemLow, SystemBack, MachineCode, Return, ReturnTake, Empty, JumpTo, Call, CallPut, Full, JumpPlus}
@@ -35,7 +35,7 @@ use Rattle.rom_rows.specs.Table.{Block, Place as AnyPlace, Head, At, moves, piec
 use Rattle.rom_rows.specs.Table.Block.{OfFetch, OfArith, OfMemory, OfSprite, OfTimer, OfKey}
 use Rattle.rom_rows.specs.Table.Place.{AtTimer, AtKey, AtSprite}
 use Rattle.rom_rows.proofs.Calm.{comes_calm, holds_calm}
-use Rattle.rom_rows.proofs.Later.{enters_later, ticks_low, loaded_later, mixes_later, skip_key_later, skipping_later, waiting_later, turning_later, latched_later, counted_later, clearing_later, painting_later}
+use Rattle.rom_rows.proofs.Later.{enters_later, ticks_low, loaded_later, mixes_later, place_time_later, skip_key_later, skipping_later, waiting_later, turning_later, latched_later, counted_later, clearing_later, painting_later}
 
 fetch_some : (l : FetchBlock) → 0 < fetch_moves l
 fetch_some Fetch = omega arith
@@ -167,7 +167,7 @@ some (OfKey l) = key_some l
 -- ticks take no main cycles
 within_later : (t : Time) (h : Since) (n : ℕ) → Within t h → Within t (after_ticks n h)
 within_later (Exactly m) h n w = w
-within_later (AtMost m) h n w = w
+within_later (Left m k) h n w = w
 within_later Anytime h n w = w
 within_later (Waited m) h n w = (w.0, omega (arith, w.1))
 
@@ -205,7 +205,11 @@ module _ (e : Edition) (rom : List ℕ) where
             (counted_later (program_of e rom) n k f (now h))) p.2,
       )
   later (AtSprite l) b h f o i n c k =
-      (subst (sprite_place_at (program_of e rom) l c) (ticks_add n h.ticks h.state) (sprite_later l o.0), within_later (sprite_place_time l) h n o.1)
+      subst (λ s. sprite_place_at (program_of e rom) l c s × Within (sprite_place_time (program_of e rom) l s) (after_ticks n h)) (ticks_add n h.ticks h.state) (
+        sprite_later l o.0,
+        subst (λ t. Within t (after_ticks n h)) (sym (place_time_later (program_of e rom) n l (now h)))
+            (within_later (sprite_place_time (program_of e rom) l (now h)) h n o.1),
+      )
     where
       asleep : true ≡ false → ⊥
       asleep r = cc

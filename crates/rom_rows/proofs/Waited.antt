@@ -20,8 +20,9 @@ use Rattle.rom_rows.proofs.Sounds.{some}
 
 -- a block behind a wait follows at the end of one
 pub to_waited : (x : Program) {k : ℕ} {h h' : Since} (g : Grows h k 0 h') (c : Machine) (calm : is_event (code x) c ≡ false) (l : SpriteBlock)
-    (w : IsWaited l) → sprite_at x l c (now h) → Within (sprite_time l) h' → Ends x (waited_pieces x) c h'
-to_waited x g c calm l w at t = Continues calm (Enters (l, w) (subst (sprite_at x l c) (sym (now_same g)) at, t))
+    (w : IsWaited l) → sprite_at x l c (now h) → Within (sprite_time x l (now h)) h' → Ends x (waited_pieces x) c h'
+to_waited x {h' = h'} g c calm l w at t =
+    Continues calm (Enters (l, w) (subst (λ s. sprite_at x l c s × Within (sprite_time x l s) h') (sym (now_same g)) (at, t)))
 
 pub joined : (x : Program) {l : (waited_pieces x).Block} {b : Machine} {h : Since} → InBlock x (waited_pieces x) l b h → InBlock x (pieces x) (OfSprite l.0) b h
 joined x r = record { start = r.start; since = r.since; k = r.k; n = r.n; inside = r.inside; grows = r.grows; fits = r.fits; head = r.head; after = r.after }

@@ -9,8 +9,8 @@ use Rattle.chip8_lang.specs.Step.{skip_if, set_with_flag, step}
 use Rattle.chip8_lang.specs.Step.KeyInput.{Nothing}
 use Rattle.chip8_image.specs.Labels.{at_system, at_system_low, at_system_back, at_machine, at_return, at_return_take, at_empty, at_jump, at_call, at_call_put, at_full, at_jump_plus, at_load, at_add, at_skip_eq, at_skip_eq_no, at_skip_ne, at_skip_ne_no, at_skip_same, at_skip_same_test, at_skip_same_no, at_skip_differ, at_differ_test, at_differ_no, at_skip, at_unknown81, at_arith, at_slot0, at_copy, at_vx_or, at_vx_and, at_vx_xor, at_sum, at_less, at_right, at_from, at_left, at_no_flag, at_flag, at_unknown82}
 use Rattle.rom_law.specs.Program.{Program}
-use Rattle.rom_rows.specs.Heads.{Time, from, high_byte, low_byte, Entered, Enters}
-use Rattle.rom_rows.specs.Heads.Time.{Exactly, AtMost}
+use Rattle.rom_rows.specs.Heads.{Time, to_stop, to_dispatch, from, high_byte, low_byte, Entered, Enters}
+use Rattle.rom_rows.specs.Heads.Time.{Exactly, Left}
 
 pub data ArithBlock : Type 0 where
   -- 0MMM: the tests of its high byte, for 00E0 and for 00EE, and the stop
@@ -144,24 +144,24 @@ arith_moves (Operation n) = suc (slice_index operation_lengths n)
 arith_moves Flag = 9
 arith_moves Unknown82 = 2
 
-abbrev pub arith_time : ArithBlock → Time
-arith_time SystemLow = AtMost 84
-arith_time SystemBack = AtMost 90
-arith_time MachineCode = AtMost 96
-arith_time Return = AtMost 96
-arith_time ReturnTake = AtMost 102
-arith_time Empty = AtMost 102
-arith_time CallPut = AtMost 86
-arith_time Full = AtMost 86
-arith_time SameTest = Exactly 86
-arith_time DifferTest = Exactly 86
-arith_time (NoSkip i) = AtMost 94
-arith_time Skip = AtMost 94
-arith_time Unknown81 = AtMost 86
-arith_time (Operation n) = Exactly 92
-arith_time Flag = AtMost 102
-arith_time Unknown82 = AtMost 94
-arith_time _ = Exactly 80
+abbrev pub arith_time : Program → ArithBlock → Lang → Time
+arith_time x SystemLow s = Exactly 84
+arith_time x SystemBack s = Exactly 90
+arith_time x MachineCode s = Left 26 (to_stop x s)
+arith_time x Return s = Exactly 96
+arith_time x ReturnTake s = Exactly 102
+arith_time x Empty s = Left 26 (to_stop x s)
+arith_time x CallPut s = Exactly 86
+arith_time x Full s = Left 26 (to_stop x s)
+arith_time x SameTest s = Exactly 86
+arith_time x DifferTest s = Exactly 86
+arith_time x (NoSkip i) s = Left 2 (to_dispatch x s)
+arith_time x Skip s = Left 6 (to_dispatch x s)
+arith_time x Unknown81 s = Left 26 (to_stop x s)
+arith_time x (Operation n) s = Exactly 92
+arith_time x Flag s = Left 18 (to_dispatch x s)
+arith_time x Unknown82 s = Left 26 (to_stop x s)
+arith_time x _ s = Exactly 80
 
 -- where the code of each of 8XY0 to 8XYF begins
 abbrev pub operation_labels : List ℕ

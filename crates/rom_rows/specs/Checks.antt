@@ -6,6 +6,7 @@ use Rattle.chip8_lang.specs.declared.view.Edition.{Edition}
 use Rattle.chip8_lang.specs.Editions.{sprite_work}
 use Rattle.chip8_lang.specs.State.{Lang, is_in_memory, is_in_font, is_fetchable}
 use Rattle.chip8_lang.specs.Step.{next}
+use Rattle.chip8_lang.specs.Timed.{outside_cycles}
 use Rattle.chip8_image.specs.Labels.{at_fetch, at_decimal_found, at_store_found, at_restore_found, at_draw_found}
 use Rattle.rom_law.specs.Program.{Program}
 use Rattle.rom_law.specs.Holding.{places, Holding}
@@ -41,7 +42,7 @@ return_of ForStore = at_store_found
 return_of ForRestore = at_restore_found
 return_of ForDraw = at_draw_found
 
--- the most main cycles from the dispatch to the call
+-- the main cycles from the dispatch to the call
 abbrev pub call_time : Caller → ℕ
 call_time ForDecimal = 136
 call_time ForStore = 146
@@ -54,6 +55,12 @@ pub data Answer : Type 0 where
   InGame : Answer
   InFont : Answer
   Nowhere : Answer
+
+-- the main cycles from the call to it
+abbrev pub answer_time : Answer → ℕ → ℕ
+answer_time InGame i = 32
+answer_time InFont i = 46
+answer_time Nowhere i = 20 + outside_cycles i
 
 -- its number
 abbrev pub answer_number : Answer → ℕ

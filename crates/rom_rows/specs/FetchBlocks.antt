@@ -6,8 +6,8 @@ use Rattle.chip8_lang.specs.State.{Lang, is_fetchable}
 use Rattle.chip8_lang.specs.Step.{next}
 use Rattle.chip8_image.specs.Labels.{at_outside, at_dispatch, at_fetch, at_upper, at_inside, at_stop, at_stopped, at_misc, at_misc_0A, at_misc_15, at_misc_18, at_misc_1E, at_misc_29, at_misc_33, at_misc_55, at_misc_65, at_unknown83, at_leave81}
 use Rattle.rom_law.specs.Program.{Program}
-use Rattle.rom_rows.specs.Heads.{Time, from, low_byte, Fetching, Enters, Leaving, Stopping}
-use Rattle.rom_rows.specs.Heads.Time.{Exactly, AtMost}
+use Rattle.rom_rows.specs.Heads.{Time, to_stop, from, low_byte, Fetching, Enters, Leaving, Stopping}
+use Rattle.rom_rows.specs.Heads.Time.{Exactly, Left}
 
 pub data FetchBlock : Type 0 where
   -- the fetch up to the test of the least pc, up to that of the greatest, and the rest up to the dispatch
@@ -58,16 +58,16 @@ fetch_moves (Leave i) = 3
 fetch_moves Stop = 2
 fetch_moves Stopped = 6
 
-abbrev pub fetch_time : FetchBlock → Time
-fetch_time Fetch = Exactly 0
-fetch_time Upper = Exactly 6
-fetch_time Inside = Exactly 16
-fetch_time Outside = AtMost 16
-fetch_time (Misc i) = Exactly (80 + 6 * i)
-fetch_time Unknown83 = Exactly 134
-fetch_time (Leave i) = AtMost 210
-fetch_time Stop = AtMost 216
-fetch_time Stopped = AtMost 220
+abbrev pub fetch_time : Program → FetchBlock → Lang → Time
+fetch_time x Fetch s = Exactly 0
+fetch_time x Upper s = Exactly 6
+fetch_time x Inside s = Exactly 16
+fetch_time x Outside s = Left 26 (to_stop x s)
+fetch_time x (Misc i) s = Exactly (80 + 6 * i)
+fetch_time x Unknown83 s = Exactly 134
+fetch_time x (Leave i) s = Left 22 (to_stop x s)
+fetch_time x Stop s = Left 16 (to_stop x s)
+fetch_time x Stopped s = Left 12 (to_stop x s)
 
 -- where its instructions begin
 abbrev pub fetch_addresses : FetchBlock → List ℕ

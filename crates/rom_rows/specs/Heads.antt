@@ -6,9 +6,10 @@ use Rattle.machine.specs.Board.{Machine}
 use Rattle.chip8_lang.specs.declared.view.Edition.{Edition}
 use Rattle.chip8_lang.specs.declared.view.Edition.TheVariants.{Usual, Tall}
 use Rattle.chip8_lang.specs.declared.view.Stop.{Stop}
-use Rattle.chip8_lang.specs.State.{Lang, memory_byte, is_fetchable}
+use Rattle.chip8_lang.specs.State.{Lang, memory_byte, instr_at, is_fetchable}
 use Rattle.chip8_lang.specs.Step.{next, stop_number, step}
 use Rattle.chip8_lang.specs.Step.KeyInput.{Nothing}
+use Rattle.chip8_lang.specs.Timed.{cycles, stop_cycles}
 use Rattle.chip8_image.specs.Labels.{at_fetch}
 use Rattle.rom_law.specs.Program.{Program}
 use Rattle.rom_law.specs.Rows.{Since}
@@ -16,19 +17,26 @@ use Rattle.rom_law.specs.Holding.{places, Holding}
 
 -- ---- time
 
--- the main cycles from the dispatch to a head: so many for every opcode, so many at most, so many at most behind a wait, where a tick has
--- come, or any number, as behind a wait for a key
+-- the main cycles from the dispatch to a head: so many; so many that n are left of all those of the instruction or the stop; so many behind a
+-- wait, where a tick has come; or any number, as behind a wait for a key
 pub data Time : Type 0 where
   Exactly : ℕ → Time
-  AtMost : ℕ → Time
+  Left : (n all : ℕ) → Time
   Waited : ℕ → Time
   Anytime : Time
 
 abbrev pub Within : Time → Since → Type 0
 Within (Exactly n) h = h.spent ≡ n
-Within (AtMost n) h = h.spent ≤ n
+Within (Left n all) h = h.spent + n ≡ all
 Within Anytime h = Unit {0}
-Within (Waited n) h = (h.spent ≤ n) × (1 ≤ h.ticks)
+Within (Waited n) h = (h.spent ≡ n) × (1 ≤ h.ticks)
+
+-- all those of a stop, and of an instruction that takes no key
+abbrev pub to_stop : Program → Lang → ℕ
+to_stop x s = stop_cycles x.edition s
+
+abbrev pub to_dispatch : Program → Lang → ℕ
+to_dispatch x s = cycles x.edition (instr_at s) Nothing s
 
 -- ---- addresses
 

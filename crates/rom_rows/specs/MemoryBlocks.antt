@@ -5,12 +5,13 @@ use Rattle.machine.specs.Board.{Machine}
 use Rattle.chip8_lang.specs.Editions.{memory_start}
 use Rattle.chip8_lang.specs.State.{Lang, variable, is_in_memory, is_fetchable}
 use Rattle.chip8_lang.specs.Step.{is_readable, next, stored, bytes_from}
+use Rattle.chip8_lang.specs.Timed.{check_cycles}
 use Rattle.chip8_image.specs.Labels.{at_fetch, at_index, at_add_index, at_digit, at_decimal, at_decimal_found, at_hundreds, at_hundreds_end, at_tens, at_tens_end, at_store, at_store_found, at_store_byte, at_store_end, at_restore, at_restore_found, at_restore_byte, at_restore_end, at_write_outside, at_read_outside, at_check, at_check_game, at_check_font, at_check_low, at_in_game, at_in_font, at_nowhere}
 use Rattle.rom_law.specs.Program.{Program}
 use Rattle.rom_law.specs.Holding.{places, Holding}
 use Rattle.rom_rows.specs.Heads.{Time, from, high_byte, low_byte, page_of, Enters}
-use Rattle.rom_rows.specs.Heads.Time.{Exactly, AtMost}
-use Rattle.rom_rows.specs.Checks.{Caller, Calls, count_of, call_time, Answer, IsAnswer, Called, Checking, Comparing, Checked}
+use Rattle.rom_rows.specs.Heads.Time.{Exactly}
+use Rattle.rom_rows.specs.Checks.{Caller, Calls, count_of, call_time, Answer, answer_time, IsAnswer, Called, Checking, Comparing, Checked}
 use Rattle.rom_rows.specs.Checks.Caller.{ForDecimal, ForStore, ForRestore}
 use Rattle.rom_rows.specs.Checks.Answer.{InGame, InFont, Nowhere}
 
@@ -103,7 +104,7 @@ memory_at x AddIndex b s = Enters x at_add_index 15 b s × (low_byte s ≡ 0x1e)
 memory_at x Digit b s = Enters x at_digit 15 b s × (low_byte s ≡ 0x29)
 memory_at x (Check c) b s = Checking x c at_check b s
 memory_at x (CheckGame c) b s = Comparing x c at_check_game b s × (memory_start ≤ s.i)
-memory_at x (CheckFont c) b s = Comparing x c at_check_font b s × (is_in_memory x.edition s.i (count_of c s) ≡ false)
+memory_at x (CheckFont c) b s = Comparing x c at_check_font b s × (is_in_memory x.edition s.i (count_of c s) ≡ false) × (memory_start ≤ s.i)
 memory_at x (CheckLow c) b s = Comparing x c at_check_low b s × (is_in_memory x.edition s.i (count_of c s) ≡ false) × (s.i / 256 ≡ 0x87)
 memory_at x (Answering c answer) b s = Checking x c (answer_label answer) b s × IsAnswer x.edition answer s.i (count_of c s)
 memory_at x Decimal b s = Enters x at_decimal 15 b s × (low_byte s ≡ 0x33)
@@ -148,29 +149,29 @@ memory_moves (RestoreFound answer) = 6
 memory_moves (RestoreByte k) = 6
 memory_moves RestoreEnd = 1
 
-abbrev pub memory_time : MemoryBlock → Time
-memory_time Index = Exactly 80
-memory_time AddIndex = Exactly 110
-memory_time Digit = Exactly 116
-memory_time (Check c) = AtMost (call_time c)
-memory_time (CheckGame c) = AtMost (call_time c + 20)
-memory_time (CheckFont c) = AtMost (call_time c + 32)
-memory_time (CheckLow c) = AtMost (call_time c + 38)
-memory_time (Answering c answer) = AtMost (call_time c + 46)
-memory_time Decimal = Exactly 122
-memory_time (DecimalFound answer) = AtMost 186
-memory_time (Hundreds k) = AtMost (204 + 6 * k)
-memory_time HundredsEnd = AtMost 222
-memory_time (Tens k) = AtMost (226 + 6 * k)
-memory_time TensEnd = AtMost 286
-memory_time Store = Exactly 128
-memory_time (StoreFound answer) = AtMost 196
-memory_time (StoreByte k) = AtMost (206 + 12 * k)
-memory_time StoreEnd = AtMost 398
-memory_time Restore = Exactly 134
-memory_time (RestoreFound answer) = AtMost 202
-memory_time (RestoreByte k) = AtMost (214 + 12 * k)
-memory_time RestoreEnd = AtMost 406
+abbrev pub memory_time : Program → MemoryBlock → Lang → Time
+memory_time x Index s = Exactly 80
+memory_time x AddIndex s = Exactly 110
+memory_time x Digit s = Exactly 116
+memory_time x (Check c) s = Exactly (call_time c)
+memory_time x (CheckGame c) s = Exactly (call_time c + 20)
+memory_time x (CheckFont c) s = Exactly (call_time c + 32)
+memory_time x (CheckLow c) s = Exactly (call_time c + 38)
+memory_time x (Answering c answer) s = Exactly (call_time c + answer_time answer s.i)
+memory_time x Decimal s = Exactly 122
+memory_time x (DecimalFound answer) s = Exactly (140 + answer_time answer s.i)
+memory_time x (Hundreds k) s = Exactly (190 + 6 * k)
+memory_time x HundredsEnd s = Exactly (196 + 6 * (variable_x s / 100))
+memory_time x (Tens k) s = Exactly (200 + 6 * (variable_x s / 100) + 6 * k)
+memory_time x TensEnd s = Exactly (206 + 6 * (variable_x s / 100 + variable_x s / 10 % 10))
+memory_time x Store s = Exactly 128
+memory_time x (StoreFound answer) s = Exactly (150 + answer_time answer s.i)
+memory_time x (StoreByte k) s = Exactly (192 + 12 * k)
+memory_time x StoreEnd s = Exactly (204 + 12 * last_of s)
+memory_time x Restore s = Exactly 134
+memory_time x (RestoreFound answer) s = Exactly (156 + answer_time answer s.i)
+memory_time x (RestoreByte k) s = Exactly (200 + check_cycles x.edition s (last_of s + 1) + 12 * k)
+memory_time x RestoreEnd s = Exactly (212 + check_cycles x.edition s (last_of s + 1) + 12 * last_of s)
 
 -- where its instructions begin
 abbrev pub memory_addresses : MemoryBlock → List ℕ

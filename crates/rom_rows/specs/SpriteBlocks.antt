@@ -7,12 +7,13 @@ use Rattle.chip8_lang.specs.declared.view.Edition.{Edition}
 use Rattle.chip8_lang.specs.Screen.{Pixels, difference, either, meets, dots}
 use Rattle.chip8_lang.specs.State.{Lang, variable, is_fetchable}
 use Rattle.chip8_lang.specs.Step.{next, is_readable, sprite_row}
+use Rattle.chip8_lang.specs.Timed.{asked_cycles, edge_cycles, row_cycles}
 use Rattle.chip8_image.specs.Labels.{at_fetch, at_clear, at_clear_wait, at_wipe, at_wipe3, at_wipe6, at_wiped, at_cleared, at_draw, at_draw_check, at_draw_found, at_draw_outside, at_place, at_edge, at_fits, at_angle, at_begin, at_row, at_row_byte, at_shift7, at_shifted, at_row_right, at_row_store, at_ready, at_draw_wait, at_line, at_line_left, at_line_right, at_drawn}
 use Rattle.rom_law.specs.Program.{Program}
 use Rattle.rom_law.specs.Holding.{places, Holding}
 use Rattle.rom_rows.specs.Heads.{Time, from, high_byte, low_byte, page_of, Entered, Enters, Done}
-use Rattle.rom_rows.specs.Heads.Time.{Exactly, AtMost, Waited}
-use Rattle.rom_rows.specs.Checks.{Answer, Checked}
+use Rattle.rom_rows.specs.Heads.Time.{Exactly, Waited}
+use Rattle.rom_rows.specs.Checks.{Answer, answer_time, Checked}
 use Rattle.rom_rows.specs.Checks.Caller.{ForDraw}
 use Rattle.rom_rows.specs.Checks.Answer.{Nowhere}
 use Rattle.rom_rows.specs.Dots.{left, right, rows_drawn, dots_of_byte}
@@ -218,7 +219,7 @@ sprite_at x (Row r) b s = Preparing x at_row r r r b s × (r ≤ height x.editio
 sprite_at x (RowByte r) b s = Preparing x at_row_byte r r r b s × (r < height x.edition s)
 sprite_at x (Shift r j) b s = Preparing x (at_shift7 + 6 * (7 - j)) r r (r + 1) b s × (r < height x.edition s) × Shifting r j b s × (0 < j) × (j ≤ column s % 8)
 sprite_at x (Shifted r) b s = Preparing x at_shifted r r (r + 1) b s × (r < height x.edition s) × Shifting r 0 b s
-sprite_at x (RowRight r) b s = Preparing x at_row_right (r + 1) r (r + 1) b s × (r < height x.edition s) × (b.regs.r.rc.lo ≡ right (column s) (sprite_row s r))
+sprite_at x (RowRight r) b s = Preparing x at_row_right (r + 1) r (r + 1) b s × (r < height x.edition s) × (b.regs.r.rc.lo ≡ right (column s) (sprite_row s r)) × (column s / 8 ≡ 7 → ⊥)
 sprite_at x (RowStore r) b s = Preparing x at_row_store (r + 1) r (r + 1) b s × (r < height x.edition s) × (b.regs.d ≡ right (column s) (sprite_row s r))
 sprite_at x Ready b s = let h = height x.edition s in Preparing x at_ready h h h b s
 sprite_at x (Line r) b s = Painting x at_line (2 * r) (8 * r) (height x.edition s - r) (lit x.edition r s) b s × (r ≤ height x.edition s)
@@ -261,40 +262,52 @@ sprite_moves (LineLeft r) = 11
 sprite_moves (LineRight r) = 16
 sprite_moves Drawn = 10
 
--- Behind the wait of 00E0 the screen is cleared in 1,536 main cycles: 64 rows of 24. DXYN prepares a row in at most 124, so that it waits
--- after at most 2,154, and draws one in 58, so that it is done 874 cycles later at most.
-abbrev pub sprite_time : SpriteBlock → Time
-sprite_time Clear = AtMost 90
-sprite_time (Wipe k) = Waited (102 + 24 * (63 - k))
-sprite_time (Wipe3 k) = Waited (108 + 24 * (63 - k))
-sprite_time (Wipe6 k) = Waited (114 + 24 * (63 - k))
-sprite_time (Wiped k) = Waited (120 + 24 * (63 - k))
-sprite_time Cleared = Waited (102 + 1536)
-sprite_time Draw = Exactly 80
-sprite_time DrawCheck = AtMost 88
-sprite_time (DrawFound answer) = AtMost 148
-sprite_time Place = AtMost 152
-sprite_time Edge = AtMost 176
-sprite_time Fits = AtMost 184
-sprite_time Angle = AtMost 224
-sprite_time Begin = AtMost 242
-sprite_time (Row r) = AtMost (266 + 124 * r)
-sprite_time (RowByte r) = AtMost (270 + 124 * r)
-sprite_time (Shift r j) = AtMost (284 + 124 * r + 12 * (7 - j))
-sprite_time (Shifted r) = AtMost (368 + 124 * r)
-sprite_time (RowRight r) = AtMost (382 + 124 * r)
-sprite_time (RowStore r) = AtMost (384 + 124 * r)
-sprite_time Ready = AtMost 2130
-sprite_time (Line r) = Waited (2154 + 58 * r)
-sprite_time (LineLeft r) = Waited (2158 + 58 * r)
-sprite_time (LineRight r) = Waited (2180 + 58 * r)
-sprite_time Drawn = Waited (2154 + 874)
+-- DXYN: the main cycles up to the rows, but for those that it always takes; those of r rows; and those up to the wait
+abbrev pub aim_time : Edition → Lang → ℕ
+aim_time e s = asked_cycles e s (asked s)
 
-abbrev pub sprite_place_time : SpritePlace → Time
-sprite_place_time ClearWait = AtMost 100
-sprite_place_time ClearIdle = AtMost 102
-sprite_place_time DrawWait = AtMost 2152
-sprite_place_time DrawIdle = AtMost 2154
+abbrev pub edge_time : Edition → Lang → ℕ
+edge_time e s = edge_cycles e (top e s) (asked s)
+
+abbrev pub rows_time : Lang → ℕ → ℕ
+rows_time s r = r * row_cycles (column s)
+
+abbrev pub draw_time : Edition → Lang → ℕ
+draw_time e s = 222 + aim_time e s + edge_time e s + rows_time s (height e s)
+
+-- Behind the wait of 00E0 a row is cleared in 24 main cycles. DXYN draws one in 58.
+abbrev pub sprite_time : Program → SpriteBlock → Lang → Time
+sprite_time x Clear s = Exactly 90
+sprite_time x (Wipe k) s = Waited (102 + 24 * (rows_of x.edition - 1 - k))
+sprite_time x (Wipe3 k) s = Waited (108 + 24 * (rows_of x.edition - 1 - k))
+sprite_time x (Wipe6 k) s = Waited (114 + 24 * (rows_of x.edition - 1 - k))
+sprite_time x (Wiped k) s = Waited (120 + 24 * (rows_of x.edition - 1 - k))
+sprite_time x Cleared s = Waited (102 + 24 * rows_of x.edition)
+sprite_time x Draw s = Exactly 80
+sprite_time x DrawCheck s = Exactly 88
+sprite_time x (DrawFound answer) s = Exactly (102 + answer_time answer s.i)
+sprite_time x Place s = Exactly (88 + aim_time x.edition s)
+sprite_time x Edge s = Exactly (112 + aim_time x.edition s)
+sprite_time x Fits s = Exactly (112 + aim_time x.edition s + edge_time x.edition s)
+sprite_time x Angle s = Exactly (152 + aim_time x.edition s + edge_time x.edition s)
+sprite_time x Begin s = Exactly (170 + aim_time x.edition s + edge_time x.edition s)
+sprite_time x (Row r) s = Exactly (194 + aim_time x.edition s + edge_time x.edition s + rows_time s r)
+sprite_time x (RowByte r) s = Exactly (198 + aim_time x.edition s + edge_time x.edition s + rows_time s r)
+sprite_time x (Shift r j) s = Exactly (212 + aim_time x.edition s + edge_time x.edition s + rows_time s r + 12 * (column s % 8 - j))
+sprite_time x (Shifted r) s = Exactly (212 + aim_time x.edition s + edge_time x.edition s + rows_time s r + 12 * (column s % 8))
+sprite_time x (RowRight r) s = Exactly (226 + aim_time x.edition s + edge_time x.edition s + rows_time s r + 12 * (column s % 8))
+sprite_time x (RowStore r) s = Exactly (188 + aim_time x.edition s + edge_time x.edition s + rows_time s r + row_cycles (column s))
+sprite_time x Ready s = Exactly (198 + aim_time x.edition s + edge_time x.edition s + rows_time s (height x.edition s))
+sprite_time x (Line r) s = Waited (draw_time x.edition s + 58 * r)
+sprite_time x (LineLeft r) s = Waited (draw_time x.edition s + 58 * r + 4)
+sprite_time x (LineRight r) s = Waited (draw_time x.edition s + 58 * r + 26)
+sprite_time x Drawn s = Waited (draw_time x.edition s + 58 * height x.edition s + 4)
+
+abbrev pub sprite_place_time : Program → SpritePlace → Lang → Time
+sprite_place_time x ClearWait s = Exactly 100
+sprite_place_time x ClearIdle s = Exactly 102
+sprite_place_time x DrawWait s = Exactly (draw_time x.edition s - 2)
+sprite_place_time x DrawIdle s = Exactly (draw_time x.edition s)
 
 -- the blocks behind the wait
 abbrev pub IsWaited : SpriteBlock → Type 0

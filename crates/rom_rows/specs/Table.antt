@@ -30,10 +30,10 @@ pub data Place : Type 0 where
 
 -- what is known at the first instruction of a block
 abbrev pub Head : Program → Block → Machine → Since → Type 0
-Head x (OfFetch l) b h = fetch_at x l b (now h) × Within (fetch_time l) h
-Head x (OfArith l) b h = arith_at x l b (now h) × Within (arith_time l) h
-Head x (OfMemory l) b h = memory_at x l b (now h) × Within (memory_time l) h
-Head x (OfSprite l) b h = sprite_at x l b (now h) × Within (sprite_time l) h
+Head x (OfFetch l) b h = fetch_at x l b (now h) × Within (fetch_time x l (now h)) h
+Head x (OfArith l) b h = arith_at x l b (now h) × Within (arith_time x l (now h)) h
+Head x (OfMemory l) b h = memory_at x l b (now h) × Within (memory_time x l (now h)) h
+Head x (OfSprite l) b h = sprite_at x l b (now h) × Within (sprite_time x l (now h)) h
 Head x (OfTimer l) b h = timer_at x l b (now h) × Within (timer_time l) h
 Head x (OfKey l) b h = key_at x l b (now h) h.keys × Within (key_time l) h
 
@@ -50,7 +50,7 @@ moves (OfKey l) = key_moves l
 abbrev pub At : Program → Place → Machine → Since → Type 0
 At x (AtTimer l) b h = timer_place_at x l b (now h) × Within (timer_place_time l) h
 At x (AtKey l) b h = key_place_at x l b (now h) h.keys × Within (key_place_time l) h
-At x (AtSprite l) b h = sprite_place_at x l b (now h) × Within (sprite_place_time l) h
+At x (AtSprite l) b h = sprite_place_at x l b (now h) × Within (sprite_place_time x l (now h)) h
 
 abbrev pub pieces : Program → Pieces
 pieces x = record { Block = Block; Head = Head x; moves = λ l h. moves l; top = None; Place = Place; At = At x }

@@ -140,7 +140,7 @@ module _ (e : Edition) (script : List Event) where
     apart p = woken_apart e b h 0 (omega arith) w (omega (arith, p))
 
     awake : b.regs.idle ≡ false
-    awake = waited_awake e b (record h { spent = w.late }) w.row
+    awake = waited_awake e b h w.row
 
     abbrev u : Input
     u = record { efx = efx_at (b.cycle + 1) true; held = held (b.cycle + 1) }
@@ -149,14 +149,13 @@ module _ (e : Edition) (script : List Event) where
     c = moved (code x) u (record b { cycle = b.cycle + 2 })
 
     -- the next state, where it is no dispatch point
-    stays : is_dispatch x.interpreter c ≡ false → Outcome x (waited_pieces x) c (after_main u (record h { spent = w.late })) → Woken e c (after_main u h)
+    stays : is_dispatch x.interpreter c ≡ false → Outcome x (waited_pieces x) c (after_main u h) → Woken e c (after_main u h)
     stays d (Calm calm row) =
         record {
           woke = w.woke;
           return = w.return;
-          base = w.base;
+          most = w.most;
           waits = w.waits;
-          late = w.late + 2;
           since = omega (arith, w.since);
           least = omega (arith, w.least);
           row = row;
@@ -165,12 +164,10 @@ module _ (e : Edition) (script : List Event) where
         absurd (sleeps (sym (dispatch_there e script c s st.stands
         (keeps_place b.cycle (record { outside = r.interval.outside; even = r.interval.even awake }) apart).outside
         (woken_apart e b h 2 (omega arith) w)).0 ∙ d))
-    stays d (Failed stop st) = absurd (no_stop (sym (row_goes e b (record h { spent = w.late }) w.row) ∙ st.fits))
+    stays d (Failed stop st) = absurd (no_stop (sym (row_goes e b h w.row) ∙ st.fits))
 
-    outcome : Outcome x (waited_pieces x) c (after_main u (record h { spent = w.late }))
-    outcome =
-        waited_moves e u (record b { cycle = b.cycle + 2 }) (record h { spent = w.late })
-        (waited_cycle e b (record h { spent = w.late }) (b.cycle + 2) w.row)
+    outcome : Outcome x (waited_pieces x) c (after_main u h)
+    outcome = waited_moves e u (record b { cycle = b.cycle + 2 }) h (waited_cycle e b h (b.cycle + 2) w.row)
 
     go : is_dispatch x.interpreter (next b) ≡ false → Makes (image e) held b (next b) → Woken e (next b) (on b h)
     go d (Runs p i m) =
@@ -210,8 +207,8 @@ module _ (e : Edition) (script : List Event) where
   woken_at b h m (AtRow t row n time) at i =
       let w = row_waits e b h i row in
       let tick : IsTick e (image e) m b held = run_tick e m b held (interrupted e script b h m (AtRow t row n time) at) in
-      wakes e b (after_moves (image e) held b routine_moves) h m w
-      (row_wakes e b (after_moves (image e) held b routine_moves) (record h { spent = w.base }) t.fits i tick.tick w.row) tick.cycle
+      wakes e (after_moves (image e) held b routine_moves) h m w
+      (row_wakes e b (after_moves (image e) held b routine_moves) h t.fits i tick.tick row) tick.cycle
   woken_at b h m (AtEvent t p d late y) at i = absurd (due_awake e script b h i d)
 
   module _ (b : Machine) (h : Since) (s : Serving e script b h) (i : s.start.regs.idle ≡ true) where
@@ -388,14 +385,14 @@ module _ (e : Edition) (script : List Event) where
         after (Arrived d z j st k) = inl d
         after (Halted z j stop st) =
             absurd (no_stop (sym (ap (stop_of e) (carried_state (image e) held (at i) (since i))
-            ∙ row_goes e (at i) (record (since i) { spent = w.late }) w.row) ∙ st.fits))
+            ∙ row_goes e (at i) (since i) w.row) ∙ st.fits))
 
     -- from the return on up to the end of its next move
     changes_from : (j i woke : ℕ) → place woke ≡ interrupt_place + routine_cycles → woke ≤ (at j).cycle → Running e script (at i) (since i)
         → StaysBehind woke i → Changes x script first j i
     changes_from j i woke p from r o =
         record {
-          most = o.woken.base;
+          most = o.woken.most;
           waits = o.woken.waits;
           returned = woke;
           return = omega (arith, p);
@@ -414,7 +411,7 @@ module _ (e : Edition) (script : List Event) where
 -- ---- the laws
 
 pub writes_soon : WritesSoon
-writes_soon e script b h r w = let o = writes_woken e script b h r w in record { most = o.base; waits = o.waits; here = woken_since e script b h o }
+writes_soon e script b h r w = let o = writes_woken e script b h r w in record { most = o.most; waits = o.waits; here = woken_since e script b h o }
 
 pub changes_soon : ChangesSoon
 changes_soon e script first starts j i l u same display = changes e script first starts j i l u same display

@@ -12,7 +12,7 @@ use Rattle.machine.specs.Pictures.{place, interrupt_place}
 use Rattle.rom_timer.specs.Routine.{routine_cycles}
 use Rattle.rom_run.specs.Display.{Display}
 use Rattle.rom_run.specs.Laws.{Undisturbed, WaitsSoon}
-use Rattle.rom_run.specs.Time.{Timed, Woken, since_return, most_changing}
+use Rattle.rom_run.specs.Time.{Timed, Woken, wait_time, since_return, most_changing}
 use Rattle.rom_run.specs.Running.{Due, Outside, Running, Serving, Showing}
 use Rattle.rom_run.specs.Running.Due.{Arrives, Ends}
 use Rattle.rom_run.specs.Time.Timed.{Before, Waiting, Behind}
@@ -54,7 +54,7 @@ module _ (e : Edition) (script : List Event) where
 
   -- behind a wait the routine returned in the cycle `woke`
   pub woken_since : (b : Machine) (h : Since) (w : Woken e b h) → since_return b.cycle ≤ most_changing
-  woken_since b h w = since b.cycle w.base w.woke w.late w.return w.since w.least (woken_few e b h w)
+  woken_since b h w = since b.cycle (wait_time e h.state) w.woke h.spent w.return w.since w.least (woken_few e b h w)
     where
       since : (cycle base woke late : ℕ) → place woke ≡ interrupt_place + routine_cycles → cycle + base ≡ woke + late → base ≤ late
           → late ≤ base + most_changing → since_return cycle ≤ most_changing
@@ -67,7 +67,7 @@ module _ (e : Edition) (script : List Event) where
   due_awake b h i (Ends stop st) = sleeps (sym i ∙ st.halts.keeps.lies.awake)
 
   outside_soon : (b : Machine) (h : Since) → b.regs.idle ≡ true → Outside e script b h → Display h (λ most. h.spent ≤ most)
-  outside_soon b h i (AtRow t row n time) = let w = row_waits e b h i row in record { most = w.base; waits = w.waits; here = w.soon }
+  outside_soon b h i (AtRow t row n time) = let w = row_waits e b h i row in record { most = w.most; waits = w.waits; here = w.soon }
   outside_soon b h i (AtEvent t q d late y) = absurd (due_awake b h i d)
 
   -- ---- in the interrupt routine interrupts are disabled

@@ -5,6 +5,7 @@ pub mod Waits
 pub mod Ticks
 pub mod Behind
 pub mod Calm
+pub mod Most
 pub mod Time
 pub mod Woken
 pub mod Moves

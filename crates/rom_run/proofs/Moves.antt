@@ -218,14 +218,11 @@ module _ (e : Edition) (script : List Event) where
         record {
           woke = w.woke;
           return = w.return;
-          base = w.base;
+          most = w.most;
           waits = w.waits;
-          late = w.late + 2;
           since = omega (arith, w.since);
           least = omega (arith, w.least);
-          row = calm_row e c (after_main u (record h { spent = w.late })) calm
-              (waited_moves e u (record b { cycle = b.cycle + 2 }) (record h { spent = w.late })
-              (waited_cycle e b (record h { spent = w.late }) (b.cycle + 2) w.row));
+          row = calm_row e c h' calm (behind w.row);
         }
 
     -- and the board isn't interrupted
@@ -380,7 +377,7 @@ module _ (e : Edition) (script : List Event) where
     tick_wakes : (n : ℕ) → Interval e script b h → Row x (pieces x) b h → Spends b h n → n ≤ most_wait → b.regs.idle ≡ true → Timed e c (after_tick h)
     tick_wakes n t row s l i =
         let w = row_waits e b h i row in
-        Behind n (tick_spends n s) l (row_wakes e b c h t.fits i k row) (wakes e b c h m w (row_wakes e b c (record h { spent = w.base }) t.fits i k w.row) at)
+        Behind n (tick_spends n s) l (row_wakes e b c h t.fits i k row) (wakes e c h m w (row_wakes e b c h t.fits i k row) at)
 
     tick_timed : Interval e script b h → Row x (pieces x) b h → Timed e b h → Timed e c (after_tick h)
     tick_timed t row (Before s r) = go (cases_Bool b.regs.idle)

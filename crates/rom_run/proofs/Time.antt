@@ -47,6 +47,7 @@ use Rattle.rom_sprite.proofs.Screen.{few_rows}
 use Rattle.rom_run.specs.Time.{Suffices, Spends, Timed, most_wait}
 use Rattle.rom_run.specs.Running.{Interval}
 use Rattle.rom_run.specs.Time.Timed.{Before, Waiting, Behind}
+use Rattle.rom_run.proofs.Most.{stop_most, shared_most, outside_most, answer_most, check_most, aim_most, edge_most, rows_most, draw_most}
 use Rattle.rom_run.proofs.Ticks.{waits_most}
 use Rattle.rom_run.proofs.Proved.{proved}
 use Rattle.rom_run.proofs.Waits.{sleeps, timer_awake, key_awake}
@@ -182,26 +183,26 @@ module _ (e : Edition) where
   fetch_soon : (l : FetchBlock) (b : Machine) (h : Since) → FitsMachine b → Head x (OfFetch l) b h → Paced (OfFetch l) h
   fetch_soon Fetch b h f o = quick h (fetch_moves Fetch) (omega (arith, o.1))
   fetch_soon Upper b h f o = quick h (fetch_moves Upper) (omega (arith, o.1))
-  fetch_soon Outside b h f o = quick h (fetch_moves Outside) (omega (arith, o.1))
+  fetch_soon Outside b h f o = quick h (fetch_moves Outside) (omega (arith, o.1, stop_most e (now h)))
   fetch_soon (Misc i) b h f o = quick h (fetch_moves (Misc i)) (omega (arith, o.1, o.0.2))
   fetch_soon Unknown83 b h f o = quick h (fetch_moves Unknown83) (omega (arith, o.1))
-  fetch_soon (Leave i) b h f o = quick h (fetch_moves (Leave i)) (omega (arith, o.1))
-  fetch_soon StopWay b h f o = quick h (fetch_moves StopWay) (omega (arith, o.1))
-  fetch_soon Stopped b h f o = quick h (fetch_moves Stopped) (omega (arith, o.1))
+  fetch_soon (Leave i) b h f o = quick h (fetch_moves (Leave i)) (omega (arith, o.1, stop_most e (now h)))
+  fetch_soon StopWay b h f o = quick h (fetch_moves StopWay) (omega (arith, o.1, stop_most e (now h)))
+  fetch_soon Stopped b h f o = quick h (fetch_moves Stopped) (omega (arith, o.1, stop_most e (now h)))
   fetch_soon Inside b h f o = quick h (fetch_moves Inside) (omega (arith, o.1))
 
   arith_soon : (l : ArithBlock) (b : Machine) (h : Since) → FitsMachine b → Head x (OfArith l) b h → Paced (OfArith l) h
   arith_soon System b h f o = quick h (arith_moves System) (omega (arith, o.1))
   arith_soon SystemLow b h f o = quick h (arith_moves SystemLow) (omega (arith, o.1))
   arith_soon SystemBack b h f o = quick h (arith_moves SystemBack) (omega (arith, o.1))
-  arith_soon MachineCode b h f o = quick h (arith_moves MachineCode) (omega (arith, o.1))
+  arith_soon MachineCode b h f o = quick h (arith_moves MachineCode) (omega (arith, o.1, stop_most e (now h)))
   arith_soon Return b h f o = quick h (arith_moves Return) (omega (arith, o.1))
   arith_soon ReturnTake b h f o = quick h (arith_moves ReturnTake) (omega (arith, o.1))
-  arith_soon Empty b h f o = quick h (arith_moves Empty) (omega (arith, o.1))
+  arith_soon Empty b h f o = quick h (arith_moves Empty) (omega (arith, o.1, stop_most e (now h)))
   arith_soon JumpTo b h f o = quick h (arith_moves JumpTo) (omega (arith, o.1))
   arith_soon Call b h f o = quick h (arith_moves Call) (omega (arith, o.1))
   arith_soon CallPut b h f o = quick h (arith_moves CallPut) (omega (arith, o.1))
-  arith_soon Full b h f o = quick h (arith_moves Full) (omega (arith, o.1))
+  arith_soon Full b h f o = quick h (arith_moves Full) (omega (arith, o.1, stop_most e (now h)))
   arith_soon JumpPlus b h f o = quick h (arith_moves JumpPlus) (omega (arith, o.1))
   arith_soon Load b h f o = quick h (arith_moves Load) (omega (arith, o.1))
   arith_soon Add b h f o = quick h (arith_moves Add) (omega (arith, o.1))
@@ -211,13 +212,13 @@ module _ (e : Edition) where
   arith_soon SameTest b h f o = quick h (arith_moves SameTest) (omega (arith, o.1))
   arith_soon SkipDiffer b h f o = quick h (arith_moves SkipDiffer) (omega (arith, o.1))
   arith_soon DifferTest b h f o = quick h (arith_moves DifferTest) (omega (arith, o.1))
-  arith_soon (PassesOn i) b h f o = quick h (arith_moves (PassesOn i)) (omega (arith, o.1))
-  arith_soon SkipOn b h f o = quick h (arith_moves SkipOn) (omega (arith, o.1))
-  arith_soon Unknown81 b h f o = quick h (arith_moves Unknown81) (omega (arith, o.1))
+  arith_soon (PassesOn i) b h f o = quick h (arith_moves (PassesOn i)) (omega (arith, o.1, shared_most e _ (now h) o.0.0.shared))
+  arith_soon SkipOn b h f o = quick h (arith_moves SkipOn) (omega (arith, o.1, shared_most e _ (now h) o.0.shared))
+  arith_soon Unknown81 b h f o = quick h (arith_moves Unknown81) (omega (arith, o.1, stop_most e (now h)))
   arith_soon Arith b h f o = quick h (arith_moves Arith) (omega (arith, o.1))
   arith_soon (Operation n) b h f o = quick h (arith_moves (Operation n)) (omega (arith, o.1, short n (omega (arith, o.0.1))))
-  arith_soon Flag b h f o = quick h (arith_moves Flag) (omega (arith, o.1))
-  arith_soon Unknown82 b h f o = quick h (arith_moves Unknown82) (omega (arith, o.1))
+  arith_soon Flag b h f o = quick h (arith_moves Flag) (omega (arith, o.1, shared_most e _ (now h) o.0.shared))
+  arith_soon Unknown82 b h f o = quick h (arith_moves Unknown82) (omega (arith, o.1, stop_most e (now h)))
 
   memory_soon : (l : MemoryBlock) (b : Machine) (h : Since) → FitsMachine b → Head x (OfMemory l) b h → Paced (OfMemory l) h
   memory_soon Index b h f o = quick h (memory_moves Index) (omega (arith, o.1))
@@ -227,30 +228,34 @@ module _ (e : Edition) where
   memory_soon (CheckGame c) b h f o = quick h (memory_moves (CheckGame c)) (omega (arith, o.1, call_most c))
   memory_soon (CheckFont c) b h f o = quick h (memory_moves (CheckFont c)) (omega (arith, o.1, call_most c))
   memory_soon (CheckLow c) b h f o = quick h (memory_moves (CheckLow c)) (omega (arith, o.1, call_most c))
-  memory_soon (Answering c answer) b h f o = quick h (memory_moves (Answering c answer)) (omega (arith, o.1, call_most c))
+  memory_soon (Answering c answer) b h f o = quick h (memory_moves (Answering c answer)) (omega (arith, o.1, answer_most answer (now h).i, call_most c))
   memory_soon Decimal b h f o = quick h (memory_moves Decimal) (omega (arith, o.1))
   memory_soon (DecimalFound InGame) b h f o = quick h (memory_moves (DecimalFound InGame)) (omega (arith, o.1))
   memory_soon (DecimalFound InFont) b h f o = quick h (memory_moves (DecimalFound InFont)) (omega (arith, o.1))
-  memory_soon (DecimalFound Nowhere) b h f o = quick h (memory_moves (DecimalFound Nowhere)) (omega (arith, o.1))
+  memory_soon (DecimalFound Nowhere) b h f o = quick h (memory_moves (DecimalFound Nowhere)) (omega (arith, o.1, outside_most (now h).i))
   memory_soon (Hundreds k) b h f o =
       quick h (memory_moves (Hundreds k)) (omega (arith, o.1, o.0.1, v_byte o.0.0.called.holds f.ram (high_byte (now h) % 16) (omega arith)))
-  memory_soon HundredsEnd b h f o = quick h (memory_moves HundredsEnd) (omega (arith, o.1))
-  memory_soon (Tens k) b h f o = quick h (memory_moves (Tens k)) (omega (arith, o.1, o.0.1))
-  memory_soon TensEnd b h f o = quick h (memory_moves TensEnd) (omega (arith, o.1))
+  memory_soon HundredsEnd b h f o = quick h (memory_moves HundredsEnd)
+      (omega (arith, o.1, v_byte o.0.called.holds f.ram (high_byte (now h) % 16) (omega arith)))
+  memory_soon (Tens k) b h f o = quick h (memory_moves (Tens k))
+      (omega (arith, o.1, v_byte o.0.0.called.holds f.ram (high_byte (now h) % 16) (omega arith), o.0.1))
+  memory_soon TensEnd b h f o = quick h (memory_moves TensEnd) (omega (arith, o.1, v_byte o.0.called.holds f.ram (high_byte (now h) % 16) (omega arith)))
   memory_soon Store b h f o = quick h (memory_moves Store) (omega (arith, o.1))
   memory_soon (StoreFound InGame) b h f o = quick h (memory_moves (StoreFound InGame)) (omega (arith, o.1))
   memory_soon (StoreFound InFont) b h f o = quick h (memory_moves (StoreFound InFont)) (omega (arith, o.1))
-  memory_soon (StoreFound Nowhere) b h f o = quick h (memory_moves (StoreFound Nowhere)) (omega (arith, o.1))
+  memory_soon (StoreFound Nowhere) b h f o = quick h (memory_moves (StoreFound Nowhere)) (omega (arith, o.1, outside_most (now h).i))
   memory_soon (StoreByte k) b h f o =
       long h (memory_moves (StoreByte k)) (omega (arith, o.1, o.0.1.left)) (rw (o.0.0.inside, o.0.0.calls.0, o.0.0.calls.1, o.0.2) refl)
   memory_soon StoreEnd b h f o = long h (memory_moves StoreEnd) (omega (arith, o.1)) (rw (o.0.0.inside, o.0.0.calls.0, o.0.0.calls.1, o.0.1) refl)
   memory_soon Restore b h f o = quick h (memory_moves Restore) (omega (arith, o.1))
   memory_soon (RestoreFound InGame) b h f o = quick h (memory_moves (RestoreFound InGame)) (omega (arith, o.1))
   memory_soon (RestoreFound InFont) b h f o = quick h (memory_moves (RestoreFound InFont)) (omega (arith, o.1))
-  memory_soon (RestoreFound Nowhere) b h f o = quick h (memory_moves (RestoreFound Nowhere)) (omega (arith, o.1))
+  memory_soon (RestoreFound Nowhere) b h f o = quick h (memory_moves (RestoreFound Nowhere)) (omega (arith, o.1, outside_most (now h).i))
   memory_soon (RestoreByte k) b h f o =
-      long h (memory_moves (RestoreByte k)) (omega (arith, o.1, o.0.1.left)) (rw (o.0.0.inside, o.0.0.calls.0, o.0.0.calls.1, o.0.2) refl)
-  memory_soon RestoreEnd b h f o = long h (memory_moves RestoreEnd) (omega (arith, o.1)) (rw (o.0.0.inside, o.0.0.calls.0, o.0.0.calls.1, o.0.1) refl)
+      long h (memory_moves (RestoreByte k)) (omega (arith, o.1, check_most e (now h) (high_byte (now h) % 16 + 1), o.0.1.left))
+      (rw (o.0.0.inside, o.0.0.calls.0, o.0.0.calls.1, o.0.2) refl)
+  memory_soon RestoreEnd b h f o = long h (memory_moves RestoreEnd) (omega (arith, o.1, check_most e (now h) (high_byte (now h) % 16 + 1)))
+      (rw (o.0.0.inside, o.0.0.calls.0, o.0.0.calls.1, o.0.1) refl)
 
   waited_time : {Else : Type 0} (l : SpriteBlock) → IsWaited l → (b : Machine) (h : Since) (n : ℕ) → n ≤ most_wait → Head x (OfSprite l) b h
       → Pace e Else h n (sprite_moves l)
@@ -262,13 +267,15 @@ module _ (e : Edition) where
       clearing h n (sprite_moves (Wipe6 k)) (omega (arith, o.1.0, o.0.1, few_rows e)) l (clears_bound e (now h) o.0.0.inside o.0.0.clears)
   waited_time (Wiped k) w b h n l o =
       clearing h n (sprite_moves (Wiped k)) (omega (arith, o.1.0, o.0.1, few_rows e)) l (clears_bound e (now h) o.0.0.inside o.0.0.clears)
-  waited_time Cleared w b h n l o = clearing h n (sprite_moves Cleared) (omega (arith, o.1.0)) l (clears_bound e (now h) o.0.0.inside o.0.1)
-  waited_time (Line r) w b h n l o = drawing h n (sprite_moves (Line r)) (omega (arith, o.1.0, o.0.1, few e (now h))) l (draws_bound e (now h) o.0.0.draws)
+  waited_time Cleared w b h n l o = clearing h n (sprite_moves Cleared) (omega (arith, o.1.0, few_rows e)) l (clears_bound e (now h) o.0.0.inside o.0.1)
+  waited_time (Line r) w b h n l o = drawing h n (sprite_moves (Line r)) (omega (arith, o.1.0, draw_most e (now h), o.0.1, few e (now h))) l
+      (draws_bound e (now h) o.0.0.draws)
   waited_time (LineLeft r) w b h n l o =
-      drawing h n (sprite_moves (LineLeft r)) (omega (arith, o.1.0, o.0.1, few e (now h))) l (draws_bound e (now h) o.0.0.draws)
+      drawing h n (sprite_moves (LineLeft r)) (omega (arith, o.1.0, draw_most e (now h), o.0.1, few e (now h))) l (draws_bound e (now h) o.0.0.draws)
   waited_time (LineRight r) w b h n l o =
-      drawing h n (sprite_moves (LineRight r)) (omega (arith, o.1.0, o.0.1, few e (now h))) l (draws_bound e (now h) o.0.0.draws)
-  waited_time Drawn w b h n l o = drawing h n (sprite_moves Drawn) (omega (arith, o.1.0)) l (draws_bound e (now h) o.0.draws)
+      drawing h n (sprite_moves (LineRight r)) (omega (arith, o.1.0, draw_most e (now h), o.0.1, few e (now h))) l (draws_bound e (now h) o.0.0.draws)
+  waited_time Drawn w b h n l o = drawing h n (sprite_moves Drawn) (omega (arith, o.1.0, few e (now h), draw_most e (now h))) l
+      (draws_bound e (now h) o.0.draws)
   waited_time _ w b h n l o = absurd w
 
   sprite_soon : (l : SpriteBlock) (b : Machine) (h : Since) → FitsMachine b → Head x (OfSprite l) b h → Paced (OfSprite l) h
@@ -282,25 +289,33 @@ module _ (e : Edition) where
   sprite_soon DrawCheck b h f o = quick h (sprite_moves DrawCheck) (omega (arith, o.1))
   sprite_soon (DrawFound InGame) b h f o = quick h (sprite_moves (DrawFound InGame)) (omega (arith, o.1))
   sprite_soon (DrawFound InFont) b h f o = quick h (sprite_moves (DrawFound InFont)) (omega (arith, o.1))
-  sprite_soon (DrawFound Nowhere) b h f o = quick h (sprite_moves (DrawFound Nowhere)) (omega (arith, o.1))
-  sprite_soon PlaceOf b h f o = quick h (sprite_moves PlaceOf) (omega (arith, o.1))
-  sprite_soon Edge b h f o = quick h (sprite_moves Edge) (omega (arith, o.1))
-  sprite_soon Fits b h f o = quick h (sprite_moves Fits) (omega (arith, o.1))
-  sprite_soon Angle b h f o = quick h (sprite_moves Angle) (omega (arith, o.1))
-  sprite_soon Begin b h f o = quick h (sprite_moves Begin) (omega (arith, o.1))
+  sprite_soon (DrawFound Nowhere) b h f o = quick h (sprite_moves (DrawFound Nowhere)) (omega (arith, o.1, outside_most (now h).i))
+  sprite_soon PlaceOf b h f o = quick h (sprite_moves PlaceOf) (omega (arith, o.1, aim_most e (now h), edge_most e (now h)))
+  sprite_soon Edge b h f o = quick h (sprite_moves Edge) (omega (arith, o.1, aim_most e (now h), edge_most e (now h)))
+  sprite_soon Fits b h f o = quick h (sprite_moves Fits) (omega (arith, o.1, aim_most e (now h), edge_most e (now h)))
+  sprite_soon Angle b h f o = quick h (sprite_moves Angle) (omega (arith, o.1, aim_most e (now h), edge_most e (now h)))
+  sprite_soon Begin b h f o = quick h (sprite_moves Begin) (omega (arith, o.1, aim_most e (now h), edge_most e (now h)))
   sprite_soon (RowTest r) b h f o =
-      drawing h 0 (sprite_moves (RowTest r)) (omega (arith, o.1, o.0.1, few e (now h))) (omega arith) (draws_bound e (now h) o.0.0.draws)
+      drawing h 0 (sprite_moves (RowTest r))
+      (omega (arith, o.1, aim_most e (now h), edge_most e (now h), rows_most (now h) r, o.0.1, few e (now h))) (omega arith) (draws_bound e (now h) o.0.0.draws)
   sprite_soon (RowByte r) b h f o =
-      drawing h 0 (sprite_moves (RowByte r)) (omega (arith, o.1, o.0.1, few e (now h))) (omega arith) (draws_bound e (now h) o.0.0.draws)
+      drawing h 0 (sprite_moves (RowByte r))
+      (omega (arith, o.1, aim_most e (now h), edge_most e (now h), rows_most (now h) r, o.0.1, few e (now h))) (omega arith) (draws_bound e (now h) o.0.0.draws)
   sprite_soon (Shift r j) b h f o =
-      drawing h 0 (sprite_moves (Shift r j)) (omega (arith, o.1, o.0.1, few e (now h))) (omega arith) (draws_bound e (now h) o.0.0.draws)
+      drawing h 0 (sprite_moves (Shift r j))
+      (omega (arith, o.1, aim_most e (now h), edge_most e (now h), rows_most (now h) r, o.0.1, few e (now h))) (omega arith) (draws_bound e (now h) o.0.0.draws)
   sprite_soon (Shifted r) b h f o =
-      drawing h 0 (sprite_moves (Shifted r)) (omega (arith, o.1, o.0.1, few e (now h))) (omega arith) (draws_bound e (now h) o.0.0.draws)
+      drawing h 0 (sprite_moves (Shifted r))
+      (omega (arith, o.1, aim_most e (now h), edge_most e (now h), rows_most (now h) r, o.0.1, few e (now h))) (omega arith) (draws_bound e (now h) o.0.0.draws)
   sprite_soon (RowRight r) b h f o =
-      drawing h 0 (sprite_moves (RowRight r)) (omega (arith, o.1, o.0.1, few e (now h))) (omega arith) (draws_bound e (now h) o.0.0.draws)
+      drawing h 0 (sprite_moves (RowRight r))
+      (omega (arith, o.1, aim_most e (now h), edge_most e (now h), rows_most (now h) r, o.0.1, few e (now h))) (omega arith) (draws_bound e (now h) o.0.0.draws)
   sprite_soon (RowStore r) b h f o =
-      drawing h 0 (sprite_moves (RowStore r)) (omega (arith, o.1, o.0.1, few e (now h))) (omega arith) (draws_bound e (now h) o.0.0.draws)
-  sprite_soon Ready b h f o = drawing h 0 (sprite_moves Ready) (omega (arith, o.1)) (omega arith) (draws_bound e (now h) o.0.draws)
+      drawing h 0 (sprite_moves (RowStore r))
+      (omega (arith, o.1, aim_most e (now h), edge_most e (now h), rows_most (now h) r, o.0.1, few e (now h))) (omega arith) (draws_bound e (now h) o.0.0.draws)
+  sprite_soon Ready b h f o = drawing h 0 (sprite_moves Ready)
+      (omega (arith, o.1, aim_most e (now h), edge_most e (now h), rows_most (now h) (height e (now h)), few e (now h))) (omega arith)
+      (draws_bound e (now h) o.0.draws)
   sprite_soon (Line r) b h f o = waited_time (Line r) tt b h 0 (omega arith) o
   sprite_soon (LineLeft r) b h f o = waited_time (LineLeft r) tt b h 0 (omega arith) o
   sprite_soon (LineRight r) b h f o = waited_time (LineRight r) tt b h 0 (omega arith) o
@@ -346,8 +361,8 @@ module _ (e : Edition) where
   at_soon (AtKey KeyHeld) b h o = endless h 1 tt (key_bound e (now h) o.0.0.enters.entered.inside o.0.0.enters.digit o.0.0.low)
   at_soon (AtSprite ClearWait) b h o = quick h 1 (omega (arith, o.1))
   at_soon (AtSprite ClearIdle) b h o = quick h 1 (omega (arith, o.1))
-  at_soon (AtSprite DrawWait) b h o = drawing h 0 1 (omega (arith, o.1)) (omega arith) (draws_bound e (now h) o.0.draws)
-  at_soon (AtSprite DrawIdle) b h o = drawing h 0 1 (omega (arith, o.1)) (omega arith) (draws_bound e (now h) o.0.0.draws)
+  at_soon (AtSprite DrawWait) b h o = drawing h 0 1 (omega (arith, o.1, draw_most e (now h))) (omega arith) (draws_bound e (now h) o.0.draws)
+  at_soon (AtSprite DrawIdle) b h o = drawing h 0 1 (omega (arith, o.1, draw_most e (now h))) (omega arith) (draws_bound e (now h) o.0.0.draws)
 
   -- ---- rows
 
@@ -365,8 +380,8 @@ module _ (e : Edition) where
   idle_pace b h n w i (Alone (AtKey l) o) = absurd (sleeps (sym i ∙ key_awake x b (now h) l h.keys o.0))
   idle_pace b h n w i (Alone (AtSprite ClearWait) o) = clearing h n 1 (omega (arith, o.1)) w (clears_bound e (now h) o.0.inside o.0.clears)
   idle_pace b h n w i (Alone (AtSprite ClearIdle) o) = clearing h n 1 (omega (arith, o.1)) w (clears_bound e (now h) o.0.0.inside o.0.0.clears)
-  idle_pace b h n w i (Alone (AtSprite DrawWait) o) = drawing h n 1 (omega (arith, o.1)) w (draws_bound e (now h) o.0.draws)
-  idle_pace b h n w i (Alone (AtSprite DrawIdle) o) = drawing h n 1 (omega (arith, o.1)) w (draws_bound e (now h) o.0.0.draws)
+  idle_pace b h n w i (Alone (AtSprite DrawWait) o) = drawing h n 1 (omega (arith, o.1, draw_most e (now h))) w (draws_bound e (now h) o.0.draws)
+  idle_pace b h n w i (Alone (AtSprite DrawIdle) o) = drawing h n 1 (omega (arith, o.1, draw_most e (now h))) w (draws_bound e (now h) o.0.0.draws)
 
   -- and behind a wait
   pub waited_pace : (b : Machine) (h : Since) (n : ℕ) → n ≤ most_wait → Row x (waited_pieces x) b h → Pace e ⊥ h n 1

@@ -6,6 +6,7 @@ use Rattle.chip8_lang.specs.declared.instr.Instr.{Instr}
 use Rattle.chip8_lang.specs.declared.instr.Instr.TheVariants.{Clear as IsClear, Draw as IsDraw}
 use Rattle.chip8_lang.specs.declared.view.Edition.{Edition}
 use Rattle.chip8_lang.specs.State.{Lang, instr_at}
+use Rattle.chip8_lang.specs.Timed.{before_wait}
 use Rattle.rom_law.specs.Code.{is_event}
 use Rattle.rom_law.specs.Program.{code}
 use Rattle.rom_law.specs.Rows.{Since, Row, Outcome, now, after_tick}
@@ -17,27 +18,30 @@ use Rattle.rom_law.proofs.Language.{ticks_instr}
 use Rattle.rom_law.proofs.Schedules.{dispatch_by, halt_by}
 use Rattle.rom_rows.specs.Heads.{high_byte, low_byte}
 use Rattle.rom_rows.specs.Rom.{vip}
-use Rattle.rom_rows.specs.SpriteBlocks.{SpriteBlock, IsWaited, Clears, sprite_moves}
+use Rattle.rom_rows.specs.SpriteBlocks.{SpriteBlock, IsWaited, Clears, draw_time, sprite_moves}
 use Rattle.rom_rows.specs.SpriteBlocks.SpriteBlock.{Wipe, Wipe3, Wipe6, Wiped, Cleared, Line, LineLeft, LineRight, Drawn}
 use Rattle.rom_rows.specs.SpriteBlocks.SpritePlace.{ClearWait, ClearIdle, DrawWait, DrawIdle}
 use Rattle.rom_rows.specs.Table.{Head, pieces, waited_pieces}
 use Rattle.rom_rows.specs.Table.Block.{OfSprite}
 use Rattle.rom_rows.specs.Table.Place.{AtTimer, AtKey, AtSprite}
+use Rattle.rom_rows.proofs.Later.{before_ticks}
+use Rattle.rom_sprite.proofs.Screen.{few_rows}
 use Rattle.rom_timer.specs.Routine.{routine_cycles}
-use Rattle.rom_run.specs.Time.{WaitsBy, Woken, most_changing}
+use Rattle.rom_run.specs.Time.{WaitsBy, Woken, wait_time, most_changing}
 use Rattle.rom_run.specs.Time.WaitsBy.{ToClear, ToDraw}
+use Rattle.rom_run.proofs.Most.{draw_most}
 use Rattle.rom_run.proofs.Proved.{proved}
 use Rattle.rom_run.proofs.Time.{few}
 use Rattle.rom_run.proofs.Waits.{sleeps, timer_awake, key_awake}
 
 -- ---- where main code waits
 
--- after at most so many main cycles; it is in a row too if the wait came after all of them
-pub record Waits (e : Edition) (b : Machine) (h : Since) : Type 0 where
-  pub base : ℕ
-  pub waits : WaitsBy h.state base
-  pub soon : h.spent ≤ base
-  pub row : Row (vip e) (pieces (vip e)) b (record h { spent = base })
+-- after so many main cycles, and these are few
+pub record Waits (e : Edition) (h : Since) : Type 0 where
+  pub most : ℕ
+  pub waits : WaitsBy h.state most
+  pub soon : h.spent ≤ most
+  pub exact : h.spent ≡ wait_time e h.state
 
 -- the instruction at the last dispatch point is that of the state after the ticks since
 instr_then : (h : Since) {i : Instr} → instr_at (now h) ≡ i → instr_at h.state ≡ i
@@ -49,88 +53,69 @@ to_clear s is = rw (is.0, is.1) refl
 to_draw : (s : Lang) → high_byte s / 16 ≡ 13 → instr_at s ≡ IsDraw (high_byte s % 16) (low_byte s / 16) (low_byte s % 16)
 to_draw s is = rw is refl
 
-pub row_waits : (e : Edition) (b : Machine) (h : Since) → b.regs.idle ≡ true → Row (vip e) (pieces (vip e)) b h → Waits e b h
+-- how long it takes before the wait is told by the state after ticks
+clear_wait : (e : Edition) (s : Lang) → instr_at s ≡ IsClear → wait_time e s ≡ 102
+clear_wait e s is = ap (λ i. before_wait e i s) is
+
+draw_wait : (e : Edition) (h : Since) → high_byte (now h) / 16 ≡ 13 → wait_time e h.state ≡ draw_time e (now h)
+draw_wait e h digit =
+    sym (ap (λ i. before_wait e i (now h)) (ticks_instr h.ticks h.state) ∙ before_ticks e (instr_at h.state) h.ticks h.state)
+    ∙ ap (λ i. before_wait e i (now h)) (to_draw (now h) digit)
+
+pub row_waits : (e : Edition) (b : Machine) (h : Since) → b.regs.idle ≡ true → Row (vip e) (pieces (vip e)) b h → Waits e h
 row_waits e b h i (Inside l r) = absurd (sleeps (sym i ∙ block_awake (vip e) (pieces (vip e)) (proved e) r))
 row_waits e b h i (Alone (AtTimer l) o) = absurd (sleeps (sym i ∙ timer_awake (vip e) b (now h) l o.0))
 row_waits e b h i (Alone (AtKey l) o) = absurd (sleeps (sym i ∙ key_awake (vip e) b (now h) l h.keys o.0))
 row_waits e b h i (Alone (AtSprite ClearWait) o) = absurd (sleeps (sym i ∙ o.0.holds.awake))
 row_waits e b h i (Alone (AtSprite ClearIdle) o) =
     record {
-      base = 102;
+      most = 102;
       waits = ToClear (instr_then h (to_clear (now h) o.0.0.clears));
-      soon = o.1;
-      row = Alone (AtSprite ClearIdle) (o.0, omega arith);
+      soon = omega (arith, o.1);
+      exact = o.1 ∙ sym (clear_wait e h.state (instr_then h (to_clear (now h) o.0.0.clears)));
     }
 row_waits e b h i (Alone (AtSprite DrawWait) o) = absurd (sleeps (sym i ∙ o.0.holds.awake))
 row_waits e b h i (Alone (AtSprite DrawIdle) o) =
     record {
-      base = 2154;
+      most = 2154;
       waits = ToDraw _ _ _ (instr_then h (to_draw (now h) o.0.0.draws.digit));
-      soon = o.1;
-      row = Alone (AtSprite DrawIdle) (o.0, omega arith);
+      soon = omega (arith, o.1, draw_most e (now h));
+      exact = o.1 ∙ sym (draw_wait e h o.0.0.draws.digit);
     }
 
 -- ---- behind the wait
 
--- of a block behind the wait the head says how late it is
-clearing : (s : Lang) (base late n : ℕ) → WaitsBy s base → instr_at s ≡ IsClear → late ≤ 102 + n → n ≤ most_changing → late ≤ base + most_changing
-clearing s base late n (ToClear h) c l m = omega (arith, l, m)
-clearing s base late n (ToDraw x y z h) c l m = absurd (never (sym c ∙ h))
-  where
-    never : IsClear ≡ IsDraw x y z → ⊥
-    never k = cc
-
-drawing : (s : Lang) (base late n x y z : ℕ) → WaitsBy s base → instr_at s ≡ IsDraw x y z → late ≤ 2154 + n → n ≤ most_changing → late ≤ base + most_changing
-drawing s base late n x y z (ToClear h) d l m = absurd (never (sym h ∙ d))
-  where
-    never : IsClear ≡ IsDraw x y z → ⊥
-    never k = cc
-drawing s base late n x y z (ToDraw x' y' z' h) d l m = omega (arith, l, m)
-
 module _ (e : Edition) where
-  -- the instruction at the last dispatch point is the block's
-  clears_at : (g h : Since) → h.state ≡ g.state → Clears (now g) → instr_at h.state ≡ IsClear
-  clears_at g h same is = ap instr_at same ∙ instr_then g (to_clear (now g) is)
+  -- of a block behind the wait the head says how long ago it was
+  clear_then : (g h : Since) → h.state ≡ g.state → Clears (now g) → wait_time e h.state ≡ 102
+  clear_then g h same is = clear_wait e h.state (ap instr_at same ∙ instr_then g (to_clear (now g) is))
 
-  draws_at : (g h : Since) → h.state ≡ g.state → high_byte (now g) / 16 ≡ 13
-      → instr_at h.state ≡ IsDraw (high_byte (now g) % 16) (low_byte (now g) / 16) (low_byte (now g) % 16)
-  draws_at g h same is = ap instr_at same ∙ instr_then g (to_draw (now g) is)
+  draw_then : (g h : Since) → h.state ≡ g.state → high_byte (now g) / 16 ≡ 13 → wait_time e h.state ≡ draw_time e (now g)
+  draw_then g h same is = ap (wait_time e) same ∙ draw_wait e g is
 
-  head_few : (l : SpriteBlock) → IsWaited l → (c : Machine) (g h : Since) (base k : ℕ) → h.state ≡ g.state → WaitsBy h.state base → k < sprite_moves l
-      → Head (vip e) (OfSprite l) c g → g.spent + 2 * k ≤ base + most_changing
-  head_few (Wipe k) w c g h base j same t i o =
-      clearing h.state base (g.spent + 2 * j) (24 * (63 - k) + 4) t (clears_at g h same o.0.0.clears) (omega (arith, o.1.0, i)) (omega arith)
-  head_few (Wipe3 k) w c g h base j same t i o =
-      clearing h.state base (g.spent + 2 * j) (24 * (63 - k) + 10) t (clears_at g h same o.0.0.clears) (omega (arith, o.1.0, i)) (omega arith)
-  head_few (Wipe6 k) w c g h base j same t i o =
-      clearing h.state base (g.spent + 2 * j) (24 * (63 - k) + 16) t (clears_at g h same o.0.0.clears) (omega (arith, o.1.0, i)) (omega arith)
-  head_few (Wiped k) w c g h base j same t i o =
-      clearing h.state base (g.spent + 2 * j) (24 * (63 - k) + 22) t (clears_at g h same o.0.0.clears) (omega (arith, o.1.0, i)) (omega arith)
-  head_few Cleared w c g h base j same t i o = clearing h.state base (g.spent + 2 * j) 1536 t (clears_at g h same o.0.1) (omega (arith, o.1.0, i)) (omega arith)
-  head_few (Line r) w c g h base j same t i o =
-      drawing h.state base (g.spent + 2 * j) (58 * r + 2) _ _ _ t (draws_at g h same o.0.0.draws.digit) (omega (arith, o.1.0, i))
-      (omega (arith, o.0.1, few e (now g)))
-  head_few (LineLeft r) w c g h base j same t i o =
-      drawing h.state base (g.spent + 2 * j) (58 * r + 24) _ _ _ t (draws_at g h same o.0.0.draws.digit) (omega (arith, o.1.0, i))
-      (omega (arith, o.0.1, few e (now g)))
-  head_few (LineRight r) w c g h base j same t i o =
-      drawing h.state base (g.spent + 2 * j) (58 * r + 56) _ _ _ t (draws_at g h same o.0.0.draws.digit) (omega (arith, o.1.0, i))
-      (omega (arith, o.0.1, few e (now g)))
-  head_few Drawn w c g h base j same t i o =
-      drawing h.state base (g.spent + 2 * j) 892 _ _ _ t (draws_at g h same o.0.draws.digit) (omega (arith, o.1.0, i)) (omega arith)
-  head_few _ w c g h base j same t i o = absurd w
+  head_few : (l : SpriteBlock) → IsWaited l → (c : Machine) (g h : Since) (j : ℕ) → h.state ≡ g.state → j < sprite_moves l
+      → Head (vip e) (OfSprite l) c g → g.spent + 2 * j ≤ wait_time e h.state + most_changing
+  head_few (Wipe k) w c g h j same i o = omega (arith, o.1.0, i, few_rows e, clear_then g h same o.0.0.clears)
+  head_few (Wipe3 k) w c g h j same i o = omega (arith, o.1.0, i, few_rows e, clear_then g h same o.0.0.clears)
+  head_few (Wipe6 k) w c g h j same i o = omega (arith, o.1.0, i, few_rows e, clear_then g h same o.0.0.clears)
+  head_few (Wiped k) w c g h j same i o = omega (arith, o.1.0, i, few_rows e, clear_then g h same o.0.0.clears)
+  head_few Cleared w c g h j same i o = omega (arith, o.1.0, i, few_rows e, clear_then g h same o.0.1)
+  head_few (Line r) w c g h j same i o = omega (arith, o.1.0, i, o.0.1, few e (now g), draw_then g h same o.0.0.draws.digit)
+  head_few (LineLeft r) w c g h j same i o = omega (arith, o.1.0, i, o.0.1, few e (now g), draw_then g h same o.0.0.draws.digit)
+  head_few (LineRight r) w c g h j same i o = omega (arith, o.1.0, i, o.0.1, few e (now g), draw_then g h same o.0.0.draws.digit)
+  head_few Drawn w c g h j same i o = omega (arith, o.1.0, i, few e (now g), draw_then g h same o.0.draws.digit)
+  head_few _ w c g h j same i o = absurd w
 
-  row_few : (b : Machine) (h : Since) (base late : ℕ) → WaitsBy h.state base → Row (vip e) (waited_pieces (vip e)) b (record h { spent = late })
-      → late ≤ base + most_changing
-  row_few b h base late t (Inside l r) = omega (arith, head_few l.0 l.1 r.start r.since h base r.k r.grows.state t r.inside r.head, r.grows.spent)
-  row_few b h base late t (Alone l o) = absurd o
+  row_few : (b : Machine) (h : Since) → Row (vip e) (waited_pieces (vip e)) b h → h.spent ≤ wait_time e h.state + most_changing
+  row_few b h (Inside l r) = omega (arith, head_few l.0 l.1 r.start r.since h r.k r.grows.state r.inside r.head, r.grows.spent)
+  row_few b h (Alone l o) = absurd o
 
-  pub woken_few : (b : Machine) (h : Since) (w : Woken e b h) → w.late ≤ w.base + most_changing
-  woken_few b h w = row_few b h w.base w.late w.waits w.row
+  pub woken_few : (b : Machine) (h : Since) → Woken e b h → h.spent ≤ wait_time e h.state + most_changing
+  woken_few b h w = row_few b h w.row
 
   -- so it isn't interrupted there, nor after a main move more
   pub woken_apart : (b : Machine) (h : Since) (n : ℕ) → n ≤ 2 → Woken e b h → place (b.cycle + n) ≡ interrupt_place → ⊥
-  woken_apart b h n l w i = apart b.cycle n w.base w.woke w.late l w.return w.since w.least (woken_few b h w) i
+  woken_apart b h n l w i = apart b.cycle n (wait_time e h.state) w.woke h.spent l w.return w.since w.least (woken_few b h w) i
     where
       apart : (cycle n base woke late : ℕ) → n ≤ 2 → place woke ≡ interrupt_place + routine_cycles → cycle + base ≡ woke + late → base ≤ late
           → late ≤ base + most_changing → place (cycle + n) ≡ interrupt_place → ⊥
@@ -144,16 +129,15 @@ module _ (e : Edition) where
   calm_row c h calm (Halted stop st) = absurd (sleeps (sym (halt_by (vip e) c (now h) stop st.halts) ∙ (neither _ _ calm).1))
 
   -- the interrupt routine has returned
-  pub wakes : (b c : Machine) (h : Since) (m : ℕ) (t : Waits e b h) → Row (vip e) (waited_pieces (vip e)) c (after_tick (record h { spent = t.base }))
+  pub wakes : (c : Machine) (h : Since) (m : ℕ) (t : Waits e h) → Row (vip e) (waited_pieces (vip e)) c (after_tick h)
       → c.cycle ≡ interrupt_at m + routine_cycles → Woken e c (after_tick h)
-  wakes b c h m t row at =
+  wakes c h m t row at =
       record {
         woke = c.cycle;
         return = omega (arith, at);
-        base = t.base;
+        most = t.most;
         waits = t.waits;
-        late = t.base;
-        since = refl;
-        least = omega arith;
+        since = omega (arith, t.exact);
+        least = omega (arith, t.exact);
         row = row;
       }

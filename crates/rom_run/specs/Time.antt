@@ -6,6 +6,7 @@ use Rattle.chip8_lang.specs.declared.instr.Instr.TheVariants.{Clear, Draw}
 use Rattle.chip8_lang.specs.declared.view.Edition.{Edition}
 use Rattle.chip8_lang.specs.State.{Lang, instr_at}
 use Rattle.chip8_lang.specs.Bounds.{bound_of}
+use Rattle.chip8_lang.specs.Timed.{before_wait}
 use Rattle.rom_law.specs.Rows.{Since, Row}
 use Rattle.rom_rows.specs.Rom.{vip}
 use Rattle.rom_rows.specs.Table.{calm_pieces, waited_pieces}
@@ -35,17 +36,19 @@ pub data WaitsBy (s : Lang) : ℕ → Type 0 where
 abbrev pub most_changing : ℕ
 most_changing = 1560
 
--- Behind a wait: main code went on in the cycle `woke`, where the interrupt routine returned. It is in a row too if the wait came after `base`
--- main cycles, so that the row says how many it has spent since, `late` less `base`.
+-- the main cycles after which they wait
+abbrev pub wait_time : Edition → Lang → ℕ
+wait_time e s = before_wait e (instr_at s) s
+
+-- Behind a wait: main code went on in the cycle `woke`, where the interrupt routine returned.
 pub record Woken (e : Edition) (b : Machine) (h : Since) : Type 0 where
   pub woke : ℕ
   pub return : place woke ≡ interrupt_place + routine_cycles
-  pub base : ℕ
-  pub waits : WaitsBy h.state base
-  pub late : ℕ
-  pub since : b.cycle + base ≡ woke + late
-  pub least : base ≤ late
-  pub row : Row (vip e) (waited_pieces (vip e)) b (record h { spent = late })
+  pub most : ℕ
+  pub waits : WaitsBy h.state most
+  pub since : b.cycle + wait_time e h.state ≡ woke + h.spent
+  pub least : wait_time e h.state ≤ h.spent
+  pub row : Row (vip e) (waited_pieces (vip e)) b h
 
 -- Main code hasn't waited; it waits, since the window ended at most; or it has waited, and is behind the wait of 00E0 or DXYN.
 pub data Timed (e : Edition) (b : Machine) (h : Since) : Type 0 where

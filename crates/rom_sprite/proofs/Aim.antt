@@ -13,6 +13,7 @@ use Rattle.chip8_lang.specs.declared.view.Stop.TheVariants.{ReadOutside}
 use Rattle.chip8_lang.specs.Editions.{rows_of}
 use Rattle.chip8_lang.specs.State.{Lang, variable, is_in_memory, is_in_font, is_fetchable}
 use Rattle.chip8_lang.specs.Step.{next, stop_of}
+use Rattle.chip8_lang.specs.Timed.{outside_cycles}
 use Rattle.chip8_image.specs.Labels.{at_fetch, at_draw, at_draw_check, at_draw_found, at_place, at_edge, at_fits, at_angle, at_begin}
 use Rattle.rom_law.proofs.Moves.{quicks}
 use Rattle.rom_law.specs.Program.{Program, code}
@@ -20,13 +21,13 @@ use Rattle.rom_law.specs.Holding.{Places, places, Holding}
 use Rattle.rom_law.specs.Rows.{Since, now}
 use Rattle.rom_law.proofs.Places.{memory_fits, v_get, i_is, work_set, work_get}
 use Rattle.rom_law.proofs.Kept.{Comes}
-use Rattle.rom_rows.specs.Heads.{by_edition, high_byte, low_byte, page_of, Enters}
-use Rattle.rom_rows.specs.Checks.{Calls, Checked, Answer, answer_number}
+use Rattle.rom_rows.specs.Heads.{to_stop, by_edition, high_byte, low_byte, page_of, Enters}
+use Rattle.rom_rows.specs.Checks.{answer_time, Calls, Checked, Answer, answer_number}
 use Rattle.rom_rows.specs.Checks.Caller.{ForDraw}
 use Rattle.rom_rows.specs.Checks.Answer.{InGame, InFont, Nowhere}
 use Rattle.rom_rows.specs.FetchBlocks.FetchBlock.{Leave}
 use Rattle.rom_rows.specs.MemoryBlocks.MemoryBlock.{Check}
-use Rattle.rom_rows.specs.SpriteBlocks.{Aiming, Summing, Aimed, top, asked, height, corner, entry_of}
+use Rattle.rom_rows.specs.SpriteBlocks.{aim_time, edge_time, Aiming, Summing, Aimed, top, asked, height, corner, entry_of}
 use Rattle.rom_rows.specs.SpriteBlocks.SpriteBlock.{Draw, DrawCheck, DrawFound, Place, Edge, Fits, Angle, Begin, Row}
 use Rattle.rom_rows.specs.Table.{calm_pieces}
 use Rattle.rom_rows.specs.Table.Block.{OfSprite}
@@ -34,6 +35,7 @@ use Rattle.rom_rows.proofs.Bits.{borrowed, not_borrowed}
 use Rattle.rom_rows.proofs.Branches.{branch}
 use Rattle.rom_rows.proofs.Bytes.{variables_is, stack_top_is, page_fits, page_low}
 use Rattle.rom_rows.proofs.Entry.{entered, is_inside}
+use Rattle.rom_rows.proofs.Times.{aim_none, aim_game, aim_font, edge_none, edge_some}
 use Rattle.rom_rows.proofs.Follows.{to_fetch, to_memory, to_sprite}
 use Rattle.rom_rows.proofs.Straight.{routine}
 use Rattle.rom_rows.proofs.Ways.{straight, forks}
@@ -158,7 +160,7 @@ module _ (e : Edition) (b : Machine) (h : Since) (f : FitsMachine b) where
         r6 = refl;
         r7 = refl;
         count = and_mask low 4;
-      }) (omega (arith, spent, g.spent)))
+      }) (omega (arith, spent, g.spent, aim_none e (now h) (sym (and_mask low 4) ∙ eqb-true _ _ k))))
       (λ k h' g. to_sprite (quick e) g _ refl DrawCheck tt (
         record {
           entered = record {
@@ -180,7 +182,7 @@ module _ (e : Edition) (b : Machine) (h : Since) (f : FitsMachine b) where
       some : (bit_and low 15 == 0) ≡ false → 0 < low % 16
       some k = omega (arith, and_mask low 4, eqb-false (bit_and low 15) 0 k)
 
-  pub draw_check_comes : Enters (quick e) at_draw_check 13 b (now h) → b.regs.r.re.lo ≡ asked (now h) → 0 < asked (now h) → h.spent ≤ 88
+  pub draw_check_comes : Enters (quick e) at_draw_check 13 b (now h) → b.regs.r.re.lo ≡ asked (now h) → 0 < asked (now h) → h.spent ≡ 88
       → Comes (quick e) (calm_pieces (quick e)) (OfSprite DrawCheck) b h
   draw_check_comes o count some spent = routine (OfSprite DrawCheck) o.entered _ (omega arith) refl
       (λ h' g. to_memory (quick e) g _ refl (Check ForDraw)
@@ -203,6 +205,9 @@ module _ (e : Edition) (b : Machine) (h : Since) (f : FitsMachine b) where
       → is_in_font (now h).i (low % 16) ≡ false → stop_of e (now h) ≡ Some ReadOutside
   draw_stops inside k game font = rw (inside, k.0, ne_eqb (low % 16) 0 (λ z. omega (arith, z, k.1)), game, font) refl
 
+  draw_stop_time : is_fetchable e (now h) ≡ true → Calls ForDraw (now h) → to_stop (quick e) (now h) ≡ 152 + outside_cycles (now h).i
+  draw_stop_time inside k = rw (inside, k.0) refl
+
   -- at the first of the rows to count
   found : {answer : Answer} → Checked (quick e) ForDraw answer b (now h)
       → (is_in_memory e (now h).i (low % 16) || is_in_font (now h).i (low % 16)) ≡ true → (c : Machine) → Holding (quick e) (places c) (next (now h))
@@ -220,16 +225,16 @@ module _ (e : Edition) (b : Machine) (h : Since) (f : FitsMachine b) where
         count = re ∙ o.count;
       }
 
-  pub draw_found_comes : (answer : Answer) → Checked (quick e) ForDraw answer b (now h) → h.spent ≤ 148
+  pub draw_found_comes : (answer : Answer) → Checked (quick e) ForDraw answer b (now h) → h.spent ≡ 102 + answer_time answer (now h).i
       → Comes (quick e) (calm_pieces (quick e)) (OfSprite (DrawFound answer)) b h
   draw_found_comes InGame o spent =
       straight (OfSprite (DrawFound InGame)) o.called.holds _ (is_resumed o) _ (omega arith) refl
       (λ h' g. to_sprite (quick e) g _ refl Place tt (found o (rw o.is refl) _ o.called.holds refl refl refl refl refl refl)
-      (omega (arith, spent, g.spent)))
+      (omega (arith, spent, g.spent, aim_game e (now h) o.called.calls.1 o.is)))
   draw_found_comes InFont o spent =
       straight (OfSprite (DrawFound InFont)) o.called.holds _ (is_resumed o) _ (omega arith) refl
       (λ h' g. to_sprite (quick e) g _ refl Place tt (found o (rw (o.is.0, o.is.1) refl) _ o.called.holds refl refl refl refl refl refl)
-      (omega (arith, spent, g.spent)))
+      (omega (arith, spent, g.spent, aim_font e (now h) o.called.calls.1 o.is.0)))
   draw_found_comes Nowhere o spent =
       straight (OfSprite (DrawFound Nowhere)) o.called.holds _ (is_resumed o) _ (omega arith) refl
       (λ h' g. to_fetch (quick e) g _ refl (Leave 3) (
@@ -242,7 +247,7 @@ module _ (e : Edition) (b : Machine) (h : Since) (f : FitsMachine b) where
           number = refl;
         },
         omega arith,
-      ) (omega (arith, spent, g.spent)))
+      ) (omega (arith, spent, g.spent, draw_stop_time o.called.inside o.called.calls)))
 
   -- ---- VX, VY and the work
 
@@ -302,7 +307,8 @@ module _ (e : Edition) (b : Machine) (h : Since) (f : FitsMachine b) where
   abbrev more_df : ℕ
   more_df = (b.regs.r.re.lo + 256 - again down_to) / 256
 
-  pub place_comes : Aiming (quick e) at_place (asked (now h)) b (now h) → h.spent ≤ 152 → Comes (quick e) (calm_pieces (quick e)) (OfSprite Place) b h
+  pub place_comes : Aiming (quick e) at_place (asked (now h)) b (now h) → h.spent ≡ 88 + aim_time e (now h)
+      → Comes (quick e) (calm_pieces (quick e)) (OfSprite Place) b h
   place_comes o spent =
       forks (OfSprite Place) o.holds (aiming e at_place high low b) (is_aiming o) (on_at (quicks (code (quick e)) 12 (aiming e at_place high low b)))
       (not (more_df == 1)) at_fits at_edge (omega (arith, stack_there o, page_low e)) refl
@@ -318,7 +324,7 @@ module _ (e : Edition) (b : Machine) (h : Since) (f : FitsMachine b) where
           count = omega (arith, less k, o.count);
         },
         record { rd = refl; pointer = refl },
-      ) (omega (arith, spent, g.spent)))
+      ) (omega (arith, spent, g.spent, edge_none e (now h) (less k))))
       (λ k h' g. to_sprite (quick e) g _ refl Edge tt (
         record {
           draws = o.draws;
@@ -341,7 +347,7 @@ module _ (e : Edition) (b : Machine) (h : Since) (f : FitsMachine b) where
       more k = omega (arith, not_borrowed more_df k, again_is o down_to, down_is o, o.count, few_rows e)
 
   pub edge_comes : Aiming (quick e) at_edge (asked (now h)) b (now h) → Summing (quick e) b → rows_of e ≤ top e (now h) + asked (now h)
-      → h.spent ≤ 176 → Comes (quick e) (calm_pieces (quick e)) (OfSprite Edge) b h
+      → h.spent ≡ 112 + aim_time e (now h) → Comes (quick e) (calm_pieces (quick e)) (OfSprite Edge) b h
   edge_comes o w past spent = straight (OfSprite Edge) o.holds (summing e at_edge high low b) (is_summing o w) _ (omega (arith, stack_there o, page_low e)) refl
       (λ h' g. to_sprite (quick e) g _ refl Fits tt (
         record {
@@ -355,7 +361,7 @@ module _ (e : Edition) (b : Machine) (h : Since) (f : FitsMachine b) where
           count = omega (arith, down_is o, past);
         },
         record { rd = refl; pointer = refl },
-      ) (omega (arith, spent, g.spent)))
+      ) (omega (arith, spent, g.spent, edge_some e (now h) (omega (arith, past)))))
 
   -- ---- the place on the screen
 
@@ -372,7 +378,7 @@ module _ (e : Edition) (b : Machine) (h : Since) (f : FitsMachine b) where
   abbrev fitted : Machine
   fitted = quicks (code (quick e)) 20 (summing e at_fits high low b)
 
-  pub fits_comes : Aiming (quick e) at_fits (height e (now h)) b (now h) → Summing (quick e) b → h.spent ≤ 184
+  pub fits_comes : Aiming (quick e) at_fits (height e (now h)) b (now h) → Summing (quick e) b → h.spent ≡ 112 + aim_time e (now h) + edge_time e (now h)
       → Comes (quick e) (calm_pieces (quick e)) (OfSprite Fits) b h
   fits_comes o w spent = straight (OfSprite Fits) o.holds (summing e at_fits high low b) (is_summing o w) fitted (omega (arith, stack_there o, page_low e)) refl
       (λ h' g. to_sprite (quick e) g fitted refl Angle tt (
@@ -415,7 +421,8 @@ module _ (e : Edition) (b : Machine) (h : Since) (f : FitsMachine b) where
   abbrev left_out : ℕ
   left_out = (7 + 256 - bit_and vx 7) % 256
 
-  pub angle_comes : Aiming (quick e) at_angle (height e (now h)) b (now h) → Summing (quick e) b → Aimed (quick e) b (now h) → h.spent ≤ 224
+  pub angle_comes : Aiming (quick e) at_angle (height e (now h)) b (now h) → Summing (quick e) b → Aimed (quick e) b (now h)
+      → h.spent ≡ 152 + aim_time e (now h) + edge_time e (now h)
       → Comes (quick e) (calm_pieces (quick e)) (OfSprite Angle) b h
   angle_comes o w z spent = straight (OfSprite Angle) o.holds (summing e at_angle high low b) (is_summing o w) _ (omega (arith, stack_there o, page_low e)) refl
       (λ h' g. to_sprite (quick e) g _ refl Begin tt (
@@ -445,7 +452,7 @@ module _ (e : Edition) (b : Machine) (h : Since) (f : FitsMachine b) where
   no_less n = omega arith
 
   pub begin_comes : Aiming (quick e) at_begin (height e (now h)) b (now h) → Aimed (quick e) b (now h) → b.regs.r.rc.lo ≡ entry_of (now h)
-      → h.spent ≤ 242 → Comes (quick e) (calm_pieces (quick e)) (OfSprite Begin) b h
+      → h.spent ≡ 170 + aim_time e (now h) + edge_time e (now h) → Comes (quick e) (calm_pieces (quick e)) (OfSprite Begin) b h
   begin_comes o z entry spent = straight (OfSprite Begin) o.holds (aiming e at_begin high low b) (is_aiming o) _ (omega arith) refl
       (λ h' g. to_sprite (quick e) g _ refl (Row 0) tt (
         record {

@@ -26,7 +26,7 @@ use Rattle.rom_law.proofs.Places.{read_is, v_set}
 use Rattle.rom_law.proofs.Kept.{Comes, Holds}
 use Rattle.rom_rows.specs.Heads.{high_byte, low_byte, page_of}
 use Rattle.rom_rows.specs.Dots.{left, right, dots_of_byte}
-use Rattle.rom_rows.specs.SpriteBlocks.{Draws, Preparing, Painting, painted, column, top, asked, height, corner, lit, half_lit, woken}
+use Rattle.rom_rows.specs.SpriteBlocks.{aim_time, edge_time, rows_time, draw_time, Draws, Preparing, Painting, painted, column, top, asked, height, corner, lit, half_lit, woken}
 use Rattle.rom_rows.specs.SpriteBlocks.SpriteBlock.{Ready, Line, LineLeft, LineRight, Drawn}
 use Rattle.rom_rows.specs.SpriteBlocks.SpritePlace.{DrawWait, DrawIdle}
 use Rattle.rom_rows.specs.Table.{At, pieces, waited_pieces, calm_pieces}
@@ -76,7 +76,8 @@ module _ (e : Edition) (b : Machine) (h : Since) (f : FitsMachine b) where
   no_less : (n : ℕ) → n ≡ n - 0
   no_less n = omega arith
 
-  pub ready_comes : Preparing (quick e) at_ready rows rows rows b (now h) → h.spent ≤ 2130 → Comes (quick e) (calm_pieces (quick e)) (OfSprite Ready) b h
+  pub ready_comes : Preparing (quick e) at_ready rows rows rows b (now h)
+      → h.spent ≡ 198 + aim_time e (now h) + edge_time e (now h) + rows_time (now h) rows → Comes (quick e) (calm_pieces (quick e)) (OfSprite Ready) b h
   ready_comes o spent = straight (OfSprite Ready) o.holds (preparing e at_ready (rows + rows) b) (is_preparing o) _ (omega arith) refl
       (λ h' g. to_sprite_place (quick e) g _ refl DrawWait (record {
         draws = o.draws;
@@ -97,7 +98,8 @@ module _ (e : Edition) (b : Machine) (h : Since) (f : FitsMachine b) where
 
   -- ---- the wait
 
-  pub draw_wait_holds : Painting (quick e) at_draw_wait 0 0 rows (lit e 0 (now h)) b (now h) → At (quick e) (AtSprite DrawWait) b h → h.spent ≤ 2152
+  pub draw_wait_holds : Painting (quick e) at_draw_wait 0 0 rows (lit e 0 (now h)) b (now h) → At (quick e) (AtSprite DrawWait) b h
+      → h.spent ≡ draw_time e (now h) - 2
       → Holds (quick e) (calm_pieces (quick e)) (AtSprite DrawWait) b h
   draw_wait_holds o at spent = alone (AtSprite DrawWait) f at o.holds (painting e at_draw_wait 0 b) (is_painting o) refl refl refl
       (λ u. to_sprite_place (quick e) (one_more u h) _ refl DrawIdle (
@@ -119,7 +121,7 @@ module _ (e : Edition) (b : Machine) (h : Since) (f : FitsMachine b) where
       )
       (omega (arith, spent)))
 
-  pub draw_wakes : Painting (quick e) at_line 0 0 rows (lit e 0 (now h)) (woken b) (now h) → h.spent ≤ 2154 → (c : Machine)
+  pub draw_wakes : Painting (quick e) at_line 0 0 rows (lit e 0 (now h)) (woken b) (now h) → h.spent ≡ draw_time e (now h) → (c : Machine)
       → Tick (code (quick e)).low b c → Starts (waited_pieces (quick e)) c (after_tick h)
   draw_wakes o spent c k =
       Enters (Line 0, tt) (
@@ -132,14 +134,15 @@ module _ (e : Edition) (b : Machine) (h : Since) (f : FitsMachine b) where
         (omega (arith, spent), omega arith),
       )
 
-  pub draw_idle_holds : Painting (quick e) at_line 0 0 rows (lit e 0 (now h)) (woken b) (now h) → b.regs.idle ≡ true → h.spent ≤ 2154
+  pub draw_idle_holds : Painting (quick e) at_line 0 0 rows (lit e 0 (now h)) (woken b) (now h) → b.regs.idle ≡ true → h.spent ≡ draw_time e (now h)
       → Holds (quick e) (pieces (quick e)) (AtSprite DrawIdle) b h
   draw_idle_holds o idle spent = waits (AtSprite DrawIdle) o.holds idle
       (λ c k. starts_joined (quick e) c (after_tick h) (draw_wakes o spent c k))
 
   -- ---- are all rows drawn
 
-  pub line_comes : (r : ℕ) → Painting (quick e) at_line (2 * r) (8 * r) (rows - r) (lit e r (now h)) b (now h) → r ≤ rows → h.spent ≤ 2154 + 58 * r
+  pub line_comes : (r : ℕ) → Painting (quick e) at_line (2 * r) (8 * r) (rows - r) (lit e r (now h)) b (now h) → r ≤ rows
+      → h.spent ≡ draw_time e (now h) + 58 * r
       → 1 ≤ h.ticks → Comes (quick e) (waited_pieces (quick e)) (Line r, tt) b h
   line_comes r o inside spent tick =
       forks_on (Line r) tt o.holds (on_3 at_line b) (is_on_3 at_line b o.p o.r3) (on_at (quicks (code (quick e)) 2 (on_3 at_line b)))
@@ -269,7 +272,7 @@ module _ (e : Edition) (b : Machine) (h : Since) (f : FitsMachine b) where
     abbrev painted_left : Machine
     painted_left = quicks (code (quick e)) 11 (painting e at_line_left (2 * r) b)
 
-    pub line_left_comes : Painting (quick e) at_line_left (2 * r) (8 * r) (rows - r) (lit e r (now h)) b (now h) → h.spent ≤ 2158 + 58 * r
+    pub line_left_comes : Painting (quick e) at_line_left (2 * r) (8 * r) (rows - r) (lit e r (now h)) b (now h) → h.spent ≡ draw_time e (now h) + 58 * r + 4
         → 1 ≤ h.ticks → Comes (quick e) (waited_pieces (quick e)) (LineLeft r, tt) b h
     line_left_comes o spent tick =
         straight_on (LineLeft r) tt o.holds (painting e at_line_left (2 * r) b) (is_painting o) painted_left
@@ -324,7 +327,7 @@ module _ (e : Edition) (b : Machine) (h : Since) (f : FitsMachine b) where
     painted_right = quicks (code (quick e)) 16 (painting e at_line_right (2 * r + 1) b)
 
     pub line_right_comes : Painting (quick e) at_line_right (2 * r + 1) (8 * r + 1) (rows - (r + 1)) (half_lit e r (now h)) b (now h)
-        → h.spent ≤ 2180 + 58 * r → 1 ≤ h.ticks → Comes (quick e) (waited_pieces (quick e)) (LineRight r, tt) b h
+        → h.spent ≡ draw_time e (now h) + 58 * r + 26 → 1 ≤ h.ticks → Comes (quick e) (waited_pieces (quick e)) (LineRight r, tt) b h
     line_right_comes o spent tick =
         straight_on (LineRight r) tt o.holds (painting e at_line_right (2 * r + 1) b) (is_painting o) painted_right
         (omega (arith, o.holds.stack, stack_top_is e, page_low e, o.rd, screen_is e)) refl

@@ -12,6 +12,7 @@ use Rattle.chip8_lang.specs.declared.view.Edition.TheVariants.{Usual, Tall}
 use Rattle.chip8_lang.specs.Editions.{memory_start, memory_end, font_start, font_end, sprite_work}
 use Rattle.chip8_lang.specs.State.{Lang, is_in_memory, is_in_font}
 use Rattle.chip8_lang.specs.Step.{sprite_row}
+use Rattle.chip8_lang.specs.Timed.{row_cycles}
 use Rattle.chip8_image.specs.Labels.{at_fetch, at_halt, at_row, at_row_byte, at_shift7, at_shifted, at_row_right, at_row_store, at_ready}
 use Rattle.rom_law.specs.Code.{is_event}
 use Rattle.rom_law.proofs.Moves.{AllGood, quicks, written_is}
@@ -21,13 +22,14 @@ use Rattle.rom_law.proofs.Places.{work_set}
 use Rattle.rom_law.proofs.Kept.{Comes}
 use Rattle.rom_rows.specs.Heads.{page_of}
 use Rattle.rom_rows.specs.Dots.{left, right, shifted}
-use Rattle.rom_rows.specs.SpriteBlocks.{Preparing, Shifting, column, asked, height}
+use Rattle.rom_rows.specs.SpriteBlocks.{aim_time, edge_time, rows_time, Preparing, Shifting, column, asked, height}
 use Rattle.rom_rows.specs.SpriteBlocks.SpriteBlock.{Row, RowByte, Shift, Shifted, RowRight, RowStore, Ready}
 use Rattle.rom_rows.specs.Table.{calm_pieces, calm_top}
 use Rattle.rom_rows.specs.Table.Block.{OfSprite}
 use Rattle.rom_rows.proofs.Bits.{xor_same, xor_other}
 use Rattle.rom_rows.proofs.Bytes.{memory_end_is, variables_is, stack_top_is, page_fits}
 use Rattle.rom_rows.proofs.Entry.{on_3, is_on_3}
+use Rattle.rom_rows.proofs.Times.{row_last, row_other, rows_next}
 use Rattle.rom_rows.proofs.Follows.{to_sprite}
 use Rattle.rom_rows.proofs.Font.{Readable, readable_get}
 use Rattle.rom_rows.proofs.Ways.{straight, forks}
@@ -91,14 +93,14 @@ module _ (e : Edition) (b : Machine) (h : Since) (f : FitsMachine b) (r : ℕ) w
 
   -- ---- are all rows prepared
 
-  pub row_comes : Preparing (quick e) at_row r r r b (now h) → r ≤ rows → h.spent ≤ 266 + 124 * r
+  pub row_comes : Preparing (quick e) at_row r r r b (now h) → r ≤ rows → h.spent ≡ 194 + aim_time e (now h) + edge_time e (now h) + rows_time (now h) r
       → Comes (quick e) (calm_pieces (quick e)) (OfSprite (Row r)) b h
   row_comes o inside spent =
       forks (OfSprite (Row r)) o.holds (on_3 at_row b) (is_on_3 at_row b o.p o.r3) (on_at (quicks (code (quick e)) 2 (on_3 at_row b)))
       (b.regs.r.re.lo == 0) at_ready at_row_byte (omega arith) refl
       (λ k h' g. to_sprite (quick e) g _ refl Ready tt
       (subst (λ z. Preparing (quick e) at_ready z z z (on_at (quicks (code (quick e)) 2 (on_3 at_row b)) (word_of at_ready)) (now h)) (all k)
-      (goes at_ready)) (omega (arith, spent, g.spent, few_rows_drawn, all k)))
+      (goes at_ready)) (omega (arith, spent, g.spent, ap (rows_time (now h)) (all k))))
       (λ k h' g. to_sprite (quick e) g _ refl (RowByte r) tt (goes at_row_byte, more k) (omega (arith, spent, g.spent)))
     where
       all : (b.regs.r.re.lo == 0) ≡ true → r ≡ rows
@@ -177,7 +179,8 @@ module _ (e : Edition) (b : Machine) (h : Since) (f : FitsMachine b) (r : ℕ) w
     no_stop : (a : ℕ) → a ≡ at_shift7 + 6 * (7 - k) → is_event (code (quick e)) (loaded (word_of a)) ≡ false
     no_stop a is = rw (ne_eqb (value (word_of a)) at_halt (λ z. omega (arith, z, is))) refl
 
-    pub row_byte_comes : h.spent ≤ 270 + 124 * r → Comes (quick e) (calm_pieces (quick e)) (OfSprite (RowByte r)) b h
+    pub row_byte_comes : h.spent ≡ 198 + aim_time e (now h) + edge_time e (now h) + rows_time (now h) r
+        → Comes (quick e) (calm_pieces (quick e)) (OfSprite (RowByte r)) b h
     row_byte_comes spent = go (cases_eq k 0)
       where
         steady : AllGood (code (quick e)) (calm_top e) 7 (on_3 at_row_byte b)
@@ -189,7 +192,7 @@ module _ (e : Edition) (b : Machine) (h : Since) (f : FitsMachine b) (r : ℕ) w
             (entered_at at_shifted (omega (arith, z)))
             (λ h' g. to_sprite (quick e) g _ refl (Shifted r) tt
             (goes_on at_shifted, inside, subst (λ j. Shifting r j (loaded (word_of at_shifted)) (now h)) z (none_yet at_shifted))
-            (omega (arith, spent, g.spent)))
+            (omega (arith, spent, g.spent, z)))
         go (inr z) =
             straight (OfSprite (RowByte r)) o.holds (on_3 at_row_byte b) (is_on_3 at_row_byte b o.p o.r3)
             (loaded (word_of (at_shift7 + 6 * (7 - k)))) steady (entered_at (at_shift7 + 6 * (7 - k)) refl)
@@ -216,7 +219,7 @@ module _ (e : Edition) (b : Machine) (h : Since) (f : FitsMachine b) (r : ℕ) w
         };
       }
 
-  module _ (j : ℕ) (o : Preparing (quick e) (at_shift7 + 6 * (7 - suc j)) r r (r + 1) b (now h)) (inside : r < rows) (shifts : Shifting r (suc j) b (now h)) (few : suc j ≤ k) (spent : h.spent ≤ 284 + 124 * r + 12 * (7 - suc j)) where
+  module _ (j : ℕ) (o : Preparing (quick e) (at_shift7 + 6 * (7 - suc j)) r r (r + 1) b (now h)) (inside : r < rows) (shifts : Shifting r (suc j) b (now h)) (few : suc j ≤ k) (spent : h.spent ≡ 212 + aim_time e (now h) + edge_time e (now h) + rows_time (now h) r + 12 * (k - suc j)) where
     one_less : Shifting r j (halved at_shifted) (now h)
     one_less = half ∙ ap (λ m. m / 2 ^ 1) shifts ∙ shr-shr (byte_of * 256) (k - suc j) 1 ∙ ap (λ z. byte_of * 256 / 2 ^ z) fewer
       where
@@ -261,7 +264,7 @@ module _ (e : Edition) (b : Machine) (h : Since) (f : FitsMachine b) (r : ℕ) w
               inside,
               subst (λ i. Shifting r i (halved at_shifted) (now h)) z one_less,
             )
-            (omega (arith, spent, g.spent, z))
+            (omega (arith, spent, g.spent, z, few))
           where
             last : at_shifted ≡ at_shift7 + 6 * (7 - j)
             last = omega (arith, z)
@@ -270,7 +273,8 @@ module _ (e : Edition) (b : Machine) (h : Since) (f : FitsMachine b) (r : ℕ) w
             (omega (arith, spent, g.spent, few))
 
   pub shift_comes : (j : ℕ) → Preparing (quick e) (at_shift7 + 6 * (7 - j)) r r (r + 1) b (now h) → r < rows → Shifting r j b (now h) → 0 < j → j ≤ k
-      → h.spent ≤ 284 + 124 * r + 12 * (7 - j) → Comes (quick e) (calm_pieces (quick e)) (OfSprite (Shift r j)) b h
+      → h.spent ≡ 212 + aim_time e (now h) + edge_time e (now h) + rows_time (now h) r + 12 * (k - j)
+      → Comes (quick e) (calm_pieces (quick e)) (OfSprite (Shift r j)) b h
   shift_comes zero o inside s some few spent = absurd (omega (arith, some))
   shift_comes (suc zero) o inside s some few spent = shifting 0 o inside s few spent (omega arith) refl refl
   shift_comes (suc (suc zero)) o inside s some few spent = shifting 1 o inside s few spent (omega arith) refl refl
@@ -356,16 +360,21 @@ module _ (e : Edition) (b : Machine) (h : Since) (f : FitsMachine b) (r : ℕ) w
                 get_other b.latch b.ram (sprite_work e + 2 * j) first hi o.holds.latch first_small (λ y. omega (arith, z, y, first_there))
                 ∙ o.prepared.lefts j (omega (arith, z, l))
 
-    pub shifted_comes : h.spent ≤ 368 + 124 * r → Comes (quick e) (calm_pieces (quick e)) (OfSprite (Shifted r)) b h
+    pub shifted_comes : h.spent ≡ 212 + aim_time e (now h) + edge_time e (now h) + rows_time (now h) r + 12 * k
+        → Comes (quick e) (calm_pieces (quick e)) (OfSprite (Shifted r)) b h
     shifted_comes spent =
         forks (OfSprite (Shifted r)) o.holds (preparing e at_shifted (r + r) b) (is_preparing o) stored (last_column == 0) at_row_store at_row_right
         (omega (arith, o.holds.stack, stack_top_is e)) refl
-        (λ z h' g. to_sprite (quick e) g _ refl (RowStore r) tt (goes_left at_row_store, inside, right_none z) (omega (arith, spent, g.spent)))
-        (λ z h' g. to_sprite (quick e) g _ refl (RowRight r) tt (goes_left at_row_right, inside, right_is z) (omega (arith, spent, g.spent)))
+        (λ z h' g. to_sprite (quick e) g _ refl (RowStore r) tt (goes_left at_row_store, inside, right_none z)
+        (omega (arith, spent, g.spent, row_last (now h) (at_edge_of z))))
+        (λ z h' g. to_sprite (quick e) g _ refl (RowRight r) tt (goes_left at_row_right, inside, right_is z, before_edge z)
+        (omega (arith, spent, g.spent)))
 
   pub row_right_comes : Preparing (quick e) at_row_right (r + 1) r (r + 1) b (now h) → r < rows → lo ≡ right (column (now h)) byte_of
-      → h.spent ≤ 382 + 124 * r → Comes (quick e) (calm_pieces (quick e)) (OfSprite (RowRight r)) b h
-  row_right_comes o inside is spent = straight (OfSprite (RowRight r)) o.holds (on_3 at_row_right b) (is_on_3 at_row_right b o.p o.r3) _ (omega arith) refl
+      → (column (now h) / 8 ≡ 7 → ⊥)
+      → h.spent ≡ 226 + aim_time e (now h) + edge_time e (now h) + rows_time (now h) r + 12 * k
+      → Comes (quick e) (calm_pieces (quick e)) (OfSprite (RowRight r)) b h
+  row_right_comes o inside is before spent = straight (OfSprite (RowRight r)) o.holds (on_3 at_row_right b) (is_on_3 at_row_right b o.p o.r3) _ (omega arith) refl
       (λ h' g. to_sprite (quick e) g _ refl (RowStore r) tt (
         record {
           draws = o.draws;
@@ -384,7 +393,7 @@ module _ (e : Edition) (b : Machine) (h : Since) (f : FitsMachine b) (r : ℕ) w
         inside,
         is,
       )
-      (omega (arith, spent, g.spent)))
+      (omega (arith, spent, g.spent, row_other (now h) before)))
 
   -- ---- the second one is stored
 
@@ -392,7 +401,8 @@ module _ (e : Edition) (b : Machine) (h : Since) (f : FitsMachine b) (r : ℕ) w
   second = value (word (page_of e) (0xd0 + (r + 1 + r)))
 
   pub row_store_comes : Preparing (quick e) at_row_store (r + 1) r (r + 1) b (now h) → r < rows → b.regs.d ≡ right (column (now h)) byte_of
-      → h.spent ≤ 384 + 124 * r → Comes (quick e) (calm_pieces (quick e)) (OfSprite (RowStore r)) b h
+      → h.spent ≡ 188 + aim_time e (now h) + edge_time e (now h) + rows_time (now h) r + row_cycles (column (now h))
+      → Comes (quick e) (calm_pieces (quick e)) (OfSprite (RowStore r)) b h
   row_store_comes o inside is spent =
       straight (OfSprite (RowStore r)) o.holds (preparing e at_row_store (r + 1 + r) b) (is_preparing o) ended (omega arith) refl
       (λ h' g. to_sprite (quick e) g ended refl (Row (r + 1)) tt (
@@ -416,7 +426,7 @@ module _ (e : Edition) (b : Machine) (h : Since) (f : FitsMachine b) (r : ℕ) w
           rd = o.rd;
         },
         omega (arith, inside),
-      ) (omega (arith, spent, g.spent)))
+      ) (omega (arith, spent, g.spent, rows_next (now h) r)))
     where
       ended : Machine
       ended = quicks (code (quick e)) 3 (preparing e at_row_store (r + 1 + r) b)
