@@ -1,0 +1,309 @@
+"""Opens the pages that .ci/view has made in a headless browser, driven over its debugging pipe, and compares what they show with what the program writes.
+
+    python3 browser.py BROWSER
+"""
+
+import base64
+import json
+import os
+import re
+import shutil
+import subprocess
+import sys
+import tempfile
+import time
+
+FRAME, BEGIN, END = 3668, 1092, 2912
+PICTURE = len(b"P4\n64 128\n") + 1024
+SECONDS = 3
+OPTIONS = "--headless --no-sandbox --disable-gpu --disable-dev-shm-usage --no-first-run --window-size=1440,900 --remote-debugging-pipe"
+
+
+class Browser:
+    """A browser with one page. Messages go by the file descriptors 3 and 4, as JSON that ends with a byte 00."""
+
+    def __init__(self, program):
+        self.profile = tempfile.mkdtemp()
+        theirs, self.output = os.pipe()
+        self.input, ours = os.pipe()
+        command = f'exec "$0" {OPTIONS} --user-data-dir="$1" about:blank 3<&{theirs} 4>&{ours} 2> /dev/null'
+        self.process = subprocess.Popen(["bash", "-c", command, program, self.profile], pass_fds=(theirs, ours))
+        os.close(theirs)
+        os.close(ours)
+        self.number, self.rest, self.session, self.faults, self.loaded = 0, b"", None, [], []
+        target = self.call("Target.createTarget", url="about:blank")["targetId"]
+        self.session = self.call("Target.attachToTarget", targetId=target, flatten=True)["sessionId"]
+        for domain in ("Page", "Runtime", "Log", "Network", "DOM", "Accessibility"):
+            self.call(domain + ".enable")
+
+    def message(self):
+        while b"\0" not in self.rest:
+            more = os.read(self.input, 1 << 20)
+            if not more:
+                raise RuntimeError("the browser has ended")
+            self.rest += more
+        one, self.rest = self.rest.split(b"\0", 1)
+        return json.loads(one)
+
+    def call(self, method, **params):
+        """Sends a command and waits for its answer. What the page says meanwhile of faults and of what it loads is kept."""
+        self.number += 1
+        message = {"id": self.number, "method": method, "params": params}
+        if self.session:
+            message["sessionId"] = self.session
+        os.write(self.output, json.dumps(message).encode() + b"\0")
+        while True:
+            answer = self.message()
+            if answer.get("id") == self.number:
+                if "error" in answer:
+                    raise RuntimeError(f"{method}: {answer['error']}")
+                return answer["result"]
+            params = answer.get("params", {})
+            if answer.get("method") == "Runtime.exceptionThrown" or params.get("entry", {}).get("level") == "error":
+                self.faults.append(json.dumps(params)[:400])
+            if answer.get("method") == "Network.requestWillBeSent":
+                self.loaded.append(params["request"]["url"])
+
+    def ask(self, code):
+        answer = self.call("Runtime.evaluate", expression=code, awaitPromise=True, returnByValue=True)
+        if "exceptionDetails" in answer:
+            raise RuntimeError(json.dumps(answer["exceptionDetails"])[:400])
+        return answer["result"].get("value")
+
+    def open(self, name, place=""):
+        """Opens a page and answers in how many seconds it was usable."""
+        self.call("Page.navigate", url="about:blank")
+        self.call("Page.navigate", url="file://" + os.path.abspath(name) + place)
+        until = time.monotonic() + 60
+        while not self.ask("performance.getEntriesByName('usable').length"):
+            if time.monotonic() > until:
+                raise RuntimeError(f"{name} isn't usable after a minute")
+            time.sleep(0.02)
+        return self.ask("performance.getEntriesByName('usable')[0].startTime") / 1000
+
+    def press(self, key, times=1):
+        for _ in range(times):
+            for kind in ("keyDown", "keyUp"):
+                self.call("Input.dispatchKeyEvent", type=kind, key=key, code=key, windowsVirtualKeyCode=KEYS[key], text="\r" if key == "Enter" else "")
+
+    def write_in(self, place, text):
+        self.ask(f"document.getElementById('{place}').focus()")
+        self.call("Input.insertText", text=text)
+        self.press("Enter")
+
+    def give(self, names, until):
+        """Gives the page these files, as its button does, and waits until something of it is so."""
+        self.ask("document.getElementById('fault').textContent = ''")
+        root = self.call("DOM.getDocument")["root"]["nodeId"]
+        node = self.call("DOM.querySelector", nodeId=root, selector="#files")["nodeId"]
+        self.call("DOM.setFileInputFiles", nodeId=node, files=[os.path.abspath(name) for name in names])
+        for _ in range(200):
+            if self.ask(until):
+                break
+            time.sleep(0.1)
+
+    def end(self):
+        self.session = None
+        try:
+            self.call("Browser.close")
+        except (RuntimeError, OSError):
+            pass
+        self.process.wait()
+        shutil.rmtree(self.profile, ignore_errors=True)
+
+
+KEYS = {"Enter": 13, "ArrowDown": 40, "ArrowUp": 38, "ArrowLeft": 37, "ArrowRight": 39}
+
+# What the page shows: the line and its number, the fields that are marked, the frame, and the dots, as they are drawn and as text.
+SHOWN = r"""(() => {
+  const line = document.querySelector('[aria-selected=true]'), dots = document.getElementById('picture').getContext('2d').getImageData(0, 0, 64, 128).data;
+  document.getElementById('text').open = true;
+  document.getElementById('text').dispatchEvent(new Event('toggle'));
+  const nameOf = cell => cell.closest('table').querySelectorAll('thead tr > *')[cell.cellIndex].textContent;
+  return {
+    line: line.textContent, number: +line.dataset.line, frame: +document.getElementById('frame').value,
+    changed: Array.from(document.querySelectorAll('td.changed'), cell => [nameOf(cell), cell.textContent]),
+    dots: Array.from({ length: 8192 }, (_, dot) => dots[4 * dot] ? '#' : '.').join('').match(/.{64}/g), text: document.getElementById('as-text').textContent,
+    keys: Array.from(document.querySelectorAll('#keypad .down'), key => key.textContent).sort().join(''),
+    isWhole: !document.getElementById('picture').className,
+  };
+})()"""
+
+bad = []
+
+
+def check(what, is_right):
+    if not is_right:
+        bad.append(what)
+        print(f"view: {what}")
+
+
+def run_of(*words):
+    return subprocess.run(["./vip", *words], capture_output=True, check=False).stdout
+
+
+def lines_of(name):
+    with open(name, encoding="ascii") as file:
+        return file.read().splitlines()
+
+
+def fields_of_game(line):
+    values = line.split()
+    fields = {f"V{at:X}": values[3 + at] for at in range(16)}
+    behind = re.search(r" S((?: [0-9A-F]{4})*) N (....) AT", line)
+    fields |= dict(zip(("I", "DT", "ST", "tone"), (values[at] for at in (20, 22, 24, 26))))
+    return fields | {"stack": behind[1].strip() or "empty", "ticks": behind[2]}
+
+
+def fields_of_program(line):
+    words = line[35:].split()
+    fields = dict(zip(words[0:10:2], words[1:10:2])) | {"R(X)": words[11], "byte there": words[12]}
+    if len(words) > 13:
+        fields[words[13]] = words[14]
+    if len(words) > 15:
+        fields[f"byte at {words[13]}"] = words[15]
+    return fields
+
+
+def changed_between(before, here):
+    return sorted([name, value] for name, value in here.items() if name in before and before[name] != value)
+
+
+def keys_down(script, cycle):
+    down = set()
+    for line in lines_of(script):
+        words = line.split("#")[0].split()
+        if words and int(words[0]) <= cycle:
+            (down.add if words[1] == "down" else down.discard)(words[2])
+    return "".join(sorted(down))
+
+
+def rows_of(picture):
+    return ["".join(f"{byte:08b}" for byte in picture[10 + 8 * row:18 + 8 * row]).replace("0", ".").replace("1", "#") for row in range(128)]
+
+
+def look_at_game(browser):
+    """Three places of a game: by the page's address, by a cycle that is typed, and by keys. The screen is that of `trace --screen` up to the line."""
+    lines, words = lines_of("pen.trace"), ("examples/pen.ch8", "--keys", "examples/pen.keys")
+    cycles = [int(line.rsplit(" ", 1)[1]) for line in lines]
+
+    def compare(place, number):
+        shown, before, here = browser.ask(SHOWN), lines[max(0, number - 1)], lines[number]
+        screen = run_of("trace", words[0], str(cycles[number]), *words[1:], "--screen").decode().splitlines()[-32:]
+        check(f"pen, {place}: the line is {shown['line']} and not {here}", shown["line"] == here and shown["number"] == number)
+        check(f"pen, {place}: marked are {shown['changed']}", sorted(shown["changed"]) == changed_between(fields_of_game(before), fields_of_game(here)))
+        check(f"pen, {place}: the screen", shown["dots"] == [row for row in screen for _ in range(4)] and shown["text"].split() == screen)
+        check(f"pen, {place}: the keys are {shown['keys']}", shown["keys"] == keys_down("examples/pen.keys", cycles[number]))
+
+    first = next(at for at, line in enumerate(lines) if line[5] == "D")
+    browser.open("pen.html", f"#line={first + 2}")
+    compare("the line behind the first sprite", first + 1)
+    browser.write_in("cycle", "600000")
+    compare("cycle 600000", max(at for at, cycle in enumerate(cycles) if cycle <= 600000))
+    browser.ask("document.getElementById('lines').focus()")
+    at = browser.ask(SHOWN)["number"]
+    browser.press("ArrowDown", 7)
+    compare("seven lines on", at + 7)
+    browser.press("ArrowRight", 2)
+    shown = browser.ask(SHOWN)
+    compare("two frames on", max(at for at, cycle in enumerate(cycles) if cycle <= FRAME * shown["frame"] + BEGIN))
+    check("pen: the report isn't shown", lines_of("pen.report")[0] in browser.ask("document.getElementById('ending').textContent"))
+    same = next(at for at in range(shown["number"] + 1, len(lines)) if lines[at][:4] == shown["line"][:4])
+    browser.ask("document.getElementById('same-on').click()")
+    compare("the next line with this pc", same)
+
+
+def look_at_program(browser):
+    """Three places of a program. The picture of frame m is the last one that `play` writes up to its end."""
+    lines = lines_of("keypad.trace")
+
+    def compare(place, number, frame):
+        shown = browser.ask(SHOWN)
+        before = next((line for line in reversed(lines[:number]) if line[35:36] == "P"), None)
+        is_instruction = lines[number][35:36] == "P"
+        changed = changed_between(fields_of_program(before), fields_of_program(lines[number])) if before and is_instruction else []
+        until = run_of("play", "keypad.bin", str(FRAME * frame + END), "--ram", "--keys", "examples/keypad.keys")
+        check(f"keypad, {place}: the line is {shown['line']} and not {lines[number]}", shown["line"] == lines[number] and shown["number"] == number)
+        check(f"keypad, {place}: marked are {shown['changed']} and not {changed}", sorted(shown["changed"]) == changed)
+        check(f"keypad, {place}: the picture", shown["frame"] == frame and shown["isWhole"] and shown["dots"] == rows_of(until[-PICTURE:]))
+
+    cycles = [int(line[:10]) for line in lines]
+    browser.open("keypad.html", "#frame=3")
+    compare("frame 3", max(at for at, cycle in enumerate(cycles) if cycle <= 3 * FRAME + BEGIN), 3)
+    browser.write_in("cycle", "30000")
+    compare("cycle 30000", max(at for at, cycle in enumerate(cycles) if cycle <= 30000), 8)
+    here = browser.ask(SHOWN)["number"]
+    there = next(at for at in range(here + 1, len(lines)) if "OUT 2" in lines[at])
+    browser.write_in("pc", lines[there][11:15].lstrip("0").lower())
+    compare("the next OUT 2, by its address", there, (cycles[there] + FRAME - END) // FRAME)
+
+
+def refuse_files(browser):
+    """The page without data takes the files of a run, and refuses others in words."""
+    text = lines_of("pen.trace")
+    with open("pen.pbm", "rb") as file:
+        film = file.read()
+    made = {
+        "column.trace": "\n".join(text[:99] + [text[99].replace(" I ", " J ")] + text[100:]) + "\n",
+        "cut.trace": "\n".join(text)[:-3],
+        "order.trace": "\n".join([text[5], *text]) + "\n",
+        "mixed.trace": "\n".join(text[:9] + lines_of("keypad.trace")) + "\n",
+        "notes.txt": "to do\n",
+        "fault.keys": "100 down 5\n100 down G\n",
+    }
+    for name, content in made.items():
+        with open(name, "w", encoding="ascii") as file:
+            file.write(content)
+    for name, content in {"cut.pbm": film[:-1], "short.pbm": film[:PICTURE]}.items():
+        with open(name, "wb") as file:
+            file.write(content)
+    browser.open("share/view.html")
+    for names, words in (
+        (["column.trace"], "its line 100 is"), (["cut.trace"], f"its line {len(text):,} is"), (["order.trace"], "line 2 has an earlier cycle"),
+        (["mixed.trace"], "its line 10 is"), (["notes.txt"], "is no trace, film or key script"), (["fault.keys"], "its line 2 is"), (["cut.pbm"], "cut off"),
+        (["pen.trace", "short.pbm"], "The film isn’t of this run"), (["keypad.trace", "pen.pbm"], "The film isn’t of this run"),
+    ):
+        browser.give(names, "document.getElementById('fault').textContent")
+        said = browser.ask("document.getElementById('fault').textContent")
+        check(f"{' and '.join(names)}: the page says: {said}", words in said)
+        check(f"{' and '.join(names)} is shown all the same", browser.ask("document.getElementById('viewer').hidden"))
+    browser.give(["pen.trace", "pen.pbm", "examples/pen.keys"], "!document.getElementById('viewer').hidden")
+    check("the files of a run aren't shown", browser.ask(SHOWN)["line"] == text[0] and not browser.ask("document.getElementById('fault').textContent"))
+
+
+def open_long(browser):
+    """Counts the processor time of the page's thread, so that what else the machine does has no part in it; the clock's is said too."""
+    browser.call("Performance.enable", timeDomain="threadTicks")
+    clock = browser.open("long.html", "#line=900000")
+    seconds = next(metric["value"] for metric in browser.call("Performance.getMetrics")["metrics"] if metric["name"] == "TaskDuration")
+    moves = browser.ask("(() => { const from = performance.now(); for (let at = 0; at < 50; at++) goLine(20000 * at); return performance.now() - from; })()")
+    count, size = browser.ask("run.trace.count"), os.path.getsize("long.html") / 1e6
+    print(f"view: {count:,} lines, {size:.1f} MB: usable after {clock:.2f} s, {seconds:.2f} s of them the page's own; a move {moves / 50:.1f} ms")
+    check(f"a page of {count:,} lines takes {seconds:.2f} s to open", count >= 1000000 and seconds <= SECONDS)
+
+
+def have_names(browser):
+    """Whatever can be pressed or written in has a name for a reader of the screen, and a page loads nothing but itself."""
+    browser.loaded.clear()
+    browser.open("pen.html")
+    for node in browser.call("Accessibility.getFullAXTree")["nodes"]:
+        role = node.get("role", {}).get("value")
+        if not node.get("ignored") and role in ("button", "slider", "textbox", "combobox", "listbox", "image", "link", "spinbutton"):
+            check(f"a {role} has no name", node.get("name", {}).get("value"))
+    others = [url for url in browser.loaded if not url.startswith("about:") and not url.endswith("/pen.html")]
+    check(f"the page loads {others}", not others)
+
+
+def main():
+    for looks in ((look_at_game, look_at_program, refuse_files, have_names), (open_long,)):
+        browser = Browser(sys.argv[1])
+        try:
+            for look in looks:
+                look(browser)
+            check(f"the page has faults: {browser.faults}", not browser.faults)
+        finally:
+            browser.end()
+    return 1 if bad else 0
+
+
+sys.exit(main())
