@@ -2,7 +2,7 @@
 use Rattle.std.specs.Prelude.{ℕ, zero, suc, ◌+◌, ◌-◌, ◌==◌, ◌&&◌, if◌then◌else◌, Bool, true, false, List, [], ◌∷◌, ◌++◌, filter, map}
 use Rattle.machine.specs.Instruction.{at}
 use Rattle.machine.specs.Keys.{Event as KeyEvent, held_at}
-use Rattle.machine.specs.Board.{Machine, Case, case_of, start}
+use Rattle.machine.specs.Board.{Machine, Case, case_of, move, start}
 use Rattle.machine.specs.Board.Case.{Instruction}
 use Rattle.machine.specs.Run.{run_to}
 use Rattle.machine.specs.Pictures.{windows_ended, is_shown}
@@ -53,3 +53,8 @@ game_run i game script limit = run_to i.rom (held_at script) (start game) limit
 -- its events
 unfoldable pub events_of : Interpreter → List ℕ → List KeyEvent → ℕ → List Event
 events_of i game script limit = events_at i (game_run i game script limit) 0 (game_run i game script limit)
+
+-- the events of a run up to a cycle that come behind its first state
+abbrev pub events_behind : Interpreter → List KeyEvent → Machine → ℕ → List Event
+events_behind i script b limit =
+    events_at i (run_to i.rom (held_at script) b limit) b.cycle (run_to i.rom (held_at script) (move i.rom (held_at script) b) limit)

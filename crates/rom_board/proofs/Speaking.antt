@@ -13,12 +13,12 @@ use Rattle.chip8_lang.specs.declared.view.Edition.TheVariants.{Usual, Tall}
 use Rattle.chip8_lang.specs.declared.view.Stop.{Stop}
 use Rattle.chip8_lang.specs.declared.view.Stop.TheVariants.{MachineCall, Unknown, FetchOutside, ReadOutside, WriteOutside, StackFull, StackEmpty}
 use Rattle.chip8_lang.specs.declared.view.StopRecord.{StopRecord}
-use Rattle.chip8_lang.specs.Events.{Event, events_of, game_run, is_stop}
+use Rattle.chip8_lang.specs.Events.{Event, events_of, game_run, is_stop, events_behind}
 use Rattle.chip8_lang.specs.Events.Event.{Picture, Dispatch, Stopped}
 use Rattle.chip8_lang.specs.Places.{state_of}
 use Rattle.chip8_lang.specs.Step.{stop_number}
 use Rattle.chip8_lang.specs.View.{opcode_at, view_at}
-use Rattle.rom_law.specs.Language.{Begins, GoesOn, IsStop, events_behind, frames_of, nothing_else}
+use Rattle.rom_law.specs.Language.{Begins, GoesOn, IsStop, frames_of, nothing_else}
 use Rattle.rom_law.specs.Program.{Program, Dispatches}
 use Rattle.rom_law.specs.Runs.{record_after, state_after, state_at}
 use Rattle.rom_rows.specs.Rom.{image, vip}

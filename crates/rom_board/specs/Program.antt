@@ -5,9 +5,9 @@ use Rattle.machine.specs.Keys.{Event as KeyEvent, held_at}
 use Rattle.machine.specs.Pictures.{windows_ended}
 use Rattle.machine.specs.Run.{run_to}
 use Rattle.chip8_lang.specs.declared.view.Edition.{Edition}
-use Rattle.chip8_lang.specs.Events.{events_of, game_run}
+use Rattle.chip8_lang.specs.Events.{events_of, game_run, events_behind}
 use Rattle.chip8_lang.specs.Places.{state_of}
-use Rattle.rom_law.specs.Language.{Also, Begins, GoesOn, events_behind}
+use Rattle.rom_law.specs.Language.{Also, Begins, GoesOn}
 use Rattle.rom_law.specs.Program.{Program, Dispatches, whole}
 use Rattle.chip8_image.specs.Interpreters.{interpreter_of}
 use Rattle.vip_relation.specs.Stops.{stop_at}

@@ -1,17 +1,14 @@
 -- The law of a run: its events are those of a run of the language. It is one fold over the events, which carries the last dispatch point and the
 -- frame whose picture comes next.
 use Rattle.std.specs.Prelude.{◌≡◌, ℕ, ◌+◌, ◌<◌, ◌≤◌, List, [], ◌∷◌, Some, None}
-use Rattle.machine.specs.Board.{Machine, move}
-use Rattle.machine.specs.Keys.{held_at}
+use Rattle.machine.specs.Board.{Machine}
 use Rattle.machine.specs.Keys.{Event as KeyEvent}
 use Rattle.machine.specs.Pictures.{picture_of, windows_ended}
-use Rattle.machine.specs.Run.{run_to}
 use Rattle.chip8_lang.specs.declared.view.Stop.{Stop}
 use Rattle.chip8_lang.specs.Between.{Between, keys_between}
 use Rattle.chip8_lang.specs.Bounds.{IsInTime, boot_bound}
-use Rattle.chip8_lang.specs.Events.{Event, events_at}
+use Rattle.chip8_lang.specs.Events.{Event}
 use Rattle.chip8_lang.specs.Events.Event.{Picture, Dispatch, Stopped}
-use Rattle.chip8_lang.specs.Places.{Interpreter}
 use Rattle.chip8_lang.specs.State.{Lang, first}
 use Rattle.chip8_lang.specs.Ticks.{ticks}
 use Rattle.rom_law.specs.Pictures.{ShowsScreen}
@@ -87,11 +84,6 @@ module _ (x : Program) (script : List KeyEvent) (limit : ℕ) (run : List Machin
   Begins game (Picture m ∷ events) = ⊥
   Begins game (Dispatch b ∷ events) = Dispatches x b (first x.edition game) × (b.cycle ≤ boot_bound) × (b.cycle ≤ limit) × GoesOn 0 b events
   Begins game (Stopped b ∷ events) = ⊥
-
--- the events of a run up to a cycle that come behind its first state
-abbrev pub events_behind : Interpreter → List KeyEvent → Machine → ℕ → List Event
-events_behind i script b limit =
-    events_at i (run_to i.rom (held_at script) b limit) b.cycle (run_to i.rom (held_at script) (move i.rom (held_at script) b) limit)
 
 -- ---- the frames with a picture
 

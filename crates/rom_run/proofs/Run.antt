@@ -11,8 +11,8 @@ use Rattle.machine.proofs.Runs.{later-move, run_to-past}
 use Rattle.chip8_lang.specs.declared.view.Edition.{Edition}
 use Rattle.chip8_lang.specs.declared.view.Edition.TheVariants.{Usual, Tall}
 use Rattle.chip8_lang.specs.State.{first, memory_size}
-use Rattle.chip8_lang.specs.Events.{events_at, events_of, game_run, numbers_from, is_dispatch, is_stop}
-use Rattle.rom_law.specs.Language.{nothing_else, events_behind, frames_of, end_cycle}
+use Rattle.chip8_lang.specs.Events.{events_at, events_of, game_run, numbers_from, is_dispatch, is_stop, events_behind}
+use Rattle.rom_law.specs.Language.{nothing_else, frames_of, end_cycle}
 use Rattle.rom_law.specs.Program.{Program, Dispatches}
 use Rattle.rom_law.specs.Rows.{Since, dispatched}
 use Rattle.rom_law.specs.Runs.{state_at, state_after, carried, Moves}

@@ -12,10 +12,10 @@ use Rattle.chip8_image.specs.declared.parts.Part.TheVariants.{Fetch}
 use Rattle.chip8_image.specs.Parts.{part_of}
 use Rattle.chip8_lang.specs.declared.view.Edition.{Edition}
 use Rattle.chip8_lang.specs.Bounds.{bound_of}
-use Rattle.chip8_lang.specs.Events.{game_run, events_of, numbers_from}
+use Rattle.chip8_lang.specs.Events.{game_run, events_of, numbers_from, events_behind}
 use Rattle.chip8_lang.specs.State.{memory_size, is_fetchable}
 use Rattle.rom_law.specs.Code.{Input, moved}
-use Rattle.rom_law.specs.Language.{Begins, GoesOn, events_behind, nothing_else, frames_of, end_cycle}
+use Rattle.rom_law.specs.Language.{Begins, GoesOn, nothing_else, frames_of, end_cycle}
 use Rattle.rom_law.specs.Program.{code}
 use Rattle.rom_law.specs.Runs.{Moves, carried, state_after}
 use Rattle.rom_law.specs.Rows.{Since, Row, Outcome, after_main}

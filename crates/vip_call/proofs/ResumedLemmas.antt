@@ -5,11 +5,11 @@ use Rattle.machine.specs.Keys.{Event as KeyEvent, held_at}
 use Rattle.machine.specs.Pictures.{windows_ended}
 use Rattle.machine.specs.Run.{run_to}
 use Rattle.chip8_lang.specs.declared.view.Edition.{Edition}
-use Rattle.chip8_lang.specs.Events.{Event}
+use Rattle.chip8_lang.specs.Events.{Event, events_behind}
 use Rattle.chip8_lang.specs.Events.Event.{Picture, Dispatch, Stopped}
 use Rattle.chip8_lang.specs.Places.{Interpreter, state_of}
 use Rattle.chip8_lang.specs.View.{opcode_at, view_at}
-use Rattle.rom_law.specs.Language.{GoesOn, events_behind}
+use Rattle.rom_law.specs.Language.{GoesOn}
 use Rattle.rom_board.specs.Frames.{KeepsFrames}
 use Rattle.rom_board.specs.Program.{IsRunBehind, numbered, program}
 use Rattle.chip8_image.specs.Interpreters.{interpreter_of}

@@ -6,11 +6,11 @@ use Rattle.machine.specs.Pictures.{windows_ended}
 use Rattle.machine.specs.Run.{run_to}
 use Rattle.chip8_lang.specs.declared.view.Edition.{Edition}
 use Rattle.chip8_lang.specs.declared.view.Edition.TheVariants.{Usual}
-use Rattle.chip8_lang.specs.Events.{Event}
+use Rattle.chip8_lang.specs.Events.{Event, events_behind}
 use Rattle.chip8_lang.specs.Events.Event.{Picture, Dispatch, Stopped}
 use Rattle.chip8_lang.specs.Places.{state_of}
 use Rattle.chip8_lang.specs.State.{memory_size}
-use Rattle.rom_law.specs.Language.{end_cycle, events_behind}
+use Rattle.rom_law.specs.Language.{end_cycle}
 use Rattle.rom_board.specs.Laws.{EveryRun}
 use Rattle.chip8_image.specs.Interpreters.{interpreter_of}
 use Rattle.vip_relation.specs.State.{started}

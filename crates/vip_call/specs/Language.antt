@@ -6,10 +6,11 @@ use Rattle.chip8_lang.specs.declared.view.Edition.{Edition}
 use Rattle.chip8_lang.specs.declared.view.Edition.TheVariants.{Usual}
 use Rattle.chip8_lang.specs.Places.{state_of}
 use Rattle.chip8_lang.specs.View.{opcode_at}
-use Rattle.rom_law.specs.Language.{Also, events_behind}
+use Rattle.rom_law.specs.Language.{Also}
 use Rattle.rom_board.specs.Frames.{KeepsFrames}
 use Rattle.rom_board.specs.Program.{IsRun, IsRunBehind, program}
 use Rattle.chip8_image.specs.Interpreters.{interpreter_of}
+use Rattle.chip8_lang.specs.Events.{events_behind}
 use Rattle.vip_text.specs.StateFile.{shown, IsAccepted}
 use Rattle.vip_show.specs.Points.{points_of}
 use Rattle.vip_text.specs.Endings.{Ending}

@@ -9,10 +9,9 @@ use Rattle.machine.specs.Run.{run_to}
 use Rattle.machine.proofs.Runs.{later-move}
 use Rattle.chip8_lang.specs.declared.view.Edition.{Edition}
 use Rattle.chip8_lang.specs.declared.view.Edition.TheVariants.{Usual, Tall}
-use Rattle.chip8_lang.specs.Events.{Event, is_dispatch, is_stop, is_instruction, events_at, events_of, game_run, numbers_from}
+use Rattle.chip8_lang.specs.Events.{Event, is_dispatch, is_stop, is_instruction, events_at, events_of, game_run, numbers_from, events_behind}
 use Rattle.chip8_lang.specs.Events.Event.{Picture, Dispatch, Stopped}
 use Rattle.chip8_lang.specs.Places.{Interpreter}
-use Rattle.rom_law.specs.Language.{events_behind}
 use Rattle.rom_rows.specs.Rom.{vip}
 use Rattle.chip8_image.specs.Interpreters.{interpreter_of}
 use Rattle.vip_relation.proofs.Past.{past, state, Runs, events-last, events-on}

@@ -5,10 +5,10 @@ use Rattle.machine.specs.Keys.{Event as KeyEvent, held_at}
 use Rattle.machine.specs.Pictures.{windows_ended}
 use Rattle.machine.specs.Run.{after_moves, run_to}
 use Rattle.chip8_lang.specs.declared.view.Edition.{Edition}
-use Rattle.chip8_lang.specs.Events.{is_dispatch, is_stop, events_of}
+use Rattle.chip8_lang.specs.Events.{is_dispatch, is_stop, events_of, events_behind}
 use Rattle.chip8_lang.specs.State.{memory_size}
 use Rattle.chip8_lang.specs.View.{view_at}
-use Rattle.rom_law.specs.Language.{GoesOn, events_behind, nothing_else}
+use Rattle.rom_law.specs.Language.{GoesOn, nothing_else}
 use Rattle.rom_rows.specs.Rom.{vip}
 use Rattle.rom_run.specs.States.{MayStart}
 use Rattle.chip8_image.specs.Interpreters.{interpreter_of}
