@@ -7,7 +7,9 @@
 //!
 //! The crate stands on the definitions of `machine`, on `vip_isa`, on `vip_byte` and on the kit's `thiserror`. The layers above may rely on
 //! this: an answer is the one of `specs/Closed.antt`, want of memory aside, and a certificate that is accepted holds of the machine's
-//! instruction semantics (`specs/Leaving.antt`): the routine leaves within its limit, whatever the flags and the bytes from ports are.
+//! instruction semantics (`specs/Leaving.antt`): from every state at its entry, with the boot latch clear, instruction moves that each start at a
+//! listed address with its program counter take no more cycles than its limit, whatever the flags and the bytes from ports are. DMA and interrupts
+//! aren't counted.
 #![tactic(auto)]
 
 ghost use Rattle.std.specs.Prelude.{◌≡◌, ◌≤◌, ◌⊎◌, length, Ok, Err, IfOk, IfErr};

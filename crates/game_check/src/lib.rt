@@ -1,5 +1,5 @@
 //! Certificates that a game never stops. A certificate is a text whose lines claim, for points of control, where the index I lies there. If each
-//! claim is closed, which is looked at line by line, then no script of keys and no random byte ever leads to a stop.
+//! claim is closed, which is looked at line by line, then no script of keys, no ticks and no random byte ever lead to a stop.
 //!
 //! The crate stands on the definitions of `machine` and `chip8_lang`, and on the lines, words and numbers of `vip_byte` and `vip_keypad`. The
 //! layers above may rely on this: `check_game` answers the number of claims exactly where the certificate is well formed and closed and has a claim of

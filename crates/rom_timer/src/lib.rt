@@ -3,7 +3,7 @@
 //!
 //! It stands on the row table of `rom_rows` and on the theory of moves and of rows. The layer above may rely on the laws below alone: each main
 //! move keeps the rows of these instructions; a main move is made wherever main code runs but at the interrupt's place; and what comes there is
-//! one timer tick in at most 1,900 cycles, in which the picture is the screen. The frame is that of RCA's CDP1861.
+//! one timer tick of 1,846 cycles, in which the picture is the screen. The frame is that of RCA's CDP1861.
 #![tactic(auto)]
 
 pub mod laws;

@@ -5,7 +5,8 @@
 //! which compares the ROMs with their texts. The layer above may rely on this: `Link::step` makes exactly the linked move of its side, and after
 //! every step what was sent is a prefix of the message, what was received is a prefix of that and at most one byte shorter, and lies in B's RAM
 //! from 0200 on, and both displays are off; `Link::run` makes the moves of the schedule that a number gives; `laws::every_schedule` says of the
-//! definitions what holds after every step, and that a schedule brings the whole message in which B moves often enough right behind A.
+//! definitions what holds after every step, and that a schedule brings the whole message in which B moves often enough right behind A:
+//! 40 (n + 2) times for one of n bytes. Each of the two sources gives its ROM.
 //!
 //! ```text
 //!     ┌───────────┐  OUT 3        to B        INP 3  ┌─────────────┐
