@@ -35,4 +35,6 @@ mod side;
 pub use check::check_link;
 pub use fault::LinkFault;
 pub use link::Link;
+pub use receiver::receiver_text;
+pub use sender::sender_text;
 pub use side::Side;

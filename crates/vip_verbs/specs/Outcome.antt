@@ -34,6 +34,9 @@ use Rattle.vip_show.specs.StateOutput.{saved_file}
 use Rattle.vip_show.specs.Points.{points_behind}
 use Rattle.vip_text.specs.Endings.{Ending}
 use Rattle.vip_text.specs.Endings.Ending.{AtLimit, AtStop}
+use Rattle.vip_link.specs.Roms.{receiver_text, sender_text}
+use Rattle.vip_words.specs.declared.request.BuiltIn.{BuiltIn}
+use Rattle.vip_words.specs.declared.request.BuiltIn.TheVariants.{Interpreter, Receiver, Sender}
 use Rattle.vip_words.specs.Asked.{Asked, AskedResume, trace, play, debug, demo, save, resume, asm, list, dis, source, bounds, within, safe, certify, trace_program, play_program, debug_program, AskedLink, link}
 use Rattle.vip_tools.specs.Refusal.{image_status}
 use Rattle.vip_tools.specs.Status.{end_status}
@@ -41,7 +44,7 @@ use Rattle.vip_tools.specs.Report.{bad_command, bad_script, image_report, end_re
 use Rattle.vip_tools.specs.declared.status.Status.TheVariants.{BadCommand, BadScript, NoDispatch, Done}
 use Rattle.vip_tools.specs.Certificates.{CertifyComes, CyclesComes, SafeComes}
 use Rattle.vip_tools.specs.Demo.{demo_game}
-use Rattle.vip_tools.specs.Outcome.{Outcome, AsmComes, BoundsComes, DisComes, ListComes, TextComes, rom_text, script_in}
+use Rattle.vip_tools.specs.Outcome.{Outcome, AsmComes, BoundsComes, DisComes, ListComes, Writes, rom_text, script_in}
 use Rattle.vip_tools.specs.Outcome.Outcome.{Refused, Shown}
 use Rattle.vip_verbs.specs.Programs.{ProgramComes, ProgramDebugComes, ended_at}
 
@@ -148,6 +151,16 @@ pub data LinkComes (a : AskedLink) (message : List ℕ) : Outcome → Type 0 whe
   Links : ComparesLink (Ok tt) → (s : Pair) → s ≡ linked_after a.number a.moves message
       → LinkComes a message (Shown (s.received ∷ []) Done (linked_report (length s.sent) (length s.received)))
 
+-- ---- a source that the program has in it
+
+abbrev pub built_in_text : BuiltIn → List ℕ
+built_in_text (Interpreter e) = rom_text e
+built_in_text Sender = sender_text
+built_in_text Receiver = receiver_text
+
+abbrev pub BuiltInComes : BuiltIn → Outcome → Type 0
+BuiltInComes text = Writes (built_in_text text)
+
 -- ---- a command
 
 -- what a command comes to, by the contents of its files in their order
@@ -175,7 +188,7 @@ Comes (link a) (message ∷ []) = LinkComes a message
 Comes (asm a) (text ∷ []) = AsmComes a.raw text
 Comes (list name) (text ∷ []) = ListComes text
 Comes (dis a) (bytes ∷ []) = DisComes a.address bytes
-Comes (source e) [] = TextComes e
+Comes (source text) [] = BuiltInComes text
 Comes bounds [] = BoundsComes
 Comes (within a) (text ∷ certificate ∷ []) = CyclesComes text certificate
 Comes (safe a) (game ∷ certificate ∷ []) = SafeComes a.edition game certificate

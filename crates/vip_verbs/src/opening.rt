@@ -9,7 +9,9 @@ ghost use Rattle.vip_tools.specs.Contents.{script_list, run_list, debug_list};
 ghost use Rattle.vip_tools.specs.declared.refusal.Kind.TheVariants.{State};
 ghost use Rattle.vip_tools.specs.Files.{needed, AreRight, FitAll, IsRight, contents_of};
 ghost use Rattle.vip_tools.specs.Opening.{SmallScripts};
-ghost use Rattle.vip_verbs.specs.Outcome.{Comes, RomIs};
+ghost use Rattle.vip_tools.specs.Outcome.{Writes};
+ghost use Rattle.vip_tools.specs.Work.{TextAnswers};
+ghost use Rattle.vip_verbs.specs.Outcome.{BuiltInComes, Comes, RomIs};
 ghost use Rattle.vip_verbs.specs.Opening.{ResumeAnswers, RomAnswers, StartAnswers};
 ghost use Rattle.vip_verbs.specs.Prepared.{OpenAnswers, PrepareAnswers, texted};
 
@@ -19,6 +21,7 @@ use crate::program::start_board;
 use chip8_lang::Edition;
 use chip8_source::{ImageFault, check_image, check_tall};
 use std::alloc::Global;
+use vip_link::{receiver_text, sender_text};
 use vip_outside::Files;
 use vip_relation::{Run, StartFault, Vip};
 use vip_show::{ResumeFault, Resumed};
@@ -28,8 +31,8 @@ use vip_tools::{
     read_keys, run_contents, safe, source, wanted_files,
 };
 use vip_words::{
-    DebugProgramRequest, DebugRequest, DemoRequest, ProgramRequest, Request, ResumeRequest,
-    RunRequest, Speaks, TraceRequest,
+    BuiltIn, DebugProgramRequest, DebugRequest, DemoRequest, ProgramRequest, Request,
+    ResumeRequest, RunRequest, Speaks, TraceRequest,
 };
 
 /// Compares an edition's ROM with its built-in source.
@@ -247,6 +250,25 @@ fn open_debug_program<'a>(
     })
 }
 
+/// A text, to be written.
+fn write<'a>(alloc: Global, text: &[u8]) -> Result<Vec<u8>, Refusal<'a>>
+    ensures { TextAnswers (Writes text.now) result }
+{
+    let copy = Vec::from_slice(alloc, text)?;
+    Ok(copy)
+}
+
+/// A source that the program has in it.
+fn built_in<'a>(alloc: Global, text: BuiltIn) -> Result<Vec<u8>, Refusal<'a>>
+    ensures { TextAnswers (BuiltInComes text) result }
+{
+    match text {
+        BuiltIn::Interpreter(edition) => source(alloc, edition),
+        BuiltIn::Sender => write(alloc, sender_text()),
+        BuiltIn::Receiver => write(alloc, receiver_text()),
+    }
+}
+
 /// A verb that writes a text alone.
 fn text<'a>(made: Result<Vec<u8>, Refusal<'a>>) -> Result<Prepared, Refusal<'a>>
     ensures { result ≡ texted made.entry }
@@ -279,7 +301,7 @@ fn prepare<'a>(
         Request::Asm(wish) => text(asm(alloc, only_content(contents), wish.raw)),
         Request::List(_) => text(list(alloc, only_content(contents))),
         Request::Dis(wish) => text(dis(alloc, only_content(contents), wish.address)),
-        Request::Source(edition) => text(source(alloc, *edition)),
+        Request::Source(source) => text(built_in(alloc, *source)),
         Request::Bounds => text(bounds(alloc)),
         Request::Cycles(_) => {
             let files = certified_contents(contents);

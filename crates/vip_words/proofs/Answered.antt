@@ -18,7 +18,7 @@ use Rattle.vip_words.proofs.Ends.{Shows, flag_end}
 use Rattle.vip_words.proofs.Known.{known_of_all, strings_known}
 use Rattle.vip_words.proofs.Rows.{Seen, both_true, first_of-look, look, one_of-look}
 use Rattle.vip_words.proofs.Shown.{flag_in, word_seen}
-use Rattle.vip_words.proofs.Flags.{At, Flag, Ram, Raw, Rom, Screen, Tall, flag_name}
+use Rattle.vip_words.proofs.Flags.{At, Flag, Ram, Raw, Receiver, Rom, Screen, Sender, Tall, flag_name}
 use Rattle.vip_words.proofs.Steps.{First, Second, Third}
 use Rattle.vip_words.proofs.Walks.{Agrees, all_given, command_agrees, is_well_formed}
 
@@ -78,6 +78,8 @@ pub record ReadFrom (found : Found) (given : Given) : Type 0 where
   pub raw : FlagRead found (codes "raw") given.raw
   pub rom : FlagRead found (codes "rom") given.rom
   pub ram : FlagRead found (codes "ram") given.ram
+  pub sender : FlagRead found (codes "sender") given.sender
+  pub receiver : FlagRead found (codes "receiver") given.receiver
 
 -- the word in a row
 abbrev word_of : Option Seen → Option Text
@@ -130,16 +132,35 @@ words_read found given few shows =
       word_read found (codes "third") (slice_get given.positional 2) (shows.places Third),
     ) (words_in_places given.positional few)
 
+-- the second, with the flags of the first from one on
+abbrev from_sender : Given → Given → Given
+from_sender given given' = record given' { sender = given.sender; receiver = given.receiver }
+
+abbrev from_ram : Given → Given → Given
+from_ram given given' = record (from_sender given given') { ram = given.ram }
+
+abbrev from_rom : Given → Given → Given
+from_rom given given' = record (from_ram given given') { rom = given.rom }
+
+abbrev from_raw : Given → Given → Given
+from_raw given given' = record (from_rom given given') { raw = given.raw }
+
+abbrev from_tall : Given → Given → Given
+from_tall given given' = record (from_raw given given') { tall = given.tall }
+
 same_given : (given given' : Given) → given.positional ≡ given'.positional → given.keys ≡ given'.keys
     → ((flag : Flag) → flag_in given flag ≡ flag_in given' flag) → given ≡ given'
 same_given given given' positional keys flags =
     ap (λ x. record given { positional = x }) positional
     ∙ (ap (λ x. record given { positional = given'.positional; keys = x }) keys
     ∙ (ap (λ x. record given { positional = given'.positional; keys = given'.keys; at = x }) (flags At)
-    ∙ (ap (λ x. record given' { screen = x; tall = given.tall; raw = given.raw; rom = given.rom; ram = given.ram }) (flags Screen)
-    ∙ (ap (λ x. record given' { tall = x; raw = given.raw; rom = given.rom; ram = given.ram }) (flags Tall)
-    ∙ (ap (λ x. record given' { raw = x; rom = given.rom; ram = given.ram }) (flags Raw)
-    ∙ (ap (λ x. record given' { rom = x; ram = given.ram }) (flags Rom) ∙ ap (λ x. record given' { ram = x }) (flags Ram)))))))
+    ∙ (ap (λ x. record (from_tall given given') { screen = x }) (flags Screen)
+    ∙ (ap (λ x. record (from_raw given given') { tall = x }) (flags Tall)
+    ∙ (ap (λ x. record (from_rom given given') { raw = x }) (flags Raw)
+    ∙ (ap (λ x. record (from_ram given given') { rom = x }) (flags Rom)
+    ∙ (ap (λ x. record (from_sender given given') { ram = x }) (flags Ram)
+    ∙ (ap (λ x. record given' { sender = x; receiver = given.receiver }) (flags Sender)
+    ∙ ap (λ x. record given' { receiver = x }) (flags Receiver)))))))))
 
 -- what is read is what the rows show
 read_shown : (found : Found) (given given' : Given) → length given.positional ≤ 3 → Shows (rows_of found) given → ReadFrom found given'
@@ -155,6 +176,8 @@ read_shown found given given' few shows reads =
       | Raw ↦ flag_read found given Raw given'.raw shows reads.raw
       | Rom ↦ flag_read found given Rom given'.rom shows reads.rom
       | Ram ↦ flag_read found given Ram given'.ram shows reads.ram
+      | Sender ↦ flag_read found given Sender given'.sender shows reads.sender
+      | Receiver ↦ flag_read found given Receiver given'.receiver shows reads.receiver
     ])
 
 count_of : (count : ℕ) (words : List Word) → is_well_formed count words ≡ true → length (positional_words false words) ≡ count

@@ -10,7 +10,7 @@ use Rattle.clap.specs.Walk.{Row, Rule, Text, finished, with_default}
 use Rattle.clap.specs.declared.builder.value_parser.Reading.TheVariants.{AsWritten}
 use Rattle.vip_words.specs.Command.{place_names, place_rule}
 use Rattle.vip_words.proofs.Rows.{Seen, after_default, defaults-look, is_given-look, is_nil, look, no_default, or_first, or_first-none, quiet_defaults}
-use Rattle.vip_words.proofs.Flags.{At, Flag, Ram, Raw, Rom, Screen, Tall, flag_name}
+use Rattle.vip_words.proofs.Flags.{At, Flag, Ram, Raw, Receiver, Rom, Screen, Sender, Tall, flag_name}
 use Rattle.vip_words.proofs.Steps.{First, Pending, Place, Second, Third, all_quiet, arguments, held, missing_places, place_at, place_name, settled_after}
 use Rattle.vip_words.specs.Rules.{Given}
 use Rattle.vip_words.proofs.Shown.{Facts, Idle, flag_in, flag_seen, word_seen}
@@ -60,6 +60,10 @@ flag_default count Rom true = no_default (codes "rom") (flag_end true) (place_ar
 flag_default count Rom false = no_default (codes "rom") (flag_end false) (place_arguments count) (no_place_default count)
 flag_default count Ram true = no_default (codes "ram") (flag_end true) (place_arguments count) (no_place_default count)
 flag_default count Ram false = no_default (codes "ram") (flag_end false) (place_arguments count) (no_place_default count)
+flag_default count Sender true = no_default (codes "sender") (flag_end true) (place_arguments count) (no_place_default count)
+flag_default count Sender false = no_default (codes "sender") (flag_end false) (place_arguments count) (no_place_default count)
+flag_default count Receiver true = no_default (codes "receiver") (flag_end true) (place_arguments count) (no_place_default count)
+flag_default count Receiver false = no_default (codes "receiver") (flag_end false) (place_arguments count) (no_place_default count)
 
 pub shows_end : (count : ℕ) (rows : List Row) (given : Given) → Facts rows given → Shows (fold with_default rows (arguments count)) given
 shows_end count rows given facts = record {

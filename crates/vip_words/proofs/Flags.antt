@@ -12,6 +12,8 @@ pub data Flag : Type 0 where
   Raw : Flag
   Rom : Flag
   Ram : Flag
+  Sender : Flag
+  Receiver : Flag
 
 abbrev pub flag_name : Flag → Text
 flag_name At = codes "at"
@@ -20,6 +22,8 @@ flag_name Tall = codes "tall"
 flag_name Raw = codes "raw"
 flag_name Rom = codes "rom"
 flag_name Ram = codes "ram"
+flag_name Sender = codes "sender"
+flag_name Receiver = codes "receiver"
 
 abbrev pub flag_word : Flag → Text
 flag_word At = codes "--at"
@@ -28,9 +32,11 @@ flag_word Tall = codes "--tall"
 flag_word Raw = codes "--raw"
 flag_word Rom = codes "--rom"
 flag_word Ram = codes "--ram"
+flag_word Sender = codes "--sender"
+flag_word Receiver = codes "--receiver"
 
 abbrev pub every_flag : List Flag
-every_flag = At ∷ Screen ∷ Tall ∷ Raw ∷ Rom ∷ Ram ∷ []
+every_flag = At ∷ Screen ∷ Tall ∷ Raw ∷ Rom ∷ Ram ∷ Sender ∷ Receiver ∷ []
 
 -- what holds of every flag in the list holds of each
 pub all_flags : (test : Flag → Bool) → list_all test every_flag ≡ true → (flag : Flag) → test flag ≡ true
@@ -40,14 +46,18 @@ all_flags test all flag =
     let from_raw = both_true (test Tall) _ from_tall.1 in
     let from_rom = both_true (test Raw) _ from_raw.1 in
     let from_ram = both_true (test Rom) _ from_rom.1 in
-    let from_none = both_true (test Ram) _ from_ram.1 in
+    let from_sender = both_true (test Ram) _ from_ram.1 in
+    let from_receiver = both_true (test Sender) _ from_sender.1 in
+    let from_none = both_true (test Receiver) _ from_receiver.1 in
     elim flag as (λ f. test f ≡ true) [
       | At ↦ from_screen.0
       | Screen ↦ from_tall.0
       | Tall ↦ from_raw.0
       | Raw ↦ from_rom.0
       | Rom ↦ from_ram.0
-      | Ram ↦ from_none.0
+      | Ram ↦ from_sender.0
+      | Sender ↦ from_receiver.0
+      | Receiver ↦ from_none.0
     ]
 
 -- what fails for one flag fails for all together

@@ -6,7 +6,7 @@ use Rattle.std.specs.Str.Parse.{digits_value}
 use Rattle.std.proofs.lemmas.Bool.{ltb-false}
 use Rattle.vip_byte.specs.Number.{number, are_digits}
 use Rattle.vip_byte.specs.declared.number.NumFault.TheVariants.{Empty, BadDigit, TooLarge}
-use Rattle.vip_words.specs.Asked.{Asked, AskedProgram, AskedRun, InRange, address_of, asked_of_verb, bounds, bounds_by, certify, certify_by, cycles_of, debug, debug_by, debug_program, demo, demo_by, dis_by, edition_by, file_by, is_mixed, is_program, link, link_by, list, most_cycles, most_moves, moves_of, play, play_by, play_program, program_by, resume_by, run_by, safe, safe_by, save, save_by, seed_of, source, source_by, trace, trace_by, trace_program, within, within_by}
+use Rattle.vip_words.specs.Asked.{Asked, AskedProgram, AskedRun, InRange, address_of, asked_of_verb, bounds, bounds_by, built_in_by, certify, certify_by, cycles_of, debug, debug_by, debug_program, demo, demo_by, dis_by, edition_by, file_by, is_mixed, is_program, link, link_by, list, most_cycles, most_moves, moves_of, play, play_by, play_program, program_by, resume_by, run_by, safe, safe_by, save, save_by, seed_of, source_by, trace, trace_by, trace_program, within, within_by}
 use Rattle.vip_words.specs.Rules.{Word, Given}
 use Rattle.vip_words.specs.Request.{asked_of}
 use Rattle.vip_words.specs.declared.given.WordsFail.TheVariants.{Refused}
@@ -148,7 +148,7 @@ this-low : (mine wish : Asked) → InRange mine → Some mine ≡ Some wish → 
 this-low mine wish low h = let is : mine ≡ wish = cc in subst InRange is low
 
 source-low : (words : List Word) (given : Given) (wish : Asked) → source_by words given ≡ Some wish → InRange wish
-source-low [] given wish h = this-low (source (edition_by given.tall)) wish (record { cycles = omega arith; moves = omega arith }) h
+source-low [] given wish h = by_read (built_in_by given) _ wish (λ text _. record { cycles = omega arith; moves = omega arith }) h
 source-low (word ∷ words) given wish h = absurd (cc)
 
 bounds-low : (words : List Word) (wish : Asked) → bounds_by words ≡ Some wish → InRange wish

@@ -7,7 +7,7 @@ use Rattle.clap.specs.Walk.{Row, Text, used}
 use Rattle.clap.specs.declared.builder.value_parser.Reading.TheVariants.{AsWritten}
 use Rattle.clap.specs.declared.parser.matches.ValueSource.TheVariants.{CommandLine}
 use Rattle.vip_words.proofs.Rows.{Seen, has_row-look, look, look-other, look-use, new_row, or_first, shown}
-use Rattle.vip_words.proofs.Flags.{At, Flag, Ram, Raw, Rom, Screen, Tall, flag_name, is_flag, no_flag}
+use Rattle.vip_words.proofs.Flags.{At, Flag, Ram, Raw, Receiver, Rom, Screen, Sender, Tall, flag_name, is_flag, no_flag}
 use Rattle.vip_words.proofs.Steps.{First, Pending, Place, Second, Third, flag_argument, place_at, place_by_id, place_name, settled_after, settles}
 use Rattle.vip_words.specs.Rules.{Given}
 
@@ -19,6 +19,8 @@ flag_in given Tall = given.tall
 flag_in given Raw = given.raw
 flag_in given Rom = given.rom
 flag_in given Ram = given.ram
+flag_in given Sender = given.sender
+flag_in given Receiver = given.receiver
 
 abbrev pub with_flag : Flag → Given → Given
 with_flag new given = record given {
@@ -28,6 +30,8 @@ with_flag new given = record given {
   raw = is_flag new Raw || given.raw;
   rom = is_flag new Rom || given.rom;
   ram = is_flag new Ram || given.ram;
+  sender = is_flag new Sender || given.sender;
+  receiver = is_flag new Receiver || given.receiver;
 }
 
 -- that flag is given then, and else those that were given before
@@ -38,6 +42,8 @@ flag_in-with new Tall given = refl
 flag_in-with new Raw given = refl
 flag_in-with new Rom given = refl
 flag_in-with new Ram given = refl
+flag_in-with new Sender given = refl
+flag_in-with new Receiver given = refl
 
 abbrev pub with_word : Text → Given → Given
 with_word word given = record given { positional = given.positional ++ word ∷ [] }
@@ -209,7 +215,18 @@ flag_again new rows x there = rw (has_row-look (flag_name new) rows, there) (λ 
 -- ---- the start
 
 abbrev pub nothing_given : Given
-nothing_given = record { positional = []; keys = None; at = false; screen = false; tall = false; raw = false; rom = false; ram = false }
+nothing_given = record {
+  positional = [];
+  keys = None;
+  at = false;
+  screen = false;
+  tall = false;
+  raw = false;
+  rom = false;
+  ram = false;
+  sender = false;
+  receiver = false;
+}
 
 pub no_rows : Facts [] nothing_given
 no_rows = record {
@@ -226,5 +243,7 @@ no_rows = record {
     | Raw ↦ refl
     | Rom ↦ refl
     | Ram ↦ refl
+    | Sender ↦ refl
+    | Receiver ↦ refl
   ];
 }

@@ -8,7 +8,7 @@ use Rattle.clap.specs.Simple.{Shape, built, filled, with_index}
 use Rattle.clap.specs.Takes.{is_given}
 use Rattle.clap.specs.Walk.{Held, Row, Rule, Text, Waiting, Walk, arg_by_id, arg_by_index, idle, is_pending, option, settled_rows, used, walked}
 use Rattle.vip_words.specs.Command.{command_app, flag_rule, place_rule, place_names}
-use Rattle.vip_words.proofs.Flags.{At, Flag, Ram, Raw, Rom, Screen, Tall, flag_name, flag_word}
+use Rattle.vip_words.proofs.Flags.{At, Flag, Ram, Raw, Receiver, Rom, Screen, Sender, Tall, flag_name, flag_word}
 use Rattle.vip_words.proofs.Rows.{is_quiet}
 
 -- the places of the positional words
@@ -139,6 +139,8 @@ flag_step count Tall rows pending position = refl
 flag_step count Raw rows pending position = refl
 flag_step count Rom rows pending position = refl
 flag_step count Ram rows pending position = refl
+flag_step count Sender rows pending position = refl
+flag_step count Receiver rows pending position = refl
 
 pub flag_turn : (name : Text) (count : ℕ) (flag : Flag) (rows : List Row) (pending : Pending) (position : ℕ)
     → turn_fault (shape name count) [] (stand rows pending idle position) (flag_word flag)
@@ -149,6 +151,8 @@ flag_turn name count Tall rows pending position = refl
 flag_turn name count Raw rows pending position = refl
 flag_turn name count Rom rows pending position = refl
 flag_turn name count Ram rows pending position = refl
+flag_turn name count Sender rows pending position = refl
+flag_turn name count Receiver rows pending position = refl
 
 pub keys_step : (count : ℕ) (rows : List Row) (pending : Pending) (position : ℕ)
     → walked (arguments count) [] (stand rows pending idle position) (codes "--keys")

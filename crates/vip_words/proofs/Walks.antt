@@ -9,7 +9,7 @@ use Rattle.clap.specs.Walk.{Row, Text, Waiting, Walk, finished, idle, used, walk
 use Rattle.vip_words.specs.Command.{command_faults, command_rows}
 use Rattle.vip_words.specs.Rules.{every_option, has_values, is_given, is_known, is_once, keys_value, positional_words}
 use Rattle.vip_words.proofs.Rows.{Seen, both_true, look, or_first, or_first-none, same_bytes}
-use Rattle.vip_words.proofs.Flags.{At, Flag, Ram, Raw, Rom, Screen, Tall, every_flag, flag_among, flag_word, one_flag_fails}
+use Rattle.vip_words.proofs.Flags.{At, Flag, Ram, Raw, Receiver, Rom, Screen, Sender, Tall, every_flag, flag_among, flag_word, one_flag_fails}
 use Rattle.vip_words.proofs.Steps.{and_never, First, Pending, Place, Second, Third, arguments, asked, asking, flag_argument, flag_step, flag_turn, held, keys_step, keys_turn, place_at, place_name, place_step, place_turn, settled_after, settles, shape, stand, stray_turn, value_step, value_turn}
 use Rattle.vip_words.specs.Rules.{Given, Word}
 use Rattle.vip_words.proofs.Ends.{Shows, ends_checked, shows_end}
@@ -42,6 +42,8 @@ then_given given words = record {
   raw = given.raw || is_given (codes "--raw") words;
   rom = given.rom || is_given (codes "--rom") words;
   ram = given.ram || is_given (codes "--ram") words;
+  sender = given.sender || is_given (codes "--sender") words;
+  receiver = given.receiver || is_given (codes "--receiver") words;
 }
 
 -- the same where `--keys` waits for its value
@@ -55,6 +57,8 @@ then_valued given words = record {
   raw = given.raw || is_given (codes "--raw") words;
   rom = given.rom || is_given (codes "--rom") words;
   ram = given.ram || is_given (codes "--ram") words;
+  sender = given.sender || is_given (codes "--sender") words;
+  receiver = given.receiver || is_given (codes "--receiver") words;
 }
 
 -- ---- the rules and the parse agree
@@ -241,6 +245,8 @@ flag_passes count before given Tall words off = rw off refl
 flag_passes count before given Raw words off = rw off refl
 flag_passes count before given Rom words off = rw off refl
 flag_passes count before given Ram words off = rw off refl
+flag_passes count before given Sender words off = rw off refl
+flag_passes count before given Receiver words off = rw off refl
 
 flag_given : (given : Given) (new : Flag) (words : List Text) → flag_in given new ≡ false
     → then_given given (flag_word new ∷ words) ≡ then_given (with_flag new given) words
@@ -250,6 +256,8 @@ flag_given given Tall words off = rw off refl
 flag_given given Raw words off = rw off refl
 flag_given given Rom words off = rw off refl
 flag_given given Ram words off = rw off refl
+flag_given given Sender words off = rw off refl
+flag_given given Receiver words off = rw off refl
 
 -- where a test in the middle fails
 never_all : (a b d : Bool) → b ≡ false → (a && (b && d)) ≡ false
@@ -262,6 +270,8 @@ flag_again_is_twice Tall words = refl
 flag_again_is_twice Raw words = refl
 flag_again_is_twice Rom words = refl
 flag_again_is_twice Ram words = refl
+flag_again_is_twice Sender words = refl
+flag_again_is_twice Receiver words = refl
 
 flag_refused : (count before : ℕ) (given : Given) (new : Flag) (words : List Text) → flag_in given new ≡ true
     → passes count before false (is_some given.keys) given (flag_word new ∷ words) ≡ false
@@ -328,6 +338,8 @@ option_turn name count rows position word (inr (Tall, is)) = rw is (λ e. cc)
 option_turn name count rows position word (inr (Raw, is)) = rw is (λ e. cc)
 option_turn name count rows position word (inr (Rom, is)) = rw is (λ e. cc)
 option_turn name count rows position word (inr (Ram, is)) = rw is (λ e. cc)
+option_turn name count rows position word (inr (Sender, is)) = rw is (λ e. cc)
+option_turn name count rows position word (inr (Receiver, is)) = rw is (λ e. cc)
 
 option_refused : (count before : ℕ) (given : Given) (word : Text) (words : List Text) → IsOption word
     → passes count before true true given (word ∷ words) ≡ false
@@ -338,6 +350,8 @@ option_refused count before given word words (inr (Tall, is)) = rw is refl
 option_refused count before given word words (inr (Raw, is)) = rw is refl
 option_refused count before given word words (inr (Rom, is)) = rw is refl
 option_refused count before given word words (inr (Ram, is)) = rw is refl
+option_refused count before given word words (inr (Sender, is)) = rw is refl
+option_refused count before given word words (inr (Receiver, is)) = rw is refl
 
 asking_option : (name : Text) (count : ℕ) (words : List Text) (word : Text) → IsOption word → AskingAgrees name count (word ∷ words)
 asking_option name count words word is rows before given long within none facts =
@@ -395,7 +409,17 @@ twice_word name count words word (one_flag flag is) rest rows before x within th
 
 none_once : (keys : Bool) (given : Given) → all_once keys given [] ≡ true
 none_once keys given =
-    rw (same_if keys, same_if given.at, same_if given.screen, same_if given.tall, same_if given.raw, same_if given.rom, same_if given.ram) refl
+    rw (
+      same_if keys,
+      same_if given.at,
+      same_if given.screen,
+      same_if given.tall,
+      same_if given.raw,
+      same_if given.rom,
+      same_if given.ram,
+      same_if given.sender,
+      same_if given.receiver,
+    ) refl
   where
     same_if : (b : Bool) → (if b then true else true) ≡ true
     same_if true = refl
@@ -416,6 +440,8 @@ no_more_given given =
       or_nothing given.raw,
       or_nothing given.rom,
       or_nothing given.ram,
+      or_nothing given.sender,
+      or_nothing given.receiver,
     ) refl
 
 idle_end : (name : Text) (count : ℕ) → count ≤ 3 → IdleAgrees name count []
@@ -494,6 +520,8 @@ all_given words = record {
   raw = is_given (codes "--raw") words;
   rom = is_given (codes "--rom") words;
   ram = is_given (codes "--ram") words;
+  sender = is_given (codes "--sender") words;
+  receiver = is_given (codes "--receiver") words;
 }
 
 -- the rules and the command agree on known words

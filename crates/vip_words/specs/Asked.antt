@@ -6,6 +6,8 @@ use Rattle.chip8_lang.specs.declared.view.Edition.TheVariants.{Usual, Tall}
 use Rattle.vip_byte.specs.Number.{decimal_number, hex_number}
 use Rattle.vip_words.specs.Rules.{Given, Word, given_by}
 use Rattle.vip_words.specs.Table.{usage_of}
+use Rattle.vip_words.specs.declared.request.BuiltIn.{BuiltIn}
+use Rattle.vip_words.specs.declared.request.BuiltIn.TheVariants.{Interpreter, Sender, Receiver}
 use Rattle.vip_words.specs.declared.request.Memory.{Memory}
 use Rattle.vip_words.specs.declared.request.Memory.TheVariants.{Rom, Ram}
 use Rattle.vip_words.specs.declared.table.Verb.{Verb}
@@ -85,8 +87,8 @@ pub record AskedCertify : Type 0 where
   pub game : Word
   pub edition : Edition
 
--- `play` shows the pictures of a run, and `save` its last dispatch point as a file; `list` names the file of a source; `source` is asked for an
--- edition's interpreter; `within` is asked by the verb `cycles`
+-- `play` shows the pictures of a run, and `save` its last dispatch point as a file; `list` names the file of a source; `source` is one that the
+-- program has in it; `within` is asked by the verb `cycles`
 pub data Asked : Type 0 where
   trace : AskedTrace → Asked
   play : AskedRun → Asked
@@ -101,7 +103,7 @@ pub data Asked : Type 0 where
   asm : AskedAsm → Asked
   list : Word → Asked
   dis : AskedDis → Asked
-  source : Edition → Asked
+  source : BuiltIn → Asked
   bounds : Asked
   within : AskedWithin → Asked
   safe : AskedSafe → Asked
@@ -235,9 +237,16 @@ abbrev pub dis_by : List Word → Option Asked
 dis_by (file ∷ at ∷ []) = option_map (λ a. dis (record { file = file; address = a })) (address_of at)
 dis_by _ = None
 
+-- The source of an edition's interpreter, or of one program of two joined boards, which have no editions.
+abbrev pub built_in_by : Given → Option BuiltIn
+built_in_by given =
+    if given.sender then (if given.receiver || given.tall then None else Some Sender)
+    else if given.receiver then (if given.tall then None else Some Receiver)
+    else Some (Interpreter (edition_by given.tall))
+
 -- none
 abbrev pub source_by : List Word → Given → Option Asked
-source_by [] given = Some (source (edition_by given.tall))
+source_by [] given = option_map source (built_in_by given)
 source_by _ given = None
 
 -- none

@@ -23,6 +23,8 @@ seen_given given = record {
   raw = given.raw;
   rom = given.rom;
   ram = given.ram;
+  sender = given.sender;
+  receiver = given.receiver;
 }
 
 -- what the words after a verb with this usage give, or nothing where they are refused

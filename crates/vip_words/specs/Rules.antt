@@ -33,9 +33,16 @@ rom_option = codes "--rom"
 abbrev pub ram_option : Word
 ram_option = codes "--ram"
 
+abbrev pub sender_option : Word
+sender_option = codes "--sender"
+
+abbrev pub receiver_option : Word
+receiver_option = codes "--receiver"
+
 -- every option of the program
 abbrev pub every_option : List Word
-every_option = keys_option ∷ at_option ∷ screen_option ∷ tall_option ∷ raw_option ∷ rom_option ∷ ram_option ∷ []
+every_option =
+    keys_option ∷ at_option ∷ screen_option ∷ tall_option ∷ raw_option ∷ rom_option ∷ ram_option ∷ sender_option ∷ receiver_option ∷ []
 
 abbrev pub is_option : Word → Bool
 is_option word = list_any (bytes_eq word) every_option
@@ -97,6 +104,8 @@ pub record Given : Type 0 where
   pub raw : Bool
   pub rom : Bool
   pub ram : Bool
+  pub sender : Bool
+  pub receiver : Bool
 
 -- what they give after such a verb, or nothing where they are refused
 abbrev pub given_by : ℕ → List Word → List Word → Option Given
@@ -110,4 +119,6 @@ given_by places options words =
       raw = is_given raw_option words;
       rom = is_given rom_option words;
       ram = is_given ram_option words;
+      sender = is_given sender_option words;
+      receiver = is_given receiver_option words;
     }) else None

@@ -1,6 +1,6 @@
 -- The verbs, and what may follow each.
 use Rattle.std.specs.Prelude.{ℕ, List, [], ◌∷◌, Option, bytes_eq, codes, find, option_map}
-use Rattle.vip_words.specs.Rules.{Word, at_option, keys_option, ram_option, raw_option, rom_option, screen_option, tall_option}
+use Rattle.vip_words.specs.Rules.{Word, at_option, keys_option, ram_option, raw_option, receiver_option, rom_option, screen_option, sender_option, tall_option}
 use Rattle.vip_words.specs.declared.table.Verb.{Verb}
 use Rattle.vip_words.specs.declared.table.Verb.TheVariants as verb
 
@@ -26,7 +26,7 @@ table =
     ∷ (codes "asm", row verb.Asm 1 (raw_option ∷ []))
     ∷ (codes "list", row verb.List 1 [])
     ∷ (codes "dis", row verb.Dis 2 [])
-    ∷ (codes "source", row verb.Source 0 (tall_option ∷ []))
+    ∷ (codes "source", row verb.Source 0 (tall_option ∷ sender_option ∷ receiver_option ∷ []))
     ∷ (codes "bounds", row verb.Bounds 0 [])
     ∷ (codes "cycles", row verb.Cycles 2 [])
     ∷ (codes "safe", row verb.Safe 2 (tall_option ∷ []))

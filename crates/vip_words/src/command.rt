@@ -8,7 +8,9 @@ use clap::{Arg, ArgAction, Command};
 use std::alloc::{AllocError, Global};
 
 // The options that take no word, in order.
-const FLAGS: [&str; 6] = ["at", "screen", "tall", "raw", "rom", "ram"];
+const FLAGS: [&str; 8] = [
+    "at", "screen", "tall", "raw", "rom", "ram", "sender", "receiver",
+];
 
 /// The names under which `clap` keeps the positional words, in order.
 pub const PLACES: [&str; 3] = ["first", "second", "third"];

@@ -52,6 +52,10 @@ pub struct Given<'a> {
     pub rom: bool,
     /// Whether `--ram` is.
     pub ram: bool,
+    /// Whether `--sender` is.
+    pub sender: bool,
+    /// Whether `--receiver` is.
+    pub receiver: bool,
 }
 
 // Neither empty nor begun by `-`.
@@ -155,5 +159,7 @@ pub fn read_given<'a>(
         raw: matches.get_flag("raw"),
         rom: matches.get_flag("rom"),
         ram: matches.get_flag("ram"),
+        sender: matches.get_flag("sender"),
+        receiver: matches.get_flag("receiver"),
     })
 }

@@ -43,7 +43,7 @@ pub use debug_commands::{
 };
 pub use given::WordsFail;
 pub use request::{
-    AsmRequest, CertifyRequest, CyclesRequest, DebugProgramRequest, DebugRequest, DemoRequest,
-    DisRequest, LinkRequest, Memory, ProgramRequest, Request, ResumeRequest, RunRequest,
-    SafeRequest, SourceRequest, TraceRequest, read_words,
+    AsmRequest, BuiltIn, CertifyRequest, CyclesRequest, DebugProgramRequest, DebugRequest,
+    DemoRequest, DisRequest, LinkRequest, Memory, ProgramRequest, Request, ResumeRequest,
+    RunRequest, SafeRequest, SourceRequest, TraceRequest, read_words,
 };

@@ -1,7 +1,7 @@
 //! What the words of a command line ask for.
 
 ghost use Rattle.std.specs.Prelude.{◌≡◌, IfOk, IsErrOf, None, Some, map, option_map, string_bytes};
-ghost use Rattle.vip_words.specs.Asked.{address_of, asked_by, asked_of_verb, cycles_of, edition_by, is_mixed, is_program, moves_of, program_by, run_by, seed_of, InRange};
+ghost use Rattle.vip_words.specs.Asked.{address_of, asked_by, asked_of_verb, built_in_by, cycles_of, edition_by, is_mixed, is_program, moves_of, program_by, run_by, seed_of, InRange};
 ghost use Rattle.vip_words.specs.Given.{seen_given};
 ghost use Rattle.vip_words.specs.Request.{asked_of, asked_program, asked_run};
 ghost use Rattle.vip_words.specs.declared.table.Verb.TheVariants as verb;
@@ -33,13 +33,24 @@ pub enum Request<'a> {
     /// List a source with its bytes.
     List(SourceRequest<'a>),
     Dis(DisRequest<'a>),
-    /// The source of an edition's interpreter.
-    Source(Edition),
+    /// A source that the program has in it.
+    Source(BuiltIn),
     /// The table of the bounds of each step.
     Bounds,
     Cycles(CyclesRequest<'a>),
     Safe(SafeRequest<'a>),
     Certify(CertifyRequest<'a>),
+}
+
+/// A source that the program has in it.
+#[derive(Clone, Copy)]
+pub enum BuiltIn {
+    /// That of an edition's interpreter.
+    Interpreter(Edition),
+    /// That of the program by which a board sends a message.
+    Sender,
+    /// That of the program by which another one receives it.
+    Receiver,
 }
 
 /// A run of a game from a file.
@@ -401,11 +412,32 @@ fn dis_request<'a>(given: &Given<'a>) -> Option<Request<'a>>
     }))
 }
 
+/// The source that the options name. The two programs of joined boards have no editions.
+fn built_in_by(given: &Given<'_>) -> Option<BuiltIn>
+    ensures { result ≡ built_in_by (seen_given given.now) }
+{
+    if given.sender {
+        if given.receiver || given.tall {
+            None
+        } else {
+            Some(BuiltIn::Sender)
+        }
+    } else if given.receiver {
+        if given.tall {
+            None
+        } else {
+            Some(BuiltIn::Receiver)
+        }
+    } else {
+        Some(BuiltIn::Interpreter(edition_by(given.tall)))
+    }
+}
+
 fn source_request<'a>(given: &Given<'a>) -> Option<Request<'a>>
     ensures { option_map asked_of result ≡ asked_of_verb verb.Source (seen_given given.now) }
 {
     match given.positional {
-        Positional::Empty => Some(Request::Source(edition_by(given.tall))),
+        Positional::Empty => Some(Request::Source(built_in_by(given)?)),
         _ => None,
     }
 }

@@ -72,7 +72,7 @@ impl Usage {
             "asm" => Some(Usage::new(Verb::Asm, 1, &["--raw"])),
             "list" => Some(Usage::new(Verb::List, 1, &[])),
             "dis" => Some(Usage::new(Verb::Dis, 2, &[])),
-            "source" => Some(Usage::new(Verb::Source, 0, &["--tall"])),
+            "source" => Some(Usage::new(Verb::Source, 0, &["--tall", "--sender", "--receiver"])),
             "bounds" => Some(Usage::new(Verb::Bounds, 0, &[])),
             "cycles" => Some(Usage::new(Verb::Cycles, 2, &[])),
             "safe" => Some(Usage::new(Verb::Safe, 2, &["--tall"])),

@@ -1,5 +1,6 @@
 use Rattle.vip_tools.specs.Certificates.{CertifyComes, CyclesComes, SafeComes}
-use Rattle.vip_tools.specs.Outcome.{AsmComes, BoundsComes, DisComes, ListComes, TextComes}
+use Rattle.vip_tools.specs.Outcome.{AsmComes, BoundsComes, DisComes, ListComes}
+use Rattle.vip_verbs.specs.Outcome.{BuiltInComes}
 use Rattle.vip_verbs.proofs.WorkLemmas.{no-contents, text-answers}
 use Rattle.vip_verbs.proofs.opening.prepare.Goals as goal
 
@@ -36,7 +37,7 @@ returns-in-Dis c =
 pub returns-in-Source : goal.returns-in-Source
 returns-in-Source c =
     let fit = rw c.in-Source.is at c.requires.sizes in
-    rw (c.in-Source.is, no-contents _ fit, c.text-in-Source.ensures) (text-answers (TextComes c.in-Source.edition) _ c.source.ensures)
+    rw (c.in-Source.is, no-contents _ fit, c.text-in-Source.ensures) (text-answers (BuiltInComes c.in-Source.source) _ c.built_in.ensures)
 
 pub returns-in-Bounds : goal.returns-in-Bounds
 returns-in-Bounds c =

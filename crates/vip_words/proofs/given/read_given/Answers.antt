@@ -29,4 +29,6 @@ returns-clause-ok c =
       raw = record { on = c.get_flag-4.ensures.value; off = c.get_flag-4.ensures.other };
       rom = record { on = c.get_flag-5.ensures.value; off = c.get_flag-5.ensures.other };
       ram = record { on = c.get_flag-6.ensures.value; off = c.get_flag-6.ensures.other };
+      sender = record { on = c.get_flag-7.ensures.value; off = c.get_flag-7.ensures.other };
+      receiver = record { on = c.get_flag-8.ensures.value; off = c.get_flag-8.ensures.other };
     })
