@@ -23,6 +23,7 @@
 //! | a number of moves of joined boards is decimal and at most 10,000,000 | `vip_byte` |
 //! | an address is hexadecimal and at most FFFF | `vip_byte` |
 //! | a program has one of `--rom` and `--ram`, and none of `--tall`, `--screen` and `--at` | `src/request.rt` |
+//! | `source` has at most one of `--tall`, `--sender` and `--receiver` | `src/request.rt` |
 //!
 //! One `clap` command serves all verbs with as many positional words: it has every option, and a word that is an option of another verb doesn't
 //! come to it. So a verb is added by its line in the two tables (`src/table.rt`, `specs/Table.antt`), its variant and what its words ask for; an
