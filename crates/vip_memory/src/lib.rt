@@ -3,26 +3,27 @@
 //! makes its change and no other, and nothing changes the ROM. The map is that of RCA's instruction manual of the COSMAC VIP; the place and
 //! size of the ROM, and what an address without memory reads, are this project's profile.
 //!
-//! RAM is kept as 16 pages of 256 bytes and ROM as 8. All addresses without memory share one page of FF, so that no read needs a test.
+//! RAM is kept as 16 pages of 256 bytes and ROM as 8. The addresses without memory have pages of FF of their own, so that a page's number is an
+//! address's high byte and no read needs a test.
 #![tactic(auto)]
 
 ghost use Rattle.std.specs.Prelude.{◌≡◌, ◌+◌, ◌<◌, ◌≤◌, ◌⊎◌, ◌↔◌, true, false, length, replicate, slice_set, IfOk, IfSome, IsSome, vec_len};
 ghost use Rattle.machine.specs.Memory.{read, written};
 ghost use Rattle.vip_memory.specs.Contents.{loaded, page_of};
-ghost use Rattle.vip_memory.specs.Pages.{ram_in, rom_in, IsMemory};
+ghost use Rattle.vip_memory.specs.Pages.{flat, bytes_with, ArePages};
 
 mod latch;
 mod page;
 
 use crate::latch::Latch;
-use crate::page::{PAGES, Page, RAM_PAGES, add_pages, page_number};
+use crate::page::{PAGES, Page, add_pages};
 use std::alloc::{AllocError, Global};
 use std::marker::Model;
 
 /// RAM, ROM and the boot latch. Addresses are those of the processor, 0000 to FFFF.
 #[derive(Drop)]
 pub struct Memory {
-    // 16 of RAM, 8 of ROM, and one of FF
+    // one for each high byte of an address: 16 of RAM, 8 of ROM, and the others of FF
     pages: Vec<Page>,
     latch: Latch,
 }
@@ -36,21 +37,21 @@ impl Model for Memory {
 
     ghost view = { λ a. record { ram = ram_in a.pages.items; rom = rom_in a.pages.items; latch = a.latch } };
 
-    ghost invariant = { λ a. record { count : vec_len a.pages ≡ 25; pages : IsMemory a.pages.items } };
+    ghost invariant = { λ a. record { count : vec_len a.pages ≡ 256; pages : IsMemory a.pages.items } };
 }
 
 /// The pages after reset, with the bytes of a ROM: RAM is 00.
 fn pages_with(alloc: Global, rom: &[u8]) -> Result<Vec<Page>, AllocError>
     requires { length rom.now ≡ 0x800 }
-    ensures count { IfOk result (λ pages. vec_len pages ≡ 25) }
-    ensures pages { IfOk result (λ pages. IsMemory pages.items) }
-    ensures ram { IfOk result (λ pages. ram_in pages.items ≡ replicate 0x1000 0) }
-    ensures rom { IfOk result (λ pages. rom_in pages.items ≡ rom.now) }
+    ensures count { IfOk result (λ pages. vec_len pages ≡ 256) }
+    ensures each { IfOk result (λ pages. ArePages pages.items) }
+    ensures bytes { IfOk result (λ pages. flat pages.items ≡ bytes_with rom.now) }
 {
     let mut pages = Vec::with_capacity(alloc, PAGES)?;
     add_pages(&mut pages, &[0; 0x1000])?;
+    add_pages(&mut pages, &[0xFF; 0x7000])?;
     add_pages(&mut pages, rom)?;
-    add_pages(&mut pages, &[0xFF; 0x100])?;
+    add_pages(&mut pages, &[0xFF; 0x7800])?;
     Ok(pages)
 }
 
@@ -73,8 +74,7 @@ impl Memory {
     pub fn read(&self, address: u16) -> u8
         ensures { result ≡ read self.now.rom self.now.latch self.now.ram address }
     {
-        let place = self.latch.place(address);
-        self.pages[usize::from(page_number((place / 256) as u8))].bytes[usize::from(place % 256)]
+        self.pages.as_flattened()[usize::from(self.latch.place(address))]
     }
 
     /// Puts a byte into RAM, whatever the latch is.
@@ -82,7 +82,7 @@ impl Memory {
         requires { address < 0x1000 }
         ensures { self.new ≡ record self.old { ram = slice_set self.old.ram address value } }
     {
-        self.pages[usize::from(address / 256)].bytes[usize::from(address % 256)] = value;
+        self.pages[usize::from(address / 256)][usize::from(address % 256)] = value;
     }
 
     /// Writes a byte into RAM. At an address outside RAM, and everywhere while the latch is set, it does nothing.
@@ -128,8 +128,7 @@ impl Memory {
         ensures size { IfSome result (λ s. length s.now ≡ 256) }
     {
         match high {
-            0x00..=0x0F => Some(&self.pages[usize::from(high)].bytes),
-            0x80..=0x87 => Some(&self.pages[RAM_PAGES + usize::from(high - 0x80)].bytes),
+            0x00..=0x0F | 0x80..=0x87 => Some(&self.pages[usize::from(high)]),
             _ => None,
         }
     }

@@ -13,14 +13,14 @@ loop-i-preserved c =
     let n = 256 * c.loop-i.i in
     let width : n + 256 - n ≡ 256 = omega arith in
     let page_is : page ≡ take 256 (drop n bytes) = c.copy_from_slice.ensures.after ∙ ap (λ k. take k (drop n bytes)) width in
-    let is : c.push.new.self.items ≡ old ++ record { bytes = page } ∷ [] = c.in_ok-push.ensures.items in
+    let is : c.push.new.self.items ≡ old ++ page ∷ [] = c.in_ok-push.ensures.items in
     let next : n + 256 ≡ 256 * (c.loop-i.i + 1) = omega arith in
     record {
       count = omega (arith, c.in_ok-push.ensures.len, c.loop-i.invariant.count);
-      pages = rw is (pages-push old (record { bytes = page }) c.loop-i.invariant.pages (omega (arith, c.copy_from_slice.ensures.len)));
+      pages = rw is (pages-push old page c.loop-i.invariant.pages (omega (arith, c.copy_from_slice.ensures.len)));
       flat =
           ap flat is
-          ∙ flat-push old (record { bytes = page })
+          ∙ flat-push old page
           ∙ ap (λ x. x ++ page) c.loop-i.invariant.flat
           ∙ ap (λ x. before ++ take n bytes ++ x) page_is
           ∙ append_assoc before (take n bytes) (take 256 (drop n bytes))
