@@ -1,12 +1,22 @@
-use Rattle.std.proofs.Common.{◌≡◌, ◌∙◌, sym, subst, ap, length, replicate, ℕ, List, [], arith}
-use Rattle.std.proofs.lemmas.List.{length-replicate}
-use Rattle.vip_memory.specs.Contents.{Contents, loaded}
+use Rattle.std.proofs.Common.{◌≡◌, ◌∙◌, ◌%◌, sym, subst, ap, refl, false, length, [], arith}
+use Rattle.vip_memory.specs.Contents.{Contents}
 use Rattle.vip_keypad.specs.KeypadState.{KeypadState}
 use Rattle.vip_video.specs.Chip.{Chip}
 use Rattle.vip_board.specs.Shown.{ShowsSince}
-use Rattle.vip_board.proofs.Restored.{loads-whole}
+use Rattle.vip_board.proofs.Restored.{restored}
 use Rattle.vip_board.proofs.Shown.{shows-nothing}
 use Rattle.vip_board.proofs.board.Board.restore.Goals as goal
+
+pub returns-clause-board : goal.returns-clause-board
+returns-clause-board c =
+    let memory : c.clear_latch.new.self ≡ record { ram = c.args.ram.now; rom = c.args.rom.now; latch = false } =
+    restored _ _ _ _ _ c.requires.ram c.in_ok-memory.ensures c.load.ensures c.clear_latch.ensures in
+    let within : c.args.key % 16 ≡ c.args.key = omega (arith, c.requires.key) in
+    let keypad : c.latch.new.self ≡ record { script = c.args.script.now; latched = c.args.key } =
+    c.latch.ensures
+    ∙ ap (λ (k : KeypadState). record { script = k.script; latched = c.args.key % 16 }) c.in_ok-keypad.ensures
+    ∙ ap (λ key. record { script = c.args.script.now; latched = key }) within in
+    rw (memory, keypad, c.at-video.ensures, c.from_parts-cpu.ensures.processor) refl
 
 pub returns-clause-pictures : goal.returns-clause-pictures
 returns-clause-pictures c =
@@ -15,17 +25,10 @@ returns-clause-pictures c =
 
 pub returns-clause-fits : goal.returns-clause-fits
 returns-clause-fits c =
-    let zeros : List ℕ = replicate 0x1000 0 in
-    let as_long : length c.args.ram.now ≡ length zeros = c.requires.ram ∙ sym (length-replicate {A = ℕ} 0x1000 0) in
-    let ram : c.clear_latch.new.self.ram ≡ c.args.ram.now =
-    ap (λ (m : Contents). m.ram) c.clear_latch.ensures
-    ∙ ap (λ (m : Contents). m.ram) c.load.ensures
-    ∙ ap (λ (m : Contents). loaded m.ram 0 c.args.ram.now) c.in_ok-memory.ensures
-    ∙ loads-whole zeros c.args.ram.now as_long in
-    let rom : c.clear_latch.new.self.rom ≡ c.args.rom.now =
-    ap (λ (m : Contents). m.rom) c.clear_latch.ensures
-    ∙ ap (λ (m : Contents). m.rom) c.load.ensures
-    ∙ ap (λ (m : Contents). m.rom) c.in_ok-memory.ensures in
+    let memory : c.clear_latch.new.self ≡ record { ram = c.args.ram.now; rom = c.args.rom.now; latch = false } =
+    restored _ _ _ _ _ c.requires.ram c.in_ok-memory.ensures c.load.ensures c.clear_latch.ensures in
+    let ram = ap (λ (m : Contents). m.ram) memory in
+    let rom = ap (λ (m : Contents). m.rom) memory in
     let latched = ap (λ (k : KeypadState). k.latched) c.latch.ensures in (
       record {
         regs = c.from_parts-cpu.ensures.fits;

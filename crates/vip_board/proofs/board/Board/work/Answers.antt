@@ -1,4 +1,4 @@
-use Rattle.std.proofs.Common.{◌≡◌, ◌⊎◌, inl, inr, ◌+◌, ◌<◌, ◌≤◌, ◌∙◌, ℕ, zero, suc, arith}
+use Rattle.std.proofs.Common.{◌≡◌, ◌⊎◌, inl, inr, ◌+◌, ◌≤◌, ◌∙◌, ℕ, arith}
 use Rattle.vip_board.proofs.Through.{worked-more, passes-more, positive}
 use Rattle.vip_board.proofs.board.Board.work.Goals as goal
 
