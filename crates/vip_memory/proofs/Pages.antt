@@ -1,10 +1,11 @@
 -- RAM and ROM in pages, one for each high byte of an address.
+use Rattle.std.proofs.Math.ListN.{get_or-append}
 use Rattle.std.proofs.Common.{◌≡◌, ◌+◌, ◌-◌, ◌*◌, ◌/◌, ◌%◌, ◌<◌, ◌≤◌, ℕ, zero, suc, Bool, true, false, List, [], ◌∷◌, ◌++◌, length, get_or, set, take, drop, replicate, ap, sym, ◌∙◌, refl, arith, append_assoc, drop-cons, length-append}
 use Rattle.std.specs.Prelude.{◌&&◌, if◌then◌else◌, nat_lt, nat_le}
 use Rattle.std.proofs.Math.Seq.{take-append_seam, drop-append_seam, drop-append-add, take-set-lt}
 use Rattle.std.proofs.lemmas.Bool.{lt-ltb, le-ltb}
 use Rattle.std.proofs.lemmas.Bool.Decides.{nat_tests}
-use Rattle.std.proofs.lemmas.List.{append-nil, take-append-drop, length-replicate, length-take-le, get_or-take, get_or-drop, get_or-replicate, drop-set-lt, drop-take, drop-drop, take-take, set-append_left, set-append_right}
+use Rattle.std.proofs.lemmas.List.{append-nil, take-append-drop, length-replicate, length-take-le, get_or-take, get_or-drop, get_or-append_right, get_or-set_other, get_or-replicate, drop-set-lt, drop-take, drop-drop, take-take, set-append_left, set-append_right}
 use Rattle.machine.specs.Memory.{byte_at}
 use Rattle.vip_memory.specs.Contents.{Contents, loaded, page_at, page_of}
 use Rattle.vip_memory.specs.Pages.{flat, ArePages, ram_in, rom_in, IsMemory, bytes_with}
@@ -78,23 +79,8 @@ module _ (pages : List (List ℕ)) (m : IsMemory pages) (p : ℕ) (within : p < 
   by_tests false false h g = by_half (nat_le 0x8000 p) refl
     where
       by_half : (z : Bool) → nat_le 0x8000 p ≡ z → get_or (flat pages) p 0 ≡ 0xff
-      by_half true e =
-          let from : 0x8800 ≤ p = grind (arith, nat_tests, e, g) in
-          let place : 0x8800 + (p - 0x8800) ≡ p = omega (arith, from) in
-          ap (λ k. get_or (flat pages) k 0) (sym place)
-          ∙ sym (get_or-drop 0x8800 (flat pages) (p - 0x8800) 0)
-          ∙ ap (λ l. get_or l (p - 0x8800) 0) m.behind
-          ∙ get_or-replicate 0x7800 (p - 0x8800) 0xff 0 (omega (arith, from, within))
-      by_half false e =
-          let from : 0x1000 ≤ p = grind (arith, nat_tests, h) in
-          let to : p < 0x8000 = grind (arith, nat_tests, e) in
-          let place : 0x1000 + (p - 0x1000) ≡ p = omega (arith, from) in
-          ap (λ k. get_or (flat pages) k 0) (sym place)
-          ∙ sym
-          (get_or-take 0x7000 (drop 0x1000 (flat pages)) (p - 0x1000) 0 (omega (arith, from, to))
-          ∙ get_or-drop 0x1000 (flat pages) (p - 0x1000) 0)
-          ∙ ap (λ l. get_or l (p - 0x1000) 0) m.between
-          ∙ get_or-replicate 0x7000 (p - 0x1000) 0xff 0 (omega (arith, from, to))
+      by_half true e = m.behind p (grind (arith, nat_tests, e, g)) within
+      by_half false e = m.between p (grind (arith, nat_tests, h)) (grind (arith, nat_tests, e))
 
   pub byte-at : get_or (flat pages) p 0 ≡ byte_at (rom_in pages) (ram_in pages) p
   byte-at = by_tests (nat_lt p 0x1000) (nat_le 0x8000 p && nat_lt p 0x8800) refl refl
@@ -111,9 +97,12 @@ module _ (l : List ℕ) (a v : ℕ) (within : a < 0x1000) where
   pub ram-put : take 0x1000 (set l a v) ≡ set (take 0x1000 l) a v
   ram-put = take-set-lt 0x1000 l a v within
 
-  -- from an address behind RAM on nothing changes
-  pub rest-put : (n : ℕ) → 0x1000 ≤ n → drop n (set l a v) ≡ drop n l
-  rest-put n h = drop-set-lt n l a v (omega (arith, within, h))
+  pub rom-put : take 0x800 (drop 0x8000 (set l a v)) ≡ take 0x800 (drop 0x8000 l)
+  rom-put = ap (take 0x800) (drop-set-lt 0x8000 l a v (omega (arith, within)))
+
+  -- no byte behind RAM changes
+  pub rest-put : (k : ℕ) → 0x1000 ≤ k → get_or (set l a v) k 0 ≡ get_or l k 0
+  rest-put k h = get_or-set_other l a k v 0 (λ e. absurd (omega (arith, within, h, e)))
 
 -- ---- bytes loaded, none and one more
 
@@ -180,13 +169,11 @@ module _ (z f rom g : List ℕ) (lz : length z ≡ 0x1000) (lf : length f ≡ 0x
   pub ram-first : take 0x1000 (z ++ f ++ rom ++ g) ≡ z
   ram-first = ap (take 0x1000) last_three ∙ ap (λ n. take n (z ++ (f ++ (rom ++ g)))) (sym lz) ∙ take-append_seam z (f ++ (rom ++ g))
 
-  pub between-first : take 0x7000 (drop 0x1000 (z ++ f ++ rom ++ g)) ≡ f
-  between-first =
-      ap (λ l. take 0x7000 (drop 0x1000 l)) last_three
-      ∙ ap (λ n. take 0x7000 (drop n (z ++ (f ++ (rom ++ g))))) (sym lz)
-      ∙ ap (take 0x7000) (drop-append_seam z (f ++ (rom ++ g)))
-      ∙ ap (λ n. take n (f ++ (rom ++ g))) (sym lf)
-      ∙ take-append_seam f (rom ++ g)
+  pub between-first : (k : ℕ) → 0x1000 ≤ k → k < 0x8000 → get_or (z ++ f ++ rom ++ g) k 0 ≡ get_or f (k - 0x1000) 0
+  between-first k from to =
+      get_or-append (z ++ f ++ rom) g 0 k (omega (arith, before_end, to))
+      ∙ get_or-append (z ++ f) rom 0 k (omega (arith, before_rom, to))
+      ∙ get_or-append_right z f 0x1000 k 0 lz from
 
   pub rom-first : take 0x800 (drop 0x8000 (z ++ f ++ rom ++ g)) ≡ rom
   rom-first =
@@ -196,8 +183,8 @@ module _ (z f rom g : List ℕ) (lz : length z ≡ 0x1000) (lf : length f ≡ 0x
       ∙ ap (λ n. take n (rom ++ g)) (sym lr)
       ∙ take-append_seam rom g
 
-  pub behind-first : drop 0x8800 (z ++ f ++ rom ++ g) ≡ g
-  behind-first = ap (λ n. drop n (z ++ f ++ rom ++ g)) (sym before_end) ∙ drop-append_seam (z ++ f ++ rom) g
+  pub behind-first : (k : ℕ) → 0x8800 ≤ k → get_or (z ++ f ++ rom ++ g) k 0 ≡ get_or g (k - 0x8800) 0
+  behind-first k from = get_or-append_right (z ++ f ++ rom) g 0x8800 k 0 before_end from
 
   pub size-first : length g ≡ 0x7800 → length (z ++ f ++ rom ++ g) ≡ 0x10000
   size-first lg = omega (arith, length-append (z ++ f ++ rom) g, before_end, lg)
@@ -220,9 +207,15 @@ module _ (pages : List (List ℕ)) (rom : List ℕ) (each : ArePages pages) (lon
         each = each;
         count = omega (arith, length-flat pages each, size);
         between =
-            ap (λ l. take 0x7000 (drop 0x1000 l)) are
-            ∙ between-first (replicate 0x1000 0) (replicate 0x7000 0xff) rom (replicate 0x7800 0xff) zeros none long;
-        behind = ap (drop 0x8800) are ∙ behind-first (replicate 0x1000 0) (replicate 0x7000 0xff) rom (replicate 0x7800 0xff) zeros none long;
+            λ k from to.
+            ap (λ l. get_or l k 0) are
+            ∙ between-first (replicate 0x1000 0) (replicate 0x7000 0xff) rom (replicate 0x7800 0xff) zeros none long k from to
+            ∙ get_or-replicate 0x7000 (k - 0x1000) 0xff 0 (omega (arith, from, to));
+        behind =
+            λ k from to.
+            ap (λ l. get_or l k 0) are
+            ∙ behind-first (replicate 0x1000 0) (replicate 0x7000 0xff) rom (replicate 0x7800 0xff) zeros none long k from
+            ∙ get_or-replicate 0x7800 (k - 0x8800) 0xff 0 (omega (arith, from, to));
       }
 
   pub ram-with : ram_in pages ≡ replicate 0x1000 0

@@ -1,7 +1,7 @@
-use Rattle.std.proofs.Common.{◌≡◌, ◌<◌, ◌∙◌, List, ℕ, ap, set, take, drop, length, length-set, arith}
+use Rattle.std.proofs.Common.{◌≡◌, ◌<◌, ◌∙◌, List, ℕ, ap, get_or, set, take, drop, length, length-set, arith}
 use Rattle.vip_memory.specs.Contents.{Contents}
 use Rattle.vip_memory.specs.Pages.{flat}
-use Rattle.vip_memory.proofs.Pages.{put-flat, pages-set, length-page, ram-put, rest-put}
+use Rattle.vip_memory.proofs.Pages.{put-flat, pages-set, length-page, ram-put, rom-put, rest-put}
 use Rattle.vip_memory.proofs.Memory.put.Goals as goal
 
 pub invariant_of-self : goal.invariant_of-self
@@ -21,8 +21,8 @@ invariant_of-self c =
           record {
             each = pages-set pages m.each i (set page c.from-2.result v) (length-set _ _ _ ∙ size);
             count = length-set _ _ _ ∙ m.count;
-            between = ap (λ l. take 0x7000 (drop 0x1000 l)) put ∙ ap (take 0x7000) (rest-put (flat pages) a v c.requires 0x1000 (omega arith)) ∙ m.between;
-            behind = ap (drop 0x8800) put ∙ rest-put (flat pages) a v c.requires 0x8800 (omega arith) ∙ m.behind;
+            between = λ k from to. ap (λ l. get_or l k 0) put ∙ rest-put (flat pages) a v c.requires k from ∙ m.between k from to;
+            behind = λ k from to. ap (λ l. get_or l k 0) put ∙ rest-put (flat pages) a v c.requires k (omega (arith, from)) ∙ m.behind k from to;
           };
     }
 
@@ -37,5 +37,5 @@ returns c =
     ap (λ l. made (take 0x1000 l) (take 0x800 (drop 0x8000 l)))
     (put-flat pages m.each a v c.from.result c.from-2.result c.index_mut.result.now c.index_mut.ensures.value c.from.ensures c.from-2.ensures there)
     ∙ ap (λ l. made l (take 0x800 (drop 0x8000 (set (flat pages) a v)))) (ram-put (flat pages) a v c.requires)
-    ∙ ap (λ l. made (set (take 0x1000 (flat pages)) a v) (take 0x800 l)) (rest-put (flat pages) a v c.requires 0x8000 (omega arith))
+    ∙ ap (made (set (take 0x1000 (flat pages)) a v)) (rom-put (flat pages) a v c.requires)
     ∙ ap (λ (m : Contents). record m { ram = set m.ram a v }) c.self.view_is
