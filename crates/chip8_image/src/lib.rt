@@ -3,9 +3,10 @@
 //! The ROM is here for the programs that run it, its labels and its map for the proofs and tests that speak of its code, and the places in RAM
 //! where it keeps its state for those that look there. It stands on `chip8_lang` for the edition and for where the definitions have these places.
 //! The two ROMs have the same labels and the same instructions at the same addresses; 24 operand bytes differ, each the value of a name in the
-//! source's head. The layer above may rely on this: `AREAS` is the one place that says which addresses belong to which part, and `part` and
-//! `tall_part` look an address up in it; `Places::of` has what the definitions say of an edition. That the bytes are what the source assembles to
-//! is compared at each run; that each part's bytes lie where the map says is proved in `rom_run`.
+//! source's head. `image` has the bytes once, and both where they differ; `.ci/image` writes it from the sources. The layer above may rely on
+//! this: `AREAS` is the one place that says which addresses belong to which part, and `part` and `tall_part` look an address up in it;
+//! `Places::of` has what the definitions say of an edition. That the bytes are what the source assembles to is compared at each run; that each
+//! part's bytes lie where the map says is proved in `rom_run`.
 #![tactic(auto)]
 
 ghost use Rattle.std.specs.Prelude.{◌≡◌};
