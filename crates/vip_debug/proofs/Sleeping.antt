@@ -30,7 +30,8 @@ use Rattle.vip_debug.proofs.TargetFolding.{after-more, pieces-more, pieces-last}
 use Rattle.vip_debug.proofs.TargetRuns.{reached, some-here, until}
 use Rattle.vip_debug.specs.declared.program.Program.{Program}
 use Rattle.vip_debug.specs.ProgramLaws.{ProgramLeads}
-use Rattle.vip_debug.specs.Programs.{idle_line, ended_lines, comes, comes_to, ran_lines, gone_lines, program_pieces, machine_after, machine_with, program_written, StandsAs, ProgramAnswers, OneAnswers}
+use Rattle.vip_text.specs.Stops.{idle_line}
+use Rattle.vip_debug.specs.Programs.{ended_lines, comes, comes_to, ran_lines, gone_lines, program_pieces, machine_after, machine_with, program_written, StandsAs, ProgramAnswers, OneAnswers}
 
 -- ---- whether the processor sleeps
 

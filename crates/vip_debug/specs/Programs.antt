@@ -3,7 +3,6 @@ use Rattle.std.specs.Prelude.{◌≡◌, ◌≤◌, ℕ, if◌then◌else◌, Bo
 use Rattle.machine.specs.Board.{Machine}
 use Rattle.machine.specs.Keys.{Event, held_at}
 use Rattle.vip_board.specs.Seen.{Seen}
-use Rattle.vip_byte.specs.HexText.{hex4}
 use Rattle.vip_byte.specs.Text.{newline}
 use Rattle.vip_words.specs.declared.debug_commands.Command.{Command}
 use Rattle.vip_words.specs.declared.debug_commands.Command.TheVariants.{Runs, Shows}
@@ -15,14 +14,11 @@ use Rattle.vip_outside.specs.Pieces.{PutsAll, FailsWithin}
 use Rattle.vip_outside.specs.declared.sink.Failed.{Failed}
 use Rattle.vip_program.specs.Trace.{sleeps, idle_address, lines, end_at}
 use Rattle.vip_program.specs.declared.trace.ProgramEnd.{ProgramEnd}
+use Rattle.vip_text.specs.Stops.{idle_line}
 use Rattle.vip_debug.specs.TargetRun.{Run, state_of}
 use Rattle.vip_debug.specs.Commands.{Came, came}
 use Rattle.vip_debug.specs.Answered.{completed_lines, shown}
 use Rattle.vip_debug.specs.Fold.{after_all, all_pieces}
-
--- what is said of a processor that sleeps: the address of its IDL
-abbrev pub idle_line : ℕ → List ℕ
-idle_line address = codes "idle at " ++ hex4 address ++ newline
 
 -- what a command writes that comes to a machine: that the processor sleeps there, and else that the command isn't completed; these lines
 -- where it is

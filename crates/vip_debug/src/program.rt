@@ -5,19 +5,21 @@ ghost use Rattle.vip_cpu.specs.declared.cpu.Phase.{Phase};
 ghost use Rattle.vip_outside.specs.Sink.{PutAnswers};
 ghost use Rattle.vip_outside.specs.Pieces.{StreamAnswers};
 ghost use Rattle.vip_program.specs.Trace.{sleeps};
+ghost use Rattle.vip_text.specs.Stops.{idle_line};
 ghost use Rattle.vip_debug.specs.TargetRun.{run_from};
 ghost use Rattle.vip_debug.specs.Commands.{came};
 ghost use Rattle.vip_debug.specs.BoardParts.{Arrives, IsShown};
-ghost use Rattle.vip_debug.specs.Programs.{OneAnswers, ProgramAnswers, comes_to, ended_lines, gone_lines, idle_line, machine_after, program_pieces, ran_lines};
+ghost use Rattle.vip_debug.specs.Programs.{OneAnswers, ProgramAnswers, comes_to, ended_lines, gone_lines, machine_after, program_pieces, ran_lines};
 ghost use Rattle.vip_debug.specs.ProgramLaws.{ProgramLeads, program-leads-on};
 
 use crate::answer::{put_completed, put_showing};
 use crate::moves::{Change, go};
 use crate::target::Target;
 use vip_board::{Board, Moved};
-use vip_byte::{Buffer, MOST_CYCLE, hex4, put};
+use vip_byte::{Buffer, MOST_CYCLE};
 use vip_outside::{Failed, Sink};
 use vip_program::{ProgramEnd, ending, trace_moves};
+use vip_text::idle_text;
 use vip_words::{Command, Commands, Running};
 
 /// A board that runs any program. Its run ends where the processor idles with the display off, since no signal can wake it there.
@@ -65,9 +67,7 @@ fn put_idle<O: Sink>(address: u16, out: &mut O) -> Result<(), Failed>
     ensures { PutAnswers (idle_line address) (O.meaning out.old) (O.meaning out.new) result }
 {
     let mut text = Buffer::new();
-    put(&mut text, b"idle at ");
-    put(&mut text, &hex4(address));
-    put(&mut text, b"\n");
+    idle_text(address, &mut text);
     out.put(text.as_slice())
 }
 

@@ -7,9 +7,8 @@ ghost use Rattle.vip_outside.specs.Sink.{PutAnswers};
 ghost use Rattle.vip_outside.specs.Pieces.{StreamAnswers};
 ghost use Rattle.vip_debug.specs.BoardShown.{control_text, cycle_text, processor_line, registers_line, registers_text, regs_lines};
 
-use itoa::Buffer as Digits;
 use vip_board::Board;
-use vip_byte::{Buffer, hex2, hex4, put, put_bit};
+use vip_byte::{Buffer, hex2, hex4, put, put_bit, put_number};
 use vip_cpu::Cpu;
 use vip_outside::{Failed, Sink};
 use vip_program::put_selected;
@@ -20,9 +19,8 @@ pub fn put_cycle(into: &mut Buffer, board: &Board)
     ensures items { into.new.items ≡ into.old.items ++ cycle_text board.now.machine }
     ensures len { array_vec_len into.new ≤ array_vec_len into.old + 46 }
 {
-    let mut digits = Digits::new();
     put(into, b"cycle ");
-    put(into, digits.format(board.now()).as_bytes());
+    put_number(into, board.now());
 }
 
 /// Appends Q, IE, T, and whether the processor idles.

@@ -17,9 +17,8 @@ ghost use Rattle.vip_program.specs.Moves.{goes_on, is_idle, is_scan, MakesAll, M
 ghost use Rattle.vip_program.specs.Trace.{sleeps};
 
 use crate::line::{put_cycle, put_instruction};
-use crate::write::put_number;
 use vip_board::{Board, Move};
-use vip_byte::{Buffer, MOST_CYCLE, hex2, hex4, put};
+use vip_byte::{Buffer, MOST_CYCLE, hex2, hex4, put, put_number};
 use vip_cpu::Cpu;
 use vip_video::LINE_CYCLES;
 

@@ -41,16 +41,6 @@ pub fn put_digit(into: &mut Buffer, number: u8)
     put(into, &hex2(number)[1..]);
 }
 
-/// Appends a number in decimal.
-pub fn put_number(into: &mut Buffer, number: u64)
-    requires { HasRoom into.old.items 40 }
-    ensures items { into.new.items ≡ into.old.items ++ decimal number }
-    ensures len { array_vec_len into.new ≤ array_vec_len into.old + 40 }
-{
-    let mut digits = Digits::new();
-    put(into, digits.format(number).as_bytes());
-}
-
 /// Appends a number in decimal at the right of a column of ten.
 pub fn put_right(into: &mut Buffer, number: u64)
     requires few { number < 10_000_000_000 }

@@ -1,4 +1,4 @@
--- The line that names a stop.
+-- The lines that say where a run came to its end.
 use Rattle.std.specs.Prelude.{ℕ, List, [], ◌++◌, Option, Some, None, codes}
 use Rattle.vip_byte.specs.HexText.{hex4}
 use Rattle.chip8_lang.specs.declared.view.Stop.{Stop}
@@ -21,3 +21,7 @@ opcode_part (Some opcode) = codes " " ++ hex4 opcode
 
 unfoldable pub stop_line : Stop → ℕ → Option ℕ → List ℕ
 stop_line stop pc opcode = codes "stopped " ++ stop_name stop ++ opcode_part opcode ++ codes " at " ++ hex4 pc ++ newline
+
+-- the address of the instruction by which a program's processor idles for good
+abbrev pub idle_line : ℕ → List ℕ
+idle_line address = codes "idle at " ++ hex4 address ++ newline

@@ -1,4 +1,4 @@
-//! The texts that the program shows: the lines of a trace, the line that names a stop, a summary, a screen, a picture as PBM, and the cycle bounds
+//! The texts that the program shows: the lines of a trace, the lines that name a stop or an idle processor, a summary, a screen, a picture as PBM, and the cycle bounds
 //! of the interpreter, the most machine cycles from one dispatch point to the next by the instruction, with their table; how a run may end; and
 //! which files are machine states, what they hold, and what may be wrong with one.
 //!
@@ -26,6 +26,6 @@ pub use ending::RunEnd;
 pub use fault::StateFault;
 pub use picture::{PICTURE_SIZE, picture_text};
 pub use screen::{ROW_SIZE, WIDTH, is_lit, screen_text};
-pub use stop::stop_text;
+pub use stop::{idle_text, stop_text};
 pub use summary::summary_text;
 pub use trace::trace_text;

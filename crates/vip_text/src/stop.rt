@@ -1,9 +1,9 @@
-//! The line that names a stop.
+//! The lines that say where a run came to its end: at a stop, or at the instruction by which the processor idles for good.
 
 ghost use Rattle.std.specs.Prelude.{◌≡◌, ◌+◌, ◌≤◌, ◌++◌, [], length};
 ghost use Rattle.arrayvec.specs.ArrayVec.{array_vec_len};
 ghost use Rattle.vip_byte.specs.Room.{HasRoom};
-ghost use Rattle.vip_text.specs.Stops.{opcode_part, stop_line, stop_name};
+ghost use Rattle.vip_text.specs.Stops.{idle_line, opcode_part, stop_line, stop_name};
 
 use chip8_lang::{Stop, StopRecord};
 use vip_byte::{Buffer, hex4, put};
@@ -18,6 +18,16 @@ pub fn stop_text(stop: &StopRecord, into: &mut Buffer)
     put_opcode(into, stop.opcode);
     put(into, b" at ");
     put(into, &hex4(stop.pc));
+    put(into, b"\n");
+}
+
+/// Writes at which address a program's processor idles for good into an empty buffer.
+pub fn idle_text(address: u16, into: &mut Buffer)
+    requires { into.old.items ≡ [] }
+    ensures { into.new.items ≡ idle_line address }
+{
+    put(into, b"idle at ");
+    put(into, &hex4(address));
     put(into, b"\n");
 }
 

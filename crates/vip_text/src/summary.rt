@@ -3,8 +3,7 @@
 ghost use Rattle.std.specs.Prelude.{◌≡◌, []};
 ghost use Rattle.vip_text.specs.Summaries.{summary_line};
 
-use crate::write::put_number;
-use vip_byte::{Buffer, put};
+use vip_byte::{Buffer, put, put_number};
 
 /// Writes the summary of a demonstration game's run into an empty buffer: the number of the game, how many dispatch points and finished
 /// pictures the run had, and how many pixels are lit at the last dispatch point.

@@ -7,9 +7,9 @@ ghost use Rattle.vip_byte.specs.HexText.{hex4};
 ghost use Rattle.chip8_lang.specs.View.{seen};
 ghost use Rattle.vip_text.specs.Traces.{opcode_text, time_text, timers_text, trace_line};
 
-use crate::write::{put_bytes, put_number, put_words};
+use crate::write::{put_bytes, put_words};
 use chip8_lang::StateView;
-use vip_byte::{Buffer, hex2, hex4, put};
+use vip_byte::{Buffer, hex2, hex4, put, put_number};
 
 /// Writes the line of a state into an empty buffer, with the count of ticks and the cycle where `with_cycle` asks for them.
 pub fn trace_text(view: &StateView, with_cycle: bool, into: &mut Buffer)

@@ -1,11 +1,10 @@
 //! Appending to a buffer that has room.
 
-ghost use Rattle.std.specs.Prelude.{◌≡◌, ◌+◌, ◌*◌, ◌≤◌, ◌++◌, length, decimal};
+ghost use Rattle.std.specs.Prelude.{◌≡◌, ◌+◌, ◌*◌, ◌≤◌, ◌++◌, length};
 ghost use Rattle.arrayvec.specs.ArrayVec.{array_vec_len};
 ghost use Rattle.vip_byte.specs.Room.{HasRoom};
 ghost use Rattle.vip_byte.specs.HexText.{bytes_text, words_text};
 
-use itoa::Buffer as Digits;
 use vip_byte::{Buffer, hex2, hex4, put};
 
 /// Appends each byte in two digits, behind a blank.
@@ -30,14 +29,4 @@ pub fn put_words(into: &mut Buffer, words: &[u16])
         let [first, second, third, fourth] = hex4(*word);
         put(into, &[b' ', first, second, third, fourth]);
     }
-}
-
-/// Appends a number in decimal.
-pub fn put_number(into: &mut Buffer, number: u64)
-    requires { HasRoom into.old.items 40 }
-    ensures items { into.new.items ≡ into.old.items ++ decimal number }
-    ensures len { array_vec_len into.new ≤ array_vec_len into.old + 40 }
-{
-    let mut digits = Digits::new();
-    put(into, digits.format(number).as_bytes());
 }

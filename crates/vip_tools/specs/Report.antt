@@ -17,7 +17,7 @@ use Rattle.vip_words.specs.FaultNames.{command_cause_name}
 use Rattle.vip_text.specs.declared.fault.StateFault.{StateFault}
 use Rattle.vip_text.specs.declared.fault.StateFault.TheVariants.{BadLength}
 use Rattle.vip_text.specs.FaultNames.{state_fault_name}
-use Rattle.vip_text.specs.Stops.{opcode_part, stop_line}
+use Rattle.vip_text.specs.Stops.{idle_line, opcode_part, stop_line}
 use Rattle.vip_byte.specs.Text.{newline}
 use Rattle.vip_text.specs.Endings.{Ending, ending_in}
 use Rattle.vip_text.specs.Endings.Ending.{AtLimit, AtStop}
@@ -39,10 +39,6 @@ abbrev pub end_report : ℕ → Ending → List ℕ
 end_report limit AtLimit = done limit
 end_report limit (AtStop stop pc opcode) = stop_line stop pc opcode
 
--- the address of the instruction by which a program's processor idles
-abbrev pub idle_report : ℕ → List ℕ
-idle_report address = codes "idle at " ++ (hex4 address ++ newline)
-
 -- the bytes of a message that were sent, and those that were received
 abbrev pub linked_report : ℕ → ℕ → List ℕ
 linked_report sent received = codes "linked sent " ++ (decimal sent ++ (codes " received " ++ (decimal received ++ newline)))
@@ -51,7 +47,7 @@ linked_report sent received = codes "linked sent " ++ (decimal sent ++ (codes " 
 abbrev pub ended_report : Ended → List ℕ
 ended_report Worked = []
 ended_report (Ran limit end) = end_report limit (ending_in end)
-ended_report (Idle address) = idle_report address
+ended_report (Idle address) = idle_line address
 ended_report (Linked sent received) = linked_report sent received
 
 -- A report is one piece, which goes out by one put; where there is none, nothing is put.

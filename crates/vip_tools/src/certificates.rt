@@ -14,9 +14,8 @@ use asm_core::Assembly;
 use chip8_lang::Edition;
 use cycle_check::{CertFault, Within, check_cycles};
 use game_check::{FindFault, ProofFault, check_game, find_certificate};
-use itoa::Buffer as Digits;
 use std::alloc::Global;
-use vip_byte::{Buffer, hex4, put};
+use vip_byte::{Buffer, hex4, put, put_number};
 
 /// The first address of the ROM.
 const ROM_START: u16 = 0x8000;
@@ -82,11 +81,10 @@ fn within_text(within: Within, into: &mut Buffer)
     requires { into.old.items ≡ [] }
     ensures { into.new.items ≡ within_line within }
 {
-    let mut digits = Digits::new();
     put(into, b"yes ");
     put(into, &hex4(within.entry));
     put(into, b" within ");
-    put(into, digits.format(within.limit).as_bytes());
+    put_number(into, u64::from(within.limit));
     put(into, b"\n");
 }
 
@@ -95,9 +93,8 @@ fn count_text(count: u32, into: &mut Buffer)
     requires { into.old.items ≡ [] }
     ensures { into.new.items ≡ count_line count }
 {
-    let mut digits = Digits::new();
     put(into, b"yes ");
-    put(into, digits.format(count).as_bytes());
+    put_number(into, u64::from(count));
     put(into, b"\n");
 }
 

@@ -4,7 +4,7 @@ ghost use Rattle.std.specs.Prelude.{◌≡◌, [], IfOk};
 ghost use Rattle.std.specs.List.{flat_map};
 ghost use Rattle.vip_outside.specs.Pieces.{StreamAnswers};
 ghost use Rattle.vip_outside.specs.Sink.{PutAnswers};
-ghost use Rattle.vip_tools.specs.Report.{ended_report, fault_report, report_pieces, at_line, bad_state, done, idle_report, image_report, linked_report, no_certificate, report_of, rom_differs, too_large_report};
+ghost use Rattle.vip_tools.specs.Report.{ended_report, fault_report, report_pieces, at_line, bad_state, done, image_report, linked_report, no_certificate, report_of, rom_differs, too_large_report};
 ghost use Rattle.vip_tools.specs.Reported.{RefusalAnswers};
 
 use crate::ended::Ended;
@@ -16,9 +16,9 @@ use chip8_source::ImageFault;
 use game_check::Obstacle;
 use itoa::Buffer as Digits;
 use std::alloc::{AllocError, Global};
-use vip_byte::{Buffer, hex2, hex4, put};
+use vip_byte::{Buffer, hex2, hex4, put, put_number};
 use vip_outside::{Failed, Sink};
-use vip_text::{RunEnd, StateFault, stop_text};
+use vip_text::{RunEnd, StateFault, idle_text, stop_text};
 
 /// A line of these parts.
 fn line(alloc: Global, parts: &[&[u8]]) -> Result<Vec<u8>, AllocError>
@@ -179,19 +179,8 @@ fn done_text(limit: u64, into: &mut Buffer)
     requires { into.old.items ≡ [] }
     ensures { into.new.items ≡ done limit }
 {
-    let mut digits = Digits::new();
     put(into, b"done ");
-    put(into, digits.format(limit).as_bytes());
-    put(into, b"\n");
-}
-
-/// Writes at which address a program's processor idles into an empty buffer.
-fn idle_text(address: u16, into: &mut Buffer)
-    requires { into.old.items ≡ [] }
-    ensures { into.new.items ≡ idle_report address }
-{
-    put(into, b"idle at ");
-    put(into, &hex4(address));
+    put_number(into, limit);
     put(into, b"\n");
 }
 
@@ -200,11 +189,10 @@ fn linked_text(sent: u32, received: u32, into: &mut Buffer)
     requires { into.old.items ≡ [] }
     ensures { into.new.items ≡ linked_report sent received }
 {
-    let mut digits = Digits::new();
     put(into, b"linked sent ");
-    put(into, digits.format(sent).as_bytes());
+    put_number(into, u64::from(sent));
     put(into, b" received ");
-    put(into, digits.format(received).as_bytes());
+    put_number(into, u64::from(received));
     put(into, b"\n");
 }
 

@@ -17,7 +17,8 @@ use Rattle.vip_program.specs.declared.start.Memory.{Memory}
 use Rattle.vip_program.specs.declared.start.Memory.TheVariants.{Rom, Ram}
 use Rattle.vip_program.specs.declared.trace.ProgramEnd.{ProgramEnd}
 use Rattle.vip_program.specs.declared.trace.ProgramEnd.TheVariants as program
-use Rattle.vip_tools.specs.Report.{bad_command, bad_script, done, idle_report}
+use Rattle.vip_text.specs.Stops.{idle_line}
+use Rattle.vip_tools.specs.Report.{bad_command, bad_script, done}
 use Rattle.vip_tools.specs.declared.ended.Ended.{Ended}
 use Rattle.vip_tools.specs.declared.ended.Ended.TheVariants.{Idle, Ran}
 use Rattle.vip_tools.specs.declared.fault.PerformFault.{PerformFault}
@@ -39,7 +40,7 @@ memory_in asked.Ram = Ram
 -- the report at the end of its run
 abbrev pub program_report : ℕ → ProgramEnd → List ℕ
 program_report limit program.AtLimit = done limit
-program_report limit (program.Idle address) = idle_report address
+program_report limit (program.Idle address) = idle_line address
 
 -- how the run of a board ends that begins at its first move: at the limit, or where the processor sleeps
 abbrev pub ended_at : ℕ → Seen → ProgramEnd
