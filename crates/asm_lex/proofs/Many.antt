@@ -6,12 +6,13 @@ use Rattle.std.proofs.lemmas.Bool.{and_parts, and_right, cond-false, ne_eqb, bot
 use Rattle.asm_lex.specs.Bytes.{is_comma, is_name}
 use Rattle.asm_lex.specs.Parts.{trimmed, operands_in, without_leading_blanks, without_trailing_blanks}
 use Rattle.asm_lex.specs.Expressions.{is_expression, sum_in, written_value, number_in, is_here}
-use Rattle.asm_lex.specs.Words.{operands_of, number_written, takes, meaning_of, coded}
+use Rattle.asm_lex.specs.Words.{number_written, takes, meaning_of, coded}
 use Rattle.machine.specs.Opcodes.{kind_of}
 use Rattle.asm_lex.specs.declared.shape.Word.{Word}
 use Rattle.asm_lex.specs.declared.shape.Word.TheVariants.{Code, Org, Equ, Db, Dw, Ds, Page}
-use Rattle.asm_lex.specs.declared.words.Operands.{Operands}
-use Rattle.asm_lex.specs.declared.words.Operands.TheVariants.{Register, Port, Expression, Nothing}
+use Rattle.vip_isa.specs.Rows.{operands_of}
+use Rattle.vip_isa.specs.declared.rows.Operands.{Operands}
+use Rattle.vip_isa.specs.declared.rows.Operands.TheVariants.{Nothing, Register, Port, Data}
 use Rattle.asm_lex.specs.declared.words.Entry.TheVariants.{Directive, Mnemonic}
 use Rattle.std.proofs.lemmas.List.Splits.{length-slice_split}
 use Rattle.std.proofs.lemmas.List.Folds.{list_all-map}
@@ -84,8 +85,9 @@ not_all text short many =
 none_written : (kind : Operands) (a b : List ℕ) (rest : List (List ℕ)) → number_written kind (a ∷ b ∷ rest) ≡ None
 none_written Register a b rest = refl
 none_written Port a b rest = refl
-none_written Expression a b rest = refl
 none_written Nothing a b rest = cond-false (length (a ∷ b ∷ rest) == 0) (Some 0) None (ne_eqb (length (a ∷ b ∷ rest)) 0 (λ e. omega arith))
+none_written Data a b rest = cond-false (length (a ∷ b ∷ rest) == 0) (Some 0) None (ne_eqb (length (a ∷ b ∷ rest)) 0 (λ e. omega arith))
+none_written _ a b rest = refl
 
 not_taken : (directive : Word) (has_label : Bool) (a b : List ℕ) (rest : List (List ℕ)) → list_all is_expression (a ∷ b ∷ rest) ≡ false
     → takes directive has_label (a ∷ b ∷ rest) ≡ false

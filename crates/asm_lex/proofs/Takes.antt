@@ -4,22 +4,22 @@ use Rattle.std.specs.Prelude.{◌==◌, ◌&&◌, ◌||◌, option_map, nat_le}
 use Rattle.std.proofs.lemmas.Bool.{agree_below, agree_below_at, and_parts, leb-true, eqb-true}
 use Rattle.std.proofs.lemmas.Option.{cond_some, option_and_then_some}
 use Rattle.machine.specs.declared.Kind.{Kind}
-use Rattle.machine.specs.declared.Kind.TheVariants.{Idl, Ldn, Inc, Dec, Br, Bq, Bz, Bdf, B1, B2, B3, B4, Skp, Bnq, Bnz, Bnf, Bn1, Bn2, Bn3, Bn4, Lda, Str, Irx, Out, Undefined, Inp, Ret, Dis, Ldxa, Stxd, Adc, Sdb, Shrc, Smb, Sav, Mark, Req, Seq, Adci, Sdbi, Shlc, Smbi, Glo, Ghi, Plo, Phi, Lbr, Lbq, Lbz, Lbdf, Nop, Lsnq, Lsnz, Lsnf, Lskp, Lbnq, Lbnz, Lbnf, Lsie, Lsq, Lsz, Lsdf, Sep, Sex, Ldx, Or, And, Xor, Add, Sd, Shr, Sm, Ldi, Ori, Ani, Xri, Adi, Sdi, Shl, Smi}
+use Rattle.machine.specs.declared.Kind.TheVariants.{Idl}
 use Rattle.machine.specs.Opcodes.{kind_of}
-use Rattle.vip_isa.specs.Rows.{first_of, least_of, greatest_of, size_of}
+use Rattle.vip_isa.specs.Rows.{operands_of, first_of, least_of, greatest_of, size_of}
+use Rattle.vip_isa.specs.declared.rows.Operands.{Operands}
+use Rattle.vip_isa.specs.declared.rows.Operands.TheVariants.{Nothing, Register, Port, Byte, Short, Long, Data}
 use Rattle.asm_lex.specs.declared.shape.Word.{Word}
 use Rattle.asm_lex.specs.declared.shape.Word.TheVariants.{Code, Org, Equ, Db, Dw, Ds, Page}
-use Rattle.asm_lex.specs.declared.words.Operands.{Operands}
-use Rattle.asm_lex.specs.declared.words.Operands.TheVariants.{Register, Port, Expression, Nothing}
 use Rattle.asm_lex.specs.declared.words.Entry.{Entry}
 use Rattle.asm_lex.specs.declared.words.Entry.TheVariants.{Directive, Mnemonic}
-use Rattle.asm_lex.specs.Words.{operands_of, number_written, with_number, coded, takes, meaning_of, is_one_expression, size_at, HasItsOperands}
+use Rattle.asm_lex.specs.Words.{number_written, with_number, coded, takes, meaning_of, is_one_expression, size_at, HasItsOperands}
 
 abbrev is_for_expression : Operands → Bool
-is_for_expression Expression = true
-is_for_expression Register = false
-is_for_expression Port = false
-is_for_expression Nothing = false
+is_for_expression Byte = true
+is_for_expression Short = true
+is_for_expression Long = true
+is_for_expression _ = false
 
 -- where a kind takes no expression, its opcodes are instructions of one byte
 abbrev is_plain : Kind → Bool
@@ -29,85 +29,7 @@ is_plain kind =
 
 plain : (kind : Kind) → is_plain kind ≡ true
 plain Idl = refl
-plain Ldn = refl
-plain Inc = refl
-plain Dec = refl
-plain Br = refl
-plain Bq = refl
-plain Bz = refl
-plain Bdf = refl
-plain B1 = refl
-plain B2 = refl
-plain B3 = refl
-plain B4 = refl
-plain Skp = refl
-plain Bnq = refl
-plain Bnz = refl
-plain Bnf = refl
-plain Bn1 = refl
-plain Bn2 = refl
-plain Bn3 = refl
-plain Bn4 = refl
-plain Lda = refl
-plain Str = refl
-plain Irx = refl
-plain Out = refl
-plain Undefined = refl
-plain Inp = refl
-plain Ret = refl
-plain Dis = refl
-plain Ldxa = refl
-plain Stxd = refl
-plain Adc = refl
-plain Sdb = refl
-plain Shrc = refl
-plain Smb = refl
-plain Sav = refl
-plain Mark = refl
-plain Req = refl
-plain Seq = refl
-plain Adci = refl
-plain Sdbi = refl
-plain Shlc = refl
-plain Smbi = refl
-plain Glo = refl
-plain Ghi = refl
-plain Plo = refl
-plain Phi = refl
-plain Lbr = refl
-plain Lbq = refl
-plain Lbz = refl
-plain Lbdf = refl
-plain Nop = refl
-plain Lsnq = refl
-plain Lsnz = refl
-plain Lsnf = refl
-plain Lskp = refl
-plain Lbnq = refl
-plain Lbnz = refl
-plain Lbnf = refl
-plain Lsie = refl
-plain Lsq = refl
-plain Lsz = refl
-plain Lsdf = refl
-plain Sep = refl
-plain Sex = refl
-plain Ldx = refl
-plain Or = refl
-plain And = refl
-plain Xor = refl
-plain Add = refl
-plain Sd = refl
-plain Shr = refl
-plain Sm = refl
-plain Ldi = refl
-plain Ori = refl
-plain Ani = refl
-plain Xri = refl
-plain Adi = refl
-plain Sdi = refl
-plain Shl = refl
-plain Smi = refl
+plain _ = refl
 
 second : (a b : Bool) → (a || b) ≡ true → a ≡ false → b ≡ true
 second true b or not = absurd (cc)
@@ -124,8 +46,11 @@ is_written : (kind : Operands) (operands : List (List ℕ)) (number : ℕ) → n
     → is_one_expression operands ≡ true
 is_written Register operands number e is = absurd (cc)
 is_written Port operands number e is = absurd (cc)
-is_written Expression operands number e is = (cond_some (is_one_expression operands) 0 number e).0
 is_written Nothing operands number e is = absurd (cc)
+is_written Data operands number e is = absurd (cc)
+is_written Byte operands number e is = (cond_some (is_one_expression operands) 0 number e).0
+is_written Short operands number e is = (cond_some (is_one_expression operands) 0 number e).0
+is_written Long operands number e is = (cond_some (is_one_expression operands) 0 number e).0
 
 coded_operands : (kind : Kind) (operands : List (List ℕ)) (opcode : ℕ) → coded kind operands ≡ Some opcode → HasItsOperands (Some (Code opcode)) operands
 unfolding coded size_at

@@ -4,15 +4,14 @@ use Rattle.std.specs.Str.{bytes_eq}
 use Rattle.std.specs.List.{list_all, range_with_len}
 use Rattle.std.specs.Char.{to_ascii_uppercase}
 use Rattle.machine.specs.declared.Kind.{Kind}
-use Rattle.machine.specs.declared.Kind.TheVariants.{Ldn, Inc, Dec, Lda, Str, Out, Inp, Glo, Ghi, Plo, Phi, Sep, Sex}
 use Rattle.machine.specs.Opcodes.{kind_of}
-use Rattle.vip_isa.specs.Rows.{least_of, greatest_of, opcode_of, size_of, mnemonic_of}
+use Rattle.vip_isa.specs.Rows.{operands_of, least_of, greatest_of, opcode_of, size_of, mnemonic_of}
+use Rattle.vip_isa.specs.declared.rows.Operands.{Operands}
+use Rattle.vip_isa.specs.declared.rows.Operands.TheVariants.{Register, Port, Nothing, Data}
 use Rattle.asm_lex.specs.declared.shape.Word.{Word}
 use Rattle.asm_lex.specs.declared.shape.Word.TheVariants.{Code, Org, Equ, Db, Dw, Ds, Page}
-use Rattle.asm_lex.specs.declared.words.Operands.{Operands}
 use Rattle.asm_lex.specs.declared.words.Entry.{Entry}
 use Rattle.asm_lex.specs.declared.words.Entry.TheVariants.{Directive, Mnemonic}
-use Rattle.asm_lex.specs.declared.words.Operands.TheVariants.{Register, Port, Expression, Nothing}
 use Rattle.asm_lex.specs.Bytes.{register_of}
 use Rattle.asm_lex.specs.Expressions.{is_expression}
 
@@ -74,33 +73,13 @@ are_none operands = length operands == 0
 abbrev pub are_expressions : List (List ℕ) → Bool
 are_expressions operands = not (length operands == 0) && list_all is_expression operands
 
--- what the operands of a mnemonic that names no register and no port are: the bytes behind the opcode are one operand
-abbrev pub operands_by_size : Kind → Operands
-operands_by_size kind = if size_of kind == 1 then Nothing else Expression
-
--- what the operands of a mnemonic are
-abbrev pub operands_of : Kind → Operands
-operands_of Ldn = Register
-operands_of Inc = Register
-operands_of Dec = Register
-operands_of Lda = Register
-operands_of Str = Register
-operands_of Glo = Register
-operands_of Ghi = Register
-operands_of Plo = Register
-operands_of Phi = Register
-operands_of Sep = Register
-operands_of Sex = Register
-operands_of Out = Port
-operands_of Inp = Port
-operands_of kind = operands_by_size kind
-
 -- the number that the operands write into the opcode; none where they are wrong
 abbrev pub number_written : Operands → List (List ℕ) → Option ℕ
 number_written Register operands = one_register operands
 number_written Port operands = one_port operands
-number_written Expression operands = if is_one_expression operands then Some 0 else None
 number_written Nothing operands = if are_none operands then Some 0 else None
+number_written Data operands = if are_none operands then Some 0 else None
+number_written _ operands = if is_one_expression operands then Some 0 else None
 
 -- the opcode of a kind with such a number, where the kind can have it: LDN has no R0
 abbrev pub with_number : Kind → ℕ → Option ℕ

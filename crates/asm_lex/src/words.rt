@@ -1,7 +1,7 @@
 //! Words and their operands.
 
 ghost use Rattle.std.specs.Prelude.{◌≡◌, ℕ, List, length, map};
-ghost use Rattle.asm_lex.specs.Words.{directive_of, mnemonic_at, opcode_named, entry_of, operands_of, one_register, port_of, one_port, is_one_expression, are_none, are_expressions, number_written, with_number, coded, takes, meaning_of};
+ghost use Rattle.asm_lex.specs.Words.{directive_of, mnemonic_at, opcode_named, entry_of, one_register, port_of, one_port, is_one_expression, are_none, are_expressions, number_written, with_number, coded, takes, meaning_of};
 ghost use Rattle.machine.specs.Opcodes.{kind_of};
 ghost use Rattle.asm_lex.specs.Spans.{text_at, AreWithin};
 
@@ -9,7 +9,7 @@ use crate::expression::is_expression;
 use crate::spans::text_at;
 use crate::text::{register, spells};
 use crate::{Span, Word};
-use vip_isa::{Kind, Op, decode, encode, mnemonic, size};
+use vip_isa::{Kind, Op, Operands, decode, encode, mnemonic, operands_in};
 
 /// A word of the table.
 #[derive(Clone, Copy)]
@@ -18,19 +18,6 @@ pub(crate) enum Entry {
     Mnemonic(u8),
     /// A directive.
     Directive(Word),
-}
-
-/// What the operands of a mnemonic are.
-#[derive(Clone, Copy)]
-pub(crate) enum Operands {
-    /// One register.
-    Register,
-    /// One port, a digit from 1 to 7.
-    Port,
-    /// One expression.
-    Expression,
-    /// No operand.
-    Nothing,
 }
 
 #[tactic(auto, unfolding(crate::specs::Words::directive_of))]
@@ -80,18 +67,6 @@ pub(crate) fn entry_of(word: &[u8]) -> Option<Entry>
     match directive(word) {
         Some(directive) => Some(Entry::Directive(directive)),
         None => opcode(word).map(Entry::Mnemonic),
-    }
-}
-
-fn operands_of(opcode: u8) -> Operands
-    ensures { result ≡ operands_of (kind_of opcode) }
-{
-    match decode(opcode).kind {
-        Kind::Ldn | Kind::Inc | Kind::Dec | Kind::Lda | Kind::Str | Kind::Glo => Operands::Register,
-        Kind::Ghi | Kind::Plo | Kind::Phi | Kind::Sep | Kind::Sex => Operands::Register,
-        Kind::Out | Kind::Inp => Operands::Port,
-        _ if size(opcode) == 1 => Operands::Nothing,
-        _ => Operands::Expression,
     }
 }
 
@@ -146,15 +121,16 @@ fn are_expressions(line: &[u8], operands: &[Span]) -> bool
     !operands.is_empty()
 }
 
-fn number_written(kind: Operands, line: &[u8], operands: &[Span]) -> Option<u8>
+fn number_written(due: Operands, line: &[u8], operands: &[Span]) -> Option<u8>
     requires { AreWithin line.now operands.now }
-    ensures { result ≡ number_written kind (map (text_at line.now) operands.now) }
+    ensures { result ≡ number_written due (map (text_at line.now) operands.now) }
 {
-    match kind {
+    match due {
         Operands::Register => one_register(line, operands),
         Operands::Port => one_port(line, operands),
-        Operands::Expression if is_one_expression(line, operands) => Some(0),
-        Operands::Nothing if operands.is_empty() => Some(0),
+        Operands::Nothing | Operands::Data if operands.is_empty() => Some(0),
+        Operands::Nothing | Operands::Data => None,
+        _ if is_one_expression(line, operands) => Some(0),
         _ => None,
     }
 }
@@ -171,8 +147,9 @@ fn coded(opcode: u8, line: &[u8], operands: &[Span]) -> Option<u8>
     requires { AreWithin line.now operands.now }
     ensures { result ≡ coded (kind_of opcode) (map (text_at line.now) operands.now) }
 {
-    match number_written(operands_of(opcode), line, operands) {
-        Some(number) => with_number(decode(opcode).kind, number),
+    let kind = decode(opcode).kind;
+    match number_written(operands_in(kind), line, operands) {
+        Some(number) => with_number(kind, number),
         None => None,
     }
 }

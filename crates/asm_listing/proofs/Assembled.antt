@@ -1,14 +1,19 @@
 -- What the assembler makes of each line of a disassembly.
-use Rattle.std.proofs.Common.{◌≡◌, ◌+◌, ◌*◌, ◌/◌, ◌%◌, ◌<◌, ◌≤◌, ℕ, zero, suc, refl, List, [], ◌∷◌, length, take, sym, ◌∙◌, ap, subst, arith, true, false, Some, None, Ok, Err, Result, cond}
-use Rattle.std.specs.Prelude.{◌&&◌, ◌||◌, ◌==◌, nat_lt, codes, slice_index, is_err, map, All}
+use Rattle.std.proofs.Common.{◌≡◌, ◌+◌, ◌*◌, ◌/◌, ◌%◌, ◌<◌, ◌≤◌, ℕ, zero, suc, refl, List, [], ◌∷◌, ◌++◌, length, take, sym, ◌∙◌, ap, subst, arith, true, false, Some, None, Ok, Err, Result, cond}
+use Rattle.std.specs.Prelude.{◌&&◌, ◌||◌, ◌==◌, Bool, not, nat_lt, codes, slice_index, is_err, map, All}
 use Rattle.std.specs.Option.{option_map, ok_or}
 use Rattle.std.specs.Result.{result_map_both, result_unwrap_or}
 use Rattle.std.specs.List.{list_any}
 use Rattle.std.proofs.lemmas.Bool.{cond-true, cond-false, or_parts, eqb-true, eqb-false, ltb-false, le-ltb, eq-eqb, ne_eqb}
-use Rattle.machine.specs.declared.Kind.{Kind}
-use Rattle.machine.specs.declared.Kind.TheVariants.{Idl, Ldn, Inc, Dec, Lda, Str, Out, Inp, Undefined, Glo, Ghi, Plo, Phi, Sep, Sex}
+use Rattle.machine.specs.declared.Kind.TheVariants.{Undefined}
 use Rattle.machine.specs.Opcodes.{kind_of, opcode_number}
-use Rattle.vip_isa.specs.Rows.{greatest_of, size_of}
+use Rattle.vip_isa.specs.Rows.{greatest_with, operands_of, size_with}
+use Rattle.vip_isa.specs.Texts.{instruction_text, operand_at, operand_with}
+use Rattle.vip_isa.specs.declared.rows.Operands.{Operands}
+use Rattle.vip_isa.specs.declared.rows.Operands.TheVariants as stands
+use Rattle.vip_isa.specs.declared.text.Operand.{Operand}
+use Rattle.vip_isa.specs.declared.text.Operand.TheVariants.{Byte, Target}
+use Rattle.vip_isa.proofs.Below.{at-passes_below}
 use Rattle.vip_isa.proofs.Opcodes.{decoded_is_valid}
 use Rattle.vip_byte.specs.HexText.{hex2, hex4}
 use Rattle.asm_lex.specs.declared.shape.Word.{Word}
@@ -23,12 +28,10 @@ use Rattle.asm_core.specs.declared.fault.AsmCause.TheVariants.{OffPage, TooLarge
 use Rattle.asm_core.specs.Names.{Names, operand_value, first_operand}
 use Rattle.asm_core.specs.Layout.{laid, laid_out, laid_parts, placed, judged, is_too_large, label_in, label_from, from_parts, value_cause}
 use Rattle.asm_core.specs.Encoding.{long_branch, short_branch, immediate, instruction, encoded, encoded_parts, values_of, collected, is_undefined}
-use Rattle.asm_listing.specs.declared.instruction.Operand.{Operand}
-use Rattle.asm_listing.specs.declared.instruction.Operand.TheVariants.{Nothing, Byte, Target}
-use Rattle.asm_listing.specs.Disassembly.{opcode_in, is_data, taken, expression_at, operand_of_size, operand_by, operand_at, instruction_text, data_text, first_line, origin}
+use Rattle.asm_listing.specs.Disassembly.{opcode_in, is_data, taken, data_text, first_line, origin}
 use Rattle.asm_listing.proofs.Plain.{parts_of}
 use Rattle.asm_listing.proofs.Values.{hex_text, byte_plain, word_plain, byte_number, word_number, one_number, number_operand}
-use Rattle.asm_listing.proofs.Written.{operand_list, IsInRange, small_operands, mnemonic_means, org_means, instruction_means, mnemonic_parsed, operand_parsed}
+use Rattle.asm_listing.proofs.Written.{operand_list, is_false, IsInRange, small_operands, mnemonic_means, org_means, instruction_means, mnemonic_parsed, operand_parsed}
 
 -- bytes are numbers below 256
 abbrev pub AreBytes : List ℕ → Type 0
@@ -40,50 +43,23 @@ byte_low (byte ∷ bytes) all zero = all 0 0 (omega arith)
 byte_low (byte ∷ bytes) all (suc k) = byte_low bytes (λ j d below. all (suc j) d (omega arith)) k
 
 -- the numbers of an operand are in their ranges
-module _ (at : ℕ) (bytes : List ℕ) (bytes_low : AreBytes bytes) (fits : at + 1 < 65536) where
-  expression_ranged : IsInRange (expression_at at bytes)
-  unfolding expression_at
-  expression_ranged =
+module _ (at : ℕ) (bytes : List ℕ) (bytes_low : AreBytes bytes) where
+  ranged_by : (due : Operands) → opcode_number (opcode_in bytes) ≤ greatest_with due
+      → IsInRange (operand_with due at (opcode_in bytes) (slice_index bytes 1) (slice_index bytes 2))
+  ranged_by stands.Nothing most = tt
+  ranged_by stands.Register most = omega arith
+  ranged_by stands.Port most = omega arith
+  ranged_by stands.Byte most = byte_low bytes bytes_low 1
+  ranged_by stands.Short most = let second = byte_low bytes bytes_low 1 in omega arith
+  ranged_by stands.Long most =
       let second = byte_low bytes bytes_low 1 in
       let third = byte_low bytes bytes_low 2 in
-      elim (size_at (opcode_in bytes) == 3)
-      as (λ b. IsInRange (cond b (Target (slice_index bytes 1 * 256 + slice_index bytes 2))
-      (cond (opcode_in bytes / 16 == 3) (Target ((at + 1) / 256 * 256 + slice_index bytes 1)) (Byte (slice_index bytes 1))))) [
-        | true ↦ omega arith
-        | false ↦ elim (opcode_in bytes / 16 == 3)
-            as (λ b. IsInRange (cond b (Target ((at + 1) / 256 * 256 + slice_index bytes 1)) (Byte (slice_index bytes 1)))) [
-              | true ↦ omega arith
-              | false ↦ second
-            ]
-      ]
-
-module _ (at : ℕ) (bytes : List ℕ) (bytes_low : AreBytes bytes) (size : ℕ) (fits : (size ≡ 1 → ⊥) → at + 1 < 65536) where
-  size_ranged : IsInRange (operand_of_size size at bytes)
-  size_ranged = elim (size == 1) as (λ b. (size == 1) ≡ b → IsInRange (cond b Nothing (expression_at at bytes))) [
-    | true ↦ λ e. tt
-    | false ↦ λ e. expression_ranged at bytes bytes_low (fits (eqb-false size 1 e))
-  ] refl
-
-module _ (at : ℕ) (bytes : List ℕ) (bytes_low : AreBytes bytes) (fits : (size_at (opcode_in bytes) ≡ 1 → ⊥) → at + 1 < 65536) where
-  kind_ranged : (kind : Kind) → opcode_number (opcode_in bytes) ≤ greatest_of kind → IsInRange (operand_by kind at bytes)
-  kind_ranged Ldn most = omega arith
-  kind_ranged Inc most = omega arith
-  kind_ranged Dec most = omega arith
-  kind_ranged Lda most = omega arith
-  kind_ranged Str most = omega arith
-  kind_ranged Glo most = omega arith
-  kind_ranged Ghi most = omega arith
-  kind_ranged Plo most = omega arith
-  kind_ranged Phi most = omega arith
-  kind_ranged Sep most = omega arith
-  kind_ranged Sex most = omega arith
-  kind_ranged Out most = omega arith
-  kind_ranged Inp most = omega arith
-  kind_ranged kind most = size_ranged at bytes bytes_low (size_at (opcode_in bytes)) fits
+      omega arith
+  ranged_by stands.Data most = byte_low bytes bytes_low 0
 
   ranged : IsInRange (operand_at at bytes)
   unfolding operand_at
-  ranged = kind_ranged (kind_of (opcode_in bytes)) (decoded_is_valid (opcode_in bytes) (byte_low bytes bytes_low 0)).to_greatest
+  ranged = ranged_by (operands_of (kind_of (opcode_in bytes))) (decoded_is_valid (opcode_in bytes) (byte_low bytes bytes_low 0)).to_greatest
 
 -- a line without a label that is laid out
 module _ (names : Names) (at : ℕ) (line : List ℕ) (meaning : Word) (operands : List (List ℕ)) (is : parsed line ≡ Ok (parts_of meaning operands)) where
@@ -208,141 +184,111 @@ take_3 (a ∷ []) some = absurd (omega arith)
 take_3 (a ∷ b ∷ []) some = absurd (omega arith)
 take_3 (a ∷ b ∷ c ∷ bytes) some = refl
 
--- an instruction has one byte, two or three
-has_size : (kind : Kind) → ((size_of kind == 1) || ((size_of kind == 2) || (size_of kind == 3))) ≡ true
-has_size Idl = refl
-has_size _ = refl
+-- the opcodes 30 to 3F alone have the low byte of an address behind them, or none
+abbrev agrees : Operands → Bool → Bool
+agrees stands.Short page = page
+agrees stands.Byte page = not page
+agrees _ page = true
 
-by_sizes : (size : ℕ) (P : Type 0) → ((size == 1) || ((size == 2) || (size == 3))) ≡ true → (size ≡ 1 → P) → (size ≡ 2 → P) → (size ≡ 3 → P) → P
-by_sizes size P e one two three = elim (size == 1) as (λ b. (size == 1) ≡ b → (b || ((size == 2) || (size == 3))) ≡ true → P) [
-  | true ↦ λ is h. one (eqb-true size 1 is)
-  | false ↦ λ is h. elim (size == 2) as (λ b. (size == 2) ≡ b → (b || (size == 3)) ≡ true → P) [
-    | true ↦ λ is h. two (eqb-true size 2 is)
-    | false ↦ λ is h. three (eqb-true size 3 h)
-  ] refl h
-] refl e
+pages : (opcode : ℕ) → opcode < 256 → agrees (operands_of (kind_of opcode)) (opcode / 16 == 3) ≡ true
+pages opcode low = at-passes_below (λ b. agrees (operands_of (kind_of b)) (b / 16 == 3)) 256 refl opcode low
 
-module _ (at : ℕ) (bytes : List ℕ) where
-  -- the operand of an instruction of more than one byte
-  long_operand : (kind : Kind) → size_at (opcode_in bytes) ≡ size_of kind → (size_at (opcode_in bytes) ≡ 1 → ⊥)
-      → operand_by kind at bytes ≡ expression_at at bytes
-  long_operand Ldn is other = absurd (other is)
-  long_operand Inc is other = absurd (other is)
-  long_operand Dec is other = absurd (other is)
-  long_operand Lda is other = absurd (other is)
-  long_operand Str is other = absurd (other is)
-  long_operand Glo is other = absurd (other is)
-  long_operand Ghi is other = absurd (other is)
-  long_operand Plo is other = absurd (other is)
-  long_operand Phi is other = absurd (other is)
-  long_operand Sep is other = absurd (other is)
-  long_operand Sex is other = absurd (other is)
-  long_operand Out is other = absurd (other is)
-  long_operand Inp is other = absurd (other is)
-  long_operand kind is other = cond-false (size_at (opcode_in bytes) == 1) Nothing (expression_at at bytes) (ne_eqb _ _ other)
+module _ (names : Names) (at : ℕ) (bytes : List ℕ) (bytes_low : AreBytes bytes) where
+  abbrev opcode : ℕ
+  opcode = opcode_in bytes
 
-  size_is : size_at (opcode_in bytes) ≡ size_of (kind_of (opcode_in bytes))
+  abbrev second : ℕ
+  second = slice_index bytes 1
+
+  abbrev third : ℕ
+  third = slice_index bytes 2
+
+  abbrev operand_of : Operand → List ℕ
+  operand_of operand = first_operand (operand_list operand)
+
+  abbrev operand_by : Operands → Operand
+  operand_by due = operand_with due at opcode second third
+
+  target_value : (t : ℕ) → t < 65536 → operand_value names at 65535 (operand_of (Target t)) ≡ Ok t
+  target_value t low = number_operand (hex_text (hex4 t)) (word_plain t low) (omega arith) t (word_number t low) (omega arith) names at 65535 (omega arith)
+
+  byte_value : (b : ℕ) → b < 256 → operand_value names at 255 (operand_of (Byte b)) ≡ Ok b
+  byte_value b low = number_operand (hex_text (hex2 b)) (byte_plain b low) (omega arith) b (byte_number b low) (omega arith) names at 255 (omega arith)
+
+  size_is : (due : Operands) → due ≡ operands_of (kind_of opcode) → size_at opcode ≡ size_with due
   unfolding size_at
-  size_is = refl
+  size_is due e = ap size_with (sym e)
 
-  size_tested : ((size_at (opcode_in bytes) == 1) || ((size_at (opcode_in bytes) == 2) || (size_at (opcode_in bytes) == 3))) ≡ true
-  unfolding size_at
-  size_tested = has_size (kind_of (opcode_in bytes))
+  page_is : (due : Operands) → due ≡ operands_of (kind_of opcode) → agrees due (opcode / 16 == 3) ≡ true
+  page_is due e = ap (λ due. agrees due (opcode / 16 == 3)) e ∙ pages opcode (byte_low bytes bytes_low 0)
 
-  expressed : (size_at (opcode_in bytes) ≡ 1 → ⊥) → operand_at at bytes ≡ expression_at at bytes
-  unfolding operand_at
-  expressed other = long_operand (kind_of (opcode_in bytes)) size_is other
+  module _ (whole : size_at opcode ≤ length bytes) (fits : at + size_at opcode ≤ 65536) where
+    encoded_1 : size_at opcode ≡ 1 → (o : List ℕ) → instruction names at opcode o ≡ Ok (take (size_at opcode) bytes)
+    encoded_1 e o = one_byte names at opcode o e ∙ ap Ok (sym (ap (λ n. take n bytes) e ∙ take_1 bytes (omega arith)))
 
-  target_is : size_at (opcode_in bytes) ≡ 3 → operand_at at bytes ≡ Target (slice_index bytes 1 * 256 + slice_index bytes 2)
-  unfolding expression_at
-  target_is e =
-      expressed (λ one. omega arith)
-      ∙ cond-true (size_at (opcode_in bytes) == 3) (Target (slice_index bytes 1 * 256 + slice_index bytes 2)) _ (eq-eqb _ _ e)
+    encoded_short : size_at opcode ≡ 2 → opcode / 16 ≡ 3 → instruction names at opcode (operand_of (operand_by stands.Short)) ≡ Ok (take (size_at opcode) bytes)
+    encoded_short e branch =
+        let second_low : second < 256 = byte_low bytes bytes_low 1 in
+        let target : ℕ = (at + 1) % 65536 / 256 * 256 + second in
+        let page : target / 256 ≡ (at + 1) / 256 = omega arith in
+        let low : target % 256 ≡ second = omega arith in
+        let inside : target < 65536 = omega arith in
+        a_short_branch names at opcode (operand_of (Target target)) target e branch (target_value target inside) page
+        ∙ ap (λ l. Ok (opcode ∷ l ∷ [])) low
+        ∙ ap Ok (sym (ap (λ n. take n bytes) e ∙ take_2 bytes (omega arith)))
 
-  two_is : size_at (opcode_in bytes) ≡ 2
-      → operand_at at bytes ≡ cond (opcode_in bytes / 16 == 3) (Target ((at + 1) / 256 * 256 + slice_index bytes 1)) (Byte (slice_index bytes 1))
-  unfolding expression_at
-  two_is e =
-      expressed (λ one. omega arith)
-      ∙ cond-false (size_at (opcode_in bytes) == 3) (Target (slice_index bytes 1 * 256 + slice_index bytes 2)) _ (ne_eqb _ _ (λ three. omega arith))
+    encoded_byte : size_at opcode ≡ 2 → (opcode / 16 ≡ 3 → ⊥) → instruction names at opcode (operand_of (operand_by stands.Byte)) ≡ Ok (take (size_at opcode) bytes)
+    encoded_byte e other =
+        an_immediate names at opcode (operand_of (Byte second)) second e other (byte_value second (byte_low bytes bytes_low 1))
+        ∙ ap Ok (sym (ap (λ n. take n bytes) e ∙ take_2 bytes (omega arith)))
 
-  module _ (names : Names) (bytes_low : AreBytes bytes) (whole : size_at (opcode_in bytes) ≤ length bytes) (fits : at + size_at (opcode_in bytes) ≤ 65536) where
-    abbrev opcode : ℕ
-    opcode = opcode_in bytes
-
-    abbrev operand_of : Operand → List ℕ
-    operand_of operand = first_operand (operand_list operand)
-
-    target_value : (t : ℕ) → t < 65536 → operand_value names at 65535 (operand_of (Target t)) ≡ Ok t
-    target_value t low = number_operand (hex_text (hex4 t)) (word_plain t low) (omega arith) t (word_number t low) (omega arith) names at 65535 (omega arith)
-
-    byte_value : (b : ℕ) → b < 256 → operand_value names at 255 (operand_of (Byte b)) ≡ Ok b
-    byte_value b low = number_operand (hex_text (hex2 b)) (byte_plain b low) (omega arith) b (byte_number b low) (omega arith) names at 255 (omega arith)
-
-    encoded_1 : size_at opcode ≡ 1 → instruction names at opcode (operand_of (operand_at at bytes)) ≡ Ok (take (size_at opcode) bytes)
-    encoded_1 e = one_byte names at opcode (operand_of (operand_at at bytes)) e ∙ ap Ok (sym (ap (λ n. take n bytes) e ∙ take_1 bytes (omega arith)))
-
-    encoded_3 : size_at opcode ≡ 3 → instruction names at opcode (operand_of (operand_at at bytes)) ≡ Ok (take (size_at opcode) bytes)
-    encoded_3 e =
-        let second : ℕ = slice_index bytes 1 in
-        let third : ℕ = slice_index bytes 2 in
+    encoded_long : size_at opcode ≡ 3 → instruction names at opcode (operand_of (operand_by stands.Long)) ≡ Ok (take (size_at opcode) bytes)
+    encoded_long e =
         let second_low : second < 256 = byte_low bytes bytes_low 1 in
         let third_low : third < 256 = byte_low bytes bytes_low 2 in
         let target : ℕ = second * 256 + third in
         let high : target / 256 ≡ second = omega arith in
         let low : target % 256 ≡ third = omega arith in
-        ap (λ o. instruction names at opcode (operand_of o)) (target_is e)
-        ∙ three_bytes names at opcode (operand_of (Target target)) target e (target_value target (omega arith))
+        three_bytes names at opcode (operand_of (Target target)) target e (target_value target (omega arith))
         ∙ ap (λ h. Ok (opcode ∷ h ∷ target % 256 ∷ [])) high
         ∙ ap (λ l. Ok (opcode ∷ second ∷ l ∷ [])) low
         ∙ ap Ok (sym (ap (λ n. take n bytes) e ∙ take_3 bytes (omega arith)))
 
-    encoded_2 : size_at opcode ≡ 2 → instruction names at opcode (operand_of (operand_at at bytes)) ≡ Ok (take (size_at opcode) bytes)
-    encoded_2 e =
-        let second : ℕ = slice_index bytes 1 in
-        let second_low : second < 256 = byte_low bytes bytes_low 1 in
-        let target : ℕ = (at + 1) / 256 * 256 + second in
-        let page : target / 256 ≡ (at + 1) / 256 = omega arith in
-        let low : target % 256 ≡ second = omega arith in
-        let inside : target < 65536 = omega arith in
-        ap (λ o. instruction names at opcode (operand_of o)) (two_is e)
-        ∙ elim (opcode / 16 == 3) as (λ b. (opcode / 16 == 3) ≡ b
-        → instruction names at opcode (operand_of (cond b (Target target) (Byte second))) ≡ Ok (opcode ∷ second ∷ [])) [
-          | true ↦ λ is.
-              a_short_branch names at opcode (operand_of (Target target)) target e (eqb-true _ _ is) (target_value target inside) page
-              ∙ ap (λ l. Ok (opcode ∷ l ∷ [])) low
-          | false ↦ λ is. an_immediate names at opcode (operand_of (Byte second)) second e (eqb-false _ _ is) (byte_value second second_low)
-        ] refl
-        ∙ ap Ok (sym (ap (λ n. take n bytes) e ∙ take_2 bytes (omega arith)))
+    encoded_by : (due : Operands) → due ≡ operands_of (kind_of opcode) → instruction names at opcode (operand_of (operand_by due)) ≡ Ok (take (size_at opcode) bytes)
+    encoded_by stands.Nothing e = encoded_1 (size_is stands.Nothing e) (operand_of (operand_by stands.Nothing))
+    encoded_by stands.Register e = encoded_1 (size_is stands.Register e) (operand_of (operand_by stands.Register))
+    encoded_by stands.Port e = encoded_1 (size_is stands.Port e) (operand_of (operand_by stands.Port))
+    encoded_by stands.Data e = encoded_1 (size_is stands.Data e) (operand_of (operand_by stands.Data))
+    encoded_by stands.Short e = encoded_short (size_is stands.Short e) (eqb-true _ _ (page_is stands.Short e))
+    encoded_by stands.Byte e = encoded_byte (size_is stands.Byte e) (eqb-false _ _ (is_false _ (page_is stands.Byte e)))
+    encoded_by stands.Long e = encoded_long (size_is stands.Long e)
 
     instruction_encoded : instruction names at opcode (operand_of (operand_at at bytes)) ≡ Ok (take (size_at opcode) bytes)
-    instruction_encoded =
-        by_sizes (size_at opcode) (instruction names at opcode (operand_of (operand_at at bytes)) ≡ Ok (take (size_at opcode) bytes)) size_tested
-        encoded_1 encoded_2 encoded_3
+    unfolding operand_at
+    instruction_encoded = encoded_by (operands_of (kind_of opcode)) refl
 
 module _ (names : Names) (at : ℕ) (bytes : List ℕ) (bytes_low : AreBytes bytes) where
   -- a whole instruction
   instruction_makes : (opcode_in bytes ≡ 104 → ⊥) → size_at (opcode_in bytes) ≤ length bytes → at + size_at (opcode_in bytes) ≤ 65536
-      → Makes names at (instruction_text at bytes) at (at + size_at (opcode_in bytes)) (take (size_at (opcode_in bytes)) bytes)
+      → Makes names at (codes " " ++ instruction_text at bytes) at (at + size_at (opcode_in bytes)) (take (size_at (opcode_in bytes)) bytes)
   unfolding encoded_parts placed instruction_text
   instruction_makes other whole fits =
       let opcode : ℕ = opcode_in bytes in
+      let line : List ℕ = codes " " ++ instruction_text at bytes in
       let low : opcode < 256 = byte_low bytes bytes_low 0 in
       let operand : Operand = operand_at at bytes in
-      let in_range : IsInRange operand =
-      ranged at bytes bytes_low (λ longer. by_sizes (size_at opcode) (at + 1 < 65536) (size_tested at bytes) (λ one. absurd (longer one))
-      (λ two. omega arith) (λ three. omega arith)) in
-      let is : parsed (instruction_text at bytes) ≡ Ok (parts_of (Code opcode) (operand_list operand)) =
+      let in_range : IsInRange operand = ranged at bytes bytes_low in
+      let is : parsed line ≡ Ok (parts_of (Code opcode) (operand_list operand)) =
       mnemonic_parsed opcode operand in_range (Code opcode) (instruction_means at bytes low other in_range) in
       record {
-        unlabelled = has_no_label names at (instruction_text at bytes) (Code opcode) (operand_list operand) is;
+        unlabelled = has_no_label names at line (Code opcode) (operand_list operand) is;
         laid_is =
-            line_laid names at (instruction_text at bytes) (Code opcode) (operand_list operand) is at (at + size_at opcode) refl
+            line_laid names at line (Code opcode) (operand_list operand) is at (at + size_at opcode) refl
             (small_operands operand in_range) fits;
         encoded_is =
-            parts_encoded names at (instruction_text at bytes) (Code opcode) (operand_list operand) is (at + size_at opcode)
+            parts_encoded names at line (Code opcode) (operand_list operand) is (at + size_at opcode)
             (take (size_at opcode) bytes)
-            (instruction_encoded at bytes names bytes_low whole fits);
+            (instruction_encoded names at bytes bytes_low whole fits);
       }
 
   -- the first line of a disassembly
@@ -351,7 +297,7 @@ module _ (names : Names) (at : ℕ) (bytes : List ℕ) (bytes_low : AreBytes byt
   line_makes some fits =
       let opcode : ℕ = opcode_in bytes in
       elim ((opcode == 0x68) || nat_lt (length bytes) (size_at opcode)) as (λ b. ((opcode == 0x68) || nat_lt (length bytes) (size_at opcode)) ≡ b
-      → Makes names at (cond b (data_text opcode) (instruction_text at bytes)) at (at + cond b 1 (size_at opcode)) (take (cond b 1 (size_at opcode)) bytes)) [
+      → Makes names at (cond b (data_text opcode) (codes " " ++ instruction_text at bytes)) at (at + cond b 1 (size_at opcode)) (take (cond b 1 (size_at opcode)) bytes)) [
         | true ↦ λ is. subst (λ xs. Makes names at (data_text opcode) at (at + 1) xs) (sym (take_1 bytes some))
             (data_makes names at opcode (byte_low bytes bytes_low 0) (omega arith))
         | false ↦ λ is.
@@ -360,13 +306,16 @@ module _ (names : Names) (at : ℕ) (bytes : List ℕ) (bytes_low : AreBytes byt
             instruction_makes (eqb-false opcode 0x68 parts.0) whole (omega arith)
       ] refl
 
+some_bytes : (due : Operands) → 1 ≤ size_with due
+some_bytes stands.Nothing = omega arith
+some_bytes _ = omega arith
+
 -- a line shows a byte at least, and no more than there are
 pub taken_some : (bytes : List ℕ) → 1 ≤ taken bytes
 unfolding taken size_at
-taken_some bytes = elim (is_data bytes) as (λ b. 1 ≤ cond b 1 (size_of (kind_of (opcode_in bytes)))) [
+taken_some bytes = elim (is_data bytes) as (λ b. 1 ≤ cond b 1 (size_with (operands_of (kind_of (opcode_in bytes))))) [
   | true ↦ omega arith
-  | false ↦ by_sizes (size_of (kind_of (opcode_in bytes))) (1 ≤ size_of (kind_of (opcode_in bytes))) (has_size (kind_of (opcode_in bytes)))
-      (λ e. omega arith) (λ e. omega arith) (λ e. omega arith)
+  | false ↦ some_bytes (operands_of (kind_of (opcode_in bytes)))
 ]
 
 pub taken_within : (bytes : List ℕ) → 0 < length bytes → taken bytes ≤ length bytes

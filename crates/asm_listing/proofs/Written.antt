@@ -1,14 +1,19 @@
 -- What the mnemonics and operands of a disassembly mean to the assembler.
-use Rattle.std.proofs.Common.{◌≡◌, ◌+◌, ◌-◌, ◌*◌, ◌/◌, ◌<◌, ◌≤◌, ℕ, refl, Bool, List, [], ◌∷◌, ◌++◌, length, sym, ◌∙◌, ap, subst, arith, true, false, Some, None, Option, Ok, Result, cond, eqb, eqb-true, leb-true}
-use Rattle.std.specs.Prelude.{◌&&◌, ◌||◌, ◌==◌, not, nat_le, nat_lt, codes, slice_index}
+use Rattle.std.proofs.Common.{◌≡◌, ◌+◌, ◌-◌, ◌<◌, ◌≤◌, ℕ, refl, Bool, List, [], ◌∷◌, ◌++◌, length, sym, ◌∙◌, ap, subst, arith, true, false, Some, None, Option, Ok, Result, cond, eqb, eqb-true, leb-true}
+use Rattle.std.specs.Prelude.{◌&&◌, ◌||◌, not, nat_le, nat_lt, codes, slice_index}
 use Rattle.std.specs.Option.{option_map, option_map_or, option_and_then, ok_or}
 use Rattle.std.specs.List.{list_all, list_any}
 use Rattle.std.proofs.lemmas.Bool.{cond-true, and_parts, and_from, le-leb, ltb-true}
 use Rattle.std.proofs.lemmas.List.{append-nil}
 use Rattle.machine.specs.declared.Kind.{Kind}
-use Rattle.machine.specs.declared.Kind.TheVariants.{Idl, Ldn, Inc, Dec, Br, Lda, Str, Out, Inp, Undefined, Glo, Ghi, Plo, Phi, Sep, Sex}
+use Rattle.machine.specs.declared.Kind.TheVariants.{Idl, Out, Inp, Undefined}
 use Rattle.machine.specs.Opcodes.{kind_of, opcode_number}
-use Rattle.vip_isa.specs.Rows.{first_of, least_of, greatest_of, opcode_of, decoded, size_of, mnemonic_of}
+use Rattle.vip_isa.specs.Rows.{first_of, operands_of, least_of, greatest_of, greatest_with, opcode_of, decoded, mnemonic_of}
+use Rattle.vip_isa.specs.Texts.{operand_with, operand_at, operand_text}
+use Rattle.vip_isa.specs.declared.rows.Operands.{Operands}
+use Rattle.vip_isa.specs.declared.rows.Operands.TheVariants as stands
+use Rattle.vip_isa.specs.declared.text.Operand.{Operand}
+use Rattle.vip_isa.specs.declared.text.Operand.TheVariants.{Nothing, Register, Port, Byte, Target}
 use Rattle.vip_isa.proofs.Below.{at-passes_below}
 use Rattle.vip_isa.proofs.Opcodes.{opcode_of-decoded, decoded_is_valid}
 use Rattle.vip_byte.specs.HexText.{hex_digit, hex2, hex4}
@@ -18,11 +23,9 @@ use Rattle.asm_lex.specs.declared.shape.LexFault.{LexFault}
 use Rattle.asm_lex.specs.declared.shape.LexFault.TheVariants.{BadOperand}
 use Rattle.asm_lex.specs.Bytes.{register_of}
 use Rattle.asm_lex.specs.Expressions.{sum_in, number_in, written_value as value_written, has_large_number}
-use Rattle.asm_lex.specs.Words.{size_at, mnemonic_at, directive_of, spells, opcodes, opcode_named, entry_of, meaning_of, coded, operands_of, operands_by_size, number_written, with_number, port_of, is_one_expression, are_expressions}
+use Rattle.asm_lex.specs.Words.{mnemonic_at, directive_of, spells, opcodes, opcode_named, entry_of, meaning_of, coded, number_written, with_number, port_of, is_one_expression, are_expressions}
 use Rattle.asm_lex.specs.Lines.{entry_meaning, word_meaning, parsed}
-use Rattle.asm_listing.specs.declared.instruction.Operand.{Operand}
-use Rattle.asm_listing.specs.declared.instruction.Operand.TheVariants.{Nothing, Register, Port, Byte, Target}
-use Rattle.asm_listing.specs.Disassembly.{opcode_in, expression_at, operand_of_size, operand_by, operand_at, operand_text}
+use Rattle.asm_listing.specs.Disassembly.{opcode_in}
 use Rattle.asm_listing.proofs.Plain.{IsPlain, is_plain, parts_of, parsed-alone, parsed-with}
 use Rattle.asm_listing.proofs.Values.{hex_text, digit_plain, byte_plain, word_plain, byte_number, word_number, one_number, small_number}
 
@@ -65,7 +68,7 @@ IsInRange (Port number) = number < 8
 IsInRange (Byte value) = value < 256
 IsInRange (Target address) = address < 65536
 
-is_false : (b : Bool) → not b ≡ true → b ≡ false
+pub is_false : (b : Bool) → not b ≡ true → b ≡ false
 is_false true e = absurd (cc)
 is_false false e = refl
 
@@ -101,65 +104,45 @@ small_operands (Port n) low = ap (λ b. b || false) (small_port n (omega arith))
 small_operands (Byte b) low = ap (λ b. b || false) (small_number (hex_text (hex2 b)) (byte_plain b low) (omega arith) b (byte_number b low) (omega arith))
 small_operands (Target t) low = ap (λ b. b || false) (small_number (hex_text (hex4 t)) (word_plain t low) (omega arith) t (word_number t low) (omega arith))
 
--- the bytes behind an opcode are written as one expression
-pub by_expression : (P : Operand → Type 0) (at : ℕ) (bytes : List ℕ) → ((t : ℕ) → P (Target t)) → ((b : ℕ) → P (Byte b)) → P (expression_at at bytes)
-unfolding expression_at
-by_expression P at bytes target byte =
-    elim (size_at (opcode_in bytes) == 3)
-    as (λ b. P (cond b (Target (slice_index bytes 1 * 256 + slice_index bytes 2))
-    (cond (opcode_in bytes / 16 == 3) (Target ((at + 1) / 256 * 256 + slice_index bytes 1)) (Byte (slice_index bytes 1))))) [
-      | true ↦ target (slice_index bytes 1 * 256 + slice_index bytes 2)
-      | false ↦ elim (opcode_in bytes / 16 == 3) as (λ b. P (cond b (Target ((at + 1) / 256 * 256 + slice_index bytes 1)) (Byte (slice_index bytes 1)))) [
-        | true ↦ target ((at + 1) / 256 * 256 + slice_index bytes 1)
-        | false ↦ byte (slice_index bytes 1)
-      ]
-    ]
+-- a byte and an address are expressions
+byte_written : (b : ℕ) → b < 256 → is_one_expression (hex_text (hex2 b) ∷ []) ≡ true
+byte_written b low = one_number (hex_text (hex2 b)) (byte_plain b low) (omega arith) b (byte_number b low)
 
-is_written : (at : ℕ) (bytes : List ℕ) → IsInRange (expression_at at bytes) → is_one_expression (operand_list (expression_at at bytes)) ≡ true
-is_written at bytes = by_expression (λ o. IsInRange o → is_one_expression (operand_list o) ≡ true) at bytes
-    (λ t low. one_number (hex_text (hex4 t)) (word_plain t low) (omega arith) t (word_number t low))
-    (λ b low. one_number (hex_text (hex2 b)) (byte_plain b low) (omega arith) b (byte_number b low))
+target_written : (t : ℕ) → t < 65536 → is_one_expression (hex_text (hex4 t) ∷ []) ≡ true
+target_written t low = one_number (hex_text (hex4 t)) (word_plain t low) (omega arith) t (word_number t low)
+
+expressed : (o : List (List ℕ)) (n : ℕ) → is_one_expression o ≡ true → n ≡ 0 → cond (is_one_expression o) (Some 0) None ≡ Some n
+expressed o n is none = cond-true (is_one_expression o) (Some 0) None is ∙ ap Some (sym none)
+
+port_least : (kind : Kind) → operands_of kind ≡ stands.Port → 1 ≤ least_of kind
+port_least Out e = omega arith
+port_least Inp e = omega arith
+port_least _ e = absurd (cc)
+
+-- opcode 68 alone stands as data
+data_undefined : (kind : Kind) → operands_of kind ≡ stands.Data → kind ≡ Undefined
+data_undefined Undefined e = refl
+data_undefined _ e = absurd (cc)
 
 module _ (at : ℕ) (bytes : List ℕ) where
   abbrev n : ℕ
   n = opcode_number (opcode_in bytes)
 
-  by_size : (kind : Kind) (size : ℕ) → size ≡ size_of kind → n ≡ 0 → IsInRange (operand_of_size size at bytes)
-      → number_written (operands_by_size kind) (operand_list (operand_of_size size at bytes)) ≡ Some n
-  by_size kind size same none low =
-      let at_kind : IsInRange (operand_of_size (size_of kind) at bytes) = subst (λ size. IsInRange (operand_of_size size at bytes)) same low in
-      ap (λ size. number_written (operands_by_size kind) (operand_list (operand_of_size size at bytes))) same
-      ∙ elim (size_of kind == 1) as (λ b. IsInRange (cond b Nothing (expression_at at bytes))
-      → number_written (cond b (operands_by_size Idl) (operands_by_size Br)) (operand_list (cond b Nothing (expression_at at bytes)))
-      ≡ Some n) [
-        | true ↦ λ h. ap Some (sym none)
-        | false ↦ λ h. cond-true (is_one_expression (operand_list (expression_at at bytes))) (Some 0) None (is_written at bytes h) ∙ ap Some (sym none)
-      ] at_kind
+  abbrev operand_by : Operands → Operand
+  operand_by due = operand_with due at (opcode_in bytes) (slice_index bytes 1) (slice_index bytes 2)
 
   -- the number that an instruction's operand writes into the opcode
-  written : (kind : Kind) → least_of kind ≤ n → n ≤ greatest_of kind → size_at (opcode_in bytes) ≡ size_of kind → kind_of (opcode_in bytes) ≡ kind
-      → IsInRange (operand_by kind at bytes)
-      → number_written (operands_of kind) (operand_list (operand_by kind at bytes)) ≡ Some n
-  written Ldn least most size is low = register_is n low
-  written Inc least most size is low = register_is n low
-  written Dec least most size is low = register_is n low
-  written Lda least most size is low = register_is n low
-  written Str least most size is low = register_is n low
-  written Glo least most size is low = register_is n low
-  written Ghi least most size is low = register_is n low
-  written Plo least most size is low = register_is n low
-  written Phi least most size is low = register_is n low
-  written Sep least most size is low = register_is n low
-  written Sex least most size is low = register_is n low
-  written Out least most size is low = port_is n least most
-  written Inp least most size is low = port_is n least most
-  written kind least most size is low = by_size kind (size_at (opcode_in bytes)) size (omega arith) low
+  written : (due : Operands) → (due ≡ stands.Port → 1 ≤ n) → n ≤ greatest_with due → (due ≡ stands.Data → ⊥) → IsInRange (operand_by due)
+      → number_written due (operand_list (operand_by due)) ≡ Some n
+  written stands.Nothing least most other low = ap Some (omega arith)
+  written stands.Register least most other low = register_is n low
+  written stands.Port least most other low = port_is n (least refl) most
+  written stands.Byte least most other low = expressed (operand_list (operand_by stands.Byte)) n (byte_written _ low) (omega arith)
+  written stands.Short least most other low = expressed (operand_list (operand_by stands.Short)) n (target_written _ low) (omega arith)
+  written stands.Long least most other low = expressed (operand_list (operand_by stands.Long)) n (target_written _ low) (omega arith)
+  written stands.Data least most other low = absurd (other refl)
 
-  size_is : size_at (opcode_in bytes) ≡ size_of (kind_of (opcode_in bytes))
-  unfolding size_at
-  size_is = refl
-
-  module _ (low : opcode_in bytes < 256) (ranged : IsInRange (operand_at at bytes)) where
+  module _ (low : opcode_in bytes < 256) (other : kind_of (opcode_in bytes) ≡ Undefined → ⊥) (ranged : IsInRange (operand_at at bytes)) where
     least : least_of (kind_of (opcode_in bytes)) ≤ n
     least = (decoded_is_valid (opcode_in bytes) low).from_least
 
@@ -168,7 +151,9 @@ module _ (at : ℕ) (bytes : List ℕ) where
 
     number_is : number_written (operands_of (kind_of (opcode_in bytes))) (operand_list (operand_at at bytes)) ≡ Some n
     unfolding operand_at
-    number_is = written (kind_of (opcode_in bytes)) least most size_is refl ranged
+    number_is =
+        written (operands_of (kind_of (opcode_in bytes))) (λ e. let some = port_least (kind_of (opcode_in bytes)) e in omega (arith, some, least)) most
+        (λ e. other (data_undefined (kind_of (opcode_in bytes)) e)) ranged
 
     numbered : with_number (kind_of (opcode_in bytes)) n ≡ Some (opcode_in bytes)
     numbered =
@@ -199,13 +184,12 @@ meaning_coded Idl operands other = refl
 meaning_coded _ operands other = refl
 
 pub instruction_means : (at : ℕ) (bytes : List ℕ) → opcode_in bytes < 256 → (opcode_in bytes ≡ 104 → ⊥) → IsInRange (operand_at at bytes)
-    → word_meaning false (operand_list (operand_at at bytes)) (mnemonic_at (opcode_in bytes)) ≡ Ok (Some (Code (opcode_in bytes)))
-unfolding mnemonic_at
+    → word_meaning false (operand_list (operand_at at bytes)) (mnemonic_of (kind_of (opcode_in bytes))) ≡ Ok (Some (Code (opcode_in bytes)))
 instruction_means at bytes low other ranged =
+    let defined : kind_of (opcode_in bytes) ≡ Undefined → ⊥ = λ e. other (undefined_opcode (opcode_in bytes) (kind_of (opcode_in bytes)) low refl e) in
     mnemonic_means (kind_of (opcode_in bytes)) (operand_list (operand_at at bytes))
-    ∙ meaning_coded (kind_of (opcode_in bytes)) (operand_list (operand_at at bytes))
-    (λ e. other (undefined_opcode (opcode_in bytes) (kind_of (opcode_in bytes)) low refl e))
-    ∙ ap (λ o. ok_or (option_map Some (option_map Code o)) BadOperand) (coded_is at bytes low ranged)
+    ∙ meaning_coded (kind_of (opcode_in bytes)) (operand_list (operand_at at bytes)) defined
+    ∙ ap (λ o. ok_or (option_map Some (option_map Code o)) BadOperand) (coded_is at bytes low defined ranged)
 
 -- a line of a word and an operand
 pub operand_parsed : (w : List ℕ) → IsPlain w → 0 < length w → length w ≤ 4 → (operand : Operand) → IsInRange operand → (meaning : Word)
@@ -223,9 +207,8 @@ operand_parsed w plain there short (Target t) low meaning meant =
     parsed-with w plain there short (hex_text (hex4 t)) (word_plain t low) (omega arith) (omega arith) meaning meant
 
 pub mnemonic_parsed : (opcode : ℕ) (operand : Operand) → IsInRange operand → (meaning : Word)
-    → word_meaning false (operand_list operand) (mnemonic_at opcode) ≡ Ok (Some meaning)
-    → parsed (32 ∷ (mnemonic_at opcode ++ operand_text operand)) ≡ Ok (parts_of meaning (operand_list operand))
-unfolding mnemonic_at
+    → word_meaning false (operand_list operand) (mnemonic_of (kind_of opcode)) ≡ Ok (Some meaning)
+    → parsed (32 ∷ (mnemonic_of (kind_of opcode) ++ operand_text operand)) ≡ Ok (parts_of meaning (operand_list operand))
 mnemonic_parsed opcode operand low meaning meant =
     let short = and_parts _ _ (short_mnemonic (kind_of opcode)) in
     let sized = and_parts _ _ short.1 in

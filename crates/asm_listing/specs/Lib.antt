@@ -1,7 +1,6 @@
 pub mod Dump
 pub mod Row
 pub mod Disassembly
-pub mod Operands
 pub mod WayBack
 pub mod Listing
 pub mod Shown

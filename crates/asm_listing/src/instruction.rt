@@ -1,38 +1,22 @@
 //! The disassembly of bytes.
 
-ghost use Rattle.std.specs.Prelude.{◌≡◌, ◌≤◌, ◌<◌, ◌+◌, ◌++◌, List, ℕ, [], length, take, IfOk, OnOk};
+ghost use Rattle.std.specs.Prelude.{◌≡◌, ◌≤◌, ◌<◌, ◌+◌, ◌++◌, [], codes, length, slice_index, take, IfOk, OnOk};
 ghost use Rattle.arrayvec.specs.ArrayVec.{array_vec_len};
-ghost use Rattle.machine.specs.Opcodes.{kind_of};
-ghost use Rattle.vip_isa.specs.Rows.{mnemonic_of};
-ghost use Rattle.asm_lex.specs.Words.{mnemonic_at, size_at};
-ghost use Rattle.asm_listing.specs.Disassembly.{data_text, disassembly, ended_line, expression_at, instruction_text, is_data, opcode_in, operand_at, operand_of_size, operand_text, taken};
+ghost use Rattle.vip_isa.specs.Texts.{instruction_text};
+ghost use Rattle.asm_lex.specs.Words.{size_at};
+ghost use Rattle.asm_listing.specs.Disassembly.{data_text, disassembly, ended_line, is_data, taken};
 ghost use Rattle.asm_core.specs.Sources.{source_lines};
 ghost use Rattle.asm_listing.specs.Dump.{newline};
-ghost use Rattle.asm_listing.specs.Operands.{HasOneDigit};
 ghost use Rattle.asm_listing.specs.WayBack.{AssemblesTo};
 
 use crate::write::append;
 use arrayvec::ArrayVec;
 use std::alloc::{AllocError, Global};
 use vip_byte::{hex2, hex4};
-use vip_isa::{Kind, decode, mnemonic, size};
+use vip_isa::{InstructionText, instruction_text, size};
 
 /// The opcode that is no instruction of the CDP1802.
 const UNDEFINED: u8 = 0x68;
-
-/// What stands behind a mnemonic.
-#[derive(Clone, Copy)]
-enum Operand {
-    Nothing,
-    /// The number of a register.
-    Register(u8),
-    /// The number of a port.
-    Port(u8),
-    /// The byte of an immediate instruction.
-    Byte(u8),
-    /// The address that a branch goes to.
-    Target(u16),
-}
 
 // Appends bytes to a line that has room.
 fn put(into: &mut ArrayVec<u8, 48>, bytes: &[u8])
@@ -53,112 +37,29 @@ fn size_at(opcode: u8) -> u8
     size(opcode)
 }
 
-// The operand that the bytes behind an opcode are.
-#[tactic(auto, unfolding(crate::specs::Disassembly::expression_at))]
-fn expression_at(bytes: &[u8], address: u16) -> Operand
-    requires longer { 2 ≤ size_at (opcode_in bytes.now) }
-    requires whole { size_at (opcode_in bytes.now) ≤ length bytes.now }
-    requires fits { address + length bytes.now ≤ 65536 }
-    ensures operand { result ≡ expression_at address bytes.now }
-    ensures digit { HasOneDigit result }
+// A byte, or 00 where it is missing.
+fn byte_in(bytes: &[u8], index: usize) -> u8
+    ensures { result ≡ slice_index bytes.now index }
 {
-    if size_at(bytes[0]) == 3 {
-        Operand::Target(u16::from(bytes[1]) * 256 + u16::from(bytes[2]))
-    } else if bytes[0] / 16 == 3 {
-        Operand::Target((address + 1) / 256 * 256 + u16::from(bytes[1]))
-    } else {
-        Operand::Byte(bytes[1])
-    }
+    bytes.get(index).copied().unwrap_or(0)
 }
 
-fn operand_of_size(bytes: &[u8], address: u16) -> Operand
-    requires some { 0 < length bytes.now }
-    requires whole { size_at (opcode_in bytes.now) ≤ length bytes.now }
-    requires fits { address + length bytes.now ≤ 65536 }
-    ensures operand { result ≡ operand_of_size (size_at (opcode_in bytes.now)) address bytes.now }
-    ensures digit { HasOneDigit result }
+// The text of the instruction with which the bytes begin.
+#[tactic(auto, unfolding(vip_isa::specs::Texts::instruction_text, vip_isa::specs::Texts::operand_at))]
+fn text_of(bytes: &[u8], address: u16) -> InstructionText
+    ensures text { result.items ≡ instruction_text address bytes.now }
+    ensures len { length result.items ≤ 11 }
 {
-    if size_at(bytes[0]) == 1 {
-        Operand::Nothing
-    } else {
-        expression_at(bytes, address)
-    }
+    let three = [byte_in(bytes, 0), byte_in(bytes, 1), byte_in(bytes, 2)];
+    instruction_text(address, three)
 }
 
-// The operand of an instruction that stands at an address.
-#[tactic(auto, unfolding(crate::specs::Disassembly::operand_at))]
-fn operand_at(bytes: &[u8], address: u16) -> Operand
-    requires some { 0 < length bytes.now }
-    requires whole { size_at (opcode_in bytes.now) ≤ length bytes.now }
-    requires fits { address + length bytes.now ≤ 65536 }
-    ensures operand { result ≡ operand_at address bytes.now }
-    ensures digit { HasOneDigit result }
-{
-    let op = decode(bytes[0]);
-    match op.kind {
-        Kind::Ldn
-        | Kind::Inc
-        | Kind::Dec
-        | Kind::Lda
-        | Kind::Str
-        | Kind::Glo
-        | Kind::Ghi
-        | Kind::Plo
-        | Kind::Phi
-        | Kind::Sep
-        | Kind::Sex => Operand::Register(op.n),
-        Kind::Out | Kind::Inp => Operand::Port(op.n),
-        _ => operand_of_size(bytes, address),
-    }
-}
-
-fn put_operand(into: &mut ArrayVec<u8, 48>, operand: Operand)
-    requires digit { HasOneDigit operand }
-    requires room { array_vec_len into.old + 7 ≤ 48 }
-    ensures items { into.new.items ≡ into.old.items ++ operand_text operand }
-    ensures len { array_vec_len into.new ≤ array_vec_len into.old + 7 }
-{
-    match operand {
-        Operand::Nothing => {}
-        Operand::Register(number) => {
-            put(into, b" R");
-            put(into, &hex2(number)[1..]);
-        }
-        Operand::Port(number) => {
-            put(into, b" ");
-            put(into, &hex2(number)[1..]);
-        }
-        Operand::Byte(value) => {
-            put(into, b" 0x");
-            put(into, &hex2(value));
-        }
-        Operand::Target(target) => {
-            put(into, b" 0x");
-            put(into, &hex4(target));
-        }
-    }
-}
-
-// A mnemonic, which is short.
-#[tactic(auto, unfolding(asm_lex::specs::Words::mnemonic_at))]
-fn mnemonic_at(opcode: u8) -> &'static str
-    ensures text { result.now ≡ mnemonic_at opcode }
-    ensures len { length result.now ≤ 4 }
-{
-    mnemonic(opcode)
-}
-
-#[tactic(auto, unfolding(crate::specs::Disassembly::instruction_text))]
 fn put_instruction(into: &mut ArrayVec<u8, 48>, bytes: &[u8], address: u16)
-    requires some { 0 < length bytes.now }
-    requires whole { size_at (opcode_in bytes.now) ≤ length bytes.now }
-    requires fits { address + length bytes.now ≤ 65536 }
     requires empty { into.old.items ≡ [] }
-    ensures items { into.new.items ≡ instruction_text address bytes.now ++ newline }
+    ensures items { into.new.items ≡ (codes " " ++ instruction_text address bytes.now) ++ newline }
 {
     put(into, b" ");
-    put(into, mnemonic_at(bytes[0]).as_bytes());
-    put_operand(into, operand_at(bytes, address));
+    put(into, text_of(bytes, address).as_slice());
     put(into, b"\n");
 }
 

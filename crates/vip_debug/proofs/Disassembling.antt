@@ -8,8 +8,9 @@ use Rattle.machine.specs.declared.Kind.{Kind}
 use Rattle.machine.specs.declared.Kind.TheVariants.{Idl, Ldn}
 use Rattle.machine.specs.Opcodes.{kind_of}
 use Rattle.vip_isa.specs.Rows.{size_of}
-use Rattle.asm_lex.specs.Words.{mnemonic_at, size_at}
-use Rattle.asm_listing.specs.Disassembly.{operand_text, data_text, opcode_in, is_data, taken, expression_at, operand_by, operand_at, instruction_text, first_line, ended_line, starts}
+use Rattle.vip_isa.specs.Texts.{instruction_text, operand_at}
+use Rattle.asm_lex.specs.Words.{size_at}
+use Rattle.asm_listing.specs.Disassembly.{data_text, opcode_in, is_data, taken, first_line, ended_line, starts}
 use Rattle.asm_listing.specs.Dump.{newline}
 use Rattle.asm_listing.proofs.Assembled.{taken_some, taken_within}
 use Rattle.asm_listing.proofs.Ranges.{length-range, drop-range}
@@ -46,20 +47,15 @@ module _ (x y z : ℕ) (rest : List ℕ) where
   unfolding is_data
   data_same = ap (λ b. (x == 0x68) || b) (not_short (length all) (omega arith) ∙ sym (not_short 3 (omega arith)))
 
-  operand_same : (kind : Kind) (at : ℕ) → operand_by kind at all ≡ operand_by kind at three
-  unfolding expression_at
-  operand_same Ldn at = refl
-  operand_same _ at = refl
-
   instruction_same : (at : ℕ) → instruction_text at all ≡ instruction_text at three
   unfolding instruction_text operand_at
-  instruction_same at = ap (λ operand. codes " " ++ (mnemonic_at x ++ operand_text operand)) (operand_same (kind_of x) at)
+  instruction_same at = refl
 
   line_same : (at : ℕ) → ended_line at all ≡ ended_line at three
   unfolding first_line
   line_same at =
-      ap (λ b. (if b then data_text x else instruction_text at all) ++ newline) data_same
-      ∙ ap (λ text. (if is_data three then data_text x else text) ++ newline) (instruction_same at)
+      ap (λ b. (if b then data_text x else codes " " ++ instruction_text at all) ++ newline) data_same
+      ∙ ap (λ text. (if is_data three then data_text x else codes " " ++ text) ++ newline) (instruction_same at)
 
   taken_same : taken all ≡ taken three
   unfolding taken

@@ -1,10 +1,12 @@
--- The rows of the "Instruction Summary" in RCA's data sheet of the CDP1802: the opcode of each kind, the numbers in it, its size and
--- its mnemonic. `Opcodes` of the crate `machine` has the kind, the number and the cycles of each opcode.
+-- The rows of the "Instruction Summary" in RCA's data sheet of the CDP1802: the opcode of each kind, its operands, the numbers in it, its
+-- size and its mnemonic. `Opcodes` of the crate `machine` has the kind, the number and the cycles of each opcode.
 use Rattle.std.specs.Prelude.{◌+◌, ◌≤◌, ℕ, List, codes}
 use Rattle.machine.specs.declared.Kind.{Kind}
 use Rattle.machine.specs.declared.Kind.TheVariants.{Idl, Ldn, Inc, Dec, Br, Bq, Bz, Bdf, B1, B2, B3, B4, Skp, Bnq, Bnz, Bnf, Bn1, Bn2, Bn3, Bn4, Lda, Str, Irx, Out, Undefined, Inp, Ret, Dis, Ldxa, Stxd, Adc, Sdb, Shrc, Smb, Sav, Mark, Req, Seq, Adci, Sdbi, Shlc, Smbi, Glo, Ghi, Plo, Phi, Lbr, Lbq, Lbz, Lbdf, Nop, Lsnq, Lsnz, Lsnf, Lskp, Lbnq, Lbnz, Lbnf, Lsie, Lsq, Lsz, Lsdf, Sep, Sex, Ldx, Or, And, Xor, Add, Sd, Shr, Sm, Ldi, Ori, Ani, Xri, Adi, Sdi, Shl, Smi}
 use Rattle.machine.specs.Opcodes.{kind_of, opcode_number}
 use Rattle.vip_isa.specs.declared.Op.{Op}
+use Rattle.vip_isa.specs.declared.rows.Operands.{Operands}
+use Rattle.vip_isa.specs.declared.rows.Operands.TheVariants.{Nothing, Register, Port, Byte, Short, Long, Data}
 
 -- the opcode of a kind, less the number in its low half
 abbrev pub first_of : Kind → ℕ
@@ -89,6 +91,57 @@ first_of Sdi = 0xfd
 first_of Shl = 0xfe
 first_of Smi = 0xff
 
+-- What stands behind the mnemonic of a kind: a register R(N) or a port, by the number in the opcode; a byte behind it; the low byte of an address on the
+-- page of that byte, for the short branches; the two bytes of an address, for the long ones; or nothing. Opcode 68 stands as data itself.
+abbrev pub operands_of : Kind → Operands
+operands_of Ldn = Register
+operands_of Inc = Register
+operands_of Dec = Register
+operands_of Lda = Register
+operands_of Str = Register
+operands_of Glo = Register
+operands_of Ghi = Register
+operands_of Plo = Register
+operands_of Phi = Register
+operands_of Sep = Register
+operands_of Sex = Register
+operands_of Out = Port
+operands_of Inp = Port
+operands_of Adci = Byte
+operands_of Sdbi = Byte
+operands_of Smbi = Byte
+operands_of Ldi = Byte
+operands_of Ori = Byte
+operands_of Ani = Byte
+operands_of Xri = Byte
+operands_of Adi = Byte
+operands_of Sdi = Byte
+operands_of Smi = Byte
+operands_of Br = Short
+operands_of Bq = Short
+operands_of Bz = Short
+operands_of Bdf = Short
+operands_of B1 = Short
+operands_of B2 = Short
+operands_of B3 = Short
+operands_of B4 = Short
+operands_of Bnq = Short
+operands_of Bnz = Short
+operands_of Bnf = Short
+operands_of Bn1 = Short
+operands_of Bn2 = Short
+operands_of Bn3 = Short
+operands_of Bn4 = Short
+operands_of Lbr = Long
+operands_of Lbq = Long
+operands_of Lbz = Long
+operands_of Lbdf = Long
+operands_of Lbnq = Long
+operands_of Lbnz = Long
+operands_of Lbnf = Long
+operands_of Undefined = Data
+operands_of _ = Nothing
+
 -- The numbers that a kind can have, from the least to the greatest: LDN names R(1) to R(F), for its 0 is IDL; the other kinds with a
 -- register name R(0) to R(F); OUT and INP name port 1 to 7; and all others have none, which is 0.
 abbrev pub least_of : Kind → ℕ
@@ -97,21 +150,13 @@ least_of Out = 1
 least_of Inp = 1
 least_of _ = 0
 
+abbrev pub greatest_with : Operands → ℕ
+greatest_with Register = 15
+greatest_with Port = 7
+greatest_with _ = 0
+
 abbrev pub greatest_of : Kind → ℕ
-greatest_of Ldn = 15
-greatest_of Inc = 15
-greatest_of Dec = 15
-greatest_of Lda = 15
-greatest_of Str = 15
-greatest_of Glo = 15
-greatest_of Ghi = 15
-greatest_of Plo = 15
-greatest_of Phi = 15
-greatest_of Sep = 15
-greatest_of Sex = 15
-greatest_of Out = 7
-greatest_of Inp = 7
-greatest_of _ = 0
+greatest_of kind = greatest_with (operands_of kind)
 
 -- the number of an opcode's parts is one that its kind can have
 pub record IsValid (op : Op) : Type 0 where
@@ -126,41 +171,15 @@ opcode_of op = first_of op.kind + op.n
 abbrev pub decoded : ℕ → Op
 decoded byte = record { kind = kind_of byte; n = opcode_number byte }
 
--- The size in bytes: a short branch and an immediate instruction have one byte behind the opcode, and a long branch has two.
+-- the size in bytes: that of the opcode, and of what stands behind it
+abbrev pub size_with : Operands → ℕ
+size_with Byte = 2
+size_with Short = 2
+size_with Long = 3
+size_with _ = 1
+
 abbrev pub size_of : Kind → ℕ
-size_of Br = 2
-size_of Bq = 2
-size_of Bz = 2
-size_of Bdf = 2
-size_of B1 = 2
-size_of B2 = 2
-size_of B3 = 2
-size_of B4 = 2
-size_of Bnq = 2
-size_of Bnz = 2
-size_of Bnf = 2
-size_of Bn1 = 2
-size_of Bn2 = 2
-size_of Bn3 = 2
-size_of Bn4 = 2
-size_of Adci = 2
-size_of Sdbi = 2
-size_of Smbi = 2
-size_of Ldi = 2
-size_of Ori = 2
-size_of Ani = 2
-size_of Xri = 2
-size_of Adi = 2
-size_of Sdi = 2
-size_of Smi = 2
-size_of Lbr = 3
-size_of Lbq = 3
-size_of Lbz = 3
-size_of Lbdf = 3
-size_of Lbnq = 3
-size_of Lbnz = 3
-size_of Lbnf = 3
-size_of _ = 1
+size_of kind = size_with (operands_of kind)
 
 -- the mnemonic; opcode 68 has none, and is written as data
 abbrev pub mnemonic_of : Kind → List ℕ

@@ -1,8 +1,9 @@
 //! The 256 opcodes of the CDP1802: what each byte means as an instruction, how it is written, how
-//! long it is and how long it takes. The crate stands on `machine` alone, whose tables say of each
-//! opcode its kind, its number and its machine cycles. The layers above may rely on this:
-//! `encode(&decode(byte)) == byte` for each byte, `size` and `mnemonic` are those of the rows in
-//! `specs/Rows.antt`, and `cycles` those of the definition. The standard is the "Instruction Summary"
+//! long it is and how long it takes. The crate stands on `machine`, whose tables say of each opcode its
+//! kind, its number and its machine cycles, and on the digits of `vip_byte`. The layers above may rely on
+//! this: `encode(&decode(byte)) == byte` for each byte, `operands_in`, `size` and `mnemonic` are those of the
+//! rows in `specs/Rows.antt`, `cycles` those of the definition, and `instruction_text` has the exact text
+//! of `specs/Texts.antt`. The standard is the "Instruction Summary"
 //! of RCA's data sheet of the CDP1802. Opcode 68, which the data sheet leaves out, is `Undefined`:
 //! one byte, two cycles, written `DB` (this project's profile).
 #![tactic(auto)]
@@ -13,9 +14,12 @@ ghost use Rattle.vip_isa.specs.Rows.{size_of, mnemonic_of, decoded, opcode_of, I
 
 mod rows;
 mod table;
+mod text;
 
 use crate::rows::{first_opcode, greatest, least, mnemonic_in, size_in};
+pub use crate::rows::{Operands, operands_in};
 use crate::table::{kind_at, number_at};
+pub use crate::text::{InstructionText, instruction_text};
 pub use machine::Kind;
 
 /// An opcode by its parts.

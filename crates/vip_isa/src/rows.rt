@@ -1,7 +1,7 @@
-//! The row of each kind: its opcode, the numbers that it can have, its size and its mnemonic.
+//! The row of each kind: its opcode, its operands, the numbers that it can have, its size and its mnemonic.
 
 ghost use Rattle.std.specs.Prelude.{◌≡◌};
-ghost use Rattle.vip_isa.specs.Rows.{first_of, least_of, greatest_of, size_of, mnemonic_of};
+ghost use Rattle.vip_isa.specs.Rows.{first_of, operands_of, least_of, greatest_of, size_of, mnemonic_of};
 
 use machine::Kind;
 
@@ -93,19 +93,27 @@ pub fn first_opcode(kind: Kind) -> u8
     }
 }
 
-/// The least number that a kind can have.
-pub fn least(kind: Kind) -> u8
-    ensures { result ≡ least_of kind }
-{
-    match kind {
-        Kind::Ldn | Kind::Out | Kind::Inp => 1,
-        _ => 0,
-    }
+/// What stands behind the mnemonic of a kind.
+#[derive(Clone, Copy)]
+pub enum Operands {
+    Nothing,
+    /// The register R(N).
+    Register,
+    /// The port N.
+    Port,
+    /// The byte behind the opcode.
+    Byte,
+    /// The low byte of an address on its own page, behind the opcode of a short branch.
+    Short,
+    /// The two bytes of an address, behind the opcode of a long branch.
+    Long,
+    /// The opcode itself, which is no instruction.
+    Data,
 }
 
-/// The greatest number that a kind can have.
-pub fn greatest(kind: Kind) -> u8
-    ensures { result ≡ greatest_of kind }
+/// What stands behind the mnemonic of a kind.
+pub fn operands_in(kind: Kind) -> Operands
+    ensures { result ≡ operands_of kind }
 {
     match kind {
         Kind::Ldn
@@ -118,17 +126,18 @@ pub fn greatest(kind: Kind) -> u8
         | Kind::Plo
         | Kind::Phi
         | Kind::Sep
-        | Kind::Sex => 15,
-        Kind::Out | Kind::Inp => 7,
-        _ => 0,
-    }
-}
-
-/// The size of a kind in bytes.
-pub fn size_in(kind: Kind) -> u8
-    ensures { result ≡ size_of kind }
-{
-    match kind {
+        | Kind::Sex => Operands::Register,
+        Kind::Out | Kind::Inp => Operands::Port,
+        Kind::Adci
+        | Kind::Sdbi
+        | Kind::Smbi
+        | Kind::Ldi
+        | Kind::Ori
+        | Kind::Ani
+        | Kind::Xri
+        | Kind::Adi
+        | Kind::Sdi
+        | Kind::Smi => Operands::Byte,
         Kind::Br
         | Kind::Bq
         | Kind::Bz
@@ -143,18 +152,43 @@ pub fn size_in(kind: Kind) -> u8
         | Kind::Bn1
         | Kind::Bn2
         | Kind::Bn3
-        | Kind::Bn4
-        | Kind::Adci
-        | Kind::Sdbi
-        | Kind::Smbi
-        | Kind::Ldi
-        | Kind::Ori
-        | Kind::Ani
-        | Kind::Xri
-        | Kind::Adi
-        | Kind::Sdi
-        | Kind::Smi => 2,
-        Kind::Lbr | Kind::Lbq | Kind::Lbz | Kind::Lbdf | Kind::Lbnq | Kind::Lbnz | Kind::Lbnf => 3,
+        | Kind::Bn4 => Operands::Short,
+        Kind::Lbr | Kind::Lbq | Kind::Lbz | Kind::Lbdf | Kind::Lbnq | Kind::Lbnz | Kind::Lbnf => {
+            Operands::Long
+        }
+        Kind::Undefined => Operands::Data,
+        _ => Operands::Nothing,
+    }
+}
+
+/// The least number that a kind can have.
+pub fn least(kind: Kind) -> u8
+    ensures { result ≡ least_of kind }
+{
+    match kind {
+        Kind::Ldn | Kind::Out | Kind::Inp => 1,
+        _ => 0,
+    }
+}
+
+/// The greatest number that a kind can have.
+pub fn greatest(kind: Kind) -> u8
+    ensures { result ≡ greatest_of kind }
+{
+    match operands_in(kind) {
+        Operands::Register => 15,
+        Operands::Port => 7,
+        _ => 0,
+    }
+}
+
+/// The size of a kind in bytes.
+pub fn size_in(kind: Kind) -> u8
+    ensures { result ≡ size_of kind }
+{
+    match operands_in(kind) {
+        Operands::Byte | Operands::Short => 2,
+        Operands::Long => 3,
         _ => 1,
     }
 }

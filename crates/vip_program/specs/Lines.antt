@@ -1,5 +1,5 @@
 -- The lines of a trace: what each tells of the machine before its moves. Digits are upper case, and the cycle is decimal.
-use Rattle.std.specs.Prelude.{ℕ, Bool, ◌+◌, ◌*◌, ◌/◌, ◌%◌, ◌==◌, if◌then◌else◌, List, [], ◌∷◌, ◌++◌, length, map, flat_map, take, slice_index, codes, decimal, Option, Some, None}
+use Rattle.std.specs.Prelude.{ℕ, Bool, ◌+◌, ◌*◌, ◌%◌, List, [], ◌∷◌, ◌++◌, length, map, flat_map, take, slice_index, codes, decimal, Option, Some, None}
 use Rattle.machine.specs.Board.{Machine, Case, case_of, byte_of, dma_byte, flags_of}
 use Rattle.machine.specs.Board.Case.{Dma, Interrupt, Idle, Instruction}
 use Rattle.machine.specs.Instruction.{Regs, Effect, Port, at, instruction}
@@ -9,11 +9,12 @@ use Rattle.machine.specs.Opcodes.{kind_of, opcode_number}
 use Rattle.machine.specs.Signals.{efx_at}
 use Rattle.vip_byte.specs.HexText.{bytes_text, hex2, hex4}
 use Rattle.vip_byte.specs.Text.{bit_text, newline}
-use Rattle.vip_isa.specs.Rows.{mnemonic_of, size_of}
+use Rattle.vip_isa.specs.Rows.{size_of}
+use Rattle.vip_isa.specs.Texts.{instruction_text}
 use Rattle.vip_program.specs.Columns.{digit, left, right}
 use Rattle.vip_program.specs.Names.{names_in}
 use Rattle.vip_program.specs.declared.names.Names.{Names}
-use Rattle.vip_program.specs.declared.names.Names.TheVariants.{Register, Flag, Output, Input, Data}
+use Rattle.vip_program.specs.declared.names.Names.TheVariants.{Register, Flag, Output, Input}
 
 -- the machine cycle in which the first move of a line starts
 abbrev pub cycle_column : Machine → List ℕ
@@ -27,36 +28,12 @@ three_at byte address = byte address ∷ byte ((address + 1) % 65536) ∷ byte (
 abbrev pub opcode_in : List ℕ → ℕ
 opcode_in three = slice_index three 0
 
--- the size, the mnemonic and what is named, by the opcode
+-- the size and what is named, by the opcode
 unfoldable pub size_at : ℕ → ℕ
 size_at opcode = size_of (kind_of opcode)
 
-unfoldable pub mnemonic_at : ℕ → List ℕ
-mnemonic_at opcode = mnemonic_of (kind_of opcode)
-
 unfoldable pub names_at : ℕ → Names
 names_at opcode = names_in (kind_of opcode) (opcode_number opcode)
-
--- what the bytes behind an opcode are: none; an address, its high byte first; an address on the page of that byte (opcodes 30 to 3F); or
--- a byte
-unfoldable pub behind_text : ℕ → List ℕ → List ℕ
-behind_text address three =
-    if size_at (opcode_in three) == 1 then []
-    else if size_at (opcode_in three) == 3 then codes " 0x" ++ hex2 (slice_index three 1) ++ hex2 (slice_index three 2)
-    else if opcode_in three / 16 == 3 then codes " 0x" ++ hex2 ((address + 1) % 65536 / 256) ++ hex2 (slice_index three 1)
-    else codes " 0x" ++ hex2 (slice_index three 1)
-
--- the operand: the register or the port that is named, and else what the bytes behind the opcode are
-abbrev pub operand_text : Names → ℕ → List ℕ → List ℕ
-operand_text (Register n) address three = codes " R" ++ digit n
-operand_text (Output port) address three = codes " " ++ digit port
-operand_text (Input port) address three = codes " " ++ digit port
-operand_text Data address three = codes " 0x68"
-operand_text _ address three = behind_text address three
-
--- the mnemonic with its operand
-unfoldable pub instruction_text : ℕ → List ℕ → List ℕ
-instruction_text address three = mnemonic_at (opcode_in three) ++ operand_text (names_at (opcode_in three)) address three
 
 -- the address, the bytes of the instruction in a column of six, and the instruction in one of eleven
 abbrev pub code_text : List ℕ → List ℕ

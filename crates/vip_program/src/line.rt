@@ -6,8 +6,9 @@ ghost use Rattle.machine.specs.Board.{byte_of, opcode_of};
 ghost use Rattle.machine.specs.Instruction.{at, stepped};
 ghost use Rattle.machine.specs.Memory.{read};
 ghost use Rattle.vip_byte.specs.Room.{HasRoom};
+ghost use Rattle.vip_isa.specs.Texts.{instruction_text};
 ghost use Rattle.vip_board.specs.Seen.{held_by};
-ghost use Rattle.vip_program.specs.Lines.{behind_text, code_text, cycle_column, fetch_text, flag_in, instruction_text, mnemonic_at, named_text, names_at, opcode_in, operand_text, place_text, register_text, selected_text, size_at, state_text, three_at};
+ghost use Rattle.vip_program.specs.Lines.{code_text, cycle_column, fetch_text, flag_in, named_text, names_at, opcode_in, place_text, register_text, selected_text, size_at, state_text, three_at};
 ghost use Rattle.vip_program.specs.Columns.{left};
 ghost use Rattle.vip_program.specs.Names.{IsNamed};
 
@@ -16,7 +17,7 @@ use crate::write::{fill, put_digit, put_digits, put_right};
 use vip_board::Board;
 use vip_byte::{Buffer, MOST_CYCLE, add16, hex2, hex4, put, put_bit};
 use vip_cpu::Cpu;
-use vip_isa::{decode, mnemonic, size};
+use vip_isa::{decode, instruction_text, size};
 use vip_memory::Memory;
 
 /// Appends the cycle of a board.
@@ -40,15 +41,6 @@ fn size_at(opcode: u8) -> usize
     usize::from(size(opcode))
 }
 
-/// The mnemonic of an opcode, which is short.
-#[tactic(auto, unfolding(crate::specs::Lines::mnemonic_at))]
-fn mnemonic_at(opcode: u8) -> &'static str
-    ensures text { result.now ≡ mnemonic_at opcode }
-    ensures len { length result.now ≤ 4 }
-{
-    mnemonic(opcode)
-}
-
 /// What an opcode names.
 #[tactic(auto, unfolding(crate::specs::Lines::names_at))]
 fn names_at(opcode: u8) -> Names
@@ -69,51 +61,6 @@ fn three_at(memory: &Memory, address: u16) -> [u8; 3]
     ]
 }
 
-/// Appends what the bytes behind an opcode are.
-#[tactic(auto, unfolding(crate::specs::Lines::behind_text))]
-fn put_behind(into: &mut Buffer, address: u16, three: [u8; 3])
-    requires { HasRoom into.old.items 7 }
-    ensures items { into.new.items ≡ into.old.items ++ behind_text address three }
-    ensures len { array_vec_len into.new ≤ array_vec_len into.old + 7 }
-{
-    let [opcode, next, after] = three;
-    let size = size_at(opcode);
-    if size == 1 {
-        return;
-    }
-    put(into, b" 0x");
-    if size == 3 {
-        put(into, &hex2(next));
-        put(into, &hex2(after));
-        return;
-    }
-    if opcode / 16 == 3 {
-        put(into, &hex2((add16(address, 1) / 256) as u8));
-    }
-    put(into, &hex2(next));
-}
-
-/// Appends the operand of an instruction that names this.
-fn put_operand(into: &mut Buffer, names: Names, address: u16, three: [u8; 3])
-    requires named { IsNamed names }
-    requires room { HasRoom into.old.items 7 }
-    ensures items { into.new.items ≡ into.old.items ++ operand_text names address three }
-    ensures len { array_vec_len into.new ≤ array_vec_len into.old + 7 }
-{
-    match names {
-        Names::Register(number) => {
-            put(into, b" R");
-            put_digit(into, number);
-        }
-        Names::Output(port) | Names::Input(port) => {
-            put(into, b" ");
-            put_digit(into, port);
-        }
-        Names::Data => put(into, b" 0x68"),
-        Names::Flag(_) | Names::Nothing => put_behind(into, address, three),
-    }
-}
-
 /// Appends the bytes of an instruction in a column of six.
 fn put_code(into: &mut Buffer, three: [u8; 3])
     requires { HasRoom into.old.items 12 }
@@ -126,15 +73,13 @@ fn put_code(into: &mut Buffer, three: [u8; 3])
 }
 
 /// Appends the mnemonic of an instruction with its operand in a column of eleven.
-#[tactic(auto, unfolding(crate::specs::Lines::instruction_text))]
-fn put_mnemonic(into: &mut Buffer, address: u16, three: [u8; 3])
+fn put_text(into: &mut Buffer, address: u16, three: [u8; 3])
     requires { HasRoom into.old.items 22 }
     ensures items { into.new.items ≡ into.old.items ++ left 11 (instruction_text address three) }
     ensures len { array_vec_len into.new ≤ array_vec_len into.old + 11 }
 {
     let start = into.len();
-    put(into, mnemonic_at(three[0]).as_bytes());
-    put_operand(into, names_at(three[0]), address, three);
+    put(into, instruction_text(address, three).as_slice());
     fill(into, start, 11);
 }
 
@@ -150,7 +95,7 @@ fn put_place(into: &mut Buffer, address: u16, three: [u8; 3])
     put(into, b" ");
     put_code(into, three);
     put(into, b" ");
-    put_mnemonic(into, address, three);
+    put_text(into, address, three);
 }
 
 // ---- what the processor has
@@ -241,7 +186,7 @@ fn put_named(into: &mut Buffer, names: Names, board: &Board)
             put(into, &hex2(sent_byte(board)));
         }
         Names::Input(_) => put(into, b"  BUS 00"),
-        Names::Data | Names::Nothing => {}
+        Names::Nothing => {}
     }
 }
 

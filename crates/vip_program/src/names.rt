@@ -4,7 +4,7 @@ ghost use Rattle.std.specs.Prelude.{◌≡◌};
 ghost use Rattle.vip_isa.specs.Rows.{IsValid};
 ghost use Rattle.vip_program.specs.Names.{names_in, IsNamed};
 
-use vip_isa::{Kind, Op};
+use vip_isa::{Kind, Op, Operands, operands_in};
 
 /// What an opcode names, beside what it does.
 #[derive(Clone, Copy)]
@@ -18,8 +18,6 @@ pub enum Names {
     Output(u8),
     /// The port that a byte is taken from, 1 to 7.
     Input(u8),
-    /// It is opcode 68, which is no instruction.
-    Data,
 }
 
 /// What an opcode with these parts names.
@@ -29,24 +27,15 @@ pub fn names_in(op: Op) -> Names
     ensures named { IsNamed result }
 {
     match op.kind {
-        Kind::Ldn
-        | Kind::Inc
-        | Kind::Dec
-        | Kind::Lda
-        | Kind::Str
-        | Kind::Glo
-        | Kind::Ghi
-        | Kind::Plo
-        | Kind::Phi
-        | Kind::Sep
-        | Kind::Sex => Names::Register(op.n),
         Kind::B1 | Kind::Bn1 => Names::Flag(1),
         Kind::B2 | Kind::Bn2 => Names::Flag(2),
         Kind::B3 | Kind::Bn3 => Names::Flag(3),
         Kind::B4 | Kind::Bn4 => Names::Flag(4),
         Kind::Out => Names::Output(op.n),
         Kind::Inp => Names::Input(op.n),
-        Kind::Undefined => Names::Data,
-        _ => Names::Nothing,
+        kind => match operands_in(kind) {
+            Operands::Register => Names::Register(op.n),
+            _ => Names::Nothing,
+        },
     }
 }
