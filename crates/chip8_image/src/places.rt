@@ -6,10 +6,10 @@ ghost use Rattle.chip8_image.specs.Interpreters.{interpreter_of};
 
 use crate::image::{IMAGE, TALL};
 use crate::{FETCH, HALT, TALL_FETCH, TALL_HALT};
-use chip8_lang::Edition;
+use chip8_lang::{Edition, MEMORY_START};
 
 /// The first address of game memory, in both editions.
-pub const GAME: u16 = 0x0200;
+pub const GAME: u16 = MEMORY_START;
 
 /// The cell of a stop's number, in both editions.
 pub const STOP_CELL: u16 = 0x01F0;
@@ -55,7 +55,7 @@ impl Places {
                 rom: &IMAGE,
                 fetch: FETCH,
                 halt: HALT,
-                memory_end: 0x0EA0,
+                memory_end: edition.memory_end(),
                 stack_top: 0x0ECF,
                 variables: 0x0E,
                 screen: 0x0F,
@@ -64,7 +64,7 @@ impl Places {
                 rom: &TALL,
                 fetch: TALL_FETCH,
                 halt: TALL_HALT,
-                memory_end: 0x0DA0,
+                memory_end: edition.memory_end(),
                 stack_top: 0x0DCF,
                 variables: 0x0D,
                 screen: 0x0E,

@@ -4,7 +4,6 @@ ghost use Rattle.std.specs.Prelude.{◌≡◌, ◌+◌, ◌-◌, ◌*◌, ◌/�
 ghost use Rattle.std.specs.List.{list_all};
 ghost use Rattle.std.specs.Option.{option_to_list};
 ghost use Rattle.std.specs.Result.{result_err};
-ghost use Rattle.chip8_lang.specs.Editions.{memory_end};
 ghost use Rattle.chip8_lang.specs.State.{is_in_memory};
 ghost use Rattle.chip8_lang.specs.Step.{is_readable};
 ghost use Rattle.game_check.specs.Closed as closed;
@@ -12,10 +11,7 @@ ghost use Rattle.game_check.specs.Order.{IsAscending};
 
 use crate::claim::{Claim, Point, pushed, stack_of};
 use crate::fault::ProofCause;
-use chip8_lang::{Edition, Instr, read_instr};
-
-/// Where game memory begins.
-const MEMORY_START: u32 = 0x0200;
+use chip8_lang::{Edition, Instr, MEMORY_START, read_instr};
 
 /// The font, from its first address up to that behind its last.
 const FONT_START: u32 = 0x8700;
@@ -157,17 +153,7 @@ pub fn is_in_memory(edition: Edition, start: u32, count: u32) -> bool
     requires count { count ≤ 65_791 }
     ensures { result ≡ is_in_memory edition start count }
 {
-    MEMORY_START <= start && start + count <= memory_end(edition)
-}
-
-// Where game memory ends.
-fn memory_end(edition: Edition) -> u32
-    ensures { result ≡ memory_end edition }
-{
-    match edition {
-        Edition::Usual => 0x0EA0,
-        Edition::Tall => 0x0DA0,
-    }
+    u32::from(MEMORY_START) <= start && start + count <= u32::from(edition.memory_end())
 }
 
 // Whether none of so many bytes is in the code. The claims come in the order of their pc: so the first one whose opcode doesn't lie before the bytes

@@ -24,7 +24,7 @@ use Rattle.vip_board.specs.Seen.{Seen, held_by}
 use Rattle.vip_board.specs.declared.board.Moved.{Moved}
 use Rattle.vip_board.specs.declared.board.Moved.TheVariants.{Done, End}
 use Rattle.vip_cpu.specs.declared.cpu.Phase.TheVariants.{Boundary}
-use Rattle.rom_board.specs.Ticks.{moved_times, most_cycles, frame_of, StartsTick, MadeTick, Scanned}
+use Rattle.rom_board.specs.Ticks.{moved_times, most_tick_cycles, frame_of, StartsTick, MadeTick, Scanned}
 
 once_more : (n : ℕ) (b : Seen) → moved (moved_times n b) ≡ moved_times (n + 1) b
 unfolding moved_times
@@ -60,7 +60,7 @@ module _ (old now new : Seen) (i : ℕ) (r : Ran old now i) where
 
   -- the moves of the routine end below the greatest cycle number
   abbrev IsEarly : Type 0
-  IsEarly = old.machine.cycle + most_cycles < 2 ^ 64
+  IsEarly = old.machine.cycle + most_tick_cycles < 2 ^ 64
 
   abbrev IsMove : Moved → Type 0
   IsMove result = IfDone result (λ m. (new ≡ moved now) × (m ≡ name_of now.machine))

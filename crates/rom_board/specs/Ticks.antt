@@ -22,8 +22,8 @@ moved_times zero b = b
 moved_times (suc n) b = moved (moved_times n b)
 
 -- the most machine cycles that as many moves take as the routine has, three a move
-abbrev pub most_cycles : ℕ
-most_cycles = 3 * routine_moves
+abbrev pub most_tick_cycles : ℕ
+most_tick_cycles = 3 * routine_moves
 
 -- the board runs the interpreter, and its next move is an interrupt
 abbrev pub StartsTick : Edition → Since → Seen → Type 0

@@ -22,7 +22,7 @@ ghost use Rattle.rom_timer.specs.Routine.{routine_moves, routine_cycles};
 ghost use Rattle.vip_board.specs.Moves.{IfDone, moved, name_of};
 ghost use Rattle.vip_cpu.specs.declared.cpu.Phase.TheVariants.{Boundary};
 ghost use Rattle.rom_board.specs.Runs.{KeepsRunning, KeepsBooting, KeepsTime, KeepsDisplay};
-ghost use Rattle.rom_board.specs.Ticks.{moved_times, most_cycles, StartsTick, MadeTick, Scanned};
+ghost use Rattle.rom_board.specs.Ticks.{moved_times, most_tick_cycles, StartsTick, MadeTick, Scanned};
 
 use vip_board::{Board, Moved};
 
@@ -59,7 +59,7 @@ const ROUTINE_MOVES: u32 = 1435;
 /// is next. The cycle number has to leave room for three cycles a move.
 pub fn run_tick(board: &mut Board) -> u32
     requires boundary { board.old.phase ≡ Boundary }
-    requires early { board.old.machine.cycle + most_cycles < 2 ^ 64 }
+    requires early { board.old.machine.cycle + most_tick_cycles < 2 ^ 64 }
     ensures moves { board.new ≡ moved_times routine_moves board.old }
     ensures rests { board.new.phase ≡ Boundary }
     ensures cycles { board.new.machine.cycle ≡ board.old.machine.cycle + result }

@@ -26,3 +26,7 @@ decimal_number text most = number 10 text most
 -- a hexadecimal number that is at most `most`, or why the text is none
 abbrev pub hex_number : List ℕ → ℕ → Result ℕ NumFault
 hex_number text most = number 16 text most
+
+-- the greatest machine cycle that a text or the command line may name, which every limit of a run keeps to (this project's profile)
+abbrev pub most_cycles : ℕ
+most_cycles = 4_000_000_000

@@ -6,7 +6,7 @@ use Rattle.std.specs.Option.{option_map_or}
 use Rattle.std.specs.Result.{result_ok}
 use Rattle.std.specs.Str.{bytes_eq}
 use Rattle.machine.specs.Keys.{Event}
-use Rattle.vip_byte.specs.Number.{decimal_number}
+use Rattle.vip_byte.specs.Number.{decimal_number, most_cycles}
 use Rattle.vip_byte.specs.Reading.{Format, read, ◌>>=◌}
 use Rattle.vip_byte.specs.Text.{words}
 use Rattle.vip_keypad.specs.declared.script.ScriptCause.{ScriptCause}
@@ -25,7 +25,7 @@ direction_of word =
 
 -- a decimal number, from 0 to 4,000,000,000
 abbrev pub cycle_of : List ℕ → Result ℕ ScriptCause
-cycle_of word = ok_or (result_ok (decimal_number word 4_000_000_000)) BadCycle
+cycle_of word = ok_or (result_ok (decimal_number word most_cycles)) BadCycle
 
 -- one hexadecimal digit
 abbrev pub key_of : List ℕ → Result ℕ ScriptCause

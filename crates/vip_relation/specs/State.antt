@@ -9,13 +9,10 @@ use Rattle.chip8_lang.specs.Events.{Event, events_of, game_run}
 use Rattle.chip8_lang.specs.Places.{Interpreter}
 use Rattle.chip8_lang.specs.View.{View}
 use Rattle.vip_board.specs.Seen.{Seen, held_by}
+pub use Rattle.vip_byte.specs.Number.{most_cycles}
 use Rattle.vip_cpu.specs.declared.cpu.Phase.TheVariants.{Boundary}
 use Rattle.vip_video.specs.Chip.{nothing_yet}
 use Rattle.chip8_image.specs.Interpreters.{interpreter_of}
-
--- the most machine cycles of a run, which every limit keeps to
-abbrev pub most_cycles : ℕ
-most_cycles = 4_000_000_000
 
 -- The edition and the game; how many moves were made, and how many events were met; the board with its key script; the view of the last
 -- dispatch point met, and the bytes of the screen there.

@@ -14,6 +14,7 @@
 -- This is this project's profile.
 use Rattle.std.specs.Prelude.{◌≡◌, ℕ, zero, suc, ◌+◌, ◌*◌, ◌/◌, ◌%◌, ◌==◌, ◌<◌, ◌≤◌, ◌⊎◌, true, false, List, [], ◌∷◌, length, take, drop, slice_index, Result, Ok, Err}
 use Rattle.std.specs.Int.{w64, from_be_bytes}
+use Rattle.vip_byte.specs.Number.{most_cycles}
 use Rattle.machine.specs.Bank.{Word, word, value, Bank}
 use Rattle.machine.specs.Instruction.{Regs}
 use Rattle.machine.specs.Board.{Machine}
@@ -99,10 +100,10 @@ shown f =
 
 -- ---- which files are accepted
 
--- An even cycle up to 4,000,000,000, the most of a run, which lies in its frame before the interrupt, or behind the window: there main code runs.
+-- An even cycle up to the most of a run, which lies in its frame before the interrupt, or behind the window: there main code runs.
 pub record IsCycle (t : ℕ) : Type 0 where
   pub even : t % 2 ≡ 0
-  pub most : t ≤ 4_000_000_000
+  pub most : t ≤ most_cycles
   pub outside : (place t < interrupt_place) ⊎ (window_place ≤ place t)
 
 -- R2 lies two bytes below the top of the stack for each address on it

@@ -12,6 +12,7 @@ use chip8_image::{ENTRY, Places, TALL_ENTRY};
 use chip8_lang::Edition;
 use vip_byte::MOST_CYCLE;
 use vip_cpu::Parts;
+use vip_video::{FRAME_CYCLES, INTERRUPT_CYCLE, WINDOW_END_CYCLE};
 
 /// The bytes of a file.
 pub const SIZE: usize = 4_147;
@@ -21,13 +22,6 @@ pub const KEY: usize = 50;
 
 /// The first byte of RAM, behind all others.
 pub const RAM: usize = 51;
-
-/// The cycles of a frame; from the place of the interrupt up to the end of the window its interrupt routine runs.
-const FRAME: u64 = 3_668;
-
-const INTERRUPT: u64 = 1_092;
-
-const WINDOW_END: u64 = 2_912;
 
 /// The most addresses on the stack.
 const MOST_ADDRESSES: u16 = 12;
@@ -74,12 +68,12 @@ pub fn cycle(bytes: &[u8]) -> u64
     ])
 }
 
-/// Whether main code runs in this cycle, and a run may come to it.
+/// Whether main code runs in this cycle, and a run may come to it: from the interrupt up to the end of the window its routine runs.
 fn is_cycle(t: u64) -> bool
     ensures { IsTrue result ↔ IsCycle t }
 {
-    let place = t % FRAME;
-    t % 2 == 0 && t <= MOST_CYCLE && (place < INTERRUPT || place >= WINDOW_END)
+    let place = t % FRAME_CYCLES;
+    t % 2 == 0 && t <= MOST_CYCLE && (place < INTERRUPT_CYCLE || place >= WINDOW_END_CYCLE)
 }
 
 /// The number of the two bytes from one on.

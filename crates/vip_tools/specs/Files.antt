@@ -27,6 +27,16 @@ pub record Needed : Type 0 where
 abbrev pub most_text : ℕ
 most_text = 1_048_576
 
+-- the most bytes of a message, and those of the ROM and of the RAM
+abbrev pub most_message : ℕ
+most_message = 3_000
+
+abbrev pub rom_size : ℕ
+rom_size = 2_048
+
+abbrev pub ram_size : ℕ
+ram_size = 4_096
+
 -- the addresses of the machine, 0000 to FFFF
 abbrev pub addresses : ℕ
 addresses = 65_536
@@ -53,12 +63,12 @@ state_file name = file State file_size name
 
 -- a message that one board sends to another
 abbrev pub message_file : List ℕ → Needed
-message_file name = file Message 3_000 name
+message_file name = file Message most_message name
 
 -- a program, which has to fit into its memory
 abbrev pub program_file : Memory → List ℕ → Needed
-program_file memory.Rom name = file Rom 2_048 name
-program_file memory.Ram name = file Ram 4_096 name
+program_file memory.Rom name = file Rom rom_size name
+program_file memory.Ram name = file Ram ram_size name
 
 -- the debugger's commands
 abbrev pub commands_file : List ℕ → Needed

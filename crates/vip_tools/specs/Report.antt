@@ -1,5 +1,7 @@
 -- The reports on the error output, each a line.
 use Rattle.std.specs.Prelude.{ℕ, List, [], ◌∷◌, ◌++◌, codes, decimal}
+use Rattle.chip8_lang.specs.State.{memory_size}
+use Rattle.chip8_lang.specs.declared.view.Edition.TheVariants.{Usual, Tall}
 use Rattle.vip_byte.specs.HexText.{hex2, hex4, words_text}
 use Rattle.asm_core.specs.declared.fault.AsmCause.{AsmCause}
 use Rattle.asm_core.specs.FaultNames.{asm_cause_name}
@@ -21,6 +23,7 @@ use Rattle.vip_text.specs.Stops.{idle_line, opcode_part, stop_line}
 use Rattle.vip_byte.specs.Text.{newline}
 use Rattle.vip_text.specs.Endings.{Ending, ending_in}
 use Rattle.vip_text.specs.Endings.Ending.{AtLimit, AtStop}
+use Rattle.vip_tools.specs.Files.{most_message, most_text, ram_size, rom_size}
 use Rattle.vip_tools.specs.declared.ended.Ended.{Ended}
 use Rattle.vip_tools.specs.declared.ended.Ended.TheVariants.{Worked, Ran, Idle, Linked}
 use Rattle.vip_tools.specs.declared.fault.PerformFault.{PerformFault}
@@ -65,17 +68,21 @@ bad_state fault = codes "vip: state file: " ++ (state_fault_name fault ++ newlin
 abbrev pub at_line : List ℕ → ℕ → List ℕ → List ℕ
 at_line text line cause = text ++ (decimal line ++ (codes ": " ++ (cause ++ newline)))
 
+-- the most bytes that a file may have
+abbrev pub larger_than : List ℕ → ℕ → List ℕ
+larger_than text most = text ++ (decimal most ++ (codes " bytes" ++ newline))
+
 abbrev pub too_large_report : Kind → List ℕ
-too_large_report Game = codes "vip: game larger than 3232 bytes" ++ newline
-too_large_report TallGame = codes "vip: game larger than 2976 bytes" ++ newline
-too_large_report Script = codes "vip: key script larger than 1048576 bytes" ++ newline
-too_large_report Commands = codes "vip: commands larger than 1048576 bytes" ++ newline
+too_large_report Game = larger_than (codes "vip: game larger than ") (memory_size Usual)
+too_large_report TallGame = larger_than (codes "vip: game larger than ") (memory_size Tall)
+too_large_report Script = larger_than (codes "vip: key script larger than ") most_text
+too_large_report Commands = larger_than (codes "vip: commands larger than ") most_text
 too_large_report Source = codes "vip: source too large" ++ newline
-too_large_report Certificate = codes "vip: certificate larger than 1048576 bytes" ++ newline
+too_large_report Certificate = larger_than (codes "vip: certificate larger than ") most_text
 too_large_report State = bad_state BadLength
-too_large_report Message = codes "vip: message larger than 3000 bytes" ++ newline
-too_large_report Rom = codes "vip: rom larger than 2048 bytes" ++ newline
-too_large_report Ram = codes "vip: program larger than 4096 bytes" ++ newline
+too_large_report Message = larger_than (codes "vip: message larger than ") most_message
+too_large_report Rom = larger_than (codes "vip: rom larger than ") rom_size
+too_large_report Ram = larger_than (codes "vip: program larger than ") ram_size
 
 -- the words are refused, or a file could not be read
 abbrev pub usage : List ℕ

@@ -1,7 +1,6 @@
 //! The files that a verb reads.
 
 ghost use Rattle.std.specs.Prelude.{◌≡◌, ◌<◌, ◌∷◌, [], ℕ, map, option_map, slice_index};
-ghost use Rattle.chip8_lang.specs.State.{memory_size};
 ghost use Rattle.vip_words.specs.Request.{asked_of, asked_run};
 ghost use Rattle.vip_tools.specs.declared.refusal.Kind.TheVariants.{Certificate, Source};
 ghost use Rattle.vip_tools.specs.Files.{commands_file, file, game_file, game_kind, message_file, most_text, needed, program_file, run_files, script_file, seen_wanted, state_file, FileAnswers, FilesAnswer, JudgeAnswers};
@@ -19,19 +18,13 @@ use vip_words::{Memory, Request, RunRequest};
 /// The addresses of the machine, 0000 to FFFF.
 const ADDRESSES: usize = 65_536;
 
-/// The bytes of game memory in the usual edition.
-const USUAL_GAME: usize = 3_232;
-
-/// The bytes of game memory in the tall edition.
-const TALL_GAME: usize = 2_976;
-
 /// The most bytes of a message.
-const MOST_MESSAGE: usize = 3_000;
+pub const MOST_MESSAGE: usize = 3_000;
 
 /// The bytes of the ROM, and of the RAM.
-const ROM: usize = 2_048;
+pub const ROM: usize = 2_048;
 
-const RAM: usize = 4_096;
+pub const RAM: usize = 4_096;
 
 /// A file that a verb reads, with the most bytes that it may have.
 #[derive(Clone, Copy, Default)]
@@ -51,23 +44,13 @@ pub fn game_kind(edition: Edition) -> Kind
     }
 }
 
-/// The most bytes of a game, those of game memory.
-fn most_bytes(edition: Edition) -> usize
-    ensures { result ≡ memory_size edition }
-{
-    match edition {
-        Edition::Usual => USUAL_GAME,
-        Edition::Tall => TALL_GAME,
-    }
-}
-
 /// A game, which has to fit into its edition's game memory.
 fn game_file<'a>(edition: Edition, name: &'a str) -> Wanted<'a>
     ensures { seen_wanted result ≡ game_file edition name.now }
 {
     Wanted {
         name,
-        most: most_bytes(edition),
+        most: usize::from(edition.memory_size()),
         kind: game_kind(edition),
     }
 }

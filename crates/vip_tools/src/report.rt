@@ -1,22 +1,25 @@
 //! The reports on the error output, each a line that goes out by one put.
 
-ghost use Rattle.std.specs.Prelude.{◌≡◌, [], IfOk};
+ghost use Rattle.std.specs.Prelude.{◌≡◌, [], codes, IfOk};
 ghost use Rattle.std.specs.List.{flat_map};
+ghost use Rattle.chip8_lang.specs.State.{memory_size};
 ghost use Rattle.vip_outside.specs.Pieces.{StreamAnswers};
 ghost use Rattle.vip_outside.specs.Sink.{PutAnswers};
-ghost use Rattle.vip_tools.specs.Report.{ended_report, fault_report, report_pieces, at_line, bad_state, done, image_report, linked_report, no_certificate, report_of, rom_differs, too_large_report};
+ghost use Rattle.vip_tools.specs.Report.{ended_report, fault_report, report_pieces, at_line, bad_state, done, image_report, larger_than, linked_report, no_certificate, report_of, rom_differs, too_large_report};
 ghost use Rattle.vip_tools.specs.Reported.{RefusalAnswers};
 
 use crate::ended::Ended;
 use crate::fault::PerformFault;
+use crate::files::{MOST_MESSAGE, RAM, ROM};
 use crate::obstacle::obstacle_text;
 use crate::refusal::{Kind, Refusal};
 use crate::status::Status;
+use chip8_lang::Edition;
 use chip8_source::ImageFault;
 use game_check::Obstacle;
 use itoa::Buffer as Digits;
 use std::alloc::{AllocError, Global};
-use vip_byte::{Buffer, hex2, hex4, put, put_number};
+use vip_byte::{Buffer, MOST_TEXT, hex2, hex4, put, put_number};
 use vip_outside::{Failed, Sink};
 use vip_text::{RunEnd, StateFault, idle_text, stop_text};
 
@@ -48,21 +51,40 @@ fn bad_state(alloc: Global, fault: StateFault) -> Result<Vec<u8>, AllocError>
     line(alloc, &[b"vip: state file: ", name, b"\n"])
 }
 
+/// More bytes than so many.
+fn larger(alloc: Global, text: &[u8], most: usize) -> Result<Vec<u8>, AllocError>
+    ensures { IfOk result (λ line. line.items ≡ larger_than text.now most) }
+{
+    let mut digits = Digits::new();
+    line(alloc, &[text, digits.format(most).as_bytes(), b" bytes\n"])
+}
+
+/// More bytes than the game memory of an edition has.
+fn game_larger(alloc: Global, edition: Edition) -> Result<Vec<u8>, AllocError>
+    ensures { IfOk result (λ line. line.items ≡ larger_than (codes "vip: game larger than ") (memory_size edition)) }
+{
+    larger(
+        alloc,
+        b"vip: game larger than ",
+        usize::from(edition.memory_size()),
+    )
+}
+
 /// More bytes than a file of this kind may have.
 fn too_large(alloc: Global, kind: Kind) -> Result<Vec<u8>, AllocError>
     ensures { IfOk result (λ line. line.items ≡ too_large_report kind) }
 {
     match kind {
-        Kind::Game => line(alloc, &[b"vip: game larger than 3232 bytes\n"]),
-        Kind::TallGame => line(alloc, &[b"vip: game larger than 2976 bytes\n"]),
-        Kind::Script => line(alloc, &[b"vip: key script larger than 1048576 bytes\n"]),
-        Kind::Commands => line(alloc, &[b"vip: commands larger than 1048576 bytes\n"]),
+        Kind::Game => game_larger(alloc, Edition::Usual),
+        Kind::TallGame => game_larger(alloc, Edition::Tall),
+        Kind::Script => larger(alloc, b"vip: key script larger than ", MOST_TEXT),
+        Kind::Commands => larger(alloc, b"vip: commands larger than ", MOST_TEXT),
         Kind::Source => line(alloc, &[b"vip: source too large\n"]),
-        Kind::Certificate => line(alloc, &[b"vip: certificate larger than 1048576 bytes\n"]),
+        Kind::Certificate => larger(alloc, b"vip: certificate larger than ", MOST_TEXT),
         Kind::State => bad_state(alloc, StateFault::BadLength),
-        Kind::Message => line(alloc, &[b"vip: message larger than 3000 bytes\n"]),
-        Kind::Rom => line(alloc, &[b"vip: rom larger than 2048 bytes\n"]),
-        Kind::Ram => line(alloc, &[b"vip: program larger than 4096 bytes\n"]),
+        Kind::Message => larger(alloc, b"vip: message larger than ", MOST_MESSAGE),
+        Kind::Rom => larger(alloc, b"vip: rom larger than ", ROM),
+        Kind::Ram => larger(alloc, b"vip: program larger than ", RAM),
     }
 }
 

@@ -14,7 +14,7 @@ pub enum Status {
     Usage,
     /// A file that the words name could not be read.
     ReadFault,
-    /// A game has more than 3,232 bytes.
+    /// A game has more bytes than the game memory of its edition.
     GameTooLarge,
     /// A key script has more than 1,048,576 bytes.
     ScriptTooLarge,

@@ -28,6 +28,7 @@ mod video;
 
 pub use buffer::Picture;
 pub use place::{
-    FRAME_LINES, INTERRUPT_LINE, LINE_CYCLES, Requests, Signals, WINDOW_END_LINE, WINDOW_LINE,
+    FRAME_CYCLES, FRAME_LINES, INTERRUPT_CYCLE, INTERRUPT_LINE, LINE_CYCLES, Requests, Signals,
+    WINDOW_END_CYCLE, WINDOW_END_LINE, WINDOW_LINE,
 };
 pub use video::Video;

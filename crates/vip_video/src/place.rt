@@ -26,6 +26,13 @@ pub const WINDOW_LINE: u16 = 80;
 /// The line behind the display window.
 pub const WINDOW_END_LINE: u16 = 208;
 
+/// The machine cycles of a frame; its cycle in which the interrupt starts, and that at which the window has ended.
+pub const FRAME_CYCLES: u64 = FRAME_LINES * LINE_CYCLES;
+
+pub const INTERRUPT_CYCLE: u64 = INTERRUPT_LINE as u64 * LINE_CYCLES;
+
+pub const WINDOW_END_CYCLE: u64 = WINDOW_END_LINE as u64 * LINE_CYCLES;
+
 // The last line of a frame, and the last machine cycle of a line.
 const LAST_LINE: u16 = FRAME - 1;
 

@@ -8,15 +8,10 @@ ghost use Rattle.vip_video.specs.Quiet.{IsQuiet};
 
 use crate::buffer::Picture;
 use crate::place::{
-    FRAME_LINES, INTERRUPT_LINE, LINE_CYCLES, Place, Requests, Signals, WINDOW_LINE,
+    FRAME_CYCLES, INTERRUPT_CYCLE, LINE_CYCLES, Place, Requests, Signals, WINDOW_LINE,
 };
 use crate::raster::Raster;
 use std::marker::Model;
-
-// The machine cycles of a frame, and its cycle in which the interrupt starts.
-const FRAME_CYCLES: u64 = FRAME_LINES * LINE_CYCLES;
-
-const INTERRUPT_CYCLE: u64 = INTERRUPT_LINE as u64 * LINE_CYCLES;
 
 /// A CDP1861 with the picture that it draws and the last one that it finished.
 #[derive(Drop)]

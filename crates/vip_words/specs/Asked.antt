@@ -4,6 +4,7 @@ use Rattle.std.specs.Result.{result_ok}
 use Rattle.chip8_lang.specs.declared.view.Edition.{Edition}
 use Rattle.chip8_lang.specs.declared.view.Edition.TheVariants.{Usual, Tall}
 use Rattle.vip_byte.specs.Number.{decimal_number, hex_number}
+pub use Rattle.vip_byte.specs.Number.{most_cycles}
 use Rattle.vip_words.specs.Rules.{Given, Word, given_by}
 use Rattle.vip_words.specs.Table.{usage_of}
 use Rattle.vip_words.specs.declared.request.BuiltIn.{BuiltIn}
@@ -128,10 +129,6 @@ cycles_in _ = 0
 abbrev pub moves_in : Asked → ℕ
 moves_in (link a) = a.moves
 moves_in _ = 0
-
--- the most machine cycles of a run
-abbrev pub most_cycles : ℕ
-most_cycles = 4_000_000_000
 
 -- a number of machine cycles: decimal, from 0 to 4,000,000,000
 abbrev pub cycles_of : Word → Option ℕ
