@@ -74,14 +74,14 @@ pub fn copy_screen(edition: Edition, memory: &Memory, into: &mut Screen)
 }
 
 /// Appends a page of RAM, for which there is room.
-fn put_page(memory: &Memory, high: u8, into: &mut Screen)
+pub fn put_page<const SIZE: usize>(memory: &Memory, high: u8, into: &mut ArrayVec<u8, SIZE>)
     requires ram { high < 0x10 }
-    requires room { array_vec_len into.old + 256 ≤ 512 }
+    requires room { array_vec_len into.old + 256 ≤ SIZE }
     ensures items { into.new.items ≡ into.old.items ++ page_at memory.now.ram high }
     ensures len { array_vec_len into.new ≡ array_vec_len into.old + 256 }
 {
     if let Some(page) = memory.page(high) {
-        put(into, page);
+        let _ = into.try_extend_from_slice(page);
     }
 }
 

@@ -4,7 +4,6 @@ ghost use Rattle.std.specs.Prelude.{◌≡◌, ◌+◌, ◌*◌, ◌<◌, ◌≤
 ghost use Rattle.arrayvec.specs.ArrayVec.{array_vec_len};
 ghost use Rattle.chip8_lang.specs.Events.{is_dispatch};
 ghost use Rattle.vip_cpu.specs.Bit.{bit};
-ghost use Rattle.vip_memory.specs.Contents.{page_at};
 ghost use Rattle.vip_relation.specs.State.{interpreter};
 ghost use Rattle.vip_text.specs.StateFile.{shown, edition_byte, IsAccepted};
 ghost use Rattle.vip_show.specs.Written.{file_of, head_of, register_bytes};
@@ -14,7 +13,7 @@ use vip_board::Board;
 use vip_byte::{Buffer, put};
 use vip_cpu::Cpu;
 use vip_memory::Memory;
-use vip_relation::{Run, Vip};
+use vip_relation::{Run, Vip, put_page};
 
 /// Writes the file of the machine state at a dispatch point of a run into an empty buffer. The file is an accepted one of the run's edition, and
 /// shows the state of the board.
@@ -100,18 +99,6 @@ fn put_ram(memory: &Memory, into: &mut Buffer)
 {
     for high in 0..0x10 {
         put_page(memory, high, into);
-    }
-}
-
-/// Appends a page of RAM.
-fn put_page(memory: &Memory, high: u8, into: &mut Buffer)
-    requires ram { high < 0x10 }
-    requires room { array_vec_len into.old ≤ 4000 }
-    ensures items { into.new.items ≡ into.old.items ++ page_at memory.now.ram high }
-    ensures len { array_vec_len into.new ≡ array_vec_len into.old + 256 }
-{
-    if let Some(page) = memory.page(high) {
-        put(into, page);
     }
 }
 
