@@ -240,13 +240,40 @@ impl Board {
     ghost use Rattle.machine.specs.Board.{length_of};
     ghost use Rattle.vip_board.specs.Moves.{name_of, moved, moved_by, IfDone, StartsInstruction, Aside, StandsAt, Made, Works, Worked, taken_by, dma_bytes};
 
+    /// The name of the next move, by the requests of the present cycle.
+    #[inline(always)]
+    fn next_by(&self, requests: Requests) -> Move
+        requires int { requests.int ≡ int_at self.now.machine.cycle self.now.machine.on }
+        requires dma { requests.dma ≡ dma_at self.now.machine.cycle self.now.machine.on }
+        ensures { result ≡ name_of self.now.machine }
+    {
+        if requests.dma {
+            Move::Dma
+        } else if self.cpu.ie() && requests.int {
+            Move::Interrupt
+        } else if self.cpu.idle() {
+            Move::Idle
+        } else {
+            Move::Instruction(self.counter())
+        }
+    }
+
+    /// The name of the next move. The board is at a boundary.
+    pub fn next_move(&self) -> Move
+        ensures { result ≡ name_of self.now.machine }
+    {
+        self.next_by(self.requests())
+    }
+
     /// Whether the next move is an instruction. The board is at a boundary.
     pub fn next_is_instruction(&self) -> bool
         requires { self.now.phase ≡ Phase.Boundary }
         ensures { IsTrue result ↔ StartsInstruction self.now.machine }
     {
-        let requests = self.requests();
-        !requests.dma && !(self.cpu.ie() && requests.int) && !self.cpu.idle()
+        match self.next_move() {
+            Move::Instruction(_) => true,
+            Move::Dma | Move::Interrupt | Move::Idle => false,
+        }
     }
 
     /// The address of the next opcode, R(P).
@@ -271,10 +298,12 @@ impl Board {
         requires dma { requests.dma ≡ dma_at self.now.machine.cycle self.now.machine.on }
         ensures { result ≡ length_of self.now.rom self.now.machine }
     {
-        if requests.dma || (self.cpu.ie() && requests.int) || self.cpu.idle() {
-            return 1;
+        match self.next_by(requests) {
+            Move::Dma => 1,
+            Move::Interrupt => 1,
+            Move::Idle => 1,
+            Move::Instruction(address) => u64::from(cycles(self.wires.read(address))),
         }
-        u64::from(cycles(self.wires.read(self.counter())))
     }
 
     /// Lets the video chip look ahead for cycles in which it has nothing to do but count.

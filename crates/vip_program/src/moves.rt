@@ -6,7 +6,7 @@ ghost use Rattle.machine.specs.Board.{case_of, dma_byte};
 ghost use Rattle.machine.specs.Instruction.{at};
 ghost use Rattle.machine.specs.Run.{states};
 ghost use Rattle.machine.specs.Signals.{line_cycles};
-ghost use Rattle.vip_board.specs.Moves.{moved, name_of};
+ghost use Rattle.vip_board.specs.Moves.{moved};
 ghost use Rattle.vip_board.specs.Seen.{held_by};
 ghost use Rattle.vip_board.specs.Shown.{CarriesOn};
 ghost use Rattle.vip_byte.specs.HexText.{bytes_text};
@@ -29,23 +29,6 @@ pub fn sleeps(board: &Board) -> bool
     board.cpu().idle() && !board.video().is_on()
 }
 
-/// The name of a board's next move.
-fn next_move(board: &Board) -> Move
-    ensures { result ≡ name_of board.now.machine }
-{
-    let signals = board.video().signals(board.now());
-    let cpu = board.cpu();
-    if signals.dma {
-        Move::Dma
-    } else if cpu.ie() && signals.int {
-        Move::Interrupt
-    } else if cpu.idle() {
-        Move::Idle
-    } else {
-        Move::Instruction(cpu.r(cpu.p()))
-    }
-}
-
 /// The raster line of the present cycle, counted from reset.
 fn raster_line(board: &Board) -> u64
     ensures { result ≡ board.now.machine.cycle / line_cycles }
@@ -66,7 +49,7 @@ fn idles(board: &Board, limit: u64) -> bool
     requires within { board.now.machine.cycle ≤ limit }
     ensures { result ≡ (goes_on limit board.now.rom board.now.machine && is_idle (case_of board.now.machine)) }
 {
-    goes_on(board, limit) && next_move(board) == Move::Idle
+    goes_on(board, limit) && board.next_move() == Move::Idle
 }
 
 /// Whether the next move is made and is a DMA cycle of a raster line, counted from reset.
@@ -74,7 +57,7 @@ fn scans(board: &Board, line: u64, limit: u64) -> bool
     requires within { board.now.machine.cycle ≤ limit }
     ensures { result ≡ (goes_on limit board.now.rom board.now.machine && is_scan line (case_of board.now.machine) board.now.machine) }
 {
-    goes_on(board, limit) && next_move(board) == Move::Dma && raster_line(board) == line
+    goes_on(board, limit) && board.next_move() == Move::Dma && raster_line(board) == line
 }
 
 /// Makes the next move, which ends at or before the limit.
@@ -166,7 +149,7 @@ fn put_move(into: &mut Buffer, board: &Board)
     ensures items { into.new.items ≡ into.old.items ++ moves_text board.now.rom (held_by board.now) (case_of board.now.machine) board.now.machine (board.now.machine ∷ []) }
     ensures len { array_vec_len into.new ≤ array_vec_len into.old + 70 }
 {
-    match next_move(board) {
+    match board.next_move() {
         Move::Instruction(_) => put_instruction(into, board),
         Move::Interrupt => put_interrupt(into, board.cpu()),
         Move::Idle => put(into, b" IDLE 1"),
@@ -203,7 +186,7 @@ fn make_line(board: &mut Board, count: u64, limit: u64, into: &mut Buffer) -> u6
     ensures items { into.new.items ≡ into.old.items ++ moves_text board.old.rom (held_by board.old) (case_of board.old.machine) board.old.machine (states board.old.rom (held_by board.old) board.old.machine result) }
     ensures len { array_vec_len into.new ≤ array_vec_len into.old + 70 }
 {
-    match next_move(board) {
+    match board.next_move() {
         Move::Instruction(_) => {
             put_instruction(into, board);
             make(board, limit);
