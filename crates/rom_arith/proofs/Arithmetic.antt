@@ -22,7 +22,7 @@ use Rattle.rom_law.specs.Holding.{places, Holding}
 use Rattle.rom_law.specs.Rows.{Since, Grows, Ends, now}
 use Rattle.rom_law.proofs.Places.{v_set, v_byte}
 use Rattle.rom_law.proofs.Kept.{Comes}
-use Rattle.rom_rows.specs.Heads.{to_stop, high_byte, low_byte, page_of, Entered, Enters}
+use Rattle.rom_rows.specs.Heads.{to_stop, to_dispatch, high_byte, low_byte, page_of, Entered, Enters}
 use Rattle.rom_rows.specs.FetchBlocks.FetchBlock.{Leave}
 use Rattle.rom_rows.specs.ArithBlocks.{has_shared_end, Ending, arith_moves}
 use Rattle.rom_rows.specs.ArithBlocks.ArithBlock.{Arith, Operation, Flag, Unknown82}
@@ -166,7 +166,7 @@ module _ (e : Edition) (b : Machine) (h : Since) (f : FitsMachine b) where
   unfolding pointed
   copy =
       operation 0 _ (λ r. omega (arith, r)) refl
-      (λ o instr spent h' g. steps e g (Copy (high % 16) (low / 16)) instr refl (rw (o.entered.inside, instr) refl) _
+      (λ o instr spent h' g. steps e g (Copy (high % 16) (low / 16)) instr refl (rw (o.entered.inside, instr) refl) (omega (arith, spent)) _
       (subst (λ y. Holding (quick e)
       (record (places b) { ram = written b.latch b.ram (page_of e * 256 + (240 + high % 16)) (byte_y e b (now h)) })
       (set (high % 16) y (now h))) (is_vy o.entered f)
@@ -239,9 +239,9 @@ module _ (e : Edition) (b : Machine) (h : Since) (f : FitsMachine b) where
   -- ---- the ends
 
   pub flag_comes : Ending (quick e) at_flag (set_with_flag (high % 16) b.regs.d b.regs.df (now h)) b (now h)
-      → Comes (quick e) (calm_pieces (quick e)) (OfArith Flag) b h
-  flag_comes o =
-      ending (OfArith Flag) o _ (omega arith) refl
+      → h.spent + 18 ≡ to_dispatch (quick e) (now h) → Comes (quick e) (calm_pieces (quick e)) (OfArith Flag) b h
+  flag_comes o spent =
+      ending (OfArith Flag) o spent _ (omega arith) refl
       (rw flag (v_set (v_set o.entered.holds (page_of e * 256 + (240 + high % 16)) (high % 16) b.regs.d (omega (arith, variables_is e))
       (omega arith)) _ 15 _ (omega (arith, variables_is e)) (omega arith))) refl refl
     where

@@ -151,11 +151,12 @@ module _ (e : Edition) (b : Machine) (h : Since) (f : FitsMachine b) where
       (looks (bit_xor b.regs.r.r2.lo 0xcf) at_return_take o, zero, back, omega (arith, xor_other b.regs.r.r2.lo 0xcf k, r2_is o))
       (omega (arith, spent, g.spent)))
 
-  pub return_take_comes : Entered (quick e) at_return_take b (now h) → high ≡ 0 → low ≡ 0xee → 0 < depth
+  pub return_take_comes : Entered (quick e) at_return_take b (now h) → high ≡ 0 → low ≡ 0xee → 0 < depth → h.spent ≡ 102
       → Comes (quick e) (calm_pieces (quick e)) (OfArith ReturnTake) b h
-  return_take_comes o zero back some =
+  return_take_comes o zero back some spent =
       routine (OfArith ReturnTake) o _ (omega (arith, o.holds.stack, stack_top_is e, page_fits e, some, f.regs.r.r2.hi, f.regs.r.r2.lo)) refl
-      (λ h' g. steps e g ReturnFrom (return_is at_return_take o zero back) refl (return_runs at_return_take o zero back some) _
+      (λ h' g. steps e g ReturnFrom (return_is at_return_take o zero back) refl (return_runs at_return_take o zero back some)
+      (omega (arith, spent)) _
       (pc_set (pop o.holds f.regs.r.r2 some) taken _ (popped o.holds f.regs.r.r2 some)) refl refl)
     where
       taken : Word
@@ -172,10 +173,10 @@ module _ (e : Edition) (b : Machine) (h : Since) (f : FitsMachine b) where
   target : value (word (bit_and high 15) low) ≡ high % 16 * 256 + low
   target = ap (λ d. d * 256 + low) (and_mask high 4)
 
-  pub jump_comes : Enters (quick e) at_jump 1 b (now h) → Comes (quick e) (calm_pieces (quick e)) (OfArith JumpTo) b h
-  jump_comes o =
+  pub jump_comes : Enters (quick e) at_jump 1 b (now h) → h.spent ≡ 80 → Comes (quick e) (calm_pieces (quick e)) (OfArith JumpTo) b h
+  jump_comes o spent =
       routine (OfArith JumpTo) o.entered _ (omega arith) refl
-      (λ h' g. steps e g (Jump (high % 16 * 256 + low)) (jump_is o) refl (jump_runs o) _
+      (λ h' g. steps e g (Jump (high % 16 * 256 + low)) (jump_is o) refl (jump_runs o) (omega (arith, spent)) _
       (pc_set o.entered.holds (word (bit_and high 15) low) (high % 16 * 256 + low) target) refl refl)
 
   -- ---- 2MMM
@@ -222,11 +223,12 @@ module _ (e : Edition) (b : Machine) (h : Since) (f : FitsMachine b) where
       subst (λ z. Holding (quick e) pushed (record (next (now h)) { stack = (now h).stack ++ z ∷ [] })) (pc_is o.entered.holds)
       (push o.entered.holds f.regs.r.r2 room b.regs.r.r5.hi b.regs.r.r5.lo)
 
-  pub call_put_comes : Enters (quick e) at_call_put 2 b (now h) → depth < 12 → Comes (quick e) (calm_pieces (quick e)) (OfArith CallPut) b h
-  call_put_comes o room =
+  pub call_put_comes : Enters (quick e) at_call_put 2 b (now h) → depth < 12 → h.spent ≡ 86
+      → Comes (quick e) (calm_pieces (quick e)) (OfArith CallPut) b h
+  call_put_comes o room spent =
       routine (OfArith CallPut) o.entered _
       (omega (arith, o.entered.holds.stack, stack_top_is e, page_fits e, f.regs.r.r2.hi, f.regs.r.r2.lo, room)) refl
-      (λ h' g. steps e g (CallTo (high % 16 * 256 + low)) (call_is o) refl (call_runs o room) _
+      (λ h' g. steps e g (CallTo (high % 16 * 256 + low)) (call_is o) refl (call_runs o room) (omega (arith, spent)) _
       (pc_set (pushes o room) (word (bit_and high 15) low) (high % 16 * 256 + low) target) refl refl)
 
   -- ---- BMMM
@@ -247,9 +249,9 @@ module _ (e : Edition) (b : Machine) (h : Since) (f : FitsMachine b) where
       rw (and_mask high 4, v_get o.entered.holds (value (word (page_of e) 240)) 0 (omega (arith, variables_is e)) (omega arith))
       (omega (arith, v_byte o.entered.holds f.ram 0 (omega arith), low_fits o.entered f))
 
-  pub jump_plus_comes : Enters (quick e) at_jump_plus 11 b (now h) → Comes (quick e) (calm_pieces (quick e)) (OfArith JumpPlus) b h
-  jump_plus_comes o =
+  pub jump_plus_comes : Enters (quick e) at_jump_plus 11 b (now h) → h.spent ≡ 80 → Comes (quick e) (calm_pieces (quick e)) (OfArith JumpPlus) b h
+  jump_plus_comes o spent =
       routine (OfArith JumpPlus) o.entered _ (omega (arith, o.entered.holds.stack, stack_top_is e, page_fits e)) refl
-      (λ h' g. steps e g (JumpBy (high % 16 * 256 + low)) (plus_is o) refl (plus_runs o) _
+      (λ h' g. steps e g (JumpBy (high % 16 * 256 + low)) (plus_is o) refl (plus_runs o) (omega (arith, spent)) _
       (pc_set o.entered.holds (word ((0 + bit_and high 15 + low_sum / 256) % 256) (low_sum % 256)) (high % 16 * 256 + low + variable (now h) 0)
       (sum_is o)) refl refl)

@@ -159,15 +159,16 @@ module _ (e : Edition) (b : Machine) (h : Since) (f : FitsMachine b) where
   -- ---- the ends
 
   pub no_skip_comes : (i : ℕ) → Ending (quick e) (slice_index no_skip_labels i) (skip_if false (now h)) b (now h) → i < 4
-      → Comes (quick e) (calm_pieces (quick e)) (OfArith (NoSkip i)) b h
-  no_skip_comes zero o l = ending (OfArith (NoSkip 0)) o _ (omega arith) refl o.entered.holds refl refl
-  no_skip_comes (suc zero) o l = ending (OfArith (NoSkip 1)) o _ (omega arith) refl o.entered.holds refl refl
-  no_skip_comes (suc (suc zero)) o l = ending (OfArith (NoSkip 2)) o _ (omega arith) refl o.entered.holds refl refl
-  no_skip_comes (suc (suc (suc zero))) o l = ending (OfArith (NoSkip 3)) o _ (omega arith) refl o.entered.holds refl refl
-  no_skip_comes (suc (suc (suc (suc i)))) o l = absurd (omega (arith, l))
+      → h.spent + 2 ≡ to_dispatch (quick e) (now h) → Comes (quick e) (calm_pieces (quick e)) (OfArith (NoSkip i)) b h
+  no_skip_comes zero o l spent = ending (OfArith (NoSkip 0)) o spent _ (omega arith) refl o.entered.holds refl refl
+  no_skip_comes (suc zero) o l spent = ending (OfArith (NoSkip 1)) o spent _ (omega arith) refl o.entered.holds refl refl
+  no_skip_comes (suc (suc zero)) o l spent = ending (OfArith (NoSkip 2)) o spent _ (omega arith) refl o.entered.holds refl refl
+  no_skip_comes (suc (suc (suc zero))) o l spent = ending (OfArith (NoSkip 3)) o spent _ (omega arith) refl o.entered.holds refl refl
+  no_skip_comes (suc (suc (suc (suc i)))) o l spent = absurd (omega (arith, l))
 
-  pub skip_comes : Ending (quick e) at_skip (skip_if true (now h)) b (now h) → Comes (quick e) (calm_pieces (quick e)) (OfArith Skip) b h
-  skip_comes o = ending (OfArith Skip) o _ (omega arith) refl (pc_set o.entered.holds (up (up b.regs.r.r5)) ((now h).pc + 4) two_on) refl refl
+  pub skip_comes : Ending (quick e) at_skip (skip_if true (now h)) b (now h) → h.spent + 6 ≡ to_dispatch (quick e) (now h)
+      → Comes (quick e) (calm_pieces (quick e)) (OfArith Skip) b h
+  skip_comes o spent = ending (OfArith Skip) o spent _ (omega arith) refl (pc_set o.entered.holds (up (up b.regs.r.r5)) ((now h).pc + 4) two_on) refl refl
     where
       two_on : value (up (up b.regs.r.r5)) ≡ (now h).pc + 4
       two_on = omega (arith, pc_is o.entered.holds, is_inside e (now h) o.entered.inside, memory_end_is e, page_fits e, f.regs.r.r5.hi, f.regs.r.r5.lo)

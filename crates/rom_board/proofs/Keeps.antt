@@ -50,6 +50,6 @@ module _ (old new : Seen) where
           new.machine.regs.ie ≡ true → new.machine.regs.idle ≡ true → Moves (vip e) old.script (Running e old.script) (carried_on old h) new.machine
           → Display (carried_on old h) (λ most. (carried_on old h).spent ≤ most)
       go enabled waits (Still calm goes_on r) = waits_soon e old.script new.machine (carried_on old h) r enabled waits
-      go enabled waits (Arrived at goes_on covers s r) = absurd (sleeps (sym waits ∙ s.stands.keeps.lies.awake))
-      go enabled waits (Halted at covers stop s) = absurd (sleeps (sym waits ∙ s.halts.keeps.lies.awake))
+      go enabled waits (Arrived at goes_on covers s due r) = absurd (sleeps (sym waits ∙ s.stands.keeps.lies.awake))
+      go enabled waits (Halted at covers stop s cycle) = absurd (sleeps (sym waits ∙ s.halts.keeps.lies.awake))
   keeps_display End d e h o = tt

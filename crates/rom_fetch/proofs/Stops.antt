@@ -9,6 +9,7 @@ use Rattle.chip8_lang.specs.declared.view.Stop.TheVariants.{FetchOutside}
 use Rattle.chip8_lang.specs.Editions.{stop_cell}
 use Rattle.chip8_lang.specs.State.{Lang, is_fetchable}
 use Rattle.chip8_lang.specs.Step.{next, stop_of}
+use Rattle.chip8_lang.specs.Timed.{stop_cycles}
 use Rattle.chip8_image.specs.Labels.{at_outside, at_stop, at_stopped, at_leave81}
 use Rattle.rom_law.proofs.Moves.{quicks, Reaches, reaches_in, reaches_from}
 use Rattle.rom_law.specs.Program.{code}
@@ -25,7 +26,7 @@ use Rattle.rom_rows.specs.Table.Block.{OfFetch}
 use Rattle.rom_rows.proofs.Bytes.{page_low}
 use Rattle.rom_rows.proofs.Entry.{ready, on_4, is_on_4, on_3, is_on_3}
 use Rattle.rom_rows.proofs.Follows.{to_fetch}
-use Rattle.rom_rows.proofs.Steps.{stop_ticks}
+use Rattle.rom_rows.proofs.Steps.{stop_ticks, stop_cycles_ticks}
 use Rattle.rom_fetch.proofs.Rom.{quick}
 
 outside_stop : (e : Edition) (s : Lang) → is_fetchable e s ≡ false → stop_of e s ≡ Some FetchOutside
@@ -111,6 +112,7 @@ module _ (e : Edition) (b : Machine) (h : Since) (f : FitsMachine b) where
         (reaches_in (code (quick e)) (calm_top e) 6 _ _ (omega (arith, page_low e)) refl);
     ends = λ h' g. Fails o.stop (record {
       fits = ap (stop_of e) g.state ∙ sym (stop_ticks e h.ticks h.state) ∙ o.fits;
+      time = g.spent ∙ spent ∙ stop_cycles_ticks e h.ticks h.state ∙ sym (ap (stop_cycles e) g.state);
       halts = record {
         keeps =
             keeping (quick e) (quicks (code (quick e)) 6 (on_3 at_stopped b)) (now h')

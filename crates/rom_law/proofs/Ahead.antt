@@ -1,11 +1,11 @@
 -- A run goes on: its states one after the other, their cycles, and its last one.
-use Rattle.std.proofs.Common.{◌≡◌, ℕ, zero, suc, ◌+◌, ◌<◌, ◌≤◌, ◌⊎◌, inl, inr, nat_le, refl, sym, ◌∙◌, ap, subst, arith, le_refl, Bool, true, false, cond, List, [], ◌∷◌, filter}
+use Rattle.std.proofs.Common.{◌≡◌, ℕ, zero, suc, ◌+◌, ◌≤◌, ◌⊎◌, inl, inr, nat_le, refl, sym, ◌∙◌, ap, subst, arith, le_refl, Bool, true, false, cond, List, [], ◌∷◌, filter}
 use Rattle.std.specs.List.{list_all}
-use Rattle.std.proofs.lemmas.Bool.{and_from, and_parts, cases_eq, cases_lt, le-leb, lt-leb}
+use Rattle.std.proofs.lemmas.Bool.{and_from, and_parts, cases_eq}
 use Rattle.machine.specs.Board.{Machine, move}
 use Rattle.machine.specs.Keys.{Keys}
 use Rattle.machine.specs.Run.{states, run_to, after_moves}
-use Rattle.machine.proofs.Runs.{later-move, run_to-next}
+use Rattle.machine.proofs.Runs.{later-move}
 
 module _ (rom : List ℕ) (held : ℕ → Keys) where
   -- ---- moves

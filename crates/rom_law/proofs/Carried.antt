@@ -1,5 +1,5 @@
 -- How a move of the board carries on the record of what came since the last dispatch point.
-use Rattle.std.proofs.Common.{◌≡◌, ℕ, ◌+◌, refl, ◌∙◌, ap, subst, Bool, true, false, if◌then◌else◌, ◌&&◌, List, [], ◌∷◌, ◌++◌}
+use Rattle.std.proofs.Common.{◌≡◌, ℕ, ◌+◌, refl, sym, ◌∙◌, ap, subst, Bool, true, false, if◌then◌else◌, ◌&&◌, List, [], ◌∷◌, ◌++◌}
 use Rattle.machine.specs.Opcodes.{cycles_of}
 use Rattle.machine.specs.Signals.{dma_at, int_at}
 use Rattle.machine.specs.Board.{Machine, Case, case_of, opcode_of}
@@ -11,7 +11,7 @@ use Rattle.chip8_lang.specs.Between.{Between, keys_between}
 use Rattle.rom_law.specs.Program.{Program}
 use Rattle.rom_law.specs.Rows.{Since, Stepped, after_tick}
 use Rattle.rom_law.specs.Runs.{carried, carried_by, Covers}
-use Rattle.rom_law.proofs.Language.{between_more}
+use Rattle.rom_law.proofs.Language.{counted_as, between_more}
 
 -- with interrupts disabled there is no interrupt
 not_taken : (d i w : Bool) → (if d then Dma else if false && i then Interrupt else if w then Idle else Instruction) ≡ Interrupt → ⊥
@@ -77,8 +77,7 @@ module _ (rom : List ℕ) (held : ℕ → Keys) (b : Machine) (h : Since) where
   carried_disabled off = disabled_by off (case_of b) (disabled_apart b off)
 
 -- a step with the record's ticks and keys is one with those of the interval that it covers
-pub covers_between : (x : Program) (script : List KeyEvent) (c : Machine) (h : Since) (s : Lang) → Covers x script c h → Stepped x c h s
+abbrev pub covers_between : (x : Program) (script : List KeyEvent) (c : Machine) (h : Since) (s : Lang) → Covers x script c h → Stepped x c h s
     → Between x.edition h.state (x.ticks_between h.from c.cycle) (keys_between script h.from c.cycle) s
 covers_between x script c h s i st =
-    subst (λ n. Between x.edition h.state n (keys_between script h.from c.cycle) s) i.ticks
-    (between_more i.keys x.edition h.state h.ticks s st.between)
+    counted_as (sym i.ticks) (between_more i.keys x.edition h.state h.ticks s st.between)

@@ -10,7 +10,6 @@ use Rattle.machine.specs.Schedule.{Tick}
 use Rattle.machine.specs.Ranges.{FitsMachine, FitsRom}
 use Rattle.chip8_lang.specs.State.{Lang}
 use Rattle.chip8_lang.specs.Ticks.{ticks}
-use Rattle.chip8_lang.specs.Between.{Between}
 use Rattle.rom_law.specs.Code.{Code, Input, moved, run, is_event}
 use Rattle.rom_law.specs.Later.{After}
 use Rattle.rom_law.proofs.Moves.{AllGood, Below, Calm, Fine, opcode_in, rom_inputs, quicks, Reaches, reaches_good, reaches_run, reaches_quicks, quicks_are, quicks_idle, quicks_clear, quicks_full, quicks_on, quicks_enabled, quicks_entry, quicks_above, after_quick, after_counter, after_cycles}
@@ -24,7 +23,7 @@ use Rattle.rom_law.specs.Rows.Ends.{Continues, Steps, Fails}
 use Rattle.rom_law.specs.Rows.Row.{Inside, Alone}
 use Rattle.rom_law.specs.Rows.Starts.{Enters, Meets}
 use Rattle.rom_law.specs.Rows.Outcome.{Still, Dispatched, Halted}
-use Rattle.rom_law.proofs.Language.{ticks_add, between_ticks}
+use Rattle.rom_law.proofs.Language.{ticks_add, counted_as, between_ticks, between_ticks_key}
 use Rattle.rom_law.proofs.Later.{dispatches_after, halts_after}
 use Rattle.rom_law.proofs.Writes.{writes_below}
 
@@ -208,13 +207,16 @@ module _ (x : Program) (t : Pieces) (sound : Sound x t) where
       Dispatched (ticks n s)
       (record {
         runs = st.runs;
-        between = subst (λ m. Between x.edition h'.state m h'.keys (ticks n s)) (sym g.ticks) (between_ticks n x.edition h'.state h.ticks h'.keys s st.between);
+        between = counted_as g.ticks (between_ticks n x.edition h'.state h.ticks h'.keys s st.between);
+        time =
+            λ k t. st.time k (ap (x.takes h'.state) (sym (between_ticks_key n x.edition h'.state h.ticks h'.keys s st.between)) ∙ t);
         stands = dispatches_after x n c b a f s st.stands;
       })
   ended c b h k n h' g f i a (Fails stop st) =
       Halted stop
       (record {
         fits = st.fits;
+        time = st.time;
         halts =
             subst (λ z. Halts x b z stop) (ticks_add n h.ticks h'.state ∙ ap (λ m. ticks m h'.state) (sym g.ticks))
             (halts_after x n c b a f (ticks h.ticks h'.state) stop st.halts);

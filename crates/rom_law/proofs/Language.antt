@@ -77,16 +77,42 @@ module _ (e : Edition) (s : Lang) (n : ℕ) (sets : List Keys) (z : Lang) (h : B
   between_tick : Between e s (suc n) sets (tick z)
   between_tick = go (instr_at s) refl h.waits
 
+  -- what the step took from the keypad is the same
+  go_key : (i : Instr) (eq : i ≡ instr_at s) (w : WaitsWell i h.before h.after) → (go i eq w).key ≡ h.key
+  unfolding go after_step before_step
+  go_key Clear eq w = refl
+  go_key (Draw x y m) eq w = refl
+  go_key i eq w = refl
+
+  between_tick_key : between_tick.key ≡ h.key
+  unfolding between_tick
+  between_tick_key = go_key (instr_at s) refl h.waits
+
+-- so many ticks, written otherwise
+abbrev pub counted_as : {e : Edition} {s : Lang} {n m : ℕ} {sets : List Keys} {z : Lang} → m ≡ n → Between e s n sets z → Between e s m sets z
+counted_as same h =
+    record {
+      runs = h.runs;
+      before = h.before;
+      after = h.after;
+      all = h.all ∙ sym same;
+      key = h.key;
+      allowed = h.allowed;
+      waits = h.waits;
+      is = h.is;
+    }
+
 pub between_ticks : (m : ℕ) (e : Edition) (s : Lang) (n : ℕ) (sets : List Keys) (z : Lang) → Between e s n sets z → Between e s (n + m) sets (ticks m z)
-between_ticks zero e s n sets z h = subst (λ k. Between e s k sets z) same h
-  where
-    same : n ≡ n + 0
-    same = omega arith
+between_ticks zero e s n sets z h = counted_as (omega arith) h
 between_ticks (suc m) e s n sets z h =
-    subst (λ k. Between e s k sets (ticks (suc m) z)) more (between_tick e s (n + m) sets (ticks m z) (between_ticks m e s n sets z h))
-  where
-    more : suc (n + m) ≡ n + suc m
-    more = omega arith
+    counted_as (omega arith) (between_tick e s (n + m) sets (ticks m z) (between_ticks m e s n sets z h))
+
+pub between_ticks_key : (m : ℕ) (e : Edition) (s : Lang) (n : ℕ) (sets : List Keys) (z : Lang) (h : Between e s n sets z)
+    → (between_ticks m e s n sets z h).key ≡ h.key
+unfolding between_ticks
+between_ticks_key zero e s n sets z h = refl
+between_ticks_key (suc m) e s n sets z h =
+    between_tick_key e s (n + m) sets (ticks m z) (between_ticks m e s n sets z h) ∙ between_ticks_key m e s n sets z h
 
 -- ---- keys
 
@@ -122,7 +148,7 @@ module _ {few many : List Keys} (f : Embeds few many) where
   allows_more i s (Held d) h = h
   allows_more i s (Chosen c) h = h
 
-  pub between_more : (e : Edition) (s : Lang) (n : ℕ) (z : Lang) → Between e s n few z → Between e s n many z
+  abbrev pub between_more : (e : Edition) (s : Lang) (n : ℕ) (z : Lang) → Between e s n few z → Between e s n many z
   between_more e s n z h =
       record {
         runs = h.runs;

@@ -1,5 +1,6 @@
 -- The law of a run holds where each move of the board comes to what it should, in time and with its pictures, and boot comes to a first dispatch.
 use Rattle.std.proofs.Common.{◌≡◌, ℕ, zero, suc, ◌+◌, ◌-◌, ◌<◌, ◌≤◌, ◌⊎◌, inl, inr, refl, sym, ◌∙◌, ap, subst, subst₂, arith, le_refl, Bool, true, false, cond, List, [], ◌∷◌, ◌++◌, filter, map}
+use Rattle.std.specs.Prelude.{Some, None}
 use Rattle.std.proofs.lemmas.Bool.{cases_lt}
 use Rattle.machine.specs.Board.{Machine, move, start}
 use Rattle.machine.specs.Keys.{held_at}
@@ -126,6 +127,12 @@ module _ (x : Program) (script : List KeyEvent) (limit : ℕ) (run : List Machin
 
 -- ---- a run from a state of which `Running` holds
 
+-- the step from the state y at a dispatch point in cycle a to the one at c
+record Made (x : Program) (script : List KeyEvent) (c : Machine) (a : ℕ) (y : Lang) : Type 0 where
+  runs : x.stop_of y ≡ None
+  between : Between x.edition y (x.ticks_between a c.cycle) (keys_between script a c.cycle) (state_at x c)
+  cycle : (t : ℕ) → x.due a y between.key ≡ Some t → c.cycle ≡ t
+
 module _ (x : Program) (script : List KeyEvent) (limit : ℕ) (run : List Machine) (Running : Machine → Since → Type 0) (carries : Carries x script limit run Running) where
   abbrev next : Machine → Machine
   next b = move x.interpreter.rom (held_at script) b
@@ -177,19 +184,18 @@ module _ (x : Program) (script : List KeyEvent) (limit : ℕ) (run : List Machin
     moved fuel on enough here (Still d z r') =
         on_quiet x script limit run b c.cycle (next c) (rest (next (next c))) order (each here) d z
         (on b (next c) h' from_b state_b r' (omega (arith, behind_b, later c)) here (omega (arith, enough, later c)))
-    moved fuel on enough here (Arrived d z i st r') =
+    moved fuel on enough here (Arrived d z i st due r') =
         on_dispatch x script limit run b c.cycle (next c) (rest (next (next c))) order (each here) d z (
           comes here,
-          record {
-            runs = ap x.stop_of (sym state_b) ∙ st.runs;
-            between =
-                subst₂ (λ y a. Between x.edition y (x.ticks_between a (next c).cycle) (keys_between script a (next c).cycle) (state_at x (next c)))
-                state_b from_b (covers_between x script (next c) h' (state_at x (next c)) i st);
-            stands = st.stands;
-          },
+          record { runs = made.runs; between = made.between; cycle = made.cycle; stands = st.stands },
           on (next c) (next c) (dispatched (next c).cycle (state_at x (next c))) refl refl r' (le_refl (next c).cycle) here (omega (arith, enough, later c)),
         )
-    moved fuel on enough here (Halted z i stop st) =
+      where
+        made : Made x script (next c) b.cycle (state_at x b)
+        made =
+            subst₂ (Made x script (next c)) from_b state_b
+            (record { runs = st.runs; between = covers_between x script (next c) h' (state_at x (next c)) i st; cycle = due })
+    moved fuel on enough here (Halted z i stop st cycle) =
         on_stop x script limit run b c.cycle (next c) (rest (next (next c))) order (each here) z (
         record {
           comes = comes here;
@@ -197,6 +203,7 @@ module _ (x : Program) (script : List KeyEvent) (limit : ℕ) (run : List Machin
               record {
                 stop = stop;
                 fits = ap x.stop_of (sym state_b) ∙ st.fits;
+                cycle = subst₂ (λ a y. (next c).cycle ≡ x.later a (x.stops_after y)) from_b state_b cycle;
                 halts =
                     subst₂ (λ y a. Halts x (next c) (ticks (x.ticks_between a (next c).cycle) y) stop) state_b from_b
                     (subst (λ n. Halts x (next c) (ticks n h'.state) stop) i.ticks st.halts);

@@ -50,8 +50,8 @@ module _
 
       go : Moves x script Running (carried x.interpreter.rom (held_at script) (at n) (since n)) (at (suc n)) → Holds (suc n)
       go (Still d z r') = subst (Running (at (suc n))) (sym (since_still n d)) r'
-      go (Arrived d z i st r') = subst (Running (at (suc n))) (sym (since_dispatch n d)) r'
-      go (Halted z i stop st) = absurd (stops (sym z ∙ runs))
+      go (Arrived d z i st due r') = subst (Running (at (suc n))) (sym (since_dispatch n d)) r'
+      go (Halted z i stop st cycle) = absurd (stops (sym z ∙ runs))
 
   pub holds_behind : (m : ℕ) → Holds m → (r : ℕ) → Unstopped (suc (m + r)) → Holds (m + r)
   holds_behind m h zero u = subst Holds same h

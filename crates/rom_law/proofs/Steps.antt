@@ -18,7 +18,7 @@ now_same {h = h} {h' = h'} g = ap₂ (λ n s. ticks n s) count g.state
     count = omega (arith, g.ticks)
 
 -- The step was made after all the ticks so far: the instruction, and what it took from the keypad.
-pub step_made : (e : Edition) (h : Since) (i : Instr) (key : KeyInput) → stop_of e h.state ≡ None → instr_at h.state ≡ i → Allows i h.state h.keys key
+abbrev pub step_made : (e : Edition) (h : Since) (i : Instr) (key : KeyInput) → stop_of e h.state ≡ None → instr_at h.state ≡ i → Allows i h.state h.keys key
     → WaitsWell i h.ticks 0 → Between e h.state h.ticks h.keys (step e key (now h))
 step_made e h i key free is allowed waits =
     record {

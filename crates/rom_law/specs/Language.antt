@@ -18,16 +18,19 @@ use Rattle.rom_law.specs.Runs.{state_at}
 -- ---- the next point behind a dispatch point
 
 -- One step lies between the dispatch points b and c, with the timer ticks and the sets of keys of the cycles between: the state at b has no stop,
--- and c stands for the state after the step.
+-- c stands for the state after the step, and it comes in the cycle that is due.
 pub record IsStep (x : Program) (script : List KeyEvent) (b c : Machine) : Type 0 where
   pub runs : x.stop_of (state_at x b) ≡ None
   pub between : Between x.edition (state_at x b) (x.ticks_between b.cycle c.cycle) (keys_between script b.cycle c.cycle) (state_at x c)
+  pub cycle : (t : ℕ) → x.due b.cycle (state_at x b) between.key ≡ Some t → c.cycle ≡ t
   pub stands : Dispatches x c (state_at x c)
 
--- c is the stop point behind the dispatch point b: the stop is that of the state at b, which lies there after the ticks of the cycles between
+-- c is the stop point behind the dispatch point b: the stop is that of the state at b, which lies there after the ticks of the cycles between, and
+-- it comes in its cycle
 pub record IsStop (x : Program) (b c : Machine) : Type 0 where
   pub stop : Stop
   pub fits : x.stop_of (state_at x b) ≡ Some stop
+  pub cycle : c.cycle ≡ x.later b.cycle (x.stops_after (state_at x b))
   pub halts : Halts x c (ticks (x.ticks_between b.cycle c.cycle) (state_at x b)) stop
 
 -- cycle t isn't too late for the next point behind a dispatch of s in cycle `from`

@@ -94,15 +94,17 @@ pub data Starts (t : Pieces) (b : Machine) (h : Since) : Type 0 where
   Enters : (l : t.Block) → t.Head l b h → Starts t b h
   Meets : (l : t.Place) → t.At l b h → Starts t b h
 
--- a dispatch: the step was made, and s lies in the machine
+-- a dispatch: the step was made, in its main cycles, and s lies in the machine
 pub record Stepped (x : Program) (b : Machine) (h : Since) (s : Lang) : Type 0 where
   pub runs : x.stop_of h.state ≡ None
   pub between : Between x.edition h.state h.ticks h.keys s
+  pub time : (n : ℕ) → x.takes h.state between.key ≡ Some n → h.spent ≡ n
   pub stands : Dispatches x b s
 
--- a stop: it is that of the state
+-- a stop: it is that of the state, in its main cycles
 pub record Stopped (x : Program) (b : Machine) (h : Since) (stop : Stop) : Type 0 where
   pub fits : x.stop_of h.state ≡ Some stop
+  pub time : h.spent ≡ x.stops_after h.state
   pub halts : Halts x b (now h) stop
 
 -- what a piece comes to: a next piece with no event, a dispatch or a stop

@@ -1,5 +1,5 @@
 -- A move of the board, and the record of the moves since the last dispatch point.
-use Rattle.std.specs.Prelude.{◌≡◌, ℕ, zero, suc, ◌+◌, true, false, if◌then◌else◌, List, [], ◌∷◌, ◌++◌}
+use Rattle.std.specs.Prelude.{◌≡◌, ℕ, zero, suc, ◌+◌, true, false, if◌then◌else◌, List, [], ◌∷◌, ◌++◌, Some}
 use Rattle.machine.specs.Opcodes.{cycles_of}
 use Rattle.machine.specs.Board.{Machine, Case, case_of, move, opcode_of}
 use Rattle.machine.specs.Board.Case.{Interrupt, Instruction}
@@ -9,6 +9,7 @@ use Rattle.machine.specs.Run.{after_moves}
 use Rattle.chip8_lang.specs.declared.view.Stop.{Stop}
 use Rattle.chip8_lang.specs.State.{Lang}
 use Rattle.chip8_lang.specs.Between.{keys_between}
+use Rattle.chip8_lang.specs.Step.{KeyInput}
 use Rattle.chip8_lang.specs.Places.{state_of}
 use Rattle.chip8_lang.specs.Events.{is_dispatch, is_stop}
 use Rattle.rom_law.specs.Program.{Program}
@@ -56,10 +57,15 @@ pub record Covers (x : Program) (script : List KeyEvent) (c : Machine) (h : Sinc
   pub ticks : h.ticks ≡ x.ticks_between h.from c.cycle
   pub keys : Embeds h.keys (keys_between script h.from c.cycle)
 
+-- The next dispatch point, c, comes in the cycle that is due behind the one at which the record begins, where the step took this from the keypad.
+abbrev pub IsDue : Program → Machine → Since → KeyInput → Type 0
+IsDue x c h key = (t : ℕ) → x.due h.from h.state key ≡ Some t → c.cycle ≡ t
+
 -- What a move of the board comes to, from a state of which `Running` holds, where h is its record as the move carries it on: no event; a
--- dispatch, with the step made, from which a new record begins; or the stop of the state.
+-- dispatch, with the step made, from which a new record begins; or the stop of the state; each of these in its cycle.
 pub data Moves (x : Program) (script : List KeyEvent) (Running : Machine → Since → Type 0) (h : Since) (c : Machine) : Type 0 where
   Still : is_dispatch x.interpreter c ≡ false → is_stop x.interpreter c ≡ false → Running c h → Moves x script Running h c
-  Arrived : is_dispatch x.interpreter c ≡ true → is_stop x.interpreter c ≡ false → Covers x script c h → Stepped x c h (state_at x c)
-      → Running c (dispatched c.cycle (state_at x c)) → Moves x script Running h c
-  Halted : is_stop x.interpreter c ≡ true → Covers x script c h → (stop : Stop) → StoppedBy x c h stop → Moves x script Running h c
+  Arrived : is_dispatch x.interpreter c ≡ true → is_stop x.interpreter c ≡ false → Covers x script c h → (st : Stepped x c h (state_at x c))
+      → IsDue x c h st.between.key → Running c (dispatched c.cycle (state_at x c)) → Moves x script Running h c
+  Halted : is_stop x.interpreter c ≡ true → Covers x script c h → (stop : Stop) → StoppedBy x c h stop
+      → c.cycle ≡ x.later h.from (x.stops_after h.state) → Moves x script Running h c

@@ -300,12 +300,12 @@ module _ (e : Edition) (b : Machine) (h : Since) (f : FitsMachine b) where
       )
       (omega (arith, spent, g.spent, none_left t n)))
 
-  pub store_end_comes : Copying (quick e) ForStore at_store_end (stored_to (last + 1) (now h)) b (now h) → is_in_memory e i (last + 1) ≡ true
+  pub store_end_comes : Copying (quick e) ForStore at_store_end (stored_to (last + 1) (now h)) b (now h) → is_in_memory e i (last + 1) ≡ true → h.spent ≡ 204 + 12 * last
       → Comes (quick e) (calm_pieces (quick e)) (OfMemory StoreEnd) b h
-  store_end_comes o fits =
+  store_end_comes o fits spent =
       straight (OfMemory StoreEnd) o.holds (ending at_store_end)
       (λ j. record b { regs = record b.regs { p = o.p j; r = record b.regs.r { r3 = o.r3 j; r4 = o.r4 j } } }) _ (omega arith) refl
-      (λ h' g. steps e g (IsStore last) is refl runs _
+      (λ h' g. steps e g (IsStore last) is refl runs (omega (arith, spent)) _
       (subst (λ n. Holding (quick e) (places b) (record (stored_to (last + 1) (now h)) { i = n })) past o.holds) refl refl)
     where
       is : instr_at (now h) ≡ IsStore last
@@ -378,11 +378,11 @@ module _ (e : Edition) (b : Machine) (h : Since) (f : FitsMachine b) where
       (omega (arith, spent, g.spent, none_left t n)))
 
   pub restore_end_comes : Copying (quick e) ForRestore at_restore_end (fetched_to (last + 1) (now h)) b (now h) → is_readable e i (last + 1) ≡ true
-      → Comes (quick e) (calm_pieces (quick e)) (OfMemory RestoreEnd) b h
-  restore_end_comes o fits =
+      → h.spent ≡ 212 + check_cycles e (now h) (last + 1) + 12 * last → Comes (quick e) (calm_pieces (quick e)) (OfMemory RestoreEnd) b h
+  restore_end_comes o fits spent =
       straight (OfMemory RestoreEnd) o.holds (ending at_restore_end)
       (λ j. record b { regs = record b.regs { p = o.p j; r = record b.regs.r { r3 = o.r3 j; r4 = o.r4 j } } }) _ (omega arith) refl
-      (λ h' g. steps e g (IsFetch last) is refl runs _
+      (λ h' g. steps e g (IsFetch last) is refl runs (omega (arith, spent)) _
       (subst (λ n. Holding (quick e) (places b) (record (fetched_to (last + 1) (now h)) { i = n })) past o.holds) refl refl)
     where
       is : instr_at (now h) ≡ IsFetch last

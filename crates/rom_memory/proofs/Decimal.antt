@@ -227,12 +227,12 @@ module _ (e : Edition) (b : Machine) (h : Since) (f : FitsMachine b) where
       }
 
   pub tens_end_comes : Dividing (quick e) at_tens_end (vx / 100) (vx / 10 % 10 + 1) (vx % 10 + 246) b (now h)
-      → Comes (quick e) (calm_pieces (quick e)) (OfMemory TensEnd) b h
-  tens_end_comes o =
+      → h.spent ≡ 206 + 6 * (vx / 100 + vx / 10 % 10) → Comes (quick e) (calm_pieces (quick e)) (OfMemory TensEnd) b h
+  tens_end_comes o spent =
       straight (OfMemory TensEnd) o.called.holds ending
       (λ j. record b { regs = record b.regs { p = o.p j; r = record b.regs.r { r3 = o.r3 j; r4 = o.called.r4 j; rc = o.rc j } } }) _
       (omega (arith, i_is o.called.holds, room, memory_end_is e, page_fits e, f.regs.r.ra.hi, f.regs.r.ra.lo)) refl
-      (λ h' g. steps e g (IsDecimal (high % 16)) is refl runs _
+      (λ h' g. steps e g (IsDecimal (high % 16)) is refl runs (omega (arith, spent)) _
       (subst (λ l. Holding (quick e) written_places (record (next (now h)) { memory = stored (now h).memory (i - memory_start) l }))
       digits_are holds) refl refl)
     where

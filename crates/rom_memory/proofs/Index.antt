@@ -44,10 +44,10 @@ module _ (e : Edition) (b : Machine) (h : Since) (f : FitsMachine b) where
 
   -- ---- AMMM
 
-  pub index_comes : Enters (quick e) at_index 10 b (now h) → Comes (quick e) (calm_pieces (quick e)) (OfMemory Index) b h
-  index_comes o =
+  pub index_comes : Enters (quick e) at_index 10 b (now h) → h.spent ≡ 80 → Comes (quick e) (calm_pieces (quick e)) (OfMemory Index) b h
+  index_comes o spent =
       routine (OfMemory Index) o.entered _ (omega arith) refl
-      (λ h' g. steps e g (IsIndex (high % 16 * 256 + low)) is refl runs _
+      (λ h' g. steps e g (IsIndex (high % 16 * 256 + low)) is refl runs (omega (arith, spent)) _
       (i_set o.entered.holds (word (bit_and high 15) low) (high % 16 * 256 + low) target) refl refl)
     where
       is : instr_at (now h) ≡ IsIndex (high % 16 * 256 + low)
@@ -65,10 +65,11 @@ module _ (e : Edition) (b : Machine) (h : Since) (f : FitsMachine b) where
   abbrev byte : ℕ
   byte = read (both e) b.latch b.ram (value (word (page_of e) (240 + high % 16)))
 
-  pub add_index_comes : Enters (quick e) at_add_index 15 b (now h) → low ≡ 0x1e → Comes (quick e) (calm_pieces (quick e)) (OfMemory AddIndex) b h
-  add_index_comes o kk =
+  pub add_index_comes : Enters (quick e) at_add_index 15 b (now h) → low ≡ 0x1e → h.spent ≡ 110
+      → Comes (quick e) (calm_pieces (quick e)) (OfMemory AddIndex) b h
+  add_index_comes o kk spent =
       routine (OfMemory AddIndex) o.entered _ (omega (arith, o.entered.holds.stack, stack_top_is e)) refl
-      (λ h' g. steps e g (IsAddIndex (high % 16)) is refl runs _ (i_set o.entered.holds _ _ sum) refl refl)
+      (λ h' g. steps e g (IsAddIndex (high % 16)) is refl runs (omega (arith, spent)) _ (i_set o.entered.holds _ _ sum) refl refl)
     where
       is : instr_at (now h) ≡ IsAddIndex (high % 16)
       is = rw (o.digit, kk) refl
@@ -87,10 +88,11 @@ module _ (e : Edition) (b : Machine) (h : Since) (f : FitsMachine b) where
   abbrev work : ℕ
   work = value (word (page_of e) 0xd0)
 
-  pub digit_comes : Enters (quick e) at_digit 15 b (now h) → low ≡ 0x29 → Comes (quick e) (calm_pieces (quick e)) (OfMemory Digit) b h
-  digit_comes o kk =
+  pub digit_comes : Enters (quick e) at_digit 15 b (now h) → low ≡ 0x29 → h.spent ≡ 116 → Comes (quick e) (calm_pieces (quick e)) (OfMemory Digit) b h
+  digit_comes o kk spent =
       routine (OfMemory Digit) o.entered _ (omega (arith, o.entered.holds.stack, stack_top_is e)) refl
-      (λ h' g. steps e g (Font (high % 16)) is refl runs _ (i_set (work_set o.entered.holds work digit above below) _ _ sum) refl refl)
+      (λ h' g. steps e g (Font (high % 16)) is refl runs (omega (arith, spent)) _
+      (i_set (work_set o.entered.holds work digit above below) _ _ sum) refl refl)
     where
       is : instr_at (now h) ≡ Font (high % 16)
       is = rw (o.digit, kk) refl

@@ -19,9 +19,9 @@ use Rattle.rom_memory.specs.Code.{memory_rom}
 
 pub memory_block : (e : Edition) (l : MemoryBlock) (b : Machine) (h : Since) → FitsMachine b → Head (quick e) (OfMemory l) b h
     → Comes (quick e) (calm_pieces (quick e)) (OfMemory l) b h
-memory_block e Index b h f o = index_comes e b h f o.0
-memory_block e AddIndex b h f o = add_index_comes e b h f o.0.0 o.0.1
-memory_block e Digit b h f o = digit_comes e b h f o.0.0 o.0.1
+memory_block e Index b h f o = index_comes e b h f o.0 o.1
+memory_block e AddIndex b h f o = add_index_comes e b h f o.0.0 o.0.1 o.1
+memory_block e Digit b h f o = digit_comes e b h f o.0.0 o.0.1 o.1
 memory_block e (Check c) b h f o = check_comes e b h f c o.0 o.1
 memory_block e (CheckGame c) b h f o = check_game_comes e b h f c o.0.0 o.0.1 o.1
 memory_block e (CheckFont c) b h f o = check_font_comes e b h f c o.0.0 o.0.1 o.0.2 o.1
@@ -32,15 +32,15 @@ memory_block e (DecimalFound answer) b h f o = decimal_found_comes e b h f answe
 memory_block e (Hundreds k) b h f o = hundreds_comes e b h f k o.0.0 o.0.1 o.1
 memory_block e HundredsEnd b h f o = hundreds_end_comes e b h f o.0 o.1
 memory_block e (Tens k) b h f o = tens_comes e b h f k o.0.0 o.0.1 o.1
-memory_block e TensEnd b h f o = tens_end_comes e b h f o.0
+memory_block e TensEnd b h f o = tens_end_comes e b h f o.0 o.1
 memory_block e Store b h f o = store_comes e b h f o.0.0 o.0.1 o.1
 memory_block e (StoreFound answer) b h f o = store_found_comes e b h f answer o.0 o.1
 memory_block e (StoreByte k) b h f o = store_byte_comes e b h f k o.0.0 o.0.1 o.0.2 o.1
-memory_block e StoreEnd b h f o = store_end_comes e b h f o.0.0 o.0.1
+memory_block e StoreEnd b h f o = store_end_comes e b h f o.0.0 o.0.1 o.1
 memory_block e Restore b h f o = restore_comes e b h f o.0.0 o.0.1 o.1
 memory_block e (RestoreFound answer) b h f o = restore_found_comes e b h f answer o.0 o.1
 memory_block e (RestoreByte k) b h f o = restore_byte_comes e b h f k o.0.0 o.0.1 o.0.2 o.1
-memory_block e RestoreEnd b h f o = restore_end_comes e b h f o.0.0 o.0.1
+memory_block e RestoreEnd b h f o = restore_end_comes e b h f o.0.0 o.0.1 o.1
 
 pub memory_rows : MemoryRows memory_rom
 memory_rows e l = block_rows e (both_is e) (both_fits e) (OfMemory l) (memory_block e l)

@@ -49,10 +49,10 @@ pub skip_key_later : (n : ℕ) (s : Lang) → skip_key (ticks n s) ≡ skip_key 
 skip_key_later n s = ap (λ y. variable (ticks n s) (y % 16) % 16) (ticks_high n s) ∙ ap (λ y. y % 16) (ticks_variable n (high_byte s % 16) s)
 
 -- they change the timers, the tone and the count alone
-abbrev timed : Lang → Lang → Lang
+abbrev pub timed : Lang → Lang → Lang
 timed t s = record s { dt = t.dt; st = t.st; tone = t.tone; n = t.n }
 
-ticks_timed : (n : ℕ) (s : Lang) → timed (ticks n s) s ≡ ticks n s
+pub ticks_timed : (n : ℕ) (s : Lang) → timed (ticks n s) s ≡ ticks n s
 ticks_timed zero s = refl
 ticks_timed (suc n) s =
     λ i. record (ticks_timed n s i) { dt = (ticks (suc n) s).dt; st = (ticks (suc n) s).st; tone = (ticks (suc n) s).tone; n = (ticks (suc n) s).n }

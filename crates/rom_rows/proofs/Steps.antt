@@ -1,6 +1,6 @@
 -- What the block lemmas of all groups use: the step at the end of a routine.
-use Rattle.std.proofs.Common.{◌≡◌, ℕ, zero, suc, ◌≤◌, arith, refl, sym, ◌∙◌, ap, subst, Bool, true, false, cond, List}
-use Rattle.std.specs.Prelude.{Some, None}
+use Rattle.std.proofs.Common.{◌≡◌, ℕ, zero, suc, ◌+◌, ◌*◌, ◌≤◌, nat_lt, arith, refl, sym, ◌∙◌, ap, subst, Bool, true, false, cond, List}
+use Rattle.std.specs.Prelude.{Some, None, if◌then◌else◌}
 use Rattle.machine.specs.Bank.{word_of}
 use Rattle.machine.specs.Board.{Machine}
 use Rattle.chip8_lang.specs.declared.instr.Instr.{Instr}
@@ -12,7 +12,10 @@ use Rattle.chip8_lang.specs.Step.{KeyInput, stop_of, stop_of_instr, step, done_b
 use Rattle.chip8_lang.specs.Step.KeyInput.{Nothing}
 use Rattle.chip8_lang.specs.Ticks.{tick, ticks}
 use Rattle.chip8_lang.specs.Between.{Allows, WaitsWell}
+use Rattle.chip8_lang.specs.Editions.{memory_start}
+use Rattle.chip8_lang.specs.Timed.{cycles, stopped_cycles, stop_cycles}
 use Rattle.chip8_image.specs.Labels.{at_fetch}
+use Rattle.rom_law.specs.Due.{takes_by}
 use Rattle.rom_law.specs.Holding.{places, Holding}
 use Rattle.rom_law.specs.Rows.{Since, Grows, Pieces, Ends, now}
 use Rattle.rom_law.specs.Rows.Ends.{Steps}
@@ -20,6 +23,7 @@ use Rattle.rom_law.proofs.Places.{keeping}
 use Rattle.rom_law.proofs.Steps.{now_same, step_made, instr_now}
 use Rattle.rom_rows.specs.Rom.{program_of}
 use Rattle.rom_rows.specs.Table.{calm_pieces}
+use Rattle.rom_rows.proofs.Later.{ticks_timed}
 
 -- ticks leave the stop
 stop_tick : (e : Edition) (s : Lang) (i : Instr) → stop_of_instr e i (tick s) ≡ stop_of_instr e i s
@@ -57,6 +61,34 @@ no_wait Clear k n = cc
 no_wait (Draw x y m) k n = cc
 no_wait _ k n = tt
 
+-- ---- main cycles
+
+pub some_is : {a b : ℕ} → Some a ≡ Some b → a ≡ b
+some_is k = cc
+
+-- ticks leave them
+takes_ticks : (e : Edition) (i : Instr) (key : KeyInput) (n : ℕ) (s : Lang) → takes_by e i (ticks n s) key ≡ takes_by e i s key
+takes_ticks e Clear key n s = refl
+takes_ticks e i key n s = ap (λ z. takes_by e i z key) (sym (ticks_timed n s))
+
+stopped_ticks : (i : Instr) (n : ℕ) (s : Lang) → stopped_cycles i (ticks n s) ≡ stopped_cycles i s
+stopped_ticks Return n s = refl
+stopped_ticks i n s = ap (stopped_cycles i) (sym (ticks_timed n s))
+
+pub stop_cycles_ticks : (e : Edition) (n : ℕ) (s : Lang) → stop_cycles e (ticks n s) ≡ stop_cycles e s
+stop_cycles_ticks e n s =
+    ap (λ z. if is_fetchable e z then stopped_cycles (instr_at z) (ticks n s) else if nat_lt z.pc memory_start then 32 else 42)
+    (sym (ticks_timed n s)) ∙ ap (λ c. if is_fetchable e s then c else if nat_lt s.pc memory_start then 32 else 42) (stopped_ticks (instr_at s) n s)
+
+-- those of an instruction that takes no key
+prompt_takes : (e : Edition) (i : Instr) → is_prompt i ≡ true → (s : Lang) (n : ℕ) → takes_by e i s Nothing ≡ Some n → cycles e i Nothing s ≡ n
+prompt_takes e Clear k s n t = cc
+prompt_takes e (Draw x y m) k s n t = cc
+prompt_takes e (SkipDown x) k s n t = cc
+prompt_takes e (SkipUp x) k s n t = cc
+prompt_takes e (WaitKey x) k s n t = cc
+prompt_takes e i k s n t = some_is t
+
 -- The step was made: the instruction i of a state that doesn't stop has left its result in the places, and the machine is at the fetch.
 module _ (e : Edition) {k : ℕ} {h h' : Since} (g : Grows h k 0 h') (i : Instr) (is : instr_at (now h) ≡ i) (runs : stop_of e (now h) ≡ None) where
   no_stop : stop_of e h'.state ≡ None
@@ -65,13 +97,21 @@ module _ (e : Edition) {k : ℕ} {h h' : Since} (g : Grows h k 0 h') (i : Instr)
   stepped : (key : KeyInput) → done_by e i key (now h) ≡ step e key (now h')
   stepped key = ap (λ j. done_by e j key (now h)) (sym is) ∙ ap (step e key) (sym (now_same g))
 
-  -- what it took from the keypad is allowed
-  pub steps_with : {rom : List ℕ} {t : Pieces} (key : KeyInput) → Allows i h'.state h'.keys key → WaitsWell i h'.ticks 0 → (c : Machine)
+  -- its main cycles are those of the state at the last dispatch point
+  taken : (key : KeyInput) (n : ℕ) → takes_by e (instr_at h'.state) h'.state key ≡ Some n → takes_by e i (now h) key ≡ Some n
+  taken key n t =
+      takes_ticks e i key h.ticks h.state ∙ ap (λ j. takes_by e j h.state key) (sym is ∙ instr_now h)
+      ∙ ap (λ z. takes_by e (instr_at z) z key) (sym g.state) ∙ t
+
+  -- what it took from the keypad is allowed, and its main cycles have passed
+  pub steps_with : {rom : List ℕ} {t : Pieces} (key : KeyInput) → Allows i h'.state h'.keys key → WaitsWell i h'.ticks 0
+      → ((n : ℕ) → takes_by e i (now h) key ≡ Some n → h.spent + 2 * k ≡ n) → (c : Machine)
       → Holding (program_of e rom) (places c) (done_by e i key (now h)) → c.regs.p ≡ 4 → c.regs.r.r4 ≡ word_of at_fetch
       → Ends (program_of e rom) t c h'
-  steps_with {rom = rom} key allowed waits c o p r4 = Steps (step e key (now h')) (record {
+  steps_with {rom = rom} key allowed waits time c o p r4 = Steps (step e key (now h')) (record {
     runs = no_stop;
     between = step_made e h' i key no_stop (sym (instr_now h') ∙ ap instr_at (now_same g) ∙ is) allowed waits;
+    time = λ n t. g.spent ∙ time n (taken key n t);
     stands =
         record {
           keeps = keeping (program_of e rom) c (step e key (now h')) (subst (Holding (program_of e rom) (places c)) (stepped key) o);
@@ -82,22 +122,25 @@ module _ (e : Edition) {k : ℕ} {h h' : Since} (g : Grows h k 0 h') (i : Instr)
 
 -- the same, where it takes no key and doesn't wait
 pub steps : (e : Edition) {rom : List ℕ} {k : ℕ} {h h' : Since} (g : Grows h k 0 h') (i : Instr) (is : instr_at (now h) ≡ i)
-    (prompt : is_prompt i ≡ true) (runs : stop_of e (now h) ≡ None) (c : Machine)
+    (prompt : is_prompt i ≡ true) (runs : stop_of e (now h) ≡ None) (time : h.spent + 2 * k ≡ cycles e i Nothing (now h)) (c : Machine)
     → Holding (program_of e rom) (places c) (done_by e i Nothing (now h)) → c.regs.p ≡ 4 → c.regs.r.r4 ≡ word_of at_fetch
     → Ends (program_of e rom) (calm_pieces (program_of e rom)) c h'
-steps e {h' = h'} g i is prompt runs c o p r4 = steps_with e g i is runs Nothing (keyless i prompt h') (no_wait i prompt h'.ticks) c o p r4
+steps e {h = h} {h' = h'} g i is prompt runs time c o p r4 =
+    steps_with e g i is runs Nothing (keyless i prompt h') (no_wait i prompt h'.ticks) (λ n t. time ∙ prompt_takes e i prompt (now h) n t) c o p r4
 
 -- for 00E0 and DXYN, where a tick came
 module _ (e : Edition) {k : ℕ} {h h' : Since} (g : Grows h k 0 h') (tick : 1 ≤ h.ticks) (runs : stop_of e (now h) ≡ None) where
   waited : 1 ≤ h'.ticks
   waited = omega (arith, tick, g.ticks)
 
-  pub clears : {rom : List ℕ} {t : Pieces} → instr_at (now h) ≡ Clear → (c : Machine)
+  pub clears : {rom : List ℕ} {t : Pieces} → instr_at (now h) ≡ Clear → h.spent + 2 * k ≡ cycles e Clear Nothing (now h) → (c : Machine)
       → Holding (program_of e rom) (places c) (done_by e Clear Nothing (now h)) → c.regs.p ≡ 4 → c.regs.r.r4 ≡ word_of at_fetch
       → Ends (program_of e rom) t c h'
-  clears is c o p r4 = steps_with e g Clear is runs Nothing tt (waited, refl) c o p r4
+  clears is time c o p r4 = steps_with e g Clear is runs Nothing tt (waited, refl) (λ n t. time ∙ some_is t) c o p r4
 
-  pub draws : {rom : List ℕ} {t : Pieces} {x y n : ℕ} → instr_at (now h) ≡ Draw x y n → (c : Machine)
+  pub draws : {rom : List ℕ} {t : Pieces} {x y n : ℕ} → instr_at (now h) ≡ Draw x y n
+      → h.spent + 2 * k ≡ cycles e (Draw x y n) Nothing (now h) → (c : Machine)
       → Holding (program_of e rom) (places c) (done_by e (Draw x y n) Nothing (now h)) → c.regs.p ≡ 4 → c.regs.r.r4 ≡ word_of at_fetch
       → Ends (program_of e rom) t c h'
-  draws {x = x} {y = y} {n = n} is c o p r4 = steps_with e g (Draw x y n) is runs Nothing tt (waited, refl) c o p r4
+  draws {x = x} {y = y} {n = n} is time c o p r4 =
+      steps_with e g (Draw x y n) is runs Nothing tt (waited, refl) (λ m t. time ∙ some_is t) c o p r4

@@ -16,8 +16,7 @@ use Rattle.chip8_lang.specs.Events.{is_dispatch}
 use Rattle.chip8_lang.specs.Step.{stop_of}
 use Rattle.rom_law.specs.Code.{Input, moved}
 use Rattle.rom_law.specs.Program.{Program, code}
-use Rattle.rom_law.specs.Rows.{Since, Row, Outcome, now, after_main, after_tick}
-use Rattle.rom_law.specs.Rows.Row.{Inside, Alone}
+use Rattle.rom_law.specs.Rows.{Since, Row, Outcome, after_main, after_tick}
 use Rattle.rom_law.specs.Rows.Outcome.{Still as Calm, Dispatched, Halted as Failed}
 use Rattle.rom_law.specs.Runs.{carried, state_after, record_after, Moves}
 use Rattle.rom_law.specs.Runs.Moves.{Still, Arrived, Halted}
@@ -25,11 +24,7 @@ use Rattle.rom_law.proofs.Carried.{carried_disabled, carried_interrupt, carried_
 use Rattle.rom_law.proofs.Kept.{row_cycles, row_runs}
 use Rattle.rom_law.proofs.States.{holds_after, since_still}
 use Rattle.rom_rows.specs.Rom.{image, vip}
-use Rattle.rom_rows.specs.SpriteBlocks.{SpriteBlock, IsWaited}
-use Rattle.rom_rows.specs.SpriteBlocks.SpriteBlock.{Wipe, Wipe3, Wipe6, Wiped, Cleared, Line, LineLeft, LineRight, Drawn}
-use Rattle.rom_rows.specs.Table.{Head, pieces, calm_pieces, waited_pieces}
-use Rattle.rom_rows.specs.Table.Block.{OfSprite}
-use Rattle.rom_rows.proofs.Steps.{stop_ticks}
+use Rattle.rom_rows.specs.Table.{pieces, calm_pieces, waited_pieces}
 use Rattle.rom_timer.specs.Frame.{Makes}
 use Rattle.rom_timer.specs.Frame.Makes.{Runs, Waits, Accepts}
 use Rattle.rom_timer.specs.Routine.{IsTick, routine_moves, routine_cycles}
@@ -54,7 +49,7 @@ use Rattle.rom_run.proofs.Served.{served_awake, served_disabled, served_within}
 use Rattle.rom_run.proofs.States.{there_taken}
 use Rattle.rom_run.proofs.Ticks.{few_later}
 use Rattle.rom_run.proofs.Waits.{sleeps}
-use Rattle.rom_run.proofs.Woken.{row_waits, wakes, woken_apart, woken_few}
+use Rattle.rom_run.proofs.Woken.{row_goes, row_waits, wakes, woken_apart, woken_few}
 
 -- where the next move is an instruction, the processor doesn't idle
 awake_by : (d i w : Bool) → (if d then Dma else if i then Interrupt else if w then Idle else Instruction) ≡ Instruction → w ≡ false
@@ -68,25 +63,6 @@ no_interrupt k = cc
 
 no_stop : {stop : Stop} → None ≡ Some stop → ⊥
 no_stop k = cc
-
--- ---- behind the wait the state has no stop
-
-module _ (e : Edition) where
-  head_runs : (l : SpriteBlock) → IsWaited l → (c : Machine) (g : Since) → Head (vip e) (OfSprite l) c g → stop_of e (now g) ≡ None
-  head_runs (Wipe k) w c g o = rw (o.0.0.inside, o.0.0.clears.0, o.0.0.clears.1) refl
-  head_runs (Wipe3 k) w c g o = rw (o.0.0.inside, o.0.0.clears.0, o.0.0.clears.1) refl
-  head_runs (Wipe6 k) w c g o = rw (o.0.0.inside, o.0.0.clears.0, o.0.0.clears.1) refl
-  head_runs (Wiped k) w c g o = rw (o.0.0.inside, o.0.0.clears.0, o.0.0.clears.1) refl
-  head_runs Cleared w c g o = rw (o.0.0.inside, o.0.1.0, o.0.1.1) refl
-  head_runs (Line r) w c g o = rw (o.0.0.draws.inside, o.0.0.draws.digit, o.0.0.draws.readable) refl
-  head_runs (LineLeft r) w c g o = rw (o.0.0.draws.inside, o.0.0.draws.digit, o.0.0.draws.readable) refl
-  head_runs (LineRight r) w c g o = rw (o.0.0.draws.inside, o.0.0.draws.digit, o.0.0.draws.readable) refl
-  head_runs Drawn w c g o = rw (o.0.draws.inside, o.0.draws.digit, o.0.draws.readable) refl
-  head_runs _ w c g o = absurd w
-
-  row_goes : (b : Machine) (h : Since) → Row (vip e) (waited_pieces (vip e)) b h → stop_of e h.state ≡ None
-  row_goes b h (Inside l r) = ap (stop_of e) r.grows.state ∙ sym (stop_ticks e r.since.ticks r.since.state) ∙ head_runs l.0 l.1 r.start r.since r.head
-  row_goes b h (Alone l o) = absurd o
 
 module _ (e : Edition) (script : List Event) where
   abbrev x : Program
@@ -382,8 +358,8 @@ module _ (e : Edition) (script : List Event) where
         after (Still d z k) =
             let w' = woken_on (at i) (since i) (woken_row (at i) (since i) r w) w d in
             inr (main_there (at (suc i)) (on (at i) (since i)) (woken_row (at (suc i)) (on (at i) (since i)) k w') w')
-        after (Arrived d z j st k) = inl d
-        after (Halted z j stop st) =
+        after (Arrived d z j st due k) = inl d
+        after (Halted z j stop st cycle) =
             absurd (no_stop (sym (ap (stop_of e) (carried_state (image e) held (at i) (since i))
             ∙ row_goes e (at i) (since i) w.row) ∙ st.fits))
 

@@ -2,6 +2,7 @@ pub mod Image
 pub mod Proved
 pub mod Room
 pub mod Waits
+pub mod Exact
 pub mod Ticks
 pub mod Behind
 pub mod Calm

@@ -16,9 +16,10 @@ use Rattle.machine.proofs.Fits.{main-fits}
 use Rattle.chip8_lang.specs.declared.view.Edition.{Edition}
 use Rattle.chip8_lang.specs.declared.view.Stop.{Stop}
 use Rattle.chip8_lang.specs.Editions.{memory_end, screen_start}
-use Rattle.chip8_lang.specs.State.{Lang}
+use Rattle.chip8_lang.specs.State.{Lang, instr_at}
+use Rattle.chip8_lang.specs.Timed.{between_routines, later, stop_cycles}
 use Rattle.chip8_lang.specs.Ticks.{ticks}
-use Rattle.chip8_lang.specs.Between.{Between, ticks_between, keys_between}
+use Rattle.chip8_lang.specs.Between.{ticks_between, keys_between}
 use Rattle.chip8_lang.specs.Events.{is_instruction, is_at, is_dispatch, is_stop}
 use Rattle.chip8_lang.proofs.Ticks.{ticks_counted}
 use Rattle.rom_law.specs.Code.{Input, moved, is_event}
@@ -29,11 +30,11 @@ use Rattle.rom_law.proofs.Ticks.{after_tick as one_tick}
 use Rattle.rom_law.specs.Program.{Program, Keeps, code, Dispatches, Halts}
 use Rattle.rom_law.specs.Rows.{Since, Embeds, Row, Outcome, Stepped, Stopped, now, dispatched, after_main, after_tick}
 use Rattle.rom_law.specs.Rows.Outcome.{Still as Calm, Dispatched, Halted as Failed}
-use Rattle.rom_law.specs.Runs.{state_at, carried, Moves}
+use Rattle.rom_law.specs.Runs.{state_at, carried, IsDue, Moves}
 use Rattle.rom_law.proofs.Carried.{main_more, carried_main, carried_interrupt, carried_idle, carried_disabled}
 use Rattle.rom_law.proofs.Events.{at_instruction, at_other, calm_points, other_pc}
 use Rattle.rom_law.proofs.Kept.{row_starts, row_ticks, row_runs, row_cycles}
-use Rattle.rom_law.proofs.Language.{between_ticks}
+use Rattle.rom_law.proofs.Language.{counted_as, between_ticks, between_ticks_key}
 use Rattle.rom_law.proofs.Later.{dispatches_after, halts_after}
 use Rattle.rom_law.specs.Runs.Moves.{Still, Arrived, Halted}
 use Rattle.rom_law.proofs.Schedules.{dispatch_by, halt_by}
@@ -47,8 +48,8 @@ use Rattle.rom_timer.specs.Routine.{IsInterrupted, IsTick, routine_moves, routin
 use Rattle.rom_timer.proofs.Frame.{case_accepts, case_runs, case_waits, every_move, keeps_place, keeps_waiting}
 use Rattle.rom_timer.proofs.Interval.{ticks_main, ticks_wait, ticks_served, keeps_interrupted, embeds_longer, embeds_more}
 use Rattle.rom_run.proofs.Image.{run_tick}
-use Rattle.rom_run.specs.Time.{Spends, Woken, Timed, DueInTime, most_wait}
-use Rattle.rom_run.specs.Running.{Interval, Counted, Showing, Outside, Running}
+use Rattle.rom_run.specs.Time.{Spends, Woken, Timed, BehindWait, DueInTime, most_wait, since_return}
+use Rattle.rom_run.specs.Running.{IsBehind, Interval, Counted, Showing, Outside, Running}
 use Rattle.rom_run.specs.Running.Counted.{NoEvent, Renewed}
 use Rattle.rom_run.specs.Running.Due.{Arrives, Ends}
 use Rattle.rom_run.specs.Running.Outside.{AtRow, AtEvent}
@@ -58,8 +59,9 @@ use Rattle.rom_run.proofs.Proved.{proved}
 use Rattle.rom_run.proofs.Room.{row_room}
 use Rattle.rom_run.proofs.Behind.{waited_moves, waited_cycle, waited_awake, row_wakes}
 use Rattle.rom_run.proofs.Calm.{calm_moves, calm_ticks, calm_cycle, calm_idle, calm_starts, calm_move_shows, below_screen}
-use Rattle.rom_run.proofs.Woken.{row_waits, woken_apart, wakes, calm_row}
+use Rattle.rom_run.proofs.Woken.{row_goes, row_waits, woken_apart, wakes, calm_row}
 use Rattle.rom_run.proofs.Ticks.{waits_more, waits_most}
+use Rattle.rom_run.proofs.Exact.{return_main, return_idle, later_is, Prompt, due_takes, waits_apart, stops_not}
 use Rattle.rom_run.proofs.Time.{fewer, row_in_time}
 use Rattle.rom_run.proofs.Waits.{timed, sleeps, idle_cycle}
 
@@ -121,6 +123,8 @@ module _ (e : Edition) (script : List Event) where
         even = λ a. p.even;
         from = le_refl c.cycle;
         begun = i;
+        starts = p.outside;
+        behind = inl refl;
         covers =
             record { ticks = none_yet c.cycle; keys = embeds_none (keys_between script c.cycle c.cycle) };
       })
@@ -132,6 +136,28 @@ module _ (e : Edition) (script : List Event) where
   -- ---- what a state comes to that a dispatch or a stop has made
 
   module _ (c : Machine) (h : Since) (t : Interval e script c h) (p : IsMainPlace c.cycle) (soon : DueInTime e c h) (shows : place c.cycle ≡ interrupt_place → Showing e c h) where
+    back : (h.ticks ≡ 0) ⊎ IsBehind c → (h.ticks ≡ 0) ⊎ (since_return c.cycle ≤ between_routines)
+    back (inl z) = inl z
+    back (inr w) = inr w.back
+
+    -- it comes in the cycle that the main cycles tell
+    cycle_is : (place c.cycle ≡ interrupt_place → ⊥) → Spends c h 0 → c.cycle ≡ later h.from h.spent
+    cycle_is d s = later_is h.from h.spent h.ticks c.cycle t.starts t.begun d t.covers.ticks (omega (arith, s)) (back t.behind)
+
+    due : (st : Stepped x c h (state_at x c)) → (place c.cycle ≡ interrupt_place → ⊥) → IsDue x c h st.between.key
+    due st d u k = go soon.exact (due_takes e (instr_at h.state) h.from h.state st.between.key u k)
+      where
+        go : Spends c h 0 ⊎ BehindWait e h → Prompt e (instr_at h.state) h.from h.state st.between.key u → c.cycle ≡ u
+        go (inl s) p = cycle_is d s ∙ ap (later h.from) (st.time p.cycles p.takes) ∙ p.is
+        go (inr w) p = absurd (waits_apart e h.from h.state st.between.key u w.waits k)
+
+    stops : (stop : Stop) → Stopped x c h stop → (place c.cycle ≡ interrupt_place → ⊥) → c.cycle ≡ later h.from (stop_cycles e h.state)
+    stops stop st d = go soon.exact
+      where
+        go : Spends c h 0 ⊎ BehindWait e h → c.cycle ≡ later h.from (stop_cycles e h.state)
+        go (inl s) = cycle_is d s ∙ ap (later h.from) st.time
+        go (inr w) = absurd (stops_not w.runs st.fits)
+
     arrives : (s : Lang) → Stepped x c h s → Comes h c
     arrives s st = go (cases_eq (place c.cycle) interrupt_place)
       where
@@ -143,7 +169,7 @@ module _ (e : Edition) (script : List Event) where
             Still (interrupted_there c s st.stands.keeps i 4 x.interpreter.fetch) (interrupted_there c s st.stands.keeps i 3 x.interpreter.halt)
             (InMain (AtEvent t i (Arrives s st) soon (shows i)))
         go (inr d) =
-            Arrived (dispatch_there c s st.stands t.outside d).0 (dispatch_there c s st.stands t.outside d).1 t.covers here
+            Arrived (dispatch_there c s st.stands t.outside d).0 (dispatch_there c s st.stands t.outside d).1 t.covers here (due here d)
             (renewed c (state_at x c) t.fits here.stands p d)
 
     ends : (stop : Stop) → Stopped x c h stop → Comes h c
@@ -153,7 +179,7 @@ module _ (e : Edition) (script : List Event) where
         go (inl i) =
             Still (interrupted_there c (now h) st.halts.keeps i 4 x.interpreter.fetch)
             (interrupted_there c (now h) st.halts.keeps i 3 x.interpreter.halt) (InMain (AtEvent t i (Ends stop st) soon (shows i)))
-        go (inr d) = Halted (stop_there c h st.halts t.outside d) t.covers stop st
+        go (inr d) = Halted (stop_there c h st.halts t.outside d) t.covers stop st (stops stop st d)
 
   -- ---- a main move
 
@@ -234,15 +260,33 @@ module _ (e : Edition) (script : List Event) where
     unfolding c u h'
     spends n s = omega (arith, s)
 
+    exact : Timed e b h → Spends c h' 0 ⊎ BehindWait e h'
+    unfolding h'
+    exact (Before s r) = inl (spends 0 s)
+    exact (Waiting n s l idle r) = absurd (sleeps (sym idle ∙ awake))
+    exact (Behind n s l r w) = inr (record { most = w.most; waits = w.waits; runs = row_goes e b h r })
+
     soon : DueInTime e c h'
     unfolding h'
     soon =
         let s = row_in_time e script b h t row time in
-        record { waited = s.waited; spends = spends s.waited s.spends; suffices = λ bound k. fewer bound _ _ (omega arith) (s.suffices bound k) }
+        record {
+          waited = s.waited;
+          spends = spends s.waited s.spends;
+          suffices = λ bound k. fewer bound _ _ (omega arith) (s.suffices bound k);
+          exact = exact time;
+        }
 
     carried_is : carried x.interpreter.rom held b h ≡ h'
     unfolding h' u
     carried_is = counts_main b h t row i awake
+
+    behind_on : (h.ticks ≡ 0) ⊎ IsBehind b → (h'.ticks ≡ 0) ⊎ IsBehind c
+    unfolding c h'
+    behind_on (inl z) = inl z
+    behind_on (inr w) =
+        let on = return_main b.cycle (t.even awake) i w.back in
+        inr (record { back = omega (arith, on.0, on.1); moved = λ k. omega (arith, on.0) })
 
     interval : Interval e script c h'
     unfolding c u h'
@@ -253,6 +297,8 @@ module _ (e : Edition) (script : List Event) where
           even = λ a. there.even;
           from = omega (arith, t.from);
           begun = t.begun;
+          starts = t.starts;
+          behind = behind_on t.behind;
           covers =
               record {
                 ticks = t.covers.ticks ∙ sym (ticks_main h.from b.cycle (t.even awake) i);
@@ -296,6 +342,13 @@ module _ (e : Edition) (script : List Event) where
   uncounted b (Renewed a d) (inl i) = absurd (sleeps (sym i ∙ a))
   uncounted b (Renewed a d) (inr p) = absurd (d p)
 
+  idle_behind : (b : Machine) (h : Since) → Interval e script b h → (place b.cycle ≡ interrupt_place → ⊥) → b.regs.idle ≡ true
+      → (h.ticks ≡ 0) ⊎ IsBehind b → (h.ticks ≡ 0) ⊎ IsBehind (timed (b.cycle + 1) b)
+  idle_behind b h t i idle (inl z) = inl z
+  idle_behind b h t i idle (inr w) =
+      let on = return_idle b.cycle i w.back in
+      inr (record { back = omega (arith, on.0, on.1); moved = λ k. omega (arith, on.0, w.moved idle) })
+
   idle_interval : (b : Machine) (h : Since) → Interval e script b h → (place b.cycle ≡ interrupt_place → ⊥) → b.regs.idle ≡ true
       → Interval e script (timed (b.cycle + 1) b) h
   idle_interval b h t i idle =
@@ -305,6 +358,8 @@ module _ (e : Edition) (script : List Event) where
         even = λ a. absurd (sleeps (sym idle ∙ a));
         from = omega (arith, t.from);
         begun = t.begun;
+        starts = t.starts;
+        behind = idle_behind b h t i idle t.behind;
         covers =
             record {
               ticks = t.covers.ticks ∙ sym (ticks_wait h.from b.cycle i);
@@ -352,6 +407,9 @@ module _ (e : Edition) (script : List Event) where
           even = λ a. p.even;
           from = omega (arith, t.from, cycle, at);
           begun = t.begun;
+          starts = t.starts;
+          behind =
+              inr (record { back = omega (arith, at); moved = λ i. absurd (sleeps (sym i ∙ ap (λ (z : Machine). z.regs.idle) k.is)) });
           covers =
               record {
                 ticks =
@@ -388,8 +446,13 @@ module _ (e : Edition) (script : List Event) where
     tick_timed t row (Waiting n s l i r) = tick_wakes n t row s (omega (arith, l, waits_most b.cycle t.outside)) i
     tick_timed t row (Behind n s l r w) = absurd (woken_apart e b h 0 (omega arith) w (omega (arith, in_place)))
 
+    tick_exact : Spends b h 0 ⊎ BehindWait e h → Spends c (after_tick h) 0 ⊎ BehindWait e (after_tick h)
+    tick_exact (inl s) = inl (tick_spends 0 s)
+    tick_exact (inr w) = inr (record { most = w.most; waits = w.waits; runs = w.runs })
+
     tick_soon : DueInTime e b h → DueInTime e c (after_tick h)
-    tick_soon s = record { waited = s.waited; spends = tick_spends s.waited s.spends; suffices = s.suffices }
+    tick_soon s =
+        record { waited = s.waited; spends = tick_spends s.waited s.spends; suffices = s.suffices; exact = tick_exact s.exact }
 
     -- it isn't interrupted at once
     behind_it : place c.cycle ≡ interrupt_place → Showing e c (after_tick h)
@@ -404,13 +467,14 @@ module _ (e : Edition) (script : List Event) where
         arrives c (after_tick h) (tick_interval t) p (tick_soon late) behind_it (ticks 1 s) (
         record {
           runs = st.runs;
-          between = subst (λ n. Between e h.state n h.keys (ticks 1 s)) more (between_ticks 1 e h.state h.ticks h.keys s st.between);
+          between = counted_as (sym more) (between_ticks 1 e h.state h.ticks h.keys s st.between);
+          time = λ n t. st.time n (ap (x.takes h.state) (sym (between_ticks_key 1 e h.state h.ticks h.keys s st.between)) ∙ t);
           stands = dispatches_after x 1 b c (ticked st.stands.keeps.lies.awake) t.fits s st.stands;
         }
         )
     returned (AtEvent t _ (Ends stop st) late y) =
         ends c (after_tick h) (tick_interval t) p (tick_soon late) behind_it stop
-        (record { fits = st.fits; halts = halts_after x 1 b c (ticked st.halts.keeps.lies.awake) t.fits (now h) stop st.halts })
+        (record { fits = st.fits; time = st.time; halts = halts_after x 1 b c (ticked st.halts.keeps.lies.awake) t.fits (now h) stop st.halts })
 
   module _ (b : Machine) (h : Since) (m : ℕ) (o : Outside e script b h) (cycle : b.cycle ≡ interrupt_at m) where
     tick : IsTick e (image e) m b held

@@ -1,5 +1,5 @@
 -- A run from a machine that may start, and from reset, where boot comes to one: each move keeps what is known of the board, so the law of a run holds.
-use Rattle.std.proofs.Common.{◌≡◌, ℕ, suc, ◌-◌, ◌<◌, ◌≤◌, ◌⊎◌, inl, inr, refl, sym, ◌∙◌, ap, subst, subst₂, arith, true, false, List, length, slice_index}
+use Rattle.std.proofs.Common.{◌≡◌, ℕ, suc, ◌-◌, ◌<◌, ◌≤◌, ◌⊎◌, inl, inr, refl, sym, ap, subst, subst₂, arith, true, false, List, length, slice_index}
 use Rattle.std.proofs.lemmas.Bool.{cases_lt}
 use Rattle.machine.specs.Board.{Machine, move, start}
 use Rattle.machine.specs.Keys.{Event, Keys, held_at}
@@ -105,15 +105,15 @@ module _ (e : Edition) (script : List Event) (first : Machine) where
       → Moves x script RunsFrom (carried (image e) held b h) (next b)
   runs_on b h r (Still d z k) =
       Still d z (record { running = k; known = known_on e script b h r.running r.known; in_run = run_on e script first b h r.running r.in_run })
-  runs_on b h r (Arrived d z i st k) =
-      Arrived d z i st
+  runs_on b h r (Arrived d z i st due k) =
+      Arrived d z i st due
       (record {
         running = k;
         known = begins e script (next b).cycle (state_at x (next b));
         in_run =
             run_begins e script first (next b) (suc r.in_run.i) (ap next r.in_run.is) k;
       })
-  runs_on b h r (Halted z i stop st) = Halted z i stop st
+  runs_on b h r (Halted z i stop st cycle) = Halted z i stop st cycle
 
   carries : (limit : ℕ) → Carries x script limit (run_to (image e) held first limit) RunsFrom
   carries limit =

@@ -83,8 +83,8 @@ module _ (e : Edition) (script : List Event) (first : Machine) where
       from_move : Moves (vip e) script (Running e script) (carried (image e) (held_at script) (at j) (record_after (vip e) script first j)) (at (suc j))
           → MayStart e (at (suc j))
       from_move (Still d s r') = absurd (sleeps (sym dispatch ∙ d))
-      from_move (Arrived d s covers step r') = may_start e script (at (suc j)) _ _ dispatch step.stands r'
-      from_move (Halted s covers stop stopped) = absurd (sleeps (sym s ∙ u (suc j) (omega arith)))
+      from_move (Arrived d s covers step due r') = may_start e script (at (suc j)) _ _ dispatch step.stands r'
+      from_move (Halted s covers stop stopped cycle) = absurd (sleeps (sym s ∙ u (suc j) (omega arith)))
 
 -- reset is none
 not_reset : (e : Edition) (game : List ℕ) → is_dispatch (vip e).interpreter (start game) ≡ true → ⊥

@@ -1,11 +1,13 @@
 -- Behind a wait main code is done before the next interrupt: so none comes while the screen is changed.
-use Rattle.std.proofs.Common.{◌-◌, ◌≡◌, ℕ, ◌+◌, ◌*◌, ◌/◌, ◌%◌, ◌<◌, ◌≤◌, refl, sym, ◌∙◌, ap, arith, true, false}
+use Rattle.std.proofs.Common.{◌≡◌, ℕ, ◌+◌, ◌*◌, ◌/◌, ◌%◌, ◌<◌, ◌≤◌, refl, sym, ◌∙◌, ap, arith, true, false}
+use Rattle.std.specs.Prelude.{None}
 use Rattle.machine.specs.Board.{Machine}
 use Rattle.machine.specs.Pictures.{interrupt_at, place, interrupt_place}
 use Rattle.chip8_lang.specs.declared.instr.Instr.{Instr}
 use Rattle.chip8_lang.specs.declared.instr.Instr.TheVariants.{Clear as IsClear, Draw as IsDraw}
 use Rattle.chip8_lang.specs.declared.view.Edition.{Edition}
 use Rattle.chip8_lang.specs.State.{Lang, instr_at}
+use Rattle.chip8_lang.specs.Step.{stop_of}
 use Rattle.chip8_lang.specs.Timed.{before_wait}
 use Rattle.rom_law.specs.Code.{is_event}
 use Rattle.rom_law.specs.Program.{code}
@@ -25,6 +27,7 @@ use Rattle.rom_rows.specs.Table.{Head, pieces, waited_pieces}
 use Rattle.rom_rows.specs.Table.Block.{OfSprite}
 use Rattle.rom_rows.specs.Table.Place.{AtTimer, AtKey, AtSprite}
 use Rattle.rom_rows.proofs.Later.{before_ticks}
+use Rattle.rom_rows.proofs.Steps.{stop_ticks}
 use Rattle.rom_sprite.proofs.Screen.{few_rows}
 use Rattle.rom_timer.specs.Routine.{routine_cycles}
 use Rattle.rom_run.specs.Time.{WaitsBy, Woken, wait_time, most_changing}
@@ -112,6 +115,23 @@ module _ (e : Edition) where
 
   pub woken_few : (b : Machine) (h : Since) → Woken e b h → h.spent ≤ wait_time e h.state + most_changing
   woken_few b h w = row_few b h w.row
+
+  -- and that the state doesn't stop
+  head_goes : (l : SpriteBlock) → IsWaited l → (c : Machine) (g : Since) → Head (vip e) (OfSprite l) c g → stop_of e (now g) ≡ None
+  head_goes (Wipe k) w c g o = rw (o.0.0.inside, o.0.0.clears.0, o.0.0.clears.1) refl
+  head_goes (Wipe3 k) w c g o = rw (o.0.0.inside, o.0.0.clears.0, o.0.0.clears.1) refl
+  head_goes (Wipe6 k) w c g o = rw (o.0.0.inside, o.0.0.clears.0, o.0.0.clears.1) refl
+  head_goes (Wiped k) w c g o = rw (o.0.0.inside, o.0.0.clears.0, o.0.0.clears.1) refl
+  head_goes Cleared w c g o = rw (o.0.0.inside, o.0.1.0, o.0.1.1) refl
+  head_goes (Line r) w c g o = rw (o.0.0.draws.inside, o.0.0.draws.digit, o.0.0.draws.readable) refl
+  head_goes (LineLeft r) w c g o = rw (o.0.0.draws.inside, o.0.0.draws.digit, o.0.0.draws.readable) refl
+  head_goes (LineRight r) w c g o = rw (o.0.0.draws.inside, o.0.0.draws.digit, o.0.0.draws.readable) refl
+  head_goes Drawn w c g o = rw (o.0.draws.inside, o.0.draws.digit, o.0.draws.readable) refl
+  head_goes _ w c g o = absurd w
+
+  pub row_goes : (b : Machine) (h : Since) → Row (vip e) (waited_pieces (vip e)) b h → stop_of e h.state ≡ None
+  row_goes b h (Inside l r) = ap (stop_of e) r.grows.state ∙ sym (stop_ticks e r.since.ticks r.since.state) ∙ head_goes l.0 l.1 r.start r.since r.head
+  row_goes b h (Alone l o) = absurd o
 
   -- so it isn't interrupted there, nor after a main move more
   pub woken_apart : (b : Machine) (h : Since) (n : ℕ) → n ≤ 2 → Woken e b h → place (b.cycle + n) ≡ interrupt_place → ⊥

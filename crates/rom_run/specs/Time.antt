@@ -1,11 +1,12 @@
 -- The time since the last dispatch point: the cycles of main code, of the interrupt routine and of the wait for the display.
-use Rattle.std.specs.Prelude.{◌≡◌, ℕ, ◌+◌, ◌-◌, ◌*◌, ◌%◌, ◌≤◌, true, Some}
+use Rattle.std.specs.Prelude.{◌≡◌, ℕ, ◌+◌, ◌-◌, ◌*◌, ◌%◌, ◌≤◌, ◌⊎◌, true, Some, None}
 use Rattle.machine.specs.Board.{Machine}
 use Rattle.machine.specs.Pictures.{frame, place, interrupt_place, window_place}
 use Rattle.chip8_lang.specs.declared.instr.Instr.TheVariants.{Clear, Draw}
 use Rattle.chip8_lang.specs.declared.view.Edition.{Edition}
 use Rattle.chip8_lang.specs.State.{Lang, instr_at}
 use Rattle.chip8_lang.specs.Bounds.{bound_of}
+use Rattle.chip8_lang.specs.Step.{stop_of}
 use Rattle.chip8_lang.specs.Timed.{before_wait}
 use Rattle.rom_law.specs.Rows.{Since, Row}
 use Rattle.rom_rows.specs.Rom.{vip}
@@ -62,8 +63,16 @@ pub record Suffices (bound m : ℕ) : Type 0 where
   pub few : m + most_wait ≤ (frame - routine_cycles) * (interrupts + 1)
   pub all : m + routine_cycles * interrupts ≤ bound
 
--- an event in the cycle of an interrupt comes within the bound of its instruction
+-- main code has waited: at 00E0 or DXYN, of a state that doesn't stop
+pub record BehindWait (e : Edition) (h : Since) : Type 0 where
+  pub most : ℕ
+  pub waits : WaitsBy h.state most
+  pub runs : stop_of e h.state ≡ None
+
+-- An event in the cycle of an interrupt comes within the bound of its instruction; the cycles up to it are those of main code and of the routine,
+-- or main code has waited.
 pub record DueInTime (e : Edition) (b : Machine) (h : Since) : Type 0 where
   pub waited : ℕ
   pub spends : Spends b h waited
   pub suffices : (bound : ℕ) → bound_of e h.state ≡ Some bound → Suffices bound (h.spent + waited)
+  pub exact : Spends b h 0 ⊎ BehindWait e h

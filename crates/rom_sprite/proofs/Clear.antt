@@ -262,9 +262,11 @@ module _ (e : Edition) (b : Machine) (h : Since) (f : FitsMachine b) where
       (record { holds = empties o (past_screen o n); inside = o.inside; p = refl; r3 = refl; r4 = refl }, o.clears)
       (omega (arith, spent, g.spent, past_screen o n), omega (arith, tick, g.ticks)))
 
-  pub cleared_comes : Done (quick e) at_cleared b (now h) → Clears (now h) → 1 ≤ h.ticks → Comes (quick e) (waited_pieces (quick e)) (Cleared, tt) b h
-  cleared_comes o is tick = straight_on Cleared tt o.holds (on_3 at_cleared b) (is_on_3 at_cleared b o.p o.r3) _ (omega arith) refl
-      (λ h' g. clears e g tick runs (clear_is is) _ (subst (λ j. Holding (quick e) (places b) (done_by e j Nothing (now h))) (clear_is is) o.holds) refl o.r4)
+  pub cleared_comes : Done (quick e) at_cleared b (now h) → Clears (now h) → h.spent ≡ 102 + 24 * rows_of e → 1 ≤ h.ticks
+      → Comes (quick e) (waited_pieces (quick e)) (Cleared, tt) b h
+  cleared_comes o is spent tick = straight_on Cleared tt o.holds (on_3 at_cleared b) (is_on_3 at_cleared b o.p o.r3) _ (omega arith) refl
+      (λ h' g. clears e g tick runs (clear_is is) (omega (arith, spent)) _
+      (subst (λ j. Holding (quick e) (places b) (done_by e j Nothing (now h))) (clear_is is) o.holds) refl o.r4)
     where
       runs : stop_of e (now h) ≡ None
       runs = rw (o.inside, is.0, is.1) refl

@@ -52,11 +52,11 @@ sprite_waited e (Wipe k) w b h f o = wipe_comes e b h f k o.0.0 o.0.1 o.1.0 o.1.
 sprite_waited e (Wipe3 k) w b h f o = wipe3_comes e b h f k o.0.0 o.0.1 o.0.2 o.1.0 o.1.1
 sprite_waited e (Wipe6 k) w b h f o = wipe6_comes e b h f k o.0.0 o.0.1 o.0.2 o.1.0 o.1.1
 sprite_waited e (Wiped k) w b h f o = wiped_comes e b h f k o.0.0 o.0.1 o.1.0 o.1.1
-sprite_waited e Cleared w b h f o = cleared_comes e b h f o.0.0 o.0.1 o.1.1
+sprite_waited e Cleared w b h f o = cleared_comes e b h f o.0.0 o.0.1 o.1.0 o.1.1
 sprite_waited e (Line r) w b h f o = line_comes e b h f r o.0.0 o.0.1 o.1.0 o.1.1
 sprite_waited e (LineLeft r) w b h f o = line_left_comes e b h f r o.0.1 o.0.0 o.1.0 o.1.1
 sprite_waited e (LineRight r) w b h f o = line_right_comes e b h f r o.0.1 o.0.0 o.1.0 o.1.1
-sprite_waited e Drawn w b h f o = drawn_comes e b h f o.0 o.1.1
+sprite_waited e Drawn w b h f o = drawn_comes e b h f o.0 o.1.0 o.1.1
 sprite_waited e _ w b h f o = absurd w
 
 -- before it and behind it
@@ -67,7 +67,7 @@ sprite_any e (Wipe k) b h f o = comes_joined (wipe_comes e b h f k o.0.0 o.0.1 o
 sprite_any e (Wipe3 k) b h f o = comes_joined (wipe3_comes e b h f k o.0.0 o.0.1 o.0.2 o.1.0 o.1.1)
 sprite_any e (Wipe6 k) b h f o = comes_joined (wipe6_comes e b h f k o.0.0 o.0.1 o.0.2 o.1.0 o.1.1)
 sprite_any e (Wiped k) b h f o = comes_joined (wiped_comes e b h f k o.0.0 o.0.1 o.1.0 o.1.1)
-sprite_any e Cleared b h f o = comes_joined (cleared_comes e b h f o.0.0 o.0.1 o.1.1)
+sprite_any e Cleared b h f o = comes_joined (cleared_comes e b h f o.0.0 o.0.1 o.1.0 o.1.1)
 sprite_any e Draw b h f o = comes_calm (sprite_block e Draw tt b h f o)
 sprite_any e DrawCheck b h f o = comes_calm (sprite_block e DrawCheck tt b h f o)
 sprite_any e (DrawFound answer) b h f o = comes_calm (sprite_block e (DrawFound answer) tt b h f o)
@@ -86,7 +86,7 @@ sprite_any e Ready b h f o = comes_calm (sprite_block e Ready tt b h f o)
 sprite_any e (Line r) b h f o = comes_joined (line_comes e b h f r o.0.0 o.0.1 o.1.0 o.1.1)
 sprite_any e (LineLeft r) b h f o = comes_joined (line_left_comes e b h f r o.0.1 o.0.0 o.1.0 o.1.1)
 sprite_any e (LineRight r) b h f o = comes_joined (line_right_comes e b h f r o.0.1 o.0.0 o.1.0 o.1.1)
-sprite_any e Drawn b h f o = comes_joined (drawn_comes e b h f o.0 o.1.1)
+sprite_any e Drawn b h f o = comes_joined (drawn_comes e b h f o.0 o.1.0 o.1.1)
 
 pub sprite_rows : SpriteRows sprite_rom
 sprite_rows e l = block_rows_in e (both_is e) (both_fits e) (OfSprite l) (sprite_any e l)

@@ -387,12 +387,12 @@ module _ (e : Edition) (b : Machine) (h : Since) (f : FitsMachine b) where
   abbrev drawn_by : Pixels → Lang
   drawn_by d = record (next (now h)) { screen = difference (now h).screen d; v = slice_set (now h).v 15 (flag (meets (rows_of e) (now h).screen d)) }
 
-  pub drawn_comes : Painting (quick e) at_drawn (2 * rows) (8 * rows) 0 (lit e rows (now h)) b (now h) → 1 ≤ h.ticks
-      → Comes (quick e) (waited_pieces (quick e)) (Drawn, tt) b h
-  drawn_comes o tick =
+  pub drawn_comes : Painting (quick e) at_drawn (2 * rows) (8 * rows) 0 (lit e rows (now h)) b (now h)
+      → h.spent ≡ draw_time e (now h) + 58 * rows + 4 → 1 ≤ h.ticks → Comes (quick e) (waited_pieces (quick e)) (Drawn, tt) b h
+  drawn_comes o spent tick =
       straight_on Drawn tt o.holds (painting e at_drawn (2 * rows) b) (is_painting o) (quicks (code (quick e)) 10 (painting e at_drawn (2 * rows) b))
       (omega (arith, o.holds.stack, stack_top_is e, page_low e)) refl
-      (λ h' g. draws e g tick runs instr _ puts refl refl)
+      (λ h' g. draws e g tick runs instr (omega (arith, spent)) _ puts refl refl)
     where
       instr : instr_at (now h) ≡ IsDraw (high_byte (now h) % 16) (low_byte (now h) / 16) (low_byte (now h) % 16)
       instr = rw o.draws.digit refl

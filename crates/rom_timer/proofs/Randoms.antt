@@ -128,9 +128,9 @@ module _ (e : Edition) (b : Machine) (h : Since) (f : FitsMachine b) where
   abbrev put : Places
   put = record (places b) { ram = written b.latch stored (value (word (page_of e) (240 + high % 16))) byte }
 
-  pub random_mix_comes : Enters (quick e) at_random_mix 12 b (now h) → Mixes b → b.regs.d ≡ (now h).n % 256
+  pub random_mix_comes : Enters (quick e) at_random_mix 12 b (now h) → Mixes b → b.regs.d ≡ (now h).n % 256 → h.spent ≡ 92
       → Comes (quick e) (calm_pieces (quick e)) (OfTimer RandomMix) b h
-  random_mix_comes o m d = record {
+  random_mix_comes o m d spent = record {
     runs = ready o.entered.holds;
     awake = o.entered.holds.awake;
     some = omega arith;
@@ -139,7 +139,7 @@ module _ (e : Edition) (b : Machine) (h : Since) (f : FitsMachine b) where
         reaches_from (code (quick e)) (calm_top e) 11 b _ _ (is_mixing o.entered m)
         (reaches_in (code (quick e)) (calm_top e) 11 _ _
         (omega (arith, o.entered.holds.stack, stack_top_is e, memory_end_is e, page_fits e, page_low e)) refl);
-    ends = λ h' g. steps e g (RandomByte (high % 16) low) (random_is o) refl (random_runs o) _ puts refl refl;
+    ends = λ h' g. steps e g (RandomByte (high % 16) low) (random_is o) refl (random_runs o) (omega (arith, spent)) _ puts refl refl;
   }
     where
       puts : Holding (quick e) put (record (next (now h)) { v = slice_set (now h).v (high % 16) (bit_and (random (now h)) low); b = random (now h) })

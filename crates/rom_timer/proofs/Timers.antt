@@ -66,11 +66,11 @@ module _ (e : Edition) (b : Machine) (h : Since) (f : FitsMachine b) where
   abbrev put : ℕ → Places
   put v = record (places b) { ram = written b.latch b.ram (value (word (page_of e) (240 + high % 16))) v }
 
-  pub get_delay_put_comes : Enters (quick e) at_get_delay_put 15 b (now h) → low ≡ 0x07 → b.regs.d ≡ (now h).dt
+  pub get_delay_put_comes : Enters (quick e) at_get_delay_put 15 b (now h) → low ≡ 0x07 → b.regs.d ≡ (now h).dt → h.spent ≡ 88
       → Comes (quick e) (calm_pieces (quick e)) (OfTimer GetDelayPut) b h
-  get_delay_put_comes o kk d =
+  get_delay_put_comes o kk d spent =
       routine (OfTimer GetDelayPut) o.entered _ (omega arith) refl
-      (λ h' g. steps e g (GetTimer (high % 16)) (get_is o kk) refl (get_runs o kk) _ puts refl refl)
+      (λ h' g. steps e g (GetTimer (high % 16)) (get_is o kk) refl (get_runs o kk) (omega (arith, spent)) _ puts refl refl)
     where
       puts : Holding (quick e) (put b.regs.d) (record (next (now h)) { v = slice_set (now h).v (high % 16) (now h).dt })
       puts =
@@ -110,8 +110,9 @@ module _ (e : Edition) (b : Machine) (h : Since) (f : FitsMachine b) where
           subst (Holding (quick e) (record (places b) { r8 = word b.regs.d b.regs.r.r8.lo })) same
           (timers_set o.entered.holds (word b.regs.d b.regs.r.r8.lo))
 
-  pub set_delay_end_comes : Ended (quick e) at_set_delay_end 0x15 b (now h) → Comes (quick e) (calm_pieces (quick e)) (OfTimer SetDelayEnd) b h
-  set_delay_end_comes o = record {
+  pub set_delay_end_comes : Ended (quick e) at_set_delay_end 0x15 b (now h) → h.spent ≡ 102
+      → Comes (quick e) (calm_pieces (quick e)) (OfTimer SetDelayEnd) b h
+  set_delay_end_comes o spent = record {
     runs = ready o.done.holds;
     awake = o.done.holds.awake;
     some = omega arith;
@@ -120,7 +121,7 @@ module _ (e : Edition) (b : Machine) (h : Since) (f : FitsMachine b) where
         reaches_from (code (quick e)) (calm_top e) 1 b _ _ (is_on_3 at_set_delay_end b o.done.p o.done.r3)
         (reaches_in (code (quick e)) (calm_top e) 1 _ _ (omega arith) refl);
     ends =
-        λ h' g. steps e g (SetTimer (high % 16)) (delay_is o.digit o.low) refl (delay_runs o.done.inside o.digit o.low) _
+        λ h' g. steps e g (SetTimer (high % 16)) (delay_is o.digit o.low) refl (delay_runs o.done.inside o.digit o.low) (omega (arith, spent)) _
         (subst (λ j. Holding (quick e) (places b) (done_by e j Nothing (now h))) (delay_is o.digit o.low) o.done.holds) refl o.done.r4;
   }
 
@@ -157,8 +158,9 @@ module _ (e : Edition) (b : Machine) (h : Since) (f : FitsMachine b) where
           subst (Holding (quick e) (record (places b) { r8 = word b.regs.r.r8.hi b.regs.d })) same
           (timers_set o.entered.holds (word b.regs.r.r8.hi b.regs.d))
 
-  pub set_sound_end_comes : Ended (quick e) at_set_sound_end 0x18 b (now h) → Comes (quick e) (calm_pieces (quick e)) (OfTimer SetSoundEnd) b h
-  set_sound_end_comes o = record {
+  pub set_sound_end_comes : Ended (quick e) at_set_sound_end 0x18 b (now h) → h.spent ≡ 108
+      → Comes (quick e) (calm_pieces (quick e)) (OfTimer SetSoundEnd) b h
+  set_sound_end_comes o spent = record {
     runs = ready o.done.holds;
     awake = o.done.holds.awake;
     some = omega arith;
@@ -167,6 +169,6 @@ module _ (e : Edition) (b : Machine) (h : Since) (f : FitsMachine b) where
         reaches_from (code (quick e)) (calm_top e) 1 b _ _ (is_on_3 at_set_sound_end b o.done.p o.done.r3)
         (reaches_in (code (quick e)) (calm_top e) 1 _ _ (omega arith) refl);
     ends =
-        λ h' g. steps e g (SetTone (high % 16)) (sound_is o.digit o.low) refl (sound_runs o.done.inside o.digit o.low) _
+        λ h' g. steps e g (SetTone (high % 16)) (sound_is o.digit o.low) refl (sound_runs o.done.inside o.digit o.low) (omega (arith, spent)) _
         (subst (λ j. Holding (quick e) (places b) (done_by e j Nothing (now h))) (sound_is o.digit o.low) o.done.holds) refl o.done.r4;
   }
