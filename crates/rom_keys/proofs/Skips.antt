@@ -35,7 +35,7 @@ use Rattle.rom_rows.proofs.Bytes.{page_fits, memory_end_is, stack_top_is, variab
 use Rattle.rom_rows.proofs.Entry.{entered, is_entered, on_3, is_on_3, is_inside}
 use Rattle.rom_rows.proofs.Follows.{to_arith, to_key, to_key_place}
 use Rattle.rom_rows.proofs.Later.{ticks_variable}
-use Rattle.rom_rows.proofs.Steps.{some_is, steps_with}
+use Rattle.rom_rows.proofs.Steps.{some_is, makes_calm, steps_with}
 use Rattle.rom_rows.proofs.Ways.{straight}
 use Rattle.rom_keys.proofs.Rom.{both, quick}
 use Rattle.rom_keys.proofs.Sets.{some_grown, some_last, last_set}
@@ -197,11 +197,11 @@ module _ (e : Edition) (b : Machine) (h : Since) (f : FitsMachine b) where
       → Comes (quick e) (calm_pieces (quick e)) (OfKey (NoSkip down)) b h
   no_skip_comes true o s spent = straight (OfKey (NoSkip true)) o.holds (on_3 (no_skip_label true) b) (is_on_3 (no_skip_label true) b o.p o.r3) _ (omega arith) refl
       (λ h' g. steps_with e g (skip_of true) (skip_is true o) (skip_runs true o) (Held false) (allowed false g s) tt
-      (λ n t. omega (arith, spent, some_is t)) _ o.holds refl o.r4)
+      (λ n t. omega (arith, spent, some_is t)) (makes_calm g (skip_is true o) refl) _ o.holds refl o.r4)
   no_skip_comes false o s spent =
       straight (OfKey (NoSkip false)) o.holds (on_3 (no_skip_label false) b) (is_on_3 (no_skip_label false) b o.p o.r3) _ (omega arith) refl
       (λ h' g. steps_with e g (skip_of false) (skip_is false o) (skip_runs false o) (Held true) (allowed true g s) tt
-      (λ n t. omega (arith, spent, some_is t)) _ o.holds refl o.r4)
+      (λ n t. omega (arith, spent, some_is t)) (makes_calm g (skip_is false o) refl) _ o.holds refl o.r4)
 
   two_on : {down : Bool} {a : ℕ} → Skipping (quick e) down a b (now h) → value (up (up b.regs.r.r5)) ≡ (now h).pc + 4
   two_on o = omega (arith, pc_is o.holds, is_inside e (now h) o.inside, memory_end_is e, page_fits e, f.regs.r.r5.hi, f.regs.r.r5.lo)
@@ -209,8 +209,10 @@ module _ (e : Edition) (b : Machine) (h : Since) (f : FitsMachine b) where
   pub skip_comes : (down : Bool) → Skipping (quick e) down at_key_yes b (now h) → SomeTime h.keys (skip_key (now h)) down → h.spent ≡ skip_time down + 4
       → Comes (quick e) (calm_pieces (quick e)) (OfKey (Skip down)) b h
   skip_comes true o s spent = straight (OfKey (Skip true)) o.holds (on_3 at_key_yes b) (is_on_3 at_key_yes b o.p o.r3) _ (omega arith) refl
-      (λ h' g. steps_with e g (skip_of true) (skip_is true o) (skip_runs true o) (Held true) (allowed true g s) tt (λ n t. omega (arith, spent, some_is t)) _
+      (λ h' g. steps_with e g (skip_of true) (skip_is true o) (skip_runs true o) (Held true) (allowed true g s) tt (λ n t. omega (arith, spent, some_is t))
+      (makes_calm g (skip_is true o) refl) _
       (pc_set o.holds (up (up b.regs.r.r5)) ((now h).pc + 4) (two_on o)) refl o.r4)
   skip_comes false o s spent = straight (OfKey (Skip false)) o.holds (on_3 at_key_yes b) (is_on_3 at_key_yes b o.p o.r3) _ (omega arith) refl
-      (λ h' g. steps_with e g (skip_of false) (skip_is false o) (skip_runs false o) (Held false) (allowed false g s) tt (λ n t. omega (arith, spent, some_is t)) _
+      (λ h' g. steps_with e g (skip_of false) (skip_is false o) (skip_runs false o) (Held false) (allowed false g s) tt (λ n t. omega (arith, spent, some_is t))
+      (makes_calm g (skip_is false o) refl) _
       (pc_set o.holds (up (up b.regs.r.r5)) ((now h).pc + 4) (two_on o)) refl o.r4)

@@ -33,7 +33,7 @@ use Rattle.rom_rows.proofs.Bytes.{page_fits, stack_top_is, variables_is}
 use Rattle.rom_rows.proofs.Entry.{entered, is_entered}
 use Rattle.rom_rows.proofs.Follows.{to_key, to_key_place}
 use Rattle.rom_rows.proofs.Straight.{routine}
-use Rattle.rom_rows.proofs.Steps.{steps_with}
+use Rattle.rom_rows.proofs.Steps.{makes_calm, steps_with}
 use Rattle.rom_rows.proofs.Ways.{straight}
 use Rattle.rom_keys.proofs.Rom.{both, quick}
 use Rattle.rom_keys.proofs.Sets.{at_grown, let_go, let_go_grown, length_grown, turned_grown, last_set, length_more, is_at_more}
@@ -237,7 +237,7 @@ module _ (e : Edition) (b : Machine) (h : Since) (f : FitsMachine b) where
       → Comes (quick e) (calm_pieces (quick e)) (OfKey KeyFreed) b h
   key_freed_comes o freed = routine (OfKey KeyFreed) o.enters.entered _ (omega (arith, o.enters.entered.holds.stack, stack_top_is e, page_fits e)) refl
       (λ h' g. steps_with e g (IsWaitKey (high % 16)) is runs (Chosen (b.regs.r.re.lo % 16)) (let_go_grown g (let_go freed (omega arith)))
-      tt (λ n t. cc) _ puts refl refl)
+      tt (λ n t. cc) (makes_calm g is refl) _ puts refl refl)
     where
       is : instr_at (now h) ≡ IsWaitKey (high % 16)
       is = rw (o.enters.digit, o.low) refl

@@ -203,7 +203,7 @@ module _ (x : Program) (t : Pieces) (sound : Sound x t) where
   ended : (c b : Machine) (h : Since) (k n : ℕ) (h' : Since) → Grows h k n h' → FitsMachine c → c.regs.idle ≡ false → After (code x).low n c b
       → Ends x t c (unticked h h') → Outcome x t b h'
   ended c b h k n h' g f i a (Continues calm s) = Still (ap (is_event (code x)) a.is ∙ calm) (starts_later c b h k n h' g f i a s)
-  ended c b h k n h' g f i a (Steps s st) =
+  ended c b h k n h' g f i a (Steps s st makes) =
       Dispatched (ticks n s)
       (record {
         runs = st.runs;
@@ -212,6 +212,7 @@ module _ (x : Program) (t : Pieces) (sound : Sound x t) where
             λ k t. st.time k (ap (x.takes h'.state) (sym (between_ticks_key n x.edition h'.state h.ticks h'.keys s st.between)) ∙ t);
         stands = dispatches_after x n c b a f s st.stands;
       })
+      makes
   ended c b h k n h' g f i a (Fails stop st) =
       Halted stop
       (record {
@@ -398,7 +399,7 @@ module _ (x : Program) (t : Pieces) (sound : Sound x t) where
   -- what a place comes to, at once
   place_ended : (b : Machine) (h : Since) → FitsMachine b → Ends x t b h → Outcome x t b h
   place_ended b h f (Continues calm s) = Still calm (starts_row b h f s)
-  place_ended b h f (Steps s st) = Dispatched s st
+  place_ended b h f (Steps s st makes) = Dispatched s st makes
   place_ended b h f (Fails stop st) = Halted stop st
 
   pub place_moves : (l : t.Place) (b : Machine) (h : Since) → FitsMachine b → Holds x t l b h → b.regs.idle ≡ false → (u : Input)

@@ -83,7 +83,7 @@ module _ (x : Program) (t : Pieces) (proved : Proved x t) (b : Machine) (s : Lan
         row = row;
         range = main-fits x.interpreter.rom proved.rom u.efx u.held c k.range;
       }
-  known_main n sets c u k e (Arrived z st) = differ (dispatch_event x (moved (code x) u c) z st.stands) e
+  known_main n sets c u k e (Arrived z st makes) = differ (dispatch_event x (moved (code x) u c) z st.stands) e
   known_main n sets c u k e (Halted stop st) = differ (halt_event x (moved (code x) u c) (now (after_main u k.since)) stop st.halts) e
 
   known : (n : ℕ) (sets : List Keys) (c : Machine) → Leads x b n sets c → Known n sets c
@@ -117,7 +117,7 @@ module _ (x : Program) (t : Pieces) (proved : Proved x t) (b : Machine) (s : Lan
 
     follows : FitsMachine d → Ticked x d m e → is_event (code x) d ≡ true → Outcome x t d (after_main u k.since) → Follows x s (n + m) (sets ++ u.held ∷ []) e
     follows f l v (Still calm row) = differ v calm
-    follows f l v (Arrived z st) =
+    follows f l v (Arrived z st makes) =
         Dispatched (ticks m z) (subst (λ y. x.stop_of y ≡ None) k.state st.runs)
         (subst (λ y. Between x.edition y (n + m) (sets ++ u.held ∷ []) (ticks m z)) k.state
         (subst (λ i. Between x.edition k.since.state (i + m) (sets ++ u.held ∷ []) (ticks m z)) k.ticks

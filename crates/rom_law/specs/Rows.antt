@@ -63,7 +63,8 @@ pub record Ready (x : Program) (b : Machine) : Type 0 where
 
 -- The pieces of a ROM's main code. A block is straight code that ticks may pass: `Head` says what is known at its first instruction, and
 -- `moves` how many instructions it has. A place is one instruction that uses the timers, the tone, the count of ticks or a flag, or a
--- wait: `At` says what is known there, ticks included. `top`, where it is given, is an address below which the blocks write.
+-- wait: `At` says what is known there, ticks included. `top`, where it is given, is an address below which the blocks write; and `Makes` says
+-- which states' steps the pieces make.
 pub record Pieces : Type 1 where
   pub Block : Type 0
   pub Head : Block → Machine → Since → Type 0
@@ -71,6 +72,7 @@ pub record Pieces : Type 1 where
   pub top : Option ℕ
   pub Place : Type 0
   pub At : Place → Machine → Since → Type 0
+  pub Makes : Lang → Type 0
 
 -- The row of a block: the machine is, after n ticks, what k main moves made of a machine at the head of the block.
 pub record InBlock (x : Program) (t : Pieces) (l : t.Block) (b : Machine) (h : Since) : Type 0 where
@@ -110,11 +112,11 @@ pub record Stopped (x : Program) (b : Machine) (h : Since) (stop : Stop) : Type 
 -- what a piece comes to: a next piece with no event, a dispatch or a stop
 pub data Ends (x : Program) (t : Pieces) (b : Machine) (h : Since) : Type 0 where
   Continues : is_event (code x) b ≡ false → Starts t b h → Ends x t b h
-  Steps : (s : Lang) → Stepped x b h s → Ends x t b h
+  Steps : (s : Lang) → Stepped x b h s → t.Makes h.state → Ends x t b h
   Fails : (stop : Stop) → Stopped x b h stop → Ends x t b h
 
 -- what a main move comes to: no event and a row, a dispatch or a stop
 pub data Outcome (x : Program) (t : Pieces) (b : Machine) (h : Since) : Type 0 where
   Still : is_event (code x) b ≡ false → Row x t b h → Outcome x t b h
-  Dispatched : (s : Lang) → Stepped x b h s → Outcome x t b h
+  Dispatched : (s : Lang) → Stepped x b h s → t.Makes h.state → Outcome x t b h
   Halted : (stop : Stop) → Stopped x b h stop → Outcome x t b h

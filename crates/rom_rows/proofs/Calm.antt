@@ -20,7 +20,7 @@ module _ (x : Program) (b : Machine) (h : Since) where
 
   ends_calm : Ends x (calm_pieces x) b h → Ends x (pieces x) b h
   ends_calm (Continues calm s) = Continues calm (starts_calm s)
-  ends_calm (Steps s st) = Steps s st
+  ends_calm (Steps s st makes) = Steps s st tt
   ends_calm (Fails stop st) = Fails stop st
 
   pub row_calm : Row x (calm_pieces x) b h → Row x (pieces x) b h

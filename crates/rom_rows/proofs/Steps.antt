@@ -15,14 +15,14 @@ use Rattle.chip8_lang.specs.Between.{Allows, WaitsWell}
 use Rattle.chip8_lang.specs.Editions.{memory_start}
 use Rattle.chip8_lang.specs.Timed.{cycles, stopped_cycles, stop_cycles}
 use Rattle.chip8_image.specs.Labels.{at_fetch}
-use Rattle.rom_law.specs.Due.{takes_by}
+use Rattle.rom_law.specs.Due.{takes_by, is_waiting}
 use Rattle.rom_law.specs.Holding.{places, Holding}
 use Rattle.rom_law.specs.Rows.{Since, Grows, Pieces, Ends, now}
 use Rattle.rom_law.specs.Rows.Ends.{Steps}
 use Rattle.rom_law.proofs.Places.{keeping}
 use Rattle.rom_law.proofs.Steps.{now_same, step_made, instr_now}
 use Rattle.rom_rows.specs.Rom.{program_of}
-use Rattle.rom_rows.specs.Table.{calm_pieces}
+use Rattle.rom_rows.specs.Table.{calm_pieces, waited_pieces}
 use Rattle.rom_rows.proofs.Later.{ticks_timed}
 
 -- ticks leave the stop
@@ -60,6 +60,21 @@ no_wait : (i : Instr) → is_prompt i ≡ true → (n : ℕ) → WaitsWell i n 0
 no_wait Clear k n = cc
 no_wait (Draw x y m) k n = cc
 no_wait _ k n = tt
+
+-- ---- the steps of the calm pieces
+
+prompt_goes : (i : Instr) → is_prompt i ≡ true → is_waiting i ≡ false
+prompt_goes Clear k = cc
+prompt_goes (Draw x y m) k = cc
+prompt_goes (SkipDown x) k = cc
+prompt_goes (SkipUp x) k = cc
+prompt_goes (WaitKey x) k = cc
+prompt_goes i k = refl
+
+-- the instruction is that of the last dispatch point
+pub makes_calm : {h h' : Since} {k : ℕ} → Grows h k 0 h' → {i : Instr} → instr_at (now h) ≡ i → is_waiting i ≡ false
+    → is_waiting (instr_at h'.state) ≡ false
+makes_calm {h = h} g is calm = ap (λ s. is_waiting (instr_at s)) g.state ∙ ap is_waiting (sym (instr_now h) ∙ is) ∙ calm
 
 -- ---- main cycles
 
@@ -105,10 +120,10 @@ module _ (e : Edition) {k : ℕ} {h h' : Since} (g : Grows h k 0 h') (i : Instr)
 
   -- what it took from the keypad is allowed, and its main cycles have passed
   pub steps_with : {rom : List ℕ} {t : Pieces} (key : KeyInput) → Allows i h'.state h'.keys key → WaitsWell i h'.ticks 0
-      → ((n : ℕ) → takes_by e i (now h) key ≡ Some n → h.spent + 2 * k ≡ n) → (c : Machine)
+      → ((n : ℕ) → takes_by e i (now h) key ≡ Some n → h.spent + 2 * k ≡ n) → t.Makes h'.state → (c : Machine)
       → Holding (program_of e rom) (places c) (done_by e i key (now h)) → c.regs.p ≡ 4 → c.regs.r.r4 ≡ word_of at_fetch
       → Ends (program_of e rom) t c h'
-  steps_with {rom = rom} key allowed waits time c o p r4 = Steps (step e key (now h')) (record {
+  steps_with {rom = rom} key allowed waits time makes c o p r4 = Steps (step e key (now h')) (record {
     runs = no_stop;
     between = step_made e h' i key no_stop (sym (instr_now h') ∙ ap instr_at (now_same g) ∙ is) allowed waits;
     time = λ n t. g.spent ∙ time n (taken key n t);
@@ -118,7 +133,7 @@ module _ (e : Edition) {k : ℕ} {h h' : Since} (g : Grows h k 0 h') (i : Instr)
           p = p;
           r4 = r4;
         };
-  })
+  }) makes
 
 -- the same, where it takes no key and doesn't wait
 pub steps : (e : Edition) {rom : List ℕ} {k : ℕ} {h h' : Since} (g : Grows h k 0 h') (i : Instr) (is : instr_at (now h) ≡ i)
@@ -126,21 +141,22 @@ pub steps : (e : Edition) {rom : List ℕ} {k : ℕ} {h h' : Since} (g : Grows h
     → Holding (program_of e rom) (places c) (done_by e i Nothing (now h)) → c.regs.p ≡ 4 → c.regs.r.r4 ≡ word_of at_fetch
     → Ends (program_of e rom) (calm_pieces (program_of e rom)) c h'
 steps e {h = h} {h' = h'} g i is prompt runs time c o p r4 =
-    steps_with e g i is runs Nothing (keyless i prompt h') (no_wait i prompt h'.ticks) (λ n t. time ∙ prompt_takes e i prompt (now h) n t) c o p r4
+    steps_with e g i is runs Nothing (keyless i prompt h') (no_wait i prompt h'.ticks) (λ n t. time ∙ prompt_takes e i prompt (now h) n t)
+    (makes_calm g is (prompt_goes i prompt)) c o p r4
 
 -- for 00E0 and DXYN, where a tick came
 module _ (e : Edition) {k : ℕ} {h h' : Since} (g : Grows h k 0 h') (tick : 1 ≤ h.ticks) (runs : stop_of e (now h) ≡ None) where
   waited : 1 ≤ h'.ticks
   waited = omega (arith, tick, g.ticks)
 
-  pub clears : {rom : List ℕ} {t : Pieces} → instr_at (now h) ≡ Clear → h.spent + 2 * k ≡ cycles e Clear Nothing (now h) → (c : Machine)
+  pub clears : {rom : List ℕ} → instr_at (now h) ≡ Clear → h.spent + 2 * k ≡ cycles e Clear Nothing (now h) → (c : Machine)
       → Holding (program_of e rom) (places c) (done_by e Clear Nothing (now h)) → c.regs.p ≡ 4 → c.regs.r.r4 ≡ word_of at_fetch
-      → Ends (program_of e rom) t c h'
-  clears is time c o p r4 = steps_with e g Clear is runs Nothing tt (waited, refl) (λ n t. time ∙ some_is t) c o p r4
+      → Ends (program_of e rom) (waited_pieces (program_of e rom)) c h'
+  clears is time c o p r4 = steps_with e g Clear is runs Nothing tt (waited, refl) (λ n t. time ∙ some_is t) tt c o p r4
 
-  pub draws : {rom : List ℕ} {t : Pieces} {x y n : ℕ} → instr_at (now h) ≡ Draw x y n
+  pub draws : {rom : List ℕ} {x y n : ℕ} → instr_at (now h) ≡ Draw x y n
       → h.spent + 2 * k ≡ cycles e (Draw x y n) Nothing (now h) → (c : Machine)
       → Holding (program_of e rom) (places c) (done_by e (Draw x y n) Nothing (now h)) → c.regs.p ≡ 4 → c.regs.r.r4 ≡ word_of at_fetch
-      → Ends (program_of e rom) t c h'
+      → Ends (program_of e rom) (waited_pieces (program_of e rom)) c h'
   draws {x = x} {y = y} {n = n} is time c o p r4 =
-      steps_with e g (Draw x y n) is runs Nothing tt (waited, refl) (λ m t. time ∙ some_is t) c o p r4
+      steps_with e g (Draw x y n) is runs Nothing tt (waited, refl) (λ m t. time ∙ some_is t) tt c o p r4

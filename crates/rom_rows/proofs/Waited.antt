@@ -34,7 +34,7 @@ module _ (x : Program) (b : Machine) (h : Since) where
 
   ends_joined : Ends x (waited_pieces x) b h → Ends x (pieces x) b h
   ends_joined (Continues calm s) = Continues calm (starts_joined s)
-  ends_joined (Steps s st) = Steps s st
+  ends_joined (Steps s st makes) = Steps s st tt
   ends_joined (Fails stop st) = Fails stop st
 
   pub row_joined : Row x (waited_pieces x) b h → Row x (pieces x) b h

@@ -4,7 +4,9 @@ use Rattle.machine.specs.Board.{Machine}
 use Rattle.machine.specs.Ranges.{FitsMachine}
 use Rattle.chip8_lang.specs.declared.view.Edition.{Edition}
 use Rattle.machine.specs.Schedule.{Tick}
+use Rattle.chip8_lang.specs.State.{instr_at}
 use Rattle.rom_law.specs.Code.{Input, moved}
+use Rattle.rom_law.specs.Due.{is_waiting}
 use Rattle.rom_law.specs.Program.{Program, code}
 use Rattle.rom_law.specs.Rows.{Since, Pieces, InBlock, Row, Outcome, now, after_main, after_tick}
 use Rattle.rom_rows.specs.Heads.{Within, page_of}
@@ -53,10 +55,10 @@ At x (AtKey l) b h = key_place_at x l b (now h) h.keys × Within (key_place_time
 At x (AtSprite l) b h = sprite_place_at x l b (now h) × Within (sprite_place_time x l (now h)) h
 
 abbrev pub pieces : Program → Pieces
-pieces x = record { Block = Block; Head = Head x; moves = λ l h. moves l; top = None; Place = Place; At = At x }
+pieces x = record { Block = Block; Head = Head x; moves = λ l h. moves l; top = None; Place = Place; At = At x; Makes = λ s. Unit {0} }
 
 -- The blocks but those behind the waits of 00E0 and DXYN. Main code stays in them until it waits, and they write nothing of the screen, which
--- begins behind the page of V0 to VF.
+-- begins behind the page of V0 to VF. The steps of 00E0 and DXYN aren't made in them.
 abbrev pub IsBefore : Block → Type 0
 IsBefore (OfSprite l) = IsEarly l
 IsBefore _ = Unit {0}
@@ -73,6 +75,7 @@ calm_pieces x =
       top = calm_top x.edition;
       Place = Place;
       At = At x;
+      Makes = λ s. is_waiting (instr_at s) ≡ false;
     }
 
 -- The blocks behind the waits of 00E0 and DXYN as pieces of their own: main code stays in them up to the dispatch.
@@ -85,6 +88,7 @@ waited_pieces x =
       top = None;
       Place = ⊥;
       At = λ l b h. ⊥;
+      Makes = λ s. Unit {0};
     }
 
 -- From each state in the row of a block a main move comes to a row without an event, to a dispatch or to a stop.

@@ -49,7 +49,7 @@ use Rattle.rom_run.proofs.Served.{served_awake, served_disabled, served_within}
 use Rattle.rom_run.proofs.States.{there_taken}
 use Rattle.rom_run.proofs.Ticks.{few_later}
 use Rattle.rom_run.proofs.Waits.{sleeps}
-use Rattle.rom_run.proofs.Woken.{row_goes, row_waits, wakes, woken_apart, woken_few}
+use Rattle.rom_run.proofs.Woken.{row_goes, row_waits, woken_then, wakes, woken_apart, woken_few}
 
 -- where the next move is an instruction, the processor doesn't idle
 awake_by : (d i w : Bool) → (if d then Dma else if i then Interrupt else if w then Idle else Instruction) ≡ Instruction → w ≡ false
@@ -130,13 +130,14 @@ module _ (e : Edition) (script : List Event) where
         record {
           woke = w.woke;
           return = w.return;
+          exact = w.exact;
           most = w.most;
           waits = w.waits;
           since = omega (arith, w.since);
           least = omega (arith, w.least);
           row = row;
         }
-    stays d (Dispatched s st) =
+    stays d (Dispatched s st makes) =
         absurd (sleeps (sym (dispatch_there e script c s st.stands
         (keeps_place b.cycle (record { outside = r.interval.outside; even = r.interval.even awake }) apart).outside
         (woken_apart e b h 2 (omega arith) w)).0 ∙ d))
@@ -184,7 +185,7 @@ module _ (e : Edition) (script : List Event) where
       let w = row_waits e b h i row in
       let tick : IsTick e (image e) m b held = run_tick e m b held (interrupted e script b h m (AtRow t row n time) at) in
       wakes e (after_moves (image e) held b routine_moves) h m w
-      (row_wakes e b (after_moves (image e) held b routine_moves) h t.fits i tick.tick row) tick.cycle
+      (row_wakes e b (after_moves (image e) held b routine_moves) h t.fits i tick.tick row) tick.cycle (woken_then e script b h m t i w time at)
   woken_at b h m (AtEvent t p d late y) at i = absurd (due_awake e script b h i d)
 
   module _ (b : Machine) (h : Since) (s : Serving e script b h) (i : s.start.regs.idle ≡ true) where

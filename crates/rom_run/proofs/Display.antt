@@ -63,7 +63,7 @@ module _ (e : Edition) (script : List Event) where
   -- ---- a wait
 
   pub due_awake : (b : Machine) (h : Since) → b.regs.idle ≡ true → Due e b h → ⊥
-  due_awake b h i (Arrives s st) = sleeps (sym i ∙ st.stands.keeps.lies.awake)
+  due_awake b h i (Arrives s st makes) = sleeps (sym i ∙ st.stands.keeps.lies.awake)
   due_awake b h i (Ends stop st) = sleeps (sym i ∙ st.halts.keeps.lies.awake)
 
   outside_soon : (b : Machine) (h : Since) → b.regs.idle ≡ true → Outside e script b h → Display h (λ most. h.spent ≤ most)

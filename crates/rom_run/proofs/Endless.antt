@@ -49,5 +49,5 @@ module _ (e : Edition) (b : Machine) (h : Since) (free : bound_of e h.state ≡ 
   -- and it doesn't wait for the display
   pub never_waited : (script : List Event) → Interval e script b h → Row (vip e) (pieces (vip e)) b h → Timed e b h → Spends b h 0
   never_waited script t row (Before s r) = s
-  never_waited script t row (Waiting n s l i r) = absurd (unbounded e (idle_pace e b h n (omega (arith, l, waits_most b.cycle t.outside)) i row) free)
+  never_waited script t row (Waiting n s l i r) = absurd (unbounded e (idle_pace e b h n (omega (arith, l.most, waits_most b.cycle t.outside)) i row) free)
   never_waited script t row (Behind n s l r w) = absurd (unbounded e (waited_pace e b h n l r) free)

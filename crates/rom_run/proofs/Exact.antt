@@ -1,8 +1,8 @@
 -- Main cycles as the language's time counts them, by arithmetic: so many of them, and the interrupts that come among them, lead to the cycle that it
 -- names.
-use Rattle.std.proofs.Common.{◌≡◌, ℕ, ◌+◌, ◌-◌, ◌*◌, ◌/◌, ◌%◌, ◌<◌, ◌≤◌, ◌⊎◌, inl, inr, refl, sym, ◌∙◌, ap, arith}
+use Rattle.std.proofs.Common.{◌≡◌, ℕ, ◌+◌, ◌-◌, ◌*◌, ◌/◌, ◌%◌, ◌<◌, ◌≤◌, ◌⊎◌, inl, inr, refl, sym, ◌∙◌, ap, subst, arith, false}
 use Rattle.std.specs.Prelude.{Option, Some, None}
-use Rattle.machine.specs.Pictures.{place, interrupt_place}
+use Rattle.machine.specs.Pictures.{place, interrupt_place, interrupt_at}
 use Rattle.chip8_lang.specs.declared.instr.Instr.{Instr}
 use Rattle.chip8_lang.specs.declared.instr.Instr.TheVariants.{Clear, Draw, WaitKey}
 use Rattle.chip8_lang.specs.declared.view.Edition.{Edition}
@@ -10,13 +10,13 @@ use Rattle.chip8_lang.specs.declared.view.Stop.{Stop}
 use Rattle.chip8_lang.specs.Between.{ticks_between}
 use Rattle.chip8_lang.specs.State.{Lang, instr_at}
 use Rattle.chip8_lang.specs.Step.{KeyInput}
-use Rattle.chip8_lang.specs.Timed.{between_routines, to_interrupt, interrupts, later, cycles}
+use Rattle.chip8_lang.specs.Timed.{between_routines, to_interrupt, interrupts, later, ended, woken, before_wait, behind_wait, cycles}
 use Rattle.chip8_lang.proofs.Ticks.{ticks_counted}
-use Rattle.rom_law.specs.Due.{takes_by, due_by}
+use Rattle.rom_law.specs.Due.{is_waiting, takes_by, due_behind, due_by}
 use Rattle.rom_rows.proofs.Steps.{some_is}
 use Rattle.rom_timer.specs.Frame.{IsOutside}
 use Rattle.rom_timer.specs.Routine.{routine_cycles}
-use Rattle.rom_run.specs.Time.{WaitsBy, since_return}
+use Rattle.rom_run.specs.Time.{WaitsBy, since_return, since_window}
 use Rattle.rom_run.specs.Time.WaitsBy.{ToClear, ToDraw}
 
 -- how long ago the latest cycle of an interrupt was, before a or in it
@@ -68,6 +68,44 @@ pub return_idle : (t : ℕ) → (place t ≡ interrupt_place → ⊥) → since_
     → (since_return (t + 1) ≡ since_return t + 1) × (since_return t + 1 ≤ between_routines)
 return_idle t d l = (omega (arith, d, l), omega (arith, d, l))
 
+-- ---- the wait for the display
+
+-- w main cycles are over q interrupts and n cycles before the next interrupt
+waits_counts : (r w q n : ℕ) → 1820 ≤ r → r < 3668 → 3668 * (q + 1) ≡ r + w + 1846 * q + n → 0 < w → n ≤ 1848 → (q ≡ 0) ⊎ (n ≤ 1820)
+    → (1822 + (w - 1) - (3668 - r)) / 1822 ≡ q
+waits_counts r w q n l m e o most (inl z) = omega (arith, l, m, e, o, most, z)
+waits_counts r w q n l m e o most (inr k) = omega (arith, l, m, e, o, most, k)
+
+before_wait_over : (q n m : ℕ) → (q ≡ 0) ⊎ (n + 2 ≤ since_return (interrupt_at m)) → (q ≡ 0) ⊎ (n ≤ 1820)
+before_wait_over q n m (inl z) = inl z
+before_wait_over q n m (inr k) = inr (omega (arith, k))
+
+woken_from : (t n m : ℕ) → n ≤ 1848 → t + n ≡ interrupt_at m → woken t ≡ interrupt_at m + routine_cycles
+woken_from t n m l e = omega (arith, l, e)
+
+-- where the routine returns that ends a wait of n cycles
+pub woken_is : (a w q n m : ℕ) → IsOutside a → (place a ≡ interrupt_place → ⊥) → q ≡ ticks_between a (interrupt_at m)
+    → interrupt_at m ≡ a + w + routine_cycles * q + n → 0 < w → n ≤ since_window (interrupt_at m)
+    → (q ≡ 0) ⊎ (n + 2 ≤ since_return (interrupt_at m)) → interrupt_at m + routine_cycles ≡ woken (ended a w)
+woken_is a w q n m out d e is some most moved =
+    sym (ap (λ k. woken (a + (w - 1) + routine_cycles * k + 1)) counted ∙ woken_from (a + (w - 1) + routine_cycles * q + 1) n m few (omega (arith, is, some)))
+  where
+    few : n ≤ 1848
+    few = omega (arith, most)
+
+    counted : interrupts a (w - 1) ≡ q
+    counted =
+        ap (λ t. (between_routines + (w - 1) - t) / between_routines) (to_next a d)
+        ∙ waits_counts (since_interrupt a) w q n (far a out d) (omega arith)
+        (omega (arith, is, e, ticks_counted a (interrupt_at m), some)) some few (before_wait_over q n m moved)
+
+-- behind it no interrupt comes so soon
+pub later_soon : (t k : ℕ) → place t ≡ interrupt_place + routine_cycles → k < between_routines → later t k ≡ t + k
+later_soon t k r l = omega (arith, none)
+  where
+    none : interrupts t k ≡ 0
+    none = omega (arith, r, l)
+
 -- ---- the cycle that is due
 
 -- that of an instruction which doesn't wait is told by its main cycles
@@ -76,19 +114,21 @@ pub record Prompt (e : Edition) (i : Instr) (t : ℕ) (s : Lang) (key : KeyInput
   pub takes : takes_by e i s key ≡ Some cycles
   pub is : later t cycles ≡ u
 
-pub due_takes : (e : Edition) (i : Instr) (t : ℕ) (s : Lang) (key : KeyInput) (u : ℕ) → due_by e i t s key ≡ Some u → Prompt e i t s key u
-due_takes e Clear t s key u k = cc
-due_takes e (Draw x y n) t s key u k = cc
-due_takes e (WaitKey x) t s key u k = cc
-due_takes e i t s key u k = record { cycles = cycles e i key s; takes = refl; is = some_is k }
+pub due_takes : (e : Edition) (i : Instr) (t : ℕ) (s : Lang) (key : KeyInput) (u : ℕ) → is_waiting i ≡ false → due_by e i t s key ≡ Some u
+    → Prompt e i t s key u
+due_takes e Clear t s key u w k = cc
+due_takes e (Draw x y n) t s key u w k = cc
+due_takes e (WaitKey x) t s key u w k = cc
+due_takes e i t s key u w k = record { cycles = cycles e i key s; takes = refl; is = some_is k }
 
-none_due : {u : ℕ} {o : Option ℕ} → o ≡ None → o ≡ Some u → ⊥
-none_due k l = cc
+-- and that of 00E0 and DXYN by those before the wait and those behind it
+pub record Waiting (e : Edition) (i : Instr) (t : ℕ) (s : Lang) (key : KeyInput) : Type 0 where
+  pub takes : takes_by e i s key ≡ Some (before_wait e i s + behind_wait e i s)
+  pub is : due_by e i t s key ≡ Some (due_behind e i t s)
 
--- none is said of those that wait for the display
-pub waits_apart : (e : Edition) (t : ℕ) (s : Lang) (key : KeyInput) (u : ℕ) {most : ℕ} → WaitsBy s most → due_by e (instr_at s) t s key ≡ Some u → ⊥
-waits_apart e t s key u (ToClear is) k = none_due (ap (λ i. due_by e i t s key) is) k
-waits_apart e t s key u (ToDraw x y n is) k = none_due (ap (λ i. due_by e i t s key) is) k
+pub due_waits : (e : Edition) (t : ℕ) (s : Lang) (key : KeyInput) {most : ℕ} → WaitsBy s most → Waiting e (instr_at s) t s key
+due_waits e t s key (ToClear is) = subst (λ i. Waiting e i t s key) (sym is) (record { takes = refl; is = refl })
+due_waits e t s key (ToDraw x y n is) = subst (λ i. Waiting e i t s key) (sym is) (record { takes = refl; is = refl })
 
 -- a state that stops isn't one that doesn't
 pub stops_not : {o : Option Stop} {stop : Stop} → o ≡ None → o ≡ Some stop → ⊥

@@ -22,7 +22,9 @@ use Rattle.chip8_lang.specs.Ticks.{ticks}
 use Rattle.chip8_lang.specs.Between.{ticks_between, keys_between}
 use Rattle.chip8_lang.specs.Events.{is_instruction, is_at, is_dispatch, is_stop}
 use Rattle.chip8_lang.proofs.Ticks.{ticks_counted}
+use Rattle.chip8_lang.specs.Step.{stop_of}
 use Rattle.rom_law.specs.Code.{Input, moved, is_event}
+use Rattle.rom_law.specs.Due.{is_waiting, takes_by, due_by}
 use Rattle.rom_law.specs.Later.{After}
 use Rattle.rom_law.proofs.Ranges.{tick_fits}
 use Rattle.rom_law.proofs.Ticks.{after_none}
@@ -59,9 +61,9 @@ use Rattle.rom_run.proofs.Proved.{proved}
 use Rattle.rom_run.proofs.Room.{row_room}
 use Rattle.rom_run.proofs.Behind.{waited_moves, waited_cycle, waited_awake, row_wakes}
 use Rattle.rom_run.proofs.Calm.{calm_moves, calm_ticks, calm_cycle, calm_idle, calm_starts, calm_move_shows, below_screen}
-use Rattle.rom_run.proofs.Woken.{row_goes, row_waits, woken_apart, wakes, calm_row}
+use Rattle.rom_run.proofs.Woken.{row_goes, row_waits, woken_apart, woken_then, wakes, waited_due, calm_row}
 use Rattle.rom_run.proofs.Ticks.{waits_more, waits_most}
-use Rattle.rom_run.proofs.Exact.{return_main, return_idle, later_is, Prompt, due_takes, waits_apart, stops_not}
+use Rattle.rom_run.proofs.Exact.{return_main, return_idle, later_is, due_takes, stops_not}
 use Rattle.rom_run.proofs.Time.{fewer, row_in_time}
 use Rattle.rom_run.proofs.Waits.{timed, sleeps, idle_cycle}
 
@@ -133,6 +135,10 @@ module _ (e : Edition) (script : List Event) where
       (Before (omega arith) (calm_starts e c.cycle c s f d))
       )
 
+  -- behind a wait no interrupt comes
+  wait_apart : (c : Machine) (h : Since) → BehindWait e c h → place c.cycle ≡ interrupt_place → ⊥
+  wait_apart c h w i = woken_apart e w.old w.before 2 (omega arith) w.woken (omega (arith, i, w.cycle))
+
   -- ---- what a state comes to that a dispatch or a stop has made
 
   module _ (c : Machine) (h : Since) (t : Interval e script c h) (p : IsMainPlace c.cycle) (soon : DueInTime e c h) (shows : place c.cycle ≡ interrupt_place → Showing e c h) where
@@ -144,32 +150,49 @@ module _ (e : Edition) (script : List Event) where
     cycle_is : (place c.cycle ≡ interrupt_place → ⊥) → Spends c h 0 → c.cycle ≡ later h.from h.spent
     cycle_is d s = later_is h.from h.spent h.ticks c.cycle t.starts t.begun d t.covers.ticks (omega (arith, s)) (back t.behind)
 
-    due : (st : Stepped x c h (state_at x c)) → (place c.cycle ≡ interrupt_place → ⊥) → IsDue x c h st.between.key
-    due st d u k = go soon.exact (due_takes e (instr_at h.state) h.from h.state st.between.key u k)
+    due : (st : Stepped x c h (state_at x c)) → (is_waiting (instr_at h.state) ≡ false) ⊎ BehindWait e c h → (place c.cycle ≡ interrupt_place → ⊥)
+        → IsDue x c h st.between.key
+    due st makes d u k = go makes soon.exact
       where
-        go : Spends c h 0 ⊎ BehindWait e h → Prompt e (instr_at h.state) h.from h.state st.between.key u → c.cycle ≡ u
-        go (inl s) p = cycle_is d s ∙ ap (later h.from) (st.time p.cycles p.takes) ∙ p.is
-        go (inr w) p = absurd (waits_apart e h.from h.state st.between.key u w.waits k)
+        prompt : is_waiting (instr_at h.state) ≡ false → Spends c h 0 → c.cycle ≡ u
+        prompt p s =
+            let r = due_takes e (instr_at h.state) h.from h.state st.between.key u p k in
+            cycle_is d s ∙ ap (later h.from) (st.time r.cycles r.takes) ∙ r.is
+
+        waited : BehindWait e c h → c.cycle ≡ u
+        waited w =
+            waited_due e w.old w.before w.woken c.cycle w.cycle st.between.key
+            (λ n t. sym w.spent ∙ st.time n (ap (λ s. takes_by e (instr_at s) s st.between.key) w.state ∙ t)) u
+            (subst₂ (λ a s. due_by e (instr_at s) a s st.between.key ≡ Some u) w.from w.state k)
+
+        go : (is_waiting (instr_at h.state) ≡ false) ⊎ BehindWait e c h → Spends c h 0 ⊎ BehindWait e c h → c.cycle ≡ u
+        go (inr w) o = waited w
+        go (inl p) (inr w) = waited w
+        go (inl p) (inl s) = prompt p s
 
     stops : (stop : Stop) → Stopped x c h stop → (place c.cycle ≡ interrupt_place → ⊥) → c.cycle ≡ later h.from (stop_cycles e h.state)
     stops stop st d = go soon.exact
       where
-        go : Spends c h 0 ⊎ BehindWait e h → c.cycle ≡ later h.from (stop_cycles e h.state)
+        go : Spends c h 0 ⊎ BehindWait e c h → c.cycle ≡ later h.from (stop_cycles e h.state)
         go (inl s) = cycle_is d s ∙ ap (later h.from) st.time
-        go (inr w) = absurd (stops_not w.runs st.fits)
+        go (inr w) = absurd (stops_not (ap (stop_of e) w.state ∙ row_goes e w.old w.before w.woken.row) st.fits)
 
-    arrives : (s : Lang) → Stepped x c h s → Comes h c
-    arrives s st = go (cases_eq (place c.cycle) interrupt_place)
+    arrives : (s : Lang) → Stepped x c h s → (is_waiting (instr_at h.state) ≡ false) ⊎ BehindWait e c h → Comes h c
+    arrives s st makes = go (cases_eq (place c.cycle) interrupt_place)
       where
+        goes_on : place c.cycle ≡ interrupt_place → (is_waiting (instr_at h.state) ≡ false) ⊎ BehindWait e c h → is_waiting (instr_at h.state) ≡ false
+        goes_on i (inl p) = p
+        goes_on i (inr w) = absurd (wait_apart c h w i)
+
         here : Stepped x c h (state_at x c)
         here = subst (Stepped x c h) (sym st.stands.keeps.lies.is) st
 
         go : (place c.cycle ≡ interrupt_place) ⊎ (place c.cycle ≡ interrupt_place → ⊥) → Comes h c
         go (inl i) =
             Still (interrupted_there c s st.stands.keeps i 4 x.interpreter.fetch) (interrupted_there c s st.stands.keeps i 3 x.interpreter.halt)
-            (InMain (AtEvent t i (Arrives s st) soon (shows i)))
+            (InMain (AtEvent t i (Arrives s st (goes_on i makes)) soon (shows i)))
         go (inr d) =
-            Arrived (dispatch_there c s st.stands t.outside d).0 (dispatch_there c s st.stands t.outside d).1 t.covers here (due here d)
+            Arrived (dispatch_there c s st.stands t.outside d).0 (dispatch_there c s st.stands t.outside d).1 t.covers here (due here makes d)
             (renewed c (state_at x c) t.fits here.stands p d)
 
     ends : (stop : Stop) → Stopped x c h stop → Comes h c
@@ -244,6 +267,7 @@ module _ (e : Edition) (script : List Event) where
         record {
           woke = w.woke;
           return = w.return;
+          exact = w.exact;
           most = w.most;
           waits = w.waits;
           since = omega (arith, w.since);
@@ -260,11 +284,15 @@ module _ (e : Edition) (script : List Event) where
     unfolding c u h'
     spends n s = omega (arith, s)
 
-    exact : Timed e b h → Spends c h' 0 ⊎ BehindWait e h'
-    unfolding h'
+    behind_wait : Woken e b h → BehindWait e c h'
+    unfolding c u h'
+    behind_wait w = record { old = b; before = h; woken = w; cycle = refl; spent = refl; from = refl; state = refl }
+
+    exact : Timed e b h → Spends c h' 0 ⊎ BehindWait e c h'
+    unfolding c u h'
     exact (Before s r) = inl (spends 0 s)
     exact (Waiting n s l idle r) = absurd (sleeps (sym idle ∙ awake))
-    exact (Behind n s l r w) = inr (record { most = w.most; waits = w.waits; runs = row_goes e b h r })
+    exact (Behind n s l r w) = inr (behind_wait w)
 
     soon : DueInTime e c h'
     unfolding h'
@@ -315,12 +343,13 @@ module _ (e : Edition) (script : List Event) where
 
     run_on : Spends b h 0 → Row x (calm_pieces x) b h → Outcome x (calm_pieces x) c h' → Comes h' c
     run_on s r (Calm calm r') = stays calm (row_calm x c h' r') (Before (spends 0 s) r')
-    run_on s r (Dispatched z st) = arrives c h' interval main_place soon (λ i. shows_on r (below_screen e c z st.stands.keeps.lies.stack)) z st
+    run_on s r (Dispatched z st makes) =
+        arrives c h' interval main_place soon (λ i. shows_on r (below_screen e c z st.stands.keeps.lies.stack)) z st (inl makes)
     run_on s r (Failed stop st) = ends c h' interval main_place soon (λ i. shows_on r (below_screen e c (now h') st.halts.keeps.lies.stack)) stop st
 
     run_behind : (n : ℕ) → Spends b h n → n ≤ most_wait → Woken e b h → Outcome x (waited_pieces x) c h' → Comes h' c
     run_behind n s l w (Calm calm r) = stays calm (row_joined x c h' r) (Behind n (spends n s) l r (woken_on calm w))
-    run_behind n s l w (Dispatched z st) = arrives c h' interval main_place soon (apart w) z st
+    run_behind n s l w (Dispatched z st makes) = arrives c h' interval main_place soon (apart w) z st (inr (behind_wait w))
     run_behind n s l w (Failed stop st) = ends c h' interval main_place soon (apart w) stop st
 
     main_run : Timed e b h → Comes h' c
@@ -370,9 +399,20 @@ module _ (e : Edition) (script : List Event) where
   idle_timed : (b : Machine) (h : Since) → Interval e script b h → (place b.cycle ≡ interrupt_place → ⊥) → b.regs.idle ≡ true → Timed e b h
       → Timed e (timed (b.cycle + 1) b) h
   idle_timed b h t i idle (Before s r) =
-      Waiting 1 (omega (arith, s)) (omega (arith, waits_more b.cycle t.outside i)) idle (calm_idle e b h (b.cycle + 1) idle r)
+      Waiting 1 (omega (arith, s)) (record { most = omega (arith, waits_more b.cycle t.outside i); moved = idle_moved t.behind }) idle
+      (calm_idle e b h (b.cycle + 1) idle r)
+    where
+      idle_moved : (h.ticks ≡ 0) ⊎ IsBehind b → (h.ticks ≡ 0) ⊎ (1 + 2 ≤ since_return (b.cycle + 1))
+      idle_moved (inl z) = inl z
+      idle_moved (inr w) = inr (omega (arith, (return_idle b.cycle i w.back).0, w.moved idle))
   idle_timed b h t i idle (Waiting n s l _ r) =
-      Waiting (n + 1) (omega (arith, s)) (omega (arith, l, waits_more b.cycle t.outside i)) idle (calm_idle e b h (b.cycle + 1) idle r)
+      Waiting (n + 1) (omega (arith, s)) (record { most = omega (arith, l.most, waits_more b.cycle t.outside i); moved = idle_on t.behind l.moved }) idle
+      (calm_idle e b h (b.cycle + 1) idle r)
+    where
+      idle_on : (h.ticks ≡ 0) ⊎ IsBehind b → (h.ticks ≡ 0) ⊎ (n + 2 ≤ since_return b.cycle) → (h.ticks ≡ 0) ⊎ (n + 1 + 2 ≤ since_return (b.cycle + 1))
+      idle_on (inl z) k = inl z
+      idle_on (inr w) (inl z) = inl z
+      idle_on (inr w) (inr k) = inr (omega (arith, (return_idle b.cycle i w.back).0, k))
   idle_timed b h t i idle (Behind n s l r w) = absurd (sleeps (sym idle ∙ waited_awake e b h r))
 
   idle_comes : (b : Machine) (h : Since) → Interval e script b h → Row x (pieces x) b h → Counted e b → Timed e b h
@@ -390,7 +430,7 @@ module _ (e : Edition) (script : List Event) where
       let ready = row_runs x (pieces x) (proved e) b h t.fits row in
       let r = row_room e b h row in
       record { cycle = i; on = ready.on; enabled = ready.enabled; latch = ready.latch; entry = ready.entry; fits = t.fits; room = r.low; top = r.high }
-  interrupted b h m (AtEvent t p (Arrives s st) late y) i = keeps_interrupted e m b s t.fits st.stands.keeps i
+  interrupted b h m (AtEvent t p (Arrives s st makes) late y) i = keeps_interrupted e m b s t.fits st.stands.keeps i
   interrupted b h m (AtEvent t p (Ends stop st) late y) i = keeps_interrupted e m b (now h) t.fits st.halts.keeps i
 
   -- in the routine the program counter is R1
@@ -432,23 +472,25 @@ module _ (e : Edition) (script : List Event) where
     tick_spends n s = omega (arith, s, cycle, at)
 
     -- a wait ends
-    tick_wakes : (n : ℕ) → Interval e script b h → Row x (pieces x) b h → Spends b h n → n ≤ most_wait → b.regs.idle ≡ true → Timed e c (after_tick h)
-    tick_wakes n t row s l i =
+    tick_wakes : (n : ℕ) → Interval e script b h → Row x (pieces x) b h → Timed e b h → Spends b h n → n ≤ most_wait → b.regs.idle ≡ true
+        → Timed e c (after_tick h)
+    tick_wakes n t row time s l i =
         let w = row_waits e b h i row in
-        Behind n (tick_spends n s) l (row_wakes e b c h t.fits i k row) (wakes e c h m w (row_wakes e b c h t.fits i k row) at)
+        Behind n (tick_spends n s) l (row_wakes e b c h t.fits i k row)
+        (wakes e c h m w (row_wakes e b c h t.fits i k row) at (woken_then e script b h m t i w time cycle))
 
     tick_timed : Interval e script b h → Row x (pieces x) b h → Timed e b h → Timed e c (after_tick h)
     tick_timed t row (Before s r) = go (cases_Bool b.regs.idle)
       where
         go : (b.regs.idle ≡ true) ⊎ (b.regs.idle ≡ false) → Timed e c (after_tick h)
-        go (inl i) = tick_wakes 0 t row s (omega arith) i
+        go (inl i) = tick_wakes 0 t row (Before s r) s (omega arith) i
         go (inr i) = Before (tick_spends 0 s) (calm_ticks e b c h t.fits i k r)
-    tick_timed t row (Waiting n s l i r) = tick_wakes n t row s (omega (arith, l, waits_most b.cycle t.outside)) i
+    tick_timed t row (Waiting n s l i r) = tick_wakes n t row (Waiting n s l i r) s (omega (arith, l.most, waits_most b.cycle t.outside)) i
     tick_timed t row (Behind n s l r w) = absurd (woken_apart e b h 0 (omega arith) w (omega (arith, in_place)))
 
-    tick_exact : Spends b h 0 ⊎ BehindWait e h → Spends c (after_tick h) 0 ⊎ BehindWait e (after_tick h)
+    tick_exact : Spends b h 0 ⊎ BehindWait e b h → Spends c (after_tick h) 0 ⊎ BehindWait e c (after_tick h)
     tick_exact (inl s) = inl (tick_spends 0 s)
-    tick_exact (inr w) = inr (record { most = w.most; waits = w.waits; runs = w.runs })
+    tick_exact (inr w) = absurd (wait_apart b h w in_place)
 
     tick_soon : DueInTime e b h → DueInTime e c (after_tick h)
     tick_soon s =
@@ -463,7 +505,7 @@ module _ (e : Edition) (script : List Event) where
         let calm = ap (is_event (code x)) k.is ∙ uncounted b n (inr in_place) in
         Still (calm_points c x calm).0 (calm_points c x calm).1
         (InMain (AtRow (tick_interval t) (row_ticks x (pieces x) (proved e) b c h t.fits k row) (NoEvent calm) (tick_timed t row time)))
-    returned (AtEvent t _ (Arrives s st) late y) =
+    returned (AtEvent t _ (Arrives s st makes) late y) =
         arrives c (after_tick h) (tick_interval t) p (tick_soon late) behind_it (ticks 1 s) (
         record {
           runs = st.runs;
@@ -472,6 +514,7 @@ module _ (e : Edition) (script : List Event) where
           stands = dispatches_after x 1 b c (ticked st.stands.keeps.lies.awake) t.fits s st.stands;
         }
         )
+        (inl makes)
     returned (AtEvent t _ (Ends stop st) late y) =
         ends c (after_tick h) (tick_interval t) p (tick_soon late) behind_it stop
         (record { fits = st.fits; time = st.time; halts = halts_after x 1 b c (ticked st.halts.keeps.lies.awake) t.fits (now h) stop st.halts })

@@ -402,5 +402,5 @@ pub row_in_time : (e : Edition) (script : List Event) (b : Machine) (h : Since) 
     → Timed e b h → Soon e b h
 row_in_time e script b h t row (Before s z) = record { waited = 0; spends = s; suffices = row_soon e b h row }
 row_in_time e script b h t row (Waiting n s l i z) =
-    record { waited = n; spends = s; suffices = budget e absurd (idle_pace e b h n (omega (arith, l, waits_most b.cycle t.outside)) i row) }
+    record { waited = n; spends = s; suffices = budget e absurd (idle_pace e b h n (omega (arith, l.most, waits_most b.cycle t.outside)) i row) }
 row_in_time e script b h t row (Behind n s l r w) = record { waited = n; spends = s; suffices = budget e absurd (waited_pace e b h n l r) }

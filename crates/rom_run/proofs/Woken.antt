@@ -1,15 +1,18 @@
 -- Behind a wait main code is done before the next interrupt: so none comes while the screen is changed.
-use Rattle.std.proofs.Common.{◌≡◌, ℕ, ◌+◌, ◌*◌, ◌/◌, ◌%◌, ◌<◌, ◌≤◌, refl, sym, ◌∙◌, ap, arith, true, false}
-use Rattle.std.specs.Prelude.{None}
+use Rattle.std.proofs.Common.{◌≡◌, ℕ, ◌+◌, ◌*◌, ◌/◌, ◌%◌, ◌<◌, ◌≤◌, ◌⊎◌, inl, inr, refl, sym, ◌∙◌, ap, subst, arith, List, true, false}
+use Rattle.std.specs.Prelude.{Some, None}
 use Rattle.machine.specs.Board.{Machine}
+use Rattle.machine.specs.Keys.{Event}
 use Rattle.machine.specs.Pictures.{interrupt_at, place, interrupt_place}
 use Rattle.chip8_lang.specs.declared.instr.Instr.{Instr}
 use Rattle.chip8_lang.specs.declared.instr.Instr.TheVariants.{Clear as IsClear, Draw as IsDraw}
 use Rattle.chip8_lang.specs.declared.view.Edition.{Edition}
 use Rattle.chip8_lang.specs.State.{Lang, instr_at}
-use Rattle.chip8_lang.specs.Step.{stop_of}
-use Rattle.chip8_lang.specs.Timed.{before_wait}
+use Rattle.chip8_lang.specs.Between.{ticks_between}
+use Rattle.chip8_lang.specs.Step.{KeyInput, stop_of}
+use Rattle.chip8_lang.specs.Timed.{later, ended, woken, before_wait, behind_wait}
 use Rattle.rom_law.specs.Code.{is_event}
+use Rattle.rom_law.specs.Due.{takes_by, due_behind, due_by}
 use Rattle.rom_law.specs.Program.{code}
 use Rattle.rom_law.specs.Rows.{Since, Row, Outcome, now, after_tick}
 use Rattle.rom_law.specs.Rows.Row.{Inside, Alone}
@@ -27,11 +30,15 @@ use Rattle.rom_rows.specs.Table.{Head, pieces, waited_pieces}
 use Rattle.rom_rows.specs.Table.Block.{OfSprite}
 use Rattle.rom_rows.specs.Table.Place.{AtTimer, AtKey, AtSprite}
 use Rattle.rom_rows.proofs.Later.{before_ticks}
-use Rattle.rom_rows.proofs.Steps.{stop_ticks}
+use Rattle.rom_rows.proofs.Steps.{some_is, stop_ticks}
 use Rattle.rom_sprite.proofs.Screen.{few_rows}
 use Rattle.rom_timer.specs.Routine.{routine_cycles}
-use Rattle.rom_run.specs.Time.{WaitsBy, Woken, wait_time, most_changing}
+use Rattle.rom_run.specs.Running.{IsBehind, Interval}
+use Rattle.rom_run.specs.Time.{Spends, WaitsBy, Woken, Timed, wait_time, since_return, since_window, most_changing}
+use Rattle.rom_run.specs.Time.Timed.{Before, Waiting, Behind}
 use Rattle.rom_run.specs.Time.WaitsBy.{ToClear, ToDraw}
+use Rattle.rom_run.proofs.Behind.{waited_awake}
+use Rattle.rom_run.proofs.Exact.{woken_is, later_soon, due_waits}
 use Rattle.rom_run.proofs.Most.{draw_most}
 use Rattle.rom_run.proofs.Proved.{proved}
 use Rattle.rom_run.proofs.Time.{few}
@@ -44,6 +51,7 @@ pub record Waits (e : Edition) (h : Since) : Type 0 where
   pub most : ℕ
   pub waits : WaitsBy h.state most
   pub soon : h.spent ≤ most
+  pub some : 0 < h.spent
   pub exact : h.spent ≡ wait_time e h.state
 
 -- the instruction at the last dispatch point is that of the state after the ticks since
@@ -75,6 +83,7 @@ row_waits e b h i (Alone (AtSprite ClearIdle) o) =
       most = 102;
       waits = ToClear (instr_then h (to_clear (now h) o.0.0.clears));
       soon = omega (arith, o.1);
+      some = omega (arith, o.1);
       exact = o.1 ∙ sym (clear_wait e h.state (instr_then h (to_clear (now h) o.0.0.clears)));
     }
 row_waits e b h i (Alone (AtSprite DrawWait) o) = absurd (sleeps (sym i ∙ o.0.holds.awake))
@@ -83,6 +92,7 @@ row_waits e b h i (Alone (AtSprite DrawIdle) o) =
       most = 2154;
       waits = ToDraw _ _ _ (instr_then h (to_draw (now h) o.0.0.draws.digit));
       soon = omega (arith, o.1, draw_most e (now h));
+      some = omega (arith, o.1);
       exact = o.1 ∙ sym (draw_wait e h o.0.0.draws.digit);
     }
 
@@ -145,19 +155,62 @@ module _ (e : Edition) where
   pub calm_row : (c : Machine) (h : Since) → is_event (code (vip e)) c ≡ false → Outcome (vip e) (waited_pieces (vip e)) c h
       → Row (vip e) (waited_pieces (vip e)) c h
   calm_row c h calm (Still k r) = r
-  calm_row c h calm (Dispatched s st) = absurd (sleeps (sym (dispatch_by (vip e) c s st.stands) ∙ (neither _ _ calm).0))
+  calm_row c h calm (Dispatched s st makes) = absurd (sleeps (sym (dispatch_by (vip e) c s st.stands) ∙ (neither _ _ calm).0))
   calm_row c h calm (Halted stop st) = absurd (sleeps (sym (halt_by (vip e) c (now h) stop st.halts) ∙ (neither _ _ calm).1))
+
+  -- in the cycle of the interrupt that ends the wait, the routine will return where the language's time says
+  pub woken_then : (script : List Event) (b : Machine) (h : Since) (m : ℕ) → Interval e script b h → b.regs.idle ≡ true → Waits e h → Timed e b h
+      → b.cycle ≡ interrupt_at m → interrupt_at m + routine_cycles ≡ woken (ended h.from (wait_time e h.state))
+  woken_then script b h m t i w time at = go time
+    where
+      from_wait : (n : ℕ) → Spends b h n → n ≤ since_window b.cycle → (h.ticks ≡ 0) ⊎ (n + 2 ≤ since_return b.cycle)
+          → interrupt_at m + routine_cycles ≡ woken (ended h.from (wait_time e h.state))
+      from_wait n s l moved =
+          woken_is h.from h.spent h.ticks n m t.starts t.begun (t.covers.ticks ∙ ap (ticks_between h.from) at) (omega (arith, s, at)) w.some
+          (subst (λ c. n ≤ since_window c) at l) (subst (λ c. (h.ticks ≡ 0) ⊎ (n + 2 ≤ since_return c)) at moved)
+          ∙ ap (λ k. woken (ended h.from k)) w.exact
+
+      at_once : (h.ticks ≡ 0) ⊎ IsBehind b → (h.ticks ≡ 0) ⊎ (0 + 2 ≤ since_return b.cycle)
+      at_once (inl z) = inl z
+      at_once (inr k) = inr (k.moved i)
+
+      go : Timed e b h → interrupt_at m + routine_cycles ≡ woken (ended h.from (wait_time e h.state))
+      go (Before s r) = from_wait 0 s (omega arith) (at_once t.behind)
+      go (Waiting n s l idle r) = from_wait n s l.most l.moved
+      go (Behind n s l r o) = absurd (sleeps (sym i ∙ waited_awake e b h r))
 
   -- the interrupt routine has returned
   pub wakes : (c : Machine) (h : Since) (m : ℕ) (t : Waits e h) → Row (vip e) (waited_pieces (vip e)) c (after_tick h)
-      → c.cycle ≡ interrupt_at m + routine_cycles → Woken e c (after_tick h)
-  wakes c h m t row at =
+      → c.cycle ≡ interrupt_at m + routine_cycles → interrupt_at m + routine_cycles ≡ woken (ended h.from (wait_time e h.state))
+      → Woken e c (after_tick h)
+  wakes c h m t row at exact =
       record {
         woke = c.cycle;
         return = omega (arith, at);
+        exact = at ∙ exact;
         most = t.most;
         waits = t.waits;
         since = omega (arith, t.exact);
         least = omega (arith, t.exact);
         row = row;
       }
+
+  -- ---- the dispatch behind the wait
+
+  -- it comes in the cycle that is due: c, two cycles behind b
+  module _ (b : Machine) (h : Since) (w : Woken e b h) (c : ℕ) (next : c ≡ b.cycle + 2) (key : KeyInput)
+      (time : (n : ℕ) → takes_by e (instr_at h.state) h.state key ≡ Some n → h.spent + 2 ≡ n) where
+    abbrev behind : ℕ
+    behind = behind_wait e (instr_at h.state) h.state
+
+    spends_behind : h.spent + 2 ≡ wait_time e h.state + behind
+    spends_behind = time _ (due_waits e h.from h.state key w.waits).takes
+
+    reached : c ≡ due_behind e (instr_at h.state) h.from h.state
+    reached =
+        omega (arith, next, w.since, w.least, spends_behind)
+        ∙ sym (later_soon w.woke behind w.return (omega (arith, spends_behind, woken_few b h w)))
+        ∙ ap (λ t. later t behind) w.exact
+
+    pub waited_due : (u : ℕ) → due_by e (instr_at h.state) h.from h.state key ≡ Some u → c ≡ u
+    waited_due u k = reached ∙ some_is (sym (due_waits e h.from h.state key w.waits).is ∙ k)

@@ -10,11 +10,12 @@ use Rattle.chip8_lang.specs.declared.view.Edition.{Edition}
 use Rattle.chip8_lang.specs.declared.view.Stop.{Stop}
 use Rattle.chip8_lang.specs.Editions.{rows_of}
 use Rattle.chip8_lang.specs.Places.{state_of}
-use Rattle.chip8_lang.specs.State.{Lang, first, memory_size}
+use Rattle.chip8_lang.specs.State.{Lang, first, memory_size, instr_at}
 use Rattle.chip8_lang.specs.Bounds.{boot_bound}
 use Rattle.chip8_lang.specs.Events.{is_dispatch, is_stop}
 use Rattle.chip8_lang.specs.Timed.{between_routines}
 use Rattle.rom_law.specs.Code.{is_event}
+use Rattle.rom_law.specs.Due.{is_waiting}
 use Rattle.rom_law.specs.Program.{code, Dispatches}
 use Rattle.rom_law.specs.Rows.{Since, Row, Stepped, Stopped, after_tick, dispatched}
 use Rattle.rom_law.specs.Runs.{Covers}
@@ -48,9 +49,9 @@ pub data Counted (e : Edition) (b : Machine) : Type 0 where
   NoEvent : is_event (code (vip e)) b ≡ false → Counted e b
   Renewed : b.regs.idle ≡ false → (place b.cycle ≡ interrupt_place → ⊥) → Counted e b
 
--- a dispatch or a stop
+-- a dispatch, which isn't that of 00E0 or DXYN, or a stop
 pub data Due (e : Edition) (b : Machine) (h : Since) : Type 0 where
-  Arrives : (s : Lang) → Stepped (vip e) b h s → Due e b h
+  Arrives : (s : Lang) → Stepped (vip e) b h s → is_waiting (instr_at h.state) ≡ false → Due e b h
   Ends : (stop : Stop) → Stopped (vip e) b h stop → Due e b h
 
 -- ---- the screen

@@ -1,13 +1,12 @@
 -- The time since the last dispatch point: the cycles of main code, of the interrupt routine and of the wait for the display.
-use Rattle.std.specs.Prelude.{◌≡◌, ℕ, ◌+◌, ◌-◌, ◌*◌, ◌%◌, ◌≤◌, ◌⊎◌, true, Some, None}
+use Rattle.std.specs.Prelude.{◌≡◌, ℕ, ◌+◌, ◌-◌, ◌*◌, ◌%◌, ◌≤◌, ◌⊎◌, true, Some}
 use Rattle.machine.specs.Board.{Machine}
 use Rattle.machine.specs.Pictures.{frame, place, interrupt_place, window_place}
 use Rattle.chip8_lang.specs.declared.instr.Instr.TheVariants.{Clear, Draw}
 use Rattle.chip8_lang.specs.declared.view.Edition.{Edition}
 use Rattle.chip8_lang.specs.State.{Lang, instr_at}
 use Rattle.chip8_lang.specs.Bounds.{bound_of}
-use Rattle.chip8_lang.specs.Step.{stop_of}
-use Rattle.chip8_lang.specs.Timed.{before_wait}
+use Rattle.chip8_lang.specs.Timed.{ended, woken, before_wait}
 use Rattle.rom_law.specs.Rows.{Since, Row}
 use Rattle.rom_rows.specs.Rom.{vip}
 use Rattle.rom_rows.specs.Table.{calm_pieces, waited_pieces}
@@ -41,20 +40,26 @@ most_changing = 1560
 abbrev pub wait_time : Edition → Lang → ℕ
 wait_time e s = before_wait e (instr_at s) s
 
--- Behind a wait: main code went on in the cycle `woke`, where the interrupt routine returned.
+-- Main code has waited n cycles: since the window ended at most, and, behind an interrupt of the interval, an instruction was made before.
+pub record HasWaited (b : Machine) (h : Since) (n : ℕ) : Type 0 where
+  pub most : n ≤ since_window b.cycle
+  pub moved : (h.ticks ≡ 0) ⊎ (n + 2 ≤ since_return b.cycle)
+
+-- Behind a wait: main code went on in the cycle `woke`, where the interrupt routine returned, as the language's time says.
 pub record Woken (e : Edition) (b : Machine) (h : Since) : Type 0 where
   pub woke : ℕ
   pub return : place woke ≡ interrupt_place + routine_cycles
+  pub exact : woke ≡ woken (ended h.from (wait_time e h.state))
   pub most : ℕ
   pub waits : WaitsBy h.state most
   pub since : b.cycle + wait_time e h.state ≡ woke + h.spent
   pub least : wait_time e h.state ≤ h.spent
   pub row : Row (vip e) (waited_pieces (vip e)) b h
 
--- Main code hasn't waited; it waits, since the window ended at most; or it has waited, and is behind the wait of 00E0 or DXYN.
+-- Main code hasn't waited; it waits; or it has waited, and is behind the wait of 00E0 or DXYN.
 pub data Timed (e : Edition) (b : Machine) (h : Since) : Type 0 where
   Before : Spends b h 0 → Row (vip e) (calm_pieces (vip e)) b h → Timed e b h
-  Waiting : (n : ℕ) → Spends b h n → n ≤ since_window b.cycle → b.regs.idle ≡ true → Row (vip e) (calm_pieces (vip e)) b h → Timed e b h
+  Waiting : (n : ℕ) → Spends b h n → HasWaited b h n → b.regs.idle ≡ true → Row (vip e) (calm_pieces (vip e)) b h → Timed e b h
   Behind : (n : ℕ) → Spends b h n → n ≤ most_wait → Row (vip e) (waited_pieces (vip e)) b h → Woken e b h → Timed e b h
 
 -- m cycles of main code and of waiting end within the bound: so many interrupts at most come in them, each with a run of the routine
@@ -63,16 +68,20 @@ pub record Suffices (bound m : ℕ) : Type 0 where
   pub few : m + most_wait ≤ (frame - routine_cycles) * (interrupts + 1)
   pub all : m + routine_cycles * interrupts ≤ bound
 
--- main code has waited: at 00E0 or DXYN, of a state that doesn't stop
-pub record BehindWait (e : Edition) (h : Since) : Type 0 where
-  pub most : ℕ
-  pub waits : WaitsBy h.state most
-  pub runs : stop_of e h.state ≡ None
+-- the last main move was made behind a wait: it comes to b, with the record h
+pub record BehindWait (e : Edition) (b : Machine) (h : Since) : Type 0 where
+  pub old : Machine
+  pub before : Since
+  pub woken : Woken e old before
+  pub cycle : b.cycle ≡ old.cycle + 2
+  pub spent : h.spent ≡ before.spent + 2
+  pub from : h.from ≡ before.from
+  pub state : h.state ≡ before.state
 
 -- An event in the cycle of an interrupt comes within the bound of its instruction; the cycles up to it are those of main code and of the routine,
--- or main code has waited.
+-- or the last main move was made behind a wait.
 pub record DueInTime (e : Edition) (b : Machine) (h : Since) : Type 0 where
   pub waited : ℕ
   pub spends : Spends b h waited
   pub suffices : (bound : ℕ) → bound_of e h.state ≡ Some bound → Suffices bound (h.spent + waited)
-  pub exact : Spends b h 0 ⊎ BehindWait e h
+  pub exact : Spends b h 0 ⊎ BehindWait e b h

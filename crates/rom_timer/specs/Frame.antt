@@ -1,5 +1,5 @@
 -- Which move the board makes where main code runs or waits, with the display on: by the place of its cycle in the frame of 3,668 cycles.
-use Rattle.std.specs.Prelude.{◌≡◌, ℕ, ◌+◌, ◌*◌, ◌/◌, ◌%◌, ◌≤◌, ◌⊎◌, true, false, List}
+use Rattle.std.specs.Prelude.{◌≡◌, ℕ, ◌+◌, ◌/◌, ◌%◌, ◌≤◌, ◌⊎◌, true, false, List}
 use Rattle.machine.specs.Opcodes.{cycles_of}
 use Rattle.machine.specs.Instruction.{interrupted}
 use Rattle.machine.specs.Signals.{efx_at}
