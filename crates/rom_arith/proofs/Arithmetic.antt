@@ -166,7 +166,7 @@ module _ (e : Edition) (b : Machine) (h : Since) (f : FitsMachine b) where
   unfolding pointed
   copy =
       operation 0 _ (λ r. omega (arith, r)) refl
-      (λ o instr spent h' g. steps e g (Copy (high % 16) (low / 16)) instr refl (rw (o.entered.inside, instr) refl) (omega (arith, spent)) _
+      (λ o instr spent h' g. steps e g (Copy (high % 16) (low / 16)) instr refl (rw (o.entered.inside, instr) refl) (omega (arith, spent)) tt _
       (subst (λ y. Holding (quick e)
       (record (places b) { ram = written b.latch b.ram (page_of e * 256 + (240 + high % 16)) (byte_y e b (now h)) })
       (set (high % 16) y (now h))) (is_vy o.entered f)

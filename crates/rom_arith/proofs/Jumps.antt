@@ -156,7 +156,7 @@ module _ (e : Edition) (b : Machine) (h : Since) (f : FitsMachine b) where
   return_take_comes o zero back some spent =
       routine (OfArith ReturnTake) o _ (omega (arith, o.holds.stack, stack_top_is e, page_fits e, some, f.regs.r.r2.hi, f.regs.r.r2.lo)) refl
       (λ h' g. steps e g ReturnFrom (return_is at_return_take o zero back) refl (return_runs at_return_take o zero back some)
-      (omega (arith, spent)) _
+      (omega (arith, spent)) tt _
       (pc_set (pop o.holds f.regs.r.r2 some) taken _ (popped o.holds f.regs.r.r2 some)) refl refl)
     where
       taken : Word
@@ -176,7 +176,7 @@ module _ (e : Edition) (b : Machine) (h : Since) (f : FitsMachine b) where
   pub jump_comes : Enters (quick e) at_jump 1 b (now h) → h.spent ≡ 80 → Comes (quick e) (calm_pieces (quick e)) (OfArith JumpTo) b h
   jump_comes o spent =
       routine (OfArith JumpTo) o.entered _ (omega arith) refl
-      (λ h' g. steps e g (Jump (high % 16 * 256 + low)) (jump_is o) refl (jump_runs o) (omega (arith, spent)) _
+      (λ h' g. steps e g (Jump (high % 16 * 256 + low)) (jump_is o) refl (jump_runs o) (omega (arith, spent)) tt _
       (pc_set o.entered.holds (word (bit_and high 15) low) (high % 16 * 256 + low) target) refl refl)
 
   -- ---- 2MMM
@@ -228,7 +228,7 @@ module _ (e : Edition) (b : Machine) (h : Since) (f : FitsMachine b) where
   call_put_comes o room spent =
       routine (OfArith CallPut) o.entered _
       (omega (arith, o.entered.holds.stack, stack_top_is e, page_fits e, f.regs.r.r2.hi, f.regs.r.r2.lo, room)) refl
-      (λ h' g. steps e g (CallTo (high % 16 * 256 + low)) (call_is o) refl (call_runs o room) (omega (arith, spent)) _
+      (λ h' g. steps e g (CallTo (high % 16 * 256 + low)) (call_is o) refl (call_runs o room) (omega (arith, spent)) tt _
       (pc_set (pushes o room) (word (bit_and high 15) low) (high % 16 * 256 + low) target) refl refl)
 
   -- ---- BMMM
@@ -252,6 +252,6 @@ module _ (e : Edition) (b : Machine) (h : Since) (f : FitsMachine b) where
   pub jump_plus_comes : Enters (quick e) at_jump_plus 11 b (now h) → h.spent ≡ 80 → Comes (quick e) (calm_pieces (quick e)) (OfArith JumpPlus) b h
   jump_plus_comes o spent =
       routine (OfArith JumpPlus) o.entered _ (omega (arith, o.entered.holds.stack, stack_top_is e, page_fits e)) refl
-      (λ h' g. steps e g (JumpBy (high % 16 * 256 + low)) (plus_is o) refl (plus_runs o) (omega (arith, spent)) _
+      (λ h' g. steps e g (JumpBy (high % 16 * 256 + low)) (plus_is o) refl (plus_runs o) (omega (arith, spent)) tt _
       (pc_set o.entered.holds (word ((0 + bit_and high 15 + low_sum / 256) % 256) (low_sum % 256)) (high % 16 * 256 + low + variable (now h) 0)
       (sum_is o)) refl refl)

@@ -29,13 +29,13 @@ module _ (e : Edition) (b : Machine) (h : Since) (f : FitsMachine b) where
   pub load_comes : Enters (quick e) at_load 6 b (now h) → h.spent ≡ 80 → Comes (quick e) (calm_pieces (quick e)) (OfArith Load) b h
   load_comes o spent =
       routine (OfArith Load) o.entered _ (omega arith) refl
-      (λ h' g. steps e g (IsLoad (high % 16) low) (rw o.digit refl) refl (rw (o.entered.inside, o.digit) refl) (omega (arith, spent)) _
+      (λ h' g. steps e g (IsLoad (high % 16) low) (rw o.digit refl) refl (rw (o.entered.inside, o.digit) refl) (omega (arith, spent)) tt _
       (v_set o.entered.holds _ (high % 16) low (omega (arith, variables_is e)) (omega arith)) refl refl)
 
   pub add_comes : Enters (quick e) at_add 7 b (now h) → h.spent ≡ 80 → Comes (quick e) (calm_pieces (quick e)) (OfArith Add) b h
   add_comes o spent =
       routine (OfArith Add) o.entered _ (omega (arith, o.entered.holds.stack, stack_top_is e)) refl
-      (λ h' g. steps e g (IsAdd (high % 16) low) (rw o.digit refl) refl (rw (o.entered.inside, o.digit) refl) (omega (arith, spent)) _
+      (λ h' g. steps e g (IsAdd (high % 16) low) (rw o.digit refl) refl (rw (o.entered.inside, o.digit) refl) (omega (arith, spent)) tt _
       (rw sum (v_set o.entered.holds _ (high % 16) _ (omega (arith, variables_is e)) (omega arith))) refl refl)
     where
       sum : read (both e) b.latch b.ram (page_of e * 256 + (240 + high % 16)) + low ≡ variable (now h) (high % 16) + low

@@ -1,19 +1,21 @@
 -- What loads, skips and 8XYN share: VX and VY, and the step at an end of several instructions.
-use Rattle.std.proofs.Common.{◌≡◌, ℕ, ◌+◌, ◌*◌, ◌/◌, ◌%◌, refl, sym, arith, subst, true}
+use Rattle.std.proofs.Common.{◌≡◌, ℕ, ◌+◌, ◌*◌, ◌/◌, ◌%◌, refl, sym, arith, subst, true, List}
 use Rattle.std.specs.Prelude.{None}
 use Rattle.machine.specs.Bank.{word_of}
 use Rattle.machine.specs.Memory.{read}
 use Rattle.machine.specs.Board.{Machine}
 use Rattle.machine.specs.Ranges.{FitsMachine}
 use Rattle.chip8_lang.specs.declared.instr.Instr.{Instr}
-use Rattle.chip8_lang.specs.declared.instr.Instr.TheVariants.{Clear, Return, Machine as MachineCode, Call, Draw, SkipDown, SkipUp, WaitKey, Decimal, Store, Fetch, Unknown}
+use Rattle.chip8_lang.specs.declared.instr.Instr.TheVariants.{Clear, Return, Machine as MachineCode, Call, Draw, SkipDown, SkipUp, WaitKey, Random, GetDelay, SetDelay, SetSound, Decimal, Store, Fetch, Unknown}
 use Rattle.chip8_lang.specs.declared.view.Edition.{Edition}
 use Rattle.chip8_lang.specs.State.{Lang, variable, instr_at}
 use Rattle.chip8_lang.specs.Step.{stop_of, stop_of_instr}
+use Rattle.chip8_lang.specs.Step.KeyInput.{Nothing}
 use Rattle.chip8_image.specs.Labels.{at_fetch}
 use Rattle.rom_law.proofs.Moves.{AllGood, quicks}
 use Rattle.rom_law.specs.Program.{code}
 use Rattle.rom_law.specs.Holding.{places, Holding}
+use Rattle.rom_law.specs.Moments.{Moment, Tells}
 use Rattle.rom_law.specs.Rows.{Since, now}
 use Rattle.rom_law.proofs.Places.{v_get}
 use Rattle.rom_law.proofs.Kept.{Comes}
@@ -52,6 +54,13 @@ shared_prompt (SkipUp x) k = cc
 shared_prompt (WaitKey x) k = cc
 shared_prompt _ k = refl
 
+shared_told : (i : Instr) (s : Lang) (moments : List Moment) (n : ℕ) → has_shared_end i ≡ true → Tells i s moments n Nothing
+shared_told (Random x m) s moments n k = cc
+shared_told (GetDelay x) s moments n k = cc
+shared_told (SetDelay x) s moments n k = cc
+shared_told (SetSound x) s moments n k = cc
+shared_told _ s moments n k = tt
+
 shared_runs : (e : Edition) (i : Instr) (s : Lang) → has_shared_end i ≡ true → stop_of_instr e i s ≡ None
 shared_runs e Return s k = cc
 shared_runs e (MachineCode a) s k = cc
@@ -69,7 +78,8 @@ pub ending : {e : Edition} {b : Machine} {h : Since} {a : ℕ} {z : Lang} (l : B
     → quicks (code (quick e)) (moves l) (entered e a (high_byte (now h)) (low_byte (now h)) b) ≡ c → Holding (quick e) (places c) z → c.regs.p ≡ 4
     → c.regs.r.r4 ≡ word_of at_fetch → Comes (quick e) (calm_pieces (quick e)) l b h
 ending {e = e} {h = h} l o time c good is holds p r4 =
-    routine l o.entered c good is (λ h' g. steps e g (instr_at (now h)) refl (shared_prompt _ o.shared) runs time c
+    routine l o.entered c good is (λ h' g. steps e g (instr_at (now h)) refl (shared_prompt _ o.shared) runs time
+    (shared_told _ h'.state h'.moments h'.ticks o.shared) c
     (subst (Holding (quick e) (places c)) (sym o.makes) holds) p r4)
   where
     runs : stop_of e (now h) ≡ None

@@ -23,8 +23,8 @@ pub key_block : (e : Edition) (l : KeyBlock) (b : Machine) (h : Since) → FitsM
 key_block e KeySkip b h f o = key_skip_comes e b h f o.0 o.1
 key_block e KeySkipUp b h f o = key_skip_up_comes e b h f o.0.0 o.0.1 o.0.2 o.1
 key_block e (SkipLatch down) b h f o = skip_latch_comes e b h f down o.0.0 o.0.1 o.0.2 o.1
-key_block e (NoSkip down) b h f o = no_skip_comes e b h f down o.0.0 o.0.1 o.1
-key_block e (Skip down) b h f o = skip_comes e b h f down o.0.0 o.0.1 o.1
+key_block e (NoSkip down) b h f o = no_skip_comes e b h f down o.0.0 o.0.1 o.1.0 o.1.1
+key_block e (Skip down) b h f o = skip_comes e b h f down o.0.0 o.0.1 o.1.0 o.1.1
 key_block e WaitKey b h f o = wait_key_comes e b h f o.0.0 o.0.1 o.1
 key_block e (KeyNext turn) b h f o = key_next_comes e b h f turn o.0.0 o.0.1 o.1
 key_block e (KeyCount turn) b h f o = key_count_comes e b h f turn o.0.0 o.0.1 o.0.2 o.1

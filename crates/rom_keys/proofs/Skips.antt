@@ -16,6 +16,7 @@ use Rattle.chip8_lang.specs.Step.KeyInput.{Held}
 use Rattle.chip8_lang.specs.Between.{SomeTime}
 use Rattle.chip8_image.specs.Labels.{at_key_skip, at_key_skip_up, at_skip_up, at_skip_down, at_unknown82, at_key_yes}
 use Rattle.rom_law.specs.Code.{Input}
+use Rattle.rom_law.specs.Moments.{Sees}
 use Rattle.rom_law.specs.Rows.{Since, Grows, now}
 use Rattle.rom_law.proofs.Places.{v_get, pc_is, pc_set}
 use Rattle.rom_law.proofs.Steps.{now_same}
@@ -28,14 +29,14 @@ use Rattle.rom_rows.specs.KeyBlocks.KeyPlace.{SkipTest}
 use Rattle.rom_rows.specs.Table.{At, calm_pieces}
 use Rattle.rom_rows.specs.Table.Block.{OfKey}
 use Rattle.rom_rows.specs.Table.Place.{AtKey}
-use Rattle.rom_rows.proofs.Alone.{alone_forks, one_more}
+use Rattle.rom_rows.proofs.Alone.{alone_forks, one_more, sees_now}
 use Rattle.rom_rows.proofs.Bits.{same_xor, xor_same, xor_other, nonzero, is_zero}
 use Rattle.rom_rows.proofs.Branches.{branch, looked, looks}
 use Rattle.rom_rows.proofs.Bytes.{page_fits, memory_end_is, stack_top_is, variables_is}
 use Rattle.rom_rows.proofs.Entry.{entered, is_entered, on_3, is_on_3, is_inside}
 use Rattle.rom_rows.proofs.Follows.{to_arith, to_key, to_key_place}
 use Rattle.rom_rows.proofs.Later.{ticks_variable}
-use Rattle.rom_rows.proofs.Steps.{some_is, makes_calm, steps_with}
+use Rattle.rom_rows.proofs.Steps.{sees_grown, some_is, makes_calm, steps_with}
 use Rattle.rom_rows.proofs.Ways.{straight}
 use Rattle.rom_keys.proofs.Rom.{both, quick}
 use Rattle.rom_keys.proofs.Sets.{some_grown, some_last, last_set}
@@ -163,15 +164,18 @@ module _ (e : Edition) (b : Machine) (h : Since) (f : FitsMachine b) where
   skip_test_holds true o key at spent =
       alone_forks (AtKey (SkipTest true)) f at o.holds (on_3 (skip_test_label true) b) (is_on_3 (skip_test_label true) b o.p o.r3) refl refl gone
       (λ u. u.held b.key) at_key_yes (no_skip_label true) (λ u. refl)
-      (λ u k. to_key (quick e) (one_more u h) _ refl (Skip true) (skips_on at_key_yes o, found u true key k) (omega (arith, spent)))
-      (λ u k. to_key (quick e) (one_more u h) _ refl (NoSkip true) (skips_on (no_skip_label true) o, found u false key k) (omega (arith, spent)))
+      (λ u k. to_key (quick e) (one_more u h) _ refl (Skip true) (skips_on at_key_yes o, found u true key k)
+      (omega (arith, spent), sees_now u h 90 (skip_key (now h)) true spent (ap u.held (sym key) ∙ k)))
+      (λ u k. to_key (quick e) (one_more u h) _ refl (NoSkip true) (skips_on (no_skip_label true) o, found u false key k)
+      (omega (arith, spent), sees_now u h 90 (skip_key (now h)) false spent (ap u.held (sym key) ∙ k)))
   skip_test_holds false o key at spent =
       alone_forks (AtKey (SkipTest false)) f at o.holds (on_3 (skip_test_label false) b) (is_on_3 (skip_test_label false) b o.p o.r3) refl refl gone
       (λ u. not (u.held b.key)) at_key_yes (no_skip_label false) (λ u. refl)
       (λ u k. to_key (quick e) (one_more u h) _ refl (Skip false) (skips_on at_key_yes o, found u false key (opposite (u.held b.key) true k))
-      (omega (arith, spent)))
+      (omega (arith, spent), sees_now u h 96 (skip_key (now h)) false spent (ap u.held (sym key) ∙ opposite (u.held b.key) true k)))
       (λ u k. to_key (quick e) (one_more u h) _ refl (NoSkip false)
-      (skips_on (no_skip_label false) o, found u true key (opposite (u.held b.key) false k)) (omega (arith, spent)))
+      (skips_on (no_skip_label false) o, found u true key (opposite (u.held b.key) false k))
+      (omega (arith, spent), sees_now u h 96 (skip_key (now h)) true spent (ap u.held (sym key) ∙ opposite (u.held b.key) false k)))
 
   -- ---- the step
 
@@ -193,26 +197,34 @@ module _ (e : Edition) (b : Machine) (h : Since) (f : FitsMachine b) where
       subst (λ y. SomeTime h'.keys (y % 16) t) (sym (ap (λ z. variable z (high % 16)) (now_same g)) ∙ ticks_variable h'.ticks (high % 16) h'.state)
       (some_grown g s)
 
+  -- and so it was at its main move
+  seen : {h' : Since} {k n : ℕ} (t : Bool) → Grows h k 0 h' → Sees h.moments n (skip_key (now h)) t → Sees h'.moments n (variable h'.state (high % 16) % 16) t
+  seen {h' = h'} {n = n} t g s =
+      subst (λ y. Sees h'.moments n (y % 16) t) (sym (ap (λ z. variable z (high % 16)) (now_same g)) ∙ ticks_variable h'.ticks (high % 16) h'.state)
+      (sees_grown g s)
+
   pub no_skip_comes : (down : Bool) → Skipping (quick e) down (no_skip_label down) b (now h) → SomeTime h.keys (skip_key (now h)) (not down) → h.spent ≡ skip_time down + 4
+      → Sees h.moments (skip_time down + 2) (skip_key (now h)) (not down)
       → Comes (quick e) (calm_pieces (quick e)) (OfKey (NoSkip down)) b h
-  no_skip_comes true o s spent = straight (OfKey (NoSkip true)) o.holds (on_3 (no_skip_label true) b) (is_on_3 (no_skip_label true) b o.p o.r3) _ (omega arith) refl
+  no_skip_comes true o s spent met = straight (OfKey (NoSkip true)) o.holds (on_3 (no_skip_label true) b) (is_on_3 (no_skip_label true) b o.p o.r3) _ (omega arith) refl
       (λ h' g. steps_with e g (skip_of true) (skip_is true o) (skip_runs true o) (Held false) (allowed false g s) tt
-      (λ n t. omega (arith, spent, some_is t)) (makes_calm g (skip_is true o) refl) _ o.holds refl o.r4)
-  no_skip_comes false o s spent =
+      (λ n t. omega (arith, spent, some_is t)) (seen false g met) (makes_calm g (skip_is true o) refl) _ o.holds refl o.r4)
+  no_skip_comes false o s spent met =
       straight (OfKey (NoSkip false)) o.holds (on_3 (no_skip_label false) b) (is_on_3 (no_skip_label false) b o.p o.r3) _ (omega arith) refl
       (λ h' g. steps_with e g (skip_of false) (skip_is false o) (skip_runs false o) (Held true) (allowed true g s) tt
-      (λ n t. omega (arith, spent, some_is t)) (makes_calm g (skip_is false o) refl) _ o.holds refl o.r4)
+      (λ n t. omega (arith, spent, some_is t)) (seen true g met) (makes_calm g (skip_is false o) refl) _ o.holds refl o.r4)
 
   two_on : {down : Bool} {a : ℕ} → Skipping (quick e) down a b (now h) → value (up (up b.regs.r.r5)) ≡ (now h).pc + 4
   two_on o = omega (arith, pc_is o.holds, is_inside e (now h) o.inside, memory_end_is e, page_fits e, f.regs.r.r5.hi, f.regs.r.r5.lo)
 
   pub skip_comes : (down : Bool) → Skipping (quick e) down at_key_yes b (now h) → SomeTime h.keys (skip_key (now h)) down → h.spent ≡ skip_time down + 4
+      → Sees h.moments (skip_time down + 2) (skip_key (now h)) down
       → Comes (quick e) (calm_pieces (quick e)) (OfKey (Skip down)) b h
-  skip_comes true o s spent = straight (OfKey (Skip true)) o.holds (on_3 at_key_yes b) (is_on_3 at_key_yes b o.p o.r3) _ (omega arith) refl
-      (λ h' g. steps_with e g (skip_of true) (skip_is true o) (skip_runs true o) (Held true) (allowed true g s) tt (λ n t. omega (arith, spent, some_is t))
+  skip_comes true o s spent met = straight (OfKey (Skip true)) o.holds (on_3 at_key_yes b) (is_on_3 at_key_yes b o.p o.r3) _ (omega arith) refl
+      (λ h' g. steps_with e g (skip_of true) (skip_is true o) (skip_runs true o) (Held true) (allowed true g s) tt (λ n t. omega (arith, spent, some_is t)) (seen true g met)
       (makes_calm g (skip_is true o) refl) _
       (pc_set o.holds (up (up b.regs.r.r5)) ((now h).pc + 4) (two_on o)) refl o.r4)
-  skip_comes false o s spent = straight (OfKey (Skip false)) o.holds (on_3 at_key_yes b) (is_on_3 at_key_yes b o.p o.r3) _ (omega arith) refl
-      (λ h' g. steps_with e g (skip_of false) (skip_is false o) (skip_runs false o) (Held false) (allowed false g s) tt (λ n t. omega (arith, spent, some_is t))
+  skip_comes false o s spent met = straight (OfKey (Skip false)) o.holds (on_3 at_key_yes b) (is_on_3 at_key_yes b o.p o.r3) _ (omega arith) refl
+      (λ h' g. steps_with e g (skip_of false) (skip_is false o) (skip_runs false o) (Held false) (allowed false g s) tt (λ n t. omega (arith, spent, some_is t)) (seen false g met)
       (makes_calm g (skip_is false o) refl) _
       (pc_set o.holds (up (up b.regs.r.r5)) ((now h).pc + 4) (two_on o)) refl o.r4)

@@ -237,7 +237,7 @@ module _ (e : Edition) (b : Machine) (h : Since) (f : FitsMachine b) where
       → Comes (quick e) (calm_pieces (quick e)) (OfKey KeyFreed) b h
   key_freed_comes o freed = routine (OfKey KeyFreed) o.enters.entered _ (omega (arith, o.enters.entered.holds.stack, stack_top_is e, page_fits e)) refl
       (λ h' g. steps_with e g (IsWaitKey (high % 16)) is runs (Chosen (b.regs.r.re.lo % 16)) (let_go_grown g (let_go freed (omega arith)))
-      tt (λ n t. cc) (makes_calm g is refl) _ puts refl refl)
+      tt (λ n t. cc) tt (makes_calm g is refl) _ puts refl refl)
     where
       is : instr_at (now h) ≡ IsWaitKey (high % 16)
       is = rw (o.enters.digit, o.low) refl

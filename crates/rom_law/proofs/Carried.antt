@@ -28,7 +28,12 @@ disabled_apart b off e =
 module _ (rom : List ℕ) (held : ℕ → Keys) (b : Machine) (h : Since) where
   -- a main move more
   abbrev pub main_more : ℕ → Since
-  main_more n = record h { spent = h.spent + n; keys = h.keys ++ held (b.cycle + 1) ∷ [] }
+  main_more n =
+      record h {
+        spent = h.spent + n;
+        keys = h.keys ++ held (b.cycle + 1) ∷ [];
+        moments = record { spent = h.spent; ticks = h.ticks; held = held (b.cycle + 1) } ∷ h.moments;
+      }
 
   abbrev by_enabled : Bool → Since
   by_enabled t = if t then main_more (cycles_of (opcode_of rom b)) else h

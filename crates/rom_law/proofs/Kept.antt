@@ -23,7 +23,7 @@ use Rattle.rom_law.specs.Rows.Ends.{Continues, Steps, Fails}
 use Rattle.rom_law.specs.Rows.Row.{Inside, Alone}
 use Rattle.rom_law.specs.Rows.Starts.{Enters, Meets}
 use Rattle.rom_law.specs.Rows.Outcome.{Still, Dispatched, Halted}
-use Rattle.rom_law.proofs.Language.{ticks_add, counted_as, between_ticks, between_ticks_key}
+use Rattle.rom_law.proofs.Language.{ticks_add, counted_as, between_ticks, between_ticks_key, told_ticks}
 use Rattle.rom_law.proofs.Later.{dispatches_after, halts_after}
 use Rattle.rom_law.proofs.Writes.{writes_below}
 
@@ -129,7 +129,7 @@ length_more [] k = refl
 length_more (j ∷ m) k = ap suc (length_more m k)
 
 pub grows_none : (h : Since) → Grows h 0 0 h
-grows_none h = record { from = refl; state = refl; ticks = omega arith; spent = omega arith; more = []; keys = append_none h.keys; count = refl }
+grows_none h = record { from = refl; state = refl; ticks = omega arith; spent = omega arith; more = []; keys = append_none h.keys; count = refl; moments = λ m a. a }
 
 grows_main : (h : Since) (k n : ℕ) (h' : Since) (u : Input) → Grows h k n h' → Grows h (suc k) n (after_main u h')
 grows_main h k n h' u g =
@@ -141,21 +141,22 @@ grows_main h k n h' u g =
       more = g.more ++ u.held ∷ [];
       keys = ap (λ l. l ++ u.held ∷ []) g.keys ∙ append_more h.keys g.more u.held;
       count = length_more g.more u.held ∙ ap suc g.count;
+      moments = λ m a. inr (g.moments m a);
     }
 
 grows_tick : (h : Since) (k n : ℕ) (h' : Since) → Grows h k n h' → Grows h k (suc n) (after_tick h')
 grows_tick h k n h' g =
-    record { from = g.from; state = g.state; ticks = omega (arith, g.ticks); spent = g.spent; more = g.more; keys = g.keys; count = g.count }
+    record { from = g.from; state = g.state; ticks = omega (arith, g.ticks); spent = g.spent; more = g.more; keys = g.keys; count = g.count; moments = g.moments }
 
 -- the record before the n ticks
 abbrev unticked : Since → Since → Since
 unticked h h' = record h' { ticks = h.ticks }
 
 grows_back : (h : Since) (k n : ℕ) (h' : Since) → Grows h k n h' → Grows h k 0 (unticked h h')
-grows_back h k n h' g = record { from = g.from; state = g.state; ticks = omega arith; spent = g.spent; more = g.more; keys = g.keys; count = g.count }
+grows_back h k n h' g = record { from = g.from; state = g.state; ticks = omega arith; spent = g.spent; more = g.more; keys = g.keys; count = g.count; moments = g.moments }
 
 grows_on : (h : Since) (k n : ℕ) (h' : Since) → Grows h k n h' → Grows (unticked h h') 0 n h'
-grows_on h k n h' g = record { from = refl; state = refl; ticks = g.ticks; spent = omega arith; more = []; keys = append_none h'.keys; count = refl }
+grows_on h k n h' g = record { from = refl; state = refl; ticks = g.ticks; spent = omega arith; more = []; keys = append_none h'.keys; count = refl; moments = λ m a. a }
 
 -- ---- the rows are kept
 
@@ -210,6 +211,7 @@ module _ (x : Program) (t : Pieces) (sound : Sound x t) where
         between = counted_as g.ticks (between_ticks n x.edition h'.state h.ticks h'.keys s st.between);
         time =
             λ k t. st.time k (ap (x.takes h'.state) (sym (between_ticks_key n x.edition h'.state h.ticks h'.keys s st.between)) ∙ t);
+        told = told_ticks n x.edition h'.state h.ticks h'.keys s st.between h'.moments st.told;
         stands = dispatches_after x n c b a f s st.stands;
       })
       makes

@@ -1,6 +1,6 @@
 -- The law of a run holds where each move of the board comes to what it should, in time and with its pictures, and boot comes to a first dispatch.
 use Rattle.std.proofs.Common.{◌≡◌, ℕ, zero, suc, ◌+◌, ◌-◌, ◌<◌, ◌≤◌, ◌⊎◌, inl, inr, refl, sym, ◌∙◌, ap, subst, subst₂, arith, le_refl, Bool, true, false, cond, List, [], ◌∷◌, ◌++◌, filter, map}
-use Rattle.std.specs.Prelude.{Some, None}
+use Rattle.std.specs.Prelude.{None}
 use Rattle.std.proofs.lemmas.Bool.{cases_lt}
 use Rattle.machine.specs.Board.{Machine, move, start}
 use Rattle.machine.specs.Keys.{held_at}
@@ -11,6 +11,7 @@ use Rattle.machine.proofs.Counts.{windows}
 use Rattle.machine.proofs.Runs.{later-move, run_to-next, run_to-past}
 use Rattle.chip8_lang.specs.State.{Lang, first}
 use Rattle.chip8_lang.specs.Ticks.{ticks}
+use Rattle.chip8_lang.specs.Timed.Next.{Dispatch as NextDispatch, Stopped as NextStopped}
 use Rattle.chip8_lang.specs.Between.{Between, keys_between}
 use Rattle.chip8_lang.specs.Bounds.{boot_bound}
 use Rattle.chip8_lang.specs.Events.{Event, events_at, events_of, numbers_from, is_dispatch, is_stop, events_behind}
@@ -131,7 +132,7 @@ module _ (x : Program) (script : List KeyEvent) (limit : ℕ) (run : List Machin
 record Made (x : Program) (script : List KeyEvent) (c : Machine) (a : ℕ) (y : Lang) : Type 0 where
   runs : x.stop_of y ≡ None
   between : Between x.edition y (x.ticks_between a c.cycle) (keys_between script a c.cycle) (state_at x c)
-  cycle : (t : ℕ) → x.due a y between.key ≡ Some t → c.cycle ≡ t
+  next : (limit : ℕ) → c.cycle ≤ limit → x.is_told y ≡ true → x.next script limit a y ≡ NextDispatch c.cycle (state_at x c)
 
 module _ (x : Program) (script : List KeyEvent) (limit : ℕ) (run : List Machine) (Running : Machine → Since → Type 0) (carries : Carries x script limit run Running) where
   abbrev next : Machine → Machine
@@ -187,15 +188,15 @@ module _ (x : Program) (script : List KeyEvent) (limit : ℕ) (run : List Machin
     moved fuel on enough here (Arrived d z i st due r') =
         on_dispatch x script limit run b c.cycle (next c) (rest (next (next c))) order (each here) d z (
           comes here,
-          record { runs = made.runs; between = made.between; cycle = made.cycle; stands = st.stands },
+          record { runs = made.runs; between = made.between; next = made.next; stands = st.stands },
           on (next c) (next c) (dispatched (next c).cycle (state_at x (next c))) refl refl r' (le_refl (next c).cycle) here (omega (arith, enough, later c)),
         )
       where
         made : Made x script (next c) b.cycle (state_at x b)
         made =
             subst₂ (Made x script (next c)) from_b state_b
-            (record { runs = st.runs; between = covers_between x script (next c) h' (state_at x (next c)) i st; cycle = due })
-    moved fuel on enough here (Halted z i stop st cycle) =
+            (record { runs = st.runs; between = covers_between x script (next c) h' (state_at x (next c)) i st; next = due })
+    moved fuel on enough here (Halted z i stop st due) =
         on_stop x script limit run b c.cycle (next c) (rest (next (next c))) order (each here) z (
         record {
           comes = comes here;
@@ -203,7 +204,10 @@ module _ (x : Program) (script : List KeyEvent) (limit : ℕ) (run : List Machin
               record {
                 stop = stop;
                 fits = ap x.stop_of (sym state_b) ∙ st.fits;
-                cycle = subst₂ (λ a y. (next c).cycle ≡ x.later a (x.stops_after y)) from_b state_b cycle;
+                next =
+                    subst₂ (λ a y. (keys : List KeyEvent) (most : ℕ)
+                    → x.next keys most a y ≡ NextStopped (next c).cycle (ticks (x.ticks_between a (next c).cycle) y) stop) from_b state_b
+                    (λ keys most. due keys most ∙ ap (λ n. NextStopped (next c).cycle (ticks n h'.state) stop) i.ticks);
                 halts =
                     subst₂ (λ y a. Halts x (next c) (ticks (x.ticks_between a (next c).cycle) y) stop) state_b from_b
                     (subst (λ n. Halts x (next c) (ticks n h'.state) stop) i.ticks st.halts);

@@ -1,6 +1,6 @@
 pub mod Code
 pub mod Later
-pub mod Due
+pub mod Moments
 pub mod Program
 pub mod Holding
 pub mod Rows

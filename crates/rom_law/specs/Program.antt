@@ -1,23 +1,24 @@
 -- A ROM under proof, and where a language state lies in a machine that runs it.
-use Rattle.std.specs.Prelude.{◌≡◌, ℕ, ◌/◌, Bool, true, Option, slice_index}
+use Rattle.std.specs.Prelude.{◌≡◌, ℕ, ◌/◌, Bool, true, List, Option, slice_index}
 use Rattle.machine.specs.Bank.{Word, word_of}
 use Rattle.machine.specs.Board.{Machine}
+use Rattle.machine.specs.Keys.{Event}
 use Rattle.chip8_lang.specs.declared.view.Edition.{Edition}
 use Rattle.chip8_lang.specs.declared.view.Stop.{Stop}
 use Rattle.chip8_lang.specs.Editions.{memory_end, screen_start, stop_cell}
 use Rattle.chip8_lang.specs.State.{Lang, instr_at}
 use Rattle.chip8_lang.specs.Step.{KeyInput, stop_number, stop_of}
-use Rattle.chip8_lang.specs.Timed.{later, stop_cycles}
+use Rattle.chip8_lang.specs.Timed.{Next, next_point, stop_cycles}
 use Rattle.chip8_lang.specs.Between.{ticks_between}
 use Rattle.chip8_lang.specs.Bounds.{bound_of}
 use Rattle.chip8_lang.specs.Places.{Interpreter, Lies}
 use Rattle.rom_law.specs.Code.{Code}
-use Rattle.rom_law.specs.Due.{takes_by, due_by}
+use Rattle.rom_law.specs.Moments.{takes_by, is_told_by}
 
 -- An interpreter of an edition; whether its boot turns the display on, and what it leaves in R1 and RB.1; which stop fits a state, since
 -- an interpreter may know a part of the language alone; the cycle bound of a state; the timer ticks between two cycles; the main cycles of a
--- state's step, by what it takes from the keypad, and of its stop; the cycle in which main code, which goes on in a cycle, has made so many main
--- cycles and goes on; and the cycle of the next dispatch point behind one in a cycle.
+-- state's step, by what it takes from the keypad, and of its stop; which states have no step of FX0A; and what comes next behind a dispatch point in a
+-- cycle, under a script and up to a limit.
 pub record Program : Type 0 where
   pub edition : Edition
   pub interpreter : Interpreter
@@ -29,8 +30,8 @@ pub record Program : Type 0 where
   pub ticks_between : ℕ → ℕ → ℕ
   pub takes : Lang → KeyInput → Option ℕ
   pub stops_after : Lang → ℕ
-  pub later : ℕ → ℕ → ℕ
-  pub due : ℕ → Lang → KeyInput → Option ℕ
+  pub is_told : Lang → Bool
+  pub next : List Event → ℕ → ℕ → Lang → Next
 
 -- its code, as the theory of moves takes it
 abbrev pub code : Program → Code
@@ -72,6 +73,6 @@ whole e i =
       ticks_between = ticks_between;
       takes = λ s key. takes_by e (instr_at s) s key;
       stops_after = stop_cycles e;
-      later = later;
-      due = λ t s key. due_by e (instr_at s) t s key;
+      is_told = λ s. is_told_by (instr_at s);
+      next = next_point e;
     }

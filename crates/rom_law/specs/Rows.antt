@@ -4,21 +4,23 @@ use Rattle.machine.specs.Board.{Machine}
 use Rattle.machine.specs.Keys.{Keys}
 use Rattle.machine.specs.Ranges.{FitsMachine}
 use Rattle.chip8_lang.specs.declared.view.Stop.{Stop}
-use Rattle.chip8_lang.specs.State.{Lang}
+use Rattle.chip8_lang.specs.State.{Lang, instr_at}
 use Rattle.chip8_lang.specs.Ticks.{ticks}
 use Rattle.chip8_lang.specs.Between.{Between}
 use Rattle.rom_law.specs.Code.{Input, run, is_event}
 use Rattle.rom_law.specs.Later.{After}
+use Rattle.rom_law.specs.Moments.{Moment, Among, Tells}
 use Rattle.rom_law.specs.Program.{Program, code, Dispatches, Halts}
 
--- What came since the last dispatch: the cycle of that dispatch, the language state there, the ticks since, the main cycles since, and
--- the sets of keys that were held down in the main moves since, in order.
+-- What came since the last dispatch: the cycle of that dispatch, the language state there, the ticks since, the main cycles since, the sets of
+-- keys that were held down in the main moves since, in order, and these moves, the latest first.
 pub record Since : Type 0 where
   pub from : ℕ
   pub state : Lang
   pub ticks : ℕ
   pub spent : ℕ
   pub keys : List Keys
+  pub moments : List Moment
 
 -- every set of the first list is in the second one, in the same order
 pub record Embeds (few many : List Keys) : Type 0 where
@@ -28,11 +30,16 @@ pub record Embeds (few many : List Keys) : Type 0 where
 
 -- nothing yet
 abbrev pub dispatched : ℕ → Lang → Since
-dispatched cycle s = record { from = cycle; state = s; ticks = 0; spent = 0; keys = [] }
+dispatched cycle s = record { from = cycle; state = s; ticks = 0; spent = 0; keys = []; moments = [] }
 
 -- one main move more, and one tick more
 abbrev pub after_main : Input → Since → Since
-after_main u h = record h { spent = h.spent + 2; keys = h.keys ++ u.held ∷ [] }
+after_main u h =
+    record h {
+      spent = h.spent + 2;
+      keys = h.keys ++ u.held ∷ [];
+      moments = record { spent = h.spent; ticks = h.ticks; held = u.held } ∷ h.moments;
+    }
 
 abbrev pub after_tick : Since → Since
 after_tick h = record h { ticks = suc h.ticks }
@@ -53,6 +60,7 @@ pub record Grows (h : Since) (k n : ℕ) (h' : Since) : Type 0 where
   pub more : List Keys
   pub keys : h'.keys ≡ h.keys ++ more
   pub count : length more ≡ k
+  pub moments : (m : Moment) → Among m h.moments → Among m h'.moments
 
 -- main code runs or waits: the latch is clear, interrupts are enabled, and the display and R1 are as boot left them
 pub record Ready (x : Program) (b : Machine) : Type 0 where
@@ -96,11 +104,12 @@ pub data Starts (t : Pieces) (b : Machine) (h : Since) : Type 0 where
   Enters : (l : t.Block) → t.Head l b h → Starts t b h
   Meets : (l : t.Place) → t.At l b h → Starts t b h
 
--- a dispatch: the step was made, in its main cycles, and s lies in the machine
+-- a dispatch: the step was made, in its main cycles, with the ticks and the key that its main moves tell, and s lies in the machine
 pub record Stepped (x : Program) (b : Machine) (h : Since) (s : Lang) : Type 0 where
   pub runs : x.stop_of h.state ≡ None
   pub between : Between x.edition h.state h.ticks h.keys s
   pub time : (n : ℕ) → x.takes h.state between.key ≡ Some n → h.spent ≡ n
+  pub told : Tells (instr_at h.state) h.state h.moments between.before between.key
   pub stands : Dispatches x b s
 
 -- a stop: it is that of the state, in its main cycles

@@ -1,5 +1,5 @@
 -- A move of the board, and the record of the moves since the last dispatch point.
-use Rattle.std.specs.Prelude.{◌≡◌, ℕ, zero, suc, ◌+◌, true, false, if◌then◌else◌, List, [], ◌∷◌, ◌++◌, Some}
+use Rattle.std.specs.Prelude.{◌≡◌, ℕ, zero, suc, ◌+◌, ◌≤◌, true, false, if◌then◌else◌, List, [], ◌∷◌, ◌++◌}
 use Rattle.machine.specs.Opcodes.{cycles_of}
 use Rattle.machine.specs.Board.{Machine, Case, case_of, move, opcode_of}
 use Rattle.machine.specs.Board.Case.{Interrupt, Instruction}
@@ -9,11 +9,11 @@ use Rattle.machine.specs.Run.{after_moves}
 use Rattle.chip8_lang.specs.declared.view.Stop.{Stop}
 use Rattle.chip8_lang.specs.State.{Lang}
 use Rattle.chip8_lang.specs.Between.{keys_between}
-use Rattle.chip8_lang.specs.Step.{KeyInput}
+use Rattle.chip8_lang.specs.Timed.Next.{Dispatch, Stopped}
 use Rattle.chip8_lang.specs.Places.{state_of}
 use Rattle.chip8_lang.specs.Events.{is_dispatch, is_stop}
 use Rattle.rom_law.specs.Program.{Program}
-use Rattle.rom_law.specs.Rows.{Since, Embeds, Stepped, Stopped as StoppedBy, after_tick, dispatched}
+use Rattle.rom_law.specs.Rows.{Since, Embeds, Stepped, Stopped as StoppedBy, after_tick, now, dispatched}
 
 -- the language state at a dispatch point
 abbrev pub state_at : Program → Machine → Lang
@@ -31,7 +31,11 @@ state_after x script first n = after_moves x.interpreter.rom (held_at script) fi
 abbrev pub carried_by : Case → List ℕ → (ℕ → Keys) → Machine → Since → Since
 carried_by Interrupt rom held b h = after_tick h
 carried_by Instruction rom held b h =
-    if b.regs.ie then record h { spent = h.spent + cycles_of (opcode_of rom b); keys = h.keys ++ held (b.cycle + 1) ∷ [] } else h
+    if b.regs.ie then record h {
+      spent = h.spent + cycles_of (opcode_of rom b);
+      keys = h.keys ++ held (b.cycle + 1) ∷ [];
+      moments = record { spent = h.spent; ticks = h.ticks; held = held (b.cycle + 1) } ∷ h.moments;
+    } else h
 carried_by _ rom held b h = h
 
 abbrev pub carried : List ℕ → (ℕ → Keys) → Machine → Since → Since
@@ -57,15 +61,23 @@ pub record Covers (x : Program) (script : List KeyEvent) (c : Machine) (h : Sinc
   pub ticks : h.ticks ≡ x.ticks_between h.from c.cycle
   pub keys : Embeds h.keys (keys_between script h.from c.cycle)
 
--- The next dispatch point, c, comes in the cycle that is due behind the one at which the record begins, where the step took this from the keypad.
-abbrev pub IsDue : Program → Machine → Since → KeyInput → Type 0
-IsDue x c h key = (t : ℕ) → x.due h.from h.state key ≡ Some t → c.cycle ≡ t
+-- The dispatch point c is what comes next behind the one at which the record begins, up to every limit that leaves time for it, but behind FX0A.
+abbrev pub IsNext : Program → List KeyEvent → Machine → Since → Type 0
+IsNext x script c h =
+    (limit : ℕ)
+    → c.cycle ≤ limit
+    → x.is_told h.state ≡ true
+    → x.next script limit h.from h.state ≡ Dispatch c.cycle (state_at x c)
+
+-- The same of the stop point c, under every script.
+abbrev pub IsEnd : Program → Machine → Since → Stop → Type 0
+IsEnd x c h stop = (script : List KeyEvent) (limit : ℕ) → x.next script limit h.from h.state ≡ Stopped c.cycle (now h) stop
 
 -- What a move of the board comes to, from a state of which `Running` holds, where h is its record as the move carries it on: no event; a
--- dispatch, with the step made, from which a new record begins; or the stop of the state; each of these in its cycle.
+-- dispatch, with the step made, from which a new record begins; or the stop of the state; each of these is what the language's time says.
 pub data Moves (x : Program) (script : List KeyEvent) (Running : Machine → Since → Type 0) (h : Since) (c : Machine) : Type 0 where
   Still : is_dispatch x.interpreter c ≡ false → is_stop x.interpreter c ≡ false → Running c h → Moves x script Running h c
-  Arrived : is_dispatch x.interpreter c ≡ true → is_stop x.interpreter c ≡ false → Covers x script c h → (st : Stepped x c h (state_at x c))
-      → IsDue x c h st.between.key → Running c (dispatched c.cycle (state_at x c)) → Moves x script Running h c
+  Arrived : is_dispatch x.interpreter c ≡ true → is_stop x.interpreter c ≡ false → Covers x script c h → Stepped x c h (state_at x c)
+      → IsNext x script c h → Running c (dispatched c.cycle (state_at x c)) → Moves x script Running h c
   Halted : is_stop x.interpreter c ≡ true → Covers x script c h → (stop : Stop) → StoppedBy x c h stop
-      → c.cycle ≡ x.later h.from (x.stops_after h.state) → Moves x script Running h c
+      → IsEnd x c h stop → Moves x script Running h c

@@ -305,7 +305,7 @@ module _ (e : Edition) (b : Machine) (h : Since) (f : FitsMachine b) where
   store_end_comes o fits spent =
       straight (OfMemory StoreEnd) o.holds (ending at_store_end)
       (λ j. record b { regs = record b.regs { p = o.p j; r = record b.regs.r { r3 = o.r3 j; r4 = o.r4 j } } }) _ (omega arith) refl
-      (λ h' g. steps e g (IsStore last) is refl runs (omega (arith, spent)) _
+      (λ h' g. steps e g (IsStore last) is refl runs (omega (arith, spent)) tt _
       (subst (λ n. Holding (quick e) (places b) (record (stored_to (last + 1) (now h)) { i = n })) past o.holds) refl refl)
     where
       is : instr_at (now h) ≡ IsStore last
@@ -382,7 +382,7 @@ module _ (e : Edition) (b : Machine) (h : Since) (f : FitsMachine b) where
   restore_end_comes o fits spent =
       straight (OfMemory RestoreEnd) o.holds (ending at_restore_end)
       (λ j. record b { regs = record b.regs { p = o.p j; r = record b.regs.r { r3 = o.r3 j; r4 = o.r4 j } } }) _ (omega arith) refl
-      (λ h' g. steps e g (IsFetch last) is refl runs (omega (arith, spent)) _
+      (λ h' g. steps e g (IsFetch last) is refl runs (omega (arith, spent)) tt _
       (subst (λ n. Holding (quick e) (places b) (record (fetched_to (last + 1) (now h)) { i = n })) past o.holds) refl refl)
     where
       is : instr_at (now h) ≡ IsFetch last

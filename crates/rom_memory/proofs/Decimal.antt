@@ -232,7 +232,7 @@ module _ (e : Edition) (b : Machine) (h : Since) (f : FitsMachine b) where
       straight (OfMemory TensEnd) o.called.holds ending
       (λ j. record b { regs = record b.regs { p = o.p j; r = record b.regs.r { r3 = o.r3 j; r4 = o.called.r4 j; rc = o.rc j } } }) _
       (omega (arith, i_is o.called.holds, room, memory_end_is e, page_fits e, f.regs.r.ra.hi, f.regs.r.ra.lo)) refl
-      (λ h' g. steps e g (IsDecimal (high % 16)) is refl runs (omega (arith, spent)) _
+      (λ h' g. steps e g (IsDecimal (high % 16)) is refl runs (omega (arith, spent)) tt _
       (subst (λ l. Holding (quick e) written_places (record (next (now h)) { memory = stored (now h).memory (i - memory_start) l }))
       digits_are holds) refl refl)
     where

@@ -47,7 +47,7 @@ module _ (e : Edition) (b : Machine) (h : Since) (f : FitsMachine b) where
   pub index_comes : Enters (quick e) at_index 10 b (now h) → h.spent ≡ 80 → Comes (quick e) (calm_pieces (quick e)) (OfMemory Index) b h
   index_comes o spent =
       routine (OfMemory Index) o.entered _ (omega arith) refl
-      (λ h' g. steps e g (IsIndex (high % 16 * 256 + low)) is refl runs (omega (arith, spent)) _
+      (λ h' g. steps e g (IsIndex (high % 16 * 256 + low)) is refl runs (omega (arith, spent)) tt _
       (i_set o.entered.holds (word (bit_and high 15) low) (high % 16 * 256 + low) target) refl refl)
     where
       is : instr_at (now h) ≡ IsIndex (high % 16 * 256 + low)
@@ -69,7 +69,7 @@ module _ (e : Edition) (b : Machine) (h : Since) (f : FitsMachine b) where
       → Comes (quick e) (calm_pieces (quick e)) (OfMemory AddIndex) b h
   add_index_comes o kk spent =
       routine (OfMemory AddIndex) o.entered _ (omega (arith, o.entered.holds.stack, stack_top_is e)) refl
-      (λ h' g. steps e g (IsAddIndex (high % 16)) is refl runs (omega (arith, spent)) _ (i_set o.entered.holds _ _ sum) refl refl)
+      (λ h' g. steps e g (IsAddIndex (high % 16)) is refl runs (omega (arith, spent)) tt _ (i_set o.entered.holds _ _ sum) refl refl)
     where
       is : instr_at (now h) ≡ IsAddIndex (high % 16)
       is = rw (o.digit, kk) refl
@@ -91,7 +91,7 @@ module _ (e : Edition) (b : Machine) (h : Since) (f : FitsMachine b) where
   pub digit_comes : Enters (quick e) at_digit 15 b (now h) → low ≡ 0x29 → h.spent ≡ 116 → Comes (quick e) (calm_pieces (quick e)) (OfMemory Digit) b h
   digit_comes o kk spent =
       routine (OfMemory Digit) o.entered _ (omega (arith, o.entered.holds.stack, stack_top_is e)) refl
-      (λ h' g. steps e g (Font (high % 16)) is refl runs (omega (arith, spent)) _
+      (λ h' g. steps e g (Font (high % 16)) is refl runs (omega (arith, spent)) tt _
       (i_set (work_set o.entered.holds work digit above below) _ _ sum) refl refl)
     where
       is : instr_at (now h) ≡ Font (high % 16)

@@ -1,5 +1,5 @@
 -- What a place comes to: its one instruction is run by computing.
-use Rattle.std.proofs.Common.{◌≡◌, ℕ, refl, sym, ◌∙◌, ap, subst, arith, Bool, true, false, cond, [], ◌∷◌, List}
+use Rattle.std.proofs.Common.{◌≡◌, ℕ, refl, sym, ◌∙◌, ap, subst, arith, Bool, true, false, cond, inl, inr, [], ◌∷◌, List}
 use Rattle.machine.specs.Bank.{Word, word_of, get}
 use Rattle.machine.specs.Opcodes.{kind_of, cycles_of}
 use Rattle.machine.specs.Board.{Machine, opcode_of}
@@ -10,6 +10,7 @@ use Rattle.chip8_lang.specs.State.{Lang}
 use Rattle.rom_law.specs.Code.{Input, moved}
 use Rattle.rom_law.proofs.Moves.{opcode_in, in_rom, quicks, quick_any, quick_by, quick_by_is, flags_in, opcode_is}
 use Rattle.rom_law.specs.Holding.{places, Holding}
+use Rattle.rom_law.specs.Moments.{Meets, Sees}
 use Rattle.rom_law.specs.Program.{code}
 use Rattle.rom_law.specs.Rows.{Since, Grows, Ends, after_main}
 use Rattle.rom_law.proofs.Kept.{Holds}
@@ -20,7 +21,15 @@ use Rattle.rom_rows.proofs.Sounds.{later}
 
 -- one move was made
 pub one_more : (u : Input) (h : Since) → Grows h 1 0 (after_main u h)
-one_more u h = record { from = refl; state = refl; ticks = omega arith; spent = omega arith; more = u.held ∷ []; keys = refl; count = refl }
+one_more u h = record { from = refl; state = refl; ticks = omega arith; spent = omega arith; more = u.held ∷ []; keys = refl; count = refl; moments = λ m a. inr a }
+
+-- at it all ticks so far had come, and it found its key so
+pub meets_now : (u : Input) (h : Since) (k : ℕ) → h.spent ≡ k → Meets (after_main u h).moments k h.ticks
+meets_now u h k at = record { moment = record { spent = h.spent; ticks = h.ticks; held = u.held }; among = inl refl; at = at; after = refl }
+
+pub sees_now : (u : Input) (h : Since) (k key : ℕ) (down : Bool) → h.spent ≡ k → u.held key ≡ down → Sees (after_main u h).moments k key down
+sees_now u h k key down at is =
+    record { moment = record { spent = h.spent; ticks = h.ticks; held = u.held }; among = inl refl; at = at; is = is }
 
 -- At the place l the machine is c. Its instruction reads no flag and takes two cycles, and what follows behind it is given.
 pub alone : {e : Edition} {rom : List ℕ} {b : Machine} {h : Since} {s : Lang} (l : Place) → FitsMachine b → At (program_of e rom) l b h

@@ -40,8 +40,8 @@ module _ (x : Program) {k : ℕ} {h h' : Since} (g : Grows h k 0 h') (c : Machin
   pub to_timer_place : (l : TimerPlace) → timer_place_at x l c (now h) → Within (timer_place_time l) h' → Ends x (calm_pieces x) c h'
   to_timer_place l at w = Continues calm (Meets (AtTimer l) (subst (timer_place_at x l c) (sym (now_same g)) at, w))
 
-  pub to_key : (l : KeyBlock) → key_at x l c (now h) h'.keys → Within (key_time l) h' → Ends x (calm_pieces x) c h'
-  to_key l at w = Continues calm (Enters (OfKey l) ((subst (λ s. key_at x l c s h'.keys) (sym (now_same g)) at, w), tt))
+  pub to_key : (l : KeyBlock) → key_at x l c (now h) h'.keys → Within (key_time l (now h)) h' → Ends x (calm_pieces x) c h'
+  to_key l at w = Continues calm (Enters (OfKey l) (subst (λ s. key_at x l c s h'.keys × Within (key_time l s) h') (sym (now_same g)) (at, w), tt))
 
   pub to_key_place : (l : KeyPlace) → key_place_at x l c (now h) h'.keys → Within (key_place_time l) h' → Ends x (calm_pieces x) c h'
   to_key_place l at w = Continues calm (Meets (AtKey l) (subst (λ s. key_place_at x l c s h'.keys) (sym (now_same g)) at, w))

@@ -1,19 +1,20 @@
 -- The table is such that each group can be proved apart: each block has an instruction, and what is known at a place outlasts ticks. So a
 -- block's rows are kept by main moves where the block comes to what it should.
-use Rattle.std.proofs.Common.{◌≡◌, ℕ, ◌<◌, arith, subst, sym, ap, ◌%◌, ◌∙◌, true, false, List}
+use Rattle.std.proofs.Common.{◌≡◌, ℕ, ◌<◌, refl, arith, subst, sym, ap, ◌%◌, ◌∙◌, true, false, List, Bool}
 use Rattle.machine.specs.Board.{Machine}
 use Rattle.machine.specs.Ranges.{FitsMachine, FitsRom}
 use Rattle.chip8_lang.specs.declared.view.Edition.{Edition}
 use Rattle.chip8_lang.specs.Ticks.{ticks}
 use Rattle.rom_law.specs.Later.{After}
 use Rattle.chip8_image.specs.Labels.{at_draw_wait}
-use Rattle.rom_law.specs.Program.{code}
+use Rattle.chip8_lang.specs.State.{Lang}
+use Rattle.rom_law.specs.Program.{Program, code}
 use Rattle.rom_law.specs.Rows.{Since, now, after_ticks}
 use Rattle.rom_law.proofs.Language.{ticks_add}
 use Rattle.rom_law.proofs.Kept.{Comes, Holds, Sound, block_moves, place_moves, place_ticks}
 use Rattle.rom_rows.specs.Rom.{program_of}
 use Rattle.rom_rows.specs.Heads.{Time, Within}
-use Rattle.rom_rows.specs.Heads.Time.{Exactly, Left, Anytime, Waited}
+use Rattle.rom_rows.specs.Heads.Time.{Exactly, Left, Anytime, Waited, Met, Seen}
 use Rattle.rom_rows.specs.FetchBlocks.{FetchBlock, fetch_moves}
 use Rattle.rom_rows.specs.FetchBlocks.FetchBlock.{Fetch, Upper, Inside, Outside, Misc, Unknown83, Leave, Stop, Stopped}
 use Rattle.rom_rows.specs.ArithBlocks.ArithBlock.{System, SystemLow, SystemBack, MachineCode, Return, ReturnTake, Empty, JumpTo, Call, CallPut, Full, JumpPlus}
@@ -165,17 +166,44 @@ some (OfTimer l) = timer_some l
 some (OfKey l) = key_some l
 
 -- ticks take no main cycles
-within_later : (t : Time) (h : Since) (n : ℕ) → Within t h → Within t (after_ticks n h)
-within_later (Exactly m) h n w = w
-within_later (Left m k) h n w = w
-within_later Anytime h n w = w
-within_later (Waited m) h n w = (w.0, omega (arith, w.1))
+-- but for what is said of all ticks so far
+abbrev outlasts : Time → Bool
+outlasts (Met n k) = false
+outlasts _ = true
+
+spoilt : false ≡ true → ⊥
+spoilt l = cc
+
+within_later : (t : Time) (h : Since) (n : ℕ) → outlasts t ≡ true → Within t h → Within t (after_ticks n h)
+within_later (Exactly m) h n l w = w
+within_later (Left m k) h n l w = w
+within_later Anytime h n l w = w
+within_later (Waited m) h n l w = (w.0, omega (arith, w.1))
+within_later (Met m k) h n l w = absurd (spoilt l)
+within_later (Seen m k key down) h n l w = w
+
+timer_outlasts : (l : TimerPlace) → outlasts (timer_place_time l) ≡ true
+timer_outlasts RandomCount = refl
+timer_outlasts GetDelay = refl
+timer_outlasts SetDelayPut = refl
+timer_outlasts SetSoundPut = refl
+
+key_outlasts : (l : KeyPlace) → outlasts (key_place_time l) ≡ true
+key_outlasts (SkipTest down) = refl
+key_outlasts (KeyTest turn) = refl
+key_outlasts KeyHeld = refl
+
+sprite_outlasts : (x : Program) (l : SpritePlace) (s : Lang) → outlasts (sprite_place_time x l s) ≡ true
+sprite_outlasts x ClearWait s = refl
+sprite_outlasts x ClearIdle s = refl
+sprite_outlasts x DrawWait s = refl
+sprite_outlasts x DrawIdle s = refl
 
 module _ (e : Edition) (rom : List ℕ) where
   pub later : (l : AnyPlace) (b : Machine) (h : Since) → FitsMachine b → At (program_of e rom) l b h → b.regs.idle ≡ false → (n : ℕ) (c : Machine)
       → After (code (program_of e rom)).low n b c → At (program_of e rom) l c (after_ticks n h)
   later (AtTimer l) b h f o i n c k =
-      (subst (timer_place_at (program_of e rom) l c) (ticks_add n h.ticks h.state) (timer_later l o.0), within_later (timer_place_time l) h n o.1)
+      (subst (timer_place_at (program_of e rom) l c) (ticks_add n h.ticks h.state) (timer_later l o.0), within_later (timer_place_time l) h n (timer_outlasts l) o.1)
     where
       timer_later : (l : TimerPlace) → timer_place_at (program_of e rom) l b (now h) → timer_place_at (program_of e rom) l c (ticks n (now h))
       timer_later RandomCount p = (enters_later (program_of e rom) n k f (now h) _ _ p.0, mixes_later (program_of e rom) n k f (now h) p.1)
@@ -186,8 +214,7 @@ module _ (e : Edition) (rom : List ℕ) where
           (enters_later (program_of e rom) n k f (now h) _ _ p.0, ticks_low n (now h) ∙ p.1, loaded_later (program_of e rom) n k f (now h) p.2)
   later (AtKey l) b h f o i n c k = (
     subst (λ s. key_place_at (program_of e rom) l c s h.keys) (ticks_add n h.ticks h.state) (key_later l o.0),
-    within_later (key_place_time
-        l) h n o.1,
+    within_later (key_place_time l) h n (key_outlasts l) o.1,
   )
     where
       key_later : (l : KeyPlace) → key_place_at (program_of e rom) l b (now h) h.keys → key_place_at (program_of e rom) l c (ticks n (now h)) h.keys
@@ -208,7 +235,7 @@ module _ (e : Edition) (rom : List ℕ) where
       subst (λ s. sprite_place_at (program_of e rom) l c s × Within (sprite_place_time (program_of e rom) l s) (after_ticks n h)) (ticks_add n h.ticks h.state) (
         sprite_later l o.0,
         subst (λ t. Within t (after_ticks n h)) (sym (place_time_later (program_of e rom) n l (now h)))
-            (within_later (sprite_place_time (program_of e rom) l (now h)) h n o.1),
+            (within_later (sprite_place_time (program_of e rom) l (now h)) h n (sprite_outlasts (program_of e rom) l (now h)) o.1),
       )
     where
       asleep : true ≡ false → ⊥

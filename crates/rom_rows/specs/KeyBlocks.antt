@@ -10,7 +10,7 @@ use Rattle.chip8_image.specs.Labels.{at_fetch, at_key_skip, at_key_skip_up, at_s
 use Rattle.rom_law.specs.Program.{Program}
 use Rattle.rom_law.specs.Holding.{places, Holding}
 use Rattle.rom_rows.specs.Heads.{Time, from, high_byte, low_byte, page_of, Enters}
-use Rattle.rom_rows.specs.Heads.Time.{Exactly, Anytime}
+use Rattle.rom_rows.specs.Heads.Time.{Exactly, Seen, Anytime}
 
 -- Of the two skips, the one with `down` skips where its key is down, and the other where it is up.
 pub data KeyBlock : Type 0 where
@@ -137,16 +137,16 @@ abbrev pub skip_time : Bool → ℕ
 skip_time true = 88
 skip_time false = 94
 
-abbrev pub key_time : KeyBlock → Time
-key_time KeySkip = Exactly 80
-key_time KeySkipUp = Exactly 88
-key_time (SkipLatch down) = Exactly (skip_time down)
-key_time (NoSkip down) = Exactly (skip_time down + 4)
-key_time (Skip down) = Exactly (skip_time down + 4)
-key_time WaitKey = Exactly 92
-key_time (KeyNext turn) = Exactly (106 + 14 * turn)
-key_time (KeyCount turn) = Exactly (116 + 14 * turn)
-key_time KeyFreed = Anytime
+abbrev pub key_time : KeyBlock → Lang → Time
+key_time KeySkip s = Exactly 80
+key_time KeySkipUp s = Exactly 88
+key_time (SkipLatch down) s = Exactly (skip_time down)
+key_time (NoSkip down) s = Seen (skip_time down + 4) (skip_time down + 2) (skip_key s) (not down)
+key_time (Skip down) s = Seen (skip_time down + 4) (skip_time down + 2) (skip_key s) down
+key_time WaitKey s = Exactly 92
+key_time (KeyNext turn) s = Exactly (106 + 14 * turn)
+key_time (KeyCount turn) s = Exactly (116 + 14 * turn)
+key_time KeyFreed s = Anytime
 
 abbrev pub key_place_time : KeyPlace → Time
 key_place_time (SkipTest down) = Exactly (skip_time down + 2)

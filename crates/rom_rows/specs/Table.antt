@@ -6,7 +6,7 @@ use Rattle.chip8_lang.specs.declared.view.Edition.{Edition}
 use Rattle.machine.specs.Schedule.{Tick}
 use Rattle.chip8_lang.specs.State.{instr_at}
 use Rattle.rom_law.specs.Code.{Input, moved}
-use Rattle.rom_law.specs.Due.{is_waiting}
+use Rattle.rom_law.specs.Moments.{is_waiting}
 use Rattle.rom_law.specs.Program.{Program, code}
 use Rattle.rom_law.specs.Rows.{Since, Pieces, InBlock, Row, Outcome, now, after_main, after_tick}
 use Rattle.rom_rows.specs.Heads.{Within, page_of}
@@ -37,7 +37,7 @@ Head x (OfArith l) b h = arith_at x l b (now h) × Within (arith_time x l (now h
 Head x (OfMemory l) b h = memory_at x l b (now h) × Within (memory_time x l (now h)) h
 Head x (OfSprite l) b h = sprite_at x l b (now h) × Within (sprite_time x l (now h)) h
 Head x (OfTimer l) b h = timer_at x l b (now h) × Within (timer_time l) h
-Head x (OfKey l) b h = key_at x l b (now h) h.keys × Within (key_time l) h
+Head x (OfKey l) b h = key_at x l b (now h) h.keys × Within (key_time l (now h)) h
 
 -- the instructions of a block
 abbrev pub moves : Block → ℕ

@@ -7,7 +7,7 @@ use Rattle.chip8_lang.specs.State.{Lang, variable}
 use Rattle.chip8_image.specs.Labels.{at_random, at_random_count, at_random_mix, at_get_delay, at_get_delay_put, at_set_delay, at_set_delay_put, at_set_delay_end, at_set_sound, at_set_sound_put, at_set_sound_end}
 use Rattle.rom_law.specs.Program.{Program}
 use Rattle.rom_rows.specs.Heads.{Time, from, high_byte, low_byte, Enters, Done}
-use Rattle.rom_rows.specs.Heads.Time.{Exactly}
+use Rattle.rom_rows.specs.Heads.Time.{Exactly, Met}
 
 pub data TimerBlock : Type 0 where
   -- CXKK up to the count of ticks, and behind it
@@ -63,12 +63,12 @@ timer_moves _ = 1
 
 abbrev pub timer_time : TimerBlock → Time
 timer_time Random = Exactly 80
-timer_time RandomMix = Exactly 92
-timer_time GetDelayPut = Exactly 88
+timer_time RandomMix = Met 92 90
+timer_time GetDelayPut = Met 88 86
 timer_time SetDelay = Exactly 98
-timer_time SetDelayEnd = Exactly 102
+timer_time SetDelayEnd = Met 102 100
 timer_time SetSound = Exactly 104
-timer_time SetSoundEnd = Exactly 108
+timer_time SetSoundEnd = Met 108 106
 
 abbrev pub timer_place_time : TimerPlace → Time
 timer_place_time RandomCount = Exactly 90

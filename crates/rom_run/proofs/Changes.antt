@@ -131,6 +131,7 @@ module _ (e : Edition) (script : List Event) where
           woke = w.woke;
           return = w.return;
           exact = w.exact;
+          ticks = w.ticks;
           most = w.most;
           waits = w.waits;
           since = omega (arith, w.since);

@@ -1,19 +1,17 @@
 -- Main cycles as the language's time counts them, by arithmetic: so many of them, and the interrupts that come among them, lead to the cycle that it
 -- names.
-use Rattle.std.proofs.Common.{◌≡◌, ℕ, ◌+◌, ◌-◌, ◌*◌, ◌/◌, ◌%◌, ◌<◌, ◌≤◌, ◌⊎◌, inl, inr, refl, sym, ◌∙◌, ap, subst, arith, false}
+use Rattle.std.proofs.Common.{◌≡◌, ℕ, ◌+◌, ◌-◌, ◌*◌, ◌/◌, ◌%◌, ◌<◌, ◌≤◌, ◌⊎◌, inl, inr, refl, sym, ◌∙◌, ap, subst, arith, false, true, false}
 use Rattle.std.specs.Prelude.{Option, Some, None}
 use Rattle.machine.specs.Pictures.{place, interrupt_place, interrupt_at}
 use Rattle.chip8_lang.specs.declared.instr.Instr.{Instr}
-use Rattle.chip8_lang.specs.declared.instr.Instr.TheVariants.{Clear, Draw, WaitKey}
 use Rattle.chip8_lang.specs.declared.view.Edition.{Edition}
 use Rattle.chip8_lang.specs.declared.view.Stop.{Stop}
 use Rattle.chip8_lang.specs.Between.{ticks_between}
 use Rattle.chip8_lang.specs.State.{Lang, instr_at}
 use Rattle.chip8_lang.specs.Step.{KeyInput}
-use Rattle.chip8_lang.specs.Timed.{between_routines, to_interrupt, interrupts, later, ended, woken, before_wait, behind_wait, cycles}
+use Rattle.chip8_lang.specs.Timed.{between_routines, to_interrupt, interrupts, later, ended, woken, before_wait, behind_wait}
 use Rattle.chip8_lang.proofs.Ticks.{ticks_counted}
-use Rattle.rom_law.specs.Due.{is_waiting, takes_by, due_behind, due_by}
-use Rattle.rom_rows.proofs.Steps.{some_is}
+use Rattle.rom_law.specs.Moments.{is_waiting, takes_by}
 use Rattle.rom_timer.specs.Frame.{IsOutside}
 use Rattle.rom_timer.specs.Routine.{routine_cycles}
 use Rattle.rom_run.specs.Time.{WaitsBy, since_return, since_window}
@@ -46,7 +44,7 @@ among : (c q : ℕ) → (q ≡ 0) ⊎ (since_return c ≤ between_routines) → 
 among c q (inl z) d = inl z
 among c q (inr l) d = inr (returned c l d)
 
-interrupts_are : (a k q c : ℕ) → IsOutside a → (place a ≡ interrupt_place → ⊥) → (place c ≡ interrupt_place → ⊥) → q ≡ ticks_between a c
+pub interrupts_are : (a k q c : ℕ) → IsOutside a → (place a ≡ interrupt_place → ⊥) → (place c ≡ interrupt_place → ⊥) → q ≡ ticks_between a c
     → c ≡ a + k + routine_cycles * q → (q ≡ 0) ⊎ (since_return c ≤ between_routines) → interrupts a k ≡ q
 interrupts_are a k q c out d n e is w =
     ap (λ t. (between_routines + k - t) / between_routines) (to_next a d)
@@ -86,9 +84,12 @@ woken_from t n m l e = omega (arith, l, e)
 -- where the routine returns that ends a wait of n cycles
 pub woken_is : (a w q n m : ℕ) → IsOutside a → (place a ≡ interrupt_place → ⊥) → q ≡ ticks_between a (interrupt_at m)
     → interrupt_at m ≡ a + w + routine_cycles * q + n → 0 < w → n ≤ since_window (interrupt_at m)
-    → (q ≡ 0) ⊎ (n + 2 ≤ since_return (interrupt_at m)) → interrupt_at m + routine_cycles ≡ woken (ended a w)
-woken_is a w q n m out d e is some most moved =
-    sym (ap (λ k. woken (a + (w - 1) + routine_cycles * k + 1)) counted ∙ woken_from (a + (w - 1) + routine_cycles * q + 1) n m few (omega (arith, is, some)))
+    → (q ≡ 0) ⊎ (n + 2 ≤ since_return (interrupt_at m))
+    → (interrupt_at m + routine_cycles ≡ woken (ended a w)) × (interrupts a (w - 1) ≡ q)
+woken_is a w q n m out d e is some most moved = (
+  sym (ap (λ k. woken (a + (w - 1) + routine_cycles * k + 1)) counted ∙ woken_from (a + (w - 1) + routine_cycles * q + 1) n m few (omega (arith, is, some))),
+  counted,
+)
   where
     few : n ≤ 1848
     few = omega (arith, most)
@@ -106,29 +107,26 @@ later_soon t k r l = omega (arith, none)
     none : interrupts t k ≡ 0
     none = omega (arith, r, l)
 
--- ---- the cycle that is due
+-- ---- the cycle behind the wait
 
--- that of an instruction which doesn't wait is told by its main cycles
-pub record Prompt (e : Edition) (i : Instr) (t : ℕ) (s : Lang) (key : KeyInput) (u : ℕ) : Type 0 where
-  pub cycles : ℕ
-  pub takes : takes_by e i s key ≡ Some cycles
-  pub is : later t cycles ≡ u
+abbrev pub due_behind : Edition → Instr → ℕ → Lang → ℕ
+due_behind e i t s = later (woken (ended t (before_wait e i s))) (behind_wait e i s)
 
-pub due_takes : (e : Edition) (i : Instr) (t : ℕ) (s : Lang) (key : KeyInput) (u : ℕ) → is_waiting i ≡ false → due_by e i t s key ≡ Some u
-    → Prompt e i t s key u
-due_takes e Clear t s key u w k = cc
-due_takes e (Draw x y n) t s key u w k = cc
-due_takes e (WaitKey x) t s key u w k = cc
-due_takes e i t s key u w k = record { cycles = cycles e i key s; takes = refl; is = some_is k }
+pub waits_take : (e : Edition) (s : Lang) (key : KeyInput) {most : ℕ} → WaitsBy s most
+    → takes_by e (instr_at s) s key ≡ Some (before_wait e (instr_at s) s + behind_wait e (instr_at s) s)
+waits_take e s key (ToClear is) = subst (λ i. takes_by e i s key ≡ Some (before_wait e i s + behind_wait e i s)) (sym is) refl
+waits_take e s key (ToDraw x y n is) = subst (λ i. takes_by e i s key ≡ Some (before_wait e i s + behind_wait e i s)) (sym is) refl
 
--- and that of 00E0 and DXYN by those before the wait and those behind it
-pub record Waiting (e : Edition) (i : Instr) (t : ℕ) (s : Lang) (key : KeyInput) : Type 0 where
-  pub takes : takes_by e i s key ≡ Some (before_wait e i s + behind_wait e i s)
-  pub is : due_by e i t s key ≡ Some (due_behind e i t s)
-
-pub due_waits : (e : Edition) (t : ℕ) (s : Lang) (key : KeyInput) {most : ℕ} → WaitsBy s most → Waiting e (instr_at s) t s key
-due_waits e t s key (ToClear is) = subst (λ i. Waiting e i t s key) (sym is) (record { takes = refl; is = refl })
-due_waits e t s key (ToDraw x y n is) = subst (λ i. Waiting e i t s key) (sym is) (record { takes = refl; is = refl })
+-- an instruction that waits is one of the two
+pub waits_are : (s : Lang) {most : ℕ} → WaitsBy s most → is_waiting (instr_at s) ≡ false → ⊥
+waits_are s (ToClear is) k = apart (sym (ap is_waiting is) ∙ k)
+  where
+    apart : true ≡ false → ⊥
+    apart k = cc
+waits_are s (ToDraw x y n is) k = apart (sym (ap is_waiting is) ∙ k)
+  where
+    apart : true ≡ false → ⊥
+    apart k = cc
 
 -- a state that stops isn't one that doesn't
 pub stops_not : {o : Option Stop} {stop : Stop} → o ≡ None → o ≡ Some stop → ⊥

@@ -9,6 +9,7 @@ pub mod Calm
 pub mod Most
 pub mod Time
 pub mod Woken
+pub mod Next
 pub mod Moves
 pub mod Bound
 pub mod Parts

@@ -1,5 +1,5 @@
 -- Each move of the board keeps what is known of it.
-use Rattle.std.proofs.Common.{◌≡◌, ℕ, suc, ◌+◌, ◌/◌, ◌<◌, ◌≤◌, ◌⊎◌, inl, inr, refl, sym, ◌∙◌, ap, subst, subst₂, arith, true, false, List, [], le_refl}
+use Rattle.std.proofs.Common.{◌≡◌, ℕ, suc, ◌+◌, ◌-◌, ◌/◌, ◌<◌, ◌≤◌, ◌⊎◌, inl, inr, refl, sym, ◌∙◌, ap, subst, subst₂, arith, true, false, List, [], le_refl}
 use Rattle.std.specs.Prelude.{Some, slice_get}
 use Rattle.std.proofs.lemmas.Bool.{cases_eq, cases_Bool}
 use Rattle.machine.specs.Bank.{value}
@@ -17,14 +17,15 @@ use Rattle.chip8_lang.specs.declared.view.Edition.{Edition}
 use Rattle.chip8_lang.specs.declared.view.Stop.{Stop}
 use Rattle.chip8_lang.specs.Editions.{memory_end, screen_start}
 use Rattle.chip8_lang.specs.State.{Lang, instr_at}
-use Rattle.chip8_lang.specs.Timed.{between_routines, later, stop_cycles}
+use Rattle.chip8_lang.specs.Timed.{between_routines, interrupts, later, by_stop, next_point}
+use Rattle.chip8_lang.specs.Timed.Next.{Dispatch, Stopped as NextStopped}
 use Rattle.chip8_lang.specs.Ticks.{ticks}
 use Rattle.chip8_lang.specs.Between.{ticks_between, keys_between}
 use Rattle.chip8_lang.specs.Events.{is_instruction, is_at, is_dispatch, is_stop}
 use Rattle.chip8_lang.proofs.Ticks.{ticks_counted}
 use Rattle.chip8_lang.specs.Step.{stop_of}
 use Rattle.rom_law.specs.Code.{Input, moved, is_event}
-use Rattle.rom_law.specs.Due.{is_waiting, takes_by, due_by}
+use Rattle.rom_law.specs.Moments.{Moment, Among, is_waiting, takes_by}
 use Rattle.rom_law.specs.Later.{After}
 use Rattle.rom_law.proofs.Ranges.{tick_fits}
 use Rattle.rom_law.proofs.Ticks.{after_none}
@@ -32,11 +33,11 @@ use Rattle.rom_law.proofs.Ticks.{after_tick as one_tick}
 use Rattle.rom_law.specs.Program.{Program, Keeps, code, Dispatches, Halts}
 use Rattle.rom_law.specs.Rows.{Since, Embeds, Row, Outcome, Stepped, Stopped, now, dispatched, after_main, after_tick}
 use Rattle.rom_law.specs.Rows.Outcome.{Still as Calm, Dispatched, Halted as Failed}
-use Rattle.rom_law.specs.Runs.{state_at, carried, IsDue, Moves}
+use Rattle.rom_law.specs.Runs.{state_at, carried, IsNext, IsEnd, Moves}
 use Rattle.rom_law.proofs.Carried.{main_more, carried_main, carried_interrupt, carried_idle, carried_disabled}
 use Rattle.rom_law.proofs.Events.{at_instruction, at_other, calm_points, other_pc}
 use Rattle.rom_law.proofs.Kept.{row_starts, row_ticks, row_runs, row_cycles}
-use Rattle.rom_law.proofs.Language.{counted_as, between_ticks, between_ticks_key}
+use Rattle.rom_law.proofs.Language.{counted_as, between_ticks, between_ticks_key, told_ticks}
 use Rattle.rom_law.proofs.Later.{dispatches_after, halts_after}
 use Rattle.rom_law.specs.Runs.Moves.{Still, Arrived, Halted}
 use Rattle.rom_law.proofs.Schedules.{dispatch_by, halt_by}
@@ -50,8 +51,8 @@ use Rattle.rom_timer.specs.Routine.{IsInterrupted, IsTick, routine_moves, routin
 use Rattle.rom_timer.proofs.Frame.{case_accepts, case_runs, case_waits, every_move, keeps_place, keeps_waiting}
 use Rattle.rom_timer.proofs.Interval.{ticks_main, ticks_wait, ticks_served, keeps_interrupted, embeds_longer, embeds_more}
 use Rattle.rom_run.proofs.Image.{run_tick}
-use Rattle.rom_run.specs.Time.{Spends, Woken, Timed, BehindWait, DueInTime, most_wait, since_return}
-use Rattle.rom_run.specs.Running.{IsBehind, Interval, Counted, Showing, Outside, Running}
+use Rattle.rom_run.specs.Time.{Spends, WaitsBy, wait_time, Woken, Timed, BehindWait, DueInTime, most_wait, since_return}
+use Rattle.rom_run.specs.Running.{IsBehind, Dated, Interval, Counted, Showing, Outside, Running}
 use Rattle.rom_run.specs.Running.Counted.{NoEvent, Renewed}
 use Rattle.rom_run.specs.Running.Due.{Arrives, Ends}
 use Rattle.rom_run.specs.Running.Outside.{AtRow, AtEvent}
@@ -61,9 +62,10 @@ use Rattle.rom_run.proofs.Proved.{proved}
 use Rattle.rom_run.proofs.Room.{row_room}
 use Rattle.rom_run.proofs.Behind.{waited_moves, waited_cycle, waited_awake, row_wakes}
 use Rattle.rom_run.proofs.Calm.{calm_moves, calm_ticks, calm_cycle, calm_idle, calm_starts, calm_move_shows, below_screen}
-use Rattle.rom_run.proofs.Woken.{row_goes, row_waits, woken_apart, woken_then, wakes, waited_due, calm_row}
+use Rattle.rom_run.proofs.Woken.{row_goes, row_waits, woken_apart, woken_then, wakes, waited_at, calm_row}
 use Rattle.rom_run.proofs.Ticks.{waits_more, waits_most}
-use Rattle.rom_run.proofs.Exact.{return_main, return_idle, later_is, due_takes, stops_not}
+use Rattle.rom_run.proofs.Exact.{return_main, return_idle, later_is, interrupts_are, due_behind, waits_are, stops_not}
+use Rattle.rom_run.proofs.Next.{next_prompt, next_waited}
 use Rattle.rom_run.proofs.Time.{fewer, row_in_time}
 use Rattle.rom_run.proofs.Waits.{timed, sleeps, idle_cycle}
 
@@ -125,8 +127,9 @@ module _ (e : Edition) (script : List Event) where
         even = λ a. p.even;
         from = le_refl c.cycle;
         begun = i;
-        starts = p.outside;
+        starts = p;
         behind = inl refl;
+        past = λ k m a. absurd a;
         covers =
             record { ticks = none_yet c.cycle; keys = embeds_none (keys_between script c.cycle c.cycle) };
       })
@@ -135,6 +138,18 @@ module _ (e : Edition) (script : List Event) where
       (Before (omega arith) (calm_starts e c.cycle c s f d))
       )
 
+  -- where main code hasn't waited, its main cycles tell the cycle and the ticks
+  back : (b : Machine) (h : Since) → (h.ticks ≡ 0) ⊎ IsBehind b → (h.ticks ≡ 0) ⊎ (since_return b.cycle ≤ between_routines)
+  back b h (inl z) = inl z
+  back b h (inr w) = inr w.back
+
+  cycle_then : (b : Machine) (h : Since) → Interval e script b h → (place b.cycle ≡ interrupt_place → ⊥) → Spends b h 0
+      → (b.cycle ≡ later h.from h.spent) × (interrupts h.from h.spent ≡ h.ticks)
+  cycle_then b h t d s = (
+    later_is h.from h.spent h.ticks b.cycle t.starts.outside t.begun d t.covers.ticks (omega (arith, s)) (back b h t.behind),
+    interrupts_are h.from h.spent h.ticks b.cycle t.starts.outside t.begun d t.covers.ticks (omega (arith, s)) (back b h t.behind),
+  )
+
   -- behind a wait no interrupt comes
   wait_apart : (c : Machine) (h : Since) → BehindWait e c h → place c.cycle ≡ interrupt_place → ⊥
   wait_apart c h w i = woken_apart e w.old w.before 2 (omega arith) w.woken (omega (arith, i, w.cycle))
@@ -142,39 +157,36 @@ module _ (e : Edition) (script : List Event) where
   -- ---- what a state comes to that a dispatch or a stop has made
 
   module _ (c : Machine) (h : Since) (t : Interval e script c h) (p : IsMainPlace c.cycle) (soon : DueInTime e c h) (shows : place c.cycle ≡ interrupt_place → Showing e c h) where
-    back : (h.ticks ≡ 0) ⊎ IsBehind c → (h.ticks ≡ 0) ⊎ (since_return c.cycle ≤ between_routines)
-    back (inl z) = inl z
-    back (inr w) = inr w.back
-
-    -- it comes in the cycle that the main cycles tell
-    cycle_is : (place c.cycle ≡ interrupt_place → ⊥) → Spends c h 0 → c.cycle ≡ later h.from h.spent
-    cycle_is d s = later_is h.from h.spent h.ticks c.cycle t.starts t.begun d t.covers.ticks (omega (arith, s)) (back t.behind)
-
-    due : (st : Stepped x c h (state_at x c)) → (is_waiting (instr_at h.state) ≡ false) ⊎ BehindWait e c h → (place c.cycle ≡ interrupt_place → ⊥)
-        → IsDue x c h st.between.key
-    due st makes d u k = go makes soon.exact
+    next : (st : Stepped x c h (state_at x c)) → (is_waiting (instr_at h.state) ≡ false) ⊎ BehindWait e c h → (place c.cycle ≡ interrupt_place → ⊥)
+        → IsNext x script c h
+    next st makes d limit here told = go makes soon.exact
       where
-        prompt : is_waiting (instr_at h.state) ≡ false → Spends c h 0 → c.cycle ≡ u
+        prompt : is_waiting (instr_at h.state) ≡ false → Spends c h 0 → next_point e script limit h.from h.state ≡ Dispatch c.cycle (state_at x c)
         prompt p s =
-            let r = due_takes e (instr_at h.state) h.from h.state st.between.key u p k in
-            cycle_is d s ∙ ap (later h.from) (st.time r.cycles r.takes) ∙ r.is
+            let n = cycle_then c h t d s in
+            next_prompt e script limit h (state_at x c) c.cycle st.runs st.between st.time st.told (t.past p) t.starts.even n.0 n.1 p told
 
-        waited : BehindWait e c h → c.cycle ≡ u
+        waited : BehindWait e c h → next_point e script limit h.from h.state ≡ Dispatch c.cycle (state_at x c)
         waited w =
-            waited_due e w.old w.before w.woken c.cycle w.cycle st.between.key
-            (λ n t. sym w.spent ∙ st.time n (ap (λ s. takes_by e (instr_at s) s st.between.key) w.state ∙ t)) u
-            (subst₂ (λ a s. due_by e (instr_at s) a s st.between.key ≡ Some u) w.from w.state k)
+            next_waited e script limit h (state_at x c) c.cycle st.runs st.between (subst (λ s. WaitsBy s w.woken.most) (sym w.state) w.woken.waits)
+            (subst₂ (λ a s. c.cycle ≡ due_behind e (instr_at s) a s) (sym w.from) (sym w.state)
+            (waited_at e w.old w.before w.woken c.cycle w.cycle st.between.key
+            (λ n u. sym w.spent ∙ st.time n (ap (λ s. takes_by e (instr_at s) s st.between.key) w.state ∙ u))))
+            (w.ticks ∙ subst₂ (λ a s. w.before.ticks ≡ interrupts a (wait_time e s - 1) + 1) (sym w.from) (sym w.state) w.woken.ticks)
 
-        go : (is_waiting (instr_at h.state) ≡ false) ⊎ BehindWait e c h → Spends c h 0 ⊎ BehindWait e c h → c.cycle ≡ u
+        go : (is_waiting (instr_at h.state) ≡ false) ⊎ BehindWait e c h → Spends c h 0 ⊎ BehindWait e c h → next_point e script limit h.from h.state ≡ Dispatch c.cycle (state_at x c)
         go (inr w) o = waited w
         go (inl p) (inr w) = waited w
         go (inl p) (inl s) = prompt p s
 
-    stops : (stop : Stop) → Stopped x c h stop → (place c.cycle ≡ interrupt_place → ⊥) → c.cycle ≡ later h.from (stop_cycles e h.state)
-    stops stop st d = go soon.exact
+    stops : (stop : Stop) → Stopped x c h stop → (place c.cycle ≡ interrupt_place → ⊥) → IsEnd x c h stop
+    stops stop st d keys limit = go soon.exact
       where
-        go : Spends c h 0 ⊎ BehindWait e c h → c.cycle ≡ later h.from (stop_cycles e h.state)
-        go (inl s) = cycle_is d s ∙ ap (later h.from) st.time
+        go : Spends c h 0 ⊎ BehindWait e c h → next_point e keys limit h.from h.state ≡ NextStopped c.cycle (now h) stop
+        go (inl s) =
+            let n = cycle_then c h t d s in
+            ap (λ o. by_stop e keys limit o h.from h.state) st.fits
+            ∙ (λ i. NextStopped (sym (n.0 ∙ ap (later h.from) st.time) i) (ticks ((ap (interrupts h.from) (sym st.time) ∙ n.1) i) h.state) stop)
         go (inr w) = absurd (stops_not (ap (stop_of e) w.state ∙ row_goes e w.old w.before w.woken.row) st.fits)
 
     arrives : (s : Lang) → Stepped x c h s → (is_waiting (instr_at h.state) ≡ false) ⊎ BehindWait e c h → Comes h c
@@ -192,7 +204,7 @@ module _ (e : Edition) (script : List Event) where
             Still (interrupted_there c s st.stands.keeps i 4 x.interpreter.fetch) (interrupted_there c s st.stands.keeps i 3 x.interpreter.halt)
             (InMain (AtEvent t i (Arrives s st (goes_on i makes)) soon (shows i)))
         go (inr d) =
-            Arrived (dispatch_there c s st.stands t.outside d).0 (dispatch_there c s st.stands t.outside d).1 t.covers here (due here makes d)
+            Arrived (dispatch_there c s st.stands t.outside d).0 (dispatch_there c s st.stands t.outside d).1 t.covers here (next here makes d)
             (renewed c (state_at x c) t.fits here.stands p d)
 
     ends : (stop : Stop) → Stopped x c h stop → Comes h c
@@ -268,6 +280,7 @@ module _ (e : Edition) (script : List Event) where
           woke = w.woke;
           return = w.return;
           exact = w.exact;
+          ticks = w.ticks;
           most = w.most;
           waits = w.waits;
           since = omega (arith, w.since);
@@ -286,7 +299,7 @@ module _ (e : Edition) (script : List Event) where
 
     behind_wait : Woken e b h → BehindWait e c h'
     unfolding c u h'
-    behind_wait w = record { old = b; before = h; woken = w; cycle = refl; spent = refl; from = refl; state = refl }
+    behind_wait w = record { old = b; before = h; woken = w; cycle = refl; spent = refl; ticks = refl; from = refl; state = refl }
 
     exact : Timed e b h → Spends c h' 0 ⊎ BehindWait e c h'
     unfolding c u h'
@@ -316,6 +329,18 @@ module _ (e : Edition) (script : List Event) where
         let on = return_main b.cycle (t.even awake) i w.back in
         inr (record { back = omega (arith, on.0, on.1); moved = λ k. omega (arith, on.0) })
 
+    spends_prompt : is_waiting (instr_at h.state) ≡ false → Timed e b h → Spends b h 0
+    spends_prompt p (Before s r) = s
+    spends_prompt p (Waiting n s l idle r) = absurd (sleeps (sym idle ∙ awake))
+    spends_prompt p (Behind n s l r w) = absurd (waits_are h.state w.waits p)
+
+    past_on : is_waiting (instr_at h.state) ≡ false → (m : Moment) → Among m h'.moments → Dated script h.from m
+    unfolding u h'
+    past_on p m (inr a) = t.past p m a
+    past_on p m (inl is) =
+        let n = cycle_then b h t i (spends_prompt p time) in
+        subst (Dated script h.from) (sym is) (record { ticks = sym n.1; held = ap (λ c. held (c + 1)) n.0 })
+
     interval : Interval e script c h'
     unfolding c u h'
     interval =
@@ -327,6 +352,7 @@ module _ (e : Edition) (script : List Event) where
           begun = t.begun;
           starts = t.starts;
           behind = behind_on t.behind;
+          past = past_on;
           covers =
               record {
                 ticks = t.covers.ticks ∙ sym (ticks_main h.from b.cycle (t.even awake) i);
@@ -389,6 +415,7 @@ module _ (e : Edition) (script : List Event) where
         begun = t.begun;
         starts = t.starts;
         behind = idle_behind b h t i idle t.behind;
+        past = t.past;
         covers =
             record {
               ticks = t.covers.ticks ∙ sym (ticks_wait h.from b.cycle i);
@@ -450,6 +477,7 @@ module _ (e : Edition) (script : List Event) where
           starts = t.starts;
           behind =
               inr (record { back = omega (arith, at); moved = λ i. absurd (sleeps (sym i ∙ ap (λ (z : Machine). z.regs.idle) k.is)) });
+          past = t.past;
           covers =
               record {
                 ticks =
@@ -511,6 +539,7 @@ module _ (e : Edition) (script : List Event) where
           runs = st.runs;
           between = counted_as (sym more) (between_ticks 1 e h.state h.ticks h.keys s st.between);
           time = λ n t. st.time n (ap (x.takes h.state) (sym (between_ticks_key 1 e h.state h.ticks h.keys s st.between)) ∙ t);
+          told = told_ticks 1 e h.state h.ticks h.keys s st.between h.moments st.told;
           stands = dispatches_after x 1 b c (ticked st.stands.keeps.lies.awake) t.fits s st.stands;
         }
         )

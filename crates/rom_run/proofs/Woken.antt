@@ -1,5 +1,5 @@
 -- Behind a wait main code is done before the next interrupt: so none comes while the screen is changed.
-use Rattle.std.proofs.Common.{◌≡◌, ℕ, ◌+◌, ◌*◌, ◌/◌, ◌%◌, ◌<◌, ◌≤◌, ◌⊎◌, inl, inr, refl, sym, ◌∙◌, ap, subst, arith, List, true, false}
+use Rattle.std.proofs.Common.{◌≡◌, ℕ, ◌+◌, ◌-◌, ◌*◌, ◌/◌, ◌%◌, ◌<◌, ◌≤◌, ◌⊎◌, inl, inr, refl, sym, ◌∙◌, ap, subst, arith, List, true, false}
 use Rattle.std.specs.Prelude.{Some, None}
 use Rattle.machine.specs.Board.{Machine}
 use Rattle.machine.specs.Keys.{Event}
@@ -10,9 +10,9 @@ use Rattle.chip8_lang.specs.declared.view.Edition.{Edition}
 use Rattle.chip8_lang.specs.State.{Lang, instr_at}
 use Rattle.chip8_lang.specs.Between.{ticks_between}
 use Rattle.chip8_lang.specs.Step.{KeyInput, stop_of}
-use Rattle.chip8_lang.specs.Timed.{later, ended, woken, before_wait, behind_wait}
+use Rattle.chip8_lang.specs.Timed.{interrupts, later, ended, woken, before_wait, behind_wait}
 use Rattle.rom_law.specs.Code.{is_event}
-use Rattle.rom_law.specs.Due.{takes_by, due_behind, due_by}
+use Rattle.rom_law.specs.Moments.{takes_by}
 use Rattle.rom_law.specs.Program.{code}
 use Rattle.rom_law.specs.Rows.{Since, Row, Outcome, now, after_tick}
 use Rattle.rom_law.specs.Rows.Row.{Inside, Alone}
@@ -30,7 +30,7 @@ use Rattle.rom_rows.specs.Table.{Head, pieces, waited_pieces}
 use Rattle.rom_rows.specs.Table.Block.{OfSprite}
 use Rattle.rom_rows.specs.Table.Place.{AtTimer, AtKey, AtSprite}
 use Rattle.rom_rows.proofs.Later.{before_ticks}
-use Rattle.rom_rows.proofs.Steps.{some_is, stop_ticks}
+use Rattle.rom_rows.proofs.Steps.{stop_ticks}
 use Rattle.rom_sprite.proofs.Screen.{few_rows}
 use Rattle.rom_timer.specs.Routine.{routine_cycles}
 use Rattle.rom_run.specs.Running.{IsBehind, Interval}
@@ -38,7 +38,7 @@ use Rattle.rom_run.specs.Time.{Spends, WaitsBy, Woken, Timed, wait_time, since_r
 use Rattle.rom_run.specs.Time.Timed.{Before, Waiting, Behind}
 use Rattle.rom_run.specs.Time.WaitsBy.{ToClear, ToDraw}
 use Rattle.rom_run.proofs.Behind.{waited_awake}
-use Rattle.rom_run.proofs.Exact.{woken_is, later_soon, due_waits}
+use Rattle.rom_run.proofs.Exact.{woken_is, later_soon, due_behind, waits_take}
 use Rattle.rom_run.proofs.Most.{draw_most}
 use Rattle.rom_run.proofs.Proved.{proved}
 use Rattle.rom_run.proofs.Time.{few}
@@ -158,36 +158,39 @@ module _ (e : Edition) where
   calm_row c h calm (Dispatched s st makes) = absurd (sleeps (sym (dispatch_by (vip e) c s st.stands) ∙ (neither _ _ calm).0))
   calm_row c h calm (Halted stop st) = absurd (sleeps (sym (halt_by (vip e) c (now h) stop st.halts) ∙ (neither _ _ calm).1))
 
-  -- in the cycle of the interrupt that ends the wait, the routine will return where the language's time says
+  -- in the cycle of the interrupt that ends the wait, the routine will return where the language's time says, and so many ticks have come
+  abbrev WokenThen : Since → ℕ → Type 0
+  WokenThen h m =
+      (interrupt_at m + routine_cycles ≡ woken (ended h.from (wait_time e h.state))) × (interrupts h.from (wait_time e h.state - 1) ≡ h.ticks)
+
   pub woken_then : (script : List Event) (b : Machine) (h : Since) (m : ℕ) → Interval e script b h → b.regs.idle ≡ true → Waits e h → Timed e b h
-      → b.cycle ≡ interrupt_at m → interrupt_at m + routine_cycles ≡ woken (ended h.from (wait_time e h.state))
+      → b.cycle ≡ interrupt_at m → WokenThen h m
   woken_then script b h m t i w time at = go time
     where
-      from_wait : (n : ℕ) → Spends b h n → n ≤ since_window b.cycle → (h.ticks ≡ 0) ⊎ (n + 2 ≤ since_return b.cycle)
-          → interrupt_at m + routine_cycles ≡ woken (ended h.from (wait_time e h.state))
+      from_wait : (n : ℕ) → Spends b h n → n ≤ since_window b.cycle → (h.ticks ≡ 0) ⊎ (n + 2 ≤ since_return b.cycle) → WokenThen h m
       from_wait n s l moved =
-          woken_is h.from h.spent h.ticks n m t.starts t.begun (t.covers.ticks ∙ ap (ticks_between h.from) at) (omega (arith, s, at)) w.some
-          (subst (λ c. n ≤ since_window c) at l) (subst (λ c. (h.ticks ≡ 0) ⊎ (n + 2 ≤ since_return c)) at moved)
-          ∙ ap (λ k. woken (ended h.from k)) w.exact
+          subst (λ k. (interrupt_at m + routine_cycles ≡ woken (ended h.from k)) × (interrupts h.from (k - 1) ≡ h.ticks)) w.exact
+          (woken_is h.from h.spent h.ticks n m t.starts.outside t.begun (t.covers.ticks ∙ ap (ticks_between h.from) at) (omega (arith, s, at)) w.some
+          (subst (λ c. n ≤ since_window c) at l) (subst (λ c. (h.ticks ≡ 0) ⊎ (n + 2 ≤ since_return c)) at moved))
 
       at_once : (h.ticks ≡ 0) ⊎ IsBehind b → (h.ticks ≡ 0) ⊎ (0 + 2 ≤ since_return b.cycle)
       at_once (inl z) = inl z
       at_once (inr k) = inr (k.moved i)
 
-      go : Timed e b h → interrupt_at m + routine_cycles ≡ woken (ended h.from (wait_time e h.state))
+      go : Timed e b h → WokenThen h m
       go (Before s r) = from_wait 0 s (omega arith) (at_once t.behind)
       go (Waiting n s l idle r) = from_wait n s l.most l.moved
       go (Behind n s l r o) = absurd (sleeps (sym i ∙ waited_awake e b h r))
 
   -- the interrupt routine has returned
   pub wakes : (c : Machine) (h : Since) (m : ℕ) (t : Waits e h) → Row (vip e) (waited_pieces (vip e)) c (after_tick h)
-      → c.cycle ≡ interrupt_at m + routine_cycles → interrupt_at m + routine_cycles ≡ woken (ended h.from (wait_time e h.state))
-      → Woken e c (after_tick h)
+      → c.cycle ≡ interrupt_at m + routine_cycles → WokenThen h m → Woken e c (after_tick h)
   wakes c h m t row at exact =
       record {
         woke = c.cycle;
         return = omega (arith, at);
-        exact = at ∙ exact;
+        exact = at ∙ exact.0;
+        ticks = omega (arith, exact.1);
         most = t.most;
         waits = t.waits;
         since = omega (arith, t.exact);
@@ -197,20 +200,17 @@ module _ (e : Edition) where
 
   -- ---- the dispatch behind the wait
 
-  -- it comes in the cycle that is due: c, two cycles behind b
+  -- it comes in its cycle: c, two cycles behind b
   module _ (b : Machine) (h : Since) (w : Woken e b h) (c : ℕ) (next : c ≡ b.cycle + 2) (key : KeyInput)
       (time : (n : ℕ) → takes_by e (instr_at h.state) h.state key ≡ Some n → h.spent + 2 ≡ n) where
     abbrev behind : ℕ
     behind = behind_wait e (instr_at h.state) h.state
 
     spends_behind : h.spent + 2 ≡ wait_time e h.state + behind
-    spends_behind = time _ (due_waits e h.from h.state key w.waits).takes
+    spends_behind = time _ (waits_take e h.state key w.waits)
 
-    reached : c ≡ due_behind e (instr_at h.state) h.from h.state
-    reached =
+    pub waited_at : c ≡ due_behind e (instr_at h.state) h.from h.state
+    waited_at =
         omega (arith, next, w.since, w.least, spends_behind)
         ∙ sym (later_soon w.woke behind w.return (omega (arith, spends_behind, woken_few b h w)))
         ∙ ap (λ t. later t behind) w.exact
-
-    pub waited_due : (u : ℕ) → due_by e (instr_at h.state) h.from h.state key ≡ Some u → c ≡ u
-    waited_due u k = reached ∙ some_is (sym (due_waits e h.from h.state key w.waits).is ∙ k)

@@ -1,6 +1,6 @@
 -- What is known of the board along its run, from the first dispatch point up to the stop, with the record of what came since the last
 -- dispatch point.
-use Rattle.std.specs.Prelude.{◌≡◌, ℕ, ◌%◌, ◌<◌, ◌≤◌, ◌⊎◌, true, false, List, length, slice_index}
+use Rattle.std.specs.Prelude.{◌≡◌, ℕ, ◌+◌, ◌%◌, ◌<◌, ◌≤◌, ◌⊎◌, true, false, List, length, slice_index}
 use Rattle.machine.specs.Board.{Machine, start}
 use Rattle.machine.specs.Keys.{Event, held_at}
 use Rattle.machine.specs.Run.{after_moves}
@@ -13,16 +13,16 @@ use Rattle.chip8_lang.specs.Places.{state_of}
 use Rattle.chip8_lang.specs.State.{Lang, first, memory_size, instr_at}
 use Rattle.chip8_lang.specs.Bounds.{boot_bound}
 use Rattle.chip8_lang.specs.Events.{is_dispatch, is_stop}
-use Rattle.chip8_lang.specs.Timed.{between_routines}
+use Rattle.chip8_lang.specs.Timed.{between_routines, interrupts, later}
 use Rattle.rom_law.specs.Code.{is_event}
-use Rattle.rom_law.specs.Due.{is_waiting}
+use Rattle.rom_law.specs.Moments.{Moment, Among, is_waiting}
 use Rattle.rom_law.specs.Program.{code, Dispatches}
 use Rattle.rom_law.specs.Rows.{Since, Row, Stepped, Stopped, after_tick, dispatched}
 use Rattle.rom_law.specs.Runs.{Covers}
 use Rattle.rom_rows.specs.Rom.{image, vip}
 use Rattle.rom_rows.specs.Table.{pieces}
 use Rattle.rom_fetch.specs.Laws.{boot_moves}
-use Rattle.rom_timer.specs.Frame.{IsOutside}
+use Rattle.rom_timer.specs.Frame.{IsOutside, IsMainPlace}
 use Rattle.rom_timer.specs.Routine.{routine_moves}
 use Rattle.rom_run.specs.Time.{since_return, Timed, DueInTime}
 
@@ -32,16 +32,22 @@ pub record IsBehind (b : Machine) : Type 0 where
   pub back : since_return b.cycle ≤ between_routines
   pub moved : b.regs.idle ≡ true → 2 ≤ since_return b.cycle
 
+-- A main move is made in the cycle that its main cycles tell: its ticks are the interrupts before, and its keys those of the cycle after its fetch.
+pub record Dated (script : List Event) (from : ℕ) (m : Moment) : Type 0 where
+  pub ticks : m.ticks ≡ interrupts from m.spent
+  pub held : m.held ≡ held_at script (later from m.spent + 1)
+
 -- The interval from the last dispatch point up to b, where main code runs or waits, which the record covers. Where main code runs, the cycle is
--- even.
+-- even. Its main moves are made in their cycles, but for an instruction that waits for the display.
 pub record Interval (e : Edition) (script : List Event) (b : Machine) (h : Since) : Type 0 where
   pub fits : FitsMachine b
   pub outside : IsOutside b.cycle
   pub even : b.regs.idle ≡ false → b.cycle % 2 ≡ 0
   pub from : h.from ≤ b.cycle
   pub begun : place h.from ≡ interrupt_place → ⊥
-  pub starts : IsOutside h.from
+  pub starts : IsMainPlace h.from
   pub behind : (h.ticks ≡ 0) ⊎ IsBehind b
+  pub past : is_waiting (instr_at h.state) ≡ false → (m : Moment) → Among m h.moments → Dated script h.from m
   pub covers : Covers (vip e) script b h
 
 -- b is at no dispatch and at no stop, or it is the dispatch point at which the record begins

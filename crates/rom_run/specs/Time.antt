@@ -6,7 +6,7 @@ use Rattle.chip8_lang.specs.declared.instr.Instr.TheVariants.{Clear, Draw}
 use Rattle.chip8_lang.specs.declared.view.Edition.{Edition}
 use Rattle.chip8_lang.specs.State.{Lang, instr_at}
 use Rattle.chip8_lang.specs.Bounds.{bound_of}
-use Rattle.chip8_lang.specs.Timed.{ended, woken, before_wait}
+use Rattle.chip8_lang.specs.Timed.{interrupts, ended, woken, before_wait}
 use Rattle.rom_law.specs.Rows.{Since, Row}
 use Rattle.rom_rows.specs.Rom.{vip}
 use Rattle.rom_rows.specs.Table.{calm_pieces, waited_pieces}
@@ -50,6 +50,7 @@ pub record Woken (e : Edition) (b : Machine) (h : Since) : Type 0 where
   pub woke : ℕ
   pub return : place woke ≡ interrupt_place + routine_cycles
   pub exact : woke ≡ woken (ended h.from (wait_time e h.state))
+  pub ticks : h.ticks ≡ interrupts h.from (wait_time e h.state - 1) + 1
   pub most : ℕ
   pub waits : WaitsBy h.state most
   pub since : b.cycle + wait_time e h.state ≡ woke + h.spent
@@ -75,6 +76,7 @@ pub record BehindWait (e : Edition) (b : Machine) (h : Since) : Type 0 where
   pub woken : Woken e old before
   pub cycle : b.cycle ≡ old.cycle + 2
   pub spent : h.spent ≡ before.spent + 2
+  pub ticks : h.ticks ≡ before.ticks
   pub from : h.from ≡ before.from
   pub state : h.state ≡ before.state
 

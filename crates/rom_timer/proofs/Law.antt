@@ -21,12 +21,12 @@ use Rattle.rom_timer.specs.Code.{timer_rom}
 pub timer_block : (e : Edition) (l : TimerBlock) (b : Machine) (h : Since) → FitsMachine b → Head (quick e) (OfTimer l) b h
     → Comes (quick e) (calm_pieces (quick e)) (OfTimer l) b h
 timer_block e Random b h f o = random_comes e b h f o.0 o.1
-timer_block e RandomMix b h f o = random_mix_comes e b h f o.0.0 o.0.1 o.0.2 o.1
-timer_block e GetDelayPut b h f o = get_delay_put_comes e b h f o.0.0 o.0.1 o.0.2 o.1
+timer_block e RandomMix b h f o = random_mix_comes e b h f o.0.0 o.0.1 o.0.2 o.1.0 o.1.1
+timer_block e GetDelayPut b h f o = get_delay_put_comes e b h f o.0.0 o.0.1 o.0.2 o.1.0 o.1.1
 timer_block e SetDelay b h f o = set_delay_comes e b h f o.0.0 o.0.1 o.1
-timer_block e SetDelayEnd b h f o = set_delay_end_comes e b h f o.0 o.1
+timer_block e SetDelayEnd b h f o = set_delay_end_comes e b h f o.0 o.1.0 o.1.1
 timer_block e SetSound b h f o = set_sound_comes e b h f o.0.0 o.0.1 o.1
-timer_block e SetSoundEnd b h f o = set_sound_end_comes e b h f o.0 o.1
+timer_block e SetSoundEnd b h f o = set_sound_end_comes e b h f o.0 o.1.0 o.1.1
 
 pub timer_rows : TimerRows timer_rom
 timer_rows e l = block_rows e (both_is e) (both_fits e) (OfTimer l) (timer_block e l)

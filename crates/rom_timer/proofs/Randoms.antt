@@ -13,6 +13,7 @@ use Rattle.chip8_lang.specs.State.{Lang, instr_at}
 use Rattle.chip8_lang.specs.Step.{next, random, stop_of}
 use Rattle.chip8_image.specs.Labels.{at_random, at_random_count, at_random_mix}
 use Rattle.rom_law.specs.Holding.{Places, places, Holding}
+use Rattle.rom_law.specs.Moments.{Meets}
 use Rattle.rom_law.specs.Rows.{Since, now}
 use Rattle.rom_law.specs.Program.{code}
 use Rattle.rom_law.proofs.Places.{read_is, v_set, random_set}
@@ -25,12 +26,12 @@ use Rattle.rom_rows.specs.TimerBlocks.TimerPlace.{RandomCount}
 use Rattle.rom_rows.specs.Table.{At, calm_pieces, calm_top}
 use Rattle.rom_rows.specs.Table.Block.{OfTimer}
 use Rattle.rom_rows.specs.Table.Place.{AtTimer}
-use Rattle.rom_rows.proofs.Alone.{alone, one_more}
+use Rattle.rom_rows.proofs.Alone.{alone, one_more, meets_now}
 use Rattle.rom_rows.proofs.Bytes.{page_fits, page_low, memory_end_is, stack_top_is, variables_is}
 use Rattle.rom_rows.proofs.Entry.{ready, entered, is_entered}
 use Rattle.rom_rows.proofs.Follows.{to_timer, to_timer_place}
 use Rattle.rom_rows.proofs.Straight.{routine}
-use Rattle.rom_rows.proofs.Steps.{steps}
+use Rattle.rom_rows.proofs.Steps.{meets_grown, steps}
 use Rattle.rom_timer.proofs.Rom.{both, quick}
 
 module _ (e : Edition) (b : Machine) (h : Since) (f : FitsMachine b) where
@@ -94,7 +95,7 @@ module _ (e : Edition) (b : Machine) (h : Since) (f : FitsMachine b) where
           x = refl;
         },
         omega (arith, ap (λ (z : Lang). z.n) o.entered.holds.is, f.regs.r.r9.lo),
-      ) (omega (arith, spent)))
+      ) (omega (arith, spent), meets_now u h 90 spent))
 
   -- ---- the next random byte
 
@@ -128,9 +129,9 @@ module _ (e : Edition) (b : Machine) (h : Since) (f : FitsMachine b) where
   abbrev put : Places
   put = record (places b) { ram = written b.latch stored (value (word (page_of e) (240 + high % 16))) byte }
 
-  pub random_mix_comes : Enters (quick e) at_random_mix 12 b (now h) → Mixes b → b.regs.d ≡ (now h).n % 256 → h.spent ≡ 92
+  pub random_mix_comes : Enters (quick e) at_random_mix 12 b (now h) → Mixes b → b.regs.d ≡ (now h).n % 256 → h.spent ≡ 92 → Meets h.moments 90 h.ticks
       → Comes (quick e) (calm_pieces (quick e)) (OfTimer RandomMix) b h
-  random_mix_comes o m d spent = record {
+  random_mix_comes o m d spent met = record {
     runs = ready o.entered.holds;
     awake = o.entered.holds.awake;
     some = omega arith;
@@ -139,7 +140,7 @@ module _ (e : Edition) (b : Machine) (h : Since) (f : FitsMachine b) where
         reaches_from (code (quick e)) (calm_top e) 11 b _ _ (is_mixing o.entered m)
         (reaches_in (code (quick e)) (calm_top e) 11 _ _
         (omega (arith, o.entered.holds.stack, stack_top_is e, memory_end_is e, page_fits e, page_low e)) refl);
-    ends = λ h' g. steps e g (RandomByte (high % 16) low) (random_is o) refl (random_runs o) (omega (arith, spent)) _ puts refl refl;
+    ends = λ h' g. steps e g (RandomByte (high % 16) low) (random_is o) refl (random_runs o) (omega (arith, spent)) (meets_grown g met) _ puts refl refl;
   }
     where
       puts : Holding (quick e) put (record (next (now h)) { v = slice_set (now h).v (high % 16) (bit_and (random (now h)) low); b = random (now h) })

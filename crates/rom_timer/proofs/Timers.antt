@@ -12,6 +12,7 @@ use Rattle.chip8_lang.specs.Step.{next, stop_of, step, done_by}
 use Rattle.chip8_lang.specs.Step.KeyInput.{Nothing}
 use Rattle.chip8_image.specs.Labels.{at_get_delay, at_get_delay_put, at_set_delay, at_set_delay_put, at_set_delay_end, at_set_sound, at_set_sound_put, at_set_sound_end}
 use Rattle.rom_law.specs.Holding.{Places, places, Holding}
+use Rattle.rom_law.specs.Moments.{Meets}
 use Rattle.rom_law.specs.Rows.{Since, now}
 use Rattle.rom_law.specs.Program.{code}
 use Rattle.rom_law.proofs.Places.{v_get, v_set, timers_set}
@@ -24,13 +25,13 @@ use Rattle.rom_rows.specs.TimerBlocks.TimerPlace.{GetDelay, SetDelayPut, SetSoun
 use Rattle.rom_rows.specs.Table.{At, calm_pieces, calm_top}
 use Rattle.rom_rows.specs.Table.Block.{OfTimer}
 use Rattle.rom_rows.specs.Table.Place.{AtTimer}
-use Rattle.rom_rows.proofs.Alone.{alone, one_more}
+use Rattle.rom_rows.proofs.Alone.{alone, one_more, meets_now}
 use Rattle.rom_rows.proofs.Branches.{looked, looks}
 use Rattle.rom_rows.proofs.Bytes.{page_fits, stack_top_is, variables_is}
 use Rattle.rom_rows.proofs.Entry.{ready, entered, is_entered, on_3, is_on_3}
 use Rattle.rom_rows.proofs.Follows.{to_timer, to_timer_place}
 use Rattle.rom_rows.proofs.Straight.{routine}
-use Rattle.rom_rows.proofs.Steps.{steps}
+use Rattle.rom_rows.proofs.Steps.{meets_grown, steps}
 use Rattle.rom_timer.proofs.Rom.{both, quick}
 
 module _ (e : Edition) (b : Machine) (h : Since) (f : FitsMachine b) where
@@ -54,7 +55,7 @@ module _ (e : Edition) (b : Machine) (h : Since) (f : FitsMachine b) where
   get_delay_holds o kk at spent = alone (AtTimer GetDelay) f at o.entered.holds (entered e at_get_delay high low b) (is_entered o.entered) refl refl refl
       (λ u. to_timer (quick e) (one_more u h) _ refl GetDelayPut
       (record { entered = looks b.regs.r.r8.hi at_get_delay_put o.entered; digit = o.digit }, kk, ap (λ (z : Lang). z.dt) o.entered.holds.is)
-      (omega (arith, spent)))
+      (omega (arith, spent), meets_now u h 86 spent))
 
   get_is : {a : ℕ} → Enters (quick e) a 15 b (now h) → low ≡ 0x07 → instr_at (now h) ≡ GetTimer (high % 16)
   get_is o kk = rw (o.digit, kk) refl
@@ -66,11 +67,11 @@ module _ (e : Edition) (b : Machine) (h : Since) (f : FitsMachine b) where
   abbrev put : ℕ → Places
   put v = record (places b) { ram = written b.latch b.ram (value (word (page_of e) (240 + high % 16))) v }
 
-  pub get_delay_put_comes : Enters (quick e) at_get_delay_put 15 b (now h) → low ≡ 0x07 → b.regs.d ≡ (now h).dt → h.spent ≡ 88
+  pub get_delay_put_comes : Enters (quick e) at_get_delay_put 15 b (now h) → low ≡ 0x07 → b.regs.d ≡ (now h).dt → h.spent ≡ 88 → Meets h.moments 86 h.ticks
       → Comes (quick e) (calm_pieces (quick e)) (OfTimer GetDelayPut) b h
-  get_delay_put_comes o kk d spent =
+  get_delay_put_comes o kk d spent met =
       routine (OfTimer GetDelayPut) o.entered _ (omega arith) refl
-      (λ h' g. steps e g (GetTimer (high % 16)) (get_is o kk) refl (get_runs o kk) (omega (arith, spent)) _ puts refl refl)
+      (λ h' g. steps e g (GetTimer (high % 16)) (get_is o kk) refl (get_runs o kk) (omega (arith, spent)) (meets_grown g met) _ puts refl refl)
     where
       puts : Holding (quick e) (put b.regs.d) (record (next (now h)) { v = slice_set (now h).v (high % 16) (now h).dt })
       puts =
@@ -98,7 +99,7 @@ module _ (e : Edition) (b : Machine) (h : Since) (f : FitsMachine b) where
       alone (AtTimer SetDelayPut) f at o.entered.holds (entered e at_set_delay_put high low b) (is_entered o.entered) refl refl refl
       (λ u. to_timer (quick e) (one_more u h) _ refl SetDelayEnd
       (record { done = record { holds = writes; inside = o.entered.inside; p = refl; r3 = refl; r4 = refl }; digit = o.digit; low = kk })
-      (omega (arith, spent)))
+      (omega (arith, spent), meets_now u h 100 spent))
     where
       same : record (next (now h)) { dt = b.regs.d; st = b.regs.r.r8.lo } ≡ step e Nothing (now h)
       same =
@@ -110,9 +111,9 @@ module _ (e : Edition) (b : Machine) (h : Since) (f : FitsMachine b) where
           subst (Holding (quick e) (record (places b) { r8 = word b.regs.d b.regs.r.r8.lo })) same
           (timers_set o.entered.holds (word b.regs.d b.regs.r.r8.lo))
 
-  pub set_delay_end_comes : Ended (quick e) at_set_delay_end 0x15 b (now h) → h.spent ≡ 102
+  pub set_delay_end_comes : Ended (quick e) at_set_delay_end 0x15 b (now h) → h.spent ≡ 102 → Meets h.moments 100 h.ticks
       → Comes (quick e) (calm_pieces (quick e)) (OfTimer SetDelayEnd) b h
-  set_delay_end_comes o spent = record {
+  set_delay_end_comes o spent met = record {
     runs = ready o.done.holds;
     awake = o.done.holds.awake;
     some = omega arith;
@@ -121,7 +122,7 @@ module _ (e : Edition) (b : Machine) (h : Since) (f : FitsMachine b) where
         reaches_from (code (quick e)) (calm_top e) 1 b _ _ (is_on_3 at_set_delay_end b o.done.p o.done.r3)
         (reaches_in (code (quick e)) (calm_top e) 1 _ _ (omega arith) refl);
     ends =
-        λ h' g. steps e g (SetTimer (high % 16)) (delay_is o.digit o.low) refl (delay_runs o.done.inside o.digit o.low) (omega (arith, spent)) _
+        λ h' g. steps e g (SetTimer (high % 16)) (delay_is o.digit o.low) refl (delay_runs o.done.inside o.digit o.low) (omega (arith, spent)) (meets_grown g met) _
         (subst (λ j. Holding (quick e) (places b) (done_by e j Nothing (now h))) (delay_is o.digit o.low) o.done.holds) refl o.done.r4;
   }
 
@@ -146,7 +147,7 @@ module _ (e : Edition) (b : Machine) (h : Since) (f : FitsMachine b) where
       alone (AtTimer SetSoundPut) f at o.entered.holds (entered e at_set_sound_put high low b) (is_entered o.entered) refl refl refl
       (λ u. to_timer (quick e) (one_more u h) _ refl SetSoundEnd
       (record { done = record { holds = writes; inside = o.entered.inside; p = refl; r3 = refl; r4 = refl }; digit = o.digit; low = kk })
-      (omega (arith, spent)))
+      (omega (arith, spent), meets_now u h 106 spent))
     where
       same : record (next (now h)) { dt = b.regs.r.r8.hi; st = b.regs.d } ≡ step e Nothing (now h)
       same =
@@ -158,9 +159,9 @@ module _ (e : Edition) (b : Machine) (h : Since) (f : FitsMachine b) where
           subst (Holding (quick e) (record (places b) { r8 = word b.regs.r.r8.hi b.regs.d })) same
           (timers_set o.entered.holds (word b.regs.r.r8.hi b.regs.d))
 
-  pub set_sound_end_comes : Ended (quick e) at_set_sound_end 0x18 b (now h) → h.spent ≡ 108
+  pub set_sound_end_comes : Ended (quick e) at_set_sound_end 0x18 b (now h) → h.spent ≡ 108 → Meets h.moments 106 h.ticks
       → Comes (quick e) (calm_pieces (quick e)) (OfTimer SetSoundEnd) b h
-  set_sound_end_comes o spent = record {
+  set_sound_end_comes o spent met = record {
     runs = ready o.done.holds;
     awake = o.done.holds.awake;
     some = omega arith;
@@ -169,6 +170,6 @@ module _ (e : Edition) (b : Machine) (h : Since) (f : FitsMachine b) where
         reaches_from (code (quick e)) (calm_top e) 1 b _ _ (is_on_3 at_set_sound_end b o.done.p o.done.r3)
         (reaches_in (code (quick e)) (calm_top e) 1 _ _ (omega arith) refl);
     ends =
-        λ h' g. steps e g (SetTone (high % 16)) (sound_is o.digit o.low) refl (sound_runs o.done.inside o.digit o.low) (omega (arith, spent)) _
+        λ h' g. steps e g (SetTone (high % 16)) (sound_is o.digit o.low) refl (sound_runs o.done.inside o.digit o.low) (omega (arith, spent)) (meets_grown g met) _
         (subst (λ j. Holding (quick e) (places b) (done_by e j Nothing (now h))) (sound_is o.digit o.low) o.done.holds) refl o.done.r4;
   }

@@ -1,0 +1,67 @@
+-- The main moves since the last dispatch point, and what a step says of them: how many main cycles it takes, and at which of them it meets the ticks
+-- and looks at a key.
+use Rattle.std.specs.Prelude.{◌≡◌, ◌⊎◌, ℕ, ◌%◌, Bool, true, false, List, [], ◌∷◌, Option, Some, None}
+use Rattle.machine.specs.Keys.{Keys}
+use Rattle.chip8_lang.specs.declared.instr.Instr.{Instr}
+use Rattle.chip8_lang.specs.declared.instr.Instr.TheVariants.{Clear, Draw, WaitKey, Random, GetDelay, SetDelay, SetSound, SkipDown, SkipUp}
+use Rattle.chip8_lang.specs.declared.view.Edition.{Edition}
+use Rattle.chip8_lang.specs.State.{Lang, variable}
+use Rattle.chip8_lang.specs.Step.{KeyInput}
+use Rattle.chip8_lang.specs.Step.KeyInput.{Held}
+use Rattle.chip8_lang.specs.Timed.{cycles}
+
+-- ---- main moves
+
+-- a main move: the main cycles and the ticks that were made before it since the dispatch, and the keys that were held down in it
+pub record Moment : Type 0 where
+  pub spent : ℕ
+  pub ticks : ℕ
+  pub held : Keys
+
+-- it is one of these
+abbrev pub Among : Moment → List Moment → Type 0
+Among m [] = ⊥
+Among m (latest ∷ moments) = (m ≡ latest) ⊎ Among m moments
+
+-- the one at so many main cycles comes after so many ticks
+pub record Meets (moments : List Moment) (spent ticks : ℕ) : Type 0 where
+  pub moment : Moment
+  pub among : Among moment moments
+  pub at : moment.spent ≡ spent
+  pub after : moment.ticks ≡ ticks
+
+-- in the one at so many main cycles key k is up or down as `down` says
+pub record Sees (moments : List Moment) (spent k : ℕ) (down : Bool) : Type 0 where
+  pub moment : Moment
+  pub among : Among moment moments
+  pub at : moment.spent ≡ spent
+  pub is : moment.held k ≡ down
+
+-- ---- a step
+
+-- 00E0 and DXYN wait for the display
+abbrev pub is_waiting : Instr → Bool
+is_waiting Clear = true
+is_waiting (Draw x y n) = true
+is_waiting _ = false
+
+-- FX0A waits for a key: what comes behind it isn't told here
+abbrev pub is_told_by : Instr → Bool
+is_told_by (WaitKey x) = false
+is_told_by _ = true
+
+-- The main cycles of a step, by what it took from the keypad. Those of FX0A are told by the cycles in which its key is down and up.
+abbrev pub takes_by : Edition → Instr → Lang → KeyInput → Option ℕ
+takes_by e (WaitKey x) s key = None
+takes_by e i s key = Some (cycles e i key s)
+
+-- The four instructions that use the timers or the count of ticks do so at one main move, with the ticks before it and no other; EX9E and EXA1 look at
+-- their key at one.
+abbrev pub Tells : Instr → Lang → List Moment → ℕ → KeyInput → Type 0
+Tells (Random x k) s moments before key = Meets moments 90 before
+Tells (GetDelay x) s moments before key = Meets moments 86 before
+Tells (SetDelay x) s moments before key = Meets moments 100 before
+Tells (SetSound x) s moments before key = Meets moments 106 before
+Tells (SkipDown x) s moments before (Held down) = Sees moments 90 (variable s x % 16) down
+Tells (SkipUp x) s moments before (Held down) = Sees moments 96 (variable s x % 16) down
+Tells _ s moments before key = Unit {0}
