@@ -1,5 +1,5 @@
 -- A run keeps to its frames, by the laws of every state of the interpreter's ROM.
-use Rattle.std.proofs.Common.{◌≡◌, ℕ, suc, List, sym, ap, subst, ◌∙◌}
+use Rattle.std.proofs.Common.{ℕ, suc, List, subst}
 use Rattle.machine.specs.Board.{Machine, start}
 use Rattle.machine.specs.Keys.{Event as KeyEvent}
 use Rattle.chip8_lang.specs.declared.view.Edition.{Edition}
@@ -12,15 +12,10 @@ use Rattle.rom_run.specs.States.Beginning.{AtReset, AtStart}
 use Rattle.rom_run.specs.States.Known.{InBoot, Runs}
 use Rattle.rom_run.proofs.Starts.{dispatch_starts}
 use Rattle.rom_run.proofs.States.{its_place}
-use Rattle.rom_run.proofs.Waits.{sleeps}
 use Rattle.rom_board.specs.Frames.{ChangesBetween, KeepsFrames}
 use Rattle.rom_board.specs.Laws.{EveryFrame, EveryFrameBehind}
 use Rattle.rom_board.specs.Program.{program}
-use Rattle.rom_board.proofs.Speaking.{is_program}
-
--- a dispatch point is behind boot
-not_reset : (e : Edition) (b : Machine) (game : List ℕ) → MayStart e b → b ≡ start game → ⊥
-not_reset e b game may is = sleeps (sym (ap (λ (b : Machine). b.latch) is) ∙ may.stands.keeps.lies.latch)
+use Rattle.rom_board.proofs.Speaking.{is_program, not_reset}
 
 module _ (states : EveryState) (undisturbed : Undisturbed) (waits : WaitsSoon) (writes : WritesSoon) (changes : ChangesSoon) where
   module _ (e : Edition) (script : List KeyEvent) (b : Machine) (may : MayStart e b) where

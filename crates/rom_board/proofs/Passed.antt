@@ -6,16 +6,17 @@ use Rattle.std.proofs.lemmas.List.{drop_all, take-append-le, length-append}
 use Rattle.machine.specs.Board.{Machine}
 use Rattle.machine.specs.Keys.{Event as KeyEvent}
 use Rattle.machine.specs.Pictures.{windows_ended, is_shown}
-use Rattle.chip8_lang.specs.Events.{Event, events_of, is_dispatch, is_stop, numbers_from}
+use Rattle.chip8_lang.specs.Events.{Event, is_dispatch, is_stop, numbers_from}
 use Rattle.chip8_lang.specs.Events.Event.{Picture, Dispatch, Stopped}
 use Rattle.chip8_lang.specs.Places.{Interpreter}
 use Rattle.vip_relation.specs.Follows.{Follows, dispatch_of, last_dispatch}
 use Rattle.vip_relation.specs.Meets.{HasStopped}
 use Rattle.vip_relation.specs.Points.{point_events}
 use Rattle.vip_relation.specs.declared.point.Point.TheVariants.{Dispatch as DispatchPoint, Stop as StopPoint, Other as OtherPoint}
-use Rattle.vip_relation.specs.State.{VipState, interpreter, events_to, events_met}
+use Rattle.vip_relation.specs.State.{Start, VipState, events_from, events_met, events_to, first_events, interpreter, machine_of}
+use Rattle.vip_relation.specs.State.Start.{Reset, Saved}
 use Rattle.vip_relation.proofs.Past.{state, earlier, before, past, pictures, point, Runs, events-stop}
-use Rattle.vip_relation.proofs.Steps.{events-here}
+use Rattle.vip_relation.proofs.Steps.{begins, events-here}
 
 -- ---- the last dispatch point among some events
 
@@ -62,6 +63,14 @@ last_after_stop last (Picture m ∷ es) b = last_after_stop last es b
 last_after_stop last (Dispatch c ∷ es) b = last_after_stop (Some c) es b
 last_after_stop last (Stopped c ∷ es) b = last_after_stop last es b
 
+-- behind a dispatch point there is one
+pub some_after : (b : Machine) (es : List Event) → last_after (Some b) es ≡ None → ⊥
+unfolding last_after
+some_after b [] none = cc
+some_after b (Picture m ∷ es) none = some_after b es none
+some_after b (Dispatch c ∷ es) none = some_after c es none
+some_after b (Stopped c ∷ es) none = some_after b es none
+
 -- ---- no stop point among some events
 
 unfoldable pub NoStop : List Event → Type 0
@@ -102,66 +111,83 @@ one_stop : (stop dispatch : Bool) (b : Machine) → stop ≡ true
 one_stop true dispatch b stops = refl
 one_stop false dispatch b stops = cc
 
-module _ (i : Interpreter) (game : List ℕ) (script : List KeyEvent) where
+no_stop_first : (s : Start) → NoStop (first_events s)
+unfolding NoStop
+no_stop_first (Reset game) = tt
+no_stop_first (Saved file) = tt
+
+module _ (i : Interpreter) (s : Start) (script : List KeyEvent) where
   -- the frames whose pictures come at the n-th state
   abbrev frames : ℕ → List ℕ
   frames n =
-      filter (is_shown i.rom (earlier i game script n))
-      (numbers_from (windows_ended (before i game script n)) (windows_ended (state i game script n).cycle - windows_ended (before i game script n)))
+      filter (is_shown i.rom (earlier i s script n))
+      (numbers_from (windows_ended (before i s script n)) (windows_ended (state i s script n).cycle - windows_ended (before i s script n)))
 
-  no_stop_past : (n : ℕ) → Runs i game script n → NoStop (past i game script n)
+  no_stop_here : (n : ℕ) → is_stop i (state i s script n) ≡ false → NoStop (point i s script n)
+  no_stop_here zero runs = no_stop_first s
+  no_stop_here (suc n) runs =
+      no_stop_point (is_stop i (state i s script (suc n))) (is_dispatch i (state i s script (suc n))) (state i s script (suc n)) runs
+
+  no_stop_past : (n : ℕ) → Runs i s script n → NoStop (past i s script n)
   unfolding past NoStop
   no_stop_past zero runs = tt
   no_stop_past (suc n) runs =
-      no_stop_append (past i game script n ++ pictures i game script n) (point i game script n)
-      (no_stop_append (past i game script n) (pictures i game script n) (no_stop_past n (λ k l. runs k (omega (arith, l)))) (no_stop_pictures (frames n)))
-      (no_stop_point (is_stop i (state i game script n)) (is_dispatch i (state i game script n)) (state i game script n) (runs n (omega arith)))
+      no_stop_append (past i s script n ++ pictures i s script n) (point i s script n)
+      (no_stop_append (past i s script n) (pictures i s script n) (no_stop_past n (λ k l. runs k (omega (arith, l)))) (no_stop_pictures (frames n)))
+      (no_stop_here n (runs n (omega arith)))
 
   -- the events before the point of the n-th state
   pub before_point : ℕ → List Event
-  before_point n = past i game script n ++ pictures i game script n
+  before_point n = past i s script n ++ pictures i s script n
 
-  pub no_stop_before : (n : ℕ) → Runs i game script n → NoStop (before_point n)
+  pub no_stop_before : (n : ℕ) → Runs i s script n → NoStop (before_point n)
   unfolding before_point
-  no_stop_before n runs = no_stop_append (past i game script n) (pictures i game script n) (no_stop_past n runs) (no_stop_pictures (frames n))
+  no_stop_before n runs = no_stop_append (past i s script n) (pictures i s script n) (no_stop_past n runs) (no_stop_pictures (frames n))
 
-  pub with_point : (n : ℕ) → past i game script (suc n) ≡ before_point n ++ point i game script n
+  pub with_point : (n : ℕ) → past i s script (suc n) ≡ before_point n ++ point i s script n
   unfolding past before_point
   with_point n = refl
 
-  -- of a stop point that is the stop alone
-  pub stop_point : (n : ℕ) → is_stop i (state i game script n) ≡ true → point i game script n ≡ Stopped (state i game script n) ∷ []
-  stop_point n stop = one_stop (is_stop i (state i game script n)) (is_dispatch i (state i game script n)) (state i game script n) stop
+  pub other_point : (n : ℕ) → is_stop i (state i s script n) ≡ false → NoStop (point i s script n)
+  other_point n runs = no_stop_here n runs
 
-  -- where the n-th state is the first stop point, the events up to any cycle from it on are those before it, and then it
-  pub events_to_stop :
-      (limit n : ℕ) → (state i game script n).cycle ≤ limit → is_stop i (state i game script n) ≡ true → Runs i game script n
-      → events_of i game script limit ≡ before_point n ++ Stopped (state i game script n) ∷ []
-  events_to_stop limit n within stop runs =
-      events-stop i game script limit n within stop runs ∙ with_point n ∙ ap (λ es. before_point n ++ es) (stop_point n stop)
+  -- no run begins at a stop point
+  module _ (begins : is_stop i (machine_of s) ≡ false) where
+    -- of a stop point that is the stop alone
+    pub stop_point : (n : ℕ) → is_stop i (state i s script n) ≡ true → point i s script n ≡ Stopped (state i s script n) ∷ []
+    stop_point zero stop = absurd (not_both (is_stop i (machine_of s)) begins stop)
+      where
+        not_both : (b : Bool) → b ≡ false → b ≡ true → ⊥
+        not_both b h g = cc
+    stop_point (suc n) stop =
+        one_stop (is_stop i (state i s script (suc n))) (is_dispatch i (state i s script (suc n))) (state i s script (suc n)) stop
 
-  pub other_point : (n : ℕ) → is_stop i (state i game script n) ≡ false → NoStop (point i game script n)
-  other_point n runs = no_stop_point (is_stop i (state i game script n)) (is_dispatch i (state i game script n)) (state i game script n) runs
+    -- where the n-th state is the first stop point, the events up to any cycle from it on are those before it, and then it
+    pub events_to_stop :
+        (limit n : ℕ) → (state i s script n).cycle ≤ limit → is_stop i (state i s script n) ≡ true → Runs i s script n
+        → events_from i script s limit ≡ before_point n ++ Stopped (state i s script n) ∷ []
+    events_to_stop limit n within stop runs =
+        events-stop i s script begins limit n within stop runs ∙ with_point n ∙ ap (λ es. before_point n ++ es) (stop_point n stop)
 
 module _ (v : VipState) (f : Follows v) where
   abbrev i : Interpreter
   i = interpreter v
 
   abbrev pub here : Machine
-  here = state i v.game v.board.script v.moves
+  here = state i v.start v.board.script v.moves
 
   abbrev pub met_before : List Event
-  met_before = before_point i v.game v.board.script v.moves
+  met_before = before_point i v.start v.board.script v.moves
 
   abbrev last : List Event
-  last = point i v.game v.board.script v.moves
+  last = point i v.start v.board.script v.moves
 
   -- the events up to the present state
   pub to_here : events_to v v.board.machine.cycle ≡ met_before ++ last
-  to_here = events-here v f ∙ with_point i v.game v.board.script v.moves
+  to_here = events-here v f ∙ with_point i v.start v.board.script v.moves
 
   pub none_before : NoStop met_before
-  none_before = no_stop_before i v.game v.board.script v.moves f.runs
+  none_before = no_stop_before i v.start v.board.script v.moves f.runs
 
   -- while no stop was met, none is among the events met
   pub no_stop_met : (HasStopped v → ⊥) → NoStop (events_met v)
@@ -175,7 +201,7 @@ module _ (v : VipState) (f : Follows v) where
         where
           all : length (events_to v v.board.machine.cycle) ≡ length met_before + 1
           all =
-              ap length (to_here ∙ ap (λ es. met_before ++ es) (stop_point i v.game v.board.script v.moves (is_here true stop)))
+              ap length (to_here ∙ ap (λ es. met_before ++ es) (stop_point i v.start v.board.script (begins v f) v.moves (is_here true stop)))
               ∙ length-append met_before (Stopped here ∷ [])
 
       go : (is_stop i v.board.machine ≡ true) ⊎ (is_stop i v.board.machine ≡ false) → (length met_before < v.met) ⊎ (v.met ≤ length met_before)
@@ -184,4 +210,4 @@ module _ (v : VipState) (f : Follows v) where
       go (inl stop) (inr few) = subst NoStop (sym (take-append-le v.met met_before last few)) (no_stop_take v.met met_before none_before)
       go (inr runs) d =
           no_stop_take v.met (met_before ++ last)
-          (no_stop_append met_before last none_before (other_point i v.game v.board.script v.moves (is_here false runs)))
+          (no_stop_append met_before last none_before (other_point i v.start v.board.script v.moves (is_here false runs)))

@@ -1,6 +1,7 @@
 -- What the events that a machine meets say of the language.
 use Rattle.std.specs.Prelude.{◌≡◌, ℕ, ◌+◌, ◌<◌, ◌≤◌, List, length, Option, Some, None}
 use Rattle.machine.specs.Board.{Machine}
+use Rattle.machine.specs.Pictures.{windows_ended}
 use Rattle.chip8_lang.specs.declared.view.StopRecord.{StopRecord}
 use Rattle.chip8_lang.specs.Bounds.{boot_bound}
 use Rattle.chip8_lang.specs.Events.{Event}
@@ -11,7 +12,8 @@ use Rattle.rom_law.specs.Language.{Begins, GoesOn, InTime, IsStep, IsStop, frame
 use Rattle.rom_law.specs.Pictures.{ShowsScreen}
 use Rattle.rom_law.specs.Program.{Dispatches}
 use Rattle.vip_relation.specs.Follows.{last_dispatch}
-use Rattle.vip_relation.specs.State.{VipState, events_met, run_of}
+use Rattle.vip_relation.specs.State.{Start, VipState, events_met, machine_of, run_of}
+use Rattle.vip_relation.specs.State.Start.{Reset, Saved}
 use Rattle.vip_relation.specs.declared.run.Met.{Met}
 use Rattle.vip_relation.specs.declared.run.Met.TheVariants.{Picture, Dispatch, Stopped, End}
 use Rattle.rom_board.specs.Program.{numbered, program}
@@ -20,15 +22,20 @@ use Rattle.rom_board.specs.Program.{numbered, program}
 abbrev pub last_met : VipState → Option Machine
 last_met v = last_dispatch (events_met v)
 
--- how many pictures were met
-abbrev pub pictures_met : VipState → ℕ
-pictures_met v = length (frames_of (events_met v))
+-- how many frames have passed, those before the start and those whose pictures were met
+abbrev pub frames_met : VipState → ℕ
+frames_met v = windows_ended (machine_of v.start).cycle + length (frames_of (events_met v))
+
+-- Events up to a limit, where no dispatch point was met, are those of a run of the language from reset. A saved machine's dispatch point was met.
+abbrev pub BeginsFrom : VipState → ℕ → Start → List Event → Type 0
+BeginsFrom v limit (Reset game) events = Begins (program v.edition) v.board.script limit (run_of v limit) numbered game events
+BeginsFrom v limit (Saved file) events = ⊥
 
 -- Events up to a limit, behind those met, are those of a run of the language from the last dispatch point met on, or from reset. The first picture
--- among them is that of the frame whose number is the count of those met.
+-- among them is that of the frame whose number is the count of those that have passed.
 abbrev pub GoesOnFrom : VipState → ℕ → Option Machine → List Event → Type 0
-GoesOnFrom v limit None events = Begins (program v.edition) v.board.script limit (run_of v limit) numbered v.game events
-GoesOnFrom v limit (Some b) events = GoesOn (program v.edition) v.board.script limit (run_of v limit) numbered (pictures_met v) b events
+GoesOnFrom v limit None events = BeginsFrom v limit v.start events
+GoesOnFrom v limit (Some b) events = GoesOn (program v.edition) v.board.script limit (run_of v limit) numbered (frames_met v) b events
 
 -- ---- one answer
 
@@ -38,9 +45,13 @@ module _ (v : VipState) where
   IsInTime b t = InTime (program v.edition) v.board.script b.cycle (state_of v.edition b) t
 
   -- the first dispatch point is that of the game's first state, within the bound of boot
-  pub record BeginsAt (c : Machine) : Type 0 where
-    pub stands : Dispatches (program v.edition) c (first v.edition v.game)
+  pub record BeginsAt (game : List ℕ) (c : Machine) : Type 0 where
+    pub stands : Dispatches (program v.edition) c (first v.edition game)
     pub soon : c.cycle ≤ boot_bound
+
+  abbrev pub BeginsBy : Start → Machine → Type 0
+  BeginsBy (Reset game) c = BeginsAt game c
+  BeginsBy (Saved file) c = ⊥
 
   -- each next one comes by one step of the language, in time
   pub record StepsTo (b c : Machine) : Type 0 where
@@ -62,7 +73,7 @@ module _ (v : VipState) where
   -- What an answer of `advance` says, by the last dispatch point met before the call: where there is none, the first event is a dispatch point. No
   -- event up to the limit: one cycle later the next point wouldn't be too late.
   abbrev pub Speaks : ℕ → VipState → Option Machine → Met → Type 0
-  Speaks limit new None Dispatch = BeginsAt new.board.machine
+  Speaks limit new None Dispatch = BeginsBy v.start new.board.machine
   Speaks limit new (Some b) Dispatch = StepsTo b new.board.machine
   Speaks limit new (Some b) Picture = HasShown b new
   Speaks limit new (Some b) (Stopped answer) = StopsAt b new.board.machine answer

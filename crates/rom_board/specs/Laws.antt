@@ -1,10 +1,11 @@
--- What holds of every machine that runs a game.
+-- What holds of every run.
 use Rattle.std.specs.Prelude.{ℕ, ◌<◌, ◌≤◌, List, length, slice_index}
 use Rattle.machine.specs.Board.{Machine, start}
 use Rattle.machine.specs.Keys.{Event as KeyEvent}
 use Rattle.chip8_lang.specs.declared.view.Edition.{Edition}
 use Rattle.chip8_lang.specs.State.{memory_size}
 use Rattle.rom_run.specs.States.{MayStart}
+use Rattle.vip_text.specs.StateFile.{shown, IsAccepted}
 use Rattle.vip_relation.specs.Follows.{Follows}
 use Rattle.vip_relation.specs.Meets.{HasStopped, MeetsNext}
 use Rattle.vip_relation.specs.State.{VipState, events_left}
@@ -30,6 +31,10 @@ EveryStart =
     → MayStart e b
     → (script : List KeyEvent) (limit : ℕ)
     → IsRunBehind e b script limit numbered
+
+-- such as the one that any accepted file shows
+abbrev pub FileMayStart : Type 0
+FileMayStart = (e : Edition) (f : List ℕ) → ((k : ℕ) → slice_index f k < 256) → IsAccepted e f → MayStart e (shown f)
 
 -- Each of these runs keeps to its frames up to its stop: an interrupt comes exactly in cycle 0 of a frame's line 78, none of these cycles is passed over,
 -- and the screen is changed between them.

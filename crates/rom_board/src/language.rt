@@ -1,6 +1,6 @@
 //! What a machine that runs a game is to the language, each law the contract of a function without parameters.
 
-ghost use Rattle.rom_board.specs.Laws.{EveryAnswer, EveryBoard, EveryEvent, EveryFrame, EveryFrameBehind, EveryRun, EveryStart};
+ghost use Rattle.rom_board.specs.Laws.{EveryAnswer, EveryBoard, EveryEvent, EveryFrame, EveryFrameBehind, EveryRun, EveryStart, FileMayStart};
 
 /// The run of every game that fits into game memory, under every key script and up to every limit, is a run of CHIP-8: its first event is a dispatch
 /// point of the game's first state; each next one comes by one step of the language, with the timer ticks and the keys of the cycles between, within
@@ -20,6 +20,11 @@ pub fn every_start()
     rom_run::laws::from_any_start();
 }
 
+/// The machine state of any accepted file may start a run: the board is at a dispatch point, and stands for the language state in it.
+pub fn file_may_start()
+    ensures { FileMayStart }
+{}
+
 /// These runs keep to their frames. Up to the stop the next move is an interrupt exactly in cycle 0 of a frame's line 78, boot included, and no such
 /// cycle is passed over. No interrupt disturbs the display: in the cycle of each one the screen in RAM is that of the last dispatch point; 00E0 and DXYN
 /// wait for the display after at most 102 and 2,154 main cycles, and nothing else waits or writes to the screen; they write at most 1,560 cycles after the
@@ -36,13 +41,15 @@ pub fn every_frame()
     rom_run::laws::changes_soon();
 }
 
-/// After every call the board of a machine that runs a game is in boot; or what is known of a running interpreter holds of it, with the record of its
+/// After every call the board of a run, from a reset or from a file, is in boot; or what is known of a running interpreter holds of it, with the record of its
 /// moves since the last dispatch point; or it is at the stop point, with the stop of the state of which `last` tells.
 pub fn every_board()
     ensures { EveryBoard }
 {
     rom_run::laws::every_state();
     every_run();
+    every_start();
+    file_may_start();
 }
 
 /// Where no stop was met, the events that are left up to a limit are those of a run of CHIP-8 from the last dispatch point met on, whose view and
@@ -51,6 +58,8 @@ pub fn every_event()
     ensures { EveryEvent }
 {
     every_run();
+    every_start();
+    file_may_start();
 }
 
 /// So each answer of `advance` says what comes next in that run: a dispatch point stands for the state that comes from the last one by one step, in

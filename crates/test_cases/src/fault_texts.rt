@@ -11,8 +11,7 @@ use vip_byte::NumFault;
 use vip_keypad::{ScriptCause, ScriptFault};
 use vip_link::LinkFault;
 use vip_outside::{Failed, ReadFail};
-use vip_relation::StartFault;
-use vip_show::ResumeFault;
+use vip_relation::{ResumeFault, StartFault};
 use vip_text::StateFault;
 use vip_words::{CommandCause, CommandFault, WordsFail};
 

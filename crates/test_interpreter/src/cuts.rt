@@ -1,7 +1,7 @@
 //! Runs that are cut: random games under random key scripts, up to a limit, saved there, and gone on with up to another one. What goes on has to be the
 //! rest of the trace in one go.
 
-ghost use Rattle.std.specs.Prelude.{◌≤◌, IfOk};
+ghost use Rattle.std.specs.Prelude.{◌≡◌, ◌≤◌, IfOk, None};
 ghost use Rattle.vip_show.specs.Answers.{IsFresh};
 
 use crate::edition::EDITIONS;
@@ -12,7 +12,7 @@ use std::alloc::{AllocError, Global};
 use vip_keypad::Script;
 use vip_outside::{Failed, MemSink};
 use vip_relation::Run;
-use vip_show::{Resumed, show_resumed, show_saved, show_trace};
+use vip_show::{show_saved, show_trace};
 use vip_text::RunEnd;
 
 /// How many games are cut, each in both editions.
@@ -112,7 +112,7 @@ impl Numbers {
 
 /// A machine that begins to run a game.
 fn start(alloc: Global, cut: &Cut<'_>) -> Result<Run, RunFault>
-    ensures { IfOk result (λ run. IsFresh run) }
+    ensures { IfOk result (λ run. IsFresh run × (run.last ≡ None)) }
 {
     match Run::start_as(alloc, cut.edition, cut.game, cut.script) {
         Ok(run) => Ok(run),
@@ -145,10 +145,10 @@ fn resume(alloc: Global, cut: &Cut<'_>, file: &[u8]) -> Result<Written<RunEnd>, 
     requires { cut.now.last ≤ 120_000 }
 {
     let mut out = MemSink::new(alloc, ROOM)?;
-    let Ok(mut run) = Resumed::open(alloc, file, cut.script) else {
+    let Ok(mut run) = Run::resume(alloc, file, cut.script) else {
         return Err(RunFault::NotAState);
     };
-    let end = show_resumed(&mut run, cut.last, true, &mut out);
+    let end = show_trace(&mut run, cut.last, true, false, &mut out);
     Ok(Written { out, end })
 }
 

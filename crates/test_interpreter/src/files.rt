@@ -8,8 +8,7 @@ use chip8_image::{ENTRY, TALL_ENTRY};
 use chip8_lang::{Edition, StopRecord};
 use std::alloc::{AllocError, Global};
 use vip_keypad::Script;
-use vip_relation::view_of;
-use vip_show::{Resumed, Step};
+use vip_relation::{Met, Run};
 
 /// How many files are made.
 const FILES: u32 = 500;
@@ -130,7 +129,7 @@ pub fn run_files(alloc: Global) -> Result<Seen, RunFault> {
         let edition = EDITIONS[usize::from(number % 2 == 1)];
         let file = numbers.file(alloc, edition)?;
         seen.files = seen.files.saturating_add(1);
-        match Resumed::open(alloc, &file, &keys) {
+        match Run::resume(alloc, &file, &keys) {
             Ok(mut run) => go_on(&mut run, &mut seen),
             Err(_) => seen.refused = seen.refused.saturating_add(1),
         }
@@ -139,15 +138,16 @@ pub fn run_files(alloc: Global) -> Result<Seen, RunFault> {
 }
 
 /// Goes on from a file up to the limit, and compares each point with the step of the one before it.
-fn go_on(run: &mut Resumed, seen: &mut Seen) {
+fn go_on(run: &mut Run, seen: &mut Seen) {
     let edition = run.edition();
     let mut language = Language::on(run.board(), Places::of(edition));
-    let view = view_of(run.board(), edition);
+    let view = run.view();
     let mut from = State::of(&view);
     let mut cycle = view.cycle;
     for _ in 0..LIMIT {
         match run.advance(LIMIT) {
-            Step::Dispatch(view) => {
+            Met::Dispatch => {
+                let view = run.view();
                 let to = State::of(&view);
                 let ticks = to.n().wrapping_sub(from.n());
                 let passed = interrupts_before(view.cycle).saturating_sub(interrupts_before(cycle));
@@ -160,14 +160,15 @@ fn go_on(run: &mut Resumed, seen: &mut Seen) {
                 from = to;
                 cycle = view.cycle;
             }
-            Step::Stopped(stop) => {
+            Met::Picture => {}
+            Met::Stopped(stop) => {
                 seen.stops = seen.stops.saturating_add(1);
                 if !stops(&language, &from, &stop) {
                     seen.wrong = seen.wrong.saturating_add(1);
                 }
                 return;
             }
-            Step::End => return,
+            Met::End => return,
         }
     }
 }

@@ -13,6 +13,7 @@ use Rattle.chip8_lang.specs.View.{view_at}
 use Rattle.vip_relation.specs.Follows.{last_dispatch}
 use Rattle.chip8_image.specs.Interpreters.{interpreter_of}
 use Rattle.vip_relation.specs.State.{VipState, started}
+use Rattle.vip_relation.specs.State.Start.{Reset}
 use Rattle.vip_relation.specs.Stops.{stop_at, pc_of, opcode_of}
 use Rattle.rom_board.proofs.Passed.{NoStop, before_point, events_to_stop, last_after, last_after_stop, last_of_events, no_stop_before}
 use Rattle.vip_text.specs.Endings.{Ending}
@@ -59,14 +60,14 @@ module _ (e : Edition) where
     stop_is n r stop =
         ap (λ es. stop_behind (last_dispatch es) (at_state n)) (events (at_state n).cycle (omega arith))
         ∙ ap (λ last. stop_behind last (at_state n)) (sym (last_of_events (here ++ Stopped (at_state n) ∷ [])) ∙ last_after_stop None here (at_state n))
-        ∙ sym (ending_stop None here (at_state n) (no_stop_before i game script n r.runs))
+        ∙ sym (ending_stop None here (at_state n) (no_stop_before i (Reset game) script n r.runs))
         ∙ ap (ending_behind None) (sym (events limit r.within))
       where
         here : List Event
-        here = before_point i game script n
+        here = before_point i (Reset game) script n
 
         events : (t : ℕ) → (at_state n).cycle ≤ t → events_of i game script t ≡ here ++ Stopped (at_state n) ∷ []
-        events t within = events_to_stop i game script t n within stop r.runs
+        events t within = events_to_stop i (Reset game) script refl t n within stop r.runs
 
     -- A run under the debugger ends as at the limit, or as the whole run: where the commands leave the board at a stop point, no state before it
     -- was one, so its last dispatch point is the run's.

@@ -22,6 +22,7 @@ use Rattle.vip_relation.specs.Follows.{dispatch_of, last_dispatch}
 use Rattle.chip8_image.specs.Interpreters.{interpreter_of}
 use Rattle.vip_relation.specs.Points.{point_events}
 use Rattle.vip_relation.specs.declared.point.Point.TheVariants.{Dispatch as DispatchPoint, Stop as StopPoint, Other as OtherPoint}
+use Rattle.vip_relation.specs.State.Start.{Reset}
 use Rattle.vip_relation.specs.State.{VipState, events_to, screen_bytes, screen_size, started}
 use Rattle.vip_board.proofs.Along.{in-turn}
 use Rattle.vip_relation.proofs.Past.{state, earlier, before, past, pictures, point, goes}
@@ -135,10 +136,10 @@ module _ (e : Edition) (game : List ℕ) (script : List KeyEvent) (limit : ℕ) 
   v = started e game script
 
   abbrev at_state : ℕ → Machine
-  at_state n = state i game script n
+  at_state n = state i (Reset game) script n
 
   abbrev past_of : ℕ → List Event
-  past_of n = past i game script n
+  past_of n = past i (Reset game) script n
 
   abbrev Comes : ℕ → Type 0
   Comes n = Reached (run_at v 0) limit n
@@ -163,44 +164,45 @@ module _ (e : Edition) (game : List ℕ) (script : List KeyEvent) (limit : ℕ) 
     is : b ≡ at_state k
     runs : is_stop i (at_state k) ≡ false
 
-  at_last : (n : ℕ) (b : Machine) → Among b (dispatches (point i game script n)) → Stands (suc n) b
-  at_last n b a = by_test (is_stop i (at_state n)) (is_dispatch i (at_state n)) refl a.place a.there
+  at_last : (n : ℕ) (b : Machine) → Among b (dispatches (point i (Reset game) script n)) → Stands (suc n) b
+  at_last zero b a = let none : slice_get [] a.place ≡ Some b = a.there in cc
+  at_last (suc n) b a = by_test (is_stop i (at_state (suc n))) (is_dispatch i (at_state (suc n))) refl a.place a.there
     where
       by_test :
-          (stop dispatch : Bool) → is_stop i (at_state n) ≡ stop → (j : ℕ)
-          → slice_get (dispatches (point_events (if stop then StopPoint else if dispatch then DispatchPoint else OtherPoint) (at_state n))) j ≡ Some b
-          → Stands (suc n) b
+          (stop dispatch : Bool) → is_stop i (at_state (suc n)) ≡ stop → (j : ℕ)
+          → slice_get (dispatches (point_events (if stop then StopPoint else if dispatch then DispatchPoint else OtherPoint) (at_state (suc n)))) j ≡ Some b
+          → Stands (suc (suc n)) b
       by_test true dispatch runs j there = cc
-      by_test false true runs zero there = let same : at_state n ≡ b = cc in record { k = n; below = omega arith; is = sym same; runs = runs }
+      by_test false true runs zero there = let same : at_state (suc n) ≡ b = cc in record { k = suc n; below = omega arith; is = sym same; runs = runs }
       by_test false true runs (suc j) there = cc
       by_test false false runs j there = cc
 
   stands : (n : ℕ) (b : Machine) → Among b (dispatches (past_of n)) → Stands n b
   unfolding past
   stands zero b a = let none : slice_get [] a.place ≡ Some b = a.there in cc
-  stands (suc n) b a = first (stands n b) (one_of_both b a.place (past_of n ++ pictures i game script n) (point i game script n) a.there)
+  stands (suc n) b a = first (stands n b) (one_of_both b a.place (past_of n ++ pictures i (Reset game) script n) (point i (Reset game) script n) a.there)
     where
       old : Stands n b → Stands (suc n) b
       old s = record { k = s.k; below = omega (arith, s.below); is = s.is; runs = s.runs }
 
       frames : List ℕ
       frames =
-          filter (is_shown i.rom (earlier i game script n))
-          (numbers_from (windows_ended (before i game script n)) (windows_ended (at_state n).cycle - windows_ended (before i game script n)))
+          filter (is_shown i.rom (earlier i (Reset game) script n))
+          (numbers_from (windows_ended (before i (Reset game) script n)) (windows_ended (at_state n).cycle - windows_ended (before i (Reset game) script n)))
 
-      shown : Among b (dispatches (pictures i game script n)) → ⊥
+      shown : Among b (dispatches (pictures i (Reset game) script n)) → ⊥
       shown p = let none : slice_get [] p.place ≡ Some b = sym (ap (λ bs. slice_get bs p.place) (no_dispatch frames)) ∙ p.there in cc
 
       second :
-          (Among b (dispatches (past_of n)) → Stands n b) → Among b (dispatches (past_of n)) ⊎ Among b (dispatches (pictures i game script n))
+          (Among b (dispatches (past_of n)) → Stands n b) → Among b (dispatches (past_of n)) ⊎ Among b (dispatches (pictures i (Reset game) script n))
           → Stands (suc n) b
       second before (inl p) = old (before p)
       second before (inr p) = absurd (shown p)
 
       first :
           (Among b (dispatches (past_of n)) → Stands n b)
-          → Among b (dispatches (past_of n ++ pictures i game script n)) ⊎ Among b (dispatches (point i game script n)) → Stands (suc n) b
-      first before (inl p) = second before (one_of_both b p.place (past_of n) (pictures i game script n) p.there)
+          → Among b (dispatches (past_of n ++ pictures i (Reset game) script n)) ⊎ Among b (dispatches (point i (Reset game) script n)) → Stands (suc n) b
+      first before (inl p) = second before (one_of_both b p.place (past_of n) (pictures i (Reset game) script n) p.there)
       first before (inr p) = at_last n b p
 
   -- so many moves are made up to its cycle
@@ -272,9 +274,9 @@ module _ (e : Edition) (game : List ℕ) (script : List KeyEvent) (limit : ℕ) 
 
       none : is_stop i (at_state end) ≡ false → NoStop (past_of (suc end))
       none runs =
-          subst NoStop (sym (with_point i game script end))
-          (no_stop_append (before_point i game script end) (point i game script end)
-          (no_stop_before i game script end r.runs) (other_point i game script end runs))
+          subst NoStop (sym (with_point i (Reset game) script end))
+          (no_stop_append (before_point i (Reset game) script end) (point i (Reset game) script end)
+          (no_stop_before i (Reset game) script end r.runs) (other_point i (Reset game) script end runs))
 
       by_test : (stop : Bool) → is_stop i (at_state end) ≡ stop → seeking_lines v (at_point v limit None) ≡ end_line e points ending ∷ []
       by_test true stop =
@@ -301,7 +303,7 @@ module _ (e : Edition) (game : List ℕ) (script : List KeyEvent) (limit : ℕ) 
       let t = taken b p.met (length (dispatches (met_at v p)) - 1) (events_by v p.moves) is in
       let here : events_by v p.moves ≡ past_of (suc p.moves) =
       all_past e game script (at_state p.moves).cycle ∙ ap (λ n. past_of (suc n)) (until_is p.moves r) in
-      let g = goes i game script limit p.moves r.within r.runs in
+      let g = goes i (Reset game) script refl limit p.moves r.within r.runs in
       let a = longer b t.place (past_of (suc p.moves)) g.others (ap (λ es. slice_get (dispatches es) t.place) (sym here) ∙ t.there) in
       record { place = a.place; there = ap (λ es. slice_get (dispatches es) a.place) g.is ∙ a.there }
 

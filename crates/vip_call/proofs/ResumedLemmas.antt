@@ -1,13 +1,13 @@
 -- The run that goes on from a file is a run of CHIP-8 with its ending, by the law of the run from any machine state that may start.
-use Rattle.std.proofs.Common.{◌≡◌, ℕ, ◌+◌, ◌<◌, List, [], ◌∷◌, Option, slice_index, refl, sym, ap, subst, ◌∙◌}
-use Rattle.machine.specs.Board.{Machine, move}
+use Rattle.std.proofs.Common.{◌≡◌, ℕ, ◌+◌, ◌<◌, List, [], ◌∷◌, slice_index, refl, sym, ap, subst, ◌∙◌}
+use Rattle.machine.specs.Board.{Machine}
 use Rattle.machine.specs.Keys.{Event as KeyEvent, held_at}
 use Rattle.machine.specs.Pictures.{windows_ended}
 use Rattle.machine.specs.Run.{run_to}
 use Rattle.chip8_lang.specs.declared.view.Edition.{Edition}
 use Rattle.chip8_lang.specs.Events.{Event, events_behind}
 use Rattle.chip8_lang.specs.Events.Event.{Picture, Dispatch, Stopped}
-use Rattle.chip8_lang.specs.Places.{Interpreter, state_of}
+use Rattle.chip8_lang.specs.Places.{state_of}
 use Rattle.chip8_lang.specs.View.{opcode_at, view_at}
 use Rattle.rom_law.specs.Language.{GoesOn}
 use Rattle.rom_board.specs.Frames.{KeepsFrames}
@@ -15,8 +15,7 @@ use Rattle.rom_board.specs.Program.{IsRunBehind, numbered, program}
 use Rattle.chip8_image.specs.Interpreters.{interpreter_of}
 use Rattle.vip_show.specs.Endings.{ending_after}
 use Rattle.vip_text.specs.StateFile.{shown, IsAccepted}
-use Rattle.vip_show.specs.Points.{points_behind, points_of}
-use Rattle.vip_show.proofs.Points.{points_of-events_at}
+use Rattle.vip_show.proofs.Points.{points_behind_are}
 use Rattle.vip_show.proofs.Rest.{ending_of_points}
 use Rattle.vip_text.specs.Endings.{Ending}
 use Rattle.vip_text.specs.Endings.Ending.{AtStop}
@@ -48,12 +47,6 @@ module _ (e : Edition) (script : List KeyEvent) (limit : ℕ) (run : List Machin
         also_is = ap (λ stop. AtStop stop (state_of e b).pc (opcode_at e (state_of e b))) h.also_is;
         last = h.last;
       }
-
-pub points_behind_are : (i : Interpreter) (script : List KeyEvent) (b : Machine) (limit : ℕ)
-    → points_of (events_behind i script b limit) ≡ points_behind i script b limit
-unfolding points_behind
-points_behind_are i script b limit =
-    points_of-events_at i (run_to i.rom (held_at script) b limit) b.cycle (run_to i.rom (held_at script) (move i.rom (held_at script) b) limit)
 
 -- ---- the run from an accepted file
 

@@ -41,7 +41,8 @@ use Rattle.vip_call.specs.Top.{Call, Says, Shows, Writes, TellsChip8}
 use Rattle.vip_call.proofs.DebugLemmas.{debug_ends}
 use Rattle.vip_call.proofs.DebuggedLemmas.{debugged}
 use Rattle.vip_call.proofs.LanguageLemmas.{is_chip8}
-use Rattle.vip_call.proofs.ResumedLemmas.{FromFile as FromAccepted, is_run_behind, points_behind_are}
+use Rattle.vip_show.proofs.Points.{points_behind_are}
+use Rattle.vip_call.proofs.ResumedLemmas.{FromFile as FromAccepted, is_run_behind}
 use Rattle.vip_call.proofs.TranscriptLemmas.{are_pictures, begins, goes_on, lines_are, point_of, points_of, summed_is, traced_is}
 
 -- what is written of events is that of their points

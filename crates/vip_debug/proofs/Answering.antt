@@ -33,7 +33,7 @@ module _ (v : VipState) (f : Follows v) where
 pub stands : (old v : VipState) (p : Place) → Follows old → Follows v → IsSame old v → place_of v ≡ p → StandsAt (begun old) p v
 stands old v p f g s is =
     record {
-      same = record { edition = s.edition; game = s.game; script = s.script };
+      same = record { edition = s.edition; start = s.start; script = s.script };
       made = ap (λ (q : Place). q.moves) is;
       met = ap (λ (q : Place). q.met) is;
       machine = g.machine ∙ state-same old v f g s v.moves ∙ ap (λ (q : Place). state_after old q.moves) is;

@@ -36,7 +36,7 @@ game-moved u v (Done name) m =
     (m.board, ap (λ e. is_stop (interpreter_of e)) m.edition, record { same = same; made = m.moves; met = m.met })
   where
     same : IsSame u v
-    same = record { edition = m.edition; game = m.game; script = ap (λ (b : Seen). b.script) m.board }
+    same = record { edition = m.edition; start = m.start; script = ap (λ (b : Seen). b.script) m.board }
 
 -- what a target of a game has gone through the game has, and its borrow stays
 module _ (moves : ℕ) (old new : Game) where
@@ -69,7 +69,7 @@ module _ (limit : ℕ) (old v : VipState) (g : Follows v) (moves : ℕ) (h : Has
   same-game = by_case h
     where
       by_case : HasMoved Leads moves old v → IsSame old v
-      by_case (inl none) = subst (IsSame old) (sym none.1) (record { edition = refl; game = refl; script = refl })
+      by_case (inl none) = subst (IsSame old) (sym none.1) (record { edition = refl; start = refl; script = refl })
       by_case (inr more) = more.1.same
 
   -- with a move every event up to the new cycle is met, and with none none

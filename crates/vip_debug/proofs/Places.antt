@@ -4,7 +4,7 @@ use Rattle.std.proofs.lemmas.List.{length-drop}
 use Rattle.machine.specs.Board.{Machine}
 use Rattle.machine.specs.Keys.{Event as KeyEvent}
 use Rattle.chip8_lang.specs.Events.{Event, is_stop}
-use Rattle.vip_relation.specs.State.{VipState, interpreter, events_to, events_left, events_waiting, run_of, moves_by, state_after, started}
+use Rattle.vip_relation.specs.State.{VipState, interpreter, events_to, events_left, events_waiting, run_of, moves_by, state_after, begun as begun_from}
 use Rattle.vip_relation.specs.Follows.{Follows}
 use Rattle.vip_relation.specs.Meets.{IsSame, HasStopped, Rests}
 use Rattle.vip_relation.proofs.Steps.{Others, others-to}
@@ -16,13 +16,13 @@ use Rattle.vip_debug.specs.Answers.{begun, moves_until, place_of, all_met}
 -- ---- the same game
 
 pub same-trans : (u v w : VipState) → IsSame u v → IsSame v w → IsSame u w
-same-trans u v w a b = record { edition = b.edition ∙ a.edition; game = b.game ∙ a.game; script = b.script ∙ a.script }
+same-trans u v w a b = record { edition = b.edition ∙ a.edition; start = b.start ∙ a.start; script = b.script ∙ a.script }
 
 pub begun-same : (old new : VipState) → IsSame old new → begun new ≡ begun old
 begun-same old new s =
-    ap (λ e. started e new.game new.board.script) s.edition
-    ∙ ap (λ g. started old.edition g new.board.script) s.game
-    ∙ ap (λ (k : List KeyEvent). started old.edition old.game k) s.script
+    ap (λ e. begun_from e new.start new.board.script) s.edition
+    ∙ ap (λ first. begun_from old.edition first new.board.script) s.start
+    ∙ ap (λ (k : List KeyEvent). begun_from old.edition old.start k) s.script
 
 -- ---- where a board is
 

@@ -10,6 +10,7 @@ use Rattle.chip8_lang.specs.Events.{Event, is_stop}
 use Rattle.chip8_lang.specs.Places.{Interpreter}
 use Rattle.chip8_image.specs.Interpreters.{interpreter_of}
 use Rattle.vip_relation.specs.State.{VipState, events_to, started}
+use Rattle.vip_relation.specs.State.Start.{Reset}
 use Rattle.vip_board.proofs.Along.{in-turn}
 use Rattle.vip_relation.proofs.Past.{state, past, events-last, events-stop}
 use Rattle.vip_relation.proofs.Waits.{Earlier, earlier-at, earlier-drop, earlier-next}
@@ -38,10 +39,10 @@ module _ (e : Edition) (game : List ℕ) (script : List KeyEvent) where
   r = run_at v 0
 
   abbrev at_state : ℕ → Machine
-  at_state n = state i game script n
+  at_state n = state i (Reset game) script n
 
   abbrev past_of : ℕ → List Event
-  past_of n = past i game script n
+  past_of n = past i (Reset game) script n
 
   -- the n-th state comes by cycle t, and none before it is a stop point
   abbrev Comes : ℕ → ℕ → Type 0
@@ -76,8 +77,8 @@ module _ (e : Edition) (game : List ℕ) (script : List KeyEvent) where
       by_test :
           (stop : Bool) → is_stop i (at_state n) ≡ stop → (t < (at_state (suc n)).cycle) ⊎ ((at_state (suc n)).cycle ≤ t)
           → events_to v t ≡ past_of (suc n)
-      by_test true stop far = events-stop i game script t n last.within stop last.runs
-      by_test false runs (inl over) = events-last i game script t n last.within over last.runs
+      by_test true stop far = events-stop i (Reset game) script refl t n last.within stop last.runs
+      by_test false runs (inl over) = events-last i (Reset game) script t n last.within over last.runs
       by_test false runs (inr within) = absurd (beyond (reached-next r t n last runs within))
 
   -- ---- a command
@@ -91,7 +92,7 @@ module _ (e : Edition) (game : List ℕ) (script : List KeyEvent) where
     ahead_earlier p =
         earlier-drop (limit + 1) p.met (events_to v limit)
         (subst (Earlier (limit + 1)) (sym (all_past limit))
-        (earlier-next i game script (limit + 1) (moves_until v limit) (omega (arith, (last_until limit).within))))
+        (earlier-next i (Reset game) script (limit + 1) (moves_until v limit) (omega (arith, (last_until limit).within))))
 
     moved : (k : ℕ) (p : Place) → Comes limit p.moves → Comes limit (p.moves + k) → Comes limit (moved_on v k p).moves
     moved k p old new = by_test (k == 0)

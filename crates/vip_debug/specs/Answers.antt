@@ -10,7 +10,7 @@ use Rattle.vip_byte.specs.Text.{newline}
 use Rattle.vip_text.specs.Traces.{trace_line}
 use Rattle.vip_outside.specs.Sink.{SinkMeaning}
 use Rattle.vip_outside.specs.Pieces.{PutsAll, FailsWithin}
-use Rattle.vip_relation.specs.State.{VipState, interpreter, events_to, started, state_after}
+use Rattle.vip_relation.specs.State.{VipState, interpreter, events_to, begun as begun_from, state_after}
 use Rattle.vip_relation.specs.Follows.{dispatch_of, last_view, last_screen}
 use Rattle.vip_relation.specs.Meets.{IsSame}
 use Rattle.vip_relation.specs.Stops.{stop_record}
@@ -30,9 +30,9 @@ use Rattle.vip_words.specs.declared.debug_commands.Telling.TheVariants.{State, S
 use Rattle.vip_debug.specs.declared.run.DebugEnd.{DebugEnd}
 use Rattle.vip_debug.specs.declared.run.DebugEnd.TheVariants.{Done, Stopped, WriteFault}
 
--- the same game under the same script before its first move: of a machine of the run it tells all that the definitions below ask for
+-- the same start under the same script before its first move: of a state of the run it tells all that the definitions below ask for
 abbrev pub begun : VipState → VipState
-begun v = started v.edition v.game v.board.script
+begun v = begun_from v.edition v.start v.board.script
 
 -- how many moves are made up to a cycle: none behind a stop point
 abbrev pub moves_until : VipState → ℕ → ℕ

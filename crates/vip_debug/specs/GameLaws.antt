@@ -15,7 +15,7 @@ leads-on j k a b c first second = (
     same =
         record {
           edition = second.1.same.edition ∙ first.1.same.edition;
-          game = second.1.same.game ∙ first.1.same.game;
+          start = second.1.same.start ∙ first.1.same.start;
           script = second.1.same.script ∙ first.1.same.script;
         };
     made = omega (arith, second.1.made, first.1.made);

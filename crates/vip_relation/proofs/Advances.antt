@@ -1,16 +1,17 @@
 -- A machine that runs a game, from a call's entry on: moves alone, up to the next event or the limit.
 use Rattle.std.proofs.Common.{◌≡◌, ℕ, ◌+◌, ◌-◌, ◌<◌, ◌≤◌, Bool, true, false, List, [], ◌∷◌, ◌++◌, length, drop, refl, sym, ap, ◌∙◌, subst, arith, Some}
 use Rattle.machine.specs.Board.{length_of}
-use Rattle.machine.specs.Keys.{Event as KeyEvent}
+use Rattle.machine.specs.Keys.{Event as KeyEvent, held_at}
 use Rattle.machine.specs.Pictures.{picture_of}
-use Rattle.chip8_lang.specs.Events.{Event, is_stop, events_of, game_run}
+use Rattle.machine.specs.Run.{run_to}
+use Rattle.chip8_lang.specs.Events.{Event, is_stop}
 use Rattle.chip8_lang.specs.Events.Event.{Picture, Dispatch, Stopped}
 use Rattle.std.proofs.lemmas.List.{length-drop}
 use Rattle.chip8_lang.specs.View.{view_at}
 use Rattle.vip_board.specs.Moves.{moved, name_of}
 use Rattle.vip_board.specs.Seen.{Seen}
 use Rattle.vip_board.specs.declared.board.Move.{Move}
-use Rattle.vip_relation.specs.State.{VipState, interpreter, events_to, events_left, events_waiting, run_of, moves_by, screen_bytes}
+use Rattle.vip_relation.specs.State.{VipState, events_from, machine_of, interpreter, events_to, events_left, events_waiting, run_of, moves_by, screen_bytes}
 use Rattle.vip_relation.specs.Stops.{stop_record}
 use Rattle.vip_relation.specs.Follows.{Follows}
 use Rattle.vip_relation.specs.Meets.{IsSame, MeetsOne, TellsSame, MeetsNext, HasStopped, MovesOn}
@@ -67,19 +68,19 @@ reaches-run limit entry v w r s follows =
 
 module _ (limit : ℕ) (entry v w : VipState) (r : Reaches limit entry v) where
   abbrev left_by : List KeyEvent → List Event
-  left_by script = drop entry.met (events_of (interpreter entry) entry.game script limit)
+  left_by script = drop entry.met (events_from (interpreter entry) script entry.start limit)
 
   left_same : events_left v limit ≡ events_left entry limit
   left_same = ap (λ (x : VipState). events_left x limit) r.same ∙ ap left_by r.script
 
   run_same : run_of v limit ≡ run_of entry limit
-  run_same = ap (λ (x : VipState). run_of x limit) r.same ∙ ap (λ script. game_run (interpreter entry) entry.game script limit) r.script
+  run_same = ap (λ (x : VipState). run_of x limit) r.same ∙ ap (λ script. run_to (interpreter entry).rom (held_at script) (machine_of entry.start) limit) r.script
 
   same_entry : IsSame v w → IsSame entry w
   same_entry s =
       record {
         edition = s.edition ∙ ap (λ (x : VipState). x.edition) r.same;
-        game = s.game ∙ ap (λ (x : VipState). x.game) r.same;
+        start = s.start ∙ ap (λ (x : VipState). x.start) r.same;
         script = s.script ∙ r.script;
       }
 
@@ -144,7 +145,7 @@ module _ (limit : ℕ) (entry v : VipState) (r : Reaches limit entry v) where
       let moves : moves_by entry limit ≡ v.moves = ap (λ run. length run - 1) (sym (run_same limit entry v v r)) ∙ all-moves v r.follows limit r.within over in
       subst (λ es. MeetsNext limit entry v es End) (sym left)
       (record {
-        same = same_entry limit entry v v r (record { edition = refl; game = refl; script = refl });
+        same = same_entry limit entry v v r (record { edition = refl; start = refl; script = refl });
         told = told_entry limit entry v v r (record { last = refl; shown = refl });
         met = ap (λ (x : VipState). x.met) r.same;
         moves = omega (arith, moves, r.order);
@@ -156,7 +157,7 @@ pub ends-before : (limit : ℕ) (v : VipState) → Follows v → limit < v.board
 ends-before limit v follows over goes_on =
     subst (λ es. MeetsNext limit v v es End) (sym (none-before v follows limit over))
     (record {
-      same = record { edition = refl; game = refl; script = refl };
+      same = record { edition = refl; start = refl; script = refl };
       told = record { last = refl; shown = refl };
       met = refl;
       moves = omega (arith, moves-before v follows limit over);
@@ -188,7 +189,7 @@ pub moves-on : (u v w x : VipState) (name : Move) → MeetsAll u v → Steps v w
 moves-on u v w x name before step after follows =
     record {
       edition = after.edition ∙ ap (λ (s : VipState). s.edition) step.state ∙ before.edition;
-      game = after.game ∙ ap (λ (s : VipState). s.game) step.state ∙ before.game;
+      start = after.start ∙ ap (λ (s : VipState). s.start) step.state ∙ before.start;
       moves = after.moves ∙ ap (λ (s : VipState). s.moves) step.state ∙ ap (λ n. n + 1) before.moves;
       board = after.board ∙ ap (λ (s : VipState). s.board) step.state ∙ ap moved before.board;
       move = step.move ∙ ap (λ (s : Seen). name_of s.machine) before.board;

@@ -1,20 +1,21 @@
 -- What holds of the fields at the start, and after a move.
-use Rattle.std.proofs.Common.{◌≡◌, ℕ, ◌+◌, ◌<◌, ◌≤◌, true, false, List, [], length, slice_index, refl, sym, ap, ◌∙◌, subst, subst₂, arith}
+use Rattle.std.proofs.Common.{◌≡◌, ℕ, ◌+◌, ◌<◌, ◌≤◌, Bool, true, false, List, [], length, take, drop, refl, sym, ap, ◌∙◌, subst, subst₂, arith}
+use Rattle.std.proofs.lemmas.List.{drop_all}
 use Rattle.machine.specs.Board.{length_of}
-use Rattle.machine.specs.Pictures.{windows_ended}
 use Rattle.machine.specs.Keys.{Event as KeyEvent, held_at}
-use Rattle.machine.proofs.Runs.{cycle-move}
+use Rattle.machine.proofs.Runs.{cycle-move, later-move}
 use Rattle.chip8_lang.specs.declared.view.Edition.{Edition}
 use Rattle.chip8_lang.specs.Events.{is_stop}
-use Rattle.chip8_lang.specs.State.{memory_size}
+use Rattle.chip8_lang.specs.Places.{Interpreter}
 use Rattle.vip_board.specs.Moves.{moved, name_of}
 use Rattle.vip_board.specs.Seen.{Seen}
 use Rattle.vip_board.specs.Shown.{CarriesOn}
 use Rattle.vip_board.specs.declared.board.Move.{Move}
 use Rattle.vip_board.proofs.Shown.{shows-nothing}
 use Rattle.chip8_image.specs.Interpreters.{interpreter_of}
-use Rattle.vip_relation.specs.State.{VipState, events_waiting, most_cycles, started}
-use Rattle.vip_relation.specs.Follows.{Follows}
+use Rattle.vip_relation.specs.State.{Start, VipState, begun, events_from, events_to, events_waiting, first_events, first_screen, first_view, machine_of, most_cycles}
+use Rattle.vip_relation.specs.State.Start.{Reset, Saved}
+use Rattle.vip_relation.specs.Follows.{Fits, Follows, last_screen, last_view}
 use Rattle.vip_relation.specs.Meets.{HasStopped}
 use Rattle.vip_relation.specs.Parts.{Steps}
 use Rattle.vip_relation.specs.Points.{point_of}
@@ -24,38 +25,67 @@ use Rattle.vip_relation.specs.declared.point.Point.{Point}
 use Rattle.vip_relation.specs.declared.run.Waits.{Waits}
 use Rattle.vip_relation.specs.declared.run.Run.TheInside.{Inside}
 use Rattle.vip_relation.proofs.ByRun.{as-run, follows-run, named-run}
-use Rattle.vip_relation.proofs.Past.{past}
-use Rattle.vip_relation.proofs.Steps.{stepped, events-here, follows-on, waits-on, later-on, goes-on}
+use Rattle.vip_relation.proofs.Beginning.{begins-early, begins-running}
+use Rattle.vip_relation.proofs.Past.{state, events-last, events-short, past-first}
+use Rattle.vip_relation.proofs.Steps.{stepped, follows-on, waits-on, later-on, goes-on}
 
 -- ---- before the first move
 
-module _ (e : Edition) (game : List ℕ) (script : List KeyEvent) (bytes : (k : ℕ) → slice_index game k < 256) (fits : length game ≤ memory_size e) where
-  pub follows-start : Follows (started e game script)
-  follows-start =
+-- what is told is that of the first events
+first_view_is : (e : Edition) (s : Start) (script : List KeyEvent) (limit : ℕ)
+    → first_view e s ≡ last_view e (take (length (first_events s)) (events_from (interpreter_of e) script s limit))
+first_view_is e (Reset game) script limit = refl
+first_view_is e (Saved file) script limit = refl
+
+first_screen_is : (e : Edition) (s : Start) (script : List KeyEvent) (limit : ℕ)
+    → first_screen e s ≡ last_screen e (take (length (first_events s)) (events_from (interpreter_of e) script s limit))
+first_screen_is e (Reset game) script limit = refl
+first_screen_is e (Saved file) script limit = refl
+
+module _ (e : Edition) (s : Start) (script : List KeyEvent) (fits : Fits e s) where
+  abbrev i : Interpreter
+  i = interpreter_of e
+
+  abbrev first : VipState
+  first = begun e s script
+
+  -- the first move comes later
+  over_first : (machine_of s).cycle < (state i s script 1).cycle
+  over_first = later-move i.rom (held_at script) (machine_of s)
+
+  here_first : events_to first (machine_of s).cycle ≡ first_events s
+  here_first = events-last i s script (machine_of s).cycle 0 (omega arith) over_first (λ k below. absurd (omega (arith, below))) ∙ past-first i s script
+
+  pub follows-begun : Follows first
+  follows-begun =
       record {
-        bytes = bytes;
         fits = fits;
         phase = refl;
         rom = refl;
         machine = refl;
         runs = λ k below. absurd (omega (arith, below));
-        in_time = omega arith;
-        pictures = shows-nothing (interpreter_of e).rom 0;
-        behind = λ t over. absurd (omega (arith, over));
-        within = omega arith;
-        last = refl;
-        shown = refl;
+        in_time = begins-early e s fits;
+        pictures = shows-nothing i.rom (machine_of s).cycle;
+        first = omega arith;
+        behind =
+            λ t over. omega (
+              arith,
+              events-short i s script t 0 (omega (arith, over, over_first)) (λ k below. absurd (omega (arith, below))),
+              ap length (past-first i s script),
+            );
+        within = omega (arith, ap length here_first);
+        last = first_view_is e s script (machine_of s).cycle;
+        shown = first_screen_is e s script (machine_of s).cycle;
       }
 
-  pub waiting-start : events_waiting (started e game script) ≡ []
-  unfolding past windows_ended
-  waiting-start = events-here (started e game script) follows-start
+  pub waiting-begun : events_waiting first ≡ []
+  waiting-begun = ap (drop (length (first_events s))) here_first ∙ drop_all (length (first_events s)) (first_events s) (omega arith)
 
-pub runs-start : (e : Edition) (game : List ℕ) (script : List KeyEvent) → HasStopped (started e game script) → ⊥
-runs-start e game script stopped = not_both stopped.stop
-  where
-    not_both : false ≡ true → ⊥
-    not_both h = cc
+  pub runs-begun : HasStopped first → ⊥
+  runs-begun stopped = not_both (is_stop i (machine_of s)) (begins-running e s fits) stopped.stop
+    where
+      not_both : (b : Bool) → b ≡ false → b ≡ true → ⊥
+      not_both b h g = cc
 
 -- ---- after a move
 

@@ -1,3 +1,4 @@
+pub mod Beginning
 pub mod Past
 pub mod Steps
 pub mod Meetings

@@ -3,13 +3,13 @@ use Rattle.std.proofs.Common.{◌≡◌, Bool, true, false, ℕ, zero, suc, ◌+
 use Rattle.std.specs.Prelude.{slice_get, filter_map}
 use Rattle.std.specs.Option.{option_map, option_map_or}
 use Rattle.std.proofs.lemmas.List.Elements.{filter_map-append}
-use Rattle.machine.specs.Board.{Machine, start}
+use Rattle.machine.specs.Board.{Machine}
 use Rattle.machine.specs.Keys.{held_at}
 use Rattle.machine.specs.Pictures.{picture_of}
 use Rattle.chip8_lang.specs.Events.{Event, is_dispatch, is_stop}
 use Rattle.chip8_lang.specs.Events.Event.{Picture, Dispatch, Stopped}
 use Rattle.chip8_lang.specs.View.{View, view_at}
-use Rattle.vip_relation.specs.State.{VipState, interpreter, events_to, events_left, events_met, events_waiting, run_of, states_before, screen_size, screen_bytes}
+use Rattle.vip_relation.specs.State.{VipState, machine_of, interpreter, events_to, events_left, events_met, events_waiting, run_of, states_before, screen_size, screen_bytes}
 use Rattle.vip_relation.specs.Stops.{stop_record}
 use Rattle.vip_relation.specs.Follows.{Follows, dispatch_of, last_dispatch, last_view, last_screen}
 use Rattle.vip_relation.specs.Points.{point_of, point_events}
@@ -119,7 +119,6 @@ module _ (v : VipState) (f : Follows v) (e : Event) (es : List Event) (waits : e
       → shown ≡ last_screen v.edition (events_met v ++ e ∷ []) → Follows (told v last shown)
   follows-told last shown is_last is_shown =
       record {
-        bytes = f.bytes;
         fits = f.fits;
         phase = f.phase;
         rom = f.rom;
@@ -127,6 +126,7 @@ module _ (v : VipState) (f : Follows v) (e : Event) (es : List Event) (waits : e
         runs = f.runs;
         in_time = f.in_time;
         pictures = f.pictures;
+        first = omega (arith, f.first);
         behind = λ t over. omega (arith, f.behind t over);
         within = next.within;
         last = is_last ∙ ap (last_view v.edition) (sym next.taken);
@@ -145,7 +145,7 @@ module _ (v : VipState) (f : Follows v) (e : Event) (es : List Event) (waits : e
     left-new last shown = (takes v.met (events_to v limit) e (es ++ o.others) left-old).left
 
     pub one-more : (last : Option View) (shown : List ℕ) → MeetsOne limit v (told v last shown) (es ++ o.others)
-    one-more last shown = record { same = record { edition = refl; game = refl; script = refl }; met = refl; left = left-new last shown; within = within }
+    one-more last shown = record { same = record { edition = refl; start = refl; script = refl }; met = refl; left = left-new last shown; within = within }
 
   pub waiting-less : (last : Option View) (shown : List ℕ) → events_waiting (told v last shown) ≡ es
   waiting-less last shown = next.left
@@ -158,7 +158,7 @@ module _ (v : VipState) (f : Follows v) (e : Event) (es : List Event) (waits : e
         next =
             λ limit within. subst (λ left. MeetsNext limit v (told v last shown) left answer) (sym (left-old limit within))
             (meets limit (es ++ (o limit within).others) within (one-more limit within last shown));
-        same = record { edition = refl; game = refl; script = refl };
+        same = record { edition = refl; start = refl; script = refl };
         waiting = ap length waits ∙ sym (add-one (length es)) ∙ ap (λ xs. length xs + 1) (sym (waiting-less last shown));
         board = refl;
         moves = refl;
@@ -187,9 +187,9 @@ module _ (v : VipState) (f : Follows v) (point : Point) (p : PictureWaits v poin
       let here : v.board.machine.cycle ≡ (at_state v f v.moves).cycle = ap (λ (b : Machine). b.cycle) f.machine in
       sym (
       ap (λ run. picture_of (interpreter v).rom run p.frame)
-      (run-split (interpreter v).rom (held_at v.board.script) limit v.moves (start v.game) (omega (arith, here, within)))
+      (run-split (interpreter v).rom (held_at v.board.script) limit v.moves (machine_of v.start) (omega (arith, here, within)))
       ∙ picture-later (interpreter v).rom (at_state v f v.moves).cycle p.frame (states_before v v.moves)
-      (onward (interpreter v) v.game v.board.script limit v.moves) (omega (arith, here, p.ended))
+      (onward (interpreter v) v.start v.board.script limit v.moves) (omega (arith, here, p.ended))
       (later-run (interpreter v).rom (held_at v.board.script) limit (at_state v f v.moves)))
 
   goes_on : point ≡ point_of (interpreter v) v.board.machine → HasStopped (told v v.last v.shown) → ⊥

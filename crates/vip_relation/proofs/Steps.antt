@@ -3,7 +3,7 @@ use Rattle.std.proofs.Common.{◌≡◌, ℕ, suc, ◌+◌, ◌<◌, ◌≤◌, 
 use Rattle.std.proofs.Common.{◌⊎◌, inl, inr}
 use Rattle.std.proofs.lemmas.Bool.{cases_lt}
 use Rattle.std.proofs.lemmas.List.{length-drop, drop_all, drop_at, take-append-le, drop-append-le}
-use Rattle.machine.specs.Board.{Machine, move, start, length_of}
+use Rattle.machine.specs.Board.{Machine, move, length_of}
 use Rattle.machine.specs.Keys.{held_at}
 use Rattle.machine.specs.Pictures.{picture_of}
 use Rattle.machine.proofs.Runs.{cycle-move, later-move}
@@ -11,8 +11,8 @@ use Rattle.chip8_lang.specs.Events.{Event, is_dispatch, is_stop}
 use Rattle.chip8_lang.specs.Events.Event.{Picture, Stopped}
 use Rattle.chip8_lang.specs.Places.{Interpreter}
 use Rattle.vip_board.specs.Moves.{moved}
-use Rattle.vip_board.specs.Shown.{Shows, CarriesOn}
-use Rattle.vip_relation.specs.State.{VipState, interpreter, events_to, events_left, events_met, events_waiting, most_cycles, run_of, moves_by}
+use Rattle.vip_board.specs.Shown.{ShowsSince, CarriesOn}
+use Rattle.vip_relation.specs.State.{VipState, machine_of, interpreter, events_to, events_left, events_met, events_waiting, most_cycles, run_of, moves_by}
 use Rattle.vip_relation.specs.Follows.{Follows, last_view, last_screen}
 use Rattle.vip_relation.specs.Points.{point_of, point_events}
 use Rattle.vip_relation.specs.Waiting.{waits_by}
@@ -24,6 +24,7 @@ use Rattle.vip_relation.specs.declared.point.Point.TheVariants.{Dispatch as Disp
 use Rattle.vip_relation.specs.declared.run.Waits.TheVariants.{Picture as PictureWaiting, Point as PointWaiting}
 use Rattle.vip_board.proofs.Along.{states-more, length-states, cycles-some, in-turn, run-last, run-short}
 use Rattle.vip_relation.proofs.Past.{state, earlier, past, pictures, point, Runs, Goes, goes, events-last, events-short, few-events, Finishes, finishes}
+use Rattle.vip_relation.proofs.Beginning.{apart, begins-running}
 use Rattle.vip_relation.proofs.Past.Finishes.{NoPicture, OnePicture}
 
 nothing_left : (n : ℕ) (xs : List Event) → drop n xs ≡ [] → length xs ≤ n
@@ -36,10 +37,10 @@ module _ (v : VipState) (f : Follows v) where
   i = interpreter v
 
   abbrev pub at_state : ℕ → Machine
-  at_state n = state i v.game v.board.script n
+  at_state n = state i v.start v.board.script n
 
   abbrev pub past_of : ℕ → List Event
-  past_of n = past i v.game v.board.script n
+  past_of n = past i v.start v.board.script n
 
   abbrev now : ℕ
   now = v.board.machine.cycle
@@ -56,15 +57,19 @@ module _ (v : VipState) (f : Follows v) where
   later : now < (at_state (suc v.moves)).cycle
   later = omega (arith, cycle_is, later-move i.rom (held_at v.board.script) (at_state v.moves))
 
+  -- no run begins at a stop point
+  pub begins : is_stop i (machine_of v.start) ≡ false
+  begins = begins-running v.edition v.start f.fits
+
   -- the events up to here
   pub events-here : events_to v now ≡ past_of (suc v.moves)
-  events-here = events-last i v.game v.board.script now v.moves (omega (arith, cycle_is)) later f.runs
+  events-here = events-last i v.start v.board.script now v.moves (omega (arith, cycle_is)) later f.runs
 
   pub few-moves : v.moves ≤ most_cycles
-  few-moves = omega (arith, f.in_time, cycle_is, cycles-some i.rom (held_at v.board.script) v.moves (start v.game))
+  few-moves = omega (arith, f.in_time, cycle_is, cycles-some i.rom (held_at v.board.script) v.moves (machine_of v.start))
 
   pub few-met : v.met ≤ 8_000_000_002
-  few-met = omega (arith, f.within, ap length events-here, few-events i v.game v.board.script (suc v.moves), few-moves)
+  few-met = omega (arith, f.within, ap length events-here, few-events i v.start v.board.script (suc v.moves), few-moves)
 
   -- the events up to a limit are those up to here, and others, which are none where the run stops here
   pub record Others (limit : ℕ) : Type 0 where
@@ -75,7 +80,7 @@ module _ (v : VipState) (f : Follows v) where
 
   pub others-to : (limit : ℕ) → now ≤ limit → Others limit
   others-to limit within =
-      let g : Goes i v.game v.board.script limit v.moves = goes i v.game v.board.script limit v.moves (omega (arith, cycle_is, within)) f.runs in
+      let g : Goes i v.start v.board.script begins limit v.moves = goes i v.start v.board.script begins limit v.moves (omega (arith, cycle_is, within)) f.runs in
       let all : events_to v limit ≡ events_to v now ++ g.others = g.is ∙ ap (λ es. es ++ g.others) (sym events-here) in
       record {
         others = g.others;
@@ -88,13 +93,13 @@ module _ (v : VipState) (f : Follows v) where
   pub none-left : (limit : ℕ) → now ≤ limit → limit < now + length_of v.board.rom v.board.machine → events_left v limit ≡ events_waiting v
   none-left limit within over =
       ap (drop v.met)
-      (events-last i v.game v.board.script limit v.moves (omega (arith, cycle_is, within)) (omega (arith, next_cycle, over)) f.runs ∙ sym events-here)
+      (events-last i v.start v.board.script limit v.moves (omega (arith, cycle_is, within)) (omega (arith, next_cycle, over)) f.runs ∙ sym events-here)
 
   pub all-moves : (limit : ℕ) → now ≤ limit → limit < now + length_of v.board.rom v.board.machine → moves_by v limit ≡ v.moves
   all-moves limit within over =
       let size : length (run_of v limit) ≡ suc v.moves =
-      ap length (run-last i.rom (held_at v.board.script) limit v.moves (start v.game) (omega (arith, cycle_is, within)) (omega (arith, next_cycle, over)))
-      ∙ length-states i.rom (held_at v.board.script) (suc v.moves) (start v.game) in
+      ap length (run-last i.rom (held_at v.board.script) limit v.moves (machine_of v.start) (omega (arith, cycle_is, within)) (omega (arith, next_cycle, over)))
+      ∙ length-states i.rom (held_at v.board.script) (suc v.moves) (machine_of v.start) in
       omega (arith, size)
 
   -- up to a limit before here nothing is left, and no more moves are there
@@ -102,7 +107,7 @@ module _ (v : VipState) (f : Follows v) where
   none-before limit over = drop_all v.met (events_to v limit) (f.behind limit over)
 
   pub moves-before : (limit : ℕ) → limit < now → moves_by v limit ≤ v.moves
-  moves-before limit over = omega (arith, run-short i.rom (held_at v.board.script) limit v.moves (start v.game) (omega (arith, cycle_is, over)))
+  moves-before limit over = omega (arith, run-short i.rom (held_at v.board.script) limit v.moves (machine_of v.start) (omega (arith, cycle_is, over)))
 
   -- ---- one move more
 
@@ -115,7 +120,7 @@ module _ (v : VipState) (f : Follows v) where
         let most : length (events_to v now) ≤ v.met = nothing_left v.met (events_to v now) met_all in
         omega (arith, most, f.within, ap length events-here)
 
-    runs_on : Runs i v.game v.board.script (suc v.moves)
+    runs_on : Runs i v.start v.board.script (suc v.moves)
     runs_on k below = by_test (cases_lt k v.moves)
       where
         by_test : (k < v.moves) ⊎ (v.moves ≤ k) → is_stop i (at_state k) ≡ false
@@ -125,9 +130,9 @@ module _ (v : VipState) (f : Follows v) where
     machine_on : (moved v.board).machine ≡ at_state (suc v.moves)
     machine_on = ap (λ rom. move rom (held_at v.board.script) v.board.machine) f.rom ∙ ap (move i.rom (held_at v.board.script)) f.machine
 
-    states_on : earlier i v.game v.board.script v.moves ++ v.board.machine ∷ [] ≡ earlier i v.game v.board.script (suc v.moves)
+    states_on : earlier i v.start v.board.script v.moves ++ v.board.machine ∷ [] ≡ earlier i v.start v.board.script (suc v.moves)
     states_on =
-        ap (λ b. earlier i v.game v.board.script v.moves ++ b ∷ []) f.machine ∙ sym (states-more i.rom (held_at v.board.script) v.moves (start v.game))
+        ap (λ b. earlier i v.start v.board.script v.moves ++ b ∷ []) f.machine ∙ sym (states-more i.rom (held_at v.board.script) v.moves (machine_of v.start))
 
     abbrev now_on : ℕ
     now_on = (moved v.board).machine.cycle
@@ -137,39 +142,38 @@ module _ (v : VipState) (f : Follows v) where
 
     events_on : events_to stepped now_on ≡ past_of (suc (suc v.moves))
     events_on =
-        events-last i v.game v.board.script now_on (suc v.moves) (omega (arith, cycle_on))
+        events-last i v.start v.board.script now_on (suc v.moves) (omega (arith, cycle_on))
         (omega (arith, cycle_on, later-move i.rom (held_at v.board.script) (at_state (suc v.moves)))) runs_on
 
     past_on : past_of (suc (suc v.moves)) ≡ past_of (suc v.moves)
-        ++ (pictures i v.game v.board.script (suc v.moves) ++ point i v.game v.board.script (suc v.moves))
+        ++ (pictures i v.start v.board.script (suc v.moves) ++ point i v.start v.board.script (suc v.moves))
     unfolding past
     past_on = simp append_assoc
 
     same_met : events_met stepped ≡ events_met v
     same_met =
         ap (take v.met) (events_on ∙ past_on)
-        ∙ take-append-le v.met (past_of (suc v.moves)) (pictures i v.game v.board.script (suc v.moves) ++ point i v.game v.board.script (suc v.moves))
+        ∙ take-append-le v.met (past_of (suc v.moves)) (pictures i v.start v.board.script (suc v.moves) ++ point i v.start v.board.script (suc v.moves))
         (omega (arith, all_met))
         ∙ ap (take v.met) (sym events-here)
 
-    pub waiting-on : events_waiting stepped ≡ pictures i v.game v.board.script (suc v.moves) ++ point i v.game v.board.script (suc v.moves)
+    pub waiting-on : events_waiting stepped ≡ pictures i v.start v.board.script (suc v.moves) ++ point i v.start v.board.script (suc v.moves)
     waiting-on =
         ap (drop v.met) (events_on ∙ past_on)
-        ∙ drop_at (past_of (suc v.moves)) (pictures i v.game v.board.script (suc v.moves) ++ point i v.game v.board.script (suc v.moves)) v.met all_met
+        ∙ drop_at (past_of (suc v.moves)) (pictures i v.start v.board.script (suc v.moves) ++ point i v.start v.board.script (suc v.moves)) v.met all_met
 
-    point_on : point i v.game v.board.script (suc v.moves) ≡ point_events (point_of i (moved v.board).machine) (moved v.board).machine
+    point_on : point i v.start v.board.script (suc v.moves) ≡ point_events (point_of i (moved v.board).machine) (moved v.board).machine
     point_on = ap (λ b. point_events (point_of i b) b) (sym machine_on)
 
     module _ (carries : CarriesOn v.board (moved v.board)) where
-      shows_on : Shows v.board.rom (earlier i v.game v.board.script (suc v.moves)) now_on (moved v.board).pictures
+      shows_on : ShowsSince (machine_of v.start).cycle v.board.rom (earlier i v.start v.board.script (suc v.moves)) now_on (moved v.board).pictures
       shows_on =
-          subst (λ run. Shows v.board.rom run now_on (moved v.board).pictures) states_on
-          (carries 0 (earlier i v.game v.board.script v.moves) f.pictures)
+          subst (λ run. ShowsSince (machine_of v.start).cycle v.board.rom run now_on (moved v.board).pictures) states_on
+          (carries (machine_of v.start).cycle (earlier i v.start v.board.script v.moves) f.pictures)
 
       pub follows-on : now_on ≤ most_cycles → Follows stepped
       follows-on in_time =
           record {
-            bytes = f.bytes;
             fits = f.fits;
             phase = f.phase;
             rom = f.rom;
@@ -177,8 +181,9 @@ module _ (v : VipState) (f : Follows v) where
             runs = λ k below. runs_on k (omega (arith, below));
             in_time = in_time;
             pictures =
-                subst (λ n. Shows v.board.rom (earlier i v.game v.board.script n) now_on (moved v.board).pictures) (sym (add-one v.moves)) shows_on;
-            behind = λ t over. omega (arith, all_met, events-short i v.game v.board.script t (suc v.moves) (omega (arith, over, cycle_on)) runs_on);
+                subst (λ n. ShowsSince (machine_of v.start).cycle v.board.rom (earlier i v.start v.board.script n) now_on (moved v.board).pictures) (sym (add-one v.moves)) shows_on;
+            first = f.first;
+            behind = λ t over. omega (arith, all_met, events-short i v.start v.board.script t v.moves (omega (arith, over, cycle_on)) f.runs);
             within =
                 let more : length (past_of (suc v.moves)) ≤ length (events_to stepped now_on) = rw (events_on ∙ past_on, length-append) (omega arith) in
                 omega (arith, more, all_met);
@@ -187,35 +192,35 @@ module _ (v : VipState) (f : Follows v) where
           }
 
       -- which events wait, by the count of pictures before and after
-      finishes_on : Finishes i v.game v.board.script v.moves v.board.pictures.count (moved v.board).pictures.count (moved v.board).pictures.finished
+      finishes_on : Finishes i v.start v.board.script v.moves v.board.pictures.count (moved v.board).pictures.count (moved v.board).pictures.finished
       finishes_on =
-          finishes i v.game v.board.script v.moves v.board.pictures (moved v.board).pictures
-          (subst (λ t. Shows i.rom (earlier i v.game v.board.script v.moves) t v.board.pictures) cycle_is
-          (subst (λ rom. Shows rom (earlier i v.game v.board.script v.moves) now v.board.pictures) f.rom f.pictures))
-          (subst (λ t. Shows i.rom (earlier i v.game v.board.script (suc v.moves)) t (moved v.board).pictures) cycle_on
-          (subst (λ rom. Shows rom (earlier i v.game v.board.script (suc v.moves)) now_on (moved v.board).pictures) f.rom shows_on))
+          finishes i v.start v.board.script v.moves v.board.pictures (moved v.board).pictures (apart v.edition v.start f.fits)
+          (subst (λ t. ShowsSince (machine_of v.start).cycle i.rom (earlier i v.start v.board.script v.moves) t v.board.pictures) cycle_is
+          (subst (λ rom. ShowsSince (machine_of v.start).cycle rom (earlier i v.start v.board.script v.moves) now v.board.pictures) f.rom f.pictures))
+          (subst (λ t. ShowsSince (machine_of v.start).cycle i.rom (earlier i v.start v.board.script (suc v.moves)) t (moved v.board).pictures) cycle_on
+          (subst (λ rom. ShowsSince (machine_of v.start).cycle rom (earlier i v.start v.board.script (suc v.moves)) now_on (moved v.board).pictures) f.rom shows_on))
 
       pub waits-point : (moved v.board).pictures.count ≡ v.board.pictures.count → HasWaiting PointWaiting stepped (point_of i (moved v.board).machine)
       waits-point same = by_case finishes_on
         where
-          by_case : Finishes i v.game v.board.script v.moves v.board.pictures.count (moved v.board).pictures.count (moved v.board).pictures.finished
+          by_case : Finishes i v.start v.board.script v.moves v.board.pictures.count (moved v.board).pictures.count (moved v.board).pictures.finished
               → HasWaiting PointWaiting stepped (point_of i (moved v.board).machine)
-          by_case (NoPicture count none) = waiting-on ∙ ap (λ ps. ps ++ point i v.game v.board.script (suc v.moves)) none ∙ point_on
+          by_case (NoPicture count none) = waiting-on ∙ ap (λ ps. ps ++ point i v.start v.board.script (suc v.moves)) none ∙ point_on
           by_case (OnePicture m count one ended not_yet finished) = absurd (omega (arith, count, same))
 
       pub waits-picture : ((moved v.board).pictures.count ≡ v.board.pictures.count → ⊥) → HasWaiting PictureWaiting stepped (point_of i (moved v.board).machine)
       waits-picture differs = by_case finishes_on
         where
-          by_case : Finishes i v.game v.board.script v.moves v.board.pictures.count (moved v.board).pictures.count (moved v.board).pictures.finished
+          by_case : Finishes i v.start v.board.script v.moves v.board.pictures.count (moved v.board).pictures.count (moved v.board).pictures.finished
               → HasWaiting PictureWaiting stepped (point_of i (moved v.board).machine)
           by_case (NoPicture count none) = absurd (differs count)
           by_case (OnePicture m count one ended not_yet finished) =
               record {
                 frame = m;
-                events = waiting-on ∙ ap (λ ps. ps ++ point i v.game v.board.script (suc v.moves)) one ∙ ap (λ ps. Picture m ∷ ps) point_on;
+                events = waiting-on ∙ ap (λ ps. ps ++ point i v.start v.board.script (suc v.moves)) one ∙ ap (λ ps. Picture m ∷ ps) point_on;
                 ended = omega (arith, ended, cycle_on);
-                first = λ k below. omega (arith, not_yet, in-turn i.rom (held_at v.board.script) v.moves k (start v.game) (omega (arith, below)));
-                finished = finished ∙ ap (λ n. Some (picture_of i.rom (earlier i v.game v.board.script n) m)) (sym (add-one v.moves));
+                first = λ k below. omega (arith, not_yet, in-turn i.rom (held_at v.board.script) v.moves k (machine_of v.start) (omega (arith, below)));
+                finished = finished ∙ ap (λ n. Some (picture_of i.rom (earlier i v.start v.board.script n) m)) (sym (add-one v.moves));
               }
 
       pub waits-on : HasWaiting (waits_by v.board.pictures.count (moved v.board).pictures.count) stepped (point_of i (moved v.board).machine)
@@ -230,13 +235,13 @@ module _ (v : VipState) (f : Follows v) where
     pub goes-on : HasStopped stepped → ⊥
     goes-on stopped =
         nothing (is_stop i (moved v.board).machine) (is_dispatch i (moved v.board).machine) stopped.stop
-        (ap (λ ps. pictures i v.game v.board.script (suc v.moves) ++ ps) (sym point_on) ∙ sym waiting-on ∙ stopped.met)
+        (ap (λ ps. pictures i v.start v.board.script (suc v.moves) ++ ps) (sym point_on) ∙ sym waiting-on ∙ stopped.met)
       where
         nothing : (stop dispatch : Bool) → stop ≡ true
-            → pictures i v.game v.board.script (suc v.moves)
+            → pictures i v.start v.board.script (suc v.moves)
             ++ point_events (if stop then StopPoint else if dispatch then DispatchPoint else OtherPoint) (moved v.board).machine ≡ [] → ⊥
         nothing false dispatch h e = cc
-        nothing true dispatch h e = last_stays (pictures i v.game v.board.script (suc v.moves)) e
+        nothing true dispatch h e = last_stays (pictures i v.start v.board.script (suc v.moves)) e
           where
             last_stays : (xs : List Event) → xs ++ Stopped (moved v.board).machine ∷ [] ≡ [] → ⊥
             last_stays [] e = cc

@@ -67,7 +67,7 @@ stays-by limit v w answer other again next = by_case (stopped_or_not v)
           same =
               record {
                 edition = ap (λ (x : VipState). x.edition) is;
-                game = ap (λ (x : VipState). x.game) is;
+                start = ap (λ (x : VipState). x.start) is;
                 script = ap (λ (x : VipState). x.board.script) is;
               };
           told = record { last = ap (λ (x : VipState). x.last) is; shown = ap (λ (x : VipState). x.shown) is };
@@ -116,7 +116,7 @@ tells-moved a t w (Done name) follows rests made =
       same =
           record {
             edition = ap (λ (v : VipState). v.edition) made.state;
-            game = ap (λ (v : VipState). v.game) made.state;
+            start = ap (λ (v : VipState). v.start) made.state;
             script = ap (λ (v : VipState). v.board.script) made.state;
           };
       told = record { last = ap (λ (v : VipState). v.last) made.state; shown = ap (λ (v : VipState). v.shown) made.state };

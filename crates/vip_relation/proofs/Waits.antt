@@ -13,13 +13,14 @@ use Rattle.chip8_lang.specs.Events.{Event, is_dispatch, is_stop, numbers_from}
 use Rattle.chip8_lang.specs.Events.Event.{Picture, Dispatch, Stopped}
 use Rattle.chip8_lang.specs.Places.{Interpreter}
 use Rattle.chip8_lang.specs.View.{view_at}
-use Rattle.vip_relation.specs.State.{VipState, interpreter, events_to, events_met, events_waiting}
+use Rattle.vip_relation.specs.State.Start.{Reset, Saved}
+use Rattle.vip_relation.specs.State.{Start, VipState, first_events, machine_of, interpreter, events_to, events_met, events_waiting}
 use Rattle.vip_relation.specs.Follows.{Follows, dispatch_of, last_view}
 use Rattle.vip_relation.specs.Points.{point_of, point_events}
 use Rattle.vip_relation.specs.declared.point.Point.{Point}
 use Rattle.vip_relation.specs.declared.point.Point.TheVariants.{Dispatch as DispatchPoint, Stop as StopPoint, Other as OtherPoint}
-use Rattle.vip_relation.proofs.Past.{state, earlier, before, past, pictures, point, events-last}
-use Rattle.vip_relation.proofs.Steps.{Others, others-to, events-here}
+use Rattle.vip_relation.proofs.Past.{state, earlier, before, past, pictures, point, events-last, few-points}
+use Rattle.vip_relation.proofs.Steps.{Others, others-to, begins, events-here}
 
 -- ---- dispatch points before a cycle
 
@@ -55,6 +56,11 @@ earlier_point t DispatchPoint b before = (before, tt)
 earlier_point t StopPoint b before = tt
 earlier_point t OtherPoint b before = tt
 
+earlier_first : (t : ℕ) (s : Start) → (machine_of s).cycle < t → Earlier t (first_events s)
+unfolding Earlier
+earlier_first t (Reset game) before = tt
+earlier_first t (Saved file) before = (before, tt)
+
 pub earlier-drop : (t n : ℕ) (es : List Event) → Earlier t es → Earlier t (drop n es)
 unfolding Earlier
 earlier-drop t zero es h = h
@@ -73,28 +79,27 @@ earlier-at t (Dispatch c ∷ es) h (suc k) b at = earlier-at t es h.1 k b at
 earlier-at t (Stopped c ∷ es) h k b at = earlier-at t es h k b at
 
 -- so are those of the states up to one before that cycle
-module _ (i : Interpreter) (game : List ℕ) (script : List KeyEvent) where
-  earlier_with : (t n : ℕ) → (state i game script n).cycle < t → Earlier (state i game script n).cycle (past i game script n)
-      → Earlier t (past i game script (suc n))
+module _ (i : Interpreter) (s : Start) (script : List KeyEvent) where
+  earlier_here : (t n : ℕ) → (state i s script n).cycle < t → Earlier t (point i s script n)
+  earlier_here t zero low = earlier_first t s low
+  earlier_here t (suc n) low = earlier_point t (point_of i (state i s script (suc n))) (state i s script (suc n)) low
+
+  earlier_with : (t n : ℕ) → (state i s script n).cycle < t → Earlier (state i s script n).cycle (past i s script n)
+      → Earlier t (past i s script (suc n))
   unfolding past
   earlier_with t n low others =
-      earlier_append t (past i game script n ++ pictures i game script n) (point i game script n)
-      (earlier_append t (past i game script n) (pictures i game script n)
-      (earlier_on (state i game script n).cycle t (past i game script n) (omega (arith, low)) others) (earlier_pictures t _))
-      (earlier_point t (point_of i (state i game script n)) (state i game script n) low)
+      earlier_append t (past i s script n ++ pictures i s script n) (point i s script n)
+      (earlier_append t (past i s script n) (pictures i s script n)
+      (earlier_on (state i s script n).cycle t (past i s script n) (omega (arith, low)) others) (earlier_pictures t _))
+      (earlier_here t n low)
 
-  earlier_past : (n : ℕ) → Earlier (state i game script n).cycle (past i game script n)
+  earlier_past : (n : ℕ) → Earlier (state i s script n).cycle (past i s script n)
   unfolding past Earlier
   earlier_past zero = tt
-  earlier_past (suc n) = earlier_with (state i game script (suc n)).cycle n (later-move i.rom (held_at script) (state i game script n)) (earlier_past n)
+  earlier_past (suc n) = earlier_with (state i s script (suc n)).cycle n (later-move i.rom (held_at script) (state i s script n)) (earlier_past n)
 
-  pub earlier-next : (t n : ℕ) → (state i game script n).cycle < t → Earlier t (past i game script (suc n))
+  pub earlier-next : (t n : ℕ) → (state i s script n).cycle < t → Earlier t (past i s script (suc n))
   earlier-next t n low = earlier_with t n low (earlier_past n)
-
-few_points : (p : Point) (b : Machine) → length (point_events p b) ≤ 1
-few_points DispatchPoint b = omega arith
-few_points StopPoint b = omega arith
-few_points OtherPoint b = omega arith
 
 -- one that comes at t or later is the last event
 last_one : (t k : ℕ) (xs ys others : List Event) (b : Machine) (rest : List Event) → Earlier t xs → length ys ≤ 1 → k < length (xs ++ ys)
@@ -151,21 +156,21 @@ module _ (v : VipState) (f : Follows v) where
   now = v.board.machine.cycle
 
   abbrev at_state : ℕ → Machine
-  at_state n = state i v.game v.board.script n
+  at_state n = state i v.start v.board.script n
 
   abbrev past_of : ℕ → List Event
-  past_of n = past i v.game v.board.script n
+  past_of n = past i v.start v.board.script n
 
   abbrev frames_of : ℕ → List ℕ
   frames_of n =
-      filter (is_shown i.rom (earlier i v.game v.board.script n))
-      (numbers_from (windows_ended (before i v.game v.board.script n)) (windows_ended (at_state n).cycle - windows_ended (before i v.game v.board.script n)))
+      filter (is_shown i.rom (earlier i v.start v.board.script n))
+      (numbers_from (windows_ended (before i v.start v.board.script n)) (windows_ended (at_state n).cycle - windows_ended (before i v.start v.board.script n)))
 
   abbrev pictures_of : ℕ → List Event
-  pictures_of n = pictures i v.game v.board.script n
+  pictures_of n = pictures i v.start v.board.script n
 
   abbrev point_of_state : ℕ → List Event
-  point_of_state n = point i v.game v.board.script n
+  point_of_state n = point i v.start v.board.script n
 
   here : events_to v now ≡ (past_of v.moves ++ pictures_of v.moves) ++ point_of_state v.moves
   unfolding past
@@ -179,11 +184,11 @@ module _ (v : VipState) (f : Follows v) where
       let n : ℕ = v.moves in
       let cycle : now ≡ (at_state n).cycle = ap (λ (b : Machine). b.cycle) f.machine in
       let early : Earlier (at_state n).cycle (past_of n ++ pictures_of n) =
-      earlier_append (at_state n).cycle (past_of n) (pictures_of n) (earlier_past i v.game v.board.script n)
+      earlier_append (at_state n).cycle (past_of n) (pictures_of n) (earlier_past i v.start v.board.script n)
       (earlier_pictures (at_state n).cycle (frames_of n)) in
       let all : length ((past_of n ++ pictures_of n) ++ point_of_state n) ≤ k + 1 =
       last_one (at_state n).cycle k (past_of n ++ pictures_of n) (point_of_state n) o.others v.board.machine rest early
-      (few_points (point_of i (at_state n)) (at_state n)) (omega (arith, f.within, met, ap length here)) (omega (arith, cycle))
+      (few-points i v.start v.board.script n) (omega (arith, f.within, met, ap length here)) (omega (arith, cycle))
       (ap (λ es. drop k (es ++ o.others)) (sym here) ∙ ap (drop k) (sym o.all) ∙ is) in
       drop_all v.met (events_to v now) (omega (arith, all, met, ap length here))
 
@@ -194,16 +199,22 @@ module _ (v : VipState) (f : Follows v) where
       let cycle : now ≡ (at_state (suc n)).cycle = ap (λ (b : Machine). b.cycle) f.machine ∙ ap (λ m. (at_state m).cycle) is in
       let next : (at_state n).cycle < (at_state (suc n)).cycle = later-move i.rom (held_at v.board.script) (at_state n) in
       let all : events_to v (at_state n).cycle ≡ past_of (suc n) =
-      events-last i v.game v.board.script (at_state n).cycle n (omega arith) next (λ k below. f.runs k (omega (arith, below, is))) in
+      events-last i v.start v.board.script (at_state n).cycle n (omega arith) next (λ k below. f.runs k (omega (arith, below, is))) in
       let few : length (events_to v (at_state n).cycle) ≤ v.met = f.behind (at_state n).cycle (omega (arith, next, cycle)) in
       omega (arith, few, ap length all)
+
+  none_at : (n : ℕ) → is_stop i (at_state n) ≡ true → filter_map dispatch_of (point_of_state n) ≡ []
+  none_at zero stop = absurd (not_both (is_stop i (machine_of v.start)) (begins v f) stop)
+    where
+      not_both : (b : Bool) → b ≡ false → b ≡ true → ⊥
+      not_both b h g = cc
+  none_at (suc n) stop = none_of_stop (is_stop i (at_state (suc n))) (is_dispatch i (at_state (suc n))) (at_state (suc n)) stop
 
   -- at a stop point what is told is that of the last dispatch point before it, also where the stop or a picture waits
   pub last-at-stop : is_stop (interpreter v) v.board.machine ≡ true → v.last ≡ last_view v.edition (events_to v now)
   last-at-stop stop =
       let n : ℕ = v.moves in
-      let point_none : filter_map dispatch_of (point_of_state n) ≡ [] =
-      none_of_stop (is_stop i (at_state n)) (is_dispatch i (at_state n)) (at_state n) (ap (is_stop i) (sym f.machine) ∙ stop) in
+      let point_none : filter_map dispatch_of (point_of_state n) ≡ [] = none_at n (ap (is_stop i) (sym f.machine) ∙ stop) in
       let none : filter_map dispatch_of (events_waiting v) ≡ [] =
       ap (λ es. filter_map dispatch_of (drop v.met es)) (here ∙ append_assoc (past_of n) (pictures_of n) (point_of_state n))
       ∙ none_behind v.met (past_of n) (pictures_of n ++ point_of_state n) (past_met n refl) (none_of_pictures (frames_of n) (point_of_state n) point_none) in

@@ -1,15 +1,18 @@
 -- What the fields of a machine that runs a game mean, and what holds of them.
-use Rattle.std.specs.Prelude.{◌≡◌, ℕ, [], ◌∷◌, ◌<◌, ◌≤◌, None, Some}
+use Rattle.std.specs.Prelude.{◌≡◌, ℕ, List, [], ◌∷◌, ◌<◌, ◌≤◌, None, Some}
 use Rattle.std.specs.Option.{option_map}
 use Rattle.machine.specs.Pictures.{window_end, picture_of}
 use Rattle.chip8_lang.specs.Events.Event.{Picture as PictureEvent}
 use Rattle.chip8_lang.specs.View.{View}
 use Rattle.chip8_image.specs.Interpreters.{interpreter_of}
-use Rattle.vip_relation.specs.State.{VipState, interpreter, events_met, events_waiting, state_after, states_before}
+use Rattle.vip_relation.specs.State.Start.{Reset, Saved}
+use Rattle.vip_relation.specs.State.{Start, VipState, interpreter, events_met, events_waiting, state_after, states_before}
 use Rattle.vip_relation.specs.Follows.{Follows, last_view, last_screen}
 use Rattle.vip_relation.specs.Points.{point_of, point_events}
 use Rattle.vip_relation.specs.declared.point.Point.{Point}
 use Rattle.vip_relation.specs.declared.run.Named.{Named}
+use Rattle.vip_relation.specs.declared.run.Origin.{Origin}
+use Rattle.vip_relation.specs.declared.run.Origin.TheVariants.{Game, File}
 use Rattle.vip_relation.specs.declared.run.Waits.{Waits}
 use Rattle.vip_relation.specs.declared.run.Waits.TheVariants.{Picture, Point as PointWaits, Nothing}
 use Rattle.vip_relation.specs.declared.run.Run.TheInside.{Inside}
@@ -18,10 +21,15 @@ use Rattle.vip_relation.specs.declared.run.Run.TheInside.{Inside}
 abbrev pub by_run : VipState → VipState
 by_run v = record v { last = last_view v.edition (events_met v); shown = last_screen v.edition (events_met v) }
 
+-- the start, by its kind and its bytes
+abbrev pub start_of : Origin → List ℕ → Start
+start_of Game bytes = Reset bytes
+start_of File bytes = Saved bytes
+
 abbrev pub state_of : Inside → VipState
 state_of a =
     by_run
-    (record { edition = a.edition; game = a.game.items; moves = a.moves; met = a.met; board = a.board; last = None; shown = [] })
+    (record { edition = a.edition; start = start_of a.origin a.bytes.items; moves = a.moves; met = a.met; board = a.board; last = None; shown = [] })
 
 -- what a stop names of a dispatch point
 abbrev pub named : View → Named

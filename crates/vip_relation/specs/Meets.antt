@@ -1,4 +1,4 @@
--- What the calls answer, and what they make of a machine that runs a game.
+-- What the calls answer, and what they make of a run.
 use Rattle.std.specs.Prelude.{◌≡◌, ℕ, ◌+◌, ◌<◌, ◌≤◌, ◌⊎◌, true, List, [], ◌∷◌, length, max, Some, Result, Ok, Err}
 use Rattle.machine.specs.Board.{Machine, length_of}
 use Rattle.machine.specs.Keys.{Event as KeyEvent}
@@ -11,10 +11,14 @@ use Rattle.chip8_lang.specs.State.{memory_size}
 use Rattle.chip8_lang.specs.View.{view_at}
 use Rattle.vip_board.specs.Moves.{moved, name_of}
 use Rattle.vip_board.specs.declared.board.Move.{Move}
-use Rattle.vip_relation.specs.State.{VipState, interpreter, events_to, events_left, events_waiting, run_of, moves_by, screen_bytes, started, state_after}
+use Rattle.vip_text.specs.StateFile.{IsAccepted, Judges}
+use Rattle.vip_relation.specs.State.{VipState, begun, interpreter, events_to, events_left, events_waiting, run_of, moves_by, screen_bytes, started, state_after}
+use Rattle.vip_relation.specs.State.Start.{Saved}
 use Rattle.vip_relation.specs.Stops.{stop_record}
 use Rattle.vip_relation.specs.declared.run.Met.{Met}
 use Rattle.vip_relation.specs.declared.run.Met.TheVariants.{Picture as PictureMet, Dispatch as DispatchMet, Stopped as StoppedMet, End}
+use Rattle.vip_relation.specs.declared.start.ResumeFault.{ResumeFault}
+use Rattle.vip_relation.specs.declared.start.ResumeFault.TheVariants.{State, NoMemory as NoMemoryLeft}
 use Rattle.vip_relation.specs.declared.start.StartFault.{StartFault}
 use Rattle.vip_relation.specs.declared.start.StartFault.TheVariants.{GameTooLarge, NoMemory}
 
@@ -26,6 +30,12 @@ StartAnswers e game script (Ok v) = (length game ≤ memory_size e) × (v ≡ st
 StartAnswers e game script (Err (GameTooLarge n)) = (memory_size e < length game) × (n ≡ length game)
 StartAnswers e game script (Err NoMemory) = length game ≤ memory_size e
 
+-- A file that isn't accepted is refused for its first fault.
+abbrev pub ResumeAnswers : List ℕ → List KeyEvent → Result VipState ResumeFault → Type 0
+ResumeAnswers f script (Ok v) = IsAccepted v.edition f × (v ≡ begun v.edition (Saved f) script)
+ResumeAnswers f script (Err (State fault)) = Judges f (Err fault)
+ResumeAnswers f script (Err NoMemoryLeft) = (e : Edition) × IsAccepted e f
+
 -- a stop point was met, where the board stays
 pub record HasStopped (v : VipState) : Type 0 where
   pub stop : is_stop (interpreter v) v.board.machine ≡ true
@@ -33,10 +43,10 @@ pub record HasStopped (v : VipState) : Type 0 where
 
 -- ---- one event
 
--- the same game of the same edition under the same script
+-- the same start of the same edition under the same script
 pub record IsSame (old new : VipState) : Type 0 where
   pub edition : new.edition ≡ old.edition
-  pub game : new.game ≡ old.game
+  pub start : new.start ≡ old.start
   pub script : new.board.script ≡ old.board.script
 
 -- one event more is met, and these are left up to the limit
@@ -107,7 +117,7 @@ Rests limit v =
 -- the board made its next move, and every event up to its cycle is met
 pub record MovesOn (old new : VipState) (name : Move) : Type 0 where
   pub edition : new.edition ≡ old.edition
-  pub game : new.game ≡ old.game
+  pub start : new.start ≡ old.start
   pub moves : new.moves ≡ old.moves + 1
   pub board : new.board ≡ moved old.board
   pub move : name ≡ name_of old.board.machine

@@ -23,7 +23,7 @@ MeetsHere old new (Some met) = MeetsFirst old new met
 -- all events that wait at the present state are met, and the board stays
 pub record MeetsAll (old new : VipState) : Type 0 where
   pub edition : new.edition ≡ old.edition
-  pub game : new.game ≡ old.game
+  pub start : new.start ≡ old.start
   pub board : new.board ≡ old.board
   pub moves : new.moves ≡ old.moves
   pub met : events_waiting new ≡ []

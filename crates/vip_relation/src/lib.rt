@@ -19,6 +19,6 @@ mod vip;
 pub use point::{Point, point_at};
 pub use run::{Met, Run};
 pub use seen::{stop_of, view_of};
-pub use start::{StartFault, most_bytes};
+pub use start::{ResumeFault, StartFault, most_bytes};
 pub use view::{Screen, dark, put_page};
 pub use vip::Vip;

@@ -1,4 +1,4 @@
-//! A run of a game from event to event.
+//! A run from event to event.
 
 ghost use Rattle.std.specs.Prelude.{◌≡◌, ◌+◌, ◌<◌, ◌≤◌, ◌⊎◌, ◌↔◌, ℕ, [], IsTrue, IfOk, Some, None, if◌then◌else◌, length, true, false};
 ghost use Rattle.std.specs.Option.{option_map};
@@ -8,7 +8,7 @@ ghost use Rattle.vip_relation.specs.State.{screen_bytes, screen_size};
 ghost use Rattle.vip_relation.specs.Waiting.{waits_by};
 
 use crate::point::{Point, point_at, stop_of_number};
-use crate::start::{StartFault, most_bytes};
+use crate::start::{ResumeFault, StartFault, most_bytes};
 use crate::view::{Screen, copy_screen, opcode, stop_number, view};
 use chip8_image::{GAME, Places};
 use chip8_lang::{Edition, StateView, StopRecord};
@@ -16,6 +16,7 @@ use std::alloc::Global;
 use std::marker::Model;
 use vip_board::{Board, Moved};
 use vip_keypad::Script;
+use vip_text::state_file::{KEY, RAM, check_state, cycle, parts};
 
 /// What `advance` met: a picture that the video chip has finished, a dispatch point, the stop point, or the limit.
 #[derive(Clone, Copy)]
@@ -34,6 +35,13 @@ enum Waits {
     Nothing,
 }
 
+// What a run started from: a reset with a game, or a file of the machine's state.
+#[derive(Clone, Copy)]
+enum Origin {
+    Game,
+    File,
+}
+
 // What a stop names of a dispatch point.
 #[derive(Clone, Copy)]
 struct Named {
@@ -41,14 +49,17 @@ struct Named {
     opcode: Option<u16>,
 }
 
-/// A run of a game: a board with the interpreter's ROM of an edition, the game in its memory and a key script, from event to event.
+/// A run: a board with the interpreter's ROM of an edition and a key script, from event to event, from a reset with a game in its memory or
+/// from the machine state of a file.
 ///
 /// Of the last dispatch point met it keeps what a stop names, and no more. The language state and the screen are read off the board for
 /// whoever asks while it stands there; `Vip` keeps both for whoever asks later.
 #[derive(Drop)]
 pub struct Run {
     edition: Edition,
-    game: Vec<u8>,
+    // the start, with the bytes of the game or the file
+    origin: Origin,
+    bytes: Vec<u8>,
     board: Board,
     // how many moves were made, and how many events were met
     moves: u64,
@@ -79,7 +90,7 @@ impl Run {
     ghost use Rattle.vip_relation.specs.State.{most_cycles, interpreter, events_to, events_left, events_waiting};
     ghost use Rattle.vip_relation.specs.Stops.{stop_record};
     ghost use Rattle.vip_relation.specs.Follows.{Follows};
-    ghost use Rattle.vip_relation.specs.Meets.{StartAnswers, MeetsNext, HasStopped, StopsAgain, Rests};
+    ghost use Rattle.vip_relation.specs.Meets.{StartAnswers, ResumeAnswers, MeetsNext, HasStopped, StopsAgain, Rests};
     ghost use Rattle.vip_relation.specs.Parts.{MeetsHere, Runs, Steps};
 
     /// A board after reset with the ROM of an edition, a game in its memory and a key script. No move has been made. A game that is
@@ -97,19 +108,55 @@ impl Run {
         if game.len() > most_bytes(edition) {
             return Err(StartFault::GameTooLarge(game.len()));
         }
-        let game_copy = Vec::from_slice(alloc, game)?;
+        let bytes = Vec::from_slice(alloc, game)?;
         let rom = Places::of(edition).rom;
         let mut board = Board::reset(alloc, rom, script)?;
         board.load(GAME, game);
         Ok(Run {
             edition,
-            game: game_copy,
+            origin: Origin::Game,
+            bytes,
             board,
             moves: 0,
             met: 0,
             point: Point::Other,
             waits: Waits::Nothing,
             last: None,
+        })
+    }
+
+    /// A board at the state that a file shows, with the ROM of its edition and a key script. No move has been made, and the file's own dispatch
+    /// point counts as met. A file that isn't accepted is refused for its first fault.
+    pub fn resume(alloc: Global, file: &[u8], script: &Script) -> Result<Run, ResumeFault>
+        ensures answer { ResumeAnswers file.now script.now result }
+        ensures follows { IfOk result (λ run. Follows run) }
+        ensures runs { IfOk result (λ run. HasStopped run → ⊥) }
+    {
+        let edition = check_state(file)?;
+        let bytes = Vec::from_slice(alloc, file)?;
+        let registers = parts(file);
+        let rom = Places::of(edition).rom;
+        let board = Board::restore(
+            alloc,
+            rom,
+            script,
+            &registers,
+            &file[RAM..],
+            file[KEY],
+            cycle(file),
+        )?;
+        let point = point_at(edition, &board);
+        let last = name_point(edition, &board);
+        Ok(Run {
+            edition,
+            origin: Origin::File,
+            bytes,
+            board,
+            moves: 0,
+            met: 1,
+            point,
+            waits: Waits::Nothing,
+            last: Some(last),
         })
     }
 

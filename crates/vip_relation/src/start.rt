@@ -1,4 +1,4 @@
-//! Why a game isn't started, and with what one is.
+//! Why a run doesn't begin, and with what one does.
 
 ghost use Rattle.std.specs.Prelude.{◌≡◌};
 ghost use Rattle.chip8_lang.specs.State.{memory_size};
@@ -7,6 +7,7 @@ use chip8_image::{GAME, Places};
 use chip8_lang::Edition;
 use std::alloc::AllocError;
 use thiserror::Error;
+use vip_text::StateFault;
 
 /// Why a game was not started.
 #[derive(Clone, Copy, Debug, Error)]
@@ -27,6 +28,39 @@ impl From<AllocError> for StartFault {
 
     fn from(_error: AllocError) -> StartFault {
         StartFault::NoMemory
+    }
+}
+
+/// Why a run was not gone on with from a file.
+#[derive(Clone, Copy, Debug, Error)]
+pub enum ResumeFault {
+    /// The file isn't accepted.
+    #[error("{0}")]
+    State(StateFault),
+    /// No memory was left for the board.
+    #[error("NoMemory")]
+    NoMemory,
+}
+
+impl From<StateFault> for ResumeFault {
+    ghost use Rattle.std.specs.Prelude.{◌≡◌};
+    ghost use Rattle.vip_relation.specs.declared.start.ResumeFault.TheVariants.{State};
+
+    ghost from_gives = { λ fault answer. answer ≡ State fault };
+
+    fn from(fault: StateFault) -> ResumeFault {
+        ResumeFault::State(fault)
+    }
+}
+
+impl From<AllocError> for ResumeFault {
+    ghost use Rattle.std.specs.Prelude.{◌≡◌};
+    ghost use Rattle.vip_relation.specs.declared.start.ResumeFault.TheVariants.{NoMemory};
+
+    ghost from_gives = { λ _ answer. answer ≡ NoMemory };
+
+    fn from(_error: AllocError) -> ResumeFault {
+        ResumeFault::NoMemory
     }
 }
 

@@ -1,32 +1,29 @@
 -- The file of a machine state that may start is accepted, and shows that state.
-use Rattle.std.proofs.Common.{◌≡◌, ◌⊎◌, inl, inr, ℕ, suc, ◌+◌, ◌-◌, ◌*◌, ◌/◌, ◌%◌, ◌<◌, ◌≤◌, ◌^◌, Bool, true, false, List, ◌++◌, length, drop, take, min, slice_index, slice_range, refl, sym, ap, ◌∙◌, subst, arith, length-append}
+use Rattle.std.proofs.Common.{◌≡◌, ℕ, ◌+◌, ◌-◌, ◌*◌, ◌/◌, ◌%◌, ◌<◌, ◌≤◌, ◌^◌, Bool, true, false, List, ◌++◌, length, drop, take, min, slice_index, slice_range, refl, sym, ap, ◌∙◌, subst, arith, length-append}
 use Rattle.std.specs.Prelude.{◌==◌}
-use Rattle.std.proofs.lemmas.Bool.{cases_eq}
 use Rattle.std.proofs.lemmas.Nat.{from_be_bytes-to_be_bytes_8}
 use Rattle.std.proofs.lemmas.List.{drop_at, take_all}
 use Rattle.machine.specs.Bank.{value, Bank}
-use Rattle.machine.specs.Board.{Machine, start}
+use Rattle.machine.specs.Board.{Machine}
 use Rattle.machine.specs.Instruction.{Regs}
 use Rattle.machine.specs.Keys.{Event as KeyEvent}
 use Rattle.chip8_lang.specs.declared.view.Edition.{Edition}
 use Rattle.chip8_lang.specs.declared.view.Edition.TheVariants.{Usual, Tall}
 use Rattle.chip8_lang.specs.Editions.{stack_top}
-use Rattle.chip8_lang.specs.Events.{is_dispatch, is_stop}
-use Rattle.chip8_lang.specs.Places.{Interpreter, state_of, most_addresses}
-use Rattle.chip8_lang.specs.State.{memory_size}
+use Rattle.chip8_lang.specs.Events.{is_dispatch}
+use Rattle.chip8_lang.specs.Places.{state_of, most_addresses}
 use Rattle.rom_law.proofs.Places.{addresses_length}
 use Rattle.rom_run.specs.States.{MayStart}
-use Rattle.rom_run.specs.States.Beginning.{AtReset}
 use Rattle.rom_run.proofs.Starts.{dispatch_starts}
 use Rattle.vip_cpu.specs.Bit.{bit}
-use Rattle.vip_relation.specs.Follows.{Follows}
+use Rattle.vip_relation.specs.Follows.{Fits, Follows}
 use Rattle.chip8_image.specs.Interpreters.{interpreter_of}
-use Rattle.vip_relation.specs.State.{VipState, most_cycles, interpreter}
+use Rattle.vip_relation.specs.State.{Start, VipState, most_cycles, interpreter, machine_of}
 use Rattle.vip_relation.proofs.Past.{state, Runs}
 use Rattle.vip_text.specs.StateFile.{shown, bank_in, regs_in, cycle_in, word_at, file_size, head, edition_byte, IsAccepted, IsCycle}
 use Rattle.vip_show.specs.Written.{file_of, head_of}
-use Rattle.vip_show.proofs.Points.{no-stop}
-use Rattle.vip_show.proofs.Starts.{same_fetch, same_entry}
+use Rattle.vip_show.proofs.Points.{no-stop, one_more}
+use Rattle.rom_board.proofs.Starts.{beginning, same_fetch, same_entry}
 
 -- ---- the bytes, by their places
 
@@ -188,26 +185,16 @@ written e e' b b' ram l l' size hl' hl he hb hram =
 
 -- ---- the board of a run
 
--- one state more that is no stop point
-pub one_more : (i : Interpreter) (game : List ℕ) (script : List KeyEvent) (n : ℕ) → Runs i game script n → is_stop i (state i game script n) ≡ false
-    → Runs i game script (suc n)
-one_more i game script n runs here k below = go (cases_eq k n)
-  where
-    go : (k ≡ n) ⊎ (k ≡ n → ⊥) → is_stop i (state i game script k) ≡ false
-    go (inl same) = ap (λ k. is_stop i (state i game script k)) same ∙ here
-    go (inr differ) = runs k (omega (arith, below, differ))
-
-pub starts_by : (e : Edition) (game : List ℕ) (script : List KeyEvent) (n : ℕ) → length game ≤ memory_size e → ((k : ℕ) → slice_index game k < 256)
-    → Runs (interpreter_of e) game script n → is_dispatch (interpreter_of e) (state (interpreter_of e) game script n) ≡ true
-    → MayStart e (state (interpreter_of e) game script n)
-starts_by Usual game script n small bytes runs dispatch =
-    dispatch_starts Usual script (start game) (AtReset game small bytes) n
-    (one_more (interpreter_of Usual) game script n runs (no-stop (interpreter_of Usual) (state (interpreter_of Usual) game script n) dispatch)) dispatch
-starts_by Tall game script n small bytes runs dispatch =
-    dispatch_starts Tall script (start game) (AtReset game small bytes) n
-    (one_more (interpreter_of Tall) game script n runs (no-stop (interpreter_of Tall) (state (interpreter_of Tall) game script n) dispatch)) dispatch
+pub starts_by : (e : Edition) (s : Start) (script : List KeyEvent) (n : ℕ) → Fits e s → Runs (interpreter_of e) s script n
+    → is_dispatch (interpreter_of e) (state (interpreter_of e) s script n) ≡ true → MayStart e (state (interpreter_of e) s script n)
+starts_by Usual s script n fits runs dispatch =
+    dispatch_starts Usual script (machine_of s) (beginning Usual s fits) n
+    (one_more (interpreter_of Usual) s script n runs (no-stop (interpreter_of Usual) (state (interpreter_of Usual) s script n) dispatch)) dispatch
+starts_by Tall s script n fits runs dispatch =
+    dispatch_starts Tall script (machine_of s) (beginning Tall s fits) n
+    (one_more (interpreter_of Tall) s script n runs (no-stop (interpreter_of Tall) (state (interpreter_of Tall) s script n) dispatch)) dispatch
 
 pub saved-starts : (v : VipState) → Follows v → is_dispatch (interpreter v) v.board.machine ≡ true → MayStart v.edition v.board.machine
 saved-starts v f dispatch =
     subst (MayStart v.edition) (sym f.machine)
-    (starts_by v.edition v.game v.board.script v.moves f.fits f.bytes f.runs (ap (is_dispatch (interpreter v)) (sym f.machine) ∙ dispatch))
+    (starts_by v.edition v.start v.board.script v.moves f.fits f.runs (ap (is_dispatch (interpreter v)) (sym f.machine) ∙ dispatch))

@@ -1,17 +1,18 @@
 -- A run on its way: what was met is written, and what is left is to come.
-use Rattle.std.proofs.Common.{◌≡◌, ℕ, ◌+◌, ◌≤◌, List, [], ◌∷◌, ◌++◌, length, replicate, refl, sym, ap, ◌∙◌, subst, arith, Bool, true, false, append-nil, append_assoc}
+use Rattle.std.proofs.Common.{◌≡◌, ℕ, ◌+◌, ◌≤◌, List, [], ◌∷◌, ◌++◌, drop, length, replicate, refl, sym, ap, ◌∙◌, subst, arith, Bool, true, false, append-nil, append_assoc}
 use Rattle.std.specs.Prelude.{if◌then◌else◌, Option, Some, None, Result, Ok, Err, IsErr}
 use Rattle.std.specs.List.{flat_map}
 use Rattle.std.specs.Option.{option_map, option_map_or, option_to_list}
 use Rattle.std.proofs.lemmas.Grind.{flat_map-append}
 use Rattle.machine.specs.Board.{Machine}
 use Rattle.machine.specs.Pictures.{picture_of}
-use Rattle.machine.specs.Keys.{Event as KeyEvent}
+use Rattle.machine.specs.Keys.{Event as KeyEvent, held_at}
+use Rattle.machine.specs.Run.{run_to}
 use Rattle.chip8_lang.specs.declared.view.Edition.{Edition}
 use Rattle.chip8_lang.specs.declared.view.StopRecord.{StopRecord}
-use Rattle.chip8_lang.specs.Events.{Event, game_run}
+use Rattle.chip8_lang.specs.Events.{Event}
 use Rattle.chip8_lang.specs.Events.Event.{Picture, Dispatch, Stopped}
-use Rattle.chip8_lang.specs.Places.{state_of}
+use Rattle.chip8_lang.specs.Places.{Interpreter, state_of}
 use Rattle.chip8_lang.specs.View.{view_at}
 use Rattle.vip_outside.specs.Sink.{SinkMeaning, PutsWhole, PutFails, PutAnswers}
 use Rattle.vip_outside.specs.Pieces.{PutsAll, FailsWithin}
@@ -21,7 +22,8 @@ use Rattle.vip_text.specs.Summaries.{summary_line}
 use Rattle.vip_relation.specs.Follows.{Follows, last_dispatch, last_view, last_screen}
 use Rattle.vip_relation.proofs.Steps.{few-met}
 use Rattle.chip8_image.specs.Interpreters.{interpreter_of}
-use Rattle.vip_relation.specs.State.{VipState, interpreter, run_of, events_to, events_left, screen_size, screen_bytes}
+use Rattle.vip_relation.specs.State.Start.{Reset, Saved}
+use Rattle.vip_relation.specs.State.{Start, VipState, events_from, first_events, first_screen, first_view, interpreter, machine_of, run_of, events_to, events_left, screen_size, screen_bytes}
 use Rattle.vip_relation.specs.Stops.{pc_of, opcode_of}
 use Rattle.vip_relation.specs.declared.run.Met.TheVariants as met
 use Rattle.vip_text.specs.Endings.{ending_in}
@@ -31,9 +33,9 @@ use Rattle.vip_text.specs.declared.ending.RunEnd.TheVariants as run
 use Rattle.vip_show.specs.declared.run.Shown.{Shown}
 use Rattle.vip_show.specs.declared.run.Shown.TheVariants.{Lines, Pictures, Nothing}
 use Rattle.vip_show.specs.declared.run.Tally.{Tally}
-use Rattle.vip_show.specs.Answers.{IsFresh, Shows, ShowAnswers, traced, pictured, summed}
+use Rattle.vip_show.specs.Answers.{summary_of, IsFresh, Shows, ShowAnswers, traced, pictured, summed}
 use Rattle.vip_show.specs.Endings.{ending_after, ending_of}
-use Rattle.vip_show.specs.Output.{count_of, is_dispatch_event, is_picture_event, trace_lines, picture_pieces, screen_piece, lit_at, summary}
+use Rattle.vip_show.specs.Output.{count_of, is_dispatch_event, is_picture_event, trace_lines, picture_pieces, screen_piece, lit_at}
 use Rattle.vip_show.specs.Run.{piece_of, pieces_of, event_piece, screen_told, lit_told, PieceAnswers, Ran, RunAnswers}
 use Rattle.vip_relation.proofs.Meetings.{last-dispatched, last-kept}
 use Rattle.vip_relation.proofs.Nexts.{Dispatched, Pictured, Halted, Ended}
@@ -42,12 +44,12 @@ use Rattle.vip_show.proofs.Lists.{count-more, counted, stop-last}
 
 -- ---- the same run
 
--- the run and the pieces of a machine with the same edition, game and script
-run_same : (limit : ℕ) (v v' : VipState) → v'.edition ≡ v.edition → v'.game ≡ v.game → v'.board.script ≡ v.board.script → run_of v' limit ≡ run_of v limit
-run_same limit v v' e g s =
-    ap (λ x. game_run (interpreter_of x) v'.game v'.board.script limit) e
-    ∙ ap (λ x. game_run (interpreter_of v.edition) x v'.board.script limit) g
-    ∙ ap (λ (x : List KeyEvent). game_run (interpreter_of v.edition) v.game x limit) s
+-- the run and the pieces of a machine with the same edition, start and script
+run_same : (limit : ℕ) (v v' : VipState) → v'.edition ≡ v.edition → v'.start ≡ v.start → v'.board.script ≡ v.board.script → run_of v' limit ≡ run_of v limit
+run_same limit v v' e s k =
+    ap (λ x. run_to (interpreter_of x).rom (held_at v'.board.script) (machine_of v'.start) limit) e
+    ∙ ap (λ x. run_to (interpreter_of v.edition).rom (held_at v'.board.script) (machine_of x) limit) s
+    ∙ ap (λ (x : List KeyEvent). run_to (interpreter_of v.edition).rom (held_at x) (machine_of v.start) limit) k
 
 rom_same : (v v' : VipState) → v'.edition ≡ v.edition → (interpreter v').rom ≡ (interpreter v).rom
 rom_same v v' e = ap (λ x. (interpreter_of x).rom) e
@@ -59,19 +61,84 @@ length-snoc (x ∷ es) e = let same = length-snoc es e in omega (arith, same)
 plus-none : (n : ℕ) → n ≡ n + 0
 plus-none n = omega arith
 
+-- ---- the start
+
+by_first : (i : Interpreter) (script : List KeyEvent) (s : Start) (limit : ℕ)
+    → events_from i script s limit ≡ first_events s ++ drop (length (first_events s)) (events_from i script s limit)
+by_first i script (Reset game) limit = refl
+by_first i script (Saved file) limit = refl
+
+-- all events are those of the start and those that are left
+pub split-first : (v : VipState) (limit : ℕ) → v.met ≡ length (first_events v.start) → events_to v limit ≡ first_events v.start ++ events_left v limit
+split-first v limit met =
+    by_first (interpreter v) v.board.script v.start limit ∙ ap (λ n. first_events v.start ++ drop n (events_to v limit)) (sym met)
+
+pub first-view : (e : Edition) (s : Start) → first_view e s ≡ last_view e (first_events s)
+first-view e (Reset game) = refl
+first-view e (Saved file) = refl
+
+first-screen : (e : Edition) (s : Start) → first_screen e s ≡ last_screen e (first_events s)
+first-screen e (Reset game) = refl
+first-screen e (Saved file) = refl
+
+ends_by : (e : Edition) (s : Start) (left : List Event)
+    → ending_of e (first_events s ++ left) ≡ ending_after e (pc_of (first_view e s)) (opcode_of (first_view e s)) left
+unfolding ending_after
+ends_by e (Reset game) left = refl
+ends_by e (Saved file) left = refl
+
+pub ends-first : (v : VipState) (limit : ℕ) → IsFresh v
+    → ending_of v.edition (events_to v limit) ≡ ending_after v.edition (pc_of v.last) (opcode_of v.last) (events_left v limit)
+ends-first v limit fresh =
+    ap (ending_of v.edition) (split-first v limit fresh.met) ∙ ends_by v.edition v.start (events_left v limit)
+    ∙ ap (λ last. ending_after v.edition (pc_of last) (opcode_of last) (events_left v limit)) (sym fresh.last)
+
+-- the screen that is told of at the start
+pub first-told : (v : VipState) → IsFresh v → (pc : ℕ) → Some pc ≡ option_map (λ view. view.pc) v.last → screen_bytes v.edition v.board.machine ≡ v.shown
+first-told v fresh pc some = by_start v.start refl
+  where
+    by_start : (s : Start) → v.start ≡ s → screen_bytes v.edition v.board.machine ≡ v.shown
+    by_start (Reset game) is = absurd (differ (some ∙ ap (option_map (λ view. view.pc)) (fresh.last ∙ ap (first_view v.edition) is)))
+      where
+        differ : Some pc ≡ None → ⊥
+        differ h = cc
+    by_start (Saved file) is =
+        ap (screen_bytes v.edition) (fresh.stands file is ∙ ap machine_of is) ∙ sym (fresh.screen ∙ ap (first_screen v.edition) is)
+
+pub first-dark : (v : VipState) → IsFresh v → None ≡ option_map (λ view. view.pc) v.last → replicate (screen_size v.edition) 0 ≡ v.shown
+first-dark v fresh none = by_start v.start refl
+  where
+    by_start : (s : Start) → v.start ≡ s → replicate (screen_size v.edition) 0 ≡ v.shown
+    by_start (Reset game) is = sym (fresh.screen ∙ ap (first_screen v.edition) is)
+    by_start (Saved file) is = absurd (differ _ (none ∙ ap (option_map (λ view. view.pc)) (fresh.last ∙ ap (first_view v.edition) is)))
+      where
+        differ : (pc : ℕ) → None ≡ Some pc → ⊥
+        differ pc h = cc
+
+-- where nothing is told at the start there are no events there
+pub none-first : (v : VipState) → IsFresh v → v.last ≡ None → first_events v.start ≡ []
+none-first v fresh none = by_start v.start (sym fresh.last ∙ none)
+  where
+    by_start : (s : Start) → first_view v.edition s ≡ None → first_events s ≡ []
+    by_start (Reset game) h = refl
+    by_start (Saved file) h = cc
+
 -- ---- on its way
 
 -- From a start up to v, with these counts: of the events up to the limit some are met and written.
 pub record Going (shown : Shown) (limit : ℕ) (start v : VipState) (out out' : SinkMeaning) (dispatches pictures : ℕ) : Type 0 where
   pub edition : v.edition ≡ start.edition
-  pub game : v.game ≡ start.game
+  pub begun : v.start ≡ start.start
   pub script : v.board.script ≡ start.board.script
   pub done : List Event
   pub split : events_to start limit ≡ done ++ events_left v limit
-  pub met : v.met ≡ length done
-  pub puts : PutsAll (pieces_of shown start limit done) out out'
-  pub dispatches_are : dispatches ≡ count_of is_dispatch_event done
-  pub pictures_are : pictures ≡ count_of is_picture_event done
+  -- those behind the start
+  pub behind : List Event
+  pub split_behind : events_left start limit ≡ behind ++ events_left v limit
+  pub met : length behind ≤ v.met
+  pub puts : PutsAll (pieces_of shown start limit behind) out out'
+  pub dispatches_are : dispatches ≡ count_of is_dispatch_event behind
+  pub pictures_are : pictures ≡ count_of is_picture_event behind
   pub last : v.last ≡ last_view start.edition done
   pub screen : v.shown ≡ last_screen start.edition done
   pub ends : ending_of start.edition (events_to start limit) ≡ ending_after start.edition (pc_of v.last) (opcode_of v.last) (events_left v limit)
@@ -81,17 +148,19 @@ module _ (shown : Shown) (limit : ℕ) (start : VipState) (out : SinkMeaning) wh
   pub going-first : IsFresh start → Going shown limit start start out out 0 0
   going-first fresh = record {
     edition = refl;
-    game = refl;
+    begun = refl;
     script = refl;
-    done = [];
-    split = rw fresh.met refl;
-    met = fresh.met;
+    done = first_events start.start;
+    split = split-first start limit fresh.met;
+    behind = [];
+    split_behind = refl;
+    met = omega arith;
     puts = PutsAll-nil out;
     dispatches_are = refl;
     pictures_are = refl;
-    last = fresh.last;
-    screen = fresh.dark;
-    ends = rw (fresh.last, fresh.met) refl;
+    last = fresh.last ∙ first-view start.edition start.start;
+    screen = fresh.screen ∙ first-screen start.edition start.start;
+    ends = ends-first start limit fresh;
   }
 
   module _ (v v' : VipState) (out' out'' : SinkMeaning) (dispatches pictures : ℕ) (g : Going shown limit start v out out' dispatches pictures) where
@@ -102,39 +171,44 @@ module _ (shown : Shown) (limit : ℕ) (start : VipState) (out : SinkMeaning) wh
     abbrev piece_here : Event → List (List ℕ)
     piece_here event = piece_of shown start.edition (interpreter start).rom (run_of start limit) event
 
-    puts-next : (event : Event) → PutsAll (piece_here event) out' out'' → PutsAll (pieces_of shown start limit (g.done ++ event ∷ [])) out out''
+    next_behind : (event : Event) (rest : List Event) → events_left v limit ≡ event ∷ rest → events_left start limit ≡ (g.behind ++ event ∷ []) ++ rest
+    next_behind event rest split = g.split_behind ∙ ap (λ left. g.behind ++ left) split ∙ sym (append_assoc g.behind (event ∷ []) rest)
+
+    puts-next : (event : Event) → PutsAll (piece_here event) out' out'' → PutsAll (pieces_of shown start limit (g.behind ++ event ∷ [])) out out''
     puts-next event put =
-        rw (flat_map-append (piece_of shown start.edition (interpreter start).rom (run_of start limit)) g.done (event ∷ []), append-nil)
-        (PutsAll-append (pieces_of shown start limit g.done) (piece_here event) out out' out'' g.puts put)
+        rw (flat_map-append (piece_of shown start.edition (interpreter start).rom (run_of start limit)) g.behind (event ∷ []), append-nil)
+        (PutsAll-append (pieces_of shown start limit g.behind) (piece_here event) out out' out'' g.puts put)
 
     -- a fault at the piece of this event
     pub fails-next : (event : Event) (rest : List Event) (piece : List ℕ) → events_left v limit ≡ event ∷ rest → piece_here event ≡ piece ∷ []
-        → PutFails piece out' out'' → FailsWithin (pieces_of shown start limit (events_to start limit)) out out''
+        → PutFails piece out' out'' → FailsWithin (pieces_of shown start limit (events_left start limit)) out out''
     fails-next event rest piece split is fault =
         rw (
-          next event rest split,
-          flat_map-append (piece_of shown start.edition (interpreter start).rom (run_of start limit)) (g.done ++ event
+          next_behind event rest split,
+          flat_map-append (piece_of shown start.edition (interpreter start).rom (run_of start limit)) (g.behind ++ event
               ∷ []) rest,
-          flat_map-append (piece_of shown start.edition (interpreter start).rom (run_of start limit)) g.done (event
+          flat_map-append (piece_of shown start.edition (interpreter start).rom (run_of start limit)) g.behind (event
               ∷ []),
           append-nil,
           is,
         )
-        (FailsWithin-more (pieces_of shown start limit g.done ++ piece ∷ []) (pieces_of shown start limit rest) out out''
-        (FailsWithin-snoc (pieces_of shown start limit g.done) piece [] out out' out'' g.puts fault))
+        (FailsWithin-more (pieces_of shown start limit g.behind ++ piece ∷ []) (pieces_of shown start limit rest) out out''
+        (FailsWithin-snoc (pieces_of shown start limit g.behind) piece [] out out' out'' g.puts fault))
 
     pub going-dispatch : (d : Dispatched limit v v' (events_left v limit)) → PutsAll (piece_here (Dispatch d.b)) out' out''
         → Going shown limit start v' out out'' (dispatches + 1) pictures
     going-dispatch d put = record {
       edition = d.meets.one.same.edition ∙ g.edition;
-      game = d.meets.one.same.game ∙ g.game;
+      begun = d.meets.one.same.start ∙ g.begun;
       script = d.meets.one.same.script ∙ g.script;
       done = g.done ++ Dispatch d.b ∷ [];
       split = next (Dispatch d.b) d.rest d.split ∙ ap (λ left. (g.done ++ Dispatch d.b ∷ []) ++ left) (sym d.meets.one.left);
-      met = rw (d.meets.one.met, g.met) (sym (length-snoc g.done (Dispatch d.b)));
+      behind = g.behind ++ Dispatch d.b ∷ [];
+      split_behind = next_behind (Dispatch d.b) d.rest d.split ∙ ap (λ left. (g.behind ++ Dispatch d.b ∷ []) ++ left) (sym d.meets.one.left);
+      met = omega (arith, length-snoc g.behind (Dispatch d.b), d.meets.one.met, g.met);
       puts = puts-next (Dispatch d.b) put;
-      dispatches_are = rw (count-more is_dispatch_event g.done (Dispatch d.b)) (ap (λ n. n + 1) g.dispatches_are);
-      pictures_are = rw (count-more is_picture_event g.done (Dispatch d.b)) (g.pictures_are ∙ plus-none _);
+      dispatches_are = rw (count-more is_dispatch_event g.behind (Dispatch d.b)) (ap (λ n. n + 1) g.dispatches_are);
+      pictures_are = rw (count-more is_picture_event g.behind (Dispatch d.b)) (g.pictures_are ∙ plus-none _);
       last = last_is;
       screen =
           d.meets.shown ∙ ap (λ e. screen_bytes e d.b) g.edition
@@ -149,14 +223,16 @@ module _ (shown : Shown) (limit : ℕ) (start : VipState) (out : SinkMeaning) wh
         → Going shown limit start v' out out'' dispatches (pictures + 1)
     going-picture d put = record {
       edition = d.meets.one.same.edition ∙ g.edition;
-      game = d.meets.one.same.game ∙ g.game;
+      begun = d.meets.one.same.start ∙ g.begun;
       script = d.meets.one.same.script ∙ g.script;
       done = g.done ++ Picture d.m ∷ [];
       split = next (Picture d.m) d.rest d.split ∙ ap (λ left. (g.done ++ Picture d.m ∷ []) ++ left) (sym d.meets.one.left);
-      met = rw (d.meets.one.met, g.met) (sym (length-snoc g.done (Picture d.m)));
+      behind = g.behind ++ Picture d.m ∷ [];
+      split_behind = next_behind (Picture d.m) d.rest d.split ∙ ap (λ left. (g.behind ++ Picture d.m ∷ []) ++ left) (sym d.meets.one.left);
+      met = omega (arith, length-snoc g.behind (Picture d.m), d.meets.one.met, g.met);
       puts = puts-next (Picture d.m) put;
-      dispatches_are = rw (count-more is_dispatch_event g.done (Picture d.m)) (g.dispatches_are ∙ plus-none _);
-      pictures_are = rw (count-more is_picture_event g.done (Picture d.m)) (ap (λ n. n + 1) g.pictures_are);
+      dispatches_are = rw (count-more is_dispatch_event g.behind (Picture d.m)) (g.dispatches_are ∙ plus-none _);
+      pictures_are = rw (count-more is_picture_event g.behind (Picture d.m)) (ap (λ n. n + 1) g.pictures_are);
       last = d.meets.told.last ∙ g.last ∙ sym (ap (λ p. option_map (view_at start.edition) p) (last-kept g.done (Picture d.m) refl));
       screen =
           d.meets.told.shown ∙ g.screen ∙ sym
@@ -170,16 +246,16 @@ module _ (shown : Shown) (limit : ℕ) (start : VipState) (out : SinkMeaning) wh
         → v'.board.pictures.finished ≡ Some (picture_of (interpreter start).rom (run_of start limit) d.m)
     picture-lent d =
         d.meets.picture ∙ ap (λ rom. Some (picture_of rom (run_of v limit) d.m)) (rom_same start v g.edition)
-        ∙ ap (λ run. Some (picture_of (interpreter start).rom run d.m)) (run_same limit start v g.edition g.game g.script)
+        ∙ ap (λ run. Some (picture_of (interpreter start).rom run d.m)) (run_same limit start v g.edition g.begun g.script)
 
     -- at the limit all events are met
     pub ran-end : (e : Ended limit v v' (events_left v limit)) → (tally : Tally) → tally.end ≡ run.AtLimit → tally.dispatches ≡ dispatches
         → tally.pictures ≡ pictures → Ran shown limit start v' out out' tally
     ran-end e tally end ds ps = record {
-      puts = subst (λ events. PutsAll (pieces_of shown start limit events) out out') (sym all) g.puts;
+      puts = subst (λ events. PutsAll (pieces_of shown start limit events) out out') (sym all_behind) g.puts;
       ending = ap ending_in end ∙ sym (g.ends ∙ ap (ending_after start.edition (pc_of v.last) (opcode_of v.last)) e.none ∙ (unfold ending_after in refl));
-      dispatches = ds ∙ g.dispatches_are ∙ ap (count_of is_dispatch_event) (sym all);
-      pictures = ps ∙ g.pictures_are ∙ ap (count_of is_picture_event) (sym all);
+      dispatches = ds ∙ g.dispatches_are ∙ ap (count_of is_dispatch_event) (sym all_behind);
+      pictures = ps ∙ g.pictures_are ∙ ap (count_of is_picture_event) (sym all_behind);
       edition = e.ends.same.edition ∙ g.edition;
       last = e.ends.told.last ∙ g.last ∙ ap (last_view start.edition) (sym all);
       screen = e.ends.told.shown ∙ g.screen ∙ ap (last_screen start.edition) (sym all);
@@ -187,6 +263,9 @@ module _ (shown : Shown) (limit : ℕ) (start : VipState) (out : SinkMeaning) wh
       where
         all : events_to start limit ≡ g.done
         all = g.split ∙ ap (λ left. g.done ++ left) e.none ∙ append-nil g.done
+
+        all_behind : events_left start limit ≡ g.behind
+        all_behind = g.split_behind ∙ ap (λ left. g.behind ++ left) e.none ∙ append-nil g.behind
 
 -- ---- what was put
 
@@ -223,19 +302,19 @@ module _ (shown : Shown) (limit : ℕ) (start : VipState) (out : SinkMeaning) (v
 
     fails : (event : Event) (rest : List Event) (piece : Option (List ℕ)) (e : Failed) → events_left v limit ≡ event ∷ rest
         → option_to_list piece ≡ piece_of shown start.edition (interpreter start).rom (run_of start limit) event
-        → PieceAnswers piece out' out'' (Err e) → FailsWithin (pieces_of shown start limit (events_to start limit)) out out''
+        → PieceAnswers piece out' out'' (Err e) → FailsWithin (pieces_of shown start limit (events_left start limit)) out out''
     fails event rest None e split is fault = let bad = fault.0 in cc
     fails event rest (Some piece) e split is fault =
         fails-next shown limit start out v v' out' out'' dispatches pictures g event rest piece split (sym is) fault
 
     pub fails-dispatch : (d : Dispatched limit v v' (events_left v limit)) (e : Failed)
         → PieceAnswers (event_piece shown met.Dispatch v') out' out'' (Err e)
-        → FailsWithin (pieces_of shown start limit (events_to start limit)) out out''
+        → FailsWithin (pieces_of shown start limit (events_left start limit)) out out''
     fails-dispatch d e fault = fails (Dispatch d.b) d.rest (event_piece shown met.Dispatch v') e d.split (dispatch_piece shown d) fault
 
     pub fails-picture : (d : Pictured limit v v' (events_left v limit)) (e : Failed)
         → PieceAnswers (event_piece shown met.Picture v') out' out'' (Err e)
-        → FailsWithin (pieces_of shown start limit (events_to start limit)) out out''
+        → FailsWithin (pieces_of shown start limit (events_left start limit)) out out''
     fails-picture d e fault = fails (Picture d.m) d.rest (event_piece shown met.Picture v') e d.split (picture_piece_is shown d) fault
 
 -- the screen of the dispatch point where the board stands is that of the last one met
@@ -246,7 +325,7 @@ screen-here limit v v' left d bytes is =
 
 -- at whatever error is passed on
 pub run-fails : (shown : Shown) (limit : ℕ) (old new : VipState) (out out' : SinkMeaning) (r : Result Tally Failed) → IsErr r
-    → FailsWithin (pieces_of shown old limit (events_to old limit)) out out' → RunAnswers shown limit old new out out' r
+    → FailsWithin (pieces_of shown old limit (events_left old limit)) out out' → RunAnswers shown limit old new out out' r
 run-fails shown limit old new out out' (Ok tally) bad fault = cc
 run-fails shown limit old new out out' (Err e) bad fault = fault
 
@@ -257,16 +336,16 @@ module _ (shown : Shown) (limit : ℕ) (start : VipState) (out : SinkMeaning) (v
       → tally.dispatches ≡ dispatches → tally.pictures ≡ pictures → Ran shown limit start v' out out' tally
   ran-stop stop h tally end ds ps = record {
     puts =
-        subst (λ events. PutsAll (pieces_of shown start limit events) out out') (sym all)
+        subst (λ events. PutsAll (pieces_of shown start limit events) out out') (sym all_behind)
         (rw (
-          flat_map-append (piece_of shown start.edition (interpreter start).rom (run_of start limit)) g.done (Stopped h.b
+          flat_map-append (piece_of shown start.edition (interpreter start).rom (run_of start limit)) g.behind (Stopped h.b
               ∷ []),
           none shown,
           append-nil,
         ) g.puts);
     ending = ap ending_in end ∙ sym (g.ends ∙ ap (ending_after start.edition (pc_of v.last) (opcode_of v.last)) h.split ∙ here);
-    dispatches = ds ∙ g.dispatches_are ∙ plus-none _ ∙ sym (count-more is_dispatch_event g.done (Stopped h.b)) ∙ ap (count_of is_dispatch_event) (sym all);
-    pictures = ps ∙ g.pictures_are ∙ plus-none _ ∙ sym (count-more is_picture_event g.done (Stopped h.b)) ∙ ap (count_of is_picture_event) (sym all);
+    dispatches = ds ∙ g.dispatches_are ∙ plus-none _ ∙ sym (count-more is_dispatch_event g.behind (Stopped h.b)) ∙ ap (count_of is_dispatch_event) (sym all_behind);
+    pictures = ps ∙ g.pictures_are ∙ plus-none _ ∙ sym (count-more is_picture_event g.behind (Stopped h.b)) ∙ ap (count_of is_picture_event) (sym all_behind);
     edition = h.meets.one.same.edition ∙ g.edition;
     last =
         h.meets.told.last ∙ g.last ∙ sym (ap (λ p. option_map (view_at start.edition) p) (last-kept g.done (Stopped h.b) refl))
@@ -280,8 +359,15 @@ module _ (shown : Shown) (limit : ℕ) (start : VipState) (out : SinkMeaning) (v
       so_far : events_to start limit ≡ g.done ++ Stopped h.b ∷ h.rest
       so_far = g.split ∙ ap (λ left. g.done ++ left) h.split
 
+      none_behind : h.rest ≡ []
+      none_behind = stop-last (interpreter start) start.start start.board.script limit g.done h.b h.rest so_far
+
       all : events_to start limit ≡ g.done ++ Stopped h.b ∷ []
-      all = so_far ∙ ap (λ rest. g.done ++ Stopped h.b ∷ rest) (stop-last (interpreter start) start.game start.board.script limit g.done h.b h.rest so_far)
+      all = so_far ∙ ap (λ rest. g.done ++ Stopped h.b ∷ rest) none_behind
+
+      all_behind : events_left start limit ≡ g.behind ++ Stopped h.b ∷ []
+      all_behind =
+          g.split_behind ∙ ap (λ left. g.behind ++ left) h.split ∙ ap (λ rest. g.behind ++ Stopped h.b ∷ rest) none_behind
 
       none : (s : Shown) → flat_map (piece_of s start.edition (interpreter start).rom (run_of start limit)) (Stopped h.b ∷ []) ≡ []
       none (Lines with_time) = refl
@@ -302,8 +388,8 @@ pub counts-fit : (shown : Shown) (limit : ℕ) (start v v' : VipState) (out out'
     → (dispatches ≤ 8_000_000_001) × (pictures ≤ 8_000_000_001)
 counts-fit shown limit start v v' out out' dispatches pictures g follows one =
     let few : v'.met ≤ 8_000_000_002 = few-met v' follows in
-    let ds : count_of is_dispatch_event g.done ≤ length g.done = counted is_dispatch_event g.done in
-    let ps : count_of is_picture_event g.done ≤ length g.done = counted is_picture_event g.done in
+    let ds : count_of is_dispatch_event g.behind ≤ length g.behind = counted is_dispatch_event g.behind in
+    let ps : count_of is_picture_event g.behind ≤ length g.behind = counted is_picture_event g.behind in
     (omega (arith, few, one, g.met, ds, g.dispatches_are), omega (arith, few, one, g.met, ps, g.pictures_are))
 
 -- ---- what the whole run writes
@@ -314,12 +400,12 @@ pub show-fails : (v : VipState) (limit : ℕ) (pieces : List (List ℕ)) (out ou
 show-fails v limit pieces out out' (Ok end) bad fault = cc
 show-fails v limit pieces out out' (Err e) bad fault = fault
 
-pub pictures-are : (v : VipState) (limit : ℕ) → pieces_of Pictures v limit (events_to v limit) ≡ pictured v limit
+pub pictures-are : (v : VipState) (limit : ℕ) → pieces_of Pictures v limit (events_left v limit) ≡ pictured v limit
 unfolding picture_pieces
 pictures-are v limit = refl
 
 pub lines-are : (with_time : Bool) (v : VipState) (limit : ℕ)
-    → pieces_of (Lines with_time) v limit (events_to v limit) ≡ trace_lines v.edition with_time (events_to v limit)
+    → pieces_of (Lines with_time) v limit (events_left v limit) ≡ trace_lines v.edition with_time (events_left v limit)
 unfolding trace_lines
 lines-are with_time v limit = refl
 
@@ -335,7 +421,7 @@ lit_of e None v edition told shown = rw told refl
 lit_of e (Some b) v edition told shown = rw (told, edition, shown) (unfold state_of in refl)
 
 module _ (with_time : Bool) (limit : ℕ) (old new : VipState) (out out' out'' : SinkMeaning) (tally : Tally) (ran : Ran (Lines with_time) limit old new out out' tally) where
-  lines_out : PutsAll (trace_lines old.edition with_time (events_to old limit)) out out'
+  lines_out : PutsAll (trace_lines old.edition with_time (events_left old limit)) out out'
   lines_out = subst (λ pieces. PutsAll pieces out out') (lines-are with_time old limit) ran.puts
 
   screen : option_to_list (screen_told new) ≡ screen_piece old.edition (last_dispatch (events_to old limit))
@@ -346,7 +432,7 @@ module _ (with_time : Bool) (limit : ℕ) (old new : VipState) (out out' out'' :
       → Shows old limit (traced with_time true old limit) out out'' tally.end
   traced-whole done put = record {
     puts =
-        PutsAll-append (trace_lines old.edition with_time (events_to old limit))
+        PutsAll-append (trace_lines old.edition with_time (events_left old limit))
         (screen_piece old.edition (last_dispatch (events_to old limit))) out out' out'' lines_out
         (rw (← screen) (puts-piece (screen_told new) out' out'' done put));
     ending = ran.ending;
@@ -359,16 +445,16 @@ module _ (with_time : Bool) (limit : ℕ) (old new : VipState) (out out' out'' :
       → PieceAnswers piece out' out'' (Err e) → FailsWithin (traced with_time true old limit) out out''
   fails_at None e is fault = let bad = fault.0 in cc
   fails_at (Some piece) e is fault =
-      rw (← is) (FailsWithin-snoc (trace_lines old.edition with_time (events_to old limit)) piece [] out out' out'' lines_out fault)
+      rw (← is) (FailsWithin-snoc (trace_lines old.edition with_time (events_left old limit)) piece [] out out' out'' lines_out fault)
 
   pub traced-fails : (e : Failed) → PieceAnswers (screen_told new) out' out'' (Err e) → FailsWithin (traced with_time true old limit) out out''
   traced-fails e fault = fails_at (screen_told new) e screen fault
 
 -- a fault among the lines
 pub traced-early : (with_time with_screen : Bool) (v : VipState) (limit : ℕ) (out out' : SinkMeaning)
-    → FailsWithin (pieces_of (Lines with_time) v limit (events_to v limit)) out out' → FailsWithin (traced with_time with_screen v limit) out out'
+    → FailsWithin (pieces_of (Lines with_time) v limit (events_left v limit)) out out' → FailsWithin (traced with_time with_screen v limit) out out'
 traced-early with_time with_screen v limit out out' fault =
-    FailsWithin-more (trace_lines v.edition with_time (events_to v limit))
+    FailsWithin-more (trace_lines v.edition with_time (events_left v limit))
     (if with_screen then screen_piece v.edition (last_dispatch (events_to v limit)) else []) out out'
     (subst (λ pieces. FailsWithin pieces out out') (lines-are with_time v limit) fault)
 
@@ -380,18 +466,18 @@ module _ (number limit : ℕ) (old new : VipState) (out out' out'' : SinkMeaning
   none (event ∷ events) = none events
 
   nothing_out : PutsAll [] out out'
-  nothing_out = subst (λ pieces. PutsAll pieces out out') (none (events_to old limit)) ran.puts
+  nothing_out = subst (λ pieces. PutsAll pieces out out') (none (events_left old limit)) ran.puts
 
   abbrev pub line_told : List ℕ
   line_told = summary_line number tally.dispatches tally.pictures (lit_told new)
 
-  line_is : line_told ≡ summary old.edition number (events_to old limit)
+  line_is : line_told ≡ summary_of number old limit
   line_is = rw (ran.dispatches, ran.pictures, lit_of old.edition (last_dispatch (events_to old limit)) new ran.edition ran.last ran.screen) refl
 
   pub summed-whole : PutsWhole line_told out' out'' → Shows old limit (summed number old limit) out out'' tally.end
   summed-whole put = record {
     puts =
-        PutsAll-append [] (summary old.edition number (events_to old limit) ∷ []) out out' out'' nothing_out
+        PutsAll-append [] (summary_of number old limit ∷ []) out out' out'' nothing_out
         (subst (λ line. PutsAll (line ∷ []) out' out'') line_is (PutsAll-one line_told out' out'' put));
     ending = ran.ending;
   }
@@ -400,8 +486,8 @@ module _ (number limit : ℕ) (old new : VipState) (out out' out'' : SinkMeaning
   summed-fails fault = subst (λ line. FailsWithin (line ∷ []) out out'') line_is (FailsWithin-snoc [] line_told [] out out' out'' nothing_out fault)
 
 pub summed-early : (number : ℕ) (v : VipState) (limit : ℕ) (out out' : SinkMeaning)
-    → FailsWithin (pieces_of Nothing v limit (events_to v limit)) out out' → FailsWithin (summed number v limit) out out'
-summed-early number v limit out out' fault = absurd (never _ (no_pieces (events_to v limit)) fault.before fault.piece fault.after fault.place)
+    → FailsWithin (pieces_of Nothing v limit (events_left v limit)) out out' → FailsWithin (summed number v limit) out out'
+summed-early number v limit out out' fault = absurd (never _ (no_pieces (events_left v limit)) fault.before fault.piece fault.after fault.place)
   where
     no_pieces : (events : List Event) → pieces_of Nothing v limit events ≡ []
     no_pieces [] = refl

@@ -2,15 +2,11 @@ pub mod Lists
 pub mod Screens
 pub mod Endings
 pub mod Going
-pub mod Starts
-pub mod Along
+pub mod Fresh
 pub mod Points
 pub mod Copied
-pub mod ResumedGoing
 pub mod Files
-pub mod Opened
 pub mod Saving
-pub mod Resuming
 pub mod Rest
 pub mod Again
 pub mod OneAnswer

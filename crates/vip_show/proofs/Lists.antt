@@ -8,6 +8,8 @@ use Rattle.machine.specs.Pictures.{windows_ended, is_shown}
 use Rattle.chip8_lang.specs.Events.{Event, is_dispatch, is_stop, events_at, events_of, game_run, numbers_from}
 use Rattle.chip8_lang.specs.Events.Event.{Picture, Dispatch, Stopped}
 use Rattle.chip8_lang.specs.Places.{Interpreter}
+use Rattle.vip_relation.specs.State.{Start, events_from, machine_of}
+use Rattle.vip_relation.specs.State.Start.{Reset, Saved}
 use Rattle.vip_show.specs.Output.{count_of}
 
 -- ---- counts
@@ -60,8 +62,11 @@ closed-last (Dispatch d ∷ done) b rest c = closed-last done b rest c
 closed-last (Stopped d ∷ []) b rest c = cc
 closed-last (Stopped d ∷ e ∷ done) b rest c = cc
 
-pub stop-last : (i : Interpreter) (game : List ℕ) (script : List KeyEvent) (limit : ℕ) (done : List Event) (b : Machine) (rest : List Event)
-    → events_of i game script limit ≡ done ++ Stopped b ∷ rest → rest ≡ []
-unfolding events_of
-stop-last i game script limit done b rest split =
-    closed-last done b rest (subst Closed split (events-closed i (game_run i game script limit) 0 (game_run i game script limit)))
+run_closed : (i : Interpreter) (script : List KeyEvent) (s : Start) (limit : ℕ) → Closed (events_from i script s limit)
+unfolding events_of Closed
+run_closed i script (Reset game) limit = events-closed i (game_run i game script limit) 0 (game_run i game script limit)
+run_closed i script (Saved file) limit = events-closed i _ (machine_of (Saved file)).cycle _
+
+pub stop-last : (i : Interpreter) (s : Start) (script : List KeyEvent) (limit : ℕ) (done : List Event) (b : Machine) (rest : List Event)
+    → events_from i script s limit ≡ done ++ Stopped b ∷ rest → rest ≡ []
+stop-last i s script limit done b rest split = closed-last done b rest (subst Closed split (run_closed i script s limit))

@@ -1,5 +1,6 @@
 -- The points among the events of a run, and the rest of a run behind a dispatch point.
-use Rattle.std.proofs.Common.{◌≡◌, ℕ, suc, ◌≤◌, ◌&&◌, Bool, true, false, List, [], ◌∷◌, ◌++◌, map, filter, ◌-◌, refl, sym, ap, ◌∙◌, subst, arith}
+use Rattle.std.proofs.lemmas.Bool.{cases_eq}
+use Rattle.std.proofs.Common.{◌≡◌, ◌⊎◌, inl, inr, ℕ, suc, ◌≤◌, ◌&&◌, Bool, true, false, List, [], ◌∷◌, ◌++◌, map, filter, ◌-◌, refl, sym, ap, ◌∙◌, subst, arith}
 use Rattle.std.specs.Prelude.{if◌then◌else◌, ◌==◌}
 use Rattle.machine.specs.Instruction.{at}
 use Rattle.machine.specs.Board.{Machine, case_of, move}
@@ -9,11 +10,13 @@ use Rattle.machine.specs.Run.{run_to}
 use Rattle.machine.proofs.Runs.{later-move}
 use Rattle.chip8_lang.specs.declared.view.Edition.{Edition}
 use Rattle.chip8_lang.specs.declared.view.Edition.TheVariants.{Usual, Tall}
-use Rattle.chip8_lang.specs.Events.{Event, is_dispatch, is_stop, is_instruction, events_at, events_of, game_run, numbers_from, events_behind}
+use Rattle.chip8_lang.specs.Events.{Event, is_dispatch, is_stop, is_instruction, events_at, events_of, numbers_from, events_behind}
 use Rattle.chip8_lang.specs.Events.Event.{Picture, Dispatch, Stopped}
 use Rattle.chip8_lang.specs.Places.{Interpreter}
 use Rattle.rom_rows.specs.Rom.{vip}
 use Rattle.chip8_image.specs.Interpreters.{interpreter_of}
+use Rattle.vip_relation.specs.State.{Start, events_from, machine_of}
+use Rattle.vip_relation.specs.State.Start.{Reset}
 use Rattle.vip_relation.proofs.Past.{past, state, Runs, events-last, events-on}
 use Rattle.vip_show.specs.Points.{points_at, points_behind, points_of}
 use Rattle.vip_show.specs.Laws.{GoesOnWithRun}
@@ -47,11 +50,16 @@ pub same_interpreter : (e : Edition) → (vip e).interpreter ≡ interpreter_of 
 same_interpreter Usual = refl
 same_interpreter Tall = refl
 
+pub points_behind_are : (i : Interpreter) (script : List KeyEvent) (b : Machine) (limit : ℕ)
+    → points_of (events_behind i script b limit) ≡ points_behind i script b limit
+unfolding points_behind
+points_behind_are i script b limit =
+    points_of-events_at i (run_to i.rom (held_at script) b limit) b.cycle (run_to i.rom (held_at script) (move i.rom (held_at script) b) limit)
+
 pub points_of-behind : (e : Edition) (script : List KeyEvent) (b : Machine) (limit : ℕ)
     → points_of (events_behind (vip e).interpreter script b limit) ≡ points_behind (interpreter_of e) script b limit
-unfolding points_behind
 points_of-behind e script b limit =
-    points_of-events_at (vip e).interpreter _ b.cycle _
+    points_behind_are (vip e).interpreter script b limit
     ∙ ap (λ (i : Interpreter). points_behind i script b limit) (same_interpreter e)
 
 -- a dispatch point is no stop point
@@ -64,25 +72,34 @@ no-stop i b h = either_point (is_instruction (case_of b)) (at b.regs 4 == i.fetc
 
 -- ---- the rest of a run
 
+-- one state more that is no stop point
+pub one_more : (i : Interpreter) (s : Start) (script : List KeyEvent) (n : ℕ) → Runs i s script n → is_stop i (state i s script n) ≡ false
+    → Runs i s script (suc n)
+one_more i s script n runs here k below = go (cases_eq k n)
+  where
+    go : (k ≡ n) ⊎ (k ≡ n → ⊥) → is_stop i (state i s script k) ≡ false
+    go (inl same) = ap (λ k. is_stop i (state i s script k)) same ∙ here
+    go (inr differ) = runs k (omega (arith, below, differ))
+
 -- the events of a run behind its n-th state
-module _ (i : Interpreter) (game : List ℕ) (script : List KeyEvent) where
-  rest : (n limit : ℕ) → Runs i game script n → is_stop i (state i game script n) ≡ false → (state i game script n).cycle ≤ limit
-      → points_of (events_of i game script limit) ≡ points_of (events_of i game script (state i game script n).cycle) ++ points_behind i script
-      (state i game script n) limit
+module _ (i : Interpreter) (s : Start) (script : List KeyEvent) where
+  rest : (n limit : ℕ) → Runs i s script n → is_stop i (state i s script n) ≡ false → (state i s script n).cycle ≤ limit
+      → points_of (events_from i script s limit) ≡ points_of (events_from i script s (state i s script n).cycle) ++ points_behind i script
+      (state i s script n) limit
   unfolding points_behind
   rest n limit runs goes_on within =
-      let b : Machine = state i game script n in
-      ap points_of (events-on i game script limit n within goes_on runs)
-      ∙ points_of-append (past i game script (suc n)) _
-      ∙ ap (λ ps. points_of (past i game script (suc n)) ++ ps)
-      (points_of-events_at i (game_run i game script limit) b.cycle (run_to i.rom (held_at script) (move i.rom (held_at script) b) limit))
+      let b : Machine = state i s script n in
+      ap points_of (events-on i s script limit n within (one_more i s script n runs goes_on))
+      ∙ points_of-append (past i s script (suc n)) _
+      ∙ ap (λ ps. points_of (past i s script (suc n)) ++ ps)
+      (points_of-events_at i (run_to i.rom (held_at script) (machine_of s) limit) b.cycle (run_to i.rom (held_at script) (move i.rom (held_at script) b) limit))
       ∙ ap (λ es. points_of es ++ points_at i (run_to i.rom (held_at script) (move i.rom (held_at script) b) limit))
-      (sym (events-last i game script b.cycle n (omega arith) (later-move i.rom (held_at script) b) runs))
+      (sym (events-last i s script b.cycle n (omega arith) (later-move i.rom (held_at script) b) runs))
 
 pub goes_on_with_run : GoesOnWithRun
 goes_on_with_run e game f script n limit runs dispatch is within =
     let i : Interpreter = interpreter_of e in
     subst (λ (b : Machine). b.cycle ≤ limit → points_of (events_of i game script limit) ≡ points_of (events_of i game script b.cycle) ++
     points_behind i script b limit) (sym is)
-    (rest i game script n limit runs (no-stop i (state i game script n) dispatch))
+    (rest i (Reset game) script n limit runs (no-stop i (state i (Reset game) script n) dispatch))
     within

@@ -21,6 +21,7 @@ use Rattle.vip_relation.specs.Follows.{dispatch_of, last_dispatch}
 use Rattle.chip8_image.specs.Interpreters.{interpreter_of}
 use Rattle.vip_relation.specs.Points.{point_of, point_events}
 use Rattle.vip_relation.specs.State.{most_cycles}
+use Rattle.vip_relation.specs.State.Start.{Reset}
 use Rattle.vip_relation.specs.declared.point.Point.{Point}
 use Rattle.vip_relation.specs.declared.point.Point.TheVariants.{Dispatch as DispatchPoint, Stop as StopPoint, Other as OtherPoint}
 use Rattle.vip_relation.proofs.Meetings.{last-dispatched}
@@ -31,9 +32,8 @@ use Rattle.vip_text.specs.StateFile.{shown}
 use Rattle.vip_show.specs.Laws.{IsRest, SavedGoesOn}
 use Rattle.vip_show.specs.Points.{points_of, points_behind}
 use Rattle.vip_show.specs.Written.{file_of}
-use Rattle.vip_show.proofs.Copied.{one_more, starts_by, shown-file_of, accepted-file_of}
-use Rattle.vip_show.proofs.ResumedGoing.{at-dispatch}
-use Rattle.vip_show.proofs.Points.{goes_on_with_run, no-stop, points_of-append}
+use Rattle.vip_show.proofs.Copied.{starts_by, shown-file_of, accepted-file_of}
+use Rattle.vip_show.proofs.Points.{goes_on_with_run, no-stop, one_more, points_of-append}
 
 -- ---- what is written of events is that of their points
 
@@ -51,7 +51,7 @@ lines_by e with_time (Picture m ∷ es) = lines_by e with_time es
 lines_by e with_time (Dispatch b ∷ es) = ap (λ lines. trace_piece e with_time (Dispatch b) ++ lines) (lines_by e with_time es)
 lines_by e with_time (Stopped b ∷ es) = lines_by e with_time es
 
-lines_of_points : (e : Edition) (with_time : Bool) (es : List Event) → trace_lines e with_time (points_of es) ≡ trace_lines e with_time es
+pub lines_of_points : (e : Edition) (with_time : Bool) (es : List Event) → trace_lines e with_time (points_of es) ≡ trace_lines e with_time es
 unfolding trace_lines
 lines_of_points e with_time [] = refl
 lines_of_points e with_time (Picture m ∷ es) = lines_of_points e with_time es
@@ -106,23 +106,28 @@ no_stop_points (Picture m ∷ xs) h = no_stop_points xs h
 no_stop_points (Dispatch b ∷ xs) h = no_stop_points xs h
 no_stop_points (Stopped b ∷ xs) h = h
 
+is_dispatch_point : (stop dispatch : Bool) → (if stop then StopPoint else if dispatch then DispatchPoint else OtherPoint) ≡ DispatchPoint → dispatch ≡ true
+is_dispatch_point true dispatch h = cc
+is_dispatch_point false true h = refl
+is_dispatch_point false false h = cc
+
 -- ---- a run up to a limit
 
 module _ (i : Interpreter) (game : List ℕ) (script : List KeyEvent) where
   abbrev at_state : ℕ → Machine
-  at_state n = state i game script n
+  at_state n = state i (Reset game) script n
 
   -- its last state: the events up to the limit are those of the states up to this one
   record Reaches (limit : ℕ) : Type 0 where
     n : ℕ
-    runs : Runs i game script n
+    runs : Runs i (Reset game) script n
     within : (at_state n).cycle ≤ limit
-    events : events_of i game script limit ≡ past i game script (suc n)
+    events : events_of i game script limit ≡ past i (Reset game) script (suc n)
 
-  reaches : (fuel n limit : ℕ) → Runs i game script n → (at_state n).cycle ≤ limit → limit < (at_state n).cycle + fuel → Reaches limit
+  reaches : (fuel n limit : ℕ) → Runs i (Reset game) script n → (at_state n).cycle ≤ limit → limit < (at_state n).cycle + fuel → Reaches limit
   reaches zero n limit runs within far = absurd (omega (arith, within, far))
   reaches (suc fuel) n limit runs within far =
-      by_stop (λ goes_on next. reaches fuel (suc n) limit (one_more i game script n runs goes_on) next (omega (arith, far, later)))
+      by_stop (λ goes_on next. reaches fuel (suc n) limit (one_more i (Reset game) script n runs goes_on) next (omega (arith, far, later)))
       (is_stop i (at_state n)) refl
     where
       later : (at_state n).cycle < (at_state (suc n)).cycle
@@ -132,10 +137,10 @@ module _ (i : Interpreter) (game : List ℕ) (script : List KeyEvent) where
       by_limit further true h = further (grind (arith, nat_tests))
       by_limit further false h =
           let over : limit < (at_state (suc n)).cycle = grind (arith, nat_tests) in
-          record { n = n; runs = runs; within = within; events = events-last i game script limit n within over runs }
+          record { n = n; runs = runs; within = within; events = events-last i (Reset game) script limit n within over runs }
 
       by_stop : (is_stop i (at_state n) ≡ false → (at_state (suc n)).cycle ≤ limit → Reaches limit) → (t : Bool) → is_stop i (at_state n) ≡ t → Reaches limit
-      by_stop further true h = record { n = n; runs = runs; within = within; events = events-stop i game script limit n within h runs }
+      by_stop further true h = record { n = n; runs = runs; within = within; events = events-stop i (Reset game) script refl limit n within h runs }
       by_stop further false h = by_limit (further h) (nat_le (at_state (suc n)).cycle limit) refl
 
   from_reset : (limit : ℕ) → Reaches limit
@@ -143,22 +148,27 @@ module _ (i : Interpreter) (game : List ℕ) (script : List KeyEvent) where
 
   -- ---- its last dispatch point
 
+  -- a reset is no point
+  point_is : (n : ℕ) → point i (Reset game) script n ≡ point_events (point_of i (at_state n)) (at_state n)
+  point_is zero = refl
+  point_is (suc n) = refl
+
   -- the frames whose pictures come at a state
   abbrev frames : ℕ → List ℕ
   frames n =
-      filter (is_shown i.rom (earlier i game script n))
-      (numbers_from (windows_ended (cycle_before i game script n)) (windows_ended (at_state n).cycle - windows_ended (cycle_before i game script n)))
+      filter (is_shown i.rom (earlier i (Reset game) script n))
+      (numbers_from (windows_ended (cycle_before i (Reset game) script n)) (windows_ended (at_state n).cycle - windows_ended (cycle_before i (Reset game) script n)))
 
-  no_stop_frames : (n : ℕ) → NoStop (pictures i game script n)
+  no_stop_frames : (n : ℕ) → NoStop (pictures i (Reset game) script n)
   no_stop_frames n = no_stop_pictures (frames n)
 
-  no_stop_past : (n : ℕ) → Runs i game script n → NoStop (past i game script n)
+  no_stop_past : (n : ℕ) → Runs i (Reset game) script n → NoStop (past i (Reset game) script n)
   unfolding past NoStop
   no_stop_past zero runs = tt
   no_stop_past (suc n) runs =
-      no_stop_append (past i game script n ++ pictures i game script n) (point i game script n)
-      (no_stop_append (past i game script n) (pictures i game script n) (no_stop_past n (λ k below. runs k (omega (arith, below)))) (no_stop_frames n))
-      (here (is_stop i (at_state n)) (is_dispatch i (at_state n)) (runs n (omega arith)))
+      no_stop_append (past i (Reset game) script n ++ pictures i (Reset game) script n) (point i (Reset game) script n)
+      (no_stop_append (past i (Reset game) script n) (pictures i (Reset game) script n) (no_stop_past n (λ k below. runs k (omega (arith, below)))) (no_stop_frames n))
+      (subst NoStop (sym (point_is n)) (here (is_stop i (at_state n)) (is_dispatch i (at_state n)) (runs n (omega arith))))
     where
       here : (stop dispatch : Bool) → stop ≡ false
           → NoStop (point_events (if stop then StopPoint else if dispatch then DispatchPoint else OtherPoint) (at_state n))
@@ -170,14 +180,14 @@ module _ (i : Interpreter) (game : List ℕ) (script : List KeyEvent) where
   no_dispatches [] = refl
   no_dispatches (m ∷ ms) = no_dispatches ms
 
-  dispatches_next : (n : ℕ) → dispatches (past i game script (suc n)) ≡ dispatches (past i game script n) ++ dispatches (point i game script n)
+  dispatches_next : (n : ℕ) → dispatches (past i (Reset game) script (suc n)) ≡ dispatches (past i (Reset game) script n) ++ dispatches (point i (Reset game) script n)
   unfolding past
   dispatches_next n =
-      filter_map-append dispatch_of (past i game script n ++ pictures i game script n) (point i game script n)
-      ∙ ap (λ bs. bs ++ dispatches (point i game script n))
-      (filter_map-append dispatch_of (past i game script n) (pictures i game script n)
-      ∙ ap (λ none. dispatches (past i game script n) ++ none) (no_dispatches (frames n))
-      ∙ append-nil (dispatches (past i game script n)))
+      filter_map-append dispatch_of (past i (Reset game) script n ++ pictures i (Reset game) script n) (point i (Reset game) script n)
+      ∙ ap (λ bs. bs ++ dispatches (point i (Reset game) script n))
+      (filter_map-append dispatch_of (past i (Reset game) script n) (pictures i (Reset game) script n)
+      ∙ ap (λ none. dispatches (past i (Reset game) script n) ++ none) (no_dispatches (frames n))
+      ∙ append-nil (dispatches (past i (Reset game) script n)))
 
   -- b is the last dispatch point of the first so many states, and that of the n-th state
   record LastAt (m : ℕ) (b : Machine) : Type 0 where
@@ -185,23 +195,23 @@ module _ (i : Interpreter) (game : List ℕ) (script : List KeyEvent) where
     below : n < m
     is : b ≡ at_state n
     dispatch : is_dispatch i (at_state n) ≡ true
-    none : dispatches (past i game script m) ≡ dispatches (past i game script (suc n))
+    none : dispatches (past i (Reset game) script m) ≡ dispatches (past i (Reset game) script (suc n))
 
-  past_none : past i game script 0 ≡ []
+  past_none : past i (Reset game) script 0 ≡ []
   unfolding past
   past_none = refl
 
   nowhere : (b : Machine) → last_dispatch [] ≡ Some b → ⊥
   nowhere b h = cc
 
-  last_at : (m : ℕ) (b : Machine) → last_dispatch (past i game script m) ≡ Some b → LastAt m b
+  last_at : (m : ℕ) (b : Machine) → last_dispatch (past i (Reset game) script m) ≡ Some b → LastAt m b
   last_at zero b h = absurd (nowhere b (ap last_dispatch (sym past_none) ∙ h))
   last_at (suc m) b h = by_point (last_at m b) (point_of i (at_state m)) refl
     where
-      kept : (last_dispatch (past i game script m) ≡ Some b → LastAt m b) → dispatches (point i game script m) ≡ [] → LastAt (suc m) b
+      kept : (last_dispatch (past i (Reset game) script m) ≡ Some b → LastAt m b) → dispatches (point i (Reset game) script m) ≡ [] → LastAt (suc m) b
       kept earlier_one nothing =
-          let same : dispatches (past i game script (suc m)) ≡ dispatches (past i game script m) =
-          dispatches_next m ∙ ap (λ bs. dispatches (past i game script m) ++ bs) nothing ∙ append-nil (dispatches (past i game script m)) in
+          let same : dispatches (past i (Reset game) script (suc m)) ≡ dispatches (past i (Reset game) script m) =
+          dispatches_next m ∙ ap (λ bs. dispatches (past i (Reset game) script m) ++ bs) nothing ∙ append-nil (dispatches (past i (Reset game) script m)) in
           let l : LastAt m b = earlier_one (ap (λ bs. slice_get bs (length bs - 1)) (sym same) ∙ h) in
           record { n = l.n; below = omega (arith, l.below); is = l.is; dispatch = l.dispatch; none = same ∙ l.none }
 
@@ -209,20 +219,22 @@ module _ (i : Interpreter) (game : List ℕ) (script : List KeyEvent) where
       here h = cc
 
       past_here : point_of i (at_state m) ≡ DispatchPoint
-          → past i game script (suc m) ≡ (past i game script m ++ pictures i game script m) ++ Dispatch (at_state m) ∷ []
-      past_here is = unfold past in ap (λ p. past i game script m ++ pictures i game script m ++ point_events p (at_state m)) is
+          → past i (Reset game) script (suc m) ≡ (past i (Reset game) script m ++ pictures i (Reset game) script m) ++ Dispatch (at_state m) ∷ []
+      past_here is =
+          unfold past in ap (λ ps. past i (Reset game) script m ++ pictures i (Reset game) script m ++ ps)
+          (point_is m ∙ ap (λ p. point_events p (at_state m)) is)
 
-      by_point : (last_dispatch (past i game script m) ≡ Some b → LastAt m b) → (p : Point) → point_of i (at_state m) ≡ p → LastAt (suc m) b
+      by_point : (last_dispatch (past i (Reset game) script m) ≡ Some b → LastAt m b) → (p : Point) → point_of i (at_state m) ≡ p → LastAt (suc m) b
       by_point earlier_one DispatchPoint is =
           record {
             n = m;
             below = omega arith;
-            is = here (sym h ∙ ap last_dispatch (past_here is) ∙ last-dispatched (past i game script m ++ pictures i game script m) (at_state m));
-            dispatch = (at-dispatch i (at_state m) is).1;
+            is = here (sym h ∙ ap last_dispatch (past_here is) ∙ last-dispatched (past i (Reset game) script m ++ pictures i (Reset game) script m) (at_state m));
+            dispatch = is_dispatch_point (is_stop i (at_state m)) (is_dispatch i (at_state m)) is;
             none = refl;
           }
-      by_point earlier_one StopPoint is = kept earlier_one (ap (λ p. dispatches (point_events p (at_state m))) is)
-      by_point earlier_one OtherPoint is = kept earlier_one (ap (λ p. dispatches (point_events p (at_state m))) is)
+      by_point earlier_one StopPoint is = kept earlier_one (ap dispatches (point_is m) ∙ ap (λ p. dispatches (point_events p (at_state m))) is)
+      by_point earlier_one OtherPoint is = kept earlier_one (ap dispatches (point_is m) ∙ ap (λ p. dispatches (point_events p (at_state m))) is)
 
   -- the cycles of the states rise
   not_later : (n m : ℕ) → n < suc m → (at_state n).cycle ≤ (at_state m).cycle
@@ -252,9 +264,9 @@ module _ (e : Edition) (game : List ℕ) (small : length game ≤ memory_size e)
   l = last_at i game script (suc r.n) b (ap last_dispatch (sym r.events) ∙ last)
 
   abbrev c : Machine
-  c = state i game script l.n
+  c = state i (Reset game) script l.n
 
-  runs : Runs i game script l.n
+  runs : Runs i (Reset game) script l.n
   runs k below = r.runs k (omega (arith, below, l.below))
 
   within : c.cycle ≤ limit
@@ -264,14 +276,14 @@ module _ (e : Edition) (game : List ℕ) (small : length game ≤ memory_size e)
   in_time = omega (arith, within, low, ap (λ (b : Machine). b.cycle) l.is)
 
   starts : MayStart e b
-  starts = subst (MayStart e) (sym l.is) (starts_by e game script l.n small bytes runs l.dispatch)
+  starts = subst (MayStart e) (sym l.is) (starts_by e (Reset game) script l.n (record { bytes = bytes; fits = small }) runs l.dispatch)
 
   shown_is : shown (file_of e b) ≡ b
   shown_is = shown-file_of e b starts in_time
 
   -- the events up to the dispatch point
-  up_to : events_of i game script c.cycle ≡ past i game script (suc l.n)
-  up_to = events-last i game script c.cycle l.n (omega arith) (later-move i.rom (held_at script) c) runs
+  up_to : events_of i game script c.cycle ≡ past i (Reset game) script (suc l.n)
+  up_to = events-last i (Reset game) script c.cycle l.n (omega arith) (later-move i.rom (held_at script) c) runs
 
   -- the points behind it
   abbrev behind : ℕ → List Event
@@ -279,18 +291,18 @@ module _ (e : Edition) (game : List ℕ) (small : length game ≤ memory_size e)
 
   points_are : (later : ℕ) → limit ≤ later
       → points_of (events_of i game script later)
-      ≡ points_of (past i game script (suc l.n)) ++ behind later
+      ≡ points_of (past i (Reset game) script (suc l.n)) ++ behind later
   points_are later more =
       goes_on_with_run e game (file_of e b) script l.n later runs l.dispatch (shown_is ∙ l.is)
       (omega (arith, within, more, ap (λ (b : Machine). b.cycle) (shown_is ∙ l.is)))
       ∙ ap (λ es. points_of es ++ behind later)
       (ap (λ (b : Machine). events_of i game script b.cycle) (shown_is ∙ l.is) ∙ up_to)
 
-  lines_up_to : (with_time : Bool) → trace_lines e with_time (past i game script (suc l.n)) ≡ trace_lines e with_time (events_of i game script limit)
+  lines_up_to : (with_time : Bool) → trace_lines e with_time (past i (Reset game) script (suc l.n)) ≡ trace_lines e with_time (events_of i game script limit)
   lines_up_to with_time =
-      lines_by e with_time (past i game script (suc l.n))
+      lines_by e with_time (past i (Reset game) script (suc l.n))
       ∙ ap (flat_map (record_of e with_time)) (sym l.none)
-      ∙ sym (lines_by e with_time (past i game script (suc r.n)))
+      ∙ sym (lines_by e with_time (past i (Reset game) script (suc r.n)))
       ∙ ap (trace_lines e with_time) (sym r.events)
 
   records : (with_time : Bool) (later : ℕ) → limit ≤ later
@@ -299,17 +311,19 @@ module _ (e : Edition) (game : List ℕ) (small : length game ≤ memory_size e)
   records with_time later more =
       sym (lines_of_points e with_time (events_of i game script later))
       ∙ ap (trace_lines e with_time) (points_are later more)
-      ∙ lines_append e with_time (points_of (past i game script (suc l.n))) (behind later)
+      ∙ lines_append e with_time (points_of (past i (Reset game) script (suc l.n))) (behind later)
       ∙ ap (λ lines. lines ++ trace_lines e with_time (behind later))
-      (lines_of_points e with_time (past i game script (suc l.n)) ∙ lines_up_to with_time)
+      (lines_of_points e with_time (past i (Reset game) script (suc l.n)) ∙ lines_up_to with_time)
 
   -- the events before the dispatch point
   abbrev before : List Event
-  before = past i game script l.n ++ pictures i game script l.n
+  before = past i (Reset game) script l.n ++ pictures i (Reset game) script l.n
 
-  past_is : past i game script (suc l.n) ≡ before ++ Dispatch c ∷ []
+  past_is : past i (Reset game) script (suc l.n) ≡ before ++ Dispatch c ∷ []
   unfolding past
-  past_is = ap (λ p. before ++ point_events p c) (is_point (is_stop i c) (is_dispatch i c) (no-stop i c l.dispatch) l.dispatch)
+  past_is =
+      ap (λ ps. before ++ ps) (point_is i game script l.n)
+      ∙ ap (λ p. before ++ point_events p c) (is_point (is_stop i c) (is_dispatch i c) (no-stop i c l.dispatch) l.dispatch)
     where
       is_point : (stop dispatch : Bool) → stop ≡ false → dispatch ≡ true
           → (if stop then StopPoint else if dispatch then DispatchPoint else OtherPoint) ≡ DispatchPoint
@@ -328,7 +342,7 @@ module _ (e : Edition) (game : List ℕ) (small : length game ≤ memory_size e)
       ∙ ap (ending_after e 0 None) (append_assoc (points_of before) (Dispatch c ∷ []) (behind later))
       ∙ ending_behind e 0 None (points_of before) c (behind later)
       (no_stop_points before
-      (no_stop_append (past i game script l.n) (pictures i game script l.n) (no_stop_past i game script l.n runs) (no_stop_frames i game script l.n)))
+      (no_stop_append (past i (Reset game) script l.n) (pictures i (Reset game) script l.n) (no_stop_past i game script l.n runs) (no_stop_frames i game script l.n)))
       ∙ ap (λ (b : Machine). ending_after e (view_at e b).pc (view_at e b).opcode (behind later)) (sym (shown_is ∙ l.is))
 
   is_rest : IsRest e game script limit (file_of e b)

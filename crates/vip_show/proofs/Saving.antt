@@ -1,6 +1,6 @@
 -- A run on its way whose last dispatch point is saved.
 use Rattle.std.proofs.Common.{◌≡◌, ℕ, Bool, true, false, List, [], ◌∷◌, ◌++◌, refl, sym, ap, ◌∙◌, subst, append-nil, append_assoc}
-use Rattle.std.specs.Prelude.{if◌then◌else◌, map, filter, ◌-◌, Option, Some, None, unwrap_or, Result, Ok, Err, IsErr}
+use Rattle.std.specs.Prelude.{drop, length, if◌then◌else◌, map, filter, ◌-◌, Option, Some, None, unwrap_or, Result, Ok, Err, IsErr}
 use Rattle.std.specs.Option.{option_map}
 use Rattle.machine.specs.Board.{Machine}
 use Rattle.machine.specs.Keys.{Event as KeyEvent}
@@ -15,12 +15,14 @@ use Rattle.vip_outside.specs.declared.sink.Failed.{Failed}
 use Rattle.vip_outside.proofs.PiecesLemmas.{PutsAll-nil, PutsAll-one, FailsWithin-snoc}
 use Rattle.vip_relation.specs.Follows.{last_dispatch, last_view}
 use Rattle.vip_relation.specs.Meets.{HasStopped}
-use Rattle.vip_relation.specs.State.{VipState, interpreter, events_to, events_left}
+use Rattle.vip_relation.specs.State.{Start, VipState, events_from, events_left, events_to, first_events, interpreter, machine_of}
+use Rattle.vip_relation.specs.State.Start.{Reset, Saved}
 use Rattle.vip_relation.specs.Stops.{pc_of, opcode_of}
 use Rattle.vip_relation.proofs.Meetings.{last-dispatched, last-kept}
 use Rattle.vip_relation.proofs.Nexts.{Dispatched, Pictured, Halted, Ended}
 use Rattle.vip_show.specs.Answers.{IsFresh}
 use Rattle.vip_show.specs.Endings.{ending_after, ending_of}
+use Rattle.vip_show.proofs.Going.{ends-first, first-view, none-first, split-first}
 use Rattle.vip_show.proofs.Endings.{last-told, ends-dispatch, ends-picture}
 use Rattle.vip_show.proofs.Lists.{stop-last}
 use Rattle.vip_text.specs.Endings.Ending.{AtStop}
@@ -31,7 +33,7 @@ use Rattle.vip_show.specs.Written.{file_of}
 
 -- ---- the dispatch points among the events of a run are such
 
-AreDispatches : Interpreter → List Event → Type 0
+pub AreDispatches : Interpreter → List Event → Type 0
 AreDispatches i [] = Unit {0}
 AreDispatches i (Picture m ∷ es) = AreDispatches i es
 AreDispatches i (Dispatch b ∷ es) = (is_dispatch i b ≡ true) × AreDispatches i es
@@ -57,17 +59,11 @@ are_dispatches i states before (b ∷ bs) =
     here false true is h = (is, h)
     here false false is h = h
 
-is_dispatch_in : (i : Interpreter) (before : List Event) (b : Machine) (rest : List Event) → AreDispatches i (before ++ Dispatch b ∷ rest)
-    → is_dispatch i b ≡ true
-unfolding AreDispatches
-is_dispatch_in i [] b rest h = h.0
-is_dispatch_in i (Picture m ∷ es) b rest h = is_dispatch_in i es b rest h
-is_dispatch_in i (Dispatch c ∷ es) b rest h = is_dispatch_in i es b rest h.1
-is_dispatch_in i (Stopped c ∷ es) b rest h = is_dispatch_in i es b rest h
-
-of_run : (i : Interpreter) (game : List ℕ) (script : List KeyEvent) (limit : ℕ) → AreDispatches i (events_of i game script limit)
+of_run : (i : Interpreter) (script : List KeyEvent) (s : Start) (limit : ℕ)
+    → AreDispatches i (drop (length (first_events s)) (events_from i script s limit))
 unfolding events_of
-of_run i game script limit = are_dispatches i (game_run i game script limit) 0 (game_run i game script limit)
+of_run i script (Reset game) limit = are_dispatches i (game_run i game script limit) 0 (game_run i game script limit)
+of_run i script (Saved file) limit = are_dispatches i _ (machine_of (Saved file)).cycle _
 
 -- ---- on its way
 
@@ -79,18 +75,22 @@ pub record Saving (limit : ℕ) (start v : VipState) (bytes : List ℕ) : Type 0
   pub split : events_to start limit ≡ done ++ events_left v limit
   pub last : v.last ≡ last_view start.edition done
   pub bytes_are : bytes ≡ unwrap_or (saved_file start.edition done) []
+  pub points : AreDispatches (interpreter start) (events_left v limit)
   pub ends : ending_of start.edition (events_to start limit) ≡ ending_after start.edition (pc_of v.last) (opcode_of v.last) (events_left v limit)
 
 module _ (limit : ℕ) (start : VipState) where
-  pub saving-first : (bytes : List ℕ) → IsFresh start → bytes ≡ [] → Saving limit start start bytes
-  saving-first bytes fresh empty = record {
+  pub saving-first : (bytes : List ℕ) → IsFresh start → start.last ≡ None → bytes ≡ [] → Saving limit start start bytes
+  saving-first bytes fresh none empty = record {
     runs = fresh.runs;
     edition = refl;
-    done = [];
-    split = rw fresh.met refl;
-    last = fresh.last;
-    bytes_are = empty;
-    ends = rw (fresh.last, fresh.met) refl;
+    done = first_events start.start;
+    split = split-first start limit fresh.met;
+    last = fresh.last ∙ first-view start.edition start.start;
+    bytes_are = empty ∙ ap (λ events. unwrap_or (saved_file start.edition events) []) (sym (none-first start fresh none));
+    points =
+        subst (λ n. AreDispatches (interpreter start) (drop n (events_to start limit))) (sym fresh.met)
+        (of_run (interpreter start) start.board.script start.start limit);
+    ends = ends-first start limit fresh;
   }
 
   module _ (v v' : VipState) (bytes : List ℕ) (g : Saving limit start v bytes) where
@@ -103,15 +103,15 @@ module _ (limit : ℕ) (start : VipState) where
     last_with event b is = ap (option_map (file_of start.edition)) is
 
     pub at-dispatch : (d : Dispatched limit v v' (events_left v limit)) → is_dispatch (interpreter v') v'.board.machine ≡ true
+    unfolding AreDispatches
     at-dispatch d =
         ap (λ e. is_dispatch (interpreter (record v { edition = e })) v'.board.machine) (d.meets.one.same.edition ∙ g.edition)
         ∙ ap (is_dispatch (interpreter start)) d.meets.machine
-        ∙ is_dispatch_in (interpreter start) g.done d.b d.rest
-        (subst (AreDispatches (interpreter start)) (g.split ∙ ap (λ left. g.done ++ left) d.split)
-        (of_run (interpreter start) start.game start.board.script limit))
+        ∙ (subst (AreDispatches (interpreter start)) d.split g.points).0
 
     pub saving-dispatch : (d : Dispatched limit v v' (events_left v limit)) (bytes' : List ℕ) → bytes' ≡ file_of v'.edition v'.board.machine
         → Saving limit start v' bytes'
+    unfolding AreDispatches
     saving-dispatch d bytes' is = record {
       runs = d.meets.goes_on;
       edition = d.meets.one.same.edition ∙ g.edition;
@@ -123,10 +123,12 @@ module _ (limit : ℕ) (start : VipState) where
           ∙ ap (λ e. file_of e v'.board.machine) (d.meets.one.same.edition ∙ g.edition)
           ∙ ap (file_of start.edition) d.meets.machine
           ∙ sym (ap (λ f. unwrap_or f []) (last_with (Dispatch d.b) (Some d.b) (last-dispatched g.done d.b)));
+      points = subst (AreDispatches (interpreter start)) (sym d.meets.one.left) (subst (AreDispatches (interpreter start)) d.split g.points).1;
       ends = g.ends ∙ ends-dispatch start.edition limit v v' g.edition d;
     }
 
     pub saving-picture : (d : Pictured limit v v' (events_left v limit)) → Saving limit start v' bytes
+    unfolding AreDispatches
     saving-picture d = record {
       runs = d.meets.goes_on;
       edition = d.meets.one.same.edition ∙ g.edition;
@@ -136,6 +138,7 @@ module _ (limit : ℕ) (start : VipState) where
       bytes_are =
           g.bytes_are
           ∙ sym (ap (λ f. unwrap_or f []) (last_with (Picture d.m) (last_dispatch g.done) (last-kept g.done (Picture d.m) refl)));
+      points = subst (AreDispatches (interpreter start)) (sym d.meets.one.left) (subst (AreDispatches (interpreter start)) d.split g.points);
       ends = g.ends ∙ ends-picture start.edition limit v v' d;
     }
 
@@ -170,7 +173,7 @@ module _ (limit : ℕ) (start : VipState) where
         all =
             so_far
             ∙ ap (λ rest. g.done ++ Stopped h.b ∷ rest)
-            (stop-last (interpreter start) start.game start.board.script limit g.done h.b h.rest so_far)
+            (stop-last (interpreter start) start.start start.board.script limit g.done h.b h.rest so_far)
 
         here : ending_after start.edition (pc_of v.last) (opcode_of v.last) (Stopped h.b ∷ h.rest) ≡ AtStop stop.stop stop.pc stop.opcode
         here = unfold ending_after in rw h.meets.stop refl

@@ -1,21 +1,25 @@
 -- What the calls answer of a run that begins.
-use Rattle.std.specs.Prelude.{◌≡◌, ℕ, Bool, List, [], ◌∷◌, None, Result, Ok, Err}
+use Rattle.std.specs.Prelude.{◌≡◌, ℕ, Bool, if◌then◌else◌, List, [], ◌∷◌, ◌++◌, length, Result, Ok, Err}
 use Rattle.vip_outside.specs.Sink.{SinkMeaning}
 use Rattle.vip_outside.specs.Pieces.{PutsAll, FailsWithin}
 use Rattle.vip_outside.specs.declared.sink.Failed.{Failed}
-use Rattle.vip_relation.specs.Follows.{last_screen}
+use Rattle.vip_relation.specs.Follows.{last_dispatch}
 use Rattle.vip_relation.specs.Meets.{HasStopped}
-use Rattle.vip_relation.specs.State.{VipState, interpreter, run_of, events_to}
+use Rattle.vip_relation.specs.State.{VipState, events_left, events_to, first_events, first_screen, first_view, interpreter, machine_of, run_of}
+use Rattle.vip_relation.specs.State.Start.{Saved}
 use Rattle.vip_text.specs.Endings.{ending_in}
 use Rattle.vip_text.specs.declared.ending.RunEnd.{RunEnd}
 use Rattle.vip_show.specs.Endings.{ending_of}
-use Rattle.vip_show.specs.Output.{trace_pieces, picture_pieces, summary}
+use Rattle.vip_text.specs.Summaries.{summary_line}
+use Rattle.vip_show.specs.Output.{count_of, is_dispatch_event, is_picture_event, lit_at, picture_pieces, screen_piece, trace_lines}
 
--- no event was met
+-- no event was met but those of the start, of which is told
 pub record IsFresh (v : VipState) : Type 0 where
-  pub met : v.met ≡ 0
-  pub last : v.last ≡ None
-  pub dark : v.shown ≡ last_screen v.edition []
+  pub met : v.met ≡ length (first_events v.start)
+  pub last : v.last ≡ first_view v.edition v.start
+  pub screen : v.shown ≡ first_screen v.edition v.start
+  -- no move was made from a saved machine
+  pub stands : (file : List ℕ) → v.start ≡ Saved file → v.board.machine ≡ machine_of v.start
   pub runs : HasStopped v → ⊥
 
 -- the pieces went out whole, and the run ended as its events say
@@ -27,12 +31,21 @@ abbrev pub ShowAnswers : VipState → ℕ → List (List ℕ) → SinkMeaning �
 ShowAnswers v limit pieces old new (Ok end) = Shows v limit pieces old new end
 ShowAnswers v limit pieces old new (Err e) = FailsWithin pieces old new
 
--- what is written of the run of a machine that begins
+-- What is written of a run that begins: of its events behind the start. The last dispatch point is the start's where there is no other.
 abbrev pub traced : Bool → Bool → VipState → ℕ → List (List ℕ)
-traced with_time with_screen v limit = trace_pieces v.edition with_time with_screen (events_to v limit)
+traced with_time with_screen v limit =
+    trace_lines v.edition with_time (events_left v limit)
+    ++ (if with_screen then screen_piece v.edition (last_dispatch (events_to v limit)) else [])
 
 abbrev pub pictured : VipState → ℕ → List (List ℕ)
-pictured v limit = picture_pieces (interpreter v).rom (run_of v limit) (events_to v limit)
+pictured v limit = picture_pieces (interpreter v).rom (run_of v limit) (events_left v limit)
+
+abbrev pub summary_of : ℕ → VipState → ℕ → List ℕ
+summary_of number v limit =
+    summary_line number
+    (count_of is_dispatch_event (events_left v limit))
+    (count_of is_picture_event (events_left v limit))
+    (lit_at v.edition (last_dispatch (events_to v limit)))
 
 abbrev pub summed : ℕ → VipState → ℕ → List (List ℕ)
-summed number v limit = summary v.edition number (events_to v limit) ∷ []
+summed number v limit = summary_of number v limit ∷ []

@@ -10,7 +10,6 @@ use Rattle.chip8_lang.specs.State.{memory_size}
 use Rattle.chip8_lang.specs.View.{view_at}
 use Rattle.rom_law.specs.Language.{GoesOn, nothing_else}
 use Rattle.rom_rows.specs.Rom.{vip}
-use Rattle.rom_run.specs.States.{MayStart}
 use Rattle.chip8_image.specs.Interpreters.{interpreter_of}
 use Rattle.vip_relation.specs.Follows.{last_dispatch}
 use Rattle.vip_relation.specs.State.{most_cycles}
@@ -20,9 +19,6 @@ use Rattle.vip_text.specs.StateFile.{shown, IsAccepted}
 use Rattle.vip_show.specs.StateOutput.{saved_file}
 use Rattle.vip_show.specs.Points.{points_behind, points_of}
 use Rattle.vip_show.specs.Written.{file_of}
-
-abbrev pub FileMayStart : Type 0
-FileMayStart = (e : Edition) (f : List ℕ) → ((k : ℕ) → slice_index f k < 256) → IsAccepted e f → MayStart e (shown f)
 
 -- The events behind the file's state are those of a run of the language, and the points among them are the points behind it.
 pub record IsChip8Behind (e : Edition) (f : List ℕ) (script : List KeyEvent) (limit : ℕ) : Type 0 where

@@ -4,8 +4,5 @@ pub mod Answers
 pub mod Run
 pub mod Written
 pub mod Points
-pub mod State
-pub mod Meets
-pub mod Kept
 pub mod StateOutput
 pub mod Laws

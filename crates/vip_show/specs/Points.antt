@@ -16,10 +16,6 @@ points_at i (b ∷ bs) = if is_stop i b then Stopped b ∷ [] else if is_dispatc
 unfoldable pub points_behind : Interpreter → List KeyEvent → Machine → ℕ → List Event
 points_behind i script b limit = points_at i (run_to i.rom (held_at script) (move i.rom (held_at script) b) limit)
 
--- and none behind a stop point
-abbrev pub ahead : Interpreter → List KeyEvent → Machine → ℕ → List Event
-ahead i script b limit = if is_stop i b then [] else points_behind i script b limit
-
 -- the points among some events
 abbrev pub points_of : List Event → List Event
 points_of [] = []

@@ -17,7 +17,7 @@ use Rattle.vip_text.specs.Traces.{trace_line}
 use Rattle.vip_relation.specs.declared.run.Met.{Met}
 use Rattle.vip_relation.specs.declared.run.Met.TheVariants.{Dispatch as MetDispatch, Picture as MetPicture}
 use Rattle.vip_relation.specs.Follows.{last_view, last_screen}
-use Rattle.vip_relation.specs.State.{VipState, interpreter, run_of, events_to}
+use Rattle.vip_relation.specs.State.{VipState, interpreter, run_of, events_left, events_to}
 use Rattle.vip_show.specs.declared.run.Shown.{Shown}
 use Rattle.vip_show.specs.declared.run.Shown.TheVariants.{Lines, Pictures, Nothing}
 use Rattle.vip_show.specs.declared.run.Tally.{Tally}
@@ -35,19 +35,19 @@ piece_of Nothing e rom run event = []
 abbrev pub pieces_of : Shown → VipState → ℕ → List Event → List (List ℕ)
 pieces_of shown v limit events = flat_map (piece_of shown v.edition (interpreter v).rom (run_of v limit)) events
 
--- the run has ended as its events say, and this was written and is known of it
+-- the run has ended as its events say, and this was written and is known of it, of those behind its start
 pub record Ran (shown : Shown) (limit : ℕ) (old new : VipState) (out out' : SinkMeaning) (tally : Tally) : Type 0 where
-  pub puts : PutsAll (pieces_of shown old limit (events_to old limit)) out out'
+  pub puts : PutsAll (pieces_of shown old limit (events_left old limit)) out out'
   pub ending : ending_in tally.end ≡ ending_of old.edition (events_to old limit)
-  pub dispatches : tally.dispatches ≡ count_of is_dispatch_event (events_to old limit)
-  pub pictures : tally.pictures ≡ count_of is_picture_event (events_to old limit)
+  pub dispatches : tally.dispatches ≡ count_of is_dispatch_event (events_left old limit)
+  pub pictures : tally.pictures ≡ count_of is_picture_event (events_left old limit)
   pub edition : new.edition ≡ old.edition
   pub last : new.last ≡ last_view old.edition (events_to old limit)
   pub screen : new.shown ≡ last_screen old.edition (events_to old limit)
 
 abbrev pub RunAnswers : Shown → ℕ → VipState → VipState → SinkMeaning → SinkMeaning → Result Tally Failed → Type 0
 RunAnswers shown limit old new out out' (Ok tally) = Ran shown limit old new out out' tally
-RunAnswers shown limit old new out out' (Err e) = FailsWithin (pieces_of shown old limit (events_to old limit)) out out'
+RunAnswers shown limit old new out out' (Err e) = FailsWithin (pieces_of shown old limit (events_left old limit)) out out'
 
 -- a piece, where there is one
 abbrev pub PieceAnswers : Option (List ℕ) → SinkMeaning → SinkMeaning → Result (Unit {0}) Failed → Type 0

@@ -1,14 +1,9 @@
 //! What is proved of accepted files, each law the contract of a function without parameters.
 
-ghost use Rattle.vip_show.specs.Laws.{FileMayStart, RunsAsChip8, GoesOnWithRun, SavedGoesOn, WritesTheSame};
-
-/// The machine state of any accepted file may start a run of CHIP-8: the board is at a dispatch point, and stands for the language state in it.
-pub fn file_may_start()
-    ensures { FileMayStart }
-{}
+ghost use Rattle.vip_show.specs.Laws.{RunsAsChip8, GoesOnWithRun, SavedGoesOn, WritesTheSame};
 
 /// The events of the run from any accepted file, under every script and up to every limit, are a run of CHIP-8 from the file's language state on; and
-/// its points are those that `Resumed` meets.
+/// its points are those behind the file's state.
 pub fn runs_as_chip8()
     ensures { RunsAsChip8 }
 {}

@@ -1,4 +1,4 @@
-//! What is written of a run: its trace, its pictures, one line of summary, or the file of the machine's state; and how a run goes on from such a file.
+//! What is written of a run, from a reset or from the file of a machine state: its trace, its pictures, one line of summary, or such a file.
 //!
 //! It stands on `vip_relation`, which gives the events of a run one by one, and the chips under it, on the texts of `vip_text` and the files that it
 //! accepts, on the sinks of `vip_outside`, and, for its laws, on those of the ROM in `rom_run`. It makes no rule of the language and no law of the
@@ -6,25 +6,20 @@
 //! those of `specs/StateOutput.antt`, each put by a call of its own, up to the first put that fails; and the run ends as its events say. No call takes
 //! memory for it.
 //!
-//! `write_state` writes an accepted file, which shows the state of the board; a run that `Resumed` opens from any accepted file, whoever wrote it,
-//! meets exactly the dispatch points and the stop of the defined run from the state that the file shows; and the points behind a file's state are a
-//! run of CHIP-8, which goes on with the game's run where the file was saved there (`laws`).
+//! `write_state` writes an accepted file, which shows the state of the board; the events of a run from any accepted file, whoever wrote it, are a run
+//! of CHIP-8, which goes on with the game's run where the file was saved there (`laws`).
 //!
 //! The texts and the format of a state are this project's profile (`docs/FORMATS.md`); a picture is a file of Netpbm's PBM, form P4.
 #![tactic(auto)]
 
-mod fault;
 pub mod laws;
 mod output;
 mod pieces;
-mod resumed;
 mod run;
 mod summary;
 mod writing;
 
-pub use fault::ResumeFault;
-pub use output::{show_resumed, show_saved};
+pub use output::show_saved;
 pub use pieces::{show_pictures, show_trace};
-pub use resumed::{Resumed, Step};
 pub use summary::show_summary;
 pub use writing::write_state;

@@ -88,6 +88,19 @@ fn keep_screen(vip: &Run, is_asked: bool, screen: &mut Screen)
     }
 }
 
+/// The screen that is told of before any event is met: dark, or that of the dispatch point at which the run starts.
+fn start_screen(vip: &Run) -> Screen
+    requires { IsFresh vip.now }
+    ensures screen { result.items ≡ vip.now.shown }
+    ensures size { length result.items ≡ screen_size vip.now.edition }
+{
+    let mut screen = dark(vip.edition());
+    if let Some(_) = vip.last_pc() {
+        vip.copy_screen(&mut screen);
+    }
+    screen
+}
+
 /// Runs a machine that begins up to its limit or its stop point, and puts what is shown of each event, each as one piece.
 pub fn run<O: Sink>(
     vip: &mut Run,
@@ -104,7 +117,7 @@ pub fn run<O: Sink>(
 {
     let mut dispatches = 0u64;
     let mut pictures = 0u64;
-    let mut screen = dark(vip.edition());
+    let mut screen = start_screen(vip);
     // one for all events, since a new one is filled with 00 each time
     let mut text = Buffer::new();
     loop {

@@ -1,12 +1,14 @@
 -- What a verb that is opened answers, from the answers of its parts, and what its work does.
-use Rattle.std.proofs.Common.{◌≡◌, ℕ, max, true, false, List, [], ◌∷◌, length, take_all, arith, refl, sym, ap, subst, Result, Ok, Err, IsErrAnd}
-use Rattle.std.specs.Prelude.{Bool, Option, Some, None, Vec}
+use Rattle.std.proofs.Common.{◌≡◌, ℕ, max, true, false, List, [], ◌∷◌, length, take_all, append-nil, arith, refl, sym, ap, ap₂, ◌∙◌, subst, Result, Ok, Err, IsErrAnd}
+use Rattle.std.specs.Prelude.{Option, Some, None, Vec}
 use Rattle.std.specs.declared.alloc.Global.{Global}
 use Rattle.std.proofs.Math.Nat.{max-zero}
 use Rattle.chip8_lang.specs.declared.view.Edition.{Edition}
 use Rattle.chip8_lang.specs.declared.view.Edition.TheVariants.{Usual}
 use Rattle.chip8_lang.specs.declared.view.StopRecord.{StopRecord}
-use Rattle.chip8_lang.specs.Events.{is_stop}
+use Rattle.chip8_image.specs.Interpreters.{interpreter_of}
+use Rattle.chip8_lang.specs.Events.{Event, events_behind, is_stop}
+use Rattle.chip8_lang.specs.View.{view_at}
 use Rattle.machine.specs.Keys.{Event as KeyEvent}
 use Rattle.vip_words.specs.DebugGrammar.{commands_of}
 use Rattle.vip_words.specs.declared.debug_commands.Command.{Command as DebugCommand}
@@ -17,12 +19,17 @@ use Rattle.vip_debug.specs.declared.run.DebugEnd.TheVariants as debugger
 use Rattle.vip_outside.specs.Files.{FilesMeaning}
 use Rattle.vip_outside.specs.Sink.{SinkMeaning}
 use Rattle.vip_outside.specs.Pieces.{PutsAll, FailsWithin}
-use Rattle.vip_relation.specs.State.{VipState, interpreter, started, state_after}
+use Rattle.vip_relation.specs.State.{VipState, begun as begun_from, interpreter, started, state_after}
+use Rattle.vip_relation.specs.State.Start.{Reset, Saved}
 use Rattle.vip_outside.specs.declared.sink.Failed.{Failed}
-use Rattle.vip_show.specs.Answers.{ShowAnswers, traced, pictured, summed}
-use Rattle.vip_text.specs.StateFile.{IsAccepted}
-use Rattle.vip_show.specs.StateOutput.{ResumedAnswers, SavedAnswers, ending_left, records_left}
-use Rattle.vip_show.specs.State.{ResumedState}
+use Rattle.vip_show.specs.Answers.{IsFresh, ShowAnswers, traced, pictured, summed}
+use Rattle.vip_text.specs.StateFile.{shown, IsAccepted}
+use Rattle.vip_show.specs.StateOutput.{SavedAnswers}
+use Rattle.vip_show.specs.Endings.{ending_after}
+use Rattle.vip_show.specs.Output.{trace_lines}
+use Rattle.vip_show.proofs.Fresh.{fresh-begun}
+use Rattle.vip_show.proofs.Points.{points_behind_are}
+use Rattle.vip_show.proofs.Rest.{ending_of_points, lines_of_points}
 use Rattle.vip_text.specs.Endings.{Ending}
 use Rattle.vip_text.specs.Endings.Ending.{AtLimit}
 use Rattle.vip_words.specs.Asked.{Asked, AskedRun, AskedTrace, AskedDebug, AskedDemo, trace, play, debug, demo, AskedResume, resume, save}
@@ -42,9 +49,9 @@ use Rattle.vip_tools.specs.Outcome.{Outcome, script_in}
 use Rattle.vip_tools.specs.Outcome.Outcome.{Shown}
 use Rattle.vip_tools.specs.Work.{RefusedBy, TextAnswers}
 use Rattle.vip_verbs.specs.Opening.{StartAnswers, Begins, GoesOn, ResumeAnswers, RomAnswers}
-use Rattle.vip_verbs.specs.Outcome.{Comes, RunComes, RunTo, DebugComes, run_ending, saved_as, stopped_by, debug_ending}
+use Rattle.vip_verbs.specs.Outcome.{Comes, RunComes, RunTo, DebugComes, ending_from, points_in, resumed, run_ending, saved_as, stopped_by, debug_ending}
 use Rattle.vip_verbs.specs.Outcome.RunTo.{FaultyScript, FaultyRom, Runs}
-use Rattle.vip_verbs.specs.Prepared.{DebugEnds, IsStarted, OpenAnswers, PerformAnswers, PrepareAnswers, ended_by, ran, run_ended, save_ended, saved_run, texted}
+use Rattle.vip_verbs.specs.Prepared.{DebugEnds, IsBeginning, IsStarted, OpenAnswers, PerformAnswers, PrepareAnswers, ended_by, ran, run_ended, save_ended, saved_run, texted}
 use Rattle.vip_verbs.specs.declared.prepared.Prepared.{Prepared}
 
 -- a command that comes to what a run comes to, by the machine that begins
@@ -63,6 +70,20 @@ started-of e game scripts v begins = record {
   is = rw begins.is refl;
   runs = begins.runs;
 }
+
+pub beginning-of : (v : VipState) → IsStarted v → IsBeginning v
+beginning-of v started = record { start = Reset started.game; script = started.script; is = started.is; runs = started.runs }
+
+-- and a fresh one
+pub fresh-of : (v : VipState) → IsBeginning v → IsFresh v
+fresh-of v begins = fresh-begun v v.edition begins.start begins.script begins.is begins.runs
+
+pub none-told : (v : VipState) → IsStarted v → v.last ≡ None
+none-told v started = ap (λ (w : VipState). w.last) started.is
+
+-- a game's run that goes on from a file is such a one
+pub resumed-of : (file : List ℕ) (scripts : List (List ℕ)) (v : VipState) → GoesOn file scripts v → IsBeginning v
+resumed-of file scripts v goes = record { start = Saved file; script = goes.script; is = goes.is; runs = goes.runs }
 
 module _ (Here : Outcome → Type 0) (run : RunOf Here) where
   -- it doesn't begin
@@ -187,17 +208,6 @@ save-performs limit ending (Some file) old new (Ok (Some end)) saves = record {
 }
 save-performs limit ending (Some file) old new (Err failed) fails = fails
 
--- one that went on from a file
-pub resume-performs :
-    (limit : ℕ) (with_time : Bool) (v : ResumedState) (old new : SinkMeaning) (r : Result RunEnd Failed) → ResumedAnswers with_time v limit old new r
-    → PerformAnswers (ran limit (records_left with_time v limit) (ending_left v limit)) old new (run_ended limit r)
-resume-performs limit with_time v old new (Ok end) resumes = record {
-  puts = resumes.puts;
-  status_is = ap end_status (sym resumes.ending);
-  report_is = ap (end_report limit) (sym resumes.ending);
-}
-resume-performs limit with_time v old new (Err failed) fails = fails
-
 module _ (limit : ℕ) (commands : List DebugCommand) (v w : VipState) (old new : SinkMeaning) (begins : IsStarted v) where
   abbrev Comes-to : Outcome
   Comes-to = ran limit (written v limit commands at_start) (debug_ending v limit commands)
@@ -304,12 +314,34 @@ module _ (a : AskedResume) (file : List ℕ) (scripts : List (List ℕ)) where
   refused-resume NoMemory answer = tt
 
   -- it begins, so its records are settled, with its ending
-  abbrev resumed_run : ResumedState → Outcome
-  resumed_run v = ran a.cycles (records_left a.with_time v a.cycles) (ending_left v a.cycles)
+  abbrev resumed_run : VipState → Outcome
+  resumed_run v = ran a.cycles (traced a.with_time false v a.cycles) (ended_by a.cycles v)
 
-  pub resume-comes : (v : ResumedState) → GoesOn file scripts v → Comes (resume a) (file ∷ scripts) (resumed_run v)
+  -- what is written of its events is that of their points
+  module _ (e : Edition) (script : List KeyEvent) where
+    abbrev behind : List Event
+    behind = events_behind (interpreter_of e) script (shown file) a.cycles
+
+    records_are : traced a.with_time false (begun_from e (Saved file) script) a.cycles ≡ trace_lines e a.with_time (points_in e file script a.cycles)
+    records_are =
+        append-nil (trace_lines e a.with_time behind) ∙ sym (lines_of_points e a.with_time behind)
+        ∙ ap (trace_lines e a.with_time) (points_behind_are (interpreter_of e) script (shown file) a.cycles)
+
+    ending_is : ended_by a.cycles (begun_from e (Saved file) script) ≡ ending_from e file a.cycles script
+    ending_is =
+        let first : ended_by a.cycles (begun_from e (Saved file) script)
+        ≡ ending_after e (view_at e (shown file)).pc (view_at e (shown file)).opcode behind = unfold ending_after in refl in
+        first
+        ∙ sym (ending_of_points e (view_at e (shown file)).pc (view_at e (shown file)).opcode behind)
+        ∙ ap (ending_after e (view_at e (shown file)).pc (view_at e (shown file)).opcode)
+        (points_behind_are (interpreter_of e) script (shown file) a.cycles)
+
+    outcome_is : resumed_run (begun_from e (Saved file) script) ≡ resumed a e file script
+    outcome_is = ap₂ (ran a.cycles) records_are ending_is
+
+  pub resume-comes : (v : VipState) → GoesOn file scripts v → Comes (resume a) (file ∷ scripts) (resumed_run v)
   resume-comes v goes =
-      subst (λ w. Comes (resume a) (file ∷ scripts) (resumed_run w)) (sym goes.is)
+      subst (Comes (resume a) (file ∷ scripts)) (sym (ap resumed_run goes.is ∙ outcome_is v.edition goes.script))
       (record { edition = v.edition; accepted = goes.accepted; comes = Runs goes.script goes.reads goes.rom })
 
 -- ---- what is opened

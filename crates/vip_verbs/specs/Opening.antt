@@ -1,17 +1,15 @@
 -- What the opening of a run answers.
-use Rattle.std.specs.Prelude.{◌≡◌, ℕ, List, false, Result, Ok, Err}
+use Rattle.std.specs.Prelude.{◌≡◌, ℕ, List, Result, Ok, Err}
 use Rattle.machine.specs.Keys.{Event as KeyEvent}
 use Rattle.chip8_lang.specs.declared.view.Edition.{Edition}
-use Rattle.chip8_lang.specs.Events.{is_stop}
 use Rattle.vip_link.specs.Checked.{ComparesLink}
 use Rattle.vip_keypad.specs.declared.script.ScriptFault.TheVariants.{Fault}
 use Rattle.vip_relation.specs.Meets.{HasStopped}
-use Rattle.vip_relation.specs.State.{VipState, started}
+use Rattle.vip_relation.specs.State.{VipState, begun, started}
+use Rattle.vip_relation.specs.State.Start.{Saved}
 use Rattle.vip_tools.specs.declared.refusal.Refusal.{Refusal}
 use Rattle.vip_tools.specs.declared.refusal.Refusal.TheVariants.{Script, Rom, NoMemory}
 use Rattle.vip_text.specs.StateFile.{IsAccepted}
-use Rattle.vip_show.specs.Meets.{opened}
-use Rattle.vip_show.specs.State.{ResumedState, interpreter}
 use Rattle.vip_tools.specs.Outcome.{script_in}
 use Rattle.vip_verbs.specs.Outcome.{RomIs, IsFault}
 
@@ -44,13 +42,13 @@ StartAnswers e game scripts (Err NoMemory) = Unit {0}
 StartAnswers e game scripts (Err _) = ⊥
 
 -- a run that goes on from an accepted file under its script
-pub record GoesOn (file : List ℕ) (scripts : List (List ℕ)) (v : ResumedState) : Type 0 where
+pub record GoesOn (file : List ℕ) (scripts : List (List ℕ)) (v : VipState) : Type 0 where
   pub accepted : IsAccepted v.edition file
   pub script : List KeyEvent
   pub reads : script_in scripts ≡ Ok script
   pub rom : RomIs v.edition (Ok tt)
-  pub is : v ≡ opened v.edition file script
-  pub runs : is_stop (interpreter v) v.board.machine ≡ false
+  pub is : v ≡ begun v.edition (Saved file) script
+  pub runs : HasStopped v → ⊥
 
 -- the file is accepted, and of its edition this holds
 pub record Accepts (file : List ℕ) (Here : Edition → Type 0) : Type 0 where
@@ -58,7 +56,7 @@ pub record Accepts (file : List ℕ) (Here : Edition → Type 0) : Type 0 where
   pub accepted : IsAccepted edition file
   pub here : Here edition
 
-abbrev pub ResumeAnswers : List ℕ → List (List ℕ) → Result ResumedState Refusal → Type 0
+abbrev pub ResumeAnswers : List ℕ → List (List ℕ) → Result VipState Refusal → Type 0
 ResumeAnswers file scripts (Ok v) = GoesOn file scripts v
 ResumeAnswers file scripts (Err (Script line cause)) = Accepts file (λ e. script_in scripts ≡ Err (Fault line cause))
 ResumeAnswers file scripts (Err (Rom fault)) = Accepts file (λ e. RefusesRom e scripts (Rom fault))

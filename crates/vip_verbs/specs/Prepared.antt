@@ -1,8 +1,7 @@
 -- A verb that is ready: what it comes to, and what its work answers.
-use Rattle.std.specs.Prelude.{◌≡◌, ◌≤◌, ℕ, false, List, [], ◌∷◌, Option, Some, None, Result, Ok, Err, Vec, length}
+use Rattle.std.specs.Prelude.{◌≡◌, ◌≤◌, ℕ, List, [], ◌∷◌, Option, Some, None, Result, Ok, Err, Vec, length}
 use Rattle.std.specs.declared.alloc.Global.{Global}
 use Rattle.machine.specs.Keys.{Event as KeyEvent}
-use Rattle.chip8_lang.specs.Events.{is_stop}
 use Rattle.vip_outside.specs.Files.{FilesMeaning}
 use Rattle.vip_outside.specs.Pieces.{PutsAll, FailsWithin}
 use Rattle.vip_outside.specs.Sink.{SinkMeaning}
@@ -18,11 +17,9 @@ use Rattle.vip_program.specs.Pictures.{pictured as program_pictures}
 use Rattle.vip_program.specs.Trace.{end_at, traced as program_lines}
 use Rattle.vip_program.specs.declared.trace.ProgramEnd.{ProgramEnd}
 use Rattle.vip_relation.specs.Meets.{HasStopped}
-use Rattle.vip_relation.specs.State.{VipState, started, events_to}
+use Rattle.vip_relation.specs.State.{Start, VipState, begun, started, events_to}
 use Rattle.vip_show.specs.Answers.{traced, pictured, summed}
 use Rattle.vip_show.specs.Endings.{ending_of}
-use Rattle.vip_show.specs.StateOutput.{ending_left, records_left}
-use Rattle.vip_show.specs.State.{interpreter as resumed_interpreter}
 use Rattle.vip_text.specs.Endings.{Ending}
 use Rattle.vip_text.specs.declared.ending.RunEnd.{RunEnd}
 use Rattle.vip_text.specs.declared.ending.RunEnd.TheVariants as end
@@ -43,7 +40,7 @@ use Rattle.vip_tools.specs.Outcome.Outcome.{Refused, Shown}
 use Rattle.vip_tools.specs.Work.{RefusedBy}
 use Rattle.vip_verbs.specs.Outcome.{Comes, debug_ending, linked_after, saved}
 use Rattle.vip_verbs.specs.declared.prepared.Prepared.{Prepared}
-use Rattle.vip_verbs.specs.declared.prepared.Prepared.TheVariants.{Trace, Play, Debug, Save, Resume, Demo, Text, TraceProgram, PlayProgram, DebugProgram, Link}
+use Rattle.vip_verbs.specs.declared.prepared.Prepared.TheVariants.{Trace, Play, Debug, Save, Demo, Text, TraceProgram, PlayProgram, DebugProgram, Link}
 use Rattle.vip_verbs.specs.Programs.{IsBegun, ended_at, program_report}
 
 -- ---- what it comes to
@@ -74,7 +71,6 @@ outcome_of (Trace vip limit with_time with_screen) = ran limit (traced with_time
 outcome_of (Play vip limit) = ran limit (pictured vip limit) (ended_by limit vip)
 outcome_of (Debug vip limit commands) = ran limit (written vip limit commands at_start) (debug_ending vip limit commands)
 outcome_of (Save vip limit) = saved_run limit vip
-outcome_of (Resume run limit with_time) = ran limit (records_left with_time run limit) (ending_left run limit)
 outcome_of (Demo vip limit number) = ran limit (summed number vip limit) (ended_by limit vip)
 outcome_of (TraceProgram board limit) = program_shown limit (program_lines board limit) (ended_at limit board)
 outcome_of (PlayProgram board limit) = program_shown limit (program_pictures board limit) (ended_at limit board)
@@ -91,17 +87,23 @@ pub record IsStarted (v : VipState) : Type 0 where
   pub is : v ≡ started v.edition game script
   pub runs : HasStopped v → ⊥
 
+-- a run that begins under a script, from a reset or from a file
+pub record IsBeginning (v : VipState) : Type 0 where
+  pub start : Start
+  pub script : List KeyEvent
+  pub is : v ≡ begun v.edition start script
+  pub runs : HasStopped v → ⊥
+
 -- two boards before their first move
 pub record IsJoined (l : Linking) : Type 0 where
   pub is : l ≡ joined l.message
   pub short : length l.message ≤ most_bytes
 
 abbrev pub IsReady : Prepared → Type 0
-IsReady (Trace vip limit with_time with_screen) = IsStarted vip × (limit ≤ most_cycles)
+IsReady (Trace vip limit with_time with_screen) = IsBeginning vip × (limit ≤ most_cycles)
 IsReady (Play vip limit) = IsStarted vip × (limit ≤ most_cycles)
 IsReady (Debug vip limit commands) = IsStarted vip × (limit ≤ most_cycles)
 IsReady (Save vip limit) = IsStarted vip × (limit ≤ most_cycles)
-IsReady (Resume run limit with_time) = (is_stop (resumed_interpreter run) run.board.machine ≡ false) × (limit ≤ most_cycles)
 IsReady (Demo vip limit number) = IsStarted vip × (limit ≤ most_cycles)
 IsReady (TraceProgram board limit) = IsBegun board × (limit ≤ most_cycles)
 IsReady (PlayProgram board limit) = IsBegun board × (limit ≤ most_cycles)

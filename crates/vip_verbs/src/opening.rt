@@ -23,8 +23,7 @@ use chip8_source::{ImageFault, check_image, check_tall};
 use std::alloc::Global;
 use vip_link::{receiver_text, sender_text};
 use vip_outside::Files;
-use vip_relation::{Run, StartFault, Vip};
-use vip_show::{ResumeFault, Resumed};
+use vip_relation::{ResumeFault, Run, StartFault, Vip};
 use vip_tools::{
     DebugContents, Refusal, RunContents, asm, bounds, certified_contents, certify, cycles,
     debug_contents, demo_game, dis, game_kind, list, only_content, open_files, read_debugging,
@@ -147,13 +146,13 @@ fn open_save<'a>(
 }
 
 /// A run that goes on from an accepted state file under its script, with the ROM of the file's edition.
-fn go_on<'a>(alloc: Global, file: &[u8], script: Option<&[u8]>) -> Result<Resumed, Refusal<'a>>
+fn go_on<'a>(alloc: Global, file: &[u8], script: Option<&[u8]>) -> Result<Run, Refusal<'a>>
     requires accepted { IsRight State file.now }
     requires script { SmallScripts (script_list script) }
     ensures { ResumeAnswers file.now (script_list script.entry) result }
 {
     let script = read_keys(alloc, script)?;
-    match Resumed::open(alloc, file, &script) {
+    match Run::resume(alloc, file, &script) {
         Ok(run) => {
             check_rom(alloc, run.edition())?;
             Ok(run)
@@ -173,11 +172,12 @@ fn open_resume<'a>(
     requires judged { AreRight (needed (resume (asked_resume wish.now))) (run_list contents.now) }
     ensures { PrepareAnswers (Comes (resume (asked_resume wish.now)) (run_list contents.now)) result }
 {
-    let run = go_on(alloc, contents.game, contents.script)?;
-    Ok(Prepared::Resume {
-        run,
+    let vip = go_on(alloc, contents.game, contents.script)?;
+    Ok(Prepared::Trace {
+        vip,
         limit: wish.cycles,
         with_time: wish.with_time,
+        with_screen: false,
     })
 }
 

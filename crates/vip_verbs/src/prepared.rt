@@ -4,12 +4,11 @@ ghost use Rattle.vip_verbs.specs.Prepared.{IsReady, PerformAnswers, outcome_of};
 
 use crate::linked::run_link;
 use crate::program::{debug_program, play_program, trace_program};
-use crate::work::{debug, demo, play, put_text, resume, save, trace};
+use crate::work::{debug, demo, play, put_text, save, trace};
 use vip_board::Board;
 use vip_link::Link;
 use vip_outside::Sink;
 use vip_relation::{Run, Vip};
-use vip_show::Resumed;
 use vip_tools::{Ended, PerformFault};
 use vip_words::Commands;
 
@@ -17,7 +16,7 @@ use vip_words::Commands;
 /// that a run that is to be saved has no dispatch point.
 #[derive(Drop)]
 pub enum Prepared {
-    /// A game's run up to a limit in machine cycles, a line for each dispatch point, and at the end the screen where that is asked for.
+    /// A run up to a limit in machine cycles, a line for each dispatch point behind its start, and at the end the screen where that is asked for.
     Trace {
         vip: Run,
         limit: u64,
@@ -39,12 +38,6 @@ pub enum Prepared {
     Save {
         vip: Run,
         limit: u64,
-    },
-    /// A run that goes on from a saved state up to a limit, a line for each dispatch point behind it.
-    Resume {
-        run: Resumed,
-        limit: u64,
-        with_time: bool,
     },
     /// The run of the demonstration game of a number up to a limit, counted.
     Demo {
@@ -98,11 +91,6 @@ pub fn perform<O: Sink>(prepared: Prepared, out: &mut O) -> Result<Ended, Perfor
             commands,
         } => debug(vip, limit, commands, out),
         Prepared::Save { vip, limit } => save(vip, limit, out),
-        Prepared::Resume {
-            run,
-            limit,
-            with_time,
-        } => resume(run, limit, with_time, out),
         Prepared::Demo { vip, limit, number } => demo(vip, limit, number, out),
         Prepared::TraceProgram { board, limit } => trace_program(board, limit, out),
         Prepared::PlayProgram { board, limit } => play_program(board, limit, out),

@@ -7,7 +7,7 @@ ghost use Rattle.vip_verbs.specs.declared.prepared.Prepared.TheVariants as ready
 use vip_debug::{DebugEnd, run_commands};
 use vip_outside::{Failed, Sink};
 use vip_relation::{Run, Vip};
-use vip_show::{Resumed, show_pictures, show_resumed, show_saved, show_summary, show_trace};
+use vip_show::{show_pictures, show_saved, show_summary, show_trace};
 use vip_text::RunEnd;
 use vip_tools::{Ended, PerformFault};
 use vip_words::Commands;
@@ -44,7 +44,7 @@ fn debugged(limit: u64, end: DebugEnd) -> Result<Ended, PerformFault>
     }
 }
 
-/// Runs a game, and puts a line for each dispatch point, and at the end the screen where it is asked for.
+/// Makes a run, and puts a line for each dispatch point behind its start, and at the end the screen where it is asked for.
 pub fn trace<O: Sink>(
     mut vip: Run,
     limit: u64,
@@ -88,19 +88,6 @@ pub fn save<O: Sink>(mut vip: Run, limit: u64, out: &mut O) -> Result<Ended, Per
     ensures { PerformAnswers (outcome_of (ready.Save vip limit)) (O.meaning out.old) (O.meaning out.new) result }
 {
     saved(limit, show_saved(&mut vip, limit, out))
-}
-
-/// Goes on with a run, and puts a line for each dispatch point.
-pub fn resume<O: Sink>(
-    mut run: Resumed,
-    limit: u64,
-    with_time: bool,
-    out: &mut O,
-) -> Result<Ended, PerformFault>
-    requires { IsReady (ready.Resume run limit with_time) }
-    ensures { PerformAnswers (outcome_of (ready.Resume run limit with_time)) (O.meaning out.old) (O.meaning out.new) result }
-{
-    ran(limit, show_resumed(&mut run, limit, with_time, out))
 }
 
 /// Runs a demonstration game, and puts a line that sums its run up.

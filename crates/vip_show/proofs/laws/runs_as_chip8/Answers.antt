@@ -1,6 +1,6 @@
 use Rattle.rom_run.proofs.Run.{from_any_start}
 use Rattle.vip_text.specs.StateFile.{shown}
-use Rattle.vip_show.proofs.Starts.{file_may_start}
+use Rattle.rom_board.proofs.Starts.{file_may_start}
 use Rattle.vip_show.proofs.Points.{points_of-behind}
 use Rattle.vip_show.proofs.laws.runs_as_chip8.Goals as goal
 

@@ -8,8 +8,8 @@ pub loop-dispatches-init : goal.loop-dispatches-init
 loop-dispatches-init g c = record {
   runs = c.requires.fresh.runs;
   going = going-first _ _ _ _ c.requires.fresh;
-  screen = λ asked. rw (c.dark-screen.ensures.items, c.edition.ensures.edition) (sym c.requires.fresh.dark);
-  size = c.dark-screen.ensures.size ∙ ap screen_size c.edition.ensures.edition;
+  screen = λ asked. c.start_screen-screen.ensures.screen;
+  size = c.start_screen-screen.ensures.size;
 }
 
 -- ---- a dispatch point

@@ -12,7 +12,7 @@ returns-in-Ok c = record {
   accepted = c.in-Ok.ensures.answer.0;
   script = c.in_ok-script.script;
   reads = c.in_ok-script.ensures;
-  rom = subst (λ e. RomIs e (Ok tt)) c.edition.ensures c.in_ok-check_rom-in-Ok.ensures;
+  rom = subst (λ e. RomIs e (Ok tt)) c.edition.ensures.edition c.in_ok-check_rom-in-Ok.ensures;
   is = c.in-Ok.ensures.answer.1;
   runs = c.in-Ok.ensures.runs;
 }
@@ -20,7 +20,7 @@ returns-in-Ok c = record {
 pub returns-in_err-check_rom-in-Ok : goal.returns-in_err-check_rom-in-Ok
 returns-in_err-check_rom-in-Ok c =
     passed (ResumeAnswers c.args.file.now (script_list c.args.script)) _ _ c.from_residual-in_err-check_rom-in-Ok.ensures.1
-    (rom-refused c.args.file.now (script_list c.args.script) _ _ c.in-Ok.ensures.answer.0 c.in_ok-script.ensures _ c.edition.ensures _
+    (rom-refused c.args.file.now (script_list c.args.script) _ _ c.in-Ok.ensures.answer.0 c.in_ok-script.ensures _ c.edition.ensures.edition _
     c.in_err-check_rom-in-Ok.ensures)
 
 pub returns-in-Err-State : goal.returns-in-Err-State

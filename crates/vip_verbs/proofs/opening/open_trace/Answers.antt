@@ -4,7 +4,7 @@ use Rattle.vip_tools.specs.Contents.{run_list, script_list}
 use Rattle.vip_tools.proofs.WorkLemmas.{passed}
 use Rattle.vip_verbs.specs.Outcome.{Comes}
 use Rattle.vip_verbs.specs.Prepared.{PrepareAnswers}
-use Rattle.vip_verbs.proofs.WorkLemmas.{trace_run, refused-start, run-comes, started-of}
+use Rattle.vip_verbs.proofs.WorkLemmas.{trace_run, refused-start, run-comes, beginning-of, started-of}
 use Rattle.vip_verbs.proofs.opening.open_trace.Goals as goal
 
 pub returns-in_err-vip : goal.returns-in_err-vip
@@ -16,4 +16,4 @@ returns-in_err-vip c =
 pub returns : goal.returns
 returns c =
     let run = trace_run c.args.contents.now.game.now (script_list c.args.contents.now.script) (asked_trace c.args.wish.now) in
-    ((started-of _ _ _ _ c.in_ok-vip.ensures, c.requires.limit), run-comes _ run _ c.in_ok-vip.ensures)
+    ((beginning-of _ (started-of _ _ _ _ c.in_ok-vip.ensures), c.requires.limit), run-comes _ run _ c.in_ok-vip.ensures)

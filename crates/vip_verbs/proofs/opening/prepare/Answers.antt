@@ -43,3 +43,8 @@ pub returns-in-Bounds : goal.returns-in-Bounds
 returns-in-Bounds c =
     let fit = rw c.in-Bounds.is at c.requires.sizes in
     rw (c.in-Bounds.is, no-contents _ fit, c.text-in-Bounds.ensures) (text-answers BoundsComes _ c.bounds.ensures)
+
+pub returns-in-Demo : goal.returns-in-Demo
+returns-in-Demo c =
+    let fit = rw c.in-Demo.is at c.requires.sizes in
+    rw (c.in-Demo.is, no-contents _ fit) c.open_demo.ensures

@@ -33,12 +33,6 @@ save-requires g c = rw c.in-Save.is at c.requires
 pub returns-in-Save : goal.returns-in-Save
 returns-in-Save g c = rw c.in-Save.is c.save.ensures
 
-pub resume-requires : goal.resume-requires
-resume-requires g c = rw c.in-Resume.is at c.requires
-
-pub returns-in-Resume : goal.returns-in-Resume
-returns-in-Resume g c = rw c.in-Resume.is c.resume.ensures
-
 pub demo-requires : goal.demo-requires
 demo-requires g c = rw c.in-Demo.is at c.requires
 

@@ -6,7 +6,7 @@ use Rattle.vip_relation.proofs.vip.Vip.meet_all.Given as goal
 abbrev pub invariant-loop : goal.invariant-loop
 invariant-loop l = record {
   edition : l.self.edition ≡ l.fn.self.edition;
-  game : l.self.game ≡ l.fn.self.game;
+  start : l.self.start ≡ l.fn.self.start;
   board : l.self.board ≡ l.fn.self.board;
   moves : l.self.moves ≡ l.fn.self.moves;
 }

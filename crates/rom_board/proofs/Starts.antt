@@ -12,7 +12,12 @@ use Rattle.rom_rows.specs.Rom.{vip}
 use Rattle.chip8_image.specs.Interpreters.{interpreter_of}
 use Rattle.vip_text.proofs.StateFiles.{word_of-value}
 use Rattle.vip_text.specs.StateFile.{shown, bank_in, word_at, IsAccepted}
-use Rattle.vip_show.specs.Laws.{FileMayStart}
+use Rattle.rom_run.specs.States.{Beginning}
+use Rattle.rom_run.specs.States.Beginning.{AtReset, AtStart}
+use Rattle.vip_relation.specs.Follows.{Fits}
+use Rattle.vip_relation.specs.State.{Start, machine_of}
+use Rattle.vip_relation.specs.State.Start.{Reset, Saved}
+use Rattle.rom_board.specs.Laws.{FileMayStart}
 
 module _ (e : Edition) (f : List ℕ) (bytes : (k : ℕ) → slice_index f k < 256) (a : IsAccepted e f) where
   fits_at : (k : ℕ) → FitsWord (word_at f k)
@@ -106,3 +111,8 @@ file_may_start e f bytes a =
       even = a.cycle.even;
       outside = a.cycle.outside;
     }
+
+-- every run begins at such a state, or by a reset
+pub beginning : (e : Edition) (s : Start) → Fits e s → Beginning e (machine_of s)
+beginning e (Reset game) fits = AtReset game fits.fits fits.bytes
+beginning e (Saved file) fits = AtStart (machine_of (Saved file)) (file_may_start e file fits.bytes fits.accepted)
