@@ -2,7 +2,7 @@
 
 use std::io::{ErrorKind, Write};
 use std::{fs, io};
-use vip_outside::{Files, Loaded, ReadFail, RealFiles, Sink, StdSink};
+use vip_outside::{Files, Host, Loaded, ReadFail, RealFiles, Sink, StdSink, Writer};
 
 /// A file that these tests write, read and remove.
 const SCRATCH: &str = "scratch.bin";
@@ -31,7 +31,7 @@ impl Write for Slow {
 /// Writes what a put of three bytes comes to on streams that take few bytes or fail, and then an empty one.
 pub fn write_streams(rt: &HostRuntime) -> anyhow::Result<()> {
     for (step, flushes) in [(1, true), (9, true), (0, true), (9, false)] {
-        let mut sink = StdSink::new(Slow { step, flushes });
+        let mut sink = StdSink::new(Writer::new(Slow { step, flushes }));
         let answer = sink.put(b"abc");
         let empty = sink.put(b"");
         println!(rt;
@@ -44,7 +44,7 @@ pub fn write_streams(rt: &HostRuntime) -> anyhow::Result<()> {
 
 /// Writes what puts to a file come to.
 fn write_puts(rt: &HostRuntime) -> anyhow::Result<()> {
-    let mut sink = StdSink::new(fs::create(rt, SCRATCH)?);
+    let mut sink = StdSink::new(Writer::new(fs::create(rt, SCRATCH)?));
     for piece in ["ab", "", "c"] {
         let answer = sink.put(piece.as_bytes());
         println!(rt; "put of {piece:?} to a file: {answer:?}")?;
@@ -54,7 +54,7 @@ fn write_puts(rt: &HostRuntime) -> anyhow::Result<()> {
 
 /// What a read of the start of the file answers.
 fn read(rt: &HostRuntime, most: usize) -> Result<Loaded, ReadFail> {
-    let mut files = RealFiles::new(rt, rt.alloc());
+    let mut files = RealFiles::new(Host::new(rt));
     files.read(rt.alloc(), SCRATCH, most)
 }
 

@@ -1,5 +1,6 @@
 -- The laws of the answers, from what each answer says, and what the steps of a call say together.
 use Rattle.std.proofs.Common.{◌≡◌, ℕ, suc, ◌<◌, ◌⊎◌, inl, inr, List, [], ◌∷◌, ◌++◌, Option, Some, None, IsErrAnd, IsSomeAnd, length, take, take_all, refl, sym, ap, subst, ◌∙◌, arith, Result, Ok, Err}
+use Rattle.std.proofs.lemmas.List.{map-append}
 use Rattle.std.specs.FinMap.{get}
 use Rattle.machine.specs.Keys.{Event as KeyEvent}
 use Rattle.chip8_lang.specs.declared.view.Edition.{Edition}
@@ -19,7 +20,7 @@ use Rattle.vip_words.specs.declared.debug_commands.Speaks.TheVariants.{Chip8, Ma
 use Rattle.vip_words.specs.declared.debug_commands.CommandFault.{CommandFault}
 use Rattle.vip_words.specs.declared.debug_commands.CommandFault.TheVariants as debug_fault
 use Rattle.vip_outside.specs.Count.{Rose}
-use Rattle.vip_outside.specs.Files.{FileMap, FilesMeaning}
+use Rattle.vip_outside.specs.Files.{Answer, FileMap, FilesMeaning}
 use Rattle.vip_outside.specs.Sink.{SinkMeaning, PutAnswers}
 use Rattle.vip_outside.specs.Pieces.{PutsAll, FailsWithin}
 use Rattle.vip_outside.specs.declared.sink.Failed.{Failed}
@@ -32,7 +33,8 @@ use Rattle.vip_tools.specs.Certificates.CyclesComes.{NotAssembled, FaultyCertifi
 use Rattle.vip_tools.specs.Certificates.SafeComes.{FaultyProof, Proves}
 use Rattle.vip_call.specs.Words.{Faults, FinishAnswers, OfWords, OpensWords, PerformsAnswer, Reports, performed_status}
 use Rattle.vip_text.specs.declared.fault.StateFault.{StateFault}
-use Rattle.vip_tools.specs.Files.{Needed, needed, HasAll, HasFault, IsRight, ComesTo, IsFaulty, IsLarger, ReadsSome, with_names}
+use Rattle.vip_tools.specs.Files.{Needed, needed, HasAll, HasFault, IsRight, ComesTo, IsFaulty, IsLarger, ReadsSome, reads_of, with_reads}
+use Rattle.vip_tools.proofs.FilesLemmas.{names_read}
 use Rattle.vip_tools.specs.Outcome.{Outcome, SourceComes, rom_text}
 use Rattle.vip_tools.specs.Outcome.Outcome.{Refused, Shown, GivenUp}
 use Rattle.vip_tools.specs.Outcome.SourceComes.{FaultySource, Assembles}
@@ -453,17 +455,17 @@ module _ (old : FilesMeaning) (files : FileMap) (told : old.told ≡ Some files)
   lacks : (n : Needed) (ns : List Needed) → IsSomeAnd old.told (λ fs. get fs n.name ≡ None) → Reads files (n ∷ ns) Lacks
   lacks n ns absent = let none : get files n.name ≡ None = rw told at absent in rw none refl
 
-  larger : (n : Needed) (ns : List Needed) → IsLarger old n → Reads files (n ∷ ns) (Larger n.kind)
-  larger n ns large = go (get files n.name) (rw told at large)
+  larger : (n : Needed) (ns : List Needed) (answer : Answer) → IsLarger old n answer → Reads files (n ∷ ns) (Larger n.kind)
+  larger n ns answer large = go (get files n.name) (rw told at large.larger)
     where
       go : (found : Option (List ℕ)) → IsSomeAnd found (λ content. n.most < length content) → ReadsOne n found (Reads files ns) (Larger n.kind)
       go None h = absurd h
       go (Some content) h = inl (h, refl)
 
-  faulty_state : (n : Needed) (ns : List Needed) (fault : StateFault) → IsFaulty fault old n → Reads files (n ∷ ns) Faulted
-  faulty_state n ns fault h =
-      let found : get files n.name ≡ Some h.0 = rw told at h.1.found in
-      rw found (inr (inl (h.1.fits, fault, h.1.judged, refl)))
+  faulty_state : (n : Needed) (ns : List Needed) (fault : StateFault) (answer : Answer) → IsFaulty fault old n answer → Reads files (n ∷ ns) Faulted
+  faulty_state n ns fault answer h =
+      let found : get files n.name ≡ Some h.content = rw told at h.has.found in
+      rw found (inr (inl (h.has.fits, fault, h.has.judged, refl)))
 
 -- ---- when the answers come
 
@@ -522,7 +524,7 @@ module _ (call : Call) (asked : Asked) (files : FileMap) (offers : Offers call a
 
   -- what was refused at a file
   refused_at :
-      (Here : Needed → Type 0) (r : Reading) → ((content : List ℕ) → with_content content r ≡ r) → (mine : Asked) → asked_by call.words ≡ Some mine
+      (Here : Needed → Answer → Type 0) (r : Reading) → ((content : List ℕ) → with_content content r ≡ r) → (mine : Asked) → asked_by call.words ≡ Some mine
       → (at : ComesTo call.files call.files' (needed mine) Here) → Reads files (at.this ∷ at.after) r → Reads files (needed asked) r
   refused_at Here r stays mine words at e =
       subst (λ a. Reads files (needed a) r) (same mine words)
@@ -614,19 +616,19 @@ module _ (call : Call) (asked : Asked) (files : FileMap) (offers : Offers call a
   unread_here : (says : Says ReadFault call) → Reads files (needed asked) Lacks
   unread_here says =
       elim says.at.here.0 [
-        | inl fails ↦ absurd (quiet _ _ fails offers.quiet)
-        | inr lack ↦ refused_at _ Lacks (λ content. refl) says.asked says.words says.at (lacks call.files files offers.told says.at.this says.at.after lack)
+        | inl fails ↦ absurd (quiet _ _ fails.1 offers.quiet)
+        | inr lack ↦ refused_at _ Lacks (λ content. refl) says.asked says.words says.at (lacks call.files files offers.told says.at.this says.at.after lack.1)
       ]
 
   larger_here : (status : Status) (says : Oversize status call) → Reads files (needed asked) (Larger says.at.this.kind)
   larger_here status says =
       refused_at _ (Larger says.at.this.kind) (λ content. refl) says.asked says.words says.at
-      (larger call.files files offers.told says.at.this says.at.after says.at.here.0)
+      (larger call.files files offers.told says.at.this says.at.after says.at.answer says.at.here.0)
 
   faulted_here : FaultyState call → Reads files (needed asked) Faulted
   faulted_here says =
       refused_at _ Faulted (λ content. refl) says.asked says.words says.at
-      (faulty_state call.files files offers.told says.at.this says.at.after says.fault says.at.here.0)
+      (faulty_state call.files files offers.told says.at.this says.at.after says.fault says.at.answer says.at.here.0)
 
   oversize_due :
       (r : Reading) → Reads files (needed asked) r → (due : Status) → Due call asked r due → (status : Status) → Oversize status call
@@ -765,7 +767,9 @@ module _ (out out' err err' : SinkMeaning) where
 -- ---- what the steps of a call say together
 
 -- what holds at the same file
-there_too : (old new : FilesMeaning) (ns : List Needed) (Here There : Needed → Type 0) (at : ComesTo old new ns Here) → There at.this → ComesTo old new ns There
+there_too :
+    (old new : FilesMeaning) (ns : List Needed) (Here There : Needed → Answer → Type 0) (at : ComesTo old new ns Here) → There at.this at.answer
+    → ComesTo old new ns There
 there_too old new ns Here There at that = record {
   before = at.before;
   this = at.this;
@@ -773,20 +777,32 @@ there_too old new ns Here There at that = record {
   place = at.place;
   contents = at.contents;
   read = at.read;
-  names = at.names;
+  answer = at.answer;
+  reads = at.reads;
   here = that;
 }
 
 -- where a file is refused, the first ones were read
-some_to : (old new : FilesMeaning) (ns : List Needed) (Here : Needed → Type 0) → ComesTo old new ns Here → ReadsSome ns old new
-some_to old new ns Here at = (suc (length at.before), rw (at.place, first_ones at.before at.this at.after) at.names)
+some_to : (old new : FilesMeaning) (ns : List Needed) (Here : Needed → Answer → Type 0) → ComesTo old new ns Here → ReadsSome ns old new
+some_to old new ns Here at = record {
+  count = suc (length at.before);
+  reads = reads_of at.before at.contents ++ record { name = at.this.name; answer = at.answer } ∷ [];
+  names = rw (at.place, first_ones at.before at.this at.after, map-append, map-append, names_read old at.before at.contents at.read) refl;
+  made = at.reads;
+}
   where
     first_ones : (before : List Needed) (this : Needed) (after : List Needed) → take (suc (length before)) (before ++ this ∷ after) ≡ before ++ this ∷ []
     first_ones [] this after = refl
     first_ones (n ∷ before) this after = ap (λ ns. n ∷ ns) (first_ones before this after)
 
-some_all : (old new : FilesMeaning) (ns : List Needed) → new ≡ with_names ns old → ReadsSome ns old new
-some_all old new ns all = (length ns, rw (take_all (length ns) ns (omega arith)) (ap (λ m. m.names) all))
+some_all :
+    (old new : FilesMeaning) (ns : List Needed) (cs : List (List ℕ)) → HasAll old ns cs → new ≡ with_reads (reads_of ns cs) old → ReadsSome ns old new
+some_all old new ns cs had all = record {
+  count = length ns;
+  reads = reads_of ns cs;
+  names = rw (take_all (length ns) ns (omega arith)) (names_read old ns cs had);
+  made = ap (λ m. m.reads) all;
+}
 
 module _ (words : List (List ℕ)) (files files' : FilesMeaning) (out err err' : SinkMeaning) where
   abbrev refused_call : Call
@@ -799,7 +815,7 @@ module _ (words : List (List ℕ)) (files files' : FilesMeaning) (out err err' :
     asked = given.asked;
     contents = given.here.contents;
     asks = record { words = given.words_are; read = given.here.read };
-    files = given.here.names;
+    files = given.here.reads;
     report = report_of r;
     comes = given.here.here;
     refused = record { out = refl; err = report };
@@ -852,7 +868,7 @@ module _ (words : List (List ℕ)) (files files' : FilesMeaning) (out err err' :
   refused_with (refusal.Rom (image.RomDiffers address assembled here)) given report =
       rejected (refusal.Rom (image.RomDiffers address assembled here)) given report
   refused_with (refusal.Rom image.NoMemory) given report = record {
-    files = inr (record { asked = given.asked; words_are = given.words_are; here = some_all files files' (needed given.asked) given.here.names });
+    files = inr (record { asked = given.asked; words_are = given.words_are; here = some_all files files' (needed given.asked) given.here.contents given.here.read given.here.reads });
     refused = record { out = refl; err = report };
   }
   refused_with (refusal.Certificate line cause) given report = rejected (refusal.Certificate line cause) given report
@@ -861,7 +877,7 @@ module _ (words : List (List ℕ)) (files files' : FilesMeaning) (out err err' :
     asked = given.asked;
     contents = given.here.contents;
     asks = record { words = given.words_are; read = given.here.read };
-    files = given.here.names;
+    files = given.here.reads;
     report = no_certificate obstacle;
     comes = given.here.here;
     refused = record { out = refl; err = report };
@@ -874,9 +890,9 @@ module _ (words : List (List ℕ)) (files files' : FilesMeaning) (out err err' :
 
   all_read : {Here : Asked → List (List ℕ) → Type 0} → OfWords words (λ asked. OfFiles asked files files' (Here asked)) → ReadSome
   all_read given =
-      inr (record { asked = given.asked; words_are = given.words_are; here = some_all files files' (needed given.asked) given.here.names })
+      inr (record { asked = given.asked; words_are = given.words_are; here = some_all files files' (needed given.asked) given.here.contents given.here.read given.here.reads })
 
-  to_read : {Here : Asked → Needed → Type 0} → OfWords words (λ asked. ComesTo files files' (needed asked) (Here asked)) → ReadSome
+  to_read : {Here : Asked → Needed → Answer → Type 0} → OfWords words (λ asked. ComesTo files files' (needed asked) (Here asked)) → ReadSome
   to_read given = inr (record { asked = given.asked; words_are = given.words_are; here = some_to files files' (needed given.asked) _ given.here })
 
   read_some : (r : Refusal) → OpensWords words files files' (Err r) → ReadSome
@@ -914,7 +930,7 @@ module _ (words : List (List ℕ)) (files files' : FilesMeaning) (out out' err e
       asked = given.asked;
       contents = given.here.1.contents;
       asks = asks_all;
-      files = given.here.1.names;
+      files = given.here.1.reads;
       pieces = pieces;
       report = report;
       comes = subst (λ status. Comes given.asked given.here.1.contents (Shown pieces status report)) reports.status_is comes;
@@ -927,7 +943,7 @@ module _ (words : List (List ℕ)) (files files' : FilesMeaning) (out out' err e
       asked = given.asked;
       contents = given.here.1.contents;
       asks = asks_all;
-      files = given.here.1.names;
+      files = given.here.1.reads;
       pieces = pieces;
       status = status;
       report = report;
@@ -953,7 +969,7 @@ module _ (words : List (List ℕ)) (files files' : FilesMeaning) (out out' err e
     asked = given.asked;
     contents = given.here.1.contents;
     asks = asks_all;
-    files = given.here.1.names;
+    files = given.here.1.reads;
     report = report;
     comes = subst (λ status. Comes given.asked given.here.1.contents (Refused status report)) is comes;
     refused = record { out = same; err = put };
@@ -974,6 +990,6 @@ pub says_finished :
     (words : List (List ℕ)) (files files' : FilesMeaning) (out out' err err' : SinkMeaning) (opened : Result Prepared Refusal) (status : Status)
     → OpensWords words files files' opened → FinishAnswers opened out out' err err' status → Says status (call_of words files files' out out' err err')
 says_finished words files files' out out' err err' (Ok p) status given answer =
-    rw answer.2 (says_performed words files files' out out' err err' p given (outcome_of p) answer.0 given.here.1.here answer.1)
+    rw answer.is (says_performed words files files' out out' err err' p given (outcome_of p) answer.answer given.here.1.here answer.performs)
 says_finished words files files' out out' err err' (Err r) status given answer =
     rw answer.0 (says_refusal words files files' out err err' r status given answer.1)

@@ -1,21 +1,23 @@
 -- What each answer of the program says.
-use Rattle.std.specs.Prelude.{◌≡◌, ℕ, ◌+◌, ◌^◌, ◌<◌, ◌≤◌, ◌⊎◌, List, [], ◌∷◌, Option, Some, None, length}
+use Rattle.std.specs.Prelude.{◌≡◌, ℕ, ◌+◌, ◌^◌, ◌<◌, ◌≤◌, ◌⊎◌, List, [], ◌∷◌, Option, Some, None, Result, length}
 use Rattle.std.specs.FinMap.{get}
 use Rattle.vip_outside.specs.Files.{FileMap, FilesMeaning}
 use Rattle.vip_outside.specs.Sink.{SinkMeaning}
 use Rattle.vip_outside.specs.Pieces.{PutsAll, FailsWithin}
 use Rattle.vip_words.specs.Asked.{Asked, AskedLink, asked_by, certify, link}
 use Rattle.vip_tools.specs.declared.refusal.Kind.{Kind}
+use Rattle.vip_tools.specs.declared.refusal.Refusal.{Refusal}
 use Rattle.vip_tools.specs.declared.status.Status.{Status}
 use Rattle.vip_tools.specs.declared.status.Status.TheVariants.{Done, Stopped, Usage, ReadFault, GameTooLarge, ScriptTooLarge, BadScript, BadSource, BadRomSource, RomDiffers, WriteFault, NoMemory, BadCommand, SourceTooLarge, CommandsTooLarge, BadState, NoDispatch, BadCertificate, MessageTooLarge, BadProof, CertificateTooLarge, NoCertificate, RomTooLarge, RamTooLarge}
 use Rattle.vip_text.specs.declared.fault.StateFault.{StateFault}
-use Rattle.vip_tools.specs.Files.{Needed, needed, HasAll, HasFault, IsRight, ComesTo, IsFaulty, IsLarger, IsUnread, OnlyReads, ReadsSome, with_names}
+use Rattle.vip_tools.specs.Files.{Needed, needed, HasAll, HasFault, IsRight, ComesTo, IsFaulty, IsLarger, IsUnread, OnlyReads, ReadsSome, reads_of, with_reads}
 use Rattle.vip_call.specs.Certified.{Certifies}
 use Rattle.vip_call.specs.Linked.{BringsMessage}
 use Rattle.vip_call.specs.Language.{ShowsChip8}
 use Rattle.vip_call.specs.Saved.{Continues}
 use Rattle.vip_call.specs.Transcript.{Transcribes}
-use Rattle.vip_call.specs.Words.{OfWords}
+use Rattle.vip_call.specs.Words.{FinishAnswers, OfWords, OpensWords}
+use Rattle.vip_verbs.specs.declared.prepared.Prepared.{Prepared}
 use Rattle.vip_verbs.specs.Outcome.{Comes}
 use Rattle.vip_tools.specs.Outcome.Outcome.{Refused, Shown, GivenUp}
 use Rattle.vip_tools.specs.Refusal.{too_large_status}
@@ -57,14 +59,14 @@ pub record Wants (call : Call) : Type 0 where
 pub record Unread (call : Call) : Type 0 where
   pub asked : Asked
   pub words : asked_by call.words ≡ Some asked
-  pub at : ComesTo call.files call.files' (needed asked) (λ n. IsUnread call.files call.files' n × Refuses (cannot_read n.name) call)
+  pub at : ComesTo call.files call.files' (needed asked) (λ n answer. IsUnread call.files call.files' n answer × Refuses (cannot_read n.name) call)
 
 -- A file has more bytes than its kind may have. Those before it were read, each once, and none behind it.
 pub record Oversize (status : Status) (call : Call) : Type 0 where
   pub asked : Asked
   pub words : asked_by call.words ≡ Some asked
   pub at : ComesTo call.files call.files' (needed asked)
-      (λ n. IsLarger call.files n × (status ≡ too_large_status n.kind) × Refuses (too_large_report n.kind) call)
+      (λ n answer. IsLarger call.files n answer × (status ≡ too_large_status n.kind) × Refuses (too_large_report n.kind) call)
 
 -- A saved state has a fault, its first one, which the report names. Those before it were read, each once, and none behind it; no read was a fault.
 pub record FaultyState (call : Call) : Type 0 where
@@ -72,23 +74,25 @@ pub record FaultyState (call : Call) : Type 0 where
   pub words : asked_by call.words ≡ Some asked
   pub fault : StateFault
   pub at :
-      ComesTo call.files call.files' (needed asked) (λ n. IsFaulty fault call.files n × OnlyReads call.files call.files' × Refuses (bad_state fault) call)
+      ComesTo call.files call.files' (needed asked)
+      (λ n answer. IsFaulty fault call.files n answer × OnlyReads call.files call.files' × Refuses (bad_state fault) call)
 
 -- the words ask for this, and these are the contents of the files that it names
 pub record Asks (call : Call) (asked : Asked) (contents : List (List ℕ)) : Type 0 where
   pub words : asked_by call.words ≡ Some asked
   pub read : HasAll call.files (needed asked) contents
 
--- All the files that the words name were read, in their order, each once; no other was, and no read was a fault.
-abbrev pub ReadsAll : Call → Asked → Type 0
-ReadsAll call asked = call.files' ≡ with_names (needed asked) call.files
+-- All the files that the words name were read, in their order, each once and up to its end, and these are their contents; no other was, and no read
+-- was a fault.
+abbrev pub ReadsAll : Call → Asked → List (List ℕ) → Type 0
+ReadsAll call asked contents = call.files' ≡ with_reads (reads_of (needed asked) contents) call.files
 
 -- the contents are refused
 pub record Rejects (status : Status) (call : Call) : Type 0 where
   pub asked : Asked
   pub contents : List (List ℕ)
   pub asks : Asks call asked contents
-  pub files : ReadsAll call asked
+  pub files : ReadsAll call asked contents
   pub report : List ℕ
   pub comes : Comes asked contents (Refused status report)
   pub refused : Refuses report call
@@ -98,7 +102,7 @@ pub record GivesUp (call : Call) : Type 0 where
   pub asked : Asked
   pub contents : List (List ℕ)
   pub asks : Asks call asked contents
-  pub files : ReadsAll call asked
+  pub files : ReadsAll call asked contents
   pub report : List ℕ
   pub comes : Comes asked contents (GivenUp report)
   pub refused : Refuses report call
@@ -118,7 +122,7 @@ pub record Writes (Of : OutputLaw) (status : Status) (call : Call) : Type 0 wher
   pub asked : Asked
   pub contents : List (List ℕ)
   pub asks : Asks call asked contents
-  pub files : ReadsAll call asked
+  pub files : ReadsAll call asked contents
   pub pieces : List (List ℕ)
   pub report : List ℕ
   pub comes : Of asked contents pieces status report
@@ -143,7 +147,7 @@ pub record WritesPart (Of : OutputLaw) (call : Call) : Type 0 where
   pub asked : Asked
   pub contents : List (List ℕ)
   pub asks : Asks call asked contents
-  pub files : ReadsAll call asked
+  pub files : ReadsAll call asked contents
   pub pieces : List (List ℕ)
   pub status : Status
   pub report : List ℕ
@@ -356,3 +360,11 @@ pub record Promises (status : Status) (call : Call) : Type 0 where
   pub due : GivesDue status call
   pub complete : Completes status call
   pub rom : ¬ IsOfRom status
+
+-- Whatever was opened for the words and then finished, or refused and reported, keeps what is promised.
+abbrev pub EveryCall : Type 0
+EveryCall =
+    (words : List (List ℕ)) (files files' : FilesMeaning) (out out' err err' : SinkMeaning) (opened : Result Prepared Refusal) (status : Status)
+    → OpensWords words files files' opened
+    → FinishAnswers opened out out' err err' status
+    → Promises status (call_of words files files' out out' err err')

@@ -64,8 +64,13 @@ abbrev pub performed_status : Result Ended PerformFault → Status
 performed_status (Ok ended) = ended_status ended
 performed_status (Err fault) = fault_status fault
 
--- What is answered once something was opened, or nothing: what was performed, which is never want of memory; or a refusal, with no output.
+-- The status of what was performed, which is never want of memory.
+pub record Finishes (o : Outcome) (out out' err err' : SinkMeaning) (status : Status) : Type 0 where
+  pub answer : Result Ended PerformFault
+  pub performs : PerformsAnswer o out out' err err' answer
+  pub is : status ≡ performed_status answer
+
+-- What is answered once something was opened, or nothing: what was performed; or a refusal, with no output.
 abbrev pub FinishAnswers : Result Prepared Refusal → SinkMeaning → SinkMeaning → SinkMeaning → SinkMeaning → Status → Type 0
-FinishAnswers (Ok p) out out' err err' status =
-    (answer : Result Ended PerformFault) × PerformsAnswer (outcome_of p) out out' err err' answer × (status ≡ performed_status answer)
+FinishAnswers (Ok p) out out' err err' status = Finishes (outcome_of p) out out' err err' status
 FinishAnswers (Err refusal) out out' err err' status = (out' ≡ out) × RefusalAnswers refusal err err' status

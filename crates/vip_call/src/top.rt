@@ -4,8 +4,8 @@ ghost use Rattle.std.specs.Prelude.{◌≡◌, IfOk, map, string_bytes};
 ghost use Rattle.vip_words.specs.Asked.{InRange};
 ghost use Rattle.vip_words.specs.Request.{asked_of};
 ghost use Rattle.vip_verbs.specs.Prepared.{IsReady, outcome_of};
-ghost use Rattle.vip_call.specs.Words.{FinishAnswers, OpensWords, PerformsAnswer, UnderstoodAnswers, performed_status};
-ghost use Rattle.vip_call.specs.Top.{call_of, Says, Promises};
+ghost use Rattle.vip_call.specs.Words.{Finishes, OpensWords, PerformsAnswer, UnderstoodAnswers, performed_status};
+ghost use Rattle.vip_call.specs.Top.{call_of, EveryCall, Promises};
 
 use chip8_source::laws::source_gives_rom;
 use cycle_check::laws::accepted_leaves;
@@ -77,46 +77,18 @@ fn performed(answer: Result<Ended, PerformFault>) -> Status
     }
 }
 
-/// Performs what was opened, or reports why nothing was. Where something was opened, the answer is never want of memory.
-pub fn finish<O: Sink, E: Sink>(
-    alloc: Global,
-    opened: Result<Prepared, Refusal<'_>>,
-    out: &mut O,
-    err: &mut E,
-) -> Status
-    requires { IfOk opened IsReady }
-    ensures { FinishAnswers opened.entry (O.meaning out.old) (O.meaning out.new) (E.meaning err.old) (E.meaning err.new) result }
+/// Performs what was opened, and answers the status. It is handed no allocator, and the answer is never want of memory.
+pub fn finish<O: Sink, E: Sink>(prepared: Prepared, out: &mut O, err: &mut E) -> Status
+    requires { IsReady prepared }
+    ensures { Finishes (outcome_of prepared) (O.meaning out.old) (O.meaning out.new) (E.meaning err.old) (E.meaning err.new) result }
 {
-    match opened {
-        Ok(prepared) => performed(perform(prepared, out, err)),
-        Err(refusal) => put_refusal(alloc, err, &refusal),
-    }
+    performed(perform(prepared, out, err))
 }
 
-/// Opens, and then finishes.
-fn open_and_finish<F: Files, O: Sink, E: Sink>(
-    alloc: Global,
-    words: &[String],
-    files: &mut F,
-    out: &mut O,
-    err: &mut E,
-) -> Status
-    ensures { Says result (call_of (map string_bytes words.now) (F.meaning files.old) (F.meaning files.new) (O.meaning out.old) (O.meaning out.new) (E.meaning err.old) (E.meaning err.new)) }
-{
-    let opened = open(alloc, words, files);
-    finish(alloc, opened, out, err)
-}
-
-/// Runs the program on its words: `open`, and then `perform` or the report of a refusal. What it writes goes to `out`, each piece by one put, and one
-/// line of report to `err` by one put; after a put that failed nothing more goes to that sink. The answer is the status with which the process ends.
-pub fn vip_main<F: Files, O: Sink, E: Sink>(
-    alloc: Global,
-    words: &[String],
-    files: &mut F,
-    out: &mut O,
-    err: &mut E,
-) -> Status
-    ensures promises { Promises result (call_of (map string_bytes words.now) (F.meaning files.old) (F.meaning files.new) (O.meaning out.old) (O.meaning out.new) (E.meaning err.old) (E.meaning err.new)) }
+/// The law of every call: whoever opens what the words ask for, and then finishes what was opened, or reports why nothing was, keeps what the program
+/// promises.
+pub fn every_call()
+    ensures { EveryCall }
 {
     every_run();
     every_start();
@@ -128,5 +100,22 @@ pub fn vip_main<F: Files, O: Sink, E: Sink>(
     every_schedule();
     source_gives_rom();
     sources_give_roms();
-    open_and_finish(alloc, words, files, out, err)
+}
+
+/// Runs the program on its words: `open`, and then `finish` or the report of a refusal. What it writes goes to `out`, each piece by one put, and one
+/// line of report to `err` by one put; after a put that failed nothing more goes to that sink. The answer is the status with which the process ends.
+pub fn vip_main<F: Files, O: Sink, E: Sink>(
+    alloc: Global,
+    words: &[String],
+    files: &mut F,
+    out: &mut O,
+    err: &mut E,
+) -> Status
+    ensures promises { Promises result (call_of (map string_bytes words.now) (F.meaning files.old) (F.meaning files.new) (O.meaning out.old) (O.meaning out.new) (E.meaning err.old) (E.meaning err.new)) }
+{
+    every_call();
+    match open(alloc, words, files) {
+        Ok(prepared) => finish(prepared, out, err),
+        Err(refusal) => put_refusal(alloc, err, &refusal),
+    }
 }

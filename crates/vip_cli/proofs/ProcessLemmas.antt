@@ -1,5 +1,5 @@
 -- What the process does, from what it makes of its command line.
-use Rattle.std.proofs.Common.{◌≡◌, ◌⊎◌, inl, inr, ℕ, List, map, refl, subst, Ok, Err}
+use Rattle.std.proofs.Common.{◌≡◌, inl, inr, ℕ, List, map, refl, subst, Ok, Err}
 use Rattle.std.specs.Prelude.{Vec, String, string_bytes}
 use Rattle.std.specs.declared.alloc.Global.{Global}
 use Rattle.vip_outside.specs.Files.{FilesMeaning}
@@ -9,25 +9,24 @@ use Rattle.vip_tools.specs.declared.refusal.Refusal.TheVariants as refusal
 use Rattle.vip_tools.specs.declared.status.Status.{Status}
 use Rattle.vip_tools.specs.Reported.{RefusalAnswers}
 use Rattle.vip_tools.specs.Status.{status_number}
-use Rattle.vip_call.specs.Top.{Promises, call_of}
-use Rattle.vip_cli.specs.Process.{CommandLine, ProcessAnswers, Runs, WordsAnswer}
+use Rattle.vip_cli.specs.Process.{CommandLine, Ends, LineAnswers, Runs, WordsAnswer}
 
 module _ (files files' : FilesMeaning) (out out' err err' : SinkMeaning) where
   -- it ran on the words
   pub runs :
       (line : CommandLine) (words : Vec (String Global) Global) (given : List (String Global)) (status : Status) (number : ℕ)
-      → WordsAnswer line (Ok words) → given ≡ words.items → Promises status (call_of (map string_bytes given) files files' out out' err err')
-      → number ≡ status_number status → ProcessAnswers line files files' out out' err err' number
-  runs (Ok args) words given status number is same promises ends =
-      inl (subst (λ ws. Runs (map string_bytes ws) files files' out out' err err' number) is
-      (subst (λ ws. Runs (map string_bytes ws) files files' out out' err err' number) same (record { status = status; promises = promises; ends = ends })))
-  runs (Err error) words given status number is same promises ends = absurd is
+      → WordsAnswer line (Ok words) → given ≡ words.items → Runs (map string_bytes given) files files' out out' err err' status
+      → number ≡ status_number status → LineAnswers line files files' out out' err err' number
+  runs (Ok args) words given status number is same ran ends =
+      inl (subst (λ ws. Ends (map string_bytes ws) files files' out out' err err' number) is
+      (subst (λ ws. Ends (map string_bytes ws) files files' out out' err err' number) same (record { status = status; runs = ran; ends = ends })))
+  runs (Err error) words given status number is same ran ends = absurd is
 
 module _ (files : FilesMeaning) (out err err' : SinkMeaning) where
   -- it didn't
   pub refuses :
       (line : CommandLine) (r : Refusal) (status : Status) (number : ℕ) → WordsAnswer line (Err r) → RefusalAnswers r err err' status
-      → number ≡ status_number status → ProcessAnswers line files files out out err err' number
+      → number ≡ status_number status → LineAnswers line files files out out err err' number
   refuses (Ok args) refusal.Usage status number is answer ends = absurd is
   refuses (Ok args) (refusal.Unread name) status number is answer ends = absurd is
   refuses (Ok args) (refusal.TooLarge kind) status number is answer ends = absurd is

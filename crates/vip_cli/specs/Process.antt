@@ -1,10 +1,14 @@
--- What the process does with its command line, its files and its two streams.
+-- What the process does with its command line, its system and its two streams.
 use Rattle.std.specs.Prelude.{◌≡◌, ◌⊎◌, ℕ, List, Result, Ok, Err, Vec, String, map, drop, string_bytes}
 use Rattle.std.specs.Vec.Iter.{into_iter_items}
 use Rattle.std.specs.declared.vec.IntoIter.{IntoIter}
 use Rattle.std.specs.declared.io.Error.{Error}
 use Rattle.std.specs.declared.alloc.Global.{Global}
 use Rattle.vip_outside.specs.Files.{FilesMeaning}
+use Rattle.vip_outside.specs.RealFiles as real
+use Rattle.vip_outside.specs.RealFiles.{SystemFiles}
+use Rattle.vip_outside.specs.StdSink as sink
+use Rattle.vip_outside.specs.StdSink.{StreamSink}
 use Rattle.vip_outside.specs.Sink.{SinkMeaning}
 use Rattle.vip_tools.specs.declared.refusal.Refusal.{Refusal}
 use Rattle.vip_tools.specs.declared.refusal.Refusal.TheVariants as refusal
@@ -14,6 +18,8 @@ use Rattle.vip_tools.specs.Report.{no_memory, usage}
 use Rattle.vip_tools.specs.Reported.{IsPut}
 use Rattle.vip_tools.specs.Status.{status_number}
 use Rattle.vip_call.specs.Top.{Promises, call_of}
+use Rattle.vip_call.specs.Words.{FinishAnswers, OpensWords}
+use Rattle.vip_verbs.specs.declared.prepared.Prepared.{Prepared}
 
 -- the command line: the program's name, and the words behind it; or an error, as where one isn't UTF-8
 abbrev pub CommandLine : Type 0
@@ -30,11 +36,12 @@ WordsAnswer (Err error) (Err refusal.Usage) = Unit {0}
 WordsAnswer (Err error) (Err refusal.NoMemory) = Unit {0}
 WordsAnswer _ _ = ⊥
 
--- The program ran on these words, and the process ends with the number of the status that it answered.
-pub record Runs (words : List (List ℕ)) (files files' : FilesMeaning) (out out' err err' : SinkMeaning) (number : ℕ) : Type 0 where
-  pub status : Status
+-- The program ran on these words: something was opened and finished, which is never want of memory, or a refusal was reported.
+pub record Runs (words : List (List ℕ)) (files files' : FilesMeaning) (out out' err err' : SinkMeaning) (status : Status) : Type 0 where
+  pub opened : Result Prepared Refusal
+  pub opens : OpensWords words files files' opened
+  pub finishes : FinishAnswers opened out out' err err' status
   pub promises : Promises status (call_of words files files' out out' err err')
-  pub ends : number ≡ status_number status
 
 -- It didn't: no file was read, nothing was written but this report, by one put, and the process ends with the number of this status.
 pub record Refuses (status : Status) (report : List ℕ) (files files' : FilesMeaning) (out out' err err' : SinkMeaning) (number : ℕ) : Type 0 where
@@ -43,10 +50,22 @@ pub record Refuses (status : Status) (report : List ℕ) (files files' : FilesMe
   pub reports : IsPut report err err'
   pub ends : number ≡ status_number status
 
--- what the process does: it runs the program on the words; or no memory is found for them; or there is no command line in UTF-8
-abbrev pub ProcessAnswers : CommandLine → FilesMeaning → FilesMeaning → SinkMeaning → SinkMeaning → SinkMeaning → SinkMeaning → ℕ → Type 0
-ProcessAnswers (Ok args) files files' out out' err err' number =
-    Runs (map string_bytes (words_behind args)) files files' out out' err err' number
-    ⊎ Refuses NoMemory no_memory files files' out out' err err' number
-ProcessAnswers (Err error) files files' out out' err err' number =
+-- the program ran on the words, and the process ends with the number of its status
+pub record Ends (words : List (List ℕ)) (files files' : FilesMeaning) (out out' err err' : SinkMeaning) (number : ℕ) : Type 0 where
+  pub status : Status
+  pub runs : Runs words files files' out out' err err' status
+  pub ends : number ≡ status_number status
+
+-- what is done with a command line: the program runs on the words; or no memory is found for them; or there is no command line in UTF-8
+abbrev pub LineAnswers : CommandLine → FilesMeaning → FilesMeaning → SinkMeaning → SinkMeaning → SinkMeaning → SinkMeaning → ℕ → Type 0
+LineAnswers (Ok args) files files' out out' err err' number =
+    Ends (map string_bytes (words_behind args)) files files' out out' err err' number ⊎ Refuses NoMemory no_memory files files' out out' err err' number
+LineAnswers (Err error) files files' out out' err err' number =
     Refuses Usage usage files files' out out' err err' number ⊎ Refuses NoMemory no_memory files files' out out' err err' number
+
+-- What the process does, on the files of a system and on a sink over each of two streams: of the system it is said what was opened and read, and of each
+-- stream the bytes that it took, where they tell that.
+abbrev pub ProcessAnswers : CommandLine → SystemFiles → SystemFiles → StreamSink → StreamSink → StreamSink → StreamSink → ℕ → Type 0
+ProcessAnswers line files files' out out' err err' number =
+    LineAnswers line (real.meaning_of files) (real.meaning_of files') (sink.meaning_of out) (sink.meaning_of out') (sink.meaning_of err) (sink.meaning_of err')
+    number

@@ -1,22 +1,21 @@
-//! The program `vip`: it makes the one call of `vip_call` on the words of its command line, the files of the file system, and its standard
-//! output and standard error, and ends with the status that the call answers. It stands on that call, on the outside of `vip_outside` and on the
-//! statuses of `vip_tools`. `process` is generic over the files and the two streams, and proved as such: the words are all those behind the
-//! program's name, what goes to the streams is what the call put, and the process ends with the number of its status. `main` hands it the real ones,
-//! of which no contract can speak.
+//! The program `vip`: on the words of its command line, the files of the file system, and its standard output and standard error it opens what the
+//! words ask for, finishes what was opened or reports why nothing was, and ends with the status of that. It stands on these calls of `vip_call`, on the
+//! outside of `vip_outside` and on the statuses of `vip_tools`. `process` is generic over the system and the two streams, and proved as such: the words
+//! are all those behind the program's name, what the system opened and what went to the streams is what the calls promise, and the process ends with
+//! the number of its status. `main` is one call of it, with the real ones, of which no contract can speak.
 #![tactic(auto)]
 
-ghost use Rattle.std.specs.Prelude.{◌≡◌, IfOk};
+ghost use Rattle.std.specs.Prelude.{◌≡◌, IfOk, map, string_bytes};
 ghost use Rattle.std.specs.Process.{exit_status};
-ghost use Rattle.vip_outside.specs.StdSink.{meaning_of};
-ghost use Rattle.vip_cli.specs.Process.{ProcessAnswers, WordsAnswer, words_behind};
+ghost use Rattle.vip_cli.specs.Process.{ProcessAnswers, Runs, WordsAnswer, words_behind};
 
 use std::alloc::{AllocError, Global};
 use std::env;
-use std::io::{self, ErrorKind, Write};
+use std::io::{self, ErrorKind};
 use std::process::ExitCode;
-use vip_call::vip_main;
-use vip_outside::{Files, RealFiles, StdSink};
-use vip_tools::{Refusal, put_refusal};
+use vip_call::{every_call, finish, open};
+use vip_outside::{Files, Host, RealFiles, Sink, StdSink, Stream, System, Writer};
+use vip_tools::{Refusal, Status, put_refusal};
 
 /// The words behind the program's name, all of them.
 fn words_after_name(alloc: Global, args: env::Args) -> Result<Vec<String>, AllocError>
@@ -39,19 +38,36 @@ fn words_of(alloc: Global, args: io::Result<env::Args>) -> Result<Vec<String>, R
     }
 }
 
-/// Runs the program on a command line, on files, and on a sink over a stream for its output and one for its report; a sink tells what its stream tells.
-fn process<F: Files, O: Write, E: Write>(
+/// Runs the program on words: what they ask for is opened, and what was opened is finished without an allocator; or why nothing was is reported.
+fn run<F: Files, O: Sink, E: Sink>(
+    alloc: Global,
+    words: &[String],
+    files: &mut F,
+    out: &mut O,
+    err: &mut E,
+) -> Status
+    ensures { Runs (map string_bytes words.now) (F.meaning files.old) (F.meaning files.new) (O.meaning out.old) (O.meaning out.new) (E.meaning err.old) (E.meaning err.new) result }
+{
+    every_call();
+    match open(alloc, words, files) {
+        Ok(prepared) => finish(prepared, out, err),
+        Err(refusal) => put_refusal(alloc, err, &refusal),
+    }
+}
+
+/// Runs the program on a command line, on the files of a system, and on a sink over a stream for its output and one for its report.
+fn process<S: System, O: Stream, E: Stream>(
     alloc: Global,
     args: io::Result<env::Args>,
-    files: &mut F,
+    files: &mut RealFiles<S>,
     out: &mut StdSink<O>,
     err: &mut StdSink<E>,
 ) -> ExitCode
-    ensures { ProcessAnswers args (F.meaning files.old) (F.meaning files.new) (meaning_of out.old) (meaning_of out.new) (meaning_of err.old) (meaning_of err.new) (exit_status result) }
+    ensures { ProcessAnswers args files.old files.new out.old out.new err.old err.new (exit_status result) }
 {
     match words_of(alloc, args) {
         Ok(words) => {
-            let status = vip_main(alloc, words.as_slice(), files, out, err);
+            let status = run(alloc, words.as_slice(), files, out, err);
             ExitCode::from(status.number())
         }
         Err(refusal) => {
@@ -62,8 +78,11 @@ fn process<F: Files, O: Write, E: Write>(
 }
 
 fn main(rt: HostRuntime) -> ExitCode {
-    let alloc = rt.alloc();
-    let mut files = RealFiles::new(&rt, alloc);
-    let (mut out, mut err) = (StdSink::new(rt.stdout()), StdSink::new(rt.stderr()));
-    process(alloc, env::args(&rt), &mut files, &mut out, &mut err)
+    process(
+        rt.alloc(),
+        env::args(&rt),
+        &mut RealFiles::new(Host::new(&rt)),
+        &mut StdSink::new(Writer::new(rt.stdout())),
+        &mut StdSink::new(Writer::new(rt.stderr())),
+    )
 }

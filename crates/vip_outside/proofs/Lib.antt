@@ -2,3 +2,4 @@ mod FileTreeLemmas
 pub mod PiecesLemmas
 pub mod SinkLemmas
 mod StreamLemmas
+mod SystemLemmas

@@ -1,11 +1,10 @@
 -- Pieces put one after another: how to add to them.
 use Rattle.std.proofs.Common.{◌≡◌, ℕ, ◌+◌, ◌-◌, ◌^◌, min, List, [], ◌∷◌, ◌++◌, length, take, Option, Some, None, Result, Ok, Err, IsErr, option_map, refl, ap, arith, append_assoc, append-nil, length-append}
-use Rattle.std.proofs.Math.Seq.{take-append-add}
 use Rattle.std.proofs.lemmas.Grind.{flat_map-append}
-use Rattle.vip_outside.specs.Sink.{SinkMeaning, GainsPart, GainAnswers, PutsWhole, PutFails, PutAnswers}
+use Rattle.vip_outside.specs.Sink.{SinkMeaning, PutsWhole, PutFails, PutAnswers}
 use Rattle.vip_outside.specs.Pieces.{joined, PutsAll, FailsWithin, StreamAnswers}
 use Rattle.vip_outside.specs.declared.sink.Failed.{Failed}
-use Rattle.vip_outside.proofs.SinkLemmas.{GrewBy-append, Rose-after_same, Gains-nil, GainAnswers-append, GainsPart-append}
+use Rattle.vip_outside.proofs.SinkLemmas.{GrewBy-append, Rose-after_same, Gains-nil, GainAnswers-append}
 
 pub joined-append : (first second : List (List ℕ)) → joined (first ++ second) ≡ joined first ++ joined second
 joined-append first second = flat_map-append (λ (piece : List ℕ). piece) first second

@@ -1,9 +1,14 @@
 -- A piece on its way to a stream.
-use Rattle.std.proofs.Common.{◌≡◌, ℕ, List, [], ◌∷◌, ◌++◌, ◌-◌, length, take, drop, Option, Some, None, Result, Ok, Err, IsErr, refl, sym, ◌∙◌, append_assoc, append-nil, arith, length-drop}
+use Rattle.std.proofs.Common.{◌≡◌, inl, inr, ℕ, ◌<◌, ◌-◌, Bool, true, false, List, [], ◌∷◌, ◌++◌, length, take, drop, Option, Some, None, Result, Ok, Err, IsErr, is_err, option_map, refl, sym, ap, ◌∙◌, append_assoc, append-nil, arith, length-drop}
 use Rattle.std.proofs.Math.Seq.{take-append_seam, take-length}
 use Rattle.std.proofs.lemmas.List.{take-append-drop}
-use Rattle.std.specs.Io.KnownBytes.{Keeps, Appends}
-use Rattle.vip_outside.specs.StdSink.{AppendsPart, WriteAnswers}
+use Rattle.std.specs.Io.KnownBytes.{Appends}
+use Rattle.vip_outside.specs.Count.{Rose}
+use Rattle.vip_outside.specs.Stream.{StreamCall, Sends, and_calls, bytes_of}
+use Rattle.vip_outside.specs.Stream.StreamCall.{Wrote, WriteFailed, Flushed, FlushFailed}
+use Rattle.vip_outside.specs.Stream.Sends.{Ends, EndFails, Takes, TakesNone, Fails}
+use Rattle.vip_outside.specs.Sink.{PutAnswers}
+use Rattle.vip_outside.specs.StdSink.{Sent, SendsSome, meaning_of}
 use Rattle.vip_outside.specs.declared.sink.Failed.{Failed}
 
 pub Appends-nil : (known : Option (List ℕ)) → Appends known known []
@@ -16,46 +21,139 @@ Appends-append a b (Some xs) None new first second = absurd first
 Appends-append a b (Some xs) (Some ys) None first second = absurd second
 Appends-append a b (Some xs) (Some ys) (Some zs) first second = rw (second, first, append_assoc)
 
-pub Appends-kept : (a : List ℕ) (old middle new : Option (List ℕ)) → Appends old middle a → Keeps middle new → Appends old new a
-Appends-kept a None middle new first second = tt
-Appends-kept a (Some xs) None new first second = absurd first
-Appends-kept a (Some xs) (Some ys) None first second = absurd second
-Appends-kept a (Some xs) (Some ys) (Some zs) first second = second ∙ first
+-- ---- calls
 
--- of a piece some bytes reached the stream, and the rest is to come
-pub record IsPartSent (piece rest : List ℕ) (old new : Option (List ℕ)) : Type 0 where
-  pub sent : List ℕ
-  pub whole : piece ≡ sent ++ rest
-  pub appends : Appends old new sent
+no_calls : (calls : Option (List StreamCall)) → calls ≡ and_calls [] calls
+no_calls None = refl
+no_calls (Some cs) = ap (λ ds. Some ds) (sym (append-nil cs))
+
+and_calls-append : (a b : List StreamCall) (old : Option (List StreamCall)) → and_calls b (and_calls a old) ≡ and_calls (a ++ b) old
+and_calls-append a b None = refl
+and_calls-append a b (Some cs) = ap (λ ds. Some ds) (append_assoc cs a b)
+
+pub bytes_of-append : (a b : List StreamCall) → bytes_of (a ++ b) ≡ bytes_of a ++ bytes_of b
+bytes_of-append [] b = refl
+bytes_of-append (Wrote offered count ∷ a) b = rw (append_assoc, bytes_of-append a b) refl
+bytes_of-append (WriteFailed offered ∷ a) b = bytes_of-append a b
+bytes_of-append (Flushed ∷ a) b = bytes_of-append a b
+bytes_of-append (FlushFailed ∷ a) b = bytes_of-append a b
+
+-- ---- the calls so far, behind which those for the rest of the piece come
+
+pub record IsSending (piece rest : List ℕ) (old new : Option (List StreamCall)) : Type 0 where
+  pub calls : List StreamCall
+  pub made : new ≡ and_calls calls old
+  pub goes_on : (more : List StreamCall) (fails : Bool) → Sends rest more fails → Sends piece (calls ++ more) fails
+
+pub IsSending-first : (piece : List ℕ) (old : Option (List StreamCall)) → IsSending piece piece old old
+IsSending-first piece old = record { calls = []; made = no_calls old; goes_on = λ more fails sends. sends }
+
+-- one call more
+made_more :
+    (calls more : List StreamCall) (old middle new : Option (List StreamCall)) → middle ≡ and_calls calls old → new ≡ and_calls more middle
+    → new ≡ and_calls (calls ++ more) old
+made_more calls more old middle new first second = second ∙ ap (and_calls more) first ∙ and_calls-append calls more old
 
 -- after a write that took some bytes
-pub IsPartSent-write : (count : ℕ) (piece rest : List ℕ) (old middle new : Option (List ℕ)) → IsPartSent piece rest old middle
-    → Appends middle new (take count rest) → IsPartSent piece (take (length rest - count) (drop count rest)) old new
-IsPartSent-write count piece rest old middle new before write =
+pub IsSending-write : (count : ℕ) (piece rest : List ℕ) (old middle new : Option (List StreamCall)) → IsSending piece rest old middle
+    → SendsSome rest middle new (Ok count) → IsSending piece (take (length rest - count) (drop count rest)) old new
+IsSending-write count piece rest old middle new before wrote =
     let tail : take (length rest - count) (drop count rest) ≡ drop count rest = rw (← length-drop count rest) (take-length (drop count rest)) in
     rw tail (record {
-      sent = before.sent ++ take count rest;
-      whole = rw (append_assoc, take-append-drop) before.whole;
-      appends = Appends-append before.sent (take count rest) old middle new before.appends write;
+      calls = before.calls ++ Wrote rest count ∷ [];
+      made = made_more _ _ _ _ _ before.made wrote.2;
+      goes_on = λ more fails sends. rw append_assoc (before.goes_on (Wrote rest count ∷ more) fails (Takes rest count more fails wrote.0 wrote.1 sends));
     })
 
--- where nothing more was sent
-pub IsPartSent-part : (piece rest : List ℕ) (old middle new : Option (List ℕ)) → IsPartSent piece rest old middle → Keeps middle new → AppendsPart piece old new
-IsPartSent-part piece rest old middle new before kept = record {
-  kept = length before.sent;
-  appends = rw (before.whole, take-append_seam) (Appends-kept before.sent old middle new before.appends kept);
+ends :
+    (piece rest : List ℕ) (more : List StreamCall) (old middle new : Option (List StreamCall)) (r : Result (Unit {0}) Failed) → IsSending piece rest old middle
+    → new ≡ and_calls more middle → Sends rest more (is_err r) → Sent piece old new r
+ends piece rest more old middle new r before made sends = record {
+  calls = before.calls ++ more;
+  sends = before.goes_on more (is_err r) sends;
+  made = made_more _ _ _ _ _ before.made made;
 }
 
 -- at a write that is a fault
-pub IsPartSent-fault : (piece rest : List ℕ) (old middle new : Option (List ℕ)) (r : Result (Unit {0}) Failed) → IsErr r
-    → IsPartSent piece rest old middle → Keeps middle new → WriteAnswers piece old new r
-IsPartSent-fault piece rest old middle new (Ok done) bad before kept = cc
-IsPartSent-fault piece rest old middle new (Err e) bad before kept = IsPartSent-part piece rest old middle new before kept
+pub IsSending-fault : (piece rest : List ℕ) (old middle new : Option (List StreamCall)) (e : Failed) (r : Result (Unit {0}) Failed) → IsErr r → 0 < length rest
+    → IsSending piece rest old middle → SendsSome rest middle new (Err e) → Sent piece old new r
+IsSending-fault piece rest old middle new e (Ok done) bad some before wrote = cc
+IsSending-fault piece rest old middle new e (Err f) bad some before (inl none) = ends _ _ _ _ _ _ _ before none (TakesNone rest some)
+IsSending-fault piece rest old middle new e (Err f) bad some before (inr failed) = ends _ _ _ _ _ _ _ before failed (Fails rest some)
 
--- at the flush, after which nothing is to come
-pub IsPartSent-flush : (piece rest : List ℕ) (old middle new : Option (List ℕ)) (r : Result (Unit {0}) Failed) → IsPartSent piece rest old middle
-    → length rest ≡ 0 → Keeps middle new → WriteAnswers piece old new r
-IsPartSent-flush piece [] old middle new (Ok done) before none kept =
-    rw (before.whole, append-nil) (Appends-kept before.sent old middle new before.appends kept)
-IsPartSent-flush piece [] old middle new (Err e) before none kept = IsPartSent-part piece [] old middle new before kept
-IsPartSent-flush piece (byte ∷ rest) old middle new r before none kept = absurd (omega arith)
+-- at the flush
+pub IsSending-flushed : (piece rest : List ℕ) (old middle new : Option (List StreamCall)) (done : Unit {0}) → length rest ≡ 0
+    → IsSending piece rest old middle → new ≡ and_calls (Flushed ∷ []) middle → Sent piece old new (Ok done)
+IsSending-flushed piece [] old middle new done none before flushed = ends _ _ _ _ _ _ _ before flushed Ends
+IsSending-flushed piece (byte ∷ rest) old middle new done none before flushed = absurd (omega (arith, none))
+
+pub IsSending-unflushed : (piece rest : List ℕ) (old middle new : Option (List StreamCall)) (e : Failed) → length rest ≡ 0
+    → IsSending piece rest old middle → new ≡ and_calls (FlushFailed ∷ []) middle → Sent piece old new (Err e)
+IsSending-unflushed piece [] old middle new e none before failed = ends _ _ _ _ _ _ _ before failed EndFails
+IsSending-unflushed piece (byte ∷ rest) old middle new e none before failed = absurd (omega (arith, none))
+
+-- ---- the bytes that were sent
+
+-- those of calls that don't fail are the piece
+sends_whole : (piece : List ℕ) (calls : List StreamCall) (fails : Bool) → Sends piece calls fails → fails ≡ false → bytes_of calls ≡ piece
+sends_whole _ _ _ Ends is = refl
+sends_whole _ _ _ EndFails is = absurd (cc)
+sends_whole _ _ _ (Takes rest count calls fails some fits sends) is = rw (sends_whole (drop count rest) calls fails sends is) (take-append-drop count rest)
+sends_whole _ _ _ (TakesNone rest some) is = absurd (cc)
+sends_whole _ _ _ (Fails rest some) is = absurd (cc)
+
+-- of any calls, a prefix of it
+sends_part : (piece : List ℕ) (calls : List StreamCall) (fails : Bool) → Sends piece calls fails → (after : List ℕ) × (piece ≡ bytes_of calls ++ after)
+sends_part _ _ _ Ends = ([], refl)
+sends_part _ _ _ EndFails = ([], refl)
+sends_part _ _ _ (Takes rest count calls fails some fits sends) =
+    let tail : (after : List ℕ) × (drop count rest ≡ bytes_of calls ++ after) = sends_part (drop count rest) calls fails sends in
+    (tail.0, sym (take-append-drop count rest) ∙ ap (λ bytes. take count rest ++ bytes) tail.1 ∙ sym (append_assoc (take count rest) (bytes_of calls) tail.0))
+sends_part _ _ _ (TakesNone rest some) = (rest, refl)
+sends_part _ _ _ (Fails rest some) = (rest, refl)
+
+appends : (calls : List StreamCall) (bytes : List ℕ) (old : Option (List StreamCall)) → bytes_of calls ≡ bytes
+    → Appends (option_map bytes_of old) (option_map bytes_of (and_calls calls old)) bytes
+appends calls bytes None same = tt
+appends calls bytes (Some cs) same = rw (bytes_of-append cs calls, same) refl
+
+pub Sent-whole : (piece : List ℕ) (old new : Option (List StreamCall)) (done : Unit {0}) → Sent piece old new (Ok done)
+    → Appends (option_map bytes_of old) (option_map bytes_of new) piece
+Sent-whole piece old new done sent = rw sent.made (appends sent.calls piece old (sends_whole piece sent.calls false sent.sends refl))
+
+pub Sent-part : (piece : List ℕ) (old new : Option (List StreamCall)) (r : Result (Unit {0}) Failed) → Sent piece old new r
+    → (kept : ℕ) × Appends (option_map bytes_of old) (option_map bytes_of new) (take kept piece)
+Sent-part piece old new r sent =
+    let part : (after : List ℕ) × (piece ≡ bytes_of sent.calls ++ after) = sends_part piece sent.calls (is_err r) sent.sends in
+    let kept : take (length (bytes_of sent.calls)) piece ≡ bytes_of sent.calls = rw part.1 (take-append_seam (bytes_of sent.calls) part.0) in
+    (length (bytes_of sent.calls), rw (kept, sent.made) (appends sent.calls (bytes_of sent.calls) old refl))
+
+-- ---- what a put says
+
+module _ (piece : List ℕ) (old new : Option (List StreamCall)) (faults faults' : ℕ) where
+  pub put_whole :
+      (r : Result (Unit {0}) Failed) → is_err r ≡ false → Sent piece old new r → faults' ≡ faults
+      → PutAnswers piece (meaning_of (record { calls = old; faults = faults })) (meaning_of (record { calls = new; faults = faults' })) r
+  put_whole (Ok done) fine sent same = record {
+    gains = record { held = Sent-whole piece old new done sent; faults = same };
+    calls = refl;
+    unspent = λ spent. cc;
+  }
+  put_whole (Err e) fine sent same = absurd (cc)
+
+  pub put_fails :
+      (r : Result (Unit {0}) Failed) → is_err r ≡ true → 0 < length piece → Sent piece old new r → Rose faults faults'
+      → PutAnswers piece (meaning_of (record { calls = old; faults = faults })) (meaning_of (record { calls = new; faults = faults' })) r
+  put_fails (Ok done) bad some sent rose = absurd (cc)
+  put_fails (Err e) bad some sent rose =
+      let part : (kept : ℕ) × Appends (option_map bytes_of old) (option_map bytes_of new) (take kept piece) = Sent-part piece old new (Err e) sent in
+      record {
+        gains = record { kept = part.0; held = part.1; faults = rose };
+        calls = refl;
+        empty = λ none. absurd (not_empty piece some none);
+        spent = λ spent. absurd (cc);
+      }
+    where
+      not_empty : (bytes : List ℕ) → 0 < length bytes → bytes ≡ [] → ⊥
+      not_empty [] some none = omega (arith, some)
+      not_empty (byte ∷ bytes) some none = cc

@@ -3,7 +3,10 @@ pub mod Files
 pub mod Sink
 pub mod Pieces
 pub mod FileTree
+pub mod Kept
 pub mod MemFiles
 pub mod MemSink
+pub mod Stream
 pub mod StdSink
+pub mod System
 pub mod RealFiles

@@ -1,24 +1,32 @@
--- What reached the stream below a sink of the system.
-use Rattle.std.specs.Prelude.{ℕ, List, Option, None, Result, Ok, Err, take}
-use Rattle.std.specs.Io.KnownBytes.{Appends}
+-- What a sink over a stream means, and what a put of it does to the stream.
+use Rattle.std.specs.Prelude.{◌≡◌, ℕ, ◌<◌, ◌≤◌, ◌⊎◌, List, [], ◌∷◌, length, Option, None, Result, Ok, Err, option_map, is_err}
 use Rattle.vip_outside.specs.Sink.{SinkMeaning}
+use Rattle.vip_outside.specs.Stream.{StreamCall, Sends, and_calls, bytes_of}
+use Rattle.vip_outside.specs.Stream.StreamCall.{Wrote, WriteFailed}
 use Rattle.vip_outside.specs.declared.sink.Failed.{Failed}
 
--- written: the bytes that the stream below has taken, where it tells them; faults: how many there were
+-- calls: those of the stream below so far, where it tells them; faults: how many there were
 pub record StreamSink : Type 0 where
-  pub written : Option (List ℕ)
+  pub calls : Option (List StreamCall)
   pub faults : ℕ
 
--- It tells of its bytes what the stream below tells, at a stream of the system nothing, and never how often it was called.
+-- Of its bytes it tells those that the stream below took, at a stream of the system nothing, and never how often it was called.
 abbrev pub meaning_of : StreamSink → SinkMeaning
-meaning_of s = record { held = s.written; faults = s.faults; calls = None }
+meaning_of s = record { held = option_map bytes_of s.calls; faults = s.faults; calls = None }
 
--- a prefix of a piece reached the stream
-pub record AppendsPart (piece : List ℕ) (old new : Option (List ℕ)) : Type 0 where
-  pub kept : ℕ
-  pub appends : Appends old new (take kept piece)
+-- a piece was sent to the stream, by these calls
+pub record Sent (piece : List ℕ) (old new : Option (List StreamCall)) (result : Result (Unit {0}) Failed) : Type 0 where
+  pub calls : List StreamCall
+  pub sends : Sends piece calls (is_err result)
+  pub made : new ≡ and_calls calls old
 
--- all of a piece reached the stream, or a prefix of it
-abbrev pub WriteAnswers : List ℕ → Option (List ℕ) → Option (List ℕ) → Result (Unit {0}) Failed → Type 0
-WriteAnswers piece old new (Ok _) = Appends old new piece
-WriteAnswers piece old new (Err _) = AppendsPart piece old new
+-- an empty piece makes no call, and any other is sent
+abbrev pub PutSends : List ℕ → Option (List StreamCall) → Option (List StreamCall) → Result (Unit {0}) Failed → Type 0
+PutSends [] old new (Ok done) = new ≡ old
+PutSends [] old new (Err e) = ⊥
+PutSends (byte ∷ bytes) old new result = Sent (byte ∷ bytes) old new result
+
+-- one write took some of the bytes; or it took none, or failed
+abbrev pub SendsSome : List ℕ → Option (List StreamCall) → Option (List StreamCall) → Result ℕ Failed → Type 0
+SendsSome piece old new (Ok count) = (0 < count) × (count ≤ length piece) × (new ≡ and_calls (Wrote piece count ∷ []) old)
+SendsSome piece old new (Err e) = (new ≡ and_calls (Wrote piece 0 ∷ []) old) ⊎ (new ≡ and_calls (WriteFailed piece ∷ []) old)

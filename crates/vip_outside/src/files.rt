@@ -1,4 +1,4 @@
-ghost use Rattle.std.specs.Prelude.{◌≡◌, ◌∷◌, ◌++◌, [], OnErr, OnOk, map, string_bytes};
+ghost use Rattle.std.specs.Prelude.{◌≡◌};
 ghost use Rattle.vip_outside.specs.Files.{FilesMeaning, ReadAnswers};
 ghost use Rattle.vip_outside.specs.declared.files.ReadFail.TheVariants.{NoMemory};
 
@@ -42,30 +42,18 @@ impl From<AllocError> for ReadFail {
 /// Files that are read by name.
 pub trait Files {
     /// The map from names to bytes, where it is told, the count of faults, which never falls, and
-    /// the names of the files that were read so far, in order.
+    /// the reads that were made so far, in order, where they are told: each has its name, and what it
+    /// came to.
     ghost meaning: { Self → FilesMeaning };
 
     /// Reads the first `most` bytes of the file of this name, or all where it has no more.
     ///
     /// [`ReadFail::Absent`] comes only where the map is told and the name isn't in it.
     /// [`ReadFail::Failed`] comes only where the count of faults rose in this call or stood at the
-    /// greatest `u64`. [`ReadFail::NoMemory`] may come at any call. The name is then one more of
-    /// those that were read, whatever the answer is; only at `NoMemory` it may be missing. No other
-    /// answer than `Failed` changes the count, and none changes the map.
+    /// greatest `u64`. [`ReadFail::NoMemory`] may come at any call. One more read was made, whatever the
+    /// answer is; only at `NoMemory` it may be missing. What it came to is what is answered: a file that
+    /// was read up to its end, or one byte more than `most`. No other answer than `Failed` changes the
+    /// count, and none changes the map.
     fn read(&mut self, alloc: Global, name: &str, most: usize) -> Result<Loaded, ReadFail>
         ensures answer { ReadAnswers name.now most (meaning self.old) (meaning self.new) result };
-}
-
-/// Adds the name of a file that is read to those that were read before.
-pub(crate) fn keep_name(
-    alloc: Global,
-    names: &mut Vec<String>,
-    name: &str,
-) -> Result<(), AllocError>
-    ensures ok { OnOk result (map string_bytes names.new.items ≡ map string_bytes names.old.items ++ name.now ∷ []) }
-    ensures err { OnErr result (names.new.items ≡ names.old.items) }
-{
-    let copy = String::from_str(alloc, name)?;
-    names.push(copy)?;
-    Ok(())
 }

@@ -1,10 +1,12 @@
 ghost use Rattle.std.specs.Prelude.{◌≡◌, ◌≤◌, length, IfOk, OnOk, OnErr, option_map};
 ghost use Rattle.std.specs.FinMap as finite;
 ghost use Rattle.vip_outside.specs.Files.{IsStartOf, ReadAnswers};
-ghost use Rattle.vip_outside.specs.MemFiles.{FilesInMemory, meaning_of, no_files, is_named, FailsWhereNamed, AfterRead};
+ghost use Rattle.vip_outside.specs.Kept.{seen_answer};
+ghost use Rattle.vip_outside.specs.MemFiles.{FilesInMemory, meaning_of, no_files, is_named, kept_of, with_kept, FailsWhereNamed, AfterRead};
 
 use crate::MOST_NAMED;
-use crate::files::{Files, Loaded, ReadFail, keep_name};
+use crate::files::{Files, Loaded, ReadFail};
+use crate::kept::{Answer, Kept};
 use arrayvec::ArrayVec;
 use std::alloc::{AllocError, Global};
 use std::collections::BTreeMap;
@@ -18,13 +20,13 @@ pub struct MemFiles {
     alloc: Global,
     files: BTreeMap<String, Vec<u8>>,
     named: ArrayVec<u32, MOST_NAMED>,
-    reads: u64,
+    calls: u64,
     faults: u64,
-    names: Vec<String>,
+    reads: Vec<Kept>,
 }
 
 impl Model for MemFiles {
-    ghost use Rattle.std.specs.Prelude.{map, string_bytes};
+    ghost use Rattle.std.specs.Prelude.{map};
     ghost use Rattle.vip_outside.specs.MemFiles.{FilesInMemory, files_code};
 
     ghost Value = { FilesInMemory };
@@ -32,8 +34,9 @@ impl Model for MemFiles {
     ghost coded = { files_code };
 
     ghost use Rattle.vip_outside.specs.FileTree.{map_of};
+    ghost use Rattle.vip_outside.specs.Kept.{seen_read};
 
-    ghost view = { λ s. record { files = map_of s.files; named = s.named.items; reads = s.reads; faults = s.faults; names = map string_bytes s.names.items } };
+    ghost view = { λ s. record { files = map_of s.files; named = s.named.items; calls = s.calls; faults = s.faults; reads = map seen_read s.reads.items } };
 }
 
 impl MemFiles {
@@ -45,9 +48,9 @@ impl MemFiles {
             alloc,
             files: BTreeMap::new(alloc),
             named: ArrayVec::new(),
-            reads: 0,
+            calls: 0,
             faults: 0,
-            names: Vec::new(alloc),
+            reads: Vec::new(alloc),
         })
     }
 
@@ -79,7 +82,7 @@ impl MemFiles {
         self.named
             .as_slice()
             .iter()
-            .any(|call| u64::from(*call) == self.reads)
+            .any(|call| u64::from(*call) == self.calls)
     }
 
     /// The bytes of the file of this name.
@@ -88,6 +91,16 @@ impl MemFiles {
     {
         let file = self.files.get(name)?;
         Some(file.as_slice())
+    }
+
+    /// Keeps a read. Where no memory is found it changes nothing.
+    fn keep(&mut self, name: &str, answer: Answer) -> Result<(), AllocError>
+        ensures ok { OnOk result (self.new ≡ with_kept self.old name.now (seen_answer answer)) }
+        ensures err { OnErr result (self.new ≡ self.old) }
+    {
+        let name = String::from_str(self.alloc, name)?;
+        self.reads.push(Kept { name, answer })?;
+        Ok(())
     }
 }
 
@@ -103,6 +116,18 @@ fn start_of(alloc: Global, file: &[u8], most: usize) -> Result<Loaded, AllocErro
     })
 }
 
+/// What is kept of a file: all of it, or one byte more than `most`.
+fn kept_of(alloc: Global, file: &[u8], most: usize) -> Result<Answer, AllocError>
+    ensures { IfOk result (λ answer. seen_answer answer ≡ kept_of most file.now) }
+{
+    if most < file.len() {
+        let start = Vec::from_slice(alloc, &file[..most + 1])?;
+        return Ok(Answer::Start(start));
+    }
+    let whole = Vec::from_slice(alloc, file)?;
+    Ok(Answer::Whole(whole))
+}
+
 impl Files for MemFiles {
     ghost meaning = { meaning_of };
 
@@ -111,18 +136,22 @@ impl Files for MemFiles {
     fn read(&mut self, alloc: Global, name: &str, most: usize) -> Result<Loaded, ReadFail>
         ensures answer { ReadAnswers name.now most (meaning_of self.old) (meaning_of self.new) result }
         ensures named { FailsWhereNamed (is_named self.old) result }
-        ensures after { AfterRead self.old name.now result self.new }
+        ensures after { AfterRead self.old name.now most result self.new }
     {
         let named = self.is_named();
-        self.reads = self.reads.saturating_add(1);
-        keep_name(self.alloc, &mut self.names, name)?;
+        self.calls = self.calls.saturating_add(1);
         if named {
+            self.keep(name, Answer::Faulted)?;
             self.faults = self.faults.saturating_add(1);
             return Err(ReadFail::Failed);
         }
         let Some(file) = self.get(name) else {
+            self.keep(name, Answer::Lacked)?;
             return Err(ReadFail::Absent);
         };
-        Ok(start_of(alloc, file, most)?)
+        let kept = kept_of(self.alloc, file, most)?;
+        let loaded = start_of(alloc, file, most)?;
+        self.keep(name, kept)?;
+        Ok(loaded)
     }
 }

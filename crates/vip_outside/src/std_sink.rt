@@ -1,72 +1,74 @@
-ghost use Rattle.std.specs.Prelude.{◌≡◌, ◌<◌, ◌≤◌, length, IfOk};
-ghost use Rattle.std.specs.Io.KnownBytes.{WriteAppends};
+ghost use Rattle.std.specs.Prelude.{◌≡◌};
 ghost use Rattle.vip_outside.specs.Sink.{PutAnswers};
-ghost use Rattle.vip_outside.specs.StdSink.{meaning_of, WriteAnswers};
+ghost use Rattle.vip_outside.specs.StdSink.{meaning_of, PutSends, SendsSome, Sent};
 
 use crate::sink::{Failed, Sink};
-use std::io::Write;
+use crate::stream::Stream;
 use std::marker::Model;
 
-/// A sink over a stream, as standard output. Of the bytes it tells what the stream tells, which is
-/// nothing at a stream of the system, and of the calls nothing.
+/// A sink over a stream, as standard output. Of the bytes it tells those that the stream took, which
+/// is nothing at a stream of the system, and of the calls nothing.
 ///
-/// Clauses see it as a `StreamSink`: the count of faults, and what the stream itself tells of the
-/// bytes that it took, which is nothing at a stream of the system.
+/// Clauses see it as a `StreamSink`: the count of faults, and the calls of the stream, where it tells
+/// them.
 #[derive(Drop)]
-pub struct StdSink<W: Write> {
-    stream: W,
+pub struct StdSink<S: Stream> {
+    stream: S,
     faults: u64,
 }
 
-impl<W: Write> Model for StdSink<W> {
+impl<S: Stream> Model for StdSink<S> {
     ghost use Rattle.vip_outside.specs.StdSink.{StreamSink};
 
     ghost Value = { StreamSink };
 
-    ghost view = { λ s. record { written = W.contents s.stream; faults = s.faults } };
+    ghost view = { λ s. record { calls = S.log s.stream; faults = s.faults } };
 }
 
-impl<W: Write> StdSink<W> {
+impl<S: Stream> StdSink<S> {
     /// A sink over this stream, with no fault.
-    pub fn new(stream: W) -> StdSink<W>
-        ensures unused { result ≡ record { written = W.contents stream; faults = 0 } }
+    pub fn new(stream: S) -> StdSink<S>
+        ensures unused { result ≡ record { calls = S.log stream; faults = 0 } }
     {
         StdSink { stream, faults: 0 }
     }
 }
 
-/// Writes some bytes of a piece that isn't empty, at least one, and answers how many. A write that
-/// takes none is a fault, as any error of the stream.
-fn write_some<W: Write>(stream: &mut W, piece: &[u8]) -> Result<usize, Failed>
-    ensures some { IfOk result (λ count. 0 < count × count ≤ length piece.now) }
-    ensures bytes { WriteAppends (W.contents stream.old) (W.contents stream.new) result piece.now }
+/// Offers bytes to one write, which takes at least one, and answers how many. A write that takes none
+/// is a fault, as any error of the stream.
+fn write_some<S: Stream>(stream: &mut S, bytes: &[u8]) -> Result<usize, Failed>
+    ensures { SendsSome bytes.now (S.log stream.old) (S.log stream.new) result }
 {
-    match stream.write(piece) {
+    match stream.write(bytes) {
         Ok(0) | Err(_) => Err(Failed),
         Ok(count) => Ok(count),
     }
 }
 
 /// Writes a whole piece, in as many writes as the stream needs, and then flushes the stream.
-fn write_whole<W: Write>(stream: &mut W, piece: &[u8]) -> Result<(), Failed>
-    ensures { WriteAnswers piece.now (W.contents stream.old) (W.contents stream.new) result }
+fn write_whole<S: Stream>(stream: &mut S, piece: &[u8]) -> Result<(), Failed>
+    ensures { Sent piece.now (S.log stream.old) (S.log stream.new) result }
 {
     let mut rest = piece;
     while !rest.is_empty() {
         let count = write_some(stream, rest)?;
         rest = &rest[count..];
     }
-    stream.flush().map_err(|_| Failed)
+    match stream.flush() {
+        Ok(()) => Ok(()),
+        Err(_) => Err(Failed),
+    }
 }
 
-impl<W: Write> Sink for StdSink<W> {
+impl<S: Stream> Sink for StdSink<S> {
     ghost meaning = { meaning_of };
 
-    /// A piece that isn't empty is written whole and then flushed. A write that takes nothing, and any
-    /// error of a write or of the flush, is a fault. To the stream goes what the answer says.
+    /// A piece that isn't empty is offered whole to one write, what that left to the next one, and
+    /// then the stream is flushed. A write that takes nothing, and any error of a write or of the
+    /// flush, is a fault.
     fn put(&mut self, piece: &[u8]) -> Result<(), Failed>
         ensures answer { PutAnswers piece.now (meaning_of self.old) (meaning_of self.new) result }
-        ensures written { WriteAnswers piece.now self.old.written self.new.written result }
+        ensures sent { PutSends piece.now self.old.calls self.new.calls result }
     {
         if piece.is_empty() {
             return Ok(());

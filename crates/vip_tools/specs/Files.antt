@@ -1,8 +1,9 @@
 -- The files that a command reads, in their order, and what is known of them once they are read.
-use Rattle.std.specs.Prelude.{◌≡◌, ◌≤◌, ◌<◌, ◌-◌, ◌⊎◌, ℕ, List, [], ◌∷◌, ◌++◌, map, take, length, Option, Some, None, Result, Ok, Err, Vec, slice_index, IfSome, IsSomeAnd}
+use Rattle.std.specs.Prelude.{◌≡◌, ◌≤◌, ◌<◌, ◌+◌, ◌-◌, ◌⊎◌, ℕ, List, [], ◌∷◌, ◌++◌, map, take, length, Option, Some, None, Result, Ok, Err, Vec, slice_index, IfSome, IsSomeAnd}
 use Rattle.std.specs.FinMap.{get}
 use Rattle.vip_outside.specs.Count.{Rose}
-use Rattle.vip_outside.specs.Files.{FilesMeaning, with_name}
+use Rattle.vip_outside.specs.Files.{Answer, FilesMeaning, Read, and_read, and_reads, with_read}
+use Rattle.vip_outside.specs.Files.Answer.{Whole, Start, Lacked, Faulted}
 use Rattle.chip8_lang.specs.State.{memory_size}
 use Rattle.chip8_lang.specs.declared.view.Edition.{Edition}
 use Rattle.chip8_lang.specs.declared.view.Edition.TheVariants.{Usual, Tall}
@@ -140,45 +141,62 @@ AreRight [] [] = Unit {0}
 AreRight (n ∷ ns) (content ∷ contents) = IsRight n.kind content × AreRight ns contents
 AreRight _ _ = ⊥
 
+-- ---- what a read of one file came to that was refused
+
 -- it has more bytes than it may have
-abbrev pub IsLarger : FilesMeaning → Needed → Type 0
-IsLarger old n = IfSome old.told (λ files. IsSomeAnd (get files n.name) (λ content. n.most < length content))
+pub record IsLarger (old : FilesMeaning) (n : Needed) (answer : Answer) : Type 0 where
+  pub start : List ℕ
+  pub is : answer ≡ Start start
+  pub longer : length start ≡ n.most + 1
+  pub larger : IfSome old.told (λ files. IsSomeAnd (get files n.name) (λ content. n.most < length content))
 
 -- it could not be read: a fault, or the map that is told lacks it
-abbrev pub IsUnread : FilesMeaning → FilesMeaning → Needed → Type 0
-IsUnread old new n = Rose old.faults new.faults ⊎ IsSomeAnd old.told (λ files. get files n.name ≡ None)
+abbrev pub IsUnread : FilesMeaning → FilesMeaning → Needed → Answer → Type 0
+IsUnread old new n answer =
+    ((answer ≡ Faulted) × Rose old.faults new.faults) ⊎ ((answer ≡ Lacked) × IsSomeAnd old.told (λ files. get files n.name ≡ None))
 
 -- it is a saved state, and has this as its first fault
-abbrev pub IsFaulty : StateFault → FilesMeaning → Needed → Type 0
-IsFaulty fault old n = (content : List ℕ) × HasThat (HasFault fault) old n content
+pub record IsFaulty (fault : StateFault) (old : FilesMeaning) (n : Needed) (answer : Answer) : Type 0 where
+  pub content : List ℕ
+  pub is : answer ≡ Whole content
+  pub has : HasThat (HasFault fault) old n content
 
--- ---- which files were read, each by one read of its name
+-- ---- which reads were made, each of one file
 
 abbrev pub names_of : List Needed → List (List ℕ)
 names_of ns = map (λ n. n.name) ns
 
+-- each file was read up to its end, and these are their contents
+abbrev pub reads_of : List Needed → List (List ℕ) → List Read
+reads_of (n ∷ ns) (content ∷ contents) = record { name = n.name; answer = Whole content } ∷ reads_of ns contents
+reads_of _ _ = []
+
 -- exactly these, in this order, and no read was a fault
-abbrev pub with_names : List Needed → FilesMeaning → FilesMeaning
-with_names ns old = record old { names = old.names ++ names_of ns }
+abbrev pub with_reads : List Read → FilesMeaning → FilesMeaning
+with_reads reads old = record old { reads = and_reads reads old.reads }
 
--- no read was a fault: but for the names nothing changed
+-- no read was a fault: but for the reads nothing changed
 abbrev pub OnlyReads : FilesMeaning → FilesMeaning → Type 0
-OnlyReads old new = new ≡ record old { names = new.names }
+OnlyReads old new = new ≡ record old { reads = new.reads }
 
--- the first ones of these
-abbrev pub ReadsSome : List Needed → FilesMeaning → FilesMeaning → Type 0
-ReadsSome ns old new = (count : ℕ) × (new.names ≡ old.names ++ names_of (take count ns))
+-- the first ones of these, each once
+pub record ReadsSome (ns : List Needed) (old new : FilesMeaning) : Type 0 where
+  pub count : ℕ
+  pub reads : List Read
+  pub names : map (λ r. r.name) reads ≡ names_of (take count ns)
+  pub made : new.reads ≡ and_reads reads old.reads
 
--- Those before one of the files were read whole, then that one, of which this holds, and none behind it.
-pub record ComesTo (old new : FilesMeaning) (needed : List Needed) (Here : Needed → Type 0) : Type 0 where
+-- Those before one of the files were read whole, then that one, of which this holds by what its read came to, and none behind it.
+pub record ComesTo (old new : FilesMeaning) (needed : List Needed) (Here : Needed → Answer → Type 0) : Type 0 where
   pub before : List Needed
   pub this : Needed
   pub after : List Needed
   pub place : needed ≡ before ++ this ∷ after
   pub contents : List (List ℕ)
   pub read : HasAll old before contents
-  pub names : new.names ≡ old.names ++ names_of (before ++ this ∷ [])
-  pub here : Here this
+  pub answer : Answer
+  pub reads : new.reads ≡ and_reads (reads_of before contents ++ record { name = this.name; answer = answer } ∷ []) old.reads
+  pub here : Here this answer
 
 -- what judging answers
 abbrev pub JudgeAnswers : Kind → List ℕ → Result (Unit {0}) StateFault → Type 0
@@ -191,18 +209,20 @@ module _ {Z : Type 0} where
 
   -- what is answered of one file
   abbrev pub FileAnswers : FilesMeaning → FilesMeaning → Needed → Result (Vec ℕ Z) Refusal → Type 0
-  FileAnswers old new n (Ok bytes) = Has old n bytes.items × (new ≡ with_name n.name old)
-  FileAnswers old new n (Err (Unread name)) = (name.now ≡ n.name) × IsUnread old new n × (new.names ≡ old.names ++ n.name ∷ [])
-  FileAnswers old new n (Err (TooLarge kind)) = (kind ≡ n.kind) × IsLarger old n × (new ≡ with_name n.name old)
-  FileAnswers old new n (Err (BadState fault)) = IsFaulty fault old n × (new ≡ with_name n.name old)
-  FileAnswers old new n (Err NoMemory) = (new ≡ old) ⊎ (new ≡ with_name n.name old)
+  FileAnswers old new n (Ok bytes) = Has old n bytes.items × (new ≡ with_read n.name (Whole bytes.items) old)
+  FileAnswers old new n (Err (Unread name)) =
+      (name.now ≡ n.name) × (answer : Answer) × IsUnread old new n answer × (new.reads ≡ and_read n.name answer old.reads)
+  FileAnswers old new n (Err (TooLarge kind)) = (kind ≡ n.kind) × (answer : Answer) × IsLarger old n answer × (new ≡ with_read n.name answer old)
+  FileAnswers old new n (Err (BadState fault)) = (answer : Answer) × IsFaulty fault old n answer × (new ≡ with_read n.name answer old)
+  FileAnswers old new n (Err NoMemory) = (new ≡ old) ⊎ ((answer : Answer) × (new ≡ with_read n.name answer old))
   FileAnswers old new n (Err _) = ⊥
 
   -- what is answered of all
   abbrev pub FilesAnswer : FilesMeaning → FilesMeaning → List Needed → Result (Vec (Vec ℕ Z) Z) Refusal → Type 0
-  FilesAnswer old new needed (Ok contents) = HasAll old needed (contents_of contents.items) × (new ≡ with_names needed old)
-  FilesAnswer old new needed (Err (Unread name)) = ComesTo old new needed (λ n. (name.now ≡ n.name) × IsUnread old new n)
-  FilesAnswer old new needed (Err (TooLarge kind)) = ComesTo old new needed (λ n. (kind ≡ n.kind) × IsLarger old n)
-  FilesAnswer old new needed (Err (BadState fault)) = ComesTo old new needed (λ n. IsFaulty fault old n × OnlyReads old new)
+  FilesAnswer old new needed (Ok contents) =
+      HasAll old needed (contents_of contents.items) × (new ≡ with_reads (reads_of needed (contents_of contents.items)) old)
+  FilesAnswer old new needed (Err (Unread name)) = ComesTo old new needed (λ n answer. (name.now ≡ n.name) × IsUnread old new n answer)
+  FilesAnswer old new needed (Err (TooLarge kind)) = ComesTo old new needed (λ n answer. (kind ≡ n.kind) × IsLarger old n answer)
+  FilesAnswer old new needed (Err (BadState fault)) = ComesTo old new needed (λ n answer. IsFaulty fault old n answer × OnlyReads old new)
   FilesAnswer old new needed (Err NoMemory) = ReadsSome needed old new
   FilesAnswer old new needed (Err _) = ⊥

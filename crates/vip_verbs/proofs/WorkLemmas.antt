@@ -43,7 +43,8 @@ use Rattle.vip_tools.specs.Report.{end_report}
 use Rattle.vip_tools.specs.Status.{end_status}
 use Rattle.vip_text.specs.declared.ending.RunEnd.{RunEnd}
 use Rattle.vip_tools.specs.Demo.{demo_game}
-use Rattle.vip_tools.specs.Files.{Needed, needed, FilesAnswer, FitAll, HasAll, with_names}
+use Rattle.vip_tools.specs.Files.{Needed, needed, FilesAnswer, FitAll, HasAll, reads_of, with_reads}
+use Rattle.vip_tools.proofs.FilesLemmas.{names_read}
 use Rattle.vip_tools.specs.Opening.{DebugCommandsAnswer}
 use Rattle.vip_tools.specs.Outcome.{Outcome, script_in}
 use Rattle.vip_tools.specs.Outcome.Outcome.{Shown}
@@ -377,29 +378,34 @@ module _ (asked : Asked) (old new : FilesMeaning) where
       → OpenAnswers asked old new (Err refusal)
   refused-files Z ns refusal is answer = files-refused Z refusal (subst (λ ns. FilesAnswer {Z = Z} old new ns (Err refusal)) is answer)
 
-  module _ (contents : List (List ℕ)) (read : HasAll old (needed asked) contents) (names : new ≡ with_names (needed asked) old) where
+  module _ (contents : List (List ℕ)) (read : HasAll old (needed asked) contents) (reads : new ≡ with_reads (reads_of (needed asked) contents) old) where
     refused-contents : (refusal : Refusal) → RefusedBy (Comes asked contents) refusal → OpenAnswers asked old new (Err refusal)
     refused-contents Usage answer = absurd answer
     refused-contents (Unread name) answer = absurd answer
     refused-contents (TooLarge kind) answer = absurd answer
-    refused-contents (Script line cause) answer = record { contents = contents; read = read; names = names; here = answer }
-    refused-contents (Command line cause) answer = record { contents = contents; read = read; names = names; here = answer }
-    refused-contents (Source line cause) answer = record { contents = contents; read = read; names = names; here = answer }
+    refused-contents (Script line cause) answer = record { contents = contents; read = read; reads = reads; here = answer }
+    refused-contents (Command line cause) answer = record { contents = contents; read = read; reads = reads; here = answer }
+    refused-contents (Source line cause) answer = record { contents = contents; read = read; reads = reads; here = answer }
     refused-contents (State fault) answer = absurd answer
-    refused-contents (Rom fault) answer = record { contents = contents; read = read; names = names; here = answer }
-    refused-contents (Certificate line cause) answer = record { contents = contents; read = read; names = names; here = answer }
-    refused-contents (Proof line cause) answer = record { contents = contents; read = read; names = names; here = answer }
-    refused-contents (NoCertificate obstacle) answer = record { contents = contents; read = read; names = names; here = answer }
-    refused-contents NoMemory answer = (length (needed asked), rw (take_all (length (needed asked)) (needed asked) (omega arith)) (ap (λ m. m.names) names))
+    refused-contents (Rom fault) answer = record { contents = contents; read = read; reads = reads; here = answer }
+    refused-contents (Certificate line cause) answer = record { contents = contents; read = read; reads = reads; here = answer }
+    refused-contents (Proof line cause) answer = record { contents = contents; read = read; reads = reads; here = answer }
+    refused-contents (NoCertificate obstacle) answer = record { contents = contents; read = read; reads = reads; here = answer }
+    refused-contents NoMemory answer = record {
+      count = length (needed asked);
+      reads = reads_of (needed asked) contents;
+      names = rw (take_all (length (needed asked)) (needed asked) (omega arith)) (names_read old (needed asked) contents read);
+      made = ap (λ m. m.reads) reads;
+    }
 
     opened : (r : Result Prepared Refusal) → PrepareAnswers (Comes asked contents) r → OpenAnswers asked old new r
-    opened (Ok p) answers = (answers.0, record { contents = contents; read = read; names = names; here = answers.1 })
+    opened (Ok p) answers = (answers.0, record { contents = contents; read = read; reads = reads; here = answers.1 })
     opened (Err refusal) answers = refused-contents refusal answers
 
   -- all files were read
   pub open-answers :
-      (ns : List Needed) (contents : List (List ℕ)) → ns ≡ needed asked → HasAll old ns contents × (new ≡ with_names ns old)
+      (ns : List Needed) (contents : List (List ℕ)) → ns ≡ needed asked → HasAll old ns contents × (new ≡ with_reads (reads_of ns contents) old)
       → (r : Result Prepared Refusal) → PrepareAnswers (Comes asked contents) r → OpenAnswers asked old new r
   open-answers ns contents is read r answers =
-      let here = subst (λ ns. HasAll old ns contents × (new ≡ with_names ns old)) is read in
+      let here = subst (λ ns. HasAll old ns contents × (new ≡ with_reads (reads_of ns contents) old)) is read in
       opened contents here.0 here.1 r answers

@@ -34,7 +34,7 @@ use Rattle.vip_tools.specs.declared.status.Status.{Status}
 use Rattle.vip_tools.specs.declared.status.Status.TheVariants.{Done, NoDispatch as undispatched}
 use Rattle.vip_tools.specs.Report.{end_report, ended_report, linked_report, no_dispatch}
 use Rattle.vip_tools.specs.Status.{end_status, ended_status}
-use Rattle.vip_tools.specs.Files.{needed, ComesTo, HasAll, IsFaulty, IsLarger, IsUnread, OnlyReads, ReadsSome, with_names}
+use Rattle.vip_tools.specs.Files.{needed, ComesTo, HasAll, IsFaulty, IsLarger, IsUnread, OnlyReads, ReadsSome, reads_of, with_reads}
 use Rattle.vip_tools.specs.Outcome.{Outcome}
 use Rattle.vip_tools.specs.Outcome.Outcome.{Refused, Shown}
 use Rattle.vip_tools.specs.Work.{RefusedBy}
@@ -127,16 +127,16 @@ texted (Err refusal) = Err refusal
 pub record OfFiles (asked : Asked) (old new : FilesMeaning) (Here : List (List ℕ) → Type 0) : Type 0 where
   pub contents : List (List ℕ)
   pub read : HasAll old (needed asked) contents
-  pub names : new ≡ with_names (needed asked) old
+  pub reads : new ≡ with_reads (reads_of (needed asked) contents) old
   pub here : Here contents
 
 -- what opening answers
 abbrev pub OpenAnswers : Asked → FilesMeaning → FilesMeaning → Result Prepared Refusal → Type 0
 OpenAnswers asked old new (Ok p) = IsReady p × OfFiles asked old new (λ contents. Comes asked contents (outcome_of p))
 OpenAnswers asked old new (Err Usage) = ⊥
-OpenAnswers asked old new (Err (Unread name)) = ComesTo old new (needed asked) (λ n. (name.now ≡ n.name) × IsUnread old new n)
-OpenAnswers asked old new (Err (TooLarge kind)) = ComesTo old new (needed asked) (λ n. (kind ≡ n.kind) × IsLarger old n)
-OpenAnswers asked old new (Err (State fault)) = ComesTo old new (needed asked) (λ n. IsFaulty fault old n × OnlyReads old new)
+OpenAnswers asked old new (Err (Unread name)) = ComesTo old new (needed asked) (λ n answer. (name.now ≡ n.name) × IsUnread old new n answer)
+OpenAnswers asked old new (Err (TooLarge kind)) = ComesTo old new (needed asked) (λ n answer. (kind ≡ n.kind) × IsLarger old n answer)
+OpenAnswers asked old new (Err (State fault)) = ComesTo old new (needed asked) (λ n answer. IsFaulty fault old n answer × OnlyReads old new)
 OpenAnswers asked old new (Err NoMemory) = ReadsSome (needed asked) old new
 OpenAnswers asked old new (Err refusal) = OfFiles asked old new (λ contents. RefusedBy (Comes asked contents) refusal)
 

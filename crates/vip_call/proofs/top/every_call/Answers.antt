@@ -1,0 +1,30 @@
+use Rattle.vip_text.specs.StateFile.{shown}
+use Rattle.vip_call.proofs.CertifiedLemmas.{proves_certified}
+use Rattle.vip_call.proofs.GivenLemmas.{roms_given, rom_never, never_of_rom}
+use Rattle.vip_call.proofs.LinkedLemmas.{brings_messages}
+use Rattle.vip_call.proofs.LanguageLemmas.{speaks_chip8}
+use Rattle.vip_call.proofs.SavedLemmas.{continues_saved}
+use Rattle.vip_call.proofs.TranscribedLemmas.{tells_chip8}
+use Rattle.vip_call.proofs.TopLemmas.{refuses_words, gives_due, completes, says_finished}
+use Rattle.vip_call.proofs.top.every_call.Goals as goal
+
+pub returns : goal.returns
+returns c words files files' out out' err err' opened status opens finishes =
+    let says = says_finished words files files' out out' err err' opened status opens finishes in
+    record {
+      says = says;
+      language =
+          speaks_chip8 c.every_run.ensures c.every_frame.ensures.from_reset
+          (λ e f bytes a script. c.every_frame.ensures.from_any_start e (shown f) (c.file_may_start.ensures e f bytes a) script)
+          (λ e f bytes a script limit. c.every_start.ensures e (shown f) (c.file_may_start.ensures e f bytes a) script limit) _;
+      chip8 =
+          tells_chip8 c.every_run.ensures
+          (λ e f bytes a script limit. c.every_start.ensures e (shown f) (c.file_may_start.ensures e f bytes a) script limit) _ _ says;
+      certified = proves_certified c.accepted_leaves.ensures c.certified_games.ensures c.every_run.ensures _;
+      saved = continues_saved c.saved_goes_on.ensures _;
+      linked = brings_messages c.every_schedule.ensures.always c.every_schedule.ensures.numbers _;
+      words = refuses_words _ _ says;
+      due = gives_due _ _ says;
+      complete = completes (rom_never (roms_given c.source_gives_rom.ensures c.sources_give_roms.ensures)) _ _ says;
+      rom = never_of_rom (roms_given c.source_gives_rom.ensures c.sources_give_roms.ensures) _ _ says;
+    }
