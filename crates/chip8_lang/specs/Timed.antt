@@ -151,7 +151,7 @@ stop_cycles e s = if is_fetchable e s then stopped_cycles (instr_at s) s else if
 -- ---- the next point
 
 -- the first of n numbers from j on for which the test holds
-pub first_from : ℕ → (ℕ → Bool) → ℕ → Option ℕ
+unfoldable pub first_from : ℕ → (ℕ → Bool) → ℕ → Option ℕ
 first_from zero f j = None
 first_from (suc n) f j = if f j then Some j else first_from n f (j + 1)
 
@@ -226,7 +226,7 @@ module _ (e : Edition) (script : List Event) (limit : ℕ) where
   shown_by k screen behind Never = pictures_to k limit screen
 
   -- what follows a dispatch point in cycle t with state s: n points at most
-  pub shown_behind : ℕ → ℕ → ℕ → Lang → List Shown
+  unfoldable pub shown_behind : ℕ → ℕ → ℕ → Lang → List Shown
   shown_behind zero k t s = pictures_to k limit s.screen
   shown_behind (suc n) k t s = shown_by k s.screen (λ c z. shown_behind n (windows_ended c) c z) (next_point e script limit t s)
 

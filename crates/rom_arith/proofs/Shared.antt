@@ -54,12 +54,12 @@ shared_prompt (SkipUp x) k = cc
 shared_prompt (WaitKey x) k = cc
 shared_prompt _ k = refl
 
-shared_told : (i : Instr) (s : Lang) (moments : List Moment) (n : ℕ) → has_shared_end i ≡ true → Tells i s moments n Nothing
-shared_told (Random x m) s moments n k = cc
-shared_told (GetDelay x) s moments n k = cc
-shared_told (SetDelay x) s moments n k = cc
-shared_told (SetSound x) s moments n k = cc
-shared_told _ s moments n k = tt
+shared_told : (i : Instr) (s : Lang) (moments : List Moment) (spent n : ℕ) → has_shared_end i ≡ true → Tells i s moments spent n Nothing
+shared_told (Random x m) s moments spent n k = cc
+shared_told (GetDelay x) s moments spent n k = cc
+shared_told (SetDelay x) s moments spent n k = cc
+shared_told (SetSound x) s moments spent n k = cc
+shared_told _ s moments spent n k = tt
 
 shared_runs : (e : Edition) (i : Instr) (s : Lang) → has_shared_end i ≡ true → stop_of_instr e i s ≡ None
 shared_runs e Return s k = cc
@@ -79,7 +79,7 @@ pub ending : {e : Edition} {b : Machine} {h : Since} {a : ℕ} {z : Lang} (l : B
     → c.regs.r.r4 ≡ word_of at_fetch → Comes (quick e) (calm_pieces (quick e)) l b h
 ending {e = e} {h = h} l o time c good is holds p r4 =
     routine l o.entered c good is (λ h' g. steps e g (instr_at (now h)) refl (shared_prompt _ o.shared) runs time
-    (shared_told _ h'.state h'.moments h'.ticks o.shared) c
+    (shared_told _ h'.state h'.moments h'.spent h'.ticks o.shared) c
     (subst (Holding (quick e) (places c)) (sym o.makes) holds) p r4)
   where
     runs : stop_of e (now h) ≡ None

@@ -32,7 +32,7 @@ follows e (Skip down) b h o = record { same = on_3 at_key_yes b; is = is_on_3 at
 follows e WaitKey b h o = record { same = _; is = is_entered o.0.0.entered; follows = refl }
 follows e (KeyNext turn) b h o = record { same = _; is = is_turning o.0.0; follows = refl }
 follows e (KeyCount turn) b h o = record { same = _; is = is_entered o.0.0.waiting.enters.entered; follows = refl }
-follows e KeyFreed b h o = record { same = _; is = is_entered o.0.0.enters.entered; follows = refl }
+follows e (KeyFreed turn looks) b h o = record { same = _; is = is_entered o.0.0.enters.entered; follows = refl }
 
 pub addresses : KeyAddresses keys_rom
 addresses e l = runs_at e (both_is e) (both_fits e) (OfKey l) (key_addresses l) (key_block e l) (follows e l)
@@ -45,13 +45,13 @@ pub place_addresses : KeyPlaceAddresses keys_rom
 place_addresses e (SkipTest true) b h o = counter (skip_test_label true) b o.0.0.p o.0.0.r3
 place_addresses e (SkipTest false) b h o = counter (skip_test_label false) b o.0.0.p o.0.0.r3
 place_addresses e (KeyTest turn) b h o = counter at_key_test b o.0.0.waiting.enters.entered.p o.0.0.waiting.enters.entered.r3
-place_addresses e KeyHeld b h o = counter at_key_held b o.0.0.enters.entered.p o.0.0.enters.entered.r3
+place_addresses e (KeyHeld turn looks) b h o = counter at_key_held b o.0.0.enters.entered.p o.0.0.enters.entered.r3
 
 key_pieces : List KeyPiece
 key_pieces =
     OfBlock KeySkip ∷ OfBlock KeySkipUp ∷ OfBlock (SkipLatch true) ∷ OfBlock (SkipLatch false) ∷ OfBlock (NoSkip true) ∷ OfBlock (NoSkip false) ∷
-    OfBlock (Skip true) ∷ OfBlock WaitKey ∷ OfBlock (KeyNext 0) ∷ OfBlock (KeyCount 0) ∷ OfBlock KeyFreed ∷
-    OfPlace (SkipTest true) ∷ OfPlace (SkipTest false) ∷ OfPlace (KeyTest 0) ∷ OfPlace KeyHeld ∷ []
+    OfBlock (Skip true) ∷ OfBlock WaitKey ∷ OfBlock (KeyNext 0) ∷ OfBlock (KeyCount 0) ∷ OfBlock (KeyFreed 0 0) ∷
+    OfPlace (SkipTest true) ∷ OfPlace (SkipTest false) ∷ OfPlace (KeyTest 0) ∷ OfPlace (KeyHeld 0 0) ∷ []
 
 pub covered : KeyCovers
 unfolding key_pieces

@@ -33,16 +33,16 @@ within turn more sets t count less p many k l =
 
 pub none_stays : NoneStays keys_rom
 none_stays e b h (UpTo turn r) c =
-    within turn (0 + r.k) h.keys (turned_grown r.grows r.head.0.1) (omega (arith, c, r.head.1, r.grows.spent)) (omega (arith, r.inside))
-none_stays e b h (AtTest turn o) c = within turn 4 h.keys o.0.2 (omega (arith, c, o.1)) (omega arith)
+    within turn (0 + r.k) h.keys (turned_grown r.grows r.head.0.1) (omega (arith, c, r.head.1.0, r.grows.spent)) (omega (arith, r.inside))
+none_stays e b h (AtTest turn o) c = within turn 4 h.keys o.0.2 (omega (arith, c, o.1.0)) (omega arith)
 none_stays e b h (Behind turn r) c =
-    within turn (5 + r.k) h.keys (turned_grown r.grows r.head.0.1) (omega (arith, c, r.head.1, r.grows.spent)) (omega (arith, r.inside))
+    within turn (5 + r.k) h.keys (turned_grown r.grows r.head.0.1) (omega (arith, c, r.head.1.0, r.grows.spent)) (omega (arith, r.inside))
 
 pub stays_down : StaysDown keys_rom
-stays_down e b h o = record { time = o.0.2.time; late = omega (arith, o.0.2.last); at = subst (λ k. IsAt h.keys o.0.2.time k true) (sym o.0.1) o.0.2.at }
+stays_down e b h turn looks o = record { time = o.0.2.time; late = omega (arith, o.0.2.last); at = subst (λ k. IsAt h.keys o.0.2.time k true) (sym o.0.1) o.0.2.at }
 
 pub goes_up : GoesUp keys_rom
-goes_up e b h r = (
+goes_up e b h turn looks r = (
   let_go_grown r.grows (let_go was (omega arith)),
   record {
     time = was.time;

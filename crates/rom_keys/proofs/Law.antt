@@ -26,9 +26,9 @@ key_block e (SkipLatch down) b h f o = skip_latch_comes e b h f down o.0.0 o.0.1
 key_block e (NoSkip down) b h f o = no_skip_comes e b h f down o.0.0 o.0.1 o.1.0 o.1.1
 key_block e (Skip down) b h f o = skip_comes e b h f down o.0.0 o.0.1 o.1.0 o.1.1
 key_block e WaitKey b h f o = wait_key_comes e b h f o.0.0 o.0.1 o.1
-key_block e (KeyNext turn) b h f o = key_next_comes e b h f turn o.0.0 o.0.1 o.1
-key_block e (KeyCount turn) b h f o = key_count_comes e b h f turn o.0.0 o.0.1 o.0.2 o.1
-key_block e KeyFreed b h f o = key_freed_comes e b h f o.0.0 o.0.1
+key_block e (KeyNext turn) b h f o = key_next_comes e b h f turn o.0.0 o.0.1 o.1.0 o.1.1
+key_block e (KeyCount turn) b h f o = key_count_comes e b h f turn o.0.0 o.0.1 o.0.2 o.1.0 o.1.1
+key_block e (KeyFreed turn looks) b h f o = key_freed_comes e b h f turn looks o.0.0 o.0.1 o.0.2 o.1.0 o.1.1 o.1.2
 
 pub key_rows : KeyRows keys_rom
 key_rows e l = block_rows e (both_is e) (both_fits e) (OfKey l) (key_block e l)
@@ -36,13 +36,13 @@ key_rows e l = block_rows e (both_is e) (both_fits e) (OfKey l) (key_block e l)
 pub key_place : (e : Edition) (l : KeyPlace) (b : Machine) (h : Since) → FitsMachine b → At (quick e) (AtKey l) b h
     → Holds (quick e) (calm_pieces (quick e)) (AtKey l) b h
 key_place e (SkipTest down) b h f o = skip_test_holds e b h f down o.0.0 o.0.1 o o.1
-key_place e (KeyTest turn) b h f o = key_test_holds e b h f turn o.0.0 o.0.1 o.0.2 o o.1
-key_place e KeyHeld b h f o = key_held_holds e b h f o.0.0 o.0.1 o.0.2 o
+key_place e (KeyTest turn) b h f o = key_test_holds e b h f turn o.0.0 o.0.1 o.0.2 o o.1.0 o.1.1
+key_place e (KeyHeld turn looks) b h f o = key_held_holds e b h f turn looks o.0.0 o.0.1 o.0.2 o.0.3 o o.1.0 o.1.1
 
 awake : (e : Edition) (l : KeyPlace) (b : Machine) (h : Since) → At (quick e) (AtKey l) b h → b.regs.idle ≡ false
 awake e (SkipTest down) b h o = o.0.0.holds.awake
 awake e (KeyTest turn) b h o = o.0.0.waiting.enters.entered.holds.awake
-awake e KeyHeld b h o = o.0.0.enters.entered.holds.awake
+awake e (KeyHeld turn looks) b h o = o.0.0.enters.entered.holds.awake
 
 pub key_place_rows : KeyPlaceRows keys_rom
 key_place_rows e l = place_rows e (both_is e) (both_fits e) (AtKey l) (key_place e l) (awake e l)

@@ -18,7 +18,8 @@ use Rattle.chip8_lang.specs.Between.{IsAt}
 use Rattle.chip8_image.specs.Labels.{at_fetch, at_wait_key, at_key_next, at_key_test, at_key_count, at_key_held, at_key_freed}
 use Rattle.rom_law.specs.Code.{Input}
 use Rattle.rom_law.specs.Holding.{Places, places, Holding}
-use Rattle.rom_law.specs.Rows.{Since, Grows, now}
+use Rattle.rom_law.specs.Moments.{Sees, Searches, Holds as Held}
+use Rattle.rom_law.specs.Rows.{Since, Grows, now, after_main}
 use Rattle.rom_law.proofs.Places.{v_set, work_set, work_get}
 use Rattle.rom_law.proofs.Kept.{Comes, Holds}
 use Rattle.rom_rows.specs.Heads.{high_byte, low_byte, page_of, Enters}
@@ -28,12 +29,12 @@ use Rattle.rom_rows.specs.KeyBlocks.KeyPlace.{KeyTest, KeyHeld}
 use Rattle.rom_rows.specs.Table.{At, calm_pieces}
 use Rattle.rom_rows.specs.Table.Block.{OfKey}
 use Rattle.rom_rows.specs.Table.Place.{AtKey}
-use Rattle.rom_rows.proofs.Alone.{alone_forks, one_more}
+use Rattle.rom_rows.proofs.Alone.{alone_forks, one_more, sees_now}
 use Rattle.rom_rows.proofs.Bytes.{page_fits, stack_top_is, variables_is}
 use Rattle.rom_rows.proofs.Entry.{entered, is_entered}
 use Rattle.rom_rows.proofs.Follows.{to_key, to_key_place}
 use Rattle.rom_rows.proofs.Straight.{routine}
-use Rattle.rom_rows.proofs.Steps.{makes_calm, steps_with}
+use Rattle.rom_rows.proofs.Steps.{sees_grown, searches_grown, holds_grown, makes_calm, steps_with}
 use Rattle.rom_rows.proofs.Ways.{straight}
 use Rattle.rom_keys.proofs.Rom.{both, quick}
 use Rattle.rom_keys.proofs.Sets.{at_grown, let_go, let_go_grown, length_grown, turned_grown, last_set, length_more, is_at_more}
@@ -57,6 +58,28 @@ turned_on turn {h = h} {h' = h'} g t last =
 turned_test : {turn : ℕ} (u : Input) (h : Since) → Turned turn 4 h.keys → Turned turn 5 (h.keys ++ u.held ∷ [])
 turned_test u h t =
     record { before = t.before; count = omega (arith, t.count, length_more h.keys (u.held ∷ [])); up = λ i l. is_at_more (u.held ∷ []) (t.up i l) }
+
+-- and so have its moves: one more turn has looked at its key, and one more look has found it down
+searches_more : (u : Input) (h : Since) (turn : ℕ) → Searches h.moments turn → h.spent ≡ 114 + 14 * turn → u.held (turn % 16) ≡ false
+    → Searches (after_main u h).moments (suc turn)
+searches_more u h turn searched spent is i l = go (cases_eq i turn)
+  where
+    go : (i ≡ turn) ⊎ (i ≡ turn → ⊥) → Sees (after_main u h).moments (114 + 14 * i) (i % 16) false
+    go (inl same) = rw same (sees_now u h (114 + 14 * turn) (turn % 16) false spent is)
+    go (inr d) = sees_grown (one_more u h) (searched i (omega (arith, l, d)))
+
+holds_more : (u : Input) (h : Since) (turn looks : ℕ) → Held h.moments turn looks → h.spent ≡ 116 + 14 * turn + 2 * looks → u.held (turn % 16) ≡ true
+    → Held (after_main u h).moments turn (suc looks)
+holds_more u h turn looks holds spent is =
+    record {
+      searched = searches_grown (one_more u h) holds.searched;
+      down = sees_grown (one_more u h) holds.down;
+      held = λ i l. go i l (cases_eq i looks);
+    }
+  where
+    go : (i : ℕ) → i < suc looks → (i ≡ looks) ⊎ (i ≡ looks → ⊥) → Sees (after_main u h).moments (116 + 14 * turn + 2 * i) (turn % 16) true
+    go i l (inl same) = rw same (sees_now u h (116 + 14 * turn + 2 * looks) (turn % 16) true spent is)
+    go i l (inr d) = sees_grown (one_more u h) (holds.held i (omega (arith, l, d)))
 
 -- the machine in a turn of the loop
 abbrev pub turning : Edition → ℕ → ℕ → ℕ → Machine → Machine
@@ -115,7 +138,7 @@ module _ (e : Edition) (b : Machine) (h : Since) (f : FitsMachine b) where
           rd = refl;
         },
         no_turns h'.keys,
-      ) (omega (arith, spent, g.spent)))
+      ) (omega (arith, spent, g.spent), λ i l. absurd (omega (arith, l))))
 
   -- ---- a turn
 
@@ -135,9 +158,9 @@ module _ (e : Edition) (b : Machine) (h : Since) (f : FitsMachine b) where
   words : (w : Word) (p l : ℕ) → w.hi ≡ p → w.lo ≡ l → w ≡ word p l
   words w p l hi lo = λ i. record { hi = hi i; lo = lo i }
 
-  pub key_next_comes : (turn : ℕ) → Turning (quick e) turn at_key_next b (now h) → Turned turn 0 h.keys → h.spent ≡ 106 + 14 * turn
+  pub key_next_comes : (turn : ℕ) → Turning (quick e) turn at_key_next b (now h) → Turned turn 0 h.keys → h.spent ≡ 106 + 14 * turn → Searches h.moments turn
       → Comes (quick e) (calm_pieces (quick e)) (OfKey (KeyNext turn)) b h
-  key_next_comes turn o t spent =
+  key_next_comes turn o t spent searched =
       straight (OfKey (KeyNext turn)) o.waiting.enters.entered.holds (turning e at_key_next high low b) (is_turning o) _
       (omega (arith, o.waiting.enters.entered.holds.stack, stack_top_is e, page_fits e)) refl
       (λ h' g. to_key_place (quick e) g _ refl (KeyTest turn) (
@@ -151,7 +174,7 @@ module _ (e : Edition) (b : Machine) (h : Since) (f : FitsMachine b) where
         sent o,
         turned_grown g t,
       )
-      (omega (arith, spent, g.spent)))
+      (omega (arith, spent, g.spent), searches_grown g searched))
 
   -- the machine behind a test of the key
   abbrev gone : Word → Machine
@@ -170,19 +193,31 @@ module _ (e : Edition) (b : Machine) (h : Since) (f : FitsMachine b) where
   digit_of o = omega (arith, o.count)
 
   pub key_test_holds : (turn : ℕ) → Turning (quick e) turn at_key_test b (now h) → b.key ≡ turn % 16 → Turned turn 4 h.keys
-      → At (quick e) (AtKey (KeyTest turn)) b h → h.spent ≡ 114 + 14 * turn → Holds (quick e) (calm_pieces (quick e)) (AtKey (KeyTest turn)) b h
-  key_test_holds turn o key t at spent =
+      → At (quick e) (AtKey (KeyTest turn)) b h → h.spent ≡ 114 + 14 * turn → Searches h.moments turn
+      → Holds (quick e) (calm_pieces (quick e)) (AtKey (KeyTest turn)) b h
+  key_test_holds turn o key t at spent searched =
       alone_forks (AtKey (KeyTest turn)) f at o.waiting.enters.entered.holds (turning e at_key_test high low b) (is_turning o) refl refl gone
       (λ u. u.held b.key) at_key_held at_key_count (λ u. refl)
-      (λ u k. to_key_place (quick e) (one_more u h) _ refl KeyHeld
-      (waits_on at_key_held o, key ∙ digit_of o, last_set h.keys u.held (b.regs.r.re.lo % 16) true (ap u.held (sym (key ∙ digit_of o)) ∙ k))
-      tt)
+      (λ u k. to_key_place (quick e) (one_more u h) _ refl (KeyHeld turn 0) (
+        waits_on at_key_held o,
+        key ∙ digit_of o,
+        last_set h.keys u.held (b.regs.r.re.lo % 16) true (ap u.held (sym (key ∙ digit_of o)) ∙ k),
+        sym (digit_of o),
+      ) (
+        omega (arith, spent),
+        record {
+          searched = searches_grown (one_more u h) searched;
+          down = sees_now u h (114 + 14 * turn) (turn % 16) true spent (ap u.held (sym key) ∙ k);
+          held = λ i l. absurd (omega (arith, l));
+        },
+      ))
       (λ u k. to_key (quick e) (one_more u h) _ refl (KeyCount turn)
-      (turns_on at_key_count o, turned_test u h t, last_set h.keys u.held (turn % 16) false (ap u.held (sym key) ∙ k)) (omega (arith, spent)))
+      (turns_on at_key_count o, turned_test u h t, last_set h.keys u.held (turn % 16) false (ap u.held (sym key) ∙ k))
+      (omega (arith, spent), searches_more u h turn searched spent (ap u.held (sym key) ∙ k)))
 
   pub key_count_comes : (turn : ℕ) → Turning (quick e) turn at_key_count b (now h) → Turned turn 5 h.keys → Last h.keys (turn % 16) false
-      → h.spent ≡ 116 + 14 * turn → Comes (quick e) (calm_pieces (quick e)) (OfKey (KeyCount turn)) b h
-  key_count_comes turn o t last spent =
+      → h.spent ≡ 116 + 14 * turn → Searches h.moments (suc turn) → Comes (quick e) (calm_pieces (quick e)) (OfKey (KeyCount turn)) b h
+  key_count_comes turn o t last spent searched =
       straight (OfKey (KeyCount turn)) o.waiting.enters.entered.holds (turning e at_key_count high low b) (is_turning o) _ (omega arith) refl
       (λ h' g. to_key (quick e) g _ refl (KeyNext (suc turn)) (
         record {
@@ -192,7 +227,7 @@ module _ (e : Edition) (b : Machine) (h : Since) (f : FitsMachine b) where
           rd = refl;
         },
         turned_on turn g t last,
-      ) (omega (arith, spent, g.spent)))
+      ) (omega (arith, spent, g.spent), searches_grown g searched))
     where
       counts : (b.regs.r.re.lo + 1) % 256 ≡ suc turn % 256
       counts = omega (arith, o.count)
@@ -219,25 +254,42 @@ module _ (e : Edition) (b : Machine) (h : Since) (f : FitsMachine b) where
       up : Last (h.keys ++ u.held ∷ []) k false
       up = last_set h.keys u.held k false is
 
-  pub key_held_holds : Waiting (quick e) at_key_held b (now h) → b.key ≡ b.regs.r.re.lo % 16 → Last h.keys (b.regs.r.re.lo % 16) true
-      → At (quick e) (AtKey KeyHeld) b h → Holds (quick e) (calm_pieces (quick e)) (AtKey KeyHeld) b h
-  key_held_holds o key last at =
-      alone_forks (AtKey KeyHeld) f at o.enters.entered.holds (entered e at_key_held high low b) (is_entered o.enters.entered) refl refl waiting
+  pub key_held_holds : (turn looks : ℕ) → Waiting (quick e) at_key_held b (now h) → b.key ≡ b.regs.r.re.lo % 16 → Last h.keys (b.regs.r.re.lo % 16) true
+      → b.regs.r.re.lo % 16 ≡ turn % 16 → At (quick e) (AtKey (KeyHeld turn looks)) b h → h.spent ≡ 116 + 14 * turn + 2 * looks
+      → Held h.moments turn looks → Holds (quick e) (calm_pieces (quick e)) (AtKey (KeyHeld turn looks)) b h
+  key_held_holds turn looks o key last same at spent holds =
+      alone_forks (AtKey (KeyHeld turn looks)) f at o.enters.entered.holds (entered e at_key_held high low b) (is_entered o.enters.entered) refl refl waiting
       (λ u. u.held b.key) at_key_held at_key_freed (λ u. refl)
-      (λ u k. to_key_place (quick e) (one_more u h) _ refl KeyHeld
-      (waits_more at_key_held o, key, last_set h.keys u.held (b.regs.r.re.lo % 16) true (ap u.held (sym key) ∙ k)) tt)
-      (λ u k. to_key (quick e) (one_more u h) _ refl KeyFreed (waits_more at_key_freed o, lets_go u last (ap u.held (sym key) ∙ k)) tt)
+      (λ u k. to_key_place (quick e) (one_more u h) _ refl (KeyHeld turn (suc looks))
+      (waits_more at_key_held o, key, last_set h.keys u.held (b.regs.r.re.lo % 16) true (ap u.held (sym key) ∙ k), same)
+      (omega (arith, spent), holds_more u h turn looks holds spent (ap u.held (sym (key ∙ same)) ∙ k)))
+      (λ u k. to_key (quick e) (one_more u h) _ refl (KeyFreed turn looks)
+      (waits_more at_key_freed o, lets_go u last (ap u.held (sym key) ∙ k), same) (
+        omega (arith, spent),
+        holds_grown (one_more u h) holds,
+        sees_now u h (116 + 14 * turn + 2 * looks) (turn % 16) false spent (ap u.held (sym (key ∙ same)) ∙ k),
+      ))
 
   -- ---- VX is that key
 
   abbrev put : ℕ → Places
   put v = record (places b) { ram = written b.latch b.ram (value (word (page_of e) (240 + high % 16))) v }
 
-  pub key_freed_comes : Waiting (quick e) at_key_freed b (now h) → JustUp h.keys (b.regs.r.re.lo % 16)
-      → Comes (quick e) (calm_pieces (quick e)) (OfKey KeyFreed) b h
-  key_freed_comes o freed = routine (OfKey KeyFreed) o.enters.entered _ (omega (arith, o.enters.entered.holds.stack, stack_top_is e, page_fits e)) refl
+  pub key_freed_comes : (turn looks : ℕ) → Waiting (quick e) at_key_freed b (now h) → JustUp h.keys (b.regs.r.re.lo % 16)
+      → b.regs.r.re.lo % 16 ≡ turn % 16 → h.spent ≡ 118 + 14 * turn + 2 * looks → Held h.moments turn looks
+      → Sees h.moments (116 + 14 * turn + 2 * looks) (turn % 16) false → Comes (quick e) (calm_pieces (quick e)) (OfKey (KeyFreed turn looks)) b h
+  key_freed_comes turn looks o freed same spent holds up = routine (OfKey (KeyFreed turn looks)) o.enters.entered _ (omega (arith, o.enters.entered.holds.stack, stack_top_is e, page_fits e)) refl
       (λ h' g. steps_with e g (IsWaitKey (high % 16)) is runs (Chosen (b.regs.r.re.lo % 16)) (let_go_grown g (let_go freed (omega arith)))
-      tt (λ n t. cc) tt (makes_calm g is refl) _ puts refl refl)
+      tt (λ n t. cc)
+      (record {
+        turn = turn;
+        looks = looks;
+        is = same;
+        spends = omega (arith, spent, g.spent);
+        holds = holds_grown g holds;
+        up = sees_grown g up;
+      })
+      (makes_calm g is refl) _ puts refl refl)
     where
       is : instr_at (now h) ≡ IsWaitKey (high % 16)
       is = rw (o.enters.digit, o.low) refl

@@ -104,12 +104,13 @@ NoneStays rom =
 -- Where FX0A waits for the latched key to go up, that key is down in the last set of K.
 abbrev pub StaysDown : (Edition → List ℕ) → Type 0
 StaysDown rom =
-    (e : Edition) (b : Machine) (h : Since)
-    → At (program_of e (rom e)) (AtKey KeyHeld) b h
+    (e : Edition) (b : Machine) (h : Since) (turn looks : ℕ)
+    → At (program_of e (rom e)) (AtKey (KeyHeld turn looks)) b h
     → Lately 1 h.keys b.key true
 
 -- Behind its last test, its key is down in some set of K and up in some later one: down in one of the last five, and up in one of the last four.
 abbrev pub GoesUp : (Edition → List ℕ) → Type 0
 GoesUp rom =
-    (e : Edition) (b : Machine) (h : Since) (r : InBlock (program_of e (rom e)) (pieces (program_of e (rom e))) (OfKey KeyFreed) b h)
+    (e : Edition) (b : Machine) (h : Since) (turn looks : ℕ)
+    (r : InBlock (program_of e (rom e)) (pieces (program_of e (rom e))) (OfKey (KeyFreed turn looks)) b h)
     → LetGo h.keys (r.start.regs.r.re.lo % 16) × Lately 5 h.keys (r.start.regs.r.re.lo % 16) true × Lately 4 h.keys (r.start.regs.r.re.lo % 16) false

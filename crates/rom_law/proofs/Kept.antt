@@ -211,7 +211,7 @@ module _ (x : Program) (t : Pieces) (sound : Sound x t) where
         between = counted_as g.ticks (between_ticks n x.edition h'.state h.ticks h'.keys s st.between);
         time =
             λ k t. st.time k (ap (x.takes h'.state) (sym (between_ticks_key n x.edition h'.state h.ticks h'.keys s st.between)) ∙ t);
-        told = told_ticks n x.edition h'.state h.ticks h'.keys s st.between h'.moments st.told;
+        told = told_ticks n x.edition h'.state h.ticks h'.keys s st.between h'.moments h'.spent st.told;
         stands = dispatches_after x n c b a f s st.stands;
       })
       makes

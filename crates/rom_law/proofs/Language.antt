@@ -90,16 +90,16 @@ module _ (e : Edition) (s : Lang) (n : ℕ) (sets : List Keys) (z : Lang) (h : B
   between_tick_key = go_key (instr_at s) refl h.waits
 
   -- and so is what the main moves say of it
-  told_go : (moments : List Moment) (i : Instr) (eq : i ≡ instr_at s) (w : WaitsWell i h.before h.after) → Tells i s moments h.before h.key
-      → Tells i s moments (go i eq w).before (go i eq w).key
+  told_go : (moments : List Moment) (spent : ℕ) (i : Instr) (eq : i ≡ instr_at s) (w : WaitsWell i h.before h.after) → Tells i s moments spent h.before h.key
+      → Tells i s moments spent (go i eq w).before (go i eq w).key
   unfolding go after_step before_step
-  told_go moments Clear eq w t = t
-  told_go moments (Draw x y m) eq w t = t
-  told_go moments i eq w t = t
+  told_go moments spent Clear eq w t = t
+  told_go moments spent (Draw x y m) eq w t = t
+  told_go moments spent i eq w t = t
 
-  told_tick : (moments : List Moment) → Tells (instr_at s) s moments h.before h.key → Tells (instr_at s) s moments between_tick.before between_tick.key
+  told_tick : (moments : List Moment) (spent : ℕ) → Tells (instr_at s) s moments spent h.before h.key → Tells (instr_at s) s moments spent between_tick.before between_tick.key
   unfolding between_tick
-  told_tick moments = told_go moments (instr_at s) refl h.waits
+  told_tick moments spent = told_go moments spent (instr_at s) refl h.waits
 
 -- so many ticks, written otherwise
 abbrev pub counted_as : {e : Edition} {s : Lang} {n m : ℕ} {sets : List Keys} {z : Lang} → m ≡ n → Between e s n sets z → Between e s m sets z
@@ -128,12 +128,12 @@ between_ticks_key (suc m) e s n sets z h =
     between_tick_key e s (n + m) sets (ticks m z) (between_ticks m e s n sets z h) ∙ between_ticks_key m e s n sets z h
 
 pub told_ticks : (m : ℕ) (e : Edition) (s : Lang) (n : ℕ) (sets : List Keys) (z : Lang) (h : Between e s n sets z) (moments : List Moment)
-    → Tells (instr_at s) s moments h.before h.key
-    → Tells (instr_at s) s moments (between_ticks m e s n sets z h).before (between_ticks m e s n sets z h).key
+    (spent : ℕ) → Tells (instr_at s) s moments spent h.before h.key
+    → Tells (instr_at s) s moments spent (between_ticks m e s n sets z h).before (between_ticks m e s n sets z h).key
 unfolding between_ticks
-told_ticks zero e s n sets z h moments t = t
-told_ticks (suc m) e s n sets z h moments t =
-    told_tick e s (n + m) sets (ticks m z) (between_ticks m e s n sets z h) moments (told_ticks m e s n sets z h moments t)
+told_ticks zero e s n sets z h moments spent t = t
+told_ticks (suc m) e s n sets z h moments spent t =
+    told_tick e s (n + m) sets (ticks m z) (between_ticks m e s n sets z h) moments spent (told_ticks m e s n sets z h moments spent t)
 
 -- ---- keys
 

@@ -132,7 +132,7 @@ module _ (x : Program) (script : List KeyEvent) (limit : ℕ) (run : List Machin
 record Made (x : Program) (script : List KeyEvent) (c : Machine) (a : ℕ) (y : Lang) : Type 0 where
   runs : x.stop_of y ≡ None
   between : Between x.edition y (x.ticks_between a c.cycle) (keys_between script a c.cycle) (state_at x c)
-  next : (limit : ℕ) → c.cycle ≤ limit → x.is_told y ≡ true → x.next script limit a y ≡ NextDispatch c.cycle (state_at x c)
+  next : (limit : ℕ) → c.cycle ≤ limit → x.next script limit a y ≡ NextDispatch c.cycle (state_at x c)
 
 module _ (x : Program) (script : List KeyEvent) (limit : ℕ) (run : List Machine) (Running : Machine → Since → Type 0) (carries : Carries x script limit run Running) where
   abbrev next : Machine → Machine

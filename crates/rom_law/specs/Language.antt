@@ -1,6 +1,6 @@
 -- The law of a run: its events are those of a run of the language. It is one fold over the events, which carries the last dispatch point and the
 -- frame whose picture comes next.
-use Rattle.std.specs.Prelude.{◌≡◌, ℕ, ◌+◌, ◌<◌, ◌≤◌, true, List, [], ◌∷◌, Some, None}
+use Rattle.std.specs.Prelude.{◌≡◌, ℕ, ◌+◌, ◌<◌, ◌≤◌, List, [], ◌∷◌, Some, None}
 use Rattle.machine.specs.Board.{Machine}
 use Rattle.machine.specs.Keys.{Event as KeyEvent}
 use Rattle.machine.specs.Pictures.{picture_of, windows_ended}
@@ -19,12 +19,11 @@ use Rattle.rom_law.specs.Runs.{state_at}
 -- ---- the next point behind a dispatch point
 
 -- One step lies between the dispatch points b and c, with the timer ticks and the sets of keys of the cycles between: the state at b has no stop,
--- c stands for the state after the step, and, but for FX0A, it is what comes next by the language's time: its cycle, and its state.
+-- c stands for the state after the step, and it is what comes next by the language's time: its cycle, and its state.
 pub record IsStep (x : Program) (script : List KeyEvent) (b c : Machine) : Type 0 where
   pub runs : x.stop_of (state_at x b) ≡ None
   pub between : Between x.edition (state_at x b) (x.ticks_between b.cycle c.cycle) (keys_between script b.cycle c.cycle) (state_at x c)
-  pub next : (limit : ℕ) → c.cycle ≤ limit → x.is_told (state_at x b) ≡ true
-      → x.next script limit b.cycle (state_at x b) ≡ NextDispatch c.cycle (state_at x c)
+  pub next : (limit : ℕ) → c.cycle ≤ limit → x.next script limit b.cycle (state_at x b) ≡ NextDispatch c.cycle (state_at x c)
   pub stands : Dispatches x c (state_at x c)
 
 -- c is the stop point behind the dispatch point b: the stop is that of the state at b, which lies there after the ticks of the cycles between, and

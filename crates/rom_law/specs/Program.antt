@@ -13,11 +13,11 @@ use Rattle.chip8_lang.specs.Between.{ticks_between}
 use Rattle.chip8_lang.specs.Bounds.{bound_of}
 use Rattle.chip8_lang.specs.Places.{Interpreter, Lies}
 use Rattle.rom_law.specs.Code.{Code}
-use Rattle.rom_law.specs.Moments.{takes_by, is_told_by}
+use Rattle.rom_law.specs.Moments.{takes_by}
 
 -- An interpreter of an edition; whether its boot turns the display on, and what it leaves in R1 and RB.1; which stop fits a state, since
 -- an interpreter may know a part of the language alone; the cycle bound of a state; the timer ticks between two cycles; the main cycles of a
--- state's step, by what it takes from the keypad, and of its stop; which states have no step of FX0A; and what comes next behind a dispatch point in a
+-- state's step, by what it takes from the keypad, and of its stop; and what comes next behind a dispatch point in a
 -- cycle, under a script and up to a limit.
 pub record Program : Type 0 where
   pub edition : Edition
@@ -30,7 +30,6 @@ pub record Program : Type 0 where
   pub ticks_between : ℕ → ℕ → ℕ
   pub takes : Lang → KeyInput → Option ℕ
   pub stops_after : Lang → ℕ
-  pub is_told : Lang → Bool
   pub next : List Event → ℕ → ℕ → Lang → Next
 
 -- its code, as the theory of moves takes it
@@ -73,6 +72,5 @@ whole e i =
       ticks_between = ticks_between;
       takes = λ s key. takes_by e (instr_at s) s key;
       stops_after = stop_cycles e;
-      is_told = λ s. is_told_by (instr_at s);
       next = next_point e;
     }

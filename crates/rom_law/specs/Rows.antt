@@ -109,7 +109,7 @@ pub record Stepped (x : Program) (b : Machine) (h : Since) (s : Lang) : Type 0 w
   pub runs : x.stop_of h.state ≡ None
   pub between : Between x.edition h.state h.ticks h.keys s
   pub time : (n : ℕ) → x.takes h.state between.key ≡ Some n → h.spent ≡ n
-  pub told : Tells (instr_at h.state) h.state h.moments between.before between.key
+  pub told : Tells (instr_at h.state) h.state h.moments h.spent between.before between.key
   pub stands : Dispatches x b s
 
 -- a stop: it is that of the state, in its main cycles

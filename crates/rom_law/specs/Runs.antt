@@ -61,12 +61,11 @@ pub record Covers (x : Program) (script : List KeyEvent) (c : Machine) (h : Sinc
   pub ticks : h.ticks ≡ x.ticks_between h.from c.cycle
   pub keys : Embeds h.keys (keys_between script h.from c.cycle)
 
--- The dispatch point c is what comes next behind the one at which the record begins, up to every limit that leaves time for it, but behind FX0A.
+-- The dispatch point c is what comes next behind the one at which the record begins, up to every limit that leaves time for it.
 abbrev pub IsNext : Program → List KeyEvent → Machine → Since → Type 0
 IsNext x script c h =
     (limit : ℕ)
     → c.cycle ≤ limit
-    → x.is_told h.state ≡ true
     → x.next script limit h.from h.state ≡ Dispatch c.cycle (state_at x c)
 
 -- The same of the stop point c, under every script.

@@ -155,12 +155,12 @@ module _ (x : Program) (b : Machine) (s : Lang) where
   key_screen WaitKey sets o = enters o.0.entered
   key_screen (KeyNext turn) sets o = enters o.0.waiting.enters.entered
   key_screen (KeyCount turn) sets o = enters o.0.waiting.enters.entered
-  key_screen KeyFreed sets o = enters o.0.enters.entered
+  key_screen (KeyFreed turn looks) sets o = enters o.0.enters.entered
 
   pub key_place_screen : (l : KeyPlace) (sets : List Keys) → key_place_at x l b s sets → SameScreen x b s
   key_place_screen (SkipTest down) sets o = past x b s o.0.holds
   key_place_screen (KeyTest turn) sets o = enters o.0.waiting.enters.entered
-  key_place_screen KeyHeld sets o = enters o.0.enters.entered
+  key_place_screen (KeyHeld turn looks) sets o = enters o.0.enters.entered
 
   pub sprite_screen : (l : SpriteBlock) → IsEarly l → sprite_at x l b s → SameScreen x b s
   sprite_screen Clear n o = enters o.0

@@ -14,7 +14,7 @@ use Rattle.rom_law.proofs.Language.{ticks_add}
 use Rattle.rom_law.proofs.Kept.{Comes, Holds, Sound, block_moves, place_moves, place_ticks}
 use Rattle.rom_rows.specs.Rom.{program_of}
 use Rattle.rom_rows.specs.Heads.{Time, Within}
-use Rattle.rom_rows.specs.Heads.Time.{Exactly, Left, Anytime, Waited, Met, Seen}
+use Rattle.rom_rows.specs.Heads.Time.{Exactly, Left, Waited, Met, Seen, Searching, Looking, Freed}
 use Rattle.rom_rows.specs.FetchBlocks.{FetchBlock, fetch_moves}
 use Rattle.rom_rows.specs.FetchBlocks.FetchBlock.{Fetch, Upper, Inside, Outside, Misc, Unknown83, Leave, Stop, Stopped}
 use Rattle.rom_rows.specs.ArithBlocks.ArithBlock.{System, SystemLow, SystemBack, MachineCode, Return, ReturnTake, Empty, JumpTo, Call, CallPut, Full, JumpPlus}
@@ -155,7 +155,7 @@ key_some (KeyYes down) = omega arith
 key_some WaitKey = omega arith
 key_some (KeyNext turn) = omega arith
 key_some (KeyCount turn) = omega arith
-key_some KeyFreed = omega arith
+key_some (KeyFreed turn looks) = omega arith
 
 pub some : (l : Block) → 0 < moves l
 some (OfFetch l) = fetch_some l
@@ -177,10 +177,12 @@ spoilt l = cc
 within_later : (t : Time) (h : Since) (n : ℕ) → outlasts t ≡ true → Within t h → Within t (after_ticks n h)
 within_later (Exactly m) h n l w = w
 within_later (Left m k) h n l w = w
-within_later Anytime h n l w = w
 within_later (Waited m) h n l w = (w.0, omega (arith, w.1))
 within_later (Met m k) h n l w = absurd (spoilt l)
 within_later (Seen m k key down) h n l w = w
+within_later (Searching m turns) h n l w = w
+within_later (Looking turn looks) h n l w = w
+within_later (Freed turn looks) h n l w = w
 
 timer_outlasts : (l : TimerPlace) → outlasts (timer_place_time l) ≡ true
 timer_outlasts RandomCount = refl
@@ -191,7 +193,7 @@ timer_outlasts SetSoundPut = refl
 key_outlasts : (l : KeyPlace) → outlasts (key_place_time l) ≡ true
 key_outlasts (SkipTest down) = refl
 key_outlasts (KeyTest turn) = refl
-key_outlasts KeyHeld = refl
+key_outlasts (KeyHeld turn looks) = refl
 
 sprite_outlasts : (x : Program) (l : SpritePlace) (s : Lang) → outlasts (sprite_place_time x l s) ≡ true
 sprite_outlasts x ClearWait s = refl
@@ -224,12 +226,11 @@ module _ (e : Edition) (rom : List ℕ) where
             (now h)),
       )
       key_later (KeyTest turn) p = (turning_later (program_of e rom) n k f (now h) turn _ p.0, latched_later (program_of e rom) n k f (now h) ∙ p.1, p.2)
-      key_later KeyHeld p = (
+      key_later (KeyHeld turn looks) p = (
         waiting_later (program_of e rom) n k f (now h) _ p.0,
-        latched_later (program_of e rom) n k f (now h) ∙ p.1 ∙ ap (λ y. y
-            % 16) (sym (counted_later (program_of e rom) n k f (now h))),
-        subst (λ y. Last h.keys (y % 16) true) (sym
-            (counted_later (program_of e rom) n k f (now h))) p.2,
+        latched_later (program_of e rom) n k f (now h) ∙ p.1 ∙ ap (λ y. y % 16) (sym (counted_later (program_of e rom) n k f (now h))),
+        subst (λ y. Last h.keys (y % 16) true) (sym (counted_later (program_of e rom) n k f (now h))) p.2,
+        ap (λ y. y % 16) (counted_later (program_of e rom) n k f (now h)) ∙ p.3,
       )
   later (AtSprite l) b h f o i n c k =
       subst (λ s. sprite_place_at (program_of e rom) l c s × Within (sprite_place_time (program_of e rom) l s) (after_ticks n h)) (ticks_add n h.ticks h.state) (

@@ -15,7 +15,7 @@ use Rattle.chip8_lang.specs.Between.{Allows, WaitsWell}
 use Rattle.chip8_lang.specs.Editions.{memory_start}
 use Rattle.chip8_lang.specs.Timed.{cycles, stopped_cycles, stop_cycles}
 use Rattle.chip8_image.specs.Labels.{at_fetch}
-use Rattle.rom_law.specs.Moments.{Meets, Sees, Tells, is_waiting, takes_by}
+use Rattle.rom_law.specs.Moments.{Meets, Sees, Searches, Holds, Tells, is_waiting, takes_by}
 use Rattle.rom_law.specs.Holding.{places, Holding}
 use Rattle.rom_law.specs.Rows.{Since, Grows, Pieces, Ends, now}
 use Rattle.rom_law.specs.Rows.Ends.{Steps}
@@ -68,6 +68,13 @@ meets_grown g m = record { moment = m.moment; among = g.moments m.moment m.among
 
 pub sees_grown : {h h' : Since} {k n key : ℕ} {down : Bool} → Grows h k 0 h' → Sees h.moments n key down → Sees h'.moments n key down
 sees_grown g m = record { moment = m.moment; among = g.moments m.moment m.among; at = m.at; is = m.is }
+
+pub searches_grown : {h h' : Since} {k turns : ℕ} → Grows h k 0 h' → Searches h.moments turns → Searches h'.moments turns
+searches_grown g m = λ i l. sees_grown g (m i l)
+
+pub holds_grown : {h h' : Since} {k turn looks : ℕ} → Grows h k 0 h' → Holds h.moments turn looks → Holds h'.moments turn looks
+holds_grown g m =
+    record { searched = searches_grown g m.searched; down = sees_grown g m.down; held = λ i l. sees_grown g (m.held i l) }
 
 -- ---- the steps of the calm pieces
 
@@ -131,7 +138,7 @@ module _ (e : Edition) {k : ℕ} {h h' : Since} (g : Grows h k 0 h') (i : Instr)
 
   -- what it took from the keypad is allowed, and its main cycles have passed
   pub steps_with : {rom : List ℕ} {t : Pieces} (key : KeyInput) → Allows i h'.state h'.keys key → WaitsWell i h'.ticks 0
-      → ((n : ℕ) → takes_by e i (now h) key ≡ Some n → h.spent + 2 * k ≡ n) → Tells i h'.state h'.moments h'.ticks key
+      → ((n : ℕ) → takes_by e i (now h) key ≡ Some n → h.spent + 2 * k ≡ n) → Tells i h'.state h'.moments h'.spent h'.ticks key
       → t.Makes h'.state → (c : Machine)
       → Holding (program_of e rom) (places c) (done_by e i key (now h)) → c.regs.p ≡ 4 → c.regs.r.r4 ≡ word_of at_fetch
       → Ends (program_of e rom) t c h'
@@ -139,7 +146,7 @@ module _ (e : Edition) {k : ℕ} {h h' : Since} (g : Grows h k 0 h') (i : Instr)
     runs = no_stop;
     between = step_made e h' i key no_stop same allowed waits;
     time = λ n t. g.spent ∙ time n (taken key n t);
-    told = subst (λ j. Tells j h'.state h'.moments h'.ticks key) (sym same) told;
+    told = subst (λ j. Tells j h'.state h'.moments h'.spent h'.ticks key) (sym same) told;
     stands =
         record {
           keeps = keeping (program_of e rom) c (step e key (now h')) (subst (Holding (program_of e rom) (places c)) (stepped key) o);
@@ -151,7 +158,7 @@ module _ (e : Edition) {k : ℕ} {h h' : Since} (g : Grows h k 0 h') (i : Instr)
 -- the same, where it takes no key and doesn't wait
 pub steps : (e : Edition) {rom : List ℕ} {k : ℕ} {h h' : Since} (g : Grows h k 0 h') (i : Instr) (is : instr_at (now h) ≡ i)
     (prompt : is_prompt i ≡ true) (runs : stop_of e (now h) ≡ None) (time : h.spent + 2 * k ≡ cycles e i Nothing (now h))
-    (told : Tells i h'.state h'.moments h'.ticks Nothing) (c : Machine)
+    (told : Tells i h'.state h'.moments h'.spent h'.ticks Nothing) (c : Machine)
     → Holding (program_of e rom) (places c) (done_by e i Nothing (now h)) → c.regs.p ≡ 4 → c.regs.r.r4 ≡ word_of at_fetch
     → Ends (program_of e rom) (calm_pieces (program_of e rom)) c h'
 steps e {h = h} {h' = h'} g i is prompt runs time told c o p r4 =

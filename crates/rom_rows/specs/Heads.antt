@@ -1,6 +1,6 @@
 -- What is known of a machine at the heads of the interpreter's blocks. In all of them s is the language state at the dispatch point,
 -- after the ticks that came since.
-use Rattle.std.specs.Prelude.{◌≡◌, ℕ, ◌+◌, ◌/◌, ◌%◌, ◌≤◌, Bool, true, List, [], ◌∷◌, Some}
+use Rattle.std.specs.Prelude.{◌≡◌, ℕ, ◌+◌, ◌*◌, ◌/◌, ◌%◌, ◌≤◌, Bool, true, false, List, [], ◌∷◌, Some}
 use Rattle.machine.specs.Bank.{word, word_of}
 use Rattle.machine.specs.Board.{Machine}
 use Rattle.chip8_lang.specs.declared.view.Edition.{Edition}
@@ -11,7 +11,7 @@ use Rattle.chip8_lang.specs.Step.{next, stop_number, step}
 use Rattle.chip8_lang.specs.Step.KeyInput.{Nothing}
 use Rattle.chip8_lang.specs.Timed.{cycles, stop_cycles}
 use Rattle.chip8_image.specs.Labels.{at_fetch}
-use Rattle.rom_law.specs.Moments.{Meets, Sees}
+use Rattle.rom_law.specs.Moments.{Meets, Sees, Searches, Holds}
 use Rattle.rom_law.specs.Program.{Program}
 use Rattle.rom_law.specs.Rows.{Since}
 use Rattle.rom_law.specs.Holding.{places, Holding}
@@ -19,23 +19,28 @@ use Rattle.rom_law.specs.Holding.{places, Holding}
 -- ---- time
 
 -- The main cycles from the dispatch to a head: so many; so many that n are left of all those of the instruction or the stop; so many behind a
--- wait, where a tick has come; or any number, as behind a wait for a key. So many, where all ticks so far came before the main move at k of them; or
--- where that move found a key up or down.
+-- wait, where a tick has come. Or so many, where all ticks so far came before the main move at k of them; where that move found a key up or down; or
+-- where FX0A has looked at so many keys in turn. Or it holds on to a key, at so many looks, or has let it go.
 pub data Time : Type 0 where
   Exactly : ℕ → Time
   Left : (n all : ℕ) → Time
   Waited : ℕ → Time
   Met : (n k : ℕ) → Time
   Seen : (n k key : ℕ) (down : Bool) → Time
-  Anytime : Time
+  Searching : (n turns : ℕ) → Time
+  Looking : (turn looks : ℕ) → Time
+  Freed : (turn looks : ℕ) → Time
 
 abbrev pub Within : Time → Since → Type 0
 Within (Exactly n) h = h.spent ≡ n
 Within (Left n all) h = h.spent + n ≡ all
-Within Anytime h = Unit {0}
 Within (Waited n) h = (h.spent ≡ n) × (1 ≤ h.ticks)
 Within (Met n k) h = (h.spent ≡ n) × Meets h.moments k h.ticks
 Within (Seen n k key down) h = (h.spent ≡ n) × Sees h.moments k key down
+Within (Searching n turns) h = (h.spent ≡ n) × Searches h.moments turns
+Within (Looking turn looks) h = (h.spent ≡ 116 + 14 * turn + 2 * looks) × Holds h.moments turn looks
+Within (Freed turn looks) h =
+    (h.spent ≡ 118 + 14 * turn + 2 * looks) × Holds h.moments turn looks × Sees h.moments (116 + 14 * turn + 2 * looks) (turn % 16) false
 
 -- all those of a stop, and of an instruction that takes no key
 abbrev pub to_stop : Program → Lang → ℕ

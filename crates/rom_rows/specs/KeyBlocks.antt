@@ -10,7 +10,7 @@ use Rattle.chip8_image.specs.Labels.{at_fetch, at_key_skip, at_key_skip_up, at_s
 use Rattle.rom_law.specs.Program.{Program}
 use Rattle.rom_law.specs.Holding.{places, Holding}
 use Rattle.rom_rows.specs.Heads.{Time, from, high_byte, low_byte, page_of, Enters}
-use Rattle.rom_rows.specs.Heads.Time.{Exactly, Seen, Anytime}
+use Rattle.rom_rows.specs.Heads.Time.{Exactly, Seen, Searching, Looking, Freed}
 
 -- Of the two skips, the one with `down` skips where its key is down, and the other where it is up.
 pub data KeyBlock : Type 0 where
@@ -26,16 +26,16 @@ pub data KeyBlock : Type 0 where
   -- a turn of the loop up to its test, and behind the test where that key is up
   KeyNext : (turn : ℕ) → KeyBlock
   KeyCount : (turn : ℕ) → KeyBlock
-  -- a key was let go
-  KeyFreed : KeyBlock
+  -- the key of a turn was let go, at its look of this number
+  KeyFreed : (turn looks : ℕ) → KeyBlock
 
 -- the tests of the latched key
 pub data KeyPlace : Type 0 where
   -- that of a skip
   SkipTest : (down : Bool) → KeyPlace
-  -- that of a turn, and that of the key that is down
+  -- that of a turn, and the look of this number at the key of a turn that is down
   KeyTest : (turn : ℕ) → KeyPlace
-  KeyHeld : KeyPlace
+  KeyHeld : (turn looks : ℕ) → KeyPlace
 
 -- ---- K
 
@@ -114,12 +114,13 @@ key_at x (Skip down) b s sets = Skipping x down at_key_yes b s × SomeTime sets 
 key_at x WaitKey b s sets = Enters x at_wait_key 15 b s × (low_byte s ≡ 0x0a)
 key_at x (KeyNext turn) b s sets = Turning x turn at_key_next b s × Turned turn 0 sets
 key_at x (KeyCount turn) b s sets = Turning x turn at_key_count b s × Turned turn 5 sets × Last sets (turn % 16) false
-key_at x KeyFreed b s sets = Waiting x at_key_freed b s × JustUp sets (b.regs.r.re.lo % 16)
+key_at x (KeyFreed turn looks) b s sets = Waiting x at_key_freed b s × JustUp sets (b.regs.r.re.lo % 16) × (b.regs.r.re.lo % 16 ≡ turn % 16)
 
 abbrev pub key_place_at : Program → KeyPlace → Machine → Lang → List Keys → Type 0
 key_place_at x (SkipTest down) b s sets = Skipping x down (skip_test_label down) b s × (b.key ≡ skip_key s)
 key_place_at x (KeyTest turn) b s sets = Turning x turn at_key_test b s × (b.key ≡ turn % 16) × Turned turn 4 sets
-key_place_at x KeyHeld b s sets = Waiting x at_key_held b s × (b.key ≡ b.regs.r.re.lo % 16) × Last sets (b.regs.r.re.lo % 16) true
+key_place_at x (KeyHeld turn looks) b s sets =
+    Waiting x at_key_held b s × (b.key ≡ b.regs.r.re.lo % 16) × Last sets (b.regs.r.re.lo % 16) true × (b.regs.r.re.lo % 16 ≡ turn % 16)
 
 abbrev pub key_moves : KeyBlock → ℕ
 key_moves KeySkip = 4
@@ -130,7 +131,7 @@ key_moves (Skip down) = 3
 key_moves WaitKey = 7
 key_moves (KeyNext turn) = 4
 key_moves (KeyCount turn) = 2
-key_moves KeyFreed = 4
+key_moves (KeyFreed turn looks) = 4
 
 -- the main cycles before a skip
 abbrev pub skip_time : Bool → ℕ
@@ -144,14 +145,14 @@ key_time (SkipLatch down) s = Exactly (skip_time down)
 key_time (NoSkip down) s = Seen (skip_time down + 4) (skip_time down + 2) (skip_key s) (not down)
 key_time (Skip down) s = Seen (skip_time down + 4) (skip_time down + 2) (skip_key s) down
 key_time WaitKey s = Exactly 92
-key_time (KeyNext turn) s = Exactly (106 + 14 * turn)
-key_time (KeyCount turn) s = Exactly (116 + 14 * turn)
-key_time KeyFreed s = Anytime
+key_time (KeyNext turn) s = Searching (106 + 14 * turn) turn
+key_time (KeyCount turn) s = Searching (116 + 14 * turn) (suc turn)
+key_time (KeyFreed turn looks) s = Freed turn looks
 
 abbrev pub key_place_time : KeyPlace → Time
 key_place_time (SkipTest down) = Exactly (skip_time down + 2)
-key_place_time (KeyTest turn) = Exactly (114 + 14 * turn)
-key_place_time KeyHeld = Anytime
+key_place_time (KeyTest turn) = Searching (114 + 14 * turn) turn
+key_place_time (KeyHeld turn looks) = Looking turn looks
 
 -- where a block's instructions begin, and where a place's one does
 abbrev pub key_addresses : KeyBlock → List ℕ
@@ -163,9 +164,9 @@ key_addresses (Skip down) = from at_key_yes (0 ∷ 1 ∷ 2 ∷ [])
 key_addresses WaitKey = from at_wait_key (0 ∷ 2 ∷ 3 ∷ 5 ∷ 6 ∷ 7 ∷ 9 ∷ [])
 key_addresses (KeyNext turn) = from at_key_next (0 ∷ 1 ∷ 2 ∷ 3 ∷ [])
 key_addresses (KeyCount turn) = from at_key_count (0 ∷ 1 ∷ [])
-key_addresses KeyFreed = from at_key_freed (0 ∷ 1 ∷ 3 ∷ 4 ∷ [])
+key_addresses (KeyFreed turn looks) = from at_key_freed (0 ∷ 1 ∷ 3 ∷ 4 ∷ [])
 
 abbrev pub key_place_address : KeyPlace → ℕ
 key_place_address (SkipTest down) = skip_test_label down
 key_place_address (KeyTest turn) = at_key_test
-key_place_address KeyHeld = at_key_held
+key_place_address (KeyHeld turn looks) = at_key_held

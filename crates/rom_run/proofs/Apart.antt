@@ -163,7 +163,7 @@ module _ (e : Edition) where
   key_apart WaitKey b h o = refl
   key_apart (KeyNext turn) b h o = refl
   key_apart (KeyCount turn) b h o = refl
-  key_apart KeyFreed b h o = refl
+  key_apart (KeyFreed turn looks) b h o = refl
 
   timer_place_apart : (l : TimerPlace) → is_fetch (part_of (timer_place_address l)) ≡ false
   timer_place_apart RandomCount = refl
@@ -175,7 +175,7 @@ module _ (e : Edition) where
   key_place_apart (SkipTest true) = refl
   key_place_apart (SkipTest false) = refl
   key_place_apart (KeyTest turn) = refl
-  key_place_apart KeyHeld = refl
+  key_place_apart (KeyHeld turn looks) = refl
 
   sprite_place_apart : (l : SpritePlace) → is_fetch (part_of (sprite_place_address l)) ≡ false
   sprite_place_apart ClearWait = refl

@@ -151,7 +151,7 @@ module _ (e : Edition) where
     place_keeps (AtKey (SkipTest false)) h i o = keeps (skip_test_label false) (is_on_3 (skip_test_label false) b o.0.0.p o.0.0.r3) refl (λ f. refl)
     place_keeps (AtKey (KeyTest turn)) h i o =
         keeps at_key_test (is_on_3 at_key_test b o.0.0.waiting.enters.entered.p o.0.0.waiting.enters.entered.r3) refl (λ f. refl)
-    place_keeps (AtKey KeyHeld) h i o = keeps at_key_held (is_on_3 at_key_held b o.0.0.enters.entered.p o.0.0.enters.entered.r3) refl (λ f. refl)
+    place_keeps (AtKey (KeyHeld turn looks)) h i o = keeps at_key_held (is_on_3 at_key_held b o.0.0.enters.entered.p o.0.0.enters.entered.r3) refl (λ f. refl)
     place_keeps (AtSprite ClearWait) h i o = keeps at_clear_wait (is_on_3 at_clear_wait b o.0.p o.0.r3) refl (λ f. refl)
     place_keeps (AtSprite ClearIdle) h i o = absurd (sleeps (sym o.0.1 ∙ i))
     place_keeps (AtSprite DrawWait) h i o = keeps at_draw_wait (is_on_3 at_draw_wait b o.0.p o.0.r3) refl (λ f. refl)
@@ -180,7 +180,7 @@ module _ (e : Edition) where
     place_unwritten (AtKey (SkipTest false)) h i o = unwritten (skip_test_label false) (is_on_3 (skip_test_label false) b o.0.0.p o.0.0.r3) refl (λ s j. refl)
     place_unwritten (AtKey (KeyTest turn)) h i o =
         unwritten at_key_test (is_on_3 at_key_test b o.0.0.waiting.enters.entered.p o.0.0.waiting.enters.entered.r3) refl (λ s j. refl)
-    place_unwritten (AtKey KeyHeld) h i o = unwritten at_key_held (is_on_3 at_key_held b o.0.0.enters.entered.p o.0.0.enters.entered.r3) refl (λ s j. refl)
+    place_unwritten (AtKey (KeyHeld turn looks)) h i o = unwritten at_key_held (is_on_3 at_key_held b o.0.0.enters.entered.p o.0.0.enters.entered.r3) refl (λ s j. refl)
     place_unwritten (AtSprite ClearWait) h i o = unwritten at_clear_wait (is_on_3 at_clear_wait b o.0.p o.0.r3) refl (λ s j. refl)
     place_unwritten (AtSprite ClearIdle) h i o = absurd (sleeps (sym o.0.1 ∙ i))
     place_unwritten (AtSprite DrawWait) h i o = unwritten at_draw_wait (is_on_3 at_draw_wait b o.0.p o.0.r3) refl (λ s j. refl)

@@ -1,5 +1,5 @@
 -- In which rows main code is where the state has no bound: those of FX0A.
-use Rattle.std.proofs.Common.{◌≡◌, ◌+◌, ◌*◌, ◌≤◌, ◌⊎◌, inl, inr, sym, ◌∙◌, ap, arith, List}
+use Rattle.std.proofs.Common.{◌≡◌, ◌+◌, ◌*◌, ◌≤◌, ◌⊎◌, inl, inr, sym, ◌∙◌, ap, arith, List, ℕ}
 use Rattle.std.specs.Prelude.{None}
 use Rattle.machine.specs.Board.{Machine}
 use Rattle.machine.specs.Keys.{Event}
@@ -25,21 +25,21 @@ use Rattle.rom_run.proofs.Time.{IsEndless, IsEndlessAt, unbounded, is_free, head
 pub data KeyRow (e : Edition) (b : Machine) (h : Since) : Type 0 where
   Comes : h.spent ≤ 354 → KeyRow e b h
   Seeks : Scans (vip e) b h → KeyRow e b h
-  Holds : At (vip e) (AtKey KeyHeld) b h → KeyRow e b h
-  Leaves : InBlock (vip e) (pieces (vip e)) (OfKey KeyFreed) b h → KeyRow e b h
+  Holds : (turn looks : ℕ) → At (vip e) (AtKey (KeyHeld turn looks)) b h → KeyRow e b h
+  Leaves : (turn looks : ℕ) → InBlock (vip e) (pieces (vip e)) (OfKey (KeyFreed turn looks)) b h → KeyRow e b h
 
 module _ (e : Edition) (b : Machine) (h : Since) (free : bound_of e h.state ≡ None) where
   block_row : (l : Block) (r : InBlock (vip e) (pieces (vip e)) l b h) → (r.since.spent + 2 * moves l ≤ 354) ⊎ IsEndless e l → KeyRow e b h
   block_row l r (inl s) = Comes (omega (arith, s, r.grows.spent, r.inside))
   block_row (OfKey (KeyNext turn)) r (inr o) = Seeks (UpTo turn r)
   block_row (OfKey (KeyCount turn)) r (inr o) = Seeks (BehindTest turn r)
-  block_row (OfKey KeyFreed) r (inr o) = Leaves r
+  block_row (OfKey (KeyFreed turn looks)) r (inr o) = Leaves turn looks r
   block_row _ r (inr o) = absurd o
 
   place_row : (l : Place) → At (vip e) l b h → (h.spent + 2 * 1 ≤ 354) ⊎ IsEndlessAt e l → KeyRow e b h
   place_row l o (inl s) = Comes (omega (arith, s))
   place_row (AtKey (KeyTest turn)) o (inr _) = Seeks (AtTest turn o)
-  place_row (AtKey KeyHeld) o (inr _) = Holds o
+  place_row (AtKey (KeyHeld turn looks)) o (inr _) = Holds turn looks o
   place_row _ o (inr n) = absurd n
 
   pub key_row : Row (vip e) (pieces (vip e)) b h → KeyRow e b h

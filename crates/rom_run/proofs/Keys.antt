@@ -176,8 +176,8 @@ module _ (e : Edition) (script : List Event) where
           go : (b.cycle < w) ⊎ (w ≤ b.cycle) → Early w
           go (inl l) = now_early l
           go (inr late) = absurd (finds scans late)
-      early_by (Holds o) = key_late 1 b.key (omega arith) t.fits.key (stays_down e b h o)
-      early_by (Leaves r) = key_late 5 (r.start.regs.r.re.lo % 16) (omega arith) (omega arith) (goes_up e b h r).1
+      early_by (Holds turn looks o) = key_late 1 b.key (omega arith) t.fits.key (stays_down e b h turn looks o)
+      early_by (Leaves turn looks r) = key_late 5 (r.start.regs.r.re.lo % 16) (omega arith) (omega arith) (goes_up e b h turn looks r).1
 
       soon_by : Soon (b.cycle + 2) w × Soon (b.cycle + 1) w
       soon_by =

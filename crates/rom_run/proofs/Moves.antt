@@ -159,12 +159,12 @@ module _ (e : Edition) (script : List Event) where
   module _ (c : Machine) (h : Since) (t : Interval e script c h) (p : IsMainPlace c.cycle) (soon : DueInTime e c h) (shows : place c.cycle ≡ interrupt_place → Showing e c h) where
     next : (st : Stepped x c h (state_at x c)) → (is_waiting (instr_at h.state) ≡ false) ⊎ BehindWait e c h → (place c.cycle ≡ interrupt_place → ⊥)
         → IsNext x script c h
-    next st makes d limit here told = go makes soon.exact
+    next st makes d limit here = go makes soon.exact
       where
         prompt : is_waiting (instr_at h.state) ≡ false → Spends c h 0 → next_point e script limit h.from h.state ≡ Dispatch c.cycle (state_at x c)
         prompt p s =
             let n = cycle_then c h t d s in
-            next_prompt e script limit h (state_at x c) c.cycle st.runs st.between st.time st.told (t.past p) t.starts.even n.0 n.1 p told
+            next_prompt e script limit h (state_at x c) c.cycle st.runs st.between st.time st.told (t.past p) t.starts.even n.0 n.1 p here
 
         waited : BehindWait e c h → next_point e script limit h.from h.state ≡ Dispatch c.cycle (state_at x c)
         waited w =
@@ -539,7 +539,7 @@ module _ (e : Edition) (script : List Event) where
           runs = st.runs;
           between = counted_as (sym more) (between_ticks 1 e h.state h.ticks h.keys s st.between);
           time = λ n t. st.time n (ap (x.takes h.state) (sym (between_ticks_key 1 e h.state h.ticks h.keys s st.between)) ∙ t);
-          told = told_ticks 1 e h.state h.ticks h.keys s st.between h.moments st.told;
+          told = told_ticks 1 e h.state h.ticks h.keys s st.between h.moments h.spent st.told;
           stands = dispatches_after x 1 b c (ticked st.stands.keeps.lies.awake) t.fits s st.stands;
         }
         )

@@ -1,5 +1,5 @@
 -- What comes behind a dispatch point is what the language's time says: its cycle, and its state.
-use Rattle.std.proofs.Common.{◌≡◌, ℕ, zero, suc, ◌+◌, ◌-◌, ◌%◌, refl, sym, ◌∙◌, ap, subst, arith, Bool, true, false, List, ◌∷◌, ◌++◌, drop}
+use Rattle.std.proofs.Common.{◌≡◌, ℕ, zero, suc, ◌+◌, ◌-◌, ◌%◌, refl, sym, ◌∙◌, ap, subst, arith, Bool, true, false, List, ◌∷◌, ◌++◌, drop, ◌<◌, not, ◌≤◌, ◌*◌}
 use Rattle.std.specs.Prelude.{Some, None}
 use Rattle.machine.specs.Keys.{Event, Keys, held_at}
 use Rattle.chip8_lang.specs.declared.instr.Instr.{Instr}
@@ -10,9 +10,9 @@ use Rattle.chip8_lang.specs.State.{Lang, variable, readable_byte, instr_at}
 use Rattle.chip8_lang.specs.Step.{KeyInput, stop_of, bytes_from, step, done_by}
 use Rattle.chip8_lang.specs.Step.KeyInput.{Nothing, Held, Chosen}
 use Rattle.chip8_lang.specs.Ticks.{tick, ticks}
-use Rattle.chip8_lang.specs.Timed.{interrupts, later, cycles, ticks_first, ran, waited, after_instr, by_stop, next_point}
+use Rattle.chip8_lang.specs.Timed.{interrupts, later, cycles, ticks_first, first_from, pressed, let_go, ran, waited, after_instr, by_stop, next_point}
 use Rattle.chip8_lang.specs.Timed.Next.{Dispatch}
-use Rattle.rom_law.specs.Moments.{Moment, Among, Meets, Sees, Tells, is_waiting, is_told_by, takes_by}
+use Rattle.rom_law.specs.Moments.{Moment, Among, Meets, Sees, Chooses, Tells, is_waiting, takes_by}
 use Rattle.rom_law.specs.Rows.{Since}
 use Rattle.rom_law.proofs.Language.{ticks_add, ticks_instr}
 use Rattle.rom_run.specs.Running.{Dated}
@@ -22,6 +22,34 @@ use Rattle.rom_run.proofs.Exact.{due_behind}
 
 spoilt : {X : Type 0} → true ≡ false → X
 spoilt k = cc
+
+-- the first number for which a test holds
+first_at : (n : ℕ) (f : ℕ → Bool) (j d : ℕ) → d < n → ((i : ℕ) → i < d → f (j + i) ≡ false) → f (j + d) ≡ true → first_from n f j ≡ Some (j + d)
+unfolding first_from
+first_at zero f j d l none found = absurd (omega (arith, l))
+first_at (suc n) f j zero l none found = rw (subst (λ k. f k ≡ true) same found) (ap Some (sym same))
+  where
+    same : j + 0 ≡ j
+    same = omega arith
+first_at (suc n) f j (suc d) l none found =
+    rw (subst (λ k. f k ≡ false) here (none 0 (omega arith)))
+    (subst (λ k. first_from n f (j + 1) ≡ Some k) (next d)
+    (first_at n f (j + 1) d (omega (arith, l)) (λ i m. subst (λ k. f k ≡ false) (sym (next i)) (none (suc i) (omega (arith, m))))
+    (subst (λ k. f k ≡ true) (sym (next d)) found)))
+  where
+    here : j + 0 ≡ j
+    here = omega arith
+
+    next : (i : ℕ) → j + 1 + i ≡ j + suc i
+    next i = omega arith
+
+first_is : (n : ℕ) (f : ℕ → Bool) (d : ℕ) → d < n → ((i : ℕ) → i < d → f i ≡ false) → f d ≡ true → first_from n f 0 ≡ Some d
+first_is n f d l none found =
+    subst (λ k. first_from n f 0 ≡ Some k) (from_none d)
+    (first_at n f 0 d l (λ i m. subst (λ k. f k ≡ false) (sym (from_none i)) (none i m)) (subst (λ k. f k ≡ true) (sym (from_none d)) found))
+  where
+    from_none : (i : ℕ) → 0 + i ≡ i
+    from_none i = omega arith
 
 untold : {X : Type 0} → false ≡ true → X
 untold k = cc
@@ -92,7 +120,7 @@ module _ (e : Edition) (script : List Event) (limit : ℕ) (h : Since) (z : Lang
   -- ---- an instruction that doesn't wait
 
   module _ (before after : ℕ) (all : before + after ≡ h.ticks) (at : c ≡ later a h.spent) (count : interrupts a h.spent ≡ h.ticks)
-      (past : (m : Moment) → Among m h.moments → Dated script a m) (even : a % 2 ≡ 0) where
+      (past : (m : Moment) → Among m h.moments → Dated script a m) (even : a % 2 ≡ 0) (here : c ≤ limit) where
     -- the ticks before a main move, and the key that it saw
     met : (k : ℕ) → k % 2 ≡ 0 → Meets h.moments k before → interrupts a (k + 1) ≡ before
     met k o m = odd_same a k even o ∙ ap (interrupts a) (sym m.at) ∙ sym (past m.moment m.among).ticks ∙ m.after
@@ -117,36 +145,54 @@ module _ (e : Edition) (script : List Event) (limit : ℕ) (h : Since) (z : Lang
         (made ∙ ap (ticks after) (ap (λ j. done_by e j key (ticks before s)) (ticks_instr before s ∙ is) ∙ swaps e i p key before s
         ∙ ap (λ j. ticks before (done_by e j key s)) (sym is)) ∙ ticks_add after before (step e key s) ∙ ap (λ n. ticks n (step e key s)) all)
 
-    go : (i : Instr) → instr_at s ≡ i → (key : KeyInput) → Allows i s h.keys key → Tells i s h.moments before key
-        → ((n : ℕ) → takes_by e i s key ≡ Some n → h.spent ≡ n) → z ≡ ticks after (step e key (ticks before s)) → is_waiting i ≡ false
-        → is_told_by i ≡ true → after_instr e script limit i a s ≡ Dispatch c z
-    go Clear is key al told time made w t = spoilt w
-    go (Draw x y n) is key al told time made w t = spoilt w
-    go (WaitKey x) is key al told time made w t = untold t
-    go (Random x k) is Nothing al told time made w t = timed (Random x k) is 114 (time _ refl) (met 90 refl told) made
-    go (GetDelay x) is Nothing al told time made w t = timed (GetDelay x) is 92 (time _ refl) (met 86 refl told) made
-    go (SetDelay x) is Nothing al told time made w t = timed (SetDelay x) is 104 (time _ refl) (met 100 refl told) made
-    go (SetSound x) is Nothing al told time made w t = timed (SetSound x) is 110 (time _ refl) (met 106 refl told) made
-    go (SkipDown x) is (Held d) al told time made w t =
+    -- FX0A, whose turns and looks come before the limit
+    chosen : (x : ℕ) → instr_at s ≡ WaitKey x → (k : ℕ) → Chooses h.moments h.spent k → z ≡ ticks after (step e (Chosen k) (ticks before s))
+        → after_instr e script limit (WaitKey x) a s ≡ Dispatch c z
+    chosen x is k m made =
+        ap (pressed e script limit a s) (first_is limit (λ j. held_at script (later a (114 + 14 * j) + 1) (j % 16)) m.turn
+        (omega (arith, late)) (λ i l. saw (114 + 14 * i) (i % 16) false (m.holds.searched i l))
+        (saw (114 + 14 * m.turn) (m.turn % 16) true m.holds.down))
+        ∙ ap (let_go e script limit a s m.turn)
+        (first_is limit (λ i. not (held_at script (later a (116 + 14 * m.turn + 2 * i) + 1) (m.turn % 16))) m.looks (omega (arith, late))
+        (λ i l. ap not (saw (116 + 14 * m.turn + 2 * i) (m.turn % 16) true (m.holds.held i l)))
+        (ap not (saw (116 + 14 * m.turn + 2 * m.looks) (m.turn % 16) false m.up)))
+        ∙ subst (λ y. ran e script limit a s (Chosen y) (126 + 14 * m.turn + 2 * m.looks) ≡ Dispatch c z) m.is
+        (plain (WaitKey x) is refl (Chosen k) _ m.spends made)
+      where
+        late : 126 + 14 * m.turn + 2 * m.looks ≤ limit
+        late = omega (arith, m.spends, at, here)
+
+    go : (i : Instr) → instr_at s ≡ i → (key : KeyInput) → Allows i s h.keys key → Tells i s h.moments h.spent before key
+        → ((n : ℕ) → takes_by e i s key ≡ Some n → h.spent ≡ n) → z ≡ ticks after (step e key (ticks before s)) → is_waiting i ≡ false → after_instr e script limit i a s ≡ Dispatch c z
+    go Clear is key al told time made w = spoilt w
+    go (Draw x y n) is key al told time made w = spoilt w
+    go (WaitKey x) is (Chosen k) al told time made w = chosen x is k told made
+    go (WaitKey x) is Nothing al told time made w = absurd al
+    go (WaitKey x) is (Held d) al told time made w = absurd al
+    go (Random x k) is Nothing al told time made w = timed (Random x k) is 114 (time _ refl) (met 90 refl told) made
+    go (GetDelay x) is Nothing al told time made w = timed (GetDelay x) is 92 (time _ refl) (met 86 refl told) made
+    go (SetDelay x) is Nothing al told time made w = timed (SetDelay x) is 104 (time _ refl) (met 100 refl told) made
+    go (SetSound x) is Nothing al told time made w = timed (SetSound x) is 110 (time _ refl) (met 106 refl told) made
+    go (SkipDown x) is (Held d) al told time made w =
         subst (λ y. ran e script limit a s (Held y) (cycles e (SkipDown x) (Held y) s) ≡ Dispatch c z) (sym (saw 90 (variable s x % 16) d told))
         (plain (SkipDown x) is refl (Held d) _ (time _ refl) made)
-    go (SkipDown x) is Nothing al told time made w t = absurd al
-    go (SkipDown x) is (Chosen k) al told time made w t = absurd al
-    go (SkipUp x) is (Held d) al told time made w t =
+    go (SkipDown x) is Nothing al told time made w = absurd al
+    go (SkipDown x) is (Chosen k) al told time made w = absurd al
+    go (SkipUp x) is (Held d) al told time made w =
         subst (λ y. ran e script limit a s (Held y) (cycles e (SkipUp x) (Held y) s) ≡ Dispatch c z) (sym (saw 96 (variable s x % 16) d told))
         (plain (SkipUp x) is refl (Held d) _ (time _ refl) made)
-    go (SkipUp x) is Nothing al told time made w t = absurd al
-    go (SkipUp x) is (Chosen k) al told time made w t = absurd al
-    go i is Nothing al told time made w t = plain i is refl Nothing _ (time _ refl) made
-    go i is (Held d) al told time made w t = absurd al
-    go i is (Chosen k) al told time made w t = absurd al
+    go (SkipUp x) is Nothing al told time made w = absurd al
+    go (SkipUp x) is (Chosen k) al told time made w = absurd al
+    go i is Nothing al told time made w = plain i is refl Nothing _ (time _ refl) made
+    go i is (Held d) al told time made w = absurd al
+    go i is (Chosen k) al told time made w = absurd al
 
   pub next_prompt : (runs : stop_of e s ≡ None) (b : Between e s h.ticks h.keys z)
-      → ((n : ℕ) → takes_by e (instr_at s) s b.key ≡ Some n → h.spent ≡ n) → Tells (instr_at s) s h.moments b.before b.key
+      → ((n : ℕ) → takes_by e (instr_at s) s b.key ≡ Some n → h.spent ≡ n) → Tells (instr_at s) s h.moments h.spent b.before b.key
       → ((m : Moment) → Among m h.moments → Dated script a m) → a % 2 ≡ 0 → c ≡ later a h.spent → interrupts a h.spent ≡ h.ticks
-      → is_waiting (instr_at s) ≡ false → is_told_by (instr_at s) ≡ true → next_point e script limit a s ≡ Dispatch c z
-  next_prompt runs b time told past even at count w t =
-      runs_on runs (go b.before b.after b.all at count past even (instr_at s) refl b.key b.allowed told time b.is w t)
+      → is_waiting (instr_at s) ≡ false → c ≤ limit → next_point e script limit a s ≡ Dispatch c z
+  next_prompt runs b time told past even at count w here =
+      runs_on runs (go b.before b.after b.all at count past even here (instr_at s) refl b.key b.allowed told time b.is w)
 
   -- ---- one that waits for the display
 

@@ -180,7 +180,7 @@ module _ (x : Program) where
   key_room WaitKey b s sets o = room b o.0.entered.holds (omega arith)
   key_room (KeyNext turn) b s sets o = room b o.0.waiting.enters.entered.holds (omega arith)
   key_room (KeyCount turn) b s sets o = room b o.0.waiting.enters.entered.holds (omega arith)
-  key_room KeyFreed b s sets o = room b o.0.enters.entered.holds (omega arith)
+  key_room (KeyFreed turn looks) b s sets o = room b o.0.enters.entered.holds (omega arith)
 
   head_room : (l : Block) (b : Machine) (h : Since) → Head x l b h → Roomy (moves l) b ⊎ (l ≡ OfFetch Inside)
   head_room (OfFetch l) b h o = go (fetch_room l b (now h) o.0)
@@ -206,7 +206,7 @@ module _ (x : Program) where
   key_place_room : (l : KeyPlace) (b : Machine) (s : Lang) (sets : List Keys) → key_place_at x l b s sets → Room x.edition b
   key_place_room (SkipTest down) b s sets o = lies b o.0.holds refl
   key_place_room (KeyTest turn) b s sets o = lies b o.0.waiting.enters.entered.holds refl
-  key_place_room KeyHeld b s sets o = lies b o.0.enters.entered.holds refl
+  key_place_room (KeyHeld turn looks) b s sets o = lies b o.0.enters.entered.holds refl
 
   sprite_place_room : (l : SpritePlace) (b : Machine) (s : Lang) → sprite_place_at x l b s → Room x.edition b
   sprite_place_room ClearWait b s o = lies b o.holds refl

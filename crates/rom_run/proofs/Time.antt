@@ -169,12 +169,12 @@ module _ (e : Edition) where
   abbrev pub IsEndless : Block → Type 0
   IsEndless (OfKey (KeyNext turn)) = Unit {0}
   IsEndless (OfKey (KeyCount turn)) = Unit {0}
-  IsEndless (OfKey KeyFreed) = Unit {0}
+  IsEndless (OfKey (KeyFreed turn looks)) = Unit {0}
   IsEndless _ = ⊥
 
   abbrev pub IsEndlessAt : Place → Type 0
   IsEndlessAt (AtKey (KeyTest turn)) = Unit {0}
-  IsEndlessAt (AtKey KeyHeld) = Unit {0}
+  IsEndlessAt (AtKey (KeyHeld turn looks)) = Unit {0}
   IsEndlessAt _ = ⊥
 
   abbrev pub Paced : Block → Since → Type 0
@@ -341,7 +341,7 @@ module _ (e : Edition) where
       endless h (key_moves (KeyNext turn)) tt (key_bound e (now h) o.0.0.waiting.enters.entered.inside o.0.0.waiting.enters.digit o.0.0.waiting.low)
   key_soon (KeyCount turn) b h f o =
       endless h (key_moves (KeyCount turn)) tt (key_bound e (now h) o.0.0.waiting.enters.entered.inside o.0.0.waiting.enters.digit o.0.0.waiting.low)
-  key_soon KeyFreed b h f o = endless h (key_moves KeyFreed) tt (key_bound e (now h) o.0.0.enters.entered.inside o.0.0.enters.digit o.0.0.low)
+  key_soon (KeyFreed turn looks) b h f o = endless h (key_moves (KeyFreed turn looks)) tt (key_bound e (now h) o.0.0.enters.entered.inside o.0.0.enters.digit o.0.0.low)
 
   pub head_soon : (l : Block) (b : Machine) (h : Since) → FitsMachine b → Head x l b h → Paced l h
   head_soon (OfFetch l) b h f o = fetch_soon l b h f o
@@ -358,7 +358,7 @@ module _ (e : Edition) where
   at_soon (AtTimer SetSoundPut) b h o = quick h 1 (omega (arith, o.1))
   at_soon (AtKey (SkipTest down)) b h o = quick h 1 (omega (arith, o.1, skip_most down))
   at_soon (AtKey (KeyTest turn)) b h o = endless h 1 tt (key_bound e (now h) o.0.0.waiting.enters.entered.inside o.0.0.waiting.enters.digit o.0.0.waiting.low)
-  at_soon (AtKey KeyHeld) b h o = endless h 1 tt (key_bound e (now h) o.0.0.enters.entered.inside o.0.0.enters.digit o.0.0.low)
+  at_soon (AtKey (KeyHeld turn looks)) b h o = endless h 1 tt (key_bound e (now h) o.0.0.enters.entered.inside o.0.0.enters.digit o.0.0.low)
   at_soon (AtSprite ClearWait) b h o = quick h 1 (omega (arith, o.1))
   at_soon (AtSprite ClearIdle) b h o = quick h 1 (omega (arith, o.1))
   at_soon (AtSprite DrawWait) b h o = drawing h 0 1 (omega (arith, o.1, draw_most e (now h))) (omega arith) (draws_bound e (now h) o.0.draws)

@@ -37,7 +37,7 @@ module _ (x : Program) (b : Machine) (s : Lang) where
   pub key_awake : (l : KeyPlace) (sets : List Keys) → key_place_at x l b s sets → b.regs.idle ≡ false
   key_awake (SkipTest down) sets o = o.0.holds.awake
   key_awake (KeyTest turn) sets o = o.0.waiting.enters.entered.holds.awake
-  key_awake KeyHeld sets o = o.0.enters.entered.holds.awake
+  key_awake (KeyHeld turn looks) sets o = o.0.enters.entered.holds.awake
 
   clearing_timed : (t a m : ℕ) → Clearing x a m (woken b) s → Clearing x a m (woken (timed t b)) s
   clearing_timed t a m o = record { holds = o.holds; inside = o.inside; clears = o.clears; p = o.p; r3 = o.r3; r4 = o.r4; pointer = o.pointer; rd = o.rd }

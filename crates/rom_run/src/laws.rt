@@ -48,12 +48,12 @@ pub fn boot_starts()
 
 /// The law of every run of the board from reset, for both editions, every game that fits into game memory, every key script and every limit. The
 /// first dispatch point, which comes within 1,000 machine cycles, has the game's first state. Each next one has the state after one step, with the
-/// timer ticks and the keys of the cycles between; behind each instruction but FX0A its cycle and its state are exactly those of the language's time. It
-/// comes within the bound of the state before it, and after FX0A, which has none, before the last of 3,668 cycles in which all keys are up, behind as
-/// many in which a key is down. The pictures are those of frames 0, 1, 2 and so on, without a gap: before a point come exactly those whose windows have
-/// ended by its cycle. Dot x of line k of each is lit exactly where pixel (x, k / 4) is, in the tall edition (x, k / 2), in the screen of the language
-/// state at the last dispatch point before it. A stop is that of the last state, with its number in 01F0, and its cycle and its state are exactly those of
-/// the language's time. Where the limit ends the run, no next point was due by then.
+/// timer ticks and the keys of the cycles between; its cycle and its state are exactly those of the language's time. It comes within the bound of the
+/// state before it, and after FX0A, which has none, before the last of 3,668 cycles in which all keys are up, behind as many in which a key is down. The
+/// pictures are those of frames 0, 1, 2 and so on, without a gap: before a point come exactly those whose windows have ended by its cycle. Dot x of line
+/// k of each is lit exactly where pixel (x, k / 4) is, in the tall edition (x, k / 2), in the screen of the language state at the last dispatch point
+/// before it. A stop is that of the last state, with its number in 01F0, and its cycle and its state are exactly those of the language's time. Where the
+/// limit ends the run, no next point was due by then.
 pub fn every_run()
     ensures { EveryRun }
 {}
