@@ -4,3 +4,4 @@ pub mod Ordered
 pub mod Faultless
 pub mod Steps
 pub mod Games
+mod Searched

@@ -1,6 +1,8 @@
 pub mod Grammar
 pub mod Order
 pub mod Closed
+pub mod Obstacles
+pub mod Searching
 pub mod Proof
 pub mod States
 pub mod Laws

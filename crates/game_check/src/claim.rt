@@ -34,7 +34,9 @@ pub struct Claim {
 
 impl Claim {
     // The same claim.
-    pub(crate) fn copied(&self) -> Claim {
+    pub(crate) fn copied(&self) -> Claim
+        ensures { result ≡ self.now }
+    {
         Claim {
             point: Point {
                 pc: self.point.pc,

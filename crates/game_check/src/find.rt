@@ -1,13 +1,18 @@
 //! A certificate that is found for a game.
 
-ghost use Rattle.std.specs.Prelude.{◌≤◌, length, OnOk, IfOk};
+ghost use Rattle.std.specs.Prelude.{◌≤◌, length, IfOk, IfErr};
+ghost use Rattle.std.specs.List.{All};
 ghost use Rattle.chip8_lang.specs.State.{memory_size};
+ghost use Rattle.game_check.specs.Obstacles.{IsFindFault, Meets};
+ghost use Rattle.game_check.specs.Order.{IsAscending};
 ghost use Rattle.game_check.specs.Proof.{IsAccepted};
 
 use crate::check::check_game;
-use crate::claim::{Claim, Point, stack_of};
+use crate::claim::Claim;
+use crate::closed::check_claim;
 use crate::fault::{FindFault, ProofFault};
-use crate::search::{obstacle, search_claims};
+use crate::obstacle::stopped;
+use crate::search::search_claims;
 use arrayvec::ArrayVec;
 use chip8_lang::Edition;
 use std::alloc::{AllocError, Global};
@@ -26,50 +31,47 @@ pub fn find_certificate(alloc: Global, edition: Edition, game: &[u8]) -> Result<
     requires { length game.now ≤ memory_size edition }
     ensures accepted { IfOk result (λ text. IsAccepted edition game.now text.items) }
     ensures fits { IfOk result (λ text. length text.items ≤ MOST_TEXT) }
+    ensures fault { IfErr result (IsFindFault edition game.now) }
 {
     let claims = search_claims(alloc, edition, game)?;
-    let text = text_of(alloc, claims.as_slice())?;
+    let (text, count) = text_of(alloc, claims.as_slice())?;
     match check_game(alloc, edition, game, text.as_slice()) {
         Ok(_) => Ok(text),
-        Err(ProofFault::Fault { line, cause }) => Err(obstacle(
-            edition,
-            game,
-            claim_at(claims, line),
-            cause,
-        )),
+        Err(ProofFault::Fault { .. }) => Err(first_open(edition, game, claims.as_slice(), count)),
         Err(ProofFault::NoMemory) => Err(FindFault::NoMemory),
     }
 }
 
-// The claim of a line, counted from 1.
-fn claim_at(mut claims: Vec<Claim>, line: u32) -> Claim {
-    let place = (line as usize).saturating_sub(1);
-    if place < claims.len() {
-        return claims.swap_remove(place);
+// The first of some claims that isn't closed among them. They are the first ones of those found, and one of them isn't, where their lines are refused.
+fn first_open(edition: Edition, game: &[u8], found: &[Claim], count: usize) -> FindFault
+    requires in_order { IsAscending found.now }
+    requires met { All (Meets edition game.now) found.now }
+    ensures { IsFindFault edition game.now result }
+{
+    let first = &found[..count.min(found.len())];
+    for claim in first {
+        if check_claim(edition, game, first, claim).is_err() {
+            return stopped(edition, game, found, count, claim.copied());
+        }
     }
-    Claim {
-        point: Point {
-            pc: 0x0200,
-            stack: stack_of(&[]),
-        },
-        low: 0,
-        high: 0,
-    }
+    FindFault::NoMemory
 }
 
-// The lines of these claims, as many as a certificate may have.
-fn text_of(alloc: Global, claims: &[Claim]) -> Result<Vec<u8>, AllocError>
-    ensures { IfOk result (λ text. length text.items ≤ MOST_TEXT) }
+// The lines of these claims, as many as a certificate may have, and how many these are.
+fn text_of(alloc: Global, claims: &[Claim]) -> Result<(Vec<u8>, usize), AllocError>
+    ensures { IfOk result (λ lines. length lines.0.items ≤ MOST_TEXT) }
 {
     let mut text = Vec::new(alloc);
+    let mut count = 0;
     for claim in claims {
         let line = line_of(claim);
         if MOST_TEXT - text.len() < line.len() {
             break;
         }
         text.extend_from_slice(line.as_slice())?;
+        count += 1;
     }
-    Ok(text)
+    Ok((text, count))
 }
 
 // The line that says a claim.

@@ -4,7 +4,8 @@
 //! The crate stands on the definitions of `machine` and `chip8_lang`, and on the lines, words and numbers of `vip_byte` and `vip_keypad`. The
 //! layers above may rely on this: `check_game` answers the number of claims exactly where the certificate is well formed and closed and has a claim of
 //! the start, and else its first fault (`specs/Proof.antt`); of such a certificate the step law holds, and its game never stops (`specs/Laws.antt`);
-//! what `find_certificate` finds, `check_game` accepts. Of which games it finds one nothing is promised. The format is this project's profile.
+//! what `find_certificate` finds, `check_game` accepts; where it finds none, it says a claim that its search meets, and what stands against it
+//! (`specs/Obstacles.antt`). Of which games it finds one nothing is promised. The format is this project's profile.
 #![tactic(auto)]
 
 mod check;
@@ -14,6 +15,7 @@ mod fault;
 mod find;
 pub mod laws;
 mod line;
+mod obstacle;
 mod read;
 mod search;
 

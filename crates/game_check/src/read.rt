@@ -51,8 +51,8 @@ fn next_claim(before: &[Claim], line: &[u8]) -> Result<Option<Claim>, ProofCause
     Ok(Some(claim))
 }
 
-// Whether a claim comes behind others.
-fn is_behind(before: &[Claim], claim: &Claim) -> bool
+/// Whether a claim comes behind others.
+pub fn is_behind(before: &[Claim], claim: &Claim) -> bool
     ensures { result ≡ is_behind before.now claim.now }
 {
     match before.last() {

@@ -1,15 +1,25 @@
 //! The search for claims: from the start on, points are followed to the next ones, and where one is met with several I its range grows.
 //!
-//! Nothing rests on what is found here, since `find_certificate` has it checked. So the contracts say no more than that the calls are safe.
+//! That a certificate is right doesn't rest on what is found here, since `find_certificate` has it checked. Where none is found the answer does: so the
+//! contracts say that each claim is one that `specs/Obstacles.antt` says may be met, and no more.
 
-ghost use Rattle.std.specs.Prelude.{◌≡◌, ◌≤◌, true, OnOk, IfOk};
-ghost use Rattle.game_check.specs.Closed.{is_allowed};
+ghost use Rattle.std.specs.Prelude.{ℕ, List, [], ◌∷◌, ◌++◌, if◌then◌else◌, ◌≡◌, ◌<◌, ◌≤◌, ◌⊎◌, true, IsSomeAnd, OnOk, IfOk, IfErr, IfSome, length, min, max};
+ghost use Rattle.std.specs.List.{All};
+ghost use Rattle.game_check.specs.Closed.{is_allowed, instr_in};
+ghost use Rattle.chip8_lang.specs.State.{is_in_memory};
+ghost use Rattle.chip8_lang.specs.declared.view.Edition.{Edition};
+ghost use Rattle.game_check.specs.Obstacles.{claim_of, IsFindFault, IsHighEnd, IsLowEnd, Meets};
+ghost use Rattle.game_check.specs.Grammar.{is_behind};
+ghost use Rattle.game_check.specs.Order.{IsAscending};
+ghost use Rattle.game_check.specs.Searching.{AllMet, Grown, HasNode, Keeps};
 
 use crate::claim::{Claim, Point, stack_of};
 use crate::closed::{
-    has_access, high_after, instr_in, is_allowed, is_in_memory, low_after, next_points, opcode_in,
+    has_access, high_after, instr_in, is_allowed, is_in_memory, low_after, next_points,
 };
-use crate::fault::{FindFault, Obstacle, ProofCause};
+use crate::fault::FindFault;
+use crate::obstacle::stopped;
+use crate::read::is_behind;
 use chip8_lang::{Edition, Instr};
 use std::alloc::{AllocError, Global};
 use std::cmp::Reverse;
@@ -46,8 +56,9 @@ struct Node {
 
 /// The points met so far.
 #[derive(Drop)]
-pub struct Search {
+pub struct Search<'a> {
     edition: Edition,
+    game: &'a [u8],
     nodes: Vec<Node>,
     // the first node of each chain
     chains: Vec<Option<usize>>,
@@ -56,26 +67,31 @@ pub struct Search {
 }
 
 /// The claims that a search from the start of a game comes to, in the order of a certificate; or where it failed.
-pub fn search_claims(
-    alloc: Global,
-    edition: Edition,
-    game: &[u8],
-) -> Result<Vec<Claim>, FindFault> {
-    let mut search = start(alloc, edition)?;
+pub fn search_claims(alloc: Global, edition: Edition, game: &[u8]) -> Result<Vec<Claim>, FindFault>
+    ensures in_order { IfOk result (λ claims. IsAscending claims.items) }
+    ensures met { IfOk result (λ claims. All (Meets edition game.now) claims.items) }
+    ensures fault { IfErr result (IsFindFault edition game.now) }
+{
+    let mut search = start(alloc, edition, game)?;
     for _ in 0..MOST_TURNS {
         let Some(place) = search.next_waiting() else {
             break;
         };
-        search.follow(game, place)?;
+        search.follow(alloc, place)?;
     }
     let claims = search.claims(alloc)?;
     Ok(claims)
 }
 
 // A search that has met the start alone.
-fn start(alloc: Global, edition: Edition) -> Result<Search, AllocError> {
+fn start<'a>(alloc: Global, edition: Edition, game: &'a [u8]) -> Result<Search<'a>, AllocError>
+    ensures edition { IfOk result (λ search. search.edition ≡ edition) }
+    ensures game { IfOk result (λ search. search.game.now ≡ game.entry.now) }
+    ensures met { IfOk result AllMet }
+{
     let mut search = Search {
         edition,
+        game,
         nodes: Vec::new(alloc),
         chains: vec![in alloc; None; CHAINS]?,
         waiting: BinaryHeap::new(alloc),
@@ -84,30 +100,40 @@ fn start(alloc: Global, edition: Edition) -> Result<Search, AllocError> {
         pc: 0x0200,
         stack: stack_of(&[]),
     };
-    search.meet(start, 0, 0)?;
+    search.add(Claim {
+        point: start,
+        low: 0,
+        high: 0,
+    })?;
     Ok(search)
 }
 
-impl Search {
+impl Search<'_> {
     // The next node to be followed.
-    fn next_waiting(&mut self) -> Option<usize> {
+    fn next_waiting(&mut self) -> Option<usize>
+        requires { AllMet self.now }
+        ensures { Keeps self.old self.new }
+    {
         let Reverse((_, place)) = self.waiting.pop()?;
         Some(place)
     }
 
     // Meets the points behind a node.
-    fn follow(&mut self, game: &[u8], place: usize) -> Result<(), FindFault> {
+    fn follow(&mut self, alloc: Global, place: usize) -> Result<(), FindFault>
+        requires { AllMet self.now }
+        ensures keeps { OnOk result (Keeps self.old self.new) }
+        ensures fault { IfErr result (IsFindFault self.old.edition self.old.game.now) }
+    {
         let Some(claim) = self.taken(place) else {
             return Ok(());
         };
-        let instr = match instr_of(self.edition, game, &claim) {
-            Ok(instr) => instr,
-            Err(cause) => return Err(obstacle(self.edition, game, claim, cause)),
+        let Some(instr) = instr_of(self.edition, self.game, &claim) else {
+            return Err(stopped(self.edition, self.game, &[], 0, claim));
         };
         let low = low_after(&instr, &claim);
         let high = high_after(&instr, &claim);
         if low.max(high) > u32::from(LAST_ADDRESS) {
-            return Err(obstacle(self.edition, game, claim, ProofCause::Next));
+            return Err(stopped(self.edition, self.game, &[], 0, claim));
         }
         let (first, second) = next_points(&instr, &claim.point);
         let mut met = self.meet(first, low as u16, high as u16)?;
@@ -115,23 +141,33 @@ impl Search {
             met &= self.meet(second, low as u16, high as u16)?;
         }
         if met {
-            Ok(())
-        } else {
-            Err(obstacle(self.edition, game, claim, ProofCause::Next))
+            return Ok(());
         }
+        let found = self.claims(alloc)?;
+        Err(stopped(self.edition, self.game, found.as_slice(), 0, claim))
     }
 
     // The claim of a node that is followed now.
-    fn taken(&mut self, place: usize) -> Option<Claim> {
-        let node = self.nodes.get_mut(place)?;
-        node.waits = false;
-        Some(node.claim.copied())
+    fn taken(&mut self, place: usize) -> Option<Claim>
+        requires { AllMet self.now }
+        ensures keeps { Keeps self.old self.new }
+        ensures met { IfSome result (Meets self.old.edition self.old.game.now) }
+    {
+        if place >= self.nodes.len() {
+            return None;
+        }
+        self.nodes[place].waits = false;
+        Some(self.nodes[place].claim.copied())
     }
 
     // A point is met with I from low to high. False where no more points are followed.
-    fn meet(&mut self, point: Point, low: u16, high: u16) -> Result<bool, AllocError> {
+    fn meet(&mut self, point: Point, low: u16, high: u16) -> Result<bool, AllocError>
+        requires all_met { AllMet self.now }
+        requires met { Meets self.now.edition self.now.game.now (claim_of point low high) }
+        ensures { OnOk result (Keeps self.old self.new) }
+    {
         match self.find(&point) {
-            Some(place) => self.join(place, low, high)?,
+            Some(place) => self.join(place, &point, low, high)?,
             None if self.nodes.len() >= MOST_POINTS => return Ok(false),
             None => self.add(Claim { point, low, high })?,
         }
@@ -139,12 +175,15 @@ impl Search {
     }
 
     // The node of a point.
-    fn find(&self, point: &Point) -> Option<usize> {
+    fn find(&self, point: &Point) -> Option<usize>
+        ensures { IfSome result (λ place. HasNode self.now.nodes.items place point.now) }
+    {
         let mut place = first_in(self.chains.as_slice(), chain_of(point));
         for _ in 0..self.nodes.len() {
-            let node = self.nodes.get(place?)?;
+            let at = place?;
+            let node = self.nodes.get(at)?;
             if node.claim.point.order(point).is_eq() {
-                return place;
+                return Some(at);
             }
             place = node.behind;
         }
@@ -152,20 +191,25 @@ impl Search {
     }
 
     // The range of a node grows to what is met, and the node waits where it does.
-    fn join(&mut self, place: usize, low: u16, high: u16) -> Result<(), AllocError> {
-        let Some(node) = self.nodes.get_mut(place) else {
-            return Ok(());
-        };
-        let was_waiting = node.waits;
-        if node.grow(self.edition, low, high) && !was_waiting {
-            let pc = node.claim.point.pc;
-            self.waiting.push(Reverse((pc, place)))?;
+    fn join(&mut self, place: usize, point: &Point, low: u16, high: u16) -> Result<(), AllocError>
+        requires all_met { AllMet self.now }
+        requires there { HasNode self.now.nodes.items place point.now }
+        requires met { Meets self.now.edition self.now.game.now (claim_of point.now low high) }
+        ensures { OnOk result (Keeps self.old self.new) }
+    {
+        let was_waiting = self.nodes[place].waits;
+        if self.nodes[place].grow(self.edition, low, high) && !was_waiting {
+            self.waiting.push(Reverse((point.pc, place)))?;
         }
         Ok(())
     }
 
     // A new node, which waits.
-    fn add(&mut self, claim: Claim) -> Result<(), AllocError> {
+    fn add(&mut self, claim: Claim) -> Result<(), AllocError>
+        requires all_met { AllMet self.now }
+        requires met { Meets self.now.edition self.now.game.now claim }
+        ensures { OnOk result (Keeps self.old self.new) }
+    {
         let place = self.nodes.len();
         let chain = chain_of(&claim.point);
         let behind = first_in(self.chains.as_slice(), chain);
@@ -183,19 +227,48 @@ impl Search {
     }
 
     // The claims of all nodes, in the order of a certificate.
-    fn claims(&self, alloc: Global) -> Result<Vec<Claim>, AllocError> {
+    fn claims(&self, alloc: Global) -> Result<Vec<Claim>, AllocError>
+        requires { AllMet self.now }
+        ensures in_order { IfOk result (λ claims. IsAscending claims.items) }
+        ensures met { IfOk result (λ claims. All (Meets self.now.edition self.now.game.now) claims.items) }
+    {
         let mut claims = Vec::new(alloc);
         for node in self.nodes.as_slice() {
             claims.push(node.claim.copied())?;
         }
         claims.sort_unstable_by(|a, b| a.point.order(&b.point));
-        Ok(claims)
+        in_order(alloc, claims.as_slice())
     }
+}
+
+// Of claims in the order of a certificate each one that comes behind those before it, which is each.
+fn in_order(alloc: Global, sorted: &[Claim]) -> Result<Vec<Claim>, AllocError>
+    ensures in_order { IfOk result (λ claims. IsAscending claims.items) }
+    ensures met { (e : Edition) (game : List ℕ) → All (Meets e game) sorted.now → IfOk result (λ claims. All (Meets e game) claims.items) }
+{
+    let mut claims = Vec::new(alloc);
+    for claim in sorted {
+        keep_behind(&mut claims, claim)?;
+    }
+    Ok(claims)
+}
+
+// Adds a claim that comes behind others.
+fn keep_behind(claims: &mut Vec<Claim>, claim: &Claim) -> Result<(), AllocError>
+    ensures { OnOk result (claims.new.items
+        ≡ (if is_behind claims.old.items claim.now then claims.old.items ++ claim.now ∷ [] else claims.old.items)) }
+{
+    if is_behind(claims.as_slice(), claim) {
+        claims.push(claim.copied())?;
+    }
+    Ok(())
 }
 
 impl Node {
     // Its range grows to what is met. False where it holds that already.
-    fn grow(&mut self, edition: Edition, low: u16, high: u16) -> bool {
+    fn grow(&mut self, edition: Edition, low: u16, high: u16) -> bool
+        ensures { Grown edition self.old.claim low high self.new.claim }
+    {
         if self.claim.low <= low && high <= self.claim.high {
             return false;
         }
@@ -222,7 +295,10 @@ impl Node {
 }
 
 // The bounds of game memory or of the font, whichever holds all of a range, or else of all addresses.
-fn bounds_about(edition: Edition, low: u16, high: u16) -> (u16, u16) {
+fn bounds_about(edition: Edition, low: u16, high: u16) -> (u16, u16)
+    ensures first { IsLowEnd low result.0 }
+    ensures last { IsHighEnd edition high result.1 }
+{
     let memory = match edition {
         Edition::Usual => (0x0200, 0x0E9F),
         Edition::Tall => (0x0200, 0x0D9F),
@@ -254,33 +330,19 @@ fn first_in(chains: &[Option<usize>], chain: usize) -> Option<usize> {
 }
 
 // The instruction of a claim, where none of the causes speaks against it that need no other claim.
-fn instr_of(edition: Edition, game: &[u8], claim: &Claim) -> Result<Instr, ProofCause>
-    ensures inside { OnOk result (claim.now.point.pc ≤ 0xfff) }
-    ensures allowed { IfOk result (λ instr. is_allowed instr claim.now.point.stack.items ≡ true) }
+fn instr_of(edition: Edition, game: &[u8], claim: &Claim) -> Option<Instr>
+    ensures instr { IfSome result (λ instr. instr ≡ instr_in game.now claim.now.point.pc) }
+    ensures inside { IfSome result (λ instr. is_in_memory edition claim.now.point.pc 2 ≡ true) }
+    ensures low { IfSome result (λ instr. claim.now.point.pc ≤ 0xfff) }
+    ensures allowed { IfSome result (λ instr. is_allowed instr claim.now.point.stack.items ≡ true) }
 {
     if !is_in_memory(edition, u32::from(claim.point.pc), 2) {
-        return Err(ProofCause::Outside);
+        return None;
     }
     let instr = instr_in(game, claim.point.pc);
-    if !is_allowed(&instr, claim.point.stack.as_slice()) {
-        return Err(ProofCause::Opcode);
-    }
-    if !has_access(edition, &[], &instr, claim) {
-        return Err(ProofCause::Access);
-    }
-    Ok(instr)
-}
-
-/// Where the search failed.
-pub fn obstacle(edition: Edition, game: &[u8], claim: Claim, cause: ProofCause) -> FindFault {
-    let opcode = if is_in_memory(edition, u32::from(claim.point.pc), 2) {
-        Some(opcode_in(game, claim.point.pc))
+    if is_allowed(&instr, claim.point.stack.as_slice()) && has_access(edition, &[], &instr, claim) {
+        Some(instr)
     } else {
         None
-    };
-    FindFault::NotFound(Obstacle {
-        cause,
-        opcode,
-        claim,
-    })
+    }
 }

@@ -68,7 +68,7 @@ proof_free e game text _ (Proves count is) = tt
 
 search_free : (e : Edition) (game : List ℕ) (o : Outcome) → CertifyComes e game o → Free o
 search_free e game _ (Finds text is fits) = tt
-search_free e game _ (FindsNone obstacle) = tt
+search_free e game _ (FindsNone obstacle is) = tt
 
 saved_free : (limit : ℕ) (ending : Ending) (file : Option (List ℕ)) → Free (saved_as limit ending file)
 saved_free limit ending None = λ x. x

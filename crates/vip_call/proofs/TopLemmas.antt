@@ -236,8 +236,8 @@ proofs_agree e g text _ _ (Proves n a) (Proves m b) = refl
 
 searches_agree : (e : Edition) (g : List ℕ) (o p : Outcome) → CertifyComes e g o → CertifyComes e g p → Agree o p
 searches_agree e g _ _ (Finds text a fits) (Finds text' b fits') = refl
-searches_agree e g _ _ (Finds text a fits) (FindsNone obstacle) = tt
-searches_agree e g _ p (FindsNone obstacle) y = tt
+searches_agree e g _ _ (Finds text a fits) (FindsNone obstacle is) = tt
+searches_agree e g _ p (FindsNone obstacle is) y = tt
 
 -- what isn't a search isn't given up
 no_run :

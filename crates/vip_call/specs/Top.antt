@@ -243,7 +243,7 @@ pub record Offers (call : Call) (asked : Asked) (files : FileMap) : Type 0 where
   pub told : call.files.told ≡ Some files
   pub quiet : IsQuiet call.files.faults call.files'.faults
 
--- a search is asked for, which may find nothing
+-- a search is asked for, which may find nothing: what it then says is true of the game
 abbrev pub IsSearch : Asked → Type 0
 IsSearch (certify a) = Unit {0}
 IsSearch _ = ⊥
@@ -340,9 +340,9 @@ BringsMessages call =
 
 -- What the program promises of each call. The body is held to `says`: what its answer tells of words, files, output and report. What follows for a
 -- reader stands beside it. `words` and `due` follow from `says` alone, `complete` and `rom` as each source gives its ROM, `chip8` by the law of every run.
--- `language`, `certified` and `saved` are laws of what the words and the contents come to, and hold of any body.
+-- `language`, `certified`, `saved` and `linked` are laws of what the words and the contents come to, and hold of any body.
 pub record Promises (status : Status) (call : Call) : Type 0 where
-  -- what the answer says: exact output for Done and Stopped, each refusal's cause, and which files were read
+  -- what the answer says: exact output for Done and Stopped, of `certify` some certificate that is accepted, each refusal's cause, and which reads were made
   pub says : Says status call
   -- Where a game is run, its run is one of CHIP-8, within the bounds, also at a wait for a key; each picture is the screen at the last dispatch
   -- point, and a stop names its instruction. An interrupt comes exactly in its cycle of each frame, and none while the screen is changed.

@@ -12,6 +12,7 @@ use Rattle.cycle_check.specs.Closed.{checked}
 use Rattle.cycle_check.specs.declared.Within.{Within}
 use Rattle.cycle_check.specs.declared.fault.CertCause.{CertCause}
 use Rattle.cycle_check.specs.declared.fault.CertFault.TheVariants as cert
+use Rattle.game_check.specs.Obstacles.{IsObstacle}
 use Rattle.game_check.specs.Proof.{proof_of, IsAccepted}
 use Rattle.game_check.specs.declared.fault.Obstacle.{Obstacle}
 use Rattle.game_check.specs.declared.fault.ProofCause.{ProofCause}
@@ -67,7 +68,8 @@ pub data SafeComes (e : Edition) (game text : List ℕ) : Outcome → Type 0 whe
       → SafeComes e game text (Refused BadProof (bad_proof line cause))
   Proves : (count : ℕ) → proof_of e game text ≡ Ok count → SafeComes e game text (Shown (count_line count ∷ []) Done [])
 
--- Some certificate that `safe` accepts, which is small enough for it; or where the search for one ended: of which games one is found, nothing is said.
+-- Some certificate that `safe` accepts, which is small enough for it; or where the search for one ended, which is true of the game: of which games one is
+-- found, and what is named where none is, nothing is said.
 pub data CertifyComes (e : Edition) (game : List ℕ) : Outcome → Type 0 where
   Finds : (text : List ℕ) → IsAccepted e game text → length text ≤ most_text → CertifyComes e game (Shown (text ∷ []) Done [])
-  FindsNone : (obstacle : Obstacle) → CertifyComes e game (GivenUp (no_certificate obstacle))
+  FindsNone : (obstacle : Obstacle) → IsObstacle e game obstacle → CertifyComes e game (GivenUp (no_certificate obstacle))
