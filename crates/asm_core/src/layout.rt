@@ -61,9 +61,9 @@ fn placed(
         Some(Word::Code(opcode)) => Ok(behind(at, u32::from(size_at(opcode)))),
         Some(Word::Db) => Ok(behind(at, operands.len() as u32)),
         Some(Word::Dw) => Ok(behind(at, 2 * operands.len() as u32)),
-        Some(Word::Page) => Ok(moved(page_above(at))),
+        Some(Word::Page) => Ok(move_to(page_above(at))),
         Some(Word::Org) => match one_value(names, at, u16::MAX, line, operands) {
-            Ok(address) => Ok(moved(u32::from(address))),
+            Ok(address) => Ok(move_to(u32::from(address))),
             Err(fault) => Err(fault),
         },
         Some(Word::Equ) => match one_value(names, at, u16::MAX, line, operands) {
@@ -93,7 +93,7 @@ fn behind(at: u32, count: u32) -> Laid
 }
 
 // A line that moves the address.
-fn moved(address: u32) -> Laid
+fn move_to(address: u32) -> Laid
     ensures { result ≡ laid address address }
 {
     Laid {

@@ -2,7 +2,7 @@
 //! which takes one line apart, and on the opcodes of `vip_isa`. The layers above may rely on this: `assemble` answers what `IsAssembly`
 //! in `specs/Made.antt` says, or the first fault as `HasFirstFault` in `specs/Sources.antt` says, want of memory aside, and the readers
 //! of `Assembly` show it. The instructions are those of RCA's data sheet of the CDP1802; the language of the lines is this project's
-//! profile (`docs/FORMATS.md`).
+//! profile (`docs/SOURCES.md`).
 //!
 //! Pass 1 gives each line its address and each name its value, pass 2 the bytes.
 #![tactic(auto)]

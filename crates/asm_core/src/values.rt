@@ -23,7 +23,7 @@ fn sum(names: &Symbols, here: u32, text: &[u8]) -> Result<i64, ValueFault>
 }
 
 // A value that must lie in 0 to `most`.
-fn bounded(value: Result<i64, ValueFault>, most: u16) -> Result<u16, ValueFault>
+fn check_bound(value: Result<i64, ValueFault>, most: u16) -> Result<u16, ValueFault>
     ensures value { result ≡ within most value }
     ensures bound { IfOk result (λ value. value ≤ most) }
 {
@@ -48,7 +48,7 @@ pub(crate) fn operand_value(
     ensures value { result ≡ operand_value (value_in names.now) here most text.now }
     ensures bound { IfOk result (λ value. value ≤ most) }
 {
-    bounded(sum(names, here, text), most)
+    check_bound(sum(names, here, text), most)
 }
 
 /// The values of a line's operands, or the first fault in the order of the causes.

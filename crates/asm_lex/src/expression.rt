@@ -18,7 +18,7 @@ const GREATEST: u32 = 65_535;
 
 // A number that was read with `GREATEST` as its bound, or one more than that for each greater one.
 #[tactic(auto, unfolding(crate::specs::Expressions::number_in, vip_byte::specs::Number::number))]
-fn capped(read: Result<u64, NumFault>) -> Option<u32>
+fn cap(read: Result<u64, NumFault>) -> Option<u32>
     ensures { (base : ℕ) (digits : List ℕ) → read ≡ number base digits 65535 → result ≡ option_map (λ number. min number 65536) (number_in base digits) }
 {
     match read {
@@ -32,7 +32,7 @@ fn hexadecimal(term: &[u8]) -> Option<u32>
     ensures { result ≡ option_map (λ number. min number 65536) (hexadecimal_of term.now) }
 {
     match term {
-        [b'0', b'x', digits @ ..] => capped(read_hex(digits, u64::from(GREATEST))),
+        [b'0', b'x', digits @ ..] => cap(read_hex(digits, u64::from(GREATEST))),
         _ => None,
     }
 }
@@ -42,7 +42,7 @@ fn hexadecimal(term: &[u8]) -> Option<u32>
 fn number(term: &[u8]) -> Option<u32>
     ensures { result ≡ option_map (λ number. min number 65536) (written_value term.now) }
 {
-    match capped(read_decimal(term, u64::from(GREATEST))) {
+    match cap(read_decimal(term, u64::from(GREATEST))) {
         Some(number) => Some(number),
         None => hexadecimal(term),
     }

@@ -2,7 +2,7 @@
 //! the mnemonics of `machine`'s opcodes, and on `vip_byte`, which reads numbers. The layers above may rely on this: `line` answers the
 //! parts of a line or its first fault exactly as `parsed` in `specs/Lines.antt` says, and `value` the value of an expression or its first
 //! fault as `value_of` in `specs/Expressions.antt` says. Neither takes memory. The mnemonics are those of RCA's data sheet of the
-//! CDP1802; the language of the lines is this project's profile (`docs/FORMATS.md`).
+//! CDP1802; the language of the lines is this project's profile (`docs/SOURCES.md`).
 #![tactic(auto)]
 
 ghost use Rattle.std.specs.Prelude.{◌≡◌, ◌≤◌, ◌<◌, ℕ, Bool, List, length, map, IfSome, IfOk, OnOk, MatchResult, Ok, Err};

@@ -8,7 +8,7 @@ use asm_core::Assembly;
 use std::alloc::{AllocError, Global};
 
 // The lowest address is the first one met, and the highest the last.
-fn widened(span: Option<(u32, u32)>, address: u32) -> (u32, u32)
+fn widen(span: Option<(u32, u32)>, address: u32) -> (u32, u32)
     ensures { result ≡ (option_map_or (λ span. span.0) span address, address) }
 {
     match span {
@@ -24,7 +24,7 @@ fn span(made: &Assembly) -> Option<(u32, u32)>
     let mut span = None;
     for address in 0..65_536u32 {
         if made.byte(address as u16).is_some() {
-            span = Some(widened(span, address));
+            span = Some(widen(span, address));
         }
     }
     span

@@ -2,7 +2,7 @@
 -- digit, X, Y and N, KK is the low byte, and MMM the last three digits.
 use Rattle.std.specs.Prelude.{ℕ, ◌+◌, ◌*◌, ◌/◌, ◌%◌, ◌==◌, if◌then◌else◌}
 use Rattle.chip8_lang.specs.declared.instr.Instr.{Instr}
-use Rattle.chip8_lang.specs.declared.instr.Instr.TheVariants.{Clear, Return, Machine, Jump, Call, SkipEq, SkipNe, SkipSame, Load, Add, Copy, Or, And, Xor, Sum, Less, Right, From, Left, SkipDiffer, Index, JumpPlus, Random, Draw, SkipDown, SkipUp, GetDelay, WaitKey, SetDelay, SetSound, AddIndex, Font, Decimal, Store, Fetch, Unknown}
+use Rattle.chip8_lang.specs.declared.instr.Instr.TheVariants.{Clear, Return, Machine, Jump, Call, SkipEq, SkipNe, SkipSame, Load, Add, Copy, Or, And, Xor, Sum, Sub, Right, SubN, Left, SkipDiffer, Index, JumpPlus, Random, Draw, SkipDown, SkipUp, GetDelay, WaitKey, SetDelay, SetSound, AddIndex, Font, Decimal, Store, Fetch, Unknown}
 
 -- 8XYN
 abbrev pub arithmetic : ℕ → ℕ → ℕ → ℕ → Instr
@@ -12,9 +12,9 @@ arithmetic n x y opcode =
     else if n == 2 then And x y
     else if n == 3 then Xor x y
     else if n == 4 then Sum x y
-    else if n == 5 then Less x y
+    else if n == 5 then Sub x y
     else if n == 6 then Right x y
-    else if n == 7 then From x y
+    else if n == 7 then SubN x y
     else if n == 0xe then Left x y
     else Unknown opcode
 

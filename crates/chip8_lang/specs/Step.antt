@@ -2,7 +2,7 @@
 -- logical instructions, the random byte and the stops are this project's profile.
 use Rattle.std.specs.Prelude.{ℕ, zero, suc, ◌+◌, ◌-◌, ◌*◌, ◌/◌, ◌%◌, ◌==◌, ◌||◌, if◌then◌else◌, Bool, false, not, List, [], ◌∷◌, ◌++◌, length, take, drop, slice_index, slice_set, Option, Some, None, bit_and, bit_or, bit_xor}
 use Rattle.chip8_lang.specs.declared.instr.Instr.{Instr}
-use Rattle.chip8_lang.specs.declared.instr.Instr.TheVariants.{Clear, Return, Machine, Jump, Call, SkipEq, SkipNe, SkipSame, Load, Add, Copy, Or, And, Xor, Sum, Less, Right, From, Left, SkipDiffer, Index, JumpPlus, Random, Draw, SkipDown, SkipUp, GetDelay, WaitKey, SetDelay, SetSound, AddIndex, Font, Decimal, Store, Fetch, Unknown}
+use Rattle.chip8_lang.specs.declared.instr.Instr.TheVariants.{Clear, Return, Machine, Jump, Call, SkipEq, SkipNe, SkipSame, Load, Add, Copy, Or, And, Xor, Sum, Sub, Right, SubN, Left, SkipDiffer, Index, JumpPlus, Random, Draw, SkipDown, SkipUp, GetDelay, WaitKey, SetDelay, SetSound, AddIndex, Font, Decimal, Store, Fetch, Unknown}
 use Rattle.chip8_lang.specs.declared.view.Edition.{Edition}
 use Rattle.chip8_lang.specs.declared.view.Stop.{Stop}
 use Rattle.chip8_lang.specs.declared.view.Stop.TheVariants.{MachineCall, Unknown as UnknownOpcode, FetchOutside, ReadOutside, WriteOutside, StackFull, StackEmpty}
@@ -127,9 +127,9 @@ done_by e (Or x y) key s = set_with_flag x (bit_or (variable s x) (variable s y)
 done_by e (And x y) key s = set_with_flag x (bit_and (variable s x) (variable s y)) 0 s  -- 8XY2
 done_by e (Xor x y) key s = set_with_flag x (bit_xor (variable s x) (variable s y)) 0 s  -- 8XY3
 done_by e (Sum x y) key s = set_sum x (variable s x + variable s y) s  -- 8XY4
-done_by e (Less x y) key s = set_sum x (variable s x + 256 - variable s y) s  -- 8XY5
+done_by e (Sub x y) key s = set_sum x (variable s x + 256 - variable s y) s  -- 8XY5
 done_by e (Right x y) key s = set_with_flag x (variable s y / 2) (variable s y % 2) s  -- 8XY6
-done_by e (From x y) key s = set_sum x (variable s y + 256 - variable s x) s  -- 8XY7
+done_by e (SubN x y) key s = set_sum x (variable s y + 256 - variable s x) s  -- 8XY7
 done_by e (Left x y) key s = set_sum x (variable s y * 2) s  -- 8XYE
 done_by e (SkipDiffer x y) key s = skip_if (not (variable s x == variable s y)) s  -- 9XY0
 done_by e (Index a) key s = record (next s) { i = a }  -- AMMM

@@ -37,11 +37,11 @@ pub enum Instr {
     /// 8XY4
     Sum(u8, u8),
     /// 8XY5
-    Less(u8, u8),
+    Sub(u8, u8),
     /// 8XY6
     Right(u8, u8),
     /// 8XY7
-    From(u8, u8),
+    SubN(u8, u8),
     /// 8XYE
     Left(u8, u8),
     /// 9XY0
@@ -133,9 +133,9 @@ fn arithmetic(n: u8, x: u8, y: u8, opcode: u16) -> Instr
         2 => Instr::And(x, y),
         3 => Instr::Xor(x, y),
         4 => Instr::Sum(x, y),
-        5 => Instr::Less(x, y),
+        5 => Instr::Sub(x, y),
         6 => Instr::Right(x, y),
-        7 => Instr::From(x, y),
+        7 => Instr::SubN(x, y),
         0xE => Instr::Left(x, y),
         _ => Instr::Unknown(opcode),
     }

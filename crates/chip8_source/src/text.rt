@@ -8,7 +8,7 @@ use crate::{arith, fetch, font, head, keys, memory, names, sprite, timer};
 use std::alloc::{AllocError, Global};
 
 /// A head and the texts that both editions share, joined.
-fn joined(alloc: Global, head: &str) -> Result<Vec<u8>, AllocError>
+fn join(alloc: Global, head: &str) -> Result<Vec<u8>, AllocError>
     ensures { IfOk result (λ text. text.items ≡ concat (head.now ∷ shared_parts)) }
 {
     let parts = [
@@ -31,7 +31,7 @@ pub fn source(alloc: Global) -> Result<Vec<u8>, AllocError>
     ensures text { IfOk result (λ text. text.items ≡ usual_text) }
     ensures size { IfOk result (λ text. vec_len text ≤ 1048576) }
 {
-    joined(alloc, head::USUAL)
+    join(alloc, head::USUAL)
 }
 
 /// The interpreter's text for the tall edition, at most 1,048,576 bytes.
@@ -40,5 +40,5 @@ pub fn tall_source(alloc: Global) -> Result<Vec<u8>, AllocError>
     ensures text { IfOk result (λ text. text.items ≡ tall_text) }
     ensures size { IfOk result (λ text. vec_len text ≤ 1048576) }
 {
-    joined(alloc, head::TALL)
+    join(alloc, head::TALL)
 }

@@ -200,12 +200,12 @@ module _ (bound : Bound) (listed : List Line) (line : Line) (i : declared.Instru
       }
 
   -- what comes of it: the cycles are paid for, and a line behind it holds with what is left there
-  pub record Comes (after_it : Regs) : Type 0 where
+  pub record StepPays (after_it : Regs) : Type 0 where
     pub pays : i.cycles ≤ left line (get s.r bound.k).lo
     pub on : after_it.p ≡ s.p → (next : Line) → line_at listed (value (get after_it.r s.p)) ≡ Some next
         → Holds bound.k next after_it × (i.cycles + left next (get after_it.r bound.k).lo ≤ left line (get s.r bound.k).lo)
 
-  pub comes : Runs → Comes (effect kind n s reads).regs
+  pub comes : Runs → StepPays (effect kind n s reads).regs
   unfolding is_closed
   comes runs =
       let allows = may runs in

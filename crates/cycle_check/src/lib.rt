@@ -2,7 +2,7 @@
 //!
 //! A certificate is a text that says for each address of a routine how many cycles are left there at most, by the value of a counter
 //! register, and what is known of X and D. `check_cycles` checks each of its lines against the instruction at its address and the lines
-//! behind that; it runs nothing. The format and the rules are this project's profile (`docs/FORMATS.md`), the instructions those of RCA's
+//! behind that; it runs nothing. The format and the rules are this project's profile (`docs/SOURCES.md`), the instructions those of RCA's
 //! data sheet of the CDP1802.
 //!
 //! The crate stands on the definitions of `machine`, on `vip_isa`, on `vip_byte` and on the kit's `thiserror`. The layers above may rely on

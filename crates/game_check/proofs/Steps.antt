@@ -7,7 +7,7 @@ use Rattle.std.proofs.lemmas.List.Folds.{Any-from_list_any}
 use Rattle.std.proofs.lemmas.List.Sums.{AllPass-from_list_all}
 use lib.Bits.{and_le_l, and_lt, or_lt, xor_lt}
 use Rattle.chip8_lang.specs.declared.instr.Instr.{Instr}
-use Rattle.chip8_lang.specs.declared.instr.Instr.TheVariants.{Clear, Return, Machine, Jump, Call, SkipEq, SkipNe, SkipSame, Load, Add, Copy, Or, And, Xor, Sum, Less, Right, From, Left, SkipDiffer, Index, JumpPlus, Random, Draw, SkipDown, SkipUp, GetDelay, WaitKey, SetDelay, SetSound, AddIndex, Font, Decimal, Store, Fetch, Unknown}
+use Rattle.chip8_lang.specs.declared.instr.Instr.TheVariants.{Clear, Return, Machine, Jump, Call, SkipEq, SkipNe, SkipSame, Load, Add, Copy, Or, And, Xor, Sum, Sub, Right, SubN, Left, SkipDiffer, Index, JumpPlus, Random, Draw, SkipDown, SkipUp, GetDelay, WaitKey, SetDelay, SetSound, AddIndex, Font, Decimal, Store, Fetch, Unknown}
 use Rattle.chip8_lang.specs.declared.view.Edition.{Edition}
 use Rattle.chip8_lang.specs.Editions.{memory_start, memory_end, font_start, font_end}
 use Rattle.chip8_lang.specs.State.{Lang, is_in_memory, memory_byte, variable}
@@ -214,12 +214,12 @@ module _ (e : Edition) (claims : List Claim) (placed : All (Î» c. memory_start â
         sets_both (Xor x y) x _ 0 _ ok (xor_lt 8 (variable s x) (variable s y) (var x) (var y)) (omega arith) refl refl refl refl refl refl refl
     goes (Sum x y) key taken operand fine access ok =
         sets_both (Sum x y) x _ _ _ ok (omega arith) (omega (arith, var x, var y)) refl refl refl refl refl refl refl
-    goes (Less x y) key taken operand fine access ok =
-        sets_both (Less x y) x _ _ _ ok (omega arith) (omega (arith, var x, var y)) refl refl refl refl refl refl refl
+    goes (Sub x y) key taken operand fine access ok =
+        sets_both (Sub x y) x _ _ _ ok (omega arith) (omega (arith, var x, var y)) refl refl refl refl refl refl refl
     goes (Right x y) key taken operand fine access ok =
         sets_both (Right x y) x _ _ _ ok (omega (arith, var y)) (omega arith) refl refl refl refl refl refl refl
-    goes (From x y) key taken operand fine access ok =
-        sets_both (From x y) x _ _ _ ok (omega arith) (omega (arith, var x, var y)) refl refl refl refl refl refl refl
+    goes (SubN x y) key taken operand fine access ok =
+        sets_both (SubN x y) x _ _ _ ok (omega arith) (omega (arith, var x, var y)) refl refl refl refl refl refl refl
     goes (Left x y) key taken operand fine access ok =
         sets_both (Left x y) x _ _ _ ok (omega arith) (omega (arith, var y)) refl refl refl refl refl refl refl
     goes (SkipDiffer x y) key taken operand fine access ok = skips (SkipDiffer x y) (not (eqb (variable s x) (variable s y))) ok refl

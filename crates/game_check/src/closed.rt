@@ -221,7 +221,7 @@ pub fn next_points(instr: &Instr, point: &Point) -> (Point, Option<Point>)
     match instr {
         Instr::Jump(address) => (at(*address, stack), None),
         Instr::Call(address) => (called(*address, point), None),
-        Instr::Return => (returned(stack), None),
+        Instr::Return => (return_point(stack), None),
         Instr::SkipEq(..)
         | Instr::SkipNe(..)
         | Instr::SkipSame(..)
@@ -256,7 +256,7 @@ fn called(address: u16, from: &Point) -> Point
 }
 
 // The point to which a subroutine returns.
-fn returned(stack: &[u16]) -> Point
+fn return_point(stack: &[u16]) -> Point
     requires some { 0 < length stack.now }
     requires fits { length stack.now ≤ 12 }
     ensures { result ≡ closed.point (slice_index stack.now (length stack.now - 1)) (take (length stack.now - 1) stack.now) }

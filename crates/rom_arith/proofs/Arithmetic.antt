@@ -21,7 +21,7 @@ use Rattle.rom_law.specs.Program.{code}
 use Rattle.rom_law.specs.Holding.{places, Holding}
 use Rattle.rom_law.specs.Rows.{Since, Grows, Ends, now}
 use Rattle.rom_law.proofs.Places.{v_set, v_byte}
-use Rattle.rom_law.proofs.Kept.{Comes}
+use Rattle.rom_law.proofs.Kept.{RunsBlock}
 use Rattle.rom_rows.specs.Heads.{to_stop, to_dispatch, high_byte, low_byte, page_of, Entered, Enters}
 use Rattle.rom_rows.specs.FetchBlocks.FetchBlock.{Leave}
 use Rattle.rom_rows.specs.ArithBlocks.{has_shared_end, Ending, arith_moves}
@@ -67,7 +67,7 @@ module _ (e : Edition) (b : Machine) (h : Since) (f : FitsMachine b) where
 
   -- ---- the branch by N
 
-  pub arith_comes : Enters (quick e) at_arith 8 b (now h) → h.spent ≡ 80 → Comes (quick e) (calm_pieces (quick e)) (OfArith Arith) b h
+  pub arith_comes : Enters (quick e) at_arith 8 b (now h) → h.spent ≡ 80 → RunsBlock (quick e) (calm_pieces (quick e)) (OfArith Arith) b h
   arith_comes o spent = routine (OfArith Arith) o.entered _ (omega arith) refl (λ h' g. to_arith (quick e) g _ calm (Operation (low % 16)) (
     record {
       entered =
@@ -99,7 +99,7 @@ module _ (e : Edition) (b : Machine) (h : Since) (f : FitsMachine b) where
   abbrev Case : ℕ → Type 0
   Case n =
       Enters (quick e) (at_slot0 + 2 * n) 8 b (now h) → low % 16 ≡ n → b.regs.x ≡ 6 → h.spent ≡ 92
-      → Comes (quick e) (calm_pieces (quick e)) (OfArith (Operation n)) b h
+      → RunsBlock (quick e) (calm_pieces (quick e)) (OfArith (Operation n)) b h
 
   -- V0 to VF lie above the byte at R2
   abbrev Room : Type 0
@@ -239,7 +239,7 @@ module _ (e : Edition) (b : Machine) (h : Since) (f : FitsMachine b) where
   -- ---- the ends
 
   pub flag_comes : Ending (quick e) at_flag (set_with_flag (high % 16) b.regs.d b.regs.df (now h)) b (now h)
-      → h.spent + 18 ≡ to_dispatch (quick e) (now h) → Comes (quick e) (calm_pieces (quick e)) (OfArith Flag) b h
+      → h.spent + 18 ≡ to_dispatch (quick e) (now h) → RunsBlock (quick e) (calm_pieces (quick e)) (OfArith Flag) b h
   flag_comes o spent =
       ending (OfArith Flag) o spent _ (omega arith) refl
       (rw flag (v_set (v_set o.entered.holds (page_of e * 256 + (240 + high % 16)) (high % 16) b.regs.d (omega (arith, variables_is e))
@@ -249,7 +249,7 @@ module _ (e : Edition) (b : Machine) (h : Since) (f : FitsMachine b) where
       flag = omega (arith, f.regs.df)
 
   pub unknown82_comes : Entered (quick e) at_unknown82 b (now h) → stop_of e (now h) ≡ Some Unknown → h.spent + 26 ≡ to_stop (quick e) (now h)
-      → Comes (quick e) (calm_pieces (quick e)) (OfArith Unknown82) b h
+      → RunsBlock (quick e) (calm_pieces (quick e)) (OfArith Unknown82) b h
   unknown82_comes o stop spent =
       routine (OfArith Unknown82) o _ (omega arith) refl
       (λ h' g. to_fetch (quick e) g _ refl (Leave 1)

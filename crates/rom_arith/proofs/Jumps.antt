@@ -17,7 +17,7 @@ use Rattle.rom_law.specs.Holding.{Places, places, Holding}
 use Rattle.rom_law.specs.Rows.{Since, now}
 use Rattle.rom_law.proofs.Places.{pc_is, pc_set, v_get, v_byte, stack_most}
 use Rattle.rom_law.proofs.Stack.{push, pop, popped}
-use Rattle.rom_law.proofs.Kept.{Comes}
+use Rattle.rom_law.proofs.Kept.{RunsBlock}
 use Rattle.rom_rows.specs.Heads.{to_stop, high_byte, low_byte, page_of, Entered, Enters}
 use Rattle.rom_rows.specs.FetchBlocks.FetchBlock.{Leave}
 use Rattle.rom_rows.specs.ArithBlocks.ArithBlock.{System, SystemLow, SystemBack, MachineCode, Return, ReturnTake, Empty, JumpTo, Call, CallPut, Full, JumpPlus}
@@ -73,20 +73,20 @@ module _ (e : Edition) (b : Machine) (h : Since) (f : FitsMachine b) where
   low_machine a o zero clear back =
       rw (o.inside, zero, ne_eqb (0 + low) 0xe0 (λ k. clear (omega (arith, k))), ne_eqb (0 + low) 0xee (λ k. back (omega (arith, k)))) refl
 
-  pub system_comes : Enters (quick e) at_system 0 b (now h) → h.spent ≡ 80 → Comes (quick e) (calm_pieces (quick e)) (OfArith System) b h
+  pub system_comes : Enters (quick e) at_system 0 b (now h) → h.spent ≡ 80 → RunsBlock (quick e) (calm_pieces (quick e)) (OfArith System) b h
   system_comes o spent = branch (OfArith System) o.entered (looked e high low b high) (not (high == 0)) at_machine at_system_low (omega arith) refl
       (λ k h' g. to_arith (quick e) g _ refl MachineCode (looks high at_machine o.entered, other_machine at_system o (nonzero high k))
       (omega (arith, spent, g.spent, other_time o (nonzero high k))))
       (λ k h' g. to_arith (quick e) g _ refl SystemLow (looks high at_system_low o.entered, is_zero high k) (omega (arith, spent, g.spent)))
 
-  pub system_low_comes : Entered (quick e) at_system_low b (now h) → high ≡ 0 → h.spent ≡ 84 → Comes (quick e) (calm_pieces (quick e)) (OfArith SystemLow) b h
+  pub system_low_comes : Entered (quick e) at_system_low b (now h) → high ≡ 0 → h.spent ≡ 84 → RunsBlock (quick e) (calm_pieces (quick e)) (OfArith SystemLow) b h
   system_low_comes o zero spent =
       branch (OfArith SystemLow) o (looked e high low b (bit_xor low 0xe0)) (bit_xor low 0xe0 == 0) at_clear at_system_back (omega arith) refl
       (λ k h' g. to_sprite (quick e) g _ refl Clear tt (looks (bit_xor low 0xe0) at_clear o, (zero, xor_same low 0xe0 k)) (omega (arith, spent, g.spent)))
       (λ k h' g. to_arith (quick e) g _ refl SystemBack (looks (bit_xor low 0xe0) at_system_back o, zero, xor_other low 0xe0 k) (omega (arith, spent, g.spent)))
 
   pub system_back_comes : Entered (quick e) at_system_back b (now h) → high ≡ 0 → (low ≡ 0xe0 → ⊥) → h.spent ≡ 90
-      → Comes (quick e) (calm_pieces (quick e)) (OfArith SystemBack) b h
+      → RunsBlock (quick e) (calm_pieces (quick e)) (OfArith SystemBack) b h
   system_back_comes o zero clear spent =
       branch (OfArith SystemBack) o (looked e high low b (bit_xor low 0xee)) (bit_xor low 0xee == 0) at_return at_machine (omega arith) refl
       (λ k h' g. to_arith (quick e) g _ refl Return (looks (bit_xor low 0xee) at_return o, zero, xor_same low 0xee k) (omega (arith, spent, g.spent)))
@@ -97,7 +97,7 @@ module _ (e : Edition) (b : Machine) (h : Since) (f : FitsMachine b) where
   -- ---- the stops: their number goes into D
 
   pub machine_comes : Entered (quick e) at_machine b (now h) → stop_of e (now h) ≡ Some MachineCall → h.spent + 26 ≡ to_stop (quick e) (now h)
-      → Comes (quick e) (calm_pieces (quick e)) (OfArith MachineCode) b h
+      → RunsBlock (quick e) (calm_pieces (quick e)) (OfArith MachineCode) b h
   machine_comes o stop spent =
       routine (OfArith MachineCode) o _ (omega arith) refl
       (λ h' g. to_fetch (quick e) g _ refl (Leave 0)
@@ -105,7 +105,7 @@ module _ (e : Edition) (b : Machine) (h : Since) (f : FitsMachine b) where
       (omega (arith, spent, g.spent)))
 
   pub empty_comes : Entered (quick e) at_empty b (now h) → stop_of e (now h) ≡ Some StackEmpty → h.spent + 26 ≡ to_stop (quick e) (now h)
-      → Comes (quick e) (calm_pieces (quick e)) (OfArith Empty) b h
+      → RunsBlock (quick e) (calm_pieces (quick e)) (OfArith Empty) b h
   empty_comes o stop spent =
       routine (OfArith Empty) o _ (omega arith) refl
       (λ h' g. to_fetch (quick e) g _ refl (Leave 0)
@@ -113,7 +113,7 @@ module _ (e : Edition) (b : Machine) (h : Since) (f : FitsMachine b) where
       (omega (arith, spent, g.spent)))
 
   pub full_comes : Entered (quick e) at_full b (now h) → stop_of e (now h) ≡ Some StackFull → h.spent + 26 ≡ to_stop (quick e) (now h)
-      → Comes (quick e) (calm_pieces (quick e)) (OfArith Full) b h
+      → RunsBlock (quick e) (calm_pieces (quick e)) (OfArith Full) b h
   full_comes o stop spent =
       routine (OfArith Full) o _ (omega arith) refl
       (λ h' g. to_fetch (quick e) g _ refl (Leave 0)
@@ -138,7 +138,7 @@ module _ (e : Edition) (b : Machine) (h : Since) (f : FitsMachine b) where
   r2_is : {a : ℕ} → Entered (quick e) a b (now h) → b.regs.r.r2.lo + 2 * depth ≡ 0xcf
   r2_is o = omega (arith, o.holds.stack, stack_most o.holds, stack_top_is e, f.regs.r.r2.hi, f.regs.r.r2.lo)
 
-  pub return_comes : Entered (quick e) at_return b (now h) → high ≡ 0 → low ≡ 0xee → h.spent ≡ 96 → Comes (quick e) (calm_pieces (quick e)) (OfArith Return) b h
+  pub return_comes : Entered (quick e) at_return b (now h) → high ≡ 0 → low ≡ 0xee → h.spent ≡ 96 → RunsBlock (quick e) (calm_pieces (quick e)) (OfArith Return) b h
   return_comes o zero back spent =
       branch (OfArith Return) o (looked e high low b (bit_xor b.regs.r.r2.lo 0xcf)) (bit_xor b.regs.r.r2.lo 0xcf == 0) at_empty at_return_take
       (omega arith) refl
@@ -152,7 +152,7 @@ module _ (e : Edition) (b : Machine) (h : Since) (f : FitsMachine b) where
       (omega (arith, spent, g.spent)))
 
   pub return_take_comes : Entered (quick e) at_return_take b (now h) → high ≡ 0 → low ≡ 0xee → 0 < depth → h.spent ≡ 102
-      → Comes (quick e) (calm_pieces (quick e)) (OfArith ReturnTake) b h
+      → RunsBlock (quick e) (calm_pieces (quick e)) (OfArith ReturnTake) b h
   return_take_comes o zero back some spent =
       routine (OfArith ReturnTake) o _ (omega (arith, o.holds.stack, stack_top_is e, page_fits e, some, f.regs.r.r2.hi, f.regs.r.r2.lo)) refl
       (λ h' g. steps e g ReturnFrom (return_is at_return_take o zero back) refl (return_runs at_return_take o zero back some)
@@ -173,7 +173,7 @@ module _ (e : Edition) (b : Machine) (h : Since) (f : FitsMachine b) where
   target : value (word (bit_and high 15) low) ≡ high % 16 * 256 + low
   target = ap (λ d. d * 256 + low) (and_mask high 4)
 
-  pub jump_comes : Enters (quick e) at_jump 1 b (now h) → h.spent ≡ 80 → Comes (quick e) (calm_pieces (quick e)) (OfArith JumpTo) b h
+  pub jump_comes : Enters (quick e) at_jump 1 b (now h) → h.spent ≡ 80 → RunsBlock (quick e) (calm_pieces (quick e)) (OfArith JumpTo) b h
   jump_comes o spent =
       routine (OfArith JumpTo) o.entered _ (omega arith) refl
       (λ h' g. steps e g (Jump (high % 16 * 256 + low)) (jump_is o) refl (jump_runs o) (omega (arith, spent)) tt _
@@ -193,7 +193,7 @@ module _ (e : Edition) (b : Machine) (h : Since) (f : FitsMachine b) where
   call_runs : {a : ℕ} → Enters (quick e) a 2 b (now h) → depth < 12 → stop_of e (now h) ≡ None
   call_runs o room = rw (o.entered.inside, o.digit, ne_eqb depth 12 (λ k. omega (arith, k, room))) refl
 
-  pub call_comes : Enters (quick e) at_call 2 b (now h) → h.spent ≡ 80 → Comes (quick e) (calm_pieces (quick e)) (OfArith Call) b h
+  pub call_comes : Enters (quick e) at_call 2 b (now h) → h.spent ≡ 80 → RunsBlock (quick e) (calm_pieces (quick e)) (OfArith Call) b h
   call_comes o spent =
       branch (OfArith Call) o.entered (looked e high low b (bit_xor b.regs.r.r2.lo 0xb7)) (bit_xor b.regs.r.r2.lo 0xb7 == 0) at_full at_call_put
       (omega arith) refl
@@ -224,7 +224,7 @@ module _ (e : Edition) (b : Machine) (h : Since) (f : FitsMachine b) where
       (push o.entered.holds f.regs.r.r2 room b.regs.r.r5.hi b.regs.r.r5.lo)
 
   pub call_put_comes : Enters (quick e) at_call_put 2 b (now h) → depth < 12 → h.spent ≡ 86
-      → Comes (quick e) (calm_pieces (quick e)) (OfArith CallPut) b h
+      → RunsBlock (quick e) (calm_pieces (quick e)) (OfArith CallPut) b h
   call_put_comes o room spent =
       routine (OfArith CallPut) o.entered _
       (omega (arith, o.entered.holds.stack, stack_top_is e, page_fits e, f.regs.r.r2.hi, f.regs.r.r2.lo, room)) refl
@@ -249,7 +249,7 @@ module _ (e : Edition) (b : Machine) (h : Since) (f : FitsMachine b) where
       rw (and_mask high 4, v_get o.entered.holds (value (word (page_of e) 240)) 0 (omega (arith, variables_is e)) (omega arith))
       (omega (arith, v_byte o.entered.holds f.ram 0 (omega arith), low_fits o.entered f))
 
-  pub jump_plus_comes : Enters (quick e) at_jump_plus 11 b (now h) → h.spent ≡ 80 → Comes (quick e) (calm_pieces (quick e)) (OfArith JumpPlus) b h
+  pub jump_plus_comes : Enters (quick e) at_jump_plus 11 b (now h) → h.spent ≡ 80 → RunsBlock (quick e) (calm_pieces (quick e)) (OfArith JumpPlus) b h
   jump_plus_comes o spent =
       routine (OfArith JumpPlus) o.entered _ (omega (arith, o.entered.holds.stack, stack_top_is e, page_fits e)) refl
       (λ h' g. steps e g (JumpBy (high % 16 * 256 + low)) (plus_is o) refl (plus_runs o) (omega (arith, spent)) tt _

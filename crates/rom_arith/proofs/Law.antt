@@ -12,7 +12,7 @@ use Rattle.rom_rows.specs.ArithBlocks.ArithBlock.{System, SystemLow, SystemBack,
 use Rattle.rom_rows.specs.Table.{Head, calm_pieces}
 use Rattle.rom_rows.specs.Table.Block.{OfArith}
 use Rattle.rom_law.specs.Rows.{Since, now}
-use Rattle.rom_law.proofs.Kept.{Comes}
+use Rattle.rom_law.proofs.Kept.{RunsBlock}
 use Rattle.rom_rows.proofs.Addresses.{Follows, runs_at, covers}
 use Rattle.rom_rows.proofs.Digits.{by_digit}
 use Rattle.rom_rows.proofs.Entry.{is_entered}
@@ -26,7 +26,7 @@ use Rattle.rom_arith.proofs.Arithmetic.{arith_comes, operation_comes, flag_comes
 use Rattle.rom_arith.specs.Code.{arith_rom}
 
 pub arith_block : (e : Edition) (l : ArithBlock) (b : Machine) (h : Since) → FitsMachine b → Head (quick e) (OfArith l) b h
-    → Comes (quick e) (calm_pieces (quick e)) (OfArith l) b h
+    → RunsBlock (quick e) (calm_pieces (quick e)) (OfArith l) b h
 arith_block e System b h f o = system_comes e b h f o.0 o.1
 arith_block e SystemLow b h f o = system_low_comes e b h f o.0.0 o.0.1 o.1
 arith_block e SystemBack b h f o = system_back_comes e b h f o.0.0 o.0.1 o.0.2 o.1

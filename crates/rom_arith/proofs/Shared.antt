@@ -18,7 +18,7 @@ use Rattle.rom_law.specs.Holding.{places, Holding}
 use Rattle.rom_law.specs.Moments.{Moment, Tells}
 use Rattle.rom_law.specs.Rows.{Since, now}
 use Rattle.rom_law.proofs.Places.{v_get}
-use Rattle.rom_law.proofs.Kept.{Comes}
+use Rattle.rom_law.proofs.Kept.{RunsBlock}
 use Rattle.rom_rows.specs.Heads.{to_dispatch, high_byte, low_byte, page_of, Entered}
 use Rattle.rom_rows.specs.ArithBlocks.{has_shared_end, Ending}
 use Rattle.rom_rows.specs.Table.{Block, moves, calm_pieces, calm_top}
@@ -76,7 +76,7 @@ pub ending : {e : Edition} {b : Machine} {h : Since} {a : ℕ} {z : Lang} (l : B
     → h.spent + 2 * moves l ≡ to_dispatch (quick e) (now h) → (c : Machine)
     → AllGood (code (quick e)) (calm_top e) (moves l) (entered e a (high_byte (now h)) (low_byte (now h)) b)
     → quicks (code (quick e)) (moves l) (entered e a (high_byte (now h)) (low_byte (now h)) b) ≡ c → Holding (quick e) (places c) z → c.regs.p ≡ 4
-    → c.regs.r.r4 ≡ word_of at_fetch → Comes (quick e) (calm_pieces (quick e)) l b h
+    → c.regs.r.r4 ≡ word_of at_fetch → RunsBlock (quick e) (calm_pieces (quick e)) l b h
 ending {e = e} {h = h} l o time c good is holds p r4 =
     routine l o.entered c good is (λ h' g. steps e g (instr_at (now h)) refl (shared_prompt _ o.shared) runs time
     (shared_told _ h'.state h'.moments h'.spent h'.ticks o.shared) c

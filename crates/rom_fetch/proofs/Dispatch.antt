@@ -15,7 +15,7 @@ use Rattle.rom_law.proofs.Moves.{quicks, Reaches, reaches_in, reaches_from, rom_
 use Rattle.rom_law.specs.Program.{code}
 use Rattle.rom_law.specs.Rows.{Since, Grows, Ends, now}
 use Rattle.rom_law.proofs.Places.{pc_is, pc_set, memory_get, memory_fits}
-use Rattle.rom_law.proofs.Kept.{Comes}
+use Rattle.rom_law.proofs.Kept.{RunsBlock}
 use Rattle.rom_rows.specs.Heads.{high_byte, low_byte, page_of, Fetching, Enters}
 use Rattle.rom_rows.specs.FetchBlocks.FetchBlock.{Inside, Misc}
 use Rattle.rom_rows.specs.ArithBlocks.ArithBlock.{System, JumpTo, Call, JumpPlus}
@@ -165,5 +165,5 @@ module _ (e : Edition) (b : Machine) (h : Since) (f : FitsMachine b) (o : Fetchi
       (λ is. to_fetch (quick e) g entered calm (Misc 0) (enters 15 is, λ j k. absurd (omega (arith, k)), omega arith) (omega (arith, spent, g.spent)))
       (high / 16) digit_fits refl
 
-  pub inside_comes : Comes (quick e) (calm_pieces (quick e)) (OfFetch Inside) b h
+  pub inside_comes : RunsBlock (quick e) (calm_pieces (quick e)) (OfFetch Inside) b h
   inside_comes = record { runs = ready o.holds; awake = o.holds.awake; some = omega arith; end = entered; reaches = reaches; ends = ends }

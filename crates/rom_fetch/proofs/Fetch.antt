@@ -12,7 +12,7 @@ use Rattle.rom_law.proofs.Moves.{quicks, Reaches, reaches_in, reaches_from}
 use Rattle.rom_law.specs.Program.{code}
 use Rattle.rom_law.specs.Rows.{Since, now}
 use Rattle.rom_law.proofs.Places.{pc_is}
-use Rattle.rom_law.proofs.Kept.{Comes}
+use Rattle.rom_law.proofs.Kept.{RunsBlock}
 use Rattle.rom_rows.specs.Heads.{page_of, Fetching}
 use Rattle.rom_rows.specs.FetchBlocks.FetchBlock.{Fetch, Upper, Inside, Outside}
 use Rattle.rom_rows.specs.Table.{calm_pieces, calm_top}
@@ -50,11 +50,11 @@ module _ (e : Edition) (b : Machine) (h : Since) (f : FitsMachine b) (o : Fetchi
   unfolding end
   fetching a = record { holds = o.holds; p = refl; r4 = refl }
 
-  pub fetch_comes : Comes (quick e) (calm_pieces (quick e)) (OfFetch Fetch) b h
+  pub fetch_comes : RunsBlock (quick e) (calm_pieces (quick e)) (OfFetch Fetch) b h
   unfolding end
   fetch_comes = go (cases_lt (now h).pc 0x200)
     where
-      go : ((now h).pc < 0x200) ⊎ (0x200 ≤ (now h).pc) → Comes (quick e) (calm_pieces (quick e)) (OfFetch Fetch) b h
+      go : ((now h).pc < 0x200) ⊎ (0x200 ≤ (now h).pc) → RunsBlock (quick e) (calm_pieces (quick e)) (OfFetch Fetch) b h
       go (inl l) = record {
         runs = ready o.holds;
         awake = o.holds.awake;
@@ -105,11 +105,11 @@ module _ (e : Edition) (b : Machine) (h : Since) (f : FitsMachine b) (o : Fetchi
   unfolding carry
   low_enough l = omega (arith, l, pc2, memory_end_is e, page_fits e, f.regs.r.r5.lo, f.regs.r.r5.hi)
 
-  pub upper_comes : Comes (quick e) (calm_pieces (quick e)) (OfFetch Upper) b h
+  pub upper_comes : RunsBlock (quick e) (calm_pieces (quick e)) (OfFetch Upper) b h
   unfolding checked
   upper_comes = go (cases_lt (memory_end e) ((now h).pc + 2))
     where
-      go : (memory_end e < (now h).pc + 2) ⊎ ((now h).pc + 2 ≤ memory_end e) → Comes (quick e) (calm_pieces (quick e)) (OfFetch Upper) b h
+      go : (memory_end e < (now h).pc + 2) ⊎ ((now h).pc + 2 ≤ memory_end e) → RunsBlock (quick e) (calm_pieces (quick e)) (OfFetch Upper) b h
       go (inl l) = record {
         runs = ready o.holds;
         awake = o.holds.awake;

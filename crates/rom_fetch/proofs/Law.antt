@@ -7,7 +7,7 @@ use Rattle.rom_rows.specs.FetchBlocks.FetchBlock.{Fetch, Upper, Inside, Outside,
 use Rattle.rom_rows.specs.Table.{Head, calm_pieces}
 use Rattle.rom_rows.specs.Table.Block.{OfFetch}
 use Rattle.rom_law.specs.Rows.{Since}
-use Rattle.rom_law.proofs.Kept.{Comes}
+use Rattle.rom_law.proofs.Kept.{RunsBlock}
 use Rattle.rom_rows.proofs.Sounds.{block_rows}
 use Rattle.rom_fetch.proofs.Rom.{both_is, both_fits, quick}
 use Rattle.rom_fetch.specs.Laws.{FetchRows}
@@ -18,7 +18,7 @@ use Rattle.rom_fetch.proofs.Stops.{outside_comes, leave_comes, stop_comes, stopp
 use Rattle.rom_fetch.specs.Code.{fetch_rom}
 
 pub fetch_block : (e : Edition) (l : FetchBlock) (b : Machine) (h : Since) → FitsMachine b → Head (quick e) (OfFetch l) b h
-    → Comes (quick e) (calm_pieces (quick e)) (OfFetch l) b h
+    → RunsBlock (quick e) (calm_pieces (quick e)) (OfFetch l) b h
 fetch_block e Fetch b h f o = fetch_comes e b h f o.0 o.1
 fetch_block e Upper b h f o = upper_comes e b h f o.0.0 o.0.1 o.1
 fetch_block e Inside b h f o = inside_comes e b h f o.0.0 o.0.1 o.1

@@ -12,7 +12,7 @@ use Rattle.chip8_image.specs.Labels.{at_misc_0A, at_misc_15, at_misc_18, at_misc
 use Rattle.rom_law.proofs.Moves.{quicks, Reaches, reaches_in, reaches_from}
 use Rattle.rom_law.specs.Program.{code}
 use Rattle.rom_law.specs.Rows.{Since, Grows, Ends, now}
-use Rattle.rom_law.proofs.Kept.{Comes}
+use Rattle.rom_law.proofs.Kept.{RunsBlock}
 use Rattle.rom_rows.specs.Heads.{to_stop, high_byte, low_byte, Enters}
 use Rattle.rom_rows.specs.FetchBlocks.{NoneOf, misc_labels, misc_codes}
 use Rattle.rom_rows.specs.FetchBlocks.FetchBlock.{Misc, Unknown83, Leave}
@@ -73,10 +73,10 @@ module _ (e : Edition) (b : Machine) (h : Since) (f : FitsMachine b) where
         → Ends (quick e) (calm_pieces (quick e)) (tested (slice_index misc_codes i) (word_of target)) h')
         → ((low ≡ slice_index misc_codes i → ⊥) → (h' : Since) → Grows h 3 0 h'
         → Ends (quick e) (calm_pieces (quick e)) (tested (slice_index misc_codes i) (word_of other)) h')
-        → Comes (quick e) (calm_pieces (quick e)) (OfFetch (Misc i)) b h
+        → RunsBlock (quick e) (calm_pieces (quick e)) (OfFetch (Misc i)) b h
     test found missed = go (cases_eq low (slice_index misc_codes i))
       where
-        go : (low ≡ slice_index misc_codes i) ⊎ (low ≡ slice_index misc_codes i → ⊥) → Comes (quick e) (calm_pieces (quick e)) (OfFetch (Misc i)) b h
+        go : (low ≡ slice_index misc_codes i) ⊎ (low ≡ slice_index misc_codes i → ⊥) → RunsBlock (quick e) (calm_pieces (quick e)) (OfFetch (Misc i)) b h
         go (inl is) = record {
           runs = ready o.entered.holds;
           awake = o.entered.holds.awake;
@@ -101,7 +101,7 @@ module _ (e : Edition) (b : Machine) (h : Since) (f : FitsMachine b) where
   -- ---- the tests
 
   pub misc_comes : (i : ℕ) → i < 9 → Enters (quick e) (slice_index misc_labels i) 15 b (now h) → NoneOf i low → h.spent ≡ 80 + 6 * i
-      → Comes (quick e) (calm_pieces (quick e)) (OfFetch (Misc i)) b h
+      → RunsBlock (quick e) (calm_pieces (quick e)) (OfFetch (Misc i)) b h
   unfolding tested
   misc_comes zero l o none spent =
       test 0 at_get_delay at_misc_0A o (λ w q. reaches_in (code (quick e)) (calm_top e) 3 _ _ (omega arith) (λ j. tested 0x07 (q j)))
@@ -192,7 +192,7 @@ module _ (e : Edition) (b : Machine) (h : Since) (f : FitsMachine b) where
       refl
 
   pub unknown_comes : Enters (quick e) at_unknown83 15 b (now h) → NoneOf 9 low → h.spent ≡ 134
-      → Comes (quick e) (calm_pieces (quick e)) (OfFetch Unknown83) b h
+      → RunsBlock (quick e) (calm_pieces (quick e)) (OfFetch Unknown83) b h
   unknown_comes o none spent = record {
     runs = ready o.entered.holds;
     awake = o.entered.holds.awake;

@@ -18,7 +18,7 @@ use Rattle.rom_law.specs.Rows.{Since, now}
 use Rattle.rom_law.specs.Rows.Ends.{Fails}
 use Rattle.rom_law.proofs.Places.{keeping, pc_is, pc_set, cell_set, cell_is}
 use Rattle.rom_law.proofs.Steps.{now_same}
-use Rattle.rom_law.proofs.Kept.{Comes}
+use Rattle.rom_law.proofs.Kept.{RunsBlock}
 use Rattle.rom_rows.specs.Heads.{to_stop, Fetching, Leaving, Stopping}
 use Rattle.rom_rows.specs.FetchBlocks.FetchBlock.{Outside, Leave, Stop, Stopped}
 use Rattle.rom_rows.specs.Table.{calm_pieces, calm_top}
@@ -34,7 +34,7 @@ outside_stop e s h = rw h refl
 
 module _ (e : Edition) (b : Machine) (h : Since) (f : FitsMachine b) where
   pub outside_comes : Fetching (quick e) at_outside b (now h) → is_fetchable e (now h) ≡ false → h.spent + 26 ≡ to_stop (quick e) (now h)
-      → Comes (quick e) (calm_pieces (quick e)) (OfFetch Outside) b h
+      → RunsBlock (quick e) (calm_pieces (quick e)) (OfFetch Outside) b h
   outside_comes o out spent = record {
     runs = ready o.holds;
     awake = o.holds.awake;
@@ -53,7 +53,7 @@ module _ (e : Edition) (b : Machine) (h : Since) (f : FitsMachine b) where
 
   leaves : (i : ℕ) → Reaches (code (quick e)) (calm_top e) 3 (on_3 (at_leave81 + 0x100 * i) b) left
       → Leaving (quick e) (at_leave81 + 0x100 * i) b (now h) → h.spent + 22 ≡ to_stop (quick e) (now h)
-      → Comes (quick e) (calm_pieces (quick e)) (OfFetch (Leave i)) b h
+      → RunsBlock (quick e) (calm_pieces (quick e)) (OfFetch (Leave i)) b h
   leaves i reach o spent = record {
     runs = ready o.holds;
     awake = o.holds.awake;
@@ -66,7 +66,7 @@ module _ (e : Edition) (b : Machine) (h : Since) (f : FitsMachine b) where
   }
 
   pub leave_comes : (i : ℕ) → i < 4 → Leaving (quick e) (at_leave81 + 0x100 * i) b (now h) → h.spent + 22 ≡ to_stop (quick e) (now h)
-      → Comes (quick e) (calm_pieces (quick e)) (OfFetch (Leave i)) b h
+      → RunsBlock (quick e) (calm_pieces (quick e)) (OfFetch (Leave i)) b h
   leave_comes zero l o spent = leaves 0 (reaches_in (code (quick e)) (calm_top e) 3 _ _ (omega arith) refl) o spent
   leave_comes (suc zero) l o spent = leaves 1 (reaches_in (code (quick e)) (calm_top e) 3 _ _ (omega arith) refl) o spent
   leave_comes (suc (suc zero)) l o spent = leaves 2 (reaches_in (code (quick e)) (calm_top e) 3 _ _ (omega arith) refl) o spent
@@ -75,7 +75,7 @@ module _ (e : Edition) (b : Machine) (h : Since) (f : FitsMachine b) where
 
   -- pc goes back to the opcode
   pub stop_comes : Stopping (quick e) at_stop next b (now h) → h.spent + 16 ≡ to_stop (quick e) (now h)
-      → Comes (quick e) (calm_pieces (quick e)) (OfFetch Stop) b h
+      → RunsBlock (quick e) (calm_pieces (quick e)) (OfFetch Stop) b h
   stop_comes o spent = record {
     runs = ready o.holds;
     awake = o.holds.awake;
@@ -101,7 +101,7 @@ module _ (e : Edition) (b : Machine) (h : Since) (f : FitsMachine b) where
 
   -- the number of the stop goes into its cell
   pub stopped_comes : Stopping (quick e) at_stopped (λ z. z) b (now h) → h.spent + 12 ≡ to_stop (quick e) (now h)
-      → Comes (quick e) (calm_pieces (quick e)) (OfFetch Stopped) b h
+      → RunsBlock (quick e) (calm_pieces (quick e)) (OfFetch Stopped) b h
   stopped_comes o spent = record {
     runs = ready o.holds;
     awake = o.holds.awake;

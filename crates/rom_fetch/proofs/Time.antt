@@ -12,7 +12,7 @@ use Rattle.rom_law.specs.Code.{Code, Input, moved}
 use Rattle.rom_law.proofs.Moves.{quicks}
 use Rattle.rom_law.specs.Program.{code}
 use Rattle.rom_law.specs.Rows.{Since, InBlock, now, after_main}
-use Rattle.rom_law.proofs.Kept.{Comes, block_p, moved_p}
+use Rattle.rom_law.proofs.Kept.{RunsBlock, block_p, moved_p}
 use Rattle.rom_rows.specs.Rom.{program_of}
 use Rattle.rom_rows.specs.FetchBlocks.{FetchBlock, misc_labels}
 use Rattle.rom_rows.specs.FetchBlocks.FetchBlock.{Fetch, Upper, Inside, Outside, Misc, Unknown83, Leave, Stop, Stopped}
@@ -54,7 +54,7 @@ TimeBy e rom l =
     → (after_main u h).spent ≡ DISPATCH
 
 module _ (e : Edition) {l : FetchBlock} (u : Input) (b : Machine) (h : Since) (r : InBlock (quick e) (pieces (quick e)) (OfFetch l) b h) where
-  comes : Comes (quick e) (pieces (quick e)) (OfFetch l) r.start r.since
+  comes : RunsBlock (quick e) (pieces (quick e)) (OfFetch l) r.start r.since
   comes = comes_calm (fetch_block e l r.start r.since r.fits r.head)
 
   -- where the block's machines have P = 3, P isn't 4

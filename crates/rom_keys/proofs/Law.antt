@@ -4,7 +4,7 @@ use Rattle.machine.specs.Board.{Machine}
 use Rattle.machine.specs.Ranges.{FitsMachine}
 use Rattle.chip8_lang.specs.declared.view.Edition.{Edition}
 use Rattle.rom_law.specs.Rows.{Since}
-use Rattle.rom_law.proofs.Kept.{Comes, Holds}
+use Rattle.rom_law.proofs.Kept.{RunsBlock, RunsPlace}
 use Rattle.rom_rows.specs.KeyBlocks.{KeyBlock, KeyPlace}
 use Rattle.rom_rows.specs.KeyBlocks.KeyBlock.{KeySkip, KeySkipUp, SkipLatch, NoSkip, Skip, WaitKey, KeyNext, KeyCount, KeyFreed}
 use Rattle.rom_rows.specs.KeyBlocks.KeyPlace.{SkipTest, KeyTest, KeyHeld}
@@ -19,7 +19,7 @@ use Rattle.rom_keys.proofs.Waits.{wait_key_comes, key_next_comes, key_test_holds
 use Rattle.rom_keys.specs.Code.{keys_rom}
 
 pub key_block : (e : Edition) (l : KeyBlock) (b : Machine) (h : Since) → FitsMachine b → Head (quick e) (OfKey l) b h
-    → Comes (quick e) (calm_pieces (quick e)) (OfKey l) b h
+    → RunsBlock (quick e) (calm_pieces (quick e)) (OfKey l) b h
 key_block e KeySkip b h f o = key_skip_comes e b h f o.0 o.1
 key_block e KeySkipUp b h f o = key_skip_up_comes e b h f o.0.0 o.0.1 o.0.2 o.1
 key_block e (SkipLatch down) b h f o = skip_latch_comes e b h f down o.0.0 o.0.1 o.0.2 o.1
@@ -34,7 +34,7 @@ pub key_rows : KeyRows keys_rom
 key_rows e l = block_rows e (both_is e) (both_fits e) (OfKey l) (key_block e l)
 
 pub key_place : (e : Edition) (l : KeyPlace) (b : Machine) (h : Since) → FitsMachine b → At (quick e) (AtKey l) b h
-    → Holds (quick e) (calm_pieces (quick e)) (AtKey l) b h
+    → RunsPlace (quick e) (calm_pieces (quick e)) (AtKey l) b h
 key_place e (SkipTest down) b h f o = skip_test_holds e b h f down o.0.0 o.0.1 o o.1
 key_place e (KeyTest turn) b h f o = key_test_holds e b h f turn o.0.0 o.0.1 o.0.2 o o.1.0 o.1.1
 key_place e (KeyHeld turn looks) b h f o = key_held_holds e b h f turn looks o.0.0 o.0.1 o.0.2 o.0.3 o o.1.0 o.1.1

@@ -20,7 +20,7 @@ use Rattle.rom_law.specs.Moments.{Sees}
 use Rattle.rom_law.specs.Rows.{Since, Grows, now}
 use Rattle.rom_law.proofs.Places.{v_get, pc_is, pc_set}
 use Rattle.rom_law.proofs.Steps.{now_same}
-use Rattle.rom_law.proofs.Kept.{Comes, Holds}
+use Rattle.rom_law.proofs.Kept.{RunsBlock, RunsPlace}
 use Rattle.rom_rows.specs.Heads.{to_stop, high_byte, low_byte, page_of, Entered, Enters}
 use Rattle.rom_rows.specs.ArithBlocks.ArithBlock.{Unknown82}
 use Rattle.rom_rows.specs.KeyBlocks.{skip_code, skip_key, skip_label, skip_test_label, no_skip_label, skip_time, Skipping}
@@ -77,7 +77,7 @@ module _ (e : Edition) (b : Machine) (h : Since) (f : FitsMachine b) where
         digit = o.digit;
       }
 
-  pub key_skip_comes : Enters (quick e) at_key_skip 14 b (now h) → h.spent ≡ 80 → Comes (quick e) (calm_pieces (quick e)) (OfKey KeySkip) b h
+  pub key_skip_comes : Enters (quick e) at_key_skip 14 b (now h) → h.spent ≡ 80 → RunsBlock (quick e) (calm_pieces (quick e)) (OfKey KeySkip) b h
   key_skip_comes o spent = branch (OfKey KeySkip) o.entered (tested 6 (bit_xor low 0x9e)) (bit_xor low 0x9e == 0) at_skip_down at_key_skip_up (omega arith) refl
       (λ k h' g. to_key (quick e) g _ refl (SkipLatch true) (goes 6 (bit_xor low 0x9e) at_skip_down o, refl, xor_same low 0x9e k)
       (omega (arith, spent, g.spent)))
@@ -90,7 +90,7 @@ module _ (e : Edition) (b : Machine) (h : Since) (f : FitsMachine b) where
   unknown_time o down up = rw (o.entered.inside, o.digit, ne_eqb low 0x9e down, ne_eqb low 0xa1 up, o.digit) refl
 
   pub key_skip_up_comes : Enters (quick e) at_key_skip_up 14 b (now h) → b.regs.x ≡ 6 → (low ≡ 0x9e → ⊥) → h.spent ≡ 88
-      → Comes (quick e) (calm_pieces (quick e)) (OfKey KeySkipUp) b h
+      → RunsBlock (quick e) (calm_pieces (quick e)) (OfKey KeySkipUp) b h
   key_skip_up_comes o x down spent =
       branch (OfKey KeySkipUp) o.entered (looked e high low b (bit_xor low 0xa1)) (not (bit_xor low 0xa1 == 0)) at_unknown82 at_skip_up
       (omega arith) refl
@@ -110,7 +110,7 @@ module _ (e : Edition) (b : Machine) (h : Since) (f : FitsMachine b) where
   latched_is o = ap (λ y. y % 16) (v_get o.holds (value (word (page_of e) (240 + high % 16))) (high % 16) (omega (arith, variables_is e)) (omega arith))
 
   pub skip_latch_comes : (down : Bool) → Enters (quick e) (skip_label down) 14 b (now h) → b.regs.x ≡ 6 → low ≡ skip_code down
-      → h.spent ≡ skip_time down → Comes (quick e) (calm_pieces (quick e)) (OfKey (SkipLatch down)) b h
+      → h.spent ≡ skip_time down → RunsBlock (quick e) (calm_pieces (quick e)) (OfKey (SkipLatch down)) b h
   skip_latch_comes true o x kk spent =
       straight (OfKey (SkipLatch true)) o.entered.holds (pointing at_skip_down) (is_pointing o.entered x) _
       (omega (arith, o.entered.holds.stack, stack_top_is e, page_fits e)) refl
@@ -160,7 +160,7 @@ module _ (e : Edition) (b : Machine) (h : Since) (f : FitsMachine b) where
   opposite false u k = ap not k
 
   pub skip_test_holds : (down : Bool) → Skipping (quick e) down (skip_test_label down) b (now h) → b.key ≡ skip_key (now h)
-      → At (quick e) (AtKey (SkipTest down)) b h → h.spent ≡ skip_time down + 2 → Holds (quick e) (calm_pieces (quick e)) (AtKey (SkipTest down)) b h
+      → At (quick e) (AtKey (SkipTest down)) b h → h.spent ≡ skip_time down + 2 → RunsPlace (quick e) (calm_pieces (quick e)) (AtKey (SkipTest down)) b h
   skip_test_holds true o key at spent =
       alone_forks (AtKey (SkipTest true)) f at o.holds (on_3 (skip_test_label true) b) (is_on_3 (skip_test_label true) b o.p o.r3) refl refl gone
       (λ u. u.held b.key) at_key_yes (no_skip_label true) (λ u. refl)
@@ -205,7 +205,7 @@ module _ (e : Edition) (b : Machine) (h : Since) (f : FitsMachine b) where
 
   pub no_skip_comes : (down : Bool) → Skipping (quick e) down (no_skip_label down) b (now h) → SomeTime h.keys (skip_key (now h)) (not down) → h.spent ≡ skip_time down + 4
       → Sees h.moments (skip_time down + 2) (skip_key (now h)) (not down)
-      → Comes (quick e) (calm_pieces (quick e)) (OfKey (NoSkip down)) b h
+      → RunsBlock (quick e) (calm_pieces (quick e)) (OfKey (NoSkip down)) b h
   no_skip_comes true o s spent met = straight (OfKey (NoSkip true)) o.holds (on_3 (no_skip_label true) b) (is_on_3 (no_skip_label true) b o.p o.r3) _ (omega arith) refl
       (λ h' g. steps_with e g (skip_of true) (skip_is true o) (skip_runs true o) (Held false) (allowed false g s) tt
       (λ n t. omega (arith, spent, some_is t)) (seen false g met) (makes_calm g (skip_is true o) refl) _ o.holds refl o.r4)
@@ -219,7 +219,7 @@ module _ (e : Edition) (b : Machine) (h : Since) (f : FitsMachine b) where
 
   pub skip_comes : (down : Bool) → Skipping (quick e) down at_key_yes b (now h) → SomeTime h.keys (skip_key (now h)) down → h.spent ≡ skip_time down + 4
       → Sees h.moments (skip_time down + 2) (skip_key (now h)) down
-      → Comes (quick e) (calm_pieces (quick e)) (OfKey (Skip down)) b h
+      → RunsBlock (quick e) (calm_pieces (quick e)) (OfKey (Skip down)) b h
   skip_comes true o s spent met = straight (OfKey (Skip true)) o.holds (on_3 at_key_yes b) (is_on_3 at_key_yes b o.p o.r3) _ (omega arith) refl
       (λ h' g. steps_with e g (skip_of true) (skip_is true o) (skip_runs true o) (Held true) (allowed true g s) tt (λ n t. omega (arith, spent, some_is t)) (seen true g met)
       (makes_calm g (skip_is true o) refl) _

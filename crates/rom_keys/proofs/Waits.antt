@@ -21,7 +21,7 @@ use Rattle.rom_law.specs.Holding.{Places, places, Holding}
 use Rattle.rom_law.specs.Moments.{Sees, Searches, Holds as Held}
 use Rattle.rom_law.specs.Rows.{Since, Grows, now, after_main}
 use Rattle.rom_law.proofs.Places.{v_set, work_set, work_get}
-use Rattle.rom_law.proofs.Kept.{Comes, Holds}
+use Rattle.rom_law.proofs.Kept.{RunsBlock, RunsPlace}
 use Rattle.rom_rows.specs.Heads.{high_byte, low_byte, page_of, Enters}
 use Rattle.rom_rows.specs.KeyBlocks.{Last, JustUp, Turned, Waiting, Turning}
 use Rattle.rom_rows.specs.KeyBlocks.KeyBlock.{WaitKey, KeyNext, KeyCount, KeyFreed}
@@ -128,7 +128,7 @@ module _ (e : Edition) (b : Machine) (h : Since) (f : FitsMachine b) where
         low = o.low;
       }
 
-  pub wait_key_comes : Enters (quick e) at_wait_key 15 b (now h) → low ≡ 0x0a → h.spent ≡ 92 → Comes (quick e) (calm_pieces (quick e)) (OfKey WaitKey) b h
+  pub wait_key_comes : Enters (quick e) at_wait_key 15 b (now h) → low ≡ 0x0a → h.spent ≡ 92 → RunsBlock (quick e) (calm_pieces (quick e)) (OfKey WaitKey) b h
   wait_key_comes o kk spent = routine (OfKey WaitKey) o.entered _ (omega arith) refl
       (λ h' g. to_key (quick e) g _ refl (KeyNext 0) (
         record {
@@ -159,7 +159,7 @@ module _ (e : Edition) (b : Machine) (h : Since) (f : FitsMachine b) where
   words w p l hi lo = λ i. record { hi = hi i; lo = lo i }
 
   pub key_next_comes : (turn : ℕ) → Turning (quick e) turn at_key_next b (now h) → Turned turn 0 h.keys → h.spent ≡ 106 + 14 * turn → Searches h.moments turn
-      → Comes (quick e) (calm_pieces (quick e)) (OfKey (KeyNext turn)) b h
+      → RunsBlock (quick e) (calm_pieces (quick e)) (OfKey (KeyNext turn)) b h
   key_next_comes turn o t spent searched =
       straight (OfKey (KeyNext turn)) o.waiting.enters.entered.holds (turning e at_key_next high low b) (is_turning o) _
       (omega (arith, o.waiting.enters.entered.holds.stack, stack_top_is e, page_fits e)) refl
@@ -194,7 +194,7 @@ module _ (e : Edition) (b : Machine) (h : Since) (f : FitsMachine b) where
 
   pub key_test_holds : (turn : ℕ) → Turning (quick e) turn at_key_test b (now h) → b.key ≡ turn % 16 → Turned turn 4 h.keys
       → At (quick e) (AtKey (KeyTest turn)) b h → h.spent ≡ 114 + 14 * turn → Searches h.moments turn
-      → Holds (quick e) (calm_pieces (quick e)) (AtKey (KeyTest turn)) b h
+      → RunsPlace (quick e) (calm_pieces (quick e)) (AtKey (KeyTest turn)) b h
   key_test_holds turn o key t at spent searched =
       alone_forks (AtKey (KeyTest turn)) f at o.waiting.enters.entered.holds (turning e at_key_test high low b) (is_turning o) refl refl gone
       (λ u. u.held b.key) at_key_held at_key_count (λ u. refl)
@@ -216,7 +216,7 @@ module _ (e : Edition) (b : Machine) (h : Since) (f : FitsMachine b) where
       (omega (arith, spent), searches_more u h turn searched spent (ap u.held (sym key) ∙ k)))
 
   pub key_count_comes : (turn : ℕ) → Turning (quick e) turn at_key_count b (now h) → Turned turn 5 h.keys → Last h.keys (turn % 16) false
-      → h.spent ≡ 116 + 14 * turn → Searches h.moments (suc turn) → Comes (quick e) (calm_pieces (quick e)) (OfKey (KeyCount turn)) b h
+      → h.spent ≡ 116 + 14 * turn → Searches h.moments (suc turn) → RunsBlock (quick e) (calm_pieces (quick e)) (OfKey (KeyCount turn)) b h
   key_count_comes turn o t last spent searched =
       straight (OfKey (KeyCount turn)) o.waiting.enters.entered.holds (turning e at_key_count high low b) (is_turning o) _ (omega arith) refl
       (λ h' g. to_key (quick e) g _ refl (KeyNext (suc turn)) (
@@ -256,7 +256,7 @@ module _ (e : Edition) (b : Machine) (h : Since) (f : FitsMachine b) where
 
   pub key_held_holds : (turn looks : ℕ) → Waiting (quick e) at_key_held b (now h) → b.key ≡ b.regs.r.re.lo % 16 → Last h.keys (b.regs.r.re.lo % 16) true
       → b.regs.r.re.lo % 16 ≡ turn % 16 → At (quick e) (AtKey (KeyHeld turn looks)) b h → h.spent ≡ 116 + 14 * turn + 2 * looks
-      → Held h.moments turn looks → Holds (quick e) (calm_pieces (quick e)) (AtKey (KeyHeld turn looks)) b h
+      → Held h.moments turn looks → RunsPlace (quick e) (calm_pieces (quick e)) (AtKey (KeyHeld turn looks)) b h
   key_held_holds turn looks o key last same at spent holds =
       alone_forks (AtKey (KeyHeld turn looks)) f at o.enters.entered.holds (entered e at_key_held high low b) (is_entered o.enters.entered) refl refl waiting
       (λ u. u.held b.key) at_key_held at_key_freed (λ u. refl)
@@ -277,7 +277,7 @@ module _ (e : Edition) (b : Machine) (h : Since) (f : FitsMachine b) where
 
   pub key_freed_comes : (turn looks : ℕ) → Waiting (quick e) at_key_freed b (now h) → JustUp h.keys (b.regs.r.re.lo % 16)
       → b.regs.r.re.lo % 16 ≡ turn % 16 → h.spent ≡ 118 + 14 * turn + 2 * looks → Held h.moments turn looks
-      → Sees h.moments (116 + 14 * turn + 2 * looks) (turn % 16) false → Comes (quick e) (calm_pieces (quick e)) (OfKey (KeyFreed turn looks)) b h
+      → Sees h.moments (116 + 14 * turn + 2 * looks) (turn % 16) false → RunsBlock (quick e) (calm_pieces (quick e)) (OfKey (KeyFreed turn looks)) b h
   key_freed_comes turn looks o freed same spent holds up = routine (OfKey (KeyFreed turn looks)) o.enters.entered _ (omega (arith, o.enters.entered.holds.stack, stack_top_is e, page_fits e)) refl
       (λ h' g. steps_with e g (IsWaitKey (high % 16)) is runs (Chosen (b.regs.r.re.lo % 16)) (let_go_grown g (let_go freed (omega arith)))
       tt (λ n t. cc)

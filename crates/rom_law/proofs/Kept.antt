@@ -79,7 +79,7 @@ quiet false h = refl
 
 -- At the head of a block main code runs; after its instructions, through which ticks may pass, it comes to a machine at which, with
 -- whatever keys the moves had, there is a next piece, a dispatch or a stop.
-pub record Comes (x : Program) (t : Pieces) (l : t.Block) (b : Machine) (h : Since) : Type 0 where
+pub record RunsBlock (x : Program) (t : Pieces) (l : t.Block) (b : Machine) (h : Since) : Type 0 where
   pub runs : Ready x b
   pub awake : b.regs.idle ≡ false
   pub some : 0 < t.moves l h
@@ -89,7 +89,7 @@ pub record Comes (x : Program) (t : Pieces) (l : t.Block) (b : Machine) (h : Sin
 
 -- At a place main code runs or waits. Where it runs, a main move of two cycles comes to a next piece, a dispatch or a stop, and what is
 -- known there outlasts ticks; where it waits, a tick comes to a next piece.
-pub record Holds (x : Program) (t : Pieces) (l : t.Place) (b : Machine) (h : Since) : Type 0 where
+pub record RunsPlace (x : Program) (t : Pieces) (l : t.Place) (b : Machine) (h : Since) : Type 0 where
   pub runs : Ready x b
   pub moves : b.regs.idle ≡ false → (u : Input) → Ends x t (moved (code x) u b) (after_main u h)
   pub cycles : b.regs.idle ≡ false → cycles_of (opcode_of x.interpreter.rom b) ≡ 2
@@ -100,8 +100,8 @@ pub record Holds (x : Program) (t : Pieces) (l : t.Place) (b : Machine) (h : Sin
 pub record Proved (x : Program) (t : Pieces) : Type 0 where
   pub fetch : (cycle : ℕ) (b : Machine) (s : Lang) → FitsMachine b → Dispatches x b s → Starts t b (dispatched cycle s)
   pub rom : FitsRom x.interpreter.rom
-  pub blocks : (l : t.Block) (b : Machine) (h : Since) → FitsMachine b → t.Head l b h → Comes x t l b h
-  pub places : (l : t.Place) (b : Machine) (h : Since) → FitsMachine b → t.At l b h → Holds x t l b h
+  pub blocks : (l : t.Block) (b : Machine) (h : Since) → FitsMachine b → t.Head l b h → RunsBlock x t l b h
+  pub places : (l : t.Place) (b : Machine) (h : Since) → FitsMachine b → t.At l b h → RunsPlace x t l b h
 
 -- What lets one group of pieces be proved apart from the others: the bytes of the ROM are in range, each block has an instruction, and
 -- what is known at a place where main code runs outlasts ticks.
@@ -225,7 +225,7 @@ module _ (x : Program) (t : Pieces) (sound : Sound x t) where
             (halts_after x n c b a f (ticks h.ticks h'.state) stop st.halts);
       })
 
-  module _ {l : t.Block} {b : Machine} {h : Since} (r : InBlock x t l b h) (comes : Comes x t l r.start r.since) where
+  module _ {l : t.Block} {b : Machine} {h : Since} (r : InBlock x t l b h) (comes : RunsBlock x t l r.start r.since) where
     pub good : AllGood (code x) t.top (t.moves l r.since) r.start
     good = reaches_good (code x) t.top (t.moves l r.since) r.start comes.end comes.reaches
 
@@ -404,12 +404,12 @@ module _ (x : Program) (t : Pieces) (sound : Sound x t) where
   place_ended b h f (Steps s st makes) = Dispatched s st makes
   place_ended b h f (Fails stop st) = Halted stop st
 
-  pub place_moves : (l : t.Place) (b : Machine) (h : Since) → FitsMachine b → Holds x t l b h → b.regs.idle ≡ false → (u : Input)
+  pub place_moves : (l : t.Place) (b : Machine) (h : Since) → FitsMachine b → RunsPlace x t l b h → b.regs.idle ≡ false → (u : Input)
       → Outcome x t (moved (code x) u b) (after_main u h)
   place_moves l b h f holds i u = place_ended (moved (code x) u b) (after_main u h) (main-fits x.interpreter.rom sound.rom u.efx u.held b f) (holds.moves i u)
 
   -- a tick keeps the rows at a place
-  pub place_ticks : (l : t.Place) (b c : Machine) (h : Since) → FitsMachine b → Tick (code x).low b c → t.At l b h → Holds x t l b h → Row x t c (after_tick h)
+  pub place_ticks : (l : t.Place) (b c : Machine) (h : Since) → FitsMachine b → Tick (code x).low b c → t.At l b h → RunsPlace x t l b h → Row x t c (after_tick h)
   place_ticks l b c h f k at holds = go b.regs.idle refl
     where
       more : h.ticks + 1 ≡ suc h.ticks
@@ -425,7 +425,7 @@ module _ (x : Program) (t : Pieces) (proved : Proved x t) where
   abbrev sound : Sound x t
   sound = sound_of x t proved
 
-  comes : {l : t.Block} {b : Machine} {h : Since} (r : InBlock x t l b h) → Comes x t l r.start r.since
+  comes : {l : t.Block} {b : Machine} {h : Since} (r : InBlock x t l b h) → RunsBlock x t l r.start r.since
   comes r = proved.blocks _ r.start r.since r.fits r.head
 
   pub row_starts : (b : Machine) (h : Since) → FitsMachine b → Starts t b h → Row x t b h

@@ -16,7 +16,7 @@ use Rattle.chip8_lang.specs.Between.{Between, keys_between}
 use Rattle.chip8_lang.specs.Bounds.{boot_bound}
 use Rattle.chip8_lang.specs.Events.{Event, events_at, events_of, numbers_from, is_dispatch, is_stop, events_behind}
 use Rattle.chip8_lang.specs.Events.Event.{Picture, Dispatch, Stopped}
-use Rattle.rom_law.specs.Language.{InTime, Comes, nothing_else, GoesOn, Begins}
+use Rattle.rom_law.specs.Language.{InTime, NextAt, nothing_else, GoesOn, Begins}
 use Rattle.rom_law.specs.Pictures.{ShowsScreen}
 use Rattle.rom_law.specs.Program.{Program, Dispatches, Halts}
 use Rattle.rom_law.specs.Rows.{Since, dispatched}
@@ -177,7 +177,7 @@ module _ (x : Program) (script : List KeyEvent) (limit : ℕ) (run : List Machin
     order : c.cycle ≤ (next c).cycle
     order = omega (arith, later c)
 
-    comes : (next c).cycle ≤ limit → Comes x script limit (windows_ended (next c).cycle) b (next c).cycle
+    comes : (next c).cycle ≤ limit → NextAt x script limit (windows_ended (next c).cycle) b (next c).cycle
     comes here = record { later = omega (arith, behind_b, later c); within = here; soon = in_time; shown = refl }
 
     moved : (fuel : ℕ) → Kept fuel → limit < c.cycle + suc fuel → (next c).cycle ≤ limit → Moves x script Running h' (next c)

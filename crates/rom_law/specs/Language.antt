@@ -42,7 +42,7 @@ InTime x script from s t = IsInTime (x.bound_of s) script from t
 
 -- The next point behind the dispatch point b is in cycle t: that is later, in time and within the limit, and the frames whose window has ended by
 -- then are those below k, whose pictures have come.
-pub record Comes (x : Program) (script : List KeyEvent) (limit k : ℕ) (b : Machine) (t : ℕ) : Type 0 where
+pub record NextAt (x : Program) (script : List KeyEvent) (limit k : ℕ) (b : Machine) (t : ℕ) : Type 0 where
   pub later : b.cycle < t
   pub within : t ≤ limit
   pub soon : InTime x script b.cycle (state_at x b) t
@@ -70,7 +70,7 @@ module _ (x : Program) (script : List KeyEvent) (limit : ℕ) (run : List Machin
 
   -- the run stops in c
   pub record Halted (k : ℕ) (b c : Machine) (events : List Event) : Type 0 where
-    pub comes : Comes x script limit k b c.cycle
+    pub comes : NextAt x script limit k b c.cycle
     pub stop : IsStop x b c
     pub also_is : also.at_stop b c stop.stop
     pub last : events ≡ []
@@ -80,7 +80,7 @@ module _ (x : Program) (script : List KeyEvent) (limit : ℕ) (run : List Machin
   abbrev pub GoesOn : ℕ → Machine → List Event → Type 0
   GoesOn k b [] = Lasts k b
   GoesOn k b (Picture m ∷ events) = (m ≡ k) × ShowsScreen x.edition (picture_of x.interpreter.rom run m) (state_at x b).screen × GoesOn (k + 1) b events
-  GoesOn k b (Dispatch c ∷ events) = Comes x script limit k b c.cycle × IsStep x script b c × GoesOn k c events
+  GoesOn k b (Dispatch c ∷ events) = NextAt x script limit k b c.cycle × IsStep x script b c × GoesOn k c events
   GoesOn k b (Stopped c ∷ events) = Halted k b c events
 
   -- The events from reset on: the first one is a dispatch point, where the board stands for the game's first state, and comes within the bound of

@@ -16,7 +16,7 @@ use Rattle.rom_law.proofs.Moves.{quicks, Reaches, reaches_in}
 use Rattle.rom_law.specs.Program.{Program, code}
 use Rattle.rom_law.specs.Rows.{Since, Grows, Ends, now}
 use Rattle.rom_law.proofs.Places.{i_is, read_is, work_set, work_is}
-use Rattle.rom_law.proofs.Kept.{Comes}
+use Rattle.rom_law.proofs.Kept.{RunsBlock}
 use Rattle.rom_rows.specs.Heads.{page_of}
 use Rattle.rom_rows.specs.Checks.{answer_time, Caller, Calls, count_of, return_of, call_time, Answer, answer_number, IsAnswer, Checking, Comparing, Checked}
 use Rattle.rom_rows.specs.Checks.Caller.{ForDecimal, ForStore, ForRestore, ForDraw}
@@ -154,7 +154,7 @@ module _ (e : Edition) (b : Machine) (h : Since) (f : FitsMachine b) (c : Caller
           count = o.count;
         }
 
-    pub check_comes : h.spent ≡ call_time c → Comes (quick e) (calm_pieces (quick e)) (OfMemory (Check c)) b h
+    pub check_comes : h.spent ≡ call_time c → RunsBlock (quick e) (calm_pieces (quick e)) (OfMemory (Check c)) b h
     check_comes spent =
         forks (OfMemory (Check c)) o.called.holds (checking at_check b) (is_checking o) compared (not (first_df == 1)) at_nowhere at_check_game
         (omega arith) refl
@@ -225,7 +225,7 @@ module _ (e : Edition) (b : Machine) (h : Since) (f : FitsMachine b) (c : Caller
   game_high = page_of e + 256 - b.regs.r.ra.hi - (1 - game_low / 256)
 
   pub check_game_comes : (o : Comparing (quick e) c at_check_game b (now h)) → memory_start ≤ i → h.spent ≡ call_time c + 20
-      → Comes (quick e) (calm_pieces (quick e)) (OfMemory (CheckGame c)) b h
+      → RunsBlock (quick e) (calm_pieces (quick e)) (OfMemory (CheckGame c)) b h
   check_game_comes o first spent =
       forks (OfMemory (CheckGame c)) o.checking.called.holds _ (is_comparing o) (left o (game_high % 256) (game_high / 256))
       (game_high / 256 == 1) at_in_game at_check_font (omega (arith, steady o)) refl
@@ -274,7 +274,7 @@ module _ (e : Edition) (b : Machine) (h : Since) (f : FitsMachine b) (c : Caller
   high_is o = omega (arith, place o, f.regs.r.ra.lo)
 
   pub check_font_comes : (o : Comparing (quick e) c at_check_font b (now h)) → is_in_memory e i asked ≡ false → memory_start ≤ i → h.spent ≡ call_time c + 32
-      → Comes (quick e) (calm_pieces (quick e)) (OfMemory (CheckFont c)) b h
+      → RunsBlock (quick e) (calm_pieces (quick e)) (OfMemory (CheckFont c)) b h
   check_font_comes o outside first spent =
       forks (OfMemory (CheckFont c)) o.checking.called.holds _ (is_comparing o) (left o page_xor b.regs.df)
       (not (page_xor == 0)) at_nowhere at_check_low (omega arith) refl
@@ -295,7 +295,7 @@ module _ (e : Edition) (b : Machine) (h : Since) (f : FitsMachine b) (c : Caller
   font_low = (0x50 + 256 - b.regs.r.re.lo) % 256 + 256 - read (both e) b.latch b.ram work
 
   pub check_low_comes : (o : Comparing (quick e) c at_check_low b (now h)) → is_in_memory e i asked ≡ false → i / 256 ≡ 0x87
-      → h.spent ≡ call_time c + 38 → Comes (quick e) (calm_pieces (quick e)) (OfMemory (CheckLow c)) b h
+      → h.spent ≡ call_time c + 38 → RunsBlock (quick e) (calm_pieces (quick e)) (OfMemory (CheckLow c)) b h
   check_low_comes o outside page spent =
       forks (OfMemory (CheckLow c)) o.checking.called.holds _ (is_comparing o) (left o (font_low % 256) (font_low / 256))
       (not (font_low / 256 == 1)) at_nowhere at_in_font (omega (arith, steady o)) refl
@@ -334,7 +334,7 @@ module _ (e : Edition) (b : Machine) (h : Since) (f : FitsMachine b) (c : Caller
   goes_back Nowhere = reaches_in (code (quick e)) (calm_top e) 2 _ _ (omega arith) refl
 
   pub answering_comes : (answer : Answer) → Checking (quick e) c (answer_label answer) b (now h) → IsAnswer e answer i asked
-      → h.spent ≡ call_time c + answer_time answer i → Comes (quick e) (calm_pieces (quick e)) (OfMemory (Answering c answer)) b h
+      → h.spent ≡ call_time c + answer_time answer i → RunsBlock (quick e) (calm_pieces (quick e)) (OfMemory (Answering c answer)) b h
   answering_comes answer o is spent =
       reached (OfMemory (Answering c answer)) o.called.holds (answering (answer_label answer))
       (λ j. record b { regs = record b.regs { p = o.p j; r = record b.regs.r { r3 = o.r3 j; rd = o.rd j } } }) (back answer) (goes_back answer)

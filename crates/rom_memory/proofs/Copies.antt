@@ -19,7 +19,7 @@ use Rattle.rom_law.specs.Program.{code}
 use Rattle.rom_law.specs.Holding.{places, Holding}
 use Rattle.rom_law.specs.Rows.{Since, now}
 use Rattle.rom_law.proofs.Places.{i_is, i_set, v_get, v_set, memory_set}
-use Rattle.rom_law.proofs.Kept.{Comes}
+use Rattle.rom_law.proofs.Kept.{RunsBlock}
 use Rattle.rom_rows.specs.Heads.{to_stop, high_byte, low_byte, page_of, Enters}
 use Rattle.rom_rows.specs.Checks.{answer_time, Calls, Checked, Answer}
 use Rattle.rom_rows.specs.Checks.Caller.{ForStore, ForRestore}
@@ -60,7 +60,7 @@ module _ (e : Edition) (b : Machine) (h : Since) (f : FitsMachine b) where
   count_is = rw (and_mask high 4) (omega arith)
 
   pub store_comes : Enters (quick e) at_store 15 b (now h) → low_byte (now h) ≡ 0x55 → h.spent ≡ 128
-      → Comes (quick e) (calm_pieces (quick e)) (OfMemory Store) b h
+      → RunsBlock (quick e) (calm_pieces (quick e)) (OfMemory Store) b h
   store_comes o kk spent = routine (OfMemory Store) o.entered _ (omega arith) refl
       (λ h' g. to_memory (quick e) g _ refl (Check ForStore)
       (record {
@@ -79,7 +79,7 @@ module _ (e : Edition) (b : Machine) (h : Since) (f : FitsMachine b) where
       }) (omega (arith, spent, g.spent)))
 
   pub restore_comes : Enters (quick e) at_restore 15 b (now h) → low_byte (now h) ≡ 0x65 → h.spent ≡ 134
-      → Comes (quick e) (calm_pieces (quick e)) (OfMemory Restore) b h
+      → RunsBlock (quick e) (calm_pieces (quick e)) (OfMemory Restore) b h
   restore_comes o kk spent = routine (OfMemory Restore) o.entered _ (omega arith) refl
       (λ h' g. to_memory (quick e) g _ refl (Check ForRestore)
       (record {
@@ -106,7 +106,7 @@ module _ (e : Edition) (b : Machine) (h : Since) (f : FitsMachine b) where
   store_time inside k = rw (inside, k.0, k.1) refl
 
   pub store_found_comes : (answer : Answer) → Checked (quick e) ForStore answer b (now h) → h.spent ≡ 150 + answer_time answer i
-      → Comes (quick e) (calm_pieces (quick e)) (OfMemory (StoreFound answer)) b h
+      → RunsBlock (quick e) (calm_pieces (quick e)) (OfMemory (StoreFound answer)) b h
   store_found_comes InGame o spent = straight (OfMemory (StoreFound InGame)) o.called.holds _ (is_resumed o) _ (omega arith) refl
       (λ h' g. to_memory (quick e) g _ refl (StoreByte 0) (
         record {
@@ -181,7 +181,7 @@ module _ (e : Edition) (b : Machine) (h : Since) (f : FitsMachine b) where
   check_some outside = rw outside refl
 
   pub restore_found_comes : (answer : Answer) → Checked (quick e) ForRestore answer b (now h) → h.spent ≡ 156 + answer_time answer i
-      → Comes (quick e) (calm_pieces (quick e)) (OfMemory (RestoreFound answer)) b h
+      → RunsBlock (quick e) (calm_pieces (quick e)) (OfMemory (RestoreFound answer)) b h
   restore_found_comes InGame o spent =
       straight (OfMemory (RestoreFound InGame)) o.called.holds _ (is_resumed o) begun (omega arith) refl
       (λ h' g. to_memory (quick e) g begun refl (RestoreByte 0) (begins o (rw o.is refl)) (omega (arith, spent, g.spent, check_none o.is)))
@@ -267,7 +267,7 @@ module _ (e : Edition) (b : Machine) (h : Since) (f : FitsMachine b) where
             ∙ stored_next (now h).memory (i - memory_start) (now h).v k (omega (arith, small, v_length o.holds))
 
   pub store_byte_comes : (k : ℕ) → Copying (quick e) ForStore at_store_byte (stored_to k (now h)) b (now h) → Turn (quick e) k b (now h)
-      → is_in_memory e i (last + 1) ≡ true → h.spent ≡ 192 + 12 * k → Comes (quick e) (calm_pieces (quick e)) (OfMemory (StoreByte k)) b h
+      → is_in_memory e i (last + 1) ≡ true → h.spent ≡ 192 + 12 * k → RunsBlock (quick e) (calm_pieces (quick e)) (OfMemory (StoreByte k)) b h
   store_byte_comes k o t fits spent =
       forks (OfMemory (StoreByte k)) o.holds (turning at_store_byte k)
       (λ j. record b { regs = record b.regs { p = o.p j; r = record b.regs.r { r3 = o.r3 j; r4 = o.r4 j; rd = t.rd j } } })
@@ -301,7 +301,7 @@ module _ (e : Edition) (b : Machine) (h : Since) (f : FitsMachine b) where
       (omega (arith, spent, g.spent, none_left t n)))
 
   pub store_end_comes : Copying (quick e) ForStore at_store_end (stored_to (last + 1) (now h)) b (now h) → is_in_memory e i (last + 1) ≡ true → h.spent ≡ 204 + 12 * last
-      → Comes (quick e) (calm_pieces (quick e)) (OfMemory StoreEnd) b h
+      → RunsBlock (quick e) (calm_pieces (quick e)) (OfMemory StoreEnd) b h
   store_end_comes o fits spent =
       straight (OfMemory StoreEnd) o.holds (ending at_store_end)
       (λ j. record b { regs = record b.regs { p = o.p j; r = record b.regs.r { r3 = o.r3 j; r4 = o.r4 j } } }) _ (omega arith) refl
@@ -344,7 +344,7 @@ module _ (e : Edition) (b : Machine) (h : Since) (f : FitsMachine b) where
 
   pub restore_byte_comes : (k : ℕ) → Copying (quick e) ForRestore at_restore_byte (fetched_to k (now h)) b (now h) → Turn (quick e) k b (now h)
       → is_readable e i (last + 1) ≡ true → h.spent ≡ 200 + check_cycles e (now h) (last + 1) + 12 * k
-      → Comes (quick e) (calm_pieces (quick e)) (OfMemory (RestoreByte k)) b h
+      → RunsBlock (quick e) (calm_pieces (quick e)) (OfMemory (RestoreByte k)) b h
   restore_byte_comes k o t fits spent =
       forks (OfMemory (RestoreByte k)) o.holds (turning at_restore_byte k)
       (λ j. record b { regs = record b.regs { p = o.p j; r = record b.regs.r { r3 = o.r3 j; r4 = o.r4 j; rd = t.rd j } } })
@@ -378,7 +378,7 @@ module _ (e : Edition) (b : Machine) (h : Since) (f : FitsMachine b) where
       (omega (arith, spent, g.spent, none_left t n)))
 
   pub restore_end_comes : Copying (quick e) ForRestore at_restore_end (fetched_to (last + 1) (now h)) b (now h) → is_readable e i (last + 1) ≡ true
-      → h.spent ≡ 212 + check_cycles e (now h) (last + 1) + 12 * last → Comes (quick e) (calm_pieces (quick e)) (OfMemory RestoreEnd) b h
+      → h.spent ≡ 212 + check_cycles e (now h) (last + 1) + 12 * last → RunsBlock (quick e) (calm_pieces (quick e)) (OfMemory RestoreEnd) b h
   restore_end_comes o fits spent =
       straight (OfMemory RestoreEnd) o.holds (ending at_restore_end)
       (λ j. record b { regs = record b.regs { p = o.p j; r = record b.regs.r { r3 = o.r3 j; r4 = o.r4 j } } }) _ (omega arith) refl

@@ -19,7 +19,7 @@ use Rattle.rom_law.specs.Program.{Program, code}
 use Rattle.rom_law.specs.Holding.{Places, places, Holding}
 use Rattle.rom_law.specs.Rows.{Since, now}
 use Rattle.rom_law.proofs.Places.{i_is, memory_set}
-use Rattle.rom_law.proofs.Kept.{Comes}
+use Rattle.rom_law.proofs.Kept.{RunsBlock}
 use Rattle.rom_rows.specs.Heads.{to_stop, high_byte, low_byte, Enters}
 use Rattle.rom_rows.specs.Checks.{Calls, Checked, Answer, answer_time}
 use Rattle.rom_rows.specs.Checks.Caller.{ForDecimal}
@@ -68,7 +68,7 @@ module _ (e : Edition) (b : Machine) (h : Since) (f : FitsMachine b) where
   -- ---- up to the loops
 
   pub decimal_comes : Enters (quick e) at_decimal 15 b (now h) → low_byte (now h) ≡ 0x33 → h.spent ≡ 122
-      → Comes (quick e) (calm_pieces (quick e)) (OfMemory Decimal) b h
+      → RunsBlock (quick e) (calm_pieces (quick e)) (OfMemory Decimal) b h
   decimal_comes o kk spent = routine (OfMemory Decimal) o.entered _ (omega arith) refl
       (λ h' g. to_memory (quick e) g _ refl (Check ForDecimal)
       (record {
@@ -87,7 +87,7 @@ module _ (e : Edition) (b : Machine) (h : Since) (f : FitsMachine b) where
       }) (omega (arith, spent, g.spent)))
 
   pub decimal_found_comes : (answer : Answer) → Checked (quick e) ForDecimal answer b (now h) → h.spent ≡ 140 + answer_time answer i
-      → Comes (quick e) (calm_pieces (quick e)) (OfMemory (DecimalFound answer)) b h
+      → RunsBlock (quick e) (calm_pieces (quick e)) (OfMemory (DecimalFound answer)) b h
   decimal_found_comes InGame o spent =
       straight (OfMemory (DecimalFound InGame)) o.called.holds _ (is_resumed o) _ (omega (arith, o.called.holds.stack, stack_top_is e)) refl
       (λ h' g. to_memory (quick e) g _ refl (Hundreds 0) (
@@ -155,7 +155,7 @@ module _ (e : Edition) (b : Machine) (h : Since) (f : FitsMachine b) where
         }
 
   pub hundreds_comes : (k : ℕ) → Dividing (quick e) at_hundreds k 0 (vx - k * 100) b (now h) → k * 100 ≤ vx → h.spent ≡ 190 + 6 * k
-      → Comes (quick e) (calm_pieces (quick e)) (OfMemory (Hundreds k)) b h
+      → RunsBlock (quick e) (calm_pieces (quick e)) (OfMemory (Hundreds k)) b h
   hundreds_comes k o left spent =
       forks (OfMemory (Hundreds k)) o.called.holds (on_3 at_hundreds b) (is_on_3 at_hundreds b o.p o.r3) (lowered o 100 (up b.regs.r.rd) b.regs.r.re)
       (lessened o 100 / 256 == 1) at_hundreds at_hundreds_end (omega arith) refl
@@ -169,7 +169,7 @@ module _ (e : Edition) (b : Machine) (h : Since) (f : FitsMachine b) where
       (omega (arith, spent, g.spent, o.rd, all.0, fits o, left)))
 
   pub hundreds_end_comes : Dividing (quick e) at_hundreds_end (vx / 100 + 1) 0 (vx % 100 + 156) b (now h) → h.spent ≡ 196 + 6 * (vx / 100)
-      → Comes (quick e) (calm_pieces (quick e)) (OfMemory HundredsEnd) b h
+      → RunsBlock (quick e) (calm_pieces (quick e)) (OfMemory HundredsEnd) b h
   hundreds_end_comes o spent = straight (OfMemory HundredsEnd) o.called.holds (on_3 at_hundreds_end b) (is_on_3 at_hundreds_end b o.p o.r3) _ (omega arith) refl
       (λ h' g. to_memory (quick e) g _ refl (Tens 0) (
         record {
@@ -193,7 +193,7 @@ module _ (e : Edition) (b : Machine) (h : Since) (f : FitsMachine b) where
       ) (omega (arith, spent, g.spent)))
 
   pub tens_comes : (k : ℕ) → Dividing (quick e) at_tens (vx / 100) k (vx % 100 - k * 10) b (now h) → k * 10 ≤ vx % 100 → h.spent ≡ 200 + 6 * (vx / 100) + 6 * k
-      → Comes (quick e) (calm_pieces (quick e)) (OfMemory (Tens k)) b h
+      → RunsBlock (quick e) (calm_pieces (quick e)) (OfMemory (Tens k)) b h
   tens_comes k o left spent =
       forks (OfMemory (Tens k)) o.called.holds (on_3 at_tens b) (is_on_3 at_tens b o.p o.r3) (lowered o 10 b.regs.r.rd (up b.regs.r.re))
       (lessened o 10 / 256 == 1) at_tens at_tens_end (omega arith) refl
@@ -227,7 +227,7 @@ module _ (e : Edition) (b : Machine) (h : Since) (f : FitsMachine b) where
       }
 
   pub tens_end_comes : Dividing (quick e) at_tens_end (vx / 100) (vx / 10 % 10 + 1) (vx % 10 + 246) b (now h)
-      → h.spent ≡ 206 + 6 * (vx / 100 + vx / 10 % 10) → Comes (quick e) (calm_pieces (quick e)) (OfMemory TensEnd) b h
+      → h.spent ≡ 206 + 6 * (vx / 100 + vx / 10 % 10) → RunsBlock (quick e) (calm_pieces (quick e)) (OfMemory TensEnd) b h
   tens_end_comes o spent =
       straight (OfMemory TensEnd) o.called.holds ending
       (λ j. record b { regs = record b.regs { p = o.p j; r = record b.regs.r { r3 = o.r3 j; r4 = o.called.r4 j; rc = o.rc j } } }) _

@@ -11,7 +11,7 @@ use Rattle.chip8_image.specs.Labels.{at_fetch, at_leave83}
 use Rattle.rom_law.proofs.Moves.{Reaches}
 use Rattle.rom_law.specs.Program.{code}
 use Rattle.rom_law.specs.Rows.{Since, now}
-use Rattle.rom_law.proofs.Kept.{Comes}
+use Rattle.rom_law.proofs.Kept.{RunsBlock}
 use Rattle.rom_rows.specs.Heads.{to_stop, high_byte, page_of}
 use Rattle.rom_rows.specs.FetchBlocks.FetchBlock.{Leave}
 use Rattle.rom_rows.specs.Checks.{Caller, return_of, Answer, answer_number, Checked}
@@ -49,7 +49,7 @@ module _ {e : Edition} {b : Machine} {c : Caller} {answer : Answer} where
   -- the bytes may not be used
   pub refused : {h : Since} (l : Block) (stop : Stop) → Checked (quick e) c answer b (now h) → stop_of e (now h) ≡ Some stop
       → Reaches (code (quick e)) (calm_top e) (moves l) (resumed e c (high_byte (now h)) (answer_number answer) b)
-      (refusing e c (high_byte (now h)) stop b) → h.spent + 2 * moves l + 22 ≡ to_stop (quick e) (now h) → Comes (quick e) (calm_pieces (quick e)) l b h
+      (refusing e c (high_byte (now h)) stop b) → h.spent + 2 * moves l + 22 ≡ to_stop (quick e) (now h) → RunsBlock (quick e) (calm_pieces (quick e)) l b h
   refused l stop o fits reaches spent =
       reached l o.called.holds _ (is_resumed o) _ reaches
       (λ h' g. to_fetch (quick e) g _ refl (Leave 2)

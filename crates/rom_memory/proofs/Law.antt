@@ -3,7 +3,7 @@ use Rattle.machine.specs.Board.{Machine}
 use Rattle.machine.specs.Ranges.{FitsMachine}
 use Rattle.chip8_lang.specs.declared.view.Edition.{Edition}
 use Rattle.rom_law.specs.Rows.{Since}
-use Rattle.rom_law.proofs.Kept.{Comes}
+use Rattle.rom_law.proofs.Kept.{RunsBlock}
 use Rattle.rom_rows.specs.MemoryBlocks.{MemoryBlock}
 use Rattle.rom_rows.specs.MemoryBlocks.MemoryBlock.{Index, AddIndex, Digit, Check, CheckGame, CheckFont, CheckLow, Answering, Decimal, DecimalFound, Hundreds, HundredsEnd, Tens, TensEnd, Store, StoreFound, StoreByte, StoreEnd, Restore, RestoreFound, RestoreByte, RestoreEnd}
 use Rattle.rom_rows.specs.Table.{Head, calm_pieces}
@@ -18,7 +18,7 @@ use Rattle.rom_memory.proofs.Copies.{store_comes, store_found_comes, store_byte_
 use Rattle.rom_memory.specs.Code.{memory_rom}
 
 pub memory_block : (e : Edition) (l : MemoryBlock) (b : Machine) (h : Since) → FitsMachine b → Head (quick e) (OfMemory l) b h
-    → Comes (quick e) (calm_pieces (quick e)) (OfMemory l) b h
+    → RunsBlock (quick e) (calm_pieces (quick e)) (OfMemory l) b h
 memory_block e Index b h f o = index_comes e b h f o.0 o.1
 memory_block e AddIndex b h f o = add_index_comes e b h f o.0.0 o.0.1 o.1
 memory_block e Digit b h f o = digit_comes e b h f o.0.0 o.0.1 o.1

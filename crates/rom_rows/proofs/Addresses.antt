@@ -11,7 +11,7 @@ use Rattle.rom_law.specs.Code.{Code}
 use Rattle.rom_law.proofs.Moves.{quicks}
 use Rattle.rom_law.specs.Program.{Program, code}
 use Rattle.rom_law.specs.Rows.{Since}
-use Rattle.rom_law.proofs.Kept.{Comes, block_at}
+use Rattle.rom_law.proofs.Kept.{RunsBlock, block_at}
 use Rattle.rom_rows.specs.Rom.{program_of}
 use Rattle.rom_rows.specs.Table.{Block, Head, moves, pieces, calm_pieces}
 use Rattle.rom_rows.specs.Addresses.{RunsAt, IsIn, begins, areas_with_blocks, Covers}
@@ -45,7 +45,7 @@ pub record Follows (x : Program) (l : Block) (addresses : List ℕ) (b : Machine
   pub follows : follows (code x) addresses (moves l) same ≡ true
 
 pub runs_at_in : (e : Edition) {rom last : List ℕ} → rom ≡ last → FitsRom rom → (l : Block) (addresses : List ℕ)
-    → ((b : Machine) (h : Since) → FitsMachine b → Head (program_of e rom) l b h → Comes (program_of e rom) (pieces (program_of e rom)) l b h)
+    → ((b : Machine) (h : Since) → FitsMachine b → Head (program_of e rom) l b h → RunsBlock (program_of e rom) (pieces (program_of e rom)) l b h)
     → ((b : Machine) (h : Since) → Head (program_of e rom) l b h → Follows (program_of e rom) l addresses b) → RunsAt (program_of e last) l addresses
 runs_at_in e {rom = rom} same fits l addresses comes goes =
     subst (λ rom. RunsAt (program_of e rom) l addresses) same
@@ -56,7 +56,7 @@ runs_at_in e {rom = rom} same fits l addresses comes goes =
 
 -- the same of the calm pieces
 pub runs_at : (e : Edition) {rom last : List ℕ} → rom ≡ last → FitsRom rom → (l : Block) (addresses : List ℕ)
-    → ((b : Machine) (h : Since) → FitsMachine b → Head (program_of e rom) l b h → Comes (program_of e rom) (calm_pieces (program_of e rom)) l b h)
+    → ((b : Machine) (h : Since) → FitsMachine b → Head (program_of e rom) l b h → RunsBlock (program_of e rom) (calm_pieces (program_of e rom)) l b h)
     → ((b : Machine) (h : Since) → Head (program_of e rom) l b h → Follows (program_of e rom) l addresses b) → RunsAt (program_of e last) l addresses
 runs_at e same fits l addresses comes goes = runs_at_in e same fits l addresses (λ b h f head. comes_calm (comes b h f head)) goes
 

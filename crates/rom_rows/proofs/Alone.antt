@@ -13,7 +13,7 @@ use Rattle.rom_law.specs.Holding.{places, Holding}
 use Rattle.rom_law.specs.Moments.{Meets, Sees}
 use Rattle.rom_law.specs.Program.{code}
 use Rattle.rom_law.specs.Rows.{Since, Grows, Ends, after_main}
-use Rattle.rom_law.proofs.Kept.{Holds}
+use Rattle.rom_law.proofs.Kept.{RunsPlace}
 use Rattle.rom_rows.specs.Rom.{program_of}
 use Rattle.rom_rows.specs.Table.{Place, At, calm_pieces}
 use Rattle.rom_rows.proofs.Entry.{ready}
@@ -36,7 +36,7 @@ pub alone : {e : Edition} {rom : List ℕ} {b : Machine} {h : Since} {s : Lang} 
     → Holding (program_of e rom) (places b) s → (c : Machine) → b ≡ c → reads_flags (kind_of (opcode_in (code (program_of e rom)) c)) ≡ false
     → in_rom (get c.regs.r c.regs.p) ≡ true → cycles_of (opcode_in (code (program_of e rom)) c) ≡ 2
     → ((u : Input) → Ends (program_of e rom) (calm_pieces (program_of e rom)) (quicks (code (program_of e rom)) 1 c) (after_main u h))
-    → Holds (program_of e rom) (calm_pieces (program_of e rom)) l b h
+    → RunsPlace (program_of e rom) (calm_pieces (program_of e rom)) l b h
 alone {e = e} {rom = rom} {b = b} {h = h} l f at o c is flags inside two ends =
     record {
       runs = ready o;
@@ -58,7 +58,7 @@ pub alone_forks : {e : Edition} {rom : List ℕ} {b : Machine} {h : Since} {s : 
     → ((u : Input) → quick_by (code (program_of e rom)) (flags_in u d) d ≡ c (cond (t u) (word_of target) (word_of other)))
     → ((u : Input) → t u ≡ true → Ends (program_of e rom) (calm_pieces (program_of e rom)) (c (word_of target)) (after_main u h))
     → ((u : Input) → t u ≡ false → Ends (program_of e rom) (calm_pieces (program_of e rom)) (c (word_of other)) (after_main u h))
-    → Holds (program_of e rom) (calm_pieces (program_of e rom)) l b h
+    → RunsPlace (program_of e rom) (calm_pieces (program_of e rom)) l b h
 alone_forks {e = e} {rom = rom} {b = b} {h = h} l f at o d is inside two c t target other goes on off =
     record {
       runs = ready o;

@@ -7,7 +7,7 @@ use Rattle.chip8_lang.specs.State.{Lang}
 use Rattle.rom_law.proofs.Moves.{AllGood, quicks}
 use Rattle.rom_law.specs.Program.{code}
 use Rattle.rom_law.specs.Rows.{Since, Grows, Ends, now}
-use Rattle.rom_law.proofs.Kept.{Comes}
+use Rattle.rom_law.proofs.Kept.{RunsBlock}
 use Rattle.rom_rows.specs.Rom.{program_of}
 use Rattle.rom_rows.specs.Heads.{high_byte, low_byte, Entered}
 use Rattle.rom_rows.specs.Table.{Block, moves, calm_top, calm_pieces}
@@ -22,10 +22,10 @@ pub branch : {e : Edition} {rom : List ℕ} {b : Machine} {h : Since} {a : ℕ} 
     → quicks (code (program_of e rom)) (moves l) (entered e a (high_byte (now h)) (low_byte (now h)) b) ≡ c (cond t (word_of there) (word_of on))
     → (t ≡ true → (h' : Since) → Grows h (moves l) 0 h' → Ends (program_of e rom) (calm_pieces (program_of e rom)) (c (word_of there)) h')
     → (t ≡ false → (h' : Since) → Grows h (moves l) 0 h' → Ends (program_of e rom) (calm_pieces (program_of e rom)) (c (word_of on)) h')
-    → Comes (program_of e rom) (calm_pieces (program_of e rom)) l b h
+    → RunsBlock (program_of e rom) (calm_pieces (program_of e rom)) l b h
 branch {e = e} {rom = rom} {b = b} {h = h} l o c t there on good is met other = go t refl
   where
-    go : (u : Bool) → t ≡ u → Comes (program_of e rom) (calm_pieces (program_of e rom)) l b h
+    go : (u : Bool) → t ≡ u → RunsBlock (program_of e rom) (calm_pieces (program_of e rom)) l b h
     go true k = routine l o (c (word_of there)) good (is ∙ ap (λ u. c (cond u (word_of there) (word_of on))) k) (met k)
     go false k = routine l o (c (word_of on)) good (is ∙ ap (λ u. c (cond u (word_of there) (word_of on))) k) (other k)
 

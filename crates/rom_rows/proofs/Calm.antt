@@ -7,7 +7,7 @@ use Rattle.rom_law.specs.Rows.{Since, InBlock, Row, Starts, Ends, after_main, af
 use Rattle.rom_law.specs.Rows.Ends.{Continues, Steps, Fails}
 use Rattle.rom_law.specs.Rows.Row.{Inside, Alone}
 use Rattle.rom_law.specs.Rows.Starts.{Enters, Meets}
-use Rattle.rom_law.proofs.Kept.{Comes, Holds}
+use Rattle.rom_law.proofs.Kept.{RunsBlock, RunsPlace}
 use Rattle.rom_rows.specs.Table.{Block, Place, moves, pieces, calm_pieces}
 
 pub calm_in : (x : Program) {l : Block} {b : Machine} {h : Since} → InBlock x (calm_pieces x) l b h → InBlock x (pieces x) l b h
@@ -27,7 +27,7 @@ module _ (x : Program) (b : Machine) (h : Since) where
   row_calm (Inside l r) = Inside l (calm_in x r)
   row_calm (Alone l at) = Alone l at
 
-pub comes_calm : {x : Program} {l : Block} {b : Machine} {h : Since} → Comes x (calm_pieces x) l b h → Comes x (pieces x) l b h
+pub comes_calm : {x : Program} {l : Block} {b : Machine} {h : Since} → RunsBlock x (calm_pieces x) l b h → RunsBlock x (pieces x) l b h
 comes_calm {x = x} {l = l} {b = b} {h = h} c =
     record {
       runs = c.runs;
@@ -38,7 +38,7 @@ comes_calm {x = x} {l = l} {b = b} {h = h} c =
       ends = λ h' g. ends_calm x c.end h' (c.ends h' g);
     }
 
-pub holds_calm : {x : Program} {l : Place} {b : Machine} {h : Since} → Holds x (calm_pieces x) l b h → Holds x (pieces x) l b h
+pub holds_calm : {x : Program} {l : Place} {b : Machine} {h : Since} → RunsPlace x (calm_pieces x) l b h → RunsPlace x (pieces x) l b h
 holds_calm {x = x} {b = b} {h = h} o =
     record {
       runs = o.runs;

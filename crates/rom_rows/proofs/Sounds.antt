@@ -11,7 +11,7 @@ use Rattle.chip8_lang.specs.State.{Lang}
 use Rattle.rom_law.specs.Program.{Program, code}
 use Rattle.rom_law.specs.Rows.{Since, now, after_ticks}
 use Rattle.rom_law.proofs.Language.{ticks_add}
-use Rattle.rom_law.proofs.Kept.{Comes, Holds, Sound, block_moves, place_moves, place_ticks}
+use Rattle.rom_law.proofs.Kept.{RunsBlock, RunsPlace, Sound, block_moves, place_moves, place_ticks}
 use Rattle.rom_rows.specs.Rom.{program_of}
 use Rattle.rom_rows.specs.Heads.{Time, Within}
 use Rattle.rom_rows.specs.Heads.Time.{Exactly, Left, Waited, Met, Seen, Searching, Looking, Freed}
@@ -257,7 +257,7 @@ module _ (e : Edition) {rom last : List ℕ} (is : rom ≡ last) (fits : FitsRom
 
   -- the rows of a block, where each machine at its head comes to what it should
   pub block_rows_in : (l : Block)
-      → ((b : Machine) (h : Since) → FitsMachine b → Head (program_of e rom) l b h → Comes (program_of e rom) (pieces (program_of e rom)) l b h)
+      → ((b : Machine) (h : Since) → FitsMachine b → Head (program_of e rom) l b h → RunsBlock (program_of e rom) (pieces (program_of e rom)) l b h)
       → BlockRows (program_of e last) l
   block_rows_in l comes =
       subst (λ rom. BlockRows (program_of e rom) l) is
@@ -265,7 +265,7 @@ module _ (e : Edition) {rom last : List ℕ} (is : rom ≡ last) (fits : FitsRom
 
   -- the rows of a place, where each machine at it comes to what it should
   pub place_rows_in : (l : AnyPlace)
-      → ((b : Machine) (h : Since) → FitsMachine b → At (program_of e rom) l b h → Holds (program_of e rom) (pieces (program_of e rom)) l b h)
+      → ((b : Machine) (h : Since) → FitsMachine b → At (program_of e rom) l b h → RunsPlace (program_of e rom) (pieces (program_of e rom)) l b h)
       → ((b : Machine) (h : Since) → At (program_of e rom) l b h → b.regs.idle ≡ false) → PlaceRows (program_of e last) l
   place_rows_in l holds awake =
       subst (λ rom. PlaceRows (program_of e rom) l) is
@@ -273,7 +273,7 @@ module _ (e : Edition) {rom last : List ℕ} (is : rom ≡ last) (fits : FitsRom
 
   -- the rows of a place, where each machine at it comes to what it should
   pub awake_rows_in : (l : AnyPlace)
-      → ((b : Machine) (h : Since) → FitsMachine b → At (program_of e rom) l b h → Holds (program_of e rom) (pieces (program_of e rom)) l b h)
+      → ((b : Machine) (h : Since) → FitsMachine b → At (program_of e rom) l b h → RunsPlace (program_of e rom) (pieces (program_of e rom)) l b h)
       → AwakeRows (program_of e last) l
   awake_rows_in l holds =
       subst (λ rom. AwakeRows (program_of e rom) l) is
@@ -281,7 +281,7 @@ module _ (e : Edition) {rom last : List ℕ} (is : rom ≡ last) (fits : FitsRom
 
   -- and ticks there
   pub tick_rows_in : (l : AnyPlace)
-      → ((b : Machine) (h : Since) → FitsMachine b → At (program_of e rom) l b h → Holds (program_of e rom) (pieces (program_of e rom)) l b h)
+      → ((b : Machine) (h : Since) → FitsMachine b → At (program_of e rom) l b h → RunsPlace (program_of e rom) (pieces (program_of e rom)) l b h)
       → TickRows (program_of e last) l
   tick_rows_in l holds =
       subst (λ rom. TickRows (program_of e rom) l) is
@@ -290,10 +290,10 @@ module _ (e : Edition) {rom last : List ℕ} (is : rom ≡ last) (fits : FitsRom
   -- ---- of the calm pieces
 
   pub block_rows : (l : Block) → ((b : Machine) (h : Since) → FitsMachine b → Head (program_of e rom) l b h
-      → Comes (program_of e rom) (calm_pieces (program_of e rom)) l b h) → BlockRows (program_of e last) l
+      → RunsBlock (program_of e rom) (calm_pieces (program_of e rom)) l b h) → BlockRows (program_of e last) l
   block_rows l comes = block_rows_in l (λ b h f head. comes_calm (comes b h f head))
 
   pub place_rows : (l : AnyPlace)
-      → ((b : Machine) (h : Since) → FitsMachine b → At (program_of e rom) l b h → Holds (program_of e rom) (calm_pieces (program_of e rom)) l b h)
+      → ((b : Machine) (h : Since) → FitsMachine b → At (program_of e rom) l b h → RunsPlace (program_of e rom) (calm_pieces (program_of e rom)) l b h)
       → ((b : Machine) (h : Since) → At (program_of e rom) l b h → b.regs.idle ≡ false) → PlaceRows (program_of e last) l
   place_rows l holds awake = place_rows_in l (λ b h f at. holds_calm (holds b h f at)) awake

@@ -5,7 +5,7 @@ use Rattle.chip8_lang.specs.declared.view.Edition.{Edition}
 use Rattle.rom_law.proofs.Moves.{AllGood, quicks, reaches_in, reaches_from}
 use Rattle.rom_law.specs.Program.{code}
 use Rattle.rom_law.specs.Rows.{Since, Grows, Ends, now}
-use Rattle.rom_law.proofs.Kept.{Comes}
+use Rattle.rom_law.proofs.Kept.{RunsBlock}
 use Rattle.rom_rows.specs.Rom.{program_of}
 use Rattle.rom_rows.specs.Heads.{high_byte, low_byte, Entered}
 use Rattle.rom_rows.specs.Table.{Block, moves, calm_top, calm_pieces}
@@ -17,7 +17,7 @@ pub routine : {e : Edition} {rom : List ℕ} {b : Machine} {h : Since} {a : ℕ}
     → AllGood (code (program_of e rom)) (calm_top e) (moves l) (entered e a (high_byte (now h)) (low_byte (now h)) b)
     → quicks (code (program_of e rom)) (moves l) (entered e a (high_byte (now h)) (low_byte (now h)) b) ≡ c
     → ((h' : Since) → Grows h (moves l) 0 h' → Ends (program_of e rom) (calm_pieces (program_of e rom)) c h')
-    → Comes (program_of e rom) (calm_pieces (program_of e rom)) l b h
+    → RunsBlock (program_of e rom) (calm_pieces (program_of e rom)) l b h
 routine {e = e} {rom = rom} {b = b} l o c good is ends =
     record {
       runs = ready o.holds;

@@ -9,7 +9,7 @@ use Rattle.rom_law.specs.Rows.{Since, Grows, InBlock, Row, Starts, Ends, now}
 use Rattle.rom_law.specs.Rows.Ends.{Continues, Steps, Fails}
 use Rattle.rom_law.specs.Rows.Row.{Inside, Alone}
 use Rattle.rom_law.specs.Rows.Starts.{Enters, Meets}
-use Rattle.rom_law.proofs.Kept.{Comes, Sound}
+use Rattle.rom_law.proofs.Kept.{RunsBlock, Sound}
 use Rattle.rom_law.proofs.Steps.{now_same}
 use Rattle.rom_rows.specs.Rom.{program_of}
 use Rattle.rom_rows.specs.Heads.{Within}
@@ -41,8 +41,8 @@ module _ (x : Program) (b : Machine) (h : Since) where
   row_joined (Inside l r) = Inside (OfSprite l.0) (joined x r)
   row_joined (Alone l at) = absurd at
 
-pub comes_joined : {x : Program} {l : SpriteBlock} {w : IsWaited l} {b : Machine} {h : Since} → Comes x (waited_pieces x) (l, w) b h
-    → Comes x (pieces x) (OfSprite l) b h
+pub comes_joined : {x : Program} {l : SpriteBlock} {w : IsWaited l} {b : Machine} {h : Since} → RunsBlock x (waited_pieces x) (l, w) b h
+    → RunsBlock x (pieces x) (OfSprite l) b h
 comes_joined {x = x} c =
     record { runs = c.runs; awake = c.awake; some = c.some; end = c.end; reaches = c.reaches; ends = λ h' g. ends_joined x c.end h' (c.ends h' g) }
 

@@ -2,7 +2,7 @@
 use Rattle.std.specs.Prelude.{◌≡◌, ℕ, suc, ◌+◌, ◌*◌, ◌%◌, ◌<◌, Bool, true, false, List, [], ◌∷◌, ◌++◌, length, slice_index, Some}
 use Rattle.machine.specs.Board.{Machine}
 use Rattle.chip8_lang.specs.declared.instr.Instr.{Instr}
-use Rattle.chip8_lang.specs.declared.instr.Instr.TheVariants.{SkipEq as IsSkipEq, SkipNe as IsSkipNe, SkipSame as IsSkipSame, SkipDiffer as IsSkipDiffer, Or, And, Xor, Sum, Less, Right, From, Left}
+use Rattle.chip8_lang.specs.declared.instr.Instr.TheVariants.{SkipEq as IsSkipEq, SkipNe as IsSkipNe, SkipSame as IsSkipSame, SkipDiffer as IsSkipDiffer, Or, And, Xor, Sum, Sub, Right, SubN, Left}
 use Rattle.chip8_lang.specs.declared.view.Stop.TheVariants.{MachineCall, Unknown, StackFull, StackEmpty}
 use Rattle.chip8_lang.specs.State.{Lang, instr_at}
 use Rattle.chip8_lang.specs.Step.{skip_if, set_with_flag, step}
@@ -74,9 +74,9 @@ has_shared_end (Or x y) = true
 has_shared_end (And x y) = true
 has_shared_end (Xor x y) = true
 has_shared_end (Sum x y) = true
-has_shared_end (Less x y) = true
+has_shared_end (Sub x y) = true
 has_shared_end (Right x y) = true
-has_shared_end (From x y) = true
+has_shared_end (SubN x y) = true
 has_shared_end (Left x y) = true
 has_shared_end _ = false
 

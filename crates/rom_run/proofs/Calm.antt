@@ -19,7 +19,7 @@ use Rattle.rom_law.specs.Program.{code, Dispatches}
 use Rattle.rom_law.specs.Rows.{Since, InBlock, Row, Outcome, now, dispatched, after_main, after_tick}
 use Rattle.rom_law.specs.Rows.Row.{Inside, Alone}
 use Rattle.rom_law.specs.Rows.Starts.{Enters}
-use Rattle.rom_law.proofs.Kept.{Comes, starts_row, block_moves, block_ticks, block_cycle, block_above, block_above_next, block_writes, block_awake, place_moves, place_ticks, at_cycle}
+use Rattle.rom_law.proofs.Kept.{RunsBlock, starts_row, block_moves, block_ticks, block_cycle, block_above, block_above_next, block_writes, block_awake, place_moves, place_ticks, at_cycle}
 use Rattle.rom_law.proofs.Places.{holding, range_same}
 use Rattle.rom_rows.specs.FetchBlocks.FetchBlock.{Fetch}
 use Rattle.rom_rows.specs.KeyBlocks.KeyPlace.{SkipTest, KeyTest, KeyHeld}
@@ -73,7 +73,7 @@ module _ (e : Edition) where
   row_shows b h same px py l m = same px py l m ∙ ap (λ z. z px py) (ticks_screen h.ticks h.state)
 
   module _ {l : (calm_pieces (quick e)).Block} {b : Machine} {h : Since} (r : InBlock (quick e) (calm_pieces (quick e)) l b h) where
-    comes : Comes (quick e) (calm_pieces (quick e)) l r.start r.since
+    comes : RunsBlock (quick e) (calm_pieces (quick e)) l r.start r.since
     comes = calm_block e l r.head.1 r.start r.since r.fits r.head.0
 
     start_shows : Showing e r.start h

@@ -23,21 +23,21 @@ use Rattle.rom_run.proofs.Time.{IsEndless, IsEndlessAt, unbounded, is_free, head
 
 -- on the way to its loop; in the loop that waits for a key to go down; where it waits for that key to go up; or behind that
 pub data KeyRow (e : Edition) (b : Machine) (h : Since) : Type 0 where
-  Comes : h.spent ≤ 354 → KeyRow e b h
+  Approaches : h.spent ≤ 354 → KeyRow e b h
   Seeks : Scans (vip e) b h → KeyRow e b h
   Holds : (turn looks : ℕ) → At (vip e) (AtKey (KeyHeld turn looks)) b h → KeyRow e b h
   Leaves : (turn looks : ℕ) → InBlock (vip e) (pieces (vip e)) (OfKey (KeyFreed turn looks)) b h → KeyRow e b h
 
 module _ (e : Edition) (b : Machine) (h : Since) (free : bound_of e h.state ≡ None) where
   block_row : (l : Block) (r : InBlock (vip e) (pieces (vip e)) l b h) → (r.since.spent + 2 * moves l ≤ 354) ⊎ IsEndless e l → KeyRow e b h
-  block_row l r (inl s) = Comes (omega (arith, s, r.grows.spent, r.inside))
+  block_row l r (inl s) = Approaches (omega (arith, s, r.grows.spent, r.inside))
   block_row (OfKey (KeyNext turn)) r (inr o) = Seeks (UpTo turn r)
   block_row (OfKey (KeyCount turn)) r (inr o) = Seeks (BehindTest turn r)
   block_row (OfKey (KeyFreed turn looks)) r (inr o) = Leaves turn looks r
   block_row _ r (inr o) = absurd o
 
   place_row : (l : Place) → At (vip e) l b h → (h.spent + 2 * 1 ≤ 354) ⊎ IsEndlessAt e l → KeyRow e b h
-  place_row l o (inl s) = Comes (omega (arith, s))
+  place_row l o (inl s) = Approaches (omega (arith, s))
   place_row (AtKey (KeyTest turn)) o (inr _) = Seeks (AtTest turn o)
   place_row (AtKey (KeyHeld turn looks)) o (inr _) = Holds turn looks o
   place_row _ o (inr n) = absurd n

@@ -7,7 +7,7 @@ use Rattle.chip8_lang.specs.declared.view.Edition.{Edition}
 use Rattle.chip8_lang.specs.declared.view.Edition.TheVariants.{Usual, Tall}
 use Rattle.rom_law.specs.Program.{code}
 use Rattle.rom_law.specs.Rows.{Since, Starts, after_tick}
-use Rattle.rom_law.proofs.Kept.{Comes, Holds}
+use Rattle.rom_law.proofs.Kept.{RunsBlock, RunsPlace}
 use Rattle.rom_rows.specs.Rom.{image, program_of}
 use Rattle.rom_rows.specs.FetchBlocks.{FetchBlock}
 use Rattle.rom_rows.specs.ArithBlocks.{ArithBlock}
@@ -207,12 +207,12 @@ goes_up = subst GoesUp keys_roms part_keys_goes_up
 abbrev BlockComes : (B : Type 0) → (B → Block) → (Edition → List ℕ) → Type 0
 BlockComes B of rom =
     (e : Edition) (l : B) (b : Machine) (h : Since) → FitsMachine b → Head (program_of e (rom e)) (of l) b h
-    → Comes (program_of e (rom e)) (calm_pieces (program_of e (rom e))) (of l) b h
+    → RunsBlock (program_of e (rom e)) (calm_pieces (program_of e (rom e))) (of l) b h
 
 abbrev PlaceHolds : (B : Type 0) → (B → Place) → (Edition → List ℕ) → Type 0
 PlaceHolds B of rom =
     (e : Edition) (l : B) (b : Machine) (h : Since) → FitsMachine b → At (program_of e (rom e)) (of l) b h
-    → Holds (program_of e (rom e)) (calm_pieces (program_of e (rom e))) (of l) b h
+    → RunsPlace (program_of e (rom e)) (calm_pieces (program_of e (rom e))) (of l) b h
 
 pub fetch_block : BlockComes FetchBlock (λ l. OfFetch l) both
 fetch_block = subst (BlockComes FetchBlock (λ l. OfFetch l)) fetch_joined part_fetch_fetch_block
@@ -238,7 +238,7 @@ key_place = subst (PlaceHolds KeyPlace (λ l. AtKey l)) keys_joined part_keys_ke
 abbrev EarlyComes : (Edition → List ℕ) → Type 0
 EarlyComes rom =
     (e : Edition) (l : SpriteBlock) → IsEarly l → (b : Machine) (h : Since) → FitsMachine b → Head (program_of e (rom e)) (OfSprite l) b h
-    → Comes (program_of e (rom e)) (calm_pieces (program_of e (rom e))) (OfSprite l) b h
+    → RunsBlock (program_of e (rom e)) (calm_pieces (program_of e (rom e))) (OfSprite l) b h
 
 pub sprite_block : EarlyComes both
 sprite_block = subst EarlyComes sprite_joined part_sprite_sprite_block
@@ -246,7 +246,7 @@ sprite_block = subst EarlyComes sprite_joined part_sprite_sprite_block
 abbrev AnyComes : (Edition → List ℕ) → Type 0
 AnyComes rom =
     (e : Edition) (l : SpriteBlock) (b : Machine) (h : Since) → FitsMachine b → Head (program_of e (rom e)) (OfSprite l) b h
-    → Comes (program_of e (rom e)) (pieces (program_of e (rom e))) (OfSprite l) b h
+    → RunsBlock (program_of e (rom e)) (pieces (program_of e (rom e))) (OfSprite l) b h
 
 pub sprite_any : AnyComes both
 sprite_any = subst AnyComes sprite_joined part_sprite_sprite_any
@@ -254,7 +254,7 @@ sprite_any = subst AnyComes sprite_joined part_sprite_sprite_any
 abbrev AnyHolds : (Edition → List ℕ) → Type 0
 AnyHolds rom =
     (e : Edition) (l : SpritePlace) (b : Machine) (h : Since) → FitsMachine b → At (program_of e (rom e)) (AtSprite l) b h
-    → Holds (program_of e (rom e)) (pieces (program_of e (rom e))) (AtSprite l) b h
+    → RunsPlace (program_of e (rom e)) (pieces (program_of e (rom e))) (AtSprite l) b h
 
 pub sprite_place : AnyHolds both
 sprite_place = subst AnyHolds sprite_joined part_sprite_sprite_place
@@ -262,7 +262,7 @@ sprite_place = subst AnyHolds sprite_joined part_sprite_sprite_place
 abbrev EarlyHolds : (Edition → List ℕ) → Type 0
 EarlyHolds rom =
     (e : Edition) (l : SpritePlace) (b : Machine) (h : Since) → FitsMachine b → b.regs.idle ≡ false → At (program_of e (rom e)) (AtSprite l) b h
-    → Holds (program_of e (rom e)) (calm_pieces (program_of e (rom e))) (AtSprite l) b h
+    → RunsPlace (program_of e (rom e)) (calm_pieces (program_of e (rom e))) (AtSprite l) b h
 
 pub sprite_place_early : EarlyHolds both
 sprite_place_early = subst EarlyHolds sprite_joined part_sprite_sprite_place_early
@@ -270,7 +270,7 @@ sprite_place_early = subst EarlyHolds sprite_joined part_sprite_sprite_place_ear
 abbrev WaitedComes : (Edition → List ℕ) → Type 0
 WaitedComes rom =
     (e : Edition) (l : SpriteBlock) (w : IsWaited l) (b : Machine) (h : Since) → FitsMachine b → Head (program_of e (rom e)) (OfSprite l) b h
-    → Comes (program_of e (rom e)) (waited_pieces (program_of e (rom e))) (l, w) b h
+    → RunsBlock (program_of e (rom e)) (waited_pieces (program_of e (rom e))) (l, w) b h
 
 pub sprite_waited : WaitedComes both
 sprite_waited = subst WaitedComes sprite_joined part_sprite_sprite_waited

@@ -33,7 +33,7 @@ use Rattle.rom_run.specs.Running.Running.{InMain, InRoutine}
 use Rattle.rom_run.proofs.Bound.{timely}
 use Rattle.rom_run.proofs.Cycles.{Passed, Soon, Next, soon_first, soon_interrupt, soon_routine, soon_main, soon_next, few_passed, next_main, moves_to, from_u, while_down, all_made}
 use Rattle.rom_run.proofs.Endless.{KeyRow, key_row, never_waited}
-use Rattle.rom_run.proofs.Endless.KeyRow.{Comes, Seeks, Holds, Leaves}
+use Rattle.rom_run.proofs.Endless.KeyRow.{Approaches, Seeks, Holds, Leaves}
 use Rattle.rom_run.proofs.Moves.{counts_main, interrupted}
 use Rattle.rom_run.proofs.Proved.{proved}
 use Rattle.rom_run.proofs.Served.{served_within, served_disabled}
@@ -164,7 +164,7 @@ module _ (e : Edition) (script : List Event) where
           s = known.sampled q.free up.time (slice_get_within h.keys up.time up.at.held up.at.there)
 
       early_by : KeyRow e b h → Early w
-      early_by (Comes l) =
+      early_by (Approaches l) =
           now_early (omega (
             arith,
             few_passed h.from (length h.keys) b.cycle u (made q.free) (omega

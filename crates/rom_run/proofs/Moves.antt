@@ -79,8 +79,8 @@ module _ (e : Edition) (script : List Event) where
   abbrev Goes : Machine → Since → Type 0
   Goes = Running e script
 
-  abbrev Comes : Since → Machine → Type 0
-  Comes = Moves x script Goes
+  abbrev MovesOn : Since → Machine → Type 0
+  MovesOn = Moves x script Goes
 
   -- ---- events
 
@@ -189,7 +189,7 @@ module _ (e : Edition) (script : List Event) where
             ∙ (λ i. NextStopped (sym (n.0 ∙ ap (later h.from) st.time) i) (ticks ((ap (interrupts h.from) (sym st.time) ∙ n.1) i) h.state) stop)
         go (inr w) = absurd (stops_not (ap (stop_of e) w.state ∙ row_goes e w.old w.before w.woken.row) st.fits)
 
-    arrives : (s : Lang) → Stepped x c h s → (is_waiting (instr_at h.state) ≡ false) ⊎ BehindWait e c h → Comes h c
+    arrives : (s : Lang) → Stepped x c h s → (is_waiting (instr_at h.state) ≡ false) ⊎ BehindWait e c h → MovesOn h c
     arrives s st makes = go (cases_eq (place c.cycle) interrupt_place)
       where
         goes_on : place c.cycle ≡ interrupt_place → (is_waiting (instr_at h.state) ≡ false) ⊎ BehindWait e c h → is_waiting (instr_at h.state) ≡ false
@@ -199,7 +199,7 @@ module _ (e : Edition) (script : List Event) where
         here : Stepped x c h (state_at x c)
         here = subst (Stepped x c h) (sym st.stands.keeps.lies.is) st
 
-        go : (place c.cycle ≡ interrupt_place) ⊎ (place c.cycle ≡ interrupt_place → ⊥) → Comes h c
+        go : (place c.cycle ≡ interrupt_place) ⊎ (place c.cycle ≡ interrupt_place → ⊥) → MovesOn h c
         go (inl i) =
             Still (interrupted_there c s st.stands.keeps i 4 x.interpreter.fetch) (interrupted_there c s st.stands.keeps i 3 x.interpreter.halt)
             (InMain (AtEvent t i (Arrives s st (goes_on i makes)) soon (shows i)))
@@ -207,10 +207,10 @@ module _ (e : Edition) (script : List Event) where
             Arrived (dispatch_there c s st.stands t.outside d).0 (dispatch_there c s st.stands t.outside d).1 t.covers here (next here makes d)
             (renewed c (state_at x c) t.fits here.stands p d)
 
-    ends : (stop : Stop) → Stopped x c h stop → Comes h c
+    ends : (stop : Stop) → Stopped x c h stop → MovesOn h c
     ends stop st = go (cases_eq (place c.cycle) interrupt_place)
       where
-        go : (place c.cycle ≡ interrupt_place) ⊎ (place c.cycle ≡ interrupt_place → ⊥) → Comes h c
+        go : (place c.cycle ≡ interrupt_place) ⊎ (place c.cycle ≡ interrupt_place → ⊥) → MovesOn h c
         go (inl i) =
             Still (interrupted_there c (now h) st.halts.keeps i 4 x.interpreter.fetch)
             (interrupted_there c (now h) st.halts.keeps i 3 x.interpreter.halt) (InMain (AtEvent t i (Ends stop st) soon (shows i)))
@@ -364,21 +364,21 @@ module _ (e : Edition) (script : List Event) where
     unfolding c u
     main_place = there
 
-    stays : is_event (code x) c ≡ false → Row x (pieces x) c h' → Timed e c h' → Comes h' c
+    stays : is_event (code x) c ≡ false → Row x (pieces x) c h' → Timed e c h' → MovesOn h' c
     stays calm r later = Still (calm_points c x calm).0 (calm_points c x calm).1 (InMain (AtRow interval r (NoEvent calm) later))
 
-    run_on : Spends b h 0 → Row x (calm_pieces x) b h → Outcome x (calm_pieces x) c h' → Comes h' c
+    run_on : Spends b h 0 → Row x (calm_pieces x) b h → Outcome x (calm_pieces x) c h' → MovesOn h' c
     run_on s r (Calm calm r') = stays calm (row_calm x c h' r') (Before (spends 0 s) r')
     run_on s r (Dispatched z st makes) =
         arrives c h' interval main_place soon (λ i. shows_on r (below_screen e c z st.stands.keeps.lies.stack)) z st (inl makes)
     run_on s r (Failed stop st) = ends c h' interval main_place soon (λ i. shows_on r (below_screen e c (now h') st.halts.keeps.lies.stack)) stop st
 
-    run_behind : (n : ℕ) → Spends b h n → n ≤ most_wait → Woken e b h → Outcome x (waited_pieces x) c h' → Comes h' c
+    run_behind : (n : ℕ) → Spends b h n → n ≤ most_wait → Woken e b h → Outcome x (waited_pieces x) c h' → MovesOn h' c
     run_behind n s l w (Calm calm r) = stays calm (row_joined x c h' r) (Behind n (spends n s) l r (woken_on calm w))
     run_behind n s l w (Dispatched z st makes) = arrives c h' interval main_place soon (apart w) z st (inr (behind_wait w))
     run_behind n s l w (Failed stop st) = ends c h' interval main_place soon (apart w) stop st
 
-    main_run : Timed e b h → Comes h' c
+    main_run : Timed e b h → MovesOn h' c
     main_run (Before s r) = run_on s r (before r)
     main_run (Waiting n s l idle r) = absurd (sleeps (sym idle ∙ awake))
     main_run (Behind n s l r w) = run_behind n s l w (behind r)
@@ -387,8 +387,8 @@ module _ (e : Edition) (script : List Event) where
         ≡ record (main_move x.interpreter.rom (efx_at (b.cycle + 1) true) (held (b.cycle + 1)) b) {
           cycle = b.cycle
               + cycles_of (opcode_of x.interpreter.rom b);
-        } → Comes (carried x.interpreter.rom held b h) (move x.interpreter.rom held b)
-    main_comes m = subst₂ Comes (sym carried_is) (sym (main_is m)) (main_run time)
+        } → MovesOn (carried x.interpreter.rom held b h) (move x.interpreter.rom held b)
+    main_comes m = subst₂ MovesOn (sym carried_is) (sym (main_is m)) (main_run time)
 
   -- ---- an idle cycle
 
@@ -443,7 +443,7 @@ module _ (e : Edition) (script : List Event) where
   idle_timed b h t i idle (Behind n s l r w) = absurd (sleeps (sym idle ∙ waited_awake e b h r))
 
   idle_comes : (b : Machine) (h : Since) → Interval e script b h → Row x (pieces x) b h → Counted e b → Timed e b h
-      → (place b.cycle ≡ interrupt_place → ⊥) → b.regs.idle ≡ true → Comes h (timed (b.cycle + 1) b)
+      → (place b.cycle ≡ interrupt_place → ⊥) → b.regs.idle ≡ true → MovesOn h (timed (b.cycle + 1) b)
   idle_comes b h t row n time i idle =
       let calm = uncounted b n (inl idle) in
       Still (calm_points (timed (b.cycle + 1) b) x calm).0 (calm_points (timed (b.cycle + 1) b) x calm).1
@@ -528,7 +528,7 @@ module _ (e : Edition) (script : List Event) where
     behind_it : place c.cycle ≡ interrupt_place → Showing e c (after_tick h)
     behind_it i = absurd (omega (arith, at, i))
 
-    returned : Outside e script b h → Comes (after_tick h) c
+    returned : Outside e script b h → MovesOn (after_tick h) c
     returned (AtRow t row n time) =
         let calm = ap (is_event (code x)) k.is ∙ uncounted b n (inr in_place) in
         Still (calm_points c x calm).0 (calm_points c x calm).1
@@ -553,7 +553,7 @@ module _ (e : Edition) (script : List Event) where
     tick = run_tick e m b held (interrupted b h m o cycle)
 
     -- so many moves on, still in the routine
-    serves : (k : ℕ) → suc k < routine_moves → Comes (after_tick h) (after_moves (image e) held b (suc k))
+    serves : (k : ℕ) → suc k < routine_moves → MovesOn (after_tick h) (after_moves (image e) held b (suc k))
     serves k l =
         let quiet = by_r1 (after_moves (image e) held b (suc k)) (tick.inside (suc k) (omega arith) l).by_r1 in
         Still quiet.0 quiet.1 (InRoutine
@@ -570,14 +570,14 @@ module _ (e : Edition) (script : List Event) where
           is = refl;
         }))
 
-    returns : Comes (after_tick h) (after_moves (image e) held b routine_moves)
+    returns : MovesOn (after_tick h) (after_moves (image e) held b routine_moves)
     returns = returned b h m cycle (after_moves (image e) held b routine_moves) tick.tick tick.cycle tick.place o
 
-    pub routine_comes : (k : ℕ) → k < routine_moves → Comes (after_tick h) (after_moves (image e) held b (suc k))
+    pub routine_comes : (k : ℕ) → k < routine_moves → MovesOn (after_tick h) (after_moves (image e) held b (suc k))
     routine_comes k l = go (cases_eq (suc k) routine_moves)
       where
-        go : (suc k ≡ routine_moves) ⊎ (suc k ≡ routine_moves → ⊥) → Comes (after_tick h) (after_moves (image e) held b (suc k))
-        go (inl last) = subst (λ n. Comes (after_tick h) (after_moves (image e) held b n)) (sym last) returns
+        go : (suc k ≡ routine_moves) ⊎ (suc k ≡ routine_moves → ⊥) → MovesOn (after_tick h) (after_moves (image e) held b (suc k))
+        go (inl last) = subst (λ n. MovesOn (after_tick h) (after_moves (image e) held b n)) (sym last) returns
         go (inr d) = serves k (omega (arith, l, d))
 
   -- ---- every move
@@ -587,26 +587,26 @@ module _ (e : Edition) (script : List Event) where
   accepts b h on ie i = carried_interrupt (image e) held b h (case_accepts b on ie (omega (arith, i)))
 
   row_comes : (b : Machine) (h : Since) (t : Interval e script b h) (row : Row x (pieces x) b h) (n : Counted e b) (time : Timed e b h) → b.on ≡ true
-      → b.regs.ie ≡ true → Makes (image e) held b (move (image e) held b) → Comes (carried (image e) held b h) (move (image e) held b)
+      → b.regs.ie ≡ true → Makes (image e) held b (move (image e) held b) → MovesOn (carried (image e) held b h) (move (image e) held b)
   row_comes b h t row n time on ie (Runs d i m) = main_comes b h t row d i time m
   row_comes b h t row n time on ie (Waits d i m) =
-      subst₂ Comes (sym (carried_idle (image e) held b h (case_waits b on ie t.outside d i))) (sym m) (idle_comes b h t row n time d i)
+      subst₂ MovesOn (sym (carried_idle (image e) held b h (case_waits b on ie t.outside d i))) (sym m) (idle_comes b h t row n time d i)
   row_comes b h t row n time on ie (Accepts i m) =
-      subst (λ z. Comes z (move (image e) held b)) (sym (accepts b h on ie i)) (routine_comes b h _ (AtRow t row n time) i 0 (omega arith))
+      subst (λ z. MovesOn z (move (image e) held b)) (sym (accepts b h on ie i)) (routine_comes b h _ (AtRow t row n time) i 0 (omega arith))
 
-  pub board_moves : (b : Machine) (h : Since) → Goes b h → Comes (carried (image e) held b h) (move (image e) held b)
+  pub board_moves : (b : Machine) (h : Since) → Goes b h → MovesOn (carried (image e) held b h) (move (image e) held b)
   board_moves b h (InMain (AtRow t row n time)) =
       let ready = row_runs x (pieces x) (proved e) b h t.fits row in
       row_comes b h t row n time ready.on ready.enabled (every_move (image e) held b ready.on ready.enabled t.outside)
   board_moves b h (InMain (AtEvent t p d late y)) =
       let o = interrupted b h (b.cycle / 3668) (AtEvent t p d late y) at in
-      subst (λ z. Comes z (move (image e) held b)) (sym (accepts b h o.on o.enabled at))
+      subst (λ z. MovesOn z (move (image e) held b)) (sym (accepts b h o.on o.enabled at))
       (routine_comes b h (b.cycle / 3668) (AtEvent t p d late y) at 0 (omega arith))
     where
       at : b.cycle ≡ interrupt_at (b.cycle / 3668)
       at = omega (arith, p)
   board_moves b h (InRoutine s) =
-      subst₂ Comes (sym s.counted ∙ sym (carried_disabled (image e) held b h disabled)) (ap (move (image e) held) (sym s.is))
+      subst₂ MovesOn (sym s.counted ∙ sym (carried_disabled (image e) held b h disabled)) (ap (move (image e) held) (sym s.is))
       (routine_comes s.start s.before s.m s.outside s.cycle s.k s.inside)
     where
       disabled : b.regs.ie ≡ false

@@ -5,7 +5,7 @@ use Rattle.machine.specs.Ranges.{FitsMachine}
 use Rattle.chip8_lang.specs.declared.view.Edition.{Edition}
 use Rattle.rom_law.specs.Rows.{Since}
 use Rattle.rom_law.specs.Rows.Starts.{Enters}
-use Rattle.rom_law.proofs.Kept.{Proved, Comes, Holds}
+use Rattle.rom_law.proofs.Kept.{Proved, RunsBlock, RunsPlace}
 use Rattle.rom_law.proofs.Places.{holding}
 use Rattle.rom_law.proofs.Schedules.{every_schedule}
 use Rattle.rom_rows.specs.FetchBlocks.FetchBlock.{Fetch}
@@ -21,7 +21,7 @@ use Rattle.rom_run.specs.Laws.{AnySchedule}
 -- ---- the blocks and places before a wait
 
 pub calm_block : (e : Edition) (l : Block) → IsBefore l → (b : Machine) (h : Since) → FitsMachine b → Head (quick e) l b h
-    → Comes (quick e) (calm_pieces (quick e)) l b h
+    → RunsBlock (quick e) (calm_pieces (quick e)) l b h
 calm_block e (OfFetch l) w = fetch_block e l
 calm_block e (OfArith l) w = arith_block e l
 calm_block e (OfMemory l) w = memory_block e l
@@ -31,14 +31,14 @@ calm_block e (OfKey l) w = key_block e l
 
 -- where main code runs
 pub calm_place : (e : Edition) (l : Place) (b : Machine) (h : Since) → FitsMachine b → b.regs.idle ≡ false → At (quick e) l b h
-    → Holds (quick e) (calm_pieces (quick e)) l b h
+    → RunsPlace (quick e) (calm_pieces (quick e)) l b h
 calm_place e (AtTimer l) b h f i = timer_place e l b h f
 calm_place e (AtKey l) b h f i = key_place e l b h f
 calm_place e (AtSprite l) b h f i = sprite_place_early e l b h f i
 
 -- ---- all of them
 
-pub block : (e : Edition) (l : Block) (b : Machine) (h : Since) → FitsMachine b → Head (quick e) l b h → Comes (quick e) (pieces (quick e)) l b h
+pub block : (e : Edition) (l : Block) (b : Machine) (h : Since) → FitsMachine b → Head (quick e) l b h → RunsBlock (quick e) (pieces (quick e)) l b h
 block e (OfFetch l) b h f o = comes_calm (fetch_block e l b h f o)
 block e (OfArith l) b h f o = comes_calm (arith_block e l b h f o)
 block e (OfMemory l) b h f o = comes_calm (memory_block e l b h f o)
@@ -46,7 +46,7 @@ block e (OfSprite l) b h f o = sprite_any e l b h f o
 block e (OfTimer l) b h f o = comes_calm (timer_block e l b h f o)
 block e (OfKey l) b h f o = comes_calm (key_block e l b h f o)
 
-place : (e : Edition) (l : Place) (b : Machine) (h : Since) → FitsMachine b → At (quick e) l b h → Holds (quick e) (pieces (quick e)) l b h
+place : (e : Edition) (l : Place) (b : Machine) (h : Since) → FitsMachine b → At (quick e) l b h → RunsPlace (quick e) (pieces (quick e)) l b h
 place e (AtTimer l) b h f o = holds_calm (timer_place e l b h f o)
 place e (AtKey l) b h f o = holds_calm (key_place e l b h f o)
 place e (AtSprite l) b h f o = sprite_place e l b h f o

@@ -14,7 +14,7 @@ use Rattle.rom_law.specs.Holding.{Places, places, Holding}
 use Rattle.rom_law.specs.Program.{Program, code}
 use Rattle.rom_law.specs.Rows.{Since, InBlock, Row, now}
 use Rattle.rom_law.specs.Rows.Row.{Inside as InRow, Alone}
-use Rattle.rom_law.proofs.Kept.{Comes, good, block_r2}
+use Rattle.rom_law.proofs.Kept.{RunsBlock, good, block_r2}
 use Rattle.rom_law.proofs.Places.{stack_below}
 use Rattle.rom_law.proofs.Room.{Near, near_quicks}
 use Rattle.rom_rows.specs.ArithBlocks.{operation_lengths}
@@ -222,7 +222,7 @@ module _ (x : Program) where
 -- ---- blocks
 
 module _ (e : Edition) {l : Block} {b : Machine} {h : Since} (r : InBlock (quick e) (pieces (quick e)) l b h) where
-  comes : Comes (quick e) (pieces (quick e)) l r.start r.since
+  comes : RunsBlock (quick e) (pieces (quick e)) l r.start r.since
   comes = block e l r.start r.since r.fits r.head
 
   -- R2 is as it was j instructions into the block, and b is at most 21 later

@@ -20,7 +20,7 @@ use Rattle.rom_law.specs.Program.{Program, code}
 use Rattle.rom_law.specs.Holding.{Places, places, Holding}
 use Rattle.rom_law.specs.Rows.{Since, now}
 use Rattle.rom_law.proofs.Places.{memory_fits, v_get, i_is, work_set, work_get}
-use Rattle.rom_law.proofs.Kept.{Comes}
+use Rattle.rom_law.proofs.Kept.{RunsBlock}
 use Rattle.rom_rows.specs.Heads.{to_stop, by_edition, high_byte, low_byte, page_of, Enters}
 use Rattle.rom_rows.specs.Checks.{answer_time, Calls, Checked, Answer, answer_number}
 use Rattle.rom_rows.specs.Checks.Caller.{ForDraw}
@@ -142,7 +142,7 @@ module _ (e : Edition) (b : Machine) (h : Since) (f : FitsMachine b) where
   none_asked : asked (now h) ≡ 0 → (asked (now h) == 0) ≡ true
   none_asked n = eq-eqb _ _ n
 
-  pub draw_comes : Enters (quick e) at_draw 13 b (now h) → h.spent ≡ 80 → Comes (quick e) (calm_pieces (quick e)) (OfSprite Draw) b h
+  pub draw_comes : Enters (quick e) at_draw 13 b (now h) → h.spent ≡ 80 → RunsBlock (quick e) (calm_pieces (quick e)) (OfSprite Draw) b h
   draw_comes o spent =
       branch (OfSprite Draw) o.entered (on_at (quicks (code (quick e)) 4 (entered e at_draw high low b))) (bit_and low 15 == 0) at_place at_draw_check
       (omega arith) refl
@@ -183,7 +183,7 @@ module _ (e : Edition) (b : Machine) (h : Since) (f : FitsMachine b) where
       some k = omega (arith, and_mask low 4, eqb-false (bit_and low 15) 0 k)
 
   pub draw_check_comes : Enters (quick e) at_draw_check 13 b (now h) → b.regs.r.re.lo ≡ asked (now h) → 0 < asked (now h) → h.spent ≡ 88
-      → Comes (quick e) (calm_pieces (quick e)) (OfSprite DrawCheck) b h
+      → RunsBlock (quick e) (calm_pieces (quick e)) (OfSprite DrawCheck) b h
   draw_check_comes o count some spent = routine (OfSprite DrawCheck) o.entered _ (omega arith) refl
       (λ h' g. to_memory (quick e) g _ refl (Check ForDraw)
       (record {
@@ -226,7 +226,7 @@ module _ (e : Edition) (b : Machine) (h : Since) (f : FitsMachine b) where
       }
 
   pub draw_found_comes : (answer : Answer) → Checked (quick e) ForDraw answer b (now h) → h.spent ≡ 102 + answer_time answer (now h).i
-      → Comes (quick e) (calm_pieces (quick e)) (OfSprite (DrawFound answer)) b h
+      → RunsBlock (quick e) (calm_pieces (quick e)) (OfSprite (DrawFound answer)) b h
   draw_found_comes InGame o spent =
       straight (OfSprite (DrawFound InGame)) o.called.holds _ (is_resumed o) _ (omega arith) refl
       (λ h' g. to_sprite (quick e) g _ refl Place tt (found o (rw o.is refl) _ o.called.holds refl refl refl refl refl refl)
@@ -308,7 +308,7 @@ module _ (e : Edition) (b : Machine) (h : Since) (f : FitsMachine b) where
   more_df = (b.regs.r.re.lo + 256 - again down_to) / 256
 
   pub place_comes : Aiming (quick e) at_place (asked (now h)) b (now h) → h.spent ≡ 88 + aim_time e (now h)
-      → Comes (quick e) (calm_pieces (quick e)) (OfSprite Place) b h
+      → RunsBlock (quick e) (calm_pieces (quick e)) (OfSprite Place) b h
   place_comes o spent =
       forks (OfSprite Place) o.holds (aiming e at_place high low b) (is_aiming o) (on_at (quicks (code (quick e)) 12 (aiming e at_place high low b)))
       (not (more_df == 1)) at_fits at_edge (omega (arith, stack_there o, page_low e)) refl
@@ -347,7 +347,7 @@ module _ (e : Edition) (b : Machine) (h : Since) (f : FitsMachine b) where
       more k = omega (arith, not_borrowed more_df k, again_is o down_to, down_is o, o.count, few_rows e)
 
   pub edge_comes : Aiming (quick e) at_edge (asked (now h)) b (now h) → Summing (quick e) b → rows_of e ≤ top e (now h) + asked (now h)
-      → h.spent ≡ 112 + aim_time e (now h) → Comes (quick e) (calm_pieces (quick e)) (OfSprite Edge) b h
+      → h.spent ≡ 112 + aim_time e (now h) → RunsBlock (quick e) (calm_pieces (quick e)) (OfSprite Edge) b h
   edge_comes o w past spent = straight (OfSprite Edge) o.holds (summing e at_edge high low b) (is_summing o w) _ (omega (arith, stack_there o, page_low e)) refl
       (λ h' g. to_sprite (quick e) g _ refl Fits tt (
         record {
@@ -379,7 +379,7 @@ module _ (e : Edition) (b : Machine) (h : Since) (f : FitsMachine b) where
   fitted = quicks (code (quick e)) 20 (summing e at_fits high low b)
 
   pub fits_comes : Aiming (quick e) at_fits (height e (now h)) b (now h) → Summing (quick e) b → h.spent ≡ 112 + aim_time e (now h) + edge_time e (now h)
-      → Comes (quick e) (calm_pieces (quick e)) (OfSprite Fits) b h
+      → RunsBlock (quick e) (calm_pieces (quick e)) (OfSprite Fits) b h
   fits_comes o w spent = straight (OfSprite Fits) o.holds (summing e at_fits high low b) (is_summing o w) fitted (omega (arith, stack_there o, page_low e)) refl
       (λ h' g. to_sprite (quick e) g fitted refl Angle tt (
         record {
@@ -423,7 +423,7 @@ module _ (e : Edition) (b : Machine) (h : Since) (f : FitsMachine b) where
 
   pub angle_comes : Aiming (quick e) at_angle (height e (now h)) b (now h) → Summing (quick e) b → Aimed (quick e) b (now h)
       → h.spent ≡ 152 + aim_time e (now h) + edge_time e (now h)
-      → Comes (quick e) (calm_pieces (quick e)) (OfSprite Angle) b h
+      → RunsBlock (quick e) (calm_pieces (quick e)) (OfSprite Angle) b h
   angle_comes o w z spent = straight (OfSprite Angle) o.holds (summing e at_angle high low b) (is_summing o w) _ (omega (arith, stack_there o, page_low e)) refl
       (λ h' g. to_sprite (quick e) g _ refl Begin tt (
         record {
@@ -452,7 +452,7 @@ module _ (e : Edition) (b : Machine) (h : Since) (f : FitsMachine b) where
   no_less n = omega arith
 
   pub begin_comes : Aiming (quick e) at_begin (height e (now h)) b (now h) → Aimed (quick e) b (now h) → b.regs.r.rc.lo ≡ entry_of (now h)
-      → h.spent ≡ 170 + aim_time e (now h) + edge_time e (now h) → Comes (quick e) (calm_pieces (quick e)) (OfSprite Begin) b h
+      → h.spent ≡ 170 + aim_time e (now h) + edge_time e (now h) → RunsBlock (quick e) (calm_pieces (quick e)) (OfSprite Begin) b h
   begin_comes o z entry spent = straight (OfSprite Begin) o.holds (aiming e at_begin high low b) (is_aiming o) _ (omega arith) refl
       (λ h' g. to_sprite (quick e) g _ refl (Row 0) tt (
         record {

@@ -20,7 +20,7 @@ use Rattle.rom_law.specs.Holding.{places, Holding}
 use Rattle.machine.specs.Schedule.{Tick}
 use Rattle.rom_law.specs.Rows.{Since, Starts, now, after_tick}
 use Rattle.rom_law.specs.Rows.Starts.{Enters}
-use Rattle.rom_law.proofs.Kept.{Comes, Holds}
+use Rattle.rom_law.proofs.Kept.{RunsBlock, RunsPlace}
 use Rattle.rom_rows.specs.Heads.{page_of, Entered, Done}
 use Rattle.rom_rows.specs.SpriteBlocks.{Clears, Clearing, cleared_to, woken}
 use Rattle.rom_rows.specs.SpriteBlocks.SpriteBlock.{Clear, Wipe, Wipe3, Wipe6, Wiped, Cleared}
@@ -54,7 +54,7 @@ recounted {x = x} {a = a} {b = b} {s = s} m n e o = subst (λ k. Clearing x a k 
 module _ (e : Edition) (b : Machine) (h : Since) (f : FitsMachine b) where
   -- ---- up to the wait
 
-  pub clear_comes : Entered (quick e) at_clear b (now h) → Clears (now h) → h.spent ≡ 90 → Comes (quick e) (calm_pieces (quick e)) (OfSprite Clear) b h
+  pub clear_comes : Entered (quick e) at_clear b (now h) → Clears (now h) → h.spent ≡ 90 → RunsBlock (quick e) (calm_pieces (quick e)) (OfSprite Clear) b h
   clear_comes o is spent = routine (OfSprite Clear) o _ (omega arith) refl
       (λ h' g. to_sprite_place (quick e) g _ refl ClearWait
       (record {
@@ -72,7 +72,7 @@ module _ (e : Edition) (b : Machine) (h : Since) (f : FitsMachine b) where
   -- ---- the wait
 
   pub clear_wait_holds : Clearing (quick e) at_clear_wait (8 * rows_of e) b (now h) → At (quick e) (AtSprite ClearWait) b h → h.spent ≡ 100
-      → Holds (quick e) (calm_pieces (quick e)) (AtSprite ClearWait) b h
+      → RunsPlace (quick e) (calm_pieces (quick e)) (AtSprite ClearWait) b h
   clear_wait_holds o at spent = alone (AtSprite ClearWait) f at o.holds (clearing at_clear_wait b) (is_clearing o) refl refl refl
       (λ u. to_sprite_place (quick e) (one_more u h) _ refl ClearIdle (
         record {
@@ -102,7 +102,7 @@ module _ (e : Edition) (b : Machine) (h : Since) (f : FitsMachine b) where
       )
 
   pub clear_idle_holds : Clearing (quick e) at_wipe (8 * rows_of e) (woken b) (now h) → b.regs.idle ≡ true → h.spent ≡ 102
-      → Holds (quick e) (pieces (quick e)) (AtSprite ClearIdle) b h
+      → RunsPlace (quick e) (pieces (quick e)) (AtSprite ClearIdle) b h
   clear_idle_holds o idle spent = waits (AtSprite ClearIdle) o.holds idle
       (λ c k. starts_joined (quick e) c (after_tick h) (clear_wakes o spent c k))
 
@@ -147,7 +147,7 @@ module _ (e : Edition) (b : Machine) (h : Since) (f : FitsMachine b) where
   is_zeroed {a = a} o d = is_clearing o ∙ (λ i. record (clearing a b) { regs = record (clearing a b).regs { d = d i } })
 
   pub wipe_comes : (k : ℕ) → Clearing (quick e) at_wipe (8 * k + 8) b (now h) → k < rows_of e → h.spent ≡ 102 + 24 * (rows_of e - 1 - k) → 1 ≤ h.ticks
-      → Comes (quick e) (waited_pieces (quick e)) (Wipe k, tt) b h
+      → RunsBlock (quick e) (waited_pieces (quick e)) (Wipe k, tt) b h
   wipe_comes k o inside spent tick = straight_on (Wipe k) tt o.holds (clearing at_wipe b) (is_clearing o) _ (omega arith) refl
       (λ h' g. to_waited (quick e) g _ refl (Wipe3 k) tt (
         record {
@@ -166,7 +166,7 @@ module _ (e : Edition) (b : Machine) (h : Since) (f : FitsMachine b) where
       (omega (arith, spent, g.spent), omega (arith, tick, g.ticks)))
 
   pub wipe3_comes : (k : ℕ) → Clearing (quick e) at_wipe3 (8 * k + 6) b (now h) → k < rows_of e → b.regs.d ≡ 0 → h.spent ≡ 108 + 24 * (rows_of e - 1 - k)
-      → 1 ≤ h.ticks → Comes (quick e) (waited_pieces (quick e)) (Wipe3 k, tt) b h
+      → 1 ≤ h.ticks → RunsBlock (quick e) (waited_pieces (quick e)) (Wipe3 k, tt) b h
   wipe3_comes k o inside d spent tick = straight_on (Wipe3 k) tt o.holds (zeroed at_wipe3) (is_zeroed o d) _ (omega arith) refl
       (λ h' g. to_waited (quick e) g _ refl (Wipe6 k) tt (
         record {
@@ -185,7 +185,7 @@ module _ (e : Edition) (b : Machine) (h : Since) (f : FitsMachine b) where
       (omega (arith, spent, g.spent), omega (arith, tick, g.ticks)))
 
   pub wipe6_comes : (k : ℕ) → Clearing (quick e) at_wipe6 (8 * k + 3) b (now h) → k < rows_of e → b.regs.d ≡ 0 → h.spent ≡ 114 + 24 * (rows_of e - 1 - k)
-      → 1 ≤ h.ticks → Comes (quick e) (waited_pieces (quick e)) (Wipe6 k, tt) b h
+      → 1 ≤ h.ticks → RunsBlock (quick e) (waited_pieces (quick e)) (Wipe6 k, tt) b h
   wipe6_comes k o inside d spent tick = straight_on (Wipe6 k) tt o.holds (zeroed at_wipe6) (is_zeroed o d) _ (omega arith) refl
       (λ h' g. to_waited (quick e) g _ refl (Wiped k) tt (
         record {
@@ -239,7 +239,7 @@ module _ (e : Edition) (b : Machine) (h : Since) (f : FitsMachine b) where
       empty_now = omega (arith, none)
 
   pub wiped_comes : (k : ℕ) → Clearing (quick e) at_wiped (8 * k) b (now h) → k < rows_of e → h.spent ≡ 120 + 24 * (rows_of e - 1 - k) → 1 ≤ h.ticks
-      → Comes (quick e) (waited_pieces (quick e)) (Wiped k, tt) b h
+      → RunsBlock (quick e) (waited_pieces (quick e)) (Wiped k, tt) b h
   wiped_comes k o inside spent tick =
       forks_on (Wiped k) tt o.holds (clearing at_wiped b) (is_clearing o) (on_at (quicks (code (quick e)) 3 (clearing at_wiped b)))
       (not (below == 0)) at_wipe at_cleared (omega arith) refl
@@ -263,7 +263,7 @@ module _ (e : Edition) (b : Machine) (h : Since) (f : FitsMachine b) where
       (omega (arith, spent, g.spent, past_screen o n), omega (arith, tick, g.ticks)))
 
   pub cleared_comes : Done (quick e) at_cleared b (now h) → Clears (now h) → h.spent ≡ 102 + 24 * rows_of e → 1 ≤ h.ticks
-      → Comes (quick e) (waited_pieces (quick e)) (Cleared, tt) b h
+      → RunsBlock (quick e) (waited_pieces (quick e)) (Cleared, tt) b h
   cleared_comes o is spent tick = straight_on Cleared tt o.holds (on_3 at_cleared b) (is_on_3 at_cleared b o.p o.r3) _ (omega arith) refl
       (λ h' g. clears e g tick runs (clear_is is) (omega (arith, spent)) _
       (subst (λ j. Holding (quick e) (places b) (done_by e j Nothing (now h))) (clear_is is) o.holds) refl o.r4)

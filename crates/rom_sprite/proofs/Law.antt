@@ -6,7 +6,7 @@ use Rattle.std.proofs.Common.{◌≡◌, true, false}
 use Rattle.machine.specs.Schedule.{Tick}
 use Rattle.rom_law.specs.Program.{code}
 use Rattle.rom_law.specs.Rows.{Since, Starts, after_tick}
-use Rattle.rom_law.proofs.Kept.{Comes, Holds}
+use Rattle.rom_law.proofs.Kept.{RunsBlock, RunsPlace}
 use Rattle.rom_rows.specs.SpriteBlocks.{SpriteBlock, SpritePlace, IsWaited, IsEarly}
 use Rattle.rom_rows.specs.SpriteBlocks.SpriteBlock.{Clear, Wipe, Wipe3, Wipe6, Wiped, Cleared, Draw, DrawCheck, DrawFound, Place, Edge, Fits, Angle, Begin, Row, RowByte, Shift, Shifted, RowRight, RowStore, Ready, Line, LineLeft, LineRight, Drawn}
 use Rattle.rom_rows.specs.SpriteBlocks.SpritePlace.{ClearWait, ClearIdle, DrawWait, DrawIdle}
@@ -26,7 +26,7 @@ use Rattle.rom_sprite.specs.Code.{sprite_rom}
 
 -- before a wait
 pub sprite_block : (e : Edition) (l : SpriteBlock) → IsEarly l → (b : Machine) (h : Since) → FitsMachine b → Head (quick e) (OfSprite l) b h
-    → Comes (quick e) (calm_pieces (quick e)) (OfSprite l) b h
+    → RunsBlock (quick e) (calm_pieces (quick e)) (OfSprite l) b h
 sprite_block e Clear w b h f o = clear_comes e b h f o.0.0 o.0.1 o.1
 sprite_block e Draw w b h f o = draw_comes e b h f o.0 o.1
 sprite_block e DrawCheck w b h f o = draw_check_comes e b h f o.0.0 o.0.1 o.0.2 o.1
@@ -47,7 +47,7 @@ sprite_block e _ w b h f o = absurd w
 
 -- behind a wait main code stays behind it
 pub sprite_waited : (e : Edition) (l : SpriteBlock) (w : IsWaited l) (b : Machine) (h : Since) → FitsMachine b → Head (quick e) (OfSprite l) b h
-    → Comes (quick e) (waited_pieces (quick e)) (l, w) b h
+    → RunsBlock (quick e) (waited_pieces (quick e)) (l, w) b h
 sprite_waited e (Wipe k) w b h f o = wipe_comes e b h f k o.0.0 o.0.1 o.1.0 o.1.1
 sprite_waited e (Wipe3 k) w b h f o = wipe3_comes e b h f k o.0.0 o.0.1 o.0.2 o.1.0 o.1.1
 sprite_waited e (Wipe6 k) w b h f o = wipe6_comes e b h f k o.0.0 o.0.1 o.0.2 o.1.0 o.1.1
@@ -61,7 +61,7 @@ sprite_waited e _ w b h f o = absurd w
 
 -- before it and behind it
 pub sprite_any : (e : Edition) (l : SpriteBlock) (b : Machine) (h : Since) → FitsMachine b → Head (quick e) (OfSprite l) b h
-    → Comes (quick e) (pieces (quick e)) (OfSprite l) b h
+    → RunsBlock (quick e) (pieces (quick e)) (OfSprite l) b h
 sprite_any e Clear b h f o = comes_calm (sprite_block e Clear tt b h f o)
 sprite_any e (Wipe k) b h f o = comes_joined (wipe_comes e b h f k o.0.0 o.0.1 o.1.0 o.1.1)
 sprite_any e (Wipe3 k) b h f o = comes_joined (wipe3_comes e b h f k o.0.0 o.0.1 o.0.2 o.1.0 o.1.1)
@@ -92,7 +92,7 @@ pub sprite_rows : SpriteRows sprite_rom
 sprite_rows e l = block_rows_in e (both_is e) (both_fits e) (OfSprite l) (sprite_any e l)
 
 pub sprite_place : (e : Edition) (l : SpritePlace) (b : Machine) (h : Since) → FitsMachine b → At (quick e) (AtSprite l) b h
-    → Holds (quick e) (pieces (quick e)) (AtSprite l) b h
+    → RunsPlace (quick e) (pieces (quick e)) (AtSprite l) b h
 sprite_place e ClearWait b h f o = holds_calm (clear_wait_holds e b h f o.0 o o.1)
 sprite_place e ClearIdle b h f o = clear_idle_holds e b h f o.0.0 o.0.1 o.1
 sprite_place e DrawWait b h f o = holds_calm (draw_wait_holds e b h f o.0 o o.1)
@@ -100,7 +100,7 @@ sprite_place e DrawIdle b h f o = draw_idle_holds e b h f o.0.0 o.0.1 o.1
 
 -- where main code runs
 pub sprite_place_early : (e : Edition) (l : SpritePlace) (b : Machine) (h : Since) → FitsMachine b → b.regs.idle ≡ false
-    → At (quick e) (AtSprite l) b h → Holds (quick e) (calm_pieces (quick e)) (AtSprite l) b h
+    → At (quick e) (AtSprite l) b h → RunsPlace (quick e) (calm_pieces (quick e)) (AtSprite l) b h
 sprite_place_early e ClearWait b h f i o = clear_wait_holds e b h f o.0 o o.1
 sprite_place_early e ClearIdle b h f i o = cc (o.0.1, i)
 sprite_place_early e DrawWait b h f i o = draw_wait_holds e b h f o.0 o o.1

@@ -23,7 +23,7 @@ use Rattle.machine.specs.Schedule.{Tick}
 use Rattle.rom_law.specs.Rows.{Since, Starts, now, after_tick}
 use Rattle.rom_law.specs.Rows.Starts.{Enters}
 use Rattle.rom_law.proofs.Places.{read_is, v_set}
-use Rattle.rom_law.proofs.Kept.{Comes, Holds}
+use Rattle.rom_law.proofs.Kept.{RunsBlock, RunsPlace}
 use Rattle.rom_rows.specs.Heads.{high_byte, low_byte, page_of}
 use Rattle.rom_rows.specs.Dots.{left, right, dots_of_byte}
 use Rattle.rom_rows.specs.SpriteBlocks.{aim_time, edge_time, rows_time, draw_time, Draws, Preparing, Painting, painted, column, top, asked, height, corner, lit, half_lit, woken}
@@ -77,7 +77,7 @@ module _ (e : Edition) (b : Machine) (h : Since) (f : FitsMachine b) where
   no_less n = omega arith
 
   pub ready_comes : Preparing (quick e) at_ready rows rows rows b (now h)
-      → h.spent ≡ 198 + aim_time e (now h) + edge_time e (now h) + rows_time (now h) rows → Comes (quick e) (calm_pieces (quick e)) (OfSprite Ready) b h
+      → h.spent ≡ 198 + aim_time e (now h) + edge_time e (now h) + rows_time (now h) rows → RunsBlock (quick e) (calm_pieces (quick e)) (OfSprite Ready) b h
   ready_comes o spent = straight (OfSprite Ready) o.holds (preparing e at_ready (rows + rows) b) (is_preparing o) _ (omega arith) refl
       (λ h' g. to_sprite_place (quick e) g _ refl DrawWait (record {
         draws = o.draws;
@@ -100,7 +100,7 @@ module _ (e : Edition) (b : Machine) (h : Since) (f : FitsMachine b) where
 
   pub draw_wait_holds : Painting (quick e) at_draw_wait 0 0 rows (lit e 0 (now h)) b (now h) → At (quick e) (AtSprite DrawWait) b h
       → h.spent ≡ draw_time e (now h) - 2
-      → Holds (quick e) (calm_pieces (quick e)) (AtSprite DrawWait) b h
+      → RunsPlace (quick e) (calm_pieces (quick e)) (AtSprite DrawWait) b h
   draw_wait_holds o at spent = alone (AtSprite DrawWait) f at o.holds (painting e at_draw_wait 0 b) (is_painting o) refl refl refl
       (λ u. to_sprite_place (quick e) (one_more u h) _ refl DrawIdle (
         record {
@@ -135,7 +135,7 @@ module _ (e : Edition) (b : Machine) (h : Since) (f : FitsMachine b) where
       )
 
   pub draw_idle_holds : Painting (quick e) at_line 0 0 rows (lit e 0 (now h)) (woken b) (now h) → b.regs.idle ≡ true → h.spent ≡ draw_time e (now h)
-      → Holds (quick e) (pieces (quick e)) (AtSprite DrawIdle) b h
+      → RunsPlace (quick e) (pieces (quick e)) (AtSprite DrawIdle) b h
   draw_idle_holds o idle spent = waits (AtSprite DrawIdle) o.holds idle
       (λ c k. starts_joined (quick e) c (after_tick h) (draw_wakes o spent c k))
 
@@ -143,7 +143,7 @@ module _ (e : Edition) (b : Machine) (h : Since) (f : FitsMachine b) where
 
   pub line_comes : (r : ℕ) → Painting (quick e) at_line (2 * r) (8 * r) (rows - r) (lit e r (now h)) b (now h) → r ≤ rows
       → h.spent ≡ draw_time e (now h) + 58 * r
-      → 1 ≤ h.ticks → Comes (quick e) (waited_pieces (quick e)) (Line r, tt) b h
+      → 1 ≤ h.ticks → RunsBlock (quick e) (waited_pieces (quick e)) (Line r, tt) b h
   line_comes r o inside spent tick =
       forks_on (Line r) tt o.holds (on_3 at_line b) (is_on_3 at_line b o.p o.r3) (on_at (quicks (code (quick e)) 2 (on_3 at_line b)))
       (b.regs.r.re.lo == 0) at_drawn at_line_left (omega arith) refl
@@ -273,7 +273,7 @@ module _ (e : Edition) (b : Machine) (h : Since) (f : FitsMachine b) where
     painted_left = quicks (code (quick e)) 11 (painting e at_line_left (2 * r) b)
 
     pub line_left_comes : Painting (quick e) at_line_left (2 * r) (8 * r) (rows - r) (lit e r (now h)) b (now h) → h.spent ≡ draw_time e (now h) + 58 * r + 4
-        → 1 ≤ h.ticks → Comes (quick e) (waited_pieces (quick e)) (LineLeft r, tt) b h
+        → 1 ≤ h.ticks → RunsBlock (quick e) (waited_pieces (quick e)) (LineLeft r, tt) b h
     line_left_comes o spent tick =
         straight_on (LineLeft r) tt o.holds (painting e at_line_left (2 * r) b) (is_painting o) painted_left
         (omega (arith, o.holds.stack, stack_top_is e, page_low e, o.rd, screen_is e)) refl
@@ -327,7 +327,7 @@ module _ (e : Edition) (b : Machine) (h : Since) (f : FitsMachine b) where
     painted_right = quicks (code (quick e)) 16 (painting e at_line_right (2 * r + 1) b)
 
     pub line_right_comes : Painting (quick e) at_line_right (2 * r + 1) (8 * r + 1) (rows - (r + 1)) (half_lit e r (now h)) b (now h)
-        → h.spent ≡ draw_time e (now h) + 58 * r + 26 → 1 ≤ h.ticks → Comes (quick e) (waited_pieces (quick e)) (LineRight r, tt) b h
+        → h.spent ≡ draw_time e (now h) + 58 * r + 26 → 1 ≤ h.ticks → RunsBlock (quick e) (waited_pieces (quick e)) (LineRight r, tt) b h
     line_right_comes o spent tick =
         straight_on (LineRight r) tt o.holds (painting e at_line_right (2 * r + 1) b) (is_painting o) painted_right
         (omega (arith, o.holds.stack, stack_top_is e, page_low e, o.rd, screen_is e)) refl
@@ -388,7 +388,7 @@ module _ (e : Edition) (b : Machine) (h : Since) (f : FitsMachine b) where
   drawn_by d = record (next (now h)) { screen = difference (now h).screen d; v = slice_set (now h).v 15 (flag (meets (rows_of e) (now h).screen d)) }
 
   pub drawn_comes : Painting (quick e) at_drawn (2 * rows) (8 * rows) 0 (lit e rows (now h)) b (now h)
-      → h.spent ≡ draw_time e (now h) + 58 * rows + 4 → 1 ≤ h.ticks → Comes (quick e) (waited_pieces (quick e)) (Drawn, tt) b h
+      → h.spent ≡ draw_time e (now h) + 58 * rows + 4 → 1 ≤ h.ticks → RunsBlock (quick e) (waited_pieces (quick e)) (Drawn, tt) b h
   drawn_comes o spent tick =
       straight_on Drawn tt o.holds (painting e at_drawn (2 * rows) b) (is_painting o) (quicks (code (quick e)) 10 (painting e at_drawn (2 * rows) b))
       (omega (arith, o.holds.stack, stack_top_is e, page_low e)) refl

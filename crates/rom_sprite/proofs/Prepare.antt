@@ -19,7 +19,7 @@ use Rattle.rom_law.proofs.Moves.{AllGood, quicks, written_is}
 use Rattle.rom_law.specs.Program.{code}
 use Rattle.rom_law.specs.Rows.{Since, Grows, Ends, now}
 use Rattle.rom_law.proofs.Places.{work_set}
-use Rattle.rom_law.proofs.Kept.{Comes}
+use Rattle.rom_law.proofs.Kept.{RunsBlock}
 use Rattle.rom_rows.specs.Heads.{page_of}
 use Rattle.rom_rows.specs.Dots.{left, right, shifted}
 use Rattle.rom_rows.specs.SpriteBlocks.{aim_time, edge_time, rows_time, Preparing, Shifting, column, asked, height}
@@ -94,7 +94,7 @@ module _ (e : Edition) (b : Machine) (h : Since) (f : FitsMachine b) (r : ℕ) w
   -- ---- are all rows prepared
 
   pub row_comes : Preparing (quick e) at_row r r r b (now h) → r ≤ rows → h.spent ≡ 194 + aim_time e (now h) + edge_time e (now h) + rows_time (now h) r
-      → Comes (quick e) (calm_pieces (quick e)) (OfSprite (Row r)) b h
+      → RunsBlock (quick e) (calm_pieces (quick e)) (OfSprite (Row r)) b h
   row_comes o inside spent =
       forks (OfSprite (Row r)) o.holds (on_3 at_row b) (is_on_3 at_row b o.p o.r3) (on_at (quicks (code (quick e)) 2 (on_3 at_row b)))
       (b.regs.r.re.lo == 0) at_ready at_row_byte (omega arith) refl
@@ -180,13 +180,13 @@ module _ (e : Edition) (b : Machine) (h : Since) (f : FitsMachine b) (r : ℕ) w
     no_stop a is = rw (ne_eqb (value (word_of a)) at_halt (λ z. omega (arith, z, is))) refl
 
     pub row_byte_comes : h.spent ≡ 198 + aim_time e (now h) + edge_time e (now h) + rows_time (now h) r
-        → Comes (quick e) (calm_pieces (quick e)) (OfSprite (RowByte r)) b h
+        → RunsBlock (quick e) (calm_pieces (quick e)) (OfSprite (RowByte r)) b h
     row_byte_comes spent = go (cases_eq k 0)
       where
         steady : AllGood (code (quick e)) (calm_top e) 7 (on_3 at_row_byte b)
         steady = omega (arith, o.holds.stack, stack_top_is e, memory_end_is e, page_fits e, o.rd, readable)
 
-        go : (k ≡ 0) ⊎ (k ≡ 0 → ⊥) → Comes (quick e) (calm_pieces (quick e)) (OfSprite (RowByte r)) b h
+        go : (k ≡ 0) ⊎ (k ≡ 0 → ⊥) → RunsBlock (quick e) (calm_pieces (quick e)) (OfSprite (RowByte r)) b h
         go (inl z) =
             straight (OfSprite (RowByte r)) o.holds (on_3 at_row_byte b) (is_on_3 at_row_byte b o.p o.r3) (loaded (word_of at_shifted)) steady
             (entered_at at_shifted (omega (arith, z)))
@@ -250,7 +250,7 @@ module _ (e : Edition) (b : Machine) (h : Since) (f : FitsMachine b) (r : ℕ) w
     shifting : AllGood (code (quick e)) (calm_top e) 6 (on_3 (at_shift7 + 6 * (7 - suc j)) b)
         → quicks (code (quick e)) 6 (on_3 (at_shift7 + 6 * (7 - suc j)) b) ≡ halved (at_shift7 + 6 * (7 - j))
         → is_event (code (quick e)) (halved (at_shift7 + 6 * (7 - j))) ≡ false
-        → Comes (quick e) (calm_pieces (quick e)) (OfSprite (Shift r (suc j))) b h
+        → RunsBlock (quick e) (calm_pieces (quick e)) (OfSprite (Shift r (suc j))) b h
     shifting good runs calm =
         straight (OfSprite (Shift r (suc j))) o.holds (on_3 (at_shift7 + 6 * (7 - suc j)) b) (is_on_3 (at_shift7 + 6 * (7 - suc j)) b o.p o.r3)
         (halved (at_shift7 + 6 * (7 - j))) good runs
@@ -274,7 +274,7 @@ module _ (e : Edition) (b : Machine) (h : Since) (f : FitsMachine b) (r : ℕ) w
 
   pub shift_comes : (j : ℕ) → Preparing (quick e) (at_shift7 + 6 * (7 - j)) r r (r + 1) b (now h) → r < rows → Shifting r j b (now h) → 0 < j → j ≤ k
       → h.spent ≡ 212 + aim_time e (now h) + edge_time e (now h) + rows_time (now h) r + 12 * (k - j)
-      → Comes (quick e) (calm_pieces (quick e)) (OfSprite (Shift r j)) b h
+      → RunsBlock (quick e) (calm_pieces (quick e)) (OfSprite (Shift r j)) b h
   shift_comes zero o inside s some few spent = absurd (omega (arith, some))
   shift_comes (suc zero) o inside s some few spent = shifting 0 o inside s few spent (omega arith) refl refl
   shift_comes (suc (suc zero)) o inside s some few spent = shifting 1 o inside s few spent (omega arith) refl refl
@@ -361,7 +361,7 @@ module _ (e : Edition) (b : Machine) (h : Since) (f : FitsMachine b) (r : ℕ) w
                 ∙ o.prepared.lefts j (omega (arith, z, l))
 
     pub shifted_comes : h.spent ≡ 212 + aim_time e (now h) + edge_time e (now h) + rows_time (now h) r + 12 * k
-        → Comes (quick e) (calm_pieces (quick e)) (OfSprite (Shifted r)) b h
+        → RunsBlock (quick e) (calm_pieces (quick e)) (OfSprite (Shifted r)) b h
     shifted_comes spent =
         forks (OfSprite (Shifted r)) o.holds (preparing e at_shifted (r + r) b) (is_preparing o) stored (last_column == 0) at_row_store at_row_right
         (omega (arith, o.holds.stack, stack_top_is e)) refl
@@ -373,7 +373,7 @@ module _ (e : Edition) (b : Machine) (h : Since) (f : FitsMachine b) (r : ℕ) w
   pub row_right_comes : Preparing (quick e) at_row_right (r + 1) r (r + 1) b (now h) → r < rows → lo ≡ right (column (now h)) byte_of
       → (column (now h) / 8 ≡ 7 → ⊥)
       → h.spent ≡ 226 + aim_time e (now h) + edge_time e (now h) + rows_time (now h) r + 12 * k
-      → Comes (quick e) (calm_pieces (quick e)) (OfSprite (RowRight r)) b h
+      → RunsBlock (quick e) (calm_pieces (quick e)) (OfSprite (RowRight r)) b h
   row_right_comes o inside is before spent = straight (OfSprite (RowRight r)) o.holds (on_3 at_row_right b) (is_on_3 at_row_right b o.p o.r3) _ (omega arith) refl
       (λ h' g. to_sprite (quick e) g _ refl (RowStore r) tt (
         record {
@@ -402,7 +402,7 @@ module _ (e : Edition) (b : Machine) (h : Since) (f : FitsMachine b) (r : ℕ) w
 
   pub row_store_comes : Preparing (quick e) at_row_store (r + 1) r (r + 1) b (now h) → r < rows → b.regs.d ≡ right (column (now h)) byte_of
       → h.spent ≡ 188 + aim_time e (now h) + edge_time e (now h) + rows_time (now h) r + row_cycles (column (now h))
-      → Comes (quick e) (calm_pieces (quick e)) (OfSprite (RowStore r)) b h
+      → RunsBlock (quick e) (calm_pieces (quick e)) (OfSprite (RowStore r)) b h
   row_store_comes o inside is spent =
       straight (OfSprite (RowStore r)) o.holds (preparing e at_row_store (r + 1 + r) b) (is_preparing o) ended (omega arith) refl
       (λ h' g. to_sprite (quick e) g ended refl (Row (r + 1)) tt (

@@ -8,7 +8,7 @@ use Rattle.chip8_lang.specs.State.{Lang}
 use Rattle.rom_law.specs.Program.{Program, code}
 use Rattle.rom_law.specs.Holding.{Places, places, Holding}
 use Rattle.rom_law.specs.Rows.{Since, Starts, after_tick}
-use Rattle.rom_law.proofs.Kept.{Holds}
+use Rattle.rom_law.proofs.Kept.{RunsPlace}
 use Rattle.rom_rows.specs.SpriteBlocks.{woken}
 use Rattle.rom_rows.specs.Table.{Place, pieces}
 use Rattle.rom_sprite.proofs.Rom.{quick}
@@ -28,7 +28,7 @@ woken_fits b f =
 
 -- what a place comes to where main code waits: a tick wakes it
 pub waits : {e : Edition} {b : Machine} {h : Since} {s : Lang} (l : Place) → Holding (quick e) (places (woken b)) s → b.regs.idle ≡ true
-    → ((c : Machine) → Tick (code (quick e)).low b c → Starts (pieces (quick e)) c (after_tick h)) → Holds (quick e) (pieces (quick e)) l b h
+    → ((c : Machine) → Tick (code (quick e)).low b c → Starts (pieces (quick e)) c (after_tick h)) → RunsPlace (quick e) (pieces (quick e)) l b h
 waits l o idle wakes =
     record {
       runs = record { latch = o.latch; enabled = o.enabled; on = o.on; entry = o.entry };

@@ -4,7 +4,7 @@ use Rattle.machine.specs.Board.{Machine}
 use Rattle.machine.specs.Ranges.{FitsMachine}
 use Rattle.chip8_lang.specs.declared.view.Edition.{Edition}
 use Rattle.rom_law.specs.Rows.{Since}
-use Rattle.rom_law.proofs.Kept.{Comes, Holds}
+use Rattle.rom_law.proofs.Kept.{RunsBlock, RunsPlace}
 use Rattle.rom_rows.specs.TimerBlocks.{TimerBlock, TimerPlace}
 use Rattle.rom_rows.specs.TimerBlocks.TimerBlock.{Random, RandomMix, GetDelayPut, SetDelay, SetDelayEnd, SetSound, SetSoundEnd}
 use Rattle.rom_rows.specs.TimerBlocks.TimerPlace.{RandomCount, GetDelay, SetDelayPut, SetSoundPut}
@@ -19,7 +19,7 @@ use Rattle.rom_timer.proofs.Timers.{get_delay_holds, get_delay_put_comes, set_de
 use Rattle.rom_timer.specs.Code.{timer_rom}
 
 pub timer_block : (e : Edition) (l : TimerBlock) (b : Machine) (h : Since) → FitsMachine b → Head (quick e) (OfTimer l) b h
-    → Comes (quick e) (calm_pieces (quick e)) (OfTimer l) b h
+    → RunsBlock (quick e) (calm_pieces (quick e)) (OfTimer l) b h
 timer_block e Random b h f o = random_comes e b h f o.0 o.1
 timer_block e RandomMix b h f o = random_mix_comes e b h f o.0.0 o.0.1 o.0.2 o.1.0 o.1.1
 timer_block e GetDelayPut b h f o = get_delay_put_comes e b h f o.0.0 o.0.1 o.0.2 o.1.0 o.1.1
@@ -32,7 +32,7 @@ pub timer_rows : TimerRows timer_rom
 timer_rows e l = block_rows e (both_is e) (both_fits e) (OfTimer l) (timer_block e l)
 
 pub timer_place : (e : Edition) (l : TimerPlace) (b : Machine) (h : Since) → FitsMachine b → At (quick e) (AtTimer l) b h
-    → Holds (quick e) (calm_pieces (quick e)) (AtTimer l) b h
+    → RunsPlace (quick e) (calm_pieces (quick e)) (AtTimer l) b h
 timer_place e RandomCount b h f o = random_count_holds e b h f o.0.0 o.0.1 o o.1
 timer_place e GetDelay b h f o = get_delay_holds e b h f o.0.0 o.0.1 o o.1
 timer_place e SetDelayPut b h f o = set_delay_put_holds e b h f o.0.0 o.0.1 o.0.2 o o.1

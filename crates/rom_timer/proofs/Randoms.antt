@@ -17,7 +17,7 @@ use Rattle.rom_law.specs.Moments.{Meets}
 use Rattle.rom_law.specs.Rows.{Since, now}
 use Rattle.rom_law.specs.Program.{code}
 use Rattle.rom_law.proofs.Places.{read_is, v_set, random_set}
-use Rattle.rom_law.proofs.Kept.{Comes, Holds}
+use Rattle.rom_law.proofs.Kept.{RunsBlock, RunsPlace}
 use Rattle.rom_law.proofs.Moves.{quicks, reaches_in, reaches_from}
 use Rattle.rom_rows.specs.Heads.{high_byte, low_byte, page_of, Entered, Enters}
 use Rattle.rom_rows.specs.TimerBlocks.{Mixes}
@@ -41,7 +41,7 @@ module _ (e : Edition) (b : Machine) (h : Since) (f : FitsMachine b) where
   abbrev low : ℕ
   low = low_byte (now h)
 
-  pub random_comes : Enters (quick e) at_random 12 b (now h) → h.spent ≡ 80 → Comes (quick e) (calm_pieces (quick e)) (OfTimer Random) b h
+  pub random_comes : Enters (quick e) at_random 12 b (now h) → h.spent ≡ 80 → RunsBlock (quick e) (calm_pieces (quick e)) (OfTimer Random) b h
   random_comes o spent = routine (OfTimer Random) o.entered _ (omega arith) refl
       (λ h' g. to_timer_place (quick e) g _ refl RandomCount (
         record {
@@ -74,7 +74,7 @@ module _ (e : Edition) (b : Machine) (h : Since) (f : FitsMachine b) where
       })
 
   pub random_count_holds : Enters (quick e) at_random_count 12 b (now h) → Mixes b → At (quick e) (AtTimer RandomCount) b h → h.spent ≡ 90
-      → Holds (quick e) (calm_pieces (quick e)) (AtTimer RandomCount) b h
+      → RunsPlace (quick e) (calm_pieces (quick e)) (AtTimer RandomCount) b h
   random_count_holds o m at spent = alone (AtTimer RandomCount) f at o.entered.holds (mixing at_random_count) (is_mixing o.entered m) refl refl refl
       (λ u. to_timer (quick e) (one_more u h) _ refl RandomMix (
         record {
@@ -130,7 +130,7 @@ module _ (e : Edition) (b : Machine) (h : Since) (f : FitsMachine b) where
   put = record (places b) { ram = written b.latch stored (value (word (page_of e) (240 + high % 16))) byte }
 
   pub random_mix_comes : Enters (quick e) at_random_mix 12 b (now h) → Mixes b → b.regs.d ≡ (now h).n % 256 → h.spent ≡ 92 → Meets h.moments 90 h.ticks
-      → Comes (quick e) (calm_pieces (quick e)) (OfTimer RandomMix) b h
+      → RunsBlock (quick e) (calm_pieces (quick e)) (OfTimer RandomMix) b h
   random_mix_comes o m d spent met = record {
     runs = ready o.entered.holds;
     awake = o.entered.holds.awake;

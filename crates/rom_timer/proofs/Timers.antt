@@ -16,7 +16,7 @@ use Rattle.rom_law.specs.Moments.{Meets}
 use Rattle.rom_law.specs.Rows.{Since, now}
 use Rattle.rom_law.specs.Program.{code}
 use Rattle.rom_law.proofs.Places.{v_get, v_set, timers_set}
-use Rattle.rom_law.proofs.Kept.{Comes, Holds}
+use Rattle.rom_law.proofs.Kept.{RunsBlock, RunsPlace}
 use Rattle.rom_law.proofs.Moves.{quicks, reaches_in, reaches_from}
 use Rattle.rom_rows.specs.Heads.{high_byte, low_byte, page_of, Entered, Enters}
 use Rattle.rom_rows.specs.TimerBlocks.{Ended}
@@ -51,7 +51,7 @@ module _ (e : Edition) (b : Machine) (h : Since) (f : FitsMachine b) where
   -- ---- FX07
 
   pub get_delay_holds : Enters (quick e) at_get_delay 15 b (now h) → low ≡ 0x07 → At (quick e) (AtTimer GetDelay) b h → h.spent ≡ 86
-      → Holds (quick e) (calm_pieces (quick e)) (AtTimer GetDelay) b h
+      → RunsPlace (quick e) (calm_pieces (quick e)) (AtTimer GetDelay) b h
   get_delay_holds o kk at spent = alone (AtTimer GetDelay) f at o.entered.holds (entered e at_get_delay high low b) (is_entered o.entered) refl refl refl
       (λ u. to_timer (quick e) (one_more u h) _ refl GetDelayPut
       (record { entered = looks b.regs.r.r8.hi at_get_delay_put o.entered; digit = o.digit }, kk, ap (λ (z : Lang). z.dt) o.entered.holds.is)
@@ -68,7 +68,7 @@ module _ (e : Edition) (b : Machine) (h : Since) (f : FitsMachine b) where
   put v = record (places b) { ram = written b.latch b.ram (value (word (page_of e) (240 + high % 16))) v }
 
   pub get_delay_put_comes : Enters (quick e) at_get_delay_put 15 b (now h) → low ≡ 0x07 → b.regs.d ≡ (now h).dt → h.spent ≡ 88 → Meets h.moments 86 h.ticks
-      → Comes (quick e) (calm_pieces (quick e)) (OfTimer GetDelayPut) b h
+      → RunsBlock (quick e) (calm_pieces (quick e)) (OfTimer GetDelayPut) b h
   get_delay_put_comes o kk d spent met =
       routine (OfTimer GetDelayPut) o.entered _ (omega arith) refl
       (λ h' g. steps e g (GetTimer (high % 16)) (get_is o kk) refl (get_runs o kk) (omega (arith, spent)) (meets_grown g met) _ puts refl refl)
@@ -80,7 +80,7 @@ module _ (e : Edition) (b : Machine) (h : Since) (f : FitsMachine b) where
 
   -- ---- FX15
 
-  pub set_delay_comes : Enters (quick e) at_set_delay 15 b (now h) → low ≡ 0x15 → h.spent ≡ 98 → Comes (quick e) (calm_pieces (quick e)) (OfTimer SetDelay) b h
+  pub set_delay_comes : Enters (quick e) at_set_delay 15 b (now h) → low ≡ 0x15 → h.spent ≡ 98 → RunsBlock (quick e) (calm_pieces (quick e)) (OfTimer SetDelay) b h
   set_delay_comes o kk spent =
       routine (OfTimer SetDelay) o.entered (looked e high low b vx (word_of at_set_delay_put))
       (omega (arith, o.entered.holds.stack, stack_top_is e, page_fits e)) refl
@@ -94,7 +94,7 @@ module _ (e : Edition) (b : Machine) (h : Since) (f : FitsMachine b) where
   delay_runs inside digit kk = rw (inside, digit, kk) refl
 
   pub set_delay_put_holds : Enters (quick e) at_set_delay_put 15 b (now h) → low ≡ 0x15 → b.regs.d ≡ variable (now h) (high % 16)
-      → At (quick e) (AtTimer SetDelayPut) b h → h.spent ≡ 100 → Holds (quick e) (calm_pieces (quick e)) (AtTimer SetDelayPut) b h
+      → At (quick e) (AtTimer SetDelayPut) b h → h.spent ≡ 100 → RunsPlace (quick e) (calm_pieces (quick e)) (AtTimer SetDelayPut) b h
   set_delay_put_holds o kk d at spent =
       alone (AtTimer SetDelayPut) f at o.entered.holds (entered e at_set_delay_put high low b) (is_entered o.entered) refl refl refl
       (λ u. to_timer (quick e) (one_more u h) _ refl SetDelayEnd
@@ -112,7 +112,7 @@ module _ (e : Edition) (b : Machine) (h : Since) (f : FitsMachine b) where
           (timers_set o.entered.holds (word b.regs.d b.regs.r.r8.lo))
 
   pub set_delay_end_comes : Ended (quick e) at_set_delay_end 0x15 b (now h) → h.spent ≡ 102 → Meets h.moments 100 h.ticks
-      → Comes (quick e) (calm_pieces (quick e)) (OfTimer SetDelayEnd) b h
+      → RunsBlock (quick e) (calm_pieces (quick e)) (OfTimer SetDelayEnd) b h
   set_delay_end_comes o spent met = record {
     runs = ready o.done.holds;
     awake = o.done.holds.awake;
@@ -128,7 +128,7 @@ module _ (e : Edition) (b : Machine) (h : Since) (f : FitsMachine b) where
 
   -- ---- FX18
 
-  pub set_sound_comes : Enters (quick e) at_set_sound 15 b (now h) → low ≡ 0x18 → h.spent ≡ 104 → Comes (quick e) (calm_pieces (quick e)) (OfTimer SetSound) b h
+  pub set_sound_comes : Enters (quick e) at_set_sound 15 b (now h) → low ≡ 0x18 → h.spent ≡ 104 → RunsBlock (quick e) (calm_pieces (quick e)) (OfTimer SetSound) b h
   set_sound_comes o kk spent =
       routine (OfTimer SetSound) o.entered (looked e high low b vx (word_of at_set_sound_put))
       (omega (arith, o.entered.holds.stack, stack_top_is e, page_fits e)) refl
@@ -142,7 +142,7 @@ module _ (e : Edition) (b : Machine) (h : Since) (f : FitsMachine b) where
   sound_runs inside digit kk = rw (inside, digit, kk) refl
 
   pub set_sound_put_holds : Enters (quick e) at_set_sound_put 15 b (now h) → low ≡ 0x18 → b.regs.d ≡ variable (now h) (high % 16)
-      → At (quick e) (AtTimer SetSoundPut) b h → h.spent ≡ 106 → Holds (quick e) (calm_pieces (quick e)) (AtTimer SetSoundPut) b h
+      → At (quick e) (AtTimer SetSoundPut) b h → h.spent ≡ 106 → RunsPlace (quick e) (calm_pieces (quick e)) (AtTimer SetSoundPut) b h
   set_sound_put_holds o kk d at spent =
       alone (AtTimer SetSoundPut) f at o.entered.holds (entered e at_set_sound_put high low b) (is_entered o.entered) refl refl refl
       (λ u. to_timer (quick e) (one_more u h) _ refl SetSoundEnd
@@ -160,7 +160,7 @@ module _ (e : Edition) (b : Machine) (h : Since) (f : FitsMachine b) where
           (timers_set o.entered.holds (word b.regs.r.r8.hi b.regs.d))
 
   pub set_sound_end_comes : Ended (quick e) at_set_sound_end 0x18 b (now h) → h.spent ≡ 108 → Meets h.moments 106 h.ticks
-      → Comes (quick e) (calm_pieces (quick e)) (OfTimer SetSoundEnd) b h
+      → RunsBlock (quick e) (calm_pieces (quick e)) (OfTimer SetSoundEnd) b h
   set_sound_end_comes o spent met = record {
     runs = ready o.done.holds;
     awake = o.done.holds.awake;

@@ -20,7 +20,7 @@ use Rattle.vip_video.specs.Chip.{Pictures, nothing_before, scanned}
 use Rattle.vip_video.proofs.Room.{IsDmaPlace, dma-place}
 use Rattle.vip_board.specs.Moves.{moved, pictures_after, scanned_over, bus_byte_in}
 use Rattle.vip_board.specs.Seen.{Seen, held_by}
-use Rattle.vip_board.specs.Shown.{dma_bytes, bytes_from, window_bytes, shown_frames, shown_since, ShowsSince, CarriesOn}
+use Rattle.vip_board.specs.Shown.{dma_bytes, bytes_from, window_bytes, shown_frames, shown_since, HasPicturesSince, CarriesOn}
 use Rattle.vip_board.proofs.Drawn.{picture, Drawn, Next, covers, after-cycle}
 
 -- ---- pictures by the bytes of their lines
@@ -37,7 +37,7 @@ last-is : (rom : List ℕ) (run : List Machine) (o : Option ℕ) → option_map 
 last-is rom run None = refl
 last-is rom run (Some m) = ap Some (picture-is rom run m)
 
-to-drawn : (from : ℕ) (rom : List ℕ) (run : List Machine) (t : ℕ) (p : Pictures) → ShowsSince from rom run t p
+to-drawn : (from : ℕ) (rom : List ℕ) (run : List Machine) (t : ℕ) (p : Pictures) → HasPicturesSince from rom run t p
     → Drawn (shown_since from rom run) (dma_bytes rom run) t p
 to-drawn from rom run t p s =
     record {
@@ -56,7 +56,7 @@ frames-same shown shown' h (suc n) =
     ∙ ap (λ l. cond (shown n) (n ∷ l) l) (frames-same shown shown' h n)
 
 from-drawn : (from : ℕ) (rom : List ℕ) (run : List Machine) (shown : ℕ → Bool) (t : ℕ) (p : Pictures)
-    → ((m : ℕ) → shown_since from rom run m ≡ shown m) → Drawn shown (dma_bytes rom run) t p → ShowsSince from rom run t p
+    → ((m : ℕ) → shown_since from rom run m ≡ shown m) → Drawn shown (dma_bytes rom run) t p → HasPicturesSince from rom run t p
 from-drawn from rom run shown t p h d =
     let same = frames-same shown (shown_since from rom run) h (windows_ended t) in
     record {
@@ -200,7 +200,7 @@ module _ (from : ℕ) (rom : List ℕ) (run : List Machine) (b : Machine) where
   some_length Interrupt = omega arith
   some_length Idle = omega arith
 
-  whole : (n k : ℕ) (p : Pictures) → n ≡ suc k → ShowsSince from rom run b.cycle p
+  whole : (n k : ℕ) (p : Pictures) → n ≡ suc k → HasPicturesSince from rom run b.cycle p
       → Drawn (shown_after n) bytes_after (b.cycle + n) (scanned_over n b.cycle b.on (bus_byte_in (case_of b) rom b) p)
   whole n k p e s =
       let N : ℕ → Type 0 = λ x. Drawn (shown_after x) bytes_after (b.cycle + x) (scanned_over x b.cycle b.on (bus_byte_in (case_of b) rom b) p) in
@@ -210,7 +210,7 @@ module _ (from : ℕ) (rom : List ℕ) (run : List Machine) (b : Machine) where
       (after-cycle (shown_since from rom run) (dma_bytes rom run) b.cycle b.on (bus_byte_in (case_of b) rom b) (shown_after 1) bytes_after p
       (to-drawn from rom run b.cycle p s) first))
 
-  pub shows-move : (p : Pictures) → ShowsSince from rom run b.cycle p → ShowsSince from rom (run ++ b ∷ []) (b.cycle + length_of rom b) (pictures_after rom b p)
+  pub shows-move : (p : Pictures) → HasPicturesSince from rom run b.cycle p → HasPicturesSince from rom (run ++ b ∷ []) (b.cycle + length_of rom b) (pictures_after rom b p)
   unfolding pictures_after
   shows-move p s =
       let one : 1 ≤ length_of rom b = some_length (case_of b) in
@@ -230,7 +230,7 @@ none-shown rom t (suc n) h =
 begins-later : (t : ℕ) → nat_le (t % frame) (interrupt_line * line_cycles) ≡ nat_le t (interrupt_at (t / frame))
 begins-later t = grind (arith, nat_tests)
 
-pub shows-nothing : (rom : List ℕ) (t : ℕ) → ShowsSince t rom [] t (nothing_before t)
+pub shows-nothing : (rom : List ℕ) (t : ℕ) → HasPicturesSince t rom [] t (nothing_before t)
 unfolding is_shown window_bytes
 shows-nothing rom t =
     let none = none-shown rom t (windows_ended t) (omega arith) in
@@ -245,5 +245,5 @@ shows-nothing rom t =
 
 pub carries-on : (s : Seen) → CarriesOn s (moved s)
 carries-on s from run h =
-    let Cycle : ℕ → Type 0 = λ t. ShowsSince from s.rom (run ++ s.machine ∷ []) t (pictures_after s.rom s.machine s.pictures) in
+    let Cycle : ℕ → Type 0 = λ t. HasPicturesSince from s.rom (run ++ s.machine ∷ []) t (pictures_after s.rom s.machine s.pictures) in
     subst Cycle (sym (cycle-move s.rom (held_by s) s.machine)) (shows-move from s.rom run s.machine s.pictures h)

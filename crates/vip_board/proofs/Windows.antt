@@ -7,7 +7,7 @@ use Rattle.std.proofs.lemmas.Bool.Decides.{nat_tests}
 use Rattle.machine.specs.Board.{Machine}
 use Rattle.machine.specs.Pictures.{interrupt_at, window_end, windows_ended, picture_of, is_shown}
 use Rattle.machine.proofs.Counts.{windows}
-use Rattle.vip_board.specs.Shown.{Shows, shown_frames, shown_since}
+use Rattle.vip_board.specs.Shown.{HasPictures, shown_frames, shown_since}
 use Rattle.vip_video.specs.Chip.{Pictures}
 
 -- the window of a frame among the first so many has ended
@@ -40,7 +40,7 @@ since_reset rom run = λ i m. all_late (interrupt_at m) i && is_shown rom run m
     all_late : (t : ℕ) → nat_le 0 t ≡ true
     all_late t = le-leb 0 t (omega arith)
 
-module _ (rom : List ℕ) (run : List Machine) (cycle : ℕ) (p : Pictures) (shows : Shows rom run cycle p) where
+module _ (rom : List ℕ) (run : List Machine) (cycle : ℕ) (p : Pictures) (shows : HasPictures rom run cycle p) where
   pub counted : p.count ≡ length (shown_frames (is_shown rom run) (windows_ended cycle))
   counted = shows.count ∙ ap (λ shown. length (shown_frames shown (windows_ended cycle))) (since_reset rom run)
 

@@ -32,7 +32,7 @@ shown_since from rom run m = nat_le from (interrupt_at m) && is_shown rom run m
 
 -- The moves of `run` have been made since cycle `from`, and `cycle` is the number of the present machine cycle. A frame whose window
 -- hasn't ended is shown so far where the display was on in each of those cycles that has passed.
-pub record ShowsSince (from : ℕ) (rom : List ℕ) (run : List Machine) (cycle : ℕ) (p : Pictures) : Type 0 where
+pub record HasPicturesSince (from : ℕ) (rom : List ℕ) (run : List Machine) (cycle : ℕ) (p : Pictures) : Type 0 where
   -- the present frame
   pub shown : p.shown ≡ shown_since from rom run (cycle / frame)
   pub lines : p.lines ≡ window_bytes (dma_bytes rom run) (cycle / frame)
@@ -44,11 +44,11 @@ pub record ShowsSince (from : ℕ) (rom : List ℕ) (run : List Machine) (cycle 
   pub later_lines : (line : ℕ) → cycle ≤ line_cycles * line → dma_bytes rom run line ≡ []
 
 -- the same since reset
-abbrev pub Shows : List ℕ → List Machine → ℕ → Pictures → Type 0
-Shows = ShowsSince 0
+abbrev pub HasPictures : List ℕ → List Machine → ℕ → Pictures → Type 0
+HasPictures = HasPicturesSince 0
 
 -- where a board has the pictures of the moves made so far, it has them with one move more after that move
 abbrev pub CarriesOn : Seen → Seen → Type 0
 CarriesOn s v =
-    (from : ℕ) (run : List Machine) → ShowsSince from s.rom run s.machine.cycle s.pictures
-    → ShowsSince from v.rom (run ++ s.machine ∷ []) v.machine.cycle v.pictures
+    (from : ℕ) (run : List Machine) → HasPicturesSince from s.rom run s.machine.cycle s.pictures
+    → HasPicturesSince from v.rom (run ++ s.machine ∷ []) v.machine.cycle v.pictures

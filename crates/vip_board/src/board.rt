@@ -5,7 +5,7 @@ ghost use Rattle.machine.specs.Instruction.{at};
 ghost use Rattle.machine.specs.Ranges.{FitsMachine, FitsRom};
 ghost use Rattle.machine.specs.Signals.{int_at, dma_at};
 ghost use Rattle.vip_video.specs.Quiet.{IsQuiet};
-ghost use Rattle.vip_board.specs.Shown.{Shows, ShowsSince, CarriesOn};
+ghost use Rattle.vip_board.specs.Shown.{HasPictures, HasPicturesSince, CarriesOn};
 ghost use Rattle.vip_board.specs.Seen.{byte_in};
 
 use crate::port::{Joined, Wire};
@@ -76,7 +76,7 @@ impl Board {
     pub fn reset(alloc: Global, rom: &[u8], script: &Script) -> Result<Board, AllocError>
         requires { length rom.now ≡ 0x800 }
         ensures board { IfOk result (λ b. b ≡ record { machine = after_reset; phase = Phase.Boundary; pictures = nothing_yet; rom = rom.now; script = script.now }) }
-        ensures pictures { IfOk result (λ b. Shows b.rom [] b.machine.cycle b.pictures) }
+        ensures pictures { IfOk result (λ b. HasPictures b.rom [] b.machine.cycle b.pictures) }
         ensures fits { IfOk result (λ b. FitsMachine b.machine × FitsRom b.rom) }
     {
         let memory = Memory::new(alloc, rom)?;
@@ -112,7 +112,7 @@ impl Board {
         requires p { parts.now.p < 16 }
         requires x { parts.now.x < 16 }
         ensures board { IfOk result (λ b. b ≡ record { machine = record { regs = regs_of parts.now; ram = ram.now; latch = false; on = true; key = key; cycle = t }; phase = Phase.Boundary; pictures = nothing_before t; rom = rom.now; script = script.now }) }
-        ensures pictures { IfOk result (λ b. ShowsSince t b.rom [] b.machine.cycle b.pictures) }
+        ensures pictures { IfOk result (λ b. HasPicturesSince t b.rom [] b.machine.cycle b.pictures) }
         ensures fits { IfOk result (λ b. FitsMachine b.machine × FitsRom b.rom) }
     {
         let mut memory = Memory::new(alloc, rom)?;

@@ -26,7 +26,7 @@ use Rattle.vip_tools.specs.Certificates.SafeComes.{Proves}
 use Rattle.vip_tools.specs.Files.{needed, HasAll}
 use Rattle.vip_tools.specs.Outcome.{Outcome}
 use Rattle.vip_tools.specs.Outcome.Outcome.{Shown}
-use Rattle.vip_verbs.specs.Outcome.{Comes}
+use Rattle.vip_verbs.specs.Outcome.{HasOutcome}
 use Rattle.vip_call.specs.Certified.{Certifies, IsSafe, LeavesInTime, NoneStops, WritesCertificate}
 use Rattle.vip_call.specs.Top.{Call, ProvesCertified}
 
@@ -101,7 +101,7 @@ module _ (routines : AcceptedIsWithin) (games : CertifiedGames) (law : EveryRun)
 
   shows :
       (old : FilesMeaning) (asked : Asked) (contents pieces : List (List ℕ)) (status : Status) (report : List ℕ) → HasAll old (needed asked) contents
-      → Comes asked contents (Shown pieces status report) → Certifies asked contents pieces
+      → HasOutcome asked contents (Shown pieces status report) → Certifies asked contents pieces
   unfolding OfRoutine OfGame OfSearch
   shows old (trace a) contents pieces status report read comes = tt
   shows old (play a) contents pieces status report read comes = tt

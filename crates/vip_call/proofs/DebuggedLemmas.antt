@@ -141,8 +141,8 @@ module _ (e : Edition) (game : List ℕ) (script : List KeyEvent) (limit : ℕ) 
   abbrev past_of : ℕ → List Event
   past_of n = past i (Reset game) script n
 
-  abbrev Comes : ℕ → Type 0
-  Comes n = Reached (run_at v 0) limit n
+  abbrev ReachedInTime : ℕ → Type 0
+  ReachedInTime n = Reached (run_at v 0) limit n
 
   abbrev events : List Event
   events = events_to v limit
@@ -206,7 +206,7 @@ module _ (e : Edition) (game : List ℕ) (script : List KeyEvent) (limit : ℕ) 
       first before (inr p) = at_last n b p
 
   -- so many moves are made up to its cycle
-  until_is : (n : ℕ) → Comes n → moves_until v (at_state n).cycle ≡ n
+  until_is : (n : ℕ) → ReachedInTime n → moves_until v (at_state n).cycle ≡ n
   until_is n r =
       omega (
         arith,
@@ -215,7 +215,7 @@ module _ (e : Edition) (game : List ℕ) (script : List KeyEvent) (limit : ℕ) 
         last-here (run_at v 0) (at_state n).cycle n (omega arith) (later-move i.rom (held_at script) (at_state n)),
       )
 
-  lower : (n k : ℕ) → k ≤ n → Comes n → (j : ℕ) → j < k → is_stop i (at_state j) ≡ false
+  lower : (n k : ℕ) → k ≤ n → ReachedInTime n → (j : ℕ) → j < k → is_stop i (at_state j) ≡ false
   lower n k l r j m = r.runs j (omega (arith, l, m))
 
   -- a dispatch point of the run is the state at which the board stands when it has come to it
@@ -229,10 +229,10 @@ module _ (e : Edition) (game : List ℕ) (script : List KeyEvent) (limit : ℕ) 
       s : Stands (suc end) b
       s = stands (suc end) b (subst (λ es. Among b (dispatches es)) (all_past e game script limit) a)
 
-      last : Comes end
+      last : ReachedInTime end
       last = last_until e game script limit
 
-      here : Comes s.k
+      here : ReachedInTime s.k
       here = record { within = omega (arith, earlier_cycle, last.within); runs = λ j l. last.runs j (omega (arith, l, s.below)) }
         where
           earlier_cycle : (at_state s.k).cycle ≤ (at_state end).cycle
@@ -269,7 +269,7 @@ module _ (e : Edition) (game : List ℕ) (script : List KeyEvent) (limit : ℕ) 
   unfolding lines_at
   sought_end = by_test (is_stop i (at_state end)) refl
     where
-      r : Comes end
+      r : ReachedInTime end
       r = last_until e game script limit
 
       none : is_stop i (at_state end) ≡ false → NoStop (past_of (suc end))
@@ -298,7 +298,7 @@ module _ (e : Edition) (game : List ℕ) (script : List KeyEvent) (limit : ℕ) 
 
   -- ---- the last dispatch point met
 
-  last_among : (p : Place) → Comes p.moves → (b : Machine) → last_dispatch (met_at v p) ≡ Some b → Among b (dispatches events)
+  last_among : (p : Place) → ReachedInTime p.moves → (b : Machine) → last_dispatch (met_at v p) ≡ Some b → Among b (dispatches events)
   last_among p r b is =
       let t = taken b p.met (length (dispatches (met_at v p)) - 1) (events_by v p.moves) is in
       let here : events_by v p.moves ≡ past_of (suc p.moves) =
@@ -307,7 +307,7 @@ module _ (e : Edition) (game : List ℕ) (script : List KeyEvent) (limit : ℕ) 
       let a = longer b t.place (past_of (suc p.moves)) g.others (ap (λ es. slice_get (dispatches es) t.place) (sym here) ∙ t.there) in
       record { place = a.place; there = ap (λ es. slice_get (dispatches es) a.place) g.is ∙ a.there }
 
-  module _ (p : Place) (r : Comes p.moves) where
+  module _ (p : Place) (r : ReachedInTime p.moves) where
     states : Answers e points ending (command.Tells State) (told v State p)
     unfolding view_at
     states = by_last (last_dispatch (met_at v p)) refl
@@ -352,7 +352,7 @@ module _ (e : Edition) (game : List ℕ) (script : List KeyEvent) (limit : ℕ) 
     answers (command.Tells State) = states
     answers (command.Tells Screen) = screens
 
-  all_answered : (commands : List Command) (p : Place) → Comes p.moves → AllAnswered e points ending commands (written v limit commands p)
+  all_answered : (commands : List Command) (p : Place) → ReachedInTime p.moves → AllAnswered e points ending commands (written v limit commands p)
   all_answered [] p r = refl
   all_answered (c ∷ commands) p r =
       record {

@@ -23,7 +23,7 @@ use Rattle.vip_tools.specs.Certificates.SafeComes.{FaultyProof, Proves}
 use Rattle.vip_tools.specs.Outcome.{Outcome, SourceComes}
 use Rattle.vip_tools.specs.Outcome.Outcome.{Refused, Shown, GivenUp}
 use Rattle.vip_tools.specs.Outcome.SourceComes.{FaultySource, Assembles}
-use Rattle.vip_verbs.specs.Outcome.{Comes, RunTo, DebugComes, ResumeComes, LinkComes, RomIs, saved_as}
+use Rattle.vip_verbs.specs.Outcome.{HasOutcome, RunTo, DebugComes, ResumeComes, LinkComes, RomIs, saved_as}
 use Rattle.vip_verbs.specs.Outcome.RunTo.{FaultyScript, FaultyRom, Runs}
 use Rattle.vip_verbs.specs.Outcome.LinkComes.{FaultyRoms, Links}
 use Rattle.vip_verbs.specs.Programs.{ProgramComes, ProgramDebugComes}
@@ -106,7 +106,7 @@ module _ (given : RomsGiven) where
   link_free a message _ (Links fine s is) = tt
 
   -- so is what any command comes to
-  comes_free : (asked : Asked) (contents : List (List ℕ)) (o : Outcome) → Comes asked contents o → Free o
+  comes_free : (asked : Asked) (contents : List (List ℕ)) (o : Outcome) → HasOutcome asked contents o → Free o
   comes_free (trace a) [] o x = absurd x
   comes_free (trace a) (game ∷ scripts) o x = run_free a.run.edition scripts _ o (λ script. tt) x
   comes_free (play a) [] o x = absurd x
@@ -157,7 +157,7 @@ module _ (given : RomsGiven) where
   comes_free (certify a) (game ∷ c ∷ cs) o x = absurd x
 
   pub rom_never : (asked : Asked) (contents : List (List ℕ)) (status : Status) (report : List ℕ)
-      → Comes asked contents (Refused status report) → ¬ IsOfRom status
+      → HasOutcome asked contents (Refused status report) → ¬ IsOfRom status
   rom_never asked contents status report x = comes_free asked contents (Refused status report) x
 
   pub never_of_rom : (status : Status) (call : Call) → Says status call → ¬ IsOfRom status

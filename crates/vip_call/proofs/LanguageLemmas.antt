@@ -25,7 +25,7 @@ use Rattle.vip_tools.specs.Files.{needed, HasAll}
 use Rattle.vip_call.specs.Language.{named, IsChip8, RunIsChip8, DebugsChip8, ShowsChip8}
 use Rattle.vip_tools.specs.Outcome.{Outcome}
 use Rattle.vip_tools.specs.Outcome.Outcome.{Refused, Shown, GivenUp}
-use Rattle.vip_verbs.specs.Outcome.{Comes, RunComes, DebugComes, SaveComes, run_of, events_in, run_ending, debug_ending, saved_as}
+use Rattle.vip_verbs.specs.Outcome.{HasOutcome, RunComes, DebugComes, SaveComes, run_of, events_in, run_ending, debug_ending, saved_as}
 use Rattle.vip_verbs.specs.Outcome.RunTo.{FaultyScript, FaultyRom, Runs}
 use Rattle.vip_call.specs.Top.{Call, SpeaksChip8}
 use Rattle.vip_tools.specs.declared.status.Status.{Status}
@@ -134,7 +134,7 @@ module _ (law : EveryRun) (frames : EveryFrame) (frames_from : FramesFromFile) w
   shows :
       (from : FromFile) (old : FilesMeaning) (asked : Asked) (contents pieces : List (List ℕ)) (status : Status) (report : List ℕ)
       → HasAll old (needed asked) contents
-      → Comes asked contents (Shown pieces status report) → ShowsChip8 asked contents status report
+      → HasOutcome asked contents (Shown pieces status report) → ShowsChip8 asked contents status report
   unfolding OfRun OfDebug OfResumed
   shows from old (trace a) [] pieces status report read comes = tt
   shows from old (trace a) (game ∷ scripts) pieces status report read comes =

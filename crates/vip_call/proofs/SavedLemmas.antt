@@ -18,9 +18,9 @@ use Rattle.vip_words.specs.Asked.{Asked, AskedRun, most_cycles, trace, play, deb
 use Rattle.vip_tools.specs.Files.{needed, HasAll}
 use Rattle.vip_tools.specs.Outcome.{Outcome, script_in}
 use Rattle.vip_tools.specs.Outcome.Outcome.{Refused, Shown}
-use Rattle.vip_verbs.specs.Outcome.{Comes, RunTo, RomIs, events_in, run_ending, saved, saved_as, resumed as resumed_outcome}
+use Rattle.vip_verbs.specs.Outcome.{HasOutcome, RunTo, RomIs, events_in, run_ending, saved, saved_as, resumed as resumed_outcome}
 use Rattle.vip_verbs.specs.Outcome.RunTo.{FaultyScript, FaultyRom, Runs}
-use Rattle.vip_call.specs.Saved.{Continues, GoesOnAsRun, IsRest, traced, resumed}
+use Rattle.vip_call.specs.Saved.{Continues, GoesOnAsRun, IsRest, trace_request, resume_request}
 use Rattle.vip_call.specs.Top.{Call, ContinuesSaved}
 use Rattle.vip_show.proofs.OneAnswer.{one_edition}
 use Rattle.vip_call.proofs.TopLemmas.{rom_is_fine_or_not}
@@ -34,7 +34,7 @@ not_refused : (p : List (List ℕ)) (a b : Status) (r s : List ℕ) → Refused 
 not_refused p a b r s h = cc
 
 -- a run that is shown has a script that is read, and its ROM is right
-record Shows (e : Edition) (scripts : List (List ℕ)) (outcome : List KeyEvent → Outcome) (o : Outcome) : Type 0 where
+record ShowsState (e : Edition) (scripts : List (List ℕ)) (outcome : List KeyEvent → Outcome) (o : Outcome) : Type 0 where
   script : List KeyEvent
   reads : script_in scripts ≡ Ok script
   rom : RomIs e (Ok tt)
@@ -42,10 +42,10 @@ record Shows (e : Edition) (scripts : List (List ℕ)) (outcome : List KeyEvent 
 
 shows_of :
     (e : Edition) (scripts : List (List ℕ)) (outcome : List KeyEvent → Outcome) (p : List (List ℕ)) (a : Status) (r : List ℕ)
-    → RunTo e scripts outcome (Shown p a r) → Shows e scripts outcome (Shown p a r)
+    → RunTo e scripts outcome (Shown p a r) → ShowsState e scripts outcome (Shown p a r)
 shows_of e scripts outcome p a r x = go (Shown p a r) refl x
   where
-    go : (o : Outcome) → o ≡ Shown p a r → RunTo e scripts outcome o → Shows e scripts outcome (Shown p a r)
+    go : (o : Outcome) → o ≡ Shown p a r → RunTo e scripts outcome o → ShowsState e scripts outcome (Shown p a r)
     go _ h (FaultyScript l c y) = absurd (not_refused p _ a _ r h)
     go _ h (FaultyRom t f y is rom) = absurd (not_refused p _ a _ r h)
     go _ h (Runs t y rom) = record { script = t; reads = y; rom = rom; is = h }
@@ -76,10 +76,10 @@ module _
       (end_report limit (run_ending e game limit script))
 
   -- the records up to the first limit
-  first_are : (first : List (List ℕ)) (status : Status) (report : List ℕ) → Comes (traced a with_time a.cycles) (game ∷ scripts) (Shown first status report)
+  first_are : (first : List (List ℕ)) (status : Status) (report : List ℕ) → HasOutcome (trace_request a with_time a.cycles) (game ∷ scripts) (Shown first status report)
       → first ≡ trace_lines e with_time (events_in e game script a.cycles)
   first_are first status report comes =
-      let s : Shows e scripts (trace_outcome a.cycles) (Shown first status report) = shows_of e scripts (trace_outcome a.cycles) first status report comes in
+      let s : ShowsState e scripts (trace_outcome a.cycles) (Shown first status report) = shows_of e scripts (trace_outcome a.cycles) first status report comes in
       sym (same_pieces _ first _ status _ report s.is)
       ∙ append-nil (trace_lines e with_time (events_in e game s.script a.cycles))
       ∙ ap (λ script. trace_lines e with_time (events_in e game script a.cycles)) (same_script scripts script s.script reads s.reads)
@@ -102,11 +102,11 @@ module _
       (Shown pieces (end_status (run_ending e game later script)) (end_report later (run_ending e game later script)))) lines outcome)
 
   abbrev asked : Asked
-  asked = resumed a name with_time later
+  asked = resume_request a name with_time later
 
   rest : (first : List (List ℕ)) (status : Status) (report : List ℕ) (o : Outcome)
-      → Comes (traced a with_time a.cycles) (game ∷ scripts) (Shown first status report)
-      → Comes asked (file ∷ scripts) o → IsRest a game scripts with_time later first o
+      → HasOutcome (trace_request a with_time a.cycles) (game ∷ scripts) (Shown first status report)
+      → HasOutcome asked (file ∷ scripts) o → IsRest a game scripts with_time later first o
   rest first status report o comes x =
       by_run o (subst (λ d. RunTo d scripts (resumed_outcome (record { state = name; cycles = later; keys = a.keys; with_time = with_time }) d file) o)
       (one_edition x.edition e file x.accepted run.accepted) x.comes)
@@ -129,10 +129,10 @@ module _ (law : SavedGoesOn) where
   saves :
       (a : AskedRun) (game : List ℕ) (scripts : List (List ℕ)) (file : List ℕ) (others : List (List ℕ)) (status : Status) (report : List ℕ)
       → length game ≤ memory_size a.edition → ((i : ℕ) → slice_index game i < 256)
-      → Comes (save a) (game ∷ scripts) (Shown (file ∷ others) status report) → a.cycles ≤ most_cycles
+      → HasOutcome (save a) (game ∷ scripts) (Shown (file ∷ others) status report) → a.cycles ≤ most_cycles
       → (others ≡ []) × GoesOnAsRun a game scripts file
   saves a game scripts file others status report fits bytes comes low =
-      let s : Shows a.edition scripts (λ script. saved a.edition a.cycles (events_in a.edition game script a.cycles)) (Shown (file ∷ others) status report) =
+      let s : ShowsState a.edition scripts (λ script. saved a.edition a.cycles (events_in a.edition game script a.cycles)) (Shown (file ∷ others) status report) =
       shows_of a.edition scripts _ (file ∷ others) status report comes in
       let is =
       one_piece a.cycles (run_ending a.edition game a.cycles s.script) (saved_file a.edition (events_in a.edition game s.script a.cycles)) file others
@@ -151,7 +151,7 @@ module _ (law : SavedGoesOn) where
 
   shows :
       (old : FilesMeaning) (asked : Asked) (contents pieces : List (List ℕ)) (status : Status) (report : List ℕ) → HasAll old (needed asked) contents
-      → Comes asked contents (Shown pieces status report) → Continues asked contents pieces
+      → HasOutcome asked contents (Shown pieces status report) → Continues asked contents pieces
   shows old (save a) [] pieces status report read comes = tt
   shows old (save a) (game ∷ scripts) [] status report read comes = tt
   shows old (save a) (game ∷ scripts) (file ∷ others) status report read comes =

@@ -38,7 +38,7 @@ use Rattle.vip_tools.proofs.FilesLemmas.{names_read}
 use Rattle.vip_tools.specs.Outcome.{Outcome, SourceComes, rom_text}
 use Rattle.vip_tools.specs.Outcome.Outcome.{Refused, Shown, GivenUp}
 use Rattle.vip_tools.specs.Outcome.SourceComes.{FaultySource, Assembles}
-use Rattle.vip_verbs.specs.Outcome.{Comes, RunTo, DebugComes, ResumeComes, LinkComes, RomIs, IsFault, resumed, saved_as}
+use Rattle.vip_verbs.specs.Outcome.{HasOutcome, RunTo, DebugComes, ResumeComes, LinkComes, RomIs, IsFault, resumed, saved_as}
 use Rattle.vip_verbs.specs.Outcome.RunTo.{FaultyScript, FaultyRom, Runs}
 use Rattle.vip_verbs.specs.Outcome.LinkComes.{FaultyRoms, Links}
 use Rattle.vip_verbs.specs.Programs.{ProgramComes, ProgramDebugComes}
@@ -58,7 +58,7 @@ use Rattle.vip_tools.specs.declared.ended.Ended.TheVariants.{Worked, Ran, Idle, 
 use Rattle.vip_tools.specs.declared.fault.PerformFault.{PerformFault}
 use Rattle.vip_tools.specs.declared.fault.PerformFault.TheVariants as perform
 use Rattle.vip_tools.specs.Report.{cannot_read, ended_report, fault_report, no_certificate, no_dispatch, report_of, report_pieces, too_large_report, write_fault}
-use Rattle.vip_call.specs.Top.{Call, call_of, Asks, Oversize, Rejects, GivesUp, Shows, Faulty, Says, IsQuiet, Reading, Lacks, Larger, Whole, with_content, Due, Lacking, TooLarge, Refusing, Showing, RefusesWords, Offers, IsSearch, IsFree, GivesDue, IsOfRom, AreRefused, Completes, FaultyState, Faulted, ReadsContent, ReadsOne, Reads, Faulting}
+use Rattle.vip_call.specs.Top.{Call, call_of, Asks, Oversize, Rejects, GivesUp, WritesExactly, Faulty, Says, IsQuiet, Reading, Lacks, Larger, Whole, with_content, Due, Lacking, TooLarge, Refusing, Showing, RefusesWords, Offers, IsSearch, IsFree, GivesDue, IsOfRom, AreRefused, Completes, FaultyState, Faulted, ReadsContent, ReadsOne, Reads, Faulting}
 use Rattle.vip_tools.specs.declared.refusal.Kind.{Kind}
 use Rattle.vip_tools.specs.declared.refusal.Kind.TheVariants as kind
 use Rattle.vip_tools.specs.declared.refusal.Refusal.{Refusal}
@@ -293,7 +293,7 @@ no_proof d g text report x = go (GivenUp report) refl x
     go _ e (Proves n a) = cc
 
 -- a command comes to one outcome by the contents of its files
-agree : (asked : Asked) (contents : List (List ℕ)) (o p : Outcome) → Comes asked contents o → Comes asked contents p → Agree o p
+agree : (asked : Asked) (contents : List (List ℕ)) (o p : Outcome) → HasOutcome asked contents o → HasOutcome asked contents p → Agree o p
 agree (trace a) [] o p x y = absurd x
 agree (trace a) (game ∷ scripts) o p x y = runs_agree a.run.edition scripts _ o p x y
 agree (play a) [] o p x y = absurd x
@@ -344,7 +344,7 @@ agree (certify a) (game ∷ []) o p x y = searches_agree a.edition game o p x y
 agree (certify a) (game ∷ c ∷ cs) o p x y = absurd x
 
 -- only a search is given up
-given_up : (asked : Asked) (contents : List (List ℕ)) (report : List ℕ) → Comes asked contents (GivenUp report) → IsSearch asked
+given_up : (asked : Asked) (contents : List (List ℕ)) (report : List ℕ) → HasOutcome asked contents (GivenUp report) → IsSearch asked
 given_up (trace a) [] report x = absurd x
 given_up (trace a) (game ∷ scripts) report x = no_run a.run.edition scripts _ report (λ script h. not_shown _ _ _ report h) x
 given_up (play a) [] report x = absurd x
@@ -515,8 +515,8 @@ module _ (call : Call) (asked : Asked) (files : FileMap) (offers : Offers call a
   whole mine contents asks =
       subst (λ a. Reads files (needed a) (Whole contents)) (same mine asks.words) (reads call.files files offers.told (needed mine) contents asks.read)
 
-  comes_here : (mine : Asked) (contents : List (List ℕ)) (o : Outcome) → Asks call mine contents → Comes mine contents o → Comes asked contents o
-  comes_here mine contents o asks comes = subst (λ a. Comes a contents o) (same mine asks.words) comes
+  comes_here : (mine : Asked) (contents : List (List ℕ)) (o : Outcome) → Asks call mine contents → HasOutcome mine contents o → HasOutcome asked contents o
+  comes_here mine contents o asks comes = subst (λ a. HasOutcome a contents o) (same mine asks.words) comes
 
   -- what was given up is a search
   searches : GivesUp call → IsSearch asked
@@ -572,24 +572,24 @@ module _ (call : Call) (asked : Asked) (files : FileMap) (offers : Offers call a
   due_shown pieces status report (Shown p s r) out err e = (e, out, err)
   due_shown pieces status report (GivenUp r) out err e = tt
 
-  due_whole : (r : Reading) (due : Status) → Due call asked r due → (cs : List (List ℕ)) (o : Outcome) → r ≡ Whole cs → Comes asked cs o → DueBy o due
+  due_whole : (r : Reading) (due : Status) → Due call asked r due → (cs : List (List ℕ)) (o : Outcome) → r ≡ Whole cs → HasOutcome asked cs o → DueBy o due
   due_whole _ _ Lacking cs o e comes = absurd (cc)
   due_whole _ _ (TooLarge k) cs o e comes = absurd (cc)
   due_whole _ _ Faulting cs o e comes = absurd (cc)
   due_whole _ _ (Refusing contents status report given) cs o e comes =
       let read : contents ≡ cs = cc in
-      due_refused status report o (agree asked cs (Refused status report) o (subst (λ c. Comes asked c (Refused status report)) read given) comes)
+      due_refused status report o (agree asked cs (Refused status report) o (subst (λ c. HasOutcome asked c (Refused status report)) read given) comes)
   due_whole _ _ (Showing contents pieces status report given out err) cs o e comes =
       let read : contents ≡ cs = cc in
       due_shown pieces status report o out err
-      (agree asked cs (Shown pieces status report) o (subst (λ c. Comes asked c (Shown pieces status report)) read given) comes)
+      (agree asked cs (Shown pieces status report) o (subst (λ c. HasOutcome asked c (Shown pieces status report)) read given) comes)
 
   module _ (r : Reading) (read : Reads files (needed asked) r) (due : Status) (given : Due call asked r due) where
     -- all contents were read, and no others
     read_whole : (mine : Asked) (contents : List (List ℕ)) → Asks call mine contents → r ≡ Whole contents
     read_whole mine contents asks = reads_once files (needed asked) r (Whole contents) read (whole mine contents asks)
 
-    shows_due : (status : Status) → Shows status call → (status ≡ due) ⊎ IsFree asked status
+    shows_due : (status : Status) → WritesExactly status call → (status ≡ due) ⊎ IsFree asked status
     unfolding DueBy
     shows_due status says =
         inl (sym (due_whole _ due given says.contents (Shown says.pieces status says.report) (read_whole says.asked says.contents says.asks)
@@ -668,12 +668,12 @@ module _ (call : Call) (asked : Asked) (files : FileMap) (offers : Offers call a
   due_is RamTooLarge says r read due given = oversize_due r read due given RamTooLarge says
 
   module _ (contents : List (List ℕ)) (there : Reads files (needed asked) (Whole contents)) (accepted : ¬ AreRefused asked contents)
-      (free : (status : Status) (report : List ℕ) → Comes asked contents (Refused status report) → ¬ IsOfRom status) where
+      (free : (status : Status) (report : List ℕ) → HasOutcome asked contents (Refused status report) → ¬ IsOfRom status) where
     not_rejected : (status : Status) → Rejects status call → ⊥
     not_rejected status says =
         let read = reads_once files (needed asked) _ _ (whole says.asked says.contents says.asks) there in
         let same_contents : says.contents ≡ contents = cc in
-        let comes = subst (λ c. Comes asked c (Refused status says.report)) same_contents (comes_here says.asked says.contents _ says.asks says.comes) in
+        let comes = subst (λ c. HasOutcome asked c (Refused status says.report)) same_contents (comes_here says.asked says.contents _ says.asks says.comes) in
         accepted (status, says.report, comes, free status says.report comes)
 
     not_larger : (status : Status) → Oversize status call → ⊥
@@ -718,7 +718,7 @@ pub gives_due : (status : Status) (call : Call) → Says status call → GivesDu
 gives_due status call says asked files r due offers read given = due_is call asked files offers status says r read due given
 
 pub completes :
-    ((asked : Asked) (contents : List (List ℕ)) (status : Status) (report : List ℕ) → Comes asked contents (Refused status report) → ¬ IsOfRom status)
+    ((asked : Asked) (contents : List (List ℕ)) (status : Status) (report : List ℕ) → HasOutcome asked contents (Refused status report) → ¬ IsOfRom status)
     → (status : Status) (call : Call) → Says status call → Completes status call
 completes free status call says asked files contents offers there accepted out err =
     ends call asked files offers contents there accepted (free asked contents) status says out err
@@ -809,7 +809,7 @@ module _ (words : List (List ℕ)) (files files' : FilesMeaning) (out err err' :
   refused_call = call_of words files files' out out err err'
 
   rejected :
-      (r : Refusal) → OfWords words (λ asked. OfFiles asked files files' (λ contents. Comes asked contents (Refused (status_of r) (report_of r))))
+      (r : Refusal) → OfWords words (λ asked. OfFiles asked files files' (λ contents. HasOutcome asked contents (Refused (status_of r) (report_of r))))
       → IsPut (report_of r) err err' → Rejects (status_of r) refused_call
   rejected r given report = record {
     asked = given.asked;
@@ -924,8 +924,8 @@ module _ (words : List (List ℕ)) (files files' : FilesMeaning) (out out' err e
   abbrev asks_all : Asks performed_call given.asked given.here.1.contents
   asks_all = record { words = given.words_are; read = given.here.1.read }
 
-  module _ (pieces : List (List ℕ)) (status : Status) (report : List ℕ) (comes : Comes given.asked given.here.1.contents (Shown pieces status report)) where
-    shows : (ended : Ended) → Reports pieces status report out out' err err' ended → Shows (ended_status ended) performed_call
+  module _ (pieces : List (List ℕ)) (status : Status) (report : List ℕ) (comes : HasOutcome given.asked given.here.1.contents (Shown pieces status report)) where
+    shows : (ended : Ended) → Reports pieces status report out out' err err' ended → WritesExactly (ended_status ended) performed_call
     shows ended reports = record {
       asked = given.asked;
       contents = given.here.1.contents;
@@ -933,7 +933,7 @@ module _ (words : List (List ℕ)) (files files' : FilesMeaning) (out out' err e
       files = given.here.1.reads;
       pieces = pieces;
       report = report;
-      comes = subst (λ status. Comes given.asked given.here.1.contents (Shown pieces status report)) reports.status_is comes;
+      comes = subst (λ status. HasOutcome given.asked given.here.1.contents (Shown pieces status report)) reports.status_is comes;
       out = reports.whole;
       err = reports.reported;
     }
@@ -954,7 +954,7 @@ module _ (words : List (List ℕ)) (files files' : FilesMeaning) (out out' err e
       ];
     }
 
-  says_ended : (ended : Ended) → Shows (ended_status ended) performed_call → Says (ended_status ended) performed_call
+  says_ended : (ended : Ended) → WritesExactly (ended_status ended) performed_call → Says (ended_status ended) performed_call
   says_ended Worked says = says
   says_ended (Ran limit end.AtLimit) says = says
   says_ended (Ran limit (end.AtStop stop)) says = says
@@ -963,7 +963,7 @@ module _ (words : List (List ℕ)) (files files' : FilesMeaning) (out out' err e
 
   -- a run that is to be saved is refused
   undispatched :
-      (status : Status) (report : List ℕ) → Comes given.asked given.here.1.contents (Refused status report) → status ≡ NoDispatch → out' ≡ out
+      (status : Status) (report : List ℕ) → HasOutcome given.asked given.here.1.contents (Refused status report) → status ≡ NoDispatch → out' ≡ out
       → IsPut report err err' → Rejects NoDispatch performed_call
   undispatched status report comes is same put = record {
     asked = given.asked;
@@ -971,12 +971,12 @@ module _ (words : List (List ℕ)) (files files' : FilesMeaning) (out out' err e
     asks = asks_all;
     files = given.here.1.reads;
     report = report;
-    comes = subst (λ status. Comes given.asked given.here.1.contents (Refused status report)) is comes;
+    comes = subst (λ status. HasOutcome given.asked given.here.1.contents (Refused status report)) is comes;
     refused = record { out = same; err = put };
   }
 
   says_performed :
-      (o : Outcome) (r : Result Ended PerformFault) → Comes given.asked given.here.1.contents o → PerformsAnswer o out out' err err' r
+      (o : Outcome) (r : Result Ended PerformFault) → HasOutcome given.asked given.here.1.contents o → PerformsAnswer o out out' err err' r
       → Says (performed_status r) performed_call
   says_performed (Shown pieces status report) (Ok ended) comes reports = says_ended ended (shows pieces status report comes ended reports)
   says_performed (Shown pieces status report) (Err perform.WriteFault) comes faults = faulty pieces status report comes faults

@@ -32,12 +32,12 @@ use Rattle.vip_tools.specs.Files.{needed, HasAll}
 use Rattle.vip_tools.specs.Outcome.{Outcome}
 use Rattle.vip_tools.specs.Outcome.Outcome.{Refused, Shown, GivenUp}
 use Rattle.vip_tools.proofs.DemoLemmas.{length-game, bytes-game}
-use Rattle.vip_verbs.specs.Outcome.{Comes, RunComes, RunTo, DebugComes, ResumeComes, ending_from, resumed, run_of, events_in, run_ending, debug_ending}
+use Rattle.vip_verbs.specs.Outcome.{HasOutcome, RunComes, RunTo, DebugComes, ResumeComes, ending_from, resumed, run_of, events_in, run_ending, debug_ending}
 use Rattle.vip_verbs.specs.Outcome.RunTo.{FaultyScript, FaultyRom, Runs}
 use Rattle.vip_debug.specs.Answers.{at_start, written}
 use Rattle.vip_call.specs.Language.{IsChip8}
-use Rattle.vip_call.specs.Transcript.{Point, AllAnswered, ArePictures, Debugged, FromFile, GoesOn, IsEnd, IsEndOrEarlier, OfFile, OfGame, Transcribed, Transcribes, file_point, line, summed, traced}
-use Rattle.vip_call.specs.Top.{Call, Says, Shows, Writes, TellsChip8}
+use Rattle.vip_call.specs.Transcript.{Point, AllAnswered, ArePictures, Debugged, FromFile, GoesOn, IsEnd, IsEndOrEarlier, OfFile, OfGame, Transcribed, Transcribes, file_point, line, summary_text, trace_text}
+use Rattle.vip_call.specs.Top.{Call, Says, WritesExactly, Writes, TellsChip8}
 use Rattle.vip_call.proofs.DebugLemmas.{debug_ends}
 use Rattle.vip_call.proofs.DebuggedLemmas.{debugged}
 use Rattle.vip_call.proofs.LanguageLemmas.{is_chip8}
@@ -122,7 +122,7 @@ module _ (law : EveryRun) (from : FromAccepted) where
   demo_written :
       (number limit : ℕ) (game : List ℕ) (fits : length game ≤ memory_size Usual) (bytes : (i : ℕ) → slice_index game i < 256) (script : List KeyEvent)
       → let events = events_in Usual game script limit in
-      summary Usual number events ∷ [] ≡ summed Usual (points_of Usual events) number (windows_ended (end_cycle limit events))
+      summary Usual number events ∷ [] ≡ summary_text Usual (points_of Usual events) number (windows_ended (end_cycle limit events))
   demo_written number limit game fits bytes script =
       let events = events_in Usual game script limit in
       summed_is Usual number (windows_ended (end_cycle limit events)) (interpreter_of Usual).rom (run_of Usual game script limit) events
@@ -178,12 +178,12 @@ module _ (law : EveryRun) (from : FromAccepted) where
 
   transcribes :
       (old : FilesMeaning) (asked : Asked) (contents pieces : List (List ℕ)) (status : Status) (report : List ℕ) → HasAll old (needed asked) contents
-      → Comes asked contents (Shown pieces status report) → Transcribes asked contents pieces status report
+      → HasOutcome asked contents (Shown pieces status report) → Transcribes asked contents pieces status report
   unfolding OfRun OfResumed
   transcribes old (trace a) [] pieces status report read comes = tt
   transcribes old (trace a) (game ∷ scripts) pieces status report read comes =
       let e = a.run.edition in
-      run_transcribed e game read.0.fits read.0.bytes a.run.cycles scripts _ _ (λ ps points ending over. ps ≡ traced e points a.with_time a.with_screen) IsEnd
+      run_transcribed e game read.0.fits read.0.bytes a.run.cycles scripts _ _ (λ ps points ending over. ps ≡ trace_text e points a.with_time a.with_screen) IsEnd
       (λ script. traced_is e a.with_time a.with_screen (events_in e game script a.run.cycles)) (λ script. refl)
       (Shown pieces status report) comes
   transcribes old (play a) [] pieces status report read comes = tt
@@ -201,7 +201,7 @@ module _ (law : EveryRun) (from : FromAccepted) where
       let game = demo_game a.number in
       let fits : length game ≤ memory_size Usual = omega (arith, length-game a.number) in
       run_transcribed Usual game fits (bytes-game a.number) a.cycles [] _ _
-      (λ ps points ending over. ps ≡ summed Usual points a.number (windows_ended over)) IsEnd
+      (λ ps points ending over. ps ≡ summary_text Usual points a.number (windows_ended over)) IsEnd
       (demo_written a.number a.cycles game fits (bytes-game a.number)) (λ script. refl)
       (Shown pieces status report) comes
   transcribes old (demo a) (c ∷ cs) pieces status report read comes = absurd comes
@@ -224,7 +224,7 @@ module _ (law : EveryRun) (from : FromAccepted) where
 
   -- ---- a call
 
-  went_out : (status : Status) (call : Call) → Shows status call → Writes Transcribes status call
+  went_out : (status : Status) (call : Call) → WritesExactly status call → Writes Transcribes status call
   went_out status call s =
       record {
         asked = s.asked;

@@ -23,7 +23,7 @@ use Rattle.vip_text.specs.Screens.{picture_file}
 use Rattle.vip_text.specs.Summaries.{summary_line}
 use Rattle.vip_show.specs.Output.{trace_lines, trace_pieces, screen_piece, picture_pieces, summary, lit_at, is_dispatch_event, is_picture_event, count_of}
 use Rattle.vip_call.specs.Language.{named}
-use Rattle.vip_call.specs.Transcript.{Point, Begins, GoesOn, Ends, IsPicture, ArePictures, last_point, last_screen, line, lit, point_before, summed, traced}
+use Rattle.vip_call.specs.Transcript.{Point, Begins, GoesOn, Ends, IsPicture, ArePictures, last_point, last_screen, line, lit, point_before, summary_text, trace_text}
 
 -- ---- the points among some events
 
@@ -183,7 +183,7 @@ module _ (e : Edition) where
 
   pub traced_is :
       (with_time with_screen : Bool) (events : List Event)
-      → trace_pieces e with_time with_screen events ≡ traced e (points_of e events) with_time with_screen
+      → trace_pieces e with_time with_screen events ≡ trace_text e (points_of e events) with_time with_screen
   traced_is with_time with_screen events =
       ap₂ (λ lines last. lines ++ (if with_screen then last else []))
       (lines_are with_time (points_of e events) events)
@@ -210,7 +210,7 @@ module _ (e : Edition) where
 
   pub summed_is :
       (number n : ℕ) (image : List ℕ) (run : List Machine) (events : List Event) → length (picture_pieces image run events) ≡ n
-      → summary e number events ∷ [] ≡ summed e (points_of e events) number n
+      → summary e number events ∷ [] ≡ summary_text e (points_of e events) number n
   summed_is number n image run events count =
       (λ i. summary_line number (points_counted events i) ((pictures_counted image run events ∙ count) i) (lit_last i) ∷ [])
     where

@@ -7,19 +7,19 @@ use Rattle.vip_tools.specs.declared.status.Status.{Status}
 use Rattle.vip_tools.specs.Outcome.{Outcome, script_in}
 use Rattle.vip_tools.specs.Outcome.Outcome.{Shown}
 use Rattle.vip_words.specs.Asked.{Asked, AskedRun, most_cycles, resume, save, trace}
-use Rattle.vip_verbs.specs.Outcome.{Comes, events_in}
+use Rattle.vip_verbs.specs.Outcome.{HasOutcome, events_in}
 
 -- The trace of the run of which a state is saved, up to some limit; and what goes on from the file, of this name, under the same script.
-abbrev pub traced : AskedRun → Bool → ℕ → Asked
-traced a with_time limit =
+abbrev pub trace_request : AskedRun → Bool → ℕ → Asked
+trace_request a with_time limit =
     trace (record { run = record { game = a.game; cycles = limit; keys = a.keys; edition = a.edition }; with_time = with_time; with_screen = false })
 
-abbrev pub resumed : AskedRun → List ℕ → Bool → ℕ → Asked
-resumed a name with_time limit = resume (record { state = name; cycles = limit; keys = a.keys; with_time = with_time })
+abbrev pub resume_request : AskedRun → List ℕ → Bool → ℕ → Asked
+resume_request a name with_time limit = resume (record { state = name; cycles = limit; keys = a.keys; with_time = with_time })
 
 -- With the first records before its own, this is the trace up to the later limit, with that status and that report.
 abbrev pub IsRest : AskedRun → List ℕ → List (List ℕ) → Bool → ℕ → List (List ℕ) → Outcome → Type 0
-IsRest a game scripts with_time later first (Shown rest status report) = Comes (traced a with_time later) (game ∷ scripts) (Shown (first ++ rest) status report)
+IsRest a game scripts with_time later first (Shown rest status report) = HasOutcome (trace_request a with_time later) (game ∷ scripts) (Shown (first ++ rest) status report)
 IsRest a game scripts with_time later first _ = ⊥
 
 -- The file is accepted, and shows the machine state at the last dispatch point of the run up to its limit. What goes on from it is never refused: up to
@@ -32,8 +32,8 @@ pub record GoesOnAsRun (a : AskedRun) (game : List ℕ) (scripts : List (List �
   pub rest :
       (with_time : Bool) (later : ℕ) (name : List ℕ) (first : List (List ℕ)) (status : Status) (report : List ℕ) (o : Outcome)
       → a.cycles ≤ later
-      → Comes (traced a with_time a.cycles) (game ∷ scripts) (Shown first status report)
-      → Comes (resumed a name with_time later) (file ∷ scripts) o
+      → HasOutcome (trace_request a with_time a.cycles) (game ∷ scripts) (Shown first status report)
+      → HasOutcome (resume_request a name with_time later) (file ∷ scripts) o
       → IsRest a game scripts with_time later first o
 
 -- what was saved is one file; words ask for at most 4,000,000,000 cycles

@@ -18,7 +18,7 @@ use Rattle.vip_call.specs.Saved.{Continues}
 use Rattle.vip_call.specs.Transcript.{Transcribes}
 use Rattle.vip_call.specs.Words.{FinishAnswers, OfWords, OpensWords}
 use Rattle.vip_verbs.specs.declared.prepared.Prepared.{Prepared}
-use Rattle.vip_verbs.specs.Outcome.{Comes}
+use Rattle.vip_verbs.specs.Outcome.{HasOutcome}
 use Rattle.vip_tools.specs.Outcome.Outcome.{Refused, Shown, GivenUp}
 use Rattle.vip_tools.specs.Refusal.{too_large_status}
 use Rattle.vip_tools.specs.Report.{usage, bad_state, cannot_read, too_large_report, write_fault, no_memory, report_pieces}
@@ -94,7 +94,7 @@ pub record Rejects (status : Status) (call : Call) : Type 0 where
   pub asks : Asks call asked contents
   pub files : ReadsAll call asked contents
   pub report : List ℕ
-  pub comes : Comes asked contents (Refused status report)
+  pub comes : HasOutcome asked contents (Refused status report)
   pub refused : Refuses report call
 
 -- nothing was found for the contents
@@ -104,7 +104,7 @@ pub record GivesUp (call : Call) : Type 0 where
   pub asks : Asks call asked contents
   pub files : ReadsAll call asked contents
   pub report : List ℕ
-  pub comes : Comes asked contents (GivenUp report)
+  pub comes : HasOutcome asked contents (GivenUp report)
   pub refused : Refuses report call
 
 -- ---- output
@@ -115,7 +115,7 @@ OutputLaw = Asked → List (List ℕ) → List (List ℕ) → Status → List �
 
 -- exact output
 abbrev pub Exact : OutputLaw
-Exact asked contents pieces status report = Comes asked contents (Shown pieces status report)
+Exact asked contents pieces status report = HasOutcome asked contents (Shown pieces status report)
 
 -- the output of which this is known went out whole, each piece by one put, and the report by one put too, or by none where there is none
 pub record Writes (Of : OutputLaw) (status : Status) (call : Call) : Type 0 where
@@ -129,8 +129,8 @@ pub record Writes (Of : OutputLaw) (status : Status) (call : Call) : Type 0 wher
   pub out : PutsAll pieces call.out call.out'
   pub err : PutsAll (report_pieces report) call.err call.err'
 
-abbrev pub Shows : Status → Call → Type 0
-Shows = Writes Exact
+abbrev pub WritesExactly : Status → Call → Type 0
+WritesExactly = Writes Exact
 
 -- A fault of `out`: the pieces before it went out whole, and then a prefix of one; it is reported by one put.
 pub record OutFails (pieces : List (List ℕ)) (call : Call) : Type 0 where
@@ -161,8 +161,8 @@ Faulty = WritesPart Exact
 
 -- what each answer says
 abbrev pub Says : Status → Call → Type 0
-Says Done call = Shows Done call
-Says Stopped call = Shows Stopped call
+Says Done call = WritesExactly Done call
+Says Stopped call = WritesExactly Stopped call
 Says Usage call = Misused call
 Says ReadFault call = Unread call
 Says GameTooLarge call = Oversize GameTooLarge call
@@ -227,10 +227,10 @@ pub data Due (call : Call) (asked : Asked) : Reading → Status → Type 0 where
   Lacking : Due call asked Lacks ReadFault
   TooLarge : (kind : Kind) → Due call asked (Larger kind) (too_large_status kind)
   Faulting : Due call asked Faulted BadState
-  Refusing : (contents : List (List ℕ)) (status : Status) (report : List ℕ) → Comes asked contents (Refused status report)
+  Refusing : (contents : List (List ℕ)) (status : Status) (report : List ℕ) → HasOutcome asked contents (Refused status report)
       → Due call asked (Whole contents) status
   Showing : (contents : List (List ℕ)) (pieces : List (List ℕ)) (status : Status) (report : List ℕ)
-      → Comes asked contents (Shown pieces status report) → IsQuiet call.out.faults call.out'.faults → IsQuiet call.err.faults call.err'.faults
+      → HasOutcome asked contents (Shown pieces status report) → IsQuiet call.out.faults call.out'.faults → IsQuiet call.err.faults call.err'.faults
       → Due call asked (Whole contents) status
 
 -- words that are refused give Usage, or want of memory
@@ -270,7 +270,7 @@ IsOfRom _ = ⊥
 -- The contents of the files are refused: commands, a script, a source or a certificate have a fault, or the run that is to be saved has no dispatch
 -- point. That the ROM isn't what its source gives is no such case: each source gives its ROM.
 abbrev pub AreRefused : Asked → List (List ℕ) → Type 0
-AreRefused asked contents = (status : Status) × (report : List ℕ) × Comes asked contents (Refused status report) × ¬ IsOfRom status
+AreRefused asked contents = (status : Status) × (report : List ℕ) × HasOutcome asked contents (Refused status report) × ¬ IsOfRom status
 
 -- Where the files are there with their sizes, a saved state is accepted, their contents aren't refused and no fault is counted, the answer is Done or
 -- Stopped, or a free one.
@@ -287,13 +287,13 @@ Completes status call =
 -- ---- what the output says of the language
 
 -- Where the words and the contents of the files come to the output of a game's run, with this status and this report, it is that of a run
--- of CHIP-8, which keeps to its frames and ends so; under the debugger it ends where the commands do, and a stop there is that of the run. `Shows`
+-- of CHIP-8, which keeps to its frames and ends so; under the debugger it ends where the commands do, and a stop there is that of the run. `WritesExactly`
 -- and `Faulty` say that this output went out, whole or in part.
 abbrev pub SpeaksChip8 : Call → Type 0
 SpeaksChip8 call =
     (asked : Asked) (contents pieces : List (List ℕ)) (status : Status) (report : List ℕ)
     → Asks call asked contents
-    → Comes asked contents (Shown pieces status report)
+    → HasOutcome asked contents (Shown pieces status report)
     → ShowsChip8 asked contents status report
 
 -- The same with no machine in it: what went out, whole or in part, is that of a transcript of CHIP-8, and the status and the report are those of its
@@ -312,7 +312,7 @@ abbrev pub ProvesCertified : Call → Type 0
 ProvesCertified call =
     (asked : Asked) (contents pieces : List (List ℕ)) (status : Status) (report : List ℕ)
     → Asks call asked contents
-    → Comes asked contents (Shown pieces status report)
+    → HasOutcome asked contents (Shown pieces status report)
     → Certifies asked contents pieces
 
 -- ---- what a state says that was saved
@@ -323,7 +323,7 @@ abbrev pub ContinuesSaved : Call → Type 0
 ContinuesSaved call =
     (asked : Asked) (contents pieces : List (List ℕ)) (status : Status) (report : List ℕ)
     → Asks call asked contents
-    → Comes asked contents (Shown pieces status report)
+    → HasOutcome asked contents (Shown pieces status report)
     → Continues asked contents pieces
 
 -- ---- what the output says of two boards that are joined
@@ -333,7 +333,7 @@ abbrev pub BringsMessages : Call → Type 0
 BringsMessages call =
     (a : AskedLink) (message : List ℕ) (pieces : List (List ℕ)) (status : Status) (report : List ℕ)
     → Asks call (link a) (message ∷ [])
-    → Comes (link a) (message ∷ []) (Shown pieces status report)
+    → HasOutcome (link a) (message ∷ []) (Shown pieces status report)
     → BringsMessage a message pieces report
 
 -- ---- the program

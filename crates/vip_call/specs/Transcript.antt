@@ -52,20 +52,20 @@ module _ (e : Edition) (script : List Event) (limit : ℕ) where
   InTime p t = IsInTime (bound_of e p.state) script p.cycle t
 
   -- what comes next behind p comes in cycle t
-  pub record Comes (p : Point) (t : ℕ) : Type 0 where
+  pub record NextAt (p : Point) (t : ℕ) : Type 0 where
     pub later : p.cycle < t
     pub within : t ≤ limit
     pub in_time : InTime p t
 
   -- one step lies between p and q, with the timer ticks and the sets of keys of the cycles between
   pub record StepsTo (p q : Point) : Type 0 where
-    pub comes : Comes p q.cycle
+    pub comes : NextAt p q.cycle
     pub between : Between e p.state (ticks_between p.cycle q.cycle) (keys_between script p.cycle q.cycle) q.state
 
   -- the stop of p's state comes next, in cycle t, and is named with the state's pc and opcode
   pub record StopsAt (p : Point) (stop : Stop) (pc : ℕ) (opcode : Option ℕ) (t : ℕ) : Type 0 where
     pub fits : stop_of e p.state ≡ Some stop
-    pub comes : Comes p t
+    pub comes : NextAt p t
     pub pc_is : pc ≡ p.state.pc
     pub opcode_is : opcode ≡ opcode_at e p.state
 
@@ -105,8 +105,8 @@ module _ (e : Edition) (points : List Point) where
   last_screen None = []
   last_screen (Some p) = screen p ∷ []
 
-  abbrev pub traced : Bool → Bool → List (List ℕ)
-  traced with_time with_screen = map (line with_time) points ++ (if with_screen then last_screen (last_point points) else [])
+  abbrev pub trace_text : Bool → Bool → List (List ℕ)
+  trace_text with_time with_screen = map (line with_time) points ++ (if with_screen then last_screen (last_point points) else [])
 
   -- `play`: the pictures of the first n frames, each of the screen at the last point before its window's end
   pub record IsPicture (m : ℕ) (file : List ℕ) : Type 0 where
@@ -125,8 +125,8 @@ module _ (e : Edition) (points : List Point) where
   lit None = 0
   lit (Some p) = lit_in_rows p.state.screen (range_with_len 0 (rows_of e))
 
-  abbrev pub summed : ℕ → ℕ → List (List ℕ)
-  summed number n = summary_line number (length points) n (lit (last_point points)) ∷ []
+  abbrev pub summary_text : ℕ → ℕ → List (List ℕ)
+  summary_text number n = summary_line number (length points) n (lit (last_point points)) ∷ []
 
   -- `debug`: p is one of the points, of which this holds, and this text of it is all that a command writes
   pub record Names (text : Point → List ℕ) (Is : Point → Type 0) (pieces : List (List ℕ)) : Type 0 where
@@ -235,7 +235,7 @@ pub record FromFile (f : List ℕ) (Here : Edition → Status → List ℕ → T
 abbrev pub Transcribes : Asked → List (List ℕ) → List (List ℕ) → Status → List ℕ → Type 0
 Transcribes (trace a) (game ∷ scripts) pieces =
     Transcribed (OfGame a.run.edition game a.run.cycles) scripts a.run.cycles
-    (λ points ending over. pieces ≡ traced a.run.edition points a.with_time a.with_screen) IsEnd
+    (λ points ending over. pieces ≡ trace_text a.run.edition points a.with_time a.with_screen) IsEnd
 Transcribes (play a) (game ∷ scripts) pieces =
     Transcribed (OfGame a.edition game a.cycles) scripts a.cycles (λ points ending over. ArePictures a.edition points (windows_ended over) pieces) IsEnd
 Transcribes (debug a) (game ∷ commands ∷ scripts) pieces =
@@ -245,5 +245,5 @@ Transcribes (resume a) (file ∷ scripts) pieces =
     FromFile file (λ e. Transcribed (OfFile e file a.cycles) scripts a.cycles (λ points ending over. pieces ≡ map (line e points a.with_time) points) IsEnd)
 Transcribes (demo a) _ pieces =
     Transcribed (OfGame Usual (demo_game a.number) a.cycles) [] a.cycles
-    (λ points ending over. pieces ≡ summed Usual points a.number (windows_ended over)) IsEnd
+    (λ points ending over. pieces ≡ summary_text Usual points a.number (windows_ended over)) IsEnd
 Transcribes _ _ pieces = λ status report. Unit {0}

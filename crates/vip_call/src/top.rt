@@ -20,7 +20,7 @@ use vip_verbs::Prepared;
 use vip_words::{Request, WordsFail, read_words};
 
 /// What the words ask for.
-fn understood<'a>(alloc: Global, words: &'a [String]) -> Result<Request<'a>, Refusal<'a>>
+fn read_request<'a>(alloc: Global, words: &'a [String]) -> Result<Request<'a>, Refusal<'a>>
     ensures words { UnderstoodAnswers (map string_bytes words.entry.now) result }
     ensures range { IfOk result (λ request. InRange (asked_of request)) }
 {
@@ -40,7 +40,7 @@ pub fn open<'a, F: Files>(
 ) -> Result<Prepared, Refusal<'a>>
     ensures { OpensWords (map string_bytes words.entry.now) (F.meaning files.old) (F.meaning files.new) result }
 {
-    let request = understood(alloc, words)?;
+    let request = read_request(alloc, words)?;
     vip_verbs::open(alloc, &request, files)
 }
 
@@ -68,7 +68,7 @@ pub fn perform<O: Sink, E: Sink>(
 }
 
 /// The status of what was performed.
-fn performed(answer: Result<Ended, PerformFault>) -> Status
+fn perform_status(answer: Result<Ended, PerformFault>) -> Status
     ensures { result ≡ performed_status answer }
 {
     match answer {
@@ -82,7 +82,7 @@ pub fn finish<O: Sink, E: Sink>(prepared: Prepared, out: &mut O, err: &mut E) ->
     requires { IsReady prepared }
     ensures { Finishes (outcome_of prepared) (O.meaning out.old) (O.meaning out.new) (E.meaning err.old) (E.meaning err.new) result }
 {
-    performed(perform(prepared, out, err))
+    perform_status(perform(prepared, out, err))
 }
 
 /// The law of every call: whoever opens what the words ask for, and then finishes what was opened, or reports why nothing was, keeps what the program

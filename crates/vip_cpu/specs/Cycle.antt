@@ -46,7 +46,7 @@ cycle_in Boundary s m f dma int taken = begun s m dma int
 cycle_in (Middle opcode left) s m f dma int taken =
     if left == 1 then ended opcode s m f taken else quiet s (Middle opcode (left - 1)) Execute
 
--- one machine cycle, by the bytes of memory, the flags, the wish for DMA, INT, and the byte that the bus takes from a port
+-- one machine cycle, by the bytes of memory, the flags, the request for DMA, INT, and the byte that the bus takes from a port
 abbrev pub cycle : Processor → (ℕ → ℕ) → (ℕ → Bool) → Bool → Bool → ℕ → Cycle
 cycle c m f dma int taken = cycle_in c.phase c.regs m f dma int taken
 

@@ -45,20 +45,20 @@ module _ (e : Edition) (game : List ℕ) (script : List KeyEvent) where
   past_of n = past i (Reset game) script n
 
   -- the n-th state comes by cycle t, and none before it is a stop point
-  abbrev Comes : ℕ → ℕ → Type 0
-  Comes t n = Reached r t n
+  abbrev ReachedBy : ℕ → ℕ → Type 0
+  ReachedBy t n = Reached r t n
 
-  wider : (t u n : ℕ) → t ≤ u → Comes t n → Comes u n
+  wider : (t u n : ℕ) → t ≤ u → ReachedBy t n → ReachedBy u n
   wider t u n order old = record { within = omega (arith, order, old.within); runs = old.runs }
 
-  lower : (t n k : ℕ) → k ≤ n → Comes t n → Comes t k
+  lower : (t n k : ℕ) → k ≤ n → ReachedBy t n → ReachedBy t k
   lower t n k order old = record {
     within = omega (arith, old.within, in-turn i.rom (held_at script) n k (start game) order);
     runs = λ j l. old.runs j (omega (arith, l, order));
   }
 
   -- so does the last of the states up to a cycle or to the first stop point
-  pub last_until : (t : ℕ) → Comes t (moves_until v t)
+  pub last_until : (t : ℕ) → ReachedBy t (moves_until v t)
   last_until t = reached r t (moves_until v t) (omega (arith, until r t, some-here r t 0 (omega arith)))
 
   -- it is a stop point, or the next one comes later: so the events up to that cycle are those of the states up to it
@@ -68,10 +68,10 @@ module _ (e : Edition) (game : List ℕ) (script : List KeyEvent) where
       n : ℕ
       n = moves_until v t
 
-      last : Comes t n
+      last : ReachedBy t n
       last = last_until t
 
-      beyond : Comes t (suc n) → ⊥
+      beyond : ReachedBy t (suc n) → ⊥
       beyond next = omega (arith, until r t, all-moves r t (suc n) next.within next.runs, some-here r t (suc n) next.within)
 
       by_test :
@@ -94,26 +94,26 @@ module _ (e : Edition) (game : List ℕ) (script : List KeyEvent) where
         (subst (Earlier (limit + 1)) (sym (all_past limit))
         (earlier-next i (Reset game) script (limit + 1) (moves_until v limit) (omega (arith, (last_until limit).within))))
 
-    moved : (k : ℕ) (p : Place) → Comes limit p.moves → Comes limit (p.moves + k) → Comes limit (moved_on v k p).moves
+    moved : (k : ℕ) (p : Place) → ReachedBy limit p.moves → ReachedBy limit (p.moves + k) → ReachedBy limit (moved_on v k p).moves
     moved k p old new = by_test (k == 0)
       where
-        by_test : (none : Bool) → Comes limit (if none then p else all_met v (p.moves + k)).moves
+        by_test : (none : Bool) → ReachedBy limit (if none then p else all_met v (p.moves + k)).moves
         by_test true = old
         by_test false = new
 
-    pointed : (p : Place) (k : ℕ) (found : Option Machine) → found ≡ slice_get (points_ahead v limit p) k → Comes limit (at_point v limit found).place.moves
+    pointed : (p : Place) (k : ℕ) (found : Option Machine) → found ≡ slice_get (points_ahead v limit p) k → ReachedBy limit (at_point v limit found).place.moves
     pointed p k None is = last_until limit
     pointed p k (Some b) is =
         wider b.cycle limit (moves_until v b.cycle) (omega (arith, earlier-at (limit + 1) (ahead p) (ahead_earlier p) k b (sym is))) (last_until b.cycle)
 
     -- so many moves more, none of them behind the end
-    further : (n k t : ℕ) → t ≤ limit → Comes limit n → k ≤ run.moves_until (run_at v n) t → Comes limit (n + k)
+    further : (n k t : ℕ) → t ≤ limit → ReachedBy limit n → k ≤ run.moves_until (run_at v n) t → ReachedBy limit (n + k)
     further n k t order old few = by_test (cases_lt t (at_state n).cycle)
       where
-        by_test : (t < (at_state n).cycle) ⊎ ((at_state n).cycle ≤ t) → Comes limit (n + k)
-        by_test (inl past) = let same : n ≡ n + k = omega (arith, few, until-past r t n past) in subst (Comes limit) same old
+        by_test : (t < (at_state n).cycle) ⊎ ((at_state n).cycle ≤ t) → ReachedBy limit (n + k)
+        by_test (inl past) = let same : n ≡ n + k = omega (arith, few, until-past r t n past) in subst (ReachedBy limit) same old
         by_test (inr within) =
-            let here : Comes t n = record { within = within; runs = old.runs } in
+            let here : ReachedBy t n = record { within = within; runs = old.runs } in
             wider t limit (n + k) order (lower t (moves_until v t) (n + k) (omega (arith, few, until-from r t n here)) (last_until t))
 
     found : (n : ℕ) (k : Option ℕ) (test : ℕ → Bool) → k ≡ find test (run.ahead (run_at v n) limit)
@@ -122,29 +122,29 @@ module _ (e : Edition) (game : List ℕ) (script : List KeyEvent) where
     found n None test is = omega arith
     found n (Some k) test is = omega (arith, find-within test 1 (run.moves_until (run_at v n) limit) k (sym is))
 
-    came_to : (running : Running) (n : ℕ) → Comes limit n → Comes limit (n + (came (run_at v n) limit running).moves)
+    came_to : (running : Running) (n : ℕ) → ReachedBy limit n → ReachedBy limit (n + (came (run_at v n) limit running).moves)
     came_to (Step count) n old = further n _ limit (omega arith) old (omega arith)
     came_to (To cycle) n old = further n _ (min cycle limit) (omega arith) old (omega arith)
     came_to (At address) n old = further n _ limit (omega arith) old (found n _ _ refl)
     came_to (Watch address count) n old = further n _ limit (omega arith) old (found n _ _ refl)
 
-    sought_to : (seeking : Seeking) (p : Place) → Comes limit (sought v limit seeking p).place.moves
+    sought_to : (seeking : Seeking) (p : Place) → ReachedBy limit (sought v limit seeking p).place.moves
     sought_to (Next n) p = pointed p (n - 1) _ refl
     sought_to (Break pc) p = pointed p _ _ (find_at (has_pc v pc) (points_ahead v limit p))
 
-    pub with_one : (command : Command) (p : Place) → Comes limit p.moves → Comes limit (place_with v limit command p).moves
+    pub with_one : (command : Command) (p : Place) → ReachedBy limit p.moves → ReachedBy limit (place_with v limit command p).moves
     with_one (command.Runs running) p old = moved (came (run_at v p.moves) limit running).moves p old (came_to running p.moves old)
     with_one (command.Shows showing) p old = old
     with_one (command.Seeks seeking) p old = sought_to seeking p
     with_one (command.Tells telling) p old = old
 
-    after_all : (commands : List Command) (p : Place) → Comes limit p.moves → Comes limit (place_after v limit commands p).moves
+    after_all : (commands : List Command) (p : Place) → ReachedBy limit p.moves → ReachedBy limit (place_after v limit commands p).moves
     after_all [] p old = old
     after_all (command ∷ commands) p old = after_all commands (place_with v limit command p) (with_one command p old)
 
     -- where they begin
-    pub at_begin : Comes limit 0
+    pub at_begin : ReachedBy limit 0
     at_begin = lower limit (moves_until v limit) 0 (omega arith) (last_until limit)
 
-    pub commands_reach : (commands : List Command) → Comes limit (place_after v limit commands at_start).moves
+    pub commands_reach : (commands : List Command) → ReachedBy limit (place_after v limit commands at_start).moves
     commands_reach commands = after_all commands at_start at_begin

@@ -8,7 +8,7 @@ use Rattle.std.proofs.lemmas.List.Elements.{filter-append}
 use Rattle.machine.specs.Board.{Machine}
 use Rattle.machine.proofs.Counts.{windows}
 use Rattle.machine.specs.Pictures.{windows_ended, picture_of, is_shown}
-use Rattle.vip_board.specs.Shown.{Shows, shown_frames}
+use Rattle.vip_board.specs.Shown.{HasPictures, shown_frames}
 use Rattle.vip_board.proofs.Along.{Later, later-one, shown-later, picture-later}
 use Rattle.vip_board.proofs.Windows.{ended, window-more, shown-same, counted, last-finished}
 use Rattle.vip_byte.proofs.RangeLemmas.{range_with_len-more}
@@ -97,7 +97,7 @@ pub data Next (rom : List ℕ) (run run' : List Machine) (c c' : ℕ) (p p' : Pi
       → picture_files rom run' c' ≡ picture_files rom run c ++ picture_file lines ∷ [] → Next rom run run' c c' p p'
 
 module _ (rom : List ℕ) (run : List Machine) (b : Machine) (c' : ℕ) (le : b.cycle ≤ c') (soon : c' ≤ b.cycle + 3) (p p' : Pictures)
-    (shows : Shows rom run b.cycle p) (shows' : Shows rom (run ++ b ∷ []) c' p') where
+    (shows : HasPictures rom run b.cycle p) (shows' : HasPictures rom (run ++ b ∷ []) c' p') where
   abbrev shown : ℕ → Bool
   shown = is_shown rom (run ++ b ∷ [])
 

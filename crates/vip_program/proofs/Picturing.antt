@@ -9,7 +9,7 @@ use Rattle.machine.proofs.Runs.{later-move}
 use Rattle.vip_board.proofs.Along.{states-more, soon-move, in-turn, Later, later-states}
 use Rattle.vip_board.specs.Moves.{moved as moved_step, moved_by}
 use Rattle.vip_board.specs.Seen.{Seen, held_by}
-use Rattle.vip_board.specs.Shown.{Shows, CarriesOn}
+use Rattle.vip_board.specs.Shown.{HasPictures, CarriesOn}
 use Rattle.vip_cpu.specs.declared.cpu.Phase.TheVariants.{Boundary}
 use Rattle.vip_outside.specs.Sink.{SinkMeaning}
 use Rattle.vip_outside.specs.Pieces.{PutsAll, FailsWithin}
@@ -23,7 +23,7 @@ use Rattle.vip_program.proofs.Frames.Next.{NoPicture, OnePicture}
 use Rattle.vip_program.proofs.Runs.{rom-by, script-by, machine-by, move-within, moves-go, moves-rest}
 use Rattle.vip_program.specs.Pictures.{PictureAnswers, made, picture_files, pictured}
 use Rattle.vip_program.proofs.Stretches.{states-append}
-use Rattle.vip_program.specs.Trace.{Shows as ShowsAll, ShowAnswers, end_at, last_machine, moves_to}
+use Rattle.vip_program.specs.Trace.{ShowsProgram as ShowsAll, ShowAnswers, end_at, last_machine, moves_to}
 use Rattle.vip_program.specs.declared.trace.ProgramEnd.{ProgramEnd}
 
 pub record Picturing (limit : ℕ) (start v : Seen) (out out' : SinkMeaning) : Type 0 where
@@ -32,7 +32,7 @@ pub record Picturing (limit : ℕ) (start v : Seen) (out out' : SinkMeaning) : T
   pub count : ℕ
   pub moved : v ≡ moved_by count start
   pub left : moves_to start.rom (held_by start) start.machine limit ≡ count + moves_to v.rom (held_by v) v.machine limit
-  pub shows : Shows start.rom (states start.rom (held_by start) start.machine count) v.machine.cycle v.pictures
+  pub shows : HasPictures start.rom (states start.rom (held_by start) start.machine count) v.machine.cycle v.pictures
   pub puts : PutsAll (picture_files start.rom (states start.rom (held_by start) start.machine count) v.machine.cycle) out out'
 
 -- ---- one picture
@@ -43,7 +43,7 @@ picture-put finished lines bytes old new r is file put =
     subst (λ f. PictureAnswers f old new r) (sym is) (subst (λ text. PutAnswers text old new r) file put)
 
 module _ (limit : ℕ) (start : Seen) (out : SinkMeaning) where
-  pub picturing-first : start.phase ≡ Boundary → start.machine.cycle ≡ 0 → Shows start.rom [] start.machine.cycle start.pictures
+  pub picturing-first : start.phase ≡ Boundary → start.machine.cycle ≡ 0 → HasPictures start.rom [] start.machine.cycle start.pictures
       → Picturing limit start start out out
   unfolding windows_ended
   picturing-first boundary here shows = record {
@@ -87,10 +87,10 @@ module _ (limit : ℕ) (start : Seen) (out : SinkMeaning) where
     rom' : v'.rom ≡ start.rom
     rom' = ap (λ (s : Seen). s.rom) moved ∙ rom_is
 
-    shows' : Shows start.rom (run ++ v.machine ∷ []) v'.machine.cycle v'.pictures
+    shows' : HasPictures start.rom (run ++ v.machine ∷ []) v'.machine.cycle v'.pictures
     shows' =
-        subst (λ rom. Shows rom (run ++ v.machine ∷ []) v'.machine.cycle v'.pictures) rom'
-        (carries 0 run (subst (λ rom. Shows rom run v.machine.cycle v.pictures) (sym rom_is) t.shows))
+        subst (λ rom. HasPictures rom (run ++ v.machine ∷ []) v'.machine.cycle v'.pictures) rom'
+        (carries 0 run (subst (λ rom. HasPictures rom run v.machine.cycle v.pictures) (sym rom_is) t.shows))
 
     left' : moves_to start.rom (held_by start) start.machine limit ≡ t.count + 1 + moves_to v'.rom (held_by v') v'.machine limit
     left' =
@@ -116,7 +116,7 @@ module _ (limit : ℕ) (start : Seen) (out : SinkMeaning) where
       count = t.count + 1;
       moved = moved ∙ ap moved_step t.moved ∙ ap (λ n. moved_by n start) (sym (add-one t.count));
       left = left';
-      shows = subst (λ run. Shows start.rom run v'.machine.cycle v'.pictures) (sym run') shows';
+      shows = subst (λ run. HasPictures start.rom run v'.machine.cycle v'.pictures) (sym run') shows';
       puts = subst (λ run. PutsAll (picture_files start.rom run v'.machine.cycle) out out'') (sym run') puts;
     }
 

@@ -6,7 +6,7 @@ use Rattle.vip_outside.specs.Sink.{SinkMeaning}
 use Rattle.vip_outside.specs.Pieces.{PutsAll, FailsWithin}
 use Rattle.vip_outside.specs.declared.sink.Failed.{Failed}
 use Rattle.vip_program.specs.Moves.{machine_after}
-use Rattle.vip_program.specs.Trace.{Traces, TraceFails, Shows, ShowAnswers, end_at, lines_of, moves_ahead, moves_to, traced}
+use Rattle.vip_program.specs.Trace.{Traces, TraceFails, ShowsProgram, ShowAnswers, end_at, lines_of, moves_ahead, moves_to, program_trace}
 use Rattle.vip_program.specs.declared.trace.ProgramEnd.{ProgramEnd}
 use Rattle.vip_program.proofs.Runs.{machine-by, moves-few}
 
@@ -17,13 +17,13 @@ module _ (limit : ℕ) (old : Seen) where
 
   module _ (new : Seen) (out out' : SinkMeaning) where
     pub show-traced : (made : ℕ) → Traces limit limit old new out out' made → (end : ProgramEnd) → end ≡ end_at new.machine
-        → Shows (traced old limit) limit old out out' end
+        → ShowsProgram (program_trace old limit) limit old out out' end
     show-traced made t end is = record {
       puts = subst (λ n. PutsAll (lines_of old n) out out') all_asked t.puts;
       ending = is ∙ ap end_at (ap (λ (s : Seen). s.machine) t.moved ∙ machine-by old made ∙ ap (machine_after old) (t.all ∙ all_asked));
     }
 
     pub show-fails : TraceFails limit limit old new out out' → (answer : Result ProgramEnd Failed) → IsErr answer
-        → ShowAnswers (traced old limit) limit old out out' answer
+        → ShowAnswers (program_trace old limit) limit old out out' answer
     show-fails t (Ok end) bad = cc
     show-fails t (Err e) bad = subst (λ n. FailsWithin (lines_of old n) out out') all_asked t.fails

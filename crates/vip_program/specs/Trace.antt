@@ -97,14 +97,14 @@ abbrev pub last_machine : Seen → ℕ → Machine
 last_machine s limit = after_moves s.rom (held_by s) s.machine (moves_to s.rom (held_by s) s.machine limit)
 
 -- the pieces went out whole, and the run ended there
-pub record Shows (pieces : List (List ℕ)) (limit : ℕ) (old : Seen) (out out' : SinkMeaning) (end : ProgramEnd) : Type 0 where
+pub record ShowsProgram (pieces : List (List ℕ)) (limit : ℕ) (old : Seen) (out out' : SinkMeaning) (end : ProgramEnd) : Type 0 where
   pub puts : PutsAll pieces out out'
   pub ending : end ≡ end_at (last_machine old limit)
 
 abbrev pub ShowAnswers : List (List ℕ) → ℕ → Seen → SinkMeaning → SinkMeaning → Result ProgramEnd Failed → Type 0
-ShowAnswers pieces limit old out out' (Ok end) = Shows pieces limit old out out' end
+ShowAnswers pieces limit old out out' (Ok end) = ShowsProgram pieces limit old out out' end
 ShowAnswers pieces limit old out out' (Err e) = FailsWithin pieces out out'
 
 -- the lines of a whole run
-abbrev pub traced : Seen → ℕ → List (List ℕ)
-traced s limit = lines_of s (moves_to s.rom (held_by s) s.machine limit)
+abbrev pub program_trace : Seen → ℕ → List (List ℕ)
+program_trace s limit = lines_of s (moves_to s.rom (held_by s) s.machine limit)

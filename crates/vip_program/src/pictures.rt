@@ -2,7 +2,7 @@
 
 ghost use Rattle.std.specs.Prelude.{◌≡◌, ◌≤◌, []};
 ghost use Rattle.std.specs.Option.{option_map};
-ghost use Rattle.vip_board.specs.Shown.{Shows};
+ghost use Rattle.vip_board.specs.Shown.{HasPictures};
 ghost use Rattle.vip_cpu.specs.declared.cpu.Phase.TheVariants.{Boundary};
 ghost use Rattle.vip_program.specs.Pictures.{PictureAnswers, pictured};
 ghost use Rattle.vip_program.specs.Trace.{ShowAnswers};
@@ -44,7 +44,7 @@ pub fn show_pictures<O: Sink>(
     requires boundary { board.old.phase ≡ Boundary }
     requires limit { limit ≤ MOST_CYCLE }
     requires begins { board.old.machine.cycle ≡ 0 }
-    requires pictures { Shows board.old.rom [] board.old.machine.cycle board.old.pictures }
+    requires pictures { HasPictures board.old.rom [] board.old.machine.cycle board.old.pictures }
     ensures { ShowAnswers (pictured board.old limit) limit board.old (O.meaning out.old) (O.meaning out.new) result }
 {
     while goes_on(board, limit) {

@@ -1,7 +1,7 @@
 //! The board with which a program starts.
 
 ghost use Rattle.std.specs.Prelude.{◌≡◌, ◌≤◌, ◌++◌, [], drop, length, IfOk};
-ghost use Rattle.vip_board.specs.Shown.{Shows};
+ghost use Rattle.vip_board.specs.Shown.{HasPictures};
 ghost use Rattle.vip_program.specs.Program.{most_bytes, padded, started};
 
 use std::alloc::{AllocError, Global};
@@ -48,7 +48,7 @@ pub fn start_program(
 ) -> Result<Board, AllocError>
     requires { length program.now ≤ most_bytes memory }
     ensures board { IfOk result (λ b. b ≡ started memory program.now script.now) }
-    ensures pictures { IfOk result (λ b. Shows b.rom [] b.machine.cycle b.pictures) }
+    ensures pictures { IfOk result (λ b. HasPictures b.rom [] b.machine.cycle b.pictures) }
 {
     match memory {
         Memory::Rom => Board::reset(alloc, &rom_of(program), script),

@@ -2,7 +2,7 @@
 
 ghost use Rattle.std.specs.Prelude.{◌≡◌, ◌≤◌};
 ghost use Rattle.vip_cpu.specs.declared.cpu.Phase.TheVariants.{Boundary};
-ghost use Rattle.vip_program.specs.Trace.{ShowAnswers, TraceAnswers, end_at, traced};
+ghost use Rattle.vip_program.specs.Trace.{ShowAnswers, TraceAnswers, end_at, program_trace};
 
 use crate::moves::{goes_on, next_line, sleeps};
 use vip_board::Board;
@@ -62,7 +62,7 @@ pub fn show_trace<O: Sink>(board: &mut Board, limit: u64, out: &mut O) -> Result
     requires boundary { board.old.phase ≡ Boundary }
     requires limit { limit ≤ MOST_CYCLE }
     requires within { board.old.machine.cycle ≤ limit }
-    ensures { ShowAnswers (traced board.old limit) limit board.old (O.meaning out.old) (O.meaning out.new) result }
+    ensures { ShowAnswers (program_trace board.old limit) limit board.old (O.meaning out.old) (O.meaning out.new) result }
 {
     trace_moves(board, limit, limit, out)?;
     Ok(ending(board))

@@ -14,7 +14,7 @@ use Rattle.machine.proofs.Runs.{later-move, run_to-next, run_to-past}
 use Rattle.chip8_lang.specs.Events.{Event, is_dispatch, is_stop, numbers_from, pictures_at, events_at, events_behind, events_of}
 use Rattle.chip8_lang.specs.Events.Event.{Picture, Dispatch, Stopped}
 use Rattle.chip8_lang.specs.Places.{Interpreter}
-use Rattle.vip_board.specs.Shown.{ShowsSince, shown_frames, shown_since}
+use Rattle.vip_board.specs.Shown.{HasPicturesSince, shown_frames, shown_since}
 use Rattle.vip_video.specs.Chip.{Pictures}
 use Rattle.vip_relation.specs.State.{Start, events_from, first_events, machine_of}
 use Rattle.vip_relation.specs.State.Start.{Reset, Saved}
@@ -306,8 +306,8 @@ module _ (i : Interpreter) (s : Start) (script : List KeyEvent) where
       by_case true = refl
       by_case false = refl
 
-  module _ (n : ℕ) (p p' : Pictures) (apart : Apart) (shows : ShowsSince (machine_of s).cycle i.rom (earlier n) (state n).cycle p)
-      (shows' : ShowsSince (machine_of s).cycle i.rom (earlier (suc n)) (state (suc n)).cycle p') where
+  module _ (n : ℕ) (p p' : Pictures) (apart : Apart) (shows : HasPicturesSince (machine_of s).cycle i.rom (earlier n) (state n).cycle p)
+      (shows' : HasPicturesSince (machine_of s).cycle i.rom (earlier (suc n)) (state (suc n)).cycle p') where
     abbrev is_shown_next : ℕ → Bool
     is_shown_next = is_shown i.rom (earlier (suc n))
 

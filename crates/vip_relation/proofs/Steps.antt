@@ -11,7 +11,7 @@ use Rattle.chip8_lang.specs.Events.{Event, is_dispatch, is_stop}
 use Rattle.chip8_lang.specs.Events.Event.{Picture, Stopped}
 use Rattle.chip8_lang.specs.Places.{Interpreter}
 use Rattle.vip_board.specs.Moves.{moved}
-use Rattle.vip_board.specs.Shown.{ShowsSince, CarriesOn}
+use Rattle.vip_board.specs.Shown.{HasPicturesSince, CarriesOn}
 use Rattle.vip_relation.specs.State.{VipState, machine_of, interpreter, events_to, events_left, events_met, events_waiting, most_cycles, run_of, moves_by}
 use Rattle.vip_relation.specs.Follows.{Follows, last_view, last_screen}
 use Rattle.vip_relation.specs.Points.{point_of, point_events}
@@ -166,9 +166,9 @@ module _ (v : VipState) (f : Follows v) where
     point_on = ap (λ b. point_events (point_of i b) b) (sym machine_on)
 
     module _ (carries : CarriesOn v.board (moved v.board)) where
-      shows_on : ShowsSince (machine_of v.start).cycle v.board.rom (earlier i v.start v.board.script (suc v.moves)) now_on (moved v.board).pictures
+      shows_on : HasPicturesSince (machine_of v.start).cycle v.board.rom (earlier i v.start v.board.script (suc v.moves)) now_on (moved v.board).pictures
       shows_on =
-          subst (λ run. ShowsSince (machine_of v.start).cycle v.board.rom run now_on (moved v.board).pictures) states_on
+          subst (λ run. HasPicturesSince (machine_of v.start).cycle v.board.rom run now_on (moved v.board).pictures) states_on
           (carries (machine_of v.start).cycle (earlier i v.start v.board.script v.moves) f.pictures)
 
       pub follows-on : now_on ≤ most_cycles → Follows stepped
@@ -181,7 +181,7 @@ module _ (v : VipState) (f : Follows v) where
             runs = λ k below. runs_on k (omega (arith, below));
             in_time = in_time;
             pictures =
-                subst (λ n. ShowsSince (machine_of v.start).cycle v.board.rom (earlier i v.start v.board.script n) now_on (moved v.board).pictures) (sym (add-one v.moves)) shows_on;
+                subst (λ n. HasPicturesSince (machine_of v.start).cycle v.board.rom (earlier i v.start v.board.script n) now_on (moved v.board).pictures) (sym (add-one v.moves)) shows_on;
             first = f.first;
             behind = λ t over. omega (arith, all_met, events-short i v.start v.board.script t v.moves (omega (arith, over, cycle_on)) f.runs);
             within =
@@ -195,10 +195,10 @@ module _ (v : VipState) (f : Follows v) where
       finishes_on : Finishes i v.start v.board.script v.moves v.board.pictures.count (moved v.board).pictures.count (moved v.board).pictures.finished
       finishes_on =
           finishes i v.start v.board.script v.moves v.board.pictures (moved v.board).pictures (apart v.edition v.start f.fits)
-          (subst (λ t. ShowsSince (machine_of v.start).cycle i.rom (earlier i v.start v.board.script v.moves) t v.board.pictures) cycle_is
-          (subst (λ rom. ShowsSince (machine_of v.start).cycle rom (earlier i v.start v.board.script v.moves) now v.board.pictures) f.rom f.pictures))
-          (subst (λ t. ShowsSince (machine_of v.start).cycle i.rom (earlier i v.start v.board.script (suc v.moves)) t (moved v.board).pictures) cycle_on
-          (subst (λ rom. ShowsSince (machine_of v.start).cycle rom (earlier i v.start v.board.script (suc v.moves)) now_on (moved v.board).pictures) f.rom shows_on))
+          (subst (λ t. HasPicturesSince (machine_of v.start).cycle i.rom (earlier i v.start v.board.script v.moves) t v.board.pictures) cycle_is
+          (subst (λ rom. HasPicturesSince (machine_of v.start).cycle rom (earlier i v.start v.board.script v.moves) now v.board.pictures) f.rom f.pictures))
+          (subst (λ t. HasPicturesSince (machine_of v.start).cycle i.rom (earlier i v.start v.board.script (suc v.moves)) t (moved v.board).pictures) cycle_on
+          (subst (λ rom. HasPicturesSince (machine_of v.start).cycle rom (earlier i v.start v.board.script (suc v.moves)) now_on (moved v.board).pictures) f.rom shows_on))
 
       pub waits-point : (moved v.board).pictures.count ≡ v.board.pictures.count → HasWaiting PointWaiting stepped (point_of i (moved v.board).machine)
       waits-point same = by_case finishes_on

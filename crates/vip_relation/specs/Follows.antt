@@ -8,7 +8,7 @@ use Rattle.chip8_lang.specs.Events.{Event, is_stop}
 use Rattle.chip8_lang.specs.Events.Event.{Dispatch}
 use Rattle.chip8_lang.specs.State.{memory_size}
 use Rattle.chip8_lang.specs.View.{View, view_at}
-use Rattle.vip_board.specs.Shown.{ShowsSince}
+use Rattle.vip_board.specs.Shown.{HasPicturesSince}
 use Rattle.vip_cpu.specs.declared.cpu.Phase.TheVariants.{Boundary}
 use Rattle.vip_text.specs.StateFile.{IsAccepted}
 use Rattle.vip_relation.specs.State.{most_cycles, Start, VipState, first_events, machine_of, interpreter, events_to, events_met, state_after, states_before, screen_size, screen_bytes}
@@ -52,7 +52,7 @@ pub record Follows (v : VipState) : Type 0 where
   pub runs : (k : ℕ) → k < v.moves → is_stop (interpreter v) (state_after v k) ≡ false
   pub in_time : v.board.machine.cycle ≤ most_cycles
   -- its video chip has the pictures of these moves
-  pub pictures : ShowsSince (machine_of v.start).cycle v.board.rom (states_before v v.moves) v.board.machine.cycle v.board.pictures
+  pub pictures : HasPicturesSince (machine_of v.start).cycle v.board.rom (states_before v v.moves) v.board.machine.cycle v.board.pictures
   -- the first events are met, and all of the states before, and at most those at the present state too
   pub first : length (first_events v.start) ≤ v.met
   pub behind : (t : ℕ) → t < v.board.machine.cycle → length (events_to v t) ≤ v.met

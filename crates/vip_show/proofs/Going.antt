@@ -33,7 +33,7 @@ use Rattle.vip_text.specs.declared.ending.RunEnd.TheVariants as run
 use Rattle.vip_show.specs.declared.run.Shown.{Shown}
 use Rattle.vip_show.specs.declared.run.Shown.TheVariants.{Lines, Pictures, Nothing}
 use Rattle.vip_show.specs.declared.run.Tally.{Tally}
-use Rattle.vip_show.specs.Answers.{summary_of, IsFresh, Shows, ShowAnswers, traced, pictured, summed}
+use Rattle.vip_show.specs.Answers.{summary_of, IsFresh, ShowsRun, ShowAnswers, run_trace, run_pictures, run_summary}
 use Rattle.vip_show.specs.Endings.{ending_after, ending_of}
 use Rattle.vip_show.specs.Output.{count_of, is_dispatch_event, is_picture_event, trace_lines, picture_pieces, screen_piece, lit_at}
 use Rattle.vip_show.specs.Run.{piece_of, pieces_of, event_piece, screen_told, lit_told, PieceAnswers, Ran, RunAnswers}
@@ -400,7 +400,7 @@ pub show-fails : (v : VipState) (limit : ℕ) (pieces : List (List ℕ)) (out ou
 show-fails v limit pieces out out' (Ok end) bad fault = cc
 show-fails v limit pieces out out' (Err e) bad fault = fault
 
-pub pictures-are : (v : VipState) (limit : ℕ) → pieces_of Pictures v limit (events_left v limit) ≡ pictured v limit
+pub pictures-are : (v : VipState) (limit : ℕ) → pieces_of Pictures v limit (events_left v limit) ≡ run_pictures v limit
 unfolding picture_pieces
 pictures-are v limit = refl
 
@@ -429,7 +429,7 @@ module _ (with_time : Bool) (limit : ℕ) (old new : VipState) (out out' out'' :
 
   -- with the screen behind the lines
   pub traced-whole : (done : Unit {0}) → PieceAnswers (screen_told new) out' out'' (Ok done)
-      → Shows old limit (traced with_time true old limit) out out'' tally.end
+      → ShowsRun old limit (run_trace with_time true old limit) out out'' tally.end
   traced-whole done put = record {
     puts =
         PutsAll-append (trace_lines old.edition with_time (events_left old limit))
@@ -438,21 +438,21 @@ module _ (with_time : Bool) (limit : ℕ) (old new : VipState) (out out' out'' :
     ending = ran.ending;
   }
 
-  pub traced-lines : Shows old limit (traced with_time false old limit) out out' tally.end
+  pub traced-lines : ShowsRun old limit (run_trace with_time false old limit) out out' tally.end
   traced-lines = record { puts = rw append-nil lines_out; ending = ran.ending }
 
   fails_at : (piece : Option (List ℕ)) (e : Failed) → option_to_list piece ≡ screen_piece old.edition (last_dispatch (events_to old limit))
-      → PieceAnswers piece out' out'' (Err e) → FailsWithin (traced with_time true old limit) out out''
+      → PieceAnswers piece out' out'' (Err e) → FailsWithin (run_trace with_time true old limit) out out''
   fails_at None e is fault = let bad = fault.0 in cc
   fails_at (Some piece) e is fault =
       rw (← is) (FailsWithin-snoc (trace_lines old.edition with_time (events_left old limit)) piece [] out out' out'' lines_out fault)
 
-  pub traced-fails : (e : Failed) → PieceAnswers (screen_told new) out' out'' (Err e) → FailsWithin (traced with_time true old limit) out out''
+  pub traced-fails : (e : Failed) → PieceAnswers (screen_told new) out' out'' (Err e) → FailsWithin (run_trace with_time true old limit) out out''
   traced-fails e fault = fails_at (screen_told new) e screen fault
 
 -- a fault among the lines
 pub traced-early : (with_time with_screen : Bool) (v : VipState) (limit : ℕ) (out out' : SinkMeaning)
-    → FailsWithin (pieces_of (Lines with_time) v limit (events_left v limit)) out out' → FailsWithin (traced with_time with_screen v limit) out out'
+    → FailsWithin (pieces_of (Lines with_time) v limit (events_left v limit)) out out' → FailsWithin (run_trace with_time with_screen v limit) out out'
 traced-early with_time with_screen v limit out out' fault =
     FailsWithin-more (trace_lines v.edition with_time (events_left v limit))
     (if with_screen then screen_piece v.edition (last_dispatch (events_to v limit)) else []) out out'
@@ -474,7 +474,7 @@ module _ (number limit : ℕ) (old new : VipState) (out out' out'' : SinkMeaning
   line_is : line_told ≡ summary_of number old limit
   line_is = rw (ran.dispatches, ran.pictures, lit_of old.edition (last_dispatch (events_to old limit)) new ran.edition ran.last ran.screen) refl
 
-  pub summed-whole : PutsWhole line_told out' out'' → Shows old limit (summed number old limit) out out'' tally.end
+  pub summed-whole : PutsWhole line_told out' out'' → ShowsRun old limit (run_summary number old limit) out out'' tally.end
   summed-whole put = record {
     puts =
         PutsAll-append [] (summary_of number old limit ∷ []) out out' out'' nothing_out
@@ -482,11 +482,11 @@ module _ (number limit : ℕ) (old new : VipState) (out out' out'' : SinkMeaning
     ending = ran.ending;
   }
 
-  pub summed-fails : PutFails line_told out' out'' → FailsWithin (summed number old limit) out out''
+  pub summed-fails : PutFails line_told out' out'' → FailsWithin (run_summary number old limit) out out''
   summed-fails fault = subst (λ line. FailsWithin (line ∷ []) out out'') line_is (FailsWithin-snoc [] line_told [] out out' out'' nothing_out fault)
 
 pub summed-early : (number : ℕ) (v : VipState) (limit : ℕ) (out out' : SinkMeaning)
-    → FailsWithin (pieces_of Nothing v limit (events_left v limit)) out out' → FailsWithin (summed number v limit) out out'
+    → FailsWithin (pieces_of Nothing v limit (events_left v limit)) out out' → FailsWithin (run_summary number v limit) out out'
 summed-early number v limit out out' fault = absurd (never _ (no_pieces (events_left v limit)) fault.before fault.piece fault.after fault.place)
   where
     no_pieces : (events : List Event) → pieces_of Nothing v limit events ≡ []

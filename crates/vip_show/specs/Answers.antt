@@ -23,22 +23,22 @@ pub record IsFresh (v : VipState) : Type 0 where
   pub runs : HasStopped v → ⊥
 
 -- the pieces went out whole, and the run ended as its events say
-pub record Shows (v : VipState) (limit : ℕ) (pieces : List (List ℕ)) (old new : SinkMeaning) (end : RunEnd) : Type 0 where
+pub record ShowsRun (v : VipState) (limit : ℕ) (pieces : List (List ℕ)) (old new : SinkMeaning) (end : RunEnd) : Type 0 where
   pub puts : PutsAll pieces old new
   pub ending : ending_in end ≡ ending_of v.edition (events_to v limit)
 
 abbrev pub ShowAnswers : VipState → ℕ → List (List ℕ) → SinkMeaning → SinkMeaning → Result RunEnd Failed → Type 0
-ShowAnswers v limit pieces old new (Ok end) = Shows v limit pieces old new end
+ShowAnswers v limit pieces old new (Ok end) = ShowsRun v limit pieces old new end
 ShowAnswers v limit pieces old new (Err e) = FailsWithin pieces old new
 
 -- What is written of a run that begins: of its events behind the start. The last dispatch point is the start's where there is no other.
-abbrev pub traced : Bool → Bool → VipState → ℕ → List (List ℕ)
-traced with_time with_screen v limit =
+abbrev pub run_trace : Bool → Bool → VipState → ℕ → List (List ℕ)
+run_trace with_time with_screen v limit =
     trace_lines v.edition with_time (events_left v limit)
     ++ (if with_screen then screen_piece v.edition (last_dispatch (events_to v limit)) else [])
 
-abbrev pub pictured : VipState → ℕ → List (List ℕ)
-pictured v limit = picture_pieces (interpreter v).rom (run_of v limit) (events_left v limit)
+abbrev pub run_pictures : VipState → ℕ → List (List ℕ)
+run_pictures v limit = picture_pieces (interpreter v).rom (run_of v limit) (events_left v limit)
 
 abbrev pub summary_of : ℕ → VipState → ℕ → List ℕ
 summary_of number v limit =
@@ -47,5 +47,5 @@ summary_of number v limit =
     (count_of is_picture_event (events_left v limit))
     (lit_at v.edition (last_dispatch (events_to v limit)))
 
-abbrev pub summed : ℕ → VipState → ℕ → List (List ℕ)
-summed number v limit = summary_of number v limit ∷ []
+abbrev pub run_summary : ℕ → VipState → ℕ → List (List ℕ)
+run_summary number v limit = summary_of number v limit ∷ []

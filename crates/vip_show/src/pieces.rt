@@ -6,7 +6,7 @@ ghost use Rattle.chip8_lang.specs.Editions.{rows_of};
 ghost use Rattle.chip8_lang.specs.Places.{pixels};
 ghost use Rattle.vip_relation.specs.State.{screen_size};
 ghost use Rattle.vip_text.specs.Screens.{screen_lines};
-ghost use Rattle.vip_show.specs.Answers.{IsFresh, ShowAnswers, traced, pictured};
+ghost use Rattle.vip_show.specs.Answers.{IsFresh, ShowAnswers, run_trace, run_pictures};
 ghost use Rattle.vip_show.specs.Run.{PieceAnswers, screen_told};
 
 use crate::run::{Shown, run};
@@ -40,7 +40,7 @@ pub fn show_trace<O: Sink>(
 ) -> Result<RunEnd, Failed>
     requires fresh { IsFresh vip.old }
     requires limit { limit ≤ MOST_CYCLE }
-    ensures { ShowAnswers vip.old limit (traced with_time with_screen vip.old limit) (O.meaning out.old) (O.meaning out.new) result }
+    ensures { ShowAnswers vip.old limit (run_trace with_time with_screen vip.old limit) (O.meaning out.old) (O.meaning out.new) result }
 {
     let tally = run(vip, limit, Shown::Lines { with_time }, with_screen, out)?;
     if with_screen {
@@ -53,7 +53,7 @@ pub fn show_trace<O: Sink>(
 pub fn show_pictures<O: Sink>(vip: &mut Run, limit: u64, out: &mut O) -> Result<RunEnd, Failed>
     requires fresh { IsFresh vip.old }
     requires limit { limit ≤ MOST_CYCLE }
-    ensures { ShowAnswers vip.old limit (pictured vip.old limit) (O.meaning out.old) (O.meaning out.new) result }
+    ensures { ShowAnswers vip.old limit (run_pictures vip.old limit) (O.meaning out.old) (O.meaning out.new) result }
 {
     Ok(run(vip, limit, Shown::Pictures, false, out)?.end)
 }

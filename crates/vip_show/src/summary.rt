@@ -4,7 +4,7 @@ ghost use Rattle.std.specs.Prelude.{◌≡◌, ◌+◌, ◌*◌, ◌/◌, ◌≤
 ghost use Rattle.std.specs.List.{range_with_len};
 ghost use Rattle.vip_relation.specs.State.{screen_size};
 ghost use Rattle.vip_text.specs.Screens.{pixels_of};
-ghost use Rattle.vip_show.specs.Answers.{IsFresh, ShowAnswers, summed};
+ghost use Rattle.vip_show.specs.Answers.{IsFresh, ShowAnswers, run_summary};
 ghost use Rattle.vip_show.specs.Output.{lit_in_row, lit_in_rows};
 ghost use Rattle.vip_show.specs.Run.{lit_told};
 
@@ -69,7 +69,7 @@ pub fn show_summary<O: Sink>(
 ) -> Result<RunEnd, Failed>
     requires fresh { IsFresh vip.old }
     requires limit { limit ≤ MOST_CYCLE }
-    ensures { ShowAnswers vip.old limit (summed number vip.old limit) (O.meaning out.old) (O.meaning out.new) result }
+    ensures { ShowAnswers vip.old limit (run_summary number vip.old limit) (O.meaning out.old) (O.meaning out.new) result }
 {
     let tally = run(vip, limit, Shown::Nothing, true, out)?;
     let mut text = Buffer::new();

@@ -170,35 +170,38 @@ pub fn wanted_files<'a>(request: &Request<'a>) -> ArrayVec<Wanted<'a>, 3>
     ensures { map seen_wanted result.items ≡ needed (asked_of request.now) }
 {
     match request {
-        Request::Trace(wish) => run_files(&wish.run),
+        Request::Trace(asked) => run_files(&asked.run),
         Request::Play(run) => run_files(run),
-        Request::Debug(wish) => {
-            let run = &wish.run;
-            debug_files(game_file(run.edition, run.game), wish.commands, run.keys)
+        Request::Debug(asked) => {
+            let run = &asked.run;
+            debug_files(game_file(run.edition, run.game), asked.commands, run.keys)
         }
         Request::Save(run) => run_files(run),
-        Request::Resume(wish) => with_script(state_file(wish.state), wish.keys),
-        Request::Link(wish) => only(message_file(wish.message)),
+        Request::Resume(asked) => with_script(state_file(asked.state), asked.keys),
+        Request::Link(asked) => only(message_file(asked.message)),
         Request::TraceProgram(run) => with_script(program_file(run.memory, run.program), run.keys),
         Request::PlayProgram(run) => with_script(program_file(run.memory, run.program), run.keys),
-        Request::DebugProgram(wish) => {
-            let run = &wish.run;
+        Request::DebugProgram(asked) => {
+            let run = &asked.run;
             debug_files(
                 program_file(run.memory, run.program),
-                wish.commands,
+                asked.commands,
                 run.keys,
             )
         }
-        Request::Asm(wish) => only(source_file(wish.file, MOST_TEXT)),
-        Request::List(wish) => only(source_file(wish.file, MOST_TEXT)),
-        Request::Dis(wish) => only(source_file(wish.file, ADDRESSES - usize::from(wish.address))),
-        Request::Cycles(wish) => {
-            with_certificate(source_file(wish.file, MOST_TEXT), wish.certificate)
+        Request::Asm(asked) => only(source_file(asked.file, MOST_TEXT)),
+        Request::List(asked) => only(source_file(asked.file, MOST_TEXT)),
+        Request::Dis(asked) => only(source_file(
+            asked.file,
+            ADDRESSES - usize::from(asked.address),
+        )),
+        Request::Cycles(asked) => {
+            with_certificate(source_file(asked.file, MOST_TEXT), asked.certificate)
         }
-        Request::Safe(wish) => {
-            with_certificate(game_file(wish.edition, wish.game), wish.certificate)
+        Request::Safe(asked) => {
+            with_certificate(game_file(asked.edition, asked.game), asked.certificate)
         }
-        Request::Certify(wish) => only(game_file(wish.edition, wish.game)),
+        Request::Certify(asked) => only(game_file(asked.edition, asked.game)),
         Request::Demo(_) | Request::Source(_) | Request::Bounds => ArrayVec::new(),
     }
 }

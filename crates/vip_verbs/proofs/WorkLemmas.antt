@@ -22,7 +22,7 @@ use Rattle.vip_outside.specs.Pieces.{PutsAll, FailsWithin}
 use Rattle.vip_relation.specs.State.{VipState, begun as begun_from, interpreter, started, state_after}
 use Rattle.vip_relation.specs.State.Start.{Reset, Saved}
 use Rattle.vip_outside.specs.declared.sink.Failed.{Failed}
-use Rattle.vip_show.specs.Answers.{IsFresh, ShowAnswers, traced, pictured, summed}
+use Rattle.vip_show.specs.Answers.{IsFresh, ShowAnswers, run_trace, run_pictures, run_summary}
 use Rattle.vip_text.specs.StateFile.{shown, IsAccepted}
 use Rattle.vip_show.specs.StateOutput.{SavedAnswers}
 use Rattle.vip_show.specs.Endings.{ending_after}
@@ -50,7 +50,7 @@ use Rattle.vip_tools.specs.Outcome.{Outcome, script_in}
 use Rattle.vip_tools.specs.Outcome.Outcome.{Shown}
 use Rattle.vip_tools.specs.Work.{RefusedBy, TextAnswers}
 use Rattle.vip_verbs.specs.Opening.{StartAnswers, Begins, GoesOn, ResumeAnswers, RomAnswers}
-use Rattle.vip_verbs.specs.Outcome.{Comes, RunComes, RunTo, DebugComes, ending_from, points_in, resumed, run_ending, saved_as, stopped_by, debug_ending}
+use Rattle.vip_verbs.specs.Outcome.{HasOutcome, RunComes, RunTo, DebugComes, ending_from, points_in, resumed, run_ending, saved_as, stopped_by, debug_ending}
 use Rattle.vip_verbs.specs.Outcome.RunTo.{FaultyScript, FaultyRom, Runs}
 use Rattle.vip_verbs.specs.Prepared.{DebugEnds, IsBeginning, IsStarted, OpenAnswers, PerformAnswers, PrepareAnswers, ended_by, ran, run_ended, save_ended, saved_run, texted}
 use Rattle.vip_verbs.specs.declared.prepared.Prepared.{Prepared}
@@ -111,7 +111,7 @@ module _ (Here : Outcome → Type 0) (run : RunOf Here) where
 module _ (a : AskedDebug) (game text : List ℕ) (scripts : List (List ℕ)) where
   -- its commands aren't read
   pub refused-commands : (refusal : Refusal) → DebugCommandsAnswer Chip8 a.run.cycles text (Err refusal)
-      → RefusedBy (Comes (debug a) (game ∷ text ∷ scripts)) refusal
+      → RefusedBy (HasOutcome (debug a) (game ∷ text ∷ scripts)) refusal
   refused-commands Usage answer = absurd answer
   refused-commands (Unread name) answer = absurd answer
   refused-commands (TooLarge kind) answer = absurd answer
@@ -134,7 +134,7 @@ module _ (a : AskedDebug) (game text : List ℕ) (scripts : List (List ℕ)) whe
       → DebugComes a.run.edition game a.run.cycles scripts (commands_of Chip8 a.run.cycles text) o
   as-run commands read o come = rw read come
 
-  abbrev pub debug_run : (commands : List DebugCommand) → commands_of Chip8 a.run.cycles text ≡ Ok commands → RunOf (Comes (debug a) (game ∷ text ∷ scripts))
+  abbrev pub debug_run : (commands : List DebugCommand) → commands_of Chip8 a.run.cycles text ≡ Ok commands → RunOf (HasOutcome (debug a) (game ∷ text ∷ scripts))
   debug_run commands read = record {
     edition = a.run.edition;
     game = game;
@@ -232,40 +232,40 @@ module _ (a : AskedDemo) (game : List ℕ) (is : game ≡ demo_game a.number) wh
   pub demo-comes :
       (o : Outcome)
       → RunComes Usual a.cycles []
-      (λ script. summed a.number (started Usual game script) a.cycles) (λ script. ended_by a.cycles (started Usual game script)) o
-      → Comes (demo a) [] o
+      (λ script. run_summary a.number (started Usual game script) a.cycles) (λ script. ended_by a.cycles (started Usual game script)) o
+      → HasOutcome (demo a) [] o
   demo-comes o come =
-      subst (λ g. RunComes Usual a.cycles [] (λ script. summed a.number (started Usual g script) a.cycles) (run_ending Usual g a.cycles) o) is come
+      subst (λ g. RunComes Usual a.cycles [] (λ script. run_summary a.number (started Usual g script) a.cycles) (run_ending Usual g a.cycles) o) is come
 
-  abbrev pub demo_run : RunOf (Comes (demo a) [])
+  abbrev pub demo_run : RunOf (HasOutcome (demo a) [])
   demo_run = record {
     edition = Usual;
     game = game;
     scripts = [];
-    outcome = λ v. ran a.cycles (summed a.number v a.cycles) (ended_by a.cycles v);
+    outcome = λ v. ran a.cycles (run_summary a.number v a.cycles) (ended_by a.cycles v);
     fits = demo-comes;
   }
 
 module _ (game : List ℕ) (scripts : List (List ℕ)) where
-  abbrev pub trace_run : (a : AskedTrace) → RunOf (Comes (trace a) (game ∷ scripts))
+  abbrev pub trace_run : (a : AskedTrace) → RunOf (HasOutcome (trace a) (game ∷ scripts))
   trace_run a = record {
     edition = a.run.edition;
     game = game;
     scripts = scripts;
-    outcome = λ v. ran a.run.cycles (traced a.with_time a.with_screen v a.run.cycles) (ended_by a.run.cycles v);
+    outcome = λ v. ran a.run.cycles (run_trace a.with_time a.with_screen v a.run.cycles) (ended_by a.run.cycles v);
     fits = λ o come. come;
   }
 
-  abbrev pub play_run : (a : AskedRun) → RunOf (Comes (play a) (game ∷ scripts))
+  abbrev pub play_run : (a : AskedRun) → RunOf (HasOutcome (play a) (game ∷ scripts))
   play_run a = record {
     edition = a.edition;
     game = game;
     scripts = scripts;
-    outcome = λ v. ran a.cycles (pictured v a.cycles) (ended_by a.cycles v);
+    outcome = λ v. ran a.cycles (run_pictures v a.cycles) (ended_by a.cycles v);
     fits = λ o come. come;
   }
 
-  abbrev pub save_run : (a : AskedRun) → RunOf (Comes (save a) (game ∷ scripts))
+  abbrev pub save_run : (a : AskedRun) → RunOf (HasOutcome (save a) (game ∷ scripts))
   save_run a = record {
     edition = a.edition;
     game = game;
@@ -296,7 +296,7 @@ module _ (file : List ℕ) (scripts : List (List ℕ)) (d : Edition) (script : L
 -- a run that goes on from a file
 module _ (a : AskedResume) (file : List ℕ) (scripts : List (List ℕ)) where
   -- it doesn't begin
-  pub refused-resume : (refusal : Refusal) → ResumeAnswers file scripts (Err refusal) → RefusedBy (Comes (resume a) (file ∷ scripts)) refusal
+  pub refused-resume : (refusal : Refusal) → ResumeAnswers file scripts (Err refusal) → RefusedBy (HasOutcome (resume a) (file ∷ scripts)) refusal
   refused-resume Usage answer = absurd answer
   refused-resume (Unread name) answer = absurd answer
   refused-resume (TooLarge kind) answer = absurd answer
@@ -316,14 +316,14 @@ module _ (a : AskedResume) (file : List ℕ) (scripts : List (List ℕ)) where
 
   -- it begins, so its records are settled, with its ending
   abbrev resumed_run : VipState → Outcome
-  resumed_run v = ran a.cycles (traced a.with_time false v a.cycles) (ended_by a.cycles v)
+  resumed_run v = ran a.cycles (run_trace a.with_time false v a.cycles) (ended_by a.cycles v)
 
   -- what is written of its events is that of their points
   module _ (e : Edition) (script : List KeyEvent) where
     abbrev behind : List Event
     behind = events_behind (interpreter_of e) script (shown file) a.cycles
 
-    records_are : traced a.with_time false (begun_from e (Saved file) script) a.cycles ≡ trace_lines e a.with_time (points_in e file script a.cycles)
+    records_are : run_trace a.with_time false (begun_from e (Saved file) script) a.cycles ≡ trace_lines e a.with_time (points_in e file script a.cycles)
     records_are =
         append-nil (trace_lines e a.with_time behind) ∙ sym (lines_of_points e a.with_time behind)
         ∙ ap (trace_lines e a.with_time) (points_behind_are (interpreter_of e) script (shown file) a.cycles)
@@ -340,9 +340,9 @@ module _ (a : AskedResume) (file : List ℕ) (scripts : List (List ℕ)) where
     outcome_is : resumed_run (begun_from e (Saved file) script) ≡ resumed a e file script
     outcome_is = ap₂ (ran a.cycles) records_are ending_is
 
-  pub resume-comes : (v : VipState) → GoesOn file scripts v → Comes (resume a) (file ∷ scripts) (resumed_run v)
+  pub resume-comes : (v : VipState) → GoesOn file scripts v → HasOutcome (resume a) (file ∷ scripts) (resumed_run v)
   resume-comes v goes =
-      subst (Comes (resume a) (file ∷ scripts)) (sym (ap resumed_run goes.is ∙ outcome_is v.edition goes.script))
+      subst (HasOutcome (resume a) (file ∷ scripts)) (sym (ap resumed_run goes.is ∙ outcome_is v.edition goes.script))
       (record { edition = v.edition; accepted = goes.accepted; comes = Runs goes.script goes.reads goes.rom })
 
 -- ---- what is opened
@@ -352,8 +352,8 @@ pub no-contents : (contents : List (List ℕ)) → FitAll [] contents → conten
 no-contents [] fit = refl
 no-contents (content ∷ contents) fit = absurd fit
 
-module _ (Comes : Outcome → Type 0) where
-  pub text-answers : (r : Result (Vec ℕ Global) Refusal) → TextAnswers Comes r → PrepareAnswers Comes (texted r)
+module _ (HasOutcome : Outcome → Type 0) where
+  pub text-answers : (r : Result (Vec ℕ Global) Refusal) → TextAnswers HasOutcome r → PrepareAnswers HasOutcome (texted r)
   text-answers (Ok text) answers = (tt, answers)
   text-answers (Err refusal) answers = answers
 
@@ -379,7 +379,7 @@ module _ (asked : Asked) (old new : FilesMeaning) where
   refused-files Z ns refusal is answer = files-refused Z refusal (subst (λ ns. FilesAnswer {Z = Z} old new ns (Err refusal)) is answer)
 
   module _ (contents : List (List ℕ)) (read : HasAll old (needed asked) contents) (reads : new ≡ with_reads (reads_of (needed asked) contents) old) where
-    refused-contents : (refusal : Refusal) → RefusedBy (Comes asked contents) refusal → OpenAnswers asked old new (Err refusal)
+    refused-contents : (refusal : Refusal) → RefusedBy (HasOutcome asked contents) refusal → OpenAnswers asked old new (Err refusal)
     refused-contents Usage answer = absurd answer
     refused-contents (Unread name) answer = absurd answer
     refused-contents (TooLarge kind) answer = absurd answer
@@ -398,14 +398,14 @@ module _ (asked : Asked) (old new : FilesMeaning) where
       made = ap (λ m. m.reads) reads;
     }
 
-    opened : (r : Result Prepared Refusal) → PrepareAnswers (Comes asked contents) r → OpenAnswers asked old new r
+    opened : (r : Result Prepared Refusal) → PrepareAnswers (HasOutcome asked contents) r → OpenAnswers asked old new r
     opened (Ok p) answers = (answers.0, record { contents = contents; read = read; reads = reads; here = answers.1 })
     opened (Err refusal) answers = refused-contents refusal answers
 
   -- all files were read
   pub open-answers :
       (ns : List Needed) (contents : List (List ℕ)) → ns ≡ needed asked → HasAll old ns contents × (new ≡ with_reads (reads_of ns contents) old)
-      → (r : Result Prepared Refusal) → PrepareAnswers (Comes asked contents) r → OpenAnswers asked old new r
+      → (r : Result Prepared Refusal) → PrepareAnswers (HasOutcome asked contents) r → OpenAnswers asked old new r
   open-answers ns contents is read r answers =
       let here = subst (λ ns. HasAll old ns contents × (new ≡ with_reads (reads_of ns contents) old)) is read in
       opened contents here.0 here.1 r answers

@@ -24,7 +24,7 @@ use Rattle.vip_debug.specs.Answers.{at_start, place_after, stop_by, written}
 use Rattle.vip_keypad.specs.declared.script.ScriptCause.{ScriptCause}
 use Rattle.vip_keypad.specs.declared.script.ScriptFault.TheVariants.{Fault}
 use Rattle.vip_program.specs.Pictures.{pictured}
-use Rattle.vip_program.specs.Trace.{traced}
+use Rattle.vip_program.specs.Trace.{program_trace}
 use Rattle.chip8_image.specs.Interpreters.{interpreter_of}
 use Rattle.vip_relation.specs.State.{VipState, interpreter, started, state_after}
 use Rattle.vip_show.specs.Endings.{ending_after, ending_of}
@@ -164,33 +164,33 @@ BuiltInComes text = Writes (built_in_text text)
 -- ---- a command
 
 -- what a command comes to, by the contents of its files in their order
-abbrev pub Comes : Asked → List (List ℕ) → Outcome → Type 0
-Comes (trace a) (game ∷ scripts) =
+abbrev pub HasOutcome : Asked → List (List ℕ) → Outcome → Type 0
+HasOutcome (trace a) (game ∷ scripts) =
     RunComes a.run.edition a.run.cycles scripts
     (λ script. trace_pieces a.run.edition a.with_time a.with_screen (events_in a.run.edition game script a.run.cycles))
     (run_ending a.run.edition game a.run.cycles)
-Comes (play a) (game ∷ scripts) =
+HasOutcome (play a) (game ∷ scripts) =
     RunComes a.edition a.cycles scripts
     (λ script. picture_pieces (interpreter_of a.edition).rom (run_of a.edition game script a.cycles) (events_in a.edition game script a.cycles))
     (run_ending a.edition game a.cycles)
-Comes (debug a) (game ∷ commands ∷ scripts) = DebugComes a.run.edition game a.run.cycles scripts (commands_of Chip8 a.run.cycles commands)
-Comes (demo a) [] =
+HasOutcome (debug a) (game ∷ commands ∷ scripts) = DebugComes a.run.edition game a.run.cycles scripts (commands_of Chip8 a.run.cycles commands)
+HasOutcome (demo a) [] =
     RunComes Usual a.cycles []
     (λ script. summary Usual a.number (events_in Usual (demo_game a.number) script a.cycles) ∷ [])
     (run_ending Usual (demo_game a.number) a.cycles)
-Comes (save a) (game ∷ scripts) = SaveComes a.edition game a.cycles scripts
-Comes (resume a) (file ∷ scripts) = ResumeComes a file scripts
-Comes (trace_program a) (bytes ∷ scripts) = ProgramComes a.memory bytes a.cycles scripts (λ board. traced board a.cycles) (ended_at a.cycles)
-Comes (play_program a) (bytes ∷ scripts) = ProgramComes a.memory bytes a.cycles scripts (λ board. pictured board a.cycles) (ended_at a.cycles)
-Comes (debug_program a) (bytes ∷ commands ∷ scripts) =
+HasOutcome (save a) (game ∷ scripts) = SaveComes a.edition game a.cycles scripts
+HasOutcome (resume a) (file ∷ scripts) = ResumeComes a file scripts
+HasOutcome (trace_program a) (bytes ∷ scripts) = ProgramComes a.memory bytes a.cycles scripts (λ board. program_trace board a.cycles) (ended_at a.cycles)
+HasOutcome (play_program a) (bytes ∷ scripts) = ProgramComes a.memory bytes a.cycles scripts (λ board. pictured board a.cycles) (ended_at a.cycles)
+HasOutcome (debug_program a) (bytes ∷ commands ∷ scripts) =
     ProgramDebugComes a.run.memory bytes a.run.cycles scripts (commands_of Processor a.run.cycles commands)
-Comes (link a) (message ∷ []) = LinkComes a message
-Comes (asm a) (text ∷ []) = AsmComes a.raw text
-Comes (list name) (text ∷ []) = ListComes text
-Comes (dis a) (bytes ∷ []) = DisComes a.address bytes
-Comes (source text) [] = BuiltInComes text
-Comes bounds [] = BoundsComes
-Comes (within a) (text ∷ certificate ∷ []) = CyclesComes text certificate
-Comes (safe a) (game ∷ certificate ∷ []) = SafeComes a.edition game certificate
-Comes (certify a) (game ∷ []) = CertifyComes a.edition game
-Comes _ _ = λ o. ⊥
+HasOutcome (link a) (message ∷ []) = LinkComes a message
+HasOutcome (asm a) (text ∷ []) = AsmComes a.raw text
+HasOutcome (list name) (text ∷ []) = ListComes text
+HasOutcome (dis a) (bytes ∷ []) = DisComes a.address bytes
+HasOutcome (source text) [] = BuiltInComes text
+HasOutcome bounds [] = BoundsComes
+HasOutcome (within a) (text ∷ certificate ∷ []) = CyclesComes text certificate
+HasOutcome (safe a) (game ∷ certificate ∷ []) = SafeComes a.edition game certificate
+HasOutcome (certify a) (game ∷ []) = CertifyComes a.edition game
+HasOutcome _ _ = λ o. ⊥

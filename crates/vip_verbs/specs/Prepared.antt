@@ -14,11 +14,11 @@ use Rattle.vip_debug.specs.Programs.{program_written, machine_with}
 use Rattle.vip_debug.specs.declared.run.DebugEnd.{DebugEnd}
 use Rattle.vip_debug.specs.declared.run.DebugEnd.TheVariants as debugger
 use Rattle.vip_program.specs.Pictures.{pictured as program_pictures}
-use Rattle.vip_program.specs.Trace.{end_at, traced as program_lines}
+use Rattle.vip_program.specs.Trace.{end_at, program_trace as program_lines}
 use Rattle.vip_program.specs.declared.trace.ProgramEnd.{ProgramEnd}
 use Rattle.vip_relation.specs.Meets.{HasStopped}
 use Rattle.vip_relation.specs.State.{Start, VipState, begun, started, events_to}
-use Rattle.vip_show.specs.Answers.{traced, pictured, summed}
+use Rattle.vip_show.specs.Answers.{run_trace, run_pictures, run_summary}
 use Rattle.vip_show.specs.Endings.{ending_of}
 use Rattle.vip_text.specs.Endings.{Ending}
 use Rattle.vip_text.specs.declared.ending.RunEnd.{RunEnd}
@@ -38,7 +38,7 @@ use Rattle.vip_tools.specs.Files.{needed, ComesTo, HasAll, IsFaulty, IsLarger, I
 use Rattle.vip_tools.specs.Outcome.{Outcome}
 use Rattle.vip_tools.specs.Outcome.Outcome.{Refused, Shown}
 use Rattle.vip_tools.specs.Work.{RefusedBy}
-use Rattle.vip_verbs.specs.Outcome.{Comes, debug_ending, linked_after, saved}
+use Rattle.vip_verbs.specs.Outcome.{HasOutcome, debug_ending, linked_after, saved}
 use Rattle.vip_verbs.specs.declared.prepared.Prepared.{Prepared}
 use Rattle.vip_verbs.specs.declared.prepared.Prepared.TheVariants.{Trace, Play, Debug, Save, Demo, Text, TraceProgram, PlayProgram, DebugProgram, Link}
 use Rattle.vip_verbs.specs.Programs.{IsBegun, ended_at, program_report}
@@ -67,11 +67,11 @@ linked s = Shown (s.received ∷ []) Done (linked_report (length s.sent) (length
 
 -- what a verb that is ready comes to
 abbrev pub outcome_of : Prepared → Outcome
-outcome_of (Trace vip limit with_time with_screen) = ran limit (traced with_time with_screen vip limit) (ended_by limit vip)
-outcome_of (Play vip limit) = ran limit (pictured vip limit) (ended_by limit vip)
+outcome_of (Trace vip limit with_time with_screen) = ran limit (run_trace with_time with_screen vip limit) (ended_by limit vip)
+outcome_of (Play vip limit) = ran limit (run_pictures vip limit) (ended_by limit vip)
 outcome_of (Debug vip limit commands) = ran limit (written vip limit commands at_start) (debug_ending vip limit commands)
 outcome_of (Save vip limit) = saved_run limit vip
-outcome_of (Demo vip limit number) = ran limit (summed number vip limit) (ended_by limit vip)
+outcome_of (Demo vip limit number) = ran limit (run_summary number vip limit) (ended_by limit vip)
 outcome_of (TraceProgram board limit) = program_shown limit (program_lines board limit) (ended_at limit board)
 outcome_of (PlayProgram board limit) = program_shown limit (program_pictures board limit) (ended_at limit board)
 outcome_of (DebugProgram board limit commands) = program_shown limit (program_written board limit commands) (end_at (machine_with board limit commands))
@@ -115,8 +115,8 @@ IsReady (Text text) = Unit {0}
 
 -- what is ready comes to what the request does, or the request comes to a refusal
 abbrev pub PrepareAnswers : (Outcome → Type 0) → Result Prepared Refusal → Type 0
-PrepareAnswers Comes (Ok p) = IsReady p × Comes (outcome_of p)
-PrepareAnswers Comes (Err refusal) = RefusedBy Comes refusal
+PrepareAnswers HasOutcome (Ok p) = IsReady p × HasOutcome (outcome_of p)
+PrepareAnswers HasOutcome (Err refusal) = RefusedBy HasOutcome refusal
 
 -- a text is ready
 abbrev pub texted : Result (Vec ℕ Global) Refusal → Result Prepared Refusal
@@ -132,13 +132,13 @@ pub record OfFiles (asked : Asked) (old new : FilesMeaning) (Here : List (List �
 
 -- what opening answers
 abbrev pub OpenAnswers : Asked → FilesMeaning → FilesMeaning → Result Prepared Refusal → Type 0
-OpenAnswers asked old new (Ok p) = IsReady p × OfFiles asked old new (λ contents. Comes asked contents (outcome_of p))
+OpenAnswers asked old new (Ok p) = IsReady p × OfFiles asked old new (λ contents. HasOutcome asked contents (outcome_of p))
 OpenAnswers asked old new (Err Usage) = ⊥
 OpenAnswers asked old new (Err (Unread name)) = ComesTo old new (needed asked) (λ n answer. (name.now ≡ n.name) × IsUnread old new n answer)
 OpenAnswers asked old new (Err (TooLarge kind)) = ComesTo old new (needed asked) (λ n answer. (kind ≡ n.kind) × IsLarger old n answer)
 OpenAnswers asked old new (Err (State fault)) = ComesTo old new (needed asked) (λ n answer. IsFaulty fault old n answer × OnlyReads old new)
 OpenAnswers asked old new (Err NoMemory) = ReadsSome (needed asked) old new
-OpenAnswers asked old new (Err refusal) = OfFiles asked old new (λ contents. RefusedBy (Comes asked contents) refusal)
+OpenAnswers asked old new (Err refusal) = OfFiles asked old new (λ contents. RefusedBy (HasOutcome asked contents) refusal)
 
 -- the output went out whole, and this is its end
 pub record Performs (pieces : List (List ℕ)) (status : Status) (report : List ℕ) (old new : SinkMeaning) (ended : Ended) : Type 0 where

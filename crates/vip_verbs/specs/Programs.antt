@@ -2,7 +2,7 @@
 use Rattle.std.specs.Prelude.{◌≡◌, ℕ, List, [], Result, Ok, Err}
 use Rattle.machine.specs.Keys.{Event as KeyEvent}
 use Rattle.vip_board.specs.Seen.{Seen}
-use Rattle.vip_board.specs.Shown.{Shows}
+use Rattle.vip_board.specs.Shown.{HasPictures}
 use Rattle.vip_words.specs.declared.debug_commands.Command.{Command}
 use Rattle.vip_words.specs.declared.debug_commands.CommandFault.{CommandFault}
 use Rattle.vip_words.specs.declared.debug_commands.CommandFault.TheVariants as command
@@ -68,14 +68,14 @@ ProgramDebugComes memory bytes limit scripts (Err command.NoMemory) = λ o. ⊥
 pub record IsBegun (board : Seen) : Type 0 where
   pub boundary : board.phase ≡ Boundary
   pub begins : board.machine.cycle ≡ 0
-  pub pictures : Shows board.rom [] board.machine.cycle board.pictures
+  pub pictures : HasPictures board.rom [] board.machine.cycle board.pictures
 
 -- the board of a program under its script
 pub record BeginsProgram (memory : AskedMemory) (bytes : List ℕ) (scripts : List (List ℕ)) (board : Seen) : Type 0 where
   pub script : List KeyEvent
   pub reads : script_in scripts ≡ Ok script
   pub is : board ≡ started (memory_in memory) bytes script
-  pub pictures : Shows board.rom [] board.machine.cycle board.pictures
+  pub pictures : HasPictures board.rom [] board.machine.cycle board.pictures
 
 abbrev pub BoardAnswers : AskedMemory → List ℕ → List (List ℕ) → Result Seen Refusal → Type 0
 BoardAnswers memory bytes scripts (Ok board) = BeginsProgram memory bytes scripts board

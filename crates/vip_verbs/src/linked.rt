@@ -5,7 +5,7 @@ ghost use Rattle.vip_words.specs.Asked.{most_moves};
 ghost use Rattle.vip_words.specs.Asked.Asked.{link as linking};
 ghost use Rattle.vip_words.specs.Request.{asked_link};
 ghost use Rattle.vip_link.specs.Laws.{most_bytes};
-ghost use Rattle.vip_verbs.specs.Outcome.{Comes, linked_after};
+ghost use Rattle.vip_verbs.specs.Outcome.{HasOutcome, linked_after};
 ghost use Rattle.vip_verbs.specs.Opening.{LinkRomsAnswer};
 ghost use Rattle.vip_verbs.specs.Prepared.{IsJoined, PrepareAnswers, PerformAnswers, linked};
 
@@ -31,19 +31,19 @@ fn check_roms<'a>(alloc: Global) -> Result<(), Refusal<'a>>
 /// Compares both ROMs with their sources, and joins two boards with a message.
 pub(crate) fn open_link<'a>(
     alloc: Global,
-    wish: &LinkRequest<'a>,
+    asked: &LinkRequest<'a>,
     message: &[u8],
 ) -> Result<Prepared, Refusal<'a>>
-    requires moves { wish.now.moves ≤ most_moves }
+    requires moves { asked.now.moves ≤ most_moves }
     requires size { length message.now ≤ most_bytes }
-    ensures { PrepareAnswers (Comes (linking (asked_link wish.now)) (message.now ∷ [])) result }
+    ensures { PrepareAnswers (HasOutcome (linking (asked_link asked.now)) (message.now ∷ [])) result }
 {
     check_roms(alloc)?;
     match Link::new(alloc, message) {
         Ok(link) => Ok(Prepared::Link {
             link,
-            number: wish.number,
-            moves: wish.moves,
+            number: asked.number,
+            moves: asked.moves,
         }),
         Err(LinkFault::MessageTooLarge(_)) => Err(Refusal::TooLarge(Kind::Message)),
         Err(LinkFault::NoMemory) => Err(Refusal::NoMemory),

@@ -11,7 +11,7 @@ ghost use Rattle.vip_tools.specs.Files.{needed, AreRight, FitAll, IsRight, conte
 ghost use Rattle.vip_tools.specs.Opening.{SmallScripts};
 ghost use Rattle.vip_tools.specs.Outcome.{Writes};
 ghost use Rattle.vip_tools.specs.Work.{TextAnswers};
-ghost use Rattle.vip_verbs.specs.Outcome.{BuiltInComes, Comes, RomIs};
+ghost use Rattle.vip_verbs.specs.Outcome.{BuiltInComes, HasOutcome, RomIs};
 ghost use Rattle.vip_verbs.specs.Opening.{ResumeAnswers, RomAnswers, StartAnswers};
 ghost use Rattle.vip_verbs.specs.Prepared.{OpenAnswers, PrepareAnswers, texted};
 
@@ -35,7 +35,7 @@ use vip_words::{
 };
 
 /// Compares an edition's ROM with its built-in source.
-fn compared(alloc: Global, edition: Edition) -> Result<(), ImageFault>
+fn compare_rom(alloc: Global, edition: Edition) -> Result<(), ImageFault>
     ensures { RomIs edition result }
 {
     match edition {
@@ -48,7 +48,7 @@ fn compared(alloc: Global, edition: Edition) -> Result<(), ImageFault>
 fn check_rom<'a>(alloc: Global, edition: Edition) -> Result<(), Refusal<'a>>
     ensures { RomAnswers edition result }
 {
-    match compared(alloc, edition) {
+    match compare_rom(alloc, edition) {
         Ok(()) => Ok(()),
         Err(ImageFault::NoMemory) => Err(Refusal::NoMemory),
         Err(fault) => Err(Refusal::Rom(fault)),
@@ -76,50 +76,50 @@ fn start<'a>(
 
 fn open_trace<'a>(
     alloc: Global,
-    wish: &TraceRequest<'a>,
+    asked: &TraceRequest<'a>,
     contents: &RunContents<'_>,
 ) -> Result<Prepared, Refusal<'a>>
-    requires limit { wish.now.run.cycles ≤ most_cycles }
-    requires sizes { FitAll (needed (trace (asked_trace wish.now))) (run_list contents.now) }
-    ensures { PrepareAnswers (Comes (trace (asked_trace wish.now)) (run_list contents.now)) result }
+    requires limit { asked.now.run.cycles ≤ most_cycles }
+    requires sizes { FitAll (needed (trace (asked_trace asked.now))) (run_list contents.now) }
+    ensures { PrepareAnswers (HasOutcome (trace (asked_trace asked.now)) (run_list contents.now)) result }
 {
-    let run = wish.run;
+    let run = asked.run;
     let vip = start(alloc, run.edition, contents)?;
     Ok(Prepared::Trace {
         vip,
         limit: run.cycles,
-        with_time: wish.with_time,
-        with_screen: wish.with_screen,
+        with_time: asked.with_time,
+        with_screen: asked.with_screen,
     })
 }
 
 fn open_play<'a>(
     alloc: Global,
-    wish: &RunRequest<'a>,
+    asked: &RunRequest<'a>,
     contents: &RunContents<'_>,
 ) -> Result<Prepared, Refusal<'a>>
-    requires limit { wish.now.cycles ≤ most_cycles }
-    requires sizes { FitAll (needed (play (asked_run wish.now))) (run_list contents.now) }
-    ensures { PrepareAnswers (Comes (play (asked_run wish.now)) (run_list contents.now)) result }
+    requires limit { asked.now.cycles ≤ most_cycles }
+    requires sizes { FitAll (needed (play (asked_run asked.now))) (run_list contents.now) }
+    ensures { PrepareAnswers (HasOutcome (play (asked_run asked.now)) (run_list contents.now)) result }
 {
-    let vip = start(alloc, wish.edition, contents)?;
+    let vip = start(alloc, asked.edition, contents)?;
     Ok(Prepared::Play {
         vip,
-        limit: wish.cycles,
+        limit: asked.cycles,
     })
 }
 
 /// The commands are read before the key script, so that of two faults theirs counts.
 fn open_debug<'a>(
     alloc: Global,
-    wish: &DebugRequest<'a>,
+    asked: &DebugRequest<'a>,
     contents: &DebugContents<'_>,
 ) -> Result<Prepared, Refusal<'a>>
-    requires limit { wish.now.run.cycles ≤ most_cycles }
-    requires sizes { FitAll (needed (debug (asked_debug wish.now))) (debug_list contents.now) }
-    ensures { PrepareAnswers (Comes (debug (asked_debug wish.now)) (debug_list contents.now)) result }
+    requires limit { asked.now.run.cycles ≤ most_cycles }
+    requires sizes { FitAll (needed (debug (asked_debug asked.now))) (debug_list contents.now) }
+    ensures { PrepareAnswers (HasOutcome (debug (asked_debug asked.now)) (debug_list contents.now)) result }
 {
-    let run = wish.run;
+    let run = asked.run;
     let commands = read_debugging(alloc, Speaks::Chip8, contents.commands, run.cycles)?;
     let vip = start(alloc, run.edition, &contents.run)?;
     Ok(Prepared::Debug {
@@ -131,17 +131,17 @@ fn open_debug<'a>(
 
 fn open_save<'a>(
     alloc: Global,
-    wish: &RunRequest<'a>,
+    asked: &RunRequest<'a>,
     contents: &RunContents<'_>,
 ) -> Result<Prepared, Refusal<'a>>
-    requires limit { wish.now.cycles ≤ most_cycles }
-    requires sizes { FitAll (needed (save (asked_run wish.now))) (run_list contents.now) }
-    ensures { PrepareAnswers (Comes (save (asked_run wish.now)) (run_list contents.now)) result }
+    requires limit { asked.now.cycles ≤ most_cycles }
+    requires sizes { FitAll (needed (save (asked_run asked.now))) (run_list contents.now) }
+    ensures { PrepareAnswers (HasOutcome (save (asked_run asked.now)) (run_list contents.now)) result }
 {
-    let vip = start(alloc, wish.edition, contents)?;
+    let vip = start(alloc, asked.edition, contents)?;
     Ok(Prepared::Save {
         vip,
-        limit: wish.cycles,
+        limit: asked.cycles,
     })
 }
 
@@ -164,28 +164,28 @@ fn go_on<'a>(alloc: Global, file: &[u8], script: Option<&[u8]>) -> Result<Run, R
 
 fn open_resume<'a>(
     alloc: Global,
-    wish: &ResumeRequest<'a>,
+    asked: &ResumeRequest<'a>,
     contents: &RunContents<'_>,
 ) -> Result<Prepared, Refusal<'a>>
-    requires limit { wish.now.cycles ≤ most_cycles }
-    requires sizes { FitAll (needed (resume (asked_resume wish.now))) (run_list contents.now) }
-    requires judged { AreRight (needed (resume (asked_resume wish.now))) (run_list contents.now) }
-    ensures { PrepareAnswers (Comes (resume (asked_resume wish.now)) (run_list contents.now)) result }
+    requires limit { asked.now.cycles ≤ most_cycles }
+    requires sizes { FitAll (needed (resume (asked_resume asked.now))) (run_list contents.now) }
+    requires judged { AreRight (needed (resume (asked_resume asked.now))) (run_list contents.now) }
+    ensures { PrepareAnswers (HasOutcome (resume (asked_resume asked.now)) (run_list contents.now)) result }
 {
     let vip = go_on(alloc, contents.game, contents.script)?;
     Ok(Prepared::Trace {
         vip,
-        limit: wish.cycles,
-        with_time: wish.with_time,
+        limit: asked.cycles,
+        with_time: asked.with_time,
         with_screen: false,
     })
 }
 
-fn open_demo<'a>(alloc: Global, wish: &DemoRequest) -> Result<Prepared, Refusal<'a>>
-    requires limit { wish.now.cycles ≤ most_cycles }
-    ensures { PrepareAnswers (Comes (demo (asked_demo wish.now)) []) result }
+fn open_demo<'a>(alloc: Global, asked: &DemoRequest) -> Result<Prepared, Refusal<'a>>
+    requires limit { asked.now.cycles ≤ most_cycles }
+    ensures { PrepareAnswers (HasOutcome (demo (asked_demo asked.now)) []) result }
 {
-    let game = demo_game(alloc, wish.number)?;
+    let game = demo_game(alloc, asked.number)?;
     let contents = RunContents {
         game: game.as_slice(),
         script: None,
@@ -193,54 +193,54 @@ fn open_demo<'a>(alloc: Global, wish: &DemoRequest) -> Result<Prepared, Refusal<
     let vip = start(alloc, Edition::Usual, &contents)?;
     Ok(Prepared::Demo {
         vip,
-        limit: wish.cycles,
-        number: wish.number,
+        limit: asked.cycles,
+        number: asked.number,
     })
 }
 
 fn open_trace_program<'a>(
     alloc: Global,
-    wish: &ProgramRequest<'a>,
+    asked: &ProgramRequest<'a>,
     contents: &RunContents<'_>,
 ) -> Result<Prepared, Refusal<'a>>
-    requires limit { wish.now.cycles ≤ most_cycles }
-    requires sizes { FitAll (needed (trace_program (asked_program wish.now))) (run_list contents.now) }
-    ensures { PrepareAnswers (Comes (trace_program (asked_program wish.now)) (run_list contents.now)) result }
+    requires limit { asked.now.cycles ≤ most_cycles }
+    requires sizes { FitAll (needed (trace_program (asked_program asked.now))) (run_list contents.now) }
+    ensures { PrepareAnswers (HasOutcome (trace_program (asked_program asked.now)) (run_list contents.now)) result }
 {
-    let board = start_board(alloc, wish.memory, contents)?;
+    let board = start_board(alloc, asked.memory, contents)?;
     Ok(Prepared::TraceProgram {
         board,
-        limit: wish.cycles,
+        limit: asked.cycles,
     })
 }
 
 fn open_play_program<'a>(
     alloc: Global,
-    wish: &ProgramRequest<'a>,
+    asked: &ProgramRequest<'a>,
     contents: &RunContents<'_>,
 ) -> Result<Prepared, Refusal<'a>>
-    requires limit { wish.now.cycles ≤ most_cycles }
-    requires sizes { FitAll (needed (play_program (asked_program wish.now))) (run_list contents.now) }
-    ensures { PrepareAnswers (Comes (play_program (asked_program wish.now)) (run_list contents.now)) result }
+    requires limit { asked.now.cycles ≤ most_cycles }
+    requires sizes { FitAll (needed (play_program (asked_program asked.now))) (run_list contents.now) }
+    ensures { PrepareAnswers (HasOutcome (play_program (asked_program asked.now)) (run_list contents.now)) result }
 {
-    let board = start_board(alloc, wish.memory, contents)?;
+    let board = start_board(alloc, asked.memory, contents)?;
     Ok(Prepared::PlayProgram {
         board,
-        limit: wish.cycles,
+        limit: asked.cycles,
     })
 }
 
 /// The commands are read before the key script, so that of two faults theirs counts.
 fn open_debug_program<'a>(
     alloc: Global,
-    wish: &DebugProgramRequest<'a>,
+    asked: &DebugProgramRequest<'a>,
     contents: &DebugContents<'_>,
 ) -> Result<Prepared, Refusal<'a>>
-    requires limit { wish.now.run.cycles ≤ most_cycles }
-    requires sizes { FitAll (needed (debug_program (asked_debug_program wish.now))) (debug_list contents.now) }
-    ensures { PrepareAnswers (Comes (debug_program (asked_debug_program wish.now)) (debug_list contents.now)) result }
+    requires limit { asked.now.run.cycles ≤ most_cycles }
+    requires sizes { FitAll (needed (debug_program (asked_debug_program asked.now))) (debug_list contents.now) }
+    ensures { PrepareAnswers (HasOutcome (debug_program (asked_debug_program asked.now)) (debug_list contents.now)) result }
 {
-    let run = wish.run;
+    let run = asked.run;
     let commands = read_debugging(alloc, Speaks::Machine, contents.commands, run.cycles)?;
     let board = start_board(alloc, run.memory, &contents.run)?;
     Ok(Prepared::DebugProgram {
@@ -289,33 +289,33 @@ fn prepare<'a>(
     requires moves { moves_in (asked_of request.now) ≤ most_moves }
     requires sizes { FitAll (needed (asked_of request.now)) (contents_of contents.now) }
     requires judged { AreRight (needed (asked_of request.now)) (contents_of contents.now) }
-    ensures { PrepareAnswers (Comes (asked_of request.now) (contents_of contents.now)) result }
+    ensures { PrepareAnswers (HasOutcome (asked_of request.now) (contents_of contents.now)) result }
 {
     match request {
-        Request::Trace(wish) => open_trace(alloc, wish, &run_contents(contents)),
-        Request::Play(wish) => open_play(alloc, wish, &run_contents(contents)),
-        Request::Debug(wish) => open_debug(alloc, wish, &debug_contents(contents)),
-        Request::Save(wish) => open_save(alloc, wish, &run_contents(contents)),
-        Request::Resume(wish) => open_resume(alloc, wish, &run_contents(contents)),
-        Request::Demo(wish) => open_demo(alloc, wish),
-        Request::Asm(wish) => text(asm(alloc, only_content(contents), wish.raw)),
+        Request::Trace(asked) => open_trace(alloc, asked, &run_contents(contents)),
+        Request::Play(asked) => open_play(alloc, asked, &run_contents(contents)),
+        Request::Debug(asked) => open_debug(alloc, asked, &debug_contents(contents)),
+        Request::Save(asked) => open_save(alloc, asked, &run_contents(contents)),
+        Request::Resume(asked) => open_resume(alloc, asked, &run_contents(contents)),
+        Request::Demo(asked) => open_demo(alloc, asked),
+        Request::Asm(asked) => text(asm(alloc, only_content(contents), asked.raw)),
         Request::List(_) => text(list(alloc, only_content(contents))),
-        Request::Dis(wish) => text(dis(alloc, only_content(contents), wish.address)),
+        Request::Dis(asked) => text(dis(alloc, only_content(contents), asked.address)),
         Request::Source(source) => text(built_in(alloc, *source)),
         Request::Bounds => text(bounds(alloc)),
         Request::Cycles(_) => {
             let files = certified_contents(contents);
             text(cycles(alloc, files.certified, files.certificate))
         }
-        Request::Safe(wish) => {
+        Request::Safe(asked) => {
             let files = certified_contents(contents);
-            text(safe(alloc, wish.edition, files.certified, files.certificate))
+            text(safe(alloc, asked.edition, files.certified, files.certificate))
         }
-        Request::Certify(wish) => text(certify(alloc, wish.edition, only_content(contents))),
-        Request::Link(wish) => open_link(alloc, wish, only_content(contents)),
-        Request::TraceProgram(wish) => open_trace_program(alloc, wish, &run_contents(contents)),
-        Request::PlayProgram(wish) => open_play_program(alloc, wish, &run_contents(contents)),
-        Request::DebugProgram(wish) => open_debug_program(alloc, wish, &debug_contents(contents)),
+        Request::Certify(asked) => text(certify(alloc, asked.edition, only_content(contents))),
+        Request::Link(asked) => open_link(alloc, asked, only_content(contents)),
+        Request::TraceProgram(asked) => open_trace_program(alloc, asked, &run_contents(contents)),
+        Request::PlayProgram(asked) => open_play_program(alloc, asked, &run_contents(contents)),
+        Request::DebugProgram(asked) => open_debug_program(alloc, asked, &debug_contents(contents)),
     }
 }
 

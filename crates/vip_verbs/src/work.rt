@@ -34,7 +34,7 @@ fn saved(limit: u64, end: Result<Option<RunEnd>, Failed>) -> Result<Ended, Perfo
 }
 
 /// How a run under the debugger ended.
-fn debugged(limit: u64, end: DebugEnd) -> Result<Ended, PerformFault>
+fn end_of_commands(limit: u64, end: DebugEnd) -> Result<Ended, PerformFault>
     ensures { DebugEnds limit end result }
 {
     match end {
@@ -79,7 +79,7 @@ pub fn debug<O: Sink>(
     requires { IsReady (ready.Debug vip limit commands) }
     ensures { PerformAnswers (outcome_of (ready.Debug vip limit commands)) (O.meaning out.old) (O.meaning out.new) result }
 {
-    debugged(limit, run_commands(&mut vip, &commands, limit, out))
+    end_of_commands(limit, run_commands(&mut vip, &commands, limit, out))
 }
 
 /// Runs a game, and puts the file of its state at the last dispatch point. Where there is none it is refused, and nothing is put.

@@ -51,7 +51,7 @@ const DMA_END_COLUMN: u8 = 10;
 pub struct Signals {
     /// The interrupt request.
     pub int: bool,
-    /// The wish for a DMA cycle.
+    /// The request for a DMA cycle.
     pub dma: bool,
     /// The flag that the board wires to EF1.
     pub efx: bool,
@@ -62,7 +62,7 @@ pub struct Signals {
 pub struct Requests {
     /// The interrupt request.
     pub int: bool,
-    /// The wish for a DMA cycle.
+    /// The request for a DMA cycle.
     pub dma: bool,
 }
 

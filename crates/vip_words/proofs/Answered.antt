@@ -14,7 +14,7 @@ use Rattle.vip_words.specs.Command.{command_faults, command_rows}
 use Rattle.vip_words.specs.Given.{given_of, words_in}
 use Rattle.vip_words.specs.Rules.{Given, Word, given_by, is_known, positional_words}
 use Rattle.vip_words.specs.declared.table.Usage.{Usage}
-use Rattle.vip_words.proofs.Ends.{Shows, flag_end}
+use Rattle.vip_words.proofs.Ends.{EndsGiven, flag_end}
 use Rattle.vip_words.proofs.Known.{known_of_all, strings_known}
 use Rattle.vip_words.proofs.Rows.{Seen, both_true, first_of-look, look, one_of-look}
 use Rattle.vip_words.proofs.Shown.{flag_in, word_seen}
@@ -104,7 +104,7 @@ text_of-flag : (b : Bool) → text_of (flag_end b) ≡ Some (flag_text b)
 text_of-flag true = refl
 text_of-flag false = refl
 
-flag_read : (found : Found) (given : Given) (flag : Flag) (result : Bool) → Shows (rows_of found) given
+flag_read : (found : Found) (given : Given) (flag : Flag) (result : Bool) → EndsGiven (rows_of found) given
     → FlagRead found (flag_name flag) result → flag_in given flag ≡ result
 flag_read found given flag result shows reads =
     by_flag (flag_in given flag) (one_text-rows found (flag_name flag)
@@ -122,7 +122,7 @@ words_in_places (a ∷ b ∷ []) few = refl
 words_in_places (a ∷ b ∷ d ∷ []) few = refl
 words_in_places (a ∷ b ∷ d ∷ e ∷ words) few = absurd (omega arith)
 
-words_read : (found : Found) (given : Given) → length given.positional ≤ 3 → Shows (rows_of found) given
+words_read : (found : Found) (given : Given) → length given.positional ≤ 3 → EndsGiven (rows_of found) given
     → words_in (first_value found (codes "first")) (first_value found (codes "second")) (first_value found (codes "third")) ≡
     given.positional
 words_read found given few shows =
@@ -163,7 +163,7 @@ same_given given given' positional keys flags =
     ∙ ap (λ x. record given' { receiver = x }) (flags Receiver)))))))))
 
 -- what is read is what the rows show
-read_shown : (found : Found) (given given' : Given) → length given.positional ≤ 3 → Shows (rows_of found) given → ReadFrom found given'
+read_shown : (found : Found) (given given' : Given) → length given.positional ≤ 3 → EndsGiven (rows_of found) given → ReadFrom found given'
     → given ≡ given'
 read_shown found given given' few shows reads =
     same_given given given'
@@ -184,7 +184,7 @@ count_of : (count : ℕ) (words : List Word) → is_well_formed count words ≡ 
 count_of count words fit = eqb-true (length (positional_words false words)) count (both_true _ _ (both_true _ _ fit).1).1
 
 taken_test : (b : Bool) (faults : Kinds) (rows : List Row) (given : Given) → Agrees b faults rows given → faults ≡ []
-    → (b ≡ true) × Shows rows given
+    → (b ≡ true) × EndsGiven rows given
 taken_test true faults rows given agrees quiet = (refl, agrees.1)
 taken_test false faults rows given agrees quiet = absurd (agrees quiet)
 
@@ -199,7 +199,7 @@ taken_give usage name (verb ∷ rest) found given some known quiet rows reads =
     let own : list_all (is_known (options_of usage)) words ≡ true = sym (strings_known (options_of usage) rest) ∙ known in
     let all = known_of_all usage.options.now usage.known_options words own in
     let taken = taken_test _ _ _ _ (command_agrees name usage.places usage.few_places (string_bytes verb) words all) quiet in
-    let shows : Shows (rows_of found) (all_given words) = subst (λ rs. Shows rs (all_given words)) (sym rows) taken.1 in
+    let shows : EndsGiven (rows_of found) (all_given words) = subst (λ rs. EndsGiven rs (all_given words)) (sym rows) taken.1 in
     let few : length (positional_words false words) ≤ 3 =
     let count = count_of usage.places words taken.0 in let most = usage.few_places in omega arith in
     given_known usage.places (options_of usage) words own

@@ -22,7 +22,7 @@ flag_end true = Some (codes "true" ∷ [], true, AsWritten)
 flag_end false = Some (codes "false" ∷ [], false, AsWritten)
 
 -- the rows at the end show what is given
-pub record Shows (rows : List Row) (given : Given) : Type 0 where
+pub record EndsGiven (rows : List Row) (given : Given) : Type 0 where
   pub places : (place : Place) → look (place_name place) rows ≡ word_seen (slice_get given.positional (place_at place))
   pub keys_is : look (codes "keys") rows ≡ word_seen given.keys
   pub flags_are : (flag : Flag) → look (flag_name flag) rows ≡ flag_end (flag_in given flag)
@@ -65,7 +65,7 @@ flag_default count Sender false = no_default (codes "sender") (flag_end false) (
 flag_default count Receiver true = no_default (codes "receiver") (flag_end true) (place_arguments count) (no_place_default count)
 flag_default count Receiver false = no_default (codes "receiver") (flag_end false) (place_arguments count) (no_place_default count)
 
-pub shows_end : (count : ℕ) (rows : List Row) (given : Given) → Facts rows given → Shows (fold with_default rows (arguments count)) given
+pub shows_end : (count : ℕ) (rows : List Row) (given : Given) → Facts rows given → EndsGiven (fold with_default rows (arguments count)) given
 shows_end count rows given facts = record {
   places = λ place.
       defaults-look (place_name place) rows (arguments count)
@@ -82,7 +82,7 @@ shows_end count rows given facts = record {
 abbrev is_empty_place : List Text → Place → Bool
 is_empty_place words place = not (is_some (slice_get words (place_at place)))
 
-place_empty : (rows : List Row) (given : Given) → Shows rows given → (place : Place)
+place_empty : (rows : List Row) (given : Given) → EndsGiven rows given → (place : Place)
     → not (is_given_in (place_name place) rows) ≡ is_empty_place given.positional place
 place_empty rows given shows place =
     rw (is_given-look (place_name place) rows, shows.places place) (empty (slice_get given.positional (place_at place)))
@@ -117,7 +117,7 @@ pub ends_checked : (name : Text) (count : ℕ) → count ≤ 3 → (rows : List 
     → ends_with name count (held rows pending) ≡ check_kinds false false (not (length given.positional == count))
 ends_checked name count few rows pending given within idles =
     let end : List Row = finished (arguments count) (held rows pending) in
-    let shows : Shows end given = shows_end count (settled_after count pending rows) given idles.facts in
+    let shows : EndsGiven end given = shows_end count (settled_after count pending rows) given idles.facts in
     rw (
       idles.settled_well,
       quiet_defaults (settled_after count pending rows) (arguments count) (all_quiet count few),

@@ -29,9 +29,9 @@ number-low base text most n is = go (length text == 0) (not (are_digits base tex
 
 -- what is asked with something that was read
 module _ {A : Type 0} where
-  by_read : (o : Option A) (f : A → Asked) (wish : Asked) → ((a : A) → o ≡ Some a → InRange (f a)) → option_map f o ≡ Some wish → InRange wish
-  by_read None f wish low h = absurd (cc)
-  by_read (Some a) f wish low h = let is : f a ≡ wish = cc in subst InRange is (low a refl)
+  by_read : (o : Option A) (f : A → Asked) (asked : Asked) → ((a : A) → o ≡ Some a → InRange (f a)) → option_map f o ≡ Some asked → InRange asked
+  by_read None f asked low h = absurd (cc)
+  by_read (Some a) f asked low h = let is : f a ≡ asked = cc in subst InRange is (low a refl)
 
 cycles-low : (word : Word) (n : ℕ) → cycles_of word ≡ Some n → n ≤ most_cycles
 cycles-low word n is = number-low 10 word most_cycles n is
@@ -64,134 +64,134 @@ program-low file word given r h = by_options (is_mixed given) h
     by_options true h = absurd (cc)
     by_options false h = go (cycles_of word) refl h
 
-by_run : (game word : Word) (given : Given) (f : AskedRun → Asked) (wish : Asked)
-    → ((r : AskedRun) → r.cycles ≤ most_cycles → InRange (f r)) → option_map f (run_by game word given) ≡ Some wish → InRange wish
-by_run game word given f wish low h = by_read (run_by game word given) f wish (λ r e. low r (run-low game word given r e)) h
+by_run : (game word : Word) (given : Given) (f : AskedRun → Asked) (asked : Asked)
+    → ((r : AskedRun) → r.cycles ≤ most_cycles → InRange (f r)) → option_map f (run_by game word given) ≡ Some asked → InRange asked
+by_run game word given f asked low h = by_read (run_by game word given) f asked (λ r e. low r (run-low game word given r e)) h
 
 -- a program where one is asked for, and else a game
-by_either : (file word : Word) (given : Given) (f : AskedProgram → Asked) (g : AskedRun → Asked) (wish : Asked)
+by_either : (file word : Word) (given : Given) (f : AskedProgram → Asked) (g : AskedRun → Asked) (asked : Asked)
     → ((r : AskedProgram) → r.cycles ≤ most_cycles → InRange (f r)) → ((r : AskedRun) → r.cycles ≤ most_cycles → InRange (g r))
-    → (if is_program given then option_map f (program_by file word given) else option_map g (run_by file word given)) ≡ Some wish → InRange wish
-by_either file word given f g wish low_f low_g h = go (is_program given) h
+    → (if is_program given then option_map f (program_by file word given) else option_map g (run_by file word given)) ≡ Some asked → InRange asked
+by_either file word given f g asked low_f low_g h = go (is_program given) h
   where
-    go : (b : Bool) → (if b then option_map f (program_by file word given) else option_map g (run_by file word given)) ≡ Some wish → InRange wish
-    go true h = by_read (program_by file word given) f wish (λ r e. low_f r (program-low file word given r e)) h
-    go false h = by_run file word given g wish low_g h
+    go : (b : Bool) → (if b then option_map f (program_by file word given) else option_map g (run_by file word given)) ≡ Some asked → InRange asked
+    go true h = by_read (program_by file word given) f asked (λ r e. low_f r (program-low file word given r e)) h
+    go false h = by_run file word given g asked low_g h
 
-trace-low : (words : List Word) (given : Given) (wish : Asked) → trace_by words given ≡ Some wish → InRange wish
-trace-low [] given wish h = absurd (cc)
-trace-low (file ∷ []) given wish h = absurd (cc)
-trace-low (file ∷ cycles ∷ []) given wish h =
-    by_either file cycles given trace_program (λ r. trace (record { run = r; with_time = given.at; with_screen = given.screen })) wish
+trace-low : (words : List Word) (given : Given) (asked : Asked) → trace_by words given ≡ Some asked → InRange asked
+trace-low [] given asked h = absurd (cc)
+trace-low (file ∷ []) given asked h = absurd (cc)
+trace-low (file ∷ cycles ∷ []) given asked h =
+    by_either file cycles given trace_program (λ r. trace (record { run = r; with_time = given.at; with_screen = given.screen })) asked
     (λ r low. record { cycles = low; moves = omega arith }) (λ r low. record { cycles = low; moves = omega arith }) h
-trace-low (file ∷ cycles ∷ more ∷ words) given wish h = absurd (cc)
+trace-low (file ∷ cycles ∷ more ∷ words) given asked h = absurd (cc)
 
-play-low : (words : List Word) (given : Given) (wish : Asked) → play_by words given ≡ Some wish → InRange wish
-play-low [] given wish h = absurd (cc)
-play-low (file ∷ []) given wish h = absurd (cc)
-play-low (file ∷ cycles ∷ []) given wish h =
-    by_either file cycles given play_program play wish (λ r low. record { cycles = low; moves = omega arith })
+play-low : (words : List Word) (given : Given) (asked : Asked) → play_by words given ≡ Some asked → InRange asked
+play-low [] given asked h = absurd (cc)
+play-low (file ∷ []) given asked h = absurd (cc)
+play-low (file ∷ cycles ∷ []) given asked h =
+    by_either file cycles given play_program play asked (λ r low. record { cycles = low; moves = omega arith })
     (λ r low. record { cycles = low; moves = omega arith }) h
-play-low (file ∷ cycles ∷ more ∷ words) given wish h = absurd (cc)
+play-low (file ∷ cycles ∷ more ∷ words) given asked h = absurd (cc)
 
-debug-low : (words : List Word) (given : Given) (wish : Asked) → debug_by words given ≡ Some wish → InRange wish
-debug-low [] given wish h = absurd (cc)
-debug-low (file ∷ []) given wish h = absurd (cc)
-debug-low (file ∷ cycles ∷ []) given wish h = absurd (cc)
-debug-low (file ∷ cycles ∷ commands ∷ []) given wish h =
-    by_either file cycles given (λ r. debug_program (record { run = r; commands = commands })) (λ r. debug (record { run = r; commands = commands })) wish
+debug-low : (words : List Word) (given : Given) (asked : Asked) → debug_by words given ≡ Some asked → InRange asked
+debug-low [] given asked h = absurd (cc)
+debug-low (file ∷ []) given asked h = absurd (cc)
+debug-low (file ∷ cycles ∷ []) given asked h = absurd (cc)
+debug-low (file ∷ cycles ∷ commands ∷ []) given asked h =
+    by_either file cycles given (λ r. debug_program (record { run = r; commands = commands })) (λ r. debug (record { run = r; commands = commands })) asked
     (λ r low. record { cycles = low; moves = omega arith }) (λ r low. record { cycles = low; moves = omega arith }) h
-debug-low (file ∷ cycles ∷ commands ∷ more ∷ words) given wish h = absurd (cc)
+debug-low (file ∷ cycles ∷ commands ∷ more ∷ words) given asked h = absurd (cc)
 
-save-low : (words : List Word) (given : Given) (wish : Asked) → save_by words given ≡ Some wish → InRange wish
-save-low [] given wish h = absurd (cc)
-save-low (game ∷ []) given wish h = absurd (cc)
-save-low (game ∷ cycles ∷ []) given wish h = by_run game cycles given save wish (λ r low. record { cycles = low; moves = omega arith }) h
-save-low (game ∷ cycles ∷ more ∷ words) given wish h = absurd (cc)
+save-low : (words : List Word) (given : Given) (asked : Asked) → save_by words given ≡ Some asked → InRange asked
+save-low [] given asked h = absurd (cc)
+save-low (game ∷ []) given asked h = absurd (cc)
+save-low (game ∷ cycles ∷ []) given asked h = by_run game cycles given save asked (λ r low. record { cycles = low; moves = omega arith }) h
+save-low (game ∷ cycles ∷ more ∷ words) given asked h = absurd (cc)
 
-resume-low : (words : List Word) (given : Given) (wish : Asked) → resume_by words given ≡ Some wish → InRange wish
-resume-low [] given wish h = absurd (cc)
-resume-low (state ∷ []) given wish h = absurd (cc)
-resume-low (state ∷ cycles ∷ []) given wish h = by_read (cycles_of cycles) _ wish (λ n e. record { cycles = cycles-low cycles n e; moves = omega arith }) h
-resume-low (state ∷ cycles ∷ more ∷ words) given wish h = absurd (cc)
+resume-low : (words : List Word) (given : Given) (asked : Asked) → resume_by words given ≡ Some asked → InRange asked
+resume-low [] given asked h = absurd (cc)
+resume-low (state ∷ []) given asked h = absurd (cc)
+resume-low (state ∷ cycles ∷ []) given asked h = by_read (cycles_of cycles) _ asked (λ n e. record { cycles = cycles-low cycles n e; moves = omega arith }) h
+resume-low (state ∷ cycles ∷ more ∷ words) given asked h = absurd (cc)
 
-demo-low : (words : List Word) (wish : Asked) → demo_by words ≡ Some wish → InRange wish
-demo-low [] wish h = absurd (cc)
-demo-low (number ∷ []) wish h = absurd (cc)
-demo-low (number ∷ cycles ∷ []) wish h = go (seed_of number) h
+demo-low : (words : List Word) (asked : Asked) → demo_by words ≡ Some asked → InRange asked
+demo-low [] asked h = absurd (cc)
+demo-low (number ∷ []) asked h = absurd (cc)
+demo-low (number ∷ cycles ∷ []) asked h = go (seed_of number) h
   where
-    go : (o : Option ℕ) → option_and_then (λ n. option_map (λ c. demo (record { number = n; cycles = c })) (cycles_of cycles)) o ≡ Some wish → InRange wish
+    go : (o : Option ℕ) → option_and_then (λ n. option_map (λ c. demo (record { number = n; cycles = c })) (cycles_of cycles)) o ≡ Some asked → InRange asked
     go None h = absurd (cc)
-    go (Some n) h = by_read (cycles_of cycles) _ wish (λ c e. record { cycles = cycles-low cycles c e; moves = omega arith }) h
-demo-low (number ∷ cycles ∷ more ∷ words) wish h = absurd (cc)
+    go (Some n) h = by_read (cycles_of cycles) _ asked (λ c e. record { cycles = cycles-low cycles c e; moves = omega arith }) h
+demo-low (number ∷ cycles ∷ more ∷ words) asked h = absurd (cc)
 
-link-low : (words : List Word) (wish : Asked) → link_by words ≡ Some wish → InRange wish
-link-low [] wish h = absurd (cc)
-link-low (message ∷ []) wish h = absurd (cc)
-link-low (message ∷ moves ∷ []) wish h = absurd (cc)
-link-low (message ∷ moves ∷ number ∷ []) wish h = go (moves_of moves) refl h
+link-low : (words : List Word) (asked : Asked) → link_by words ≡ Some asked → InRange asked
+link-low [] asked h = absurd (cc)
+link-low (message ∷ []) asked h = absurd (cc)
+link-low (message ∷ moves ∷ []) asked h = absurd (cc)
+link-low (message ∷ moves ∷ number ∷ []) asked h = go (moves_of moves) refl h
   where
     go : (o : Option ℕ) → moves_of moves ≡ o
-        → option_and_then (λ m. option_map (λ n. link (record { message = message; moves = m; number = n })) (seed_of number)) o ≡ Some wish → InRange wish
+        → option_and_then (λ m. option_map (λ n. link (record { message = message; moves = m; number = n })) (seed_of number)) o ≡ Some asked → InRange asked
     go None e h = absurd (cc)
-    go (Some m) e h = by_read (seed_of number) _ wish (λ n _. record { cycles = omega arith; moves = moves-low moves m e }) h
-link-low (message ∷ moves ∷ number ∷ more ∷ words) wish h = absurd (cc)
+    go (Some m) e h = by_read (seed_of number) _ asked (λ n _. record { cycles = omega arith; moves = moves-low moves m e }) h
+link-low (message ∷ moves ∷ number ∷ more ∷ words) asked h = absurd (cc)
 
-dis-low : (words : List Word) (wish : Asked) → dis_by words ≡ Some wish → InRange wish
-dis-low [] wish h = absurd (cc)
-dis-low (file ∷ []) wish h = absurd (cc)
-dis-low (file ∷ at ∷ []) wish h = by_read (address_of at) _ wish (λ a e. record { cycles = omega arith; moves = omega arith }) h
-dis-low (file ∷ at ∷ more ∷ words) wish h = absurd (cc)
+dis-low : (words : List Word) (asked : Asked) → dis_by words ≡ Some asked → InRange asked
+dis-low [] asked h = absurd (cc)
+dis-low (file ∷ []) asked h = absurd (cc)
+dis-low (file ∷ at ∷ []) asked h = by_read (address_of at) _ asked (λ a e. record { cycles = omega arith; moves = omega arith }) h
+dis-low (file ∷ at ∷ more ∷ words) asked h = absurd (cc)
 
 -- what is asked for where the words are these, and runs nothing
-this-low : (mine wish : Asked) → InRange mine → Some mine ≡ Some wish → InRange wish
-this-low mine wish low h = let is : mine ≡ wish = cc in subst InRange is low
+this-low : (mine asked : Asked) → InRange mine → Some mine ≡ Some asked → InRange asked
+this-low mine asked low h = let is : mine ≡ asked = cc in subst InRange is low
 
-source-low : (words : List Word) (given : Given) (wish : Asked) → source_by words given ≡ Some wish → InRange wish
-source-low [] given wish h = by_read (built_in_by given) _ wish (λ text _. record { cycles = omega arith; moves = omega arith }) h
-source-low (word ∷ words) given wish h = absurd (cc)
+source-low : (words : List Word) (given : Given) (asked : Asked) → source_by words given ≡ Some asked → InRange asked
+source-low [] given asked h = by_read (built_in_by given) _ asked (λ text _. record { cycles = omega arith; moves = omega arith }) h
+source-low (word ∷ words) given asked h = absurd (cc)
 
-bounds-low : (words : List Word) (wish : Asked) → bounds_by words ≡ Some wish → InRange wish
-bounds-low [] wish h = this-low bounds wish (record { cycles = omega arith; moves = omega arith }) h
-bounds-low (word ∷ words) wish h = absurd (cc)
+bounds-low : (words : List Word) (asked : Asked) → bounds_by words ≡ Some asked → InRange asked
+bounds-low [] asked h = this-low bounds asked (record { cycles = omega arith; moves = omega arith }) h
+bounds-low (word ∷ words) asked h = absurd (cc)
 
-within-low : (words : List Word) (wish : Asked) → within_by words ≡ Some wish → InRange wish
-within-low [] wish h = absurd (cc)
-within-low (file ∷ []) wish h = absurd (cc)
-within-low (file ∷ certificate ∷ []) wish h =
-    this-low (within (record { file = file; certificate = certificate })) wish (record { cycles = omega arith; moves = omega arith }) h
-within-low (file ∷ certificate ∷ more ∷ words) wish h = absurd (cc)
+within-low : (words : List Word) (asked : Asked) → within_by words ≡ Some asked → InRange asked
+within-low [] asked h = absurd (cc)
+within-low (file ∷ []) asked h = absurd (cc)
+within-low (file ∷ certificate ∷ []) asked h =
+    this-low (within (record { file = file; certificate = certificate })) asked (record { cycles = omega arith; moves = omega arith }) h
+within-low (file ∷ certificate ∷ more ∷ words) asked h = absurd (cc)
 
-safe-low : (words : List Word) (given : Given) (wish : Asked) → safe_by words given ≡ Some wish → InRange wish
-safe-low [] given wish h = absurd (cc)
-safe-low (game ∷ []) given wish h = absurd (cc)
-safe-low (game ∷ certificate ∷ []) given wish h =
-    this-low (safe (record { game = game; certificate = certificate; edition = edition_by given.tall })) wish
+safe-low : (words : List Word) (given : Given) (asked : Asked) → safe_by words given ≡ Some asked → InRange asked
+safe-low [] given asked h = absurd (cc)
+safe-low (game ∷ []) given asked h = absurd (cc)
+safe-low (game ∷ certificate ∷ []) given asked h =
+    this-low (safe (record { game = game; certificate = certificate; edition = edition_by given.tall })) asked
     (record { cycles = omega arith; moves = omega arith }) h
-safe-low (game ∷ certificate ∷ more ∷ words) given wish h = absurd (cc)
+safe-low (game ∷ certificate ∷ more ∷ words) given asked h = absurd (cc)
 
-certify-low : (words : List Word) (given : Given) (wish : Asked) → certify_by words given ≡ Some wish → InRange wish
-certify-low [] given wish h = absurd (cc)
-certify-low (game ∷ []) given wish h =
-    this-low (certify (record { game = game; edition = edition_by given.tall })) wish (record { cycles = omega arith; moves = omega arith }) h
-certify-low (game ∷ more ∷ words) given wish h = absurd (cc)
+certify-low : (words : List Word) (given : Given) (asked : Asked) → certify_by words given ≡ Some asked → InRange asked
+certify-low [] given asked h = absurd (cc)
+certify-low (game ∷ []) given asked h =
+    this-low (certify (record { game = game; edition = edition_by given.tall })) asked (record { cycles = omega arith; moves = omega arith }) h
+certify-low (game ∷ more ∷ words) given asked h = absurd (cc)
 
-verb-low : (v : Verb) (given : Given) (wish : Asked) → asked_of_verb v given ≡ Some wish → InRange wish
-verb-low verb.Trace given wish h = trace-low given.positional given wish h
-verb-low verb.Play given wish h = play-low given.positional given wish h
-verb-low verb.Debug given wish h = debug-low given.positional given wish h
-verb-low verb.Save given wish h = save-low given.positional given wish h
-verb-low verb.Resume given wish h = resume-low given.positional given wish h
-verb-low verb.Demo given wish h = demo-low given.positional wish h
-verb-low verb.Link given wish h = link-low given.positional wish h
-verb-low verb.Asm given wish h = by_read (file_by given.positional) _ wish (λ name e. record { cycles = omega arith; moves = omega arith }) h
-verb-low verb.List given wish h = by_read (file_by given.positional) list wish (λ name e. record { cycles = omega arith; moves = omega arith }) h
-verb-low verb.Dis given wish h = dis-low given.positional wish h
-verb-low verb.Source given wish h = source-low given.positional given wish h
-verb-low verb.Bounds given wish h = bounds-low given.positional wish h
-verb-low verb.Cycles given wish h = within-low given.positional wish h
-verb-low verb.Safe given wish h = safe-low given.positional given wish h
-verb-low verb.Certify given wish h = certify-low given.positional given wish h
+verb-low : (v : Verb) (given : Given) (asked : Asked) → asked_of_verb v given ≡ Some asked → InRange asked
+verb-low verb.Trace given asked h = trace-low given.positional given asked h
+verb-low verb.Play given asked h = play-low given.positional given asked h
+verb-low verb.Debug given asked h = debug-low given.positional given asked h
+verb-low verb.Save given asked h = save-low given.positional given asked h
+verb-low verb.Resume given asked h = resume-low given.positional given asked h
+verb-low verb.Demo given asked h = demo-low given.positional asked h
+verb-low verb.Link given asked h = link-low given.positional asked h
+verb-low verb.Asm given asked h = by_read (file_by given.positional) _ asked (λ name e. record { cycles = omega arith; moves = omega arith }) h
+verb-low verb.List given asked h = by_read (file_by given.positional) list asked (λ name e. record { cycles = omega arith; moves = omega arith }) h
+verb-low verb.Dis given asked h = dis-low given.positional asked h
+verb-low verb.Source given asked h = source-low given.positional given asked h
+verb-low verb.Bounds given asked h = bounds-low given.positional asked h
+verb-low verb.Cycles given asked h = within-low given.positional asked h
+verb-low verb.Safe given asked h = safe-low given.positional given asked h
+verb-low verb.Certify given asked h = certify-low given.positional given asked h
 
 -- so is what a verb's words are read as
 pub read-low : (v : Verb) (given : Given) (o : Option Request) → option_map asked_of o ≡ asked_of_verb v given

@@ -12,7 +12,7 @@ use Rattle.vip_words.proofs.Rows.{Seen, both_true, look, or_first, or_first-none
 use Rattle.vip_words.proofs.Flags.{At, Flag, Ram, Raw, Receiver, Rom, Screen, Sender, Tall, every_flag, flag_among, flag_word, one_flag_fails}
 use Rattle.vip_words.proofs.Steps.{and_never, First, Pending, Place, Second, Third, arguments, asked, asking, flag_argument, flag_step, flag_turn, held, keys_step, keys_turn, place_at, place_name, place_step, place_turn, settled_after, settles, shape, stand, stray_turn, value_step, value_turn}
 use Rattle.vip_words.specs.Rules.{Given, Word}
-use Rattle.vip_words.proofs.Ends.{Shows, ends_checked, shows_end}
+use Rattle.vip_words.proofs.Ends.{EndsGiven, ends_checked, shows_end}
 use Rattle.vip_words.proofs.Shown.{Facts, Idle, flag_again, flag_idle, flag_in, flag_seen, word_seen, flag_use, keys_again, keys_idle, no_rows, nothing_given, one_word, place_idle, with_flag, with_keys, with_word}
 use Rattle.vip_words.proofs.Whole.{faults_end, faults_from, faults_step, rows_end, rows_from, rows_step, whole_faults, whole_rows}
 
@@ -65,7 +65,7 @@ then_valued given words = record {
 
 -- the words are taken, and the rows show what they give, or they are refused
 abbrev pub Agrees : Bool → Kinds → List Row → Given → Type 0
-Agrees true faults rows given = (faults ≡ []) × Shows rows given
+Agrees true faults rows given = (faults ≡ []) × EndsGiven rows given
 Agrees false faults rows given = faults ≡ [] → ⊥
 
 abbrev AgreesFrom : Text → ℕ → Walk → List Text → Bool → Given → Type 0

@@ -143,9 +143,9 @@ abbrev pub most_moves : ℕ
 most_moves = 10_000_000
 
 -- so many machine cycles and moves may be asked for
-pub record InRange (wish : Asked) : Type 0 where
-  pub cycles : cycles_in wish ≤ most_cycles
-  pub moves : moves_in wish ≤ most_moves
+pub record InRange (asked : Asked) : Type 0 where
+  pub cycles : cycles_in asked ≤ most_cycles
+  pub moves : moves_in asked ≤ most_moves
 
 -- a number of moves of joined boards: decimal, from 0 to 10,000,000
 abbrev pub moves_of : Word → Option ℕ

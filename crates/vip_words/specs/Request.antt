@@ -80,21 +80,21 @@ abbrev pub asked_certify : CertifyRequest → AskedCertify
 asked_certify request = record { game = request.game.now; edition = request.edition }
 
 abbrev pub asked_of : Request → Asked
-asked_of (request.Trace wish) = trace (asked_trace wish)
-asked_of (request.Play wish) = play (asked_run wish)
-asked_of (request.Debug wish) = debug (asked_debug wish)
-asked_of (request.Demo wish) = demo (asked_demo wish)
-asked_of (request.Save wish) = save (asked_run wish)
-asked_of (request.Resume wish) = resume (asked_resume wish)
-asked_of (request.Link wish) = link (asked_link wish)
-asked_of (request.TraceProgram wish) = trace_program (asked_program wish)
-asked_of (request.PlayProgram wish) = play_program (asked_program wish)
-asked_of (request.DebugProgram wish) = debug_program (asked_debug_program wish)
-asked_of (request.Asm wish) = asm (asked_asm wish)
-asked_of (request.List wish) = list wish.file.now
-asked_of (request.Dis wish) = dis (asked_dis wish)
+asked_of (request.Trace asked) = trace (asked_trace asked)
+asked_of (request.Play asked) = play (asked_run asked)
+asked_of (request.Debug asked) = debug (asked_debug asked)
+asked_of (request.Demo asked) = demo (asked_demo asked)
+asked_of (request.Save asked) = save (asked_run asked)
+asked_of (request.Resume asked) = resume (asked_resume asked)
+asked_of (request.Link asked) = link (asked_link asked)
+asked_of (request.TraceProgram asked) = trace_program (asked_program asked)
+asked_of (request.PlayProgram asked) = play_program (asked_program asked)
+asked_of (request.DebugProgram asked) = debug_program (asked_debug_program asked)
+asked_of (request.Asm asked) = asm (asked_asm asked)
+asked_of (request.List asked) = list asked.file.now
+asked_of (request.Dis asked) = dis (asked_dis asked)
 asked_of (request.Source text) = source text
 asked_of request.Bounds = bounds
-asked_of (request.Cycles wish) = within (asked_within wish)
-asked_of (request.Safe wish) = safe (asked_safe wish)
-asked_of (request.Certify wish) = certify (asked_certify wish)
+asked_of (request.Cycles asked) = within (asked_within asked)
+asked_of (request.Safe asked) = safe (asked_safe asked)
+asked_of (request.Certify asked) = certify (asked_certify asked)

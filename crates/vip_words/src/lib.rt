@@ -4,7 +4,7 @@
 //! rely on `read_words`: it answers exactly the request that the rules of `specs/Rules.antt`, `specs/Table.antt` and `specs/Asked.antt` read in the
 //! words, and refuses exactly the words in which they read none. It may rely on `read_commands`: its answer is the list of the commands that a text
 //! says, in order, or its first fault, exactly as `specs/DebugGrammar.antt` says. Want of memory is the one other answer of each. The rules are
-//! this project's profile (`docs/FORMATS.md`).
+//! this project's profile (`docs/COMMANDS.md`).
 //!
 //! ```text
 //!     words ──▶ the verb's usage ──▶ each word is plain or an option of it ──▶ clap ──▶ its numbers ──▶ Request

@@ -7,8 +7,8 @@ use Rattle.vip_verbs.proofs.linked.open_link.Goals as goal
 
 pub returns-in_err-check_roms : goal.returns-in_err-check_roms
 returns-in_err-check_roms c =
-    passed (PrepareAnswers (LinkComes (asked_link c.args.wish.now) c.args.message.now)) _ _ c.from_residual.ensures.1
-    (refused-roms (asked_link c.args.wish.now) c.args.message.now _ c.in_err-check_roms.ensures)
+    passed (PrepareAnswers (LinkComes (asked_link c.args.asked.now) c.args.message.now)) _ _ c.from_residual.ensures.1
+    (refused-roms (asked_link c.args.asked.now) c.args.message.now _ c.in_err-check_roms.ensures)
 
 pub returns-in-Ok : goal.returns-in-Ok
 returns-in-Ok c =

@@ -2,14 +2,14 @@ use Rattle.vip_words.specs.Asked.Asked.{play_program}
 use Rattle.vip_words.specs.Request.{asked_program}
 use Rattle.vip_tools.specs.Contents.{run_list}
 use Rattle.vip_tools.proofs.WorkLemmas.{passed}
-use Rattle.vip_verbs.specs.Outcome.{Comes}
+use Rattle.vip_verbs.specs.Outcome.{HasOutcome}
 use Rattle.vip_verbs.specs.Prepared.{PrepareAnswers}
 use Rattle.vip_verbs.proofs.ProgramLemmas.{begun-of, program-comes, refused-board}
 use Rattle.vip_verbs.proofs.opening.open_play_program.Goals as goal
 
 pub returns-in_err-board : goal.returns-in_err-board
 returns-in_err-board c =
-    passed (PrepareAnswers (Comes (play_program (asked_program c.args.wish.now)) (run_list c.args.contents.now))) _ _ c.from_residual.ensures.1
+    passed (PrepareAnswers (HasOutcome (play_program (asked_program c.args.asked.now)) (run_list c.args.contents.now))) _ _ c.from_residual.ensures.1
     (refused-board _ _ _ _ _ _ _ c.in_err-board.ensures)
 
 pub returns : goal.returns

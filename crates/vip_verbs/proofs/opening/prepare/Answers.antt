@@ -6,7 +6,7 @@ use Rattle.vip_verbs.proofs.opening.prepare.Goals as goal
 
 pub returns-in-Asm : goal.returns-in-Asm
 returns-in-Asm c =
-    rw (c.in-Asm.is, c.only_content.ensures, c.text.ensures) (text-answers (AsmComes c.in-Asm.wish.raw c.only_content.result.now) _ c.asm.ensures)
+    rw (c.in-Asm.is, c.only_content.ensures, c.text.ensures) (text-answers (AsmComes c.in-Asm.asked.raw c.only_content.result.now) _ c.asm.ensures)
 
 pub returns-in-List : goal.returns-in-List
 returns-in-List c =
@@ -22,17 +22,17 @@ pub returns-in-Safe : goal.returns-in-Safe
 returns-in-Safe c =
     let files = c.certified_contents-files-in-Safe.result in
     rw (c.in-Safe.is, c.certified_contents-files-in-Safe.ensures, c.text-in-Safe.ensures)
-    (text-answers (SafeComes c.in-Safe.wish.edition files.certified.now files.certificate.now) _ c.safe.ensures)
+    (text-answers (SafeComes c.in-Safe.asked.edition files.certified.now files.certificate.now) _ c.safe.ensures)
 
 pub returns-in-Certify : goal.returns-in-Certify
 returns-in-Certify c =
     rw (c.in-Certify.is, c.only_content-in-Certify.ensures, c.text-in-Certify.ensures)
-    (text-answers (CertifyComes c.in-Certify.wish.edition c.only_content-in-Certify.result.now) _ c.certify.ensures)
+    (text-answers (CertifyComes c.in-Certify.asked.edition c.only_content-in-Certify.result.now) _ c.certify.ensures)
 
 pub returns-in-Dis : goal.returns-in-Dis
 returns-in-Dis c =
     rw (c.in-Dis.is, c.only_content-in-Dis.ensures, c.text-in-Dis.ensures)
-    (text-answers (DisComes c.in-Dis.wish.address c.only_content-in-Dis.result.now) _ c.dis.ensures)
+    (text-answers (DisComes c.in-Dis.asked.address c.only_content-in-Dis.result.now) _ c.dis.ensures)
 
 pub returns-in-Source : goal.returns-in-Source
 returns-in-Source c =

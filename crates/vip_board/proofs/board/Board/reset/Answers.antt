@@ -1,13 +1,13 @@
 use Rattle.std.proofs.Common.{sym, subst, [], arith}
 use Rattle.machine.proofs.Fits.{reset-fits}
 use Rattle.vip_video.specs.Chip.{Chip}
-use Rattle.vip_board.specs.Shown.{Shows}
+use Rattle.vip_board.specs.Shown.{HasPictures}
 use Rattle.vip_board.proofs.Shown.{shows-nothing}
 use Rattle.vip_board.proofs.board.Board.reset.Goals as goal
 
 pub returns-clause-pictures : goal.returns-clause-pictures
 returns-clause-pictures c =
-    let S : Chip → Type 0 = λ v. Shows c.in_ok-memory.memory.rom [] v.cycles v.pictures in
+    let S : Chip → Type 0 = λ v. HasPictures c.in_ok-memory.memory.rom [] v.cycles v.pictures in
     subst S (sym c.new-video.ensures) (shows-nothing _ 0)
 
 pub returns-clause-fits : goal.returns-clause-fits

@@ -2,7 +2,7 @@ use Rattle.std.proofs.Common.{◌≡◌, ◌∙◌, ◌%◌, sym, subst, ap, ref
 use Rattle.vip_memory.specs.Contents.{Contents}
 use Rattle.vip_keypad.specs.KeypadState.{KeypadState}
 use Rattle.vip_video.specs.Chip.{Chip}
-use Rattle.vip_board.specs.Shown.{ShowsSince}
+use Rattle.vip_board.specs.Shown.{HasPicturesSince}
 use Rattle.vip_board.proofs.Restored.{restored}
 use Rattle.vip_board.proofs.Shown.{shows-nothing}
 use Rattle.vip_board.proofs.board.Board.restore.Goals as goal
@@ -20,7 +20,7 @@ returns-clause-board c =
 
 pub returns-clause-pictures : goal.returns-clause-pictures
 returns-clause-pictures c =
-    let S : Chip → Type 0 = λ v. ShowsSince c.args.t c.clear_latch.new.self.rom [] v.cycles v.pictures in
+    let S : Chip → Type 0 = λ v. HasPicturesSince c.args.t c.clear_latch.new.self.rom [] v.cycles v.pictures in
     subst S (sym c.at-video.ensures) (shows-nothing _ c.args.t)
 
 pub returns-clause-fits : goal.returns-clause-fits
