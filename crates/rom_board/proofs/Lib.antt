@@ -4,3 +4,7 @@ pub mod Passed
 pub mod Starts
 pub mod Speaking
 pub mod Frames
+pub mod Onward
+pub mod Copied
+pub mod Rest
+pub mod Again

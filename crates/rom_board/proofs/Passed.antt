@@ -137,7 +137,7 @@ module _ (i : Interpreter) (s : Start) (script : List KeyEvent) where
       (no_stop_here n (runs n (omega arith)))
 
   -- the events before the point of the n-th state
-  pub before_point : ℕ → List Event
+  unfoldable pub before_point : ℕ → List Event
   before_point n = past i s script n ++ pictures i s script n
 
   pub no_stop_before : (n : ℕ) → Runs i s script n → NoStop (before_point n)

@@ -1,11 +1,13 @@
 //! A board that runs the interpreter's ROM: its moves, one at a time and over a run of the interrupt routine, and its run as a run of CHIP-8.
 //!
 //! This is where the proof of the ROM, which speaks of states of the machine, meets the board that makes them. It stands on the board, through its
-//! contract alone, on the machine as its callers see it (`vip_relation`), of which only the events of the defined run are known, and on the laws of
-//! the ROM in `rom_run`. The layer above needs no law of the ROM.
+//! contract alone, on the machine as its callers see it (`vip_relation`), of which only the events of the defined run are known, on the laws of the
+//! ROM in `rom_run`, and, for saved states, on `vip_show`, which says what is written of a run. The layer above needs no law of the ROM.
 //!
 //! It may rely on the laws in `language`: they hold of every run from reset and from any machine that may start, and of every machine of which `Follows`
 //! holds, as it does after every call of `Vip`, in both editions. The language is RCA's, as `chip8_lang` defines it; times are this project's profile.
+//! And on those in `saved`: what is saved at a dispatch point of a run is an accepted file, which shows the state of the board; a run from any accepted
+//! file is a run of CHIP-8, and goes on with the game's run where the file was saved there.
 //!
 //! And it may rely on the contracts of `one_move` and `run_tick` and on the laws in `laws`: a move is the board's own, and where what is known of a
 //! running interpreter holds before it, it holds behind it, with the record of what came since the last dispatch point carried on; a run of the
@@ -28,6 +30,7 @@ use vip_board::{Board, Moved};
 
 pub mod language;
 pub mod laws;
+pub mod saved;
 #[cfg(test)]
 mod tests;
 

@@ -15,8 +15,7 @@ use Rattle.rom_board.specs.Program.{IsRunBehind, numbered, program}
 use Rattle.chip8_image.specs.Interpreters.{interpreter_of}
 use Rattle.vip_show.specs.Endings.{ending_after}
 use Rattle.vip_text.specs.StateFile.{shown, IsAccepted}
-use Rattle.vip_show.proofs.Points.{points_behind_are}
-use Rattle.vip_show.proofs.Rest.{ending_of_points}
+use Rattle.vip_show.proofs.Points.{ending_of_points, points_behind_are}
 use Rattle.vip_text.specs.Endings.{Ending}
 use Rattle.vip_text.specs.Endings.Ending.{AtStop}
 use Rattle.vip_tools.specs.Outcome.{Outcome}

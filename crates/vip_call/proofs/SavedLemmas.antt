@@ -8,7 +8,7 @@ use Rattle.chip8_image.specs.Interpreters.{interpreter_of}
 use Rattle.vip_show.specs.Output.{trace_lines, trace_pieces}
 use Rattle.vip_text.specs.Endings.{Ending}
 use Rattle.vip_text.specs.StateFile.{shown}
-use Rattle.vip_show.specs.Laws.{IsRest as IsRestOfRun, SavedGoesOn}
+use Rattle.rom_board.specs.Saved.{IsRest as IsRestOfRun, SavedGoesOn}
 use Rattle.vip_show.specs.StateOutput.{saved_file}
 use Rattle.vip_show.specs.Points.{points_behind}
 use Rattle.vip_tools.specs.Report.{end_report}

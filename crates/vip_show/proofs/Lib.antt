@@ -4,9 +4,7 @@ pub mod Endings
 pub mod Going
 pub mod Fresh
 pub mod Points
-pub mod Copied
+pub mod RamSizes
 pub mod Files
 pub mod Saving
-pub mod Rest
-pub mod Again
 pub mod OneAnswer

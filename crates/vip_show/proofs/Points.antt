@@ -1,7 +1,7 @@
 -- The points among the events of a run, and the rest of a run behind a dispatch point.
 use Rattle.std.proofs.lemmas.Bool.{cases_eq}
-use Rattle.std.proofs.Common.{◌≡◌, ◌⊎◌, inl, inr, ℕ, suc, ◌≤◌, ◌&&◌, Bool, true, false, List, [], ◌∷◌, ◌++◌, map, filter, ◌-◌, refl, sym, ap, ◌∙◌, subst, arith}
-use Rattle.std.specs.Prelude.{if◌then◌else◌, ◌==◌}
+use Rattle.std.proofs.Common.{◌≡◌, ◌⊎◌, inl, inr, ℕ, suc, ◌≤◌, ◌&&◌, Bool, true, false, List, [], ◌∷◌, ◌++◌, map, filter, ◌-◌, refl, sym, ap, ◌∙◌, arith}
+use Rattle.std.specs.Prelude.{Option, if◌then◌else◌, ◌==◌}
 use Rattle.machine.specs.Instruction.{at}
 use Rattle.machine.specs.Board.{Machine, case_of, move}
 use Rattle.machine.specs.Keys.{Event as KeyEvent, held_at}
@@ -9,17 +9,15 @@ use Rattle.machine.specs.Pictures.{is_shown, windows_ended}
 use Rattle.machine.specs.Run.{run_to}
 use Rattle.machine.proofs.Runs.{later-move}
 use Rattle.chip8_lang.specs.declared.view.Edition.{Edition}
-use Rattle.chip8_lang.specs.declared.view.Edition.TheVariants.{Usual, Tall}
-use Rattle.chip8_lang.specs.Events.{Event, is_dispatch, is_stop, is_instruction, events_at, events_of, numbers_from, events_behind}
+use Rattle.chip8_lang.specs.Events.{Event, is_dispatch, is_stop, is_instruction, events_at, numbers_from, events_behind}
 use Rattle.chip8_lang.specs.Events.Event.{Picture, Dispatch, Stopped}
 use Rattle.chip8_lang.specs.Places.{Interpreter}
-use Rattle.rom_rows.specs.Rom.{vip}
-use Rattle.chip8_image.specs.Interpreters.{interpreter_of}
 use Rattle.vip_relation.specs.State.{Start, events_from, machine_of}
-use Rattle.vip_relation.specs.State.Start.{Reset}
 use Rattle.vip_relation.proofs.Past.{past, state, Runs, events-last, events-on}
+use Rattle.chip8_lang.specs.View.{view_at}
+use Rattle.vip_show.specs.Endings.{ending_after}
+use Rattle.vip_show.specs.Output.{trace_lines, trace_piece}
 use Rattle.vip_show.specs.Points.{points_at, points_behind, points_of}
-use Rattle.vip_show.specs.Laws.{GoesOnWithRun}
 
 pub points_of-append : (xs ys : List Event) → points_of (xs ++ ys) ≡ points_of xs ++ points_of ys
 points_of-append [] ys = refl
@@ -46,21 +44,11 @@ module _ (i : Interpreter) (run : List Machine) where
       (if is_stop i b then Stopped b ∷ [] else if is_dispatch i b then Dispatch b ∷ events_at i run b.cycle bs else events_at i run b.cycle bs)
       ∙ here (is_stop i b) (is_dispatch i b) b (events_at i run b.cycle bs) (points_at i bs) (points_of-events_at b.cycle bs)
 
-pub same_interpreter : (e : Edition) → (vip e).interpreter ≡ interpreter_of e
-same_interpreter Usual = refl
-same_interpreter Tall = refl
-
 pub points_behind_are : (i : Interpreter) (script : List KeyEvent) (b : Machine) (limit : ℕ)
     → points_of (events_behind i script b limit) ≡ points_behind i script b limit
 unfolding points_behind
 points_behind_are i script b limit =
     points_of-events_at i (run_to i.rom (held_at script) b limit) b.cycle (run_to i.rom (held_at script) (move i.rom (held_at script) b) limit)
-
-pub points_of-behind : (e : Edition) (script : List KeyEvent) (b : Machine) (limit : ℕ)
-    → points_of (events_behind (vip e).interpreter script b limit) ≡ points_behind (interpreter_of e) script b limit
-points_of-behind e script b limit =
-    points_behind_are (vip e).interpreter script b limit
-    ∙ ap (λ (i : Interpreter). points_behind i script b limit) (same_interpreter e)
 
 -- a dispatch point is no stop point
 either_point : (s p q : Bool) (n : ℕ) → ((s && n == 4) && p) ≡ true → ((s && n == 3) && q) ≡ false
@@ -69,6 +57,22 @@ either_point false p q n h = refl
 
 pub no-stop : (i : Interpreter) (b : Machine) → is_dispatch i b ≡ true → is_stop i b ≡ false
 no-stop i b h = either_point (is_instruction (case_of b)) (at b.regs 4 == i.fetch) (at b.regs 3 == i.halt) b.regs.p h
+
+-- ---- what is written of events is that of their points
+
+pub lines_of_points : (e : Edition) (with_time : Bool) (es : List Event) → trace_lines e with_time (points_of es) ≡ trace_lines e with_time es
+unfolding trace_lines
+lines_of_points e with_time [] = refl
+lines_of_points e with_time (Picture m ∷ es) = lines_of_points e with_time es
+lines_of_points e with_time (Dispatch b ∷ es) = ap (λ lines. trace_piece e with_time (Dispatch b) ++ lines) (lines_of_points e with_time es)
+lines_of_points e with_time (Stopped b ∷ es) = lines_of_points e with_time es
+
+pub ending_of_points : (e : Edition) (pc : ℕ) (opcode : Option ℕ) (es : List Event) → ending_after e pc opcode (points_of es) ≡ ending_after e pc opcode es
+unfolding ending_after
+ending_of_points e pc opcode [] = refl
+ending_of_points e pc opcode (Picture m ∷ es) = ending_of_points e pc opcode es
+ending_of_points e pc opcode (Dispatch b ∷ es) = ending_of_points e (view_at e b).pc (view_at e b).opcode es
+ending_of_points e pc opcode (Stopped b ∷ es) = refl
 
 -- ---- the rest of a run
 
@@ -83,7 +87,7 @@ one_more i s script n runs here k below = go (cases_eq k n)
 
 -- the events of a run behind its n-th state
 module _ (i : Interpreter) (s : Start) (script : List KeyEvent) where
-  rest : (n limit : ℕ) → Runs i s script n → is_stop i (state i s script n) ≡ false → (state i s script n).cycle ≤ limit
+  pub rest : (n limit : ℕ) → Runs i s script n → is_stop i (state i s script n) ≡ false → (state i s script n).cycle ≤ limit
       → points_of (events_from i script s limit) ≡ points_of (events_from i script s (state i s script n).cycle) ++ points_behind i script
       (state i s script n) limit
   unfolding points_behind
@@ -95,11 +99,3 @@ module _ (i : Interpreter) (s : Start) (script : List KeyEvent) where
       (points_of-events_at i (run_to i.rom (held_at script) (machine_of s) limit) b.cycle (run_to i.rom (held_at script) (move i.rom (held_at script) b) limit))
       ∙ ap (λ es. points_of es ++ points_at i (run_to i.rom (held_at script) (move i.rom (held_at script) b) limit))
       (sym (events-last i s script b.cycle n (omega arith) (later-move i.rom (held_at script) b) runs))
-
-pub goes_on_with_run : GoesOnWithRun
-goes_on_with_run e game f script n limit runs dispatch is within =
-    let i : Interpreter = interpreter_of e in
-    subst (λ (b : Machine). b.cycle ≤ limit → points_of (events_of i game script limit) ≡ points_of (events_of i game script b.cycle) ++
-    points_behind i script b limit) (sym is)
-    (rest i (Reset game) script n limit runs (no-stop i (state i (Reset game) script n) dispatch))
-    within

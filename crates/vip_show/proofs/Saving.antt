@@ -1,22 +1,18 @@
 -- A run on its way whose last dispatch point is saved.
-use Rattle.std.proofs.Common.{◌≡◌, ℕ, Bool, true, false, List, [], ◌∷◌, ◌++◌, refl, sym, ap, ◌∙◌, subst, append-nil, append_assoc}
-use Rattle.std.specs.Prelude.{drop, length, if◌then◌else◌, map, filter, ◌-◌, Option, Some, None, unwrap_or, Result, Ok, Err, IsErr}
+use Rattle.std.proofs.Common.{◌≡◌, ℕ, List, [], ◌∷◌, ◌++◌, refl, sym, ap, ◌∙◌, append-nil, append_assoc}
+use Rattle.std.specs.Prelude.{Option, Some, None, unwrap_or, Result, Ok, Err, IsErr}
 use Rattle.std.specs.Option.{option_map}
 use Rattle.machine.specs.Board.{Machine}
-use Rattle.machine.specs.Keys.{Event as KeyEvent}
-use Rattle.machine.specs.Pictures.{windows_ended, is_shown}
 use Rattle.chip8_lang.specs.declared.view.StopRecord.{StopRecord}
-use Rattle.chip8_lang.specs.Events.{Event, events_at, events_of, game_run, is_dispatch, is_stop, numbers_from}
+use Rattle.chip8_lang.specs.Events.{Event}
 use Rattle.chip8_lang.specs.Events.Event.{Picture, Dispatch, Stopped}
-use Rattle.chip8_lang.specs.Places.{Interpreter}
 use Rattle.chip8_lang.specs.View.{view_at}
 use Rattle.vip_outside.specs.Sink.{SinkMeaning, PutsWhole, PutFails}
 use Rattle.vip_outside.specs.declared.sink.Failed.{Failed}
 use Rattle.vip_outside.proofs.PiecesLemmas.{PutsAll-nil, PutsAll-one, FailsWithin-snoc}
 use Rattle.vip_relation.specs.Follows.{last_dispatch, last_view}
 use Rattle.vip_relation.specs.Meets.{HasStopped}
-use Rattle.vip_relation.specs.State.{Start, VipState, events_from, events_left, events_to, first_events, interpreter, machine_of}
-use Rattle.vip_relation.specs.State.Start.{Reset, Saved}
+use Rattle.vip_relation.specs.State.{VipState, events_left, events_to, first_events, interpreter}
 use Rattle.vip_relation.specs.Stops.{pc_of, opcode_of}
 use Rattle.vip_relation.proofs.Meetings.{last-dispatched, last-kept}
 use Rattle.vip_relation.proofs.Nexts.{Dispatched, Pictured, Halted, Ended}
@@ -31,40 +27,6 @@ use Rattle.vip_text.specs.declared.ending.RunEnd.TheVariants as run
 use Rattle.vip_show.specs.StateOutput.{saved_file, Keeps, SavedAnswers}
 use Rattle.vip_show.specs.Written.{file_of}
 
--- ---- the dispatch points among the events of a run are such
-
-pub AreDispatches : Interpreter → List Event → Type 0
-AreDispatches i [] = Unit {0}
-AreDispatches i (Picture m ∷ es) = AreDispatches i es
-AreDispatches i (Dispatch b ∷ es) = (is_dispatch i b ≡ true) × AreDispatches i es
-AreDispatches i (Stopped b ∷ es) = AreDispatches i es
-
-behind_pictures : (i : Interpreter) (ms : List ℕ) (es : List Event) → AreDispatches i es → AreDispatches i (map Picture ms ++ es)
-unfolding AreDispatches
-behind_pictures i [] es h = h
-behind_pictures i (m ∷ ms) es h = behind_pictures i ms es h
-
-are_dispatches : (i : Interpreter) (states : List Machine) (before : ℕ) (bs : List Machine) → AreDispatches i (events_at i states before bs)
-unfolding AreDispatches
-are_dispatches i states before [] = tt
-are_dispatches i states before (b ∷ bs) =
-    behind_pictures i
-    (filter (is_shown i.rom states) (numbers_from (windows_ended before) (windows_ended b.cycle - windows_ended before)))
-    (if is_stop i b then Stopped b ∷ [] else if is_dispatch i b then Dispatch b ∷ events_at i states b.cycle bs else events_at i states b.cycle bs)
-    (here (is_stop i b) (is_dispatch i b) refl (are_dispatches i states b.cycle bs))
-  where
-    here : (stop dispatch : Bool) → is_dispatch i b ≡ dispatch → AreDispatches i (events_at i states b.cycle bs)
-        → AreDispatches i (if stop then Stopped b ∷ [] else if dispatch then Dispatch b ∷ events_at i states b.cycle bs else events_at i states b.cycle bs)
-    here true dispatch is h = tt
-    here false true is h = (is, h)
-    here false false is h = h
-
-of_run : (i : Interpreter) (script : List KeyEvent) (s : Start) (limit : ℕ)
-    → AreDispatches i (drop (length (first_events s)) (events_from i script s limit))
-unfolding events_of
-of_run i script (Reset game) limit = are_dispatches i (game_run i game script limit) 0 (game_run i game script limit)
-of_run i script (Saved file) limit = are_dispatches i _ (machine_of (Saved file)).cycle _
-
 -- ---- on its way
 
 -- From a start up to v: of the events up to the limit some are met, and the last dispatch point among them is saved in these bytes.
@@ -75,7 +37,6 @@ pub record Saving (limit : ℕ) (start v : VipState) (bytes : List ℕ) : Type 0
   pub split : events_to start limit ≡ done ++ events_left v limit
   pub last : v.last ≡ last_view start.edition done
   pub bytes_are : bytes ≡ unwrap_or (saved_file start.edition done) []
-  pub points : AreDispatches (interpreter start) (events_left v limit)
   pub ends : ending_of start.edition (events_to start limit) ≡ ending_after start.edition (pc_of v.last) (opcode_of v.last) (events_left v limit)
 
 module _ (limit : ℕ) (start : VipState) where
@@ -87,9 +48,6 @@ module _ (limit : ℕ) (start : VipState) where
     split = split-first start limit fresh.met;
     last = fresh.last ∙ first-view start.edition start.start;
     bytes_are = empty ∙ ap (λ events. unwrap_or (saved_file start.edition events) []) (sym (none-first start fresh none));
-    points =
-        subst (λ n. AreDispatches (interpreter start) (drop n (events_to start limit))) (sym fresh.met)
-        (of_run (interpreter start) start.board.script start.start limit);
     ends = ends-first start limit fresh;
   }
 
@@ -102,16 +60,8 @@ module _ (limit : ℕ) (start : VipState) where
         → saved_file start.edition (g.done ++ event ∷ []) ≡ option_map (file_of start.edition) b
     last_with event b is = ap (option_map (file_of start.edition)) is
 
-    pub at-dispatch : (d : Dispatched limit v v' (events_left v limit)) → is_dispatch (interpreter v') v'.board.machine ≡ true
-    unfolding AreDispatches
-    at-dispatch d =
-        ap (λ e. is_dispatch (interpreter (record v { edition = e })) v'.board.machine) (d.meets.one.same.edition ∙ g.edition)
-        ∙ ap (is_dispatch (interpreter start)) d.meets.machine
-        ∙ (subst (AreDispatches (interpreter start)) d.split g.points).0
-
     pub saving-dispatch : (d : Dispatched limit v v' (events_left v limit)) (bytes' : List ℕ) → bytes' ≡ file_of v'.edition v'.board.machine
         → Saving limit start v' bytes'
-    unfolding AreDispatches
     saving-dispatch d bytes' is = record {
       runs = d.meets.goes_on;
       edition = d.meets.one.same.edition ∙ g.edition;
@@ -123,12 +73,10 @@ module _ (limit : ℕ) (start : VipState) where
           ∙ ap (λ e. file_of e v'.board.machine) (d.meets.one.same.edition ∙ g.edition)
           ∙ ap (file_of start.edition) d.meets.machine
           ∙ sym (ap (λ f. unwrap_or f []) (last_with (Dispatch d.b) (Some d.b) (last-dispatched g.done d.b)));
-      points = subst (AreDispatches (interpreter start)) (sym d.meets.one.left) (subst (AreDispatches (interpreter start)) d.split g.points).1;
       ends = g.ends ∙ ends-dispatch start.edition limit v v' g.edition d;
     }
 
     pub saving-picture : (d : Pictured limit v v' (events_left v limit)) → Saving limit start v' bytes
-    unfolding AreDispatches
     saving-picture d = record {
       runs = d.meets.goes_on;
       edition = d.meets.one.same.edition ∙ g.edition;
@@ -138,7 +86,6 @@ module _ (limit : ℕ) (start : VipState) where
       bytes_are =
           g.bytes_are
           ∙ sym (ap (λ f. unwrap_or f []) (last_with (Picture d.m) (last_dispatch g.done) (last-kept g.done (Picture d.m) refl)));
-      points = subst (AreDispatches (interpreter start)) (sym d.meets.one.left) (subst (AreDispatches (interpreter start)) d.split g.points);
       ends = g.ends ∙ ends-picture start.edition limit v v' d;
     }
 

@@ -5,4 +5,3 @@ pub mod Run
 pub mod Written
 pub mod Points
 pub mod StateOutput
-pub mod Laws

@@ -1,18 +1,16 @@
 //! What is written of a run, from a reset or from the file of a machine state: its trace, its pictures, one line of summary, or such a file.
 //!
 //! It stands on `vip_relation`, which gives the events of a run one by one, and the chips under it, on the texts of `vip_text` and the files that it
-//! accepts, on the sinks of `vip_outside`, and, for its laws, on those of the ROM in `rom_run`. It makes no rule of the language and no law of the
-//! ROM. The layer above may rely on this, for every run that begins: the pieces of the output are exactly those of `specs/Output.antt`, and of a state
-//! those of `specs/StateOutput.antt`, each put by a call of its own, up to the first put that fails; and the run ends as its events say. No call takes
-//! memory for it.
+//! accepts, and on the sinks of `vip_outside`. It has no rule of the language and stands on no law of the ROM. The layer above may rely on this, for
+//! every run that begins: the pieces of the output are exactly those of `specs/Output.antt`, and of a state those of `specs/StateOutput.antt`, each put
+//! by a call of its own, up to the first put that fails; and the run ends as its events say. No call takes memory for it.
 //!
-//! `write_state` writes an accepted file, which shows the state of the board; the events of a run from any accepted file, whoever wrote it, are a run
-//! of CHIP-8, which goes on with the game's run where the file was saved there (`laws`).
+//! `write_state` writes exactly the bytes of `specs/Written.antt`. What they are to the language is said in `rom_board::saved`: at a dispatch point they
+//! are an accepted file that shows the state of the board, and a run from any accepted file, whoever wrote it, goes on as CHIP-8.
 //!
 //! The texts and the format of a state are this project's profile (`docs/FORMATS.md`); a picture is a file of Netpbm's PBM, form P4.
 #![tactic(auto)]
 
-pub mod laws;
 mod output;
 mod pieces;
 mod run;

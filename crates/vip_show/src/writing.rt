@@ -1,11 +1,9 @@
 //! Writing the file of a machine state.
 
-ghost use Rattle.std.specs.Prelude.{◌≡◌, ◌+◌, ◌*◌, ◌<◌, ◌≤◌, ◌++◌, [], true, length, slice_range};
+ghost use Rattle.std.specs.Prelude.{◌≡◌, ◌+◌, ◌*◌, ◌<◌, ◌≤◌, ◌++◌, [], length, slice_range};
 ghost use Rattle.arrayvec.specs.ArrayVec.{array_vec_len};
-ghost use Rattle.chip8_lang.specs.Events.{is_dispatch};
 ghost use Rattle.vip_cpu.specs.Bit.{bit};
-ghost use Rattle.vip_relation.specs.State.{interpreter};
-ghost use Rattle.vip_text.specs.StateFile.{shown, edition_byte, IsAccepted};
+ghost use Rattle.vip_text.specs.StateFile.{edition_byte};
 ghost use Rattle.vip_show.specs.Written.{file_of, head_of, register_bytes};
 
 use chip8_lang::Edition;
@@ -15,25 +13,19 @@ use vip_cpu::Cpu;
 use vip_memory::Memory;
 use vip_relation::{Run, Vip, put_page};
 
-/// Writes the file of the machine state at a dispatch point of a run into an empty buffer. The file is an accepted one of the run's edition, and
-/// shows the state of the board.
+/// Writes the file of the machine state of a run into an empty buffer. At a dispatch point it is an accepted file of the run's edition, and shows the
+/// state of the board (`rom_board::saved`).
 pub fn write_state(vip: &Vip, into: &mut Buffer)
-    requires dispatch { is_dispatch (interpreter vip.now) vip.now.board.machine ≡ true }
-    requires empty { into.old.items ≡ [] }
-    ensures bytes { into.new.items ≡ file_of vip.now.edition vip.now.board.machine }
-    ensures accepted { IsAccepted vip.now.edition into.new.items }
-    ensures shown { shown into.new.items ≡ vip.now.board.machine }
+    requires { into.old.items ≡ [] }
+    ensures { into.new.items ≡ file_of vip.now.edition vip.now.board.machine }
 {
     write_run(vip.as_run(), into);
 }
 
 /// The same of a run alone, which keeps nothing of its dispatch points.
 pub(crate) fn write_run(run: &Run, into: &mut Buffer)
-    requires dispatch { is_dispatch (interpreter run.now) run.now.board.machine ≡ true }
-    requires empty { into.old.items ≡ [] }
-    ensures bytes { into.new.items ≡ file_of run.now.edition run.now.board.machine }
-    ensures accepted { IsAccepted run.now.edition into.new.items }
-    ensures shown { shown into.new.items ≡ run.now.board.machine }
+    requires { into.old.items ≡ [] }
+    ensures { into.new.items ≡ file_of run.now.edition run.now.board.machine }
 {
     put_file(run.edition(), run.board(), into);
 }

@@ -28,8 +28,7 @@ use Rattle.vip_show.specs.StateOutput.{SavedAnswers}
 use Rattle.vip_show.specs.Endings.{ending_after}
 use Rattle.vip_show.specs.Output.{trace_lines}
 use Rattle.vip_show.proofs.Fresh.{fresh-begun}
-use Rattle.vip_show.proofs.Points.{points_behind_are}
-use Rattle.vip_show.proofs.Rest.{ending_of_points, lines_of_points}
+use Rattle.vip_show.proofs.Points.{ending_of_points, lines_of_points, points_behind_are}
 use Rattle.vip_text.specs.Endings.{Ending}
 use Rattle.vip_text.specs.Endings.Ending.{AtLimit}
 use Rattle.vip_words.specs.Asked.{Asked, AskedRun, AskedTrace, AskedDebug, AskedDemo, trace, play, debug, demo, AskedResume, resume, save}

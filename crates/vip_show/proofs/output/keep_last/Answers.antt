@@ -1,5 +1,5 @@
 use Rattle.vip_relation.proofs.Nexts.{at_dispatch, at_picture, at_stop, at_end, fewer-dispatch, fewer-picture}
-use Rattle.vip_show.proofs.Saving.{saving-first, at-dispatch, saving-dispatch, saving-picture, kept-stop, kept-end}
+use Rattle.vip_show.proofs.Saving.{saving-first, saving-dispatch, saving-picture, kept-stop, kept-end}
 use Rattle.vip_show.proofs.output.keep_last.Goals as goal
 
 pub loop-file-init : goal.loop-file-init
@@ -7,17 +7,13 @@ loop-file-init c = saving-first _ _ _ c.requires.fresh c.requires.reset c.requir
 
 -- ---- a dispatch point
 
-pub write_run-requires-clause-dispatch : goal.write_run-requires-clause-dispatch
-write_run-requires-clause-dispatch c =
-    at-dispatch _ _ _ _ _ c.loop-file.invariant (at_dispatch _ _ _ _ (c.in-Dispatch.ensures.next c.loop-file.invariant.runs))
-
 pub loop-file-smaller-in-Dispatch : goal.loop-file-smaller-in-Dispatch
 loop-file-smaller-in-Dispatch c = fewer-dispatch _ _ _ (at_dispatch _ _ _ _ (c.in-Dispatch.ensures.next c.loop-file.invariant.runs))
 
 pub loop-file-preserved-in-Dispatch : goal.loop-file-preserved-in-Dispatch
 loop-file-preserved-in-Dispatch c =
     saving-dispatch _ _ _ _ _ c.loop-file.invariant (at_dispatch _ _ _ _ (c.in-Dispatch.ensures.next c.loop-file.invariant.runs)) _
-    c.write_run.ensures.bytes
+    c.write_run.ensures
 
 -- ---- a picture
 

@@ -1,6 +1,6 @@
 use Rattle.std.proofs.Common.{ap, refl}
 use Rattle.vip_memory.specs.Contents.{Contents}
-use Rattle.vip_show.proofs.Copied.{written}
+use Rattle.vip_show.proofs.RamSizes.{written}
 use Rattle.vip_show.proofs.writing.put_file.Goals as goal
 
 pub returns : goal.returns

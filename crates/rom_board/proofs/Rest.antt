@@ -29,11 +29,13 @@ use Rattle.vip_relation.proofs.Past.{state, earlier, before as cycle_before, pas
 use Rattle.vip_show.specs.Endings.{ending_after, ending_of}
 use Rattle.vip_show.specs.Output.{trace_lines, trace_piece}
 use Rattle.vip_text.specs.StateFile.{shown}
-use Rattle.vip_show.specs.Laws.{IsRest, SavedGoesOn}
+use Rattle.rom_board.specs.Saved.{IsRest, SavedGoesOn}
 use Rattle.vip_show.specs.Points.{points_of, points_behind}
 use Rattle.vip_show.specs.Written.{file_of}
-use Rattle.vip_show.proofs.Copied.{starts_by, shown-file_of, accepted-file_of}
-use Rattle.vip_show.proofs.Points.{goes_on_with_run, no-stop, one_more, points_of-append}
+use Rattle.rom_board.proofs.Copied.{starts_by, shown-file_of, accepted-file_of}
+use Rattle.rom_board.proofs.Passed.{NoStop, before_point, no_stop_before}
+use Rattle.rom_board.proofs.Onward.{goes_on_with_run}
+use Rattle.vip_show.proofs.Points.{ending_of_points, lines_of_points, no-stop, one_more, points_of-append}
 
 -- ---- what is written of events is that of their points
 
@@ -51,44 +53,10 @@ lines_by e with_time (Picture m ∷ es) = lines_by e with_time es
 lines_by e with_time (Dispatch b ∷ es) = ap (λ lines. trace_piece e with_time (Dispatch b) ++ lines) (lines_by e with_time es)
 lines_by e with_time (Stopped b ∷ es) = lines_by e with_time es
 
-pub lines_of_points : (e : Edition) (with_time : Bool) (es : List Event) → trace_lines e with_time (points_of es) ≡ trace_lines e with_time es
-unfolding trace_lines
-lines_of_points e with_time [] = refl
-lines_of_points e with_time (Picture m ∷ es) = lines_of_points e with_time es
-lines_of_points e with_time (Dispatch b ∷ es) = ap (λ lines. trace_piece e with_time (Dispatch b) ++ lines) (lines_of_points e with_time es)
-lines_of_points e with_time (Stopped b ∷ es) = lines_of_points e with_time es
-
 lines_append : (e : Edition) (with_time : Bool) (xs ys : List Event)
     → trace_lines e with_time (xs ++ ys) ≡ trace_lines e with_time xs ++ trace_lines e with_time ys
 unfolding trace_lines
 lines_append e with_time xs ys = flat_map-append (trace_piece e with_time) xs ys
-
-pub ending_of_points : (e : Edition) (pc : ℕ) (opcode : Option ℕ) (es : List Event) → ending_after e pc opcode (points_of es) ≡ ending_after e pc opcode es
-unfolding ending_after
-ending_of_points e pc opcode [] = refl
-ending_of_points e pc opcode (Picture m ∷ es) = ending_of_points e pc opcode es
-ending_of_points e pc opcode (Dispatch b ∷ es) = ending_of_points e (view_at e b).pc (view_at e b).opcode es
-ending_of_points e pc opcode (Stopped b ∷ es) = refl
-
--- ---- events without a stop
-
-NoStop : List Event → Type 0
-NoStop [] = Unit {0}
-NoStop (Picture m ∷ es) = NoStop es
-NoStop (Dispatch b ∷ es) = NoStop es
-NoStop (Stopped b ∷ es) = ⊥
-
-no_stop_append : (xs ys : List Event) → NoStop xs → NoStop ys → NoStop (xs ++ ys)
-unfolding NoStop
-no_stop_append [] ys h g = g
-no_stop_append (Picture m ∷ xs) ys h g = no_stop_append xs ys h g
-no_stop_append (Dispatch b ∷ xs) ys h g = no_stop_append xs ys h g
-no_stop_append (Stopped b ∷ xs) ys h g = absurd h
-
-no_stop_pictures : (ms : List ℕ) → NoStop (map Picture ms)
-unfolding NoStop
-no_stop_pictures [] = tt
-no_stop_pictures (m ∷ ms) = no_stop_pictures ms
 
 -- the ending behind a dispatch point before which there is no stop
 ending_behind : (e : Edition) (pc : ℕ) (opcode : Option ℕ) (xs : List Event) (b : Machine) (ys : List Event) → NoStop xs
@@ -158,23 +126,6 @@ module _ (i : Interpreter) (game : List ℕ) (script : List KeyEvent) where
   frames n =
       filter (is_shown i.rom (earlier i (Reset game) script n))
       (numbers_from (windows_ended (cycle_before i (Reset game) script n)) (windows_ended (at_state n).cycle - windows_ended (cycle_before i (Reset game) script n)))
-
-  no_stop_frames : (n : ℕ) → NoStop (pictures i (Reset game) script n)
-  no_stop_frames n = no_stop_pictures (frames n)
-
-  no_stop_past : (n : ℕ) → Runs i (Reset game) script n → NoStop (past i (Reset game) script n)
-  unfolding past NoStop
-  no_stop_past zero runs = tt
-  no_stop_past (suc n) runs =
-      no_stop_append (past i (Reset game) script n ++ pictures i (Reset game) script n) (point i (Reset game) script n)
-      (no_stop_append (past i (Reset game) script n) (pictures i (Reset game) script n) (no_stop_past n (λ k below. runs k (omega (arith, below)))) (no_stop_frames n))
-      (subst NoStop (sym (point_is n)) (here (is_stop i (at_state n)) (is_dispatch i (at_state n)) (runs n (omega arith))))
-    where
-      here : (stop dispatch : Bool) → stop ≡ false
-          → NoStop (point_events (if stop then StopPoint else if dispatch then DispatchPoint else OtherPoint) (at_state n))
-      here true dispatch h = cc
-      here false true h = tt
-      here false false h = tt
 
   no_dispatches : (ms : List ℕ) → dispatches (map Picture ms) ≡ []
   no_dispatches [] = refl
@@ -334,6 +285,7 @@ module _ (e : Edition) (game : List ℕ) (small : length game ≤ memory_size e)
   ending : (later : ℕ) → limit ≤ later
       → ending_of e (events_of i game script later)
       ≡ ending_after e (view_at e (shown (file_of e b))).pc (view_at e (shown (file_of e b))).opcode (behind later)
+  unfolding before_point
   ending later more =
       sym (ending_of_points e 0 None (events_of i game script later))
       ∙ ap (ending_after e 0 None) (points_are later more)
@@ -341,8 +293,7 @@ module _ (e : Edition) (game : List ℕ) (small : length game ≤ memory_size e)
       ∙ ap (λ ps. ending_after e 0 None (ps ++ (behind later))) (points_of-append before (Dispatch c ∷ []))
       ∙ ap (ending_after e 0 None) (append_assoc (points_of before) (Dispatch c ∷ []) (behind later))
       ∙ ending_behind e 0 None (points_of before) c (behind later)
-      (no_stop_points before
-      (no_stop_append (past i (Reset game) script l.n) (pictures i (Reset game) script l.n) (no_stop_past i game script l.n runs) (no_stop_frames i game script l.n)))
+      (no_stop_points before (no_stop_before i (Reset game) script l.n runs))
       ∙ ap (λ (b : Machine). ending_after e (view_at e b).pc (view_at e b).opcode (behind later)) (sym (shown_is ∙ l.is))
 
   is_rest : IsRest e game script limit (file_of e b)

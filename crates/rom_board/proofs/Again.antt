@@ -7,7 +7,7 @@ use Rattle.std.proofs.lemmas.Nat.{be_bytes_8}
 use Rattle.chip8_lang.specs.declared.view.Edition.{Edition}
 use Rattle.vip_cpu.specs.Bit.{bit}
 use Rattle.vip_text.specs.StateFile.{shown, bank_in, bytes_at, cycle_in, file_size, head, edition_byte, IsAccepted}
-use Rattle.vip_show.specs.Laws.{WritesTheSame}
+use Rattle.rom_board.specs.Saved.{WritesTheSame}
 use Rattle.vip_show.specs.Written.{file_of, head_of, register_bytes}
 
 -- ---- bytes by their places

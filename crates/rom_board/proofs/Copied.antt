@@ -1,8 +1,8 @@
 -- The file of a machine state that may start is accepted, and shows that state.
-use Rattle.std.proofs.Common.{◌≡◌, ℕ, ◌+◌, ◌-◌, ◌*◌, ◌/◌, ◌%◌, ◌<◌, ◌≤◌, ◌^◌, Bool, true, false, List, ◌++◌, length, drop, take, min, slice_index, slice_range, refl, sym, ap, ◌∙◌, subst, arith, length-append}
+use Rattle.std.proofs.Common.{◌≡◌, ℕ, ◌+◌, ◌-◌, ◌*◌, ◌/◌, ◌%◌, ◌<◌, ◌≤◌, ◌^◌, Bool, true, false, List, length, drop, take, min, slice_index, refl, sym, ap, ◌∙◌, subst, arith, length-append}
 use Rattle.std.specs.Prelude.{◌==◌}
 use Rattle.std.proofs.lemmas.Nat.{from_be_bytes-to_be_bytes_8}
-use Rattle.std.proofs.lemmas.List.{drop_at, take_all}
+use Rattle.std.proofs.lemmas.List.{drop_at}
 use Rattle.machine.specs.Bank.{value, Bank}
 use Rattle.machine.specs.Board.{Machine}
 use Rattle.machine.specs.Instruction.{Regs}
@@ -168,20 +168,6 @@ module _ (e : Edition) (b : Machine) (m : MayStart e b) (low : b.cycle ≤ most_
               key = omega (arith, y.key, m.fits.key);
             };
       }
-
-whole : (r : List ℕ) → length r ≡ 0x1000 → slice_range r 0 0x1000 ≡ r
-whole r size = take_all 0x1000 r (omega (arith, size))
-
-pub written : (e e' : Edition) (b b' : Machine) (ram l l' : List ℕ) → length b.ram ≡ 0x1000 → l' ≡ l ++ slice_range ram 0 0x1000 → l ≡ head_of e' b'
-    → e' ≡ e → b' ≡ b → ram ≡ b'.ram → l' ≡ file_of e b
-unfolding file_of
-written e e' b b' ram l l' size hl' hl he hb hram =
-    hl'
-    ∙ ap (λ l. l ++ slice_range ram 0 0x1000) hl
-    ∙ ap (λ r. head_of e' b' ++ slice_range r 0 0x1000) hram
-    ∙ ap (λ e. head_of e b' ++ slice_range b'.ram 0 0x1000) he
-    ∙ ap (λ (b : Machine). head_of e b ++ slice_range b.ram 0 0x1000) hb
-    ∙ ap (λ r. head_of e b ++ r) (whole b.ram size)
 
 -- ---- the board of a run
 

@@ -1,6 +1,12 @@
-//! What is proved of accepted files, each law the contract of a function without parameters.
+//! What is proved of accepted files and of those that are written, each law the contract of a function without parameters.
 
-ghost use Rattle.vip_show.specs.Laws.{RunsAsChip8, GoesOnWithRun, SavedGoesOn, WritesTheSame};
+ghost use Rattle.rom_board.specs.Saved.{EveryFile, RunsAsChip8, GoesOnWithRun, SavedGoesOn, WritesTheSame};
+
+/// The file of a dispatch point at which a run stands, as `write_state` of `vip_show` writes it, is an accepted one of the run's edition, and shows the
+/// state of the board.
+pub fn every_file()
+    ensures { EveryFile }
+{}
 
 /// The events of the run from any accepted file, under every script and up to every limit, are a run of CHIP-8 from the file's language state on; and
 /// its points are those behind the file's state.

@@ -1,4 +1,4 @@
--- What holds of accepted files.
+-- What holds of accepted files, and of those that are written.
 use Rattle.std.specs.Prelude.{◌≡◌, ℕ, ◌<◌, ◌≤◌, Bool, true, false, List, ◌++◌, length, slice_index, Some}
 use Rattle.machine.specs.Board.{Machine, start}
 use Rattle.machine.specs.Keys.{Event as KeyEvent, held_at}
@@ -11,14 +11,22 @@ use Rattle.chip8_lang.specs.View.{view_at}
 use Rattle.rom_law.specs.Language.{GoesOn, nothing_else}
 use Rattle.rom_rows.specs.Rom.{vip}
 use Rattle.chip8_image.specs.Interpreters.{interpreter_of}
-use Rattle.vip_relation.specs.Follows.{last_dispatch}
-use Rattle.vip_relation.specs.State.{most_cycles}
+use Rattle.vip_relation.specs.Follows.{Follows, last_dispatch}
+use Rattle.vip_relation.specs.State.{VipState, interpreter, most_cycles}
 use Rattle.vip_show.specs.Endings.{ending_after, ending_of}
 use Rattle.vip_show.specs.Output.{trace_lines}
 use Rattle.vip_text.specs.StateFile.{shown, IsAccepted}
 use Rattle.vip_show.specs.StateOutput.{saved_file}
 use Rattle.vip_show.specs.Points.{points_behind, points_of}
 use Rattle.vip_show.specs.Written.{file_of}
+
+-- the file of a run's dispatch point is accepted, and shows its machine state
+pub record IsFileOf (e : Edition) (b : Machine) : Type 0 where
+  pub accepted : IsAccepted e (file_of e b)
+  pub shows : shown (file_of e b) ≡ b
+
+abbrev pub EveryFile : Type 0
+EveryFile = (v : VipState) → Follows v → is_dispatch (interpreter v) v.board.machine ≡ true → IsFileOf v.edition v.board.machine
 
 -- The events behind the file's state are those of a run of the language, and the points among them are the points behind it.
 pub record IsChip8Behind (e : Edition) (f : List ℕ) (script : List KeyEvent) (limit : ℕ) : Type 0 where

@@ -1,8 +1,8 @@
 use Rattle.rom_run.proofs.Run.{from_any_start}
 use Rattle.vip_text.specs.StateFile.{shown}
 use Rattle.rom_board.proofs.Starts.{file_may_start}
-use Rattle.vip_show.proofs.Points.{points_of-behind}
-use Rattle.vip_show.proofs.laws.runs_as_chip8.Goals as goal
+use Rattle.rom_board.proofs.Onward.{points_of-behind}
+use Rattle.rom_board.proofs.saved.runs_as_chip8.Goals as goal
 
 pub returns : goal.returns
 returns c e f bytes accepted script limit =
