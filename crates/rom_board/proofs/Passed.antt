@@ -1,4 +1,4 @@
--- The events that a machine that runs a game has met: the last dispatch point among them, and that no stop point is among them before a stop was met.
+-- The events that a run has met: the last dispatch point among them, and that no stop point is among them before a stop was met.
 use Rattle.std.proofs.Common.{◌≡◌, ◌⊎◌, inl, inr, ℕ, zero, suc, ◌+◌, ◌-◌, ◌<◌, ◌≤◌, Bool, true, false, List, [], ◌∷◌, ◌++◌, length, take, filter, map, Option, Some, None, refl, sym, ap, subst, ◌∙◌, arith}
 use Rattle.std.specs.Prelude.{if◌then◌else◌, filter_map, slice_get}
 use Rattle.std.proofs.lemmas.Bool.{cases_lt, cases_Bool}

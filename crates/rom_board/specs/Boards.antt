@@ -22,8 +22,8 @@ pub record HasHalted (v : VipState) : Type 0 where
   pub told : v.last ≡ Some (view_at v.edition b)
   pub stop : IsStop (program v.edition) b v.board.machine
 
--- The board is at the stop point; or it is in boot, behind a reset; or what is known of a running interpreter holds of it, with the record of the moves since the
--- last dispatch point.
+-- The board is at the stop point; or it is in boot, behind a reset; or what is known of a running interpreter holds of it, with the record of the
+-- moves since the last dispatch point.
 pub data IsKnown (v : VipState) : Type 0 where
   Halts : HasHalted v → IsKnown v
   Boots : (game : List ℕ) → v.start ≡ Reset game → is_stop (interpreter v) v.board.machine ≡ false → Booting v.edition v.board.script game v.board.machine

@@ -1,4 +1,4 @@
-//! What a machine that runs a game is to the language, each law the contract of a function without parameters.
+//! What a run is to the language, each law the contract of a function without parameters.
 
 ghost use Rattle.rom_board.specs.Laws.{EveryAnswer, EveryBoard, EveryEvent, EveryFrame, EveryFrameBehind, EveryRun, EveryStart, FileMayStart};
 

@@ -1,18 +1,18 @@
 //! A board that runs the interpreter's ROM: its moves, one at a time and over a run of the interrupt routine, and its run as a run of CHIP-8.
 //!
 //! This is where the proof of the ROM, which speaks of states of the machine, meets the board that makes them. It stands on the board, through its
-//! contract alone, on the machine as its callers see it (`vip_relation`), of which only the events of the defined run are known, on the laws of the
-//! ROM in `rom_run`, and, for saved states, on `vip_show`, which says what is written of a run. The layer above needs no law of the ROM.
+//! contract alone, on the run as its callers see it (`vip_relation`), of which only the events of the defined run are known, on the laws of the ROM
+//! in `rom_run`, and, for saved states, on `vip_show`, which says what is written of a run. The layer above needs no law of the ROM.
 //!
-//! It may rely on the laws in `language`: they hold of every run from reset and from any machine that may start, and of every machine of which `Follows`
-//! holds, as it does after every call of `Vip`, in both editions. The language is RCA's, as `chip8_lang` defines it; times are this project's profile.
-//! And on those in `saved`: what is saved at a dispatch point of a run is an accepted file, which shows the state of the board; a run from any accepted
-//! file is a run of CHIP-8, and goes on with the game's run where the file was saved there.
+//! It may rely on the laws in `language`: they hold of every run from reset and from any machine that may start, and of every run of which `Follows`
+//! holds, as it does after every call of `Run` and `Vip`, in both editions. The language is RCA's, as `chip8_lang` defines it; times are this
+//! project's profile. And on those in `saved`: what is saved at a dispatch point of a run is an accepted file, which shows the state of the board; a
+//! run from any accepted file is a run of CHIP-8, and goes on with the game's run where the file was saved there.
 //!
 //! And it may rely on the contracts of `one_move` and `run_tick` and on the laws in `laws`: a move is the board's own, and where what is known of a
 //! running interpreter holds before it, it holds behind it, with the record of what came since the last dispatch point carried on; a run of the
-//! routine is one timer tick in 1,846 cycles, 1,024 of them DMA cycles with the bytes of the screen's rows. Both are for any caller: what is known of the board is the premise of the clauses that need it, so that nobody has to
-//! prove it for a call.
+//! routine is one timer tick in 1,846 cycles, 1,024 of them DMA cycles with the bytes of the screen's rows. Both are for any caller: what is known of
+//! the board is the premise of the clauses that need it, so that nobody has to prove it for a call.
 #![tactic(auto)]
 
 ghost use Rattle.std.specs.Prelude.{◌≡◌, ◌+◌, ◌<◌, ◌^◌, ◌↔◌};

@@ -6,9 +6,9 @@
 //! any kind but those that use the timers, T or Q gives the same before and after ticks; `Reaches`, by which a literal piece of code is run by
 //! computing; and `tick_fits`, by which a tick keeps every register and byte in its range, as a move does.
 //!
-//! A ROM under proof is a `Program`: its edition, its interpreter, what its boot sets up, and the stops and bounds of the language that it
-//! knows. Its proof gives `Rows`: the head of each block of code, how many instructions the block has, and a lemma that says what the
-//! block comes to. From these follow, and are not proved again for any ROM, that the rows are kept by every main move and by every timer
+//! A ROM under proof is a `Program`: its edition, its interpreter, what its boot sets up, and the stops, bounds and times of the language
+//! that it knows. Its proof gives `Pieces`, the head of each block of code and how many instructions the block has, and `Proved`, a lemma for
+//! each that says what it comes to. From these follow, and are not proved again for any ROM, that the rows are kept by every main move and by every timer
 //! tick, the law of every schedule, and the law of every run of the board.
 //!
 //! It stands on the definitions of the machine and of the language.

@@ -1,4 +1,4 @@
--- A machine that runs a game, from a call's entry on: moves alone, up to the next event or the limit.
+-- A run, from a call's entry on: moves alone, up to the next event or the limit.
 use Rattle.std.proofs.Common.{◌≡◌, ℕ, ◌+◌, ◌-◌, ◌<◌, ◌≤◌, Bool, true, false, List, [], ◌∷◌, ◌++◌, length, drop, refl, sym, ap, ◌∙◌, subst, arith, Some}
 use Rattle.machine.specs.Board.{length_of}
 use Rattle.machine.specs.Keys.{Event as KeyEvent, held_at}

@@ -1,4 +1,4 @@
--- A machine that runs a game, after one event more is met.
+-- A run, after one event more is met.
 use Rattle.std.proofs.Common.{◌≡◌, Bool, true, false, ℕ, zero, suc, ◌+◌, ◌-◌, ◌≤◌, List, [], ◌∷◌, ◌++◌, length, take, drop, refl, sym, ap, ◌∙◌, subst, arith, append-nil, length-append, add-one, Option, Some, None, replicate}
 use Rattle.std.specs.Prelude.{slice_get, filter_map}
 use Rattle.std.specs.Option.{option_map, option_map_or}

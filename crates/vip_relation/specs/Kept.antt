@@ -1,4 +1,4 @@
--- What the fields of a machine that runs a game mean, and what holds of them.
+-- What the fields of a run mean, and what holds of them.
 use Rattle.std.specs.Prelude.{◌≡◌, ℕ, List, [], ◌∷◌, ◌<◌, ◌≤◌, None, Some}
 use Rattle.std.specs.Option.{option_map}
 use Rattle.machine.specs.Pictures.{window_end, picture_of}

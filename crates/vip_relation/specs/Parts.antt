@@ -1,4 +1,4 @@
--- What the parts of a call make of a machine that runs a game.
+-- What the parts of a call make of a run.
 use Rattle.std.specs.Prelude.{◌≡◌, ℕ, ◌+◌, ◌<◌, ◌≤◌, false, [], length, Option, None, Some}
 use Rattle.chip8_lang.specs.Events.{is_stop}
 use Rattle.vip_board.specs.Moves.{moved, name_of}

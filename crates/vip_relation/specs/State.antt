@@ -1,4 +1,4 @@
--- A machine that runs a game, as its callers see it, and its run.
+-- A run, as its callers see it, and its start.
 use Rattle.std.specs.Prelude.{ℕ, ◌-◌, List, [], ◌∷◌, take, drop, length, replicate, slice_range, Option, Some, None}
 use Rattle.machine.specs.Board.{Machine, start}
 use Rattle.machine.specs.Keys.{Event as KeyEvent, held_at}
