@@ -18,6 +18,7 @@ use Rattle.chip8_lang.specs.Events.{Event, events_of, game_run, is_stop, events_
 use Rattle.chip8_lang.specs.Events.Event.{Picture, Dispatch, Stopped}
 use Rattle.chip8_lang.specs.Places.{state_of}
 use Rattle.chip8_lang.specs.Step.{stop_number}
+use Rattle.chip8_lang.specs.Timed.{shown_behind, timed_run}
 use Rattle.chip8_lang.specs.View.{opcode_at, view_at}
 use Rattle.rom_law.specs.Language.{Begins, GoesOn, IsStop, frames_of, nothing_else}
 use Rattle.rom_law.specs.Program.{Program, Dispatches}
@@ -26,6 +27,7 @@ use Rattle.rom_rows.specs.Rom.{image, vip}
 use Rattle.rom_run.specs.Laws.{EveryRun as EveryRunOfRom, EveryState, FromAnyStart}
 use Rattle.rom_run.specs.Running.{Running, Booting}
 use Rattle.rom_run.specs.States.{Known, MayStart, Unstopped}
+use Rattle.rom_run.specs.Timeline.{AreShown, EveryTime as EveryTimeOfRom, EveryTimeBehind as BehindOfRom}
 use Rattle.rom_run.specs.States.Known.{InBoot, Runs as RunsThere}
 use Rattle.rom_run.proofs.Waits.{sleeps}
 use Rattle.vip_relation.specs.Follows.{FileFits, Fits, Follows, GameFits}
@@ -40,7 +42,7 @@ use Rattle.vip_relation.proofs.Waits.{last-at-stop}
 use Rattle.rom_board.specs.Answers.{BeginsBy, BeginsFrom, GoesOnFrom, Speaks, StepsTo, StopsAt, frames_met, last_met}
 use Rattle.rom_board.specs.Boards.{HasHalted, IsKnown}
 use Rattle.rom_board.specs.Boards.IsKnown.{Boots, Halts, Runs}
-use Rattle.rom_board.specs.Laws.{EveryAnswer, EveryBoard, EveryEvent, EveryRun, EveryStart, FileMayStart}
+use Rattle.rom_board.specs.Laws.{EveryAnswer, EveryBoard, EveryEvent, EveryRun, EveryStart, EveryTime, EveryTimeBehind, FileMayStart}
 use Rattle.rom_board.specs.Program.{IsRunBehind, numbered, program}
 use Rattle.rom_board.proofs.Starts.{beginning}
 use Rattle.rom_board.proofs.Passed.{NoStop, here, last_after, last_after_stop, last_of_events, met_before, no_stop_met, none_before, some_after, stop_point, to_here}
@@ -68,7 +70,7 @@ stop_numbered-stop_number StackEmpty = refl
 module _ (x : Program) (script : List KeyEvent) (limit : ℕ) (run : List Machine) where
   goes_on_numbered : (k : ℕ) (b : Machine) (events : List Event) → GoesOn x script limit run nothing_else k b events
       → GoesOn x script limit run numbered k b events
-  goes_on_numbered k b [] h = record { soon = h.soon; shown = h.shown; also_is = tt }
+  goes_on_numbered k b [] h = record { soon = h.soon; none_due = h.none_due; shown = h.shown; also_is = tt }
   goes_on_numbered k b (Picture m ∷ events) h = (h.0, h.1, goes_on_numbered (k + 1) b events h.2)
   goes_on_numbered k b (Dispatch c ∷ events) h = (h.0, h.1, goes_on_numbered k c events h.2)
   goes_on_numbered k b (Stopped c ∷ events) h =
@@ -105,6 +107,19 @@ every_start law e b may script limit =
           (events_behind (vip e).interpreter script b limit) (law e b may script limit);
     }) in
     record { stands = r.stands; events = r.events }
+
+-- ---- in the cycles of the language's time
+
+pub every_time : EveryTimeOfRom → EveryTime
+every_time law e game fits bytes script limit =
+    subst (λ (x : Program). AreShown x (game_run x.interpreter game script limit) (events_of x.interpreter game script limit) (timed_run e script limit game))
+    (is_program e) (law e game fits bytes script limit)
+
+pub every_time_behind : BehindOfRom → EveryTimeBehind
+every_time_behind law e b may script limit =
+    subst (λ (x : Program). AreShown x (run_to x.interpreter.rom (held_at script) b limit) (events_behind x.interpreter script b limit)
+    (shown_behind e script limit limit (windows_ended b.cycle) b.cycle (state_of e b)))
+    (is_program e) (law e b may script limit)
 
 -- ---- the events left
 

@@ -1,10 +1,17 @@
 -- What holds of every run.
 use Rattle.std.specs.Prelude.{ℕ, ◌<◌, ◌≤◌, List, length, slice_index}
 use Rattle.machine.specs.Board.{Machine, start}
-use Rattle.machine.specs.Keys.{Event as KeyEvent}
+use Rattle.machine.specs.Keys.{Event as KeyEvent, held_at}
+use Rattle.machine.specs.Pictures.{windows_ended}
+use Rattle.machine.specs.Run.{run_to}
 use Rattle.chip8_lang.specs.declared.view.Edition.{Edition}
+use Rattle.chip8_lang.specs.Events.{events_behind, events_of, game_run}
+use Rattle.chip8_lang.specs.Places.{state_of}
 use Rattle.chip8_lang.specs.State.{memory_size}
+use Rattle.chip8_lang.specs.Timed.{shown_behind, timed_run}
+use Rattle.chip8_image.specs.Interpreters.{interpreter_of}
 use Rattle.rom_run.specs.States.{MayStart}
+use Rattle.rom_run.specs.Timeline.{AreShown}
 use Rattle.vip_text.specs.StateFile.{shown, IsAccepted}
 use Rattle.vip_relation.specs.Follows.{Follows}
 use Rattle.vip_relation.specs.Meets.{HasStopped, MeetsNext}
@@ -31,6 +38,24 @@ EveryStart =
     → MayStart e b
     → (script : List KeyEvent) (limit : ℕ)
     → IsRunBehind e b script limit numbered
+
+-- The events of each of these runs are those of the language's time, one for one, from reset
+abbrev pub EveryTime : Type 0
+EveryTime =
+    (e : Edition) (game : List ℕ)
+    → length game ≤ memory_size e
+    → ((i : ℕ) → slice_index game i < 256)
+    → (script : List KeyEvent) (limit : ℕ)
+    → AreShown (program e) (game_run (interpreter_of e) game script limit) (events_of (interpreter_of e) game script limit) (timed_run e script limit game)
+
+-- and from each machine that may start
+abbrev pub EveryTimeBehind : Type 0
+EveryTimeBehind =
+    (e : Edition) (b : Machine)
+    → MayStart e b
+    → (script : List KeyEvent) (limit : ℕ)
+    → AreShown (program e) (run_to (interpreter_of e).rom (held_at script) b limit) (events_behind (interpreter_of e) script b limit)
+    (shown_behind e script limit limit (windows_ended b.cycle) b.cycle (state_of e b))
 
 -- such as the one that any accepted file shows
 abbrev pub FileMayStart : Type 0

@@ -1,6 +1,6 @@
 //! What a run is to the language, each law the contract of a function without parameters.
 
-ghost use Rattle.rom_board.specs.Laws.{EveryAnswer, EveryBoard, EveryEvent, EveryFrame, EveryFrameBehind, EveryRun, EveryStart, FileMayStart};
+ghost use Rattle.rom_board.specs.Laws.{EveryAnswer, EveryBoard, EveryEvent, EveryFrame, EveryFrameBehind, EveryRun, EveryStart, EveryTime, EveryTimeBehind, FileMayStart};
 
 /// The run of every game that fits into game memory, under every key script and up to every limit, is a run of CHIP-8: its first event is a dispatch
 /// point of the game's first state; each next one comes by one step of the language, with the timer ticks and the keys of the cycles between, within
@@ -18,6 +18,15 @@ pub fn every_start()
     ensures { EveryStart }
 {
     rom_run::laws::from_any_start();
+}
+
+/// The events of these runs are those of the language's time, one for one: as many pictures, dispatch points and stops, in the same order, each dispatch
+/// point and each stop in the same cycle with the same state, and each picture that of the same frame and screen.
+pub fn every_time()
+    ensures from_reset { EveryTime }
+    ensures from_any_start { EveryTimeBehind }
+{
+    rom_run::laws::every_time();
 }
 
 /// The machine state of any accepted file may start a run: the board is at a dispatch point, and stands for the language state in it.

@@ -16,7 +16,7 @@ use Rattle.chip8_lang.specs.Between.{Between, keys_between}
 use Rattle.chip8_lang.specs.Bounds.{boot_bound}
 use Rattle.chip8_lang.specs.Events.{Event, events_at, events_of, numbers_from, is_dispatch, is_stop, events_behind}
 use Rattle.chip8_lang.specs.Events.Event.{Picture, Dispatch, Stopped}
-use Rattle.rom_law.specs.Language.{InTime, NextAt, nothing_else, GoesOn, Begins}
+use Rattle.rom_law.specs.Language.{InTime, NextAt, IsPast, nothing_else, GoesOn, Begins}
 use Rattle.rom_law.specs.Pictures.{ShowsScreen}
 use Rattle.rom_law.specs.Program.{Program, Dispatches, Halts}
 use Rattle.rom_law.specs.Rows.{Since, dispatched}
@@ -32,7 +32,7 @@ pub record Shown (x : Program) (run : List Machine) (m : ℕ) (s : Lang) : Type 
   pub shows : ShowsScreen x.edition (picture_of x.interpreter.rom run m) s.screen
 
 -- each move comes to what it should, with the record carried on, and in time; none goes past the end of a window; where a window ends in one, the
--- picture shows the screen at the last dispatch point
+-- picture shows the screen at the last dispatch point; where one would end behind the limit, so does what is next by the language's time
 pub record Carries (x : Program) (script : List KeyEvent) (limit : ℕ) (run : List Machine) (Running : Machine → Since → Type 0) : Type 0 where
   pub moves : (b : Machine) (h : Since) → Running b h
       → Moves x script Running (carried x.interpreter.rom (held_at script) b h) (move x.interpreter.rom (held_at script) b)
@@ -41,6 +41,8 @@ pub record Carries (x : Program) (script : List KeyEvent) (limit : ℕ) (run : L
   pub shown : (b : Machine) (h : Since) (m : ℕ) → Running b h → b.cycle < window_end m
       → window_end m ≤ (move x.interpreter.rom (held_at script) b).cycle → (move x.interpreter.rom (held_at script) b).cycle ≤ limit
       → Shown x run m h.state
+  pub none_due : (b : Machine) (h : Since) → Running b h → h.from ≤ b.cycle → b.cycle ≤ limit
+      → limit < (move x.interpreter.rom (held_at script) b).cycle → IsPast limit (x.next script limit h.from h.state)
 
 -- boot comes to a first dispatch, with no event before
 pub record Boots (x : Program) (game : List ℕ) (script : List KeyEvent) (Running : Machine → Since → Type 0) : Type 0 where
@@ -227,6 +229,7 @@ module _ (x : Program) (script : List KeyEvent) (limit : ℕ) (run : List Machin
         subst (Behind b c.cycle) (sym none)
         (record {
           soon = in_time_before x script b.cycle (state_at x b) (next c).cycle (limit + 1) (omega (arith, past)) in_time;
+          none_due = λ l. subst₂ (λ a y. IsPast limit (x.next script limit a y)) f s (carries.none_due c h r (omega (arith, f, behind_b)) inside past);
           shown = λ l. omega (arith, inside, past, windows limit, windows c.cycle, carries.meets c h (windows_ended c.cycle) r open_yet);
           also_is = tt;
         })
@@ -272,8 +275,8 @@ module _ (x : Program) (script : List KeyEvent) (limit : ℕ) (Running : Machine
           (omega (arith, past, later-move x.interpreter.rom (held_at script) b))))
           (record {
             soon = in_time_first x script b.cycle (state_at x b) (limit + 1) (omega (arith, past));
-            shown =
-                λ l. absurd (omega (arith, past, l));
+            none_due = λ l. absurd (omega (arith, past, l));
+            shown = λ l. absurd (omega (arith, past, l));
             also_is = tt;
           })
       go (inr here) = behind x script limit run_from Running carries b running here
@@ -287,60 +290,74 @@ module _ (x : Program) (game : List ℕ) (script : List KeyEvent) (limit : ℕ) 
   abbrev booted : ℕ → Machine
   booted m = state_after x script (start game) m
 
-  abbrev Begun : ℕ → List Machine → Type 0
-  Begun before bs = Begins x script limit run_of nothing_else game (events_at x.interpreter run_of before bs)
+  -- the events from the first dispatch point on
+  abbrev pub begun : List Event
+  begun =
+      let b = booted boots.moves in Dispatch b ∷ events_at x.interpreter run_of b.cycle (run_to x.interpreter.rom (held_at script) (booted (suc boots.moves)) limit)
 
-  module _ (carries : Carries x script limit run_of Running) where
+  -- what holds of these, where the limit leaves time for them, and else of no events, holds of the events of the run
+  module _ (P : List Event → Type 0) (none : limit < (booted boots.moves).cycle → P []) (some : (booted boots.moves).cycle ≤ limit → P begun) where
+    abbrev Begun : ℕ → List Machine → Type 0
+    Begun before bs = P (events_at x.interpreter run_of before bs)
+
     -- past the limit there are no events
-    none : (before m : ℕ) → (booted m).cycle ≤ boot_bound → limit < (booted m).cycle → Begun before (run_to x.interpreter.rom (held_at script) (booted m) limit)
-    none before m soon past = subst (Begun before) (sym (run_to-past x.interpreter.rom (held_at script) limit (booted m) past)) (omega (arith, soon, past), tt)
+    none_at : (before m : ℕ) → (booted m).cycle ≤ (booted boots.moves).cycle → limit < (booted m).cycle
+        → Begun before (run_to x.interpreter.rom (held_at script) (booted m) limit)
+    none_at before m soon past =
+        subst (Begun before) (sym (run_to-past x.interpreter.rom (held_at script) limit (booted m) past)) (none (omega (arith, soon, past)))
 
     begins : (before : ℕ) → Begun before (run_to x.interpreter.rom (held_at script) (booted boots.moves) limit)
     begins before = go (cases_lt limit (booted boots.moves).cycle)
       where
         go : (limit < (booted boots.moves).cycle) ⊎ ((booted boots.moves).cycle ≤ limit)
             → Begun before (run_to x.interpreter.rom (held_at script) (booted boots.moves) limit)
-        go (inl past) = none before boots.moves boots.soon past
+        go (inl past) = none_at before boots.moves (le_refl (booted boots.moves).cycle) past
         go (inr here) =
-            subst (Begins x script limit run_of nothing_else game)
+            subst P
             (sym (ap (events_at x.interpreter run_of before) (run_to-next x.interpreter.rom (held_at script) limit (booted boots.moves) here)
-            ∙ boot_dispatch x script limit run_of before (booted boots.moves) _ boots.soon boots.dispatch boots.runs)) (
-              boots.stands,
-              boots.soon,
-              here,
-              subst (λ k. GoesOn x script limit run_of nothing_else k (booted boots.moves)
-                  (events_at x.interpreter run_of (booted boots.moves).cycle
-                  (run_to x.interpreter.rom (held_at script) (booted (suc boots.moves)) limit))) first_frame
-                  (behind x script limit run_of Running carries (booted boots.moves) boots.running here),
-            )
-          where
-            first_frame : windows_ended (booted boots.moves).cycle ≡ 0
-            first_frame = omega (arith, boots.soon, windows (booted boots.moves).cycle)
+            ∙ boot_dispatch x script limit run_of before (booted boots.moves) _ boots.soon boots.dispatch boots.runs))
+            (some here)
 
     abbrev From : ℕ → ℕ → Type 0
-    From m before = ((booted m).cycle ≤ boot_bound) × Begun before (run_to x.interpreter.rom (held_at script) (booted m) limit)
+    From m before = ((booted m).cycle ≤ (booted boots.moves).cycle) × Begun before (run_to x.interpreter.rom (held_at script) (booted m) limit)
 
     boot_on : (m before : ℕ) → m < boots.moves → From (suc m) (booted m).cycle → From m before
     boot_on m before inside ahead = (soon, go (cases_lt limit (booted m).cycle))
       where
-        soon : (booted m).cycle ≤ boot_bound
+        soon : (booted m).cycle ≤ (booted boots.moves).cycle
         soon = omega (arith, ahead.0, later-move x.interpreter.rom (held_at script) (booted m))
 
         go : (limit < (booted m).cycle) ⊎ ((booted m).cycle ≤ limit) → Begun before (run_to x.interpreter.rom (held_at script) (booted m) limit)
-        go (inl past) = none before m soon past
+        go (inl past) = none_at before m soon past
         go (inr here) =
-            subst (Begins x script limit run_of nothing_else game)
+            subst P
             (sym (ap (events_at x.interpreter run_of before) (run_to-next x.interpreter.rom (held_at script) limit (booted m) here)
-            ∙ boot_quiet x script limit run_of before (booted m) _ soon (boots.quiet m inside).0 (boots.quiet m inside).1))
+            ∙ boot_quiet x script limit run_of before (booted m) _ (omega (arith, soon, boots.soon)) (boots.quiet m inside).0 (boots.quiet m inside).1))
             ahead.1
 
     boot : (r m : ℕ) → m + r ≡ boots.moves → (before : ℕ) → From m before
-    boot zero m e before = subst (λ k. From k before) (sym same) (boots.soon, begins before)
+    boot zero m e before = subst (λ k. From k before) (sym same) (le_refl (booted boots.moves).cycle, begins before)
       where
         same : m ≡ boots.moves
         same = omega (arith, e)
     boot (suc r) m e before = boot_on m before (omega (arith, e)) (boot r (suc m) (omega (arith, e)) (booted m).cycle)
 
-    pub begins_so : Begins x script limit run_of nothing_else game (events_of x.interpreter game script limit)
+    pub boot_events : P (events_of x.interpreter game script limit)
     unfolding events_of
-    begins_so = (boot boots.moves 0 (omega arith) 0).1
+    boot_events = (boot boots.moves 0 (omega arith) 0).1
+
+  pub begins_so : Carries x script limit run_of Running → Begins x script limit run_of nothing_else game (events_of x.interpreter game script limit)
+  begins_so carries =
+      boot_events (Begins x script limit run_of nothing_else game) (λ past. (omega (arith, boots.soon, past), tt))
+      (λ here. (
+        boots.stands,
+        boots.soon,
+        here,
+        subst (λ k. GoesOn x script limit run_of nothing_else k (booted boots.moves)
+            (events_at x.interpreter run_of (booted boots.moves).cycle
+            (run_to x.interpreter.rom (held_at script) (booted (suc boots.moves)) limit))) first_frame
+            (behind x script limit run_of Running carries (booted boots.moves) boots.running here),
+      ))
+    where
+      first_frame : windows_ended (booted boots.moves).cycle ≡ 0
+      first_frame = omega (arith, boots.soon, windows (booted boots.moves).cycle)

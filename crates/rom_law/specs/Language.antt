@@ -11,7 +11,8 @@ use Rattle.chip8_lang.specs.Events.{Event}
 use Rattle.chip8_lang.specs.Events.Event.{Picture, Dispatch, Stopped}
 use Rattle.chip8_lang.specs.State.{Lang, first}
 use Rattle.chip8_lang.specs.Ticks.{ticks}
-use Rattle.chip8_lang.specs.Timed.Next.{Dispatch as NextDispatch, Stopped as NextStopped}
+use Rattle.chip8_lang.specs.Timed.{Next}
+use Rattle.chip8_lang.specs.Timed.Next.{Dispatch as NextDispatch, Stopped as NextStopped, Never}
 use Rattle.rom_law.specs.Pictures.{ShowsScreen}
 use Rattle.rom_law.specs.Program.{Program, Dispatches, Halts}
 use Rattle.rom_law.specs.Runs.{state_at}
@@ -50,6 +51,12 @@ pub record NextAt (x : Program) (script : List KeyEvent) (limit k : ℕ) (b : Ma
 
 -- ---- the end of a run
 
+-- what comes next is behind cycle t, or nothing comes
+abbrev pub IsPast : ℕ → Next → Type 0
+IsPast t (NextDispatch c s) = t < c
+IsPast t (NextStopped c s stop) = t < c
+IsPast t Never = Unit {0}
+
 -- What a reader of the law adds to it: where the limit ends the run, and where the stop point c behind the dispatch point b does.
 pub record Also : Type 1 where
   pub at_limit : Type 0
@@ -61,10 +68,11 @@ nothing_else = record { at_limit = Unit {0}; at_stop = λ b c stop. Unit {0} }
 -- ---- the events
 
 module _ (x : Program) (script : List KeyEvent) (limit : ℕ) (run : List Machine) (also : Also) where
-  -- No next point comes up to the limit: one cycle later wouldn't be too late. The frames whose window has ended by the limit are those below k. (A
-  -- run that begins behind its limit has no pictures.)
+  -- No next point comes up to the limit: one cycle later wouldn't be too late, and by the language's time none is due. The frames whose window has
+  -- ended by the limit are those below k. (A run that begins behind its limit has no pictures.)
   pub record Lasts (k : ℕ) (b : Machine) : Type 0 where
     pub soon : InTime x script b.cycle (state_at x b) (limit + 1)
+    pub none_due : b.cycle ≤ limit → IsPast limit (x.next script limit b.cycle (state_at x b))
     pub shown : b.cycle ≤ limit → windows_ended limit ≡ k
     pub also_is : also.at_limit
 

@@ -21,8 +21,10 @@ pub mod Pictures
 pub mod Cycles
 pub mod Endless
 pub mod Keys
+pub mod Due
 pub mod Run
 pub mod States
 pub mod Starts
 pub mod Changes
+pub mod Timeline
 mod Together

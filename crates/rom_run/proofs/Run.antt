@@ -1,5 +1,5 @@
 -- A run from a machine that may start, and from reset, where boot comes to one: each move keeps what is known of the board, so the law of a run holds.
-use Rattle.std.proofs.Common.{◌≡◌, ℕ, suc, ◌-◌, ◌<◌, ◌≤◌, ◌⊎◌, inl, inr, refl, sym, ap, subst, subst₂, arith, true, false, List, length, slice_index}
+use Rattle.std.proofs.Common.{◌≡◌, ℕ, suc, ◌-◌, ◌<◌, ◌≤◌, ◌⊎◌, inl, inr, refl, sym, ap, subst, subst₂, arith, true, false, List, [], ◌∷◌, length, slice_index}
 use Rattle.std.proofs.lemmas.Bool.{cases_lt}
 use Rattle.machine.specs.Board.{Machine, move, start}
 use Rattle.machine.specs.Keys.{Event, Keys, held_at}
@@ -11,7 +11,8 @@ use Rattle.machine.proofs.Runs.{later-move, run_to-past}
 use Rattle.chip8_lang.specs.declared.view.Edition.{Edition}
 use Rattle.chip8_lang.specs.declared.view.Edition.TheVariants.{Usual, Tall}
 use Rattle.chip8_lang.specs.State.{first, memory_size}
-use Rattle.chip8_lang.specs.Events.{events_at, events_of, game_run, numbers_from, is_dispatch, is_stop, events_behind}
+use Rattle.chip8_lang.specs.Events.{Event as RunEvent, events_at, events_of, game_run, numbers_from, is_dispatch, is_stop, events_behind}
+use Rattle.chip8_lang.specs.Events.Event.{Dispatch}
 use Rattle.rom_law.specs.Language.{nothing_else, frames_of, end_cycle}
 use Rattle.rom_law.specs.Program.{Program, Dispatches}
 use Rattle.rom_law.specs.Rows.{Since, dispatched}
@@ -19,13 +20,14 @@ use Rattle.rom_law.specs.Runs.{state_at, state_after, carried, Moves}
 use Rattle.rom_law.specs.Runs.Moves.{Still, Arrived, Halted}
 use Rattle.rom_law.proofs.First.{start_fits, moves_fit}
 use Rattle.rom_law.proofs.Frames.{frames_on, frames_begin}
-use Rattle.rom_law.proofs.Runs.{Carries, Boots, goes_on, begins_so}
+use Rattle.rom_law.proofs.Runs.{Carries, Boots, goes_on, boot_events, begins_so}
 use Rattle.rom_rows.specs.Rom.{image, vip}
 use Rattle.rom_fetch.specs.Laws.{Boot, boot_moves}
 use Rattle.rom_timer.specs.Frame.{IsMainPlace}
 use Rattle.rom_run.specs.Laws.{EveryRun, FromAnyStart, BootStarts, EveryPicture, EveryPictureBehind}
 use Rattle.rom_run.specs.Running.{Running}
 use Rattle.rom_run.specs.States.{MayStart, BootsTo}
+use Rattle.rom_run.proofs.Due.{UnderAny, still_there, arrived_there, known_there, none_due}
 use Rattle.rom_run.proofs.Image.{every_boot}
 use Rattle.rom_run.proofs.Keys.{Known, begins, known_on, in_time}
 use Rattle.rom_run.proofs.Moves.{board_moves, dispatch_there, renewed}
@@ -100,11 +102,18 @@ module _ (e : Edition) (script : List Event) (first : Machine) where
     pub running : Running e script b h
     pub known : Known e script b.cycle h
     pub in_run : InRun e script first b h
+    pub any : UnderAny e script b h
 
   runs_on : (b : Machine) (h : Since) → RunsFrom b h → Moves x script (Running e script) (carried (image e) held b h) (next b)
       → Moves x script RunsFrom (carried (image e) held b h) (next b)
   runs_on b h r (Still d z k) =
-      Still d z (record { running = k; known = known_on e script b h r.running r.known; in_run = run_on e script first b h r.running r.in_run })
+      Still d z
+      (record {
+        running = k;
+        known = known_on e script b h r.running r.known;
+        in_run = run_on e script first b h r.running r.in_run;
+        any = λ other same. (still_there e script b h r.any other same d z, known_there e script b h r.any other same);
+      })
   runs_on b h r (Arrived d z i st due k) =
       Arrived d z i st due
       (record {
@@ -112,6 +121,7 @@ module _ (e : Edition) (script : List Event) (first : Machine) where
         known = begins e script (next b).cycle (state_at x (next b));
         in_run =
             run_begins e script first (next b) (suc r.in_run.i) (ap next r.in_run.is) k;
+        any = λ other same. (arrived_there e script b h r.any other same d z, begins e other (next b).cycle (state_at x (next b)));
       })
   runs_on b h r (Halted z i stop st cycle) = Halted z i stop st cycle
 
@@ -122,13 +132,19 @@ module _ (e : Edition) (script : List Event) (first : Machine) where
         timely = λ b h r. in_time e script b h r.running r.known;
         meets = λ b h m r. stops_at_window e script b h m r.running;
         shown = λ b h m r past by within. shows e script first limit b h m r.in_run past by within;
+        none_due = λ b h r from inside past. none_due e script b h r.any limit from inside past;
       }
 
   -- so many moves on, at a machine that may start
   runs_from : (b : Machine) (i : ℕ) → b ≡ state_after x script first i → MayStart e b → RunsFrom b (dispatched b.cycle (state_at x b))
   runs_from b i is m =
       let running = starts_running e script b m in
-      record { running = running; known = begins e script b.cycle (state_at x b); in_run = run_begins e script first b i is running }
+      record {
+        running = running;
+        known = begins e script b.cycle (state_at x b);
+        in_run = run_begins e script first b i is running;
+        any = λ other same. (starts_running e other b m, begins e other b.cycle (state_at x b));
+      }
 
 -- ---- the laws
 
@@ -153,6 +169,15 @@ module _ (e : Edition) (game : List ℕ) (small : length game ≤ memory_size e)
         stands = (boot e game small bytes script).stands;
         running = runs_from e script (start game) at_56 boot_moves refl starts_so;
       }
+
+  -- what holds of the events from the first dispatch point on, where the limit leaves time for it, and else of none, holds of the events of the run
+  pub from_boot :
+      (limit : ℕ) (P : List RunEvent → Type 0) → (limit < at_56.cycle → P [])
+      → (at_56.cycle ≤ limit → P (Dispatch at_56 ∷ events_at (vip e).interpreter (game_run (vip e).interpreter game script limit) at_56.cycle
+      (run_to (image e) (held_at script) (state_after (vip e) script (start game) (suc boot_moves)) limit)))
+      → P (events_of (vip e).interpreter game script limit)
+  unfolding boots
+  from_boot limit P none some = boot_events (vip e) game script limit (RunsFrom e script (start game)) boots P none some
 
 pub every_run : EveryRun
 every_run e game small bytes script limit =

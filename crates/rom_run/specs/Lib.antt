@@ -4,3 +4,4 @@ pub mod States
 pub mod Display
 pub mod Laws
 pub mod Image
+pub mod Timeline

@@ -11,6 +11,7 @@ ghost use Rattle.rom_timer.specs.Scan.{RunScan, RunPicture};
 ghost use Rattle.rom_keys.specs.Laws.{KeyRows, KeyPlaceRows, KeyAddresses, KeyPlaceAddresses, NoneStays, StaysDown, GoesUp};
 ghost use Rattle.rom_run.specs.Image.{ImageOfParts};
 ghost use Rattle.rom_run.specs.Laws.{AnySchedule, MainRows, Timely, Undisturbed, WaitsSoon, WritesSoon, ChangesSoon};
+ghost use Rattle.rom_run.specs.Timeline.{EveryTime, EveryTimeBehind};
 ghost use Rattle.rom_run.specs.Laws.{BootStarts, EveryRun, FromAnyStart, EveryPicture, EveryPictureBehind, EveryState, EveryInterrupt, NoneMissing};
 
 /// The law of every schedule, for both editions: from a dispatch point on, whenever timer ticks come and whatever keys are held down, the
@@ -69,6 +70,14 @@ pub fn from_any_start()
 pub fn every_picture()
     ensures from_reset { EveryPicture }
     ensures from_any_start { EveryPictureBehind }
+{}
+
+/// The events of a run are those of the language's time, one for one: as many pictures, dispatch points and stops, in the same order, from reset and from
+/// any such start. Each picture is that of the same frame, and shows the screen; each dispatch point is in the same cycle, and the machine stands there for
+/// the state; and so is the stop, with its number. So a run that its limit ends has no point less: none was due by then.
+pub fn every_time()
+    ensures from_reset { EveryTime }
+    ensures from_any_start { EveryTimeBehind }
 {}
 
 /// Every state of a run up to its stop, from reset and from any such start: it is one of boot, or `Running` holds of it with the record of the moves

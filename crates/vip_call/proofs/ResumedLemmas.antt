@@ -36,7 +36,7 @@ module _ (e : Edition) (script : List KeyEvent) (limit : ℕ) (run : List Machin
       (k : ℕ) (b : Machine) (events : List Event) → GoesOn (program e) script limit run numbered k b events
       → GoesOn (program e) script limit run (named e (ending_behind b events)) k b events
   unfolding ending_after view_at
-  goes_on k b [] h = record { soon = h.soon; shown = h.shown; also_is = refl }
+  goes_on k b [] h = record { soon = h.soon; none_due = h.none_due; shown = h.shown; also_is = refl }
   goes_on k b (Picture m ∷ events) h = (h.0, h.1, goes_on (k + 1) b events h.2)
   goes_on k b (Dispatch c ∷ events) h = (h.0, h.1, goes_on k c events h.2)
   goes_on k b (Stopped c ∷ events) h =
