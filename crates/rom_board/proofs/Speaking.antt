@@ -1,6 +1,6 @@
 -- Each run is a run of CHIP-8, by the laws of every run and of every state of the interpreter's ROM.
 use Rattle.std.proofs.Common.{◌≡◌, ◌⊎◌, inl, inr, ℕ, suc, ◌+◌, ◌<◌, ◌≤◌, true, false, List, [], ◌∷◌, ◌++◌, length, min, take, Option, Some, None, refl, sym, ap, subst, ◌∙◌, arith}
-use Rattle.std.proofs.lemmas.Bool.{cases_eq, cases_Bool}
+use Rattle.std.proofs.lemmas.Bool.{cases_eq, cases_lt, cases_Bool}
 use Rattle.std.proofs.lemmas.List.{length-take, take-append-drop, take-append-le}
 use Rattle.std.specs.Option.{option_map}
 use Rattle.machine.specs.Board.{Machine, start as start_with}
@@ -18,9 +18,9 @@ use Rattle.chip8_lang.specs.Events.{Event, events_of, game_run, is_stop, events_
 use Rattle.chip8_lang.specs.Events.Event.{Picture, Dispatch, Stopped}
 use Rattle.chip8_lang.specs.Places.{state_of}
 use Rattle.chip8_lang.specs.Step.{stop_number}
-use Rattle.chip8_lang.specs.Timed.{shown_behind, timed_run}
+use Rattle.chip8_lang.specs.Timed.{next_point, shown_behind, timed_run}
 use Rattle.chip8_lang.specs.View.{opcode_at, view_at}
-use Rattle.rom_law.specs.Language.{Begins, GoesOn, IsStop, frames_of, nothing_else}
+use Rattle.rom_law.specs.Language.{Begins, GoesOn, IsPast, IsStop, frames_of, nothing_else}
 use Rattle.rom_law.specs.Program.{Program, Dispatches}
 use Rattle.rom_law.specs.Runs.{record_after, state_after, state_at}
 use Rattle.rom_rows.specs.Rom.{image, vip}
@@ -29,6 +29,7 @@ use Rattle.rom_run.specs.Running.{Running, Booting}
 use Rattle.rom_run.specs.States.{Known, MayStart, Unstopped}
 use Rattle.rom_run.specs.Timeline.{AreShown, EveryTime as EveryTimeOfRom, EveryTimeBehind as BehindOfRom}
 use Rattle.rom_run.specs.States.Known.{InBoot, Runs as RunsThere}
+use Rattle.rom_run.proofs.Timeline.{next_late}
 use Rattle.rom_run.proofs.Waits.{sleeps}
 use Rattle.vip_relation.specs.Follows.{FileFits, Fits, Follows, GameFits}
 use Rattle.vip_relation.specs.Meets.{HasStopped, MeetsNext}
@@ -408,7 +409,11 @@ module _ (limit : ℕ) (old new : VipState) where
       ends_by : (s : Start) → BeginsFrom old limit s [] → limit < boot_bound
       ends_by (Reset game) h = h.0
       ends_by (Saved file) h = absurd h
-  answer (Some b) [] met.End told m h = h.soon
+  answer (Some b) [] met.End told m h = record { soon = h.soon; none_due = go (cases_lt limit b.cycle) }
+    where
+      go : (limit < b.cycle) ⊎ (b.cycle ≤ limit) → IsPast limit (next_point e old.board.script limit b.cycle (state_of e b))
+      go (inl past) = next_late e old.board.script limit b.cycle (state_of e b) past
+      go (inr here) = h.none_due here
   answer last [] met.Picture told m h = absurd m
   answer last [] met.Dispatch told m h = absurd m
   answer last [] (met.Stopped stop) told m h = absurd m

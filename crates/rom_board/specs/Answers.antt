@@ -7,8 +7,9 @@ use Rattle.chip8_lang.specs.Bounds.{boot_bound}
 use Rattle.chip8_lang.specs.Events.{Event}
 use Rattle.chip8_lang.specs.Places.{state_of}
 use Rattle.chip8_lang.specs.State.{first}
+use Rattle.chip8_lang.specs.Timed.{next_point}
 use Rattle.chip8_lang.specs.View.{opcode_at}
-use Rattle.rom_law.specs.Language.{Begins, GoesOn, InTime, IsStep, IsStop, frames_of}
+use Rattle.rom_law.specs.Language.{Begins, GoesOn, InTime, IsPast, IsStep, IsStop, frames_of}
 use Rattle.rom_law.specs.Pictures.{ShowsScreen}
 use Rattle.rom_law.specs.Program.{Dispatches}
 use Rattle.vip_relation.specs.Follows.{last_dispatch}
@@ -70,13 +71,17 @@ module _ (v : VipState) where
     pub soon : IsInTime b c.cycle
     pub named : answer ≡ record { stop = stop.stop; pc = (state_of v.edition b).pc; opcode = opcode_at v.edition (state_of v.edition b); cycle = c.cycle }
 
-  -- What an answer of `advance` says, by the last dispatch point met before the call: where there is none, the first event is a dispatch point. No
-  -- event up to the limit: one cycle later the next point wouldn't be too late.
+  -- no next point comes up to the limit: one cycle later it wouldn't be too late, and by the language's time none is due
+  pub record ComesLater (limit : ℕ) (b : Machine) : Type 0 where
+    pub soon : IsInTime b (limit + 1)
+    pub none_due : IsPast limit (next_point v.edition v.board.script limit b.cycle (state_of v.edition b))
+
+  -- What an answer of `advance` says, by the last dispatch point met before the call: where there is none, the first event is a dispatch point.
   abbrev pub Speaks : ℕ → VipState → Option Machine → Met → Type 0
   Speaks limit new None Dispatch = BeginsBy v.start new.board.machine
   Speaks limit new (Some b) Dispatch = StepsTo b new.board.machine
   Speaks limit new (Some b) Picture = HasShown b new
   Speaks limit new (Some b) (Stopped answer) = StopsAt b new.board.machine answer
   Speaks limit new None End = limit < boot_bound
-  Speaks limit new (Some b) End = IsInTime b (limit + 1)
+  Speaks limit new (Some b) End = ComesLater limit b
   Speaks limit new None _ = ⊥

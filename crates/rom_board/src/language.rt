@@ -73,7 +73,7 @@ pub fn every_event()
 
 /// So each answer of `advance` says what comes next in that run: a dispatch point stands for the state that comes from the last one by one step, in
 /// time; a picture is the screen of the last one; a stop is that of the last one, and names its pc and opcode; and where the limit comes first, the
-/// next point wouldn't be too late yet.
+/// next point wouldn't be too late yet, and by the language's time none is due.
 pub fn every_answer()
     ensures { EveryAnswer }
 {

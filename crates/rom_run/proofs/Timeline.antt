@@ -154,6 +154,9 @@ module _ (e : Edition) (script : List KeyEvent) (limit : ℕ) where
   late (Some stop) t s l = omega (arith, l)
   late None t s l = after_late (instr_at s) t s l
 
+  pub next_late : (t : ℕ) (s : Lang) → limit < t → IsPast limit (next t s)
+  next_late t s l = late (stop_of e s) t s l
+
   -- ---- the events of a run
 
   module _ (run : List Machine) (also : Also) where
@@ -228,7 +231,7 @@ module _ (e : Edition) (b : Machine) (m : MayStart e b) (script : List KeyEvent)
       (omega (arith, past, later-move (vip e).interpreter.rom (held_at script) b))))
       (subst (AreShown (vip e) run_on [])
       (sym (nothing_behind e script limit limit (windows_ended b.cycle) b.cycle (state_at (vip e) b)
-      (late e script limit (stop_of e (state_at (vip e) b)) b.cycle (state_at (vip e) b) past)
+      (next_late e script limit b.cycle (state_at (vip e) b) past)
       (omega (arith, past, windows limit, windows b.cycle)))) tt)
   from_start (inr here) =
       (same e script limit run_on nothing_else limit (windows_ended b.cycle) b (events_behind (vip e).interpreter script b limit) here (omega arith)
