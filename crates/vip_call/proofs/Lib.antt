@@ -2,6 +2,7 @@ mod DebugLemmas
 mod LanguageLemmas
 mod TranscriptLemmas
 mod DebuggedLemmas
+mod TimedLemmas
 mod TranscribedLemmas
 mod TopLemmas
 mod GivenLemmas

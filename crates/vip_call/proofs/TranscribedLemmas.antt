@@ -1,6 +1,5 @@
 -- What a verb writes and reports of a game's run is that of a transcript of CHIP-8.
 use Rattle.std.proofs.Common.{◌≡◌, ℕ, ◌<◌, ◌≤◌, Bool, List, [], ◌∷◌, ◌++◌, length, map, Result, Ok, Err, slice_index, refl, sym, ap, subst, ◌∙◌, arith}
-use Rattle.machine.specs.Board.{Machine}
 use Rattle.machine.specs.Keys.{Event as KeyEvent, held_at}
 use Rattle.machine.specs.Pictures.{windows_ended}
 use Rattle.machine.specs.Run.{run_to}
@@ -8,15 +7,14 @@ use Rattle.chip8_lang.specs.declared.view.Edition.{Edition}
 use Rattle.chip8_lang.specs.declared.view.Edition.TheVariants.{Usual}
 use Rattle.chip8_lang.specs.Events.{Event, events_behind}
 use Rattle.chip8_lang.specs.Events.Event.{Picture, Dispatch, Stopped}
-use Rattle.chip8_lang.specs.Places.{state_of}
 use Rattle.chip8_lang.specs.State.{memory_size}
 use Rattle.rom_law.specs.Language.{end_cycle}
-use Rattle.rom_board.specs.Laws.{EveryRun}
+use Rattle.rom_board.specs.Laws.{EveryRun, EveryTime}
 use Rattle.chip8_image.specs.Interpreters.{interpreter_of}
 use Rattle.vip_relation.specs.State.{started}
 use Rattle.vip_text.specs.Endings.{Ending}
 use Rattle.vip_show.specs.Output.{picture_pieces, summary, trace_lines, trace_piece}
-use Rattle.vip_text.specs.StateFile.{bank_in, shown, IsAccepted}
+use Rattle.vip_text.specs.StateFile.{shown, IsAccepted}
 use Rattle.vip_show.specs.Points.{points_of as points_among}
 use Rattle.vip_outside.specs.Files.{FilesMeaning}
 use Rattle.vip_words.specs.Asked.{Asked, AskedResume, trace, play, debug, demo, save, resume, link, trace_program, play_program, debug_program, asm, list, dis, source, bounds, within, safe, certify}
@@ -36,14 +34,15 @@ use Rattle.vip_verbs.specs.Outcome.{HasOutcome, RunComes, RunTo, DebugComes, Res
 use Rattle.vip_verbs.specs.Outcome.RunTo.{FaultyScript, FaultyRom, Runs}
 use Rattle.vip_debug.specs.Answers.{at_start, written}
 use Rattle.vip_call.specs.Language.{IsChip8}
-use Rattle.vip_call.specs.Transcript.{Point, AllAnswered, ArePictures, Debugged, FromFile, GoesOn, IsEnd, IsEndOrEarlier, OfFile, OfGame, Transcribed, Transcribes, file_point, line, summary_text, trace_text}
-use Rattle.vip_call.specs.Top.{Call, Says, WritesExactly, Writes, TellsChip8}
+use Rattle.vip_call.specs.Transcript.{Point, AllAnswered, ArePictures, Debugged, FromFile, GoesOn, IsEnd, IsEndOrEarlier, OfFile, OfGame, OfTimedFile, OfTimedGame, RunLaw, Transcribed, TranscribesBy, line, summary_text, trace_text}
+use Rattle.vip_call.specs.Top.{Call, Says, WritesExactly, Writes, Tells, TellsChip8, TellsTimed}
 use Rattle.vip_call.proofs.DebugLemmas.{debug_ends}
 use Rattle.vip_call.proofs.DebuggedLemmas.{debugged}
 use Rattle.vip_call.proofs.LanguageLemmas.{is_chip8}
 use Rattle.vip_show.proofs.Points.{points_behind_are}
 use Rattle.vip_call.proofs.ResumedLemmas.{FromFile as FromAccepted, is_run_behind}
-use Rattle.vip_call.proofs.TranscriptLemmas.{are_pictures, begins, goes_on, lines_are, point_of, points_of, summed_is, traced_is}
+use Rattle.vip_call.proofs.TimedLemmas.{TimeFromFile, timed_file, timed_game}
+use Rattle.vip_call.proofs.TranscriptLemmas.{are_pictures, begins, file_point_is, goes_on, lines_are, points_of, summed_is, traced_is}
 
 -- what is written of events is that of their points
 lines_of_points : (e : Edition) (with_time : Bool) (es : List Event) → trace_lines e with_time (points_among es) ≡ trace_lines e with_time es
@@ -53,18 +52,22 @@ lines_of_points e with_time (Picture m ∷ es) = lines_of_points e with_time es
 lines_of_points e with_time (Dispatch b ∷ es) = ap (λ lines. trace_piece e with_time (Dispatch b) ++ lines) (lines_of_points e with_time es)
 lines_of_points e with_time (Stopped b ∷ es) = lines_of_points e with_time es
 
--- the point of a file is that of the machine state that it shows
-file_point_is : (e : Edition) (f : List ℕ) → point_of e (shown f) ≡ file_point e f
-unfolding state_of bank_in
-file_point_is e f = refl
+-- A run from reset has its points, its end and its cycle by this law of runs, and one from an accepted file by that.
+record AreBy (Game File : RunLaw) : Type 0 where
+  of_game : (e : Edition) (game : List ℕ) → length game ≤ memory_size e → ((i : ℕ) → slice_index game i < 256) → (script : List KeyEvent) (limit : ℕ)
+      → Game e game limit script (points_of e (events_in e game script limit)) (run_ending e game limit script)
+      (end_cycle limit (events_in e game script limit))
+  of_file : (e : Edition) (f : List ℕ) → ((k : ℕ) → slice_index f k < 256) → IsAccepted e f → (script : List KeyEvent) (limit : ℕ)
+      → let events = events_behind (interpreter_of e) script (shown f) limit in
+      File e f limit script (points_of e events) (ending_from e f limit script) (end_cycle limit events)
 
-module _ (law : EveryRun) (from : FromAccepted) where
+module _ (law : EveryRun) (Game File : RunLaw) (runs : AreBy Game File) where
   -- a run that comes to output
   OfRun : Edition → List ℕ → List (List ℕ) → ℕ → (List (List ℕ) → List Point → Ending → ℕ → Type 0) → (Ending → Ending → Type 0) → Outcome → Type 0
   OfRun e game scripts limit Written Reported (Refused status report) = Unit {0}
   OfRun e game scripts limit Written Reported (GivenUp report) = Unit {0}
   OfRun e game scripts limit Written Reported (Shown pieces status report) =
-      Transcribed (OfGame e game limit) scripts limit (Written pieces) Reported status report
+      Transcribed (Game e game limit) scripts limit (Written pieces) Reported status report
 
   module _
       (e : Edition) (game : List ℕ) (fits : length game ≤ memory_size e) (bytes : (i : ℕ) → slice_index game i < 256) (limit : ℕ)
@@ -93,7 +96,7 @@ module _ (law : EveryRun) (from : FromAccepted) where
         points = points_of e (events script);
         ending = run_ending e game limit script;
         over = end_cycle limit (events script);
-        transcript = begins e script limit (run_of e game script limit) (run_ending e game limit script) game (events script) (is_run script);
+        transcript = runs.of_game e game fits bytes script limit;
         written = written_is script;
         reported = told script;
         end_is = told_is script;
@@ -133,7 +136,7 @@ module _ (law : EveryRun) (from : FromAccepted) where
   OfResumed a file scripts (Refused status report) = Unit {0}
   OfResumed a file scripts (GivenUp report) = Unit {0}
   OfResumed a file scripts (Shown pieces status report) =
-      FromFile file (λ e. Transcribed (OfFile e file a.cycles) scripts a.cycles (λ points ending over. pieces ≡ map (line e points a.with_time) points) IsEnd)
+      FromFile file (λ e. Transcribed (File e file a.cycles) scripts a.cycles (λ points ending over. pieces ≡ map (line e points a.with_time) points) IsEnd)
       status report
 
   resumed_run :
@@ -144,7 +147,6 @@ module _ (law : EveryRun) (from : FromAccepted) where
   resumed_run a file scripts bytes e _ accepted (FaultyRom script fault is fault_is rom) = tt
   resumed_run a file scripts bytes e _ accepted (Runs script is rom) =
       let events : List Event = events_behind (interpreter_of e) script (shown file) a.cycles in
-      let run : List Machine = run_to (interpreter_of e).rom (held_at script) (shown file) a.cycles in
       record {
         edition = e;
         named = accepted.edition;
@@ -154,11 +156,7 @@ module _ (law : EveryRun) (from : FromAccepted) where
           points = points_of e events;
           ending = ending_from e file a.cycles script;
           over = end_cycle a.cycles events;
-          transcript =
-              subst (λ p. GoesOn e script a.cycles p (points_of e events) (ending_from e file a.cycles script) (end_cycle a.cycles events))
-              (file_point_is e file)
-              (goes_on e script a.cycles run (ending_from e file a.cycles script) (windows_ended (shown file).cycle) (shown file) events
-              (is_run_behind from e file bytes accepted script a.cycles).events);
+          transcript = runs.of_file e file bytes accepted script a.cycles;
           written =
               ap (trace_lines e a.with_time) (sym (points_behind_are (interpreter_of e) script (shown file) a.cycles))
               ∙ lines_of_points e a.with_time events
@@ -178,7 +176,7 @@ module _ (law : EveryRun) (from : FromAccepted) where
 
   transcribes :
       (old : FilesMeaning) (asked : Asked) (contents pieces : List (List ℕ)) (status : Status) (report : List ℕ) → HasAll old (needed asked) contents
-      → HasOutcome asked contents (Shown pieces status report) → Transcribes asked contents pieces status report
+      → HasOutcome asked contents (Shown pieces status report) → TranscribesBy Game File asked contents pieces status report
   unfolding OfRun OfResumed
   transcribes old (trace a) [] pieces status report read comes = tt
   transcribes old (trace a) (game ∷ scripts) pieces status report read comes =
@@ -224,7 +222,7 @@ module _ (law : EveryRun) (from : FromAccepted) where
 
   -- ---- a call
 
-  went_out : (status : Status) (call : Call) → WritesExactly status call → Writes Transcribes status call
+  went_out : (status : Status) (call : Call) → WritesExactly status call → Writes (TranscribesBy Game File) status call
   went_out status call s =
       record {
         asked = s.asked;
@@ -238,10 +236,10 @@ module _ (law : EveryRun) (from : FromAccepted) where
         err = s.err;
       }
 
-  pub tells_chip8 : (status : Status) (call : Call) → Says status call → TellsChip8 status call
-  tells_chip8 Done call s = went_out Done call s
-  tells_chip8 Stopped call s = went_out Stopped call s
-  tells_chip8 WriteFault call s =
+  tells : (status : Status) (call : Call) → Says status call → Tells (TranscribesBy Game File) status call
+  tells Done call s = went_out Done call s
+  tells Stopped call s = went_out Stopped call s
+  tells WriteFault call s =
       record {
         asked = s.asked;
         contents = s.contents;
@@ -253,24 +251,47 @@ module _ (law : EveryRun) (from : FromAccepted) where
         comes = transcribes call.files s.asked s.contents s.pieces s.status s.report s.asks.read s.comes;
         fault = s.fault;
       }
-  tells_chip8 Usage call s = tt
-  tells_chip8 ReadFault call s = tt
-  tells_chip8 GameTooLarge call s = tt
-  tells_chip8 ScriptTooLarge call s = tt
-  tells_chip8 BadScript call s = tt
-  tells_chip8 BadSource call s = tt
-  tells_chip8 BadRomSource call s = tt
-  tells_chip8 RomDiffers call s = tt
-  tells_chip8 NoMemory call s = tt
-  tells_chip8 BadCommand call s = tt
-  tells_chip8 SourceTooLarge call s = tt
-  tells_chip8 CommandsTooLarge call s = tt
-  tells_chip8 BadState call s = tt
-  tells_chip8 NoDispatch call s = tt
-  tells_chip8 BadCertificate call s = tt
-  tells_chip8 MessageTooLarge call s = tt
-  tells_chip8 BadProof call s = tt
-  tells_chip8 CertificateTooLarge call s = tt
-  tells_chip8 NoCertificate call s = tt
-  tells_chip8 RomTooLarge call s = tt
-  tells_chip8 RamTooLarge call s = tt
+  tells Usage call s = tt
+  tells ReadFault call s = tt
+  tells GameTooLarge call s = tt
+  tells ScriptTooLarge call s = tt
+  tells BadScript call s = tt
+  tells BadSource call s = tt
+  tells BadRomSource call s = tt
+  tells RomDiffers call s = tt
+  tells NoMemory call s = tt
+  tells BadCommand call s = tt
+  tells SourceTooLarge call s = tt
+  tells CommandsTooLarge call s = tt
+  tells BadState call s = tt
+  tells NoDispatch call s = tt
+  tells BadCertificate call s = tt
+  tells MessageTooLarge call s = tt
+  tells BadProof call s = tt
+  tells CertificateTooLarge call s = tt
+  tells NoCertificate call s = tt
+  tells RomTooLarge call s = tt
+  tells RamTooLarge call s = tt
+
+pub tells_chip8 : EveryRun → FromAccepted → (status : Status) (call : Call) → Says status call → TellsChip8 status call
+tells_chip8 law from = tells law OfGame OfFile (record { of_game = of_game; of_file = of_file })
+  where
+    of_game : (e : Edition) (game : List ℕ) → length game ≤ memory_size e → ((i : ℕ) → slice_index game i < 256) → (script : List KeyEvent) (limit : ℕ)
+        → OfGame e game limit script (points_of e (events_in e game script limit)) (run_ending e game limit script)
+        (end_cycle limit (events_in e game script limit))
+    of_game e game fits bytes script limit =
+        begins e script limit (run_of e game script limit) (run_ending e game limit script) game (events_in e game script limit)
+        (is_chip8 law e game script limit fits bytes)
+
+    of_file : (e : Edition) (f : List ℕ) → ((k : ℕ) → slice_index f k < 256) → IsAccepted e f → (script : List KeyEvent) (limit : ℕ)
+        → let events = events_behind (interpreter_of e) script (shown f) limit in
+        OfFile e f limit script (points_of e events) (ending_from e f limit script) (end_cycle limit events)
+    of_file e f bytes accepted script limit =
+        let events : List Event = events_behind (interpreter_of e) script (shown f) limit in
+        subst (λ p. GoesOn e script limit p (points_of e events) (ending_from e f limit script) (end_cycle limit events)) (file_point_is e f)
+        (goes_on e script limit (run_to (interpreter_of e).rom (held_at script) (shown f) limit) (ending_from e f limit script)
+        (windows_ended (shown f).cycle) (shown f) events (is_run_behind from e f bytes accepted script limit).events)
+
+pub tells_timed : EveryRun → FromAccepted → EveryTime → TimeFromFile → (status : Status) (call : Call) → Says status call → TellsTimed status call
+tells_timed law from time time_from =
+    tells law OfTimedGame OfTimedFile (record { of_game = timed_game law time; of_file = timed_file from time_from })

@@ -20,10 +20,11 @@ use Rattle.rom_board.specs.Program.{program}
 use Rattle.vip_relation.specs.Follows.{dispatch_of, last_dispatch}
 use Rattle.vip_text.specs.Endings.{Ending}
 use Rattle.vip_text.specs.Screens.{picture_file}
+use Rattle.vip_text.specs.StateFile.{bank_in, shown}
 use Rattle.vip_text.specs.Summaries.{summary_line}
 use Rattle.vip_show.specs.Output.{trace_lines, trace_pieces, screen_piece, picture_pieces, summary, lit_at, is_dispatch_event, is_picture_event, count_of}
 use Rattle.vip_call.specs.Language.{named}
-use Rattle.vip_call.specs.Transcript.{Point, Begins, GoesOn, Ends, IsPicture, ArePictures, last_point, last_screen, line, lit, point_before, summary_text, trace_text}
+use Rattle.vip_call.specs.Transcript.{Point, Begins, GoesOn, Ends, IsPicture, ArePictures, file_point, last_point, last_screen, line, lit, point_before, summary_text, trace_text}
 
 -- ---- the points among some events
 
@@ -32,6 +33,11 @@ point_of e b = record { cycle = b.cycle; state = state_of e b }
 
 abbrev pub points_of : Edition → List Event → List Point
 points_of e events = map (point_of e) (filter_map dispatch_of events)
+
+-- the point of a file is that of the machine state that it shows
+pub file_point_is : (e : Edition) (f : List ℕ) → point_of e (shown f) ≡ file_point e f
+unfolding state_of bank_in
+file_point_is e f = refl
 
 module _ (e : Edition) (script : List KeyEvent) (limit : ℕ) (run : List Machine) (ending : Ending) where
   abbrev Behind : ℕ → Machine → List Event → Type 0

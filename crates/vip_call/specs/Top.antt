@@ -15,7 +15,7 @@ use Rattle.vip_call.specs.Certified.{Certifies}
 use Rattle.vip_call.specs.Linked.{BringsMessage}
 use Rattle.vip_call.specs.Language.{ShowsChip8}
 use Rattle.vip_call.specs.Saved.{Continues}
-use Rattle.vip_call.specs.Transcript.{Transcribes}
+use Rattle.vip_call.specs.Transcript.{Transcribes, TranscribesInTime}
 use Rattle.vip_call.specs.Words.{FinishAnswers, OfWords, OpensWords}
 use Rattle.vip_verbs.specs.declared.prepared.Prepared.{Prepared}
 use Rattle.vip_verbs.specs.Outcome.{HasOutcome}
@@ -296,13 +296,20 @@ SpeaksChip8 call =
     → HasOutcome asked contents (Shown pieces status report)
     → ShowsChip8 asked contents status report
 
--- The same with no machine in it: what went out, whole or in part, is that of a transcript of CHIP-8, and the status and the report are those of its
--- end. The transcript's cycles are those of the defined board: that is the exact output's, which `says` has.
+-- of what went out, whole or in part, this is known
+abbrev pub Tells : OutputLaw → Status → Call → Type 0
+Tells Of Done call = Writes Of Done call
+Tells Of Stopped call = Writes Of Stopped call
+Tells Of WriteFault call = WritesPart Of call
+Tells Of _ call = Unit {0}
+
+-- The same with no machine in it: what went out is that of a transcript of CHIP-8, and the status and the report are those of its end.
 abbrev pub TellsChip8 : Status → Call → Type 0
-TellsChip8 Done call = Writes Transcribes Done call
-TellsChip8 Stopped call = Writes Transcribes Stopped call
-TellsChip8 WriteFault call = WritesPart Transcribes call
-TellsChip8 _ call = Unit {0}
+TellsChip8 = Tells Transcribes
+
+-- And with no choice left: the transcript is the one in the language's time, whose cycles are a function of edition, game, script and limit.
+abbrev pub TellsTimed : Status → Call → Type 0
+TellsTimed = Tells TranscribesInTime
 
 -- ---- what the output says of a certificate
 
@@ -339,8 +346,8 @@ BringsMessages call =
 -- ---- the program
 
 -- What the program promises of each call. The body is held to `says`: what its answer tells of words, files, output and report. What follows for a
--- reader stands beside it. `words` and `due` follow from `says` alone, `complete` and `rom` as each source gives its ROM, `chip8` by the law of every run.
--- `language`, `certified`, `saved` and `linked` are laws of what the words and the contents come to, and hold of any body.
+-- reader stands beside it. `words` and `due` follow from `says` alone, `complete` and `rom` as each source gives its ROM, `chip8` by the law of every run,
+-- `timed` by that of its time. `language`, `certified`, `saved` and `linked` are laws of what the words and the contents come to, and hold of any body.
 pub record Promises (status : Status) (call : Call) : Type 0 where
   -- what the answer says: exact output for Done and Stopped, of `certify` some certificate that is accepted, each refusal's cause, and which reads were made
   pub says : Says status call
@@ -349,6 +356,8 @@ pub record Promises (status : Status) (call : Call) : Type 0 where
   pub language : SpeaksChip8 call
   -- what went out of a game's run is a transcript of CHIP-8, in the terms of the language alone
   pub chip8 : TellsChip8 status call
+  -- and the one in the language's time: each point and the stop in exactly their cycle, and none is left out
+  pub timed : TellsTimed status call
   -- where a certificate is accepted or written, its routine leaves in time, or its game never stops
   pub certified : ProvesCertified call
   -- a saved state is that of the run's last dispatch point, and what goes on from it is the rest of the run

@@ -14,6 +14,8 @@ use Rattle.chip8_lang.specs.Places.{addresses, most_addresses, pixels}
 use Rattle.chip8_lang.specs.Screen.{empty}
 use Rattle.chip8_lang.specs.State.{Lang, first}
 use Rattle.chip8_lang.specs.Step.{stop_of}
+use Rattle.chip8_lang.specs.Timed.{Shown, shown_behind, timed_run}
+use Rattle.chip8_lang.specs.Timed.Shown.{Picture, Point as PointAt, End}
 use Rattle.chip8_lang.specs.View.{opcode_at, view_of}
 use Rattle.rom_law.specs.Pictures.{ShowsScreen}
 use Rattle.vip_byte.specs.Text.{newline}
@@ -83,6 +85,15 @@ module _ (e : Edition) (script : List Event) (limit : ℕ) where
   abbrev pub Begins : List ℕ → List Point → Ending → ℕ → Type 0
   Begins game [] ending t = (limit < boot_bound) × (ending ≡ AtLimit) × (t ≡ limit)
   Begins game (p ∷ ps) ending t = (p.state ≡ first e game) × (p.cycle ≤ boot_bound) × (p.cycle ≤ limit) × GoesOn p ps ending t
+
+  -- The same with no choice left: these are the points that a run in the language's time shows, in their cycles, and it ends so: at its limit, where it
+  -- shows no stop, or at the stop, which is named with pc and opcode of its state.
+  abbrev pub Shows : List Shown → List Point → Ending → ℕ → Type 0
+  Shows [] [] ending t = (ending ≡ AtLimit) × (t ≡ limit)
+  Shows (Picture m screen ∷ shown) points ending t = Shows shown points ending t
+  Shows (PointAt c s ∷ shown) (p ∷ ps) ending t = (p.cycle ≡ c) × (p.state ≡ s) × Shows shown ps ending t
+  Shows (End c s stop ∷ shown) [] ending t = (ending ≡ AtStop stop s.pc (opcode_at e s)) × (t ≡ c)
+  Shows _ _ ending t = ⊥
 
 -- the last of some points, and the last one before a cycle
 abbrev pub last_point : List Point → Option Point
@@ -184,9 +195,16 @@ pub record Transcribed (Run : List Event → List Point → Ending → ℕ → T
   pub status_is : status ≡ end_status reported
   pub report_is : report ≡ end_report limit reported
 
--- the run of a game, from reset
-abbrev pub OfGame : Edition → List ℕ → ℕ → List Event → List Point → Ending → ℕ → Type 0
+-- which points, which end and which cycle of it a run has, by its edition, its game or its file, its limit and its script
+abbrev pub RunLaw : Type 1
+RunLaw = Edition → List ℕ → ℕ → List Event → List Point → Ending → ℕ → Type 0
+
+-- the run of a game, from reset: a run of the language, and the one in its time
+abbrev pub OfGame : RunLaw
 OfGame e game limit script = Begins e script limit game
+
+abbrev pub OfTimedGame : RunLaw
+OfTimedGame e game limit script = Shows e script limit (timed_run e script limit game)
 
 -- The point that a file of a machine state shows, by its bytes: the cycle is bytes 6 to 13, with the high byte first, and RAM begins at byte 51.
 abbrev pub two_bytes : List ℕ → ℕ → ℕ
@@ -216,8 +234,12 @@ file_point e f =
     }
 
 -- the run that goes on from a file, behind its point
-abbrev pub OfFile : Edition → List ℕ → ℕ → List Event → List Point → Ending → ℕ → Type 0
+abbrev pub OfFile : RunLaw
 OfFile e f limit script = GoesOn e script limit (file_point e f)
+
+abbrev pub OfTimedFile : RunLaw
+OfTimedFile e f limit script =
+    let p = file_point e f in Shows e script limit (shown_behind e script limit limit (windows_ended p.cycle) p.cycle p.state)
 
 abbrev pub IsEnd : Ending → Ending → Type 0
 IsEnd ending reported = reported ≡ ending
@@ -231,19 +253,27 @@ pub record FromFile (f : List ℕ) (Here : Edition → Status → List ℕ → T
   pub named : slice_index f 5 ≡ edition_byte edition
   pub here : Here edition status report
 
--- what a verb with these contents of its files writes and reports, where it runs a game
+-- what a verb with these contents of its files writes and reports, where it runs a game, by a law of runs from reset and one of runs from a file
+module _ (Game File : RunLaw) where
+  abbrev pub TranscribesBy : Asked → List (List ℕ) → List (List ℕ) → Status → List ℕ → Type 0
+  TranscribesBy (trace a) (game ∷ scripts) pieces =
+      Transcribed (Game a.run.edition game a.run.cycles) scripts a.run.cycles
+      (λ points ending over. pieces ≡ trace_text a.run.edition points a.with_time a.with_screen) IsEnd
+  TranscribesBy (play a) (game ∷ scripts) pieces =
+      Transcribed (Game a.edition game a.cycles) scripts a.cycles (λ points ending over. ArePictures a.edition points (windows_ended over) pieces) IsEnd
+  TranscribesBy (debug a) (game ∷ commands ∷ scripts) pieces =
+      Transcribed (Game a.run.edition game a.run.cycles) scripts a.run.cycles
+      (λ points ending over. Debugged a.run.edition points ending (commands_of Chip8 a.run.cycles commands) pieces) IsEndOrEarlier
+  TranscribesBy (resume a) (file ∷ scripts) pieces =
+      FromFile file (λ e. Transcribed (File e file a.cycles) scripts a.cycles (λ points ending over. pieces ≡ map (line e points a.with_time) points) IsEnd)
+  TranscribesBy (demo a) _ pieces =
+      Transcribed (Game Usual (demo_game a.number) a.cycles) [] a.cycles
+      (λ points ending over. pieces ≡ summary_text Usual points a.number (windows_ended over)) IsEnd
+  TranscribesBy _ _ pieces = λ status report. Unit {0}
+
+-- that of a run of the language, and that of the run in its time
 abbrev pub Transcribes : Asked → List (List ℕ) → List (List ℕ) → Status → List ℕ → Type 0
-Transcribes (trace a) (game ∷ scripts) pieces =
-    Transcribed (OfGame a.run.edition game a.run.cycles) scripts a.run.cycles
-    (λ points ending over. pieces ≡ trace_text a.run.edition points a.with_time a.with_screen) IsEnd
-Transcribes (play a) (game ∷ scripts) pieces =
-    Transcribed (OfGame a.edition game a.cycles) scripts a.cycles (λ points ending over. ArePictures a.edition points (windows_ended over) pieces) IsEnd
-Transcribes (debug a) (game ∷ commands ∷ scripts) pieces =
-    Transcribed (OfGame a.run.edition game a.run.cycles) scripts a.run.cycles
-    (λ points ending over. Debugged a.run.edition points ending (commands_of Chip8 a.run.cycles commands) pieces) IsEndOrEarlier
-Transcribes (resume a) (file ∷ scripts) pieces =
-    FromFile file (λ e. Transcribed (OfFile e file a.cycles) scripts a.cycles (λ points ending over. pieces ≡ map (line e points a.with_time) points) IsEnd)
-Transcribes (demo a) _ pieces =
-    Transcribed (OfGame Usual (demo_game a.number) a.cycles) [] a.cycles
-    (λ points ending over. pieces ≡ summary_text Usual points a.number (windows_ended over)) IsEnd
-Transcribes _ _ pieces = λ status report. Unit {0}
+Transcribes = TranscribesBy OfGame OfFile
+
+abbrev pub TranscribesInTime : Asked → List (List ℕ) → List (List ℕ) → Status → List ℕ → Type 0
+TranscribesInTime = TranscribesBy OfTimedGame OfTimedFile

@@ -10,7 +10,7 @@ ghost use Rattle.vip_call.specs.Top.{call_of, EveryCall, Promises};
 use chip8_source::laws::source_gives_rom;
 use cycle_check::laws::accepted_leaves;
 use game_check::laws::certified_games;
-use rom_board::language::{every_frame, every_run, every_start, file_may_start};
+use rom_board::language::{every_frame, every_run, every_start, every_time, file_may_start};
 use rom_board::saved::saved_goes_on;
 use std::alloc::Global;
 use vip_link::laws::{every_schedule, sources_give_roms};
@@ -92,6 +92,7 @@ pub fn every_call()
 {
     every_run();
     every_start();
+    every_time();
     every_frame();
     file_may_start();
     saved_goes_on();

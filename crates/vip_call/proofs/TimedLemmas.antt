@@ -1,0 +1,143 @@
+-- The transcript of a game's run is the one in the language's time, by the law of every run's time.
+use Rattle.std.proofs.Common.{◌≡◌, ℕ, zero, suc, ◌+◌, ◌<◌, ◌≤◌, List, [], ◌∷◌, length, slice_index, refl, sym, ap, subst, ◌∙◌}
+use Rattle.machine.specs.Board.{Machine}
+use Rattle.machine.specs.Keys.{Event as KeyEvent, held_at}
+use Rattle.machine.specs.Pictures.{windows_ended}
+use Rattle.machine.specs.Run.{run_to}
+use Rattle.chip8_lang.specs.declared.view.Edition.{Edition}
+use Rattle.chip8_lang.specs.declared.view.Stop.{Stop}
+use Rattle.chip8_lang.specs.declared.view.Stop.TheVariants.{MachineCall, Unknown, FetchOutside, ReadOutside, WriteOutside, StackFull, StackEmpty}
+use Rattle.chip8_lang.specs.Events.{Event, events_behind}
+use Rattle.chip8_lang.specs.Events.Event.{Picture, Dispatch, Stopped}
+use Rattle.chip8_lang.specs.Places.{state_of}
+use Rattle.chip8_lang.specs.State.{Lang, memory_size}
+use Rattle.chip8_lang.specs.Step.{stop_number}
+use Rattle.chip8_lang.specs.Ticks.{ticks}
+use Rattle.chip8_lang.specs.Timed.{Shown as TimedShown, shown_behind}
+use Rattle.chip8_lang.specs.Timed.Shown.{Picture as PictureAt, Point as PointAt, End}
+use Rattle.chip8_lang.specs.View.{opcode_at}
+use Rattle.rom_law.specs.Language.{Begins as BeginsRun, GoesOn as GoesOnRun, Halted, end_cycle}
+use Rattle.rom_law.specs.Program.{Halts}
+use Rattle.rom_run.specs.Timeline.{AreShown}
+use Rattle.rom_board.specs.Laws.{EveryRun, EveryTime}
+use Rattle.rom_board.specs.Program.{program}
+use Rattle.chip8_image.specs.Interpreters.{interpreter_of}
+use Rattle.vip_relation.specs.Stops.{stop_numbered}
+use Rattle.vip_text.specs.Endings.{Ending}
+use Rattle.vip_text.specs.Endings.Ending.{AtStop}
+use Rattle.vip_text.specs.StateFile.{shown, IsAccepted}
+use Rattle.vip_verbs.specs.Outcome.{ending_from, events_in, run_ending, run_of}
+use Rattle.vip_call.specs.Language.{named}
+use Rattle.vip_call.specs.Transcript.{OfTimedFile, OfTimedGame, Point, Shows}
+use Rattle.vip_call.proofs.LanguageLemmas.{is_chip8}
+use Rattle.vip_call.proofs.ResumedLemmas.{FromFile as FromAccepted, is_run_behind}
+use Rattle.vip_call.proofs.TranscriptLemmas.{file_point_is, points_of}
+
+-- ---- a stop
+
+by_number : (stop : Stop) → stop_numbered (stop_number stop) ≡ stop
+by_number MachineCall = refl
+by_number Unknown = refl
+by_number FetchOutside = refl
+by_number ReadOutside = refl
+by_number WriteOutside = refl
+by_number StackFull = refl
+by_number StackEmpty = refl
+
+-- ticks leave pc and the opcode there
+same_pc : (n : ℕ) (s : Lang) → (ticks n s).pc ≡ s.pc
+same_pc zero s = refl
+same_pc (suc n) s = same_pc n s
+
+same_opcode : (e : Edition) (n : ℕ) (s : Lang) → opcode_at e (ticks n s) ≡ opcode_at e s
+same_opcode e zero s = refl
+same_opcode e (suc n) s = same_opcode e n s
+
+module _ (e : Edition) (script : List KeyEvent) (limit : ℕ) (run : List Machine) (ending : Ending) where
+  -- the stop of the run is the one that is shown, and so are its pc and its opcode
+  ending_is :
+      (k : ℕ) (b c : Machine) (events : List Event) (s : Lang) (stop : Stop) → Halted (program e) script limit run (named e ending) k b c events
+      → Halts (program e) c s stop → ending ≡ AtStop stop s.pc (opcode_at e s)
+  ending_is k b c events s stop h halts =
+      h.also_is
+      ∙ ap (λ z. AtStop z (state_of e b).pc (opcode_at e (state_of e b))) same_stop
+      ∙ ap (λ pc. AtStop stop pc (opcode_at e (state_of e b))) (sym (same_pc n (state_of e b)))
+      ∙ ap (λ opcode. AtStop stop (ticks n (state_of e b)).pc opcode) (sym (same_opcode e n (state_of e b)))
+      ∙ ap (λ (z : Lang). AtStop stop z.pc (opcode_at e z)) same_state
+    where
+      n : ℕ
+      n = (program e).ticks_between b.cycle c.cycle
+
+      same_stop : h.stop.stop ≡ stop
+      same_stop = sym (by_number h.stop.stop) ∙ ap stop_numbered (sym h.stop.halts.number ∙ halts.number) ∙ by_number stop
+
+      same_state : ticks n (state_of e b) ≡ s
+      same_state = sym h.stop.halts.keeps.lies.is ∙ halts.keeps.lies.is
+
+  -- ---- the points
+
+  shows :
+      (k : ℕ) (b : Machine) (events : List Event) (those : List TimedShown) → GoesOnRun (program e) script limit run (named e ending) k b events
+      → AreShown (program e) run events those → Shows e script limit those (points_of e events) ending (end_cycle limit events)
+  shows k b [] [] h a = (h.also_is, refl)
+  shows k b [] (PictureAt m screen ∷ those) h a = absurd a
+  shows k b [] (PointAt t s ∷ those) h a = absurd a
+  shows k b [] (End t s stop ∷ those) h a = absurd a
+  shows k b (Picture m ∷ events) [] h a = absurd a
+  shows k b (Picture m ∷ events) (PictureAt n screen ∷ those) h a = shows (k + 1) b events those h.2 a.2
+  shows k b (Picture m ∷ events) (PointAt t s ∷ those) h a = absurd a
+  shows k b (Picture m ∷ events) (End t s stop ∷ those) h a = absurd a
+  shows k b (Dispatch c ∷ events) [] h a = absurd a
+  shows k b (Dispatch c ∷ events) (PictureAt n screen ∷ those) h a = absurd a
+  shows k b (Dispatch c ∷ events) (PointAt t s ∷ those) h a = (a.0, a.1.keeps.lies.is, shows k c events those h.2 a.2)
+  shows k b (Dispatch c ∷ events) (End t s stop ∷ those) h a = absurd a
+  shows k b (Stopped c ∷ events) [] h a = absurd a
+  shows k b (Stopped c ∷ events) (PictureAt n screen ∷ those) h a = absurd a
+  shows k b (Stopped c ∷ events) (PointAt t s ∷ those) h a = absurd a
+  shows k b (Stopped c ∷ events) (End t s stop ∷ those) h a =
+      subst (λ es. Shows e script limit (End t s stop ∷ those) (points_of e es) ending c.cycle) (sym h.last)
+      (ending_is k b c events s stop h a.1, a.0)
+
+  shows_all :
+      (game : List ℕ) (events : List Event) (those : List TimedShown) → BeginsRun (program e) script limit run (named e ending) game events
+      → AreShown (program e) run events those → Shows e script limit those (points_of e events) ending (end_cycle limit events)
+  shows_all game [] [] h a = (h.1, refl)
+  shows_all game [] (PictureAt m screen ∷ those) h a = absurd a
+  shows_all game [] (PointAt t s ∷ those) h a = absurd a
+  shows_all game [] (End t s stop ∷ those) h a = absurd a
+  shows_all game (Picture m ∷ events) those h a = absurd h
+  shows_all game (Dispatch b ∷ events) [] h a = absurd a
+  shows_all game (Dispatch b ∷ events) (PictureAt n screen ∷ those) h a = absurd a
+  shows_all game (Dispatch b ∷ events) (PointAt t s ∷ those) h a = (a.0, a.1.keeps.lies.is, shows 0 b events those h.3 a.2)
+  shows_all game (Dispatch b ∷ events) (End t s stop ∷ those) h a = absurd a
+  shows_all game (Stopped b ∷ events) those h a = absurd h
+
+-- ---- the run of a game, and the one from an accepted file
+
+pub timed_game :
+    EveryRun → EveryTime → (e : Edition) (game : List ℕ) → length game ≤ memory_size e → ((i : ℕ) → slice_index game i < 256)
+    → (script : List KeyEvent) (limit : ℕ)
+    → OfTimedGame e game limit script (points_of e (events_in e game script limit)) (run_ending e game limit script)
+    (end_cycle limit (events_in e game script limit))
+timed_game law time e game fits bytes script limit =
+    shows_all e script limit (run_of e game script limit) (run_ending e game limit script) game (events_in e game script limit) _
+    (is_chip8 law e game script limit fits bytes) (time e game fits bytes script limit)
+
+abbrev pub TimeFromFile : Type 0
+TimeFromFile =
+    (e : Edition) (f : List ℕ) → ((k : ℕ) → slice_index f k < 256) → IsAccepted e f → (script : List KeyEvent) (limit : ℕ)
+    → AreShown (program e) (run_to (interpreter_of e).rom (held_at script) (shown f) limit) (events_behind (interpreter_of e) script (shown f) limit)
+    (shown_behind e script limit limit (windows_ended (shown f).cycle) (shown f).cycle (state_of e (shown f)))
+
+pub timed_file :
+    FromAccepted → TimeFromFile → (e : Edition) (f : List ℕ) → ((k : ℕ) → slice_index f k < 256) → IsAccepted e f → (script : List KeyEvent) (limit : ℕ)
+    → let events = events_behind (interpreter_of e) script (shown f) limit in
+    OfTimedFile e f limit script (points_of e events) (ending_from e f limit script) (end_cycle limit events)
+timed_file from time e f bytes accepted script limit =
+    let events : List Event = events_behind (interpreter_of e) script (shown f) limit in
+    subst
+    (λ (p : Point). Shows e script limit (shown_behind e script limit limit (windows_ended p.cycle) p.cycle p.state) (points_of e events)
+    (ending_from e f limit script) (end_cycle limit events))
+    (file_point_is e f)
+    (shows e script limit (run_to (interpreter_of e).rom (held_at script) (shown f) limit) (ending_from e f limit script) (windows_ended (shown f).cycle)
+    (shown f) events _ (is_run_behind from e f bytes accepted script limit).events (time e f bytes accepted script limit))
