@@ -1,4 +1,5 @@
 ghost use Rattle.std.specs.Prelude.{◌≡◌};
+ghost use Rattle.std.specs.Io.KnownBytes.{WriteAppends};
 ghost use Rattle.vip_outside.specs.Sink.{PutAnswers};
 ghost use Rattle.vip_outside.specs.StdSink.{meaning_of, PutSends, SendsSome, Sent};
 
@@ -6,11 +7,12 @@ use crate::sink::{Failed, Sink};
 use crate::stream::Stream;
 use std::marker::Model;
 
-/// A sink over a stream, as standard output. Of the bytes it tells those that the stream took, which
-/// is nothing at a stream of the system, and of the calls nothing.
+/// A sink over a stream, as standard output. Of the bytes it tells those that the stream took, where
+/// the stream tells its calls or its contents; a stream of the system tells neither. Of its own calls
+/// it tells nothing.
 ///
-/// Clauses see it as a `StreamSink`: the count of faults, and the calls of the stream, where it tells
-/// them.
+/// Clauses see it as a `StreamSink`: the count of faults, and the calls and the contents of the
+/// stream, each where the stream tells it.
 #[derive(Drop)]
 pub struct StdSink<S: Stream> {
     stream: S,
@@ -22,13 +24,13 @@ impl<S: Stream> Model for StdSink<S> {
 
     ghost Value = { StreamSink };
 
-    ghost view = { λ s. record { calls = S.log s.stream; faults = s.faults } };
+    ghost view = { λ s. record { calls = S.log s.stream; contents = S.contents s.stream; faults = s.faults } };
 }
 
 impl<S: Stream> StdSink<S> {
     /// A sink over this stream, with no fault.
     pub fn new(stream: S) -> StdSink<S>
-        ensures unused { result ≡ record { calls = S.log stream; faults = 0 } }
+        ensures unused { result ≡ record { calls = S.log stream; contents = S.contents stream; faults = 0 } }
     {
         StdSink { stream, faults: 0 }
     }
@@ -37,7 +39,8 @@ impl<S: Stream> StdSink<S> {
 /// Offers bytes to one write, which takes at least one, and answers how many. A write that takes none
 /// is a fault, as any error of the stream.
 fn write_some<S: Stream>(stream: &mut S, bytes: &[u8]) -> Result<usize, Failed>
-    ensures { SendsSome bytes.now (S.log stream.old) (S.log stream.new) result }
+    ensures call { SendsSome bytes.now (S.log stream.old) (S.log stream.new) result }
+    ensures bytes { WriteAppends (S.contents stream.old) (S.contents stream.new) result bytes.now }
 {
     match stream.write(bytes) {
         Ok(0) | Err(_) => Err(Failed),
@@ -47,7 +50,7 @@ fn write_some<S: Stream>(stream: &mut S, bytes: &[u8]) -> Result<usize, Failed>
 
 /// Writes a whole piece, in as many writes as the stream needs, and then flushes the stream.
 fn write_whole<S: Stream>(stream: &mut S, piece: &[u8]) -> Result<(), Failed>
-    ensures { Sent piece.now (S.log stream.old) (S.log stream.new) result }
+    ensures { Sent piece.now (S.log stream.old) (S.log stream.new) (S.contents stream.old) (S.contents stream.new) result }
 {
     let mut rest = piece;
     while !rest.is_empty() {
@@ -68,7 +71,7 @@ impl<S: Stream> Sink for StdSink<S> {
     /// flush, is a fault.
     fn put(&mut self, piece: &[u8]) -> Result<(), Failed>
         ensures answer { PutAnswers piece.now (meaning_of self.old) (meaning_of self.new) result }
-        ensures sent { PutSends piece.now self.old.calls self.new.calls result }
+        ensures sent { PutSends piece.now self.old self.new result }
     {
         if piece.is_empty() {
             return Ok(());

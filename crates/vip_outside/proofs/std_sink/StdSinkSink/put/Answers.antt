@@ -11,8 +11,8 @@ returns-then-is_err-clause-answer g c =
       counted = λ room. grind (arith, common_steps, c.saturating_add-self-inside.ensures, room);
       never_falls = grind (arith, common_steps, c.saturating_add-self-inside.ensures);
     } in
-    rw (← c.self.view_is) (put_fails _ _ _ _ _ _ (sym c.is_err.ensures.value ∙ c.if-is_err.true) some c.write_whole-answer.ensures rose)
+    rw (← c.self.view_is) (put_fails _ _ _ _ _ _ _ _ (sym c.is_err.ensures.value ∙ c.if-is_err.true) some c.write_whole-answer.ensures rose)
 
 pub returns-else-is_err-clause-answer : goal.returns-else-is_err-clause-answer
 returns-else-is_err-clause-answer g c =
-    rw (← c.self.view_is) (put_whole _ _ _ _ _ _ (sym c.is_err.ensures.value ∙ c.if-is_err.false) c.write_whole-answer.ensures refl)
+    rw (← c.self.view_is) (put_whole _ _ _ _ _ _ _ _ (sym c.is_err.ensures.value ∙ c.if-is_err.false) c.write_whole-answer.ensures refl)
