@@ -33,8 +33,8 @@ pub struct Claim {
 }
 
 impl Claim {
-    // The same claim.
-    pub(crate) fn copied(&self) -> Claim
+    // Copies the claim, which takes no memory.
+    pub(crate) fn copy(&self) -> Claim
         ensures { result ≡ self.now }
     {
         Claim {
@@ -59,7 +59,7 @@ pub(crate) fn stack_of(addresses: &[u16]) -> ArrayVec<u16, 12>
 }
 
 /// The stack with an address more.
-pub(crate) fn pushed(addresses: &[u16], address: u16) -> ArrayVec<u16, 12>
+pub(crate) fn stack_with(addresses: &[u16], address: u16) -> ArrayVec<u16, 12>
     requires { length addresses.now < 12 }
     ensures { result.items ≡ addresses.now ++ address ∷ [] }
 {

@@ -9,7 +9,7 @@ ghost use Rattle.chip8_lang.specs.Step.{is_readable};
 ghost use Rattle.game_check.specs.Closed as closed;
 ghost use Rattle.game_check.specs.Order.{IsAscending};
 
-use crate::claim::{Claim, Point, pushed, stack_of};
+use crate::claim::{Claim, Point, stack_of, stack_with};
 use crate::fault::ProofCause;
 use chip8_lang::{Edition, Instr, MEMORY_START, read_instr};
 
@@ -220,7 +220,7 @@ pub fn next_points(instr: &Instr, point: &Point) -> (Point, Option<Point>)
     let stack = point.stack.as_slice();
     match instr {
         Instr::Jump(address) => (at(*address, stack), None),
-        Instr::Call(address) => (called(*address, point), None),
+        Instr::Call(address) => (subroutine_point(*address, point), None),
         Instr::Return => (return_point(stack), None),
         Instr::SkipEq(..)
         | Instr::SkipNe(..)
@@ -244,14 +244,14 @@ fn at(pc: u16, stack: &[u16]) -> Point
 }
 
 // The point of a subroutine that is called from here.
-fn called(address: u16, from: &Point) -> Point
+fn subroutine_point(address: u16, from: &Point) -> Point
     requires inside { from.now.pc ≤ 0xfff }
     requires room { length from.now.stack.items < 12 }
     ensures { result ≡ closed.point address (from.now.stack.items ++ (from.now.pc + 2) ∷ []) }
 {
     Point {
         pc: address,
-        stack: pushed(from.stack.as_slice(), from.pc + 2),
+        stack: stack_with(from.stack.as_slice(), from.pc + 2),
     }
 }
 

@@ -11,7 +11,7 @@ use crate::check::check_game;
 use crate::claim::Claim;
 use crate::closed::check_claim;
 use crate::fault::{FindFault, ProofFault};
-use crate::obstacle::stopped;
+use crate::obstacle::fault_at;
 use crate::search::search_claims;
 use arrayvec::ArrayVec;
 use chip8_lang::Edition;
@@ -42,7 +42,8 @@ pub fn find_certificate(alloc: Global, edition: Edition, game: &[u8]) -> Result<
     }
 }
 
-// The first of some claims that isn't closed among them. They are the first ones of those found, and one of them isn't, where their lines are refused.
+// What stands against the first of some claims that isn't closed among them; they are the first ones of those found. It is asked where their lines were
+// refused. That one of them isn't closed then follows from no clause, so that where each of them is, the answer is want of memory.
 fn first_open(edition: Edition, game: &[u8], found: &[Claim], count: usize) -> FindFault
     requires in_order { IsAscending found.now }
     requires met { All (Meets edition game.now) found.now }
@@ -51,7 +52,7 @@ fn first_open(edition: Edition, game: &[u8], found: &[Claim], count: usize) -> F
     let first = &found[..count.min(found.len())];
     for claim in first {
         if check_claim(edition, game, first, claim).is_err() {
-            return stopped(edition, game, found, count, claim.copied());
+            return fault_at(edition, game, found, count, claim.copy());
         }
     }
     FindFault::NoMemory

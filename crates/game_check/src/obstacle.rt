@@ -21,8 +21,9 @@ const MOST_ADDRESSES: u64 = 1_048_576;
 const LAST_ADDRESS: u32 = 0xFFFF;
 
 /// What stands against a claim that was met, among the first ones of those found. Where that is a next point that isn't claimed, I may pass FFFF or
-/// a limit of the search is reached; no search comes here without one of these, and nothing true is left to say.
-pub fn stopped(
+/// a limit of the search is reached. Where neither is so, or nothing stands against the claim, the answer is want of memory: no clause says that a search
+/// doesn't come here then, and nothing true is left to say.
+pub fn fault_at(
     edition: Edition,
     game: &[u8],
     found: &[Claim],

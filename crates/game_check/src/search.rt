@@ -18,7 +18,7 @@ use crate::closed::{
     has_access, high_after, instr_in, is_allowed, is_in_memory, low_after, next_points,
 };
 use crate::fault::FindFault;
-use crate::obstacle::stopped;
+use crate::obstacle::fault_at;
 use crate::read::is_behind;
 use chip8_lang::{Edition, Instr};
 use std::alloc::{AllocError, Global};
@@ -124,16 +124,16 @@ impl Search<'_> {
         ensures keeps { OnOk result (Keeps self.old self.new) }
         ensures fault { IfErr result (IsFindFault self.old.edition self.old.game.now) }
     {
-        let Some(claim) = self.taken(place) else {
+        let Some(claim) = self.take_claim(place) else {
             return Ok(());
         };
         let Some(instr) = instr_of(self.edition, self.game, &claim) else {
-            return Err(stopped(self.edition, self.game, &[], 0, claim));
+            return Err(fault_at(self.edition, self.game, &[], 0, claim));
         };
         let low = low_after(&instr, &claim);
         let high = high_after(&instr, &claim);
         if low.max(high) > u32::from(LAST_ADDRESS) {
-            return Err(stopped(self.edition, self.game, &[], 0, claim));
+            return Err(fault_at(self.edition, self.game, &[], 0, claim));
         }
         let (first, second) = next_points(&instr, &claim.point);
         let mut met = self.meet(first, low as u16, high as u16)?;
@@ -144,11 +144,11 @@ impl Search<'_> {
             return Ok(());
         }
         let found = self.claims(alloc)?;
-        Err(stopped(self.edition, self.game, found.as_slice(), 0, claim))
+        Err(fault_at(self.edition, self.game, found.as_slice(), 0, claim))
     }
 
-    // The claim of a node that is followed now.
-    fn taken(&mut self, place: usize) -> Option<Claim>
+    // Takes the claim of a node that is followed now, so that the node no longer waits.
+    fn take_claim(&mut self, place: usize) -> Option<Claim>
         requires { AllMet self.now }
         ensures keeps { Keeps self.old self.new }
         ensures met { IfSome result (Meets self.old.edition self.old.game.now) }
@@ -157,7 +157,7 @@ impl Search<'_> {
             return None;
         }
         self.nodes[place].waits = false;
-        Some(self.nodes[place].claim.copied())
+        Some(self.nodes[place].claim.copy())
     }
 
     // A point is met with I from low to high. False where no more points are followed.
@@ -234,7 +234,7 @@ impl Search<'_> {
     {
         let mut claims = Vec::new(alloc);
         for node in self.nodes.as_slice() {
-            claims.push(node.claim.copied())?;
+            claims.push(node.claim.copy())?;
         }
         claims.sort_unstable_by(|a, b| a.point.order(&b.point));
         in_order(alloc, claims.as_slice())
@@ -259,7 +259,7 @@ fn keep_behind(claims: &mut Vec<Claim>, claim: &Claim) -> Result<(), AllocError>
         ≡ (if is_behind claims.old.items claim.now then claims.old.items ++ claim.now ∷ [] else claims.old.items)) }
 {
     if is_behind(claims.as_slice(), claim) {
-        claims.push(claim.copied())?;
+        claims.push(claim.copy())?;
     }
     Ok(())
 }

@@ -15,8 +15,8 @@ loop-node-preserved c =
     (All-get_or (MetNode c.args.self.now.edition c.args.self.now.game.now) c.as_slice-node-items.result.now c.loop-node.node-index c.node-item.result
     (omega (arith, c.loop-node-test.true)) all) in
     rw c.in_ok-push.ensures.items
-    (all_more (Meets c.args.self.now.edition c.args.self.now.game.now) c.loop-node.claims.items c.copied.result c.loop-node.invariant
-    (subst (Meets c.args.self.now.edition c.args.self.now.game.now) (sym c.copied.ensures) this))
+    (all_more (Meets c.args.self.now.edition c.args.self.now.game.now) c.loop-node.claims.items c.copy.result c.loop-node.invariant
+    (subst (Meets c.args.self.now.edition c.args.self.now.game.now) (sym c.copy.ensures) this))
 
 pub returns-clause-met : goal.returns-clause-met
 returns-clause-met c =
