@@ -12,7 +12,8 @@ use Rattle.vip_outside.specs.declared.sink.Failed.{Failed}
 use Rattle.vip_outside.proofs.PiecesLemmas.{PutsAll-nil, PutsAll-one, FailsWithin-snoc}
 use Rattle.vip_relation.specs.Follows.{last_dispatch, last_view}
 use Rattle.vip_relation.specs.Meets.{HasStopped}
-use Rattle.vip_relation.specs.State.{VipState, events_left, events_to, first_events, interpreter}
+use Rattle.vip_relation.specs.State.Start.{Reset, Saved}
+use Rattle.vip_relation.specs.State.{Start, VipState, events_left, events_to, first_events, first_view, interpreter, machine_of}
 use Rattle.vip_relation.specs.Stops.{pc_of, opcode_of}
 use Rattle.vip_relation.proofs.Meetings.{last-dispatched, last-kept}
 use Rattle.vip_relation.proofs.Nexts.{Dispatched, Pictured, Halted, Ended}
@@ -40,14 +41,15 @@ pub record Saving (limit : ℕ) (start v : VipState) (bytes : List ℕ) : Type 0
   pub ends : ending_of start.edition (events_to start limit) ≡ ending_after start.edition (pc_of v.last) (opcode_of v.last) (events_left v limit)
 
 module _ (limit : ℕ) (start : VipState) where
-  pub saving-first : (bytes : List ℕ) → IsFresh start → start.last ≡ None → bytes ≡ [] → Saving limit start start bytes
-  saving-first bytes fresh none empty = record {
+  pub saving-first : (bytes : List ℕ) → IsFresh start → bytes ≡ unwrap_or (saved_file start.edition (first_events start.start)) []
+      → Saving limit start start bytes
+  saving-first bytes fresh first = record {
     runs = fresh.runs;
     edition = refl;
     done = first_events start.start;
     split = split-first start limit fresh.met;
     last = fresh.last ∙ first-view start.edition start.start;
-    bytes_are = empty ∙ ap (λ events. unwrap_or (saved_file start.edition events) []) (sym (none-first start fresh none));
+    bytes_are = first;
     ends = ends-first start limit fresh;
   }
 
@@ -124,6 +126,25 @@ module _ (limit : ℕ) (start : VipState) where
 
         here : ending_after start.edition (pc_of v.last) (opcode_of v.last) (Stopped h.b ∷ h.rest) ≡ AtStop stop.stop stop.pc stop.opcode
         here = unfold ending_after in rw h.meets.stop refl
+
+-- ---- the start
+
+-- the file of the dispatch point at which a run begins that tells of one
+pub first-file : (v : VipState) → IsFresh v → (v.last ≡ None → ⊥) → (bytes : List ℕ) → bytes ≡ file_of v.edition v.board.machine
+    → bytes ≡ unwrap_or (saved_file v.edition (first_events v.start)) []
+first-file v fresh some bytes is = by_start v.start refl
+  where
+    by_start : (s : Start) → v.start ≡ s → bytes ≡ unwrap_or (saved_file v.edition (first_events v.start)) []
+    by_start (Reset game) at = absurd (some (fresh.last ∙ ap (first_view v.edition) at))
+    by_start (Saved file) at =
+        is ∙ ap (file_of v.edition) (fresh.stands file at ∙ ap machine_of at)
+        ∙ sym (ap (λ s. unwrap_or (saved_file v.edition (first_events s)) []) at)
+
+-- and of one that tells of none
+pub first-none : (v : VipState) → IsFresh v → v.last ≡ None → (bytes : List ℕ) → bytes ≡ []
+    → bytes ≡ unwrap_or (saved_file v.edition (first_events v.start)) []
+first-none v fresh none bytes empty =
+    empty ∙ ap (λ events. unwrap_or (saved_file v.edition events) []) (sym (none-first v fresh none))
 
 -- ---- what goes out
 

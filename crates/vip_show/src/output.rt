@@ -1,7 +1,7 @@
 //! What is saved of a run: the file of the state at its last dispatch point.
 
-ghost use Rattle.std.specs.Prelude.{◌≡◌, ◌≤◌, [], None};
-ghost use Rattle.vip_relation.specs.State.{events_to};
+ghost use Rattle.std.specs.Prelude.{◌≡◌, ◌≤◌, [], unwrap_or};
+ghost use Rattle.vip_relation.specs.State.{events_to, first_events};
 ghost use Rattle.vip_show.specs.Answers.{IsFresh};
 ghost use Rattle.vip_show.specs.Endings.{ending_of};
 ghost use Rattle.vip_show.specs.StateOutput.{Keeps, SavedAnswers, saved_file};
@@ -12,15 +12,26 @@ use vip_outside::{Failed, Sink};
 use vip_relation::{Met, Run};
 use vip_text::RunEnd;
 
-/// Runs a machine from a reset up to its limit or its stop point. An empty buffer then has the file of the state at the last dispatch point, and is
+/// Writes the file of the dispatch point at which a run from a saved state begins into an empty buffer, and of a run from a reset nothing.
+fn keep_first(run: &Run, file: &mut Buffer)
+    requires fresh { IsFresh run.now }
+    requires empty { file.old.items ≡ [] }
+    ensures { file.new.items ≡ unwrap_or (saved_file run.now.edition (first_events run.now.start)) [] }
+{
+    if let Some(_) = run.last_pc() {
+        write_run(run, file);
+    }
+}
+
+/// Runs a machine that begins up to its limit or its stop point. An empty buffer then has the file of the state at the last dispatch point, and is
 /// empty where there was none.
 fn keep_last(run: &mut Run, limit: u64, file: &mut Buffer) -> RunEnd
     requires fresh { IsFresh run.old }
-    requires reset { run.old.last ≡ None }
     requires limit { limit ≤ MOST_CYCLE }
     requires empty { file.old.items ≡ [] }
     ensures { Keeps run.old limit run.new file.new.items result }
 {
+    keep_first(run, file);
     loop {
         match run.advance(limit) {
             Met::Dispatch => {
@@ -34,11 +45,11 @@ fn keep_last(run: &mut Run, limit: u64, file: &mut Buffer) -> RunEnd
     }
 }
 
-/// Runs a machine from a reset, and puts the file of the state at its last dispatch point, as one piece. None comes exactly where there is no such
-/// point; nothing is put then. A put that fails ends it.
+/// Runs a machine that begins, and puts the file of the state at its last dispatch point, as one piece: for a run from a saved state where no point
+/// comes behind it, that of the saved one. None comes exactly where there is no dispatch point, as only in a run from a reset; nothing is put then. A
+/// put that fails ends it.
 pub fn show_saved<O: Sink>(run: &mut Run, limit: u64, out: &mut O) -> Result<Option<RunEnd>, Failed>
     requires fresh { IsFresh run.old }
-    requires reset { run.old.last ≡ None }
     requires limit { limit ≤ MOST_CYCLE }
     ensures { SavedAnswers (saved_file run.old.edition (events_to run.old limit)) (ending_of run.old.edition (events_to run.old limit)) (O.meaning out.old) (O.meaning out.new) result }
 {

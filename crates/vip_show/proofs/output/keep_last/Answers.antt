@@ -3,7 +3,7 @@ use Rattle.vip_show.proofs.Saving.{saving-first, saving-dispatch, saving-picture
 use Rattle.vip_show.proofs.output.keep_last.Goals as goal
 
 pub loop-file-init : goal.loop-file-init
-loop-file-init c = saving-first _ _ _ c.requires.fresh c.requires.reset c.requires.empty
+loop-file-init c = saving-first _ _ _ c.requires.fresh c.keep_first.ensures
 
 -- ---- a dispatch point
 
