@@ -2,8 +2,8 @@
 
 ghost use Rattle.rom_board.specs.Saved.{EveryFile, RunsAsChip8, GoesOnWithRun, SavedGoesOn, WritesTheSame};
 
-/// The file of a dispatch point at which a run stands, as `write_state` of `vip_show` writes it, is an accepted one of the run's edition, and shows the
-/// state of the board.
+/// The file of a dispatch point at which a run stands, with the bytes of `specs/Written.antt` of `vip_show`, is an accepted one of the run's edition,
+/// and shows the state of the board.
 pub fn every_file()
     ensures { EveryFile }
 {}

@@ -5,8 +5,8 @@
 //! every run that begins: the pieces of the output are exactly those of `specs/Output.antt`, and of a state those of `specs/StateOutput.antt`, each put
 //! by a call of its own, up to the first put that fails; and the run ends as its events say. No call takes memory for it.
 //!
-//! `write_state` writes exactly the bytes of `specs/Written.antt`. What they are to the language is said in `rom_board::saved`: at a dispatch point they
-//! are an accepted file that shows the state of the board, and a run from any accepted file, whoever wrote it, goes on as CHIP-8.
+//! A saved state has exactly the bytes of `specs/Written.antt`. What they are to the language is said in `rom_board::saved`: they are an accepted file
+//! that shows the state of the board, and a run from any accepted file, whoever wrote it, goes on as CHIP-8.
 //!
 //! The texts and the format of a state are this project's profile (`docs/FORMATS.md`); a picture is a file of Netpbm's PBM, form P4.
 #![tactic(auto)]
@@ -20,4 +20,3 @@ mod writing;
 pub use output::show_saved;
 pub use pieces::{show_pictures, show_trace};
 pub use summary::show_summary;
-pub use writing::write_state;

@@ -9,19 +9,19 @@ ghost use Rattle.vip_text.specs.Screens.{screen_lines};
 ghost use Rattle.vip_show.specs.Answers.{IsFresh, ShowAnswers, run_trace, run_pictures};
 ghost use Rattle.vip_show.specs.Run.{PieceAnswers, screen_told};
 
-use crate::run::{Shown, run};
+use crate::run::{Shown, put_events};
 use vip_byte::{Buffer, MOST_CYCLE};
 use vip_outside::{Failed, Sink};
 use vip_relation::Run;
 use vip_text::{RunEnd, screen_text};
 
 /// Puts the screen at the last dispatch point, as one piece, or nothing where there was none.
-fn put_screen<O: Sink>(vip: &Run, screen: &[u8], out: &mut O) -> Result<(), Failed>
-    requires bytes { screen.now ≡ vip.now.shown }
-    requires size { length screen.now ≡ screen_size vip.now.edition }
-    ensures { PieceAnswers (screen_told vip.now) (O.meaning out.old) (O.meaning out.new) result }
+fn put_screen<O: Sink>(run: &Run, screen: &[u8], out: &mut O) -> Result<(), Failed>
+    requires bytes { screen.now ≡ run.now.shown }
+    requires size { length screen.now ≡ screen_size run.now.edition }
+    ensures { PieceAnswers (screen_told run.now) (O.meaning out.old) (O.meaning out.new) result }
 {
-    let Some(_) = vip.last_pc() else {
+    let Some(_) = run.last_pc() else {
         return Ok(());
     };
     let mut text = Buffer::new();
@@ -32,28 +32,28 @@ fn put_screen<O: Sink>(vip: &Run, screen: &[u8], out: &mut O) -> Result<(), Fail
 /// Runs a machine that begins, and puts the line of each dispatch point, and at the end the screen where it is asked for, each as one
 /// piece. A put that fails ends it.
 pub fn show_trace<O: Sink>(
-    vip: &mut Run,
+    run: &mut Run,
     limit: u64,
     with_time: bool,
     with_screen: bool,
     out: &mut O,
 ) -> Result<RunEnd, Failed>
-    requires fresh { IsFresh vip.old }
+    requires fresh { IsFresh run.old }
     requires limit { limit ≤ MOST_CYCLE }
-    ensures { ShowAnswers vip.old limit (run_trace with_time with_screen vip.old limit) (O.meaning out.old) (O.meaning out.new) result }
+    ensures { ShowAnswers run.old limit (run_trace with_time with_screen run.old limit) (O.meaning out.old) (O.meaning out.new) result }
 {
-    let tally = run(vip, limit, Shown::Lines { with_time }, with_screen, out)?;
+    let tally = put_events(run, limit, Shown::Lines { with_time }, with_screen, out)?;
     if with_screen {
-        put_screen(vip, tally.screen.as_slice(), out)?;
+        put_screen(run, tally.screen.as_slice(), out)?;
     }
     Ok(tally.end)
 }
 
 /// Runs a machine that begins, and puts each finished picture, each as one piece. A put that fails ends it.
-pub fn show_pictures<O: Sink>(vip: &mut Run, limit: u64, out: &mut O) -> Result<RunEnd, Failed>
-    requires fresh { IsFresh vip.old }
+pub fn show_pictures<O: Sink>(run: &mut Run, limit: u64, out: &mut O) -> Result<RunEnd, Failed>
+    requires fresh { IsFresh run.old }
     requires limit { limit ≤ MOST_CYCLE }
-    ensures { ShowAnswers vip.old limit (run_pictures vip.old limit) (O.meaning out.old) (O.meaning out.new) result }
+    ensures { ShowAnswers run.old limit (run_pictures run.old limit) (O.meaning out.old) (O.meaning out.new) result }
 {
-    Ok(run(vip, limit, Shown::Pictures, false, out)?.end)
+    Ok(put_events(run, limit, Shown::Pictures, false, out)?.end)
 }

@@ -36,23 +36,23 @@ pub struct Tally {
 
 /// Puts the line of the dispatch point where the board stands. It is written over what `text` has.
 fn put_line<O: Sink>(
-    vip: &Run,
+    run: &Run,
     with_time: bool,
     text: &mut Buffer,
     out: &mut O,
 ) -> Result<(), Failed>
-    ensures { PutAnswers (trace_line with_time (view_at vip.now.edition vip.now.board.machine)) (O.meaning out.old) (O.meaning out.new) result }
+    ensures { PutAnswers (trace_line with_time (view_at run.now.edition run.now.board.machine)) (O.meaning out.old) (O.meaning out.new) result }
 {
     text.clear();
-    trace_text(&vip.view(), with_time, text);
+    trace_text(&run.view(), with_time, text);
     out.put(text.as_slice())
 }
 
 /// Puts the last picture that was finished, where there is one. It is written over what `text` has.
-fn put_picture<O: Sink>(vip: &Run, text: &mut Buffer, out: &mut O) -> Result<(), Failed>
-    ensures { PieceAnswers (option_map picture_file vip.now.board.pictures.finished) (O.meaning out.old) (O.meaning out.new) result }
+fn put_picture<O: Sink>(run: &Run, text: &mut Buffer, out: &mut O) -> Result<(), Failed>
+    ensures { PieceAnswers (option_map picture_file run.now.board.pictures.finished) (O.meaning out.old) (O.meaning out.new) result }
 {
-    let Some(picture) = vip.board().video().finished() else {
+    let Some(picture) = run.board().video().finished() else {
         return Ok(());
     };
     text.clear();
@@ -62,75 +62,75 @@ fn put_picture<O: Sink>(vip: &Run, text: &mut Buffer, out: &mut O) -> Result<(),
 
 /// Puts what is shown of an event that was just met. It is written over what `text` has.
 fn put_event<O: Sink>(
-    vip: &Run,
+    run: &Run,
     met: &Met,
     shown: Shown,
     text: &mut Buffer,
     out: &mut O,
 ) -> Result<(), Failed>
-    ensures { PieceAnswers (event_piece shown met.now vip.now) (O.meaning out.old) (O.meaning out.new) result }
+    ensures { PieceAnswers (event_piece shown met.now run.now) (O.meaning out.old) (O.meaning out.new) result }
 {
     match (shown, met) {
-        (Shown::Lines { with_time }, Met::Dispatch) => put_line(vip, with_time, text, out),
-        (Shown::Pictures, Met::Picture) => put_picture(vip, text, out),
+        (Shown::Lines { with_time }, Met::Dispatch) => put_line(run, with_time, text, out),
+        (Shown::Pictures, Met::Picture) => put_picture(run, text, out),
         _ => Ok(()),
     }
 }
 
 /// Copies the screen at the dispatch point where the board stands, where it is asked for.
-fn keep_screen(vip: &Run, is_asked: bool, screen: &mut Screen)
-    requires size { length screen.old.items ≡ screen_size vip.now.edition }
-    ensures screen { IsTrue is_asked → screen.new.items ≡ screen_bytes vip.now.edition vip.now.board.machine }
-    ensures size { length screen.new.items ≡ screen_size vip.now.edition }
+fn keep_screen(run: &Run, is_asked: bool, screen: &mut Screen)
+    requires size { length screen.old.items ≡ screen_size run.now.edition }
+    ensures screen { IsTrue is_asked → screen.new.items ≡ screen_bytes run.now.edition run.now.board.machine }
+    ensures size { length screen.new.items ≡ screen_size run.now.edition }
 {
     if is_asked {
-        vip.copy_screen(screen);
+        run.copy_screen(screen);
     }
 }
 
 /// The screen that is told of before any event is met: dark, or that of the dispatch point at which the run starts.
-fn start_screen(vip: &Run) -> Screen
-    requires { IsFresh vip.now }
-    ensures screen { result.items ≡ vip.now.shown }
-    ensures size { length result.items ≡ screen_size vip.now.edition }
+fn start_screen(run: &Run) -> Screen
+    requires { IsFresh run.now }
+    ensures screen { result.items ≡ run.now.shown }
+    ensures size { length result.items ≡ screen_size run.now.edition }
 {
-    let mut screen = dark(vip.edition());
-    if let Some(_) = vip.last_pc() {
-        vip.copy_screen(&mut screen);
+    let mut screen = dark(run.edition());
+    if let Some(_) = run.last_pc() {
+        run.copy_screen(&mut screen);
     }
     screen
 }
 
 /// Runs a machine that begins up to its limit or its stop point, and puts what is shown of each event, each as one piece.
-pub fn run<O: Sink>(
-    vip: &mut Run,
+pub fn put_events<O: Sink>(
+    run: &mut Run,
     limit: u64,
     shown: Shown,
     keeps_screen: bool,
     out: &mut O,
 ) -> Result<Tally, Failed>
-    requires fresh { IsFresh vip.old }
+    requires fresh { IsFresh run.old }
     requires limit { limit ≤ MOST_CYCLE }
-    ensures answer { RunAnswers shown limit vip.old vip.new (O.meaning out.old) (O.meaning out.new) result }
-    ensures screen { IsTrue keeps_screen → IfOk result (λ tally. tally.screen.items ≡ vip.new.shown) }
-    ensures size { IfOk result (λ tally. length tally.screen.items ≡ screen_size vip.new.edition) }
+    ensures answer { RunAnswers shown limit run.old run.new (O.meaning out.old) (O.meaning out.new) result }
+    ensures screen { IsTrue keeps_screen → IfOk result (λ tally. tally.screen.items ≡ run.new.shown) }
+    ensures size { IfOk result (λ tally. length tally.screen.items ≡ screen_size run.new.edition) }
 {
     let mut dispatches = 0u64;
     let mut pictures = 0u64;
-    let mut screen = start_screen(vip);
+    let mut screen = start_screen(run);
     // one for all events, since a new one is filled with 00 each time
     let mut text = Buffer::new();
     loop {
-        let met = vip.advance(limit);
+        let met = run.advance(limit);
         match met {
             Met::Dispatch => {
                 dispatches += 1;
-                keep_screen(vip, keeps_screen, &mut screen);
-                put_event(vip, &met, shown, &mut text, out)?;
+                keep_screen(run, keeps_screen, &mut screen);
+                put_event(run, &met, shown, &mut text, out)?;
             }
             Met::Picture => {
                 pictures += 1;
-                put_event(vip, &met, shown, &mut text, out)?;
+                put_event(run, &met, shown, &mut text, out)?;
             }
             Met::Stopped(stop) => {
                 return Ok(Tally {

@@ -8,7 +8,7 @@ ghost use Rattle.vip_show.specs.Answers.{IsFresh, ShowAnswers, run_summary};
 ghost use Rattle.vip_show.specs.Output.{lit_in_row, lit_in_rows};
 ghost use Rattle.vip_show.specs.Run.{lit_told};
 
-use crate::run::{Shown, run};
+use crate::run::{Shown, put_events};
 use vip_byte::{Buffer, MOST_CYCLE};
 use vip_outside::{Failed, Sink};
 use vip_relation::Run;
@@ -48,12 +48,12 @@ fn lit_pixels(rows: &[u8]) -> u64
 }
 
 /// The lit pixels of the screen at the last dispatch point met, or 0 where none was met.
-fn lit(vip: &Run, screen: &[u8]) -> u64
-    requires bytes { screen.now ≡ vip.now.shown }
-    requires size { length screen.now ≡ screen_size vip.now.edition }
-    ensures { result ≡ lit_told vip.now }
+fn lit(run: &Run, screen: &[u8]) -> u64
+    requires bytes { screen.now ≡ run.now.shown }
+    requires size { length screen.now ≡ screen_size run.now.edition }
+    ensures { result ≡ lit_told run.now }
 {
-    let Some(_) = vip.last_pc() else {
+    let Some(_) = run.last_pc() else {
         return 0;
     };
     lit_pixels(screen)
@@ -62,22 +62,22 @@ fn lit(vip: &Run, screen: &[u8]) -> u64
 /// Runs a machine that begins, and puts a line that sums its run up as that of the demonstration game of a number, as one piece: how many
 /// dispatch points and finished pictures it had, and how many pixels are lit at the last dispatch point.
 pub fn show_summary<O: Sink>(
-    vip: &mut Run,
+    run: &mut Run,
     limit: u64,
     number: u32,
     out: &mut O,
 ) -> Result<RunEnd, Failed>
-    requires fresh { IsFresh vip.old }
+    requires fresh { IsFresh run.old }
     requires limit { limit ≤ MOST_CYCLE }
-    ensures { ShowAnswers vip.old limit (run_summary number vip.old limit) (O.meaning out.old) (O.meaning out.new) result }
+    ensures { ShowAnswers run.old limit (run_summary number run.old limit) (O.meaning out.old) (O.meaning out.new) result }
 {
-    let tally = run(vip, limit, Shown::Nothing, true, out)?;
+    let tally = put_events(run, limit, Shown::Nothing, true, out)?;
     let mut text = Buffer::new();
     summary_text(
         number,
         tally.dispatches,
         tally.pictures,
-        lit(vip, tally.screen.as_slice()),
+        lit(run, tally.screen.as_slice()),
         &mut text,
     );
     out.put(text.as_slice())?;

@@ -11,18 +11,10 @@ use vip_board::Board;
 use vip_byte::{Buffer, put};
 use vip_cpu::Cpu;
 use vip_memory::Memory;
-use vip_relation::{Run, Vip, put_page};
+use vip_relation::{Run, put_page};
 
 /// Writes the file of the machine state of a run into an empty buffer. At a dispatch point it is an accepted file of the run's edition, and shows the
 /// state of the board (`rom_board::saved`).
-pub fn write_state(vip: &Vip, into: &mut Buffer)
-    requires { into.old.items ≡ [] }
-    ensures { into.new.items ≡ file_of vip.now.edition vip.now.board.machine }
-{
-    write_run(vip.as_run(), into);
-}
-
-/// The same of a run alone, which keeps nothing of its dispatch points.
 pub(crate) fn write_run(run: &Run, into: &mut Buffer)
     requires { into.old.items ≡ [] }
     ensures { into.new.items ≡ file_of run.now.edition run.now.board.machine }

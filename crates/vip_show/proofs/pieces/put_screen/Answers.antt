@@ -16,6 +16,6 @@ screen_text-requires-clause-few g c = few _ _ c.requires.size
 pub returns : goal.returns
 returns g c =
     let last = some-viewed _ _ c.in-Some.ensures in
-    piece-put (λ view. screen_lines (pixels_told c.args.vip.now) (rows_of c.args.vip.now.edition)) _ last.view _ _ _ _ last.is
-    (c.as_slice.ensures.value ∙ c.screen_text.ensures ∙ screen-told screen_lines c.args.vip.now.edition _ _ c.requires.bytes c.requires.size)
+    piece-put (λ view. screen_lines (pixels_told c.args.run.now) (rows_of c.args.run.now.edition)) _ last.view _ _ _ _ last.is
+    (c.as_slice.ensures.value ∙ c.screen_text.ensures ∙ screen-told screen_lines c.args.run.now.edition _ _ c.requires.bytes c.requires.size)
     c.put.ensures.answer

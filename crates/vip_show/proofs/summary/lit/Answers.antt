@@ -8,4 +8,4 @@ lit_pixels-requires c = few _ _ c.requires.size
 pub returns : goal.returns
 returns c =
     let last = some-viewed _ _ c.in-Some.ensures in
-    lit-told c.args.vip.now last.view _ _ last.is c.requires.bytes c.requires.size c.lit_pixels.ensures
+    lit-told c.args.run.now last.view _ _ last.is c.requires.bytes c.requires.size c.lit_pixels.ensures

@@ -3,7 +3,7 @@ use Rattle.vip_show.proofs.summary.show_summary.Goals as goal
 
 pub returns-in_err-tally : goal.returns-in_err-tally
 returns-in_err-tally g c =
-    show-fails _ _ _ _ _ _ c.from_residual.ensures.0 (summed-early c.args.number c.args.vip.now c.args.limit _ _ c.in_err-tally.ensures.answer)
+    show-fails _ _ _ _ _ _ c.from_residual.ensures.0 (summed-early c.args.number c.args.run.now c.args.limit _ _ c.in_err-tally.ensures.answer)
 
 pub returns-in_err-put : goal.returns-in_err-put
 returns-in_err-put g c =

@@ -2,7 +2,7 @@ use Rattle.std.proofs.Common.{◌≤◌, ap, sym, ◌∙◌, arith, refl}
 use Rattle.vip_relation.specs.State.{screen_size}
 use Rattle.vip_relation.proofs.Nexts.{at_dispatch, at_picture, at_stop, at_end, fewer-dispatch, fewer-picture}
 use Rattle.vip_show.proofs.Going.{going-first, puts-dispatch, puts-picture, fails-dispatch, fails-picture, run-fails, ran-stop, ran-end, counts-fit, screen-here}
-use Rattle.vip_show.proofs.run.run.Goals as goal
+use Rattle.vip_show.proofs.run.put_events.Goals as goal
 
 pub loop-dispatches-init : goal.loop-dispatches-init
 loop-dispatches-init g c = record {
