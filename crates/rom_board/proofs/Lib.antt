@@ -7,4 +7,7 @@ pub mod Frames
 pub mod Onward
 pub mod Copied
 pub mod Rest
+pub mod Before
+pub mod Agreeing
+pub mod Joined
 pub mod Again

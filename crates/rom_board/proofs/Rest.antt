@@ -20,7 +20,7 @@ use Rattle.rom_run.specs.States.{MayStart}
 use Rattle.vip_relation.specs.Follows.{dispatch_of, last_dispatch}
 use Rattle.chip8_image.specs.Interpreters.{interpreter_of}
 use Rattle.vip_relation.specs.Points.{point_of, point_events}
-use Rattle.vip_relation.specs.State.{most_cycles}
+use Rattle.vip_relation.specs.State.{Start, events_from, first_events, machine_of, most_cycles}
 use Rattle.vip_relation.specs.State.Start.{Reset}
 use Rattle.vip_relation.specs.declared.point.Point.{Point}
 use Rattle.vip_relation.specs.declared.point.Point.TheVariants.{Dispatch as DispatchPoint, Stop as StopPoint, Other as OtherPoint}
@@ -40,7 +40,7 @@ use Rattle.vip_show.proofs.Points.{ending_of_points, lines_of_points, no-stop, o
 -- ---- what is written of events is that of their points
 
 -- the dispatch points among some events
-abbrev dispatches : List Event → List Machine
+abbrev pub dispatches : List Event → List Machine
 dispatches = filter_map dispatch_of
 
 record_of : Edition → Bool → Machine → List (List ℕ)
@@ -59,7 +59,7 @@ unfolding trace_lines
 lines_append e with_time xs ys = flat_map-append (trace_piece e with_time) xs ys
 
 -- the ending behind a dispatch point before which there is no stop
-ending_behind : (e : Edition) (pc : ℕ) (opcode : Option ℕ) (xs : List Event) (b : Machine) (ys : List Event) → NoStop xs
+pub ending_behind : (e : Edition) (pc : ℕ) (opcode : Option ℕ) (xs : List Event) (b : Machine) (ys : List Event) → NoStop xs
     → ending_after e pc opcode (xs ++ Dispatch b ∷ ys) ≡ ending_after e (view_at e b).pc (view_at e b).opcode ys
 unfolding ending_after NoStop
 ending_behind e pc opcode [] b ys none = refl
@@ -81,21 +81,22 @@ is_dispatch_point false false h = cc
 
 -- ---- a run up to a limit
 
-module _ (i : Interpreter) (game : List ℕ) (script : List KeyEvent) where
-  abbrev at_state : ℕ → Machine
-  at_state n = state i (Reset game) script n
+module _ (i : Interpreter) (s : Start) (script : List KeyEvent) (begins : is_stop i (machine_of s) ≡ false)
+    (first : first_events s ≡ point_events (point_of i (machine_of s)) (machine_of s)) where
+  abbrev pub at_state : ℕ → Machine
+  at_state n = state i s script n
 
   -- its last state: the events up to the limit are those of the states up to this one
-  record Reaches (limit : ℕ) : Type 0 where
-    n : ℕ
-    runs : Runs i (Reset game) script n
-    within : (at_state n).cycle ≤ limit
-    events : events_of i game script limit ≡ past i (Reset game) script (suc n)
+  pub record Reaches (limit : ℕ) : Type 0 where
+    pub n : ℕ
+    pub runs : Runs i s script n
+    pub within : (at_state n).cycle ≤ limit
+    pub events : events_from i script s limit ≡ past i s script (suc n)
 
-  reaches : (fuel n limit : ℕ) → Runs i (Reset game) script n → (at_state n).cycle ≤ limit → limit < (at_state n).cycle + fuel → Reaches limit
+  reaches : (fuel n limit : ℕ) → Runs i s script n → (at_state n).cycle ≤ limit → limit < (at_state n).cycle + fuel → Reaches limit
   reaches zero n limit runs within far = absurd (omega (arith, within, far))
   reaches (suc fuel) n limit runs within far =
-      by_stop (λ goes_on next. reaches fuel (suc n) limit (one_more i (Reset game) script n runs goes_on) next (omega (arith, far, later)))
+      by_stop (λ goes_on next. reaches fuel (suc n) limit (one_more i s script n runs goes_on) next (omega (arith, far, later)))
       (is_stop i (at_state n)) refl
     where
       later : (at_state n).cycle < (at_state (suc n)).cycle
@@ -105,64 +106,64 @@ module _ (i : Interpreter) (game : List ℕ) (script : List KeyEvent) where
       by_limit further true h = further (grind (arith, nat_tests))
       by_limit further false h =
           let over : limit < (at_state (suc n)).cycle = grind (arith, nat_tests) in
-          record { n = n; runs = runs; within = within; events = events-last i (Reset game) script limit n within over runs }
+          record { n = n; runs = runs; within = within; events = events-last i s script limit n within over runs }
 
       by_stop : (is_stop i (at_state n) ≡ false → (at_state (suc n)).cycle ≤ limit → Reaches limit) → (t : Bool) → is_stop i (at_state n) ≡ t → Reaches limit
-      by_stop further true h = record { n = n; runs = runs; within = within; events = events-stop i (Reset game) script refl limit n within h runs }
+      by_stop further true h = record { n = n; runs = runs; within = within; events = events-stop i s script begins limit n within h runs }
       by_stop further false h = by_limit (further h) (nat_le (at_state (suc n)).cycle limit) refl
 
-  from_reset : (limit : ℕ) → Reaches limit
-  from_reset limit = reaches (limit + 1) 0 limit (λ k below. absurd (omega (arith, below))) (omega arith) (omega arith)
+  pub from_start : (limit : ℕ) → (machine_of s).cycle ≤ limit → Reaches limit
+  from_start limit within = reaches (limit + 1) 0 limit (λ k below. absurd (omega (arith, below))) within (omega arith)
 
   -- ---- its last dispatch point
 
-  -- a reset is no point
-  point_is : (n : ℕ) → point i (Reset game) script n ≡ point_events (point_of i (at_state n)) (at_state n)
-  point_is zero = refl
+  -- that of the start is known
+  pub point_is : (n : ℕ) → point i s script n ≡ point_events (point_of i (at_state n)) (at_state n)
+  point_is zero = first
   point_is (suc n) = refl
 
   -- the frames whose pictures come at a state
   abbrev frames : ℕ → List ℕ
   frames n =
-      filter (is_shown i.rom (earlier i (Reset game) script n))
-      (numbers_from (windows_ended (cycle_before i (Reset game) script n)) (windows_ended (at_state n).cycle - windows_ended (cycle_before i (Reset game) script n)))
+      filter (is_shown i.rom (earlier i s script n))
+      (numbers_from (windows_ended (cycle_before i s script n)) (windows_ended (at_state n).cycle - windows_ended (cycle_before i s script n)))
 
   no_dispatches : (ms : List ℕ) → dispatches (map Picture ms) ≡ []
   no_dispatches [] = refl
   no_dispatches (m ∷ ms) = no_dispatches ms
 
-  dispatches_next : (n : ℕ) → dispatches (past i (Reset game) script (suc n)) ≡ dispatches (past i (Reset game) script n) ++ dispatches (point i (Reset game) script n)
+  dispatches_next : (n : ℕ) → dispatches (past i s script (suc n)) ≡ dispatches (past i s script n) ++ dispatches (point i s script n)
   unfolding past
   dispatches_next n =
-      filter_map-append dispatch_of (past i (Reset game) script n ++ pictures i (Reset game) script n) (point i (Reset game) script n)
-      ∙ ap (λ bs. bs ++ dispatches (point i (Reset game) script n))
-      (filter_map-append dispatch_of (past i (Reset game) script n) (pictures i (Reset game) script n)
-      ∙ ap (λ none. dispatches (past i (Reset game) script n) ++ none) (no_dispatches (frames n))
-      ∙ append-nil (dispatches (past i (Reset game) script n)))
+      filter_map-append dispatch_of (past i s script n ++ pictures i s script n) (point i s script n)
+      ∙ ap (λ bs. bs ++ dispatches (point i s script n))
+      (filter_map-append dispatch_of (past i s script n) (pictures i s script n)
+      ∙ ap (λ none. dispatches (past i s script n) ++ none) (no_dispatches (frames n))
+      ∙ append-nil (dispatches (past i s script n)))
 
   -- b is the last dispatch point of the first so many states, and that of the n-th state
-  record LastAt (m : ℕ) (b : Machine) : Type 0 where
-    n : ℕ
-    below : n < m
-    is : b ≡ at_state n
-    dispatch : is_dispatch i (at_state n) ≡ true
-    none : dispatches (past i (Reset game) script m) ≡ dispatches (past i (Reset game) script (suc n))
+  pub record LastAt (m : ℕ) (b : Machine) : Type 0 where
+    pub n : ℕ
+    pub below : n < m
+    pub is : b ≡ at_state n
+    pub dispatch : is_dispatch i (at_state n) ≡ true
+    pub none : dispatches (past i s script m) ≡ dispatches (past i s script (suc n))
 
-  past_none : past i (Reset game) script 0 ≡ []
+  past_none : past i s script 0 ≡ []
   unfolding past
   past_none = refl
 
   nowhere : (b : Machine) → last_dispatch [] ≡ Some b → ⊥
   nowhere b h = cc
 
-  last_at : (m : ℕ) (b : Machine) → last_dispatch (past i (Reset game) script m) ≡ Some b → LastAt m b
+  pub last_at : (m : ℕ) (b : Machine) → last_dispatch (past i s script m) ≡ Some b → LastAt m b
   last_at zero b h = absurd (nowhere b (ap last_dispatch (sym past_none) ∙ h))
   last_at (suc m) b h = by_point (last_at m b) (point_of i (at_state m)) refl
     where
-      kept : (last_dispatch (past i (Reset game) script m) ≡ Some b → LastAt m b) → dispatches (point i (Reset game) script m) ≡ [] → LastAt (suc m) b
+      kept : (last_dispatch (past i s script m) ≡ Some b → LastAt m b) → dispatches (point i s script m) ≡ [] → LastAt (suc m) b
       kept earlier_one nothing =
-          let same : dispatches (past i (Reset game) script (suc m)) ≡ dispatches (past i (Reset game) script m) =
-          dispatches_next m ∙ ap (λ bs. dispatches (past i (Reset game) script m) ++ bs) nothing ∙ append-nil (dispatches (past i (Reset game) script m)) in
+          let same : dispatches (past i s script (suc m)) ≡ dispatches (past i s script m) =
+          dispatches_next m ∙ ap (λ bs. dispatches (past i s script m) ++ bs) nothing ∙ append-nil (dispatches (past i s script m)) in
           let l : LastAt m b = earlier_one (ap (λ bs. slice_get bs (length bs - 1)) (sym same) ∙ h) in
           record { n = l.n; below = omega (arith, l.below); is = l.is; dispatch = l.dispatch; none = same ∙ l.none }
 
@@ -170,17 +171,17 @@ module _ (i : Interpreter) (game : List ℕ) (script : List KeyEvent) where
       here h = cc
 
       past_here : point_of i (at_state m) ≡ DispatchPoint
-          → past i (Reset game) script (suc m) ≡ (past i (Reset game) script m ++ pictures i (Reset game) script m) ++ Dispatch (at_state m) ∷ []
+          → past i s script (suc m) ≡ (past i s script m ++ pictures i s script m) ++ Dispatch (at_state m) ∷ []
       past_here is =
-          unfold past in ap (λ ps. past i (Reset game) script m ++ pictures i (Reset game) script m ++ ps)
+          unfold past in ap (λ ps. past i s script m ++ pictures i s script m ++ ps)
           (point_is m ∙ ap (λ p. point_events p (at_state m)) is)
 
-      by_point : (last_dispatch (past i (Reset game) script m) ≡ Some b → LastAt m b) → (p : Point) → point_of i (at_state m) ≡ p → LastAt (suc m) b
+      by_point : (last_dispatch (past i s script m) ≡ Some b → LastAt m b) → (p : Point) → point_of i (at_state m) ≡ p → LastAt (suc m) b
       by_point earlier_one DispatchPoint is =
           record {
             n = m;
             below = omega arith;
-            is = here (sym h ∙ ap last_dispatch (past_here is) ∙ last-dispatched (past i (Reset game) script m ++ pictures i (Reset game) script m) (at_state m));
+            is = here (sym h ∙ ap last_dispatch (past_here is) ∙ last-dispatched (past i s script m ++ pictures i s script m) (at_state m));
             dispatch = is_dispatch_point (is_stop i (at_state m)) (is_dispatch i (at_state m)) is;
             none = refl;
           }
@@ -188,7 +189,7 @@ module _ (i : Interpreter) (game : List ℕ) (script : List KeyEvent) where
       by_point earlier_one OtherPoint is = kept earlier_one (ap dispatches (point_is m) ∙ ap (λ p. dispatches (point_events p (at_state m))) is)
 
   -- the cycles of the states rise
-  not_later : (n m : ℕ) → n < suc m → (at_state n).cycle ≤ (at_state m).cycle
+  pub not_later : (n m : ℕ) → n < suc m → (at_state n).cycle ≤ (at_state m).cycle
   not_later n zero below = let same : n ≡ 0 = omega (arith, below) in rw same (omega arith)
   not_later n (suc m) below = by_test (not_later n m) (nat_le n m) refl
     where
@@ -208,11 +209,11 @@ module _ (e : Edition) (game : List ℕ) (small : length game ≤ memory_size e)
   abbrev i : Interpreter
   i = interpreter_of e
 
-  r : Reaches i game script limit
-  r = from_reset i game script limit
+  r : Reaches i (Reset game) script refl refl limit
+  r = from_start i (Reset game) script refl refl limit (omega arith)
 
-  l : LastAt i game script (suc r.n) b
-  l = last_at i game script (suc r.n) b (ap last_dispatch (sym r.events) ∙ last)
+  l : LastAt i (Reset game) script refl refl (suc r.n) b
+  l = last_at i (Reset game) script refl refl (suc r.n) b (ap last_dispatch (sym r.events) ∙ last)
 
   abbrev c : Machine
   c = state i (Reset game) script l.n
@@ -221,7 +222,7 @@ module _ (e : Edition) (game : List ℕ) (small : length game ≤ memory_size e)
   runs k below = r.runs k (omega (arith, below, l.below))
 
   within : c.cycle ≤ limit
-  within = let early = not_later i game script l.n r.n l.below in omega (arith, early, r.within)
+  within = let early = not_later i (Reset game) script refl refl l.n r.n l.below in omega (arith, early, r.within)
 
   in_time : b.cycle ≤ most_cycles
   in_time = omega (arith, within, low, ap (λ (b : Machine). b.cycle) l.is)
@@ -273,7 +274,7 @@ module _ (e : Edition) (game : List ℕ) (small : length game ≤ memory_size e)
   past_is : past i (Reset game) script (suc l.n) ≡ before ++ Dispatch c ∷ []
   unfolding past
   past_is =
-      ap (λ ps. before ++ ps) (point_is i game script l.n)
+      ap (λ ps. before ++ ps) (point_is i (Reset game) script refl refl l.n)
       ∙ ap (λ p. before ++ point_events p c) (is_point (is_stop i c) (is_dispatch i c) (no-stop i c l.dispatch) l.dispatch)
     where
       is_point : (stop dispatch : Bool) → stop ≡ false → dispatch ≡ true

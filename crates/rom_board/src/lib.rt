@@ -7,7 +7,8 @@
 //! It may rely on the laws in `language`: they hold of every run from reset and from any machine that may start, and of every run of which `Follows`
 //! holds, as it does after every call of `Run` and `Vip`, in both editions. The language is RCA's, as `chip8_lang` defines it; times are this
 //! project's profile. And on those in `saved`: what is saved at a dispatch point of a run is an accepted file, which shows the state of the board; a
-//! run from any accepted file is a run of CHIP-8, and goes on with the game's run where the file was saved there.
+//! run from any accepted file is a run of CHIP-8; and what is saved of a run, from a reset or from a saved state, goes on with it: the run is joined
+//! there of the two, with its pictures.
 //!
 //! And it may rely on the contracts of `one_move` and `run_tick` and on the laws in `laws`: a move is the board's own, and where what is known of a
 //! running interpreter holds before it, it holds behind it, with the record of what came since the last dispatch point carried on; a run of the

@@ -1,6 +1,6 @@
 //! What is proved of accepted files and of those that are written, each law the contract of a function without parameters.
 
-ghost use Rattle.rom_board.specs.Saved.{EveryFile, RunsAsChip8, GoesOnWithRun, SavedGoesOn, WritesTheSame};
+ghost use Rattle.rom_board.specs.Saved.{EveryFile, RunsAsChip8, GoesOnWithRun, SavedGoesOn, SavedJoins, WritesTheSame};
 
 /// The file of a dispatch point at which a run stands, with the bytes of `specs/Written.antt` of `vip_show`, is an accepted one of the run's edition,
 /// and shows the state of the board.
@@ -25,6 +25,13 @@ pub fn goes_on_with_run()
 /// two runs end in the same way.
 pub fn saved_goes_on()
     ensures { SavedGoesOn }
+{}
+
+/// What is saved of a run, from a reset or from a saved state, is an accepted file, which shows the machine state at the run's last dispatch point, in
+/// some cycle. Under every script that holds the same keys before that cycle, up to every limit from it on, the run is that up to the cycle followed by
+/// that from the file: all events, with the bytes of the pictures. It ends as that from the file does, and the file that is saved of it is the same.
+pub fn saved_joins()
+    ensures { SavedJoins }
 {}
 
 /// The state that an accepted file shows, saved again, gives the same bytes.
