@@ -16,9 +16,9 @@ use Rattle.rom_law.proofs.Places.{addresses_length}
 use Rattle.rom_run.specs.States.{MayStart}
 use Rattle.rom_run.proofs.Starts.{dispatch_starts}
 use Rattle.vip_cpu.specs.Bit.{bit}
-use Rattle.vip_relation.specs.Follows.{Fits, Follows}
+use Rattle.vip_relation.specs.Follows.{Fits}
 use Rattle.chip8_image.specs.Interpreters.{interpreter_of}
-use Rattle.vip_relation.specs.State.{Start, VipState, most_cycles, interpreter, machine_of}
+use Rattle.vip_relation.specs.State.{Start, most_cycles, machine_of}
 use Rattle.vip_relation.proofs.Past.{state, Runs}
 use Rattle.vip_text.specs.StateFile.{shown, bank_in, regs_in, cycle_in, word_at, file_size, head, edition_byte, IsAccepted, IsCycle}
 use Rattle.vip_show.specs.Written.{file_of, head_of}
@@ -179,8 +179,3 @@ starts_by Usual s script n fits runs dispatch =
 starts_by Tall s script n fits runs dispatch =
     dispatch_starts Tall script (machine_of s) (beginning Tall s fits) n
     (one_more (interpreter_of Tall) s script n runs (no-stop (interpreter_of Tall) (state (interpreter_of Tall) s script n) dispatch)) dispatch
-
-pub saved-starts : (v : VipState) → Follows v → is_dispatch (interpreter v) v.board.machine ≡ true → MayStart v.edition v.board.machine
-saved-starts v f dispatch =
-    subst (MayStart v.edition) (sym f.machine)
-    (starts_by v.edition v.start v.board.script v.moves f.fits f.runs (ap (is_dispatch (interpreter v)) (sym f.machine) ∙ dispatch))

@@ -152,11 +152,11 @@ module _ (e : Edition) (s : Start) (script : List KeyEvent) (n : ℕ) (runs : Ru
   abbrev next : Machine
   next = move i.rom (held_at script) b
 
-  later : b.cycle ≤ next.cycle
-  later = omega (arith, later-move i.rom (held_at script) b)
+  in_turn : b.cycle ≤ next.cycle
+  in_turn = omega (arith, later-move i.rom (held_at script) b)
 
   from_tail : From b.cycle tail
-  from_tail = from-run i.rom (held_at script) b.cycle limit next later
+  from_tail = from-run i.rom (held_at script) b.cycle limit next in_turn
 
   ended_by : Before i.rom b.cycle (earlier i s script n)
   ended_by = before-states i.rom (held_at script) b.cycle n (machine_of s) (omega arith)
@@ -199,7 +199,7 @@ module _ (e : Edition) (s : Start) (script : List KeyEvent) (n : ℕ) (runs : Ru
       ∙ ap (λ ps. ps ++ pieces (run limit) behind)
       (ap (λ bs. pieces bs up_to) cut_behind
       ∙ pieces-early i.rom next.cycle (run b.cycle) tail (later-run i.rom (held_at script) limit next) up_to
-      (early-more b.cycle next.cycle later up_to (early-past i s script n (suc n) (omega arith)))
+      (early-more b.cycle next.cycle in_turn up_to (early-past i s script n (suc n) (omega arith)))
       ∙ ap (pieces (run b.cycle)) (sym up_to_is))
       ∙ ap (λ ps. pieces (run b.cycle) (events_from i script s b.cycle) ++ ps)
       (ap (λ bs. pieces bs behind) cut_before

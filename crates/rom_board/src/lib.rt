@@ -4,11 +4,11 @@
 //! contract alone, on the run as its callers see it (`vip_relation`), of which only the events of the defined run are known, on the laws of the ROM
 //! in `rom_run`, and, for saved states, on `vip_show`, which says what is written of a run. The layer above needs no law of the ROM.
 //!
-//! It may rely on the laws in `language`: they hold of every run from reset and from any machine that may start, and of every run of which `Follows`
-//! holds, as it does after every call of `Run` and `Vip`, in both editions. The language is RCA's, as `chip8_lang` defines it; times are this
-//! project's profile. And on those in `saved`: what is saved at a dispatch point of a run is an accepted file, which shows the state of the board; a
-//! run from any accepted file is a run of CHIP-8; and what is saved of a run, from a reset or from a saved state, goes on with it: the run is joined
-//! there of the two, with its pictures.
+//! It may rely on the laws in `language`: they hold of every run from reset and from any machine that may start, as that of an accepted file may, and
+//! of every run of which `Follows` holds, as it does after every call of `Run` and `Vip`, in both editions. The language is RCA's, as `chip8_lang`
+//! defines it; times are this project's profile. And on those in `saved`: what is saved of a run, from a reset or from a saved state, is an accepted
+//! file, which shows the machine state at the run's last dispatch point, and the run from it goes on with the other: joined there, the two are the run
+//! in one go, with its pictures. The state that an accepted file shows, saved again, gives the same bytes.
 //!
 //! And it may rely on the contracts of `one_move` and `run_tick` and on the laws in `laws`: a move is the board's own, and where what is known of a
 //! running interpreter holds before it, it holds behind it, with the record of what came since the last dispatch point carried on; a run of the

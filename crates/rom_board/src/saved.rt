@@ -1,24 +1,6 @@
 //! What is proved of accepted files and of those that are written, each law the contract of a function without parameters.
 
-ghost use Rattle.rom_board.specs.Saved.{EveryFile, RunsAsChip8, GoesOnWithRun, SavedGoesOn, SavedJoins, WritesTheSame};
-
-/// The file of a dispatch point at which a run stands, with the bytes of `specs/Written.antt` of `vip_show`, is an accepted one of the run's edition,
-/// and shows the state of the board.
-pub fn every_file()
-    ensures { EveryFile }
-{}
-
-/// The events of the run from any accepted file, under every script and up to every limit, are a run of CHIP-8 from the file's language state on; and
-/// its points are those behind the file's state.
-pub fn runs_as_chip8()
-    ensures { RunsAsChip8 }
-{}
-
-/// A file that shows a dispatch point of a game's run goes on with that run: under the same script, up to every limit behind it, the points of the
-/// game's run are those up to the dispatch point, followed by those of the run from the file.
-pub fn goes_on_with_run()
-    ensures { GoesOnWithRun }
-{}
+ghost use Rattle.rom_board.specs.Saved.{SavedGoesOn, SavedJoins, WritesTheSame};
 
 /// What is saved of a game's run up to a limit is an accepted file, which shows the machine state at the last dispatch point up to there. Under the same
 /// script, up to every later limit, the records of the game's run are those up to the first limit, followed by those of the run from the file; and the
