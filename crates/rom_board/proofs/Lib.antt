@@ -11,3 +11,6 @@ pub mod Before
 pub mod Agreeing
 pub mod Joined
 pub mod Again
+pub mod LeastBounds
+pub mod LeastKeys
+pub mod LeastRuns

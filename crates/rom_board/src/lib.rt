@@ -8,7 +8,8 @@
 //! of every run of which `Follows` holds, as it does after every call of `Run` and `Vip`, in both editions. The language is RCA's, as `chip8_lang`
 //! defines it; times are this project's profile. And on those in `saved`: what is saved of a run, from a reset or from a saved state, is an accepted
 //! file, which shows the machine state at the run's last dispatch point, and the run from it goes on with the other: joined there, the two are the run
-//! in one go, with its pictures. The state that an accepted file shows, saved again, gives the same bytes.
+//! in one go, with its pictures. The state that an accepted file shows, saved again, gives the same bytes. And on that in `bounds`, which has the least
+//! bounds of the language's time.
 //!
 //! And it may rely on the contracts of `one_move` and `run_tick` and on the laws in `laws`: a move is the board's own, and where what is known of a
 //! running interpreter holds before it, it holds behind it, with the record of what came since the last dispatch point carried on; a run of the
@@ -29,6 +30,7 @@ ghost use Rattle.rom_board.specs.Ticks.{moved_times, most_tick_cycles, StartsTic
 
 use vip_board::{Board, Moved};
 
+pub mod bounds;
 pub mod language;
 pub mod laws;
 pub mod saved;
