@@ -1,8 +1,9 @@
 -- What the debugger's commands write of a run is what they write of its transcript.
-use Rattle.std.proofs.Common.{◌≡◌, ◌⊎◌, inl, inr, ℕ, zero, suc, ◌+◌, ◌-◌, ◌*◌, ◌/◌, ◌%◌, ◌<◌, ◌≤◌, Bool, true, false, cond, List, [], ◌∷◌, ◌++◌, length, filter, map, take, drop, replicate, Option, Some, None, slice_get, slice_index, refl, sym, ap, subst, ◌∙◌, arith}
-use Rattle.std.specs.Prelude.{◌==◌, ◌&&◌, if◌then◌else◌, nat_lt, find, filter_map, codes}
+use Rattle.std.proofs.Common.{◌≡◌, ◌⊎◌, inl, inr, ℕ, zero, suc, ◌+◌, ◌-◌, ◌*◌, ◌/◌, ◌%◌, ◌<◌, ◌≤◌, Bool, true, false, cond, List, [], ◌∷◌, ◌++◌, length, filter, map, drop, replicate, Option, Some, None, slice_get, slice_index, refl, sym, ap, subst, ◌∙◌, arith}
+use Rattle.std.specs.Prelude.{◌==◌, ◌&&◌, if◌then◌else◌, nat_le, nat_lt, max, min, find, filter_map, codes}
 use Rattle.std.specs.Option.{option_map, option_map_or}
-use Rattle.std.proofs.lemmas.Bool.{eqb-true}
+use Rattle.std.proofs.lemmas.Bool.{cases_lt, le-leb, lt-leb, ne_eqb}
+use Rattle.std.proofs.lemmas.List.{take_all}
 use Rattle.std.proofs.lemmas.List.Folds.{find_at}
 use Rattle.std.proofs.lemmas.Nat.Bits.{bit_at-zero}
 use Rattle.std.proofs.lemmas.Option.{slice_get-map}
@@ -17,16 +18,18 @@ use Rattle.chip8_lang.specs.Events.Event.{Picture, Dispatch, Stopped}
 use Rattle.chip8_lang.specs.Places.{Interpreter, pixels, state_of}
 use Rattle.chip8_lang.specs.Screen.{empty, is_set}
 use Rattle.chip8_lang.specs.View.{view_at}
+use Rattle.rom_law.specs.Language.{end_cycle}
 use Rattle.vip_byte.specs.Text.{newline}
-use Rattle.vip_relation.specs.Follows.{dispatch_of, last_dispatch}
+use Rattle.vip_relation.specs.Follows.{last_dispatch}
 use Rattle.chip8_image.specs.Interpreters.{interpreter_of}
 use Rattle.vip_relation.specs.Points.{point_events}
 use Rattle.vip_relation.specs.declared.point.Point.TheVariants.{Dispatch as DispatchPoint, Stop as StopPoint, Other as OtherPoint}
 use Rattle.vip_relation.specs.State.Start.{Reset}
 use Rattle.vip_relation.specs.State.{VipState, events_to, screen_bytes, screen_size, started}
 use Rattle.vip_board.proofs.Along.{in-turn}
-use Rattle.vip_relation.proofs.Past.{state, earlier, before, past, pictures, point, goes}
-use Rattle.rom_board.proofs.Passed.{NoStop, no_stop_append, no_stop_before, other_point, with_point, before_point}
+use Rattle.vip_relation.proofs.Past.{state, earlier, before, past, past-first, pictures, point}
+use Rattle.vip_relation.proofs.Waits.{earlier-at}
+use Rattle.rom_board.proofs.Passed.{NoStop, before_point, events_to_stop, no_stop_append, no_stop_before, other_point, with_point}
 use Rattle.vip_text.specs.Endings.{Ending}
 use Rattle.vip_text.specs.Endings.Ending.{AtLimit}
 use Rattle.vip_text.specs.Screens.{screen_lines}
@@ -34,22 +37,27 @@ use Rattle.vip_text.specs.Traces.{trace_line}
 use Rattle.vip_show.specs.Endings.{ending_after}
 use Rattle.vip_words.specs.declared.debug_commands.Command.{Command}
 use Rattle.vip_words.specs.declared.debug_commands.Command.TheVariants as command
+use Rattle.vip_words.specs.declared.debug_commands.Running.{Running}
+use Rattle.vip_words.specs.declared.debug_commands.Running.TheVariants.{At, Step, To, Watch}
+use Rattle.vip_words.specs.declared.debug_commands.Seeking.{Seeking}
 use Rattle.vip_words.specs.declared.debug_commands.Seeking.TheVariants.{Next, Break}
 use Rattle.vip_words.specs.declared.debug_commands.Telling.TheVariants.{State, Screen}
-use Rattle.vip_debug.proofs.TargetRuns.{Reached, all-moves, last-here, until}
-use Rattle.vip_debug.specs.Answers.{Place, at_point, at_start, events_by, has_pc, met_at, moves_until, place_with, points_ahead, lines_at, seeking_lines, stop_by, stop_text, told, written}
+use Rattle.vip_debug.proofs.TargetRuns.{Reached, all-moves, last-here, until, until-from, until-past}
+use Rattle.vip_debug.specs.Answers.{Arrival, Place, all_met, at_point, at_start, events_by, has_pc, lines_at, met_at, moved_on, moves_until, place_after, place_with, points_ahead, ran, running_lines, seeking_lines, sought, stop_by, stop_text, written}
 use Rattle.vip_debug.specs.Answers.{pieces as pieces_of}
+use Rattle.vip_debug.specs.Commands.{came}
 use Rattle.vip_debug.specs.Game.{run_at}
+use Rattle.vip_debug.specs.TargetRun as run
 use Rattle.vip_debug.proofs.Reaching.{all_past, at_begin, last_until, with_one}
-use Rattle.vip_verbs.specs.Outcome.{run_ending}
-use Rattle.vip_call.specs.Transcript.{Point, AllAnswered, Answers, Names, end_line, line, screen}
+use Rattle.vip_verbs.specs.Outcome.{debug_ending, ending_where, run_ending, stopped_by}
+use Rattle.vip_call.specs.Commands.{AllAnswered, Answers, NamesStop, ahead, found_line, last_met, place_at, screen_text, state_text, stops_by}
+use Rattle.vip_call.specs.Commands.{sought as sought_point}
+use Rattle.vip_call.specs.Transcript.{Point, end_line, last_point, line}
 use Rattle.vip_call.proofs.DebugLemmas.{stop_is}
-use Rattle.vip_call.proofs.TranscriptLemmas.{point_of, points_of}
+use Rattle.vip_call.proofs.MetLemmas.{ahead_is, dispatches, met_is, more_moves, next_over, reached_few, within_limit}
+use Rattle.vip_call.proofs.TranscriptLemmas.{last_is_last, point_of, points_of}
 
 -- ---- dispatch points among some events
-
-abbrev dispatches : List Event → List Machine
-dispatches es = filter_map dispatch_of es
 
 -- the machine b is one of these
 record Among (b : Machine) (bs : List Machine) : Type 0 where
@@ -62,21 +70,6 @@ dropped b (suc m) j [] there = cc
 dropped b (suc m) j (Picture k ∷ es) there = dropped b m j es there
 dropped b (suc m) j (Dispatch c ∷ es) there = let a = dropped b m j es there in record { place = suc a.place; there = a.there }
 dropped b (suc m) j (Stopped c ∷ es) there = dropped b m j es there
-
-taken : (b : Machine) (m j : ℕ) (es : List Event) → slice_get (dispatches (take m es)) j ≡ Some b → Among b (dispatches es)
-taken b zero j es there = cc
-taken b (suc m) j [] there = cc
-taken b (suc m) j (Picture k ∷ es) there = taken b m j es there
-taken b (suc m) zero (Dispatch c ∷ es) there = record { place = 0; there = there }
-taken b (suc m) (suc j) (Dispatch c ∷ es) there = let a = taken b m j es there in record { place = suc a.place; there = a.there }
-taken b (suc m) j (Stopped c ∷ es) there = taken b m j es there
-
-longer : (b : Machine) (j : ℕ) (xs ys : List Event) → slice_get (dispatches xs) j ≡ Some b → Among b (dispatches (xs ++ ys))
-longer b j [] ys there = cc
-longer b j (Picture k ∷ xs) ys there = longer b j xs ys there
-longer b zero (Dispatch c ∷ xs) ys there = record { place = 0; there = there }
-longer b (suc j) (Dispatch c ∷ xs) ys there = let a = longer b j xs ys there in record { place = suc a.place; there = a.there }
-longer b j (Stopped c ∷ xs) ys there = longer b j xs ys there
 
 -- it is in the one list or in the other
 one_of_both : (b : Machine) (j : ℕ) (xs ys : List Event) → slice_get (dispatches (xs ++ ys)) j ≡ Some b → Among b (dispatches xs) ⊎ Among b (dispatches ys)
@@ -94,13 +87,37 @@ no_dispatch : (ms : List ℕ) → dispatches (map Picture ms) ≡ []
 no_dispatch [] = refl
 no_dispatch (m ∷ ms) = no_dispatch ms
 
-found_passes : (test : Machine → Bool) (b : Machine) (bs : List Machine) → find test bs ≡ Some b → test b ≡ true
-found_passes test b [] is = cc
-found_passes test b (c ∷ bs) is = by_test (test c) refl is (found_passes test b bs)
+-- ---- lists
+
+filter_points : (e : Edition) (test : Point → Bool) (bs : List Machine) → filter test (map (point_of e) bs) ≡ map (point_of e) (filter (λ b. test (point_of e b)) bs)
+filter_points e test [] = refl
+filter_points e test (b ∷ bs) = by_test (test (point_of e b)) (filter_points e test bs)
   where
-    by_test : (t : Bool) → test c ≡ t → cond t (Some c) (find test bs) ≡ Some b → (find test bs ≡ Some b → test b ≡ true) → test b ≡ true
-    by_test true pass same others = let e : c ≡ b = cc in ap test (sym e) ∙ pass
-    by_test false fail same others = others same
+    by_test :
+        (keep : Bool) → filter test (map (point_of e) bs) ≡ map (point_of e) (filter (λ c. test (point_of e c)) bs)
+        → cond keep (point_of e b ∷ filter test (map (point_of e) bs)) (filter test (map (point_of e) bs))
+        ≡ map (point_of e) (cond keep (b ∷ filter (λ c. test (point_of e c)) bs) (filter (λ c. test (point_of e c)) bs))
+    by_test true others = ap (λ ps. point_of e b ∷ ps) others
+    by_test false others = others
+
+find_point : (e : Edition) (test : Point → Bool) (bs : List Machine) → find test (map (point_of e) bs) ≡ option_map (point_of e) (find (λ b. test (point_of e b)) bs)
+find_point e test [] = refl
+find_point e test (b ∷ bs) = by_test (test (point_of e b)) (find_point e test bs)
+  where
+    by_test :
+        (found : Bool) → find test (map (point_of e) bs) ≡ option_map (point_of e) (find (λ c. test (point_of e c)) bs)
+        → cond found (Some (point_of e b)) (find test (map (point_of e) bs))
+        ≡ option_map (point_of e) (cond found (Some b) (find (λ c. test (point_of e c)) bs))
+    by_test true others = refl
+    by_test false others = others
+
+-- the stop is the last of some events, in whose cycle the run is over
+over_at : (limit : ℕ) (es : List Event) (b : Machine) → NoStop es → end_cycle limit (es ++ Stopped b ∷ []) ≡ b.cycle
+unfolding NoStop
+over_at limit [] b none = refl
+over_at limit (Picture m ∷ es) b none = over_at limit es b none
+over_at limit (Dispatch c ∷ es) b none = over_at limit es b none
+over_at limit (Stopped c ∷ es) b none = absurd none
 
 -- no stop point, no other end than the limit
 ends_at_limit : (e : Edition) (pc : ℕ) (opcode : Option ℕ) (es : List Event) → NoStop es → ending_after e pc opcode es ≡ AtLimit
@@ -215,9 +232,6 @@ module _ (e : Edition) (game : List ℕ) (script : List KeyEvent) (limit : ℕ) 
         last-here (run_at v 0) (at_state n).cycle n (omega arith) (later-move i.rom (held_at script) (at_state n)),
       )
 
-  lower : (n k : ℕ) → k ≤ n → ReachedInTime n → (j : ℕ) → j < k → is_stop i (at_state j) ≡ false
-  lower n k l r j m = r.runs j (omega (arith, l, m))
-
   -- a dispatch point of the run is the state at which the board stands when it has come to it
   record Found (b : Machine) : Type 0 where
     there : at_state (moves_until v b.cycle) ≡ b
@@ -241,127 +255,331 @@ module _ (e : Edition) (game : List ℕ) (script : List KeyEvent) (limit : ℕ) 
       same : moves_until v b.cycle ≡ s.k
       same = ap (λ (z : Machine). moves_until v z.cycle) s.is ∙ until_is s.k here
 
-  -- ---- the lines of points
+  -- a run that doesn't stop ends at its limit
+  runs_out : is_stop i (at_state end) ≡ false → ending ≡ AtLimit
+  runs_out runs = ends_at_limit e 0 None events (subst NoStop (sym (all_past e game script limit)) none)
+    where
+      none : NoStop (past_of (suc end))
+      none =
+          subst NoStop (sym (with_point i (Reset game) script end))
+          (no_stop_append (before_point i (Reset game) script end) (point i (Reset game) script end)
+          (no_stop_before i (Reset game) script end (last_until e game script limit).runs) (other_point i (Reset game) script end runs))
 
-  tells :
-      (text : Point → List ℕ) (Is : Point → Type 0) (b : Machine) (pieces : List (List ℕ)) → Among b (dispatches events) → Is (point_of e b)
-      → pieces ≡ text (point_of e b) ∷ [] → Names e points text Is pieces
-  tells text Is b pieces a is same =
-      record {
-        place = a.place;
-        point = point_of e b;
-        there = slice_get-map (point_of e) (dispatches events) a.place ∙ ap (option_map (point_of e)) a.there;
-        is = is;
-        written = same;
-      }
+  -- ---- the stop
+
+  abbrev over : ℕ
+  over = end_cycle limit events
+
+  -- the board stands so where every event up to a cycle is met
+  abbrev place : ℕ → Place
+  place t = all_met v (moves_until v t)
+
+  -- the board is at a stop point exactly where the run's stop has come
+  module _ (t : ℕ) (order : t ≤ limit) where
+    abbrev made : ℕ
+    made = moves_until v t
+
+    stops_at : is_stop i (at_state made) ≡ stops_by e limit points ending over ending t
+    stops_at = by_test (is_stop i (at_state end)) refl
+      where
+        last : ReachedInTime end
+        last = last_until e game script limit
+
+        few : made ≤ end
+        few = more_moves e game script t limit order
+
+        running : is_stop i (at_state end) ≡ false → (made < end) ⊎ (end ≤ made) → is_stop i (at_state made) ≡ false
+        running runs (inl less) = last.runs made less
+        running runs (inr more) = let same : made ≡ end = omega (arith, few, more) in ap (λ k. is_stop i (at_state k)) same ∙ runs
+
+        over_is : is_stop i (at_state end) ≡ true → over ≡ (at_state end).cycle
+        over_is stop =
+            ap (end_cycle limit) (events_to_stop i (Reset game) script refl limit end last.within stop last.runs)
+            ∙ over_at limit (before_point i (Reset game) script end) (at_state end) (no_stop_before i (Reset game) script end last.runs)
+
+        earlier : is_stop i (at_state end) ≡ true → t < over → (made < end) ⊎ (end ≤ made) → is_stop i (at_state made) ≡ false
+        earlier stop before (inl less) = last.runs made less
+        earlier stop before (inr more) =
+            let same : made ≡ end = omega (arith, few, more) in
+            absurd (omega (arith, before, over_is stop, (last_until e game script t).within, ap (λ k. (at_state k).cycle) same))
+
+        stopped : is_stop i (at_state end) ≡ true → (t < over) ⊎ (over ≤ t) → is_stop i (at_state made) ≡ nat_le over t
+        stopped stop (inl before) = earlier stop before (cases_lt made end) ∙ sym (lt-leb over t before)
+        stopped stop (inr behind) =
+            let all = reached_few e game script t end (record { within = omega (arith, behind, over_is stop); runs = last.runs }) in
+            let same : made ≡ end = omega (arith, few, all) in
+            ap (λ k. is_stop i (at_state k)) same ∙ stop ∙ sym (le-leb over t behind)
+
+        by_test : (stop : Bool) → is_stop i (at_state end) ≡ stop → is_stop i (at_state made) ≡ stops_by e limit points ending over ending t
+        by_test true stop =
+            stopped stop (cases_lt t over)
+            ∙ ap (λ z. stops_by e limit points ending over z t) (stop_is e game script limit end last stop)
+        by_test false runs =
+            running runs (cases_lt made end)
+            ∙ ap (λ z. stops_by e limit points ending over z t) (sym (runs_out runs))
+
+    -- so its stop is the run's
+    ends_as : ending_where v made ≡ (if stops_by e limit points ending over ending t then ending else AtLimit)
+    ends_as = by_test (is_stop i (at_state made)) refl
+      where
+        reached_here : ReachedInTime made
+        reached_here = let h = last_until e game script t in record { within = omega (arith, order, h.within); runs = h.runs }
+
+        by_test : (stop : Bool) → is_stop i (at_state made) ≡ stop → ending_where v made ≡ (if stops_by e limit points ending over ending t then ending else AtLimit)
+        by_test true stop =
+            ap (λ s. if s then stopped_by (stop_by v made) else AtLimit) stop
+            ∙ stop_is e game script limit made reached_here stop
+            ∙ ap (λ s. if s then ending else AtLimit) (sym stop ∙ stops_at)
+        by_test false runs =
+            ap (λ s. if s then stopped_by (stop_by v made) else AtLimit) runs
+            ∙ ap (λ s. if s then ending else AtLimit) (sym runs ∙ stops_at)
+
+    -- and that is the line that is written there
+    names_stop : (a : Arrival) (lines : List (List ℕ)) → a.place.moves ≡ made → NamesStop e limit points ending over t (lines_at v a lines)
+    unfolding lines_at
+    names_stop a lines is stop =
+        ap (λ s. if s then stop_text (stop_by v a.place.moves) ∷ [] else if a.completed then lines else (codes "end" ++ newline) ∷ []) stopped
+        ∙ ap (λ z. end_line z ∷ []) (ap (λ k. stopped_by (stop_by v k)) is ∙ stop_is e game script limit made reached_here (stops_at ∙ stop))
+      where
+        reached_here : ReachedInTime made
+        reached_here = let h = last_until e game script t in record { within = omega (arith, order, h.within); runs = h.runs }
+
+        stopped : is_stop i (at_state a.place.moves) ≡ true
+        stopped = ap (λ k. is_stop i (at_state k)) is ∙ stops_at ∙ stop
+
+    -- ---- what is met, and what is ahead
+
+    -- the events that are met there are those up to the cycle
+    by_is : events_by v made ≡ events_to v t
+    by_is =
+        all_past e game script (at_state made).cycle
+        ∙ ap (λ k. past_of (suc k)) (until_is made (let h = last_until e game script t in record { within = omega (arith, order, h.within); runs = h.runs }))
+        ∙ sym (all_past e game script t)
+
+    met_here : met_at v (place t) ≡ events_to v t
+    met_here = take_all (length (events_by v made)) (events_by v made) (omega arith) ∙ by_is
+
+    last_is : last_met e limit points ending over t ≡ option_map (point_of e) (last_dispatch (met_at v (place t)))
+    last_is =
+        ap last_point (filter_points e (λ p. nat_le p.cycle t) (dispatches events))
+        ∙ ap (λ bs. last_point (map (point_of e) bs)) (sym (met_is e game script limit t order))
+        ∙ last_is_last e (events_to v t)
+        ∙ ap (λ es. option_map (point_of e) (last_dispatch es)) (sym met_here)
+
+    ahead_here : ahead e limit points ending over t ≡ map (point_of e) (points_ahead v limit (place t))
+    ahead_here =
+        filter_points e (λ p. nat_lt t p.cycle) (dispatches events)
+        ∙ ap (map (point_of e))
+        (sym (ahead_is e game script limit t order) ∙ ap (λ es. dispatches (drop (length es) events)) (sym by_is))
+
+  -- ---- a command
+
+  -- the board comes from the place of one cycle to that of another, and what is written is what the points say
+  record Comes (c : Command) (t : ℕ) : Type 0 where
+    to : ℕ
+    within : to ≤ limit
+    is : place_with v limit c (place t) ≡ place to
+    answers : Answers e limit points ending over c t to (pieces_of v limit c (place t))
 
   -- a command that looks for a dispatch point
-  sought_found : (b : Machine) → Among b (dispatches events) → seeking_lines v (at_point v limit (Some b)) ≡ line e points false (point_of e b) ∷ []
+  found_here : (b : Machine) → Among b (dispatches events) → seeking_lines v (at_point v limit (Some b)) ≡ line e false (point_of e b) ∷ []
   unfolding lines_at view_at
-  sought_found b a =
+  found_here b a =
       let f = found b a in
       ap (λ stop. if stop then stop_text (stop_by v (moves_until v b.cycle)) ∷ [] else trace_line false (view_at e (at_state (moves_until v b.cycle)))
       ∷ []) f.runs
       ∙ ap (λ (c : Machine). trace_line false (view_at e c) ∷ []) f.there
 
   -- or to the end of the run
-  sought_end : seeking_lines v (at_point v limit None) ≡ end_line e points ending ∷ []
+  end_here : seeking_lines v (at_point v limit None) ≡ end_line ending ∷ []
   unfolding lines_at
-  sought_end = by_test (is_stop i (at_state end)) refl
+  end_here = by_test (is_stop i (at_state end)) refl
     where
-      r : ReachedInTime end
-      r = last_until e game script limit
-
-      none : is_stop i (at_state end) ≡ false → NoStop (past_of (suc end))
-      none runs =
-          subst NoStop (sym (with_point i (Reset game) script end))
-          (no_stop_append (before_point i (Reset game) script end) (point i (Reset game) script end)
-          (no_stop_before i (Reset game) script end r.runs) (other_point i (Reset game) script end runs))
-
-      by_test : (stop : Bool) → is_stop i (at_state end) ≡ stop → seeking_lines v (at_point v limit None) ≡ end_line e points ending ∷ []
+      by_test : (stop : Bool) → is_stop i (at_state end) ≡ stop → seeking_lines v (at_point v limit None) ≡ end_line ending ∷ []
       by_test true stop =
           ap (λ t. if t then stop_text (stop_by v end) ∷ [] else (codes "end" ++ newline) ∷ []) stop
-          ∙ ap (λ z. end_line e points z ∷ []) (stop_is e game script limit end r stop)
+          ∙ ap (λ z. end_line z ∷ []) (stop_is e game script limit end (last_until e game script limit) stop)
       by_test false runs =
           ap (λ t. if t then stop_text (stop_by v end) ∷ [] else (codes "end" ++ newline) ∷ []) runs
-          ∙ ap (λ z. end_line e points z ∷ []) (sym (ends_at_limit e 0 None events (subst NoStop (sym (all_past e game script limit)) (none runs))))
+          ∙ ap (λ z. end_line z ∷ []) (sym (runs_out runs))
 
-  seeks :
-      (Is : Point → Type 0) (p : Place) (j : ℕ) (to : Option Machine) → to ≡ slice_get (points_ahead v limit p) j
-      → ((b : Machine) → to ≡ Some b → Is (point_of e b))
-      → Names e points (line e points false) Is (seeking_lines v (at_point v limit to))
-      ⊎ (seeking_lines v (at_point v limit to) ≡ end_line e points ending ∷ [])
-  seeks Is p j None at is = inr sought_end
-  seeks Is p j (Some b) at is =
-      let a = dropped b p.met j events (sym at) in
-      inl (tells (line e points false) Is b _ a (is b refl) (sought_found b a))
+  module _ (t : ℕ) (order : t ≤ limit) where
+    seeks :
+        (seeking : Seeking) (j : ℕ) (to : Option Machine) → (sought v limit seeking (place t)) ≡ at_point v limit to
+        → to ≡ slice_get (points_ahead v limit (place t)) j
+        → sought_point e limit points ending over seeking t ≡ option_map (point_of e) to → Comes (command.Seeks seeking) t
+    seeks seeking j None goes at is = record {
+      to = limit;
+      within = omega arith;
+      is = ap (λ (a : Arrival). a.place) goes;
+      answers =
+          subst
+          (λ p. (limit ≡ place_at e limit points ending over t p) × (seeking_lines v (sought v limit seeking (place t)) ≡ found_line e limit points ending over p ∷ []))
+          (sym is) (omega (arith, order), ap (seeking_lines v) goes ∙ end_here);
+    }
+    seeks seeking j (Some b) goes at is =
+        let a : Among b (dispatches events) = dropped b (length (events_by v (moves_until v t))) j events (sym at) in
+        record {
+          to = b.cycle;
+          within = omega (arith, earlier-at (limit + 1) events (within_limit e game script limit) a.place b a.there);
+          is = ap (λ (a : Arrival). a.place) goes;
+          answers =
+              subst
+              (λ p. (b.cycle ≡ place_at e limit points ending over t p) × (seeking_lines v (sought v limit seeking (place t)) ≡ found_line e limit points ending over p ∷ []))
+              (sym is) (refl, ap (seeking_lines v) goes ∙ found_here b a);
+        }
 
-  -- ---- the last dispatch point met
+    -- a command that runs the board: these are the moves that it makes, and a cycle up to which they are made
+    abbrev moves : Running → ℕ
+    moves running = (came (run_at v (moves_until v t)) limit running).moves
 
-  last_among : (p : Place) → ReachedInTime p.moves → (b : Machine) → last_dispatch (met_at v p) ≡ Some b → Among b (dispatches events)
-  last_among p r b is =
-      let t = taken b p.met (length (dispatches (met_at v p)) - 1) (events_by v p.moves) is in
-      let here : events_by v p.moves ≡ past_of (suc p.moves) =
-      all_past e game script (at_state p.moves).cycle ∙ ap (λ n. past_of (suc n)) (until_is p.moves r) in
-      let g = goes i (Reset game) script refl limit p.moves r.within r.runs in
-      let a = longer b t.place (past_of (suc p.moves)) g.others (ap (λ es. slice_get (dispatches es) t.place) (sym here) ∙ t.there) in
-      record { place = a.place; there = ap (λ es. slice_get (dispatches es) a.place) g.is ∙ a.there }
+    moved : (k : ℕ) → moved_on v k (place t) ≡ all_met v (moves_until v t + k)
+    moved zero = let same : moves_until v t ≡ moves_until v t + 0 = omega arith in ap (all_met v) same
+    moved (suc k) = ap (λ none. if none then place t else all_met v (moves_until v t + suc k)) (ne_eqb (suc k) 0 (λ z. omega (arith, z)))
 
-  module _ (p : Place) (r : ReachedInTime p.moves) where
-    states : Answers e points ending (command.Tells State) (told v State p)
-    unfolding view_at
-    states = by_last (last_dispatch (met_at v p)) refl
+    runs :
+        (running : Running) (to : ℕ) → to ≤ limit → moves_until v t + moves running ≡ moves_until v to
+        → (place_with v limit (command.Runs running) (place t) ≡ place to)
+        × NamesStop e limit points ending over to (running_lines v limit running (place t))
+    runs running to within is =
+        let there : moved_on v (moves running) (place t) ≡ place to = moved (moves running) ∙ ap (all_met v) is in
+        (there, names_stop to within (ran v limit running (place t)) _ (ap (λ (p : Place). p.moves) there))
+
+    -- `to` a cycle makes the moves up to there
+    goes_to : (c : ℕ) → c ≤ limit → moves_until v t + run.moves_until (run_at v (moves_until v t)) c ≡ moves_until v (max t c)
+    goes_to c within = by_test (cases_lt c (at_state n).cycle) (cases_lt t c)
       where
-        text : Option Machine → List (List ℕ)
-        text last = option_map_or (trace_line true) (option_map (view_at e) last) (codes "none" ++ newline) ∷ []
+        n : ℕ
+        n = moves_until v t
 
-        by_last :
-            (last : Option Machine) → last_dispatch (met_at v p) ≡ last
-            → Names e points (line e points true) (λ q. Unit {0}) (text (last_dispatch (met_at v p)))
-            ⊎ (text (last_dispatch (met_at v p)) ≡ (codes "none" ++ newline) ∷ [])
-        by_last None is = inr (ap text is)
-        by_last (Some b) is = inl (tells (line e points true) (λ q. Unit {0}) b _ (last_among p r b is) tt (ap text is))
+        k : ℕ
+        k = run.moves_until (run_at v n) c
 
-    screens : Answers e points ending (command.Tells Screen) (told v Screen p)
-    unfolding state_of
-    screens = by_last (last_dispatch (met_at v p)) refl
+        here : Reached (run_at v 0) t n
+        here = last_until e game script t
+
+        by_test : (c < (at_state n).cycle) ⊎ ((at_state n).cycle ≤ c) → (t < c) ⊎ (c ≤ t) → n + k ≡ moves_until v (max t c)
+        by_test (inl past) order =
+            let stays : max t c ≡ t = omega (arith, past, here.within) in
+            let none : k ≡ 0 = until-past (run_at v 0) c n past in
+            omega (arith, none, ap (moves_until v) stays)
+        by_test (inr behind) (inl more) =
+            let later : max t c ≡ c = omega (arith, more) in
+            let all : moves_until v c ≡ n + k = until-from (run_at v 0) c n (record { within = behind; runs = here.runs }) in
+            omega (arith, all, ap (moves_until v) later)
+        by_test (inr behind) (inr few) =
+            let stays : max t c ≡ t = omega (arith, few) in
+            let all : moves_until v c ≡ n + k = until-from (run_at v 0) c n (record { within = behind; runs = here.runs }) in
+            omega (arith, all, more_moves e game script c t few, ap (moves_until v) stays)
+
+    -- any other one comes to a state that isn't before
+    record ComesOn (k : ℕ) : Type 0 where
+      to : ℕ
+      later : t ≤ to
+      within : to ≤ limit
+      is : moves_until v t + k ≡ moves_until v to
+
+    comes_on : (k : ℕ) → ReachedInTime (moves_until v t + k) → ComesOn k
+    comes_on zero r = record { to = t; later = omega arith; within = order; is = omega arith }
+    comes_on (suc k) r = record {
+      to = (at_state m).cycle;
+      later = omega (arith, next, in-turn i.rom (held_at script) m (suc n) (start game) (omega arith));
+      within = r.within;
+      is = sym (until_is m r);
+    }
       where
-        text : Option Machine → List (List ℕ)
-        text last = screen_lines (pixels (rows_of e) (option_map_or (screen_bytes e) last (replicate (screen_size e) 0))) (rows_of e) ∷ []
+        n : ℕ
+        n = moves_until v t
 
-        by_last :
-            (last : Option Machine) → last_dispatch (met_at v p) ≡ last
-            → Names e points (screen e points) (λ q. Unit {0}) (text (last_dispatch (met_at v p)))
-            ⊎ (text (last_dispatch (met_at v p)) ≡ screen_lines empty (rows_of e) ∷ [])
-        by_last None is = inr (ap text is ∙ ap (λ s. screen_lines s (rows_of e) ∷ []) (dark (rows_of e) (screen_size e)))
-        by_last (Some b) is = inl (tells (screen e points) (λ q. Unit {0}) b _ (last_among p r b is) tt (ap text is))
+        m : ℕ
+        m = n + suc k
 
-    -- ---- a command
+        next : t < (at_state (suc n)).cycle
+        next = next_over e game script t (r.runs n (omega arith))
 
-    answers : (c : Command) → Answers e points ending c (pieces_of v limit c p)
-    unfolding view_at
-    answers (command.Runs running) = tt
-    answers (command.Shows showing) = tt
-    answers (command.Seeks (Next n)) = seeks (λ q. Unit {0}) p (n - 1) (slice_get (points_ahead v limit p) (n - 1)) refl (λ b is. tt)
-    answers (command.Seeks (Break pc)) =
-        seeks (λ q. q.state.pc ≡ pc) p _ (find (has_pc v pc) (points_ahead v limit p)) (find_at (has_pc v pc) (points_ahead v limit p))
-        (λ b is. at_pc b (found_passes (has_pc v pc) b (points_ahead v limit p) is))
+    running_comes :
+        (running : Running)
+        → ((to : ℕ) → (t ≤ to) × (to ≤ max t limit) × NamesStop e limit points ending over to (running_lines v limit running (place t))
+        → Answers e limit points ending over (command.Runs running) t to (running_lines v limit running (place t)))
+        → Comes (command.Runs running) t
+    running_comes running said =
+        let c = comes_on (moves running) (subst ReachedInTime (ap (λ (p : Place). p.moves) (moved (moves running))) (with_one e game script limit (command.Runs running) (place t) here)) in
+        let r = runs running c.to c.within c.is in
+        record {
+          to = c.to;
+          within = c.within;
+          is = r.0;
+          answers = said c.to (c.later, omega (arith, c.within), r.1);
+        }
       where
-        at_pc : (b : Machine) → has_pc v pc b ≡ true → (state_of e b).pc ≡ pc
-        at_pc b is = eqb-true (state_of e b).pc pc is
-    answers (command.Tells State) = states
-    answers (command.Tells Screen) = screens
+        here : ReachedInTime (moves_until v t)
+        here = let h = last_until e game script t in record { within = omega (arith, order, h.within); runs = h.runs }
 
-  all_answered : (commands : List Command) (p : Place) → ReachedInTime p.moves → AllAnswered e points ending commands (written v limit commands p)
-  all_answered [] p r = refl
-  all_answered (c ∷ commands) p r =
+    comes : (c : Command) → Comes c t
+    unfolding view_at state_of
+    comes (command.Runs (To cycle)) =
+        let r = runs (To cycle) (max t (min cycle limit)) (omega (arith, order)) (goes_to (min cycle limit) (omega arith)) in
+        record { to = max t (min cycle limit); within = omega (arith, order); is = r.0; answers = (refl, r.1) }
+    comes (command.Runs (Step count)) = running_comes (Step count) (λ to a. a)
+    comes (command.Runs (At address)) = running_comes (At address) (λ to a. a)
+    comes (command.Runs (Watch address count)) = running_comes (Watch address count) (λ to a. a)
+    comes (command.Shows showing) = record { to = t; within = order; is = refl; answers = refl }
+    comes (command.Seeks (Next n)) =
+        seeks (Next n) (n - 1) (slice_get (points_ahead v limit (place t)) (n - 1)) refl refl
+        (ap (λ ps. slice_get ps (n - 1)) (ahead_here t order) ∙ slice_get-map (point_of e) (points_ahead v limit (place t)) (n - 1))
+    comes (command.Seeks (Break pc)) =
+        seeks (Break pc) _ (find (has_pc v pc) (points_ahead v limit (place t))) refl (find_at (has_pc v pc) (points_ahead v limit (place t)))
+        (ap (find (λ p. p.state.pc == pc)) (ahead_here t order) ∙ find_point e (λ p. p.state.pc == pc) (points_ahead v limit (place t)))
+    comes (command.Tells State) =
+        record { to = t; within = order; is = refl; answers = (refl, ap (λ s. s ∷ []) (states (last_dispatch (met_at v (place t))) ∙ ap (state_text e limit points ending over) (sym (last_is t order)))) }
+      where
+        states : (last : Option Machine) → option_map_or (trace_line true) (option_map (view_at e) last) (codes "none" ++ newline)
+            ≡ state_text e limit points ending over (option_map (point_of e) last)
+        states None = refl
+        states (Some b) = refl
+    comes (command.Tells Screen) =
+        record { to = t; within = order; is = refl; answers = (refl, ap (λ s. s ∷ []) (screens (last_dispatch (met_at v (place t))) ∙ ap (screen_text e limit points ending over) (sym (last_is t order)))) }
+      where
+        screens : (last : Option Machine) → screen_lines (pixels (rows_of e) (option_map_or (screen_bytes e) last (replicate (screen_size e) 0))) (rows_of e)
+            ≡ screen_text e limit points ending over (option_map (point_of e) last)
+        screens None = ap (λ s. screen_lines s (rows_of e)) (dark (rows_of e) (screen_size e))
+        screens (Some b) = refl
+
+  -- ---- all commands
+
+  answered :
+      (commands : List Command) (t : ℕ) → t ≤ limit
+      → AllAnswered e limit points ending over (ending_where v (place_after v limit commands (place t)).moves) commands t (written v limit commands (place t))
+  answered [] t order = (refl, ends_as t order)
+  answered (c ∷ commands) t order =
+      let s = comes t order c in
       record {
-        here = pieces_of v limit c p;
-        rest = written v limit commands (place_with v limit c p);
+        place = s.to;
+        here = pieces_of v limit c (place t);
+        rest = written v limit commands (place_with v limit c (place t));
         split = refl;
-        answers = answers p r c;
-        others = all_answered commands (place_with v limit c p) (with_one e game script limit c p r);
+        answers = s.answers;
+        others =
+            subst
+            (λ p. AllAnswered e limit points ending over (ending_where v (place_after v limit commands p).moves) commands s.to (written v limit commands p))
+            (sym s.is) (answered commands s.to s.within);
       }
 
-  pub debugged : (commands : List Command) → AllAnswered e points ending commands (written v limit commands at_start)
-  debugged commands = all_answered commands at_start (at_begin e game script limit)
+  -- they begin before the first move
+  abbrev standing : ℕ → List Event → Place
+  standing moves es = record { moves = moves; met = length es }
+
+  begins : at_start ≡ place 0
+  begins = ap (standing 0) (sym none) ∙ ap (all_met v) (sym first)
+    where
+      first : moves_until v 0 ≡ 0
+      first = until_is 0 (at_begin e game script limit)
+
+      none : events_by v 0 ≡ []
+      none = all_past e game script 0 ∙ ap (λ k. past_of (suc k)) first ∙ past-first i (Reset game) script
+
+  pub debugged :
+      (commands : List Command) → AllAnswered e limit points ending over (debug_ending v limit commands) commands 0 (written v limit commands at_start)
+  debugged commands =
+      subst (λ p. AllAnswered e limit points ending over (ending_where v (place_after v limit commands p).moves) commands 0 (written v limit commands p))
+      (sym begins) (answered commands 0 (omega arith))

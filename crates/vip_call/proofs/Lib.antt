@@ -1,6 +1,7 @@
 mod DebugLemmas
 mod LanguageLemmas
 mod TranscriptLemmas
+mod MetLemmas
 mod DebuggedLemmas
 mod TimedLemmas
 mod TranscribedLemmas

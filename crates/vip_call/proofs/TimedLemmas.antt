@@ -2,7 +2,7 @@
 use Rattle.std.proofs.Common.{◌≡◌, ℕ, zero, suc, ◌+◌, ◌<◌, ◌≤◌, List, [], ◌∷◌, length, slice_index, refl, sym, ap, subst, ◌∙◌}
 use Rattle.machine.specs.Board.{Machine}
 use Rattle.machine.specs.Keys.{Event as KeyEvent, held_at}
-use Rattle.machine.specs.Pictures.{windows_ended}
+use Rattle.machine.specs.Pictures.{picture_of, windows_ended}
 use Rattle.machine.specs.Run.{run_to}
 use Rattle.chip8_lang.specs.declared.view.Edition.{Edition}
 use Rattle.chip8_lang.specs.declared.view.Stop.{Stop}
@@ -22,13 +22,16 @@ use Rattle.rom_run.specs.Timeline.{AreShown}
 use Rattle.rom_board.specs.Laws.{EveryRun, EveryTime}
 use Rattle.rom_board.specs.Program.{program}
 use Rattle.chip8_image.specs.Interpreters.{interpreter_of}
+use Rattle.vip_relation.specs.State.Start.{Reset, Saved}
 use Rattle.vip_relation.specs.Stops.{stop_numbered}
+use Rattle.vip_show.specs.Output.{picture_pieces}
 use Rattle.vip_text.specs.Endings.{Ending}
 use Rattle.vip_text.specs.Endings.Ending.{AtStop}
 use Rattle.vip_text.specs.StateFile.{shown, IsAccepted}
 use Rattle.vip_verbs.specs.Outcome.{ending_from, events_in, run_ending, run_of}
 use Rattle.vip_call.specs.Language.{named}
-use Rattle.vip_call.specs.Transcript.{OfTimedFile, OfTimedGame, Point, Shows}
+use Rattle.vip_call.specs.Transcribed.{shown_from}
+use Rattle.vip_call.specs.Transcript.{Point, Shows, ShowsPictures}
 use Rattle.vip_call.proofs.LanguageLemmas.{is_chip8}
 use Rattle.vip_call.proofs.ResumedLemmas.{FromFile as FromAccepted, is_run_behind}
 use Rattle.vip_call.proofs.TranscriptLemmas.{file_point_is, points_of}
@@ -112,16 +115,46 @@ module _ (e : Edition) (script : List KeyEvent) (limit : ℕ) (run : List Machin
   shows_all game (Dispatch b ∷ events) (End t s stop ∷ those) h a = absurd a
   shows_all game (Stopped b ∷ events) those h a = absurd h
 
+-- ---- the pictures
+
+pictures_shown :
+    (e : Edition) (run : List Machine) (events : List Event) (those : List TimedShown) → AreShown (program e) run events those
+    → ShowsPictures e those (picture_pieces (program e).interpreter.rom run events)
+unfolding picture_pieces
+pictures_shown e run [] [] a = tt
+pictures_shown e run [] (PictureAt m screen ∷ those) a = absurd a
+pictures_shown e run [] (PointAt t s ∷ those) a = absurd a
+pictures_shown e run [] (End t s stop ∷ those) a = absurd a
+pictures_shown e run (Picture m ∷ events) [] a = absurd a
+pictures_shown e run (Picture m ∷ events) (PictureAt n screen ∷ those) a =
+    (record { picture = picture_of (program e).interpreter.rom run m; shows = a.1; is = refl }, pictures_shown e run events those a.2)
+pictures_shown e run (Picture m ∷ events) (PointAt t s ∷ those) a = absurd a
+pictures_shown e run (Picture m ∷ events) (End t s stop ∷ those) a = absurd a
+pictures_shown e run (Dispatch c ∷ events) [] a = absurd a
+pictures_shown e run (Dispatch c ∷ events) (PictureAt n screen ∷ those) a = absurd a
+pictures_shown e run (Dispatch c ∷ events) (PointAt t s ∷ those) a = pictures_shown e run events those a.2
+pictures_shown e run (Dispatch c ∷ events) (End t s stop ∷ those) a = absurd a
+pictures_shown e run (Stopped c ∷ events) [] a = absurd a
+pictures_shown e run (Stopped c ∷ events) (PictureAt n screen ∷ those) a = absurd a
+pictures_shown e run (Stopped c ∷ events) (PointAt t s ∷ those) a = absurd a
+pictures_shown e run (Stopped c ∷ events) (End t s stop ∷ those) a = pictures_shown e run events those a.2
+
 -- ---- the run of a game, and the one from an accepted file
 
 pub timed_game :
     EveryRun → EveryTime → (e : Edition) (game : List ℕ) → length game ≤ memory_size e → ((i : ℕ) → slice_index game i < 256)
     → (script : List KeyEvent) (limit : ℕ)
-    → OfTimedGame e game limit script (points_of e (events_in e game script limit)) (run_ending e game limit script)
+    → Shows e script limit (shown_from e (Reset game) script limit) (points_of e (events_in e game script limit)) (run_ending e game limit script)
     (end_cycle limit (events_in e game script limit))
 timed_game law time e game fits bytes script limit =
     shows_all e script limit (run_of e game script limit) (run_ending e game limit script) game (events_in e game script limit) _
     (is_chip8 law e game script limit fits bytes) (time e game fits bytes script limit)
+
+pub pictures_of_game :
+    EveryTime → (e : Edition) (game : List ℕ) → length game ≤ memory_size e → ((i : ℕ) → slice_index game i < 256) → (script : List KeyEvent) (limit : ℕ)
+    → ShowsPictures e (shown_from e (Reset game) script limit) (picture_pieces (interpreter_of e).rom (run_of e game script limit) (events_in e game script limit))
+pictures_of_game time e game fits bytes script limit =
+    pictures_shown e (run_of e game script limit) (events_in e game script limit) _ (time e game fits bytes script limit)
 
 abbrev pub TimeFromFile : Type 0
 TimeFromFile =
@@ -132,7 +165,7 @@ TimeFromFile =
 pub timed_file :
     FromAccepted → TimeFromFile → (e : Edition) (f : List ℕ) → ((k : ℕ) → slice_index f k < 256) → IsAccepted e f → (script : List KeyEvent) (limit : ℕ)
     → let events = events_behind (interpreter_of e) script (shown f) limit in
-    OfTimedFile e f limit script (points_of e events) (ending_from e f limit script) (end_cycle limit events)
+    Shows e script limit (shown_from e (Saved f) script limit) (points_of e events) (ending_from e f limit script) (end_cycle limit events)
 timed_file from time e f bytes accepted script limit =
     let events : List Event = events_behind (interpreter_of e) script (shown f) limit in
     subst

@@ -11,6 +11,7 @@ use Rattle.chip8_lang.specs.State.{memory_size}
 use Rattle.rom_law.specs.Language.{end_cycle}
 use Rattle.rom_board.specs.Laws.{EveryRun, EveryTime}
 use Rattle.chip8_image.specs.Interpreters.{interpreter_of}
+use Rattle.vip_relation.specs.State.Start.{Reset, Saved}
 use Rattle.vip_relation.specs.State.{started}
 use Rattle.vip_text.specs.Endings.{Ending}
 use Rattle.vip_show.specs.Output.{picture_pieces, summary, trace_lines, trace_piece}
@@ -34,14 +35,15 @@ use Rattle.vip_verbs.specs.Outcome.{HasOutcome, RunComes, RunTo, DebugComes, Res
 use Rattle.vip_verbs.specs.Outcome.RunTo.{FaultyScript, FaultyRom, Runs}
 use Rattle.vip_debug.specs.Answers.{at_start, written}
 use Rattle.vip_call.specs.Language.{IsChip8}
-use Rattle.vip_call.specs.Transcript.{Point, AllAnswered, ArePictures, Debugged, FromFile, GoesOn, IsEnd, IsEndOrEarlier, OfFile, OfGame, OfTimedFile, OfTimedGame, RunLaw, Transcribed, TranscribesBy, line, summary_text, trace_text}
+use Rattle.vip_call.specs.Commands.{AllAnswered}
+use Rattle.vip_call.specs.Transcribed.{Debugged, FromFile, RunLaw, Transcribed, TranscribesBy, in_time, is_run, of_language}
+use Rattle.vip_call.specs.Transcript.{Point, ArePictures, GoesOn, line, summary_text, trace_text}
 use Rattle.vip_call.specs.Top.{Call, Says, WritesExactly, Writes, Tells, TellsChip8, TellsTimed}
-use Rattle.vip_call.proofs.DebugLemmas.{debug_ends}
 use Rattle.vip_call.proofs.DebuggedLemmas.{debugged}
 use Rattle.vip_call.proofs.LanguageLemmas.{is_chip8}
 use Rattle.vip_show.proofs.Points.{points_behind_are}
 use Rattle.vip_call.proofs.ResumedLemmas.{FromFile as FromAccepted, is_run_behind}
-use Rattle.vip_call.proofs.TimedLemmas.{TimeFromFile, timed_file, timed_game}
+use Rattle.vip_call.proofs.TimedLemmas.{TimeFromFile, pictures_of_game, timed_file, timed_game}
 use Rattle.vip_call.proofs.TranscriptLemmas.{are_pictures, begins, file_point_is, goes_on, lines_are, points_of, summed_is, traced_is}
 
 -- what is written of events is that of their points
@@ -52,22 +54,27 @@ lines_of_points e with_time (Picture m ∷ es) = lines_of_points e with_time es
 lines_of_points e with_time (Dispatch b ∷ es) = ap (λ lines. trace_piece e with_time (Dispatch b) ++ lines) (lines_of_points e with_time es)
 lines_of_points e with_time (Stopped b ∷ es) = lines_of_points e with_time es
 
--- A run from reset has its points, its end and its cycle by this law of runs, and one from an accepted file by that.
-record AreBy (Game File : RunLaw) : Type 0 where
+-- A run from reset has its points, its end, its cycle and its pictures by this law of runs, and so has one from an accepted file.
+record AreBy (law : RunLaw) : Type 0 where
   of_game : (e : Edition) (game : List ℕ) → length game ≤ memory_size e → ((i : ℕ) → slice_index game i < 256) → (script : List KeyEvent) (limit : ℕ)
-      → Game e game limit script (points_of e (events_in e game script limit)) (run_ending e game limit script)
+      → law.transcript e (Reset game) script limit (points_of e (events_in e game script limit)) (run_ending e game limit script)
       (end_cycle limit (events_in e game script limit))
+  pictures : (e : Edition) (game : List ℕ) → length game ≤ memory_size e → ((i : ℕ) → slice_index game i < 256) → (script : List KeyEvent) (limit : ℕ)
+      → law.pictures e (Reset game) script limit (picture_pieces (interpreter_of e).rom (run_of e game script limit) (events_in e game script limit))
   of_file : (e : Edition) (f : List ℕ) → ((k : ℕ) → slice_index f k < 256) → IsAccepted e f → (script : List KeyEvent) (limit : ℕ)
       → let events = events_behind (interpreter_of e) script (shown f) limit in
-      File e f limit script (points_of e events) (ending_from e f limit script) (end_cycle limit events)
+      law.transcript e (Saved f) script limit (points_of e events) (ending_from e f limit script) (end_cycle limit events)
 
-module _ (law : EveryRun) (Game File : RunLaw) (runs : AreBy Game File) where
+module _ (every : EveryRun) (law : RunLaw) (runs : AreBy law) where
+  abbrev Written : Type 1
+  Written = List KeyEvent → List Point → Ending → ℕ → Ending → Type 0
+
   -- a run that comes to output
-  OfRun : Edition → List ℕ → List (List ℕ) → ℕ → (List (List ℕ) → List Point → Ending → ℕ → Type 0) → (Ending → Ending → Type 0) → Outcome → Type 0
-  OfRun e game scripts limit Written Reported (Refused status report) = Unit {0}
-  OfRun e game scripts limit Written Reported (GivenUp report) = Unit {0}
-  OfRun e game scripts limit Written Reported (Shown pieces status report) =
-      Transcribed (Game e game limit) scripts limit (Written pieces) Reported status report
+  OfRun : Edition → List ℕ → List (List ℕ) → ℕ → (List (List ℕ) → Written) → Outcome → Type 0
+  OfRun e game scripts limit Of (Refused status report) = Unit {0}
+  OfRun e game scripts limit Of (GivenUp report) = Unit {0}
+  OfRun e game scripts limit Of (Shown pieces status report) =
+      Transcribed (λ script. law.transcript e (Reset game) script limit) scripts limit (Of pieces) status report
 
   module _
       (e : Edition) (game : List ℕ) (fits : length game ≤ memory_size e) (bytes : (i : ℕ) → slice_index game i < 256) (limit : ℕ)
@@ -75,18 +82,16 @@ module _ (law : EveryRun) (Game File : RunLaw) (runs : AreBy Game File) where
     abbrev events : List KeyEvent → List Event
     events script = events_in e game script limit
 
-    abbrev is_run : (script : List KeyEvent) → IsChip8 e game script limit (run_ending e game limit script)
-    is_run script = is_chip8 law e game script limit fits bytes
+    abbrev chip8_run : (script : List KeyEvent) → IsChip8 e game script limit (run_ending e game limit script)
+    chip8_run script = is_chip8 every e game script limit fits bytes
 
     -- what a run writes, and how it is said to end, by its key script
     module _
-        (pieces : List KeyEvent → List (List ℕ)) (told : List KeyEvent → Ending)
-        (Written : List (List ℕ) → List Point → Ending → ℕ → Type 0) (Reported : Ending → Ending → Type 0)
+        (pieces : List KeyEvent → List (List ℕ)) (told : List KeyEvent → Ending) (Of : List (List ℕ) → Written)
         (written_is :
         (script : List KeyEvent)
-        → Written (pieces script) (points_of e (events script)) (run_ending e game limit script) (end_cycle limit (events script)))
-        (told_is : (script : List KeyEvent) → Reported (run_ending e game limit script) (told script)) where
-      run_transcribed : (o : Outcome) → RunComes e limit scripts pieces told o → OfRun e game scripts limit Written Reported o
+        → Of (pieces script) script (points_of e (events script)) (run_ending e game limit script) (end_cycle limit (events script)) (told script)) where
+      run_transcribed : (o : Outcome) → RunComes e limit scripts pieces told o → OfRun e game scripts limit Of o
       unfolding OfRun
       run_transcribed _ (FaultyScript line cause is) = tt
       run_transcribed _ (FaultyRom script fault is fault_is rom) = tt
@@ -97,21 +102,20 @@ module _ (law : EveryRun) (Game File : RunLaw) (runs : AreBy Game File) where
         ending = run_ending e game limit script;
         over = end_cycle limit (events script);
         transcript = runs.of_game e game fits bytes script limit;
-        written = written_is script;
         reported = told script;
-        end_is = told_is script;
+        written = written_is script;
         status_is = refl;
         report_is = refl;
       }
 
     debug_transcribed :
         (read : Result (List Command) CommandFault) (o : Outcome) → DebugComes e game limit scripts read o
-        → OfRun e game scripts limit (λ ps points ending over. Debugged e points ending read ps) IsEndOrEarlier o
+        → OfRun e game scripts limit (λ ps script points ending over reported. Debugged e limit points ending over reported read ps) o
     unfolding OfRun
     debug_transcribed (Ok commands) o comes =
         run_transcribed (λ script. written (started e game script) limit commands at_start) (λ script. debug_ending (started e game script) limit commands)
-        (λ ps points ending over. AllAnswered e points ending commands ps) IsEndOrEarlier
-        (λ script. debugged e game script limit commands) (λ script. debug_ends e game script limit commands) o comes
+        (λ ps script points ending over reported. AllAnswered e limit points ending over reported commands 0 ps)
+        (λ script. debugged e game script limit commands) o comes
     debug_transcribed (Err (command.Fault line cause)) o comes = rw comes tt
     debug_transcribed (Err command.NoMemory) o comes = absurd comes
 
@@ -119,7 +123,7 @@ module _ (law : EveryRun) (Game File : RunLaw) (runs : AreBy Game File) where
         (script : List KeyEvent)
         → ArePictures e (points_of e (events script)) (windows_ended (end_cycle limit (events script)))
         (picture_pieces (interpreter_of e).rom (run_of e game script limit) (events script))
-    pictures_are script = are_pictures e script limit (run_of e game script limit) (run_ending e game limit script) game (events script) (is_run script)
+    pictures_are script = are_pictures e script limit (run_of e game script limit) (run_ending e game limit script) game (events script) (chip8_run script)
 
   -- the summary of a demonstration game's run
   demo_written :
@@ -136,7 +140,10 @@ module _ (law : EveryRun) (Game File : RunLaw) (runs : AreBy Game File) where
   OfResumed a file scripts (Refused status report) = Unit {0}
   OfResumed a file scripts (GivenUp report) = Unit {0}
   OfResumed a file scripts (Shown pieces status report) =
-      FromFile file (λ e. Transcribed (File e file a.cycles) scripts a.cycles (λ points ending over. pieces ≡ map (line e points a.with_time) points) IsEnd)
+      FromFile file
+      (λ e.
+      Transcribed (λ script. law.transcript e (Saved file) script a.cycles) scripts a.cycles
+      (λ script points ending over reported. (pieces ≡ map (line e a.with_time) points) × (reported ≡ ending)))
       status report
 
   resumed_run :
@@ -157,12 +164,13 @@ module _ (law : EveryRun) (Game File : RunLaw) (runs : AreBy Game File) where
           ending = ending_from e file a.cycles script;
           over = end_cycle a.cycles events;
           transcript = runs.of_file e file bytes accepted script a.cycles;
-          written =
-              ap (trace_lines e a.with_time) (sym (points_behind_are (interpreter_of e) script (shown file) a.cycles))
-              ∙ lines_of_points e a.with_time events
-              ∙ lines_are e a.with_time (points_of e events) events;
           reported = ending_from e file a.cycles script;
-          end_is = refl;
+          written = (
+            ap (trace_lines e a.with_time) (sym (points_behind_are (interpreter_of e) script (shown file) a.cycles))
+                ∙ lines_of_points e a.with_time events
+                ∙ lines_are e a.with_time events,
+            refl,
+          );
           status_is = refl;
           report_is = refl;
         };
@@ -176,19 +184,23 @@ module _ (law : EveryRun) (Game File : RunLaw) (runs : AreBy Game File) where
 
   transcribes :
       (old : FilesMeaning) (asked : Asked) (contents pieces : List (List ℕ)) (status : Status) (report : List ℕ) → HasAll old (needed asked) contents
-      → HasOutcome asked contents (Shown pieces status report) → TranscribesBy Game File asked contents pieces status report
+      → HasOutcome asked contents (Shown pieces status report) → TranscribesBy law asked contents pieces status report
   unfolding OfRun OfResumed
   transcribes old (trace a) [] pieces status report read comes = tt
   transcribes old (trace a) (game ∷ scripts) pieces status report read comes =
       let e = a.run.edition in
-      run_transcribed e game read.0.fits read.0.bytes a.run.cycles scripts _ _ (λ ps points ending over. ps ≡ trace_text e points a.with_time a.with_screen) IsEnd
-      (λ script. traced_is e a.with_time a.with_screen (events_in e game script a.run.cycles)) (λ script. refl)
+      run_transcribed e game read.0.fits read.0.bytes a.run.cycles scripts _ _
+      (λ ps script points ending over reported. (ps ≡ trace_text e points a.with_time a.with_screen) × (reported ≡ ending))
+      (λ script. (traced_is e a.with_time a.with_screen (events_in e game script a.run.cycles), refl))
       (Shown pieces status report) comes
   transcribes old (play a) [] pieces status report read comes = tt
   transcribes old (play a) (game ∷ scripts) pieces status report read comes =
-      run_transcribed a.edition game read.0.fits read.0.bytes a.cycles scripts _ _
-      (λ ps points ending over. ArePictures a.edition points (windows_ended over) ps) IsEnd
-      (pictures_are a.edition game read.0.fits read.0.bytes a.cycles scripts) (λ script. refl)
+      let e = a.edition in
+      run_transcribed e game read.0.fits read.0.bytes a.cycles scripts _ _
+      (λ ps script points ending over reported.
+      ArePictures e points (windows_ended over) ps × law.pictures e (Reset game) script a.cycles ps × (reported ≡ ending))
+      (λ script.
+      (pictures_are e game read.0.fits read.0.bytes a.cycles scripts script, runs.pictures e game read.0.fits read.0.bytes script a.cycles, refl))
       (Shown pieces status report) comes
   transcribes old (debug a) [] pieces status report read comes = tt
   transcribes old (debug a) (game ∷ []) pieces status report read comes = tt
@@ -199,8 +211,8 @@ module _ (law : EveryRun) (Game File : RunLaw) (runs : AreBy Game File) where
       let game = demo_game a.number in
       let fits : length game ≤ memory_size Usual = omega (arith, length-game a.number) in
       run_transcribed Usual game fits (bytes-game a.number) a.cycles [] _ _
-      (λ ps points ending over. ps ≡ summary_text Usual points a.number (windows_ended over)) IsEnd
-      (demo_written a.number a.cycles game fits (bytes-game a.number)) (λ script. refl)
+      (λ ps script points ending over reported. (ps ≡ summary_text Usual points a.number (windows_ended over)) × (reported ≡ ending))
+      (λ script. (demo_written a.number a.cycles game fits (bytes-game a.number) script, refl))
       (Shown pieces status report) comes
   transcribes old (demo a) (c ∷ cs) pieces status report read comes = absurd comes
   transcribes old (save a) contents pieces status report read comes = tt
@@ -222,7 +234,7 @@ module _ (law : EveryRun) (Game File : RunLaw) (runs : AreBy Game File) where
 
   -- ---- a call
 
-  went_out : (status : Status) (call : Call) → WritesExactly status call → Writes (TranscribesBy Game File) status call
+  went_out : (status : Status) (call : Call) → WritesExactly status call → Writes (TranscribesBy law) status call
   went_out status call s =
       record {
         asked = s.asked;
@@ -236,7 +248,7 @@ module _ (law : EveryRun) (Game File : RunLaw) (runs : AreBy Game File) where
         err = s.err;
       }
 
-  tells : (status : Status) (call : Call) → Says status call → Tells (TranscribesBy Game File) status call
+  tells : (status : Status) (call : Call) → Says status call → Tells (TranscribesBy law) status call
   tells Done call s = went_out Done call s
   tells Stopped call s = went_out Stopped call s
   tells WriteFault call s =
@@ -274,18 +286,18 @@ module _ (law : EveryRun) (Game File : RunLaw) (runs : AreBy Game File) where
   tells RamTooLarge call s = tt
 
 pub tells_chip8 : EveryRun → FromAccepted → (status : Status) (call : Call) → Says status call → TellsChip8 status call
-tells_chip8 law from = tells law OfGame OfFile (record { of_game = of_game; of_file = of_file })
+tells_chip8 every from = tells every of_language (record { of_game = of_game; pictures = λ e game fits bytes script limit. tt; of_file = of_file })
   where
     of_game : (e : Edition) (game : List ℕ) → length game ≤ memory_size e → ((i : ℕ) → slice_index game i < 256) → (script : List KeyEvent) (limit : ℕ)
-        → OfGame e game limit script (points_of e (events_in e game script limit)) (run_ending e game limit script)
+        → is_run e (Reset game) script limit (points_of e (events_in e game script limit)) (run_ending e game limit script)
         (end_cycle limit (events_in e game script limit))
     of_game e game fits bytes script limit =
         begins e script limit (run_of e game script limit) (run_ending e game limit script) game (events_in e game script limit)
-        (is_chip8 law e game script limit fits bytes)
+        (is_chip8 every e game script limit fits bytes)
 
     of_file : (e : Edition) (f : List ℕ) → ((k : ℕ) → slice_index f k < 256) → IsAccepted e f → (script : List KeyEvent) (limit : ℕ)
         → let events = events_behind (interpreter_of e) script (shown f) limit in
-        OfFile e f limit script (points_of e events) (ending_from e f limit script) (end_cycle limit events)
+        is_run e (Saved f) script limit (points_of e events) (ending_from e f limit script) (end_cycle limit events)
     of_file e f bytes accepted script limit =
         let events : List Event = events_behind (interpreter_of e) script (shown f) limit in
         subst (λ p. GoesOn e script limit p (points_of e events) (ending_from e f limit script) (end_cycle limit events)) (file_point_is e f)
@@ -293,5 +305,6 @@ tells_chip8 law from = tells law OfGame OfFile (record { of_game = of_game; of_f
         (windows_ended (shown f).cycle) (shown f) events (is_run_behind from e f bytes accepted script limit).events)
 
 pub tells_timed : EveryRun → FromAccepted → EveryTime → TimeFromFile → (status : Status) (call : Call) → Says status call → TellsTimed status call
-tells_timed law from time time_from =
-    tells law OfTimedGame OfTimedFile (record { of_game = timed_game law time; of_file = timed_file from time_from })
+tells_timed every from time time_from =
+    tells every in_time
+    (record { of_game = timed_game every time; pictures = pictures_of_game time; of_file = timed_file from time_from })

@@ -24,7 +24,8 @@ use Rattle.vip_text.specs.StateFile.{bank_in, shown}
 use Rattle.vip_text.specs.Summaries.{summary_line}
 use Rattle.vip_show.specs.Output.{trace_lines, trace_pieces, screen_piece, picture_pieces, summary, lit_at, is_dispatch_event, is_picture_event, count_of}
 use Rattle.vip_call.specs.Language.{named}
-use Rattle.vip_call.specs.Transcript.{Point, Begins, GoesOn, Ends, IsPicture, ArePictures, file_point, last_point, last_screen, line, lit, point_before, summary_text, trace_text}
+use Rattle.vip_call.specs.Transcribed.{file_point}
+use Rattle.vip_call.specs.Transcript.{Point, Begins, GoesOn, Ends, IsPicture, ArePictures, last_point, last_screen, line, lit, point_before, summary_text, trace_text}
 
 -- ---- the points among some events
 
@@ -129,7 +130,11 @@ module _ (e : Edition) (script : List KeyEvent) (limit : ℕ) (run : List Machin
   pictures_on before k b [] early inside h = no_more _ k (windows_ended limit) (h.shown inside)
   pictures_on before k b (Picture m ∷ events) early inside h =
       one_more _ k _ (picture_file (picture_of rom run m)) (picture_pieces rom run events)
-      (record { point = point_of e b; before = last_before before b k events early h.2; picture = picture_of rom run m; shows = h.1; is = refl })
+      (record {
+        point = point_of e b;
+        before = last_before before b k events early h.2;
+        shows = record { picture = picture_of rom run m; shows = h.1; is = refl };
+      })
       (pictures_on before (k + 1) b events (omega (arith, early)) inside h.2)
   pictures_on before k b (Dispatch c ∷ events) early inside h =
       subst (λ points. PicturesFrom points k (windows_ended (end_cycle limit events)) (picture_pieces rom run events))
@@ -159,12 +164,12 @@ module _ (e : Edition) (script : List KeyEvent) (limit : ℕ) (run : List Machin
 -- ---- the lines
 
 module _ (e : Edition) where
-  pub lines_are : (with_time : Bool) (ps : List Point) (events : List Event) → trace_lines e with_time events ≡ map (line e ps with_time) (points_of e events)
+  pub lines_are : (with_time : Bool) (events : List Event) → trace_lines e with_time events ≡ map (line e with_time) (points_of e events)
   unfolding trace_lines view_at
-  lines_are with_time ps [] = refl
-  lines_are with_time ps (Picture m ∷ events) = lines_are with_time ps events
-  lines_are with_time ps (Dispatch b ∷ events) = ap (λ l. line e ps with_time (point_of e b) ∷ l) (lines_are with_time ps events)
-  lines_are with_time ps (Stopped b ∷ events) = lines_are with_time ps events
+  lines_are with_time [] = refl
+  lines_are with_time (Picture m ∷ events) = lines_are with_time events
+  lines_are with_time (Dispatch b ∷ events) = ap (λ l. line e with_time (point_of e b) ∷ l) (lines_are with_time events)
+  lines_are with_time (Stopped b ∷ events) = lines_are with_time events
 
   -- the last of them
   last_of :
@@ -183,17 +188,17 @@ module _ (e : Edition) where
   pub last_is_last : (events : List Event) → last_point (points_of e events) ≡ option_map (point_of e) (last_dispatch events)
   last_is_last events = last_found (filter_map dispatch_of events)
 
-  screen_is : (ps : List Point) (last : Option Machine) → screen_piece e last ≡ last_screen e ps (option_map (point_of e) last)
-  screen_is ps None = refl
-  screen_is ps (Some b) = refl
+  screen_is : (last : Option Machine) → screen_piece e last ≡ last_screen e (option_map (point_of e) last)
+  screen_is None = refl
+  screen_is (Some b) = refl
 
   pub traced_is :
       (with_time with_screen : Bool) (events : List Event)
       → trace_pieces e with_time with_screen events ≡ trace_text e (points_of e events) with_time with_screen
   traced_is with_time with_screen events =
       ap₂ (λ lines last. lines ++ (if with_screen then last else []))
-      (lines_are with_time (points_of e events) events)
-      (screen_is (points_of e events) (last_dispatch events) ∙ ap (last_screen e (points_of e events)) (sym (last_is_last events)))
+      (lines_are with_time events)
+      (screen_is (last_dispatch events) ∙ ap (last_screen e) (sym (last_is_last events)))
 
   -- ---- the counts
 

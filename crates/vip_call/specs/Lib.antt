@@ -1,6 +1,8 @@
 pub mod Words
 pub mod Language
 pub mod Transcript
+pub mod Commands
+pub mod Transcribed
 pub mod Certified
 pub mod Saved
 pub mod Linked

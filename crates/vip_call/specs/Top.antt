@@ -15,7 +15,7 @@ use Rattle.vip_call.specs.Certified.{Certifies}
 use Rattle.vip_call.specs.Linked.{BringsMessage}
 use Rattle.vip_call.specs.Language.{ShowsChip8}
 use Rattle.vip_call.specs.Saved.{Continues}
-use Rattle.vip_call.specs.Transcript.{Transcribes, TranscribesInTime}
+use Rattle.vip_call.specs.Transcribed.{Transcribes, TranscribesInTime}
 use Rattle.vip_call.specs.Words.{FinishAnswers, OfWords, OpensWords}
 use Rattle.vip_verbs.specs.declared.prepared.Prepared.{Prepared}
 use Rattle.vip_verbs.specs.Outcome.{HasOutcome}
