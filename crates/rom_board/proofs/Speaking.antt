@@ -58,7 +58,7 @@ is_program Tall = refl
 pub not_reset : (e : Edition) (b : Machine) (game : List ℕ) → MayStart e b → b ≡ start_with game → ⊥
 not_reset e b game may is = sleeps (sym (ap (λ (b : Machine). b.latch) is) ∙ may.stands.keeps.lies.latch)
 
-stop_numbered-stop_number : (stop : Stop) → stop_numbered (stop_number stop) ≡ stop
+pub stop_numbered-stop_number : (stop : Stop) → stop_numbered (stop_number stop) ≡ stop
 stop_numbered-stop_number MachineCall = refl
 stop_numbered-stop_number Unknown = refl
 stop_numbered-stop_number FetchOutside = refl

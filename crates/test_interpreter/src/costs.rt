@@ -9,8 +9,12 @@ pub enum Kind {
     Boot,
     /// Every instruction but those below.
     Ordinary,
-    /// FX33, FX55 and FX65.
-    Transfer,
+    /// FX33
+    Decimal,
+    /// FX55
+    Store,
+    /// FX65
+    Fetch,
     /// DXYN
     Draw,
     /// 00E0
@@ -29,7 +33,9 @@ pub fn kind_of(opcode: Option<u16>) -> Kind {
     match read_instr(opcode) {
         Instr::Clear => Kind::Clear,
         Instr::Draw(_, _, _) => Kind::Draw,
-        Instr::Decimal(_) | Instr::Store(_) | Instr::Fetch(_) => Kind::Transfer,
+        Instr::Decimal(_) => Kind::Decimal,
+        Instr::Store(_) => Kind::Store,
+        Instr::Fetch(_) => Kind::Fetch,
         Instr::WaitKey(_) => Kind::WaitKey,
         _ => Kind::Ordinary,
     }
@@ -75,7 +81,9 @@ impl Range {
 pub struct Costs {
     pub boot: Most,
     pub ordinary: Most,
-    pub transfer: Most,
+    pub decimal: Most,
+    pub store: Most,
+    pub fetch: Most,
     pub draw: Most,
     pub clear: Most,
     pub stop: Most,
@@ -97,7 +105,9 @@ impl Costs {
     pub const NONE: Costs = Costs {
         boot: Most::NONE,
         ordinary: Most::NONE,
-        transfer: Most::NONE,
+        decimal: Most::NONE,
+        store: Most::NONE,
+        fetch: Most::NONE,
         draw: Most::NONE,
         clear: Most::NONE,
         stop: Most::NONE,
@@ -116,7 +126,9 @@ impl Costs {
         match interval.kind {
             Kind::Boot => self.boot.add(all, main),
             Kind::Ordinary | Kind::Outside => self.ordinary.add(all, main),
-            Kind::Transfer => self.transfer.add(all, main),
+            Kind::Decimal => self.decimal.add(all, main),
+            Kind::Store => self.store.add(all, main),
+            Kind::Fetch => self.fetch.add(all, main),
             Kind::Draw => {
                 self.draw.add(all, main);
                 self.prepare = self.prepare.max(interval.before_wait);

@@ -70,7 +70,9 @@ pub fn write_costs(rt: &HostRuntime, costs: &Costs) -> anyhow::Result<()> {
         ("boot", costs.boot, 1_000),
         ("00E0", costs.clear, 7_600),
         ("DXYN", costs.draw, 14_672),
-        ("FX33, FX55, FX65", costs.transfer, 2_600),
+        ("FX33", costs.decimal, 2_600),
+        ("FX55", costs.store, 2_600),
+        ("FX65", costs.fetch, 2_600),
         ("other instructions but FX0A", costs.ordinary, 2_200),
         ("stops", costs.stop, 2_200),
     ] {

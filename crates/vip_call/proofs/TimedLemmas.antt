@@ -6,12 +6,10 @@ use Rattle.machine.specs.Pictures.{picture_of, windows_ended}
 use Rattle.machine.specs.Run.{run_to}
 use Rattle.chip8_lang.specs.declared.view.Edition.{Edition}
 use Rattle.chip8_lang.specs.declared.view.Stop.{Stop}
-use Rattle.chip8_lang.specs.declared.view.Stop.TheVariants.{MachineCall, Unknown, FetchOutside, ReadOutside, WriteOutside, StackFull, StackEmpty}
 use Rattle.chip8_lang.specs.Events.{Event, events_behind}
 use Rattle.chip8_lang.specs.Events.Event.{Picture, Dispatch, Stopped}
 use Rattle.chip8_lang.specs.Places.{state_of}
 use Rattle.chip8_lang.specs.State.{Lang, memory_size}
-use Rattle.chip8_lang.specs.Step.{stop_number}
 use Rattle.chip8_lang.specs.Ticks.{ticks}
 use Rattle.chip8_lang.specs.Timed.{Shown as TimedShown, shown_behind}
 use Rattle.chip8_lang.specs.Timed.Shown.{Picture as PictureAt, Point as PointAt, End}
@@ -21,6 +19,7 @@ use Rattle.rom_law.specs.Program.{Halts}
 use Rattle.rom_run.specs.Timeline.{AreShown}
 use Rattle.rom_board.specs.Laws.{EveryRun, EveryTime}
 use Rattle.rom_board.specs.Program.{program}
+use Rattle.rom_board.proofs.Speaking.{stop_numbered-stop_number}
 use Rattle.chip8_image.specs.Interpreters.{interpreter_of}
 use Rattle.vip_relation.specs.State.Start.{Reset, Saved}
 use Rattle.vip_relation.specs.Stops.{stop_numbered}
@@ -37,15 +36,6 @@ use Rattle.vip_call.proofs.ResumedLemmas.{FromFile as FromAccepted, is_run_behin
 use Rattle.vip_call.proofs.TranscriptLemmas.{file_point_is, points_of}
 
 -- ---- a stop
-
-by_number : (stop : Stop) → stop_numbered (stop_number stop) ≡ stop
-by_number MachineCall = refl
-by_number Unknown = refl
-by_number FetchOutside = refl
-by_number ReadOutside = refl
-by_number WriteOutside = refl
-by_number StackFull = refl
-by_number StackEmpty = refl
 
 -- ticks leave pc and the opcode there
 same_pc : (n : ℕ) (s : Lang) → (ticks n s).pc ≡ s.pc
@@ -72,7 +62,7 @@ module _ (e : Edition) (script : List KeyEvent) (limit : ℕ) (run : List Machin
       n = (program e).ticks_between b.cycle c.cycle
 
       same_stop : h.stop.stop ≡ stop
-      same_stop = sym (by_number h.stop.stop) ∙ ap stop_numbered (sym h.stop.halts.number ∙ halts.number) ∙ by_number stop
+      same_stop = sym (stop_numbered-stop_number h.stop.stop) ∙ ap stop_numbered (sym h.stop.halts.number ∙ halts.number) ∙ stop_numbered-stop_number stop
 
       same_state : ticks n (state_of e b) ≡ s
       same_state = sym h.stop.halts.keeps.lies.is ∙ halts.keeps.lies.is

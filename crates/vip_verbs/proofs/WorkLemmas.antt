@@ -78,9 +78,6 @@ beginning-of v started = record { start = Reset started.game; script = started.s
 pub fresh-of : (v : VipState) → IsBeginning v → IsFresh v
 fresh-of v begins = fresh-begun v v.edition begins.start begins.script begins.is begins.runs
 
-pub none-told : (v : VipState) → IsStarted v → v.last ≡ None
-none-told v started = ap (λ (w : VipState). w.last) started.is
-
 -- a game's run that goes on from a file is such a one
 pub resumed-of : (file : List ℕ) (scripts : List (List ℕ)) (v : VipState) → GoesOn file scripts v → IsBeginning v
 resumed-of file scripts v goes = record { start = Saved file; script = goes.script; is = goes.is; runs = goes.runs }
