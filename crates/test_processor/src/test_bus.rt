@@ -130,7 +130,7 @@ impl Bus for TestBus {
         self.taken
     }
 
-    fn ef(&self, flag: u8) -> bool {
+    fn ef(&mut self, flag: u8) -> bool {
         self.flags[(flag - 1) as usize]
     }
 }

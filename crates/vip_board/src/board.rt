@@ -189,7 +189,6 @@ impl Board {
         ensures board { self.new ≡ cycled self.old }
         ensures did { result ≡ (cycle_of self.old).did }
     {
-        self.wires.seek_if(self.cpu.tests_ef3());
         let now = self.wires.video.now();
         let requests = self.wires.video.requests();
         let did = self.cpu.cycle(&mut self.wires, requests.dma, requests.int);
@@ -229,7 +228,6 @@ impl Board {
         requires middle { self.old.phase ≡ Phase.Boundary → ⊥ }
         ensures { self.new ≡ cycled self.old }
     {
-        self.wires.seek_if(self.cpu.tests_ef3());
         let now = self.wires.video.now();
         self.cpu.cycle(&mut self.wires, false, false);
         self.wires.video.end_cycle(now, None);
@@ -554,7 +552,6 @@ impl Board {
         ensures incoming { incoming.new ≡ incoming_after (last_cycle self.old incoming.old outgoing.old).effect.port incoming.old }
         ensures outgoing { outgoing.new ≡ outgoing_after (last_cycle self.old incoming.old outgoing.old).effect.port outgoing.old }
     {
-        self.wires.seek_if(self.cpu.tests_ef3());
         let now = self.wires.video.now();
         let mut joined = Joined {
             wires: &mut self.wires,
@@ -572,7 +569,7 @@ impl Board {
     /// EF2 is 1 where the incoming wire is full at the start of the move, and EF4 where the outgoing one is. INP 3 takes the byte of the
     /// incoming wire, which is then empty, and 00 where it was empty. OUT 3 puts its byte on the outgoing wire, and loses it where that one
     /// is full.
-    pub fn linked(&mut self, incoming: &mut Wire, outgoing: &mut Wire) -> Move
+    pub fn make_linked(&mut self, incoming: &mut Wire, outgoing: &mut Wire) -> Move
         requires boundary { self.old.phase ≡ Phase.Boundary }
         requires fits { self.old.machine.cycle + 3 < 2 ^ 64 }
         ensures moved { self.new ≡ linked_moved self.old incoming.old outgoing.old }

@@ -15,7 +15,7 @@
 //!
 //! - `to_boundary` makes exactly one move of the board as `machine` defines it and names it, or answers that the move would end after
 //!   the limit and changes nothing; `cycle` makes the next machine cycle of that move.
-//! - `linked` makes the next move with two wires at port 3, as `specs/Linked.antt` defines it; on wires that nobody fills a board moves as one
+//! - `make_linked` makes the next move with two wires at port 3, as `specs/Linked.antt` defines it; on wires that nobody fills a board moves as one
 //!   alone (`laws::as_alone`).
 //! - What the video chip has of pictures is what the definition of pictures says of the moves made so far (`specs/Shown.antt`); of a board
 //!   that `restore` made at a later cycle, of the frames whose interrupts start at or after it.

@@ -104,7 +104,7 @@ impl Bus for Joined<'_> {
         }
     }
 
-    fn ef(&self, flag: u8) -> bool {
+    fn ef(&mut self, flag: u8) -> bool {
         match flag {
             2 => self.incoming.is_some(),
             4 => self.outgoing.is_some(),

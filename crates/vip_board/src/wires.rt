@@ -1,7 +1,5 @@
 //! What the processor is wired to.
 
-ghost use Rattle.std.specs.Prelude.{◌≡◌};
-
 use vip_cpu::Bus;
 use vip_keypad::Keypad;
 use vip_memory::Memory;
@@ -14,17 +12,6 @@ pub struct Wires {
     pub memory: Memory,
     pub video: Video,
     pub keypad: Keypad,
-}
-
-impl Wires {
-    /// Finds the events about the present cycle where an instruction tests EF3 in it, so that the flag is read without a search.
-    pub fn seek_if(&mut self, tests_ef3: bool)
-        ensures { self.new ≡ self.old }
-    {
-        if tests_ef3 {
-            self.keypad.seek(self.video.now());
-        }
-    }
 }
 
 impl Bus for Wires {
@@ -77,10 +64,13 @@ impl Bus for Wires {
         0
     }
 
-    fn ef(&self, flag: u8) -> bool {
+    // No instruction that `Board::work` makes tests a flag: apart and cold, this call costs its loop hardly a register.
+    #[cold]
+    #[inline(never)]
+    fn ef(&mut self, flag: u8) -> bool {
         match flag {
             1 => self.video.signals(self.video.now()).efx,
-            3 => self.keypad.down(self.video.now(), self.keypad.latched()),
+            3 => self.keypad.ef3(self.video.now()),
             _ => false,
         }
     }

@@ -1,6 +1,6 @@
 -- One machine cycle of the CDP1802 (data sheet, "State Codes"): S0 fetches, S1 executes or idles, S2 is a DMA cycle, and S3 an
 -- interrupt.
-use Rattle.std.specs.Prelude.{◌-◌, ◌==◌, ◌&&◌, ◌||◌, ◌≤◌, if◌then◌else◌, ℕ, Bool, false}
+use Rattle.std.specs.Prelude.{◌-◌, ◌==◌, ◌&&◌, ◌≤◌, if◌then◌else◌, ℕ, Bool}
 use Rattle.machine.specs.Opcodes.{cycles_of}
 use Rattle.machine.specs.Instruction.{Regs, Effect, only, executed, inputs, at, stepped, after_dma, interrupted}
 use Rattle.vip_cpu.specs.declared.cpu.Phase.{Phase}
@@ -49,11 +49,6 @@ cycle_in (Middle opcode left) s m f dma int taken =
 -- one machine cycle, by the bytes of memory, the flags, the request for DMA, INT, and the byte that the bus takes from a port
 abbrev pub cycle : Processor → (ℕ → ℕ) → (ℕ → Bool) → Bool → Bool → ℕ → Cycle
 cycle c m f dma int taken = cycle_in c.phase c.regs m f dma int taken
-
--- it is in B3 or BN3, which test EF3
-abbrev pub tests_ef3 : Phase → Bool
-tests_ef3 Boundary = false
-tests_ef3 (Middle opcode left) = (opcode == 0x36) || (opcode == 0x3e)
 
 -- in the middle of an instruction one or two cycles are left
 abbrev pub HasCyclesLeft : Phase → Type 0

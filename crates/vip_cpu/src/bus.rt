@@ -41,11 +41,12 @@ pub trait Bus {
         requires to_7 { port ≤ 7 }
         ensures { receives self.old port result self.new };
 
-    /// Whether a flag, 1 to 4, is active.
-    fn ef(&self, flag: u8) -> bool
+    /// Whether a flag, 1 to 4, is active. A bus may find that out and keep it, but means the same after.
+    fn ef(&mut self, flag: u8) -> bool
         requires from_1 { 1 ≤ flag }
         requires to_4 { flag ≤ 4 }
-        ensures { result ≡ flags self.now flag };
+        ensures active { result ≡ flags self.old flag }
+        ensures kept { self.new ≡ self.old };
 
     ghost write_keeps: { (b : Self) (a v : ℕ) (c : Self) → writes b a v c → (k : ℕ) → k ≢ a → byte c k ≡ byte b k };
 

@@ -57,7 +57,7 @@ impl Model for Cpu {
 }
 
 impl Cpu {
-    ghost use Rattle.vip_cpu.specs.Cycle.{after, begun, ended, cycle, tests_ef3};
+    ghost use Rattle.vip_cpu.specs.Cycle.{after, begun, ended, cycle};
 
     /// A processor after reset, at a boundary: Q = 0, IE = 1, and all other registers are 0.
     pub fn reset() -> Cpu
@@ -154,16 +154,6 @@ impl Cpu {
         match self.phase {
             Phase::Boundary => true,
             Phase::Middle(..) => false,
-        }
-    }
-
-    /// Whether the processor is in an instruction that tests EF3, B3 or BN3.
-    pub fn tests_ef3(&self) -> bool
-        ensures { result ≡ tests_ef3 self.now.phase }
-    {
-        match self.phase {
-            Phase::Middle(0x36 | 0x3E, _) => true,
-            _ => false,
         }
     }
 

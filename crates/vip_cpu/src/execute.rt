@@ -2,7 +2,7 @@
 //!
 //! Each function does the rows of its group, with the flags and the memory that the bus has now.
 
-ghost use Rattle.std.specs.Prelude.{◌≡◌, true, false};
+ghost use Rattle.std.specs.Prelude.{◌≡◌, ◌≤◌, true, false, not};
 ghost use Rattle.machine.specs.Bank.{value, get, up};
 ghost use Rattle.machine.specs.Instruction.{effect, inputs, at, stepped, branched, long_branched};
 ghost use Rattle.vip_isa.specs.Rows.{IsValid};
@@ -208,10 +208,35 @@ fn arithmetic_operation<B: Bus>(s: &mut Registers, bus: &B, op: Op)
     }
 }
 
+/// A short branch that is taken where a flag is active.
 #[inline(always)]
-fn short_branch<B: Bus>(s: &mut Registers, bus: &B, op: Op)
+fn branch_if<B: Bus>(s: &mut Registers, bus: &mut B, flag: u8)
+    requires from_1 { 1 ≤ flag }
+    requires to_4 { flag ≤ 4 }
+    ensures regs { s.new ≡ branched s.old (B.flags bus.old flag) (B.byte bus.old (at s.old s.old.p)) }
+    ensures bus { bus.new ≡ bus.old }
+{
+    let active = bus.ef(flag);
+    branch(s, bus, active);
+}
+
+/// A short branch that is taken where a flag isn't active.
+#[inline(always)]
+fn branch_unless<B: Bus>(s: &mut Registers, bus: &mut B, flag: u8)
+    requires from_1 { 1 ≤ flag }
+    requires to_4 { flag ≤ 4 }
+    ensures regs { s.new ≡ branched s.old (not (B.flags bus.old flag)) (B.byte bus.old (at s.old s.old.p)) }
+    ensures bus { bus.new ≡ bus.old }
+{
+    let active = bus.ef(flag);
+    branch(s, bus, !active);
+}
+
+#[inline(always)]
+fn short_branch<B: Bus>(s: &mut Registers, bus: &mut B, op: Op)
     requires { group_of op.kind ≡ Group.ShortBranch }
-    ensures { s.new ≡ (effect op.kind op.n s.old (inputs s.old (B.byte bus.now) (B.flags bus.now) 0)).regs }
+    ensures regs { s.new ≡ (effect op.kind op.n s.old (inputs s.old (B.byte bus.old) (B.flags bus.old) 0)).regs }
+    ensures bus { bus.new ≡ bus.old }
 {
     match op.kind {
         Kind::Br => branch(s, bus, true),
@@ -221,14 +246,14 @@ fn short_branch<B: Bus>(s: &mut Registers, bus: &B, op: Op)
         Kind::Bnf => branch(s, bus, !s.df()),
         Kind::Bq => branch(s, bus, s.q()),
         Kind::Bnq => branch(s, bus, !s.q()),
-        Kind::B1 => branch(s, bus, bus.ef(1)),
-        Kind::Bn1 => branch(s, bus, !bus.ef(1)),
-        Kind::B2 => branch(s, bus, bus.ef(2)),
-        Kind::Bn2 => branch(s, bus, !bus.ef(2)),
-        Kind::B3 => branch(s, bus, bus.ef(3)),
-        Kind::Bn3 => branch(s, bus, !bus.ef(3)),
-        Kind::B4 => branch(s, bus, bus.ef(4)),
-        Kind::Bn4 => branch(s, bus, !bus.ef(4)),
+        Kind::B1 => branch_if(s, bus, 1),
+        Kind::Bn1 => branch_unless(s, bus, 1),
+        Kind::B2 => branch_if(s, bus, 2),
+        Kind::Bn2 => branch_unless(s, bus, 2),
+        Kind::B3 => branch_if(s, bus, 3),
+        Kind::Bn3 => branch_unless(s, bus, 3),
+        Kind::B4 => branch_if(s, bus, 4),
+        Kind::Bn4 => branch_unless(s, bus, 4),
         _ => unreachable!(),
     }
 }

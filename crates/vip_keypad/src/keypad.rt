@@ -13,7 +13,7 @@ use std::marker::Model;
 pub struct Keypad {
     script: Script,
     latched: u8,
-    // the cycles whose keys were looked up last
+    // the cycles between two events that were found last
     stretch: Stretch,
 }
 
@@ -35,7 +35,7 @@ impl Keypad {
         ensures { IfOk result (λ keypad. keypad ≡ record { script = script.now; latched = 0 }) }
     {
         Ok(Keypad {
-            script: script.copied(alloc)?,
+            script: script.copy(alloc)?,
             latched: 0,
             stretch: Stretch::empty(),
         })
@@ -53,14 +53,16 @@ impl Keypad {
         }
     }
 
-    /// Finds the events about machine cycle t, so that `down` needs no search from the last event at or before t up to the next one.
-    /// It changes no answer.
-    pub fn seek(&mut self, t: u64)
-        ensures { self.new ≡ self.old }
+    /// The flag EF3 in machine cycle t: whether the latched key is held down. The events about t are searched for only where t lies
+    /// outside the cycles between two events in which the last answer fell; nothing else changes.
+    pub fn ef3(&mut self, t: u64) -> bool
+        ensures down { result ≡ held_at self.old.script t self.old.latched }
+        ensures kept { self.new ≡ self.old }
     {
         if !self.stretch.contains(t) {
             self.stretch = self.script.stretch_at(t);
         }
+        self.down(t, self.latched)
     }
 
     /// Latches the low four bits of a byte as the key number, as OUT 2 does.

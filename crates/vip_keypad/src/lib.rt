@@ -6,8 +6,8 @@
 //!
 //! The crate stands on the definitions of `machine`, on `vip_byte` and on the kit's `thiserror`. The layers above may rely on this: a
 //! script that was read is the list of its events, or its first fault; `Keypad::down` is `held_at` of `machine` over that whole list; the
-//! latched key is the low four bits of the byte that was latched last. `Keypad::seek` saves `down` the search among the events, at all
-//! cycles up to the next event, and changes no answer.
+//! latched key is the low four bits of the byte that was latched last; `Keypad::ef3` is `down` of that key. When the events are searched
+//! is the keypad's own matter: `ef3` keeps the cycles between two events in which it answered last, and no clause sees them.
 #![tactic(auto)]
 
 mod key_set;

@@ -138,7 +138,7 @@ impl Script {
     }
 
     // A copy of the script.
-    pub(crate) fn copied(&self, alloc: Global) -> Result<Script, AllocError>
+    pub(crate) fn copy(&self, alloc: Global) -> Result<Script, AllocError>
         ensures { IfOk result (λ script. script ≡ self.now) }
     {
         Ok(Script {

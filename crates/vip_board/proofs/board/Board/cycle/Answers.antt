@@ -8,7 +8,7 @@ use Rattle.vip_board.proofs.board.Board.cycle.Goals as goal
 pub end_cycle-requires-clause-present : goal.end_cycle-requires-clause-present
 end_cycle-requires-clause-present c =
     let m =
-    made c.self.inside.cpu c.seek_if.new.self c.seek_if.new.self.video.cycles c.requests-requests.result.dma c.requests-requests.result.int
+    made c.self.inside.cpu c.self.inside.wires c.self.inside.wires.video.cycles c.requests-requests.result.dma c.requests-requests.result.int
     c.cycle-did.new.self c.cycle-did.new.bus c.cycle-did.result
     refl c.requests-requests.ensures.dma c.requests-requests.ensures.int c.cycle-did.ensures in
     c.now-now.ensures ∙ sym (ap (λ (w : Wires). w.video.cycles) m.wires)
@@ -17,19 +17,17 @@ pub returns-clause-board : goal.returns-clause-board
 returns-clause-board c =
     let cpu = c.self.inside.cpu in
     let m =
-    made cpu c.seek_if.new.self c.seek_if.new.self.video.cycles c.requests-requests.result.dma c.requests-requests.result.int
+    made cpu c.self.inside.wires c.self.inside.wires.video.cycles c.requests-requests.result.dma c.requests-requests.result.int
     c.cycle-did.new.self c.cycle-did.new.bus c.cycle-did.result
     refl c.requests-requests.ensures.dma c.requests-requests.ensures.int c.cycle-did.ensures in
-    let On : Wires → Type 0 = λ w. w.video.cycle_on ≡ w.video.on in
-    seen_after cpu c.seek_if.new.self c.cycle-did.new.self c.cycle-did.new.bus c.cycle-did.result c.byte_in.result c.end_cycle.new.self
-    (subst On (sym c.seek_if.ensures) c.self.invariant) m c.byte_in.ensures c.end_cycle.ensures
-    ∙ ap (λ w. cycled (seen_of cpu w)) c.seek_if.ensures
+    seen_after cpu c.self.inside.wires c.cycle-did.new.self c.cycle-did.new.bus c.cycle-did.result c.byte_in.result c.end_cycle.new.self
+    c.self.invariant m c.byte_in.ensures c.end_cycle.ensures
     ∙ ap cycled c.self.view_is
 
 pub returns-clause-did : goal.returns-clause-did
 returns-clause-did c =
     let m =
-    made c.self.inside.cpu c.seek_if.new.self c.seek_if.new.self.video.cycles c.requests-requests.result.dma c.requests-requests.result.int
+    made c.self.inside.cpu c.self.inside.wires c.self.inside.wires.video.cycles c.requests-requests.result.dma c.requests-requests.result.int
     c.cycle-did.new.self c.cycle-did.new.bus c.cycle-did.result
     refl c.requests-requests.ensures.dma c.requests-requests.ensures.int c.cycle-did.ensures in
-    m.did ∙ ap (λ w. (cycle_of (seen_of c.self.inside.cpu w)).did) c.seek_if.ensures ∙ ap (λ s. (cycle_of s).did) c.self.view_is
+    m.did ∙ ap (λ s. (cycle_of s).did) c.self.view_is

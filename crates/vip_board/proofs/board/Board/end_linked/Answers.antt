@@ -10,34 +10,33 @@ use Rattle.vip_board.proofs.board.Board.end_linked.Goals as goal
 pub returns-clause-board : goal.returns-clause-board
 returns-clause-board c =
     let cpu = c.self.inside.cpu in
-    let On : Wires → Type 0 = λ w. w.video.cycle_on ≡ w.video.on in
     let m =
     made-last c.requires.last.0 cpu _ c.cycle.new.bus c.cycle.new.self c.cycle.result
     (ap (λ (s : Seen). s.phase) c.self.view_is ∙ c.requires.last.1) c.cycle.ensures in
-    seen-last cpu c.seek_if.new.self c.full.result c.full-2.result c.cycle.new.self c.cycle.new.bus.wires.now c.cycle.new.bus.incoming
+    seen-last cpu c.self.inside.wires c.full.result c.full-2.result c.cycle.new.self c.cycle.new.bus.wires.now c.cycle.new.bus.incoming
     c.cycle.new.bus.outgoing c.end_cycle.new.self
-    (subst On (sym c.seek_if.ensures) c.self.invariant) m c.end_cycle.ensures
-    ∙ (λ t. last_cycled (seen_of cpu (c.seek_if.ensures t)) (c.full.ensures t) (c.full-2.ensures t))
+    c.self.invariant m c.end_cycle.ensures
+    ∙ (λ t. last_cycled (seen_of cpu c.self.inside.wires) (c.full.ensures t) (c.full-2.ensures t))
     ∙ ap (λ s. last_cycled s c.args.incoming.now c.args.outgoing.now) c.self.view_is
 
 pub returns-clause-incoming : goal.returns-clause-incoming
 returns-clause-incoming c =
     let cpu = c.self.inside.cpu in
-    let m : MadeLast cpu c.seek_if.new.self c.full.result c.full-2.result c.cycle.new.self c.cycle.new.bus.wires.now c.cycle.new.bus.incoming
+    let m : MadeLast cpu c.self.inside.wires c.full.result c.full-2.result c.cycle.new.self c.cycle.new.bus.wires.now c.cycle.new.bus.incoming
     c.cycle.new.bus.outgoing =
     made-last c.requires.last.0 cpu _ c.cycle.new.bus c.cycle.new.self c.cycle.result
     (ap (λ (s : Seen). s.phase) c.self.view_is ∙ c.requires.last.1) c.cycle.ensures in
     c.set.ensures ∙ m.incoming_is
-    ∙ (λ t. incoming_after (last_cycle (seen_of cpu (c.seek_if.ensures t)) (c.full.ensures t) (c.full-2.ensures t)).effect.port (c.full.ensures t))
+    ∙ (λ t. incoming_after (last_cycle (seen_of cpu c.self.inside.wires) (c.full.ensures t) (c.full-2.ensures t)).effect.port (c.full.ensures t))
     ∙ ap (λ s. incoming_after (last_cycle s c.args.incoming.now c.args.outgoing.now).effect.port c.args.incoming.now) c.self.view_is
 
 pub returns-clause-outgoing : goal.returns-clause-outgoing
 returns-clause-outgoing c =
     let cpu = c.self.inside.cpu in
-    let m : MadeLast cpu c.seek_if.new.self c.full.result c.full-2.result c.cycle.new.self c.cycle.new.bus.wires.now c.cycle.new.bus.incoming
+    let m : MadeLast cpu c.self.inside.wires c.full.result c.full-2.result c.cycle.new.self c.cycle.new.bus.wires.now c.cycle.new.bus.incoming
     c.cycle.new.bus.outgoing =
     made-last c.requires.last.0 cpu _ c.cycle.new.bus c.cycle.new.self c.cycle.result
     (ap (λ (s : Seen). s.phase) c.self.view_is ∙ c.requires.last.1) c.cycle.ensures in
     c.set-2.ensures ∙ m.outgoing_is
-    ∙ (λ t. outgoing_after (last_cycle (seen_of cpu (c.seek_if.ensures t)) (c.full.ensures t) (c.full-2.ensures t)).effect.port (c.full-2.ensures t))
+    ∙ (λ t. outgoing_after (last_cycle (seen_of cpu c.self.inside.wires) (c.full.ensures t) (c.full-2.ensures t)).effect.port (c.full-2.ensures t))
     ∙ ap (λ s. outgoing_after (last_cycle s c.args.incoming.now c.args.outgoing.now).effect.port c.args.outgoing.now) c.self.view_is

@@ -9,16 +9,14 @@ use Rattle.vip_board.proofs.board.Board.go_on.Goals as goal
 pub end_cycle-requires-clause-present : goal.end_cycle-requires-clause-present
 end_cycle-requires-clause-present c =
     let going : c.self.inside.cpu.phase ≡ Boundary → ⊥ = λ h. c.requires.middle (sym (ap (λ (s : Seen). s.phase) c.self.view_is) ∙ h) in
-    let m = made-on c.self.inside.cpu c.seek_if.new.self _ _ c.cycle.new.self c.cycle.new.bus c.cycle.result going c.cycle.ensures in
+    let m = made-on c.self.inside.cpu c.self.inside.wires _ _ c.cycle.new.self c.cycle.new.bus c.cycle.result going c.cycle.ensures in
     c.now-now.ensures ∙ sym (ap (λ (w : Wires). w.video.cycles) m.wires)
 
 pub returns : goal.returns
 returns c =
     let cpu = c.self.inside.cpu in
     let going : cpu.phase ≡ Boundary → ⊥ = λ h. c.requires.middle (sym (ap (λ (s : Seen). s.phase) c.self.view_is) ∙ h) in
-    let m = made-on cpu c.seek_if.new.self _ _ c.cycle.new.self c.cycle.new.bus c.cycle.result going c.cycle.ensures in
-    let On : Wires → Type 0 = λ w. w.video.cycle_on ≡ w.video.on in
-    seen_after cpu c.seek_if.new.self c.cycle.new.self c.cycle.new.bus c.cycle.result None c.end_cycle.new.self
-    (subst On (sym c.seek_if.ensures) c.self.invariant) m (no-byte cpu _ _ _ _ going m) c.end_cycle.ensures
-    ∙ ap (λ w. cycled (seen_of cpu w)) c.seek_if.ensures
+    let m = made-on cpu c.self.inside.wires _ _ c.cycle.new.self c.cycle.new.bus c.cycle.result going c.cycle.ensures in
+    seen_after cpu c.self.inside.wires c.cycle.new.self c.cycle.new.bus c.cycle.result None c.end_cycle.new.self
+    c.self.invariant m (no-byte cpu _ _ _ _ going m) c.end_cycle.ensures
     ∙ ap cycled c.self.view_is

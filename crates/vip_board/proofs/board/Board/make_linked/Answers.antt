@@ -5,8 +5,8 @@ use Rattle.vip_board.proofs.Whole.{fetches_of, name_of-fetch}
 use Rattle.machine.specs.Board.Case.{Dma as DmaCase, Interrupt as InterruptCase, Idle as IdleCase}
 use Rattle.vip_board.proofs.Cases.{dma-move, interrupt-move, idle-move, name-in}
 use Rattle.vip_board.proofs.Joins.{EndsLinked, two-ends, three-ends, dma-leaves, interrupt-leaves, idle-leaves}
-use Rattle.vip_board.proofs.board.Board.linked.Goals as goal
-use Rattle.vip_board.proofs.board.Board.linked.Goals.{then-length-eq3, else-length-eq3}
+use Rattle.vip_board.proofs.board.Board.make_linked.Goals as goal
+use Rattle.vip_board.proofs.board.Board.make_linked.Goals.{then-length-eq3, else-length-eq3}
 
 pub returns-in-Dma-clause-moved : goal.returns-in-Dma-clause-moved
 returns-in-Dma-clause-moved c =
