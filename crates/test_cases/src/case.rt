@@ -198,14 +198,14 @@ impl Case {
     }
 
     /// The lines of what was due and didn't come.
-    pub fn missed(&self, alloc: Global, came: &Answer) -> Result<String, AllocError> {
-        let mut missed = String::new(alloc);
+    pub fn missing_lines(&self, alloc: Global, came: &Answer) -> Result<String, AllocError> {
+        let mut missing = String::new(alloc);
         for fact in self.facts.iter() {
             if !fact.due.is_met(alloc, came)? {
-                missed.push_str(&fact.text)?;
+                missing.push_str(&fact.text)?;
             }
         }
-        Ok(missed)
+        Ok(missing)
     }
 }
 

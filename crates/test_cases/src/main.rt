@@ -56,7 +56,7 @@ impl Count {
 /// Runs a case in an edition, and writes what isn't as it must be.
 fn judge(rt: &HostRuntime, case: &Case, tall: bool, count: &mut Count) -> anyhow::Result<()> {
     let answer = case.run(rt.alloc(), tall)?;
-    let missed = case.missed(rt.alloc(), &answer)?;
+    let missed = case.missing_lines(rt.alloc(), &answer)?;
     count.add(missed.is_empty());
     if missed.is_empty() {
         return Ok(());

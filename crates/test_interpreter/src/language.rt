@@ -59,8 +59,8 @@ impl State {
         self.n
     }
 
-    /// After so many ticks.
-    fn ticked(mut self, ticks: u16) -> State {
+    /// Makes so many ticks.
+    fn tick(mut self, ticks: u16) -> State {
         for _ in 0..ticks {
             self.n = self.n.wrapping_add(1);
             self.dt = self.dt.saturating_sub(1);
@@ -370,8 +370,8 @@ impl Language {
         let opcode = self.opcode(from.pc).unwrap_or(0);
         let waits = opcode == 0x00E0 || opcode / 0x1000 == 0xD;
         let first = if waits { ticks.max(1) } else { 0 };
-        (first..=ticks).any(|early| match self.step(&from.ticked(early)) {
-            Ok(state) => state.ticked(ticks.saturating_sub(early)) == *to,
+        (first..=ticks).any(|early| match self.step(&from.tick(early)) {
+            Ok(state) => state.tick(ticks.saturating_sub(early)) == *to,
             Err(_) => false,
         })
     }

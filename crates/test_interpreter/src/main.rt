@@ -15,7 +15,7 @@
 //! bounds is proved in `rom_run`; what is measured here says how far below them it stays. Nothing here is proved but that it is safe.
 #![tactic(auto)]
 
-mod compared;
+mod comparison;
 mod console;
 mod costs;
 mod cuts;
@@ -31,7 +31,7 @@ mod starts;
 mod watch;
 mod wrong;
 
-use crate::compared::compared;
+use crate::comparison::compare_sources;
 use crate::cuts::cut_runs;
 use crate::edition::{EDITIONS, name};
 use crate::files::run_files;
@@ -109,7 +109,7 @@ fn run_editions(rt: &HostRuntime) -> anyhow::Result<()> {
 }
 
 fn main(rt: HostRuntime) -> anyhow::Result<()> {
-    write_compared(&rt, compared(rt.alloc()))?;
+    write_compared(&rt, compare_sources(rt.alloc()))?;
     run_editions(&rt)?;
     write_files(&rt, &run_files(rt.alloc())?)?;
     write_cuts(&rt, &cut_runs(rt.alloc())?)?;

@@ -193,7 +193,7 @@ impl Source {
             routines: self.routines(table),
             shifts: self.shifts(),
             labels: self.labels(),
-            misplaced: self.misplaced(table),
+            misplaced: self.count_misplaced(table),
             key_tests: self.key_tests()?,
         })
     }
@@ -285,7 +285,7 @@ impl Source {
     }
 
     // How many addresses have a byte of another part's text, or none where one is due.
-    fn misplaced(&self, table: u16) -> u32 {
+    fn count_misplaced(&self, table: u16) -> u32 {
         let mut count = 0u32;
         for address in 0..=u16::MAX {
             let given = match self.made.line_of(address) {

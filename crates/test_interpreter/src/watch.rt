@@ -101,7 +101,7 @@ impl Watch {
             }
             let before = console.now();
             match console.step(limit) {
-                Moved::Done(made) => self.moved(console, next, made, before),
+                Moved::Done(made) => self.note_move(console, next, made, before),
                 Moved::End => return,
             }
         }
@@ -134,7 +134,7 @@ impl Watch {
     }
 
     // A move was made that began at a cycle.
-    fn moved(&mut self, console: &Console, next: Next, made: Move, before: u64) {
+    fn note_move(&mut self, console: &Console, next: Next, made: Move, before: u64) {
         if made == Move::Interrupt {
             self.interrupts = self.interrupts.saturating_add(1);
             self.torn = self.torn.saturating_add(u64::from(self.has_written));

@@ -59,8 +59,8 @@ fn is_right(alloc: Global, text: &[u8], due: Due) -> bool {
     text.len() <= 1_000 && compare(alloc, text, &IMAGE) == answer(due)
 }
 
-/// How many sources come to what is due, and how many there are.
-pub fn compared(alloc: Global) -> (usize, usize) {
+/// Compares each source with the ROM: how many come to what is due, and how many there are.
+pub fn compare_sources(alloc: Global) -> (usize, usize) {
     let mut right = 0usize;
     for (text, due) in ROWS {
         if is_right(alloc, text.as_bytes(), *due) {
