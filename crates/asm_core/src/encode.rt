@@ -138,7 +138,7 @@ fn words_from(values: &[u16]) -> Bytes
 
 // The bytes of a line by its parts, which stands from the address `at` up to `next`.
 #[tactic(auto, unfolding(crate::specs::Encoding::encoded_parts))]
-fn encoded_parts(
+fn encode_parts(
     names: &Symbols,
     at: u32,
     next: u32,
@@ -172,14 +172,19 @@ fn encoded_parts(
 
 /// The bytes of a line that stands from the address `at` up to `next`, where `names` are those of all lines.
 #[tactic(auto, unfolding(crate::specs::Encoding::encoded))]
-pub(crate) fn encoded(names: &Symbols, at: u32, next: u32, bytes: &[u8]) -> Result<Bytes, AsmCause>
+pub(crate) fn encode_line(
+    names: &Symbols,
+    at: u32,
+    next: u32,
+    bytes: &[u8],
+) -> Result<Bytes, AsmCause>
     requires at { at ≤ 65536 }
     ensures { MatchResult result
         (λ made. encoded (value_in names.now) at next bytes.now ≡ Ok (bytes_in made))
         (λ cause. encoded (value_in names.now) at next bytes.now ≡ Err cause) }
 {
     match line(bytes) {
-        Ok(line) => encoded_parts(names, at, next, bytes, line.word, line.operands.as_slice()),
+        Ok(line) => encode_parts(names, at, next, bytes, line.word, line.operands.as_slice()),
         Err(fault) => Err(cause_of(fault)),
     }
 }

@@ -39,7 +39,7 @@ fn page_above(at: u32) -> u32
 
 // What a word does to the address at which its line begins.
 #[tactic(auto, unfolding(crate::specs::Layout::placed))]
-fn placed(
+fn place(
     names: &Symbols,
     at: u32,
     line: &[u8],
@@ -104,7 +104,7 @@ fn move_to(address: u32) -> Laid
 
 // The first cause of a line whose label is new.
 #[tactic(auto, unfolding(crate::specs::Layout::judged))]
-fn judged(has_label: bool, large: bool, placed: Result<Laid, ValueFault>) -> Result<Laid, AsmCause>
+fn judge(has_label: bool, large: bool, placed: Result<Laid, ValueFault>) -> Result<Laid, AsmCause>
     ensures cause { result ≡ judged has_label large placed }
     ensures next { IfOk result (λ laid. laid.next ≤ 65536) }
     ensures value { IfOk result (λ laid. IsTrue has_label → laid.value ≤ 65535) }
@@ -137,7 +137,7 @@ fn is_duplicate(names: &Symbols, line: &[u8], label: Option<Span>) -> bool
 }
 
 /// Pass 1 over a line that begins at the address `at`, where `names` are those of the earlier lines.
-pub(crate) fn laid_out(names: &Symbols, at: u32, bytes: &[u8]) -> Result<PlacedLine, AsmCause>
+pub(crate) fn lay_out(names: &Symbols, at: u32, bytes: &[u8]) -> Result<PlacedLine, AsmCause>
     requires at { at ≤ 65536 }
     ensures laid { MatchResult result
         (λ line. laid_out (value_in names.now) at bytes.now ≡ Ok line.laid)
@@ -154,8 +154,8 @@ pub(crate) fn laid_out(names: &Symbols, at: u32, bytes: &[u8]) -> Result<PlacedL
         return Err(AsmCause::Duplicate);
     }
     let operands = line.operands.as_slice();
-    let placed = placed(names, at, bytes, line.word, operands);
-    match judged(
+    let placed = place(names, at, bytes, line.word, operands);
+    match judge(
         line.label.is_some(),
         has_large_number_in(bytes, operands),
         placed,

@@ -10,9 +10,9 @@ ghost use Rattle.asm_core.specs.Sources.{source_lines, fault_1, fault_2, fault_w
 ghost use Rattle.asm_core.specs.Made.{IsAssembly, IsFirstOf};
 
 use crate::assembly::Assembly;
-use crate::encode::encoded;
+use crate::encode::encode_line;
 use crate::fault::{AsmCause, AsmFault};
-use crate::layout::{Laid, laid_out};
+use crate::layout::{Laid, lay_out};
 use crate::names::Symbols;
 use crate::source::next_line;
 use crate::table::{Cell, empty_table, place};
@@ -43,7 +43,7 @@ fn add_line(
     ensures ok { IfOk result (λ laid. AddsLine names.old at line.now names.new laid) }
     ensures err { IfErr result (λ fault. IsFaultOf (laid_out (value_in names.old) at line.now) number fault) }
 {
-    let placed = match laid_out(names, at, line) {
+    let placed = match lay_out(names, at, line) {
         Ok(placed) => placed,
         Err(cause) => return Err(AsmFault::Fault {
             line: number,
@@ -111,7 +111,7 @@ fn put_line(
     ensures ok { OnOk result (PutsLine cells.old.items cells.new.items number at (encoded (value_in names.now) at next line.now)) }
     ensures err { IfErr result (λ fault. IsCauseOf (fault_with (λ address. slice_index_or cells.old.items address None) at (encoded (value_in names.now) at next line.now)) number fault) }
 {
-    let bytes = match encoded(names, at, next, line) {
+    let bytes = match encode_line(names, at, next, line) {
         Ok(bytes) => bytes,
         Err(cause) => return Err(AsmFault::Fault {
             line: number,

@@ -195,7 +195,7 @@ fn word(sum: i64) -> Result<u16, ValueFault>
     }
 }
 
-fn prefixed(text: &[u8], sum: i64) -> Result<i64, ValueFault>
+fn apply_prefix(text: &[u8], sum: i64) -> Result<i64, ValueFault>
     ensures { result ≡ prefixed (slice_index text.now 0) sum }
 {
     match text {
@@ -226,5 +226,5 @@ pub fn value<F: Fn(&[u8]) -> Option<u16>>(
     if has_large_number(text) {
         return Err(ValueFault::Range);
     }
-    prefixed(text, sum)
+    apply_prefix(text, sum)
 }

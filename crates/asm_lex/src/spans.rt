@@ -48,7 +48,7 @@ fn without_leading_blanks(line: &[u8], span: Span) -> Span
 
 // A span without the blanks at its ends.
 #[tactic(auto, unfolding(crate::specs::Parts::without_trailing_blanks))]
-fn trimmed(line: &[u8], span: Span) -> Span
+fn trim(line: &[u8], span: Span) -> Span
     requires { IsWithin line.now span }
     ensures text { text_at line.now result ≡ trimmed (text_at line.now span) }
     ensures within { (span.from ≤ result.from) × (result.from ≤ result.to) × (result.to ≤ span.to) }
@@ -88,7 +88,7 @@ fn cut(line: &[u8], span: Span, stop: Stop) -> (Span, Option<Span>)
 }
 
 // The label of a line's code, without the blanks at its start, and what stands behind its colon; the whole code where it has none.
-fn labelled(line: &[u8], code: Span) -> (Option<Span>, Span)
+fn split_label(line: &[u8], code: Span) -> (Option<Span>, Span)
     requires { IsWithin line.now code }
     ensures label { option_map (text_at line.now) result.0 ≡ label_of (text_at line.now code) }
     ensures statement { without_leading_blanks (text_at line.now result.1) ≡ statement_of (text_at line.now code) }
@@ -123,14 +123,14 @@ pub(crate) fn parts_of(line: &[u8]) -> Parts
         to: line.len() as u16,
     };
     let code = before(line, whole, Stop::Semicolon);
-    let (label, statement) = labelled(line, code);
+    let (label, statement) = split_label(line, code);
     let statement = without_leading_blanks(line, statement);
     let word = before(line, statement, Stop::Blank);
     let behind = Span {
         from: word.to,
         to: statement.to,
     };
-    let operands = trimmed(line, behind);
+    let operands = trim(line, behind);
     Parts {
         label,
         word,
@@ -155,7 +155,7 @@ pub(crate) fn operands(line: &[u8], span: Span) -> Option<ArrayVec<Span, 128>>
             return None;
         }
         let (operand, more) = cut(line, left, Stop::Comma);
-        operands.push(trimmed(line, operand));
+        operands.push(trim(line, operand));
         rest = more;
     }
     Some(operands)

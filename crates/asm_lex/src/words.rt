@@ -143,7 +143,7 @@ fn with_number(kind: Kind, number: u8) -> Option<u8>
 }
 
 #[tactic(auto, unfolding(crate::specs::Words::coded))]
-fn coded(opcode: u8, line: &[u8], operands: &[Span]) -> Option<u8>
+fn opcode_with(opcode: u8, line: &[u8], operands: &[Span]) -> Option<u8>
     requires { AreWithin line.now operands.now }
     ensures { result ≡ coded (kind_of opcode) (map (text_at line.now) operands.now) }
 {
@@ -174,7 +174,7 @@ pub(crate) fn meaning(entry: Entry, has_label: bool, line: &[u8], operands: &[Sp
     ensures { result ≡ meaning_of entry has_label (map (text_at line.now) operands.now) }
 {
     match entry {
-        Entry::Mnemonic(opcode) => coded(opcode, line, operands).map(Word::Code),
+        Entry::Mnemonic(opcode) => opcode_with(opcode, line, operands).map(Word::Code),
         Entry::Directive(directive) if takes(directive, has_label, line, operands) => Some(
             directive,
         ),

@@ -54,16 +54,16 @@ loop-rest-preserved c =
     record {
       texts = ap (λ items. map (text_at line) items ++ map trimmed (parts_of is_comma (option_map (text_at line) c.cut-more.result.1))) c.push.ensures.items
           ∙ ap (λ done. done ++ map trimmed (parts_of is_comma (option_map (text_at line) c.cut-more.result.1)))
-          (map-append (text_at line) c.loop-rest.operands.items (c.trimmed.result ∷ []))
-          ∙ operands-step (map (text_at line) c.loop-rest.operands.items) (text_at line c.cut-more.result.0) (text_at line c.trimmed.result)
+          (map-append (text_at line) c.loop-rest.operands.items (c.trim.result ∷ []))
+          ∙ operands-step (map (text_at line) c.loop-rest.operands.items) (text_at line c.cut-more.result.0) (text_at line c.trim.result)
           (slice_split is_comma (text_at line c.in-Some.left))
           (parts_of is_comma (option_map (text_at line) c.cut-more.result.1))
-          (operands_in (text_at line c.args.span)) texts c.cut-more.ensures.parts c.trimmed.ensures.text;
+          (operands_in (text_at line c.args.span)) texts c.cut-more.ensures.parts c.trim.ensures.text;
       within = next.1;
       order =
           let S : List Span → Type 0 = λ items. AreInOrder c.args.span.from items
           (option_map_or (λ (rest : Span). rest.from) c.cut-more.result.1 c.args.span.to) in
           subst S (sym c.push.ensures.items)
-          (in_order-push c.args.span.from c.loop-rest.operands.items c.in-Some.left.from c.trimmed.result _ order
-          (omega (arith, c.cut-more.ensures.within, c.trimmed.ensures.within)) (c.trimmed.ensures.within.1) (omega (arith, next.0, c.trimmed.ensures.within)));
+          (in_order-push c.args.span.from c.loop-rest.operands.items c.in-Some.left.from c.trim.result _ order
+          (omega (arith, c.cut-more.ensures.within, c.trim.ensures.within)) (c.trim.ensures.within.1) (omega (arith, next.0, c.trim.ensures.within)));
     }

@@ -6,17 +6,17 @@ use Rattle.asm_lex.specs.Spans.{text_at}
 use Rattle.asm_lex.proofs.Texts.{text-whole, text_behind}
 use Rattle.asm_lex.proofs.spans.parts_of.Goals as goal
 
-code_is : (c : goal.After-trimmed-operands) → text_at c.args.line.now c.before-code.result ≡ code_of c.args.line.now
+code_is : (c : goal.After-trim-operands) → text_at c.args.line.now c.before-code.result ≡ code_of c.args.line.now
 code_is c = c.before-code.ensures.text ∙ ap (before_first is_semicolon) (text-whole c.args.line.now)
 
-statement_is : (c : goal.After-trimmed-operands) → text_at c.args.line.now c.without_leading_blanks-statement.result ≡ statement_of (code_of c.args.line.now)
-statement_is c = c.without_leading_blanks-statement.ensures.text ∙ c.labelled-label.ensures.statement ∙ ap statement_of (code_is c)
+statement_is : (c : goal.After-trim-operands) → text_at c.args.line.now c.without_leading_blanks-statement.result ≡ statement_of (code_of c.args.line.now)
+statement_is c = c.without_leading_blanks-statement.ensures.text ∙ c.split_label-label.ensures.statement ∙ ap statement_of (code_is c)
 
-word_is : (c : goal.After-trimmed-operands) → text_at c.args.line.now c.before-word.result ≡ word_of (statement_of (code_of c.args.line.now))
+word_is : (c : goal.After-trim-operands) → text_at c.args.line.now c.before-word.result ≡ word_of (statement_of (code_of c.args.line.now))
 word_is c = c.before-word.ensures.text ∙ ap word_of (statement_is c)
 
 pub returns-clause-label : goal.returns-clause-label
-returns-clause-label c = c.labelled-label.ensures.label ∙ ap label_of (code_is c)
+returns-clause-label c = c.split_label-label.ensures.label ∙ ap label_of (code_is c)
 
 pub returns-clause-word : goal.returns-clause-word
 returns-clause-word c = word_is c
@@ -31,8 +31,8 @@ returns-clause-operands c =
     text_behind line statement.from word.to statement.to
     (omega (arith, c.before-word.ensures.within, c.before-word.ensures.from))
     (omega (arith, c.before-word.ensures.within))
-    (omega (arith, c.without_leading_blanks-statement.ensures.to, c.labelled-label.ensures.within, c.before-code.ensures.within)) in
-    c.trimmed-operands.ensures.text
+    (omega (arith, c.without_leading_blanks-statement.ensures.to, c.split_label-label.ensures.within, c.before-code.ensures.within)) in
+    c.trim-operands.ensures.text
     ∙ ap trimmed (part
     ∙ ap (λ from. drop (length (take (word.to - from) (drop from line))) (text_at line statement)) (sym c.before-word.ensures.from)
     ∙ ap (λ text. drop (length text) (text_at line statement)) (word_is c)

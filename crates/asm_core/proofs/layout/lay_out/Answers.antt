@@ -11,7 +11,7 @@ use Rattle.asm_lex.proofs.Statements.{is_some-map}
 use Rattle.asm_core.specs.Names.{value_in}
 use Rattle.asm_core.specs.Layout.{judged, placed}
 use Rattle.asm_core.proofs.LaidOut.{laid_out-fault, laid_out-duplicate, laid_out-judged, label_in-parts, label_within, operands_within}
-use Rattle.asm_core.proofs.layout.laid_out.Goals as goal
+use Rattle.asm_core.proofs.layout.lay_out.Goals as goal
 
 pub returns-in-Err-clause-laid : goal.returns-in-Err-clause-laid
 returns-in-Err-clause-laid c =
@@ -28,7 +28,7 @@ returns-then-is_duplicate-clause-laid c =
     laid_out-duplicate (value_in c.args.names.now) c.args.at c.args.bytes.now (shown c.args.bytes.now c.in-Ok.line) c.in-Ok.ensures.parsed
     (sym c.is_duplicate.ensures ∙ c.if-is_duplicate.true)
 
-operands_in_line : (c : goal.After-placed-arg-1) → AreWithin c.args.bytes.now c.as_slice-operands.result.now
+operands_in_line : (c : goal.After-place-arg-1) → AreWithin c.args.bytes.now c.as_slice-operands.result.now
 operands_in_line c =
     let P : List Span → Type 0 = λ spans. AreWithin c.args.bytes.now spans in
     subst P (sym c.as_slice-operands.ensures.value)
@@ -36,8 +36,8 @@ operands_in_line c =
     (in_order-within c.args.bytes.now (option_to_list c.in-Ok.line.label ++ c.in-Ok.line.operands.items) 0
     (length c.args.bytes.now) c.in-Ok.ensures.order (omega arith)))
 
-pub placed-placed-requires-clause-within : goal.placed-placed-requires-clause-within
-placed-placed-requires-clause-within c = operands_in_line c
+pub place-placed-requires-clause-within : goal.place-placed-requires-clause-within
+place-placed-requires-clause-within c = operands_in_line c
 
 pub has_large_number_in-requires : goal.has_large_number_in-requires
 has_large_number_in-requires c =
@@ -49,8 +49,8 @@ has_large_number_in-requires c =
           (length c.args.bytes.now) c.in-Ok.ensures.order (omega arith)));
     }
 
-pub returns-in-Ok-judged-clause-laid : goal.returns-in-Ok-judged-clause-laid
-returns-in-Ok-judged-clause-laid c =
+pub returns-in-Ok-judge-clause-laid : goal.returns-in-Ok-judge-clause-laid
+returns-in-Ok-judge-clause-laid c =
     let bytes = c.args.bytes.now in
     let names = value_in c.args.names.now in
     let line = c.in-Ok.line in
@@ -63,19 +63,19 @@ returns-in-Ok-judged-clause-laid c =
     ∙ ap (λ texts. judged c.is_some.result (list_any has_large_number texts) (placed names c.args.at line.word texts)) (sym texts)
     ∙ ap (λ large. judged c.is_some.result large (placed names c.args.at line.word (map (text_at bytes) c.as_slice-operands.result.now)))
     (sym c.has_large_number_in.ensures)
-    ∙ ap (judged c.is_some.result c.has_large_number_in.result) (sym c.placed-placed.ensures)
-    ∙ sym c.judged.ensures.cause ∙ c.in-Ok-judged.is
+    ∙ ap (judged c.is_some.result c.has_large_number_in.result) (sym c.place-placed.ensures)
+    ∙ sym c.judge.ensures.cause ∙ c.in-Ok-judge.is
 
-pub returns-in-Ok-judged-clause-label : goal.returns-in-Ok-judged-clause-label
-returns-in-Ok-judged-clause-label c = (
+pub returns-in-Ok-judge-clause-label : goal.returns-in-Ok-judge-clause-label
+returns-in-Ok-judge-clause-label c = (
   label_in-parts c.args.bytes.now (shown c.args.bytes.now c.in-Ok.line) c.in-Ok.ensures.parsed,
   label_within c.args.bytes.now c.in-Ok.line.label c.in-Ok.line.operands.items
       (in_order-within c.args.bytes.now (option_to_list c.in-Ok.line.label ++ c.in-Ok.line.operands.items) 0
       (length c.args.bytes.now) c.in-Ok.ensures.order (omega arith)),
 )
 
-pub returns-in-Err-judged-clause-laid : goal.returns-in-Err-judged-clause-laid
-returns-in-Err-judged-clause-laid c =
+pub returns-in-Err-judge-clause-laid : goal.returns-in-Err-judge-clause-laid
+returns-in-Err-judge-clause-laid c =
     let bytes = c.args.bytes.now in
     let names = value_in c.args.names.now in
     let line = c.in-Ok.line in
@@ -88,5 +88,5 @@ returns-in-Err-judged-clause-laid c =
     ∙ ap (λ texts. judged c.is_some.result (list_any has_large_number texts) (placed names c.args.at line.word texts)) (sym texts)
     ∙ ap (λ large. judged c.is_some.result large (placed names c.args.at line.word (map (text_at bytes) c.as_slice-operands.result.now)))
     (sym c.has_large_number_in.ensures)
-    ∙ ap (judged c.is_some.result c.has_large_number_in.result) (sym c.placed-placed.ensures)
-    ∙ sym c.judged.ensures.cause ∙ c.in-Err-judged.is
+    ∙ ap (judged c.is_some.result c.has_large_number_in.result) (sym c.place-placed.ensures)
+    ∙ sym c.judge.ensures.cause ∙ c.in-Err-judge.is

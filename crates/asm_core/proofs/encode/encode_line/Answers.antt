@@ -4,10 +4,10 @@ use Rattle.asm_lex.specs.declared.shape.Span.{Span}
 use Rattle.asm_lex.specs.Spans.{AreWithin}
 use Rattle.asm_lex.proofs.Texts.{in_order-within}
 use Rattle.asm_core.proofs.LaidOut.{operands_within}
-use Rattle.asm_core.proofs.encode.encoded.Goals as goal
+use Rattle.asm_core.proofs.encode.encode_line.Goals as goal
 
-pub encoded_parts-requires-clause-within : goal.encoded_parts-requires-clause-within
-encoded_parts-requires-clause-within c =
+pub encode_parts-requires-clause-within : goal.encode_parts-requires-clause-within
+encode_parts-requires-clause-within c =
     let P : List Span → Type 0 = λ spans. AreWithin c.args.bytes.now spans in
     subst P (sym c.as_slice.ensures.value)
     (operands_within c.args.bytes.now c.in-Ok.line.label c.in-Ok.line.operands.items
