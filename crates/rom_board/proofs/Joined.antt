@@ -70,7 +70,7 @@ module _ (e : Edition) (f : List ℕ) (a : IsAccepted e f) where
   unfolding bank_in
   fetches = a.machine.r4
 
-  file_dispatches : is_dispatch (interpreter_of e) (shown f) ≡ true
+  pub file_dispatches : is_dispatch (interpreter_of e) (shown f) ≡ true
   file_dispatches =
       all_three (is_instruction (case_of (shown f))) ((shown f).regs.p == 4) (at (shown f).regs 4 == (interpreter_of e).fetch)
       (ap is_instruction (case_runs (shown f) refl refl outside not_there refl))

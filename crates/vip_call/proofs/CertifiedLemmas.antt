@@ -16,19 +16,19 @@ use Rattle.rom_law.specs.Language.{Begins, GoesOn}
 use Rattle.rom_board.specs.Laws.{EveryRun}
 use Rattle.rom_board.specs.Program.{numbered, program}
 use Rattle.chip8_image.specs.Interpreters.{interpreter_of}
-use Rattle.vip_outside.specs.Files.{FilesMeaning}
-use Rattle.vip_words.specs.Asked.{Asked, trace, play, debug, save, resume, demo, link, trace_program, play_program, debug_program, asm, list, dis, source as interpreter, bounds, within, safe, certify}
+use Rattle.vip_words.specs.declared.request.Request.TheVariants as request
 use Rattle.vip_tools.specs.declared.status.Status.{Status}
 use Rattle.vip_tools.specs.Certificates.{CertifyComes, CyclesComes, SafeComes}
 use Rattle.vip_tools.specs.Certificates.CertifyComes.{Finds}
 use Rattle.vip_tools.specs.Certificates.CyclesComes.{Leaves}
 use Rattle.vip_tools.specs.Certificates.SafeComes.{Proves}
-use Rattle.vip_tools.specs.Files.{needed, HasAll}
+use Rattle.vip_tools.specs.Files.{Loaded, needed}
 use Rattle.vip_tools.specs.Outcome.{Outcome}
 use Rattle.vip_tools.specs.Outcome.Outcome.{Shown}
 use Rattle.vip_verbs.specs.Outcome.{HasOutcome}
 use Rattle.vip_call.specs.Certified.{Certifies, IsSafe, LeavesInTime, NoneStops, WritesCertificate}
 use Rattle.vip_call.specs.Top.{Call, ProvesCertified}
+use Rattle.vip_call.proofs.FilledLemmas.{AreGiven, are_given}
 
 -- ---- no event of a run is a stop
 
@@ -99,37 +99,23 @@ module _ (routines : AcceptedIsWithin) (games : CertifiedGames) (law : EveryRun)
       record { text = text; written = refl; accepted = accepted; safe = is_safe e game text fits bytes accepted }
   search e game fits bytes _ _ = tt
 
-  shows :
-      (old : FilesMeaning) (asked : Asked) (contents pieces : List (List ℕ)) (status : Status) (report : List ℕ) → HasAll old (needed asked) contents
-      → HasOutcome asked contents (Shown pieces status report) → Certifies asked contents pieces
+  shows : (loaded : Loaded) (pieces : List (List ℕ)) (status : Status) (report : List ℕ) → AreGiven (needed loaded)
+      → HasOutcome loaded (Shown pieces status report) → Certifies loaded pieces
   unfolding OfRoutine OfGame OfSearch
-  shows old (trace a) contents pieces status report read comes = tt
-  shows old (play a) contents pieces status report read comes = tt
-  shows old (debug a) contents pieces status report read comes = tt
-  shows old (demo a) contents pieces status report read comes = tt
-  shows old (asm name) contents pieces status report read comes = tt
-  shows old (list name) contents pieces status report read comes = tt
-  shows old (dis a) contents pieces status report read comes = tt
-  shows old (save a) contents pieces status report read comes = tt
-  shows old (resume a) contents pieces status report read comes = tt
-  shows old (link a) contents pieces status report read comes = tt
-  shows old (trace_program a) contents pieces status report read comes = tt
-  shows old (play_program a) contents pieces status report read comes = tt
-  shows old (debug_program a) contents pieces status report read comes = tt
-  shows old (interpreter e) contents pieces status report read comes = tt
-  shows old bounds contents pieces status report read comes = tt
-  shows old (within a) [] pieces status report read comes = tt
-  shows old (within a) (source ∷ []) pieces status report read comes = tt
-  shows old (within a) (source ∷ text ∷ []) pieces status report read comes = routine source text (Shown pieces status report) comes
-  shows old (within a) (source ∷ text ∷ c ∷ cs) pieces status report read comes = tt
-  shows old (safe a) [] pieces status report read comes = tt
-  shows old (safe a) (game ∷ []) pieces status report read comes = tt
-  shows old (safe a) (game ∷ text ∷ []) pieces status report read comes =
-      proof a.edition game text read.0.fits read.0.bytes (Shown pieces status report) comes
-  shows old (safe a) (game ∷ text ∷ c ∷ cs) pieces status report read comes = tt
-  shows old (certify a) [] pieces status report read comes = tt
-  shows old (certify a) (game ∷ []) pieces status report read comes = search a.edition game read.0.fits read.0.bytes (Shown pieces status report) comes
-  shows old (certify a) (game ∷ c ∷ cs) pieces status report read comes = tt
+  shows (request.Run run) pieces status report given comes = tt
+  shows (request.Program run) pieces status report given comes = tt
+  shows (request.Link message moves number) pieces status report given comes = tt
+  shows (request.Asm source raw) pieces status report given comes = tt
+  shows (request.List source) pieces status report given comes = tt
+  shows (request.Dis bytes address) pieces status report given comes = tt
+  shows (request.Source text) pieces status report given comes = tt
+  shows request.Bounds pieces status report given comes = tt
+  shows (request.Cycles source certificate) pieces status report given comes = routine source certificate (Shown pieces status report) comes
+  shows (request.Safe game certificate edition) pieces status report given comes =
+      proof edition game certificate given.0.fits given.0.bytes (Shown pieces status report) comes
+  shows (request.Certify game edition) pieces status report given comes =
+      search edition game given.0.fits given.0.bytes (Shown pieces status report) comes
 
   pub proves_certified : (call : Call) → ProvesCertified call
-  proves_certified call asked contents pieces status report asks comes = shows call.files asked contents pieces status report asks.read comes
+  proves_certified call asked loaded pieces status report asks comes =
+      shows loaded pieces status report (are_given call.files asked loaded asks.shape asks.read) comes

@@ -2,18 +2,17 @@
 use Rattle.std.proofs.Common.{◌≡◌, ◌⊎◌, inl, inr, ℕ, ◌≤◌, Bool, true, false, List, [], ◌∷◌, ◌++◌, Option, Some, None, refl, sym, ap, ◌∙◌, arith}
 use Rattle.std.specs.Prelude.{if◌then◌else◌}
 use Rattle.std.specs.Option.{option_map}
-use Rattle.machine.specs.Board.{Machine, start}
+use Rattle.machine.specs.Board.{Machine}
 use Rattle.machine.specs.Keys.{Event as KeyEvent, held_at}
 use Rattle.machine.specs.Run.{after_moves}
 use Rattle.chip8_lang.specs.declared.view.Edition.{Edition}
-use Rattle.chip8_lang.specs.Events.{Event, events_of, is_stop}
+use Rattle.chip8_lang.specs.Events.{Event, is_stop}
 use Rattle.chip8_lang.specs.Events.Event.{Picture, Dispatch, Stopped}
 use Rattle.chip8_lang.specs.Places.{Interpreter}
 use Rattle.chip8_lang.specs.View.{view_at}
 use Rattle.vip_relation.specs.Follows.{last_dispatch}
 use Rattle.chip8_image.specs.Interpreters.{interpreter_of}
-use Rattle.vip_relation.specs.State.{VipState, started}
-use Rattle.vip_relation.specs.State.Start.{Reset}
+use Rattle.vip_relation.specs.State.{Start, VipState, begun, events_from, machine_of}
 use Rattle.vip_relation.specs.Stops.{stop_at, pc_of, opcode_of}
 use Rattle.rom_board.proofs.Passed.{NoStop, before_point, events_to_stop, last_after, last_after_stop, last_of_events, no_stop_before}
 use Rattle.vip_text.specs.Endings.{Ending}
@@ -45,41 +44,43 @@ module _ (e : Edition) where
   ending_stop last (Dispatch c ∷ es) b none = ending_stop (Some c) es b none
   ending_stop last (Stopped c ∷ es) b none = absurd none
 
-  module _ (game : List ℕ) (script : List KeyEvent) (limit : ℕ) where
+  module _
+      (s : Start) (script : List KeyEvent) (begins : is_stop (interpreter_of e) (machine_of s) ≡ false) (limit : ℕ)
+      (late : (machine_of s).cycle ≤ limit) where
     abbrev i : Interpreter
     i = interpreter_of e
 
     abbrev v : VipState
-    v = started e game script
+    v = begun e s script
 
     abbrev at_state : ℕ → Machine
-    at_state n = after_moves i.rom (held_at script) (start game) n
+    at_state n = after_moves i.rom (held_at script) (machine_of s) n
 
     -- the n-th state is the first stop point, so its stop is the run's
-    pub stop_is : (n : ℕ) → Reached (run_at v 0) limit n → is_stop i (at_state n) ≡ true → stopped_by (stop_by v n) ≡ run_ending e game limit script
+    pub stop_is : (n : ℕ) → Reached (run_at v 0) limit n → is_stop i (at_state n) ≡ true → stopped_by (stop_by v n) ≡ run_ending e s script limit
     stop_is n r stop =
         ap (λ es. stop_behind (last_dispatch es) (at_state n)) (events (at_state n).cycle (omega arith))
         ∙ ap (λ last. stop_behind last (at_state n)) (sym (last_of_events (here ++ Stopped (at_state n) ∷ [])) ∙ last_after_stop None here (at_state n))
-        ∙ sym (ending_stop None here (at_state n) (no_stop_before i (Reset game) script n r.runs))
+        ∙ sym (ending_stop None here (at_state n) (no_stop_before i s script n r.runs))
         ∙ ap (ending_behind None) (sym (events limit r.within))
       where
         here : List Event
-        here = before_point i (Reset game) script n
+        here = before_point i s script n
 
-        events : (t : ℕ) → (at_state n).cycle ≤ t → events_of i game script t ≡ here ++ Stopped (at_state n) ∷ []
-        events t within = events_to_stop i (Reset game) script refl t n within stop r.runs
+        events : (t : ℕ) → (at_state n).cycle ≤ t → events_from i script s t ≡ here ++ Stopped (at_state n) ∷ []
+        events t within = events_to_stop i s script begins t n within stop r.runs
 
     -- A run under the debugger ends as at the limit, or as the whole run: where the commands leave the board at a stop point, no state before it
     -- was one, so its last dispatch point is the run's.
-    pub debug_ends : (commands : List Command) → (debug_ending v limit commands ≡ AtLimit) ⊎ (debug_ending v limit commands ≡ run_ending e game limit script)
+    pub debug_ends : (commands : List Command) → (debug_ending v limit commands ≡ AtLimit) ⊎ (debug_ending v limit commands ≡ run_ending e s script limit)
     debug_ends commands = by_test (is_stop i (at_state n)) refl
       where
         n : ℕ
-        n = (place_after v limit commands at_start).moves
+        n = (place_after v limit commands (at_start v)).moves
 
         by_test :
             (stop : Bool) → is_stop i (at_state n) ≡ stop
             → ((if stop then stopped_by (stop_by v n) else AtLimit) ≡ AtLimit)
-            ⊎ ((if stop then stopped_by (stop_by v n) else AtLimit) ≡ run_ending e game limit script)
-        by_test true is = inr (stop_is n (commands_reach e game script limit commands) is)
+            ⊎ ((if stop then stopped_by (stop_by v n) else AtLimit) ≡ run_ending e s script limit)
+        by_test true is = inr (stop_is n (commands_reach e s script begins limit late commands) is)
         by_test false is = inl refl

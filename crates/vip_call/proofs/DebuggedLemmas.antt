@@ -1,13 +1,13 @@
 -- What the debugger's commands write of a run is what they write of its transcript.
 use Rattle.std.proofs.Common.{◌≡◌, ◌⊎◌, inl, inr, ℕ, zero, suc, ◌+◌, ◌-◌, ◌*◌, ◌/◌, ◌%◌, ◌<◌, ◌≤◌, Bool, true, false, cond, List, [], ◌∷◌, ◌++◌, length, filter, map, drop, replicate, Option, Some, None, slice_get, slice_index, refl, sym, ap, subst, ◌∙◌, arith}
-use Rattle.std.specs.Prelude.{◌==◌, ◌&&◌, if◌then◌else◌, nat_le, nat_lt, max, min, find, filter_map, codes}
+use Rattle.std.specs.Prelude.{◌==◌, ◌&&◌, if◌then◌else◌, nat_le, nat_lt, max, min, find, codes}
 use Rattle.std.specs.Option.{option_map, option_map_or}
-use Rattle.std.proofs.lemmas.Bool.{cases_lt, le-leb, lt-leb, ne_eqb}
+use Rattle.std.proofs.lemmas.Bool.{cases_lt, le-leb, lt-leb, ne_eqb, ltb-true}
 use Rattle.std.proofs.lemmas.List.{take_all}
 use Rattle.std.proofs.lemmas.List.Folds.{find_at}
 use Rattle.std.proofs.lemmas.Nat.Bits.{bit_at-zero}
 use Rattle.std.proofs.lemmas.Option.{slice_get-map}
-use Rattle.machine.specs.Board.{Machine, start}
+use Rattle.machine.specs.Board.{Machine}
 use Rattle.machine.specs.Keys.{Event as KeyEvent, held_at}
 use Rattle.machine.specs.Pictures.{is_shown, windows_ended}
 use Rattle.machine.proofs.Runs.{later-move}
@@ -24,12 +24,12 @@ use Rattle.vip_relation.specs.Follows.{last_dispatch}
 use Rattle.chip8_image.specs.Interpreters.{interpreter_of}
 use Rattle.vip_relation.specs.Points.{point_events}
 use Rattle.vip_relation.specs.declared.point.Point.TheVariants.{Dispatch as DispatchPoint, Stop as StopPoint, Other as OtherPoint}
-use Rattle.vip_relation.specs.State.Start.{Reset}
-use Rattle.vip_relation.specs.State.{VipState, events_to, screen_bytes, screen_size, started}
+use Rattle.vip_relation.specs.State.Start.{Reset, Saved}
+use Rattle.vip_relation.specs.State.{Start, VipState, begun, events_to, first_events, machine_of, screen_bytes, screen_size}
 use Rattle.vip_board.proofs.Along.{in-turn}
 use Rattle.vip_relation.proofs.Past.{state, earlier, before, past, past-first, pictures, point}
 use Rattle.vip_relation.proofs.Waits.{earlier-at}
-use Rattle.rom_board.proofs.Passed.{NoStop, before_point, events_to_stop, no_stop_append, no_stop_before, other_point, with_point}
+use Rattle.rom_board.proofs.Passed.{NoStop, before_point, no_stop_append, no_stop_before, other_point, with_point}
 use Rattle.vip_text.specs.Endings.{Ending}
 use Rattle.vip_text.specs.Endings.Ending.{AtLimit}
 use Rattle.vip_text.specs.Screens.{screen_lines}
@@ -43,7 +43,7 @@ use Rattle.vip_words.specs.declared.debug_commands.Seeking.{Seeking}
 use Rattle.vip_words.specs.declared.debug_commands.Seeking.TheVariants.{Next, Break}
 use Rattle.vip_words.specs.declared.debug_commands.Telling.TheVariants.{State, Screen}
 use Rattle.vip_debug.proofs.TargetRuns.{Reached, all-moves, last-here, until, until-from, until-past}
-use Rattle.vip_debug.specs.Answers.{Arrival, Place, all_met, at_point, at_start, events_by, has_pc, lines_at, met_at, moved_on, moves_until, place_after, place_with, points_ahead, ran, running_lines, seeking_lines, sought, stop_by, stop_text, written}
+use Rattle.vip_debug.specs.Answers.{Arrival, Place, all_met, at_point, events_by, has_pc, lines_at, met_at, moved_on, moves_until, place_after, at_start, place_with, points_ahead, ran, running_lines, seeking_lines, sought, stop_by, stop_text, written}
 use Rattle.vip_debug.specs.Answers.{pieces as pieces_of}
 use Rattle.vip_debug.specs.Commands.{came}
 use Rattle.vip_debug.specs.Game.{run_at}
@@ -54,7 +54,7 @@ use Rattle.vip_call.specs.Commands.{AllAnswered, Answers, NamesStop, ahead, foun
 use Rattle.vip_call.specs.Commands.{sought as sought_point}
 use Rattle.vip_call.specs.Transcript.{Point, end_line, last_point, line}
 use Rattle.vip_call.proofs.DebugLemmas.{stop_is}
-use Rattle.vip_call.proofs.MetLemmas.{ahead_is, dispatches, met_is, more_moves, next_over, reached_few, within_limit}
+use Rattle.vip_call.proofs.MetLemmas.{ahead_is, dispatches, is_ahead, met_is, more_moves, next_over, reached_few, within_limit}
 use Rattle.vip_call.proofs.TranscriptLemmas.{last_is_last, point_of, points_of}
 
 -- ---- dispatch points among some events
@@ -89,7 +89,9 @@ no_dispatch (m ∷ ms) = no_dispatch ms
 
 -- ---- lists
 
-filter_points : (e : Edition) (test : Point → Bool) (bs : List Machine) → filter test (map (point_of e) bs) ≡ map (point_of e) (filter (λ b. test (point_of e b)) bs)
+filter_points :
+    (e : Edition) (test : Point → Bool) (bs : List Machine)
+    → filter test (map (point_of e) bs) ≡ map (point_of e) (filter (λ b. test (point_of e b)) bs)
 filter_points e test [] = refl
 filter_points e test (b ∷ bs) = by_test (test (point_of e b)) (filter_points e test bs)
   where
@@ -100,7 +102,9 @@ filter_points e test (b ∷ bs) = by_test (test (point_of e b)) (filter_points e
     by_test true others = ap (λ ps. point_of e b ∷ ps) others
     by_test false others = others
 
-find_point : (e : Edition) (test : Point → Bool) (bs : List Machine) → find test (map (point_of e) bs) ≡ option_map (point_of e) (find (λ b. test (point_of e b)) bs)
+find_point :
+    (e : Edition) (test : Point → Bool) (bs : List Machine)
+    → find test (map (point_of e) bs) ≡ option_map (point_of e) (find (λ b. test (point_of e b)) bs)
 find_point e test [] = refl
 find_point e test (b ∷ bs) = by_test (test (point_of e b)) (find_point e test bs)
   where
@@ -111,8 +115,20 @@ find_point e test (b ∷ bs) = by_test (test (point_of e b)) (find_point e test 
     by_test true others = refl
     by_test false others = others
 
+-- any of those ahead of a cycle
+later_than : (t : ℕ) (bs : List Machine) (b : Machine) (j : ℕ) → slice_get (filter (is_ahead t) bs) j ≡ Some b → t < b.cycle
+later_than t [] b j there = cc
+later_than t (c ∷ bs) b j there = by_test (nat_lt t c.cycle) refl j (later_than t bs b) there
+  where
+    by_test :
+        (keep : Bool) → nat_lt t c.cycle ≡ keep → (j : ℕ) → ((k : ℕ) → slice_get (filter (is_ahead t) bs) k ≡ Some b → t < b.cycle)
+        → slice_get (cond keep (c ∷ filter (is_ahead t) bs) (filter (is_ahead t) bs)) j ≡ Some b → t < b.cycle
+    by_test true less zero others there = let same : c ≡ b = cc in subst (λ (z : Machine). t < z.cycle) same (ltb-true t c.cycle less)
+    by_test true less (suc j) others there = others j there
+    by_test false more j others there = others j there
+
 -- the stop is the last of some events, in whose cycle the run is over
-over_at : (limit : ℕ) (es : List Event) (b : Machine) → NoStop es → end_cycle limit (es ++ Stopped b ∷ []) ≡ b.cycle
+pub over_at : (limit : ℕ) (es : List Event) (b : Machine) → NoStop es → end_cycle limit (es ++ Stopped b ∷ []) ≡ b.cycle
 unfolding NoStop
 over_at limit [] b none = refl
 over_at limit (Picture m ∷ es) b none = over_at limit es b none
@@ -145,18 +161,23 @@ dark rows n = λ i x y. unlit x y i
         ap (λ byte. (nat_lt x 64 && nat_lt y rows) && is_set byte (7 - x % 8)) (all_zero n (8 * y + x / 8))
         ∙ off (nat_lt x 64 && nat_lt y rows) (7 - x % 8)
 
-module _ (e : Edition) (game : List ℕ) (script : List KeyEvent) (limit : ℕ) where
+module _
+    (e : Edition) (s : Start) (script : List KeyEvent) (begins : is_stop (interpreter_of e) (machine_of s) ≡ false) (limit : ℕ)
+    (late : (machine_of s).cycle ≤ limit) (over : ℕ)
+    (over_is :
+    is_stop (interpreter_of e) (state (interpreter_of e) s script (moves_until (begun e s script) limit)) ≡ true
+    → over ≡ (state (interpreter_of e) s script (moves_until (begun e s script) limit)).cycle) where
   abbrev i : Interpreter
   i = interpreter_of e
 
   abbrev v : VipState
-  v = started e game script
+  v = begun e s script
 
   abbrev at_state : ℕ → Machine
-  at_state n = state i (Reset game) script n
+  at_state n = state i s script n
 
   abbrev past_of : ℕ → List Event
-  past_of n = past i (Reset game) script n
+  past_of n = past i s script n
 
   abbrev ReachedInTime : ℕ → Type 0
   ReachedInTime n = Reached (run_at v 0) limit n
@@ -168,7 +189,7 @@ module _ (e : Edition) (game : List ℕ) (script : List KeyEvent) (limit : ℕ) 
   points = points_of e events
 
   abbrev ending : Ending
-  ending = run_ending e game limit script
+  ending = run_ending e s script limit
 
   abbrev end : ℕ
   end = moves_until v limit
@@ -181,8 +202,16 @@ module _ (e : Edition) (game : List ℕ) (script : List KeyEvent) (limit : ℕ) 
     is : b ≡ at_state k
     runs : is_stop i (at_state k) ≡ false
 
-  at_last : (n : ℕ) (b : Machine) → Among b (dispatches (point i (Reset game) script n)) → Stands (suc n) b
-  at_last zero b a = let none : slice_get [] a.place ≡ Some b = a.there in cc
+  at_last : (n : ℕ) (b : Machine) → Among b (dispatches (point i s script n)) → Stands (suc n) b
+  at_last zero b a = record { k = 0; below = omega arith; is = first s a; runs = begins }
+    where
+      first : (s : Start) → Among b (dispatches (first_events s)) → b ≡ machine_of s
+      first (Reset game) a = let none : slice_get [] a.place ≡ Some b = a.there in cc
+      first (Saved file) a = by_place a.place a.there
+        where
+          by_place : (j : ℕ) → slice_get (machine_of (Saved file) ∷ []) j ≡ Some b → b ≡ machine_of (Saved file)
+          by_place zero there = cc
+          by_place (suc j) there = cc
   at_last (suc n) b a = by_test (is_stop i (at_state (suc n))) (is_dispatch i (at_state (suc n))) refl a.place a.there
     where
       by_test :
@@ -197,29 +226,29 @@ module _ (e : Edition) (game : List ℕ) (script : List KeyEvent) (limit : ℕ) 
   stands : (n : ℕ) (b : Machine) → Among b (dispatches (past_of n)) → Stands n b
   unfolding past
   stands zero b a = let none : slice_get [] a.place ≡ Some b = a.there in cc
-  stands (suc n) b a = first (stands n b) (one_of_both b a.place (past_of n ++ pictures i (Reset game) script n) (point i (Reset game) script n) a.there)
+  stands (suc n) b a = first (stands n b) (one_of_both b a.place (past_of n ++ pictures i s script n) (point i s script n) a.there)
     where
       old : Stands n b → Stands (suc n) b
-      old s = record { k = s.k; below = omega (arith, s.below); is = s.is; runs = s.runs }
+      old c = record { k = c.k; below = omega (arith, c.below); is = c.is; runs = c.runs }
 
       frames : List ℕ
       frames =
-          filter (is_shown i.rom (earlier i (Reset game) script n))
-          (numbers_from (windows_ended (before i (Reset game) script n)) (windows_ended (at_state n).cycle - windows_ended (before i (Reset game) script n)))
+          filter (is_shown i.rom (earlier i s script n))
+          (numbers_from (windows_ended (before i s script n)) (windows_ended (at_state n).cycle - windows_ended (before i s script n)))
 
-      shown : Among b (dispatches (pictures i (Reset game) script n)) → ⊥
+      shown : Among b (dispatches (pictures i s script n)) → ⊥
       shown p = let none : slice_get [] p.place ≡ Some b = sym (ap (λ bs. slice_get bs p.place) (no_dispatch frames)) ∙ p.there in cc
 
       second :
-          (Among b (dispatches (past_of n)) → Stands n b) → Among b (dispatches (past_of n)) ⊎ Among b (dispatches (pictures i (Reset game) script n))
+          (Among b (dispatches (past_of n)) → Stands n b) → Among b (dispatches (past_of n)) ⊎ Among b (dispatches (pictures i s script n))
           → Stands (suc n) b
       second before (inl p) = old (before p)
       second before (inr p) = absurd (shown p)
 
       first :
           (Among b (dispatches (past_of n)) → Stands n b)
-          → Among b (dispatches (past_of n ++ pictures i (Reset game) script n)) ⊎ Among b (dispatches (point i (Reset game) script n)) → Stands (suc n) b
-      first before (inl p) = second before (one_of_both b p.place (past_of n) (pictures i (Reset game) script n) p.there)
+          → Among b (dispatches (past_of n ++ pictures i s script n)) ⊎ Among b (dispatches (point i s script n)) → Stands (suc n) b
+      first before (inl p) = second before (one_of_both b p.place (past_of n) (pictures i s script n) p.there)
       first before (inr p) = at_last n b p
 
   -- so many moves are made up to its cycle
@@ -238,44 +267,41 @@ module _ (e : Edition) (game : List ℕ) (script : List KeyEvent) (limit : ℕ) 
     runs : is_stop i (at_state (moves_until v b.cycle)) ≡ false
 
   found : (b : Machine) → Among b (dispatches events) → Found b
-  found b a = record { there = ap at_state same ∙ sym s.is; runs = ap (λ n. is_stop i (at_state n)) same ∙ s.runs }
+  found b a = record { there = ap at_state same ∙ sym c.is; runs = ap (λ n. is_stop i (at_state n)) same ∙ c.runs }
     where
-      s : Stands (suc end) b
-      s = stands (suc end) b (subst (λ es. Among b (dispatches es)) (all_past e game script limit) a)
+      c : Stands (suc end) b
+      c = stands (suc end) b (subst (λ es. Among b (dispatches es)) (all_past e s script begins limit late) a)
 
       last : ReachedInTime end
-      last = last_until e game script limit
+      last = last_until e s script begins limit late
 
-      here : ReachedInTime s.k
-      here = record { within = omega (arith, earlier_cycle, last.within); runs = λ j l. last.runs j (omega (arith, l, s.below)) }
+      here : ReachedInTime c.k
+      here = record { within = omega (arith, earlier_cycle, last.within); runs = λ j l. last.runs j (omega (arith, l, c.below)) }
         where
-          earlier_cycle : (at_state s.k).cycle ≤ (at_state end).cycle
-          earlier_cycle = in-turn i.rom (held_at script) end s.k (start game) (omega (arith, s.below))
+          earlier_cycle : (at_state c.k).cycle ≤ (at_state end).cycle
+          earlier_cycle = in-turn i.rom (held_at script) end c.k (machine_of s) (omega (arith, c.below))
 
-      same : moves_until v b.cycle ≡ s.k
-      same = ap (λ (z : Machine). moves_until v z.cycle) s.is ∙ until_is s.k here
+      same : moves_until v b.cycle ≡ c.k
+      same = ap (λ (z : Machine). moves_until v z.cycle) c.is ∙ until_is c.k here
 
   -- a run that doesn't stop ends at its limit
   runs_out : is_stop i (at_state end) ≡ false → ending ≡ AtLimit
-  runs_out runs = ends_at_limit e 0 None events (subst NoStop (sym (all_past e game script limit)) none)
+  runs_out runs = ends_at_limit e 0 None events (subst NoStop (sym (all_past e s script begins limit late)) none)
     where
       none : NoStop (past_of (suc end))
       none =
-          subst NoStop (sym (with_point i (Reset game) script end))
-          (no_stop_append (before_point i (Reset game) script end) (point i (Reset game) script end)
-          (no_stop_before i (Reset game) script end (last_until e game script limit).runs) (other_point i (Reset game) script end runs))
+          subst NoStop (sym (with_point i s script end))
+          (no_stop_append (before_point i s script end) (point i s script end)
+          (no_stop_before i s script end (last_until e s script begins limit late).runs) (other_point i s script end runs))
 
   -- ---- the stop
-
-  abbrev over : ℕ
-  over = end_cycle limit events
 
   -- the board stands so where every event up to a cycle is met
   abbrev place : ℕ → Place
   place t = all_met v (moves_until v t)
 
   -- the board is at a stop point exactly where the run's stop has come
-  module _ (t : ℕ) (order : t ≤ limit) where
+  module _ (t : ℕ) (behind_start : (machine_of s).cycle ≤ t) (order : t ≤ limit) where
     abbrev made : ℕ
     made = moves_until v t
 
@@ -283,37 +309,32 @@ module _ (e : Edition) (game : List ℕ) (script : List KeyEvent) (limit : ℕ) 
     stops_at = by_test (is_stop i (at_state end)) refl
       where
         last : ReachedInTime end
-        last = last_until e game script limit
+        last = last_until e s script begins limit late
 
         few : made ≤ end
-        few = more_moves e game script t limit order
+        few = more_moves e s script begins t limit behind_start order
 
         running : is_stop i (at_state end) ≡ false → (made < end) ⊎ (end ≤ made) → is_stop i (at_state made) ≡ false
         running runs (inl less) = last.runs made less
         running runs (inr more) = let same : made ≡ end = omega (arith, few, more) in ap (λ k. is_stop i (at_state k)) same ∙ runs
 
-        over_is : is_stop i (at_state end) ≡ true → over ≡ (at_state end).cycle
-        over_is stop =
-            ap (end_cycle limit) (events_to_stop i (Reset game) script refl limit end last.within stop last.runs)
-            ∙ over_at limit (before_point i (Reset game) script end) (at_state end) (no_stop_before i (Reset game) script end last.runs)
-
         earlier : is_stop i (at_state end) ≡ true → t < over → (made < end) ⊎ (end ≤ made) → is_stop i (at_state made) ≡ false
         earlier stop before (inl less) = last.runs made less
         earlier stop before (inr more) =
             let same : made ≡ end = omega (arith, few, more) in
-            absurd (omega (arith, before, over_is stop, (last_until e game script t).within, ap (λ k. (at_state k).cycle) same))
+            absurd (omega (arith, before, over_is stop, (last_until e s script begins t behind_start).within, ap (λ k. (at_state k).cycle) same))
 
         stopped : is_stop i (at_state end) ≡ true → (t < over) ⊎ (over ≤ t) → is_stop i (at_state made) ≡ nat_le over t
         stopped stop (inl before) = earlier stop before (cases_lt made end) ∙ sym (lt-leb over t before)
         stopped stop (inr behind) =
-            let all = reached_few e game script t end (record { within = omega (arith, behind, over_is stop); runs = last.runs }) in
+            let all = reached_few e s script begins t end (record { within = omega (arith, behind, over_is stop); runs = last.runs }) in
             let same : made ≡ end = omega (arith, few, all) in
             ap (λ k. is_stop i (at_state k)) same ∙ stop ∙ sym (le-leb over t behind)
 
         by_test : (stop : Bool) → is_stop i (at_state end) ≡ stop → is_stop i (at_state made) ≡ stops_by e limit points ending over ending t
         by_test true stop =
             stopped stop (cases_lt t over)
-            ∙ ap (λ z. stops_by e limit points ending over z t) (stop_is e game script limit end last stop)
+            ∙ ap (λ z. stops_by e limit points ending over z t) (stop_is e s script begins limit late end last stop)
         by_test false runs =
             running runs (cases_lt made end)
             ∙ ap (λ z. stops_by e limit points ending over z t) (sym (runs_out runs))
@@ -323,12 +344,14 @@ module _ (e : Edition) (game : List ℕ) (script : List KeyEvent) (limit : ℕ) 
     ends_as = by_test (is_stop i (at_state made)) refl
       where
         reached_here : ReachedInTime made
-        reached_here = let h = last_until e game script t in record { within = omega (arith, order, h.within); runs = h.runs }
+        reached_here = let h = last_until e s script begins t behind_start in record { within = omega (arith, order, h.within); runs = h.runs }
 
-        by_test : (stop : Bool) → is_stop i (at_state made) ≡ stop → ending_where v made ≡ (if stops_by e limit points ending over ending t then ending else AtLimit)
+        by_test :
+            (stop : Bool) → is_stop i (at_state made) ≡ stop
+            → ending_where v made ≡ (if stops_by e limit points ending over ending t then ending else AtLimit)
         by_test true stop =
             ap (λ s. if s then stopped_by (stop_by v made) else AtLimit) stop
-            ∙ stop_is e game script limit made reached_here stop
+            ∙ stop_is e s script begins limit late made reached_here stop
             ∙ ap (λ s. if s then ending else AtLimit) (sym stop ∙ stops_at)
         by_test false runs =
             ap (λ s. if s then stopped_by (stop_by v made) else AtLimit) runs
@@ -339,10 +362,10 @@ module _ (e : Edition) (game : List ℕ) (script : List KeyEvent) (limit : ℕ) 
     unfolding lines_at
     names_stop a lines is stop =
         ap (λ s. if s then stop_text (stop_by v a.place.moves) ∷ [] else if a.completed then lines else (codes "end" ++ newline) ∷ []) stopped
-        ∙ ap (λ z. end_line z ∷ []) (ap (λ k. stopped_by (stop_by v k)) is ∙ stop_is e game script limit made reached_here (stops_at ∙ stop))
+        ∙ ap (λ z. end_line z ∷ []) (ap (λ k. stopped_by (stop_by v k)) is ∙ stop_is e s script begins limit late made reached_here (stops_at ∙ stop))
       where
         reached_here : ReachedInTime made
-        reached_here = let h = last_until e game script t in record { within = omega (arith, order, h.within); runs = h.runs }
+        reached_here = let h = last_until e s script begins t behind_start in record { within = omega (arith, order, h.within); runs = h.runs }
 
         stopped : is_stop i (at_state a.place.moves) ≡ true
         stopped = ap (λ k. is_stop i (at_state k)) is ∙ stops_at ∙ stop
@@ -352,9 +375,10 @@ module _ (e : Edition) (game : List ℕ) (script : List KeyEvent) (limit : ℕ) 
     -- the events that are met there are those up to the cycle
     by_is : events_by v made ≡ events_to v t
     by_is =
-        all_past e game script (at_state made).cycle
-        ∙ ap (λ k. past_of (suc k)) (until_is made (let h = last_until e game script t in record { within = omega (arith, order, h.within); runs = h.runs }))
-        ∙ sym (all_past e game script t)
+        all_past e s script begins (at_state made).cycle (in-turn i.rom (held_at script) made 0 (machine_of s) (omega arith))
+        ∙ ap (λ k. past_of (suc k))
+        (until_is made (let h = last_until e s script begins t behind_start in record { within = omega (arith, order, h.within); runs = h.runs }))
+        ∙ sym (all_past e s script begins t behind_start)
 
     met_here : met_at v (place t) ≡ events_to v t
     met_here = take_all (length (events_by v made)) (events_by v made) (omega arith) ∙ by_is
@@ -362,7 +386,7 @@ module _ (e : Edition) (game : List ℕ) (script : List KeyEvent) (limit : ℕ) 
     last_is : last_met e limit points ending over t ≡ option_map (point_of e) (last_dispatch (met_at v (place t)))
     last_is =
         ap last_point (filter_points e (λ p. nat_le p.cycle t) (dispatches events))
-        ∙ ap (λ bs. last_point (map (point_of e) bs)) (sym (met_is e game script limit t order))
+        ∙ ap (λ bs. last_point (map (point_of e) bs)) (sym (met_is e s script begins limit t behind_start order))
         ∙ last_is_last e (events_to v t)
         ∙ ap (λ es. option_map (point_of e) (last_dispatch es)) (sym met_here)
 
@@ -370,13 +394,14 @@ module _ (e : Edition) (game : List ℕ) (script : List KeyEvent) (limit : ℕ) 
     ahead_here =
         filter_points e (λ p. nat_lt t p.cycle) (dispatches events)
         ∙ ap (map (point_of e))
-        (sym (ahead_is e game script limit t order) ∙ ap (λ es. dispatches (drop (length es) events)) (sym by_is))
+        (sym (ahead_is e s script begins limit t behind_start order) ∙ ap (λ es. dispatches (drop (length es) events)) (sym by_is))
 
   -- ---- a command
 
   -- the board comes from the place of one cycle to that of another, and what is written is what the points say
   record Comes (c : Command) (t : ℕ) : Type 0 where
     to : ℕ
+    from : (machine_of s).cycle ≤ to
     within : to ≤ limit
     is : place_with v limit c (place t) ≡ place to
     answers : Answers e limit points ending over c t to (pieces_of v limit c (place t))
@@ -398,34 +423,47 @@ module _ (e : Edition) (game : List ℕ) (script : List KeyEvent) (limit : ℕ) 
       by_test : (stop : Bool) → is_stop i (at_state end) ≡ stop → seeking_lines v (at_point v limit None) ≡ end_line ending ∷ []
       by_test true stop =
           ap (λ t. if t then stop_text (stop_by v end) ∷ [] else (codes "end" ++ newline) ∷ []) stop
-          ∙ ap (λ z. end_line z ∷ []) (stop_is e game script limit end (last_until e game script limit) stop)
+          ∙ ap (λ z. end_line z ∷ []) (stop_is e s script begins limit late end (last_until e s script begins limit late) stop)
       by_test false runs =
           ap (λ t. if t then stop_text (stop_by v end) ∷ [] else (codes "end" ++ newline) ∷ []) runs
           ∙ ap (λ z. end_line z ∷ []) (sym (runs_out runs))
 
-  module _ (t : ℕ) (order : t ≤ limit) where
+  module _ (t : ℕ) (behind_start : (machine_of s).cycle ≤ t) (order : t ≤ limit) where
+    -- a dispatch point ahead comes later
+    ahead_by : (b : Machine) (j : ℕ) → Some b ≡ slice_get (points_ahead v limit (place t)) j → t < b.cycle
+    ahead_by b j at =
+        later_than t (dispatches events) b j
+        (ap (λ bs. slice_get bs j)
+        (sym (ahead_is e s script begins limit t behind_start order)
+        ∙ ap (λ es. dispatches (drop (length es) events)) (sym (by_is t behind_start order)))
+        ∙ sym at)
+
     seeks :
         (seeking : Seeking) (j : ℕ) (to : Option Machine) → (sought v limit seeking (place t)) ≡ at_point v limit to
         → to ≡ slice_get (points_ahead v limit (place t)) j
         → sought_point e limit points ending over seeking t ≡ option_map (point_of e) to → Comes (command.Seeks seeking) t
     seeks seeking j None goes at is = record {
       to = limit;
+      from = late;
       within = omega arith;
       is = ap (λ (a : Arrival). a.place) goes;
       answers =
           subst
-          (λ p. (limit ≡ place_at e limit points ending over t p) × (seeking_lines v (sought v limit seeking (place t)) ≡ found_line e limit points ending over p ∷ []))
+          (λ p. (limit ≡ place_at e limit points ending over t p)
+          × (seeking_lines v (sought v limit seeking (place t)) ≡ found_line e limit points ending over p ∷ []))
           (sym is) (omega (arith, order), ap (seeking_lines v) goes ∙ end_here);
     }
     seeks seeking j (Some b) goes at is =
         let a : Among b (dispatches events) = dropped b (length (events_by v (moves_until v t))) j events (sym at) in
         record {
           to = b.cycle;
-          within = omega (arith, earlier-at (limit + 1) events (within_limit e game script limit) a.place b a.there);
+          from = omega (arith, behind_start, ahead_by b j at);
+          within = omega (arith, earlier-at (limit + 1) events (within_limit e s script begins limit late) a.place b a.there);
           is = ap (λ (a : Arrival). a.place) goes;
           answers =
               subst
-              (λ p. (b.cycle ≡ place_at e limit points ending over t p) × (seeking_lines v (sought v limit seeking (place t)) ≡ found_line e limit points ending over p ∷ []))
+              (λ p. (b.cycle ≡ place_at e limit points ending over t p)
+              × (seeking_lines v (sought v limit seeking (place t)) ≡ found_line e limit points ending over p ∷ []))
               (sym is) (refl, ap (seeking_lines v) goes ∙ found_here b a);
         }
 
@@ -438,12 +476,12 @@ module _ (e : Edition) (game : List ℕ) (script : List KeyEvent) (limit : ℕ) 
     moved (suc k) = ap (λ none. if none then place t else all_met v (moves_until v t + suc k)) (ne_eqb (suc k) 0 (λ z. omega (arith, z)))
 
     runs :
-        (running : Running) (to : ℕ) → to ≤ limit → moves_until v t + moves running ≡ moves_until v to
+        (running : Running) (to : ℕ) → (machine_of s).cycle ≤ to → to ≤ limit → moves_until v t + moves running ≡ moves_until v to
         → (place_with v limit (command.Runs running) (place t) ≡ place to)
         × NamesStop e limit points ending over to (running_lines v limit running (place t))
-    runs running to within is =
+    runs running to from within is =
         let there : moved_on v (moves running) (place t) ≡ place to = moved (moves running) ∙ ap (all_met v) is in
-        (there, names_stop to within (ran v limit running (place t)) _ (ap (λ (p : Place). p.moves) there))
+        (there, names_stop to from within (ran v limit running (place t)) _ (ap (λ (p : Place). p.moves) there))
 
     -- `to` a cycle makes the moves up to there
     goes_to : (c : ℕ) → c ≤ limit → moves_until v t + run.moves_until (run_at v (moves_until v t)) c ≡ moves_until v (max t c)
@@ -456,7 +494,7 @@ module _ (e : Edition) (game : List ℕ) (script : List KeyEvent) (limit : ℕ) 
         k = run.moves_until (run_at v n) c
 
         here : Reached (run_at v 0) t n
-        here = last_until e game script t
+        here = last_until e s script begins t behind_start
 
         by_test : (c < (at_state n).cycle) ⊎ ((at_state n).cycle ≤ c) → (t < c) ⊎ (c ≤ t) → n + k ≡ moves_until v (max t c)
         by_test (inl past) order =
@@ -468,9 +506,10 @@ module _ (e : Edition) (game : List ℕ) (script : List KeyEvent) (limit : ℕ) 
             let all : moves_until v c ≡ n + k = until-from (run_at v 0) c n (record { within = behind; runs = here.runs }) in
             omega (arith, all, ap (moves_until v) later)
         by_test (inr behind) (inr few) =
+            let from : (machine_of s).cycle ≤ c = omega (arith, behind, in-turn i.rom (held_at script) n 0 (machine_of s) (omega arith)) in
             let stays : max t c ≡ t = omega (arith, few) in
             let all : moves_until v c ≡ n + k = until-from (run_at v 0) c n (record { within = behind; runs = here.runs }) in
-            omega (arith, all, more_moves e game script c t few, ap (moves_until v) stays)
+            omega (arith, all, more_moves e s script begins c t from few, ap (moves_until v) stays)
 
     -- any other one comes to a state that isn't before
     record ComesOn (k : ℕ) : Type 0 where
@@ -483,7 +522,7 @@ module _ (e : Edition) (game : List ℕ) (script : List KeyEvent) (limit : ℕ) 
     comes_on zero r = record { to = t; later = omega arith; within = order; is = omega arith }
     comes_on (suc k) r = record {
       to = (at_state m).cycle;
-      later = omega (arith, next, in-turn i.rom (held_at script) m (suc n) (start game) (omega arith));
+      later = omega (arith, next, in-turn i.rom (held_at script) m (suc n) (machine_of s) (omega arith));
       within = r.within;
       is = sym (until_is m r);
     }
@@ -495,7 +534,7 @@ module _ (e : Edition) (game : List ℕ) (script : List KeyEvent) (limit : ℕ) 
         m = n + suc k
 
         next : t < (at_state (suc n)).cycle
-        next = next_over e game script t (r.runs n (omega arith))
+        next = next_over e s script begins t behind_start (r.runs n (omega arith))
 
     running_comes :
         (running : Running)
@@ -503,42 +542,64 @@ module _ (e : Edition) (game : List ℕ) (script : List KeyEvent) (limit : ℕ) 
         → Answers e limit points ending over (command.Runs running) t to (running_lines v limit running (place t)))
         → Comes (command.Runs running) t
     running_comes running said =
-        let c = comes_on (moves running) (subst ReachedInTime (ap (λ (p : Place). p.moves) (moved (moves running))) (with_one e game script limit (command.Runs running) (place t) here)) in
-        let r = runs running c.to c.within c.is in
+        let reached : ReachedInTime (moves_until v t + moves running) =
+        subst ReachedInTime (ap (λ (p : Place). p.moves) (moved (moves running)))
+        (with_one e s script begins limit late (command.Runs running) (place t) here) in
+        let c = comes_on (moves running) reached in
+        let r = runs running c.to (omega (arith, behind_start, c.later)) c.within c.is in
         record {
           to = c.to;
+          from = omega (arith, behind_start, c.later);
           within = c.within;
           is = r.0;
           answers = said c.to (c.later, omega (arith, c.within), r.1);
         }
       where
         here : ReachedInTime (moves_until v t)
-        here = let h = last_until e game script t in record { within = omega (arith, order, h.within); runs = h.runs }
+        here = let h = last_until e s script begins t behind_start in record { within = omega (arith, order, h.within); runs = h.runs }
 
     comes : (c : Command) → Comes c t
     unfolding view_at state_of
     comes (command.Runs (To cycle)) =
-        let r = runs (To cycle) (max t (min cycle limit)) (omega (arith, order)) (goes_to (min cycle limit) (omega arith)) in
-        record { to = max t (min cycle limit); within = omega (arith, order); is = r.0; answers = (refl, r.1) }
+        let r = runs (To cycle) (max t (min cycle limit)) (omega (arith, behind_start)) (omega (arith, order)) (goes_to (min cycle limit) (omega arith)) in
+        record { to = max t (min cycle limit); from = omega (arith, behind_start); within = omega (arith, order); is = r.0; answers = (refl, r.1) }
     comes (command.Runs (Step count)) = running_comes (Step count) (λ to a. a)
     comes (command.Runs (At address)) = running_comes (At address) (λ to a. a)
     comes (command.Runs (Watch address count)) = running_comes (Watch address count) (λ to a. a)
-    comes (command.Shows showing) = record { to = t; within = order; is = refl; answers = refl }
+    comes (command.Shows showing) = record { to = t; from = behind_start; within = order; is = refl; answers = refl }
     comes (command.Seeks (Next n)) =
         seeks (Next n) (n - 1) (slice_get (points_ahead v limit (place t)) (n - 1)) refl refl
-        (ap (λ ps. slice_get ps (n - 1)) (ahead_here t order) ∙ slice_get-map (point_of e) (points_ahead v limit (place t)) (n - 1))
+        (ap (λ ps. slice_get ps (n - 1)) (ahead_here t behind_start order) ∙ slice_get-map (point_of e) (points_ahead v limit (place t)) (n - 1))
     comes (command.Seeks (Break pc)) =
         seeks (Break pc) _ (find (has_pc v pc) (points_ahead v limit (place t))) refl (find_at (has_pc v pc) (points_ahead v limit (place t)))
-        (ap (find (λ p. p.state.pc == pc)) (ahead_here t order) ∙ find_point e (λ p. p.state.pc == pc) (points_ahead v limit (place t)))
+        (ap (find (λ p. p.state.pc == pc)) (ahead_here t behind_start order) ∙ find_point e (λ p. p.state.pc == pc) (points_ahead v limit (place t)))
     comes (command.Tells State) =
-        record { to = t; within = order; is = refl; answers = (refl, ap (λ s. s ∷ []) (states (last_dispatch (met_at v (place t))) ∙ ap (state_text e limit points ending over) (sym (last_is t order)))) }
+        record {
+          to = t;
+          from = behind_start;
+          within = order;
+          is = refl;
+          answers = (
+            refl,
+            ap (λ s. s ∷ []) (states (last_dispatch (met_at v (place t))) ∙ ap (state_text e limit points ending over) (sym (last_is t behind_start order))),
+          );
+        }
       where
         states : (last : Option Machine) → option_map_or (trace_line true) (option_map (view_at e) last) (codes "none" ++ newline)
             ≡ state_text e limit points ending over (option_map (point_of e) last)
         states None = refl
         states (Some b) = refl
     comes (command.Tells Screen) =
-        record { to = t; within = order; is = refl; answers = (refl, ap (λ s. s ∷ []) (screens (last_dispatch (met_at v (place t))) ∙ ap (screen_text e limit points ending over) (sym (last_is t order)))) }
+        record {
+          to = t;
+          from = behind_start;
+          within = order;
+          is = refl;
+          answers = (
+            refl,
+            ap (λ s. s ∷ []) (screens (last_dispatch (met_at v (place t))) ∙ ap (screen_text e limit points ending over) (sym (last_is t behind_start order))),
+          );
+        }
       where
         screens : (last : Option Machine) → screen_lines (pixels (rows_of e) (option_map_or (screen_bytes e) last (replicate (screen_size e) 0))) (rows_of e)
             ≡ screen_text e limit points ending over (option_map (point_of e) last)
@@ -548,38 +609,57 @@ module _ (e : Edition) (game : List ℕ) (script : List KeyEvent) (limit : ℕ) 
   -- ---- all commands
 
   answered :
-      (commands : List Command) (t : ℕ) → t ≤ limit
+      (commands : List Command) (t : ℕ) → (machine_of s).cycle ≤ t → t ≤ limit
       → AllAnswered e limit points ending over (ending_where v (place_after v limit commands (place t)).moves) commands t (written v limit commands (place t))
-  answered [] t order = (refl, ends_as t order)
-  answered (c ∷ commands) t order =
-      let s = comes t order c in
+  answered [] t behind_start order = (refl, ends_as t behind_start order)
+  answered (c ∷ commands) t behind_start order =
+      let a = comes t behind_start order c in
       record {
-        place = s.to;
+        place = a.to;
         here = pieces_of v limit c (place t);
         rest = written v limit commands (place_with v limit c (place t));
         split = refl;
-        answers = s.answers;
+        answers = a.answers;
         others =
             subst
-            (λ p. AllAnswered e limit points ending over (ending_where v (place_after v limit commands p).moves) commands s.to (written v limit commands p))
-            (sym s.is) (answered commands s.to s.within);
+            (λ p. AllAnswered e limit points ending over (ending_where v (place_after v limit commands p).moves) commands a.to (written v limit commands p))
+            (sym a.is) (answered commands a.to a.from a.within);
       }
 
-  -- they begin before the first move
+  -- they begin before the first move, where the start's point is met
   abbrev standing : ℕ → List Event → Place
   standing moves es = record { moves = moves; met = length es }
 
-  begins : at_start ≡ place 0
-  begins = ap (standing 0) (sym none) ∙ ap (all_met v) (sym first)
+  starts : at_start v ≡ place (machine_of s).cycle
+  starts = ap (standing 0) (sym only) ∙ ap (all_met v) (sym none)
     where
-      first : moves_until v 0 ≡ 0
-      first = until_is 0 (at_begin e game script limit)
+      none : moves_until v (machine_of s).cycle ≡ 0
+      none = until_is 0 (at_begin e s script begins limit late)
 
-      none : events_by v 0 ≡ []
-      none = all_past e game script 0 ∙ ap (λ k. past_of (suc k)) first ∙ past-first i (Reset game) script
+      only : events_by v 0 ≡ first_events s
+      only =
+          all_past e s script begins (machine_of s).cycle (omega arith) ∙ ap (λ k. past_of (suc k)) none ∙ past-first i s script
 
-  pub debugged :
-      (commands : List Command) → AllAnswered e limit points ending over (debug_ending v limit commands) commands 0 (written v limit commands at_start)
-  debugged commands =
-      subst (λ p. AllAnswered e limit points ending over (ending_where v (place_after v limit commands p).moves) commands 0 (written v limit commands p))
-      (sym begins) (answered commands 0 (omega arith))
+  pub answers :
+      (commands : List Command)
+      → AllAnswered e limit points ending over (debug_ending v limit commands) commands (machine_of s).cycle (written v limit commands (at_start v))
+  answers commands =
+      subst
+      (λ p. AllAnswered e limit points ending over (ending_where v (place_after v limit commands p).moves) commands (machine_of s).cycle
+      (written v limit commands p))
+      (sym starts) (answered commands (machine_of s).cycle (omega arith) late)
+
+-- ---- the last dispatch point of a run up to a cycle
+
+module _ (e : Edition) (s : Start) (script : List KeyEvent) (begins : is_stop (interpreter_of e) (machine_of s) ≡ false) (t : ℕ) (b : Machine) where
+  last_among : (bs : List Machine) → slice_get bs (length bs - 1) ≡ Some b → Among b bs
+  last_among bs is = record { place = length bs - 1; there = is }
+
+  -- it is the state at which the board stands
+  pub found_point :
+      (machine_of s).cycle ≤ t → last_dispatch (events_to (begun e s script) t) ≡ Some b → b.cycle ≡ t
+      → state (interpreter_of e) s script (moves_until (begun e s script) t) ≡ b
+  found_point late is here =
+      ap (λ c. state (interpreter_of e) s script (moves_until (begun e s script) c)) (sym here)
+      ∙ (found e s script begins t late (state (interpreter_of e) s script (moves_until (begun e s script) t)).cycle (λ stop. refl) b
+      (last_among (dispatches (events_to (begun e s script) t)) is)).there

@@ -1,5 +1,5 @@
 -- Each source gives its ROM, so nothing comes to the refusal of a ROM that isn't what its source gives.
-use Rattle.std.proofs.Common.{◌≡◌, ℕ, List, [], ◌∷◌, Option, Some, None, sym, subst, Result, Ok, Err}
+use Rattle.std.proofs.Common.{◌≡◌, ℕ, List, Option, Some, None, sym, subst, Result, Ok, Err}
 use Rattle.machine.specs.Keys.{Event as KeyEvent}
 use Rattle.chip8_lang.specs.declared.view.Edition.{Edition}
 use Rattle.chip8_lang.specs.declared.view.Edition.TheVariants.{Usual, Tall}
@@ -12,7 +12,6 @@ use Rattle.vip_words.specs.declared.debug_commands.Speaks.TheVariants.{Chip8, Ma
 use Rattle.vip_words.specs.declared.debug_commands.CommandFault.{CommandFault}
 use Rattle.vip_words.specs.declared.debug_commands.CommandFault.TheVariants as debug_fault
 use Rattle.vip_link.specs.Checked.{ComparesLink}
-use Rattle.vip_program.specs.declared.trace.ProgramEnd.{ProgramEnd}
 use Rattle.vip_text.specs.Endings.{Ending}
 use Rattle.vip_tools.specs.declared.status.Status.{Status}
 use Rattle.vip_tools.specs.declared.status.Status.TheVariants.{BadRomSource, RomDiffers}
@@ -23,12 +22,22 @@ use Rattle.vip_tools.specs.Certificates.SafeComes.{FaultyProof, Proves}
 use Rattle.vip_tools.specs.Outcome.{Outcome, SourceComes}
 use Rattle.vip_tools.specs.Outcome.Outcome.{Refused, Shown, GivenUp}
 use Rattle.vip_tools.specs.Outcome.SourceComes.{FaultySource, Assembles}
-use Rattle.vip_verbs.specs.Outcome.{HasOutcome, RunTo, DebugComes, ResumeComes, LinkComes, RomIs, saved_as}
+use Rattle.vip_verbs.specs.Outcome.{Begins, DebugComes, HasOutcome, LinkComes, RomIs, RunTo, ShowComes, saved_as}
 use Rattle.vip_verbs.specs.Outcome.RunTo.{FaultyScript, FaultyRom, Runs}
 use Rattle.vip_verbs.specs.Outcome.LinkComes.{FaultyRoms, Links}
-use Rattle.vip_verbs.specs.Programs.{ProgramComes, ProgramDebugComes}
+use Rattle.vip_verbs.specs.Programs.{ProgramComes, ProgramDebugComes, ProgramShowComes}
 use Rattle.vip_verbs.specs.Programs.ProgramComes.{FaultyScript as FaultyKeys, Runs as RunsProgram}
-use Rattle.vip_words.specs.Asked.{Asked, AskedLink, AskedResume, trace, play, debug, save, resume, demo, link, trace_program, play_program, debug_program, asm, list, dis, source as interpreter, bounds, within, safe, certify}
+use Rattle.vip_words.specs.declared.request.ProgramShow.{ProgramShow}
+use Rattle.vip_words.specs.declared.request.ProgramShow.TheVariants as program_show
+use Rattle.vip_words.specs.declared.request.Request.TheVariants as request
+use Rattle.vip_words.specs.declared.request.Show.{Show}
+use Rattle.vip_words.specs.declared.request.Show.TheVariants as show
+use Rattle.vip_words.specs.declared.request.Start as asked
+use Rattle.vip_words.specs.declared.request.Start.TheVariants as beginning
+use Rattle.vip_relation.specs.State.{Start}
+use Rattle.vip_relation.specs.State.Start.{Reset, Saved}
+use Rattle.vip_tools.specs.Demo.{demo_game}
+use Rattle.vip_tools.specs.Files.{Loaded}
 use Rattle.vip_words.specs.declared.request.Memory.{Memory}
 use Rattle.vip_call.specs.Top.{Call, Says, IsOfRom}
 use Rattle.vip_call.proofs.TopLemmas.{rom_is_fine_or_not, links_fine_or_not}
@@ -74,93 +83,70 @@ saved_free : (limit : ℕ) (ending : Ending) (file : Option (List ℕ)) → Free
 saved_free limit ending None = λ x. x
 saved_free limit ending (Some file) = tt
 
-module _ (memory : Memory) (bytes : List ℕ) (limit : ℕ) (scripts : List (List ℕ)) where
-  program_free : (pieces : Seen → List (List ℕ)) (ended : Seen → ProgramEnd) (o : Outcome)
-      → ProgramComes memory bytes limit scripts pieces ended o → Free o
-  program_free pieces ended _ (FaultyKeys line cause is) = λ x. x
-  program_free pieces ended _ (RunsProgram script is) = tt
+module _ (memory : Memory) (bytes : List ℕ) (keys : Option (List ℕ)) where
+  program_free : (outcome : Seen → Outcome) (o : Outcome) → ((board : Seen) → Free (outcome board)) → ProgramComes memory bytes keys outcome o → Free o
+  program_free outcome _ free (FaultyKeys line cause is) = λ x. x
+  program_free outcome _ free (RunsProgram script is) = free _
 
-  debugged_free : (read : Result (List Command) CommandFault) (o : Outcome) → ProgramDebugComes memory bytes limit scripts read o → Free o
-  debugged_free (Ok commands) o x = program_free _ _ o x
-  debugged_free (Err (debug_fault.Fault line cause)) o x = alone_free _ o (λ y. y) x
-  debugged_free (Err debug_fault.NoMemory) o x = absurd x
+  debugged_free : (limit : ℕ) (read : Result (List Command) CommandFault) (o : Outcome) → ProgramDebugComes memory bytes keys limit read o → Free o
+  debugged_free limit (Ok commands) o x = program_free _ o (λ board. tt) x
+  debugged_free limit (Err (debug_fault.Fault line cause)) o x = alone_free _ o (λ y. y) x
+  debugged_free limit (Err debug_fault.NoMemory) o x = absurd x
+
+  program_show_free : (limit : ℕ) (shown : ProgramShow (List ℕ)) (o : Outcome) → ProgramShowComes memory bytes keys limit shown o → Free o
+  program_show_free limit program_show.Trace o x = program_free _ o (λ board. tt) x
+  program_show_free limit program_show.Pictures o x = program_free _ o (λ board. tt) x
+  program_show_free limit (program_show.Commands text) o x = debugged_free limit (commands_of Processor limit text) o x
 
 module _ (given : RomsGiven) where
-  run_free : (e : Edition) (scripts : List (List ℕ)) (outcome : List KeyEvent → Outcome) (o : Outcome)
-      → ((script : List KeyEvent) → Free (outcome script)) → RunTo e scripts outcome o → Free o
-  run_free e scripts outcome _ free (FaultyScript line cause is) = λ x. x
-  run_free e scripts outcome _ free (FaultyRom script fault is faulty differs) = absurd (rom_is_fine_or_not e fault faulty (given.games e) differs)
-  run_free e scripts outcome _ free (Runs script is fine) = free script
+  run_free : (e : Edition) (keys : Option (List ℕ)) (outcome : List KeyEvent → Outcome) (o : Outcome)
+      → ((script : List KeyEvent) → Free (outcome script)) → RunTo e keys outcome o → Free o
+  run_free e keys outcome _ free (FaultyScript line cause is) = λ x. x
+  run_free e keys outcome _ free (FaultyRom script fault is faulty differs) = absurd (rom_is_fine_or_not e fault faulty (given.games e) differs)
+  run_free e keys outcome _ free (Runs script is fine) = free script
 
-  debug_free : (e : Edition) (game : List ℕ) (limit : ℕ) (scripts : List (List ℕ)) (read : Result (List Command) CommandFault) (o : Outcome)
-      → DebugComes e game limit scripts read o → Free o
-  debug_free e game limit scripts (Ok commands) o x = run_free e scripts _ o (λ script. tt) x
-  debug_free e game limit scripts (Err (debug_fault.Fault line cause)) o x = alone_free _ o (λ y. y) x
-  debug_free e game limit scripts (Err debug_fault.NoMemory) o x = absurd x
+  debug_free : (e : Edition) (s : Start) (keys : Option (List ℕ)) (limit : ℕ) (read : Result (List Command) CommandFault) (o : Outcome)
+      → DebugComes e s keys limit read o → Free o
+  debug_free e s keys limit (Ok commands) o x = run_free e keys _ o (λ script. tt) x
+  debug_free e s keys limit (Err (debug_fault.Fault line cause)) o x = alone_free _ o (λ y. y) x
+  debug_free e s keys limit (Err debug_fault.NoMemory) o x = absurd x
 
-  resume_free : (a : AskedResume) (file : List ℕ) (scripts : List (List ℕ)) (o : Outcome) → ResumeComes a file scripts o → Free o
-  resume_free a file scripts o x = run_free x.edition scripts _ o (λ script. tt) x.comes
+  show_free : (e : Edition) (s : Start) (keys : Option (List ℕ)) (limit : ℕ) (shown : Show (List ℕ)) (o : Outcome)
+      → ShowComes e s keys limit shown o → Free o
+  show_free e s keys limit (show.Trace with_time with_screen) o x = run_free e keys _ o (λ script. tt) x
+  show_free e s keys limit show.Pictures o x = run_free e keys _ o (λ script. tt) x
+  show_free e s keys limit (show.Commands text) o x = debug_free e s keys limit (commands_of Chip8 limit text) o x
+  show_free e s keys limit show.State o x = run_free e keys _ o (λ script. saved_free limit _ _) x
+  show_free e s keys limit (show.Summary number) o x = run_free e keys _ o (λ script. tt) x
 
-  link_free : (a : AskedLink) (message : List ℕ) (o : Outcome) → LinkComes a message o → Free o
-  link_free a message _ (FaultyRoms fault faulty differ) = absurd (links_fine_or_not a message fault faulty given.links differ)
-  link_free a message _ (Links fine s is) = tt
+  begin_free : (start : asked.Start (List ℕ)) (keys : Option (List ℕ)) (limit : ℕ) (shown : Show (List ℕ)) (o : Outcome)
+      → Begins start (λ e s. ShowComes e s keys limit shown o) → Free o
+  begin_free (beginning.Game game edition) keys limit shown o x = show_free edition (Reset game) keys limit shown o x
+  begin_free (beginning.State file) keys limit shown o x = show_free x.edition (Saved file) keys limit shown o x.here
+  begin_free (beginning.Demo number) keys limit shown o x = show_free Usual (Reset (demo_game number)) keys limit shown o x
 
-  -- so is what any command comes to
-  comes_free : (asked : Asked) (contents : List (List ℕ)) (o : Outcome) → HasOutcome asked contents o → Free o
-  comes_free (trace a) [] o x = absurd x
-  comes_free (trace a) (game ∷ scripts) o x = run_free a.run.edition scripts _ o (λ script. tt) x
-  comes_free (play a) [] o x = absurd x
-  comes_free (play a) (game ∷ scripts) o x = run_free a.edition scripts _ o (λ script. tt) x
-  comes_free (debug a) [] o x = absurd x
-  comes_free (debug a) (game ∷ []) o x = absurd x
-  comes_free (debug a) (game ∷ text ∷ scripts) o x = debug_free a.run.edition game a.run.cycles scripts (commands_of Chip8 a.run.cycles text) o x
-  comes_free (demo a) [] o x = run_free Usual [] _ o (λ script. tt) x
-  comes_free (demo a) (c ∷ cs) o x = absurd x
-  comes_free (link a) [] o x = absurd x
-  comes_free (link a) (message ∷ []) o x = link_free a message o x
-  comes_free (link a) (message ∷ c ∷ cs) o x = absurd x
-  comes_free (asm a) [] o x = absurd x
-  comes_free (asm a) (source ∷ []) o x = source_free source _ o x
-  comes_free (asm a) (source ∷ c ∷ cs) o x = absurd x
-  comes_free (list name) [] o x = absurd x
-  comes_free (list name) (source ∷ []) o x = source_free source _ o x
-  comes_free (list name) (source ∷ c ∷ cs) o x = absurd x
-  comes_free (dis a) [] o x = absurd x
-  comes_free (dis a) (bytes ∷ []) o x = alone_free _ o tt x
-  comes_free (dis a) (bytes ∷ c ∷ cs) o x = absurd x
-  comes_free (save a) [] o x = absurd x
-  comes_free (save a) (game ∷ scripts) o x = run_free a.edition scripts _ o (λ script. saved_free a.cycles _ _) x
-  comes_free (resume a) [] o x = absurd x
-  comes_free (resume a) (file ∷ scripts) o x = resume_free a file scripts o x
-  comes_free (trace_program a) [] o x = absurd x
-  comes_free (trace_program a) (bytes ∷ scripts) o x = program_free a.memory bytes a.cycles scripts _ _ o x
-  comes_free (play_program a) [] o x = absurd x
-  comes_free (play_program a) (bytes ∷ scripts) o x = program_free a.memory bytes a.cycles scripts _ _ o x
-  comes_free (debug_program a) [] o x = absurd x
-  comes_free (debug_program a) (bytes ∷ []) o x = absurd x
-  comes_free (debug_program a) (bytes ∷ text ∷ scripts) o x =
-      debugged_free a.run.memory bytes a.run.cycles scripts (commands_of Processor a.run.cycles text) o x
-  comes_free (interpreter e) [] o x = alone_free _ o tt x
-  comes_free (interpreter e) (c ∷ cs) o x = absurd x
-  comes_free bounds [] o x = alone_free _ o tt x
-  comes_free bounds (c ∷ cs) o x = absurd x
-  comes_free (within a) [] o x = absurd x
-  comes_free (within a) (source ∷ []) o x = absurd x
-  comes_free (within a) (source ∷ text ∷ []) o x = cycles_free source text o x
-  comes_free (within a) (source ∷ text ∷ c ∷ cs) o x = absurd x
-  comes_free (safe a) [] o x = absurd x
-  comes_free (safe a) (game ∷ []) o x = absurd x
-  comes_free (safe a) (game ∷ text ∷ []) o x = proof_free a.edition game text o x
-  comes_free (safe a) (game ∷ text ∷ c ∷ cs) o x = absurd x
-  comes_free (certify a) [] o x = absurd x
-  comes_free (certify a) (game ∷ []) o x = search_free a.edition game o x
-  comes_free (certify a) (game ∷ c ∷ cs) o x = absurd x
+  link_free : (message : List ℕ) (moves number : ℕ) (o : Outcome) → LinkComes message moves number o → Free o
+  link_free message moves number _ (FaultyRoms fault faulty differ) = absurd (links_fine_or_not message moves number fault faulty given.links differ)
+  link_free message moves number _ (Links fine s is) = tt
 
-  pub rom_never : (asked : Asked) (contents : List (List ℕ)) (status : Status) (report : List ℕ)
-      → HasOutcome asked contents (Refused status report) → ¬ IsOfRom status
-  rom_never asked contents status report x = comes_free asked contents (Refused status report) x
+  -- so is what any request comes to
+  comes_free : (loaded : Loaded) (o : Outcome) → HasOutcome loaded o → Free o
+  comes_free (request.Run run) o x = begin_free run.start run.keys run.limit run.show o x
+  comes_free (request.Program run) o x = program_show_free run.memory run.file run.keys run.limit run.show o x
+  comes_free (request.Link message moves number) o x = link_free message moves number o x
+  comes_free (request.Asm source raw) o x = source_free source _ o x
+  comes_free (request.List source) o x = source_free source _ o x
+  comes_free (request.Dis bytes address) o x = alone_free _ o tt x
+  comes_free (request.Source text) o x = alone_free _ o tt x
+  comes_free request.Bounds o x = alone_free _ o tt x
+  comes_free (request.Cycles source certificate) o x = cycles_free source certificate o x
+  comes_free (request.Safe game certificate edition) o x = proof_free edition game certificate o x
+  comes_free (request.Certify game edition) o x = search_free edition game o x
+
+  pub rom_never : (loaded : Loaded) (status : Status) (report : List ℕ) → HasOutcome loaded (Refused status report) → ¬ IsOfRom status
+  rom_never loaded status report x = comes_free loaded (Refused status report) x
 
   pub never_of_rom : (status : Status) (call : Call) → Says status call → ¬ IsOfRom status
-  never_of_rom BadRomSource call says = rom_never says.asked says.contents BadRomSource says.report says.comes
-  never_of_rom RomDiffers call says = rom_never says.asked says.contents RomDiffers says.report says.comes
+  never_of_rom BadRomSource call says = rom_never says.loaded BadRomSource says.report says.comes
+  never_of_rom RomDiffers call says = rom_never says.loaded RomDiffers says.report says.comes
   never_of_rom _ call says = λ x. x

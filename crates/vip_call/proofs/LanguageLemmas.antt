@@ -1,172 +1,174 @@
--- The run of a game is a run of CHIP-8 with its ending, by the law of every run.
-use Rattle.std.proofs.Common.{ℕ, ◌<◌, ◌≤◌, List, [], ◌∷◌, length, Option, Some, None, Result, Ok, Err, slice_index, refl, arith}
+-- The run from a start is a run of CHIP-8 with its ending, by the law of every run.
+use Rattle.std.proofs.Common.{◌≡◌, ◌⊎◌, ℕ, List, [], ◌∷◌, ◌++◌, Option, Some, None, Result, Ok, Err, refl, inl, inr, ◌∙◌}
 use Rattle.machine.specs.Board.{Machine}
 use Rattle.machine.specs.Keys.{Event as KeyEvent}
+use Rattle.machine.specs.Pictures.{windows_ended}
 use Rattle.chip8_lang.specs.declared.view.Edition.{Edition}
-use Rattle.chip8_lang.specs.declared.view.Edition.TheVariants.{Usual}
-use Rattle.chip8_lang.specs.Events.{Event}
+use Rattle.chip8_lang.specs.Events.{Event, events_behind}
 use Rattle.chip8_lang.specs.Events.Event.{Picture, Dispatch, Stopped}
-use Rattle.chip8_lang.specs.State.{memory_size}
-use Rattle.rom_law.specs.Language.{Begins}
+use Rattle.chip8_image.specs.Interpreters.{interpreter_of}
+use Rattle.rom_law.specs.Language.{Begins as BeginsRun}
+use Rattle.rom_board.specs.Frames.{KeepsFrames}
 use Rattle.rom_board.specs.Laws.{EveryFrame, EveryRun}
 use Rattle.rom_board.specs.Program.{numbered, program}
-use Rattle.vip_relation.specs.State.{started}
+use Rattle.vip_relation.specs.Follows.{Fits}
+use Rattle.vip_relation.specs.State.{Start, begun, machine_of}
+use Rattle.vip_relation.specs.State.Start.{Reset, Saved}
+use Rattle.vip_relation.proofs.Beginning.{begins-running}
 use Rattle.vip_show.specs.Endings.{ending_after, ending_of}
 use Rattle.vip_show.specs.StateOutput.{saved_file}
+use Rattle.vip_text.specs.Endings.{Ending}
+use Rattle.vip_text.specs.Endings.Ending.{AtLimit}
+use Rattle.vip_text.specs.StateFile.{shown}
 use Rattle.vip_words.specs.DebugGrammar.{commands_of}
 use Rattle.vip_words.specs.declared.debug_commands.Command.{Command}
 use Rattle.vip_words.specs.declared.debug_commands.Speaks.TheVariants.{Chip8}
 use Rattle.vip_words.specs.declared.debug_commands.CommandFault.{CommandFault}
-use Rattle.vip_words.specs.declared.debug_commands.CommandFault.TheVariants.{Fault, NoMemory}
-use Rattle.vip_outside.specs.Files.{FilesMeaning}
-use Rattle.vip_words.specs.Asked.{Asked, trace, play, debug, save, resume, demo, link, trace_program, play_program, debug_program, asm, list, dis, source as interpreter, bounds, within, safe, certify}
-use Rattle.vip_tools.specs.Demo.{demo_game}
-use Rattle.vip_tools.specs.Files.{needed, HasAll}
-use Rattle.vip_call.specs.Language.{named, IsChip8, RunIsChip8, DebugsChip8, ShowsChip8}
+use Rattle.vip_words.specs.declared.debug_commands.CommandFault.TheVariants as fault
+use Rattle.vip_words.specs.declared.request.Request.TheVariants as request
+use Rattle.vip_words.specs.declared.request.Show.{Show}
+use Rattle.vip_words.specs.declared.request.Show.TheVariants as show
+use Rattle.vip_tools.specs.Files.{Loaded, needed, script_files, show_files}
+use Rattle.vip_call.specs.Language.{named, IsChip8, IsEndOf, RunIsChip8, ShowsChip8}
 use Rattle.vip_tools.specs.Outcome.{Outcome}
 use Rattle.vip_tools.specs.Outcome.Outcome.{Refused, Shown, GivenUp}
-use Rattle.vip_verbs.specs.Outcome.{HasOutcome, RunComes, DebugComes, SaveComes, run_of, events_in, run_ending, debug_ending, saved_as}
+use Rattle.vip_verbs.specs.Outcome.{HasOutcome, RunTo, DebugComes, ShowComes, run_of, events_in, ran, run_ending, debug_ending, limit_from, saved_as}
 use Rattle.vip_verbs.specs.Outcome.RunTo.{FaultyScript, FaultyRom, Runs}
 use Rattle.vip_call.specs.Top.{Call, SpeaksChip8}
 use Rattle.vip_tools.specs.declared.status.Status.{Status}
 use Rattle.vip_call.proofs.DebugLemmas.{debug_ends}
-use Rattle.vip_call.proofs.ResumedLemmas.{FramesFromFile, FromFile, OfResumed, goes_on, resumed_shows}
-use Rattle.vip_tools.proofs.DemoLemmas.{length-game, bytes-game}
+use Rattle.vip_call.proofs.FilledLemmas.{AreGiven, are_given}
+use Rattle.vip_call.proofs.GivenStarts.{begun_so}
+use Rattle.vip_call.proofs.LimitLemmas.{late_limit, same_ending}
+use Rattle.vip_call.proofs.ResumedLemmas.{FramesFromFile, FromFile, goes_on}
 
 -- ---- the ending by the events of a run
 
 module _ (e : Edition) (script : List KeyEvent) (limit : ℕ) (run : List Machine) where
   begins :
-      (game : List ℕ) (events : List Event) → Begins (program e) script limit run numbered game events
-      → Begins (program e) script limit run (named e (ending_of e events)) game events
+      (game : List ℕ) (events : List Event) → BeginsRun (program e) script limit run numbered game events
+      → BeginsRun (program e) script limit run (named e (ending_of e events)) game events
   unfolding ending_after
   begins game [] h = (h.0, refl)
   begins game (Picture m ∷ events) h = absurd h
   begins game (Dispatch b ∷ events) h = (h.0, h.1, h.2, goes_on e script limit run 0 b events h.3)
   begins game (Stopped b ∷ events) h = absurd h
 
-module _ (law : EveryRun) where
-  pub is_chip8 :
-      (e : Edition) (game : List ℕ) (script : List KeyEvent) (limit : ℕ) → length game ≤ memory_size e → ((i : ℕ) → slice_index game i < 256)
-      → IsChip8 e game script limit (ending_of e (events_in e game script limit))
-  is_chip8 e game script limit fits bytes =
-      begins e script limit (run_of e game script limit) game (events_in e game script limit) (law e game fits bytes script limit)
+module _ (law : EveryRun) (from : FromFile) where
+  pub is_chip8 : (e : Edition) (s : Start) → Fits e s → (script : List KeyEvent) (limit : ℕ) → IsChip8 e s script limit (run_ending e s script limit)
+  unfolding ending_after
+  is_chip8 e (Reset game) fits script limit =
+      begins e script limit (run_of e (Reset game) script limit) game (events_in e (Reset game) script limit) (law e game fits.fits fits.bytes script limit)
+  is_chip8 e (Saved f) fits script limit =
+      let r = from e f fits.bytes fits.accepted script limit in
+      record {
+        stands = r.stands;
+        events =
+            goes_on e script limit (run_of e (Saved f) script limit) (windows_ended (shown f).cycle) (shown f)
+            (events_behind (interpreter_of e) script (shown f) limit) r.events;
+      }
 
 -- ---- a command
 
-module _ (law : EveryRun) (frames : EveryFrame) (frames_from : FramesFromFile) where
-  -- a run that comes to output
-  OfRun : Edition → List ℕ → List (List ℕ) → ℕ → Outcome → Type 0
-  OfRun e game scripts limit (Refused status report) = Unit {0}
-  OfRun e game scripts limit (GivenUp report) = Unit {0}
-  OfRun e game scripts limit (Shown pieces status report) = RunIsChip8 e game scripts limit status report
+module _ (law : EveryRun) (from : FromFile) (frames : EveryFrame) (frames_from : FramesFromFile) where
+  keeps_frames : (e : Edition) (s : Start) → Fits e s → (script : List KeyEvent) → KeepsFrames (program e) script (machine_of s)
+  keeps_frames e (Reset game) fits script = frames e game fits.fits fits.bytes script
+  keeps_frames e (Saved f) fits script = frames_from e f fits.bytes fits.accepted script
 
-  -- a run under the debugger that does
-  OfDebug : Edition → List ℕ → List (List ℕ) → ℕ → Outcome → Type 0
-  OfDebug e game scripts limit (Refused status report) = Unit {0}
-  OfDebug e game scripts limit (GivenUp report) = Unit {0}
-  OfDebug e game scripts limit (Shown pieces status report) = DebugsChip8 e game scripts limit status report
+  module _ (e : Edition) (s : Start) (fits : Fits e s) (keys : Option (List ℕ)) (limit : ℕ) (asked_show : Show (List ℕ)) where
+    -- what comes to output
+    Of : Outcome → Type 0
+    Of (Refused status report) = Unit {0}
+    Of (GivenUp report) = Unit {0}
+    Of (Shown pieces status report) = RunIsChip8 e s keys limit asked_show status report
 
-  module _
-      (e : Edition) (game : List ℕ) (fits : length game ≤ memory_size e) (bytes : (i : ℕ) → slice_index game i < 256) (limit : ℕ)
-      (scripts : List (List ℕ)) (pieces : List KeyEvent → List (List ℕ)) where
-    run_shows : (o : Outcome) → RunComes e limit scripts pieces (run_ending e game limit) o → OfRun e game scripts limit o
-    unfolding OfRun
-    run_shows _ (FaultyScript line cause is) = tt
-    run_shows _ (FaultyRom script fault is fault_is rom) = tt
-    run_shows _ (Runs script is rom) = record {
+    -- with the end that is told
+    shows_run :
+        (pieces : List KeyEvent → List (List ℕ)) (told : List KeyEvent → Ending)
+        → ((script : List KeyEvent) → IsEndOf asked_show (run_ending e s script limit) (told script)) → (o : Outcome)
+        → RunTo e keys (λ script. ran limit (pieces script) (told script)) o → Of o
+    unfolding Of
+    shows_run pieces told ends _ (FaultyScript line cause is) = tt
+    shows_run pieces told ends _ (FaultyRom script fault is fault_is rom) = tt
+    shows_run pieces told ends _ (Runs script is rom) = record {
       script = script;
       reads = is;
-      ending = run_ending e game limit script;
-      run = is_chip8 law e game script limit fits bytes;
-      frames = frames e game fits bytes script;
+      run = is_chip8 law from e s fits script limit;
+      frames = keeps_frames e s fits script;
+      reported = told script;
+      ends = ends script;
       status_is = refl;
       report_is = refl;
     }
 
-    debug_shows :
-        (commands : List Command) (o : Outcome) → RunComes e limit scripts pieces (λ script. debug_ending (started e game script) limit commands) o
-        → OfDebug e game scripts limit o
-    unfolding OfDebug
-    debug_shows commands _ (FaultyScript line cause is) = tt
-    debug_shows commands _ (FaultyRom script fault is fault_is rom) = tt
-    debug_shows commands _ (Runs script is rom) = record {
-      script = script;
-      reads = is;
-      run = is_chip8 law e game script limit fits bytes;
-      frames = frames e game fits bytes script;
-      ending = debug_ending (started e game script) limit commands;
-      ends = debug_ends e game script limit commands;
-      status_is = refl;
-      report_is = refl;
-    }
+    -- what is saved
+    shows_saved :
+        ((script : List KeyEvent) → IsEndOf asked_show (run_ending e s script limit) (run_ending e s script limit)) → (o : Outcome)
+        → RunTo e keys (λ script. saved_as limit (run_ending e s script limit) (saved_file e (events_in e s script limit))) o → Of o
+    unfolding Of
+    shows_saved ends _ (FaultyScript line cause is) = tt
+    shows_saved ends _ (FaultyRom script fault is fault_is rom) = tt
+    shows_saved ends _ (Runs script is rom) = go (saved_file e (events_in e s script limit))
+      where
+        go : (file : Option (List ℕ)) → Of (saved_as limit (run_ending e s script limit) file)
+        go None = tt
+        go (Some file) = record {
+          script = script;
+          reads = is;
+          run = is_chip8 law from e s fits script limit;
+          frames = keeps_frames e s fits script;
+          reported = run_ending e s script limit;
+          ends = ends script;
+          status_is = refl;
+          report_is = refl;
+        }
 
-  module _
-      (e : Edition) (game : List ℕ) (fits : length game ≤ memory_size e) (bytes : (i : ℕ) → slice_index game i < 256) (limit : ℕ)
-      (scripts : List (List ℕ)) where
-    debug_read : (read : Result (List Command) CommandFault) (o : Outcome) → DebugComes e game limit scripts read o → OfDebug e game scripts limit o
-    unfolding OfDebug
-    debug_read (Ok commands) o comes = debug_shows e game fits bytes limit scripts _ commands o comes
-    debug_read (Err (Fault line cause)) o comes = rw comes tt
-    debug_read (Err NoMemory) o comes = absurd comes
-
-  -- a run that is saved
-  save_shows :
-      (e : Edition) (game : List ℕ) (fits : length game ≤ memory_size e) (bytes : (i : ℕ) → slice_index game i < 256) (limit : ℕ)
-      (scripts : List (List ℕ)) (o : Outcome) → SaveComes e game limit scripts o → OfRun e game scripts limit o
-  unfolding OfRun
-  save_shows e game fits bytes limit scripts _ (FaultyScript line cause is) = tt
-  save_shows e game fits bytes limit scripts _ (FaultyRom script fault is fault_is rom) = tt
-  save_shows e game fits bytes limit scripts _ (Runs script is rom) = go (saved_file e (events_in e game script limit))
+  shows_debug :
+      (e : Edition) (s : Start) (fits : Fits e s) (keys : Option (List ℕ)) (limit : ℕ) (text : List ℕ) (read : Result (List Command) CommandFault) (o : Outcome)
+      → DebugComes e s keys limit read o → Of e s fits keys limit (show.Commands text) o
+  unfolding Of
+  shows_debug e s fits keys limit text (Ok commands) o comes =
+      shows_run e s fits keys limit (show.Commands text) _ (λ script. debug_ending (begun e s script) (limit_from s limit) commands)
+      (λ script. ends script (debug_ends e s script (begins-running e s fits) (limit_from s limit) (late_limit s limit) commands)) o comes
     where
-      go : (file : Option (List ℕ)) → OfRun e game scripts limit (saved_as limit (run_ending e game limit script) file)
-      go None = tt
-      go (Some file) = record {
-        script = script;
-        reads = is;
-        ending = run_ending e game limit script;
-        run = is_chip8 law e game script limit fits bytes;
-        frames = frames e game fits bytes script;
-        status_is = refl;
-        report_is = refl;
-      }
+      ends :
+          (script : List KeyEvent)
+          → let z = debug_ending (begun e s script) (limit_from s limit) commands in
+          (z ≡ AtLimit) ⊎ (z ≡ run_ending e s script (limit_from s limit)) → (z ≡ AtLimit) ⊎ (z ≡ run_ending e s script limit)
+      ends script (inl is) = inl is
+      ends script (inr is) = inr (is ∙ same_ending e s script limit)
+  shows_debug e s fits keys limit text (Err (fault.Fault line cause)) o comes = rw comes tt
+  shows_debug e s fits keys limit text (Err fault.NoMemory) o comes = absurd comes
+
+  shows_as :
+      (e : Edition) (s : Start) (fits : Fits e s) (keys : Option (List ℕ)) (limit : ℕ) (shown_as : Show (List ℕ)) (o : Outcome)
+      → ShowComes e s keys limit shown_as o → Of e s fits keys limit shown_as o
+  shows_as e s fits keys limit (show.Trace with_time with_screen) o comes =
+      shows_run e s fits keys limit (show.Trace with_time with_screen) _ _ (λ script. refl) o comes
+  shows_as e s fits keys limit show.Pictures o comes = shows_run e s fits keys limit show.Pictures _ _ (λ script. refl) o comes
+  shows_as e s fits keys limit (show.Commands text) o comes = shows_debug e s fits keys limit text (commands_of Chip8 limit text) o comes
+  shows_as e s fits keys limit show.State o comes = shows_saved e s fits keys limit show.State (λ script. refl) o comes
+  shows_as e s fits keys limit (show.Summary number) o comes = shows_run e s fits keys limit (show.Summary number) _ _ (λ script. refl) o comes
 
   shows :
-      (from : FromFile) (old : FilesMeaning) (asked : Asked) (contents pieces : List (List ℕ)) (status : Status) (report : List ℕ)
-      → HasAll old (needed asked) contents
-      → HasOutcome asked contents (Shown pieces status report) → ShowsChip8 asked contents status report
-  unfolding OfRun OfDebug OfResumed
-  shows from old (trace a) [] pieces status report read comes = tt
-  shows from old (trace a) (game ∷ scripts) pieces status report read comes =
-      run_shows a.run.edition game read.0.fits read.0.bytes a.run.cycles scripts _ (Shown pieces status report) comes
-  shows from old (play a) [] pieces status report read comes = tt
-  shows from old (play a) (game ∷ scripts) pieces status report read comes =
-      run_shows a.edition game read.0.fits read.0.bytes a.cycles scripts _ (Shown pieces status report) comes
-  shows from old (debug a) [] pieces status report read comes = tt
-  shows from old (debug a) (game ∷ []) pieces status report read comes = tt
-  shows from old (debug a) (game ∷ text ∷ scripts) pieces status report read comes =
-      debug_read a.run.edition game read.0.fits read.0.bytes a.run.cycles scripts (commands_of Chip8 a.run.cycles text) (Shown pieces status report) comes
-  shows from old (demo a) [] pieces status report read comes =
-      run_shows Usual (demo_game a.number) (omega (arith, length-game a.number)) (bytes-game a.number) a.cycles [] _ (Shown pieces status report) comes
-  shows from old (demo a) (c ∷ cs) pieces status report read comes = absurd comes
-  shows from old (asm name) contents pieces status report read comes = tt
-  shows from old (list name) contents pieces status report read comes = tt
-  shows from old (dis a) contents pieces status report read comes = tt
-  shows from old (save a) [] pieces status report read comes = tt
-  shows from old (save a) (game ∷ scripts) pieces status report read comes =
-      save_shows a.edition game read.0.fits read.0.bytes a.cycles scripts (Shown pieces status report) comes
-  shows from old (resume a) [] pieces status report read comes = tt
-  shows from old (resume a) (file ∷ scripts) pieces status report read comes =
-      resumed_shows from frames_from a file scripts read.0.bytes (Shown pieces status report) comes
-  shows from old (link a) contents pieces status report read comes = tt
-  shows from old (trace_program a) contents pieces status report read comes = tt
-  shows from old (play_program a) contents pieces status report read comes = tt
-  shows from old (debug_program a) contents pieces status report read comes = tt
-  shows from old (interpreter e) contents pieces status report read comes = tt
-  shows from old bounds contents pieces status report read comes = tt
-  shows from old (within a) contents pieces status report read comes = tt
-  shows from old (safe a) contents pieces status report read comes = tt
-  shows from old (certify a) contents pieces status report read comes = tt
+      (loaded : Loaded) (pieces : List (List ℕ)) (status : Status) (report : List ℕ) → AreGiven (needed loaded) → HasOutcome loaded (Shown pieces status report)
+      → ShowsChip8 loaded status report
+  unfolding Of
+  shows (request.Run run) pieces status report given comes =
+      begun_so (λ e s. ShowComes e s run.keys run.limit run.show (Shown pieces status report)) (λ e s. RunIsChip8 e s run.keys run.limit run.show status report)
+      (λ e s fits comes. shows_as e s fits run.keys run.limit run.show (Shown pieces status report) comes)
+      run.start (show_files run.show ++ script_files run.keys) given comes
+  shows (request.Program run) pieces status report given comes = tt
+  shows (request.Link message moves number) pieces status report given comes = tt
+  shows (request.Asm source raw) pieces status report given comes = tt
+  shows (request.List source) pieces status report given comes = tt
+  shows (request.Dis bytes address) pieces status report given comes = tt
+  shows (request.Source text) pieces status report given comes = tt
+  shows request.Bounds pieces status report given comes = tt
+  shows (request.Cycles source certificate) pieces status report given comes = tt
+  shows (request.Safe game certificate edition) pieces status report given comes = tt
+  shows (request.Certify game edition) pieces status report given comes = tt
 
-  pub speaks_chip8 : FromFile → (call : Call) → SpeaksChip8 call
-  speaks_chip8 from call asked contents pieces status report asks comes = shows from call.files asked contents pieces status report asks.read comes
+  pub speaks_chip8 : (call : Call) → SpeaksChip8 call
+  speaks_chip8 call asked loaded pieces status report asks comes =
+      shows loaded pieces status report (are_given call.files asked loaded asks.shape asks.read) comes

@@ -1,3 +1,6 @@
+mod FilledLemmas
+mod GivenStarts
+mod LimitLemmas
 mod DebugLemmas
 mod LanguageLemmas
 mod TranscriptLemmas

@@ -1,10 +1,10 @@
--- Which dispatch points of a game's run come up to a cycle, and which behind it.
+-- Which dispatch points of a run come up to a cycle, and which behind it.
 use Rattle.std.proofs.Common.{◌≡◌, ◌⊎◌, inl, inr, ℕ, zero, suc, ◌+◌, ◌-◌, ◌<◌, ◌≤◌, Bool, true, false, List, [], ◌∷◌, ◌++◌, length, drop, filter, map, Some, slice_get, append_assoc, append-nil, refl, sym, ap, ◌∙◌, subst, arith}
 use Rattle.std.specs.Prelude.{filter_map, nat_le, nat_lt}
 use Rattle.std.proofs.Math.Seq.{drop-append_seam}
 use Rattle.std.proofs.lemmas.Bool.{cases_lt, le-leb, le-ltb, lt-leb, lt-ltb}
 use Rattle.std.proofs.lemmas.List.Elements.{filter-append, filter_map-append}
-use Rattle.machine.specs.Board.{Machine, start}
+use Rattle.machine.specs.Board.{Machine}
 use Rattle.machine.specs.Keys.{Event as KeyEvent, held_at}
 use Rattle.chip8_lang.specs.declared.view.Edition.{Edition}
 use Rattle.machine.specs.Pictures.{is_shown, windows_ended}
@@ -16,12 +16,11 @@ use Rattle.vip_relation.specs.Follows.{dispatch_of}
 use Rattle.vip_relation.specs.Points.{point_events, point_of}
 use Rattle.vip_relation.specs.declared.point.Point.{Point}
 use Rattle.vip_relation.specs.declared.point.Point.TheVariants.{Dispatch as DispatchPoint, Stop as StopPoint, Other as OtherPoint}
-use Rattle.vip_relation.specs.State.Start.{Reset}
-use Rattle.vip_relation.specs.State.{Start, VipState, events_to, machine_of, started}
+use Rattle.vip_relation.specs.State.{Start, VipState, begun, events_to, machine_of}
 use Rattle.vip_board.proofs.Along.{in-turn}
 use Rattle.vip_relation.proofs.Past.{state, earlier, before, past, pictures, point}
 use Rattle.vip_relation.proofs.Waits.{Earlier, earlier-at, earlier-next}
-use Rattle.vip_debug.specs.Answers.{events_by, moves_until}
+use Rattle.vip_debug.specs.Answers.{moves_until}
 use Rattle.vip_debug.specs.Game.{run_at}
 use Rattle.vip_debug.proofs.Reaching.{all_past, last_until}
 use Rattle.vip_debug.proofs.TargetRuns.{Reached, all-moves, reached-next, some-here, until}
@@ -137,43 +136,46 @@ module _ (i : Interpreter) (s : Start) (script : List KeyEvent) (t n : ℕ) (ove
       record { others = []; is = ap (λ k. past i s script (suc k)) same ∙ sym (append-nil (past i s script (suc n))); later = tt }
   more (suc d) = one_more d (more d)
 
--- ---- a game's run
+-- ---- the run from a start
 
-module _ (e : Edition) (game : List ℕ) (script : List KeyEvent) where
+module _ (e : Edition) (s : Start) (script : List KeyEvent) (begins : is_stop (interpreter_of e) (machine_of s) ≡ false) where
   abbrev i : Interpreter
   i = interpreter_of e
 
   abbrev v : VipState
-  v = started e game script
+  v = begun e s script
 
   abbrev at_state : ℕ → Machine
-  at_state n = state i (Reset game) script n
+  at_state n = state i s script n
 
   abbrev past_of : ℕ → List Event
-  past_of n = past i (Reset game) script n
+  past_of n = past i s script n
 
   -- a state that is reached by a cycle is among those made up to there
   pub reached_few : (t n : ℕ) → Reached (run_at v 0) t n → n ≤ moves_until v t
   reached_few t n h =
       omega (arith, until (run_at v 0) t, all-moves (run_at v 0) t n h.within h.runs, some-here (run_at v 0) t n h.within)
 
-  pub more_moves : (t u : ℕ) → t ≤ u → moves_until v t ≤ moves_until v u
-  more_moves t u order =
-      let h = last_until e game script t in
+  pub more_moves : (t u : ℕ) → (machine_of s).cycle ≤ t → t ≤ u → moves_until v t ≤ moves_until v u
+  more_moves t u late order =
+      let h = last_until e s script begins t late in
       reached_few u (moves_until v t) (record { within = omega (arith, order, h.within); runs = h.runs })
 
   -- where the run goes on, its next state comes behind the cycle
-  pub next_over : (t : ℕ) → is_stop i (at_state (moves_until v t)) ≡ false → t < (at_state (suc (moves_until v t))).cycle
-  next_over t runs = by_test (cases_lt t (at_state (suc n)).cycle)
+  pub next_over : (t : ℕ) → (machine_of s).cycle ≤ t → is_stop i (at_state (moves_until v t)) ≡ false → t < (at_state (suc (moves_until v t))).cycle
+  next_over t late runs = by_test (cases_lt t (at_state (suc n)).cycle)
     where
       n : ℕ
       n = moves_until v t
 
       by_test : (t < (at_state (suc n)).cycle) ⊎ ((at_state (suc n)).cycle ≤ t) → t < (at_state (suc n)).cycle
       by_test (inl over) = over
-      by_test (inr within) = absurd (omega (arith, reached_few t (suc n) (reached-next (run_at v 0) t n (last_until e game script t) runs within)))
+      by_test (inr within) = absurd (omega (arith, reached_few t (suc n) (reached-next (run_at v 0) t n (last_until e s script begins t late) runs within)))
 
-  module _ (limit t : ℕ) (order : t ≤ limit) where
+  module _ (limit t : ℕ) (late : (machine_of s).cycle ≤ t) (order : t ≤ limit) where
+    late_limit : (machine_of s).cycle ≤ limit
+    late_limit = omega (arith, late, order)
+
     -- the events up to the limit are those up to a cycle before, and later ones
     record Splits : Type 0 where
       others : List Event
@@ -192,30 +194,30 @@ module _ (e : Edition) (game : List ℕ) (script : List KeyEvent) where
 
         by_test : (n < m) ⊎ (m ≤ n) → Splits
         by_test (inr few) =
-            let same : m ≡ n = omega (arith, few, more_moves t limit order) in
+            let same : m ≡ n = omega (arith, few, more_moves t limit late order) in
             record {
               others = [];
               is =
-                  all_past e game script limit ∙ ap (λ k. past_of (suc k)) same ∙ sym (all_past e game script t)
+                  all_past e s script begins limit late_limit ∙ ap (λ k. past_of (suc k)) same ∙ sym (all_past e s script begins t late)
                   ∙ sym (append-nil (events_to v t));
               later = tt;
             }
         by_test (inl less) =
-            let over = next_over t ((last_until e game script limit).runs n less) in
-            let d = more i (Reset game) script t n over (m - n) in
+            let over = next_over t late ((last_until e s script begins limit late_limit).runs n less) in
+            let d = more i s script t n over (m - n) in
             let same : m ≡ n + (m - n) = omega (arith, less) in
             record {
               others = d.others;
               is =
-                  all_past e game script limit ∙ ap (λ k. past_of (suc k)) same ∙ d.is
-                  ∙ ap (λ es. es ++ d.others) (sym (all_past e game script t));
+                  all_past e s script begins limit late_limit ∙ ap (λ k. past_of (suc k)) same ∙ d.is
+                  ∙ ap (λ es. es ++ d.others) (sym (all_past e s script begins t late));
               later = d.later;
             }
 
     early : Earlier (t + 1) (events_to v t)
     early =
-        subst (Earlier (t + 1)) (sym (all_past e game script t))
-        (earlier-next i (Reset game) script (t + 1) (moves_until v t) (omega (arith, (last_until e game script t).within)))
+        subst (Earlier (t + 1)) (sym (all_past e s script begins t late))
+        (earlier-next i s script (t + 1) (moves_until v t) (omega (arith, (last_until e s script begins t late).within)))
 
     abbrev all : List Machine
     all = dispatches (events_to v limit)
@@ -223,28 +225,28 @@ module _ (e : Edition) (game : List ℕ) (script : List KeyEvent) where
     -- the dispatch points up to a cycle
     pub met_is : dispatches (events_to v t) ≡ filter (is_met t) all
     met_is =
-        let s = splits in
+        let c = splits in
         sym
-        (ap (λ es. filter (is_met t) (dispatches es)) s.is
-        ∙ ap (filter (is_met t)) (filter_map-append dispatch_of (events_to v t) s.others)
-        ∙ filter-append (is_met t) (dispatches (events_to v t)) (dispatches s.others)
-        ∙ ap (λ bs. bs ++ filter (is_met t) (dispatches s.others)) (all_met t (events_to v t) early)
-        ∙ ap (λ bs. dispatches (events_to v t) ++ bs) (none_met t s.others s.later)
+        (ap (λ es. filter (is_met t) (dispatches es)) c.is
+        ∙ ap (filter (is_met t)) (filter_map-append dispatch_of (events_to v t) c.others)
+        ∙ filter-append (is_met t) (dispatches (events_to v t)) (dispatches c.others)
+        ∙ ap (λ bs. bs ++ filter (is_met t) (dispatches c.others)) (all_met t (events_to v t) early)
+        ∙ ap (λ bs. dispatches (events_to v t) ++ bs) (none_met t c.others c.later)
         ∙ append-nil (dispatches (events_to v t)))
 
     -- and those behind it
     pub ahead_is : dispatches (drop (length (events_to v t)) (events_to v limit)) ≡ filter (is_ahead t) all
     ahead_is =
-        let s = splits in
-        ap (λ es. dispatches (drop (length (events_to v t)) es)) s.is
-        ∙ ap dispatches (drop-append_seam (events_to v t) s.others)
+        let c = splits in
+        ap (λ es. dispatches (drop (length (events_to v t)) es)) c.is
+        ∙ ap dispatches (drop-append_seam (events_to v t) c.others)
         ∙ sym
-        (ap (λ es. filter (is_ahead t) (dispatches es)) s.is
-        ∙ ap (filter (is_ahead t)) (filter_map-append dispatch_of (events_to v t) s.others)
-        ∙ filter-append (is_ahead t) (dispatches (events_to v t)) (dispatches s.others)
-        ∙ ap (λ bs. bs ++ filter (is_ahead t) (dispatches s.others)) (none_ahead t (events_to v t) early)
-        ∙ all_ahead t s.others s.later)
+        (ap (λ es. filter (is_ahead t) (dispatches es)) c.is
+        ∙ ap (filter (is_ahead t)) (filter_map-append dispatch_of (events_to v t) c.others)
+        ∙ filter-append (is_ahead t) (dispatches (events_to v t)) (dispatches c.others)
+        ∙ ap (λ bs. bs ++ filter (is_ahead t) (dispatches c.others)) (none_ahead t (events_to v t) early)
+        ∙ all_ahead t c.others c.later)
 
   -- all dispatch points come by the limit
-  pub within_limit : (limit : ℕ) → Earlier (limit + 1) (events_to v limit)
-  within_limit limit = early limit limit (omega arith)
+  pub within_limit : (limit : ℕ) → (machine_of s).cycle ≤ limit → Earlier (limit + 1) (events_to v limit)
+  within_limit limit late = early limit limit late (omega arith)

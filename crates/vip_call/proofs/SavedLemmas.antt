@@ -1,178 +1,287 @@
--- What was saved of a run goes on as that run.
-use Rattle.std.proofs.Common.{◌≡◌, ◌<◌, ◌≤◌, ℕ, Bool, false, List, [], ◌∷◌, ◌++◌, length, slice_index, Option, Some, None, Ok, refl, sym, ap, subst, ◌∙◌, append-nil}
+-- What was saved of a run goes on as that run, by the law of runs that are joined and by that of the debugger's commands behind a dispatch point.
+use Rattle.std.proofs.Common.{◌≡◌, ℕ, ◌≤◌, Bool, List, [], ◌∷◌, ◌++◌, Option, Some, None, append_assoc, append-nil, refl, sym, ap, ap₂, subst, subst₂, ◌∙◌, arith}
+use Rattle.std.specs.Prelude.{if◌then◌else◌}
+use Rattle.std.specs.Option.{option_map}
+use Rattle.std.proofs.lemmas.Grind.{flat_map-append}
+use Rattle.machine.specs.Board.{Machine}
 use Rattle.machine.specs.Keys.{Event as KeyEvent}
 use Rattle.chip8_lang.specs.declared.view.Edition.{Edition}
-use Rattle.chip8_lang.specs.State.{memory_size}
-use Rattle.vip_outside.specs.Files.{FilesMeaning}
+use Rattle.chip8_lang.specs.Events.{Event, events_behind, is_dispatch, is_stop}
+use Rattle.chip8_lang.specs.Events.Event.{Picture, Dispatch, Stopped}
 use Rattle.chip8_image.specs.Interpreters.{interpreter_of}
-use Rattle.vip_show.specs.Output.{trace_lines, trace_pieces}
-use Rattle.vip_text.specs.Endings.{Ending}
-use Rattle.vip_text.specs.StateFile.{shown}
-use Rattle.rom_board.specs.Saved.{IsRest as IsRestOfRun, SavedGoesOn}
+use Rattle.rom_board.specs.Saved.{AgreeBefore, Joins, IsGoneOnWith, SavedJoins}
+use Rattle.rom_board.proofs.Joined.{file_dispatches}
+use Rattle.rom_board.proofs.Passed.{last_after, last_of_events}
+use Rattle.vip_relation.specs.Follows.{Fits, last_dispatch}
+use Rattle.vip_relation.specs.State.{Start, VipState, begun, machine_of, state_after}
+use Rattle.vip_relation.specs.State.Start.{Reset, Saved}
+use Rattle.vip_show.specs.Output.{picture_pieces, screen_piece, trace_lines, trace_piece}
 use Rattle.vip_show.specs.StateOutput.{saved_file}
-use Rattle.vip_show.specs.Points.{points_behind}
-use Rattle.vip_tools.specs.Report.{end_report}
-use Rattle.vip_tools.specs.Status.{end_status}
-use Rattle.vip_tools.specs.declared.status.Status.{Status}
-use Rattle.vip_words.specs.Asked.{Asked, AskedRun, most_cycles, trace, play, debug, save, resume, demo, link, trace_program, play_program, debug_program, asm, list, dis, source as interpreter, bounds, within, safe, certify}
-use Rattle.vip_tools.specs.Files.{needed, HasAll}
-use Rattle.vip_tools.specs.Outcome.{Outcome, script_in}
-use Rattle.vip_tools.specs.Outcome.Outcome.{Refused, Shown}
-use Rattle.vip_verbs.specs.Outcome.{HasOutcome, RunTo, RomIs, events_in, run_ending, saved, saved_as, resumed as resumed_outcome}
-use Rattle.vip_verbs.specs.Outcome.RunTo.{FaultyScript, FaultyRom, Runs}
-use Rattle.vip_call.specs.Saved.{Continues, GoesOnAsRun, IsRest, trace_request, resume_request}
-use Rattle.vip_call.specs.Top.{Call, ContinuesSaved}
+use Rattle.vip_show.specs.Written.{file_of}
 use Rattle.vip_show.proofs.OneAnswer.{one_edition}
-use Rattle.vip_call.proofs.TopLemmas.{rom_is_fine_or_not}
+use Rattle.vip_text.specs.Endings.Ending.{AtLimit}
+use Rattle.vip_text.specs.StateFile.{shown, IsAccepted}
+use Rattle.vip_debug.specs.Answers.{moves_until, pieces, place_after, at_start, written}
+use Rattle.vip_debug.specs.Behind.{AnswersAs, GoesOnBehind}
+use Rattle.vip_words.specs.Request.{most_cycles}
+use Rattle.vip_words.specs.declared.debug_commands.Command.{Command}
+use Rattle.vip_words.specs.declared.debug_commands.Command.TheVariants.{Runs}
+use Rattle.vip_words.specs.declared.debug_commands.Running.TheVariants.{To}
+use Rattle.vip_words.specs.declared.request.Request.TheVariants as request
+use Rattle.vip_words.specs.declared.request.Show.{Show}
+use Rattle.vip_words.specs.declared.request.Show.TheVariants as show
+use Rattle.vip_tools.specs.Files.{Loaded, needed, script_files, show_files}
+use Rattle.vip_tools.specs.Outcome.{Outcome}
+use Rattle.vip_tools.specs.Outcome.Outcome.{Shown}
+use Rattle.vip_tools.specs.declared.status.Status.{Status}
+use Rattle.vip_verbs.specs.Outcome.{HasOutcome, RunTo, ShowComes, ending_where, events_in, events_shown, limit_from, ran, run_ending, run_of, saved_as, stopped_by}
+use Rattle.vip_verbs.specs.Outcome.RunTo.{FaultyScript, FaultyRom, Runs as RunsSo}
+use Rattle.vip_call.specs.Saved.{Continues, GoesOn, GoesOnAsRun, IsSaved, SavesOne}
+use Rattle.vip_call.specs.Top.{Call, ContinuesSaved}
+use Rattle.vip_relation.proofs.Beginning.{begins-running}
+use Rattle.vip_words.specs.declared.request.Start.TheVariants as beginning
+use Rattle.vip_call.proofs.DebuggedLemmas.{found_point}
+use Rattle.vip_call.proofs.FilledLemmas.{AreGiven, are_given}
+use Rattle.vip_call.proofs.GivenStarts.{begun_so}
+use Rattle.vip_call.proofs.LimitLemmas.{nothing_by, starts_early}
 
--- ---- the parts of what is shown
+-- what is saved of a run is an accepted file, which shows the machine state at its last dispatch point
+abbrev pub SavesShown : Type 0
+SavesShown =
+    (e : Edition) (s : Start) → Fits e s → (script : List KeyEvent) (limit : ℕ) → limit ≤ most_cycles → (file : List ℕ)
+    → saved_file e (events_in e s script limit) ≡ Some file
+    → IsAccepted e file × (last_dispatch (events_in e s script limit) ≡ Some (shown file))
 
-same_pieces : (p q : List (List ℕ)) (a b : Status) (r s : List ℕ) → Shown p a r ≡ Shown q b s → p ≡ q
-same_pieces p q a b r s h = cc
+pub saves_shown : SavedJoins → SavesShown
+saves_shown law e s fits script limit few file saved = let x = law e s fits script limit few file saved in (x.accepted, x.shows)
 
-not_refused : (p : List (List ℕ)) (a b : Status) (r s : List ℕ) → Refused a r ≡ Shown p b s → ⊥
-not_refused p a b r s h = cc
+-- ---- lists
 
--- a run that is shown has a script that is read, and its ROM is right
-record ShowsState (e : Edition) (scripts : List (List ℕ)) (outcome : List KeyEvent → Outcome) (o : Outcome) : Type 0 where
-  script : List KeyEvent
-  reads : script_in scripts ≡ Ok script
-  rom : RomIs e (Ok tt)
-  is : outcome script ≡ o
+lines_joined : (e : Edition) (with_time : Bool) (xs ys : List Event)
+    → trace_lines e with_time (xs ++ ys) ≡ trace_lines e with_time xs ++ trace_lines e with_time ys
+unfolding trace_lines
+lines_joined e with_time xs ys = flat_map-append (trace_piece e with_time) xs ys
 
-shows_of :
-    (e : Edition) (scripts : List (List ℕ)) (outcome : List KeyEvent → Outcome) (p : List (List ℕ)) (a : Status) (r : List ℕ)
-    → RunTo e scripts outcome (Shown p a r) → ShowsState e scripts outcome (Shown p a r)
-shows_of e scripts outcome p a r x = go (Shown p a r) refl x
-  where
-    go : (o : Outcome) → o ≡ Shown p a r → RunTo e scripts outcome o → ShowsState e scripts outcome (Shown p a r)
-    go _ h (FaultyScript l c y) = absurd (not_refused p _ a _ r h)
-    go _ h (FaultyRom t f y is rom) = absurd (not_refused p _ a _ r h)
-    go _ h (Runs t y rom) = record { script = t; reads = y; rom = rom; is = h }
+last_after_both : (last : Option Machine) (xs ys : List Event) → last_after last (xs ++ ys) ≡ last_after (last_after last xs) ys
+unfolding last_after
+last_after_both last [] ys = refl
+last_after_both last (Picture m ∷ xs) ys = last_after_both last xs ys
+last_after_both last (Dispatch b ∷ xs) ys = last_after_both (Some b) xs ys
+last_after_both last (Stopped b ∷ xs) ys = last_after_both last xs ys
 
--- what is saved is one piece, and there it is
-one_piece :
-    (limit : ℕ) (ending : Ending) (f : Option (List ℕ)) (file : List ℕ) (others : List (List ℕ)) (status : Status) (report : List ℕ)
-    → saved_as limit ending f ≡ Shown (file ∷ others) status report → (f ≡ Some file) × (others ≡ [])
-one_piece limit ending None file others status report h = absurd (not_refused (file ∷ others) _ status _ report h)
-one_piece limit ending (Some g) file others status report h =
-    let same : g ∷ [] ≡ file ∷ others = same_pieces (g ∷ []) (file ∷ others) _ status _ report h in (cc, cc)
+-- behind events whose last dispatch point is this one
+last_behind : (xs ys : List Event) (b : Machine) → last_dispatch xs ≡ Some b → last_dispatch (xs ++ ys) ≡ last_dispatch (Dispatch b ∷ ys)
+unfolding last_after
+last_behind xs ys b is =
+    sym (last_of_events (xs ++ ys)) ∙ last_after_both None xs ys ∙ ap (λ last. last_after last ys) (last_of_events xs ∙ is) ∙ last_of_events (Dispatch b ∷ ys)
 
-same_script : (scripts : List (List ℕ)) (s t : List KeyEvent) → script_in scripts ≡ Ok s → script_in scripts ≡ Ok t → t ≡ s
-same_script scripts s t a b = cc
+-- the events that are shown, by all of them
+shown_joined : (e : Edition) (s : Start) (script : List KeyEvent) (t limit : ℕ) (behind : List Event)
+    → events_in e s script limit ≡ events_in e s script t ++ behind → events_shown e s script limit ≡ events_shown e s script t ++ behind
+shown_joined e (Reset game) script t limit behind is = is
+shown_joined e (Saved f) script t limit behind is = cc
 
--- ---- the rest of a trace
+-- no picture is lost with the first dispatch point
+same_pictures : (e : Edition) (s : Start) (script : List KeyEvent) (limit : ℕ)
+    → picture_pieces (interpreter_of e).rom (run_of e s script limit) (events_shown e s script limit)
+    ≡ picture_pieces (interpreter_of e).rom (run_of e s script limit) (events_in e s script limit)
+unfolding picture_pieces
+same_pictures e (Reset game) script limit = refl
+same_pictures e (Saved f) script limit = refl
 
-module _
-    (a : AskedRun) (game : List ℕ) (scripts : List (List ℕ)) (file : List ℕ) (script : List KeyEvent) (reads : script_in scripts ≡ Ok script)
-    (rom : RomIs a.edition (Ok tt)) (run : IsRestOfRun a.edition game script a.cycles file) (with_time : Bool) (later : ℕ) (name : List ℕ)
-    (more : a.cycles ≤ later) where
-  abbrev e : Edition
-  e = a.edition
+limit_late : (s : Start) (limit : ℕ) → (machine_of s).cycle ≤ limit → limit_from s limit ≡ limit
+limit_late (Reset game) limit late = refl
+limit_late (Saved f) limit late = omega (arith, late)
 
-  abbrev trace_outcome : ℕ → List KeyEvent → Outcome
-  trace_outcome limit script =
-      Shown (trace_pieces e with_time false (events_in e game script limit)) (end_status (run_ending e game limit script))
-      (end_report limit (run_ending e game limit script))
+-- ---- a run that goes on
 
-  -- the records up to the first limit
-  first_are : (first : List (List ℕ)) (status : Status) (report : List ℕ) → HasOutcome (trace_request a with_time a.cycles) (game ∷ scripts) (Shown first status report)
-      → first ≡ trace_lines e with_time (events_in e game script a.cycles)
-  first_are first status report comes =
-      let s : ShowsState e scripts (trace_outcome a.cycles) (Shown first status report) = shows_of e scripts (trace_outcome a.cycles) first status report comes in
-      sym (same_pieces _ first _ status _ report s.is)
-      ∙ append-nil (trace_lines e with_time (events_in e game s.script a.cycles))
-      ∙ ap (λ script. trace_lines e with_time (events_in e game script a.cycles)) (same_script scripts script s.script reads s.reads)
+module _ (joins : SavedJoins) (commands_behind : GoesOnBehind) where
+  module _
+      (e : Edition) (s : Start) (fits : Fits e s) (script : List KeyEvent) (limit : ℕ) (few : limit ≤ most_cycles) (file : List ℕ)
+      (saved_is : saved_file e (events_in e s script limit) ≡ Some file) (other : List KeyEvent) (later : ℕ)
+      (agree : AgreeBefore (shown file).cycle script other) (behind : (shown file).cycle ≤ later) where
+    abbrev t : ℕ
+    t = (shown file).cycle
 
-  -- those behind the file's state, with their end
-  abbrev behind : Outcome
-  behind = resumed_outcome (record { state = name; cycles = later; keys = a.keys; with_time = with_time }) e file script
+    x : IsGoneOnWith e s script limit file
+    x = joins e s fits script limit few file saved_is
 
-  whole : (first : List (List ℕ)) → first ≡ trace_lines e with_time (events_in e game script a.cycles) → IsRest a game scripts with_time later first behind
-  whole first are =
-      let outcome : RunTo e scripts (trace_outcome later) (trace_outcome later script) = Runs script reads rom in
-      let lines : trace_lines e with_time (events_in e game script later) ++ [] ≡ first
-      ++ trace_lines e with_time (points_behind (interpreter_of e) script (shown file) later) =
-      append-nil (trace_lines e with_time (events_in e game script later)) ∙ run.records with_time later more
-      ∙ ap (λ first. first ++ trace_lines e with_time (points_behind (interpreter_of e) script (shown file) later)) (sym are) in
-      subst (λ ending. RunTo e scripts (trace_outcome later)
-      (Shown (first ++ trace_lines e with_time (points_behind (interpreter_of e) script (shown file) later)) (end_status ending) (end_report later ending)))
-      (run.ending later more)
-      (subst (λ pieces. RunTo e scripts (trace_outcome later)
-      (Shown pieces (end_status (run_ending e game later script)) (end_report later (run_ending e game later script)))) lines outcome)
+    j : Joins e s file other later
+    j = x.joins other agree later behind
 
-  abbrev asked : Asked
-  asked = resume_request a name with_time later
+    -- the file is that of its machine
+    same_file : file_of e (shown file) ≡ file
+    same_file =
+        let both : Some (file_of e (shown file)) ≡ Some file = ap (option_map (file_of e)) (sym x.shows) ∙ saved_is in cc
 
-  rest : (first : List (List ℕ)) (status : Status) (report : List ℕ) (o : Outcome)
-      → HasOutcome (trace_request a with_time a.cycles) (game ∷ scripts) (Shown first status report)
-      → HasOutcome asked (file ∷ scripts) o → IsRest a game scripts with_time later first o
-  rest first status report o comes x =
-      by_run o (subst (λ d. RunTo d scripts (resumed_outcome (record { state = name; cycles = later; keys = a.keys; with_time = with_time }) d file) o)
-      (one_edition x.edition e file x.accepted run.accepted) x.comes)
+    -- up to the file's cycle the last dispatch point is the file's
+    first_saved : saved_file e (events_in e s other t) ≡ Some file
+    first_saved =
+        (x.joins other agree t (omega arith)).file
+        ∙ ap (λ es. saved_file e (Dispatch (shown file) ∷ es)) (nothing_by e other (shown file) t (omega arith))
+        ∙ ap Some same_file
+
+    first_last : last_dispatch (events_in e s other t) ≡ Some (shown file)
+    first_last = (joins e s fits other t (omega (arith, x.accepted.cycle.most)) file first_saved).shows
+
+    same_last : last_dispatch (events_in e s other later) ≡ last_dispatch (events_in e (Saved file) other later)
+    same_last =
+        ap last_dispatch j.events
+        ∙ last_behind (events_in e s other t) (events_behind (interpreter_of e) other (shown file) later) (shown file) first_last
+
+    goes_on : GoesOn e s file other later
+    goes_on = record {
+      lines = λ with_time with_screen. lines with_time with_screen;
+      pictures =
+          ap₂ (ran later)
+          (same_pictures e s other later ∙ j.pictures
+          ∙ ap₂ (λ a b. a ++ b) (sym (same_pictures e s other t)) (sym (same_pictures e (Saved file) other later)))
+          j.ending;
+      state = ap₂ (saved_as later) j.ending j.file;
+      answers = answers;
+    }
+      where
+        lines :
+            (with_time with_screen : Bool)
+            → ran later
+            (trace_lines e with_time (events_shown e s other later)
+            ++ (if with_screen then screen_piece e (last_dispatch (events_in e s other later)) else []))
+            (run_ending e s other later)
+            ≡ ran later
+            ((trace_lines e with_time (events_shown e s other t) ++ [])
+            ++ (trace_lines e with_time (events_shown e (Saved file) other later)
+            ++ (if with_screen then screen_piece e (last_dispatch (events_in e (Saved file) other later)) else [])))
+            (run_ending e (Saved file) other later)
+        lines with_time with_screen =
+            let own : List Event = events_behind (interpreter_of e) other (shown file) later in
+            ap₂ (ran later)
+            (ap₂ (λ ls last. ls ++ (if with_screen then screen_piece e last else []))
+            (ap (trace_lines e with_time) (shown_joined e s other t later own j.events)
+            ∙ lines_joined e with_time (events_shown e s other t) own
+            ∙ ap (λ ls. ls ++ trace_lines e with_time own) (sym (append-nil (trace_lines e with_time (events_shown e s other t)))))
+            same_last
+            ∙ append_assoc (trace_lines e with_time (events_shown e s other t) ++ []) (trace_lines e with_time own)
+            (if with_screen then screen_piece e (last_dispatch (events_in e (Saved file) other later)) else []))
+            j.ending
+
+        answers :
+            (commands : List Command)
+            → ran later
+            (written (begun e s other) (limit_from s later) (Runs (To t) ∷ commands) (at_start (begun e s other)))
+            (ending_where (begun e s other) (place_after (begun e s other) (limit_from s later) (Runs (To t) ∷ commands) (at_start (begun e s other))).moves)
+            ≡ ran later
+            (written (begun e s other) (limit_from s later) (Runs (To t) ∷ []) (at_start (begun e s other))
+            ++ written (begun e (Saved file) other) (limit_from (Saved file) later) commands (at_start (begun e (Saved file) other)))
+            (ending_where (begun e (Saved file) other)
+            (place_after (begun e (Saved file) other) (limit_from (Saved file) later) commands (at_start (begun e (Saved file) other))).moves)
+        answers commands =
+            subst₂
+            (λ last last'. ran later (written v last (to ∷ commands) (at_start v)) (ending_where v (place_after v last (to ∷ commands) (at_start v)).moves)
+            ≡ ran later (written v last (to ∷ []) (at_start v) ++ written u last' commands (at_start u))
+            (ending_where u (place_after u last' commands (at_start u)).moves))
+            (sym limit_is) (sym limit_there)
+            (ap₂ (ran later)
+            (ap (λ ps. pieces v later to (at_start v) ++ ps) a.pieces
+            ∙ ap (λ ps. ps ++ written u later commands (at_start u)) (sym (append-nil (pieces v later to (at_start v)))))
+            (ap₂ (λ (b : Machine) stop. if is_stop (interpreter_of e) b then stopped_by stop else AtLimit) a.machine a.stop))
+          where
+            to : Command
+            to = Runs (To t)
+
+            v : VipState
+            v = begun e s other
+
+            u : VipState
+            u = begun e (Saved file) other
+
+            early : (machine_of s).cycle ≤ t
+            early = starts_early e s other t (shown file) first_last refl
+
+            limit_there : limit_from (Saved file) later ≡ later
+            limit_there = limit_late (Saved file) later behind
+
+            limit_is : limit_from s later ≡ later
+            limit_is = limit_late s later (omega (arith, early, behind))
+
+            found : state_after v (moves_until v t) ≡ shown file
+            found = found_point e s other (begins-running e s fits) t (shown file) early first_last refl
+
+            a : AnswersAs v u later t commands
+            a =
+                commands_behind e s fits other other t later early behind
+                (ap (is_dispatch (interpreter_of e)) found ∙ file_dispatches e file x.accepted) file (sym found) (λ c l k. refl) commands
+
+  comes_so :
+      (e : Edition) (file : List ℕ) → IsAccepted e file → (other : Option (List ℕ)) (later : ℕ) (shown_as : Show (List ℕ)) (o : Outcome)
+      → HasOutcome (request.Run (record { start = beginning.State file; keys = other; limit = later; show = shown_as })) o
+      → ShowComes e (Saved file) other later shown_as o
+  comes_so e file accepted other later shown_as o x =
+      subst (λ d. ShowComes d (Saved file) other later shown_as o) (one_edition x.edition e file x.accepted accepted) x.here
+
+  -- ---- a command
+
+  saves_one :
+      (e : Edition) (s : Start) → Fits e s → (keys : Option (List ℕ)) (limit : ℕ) (pieces : List (List ℕ)) (status : Status) (report : List ℕ)
+      → RunTo e keys (λ script. saved_as limit (run_ending e s script limit) (saved_file e (events_in e s script limit))) (Shown pieces status report)
+      → SavesOne e s keys limit pieces
+  saves_one e s fits keys limit pieces status report x = go (Shown pieces status report) refl x
     where
-      are : first ≡ trace_lines e with_time (events_in e game script a.cycles)
-      are = first_are first status report comes
+      go :
+          (o : Outcome) → o ≡ Shown pieces status report
+          → RunTo e keys (λ script. saved_as limit (run_ending e s script limit) (saved_file e (events_in e s script limit))) o
+          → SavesOne e s keys limit pieces
+      go _ h (FaultyScript line cause y) = absurd (cc)
+      go _ h (FaultyRom script fault y is rom) = absurd (cc)
+      go _ h (RunsSo script reads rom) = by_file (saved_file e (events_in e s script limit)) refl h
+        where
+          by_file :
+              (f : Option (List ℕ)) → saved_file e (events_in e s script limit) ≡ f
+              → saved_as limit (run_ending e s script limit) f ≡ Shown pieces status report
+              → SavesOne e s keys limit pieces
+          by_file None is h = absurd (cc)
+          by_file (Some file) is h =
+              let same : file ∷ [] ≡ pieces = cc in
+              record { file = file; written = sym same; goes_on = λ few. goes_on_as few }
+            where
+              goes_on_as : limit ≤ most_cycles → GoesOnAsRun e s keys limit file
+              goes_on_as few =
+                  let x = joins e s fits script limit few file is in
+                  record {
+                    accepted = x.accepted;
+                    script = script;
+                    reads = reads;
+                    shows = x.shows;
+                    rest = λ other later agree behind.
+                        goes_on e s fits script limit few file is other later agree behind;
+                    comes = comes_so e file x.accepted;
+                  }
 
-      by_run : (o : Outcome) → RunTo e scripts (resumed_outcome (record { state = name; cycles = later; keys = a.keys; with_time = with_time }) e file) o
-          → IsRest a game scripts with_time later first o
-      by_run _ (FaultyScript l c y) = absurd (cc)
-      by_run _ (FaultyRom t f y is differs) = absurd (rom_is_fine_or_not e f is rom differs)
-      by_run _ (Runs t y rom') =
-          subst (λ t. IsRest a game scripts with_time later first
-          (resumed_outcome (record { state = name; cycles = later; keys = a.keys; with_time = with_time }) e file t))
-          (sym (same_script scripts script t reads y)) (whole first are)
+  is_saved :
+      (e : Edition) (s : Start) → Fits e s → (keys : Option (List ℕ)) (limit : ℕ) (shown_as : Show (List ℕ)) (pieces : List (List ℕ)) (status : Status)
+      (report : List ℕ) → ShowComes e s keys limit shown_as (Shown pieces status report) → IsSaved e s keys limit shown_as pieces
+  is_saved e s fits keys limit (show.Trace with_time with_screen) pieces status report x = tt
+  is_saved e s fits keys limit show.Pictures pieces status report x = tt
+  is_saved e s fits keys limit (show.Commands text) pieces status report x = tt
+  is_saved e s fits keys limit show.State pieces status report x = saves_one e s fits keys limit pieces status report x
+  is_saved e s fits keys limit (show.Summary number) pieces status report x = tt
 
--- ---- a command
-
-module _ (law : SavedGoesOn) where
-  saves :
-      (a : AskedRun) (game : List ℕ) (scripts : List (List ℕ)) (file : List ℕ) (others : List (List ℕ)) (status : Status) (report : List ℕ)
-      → length game ≤ memory_size a.edition → ((i : ℕ) → slice_index game i < 256)
-      → HasOutcome (save a) (game ∷ scripts) (Shown (file ∷ others) status report) → a.cycles ≤ most_cycles
-      → (others ≡ []) × GoesOnAsRun a game scripts file
-  saves a game scripts file others status report fits bytes comes low =
-      let s : ShowsState a.edition scripts (λ script. saved a.edition a.cycles (events_in a.edition game script a.cycles)) (Shown (file ∷ others) status report) =
-      shows_of a.edition scripts _ (file ∷ others) status report comes in
-      let is =
-      one_piece a.cycles (run_ending a.edition game a.cycles s.script) (saved_file a.edition (events_in a.edition game s.script a.cycles)) file others
-      status report s.is in
-      let run : IsRestOfRun a.edition game s.script a.cycles file = law a.edition game fits bytes s.script a.cycles low file is.0 in (
-        is.1,
-        record {
-          accepted = run.accepted;
-          script = s.script;
-          reads = s.reads;
-          shows = run.shows;
-          rest = λ with_time later name first status report o more x y.
-              rest a game scripts file s.script s.reads s.rom run with_time later name more first status report o x y;
-        },
-      )
-
-  shows :
-      (old : FilesMeaning) (asked : Asked) (contents pieces : List (List ℕ)) (status : Status) (report : List ℕ) → HasAll old (needed asked) contents
-      → HasOutcome asked contents (Shown pieces status report) → Continues asked contents pieces
-  shows old (save a) [] pieces status report read comes = tt
-  shows old (save a) (game ∷ scripts) [] status report read comes = tt
-  shows old (save a) (game ∷ scripts) (file ∷ others) status report read comes =
-      saves a game scripts file others status report read.0.fits read.0.bytes comes
-  shows old (trace a) contents pieces status report read comes = tt
-  shows old (play a) contents pieces status report read comes = tt
-  shows old (debug a) contents pieces status report read comes = tt
-  shows old (demo a) contents pieces status report read comes = tt
-  shows old (resume a) contents pieces status report read comes = tt
-  shows old (link a) contents pieces status report read comes = tt
-  shows old (trace_program a) contents pieces status report read comes = tt
-  shows old (play_program a) contents pieces status report read comes = tt
-  shows old (debug_program a) contents pieces status report read comes = tt
-  shows old (asm a) contents pieces status report read comes = tt
-  shows old (list name) contents pieces status report read comes = tt
-  shows old (dis a) contents pieces status report read comes = tt
-  shows old (interpreter e) contents pieces status report read comes = tt
-  shows old bounds contents pieces status report read comes = tt
-  shows old (within a) contents pieces status report read comes = tt
-  shows old (safe a) contents pieces status report read comes = tt
-  shows old (certify a) contents pieces status report read comes = tt
+  shows : (loaded : Loaded) (pieces : List (List ℕ)) (status : Status) (report : List ℕ) → AreGiven (needed loaded)
+      → HasOutcome loaded (Shown pieces status report) → Continues loaded pieces
+  shows (request.Run run) pieces status report given comes =
+      begun_so (λ e s. ShowComes e s run.keys run.limit run.show (Shown pieces status report)) (λ e s. IsSaved e s run.keys run.limit run.show pieces)
+      (λ e s fits comes. is_saved e s fits run.keys run.limit run.show pieces status report comes)
+      run.start (show_files run.show ++ script_files run.keys) given comes
+  shows (request.Program run) pieces status report given comes = tt
+  shows (request.Link message moves number) pieces status report given comes = tt
+  shows (request.Asm source raw) pieces status report given comes = tt
+  shows (request.List source) pieces status report given comes = tt
+  shows (request.Dis bytes address) pieces status report given comes = tt
+  shows (request.Source text) pieces status report given comes = tt
+  shows request.Bounds pieces status report given comes = tt
+  shows (request.Cycles source certificate) pieces status report given comes = tt
+  shows (request.Safe game certificate edition) pieces status report given comes = tt
+  shows (request.Certify game edition) pieces status report given comes = tt
 
   pub continues_saved : (call : Call) → ContinuesSaved call
-  continues_saved call asked contents pieces status report asks comes = shows call.files asked contents pieces status report asks.read comes
+  continues_saved call asked loaded pieces status report asks comes =
+      shows loaded pieces status report (are_given call.files asked loaded asks.shape asks.read) comes

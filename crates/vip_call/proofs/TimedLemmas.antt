@@ -1,5 +1,5 @@
 -- The transcript of a game's run is the one in the language's time, by the law of every run's time.
-use Rattle.std.proofs.Common.{◌≡◌, ℕ, zero, suc, ◌+◌, ◌<◌, ◌≤◌, List, [], ◌∷◌, length, slice_index, refl, sym, ap, subst, ◌∙◌}
+use Rattle.std.proofs.Common.{◌≡◌, ℕ, zero, suc, ◌+◌, ◌<◌, List, [], ◌∷◌, slice_index, refl, sym, ap, subst, ◌∙◌}
 use Rattle.machine.specs.Board.{Machine}
 use Rattle.machine.specs.Keys.{Event as KeyEvent, held_at}
 use Rattle.machine.specs.Pictures.{picture_of, windows_ended}
@@ -9,7 +9,7 @@ use Rattle.chip8_lang.specs.declared.view.Stop.{Stop}
 use Rattle.chip8_lang.specs.Events.{Event, events_behind}
 use Rattle.chip8_lang.specs.Events.Event.{Picture, Dispatch, Stopped}
 use Rattle.chip8_lang.specs.Places.{state_of}
-use Rattle.chip8_lang.specs.State.{Lang, memory_size}
+use Rattle.chip8_lang.specs.State.{Lang}
 use Rattle.chip8_lang.specs.Ticks.{ticks}
 use Rattle.chip8_lang.specs.Timed.{Shown as TimedShown, shown_behind}
 use Rattle.chip8_lang.specs.Timed.Shown.{Picture as PictureAt, Point as PointAt, End}
@@ -21,18 +21,20 @@ use Rattle.rom_board.specs.Laws.{EveryRun, EveryTime}
 use Rattle.rom_board.specs.Program.{program}
 use Rattle.rom_board.proofs.Speaking.{stop_numbered-stop_number}
 use Rattle.chip8_image.specs.Interpreters.{interpreter_of}
+use Rattle.vip_relation.specs.Follows.{Fits}
+use Rattle.vip_relation.specs.State.{Start}
 use Rattle.vip_relation.specs.State.Start.{Reset, Saved}
 use Rattle.vip_relation.specs.Stops.{stop_numbered}
 use Rattle.vip_show.specs.Output.{picture_pieces}
 use Rattle.vip_text.specs.Endings.{Ending}
 use Rattle.vip_text.specs.Endings.Ending.{AtStop}
 use Rattle.vip_text.specs.StateFile.{shown, IsAccepted}
-use Rattle.vip_verbs.specs.Outcome.{ending_from, events_in, run_ending, run_of}
+use Rattle.vip_verbs.specs.Outcome.{events_in, events_shown, run_ending, run_of}
 use Rattle.vip_call.specs.Language.{named}
 use Rattle.vip_call.specs.Transcribed.{shown_from}
 use Rattle.vip_call.specs.Transcript.{Point, Shows, ShowsPictures}
 use Rattle.vip_call.proofs.LanguageLemmas.{is_chip8}
-use Rattle.vip_call.proofs.ResumedLemmas.{FromFile as FromAccepted, is_run_behind}
+use Rattle.vip_call.proofs.ResumedLemmas.{FromFile as FromAccepted}
 use Rattle.vip_call.proofs.TranscriptLemmas.{file_point_is, points_of}
 
 -- ---- a stop
@@ -129,22 +131,7 @@ pictures_shown e run (Stopped c ∷ events) (PictureAt n screen ∷ those) a = a
 pictures_shown e run (Stopped c ∷ events) (PointAt t s ∷ those) a = absurd a
 pictures_shown e run (Stopped c ∷ events) (End t s stop ∷ those) a = pictures_shown e run events those a.2
 
--- ---- the run of a game, and the one from an accepted file
-
-pub timed_game :
-    EveryRun → EveryTime → (e : Edition) (game : List ℕ) → length game ≤ memory_size e → ((i : ℕ) → slice_index game i < 256)
-    → (script : List KeyEvent) (limit : ℕ)
-    → Shows e script limit (shown_from e (Reset game) script limit) (points_of e (events_in e game script limit)) (run_ending e game limit script)
-    (end_cycle limit (events_in e game script limit))
-timed_game law time e game fits bytes script limit =
-    shows_all e script limit (run_of e game script limit) (run_ending e game limit script) game (events_in e game script limit) _
-    (is_chip8 law e game script limit fits bytes) (time e game fits bytes script limit)
-
-pub pictures_of_game :
-    EveryTime → (e : Edition) (game : List ℕ) → length game ≤ memory_size e → ((i : ℕ) → slice_index game i < 256) → (script : List KeyEvent) (limit : ℕ)
-    → ShowsPictures e (shown_from e (Reset game) script limit) (picture_pieces (interpreter_of e).rom (run_of e game script limit) (events_in e game script limit))
-pictures_of_game time e game fits bytes script limit =
-    pictures_shown e (run_of e game script limit) (events_in e game script limit) _ (time e game fits bytes script limit)
+-- ---- the run from a start
 
 abbrev pub TimeFromFile : Type 0
 TimeFromFile =
@@ -152,15 +139,30 @@ TimeFromFile =
     → AreShown (program e) (run_to (interpreter_of e).rom (held_at script) (shown f) limit) (events_behind (interpreter_of e) script (shown f) limit)
     (shown_behind e script limit limit (windows_ended (shown f).cycle) (shown f).cycle (state_of e (shown f)))
 
-pub timed_file :
-    FromAccepted → TimeFromFile → (e : Edition) (f : List ℕ) → ((k : ℕ) → slice_index f k < 256) → IsAccepted e f → (script : List KeyEvent) (limit : ℕ)
-    → let events = events_behind (interpreter_of e) script (shown f) limit in
-    Shows e script limit (shown_from e (Saved f) script limit) (points_of e events) (ending_from e f limit script) (end_cycle limit events)
-timed_file from time e f bytes accepted script limit =
-    let events : List Event = events_behind (interpreter_of e) script (shown f) limit in
-    subst
-    (λ (p : Point). Shows e script limit (shown_behind e script limit limit (windows_ended p.cycle) p.cycle p.state) (points_of e events)
-    (ending_from e f limit script) (end_cycle limit events))
-    (file_point_is e f)
-    (shows e script limit (run_to (interpreter_of e).rom (held_at script) (shown f) limit) (ending_from e f limit script) (windows_ended (shown f).cycle)
-    (shown f) events _ (is_run_behind from e f bytes accepted script limit).events (time e f bytes accepted script limit))
+module _ (time : EveryTime) (time_from : TimeFromFile) where
+  shown_is :
+      (e : Edition) (s : Start) → Fits e s → (script : List KeyEvent) (limit : ℕ)
+      → AreShown (program e) (run_of e s script limit) (events_shown e s script limit) (shown_from e s script limit)
+  shown_is e (Reset game) fits script limit = time e game fits.fits fits.bytes script limit
+  shown_is e (Saved f) fits script limit =
+      subst
+      (λ (p : Point). AreShown (program e) (run_of e (Saved f) script limit) (events_behind (interpreter_of e) script (shown f) limit)
+      (shown_behind e script limit limit (windows_ended p.cycle) p.cycle p.state))
+      (file_point_is e f) (time_from e f fits.bytes fits.accepted script limit)
+
+  pub timed_pictures :
+      (e : Edition) (s : Start) → Fits e s → (script : List KeyEvent) (limit : ℕ)
+      → ShowsPictures e (shown_from e s script limit) (picture_pieces (interpreter_of e).rom (run_of e s script limit) (events_shown e s script limit))
+  timed_pictures e s fits script limit = pictures_shown e (run_of e s script limit) (events_shown e s script limit) _ (shown_is e s fits script limit)
+
+  pub timed_points :
+      EveryRun → FromAccepted → (e : Edition) (s : Start) → Fits e s → (script : List KeyEvent) (limit : ℕ)
+      → Shows e script limit (shown_from e s script limit) (points_of e (events_shown e s script limit)) (run_ending e s script limit)
+      (end_cycle limit (events_shown e s script limit))
+  timed_points law from e (Reset game) fits script limit =
+      shows_all e script limit (run_of e (Reset game) script limit) (run_ending e (Reset game) script limit) game (events_in e (Reset game) script limit) _
+      (is_chip8 law from e (Reset game) fits script limit) (shown_is e (Reset game) fits script limit)
+  timed_points law from e (Saved f) fits script limit =
+      shows e script limit (run_of e (Saved f) script limit) (run_ending e (Saved f) script limit) (windows_ended (shown f).cycle) (shown f)
+      (events_behind (interpreter_of e) script (shown f) limit) _ (is_chip8 law from e (Saved f) fits script limit).events
+      (shown_is e (Saved f) fits script limit)

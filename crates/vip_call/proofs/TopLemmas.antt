@@ -1,6 +1,5 @@
 -- The laws of the answers, from what each answer says, and what the steps of a call say together.
-use Rattle.std.proofs.Common.{◌≡◌, ℕ, suc, ◌<◌, ◌⊎◌, inl, inr, List, [], ◌∷◌, ◌++◌, Option, Some, None, IsErrAnd, IsSomeAnd, length, take, take_all, refl, sym, ap, subst, ◌∙◌, arith, Result, Ok, Err}
-use Rattle.std.proofs.lemmas.List.{map-append}
+use Rattle.std.proofs.Common.{◌≡◌, ℕ, ◌<◌, ◌⊎◌, inl, inr, List, [], ◌∷◌, ◌++◌, Option, Some, None, IsErrAnd, IsSomeAnd, append_assoc, length, refl, sym, ap, subst, ◌∙◌, arith, Result, Ok, Err}
 use Rattle.std.specs.FinMap.{get}
 use Rattle.machine.specs.Keys.{Event as KeyEvent}
 use Rattle.chip8_lang.specs.declared.view.Edition.{Edition}
@@ -20,33 +19,46 @@ use Rattle.vip_words.specs.declared.debug_commands.Speaks.TheVariants.{Chip8, Ma
 use Rattle.vip_words.specs.declared.debug_commands.CommandFault.{CommandFault}
 use Rattle.vip_words.specs.declared.debug_commands.CommandFault.TheVariants as debug_fault
 use Rattle.vip_outside.specs.Count.{Rose}
-use Rattle.vip_outside.specs.Files.{Answer, FileMap, FilesMeaning}
+use Rattle.vip_outside.specs.Files.{Answer, FileMap, FilesMeaning, Read, and_reads}
 use Rattle.vip_outside.specs.Sink.{SinkMeaning, PutAnswers}
 use Rattle.vip_outside.specs.Pieces.{PutsAll, FailsWithin}
 use Rattle.vip_outside.specs.declared.sink.Failed.{Failed}
 use Rattle.chip8_image.specs.Interpreters.{interpreter_of}
 use Rattle.vip_show.proofs.OneAnswer.{accepted_or_not, one_edition}
-use Rattle.vip_words.specs.Asked.{Asked, AskedLink, AskedResume, trace, play, debug, save, resume, demo, link, trace_program, play_program, debug_program, asm, list, dis, source as interpreter, bounds, within, safe, certify, asked_by}
+use Rattle.vip_words.specs.Asked.{asked_by}
+use Rattle.vip_words.specs.Request.{Asked}
+use Rattle.vip_words.specs.Rules.{Word}
+use Rattle.vip_words.specs.declared.request.ProgramShow.{ProgramShow}
+use Rattle.vip_words.specs.declared.request.ProgramShow.TheVariants as program_show
+use Rattle.vip_words.specs.declared.request.Request.{Request}
+use Rattle.vip_words.specs.declared.request.Request.TheVariants as request
+use Rattle.vip_words.specs.declared.request.Show.{Show}
+use Rattle.vip_words.specs.declared.request.Show.TheVariants as show
+use Rattle.vip_words.specs.declared.request.Start as asked
+use Rattle.vip_words.specs.declared.request.Start.TheVariants as beginning
 use Rattle.vip_tools.specs.Certificates.{CertifyComes, CyclesComes, SafeComes}
+use Rattle.vip_tools.specs.Demo.{demo_game}
 use Rattle.vip_tools.specs.Certificates.CertifyComes.{Finds, FindsNone}
 use Rattle.vip_tools.specs.Certificates.CyclesComes.{NotAssembled, FaultyCertificate, Leaves}
 use Rattle.vip_tools.specs.Certificates.SafeComes.{FaultyProof, Proves}
 use Rattle.vip_call.specs.Words.{Faults, FinishAnswers, OfWords, OpensWords, PerformsAnswer, Reports, performed_status}
 use Rattle.vip_text.specs.declared.fault.StateFault.{StateFault}
-use Rattle.vip_tools.specs.Files.{Needed, needed, HasAll, HasFault, IsRight, ComesTo, IsFaulty, IsLarger, ReadsSome, reads_of, with_reads}
-use Rattle.vip_tools.proofs.FilesLemmas.{names_read}
+use Rattle.vip_tools.specs.Files.{Loaded, Needed, needed, shape_of, HasAll, HasFault, IsRight, ComesTo, IsFaulty, IsLarger, ReadsSome, reads_of, with_reads}
+use Rattle.vip_tools.proofs.FilesLemmas.{reads-all, refused-behind}
 use Rattle.vip_tools.specs.Outcome.{Outcome, SourceComes, rom_text}
 use Rattle.vip_tools.specs.Outcome.Outcome.{Refused, Shown, GivenUp}
 use Rattle.vip_tools.specs.Outcome.SourceComes.{FaultySource, Assembles}
-use Rattle.vip_verbs.specs.Outcome.{HasOutcome, RunTo, DebugComes, ResumeComes, LinkComes, RomIs, IsFault, resumed, saved_as}
+use Rattle.vip_verbs.specs.Outcome.{Begins, DebugComes, HasOutcome, IsFault, LinkComes, RomIs, RunTo, ShowComes, saved_as}
 use Rattle.vip_verbs.specs.Outcome.RunTo.{FaultyScript, FaultyRom, Runs}
 use Rattle.vip_verbs.specs.Outcome.LinkComes.{FaultyRoms, Links}
-use Rattle.vip_verbs.specs.Programs.{ProgramComes, ProgramDebugComes}
+use Rattle.vip_verbs.specs.Programs.{ProgramComes, ProgramDebugComes, ProgramShowComes, memory_in}
 use Rattle.vip_verbs.specs.Programs.ProgramComes.{FaultyScript as FaultyKeys, Runs as RunsProgram}
 use Rattle.vip_board.specs.Seen.{Seen}
-use Rattle.vip_program.specs.declared.trace.ProgramEnd.{ProgramEnd}
+use Rattle.vip_program.specs.Program.{started}
 use Rattle.vip_words.specs.declared.request.Memory.{Memory}
-use Rattle.vip_verbs.specs.Prepared.{OfFiles, PerformAnswers, outcome_of}
+use Rattle.vip_relation.specs.State.{Start}
+use Rattle.vip_relation.specs.State.Start.{Reset, Saved}
+use Rattle.vip_verbs.specs.Prepared.{OfLoaded, PerformAnswers, outcome_of}
 use Rattle.vip_verbs.specs.declared.prepared.Prepared.{Prepared}
 use Rattle.vip_text.specs.Endings.{Ending}
 use Rattle.vip_text.specs.declared.ending.RunEnd.TheVariants as end
@@ -58,7 +70,8 @@ use Rattle.vip_tools.specs.declared.ended.Ended.TheVariants.{Worked, Ran, Idle, 
 use Rattle.vip_tools.specs.declared.fault.PerformFault.{PerformFault}
 use Rattle.vip_tools.specs.declared.fault.PerformFault.TheVariants as perform
 use Rattle.vip_tools.specs.Report.{cannot_read, ended_report, fault_report, no_certificate, no_dispatch, report_of, report_pieces, too_large_report, write_fault}
-use Rattle.vip_call.specs.Top.{Call, call_of, Asks, Oversize, Rejects, GivesUp, WritesExactly, Faulty, Says, IsQuiet, Reading, Lacks, Larger, Whole, with_content, Due, Lacking, TooLarge, Refusing, Showing, RefusesWords, Offers, IsSearch, IsFree, GivesDue, IsOfRom, AreRefused, Completes, FaultyState, Faulted, ReadsContent, ReadsOne, Reads, Faulting}
+use Rattle.vip_call.specs.Top.{Call, call_of, contents_of, Asks, Fills, Oversize, Rejects, GivesUp, WritesExactly, Faulty, Says, IsQuiet, Reading, Lacks, Larger, Whole, with_content, Due, Lacking, TooLarge, Refusing, Showing, RefusesWords, Offers, IsSearch, IsFree, GivesDue, IsOfRom, AreRefused, Completes, FaultyState, Faulted, ReadsContent, ReadsOne, Reads, Faulting}
+use Rattle.vip_call.proofs.FilledLemmas.{one_loaded}
 use Rattle.vip_tools.specs.declared.refusal.Kind.{Kind}
 use Rattle.vip_tools.specs.declared.refusal.Kind.TheVariants as kind
 use Rattle.vip_tools.specs.declared.refusal.Refusal.{Refusal}
@@ -67,6 +80,10 @@ use Rattle.vip_tools.specs.declared.status.Status.{Status}
 use Rattle.vip_tools.specs.declared.status.Status.TheVariants.{Done, Stopped, Usage, ReadFault, GameTooLarge, ScriptTooLarge, BadScript, BadSource, BadRomSource, RomDiffers, WriteFault, NoMemory, BadCommand, SourceTooLarge, CommandsTooLarge, BadState, NoDispatch, BadCertificate, MessageTooLarge, BadProof, CertificateTooLarge, NoCertificate, RomTooLarge, RamTooLarge}
 
 -- ---- one outcome
+
+-- output isn't given up
+not_shown : (pieces : List (List ℕ)) (status : Status) (report r : List ℕ) → Shown pieces status report ≡ GivenUp r → ⊥
+not_shown pieces status report r h = cc
 
 -- two outcomes are refusals with the same status, or output with the same status at its end; what was given up isn't compared
 abbrev Agree : Outcome → Outcome → Type 0
@@ -108,7 +125,7 @@ pub rom_is_fine_or_not : (d : Edition) (f : ImageFault) → IsFault f → RomIs 
 rom_is_fine_or_not d = fine_or_not (source_lines (rom_text d)) (interpreter_of d).rom
 
 -- two boards that are joined come to one outcome
-module _ (a : AskedLink) (message : List ℕ) where
+module _ (message : List ℕ) (moves number : ℕ) where
   links_differ_once : (e f : ImageFault) → IsFault e → IsFault f → ComparesLink (Err e) → ComparesLink (Err f) → image_status e ≡ image_status f
   links_differ_once e f is_e is_f (inl x) (inl y) = differs_once (source_lines sender_text) sender_rom e f is_e is_f x y
   links_differ_once e f is_e is_f (inl x) (inr y) = absurd (fine_or_not (source_lines sender_text) sender_rom e is_e y.0 x)
@@ -119,16 +136,16 @@ module _ (a : AskedLink) (message : List ℕ) where
   links_fine_or_not f is x (inl y) = fine_or_not (source_lines sender_text) sender_rom f is x.0 y
   links_fine_or_not f is x (inr y) = fine_or_not (source_lines receiver_text) receiver_rom f is x.1 y.1
 
-  links_agree : (o p : Outcome) → LinkComes a message o → LinkComes a message p → Agree o p
+  links_agree : (o p : Outcome) → LinkComes message moves number o → LinkComes message moves number p → Agree o p
   links_agree _ _ (FaultyRoms e is_e x) (FaultyRoms f is_f y) = links_differ_once e f is_e is_f x y
   links_agree _ _ (FaultyRoms e is_e x) (Links y t at) = links_fine_or_not e is_e y x
   links_agree _ _ (Links x s is) (FaultyRoms f is_f y) = links_fine_or_not f is_f x y
   links_agree _ _ (Links x s is) (Links y t at) = refl
 
-  no_link : (report : List ℕ) → LinkComes a message (GivenUp report) → ⊥
+  no_link : (report : List ℕ) → LinkComes message moves number (GivenUp report) → ⊥
   no_link report x = go (GivenUp report) refl x
     where
-      go : (o : Outcome) → o ≡ GivenUp report → LinkComes a message o → ⊥
+      go : (o : Outcome) → o ≡ GivenUp report → LinkComes message moves number o → ⊥
       go _ e (FaultyRoms f is y) = cc
       go _ e (Links y t at) = cc
 
@@ -139,8 +156,8 @@ agree_self (Shown p a r) = refl
 agree_self (GivenUp r) = tt
 
 -- the runs of one game or file come to one outcome
-module _ (d : Edition) (scripts : List (List ℕ)) (outcome : List KeyEvent → Outcome) where
-  runs_agree : (o p : Outcome) → RunTo d scripts outcome o → RunTo d scripts outcome p → Agree o p
+module _ (d : Edition) (keys : Option (List ℕ)) (outcome : List KeyEvent → Outcome) where
+  runs_agree : (o p : Outcome) → RunTo d keys outcome o → RunTo d keys outcome p → Agree o p
   runs_agree _ _ (FaultyScript l c a) (FaultyScript m k b) = refl
   runs_agree _ _ (FaultyScript l c a) (FaultyRom t f b is rom) = absurd (cc)
   runs_agree _ _ (FaultyScript l c a) (Runs t b rom) = absurd (cc)
@@ -150,16 +167,6 @@ module _ (d : Edition) (scripts : List (List ℕ)) (outcome : List KeyEvent → 
   runs_agree _ _ (Runs s a rom) (FaultyScript m k b) = absurd (cc)
   runs_agree _ _ (Runs s a rom) (FaultyRom t f b is rom') = absurd (rom_is_fine_or_not d f is rom rom')
   runs_agree _ _ (Runs s a rom) (Runs t b rom') = let same : s ≡ t = cc in subst (λ t. Agree (outcome s) (outcome t)) same (agree_self (outcome s))
-
--- a file has one edition
-resumes_agree : (a : AskedResume) (file : List ℕ) (scripts : List (List ℕ)) (o p : Outcome) → ResumeComes a file scripts o
-    → ResumeComes a file scripts p → Agree o p
-resumes_agree a file scripts o p x y =
-    runs_agree x.edition scripts _ o p x.comes
-    (subst (λ e. RunTo e scripts (resumed_outcome e) p) (one_edition y.edition x.edition file y.accepted x.accepted) y.comes)
-  where
-    resumed_outcome : Edition → List KeyEvent → Outcome
-    resumed_outcome e script = resumed a e file script
 
 no_fault : (f : ℕ → Option AsmCause) (n i : ℕ) (c : AsmCause) → NoFault f n → IsFirstFault f n i c → ⊥
 no_fault f n i c none first = let here = none i first.inside in let there = first.here in cc
@@ -180,42 +187,75 @@ alone_agree : (q o p : Outcome) → Agree q q → o ≡ q → p ≡ q → Agree 
 alone_agree q o p same a b = rw (a, b) same
 
 debugs_agree :
-    (d : Edition) (game : List ℕ) (limit : ℕ) (scripts : List (List ℕ)) (read : Result (List Command) CommandFault) (o p : Outcome)
-    → DebugComes d game limit scripts read o → DebugComes d game limit scripts read p → Agree o p
-debugs_agree d game limit scripts (Ok commands) o p x y = runs_agree d scripts _ o p x y
-debugs_agree d game limit scripts (Err (debug_fault.Fault line cause)) o p x y = alone_agree _ o p refl x y
-debugs_agree d game limit scripts (Err debug_fault.NoMemory) o p x y = absurd x
+    (d : Edition) (s : Start) (keys : Option (List ℕ)) (limit : ℕ) (read : Result (List Command) CommandFault) (o p : Outcome)
+    → DebugComes d s keys limit read o → DebugComes d s keys limit read p → Agree o p
+debugs_agree d s keys limit (Ok commands) o p x y = runs_agree d keys _ o p x y
+debugs_agree d s keys limit (Err (debug_fault.Fault line cause)) o p x y = alone_agree _ o p refl x y
+debugs_agree d s keys limit (Err debug_fault.NoMemory) o p x y = absurd x
+
+shows_agree :
+    (d : Edition) (s : Start) (keys : Option (List ℕ)) (limit : ℕ) (shown : Show (List ℕ)) (o p : Outcome)
+    → ShowComes d s keys limit shown o → ShowComes d s keys limit shown p → Agree o p
+shows_agree d s keys limit (show.Trace with_time with_screen) o p x y = runs_agree d keys _ o p x y
+shows_agree d s keys limit show.Pictures o p x y = runs_agree d keys _ o p x y
+shows_agree d s keys limit (show.Commands text) o p x y = debugs_agree d s keys limit (commands_of Chip8 limit text) o p x y
+shows_agree d s keys limit show.State o p x y = runs_agree d keys _ o p x y
+shows_agree d s keys limit (show.Summary number) o p x y = runs_agree d keys _ o p x y
+
+-- a file has one edition
+begin_agree :
+    (start : asked.Start (List ℕ)) (keys : Option (List ℕ)) (limit : ℕ) (shown : Show (List ℕ)) (o p : Outcome)
+    → Begins start (λ e s. ShowComes e s keys limit shown o) → Begins start (λ e s. ShowComes e s keys limit shown p) → Agree o p
+begin_agree (beginning.Game game edition) keys limit shown o p x y = shows_agree edition (Reset game) keys limit shown o p x y
+begin_agree (beginning.State file) keys limit shown o p x y =
+    shows_agree x.edition (Saved file) keys limit shown o p x.here
+    (subst (λ e. ShowComes e (Saved file) keys limit shown p) (one_edition y.edition x.edition file y.accepted x.accepted) y.here)
+begin_agree (beginning.Demo number) keys limit shown o p x y = shows_agree Usual (Reset (demo_game number)) keys limit shown o p x y
 
 -- the runs of one program come to one outcome
-module _ (memory : Memory) (bytes : List ℕ) (limit : ℕ) (scripts : List (List ℕ)) where
+module _ (memory : Memory) (bytes : List ℕ) (keys : Option (List ℕ)) where
   programs_agree :
-      (pieces : Seen → List (List ℕ)) (ended : Seen → ProgramEnd) (o p : Outcome)
-      → ProgramComes memory bytes limit scripts pieces ended o → ProgramComes memory bytes limit scripts pieces ended p → Agree o p
-  programs_agree pieces ended _ _ (FaultyKeys l c a) (FaultyKeys m k b) = refl
-  programs_agree pieces ended _ _ (FaultyKeys l c a) (RunsProgram t b) = absurd (cc)
-  programs_agree pieces ended _ _ (RunsProgram s a) (FaultyKeys m k b) = absurd (cc)
-  programs_agree pieces ended _ _ (RunsProgram s a) (RunsProgram t b) = refl
+      (outcome : Seen → Outcome) (o p : Outcome) → ProgramComes memory bytes keys outcome o → ProgramComes memory bytes keys outcome p → Agree o p
+  programs_agree outcome _ _ (FaultyKeys l c a) (FaultyKeys m k b) = refl
+  programs_agree outcome _ _ (FaultyKeys l c a) (RunsProgram t b) = absurd (cc)
+  programs_agree outcome _ _ (RunsProgram s a) (FaultyKeys m k b) = absurd (cc)
+  programs_agree outcome _ _ (RunsProgram s a) (RunsProgram t b) =
+      let same : s ≡ t = cc in
+      subst (λ t. Agree (outcome (started (memory_in memory) bytes s)) (outcome (started (memory_in memory) bytes t))) same
+      (agree_self (outcome (started (memory_in memory) bytes s)))
 
   debugged_agree :
-      (read : Result (List Command) CommandFault) (o p : Outcome)
-      → ProgramDebugComes memory bytes limit scripts read o → ProgramDebugComes memory bytes limit scripts read p → Agree o p
-  debugged_agree (Ok commands) o p x y = programs_agree _ _ o p x y
-  debugged_agree (Err (debug_fault.Fault line cause)) o p x y = alone_agree _ o p refl x y
-  debugged_agree (Err debug_fault.NoMemory) o p x y = absurd x
+      (limit : ℕ) (read : Result (List Command) CommandFault) (o p : Outcome)
+      → ProgramDebugComes memory bytes keys limit read o → ProgramDebugComes memory bytes keys limit read p → Agree o p
+  debugged_agree limit (Ok commands) o p x y = programs_agree _ o p x y
+  debugged_agree limit (Err (debug_fault.Fault line cause)) o p x y = alone_agree _ o p refl x y
+  debugged_agree limit (Err debug_fault.NoMemory) o p x y = absurd x
+
+  program_shows_agree :
+      (limit : ℕ) (shown : ProgramShow (List ℕ)) (o p : Outcome)
+      → ProgramShowComes memory bytes keys limit shown o → ProgramShowComes memory bytes keys limit shown p → Agree o p
+  program_shows_agree limit program_show.Trace o p x y = programs_agree _ o p x y
+  program_shows_agree limit program_show.Pictures o p x y = programs_agree _ o p x y
+  program_shows_agree limit (program_show.Commands text) o p x y = debugged_agree limit (commands_of Processor limit text) o p x y
 
   -- none of them is given up
-  no_program : (pieces : Seen → List (List ℕ)) (ended : Seen → ProgramEnd) (report : List ℕ)
-      → ProgramComes memory bytes limit scripts pieces ended (GivenUp report) → ⊥
-  no_program pieces ended report x = go (GivenUp report) refl x
+  no_program : (outcome : Seen → Outcome) (report : List ℕ) → ((board : Seen) → outcome board ≡ GivenUp report → ⊥)
+      → ProgramComes memory bytes keys outcome (GivenUp report) → ⊥
+  no_program outcome report never x = go (GivenUp report) refl x
     where
-      go : (o : Outcome) → o ≡ GivenUp report → ProgramComes memory bytes limit scripts pieces ended o → ⊥
+      go : (o : Outcome) → o ≡ GivenUp report → ProgramComes memory bytes keys outcome o → ⊥
       go _ e (FaultyKeys l c a) = cc
-      go _ e (RunsProgram s a) = cc
+      go _ e (RunsProgram s a) = never _ e
 
-  no_debugged : (read : Result (List Command) CommandFault) (report : List ℕ) → ProgramDebugComes memory bytes limit scripts read (GivenUp report) → ⊥
-  no_debugged (Ok commands) report x = no_program _ _ report x
-  no_debugged (Err (debug_fault.Fault line cause)) report x = cc
-  no_debugged (Err debug_fault.NoMemory) report x = x
+  no_debugged : (limit : ℕ) (read : Result (List Command) CommandFault) (report : List ℕ) → ProgramDebugComes memory bytes keys limit read (GivenUp report) → ⊥
+  no_debugged limit (Ok commands) report x = no_program _ report (λ board h. not_shown _ _ _ report h) x
+  no_debugged limit (Err (debug_fault.Fault line cause)) report x = cc
+  no_debugged limit (Err debug_fault.NoMemory) report x = x
+
+  no_program_show : (limit : ℕ) (shown : ProgramShow (List ℕ)) (report : List ℕ) → ProgramShowComes memory bytes keys limit shown (GivenUp report) → ⊥
+  no_program_show limit program_show.Trace report x = no_program _ report (λ board h. not_shown _ _ _ report h) x
+  no_program_show limit program_show.Pictures report x = no_program _ report (λ board h. not_shown _ _ _ report h) x
+  no_program_show limit (program_show.Commands text) report x = no_debugged limit (commands_of Processor limit text) report x
 
 cycles_agree : (source text : List ℕ) (o p : Outcome) → CyclesComes source text o → CyclesComes source text p → Agree o p
 cycles_agree source text _ _ (NotAssembled l c a) (NotAssembled m d b) = refl
@@ -241,34 +281,41 @@ searches_agree e g _ p (FindsNone obstacle is) y = tt
 
 -- what isn't a search isn't given up
 no_run :
-    (d : Edition) (scripts : List (List ℕ)) (outcome : List KeyEvent → Outcome) (report : List ℕ)
+    (d : Edition) (keys : Option (List ℕ)) (outcome : List KeyEvent → Outcome) (report : List ℕ)
     → ((script : List KeyEvent) → outcome script ≡ GivenUp report → ⊥)
-    → RunTo d scripts outcome (GivenUp report) → ⊥
-no_run d scripts outcome report never x = go (GivenUp report) refl x
+    → RunTo d keys outcome (GivenUp report) → ⊥
+no_run d keys outcome report never x = go (GivenUp report) refl x
   where
-    go : (o : Outcome) → o ≡ GivenUp report → RunTo d scripts outcome o → ⊥
+    go : (o : Outcome) → o ≡ GivenUp report → RunTo d keys outcome o → ⊥
     go _ e (FaultyScript l c a) = cc
     go _ e (FaultyRom t f b is rom) = cc
     go _ e (Runs t b rom) = never t e
-
--- output isn't given up
-not_shown : (pieces : List (List ℕ)) (status : Status) (report r : List ℕ) → Shown pieces status report ≡ GivenUp r → ⊥
-not_shown pieces status report r h = cc
 
 -- nor is what is saved, or refused
 not_saved : (limit : ℕ) (ending : Ending) (file : Option (List ℕ)) (report : List ℕ) → saved_as limit ending file ≡ GivenUp report → ⊥
 not_saved limit ending None report h = cc
 not_saved limit ending (Some file) report h = cc
 
-no_resume : (a : AskedResume) (file : List ℕ) (scripts : List (List ℕ)) (report : List ℕ) → ResumeComes a file scripts (GivenUp report) → ⊥
-no_resume a file scripts report x = no_run x.edition scripts _ report (λ script h. not_shown _ _ _ report h) x.comes
-
 no_debug :
-    (d : Edition) (g : List ℕ) (limit : ℕ) (scripts : List (List ℕ)) (read : Result (List Command) CommandFault) (report : List ℕ)
-    → DebugComes d g limit scripts read (GivenUp report) → ⊥
-no_debug d g limit scripts (Ok commands) report x = no_run d scripts _ report (λ script h. not_shown _ _ _ report h) x
-no_debug d g limit scripts (Err (debug_fault.Fault line cause)) report x = cc
-no_debug d g limit scripts (Err debug_fault.NoMemory) report x = x
+    (d : Edition) (s : Start) (keys : Option (List ℕ)) (limit : ℕ) (read : Result (List Command) CommandFault) (report : List ℕ)
+    → DebugComes d s keys limit read (GivenUp report) → ⊥
+no_debug d s keys limit (Ok commands) report x = no_run d keys _ report (λ script h. not_shown _ _ _ report h) x
+no_debug d s keys limit (Err (debug_fault.Fault line cause)) report x = cc
+no_debug d s keys limit (Err debug_fault.NoMemory) report x = x
+
+no_show : (d : Edition) (s : Start) (keys : Option (List ℕ)) (limit : ℕ) (shown : Show (List ℕ)) (report : List ℕ)
+    → ShowComes d s keys limit shown (GivenUp report) → ⊥
+no_show d s keys limit (show.Trace with_time with_screen) report x = no_run d keys _ report (λ script h. not_shown _ _ _ report h) x
+no_show d s keys limit show.Pictures report x = no_run d keys _ report (λ script h. not_shown _ _ _ report h) x
+no_show d s keys limit (show.Commands text) report x = no_debug d s keys limit (commands_of Chip8 limit text) report x
+no_show d s keys limit show.State report x = no_run d keys _ report (λ script h. not_saved _ _ _ report h) x
+no_show d s keys limit (show.Summary number) report x = no_run d keys _ report (λ script h. not_shown _ _ _ report h) x
+
+no_beginning : (start : asked.Start (List ℕ)) (keys : Option (List ℕ)) (limit : ℕ) (shown : Show (List ℕ)) (report : List ℕ)
+    → Begins start (λ e s. ShowComes e s keys limit shown (GivenUp report)) → ⊥
+no_beginning (beginning.Game game edition) keys limit shown report x = no_show edition (Reset game) keys limit shown report x
+no_beginning (beginning.State file) keys limit shown report x = no_show x.edition (Saved file) keys limit shown report x.here
+no_beginning (beginning.Demo number) keys limit shown report x = no_show Usual (Reset (demo_game number)) keys limit shown report x
 
 no_source : (source : List ℕ) (IsText : Made → List ℕ → Type 0) (report : List ℕ) → SourceComes source IsText (GivenUp report) → ⊥
 no_source source IsText report x = go (GivenUp report) refl x
@@ -292,105 +339,50 @@ no_proof d g text report x = go (GivenUp report) refl x
     go _ e (FaultyProof l c a) = cc
     go _ e (Proves n a) = cc
 
--- a command comes to one outcome by the contents of its files
-agree : (asked : Asked) (contents : List (List ℕ)) (o p : Outcome) → HasOutcome asked contents o → HasOutcome asked contents p → Agree o p
-agree (trace a) [] o p x y = absurd x
-agree (trace a) (game ∷ scripts) o p x y = runs_agree a.run.edition scripts _ o p x y
-agree (play a) [] o p x y = absurd x
-agree (play a) (game ∷ scripts) o p x y = runs_agree a.edition scripts _ o p x y
-agree (debug a) [] o p x y = absurd x
-agree (debug a) (game ∷ []) o p x y = absurd x
-agree (debug a) (game ∷ text ∷ scripts) o p x y = debugs_agree a.run.edition game a.run.cycles scripts (commands_of Chip8 a.run.cycles text) o p x y
-agree (demo a) [] o p x y = runs_agree Usual [] _ o p x y
-agree (demo a) (c ∷ cs) o p x y = absurd x
-agree (link a) [] o p x y = absurd x
-agree (link a) (message ∷ []) o p x y = links_agree a message o p x y
-agree (link a) (message ∷ c ∷ cs) o p x y = absurd x
-agree (asm a) [] o p x y = absurd x
-agree (asm a) (source ∷ []) o p x y = sources_agree source _ o p x y
-agree (asm a) (source ∷ c ∷ cs) o p x y = absurd x
-agree (list name) [] o p x y = absurd x
-agree (list name) (source ∷ []) o p x y = sources_agree source _ o p x y
-agree (list name) (source ∷ c ∷ cs) o p x y = absurd x
-agree (dis a) [] o p x y = absurd x
-agree (dis a) (bytes ∷ []) o p x y = alone_agree _ o p refl x y
-agree (dis a) (bytes ∷ c ∷ cs) o p x y = absurd x
-agree (save a) [] o p x y = absurd x
-agree (save a) (game ∷ scripts) o p x y = runs_agree a.edition scripts _ o p x y
-agree (resume a) [] o p x y = absurd x
-agree (resume a) (file ∷ scripts) o p x y = resumes_agree a file scripts o p x y
-agree (trace_program a) [] o p x y = absurd x
-agree (trace_program a) (bytes ∷ scripts) o p x y = programs_agree a.memory bytes a.cycles scripts _ _ o p x y
-agree (play_program a) [] o p x y = absurd x
-agree (play_program a) (bytes ∷ scripts) o p x y = programs_agree a.memory bytes a.cycles scripts _ _ o p x y
-agree (debug_program a) [] o p x y = absurd x
-agree (debug_program a) (bytes ∷ []) o p x y = absurd x
-agree (debug_program a) (bytes ∷ text ∷ scripts) o p x y =
-    debugged_agree a.run.memory bytes a.run.cycles scripts (commands_of Processor a.run.cycles text) o p x y
-agree (interpreter e) [] o p x y = alone_agree _ o p refl x y
-agree (interpreter e) (c ∷ cs) o p x y = absurd x
-agree bounds [] o p x y = alone_agree _ o p refl x y
-agree bounds (c ∷ cs) o p x y = absurd x
-agree (within a) [] o p x y = absurd x
-agree (within a) (source ∷ []) o p x y = absurd x
-agree (within a) (source ∷ text ∷ []) o p x y = cycles_agree source text o p x y
-agree (within a) (source ∷ text ∷ c ∷ cs) o p x y = absurd x
-agree (safe a) [] o p x y = absurd x
-agree (safe a) (game ∷ []) o p x y = absurd x
-agree (safe a) (game ∷ text ∷ []) o p x y = proofs_agree a.edition game text o p x y
-agree (safe a) (game ∷ text ∷ c ∷ cs) o p x y = absurd x
-agree (certify a) [] o p x y = absurd x
-agree (certify a) (game ∷ []) o p x y = searches_agree a.edition game o p x y
-agree (certify a) (game ∷ c ∷ cs) o p x y = absurd x
+-- a request comes to one outcome
+agree : (loaded : Loaded) (o p : Outcome) → HasOutcome loaded o → HasOutcome loaded p → Agree o p
+agree (request.Run run) o p x y = begin_agree run.start run.keys run.limit run.show o p x y
+agree (request.Program run) o p x y = program_shows_agree run.memory run.file run.keys run.limit run.show o p x y
+agree (request.Link message moves number) o p x y = links_agree message moves number o p x y
+agree (request.Asm source raw) o p x y = sources_agree source _ o p x y
+agree (request.List source) o p x y = sources_agree source _ o p x y
+agree (request.Dis bytes address) o p x y = alone_agree _ o p refl x y
+agree (request.Source text) o p x y = alone_agree _ o p refl x y
+agree request.Bounds o p x y = alone_agree _ o p refl x y
+agree (request.Cycles source certificate) o p x y = cycles_agree source certificate o p x y
+agree (request.Safe game certificate edition) o p x y = proofs_agree edition game certificate o p x y
+agree (request.Certify game edition) o p x y = searches_agree edition game o p x y
 
 -- only a search is given up
-given_up : (asked : Asked) (contents : List (List ℕ)) (report : List ℕ) → HasOutcome asked contents (GivenUp report) → IsSearch asked
-given_up (trace a) [] report x = absurd x
-given_up (trace a) (game ∷ scripts) report x = no_run a.run.edition scripts _ report (λ script h. not_shown _ _ _ report h) x
-given_up (play a) [] report x = absurd x
-given_up (play a) (game ∷ scripts) report x = no_run a.edition scripts _ report (λ script h. not_shown _ _ _ report h) x
-given_up (debug a) [] report x = absurd x
-given_up (debug a) (game ∷ []) report x = absurd x
-given_up (debug a) (game ∷ text ∷ scripts) report x = no_debug a.run.edition game a.run.cycles scripts (commands_of Chip8 a.run.cycles text) report x
-given_up (demo a) [] report x = no_run Usual [] _ report (λ script h. not_shown _ _ _ report h) x
-given_up (demo a) (c ∷ cs) report x = absurd x
-given_up (link a) [] report x = absurd x
-given_up (link a) (message ∷ []) report x = absurd (no_link a message report x)
-given_up (link a) (message ∷ c ∷ cs) report x = absurd x
-given_up (asm a) [] report x = absurd x
-given_up (asm a) (source ∷ []) report x = no_source source _ report x
-given_up (asm a) (source ∷ c ∷ cs) report x = absurd x
-given_up (list name) [] report x = absurd x
-given_up (list name) (source ∷ []) report x = no_source source _ report x
-given_up (list name) (source ∷ c ∷ cs) report x = absurd x
-given_up (dis a) [] report x = absurd x
-given_up (dis a) (bytes ∷ []) report x = absurd (cc)
-given_up (dis a) (bytes ∷ c ∷ cs) report x = absurd x
-given_up (save a) [] report x = absurd x
-given_up (save a) (game ∷ scripts) report x = no_run a.edition scripts _ report (λ script h. not_saved _ _ _ report h) x
-given_up (resume a) [] report x = absurd x
-given_up (resume a) (file ∷ scripts) report x = absurd (no_resume a file scripts report x)
-given_up (trace_program a) [] report x = absurd x
-given_up (trace_program a) (bytes ∷ scripts) report x = absurd (no_program a.memory bytes a.cycles scripts _ _ report x)
-given_up (play_program a) [] report x = absurd x
-given_up (play_program a) (bytes ∷ scripts) report x = absurd (no_program a.memory bytes a.cycles scripts _ _ report x)
-given_up (debug_program a) [] report x = absurd x
-given_up (debug_program a) (bytes ∷ []) report x = absurd x
-given_up (debug_program a) (bytes ∷ text ∷ scripts) report x =
-    absurd (no_debugged a.run.memory bytes a.run.cycles scripts (commands_of Processor a.run.cycles text) report x)
-given_up (interpreter e) [] report x = absurd (cc)
-given_up (interpreter e) (c ∷ cs) report x = absurd x
-given_up bounds [] report x = absurd (cc)
-given_up bounds (c ∷ cs) report x = absurd x
-given_up (within a) [] report x = absurd x
-given_up (within a) (source ∷ []) report x = absurd x
-given_up (within a) (source ∷ text ∷ []) report x = no_routine source text report x
-given_up (within a) (source ∷ text ∷ c ∷ cs) report x = absurd x
-given_up (safe a) [] report x = absurd x
-given_up (safe a) (game ∷ []) report x = absurd x
-given_up (safe a) (game ∷ text ∷ []) report x = no_proof a.edition game text report x
-given_up (safe a) (game ∷ text ∷ c ∷ cs) report x = absurd x
-given_up (certify a) contents report x = tt
+given_up : (loaded : Loaded) (report : List ℕ) → HasOutcome loaded (GivenUp report) → IsSearch loaded
+given_up (request.Run run) report x = absurd (no_beginning run.start run.keys run.limit run.show report x)
+given_up (request.Program run) report x = absurd (no_program_show run.memory run.file run.keys run.limit run.show report x)
+given_up (request.Link message moves number) report x = absurd (no_link message moves number report x)
+given_up (request.Asm source raw) report x = absurd (no_source source _ report x)
+given_up (request.List source) report x = absurd (no_source source _ report x)
+given_up (request.Dis bytes address) report x = absurd (cc)
+given_up (request.Source text) report x = absurd (cc)
+given_up request.Bounds report x = absurd (cc)
+given_up (request.Cycles source certificate) report x = absurd (no_routine source certificate report x)
+given_up (request.Safe game certificate edition) report x = absurd (no_proof edition game certificate report x)
+given_up (request.Certify game edition) report x = tt
+
+-- whether it is one, its shape says
+shape_says : {N : Type 0} (r : Request N) → IsSearch (shape_of r) ≡ IsSearch r
+shape_says (request.Run run) = refl
+shape_says (request.Program run) = refl
+shape_says (request.Link message moves number) = refl
+shape_says (request.Asm source raw) = refl
+shape_says (request.List source) = refl
+shape_says (request.Dis bytes address) = refl
+shape_says (request.Source text) = refl
+shape_says request.Bounds = refl
+shape_says (request.Cycles source certificate) = refl
+shape_says (request.Safe game certificate edition) = refl
+shape_says (request.Certify game edition) = refl
+
+same_search : (asked : Asked) (loaded : Loaded) → shape_of asked ≡ shape_of loaded → IsSearch loaded → IsSearch asked
+same_search asked loaded shape search = subst (λ X. X) (sym (shape_says loaded) ∙ ap IsSearch (sym shape) ∙ shape_says asked) search
 
 -- ---- one reading
 
@@ -409,7 +401,7 @@ right_or_not kind.Ram content fault right bad = bad
 
 -- files come to one reading
 content_once :
-    (n : Needed) (content : List ℕ) (Behind : Reading → Type 0) (r s : Reading) → ((x y : Reading) → Behind x → Behind y → x ≡ y)
+    (n : Needed Word) (content : List ℕ) (Behind : Reading → Type 0) (r s : Reading) → ((x y : Reading) → Behind x → Behind y → x ≡ y)
     → ReadsContent n content Behind r → ReadsContent n content Behind s → r ≡ s
 content_once n content Behind r s once (inl a) (inl b) = a.1 ∙ sym b.1
 content_once n content Behind r s once (inl a) (inr (inl b)) = absurd (omega (arith, a.0, b.0))
@@ -422,49 +414,49 @@ content_once n content Behind r s once (inr (inr a)) (inr (inl b)) = absurd (rig
 content_once n content Behind r s once (inr (inr a)) (inr (inr b)) = a.4 ∙ ap (with_content content) (once a.2 b.2 a.3 b.3) ∙ sym b.4
 
 found_once :
-    (n : Needed) (found : Option (List ℕ)) (Behind : Reading → Type 0) (r s : Reading) → ((x y : Reading) → Behind x → Behind y → x ≡ y)
+    (n : Needed Word) (found : Option (List ℕ)) (Behind : Reading → Type 0) (r s : Reading) → ((x y : Reading) → Behind x → Behind y → x ≡ y)
     → ReadsOne n found Behind r → ReadsOne n found Behind s → r ≡ s
 found_once n None Behind r s once a b = a ∙ sym b
 found_once n (Some content) Behind r s once a b = content_once n content Behind r s once a b
 
-reads_once : (files : FileMap) (ns : List Needed) (r s : Reading) → Reads files ns r → Reads files ns s → r ≡ s
+reads_once : (files : FileMap) (ns : List (Needed Word)) (r s : Reading) → Reads files ns r → Reads files ns s → r ≡ s
 reads_once files [] r s a b = a ∙ sym b
-reads_once files (n ∷ ns) r s a b = found_once n (get files n.name) (Reads files ns) r s (reads_once files ns) a b
+reads_once files (n ∷ ns) r s a b = found_once n (get files n.file) (Reads files ns) r s (reads_once files ns) a b
 
 module _ (old : FilesMeaning) (files : FileMap) (told : old.told ≡ Some files) where
   -- files that were read whole
-  reads : (ns : List Needed) (cs : List (List ℕ)) → HasAll old ns cs → Reads files ns (Whole cs)
+  reads : (ns : List (Needed Word)) (cs : List (List ℕ)) → HasAll old ns cs → Reads files ns (Whole cs)
   reads [] [] h = refl
   reads [] (c ∷ cs) h = absurd h
   reads (n ∷ ns) [] h = absurd h
   reads (n ∷ ns) (c ∷ cs) h =
-      let found : get files n.name ≡ Some c = rw told at h.0.found in
+      let found : get files n.file ≡ Some c = rw told at h.0.found in
       rw found (inr (inr (h.0.fits, h.0.judged, Whole cs, reads ns cs h.1, refl)))
 
   -- a refusal behind them
   behind :
-      (r : Reading) → ((content : List ℕ) → with_content content r ≡ r) → (before : List Needed) (cs : List (List ℕ)) (rest : List Needed)
+      (r : Reading) → ((content : List ℕ) → with_content content r ≡ r) → (before : List (Needed Word)) (cs : List (List ℕ)) (rest : List (Needed Word))
       → HasAll old before cs → Reads files rest r → Reads files (before ++ rest) r
   behind r stays [] [] rest h e = e
   behind r stays [] (c ∷ cs) rest h e = absurd h
   behind r stays (n ∷ ns) [] rest h e = absurd h
   behind r stays (n ∷ ns) (c ∷ cs) rest h e =
-      let found : get files n.name ≡ Some c = rw told at h.0.found in
+      let found : get files n.file ≡ Some c = rw told at h.0.found in
       rw found (inr (inr (h.0.fits, h.0.judged, r, behind r stays ns cs rest h.1 e, sym (stays c))))
 
-  lacks : (n : Needed) (ns : List Needed) → IsSomeAnd old.told (λ fs. get fs n.name ≡ None) → Reads files (n ∷ ns) Lacks
-  lacks n ns absent = let none : get files n.name ≡ None = rw told at absent in rw none refl
+  lacks : (n : Needed Word) (ns : List (Needed Word)) → IsSomeAnd old.told (λ fs. get fs n.file ≡ None) → Reads files (n ∷ ns) Lacks
+  lacks n ns absent = let none : get files n.file ≡ None = rw told at absent in rw none refl
 
-  larger : (n : Needed) (ns : List Needed) (answer : Answer) → IsLarger old n answer → Reads files (n ∷ ns) (Larger n.kind)
-  larger n ns answer large = go (get files n.name) (rw told at large.larger)
+  larger : (n : Needed Word) (ns : List (Needed Word)) (answer : Answer) → IsLarger old n answer → Reads files (n ∷ ns) (Larger n.kind)
+  larger n ns answer large = go (get files n.file) (rw told at large.larger)
     where
       go : (found : Option (List ℕ)) → IsSomeAnd found (λ content. n.most < length content) → ReadsOne n found (Reads files ns) (Larger n.kind)
       go None h = absurd h
       go (Some content) h = inl (h, refl)
 
-  faulty_state : (n : Needed) (ns : List Needed) (fault : StateFault) (answer : Answer) → IsFaulty fault old n answer → Reads files (n ∷ ns) Faulted
+  faulty_state : (n : Needed Word) (ns : List (Needed Word)) (fault : StateFault) (answer : Answer) → IsFaulty fault old n answer → Reads files (n ∷ ns) Faulted
   faulty_state n ns fault answer h =
-      let found : get files n.name ≡ Some h.content = rw told at h.has.found in
+      let found : get files n.file ≡ Some h.content = rw told at h.has.found in
       rw found (inr (inl (h.has.fits, fault, h.has.judged, refl)))
 
 -- ---- when the answers come
@@ -511,20 +503,29 @@ module _ (call : Call) (asked : Asked) (files : FileMap) (offers : Offers call a
   same mine words = let there = offers.words in let both : Some mine ≡ Some asked = cc in cc
 
   -- what was read, what was larger, and that no name was lacking
-  whole : (mine : Asked) (contents : List (List ℕ)) → Asks call mine contents → Reads files (needed asked) (Whole contents)
-  whole mine contents asks =
-      subst (λ a. Reads files (needed a) (Whole contents)) (same mine asks.words) (reads call.files files offers.told (needed mine) contents asks.read)
+  whole : (mine : Asked) (loaded : Loaded) → Asks call mine loaded → Reads files (needed asked) (Whole (contents_of loaded))
+  whole mine loaded asks =
+      subst (λ a. Reads files (needed a) (Whole (contents_of loaded))) (same mine asks.words)
+      (reads call.files files offers.told (needed mine) (contents_of loaded) asks.read)
 
-  comes_here : (mine : Asked) (contents : List (List ℕ)) (o : Outcome) → Asks call mine contents → HasOutcome mine contents o → HasOutcome asked contents o
-  comes_here mine contents o asks comes = subst (λ a. HasOutcome a contents o) (same mine asks.words) comes
+  -- what was loaded fills what is asked for, and nothing else does
+  fills : (mine : Asked) (loaded : Loaded) → Asks call mine loaded → shape_of asked ≡ shape_of loaded
+  fills mine loaded asks = ap shape_of (sym (same mine asks.words)) ∙ asks.shape
+
+  same_loaded :
+      (mine : Asked) (loaded : Loaded) (asks : Asks call mine loaded) (contents : List (List ℕ)) (there : Loaded) → Fills asked contents there
+      → contents ≡ contents_of loaded → there ≡ loaded
+  same_loaded mine loaded asks contents there filled same_contents =
+      one_loaded there loaded (sym filled.shape ∙ fills mine loaded asks) (filled.files ∙ same_contents)
 
   -- what was given up is a search
   searches : GivesUp call → IsSearch asked
-  searches says = given_up asked says.contents says.report (comes_here says.asked says.contents _ says.asks says.comes)
+  searches says = same_search asked says.loaded (fills says.asked says.loaded says.asks) (given_up says.loaded says.report says.comes)
 
   -- what was refused at a file
   refused_at :
-      (Here : Needed → Answer → Type 0) (r : Reading) → ((content : List ℕ) → with_content content r ≡ r) → (mine : Asked) → asked_by call.words ≡ Some mine
+      (Here : Needed Word → Answer → Type 0) (r : Reading) → ((content : List ℕ) → with_content content r ≡ r) → (mine : Asked)
+      → asked_by call.words ≡ Some mine
       → (at : ComesTo call.files call.files' (needed mine) Here) → Reads files (at.this ∷ at.after) r → Reads files (needed asked) r
   refused_at Here r stays mine words at e =
       subst (λ a. Reads files (needed a) r) (same mine words)
@@ -535,22 +536,22 @@ module _ (call : Call) (asked : Asked) (files : FileMap) (offers : Offers call a
   due_lacks _ _ Lacking e = refl
   due_lacks _ _ (TooLarge k) e = cc
   due_lacks _ _ Faulting e = cc
-  due_lacks _ _ (Refusing contents status report comes) e = cc
-  due_lacks _ _ (Showing contents pieces status report comes out err) e = cc
+  due_lacks _ _ (Refusing contents there status report filled comes) e = cc
+  due_lacks _ _ (Showing contents there pieces status report filled comes out err) e = cc
 
   due_larger : (r : Reading) (due : Status) → Due call asked r due → (k : Kind) → r ≡ Larger k → due ≡ too_large_status k
   due_larger _ _ Lacking k e = cc
   due_larger _ _ (TooLarge j) k e = let kinds : j ≡ k = cc in ap too_large_status kinds
   due_larger _ _ Faulting k e = cc
-  due_larger _ _ (Refusing contents status report comes) k e = cc
-  due_larger _ _ (Showing contents pieces status report comes out err) k e = cc
+  due_larger _ _ (Refusing contents there status report filled comes) k e = cc
+  due_larger _ _ (Showing contents there pieces status report filled comes out err) k e = cc
 
   due_faulted : (r : Reading) (due : Status) → Due call asked r due → r ≡ Faulted → due ≡ BadState
   due_faulted _ _ Lacking e = cc
   due_faulted _ _ (TooLarge k) e = cc
   due_faulted _ _ Faulting e = refl
-  due_faulted _ _ (Refusing contents status report comes) e = cc
-  due_faulted _ _ (Showing contents pieces status report comes out err) e = cc
+  due_faulted _ _ (Refusing contents there status report filled comes) e = cc
+  due_faulted _ _ (Showing contents there pieces status report filled comes out err) e = cc
 
   -- what is due where all contents came to an outcome
   DueBy : Outcome → Status → Type 0
@@ -572,41 +573,46 @@ module _ (call : Call) (asked : Asked) (files : FileMap) (offers : Offers call a
   due_shown pieces status report (Shown p s r) out err e = (e, out, err)
   due_shown pieces status report (GivenUp r) out err e = tt
 
-  due_whole : (r : Reading) (due : Status) → Due call asked r due → (cs : List (List ℕ)) (o : Outcome) → r ≡ Whole cs → HasOutcome asked cs o → DueBy o due
-  due_whole _ _ Lacking cs o e comes = absurd (cc)
-  due_whole _ _ (TooLarge k) cs o e comes = absurd (cc)
-  due_whole _ _ Faulting cs o e comes = absurd (cc)
-  due_whole _ _ (Refusing contents status report given) cs o e comes =
-      let read : contents ≡ cs = cc in
-      due_refused status report o (agree asked cs (Refused status report) o (subst (λ c. HasOutcome asked c (Refused status report)) read given) comes)
-  due_whole _ _ (Showing contents pieces status report given out err) cs o e comes =
-      let read : contents ≡ cs = cc in
+  due_whole :
+      (r : Reading) (due : Status) → Due call asked r due → (mine : Asked) (loaded : Loaded) → Asks call mine loaded → (o : Outcome)
+      → r ≡ Whole (contents_of loaded) → HasOutcome loaded o → DueBy o due
+  due_whole _ _ Lacking mine loaded asks o e comes = absurd (cc)
+  due_whole _ _ (TooLarge k) mine loaded asks o e comes = absurd (cc)
+  due_whole _ _ Faulting mine loaded asks o e comes = absurd (cc)
+  due_whole _ _ (Refusing contents there status report filled given) mine loaded asks o e comes =
+      let read : contents ≡ contents_of loaded = cc in
+      due_refused status report o
+      (agree loaded (Refused status report) o
+      (subst (λ l. HasOutcome l (Refused status report)) (same_loaded mine loaded asks contents there filled read) given) comes)
+  due_whole _ _ (Showing contents there pieces status report filled given out err) mine loaded asks o e comes =
+      let read : contents ≡ contents_of loaded = cc in
       due_shown pieces status report o out err
-      (agree asked cs (Shown pieces status report) o (subst (λ c. HasOutcome asked c (Shown pieces status report)) read given) comes)
+      (agree loaded (Shown pieces status report) o
+      (subst (λ l. HasOutcome l (Shown pieces status report)) (same_loaded mine loaded asks contents there filled read) given) comes)
 
   module _ (r : Reading) (read : Reads files (needed asked) r) (due : Status) (given : Due call asked r due) where
     -- all contents were read, and no others
-    read_whole : (mine : Asked) (contents : List (List ℕ)) → Asks call mine contents → r ≡ Whole contents
-    read_whole mine contents asks = reads_once files (needed asked) r (Whole contents) read (whole mine contents asks)
+    read_whole : (mine : Asked) (loaded : Loaded) → Asks call mine loaded → r ≡ Whole (contents_of loaded)
+    read_whole mine loaded asks = reads_once files (needed asked) r (Whole (contents_of loaded)) read (whole mine loaded asks)
 
     shows_due : (status : Status) → WritesExactly status call → (status ≡ due) ⊎ IsFree asked status
     unfolding DueBy
     shows_due status says =
-        inl (sym (due_whole _ due given says.contents (Shown says.pieces status says.report) (read_whole says.asked says.contents says.asks)
-        (comes_here says.asked says.contents _ says.asks says.comes)).0)
+        inl (sym (due_whole _ due given says.asked says.loaded says.asks (Shown says.pieces status says.report)
+        (read_whole says.asked says.loaded says.asks) says.comes).0)
 
     rejects_due : (status : Status) → Rejects status call → (status ≡ due) ⊎ IsFree asked status
     unfolding DueBy
     rejects_due status says =
-        inl (sym (due_whole _ due given says.contents (Refused status says.report) (read_whole says.asked says.contents says.asks)
-        (comes_here says.asked says.contents _ says.asks says.comes)))
+        inl (sym (due_whole _ due given says.asked says.loaded says.asks (Refused status says.report)
+        (read_whole says.asked says.loaded says.asks) says.comes))
 
     faulty_due : Faulty call → ⊥
     unfolding DueBy
     faulty_due says =
         let calm =
-        due_whole _ due given says.contents (Shown says.pieces says.status says.report) (read_whole says.asked says.contents says.asks)
-        (comes_here says.asked says.contents _ says.asks says.comes) in
+        due_whole _ due given says.asked says.loaded says.asks (Shown says.pieces says.status says.report)
+        (read_whole says.asked says.loaded says.asks) says.comes in
         elim says.fault [
           | inl fails ↦ quiet _ _ fails.out.faults calm.1
           | inr fails ↦ quiet _ _ fails.err.faults calm.2
@@ -668,13 +674,19 @@ module _ (call : Call) (asked : Asked) (files : FileMap) (offers : Offers call a
   due_is RamTooLarge says r read due given = oversize_due r read due given RamTooLarge says
 
   module _ (contents : List (List ℕ)) (there : Reads files (needed asked) (Whole contents)) (accepted : ¬ AreRefused asked contents)
-      (free : (status : Status) (report : List ℕ) → HasOutcome asked contents (Refused status report) → ¬ IsOfRom status) where
+      (free : (loaded : Loaded) (status : Status) (report : List ℕ) → HasOutcome loaded (Refused status report) → ¬ IsOfRom status) where
     not_rejected : (status : Status) → Rejects status call → ⊥
     not_rejected status says =
-        let read = reads_once files (needed asked) _ _ (whole says.asked says.contents says.asks) there in
-        let same_contents : says.contents ≡ contents = cc in
-        let comes = subst (λ c. HasOutcome asked c (Refused status says.report)) same_contents (comes_here says.asked says.contents _ says.asks says.comes) in
-        accepted (status, says.report, comes, free status says.report comes)
+        let read = reads_once files (needed asked) _ _ (whole says.asked says.loaded says.asks) there in
+        let same_contents : contents_of says.loaded ≡ contents = cc in
+        accepted (
+          says.loaded,
+          record { shape = fills says.asked says.loaded says.asks; files = same_contents },
+          status,
+          says.report,
+          says.comes,
+          free says.loaded status says.report says.comes,
+        )
 
     not_larger : (status : Status) → Oversize status call → ⊥
     not_larger status says = let large = reads_once files (needed asked) _ _ (larger_here status says) there in cc
@@ -718,10 +730,10 @@ pub gives_due : (status : Status) (call : Call) → Says status call → GivesDu
 gives_due status call says asked files r due offers read given = due_is call asked files offers status says r read due given
 
 pub completes :
-    ((asked : Asked) (contents : List (List ℕ)) (status : Status) (report : List ℕ) → HasOutcome asked contents (Refused status report) → ¬ IsOfRom status)
+    ((loaded : Loaded) (status : Status) (report : List ℕ) → HasOutcome loaded (Refused status report) → ¬ IsOfRom status)
     → (status : Status) (call : Call) → Says status call → Completes status call
 completes free status call says asked files contents offers there accepted out err =
-    ends call asked files offers contents there accepted (free asked contents) status says out err
+    ends call asked files offers contents there accepted free status says out err
 
 -- ---- what performing answers, by its work and its report
 
@@ -768,7 +780,7 @@ module _ (out out' err err' : SinkMeaning) where
 
 -- what holds at the same file
 there_too :
-    (old new : FilesMeaning) (ns : List Needed) (Here There : Needed → Answer → Type 0) (at : ComesTo old new ns Here) → There at.this at.answer
+    (old new : FilesMeaning) (ns : List (Needed Word)) (Here There : Needed Word → Answer → Type 0) (at : ComesTo old new ns Here) → There at.this at.answer
     → ComesTo old new ns There
 there_too old new ns Here There at that = record {
   before = at.before;
@@ -782,40 +794,37 @@ there_too old new ns Here There at that = record {
   here = that;
 }
 
--- where a file is refused, the first ones were read
-some_to : (old new : FilesMeaning) (ns : List Needed) (Here : Needed → Answer → Type 0) → ComesTo old new ns Here → ReadsSome ns old new
-some_to old new ns Here at = record {
-  count = suc (length at.before);
-  reads = reads_of at.before at.contents ++ record { name = at.this.name; answer = at.answer } ∷ [];
-  names = rw (at.place, first_ones at.before at.this at.after, map-append, map-append, names_read old at.before at.contents at.read) refl;
-  made = at.reads;
-}
-  where
-    first_ones : (before : List Needed) (this : Needed) (after : List Needed) → take (suc (length before)) (before ++ this ∷ after) ≡ before ++ this ∷ []
-    first_ones [] this after = refl
-    first_ones (n ∷ before) this after = ap (λ ns. n ∷ ns) (first_ones before this after)
+two_reads : (a b : List Read) (known : Option (List Read)) → and_reads (a ++ b) known ≡ and_reads b (and_reads a known)
+two_reads a b None = refl
+two_reads a b (Some rs) = ap (λ more. Some more) (sym (append_assoc rs a b))
 
-some_all :
-    (old new : FilesMeaning) (ns : List Needed) (cs : List (List ℕ)) → HasAll old ns cs → new ≡ with_reads (reads_of ns cs) old → ReadsSome ns old new
-some_all old new ns cs had all = record {
-  count = length ns;
-  reads = reads_of ns cs;
-  names = rw (take_all (length ns) ns (omega arith)) (names_read old ns cs had);
-  made = ap (λ m. m.reads) all;
-}
+-- where a file is refused, the first ones were read
+some_to : (old new : FilesMeaning) (ns : List (Needed Word)) (Here : Needed Word → Answer → Type 0) → ComesTo old new ns Here → ReadsSome ns old new
+some_to old new ns Here at =
+    subst (λ xs. ReadsSome xs old new) (sym at.place)
+    (refused-behind old (with_reads (reads_of at.before at.contents) old) new at.before at.contents at.read refl (at.this ∷ at.after) refusal.NoMemory
+    (record {
+      count = 1;
+      reads = here;
+      names = refl;
+      made = at.reads ∙ two_reads (reads_of at.before at.contents) here old.reads;
+    }))
+  where
+    here : List Read
+    here = record { name = at.this.file; answer = at.answer } ∷ []
 
 module _ (words : List (List ℕ)) (files files' : FilesMeaning) (out err err' : SinkMeaning) where
   abbrev refused_call : Call
   refused_call = call_of words files files' out out err err'
 
   rejected :
-      (r : Refusal) → OfWords words (λ asked. OfFiles asked files files' (λ contents. HasOutcome asked contents (Refused (status_of r) (report_of r))))
+      (r : Refusal) → OfWords words (λ asked. OfLoaded asked files files' (λ loaded. HasOutcome loaded (Refused (status_of r) (report_of r))))
       → IsPut (report_of r) err err' → Rejects (status_of r) refused_call
   rejected r given report = record {
     asked = given.asked;
-    contents = given.here.contents;
-    asks = record { words = given.words_are; read = given.here.read };
-    files = given.here.reads;
+    loaded = given.here.request;
+    asks = record { words = given.words_are; shape = given.here.loaded.shape; read = given.here.loaded.loads.read };
+    files = given.here.loaded.loads.reads;
     report = report_of r;
     comes = given.here.here;
     refused = record { out = refl; err = report };
@@ -834,6 +843,19 @@ module _ (words : List (List ℕ)) (files files' : FilesMeaning) (out err err' :
           record { out = refl; err = subst (λ j. IsPut (too_large_report j) err err') given.here.here.0 report },
         );
   }
+
+  -- which files were read, whatever the refusal is
+  abbrev ReadSome : Type 0
+  ReadSome = (files' ≡ files) ⊎ OfWords words (λ asked. ReadsSome (needed asked) files files')
+
+  all_read : {Here : Asked → Loaded → Type 0} → OfWords words (λ asked. OfLoaded asked files files' (Here asked)) → ReadSome
+  all_read given =
+      let loads = given.here.loaded.loads in
+      inr (record {
+        asked = given.asked;
+        words_are = given.words_are;
+        here = reads-all files files' (needed given.asked) (contents_of given.here.request) loads.read loads.reads;
+      })
 
   -- a refusal with its own report
   refused_with : (r : Refusal) → OpensWords words files files' (Err r) → IsPut (report_of r) err err' → Says (status_of r) refused_call
@@ -868,31 +890,23 @@ module _ (words : List (List ℕ)) (files files' : FilesMeaning) (out err err' :
   refused_with (refusal.Rom (image.RomDiffers address assembled here)) given report =
       rejected (refusal.Rom (image.RomDiffers address assembled here)) given report
   refused_with (refusal.Rom image.NoMemory) given report = record {
-    files = inr (record { asked = given.asked; words_are = given.words_are; here = some_all files files' (needed given.asked) given.here.contents given.here.read given.here.reads });
+    files = all_read given;
     refused = record { out = refl; err = report };
   }
   refused_with (refusal.Certificate line cause) given report = rejected (refusal.Certificate line cause) given report
   refused_with (refusal.Proof line cause) given report = rejected (refusal.Proof line cause) given report
   refused_with (refusal.NoCertificate obstacle) given report = record {
     asked = given.asked;
-    contents = given.here.contents;
-    asks = record { words = given.words_are; read = given.here.read };
-    files = given.here.reads;
+    loaded = given.here.request;
+    asks = record { words = given.words_are; shape = given.here.loaded.shape; read = given.here.loaded.loads.read };
+    files = given.here.loaded.loads.reads;
     report = no_certificate obstacle;
     comes = given.here.here;
     refused = record { out = refl; err = report };
   }
   refused_with refusal.NoMemory given report = record { files = given; refused = record { out = refl; err = report } }
 
-  -- which files were read, whatever the refusal is
-  abbrev ReadSome : Type 0
-  ReadSome = (files' ≡ files) ⊎ OfWords words (λ asked. ReadsSome (needed asked) files files')
-
-  all_read : {Here : Asked → List (List ℕ) → Type 0} → OfWords words (λ asked. OfFiles asked files files' (Here asked)) → ReadSome
-  all_read given =
-      inr (record { asked = given.asked; words_are = given.words_are; here = some_all files files' (needed given.asked) given.here.contents given.here.read given.here.reads })
-
-  to_read : {Here : Asked → Needed → Answer → Type 0} → OfWords words (λ asked. ComesTo files files' (needed asked) (Here asked)) → ReadSome
+  to_read : {Here : Asked → Needed Word → Answer → Type 0} → OfWords words (λ asked. ComesTo files files' (needed asked) (Here asked)) → ReadSome
   to_read given = inr (record { asked = given.asked; words_are = given.words_are; here = some_to files files' (needed given.asked) _ given.here })
 
   read_some : (r : Refusal) → OpensWords words files files' (Err r) → ReadSome
@@ -917,23 +931,27 @@ module _ (words : List (List ℕ)) (files files' : FilesMeaning) (out err err' :
         | inr none ↦ rw none.0 (record { files = read_some r given; refused = record { out = refl; err = none.1 } })
       ]
 
-module _ (words : List (List ℕ)) (files files' : FilesMeaning) (out out' err err' : SinkMeaning) (p : Prepared) (given : OpensWords words files files' (Ok p)) where
+module _
+    (words : List (List ℕ)) (files files' : FilesMeaning) (out out' err err' : SinkMeaning) (p : Prepared) (given : OpensWords words files files' (Ok p)) where
   abbrev performed_call : Call
   performed_call = call_of words files files' out out' err err'
 
-  abbrev asks_all : Asks performed_call given.asked given.here.1.contents
-  asks_all = record { words = given.words_are; read = given.here.1.read }
+  abbrev loaded : Loaded
+  loaded = given.here.1.request
 
-  module _ (pieces : List (List ℕ)) (status : Status) (report : List ℕ) (comes : HasOutcome given.asked given.here.1.contents (Shown pieces status report)) where
+  abbrev asks_all : Asks performed_call given.asked loaded
+  asks_all = record { words = given.words_are; shape = given.here.1.loaded.shape; read = given.here.1.loaded.loads.read }
+
+  module _ (pieces : List (List ℕ)) (status : Status) (report : List ℕ) (comes : HasOutcome loaded (Shown pieces status report)) where
     shows : (ended : Ended) → Reports pieces status report out out' err err' ended → WritesExactly (ended_status ended) performed_call
     shows ended reports = record {
       asked = given.asked;
-      contents = given.here.1.contents;
+      loaded = loaded;
       asks = asks_all;
-      files = given.here.1.reads;
+      files = given.here.1.loaded.loads.reads;
       pieces = pieces;
       report = report;
-      comes = subst (λ status. HasOutcome given.asked given.here.1.contents (Shown pieces status report)) reports.status_is comes;
+      comes = subst (λ status. HasOutcome loaded (Shown pieces status report)) reports.status_is comes;
       out = reports.whole;
       err = reports.reported;
     }
@@ -941,9 +959,9 @@ module _ (words : List (List ℕ)) (files files' : FilesMeaning) (out out' err e
     faulty : Faults pieces report out out' err err' → Faulty performed_call
     faulty faults = record {
       asked = given.asked;
-      contents = given.here.1.contents;
+      loaded = loaded;
       asks = asks_all;
-      files = given.here.1.reads;
+      files = given.here.1.loaded.loads.reads;
       pieces = pieces;
       status = status;
       report = report;
@@ -963,20 +981,20 @@ module _ (words : List (List ℕ)) (files files' : FilesMeaning) (out out' err e
 
   -- a run that is to be saved is refused
   undispatched :
-      (status : Status) (report : List ℕ) → HasOutcome given.asked given.here.1.contents (Refused status report) → status ≡ NoDispatch → out' ≡ out
+      (status : Status) (report : List ℕ) → HasOutcome loaded (Refused status report) → status ≡ NoDispatch → out' ≡ out
       → IsPut report err err' → Rejects NoDispatch performed_call
   undispatched status report comes is same put = record {
     asked = given.asked;
-    contents = given.here.1.contents;
+    loaded = loaded;
     asks = asks_all;
-    files = given.here.1.reads;
+    files = given.here.1.loaded.loads.reads;
     report = report;
-    comes = subst (λ status. HasOutcome given.asked given.here.1.contents (Refused status report)) is comes;
+    comes = subst (λ status. HasOutcome loaded (Refused status report)) is comes;
     refused = record { out = same; err = put };
   }
 
   says_performed :
-      (o : Outcome) (r : Result Ended PerformFault) → HasOutcome given.asked given.here.1.contents o → PerformsAnswer o out out' err err' r
+      (o : Outcome) (r : Result Ended PerformFault) → HasOutcome loaded o → PerformsAnswer o out out' err err' r
       → Says (performed_status r) performed_call
   says_performed (Shown pieces status report) (Ok ended) comes reports = says_ended ended (shows pieces status report comes ended reports)
   says_performed (Shown pieces status report) (Err perform.WriteFault) comes faults = faulty pieces status report comes faults

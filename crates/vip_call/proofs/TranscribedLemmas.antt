@@ -1,236 +1,301 @@
--- What a verb writes and reports of a game's run is that of a transcript of CHIP-8.
-use Rattle.std.proofs.Common.{◌≡◌, ℕ, ◌<◌, ◌≤◌, Bool, List, [], ◌∷◌, ◌++◌, length, map, Result, Ok, Err, slice_index, refl, sym, ap, subst, ◌∙◌, arith}
-use Rattle.machine.specs.Keys.{Event as KeyEvent, held_at}
+-- What a request writes and reports of a run is that of a transcript of CHIP-8.
+use Rattle.std.proofs.Common.{◌≡◌, ◌⊎◌, inl, inr, ℕ, ◌-◌, ◌<◌, ◌≤◌, true, false, List, [], ◌∷◌, ◌++◌, Option, Some, None, Result, Ok, Err, refl, sym, ap, subst, ◌∙◌, arith}
+use Rattle.std.specs.Prelude.{max}
+use Rattle.std.specs.Option.{option_map}
+use Rattle.std.proofs.lemmas.Bool.{cases_lt}
+use Rattle.machine.specs.Keys.{Event as KeyEvent}
 use Rattle.machine.specs.Pictures.{windows_ended}
-use Rattle.machine.specs.Run.{run_to}
 use Rattle.chip8_lang.specs.declared.view.Edition.{Edition}
-use Rattle.chip8_lang.specs.declared.view.Edition.TheVariants.{Usual}
-use Rattle.chip8_lang.specs.Events.{Event, events_behind}
-use Rattle.chip8_lang.specs.Events.Event.{Picture, Dispatch, Stopped}
-use Rattle.chip8_lang.specs.State.{memory_size}
+use Rattle.chip8_lang.specs.Events.{Event, events_behind, is_stop}
 use Rattle.rom_law.specs.Language.{end_cycle}
 use Rattle.rom_board.specs.Laws.{EveryRun, EveryTime}
+use Rattle.rom_board.proofs.Passed.{before_point, events_to_stop, no_stop_before}
 use Rattle.chip8_image.specs.Interpreters.{interpreter_of}
+use Rattle.vip_relation.specs.Follows.{Fits}
+use Rattle.vip_relation.specs.State.{Start, begun, machine_of}
 use Rattle.vip_relation.specs.State.Start.{Reset, Saved}
-use Rattle.vip_relation.specs.State.{started}
+use Rattle.vip_relation.proofs.Beginning.{begins-running}
+use Rattle.vip_relation.proofs.Past.{state}
+use Rattle.vip_debug.specs.Answers.{moves_until, at_start, written}
+use Rattle.vip_debug.proofs.Reaching.{last_until}
 use Rattle.vip_text.specs.Endings.{Ending}
-use Rattle.vip_show.specs.Output.{picture_pieces, summary, trace_lines, trace_piece}
-use Rattle.vip_text.specs.StateFile.{shown, IsAccepted}
-use Rattle.vip_show.specs.Points.{points_of as points_among}
-use Rattle.vip_outside.specs.Files.{FilesMeaning}
-use Rattle.vip_words.specs.Asked.{Asked, AskedResume, trace, play, debug, demo, save, resume, link, trace_program, play_program, debug_program, asm, list, dis, source, bounds, within, safe, certify}
+use Rattle.vip_text.specs.StateFile.{shown}
+use Rattle.vip_show.specs.Output.{picture_pieces}
+use Rattle.vip_show.specs.StateOutput.{saved_file}
 use Rattle.vip_words.specs.DebugGrammar.{commands_of}
+use Rattle.vip_words.specs.Request.{most_cycles}
 use Rattle.vip_words.specs.declared.debug_commands.Command.{Command}
 use Rattle.vip_words.specs.declared.debug_commands.CommandFault.{CommandFault}
 use Rattle.vip_words.specs.declared.debug_commands.CommandFault.TheVariants as command
 use Rattle.vip_words.specs.declared.debug_commands.Speaks.TheVariants.{Chip8}
+use Rattle.vip_words.specs.declared.request.Request.TheVariants as request
+use Rattle.vip_words.specs.declared.request.Show.{Show}
+use Rattle.vip_words.specs.declared.request.Show.TheVariants as show
 use Rattle.vip_tools.specs.declared.status.Status.{Status}
-use Rattle.vip_tools.specs.declared.status.Status.TheVariants.{Done, Stopped, Usage, ReadFault, GameTooLarge, ScriptTooLarge, BadScript, BadSource, BadRomSource, RomDiffers, WriteFault, NoMemory, BadCommand, SourceTooLarge, CommandsTooLarge, BadState, NoDispatch, BadCertificate, MessageTooLarge, BadProof, CertificateTooLarge, NoCertificate, RomTooLarge, RamTooLarge}
-use Rattle.vip_tools.specs.Demo.{demo_game}
-use Rattle.vip_tools.specs.Files.{needed, HasAll}
+use Rattle.vip_tools.specs.declared.status.Status.TheVariants.{Done, Stopped as Stops, Usage, ReadFault, GameTooLarge, ScriptTooLarge, BadScript, BadSource, BadRomSource, RomDiffers, WriteFault, NoMemory, BadCommand, SourceTooLarge, CommandsTooLarge, BadState, NoDispatch, BadCertificate, MessageTooLarge, BadProof, CertificateTooLarge, NoCertificate, RomTooLarge, RamTooLarge}
+use Rattle.vip_tools.specs.Files.{Loaded, needed, script_files, show_files}
 use Rattle.vip_tools.specs.Outcome.{Outcome}
 use Rattle.vip_tools.specs.Outcome.Outcome.{Refused, Shown, GivenUp}
-use Rattle.vip_tools.proofs.DemoLemmas.{length-game, bytes-game}
-use Rattle.vip_verbs.specs.Outcome.{HasOutcome, RunComes, RunTo, DebugComes, ResumeComes, ending_from, resumed, run_of, events_in, run_ending, debug_ending}
+use Rattle.vip_verbs.specs.Outcome.{DebugComes, HasOutcome, RunTo, ShowComes, debug_ending, events_in, events_shown, limit_from, ran, run_ending, run_of, saved_as}
 use Rattle.vip_verbs.specs.Outcome.RunTo.{FaultyScript, FaultyRom, Runs}
-use Rattle.vip_debug.specs.Answers.{at_start, written}
-use Rattle.vip_call.specs.Language.{IsChip8}
 use Rattle.vip_call.specs.Commands.{AllAnswered}
-use Rattle.vip_call.specs.Transcribed.{Debugged, FromFile, RunLaw, Transcribed, TranscribesBy, in_time, is_run, of_language}
-use Rattle.vip_call.specs.Transcript.{Point, ArePictures, GoesOn, line, summary_text, trace_text}
-use Rattle.vip_call.specs.Top.{Call, Says, WritesExactly, Writes, Tells, TellsChip8, TellsTimed}
-use Rattle.vip_call.proofs.DebuggedLemmas.{debugged}
+use Rattle.vip_call.specs.Transcribed.{IsShown, IsStateOf, RunLaw, Transcribed, TranscribesBy, all_points, first_cycle, in_time, is_run, of_language}
+use Rattle.vip_call.specs.Transcript.{ArePictures, GoesOn, Point, last_point, summary_text, trace_text}
+use Rattle.vip_call.specs.Top.{Call, Says, Tells, TellsChip8, TellsTimed, Writes, WritesExactly}
+use Rattle.vip_call.proofs.DebuggedLemmas.{answers, over_at}
+use Rattle.vip_call.proofs.FilledLemmas.{AreGiven, are_given}
+use Rattle.vip_call.proofs.GivenStarts.{begun_so, from_start}
 use Rattle.vip_call.proofs.LanguageLemmas.{is_chip8}
-use Rattle.vip_show.proofs.Points.{points_behind_are}
-use Rattle.vip_call.proofs.ResumedLemmas.{FromFile as FromAccepted, is_run_behind}
-use Rattle.vip_call.proofs.TimedLemmas.{TimeFromFile, pictures_of_game, timed_file, timed_game}
-use Rattle.vip_call.proofs.TranscriptLemmas.{are_pictures, begins, file_point_is, goes_on, lines_are, points_of, summed_is, traced_is}
+use Rattle.vip_call.proofs.LimitLemmas.{late_limit, nothing_by, same_events, same_ending}
+use Rattle.vip_call.proofs.ResumedLemmas.{FromFile as FromAccepted}
+use Rattle.vip_call.proofs.SavedLemmas.{SavesShown}
+use Rattle.vip_call.proofs.TimedLemmas.{TimeFromFile, timed_pictures, timed_points}
+use Rattle.vip_call.proofs.TranscriptLemmas.{begins, file_point_is, game_pictures, goes_on, last_is_last, late_pictures, later_pictures, point_of, points_of, summed_is, traced_is}
 
--- what is written of events is that of their points
-lines_of_points : (e : Edition) (with_time : Bool) (es : List Event) → trace_lines e with_time (points_among es) ≡ trace_lines e with_time es
-unfolding trace_lines
-lines_of_points e with_time [] = refl
-lines_of_points e with_time (Picture m ∷ es) = lines_of_points e with_time es
-lines_of_points e with_time (Dispatch b ∷ es) = ap (λ lines. trace_piece e with_time (Dispatch b) ++ lines) (lines_of_points e with_time es)
-lines_of_points e with_time (Stopped b ∷ es) = lines_of_points e with_time es
+-- the points behind the start, and with the start's they are all
+abbrev points_shown : Edition → Start → List KeyEvent → ℕ → List Point
+points_shown e s script limit = points_of e (events_shown e s script limit)
 
--- A run from reset has its points, its end, its cycle and its pictures by this law of runs, and so has one from an accepted file.
+all_are : (e : Edition) (s : Start) (script : List KeyEvent) (limit : ℕ)
+    → points_of e (events_in e s script limit) ≡ all_points e s (points_shown e s script limit)
+all_are e (Reset game) script limit = refl
+all_are e (Saved f) script limit = ap (λ p. p ∷ points_shown e (Saved f) script limit) (file_point_is e f)
+
+cycle_is : (e : Edition) (s : Start) → (machine_of s).cycle ≡ first_cycle e s
+cycle_is e (Reset game) = refl
+cycle_is e (Saved f) = ap (λ (p : Point). p.cycle) (file_point_is e f)
+
+-- Runs have their points, their end, its cycle and their pictures by this law.
 record AreBy (law : RunLaw) : Type 0 where
-  of_game : (e : Edition) (game : List ℕ) → length game ≤ memory_size e → ((i : ℕ) → slice_index game i < 256) → (script : List KeyEvent) (limit : ℕ)
-      → law.transcript e (Reset game) script limit (points_of e (events_in e game script limit)) (run_ending e game limit script)
-      (end_cycle limit (events_in e game script limit))
-  pictures : (e : Edition) (game : List ℕ) → length game ≤ memory_size e → ((i : ℕ) → slice_index game i < 256) → (script : List KeyEvent) (limit : ℕ)
-      → law.pictures e (Reset game) script limit (picture_pieces (interpreter_of e).rom (run_of e game script limit) (events_in e game script limit))
-  of_file : (e : Edition) (f : List ℕ) → ((k : ℕ) → slice_index f k < 256) → IsAccepted e f → (script : List KeyEvent) (limit : ℕ)
-      → let events = events_behind (interpreter_of e) script (shown f) limit in
-      law.transcript e (Saved f) script limit (points_of e events) (ending_from e f limit script) (end_cycle limit events)
+  transcript : (e : Edition) (s : Start) → Fits e s → (script : List KeyEvent) (limit : ℕ)
+      → law.transcript e s script limit (points_shown e s script limit) (run_ending e s script limit) (end_cycle limit (events_shown e s script limit))
+  pictures : (e : Edition) (s : Start) → Fits e s → (script : List KeyEvent) (limit : ℕ)
+      → law.pictures e s script limit (picture_pieces (interpreter_of e).rom (run_of e s script limit) (events_shown e s script limit))
 
-module _ (every : EveryRun) (law : RunLaw) (runs : AreBy law) where
-  abbrev Written : Type 1
-  Written = List KeyEvent → List Point → Ending → ℕ → Ending → Type 0
+module _ (every : EveryRun) (from : FromAccepted) (saves : SavesShown) (law : RunLaw) (runs : AreBy law) where
+  module _ (e : Edition) (s : Start) (fits : Fits e s) (limit : ℕ) where
+    abbrev over : List KeyEvent → ℕ
+    over script = end_cycle limit (events_shown e s script limit)
 
-  -- a run that comes to output
-  OfRun : Edition → List ℕ → List (List ℕ) → ℕ → (List (List ℕ) → Written) → Outcome → Type 0
-  OfRun e game scripts limit Of (Refused status report) = Unit {0}
-  OfRun e game scripts limit Of (GivenUp report) = Unit {0}
-  OfRun e game scripts limit Of (Shown pieces status report) =
-      Transcribed (λ script. law.transcript e (Reset game) script limit) scripts limit (Of pieces) status report
-
-  module _
-      (e : Edition) (game : List ℕ) (fits : length game ≤ memory_size e) (bytes : (i : ℕ) → slice_index game i < 256) (limit : ℕ)
-      (scripts : List (List ℕ)) where
-    abbrev events : List KeyEvent → List Event
-    events script = events_in e game script limit
-
-    abbrev chip8_run : (script : List KeyEvent) → IsChip8 e game script limit (run_ending e game limit script)
-    chip8_run script = is_chip8 every e game script limit fits bytes
-
-    -- what a run writes, and how it is said to end, by its key script
-    module _
-        (pieces : List KeyEvent → List (List ℕ)) (told : List KeyEvent → Ending) (Of : List (List ℕ) → Written)
-        (written_is :
+    -- the pictures
+    pictures_are :
         (script : List KeyEvent)
-        → Of (pieces script) script (points_of e (events script)) (run_ending e game limit script) (end_cycle limit (events script)) (told script)) where
-      run_transcribed : (o : Outcome) → RunComes e limit scripts pieces told o → OfRun e game scripts limit Of o
-      unfolding OfRun
-      run_transcribed _ (FaultyScript line cause is) = tt
-      run_transcribed _ (FaultyRom script fault is fault_is rom) = tt
-      run_transcribed _ (Runs script is rom) = record {
+        → ArePictures e (all_points e s (points_shown e s script limit)) (windows_ended (first_cycle e s)) (windows_ended (over script))
+        (picture_pieces (interpreter_of e).rom (run_of e s script limit) (events_shown e s script limit))
+    pictures_are script = by_start s fits
+      where
+        by_start :
+            (s : Start) → Fits e s
+            → ArePictures e (all_points e s (points_shown e s script limit)) (windows_ended (first_cycle e s))
+            (windows_ended (end_cycle limit (events_shown e s script limit)))
+            (picture_pieces (interpreter_of e).rom (run_of e s script limit) (events_shown e s script limit))
+        by_start (Reset game) fits =
+            game_pictures e script limit (run_of e (Reset game) script limit) (run_ending e (Reset game) script limit) game
+            (events_in e (Reset game) script limit)
+            (is_chip8 every from e (Reset game) fits script limit)
+        by_start (Saved f) fits =
+            subst
+            (λ (p : Point). ArePictures e (p ∷ points_shown e (Saved f) script limit) (windows_ended p.cycle)
+            (windows_ended (end_cycle limit (events_shown e (Saved f) script limit)))
+            (picture_pieces (interpreter_of e).rom (run_of e (Saved f) script limit) (events_shown e (Saved f) script limit)))
+            (file_point_is e f) (by_test (cases_lt limit (shown f).cycle))
+          where
+            by_test :
+                (limit < (shown f).cycle) ⊎ ((shown f).cycle ≤ limit)
+                → ArePictures e (point_of e (shown f) ∷ points_shown e (Saved f) script limit) (windows_ended (shown f).cycle)
+                (windows_ended (end_cycle limit (events_shown e (Saved f) script limit)))
+                (picture_pieces (interpreter_of e).rom (run_of e (Saved f) script limit) (events_shown e (Saved f) script limit))
+            by_test (inl before) =
+                subst
+                (λ (es : List Event). ArePictures e (point_of e (shown f) ∷ points_of e es) (windows_ended (shown f).cycle) (windows_ended (end_cycle limit es))
+                (picture_pieces (interpreter_of e).rom (run_of e (Saved f) script limit) es))
+                (sym (nothing_by e script (shown f) limit (omega (arith, before))))
+                (late_pictures e script limit (run_of e (Saved f) script limit) (run_ending e (Saved f) script limit) (shown f) before)
+            by_test (inr behind) =
+                later_pictures e script limit (run_of e (Saved f) script limit) (run_ending e (Saved f) script limit) (shown f)
+                (events_behind (interpreter_of e) script (shown f) limit) behind (is_chip8 every from e (Saved f) fits script limit).events
+
+    -- the answers of the debugger's commands
+    answered :
+        (script : List KeyEvent) (commands : List Command)
+        → AllAnswered e (max limit (first_cycle e s)) (all_points e s (points_shown e s script limit)) (run_ending e s script limit) (over script)
+        (debug_ending (begun e s script) (limit_from s limit) commands) commands (first_cycle e s)
+        (written (begun e s script) (limit_from s limit) commands (at_start (begun e s script)))
+    answered script commands =
+        subst (λ t. AllAnswered e last (all_points e s (points_shown e s script limit)) (run_ending e s script limit) (over script) told commands t pieces)
+        (cycle_is e s)
+        (subst (λ t. AllAnswered e t (all_points e s (points_shown e s script limit)) (run_ending e s script limit) (over script) told commands
+        (machine_of s).cycle pieces) (limit_is s limit)
+        (subst (λ ps. AllAnswered e to ps (run_ending e s script limit) (over script) told commands (machine_of s).cycle pieces)
+        (ap (points_of e) (same_events e s script limit) ∙ all_are e s script limit)
+        (subst (λ z. AllAnswered e to (points_of e (events_in e s script to)) z (over script) told commands (machine_of s).cycle pieces)
+        (same_ending e s script limit)
+        (answers e s script begins to late (over script) over_is commands))))
+      where
+        begins : is_stop (interpreter_of e) (machine_of s) ≡ false
+        begins = begins-running e s fits
+
+        to : ℕ
+        to = limit_from s limit
+
+        last : ℕ
+        last = max limit (first_cycle e s)
+
+        late : (machine_of s).cycle ≤ to
+        late = late_limit s limit
+
+        told : Ending
+        told = debug_ending (begun e s script) to commands
+
+        pieces : List (List ℕ)
+        pieces = written (begun e s script) to commands (at_start (begun e s script))
+
+        limit_is : (s : Start) (limit : ℕ) → limit_from s limit ≡ max limit (first_cycle e s)
+        limit_is (Reset game) limit = omega arith
+        limit_is (Saved f) limit = ap (max limit) (cycle_is e (Saved f))
+
+        shown_over : (s : Start) → end_cycle limit (events_shown e s script limit) ≡ end_cycle limit (events_in e s script limit)
+        shown_over (Reset game) = refl
+        shown_over (Saved f) = refl
+
+        made : ℕ
+        made = moves_until (begun e s script) to
+
+        over_is :
+            is_stop (interpreter_of e) (state (interpreter_of e) s script made) ≡ true
+            → end_cycle limit (events_shown e s script limit) ≡ (state (interpreter_of e) s script made).cycle
+        over_is stop =
+            let h = last_until e s script begins to late in
+            shown_over s
+            ∙ ap (end_cycle limit)
+            (sym (same_events e s script limit) ∙ events_to_stop (interpreter_of e) s script begins to made h.within stop h.runs)
+            ∙ over_at limit (before_point (interpreter_of e) s script made) (state (interpreter_of e) s script made)
+            (no_stop_before (interpreter_of e) s script made h.runs)
+
+  -- what comes to output
+  Of : Edition → Start → Option (List ℕ) → ℕ → Show (List ℕ) → Outcome → Type 0
+  Of e s keys limit asked_show (Refused status report) = Unit {0}
+  Of e s keys limit asked_show (GivenUp report) = Unit {0}
+  Of e s keys limit asked_show (Shown pieces status report) = Transcribed law e s keys limit asked_show pieces status report
+
+  module _ (e : Edition) (s : Start) (fits : Fits e s) (keys : Option (List ℕ)) (limit : ℕ) (asked_show : Show (List ℕ)) where
+    transcribed_run :
+        (pieces : List KeyEvent → List (List ℕ)) (told : List KeyEvent → Ending)
+        → ((script : List KeyEvent)
+        → IsShown e s (points_shown e s script limit) limit (law.pictures e s script limit) (run_ending e s script limit)
+        (end_cycle limit (events_shown e s script limit)) (told script) asked_show (pieces script))
+        → (o : Outcome) → RunTo e keys (λ script. ran limit (pieces script) (told script)) o → Of e s keys limit asked_show o
+    unfolding Of
+    transcribed_run pieces told is_shown _ (FaultyScript line cause is) = tt
+    transcribed_run pieces told is_shown _ (FaultyRom script fault is fault_is rom) = tt
+    transcribed_run pieces told is_shown _ (Runs script is rom) = record {
+      script = script;
+      reads = is;
+      points = points_shown e s script limit;
+      ending = run_ending e s script limit;
+      over = end_cycle limit (events_shown e s script limit);
+      transcript = runs.transcript e s fits script limit;
+      reported = told script;
+      shown = is_shown script;
+      status_is = refl;
+      report_is = refl;
+    }
+
+  transcribed_state :
+      (e : Edition) (s : Start) (fits : Fits e s) (keys : Option (List ℕ)) (limit : ℕ) (o : Outcome)
+      → RunTo e keys (λ script. saved_as limit (run_ending e s script limit) (saved_file e (events_in e s script limit))) o
+      → Of e s keys limit show.State o
+  unfolding Of
+  transcribed_state e s fits keys limit _ (FaultyScript line cause is) = tt
+  transcribed_state e s fits keys limit _ (FaultyRom script fault is fault_is rom) = tt
+  transcribed_state e s fits keys limit _ (Runs script is rom) = go (saved_file e (events_in e s script limit)) refl
+    where
+      go : (file : Option (List ℕ)) → saved_file e (events_in e s script limit) ≡ file
+          → Of e s keys limit show.State (saved_as limit (run_ending e s script limit) file)
+      go None saved = tt
+      go (Some file) saved = record {
         script = script;
         reads = is;
-        points = points_of e (events script);
-        ending = run_ending e game limit script;
-        over = end_cycle limit (events script);
-        transcript = runs.of_game e game fits bytes script limit;
-        reported = told script;
-        written = written_is script;
+        points = points_shown e s script limit;
+        ending = run_ending e s script limit;
+        over = end_cycle limit (events_shown e s script limit);
+        transcript = runs.transcript e s fits script limit;
+        reported = run_ending e s script limit;
+        shown = (λ few. state few, refl);
         status_is = refl;
         report_is = refl;
       }
+        where
+          state : limit ≤ most_cycles → IsStateOf e (last_point (all_points e s (points_shown e s script limit))) (file ∷ [])
+          state few =
+              let x = saves e s fits script limit few file saved in
+              record {
+                file = file;
+                written = refl;
+                named = x.0.edition;
+                shows =
+                    ap last_point (sym (all_are e s script limit)) ∙ last_is_last e (events_in e s script limit)
+                    ∙ ap (λ last. option_map (point_of e) last) x.1 ∙ ap Some (file_point_is e file);
+              }
 
-    debug_transcribed :
-        (read : Result (List Command) CommandFault) (o : Outcome) → DebugComes e game limit scripts read o
-        → OfRun e game scripts limit (λ ps script points ending over reported. Debugged e limit points ending over reported read ps) o
-    unfolding OfRun
-    debug_transcribed (Ok commands) o comes =
-        run_transcribed (λ script. written (started e game script) limit commands at_start) (λ script. debug_ending (started e game script) limit commands)
-        (λ ps script points ending over reported. AllAnswered e limit points ending over reported commands 0 ps)
-        (λ script. debugged e game script limit commands) o comes
-    debug_transcribed (Err (command.Fault line cause)) o comes = rw comes tt
-    debug_transcribed (Err command.NoMemory) o comes = absurd comes
+  transcribed_debug :
+      (e : Edition) (s : Start) (fits : Fits e s) (keys : Option (List ℕ)) (limit : ℕ) (text : List ℕ) (read : Result (List Command) CommandFault)
+      → commands_of Chip8 limit text ≡ read → (o : Outcome) → DebugComes e s keys limit read o → Of e s keys limit (show.Commands text) o
+  unfolding Of
+  transcribed_debug e s fits keys limit text (Ok commands) says o comes =
+      transcribed_run e s fits keys limit (show.Commands text) _ _ (λ script. rw says (answered e s fits limit script commands)) o comes
+  transcribed_debug e s fits keys limit text (Err (command.Fault line cause)) says o comes = rw comes tt
+  transcribed_debug e s fits keys limit text (Err command.NoMemory) says o comes = absurd comes
 
-    pictures_are :
-        (script : List KeyEvent)
-        → ArePictures e (points_of e (events script)) (windows_ended (end_cycle limit (events script)))
-        (picture_pieces (interpreter_of e).rom (run_of e game script limit) (events script))
-    pictures_are script = are_pictures e script limit (run_of e game script limit) (run_ending e game limit script) game (events script) (chip8_run script)
-
-  -- the summary of a demonstration game's run
-  demo_written :
-      (number limit : ℕ) (game : List ℕ) (fits : length game ≤ memory_size Usual) (bytes : (i : ℕ) → slice_index game i < 256) (script : List KeyEvent)
-      → let events = events_in Usual game script limit in
-      summary Usual number events ∷ [] ≡ summary_text Usual (points_of Usual events) number (windows_ended (end_cycle limit events))
-  demo_written number limit game fits bytes script =
-      let events = events_in Usual game script limit in
-      summed_is Usual number (windows_ended (end_cycle limit events)) (interpreter_of Usual).rom (run_of Usual game script limit) events
-      (pictures_are Usual game fits bytes limit [] script).count
-
-  -- a run that goes on from a file, and comes to output
-  OfResumed : AskedResume → List ℕ → List (List ℕ) → Outcome → Type 0
-  OfResumed a file scripts (Refused status report) = Unit {0}
-  OfResumed a file scripts (GivenUp report) = Unit {0}
-  OfResumed a file scripts (Shown pieces status report) =
-      FromFile file
-      (λ e.
-      Transcribed (λ script. law.transcript e (Saved file) script a.cycles) scripts a.cycles
-      (λ script points ending over reported. (pieces ≡ map (line e a.with_time) points) × (reported ≡ ending)))
-      status report
-
-  resumed_run :
-      (a : AskedResume) (file : List ℕ) (scripts : List (List ℕ)) (bytes : (k : ℕ) → slice_index file k < 256) (e : Edition) (o : Outcome)
-      → IsAccepted e file → RunTo e scripts (resumed a e file) o → OfResumed a file scripts o
-  unfolding OfResumed
-  resumed_run a file scripts bytes e _ accepted (FaultyScript line cause is) = tt
-  resumed_run a file scripts bytes e _ accepted (FaultyRom script fault is fault_is rom) = tt
-  resumed_run a file scripts bytes e _ accepted (Runs script is rom) =
-      let events : List Event = events_behind (interpreter_of e) script (shown file) a.cycles in
-      record {
-        edition = e;
-        named = accepted.edition;
-        here = record {
-          script = script;
-          reads = is;
-          points = points_of e events;
-          ending = ending_from e file a.cycles script;
-          over = end_cycle a.cycles events;
-          transcript = runs.of_file e file bytes accepted script a.cycles;
-          reported = ending_from e file a.cycles script;
-          written = (
-            ap (trace_lines e a.with_time) (sym (points_behind_are (interpreter_of e) script (shown file) a.cycles))
-                ∙ lines_of_points e a.with_time events
-                ∙ lines_are e a.with_time events,
-            refl,
-          );
-          status_is = refl;
-          report_is = refl;
-        };
-      }
-
-  resumed_transcribed :
-      (a : AskedResume) (file : List ℕ) (scripts : List (List ℕ)) (bytes : (k : ℕ) → slice_index file k < 256) (o : Outcome)
-      → ResumeComes a file scripts o → OfResumed a file scripts o
-  unfolding OfResumed
-  resumed_transcribed a file scripts bytes o comes = resumed_run a file scripts bytes comes.edition o comes.accepted comes.comes
+  transcribed_as :
+      (e : Edition) (s : Start) (fits : Fits e s) (keys : Option (List ℕ)) (limit : ℕ) (asked_show : Show (List ℕ)) (o : Outcome)
+      → ShowComes e s keys limit asked_show o → Of e s keys limit asked_show o
+  transcribed_as e s fits keys limit (show.Trace with_time with_screen) o comes =
+      transcribed_run e s fits keys limit (show.Trace with_time with_screen) _ _
+      (λ script. (
+        traced_is e with_time with_screen (events_shown e s script limit) (events_in e s script limit)
+            ∙ ap (λ ps. trace_text e with_time with_screen (points_shown e s script limit) (last_point ps)) (all_are e s script limit),
+        refl,
+      ))
+      o comes
+  transcribed_as e s fits keys limit show.Pictures o comes =
+      transcribed_run e s fits keys limit show.Pictures _ _
+      (λ script. (pictures_are e s fits limit script, runs.pictures e s fits script limit, refl)) o comes
+  transcribed_as e s fits keys limit (show.Commands text) o comes =
+      transcribed_debug e s fits keys limit text (commands_of Chip8 limit text) refl o comes
+  transcribed_as e s fits keys limit show.State o comes = transcribed_state e s fits keys limit o comes
+  transcribed_as e s fits keys limit (show.Summary number) o comes =
+      transcribed_run e s fits keys limit (show.Summary number) _ _
+      (λ script. (
+        summed_is e number (windows_ended (over e s fits limit script) - windows_ended (first_cycle e s)) (interpreter_of e).rom (run_of e s script limit)
+            (events_shown e s script limit) (events_in e s script limit) (pictures_are e s fits limit script).count
+            ∙ ap (λ ps. summary_text e number (windows_ended (over e s fits limit script) - windows_ended (first_cycle e s)) (points_shown e s script limit)
+            (last_point ps))
+            (all_are e s script limit),
+        refl,
+      ))
+      o comes
 
   transcribes :
-      (old : FilesMeaning) (asked : Asked) (contents pieces : List (List ℕ)) (status : Status) (report : List ℕ) → HasAll old (needed asked) contents
-      → HasOutcome asked contents (Shown pieces status report) → TranscribesBy law asked contents pieces status report
-  unfolding OfRun OfResumed
-  transcribes old (trace a) [] pieces status report read comes = tt
-  transcribes old (trace a) (game ∷ scripts) pieces status report read comes =
-      let e = a.run.edition in
-      run_transcribed e game read.0.fits read.0.bytes a.run.cycles scripts _ _
-      (λ ps script points ending over reported. (ps ≡ trace_text e points a.with_time a.with_screen) × (reported ≡ ending))
-      (λ script. (traced_is e a.with_time a.with_screen (events_in e game script a.run.cycles), refl))
-      (Shown pieces status report) comes
-  transcribes old (play a) [] pieces status report read comes = tt
-  transcribes old (play a) (game ∷ scripts) pieces status report read comes =
-      let e = a.edition in
-      run_transcribed e game read.0.fits read.0.bytes a.cycles scripts _ _
-      (λ ps script points ending over reported.
-      ArePictures e points (windows_ended over) ps × law.pictures e (Reset game) script a.cycles ps × (reported ≡ ending))
-      (λ script.
-      (pictures_are e game read.0.fits read.0.bytes a.cycles scripts script, runs.pictures e game read.0.fits read.0.bytes script a.cycles, refl))
-      (Shown pieces status report) comes
-  transcribes old (debug a) [] pieces status report read comes = tt
-  transcribes old (debug a) (game ∷ []) pieces status report read comes = tt
-  transcribes old (debug a) (game ∷ text ∷ scripts) pieces status report read comes =
-      debug_transcribed a.run.edition game read.0.fits read.0.bytes a.run.cycles scripts (commands_of Chip8 a.run.cycles text)
-      (Shown pieces status report) comes
-  transcribes old (demo a) [] pieces status report read comes =
-      let game = demo_game a.number in
-      let fits : length game ≤ memory_size Usual = omega (arith, length-game a.number) in
-      run_transcribed Usual game fits (bytes-game a.number) a.cycles [] _ _
-      (λ ps script points ending over reported. (ps ≡ summary_text Usual points a.number (windows_ended over)) × (reported ≡ ending))
-      (λ script. (demo_written a.number a.cycles game fits (bytes-game a.number) script, refl))
-      (Shown pieces status report) comes
-  transcribes old (demo a) (c ∷ cs) pieces status report read comes = absurd comes
-  transcribes old (save a) contents pieces status report read comes = tt
-  transcribes old (resume a) [] pieces status report read comes = tt
-  transcribes old (resume a) (file ∷ scripts) pieces status report read comes =
-      resumed_transcribed a file scripts read.0.bytes (Shown pieces status report) comes
-  transcribes old (link a) contents pieces status report read comes = tt
-  transcribes old (trace_program a) contents pieces status report read comes = tt
-  transcribes old (play_program a) contents pieces status report read comes = tt
-  transcribes old (debug_program a) contents pieces status report read comes = tt
-  transcribes old (asm a) contents pieces status report read comes = tt
-  transcribes old (list name) contents pieces status report read comes = tt
-  transcribes old (dis a) contents pieces status report read comes = tt
-  transcribes old (source e) contents pieces status report read comes = tt
-  transcribes old bounds contents pieces status report read comes = tt
-  transcribes old (within a) contents pieces status report read comes = tt
-  transcribes old (safe a) contents pieces status report read comes = tt
-  transcribes old (certify a) contents pieces status report read comes = tt
+      (loaded : Loaded) (pieces : List (List ℕ)) (status : Status) (report : List ℕ) → AreGiven (needed loaded) → HasOutcome loaded (Shown pieces status report)
+      → TranscribesBy law loaded pieces status report
+  unfolding Of
+  transcribes (request.Run run) pieces status report given comes =
+      from_start (λ e s. Transcribed law e s run.keys run.limit run.show pieces status report) run.start
+      (begun_so (λ e s. ShowComes e s run.keys run.limit run.show (Shown pieces status report))
+      (λ e s. Transcribed law e s run.keys run.limit run.show pieces status report)
+      (λ e s fits comes. transcribed_as e s fits run.keys run.limit run.show (Shown pieces status report) comes)
+      run.start (show_files run.show ++ script_files run.keys) given comes)
+  transcribes (request.Program run) pieces status report given comes = tt
+  transcribes (request.Link message moves number) pieces status report given comes = tt
+  transcribes (request.Asm source raw) pieces status report given comes = tt
+  transcribes (request.List source) pieces status report given comes = tt
+  transcribes (request.Dis bytes address) pieces status report given comes = tt
+  transcribes (request.Source text) pieces status report given comes = tt
+  transcribes request.Bounds pieces status report given comes = tt
+  transcribes (request.Cycles source certificate) pieces status report given comes = tt
+  transcribes (request.Safe game certificate edition) pieces status report given comes = tt
+  transcribes (request.Certify game edition) pieces status report given comes = tt
 
   -- ---- a call
 
@@ -238,29 +303,29 @@ module _ (every : EveryRun) (law : RunLaw) (runs : AreBy law) where
   went_out status call s =
       record {
         asked = s.asked;
-        contents = s.contents;
+        loaded = s.loaded;
         asks = s.asks;
         files = s.files;
         pieces = s.pieces;
         report = s.report;
-        comes = transcribes call.files s.asked s.contents s.pieces status s.report s.asks.read s.comes;
+        comes = transcribes s.loaded s.pieces status s.report (are_given call.files s.asked s.loaded s.asks.shape s.asks.read) s.comes;
         out = s.out;
         err = s.err;
       }
 
   tells : (status : Status) (call : Call) → Says status call → Tells (TranscribesBy law) status call
   tells Done call s = went_out Done call s
-  tells Stopped call s = went_out Stopped call s
+  tells Stops call s = went_out Stops call s
   tells WriteFault call s =
       record {
         asked = s.asked;
-        contents = s.contents;
+        loaded = s.loaded;
         asks = s.asks;
         files = s.files;
         pieces = s.pieces;
         status = s.status;
         report = s.report;
-        comes = transcribes call.files s.asked s.contents s.pieces s.status s.report s.asks.read s.comes;
+        comes = transcribes s.loaded s.pieces s.status s.report (are_given call.files s.asked s.loaded s.asks.shape s.asks.read) s.comes;
         fault = s.fault;
       }
   tells Usage call s = tt
@@ -285,26 +350,25 @@ module _ (every : EveryRun) (law : RunLaw) (runs : AreBy law) where
   tells RomTooLarge call s = tt
   tells RamTooLarge call s = tt
 
-pub tells_chip8 : EveryRun → FromAccepted → (status : Status) (call : Call) → Says status call → TellsChip8 status call
-tells_chip8 every from = tells every of_language (record { of_game = of_game; pictures = λ e game fits bytes script limit. tt; of_file = of_file })
+pub tells_chip8 : EveryRun → FromAccepted → SavesShown → (status : Status) (call : Call) → Says status call → TellsChip8 status call
+tells_chip8 every from saves =
+    tells every from saves of_language (record { transcript = transcript; pictures = λ e s fits script limit. tt })
   where
-    of_game : (e : Edition) (game : List ℕ) → length game ≤ memory_size e → ((i : ℕ) → slice_index game i < 256) → (script : List KeyEvent) (limit : ℕ)
-        → is_run e (Reset game) script limit (points_of e (events_in e game script limit)) (run_ending e game limit script)
-        (end_cycle limit (events_in e game script limit))
-    of_game e game fits bytes script limit =
-        begins e script limit (run_of e game script limit) (run_ending e game limit script) game (events_in e game script limit)
-        (is_chip8 every e game script limit fits bytes)
+    transcript : (e : Edition) (s : Start) → Fits e s → (script : List KeyEvent) (limit : ℕ)
+        → is_run e s script limit (points_shown e s script limit) (run_ending e s script limit) (end_cycle limit (events_shown e s script limit))
+    transcript e (Reset game) fits script limit =
+        begins e script limit (run_of e (Reset game) script limit) (run_ending e (Reset game) script limit) game (events_in e (Reset game) script limit)
+        (is_chip8 every from e (Reset game) fits script limit)
+    transcript e (Saved f) fits script limit =
+        subst
+        (λ p. GoesOn e script limit p (points_shown e (Saved f) script limit) (run_ending e (Saved f) script limit)
+        (end_cycle limit (events_shown e (Saved f) script limit)))
+        (file_point_is e f)
+        (goes_on e script limit (run_of e (Saved f) script limit) (run_ending e (Saved f) script limit) (windows_ended (shown f).cycle) (shown f)
+        (events_behind (interpreter_of e) script (shown f) limit) (is_chip8 every from e (Saved f) fits script limit).events)
 
-    of_file : (e : Edition) (f : List ℕ) → ((k : ℕ) → slice_index f k < 256) → IsAccepted e f → (script : List KeyEvent) (limit : ℕ)
-        → let events = events_behind (interpreter_of e) script (shown f) limit in
-        is_run e (Saved f) script limit (points_of e events) (ending_from e f limit script) (end_cycle limit events)
-    of_file e f bytes accepted script limit =
-        let events : List Event = events_behind (interpreter_of e) script (shown f) limit in
-        subst (λ p. GoesOn e script limit p (points_of e events) (ending_from e f limit script) (end_cycle limit events)) (file_point_is e f)
-        (goes_on e script limit (run_to (interpreter_of e).rom (held_at script) (shown f) limit) (ending_from e f limit script)
-        (windows_ended (shown f).cycle) (shown f) events (is_run_behind from e f bytes accepted script limit).events)
-
-pub tells_timed : EveryRun → FromAccepted → EveryTime → TimeFromFile → (status : Status) (call : Call) → Says status call → TellsTimed status call
-tells_timed every from time time_from =
-    tells every in_time
-    (record { of_game = timed_game every time; pictures = pictures_of_game time; of_file = timed_file from time_from })
+pub tells_timed :
+    EveryRun → FromAccepted → EveryTime → TimeFromFile → SavesShown → (status : Status) (call : Call) → Says status call → TellsTimed status call
+tells_timed every from time time_from saves =
+    tells every from saves in_time
+    (record { transcript = timed_points time time_from every from; pictures = timed_pictures time time_from })

@@ -22,7 +22,7 @@ use Rattle.vip_text.specs.Endings.{Ending}
 use Rattle.vip_text.specs.Screens.{picture_file}
 use Rattle.vip_text.specs.StateFile.{bank_in, shown}
 use Rattle.vip_text.specs.Summaries.{summary_line}
-use Rattle.vip_show.specs.Output.{trace_lines, trace_pieces, screen_piece, picture_pieces, summary, lit_at, is_dispatch_event, is_picture_event, count_of}
+use Rattle.vip_show.specs.Output.{trace_lines, screen_piece, picture_pieces, lit_at, is_dispatch_event, is_picture_event, count_of}
 use Rattle.vip_call.specs.Language.{named}
 use Rattle.vip_call.specs.Transcribed.{file_point}
 use Rattle.vip_call.specs.Transcript.{Point, Begins, GoesOn, Ends, IsPicture, ArePictures, last_point, last_screen, line, lit, point_before, summary_text, trace_text}
@@ -144,22 +144,41 @@ module _ (e : Edition) (script : List KeyEvent) (limit : ℕ) (run : List Machin
       subst (λ es. PicturesFrom (before ++ point_of e b ∷ points_of e es) k (windows_ended c.cycle) (picture_pieces rom run es)) (sym h.last)
       (no_more _ k (windows_ended c.cycle) h.comes.shown)
 
-  pub are_pictures :
-      (game : List ℕ) (events : List Event) → BeginsRun (program e) script limit run (named e ending) game events
-      → ArePictures e (points_of e events) (windows_ended (end_cycle limit events)) (picture_pieces rom run events)
-  unfolding picture_pieces
-  are_pictures game [] h = record { count = omega (arith, h.0, windows limit); each = λ m file there. never m file there }
+  pictures_from :
+      (points : List Point) (k n : ℕ) (files : List (List ℕ)) → PicturesFrom points k n files → ArePictures e points k n files
+  pictures_from points k n files p = record { count = omega (arith, p.count); each = p.each }
+
+  no_pictures : (points : List Point) (k n : ℕ) → n ≤ k → ArePictures e points k n []
+  no_pictures points k n few = record { count = omega (arith, few); each = λ j file there. never j file there }
     where
-      never : (m : ℕ) (file : List ℕ) → slice_get [] m ≡ Some file → IsPicture e [] m file
-      never m file there = cc
-  are_pictures game (Picture m ∷ events) h = absurd h
-  are_pictures game (Dispatch b ∷ events) h =
-      let all = pictures_on [] 0 b events (omega (arith, h.1, windows b.cycle)) h.2 h.3 in
-      record {
-        count = omega (arith, all.count);
-        each = λ m file there. subst (λ n. IsPicture e (points_of e (Dispatch b ∷ events)) n file) (omega arith) (all.each m file there);
-      }
-  are_pictures game (Stopped b ∷ events) h = absurd h
+      never : (j : ℕ) (file : List ℕ) → slice_get [] j ≡ Some file → IsPicture e points (k + j) file
+      never j file there = cc
+
+  -- of a game's run: those of the frames from 0 on
+  pub game_pictures :
+      (game : List ℕ) (events : List Event) → BeginsRun (program e) script limit run (named e ending) game events
+      → ArePictures e (points_of e events) (windows_ended 0) (windows_ended (end_cycle limit events)) (picture_pieces rom run events)
+  unfolding picture_pieces
+  game_pictures game [] h = no_pictures [] (windows_ended 0) (windows_ended limit) (omega (arith, h.0, windows limit, windows 0))
+  game_pictures game (Picture m ∷ events) h = absurd h
+  game_pictures game (Dispatch b ∷ events) h =
+      let first : windows_ended 0 ≡ 0 = omega (arith, windows 0) in
+      subst (λ k. ArePictures e (points_of e (Dispatch b ∷ events)) k (windows_ended (end_cycle limit events)) (picture_pieces rom run events)) (sym first)
+      (pictures_from _ 0 _ _ (pictures_on [] 0 b events (omega (arith, h.1, windows b.cycle)) h.2 h.3))
+  game_pictures game (Stopped b ∷ events) h = absurd h
+
+  -- and those behind a dispatch point that comes by the limit
+  pub later_pictures :
+      (b : Machine) (events : List Event) → b.cycle ≤ limit → Behind (windows_ended b.cycle) b events
+      → ArePictures e (point_of e b ∷ points_of e events) (windows_ended b.cycle) (windows_ended (end_cycle limit events)) (picture_pieces rom run events)
+  later_pictures b events inside h = pictures_from _ _ _ _ (pictures_on [] (windows_ended b.cycle) b events (omega arith) inside h)
+
+  -- or behind the limit
+  pub late_pictures :
+      (b : Machine) → limit < b.cycle
+      → ArePictures e (point_of e b ∷ points_of e []) (windows_ended b.cycle) (windows_ended (end_cycle limit [])) (picture_pieces rom run [])
+  unfolding picture_pieces
+  late_pictures b over = no_pictures _ (windows_ended b.cycle) (windows_ended limit) (omega (arith, over, windows limit, windows b.cycle))
 
 -- ---- the lines
 
@@ -192,13 +211,15 @@ module _ (e : Edition) where
   screen_is None = refl
   screen_is (Some b) = refl
 
+  -- the lines of some events, and the screen at the last dispatch point of all
   pub traced_is :
-      (with_time with_screen : Bool) (events : List Event)
-      → trace_pieces e with_time with_screen events ≡ trace_text e (points_of e events) with_time with_screen
-  traced_is with_time with_screen events =
+      (with_time with_screen : Bool) (shown all : List Event)
+      → trace_lines e with_time shown ++ (if with_screen then screen_piece e (last_dispatch all) else [])
+      ≡ trace_text e with_time with_screen (points_of e shown) (last_point (points_of e all))
+  traced_is with_time with_screen shown all =
       ap₂ (λ lines last. lines ++ (if with_screen then last else []))
-      (lines_are with_time events)
-      (screen_is (last_dispatch events) ∙ ap (last_screen e) (sym (last_is_last events)))
+      (lines_are with_time shown)
+      (screen_is (last_dispatch all) ∙ ap (last_screen e) (sym (last_is_last all)))
 
   -- ---- the counts
 
@@ -215,15 +236,16 @@ module _ (e : Edition) where
   pictures_counted image run (Dispatch b ∷ events) = pictures_counted image run events
   pictures_counted image run (Stopped b ∷ events) = pictures_counted image run events
 
-  lit_is : (ps : List Point) (last : Option Machine) → lit_at e last ≡ lit e ps (option_map (point_of e) last)
-  lit_is ps None = refl
-  lit_is ps (Some b) = refl
+  lit_is : (last : Option Machine) → lit_at e last ≡ lit e (option_map (point_of e) last)
+  lit_is None = refl
+  lit_is (Some b) = refl
 
   pub summed_is :
-      (number n : ℕ) (image : List ℕ) (run : List Machine) (events : List Event) → length (picture_pieces image run events) ≡ n
-      → summary e number events ∷ [] ≡ summary_text e (points_of e events) number n
-  summed_is number n image run events count =
-      (λ i. summary_line number (points_counted events i) ((pictures_counted image run events ∙ count) i) (lit_last i) ∷ [])
+      (number n : ℕ) (image : List ℕ) (run : List Machine) (shown all : List Event) → length (picture_pieces image run shown) ≡ n
+      → summary_line number (count_of is_dispatch_event shown) (count_of is_picture_event shown) (lit_at e (last_dispatch all)) ∷ []
+      ≡ summary_text e number n (points_of e shown) (last_point (points_of e all))
+  summed_is number n image run shown all count =
+      (λ i. summary_line number (points_counted shown i) ((pictures_counted image run shown ∙ count) i) (lit_last i) ∷ [])
     where
-      lit_last : lit_at e (last_dispatch events) ≡ lit e (points_of e events) (last_point (points_of e events))
-      lit_last = lit_is (points_of e events) (last_dispatch events) ∙ ap (lit e (points_of e events)) (sym (last_is_last events))
+      lit_last : lit_at e (last_dispatch all) ≡ lit e (last_point (points_of e all))
+      lit_last = lit_is (last_dispatch all) ∙ ap (lit e) (sym (last_is_last all))

@@ -9,8 +9,9 @@ use Rattle.cycle_check.specs.declared.Within.{Within}
 use Rattle.game_check.specs.Proof.{IsAccepted}
 use Rattle.game_check.specs.States.{NeverStops}
 use Rattle.chip8_image.specs.Interpreters.{interpreter_of}
-use Rattle.vip_words.specs.Asked.{Asked, within, safe, certify}
+use Rattle.vip_words.specs.declared.request.Request.TheVariants.{Certify, Cycles, Safe}
 use Rattle.vip_tools.specs.Certificates.{rom_in, within_line}
+use Rattle.vip_tools.specs.Files.{Loaded}
 
 -- The output names the entry and the limit of a certificate, and the code in the ROM of the source leaves as it says.
 pub record LeavesInTime (source text : List ℕ) (pieces : List (List ℕ)) : Type 0 where
@@ -39,8 +40,8 @@ pub record WritesCertificate (e : Edition) (game : List ℕ) (pieces : List (Lis
   pub safe : IsSafe e game
 
 -- what the output of a verb of certificates says
-abbrev pub Certifies : Asked → List (List ℕ) → List (List ℕ) → Type 0
-Certifies (within a) (source ∷ text ∷ []) pieces = LeavesInTime source text pieces
-Certifies (safe a) (game ∷ text ∷ []) pieces = IsSafe a.edition game
-Certifies (certify a) (game ∷ []) pieces = WritesCertificate a.edition game pieces
-Certifies _ _ pieces = Unit {0}
+abbrev pub Certifies : Loaded → List (List ℕ) → Type 0
+Certifies (Cycles source certificate) pieces = LeavesInTime source certificate pieces
+Certifies (Safe game certificate edition) pieces = IsSafe edition game
+Certifies (Certify game edition) pieces = WritesCertificate edition game pieces
+Certifies _ pieces = Unit {0}

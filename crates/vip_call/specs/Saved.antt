@@ -1,42 +1,73 @@
 -- What was saved of a run goes on as that run.
-use Rattle.std.specs.Prelude.{◌≡◌, ◌≤◌, ℕ, Bool, false, List, [], ◌∷◌, ◌++◌, Some, Ok}
+use Rattle.std.specs.Prelude.{◌≡◌, ◌≤◌, ℕ, Bool, false, List, [], ◌∷◌, ◌++◌, Option, Some, Ok}
 use Rattle.machine.specs.Keys.{Event as KeyEvent}
+use Rattle.chip8_lang.specs.declared.view.Edition.{Edition}
+use Rattle.rom_board.specs.Saved.{AgreeBefore}
 use Rattle.vip_relation.specs.Follows.{last_dispatch}
+use Rattle.vip_relation.specs.State.{Start}
+use Rattle.vip_relation.specs.State.Start.{Saved}
 use Rattle.vip_text.specs.StateFile.{shown, IsAccepted}
-use Rattle.vip_tools.specs.declared.status.Status.{Status}
+use Rattle.vip_tools.specs.Files.{Loaded}
 use Rattle.vip_tools.specs.Outcome.{Outcome, script_in}
 use Rattle.vip_tools.specs.Outcome.Outcome.{Shown}
-use Rattle.vip_words.specs.Asked.{Asked, AskedRun, most_cycles, resume, save, trace}
-use Rattle.vip_verbs.specs.Outcome.{HasOutcome, events_in}
+use Rattle.vip_words.specs.Request.{most_cycles}
+use Rattle.vip_words.specs.declared.debug_commands.Command.{Command}
+use Rattle.vip_words.specs.declared.debug_commands.Command.TheVariants.{Runs}
+use Rattle.vip_words.specs.declared.debug_commands.Running.TheVariants.{To}
+use Rattle.vip_words.specs.declared.request.Request.TheVariants.{Run}
+use Rattle.vip_words.specs.declared.request.Show.{Show}
+use Rattle.vip_words.specs.declared.request.Show.TheVariants.{State}
+use Rattle.vip_words.specs.declared.request.Start.TheVariants as beginning
+use Rattle.vip_verbs.specs.Outcome.{Begins, HasOutcome, ShowComes, debugged, events_in, pictured, saved, traced}
 
--- The trace of the run of which a state is saved, up to some limit; and what goes on from the file, of this name, under the same script.
-abbrev pub trace_request : AskedRun → Bool → ℕ → Asked
-trace_request a with_time limit =
-    trace (record { run = record { game = a.game; cycles = limit; keys = a.keys; edition = a.edition }; with_time = with_time; with_screen = false })
+-- one go comes to what came first and then to the rest, and it ends as the rest does
+abbrev pub IsJoined : (first rest whole : Outcome) → Type 0
+IsJoined (Shown first _ _) (Shown rest status report) whole = whole ≡ Shown (first ++ rest) status report
+IsJoined _ _ whole = ⊥
 
-abbrev pub resume_request : AskedRun → List ℕ → Bool → ℕ → Asked
-resume_request a name with_time limit = resume (record { state = name; cycles = limit; keys = a.keys; with_time = with_time })
+-- Under a script up to a limit one go of the run from a start is what comes up to the cycle of a file's point, and then what comes of the run from the
+-- file: its lines, with the screen, and its pictures; the file that is saved of it is the same; and the debugger answers behind `to` that cycle as it does
+-- from the file.
+pub record GoesOn (e : Edition) (s : Start) (file : List ℕ) (script : List KeyEvent) (limit : ℕ) : Type 0 where
+  pub lines :
+      (with_time with_screen : Bool)
+      → IsJoined (traced with_time false e s script (shown file).cycle) (traced with_time with_screen e (Saved file) script limit)
+      (traced with_time with_screen e s script limit)
+  pub pictures : IsJoined (pictured e s script (shown file).cycle) (pictured e (Saved file) script limit) (pictured e s script limit)
+  pub state : saved e limit (events_in e s script limit) ≡ saved e limit (events_in e (Saved file) script limit)
+  pub answers :
+      (commands : List Command)
+      → let to = Runs (To (shown file).cycle) in
+      IsJoined (debugged (to ∷ []) e s script limit) (debugged commands e (Saved file) script limit) (debugged (to ∷ commands) e s script limit)
 
--- With the first records before its own, this is the trace up to the later limit, with that status and that report.
-abbrev pub IsRest : AskedRun → List ℕ → List (List ℕ) → Bool → ℕ → List (List ℕ) → Outcome → Type 0
-IsRest a game scripts with_time later first (Shown rest status report) = HasOutcome (trace_request a with_time later) (game ∷ scripts) (Shown (first ++ rest) status report)
-IsRest a game scripts with_time later first _ = ⊥
-
--- The file is accepted, and shows the machine state at the last dispatch point of the run up to its limit. What goes on from it is never refused: up to
--- every later limit it is the rest of the trace.
-pub record GoesOnAsRun (a : AskedRun) (game : List ℕ) (scripts : List (List ℕ)) (file : List ℕ) : Type 0 where
-  pub accepted : IsAccepted a.edition file
+-- The file is accepted, and shows the machine state at the last dispatch point of the run up to its limit. Under every script that holds the same keys
+-- before that point's cycle, and up to every limit from this cycle on, the run goes on as the one from the file. No request for that is refused as one of a
+-- faulty state, or of another edition.
+pub record GoesOnAsRun (e : Edition) (s : Start) (keys : Option (List ℕ)) (limit : ℕ) (file : List ℕ) : Type 0 where
+  pub accepted : IsAccepted e file
   pub script : List KeyEvent
-  pub reads : script_in scripts ≡ Ok script
-  pub shows : last_dispatch (events_in a.edition game script a.cycles) ≡ Some (shown file)
+  pub reads : script_in keys ≡ Ok script
+  pub shows : last_dispatch (events_in e s script limit) ≡ Some (shown file)
   pub rest :
-      (with_time : Bool) (later : ℕ) (name : List ℕ) (first : List (List ℕ)) (status : Status) (report : List ℕ) (o : Outcome)
-      → a.cycles ≤ later
-      → HasOutcome (trace_request a with_time a.cycles) (game ∷ scripts) (Shown first status report)
-      → HasOutcome (resume_request a name with_time later) (file ∷ scripts) o
-      → IsRest a game scripts with_time later first o
+      (other : List KeyEvent) (later : ℕ)
+      → AgreeBefore (shown file).cycle script other
+      → (shown file).cycle ≤ later
+      → GoesOn e s file other later
+  pub comes :
+      (other : Option (List ℕ)) (later : ℕ) (show : Show (List ℕ)) (o : Outcome)
+      → HasOutcome (Run (record { start = beginning.State file; keys = other; limit = later; show = show })) o
+      → ShowComes e (Saved file) other later show o
 
--- what was saved is one file; words ask for at most 4,000,000,000 cycles
-abbrev pub Continues : Asked → List (List ℕ) → List (List ℕ) → Type 0
-Continues (save a) (game ∷ scripts) (file ∷ others) = a.cycles ≤ most_cycles → (others ≡ []) × GoesOnAsRun a game scripts file
-Continues _ _ _ = Unit {0}
+-- what was saved of a run is one file; words ask for at most 4,000,000,000 cycles
+pub record SavesOne (e : Edition) (s : Start) (keys : Option (List ℕ)) (limit : ℕ) (pieces : List (List ℕ)) : Type 0 where
+  pub file : List ℕ
+  pub written : pieces ≡ file ∷ []
+  pub goes_on : limit ≤ most_cycles → GoesOnAsRun e s keys limit file
+
+abbrev pub IsSaved : Edition → Start → Option (List ℕ) → ℕ → Show (List ℕ) → List (List ℕ) → Type 0
+IsSaved e s keys limit State pieces = SavesOne e s keys limit pieces
+IsSaved e s keys limit _ pieces = Unit {0}
+
+abbrev pub Continues : Loaded → List (List ℕ) → Type 0
+Continues (Run run) pieces = Begins run.start (λ e s. IsSaved e s run.keys run.limit run.show pieces)
+Continues _ pieces = Unit {0}

@@ -4,13 +4,17 @@ use Rattle.std.specs.FinMap.{get}
 use Rattle.vip_outside.specs.Files.{FileMap, FilesMeaning}
 use Rattle.vip_outside.specs.Sink.{SinkMeaning}
 use Rattle.vip_outside.specs.Pieces.{PutsAll, FailsWithin}
-use Rattle.vip_words.specs.Asked.{Asked, AskedLink, asked_by, certify, link}
+use Rattle.vip_words.specs.Asked.{asked_by}
+use Rattle.vip_words.specs.Request.{Asked}
+use Rattle.vip_words.specs.Rules.{Word}
+use Rattle.vip_words.specs.declared.request.Request.{Request}
+use Rattle.vip_words.specs.declared.request.Request.TheVariants.{Certify, Link}
 use Rattle.vip_tools.specs.declared.refusal.Kind.{Kind}
 use Rattle.vip_tools.specs.declared.refusal.Refusal.{Refusal}
 use Rattle.vip_tools.specs.declared.status.Status.{Status}
 use Rattle.vip_tools.specs.declared.status.Status.TheVariants.{Done, Stopped, Usage, ReadFault, GameTooLarge, ScriptTooLarge, BadScript, BadSource, BadRomSource, RomDiffers, WriteFault, NoMemory, BadCommand, SourceTooLarge, CommandsTooLarge, BadState, NoDispatch, BadCertificate, MessageTooLarge, BadProof, CertificateTooLarge, NoCertificate, RomTooLarge, RamTooLarge}
 use Rattle.vip_text.specs.declared.fault.StateFault.{StateFault}
-use Rattle.vip_tools.specs.Files.{Needed, needed, HasAll, HasFault, IsRight, ComesTo, IsFaulty, IsLarger, IsUnread, OnlyReads, ReadsSome, reads_of, with_reads}
+use Rattle.vip_tools.specs.Files.{Loaded, Needed, files_of, needed, shape_of, HasAll, HasFault, IsRight, ComesTo, IsFaulty, IsLarger, IsUnread, OnlyReads, ReadsSome, reads_of, with_reads}
 use Rattle.vip_call.specs.Certified.{Certifies}
 use Rattle.vip_call.specs.Linked.{BringsMessage}
 use Rattle.vip_call.specs.Language.{ShowsChip8}
@@ -59,7 +63,7 @@ pub record Wants (call : Call) : Type 0 where
 pub record Unread (call : Call) : Type 0 where
   pub asked : Asked
   pub words : asked_by call.words ≡ Some asked
-  pub at : ComesTo call.files call.files' (needed asked) (λ n answer. IsUnread call.files call.files' n answer × Refuses (cannot_read n.name) call)
+  pub at : ComesTo call.files call.files' (needed asked) (λ n answer. IsUnread call.files call.files' n answer × Refuses (cannot_read n.file) call)
 
 -- A file has more bytes than its kind may have. Those before it were read, each once, and none behind it.
 pub record Oversize (status : Status) (call : Call) : Type 0 where
@@ -77,55 +81,65 @@ pub record FaultyState (call : Call) : Type 0 where
       ComesTo call.files call.files' (needed asked)
       (λ n answer. IsFaulty fault call.files n answer × OnlyReads call.files call.files' × Refuses (bad_state fault) call)
 
--- the words ask for this, and these are the contents of the files that it names
-pub record Asks (call : Call) (asked : Asked) (contents : List (List ℕ)) : Type 0 where
+-- the contents of the files of a request that was loaded, in the order in which they are read
+abbrev pub contents_of : Loaded → List (List ℕ)
+contents_of loaded = files_of (needed loaded)
+
+-- what is asked for, with these contents in the places of the names
+pub record Fills (asked : Asked) (contents : List (List ℕ)) (loaded : Loaded) : Type 0 where
+  pub shape : shape_of asked ≡ shape_of loaded
+  pub files : contents_of loaded ≡ contents
+
+-- the words ask for this, and it is loaded: in the places of the names are the contents of the files
+pub record Asks (call : Call) (asked : Asked) (loaded : Loaded) : Type 0 where
   pub words : asked_by call.words ≡ Some asked
-  pub read : HasAll call.files (needed asked) contents
+  pub shape : shape_of asked ≡ shape_of loaded
+  pub read : HasAll call.files (needed asked) (contents_of loaded)
 
 -- All the files that the words name were read, in their order, each once and up to its end, and these are their contents; no other was, and no read
 -- was a fault.
-abbrev pub ReadsAll : Call → Asked → List (List ℕ) → Type 0
-ReadsAll call asked contents = call.files' ≡ with_reads (reads_of (needed asked) contents) call.files
+abbrev pub ReadsAll : Call → Asked → Loaded → Type 0
+ReadsAll call asked loaded = call.files' ≡ with_reads (reads_of (needed asked) (contents_of loaded)) call.files
 
 -- the contents are refused
 pub record Rejects (status : Status) (call : Call) : Type 0 where
   pub asked : Asked
-  pub contents : List (List ℕ)
-  pub asks : Asks call asked contents
-  pub files : ReadsAll call asked contents
+  pub loaded : Loaded
+  pub asks : Asks call asked loaded
+  pub files : ReadsAll call asked loaded
   pub report : List ℕ
-  pub comes : HasOutcome asked contents (Refused status report)
+  pub comes : HasOutcome loaded (Refused status report)
   pub refused : Refuses report call
 
 -- nothing was found for the contents
 pub record GivesUp (call : Call) : Type 0 where
   pub asked : Asked
-  pub contents : List (List ℕ)
-  pub asks : Asks call asked contents
-  pub files : ReadsAll call asked contents
+  pub loaded : Loaded
+  pub asks : Asks call asked loaded
+  pub files : ReadsAll call asked loaded
   pub report : List ℕ
-  pub comes : HasOutcome asked contents (GivenUp report)
+  pub comes : HasOutcome loaded (GivenUp report)
   pub refused : Refuses report call
 
 -- ---- output
 
--- what is known of pieces and a report, with the status of the end, for what was asked with these contents
+-- what is known of pieces and a report, with the status of the end, for a request that was loaded
 abbrev pub OutputLaw : Type 1
-OutputLaw = Asked → List (List ℕ) → List (List ℕ) → Status → List ℕ → Type 0
+OutputLaw = Loaded → List (List ℕ) → Status → List ℕ → Type 0
 
 -- exact output
 abbrev pub Exact : OutputLaw
-Exact asked contents pieces status report = HasOutcome asked contents (Shown pieces status report)
+Exact loaded pieces status report = HasOutcome loaded (Shown pieces status report)
 
 -- the output of which this is known went out whole, each piece by one put, and the report by one put too, or by none where there is none
 pub record Writes (Of : OutputLaw) (status : Status) (call : Call) : Type 0 where
   pub asked : Asked
-  pub contents : List (List ℕ)
-  pub asks : Asks call asked contents
-  pub files : ReadsAll call asked contents
+  pub loaded : Loaded
+  pub asks : Asks call asked loaded
+  pub files : ReadsAll call asked loaded
   pub pieces : List (List ℕ)
   pub report : List ℕ
-  pub comes : Of asked contents pieces status report
+  pub comes : Of loaded pieces status report
   pub out : PutsAll pieces call.out call.out'
   pub err : PutsAll (report_pieces report) call.err call.err'
 
@@ -145,13 +159,13 @@ pub record ErrFails (pieces : List (List ℕ)) (report : List ℕ) (call : Call)
 -- output of which this is known, and of which not all went out
 pub record WritesPart (Of : OutputLaw) (call : Call) : Type 0 where
   pub asked : Asked
-  pub contents : List (List ℕ)
-  pub asks : Asks call asked contents
-  pub files : ReadsAll call asked contents
+  pub loaded : Loaded
+  pub asks : Asks call asked loaded
+  pub files : ReadsAll call asked loaded
   pub pieces : List (List ℕ)
   pub status : Status
   pub report : List ℕ
-  pub comes : Of asked contents pieces status report
+  pub comes : Of loaded pieces status report
   pub fault : OutFails pieces call ⊎ ErrFails pieces report call
 
 abbrev pub Faulty : Call → Type 0
@@ -207,19 +221,19 @@ with_content content Faulted = Faulted
 with_content content (Whole contents) = Whole (content ∷ contents)
 
 -- a file of this content is too large, or has a fault, or is read, and then those behind it
-abbrev pub ReadsContent : Needed → List ℕ → (Reading → Type 0) → Reading → Type 0
+abbrev pub ReadsContent : Needed Word → List ℕ → (Reading → Type 0) → Reading → Type 0
 ReadsContent n content Behind reading =
     ((n.most < length content) × (reading ≡ Larger n.kind))
     ⊎ ((length content ≤ n.most) × (fault : StateFault) × HasFault fault n.kind content × (reading ≡ Faulted))
     ⊎ ((length content ≤ n.most) × IsRight n.kind content × (rest : Reading) × Behind rest × (reading ≡ with_content content rest))
 
-abbrev pub ReadsOne : Needed → Option (List ℕ) → (Reading → Type 0) → Reading → Type 0
+abbrev pub ReadsOne : Needed Word → Option (List ℕ) → (Reading → Type 0) → Reading → Type 0
 ReadsOne n None Behind reading = reading ≡ Lacks
 ReadsOne n (Some content) Behind reading = ReadsContent n content Behind reading
 
-abbrev pub Reads : FileMap → List Needed → Reading → Type 0
+abbrev pub Reads : FileMap → List (Needed Word) → Reading → Type 0
 Reads files [] reading = reading ≡ Whole []
-Reads files (n ∷ ns) reading = ReadsOne n (get files n.name) (Reads files ns) reading
+Reads files (n ∷ ns) reading = ReadsOne n (get files n.file) (Reads files ns) reading
 
 -- The status that is due to what is asked, by the files of a told map: that of the first refusal in the order of the files, their contents, the ROM
 -- and, where it is saved, the run; or, where no write is a fault, that of the end.
@@ -227,10 +241,10 @@ pub data Due (call : Call) (asked : Asked) : Reading → Status → Type 0 where
   Lacking : Due call asked Lacks ReadFault
   TooLarge : (kind : Kind) → Due call asked (Larger kind) (too_large_status kind)
   Faulting : Due call asked Faulted BadState
-  Refusing : (contents : List (List ℕ)) (status : Status) (report : List ℕ) → HasOutcome asked contents (Refused status report)
-      → Due call asked (Whole contents) status
-  Showing : (contents : List (List ℕ)) (pieces : List (List ℕ)) (status : Status) (report : List ℕ)
-      → HasOutcome asked contents (Shown pieces status report) → IsQuiet call.out.faults call.out'.faults → IsQuiet call.err.faults call.err'.faults
+  Refusing : (contents : List (List ℕ)) (loaded : Loaded) (status : Status) (report : List ℕ) → Fills asked contents loaded
+      → HasOutcome loaded (Refused status report) → Due call asked (Whole contents) status
+  Showing : (contents : List (List ℕ)) (loaded : Loaded) (pieces : List (List ℕ)) (status : Status) (report : List ℕ) → Fills asked contents loaded
+      → HasOutcome loaded (Shown pieces status report) → IsQuiet call.out.faults call.out'.faults → IsQuiet call.err.faults call.err'.faults
       → Due call asked (Whole contents) status
 
 -- words that are refused give Usage, or want of memory
@@ -244,8 +258,8 @@ pub record Offers (call : Call) (asked : Asked) (files : FileMap) : Type 0 where
   pub quiet : IsQuiet call.files.faults call.files'.faults
 
 -- a search is asked for, which may find nothing: what it then says is true of the game
-abbrev pub IsSearch : Asked → Type 0
-IsSearch (certify a) = Unit {0}
+abbrev pub IsSearch : {N : Type 0} → Request N → Type 0
+IsSearch (Certify game edition) = Unit {0}
 IsSearch _ = ⊥
 
 -- the answers that may come in place of a due one: want of memory, and that a search found nothing
@@ -270,7 +284,9 @@ IsOfRom _ = ⊥
 -- The contents of the files are refused: commands, a script, a source or a certificate have a fault, or the run that is to be saved has no dispatch
 -- point. That the ROM isn't what its source gives is no such case: each source gives its ROM.
 abbrev pub AreRefused : Asked → List (List ℕ) → Type 0
-AreRefused asked contents = (status : Status) × (report : List ℕ) × HasOutcome asked contents (Refused status report) × ¬ IsOfRom status
+AreRefused asked contents =
+    (loaded : Loaded) × Fills asked contents loaded × (status : Status) × (report : List ℕ) × HasOutcome loaded (Refused status report)
+    × ¬ IsOfRom status
 
 -- Where the files are there with their sizes, a saved state is accepted, their contents aren't refused and no fault is counted, the answer is Done or
 -- Stopped, or a free one.
@@ -291,10 +307,10 @@ Completes status call =
 -- and `Faulty` say that this output went out, whole or in part.
 abbrev pub SpeaksChip8 : Call → Type 0
 SpeaksChip8 call =
-    (asked : Asked) (contents pieces : List (List ℕ)) (status : Status) (report : List ℕ)
-    → Asks call asked contents
-    → HasOutcome asked contents (Shown pieces status report)
-    → ShowsChip8 asked contents status report
+    (asked : Asked) (loaded : Loaded) (pieces : List (List ℕ)) (status : Status) (report : List ℕ)
+    → Asks call asked loaded
+    → HasOutcome loaded (Shown pieces status report)
+    → ShowsChip8 loaded status report
 
 -- of what went out, whole or in part, this is known
 abbrev pub Tells : OutputLaw → Status → Call → Type 0
@@ -317,31 +333,31 @@ TellsTimed = Tells TranscribesInTime
 -- leaves within its limit; no run of the game stops.
 abbrev pub ProvesCertified : Call → Type 0
 ProvesCertified call =
-    (asked : Asked) (contents pieces : List (List ℕ)) (status : Status) (report : List ℕ)
-    → Asks call asked contents
-    → HasOutcome asked contents (Shown pieces status report)
-    → Certifies asked contents pieces
+    (asked : Asked) (loaded : Loaded) (pieces : List (List ℕ)) (status : Status) (report : List ℕ)
+    → Asks call asked loaded
+    → HasOutcome loaded (Shown pieces status report)
+    → Certifies loaded pieces
 
 -- ---- what a state says that was saved
 
--- Where the words and the contents come to the file of a saved state, it shows the board's state at the run's last dispatch point, and whoever resumes it
--- goes on with the run: under the same script, up to every later limit, it is the rest of the trace.
+-- Where the words and the contents come to the file of a saved state, it shows the board's state at the run's last dispatch point, and whoever begins there
+-- goes on with the run, under the same keys before that point, up to every later limit, and however it is shown.
 abbrev pub ContinuesSaved : Call → Type 0
 ContinuesSaved call =
-    (asked : Asked) (contents pieces : List (List ℕ)) (status : Status) (report : List ℕ)
-    → Asks call asked contents
-    → HasOutcome asked contents (Shown pieces status report)
-    → Continues asked contents pieces
+    (asked : Asked) (loaded : Loaded) (pieces : List (List ℕ)) (status : Status) (report : List ℕ)
+    → Asks call asked loaded
+    → HasOutcome loaded (Shown pieces status report)
+    → Continues loaded pieces
 
 -- ---- what the output says of two boards that are joined
 
 -- Where `link` comes to the output of two boards, what arrived is the beginning of the message, and all of it after enough moves.
 abbrev pub BringsMessages : Call → Type 0
 BringsMessages call =
-    (a : AskedLink) (message : List ℕ) (pieces : List (List ℕ)) (status : Status) (report : List ℕ)
-    → Asks call (link a) (message ∷ [])
-    → HasOutcome (link a) (message ∷ []) (Shown pieces status report)
-    → BringsMessage a message pieces report
+    (asked : Asked) (message : List ℕ) (moves number : ℕ) (pieces : List (List ℕ)) (status : Status) (report : List ℕ)
+    → Asks call asked (Link message moves number)
+    → HasOutcome (Link message moves number) (Shown pieces status report)
+    → BringsMessage message moves number pieces report
 
 -- ---- the program
 

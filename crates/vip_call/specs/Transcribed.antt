@@ -1,5 +1,5 @@
 -- What a verb writes of a game's run, and how it reports its end, by the transcript.
-use Rattle.std.specs.Prelude.{◌≡◌, ℕ, ◌+◌, ◌-◌, ◌*◌, ◌/◌, ◌==◌, drop, min, slice_index, slice_range, List, [], ◌∷◌, map, Result, Ok, Err}
+use Rattle.std.specs.Prelude.{◌≡◌, ℕ, ◌+◌, ◌-◌, ◌*◌, ◌/◌, ◌==◌, ◌≤◌, drop, max, min, slice_index, slice_range, List, [], ◌∷◌, ◌++◌, Option, Some, Result, Ok, Err}
 use Rattle.std.specs.Int.{w64, from_be_bytes}
 use Rattle.machine.specs.Keys.{Event}
 use Rattle.machine.specs.Pictures.{windows_ended}
@@ -12,18 +12,24 @@ use Rattle.vip_text.specs.Endings.{Ending}
 use Rattle.vip_text.specs.StateFile.{bytes_at, edition_byte}
 use Rattle.vip_relation.specs.State.{Start}
 use Rattle.vip_relation.specs.State.Start.{Reset, Saved}
-use Rattle.vip_words.specs.Asked.{Asked, trace, play, debug, demo, resume}
 use Rattle.vip_words.specs.DebugGrammar.{commands_of}
 use Rattle.vip_words.specs.declared.debug_commands.Command.{Command}
 use Rattle.vip_words.specs.declared.debug_commands.CommandFault.{CommandFault}
 use Rattle.vip_words.specs.declared.debug_commands.Speaks.TheVariants.{Chip8}
+use Rattle.vip_words.specs.declared.request.Request.TheVariants.{Run}
+use Rattle.vip_words.specs.declared.request.Show.{Show}
+use Rattle.vip_words.specs.declared.request.Show.TheVariants.{Commands, Pictures, State, Summary, Trace}
+use Rattle.vip_words.specs.Request.{most_cycles}
+use Rattle.vip_words.specs.declared.request.Start as asked
+use Rattle.vip_words.specs.declared.request.Start.TheVariants as beginning
 use Rattle.vip_tools.specs.Report.{end_report}
 use Rattle.vip_tools.specs.Status.{end_status}
 use Rattle.vip_tools.specs.declared.status.Status.{Status}
 use Rattle.vip_tools.specs.Demo.{demo_game}
+use Rattle.vip_tools.specs.Files.{Loaded}
 use Rattle.vip_tools.specs.Outcome.{script_in}
 use Rattle.vip_call.specs.Commands.{AllAnswered}
-use Rattle.vip_call.specs.Transcript.{ArePictures, Begins, GoesOn, Point, Shows, ShowsPictures, line, summary_text, trace_text}
+use Rattle.vip_call.specs.Transcript.{ArePictures, Begins, GoesOn, Point, Shows, ShowsPictures, last_point, summary_text, trace_text}
 
 -- ---- runs, from a game or from a file
 
@@ -80,63 +86,85 @@ in_time =
       pictures = λ e start script limit. ShowsPictures e (shown_from e start script limit);
     }
 
+-- The point of the start, which counts as met, and the cycle in which the run begins: of a file its own, and from reset none, and cycle 0.
+abbrev pub first_points : Edition → Start → List Point
+first_points e (Reset game) = []
+first_points e (Saved f) = file_point e f ∷ []
+
+abbrev pub first_cycle : Edition → Start → ℕ
+first_cycle e (Reset game) = 0
+first_cycle e (Saved f) = (file_point e f).cycle
+
+-- ---- what is written
+
+-- one file of a state of the edition, which shows this point
+pub record IsStateOf (e : Edition) (point : Option Point) (pieces : List (List ℕ)) : Type 0 where
+  pub file : List ℕ
+  pub written : pieces ≡ file ∷ []
+  pub named : slice_index file 5 ≡ edition_byte e
+  pub shows : point ≡ Some (file_point e file)
+
+module _ (e : Edition) (s : Start) (points : List Point) where
+  -- with that of the start
+  abbrev pub all_points : List Point
+  all_points = first_points e s ++ points
+
+  -- The commands of the debugger, where they have no fault. Where the limit is before the start, it stands there.
+  abbrev pub Debugged : ℕ → Ending → ℕ → Ending → Result (List Command) CommandFault → List (List ℕ) → Type 0
+  Debugged limit ending over reported (Ok commands) pieces =
+      AllAnswered e (max limit (first_cycle e s)) all_points ending over reported commands (first_cycle e s) pieces
+  Debugged limit ending over reported (Err fault) pieces = ⊥
+
+  -- A run up to a limit, which has these points behind its start and is over so in cycle `over`, is shown so: these pieces are written, and this end is
+  -- reported.
+  abbrev pub IsShown : ℕ → (List (List ℕ) → Type 0) → Ending → ℕ → Ending → Show (List ℕ) → List (List ℕ) → Type 0
+  IsShown limit InTime ending over reported (Trace with_time with_screen) pieces =
+      (pieces ≡ trace_text e with_time with_screen points (last_point all_points)) × (reported ≡ ending)
+  IsShown limit InTime ending over reported Pictures pieces =
+      ArePictures e all_points (windows_ended (first_cycle e s)) (windows_ended over) pieces × InTime pieces × (reported ≡ ending)
+  IsShown limit InTime ending over reported (Commands text) pieces = Debugged limit ending over reported (commands_of Chip8 limit text) pieces
+  IsShown limit InTime ending over reported State pieces = (limit ≤ most_cycles → IsStateOf e (last_point all_points) pieces) × (reported ≡ ending)
+  IsShown limit InTime ending over reported (Summary number) pieces =
+      (pieces ≡ summary_text e number (windows_ended over - windows_ended (first_cycle e s)) points (last_point all_points)) × (reported ≡ ending)
+
 -- ---- a command
 
--- A run under one of these key scripts up to a limit has a transcript, which is over in cycle `over`. Of it this is written, and such an end is reported,
--- with its status.
-pub record Transcribed (Run : List Event → List Point → Ending → ℕ → Type 0) (scripts : List (List ℕ)) (limit : ℕ)
-    (Written : List Event → List Point → Ending → ℕ → Ending → Type 0) (status : Status) (report : List ℕ) : Type 0 where
+-- A run from a start under the keys of a script up to a limit has a transcript by this law, which is over in cycle `over`. It is shown so, and this status
+-- and this report are those of the end that is reported.
+pub record Transcribed (law : RunLaw) (e : Edition) (s : Start) (keys : Option (List ℕ)) (limit : ℕ) (show : Show (List ℕ)) (pieces : List (List ℕ))
+    (status : Status) (report : List ℕ) : Type 0 where
   pub script : List Event
-  pub reads : script_in scripts ≡ Ok script
+  pub reads : script_in keys ≡ Ok script
   pub points : List Point
   pub ending : Ending
   pub over : ℕ
-  pub transcript : Run script points ending over
+  pub transcript : law.transcript e s script limit points ending over
   pub reported : Ending
-  pub written : Written script points ending over reported
+  pub shown : IsShown e s points limit (law.pictures e s script limit) ending over reported show pieces
   pub status_is : status ≡ end_status reported
   pub report_is : report ≡ end_report limit reported
 
--- what the debugger's commands write of a game's run, where they have no fault, and which end they report
-abbrev pub Debugged : Edition → ℕ → List Point → Ending → ℕ → Ending → Result (List Command) CommandFault → List (List ℕ) → Type 0
-Debugged e limit points ending over reported (Ok commands) pieces = AllAnswered e limit points ending over reported commands 0 pieces
-Debugged e limit points ending over reported (Err fault) pieces = ⊥
-
--- byte 5 of a file names its edition, and this is written of the run that goes on from it
-pub record FromFile (f : List ℕ) (Here : Edition → Status → List ℕ → Type 0) (status : Status) (report : List ℕ) : Type 0 where
+-- byte 5 of a file names its edition, of which this holds
+pub record FromFile (f : List ℕ) (Here : Edition → Type 0) : Type 0 where
   pub edition : Edition
   pub named : slice_index f 5 ≡ edition_byte edition
-  pub here : Here edition status report
+  pub here : Here edition
 
--- what a verb with these contents of its files writes and reports, where it runs a game, by a law of runs
-module _ (law : RunLaw) where
-  abbrev pub TranscribesBy : Asked → List (List ℕ) → List (List ℕ) → Status → List ℕ → Type 0
-  TranscribesBy (trace a) (game ∷ scripts) pieces =
-      let e = a.run.edition in
-      Transcribed (λ script. law.transcript e (Reset game) script a.run.cycles) scripts a.run.cycles
-      (λ script points ending over reported. (pieces ≡ trace_text e points a.with_time a.with_screen) × (reported ≡ ending))
-  TranscribesBy (play a) (game ∷ scripts) pieces =
-      let e = a.edition in
-      Transcribed (λ script. law.transcript e (Reset game) script a.cycles) scripts a.cycles
-      (λ script points ending over reported.
-      ArePictures e points (windows_ended over) pieces × law.pictures e (Reset game) script a.cycles pieces × (reported ≡ ending))
-  TranscribesBy (debug a) (game ∷ commands ∷ scripts) pieces =
-      let e = a.run.edition in
-      Transcribed (λ script. law.transcript e (Reset game) script a.run.cycles) scripts a.run.cycles
-      (λ script points ending over reported. Debugged e a.run.cycles points ending over reported (commands_of Chip8 a.run.cycles commands) pieces)
-  TranscribesBy (resume a) (file ∷ scripts) pieces =
-      FromFile file
-      (λ e.
-      Transcribed (λ script. law.transcript e (Saved file) script a.cycles) scripts a.cycles
-      (λ script points ending over reported. (pieces ≡ map (line e a.with_time) points) × (reported ≡ ending)))
-  TranscribesBy (demo a) _ pieces =
-      Transcribed (λ script. law.transcript Usual (Reset (demo_game a.number)) script a.cycles) [] a.cycles
-      (λ script points ending over reported. (pieces ≡ summary_text Usual points a.number (windows_ended over)) × (reported ≡ ending))
-  TranscribesBy _ _ pieces = λ status report. Unit {0}
+-- of the edition and the start of a run this holds
+abbrev pub From : asked.Start (List ℕ) → (Edition → Start → Type 0) → Type 0
+From (beginning.Game game edition) Here = Here edition (Reset game)
+From (beginning.State file) Here = FromFile file (λ e. Here e (Saved file))
+From (beginning.Demo number) Here = Here Usual (Reset (demo_game number))
+
+-- what a request writes and reports, where it runs a game, by a law of runs
+abbrev pub TranscribesBy : RunLaw → Loaded → List (List ℕ) → Status → List ℕ → Type 0
+TranscribesBy law (Run run) pieces status report =
+    From run.start (λ e s. Transcribed law e s run.keys run.limit run.show pieces status report)
+TranscribesBy law _ pieces status report = Unit {0}
 
 -- that of a run of the language, and that of the run in its time
-abbrev pub Transcribes : Asked → List (List ℕ) → List (List ℕ) → Status → List ℕ → Type 0
+abbrev pub Transcribes : Loaded → List (List ℕ) → Status → List ℕ → Type 0
 Transcribes = TranscribesBy of_language
 
-abbrev pub TranscribesInTime : Asked → List (List ℕ) → List (List ℕ) → Status → List ℕ → Type 0
+abbrev pub TranscribesInTime : Loaded → List (List ℕ) → Status → List ℕ → Type 0
 TranscribesInTime = TranscribesBy in_time

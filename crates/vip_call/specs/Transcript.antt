@@ -1,5 +1,5 @@
 -- What is written of a game's run, as a transcript of CHIP-8: points of the language under a key script, and their texts. No machine is spoken of.
-use Rattle.std.specs.Prelude.{◌≡◌, ℕ, ◌+◌, ◌<◌, ◌≤◌, nat_lt, Bool, if◌then◌else◌, List, [], ◌∷◌, ◌++◌, length, map, filter, slice_get, Option, Some, None, codes}
+use Rattle.std.specs.Prelude.{◌≡◌, ℕ, ◌+◌, ◌-◌, ◌<◌, ◌≤◌, nat_lt, Bool, if◌then◌else◌, List, [], ◌∷◌, ◌++◌, length, map, filter, slice_get, Option, Some, None, codes}
 use Rattle.std.specs.List.{last_or, range_with_len}
 use Rattle.machine.specs.Keys.{Event}
 use Rattle.machine.specs.Pictures.{window_end}
@@ -100,10 +100,21 @@ module _ (e : Edition) where
     pub shows : ShowsScreen e picture pixels
     pub is : file ≡ picture_file picture
 
-  -- `trace`: the lines of the points, and then the screen at the last one, if there is one
   abbrev pub last_screen : Option Point → List (List ℕ)
   last_screen None = []
   last_screen (Some p) = screen p ∷ []
+
+  abbrev pub lit : Option Point → ℕ
+  lit None = 0
+  lit (Some p) = lit_in_rows p.state.screen (range_with_len 0 (rows_of e))
+
+  -- `trace`: the lines of the points, and then the screen at the last one, if there is one
+  abbrev pub trace_text : Bool → Bool → List Point → Option Point → List (List ℕ)
+  trace_text with_time with_screen points last = map (line with_time) points ++ (if with_screen then last_screen last else [])
+
+  -- `demo`: the counts of points and of n pictures, and the lit pixels at the last point
+  abbrev pub summary_text : ℕ → ℕ → List Point → Option Point → List (List ℕ)
+  summary_text number n points last = summary_line number (length points) n (lit last) ∷ []
 
   -- `play` in the language's time: the pictures that a run shows, in order
   abbrev pub ShowsPictures : List Shown → List (List ℕ) → Type 0
@@ -114,26 +125,15 @@ module _ (e : Edition) where
   ShowsPictures _ _ = ⊥
 
 module _ (e : Edition) (points : List Point) where
-  abbrev pub trace_text : Bool → Bool → List (List ℕ)
-  trace_text with_time with_screen = map (line e with_time) points ++ (if with_screen then last_screen e (last_point points) else [])
-
-  -- `play`: the pictures of the first n frames, each of the screen at the last point before its window's end
+  -- `play`: the pictures of the frames from k up to, and without, n, each of the screen at the last point before its window's end
   pub record IsPicture (m : ℕ) (file : List ℕ) : Type 0 where
     pub point : Point
     pub before : point_before (window_end m) points ≡ Some point
     pub shows : IsPictureOf e point.state.screen file
 
-  pub record ArePictures (n : ℕ) (files : List (List ℕ)) : Type 0 where
-    pub count : length files ≡ n
-    pub each : (m : ℕ) (file : List ℕ) → slice_get files m ≡ Some file → IsPicture m file
-
-  -- `demo`: the counts of points and pictures, and the lit pixels at the last point
-  abbrev pub lit : Option Point → ℕ
-  lit None = 0
-  lit (Some p) = lit_in_rows p.state.screen (range_with_len 0 (rows_of e))
-
-  abbrev pub summary_text : ℕ → ℕ → List (List ℕ)
-  summary_text number n = summary_line number (length points) n (lit (last_point points)) ∷ []
+  pub record ArePictures (k n : ℕ) (files : List (List ℕ)) : Type 0 where
+    pub count : length files ≡ n - k
+    pub each : (j : ℕ) (file : List ℕ) → slice_get files j ≡ Some file → IsPicture (k + j) file
 
 -- the end of a run, as the debugger's commands name it
 abbrev pub end_line : Ending → List ℕ

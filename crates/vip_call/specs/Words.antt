@@ -1,10 +1,12 @@
 -- What is answered from the words on.
 use Rattle.std.specs.Prelude.{◌≡◌, ◌⊎◌, ℕ, List, Some, None, Result, Ok, Err}
+use Rattle.std.specs.Borrow.{Bor}
 use Rattle.vip_outside.specs.Files.{FilesMeaning}
 use Rattle.vip_outside.specs.Sink.{SinkMeaning}
 use Rattle.vip_outside.specs.Pieces.{PutsAll, FailsWithin}
-use Rattle.vip_words.specs.Asked.{Asked, asked_by}
-use Rattle.vip_words.specs.Request.{asked_of}
+use Rattle.vip_words.specs.Asked.{asked_by}
+use Rattle.vip_words.specs.Request.{Asked, asked_of}
+use Rattle.vip_words.specs.Rules.{Word}
 use Rattle.vip_words.specs.declared.request.Request.{Request}
 use Rattle.vip_tools.specs.declared.ended.Ended.{Ended}
 use Rattle.vip_tools.specs.declared.fault.PerformFault.{PerformFault}
@@ -23,7 +25,7 @@ use Rattle.vip_verbs.specs.Prepared.{OpenAnswers, outcome_of}
 use Rattle.vip_verbs.specs.declared.prepared.Prepared.{Prepared}
 
 -- what is understood
-abbrev pub UnderstoodAnswers : List (List ℕ) → Result Request Refusal → Type 0
+abbrev pub UnderstoodAnswers : List (List ℕ) → Result (Request (Bor Word)) Refusal → Type 0
 UnderstoodAnswers words (Ok request) = asked_by words ≡ Some (asked_of request)
 UnderstoodAnswers words (Err Usage) = asked_by words ≡ None
 UnderstoodAnswers words (Err NoMemory) = Unit {0}

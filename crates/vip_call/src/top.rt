@@ -1,8 +1,7 @@
 //! The one call that the program makes.
 
 ghost use Rattle.std.specs.Prelude.{◌≡◌, IfOk, map, string_bytes};
-ghost use Rattle.vip_words.specs.Asked.{InRange};
-ghost use Rattle.vip_words.specs.Request.{asked_of};
+ghost use Rattle.vip_words.specs.Request.{asked_of, InRange};
 ghost use Rattle.vip_verbs.specs.Prepared.{IsReady, outcome_of};
 ghost use Rattle.vip_call.specs.Words.{Finishes, OpensWords, PerformsAnswer, UnderstoodAnswers, performed_status};
 ghost use Rattle.vip_call.specs.Top.{call_of, EveryCall, Promises};
@@ -11,8 +10,9 @@ use chip8_source::laws::source_gives_rom;
 use cycle_check::laws::accepted_leaves;
 use game_check::laws::certified_games;
 use rom_board::language::{every_frame, every_run, every_start, every_time, file_may_start};
-use rom_board::saved::saved_goes_on;
+use rom_board::saved::saved_joins;
 use std::alloc::Global;
+use vip_debug::laws::goes_on_behind;
 use vip_link::laws::{every_schedule, sources_give_roms};
 use vip_outside::{Files, Sink};
 use vip_tools::{Ended, PerformFault, Refusal, Status, put_end, put_fault, put_refusal};
@@ -20,7 +20,7 @@ use vip_verbs::Prepared;
 use vip_words::{Request, WordsFail, read_words};
 
 /// What the words ask for.
-fn read_request<'a>(alloc: Global, words: &'a [String]) -> Result<Request<'a>, Refusal<'a>>
+fn read_request<'a>(alloc: Global, words: &'a [String]) -> Result<Request<&'a str>, Refusal<'a>>
     ensures words { UnderstoodAnswers (map string_bytes words.entry.now) result }
     ensures range { IfOk result (λ request. InRange (asked_of request)) }
 {
@@ -41,7 +41,7 @@ pub fn open<'a, F: Files>(
     ensures { OpensWords (map string_bytes words.entry.now) (F.meaning files.old) (F.meaning files.new) result }
 {
     let request = read_request(alloc, words)?;
-    vip_verbs::open(alloc, &request, files)
+    vip_verbs::open(alloc, request, files)
 }
 
 /// Performs what was opened: its output goes to `out`, each piece by one put, and then one line of report to `err` by one put. A run that is to be saved
@@ -95,7 +95,8 @@ pub fn every_call()
     every_time();
     every_frame();
     file_may_start();
-    saved_goes_on();
+    saved_joins();
+    goes_on_behind();
     accepted_leaves();
     certified_games();
     every_schedule();

@@ -10,3 +10,5 @@ pub mod TargetMoving
 pub mod Lines
 pub mod Disassembling
 pub mod TargetFolding
+pub mod SameKeys
+pub mod Behind

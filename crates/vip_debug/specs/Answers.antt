@@ -10,7 +10,7 @@ use Rattle.vip_byte.specs.Text.{newline}
 use Rattle.vip_text.specs.Traces.{trace_line}
 use Rattle.vip_outside.specs.Sink.{SinkMeaning}
 use Rattle.vip_outside.specs.Pieces.{PutsAll, FailsWithin}
-use Rattle.vip_relation.specs.State.{VipState, interpreter, events_to, begun as begun_from, state_after}
+use Rattle.vip_relation.specs.State.{VipState, first_events, interpreter, events_to, begun as begun_from, state_after}
 use Rattle.vip_relation.specs.Follows.{dispatch_of, last_view, last_screen}
 use Rattle.vip_relation.specs.Meets.{IsSame}
 use Rattle.vip_relation.specs.Stops.{stop_record}
@@ -52,9 +52,9 @@ pub record Place : Type 0 where
 abbrev pub place_of : VipState → Place
 place_of v = record { moves = v.moves; met = v.met }
 
--- before the first move
-abbrev pub at_start : Place
-at_start = record { moves = 0; met = 0 }
+-- before the first move: of a run from a file its own dispatch point counts as met
+abbrev pub at_start : VipState → Place
+at_start v = record { moves = 0; met = length (first_events v.start) }
 
 -- after so many moves, with every event up to there met
 abbrev pub all_met : VipState → ℕ → Place

@@ -11,3 +11,4 @@ pub mod Commands
 pub mod Answered
 pub mod BoardParts
 pub mod Fold
+pub mod Behind

@@ -134,7 +134,8 @@ fn run_command<O: Sink>(
 
 /// Runs commands of a machine that runs a game, and puts their answers, each line as one piece, and a screen as one.
 ///
-/// No move ends after the limit, nor after the present cycle where that is later. Nothing is met before the first command. A command that
+/// No move ends after the limit, nor after the present cycle where that is later. Before the first command nothing is met but a file's own
+/// dispatch point. A command that
 /// makes a move meets every event up to its new cycle; `next` and `break` look for a dispatch point that isn't met yet, which may wait at the
 /// present state, and meet every event up to where they come. A command that can't be completed because of the limit leaves the board after
 /// the last move up to it and writes `end`. One that comes to a stop point, or begins at one, stays there and writes the stop.

@@ -1,12 +1,12 @@
 -- What a run tells of the last dispatch point met, after a call: what it told before, unless it came to one.
-use Rattle.std.proofs.Common.{◌≡◌, ◌⊎◌, inl, inr, ℕ, Bool, true, false, List, [], ◌∷◌, Option, Some, None, length, replicate, refl, sym, ap, ◌∙◌, subst}
-use Rattle.std.specs.Option.{option_map, option_map_or}
-use Rattle.machine.specs.Board.{Machine}
+use Rattle.std.proofs.Common.{◌≡◌, ◌⊎◌, inl, inr, ℕ, Bool, true, false, List, [], ◌∷◌, Some, None, length, replicate, refl, sym, ap, ◌∙◌, subst}
+use Rattle.std.specs.Option.{option_map}
 use Rattle.chip8_lang.specs.Events.{Event, is_stop}
 use Rattle.chip8_lang.specs.Events.Event.{Picture, Dispatch, Stopped}
-use Rattle.chip8_lang.specs.View.{seen, view_at}
-use Rattle.vip_relation.specs.State.{VipState, interpreter, events_left, events_met, events_waiting, screen_size, screen_bytes}
-use Rattle.vip_relation.specs.Follows.{Follows, last_dispatch}
+use Rattle.chip8_lang.specs.View.{View, seen, view_at}
+use Rattle.vip_relation.specs.State.{Start, VipState, begun, first_screen, first_view, interpreter, machine_of, events_left, events_waiting, screen_size, screen_bytes}
+use Rattle.vip_relation.specs.State.Start.{Reset, Saved}
+use Rattle.vip_relation.specs.Follows.{Follows}
 use Rattle.vip_relation.specs.Meets.{IsSame, TellsSame, MeetsNext, HasStopped, StopsAgain}
 use Rattle.vip_board.specs.Moves.{IfDone}
 use Rattle.vip_board.specs.declared.board.Moved.{Moved}
@@ -122,11 +122,30 @@ tells-moved a t w (Done name) follows rests made =
       told = record { last = ap (λ (v : VipState). v.last) made.state; shown = ap (λ (v : VipState). v.shown) made.state };
     })
 
--- before the first dispatch point the screen is dark
-pub dark-told : (v : VipState) → Follows v → v.last ≡ None → v.shown ≡ replicate (screen_size v.edition) 0
-dark-told v f none = f.shown ∙ by_point (last_dispatch (events_met v)) (sym f.last ∙ none)
+-- ---- a run as it begins
+
+-- with a game nothing is told, and of a file its own dispatch point
+pub begins-dark : (v : VipState) → v ≡ begun v.edition v.start v.board.script → option_map (λ (view : View). view.pc) v.last ≡ None
+    → (v.last ≡ None) × (v.shown ≡ replicate (screen_size v.edition) 0)
+begins-dark v begins none =
+    let first = by_start v.start (ap (λ (w : VipState). option_map (λ (view : View). view.pc) w.last) (sym begins) ∙ none) in
+    (ap (λ (w : VipState). w.last) begins ∙ first.0, ap (λ (w : VipState). w.shown) begins ∙ first.1)
   where
-    by_point : (point : Option Machine) → option_map (view_at v.edition) point ≡ None
-        → option_map_or (screen_bytes v.edition) point (replicate (screen_size v.edition) 0) ≡ replicate (screen_size v.edition) 0
-    by_point None is = refl
-    by_point (Some b) is = cc
+    by_start : (s : Start) → option_map (λ (view : View). view.pc) (first_view v.edition s) ≡ None
+        → (first_view v.edition s ≡ None) × (first_screen v.edition s ≡ replicate (screen_size v.edition) 0)
+    by_start (Reset game) is = (refl, refl)
+    by_start (Saved file) is = cc
+
+pub begins-told : (v : VipState) → v ≡ begun v.edition v.start v.board.script → (pc : ℕ) → option_map (λ (view : View). view.pc) v.last ≡ Some pc
+    → (v.last ≡ Some (view_at v.edition v.board.machine)) × (v.shown ≡ screen_bytes v.edition v.board.machine)
+begins-told v begins pc some =
+    let first = by_start v.start (ap (λ (w : VipState). option_map (λ (view : View). view.pc) w.last) (sym begins) ∙ some) in
+    let machine = ap (λ (w : VipState). w.board.machine) begins in (
+      ap (λ (w : VipState). w.last) begins ∙ first.0 ∙ ap (λ b. Some (view_at v.edition b)) (sym machine),
+      ap (λ (w : VipState). w.shown) begins ∙ first.1 ∙ ap (screen_bytes v.edition) (sym machine),
+    )
+  where
+    by_start : (s : Start) → option_map (λ (view : View). view.pc) (first_view v.edition s) ≡ Some pc
+        → (first_view v.edition s ≡ Some (view_at v.edition (machine_of s))) × (first_screen v.edition s ≡ screen_bytes v.edition (machine_of s))
+    by_start (Reset game) is = cc
+    by_start (Saved file) is = (refl, refl)

@@ -38,7 +38,7 @@ impl Model for Vip {
 impl Vip {
     ghost use Rattle.chip8_lang.specs.Events.{is_stop};
     ghost use Rattle.vip_board.specs.Moves.{IfDone};
-    ghost use Rattle.vip_relation.specs.State.{most_cycles, interpreter, events_left};
+    ghost use Rattle.vip_relation.specs.State.{begun, most_cycles, interpreter, events_left};
     ghost use Rattle.vip_relation.specs.Stops.{stop_record};
     ghost use Rattle.vip_relation.specs.Follows.{Follows};
     ghost use Rattle.vip_relation.specs.Meets.{StartAnswers, MeetsNext, HasStopped, StopsAgain, Rests, MovesOn};
@@ -68,17 +68,18 @@ impl Vip {
         Ok(Vip::of(Run::start_as(alloc, edition, game, script)?))
     }
 
-    /// A run that has met no dispatch point yet, kept from here on.
+    /// A run that begins, with a game or from a file, kept from here on. A file's own dispatch point counts as met, so it is told of.
     pub fn of(run: Run) -> Vip
-        requires { run.last ≡ None }
+        requires { run ≡ begun run.edition run.start run.board.script }
         ensures { result ≡ run }
     {
-        let shown = dark(run.edition());
-        Vip {
-            run,
-            last: None,
-            shown,
+        let mut last = None;
+        let mut shown = dark(run.edition());
+        match run.last_pc() {
+            Some(_) => keep(&run, &mut last, &mut shown),
+            None => {}
         }
+        Vip { run, last, shown }
     }
 
     /// The run alone, without what is kept of its dispatch points.

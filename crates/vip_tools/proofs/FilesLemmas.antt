@@ -1,197 +1,254 @@
 -- Files read one after another.
-use Rattle.std.proofs.Common.{◌≡◌, ◌⊎◌, inl, inr, append_assoc, ℕ, zero, suc, ◌+◌, ◌<◌, ◌≤◌, List, [], ◌∷◌, ◌++◌, length, map, take, drop, get_or, refl, ap, subst, add-one, arith, Option, Some, None, IfSome, IsSomeAnd, Err, Vec, Bool, true, false, slice_index, take_all, sym, ◌∙◌}
-use Rattle.std.specs.Prelude.{if◌then◌else◌}
-use Rattle.std.proofs.Math.Seq.{take-suc}
+use Rattle.std.proofs.Common.{Global, ◌≡◌, inl, inr, append_assoc, append-nil, ℕ, ◌+◌, ◌<◌, ◌≤◌, List, [], ◌∷◌, ◌++◌, length, map, take, drop, refl, ap, subst, Option, Some, None, IfSome, IsSomeAnd, Err, Ok, Vec, false, true, slice_index, take_all, sym, ◌∙◌}
+use Rattle.std.proofs.Math.Seq.{take-append_seam}
 use Rattle.std.proofs.lemmas.Bool.{ltb-false, ltb-true}
-use Rattle.std.proofs.lemmas.List.{take-map, map-append}
+use Rattle.std.proofs.lemmas.List.{map-append, take-append-drop}
 use Rattle.std.specs.FinMap.{get}
 use Rattle.vip_outside.specs.Files.{Answer, FileMap, FilesMeaning, Gives, IsStartOf, Read, ReadsStart, and_read, and_reads, with_read}
 use Rattle.vip_outside.specs.Files.Answer.{Whole, Start, Lacked, Faulted}
 use Rattle.vip_outside.specs.declared.files.Loaded.{Loaded}
-use Rattle.vip_tools.specs.declared.files.Wanted.{Wanted}
+use Rattle.vip_words.specs.Rules.{Word}
 use Rattle.vip_tools.specs.declared.refusal.Refusal.{Refusal}
 use Rattle.vip_tools.specs.declared.refusal.Refusal.TheVariants.{Usage, Unread, TooLarge, Script, Command, Source, State, Rom, Certificate, Proof, NoCertificate, NoMemory}
-use Rattle.vip_text.specs.declared.fault.StateFault.{StateFault}
 use Rattle.vip_tools.specs.declared.refusal.Kind.{Kind}
-use Rattle.vip_tools.specs.Files.{Needed, Has, HasAll, HasThat, AreRight, FitAll, ComesTo, FileAnswers, FilesAnswer, IsFaulty, IsLarger, IsUnread, OnlyReads, ReadsSome, names_of, reads_of, seen_wanted, with_reads}
+use Rattle.vip_tools.specs.Files.{Needed, HasAll, HasThat, AreFit, ComesTo, FileAnswers, FilesRefused, IsLarger, IsUnread, Loads, OnlyReads, ReadsSome, files_of, reads_of, with_reads}
 
-has-suc :
-    (old : FilesMeaning) (ws : List Wanted) (k : ℕ) (d : Wanted) (cs : List (List ℕ)) (c : List ℕ) → k < length ws
-    → HasAll old (map seen_wanted (take k ws)) cs → Has old (seen_wanted (get_or ws k d)) c
-    → HasAll old (map seen_wanted (take (suc k) ws)) (cs ++ c ∷ [])
-has-suc old [] k d cs c low had here = absurd (omega (arith, low))
-has-suc old (w ∷ ws) zero d [] c low had here = (here, tt)
-has-suc old (w ∷ ws) zero d (y ∷ cs) c low had here = absurd had
-has-suc old (w ∷ ws) (suc k) d [] c low had here = absurd had
-has-suc old (w ∷ ws) (suc k) d (y ∷ cs) c low had here = (had.0, has-suc old ws k d cs c (omega (arith, low)) had.1 here)
+-- ---- the contents of some files and of others
+
+has-append : (old : FilesMeaning) (ms ns : List (Needed Word)) (cs ds : List (List ℕ)) → HasAll old ms cs → HasAll old ns ds
+    → HasAll old (ms ++ ns) (cs ++ ds)
+has-append old [] ns [] ds h k = k
+has-append old [] ns (c ∷ cs) ds h k = absurd h
+has-append old (m ∷ ms) ns [] ds h k = absurd h
+has-append old (m ∷ ms) ns (c ∷ cs) ds h k = (h.0, has-append old ms ns cs ds h.1 k)
+
+fit-append : (xs ys : List (Needed (List ℕ))) → AreFit xs → AreFit ys → AreFit (xs ++ ys)
+fit-append [] ys h k = k
+fit-append (x ∷ xs) ys h k = (h.0, fit-append xs ys h.1 k)
 
 -- ---- reads
 
-pub reads_once : (a b : List Read) (known : Option (List Read)) → and_reads b (and_reads a known) ≡ and_reads (a ++ b) known
+reads-append : (old : FilesMeaning) (ms ns : List (Needed Word)) (cs ds : List (List ℕ)) → HasAll old ms cs
+    → reads_of (ms ++ ns) (cs ++ ds) ≡ reads_of ms cs ++ reads_of ns ds
+reads-append old [] ns [] ds h = refl
+reads-append old [] ns (c ∷ cs) ds h = absurd h
+reads-append old (m ∷ ms) ns [] ds h = absurd h
+reads-append old (m ∷ ms) ns (c ∷ cs) ds h =
+    ap (λ rest. record { name = m.file; answer = Whole c } ∷ rest) (reads-append old ms ns cs ds h.1)
+
+reads_once : (a b : List Read) (known : Option (List Read)) → and_reads b (and_reads a known) ≡ and_reads (a ++ b) known
 reads_once a b None = refl
 reads_once a b (Some rs) = ap (λ more. Some more) (append_assoc rs a b)
 
--- one more file was read whole
-reads-suc :
-    (old : FilesMeaning) (ws : List Wanted) (k : ℕ) (d : Wanted) (cs : List (List ℕ)) (c : List ℕ) → k < length ws
-    → HasAll old (map seen_wanted (take k ws)) cs
-    → reads_of (map seen_wanted (take (suc k) ws)) (cs ++ c ∷ [])
-    ≡ reads_of (map seen_wanted (take k ws)) cs ++ record { name = (get_or ws k d).name.now; answer = Whole c } ∷ []
-reads-suc old [] k d cs c low had = absurd (omega (arith, low))
-reads-suc old (w ∷ ws) zero d [] c low had = refl
-reads-suc old (w ∷ ws) zero d (y ∷ cs) c low had = absurd had
-reads-suc old (w ∷ ws) (suc k) d [] c low had = absurd had
-reads-suc old (w ∷ ws) (suc k) d (y ∷ cs) c low had =
-    ap (λ rest. record { name = w.name.now; answer = Whole y } ∷ rest) (reads-suc old ws k d cs c (omega (arith, low)) had.1)
+no_reads : (known : Option (List Read)) → known ≡ and_reads [] known
+no_reads None = refl
+no_reads (Some rs) = ap (λ more. Some more) (sym (append-nil rs))
 
 -- the names of files that were read whole
-pub names_read : (old : FilesMeaning) (ns : List Needed) (cs : List (List ℕ)) → HasAll old ns cs → map (λ r. r.name) (reads_of ns cs) ≡ names_of ns
+names_read : (old : FilesMeaning) (ns : List (Needed Word)) (cs : List (List ℕ)) → HasAll old ns cs → map (λ r. r.name) (reads_of ns cs) ≡ files_of ns
 names_read old [] [] h = refl
 names_read old [] (c ∷ cs) h = absurd h
 names_read old (n ∷ ns) [] h = absurd h
-names_read old (n ∷ ns) (c ∷ cs) h = ap (λ rest. n.name ∷ rest) (names_read old ns cs h.1)
+names_read old (n ∷ ns) (c ∷ cs) h = ap (λ rest. n.file ∷ rest) (names_read old ns cs h.1)
 
--- what holds of a file where others were read before
-module _ (old : FilesMeaning) where
-  abbrev read_to : List Wanted → ℕ → List (List ℕ) → FilesMeaning
-  read_to ws k cs = with_reads (reads_of (map seen_wanted (take k ws)) cs) old
+-- some reads of the first ones of these files
+reads-first : (old new : FilesMeaning) (first rest ns : List (Needed Word)) (reads : List Read) → ns ≡ first ++ rest
+    → map (λ r. r.name) reads ≡ files_of first → new.reads ≡ and_reads reads old.reads → ReadsSome ns old new
+reads-first old new first rest ns reads is names made = record {
+  count = length first;
+  reads = reads;
+  names = names ∙ ap files_of (sym (ap (take (length first)) is ∙ take-append_seam first rest));
+  made = made;
+}
 
+-- all of them
+pub reads-all : (old new : FilesMeaning) (ns : List (Needed Word)) (cs : List (List ℕ)) → HasAll old ns cs → new ≡ with_reads (reads_of ns cs) old
+    → ReadsSome ns old new
+reads-all old new ns cs had same =
+    reads-first old new ns [] ns (reads_of ns cs) (sym (append-nil ns)) (names_read old ns cs had) (ap (λ (m : FilesMeaning). m.reads) same)
+
+-- ---- files behind others that were read
+
+module _ (old mid new : FilesMeaning) (ms : List (Needed Word)) (cs : List (List ℕ)) (had : HasAll old ms cs) (same : mid ≡ with_reads (reads_of ms cs) old) where
   -- what was read behind others was there before
-  as_read :
-      {Judged : Kind → List ℕ → Type 0} (ws : List Wanted) (k : ℕ) (cs : List (List ℕ)) (n : Needed) (c : List ℕ) → HasThat Judged (read_to ws k cs) n c
-      → HasThat Judged old n c
-  as_read ws k cs n c h = record { found = h.found; fits = h.fits; bytes = h.bytes; judged = h.judged }
+  as_read : {Judged : Kind → List ℕ → Type 0} (n : Needed Word) (c : List ℕ) → HasThat Judged mid n c → HasThat Judged old n c
+  as_read {Judged = Judged} n c has = there (subst (λ m. HasThat Judged m n c) same has)
+    where
+      there : HasThat Judged (with_reads (reads_of ms cs) old) n c → HasThat Judged old n c
+      there h = record { found = h.found; fits = h.fits; bytes = h.bytes; judged = h.judged }
 
-  -- one more file was read
-  pub has-more :
-      (here : FilesMeaning) (ws : List Wanted) (k : ℕ) (d : Wanted) (cs : List (List ℕ)) (c : List ℕ) → k < length ws
-      → HasAll old (map seen_wanted (take k ws)) cs → here ≡ read_to ws k cs → Has here (seen_wanted (get_or ws k d)) c
-      → HasAll old (map seen_wanted (take (k + 1) ws)) (cs ++ c ∷ [])
-  has-more here ws k d cs c low had same read =
-      rw add-one (has-suc old ws k d cs c low had (as_read ws k cs _ c (subst (λ h. Has h (seen_wanted (get_or ws k d)) c) same read)))
+  has_before : (ns : List (Needed Word)) (ds : List (List ℕ)) → HasAll mid ns ds → HasAll old ns ds
+  has_before [] [] h = tt
+  has_before [] (d ∷ ds) h = absurd h
+  has_before (n ∷ ns) [] h = absurd h
+  has_before (n ∷ ns) (d ∷ ds) h = (as_read n d h.0, has_before ns ds h.1)
 
-  -- one more read behind others
-  pub one_more :
-      (here new : FilesMeaning) (before : List Read) (name : List ℕ) (answer : Answer) → here ≡ with_reads before old → new ≡ with_read name answer here
-      → new ≡ with_reads (before ++ record { name = name; answer = answer } ∷ []) old
-  one_more here new before name answer read same = rw (same, read) (ap (λ rs. record old { reads = rs }) (reads_once before _ old.reads))
+  then_reads : (reads : List Read) → new ≡ with_reads reads mid → new ≡ with_reads (reads_of ms cs ++ reads) old
+  then_reads reads is = is ∙ ap (with_reads reads) same ∙ ap (λ rs. record old { reads = rs }) (reads_once (reads_of ms cs) reads old.reads)
 
-  pub read-more :
-      (here new : FilesMeaning) (ws : List Wanted) (k : ℕ) (d : Wanted) (cs : List (List ℕ)) (c : List ℕ) → k < length ws
-      → HasAll old (map seen_wanted (take k ws)) cs → here ≡ read_to ws k cs → new ≡ with_read (get_or ws k d).name.now (Whole c) here
-      → new ≡ read_to ws (k + 1) (cs ++ c ∷ [])
-  read-more here new ws k d cs c low had read same =
-      rw (add-one, reads-suc old ws k d cs c low had) (one_more here new _ (get_or ws k d).name.now (Whole c) read same)
+  then_made : (reads : List Read) → new.reads ≡ and_reads reads mid.reads → new.reads ≡ and_reads (reads_of ms cs ++ reads) old.reads
+  then_made reads is = is ∙ ap (λ (m : FilesMeaning). and_reads reads m.reads) same ∙ reads_once (reads_of ms cs) reads old.reads
 
--- the files before one, that one, and those after it
-splits :
-    (ws : List Wanted) (k : ℕ) (d : Wanted) → k < length ws
-    → map seen_wanted ws ≡ map seen_wanted (take k ws) ++ seen_wanted (get_or ws k d) ∷ map seen_wanted (drop (suc k) ws)
-splits [] k d low = absurd (omega (arith, low))
-splits (w ∷ ws) zero d low = refl
-splits (w ∷ ws) (suc k) d low = ap (λ rest. seen_wanted w ∷ rest) (splits ws k d (omega (arith, low)))
+  comes_behind :
+      (ns : List (Needed Word)) (There Here : Needed Word → Answer → Type 0) → ((n : Needed Word) (answer : Answer) → There n answer → Here n answer)
+      → ComesTo mid new ns There → ComesTo old new (ms ++ ns) Here
+  comes_behind ns There Here so at = record {
+    before = ms ++ at.before;
+    this = at.this;
+    after = at.after;
+    place = ap (λ xs. ms ++ xs) at.place ∙ sym (append_assoc ms at.before (at.this ∷ at.after));
+    contents = cs ++ at.contents;
+    read = has-append old ms at.before cs at.contents had (has_before at.before at.contents at.read);
+    answer = at.answer;
+    reads =
+        then_made (reads_of at.before at.contents ++ record { name = at.this.file; answer = at.answer } ∷ []) at.reads
+        ∙ ap (λ rs. and_reads rs old.reads)
+        (sym (append_assoc (reads_of ms cs) (reads_of at.before at.contents) (record { name = at.this.file; answer = at.answer } ∷ []))
+        ∙ ap (λ rs. rs ++ record { name = at.this.file; answer = at.answer } ∷ []) (sym (reads-append old ms at.before cs at.contents had)));
+    here = so at.this at.answer at.here;
+  }
 
--- the names of the first ones, and of one more
-names-more :
-    (ws : List Wanted) (k : ℕ) (d : Wanted) → k < length ws
-    → names_of (map seen_wanted (take (suc k) ws)) ≡ names_of (map seen_wanted (take k ws)) ++ (get_or ws k d).name.now ∷ []
-names-more ws k d low = rw (take-suc ws k d low, map-append, map-append) refl
+  larger : (n : Needed Word) (answer : Answer) → IsLarger mid n answer → IsLarger old n answer
+  larger n answer is = there (subst (λ m. IsLarger m n answer) same is)
+    where
+      there : IsLarger (with_reads (reads_of ms cs) old) n answer → IsLarger old n answer
+      there is = record { start = is.start; is = is.is; longer = is.longer; larger = is.larger }
 
-module _ (old here new : FilesMeaning) (ws : List Wanted) (k : ℕ) (d : Wanted) (cs : List (List ℕ)) (low : k < length ws)
-    (had : HasAll old (map seen_wanted (take k ws)) cs) (same : here ≡ read_to old ws k cs) where
+  -- a file was refused
+  pub refused-behind : (ns : List (Needed Word)) (refusal : Refusal) → FilesRefused mid new ns refusal → FilesRefused old new (ms ++ ns) refusal
+  refused-behind ns Usage at = absurd at
+  refused-behind ns (Unread name) at = comes_behind ns _ _ (λ n answer h. (h.0, subst (λ m. IsUnread m new n answer) same h.1)) at
+  refused-behind ns (TooLarge kind) at = comes_behind ns _ _ (λ n answer h. (h.0, larger n answer h.1)) at
+  refused-behind ns (Script line cause) at = absurd at
+  refused-behind ns (Command line cause) at = absurd at
+  refused-behind ns (Source line cause) at = absurd at
+  refused-behind ns (State fault) at =
+      comes_behind ns _ _
+      (λ n answer h. (
+        record { content = h.0.content; is = h.0.is; has = as_read n h.0.content h.0.has },
+        h.1 ∙ ap (λ (m : FilesMeaning). record m { reads = new.reads }) same,
+      )) at
+  refused-behind ns (Rom fault) at = absurd at
+  refused-behind ns (Certificate line cause) at = absurd at
+  refused-behind ns (Proof line cause) at = absurd at
+  refused-behind ns (NoCertificate obstacle) at = absurd at
+  refused-behind ns NoMemory at =
+      let first : List (Needed Word) = take at.count ns in
+      let rest : List (Needed Word) = drop at.count ns in
+      reads-first old new (ms ++ first) rest (ms ++ ns) (reads_of ms cs ++ at.reads)
+      (ap (λ xs. ms ++ xs) (sym (take-append-drop at.count ns)) ∙ sym (append_assoc ms first rest))
+      (rw (map-append, map-append, names_read old ms cs had, at.names) refl)
+      (then_made at.reads at.made)
+
+-- the others were read too
+pub loads-then : (old mid new : FilesMeaning) (ms ns : List (Needed Word)) (xs ys : List (Needed (List ℕ))) → Loads old mid ms xs → Loads mid new ns ys
+    → Loads old new (ms ++ ns) (xs ++ ys)
+loads-then old mid new ms ns xs ys first second =
+    let files : files_of (xs ++ ys) ≡ files_of xs ++ files_of ys = rw map-append refl in
+    record {
+      read =
+          subst (HasAll old (ms ++ ns)) (sym files)
+          (has-append old ms ns (files_of xs) (files_of ys) first.read
+          (has_before old mid new ms (files_of xs) first.read first.reads ns (files_of ys) second.read));
+      reads =
+          then_reads old mid new ms (files_of xs) first.read first.reads (reads_of ns (files_of ys)) second.reads
+          ∙ ap (λ rs. with_reads rs old) (sym (reads-append old ms ns (files_of xs) (files_of ys) first.read))
+          ∙ ap (λ cs. with_reads (reads_of (ms ++ ns) cs) old) (sym files);
+      fit = fit-append xs ys first.fit second.fit;
+    }
+
+pub refused-then : (old mid new : FilesMeaning) (ms ns : List (Needed Word)) (xs : List (Needed (List ℕ))) (refusal : Refusal) → Loads old mid ms xs
+    → FilesRefused mid new ns refusal → FilesRefused old new (ms ++ ns) refusal
+refused-then old mid new ms ns xs refusal first at = refused-behind old mid new ms (files_of xs) first.read first.reads ns refusal at
+
+-- ---- files before others
+
+module _ (old new : FilesMeaning) (ms ns : List (Needed Word)) where
+  comes_before : (Here : Needed Word → Answer → Type 0) → ComesTo old new ms Here → ComesTo old new (ms ++ ns) Here
+  comes_before Here at = record {
+    before = at.before;
+    this = at.this;
+    after = at.after ++ ns;
+    place = ap (λ xs. xs ++ ns) at.place ∙ append_assoc at.before (at.this ∷ at.after) ns;
+    contents = at.contents;
+    read = at.read;
+    answer = at.answer;
+    reads = at.reads;
+    here = at.here;
+  }
+
+  pub refused-before : (refusal : Refusal) → FilesRefused old new ms refusal → FilesRefused old new (ms ++ ns) refusal
+  refused-before Usage at = absurd at
+  refused-before (Unread name) at = comes_before _ at
+  refused-before (TooLarge kind) at = comes_before _ at
+  refused-before (Script line cause) at = absurd at
+  refused-before (Command line cause) at = absurd at
+  refused-before (Source line cause) at = absurd at
+  refused-before (State fault) at = comes_before _ at
+  refused-before (Rom fault) at = absurd at
+  refused-before (Certificate line cause) at = absurd at
+  refused-before (Proof line cause) at = absurd at
+  refused-before (NoCertificate obstacle) at = absurd at
+  refused-before NoMemory at =
+      let first : List (Needed Word) = take at.count ms in
+      let rest : List (Needed Word) = drop at.count ms in
+      reads-first old new first (rest ++ ns) (ms ++ ns) at.reads
+      (ap (λ xs. xs ++ ns) (sym (take-append-drop at.count ms)) ∙ append_assoc first rest ns) at.names at.made
+
+-- ---- none, and one
+
+pub loads-none : (old : FilesMeaning) → Loads old old [] []
+loads-none old = record { read = tt; reads = ap (λ rs. record old { reads = rs }) (no_reads old.reads); fit = tt }
+
+module _ (old new : FilesMeaning) (m n : Needed Word) (is : m ≡ n) where
+  pub loads-one : (bytes : Vec ℕ Global) → FileAnswers old new m (Ok bytes) → Loads old new (n ∷ []) (record n { file = bytes.items } ∷ [])
+  loads-one bytes at =
+      let here : FileAnswers old new n (Ok bytes) = subst (λ n. FileAnswers old new n (Ok bytes)) is at in
+      record { read = (here.0, tt); reads = here.1; fit = (record { fits = here.0.fits; right = here.0.judged }, tt) }
+
   comes_to :
-      (Here : Needed → Answer → Type 0) (answer : Answer) → new.reads ≡ and_read (get_or ws k d).name.now answer here.reads
-      → Here (seen_wanted (get_or ws k d)) answer → ComesTo old new (map seen_wanted ws) Here
+      (Here : Needed Word → Answer → Type 0) (answer : Answer) → new.reads ≡ and_read n.file answer old.reads → Here n answer
+      → ComesTo old new (n ∷ []) Here
   comes_to Here answer reads this = record {
-    before = map seen_wanted (take k ws);
-    this = seen_wanted (get_or ws k d);
-    after = map seen_wanted (drop (suc k) ws);
-    place = splits ws k d low;
-    contents = cs;
-    read = had;
+    before = [];
+    this = n;
+    after = [];
+    place = refl;
+    contents = [];
+    read = tt;
     answer = answer;
-    reads = rw (reads, same) (reads_once _ _ old.reads);
+    reads = reads;
     here = this;
   }
 
-  pub some : (new ≡ here) ⊎ ((answer : Answer) × (new ≡ with_read (get_or ws k d).name.now answer here)) → ReadsSome (map seen_wanted ws) old new
-  some (inl none) = record {
-    count = k;
-    reads = reads_of (map seen_wanted (take k ws)) cs;
-    names = rw take-map (names_read old (map seen_wanted (take k ws)) cs had);
-    made = rw (none, same) refl;
-  }
-  some (inr one) = record {
-    count = suc k;
-    reads = reads_of (map seen_wanted (take k ws)) cs ++ record { name = (get_or ws k d).name.now; answer = one.0 } ∷ [];
-    names = rw (take-map, map-append, names_read old (map seen_wanted (take k ws)) cs had, names-more ws k d low) refl;
-    made = ap (λ m. m.reads) (one_more old here new _ _ one.0 same one.1);
-  }
-
-  -- a saved state has a fault
-  faulty :
-      (fault : StateFault) (answer : Answer) → IsFaulty fault here (seen_wanted (get_or ws k d)) answer
-      → new ≡ with_read (get_or ws k d).name.now answer here → ComesTo old new (map seen_wanted ws) (λ n a. IsFaulty fault old n a × OnlyReads old new)
-  faulty fault answer at read =
-      let there : IsFaulty fault (read_to old ws k cs) (seen_wanted (get_or ws k d)) answer =
-      subst (λ h. IsFaulty fault h (seen_wanted (get_or ws k d)) answer) same at in
-      comes_to _ answer (ap (λ m. m.reads) read) (
-        record { content = there.content; is = there.is; has = as_read old ws k cs _ there.content there.has },
-        only_reads _ (one_more old here new _ _ answer same read),
-      )
+  refused : (refusal : Refusal) → FileAnswers {Z = Global} old new n (Err refusal) → FilesRefused old new (n ∷ []) refusal
+  refused Usage at = absurd at
+  refused (Unread name) at = comes_to _ at.1 at.3 (at.0, at.2)
+  refused (TooLarge kind) at = comes_to _ at.1 (ap (λ (m : FilesMeaning). m.reads) at.3) (at.0, at.2)
+  refused (Script line cause) at = absurd at
+  refused (Command line cause) at = absurd at
+  refused (Source line cause) at = absurd at
+  refused (State fault) at = comes_to _ at.0 (ap (λ (m : FilesMeaning). m.reads) at.2) (at.1, only_reads (and_read n.file at.0 old.reads) at.2)
     where
-      only_reads : (reads : List Read) → new ≡ with_reads reads old → OnlyReads old new
+      only_reads : (reads : Option (List Read)) → new ≡ record old { reads = reads } → OnlyReads old new
       only_reads reads is = rw is refl
+  refused (Rom fault) at = absurd at
+  refused (Certificate line cause) at = absurd at
+  refused (Proof line cause) at = absurd at
+  refused (NoCertificate obstacle) at = absurd at
+  refused NoMemory (inl none) = record { count = 0; reads = []; names = refl; made = ap (λ (m : FilesMeaning). m.reads) none ∙ no_reads old.reads }
+  refused NoMemory (inr one) = record {
+    count = 1;
+    reads = record { name = n.file; answer = one.0 } ∷ [];
+    names = refl;
+    made = ap (λ (m : FilesMeaning). m.reads) one.1;
+  }
 
-  module _ (Z : Type 0) where
-    -- a file was refused, behind others
-    pub refused :
-        (refusal : Refusal) → FileAnswers {Z = Z} here new (seen_wanted (get_or ws k d)) (Err refusal)
-        → FilesAnswer {Z = Z} old new (map seen_wanted ws) (Err refusal)
-    refused Usage at = absurd at
-    refused (Unread name) at = comes_to _ at.1 at.3 (at.0, subst (λ h. IsUnread h new (seen_wanted (get_or ws k d)) at.1) same at.2)
-    refused (TooLarge kind) at =
-        comes_to _ at.1 (ap (λ m. m.reads) at.3) (at.0, larger (subst (λ h. IsLarger h (seen_wanted (get_or ws k d)) at.1) same at.2))
-      where
-        larger : {answer : Answer} → IsLarger (read_to old ws k cs) (seen_wanted (get_or ws k d)) answer → IsLarger old (seen_wanted (get_or ws k d)) answer
-        larger is = record { start = is.start; is = is.is; longer = is.longer; larger = is.larger }
-    refused (Script line cause) at = absurd at
-    refused (Command line cause) at = absurd at
-    refused (Source line cause) at = absurd at
-    refused (State fault) at = faulty fault at.0 at.1 at.2
-    refused (Rom fault) at = absurd at
-    refused (Certificate line cause) at = absurd at
-    refused (Proof line cause) at = absurd at
-    refused (NoCertificate obstacle) at = absurd at
-    refused NoMemory at = some at
-
-module _ {Z : Type 0} where
-  -- one content more
-  pub pushed :
-      (old new other : List (Vec ℕ Z)) (x : Vec ℕ Z) (ok : Bool) → ok ≡ true → new ≡ (if ok then old ++ x ∷ [] else other)
-      → map (λ (bytes : Vec ℕ Z). bytes.items) new ≡ map (λ (bytes : Vec ℕ Z). bytes.items) old ++ x.items ∷ []
-  pushed old new other x ok is items = rw (items, is) (map-snoc old)
-    where
-      map-snoc : (xs : List (Vec ℕ Z)) → map (λ (bytes : Vec ℕ Z). bytes.items) (xs ++ x ∷ []) ≡ map (λ (bytes : Vec ℕ Z). bytes.items) xs ++ x.items ∷ []
-      map-snoc [] = refl
-      map-snoc (y ∷ xs) = ap (λ rest. y.items ∷ rest) (map-snoc xs)
-
--- contents that were read fit
-pub has-fit : (old : FilesMeaning) (ns : List Needed) (cs : List (List ℕ)) → HasAll old ns cs → FitAll ns cs
-has-fit old [] [] h = tt
-has-fit old [] (c ∷ cs) h = absurd h
-has-fit old (n ∷ ns) [] h = absurd h
-has-fit old (n ∷ ns) (c ∷ cs) h = (h.0.fits, has-fit old ns cs h.1)
-
--- and they are right
-pub has-right : (old : FilesMeaning) (ns : List Needed) (cs : List (List ℕ)) → HasAll old ns cs → AreRight ns cs
-has-right old [] [] h = tt
-has-right old [] (c ∷ cs) h = absurd h
-has-right old (n ∷ ns) [] h = absurd h
-has-right old (n ∷ ns) (c ∷ cs) h = (h.0.judged, has-right old ns cs h.1)
+  pub refused-one : (refusal : Refusal) → FileAnswers {Z = Global} old new m (Err refusal) → FilesRefused old new (n ∷ []) refusal
+  refused-one refusal at = refused refusal (subst (λ n. FileAnswers {Z = Global} old new n (Err refusal)) is at)
 
 -- a read that gave a whole file
-module _ (old new : FilesMeaning) (n : Needed) (loaded : Loaded) (read : ReadsStart n.name n.most old new loaded) where
+module _ (old new : FilesMeaning) (n : Needed Word) (loaded : Loaded) (read : ReadsStart n.file n.most old new loaded) where
   is_file : (found : Option (List ℕ)) → loaded.more ≡ false → IsSomeAnd found (λ file. IsStartOf file n.most loaded) → found ≡ Some loaded.bytes.items
   is_file None whole start = absurd start
   is_file (Some file) whole start =
@@ -199,10 +256,10 @@ module _ (old new : FilesMeaning) (n : Needed) (loaded : Loaded) (read : ReadsSt
       ap Some (sym (start.bytes ∙ take_all n.most file fits))
 
   in_map :
-      (told : Option FileMap) → loaded.more ≡ false → IfSome told (λ files. IsSomeAnd (get files n.name) (λ file. IsStartOf file n.most loaded))
-      → IfSome told (λ files. get files n.name ≡ Some loaded.bytes.items)
+      (told : Option FileMap) → loaded.more ≡ false → IfSome told (λ files. IsSomeAnd (get files n.file) (λ file. IsStartOf file n.most loaded))
+      → IfSome told (λ files. get files n.file ≡ Some loaded.bytes.items)
   in_map None whole read = tt
-  in_map (Some files) whole read = is_file (get files n.name) whole read
+  in_map (Some files) whole read = is_file (get files n.file) whole read
 
   -- it was read up to its end
   to_end : (answer : Answer) → loaded.more ≡ false → Gives n.most loaded answer → (length loaded.bytes.items ≤ n.most) × (answer ≡ Whole loaded.bytes.items)
@@ -221,8 +278,8 @@ module _ (old new : FilesMeaning) (n : Needed) (loaded : Loaded) (read : ReadsSt
     judged = judged;
   }
 
-  pub read-whole : loaded.more ≡ false → new ≡ with_read n.name (Whole loaded.bytes.items) old
-  read-whole whole = subst (λ a. new ≡ with_read n.name a old) (to_end read.answer whole read.gives).1 read.read
+  pub read-whole : loaded.more ≡ false → new ≡ with_read n.file (Whole loaded.bytes.items) old
+  read-whole whole = subst (λ a. new ≡ with_read n.file a old) (to_end read.answer whole read.gives).1 read.read
 
   -- or it has more
   is_longer : (found : Option (List ℕ)) → loaded.more ≡ true → IsSomeAnd found (λ file. IsStartOf file n.most loaded) → IsSomeAnd found (λ file. n.most < length file)
@@ -230,10 +287,10 @@ module _ (old new : FilesMeaning) (n : Needed) (loaded : Loaded) (read : ReadsSt
   is_longer (Some file) more start = ltb-true n.most (length file) (sym start.more ∙ more)
 
   in_map_longer :
-      (told : Option FileMap) → loaded.more ≡ true → IfSome told (λ files. IsSomeAnd (get files n.name) (λ file. IsStartOf file n.most loaded))
-      → IfSome told (λ files. IsSomeAnd (get files n.name) (λ file. n.most < length file))
+      (told : Option FileMap) → loaded.more ≡ true → IfSome told (λ files. IsSomeAnd (get files n.file) (λ file. IsStartOf file n.most loaded))
+      → IfSome told (λ files. IsSomeAnd (get files n.file) (λ file. n.most < length file))
   in_map_longer None more read = tt
-  in_map_longer (Some files) more read = is_longer (get files n.name) more read
+  in_map_longer (Some files) more read = is_longer (get files n.file) more read
 
   longer : (answer : Answer) → loaded.more ≡ true → Gives n.most loaded answer → (start : List ℕ) × (answer ≡ Start start) × (length start ≡ n.most + 1)
   longer (Whole bytes) more gives = absurd (cc)

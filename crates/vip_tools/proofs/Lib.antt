@@ -1,5 +1,6 @@
 pub mod DemoLemmas
 pub mod FilesLemmas
+mod LoadingLemmas
 pub mod WorkLemmas
 mod CertificateLemmas
 mod ReportLemmas

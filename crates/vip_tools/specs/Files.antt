@@ -9,18 +9,27 @@ use Rattle.chip8_lang.specs.declared.view.Edition.{Edition}
 use Rattle.chip8_lang.specs.declared.view.Edition.TheVariants.{Usual, Tall}
 use Rattle.vip_text.specs.StateFile.{file_size, IsAccepted, Judges}
 use Rattle.vip_text.specs.declared.fault.StateFault.{StateFault}
-use Rattle.vip_words.specs.Asked.{Asked, AskedRun, asm, bounds, certify, debug, debug_program, demo, dis, link, list, play, play_program, resume, safe, save, source, trace, trace_program, within}
+use Rattle.vip_words.specs.Request.{Asked, map_request}
+use Rattle.vip_words.specs.Rules.{Word}
 use Rattle.vip_words.specs.declared.request.Memory.{Memory}
 use Rattle.vip_words.specs.declared.request.Memory.TheVariants as memory
+use Rattle.vip_words.specs.declared.request.ProgramShow.{ProgramShow}
+use Rattle.vip_words.specs.declared.request.ProgramShow.TheVariants as program
+use Rattle.vip_words.specs.declared.request.Request.{Request}
+use Rattle.vip_words.specs.declared.request.Request.TheVariants as request
+use Rattle.vip_words.specs.declared.request.Show.{Show}
+use Rattle.vip_words.specs.declared.request.Show.TheVariants as show
+use Rattle.vip_words.specs.declared.request.Start.{Start as Beginning}
+use Rattle.vip_words.specs.declared.request.Start.TheVariants as start
 use Rattle.vip_tools.specs.declared.files.Wanted.{Wanted}
 use Rattle.vip_tools.specs.declared.refusal.Kind.{Kind}
 use Rattle.vip_tools.specs.declared.refusal.Kind.TheVariants.{Game, TallGame, Script, Commands, Source, Certificate, State, Message, Rom, Ram}
 use Rattle.vip_tools.specs.declared.refusal.Refusal.{Refusal}
 use Rattle.vip_tools.specs.declared.refusal.Refusal.TheVariants.{Unread, TooLarge, State as BadState, NoMemory}
 
--- a file: its name, the most bytes that it may have, and what it is
-pub record Needed : Type 0 where
-  pub name : List ℕ
+-- a file, by its name or by what it holds: the most bytes that it may have, and what it is
+pub record Needed (N : Type 0) : Type 0 where
+  pub file : N
   pub most : ℕ
   pub kind : Kind
 
@@ -42,66 +51,94 @@ ram_size = 4_096
 abbrev pub addresses : ℕ
 addresses = 65_536
 
-abbrev pub file : Kind → ℕ → List ℕ → Needed
-file kind most name = record { name = name; most = most; kind = kind }
-
--- a game, which has to fit into its edition's game memory
 abbrev pub game_kind : Edition → Kind
 game_kind Usual = Game
 game_kind Tall = TallGame
 
-abbrev pub game_file : Edition → List ℕ → Needed
-game_file e name = file (game_kind e) (memory_size e) name
+-- what a program is by its memory, and the bytes of that
+abbrev pub program_kind : Memory → Kind
+program_kind memory.Rom = Rom
+program_kind memory.Ram = Ram
 
--- the key script, where one is named
-abbrev pub script_file : Option (List ℕ) → List Needed
-script_file None = []
-script_file (Some name) = file Script most_text name ∷ []
+abbrev pub program_size : Memory → ℕ
+program_size memory.Rom = rom_size
+program_size memory.Ram = ram_size
 
--- a saved state, which has so many bytes
-abbrev pub state_file : List ℕ → Needed
-state_file name = file State file_size name
+module _ {N : Type 0} where
+  abbrev pub file : Kind → ℕ → N → Needed N
+  file kind most n = record { file = n; most = most; kind = kind }
 
--- a message that one board sends to another
-abbrev pub message_file : List ℕ → Needed
-message_file name = file Message most_message name
+  -- a game, which has to fit into its edition's game memory
+  abbrev pub game_file : Edition → N → Needed N
+  game_file e n = file (game_kind e) (memory_size e) n
 
--- a program, which has to fit into its memory
-abbrev pub program_file : Memory → List ℕ → Needed
-program_file memory.Rom name = file Rom rom_size name
-program_file memory.Ram name = file Ram ram_size name
+  -- a saved state, which has so many bytes
+  abbrev pub state_file : N → Needed N
+  state_file n = file State file_size n
 
--- the debugger's commands
-abbrev pub commands_file : List ℕ → Needed
-commands_file name = file Commands most_text name
+  -- a program, which has to fit into its memory
+  abbrev pub program_file : Memory → N → Needed N
+  program_file m n = file (program_kind m) (program_size m) n
 
--- the files of a run
-abbrev pub run_files : AskedRun → List Needed
-run_files a = game_file a.edition a.game ∷ script_file a.keys
+  -- the debugger's commands, and a key script
+  abbrev pub commands_file : N → Needed N
+  commands_file n = file Commands most_text n
 
--- The files of a command, in the order in which they are read. Bytes to disassemble have to end by address FFFF.
-abbrev pub needed : Asked → List Needed
-needed (trace a) = run_files a.run
-needed (play a) = run_files a
-needed (debug a) = game_file a.run.edition a.run.game ∷ commands_file a.commands ∷ script_file a.run.keys
-needed (save a) = run_files a
-needed (resume a) = state_file a.state ∷ script_file a.keys
-needed (demo a) = []
-needed (link a) = message_file a.message ∷ []
-needed (trace_program a) = program_file a.memory a.program ∷ script_file a.keys
-needed (play_program a) = program_file a.memory a.program ∷ script_file a.keys
-needed (debug_program a) = program_file a.run.memory a.run.program ∷ commands_file a.commands ∷ script_file a.run.keys
-needed (asm a) = file Source most_text a.file ∷ []
-needed (list name) = file Source most_text name ∷ []
-needed (dis a) = file Source (addresses - a.address) a.file ∷ []
-needed (source e) = []
-needed bounds = []
-needed (within a) = file Source most_text a.file ∷ file Certificate most_text a.certificate ∷ []
-needed (safe a) = game_file a.edition a.game ∷ file Certificate most_text a.certificate ∷ []
-needed (certify a) = game_file a.edition a.game ∷ []
+  abbrev pub script_file : N → Needed N
+  script_file n = file Script most_text n
 
-abbrev pub seen_wanted : Wanted → Needed
-seen_wanted w = record { name = w.name.now; most = w.most; kind = w.kind }
+  -- a message that one board sends to another
+  abbrev pub message_file : N → Needed N
+  message_file n = file Message most_message n
+
+  -- a source, bytes to disassemble, which have to end by address FFFF, and a certificate
+  abbrev pub source_file : N → Needed N
+  source_file n = file Source most_text n
+
+  abbrev pub bytes_file : ℕ → N → Needed N
+  bytes_file address n = file Source (addresses - address) n
+
+  abbrev pub certificate_file : N → Needed N
+  certificate_file n = file Certificate most_text n
+
+  -- ---- the files of a request, in the order in which they are read
+
+  -- of the start of a run, of what is shown of it, and its key script, where one is named
+  abbrev pub start_files : Beginning N → List (Needed N)
+  start_files (start.Game game edition) = game_file edition game ∷ []
+  start_files (start.State state) = state_file state ∷ []
+  start_files (start.Demo number) = []
+
+  abbrev pub show_files : Show N → List (Needed N)
+  show_files (show.Commands commands) = commands_file commands ∷ []
+  show_files _ = []
+
+  abbrev pub program_show_files : ProgramShow N → List (Needed N)
+  program_show_files (program.Commands commands) = commands_file commands ∷ []
+  program_show_files _ = []
+
+  abbrev pub script_files : Option N → List (Needed N)
+  script_files None = []
+  script_files (Some script) = script_file script ∷ []
+
+  abbrev pub needed : Request N → List (Needed N)
+  needed (request.Run run) = start_files run.start ++ (show_files run.show ++ script_files run.keys)
+  needed (request.Program run) = program_file run.memory run.file ∷ (program_show_files run.show ++ script_files run.keys)
+  needed (request.Link message moves number) = message_file message ∷ []
+  needed (request.Asm source raw) = source_file source ∷ []
+  needed (request.List source) = source_file source ∷ []
+  needed (request.Dis bytes address) = bytes_file address bytes ∷ []
+  needed (request.Source text) = []
+  needed request.Bounds = []
+  needed (request.Cycles source certificate) = source_file source ∷ certificate_file certificate ∷ []
+  needed (request.Safe game certificate edition) = game_file edition game ∷ certificate_file certificate ∷ []
+  needed (request.Certify game edition) = game_file edition game ∷ []
+
+  abbrev pub files_of : List (Needed N) → List N
+  files_of ns = map (λ n. n.file) ns
+
+abbrev pub seen_wanted : Wanted → Needed Word
+seen_wanted w = record { file = w.name.now; most = w.most; kind = w.kind }
 
 -- ---- what is judged of a file before the next one is read: a saved state, and nothing of the other kinds
 
@@ -115,60 +152,54 @@ HasFault fault _ content = ⊥
 
 -- ---- what is known of a file that was read whole: its bytes, where the map is told, that they are those there, and how they were judged
 
-pub record HasThat (Judged : Kind → List ℕ → Type 0) (old : FilesMeaning) (n : Needed) (content : List ℕ) : Type 0 where
-  pub found : IfSome old.told (λ files. get files n.name ≡ Some content)
+pub record HasThat (Judged : Kind → List ℕ → Type 0) (old : FilesMeaning) (n : Needed Word) (content : List ℕ) : Type 0 where
+  pub found : IfSome old.told (λ files. get files n.file ≡ Some content)
   pub fits : length content ≤ n.most
   pub bytes : (i : ℕ) → slice_index content i < 256
   pub judged : Judged n.kind content
 
-abbrev pub Has : FilesMeaning → Needed → List ℕ → Type 0
+abbrev pub Has : FilesMeaning → Needed Word → List ℕ → Type 0
 Has = HasThat IsRight
 
-abbrev pub HasAll : FilesMeaning → List Needed → List (List ℕ) → Type 0
+abbrev pub HasAll : FilesMeaning → List (Needed Word) → List (List ℕ) → Type 0
 HasAll old [] [] = Unit {0}
 HasAll old (n ∷ ns) (content ∷ contents) = Has old n content × HasAll old ns contents
 HasAll old _ _ = ⊥
 
--- contents of which each has at most so many bytes as its file may have
-abbrev pub FitAll : List Needed → List (List ℕ) → Type 0
-FitAll [] [] = Unit {0}
-FitAll (n ∷ ns) (content ∷ contents) = (length content ≤ n.most) × FitAll ns contents
-FitAll _ _ = ⊥
+-- a content that has at most so many bytes as its file may have, and is right
+pub record IsFit (n : Needed (List ℕ)) : Type 0 where
+  pub fits : length n.file ≤ n.most
+  pub right : IsRight n.kind n.file
 
--- contents of which each is right
-abbrev pub AreRight : List Needed → List (List ℕ) → Type 0
-AreRight [] [] = Unit {0}
-AreRight (n ∷ ns) (content ∷ contents) = IsRight n.kind content × AreRight ns contents
-AreRight _ _ = ⊥
+abbrev pub AreFit : List (Needed (List ℕ)) → Type 0
+AreFit [] = Unit {0}
+AreFit (n ∷ ns) = IsFit n × AreFit ns
 
 -- ---- what a read of one file came to that was refused
 
 -- it has more bytes than it may have
-pub record IsLarger (old : FilesMeaning) (n : Needed) (answer : Answer) : Type 0 where
+pub record IsLarger (old : FilesMeaning) (n : Needed Word) (answer : Answer) : Type 0 where
   pub start : List ℕ
   pub is : answer ≡ Start start
   pub longer : length start ≡ n.most + 1
-  pub larger : IfSome old.told (λ files. IsSomeAnd (get files n.name) (λ content. n.most < length content))
+  pub larger : IfSome old.told (λ files. IsSomeAnd (get files n.file) (λ content. n.most < length content))
 
 -- it could not be read: a fault, or the map that is told lacks it
-abbrev pub IsUnread : FilesMeaning → FilesMeaning → Needed → Answer → Type 0
+abbrev pub IsUnread : FilesMeaning → FilesMeaning → Needed Word → Answer → Type 0
 IsUnread old new n answer =
-    ((answer ≡ Faulted) × Rose old.faults new.faults) ⊎ ((answer ≡ Lacked) × IsSomeAnd old.told (λ files. get files n.name ≡ None))
+    ((answer ≡ Faulted) × Rose old.faults new.faults) ⊎ ((answer ≡ Lacked) × IsSomeAnd old.told (λ files. get files n.file ≡ None))
 
 -- it is a saved state, and has this as its first fault
-pub record IsFaulty (fault : StateFault) (old : FilesMeaning) (n : Needed) (answer : Answer) : Type 0 where
+pub record IsFaulty (fault : StateFault) (old : FilesMeaning) (n : Needed Word) (answer : Answer) : Type 0 where
   pub content : List ℕ
   pub is : answer ≡ Whole content
   pub has : HasThat (HasFault fault) old n content
 
 -- ---- which reads were made, each of one file
 
-abbrev pub names_of : List Needed → List (List ℕ)
-names_of ns = map (λ n. n.name) ns
-
 -- each file was read up to its end, and these are their contents
-abbrev pub reads_of : List Needed → List (List ℕ) → List Read
-reads_of (n ∷ ns) (content ∷ contents) = record { name = n.name; answer = Whole content } ∷ reads_of ns contents
+abbrev pub reads_of : List (Needed Word) → List (List ℕ) → List Read
+reads_of (n ∷ ns) (content ∷ contents) = record { name = n.file; answer = Whole content } ∷ reads_of ns contents
 reads_of _ _ = []
 
 -- exactly these, in this order, and no read was a fault
@@ -180,22 +211,22 @@ abbrev pub OnlyReads : FilesMeaning → FilesMeaning → Type 0
 OnlyReads old new = new ≡ record old { reads = new.reads }
 
 -- the first ones of these, each once
-pub record ReadsSome (ns : List Needed) (old new : FilesMeaning) : Type 0 where
+pub record ReadsSome (ns : List (Needed Word)) (old new : FilesMeaning) : Type 0 where
   pub count : ℕ
   pub reads : List Read
-  pub names : map (λ r. r.name) reads ≡ names_of (take count ns)
+  pub names : map (λ r. r.name) reads ≡ files_of (take count ns)
   pub made : new.reads ≡ and_reads reads old.reads
 
 -- Those before one of the files were read whole, then that one, of which this holds by what its read came to, and none behind it.
-pub record ComesTo (old new : FilesMeaning) (needed : List Needed) (Here : Needed → Answer → Type 0) : Type 0 where
-  pub before : List Needed
-  pub this : Needed
-  pub after : List Needed
+pub record ComesTo (old new : FilesMeaning) (needed : List (Needed Word)) (Here : Needed Word → Answer → Type 0) : Type 0 where
+  pub before : List (Needed Word)
+  pub this : Needed Word
+  pub after : List (Needed Word)
   pub place : needed ≡ before ++ this ∷ after
   pub contents : List (List ℕ)
   pub read : HasAll old before contents
   pub answer : Answer
-  pub reads : new.reads ≡ and_reads (reads_of before contents ++ record { name = this.name; answer = answer } ∷ []) old.reads
+  pub reads : new.reads ≡ and_reads (reads_of before contents ++ record { name = this.file; answer = answer } ∷ []) old.reads
   pub here : Here this answer
 
 -- what judging answers
@@ -203,26 +234,56 @@ abbrev pub JudgeAnswers : Kind → List ℕ → Result (Unit {0}) StateFault →
 JudgeAnswers kind content (Ok done) = IsRight kind content
 JudgeAnswers kind content (Err fault) = HasFault fault kind content
 
+-- a file that was refused, behind others of the same request
+abbrev pub FilesRefused : FilesMeaning → FilesMeaning → List (Needed Word) → Refusal → Type 0
+FilesRefused old new needed (Unread name) = ComesTo old new needed (λ n answer. (name.now ≡ n.file) × IsUnread old new n answer)
+FilesRefused old new needed (TooLarge kind) = ComesTo old new needed (λ n answer. (kind ≡ n.kind) × IsLarger old n answer)
+FilesRefused old new needed (BadState fault) = ComesTo old new needed (λ n answer. IsFaulty fault old n answer × OnlyReads old new)
+FilesRefused old new needed NoMemory = ReadsSome needed old new
+FilesRefused old new needed _ = ⊥
+
+-- ---- a request whose files were read
+
+-- the same with each file by its content
+abbrev pub Loaded : Type 0
+Loaded = Request (List ℕ)
+
+-- a request without its files
+abbrev pub shape_of : {N : Type 0} → Request N → Request (Unit {0})
+shape_of = map_request (λ _. tt)
+
+-- all the files were read, each once and up to its end, in their order, and no other; and these are they, each of which fits and is right
+pub record Loads (old new : FilesMeaning) (names : List (Needed Word)) (contents : List (Needed (List ℕ))) : Type 0 where
+  pub read : HasAll old names (files_of contents)
+  pub reads : new ≡ with_reads (reads_of names (files_of contents)) old
+  pub fit : AreFit contents
+
+-- a request was loaded: it is as it was, with the contents of its files in the places of their names
+pub record IsLoaded (old new : FilesMeaning) (asked : Asked) (loaded : Loaded) : Type 0 where
+  pub shape : shape_of asked ≡ shape_of loaded
+  pub loads : Loads old new (needed asked) (needed loaded)
+
 module _ {Z : Type 0} where
-  abbrev pub contents_of : List (Vec ℕ Z) → List (List ℕ)
-  contents_of contents = map (λ bytes. bytes.items) contents
+  abbrev pub loaded_of : Request (Vec ℕ Z) → Loaded
+  loaded_of = map_request (λ bytes. bytes.items)
 
   -- what is answered of one file
-  abbrev pub FileAnswers : FilesMeaning → FilesMeaning → Needed → Result (Vec ℕ Z) Refusal → Type 0
-  FileAnswers old new n (Ok bytes) = Has old n bytes.items × (new ≡ with_read n.name (Whole bytes.items) old)
+  abbrev pub FileAnswers : FilesMeaning → FilesMeaning → Needed Word → Result (Vec ℕ Z) Refusal → Type 0
+  FileAnswers old new n (Ok bytes) = Has old n bytes.items × (new ≡ with_read n.file (Whole bytes.items) old)
   FileAnswers old new n (Err (Unread name)) =
-      (name.now ≡ n.name) × (answer : Answer) × IsUnread old new n answer × (new.reads ≡ and_read n.name answer old.reads)
-  FileAnswers old new n (Err (TooLarge kind)) = (kind ≡ n.kind) × (answer : Answer) × IsLarger old n answer × (new ≡ with_read n.name answer old)
-  FileAnswers old new n (Err (BadState fault)) = (answer : Answer) × IsFaulty fault old n answer × (new ≡ with_read n.name answer old)
-  FileAnswers old new n (Err NoMemory) = (new ≡ old) ⊎ ((answer : Answer) × (new ≡ with_read n.name answer old))
+      (name.now ≡ n.file) × (answer : Answer) × IsUnread old new n answer × (new.reads ≡ and_read n.file answer old.reads)
+  FileAnswers old new n (Err (TooLarge kind)) = (kind ≡ n.kind) × (answer : Answer) × IsLarger old n answer × (new ≡ with_read n.file answer old)
+  FileAnswers old new n (Err (BadState fault)) = (answer : Answer) × IsFaulty fault old n answer × (new ≡ with_read n.file answer old)
+  FileAnswers old new n (Err NoMemory) = (new ≡ old) ⊎ ((answer : Answer) × (new ≡ with_read n.file answer old))
   FileAnswers old new n (Err _) = ⊥
 
   -- what is answered of all
-  abbrev pub FilesAnswer : FilesMeaning → FilesMeaning → List Needed → Result (Vec (Vec ℕ Z) Z) Refusal → Type 0
-  FilesAnswer old new needed (Ok contents) =
-      HasAll old needed (contents_of contents.items) × (new ≡ with_reads (reads_of needed (contents_of contents.items)) old)
-  FilesAnswer old new needed (Err (Unread name)) = ComesTo old new needed (λ n answer. (name.now ≡ n.name) × IsUnread old new n answer)
-  FilesAnswer old new needed (Err (TooLarge kind)) = ComesTo old new needed (λ n answer. (kind ≡ n.kind) × IsLarger old n answer)
-  FilesAnswer old new needed (Err (BadState fault)) = ComesTo old new needed (λ n answer. IsFaulty fault old n answer × OnlyReads old new)
-  FilesAnswer old new needed (Err NoMemory) = ReadsSome needed old new
-  FilesAnswer old new needed (Err _) = ⊥
+  abbrev pub LoadAnswers : FilesMeaning → FilesMeaning → Asked → Result (Request (Vec ℕ Z)) Refusal → Type 0
+  LoadAnswers old new asked (Ok loaded) = IsLoaded old new asked (loaded_of loaded)
+  LoadAnswers old new asked (Err refusal) = FilesRefused old new (needed asked) refusal
+
+-- and of some of them, which are a part of the request
+module _ {P : Type 0} (files : P → List (Needed (List ℕ))) (IsSame : P → Type 0) where
+  abbrev pub PartAnswers : FilesMeaning → FilesMeaning → List (Needed Word) → Result P Refusal → Type 0
+  PartAnswers old new names (Ok part) = IsSame part × Loads old new names (files part)
+  PartAnswers old new names (Err refusal) = FilesRefused old new names refusal

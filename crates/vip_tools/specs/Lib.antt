@@ -1,5 +1,5 @@
 pub mod Files
-pub mod Contents
+pub mod Loading
 pub mod Demo
 pub mod Outcome
 pub mod Opening

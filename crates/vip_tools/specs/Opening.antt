@@ -1,5 +1,5 @@
 -- What the reading of a source, a script and commands answers.
-use Rattle.std.specs.Prelude.{◌≡◌, ◌≤◌, ℕ, List, [], ◌∷◌, length, Result, Ok, Err}
+use Rattle.std.specs.Prelude.{◌≡◌, ℕ, List, Option, option_map, Result, Ok, Err, Vec}
 use Rattle.machine.specs.Keys.{Event as KeyEvent}
 use Rattle.asm_core.specs.Made.{Made, IsAssembly}
 use Rattle.asm_core.specs.Sources.{source_lines, HasFirstFault}
@@ -10,20 +10,18 @@ use Rattle.vip_words.specs.declared.debug_commands.Speaks.{Speaks}
 use Rattle.vip_keypad.specs.declared.script.ScriptFault.TheVariants.{Fault}
 use Rattle.vip_tools.specs.declared.refusal.Refusal.{Refusal}
 use Rattle.vip_tools.specs.declared.refusal.Refusal.TheVariants.{Script, Command, Source, NoMemory}
-use Rattle.vip_tools.specs.Files.{most_text}
 use Rattle.vip_tools.specs.Outcome.{script_in}
 
--- a script of at most 1,048,576 bytes, or none
-abbrev pub SmallScripts : List (List ℕ) → Type 0
-SmallScripts [] = Unit {0}
-SmallScripts (text ∷ _) = length text ≤ most_text
+-- the content of a key script, where there is one
+abbrev pub keys_in : {Z : Type 0} → Option (Vec ℕ Z) → Option (List ℕ)
+keys_in = option_map (λ script. script.items)
 
 -- the script is read
-abbrev pub KeysAnswer : List (List ℕ) → Result (List KeyEvent) Refusal → Type 0
-KeysAnswer scripts (Ok script) = script_in scripts ≡ Ok script
-KeysAnswer scripts (Err (Script line cause)) = script_in scripts ≡ Err (Fault line cause)
-KeysAnswer scripts (Err NoMemory) = Unit {0}
-KeysAnswer scripts (Err _) = ⊥
+abbrev pub KeysAnswer : Option (List ℕ) → Result (List KeyEvent) Refusal → Type 0
+KeysAnswer keys (Ok script) = script_in keys ≡ Ok script
+KeysAnswer keys (Err (Script line cause)) = script_in keys ≡ Err (Fault line cause)
+KeysAnswer keys (Err NoMemory) = Unit {0}
+KeysAnswer keys (Err _) = ⊥
 
 -- the debugger's commands are read
 abbrev pub DebugCommandsAnswer : Speaks → ℕ → List ℕ → Result (List DebugCommand) Refusal → Type 0

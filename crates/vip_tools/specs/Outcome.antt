@@ -1,5 +1,5 @@
 -- What a command comes to, and what those come to that run no board, by the contents of their files; of certificates says `Certificates`.
-use Rattle.std.specs.Prelude.{◌≡◌, ℕ, List, [], ◌∷◌, Bool, true, false, Result, Ok}
+use Rattle.std.specs.Prelude.{◌≡◌, ℕ, List, [], ◌∷◌, Bool, true, false, Option, None, Some, Result, Ok}
 use Rattle.machine.specs.Keys.{Event as KeyEvent}
 use Rattle.chip8_lang.specs.declared.view.Edition.{Edition}
 use Rattle.chip8_lang.specs.declared.view.Edition.TheVariants.{Usual, Tall}
@@ -26,9 +26,9 @@ pub data Outcome : Type 0 where
   GivenUp : (report : List ℕ) → Outcome
 
 -- the events of a script file, where there is one, or its first fault
-abbrev pub script_in : List (List ℕ) → Result (List KeyEvent) ScriptFault
-script_in [] = Ok []
-script_in (text ∷ _) = script_of text
+abbrev pub script_in : Option (List ℕ) → Result (List KeyEvent) ScriptFault
+script_in None = Ok []
+script_in (Some text) = script_of text
 
 -- one text, all of the output
 abbrev pub Writes : List ℕ → Outcome → Type 0

@@ -9,7 +9,7 @@ ghost use Rattle.vip_tools.specs.Work.{TextAnswers};
 
 use crate::Refusal;
 use crate::files::are_bytes;
-use crate::tools::assembled;
+use crate::tools::make_assembly;
 use asm_core::Assembly;
 use chip8_lang::Edition;
 use cycle_check::{CertFault, Within, check_cycles};
@@ -21,7 +21,7 @@ use vip_byte::{Buffer, hex4, put, put_number};
 const ROM_START: u16 = 0x8000;
 
 /// The assembled bytes from 8000 to 87FF, and 00 where there is none.
-fn laid_out(made: &Assembly) -> [u8; 2048]
+fn lay_out(made: &Assembly) -> [u8; 2048]
     ensures { result ≡ rom_with (made_byte made.now) }
 {
     let mut rom = [0; 2048];
@@ -32,12 +32,12 @@ fn laid_out(made: &Assembly) -> [u8; 2048]
 }
 
 /// The ROM of a source.
-fn assembled_rom<'a>(alloc: Global, source: &[u8]) -> Result<[u8; 2048], Refusal<'a>>
+fn make_rom<'a>(alloc: Global, source: &[u8]) -> Result<[u8; 2048], Refusal<'a>>
     requires { length source.now ≤ most_text }
     ensures { RomAnswers source.now result }
 {
-    let made = assembled(alloc, source)?;
-    let rom = laid_out(&made);
+    let made = make_assembly(alloc, source)?;
+    let rom = lay_out(&made);
     are_bytes(&rom);
     Ok(rom)
 }
@@ -104,7 +104,7 @@ pub fn cycles<'a>(alloc: Global, source: &[u8], certificate: &[u8]) -> Result<Ve
     requires certificate { length certificate.now ≤ most_text }
     ensures { TextAnswers (CyclesComes source.now certificate.now) result }
 {
-    let rom = assembled_rom(alloc, source)?;
+    let rom = make_rom(alloc, source)?;
     let within = checked_routine(alloc, &rom, certificate)?;
     let mut line = Buffer::new();
     within_text(within, &mut line);

@@ -1,19 +1,16 @@
-//! The files that a verb reads.
+//! The files that a verb reads, each by its kind, and how one of them is read.
 
-ghost use Rattle.std.specs.Prelude.{◌≡◌, ◌<◌, ◌∷◌, [], ℕ, map, option_map, slice_index};
-ghost use Rattle.vip_words.specs.Request.{asked_of, asked_run};
-ghost use Rattle.vip_tools.specs.declared.refusal.Kind.TheVariants.{Certificate, Source};
-ghost use Rattle.vip_tools.specs.Files.{commands_file, file, game_file, game_kind, message_file, most_text, needed, program_file, run_files, script_file, seen_wanted, state_file, FileAnswers, FilesAnswer, JudgeAnswers};
+ghost use Rattle.std.specs.Prelude.{◌≡◌, ◌<◌, ℕ, slice_index};
+ghost use Rattle.vip_tools.specs.Files.{bytes_file, certificate_file, commands_file, game_file, game_kind, message_file, program_file, script_file, seen_wanted, source_file, state_file, FileAnswers, JudgeAnswers};
 
 use crate::{Kind, Refusal};
-use arrayvec::ArrayVec;
 use chip8_lang::Edition;
 use std::alloc::Global;
 use vip_byte::MOST_TEXT;
 use vip_outside::{Files, ReadFail};
 use vip_text::StateFault;
 use vip_text::state_file::{SIZE, check_state};
-use vip_words::{Memory, Request, RunRequest};
+use vip_words::Memory;
 
 /// The addresses of the machine, 0000 to FFFF.
 const ADDRESSES: usize = 65_536;
@@ -27,11 +24,11 @@ pub const ROM: usize = 2_048;
 pub const RAM: usize = 4_096;
 
 /// A file that a verb reads, with the most bytes that it may have.
-#[derive(Clone, Copy, Default)]
-pub struct Wanted<'a> {
-    pub name: &'a str,
-    pub most: usize,
-    pub kind: Kind,
+#[derive(Clone, Copy)]
+pub(crate) struct Wanted<'a> {
+    name: &'a str,
+    most: usize,
+    kind: Kind,
 }
 
 /// What the game of an edition is, where it is refused.
@@ -45,7 +42,7 @@ pub fn game_kind(edition: Edition) -> Kind
 }
 
 /// A game, which has to fit into its edition's game memory.
-fn game_file<'a>(edition: Edition, name: &'a str) -> Wanted<'a>
+pub(crate) fn game_file<'a>(edition: Edition, name: &'a str) -> Wanted<'a>
     ensures { seen_wanted result ≡ game_file edition name.now }
 {
     Wanted {
@@ -56,7 +53,7 @@ fn game_file<'a>(edition: Edition, name: &'a str) -> Wanted<'a>
 }
 
 /// A saved state.
-fn state_file<'a>(name: &'a str) -> Wanted<'a>
+pub(crate) fn state_file<'a>(name: &'a str) -> Wanted<'a>
     ensures { seen_wanted result ≡ state_file name.now }
 {
     Wanted {
@@ -67,7 +64,7 @@ fn state_file<'a>(name: &'a str) -> Wanted<'a>
 }
 
 /// A message that one board sends to another.
-fn message_file<'a>(name: &'a str) -> Wanted<'a>
+pub(crate) fn message_file<'a>(name: &'a str) -> Wanted<'a>
     ensures { seen_wanted result ≡ message_file name.now }
 {
     Wanted {
@@ -78,7 +75,7 @@ fn message_file<'a>(name: &'a str) -> Wanted<'a>
 }
 
 /// A program, which has to fit into its memory.
-fn program_file<'a>(memory: Memory, name: &'a str) -> Wanted<'a>
+pub(crate) fn program_file<'a>(memory: Memory, name: &'a str) -> Wanted<'a>
     ensures { seen_wanted result ≡ program_file memory name.now }
 {
     let (most, kind) = match memory {
@@ -88,121 +85,58 @@ fn program_file<'a>(memory: Memory, name: &'a str) -> Wanted<'a>
     Wanted { name, most, kind }
 }
 
-/// A file, and a key script where one is named.
-fn with_script<'a>(first: Wanted<'a>, keys: Option<&'a str>) -> ArrayVec<Wanted<'a>, 3>
-    ensures { map seen_wanted result.items ≡ seen_wanted first.entry ∷ script_file (option_map (λ name. name.now) keys.entry) }
-{
-    let mut wanted = only(first);
-    if let Some(name) = keys {
-        wanted.push(Wanted {
-            name,
-            most: MOST_TEXT,
-            kind: Kind::Script,
-        });
-    }
-    wanted
-}
-
-/// The files of a run: the game, and the key script where one is named.
-fn run_files<'a>(run: &RunRequest<'a>) -> ArrayVec<Wanted<'a>, 3>
-    ensures { map seen_wanted result.items ≡ run_files (asked_run run.now) }
-{
-    with_script(game_file(run.edition, run.game), run.keys)
-}
-
-/// The files of a run under the debugger: what is run, the commands, and the key script where one is named.
-fn debug_files<'a>(
-    first: Wanted<'a>,
-    commands: &'a str,
-    keys: Option<&'a str>,
-) -> ArrayVec<Wanted<'a>, 3>
-    ensures { map seen_wanted result.items
-        ≡ seen_wanted first.entry ∷ commands_file commands.now ∷ script_file (option_map (λ name. name.now) keys.entry) }
-{
-    let mut wanted = with_script(first, keys);
-    wanted.insert(
-        1,
-        Wanted {
-            name: commands,
-            most: MOST_TEXT,
-            kind: Kind::Commands,
-        },
-    );
-    wanted
-}
-
-/// A file alone.
-fn only<'a>(file: Wanted<'a>) -> ArrayVec<Wanted<'a>, 3>
-    ensures { map seen_wanted result.items ≡ seen_wanted file.entry ∷ [] }
-{
-    let mut wanted = ArrayVec::new();
-    wanted.push(file);
-    wanted
-}
-
-/// A source or bytes.
-fn source_file<'a>(name: &'a str, most: usize) -> Wanted<'a>
-    ensures { seen_wanted result ≡ file Source most name.now }
+/// The debugger's commands.
+pub(crate) fn commands_file<'a>(name: &'a str) -> Wanted<'a>
+    ensures { seen_wanted result ≡ commands_file name.now }
 {
     Wanted {
         name,
-        most,
+        most: MOST_TEXT,
+        kind: Kind::Commands,
+    }
+}
+
+/// A key script.
+pub(crate) fn script_file<'a>(name: &'a str) -> Wanted<'a>
+    ensures { seen_wanted result ≡ script_file name.now }
+{
+    Wanted {
+        name,
+        most: MOST_TEXT,
+        kind: Kind::Script,
+    }
+}
+
+/// A source to assemble.
+pub(crate) fn source_file<'a>(name: &'a str) -> Wanted<'a>
+    ensures { seen_wanted result ≡ source_file name.now }
+{
+    Wanted {
+        name,
+        most: MOST_TEXT,
         kind: Kind::Source,
     }
 }
 
-/// What is certified, and its certificate.
-fn with_certificate<'a>(certified: Wanted<'a>, name: &'a str) -> ArrayVec<Wanted<'a>, 3>
-    ensures { map seen_wanted result.items ≡ seen_wanted certified.entry ∷ file Certificate most_text name.now ∷ [] }
+/// Bytes to disassemble, the first of which lies at an address.
+pub(crate) fn bytes_file<'a>(address: u16, name: &'a str) -> Wanted<'a>
+    ensures { seen_wanted result ≡ bytes_file address name.now }
 {
-    let certificate = Wanted {
+    Wanted {
+        name,
+        most: ADDRESSES - usize::from(address),
+        kind: Kind::Source,
+    }
+}
+
+/// A certificate.
+pub(crate) fn certificate_file<'a>(name: &'a str) -> Wanted<'a>
+    ensures { seen_wanted result ≡ certificate_file name.now }
+{
+    Wanted {
         name,
         most: MOST_TEXT,
         kind: Kind::Certificate,
-    };
-    let mut wanted = only(certified);
-    wanted.push(certificate);
-    wanted
-}
-
-/// The files of a request, in the order in which they are read.
-pub fn wanted_files<'a>(request: &Request<'a>) -> ArrayVec<Wanted<'a>, 3>
-    ensures { map seen_wanted result.items ≡ needed (asked_of request.now) }
-{
-    match request {
-        Request::Trace(asked) => run_files(&asked.run),
-        Request::Play(run) => run_files(run),
-        Request::Debug(asked) => {
-            let run = &asked.run;
-            debug_files(game_file(run.edition, run.game), asked.commands, run.keys)
-        }
-        Request::Save(run) => run_files(run),
-        Request::Resume(asked) => with_script(state_file(asked.state), asked.keys),
-        Request::Link(asked) => only(message_file(asked.message)),
-        Request::TraceProgram(run) => with_script(program_file(run.memory, run.program), run.keys),
-        Request::PlayProgram(run) => with_script(program_file(run.memory, run.program), run.keys),
-        Request::DebugProgram(asked) => {
-            let run = &asked.run;
-            debug_files(
-                program_file(run.memory, run.program),
-                asked.commands,
-                run.keys,
-            )
-        }
-        Request::Asm(asked) => only(source_file(asked.file, MOST_TEXT)),
-        Request::List(asked) => only(source_file(asked.file, MOST_TEXT)),
-        Request::Dis(asked) => only(source_file(
-            asked.file,
-            ADDRESSES - usize::from(asked.address),
-        )),
-        Request::Cycles(asked) => {
-            with_certificate(source_file(asked.file, MOST_TEXT), asked.certificate)
-        }
-        Request::Safe(asked) => {
-            with_certificate(game_file(asked.edition, asked.game), asked.certificate)
-        }
-        Request::Certify(asked) => only(game_file(asked.edition, asked.game)),
-        Request::Demo(_) | Request::Source(_) | Request::Bounds => ArrayVec::new(),
     }
 }
 
@@ -225,7 +159,7 @@ fn judge(kind: Kind, content: &[u8]) -> Result<(), StateFault>
 }
 
 /// Reads one file whole, and judges it.
-fn open_file<'a, F: Files>(
+pub(crate) fn open_file<'a, F: Files>(
     alloc: Global,
     files: &mut F,
     wanted: &Wanted<'a>,
@@ -245,26 +179,4 @@ fn open_file<'a, F: Files>(
         Err(ReadFail::NoMemory) => Err(Refusal::NoMemory),
         Err(_) => Err(Refusal::Unread(wanted.name)),
     }
-}
-
-/// Reads files whole, each judged before the next one is read, in their order up to the first that is refused.
-pub fn open_files<'a, F: Files>(
-    alloc: Global,
-    files: &mut F,
-    wanted: &[Wanted<'a>],
-) -> Result<Vec<Vec<u8>>, Refusal<'a>>
-    ensures { FilesAnswer (F.meaning files.old) (F.meaning files.new) (map seen_wanted wanted.now) result }
-{
-    let mut contents = Vec::new(alloc);
-    for file in wanted {
-        match open_file(alloc, files, file) {
-            Ok(content) => {
-                if contents.push(content).is_err() {
-                    return Err(Refusal::NoMemory);
-                }
-            }
-            Err(refusal) => return Err(refusal),
-        }
-    }
-    Ok(contents)
 }

@@ -2,23 +2,24 @@
 //! statuses, the refusals and the line of report of each; from a source or bytes the dump, the listing and the disassembly, the table of bounds,
 //! and certificates checked and found. The demonstration games are here too, which no file holds.
 //!
-//! The crate stands on the words and the commands of `vip_words`, on the key scripts of `vip_keypad`, on the judging of saved states and the texts
-//! of `vip_text`, on the assembler and its listings (`asm_core`, `asm_listing`), on the comparison of a source with a ROM (`chip8_source`), on
-//! certificates (`cycle_check`, `game_check`), and on the files and sinks of `vip_outside`; it runs no machine. The layer above may rely on this:
-//! the files are read whole, in the order of `specs/Files.antt`, up to the first that is refused, and a saved state is judged as it is read; a text
-//! is read as `specs/Opening.antt` says; each of the verbs comes to its output by one put, or to its refusal, as `specs/Outcome.antt` and
-//! `specs/Certificates.antt` say by the contents of its files; and each refusal and each end has the status and the report of `specs/Status.antt`,
-//! `specs/Refusal.antt` and `specs/Report.antt`, and a report goes to a sink by one put. Of a refusal by `open` the line is made first, which takes
-//! memory; where there is none, it is want of memory that is reported. The end of a command takes none, nor does why it comes to no end. The
-//! demonstration games, the statuses and the reports are this project's (`docs/COMMANDS.md`).
+//! The crate stands on the words and the commands of `vip_words`, on the key scripts of `vip_keypad`, on the judging of saved states and the texts of
+//! `vip_text`, on the assembler and its listings (`asm_core`, `asm_listing`), on the comparison of a source with a ROM (`chip8_source`), on
+//! certificates (`cycle_check`, `game_check`), and on the files and sinks of `vip_outside`; it runs no machine. The layer above may rely on this: the
+//! files of a request are read whole, in the order of `specs/Files.antt`, up to the first that is refused, a saved state is judged as it is read, and
+//! what was read is the request again, with the contents of the files in the places of their names; a text is read as `specs/Opening.antt` says; each
+//! of the verbs comes to its output by one put, or to its refusal, as `specs/Outcome.antt` and `specs/Certificates.antt` say by the contents of its
+//! files; and each refusal and each end has the status and the report of `specs/Status.antt`, `specs/Refusal.antt` and `specs/Report.antt`, and a
+//! report goes to a sink by one put. Of a refusal by `open` the line is made first, which takes memory; where there is none, it is want of memory
+//! that is reported. The end of a command takes none, nor does why it comes to no end. The demonstration games, the statuses and the reports are this
+//! project's (`docs/COMMANDS.md`).
 #![tactic(auto)]
 
 mod certificates;
-mod contents;
 mod demo;
 mod ended;
 mod fault;
 mod files;
+mod loading;
 mod obstacle;
 mod reading;
 mod refusal;
@@ -27,14 +28,11 @@ mod status;
 mod tools;
 
 pub use certificates::{certify, cycles, safe};
-pub use contents::{
-    CertifiedContents, DebugContents, RunContents, certified_contents, debug_contents,
-    only_content, run_contents,
-};
 pub use demo::demo_game;
 pub use ended::Ended;
 pub use fault::PerformFault;
-pub use files::{Wanted, game_kind, open_files, wanted_files};
+pub use files::game_kind;
+pub use loading::load;
 pub use reading::{read_debugging, read_keys};
 pub use refusal::{Kind, Refusal};
 pub use report::{put_end, put_fault, put_refusal};

@@ -1,9 +1,8 @@
 //! The texts that a run reads before it begins.
 
 ghost use Rattle.std.specs.Prelude.{◌≤◌, length};
-ghost use Rattle.vip_tools.specs.Contents.{script_list};
-ghost use Rattle.vip_tools.specs.Files.{most_text};
-ghost use Rattle.vip_tools.specs.Opening.{SmallScripts, KeysAnswer, DebugCommandsAnswer};
+ghost use Rattle.vip_tools.specs.Files.{most_text, script_files, AreFit};
+ghost use Rattle.vip_tools.specs.Opening.{KeysAnswer, DebugCommandsAnswer, keys_in};
 
 use crate::Refusal;
 use std::alloc::Global;
@@ -11,14 +10,14 @@ use vip_keypad::{Script, ScriptFault, read_script};
 use vip_words::{CommandFault, Commands, Speaks, read_commands};
 
 /// The key script of a run, which is empty where no file is given.
-pub fn read_keys<'a>(alloc: Global, script: Option<&[u8]>) -> Result<Script, Refusal<'a>>
-    requires { SmallScripts (script_list script) }
-    ensures { KeysAnswer (script_list script.entry) result }
+pub fn read_keys<'a>(alloc: Global, script: Option<Vec<u8>>) -> Result<Script, Refusal<'a>>
+    requires { AreFit (script_files (keys_in script)) }
+    ensures { KeysAnswer (keys_in script) result }
 {
     let Some(text) = script else {
         return Ok(Script::empty(alloc));
     };
-    match read_script(alloc, text) {
+    match read_script(alloc, text.as_slice()) {
         Ok(script) => Ok(script),
         Err(ScriptFault::Fault { line, cause }) => Err(Refusal::Script { line, cause }),
         Err(ScriptFault::NoMemory) => Err(Refusal::NoMemory),

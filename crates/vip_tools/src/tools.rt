@@ -15,7 +15,7 @@ use vip_byte::Buffer;
 use vip_text::bounds_text;
 
 /// The assembly of a source.
-pub(crate) fn assembled<'a>(alloc: Global, source: &[u8]) -> Result<Assembly, Refusal<'a>>
+pub(crate) fn make_assembly<'a>(alloc: Global, source: &[u8]) -> Result<Assembly, Refusal<'a>>
     requires { length source.now ≤ most_text }
     ensures { SourceAnswers source.now result }
 {
@@ -42,7 +42,7 @@ pub fn asm<'a>(alloc: Global, source: &[u8], raw: bool) -> Result<Vec<u8>, Refus
     requires { length source.now ≤ most_text }
     ensures { TextAnswers (AsmComes raw source.now) result }
 {
-    let made = assembled(alloc, source)?;
+    let made = make_assembly(alloc, source)?;
     let text = bytes(alloc, &made, raw)?;
     Ok(text)
 }
@@ -52,7 +52,7 @@ pub fn list<'a>(alloc: Global, source: &[u8]) -> Result<Vec<u8>, Refusal<'a>>
     requires { length source.now ≤ most_text }
     ensures { TextAnswers (ListComes source.now) result }
 {
-    let made = assembled(alloc, source)?;
+    let made = make_assembly(alloc, source)?;
     let text = listing(alloc, &made, source)?;
     Ok(text)
 }

@@ -9,7 +9,6 @@ use Rattle.vip_link.specs.Checked.{ComparesLink}
 use Rattle.vip_outside.specs.Sink.{SinkMeaning, PutsWhole}
 use Rattle.vip_outside.proofs.PiecesLemmas.{PutsAll-one}
 use Rattle.vip_outside.specs.Pieces.{PutsAll}
-use Rattle.vip_words.specs.Asked.{AskedLink}
 use Rattle.vip_tools.specs.Report.{linked_report}
 use Rattle.vip_tools.specs.declared.ended.Ended.TheVariants.{Linked}
 use Rattle.vip_tools.specs.declared.refusal.Refusal.{Refusal}
@@ -21,9 +20,9 @@ use Rattle.vip_verbs.specs.Outcome.LinkComes.{FaultyRoms, Links}
 use Rattle.vip_tools.specs.declared.status.Status.TheVariants.{Done}
 use Rattle.vip_verbs.specs.Prepared.{IsJoined, Performs, linked}
 
-module _ (a : AskedLink) (message : List ℕ) where
+module _ (message : List ℕ) (moves number : ℕ) where
   -- a ROM isn't what its source gives
-  pub refused-roms : (refusal : Refusal) → LinkRomsAnswer (Err refusal) → RefusedBy (LinkComes a message) refusal
+  pub refused-roms : (refusal : Refusal) → LinkRomsAnswer (Err refusal) → RefusedBy (LinkComes message moves number) refusal
   refused-roms Usage answer = absurd answer
   refused-roms (Unread name) answer = absurd answer
   refused-roms (TooLarge kind) answer = absurd answer
@@ -39,9 +38,9 @@ module _ (a : AskedLink) (message : List ℕ) where
 
   -- both boards are joined, so their output is settled
   pub link-comes : (l : Linking) → l ≡ started message → ComparesLink (Ok tt)
-      → LinkComes a message (linked (linked_after a.number a.moves l.message))
+      → LinkComes message moves number (linked (linked_after number moves l.message))
   link-comes l e roms =
-      subst (λ m. LinkComes a message (linked (linked_after a.number a.moves m))) (sym (ap (λ (l : Linking). l.message) e)) (Links roms _ refl)
+      subst (λ m. LinkComes message moves number (linked (linked_after number moves m))) (sym (ap (λ (l : Linking). l.message) e)) (Links roms _ refl)
 
 pub joined-of : (message : List ℕ) (l : Linking) → l ≡ started message → length message ≤ most_bytes → IsJoined l
 joined-of message l e short = subst IsJoined (sym e) (record { is = refl; short = short })

@@ -1,68 +1,100 @@
 -- The verbs of a program: what their opening answers, from the answer of its start, and what their work does.
-use Rattle.std.proofs.Common.{◌≡◌, ℕ, List, refl, sym, ap, ◌∙◌, subst, Result, Ok, Err}
+use Rattle.std.proofs.Common.{◌≡◌, ◌≤◌, ℕ, List, length, refl, sym, ap, ◌∙◌, subst, Option, Result, Ok, Err}
 use Rattle.vip_board.specs.Seen.{Seen}
-use Rattle.vip_words.specs.DebugGrammar.{commands_of}
 use Rattle.vip_words.specs.declared.debug_commands.Command.{Command as DebugCommand}
-use Rattle.vip_words.specs.declared.debug_commands.Speaks.TheVariants.{Machine as Processor}
-use Rattle.vip_debug.specs.Programs.{program_written, machine_with, ProgramAnswers}
+use Rattle.vip_debug.specs.Programs.{ProgramAnswers}
 use Rattle.vip_outside.specs.Sink.{SinkMeaning}
 use Rattle.vip_outside.specs.declared.sink.Failed.{Failed}
-use Rattle.vip_program.specs.Program.{machine_under}
-use Rattle.vip_program.specs.Trace.{ShowAnswers, end_at}
+use Rattle.vip_program.specs.Program.{machine_under, most_bytes}
+use Rattle.vip_program.specs.Trace.{ShowAnswers}
 use Rattle.vip_program.specs.declared.trace.ProgramEnd.{ProgramEnd}
 use Rattle.vip_program.specs.declared.trace.ProgramEnd.TheVariants as program
 use Rattle.vip_tools.specs.declared.refusal.Refusal.{Refusal}
 use Rattle.vip_tools.specs.declared.refusal.Refusal.TheVariants.{Usage, Unread, TooLarge, Script, Command, Source, State, Rom, Certificate, Proof, NoCertificate, NoMemory}
-use Rattle.vip_tools.specs.Opening.{DebugCommandsAnswer}
+use Rattle.vip_tools.specs.Files.{program_size}
 use Rattle.vip_tools.specs.Outcome.{Outcome}
 use Rattle.vip_tools.specs.Work.{RefusedBy}
-use Rattle.vip_verbs.specs.Prepared.{PerformAnswers, program_shown}
-use Rattle.vip_verbs.specs.Programs.{BeginsProgram, BoardAnswers, IsBegun, ProgramComes, ProgramDebugComes, ended_at, memory_in, program_ended, program_report}
+use Rattle.vip_verbs.specs.Opening.{IsProgramShow, ProgramShowReady}
+use Rattle.vip_verbs.specs.Prepared.{PerformAnswers, program_shown_as}
+use Rattle.vip_verbs.specs.Programs.{BeginsProgram, BoardAnswers, IsBegun, ProgramComes, ProgramShowComes, ended_at, memory_in, program_debugged, program_ended, program_ran, program_report}
 use Rattle.vip_verbs.specs.Programs.ProgramComes.{FaultyScript, Runs}
+use Rattle.vip_verbs.specs.declared.prepared.ReadyProgramShow.{ReadyProgramShow}
 use Rattle.vip_words.specs.declared.request.Memory.{Memory}
 use Rattle.vip_words.specs.declared.request.Memory.TheVariants as asked
+use Rattle.vip_words.specs.declared.request.ProgramShow.{ProgramShow}
+use Rattle.vip_words.specs.declared.request.ProgramShow.TheVariants as show
 
-module _ (memory : Memory) (bytes : List ℕ) (scripts : List (List ℕ)) where
+module _ (memory : Memory) (bytes : List ℕ) (keys : Option (List ℕ)) where
   cycle_zero : (m : Memory) → (machine_under (memory_in m) bytes).cycle ≡ 0
   cycle_zero asked.Rom = refl
   cycle_zero asked.Ram = refl
 
+  -- a program that fits its file fits its memory
+  pub fits-memory : (m : Memory) → length bytes ≤ program_size m → length bytes ≤ most_bytes (memory_in m)
+  fits-memory asked.Rom fits = fits
+  fits-memory asked.Ram fits = fits
+
   -- a board that begins is at its first move
-  pub begun-of : (board : Seen) → BeginsProgram memory bytes scripts board → IsBegun board
+  pub begun-of : (board : Seen) → BeginsProgram memory bytes keys board → IsBegun board
   begun-of board begins = record {
     boundary = ap (λ (s : Seen). s.phase) begins.is;
     begins = ap (λ (s : Seen). s.machine.cycle) begins.is ∙ cycle_zero memory;
     pictures = begins.pictures;
   }
 
-  module _ (limit : ℕ) (pieces : Seen → List (List ℕ)) (ended : Seen → ProgramEnd) where
-    abbrev Here : Outcome → Type 0
-    Here = ProgramComes memory bytes limit scripts pieces ended
+  module _ (limit : ℕ) where
+    -- what is shown of it isn't ready
+    pub refused-program-show : (asked : ProgramShow (List ℕ)) (refusal : Refusal) → ProgramShowReady limit asked (Err refusal)
+        → RefusedBy (ProgramShowComes memory bytes keys limit asked) refusal
+    refused-program-show asked Usage answer = absurd answer
+    refused-program-show asked (Unread name) answer = absurd answer
+    refused-program-show asked (TooLarge kind) answer = absurd answer
+    refused-program-show asked (Script line cause) answer = absurd answer
+    refused-program-show show.Trace (Command line cause) answer = absurd answer
+    refused-program-show show.Pictures (Command line cause) answer = absurd answer
+    refused-program-show (show.Commands text) (Command line cause) answer = rw answer refl
+    refused-program-show asked (Source line cause) answer = absurd answer
+    refused-program-show asked (State fault) answer = absurd answer
+    refused-program-show asked (Rom fault) answer = absurd answer
+    refused-program-show asked (Certificate line cause) answer = absurd answer
+    refused-program-show asked (Proof line cause) answer = absurd answer
+    refused-program-show asked (NoCertificate obstacle) answer = absurd answer
+    refused-program-show asked NoMemory answer = tt
 
-    -- it doesn't begin
-    pub refused-board : (refusal : Refusal) → BoardAnswers memory bytes scripts (Err refusal) → RefusedBy Here refusal
-    refused-board Usage answer = absurd answer
-    refused-board (Unread name) answer = absurd answer
-    refused-board (TooLarge kind) answer = absurd answer
-    refused-board (Script line cause) answer = FaultyScript line cause answer
-    refused-board (Command line cause) answer = absurd answer
-    refused-board (Source line cause) answer = absurd answer
-    refused-board (State fault) answer = absurd answer
-    refused-board (Rom fault) answer = absurd answer
-    refused-board (Certificate line cause) answer = absurd answer
-    refused-board (Proof line cause) answer = absurd answer
-    refused-board (NoCertificate obstacle) answer = absurd answer
-    refused-board NoMemory answer = tt
+    -- it is ready, so it comes to what it makes of its board
+    module _ (ready : ReadyProgramShow) where
+      abbrev Comes : Outcome → Type 0
+      Comes = ProgramComes memory bytes keys (λ board. program_shown_as ready board limit)
 
-    -- it begins, so its output is settled, with its end
-    pub program-comes : (board : Seen) → BeginsProgram memory bytes scripts board → Here (program_shown limit (pieces board) (ended board))
-    program-comes board begins =
-        subst (λ b. Here (program_shown limit (pieces b) (ended b))) (sym begins.is) (Runs begins.script begins.reads)
+      comes-as : (asked : ProgramShow (List ℕ)) → IsProgramShow limit asked ready → (o : Outcome) → Comes o → ProgramShowComes memory bytes keys limit asked o
+      comes-as show.Trace is o come = rw is at come
+      comes-as show.Pictures is o come = rw is at come
+      comes-as (show.Commands text) is o come = rw is.1 (rw is.2 at come)
+
+      pub program-comes : (asked : ProgramShow (List ℕ)) → IsProgramShow limit asked ready → (board : Seen) → BeginsProgram memory bytes keys board
+          → ProgramShowComes memory bytes keys limit asked (program_shown_as ready board limit)
+      program-comes asked is board begins =
+          comes-as asked is _ (subst (λ b. Comes (program_shown_as ready b limit)) (sym begins.is) (Runs begins.script begins.reads))
+
+      pub refused-board : (asked : ProgramShow (List ℕ)) → IsProgramShow limit asked ready → (refusal : Refusal) → BoardAnswers memory bytes keys (Err refusal)
+          → RefusedBy (ProgramShowComes memory bytes keys limit asked) refusal
+      refused-board asked is Usage answer = absurd answer
+      refused-board asked is (Unread name) answer = absurd answer
+      refused-board asked is (TooLarge kind) answer = absurd answer
+      refused-board asked is (Script line cause) answer = comes-as asked is _ (FaultyScript line cause answer)
+      refused-board asked is (Command line cause) answer = absurd answer
+      refused-board asked is (Source line cause) answer = absurd answer
+      refused-board asked is (State fault) answer = absurd answer
+      refused-board asked is (Rom fault) answer = absurd answer
+      refused-board asked is (Certificate line cause) answer = absurd answer
+      refused-board asked is (Proof line cause) answer = absurd answer
+      refused-board asked is (NoCertificate obstacle) answer = absurd answer
+      refused-board asked is NoMemory answer = tt
 
 -- what was shown of a run
 pub program-performs :
     (limit : ℕ) (pieces : List (List ℕ)) (board : Seen) (old new : SinkMeaning) (r : Result ProgramEnd Failed) → ShowAnswers pieces limit board old new r
-    → PerformAnswers (program_shown limit pieces (ended_at limit board)) old new (program_ended limit r)
+    → PerformAnswers (program_ran limit pieces (ended_at limit board)) old new (program_ended limit r)
 program-performs limit pieces board old new (Ok program.AtLimit) shows = record {
   puts = shows.puts;
   status_is = refl;
@@ -81,7 +113,7 @@ program-performs limit pieces board old new (Err failed) fails = fails
 pub program-debugs :
     (limit : ℕ) (commands : List DebugCommand) (board board' : Seen) (old new : SinkMeaning) (r : Result ProgramEnd Failed)
     → ProgramAnswers limit commands board board' old new r
-    → PerformAnswers (program_shown limit (program_written board limit commands) (end_at (machine_with board limit commands))) old new (program_ended limit r)
+    → PerformAnswers (program_debugged commands limit board) old new (program_ended limit r)
 program-debugs limit commands board board' old new (Ok program.AtLimit) runs = record {
   puts = runs.puts;
   status_is = refl;
@@ -93,39 +125,3 @@ program-debugs limit commands board board' old new (Ok (program.Idle address)) r
   report_is = ap (program_report limit) (sym runs.ending);
 }
 program-debugs limit commands board board' old new (Err failed) fails = fails
-
-module _ (memory : Memory) (bytes text : List ℕ) (limit : ℕ) (scripts : List (List ℕ)) where
-  abbrev There : Outcome → Type 0
-  There = ProgramDebugComes memory bytes limit scripts (commands_of Processor limit text)
-
-  -- its commands aren't read
-  pub refused-program-commands : (refusal : Refusal) → DebugCommandsAnswer Processor limit text (Err refusal) → RefusedBy There refusal
-  refused-program-commands Usage answer = absurd answer
-  refused-program-commands (Unread name) answer = absurd answer
-  refused-program-commands (TooLarge kind) answer = absurd answer
-  refused-program-commands (Script line cause) answer = absurd answer
-  refused-program-commands (Command line cause) answer = rw answer refl
-  refused-program-commands (Source line cause) answer = absurd answer
-  refused-program-commands (State fault) answer = absurd answer
-  refused-program-commands (Rom fault) answer = absurd answer
-  refused-program-commands (Certificate line cause) answer = absurd answer
-  refused-program-commands (Proof line cause) answer = absurd answer
-  refused-program-commands (NoCertificate obstacle) answer = absurd answer
-  refused-program-commands NoMemory answer = tt
-
-  module _ (commands : List DebugCommand) (read : commands_of Processor limit text ≡ Ok commands) where
-    -- they are, so it comes to what a program comes to
-    as_program : (o : Outcome) → ProgramComes memory bytes limit scripts (λ board. program_written board limit commands)
-        (λ board. end_at (machine_with board limit commands)) o → There o
-    as_program o come = rw read come
-
-    pub refused-program-board : (refusal : Refusal) → BoardAnswers memory bytes scripts (Err refusal) → RefusedBy There refusal
-    refused-program-board refusal answer =
-        rw read (refused-board memory bytes scripts limit (λ board. program_written board limit commands)
-        (λ board. end_at (machine_with board limit commands)) refusal answer)
-
-    pub program-debug-comes : (board : Seen) → BeginsProgram memory bytes scripts board
-        → There (program_shown limit (program_written board limit commands) (end_at (machine_with board limit commands)))
-    program-debug-comes board begins =
-        as_program _ (program-comes memory bytes scripts limit (λ board. program_written board limit commands)
-        (λ board. end_at (machine_with board limit commands)) board begins)

@@ -1,37 +1,34 @@
 -- What a verb that is opened answers, from the answers of its parts, and what its work does.
-use Rattle.std.proofs.Common.{◌≡◌, ℕ, max, true, false, List, [], ◌∷◌, length, take_all, append-nil, arith, refl, sym, ap, ap₂, ◌∙◌, subst, Result, Ok, Err, IsErrAnd}
+use Rattle.std.proofs.Common.{◌≡◌, ℕ, max, true, false, List, refl, sym, ap, ◌∙◌, subst, Result, Ok, Err, IsErrAnd}
 use Rattle.std.specs.Prelude.{Option, Some, None, Vec}
 use Rattle.std.specs.declared.alloc.Global.{Global}
 use Rattle.std.proofs.Math.Nat.{max-zero}
 use Rattle.chip8_lang.specs.declared.view.Edition.{Edition}
-use Rattle.chip8_lang.specs.declared.view.Edition.TheVariants.{Usual}
 use Rattle.chip8_lang.specs.declared.view.StopRecord.{StopRecord}
-use Rattle.chip8_image.specs.Interpreters.{interpreter_of}
-use Rattle.chip8_lang.specs.Events.{Event, events_behind, is_stop}
-use Rattle.chip8_lang.specs.View.{view_at}
+use Rattle.chip8_lang.specs.Events.{is_stop}
 use Rattle.machine.specs.Keys.{Event as KeyEvent}
-use Rattle.vip_words.specs.DebugGrammar.{commands_of}
+use Rattle.vip_words.specs.Request.{Asked, cycles_in, map_request, moves_in}
 use Rattle.vip_words.specs.declared.debug_commands.Command.{Command as DebugCommand}
-use Rattle.vip_words.specs.declared.debug_commands.Speaks.TheVariants.{Chip8}
-use Rattle.vip_debug.specs.Answers.{begun, at_start, place_of, place_after, written, DebugAnswers}
+use Rattle.vip_words.specs.declared.request.Request.{Request}
+use Rattle.vip_words.specs.declared.request.Request.TheVariants as request
+use Rattle.vip_words.specs.declared.request.Show.{Show}
+use Rattle.vip_words.specs.declared.request.Show.TheVariants as show
+use Rattle.vip_words.specs.declared.request.Start as asked
+use Rattle.vip_words.specs.declared.request.Start.TheVariants as beginning
+use Rattle.vip_debug.specs.Answers.{at_start, begun as begun_there, place_of, place_after, written, DebugAnswers}
 use Rattle.vip_debug.specs.declared.run.DebugEnd.{DebugEnd}
 use Rattle.vip_debug.specs.declared.run.DebugEnd.TheVariants as debugger
 use Rattle.vip_outside.specs.Files.{FilesMeaning}
 use Rattle.vip_outside.specs.Sink.{SinkMeaning}
 use Rattle.vip_outside.specs.Pieces.{PutsAll, FailsWithin}
-use Rattle.vip_relation.specs.State.{VipState, begun as begun_from, interpreter, started, state_after}
+use Rattle.vip_relation.specs.State.{Start, VipState, begun, interpreter, machine_of, state_after}
 use Rattle.vip_relation.specs.State.Start.{Reset, Saved}
 use Rattle.vip_outside.specs.declared.sink.Failed.{Failed}
-use Rattle.vip_show.specs.Answers.{IsFresh, ShowAnswers, run_trace, run_pictures, run_summary}
-use Rattle.vip_text.specs.StateFile.{shown, IsAccepted}
+use Rattle.vip_show.specs.Answers.{IsFresh, ShowAnswers}
 use Rattle.vip_show.specs.StateOutput.{SavedAnswers}
-use Rattle.vip_show.specs.Endings.{ending_after}
-use Rattle.vip_show.specs.Output.{trace_lines}
 use Rattle.vip_show.proofs.Fresh.{fresh-begun}
-use Rattle.vip_show.proofs.Points.{ending_of_points, lines_of_points, points_behind_are}
 use Rattle.vip_text.specs.Endings.{Ending}
 use Rattle.vip_text.specs.Endings.Ending.{AtLimit}
-use Rattle.vip_words.specs.Asked.{Asked, AskedRun, AskedTrace, AskedDebug, AskedDemo, trace, play, debug, demo, AskedResume, resume, save}
 use Rattle.vip_tools.specs.declared.ended.Ended.{Ended}
 use Rattle.vip_tools.specs.declared.fault.PerformFault.{PerformFault}
 use Rattle.vip_tools.specs.declared.fault.PerformFault.TheVariants.{WriteFault}
@@ -41,133 +38,216 @@ use Rattle.vip_tools.specs.declared.refusal.Refusal.TheVariants.{Usage, Unread, 
 use Rattle.vip_tools.specs.Report.{end_report}
 use Rattle.vip_tools.specs.Status.{end_status}
 use Rattle.vip_text.specs.declared.ending.RunEnd.{RunEnd}
-use Rattle.vip_tools.specs.Demo.{demo_game}
-use Rattle.vip_tools.specs.Files.{Needed, needed, FilesAnswer, FitAll, HasAll, reads_of, with_reads}
-use Rattle.vip_tools.proofs.FilesLemmas.{names_read}
-use Rattle.vip_tools.specs.Opening.{DebugCommandsAnswer}
+use Rattle.vip_tools.specs.Files.{AreFit, FilesRefused, IsLoaded, Loaded, files_of, needed, start_files}
+use Rattle.vip_tools.proofs.FilesLemmas.{reads-all}
+use Rattle.vip_tools.specs.Opening.{KeysAnswer}
 use Rattle.vip_tools.specs.Outcome.{Outcome, script_in}
 use Rattle.vip_tools.specs.Outcome.Outcome.{Shown}
 use Rattle.vip_tools.specs.Work.{RefusedBy, TextAnswers}
-use Rattle.vip_verbs.specs.Opening.{StartAnswers, Begins, GoesOn, ResumeAnswers, RomAnswers}
-use Rattle.vip_verbs.specs.Outcome.{HasOutcome, RunComes, RunTo, DebugComes, ending_from, points_in, resumed, run_ending, saved_as, stopped_by, debug_ending}
+use Rattle.vip_verbs.specs.Opening.{BeginAnswers, IsShow, RomAnswers, ShowReady, StartAnswers, Starts}
+use Rattle.vip_verbs.specs.Outcome.{Begins, HasOutcome, RunTo, ShowComes, debug_ending, debugged_to, limit_from, ran, saved_as, stopped_by}
 use Rattle.vip_verbs.specs.Outcome.RunTo.{FaultyScript, FaultyRom, Runs}
-use Rattle.vip_verbs.specs.Prepared.{DebugEnds, IsBeginning, IsStarted, OpenAnswers, PerformAnswers, PrepareAnswers, ended_by, ran, run_ended, save_ended, saved_run, texted}
+use Rattle.vip_verbs.specs.Prepared.{DebugEnds, IsBeginning, OpenAnswers, PerformAnswers, PrepareAnswers, ended_by, run_ended, save_ended, shown_as, texted}
 use Rattle.vip_verbs.specs.declared.prepared.Prepared.{Prepared}
+use Rattle.vip_verbs.specs.declared.prepared.ReadyShow.{ReadyShow}
 
--- a command that comes to what a run comes to, by the machine that begins
-pub record RunOf (Here : Outcome → Type 0) : Type 0 where
-  pub edition : Edition
-  pub game : List ℕ
-  pub scripts : List (List ℕ)
-  pub outcome : VipState → Outcome
-  pub fits : (o : Outcome) → RunTo edition scripts (λ script. outcome (started edition game script)) o → Here o
+-- ---- a run that begins
 
--- a machine that begins is a started one
-pub started-of : (e : Edition) (game : List ℕ) (scripts : List (List ℕ)) (v : VipState) → Begins e game scripts v → IsStarted v
-started-of e game scripts v begins = record {
-  game = game;
-  script = begins.script;
-  is = rw begins.is refl;
-  runs = begins.runs;
-}
+pub beginning-of : (e : Edition) (s : Start) (script : List KeyEvent) (v : VipState) → Starts e s script v → IsBeginning v
+beginning-of e s script v starts = record { start = s; script = script; is = rw starts.is refl; runs = starts.runs }
 
-pub beginning-of : (v : VipState) → IsStarted v → IsBeginning v
-beginning-of v started = record { start = Reset started.game; script = started.script; is = started.is; runs = started.runs }
+-- it is what begins with its own edition, start and script
+pub begun-of : (v : VipState) → IsBeginning v → v ≡ begun v.edition v.start v.board.script
+begun-of v begins = subst (λ (u : VipState). u ≡ begun u.edition u.start u.board.script) (sym begins.is) refl
 
--- and a fresh one
+-- it is a fresh one
 pub fresh-of : (v : VipState) → IsBeginning v → IsFresh v
 fresh-of v begins = fresh-begun v v.edition begins.start begins.script begins.is begins.runs
 
--- a game's run that goes on from a file is such a one
-pub resumed-of : (file : List ℕ) (scripts : List (List ℕ)) (v : VipState) → GoesOn file scripts v → IsBeginning v
-resumed-of file scripts v goes = record { start = Saved file; script = goes.script; is = goes.is; runs = goes.runs }
+-- what holds of every edition and start holds of those of a run whose file fits, and what follows there follows of the run
+module _ (Q : Edition → Start → Type 0) where
+  pub begins-all : (start : asked.Start (List ℕ)) → AreFit (start_files start) → ((e : Edition) (s : Start) → Q e s) → Begins start Q
+  begins-all (beginning.Game game edition) fit all = all edition (Reset game)
+  begins-all (beginning.State file) fit all = record { edition = fit.0.right.0; accepted = fit.0.right.1; here = all fit.0.right.0 (Saved file) }
+  begins-all (beginning.Demo number) fit all = all _ _
 
-module _ (Here : Outcome → Type 0) (run : RunOf Here) where
-  -- it doesn't begin
-  pub refused-start : (refusal : Refusal) → StartAnswers run.edition run.game run.scripts (Err refusal) → RefusedBy Here refusal
-  refused-start Usage answer = absurd answer
-  refused-start (Unread name) answer = absurd answer
-  refused-start (TooLarge kind) answer = absurd answer
-  refused-start (Script line cause) answer = run.fits _ (FaultyScript line cause answer)
-  refused-start (Command line cause) answer = absurd answer
-  refused-start (Source line cause) answer = absurd answer
-  refused-start (State fault) answer = absurd answer
-  refused-start (Rom fault) answer = run.fits _ (FaultyRom answer.script fault answer.reads answer.rom.0 answer.rom.1)
-  refused-start (Certificate line cause) answer = absurd answer
-  refused-start (Proof line cause) answer = absurd answer
-  refused-start (NoCertificate obstacle) answer = absurd answer
-  refused-start NoMemory answer = tt
+  pub begins-map : (P : Edition → Start → Type 0) (start : asked.Start (List ℕ)) → ((e : Edition) (s : Start) → Q e s → P e s) → Begins start Q
+      → Begins start P
+  begins-map P (beginning.Game game edition) follows here = follows edition (Reset game) here
+  begins-map P (beginning.State file) follows here =
+      record { edition = here.edition; accepted = here.accepted; here = follows here.edition (Saved file) here.here }
+  begins-map P (beginning.Demo number) follows here = follows _ _ here
 
-  -- it begins, so what it comes to is settled
-  pub run-comes : (v : VipState) → Begins run.edition run.game run.scripts v → Here (run.outcome v)
-  run-comes v begins = subst (λ w. Here (run.outcome w)) (sym begins.is) (run.fits _ (Runs begins.script begins.reads begins.rom))
+  pub begins-so : (P : Type 0) (start : asked.Start (List ℕ)) → ((e : Edition) (s : Start) → Q e s → P) → Begins start Q → P
+  begins-so P (beginning.Game game edition) follows here = follows edition (Reset game) here
+  begins-so P (beginning.State file) follows here = follows here.edition (Saved file) here.here
+  begins-so P (beginning.Demo number) follows here = follows _ _ here
 
--- ---- a run under the debugger
+-- a refusal at the run's edition and start is one of the run
+module _ (start : asked.Start (List ℕ)) (Here : Edition → Start → Outcome → Type 0) where
+  none-begins : Begins start (λ e s. ⊥) → ⊥
+  none-begins = begins-so (λ e s. ⊥) ⊥ start (λ e s no. no)
 
-module _ (a : AskedDebug) (game text : List ℕ) (scripts : List (List ℕ)) where
-  -- its commands aren't read
-  pub refused-commands : (refusal : Refusal) → DebugCommandsAnswer Chip8 a.run.cycles text (Err refusal)
-      → RefusedBy (HasOutcome (debug a) (game ∷ text ∷ scripts)) refusal
-  refused-commands Usage answer = absurd answer
-  refused-commands (Unread name) answer = absurd answer
-  refused-commands (TooLarge kind) answer = absurd answer
-  refused-commands (Script line cause) answer = absurd answer
-  refused-commands (Command line cause) answer = rw answer refl
-  refused-commands (Source line cause) answer = absurd answer
-  refused-commands (State fault) answer = absurd answer
-  refused-commands (Rom fault) answer = absurd answer
-  refused-commands (Certificate line cause) answer = absurd answer
-  refused-commands (Proof line cause) answer = absurd answer
-  refused-commands (NoCertificate obstacle) answer = absurd answer
-  refused-commands NoMemory answer = tt
+  pub refused-begins : (refusal : Refusal) → Begins start (λ e s. RefusedBy (Here e s) refusal) → RefusedBy (λ o. Begins start (λ e s. Here e s o)) refusal
+  refused-begins Usage at = none-begins at
+  refused-begins (Unread name) at = none-begins at
+  refused-begins (TooLarge kind) at = none-begins at
+  refused-begins (Script line cause) at = at
+  refused-begins (Command line cause) at = at
+  refused-begins (Source line cause) at = at
+  refused-begins (State fault) at = none-begins at
+  refused-begins (Rom fault) at = at
+  refused-begins (Certificate line cause) at = at
+  refused-begins (Proof line cause) at = at
+  refused-begins (NoCertificate obstacle) at = at
+  refused-begins NoMemory at = tt
 
-  -- they are, so it comes to what a run comes to
-  pub as-run :
-      (commands : List DebugCommand) → commands_of Chip8 a.run.cycles text ≡ Ok commands → (o : Outcome)
-      → RunComes a.run.edition a.run.cycles scripts
-      (λ script. written (started a.run.edition game script) a.run.cycles commands at_start)
-      (λ script. debug_ending (started a.run.edition game script) a.run.cycles commands) o
-      → DebugComes a.run.edition game a.run.cycles scripts (commands_of Chip8 a.run.cycles text) o
-  as-run commands read o come = rw read come
+-- ---- its script, and what is shown of it
 
-  abbrev pub debug_run : (commands : List DebugCommand) → commands_of Chip8 a.run.cycles text ≡ Ok commands → RunOf (HasOutcome (debug a) (game ∷ text ∷ scripts))
-  debug_run commands read = record {
-    edition = a.run.edition;
-    game = game;
-    scripts = scripts;
-    outcome = λ v. ran a.run.cycles (written v a.run.cycles commands at_start) (debug_ending v a.run.cycles commands);
-    fits = as-run commands read;
-  }
+module _ (e : Edition) (s : Start) (keys : Option (List ℕ)) where
+  -- its script isn't read
+  pub refused-keys : (refusal : Refusal) → KeysAnswer keys (Err refusal) → BeginAnswers e s keys (Err refusal)
+  refused-keys Usage answer = absurd answer
+  refused-keys (Unread name) answer = absurd answer
+  refused-keys (TooLarge kind) answer = absurd answer
+  refused-keys (Script line cause) answer = answer
+  refused-keys (Command line cause) answer = absurd answer
+  refused-keys (Source line cause) answer = absurd answer
+  refused-keys (State fault) answer = absurd answer
+  refused-keys (Rom fault) answer = absurd answer
+  refused-keys (Certificate line cause) answer = absurd answer
+  refused-keys (Proof line cause) answer = absurd answer
+  refused-keys (NoCertificate obstacle) answer = absurd answer
+  refused-keys NoMemory answer = tt
+
+  -- it is
+  module _ (script : List KeyEvent) (reads : script_in keys ≡ Ok script) where
+    pub begin-answers : (r : Result VipState Refusal) → StartAnswers e s script r → BeginAnswers e s keys r
+    begin-answers (Ok v) answer = record { script = script; reads = reads; here = answer }
+    begin-answers (Err Usage) answer = absurd answer
+    begin-answers (Err (Unread name)) answer = absurd answer
+    begin-answers (Err (TooLarge kind)) answer = absurd answer
+    begin-answers (Err (Script line cause)) answer = absurd answer
+    begin-answers (Err (Command line cause)) answer = absurd answer
+    begin-answers (Err (Source line cause)) answer = absurd answer
+    begin-answers (Err (State fault)) answer = absurd answer
+    begin-answers (Err (Rom fault)) answer = record { script = script; reads = reads; here = answer }
+    begin-answers (Err (Certificate line cause)) answer = absurd answer
+    begin-answers (Err (Proof line cause)) answer = absurd answer
+    begin-answers (Err (NoCertificate obstacle)) answer = absurd answer
+    begin-answers (Err NoMemory) answer = tt
+
+  module _ (limit : ℕ) where
+    -- what is shown of it isn't ready
+    pub refused-show : (asked : Show (List ℕ)) (refusal : Refusal) → ShowReady limit asked (Err refusal) → RefusedBy (ShowComes e s keys limit asked) refusal
+    refused-show asked Usage answer = absurd answer
+    refused-show asked (Unread name) answer = absurd answer
+    refused-show asked (TooLarge kind) answer = absurd answer
+    refused-show asked (Script line cause) answer = absurd answer
+    refused-show (show.Trace with_time with_screen) (Command line cause) answer = absurd answer
+    refused-show show.Pictures (Command line cause) answer = absurd answer
+    refused-show (show.Commands text) (Command line cause) answer = rw answer refl
+    refused-show show.State (Command line cause) answer = absurd answer
+    refused-show (show.Summary number) (Command line cause) answer = absurd answer
+    refused-show asked (Source line cause) answer = absurd answer
+    refused-show asked (State fault) answer = absurd answer
+    refused-show asked (Rom fault) answer = absurd answer
+    refused-show asked (Certificate line cause) answer = absurd answer
+    refused-show asked (Proof line cause) answer = absurd answer
+    refused-show asked (NoCertificate obstacle) answer = absurd answer
+    refused-show asked NoMemory answer = tt
+
+    -- it is ready, so it comes to what it makes of its script
+    module _ (ready : ReadyShow) where
+      abbrev Comes : Outcome → Type 0
+      Comes = RunTo e keys (λ script. shown_as ready (begun e s script) limit)
+
+      comes-as : (asked : Show (List ℕ)) → IsShow limit asked ready → (o : Outcome) → Comes o → ShowComes e s keys limit asked o
+      comes-as (show.Trace with_time with_screen) is o come = rw is at come
+      comes-as show.Pictures is o come = rw is at come
+      comes-as (show.Commands text) is o come = rw is.1 (rw is.2 at come)
+      comes-as show.State is o come = rw is at come
+      comes-as (show.Summary number) is o come = rw is at come
+
+      pub run-comes : (asked : Show (List ℕ)) → IsShow limit asked ready → (v : VipState) → BeginAnswers e s keys (Ok v)
+          → ShowComes e s keys limit asked (shown_as ready v limit)
+      run-comes asked is v begins =
+          comes-as asked is _ (subst (λ w. Comes (shown_as ready w limit)) (sym begins.here.is) (Runs begins.script begins.reads begins.here.rom))
+
+      pub refused-begin : (asked : Show (List ℕ)) → IsShow limit asked ready → (refusal : Refusal) → BeginAnswers e s keys (Err refusal)
+          → RefusedBy (ShowComes e s keys limit asked) refusal
+      refused-begin asked is Usage answer = absurd answer
+      refused-begin asked is (Unread name) answer = absurd answer
+      refused-begin asked is (TooLarge kind) answer = absurd answer
+      refused-begin asked is (Script line cause) answer = comes-as asked is _ (FaultyScript line cause answer)
+      refused-begin asked is (Command line cause) answer = absurd answer
+      refused-begin asked is (Source line cause) answer = absurd answer
+      refused-begin asked is (State fault) answer = absurd answer
+      refused-begin asked is (Rom fault) answer = comes-as asked is _ (FaultyRom answer.script fault answer.reads answer.here.0 answer.here.1)
+      refused-begin asked is (Certificate line cause) answer = absurd answer
+      refused-begin asked is (Proof line cause) answer = absurd answer
+      refused-begin asked is (NoCertificate obstacle) answer = absurd answer
+      refused-begin asked is NoMemory answer = tt
+
+-- the ROM of an edition is refused
+pub rom-refused : (e d : Edition) (s : Start) (script : List KeyEvent) → e ≡ d → (refusal : Refusal) → RomAnswers e (Err refusal)
+    → StartAnswers d s script (Err refusal)
+rom-refused e d s script is refusal answer = at_rom refusal (subst (λ e. RomAnswers e (Err refusal)) is answer)
+  where
+    at_rom : (refusal : Refusal) → RomAnswers d (Err refusal) → StartAnswers d s script (Err refusal)
+    at_rom Usage answer = absurd answer
+    at_rom (Unread name) answer = absurd answer
+    at_rom (TooLarge kind) answer = absurd answer
+    at_rom (Script line cause) answer = absurd answer
+    at_rom (Command line cause) answer = absurd answer
+    at_rom (Source line cause) answer = absurd answer
+    at_rom (State fault) answer = absurd answer
+    at_rom (Rom fault) answer = answer
+    at_rom (Certificate line cause) answer = absurd answer
+    at_rom (Proof line cause) answer = absurd answer
+    at_rom (NoCertificate obstacle) answer = absurd answer
+    at_rom NoMemory answer = tt
 
 -- ---- what the debugger answers of a machine that begins
 
-module _ (limit : ℕ) (commands : List DebugCommand) (v w : VipState) (old new : SinkMeaning) (begins : IsStarted v) where
+module _ (limit : ℕ) (commands : List DebugCommand) (v w : VipState) (old new : SinkMeaning) (begins : IsBeginning v) where
   abbrev Answered : DebugEnd → Type 0
-  Answered end = DebugAnswers (begun v) (max limit v.board.machine.cycle) commands (place_of v) w old new end
+  Answered end = DebugAnswers (begun_there v) (max limit v.board.machine.cycle) commands (place_of v) w old new end
+
+  abbrev Answers_to : ℕ → VipState → DebugEnd → Type 0
+  Answers_to last u end = DebugAnswers u last commands (at_start u) w old new end
 
   -- it begins before the first move, and the limit isn't in its past
-  from-start : (end : DebugEnd) → Answered end → DebugAnswers v limit commands at_start w old new end
+  from-begun : (e : Edition) (s : Start) (script : List KeyEvent) (end : DebugEnd)
+      → Answers_to (max limit (machine_of s).cycle) (begun e s script) end → Answers_to (limit_from s limit) (begun e s script) end
+  from-begun e (Reset game) script end answers = rw max-zero at answers
+  from-begun e (Saved file) script end answers = answers
+
+  from-start : (end : DebugEnd) → Answered end → Answers_to (limit_from v.start limit) v end
   from-start end =
       subst
-      (λ u. DebugAnswers (begun u) (max limit u.board.machine.cycle) commands (place_of u) w old new end → DebugAnswers u limit commands at_start w old new end)
+      (λ u. DebugAnswers (begun_there u) (max limit u.board.machine.cycle) commands (place_of u) w old new end → Answers_to (limit_from u.start limit) u end)
       (sym begins.is)
-      (λ answers. rw max-zero at answers)
+      (from-begun v.edition begins.start begins.script end)
 
-  pub debug-done : Answered debugger.Done → (AtLimit ≡ debug_ending v limit commands) × PutsAll (written v limit commands at_start) old new
+  abbrev last : ℕ
+  last = limit_from v.start limit
+
+  pub debug-done : Answered debugger.Done → (AtLimit ≡ debug_ending v last commands) × PutsAll (written v last commands (at_start v)) old new
   debug-done answers =
       let here = from-start debugger.Done answers in
-      let runs : is_stop (interpreter v) (state_after v (place_after v limit commands at_start).moves) ≡ false = rw here.0.stands.machine at here.1 in
+      let runs : is_stop (interpreter v) (state_after v (place_after v last commands (at_start v)).moves) ≡ false = rw here.0.stands.machine at here.1 in
       (rw runs refl, here.0.puts)
 
   pub debug-stopped :
       (stop : StopRecord) → Answered (debugger.Stopped stop)
-      → (stopped_by stop ≡ debug_ending v limit commands) × PutsAll (written v limit commands at_start) old new
+      → (stopped_by stop ≡ debug_ending v last commands) × PutsAll (written v last commands (at_start v)) old new
   debug-stopped stop answers =
       let here = from-start (debugger.Stopped stop) answers in
-      let stops : is_stop (interpreter v) (state_after v (place_after v limit commands at_start).moves) ≡ true = rw here.0.stands.machine at here.1 in
+      let stops : is_stop (interpreter v) (state_after v (place_after v last commands (at_start v)).moves) ≡ true = rw here.0.stands.machine at here.1 in
       (rw stops (ap stopped_by here.2), here.0.puts)
 
-  pub debug-fails : Answered debugger.WriteFault → FailsWithin (written v limit commands at_start) old new
+  pub debug-fails : Answered debugger.WriteFault → FailsWithin (written v last commands (at_start v)) old new
   debug-fails answers = (from-start debugger.WriteFault answers).0
 
 -- ---- the work
@@ -205,9 +285,9 @@ save-performs limit ending (Some file) old new (Ok (Some end)) saves = record {
 }
 save-performs limit ending (Some file) old new (Err failed) fails = fails
 
-module _ (limit : ℕ) (commands : List DebugCommand) (v w : VipState) (old new : SinkMeaning) (begins : IsStarted v) where
+module _ (limit : ℕ) (commands : List DebugCommand) (v w : VipState) (old new : SinkMeaning) (begins : IsBeginning v) where
   abbrev Comes-to : Outcome
-  Comes-to = ran limit (written v limit commands at_start) (debug_ending v limit commands)
+  Comes-to = debugged_to limit (limit_from v.start limit) commands v
 
   -- commands that were run
   pub debug-performs :
@@ -221,187 +301,86 @@ module _ (limit : ℕ) (commands : List DebugCommand) (v w : VipState) (old new 
       rw is (record { puts = stopped.1; status_is = ap end_status (sym stopped.0); report_is = ap (end_report limit) (sym stopped.0) })
   debug-performs debugger.WriteFault r answers is = rw is (debug-fails limit commands v w old new begins answers)
 
--- ---- each command
-
--- a demonstration runs the game of its number
-module _ (a : AskedDemo) (game : List ℕ) (is : game ≡ demo_game a.number) where
-  pub demo-comes :
-      (o : Outcome)
-      → RunComes Usual a.cycles []
-      (λ script. run_summary a.number (started Usual game script) a.cycles) (λ script. ended_by a.cycles (started Usual game script)) o
-      → HasOutcome (demo a) [] o
-  demo-comes o come =
-      subst (λ g. RunComes Usual a.cycles [] (λ script. run_summary a.number (started Usual g script) a.cycles) (run_ending Usual g a.cycles) o) is come
-
-  abbrev pub demo_run : RunOf (HasOutcome (demo a) [])
-  demo_run = record {
-    edition = Usual;
-    game = game;
-    scripts = [];
-    outcome = λ v. ran a.cycles (run_summary a.number v a.cycles) (ended_by a.cycles v);
-    fits = demo-comes;
-  }
-
-module _ (game : List ℕ) (scripts : List (List ℕ)) where
-  abbrev pub trace_run : (a : AskedTrace) → RunOf (HasOutcome (trace a) (game ∷ scripts))
-  trace_run a = record {
-    edition = a.run.edition;
-    game = game;
-    scripts = scripts;
-    outcome = λ v. ran a.run.cycles (run_trace a.with_time a.with_screen v a.run.cycles) (ended_by a.run.cycles v);
-    fits = λ o come. come;
-  }
-
-  abbrev pub play_run : (a : AskedRun) → RunOf (HasOutcome (play a) (game ∷ scripts))
-  play_run a = record {
-    edition = a.edition;
-    game = game;
-    scripts = scripts;
-    outcome = λ v. ran a.cycles (run_pictures v a.cycles) (ended_by a.cycles v);
-    fits = λ o come. come;
-  }
-
-  abbrev pub save_run : (a : AskedRun) → RunOf (HasOutcome (save a) (game ∷ scripts))
-  save_run a = record {
-    edition = a.edition;
-    game = game;
-    scripts = scripts;
-    outcome = saved_run a.cycles;
-    fits = λ o come. come;
-  }
-
--- of an accepted file whose script is read, the ROM of its edition is refused
-module _ (file : List ℕ) (scripts : List (List ℕ)) (d : Edition) (script : List KeyEvent) (accepted : IsAccepted d file) (reads : script_in scripts ≡ Ok script) where
-  rom-at : (refusal : Refusal) → RomAnswers d (Err refusal) → ResumeAnswers file scripts (Err refusal)
-  rom-at Usage answer = absurd answer
-  rom-at (Unread name) answer = absurd answer
-  rom-at (TooLarge kind) answer = absurd answer
-  rom-at (Script line cause) answer = absurd answer
-  rom-at (Command line cause) answer = absurd answer
-  rom-at (Source line cause) answer = absurd answer
-  rom-at (State fault) answer = absurd answer
-  rom-at (Rom fault) answer = record { edition = d; accepted = accepted; here = record { script = script; reads = reads; rom = answer } }
-  rom-at (Certificate line cause) answer = absurd answer
-  rom-at (Proof line cause) answer = absurd answer
-  rom-at (NoCertificate obstacle) answer = absurd answer
-  rom-at NoMemory answer = tt
-
-  pub rom-refused : (e : Edition) → e ≡ d → (refusal : Refusal) → RomAnswers e (Err refusal) → ResumeAnswers file scripts (Err refusal)
-  rom-refused e is refusal answer = rom-at refusal (subst (λ e. RomAnswers e (Err refusal)) is answer)
-
--- a run that goes on from a file
-module _ (a : AskedResume) (file : List ℕ) (scripts : List (List ℕ)) where
-  -- it doesn't begin
-  pub refused-resume : (refusal : Refusal) → ResumeAnswers file scripts (Err refusal) → RefusedBy (HasOutcome (resume a) (file ∷ scripts)) refusal
-  refused-resume Usage answer = absurd answer
-  refused-resume (Unread name) answer = absurd answer
-  refused-resume (TooLarge kind) answer = absurd answer
-  refused-resume (Script line cause) answer = record { edition = answer.edition; accepted = answer.accepted; comes = FaultyScript line cause answer.here }
-  refused-resume (Command line cause) answer = absurd answer
-  refused-resume (Source line cause) answer = absurd answer
-  refused-resume (State fault) answer = absurd answer
-  refused-resume (Rom fault) answer = record {
-    edition = answer.edition;
-    accepted = answer.accepted;
-    comes = FaultyRom answer.here.script fault answer.here.reads answer.here.rom.0 answer.here.rom.1;
-  }
-  refused-resume (Certificate line cause) answer = absurd answer
-  refused-resume (Proof line cause) answer = absurd answer
-  refused-resume (NoCertificate obstacle) answer = absurd answer
-  refused-resume NoMemory answer = tt
-
-  -- it begins, so its records are settled, with its ending
-  abbrev resumed_run : VipState → Outcome
-  resumed_run v = ran a.cycles (run_trace a.with_time false v a.cycles) (ended_by a.cycles v)
-
-  -- what is written of its events is that of their points
-  module _ (e : Edition) (script : List KeyEvent) where
-    abbrev behind : List Event
-    behind = events_behind (interpreter_of e) script (shown file) a.cycles
-
-    records_are : run_trace a.with_time false (begun_from e (Saved file) script) a.cycles ≡ trace_lines e a.with_time (points_in e file script a.cycles)
-    records_are =
-        append-nil (trace_lines e a.with_time behind) ∙ sym (lines_of_points e a.with_time behind)
-        ∙ ap (trace_lines e a.with_time) (points_behind_are (interpreter_of e) script (shown file) a.cycles)
-
-    ending_is : ended_by a.cycles (begun_from e (Saved file) script) ≡ ending_from e file a.cycles script
-    ending_is =
-        let first : ended_by a.cycles (begun_from e (Saved file) script)
-        ≡ ending_after e (view_at e (shown file)).pc (view_at e (shown file)).opcode behind = unfold ending_after in refl in
-        first
-        ∙ sym (ending_of_points e (view_at e (shown file)).pc (view_at e (shown file)).opcode behind)
-        ∙ ap (ending_after e (view_at e (shown file)).pc (view_at e (shown file)).opcode)
-        (points_behind_are (interpreter_of e) script (shown file) a.cycles)
-
-    outcome_is : resumed_run (begun_from e (Saved file) script) ≡ resumed a e file script
-    outcome_is = ap₂ (ran a.cycles) records_are ending_is
-
-  pub resume-comes : (v : VipState) → GoesOn file scripts v → HasOutcome (resume a) (file ∷ scripts) (resumed_run v)
-  resume-comes v goes =
-      subst (HasOutcome (resume a) (file ∷ scripts)) (sym (ap resumed_run goes.is ∙ outcome_is v.edition goes.script))
-      (record { edition = v.edition; accepted = goes.accepted; comes = Runs goes.script goes.reads goes.rom })
-
 -- ---- what is opened
-
--- a verb without files has no contents
-pub no-contents : (contents : List (List ℕ)) → FitAll [] contents → contents ≡ []
-no-contents [] fit = refl
-no-contents (content ∷ contents) fit = absurd fit
 
 module _ (HasOutcome : Outcome → Type 0) where
   pub text-answers : (r : Result (Vec ℕ Global) Refusal) → TextAnswers HasOutcome r → PrepareAnswers HasOutcome (texted r)
   text-answers (Ok text) answers = (tt, answers)
   text-answers (Err refusal) answers = answers
 
+-- with the files read, as many cycles and moves are asked for as before
+module _ {A B : Type 0} (f : A → B) where
+  same-cycles : (r : Request A) → cycles_in (map_request f r) ≡ cycles_in r
+  same-cycles (request.Run run) = refl
+  same-cycles (request.Program run) = refl
+  same-cycles (request.Link message moves number) = refl
+  same-cycles (request.Asm source raw) = refl
+  same-cycles (request.List source) = refl
+  same-cycles (request.Dis bytes address) = refl
+  same-cycles (request.Source text) = refl
+  same-cycles request.Bounds = refl
+  same-cycles (request.Cycles source certificate) = refl
+  same-cycles (request.Safe game certificate edition) = refl
+  same-cycles (request.Certify game edition) = refl
+
+  same-moves : (r : Request A) → moves_in (map_request f r) ≡ moves_in r
+  same-moves (request.Run run) = refl
+  same-moves (request.Program run) = refl
+  same-moves (request.Link message moves number) = refl
+  same-moves (request.Asm source raw) = refl
+  same-moves (request.List source) = refl
+  same-moves (request.Dis bytes address) = refl
+  same-moves (request.Source text) = refl
+  same-moves request.Bounds = refl
+  same-moves (request.Cycles source certificate) = refl
+  same-moves (request.Safe game certificate edition) = refl
+  same-moves (request.Certify game edition) = refl
+
+module _ {A B : Type 0} (f : A → List ℕ) (g : B → List ℕ) (old new : FilesMeaning) (named : Request A) (read : Request B)
+    (loaded : IsLoaded old new (map_request f named) (map_request g read)) where
+  pub cycles-loaded : cycles_in read ≡ cycles_in named
+  cycles-loaded =
+      sym (same-cycles (λ _. tt) (map_request g read) ∙ same-cycles g read)
+      ∙ ap cycles_in (sym loaded.shape) ∙ same-cycles (λ _. tt) (map_request f named) ∙ same-cycles f named
+
+  pub moves-loaded : moves_in read ≡ moves_in named
+  moves-loaded =
+      sym (same-moves (λ _. tt) (map_request g read) ∙ same-moves g read)
+      ∙ ap moves_in (sym loaded.shape) ∙ same-moves (λ _. tt) (map_request f named) ∙ same-moves f named
+
 module _ (asked : Asked) (old new : FilesMeaning) where
-  files-refused : (Z : Type 0) (refusal : Refusal) → FilesAnswer {Z = Z} old new (needed asked) (Err refusal) → OpenAnswers asked old new (Err refusal)
-  files-refused Z Usage answer = absurd answer
-  files-refused Z (Unread name) answer = answer
-  files-refused Z (TooLarge kind) answer = answer
-  files-refused Z (Script line cause) answer = absurd answer
-  files-refused Z (Command line cause) answer = absurd answer
-  files-refused Z (Source line cause) answer = absurd answer
-  files-refused Z (State fault) answer = answer
-  files-refused Z (Rom fault) answer = absurd answer
-  files-refused Z (Certificate line cause) answer = absurd answer
-  files-refused Z (Proof line cause) answer = absurd answer
-  files-refused Z (NoCertificate obstacle) answer = absurd answer
-  files-refused Z NoMemory answer = answer
-
   -- a file is refused
-  pub refused-files :
-      (Z : Type 0) (ns : List Needed) (refusal : Refusal) → ns ≡ needed asked → FilesAnswer {Z = Z} old new ns (Err refusal)
-      → OpenAnswers asked old new (Err refusal)
-  refused-files Z ns refusal is answer = files-refused Z refusal (subst (λ ns. FilesAnswer {Z = Z} old new ns (Err refusal)) is answer)
+  pub files-refused : (refusal : Refusal) → FilesRefused old new (needed asked) refusal → OpenAnswers asked old new (Err refusal)
+  files-refused Usage answer = absurd answer
+  files-refused (Unread name) answer = answer
+  files-refused (TooLarge kind) answer = answer
+  files-refused (Script line cause) answer = absurd answer
+  files-refused (Command line cause) answer = absurd answer
+  files-refused (Source line cause) answer = absurd answer
+  files-refused (State fault) answer = answer
+  files-refused (Rom fault) answer = absurd answer
+  files-refused (Certificate line cause) answer = absurd answer
+  files-refused (Proof line cause) answer = absurd answer
+  files-refused (NoCertificate obstacle) answer = absurd answer
+  files-refused NoMemory answer = answer
 
-  module _ (contents : List (List ℕ)) (read : HasAll old (needed asked) contents) (reads : new ≡ with_reads (reads_of (needed asked) contents) old) where
-    refused-contents : (refusal : Refusal) → RefusedBy (HasOutcome asked contents) refusal → OpenAnswers asked old new (Err refusal)
-    refused-contents Usage answer = absurd answer
-    refused-contents (Unread name) answer = absurd answer
-    refused-contents (TooLarge kind) answer = absurd answer
-    refused-contents (Script line cause) answer = record { contents = contents; read = read; reads = reads; here = answer }
-    refused-contents (Command line cause) answer = record { contents = contents; read = read; reads = reads; here = answer }
-    refused-contents (Source line cause) answer = record { contents = contents; read = read; reads = reads; here = answer }
-    refused-contents (State fault) answer = absurd answer
-    refused-contents (Rom fault) answer = record { contents = contents; read = read; reads = reads; here = answer }
-    refused-contents (Certificate line cause) answer = record { contents = contents; read = read; reads = reads; here = answer }
-    refused-contents (Proof line cause) answer = record { contents = contents; read = read; reads = reads; here = answer }
-    refused-contents (NoCertificate obstacle) answer = record { contents = contents; read = read; reads = reads; here = answer }
-    refused-contents NoMemory answer = record {
-      count = length (needed asked);
-      reads = reads_of (needed asked) contents;
-      names = rw (take_all (length (needed asked)) (needed asked) (omega arith)) (names_read old (needed asked) contents read);
-      made = ap (λ m. m.reads) reads;
-    }
+  -- all were read
+  module _ (request : Loaded) (loaded : IsLoaded old new asked request) where
+    refused-loaded : (refusal : Refusal) → RefusedBy (HasOutcome request) refusal → OpenAnswers asked old new (Err refusal)
+    refused-loaded Usage answer = absurd answer
+    refused-loaded (Unread name) answer = absurd answer
+    refused-loaded (TooLarge kind) answer = absurd answer
+    refused-loaded (Script line cause) answer = record { request = request; loaded = loaded; here = answer }
+    refused-loaded (Command line cause) answer = record { request = request; loaded = loaded; here = answer }
+    refused-loaded (Source line cause) answer = record { request = request; loaded = loaded; here = answer }
+    refused-loaded (State fault) answer = absurd answer
+    refused-loaded (Rom fault) answer = record { request = request; loaded = loaded; here = answer }
+    refused-loaded (Certificate line cause) answer = record { request = request; loaded = loaded; here = answer }
+    refused-loaded (Proof line cause) answer = record { request = request; loaded = loaded; here = answer }
+    refused-loaded (NoCertificate obstacle) answer = record { request = request; loaded = loaded; here = answer }
+    refused-loaded NoMemory answer =
+        reads-all old new (needed asked) (files_of (needed request)) loaded.loads.read loaded.loads.reads
 
-    opened : (r : Result Prepared Refusal) → PrepareAnswers (HasOutcome asked contents) r → OpenAnswers asked old new r
-    opened (Ok p) answers = (answers.0, record { contents = contents; read = read; reads = reads; here = answers.1 })
-    opened (Err refusal) answers = refused-contents refusal answers
-
-  -- all files were read
-  pub open-answers :
-      (ns : List Needed) (contents : List (List ℕ)) → ns ≡ needed asked → HasAll old ns contents × (new ≡ with_reads (reads_of ns contents) old)
-      → (r : Result Prepared Refusal) → PrepareAnswers (HasOutcome asked contents) r → OpenAnswers asked old new r
-  open-answers ns contents is read r answers =
-      let here = subst (λ ns. HasAll old ns contents × (new ≡ with_reads (reads_of ns contents) old)) is read in
-      opened contents here.0 here.1 r answers
+    pub open-answers : (r : Result Prepared Refusal) → PrepareAnswers (HasOutcome request) r → OpenAnswers asked old new r
+    open-answers (Ok p) answers = (answers.0, record { request = request; loaded = loaded; here = answers.1 })
+    open-answers (Err refusal) answers = refused-loaded refusal answers

@@ -1,12 +1,12 @@
 -- What each command comes to, by the contents of its files.
-use Rattle.std.specs.Prelude.{◌≡◌, ℕ, List, [], ◌∷◌, if◌then◌else◌, Option, Some, None, Result, Ok, Err, length}
+use Rattle.std.specs.Prelude.{◌≡◌, ℕ, List, [], ◌∷◌, ◌++◌, Bool, drop, if◌then◌else◌, Option, Some, None, Result, Ok, Err, length, max}
 use Rattle.machine.specs.Board.{Machine}
-use Rattle.machine.specs.Keys.{Event as KeyEvent}
+use Rattle.machine.specs.Keys.{Event as KeyEvent, held_at}
+use Rattle.machine.specs.Run.{run_to}
 use Rattle.chip8_lang.specs.declared.view.Edition.{Edition}
 use Rattle.chip8_lang.specs.declared.view.Edition.TheVariants.{Usual}
 use Rattle.chip8_lang.specs.declared.view.StopRecord.{StopRecord}
-use Rattle.chip8_lang.specs.Events.{Event, events_of, game_run, is_stop}
-use Rattle.chip8_lang.specs.View.{view_at}
+use Rattle.chip8_lang.specs.Events.{Event, is_stop}
 use Rattle.asm_core.specs.Sources.{source_lines}
 use Rattle.chip8_source.specs.Compared.{Compares}
 use Rattle.chip8_source.specs.declared.fault.ImageFault.{ImageFault}
@@ -17,27 +17,33 @@ use Rattle.vip_link.specs.Pair.{Pair}
 use Rattle.vip_link.specs.Schedules.{schedule_by}
 use Rattle.vip_words.specs.DebugGrammar.{commands_of}
 use Rattle.vip_words.specs.declared.debug_commands.Command.{Command}
-use Rattle.vip_words.specs.declared.debug_commands.Speaks.TheVariants.{Chip8, Machine as Processor}
+use Rattle.vip_words.specs.declared.debug_commands.Speaks.TheVariants.{Chip8}
 use Rattle.vip_words.specs.declared.debug_commands.CommandFault.{CommandFault}
 use Rattle.vip_words.specs.declared.debug_commands.CommandFault.TheVariants as command
+use Rattle.vip_words.specs.declared.request.RunRequest.{RunRequest}
+use Rattle.vip_words.specs.declared.request.Request.TheVariants as request
+use Rattle.vip_words.specs.declared.request.Show.{Show}
+use Rattle.vip_words.specs.declared.request.Show.TheVariants as show
+use Rattle.vip_words.specs.declared.request.Start as asked
+use Rattle.vip_words.specs.declared.request.Start.TheVariants as beginning
 use Rattle.vip_debug.specs.Answers.{at_start, place_after, stop_by, written}
 use Rattle.vip_keypad.specs.declared.script.ScriptCause.{ScriptCause}
 use Rattle.vip_keypad.specs.declared.script.ScriptFault.TheVariants.{Fault}
-use Rattle.vip_program.specs.Pictures.{pictured}
-use Rattle.vip_program.specs.Trace.{program_trace}
 use Rattle.chip8_image.specs.Interpreters.{interpreter_of}
-use Rattle.vip_relation.specs.State.{VipState, interpreter, started, state_after}
-use Rattle.vip_show.specs.Endings.{ending_after, ending_of}
-use Rattle.vip_show.specs.Output.{trace_lines, trace_pieces, picture_pieces, summary}
-use Rattle.vip_text.specs.StateFile.{shown, IsAccepted}
+use Rattle.vip_relation.specs.Follows.{last_dispatch}
+use Rattle.vip_relation.specs.State.{Start, VipState, begun, events_from, first_events, interpreter, machine_of, state_after}
+use Rattle.vip_relation.specs.State.Start.{Reset, Saved}
+use Rattle.vip_show.specs.Endings.{ending_of}
+use Rattle.vip_show.specs.Output.{count_of, is_dispatch_event, is_picture_event, lit_at, picture_pieces, screen_piece, trace_lines}
 use Rattle.vip_show.specs.StateOutput.{saved_file}
-use Rattle.vip_show.specs.Points.{points_behind}
+use Rattle.vip_text.specs.StateFile.{shown as saved_machine, IsAccepted}
+use Rattle.vip_text.specs.Summaries.{summary_line}
 use Rattle.vip_text.specs.Endings.{Ending}
 use Rattle.vip_text.specs.Endings.Ending.{AtLimit, AtStop}
 use Rattle.vip_link.specs.Roms.{receiver_text, sender_text}
 use Rattle.vip_words.specs.declared.request.BuiltIn.{BuiltIn}
 use Rattle.vip_words.specs.declared.request.BuiltIn.TheVariants.{Interpreter, Receiver, Sender}
-use Rattle.vip_words.specs.Asked.{Asked, AskedResume, trace, play, debug, demo, save, resume, asm, list, dis, source, bounds, within, safe, certify, trace_program, play_program, debug_program, AskedLink, link}
+use Rattle.vip_tools.specs.Files.{Loaded}
 use Rattle.vip_tools.specs.Refusal.{image_status}
 use Rattle.vip_tools.specs.Status.{end_status}
 use Rattle.vip_tools.specs.Report.{bad_command, bad_script, image_report, end_report, no_dispatch, linked_report}
@@ -46,20 +52,24 @@ use Rattle.vip_tools.specs.Certificates.{CertifyComes, CyclesComes, SafeComes}
 use Rattle.vip_tools.specs.Demo.{demo_game}
 use Rattle.vip_tools.specs.Outcome.{Outcome, AsmComes, BoundsComes, DisComes, ListComes, Writes, rom_text, script_in}
 use Rattle.vip_tools.specs.Outcome.Outcome.{Refused, Shown}
-use Rattle.vip_verbs.specs.Programs.{ProgramComes, ProgramDebugComes, ended_at}
+use Rattle.vip_verbs.specs.Programs.{ProgramRunComes}
 
 -- ---- a run
 
--- the run of an edition's game under a script up to a limit, and its events
-abbrev pub run_of : Edition → List ℕ → List KeyEvent → ℕ → List Machine
-run_of e game script limit = game_run (interpreter_of e) game script limit
+-- the run from a start under a script up to a limit, and its events; and those that are shown, without the dispatch point of a saved state, which
+-- counts as met
+abbrev pub run_of : Edition → Start → List KeyEvent → ℕ → List Machine
+run_of e s script limit = run_to (interpreter_of e).rom (held_at script) (machine_of s) limit
 
-abbrev pub events_in : Edition → List ℕ → List KeyEvent → ℕ → List Event
-events_in e game script limit = events_of (interpreter_of e) game script limit
+abbrev pub events_in : Edition → Start → List KeyEvent → ℕ → List Event
+events_in e s script limit = events_from (interpreter_of e) script s limit
+
+abbrev pub events_shown : Edition → Start → List KeyEvent → ℕ → List Event
+events_shown e s script limit = drop (length (first_events s)) (events_in e s script limit)
 
 -- how it ends, by its events
-abbrev pub run_ending : Edition → List ℕ → ℕ → List KeyEvent → Ending
-run_ending e game limit script = ending_of e (events_in e game script limit)
+abbrev pub run_ending : Edition → Start → List KeyEvent → ℕ → Ending
+run_ending e s script limit = ending_of e (events_in e s script limit)
 
 -- what an edition's built-in source gives, compared with its ROM
 abbrev pub RomIs : Edition → Result (Unit {0}) ImageFault → Type 0
@@ -70,21 +80,47 @@ abbrev pub IsFault : ImageFault → Type 0
 IsFault NoMemory = ⊥
 IsFault _ = Unit {0}
 
+-- the file is accepted, and of its edition this holds
+pub record Accepts (file : List ℕ) (Here : Edition → Type 0) : Type 0 where
+  pub edition : Edition
+  pub accepted : IsAccepted edition file
+  pub here : Here edition
+
+-- Of the edition and the start of a run this holds: with a game, in the edition that is asked for; from an accepted file of a saved state, in its own;
+-- with the demonstration game of a number, in the usual one. A file with a fault was refused when it was read.
+abbrev pub Begins : asked.Start (List ℕ) → (Edition → Start → Type 0) → Type 0
+Begins (beginning.Game game edition) Here = Here edition (Reset game)
+Begins (beginning.State file) Here = Accepts file (λ e. Here e (Saved file))
+Begins (beginning.Demo number) Here = Here Usual (Reset (demo_game number))
+
 -- A run comes to the first fault of its script, to a ROM that isn't what its source gives, or to what it makes of its script.
-pub data RunTo (e : Edition) (scripts : List (List ℕ)) (outcome : List KeyEvent → Outcome) : Outcome → Type 0 where
-  FaultyScript : (line : ℕ) (cause : ScriptCause) → script_in scripts ≡ Err (Fault line cause)
-      → RunTo e scripts outcome (Refused BadScript (bad_script line cause))
-  FaultyRom : (script : List KeyEvent) (fault : ImageFault) → script_in scripts ≡ Ok script → IsFault fault → RomIs e (Err fault)
-      → RunTo e scripts outcome (Refused (image_status fault) (image_report fault))
-  Runs : (script : List KeyEvent) → script_in scripts ≡ Ok script → RomIs e (Ok tt) → RunTo e scripts outcome (outcome script)
+pub data RunTo (e : Edition) (keys : Option (List ℕ)) (outcome : List KeyEvent → Outcome) : Outcome → Type 0 where
+  FaultyScript : (line : ℕ) (cause : ScriptCause) → script_in keys ≡ Err (Fault line cause)
+      → RunTo e keys outcome (Refused BadScript (bad_script line cause))
+  FaultyRom : (script : List KeyEvent) (fault : ImageFault) → script_in keys ≡ Ok script → IsFault fault → RomIs e (Err fault)
+      → RunTo e keys outcome (Refused (image_status fault) (image_report fault))
+  Runs : (script : List KeyEvent) → script_in keys ≡ Ok script → RomIs e (Ok tt) → RunTo e keys outcome (outcome script)
 
--- that is its output and its ending, where it is shown up to a limit
-abbrev pub RunComes : Edition → ℕ → List (List ℕ) → (List KeyEvent → List (List ℕ)) → (List KeyEvent → Ending) → Outcome → Type 0
-RunComes e limit scripts pieces ending = RunTo e scripts (λ script. Shown (pieces script) (end_status (ending script)) (end_report limit (ending script)))
+-- ---- what is shown of a run
 
--- ---- a run that is saved
+-- its output up to a limit, and its ending
+abbrev pub ran : ℕ → List (List ℕ) → Ending → Outcome
+ran limit pieces ending = Shown pieces (end_status ending) (end_report limit ending)
 
--- It comes to the file of the last dispatch point, and ends as the run does. Where there is no such point it is refused.
+-- the lines behind its start, and the screen at the last dispatch point, which is the saved one where none came
+abbrev pub traced : Bool → Bool → Edition → Start → List KeyEvent → ℕ → Outcome
+traced with_time with_screen e s script limit =
+    ran limit
+    (trace_lines e with_time (events_shown e s script limit)
+    ++ (if with_screen then screen_piece e (last_dispatch (events_in e s script limit)) else []))
+    (run_ending e s script limit)
+
+-- the pictures
+abbrev pub pictured : Edition → Start → List KeyEvent → ℕ → Outcome
+pictured e s script limit =
+    ran limit (picture_pieces (interpreter_of e).rom (run_of e s script limit) (events_shown e s script limit)) (run_ending e s script limit)
+
+-- The file of the last dispatch point, and the run's end. Where there is no such point the run is refused.
 abbrev pub saved_as : ℕ → Ending → Option (List ℕ) → Outcome
 saved_as limit ending None = Refused NoDispatch no_dispatch
 saved_as limit ending (Some file) = Shown (file ∷ []) (end_status ending) (end_report limit ending)
@@ -92,51 +128,52 @@ saved_as limit ending (Some file) = Shown (file ∷ []) (end_status ending) (end
 abbrev pub saved : Edition → ℕ → List Event → Outcome
 saved e limit events = saved_as limit (ending_of e events) (saved_file e events)
 
-abbrev pub SaveComes : Edition → List ℕ → ℕ → List (List ℕ) → Outcome → Type 0
-SaveComes e game limit scripts = RunTo e scripts (λ script. saved e limit (events_in e game script limit))
+-- one line that counts
+abbrev pub counted : ℕ → Edition → Start → List KeyEvent → ℕ → Outcome
+counted number e s script limit =
+    let shown = events_shown e s script limit in
+    ran limit
+    (summary_line number (count_of is_dispatch_event shown) (count_of is_picture_event shown) (lit_at e (last_dispatch (events_in e s script limit))) ∷ [])
+    (run_ending e s script limit)
 
--- ---- a run that goes on from a file
-
--- the points behind the file's state under a script up to a limit, and how the run ends by them
-abbrev pub points_in : Edition → List ℕ → List KeyEvent → ℕ → List Event
-points_in e file script limit = points_behind (interpreter_of e) script (shown file) limit
-
-abbrev pub ending_from : Edition → List ℕ → ℕ → List KeyEvent → Ending
-ending_from e file limit script = ending_after e (view_at e (shown file)).pc (view_at e (shown file)).opcode (points_in e file script limit)
-
--- its records, and its end
-abbrev pub resumed : AskedResume → Edition → List ℕ → List KeyEvent → Outcome
-resumed a e file script =
-    let ending = ending_from e file a.cycles script in
-    Shown (trace_lines e a.with_time (points_in e file script a.cycles)) (end_status ending) (end_report a.cycles ending)
-
--- From an accepted file it comes, as other runs of the file's edition do, to the records of the points behind its state. A file with a fault was
--- refused when it was read.
-pub record ResumeComes (a : AskedResume) (file : List ℕ) (scripts : List (List ℕ)) (o : Outcome) : Type 0 where
-  pub edition : Edition
-  pub accepted : IsAccepted edition file
-  pub comes : RunTo edition scripts (resumed a edition file) o
-
--- ---- a run under the debugger
-
+-- the answers of the debugger's commands. It ends where they leave the board: with the stop, where that is a stop point, and else as at the limit.
 abbrev pub stopped_by : StopRecord → Ending
 stopped_by stop = AtStop stop.stop stop.pc stop.opcode
 
--- It ends where its commands leave the board: with the stop, where that is a stop point, and else as at the limit.
 abbrev pub ending_where : VipState → ℕ → Ending
 ending_where v moves = if is_stop (interpreter v) (state_after v moves) then stopped_by (stop_by v moves) else AtLimit
 
-abbrev pub debug_ending : VipState → ℕ → List Command → Ending
-debug_ending v limit commands = ending_where v (place_after v limit commands at_start).moves
+-- a limit before the cycle of a saved state stands there: no move is made
+abbrev pub limit_from : Start → ℕ → ℕ
+limit_from (Reset game) limit = limit
+limit_from (Saved file) limit = max limit (saved_machine file).cycle
 
--- It comes to the first fault of its commands, or else, as other runs do, to the answers of the commands on a board that begins.
-abbrev pub DebugComes : Edition → List ℕ → ℕ → List (List ℕ) → Result (List Command) CommandFault → Outcome → Type 0
-DebugComes e game limit scripts (Ok commands) =
-    RunComes e limit scripts
-    (λ script. written (started e game script) limit commands at_start)
-    (λ script. debug_ending (started e game script) limit commands)
-DebugComes e game limit scripts (Err (command.Fault line cause)) = λ o. o ≡ Refused BadCommand (bad_command line cause)
-DebugComes e game limit scripts (Err command.NoMemory) = λ o. ⊥
+abbrev pub debug_ending : VipState → ℕ → List Command → Ending
+debug_ending v limit commands = ending_where v (place_after v limit commands (at_start v)).moves
+
+-- the answers begin before the first move
+abbrev pub debugged_to : ℕ → ℕ → List Command → VipState → Outcome
+debugged_to limit last commands v = ran limit (written v last commands (at_start v)) (debug_ending v last commands)
+
+abbrev pub debugged : List Command → Edition → Start → List KeyEvent → ℕ → Outcome
+debugged commands e s script limit = debugged_to limit (limit_from s limit) commands (begun e s script)
+
+-- A run under the debugger comes to the first fault of its commands, or else, as other runs do, to what their answers come to.
+abbrev pub DebugComes : Edition → Start → Option (List ℕ) → ℕ → Result (List Command) CommandFault → Outcome → Type 0
+DebugComes e s keys limit (Ok commands) = RunTo e keys (λ script. debugged commands e s script limit)
+DebugComes e s keys limit (Err (command.Fault line cause)) = λ o. o ≡ Refused BadCommand (bad_command line cause)
+DebugComes e s keys limit (Err command.NoMemory) = λ o. ⊥
+
+-- a run from a start under a script file up to a limit that is shown so
+abbrev pub ShowComes : Edition → Start → Option (List ℕ) → ℕ → Show (List ℕ) → Outcome → Type 0
+ShowComes e s keys limit (show.Trace with_time with_screen) = RunTo e keys (λ script. traced with_time with_screen e s script limit)
+ShowComes e s keys limit show.Pictures = RunTo e keys (λ script. pictured e s script limit)
+ShowComes e s keys limit (show.Commands text) = DebugComes e s keys limit (commands_of Chip8 limit text)
+ShowComes e s keys limit show.State = RunTo e keys (λ script. saved e limit (events_in e s script limit))
+ShowComes e s keys limit (show.Summary number) = RunTo e keys (λ script. counted number e s script limit)
+
+abbrev pub RunComes : RunRequest (List ℕ) → Outcome → Type 0
+RunComes run o = Begins run.start (λ e s. ShowComes e s run.keys run.limit run.show o)
 
 -- ---- two boards that are joined
 
@@ -146,10 +183,11 @@ linked_after number moves message = after (schedule_by number moves) message
 
 -- They come to the first of both ROMs that isn't what its source gives, or to the bytes that B received, and the report says how many were sent and
 -- received.
-pub data LinkComes (a : AskedLink) (message : List ℕ) : Outcome → Type 0 where
-  FaultyRoms : (fault : ImageFault) → IsFault fault → ComparesLink (Err fault) → LinkComes a message (Refused (image_status fault) (image_report fault))
-  Links : ComparesLink (Ok tt) → (s : Pair) → s ≡ linked_after a.number a.moves message
-      → LinkComes a message (Shown (s.received ∷ []) Done (linked_report (length s.sent) (length s.received)))
+pub data LinkComes (message : List ℕ) (moves number : ℕ) : Outcome → Type 0 where
+  FaultyRoms : (fault : ImageFault) → IsFault fault → ComparesLink (Err fault)
+      → LinkComes message moves number (Refused (image_status fault) (image_report fault))
+  Links : ComparesLink (Ok tt) → (s : Pair) → s ≡ linked_after number moves message
+      → LinkComes message moves number (Shown (s.received ∷ []) Done (linked_report (length s.sent) (length s.received)))
 
 -- ---- a source that the program has in it
 
@@ -161,36 +199,18 @@ built_in_text Receiver = receiver_text
 abbrev pub BuiltInComes : BuiltIn → Outcome → Type 0
 BuiltInComes text = Writes (built_in_text text)
 
--- ---- a command
+-- ---- a request
 
--- what a command comes to, by the contents of its files in their order
-abbrev pub HasOutcome : Asked → List (List ℕ) → Outcome → Type 0
-HasOutcome (trace a) (game ∷ scripts) =
-    RunComes a.run.edition a.run.cycles scripts
-    (λ script. trace_pieces a.run.edition a.with_time a.with_screen (events_in a.run.edition game script a.run.cycles))
-    (run_ending a.run.edition game a.run.cycles)
-HasOutcome (play a) (game ∷ scripts) =
-    RunComes a.edition a.cycles scripts
-    (λ script. picture_pieces (interpreter_of a.edition).rom (run_of a.edition game script a.cycles) (events_in a.edition game script a.cycles))
-    (run_ending a.edition game a.cycles)
-HasOutcome (debug a) (game ∷ commands ∷ scripts) = DebugComes a.run.edition game a.run.cycles scripts (commands_of Chip8 a.run.cycles commands)
-HasOutcome (demo a) [] =
-    RunComes Usual a.cycles []
-    (λ script. summary Usual a.number (events_in Usual (demo_game a.number) script a.cycles) ∷ [])
-    (run_ending Usual (demo_game a.number) a.cycles)
-HasOutcome (save a) (game ∷ scripts) = SaveComes a.edition game a.cycles scripts
-HasOutcome (resume a) (file ∷ scripts) = ResumeComes a file scripts
-HasOutcome (trace_program a) (bytes ∷ scripts) = ProgramComes a.memory bytes a.cycles scripts (λ board. program_trace board a.cycles) (ended_at a.cycles)
-HasOutcome (play_program a) (bytes ∷ scripts) = ProgramComes a.memory bytes a.cycles scripts (λ board. pictured board a.cycles) (ended_at a.cycles)
-HasOutcome (debug_program a) (bytes ∷ commands ∷ scripts) =
-    ProgramDebugComes a.run.memory bytes a.run.cycles scripts (commands_of Processor a.run.cycles commands)
-HasOutcome (link a) (message ∷ []) = LinkComes a message
-HasOutcome (asm a) (text ∷ []) = AsmComes a.raw text
-HasOutcome (list name) (text ∷ []) = ListComes text
-HasOutcome (dis a) (bytes ∷ []) = DisComes a.address bytes
-HasOutcome (source text) [] = BuiltInComes text
-HasOutcome bounds [] = BoundsComes
-HasOutcome (within a) (text ∷ certificate ∷ []) = CyclesComes text certificate
-HasOutcome (safe a) (game ∷ certificate ∷ []) = SafeComes a.edition game certificate
-HasOutcome (certify a) (game ∷ []) = CertifyComes a.edition game
-HasOutcome _ _ = λ o. ⊥
+-- what a request comes to whose files were read
+abbrev pub HasOutcome : Loaded → Outcome → Type 0
+HasOutcome (request.Run run) = RunComes run
+HasOutcome (request.Program run) = ProgramRunComes run
+HasOutcome (request.Link message moves number) = LinkComes message moves number
+HasOutcome (request.Asm source raw) = AsmComes raw source
+HasOutcome (request.List source) = ListComes source
+HasOutcome (request.Dis bytes address) = DisComes address bytes
+HasOutcome (request.Source text) = BuiltInComes text
+HasOutcome request.Bounds = BoundsComes
+HasOutcome (request.Cycles source certificate) = CyclesComes source certificate
+HasOutcome (request.Safe game certificate edition) = SafeComes edition game certificate
+HasOutcome (request.Certify game edition) = CertifyComes edition game

@@ -2,6 +2,7 @@
 use Rattle.std.specs.Prelude.{◌≡◌, ◌≤◌, ℕ, List, [], ◌∷◌, Option, Some, None, Result, Ok, Err, Vec, length}
 use Rattle.std.specs.declared.alloc.Global.{Global}
 use Rattle.machine.specs.Keys.{Event as KeyEvent}
+use Rattle.vip_board.specs.Seen.{Seen}
 use Rattle.vip_outside.specs.Files.{FilesMeaning}
 use Rattle.vip_outside.specs.Pieces.{PutsAll, FailsWithin}
 use Rattle.vip_outside.specs.Sink.{SinkMeaning}
@@ -9,21 +10,16 @@ use Rattle.vip_outside.specs.declared.sink.Failed.{Failed}
 use Rattle.vip_link.specs.Laws.{most_bytes}
 use Rattle.vip_link.specs.Links.{Linking, started as joined}
 use Rattle.vip_link.specs.Pair.{Pair}
-use Rattle.vip_debug.specs.Answers.{at_start, written}
-use Rattle.vip_debug.specs.Programs.{program_written, machine_with}
 use Rattle.vip_debug.specs.declared.run.DebugEnd.{DebugEnd}
 use Rattle.vip_debug.specs.declared.run.DebugEnd.TheVariants as debugger
-use Rattle.vip_program.specs.Pictures.{pictured as program_pictures}
-use Rattle.vip_program.specs.Trace.{end_at, program_trace as program_lines}
-use Rattle.vip_program.specs.declared.trace.ProgramEnd.{ProgramEnd}
 use Rattle.vip_relation.specs.Meets.{HasStopped}
-use Rattle.vip_relation.specs.State.{Start, VipState, begun, started, events_to}
+use Rattle.vip_relation.specs.State.{Start, VipState, begun, events_to}
 use Rattle.vip_show.specs.Answers.{run_trace, run_pictures, run_summary}
 use Rattle.vip_show.specs.Endings.{ending_of}
 use Rattle.vip_text.specs.Endings.{Ending}
 use Rattle.vip_text.specs.declared.ending.RunEnd.{RunEnd}
 use Rattle.vip_text.specs.declared.ending.RunEnd.TheVariants as end
-use Rattle.vip_words.specs.Asked.{Asked, most_cycles, most_moves}
+use Rattle.vip_words.specs.Request.{Asked, most_cycles, most_moves}
 use Rattle.vip_tools.specs.declared.ended.Ended.{Ended}
 use Rattle.vip_tools.specs.declared.ended.Ended.TheVariants.{Ran}
 use Rattle.vip_tools.specs.declared.fault.PerformFault.{PerformFault}
@@ -32,34 +28,40 @@ use Rattle.vip_tools.specs.declared.refusal.Refusal.{Refusal}
 use Rattle.vip_tools.specs.declared.refusal.Refusal.TheVariants.{Usage, Unread, TooLarge, State, NoMemory}
 use Rattle.vip_tools.specs.declared.status.Status.{Status}
 use Rattle.vip_tools.specs.declared.status.Status.TheVariants.{Done, NoDispatch as undispatched}
-use Rattle.vip_tools.specs.Report.{end_report, ended_report, linked_report, no_dispatch}
-use Rattle.vip_tools.specs.Status.{end_status, ended_status}
-use Rattle.vip_tools.specs.Files.{needed, ComesTo, HasAll, IsFaulty, IsLarger, IsUnread, OnlyReads, ReadsSome, reads_of, with_reads}
+use Rattle.vip_tools.specs.Report.{ended_report, linked_report, no_dispatch}
+use Rattle.vip_tools.specs.Status.{ended_status}
+use Rattle.vip_tools.specs.Files.{FilesRefused, IsLoaded, Loaded, needed}
 use Rattle.vip_tools.specs.Outcome.{Outcome}
 use Rattle.vip_tools.specs.Outcome.Outcome.{Refused, Shown}
 use Rattle.vip_tools.specs.Work.{RefusedBy}
-use Rattle.vip_verbs.specs.Outcome.{HasOutcome, debug_ending, linked_after, saved}
+use Rattle.vip_verbs.specs.Outcome.{HasOutcome, debugged_to, limit_from, linked_after, ran, saved}
+use Rattle.vip_verbs.specs.Programs.{IsBegun, program_debugged, program_pictured, program_traced}
 use Rattle.vip_verbs.specs.declared.prepared.Prepared.{Prepared}
-use Rattle.vip_verbs.specs.declared.prepared.Prepared.TheVariants.{Trace, Play, Debug, Save, Demo, Text, TraceProgram, PlayProgram, DebugProgram, Link}
-use Rattle.vip_verbs.specs.Programs.{IsBegun, ended_at, program_report}
+use Rattle.vip_verbs.specs.declared.prepared.Prepared.TheVariants.{Run, Program, Link, Text}
+use Rattle.vip_verbs.specs.declared.prepared.ReadyProgramShow.{ReadyProgramShow}
+use Rattle.vip_verbs.specs.declared.prepared.ReadyProgramShow.TheVariants as program
+use Rattle.vip_verbs.specs.declared.prepared.ReadyShow.{ReadyShow}
+use Rattle.vip_verbs.specs.declared.prepared.ReadyShow.TheVariants as show
 
 -- ---- what it comes to
-
--- a run up to a limit that is shown, with its ending
-abbrev pub ran : ℕ → List (List ℕ) → Ending → Outcome
-ran limit pieces ending = Shown pieces (end_status ending) (end_report limit ending)
 
 -- how a run ends by its events
 abbrev pub ended_by : ℕ → VipState → Ending
 ended_by limit v = ending_of v.edition (events_to v limit)
 
--- a run that is saved
-abbrev pub saved_run : ℕ → VipState → Outcome
-saved_run limit v = saved v.edition limit (events_to v limit)
+-- a run that is shown so up to a limit
+abbrev pub shown_as : ReadyShow → VipState → ℕ → Outcome
+shown_as (show.Trace with_time with_screen) v limit = ran limit (run_trace with_time with_screen v limit) (ended_by limit v)
+shown_as show.Pictures v limit = ran limit (run_pictures v limit) (ended_by limit v)
+shown_as (show.Commands commands) v limit = debugged_to limit (limit_from v.start limit) commands v
+shown_as show.State v limit = saved v.edition limit (events_to v limit)
+shown_as (show.Summary number) v limit = ran limit (run_summary number v limit) (ended_by limit v)
 
--- a program that is shown, with its end
-abbrev pub program_shown : ℕ → List (List ℕ) → ProgramEnd → Outcome
-program_shown limit pieces end = Shown pieces Done (program_report limit end)
+-- a program that is shown so
+abbrev pub program_shown_as : ReadyProgramShow → Seen → ℕ → Outcome
+program_shown_as program.Trace board limit = program_traced limit board
+program_shown_as program.Pictures board limit = program_pictured limit board
+program_shown_as (program.Commands commands) board limit = program_debugged commands limit board
 
 -- two boards that are joined, by where they come to
 abbrev pub linked : Pair → Outcome
@@ -67,25 +69,12 @@ linked s = Shown (s.received ∷ []) Done (linked_report (length s.sent) (length
 
 -- what a verb that is ready comes to
 abbrev pub outcome_of : Prepared → Outcome
-outcome_of (Trace vip limit with_time with_screen) = ran limit (run_trace with_time with_screen vip limit) (ended_by limit vip)
-outcome_of (Play vip limit) = ran limit (run_pictures vip limit) (ended_by limit vip)
-outcome_of (Debug vip limit commands) = ran limit (written vip limit commands at_start) (debug_ending vip limit commands)
-outcome_of (Save vip limit) = saved_run limit vip
-outcome_of (Demo vip limit number) = ran limit (run_summary number vip limit) (ended_by limit vip)
-outcome_of (TraceProgram board limit) = program_shown limit (program_lines board limit) (ended_at limit board)
-outcome_of (PlayProgram board limit) = program_shown limit (program_pictures board limit) (ended_at limit board)
-outcome_of (DebugProgram board limit commands) = program_shown limit (program_written board limit commands) (end_at (machine_with board limit commands))
+outcome_of (Run run limit shown) = shown_as shown run limit
+outcome_of (Program board limit shown) = program_shown_as shown board limit
 outcome_of (Link link number moves) = linked (linked_after number moves link.message)
 outcome_of (Text text) = Shown (text.items ∷ []) Done []
 
 -- ---- what it needs to be ready
-
--- a machine that begins to run a game under a script
-pub record IsStarted (v : VipState) : Type 0 where
-  pub game : List ℕ
-  pub script : List KeyEvent
-  pub is : v ≡ started v.edition game script
-  pub runs : HasStopped v → ⊥
 
 -- a run that begins under a script, from a reset or from a file
 pub record IsBeginning (v : VipState) : Type 0 where
@@ -100,14 +89,8 @@ pub record IsJoined (l : Linking) : Type 0 where
   pub short : length l.message ≤ most_bytes
 
 abbrev pub IsReady : Prepared → Type 0
-IsReady (Trace vip limit with_time with_screen) = IsBeginning vip × (limit ≤ most_cycles)
-IsReady (Play vip limit) = IsStarted vip × (limit ≤ most_cycles)
-IsReady (Debug vip limit commands) = IsStarted vip × (limit ≤ most_cycles)
-IsReady (Save vip limit) = IsStarted vip × (limit ≤ most_cycles)
-IsReady (Demo vip limit number) = IsStarted vip × (limit ≤ most_cycles)
-IsReady (TraceProgram board limit) = IsBegun board × (limit ≤ most_cycles)
-IsReady (PlayProgram board limit) = IsBegun board × (limit ≤ most_cycles)
-IsReady (DebugProgram board limit commands) = IsBegun board × (limit ≤ most_cycles)
+IsReady (Run run limit shown) = IsBeginning run × (limit ≤ most_cycles)
+IsReady (Program board limit shown) = IsBegun board × (limit ≤ most_cycles)
 IsReady (Link link number moves) = IsJoined link × (moves ≤ most_moves)
 IsReady (Text text) = Unit {0}
 
@@ -123,22 +106,21 @@ abbrev pub texted : Result (Vec ℕ Global) Refusal → Result Prepared Refusal
 texted (Ok text) = Ok (Text text)
 texted (Err refusal) = Err refusal
 
--- All files were read, each once and in their order, and no other; and of their contents this holds.
-pub record OfFiles (asked : Asked) (old new : FilesMeaning) (Here : List (List ℕ) → Type 0) : Type 0 where
-  pub contents : List (List ℕ)
-  pub read : HasAll old (needed asked) contents
-  pub reads : new ≡ with_reads (reads_of (needed asked) contents) old
-  pub here : Here contents
+-- all files were read, each once and in their order, and no other; and of the request that was so loaded this holds
+pub record OfLoaded (asked : Asked) (old new : FilesMeaning) (Here : Loaded → Type 0) : Type 0 where
+  pub request : Loaded
+  pub loaded : IsLoaded old new asked request
+  pub here : Here request
 
 -- what opening answers
 abbrev pub OpenAnswers : Asked → FilesMeaning → FilesMeaning → Result Prepared Refusal → Type 0
-OpenAnswers asked old new (Ok p) = IsReady p × OfFiles asked old new (λ contents. HasOutcome asked contents (outcome_of p))
+OpenAnswers asked old new (Ok p) = IsReady p × OfLoaded asked old new (λ request. HasOutcome request (outcome_of p))
 OpenAnswers asked old new (Err Usage) = ⊥
-OpenAnswers asked old new (Err (Unread name)) = ComesTo old new (needed asked) (λ n answer. (name.now ≡ n.name) × IsUnread old new n answer)
-OpenAnswers asked old new (Err (TooLarge kind)) = ComesTo old new (needed asked) (λ n answer. (kind ≡ n.kind) × IsLarger old n answer)
-OpenAnswers asked old new (Err (State fault)) = ComesTo old new (needed asked) (λ n answer. IsFaulty fault old n answer × OnlyReads old new)
-OpenAnswers asked old new (Err NoMemory) = ReadsSome (needed asked) old new
-OpenAnswers asked old new (Err refusal) = OfFiles asked old new (λ contents. RefusedBy (HasOutcome asked contents) refusal)
+OpenAnswers asked old new (Err (Unread name)) = FilesRefused old new (needed asked) (Unread name)
+OpenAnswers asked old new (Err (TooLarge kind)) = FilesRefused old new (needed asked) (TooLarge kind)
+OpenAnswers asked old new (Err (State fault)) = FilesRefused old new (needed asked) (State fault)
+OpenAnswers asked old new (Err NoMemory) = FilesRefused old new (needed asked) NoMemory
+OpenAnswers asked old new (Err refusal) = OfLoaded asked old new (λ request. RefusedBy (HasOutcome request) refusal)
 
 -- the output went out whole, and this is its end
 pub record Performs (pieces : List (List ℕ)) (status : Status) (report : List ℕ) (old new : SinkMeaning) (ended : Ended) : Type 0 where

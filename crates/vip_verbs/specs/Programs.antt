@@ -1,9 +1,11 @@
 -- What `trace`, `play` and `debug` of a program come to. No ROM of the interpreter plays a part, so none is compared with its source.
-use Rattle.std.specs.Prelude.{◌≡◌, ℕ, List, [], Result, Ok, Err}
+use Rattle.std.specs.Prelude.{◌≡◌, ℕ, List, [], Option, Result, Ok, Err}
 use Rattle.machine.specs.Keys.{Event as KeyEvent}
 use Rattle.vip_board.specs.Seen.{Seen}
 use Rattle.vip_board.specs.Shown.{HasPictures}
+use Rattle.vip_words.specs.DebugGrammar.{commands_of}
 use Rattle.vip_words.specs.declared.debug_commands.Command.{Command}
+use Rattle.vip_words.specs.declared.debug_commands.Speaks.TheVariants.{Machine as Processor}
 use Rattle.vip_words.specs.declared.debug_commands.CommandFault.{CommandFault}
 use Rattle.vip_words.specs.declared.debug_commands.CommandFault.TheVariants as command
 use Rattle.vip_debug.specs.Programs.{program_written, machine_with}
@@ -12,7 +14,8 @@ use Rattle.vip_keypad.specs.declared.script.ScriptCause.{ScriptCause}
 use Rattle.vip_keypad.specs.declared.script.ScriptFault.TheVariants.{Fault}
 use Rattle.vip_outside.specs.declared.sink.Failed.{Failed}
 use Rattle.vip_program.specs.Program.{started}
-use Rattle.vip_program.specs.Trace.{end_at, last_machine}
+use Rattle.vip_program.specs.Pictures.{pictured}
+use Rattle.vip_program.specs.Trace.{end_at, last_machine, program_trace}
 use Rattle.vip_program.specs.declared.start.Memory.{Memory}
 use Rattle.vip_program.specs.declared.start.Memory.TheVariants.{Rom, Ram}
 use Rattle.vip_program.specs.declared.trace.ProgramEnd.{ProgramEnd}
@@ -31,6 +34,9 @@ use Rattle.vip_tools.specs.Outcome.{Outcome, script_in}
 use Rattle.vip_tools.specs.Outcome.Outcome.{Refused, Shown}
 use Rattle.vip_words.specs.declared.request.Memory.{Memory as AskedMemory}
 use Rattle.vip_words.specs.declared.request.Memory.TheVariants as asked
+use Rattle.vip_words.specs.declared.request.ProgramRequest.{ProgramRequest}
+use Rattle.vip_words.specs.declared.request.ProgramShow.{ProgramShow}
+use Rattle.vip_words.specs.declared.request.ProgramShow.TheVariants as show
 
 -- where a program lies
 abbrev pub memory_in : AskedMemory → Memory
@@ -47,20 +53,39 @@ abbrev pub ended_at : ℕ → Seen → ProgramEnd
 ended_at limit board = end_at (last_machine board limit)
 
 -- A program comes to the first fault of its script, or to its output and its end.
-pub data ProgramComes (memory : AskedMemory) (bytes : List ℕ) (limit : ℕ) (scripts : List (List ℕ)) (pieces : Seen → List (List ℕ))
-    (ended : Seen → ProgramEnd) : Outcome → Type 0 where
-  FaultyScript : (line : ℕ) (cause : ScriptCause) → script_in scripts ≡ Err (Fault line cause)
-      → ProgramComes memory bytes limit scripts pieces ended (Refused BadScript (bad_script line cause))
-  Runs : (script : List KeyEvent) → script_in scripts ≡ Ok script
-      → ProgramComes memory bytes limit scripts pieces ended
-      (Shown (pieces (started (memory_in memory) bytes script)) Done (program_report limit (ended (started (memory_in memory) bytes script))))
+pub data ProgramComes (memory : AskedMemory) (bytes : List ℕ) (keys : Option (List ℕ)) (outcome : Seen → Outcome) : Outcome → Type 0 where
+  FaultyScript : (line : ℕ) (cause : ScriptCause) → script_in keys ≡ Err (Fault line cause)
+      → ProgramComes memory bytes keys outcome (Refused BadScript (bad_script line cause))
+  Runs : (script : List KeyEvent) → script_in keys ≡ Ok script
+      → ProgramComes memory bytes keys outcome (outcome (started (memory_in memory) bytes script))
 
--- Under the debugger it comes to the first fault of the commands, or else to their answers, and ends where they leave the board.
-abbrev pub ProgramDebugComes : AskedMemory → List ℕ → ℕ → List (List ℕ) → Result (List Command) CommandFault → Outcome → Type 0
-ProgramDebugComes memory bytes limit scripts (Ok commands) =
-    ProgramComes memory bytes limit scripts (λ board. program_written board limit commands) (λ board. end_at (machine_with board limit commands))
-ProgramDebugComes memory bytes limit scripts (Err (command.Fault line cause)) = λ o. o ≡ Refused BadCommand (bad_command line cause)
-ProgramDebugComes memory bytes limit scripts (Err command.NoMemory) = λ o. ⊥
+-- it is shown up to a limit, with its end
+abbrev pub program_ran : ℕ → List (List ℕ) → ProgramEnd → Outcome
+program_ran limit pieces end = Shown pieces Done (program_report limit end)
+
+abbrev pub program_traced : ℕ → Seen → Outcome
+program_traced limit board = program_ran limit (program_trace board limit) (ended_at limit board)
+
+abbrev pub program_pictured : ℕ → Seen → Outcome
+program_pictured limit board = program_ran limit (pictured board limit) (ended_at limit board)
+
+-- the answers of the debugger's commands; it ends where they leave the board
+abbrev pub program_debugged : List Command → ℕ → Seen → Outcome
+program_debugged commands limit board = program_ran limit (program_written board limit commands) (end_at (machine_with board limit commands))
+
+-- Under the debugger it comes to the first fault of the commands, or else to what their answers come to.
+abbrev pub ProgramDebugComes : AskedMemory → List ℕ → Option (List ℕ) → ℕ → Result (List Command) CommandFault → Outcome → Type 0
+ProgramDebugComes memory bytes keys limit (Ok commands) = ProgramComes memory bytes keys (program_debugged commands limit)
+ProgramDebugComes memory bytes keys limit (Err (command.Fault line cause)) = λ o. o ≡ Refused BadCommand (bad_command line cause)
+ProgramDebugComes memory bytes keys limit (Err command.NoMemory) = λ o. ⊥
+
+abbrev pub ProgramShowComes : AskedMemory → List ℕ → Option (List ℕ) → ℕ → ProgramShow (List ℕ) → Outcome → Type 0
+ProgramShowComes memory bytes keys limit show.Trace = ProgramComes memory bytes keys (program_traced limit)
+ProgramShowComes memory bytes keys limit show.Pictures = ProgramComes memory bytes keys (program_pictured limit)
+ProgramShowComes memory bytes keys limit (show.Commands text) = ProgramDebugComes memory bytes keys limit (commands_of Processor limit text)
+
+abbrev pub ProgramRunComes : ProgramRequest (List ℕ) → Outcome → Type 0
+ProgramRunComes run = ProgramShowComes run.memory run.file run.keys run.limit run.show
 
 -- ---- what the calls answer
 
@@ -71,17 +96,17 @@ pub record IsBegun (board : Seen) : Type 0 where
   pub pictures : HasPictures board.rom [] board.machine.cycle board.pictures
 
 -- the board of a program under its script
-pub record BeginsProgram (memory : AskedMemory) (bytes : List ℕ) (scripts : List (List ℕ)) (board : Seen) : Type 0 where
+pub record BeginsProgram (memory : AskedMemory) (bytes : List ℕ) (keys : Option (List ℕ)) (board : Seen) : Type 0 where
   pub script : List KeyEvent
-  pub reads : script_in scripts ≡ Ok script
+  pub reads : script_in keys ≡ Ok script
   pub is : board ≡ started (memory_in memory) bytes script
   pub pictures : HasPictures board.rom [] board.machine.cycle board.pictures
 
-abbrev pub BoardAnswers : AskedMemory → List ℕ → List (List ℕ) → Result Seen Refusal → Type 0
-BoardAnswers memory bytes scripts (Ok board) = BeginsProgram memory bytes scripts board
-BoardAnswers memory bytes scripts (Err (Script line cause)) = script_in scripts ≡ Err (Fault line cause)
-BoardAnswers memory bytes scripts (Err NoMemory) = Unit {0}
-BoardAnswers memory bytes scripts (Err _) = ⊥
+abbrev pub BoardAnswers : AskedMemory → List ℕ → Option (List ℕ) → Result Seen Refusal → Type 0
+BoardAnswers memory bytes keys (Ok board) = BeginsProgram memory bytes keys board
+BoardAnswers memory bytes keys (Err (Script line cause)) = script_in keys ≡ Err (Fault line cause)
+BoardAnswers memory bytes keys (Err NoMemory) = Unit {0}
+BoardAnswers memory bytes keys (Err _) = ⊥
 
 -- how the run of a program ended
 abbrev pub program_ended : ℕ → Result ProgramEnd Failed → Result Ended PerformFault

@@ -16,8 +16,9 @@
 mod linked;
 mod opening;
 mod prepared;
+mod preparing;
 mod program;
 mod work;
 
-pub use opening::open;
-pub use prepared::{Prepared, perform};
+pub use prepared::{Prepared, ReadyProgramShow, ReadyShow, perform};
+pub use preparing::open;

@@ -1,11 +1,9 @@
 //! The verb `link`: two boards that are joined by port 3.
 
-ghost use Rattle.std.specs.Prelude.{◌≤◌, ◌∷◌, [], length};
-ghost use Rattle.vip_words.specs.Asked.{most_moves};
-ghost use Rattle.vip_words.specs.Asked.Asked.{link as linking};
-ghost use Rattle.vip_words.specs.Request.{asked_link};
+ghost use Rattle.std.specs.Prelude.{◌≤◌, length};
+ghost use Rattle.vip_words.specs.Request.{most_moves};
 ghost use Rattle.vip_link.specs.Laws.{most_bytes};
-ghost use Rattle.vip_verbs.specs.Outcome.{HasOutcome, linked_after};
+ghost use Rattle.vip_verbs.specs.Outcome.{LinkComes, linked_after};
 ghost use Rattle.vip_verbs.specs.Opening.{LinkRomsAnswer};
 ghost use Rattle.vip_verbs.specs.Prepared.{IsJoined, PrepareAnswers, PerformAnswers, linked};
 
@@ -15,7 +13,6 @@ use std::alloc::Global;
 use vip_link::{Link, LinkFault, check_link};
 use vip_outside::Sink;
 use vip_tools::{Ended, Kind, PerformFault, Refusal};
-use vip_words::LinkRequest;
 
 /// The refusal of two ROMs of which one isn't what its source gives.
 fn check_roms<'a>(alloc: Global) -> Result<(), Refusal<'a>>
@@ -31,19 +28,20 @@ fn check_roms<'a>(alloc: Global) -> Result<(), Refusal<'a>>
 /// Compares both ROMs with their sources, and joins two boards with a message.
 pub(crate) fn open_link<'a>(
     alloc: Global,
-    asked: &LinkRequest<'a>,
     message: &[u8],
+    moves: u32,
+    number: u32,
 ) -> Result<Prepared, Refusal<'a>>
-    requires moves { asked.now.moves ≤ most_moves }
+    requires moves { moves ≤ most_moves }
     requires size { length message.now ≤ most_bytes }
-    ensures { PrepareAnswers (HasOutcome (linking (asked_link asked.now)) (message.now ∷ [])) result }
+    ensures { PrepareAnswers (LinkComes message.now moves number) result }
 {
     check_roms(alloc)?;
     match Link::new(alloc, message) {
         Ok(link) => Ok(Prepared::Link {
             link,
-            number: asked.number,
-            moves: asked.moves,
+            number,
+            moves,
         }),
         Err(LinkFault::MessageTooLarge(_)) => Err(Refusal::TooLarge(Kind::Message)),
         Err(LinkFault::NoMemory) => Err(Refusal::NoMemory),

@@ -2,20 +2,24 @@
 
 ghost use Rattle.std.specs.Prelude.{◌≡◌, ◌≤◌, length};
 ghost use Rattle.vip_program.specs.Program.{most_bytes};
-ghost use Rattle.vip_tools.specs.Contents.{script_list};
-ghost use Rattle.vip_tools.specs.Opening.{SmallScripts};
-ghost use Rattle.vip_verbs.specs.Programs.{BoardAnswers, memory_in, program_ended};
-ghost use Rattle.vip_verbs.specs.Prepared.{IsReady, PerformAnswers, outcome_of};
+ghost use Rattle.vip_words.specs.Request.{map_program, map_program_show, most_cycles};
+ghost use Rattle.vip_words.specs.declared.request.Request.TheVariants as asked;
+ghost use Rattle.vip_tools.specs.Files.{needed, program_show_files, script_files, AreFit};
+ghost use Rattle.vip_tools.specs.Opening.{keys_in};
+ghost use Rattle.vip_verbs.specs.Opening.{ProgramShowReady};
+ghost use Rattle.vip_verbs.specs.Programs.{BoardAnswers, ProgramRunComes, memory_in, program_ended};
+ghost use Rattle.vip_verbs.specs.Prepared.{IsReady, PerformAnswers, PrepareAnswers, outcome_of};
 ghost use Rattle.vip_verbs.specs.declared.prepared.Prepared.TheVariants as ready;
 
+use crate::prepared::{Prepared, ReadyProgramShow};
 use std::alloc::Global;
 use vip_board::Board;
 use vip_debug::run_program_commands;
 use vip_outside::{Failed, Sink};
 use vip_program::{Memory, ProgramEnd, show_pictures, show_trace, start_program};
 use vip_text::RunEnd;
-use vip_tools::{Ended, PerformFault, Refusal, RunContents, read_keys};
-use vip_words::Commands;
+use vip_tools::{Ended, PerformFault, Refusal, read_debugging, read_keys};
+use vip_words::{ProgramRequest, ProgramShow, Speaks};
 
 /// Where a program lies, by the words.
 fn memory_in(memory: vip_words::Memory) -> Memory
@@ -28,18 +32,54 @@ fn memory_in(memory: vip_words::Memory) -> Memory
 }
 
 /// A board that begins to run a program under its script.
-pub fn start_board<'a>(
+fn start_board<'a>(
     alloc: Global,
     memory: vip_words::Memory,
-    contents: &RunContents<'_>,
+    bytes: &[u8],
+    keys: Option<Vec<u8>>,
 ) -> Result<Board, Refusal<'a>>
-    requires program { length contents.now.game.now ≤ most_bytes (memory_in memory) }
-    requires script { SmallScripts (script_list contents.now.script) }
-    ensures { BoardAnswers memory contents.now.game.now (script_list contents.now.script) result }
+    requires program { length bytes.now ≤ most_bytes (memory_in memory) }
+    requires keys { AreFit (script_files (keys_in keys)) }
+    ensures { BoardAnswers memory bytes.now (keys_in keys) result }
 {
-    let script = read_keys(alloc, contents.script)?;
-    let board = start_program(alloc, memory_in(memory), contents.game, &script)?;
+    let script = read_keys(alloc, keys)?;
+    let board = start_program(alloc, memory_in(memory), bytes, &script)?;
     Ok(board)
+}
+
+/// What is shown of a program's run up to a limit, with its commands read.
+fn make_ready<'a>(
+    alloc: Global,
+    show: ProgramShow<Vec<u8>>,
+    limit: u64,
+) -> Result<ReadyProgramShow, Refusal<'a>>
+    requires { AreFit (program_show_files (map_program_show (λ bytes. bytes.items) show)) }
+    ensures { ProgramShowReady limit (map_program_show (λ bytes. bytes.items) show) result }
+{
+    match show {
+        ProgramShow::Trace => Ok(ReadyProgramShow::Trace),
+        ProgramShow::Pictures => Ok(ReadyProgramShow::Pictures),
+        ProgramShow::Commands(text) => {
+            let commands = read_debugging(alloc, Speaks::Machine, text.as_slice(), limit)?;
+            Ok(ReadyProgramShow::Commands(commands))
+        }
+    }
+}
+
+/// Prepares a run of a program. Its commands are read before its key script, so that of two faults theirs counts.
+pub(crate) fn open_program<'a>(
+    alloc: Global,
+    request: ProgramRequest<Vec<u8>>,
+) -> Result<Prepared, Refusal<'a>>
+    requires limit { request.limit ≤ most_cycles }
+    requires fit { AreFit (needed (asked.Program (map_program (λ bytes. bytes.items) request))) }
+    ensures { PrepareAnswers (ProgramRunComes (map_program (λ bytes. bytes.items) request)) result }
+{
+    let limit = request.limit;
+    let keys = request.keys;
+    let show = make_ready(alloc, request.show, limit)?;
+    let board = start_board(alloc, request.memory, request.file.as_slice(), keys)?;
+    Ok(Prepared::Program { board, limit, show })
 }
 
 /// How the run of a program ended.
@@ -53,42 +93,22 @@ fn program_ran(limit: u64, end: Result<ProgramEnd, Failed>) -> Result<Ended, Per
     }
 }
 
-/// Runs a program, and puts a line for each move or stretch of moves.
-pub fn trace_program<O: Sink>(
+/// Runs a program, and puts what is shown of it.
+pub(crate) fn perform_program<O: Sink>(
     mut board: Board,
     limit: u64,
+    show: ReadyProgramShow,
     out: &mut O,
 ) -> Result<Ended, PerformFault>
-    requires { IsReady (ready.TraceProgram board limit) }
-    ensures { PerformAnswers (outcome_of (ready.TraceProgram board limit)) (O.meaning out.old) (O.meaning out.new) result }
+    requires { IsReady (ready.Program board limit show) }
+    ensures { PerformAnswers (outcome_of (ready.Program board limit show)) (O.meaning out.old) (O.meaning out.new) result }
 {
-    program_ran(limit, show_trace(&mut board, limit, out))
-}
-
-/// Runs a program, and puts each finished picture.
-pub fn play_program<O: Sink>(
-    mut board: Board,
-    limit: u64,
-    out: &mut O,
-) -> Result<Ended, PerformFault>
-    requires { IsReady (ready.PlayProgram board limit) }
-    ensures { PerformAnswers (outcome_of (ready.PlayProgram board limit)) (O.meaning out.old) (O.meaning out.new) result }
-{
-    program_ran(limit, show_pictures(&mut board, limit, out))
-}
-
-/// Runs the debugger's commands on a program.
-pub fn debug_program<O: Sink>(
-    mut board: Board,
-    limit: u64,
-    commands: Commands,
-    out: &mut O,
-) -> Result<Ended, PerformFault>
-    requires { IsReady (ready.DebugProgram board limit commands) }
-    ensures { PerformAnswers (outcome_of (ready.DebugProgram board limit commands)) (O.meaning out.old) (O.meaning out.new) result }
-{
-    program_ran(
-        limit,
-        run_program_commands(&mut board, &commands, limit, out),
-    )
+    match show {
+        ReadyProgramShow::Trace => program_ran(limit, show_trace(&mut board, limit, out)),
+        ReadyProgramShow::Pictures => program_ran(limit, show_pictures(&mut board, limit, out)),
+        ReadyProgramShow::Commands(commands) => program_ran(
+            limit,
+            run_program_commands(&mut board, &commands, limit, out),
+        ),
+    }
 }

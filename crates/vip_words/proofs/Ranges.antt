@@ -1,17 +1,24 @@
 -- The machine cycles that the words ask for are at most 4,000,000,000, and the moves of joined boards at most 10,000,000.
-use Rattle.std.proofs.Common.{◌≡◌, ℕ, ◌≤◌, List, [], ◌∷◌, Option, Some, None, Ok, Err, Bool, true, false, length, ltb, refl, sym, subst, arith}
+use Rattle.std.proofs.Common.{Bor, ◌≡◌, ℕ, ◌≤◌, List, [], ◌∷◌, Option, Some, None, Ok, Err, Bool, true, false, length, ltb, refl, sym, subst, arith}
 use Rattle.std.specs.Prelude.{IfOk, ok_or, option_map, option_and_then, if◌then◌else◌, ◌==◌, not}
 use Rattle.std.specs.Result.{result_ok}
 use Rattle.std.specs.Str.Parse.{digits_value}
 use Rattle.std.proofs.lemmas.Bool.{ltb-false}
 use Rattle.vip_byte.specs.Number.{number, are_digits}
 use Rattle.vip_byte.specs.declared.number.NumFault.TheVariants.{Empty, BadDigit, TooLarge}
-use Rattle.vip_words.specs.Asked.{Asked, AskedProgram, AskedRun, InRange, address_of, asked_of_verb, bounds, bounds_by, built_in_by, certify, certify_by, cycles_of, debug, debug_by, debug_program, demo, demo_by, dis_by, edition_by, file_by, is_mixed, is_program, link, link_by, list, most_cycles, most_moves, moves_of, play, play_by, play_program, program_by, resume_by, run_by, safe, safe_by, save, save_by, seed_of, source_by, trace, trace_by, trace_program, within, within_by}
+use Rattle.vip_words.specs.Asked.{address_of, asked_of_verb, bounds_by, built_in_by, cycles_of, debug_by, demo_by, dis_by, edition_by, either_by, file_by, is_mixed, is_program, link_by, moves_of, play_by, program_by, resume_by, run_by, safe_by, seed_of, shown_by, source_by, start_by, trace_by, within_by}
+use Rattle.vip_words.specs.Request.{Asked, InRange, asked_of, most_cycles, most_moves}
 use Rattle.vip_words.specs.Rules.{Word, Given}
-use Rattle.vip_words.specs.Request.{asked_of}
 use Rattle.vip_words.specs.declared.given.WordsFail.TheVariants.{Refused}
 use Rattle.vip_words.specs.declared.request.Memory.TheVariants.{Rom, Ram}
+use Rattle.vip_words.specs.declared.request.ProgramShow.{ProgramShow}
+use Rattle.vip_words.specs.declared.request.ProgramShow.TheVariants as program
 use Rattle.vip_words.specs.declared.request.Request.{Request}
+use Rattle.vip_words.specs.declared.request.Request.TheVariants as request
+use Rattle.vip_words.specs.declared.request.Show.{Show}
+use Rattle.vip_words.specs.declared.request.Show.TheVariants as show
+use Rattle.vip_words.specs.declared.request.Start.{Start}
+use Rattle.vip_words.specs.declared.request.Start.TheVariants as start
 use Rattle.vip_words.specs.declared.table.Verb.{Verb}
 use Rattle.vip_words.specs.declared.table.Verb.TheVariants as verb
 
@@ -39,59 +46,50 @@ cycles-low word n is = number-low 10 word most_cycles n is
 moves-low : (word : Word) (n : ℕ) → moves_of word ≡ Some n → n ≤ most_moves
 moves-low word n is = number-low 10 word most_moves n is
 
--- a run of a game, and of a program
-run-low : (game word : Word) (given : Given) (r : AskedRun) → run_by game word given ≡ Some r → r.cycles ≤ most_cycles
-run-low game word given r h = go (cycles_of word) refl h
+-- with a number of cycles
+by_cycles : (word : Word) (f : ℕ → Asked) (asked : Asked) → ((n : ℕ) → n ≤ most_cycles → InRange (f n)) → option_map f (cycles_of word) ≡ Some asked
+    → InRange asked
+by_cycles word f asked low h = by_read (cycles_of word) f asked (λ n e. low n (cycles-low word n e)) h
+
+run-low : (file cycles : Word) (given : Given) (shown : Show Word) (asked : Asked) → run_by file cycles given shown ≡ Some asked → InRange asked
+run-low file cycles given shown asked h = go (start_by file given) h
   where
-    run_with : ℕ → AskedRun
-    run_with n = record { game = game; cycles = n; keys = given.keys; edition = edition_by given.tall }
+    go : (o : Option (Start Word))
+        → option_and_then
+        (λ s. option_map (λ n. request.Run (record { start = s; keys = given.keys; limit = n; show = shown })) (cycles_of cycles)) o ≡ Some asked
+        → InRange asked
+    go None h = absurd (cc)
+    go (Some s) h = by_cycles cycles _ asked (λ n low. record { cycles = low; moves = omega arith }) h
 
-    go : (o : Option ℕ) → cycles_of word ≡ o → option_map run_with o ≡ Some r → r.cycles ≤ most_cycles
-    go None e h = absurd (cc)
-    go (Some n) e h = let is : run_with n ≡ r = cc in subst (λ (r : AskedRun). r.cycles ≤ most_cycles) is (cycles-low word n e)
-
-program-low : (file word : Word) (given : Given) (r : AskedProgram) → program_by file word given ≡ Some r → r.cycles ≤ most_cycles
-program-low file word given r h = by_options (is_mixed given) h
+program-low : (file cycles : Word) (given : Given) (shown : ProgramShow Word) (asked : Asked) → program_by file cycles given shown ≡ Some asked
+    → InRange asked
+program-low file cycles given shown asked h = go (is_mixed given) h
   where
-    run_with : ℕ → AskedProgram
-    run_with n = record { program = file; memory = if given.rom then Rom else Ram; cycles = n; keys = given.keys }
+    run_with : ℕ → Asked
+    run_with n = request.Program (record { file = file; memory = if given.rom then Rom else Ram; keys = given.keys; limit = n; show = shown })
 
-    go : (o : Option ℕ) → cycles_of word ≡ o → option_map run_with o ≡ Some r → r.cycles ≤ most_cycles
-    go None e h = absurd (cc)
-    go (Some n) e h = let is : run_with n ≡ r = cc in subst (λ (r : AskedProgram). r.cycles ≤ most_cycles) is (cycles-low word n e)
+    go : (b : Bool) → (if b then None else option_map run_with (cycles_of cycles)) ≡ Some asked → InRange asked
+    go true h = absurd (cc)
+    go false h = by_cycles cycles run_with asked (λ n low. record { cycles = low; moves = omega arith }) h
 
-    by_options : (b : Bool) → (if b then None else option_map run_with (cycles_of word)) ≡ Some r → r.cycles ≤ most_cycles
-    by_options true h = absurd (cc)
-    by_options false h = go (cycles_of word) refl h
-
-by_run : (game word : Word) (given : Given) (f : AskedRun → Asked) (asked : Asked)
-    → ((r : AskedRun) → r.cycles ≤ most_cycles → InRange (f r)) → option_map f (run_by game word given) ≡ Some asked → InRange asked
-by_run game word given f asked low h = by_read (run_by game word given) f asked (λ r e. low r (run-low game word given r e)) h
-
--- a program where one is asked for, and else a game
-by_either : (file word : Word) (given : Given) (f : AskedProgram → Asked) (g : AskedRun → Asked) (asked : Asked)
-    → ((r : AskedProgram) → r.cycles ≤ most_cycles → InRange (f r)) → ((r : AskedRun) → r.cycles ≤ most_cycles → InRange (g r))
-    → (if is_program given then option_map f (program_by file word given) else option_map g (run_by file word given)) ≡ Some asked → InRange asked
-by_either file word given f g asked low_f low_g h = go (is_program given) h
+either-low : (file cycles : Word) (given : Given) (shown : Show Word) (program_shown : ProgramShow Word) (asked : Asked)
+    → either_by file cycles given shown program_shown ≡ Some asked → InRange asked
+either-low file cycles given shown program_shown asked h = go (is_program given) h
   where
-    go : (b : Bool) → (if b then option_map f (program_by file word given) else option_map g (run_by file word given)) ≡ Some asked → InRange asked
-    go true h = by_read (program_by file word given) f asked (λ r e. low_f r (program-low file word given r e)) h
-    go false h = by_run file word given g asked low_g h
+    go : (b : Bool) → (if b then program_by file cycles given program_shown else run_by file cycles given shown) ≡ Some asked → InRange asked
+    go true h = program-low file cycles given program_shown asked h
+    go false h = run-low file cycles given shown asked h
 
 trace-low : (words : List Word) (given : Given) (asked : Asked) → trace_by words given ≡ Some asked → InRange asked
 trace-low [] given asked h = absurd (cc)
 trace-low (file ∷ []) given asked h = absurd (cc)
-trace-low (file ∷ cycles ∷ []) given asked h =
-    by_either file cycles given trace_program (λ r. trace (record { run = r; with_time = given.at; with_screen = given.screen })) asked
-    (λ r low. record { cycles = low; moves = omega arith }) (λ r low. record { cycles = low; moves = omega arith }) h
+trace-low (file ∷ cycles ∷ []) given asked h = either-low file cycles given (show.Trace given.at given.screen) program.Trace asked h
 trace-low (file ∷ cycles ∷ more ∷ words) given asked h = absurd (cc)
 
 play-low : (words : List Word) (given : Given) (asked : Asked) → play_by words given ≡ Some asked → InRange asked
 play-low [] given asked h = absurd (cc)
 play-low (file ∷ []) given asked h = absurd (cc)
-play-low (file ∷ cycles ∷ []) given asked h =
-    by_either file cycles given play_program play asked (λ r low. record { cycles = low; moves = omega arith })
-    (λ r low. record { cycles = low; moves = omega arith }) h
+play-low (file ∷ cycles ∷ []) given asked h = either-low file cycles given show.Pictures program.Pictures asked h
 play-low (file ∷ cycles ∷ more ∷ words) given asked h = absurd (cc)
 
 debug-low : (words : List Word) (given : Given) (asked : Asked) → debug_by words given ≡ Some asked → InRange asked
@@ -99,20 +97,19 @@ debug-low [] given asked h = absurd (cc)
 debug-low (file ∷ []) given asked h = absurd (cc)
 debug-low (file ∷ cycles ∷ []) given asked h = absurd (cc)
 debug-low (file ∷ cycles ∷ commands ∷ []) given asked h =
-    by_either file cycles given (λ r. debug_program (record { run = r; commands = commands })) (λ r. debug (record { run = r; commands = commands })) asked
-    (λ r low. record { cycles = low; moves = omega arith }) (λ r low. record { cycles = low; moves = omega arith }) h
+    either-low file cycles given (show.Commands commands) (program.Commands commands) asked h
 debug-low (file ∷ cycles ∷ commands ∷ more ∷ words) given asked h = absurd (cc)
 
-save-low : (words : List Word) (given : Given) (asked : Asked) → save_by words given ≡ Some asked → InRange asked
-save-low [] given asked h = absurd (cc)
-save-low (game ∷ []) given asked h = absurd (cc)
-save-low (game ∷ cycles ∷ []) given asked h = by_run game cycles given save asked (λ r low. record { cycles = low; moves = omega arith }) h
-save-low (game ∷ cycles ∷ more ∷ words) given asked h = absurd (cc)
+shown-low : (shown : Show Word) (words : List Word) (given : Given) (asked : Asked) → shown_by shown words given ≡ Some asked → InRange asked
+shown-low shown [] given asked h = absurd (cc)
+shown-low shown (file ∷ []) given asked h = absurd (cc)
+shown-low shown (file ∷ cycles ∷ []) given asked h = run-low file cycles given shown asked h
+shown-low shown (file ∷ cycles ∷ more ∷ words) given asked h = absurd (cc)
 
 resume-low : (words : List Word) (given : Given) (asked : Asked) → resume_by words given ≡ Some asked → InRange asked
 resume-low [] given asked h = absurd (cc)
 resume-low (state ∷ []) given asked h = absurd (cc)
-resume-low (state ∷ cycles ∷ []) given asked h = by_read (cycles_of cycles) _ asked (λ n e. record { cycles = cycles-low cycles n e; moves = omega arith }) h
+resume-low (state ∷ cycles ∷ []) given asked h = by_cycles cycles _ asked (λ n low. record { cycles = low; moves = omega arith }) h
 resume-low (state ∷ cycles ∷ more ∷ words) given asked h = absurd (cc)
 
 demo-low : (words : List Word) (asked : Asked) → demo_by words ≡ Some asked → InRange asked
@@ -120,9 +117,12 @@ demo-low [] asked h = absurd (cc)
 demo-low (number ∷ []) asked h = absurd (cc)
 demo-low (number ∷ cycles ∷ []) asked h = go (seed_of number) h
   where
-    go : (o : Option ℕ) → option_and_then (λ n. option_map (λ c. demo (record { number = n; cycles = c })) (cycles_of cycles)) o ≡ Some asked → InRange asked
+    go : (o : Option ℕ)
+        → option_and_then
+        (λ n. option_map (λ c. request.Run (record { start = start.Demo n; keys = None; limit = c; show = show.Summary n })) (cycles_of cycles)) o
+        ≡ Some asked → InRange asked
     go None h = absurd (cc)
-    go (Some n) h = by_read (cycles_of cycles) _ asked (λ c e. record { cycles = cycles-low cycles c e; moves = omega arith }) h
+    go (Some n) h = by_cycles cycles _ asked (λ c low. record { cycles = low; moves = omega arith }) h
 demo-low (number ∷ cycles ∷ more ∷ words) asked h = absurd (cc)
 
 link-low : (words : List Word) (asked : Asked) → link_by words ≡ Some asked → InRange asked
@@ -132,7 +132,7 @@ link-low (message ∷ moves ∷ []) asked h = absurd (cc)
 link-low (message ∷ moves ∷ number ∷ []) asked h = go (moves_of moves) refl h
   where
     go : (o : Option ℕ) → moves_of moves ≡ o
-        → option_and_then (λ m. option_map (λ n. link (record { message = message; moves = m; number = n })) (seed_of number)) o ≡ Some asked → InRange asked
+        → option_and_then (λ m. option_map (λ n. request.Link message m n) (seed_of number)) o ≡ Some asked → InRange asked
     go None e h = absurd (cc)
     go (Some m) e h = by_read (seed_of number) _ asked (λ n _. record { cycles = omega arith; moves = moves-low moves m e }) h
 link-low (message ∷ moves ∷ number ∷ more ∷ words) asked h = absurd (cc)
@@ -152,49 +152,43 @@ source-low [] given asked h = by_read (built_in_by given) _ asked (λ text _. re
 source-low (word ∷ words) given asked h = absurd (cc)
 
 bounds-low : (words : List Word) (asked : Asked) → bounds_by words ≡ Some asked → InRange asked
-bounds-low [] asked h = this-low bounds asked (record { cycles = omega arith; moves = omega arith }) h
+bounds-low [] asked h = this-low request.Bounds asked (record { cycles = omega arith; moves = omega arith }) h
 bounds-low (word ∷ words) asked h = absurd (cc)
 
 within-low : (words : List Word) (asked : Asked) → within_by words ≡ Some asked → InRange asked
 within-low [] asked h = absurd (cc)
 within-low (file ∷ []) asked h = absurd (cc)
 within-low (file ∷ certificate ∷ []) asked h =
-    this-low (within (record { file = file; certificate = certificate })) asked (record { cycles = omega arith; moves = omega arith }) h
+    this-low (request.Cycles file certificate) asked (record { cycles = omega arith; moves = omega arith }) h
 within-low (file ∷ certificate ∷ more ∷ words) asked h = absurd (cc)
 
 safe-low : (words : List Word) (given : Given) (asked : Asked) → safe_by words given ≡ Some asked → InRange asked
 safe-low [] given asked h = absurd (cc)
 safe-low (game ∷ []) given asked h = absurd (cc)
 safe-low (game ∷ certificate ∷ []) given asked h =
-    this-low (safe (record { game = game; certificate = certificate; edition = edition_by given.tall })) asked
+    this-low (request.Safe game certificate (edition_by given.tall)) asked
     (record { cycles = omega arith; moves = omega arith }) h
 safe-low (game ∷ certificate ∷ more ∷ words) given asked h = absurd (cc)
-
-certify-low : (words : List Word) (given : Given) (asked : Asked) → certify_by words given ≡ Some asked → InRange asked
-certify-low [] given asked h = absurd (cc)
-certify-low (game ∷ []) given asked h =
-    this-low (certify (record { game = game; edition = edition_by given.tall })) asked (record { cycles = omega arith; moves = omega arith }) h
-certify-low (game ∷ more ∷ words) given asked h = absurd (cc)
 
 verb-low : (v : Verb) (given : Given) (asked : Asked) → asked_of_verb v given ≡ Some asked → InRange asked
 verb-low verb.Trace given asked h = trace-low given.positional given asked h
 verb-low verb.Play given asked h = play-low given.positional given asked h
 verb-low verb.Debug given asked h = debug-low given.positional given asked h
-verb-low verb.Save given asked h = save-low given.positional given asked h
+verb-low verb.Save given asked h = shown-low show.State given.positional given asked h
 verb-low verb.Resume given asked h = resume-low given.positional given asked h
 verb-low verb.Demo given asked h = demo-low given.positional asked h
 verb-low verb.Link given asked h = link-low given.positional asked h
 verb-low verb.Asm given asked h = by_read (file_by given.positional) _ asked (λ name e. record { cycles = omega arith; moves = omega arith }) h
-verb-low verb.List given asked h = by_read (file_by given.positional) list asked (λ name e. record { cycles = omega arith; moves = omega arith }) h
+verb-low verb.List given asked h = by_read (file_by given.positional) _ asked (λ name e. record { cycles = omega arith; moves = omega arith }) h
 verb-low verb.Dis given asked h = dis-low given.positional asked h
 verb-low verb.Source given asked h = source-low given.positional given asked h
 verb-low verb.Bounds given asked h = bounds-low given.positional asked h
 verb-low verb.Cycles given asked h = within-low given.positional asked h
 verb-low verb.Safe given asked h = safe-low given.positional given asked h
-verb-low verb.Certify given asked h = certify-low given.positional given asked h
+verb-low verb.Certify given asked h = by_read (file_by given.positional) _ asked (λ name e. record { cycles = omega arith; moves = omega arith }) h
 
 -- so is what a verb's words are read as
-pub read-low : (v : Verb) (given : Given) (o : Option Request) → option_map asked_of o ≡ asked_of_verb v given
+pub read-low : (v : Verb) (given : Given) (o : Option (Request (Bor Word))) → option_map asked_of o ≡ asked_of_verb v given
     → IfOk (ok_or o Refused) (λ request. InRange (asked_of request))
 read-low v given None is = tt
 read-low v given (Some request) is = verb-low v given (asked_of request) (sym is)

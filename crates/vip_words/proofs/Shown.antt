@@ -7,7 +7,7 @@ use Rattle.clap.specs.Walk.{Row, Text, used}
 use Rattle.clap.specs.declared.builder.value_parser.Reading.TheVariants.{AsWritten}
 use Rattle.clap.specs.declared.parser.matches.ValueSource.TheVariants.{CommandLine}
 use Rattle.vip_words.proofs.Rows.{Seen, has_row-look, look, look-other, look-use, new_row, or_first, shown}
-use Rattle.vip_words.proofs.Flags.{At, Flag, Ram, Raw, Receiver, Rom, Screen, Sender, Tall, flag_name, is_flag, no_flag}
+use Rattle.vip_words.proofs.Flags.{At, Flag, Ram, Raw, Receiver, Rom, Screen, Sender, State, Tall, flag_name, is_flag, no_flag}
 use Rattle.vip_words.proofs.Steps.{First, Pending, Place, Second, Third, flag_argument, place_at, place_by_id, place_name, settled_after, settles}
 use Rattle.vip_words.specs.Rules.{Given}
 
@@ -16,6 +16,7 @@ abbrev pub flag_in : Given → Flag → Bool
 flag_in given At = given.at
 flag_in given Screen = given.screen
 flag_in given Tall = given.tall
+flag_in given State = given.state
 flag_in given Raw = given.raw
 flag_in given Rom = given.rom
 flag_in given Ram = given.ram
@@ -27,6 +28,7 @@ with_flag new given = record given {
   at = is_flag new At || given.at;
   screen = is_flag new Screen || given.screen;
   tall = is_flag new Tall || given.tall;
+  state = is_flag new State || given.state;
   raw = is_flag new Raw || given.raw;
   rom = is_flag new Rom || given.rom;
   ram = is_flag new Ram || given.ram;
@@ -39,6 +41,7 @@ flag_in-with : (new flag : Flag) (given : Given) → flag_in (with_flag new give
 flag_in-with new At given = refl
 flag_in-with new Screen given = refl
 flag_in-with new Tall given = refl
+flag_in-with new State given = refl
 flag_in-with new Raw given = refl
 flag_in-with new Rom given = refl
 flag_in-with new Ram given = refl
@@ -221,6 +224,7 @@ nothing_given = record {
   at = false;
   screen = false;
   tall = false;
+  state = false;
   raw = false;
   rom = false;
   ram = false;
@@ -240,6 +244,7 @@ no_rows = record {
     | At ↦ refl
     | Screen ↦ refl
     | Tall ↦ refl
+    | State ↦ refl
     | Raw ↦ refl
     | Rom ↦ refl
     | Ram ↦ refl

@@ -9,7 +9,7 @@ use Rattle.clap.specs.Walk.{Row, Text, Waiting, Walk, finished, idle, used, walk
 use Rattle.vip_words.specs.Command.{command_faults, command_rows}
 use Rattle.vip_words.specs.Rules.{every_option, has_values, is_given, is_known, is_once, keys_value, positional_words}
 use Rattle.vip_words.proofs.Rows.{Seen, both_true, look, or_first, or_first-none, same_bytes}
-use Rattle.vip_words.proofs.Flags.{At, Flag, Ram, Raw, Receiver, Rom, Screen, Sender, Tall, every_flag, flag_among, flag_word, one_flag_fails}
+use Rattle.vip_words.proofs.Flags.{At, Flag, Ram, Raw, Receiver, Rom, Screen, Sender, State, Tall, every_flag, flag_among, flag_word, one_flag_fails}
 use Rattle.vip_words.proofs.Steps.{and_never, First, Pending, Place, Second, Third, arguments, asked, asking, flag_argument, flag_step, flag_turn, held, keys_step, keys_turn, place_at, place_name, place_step, place_turn, settled_after, settles, shape, stand, stray_turn, value_step, value_turn}
 use Rattle.vip_words.specs.Rules.{Given, Word}
 use Rattle.vip_words.proofs.Ends.{EndsGiven, ends_checked, shows_end}
@@ -39,6 +39,7 @@ then_given given words = record {
   at = given.at || is_given (codes "--at") words;
   screen = given.screen || is_given (codes "--screen") words;
   tall = given.tall || is_given (codes "--tall") words;
+  state = given.state || is_given (codes "--state") words;
   raw = given.raw || is_given (codes "--raw") words;
   rom = given.rom || is_given (codes "--rom") words;
   ram = given.ram || is_given (codes "--ram") words;
@@ -54,6 +55,7 @@ then_valued given words = record {
   at = given.at || is_given (codes "--at") words;
   screen = given.screen || is_given (codes "--screen") words;
   tall = given.tall || is_given (codes "--tall") words;
+  state = given.state || is_given (codes "--state") words;
   raw = given.raw || is_given (codes "--raw") words;
   rom = given.rom || is_given (codes "--rom") words;
   ram = given.ram || is_given (codes "--ram") words;
@@ -242,6 +244,7 @@ flag_passes : (count before : ℕ) (given : Given) (new : Flag) (words : List Te
 flag_passes count before given At words off = rw off refl
 flag_passes count before given Screen words off = rw off refl
 flag_passes count before given Tall words off = rw off refl
+flag_passes count before given State words off = rw off refl
 flag_passes count before given Raw words off = rw off refl
 flag_passes count before given Rom words off = rw off refl
 flag_passes count before given Ram words off = rw off refl
@@ -253,6 +256,7 @@ flag_given : (given : Given) (new : Flag) (words : List Text) → flag_in given 
 flag_given given At words off = rw off refl
 flag_given given Screen words off = rw off refl
 flag_given given Tall words off = rw off refl
+flag_given given State words off = rw off refl
 flag_given given Raw words off = rw off refl
 flag_given given Rom words off = rw off refl
 flag_given given Ram words off = rw off refl
@@ -267,6 +271,7 @@ flag_again_is_twice : (new : Flag) (words : List Text) → once true (flag_word 
 flag_again_is_twice At words = refl
 flag_again_is_twice Screen words = refl
 flag_again_is_twice Tall words = refl
+flag_again_is_twice State words = refl
 flag_again_is_twice Raw words = refl
 flag_again_is_twice Rom words = refl
 flag_again_is_twice Ram words = refl
@@ -335,6 +340,7 @@ option_turn name count rows position word (inl is) = rw is (λ e. cc)
 option_turn name count rows position word (inr (At, is)) = rw is (λ e. cc)
 option_turn name count rows position word (inr (Screen, is)) = rw is (λ e. cc)
 option_turn name count rows position word (inr (Tall, is)) = rw is (λ e. cc)
+option_turn name count rows position word (inr (State, is)) = rw is (λ e. cc)
 option_turn name count rows position word (inr (Raw, is)) = rw is (λ e. cc)
 option_turn name count rows position word (inr (Rom, is)) = rw is (λ e. cc)
 option_turn name count rows position word (inr (Ram, is)) = rw is (λ e. cc)
@@ -347,6 +353,7 @@ option_refused count before given word words (inl is) = rw is refl
 option_refused count before given word words (inr (At, is)) = rw is refl
 option_refused count before given word words (inr (Screen, is)) = rw is refl
 option_refused count before given word words (inr (Tall, is)) = rw is refl
+option_refused count before given word words (inr (State, is)) = rw is refl
 option_refused count before given word words (inr (Raw, is)) = rw is refl
 option_refused count before given word words (inr (Rom, is)) = rw is refl
 option_refused count before given word words (inr (Ram, is)) = rw is refl
@@ -414,6 +421,7 @@ none_once keys given =
       same_if given.at,
       same_if given.screen,
       same_if given.tall,
+      same_if given.state,
       same_if given.raw,
       same_if given.rom,
       same_if given.ram,
@@ -437,6 +445,7 @@ no_more_given given =
       or_nothing given.at,
       or_nothing given.screen,
       or_nothing given.tall,
+      or_nothing given.state,
       or_nothing given.raw,
       or_nothing given.rom,
       or_nothing given.ram,
@@ -517,6 +526,7 @@ all_given words = record {
   at = is_given (codes "--at") words;
   screen = is_given (codes "--screen") words;
   tall = is_given (codes "--tall") words;
+  state = is_given (codes "--state") words;
   raw = is_given (codes "--raw") words;
   rom = is_given (codes "--rom") words;
   ram = is_given (codes "--ram") words;

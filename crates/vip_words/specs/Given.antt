@@ -20,6 +20,7 @@ seen_given given = record {
   at = given.at;
   screen = given.screen;
   tall = given.tall;
+  state = given.state;
   raw = given.raw;
   rom = given.rom;
   ram = given.ram;

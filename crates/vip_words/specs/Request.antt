@@ -1,100 +1,94 @@
--- What a request asks for.
-use Rattle.std.specs.Prelude.{option_map}
-use Rattle.vip_words.specs.Asked.{Asked, AskedAsm, AskedCertify, AskedDebug, AskedDebugProgram, AskedDemo, AskedDis, AskedLink, AskedProgram, AskedResume, AskedRun, AskedSafe, AskedTrace, AskedWithin, asm, bounds, certify, debug, debug_program, demo, dis, link, list, play, play_program, resume, safe, save, source, trace, trace_program, within}
-use Rattle.vip_words.specs.declared.request.AsmRequest.{AsmRequest}
-use Rattle.vip_words.specs.declared.request.CertifyRequest.{CertifyRequest}
-use Rattle.vip_words.specs.declared.request.CyclesRequest.{CyclesRequest}
-use Rattle.vip_words.specs.declared.request.DebugProgramRequest.{DebugProgramRequest}
-use Rattle.vip_words.specs.declared.request.DebugRequest.{DebugRequest}
-use Rattle.vip_words.specs.declared.request.DemoRequest.{DemoRequest}
-use Rattle.vip_words.specs.declared.request.DisRequest.{DisRequest}
-use Rattle.vip_words.specs.declared.request.LinkRequest.{LinkRequest}
+-- A request with files of any kind: their names, as the words give them, or what they hold.
+use Rattle.std.specs.Borrow.{Bor}
+use Rattle.std.specs.Prelude.{◌≤◌, ℕ, option_map}
+pub use Rattle.vip_byte.specs.Number.{most_cycles}
+use Rattle.vip_words.specs.Rules.{Word}
 use Rattle.vip_words.specs.declared.request.ProgramRequest.{ProgramRequest}
+use Rattle.vip_words.specs.declared.request.ProgramShow.{ProgramShow}
+use Rattle.vip_words.specs.declared.request.ProgramShow.TheVariants as program
 use Rattle.vip_words.specs.declared.request.Request.{Request}
-use Rattle.vip_words.specs.declared.request.Request.TheVariants as request
-use Rattle.vip_words.specs.declared.request.ResumeRequest.{ResumeRequest}
+use Rattle.vip_words.specs.declared.request.Request.TheVariants.{Run, Program, Link, Asm, List, Dis, Source, Bounds, Cycles, Safe, Certify}
 use Rattle.vip_words.specs.declared.request.RunRequest.{RunRequest}
-use Rattle.vip_words.specs.declared.request.SafeRequest.{SafeRequest}
-use Rattle.vip_words.specs.declared.request.TraceRequest.{TraceRequest}
+use Rattle.vip_words.specs.declared.request.Show.{Show}
+use Rattle.vip_words.specs.declared.request.Show.TheVariants as show
+use Rattle.vip_words.specs.declared.request.Start.{Start}
+use Rattle.vip_words.specs.declared.request.Start.TheVariants as start
 
-abbrev pub asked_run : RunRequest → AskedRun
-asked_run request = record {
-  game = request.game.now;
-  cycles = request.cycles;
-  keys = option_map (λ word. word.now) request.keys;
-  edition = request.edition;
-}
+-- ---- the same request with each file put in its place
 
-abbrev pub asked_trace : TraceRequest → AskedTrace
-asked_trace request = record {
-  run = asked_run request.run;
-  with_time = request.with_time;
-  with_screen = request.with_screen;
-}
+module _ {A B : Type 0} (f : A → B) where
+  abbrev pub map_start : Start A → Start B
+  map_start (start.Game file edition) = start.Game (f file) edition
+  map_start (start.State file) = start.State (f file)
+  map_start (start.Demo number) = start.Demo number
 
-abbrev pub asked_debug : DebugRequest → AskedDebug
-asked_debug request = record { run = asked_run request.run; commands = request.commands.now }
+  abbrev pub map_show : Show A → Show B
+  map_show (show.Trace with_time with_screen) = show.Trace with_time with_screen
+  map_show show.Pictures = show.Pictures
+  map_show (show.Commands file) = show.Commands (f file)
+  map_show show.State = show.State
+  map_show (show.Summary number) = show.Summary number
 
-abbrev pub asked_demo : DemoRequest → AskedDemo
-asked_demo request = record { number = request.number; cycles = request.cycles }
+  abbrev pub map_run : RunRequest A → RunRequest B
+  map_run run = record { start = map_start run.start; keys = option_map f run.keys; limit = run.limit; show = map_show run.show }
 
-abbrev pub asked_resume : ResumeRequest → AskedResume
-asked_resume request = record {
-  state = request.state.now;
-  cycles = request.cycles;
-  keys = option_map (λ word. word.now) request.keys;
-  with_time = request.with_time;
-}
+  abbrev pub map_program_show : ProgramShow A → ProgramShow B
+  map_program_show program.Trace = program.Trace
+  map_program_show program.Pictures = program.Pictures
+  map_program_show (program.Commands file) = program.Commands (f file)
 
-abbrev pub asked_link : LinkRequest → AskedLink
-asked_link request = record { message = request.message.now; moves = request.moves; number = request.number }
+  abbrev pub map_program : ProgramRequest A → ProgramRequest B
+  map_program run =
+      record { file = f run.file; memory = run.memory; keys = option_map f run.keys; limit = run.limit; show = map_program_show run.show }
 
-abbrev pub asked_program : ProgramRequest → AskedProgram
-asked_program request = record {
-  program = request.program.now;
-  memory = request.memory;
-  cycles = request.cycles;
-  keys = option_map (λ word. word.now) request.keys;
-}
+  abbrev pub map_request : Request A → Request B
+  map_request (Run run) = Run (map_run run)
+  map_request (Program run) = Program (map_program run)
+  map_request (Link message moves number) = Link (f message) moves number
+  map_request (Asm file raw) = Asm (f file) raw
+  map_request (List file) = List (f file)
+  map_request (Dis file address) = Dis (f file) address
+  map_request (Source text) = Source text
+  map_request Bounds = Bounds
+  map_request (Cycles file certificate) = Cycles (f file) (f certificate)
+  map_request (Safe game certificate edition) = Safe (f game) (f certificate) edition
+  map_request (Certify game edition) = Certify (f game) edition
 
-abbrev pub asked_debug_program : DebugProgramRequest → AskedDebugProgram
-asked_debug_program request = record { run = asked_program request.run; commands = request.commands.now }
+-- what is asked for: each file by its name
+abbrev pub Asked : Type 0
+Asked = Request Word
 
-abbrev pub asked_asm : AsmRequest → AskedAsm
-asked_asm request = record { file = request.file.now; raw = request.raw }
+abbrev pub start_of : Start (Bor Word) → Start Word
+start_of = map_start (λ name. name.now)
 
-abbrev pub asked_dis : DisRequest → AskedDis
-asked_dis request = record { file = request.file.now; address = request.address }
+abbrev pub show_of : Show (Bor Word) → Show Word
+show_of = map_show (λ name. name.now)
 
-abbrev pub asked_within : CyclesRequest → AskedWithin
-asked_within request = record { file = request.file.now; certificate = request.certificate.now }
+abbrev pub program_show_of : ProgramShow (Bor Word) → ProgramShow Word
+program_show_of = map_program_show (λ name. name.now)
 
-abbrev pub asked_safe : SafeRequest → AskedSafe
-asked_safe request = record {
-  game = request.game.now;
-  certificate = request.certificate.now;
-  edition = request.edition;
-}
+abbrev pub asked_of : Request (Bor Word) → Asked
+asked_of = map_request (λ name. name.now)
 
-abbrev pub asked_certify : CertifyRequest → AskedCertify
-asked_certify request = record { game = request.game.now; edition = request.edition }
+-- ---- numbers
 
-abbrev pub asked_of : Request → Asked
-asked_of (request.Trace asked) = trace (asked_trace asked)
-asked_of (request.Play asked) = play (asked_run asked)
-asked_of (request.Debug asked) = debug (asked_debug asked)
-asked_of (request.Demo asked) = demo (asked_demo asked)
-asked_of (request.Save asked) = save (asked_run asked)
-asked_of (request.Resume asked) = resume (asked_resume asked)
-asked_of (request.Link asked) = link (asked_link asked)
-asked_of (request.TraceProgram asked) = trace_program (asked_program asked)
-asked_of (request.PlayProgram asked) = play_program (asked_program asked)
-asked_of (request.DebugProgram asked) = debug_program (asked_debug_program asked)
-asked_of (request.Asm asked) = asm (asked_asm asked)
-asked_of (request.List asked) = list asked.file.now
-asked_of (request.Dis asked) = dis (asked_dis asked)
-asked_of (request.Source text) = source text
-asked_of request.Bounds = bounds
-asked_of (request.Cycles asked) = within (asked_within asked)
-asked_of (request.Safe asked) = safe (asked_safe asked)
-asked_of (request.Certify asked) = certify (asked_certify asked)
+module _ {N : Type 0} where
+  -- the machine cycles that are asked for
+  abbrev pub cycles_in : Request N → ℕ
+  cycles_in (Run run) = run.limit
+  cycles_in (Program run) = run.limit
+  cycles_in _ = 0
+
+  -- the moves of joined boards that are asked for
+  abbrev pub moves_in : Request N → ℕ
+  moves_in (Link message moves number) = moves
+  moves_in _ = 0
+
+-- the most moves of joined boards
+abbrev pub most_moves : ℕ
+most_moves = 10_000_000
+
+-- so many machine cycles and moves may be asked for
+pub record InRange {N : Type 0} (request : Request N) : Type 0 where
+  pub cycles : cycles_in request ≤ most_cycles
+  pub moves : moves_in request ≤ most_moves

@@ -24,6 +24,9 @@ screen_option = codes "--screen"
 abbrev pub tall_option : Word
 tall_option = codes "--tall"
 
+abbrev pub state_option : Word
+state_option = codes "--state"
+
 abbrev pub raw_option : Word
 raw_option = codes "--raw"
 
@@ -42,7 +45,7 @@ receiver_option = codes "--receiver"
 -- every option of the program
 abbrev pub every_option : List Word
 every_option =
-    keys_option ∷ at_option ∷ screen_option ∷ tall_option ∷ raw_option ∷ rom_option ∷ ram_option ∷ sender_option ∷ receiver_option ∷ []
+    keys_option ∷ at_option ∷ screen_option ∷ tall_option ∷ state_option ∷ raw_option ∷ rom_option ∷ ram_option ∷ sender_option ∷ receiver_option ∷ []
 
 abbrev pub is_option : Word → Bool
 is_option word = list_any (bytes_eq word) every_option
@@ -101,6 +104,7 @@ pub record Given : Type 0 where
   pub at : Bool
   pub screen : Bool
   pub tall : Bool
+  pub state : Bool
   pub raw : Bool
   pub rom : Bool
   pub ram : Bool
@@ -116,6 +120,7 @@ given_by places options words =
       at = is_given at_option words;
       screen = is_given screen_option words;
       tall = is_given tall_option words;
+      state = is_given state_option words;
       raw = is_given raw_option words;
       rom = is_given rom_option words;
       ram = is_given ram_option words;

@@ -46,6 +46,8 @@ pub struct Given<'a> {
     pub screen: bool,
     /// Whether `--tall` is.
     pub tall: bool,
+    /// Whether `--state` is.
+    pub state: bool,
     /// Whether `--raw` is.
     pub raw: bool,
     /// Whether `--rom` is.
@@ -156,6 +158,7 @@ pub fn read_given<'a>(
         at: matches.get_flag("at"),
         screen: matches.get_flag("screen"),
         tall: matches.get_flag("tall"),
+        state: matches.get_flag("state"),
         raw: matches.get_flag("raw"),
         rom: matches.get_flag("rom"),
         ram: matches.get_flag("ram"),

@@ -22,13 +22,14 @@
 //! | the number of a demonstration game, or of a schedule of joined boards, is decimal and at most 4,294,967,295 | `vip_byte` |
 //! | a number of moves of joined boards is decimal and at most 10,000,000 | `vip_byte` |
 //! | an address is hexadecimal and at most FFFF | `vip_byte` |
-//! | a program has one of `--rom` and `--ram`, and none of `--tall`, `--screen` and `--at` | `src/request.rt` |
+//! | a program has one of `--rom` and `--ram`, and none of `--tall`, `--state`, `--screen` and `--at` | `src/request.rt` |
+//! | a saved state, by `--state`, has its own edition: `--tall` is refused with it | `src/request.rt` |
 //! | `source` has at most one of `--tall`, `--sender` and `--receiver` | `src/request.rt` |
 //!
-//! One `clap` command serves all verbs with as many positional words: it has every option, and a word that is an option of another verb doesn't
-//! come to it. So a verb is added by its line in the two tables (`src/table.rt`, `specs/Table.antt`), its variant and what its words ask for; an
-//! option of a verb, by its name in the verb's lines. A new option that takes no word is one name more among the flags (`src/command.rt`,
-//! `specs/Command.antt`), one field of what is given, and a line in each lemma on flags.
+//! One `clap` command serves all verbs with as many positional words: it has every option, and a word that is an option of another verb doesn't come
+//! to it. So a verb is added by its line in the two tables (`src/table.rt`, `specs/Table.antt`), its variant and what its words ask for, which mostly
+//! is a start and a show that are there; an option of a verb, by its name in the verb's lines. A new option that takes no word is one name more among
+//! the flags (`src/command.rt`, `specs/Command.antt`), one field of what is given, and a line in each lemma on flags.
 #![tactic(auto)]
 
 mod command;
@@ -44,7 +45,5 @@ pub use debug_commands::{
 };
 pub use given::WordsFail;
 pub use request::{
-    AsmRequest, BuiltIn, CertifyRequest, CyclesRequest, DebugProgramRequest, DebugRequest,
-    DemoRequest, DisRequest, LinkRequest, Memory, ProgramRequest, Request, ResumeRequest,
-    RunRequest, SafeRequest, SourceRequest, TraceRequest, read_words,
+    BuiltIn, Memory, ProgramRequest, ProgramShow, Request, RunRequest, Show, Start, read_words,
 };

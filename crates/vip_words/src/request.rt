@@ -1,9 +1,9 @@
 //! What the words of a command line ask for.
 
 ghost use Rattle.std.specs.Prelude.{◌≡◌, IfOk, IsErrOf, None, Some, map, option_map, string_bytes};
-ghost use Rattle.vip_words.specs.Asked.{address_of, asked_by, asked_of_verb, built_in_by, cycles_of, edition_by, is_mixed, is_program, moves_of, program_by, run_by, seed_of, InRange};
+ghost use Rattle.vip_words.specs.Asked.{address_of, asked_by, asked_of_verb, built_in_by, cycles_of, edition_by, either_by, is_mixed, is_program, moves_of, program_by, run_by, seed_of, start_by};
 ghost use Rattle.vip_words.specs.Given.{seen_given};
-ghost use Rattle.vip_words.specs.Request.{asked_of, asked_program, asked_run};
+ghost use Rattle.vip_words.specs.Request.{asked_of, program_show_of, show_of, start_of, InRange};
 ghost use Rattle.vip_words.specs.declared.table.Verb.TheVariants as verb;
 
 use crate::given::{Given, Positional, WordsFail, read_given};
@@ -12,89 +12,115 @@ use chip8_lang::Edition;
 use std::alloc::Global;
 use vip_byte::{MOST_CYCLE, read_decimal, read_hex};
 
-/// What the words of a command line ask for. A file's name is the word itself.
-#[derive(Clone, Copy)]
-pub enum Request<'a> {
-    Trace(TraceRequest<'a>),
-    /// The pictures of a run.
-    Play(RunRequest<'a>),
-    Debug(DebugRequest<'a>),
-    /// The last dispatch point of a run, as a state file.
-    Save(RunRequest<'a>),
-    Resume(ResumeRequest<'a>),
-    Demo(DemoRequest),
-    Link(LinkRequest<'a>),
-    TraceProgram(ProgramRequest<'a>),
-    /// The pictures of a program's run.
-    PlayProgram(ProgramRequest<'a>),
-    DebugProgram(DebugProgramRequest<'a>),
-    /// Assemble a source.
-    Asm(AsmRequest<'a>),
+/// What the words of a command line ask for. A file is an `N`: its name, which is the word itself, or, once it was read, its content.
+#[derive(Drop)]
+pub enum Request<N> {
+    /// A run of the language that is shown.
+    Run(RunRequest<N>),
+    /// A run of a program for the processor that is shown.
+    Program(ProgramRequest<N>),
+    /// Two boards that are joined.
+    Link {
+        /// What one board sends to the other.
+        message: N,
+        /// How many moves the two boards make, from 0 to 10,000,000.
+        moves: u32,
+        /// The number of the schedule, which says whose move each is.
+        number: u32,
+    },
+    /// Assemble a source: the bytes themselves where `raw` is asked for, and else their dump.
+    Asm {
+        source: N,
+        raw: bool,
+    },
     /// List a source with its bytes.
-    List(SourceRequest<'a>),
-    Dis(DisRequest<'a>),
+    List(N),
+    /// Disassemble the bytes of a file from an address on.
+    Dis {
+        bytes: N,
+        address: u16,
+    },
     /// A source that the program has in it.
     Source(BuiltIn),
     /// The table of the bounds of each step.
     Bounds,
-    Cycles(CyclesRequest<'a>),
-    Safe(SafeRequest<'a>),
-    Certify(CertifyRequest<'a>),
+    /// Check a certificate that a routine of a source leaves within its machine cycles.
+    Cycles {
+        source: N,
+        certificate: N,
+    },
+    /// Check a certificate that an edition's game never stops.
+    Safe {
+        game: N,
+        certificate: N,
+        edition: Edition,
+    },
+    /// Search for a certificate that an edition's game never stops.
+    Certify {
+        game: N,
+        edition: Edition,
+    },
 }
 
-/// A source that the program has in it.
-#[derive(Clone, Copy)]
-pub enum BuiltIn {
-    /// That of an edition's interpreter.
-    Interpreter(Edition),
-    /// That of the program by which a board sends a message.
-    Sender,
-    /// That of the program by which another one receives it.
-    Receiver,
-}
-
-/// A run of a game from a file.
-#[derive(Clone, Copy)]
-pub struct RunRequest<'a> {
-    /// The name of the game's file.
-    pub game: &'a str,
-    /// How many machine cycles at most, from 0 to 4,000,000,000.
-    pub cycles: u64,
-    /// The name of the key script's file, where there is one.
-    pub keys: Option<&'a str>,
-    /// The edition that the game runs on.
-    pub edition: Edition,
-}
-
-/// A trace: the records of a run.
-#[derive(Clone, Copy)]
-pub struct TraceRequest<'a> {
-    pub run: RunRequest<'a>,
-    /// Whether each record says its cycle.
-    pub with_time: bool,
-    /// Whether the last screen is shown.
-    pub with_screen: bool,
-}
-
-/// A run under the debugger.
-#[derive(Clone, Copy)]
-pub struct DebugRequest<'a> {
-    pub run: RunRequest<'a>,
-    /// The name of the file of the debugger's commands.
-    pub commands: &'a str,
-}
-
-/// A run that goes on from a saved state.
-#[derive(Clone, Copy)]
-pub struct ResumeRequest<'a> {
-    /// The name of the state's file.
-    pub state: &'a str,
+/// A run of the language: from where, under which keys, how long, and what is shown of it.
+#[derive(Drop)]
+pub struct RunRequest<N> {
+    pub start: Start<N>,
+    /// The key script, where there is one.
+    pub keys: Option<N>,
     /// How many machine cycles at most, counted from reset, from 0 to 4,000,000,000.
-    pub cycles: u64,
-    /// The name of the key script's file, where there is one.
-    pub keys: Option<&'a str>,
-    /// Whether each record says its cycle.
-    pub with_time: bool,
+    pub limit: u64,
+    pub show: Show<N>,
+}
+
+/// Where a run of the language begins.
+#[derive(Drop)]
+pub enum Start<N> {
+    /// At a reset, with a game of an edition.
+    Game { file: N, edition: Edition },
+    /// At a saved state, whose edition counts.
+    State(N),
+    /// At a reset, with the demonstration game of a number.
+    Demo(u32),
+}
+
+/// What is shown of a run of the language.
+#[derive(Drop)]
+pub enum Show<N> {
+    /// A line for each dispatch point behind the start; whether it says its cycle; and whether the last screen is shown.
+    Trace { with_time: bool, with_screen: bool },
+    /// Each finished picture.
+    Pictures,
+    /// The answers to the debugger's commands.
+    Commands(N),
+    /// The last dispatch point, as a state file.
+    State,
+    /// One line that counts a demonstration game of this number.
+    Summary(u32),
+}
+
+/// A run of a program for the processor: which one, under which keys, how long, and what is shown of it.
+#[derive(Drop)]
+pub struct ProgramRequest<N> {
+    pub file: N,
+    /// Where it stands.
+    pub memory: Memory,
+    /// The key script, where there is one.
+    pub keys: Option<N>,
+    /// How many machine cycles at most, from 0 to 4,000,000,000.
+    pub limit: u64,
+    pub show: ProgramShow<N>,
+}
+
+/// What is shown of a run of a program for the processor.
+#[derive(Drop)]
+pub enum ProgramShow<N> {
+    /// A line for each move or stretch of moves.
+    Trace,
+    /// Each finished picture.
+    Pictures,
+    /// The answers to the debugger's commands.
+    Commands(N),
 }
 
 /// A memory of the board in which a program stands.
@@ -106,99 +132,15 @@ pub enum Memory {
     Ram,
 }
 
-/// A run of a program for the processor from a file.
+/// A source that the program has in it.
 #[derive(Clone, Copy)]
-pub struct ProgramRequest<'a> {
-    /// The name of the program's file.
-    pub program: &'a str,
-    /// Where it stands.
-    pub memory: Memory,
-    /// How many machine cycles at most, from 0 to 4,000,000,000.
-    pub cycles: u64,
-    /// The name of the key script's file, where there is one.
-    pub keys: Option<&'a str>,
-}
-
-/// A run of a program for the processor under the debugger.
-#[derive(Clone, Copy)]
-pub struct DebugProgramRequest<'a> {
-    pub run: ProgramRequest<'a>,
-    /// The name of the file of the debugger's commands.
-    pub commands: &'a str,
-}
-
-/// A message that one board sends to another.
-#[derive(Clone, Copy)]
-pub struct LinkRequest<'a> {
-    /// The name of the message's file.
-    pub message: &'a str,
-    /// How many moves the two boards make, from 0 to 10,000,000.
-    pub moves: u32,
-    /// The number of the schedule, which says whose move each is.
-    pub number: u32,
-}
-
-/// The summary of a run of a demonstration game.
-#[derive(Clone, Copy)]
-pub struct DemoRequest {
-    /// The number of the game.
-    pub number: u32,
-    /// How many machine cycles, from 0 to 4,000,000,000.
-    pub cycles: u64,
-}
-
-/// The assembly of a source.
-#[derive(Clone, Copy)]
-pub struct AsmRequest<'a> {
-    /// The name of the source's file.
-    pub file: &'a str,
-    /// Whether the bytes themselves are written, and not their dump.
-    pub raw: bool,
-}
-
-/// The source of a listing.
-#[derive(Clone, Copy)]
-pub struct SourceRequest<'a> {
-    /// The name of its file.
-    pub file: &'a str,
-}
-
-/// The disassembly of a file of bytes.
-#[derive(Clone, Copy)]
-pub struct DisRequest<'a> {
-    /// The name of the file.
-    pub file: &'a str,
-    /// The address of its first byte.
-    pub address: u16,
-}
-
-/// The check of a certificate that a routine leaves within its machine cycles.
-#[derive(Clone, Copy)]
-pub struct CyclesRequest<'a> {
-    /// The name of the file of the routine's source.
-    pub file: &'a str,
-    /// The name of the certificate's file.
-    pub certificate: &'a str,
-}
-
-/// The check of a certificate that a game never stops.
-#[derive(Clone, Copy)]
-pub struct SafeRequest<'a> {
-    /// The name of the game's file.
-    pub game: &'a str,
-    /// The name of the certificate's file.
-    pub certificate: &'a str,
-    /// The edition of the game.
-    pub edition: Edition,
-}
-
-/// The search for a certificate that a game never stops.
-#[derive(Clone, Copy)]
-pub struct CertifyRequest<'a> {
-    /// The name of the game's file.
-    pub game: &'a str,
-    /// The edition of the game.
-    pub edition: Edition,
+pub enum BuiltIn {
+    /// That of an edition's interpreter.
+    Interpreter(Edition),
+    /// That of the program by which a board sends a message.
+    Sender,
+    /// That of the program by which another one receives it.
+    Receiver,
 }
 
 fn read_cycles(word: &str) -> Option<u64>
@@ -239,16 +181,40 @@ fn edition_by(tall: bool) -> Edition
     if tall { Edition::Tall } else { Edition::Usual }
 }
 
-/// A run of the game of this name, for as many cycles as a word says.
-fn run_request<'a>(game: &'a str, cycles: &str, given: &Given<'a>) -> Option<RunRequest<'a>>
-    ensures { option_map asked_run result ≡ run_by game.entry.now cycles.now (seen_given given.now) }
+/// Where a run begins whose file has this name: at a saved state, which has its own edition, or at a game's reset.
+fn read_start<'a>(file: &'a str, given: &Given<'a>) -> Option<Start<&'a str>>
+    ensures { option_map start_of result ≡ start_by file.entry.now (seen_given given.now) }
 {
-    Some(RunRequest {
-        game,
-        cycles: read_cycles(cycles)?,
+    if !given.state {
+        return Some(Start::Game {
+            file,
+            edition: edition_by(given.tall),
+        });
+    }
+    if given.tall {
+        None
+    } else {
+        Some(Start::State(file))
+    }
+}
+
+/// A run from the start of this name, for as many cycles as a word says, that is shown so.
+fn run_request<'a>(
+    file: &'a str,
+    cycles: &str,
+    given: &Given<'a>,
+    show: Show<&'a str>,
+) -> Option<Request<&'a str>>
+    ensures { option_map asked_of result ≡ run_by file.entry.now cycles.now (seen_given given.now) (show_of show.entry) }
+{
+    let start = read_start(file, given)?;
+    let limit = read_cycles(cycles)?;
+    Some(Request::Run(RunRequest {
+        start,
         keys: given.keys,
-        edition: edition_by(given.tall),
-    })
+        limit,
+        show,
+    }))
 }
 
 /// Whether a program for the processor is asked for, in place of a game.
@@ -258,158 +224,174 @@ fn is_program(given: &Given) -> bool
     given.rom || given.ram
 }
 
-/// Whether the options are such as a program can't have: both memories, or an option of a game.
+/// Whether the options are such as a program can't have: both memories, or an option of a game or of a saved state.
 fn is_mixed(given: &Given) -> bool
     ensures { result ≡ is_mixed (seen_given given.now) }
 {
-    given.rom && given.ram || given.tall || given.screen || given.at
+    given.rom && given.ram || given.state || given.tall || given.screen || given.at
 }
 
-/// A run of the program of this name, for as many cycles as a word says.
+/// A run of the program of this name, for as many cycles as a word says, that is shown so.
 fn program_request<'a>(
-    program: &'a str,
+    file: &'a str,
     cycles: &str,
     given: &Given<'a>,
-) -> Option<ProgramRequest<'a>>
-    ensures { option_map asked_program result ≡ program_by program.entry.now cycles.now (seen_given given.now) }
+    show: ProgramShow<&'a str>,
+) -> Option<Request<&'a str>>
+    ensures { option_map asked_of result ≡ program_by file.entry.now cycles.now (seen_given given.now) (program_show_of show.entry) }
 {
     if is_mixed(given) {
         return None;
     }
+    let limit = read_cycles(cycles)?;
     let memory = if given.rom { Memory::Rom } else { Memory::Ram };
-    Some(ProgramRequest {
-        program,
+    Some(Request::Program(ProgramRequest {
+        file,
         memory,
-        cycles: read_cycles(cycles)?,
         keys: given.keys,
-    })
+        limit,
+        show,
+    }))
 }
 
-fn trace_request<'a>(given: &Given<'a>) -> Option<Request<'a>>
+/// A run of a program where the options ask for one, and else one of the language.
+fn either_request<'a>(
+    file: &'a str,
+    cycles: &str,
+    given: &Given<'a>,
+    show: Show<&'a str>,
+    program_show: ProgramShow<&'a str>,
+) -> Option<Request<&'a str>>
+    ensures { option_map asked_of result
+        ≡ either_by file.entry.now cycles.now (seen_given given.now) (show_of show.entry) (program_show_of program_show.entry) }
+{
+    if is_program(given) {
+        program_request(file, cycles, given, program_show)
+    } else {
+        run_request(file, cycles, given, show)
+    }
+}
+
+fn trace_request<'a>(given: &Given<'a>) -> Option<Request<&'a str>>
     ensures { option_map asked_of result ≡ asked_of_verb verb.Trace (seen_given given.now) }
 {
     let Positional::Two(file, cycles) = given.positional else {
         return None;
     };
-    if is_program(given) {
-        return Some(Request::TraceProgram(program_request(file, cycles, given)?));
-    }
-    Some(Request::Trace(TraceRequest {
-        run: run_request(file, cycles, given)?,
+    let show = Show::Trace {
         with_time: given.at,
         with_screen: given.screen,
-    }))
+    };
+    either_request(file, cycles, given, show, ProgramShow::Trace)
 }
 
-fn play_request<'a>(given: &Given<'a>) -> Option<Request<'a>>
+fn play_request<'a>(given: &Given<'a>) -> Option<Request<&'a str>>
     ensures { option_map asked_of result ≡ asked_of_verb verb.Play (seen_given given.now) }
 {
     let Positional::Two(file, cycles) = given.positional else {
         return None;
     };
-    if is_program(given) {
-        return Some(Request::PlayProgram(program_request(file, cycles, given)?));
-    }
-    Some(Request::Play(run_request(file, cycles, given)?))
+    either_request(file, cycles, given, Show::Pictures, ProgramShow::Pictures)
 }
 
-fn debug_request<'a>(given: &Given<'a>) -> Option<Request<'a>>
+fn debug_request<'a>(given: &Given<'a>) -> Option<Request<&'a str>>
     ensures { option_map asked_of result ≡ asked_of_verb verb.Debug (seen_given given.now) }
 {
     let Positional::Three(file, cycles, commands) = given.positional else {
         return None;
     };
-    if is_program(given) {
-        return Some(Request::DebugProgram(DebugProgramRequest {
-            run: program_request(file, cycles, given)?,
-            commands,
-        }));
-    }
-    Some(Request::Debug(DebugRequest {
-        run: run_request(file, cycles, given)?,
-        commands,
-    }))
+    let show = Show::Commands(commands);
+    either_request(file, cycles, given, show, ProgramShow::Commands(commands))
 }
 
-fn save_request<'a>(given: &Given<'a>) -> Option<Request<'a>>
+fn save_request<'a>(given: &Given<'a>) -> Option<Request<&'a str>>
     ensures { option_map asked_of result ≡ asked_of_verb verb.Save (seen_given given.now) }
 {
-    let Positional::Two(game, cycles) = given.positional else {
+    let Positional::Two(file, cycles) = given.positional else {
         return None;
     };
-    Some(Request::Save(run_request(game, cycles, given)?))
+    run_request(file, cycles, given, Show::State)
 }
 
-fn resume_request<'a>(given: &Given<'a>) -> Option<Request<'a>>
+/// The trace of a run from a saved state.
+fn resume_request<'a>(given: &Given<'a>) -> Option<Request<&'a str>>
     ensures { option_map asked_of result ≡ asked_of_verb verb.Resume (seen_given given.now) }
 {
     let Positional::Two(state, cycles) = given.positional else {
         return None;
     };
-    Some(Request::Resume(ResumeRequest {
-        state,
-        cycles: read_cycles(cycles)?,
+    let limit = read_cycles(cycles)?;
+    Some(Request::Run(RunRequest {
+        start: Start::State(state),
         keys: given.keys,
-        with_time: given.at,
+        limit,
+        show: Show::Trace {
+            with_time: given.at,
+            with_screen: false,
+        },
     }))
 }
 
-fn link_request<'a>(given: &Given<'a>) -> Option<Request<'a>>
-    ensures { option_map asked_of result ≡ asked_of_verb verb.Link (seen_given given.now) }
-{
-    let Positional::Three(message, moves, number) = given.positional else {
-        return None;
-    };
-    Some(Request::Link(LinkRequest {
-        message,
-        moves: read_moves(moves)?,
-        number: read_seed(number)?,
-    }))
-}
-
-fn demo_request<'a>(given: &Given<'a>) -> Option<Request<'a>>
+fn demo_request<'a>(given: &Given<'a>) -> Option<Request<&'a str>>
     ensures { option_map asked_of result ≡ asked_of_verb verb.Demo (seen_given given.now) }
 {
     let Positional::Two(number, cycles) = given.positional else {
         return None;
     };
-    Some(Request::Demo(DemoRequest {
-        number: read_seed(number)?,
-        cycles: read_cycles(cycles)?,
+    let number = read_seed(number)?;
+    let limit = read_cycles(cycles)?;
+    Some(Request::Run(RunRequest {
+        start: Start::Demo(number),
+        keys: None,
+        limit,
+        show: Show::Summary(number),
     }))
 }
 
-fn asm_request<'a>(given: &Given<'a>) -> Option<Request<'a>>
+fn link_request<'a>(given: &Given<'a>) -> Option<Request<&'a str>>
+    ensures { option_map asked_of result ≡ asked_of_verb verb.Link (seen_given given.now) }
+{
+    let Positional::Three(message, moves, number) = given.positional else {
+        return None;
+    };
+    let moves = read_moves(moves)?;
+    let number = read_seed(number)?;
+    Some(Request::Link {
+        message,
+        moves,
+        number,
+    })
+}
+
+fn asm_request<'a>(given: &Given<'a>) -> Option<Request<&'a str>>
     ensures { option_map asked_of result ≡ asked_of_verb verb.Asm (seen_given given.now) }
 {
     match given.positional {
-        Positional::One(file) => Some(Request::Asm(AsmRequest {
-            file,
+        Positional::One(source) => Some(Request::Asm {
+            source,
             raw: given.raw,
-        })),
+        }),
         _ => None,
     }
 }
 
-fn list_request<'a>(given: &Given<'a>) -> Option<Request<'a>>
+fn list_request<'a>(given: &Given<'a>) -> Option<Request<&'a str>>
     ensures { option_map asked_of result ≡ asked_of_verb verb.List (seen_given given.now) }
 {
     match given.positional {
-        Positional::One(file) => Some(Request::List(SourceRequest { file })),
+        Positional::One(source) => Some(Request::List(source)),
         _ => None,
     }
 }
 
-fn dis_request<'a>(given: &Given<'a>) -> Option<Request<'a>>
+fn dis_request<'a>(given: &Given<'a>) -> Option<Request<&'a str>>
     ensures { option_map asked_of result ≡ asked_of_verb verb.Dis (seen_given given.now) }
 {
-    let Positional::Two(file, address) = given.positional else {
+    let Positional::Two(bytes, address) = given.positional else {
         return None;
     };
-    Some(Request::Dis(DisRequest {
-        file,
-        address: read_address(address)?,
-    }))
+    let address = read_address(address)?;
+    Some(Request::Dis { bytes, address })
 }
 
 /// The source that the options name. The two programs of joined boards have no editions.
@@ -433,7 +415,7 @@ fn built_in_by(given: &Given<'_>) -> Option<BuiltIn>
     }
 }
 
-fn source_request<'a>(given: &Given<'a>) -> Option<Request<'a>>
+fn source_request<'a>(given: &Given<'a>) -> Option<Request<&'a str>>
     ensures { option_map asked_of result ≡ asked_of_verb verb.Source (seen_given given.now) }
 {
     match given.positional {
@@ -442,7 +424,7 @@ fn source_request<'a>(given: &Given<'a>) -> Option<Request<'a>>
     }
 }
 
-fn bounds_request<'a>(given: &Given<'a>) -> Option<Request<'a>>
+fn bounds_request<'a>(given: &Given<'a>) -> Option<Request<&'a str>>
     ensures { option_map asked_of result ≡ asked_of_verb verb.Bounds (seen_given given.now) }
 {
     match given.positional {
@@ -451,52 +433,53 @@ fn bounds_request<'a>(given: &Given<'a>) -> Option<Request<'a>>
     }
 }
 
-fn cycles_request<'a>(given: &Given<'a>) -> Option<Request<'a>>
+fn cycles_request<'a>(given: &Given<'a>) -> Option<Request<&'a str>>
     ensures { option_map asked_of result ≡ asked_of_verb verb.Cycles (seen_given given.now) }
 {
     match given.positional {
-        Positional::Two(file, certificate) => {
-            Some(Request::Cycles(CyclesRequest { file, certificate }))
-        }
+        Positional::Two(source, certificate) => Some(Request::Cycles {
+            source,
+            certificate,
+        }),
         _ => None,
     }
 }
 
-fn safe_request<'a>(given: &Given<'a>) -> Option<Request<'a>>
+fn safe_request<'a>(given: &Given<'a>) -> Option<Request<&'a str>>
     ensures { option_map asked_of result ≡ asked_of_verb verb.Safe (seen_given given.now) }
 {
     match given.positional {
-        Positional::Two(game, certificate) => Some(Request::Safe(SafeRequest {
+        Positional::Two(game, certificate) => Some(Request::Safe {
             game,
             certificate,
             edition: edition_by(given.tall),
-        })),
+        }),
         _ => None,
     }
 }
 
-fn certify_request<'a>(given: &Given<'a>) -> Option<Request<'a>>
+fn certify_request<'a>(given: &Given<'a>) -> Option<Request<&'a str>>
     ensures { option_map asked_of result ≡ asked_of_verb verb.Certify (seen_given given.now) }
 {
     match given.positional {
-        Positional::One(game) => Some(Request::Certify(CertifyRequest {
+        Positional::One(game) => Some(Request::Certify {
             game,
             edition: edition_by(given.tall),
-        })),
+        }),
         _ => None,
     }
 }
 
-fn request_of<'a>(verb: Verb, given: &Given<'a>) -> Option<Request<'a>>
+fn request_of<'a>(verb: Verb, given: &Given<'a>) -> Option<Request<&'a str>>
     ensures { option_map asked_of result ≡ asked_of_verb verb (seen_given given.now) }
 {
     match verb {
         Verb::Trace => trace_request(given),
         Verb::Play => play_request(given),
         Verb::Debug => debug_request(given),
-        Verb::Demo => demo_request(given),
         Verb::Save => save_request(given),
         Verb::Resume => resume_request(given),
+        Verb::Demo => demo_request(given),
         Verb::Link => link_request(given),
         Verb::Asm => asm_request(given),
         Verb::List => list_request(given),
@@ -511,7 +494,7 @@ fn request_of<'a>(verb: Verb, given: &Given<'a>) -> Option<Request<'a>>
 
 /// Reads the words of a command line, without the program's name. The answer is exactly the request that the rules read in them, and
 /// `Refused` comes exactly where they read none. Where there was no memory, nothing is known of the words.
-pub fn read_words<'a>(alloc: Global, words: &'a [String]) -> Result<Request<'a>, WordsFail>
+pub fn read_words<'a>(alloc: Global, words: &'a [String]) -> Result<Request<&'a str>, WordsFail>
     ensures ok { IfOk result (λ request. asked_by (map string_bytes words.entry.now) ≡ Some (asked_of request)) }
     ensures range { IfOk result (λ request. InRange (asked_of request)) }
     ensures refused { IsErrOf result WordsFail.Refused → asked_by (map string_bytes words.entry.now) ≡ None }

@@ -61,11 +61,21 @@ impl Usage {
             "trace" => Some(Usage::new(
                 Verb::Trace,
                 2,
-                &["--keys", "--at", "--screen", "--tall", "--rom", "--ram"],
+                &[
+                    "--keys", "--at", "--screen", "--tall", "--state", "--rom", "--ram",
+                ],
             )),
-            "play" => Some(Usage::new(Verb::Play, 2, &["--keys", "--tall", "--rom", "--ram"])),
-            "debug" => Some(Usage::new(Verb::Debug, 3, &["--keys", "--tall", "--rom", "--ram"])),
-            "save" => Some(Usage::new(Verb::Save, 2, &["--keys", "--tall"])),
+            "play" => Some(Usage::new(
+                Verb::Play,
+                2,
+                &["--keys", "--tall", "--state", "--rom", "--ram"],
+            )),
+            "debug" => Some(Usage::new(
+                Verb::Debug,
+                3,
+                &["--keys", "--tall", "--state", "--rom", "--ram"],
+            )),
+            "save" => Some(Usage::new(Verb::Save, 2, &["--keys", "--tall", "--state"])),
             "resume" => Some(Usage::new(Verb::Resume, 2, &["--keys", "--at"])),
             "demo" => Some(Usage::new(Verb::Demo, 2, &[])),
             "link" => Some(Usage::new(Verb::Link, 3, &[])),

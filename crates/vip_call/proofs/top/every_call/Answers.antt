@@ -3,7 +3,7 @@ use Rattle.vip_call.proofs.CertifiedLemmas.{proves_certified}
 use Rattle.vip_call.proofs.GivenLemmas.{roms_given, rom_never, never_of_rom}
 use Rattle.vip_call.proofs.LinkedLemmas.{brings_messages}
 use Rattle.vip_call.proofs.LanguageLemmas.{speaks_chip8}
-use Rattle.vip_call.proofs.SavedLemmas.{continues_saved}
+use Rattle.vip_call.proofs.SavedLemmas.{continues_saved, saves_shown}
 use Rattle.vip_call.proofs.TranscribedLemmas.{tells_chip8, tells_timed}
 use Rattle.vip_call.proofs.TopLemmas.{refuses_words, gives_due, completes, says_finished}
 use Rattle.vip_call.proofs.top.every_call.Goals as goal
@@ -14,19 +14,22 @@ returns c words files files' out out' err err' opened status opens finishes =
     record {
       says = says;
       language =
-          speaks_chip8 c.every_run.ensures c.every_frame.ensures.from_reset
-          (λ e f bytes a script. c.every_frame.ensures.from_any_start e (shown f) (c.file_may_start.ensures e f bytes a) script)
-          (λ e f bytes a script limit. c.every_start.ensures e (shown f) (c.file_may_start.ensures e f bytes a) script limit) _;
+          speaks_chip8 c.every_run.ensures
+          (λ e f bytes a script limit. c.every_start.ensures e (shown f) (c.file_may_start.ensures e f bytes a) script limit)
+          c.every_frame.ensures.from_reset
+          (λ e f bytes a script. c.every_frame.ensures.from_any_start e (shown f) (c.file_may_start.ensures e f bytes a) script) _;
       chip8 =
           tells_chip8 c.every_run.ensures
-          (λ e f bytes a script limit. c.every_start.ensures e (shown f) (c.file_may_start.ensures e f bytes a) script limit) _ _ says;
+          (λ e f bytes a script limit. c.every_start.ensures e (shown f) (c.file_may_start.ensures e f bytes a) script limit)
+          (saves_shown c.saved_joins.ensures) _ _ says;
       timed =
           tells_timed c.every_run.ensures
           (λ e f bytes a script limit. c.every_start.ensures e (shown f) (c.file_may_start.ensures e f bytes a) script limit)
           c.every_time.ensures.from_reset
-          (λ e f bytes a script limit. c.every_time.ensures.from_any_start e (shown f) (c.file_may_start.ensures e f bytes a) script limit) _ _ says;
+          (λ e f bytes a script limit. c.every_time.ensures.from_any_start e (shown f) (c.file_may_start.ensures e f bytes a) script limit)
+          (saves_shown c.saved_joins.ensures) _ _ says;
       certified = proves_certified c.accepted_leaves.ensures c.certified_games.ensures c.every_run.ensures _;
-      saved = continues_saved c.saved_goes_on.ensures _;
+      saved = continues_saved c.saved_joins.ensures c.goes_on_behind.ensures _;
       linked = brings_messages c.every_schedule.ensures.always c.every_schedule.ensures.numbers _;
       words = refuses_words _ _ says;
       due = gives_due _ _ says;

@@ -26,9 +26,10 @@ returns-clause-ok c =
       at = record { on = c.get_flag.ensures.value; off = c.get_flag.ensures.other };
       screen = record { on = c.get_flag-2.ensures.value; off = c.get_flag-2.ensures.other };
       tall = record { on = c.get_flag-3.ensures.value; off = c.get_flag-3.ensures.other };
-      raw = record { on = c.get_flag-4.ensures.value; off = c.get_flag-4.ensures.other };
-      rom = record { on = c.get_flag-5.ensures.value; off = c.get_flag-5.ensures.other };
-      ram = record { on = c.get_flag-6.ensures.value; off = c.get_flag-6.ensures.other };
-      sender = record { on = c.get_flag-7.ensures.value; off = c.get_flag-7.ensures.other };
-      receiver = record { on = c.get_flag-8.ensures.value; off = c.get_flag-8.ensures.other };
+      state = record { on = c.get_flag-4.ensures.value; off = c.get_flag-4.ensures.other };
+      raw = record { on = c.get_flag-5.ensures.value; off = c.get_flag-5.ensures.other };
+      rom = record { on = c.get_flag-6.ensures.value; off = c.get_flag-6.ensures.other };
+      ram = record { on = c.get_flag-7.ensures.value; off = c.get_flag-7.ensures.other };
+      sender = record { on = c.get_flag-8.ensures.value; off = c.get_flag-8.ensures.other };
+      receiver = record { on = c.get_flag-9.ensures.value; off = c.get_flag-9.ensures.other };
     })

@@ -1,0 +1,283 @@
+-- A request that was loaded is told by what was asked for and by the contents of its files, and what is known of the files holds of these.
+use Rattle.std.proofs.Common.{◌≡◌, ℕ, ◌<◌, ◌≤◌, List, [], ◌∷◌, ◌++◌, length, map, Option, Some, None, slice_index, refl, sym, ap, ap₂, subst, ◌∙◌}
+use Rattle.std.specs.Prelude.{option_map}
+use Rattle.std.proofs.lemmas.List.{map-append}
+use Rattle.vip_outside.specs.Files.{FilesMeaning}
+use Rattle.vip_words.specs.Request.{Asked, InRange, map_program_show, map_request, map_show, map_start}
+use Rattle.vip_words.specs.Rules.{Word}
+use Rattle.vip_words.specs.declared.request.Memory.{Memory}
+use Rattle.vip_words.specs.declared.request.Memory.TheVariants as memory
+use Rattle.vip_words.specs.declared.request.ProgramShow.{ProgramShow}
+use Rattle.vip_words.specs.declared.request.ProgramShow.TheVariants as program
+use Rattle.vip_words.specs.declared.request.Request.{Request}
+use Rattle.vip_words.specs.declared.request.Request.TheVariants as request
+use Rattle.vip_words.specs.declared.request.Show.{Show}
+use Rattle.vip_words.specs.declared.request.Show.TheVariants as show
+use Rattle.vip_words.specs.declared.request.Start.{Start}
+use Rattle.vip_words.specs.declared.request.Start.TheVariants as start
+use Rattle.vip_tools.specs.Files.{HasAll, Loaded, Needed, files_of, needed, program_file, program_show_files, script_files, shape_of, show_files, start_files}
+
+-- ---- the most bytes of the files
+
+abbrev mosts : {N : Type 0} → List (Needed N) → List ℕ
+mosts ns = map (λ n. n.most) ns
+
+-- they don't hang on the files themselves
+module _ {A B : Type 0} (f : A → B) where
+  start_mosts : (s : Start A) → mosts (start_files (map_start f s)) ≡ mosts (start_files s)
+  start_mosts (start.Game file edition) = refl
+  start_mosts (start.State file) = refl
+  start_mosts (start.Demo number) = refl
+
+  show_mosts : (s : Show A) → mosts (show_files (map_show f s)) ≡ mosts (show_files s)
+  show_mosts (show.Trace with_time with_screen) = refl
+  show_mosts show.Pictures = refl
+  show_mosts (show.Commands file) = refl
+  show_mosts show.State = refl
+  show_mosts (show.Summary number) = refl
+
+  script_mosts : (k : Option A) → mosts (script_files (option_map f k)) ≡ mosts (script_files k)
+  script_mosts None = refl
+  script_mosts (Some file) = refl
+
+  program_mosts : (m : Memory) (file : A) → mosts (program_file m (f file) ∷ []) ≡ mosts (program_file m file ∷ [])
+  program_mosts memory.Rom file = refl
+  program_mosts memory.Ram file = refl
+
+  program_show_mosts : (s : ProgramShow A) → mosts (program_show_files (map_program_show f s)) ≡ mosts (program_show_files s)
+  program_show_mosts program.Trace = refl
+  program_show_mosts program.Pictures = refl
+  program_show_mosts (program.Commands file) = refl
+
+both_mosts : {N : Type 0} (xs ys : List (Needed N)) → mosts (xs ++ ys) ≡ mosts xs ++ mosts ys
+both_mosts xs ys = map-append (λ n. n.most) xs ys
+
+three_mosts :
+    {A B : Type 0} (xs bs cs : List (Needed A)) (ds es fs : List (Needed B)) → mosts xs ≡ mosts ds → mosts bs ≡ mosts es → mosts cs ≡ mosts fs
+    → mosts (xs ++ (bs ++ cs)) ≡ mosts (ds ++ (es ++ fs))
+three_mosts xs bs cs ds es fs a b c =
+    both_mosts xs (bs ++ cs) ∙ ap (λ l. mosts xs ++ l) (both_mosts bs cs) ∙ ap₂ (λ x y. x ++ y) a (ap₂ (λ x y. x ++ y) b c)
+    ∙ sym (both_mosts ds (es ++ fs) ∙ ap (λ l. mosts ds ++ l) (both_mosts es fs))
+
+same_mosts : {A B : Type 0} (f : A → B) (r : Request A) → mosts (needed (map_request f r)) ≡ mosts (needed r)
+same_mosts f (request.Run run) =
+    three_mosts (start_files (map_start f run.start)) (show_files (map_show f run.show)) (script_files (option_map f run.keys))
+    (start_files run.start) (show_files run.show) (script_files run.keys)
+    (start_mosts f run.start) (show_mosts f run.show) (script_mosts f run.keys)
+same_mosts f (request.Program run) =
+    three_mosts (program_file run.memory (f run.file) ∷ []) (program_show_files (map_program_show f run.show)) (script_files (option_map f run.keys))
+    (program_file run.memory run.file ∷ []) (program_show_files run.show) (script_files run.keys)
+    (program_mosts f run.memory run.file) (program_show_mosts f run.show) (script_mosts f run.keys)
+same_mosts f (request.Link message moves number) = refl
+same_mosts f (request.Asm source raw) = refl
+same_mosts f (request.List source) = refl
+same_mosts f (request.Dis bytes address) = refl
+same_mosts f (request.Source text) = refl
+same_mosts f request.Bounds = refl
+same_mosts f (request.Cycles source certificate) = refl
+same_mosts f (request.Safe game certificate edition) = refl
+same_mosts f (request.Certify game edition) = refl
+
+-- ---- the numbers
+
+-- they don't hang on the files either
+module _ {A B : Type 0} (f : A → B) where
+  pub in_range : (r : Request A) → InRange (map_request f r) → InRange r
+  in_range (request.Run run) x = record { cycles = x.cycles; moves = x.moves }
+  in_range (request.Program run) x = record { cycles = x.cycles; moves = x.moves }
+  in_range (request.Link message moves number) x = record { cycles = x.cycles; moves = x.moves }
+  in_range (request.Asm source raw) x = record { cycles = x.cycles; moves = x.moves }
+  in_range (request.List source) x = record { cycles = x.cycles; moves = x.moves }
+  in_range (request.Dis bytes address) x = record { cycles = x.cycles; moves = x.moves }
+  in_range (request.Source text) x = record { cycles = x.cycles; moves = x.moves }
+  in_range request.Bounds x = record { cycles = x.cycles; moves = x.moves }
+  in_range (request.Cycles source certificate) x = record { cycles = x.cycles; moves = x.moves }
+  in_range (request.Safe game certificate edition) x = record { cycles = x.cycles; moves = x.moves }
+  in_range (request.Certify game edition) x = record { cycles = x.cycles; moves = x.moves }
+
+-- ---- the files are small enough, and of bytes
+
+pub record IsGiven (n : Needed (List ℕ)) : Type 0 where
+  pub fits : length n.file ≤ n.most
+  pub bytes : (i : ℕ) → slice_index n.file i < 256
+
+abbrev pub AreGiven : List (Needed (List ℕ)) → Type 0
+AreGiven [] = Unit {0}
+AreGiven (n ∷ ns) = IsGiven n × AreGiven ns
+
+all_given :
+    (old : FilesMeaning) (names : List (Needed Word)) (ns : List (Needed (List ℕ))) → mosts names ≡ mosts ns → HasAll old names (files_of ns) → AreGiven ns
+all_given old [] [] same read = tt
+all_given old [] (n ∷ ns) same read = cc
+all_given old (m ∷ ms) [] same read = cc
+all_given old (m ∷ ms) (n ∷ ns) same read =
+    let most : m.most ≡ n.most = cc in
+    let others : mosts ms ≡ mosts ns = cc in
+    (record { fits = subst (λ k. length n.file ≤ k) most read.0.fits; bytes = read.0.bytes }, all_given old ms ns others read.1)
+
+pub are_given : (old : FilesMeaning) (asked : Asked) (loaded : Loaded) → shape_of asked ≡ shape_of loaded → HasAll old (needed asked) (files_of (needed loaded))
+    → AreGiven (needed loaded)
+are_given old asked loaded shape read =
+    all_given old (needed asked) (needed loaded)
+    (sym (same_mosts (λ _. tt) asked) ∙ ap (λ r. mosts (needed r)) shape ∙ same_mosts (λ _. tt) loaded) read
+
+-- ---- the request, by its shape and its files
+
+abbrev first_file : List (List ℕ) → List ℕ
+first_file [] = []
+first_file (x ∷ xs) = x
+
+abbrev other_files : List (List ℕ) → List (List ℕ)
+other_files [] = []
+other_files (x ∷ xs) = xs
+
+abbrev fill_start : Start (Unit {0}) → List (List ℕ) → Start (List ℕ)
+fill_start (start.Game file edition) xs = start.Game (first_file xs) edition
+fill_start (start.State file) xs = start.State (first_file xs)
+fill_start (start.Demo number) xs = start.Demo number
+
+abbrev behind_start : Start (Unit {0}) → List (List ℕ) → List (List ℕ)
+behind_start (start.Game file edition) xs = other_files xs
+behind_start (start.State file) xs = other_files xs
+behind_start (start.Demo number) xs = xs
+
+abbrev fill_show : Show (Unit {0}) → List (List ℕ) → Show (List ℕ)
+fill_show (show.Trace with_time with_screen) xs = show.Trace with_time with_screen
+fill_show show.Pictures xs = show.Pictures
+fill_show (show.Commands file) xs = show.Commands (first_file xs)
+fill_show show.State xs = show.State
+fill_show (show.Summary number) xs = show.Summary number
+
+abbrev behind_show : Show (Unit {0}) → List (List ℕ) → List (List ℕ)
+behind_show (show.Commands file) xs = other_files xs
+behind_show _ xs = xs
+
+abbrev fill_program_show : ProgramShow (Unit {0}) → List (List ℕ) → ProgramShow (List ℕ)
+fill_program_show program.Trace xs = program.Trace
+fill_program_show program.Pictures xs = program.Pictures
+fill_program_show (program.Commands file) xs = program.Commands (first_file xs)
+
+abbrev behind_program_show : ProgramShow (Unit {0}) → List (List ℕ) → List (List ℕ)
+behind_program_show (program.Commands file) xs = other_files xs
+behind_program_show _ xs = xs
+
+abbrev fill_keys : Option (Unit {0}) → List (List ℕ) → Option (List ℕ)
+fill_keys None xs = None
+fill_keys (Some file) xs = Some (first_file xs)
+
+abbrev fill : Request (Unit {0}) → List (List ℕ) → Loaded
+fill (request.Run run) xs =
+    let ys = behind_start run.start xs in
+    request.Run (record {
+      start = fill_start run.start xs;
+      keys = fill_keys run.keys (behind_show run.show ys);
+      limit = run.limit;
+      show = fill_show run.show ys;
+    })
+fill (request.Program run) xs =
+    let ys = other_files xs in
+    request.Program (record {
+      file = first_file xs;
+      memory = run.memory;
+      keys = fill_keys run.keys (behind_program_show run.show ys);
+      limit = run.limit;
+      show = fill_program_show run.show ys;
+    })
+fill (request.Link message moves number) xs = request.Link (first_file xs) moves number
+fill (request.Asm source raw) xs = request.Asm (first_file xs) raw
+fill (request.List source) xs = request.List (first_file xs)
+fill (request.Dis bytes address) xs = request.Dis (first_file xs) address
+fill (request.Source text) xs = request.Source text
+fill request.Bounds xs = request.Bounds
+fill (request.Cycles source certificate) xs = request.Cycles (first_file xs) (first_file (other_files xs))
+fill (request.Safe game certificate edition) xs = request.Safe (first_file xs) (first_file (other_files xs)) edition
+fill (request.Certify game edition) xs = request.Certify (first_file xs) edition
+
+abbrev bare : List ℕ → Unit {0}
+bare x = tt
+
+start_filled : (s : Start (List ℕ)) (ns : List (Needed (List ℕ))) → fill_start (map_start bare s) (files_of (start_files s ++ ns)) ≡ s
+start_filled (start.Game file edition) ns = refl
+start_filled (start.State file) ns = refl
+start_filled (start.Demo number) ns = refl
+
+start_left : (s : Start (List ℕ)) (ns : List (Needed (List ℕ))) → behind_start (map_start bare s) (files_of (start_files s ++ ns)) ≡ files_of ns
+start_left (start.Game file edition) ns = refl
+start_left (start.State file) ns = refl
+start_left (start.Demo number) ns = refl
+
+show_filled : (s : Show (List ℕ)) (ns : List (Needed (List ℕ))) → fill_show (map_show bare s) (files_of (show_files s ++ ns)) ≡ s
+show_filled (show.Trace with_time with_screen) ns = refl
+show_filled show.Pictures ns = refl
+show_filled (show.Commands file) ns = refl
+show_filled show.State ns = refl
+show_filled (show.Summary number) ns = refl
+
+show_left : (s : Show (List ℕ)) (ns : List (Needed (List ℕ))) → behind_show (map_show bare s) (files_of (show_files s ++ ns)) ≡ files_of ns
+show_left (show.Trace with_time with_screen) ns = refl
+show_left show.Pictures ns = refl
+show_left (show.Commands file) ns = refl
+show_left show.State ns = refl
+show_left (show.Summary number) ns = refl
+
+program_show_filled : (s : ProgramShow (List ℕ)) (ns : List (Needed (List ℕ)))
+    → fill_program_show (map_program_show bare s) (files_of (program_show_files s ++ ns)) ≡ s
+program_show_filled program.Trace ns = refl
+program_show_filled program.Pictures ns = refl
+program_show_filled (program.Commands file) ns = refl
+
+program_show_left : (s : ProgramShow (List ℕ)) (ns : List (Needed (List ℕ)))
+    → behind_program_show (map_program_show bare s) (files_of (program_show_files s ++ ns)) ≡ files_of ns
+program_show_left program.Trace ns = refl
+program_show_left program.Pictures ns = refl
+program_show_left (program.Commands file) ns = refl
+
+keys_filled : (k : Option (List ℕ)) → fill_keys (option_map bare k) (files_of (script_files k)) ≡ k
+keys_filled None = refl
+keys_filled (Some file) = refl
+
+program_filled : (m : Memory) (file : List ℕ) → (program_file m file).file ≡ file
+program_filled memory.Rom file = refl
+program_filled memory.Ram file = refl
+
+filled : (r : Loaded) → fill (shape_of r) (files_of (needed r)) ≡ r
+filled (request.Run run) =
+    λ i. request.Run (record {
+      start = start_filled run.start behind i;
+      keys = keys_are i;
+      limit = run.limit;
+      show = (ap (fill_show (map_show bare run.show)) (start_left run.start behind) ∙ show_filled run.show (script_files run.keys)) i;
+    })
+  where
+    behind : List (Needed (List ℕ))
+    behind = show_files run.show ++ script_files run.keys
+
+    keys_are :
+        fill_keys (option_map bare run.keys)
+        (behind_show (map_show bare run.show) (behind_start (map_start bare run.start) (files_of (start_files run.start ++ behind))))
+        ≡ run.keys
+    keys_are =
+        ap (λ ys. fill_keys (option_map bare run.keys) (behind_show (map_show bare run.show) ys)) (start_left run.start behind)
+        ∙ ap (fill_keys (option_map bare run.keys)) (show_left run.show (script_files run.keys))
+        ∙ keys_filled run.keys
+filled (request.Program run) =
+    λ i. request.Program (record {
+      file = program_filled run.memory run.file i;
+      memory = run.memory;
+      keys = (ap (fill_keys (option_map bare run.keys)) (program_show_left run.show (script_files run.keys)) ∙ keys_filled run.keys) i;
+      limit = run.limit;
+      show = program_show_filled run.show (script_files run.keys) i;
+    })
+filled (request.Link message moves number) = refl
+filled (request.Asm source raw) = refl
+filled (request.List source) = refl
+filled (request.Dis bytes address) = refl
+filled (request.Source text) = refl
+filled request.Bounds = refl
+filled (request.Cycles source certificate) = refl
+filled (request.Safe game certificate edition) = refl
+filled (request.Certify game edition) = refl
+
+-- so there is one with this shape and these files
+pub one_loaded : (a b : Loaded) → shape_of a ≡ shape_of b → files_of (needed a) ≡ files_of (needed b) → a ≡ b
+one_loaded a b shape files = sym (filled a) ∙ ap₂ fill shape files ∙ filled b

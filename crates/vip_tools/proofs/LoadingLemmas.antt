@@ -1,0 +1,90 @@
+-- The parts of a request, read one after another.
+use Rattle.std.proofs.Common.{Global, ◌≡◌, ℕ, [], ◌∷◌, ◌++◌, refl, Option, Ok, Err, Vec}
+use Rattle.vip_outside.specs.Files.{FilesMeaning}
+use Rattle.vip_words.specs.Rules.{Word}
+use Rattle.vip_words.specs.declared.request.ProgramRequest.{ProgramRequest}
+use Rattle.vip_words.specs.declared.request.ProgramShow.{ProgramShow}
+use Rattle.vip_words.specs.declared.request.RunRequest.{RunRequest}
+use Rattle.vip_words.specs.declared.request.Show.{Show}
+use Rattle.vip_words.specs.declared.request.Start.{Start}
+use Rattle.vip_tools.specs.declared.refusal.Refusal.{Refusal}
+use Rattle.vip_tools.specs.Files.{FileAnswers, FilesRefused, Loads, Needed, program_file, program_show_files, script_files, show_files, start_files}
+use Rattle.vip_tools.specs.Loading.{KeysLoad, PairLoads, ProgramLoads, ProgramShowLoads, RunLoads, ShowLoads, StartLoads}
+use Rattle.vip_tools.proofs.FilesLemmas.{loads-one, loads-then, refused-before, refused-one, refused-then}
+
+-- a run of the language
+module _ (old there here : FilesMeaning) (asked : RunRequest Word) where
+  pub run-loads : (new : FilesMeaning) (start : Start (Vec ℕ Global)) (show : Show (Vec ℕ Global)) (keys : Option (Vec ℕ Global))
+      → StartLoads old there asked.start (Ok start) → ShowLoads there here asked.show (Ok show) → KeysLoad here new asked.keys (Ok keys)
+      → RunLoads {Z = Global} old new asked (Ok (record { start = start; keys = keys; limit = asked.limit; show = show }))
+  run-loads new start show keys first second third = (
+    rw (first.0, second.0, third.0) refl,
+    loads-then _ _ _ _ _ _ _ first.1 (loads-then _ _ _ _ _ _ _ second.1 third.1),
+  )
+
+  pub run-start : (refusal : Refusal) → StartLoads {Z = Global} old there asked.start (Err refusal) → RunLoads {Z = Global} old there asked (Err refusal)
+  run-start refusal at = refused-before _ _ _ _ refusal at
+
+  pub run-show : (start : Start (Vec ℕ Global)) (refusal : Refusal) → StartLoads old there asked.start (Ok start)
+      → ShowLoads {Z = Global} there here asked.show (Err refusal) → RunLoads {Z = Global} old here asked (Err refusal)
+  run-show start refusal first at =
+      refused-then _ _ _ (start_files asked.start) _ _ refusal first.1
+      (refused-before _ _ (show_files asked.show) (script_files asked.keys) refusal at)
+
+  pub run-keys : (new : FilesMeaning) (start : Start (Vec ℕ Global)) (show : Show (Vec ℕ Global)) (refusal : Refusal) → StartLoads old there asked.start (Ok start)
+      → ShowLoads there here asked.show (Ok show) → KeysLoad {Z = Global} here new asked.keys (Err refusal) → RunLoads {Z = Global} old new asked (Err refusal)
+  run-keys new start show refusal first second at =
+      refused-then _ _ _ (start_files asked.start) _ _ refusal first.1 (refused-then _ _ _ (show_files asked.show) _ _ refusal second.1 at)
+
+-- a run of a program
+module _ (old there here : FilesMeaning) (asked : ProgramRequest Word) (n : Needed Word) (is : n ≡ program_file asked.memory asked.file) where
+  pub program-loads : (new : FilesMeaning) (bytes : Vec ℕ Global) (show : ProgramShow (Vec ℕ Global)) (keys : Option (Vec ℕ Global))
+      → FileAnswers old there n (Ok bytes) → ProgramShowLoads there here asked.show (Ok show) → KeysLoad here new asked.keys (Ok keys)
+      → ProgramLoads {Z = Global} old new asked
+      (Ok (record { file = bytes; memory = asked.memory; keys = keys; limit = asked.limit; show = show }))
+  program-loads new bytes show keys first second third = (
+    rw (second.0, third.0) refl,
+    loads-then _ _ _ _ _ _ _ (loads-one _ _ n _ is bytes first) (loads-then _ _ _ _ _ _ _ second.1 third.1),
+  )
+
+  pub program-file : (refusal : Refusal) → FileAnswers {Z = Global} old there n (Err refusal) → ProgramLoads {Z = Global} old there asked (Err refusal)
+  program-file refusal at =
+      refused-before _ _ (program_file asked.memory asked.file ∷ []) (program_show_files asked.show ++ script_files asked.keys) refusal
+      (refused-one _ _ n _ is refusal at)
+
+  pub program-show : (bytes : Vec ℕ Global) (refusal : Refusal) → FileAnswers old there n (Ok bytes)
+      → ProgramShowLoads {Z = Global} there here asked.show (Err refusal) → ProgramLoads {Z = Global} old here asked (Err refusal)
+  program-show bytes refusal first at =
+      refused-then _ _ _ _ _ _ refusal (loads-one _ _ n _ is bytes first)
+      (refused-before _ _ (program_show_files asked.show) (script_files asked.keys) refusal at)
+
+  pub program-keys : (new : FilesMeaning) (bytes : Vec ℕ Global) (show : ProgramShow (Vec ℕ Global)) (refusal : Refusal) → FileAnswers old there n (Ok bytes)
+      → ProgramShowLoads there here asked.show (Ok show) → KeysLoad {Z = Global} here new asked.keys (Err refusal)
+      → ProgramLoads {Z = Global} old new asked (Err refusal)
+  program-keys new bytes show refusal first second at =
+      refused-then _ _ _ _ _ _ refusal (loads-one _ _ n _ is bytes first)
+      (refused-then _ _ _ (program_show_files asked.show) _ _ refusal second.1 at)
+
+-- two files
+module _ (old there : FilesMeaning) (first second : Needed Word) where
+  pub pair-loads : (new : FilesMeaning) (one two : Vec ℕ Global) → FileAnswers old there first (Ok one) → FileAnswers there new second (Ok two)
+      → PairLoads {Z = Global} old new first second (Ok (one, two))
+  pair-loads new one two read read' =
+      (tt, loads-then _ _ _ _ _ _ _ (loads-one _ _ first _ refl one read) (loads-one _ _ second _ refl two read'))
+
+  pub pair-first : (refusal : Refusal) → FileAnswers {Z = Global} old there first (Err refusal) → PairLoads {Z = Global} old there first second (Err refusal)
+  pair-first refusal at = refused-before _ _ (first ∷ []) (second ∷ []) refusal (refused-one _ _ first _ refl refusal at)
+
+  pub pair-second : (new : FilesMeaning) (one : Vec ℕ Global) (refusal : Refusal) → FileAnswers old there first (Ok one)
+      → FileAnswers {Z = Global} there new second (Err refusal) → PairLoads {Z = Global} old new first second (Err refusal)
+  pair-second new one refusal read at =
+      refused-then _ _ _ _ _ _ refusal (loads-one _ _ first _ refl one read) (refused-one _ _ second _ refl refusal at)
+
+-- two files by their names
+module _ (old new : FilesMeaning) (m m' n n' : Needed Word) (is : m ≡ n) (is' : m' ≡ n') where
+  pub refused-pair : (refusal : Refusal) → PairLoads {Z = Global} old new m m' (Err refusal) → FilesRefused old new (n ∷ n' ∷ []) refusal
+  refused-pair refusal at = rw (← is, ← is') at
+
+  pub loads-pair : (p : Vec ℕ Global × Vec ℕ Global) → PairLoads old new m m' (Ok p)
+      → Loads old new (n ∷ n' ∷ []) (record n { file = p.0.items } ∷ record n' { file = p.1.items } ∷ [])
+  loads-pair p at = rw (← is, ← is') at.1

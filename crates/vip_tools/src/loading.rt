@@ -1,0 +1,235 @@
+//! A request, loaded: each of its files is read, in their order, up to the first that is refused.
+
+ghost use Rattle.std.specs.Prelude.{◌≡◌, ◌∷◌, [], ◌++◌, Vec, map, option_map};
+ghost use Rattle.std.specs.declared.alloc.Global.{Global};
+ghost use Rattle.vip_words.specs.Request.{asked_of, map_program, map_program_show, map_run, map_show, map_start, program_show_of, show_of, start_of};
+ghost use Rattle.vip_tools.specs.Files.{file, needed, program_show_files, script_files, seen_wanted, shape_of, show_files, start_files, LoadAnswers, PartAnswers};
+ghost use Rattle.vip_tools.specs.Loading.{KeysLoad, PairLoads, ProgramLoads, ProgramShowLoads, RunLoads, ShowLoads, StartLoads};
+
+use crate::Refusal;
+use crate::files::{
+    Wanted, bytes_file, certificate_file, commands_file, game_file, message_file, open_file,
+    program_file, script_file, source_file, state_file,
+};
+use std::alloc::Global;
+use vip_outside::Files;
+use vip_words::{ProgramRequest, ProgramShow, Request, RunRequest, Show, Start};
+
+/// Reads the file at which a run of the language begins.
+fn load_start<'a, F: Files>(
+    alloc: Global,
+    files: &mut F,
+    start: Start<&'a str>,
+) -> Result<Start<Vec<u8>>, Refusal<'a>>
+    ensures { StartLoads (F.meaning files.old) (F.meaning files.new) (start_of start.entry) result }
+{
+    match start {
+        Start::Game { file, edition } => {
+            let file = open_file(alloc, files, &game_file(edition, file))?;
+            Ok(Start::Game { file, edition })
+        }
+        Start::State(file) => {
+            let file = open_file(alloc, files, &state_file(file))?;
+            Ok(Start::State(file))
+        }
+        Start::Demo(number) => Ok(Start::Demo(number)),
+    }
+}
+
+/// Reads the debugger's commands, where those are shown.
+fn load_show<'a, F: Files>(
+    alloc: Global,
+    files: &mut F,
+    show: Show<&'a str>,
+) -> Result<Show<Vec<u8>>, Refusal<'a>>
+    ensures { ShowLoads (F.meaning files.old) (F.meaning files.new) (show_of show.entry) result }
+{
+    match show {
+        Show::Commands(file) => {
+            let file = open_file(alloc, files, &commands_file(file))?;
+            Ok(Show::Commands(file))
+        }
+        Show::Trace {
+            with_time,
+            with_screen,
+        } => Ok(Show::Trace {
+            with_time,
+            with_screen,
+        }),
+        Show::Pictures => Ok(Show::Pictures),
+        Show::State => Ok(Show::State),
+        Show::Summary(number) => Ok(Show::Summary(number)),
+    }
+}
+
+/// Reads the debugger's commands, where those are shown.
+fn load_program_show<'a, F: Files>(
+    alloc: Global,
+    files: &mut F,
+    show: ProgramShow<&'a str>,
+) -> Result<ProgramShow<Vec<u8>>, Refusal<'a>>
+    ensures { ProgramShowLoads (F.meaning files.old) (F.meaning files.new) (program_show_of show.entry) result }
+{
+    match show {
+        ProgramShow::Commands(file) => {
+            let file = open_file(alloc, files, &commands_file(file))?;
+            Ok(ProgramShow::Commands(file))
+        }
+        ProgramShow::Trace => Ok(ProgramShow::Trace),
+        ProgramShow::Pictures => Ok(ProgramShow::Pictures),
+    }
+}
+
+/// Reads the key script, where one is named.
+fn load_keys<'a, F: Files>(
+    alloc: Global,
+    files: &mut F,
+    keys: Option<&'a str>,
+) -> Result<Option<Vec<u8>>, Refusal<'a>>
+    ensures { KeysLoad (F.meaning files.old) (F.meaning files.new) (option_map (λ name. name.now) keys.entry) result }
+{
+    match keys {
+        None => Ok(None),
+        Some(name) => {
+            let script = open_file(alloc, files, &script_file(name))?;
+            Ok(Some(script))
+        }
+    }
+}
+
+/// Reads the files of a run of the language: its start, the commands, the key script.
+fn load_run<'a, F: Files>(
+    alloc: Global,
+    files: &mut F,
+    run: RunRequest<&'a str>,
+) -> Result<RunRequest<Vec<u8>>, Refusal<'a>>
+    ensures { RunLoads (F.meaning files.old) (F.meaning files.new) (map_run (λ name. name.now) run.entry) result }
+{
+    let start = load_start(alloc, files, run.start)?;
+    let show = load_show(alloc, files, run.show)?;
+    let keys = load_keys(alloc, files, run.keys)?;
+    Ok(RunRequest {
+        start,
+        keys,
+        limit: run.limit,
+        show,
+    })
+}
+
+/// Reads the files of a run of a program: the program, the commands, the key script.
+fn load_program<'a, F: Files>(
+    alloc: Global,
+    files: &mut F,
+    run: ProgramRequest<&'a str>,
+) -> Result<ProgramRequest<Vec<u8>>, Refusal<'a>>
+    ensures { ProgramLoads (F.meaning files.old) (F.meaning files.new) (map_program (λ name. name.now) run.entry) result }
+{
+    let memory = run.memory;
+    let file = open_file(alloc, files, &program_file(memory, run.file))?;
+    let show = load_program_show(alloc, files, run.show)?;
+    let keys = load_keys(alloc, files, run.keys)?;
+    Ok(ProgramRequest {
+        file,
+        memory,
+        keys,
+        limit: run.limit,
+        show,
+    })
+}
+
+/// Reads two files, one after the other.
+fn load_pair<'a, F: Files>(
+    alloc: Global,
+    files: &mut F,
+    first: &Wanted<'a>,
+    second: &Wanted<'a>,
+) -> Result<(Vec<u8>, Vec<u8>), Refusal<'a>>
+    ensures { PairLoads (F.meaning files.old) (F.meaning files.new) (seen_wanted first.now) (seen_wanted second.now) result }
+{
+    let first = open_file(alloc, files, first)?;
+    let second = open_file(alloc, files, second)?;
+    Ok((first, second))
+}
+
+/// Reads the files of a request, in their order, each whole and judged before the next one is read, up to the first that is refused. The answer is the
+/// request with the contents of the files in the places of their names.
+pub fn load<'a, F: Files>(
+    alloc: Global,
+    files: &mut F,
+    request: Request<&'a str>,
+) -> Result<Request<Vec<u8>>, Refusal<'a>>
+    ensures { LoadAnswers (F.meaning files.old) (F.meaning files.new) (asked_of request.entry) result }
+{
+    match request {
+        Request::Run(run) => {
+            let run = load_run(alloc, files, run)?;
+            Ok(Request::Run(run))
+        }
+        Request::Program(run) => {
+            let run = load_program(alloc, files, run)?;
+            Ok(Request::Program(run))
+        }
+        Request::Link {
+            message,
+            moves,
+            number,
+        } => {
+            let message = open_file(alloc, files, &message_file(message))?;
+            Ok(Request::Link {
+                message,
+                moves,
+                number,
+            })
+        }
+        Request::Asm { source, raw } => {
+            let source = open_file(alloc, files, &source_file(source))?;
+            Ok(Request::Asm { source, raw })
+        }
+        Request::List(source) => {
+            let source = open_file(alloc, files, &source_file(source))?;
+            Ok(Request::List(source))
+        }
+        Request::Dis { bytes, address } => {
+            let bytes = open_file(alloc, files, &bytes_file(address, bytes))?;
+            Ok(Request::Dis { bytes, address })
+        }
+        Request::Source(text) => Ok(Request::Source(text)),
+        Request::Bounds => Ok(Request::Bounds),
+        Request::Cycles {
+            source,
+            certificate,
+        } => {
+            let pair = load_pair(
+                alloc,
+                files,
+                &source_file(source),
+                &certificate_file(certificate),
+            )?;
+            Ok(Request::Cycles {
+                source: pair.0,
+                certificate: pair.1,
+            })
+        }
+        Request::Safe {
+            game,
+            certificate,
+            edition,
+        } => {
+            let pair = load_pair(
+                alloc,
+                files,
+                &game_file(edition, game),
+                &certificate_file(certificate),
+            )?;
+            Ok(Request::Safe {
+                game: pair.0,
+                certificate: pair.1,
+                edition,
+            })
+        }
+        Request::Certify { game, edition } => {
+            let game = open_file(alloc, files, &game_file(edition, game))?;
+            Ok(Request::Certify { game, edition })
+        }
+    }
+}

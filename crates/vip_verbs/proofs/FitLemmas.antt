@@ -1,0 +1,39 @@
+-- The files of a request of which all fit.
+use Rattle.std.proofs.Common.{ℕ, ◌≤◌, List, [], ◌∷◌, ◌++◌, length}
+use Rattle.vip_words.specs.declared.request.RunRequest.{RunRequest}
+use Rattle.vip_words.specs.declared.request.Request.TheVariants as request
+use Rattle.vip_words.specs.declared.request.ProgramRequest.{ProgramRequest}
+use Rattle.vip_tools.specs.Files.{Needed, AreFit, needed, program_show_files, program_size, script_files, show_files, start_files}
+
+fit-first : (xs ys : List (Needed (List ℕ))) → AreFit (xs ++ ys) → AreFit xs
+fit-first [] ys fit = tt
+fit-first (x ∷ xs) ys fit = (fit.0, fit-first xs ys fit.1)
+
+fit-rest : (xs ys : List (Needed (List ℕ))) → AreFit (xs ++ ys) → AreFit ys
+fit-rest [] ys fit = fit
+fit-rest (x ∷ xs) ys fit = fit-rest xs ys fit.1
+
+-- a run's start, what is shown of it, and its key script
+module _ (run : RunRequest (List ℕ)) (fit : AreFit (needed (request.Run run))) where
+  pub start-fits : AreFit (start_files run.start)
+  start-fits = fit-first (start_files run.start) _ fit
+
+  shown-fits : AreFit (show_files run.show ++ script_files run.keys)
+  shown-fits = fit-rest (start_files run.start) _ fit
+
+  pub show-fits : AreFit (show_files run.show)
+  show-fits = fit-first (show_files run.show) _ shown-fits
+
+  pub keys-fit : AreFit (script_files run.keys)
+  keys-fit = fit-rest (show_files run.show) _ shown-fits
+
+-- a program, what is shown of its run, and its key script
+module _ (run : ProgramRequest (List ℕ)) (fit : AreFit (needed (request.Program run))) where
+  pub program-fits : length run.file ≤ program_size run.memory
+  program-fits = fit.0.fits
+
+  pub program-show-fits : AreFit (program_show_files run.show)
+  program-show-fits = fit-first (program_show_files run.show) _ fit.1
+
+  pub program-keys-fit : AreFit (script_files run.keys)
+  program-keys-fit = fit-rest (program_show_files run.show) _ fit.1

@@ -1,0 +1,20 @@
+use Rattle.std.proofs.Common.{arith}
+use Rattle.vip_verbs.proofs.ProgramLemmas.{program-debugs, program-performs}
+use Rattle.vip_verbs.proofs.program.perform_program.Goals as goal
+
+pub returns-in-Trace : goal.returns-in-Trace
+returns-in-Trace g c = rw (c.in-Trace.is, c.program_ran.ensures) (program-performs _ _ _ _ _ _ c.show_trace.ensures)
+
+pub returns-in-Pictures : goal.returns-in-Pictures
+returns-in-Pictures g c = rw (c.in-Pictures.is, c.program_ran-in-Pictures.ensures) (program-performs _ _ _ _ _ _ c.show_pictures.ensures)
+
+pub run_program_commands-requires : goal.run_program_commands-requires
+run_program_commands-requires g c =
+    let begins = c.requires.0.begins in
+    record { boundary = c.requires.0.boundary; limit = c.requires.1; within = omega (arith, begins) }
+
+pub returns : goal.returns
+returns g c =
+    let s = c.args.board in
+    rw (c.in-Commands.is, c.program_ran-in-Commands.ensures)
+    (program-debugs c.args.limit c.in-Commands.commands s _ _ _ _ c.run_program_commands.ensures)

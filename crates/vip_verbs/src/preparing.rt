@@ -1,0 +1,96 @@
+//! The opening of a request: its files are read and judged, and all the memory that its work needs is taken.
+
+ghost use Rattle.std.specs.Prelude.{◌≡◌, ◌≤◌};
+ghost use Rattle.vip_words.specs.Request.{asked_of, cycles_in, most_cycles, most_moves, moves_in};
+ghost use Rattle.vip_tools.specs.Files.{loaded_of, needed, AreFit};
+ghost use Rattle.vip_tools.specs.Outcome.{Writes};
+ghost use Rattle.vip_tools.specs.Work.{TextAnswers};
+ghost use Rattle.vip_verbs.specs.Outcome.{BuiltInComes, HasOutcome};
+ghost use Rattle.vip_verbs.specs.Prepared.{OpenAnswers, PrepareAnswers, texted};
+
+use crate::linked::open_link;
+use crate::opening::open_run;
+use crate::prepared::Prepared;
+use crate::program::open_program;
+use std::alloc::Global;
+use vip_link::{receiver_text, sender_text};
+use vip_outside::Files;
+use vip_tools::{Refusal, asm, bounds, certify, cycles, dis, list, load, safe, source};
+use vip_words::{BuiltIn, Request};
+
+/// A text, to be written.
+fn write<'a>(alloc: Global, text: &[u8]) -> Result<Vec<u8>, Refusal<'a>>
+    ensures { TextAnswers (Writes text.now) result }
+{
+    let copy = Vec::from_slice(alloc, text)?;
+    Ok(copy)
+}
+
+/// A source that the program has in it.
+fn built_in<'a>(alloc: Global, text: BuiltIn) -> Result<Vec<u8>, Refusal<'a>>
+    ensures { TextAnswers (BuiltInComes text) result }
+{
+    match text {
+        BuiltIn::Interpreter(edition) => source(alloc, edition),
+        BuiltIn::Sender => write(alloc, sender_text()),
+        BuiltIn::Receiver => write(alloc, receiver_text()),
+    }
+}
+
+/// A verb that writes a text alone.
+fn text<'a>(made: Result<Vec<u8>, Refusal<'a>>) -> Result<Prepared, Refusal<'a>>
+    ensures { result ≡ texted made.entry }
+{
+    match made {
+        Ok(text) => Ok(Prepared::Text(text)),
+        Err(refusal) => Err(refusal),
+    }
+}
+
+/// Judges the contents of the files of a request, of which a saved state was judged when it was read.
+fn prepare<'a>(alloc: Global, request: Request<Vec<u8>>) -> Result<Prepared, Refusal<'a>>
+    requires limit { cycles_in request ≤ most_cycles }
+    requires moves { moves_in request ≤ most_moves }
+    requires fit { AreFit (needed (loaded_of request)) }
+    ensures { PrepareAnswers (HasOutcome (loaded_of request)) result }
+{
+    match request {
+        Request::Run(run) => open_run(alloc, run),
+        Request::Program(run) => open_program(alloc, run),
+        Request::Link {
+            message,
+            moves,
+            number,
+        } => open_link(alloc, message.as_slice(), moves, number),
+        Request::Asm { source, raw } => text(asm(alloc, source.as_slice(), raw)),
+        Request::List(source) => text(list(alloc, source.as_slice())),
+        Request::Dis { bytes, address } => text(dis(alloc, bytes.as_slice(), address)),
+        Request::Source(source) => text(built_in(alloc, source)),
+        Request::Bounds => text(bounds(alloc)),
+        Request::Cycles {
+            source,
+            certificate,
+        } => text(cycles(alloc, source.as_slice(), certificate.as_slice())),
+        Request::Safe {
+            game,
+            certificate,
+            edition,
+        } => text(safe(alloc, edition, game.as_slice(), certificate.as_slice())),
+        Request::Certify { game, edition } => text(certify(alloc, edition, game.as_slice())),
+    }
+}
+
+/// Opens what is asked for: reads its files, in their order, up to the first that can't be read, is too large or is a saved state with a fault, and
+/// judges their contents. What is then ready needs no more memory.
+pub fn open<'a, F: Files>(
+    alloc: Global,
+    request: Request<&'a str>,
+    files: &mut F,
+) -> Result<Prepared, Refusal<'a>>
+    requires limit { cycles_in request ≤ most_cycles }
+    requires moves { moves_in request ≤ most_moves }
+    ensures { OpenAnswers (asked_of request.entry) (F.meaning files.old) (F.meaning files.new) result }
+{
+    let request = load(alloc, files, request)?;
+    prepare(alloc, request)
+}
