@@ -1,8 +1,8 @@
 -- The calls of a machine cycle make of the wires what the cycle's effect makes of the machine.
-use Rattle.std.proofs.Common.{◌≡◌, ◌-◌, ◌∙◌, ℕ, Bool, true, false, ◌&&◌, if◌then◌else◌, refl, ap, sym, subst}
+use Rattle.std.proofs.Common.{◌≡◌, ◌-◌, ◌∙◌, ℕ, Bool, true, false, if◌then◌else◌, refl, ap, sym, subst}
 use Rattle.std.specs.Prelude.{◌==◌, Option, Some, None}
-use Rattle.machine.specs.Opcodes.{kind_of, opcode_number, cycles_of}
-use Rattle.machine.specs.Instruction.{Regs, Effect, Port, at, stepped, inputs}
+use Rattle.machine.specs.Opcodes.{kind_of, opcode_number}
+use Rattle.machine.specs.Instruction.{Regs, Effect, Port, inputs}
 use Rattle.machine.specs.Instruction.Port.{Send, Receive}
 use Rattle.machine.specs.Memory.{read}
 use Rattle.machine.specs.Keys.{held_at}
@@ -10,11 +10,13 @@ use Rattle.machine.specs.Signals.{int_at, dma_at, efx_at}
 use Rattle.machine.specs.Board.{byte_of, flags_of}
 use Rattle.machine.proofs.Ports.{send-writes_nothing}
 use Rattle.vip_cpu.specs.Acts.{Calls, Acts}
-use Rattle.vip_cpu.specs.Cycle.{Processor, Cycle, after, quiet, begun, ended, cycle_in, cycle}
+use Rattle.vip_cpu.specs.Cycle.{Processor, Cycle, after, quiet, next_of, begun_as, begun, ended, cycle_in, cycle}
+use Rattle.vip_cpu.specs.declared.cpu.Next.{Next}
+use Rattle.vip_cpu.specs.declared.cpu.Next.TheVariants.{Dma as NextDma, Interrupt as NextInterrupt, Idle as NextIdle, Fetch as NextFetch}
 use Rattle.vip_cpu.specs.declared.cpu.Phase.{Phase}
 use Rattle.vip_cpu.specs.declared.cpu.Phase.TheVariants.{Boundary, Middle}
 use Rattle.vip_cpu.specs.declared.cpu.Did.{Did}
-use Rattle.vip_cpu.specs.declared.cpu.Did.TheVariants.{Fetch, Execute}
+use Rattle.vip_cpu.specs.declared.cpu.Did.TheVariants.{Execute}
 use Rattle.vip_video.specs.Chip.{Chip, ended as video_ended}
 use Rattle.vip_board.specs.Seen.{Seen, byte_in, cycle_of, cycled}
 use Rattle.vip_board.specs.Wired.{seen_of, after_port, after_write, after_calls}
@@ -24,20 +26,18 @@ use Rattle.vip_board.specs.declared.wires.Wires.{Wires}
 abbrev pub SendsAlone : Effect → Type 0
 SendsAlone e = (port byte : ℕ) → e.port ≡ Some (Send port byte) → e.write ≡ None
 
-first-sends : (s t u v : Regs) (c : Cycle) (p q r : Phase) (d e f : Did) (dma int idle : Bool) → c.effect.port ≡ None
-    → SendsAlone (if dma then quiet s p d else if int then quiet t q e else if idle then quiet u r f else c).effect
-first-sends s t u v c p q r d e f true int idle n port byte h = cc
-first-sends s t u v c p q r d e f false true idle n port byte h = cc
-first-sends s t u v c p q r d e f false false true n port byte h = cc
-first-sends s t u v c p q r d e f false false false n port byte h = cc
+first-sends : (n : Next) (s : Regs) (m : ℕ → ℕ) → SendsAlone (begun_as n s m).effect
+first-sends NextDma s m port byte h = cc
+first-sends NextInterrupt s m port byte h = cc
+first-sends NextIdle s m port byte h = cc
+first-sends NextFetch s m port byte h = cc
 
 picked-sends : (c d : Cycle) (last : Bool) → SendsAlone c.effect → SendsAlone d.effect → SendsAlone (if last then c else d).effect
 picked-sends c d true f g = f
 picked-sends c d false f g = g
 
 cycle-sends : (phase : Phase) (s : Regs) (m : ℕ → ℕ) (f : ℕ → Bool) (dma int : Bool) (taken : ℕ) → SendsAlone (cycle_in phase s m f dma int taken).effect
-cycle-sends Boundary s m f dma int taken =
-    first-sends _ _ _ s (quiet (stepped s s.p) (Middle (m (at s s.p)) (cycles_of (m (at s s.p)) - 1)) Fetch) _ _ _ _ _ _ dma (s.ie && int) s.idle refl
+cycle-sends Boundary s m f dma int taken = first-sends (next_of s dma int) s m
 cycle-sends (Middle opcode left) s m f dma int taken =
     picked-sends (ended opcode s m f taken) (quiet s (Middle opcode (left - 1)) Execute) (left == 1)
     (λ port byte h. send-writes_nothing (kind_of opcode) (opcode_number opcode) s (inputs s m f taken) port byte h)
@@ -107,15 +107,11 @@ made cpu w now dma int p v did n d i h =
 
 -- ---- the first cycle of a move calls nothing
 
-first-calls : (a i e : Bool) (x y z f : Cycle) → SendsNothing x → SendsNothing y → SendsNothing z → SendsNothing f
-    → SendsNothing (if a then x else if i then y else if e then z else f)
-first-calls true i e x y z f hx hy hz hf = hx
-first-calls false true e x y z f hx hy hz hf = hy
-first-calls false false true x y z f hx hy hz hf = hz
-first-calls false false false x y z f hx hy hz hf = hf
-
-begun-calls : (s : Regs) (m : ℕ → ℕ) (dma int : Bool) → SendsNothing (begun s m dma int)
-begun-calls s m dma int = first-calls dma (s.ie && int) s.idle _ _ _ _ (refl, refl) (refl, refl) (refl, refl) (refl, refl)
+first-calls : (n : Next) (s : Regs) (m : ℕ → ℕ) → SendsNothing (begun_as n s m)
+first-calls NextDma s m = (refl, refl)
+first-calls NextInterrupt s m = (refl, refl)
+first-calls NextIdle s m = (refl, refl)
+first-calls NextFetch s m = (refl, refl)
 
 pub begun-made : (s : Seen) (cpu : Processor) (w : Wires) (dma int : Bool) (p : Processor) (did : Did) → seen_of cpu w ≡ s → s.phase ≡ Boundary
     → dma ≡ dma_at s.machine.cycle s.machine.on → int ≡ int_at s.machine.cycle s.machine.on
@@ -126,7 +122,7 @@ begun-made s cpu w dma int p did view h d i is_p is_did =
     ap (λ x. on x (dma_at w.video.cycles w.video.on) (int_at w.video.cycles w.video.on)) (ap (λ (x : Seen). x.phase) view ∙ h)
     ∙ ap (λ x. on Boundary x (int_at w.video.cycles w.video.on)) (ap (λ (x : Seen). dma_at x.machine.cycle x.machine.on) view ∙ sym d)
     ∙ ap (λ x. on Boundary dma x) (ap (λ (x : Seen). int_at x.machine.cycle x.machine.on) view ∙ sym i) in
-    let calls = begun-calls cpu.regs (bytes w) dma int in
+    let calls = first-calls (next_of cpu.regs dma int) cpu.regs (bytes w) in
     record {
       processor = is_p ∙ ap after (sym is);
       did = is_did ∙ ap (λ (c : Cycle). c.did) (sym is);
@@ -138,20 +134,16 @@ begun-made s cpu w dma int p did view h d i is_p is_did =
     }
 
 -- and it is no cycle of an instruction after its fetch
-first-did : (a i e : Bool) (x y z f : Cycle) → (x.did ≡ Execute → ⊥) → (y.did ≡ Execute → ⊥) → (z.did ≡ Execute → ⊥) → (f.did ≡ Execute → ⊥)
-    → (if a then x else if i then y else if e then z else f).did ≡ Execute → ⊥
-first-did true i e x y z f hx hy hz hf d = hx d
-first-did false true e x y z f hx hy hz hf d = hy d
-first-did false false true x y z f hx hy hz hf d = hz d
-first-did false false false x y z f hx hy hz hf d = hf d
-
-never-executes : (s : Regs) (m : ℕ → ℕ) (dma int : Bool) → (begun s m dma int).did ≡ Execute → ⊥
-never-executes s m dma int d = first-did dma (s.ie && int) s.idle _ _ _ _ (λ e. cc) (λ e. cc) (λ e. cc) (λ e. cc) d
+never-executes : (n : Next) (s : Regs) (m : ℕ → ℕ) → (begun_as n s m).did ≡ Execute → ⊥
+never-executes NextDma s m d = cc
+never-executes NextInterrupt s m d = cc
+never-executes NextIdle s m d = cc
+never-executes NextFetch s m d = cc
 
 pub begins-otherwise : (s : Seen) → s.phase ≡ Boundary → (cycle_of s).did ≡ Execute → ⊥
 begins-otherwise s h d =
     let b = s.machine in
-    never-executes b.regs (byte_of s.rom b) (dma_at b.cycle b.on) (int_at b.cycle b.on) (sym (ap (λ x. (cycle_of (record s { phase = x })).did) h) ∙ d)
+    never-executes (next_of b.regs (dma_at b.cycle b.on) (int_at b.cycle b.on)) b.regs (byte_of s.rom b) (sym (ap (λ x. (cycle_of (record s { phase = x })).did) h) ∙ d)
 
 -- ---- in the middle of an instruction the requests play no part
 

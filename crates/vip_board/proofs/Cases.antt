@@ -1,15 +1,16 @@
 -- A move that is one machine cycle: a DMA cycle, an interrupt and an idle cycle.
-use Rattle.std.proofs.Common.{◌≡◌, ◌-◌, ℕ, List, Bool, true, false, ◌&&◌, if◌then◌else◌, refl, sym, ap, ◌∙◌}
-use Rattle.machine.specs.Opcodes.{cycles_of}
-use Rattle.machine.specs.Instruction.{at, stepped, after_dma, interrupted}
+use Rattle.std.proofs.Common.{◌≡◌, ℕ, List, Bool, true, false, ◌&&◌, if◌then◌else◌, refl, sym, ap, ◌∙◌}
+use Rattle.machine.specs.Instruction.{Regs}
 use Rattle.machine.specs.Keys.{Event, held_at}
 use Rattle.machine.specs.Signals.{dma_at, int_at}
 use Rattle.machine.specs.Board.{Machine, Case, case_of, moved_in, length_in, byte_of}
 use Rattle.machine.specs.Board.Case.{Dma as DmaCase, Interrupt as InterruptCase, Idle as IdleCase}
 use Rattle.machine.proofs.Moves.{case_dma, case_interrupt, case_idle}
-use Rattle.vip_cpu.specs.Cycle.{Cycle, quiet}
-use Rattle.vip_cpu.specs.declared.cpu.Phase.TheVariants.{Boundary, Middle}
+use Rattle.vip_cpu.specs.Cycle.{begun_as}
+use Rattle.vip_cpu.specs.declared.cpu.Phase.TheVariants.{Boundary}
 use Rattle.vip_cpu.specs.declared.cpu.Did.TheVariants.{Fetch, Interrupt, Idle, Dma}
+use Rattle.vip_cpu.specs.declared.cpu.Next.{Next}
+use Rattle.vip_cpu.specs.declared.cpu.Next.TheVariants.{Dma as NextDma, Interrupt as NextInterrupt, Idle as NextIdle, Fetch as NextFetch}
 use Rattle.vip_video.specs.Chip.{Pictures}
 use Rattle.vip_board.specs.Seen.{Seen, cycled, cycle_of}
 use Rattle.vip_board.specs.Moves.{name_of, name_in, moved, pictures_after, scanned_over, bus_byte_in}
@@ -36,26 +37,33 @@ moved-in rom script b p k e = rw e
 
 -- ---- which case a cycle is
 
-by_dma : (c i e f : Cycle) (x y z : Bool) (v : ℕ) → i.did ≡ Interrupt → e.did ≡ Idle → f.did ≡ Fetch
-    → (if x then c else if y then i else if z then e else f).did ≡ Dma v → x ≡ true
-by_dma c i e f true y z v p q r h = refl
-by_dma c i e f false true z v p q r h = cc
-by_dma c i e f false false true v p q r h = cc
-by_dma c i e f false false false v p q r h = cc
+-- the move that starts, by the request for DMA, an interrupt that is taken, and whether the processor idles
+abbrev pub next_by : Bool → Bool → Bool → Next
+next_by x y z = if x then NextDma else if y then NextInterrupt else if z then NextIdle else NextFetch
 
-by_interrupt : (c i e f : Cycle) (x y z : Bool) (v : ℕ) → c.did ≡ Dma v → e.did ≡ Idle → f.did ≡ Fetch
-    → (if x then c else if y then i else if z then e else f).did ≡ Interrupt → (x ≡ false) × (y ≡ true)
-by_interrupt c i e f true y z v p q r h = cc
-by_interrupt c i e f false true z v p q r h = (refl, refl)
-by_interrupt c i e f false false true v p q r h = cc
-by_interrupt c i e f false false false v p q r h = cc
+by_dma : (x y z : Bool) (s : Regs) (m : ℕ → ℕ) (v : ℕ) → (begun_as (next_by x y z) s m).did ≡ Dma v → x ≡ true
+by_dma true y z s m v h = refl
+by_dma false true z s m v h = cc
+by_dma false false true s m v h = cc
+by_dma false false false s m v h = cc
 
-by_idle : (c i e f : Cycle) (x y z : Bool) (v : ℕ) → c.did ≡ Dma v → i.did ≡ Interrupt → f.did ≡ Fetch
-    → (if x then c else if y then i else if z then e else f).did ≡ Idle → (x ≡ false) × (y ≡ false) × (z ≡ true)
-by_idle c i e f true y z v p q r h = cc
-by_idle c i e f false true z v p q r h = cc
-by_idle c i e f false false true v p q r h = (refl, refl, refl)
-by_idle c i e f false false false v p q r h = cc
+by_interrupt : (x y z : Bool) (s : Regs) (m : ℕ → ℕ) → (begun_as (next_by x y z) s m).did ≡ Interrupt → (x ≡ false) × (y ≡ true)
+by_interrupt true y z s m h = cc
+by_interrupt false true z s m h = (refl, refl)
+by_interrupt false false true s m h = cc
+by_interrupt false false false s m h = cc
+
+by_idle : (x y z : Bool) (s : Regs) (m : ℕ → ℕ) → (begun_as (next_by x y z) s m).did ≡ Idle → (x ≡ false) × (y ≡ false) × (z ≡ true)
+by_idle true y z s m h = cc
+by_idle false true z s m h = cc
+by_idle false false true s m h = (refl, refl, refl)
+by_idle false false false s m h = cc
+
+pub by_fetch : (x y z : Bool) (s : Regs) (m : ℕ → ℕ) → (begun_as (next_by x y z) s m).did ≡ Fetch → (x ≡ false) × (y ≡ false) × (z ≡ false)
+by_fetch true y z s m h = cc
+by_fetch false true z s m h = cc
+by_fetch false false true s m h = cc
+by_fetch false false false s m h = (refl, refl, refl)
 
 -- a move and its name
 pub record Is (s : Seen) (k : Case) : Type 0 where
@@ -63,19 +71,6 @@ pub record Is (s : Seen) (k : Case) : Type 0 where
   pub whole : cycled (at_rest s) ≡ moved (at_rest s)
 
 module _ (rom : List ℕ) (script : List Event) (b : Machine) (p : Pictures) where
-  abbrev dma_cycle : Cycle
-  dma_cycle = quiet (after_dma b.regs) Boundary (Dma (byte_of rom b (at b.regs 0)))
-
-  abbrev interrupt_cycle : Cycle
-  interrupt_cycle = quiet (interrupted b.regs) Boundary Interrupt
-
-  abbrev idle_cycle : Cycle
-  idle_cycle = quiet b.regs Boundary Idle
-
-  abbrev fetch_cycle : Cycle
-  fetch_cycle =
-      quiet (stepped b.regs b.regs.p) (Middle (byte_of rom b (at b.regs b.regs.p)) (cycles_of (byte_of rom b (at b.regs b.regs.p)) - 1)) Fetch
-
   abbrev first : Seen
   first = resting rom script b p
 
@@ -86,25 +81,21 @@ module _ (rom : List ℕ) (script : List Event) (b : Machine) (p : Pictures) whe
 
   is_dma : (v : ℕ) → (cycle_of first).did ≡ Dma v → Is first DmaCase
   is_dma v h =
-      let d = by_dma dma_cycle interrupt_cycle idle_cycle fetch_cycle (dma_at b.cycle b.on) (b.regs.ie && int_at b.cycle b.on) b.regs.idle v refl refl refl h in
+      let d = by_dma (dma_at b.cycle b.on) (b.regs.ie && int_at b.cycle b.on) b.regs.idle b.regs (byte_of rom b) v h in
       let k : case_of b ≡ DmaCase = case_dma b d in
       let step : cycled first ≡ landed DmaCase = rw d in
       record { case = k; whole = step ∙ sym (moved-in rom script b p DmaCase k) }
 
   is_interrupt : (cycle_of first).did ≡ Interrupt → Is first InterruptCase
   is_interrupt h =
-      let t =
-      by_interrupt dma_cycle interrupt_cycle idle_cycle fetch_cycle (dma_at b.cycle b.on)
-      (b.regs.ie && int_at b.cycle b.on) b.regs.idle _ refl refl refl h in
+      let t = by_interrupt (dma_at b.cycle b.on) (b.regs.ie && int_at b.cycle b.on) b.regs.idle b.regs (byte_of rom b) h in
       let k : case_of b ≡ InterruptCase = case_interrupt b t.0 t.1 in
       let step : cycled first ≡ landed InterruptCase = rw (t.0, t.1) in
       record { case = k; whole = step ∙ sym (moved-in rom script b p InterruptCase k) }
 
   is_idle : (cycle_of first).did ≡ Idle → Is first IdleCase
   is_idle h =
-      let t =
-      by_idle dma_cycle interrupt_cycle idle_cycle fetch_cycle (dma_at b.cycle b.on)
-      (b.regs.ie && int_at b.cycle b.on) b.regs.idle _ refl refl refl h in
+      let t = by_idle (dma_at b.cycle b.on) (b.regs.ie && int_at b.cycle b.on) b.regs.idle b.regs (byte_of rom b) h in
       let k : case_of b ≡ IdleCase = case_idle b t.0 t.1 t.2 in
       let step : cycled first ≡ landed IdleCase = rw (t.0, t.1, t.2) in
       record { case = k; whole = step ∙ sym (moved-in rom script b p IdleCase k) }

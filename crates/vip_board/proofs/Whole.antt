@@ -2,12 +2,12 @@
 use Rattle.std.proofs.Common.{◌≡◌, ◌+◌, ◌-◌, ◌/◌, ℕ, List, Bool, true, false, ◌&&◌, cond, if◌then◌else◌, refl, sym, ap, ◌∙◌, arith}
 use Rattle.std.specs.Prelude.{◌==◌, None}
 use Rattle.machine.specs.Opcodes.{cycles_of}
-use Rattle.machine.specs.Instruction.{Regs, Effect, at, stepped, interrupted}
+use Rattle.machine.specs.Instruction.{Regs, Effect, at, stepped}
 use Rattle.machine.specs.Board.{Machine, case_of, acted, main_move, length_of, opcode_of, byte_of, flags_of}
 use Rattle.machine.specs.Board.Case.{Instruction as InstructionCase}
-use Rattle.vip_cpu.specs.Cycle.{begun, quiet, Cycle}
+use Rattle.vip_cpu.specs.Cycle.{quiet, Cycle}
 use Rattle.vip_cpu.specs.declared.cpu.Phase.TheVariants.{Boundary, Middle}
-use Rattle.vip_cpu.specs.declared.cpu.Did.TheVariants.{Fetch, Execute, Interrupt, Idle}
+use Rattle.vip_cpu.specs.declared.cpu.Did.TheVariants.{Fetch, Execute}
 use Rattle.machine.specs.Keys.{Event, held_at}
 use Rattle.vip_video.specs.Chip.{Pictures, scanned}
 use Rattle.vip_board.specs.Seen.{Seen, cycled, cycle_of}
@@ -16,7 +16,7 @@ use Rattle.vip_board.specs.Moves.{name_of, moved, scanned_over}
 use Rattle.vip_board.specs.declared.board.Move.TheVariants.{Instruction}
 use Rattle.machine.proofs.Moves.{case_instruction, length_of_in}
 use Rattle.vip_board.proofs.Flags.{executed-flags}
-use Rattle.vip_board.proofs.Cases.{resting, rests, moved-rests, moved-in}
+use Rattle.vip_board.proofs.Cases.{by_fetch, resting, rests, moved-rests, moved-in}
 
 -- what holds where the first cycle is a fetch
 pub record Fetches (b : Machine) : Type 0 where
@@ -24,20 +24,9 @@ pub record Fetches (b : Machine) : Type 0 where
   pub no_int : (b.regs.ie && int_at b.cycle b.on) ≡ false
   pub awake : b.regs.idle ≡ false
 
-by_rest : (s : Regs) (c : Cycle) (a i : Bool)
-    → (if a then quiet (interrupted s) Boundary Interrupt else if i then quiet s Boundary Idle else c).did ≡ Fetch → (a ≡ false) × (i ≡ false)
-by_rest s c true i h = cc
-by_rest s c false true h = cc
-by_rest s c false false h = (refl, refl)
-
-tests : (s : Regs) (m : ℕ → ℕ) (dma int : Bool) → (begun s m dma int).did ≡ Fetch → (dma ≡ false) × ((s.ie && int) ≡ false) × (s.idle ≡ false)
-tests s m true int h = cc
-tests s m false int h =
-    let r = by_rest s (quiet (stepped s s.p) (Middle (m (at s s.p)) (cycles_of (m (at s s.p)) - 1)) Fetch) (s.ie && int) s.idle h in (refl, r.0, r.1)
-
 pub fetches : (rom : List ℕ) (script : List Event) (b : Machine) (p : Pictures) → (cycle_of (resting rom script b p)).did ≡ Fetch → Fetches b
 fetches rom script b p h =
-    let t = tests b.regs (byte_of rom b) (dma_at b.cycle b.on) (int_at b.cycle b.on) h in
+    let t = by_fetch (dma_at b.cycle b.on) (b.regs.ie && int_at b.cycle b.on) b.regs.idle b.regs (byte_of rom b) h in
     record { no_dma = t.0; no_int = t.1; awake = t.2 }
 
 pub is_instruction : (b : Machine) → Fetches b → case_of b ≡ InstructionCase

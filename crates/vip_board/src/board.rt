@@ -12,7 +12,7 @@ use crate::port::{Joined, Wire};
 use crate::wires::Wires;
 use std::alloc::{AllocError, Global};
 use std::marker::Model;
-use vip_cpu::{Bus, Cpu, Did, Parts, Phase, plain_cycles};
+use vip_cpu::{Bus, Cpu, Did, Next, Parts, Phase, plain_cycles};
 use vip_isa::cycles;
 use vip_keypad::{Keypad, Script};
 use vip_memory::Memory;
@@ -245,14 +245,11 @@ impl Board {
         requires dma { requests.dma ≡ dma_at self.now.machine.cycle self.now.machine.on }
         ensures { result ≡ name_of self.now.machine }
     {
-        if requests.dma {
-            Move::Dma
-        } else if self.cpu.ie() && requests.int {
-            Move::Interrupt
-        } else if self.cpu.idle() {
-            Move::Idle
-        } else {
-            Move::Instruction(self.counter())
+        match self.cpu.next(requests.dma, requests.int) {
+            Next::Dma => Move::Dma,
+            Next::Interrupt => Move::Interrupt,
+            Next::Idle => Move::Idle,
+            Next::Fetch => Move::Instruction(self.counter()),
         }
     }
 

@@ -5,6 +5,8 @@ use Rattle.machine.specs.Opcodes.{cycles_of}
 use Rattle.machine.specs.Instruction.{Regs, Effect, only, executed, inputs, at, stepped, after_dma, interrupted}
 use Rattle.vip_cpu.specs.declared.cpu.Phase.{Phase}
 use Rattle.vip_cpu.specs.declared.cpu.Phase.TheVariants.{Boundary, Middle}
+use Rattle.vip_cpu.specs.declared.cpu.Next.{Next}
+use Rattle.vip_cpu.specs.declared.cpu.Next.TheVariants.{Dma as NextDma, Interrupt as NextInterrupt, Idle as NextIdle, Fetch as NextFetch}
 use Rattle.vip_cpu.specs.declared.cpu.Did.{Did}
 use Rattle.vip_cpu.specs.declared.cpu.Did.TheVariants.{Fetch, Execute, Dma, Interrupt, Idle}
 
@@ -28,14 +30,20 @@ after c = record { regs = c.effect.regs; phase = c.phase }
 abbrev pub quiet : Regs → Phase → Did → Cycle
 quiet s phase did = record { effect = only s; phase = phase; did = did }
 
--- The first cycle of a move, over the registers and the bytes of memory: a DMA cycle where DMA is wanted, else an interrupt where INT
--- is active and IE is 1, else an idle cycle after IDL, else the fetch of an instruction, whose other cycles are then left.
+-- What the move is that starts: a DMA cycle where DMA is wanted, else an interrupt where INT is active and IE is 1, else an idle cycle
+-- after IDL, else an instruction.
+abbrev pub next_of : Regs → Bool → Bool → Next
+next_of s dma int = if dma then NextDma else if s.ie && int then NextInterrupt else if s.idle then NextIdle else NextFetch
+
+-- The first cycle of a move, over the registers and the bytes of memory. Behind the fetch of an instruction its other cycles are left.
+abbrev pub begun_as : Next → Regs → (ℕ → ℕ) → Cycle
+begun_as NextDma s m = quiet (after_dma s) Boundary (Dma (m (at s 0)))
+begun_as NextInterrupt s m = quiet (interrupted s) Boundary Interrupt
+begun_as NextIdle s m = quiet s Boundary Idle
+begun_as NextFetch s m = quiet (stepped s s.p) (Middle (m (at s s.p)) (cycles_of (m (at s s.p)) - 1)) Fetch
+
 abbrev pub begun : Regs → (ℕ → ℕ) → Bool → Bool → Cycle
-begun s m dma int =
-    if dma then quiet (after_dma s) Boundary (Dma (m (at s 0)))
-    else if s.ie && int then quiet (interrupted s) Boundary Interrupt
-    else if s.idle then quiet s Boundary Idle
-    else quiet (stepped s s.p) (Middle (m (at s s.p)) (cycles_of (m (at s s.p)) - 1)) Fetch
+begun s m dma int = begun_as (next_of s dma int) s m
 
 -- The last cycle of an instruction: all of it but the fetch. It takes the flags of this cycle, and `taken` from the bus at an INP.
 abbrev pub ended : ℕ → Regs → (ℕ → ℕ) → (ℕ → Bool) → ℕ → Cycle

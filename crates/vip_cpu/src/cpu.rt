@@ -24,6 +24,16 @@ pub enum Phase {
     Middle(u8, u8),
 }
 
+/// What a move is that starts: a DMA cycle, an interrupt, an idle cycle, or an instruction, whose fetch comes first (data sheet, "State Codes":
+/// S2, S3, S1 and S0).
+#[derive(Clone, Copy, PartialEq, Eq)]
+pub enum Next {
+    Dma,
+    Interrupt,
+    Idle,
+    Fetch,
+}
+
 /// What kind of machine cycle was made.
 #[derive(Clone, Copy, PartialEq, Eq)]
 pub enum Did {
@@ -57,7 +67,7 @@ impl Model for Cpu {
 }
 
 impl Cpu {
-    ghost use Rattle.vip_cpu.specs.Cycle.{after, begun, ended, cycle};
+    ghost use Rattle.vip_cpu.specs.Cycle.{after, next_of, begun, ended, cycle};
 
     /// A processor after reset, at a boundary: Q = 0, IE = 1, and all other registers are 0.
     pub fn reset() -> Cpu
@@ -101,6 +111,22 @@ impl Cpu {
         }
     }
 
+    /// What the move is that starts in a cycle. `dma` says whether DMA out is wanted in it, and `int` whether INT is active.
+    #[inline(always)]
+    pub fn next(&self, dma: bool, int: bool) -> Next
+        ensures { result ≡ next_of self.now.regs dma int }
+    {
+        if dma {
+            Next::Dma
+        } else if self.registers.ie() && int {
+            Next::Interrupt
+        } else if self.registers.idle() {
+            Next::Idle
+        } else {
+            Next::Fetch
+        }
+    }
+
     /// The first cycle of a move, as `cycle` makes it.
     #[inline(always)]
     pub fn begin<B: Bus>(&mut self, bus: &B, dma: bool, int: bool) -> Did
@@ -108,22 +134,24 @@ impl Cpu {
         ensures processor { self.new ≡ after (begun self.old.regs (B.byte bus.now) dma int) }
         ensures did { result ≡ (begun self.old.regs (B.byte bus.now) dma int).did }
     {
-        if dma {
-            let byte = bus.read(self.registers.r(0));
-            self.registers.dma();
-            return Did::Dma(byte);
+        match self.next(dma, int) {
+            Next::Dma => {
+                let byte = bus.read(self.registers.r(0));
+                self.registers.dma();
+                Did::Dma(byte)
+            }
+            Next::Interrupt => {
+                self.registers.interrupt();
+                Did::Interrupt
+            }
+            Next::Idle => Did::Idle,
+            Next::Fetch => {
+                let opcode = bus.read(self.registers.program_counter());
+                self.registers.increment(self.registers.p());
+                self.phase = Phase::Middle(opcode, cycles(opcode) - 1);
+                Did::Fetch
+            }
         }
-        if self.registers.ie() && int {
-            self.registers.interrupt();
-            return Did::Interrupt;
-        }
-        if self.registers.idle() {
-            return Did::Idle;
-        }
-        let opcode = bus.read(self.registers.program_counter());
-        self.registers.increment(self.registers.p());
-        self.phase = Phase::Middle(opcode, cycles(opcode) - 1);
-        Did::Fetch
     }
 
     /// A whole instruction, at a boundary, on a bus that stands as in its last cycle. `opcode` is the byte that R(P) points to.

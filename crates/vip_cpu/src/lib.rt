@@ -52,6 +52,6 @@ mod registers;
 mod scratchpad;
 
 pub use bus::Bus;
-pub use cpu::{Cpu, Did, Phase};
+pub use cpu::{Cpu, Did, Next, Phase};
 pub use group::plain_cycles;
 pub use parts::Parts;
