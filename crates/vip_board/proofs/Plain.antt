@@ -15,9 +15,8 @@ use Rattle.vip_cpu.specs.Acts.{Acts}
 use Rattle.vip_cpu.specs.Cycle.{Processor, after, ended}
 use Rattle.vip_cpu.specs.Groups.{is_plain, plain_cycles}
 use Rattle.vip_cpu.specs.declared.cpu.Phase.TheVariants.{Boundary}
-use Rattle.vip_video.specs.Chip.{Pictures, scanned}
+use Rattle.vip_video.specs.Chip.{Pictures}
 use Rattle.vip_video.specs.Quiet.{IsQuiet}
-use Rattle.vip_video.proofs.Quiet.{no-dma, no-int}
 use Rattle.vip_board.specs.Seen.{Seen}
 use Rattle.vip_board.specs.Moves.{moved, later, scanned_over, Works}
 use Rattle.vip_board.specs.Wired.{seen_of, after_calls}
@@ -56,20 +55,16 @@ plain-length opcode n = by_length (is_plain (kind_of opcode)) n (cycles_of opcod
 
 -- ---- what the video chip makes of quiet cycles
 
-stays : {on before : Bool} {t : ℕ} → IsQuiet on before t → (p : Pictures) → scanned t on None p ≡ p
-stays q p = rw (q.on) (q.pictures p)
-
-over : (n t : ℕ) (on before : Bool) (p : Pictures) → ((k : ℕ) → k < n → IsQuiet on before (t + k)) → scanned_over n t on None p ≡ p
+over : (n t : ℕ) (on before : Bool) (p : Pictures) → ((k : ℕ) → k < n → IsQuiet on before p.shown (t + k)) → scanned_over n t on None p ≡ p
 over zero t on before p quiet = refl
 over (suc n) t on before p quiet =
     let here : t + 0 ≡ t = omega arith in
-    let later : (k : ℕ) → k < n → IsQuiet on before (t + 1 + k) =
-    λ k l. let same : t + suc k ≡ t + 1 + k = omega arith in subst (IsQuiet on before) same (quiet (suc k) (omega (arith, l))) in
-    ap (scanned_over n (t + 1) on None) (stays (subst (IsQuiet on before) here (quiet 0 (omega arith))) p) ∙ over n (t + 1) on before p later
+    let later : (k : ℕ) → k < n → IsQuiet on before p.shown (t + 1 + k) =
+    λ k l. let same : t + suc k ≡ t + 1 + k = omega arith in subst (IsQuiet on before p.shown) same (quiet (suc k) (omega (arith, l))) in
+    ap (scanned_over n (t + 1) on None) ((subst (IsQuiet on before p.shown) here (quiet 0 (omega arith))).pictures p refl) ∙ over n (t + 1) on before p later
 
-fetches : (b : Machine) (before : Bool) → b.regs.idle ≡ false → IsQuiet b.on before b.cycle → Fetches b
-fetches b before awake q =
-    record { no_dma = no-dma b.cycle b.on before q; no_int = never b.regs.ie (no-int b.cycle b.on before q); awake = awake }
+fetches : (b : Machine) (before shown : Bool) → b.regs.idle ≡ false → IsQuiet b.on before shown b.cycle → Fetches b
+fetches b before shown awake q = record { no_dma = q.dma; no_int = never b.regs.ie q.int; awake = awake }
   where
     never : (ie : Bool) {x : Bool} → x ≡ false → (ie && x) ≡ false
     never true e = e
@@ -135,7 +130,7 @@ module _ (cpu : Processor) (w v : Wires) (taken : ℕ) (q : Processor) (opcode :
         ap (λ t. executed opcode regs (inputs regs (bytes w) (flags w) t)) calls.0
         ∙ sym (effect_flags (kind_of opcode) (opcode_number opcode) regs (inputs regs (bytes w) (flags w) 0) flags_then (plain_flags (kind_of opcode) plain))
 
-    module _ (is_opcode : opcode ≡ opcode_of s.rom b) (long : n ≡ cycles_of opcode) (quiet : (k : ℕ) → k < n → IsQuiet b.on b.on (b.cycle + k)) (some : 0 < n) where
+    module _ (is_opcode : opcode ≡ opcode_of s.rom b) (long : n ≡ cycles_of opcode) (quiet : (k : ℕ) → k < n → IsQuiet b.on b.on s.pictures.shown (b.cycle + k)) (some : 0 < n) where
       abbrev landed : Effect → Option Port → ℕ → Pictures → Seen
       landed e port m x =
           resting s.rom s.script
@@ -155,7 +150,7 @@ module _ (cpu : Processor) (w v : Wires) (taken : ℕ) (q : Processor) (opcode :
       moves : after_effect effect_now (b.cycle + n) ≡ moved s
       moves =
           let here : b.cycle + 0 ≡ b.cycle = omega arith in
-          let f = fetches b b.on active (subst (IsQuiet b.on b.on) here (quiet 0 some)) in
+          let f = fetches b b.on s.pictures.shown active (subst (IsQuiet b.on b.on s.pictures.shown) here (quiet 0 some)) in
           let none : effect_now.port ≡ None = plain_port (kind_of opcode) (opcode_number opcode) regs _ plain in
           ap (λ port. landed effect_now port n s.pictures) (sym none)
           ∙ ap (landed effect_now effect_now.port n) (sym (over n b.cycle b.on b.on s.pictures quiet))

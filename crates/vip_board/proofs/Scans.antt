@@ -1,5 +1,5 @@
 -- DMA cycles one after another.
-use Rattle.std.proofs.Common.{◌≡◌, ℕ, zero, suc, ◌+◌, ◌%◌, ◌<◌, ◌≤◌, List, [], ◌∷◌, true, refl, sym, ap, ◌∙◌, subst, arith}
+use Rattle.std.proofs.Common.{◌≡◌, ℕ, zero, suc, ◌+◌, ◌%◌, ◌<◌, ◌≤◌, List, [], ◌∷◌, Bool, true, false, not, refl, sym, ap, ◌∙◌, subst, arith}
 use Rattle.std.proofs.Math.Bool.{◌&&◌}
 use Rattle.std.specs.Prelude.{Some}
 use Rattle.std.proofs.lemmas.Bool.Decides.{nat_tests}
@@ -10,7 +10,7 @@ use Rattle.machine.proofs.Moves.{case_dma, move_in}
 use Rattle.vip_cpu.specs.Cycle.{Processor}
 use Rattle.vip_cpu.specs.declared.cpu.Phase.TheVariants.{Boundary}
 use Rattle.vip_board.specs.Seen.{Seen, held_by}
-use Rattle.vip_board.specs.Moves.{moved, moved_by, taken_by, dma_bytes, Aside}
+use Rattle.vip_board.specs.Moves.{moved, moved_by, taken_by, dma_bytes, sleeps, Aside}
 use Rattle.vip_board.specs.Wired.{seen_of}
 use Rattle.vip_board.specs.declared.wires.Wires.{Wires}
 use Rattle.vip_board.proofs.Cases.{moved-rests, moved-in}
@@ -102,9 +102,27 @@ same-count s e =
     ap (λ (x : Seen). x.pictures.count) (moved-in s.rom s.script b s.pictures DmaCase e)
     ∙ ap (λ (p : Pictures). p.count) (passes (b.cycle + 1) (drawn b.cycle b.on (Some (dma_byte s.rom b)) s.pictures) (λ h. omega (arith, h, column)))
 
+-- nor does the processor sleep before one, since the display is on
+switched : (t : ℕ) (idle on : Bool) → dma_at t on ≡ true → (idle && not on) ≡ false
+switched t false on d = refl
+switched t true true d = refl
+switched t true false d = cc
+
+pub awake-here : (b : Machine) (k : ℕ) → k ≡ 0 → dma_at (b.cycle + k) b.on ≡ true → sleeps b ≡ false
+awake-here b k none d = let same : b.cycle + k ≡ b.cycle = omega (arith, none) in switched b.cycle b.regs.idle b.on (subst (λ t. dma_at t b.on ≡ true) same d)
+
+awake : (b : Machine) → case_of b ≡ DmaCase → sleeps b ≡ false
+awake b e = switched b.cycle b.regs.idle b.on (case-is (dma_at b.cycle b.on) (b.regs.ie && int_at b.cycle b.on) b.regs.idle e)
+
 pub scanned-aside : (s : Seen) (count : ℕ) → ((k : ℕ) → k < count → dma_at (s.machine.cycle + k) s.machine.on ≡ true) → (n : ℕ) → n ≤ count → Aside n s
 scanned-aside s count dma n l k some below =
-    (λ starts. not_both (sym (case-here s count dma k (omega (arith, l, below))) ∙ starts), counts k (omega (arith, l, below)))
+    record {
+      apart = λ starts. not_both (sym (case-here s count dma k (omega (arith, l, below))) ∙ starts);
+      count = counts k (omega (arith, l, below));
+      asleep =
+          awake (moved_by k s).machine (case-here s count dma k (omega (arith, l, below)))
+          ∙ sym (awake s.machine (case-here s count dma 0 (omega (arith, l, some, below))));
+    }
   where
     not_both : DmaCase ≡ InstructionCase → ⊥
     not_both e = cc

@@ -14,10 +14,11 @@ written-other false ram a v k h =
     elim (nat_lt a 4096) as (λ b. slice_index (cond b (slice_set ram a v) ram) k ≡ slice_index ram k)
     [ true ↦ get_or-set_other ram a k v 0 h | false ↦ refl ]
 
-keeps : (ram rom : List ℕ) (latch : Bool) (a v k : ℕ) → k ≢ a → read rom latch (written latch ram a v) k ≡ read rom latch ram k
+-- a write changes what no other address reads
+pub read-keeps : (ram rom : List ℕ) (latch : Bool) (a v k : ℕ) → k ≢ a → read rom latch (written latch ram a v) k ≡ read rom latch ram k
 unfolding read written
-keeps ram rom true a v k h = refl
-keeps ram rom false a v k h = rw (written-other false ram a v k h)
+read-keeps ram rom true a v k h = refl
+read-keeps ram rom false a v k h = rw (written-other false ram a v k h)
 
 same_or_put : (ram : List ℕ) (a v : ℕ) → (slice_index (slice_set ram a v) a ≡ v) ⊎ (slice_index (slice_set ram a v) a ≡ slice_index ram a)
 same_or_put [] a v = inr refl
@@ -37,7 +38,7 @@ puts ram rom false a v =
 
 pub write-keeps : (b : Wires) (a v : ℕ) (c : Wires) → c ≡ after_write a v b → (k : ℕ) → k ≢ a
     → read c.memory.rom c.memory.latch c.memory.ram k ≡ read b.memory.rom b.memory.latch b.memory.ram k
-write-keeps b a v c e k h = ap (λ (w : Wires). read w.memory.rom w.memory.latch w.memory.ram k) e ∙ keeps b.memory.ram b.memory.rom b.memory.latch a v k h
+write-keeps b a v c e k h = ap (λ (w : Wires). read w.memory.rom w.memory.latch w.memory.ram k) e ∙ read-keeps b.memory.ram b.memory.rom b.memory.latch a v k h
 
 pub write-puts : (b : Wires) (a v : ℕ) (c : Wires) → c ≡ after_write a v b
     → (read c.memory.rom c.memory.latch c.memory.ram a ≡ v)

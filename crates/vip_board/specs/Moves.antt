@@ -1,11 +1,12 @@
 -- How a move is named, what it makes of the board, and what an answer says.
-use Rattle.std.specs.Prelude.{◌≡◌, ◌⊎◌, ◌<◌, ◌≤◌, ℕ, zero, suc, ◌+◌, Bool, List, [], ◌∷◌, ◌++◌, Option, Some, None}
+use Rattle.std.specs.Prelude.{◌≡◌, ◌<◌, ◌≤◌, ℕ, zero, suc, ◌+◌, ◌&&◌, not, Bool, List, [], ◌∷◌, ◌++◌, Option, Some, None}
 use Rattle.machine.specs.Instruction.{Regs, at, after_dma}
 use Rattle.machine.specs.Board.{Machine, Case, case_of, length_of, dma_byte, move}
 use Rattle.machine.specs.Board.Case.{Dma as DmaCase, Interrupt as InterruptCase, Idle as IdleCase, Instruction as InstructionCase}
+use Rattle.vip_memory.specs.Contents.{Contents}
 use Rattle.vip_video.specs.Chip.{Pictures, scanned}
 use Rattle.vip_video.specs.Quiet.{IsQuiet}
-use Rattle.vip_board.specs.Seen.{Seen, held_by}
+use Rattle.vip_board.specs.Seen.{Seen, contents_of, held_by}
 use Rattle.vip_board.specs.declared.board.Move.{Move}
 use Rattle.vip_board.specs.declared.board.Move.TheVariants.{Dma, Interrupt, Idle, Instruction}
 use Rattle.vip_board.specs.declared.board.Moved.{Moved}
@@ -49,19 +50,26 @@ abbrev pub moved_by : ℕ → Seen → Seen
 moved_by zero s = s
 moved_by (suc n) s = moved (moved_by n s)
 
--- behind each of so many moves but the last, no instruction comes next, and no picture was finished
-abbrev pub Aside : ℕ → Seen → Type 0
-Aside n s =
-    (k : ℕ) → 0 < k → k < n → (StartsInstruction (moved_by k s).machine → ⊥) × ((moved_by k s).pictures.count ≡ s.pictures.count)
+-- The processor idles and no signal can wake it, since the display is off: only an instruction turns it on.
+abbrev pub sleeps : Machine → Bool
+sleeps b = b.regs.idle && not b.on
 
--- the next opcode has one of two addresses
-abbrev pub StandsAt : ℕ × ℕ → Machine → Type 0
-StandsAt stops b = (at b.regs b.regs.p ≡ stops.0) ⊎ (at b.regs b.regs.p ≡ stops.1)
-
--- From board s on to v no picture was finished, and at v no instruction with one of two addresses comes next.
-pub record Passes (stops : ℕ × ℕ) (s v : Seen) : Type 0 where
+-- From board s on to v no picture was finished, the processor sleeps as before, and at v no instruction comes next.
+pub record IsAside (s v : Seen) : Type 0 where
+  pub apart : StartsInstruction v.machine → ⊥
   pub count : v.pictures.count ≡ s.pictures.count
-  pub apart : StartsInstruction v.machine → StandsAt stops v.machine → ⊥
+  pub asleep : sleeps v.machine ≡ sleeps s.machine
+
+-- so it is behind each of so many moves but the last
+abbrev pub Aside : ℕ → Seen → Type 0
+Aside n s = (k : ℕ) → 0 < k → k < n → IsAside s (moved_by k s)
+
+-- From board s on to v no picture was finished, the processor sleeps as before, and at v no instruction comes next that is a stop: which are, the
+-- registers and memory say.
+pub record Passes (Stands : Regs → Contents → Type 0) (s v : Seen) : Type 0 where
+  pub count : v.pictures.count ≡ s.pictures.count
+  pub asleep : sleeps v.machine ≡ sleeps s.machine
+  pub apart : StartsInstruction v.machine → Stands v.machine.regs (contents_of v) → ⊥
 
 -- the processor's part of so many DMA cycles, and the bytes that they put on the bus
 abbrev pub dma_regs : ℕ → Regs → Regs
@@ -82,7 +90,7 @@ later s n = record s { machine = record s.machine { cycle = s.machine.cycle + n 
 -- From board s to v an instruction of n cycles is made, but for their count: it is the next move also where cycles before it aren't counted yet, if
 -- the video chip has nothing to do in its cycles but count.
 pub record Works (n : ℕ) (s v : Seen) : Type 0 where
-  pub moved : (p : ℕ) → ((k : ℕ) → k < n → IsQuiet s.machine.on s.machine.on (s.machine.cycle + p + k)) → later v (p + n) ≡ moved (later s p)
+  pub moved : (p : ℕ) → ((k : ℕ) → k < n → IsQuiet s.machine.on s.machine.on s.pictures.shown (s.machine.cycle + p + k)) → later v (p + n) ≡ moved (later s p)
   pub cycle : v.machine.cycle ≡ s.machine.cycle
   pub on : v.machine.on ≡ s.machine.on
   pub awake : v.machine.regs.idle ≡ s.machine.regs.idle
@@ -91,18 +99,19 @@ pub record Works (n : ℕ) (s v : Seen) : Type 0 where
 
 -- From an entry on so many moves are made, behind none of which but the last one the board has to be looked at. The last one ends at or
 -- before cycle `limit`.
-pub record Made (limit : ℕ) (stops : ℕ × ℕ) (entry v : Seen) (n : ℕ) : Type 0 where
+pub record Made (limit : ℕ) (Stands : Regs → Contents → Type 0) (entry v : Seen) (n : ℕ) : Type 0 where
   pub moves : v ≡ moved_by n entry
-  pub passes : (k : ℕ) → 0 < k → k < n → Passes stops entry (moved_by k entry)
+  pub passes : (k : ℕ) → 0 < k → k < n → Passes Stands entry (moved_by k entry)
   pub within : 0 < n → v.machine.cycle ≤ limit
 
 -- The same of instructions with so many cycles, at most `most`, which aren't counted yet.
-pub record Worked (most : ℕ) (stops : ℕ × ℕ) (entry v : Seen) (n passed : ℕ) : Type 0 where
-  pub made : Made (entry.machine.cycle + most) stops entry (later v passed) n
+pub record Worked (most : ℕ) (Stands : Regs → Contents → Type 0) (entry v : Seen) (n passed : ℕ) : Type 0 where
+  pub made : Made (entry.machine.cycle + most) Stands entry (later v passed) n
   pub each : n ≤ passed
   pub few : passed ≤ most
   pub cycle : v.machine.cycle ≡ entry.machine.cycle
   pub on : v.machine.on ≡ entry.machine.on
+  pub pictures : v.pictures ≡ entry.pictures
 
 abbrev pub IfDone : Moved → (Move → Type 0) → Type 0
 IfDone (Done m) P = P m

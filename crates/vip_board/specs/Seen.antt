@@ -7,6 +7,7 @@ use Rattle.vip_cpu.specs.Cycle.{Cycle, cycle_in}
 use Rattle.vip_cpu.specs.declared.cpu.Phase.{Phase}
 use Rattle.vip_cpu.specs.declared.cpu.Did.{Did}
 use Rattle.vip_cpu.specs.declared.cpu.Did.TheVariants.{Dma}
+use Rattle.vip_memory.specs.Contents.{Contents}
 use Rattle.vip_video.specs.Chip.{Pictures, scanned}
 
 -- the machine, where the processor stands (at a boundary, or in the middle of an instruction), what the video chip has of pictures, the
@@ -17,6 +18,10 @@ pub record Seen : Type 0 where
   pub pictures : Pictures
   pub rom : List ℕ
   pub script : List Event
+
+-- what memory holds
+abbrev pub contents_of : Seen → Contents
+contents_of s = record { ram = s.machine.ram; rom = s.rom; latch = s.machine.latch }
 
 -- the keys that the script holds down
 abbrev pub held_by : Seen → ℕ → Keys

@@ -1,6 +1,6 @@
 //! The board.
 
-ghost use Rattle.std.specs.Prelude.{◌≡◌, ◌+◌, ◌-◌, ◌≤◌, ◌<◌, ◌^◌, ◌↔◌, ℕ, true, false, [], IsTrue, IfOk, length, take};
+ghost use Rattle.std.specs.Prelude.{◌≡◌, ◌+◌, ◌-◌, ◌⊎◌, ◌≤◌, ◌<◌, ◌^◌, ◌↔◌, ℕ, true, false, [], IsTrue, IfOk, length, take};
 ghost use Rattle.machine.specs.Instruction.{at};
 ghost use Rattle.machine.specs.Ranges.{FitsMachine, FitsRom};
 ghost use Rattle.machine.specs.Signals.{int_at, dma_at};
@@ -9,6 +9,7 @@ ghost use Rattle.vip_board.specs.Shown.{HasPictures, HasPicturesSince, CarriesOn
 ghost use Rattle.vip_board.specs.Seen.{byte_in};
 
 use crate::port::{Joined, Wire};
+use crate::stops::Stops;
 use crate::wires::Wires;
 use std::alloc::{AllocError, Global};
 use std::marker::Model;
@@ -236,7 +237,8 @@ impl Board {
 
 impl Board {
     ghost use Rattle.machine.specs.Board.{length_of};
-    ghost use Rattle.vip_board.specs.Moves.{name_of, moved, moved_by, IfDone, StartsInstruction, Aside, StandsAt, Made, Works, Worked, taken_by, dma_bytes};
+    ghost use Rattle.vip_board.specs.Moves.{name_of, moved, moved_by, sleeps, IfDone, StartsInstruction, Aside, Made, Works, Worked, taken_by, dma_bytes};
+    ghost use Rattle.vip_board.specs.Seen.{contents_of};
 
     /// The name of the next move, by the requests of the present cycle.
     #[inline(always)]
@@ -269,6 +271,14 @@ impl Board {
             Move::Instruction(_) => true,
             Move::Dma | Move::Interrupt | Move::Idle => false,
         }
+    }
+
+    /// Whether the processor idles and no signal can wake it, since the display is off.
+    #[inline(always)]
+    pub fn sleeps(&self) -> bool
+        ensures { result ≡ sleeps self.now.machine }
+    {
+        self.cpu.idle() && !self.wires.video.is_on()
     }
 
     /// The address of the next opcode, R(P).
@@ -378,14 +388,22 @@ impl Board {
         length
     }
 
-    /// Makes instructions one after another as `instruct` does, up to the first one behind which the next opcode has one of two
-    /// addresses, and as long as their cycles are at most `most`. Answers how many, and their cycles, which the video chip is still to count.
+    /// Whether an instruction before which moves end comes next.
+    #[inline(always)]
+    fn stands_at<S: Stops>(&self, stops: S) -> bool
+        ensures { IsTrue result ↔ S.stands stops self.now.machine.regs (contents_of self.now) }
+    {
+        stops.has(&self.cpu, &self.wires.memory, self.counter())
+    }
+
+    /// Makes instructions one after another as `instruct` does, up to the first one behind which one of `stops` comes next, and as long as
+    /// their cycles are at most `most`. Answers how many, and their cycles, which the video chip is still to count.
     #[inline(never)]
-    fn work(&mut self, most: u64, stops: (u16, u16)) -> (u64, u64)
+    fn work<S: Stops>(&mut self, most: u64, stops: S) -> (u64, u64)
         requires boundary { self.old.phase ≡ Phase.Boundary }
         requires awake { self.old.machine.regs.idle ≡ false }
-        requires quiet { (k : ℕ) → k < most → IsQuiet self.old.machine.on self.old.machine.on (self.old.machine.cycle + k) }
-        ensures { Worked most stops self.old self.new result.0 result.1 }
+        requires quiet { (k : ℕ) → k < most → IsQuiet self.old.machine.on self.old.machine.on self.old.pictures.shown (self.old.machine.cycle + k) }
+        ensures { Worked most (S.stands stops) self.old self.new result.0 result.1 }
     {
         let mut made = 0;
         let mut passed = 0;
@@ -398,7 +416,7 @@ impl Board {
             made += 1;
             passed += length;
             address = self.counter();
-            if address == stops.0 || address == stops.1 {
+            if stops.has(&self.cpu, &self.wires.memory, address) {
                 break;
             }
         }
@@ -406,11 +424,12 @@ impl Board {
     }
 
     /// Makes instructions that come next, as far as they end at or before cycle `limit` and the video chip is known to have nothing to do in
-    /// their cycles but count, up to the first one behind which the next opcode has one of two addresses. Answers how many.
+    /// their cycles but count, up to the first one behind which one of `stops` comes next. Answers how many.
     #[inline(always)]
-    fn instructions(&mut self, limit: u64, stops: (u16, u16)) -> u64
+    fn instructions<S: Stops>(&mut self, limit: u64, stops: S) -> u64
         requires { self.old.phase ≡ Phase.Boundary }
-        ensures { Made limit stops self.old self.new result }
+        ensures made { Made limit (S.stands stops) self.old self.new result }
+        ensures awake { 0 < result → sleeps self.old.machine ≡ false }
     {
         if self.cpu.idle() {
             return 0;
@@ -468,6 +487,7 @@ impl Board {
         ensures moved { self.new ≡ moved_by result self.old }
         ensures aside { Aside result self.old }
         ensures within { 0 < result → self.new.machine.cycle ≤ limit }
+        ensures awake { 0 < result → sleeps self.old.machine ≡ false }
     {
         let ahead = self.wires.video.dma_ahead().min(8);
         let count = ahead.min(limit.saturating_sub(self.now()));
@@ -479,23 +499,15 @@ impl Board {
         count
     }
 
-    /// Makes one move, or some behind none of which but the last one the board has to be looked at; or none where the next one would end
-    /// after cycle `limit`. Answers how many.
+    /// Makes one move, or some idle cycles; or none where the next one would end after cycle `limit`. Answers how many.
     #[inline(always)]
-    fn some(&mut self, limit: u64, stops: (u16, u16)) -> u64
+    fn wait(&mut self, limit: u64) -> u64
         requires { self.old.phase ≡ Phase.Boundary }
-        ensures made { Made limit stops self.old self.new result }
+        ensures moved { self.new ≡ moved_by result self.old }
+        ensures aside { Aside result self.old }
+        ensures within { 0 < result → self.new.machine.cycle ≤ limit }
         ensures none { result ≡ 0 → limit < self.old.machine.cycle + length_of self.old.rom self.old.machine }
     {
-        let scanned = self.scan(limit);
-        if scanned > 0 {
-            return scanned;
-        }
-        self.look_ahead();
-        let instructed = self.instructions(limit, stops);
-        if instructed > 0 {
-            return instructed;
-        }
         let rested = self.rest(limit);
         if rested > 0 {
             return rested;
@@ -506,24 +518,56 @@ impl Board {
         }
     }
 
-    /// Whether the next opcode has one of two addresses.
-    #[inline(always)]
-    fn stands_at(&self, stops: (u16, u16)) -> bool
-        ensures { IsTrue result ↔ StandsAt stops self.now.machine }
+    /// Makes one idle cycle, or some, of a processor that sleeps; or none where the next one would end after cycle `limit`. Answers how many.
+    #[cold]
+    #[inline(never)]
+    fn sleep(&mut self, limit: u64) -> u64
+        requires { self.old.phase ≡ Phase.Boundary }
+        ensures moved { self.new ≡ moved_by result self.old }
+        ensures aside { Aside result self.old }
+        ensures within { 0 < result → self.new.machine.cycle ≤ limit }
+        ensures none { result ≡ 0 → limit < self.old.machine.cycle + length_of self.old.rom self.old.machine }
     {
-        let address = self.counter();
-        address == stops.0 || address == stops.1
+        self.wait(limit)
     }
 
-    /// Makes moves up to the first one behind which the next opcode has one of two addresses, or which finishes a picture; fewer where the
-    /// next one would end after cycle `limit`. Answers how many. The board is at a boundary, before and after.
+    /// Makes one move, or some behind none of which but the last one the board has to be looked at; or none where the processor sleeps or the
+    /// next one would end after cycle `limit`. Answers how many.
     #[inline(always)]
-    pub fn run(&mut self, limit: u64, stops: (u16, u16)) -> u64
+    fn some<S: Stops>(&mut self, limit: u64, stops: S) -> u64
         requires { self.old.phase ≡ Phase.Boundary }
-        ensures made { Made limit stops self.old self.new result }
+        ensures made { Made limit (S.stands stops) self.old self.new result }
+        ensures none { result ≡ 0 → (limit < self.old.machine.cycle + length_of self.old.rom self.old.machine) ⊎ (sleeps self.old.machine ≡ true) }
+        ensures awake { 0 < result → sleeps self.old.machine ≡ false }
+    {
+        let scanned = self.scan(limit);
+        if scanned > 0 {
+            return scanned;
+        }
+        self.look_ahead();
+        let instructed = self.instructions(limit, stops);
+        if instructed > 0 {
+            return instructed;
+        }
+        if self.sleeps() {
+            return 0;
+        }
+        self.wait(limit)
+    }
+
+    /// Makes moves up to the first one behind which one of `stops` comes next, which finishes a picture, or behind which the processor falls
+    /// asleep, or some idle cycles where it sleeps already; fewer where the next move would end after cycle `limit`. Answers how many. The board
+    /// is at a boundary, before and after.
+    #[inline(always)]
+    pub fn run<S: Stops>(&mut self, limit: u64, stops: S) -> u64
+        requires { self.old.phase ≡ Phase.Boundary }
+        ensures made { Made limit (S.stands stops) self.old self.new result }
         ensures none { result ≡ 0 → limit < self.old.machine.cycle + length_of self.old.rom self.old.machine }
         ensures few { result ≤ limit }
     {
+        if self.sleeps() {
+            return self.sleep(limit);
+        }
         let pictures = self.wires.video.count();
         let mut made = 0;
         loop {

@@ -5,7 +5,7 @@ use Rattle.std.specs.List.{range_with_len, drop-map}
 use Rattle.std.proofs.lemmas.Bool.{le-ltb, leb-true}
 use Rattle.std.proofs.lemmas.List.{length-map, take-take}
 use Rattle.machine.specs.declared.Kind.{Kind}
-use Rattle.machine.specs.declared.Kind.TheVariants.{Idl, Ldn}
+use Rattle.machine.specs.declared.Kind.TheVariants.{Idl}
 use Rattle.machine.specs.Opcodes.{kind_of}
 use Rattle.vip_isa.specs.Rows.{size_of}
 use Rattle.vip_isa.specs.Texts.{instruction_text, operand_at}

@@ -7,6 +7,7 @@ pub mod Reaching
 pub mod Sleeping
 pub mod TargetRuns
 pub mod TargetMoving
+pub mod Watching
 pub mod Lines
 pub mod Disassembling
 pub mod TargetFolding

@@ -3,6 +3,9 @@ use Rattle.std.proofs.Common.{◌≡◌, inl, inr, ℕ, ◌+◌, ◌-◌, ◌<�
 use Rattle.std.specs.Prelude.{◌==◌, if◌then◌else◌, slice_get, find, []}
 use Rattle.std.proofs.lemmas.Bool.Decides.{nat_tests}
 use Rattle.machine.specs.Board.{Machine}
+use Rattle.machine.specs.Instruction.{Regs}
+use Rattle.vip_memory.specs.Contents.{Contents}
+use Rattle.vip_program.proofs.Runs.{script-by}
 use Rattle.chip8_lang.specs.Events.{is_stop}
 use Rattle.vip_board.specs.Seen.{Seen}
 use Rattle.vip_board.specs.Moves.{IfDone, moved}
@@ -11,12 +14,12 @@ use Rattle.vip_board.specs.declared.board.Moved.TheVariants.{Done, End}
 use Rattle.chip8_image.specs.Interpreters.{interpreter_of}
 use Rattle.vip_relation.specs.State.{VipState, interpreter, state_after, events_waiting}
 use Rattle.vip_relation.specs.Follows.{Follows}
-use Rattle.vip_relation.specs.Meets.{IsSame, MovesOn}
+use Rattle.vip_relation.specs.Meets.{IsSame, MovesBy, MovesOn}
 use Rattle.vip_words.specs.declared.debug_commands.Running.{Running}
 use Rattle.vip_words.specs.declared.debug_commands.Seeking.TheVariants.{Next, Break}
 use Rattle.vip_words.specs.declared.debug_commands.Showing.{Showing}
 use Rattle.vip_debug.specs.Answered.{shown}
-use Rattle.vip_debug.specs.TargetRun.{run_from}
+use Rattle.vip_debug.specs.TargetRun.{Makes as MakesMoves, run_from}
 use Rattle.vip_debug.specs.Commands.{came}
 use Rattle.vip_debug.specs.BoardParts.{HasMoved, Arrives as Arrived}
 use Rattle.vip_debug.specs.declared.game.Game.{Game}
@@ -37,6 +40,18 @@ game-moved u v (Done name) m =
   where
     same : IsSame u v
     same = record { edition = m.edition; start = m.start; script = ap (λ (b : Seen). b.script) m.board }
+
+-- so are some moves
+pub game-makes : (stops : Regs → Contents → Type 0) (limit : ℕ) (u v : VipState) (n : ℕ) → MovesBy limit stops u v n
+    → MakesMoves stops (is_stop (interpreter u)) limit u.board v.board n × (is_stop (interpreter v) ≡ is_stop (interpreter u)) × Leads n u v
+game-makes stops limit u v n m = (
+  record { moved = m.board; goes_on = m.goes_on; apart = m.apart; within = m.within },
+  ap (λ e. is_stop (interpreter_of e)) m.edition,
+  record { same = same; made = m.moves; met = m.met },
+)
+  where
+    same : IsSame u v
+    same = record { edition = m.edition; start = m.start; script = ap (λ (b : Seen). b.script) m.board ∙ script-by u.board n }
 
 -- what a target of a game has gone through the game has, and its borrow stays
 module _ (moves : ℕ) (old new : Game) where

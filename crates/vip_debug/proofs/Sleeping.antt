@@ -1,11 +1,15 @@
 -- The commands on a board that runs any program, whose run ends where the processor sleeps.
-use Rattle.std.proofs.Common.{◌≡◌, inl, inr, ℕ, ◌+◌, ◌-◌, ◌<◌, ◌≤◌, ◌↔◌, Bool, true, false, List, [], ◌∷◌, ◌++◌, length, refl, sym, ap, ◌∙◌, subst, arith, min, nat_le, Result, Ok, Err, IsErr}
+use Rattle.std.proofs.Common.{◌≡◌, inl, inr, ℕ, zero, suc, ◌+◌, ◌-◌, ◌<◌, ◌≤◌, ◌↔◌, Bool, true, false, List, [], ◌∷◌, ◌++◌, length, refl, sym, ap, ◌∙◌, subst, arith, min, nat_le, Result, Ok, Err, IsErr}
 use Rattle.std.specs.Prelude.{◌==◌, if◌then◌else◌, codes}
 use Rattle.std.proofs.lemmas.Bool.Decides.{nat_tests}
 use Rattle.machine.specs.Board.{Machine, length_of}
+use Rattle.machine.specs.Instruction.{Regs}
 use Rattle.machine.specs.Keys.{Event, held_at}
+use Rattle.machine.proofs.Runs.{cycle-move}
+use Rattle.vip_memory.specs.Contents.{Contents}
+use Rattle.vip_debug.proofs.TargetMoving.{later-on}
 use Rattle.machine.specs.Run.{run_to}
-use Rattle.vip_board.specs.Moves.{IfDone, moved, moved_by, name_of}
+use Rattle.vip_board.specs.Moves.{IfDone, moved, moved_by, name_of, Made}
 use Rattle.vip_board.specs.Seen.{Seen, held_by}
 use Rattle.vip_board.specs.declared.board.Moved.{Moved}
 use Rattle.vip_board.specs.declared.board.Moved.TheVariants.{Done, End}
@@ -22,7 +26,7 @@ use Rattle.vip_program.specs.Trace.{sleeps, up_to_sleep, idle_address, end_at, l
 use Rattle.vip_program.specs.declared.trace.ProgramEnd.{ProgramEnd}
 use Rattle.vip_program.specs.declared.trace.ProgramEnd.TheVariants as end
 use Rattle.vip_program.proofs.Runs.{rom-by, script-by, phase-by, machine-by}
-use Rattle.vip_debug.specs.TargetRun.{run_from, state_of, up_to_end, moves_until, Rests}
+use Rattle.vip_debug.specs.TargetRun.{Makes, run_from, state_of, up_to_end, moves_until, Rests}
 use Rattle.vip_debug.specs.Commands.{Came}
 use Rattle.vip_debug.specs.BoardParts.{Arrives, HasMoved}
 use Rattle.vip_debug.specs.Fold.{all_pieces}
@@ -62,6 +66,31 @@ rests-awake limit s r is ends = (λ e. inr (ends.0 e), by_case)
     by_case : Rests sleeps limit s → r ≡ End
     by_case (inl stop) = let bad : true ≡ false = sym stop ∙ is in cc
     by_case (inr over) = ends.1 over
+
+-- so are some moves
+module _ (stops : Regs → Contents → Type 0) (limit : ℕ) (s s' : Seen) (n : ℕ) (is : sleeps s.machine ≡ false) (made : Made limit stops s s' n) where
+  pub program-makes : 0 < n → Makes stops sleeps limit s s' n
+  program-makes some = record {
+    moved = made.moves;
+    goes_on = λ k after below. (made.passes k after below).asleep ∙ is;
+    apart = λ k after below. (made.passes k after below).apart;
+    within = made.within some;
+  }
+
+  none_late : (m : ℕ) → m ≡ n → limit < s.machine.cycle + length_of s.rom s.machine → n ≡ 0
+  none_late zero e over = sym e
+  none_late (suc m) e over =
+      let first = cycle-move s.rom (held_by s) s.machine in
+      let later = later-on m 1 n s (omega (arith, e)) in
+      let within : (moved_by n s).machine.cycle ≤ limit = subst (λ (x : Seen). x.machine.cycle ≤ limit) made.moves (made.within (omega (arith, e))) in
+      absurd (omega (arith, first, later, within, over))
+
+  pub rests-none : (n ≡ 0 → limit < s.machine.cycle + length_of s.rom s.machine) → (n ≡ 0) ↔ Rests sleeps limit s
+  rests-none none = (λ e. inr (none e), by_case)
+    where
+      by_case : Rests sleeps limit s → n ≡ 0
+      by_case (inl stop) = let bad : true ≡ false = sym stop ∙ is in cc
+      by_case (inr over) = none_late n refl over
 
 -- the borrow of the board stays
 pub program-stays : (moves : ℕ) (old new : Program) → HasMoved ProgramLeads moves old new → old.board.ghost_name ≡ new.board.ghost_name

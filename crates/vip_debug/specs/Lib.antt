@@ -8,6 +8,7 @@ pub mod ProgramLaws
 pub mod TargetRun
 pub mod BoardShown
 pub mod Commands
+pub mod Watching
 pub mod Answered
 pub mod BoardParts
 pub mod Fold

@@ -1,10 +1,13 @@
 -- A run of a board up to an end of its own.
-use Rattle.std.specs.Prelude.{◌≡◌, ◌⊎◌, ℕ, ◌+◌, ◌-◌, ◌<◌, if◌then◌else◌, Bool, true, List, [], ◌∷◌, length}
+use Rattle.std.specs.Prelude.{◌≡◌, ◌⊎◌, ℕ, ◌+◌, ◌-◌, ◌<◌, ◌≤◌, if◌then◌else◌, Bool, true, false, List, [], ◌∷◌, length}
 use Rattle.std.specs.List.{range_with_len}
 use Rattle.machine.specs.Board.{Machine, length_of}
 use Rattle.machine.specs.Keys.{Event, held_at}
 use Rattle.machine.specs.Run.{after_moves, run_to}
-use Rattle.vip_board.specs.Seen.{Seen}
+use Rattle.machine.specs.Instruction.{Regs}
+use Rattle.vip_memory.specs.Contents.{Contents}
+use Rattle.vip_board.specs.Moves.{moved_by, StartsInstruction}
+use Rattle.vip_board.specs.Seen.{Seen, contents_of}
 
 -- the ROM and the key script, the machine before the first move, and the states at which the run ends
 pub record Run : Type 0 where
@@ -37,3 +40,12 @@ ahead r cycle = range_with_len 1 (moves_until r cycle)
 -- there is no move to be made: the run ends here, or the move would end after the limit
 abbrev pub Rests : (Machine → Bool) → ℕ → Seen → Type 0
 Rests ends limit s = (ends s.machine ≡ true) ⊎ (limit < s.machine.cycle + length_of s.rom s.machine)
+
+-- A board made so many moves, the last of which ends at or before the limit. Behind none of the others the run ends, and no instruction comes next
+-- that is a stop: which are, the registers and memory say.
+pub record Makes (Stands : Regs → Contents → Type 0) (ends : Machine → Bool) (limit : ℕ) (s v : Seen) (n : ℕ) : Type 0 where
+  pub moved : v ≡ moved_by n s
+  pub goes_on : (k : ℕ) → 0 < k → k < n → ends (moved_by k s).machine ≡ false
+  pub apart :
+      (k : ℕ) → 0 < k → k < n → let u = moved_by k s in StartsInstruction u.machine → Stands u.machine.regs (contents_of u) → ⊥
+  pub within : v.machine.cycle ≤ limit

@@ -11,7 +11,7 @@ ghost use Rattle.vip_debug.specs.GameLaws.{GameLeads, leads-on};
 
 use crate::moves::{Change, go};
 use crate::target::Target;
-use vip_board::{Board, Moved};
+use vip_board::{Board, Moved, Stops};
 use vip_byte::MOST_CYCLE;
 use vip_relation::Vip;
 use vip_words::Running;
@@ -37,6 +37,10 @@ impl Target for Game<'_> {
 
     fn one_move(&mut self, limit: u64) -> Moved {
         self.vip.one_move(limit)
+    }
+
+    fn move_on<S: Stops>(&mut self, limit: u64, stops: S) -> u64 {
+        self.vip.move_on(limit, stops)
     }
 }
 

@@ -27,6 +27,7 @@ mod registers;
 mod run;
 mod show;
 mod target;
+mod watched;
 
 pub use moves::Change;
 pub use program::run_program_commands;

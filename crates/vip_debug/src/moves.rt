@@ -1,17 +1,42 @@
 //! The commands that make moves, whatever runs on the board.
 
-ghost use Rattle.std.specs.Prelude.{◌≡◌, ◌≤◌, nat_le, true};
+ghost use Rattle.std.specs.Prelude.{◌≡◌, ◌<◌, ◌≤◌, ◌↔◌, nat_le, true};
 ghost use Rattle.vip_cpu.specs.declared.cpu.Phase.{Phase};
-ghost use Rattle.vip_debug.specs.TargetRun.{run_from};
+ghost use Rattle.vip_debug.specs.TargetRun.{Makes, Rests, run_from};
 ghost use Rattle.vip_debug.specs.Commands.{after_steps, at_address, at_change, at_cycle, came, starts_at};
 ghost use Rattle.vip_debug.specs.BoardParts.{Arrives, HasMoved, IsChange, IsShown};
 
 use crate::bytes::{Stretch, read_stretch};
 use crate::target::Target;
+use crate::watched::Watched;
 use vip_board::{Board, Moved};
 use vip_byte::{Buffer, MOST_CYCLE};
 use vip_program::move_text;
 use vip_words::Running;
+
+/// Makes at least one move, and at most so many, of which there is one. Answers how many; none comes exactly where the run has ended or the next
+/// move would end after the limit, and changes nothing.
+fn make_some<T: Target>(target: &mut T, most: u64, limit: u64) -> u64
+    requires boundary { (T.seen target.old).phase ≡ Phase.Boundary }
+    requires limit { limit ≤ MOST_CYCLE }
+    requires within { (T.seen target.old).machine.cycle ≤ limit }
+    requires some { 0 < most }
+    requires few { most ≤ 0xFFFFFFFF }
+    ensures few { result ≤ most }
+    ensures end { (result ≡ 0) ↔ Rests (T.ends target.old) limit (T.seen target.old) }
+    ensures kept { result ≡ 0 → target.new ≡ target.old }
+    ensures moved { 0 < result → Makes (λ regs memory. ⊥) (T.ends target.old) limit (T.seen target.old) (T.seen target.new) result × (T.ends target.new ≡ T.ends target.old) × T.leads result target.old target.new }
+{
+    // each move takes a cycle at least
+    let made = target.move_on(limit.min(target.board().now() + most), ());
+    if made > 0 {
+        return made;
+    }
+    match target.one_move(limit) {
+        Moved::End => 0,
+        Moved::Done(_) => 1,
+    }
+}
 
 /// Makes so many moves, or those up to the limit and the end of the run. Answers whether it made all.
 fn make_moves<T: Target>(target: &mut T, moves: u32, limit: u64) -> bool
@@ -21,10 +46,13 @@ fn make_moves<T: Target>(target: &mut T, moves: u32, limit: u64) -> bool
     ensures comes { let r = run_from (T.ends target.old) (T.seen target.old) in Arrives limit r (after_steps r limit moves) (T.seen target.new) result }
     ensures moved { let r = run_from (T.ends target.old) (T.seen target.old) in HasMoved T.leads (after_steps r limit moves).moves target.old target.new }
 {
-    for _move in 0..moves {
-        if let Moved::End = target.one_move(limit) {
+    let mut left = u64::from(moves);
+    while left > 0 {
+        let made = make_some(target, left, limit);
+        if made == 0 {
             return false;
         }
+        left -= made;
     }
     true
 }
@@ -38,7 +66,7 @@ fn move_to_cycle<T: Target>(target: &mut T, cycle: u64, limit: u64)
     ensures moved { let r = run_from (T.ends target.old) (T.seen target.old) in HasMoved T.leads (at_cycle r limit cycle).moves target.old target.new }
 {
     let last = cycle.min(limit);
-    while let Moved::Done(_) = target.one_move(last) {}
+    while target.move_on(last, ()) > 0 {}
 }
 
 /// Whether the next move is the instruction at an address. The board is at a boundary.
@@ -59,7 +87,7 @@ fn move_to_address<T: Target>(target: &mut T, address: u16, limit: u64) -> bool
     ensures comes { let r = run_from (T.ends target.old) (T.seen target.old) in Arrives limit r (at_address r limit address) (T.seen target.new) result }
     ensures moved { let r = run_from (T.ends target.old) (T.seen target.old) in HasMoved T.leads (at_address r limit address).moves target.old target.new }
 {
-    while let Moved::Done(_) = target.one_move(limit) {
+    while target.move_on(limit, address) > 0 {
         if starts_at(target.board(), address) {
             return true;
         }
@@ -103,7 +131,14 @@ fn move_to_change<T: Target>(
     ensures shown { let r = run_from (T.ends target.old) (T.seen target.old) in result ≡ true → IsChange r address count (at_change r limit address count).moves change.new }
 {
     read_stretch(target.board().memory(), address, count, &mut change.before);
+    let watched = Watched { address, count };
     loop {
+        if !watched.may_change_next(target.board()) {
+            if target.move_on(limit, watched) == 0 {
+                return false;
+            }
+            continue;
+        }
         change.line.clear();
         move_text(target.board(), &mut change.line);
         if let Moved::End = target.one_move(limit) {

@@ -15,7 +15,7 @@ ghost use Rattle.vip_debug.specs.ProgramLaws.{ProgramLeads, program-leads-on};
 use crate::answer::{put_completed, put_showing};
 use crate::moves::{Change, go};
 use crate::target::Target;
-use vip_board::{Board, Moved};
+use vip_board::{Board, Moved, Stops};
 use vip_byte::{Buffer, MOST_CYCLE};
 use vip_outside::{Failed, Sink};
 use vip_program::{ProgramEnd, ending, trace_moves};
@@ -45,6 +45,13 @@ impl Target for Program<'_> {
         match ending(self.board) {
             ProgramEnd::Idle(_) => Moved::End,
             ProgramEnd::AtLimit => self.board.to_boundary(limit),
+        }
+    }
+
+    fn move_on<S: Stops>(&mut self, limit: u64, stops: S) -> u64 {
+        match ending(self.board) {
+            ProgramEnd::Idle(_) => 0,
+            ProgramEnd::AtLimit => self.board.run(limit, stops),
         }
     }
 }

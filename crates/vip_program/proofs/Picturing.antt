@@ -1,13 +1,16 @@
 -- A run whose pictures are put: those of the moves made are.
-use Rattle.std.proofs.Common.{◌≡◌, ℕ, ◌+◌, ◌≤◌, List, [], ◌∷◌, ◌++◌, true, false, refl, sym, ap, ◌∙◌, subst, arith, add-one}
+use Rattle.std.proofs.Common.{◌≡◌, ℕ, zero, suc, ◌+◌, ◌-◌, ◌<◌, ◌≤◌, List, [], ◌∷◌, ◌++◌, true, false, refl, sym, ap, ◌∙◌, subst, arith, add-one}
 use Rattle.std.specs.Prelude.{Option, Some, Result, Ok, Err, IsErr}
 use Rattle.machine.specs.Pictures.{windows_ended}
-use Rattle.machine.specs.Board.{Machine, move}
+use Rattle.std.proofs.lemmas.Bool.{le-leb, leb-true}
+use Rattle.machine.specs.Board.{Machine, length_of, move}
 use Rattle.machine.specs.Keys.{held_at}
 use Rattle.machine.specs.Run.{states}
-use Rattle.machine.proofs.Runs.{later-move}
+use Rattle.machine.proofs.Runs.{cycle-move, later-move}
 use Rattle.vip_board.proofs.Along.{states-more, soon-move, in-turn, Later, later-states}
-use Rattle.vip_board.specs.Moves.{moved as moved_step, moved_by}
+use Rattle.vip_board.proofs.Shown.{carries-on}
+use Rattle.vip_board.proofs.Through.{later-by, phase-by}
+use Rattle.vip_board.specs.Moves.{moved as moved_step, moved_by, sleeps, Made}
 use Rattle.vip_board.specs.Seen.{Seen, held_by}
 use Rattle.vip_board.specs.Shown.{HasPictures, CarriesOn}
 use Rattle.vip_cpu.specs.declared.cpu.Phase.TheVariants.{Boundary}
@@ -20,7 +23,7 @@ use Rattle.vip_text.specs.Screens.{picture_file}
 use Rattle.vip_program.specs.Moves.{goes_on, machine_after}
 use Rattle.vip_program.proofs.Frames.{More, Next, next, more}
 use Rattle.vip_program.proofs.Frames.Next.{NoPicture, OnePicture}
-use Rattle.vip_program.proofs.Runs.{rom-by, script-by, machine-by, move-within, moves-go, moves-rest}
+use Rattle.vip_program.proofs.Runs.{awake, ends-in-time, rom-by, script-by, machine-by, move-within, moves-go, moves-rest}
 use Rattle.vip_program.specs.Pictures.{PictureAnswers, made, picture_files, pictured}
 use Rattle.vip_program.proofs.Stretches.{states-append}
 use Rattle.vip_program.specs.Trace.{ShowsProgram as ShowsAll, ShowAnswers, end_at, last_machine, moves_to}
@@ -198,6 +201,76 @@ module _ (limit : ℕ) (start : Seen) (out : SinkMeaning) where
         → (answer : Result ProgramEnd Failed) → IsErr answer → ShowAnswers (pictured start limit) limit start out out'' answer
     picturing-fault other out'' e put (Ok end) bad = cc
     picturing-fault other out'' e put (Err f) bad = picturing-fails other out'' e put
+
+  -- of some moves the last one is left, and no other has finished a picture
+  pub record Last (v w : Seen) (out' : SinkMeaning) : Type 0 where
+    pub before : Seen
+    pub here : Picturing limit start before out out'
+    pub goes : goes_on limit before.rom before.machine ≡ true
+    pub moved : w ≡ moved_step before
+    pub carries : CarriesOn before w
+    pub boundary : w.phase ≡ Boundary
+    pub count : before.pictures.count ≡ v.pictures.count
+    pub later : v.machine.cycle < w.machine.cycle
+    pub within : w.machine.cycle ≤ limit
+
+  module _ (v w : Seen) (out' : SinkMeaning) (t : Picturing limit start v out out') (goes : goes_on limit v.rom v.machine ≡ true) (n : ℕ)
+      (made : Made limit (λ regs memory. ⊥) v w n) where
+    ends : 0 < n → (moved_by n v).machine.cycle ≤ limit
+    ends some = subst (λ (s : Seen). s.machine.cycle ≤ limit) made.moves (made.within some)
+
+    -- each of the moves is made
+    goes_by : (k : ℕ) → k < n → goes_on limit (moved_by k v).rom (moved_by k v).machine ≡ true
+    goes_by zero below = goes
+    goes_by (suc k) below =
+        let s = moved_by (suc k) v in
+        let soon = soon_by (n - suc (suc k)) (suc (suc k)) (omega (arith, below)) in
+        let cycle = cycle-move s.rom (held_by s) s.machine in
+        rw (made.passes (suc k) (omega arith) below).asleep
+        (rw (awake (sleeps v.machine) _ goes) (le-leb (s.machine.cycle + length_of s.rom s.machine) limit (omega (arith, cycle, soon))))
+      where
+        soon_by : (j k : ℕ) → k + j ≡ n → (moved_by k v).machine.cycle ≤ limit
+        soon_by zero k e = let same : k ≡ n = omega (arith, e) in subst (λ m. (moved_by m v).machine.cycle ≤ limit) (sym same) (ends (omega (arith, below)))
+        soon_by (suc j) k e =
+            let s = moved_by k v in
+            let later = later-move s.rom (held_by s) s.machine in
+            omega (arith, soon_by j (suc k) (omega (arith, e)), later)
+
+    count_by : (k : ℕ) → k < n → (moved_by k v).pictures.count ≡ v.pictures.count
+    count_by zero below = refl
+    count_by (suc k) below = (made.passes (suc k) (omega arith) below).count
+
+    picturing_by : (k : ℕ) → k < n → Picturing limit start (moved_by k v) out out'
+    picturing_by zero below = t
+    picturing_by (suc k) below =
+        let s = moved_by k v in
+        let earlier : k < n = omega (arith, below) in
+        picturing-none s (moved_by (suc k) v) out' (picturing_by k earlier) (goes_by k earlier) refl (carries-on s) (phase-by (suc k) v ∙ t.boundary)
+        (count_by (suc k) below ∙ sym (count_by k earlier))
+
+    last_of : (k : ℕ) → suc k ≡ n → Last v w out'
+    last_of k e =
+        let s = moved_by k v in
+        let below : k < n = omega (arith, e) in
+        let moved : w ≡ moved_step s = made.moves ∙ ap (λ m. moved_by m v) (sym e) in
+        record {
+          before = s;
+          here = picturing_by k below;
+          goes = goes_by k below;
+          moved = moved;
+          carries = subst (CarriesOn s) (sym moved) (carries-on s);
+          boundary = ap (λ (x : Seen). x.phase) moved ∙ phase-by k v ∙ t.boundary;
+          count = count_by k below;
+          later = subst (λ (x : Seen). v.machine.cycle < x.machine.cycle) (sym made.moves) (omega (arith, later-by n v, e));
+          within = made.within (omega (arith, e));
+        }
+
+    pub picturing-last : (n ≡ 0 → limit < v.machine.cycle + length_of v.rom v.machine) → Last v w out'
+    picturing-last none = by_count n refl
+      where
+        by_count : (m : ℕ) → m ≡ n → Last v w out'
+        by_count zero e = absurd (omega (arith, none (sym e), leb-true _ _ (ends-in-time (sleeps v.machine) _ goes)))
+        by_count (suc k) e = last_of k e
 
   -- no move is left
   pub picturing-done : (v : Seen) (out' : SinkMeaning) → Picturing limit start v out out' → goes_on limit v.rom v.machine ≡ false → (end : ProgramEnd)

@@ -70,20 +70,21 @@ fewer (b ∷ bs) = by_test (sleeps b) (fewer bs)
     by_test true h = omega arith
     by_test false h = omega (arith, h)
 
+-- a machine whose move is made doesn't sleep, and the move ends in time
+pub awake : (s t : Bool) → (not s && t) ≡ true → s ≡ false
+awake false t h = refl
+awake true t h = sym h
+
+pub ends-in-time : (s t : Bool) → (not s && t) ≡ true → t ≡ true
+ends-in-time false t h = h
+ends-in-time true true h = refl
+ends-in-time true false h = h
+
 module _ (rom : List ℕ) (held : ℕ → Keys) (limit : ℕ) where
-  awake : (s t : Bool) → (not s && t) ≡ true → s ≡ false
-  awake false t h = refl
-  awake true t h = sym h
-
-  ends_in_time : (s t : Bool) → (not s && t) ≡ true → t ≡ true
-  ends_in_time false t h = h
-  ends_in_time true true h = refl
-  ends_in_time true false h = h
-
   -- a move that is made ends within the limit
   pub move-within : (b : Machine) → goes_on limit rom b ≡ true → (move rom held b).cycle ≤ limit
   move-within b goes =
-      let t : nat_le (b.cycle + length_of rom b) limit ≡ true = ends_in_time (sleeps b) _ goes in
+      let t : nat_le (b.cycle + length_of rom b) limit ≡ true = ends-in-time (sleeps b) _ goes in
       let e = cycle-move rom held b in
       grind (arith, nat_tests)
 

@@ -1,6 +1,6 @@
 -- The run of a program up to a limit, and what is written of it: a line for each instruction and each interrupt, one for each stretch of idle
 -- cycles, and one for the DMA cycles of each raster line.
-use Rattle.std.specs.Prelude.{◌≡◌, ◌≤◌, ℕ, ◌+◌, ◌-◌, ◌/◌, ◌%◌, ◌==◌, ◌&&◌, not, if◌then◌else◌, Bool, true, false, min, List, [], ◌∷◌, length, map, Result, Ok, Err}
+use Rattle.std.specs.Prelude.{◌≡◌, ◌≤◌, ℕ, ◌+◌, ◌-◌, ◌/◌, ◌%◌, ◌==◌, if◌then◌else◌, Bool, true, false, min, List, [], ◌∷◌, length, map, Result, Ok, Err}
 use Rattle.machine.specs.Board.{Machine, Case, case_of}
 use Rattle.machine.specs.Board.Case.{Dma, Idle}
 use Rattle.machine.specs.Instruction.{at}
@@ -8,6 +8,7 @@ use Rattle.machine.specs.Keys.{Keys}
 use Rattle.machine.specs.Run.{after_moves, states, run_to}
 use Rattle.machine.specs.Signals.{line_cycles}
 use Rattle.vip_board.specs.Moves.{moved_by}
+pub use Rattle.vip_board.specs.Moves.{sleeps}
 use Rattle.vip_board.specs.Seen.{Seen, held_by}
 use Rattle.vip_outside.specs.Sink.{SinkMeaning}
 use Rattle.vip_outside.specs.Pieces.{PutsAll, FailsWithin}
@@ -17,10 +18,6 @@ use Rattle.vip_program.specs.declared.trace.ProgramEnd.{ProgramEnd}
 use Rattle.vip_program.specs.declared.trace.ProgramEnd.TheVariants as end
 
 -- ---- the run
-
--- The processor idles and no signal can wake it, since the display is off: only an instruction turns it on.
-abbrev pub sleeps : Machine → Bool
-sleeps b = b.regs.idle && not b.on
 
 -- the states of a run up to the first that sleeps
 unfoldable pub up_to_sleep : List Machine → List Machine

@@ -14,20 +14,12 @@ ghost use Rattle.vip_byte.specs.Room.{HasRoom};
 ghost use Rattle.vip_cpu.specs.declared.cpu.Phase.TheVariants.{Boundary};
 ghost use Rattle.vip_program.specs.Lines.{dma_text, interrupt_text, line_of, moves_text};
 ghost use Rattle.vip_program.specs.Moves.{goes_on, is_idle, is_scan, MakesAll, MakesStretch, TakesLine};
-ghost use Rattle.vip_program.specs.Trace.{sleeps};
 
 use crate::line::{put_cycle, put_instruction};
 use vip_board::{Board, Move};
 use vip_byte::{Buffer, MOST_CYCLE, hex2, hex4, put, put_number};
 use vip_cpu::Cpu;
 use vip_video::LINE_CYCLES;
-
-/// Whether the processor idles and no signal can wake it.
-pub fn sleeps(board: &Board) -> bool
-    ensures { result ≡ sleeps board.now.machine }
-{
-    board.cpu().idle() && !board.video().is_on()
-}
 
 /// The raster line of the present cycle, counted from reset.
 fn raster_line(board: &Board) -> u64
@@ -41,7 +33,7 @@ pub fn goes_on(board: &Board, limit: u64) -> bool
     requires within { board.now.machine.cycle ≤ limit }
     ensures { result ≡ goes_on limit board.now.rom board.now.machine }
 {
-    !sleeps(board) && board.next_length() <= limit - board.now()
+    !board.sleeps() && board.next_length() <= limit - board.now()
 }
 
 /// Whether the next move is made and is an idle cycle.

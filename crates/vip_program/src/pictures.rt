@@ -8,7 +8,7 @@ ghost use Rattle.vip_program.specs.Pictures.{PictureAnswers, pictured};
 ghost use Rattle.vip_program.specs.Trace.{ShowAnswers};
 ghost use Rattle.vip_text.specs.Screens.{picture_file};
 
-use crate::moves::{goes_on, make};
+use crate::moves::goes_on;
 use crate::trace::{ProgramEnd, ending};
 use vip_board::Board;
 use vip_byte::{Buffer, MOST_CYCLE};
@@ -49,7 +49,7 @@ pub fn show_pictures<O: Sink>(
 {
     while goes_on(board, limit) {
         let before = finished(board);
-        make(board, limit);
+        board.run(limit, ());
         if finished(board) != before {
             put_picture(board, out)?;
         }

@@ -4,7 +4,7 @@ ghost use Rattle.std.specs.Prelude.{◌≡◌, ◌≤◌};
 ghost use Rattle.vip_cpu.specs.declared.cpu.Phase.TheVariants.{Boundary};
 ghost use Rattle.vip_program.specs.Trace.{ShowAnswers, TraceAnswers, end_at, program_trace};
 
-use crate::moves::{goes_on, next_line, sleeps};
+use crate::moves::{goes_on, next_line};
 use vip_board::Board;
 use vip_byte::{Buffer, MOST_CYCLE, add16};
 use vip_outside::{Failed, Sink};
@@ -22,7 +22,7 @@ pub enum ProgramEnd {
 pub fn ending(board: &Board) -> ProgramEnd
     ensures { result ≡ end_at board.now.machine }
 {
-    if sleeps(board) {
+    if board.sleeps() {
         let cpu = board.cpu();
         ProgramEnd::Idle(add16(cpu.r(cpu.p()), 0xFFFF))
     } else {

@@ -1,6 +1,7 @@
 -- A run, from a call's entry on: moves alone, up to the next event or the limit.
-use Rattle.std.proofs.Common.{◌≡◌, ℕ, ◌+◌, ◌-◌, ◌<◌, ◌≤◌, Bool, true, false, List, [], ◌∷◌, ◌++◌, length, drop, refl, sym, ap, ◌∙◌, subst, arith, Some}
+use Rattle.std.proofs.Common.{◌≡◌, inr, ℕ, ◌+◌, ◌-◌, ◌<◌, ◌≤◌, Bool, true, false, List, [], ◌∷◌, ◌++◌, length, drop, refl, sym, ap, ◌∙◌, subst, subst₂, arith, Some}
 use Rattle.machine.specs.Board.{length_of}
+use Rattle.machine.specs.Instruction.{Regs}
 use Rattle.machine.specs.Keys.{Event as KeyEvent, held_at}
 use Rattle.machine.specs.Pictures.{picture_of}
 use Rattle.machine.specs.Run.{run_to}
@@ -8,14 +9,16 @@ use Rattle.chip8_lang.specs.Events.{Event, is_stop}
 use Rattle.chip8_lang.specs.Events.Event.{Picture, Dispatch, Stopped}
 use Rattle.std.proofs.lemmas.List.{length-drop}
 use Rattle.chip8_lang.specs.View.{view_at}
-use Rattle.vip_board.specs.Moves.{moved, name_of}
-use Rattle.vip_board.specs.Seen.{Seen}
+use Rattle.vip_board.specs.Moves.{moved, moved_by, name_of, StartsInstruction}
+use Rattle.vip_board.specs.Seen.{Seen, contents_of}
+use Rattle.vip_memory.specs.Contents.{Contents}
+use Rattle.chip8_image.specs.Interpreters.{interpreter_of}
 use Rattle.vip_board.specs.declared.board.Move.{Move}
 use Rattle.vip_relation.specs.State.{VipState, events_from, machine_of, interpreter, events_to, events_left, events_waiting, run_of, moves_by, screen_bytes}
 use Rattle.vip_relation.specs.Stops.{stop_record}
 use Rattle.vip_relation.specs.Follows.{Follows}
-use Rattle.vip_relation.specs.Meets.{IsSame, MeetsOne, TellsSame, MeetsNext, HasStopped, MovesOn}
-use Rattle.vip_relation.specs.Parts.{MeetsFirst, MeetsAll, Passes, Runs, Steps}
+use Rattle.vip_relation.specs.Meets.{IsSame, MeetsOne, TellsSame, MeetsNext, HasStopped, Rests, MovesBy, MovesOn}
+use Rattle.vip_relation.specs.Parts.{MeetsFirst, MeetsAll, Makes, Passes, Runs, Steps}
 use Rattle.vip_relation.specs.declared.run.Met.{Met}
 use Rattle.vip_relation.specs.declared.run.Met.TheVariants.{Picture as PictureMet, Dispatch as DispatchMet, Stopped as StoppedMet, End}
 use Rattle.vip_relation.proofs.Steps.{none-left, all-moves, none-before, moves-before, others-to}
@@ -184,6 +187,10 @@ no-stop v met goes_on = by_test (is_stop (interpreter v) v.board.machine) refl
 
 -- ---- one move
 
+-- where the events that wait are met, the board rests as before
+pub rests-met : (limit : ℕ) (u v : VipState) → MeetsAll u v → limit < v.board.machine.cycle + length_of v.board.rom v.board.machine → Rests limit u
+rests-met limit u v all over = inr (subst (λ (b : Seen). limit < b.machine.cycle + length_of b.rom b.machine) all.board over)
+
 -- a move with all events met before it and after it
 pub moves-on : (u v w x : VipState) (name : Move) → MeetsAll u v → Steps v w name → MeetsAll w x → Follows x → MovesOn u x name
 moves-on u v w x name before step after follows =
@@ -193,5 +200,24 @@ moves-on u v w x name before step after follows =
       moves = after.moves ∙ ap (λ (s : VipState). s.moves) step.state ∙ ap (λ n. n + 1) before.moves;
       board = after.board ∙ ap (λ (s : VipState). s.board) step.state ∙ ap moved before.board;
       move = step.move ∙ ap (λ (s : Seen). name_of s.machine) before.board;
+      met = omega (arith, follows.within, sym (length-drop x.met (events_to x x.board.machine.cycle)) ∙ ap length after.met);
+    }
+
+-- moves up to an event with all events met before them and after them
+pub moves-by : (limit : ℕ) (stops : Regs → Contents → Type 0) (u v w x : VipState) (n : ℕ) → MeetsAll u v → Runs limit v w → Makes stops v w n → MeetsAll w x
+    → Follows x → MovesBy limit stops u x n
+moves-by limit stops u v w x n before run makes after follows =
+    record {
+      edition = after.edition ∙ ap (λ (s : VipState). s.edition) run.steps.state ∙ ap (λ (s : VipState). s.edition) run.passes.state ∙ before.edition;
+      start = after.start ∙ ap (λ (s : VipState). s.start) run.steps.state ∙ ap (λ (s : VipState). s.start) run.passes.state ∙ before.start;
+      moves = after.moves ∙ makes.moves ∙ ap (λ m. m + n) before.moves;
+      board = after.board ∙ makes.board ∙ ap (moved_by n) before.board;
+      goes_on =
+          λ k some below. subst₂ (λ e b. is_stop (interpreter_of e) (moved_by k b).machine ≡ false) before.edition before.board (makes.goes_on k some below);
+      apart =
+          λ k some below.
+          subst (λ b. StartsInstruction (moved_by k b).machine → stops (moved_by k b).machine.regs (contents_of (moved_by k b)) → ⊥) before.board
+          (makes.apart k some below);
+      within = subst (λ (b : Seen). b.machine.cycle ≤ limit) (sym after.board) run.within;
       met = omega (arith, follows.within, sym (length-drop x.met (events_to x x.board.machine.cycle)) ∙ ap length after.met);
     }

@@ -1,15 +1,16 @@
 -- Moves one after another, behind none of which but the last one an event waits.
-use Rattle.std.proofs.Common.{◌≡◌, ℕ, zero, suc, ◌+◌, ◌-◌, ◌<◌, ◌≤◌, inl, inr, Bool, true, false, ◌&&◌, [], refl, sym, ap, ◌∙◌, subst, subst₂, arith}
+use Rattle.std.proofs.Common.{◌≡◌, ◌⊎◌, ℕ, zero, suc, ◌+◌, ◌-◌, ◌<◌, ◌≤◌, inl, inr, Bool, true, false, ◌&&◌, [], refl, sym, ap, ◌∙◌, subst, subst₂, arith}
 use Rattle.std.specs.Prelude.{◌==◌}
 use Rattle.std.proofs.lemmas.Bool.Decides.{nat_tests}
-use Rattle.machine.specs.Instruction.{at}
+use Rattle.machine.specs.Instruction.{Regs, at}
 use Rattle.machine.specs.Board.{Machine, Case, case_of}
 use Rattle.machine.specs.Board.Case.{Dma, Interrupt, Idle, Instruction}
 use Rattle.machine.proofs.Runs.{later-move}
 use Rattle.chip8_lang.specs.Events.{is_instruction, is_at, is_dispatch, is_stop}
 use Rattle.chip8_lang.specs.Places.{Interpreter}
-use Rattle.vip_board.specs.Moves.{moved, moved_by, name_of, StartsInstruction, StandsAt, Passes as BoardPasses}
-use Rattle.vip_board.specs.Seen.{Seen, held_by}
+use Rattle.vip_board.specs.Moves.{moved, moved_by, name_of, StartsInstruction, Passes as BoardPasses}
+use Rattle.vip_board.specs.Seen.{Seen, contents_of, held_by}
+use Rattle.vip_memory.specs.Contents.{Contents}
 use Rattle.vip_board.proofs.Shown.{carries-on}
 use Rattle.chip8_image.specs.Interpreters.{interpreter_of}
 use Rattle.vip_relation.specs.State.{VipState, interpreter, events_waiting, most_cycles}
@@ -54,18 +55,19 @@ not_true : (x : Bool) → (x ≡ true → ⊥) → x ≡ false
 not_true true h = absurd (h refl)
 not_true false h = refl
 
-abbrev pub stops : Interpreter → ℕ × ℕ
-stops i = (i.fetch, i.halt)
+-- the next opcode has one of these addresses
+abbrev pub stops : Interpreter → Regs → Contents → Type 0
+stops i regs memory = (at regs regs.p ≡ i.fetch) ⊎ (at regs regs.p ≡ i.halt)
 
-module _ (i : Interpreter) (b : Machine) (apart : StartsInstruction b → StandsAt (stops i) b → ⊥) where
+module _ (i : Interpreter) (b : Machine) (m : Contents) (apart : StartsInstruction b → stops i b.regs m → ⊥) where
   no_dispatch : is_dispatch i b ≡ false
   no_dispatch = not_true (is_dispatch i b) (λ h. let t = at_label 4 i.fetch b h in apart t.0 (inl t.1))
 
-  no_stop : is_stop i b ≡ false
-  no_stop = not_true (is_stop i b) (λ h. let t = at_label 3 i.halt b h in apart t.0 (inr t.1))
+  pub no-stop-here : is_stop i b ≡ false
+  no-stop-here = not_true (is_stop i b) (λ h. let t = at_label 3 i.halt b h in apart t.0 (inr t.1))
 
   no_point : point_of i b ≡ Other
-  no_point = rw (no_stop, no_dispatch)
+  no_point = rw (no-stop-here, no_dispatch)
 
 -- ---- move by move
 
@@ -111,8 +113,8 @@ module _ (v : VipState) (n : ℕ) (passes : (k : ℕ) → 0 < k → k ≤ n → 
         follows = follows-on (after_some moves k) a.follows a.met a.runs (carries-on s) next;
         met =
             waits-point (after_some moves k) a.follows a.met a.runs (carries-on s) (p.count ∙ sym (same_count k (omega (arith, l))))
-            ∙ ap (λ p. point_events p (moved s).machine) (no_point (interpreter v) (moved s).machine p.apart);
-        runs = no_stop (interpreter v) (moved s).machine p.apart;
+            ∙ ap (λ p. point_events p (moved s).machine) (no_point (interpreter v) (moved s).machine (contents_of (moved s)) p.apart);
+        runs = no-stop-here (interpreter v) (moved s).machine (contents_of (moved s)) p.apart;
       }
 
   pub stands : (k moves : ℕ) → moves ≡ v.moves + k → k ≤ n → Stands moves k
@@ -215,7 +217,7 @@ by_size a keeps met runs (suc n) limit small passes in_time =
     by_fields a keeps met runs (suc n) limit small passes in_time Other Nothing
     (record {
       follows = follows-run here stood_here.follows;
-      point = sym (no_point (interpreter_of a.edition) (moved_by (suc n) a.board).machine (passes (suc n) (omega arith) (omega arith)).apart);
+      point = sym (no_point (interpreter_of a.edition) (moved_by (suc n) a.board).machine (contents_of (moved_by (suc n) a.board)) (passes (suc n) (omega arith) (omega arith)).apart);
       waiting = stood_here.met;
       last = named-run here stood_here.follows a.last keeps.last;
     })

@@ -1,5 +1,5 @@
 -- What a run tells of the last dispatch point met, after a call: what it told before, unless it came to one.
-use Rattle.std.proofs.Common.{◌≡◌, ◌⊎◌, inl, inr, ℕ, Bool, true, false, List, [], ◌∷◌, Some, None, length, replicate, refl, sym, ap, ◌∙◌, subst}
+use Rattle.std.proofs.Common.{◌≡◌, ◌⊎◌, inl, inr, ℕ, zero, suc, ◌<◌, Bool, true, false, List, [], ◌∷◌, Some, None, length, replicate, refl, sym, ap, ◌∙◌, subst, arith}
 use Rattle.std.specs.Option.{option_map}
 use Rattle.chip8_lang.specs.Events.{Event, is_stop}
 use Rattle.chip8_lang.specs.Events.Event.{Picture, Dispatch, Stopped}
@@ -11,7 +11,7 @@ use Rattle.vip_relation.specs.Meets.{IsSame, TellsSame, MeetsNext, HasStopped, S
 use Rattle.vip_board.specs.Moves.{IfDone}
 use Rattle.vip_board.specs.declared.board.Moved.{Moved}
 use Rattle.vip_board.specs.declared.board.Moved.TheVariants.{Done, End}
-use Rattle.vip_relation.specs.Parts.{Steps}
+use Rattle.vip_relation.specs.Parts.{Runs, Steps}
 use Rattle.vip_relation.specs.Told.{Tells}
 use Rattle.vip_relation.specs.declared.run.Met.{Met}
 use Rattle.vip_relation.specs.declared.run.Met.TheVariants as met
@@ -120,6 +120,27 @@ tells-moved a t w (Done name) follows rests made =
             script = ap (λ (v : VipState). v.board.script) made.state;
           };
       told = record { last = ap (λ (v : VipState). v.last) made.state; shown = ap (λ (v : VipState). v.shown) made.state };
+    })
+
+-- moves up to an event, which meet nothing either
+pub tells-run : (a : Inside) → Tells a → (limit : ℕ) (w : VipState) (n : ℕ) → Follows w → (n ≡ 0 → w ≡ a.run) → (0 < n → Runs limit a.run w)
+    → Tells (record a { run = w })
+tells-run a t limit w zero follows rests runs = subst (λ v. Tells (record a { run = v })) (sym (rests refl)) t
+tells-run a t limit w (suc n) follows rests runs =
+    let run = runs (omega arith) in
+    tells-same a t w follows
+    (record {
+      same =
+          record {
+            edition = ap (λ (v : VipState). v.edition) run.steps.state ∙ ap (λ (v : VipState). v.edition) run.passes.state;
+            start = ap (λ (v : VipState). v.start) run.steps.state ∙ ap (λ (v : VipState). v.start) run.passes.state;
+            script = ap (λ (v : VipState). v.board.script) run.steps.state ∙ run.passes.script;
+          };
+      told =
+          record {
+            last = ap (λ (v : VipState). v.last) run.steps.state ∙ ap (λ (v : VipState). v.last) run.passes.state;
+            shown = ap (λ (v : VipState). v.shown) run.steps.state ∙ ap (λ (v : VipState). v.shown) run.passes.state;
+          };
     })
 
 -- ---- a run as it begins

@@ -1,5 +1,5 @@
 -- What the calls answer, and what they make of a run.
-use Rattle.std.specs.Prelude.{◌≡◌, ℕ, ◌+◌, ◌<◌, ◌≤◌, ◌⊎◌, true, List, [], ◌∷◌, length, max, Some, Result, Ok, Err}
+use Rattle.std.specs.Prelude.{◌≡◌, ℕ, ◌+◌, ◌<◌, ◌≤◌, ◌⊎◌, true, false, List, [], ◌∷◌, length, max, Some, Result, Ok, Err}
 use Rattle.machine.specs.Board.{Machine, length_of}
 use Rattle.machine.specs.Keys.{Event as KeyEvent}
 use Rattle.machine.specs.Pictures.{window_end, picture_of}
@@ -9,7 +9,10 @@ use Rattle.chip8_lang.specs.Events.{Event, is_stop}
 use Rattle.chip8_lang.specs.Events.Event.{Picture, Dispatch, Stopped}
 use Rattle.chip8_lang.specs.State.{memory_size}
 use Rattle.chip8_lang.specs.View.{view_at}
-use Rattle.vip_board.specs.Moves.{moved, name_of}
+use Rattle.machine.specs.Instruction.{Regs}
+use Rattle.vip_board.specs.Moves.{moved, moved_by, name_of, StartsInstruction}
+use Rattle.vip_board.specs.Seen.{contents_of}
+use Rattle.vip_memory.specs.Contents.{Contents}
 use Rattle.vip_board.specs.declared.board.Move.{Move}
 use Rattle.vip_text.specs.StateFile.{IsAccepted, Judges}
 use Rattle.vip_relation.specs.State.{VipState, begun, interpreter, events_to, events_left, events_waiting, run_of, moves_by, screen_bytes, started, state_after}
@@ -121,4 +124,19 @@ pub record MovesOn (old new : VipState) (name : Move) : Type 0 where
   pub moves : new.moves ≡ old.moves + 1
   pub board : new.board ≡ moved old.board
   pub move : name ≡ name_of old.board.machine
+  pub met : new.met ≡ length (events_to new new.board.machine.cycle)
+
+-- ---- some moves
+
+-- The board made so many moves, the last of which ends by the limit, and every event up to its cycle is met. Behind none of the others it is at a stop
+-- point, and no instruction comes next at which moves are to end: which are, the registers and memory say.
+pub record MovesBy (limit : ℕ) (Stands : Regs → Contents → Type 0) (old new : VipState) (n : ℕ) : Type 0 where
+  pub edition : new.edition ≡ old.edition
+  pub start : new.start ≡ old.start
+  pub moves : new.moves ≡ old.moves + n
+  pub board : new.board ≡ moved_by n old.board
+  pub goes_on : (k : ℕ) → 0 < k → k < n → is_stop (interpreter old) (moved_by k old.board).machine ≡ false
+  pub apart :
+      (k : ℕ) → 0 < k → k < n → let s = moved_by k old.board in StartsInstruction s.machine → Stands s.machine.regs (contents_of s) → ⊥
+  pub within : new.board.machine.cycle ≤ limit
   pub met : new.met ≡ length (events_to new new.board.machine.cycle)

@@ -1,7 +1,10 @@
 -- What the parts of a call make of a run.
 use Rattle.std.specs.Prelude.{◌≡◌, ℕ, ◌+◌, ◌<◌, ◌≤◌, false, [], length, Option, None, Some}
 use Rattle.chip8_lang.specs.Events.{is_stop}
-use Rattle.vip_board.specs.Moves.{moved, name_of}
+use Rattle.machine.specs.Instruction.{Regs}
+use Rattle.vip_board.specs.Moves.{moved, moved_by, name_of, StartsInstruction}
+use Rattle.vip_board.specs.Seen.{contents_of}
+use Rattle.vip_memory.specs.Contents.{Contents}
 use Rattle.vip_board.specs.declared.board.Move.{Move}
 use Rattle.vip_relation.specs.Follows.{Follows}
 use Rattle.vip_relation.specs.State.{VipState, interpreter, events_left, events_waiting}
@@ -44,6 +47,15 @@ pub record Passes (limit : ℕ) (old new : VipState) : Type 0 where
   pub within : old.board.machine.cycle ≤ limit → new.board.machine.cycle ≤ limit
   pub met : events_waiting new ≡ []
   pub runs : is_stop (interpreter new) new.board.machine ≡ false
+
+-- The board made so many moves. Behind none of them but the last it is at a stop point, and no instruction comes next at which moves are to end:
+-- which are, the registers and memory say.
+pub record Makes (Stands : Regs → Contents → Type 0) (old new : VipState) (n : ℕ) : Type 0 where
+  pub moves : new.moves ≡ old.moves + n
+  pub board : new.board ≡ moved_by n old.board
+  pub goes_on : (k : ℕ) → 0 < k → k < n → is_stop (interpreter old) (moved_by k old.board).machine ≡ false
+  pub apart :
+      (k : ℕ) → 0 < k → k < n → let s = moved_by k old.board in StartsInstruction s.machine → Stands s.machine.regs (contents_of s) → ⊥
 
 -- the board made such moves, and one more within the limit
 pub record Runs (limit : ℕ) (old new : VipState) : Type 0 where

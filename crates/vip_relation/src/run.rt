@@ -14,7 +14,7 @@ use chip8_image::{GAME, Places};
 use chip8_lang::{Edition, StateView, StopRecord};
 use std::alloc::Global;
 use std::marker::Model;
-use vip_board::{Board, Moved};
+use vip_board::{Board, Moved, Stops};
 use vip_keypad::Script;
 use vip_text::state_file::{KEY, RAM, check_state, cycle, parts};
 
@@ -91,7 +91,7 @@ impl Run {
     ghost use Rattle.vip_relation.specs.Stops.{stop_record};
     ghost use Rattle.vip_relation.specs.Follows.{Follows};
     ghost use Rattle.vip_relation.specs.Meets.{StartAnswers, ResumeAnswers, MeetsNext, HasStopped, StopsAgain, Rests};
-    ghost use Rattle.vip_relation.specs.Parts.{MeetsHere, Runs, Steps};
+    ghost use Rattle.vip_relation.specs.Parts.{Makes, MeetsHere, Runs, Steps};
 
     /// A board after reset with the ROM of an edition, a game in its memory and a key script. No move has been made. A game that is
     /// larger than the edition's game memory, of 3,232 or 2,976 bytes, is refused.
@@ -231,7 +231,7 @@ impl Run {
             if let Some(met) = self.meet() {
                 return met;
             }
-            if !self.run(limit) {
+            if self.run(limit, ()) == 0 {
                 return Met::End;
             }
         }
@@ -302,28 +302,29 @@ impl Run {
         }
     }
 
-    /// Makes moves up to the first one behind which an event may wait, fewer where the next one would end after the limit, and answers
-    /// whether it made any. No event waits, and the board is at no stop point.
+    /// Makes moves up to the first one behind which an event may wait or one of `stops` comes next, or some of them; none where the next one
+    /// would end after the limit. Answers how many. No event waits, and the board is at no stop point.
     #[inline(always)]
-    fn run(&mut self, limit: u64) -> bool
+    pub(crate) fn run<S: Stops>(&mut self, limit: u64, stops: S) -> u64
         requires limit { limit ≤ most_cycles }
         requires met { events_waiting self.old ≡ [] }
         requires runs { is_stop (interpreter self.old) self.old.board.machine ≡ false }
         ensures follows { Follows self.new }
-        ensures end { result ≡ false → limit < self.old.board.machine.cycle + length_of self.old.board.rom self.old.board.machine }
-        ensures kept { result ≡ false → self.new ≡ self.old }
-        ensures moved { IsTrue result → Runs limit self.old self.new }
+        ensures end { result ≡ 0 → limit < self.old.board.machine.cycle + length_of self.old.board.rom self.old.board.machine }
+        ensures kept { result ≡ 0 → self.new ≡ self.old }
+        ensures moved { 0 < result → Runs limit self.old self.new }
+        ensures made { 0 < result → Makes (S.stands stops) self.old self.new result }
     {
         let places = Places::of(self.edition);
         let pictures = self.board.video().count();
-        let made = self.board.run(limit, (places.fetch, places.halt));
+        let made = self.board.run(limit, ((places.fetch, places.halt), stops));
         if made == 0 {
-            return false;
+            return 0;
         }
         self.moves += made;
         self.point = point_at(self.edition, &self.board);
         self.waits = waits_by(pictures, self.board.video().count());
-        true
+        made
     }
 
     /// Makes one move, which leads to a new state whose events wait, or changes nothing where it would end after the limit. No event waits,

@@ -1,6 +1,6 @@
 //! A board that runs a game, and what it tells of the last dispatch point met.
 
-ghost use Rattle.std.specs.Prelude.{◌≡◌, ◌≤◌, ◌↔◌, IfOk, Some, None, if◌then◌else◌, length};
+ghost use Rattle.std.specs.Prelude.{◌≡◌, ◌<◌, ◌≤◌, ◌↔◌, IfOk, Some, None, if◌then◌else◌, length};
 ghost use Rattle.std.specs.Option.{option_map};
 ghost use Rattle.chip8_lang.specs.View.{seen, view_at};
 ghost use Rattle.vip_relation.specs.State.{screen_bytes, screen_size};
@@ -11,7 +11,7 @@ use crate::view::{Screen, dark};
 use chip8_lang::{Edition, StateView, StopRecord};
 use std::alloc::Global;
 use std::marker::Model;
-use vip_board::{Board, Moved};
+use vip_board::{Board, Moved, Stops};
 use vip_keypad::Script;
 
 /// A run of a game that keeps the language state and the screen at the last dispatch point met, for whoever asks once the board has gone
@@ -41,7 +41,7 @@ impl Vip {
     ghost use Rattle.vip_relation.specs.State.{begun, most_cycles, interpreter, events_left};
     ghost use Rattle.vip_relation.specs.Stops.{stop_record};
     ghost use Rattle.vip_relation.specs.Follows.{Follows};
-    ghost use Rattle.vip_relation.specs.Meets.{StartAnswers, MeetsNext, HasStopped, StopsAgain, Rests, MovesOn};
+    ghost use Rattle.vip_relation.specs.Meets.{StartAnswers, MeetsNext, HasStopped, StopsAgain, Rests, MovesOn, MovesBy};
     ghost use Rattle.vip_relation.specs.Parts.{MeetsHere, MeetsAll};
 
     /// A board after reset with the usual edition's ROM, a game in its memory and a key script.
@@ -158,6 +158,25 @@ impl Vip {
         let moved = self.run.step(limit);
         self.meet_all();
         moved
+    }
+
+    /// Makes some of the next moves: none behind which one of `stops` comes next, which leads to a stop point, or which ends after `limit`, but
+    /// for the last one, which ends by then too. Answers how many: none comes exactly where the next move would end after `limit` or the board
+    /// is at a stop point, and changes nothing. Every event up to the board's new cycle then counts as met.
+    pub fn move_on<S: Stops>(&mut self, limit: u64, stops: S) -> u64
+        requires { limit ≤ most_cycles }
+        ensures follows { Follows self.new }
+        ensures end { (result ≡ 0) ↔ Rests limit self.old }
+        ensures kept { result ≡ 0 → self.new ≡ self.old }
+        ensures moved { 0 < result → MovesBy limit (S.stands stops) self.old self.new result }
+    {
+        if self.run.rests(limit) {
+            return 0;
+        }
+        self.meet_all();
+        let made = self.run.run(limit, stops);
+        self.meet_all();
+        made
     }
 
     /// Meets the first event that waits at the present state, if there is one.

@@ -1,12 +1,12 @@
 -- Quiet cycles: the chip counts, and nothing else changes.
-use Rattle.std.proofs.Common.{◌≡◌, ◌≢◌, ◌+◌, ◌-◌, ◌*◌, ◌%◌, ◌<◌, ℕ, zero, suc, Bool, true, false, ap, sym, ◌∙◌, refl, subst, arith}
+use Rattle.std.proofs.Common.{◌≡◌, ◌≢◌, ◌+◌, ◌-◌, ◌*◌, ◌%◌, ◌<◌, ℕ, zero, suc, Bool, true, false, not, ap, sym, ◌∙◌, refl, subst, arith}
 use Rattle.std.specs.Prelude.{Option, Some, None, ◌&&◌, IsSome, IsTrue}
 use Rattle.std.proofs.lemmas.Bool.{ne_eqb}
-use Rattle.machine.specs.Signals.{line_cycles, window_end_line, dma_at, int_at}
+use Rattle.machine.specs.Signals.{line_cycles, window_end_line, dma_at}
 use Rattle.machine.specs.Pictures.{frame}
-use Rattle.vip_video.specs.Chip.{Chip, Pictures, begins_frame, follows_window, passed, scanned, ended}
+use Rattle.vip_video.specs.Chip.{Chip, Pictures, begins_frame, follows_window, needs_display, passed, scanned, ended}
 use Rattle.vip_video.specs.Kept.{HasRoom}
-use Rattle.vip_video.specs.Quiet.{HasNothing, IsQuiet, AreQuiet}
+use Rattle.vip_video.specs.Quiet.{HasNothing, IsDark, IsQuiet, AreQuiet}
 use Rattle.vip_video.proofs.Room.{room-passed}
 
 pub and-true : (x : Bool) → (x && true) ≡ x
@@ -23,19 +23,37 @@ passes t p h =
 same-pictures : (t : ℕ) (p : Pictures) → HasNothing t → scanned t true None p ≡ p
 same-pictures t p h = rw (h.frame, h.window) (ap (λ s. record p { shown = s }) (and-true p.shown))
 
-pub quiet-ahead : (t n : ℕ) (on cycle_on : Bool) → on ≡ true → cycle_on ≡ true → ((k : ℕ) → k < n → HasNothing (t + k)) → AreQuiet on cycle_on t (t + n)
-quiet-ahead t n on cycle_on is_on is_cycle_on none u from to =
+pub quiet-ahead : (t n : ℕ) (on cycle_on shown : Bool) → on ≡ true → cycle_on ≡ true → ((k : ℕ) → k < n → HasNothing (t + k))
+    → AreQuiet on cycle_on shown t (t + n)
+quiet-ahead t n true true shown is_on is_cycle_on none u from to =
     let here : t + (u - t) ≡ u = omega (arith, from) in
     let nothing : HasNothing u = subst HasNothing here (none (u - t) (omega (arith, from, to))) in
-    record { on = is_on; cycle_on = is_cycle_on; requests = nothing; pictures = λ p. same-pictures u p nothing }
+    record { same = refl; int = nothing.int; dma = nothing.dma; pictures = λ p _. same-pictures u p nothing }
+quiet-ahead t n true false shown is_on is_cycle_on none u from to = cc
+quiet-ahead t n false cycle_on shown is_on is_cycle_on none u from to = cc
+
+-- the same with the display off
+dark-pictures : (t : ℕ) (shown : Bool) (p : Pictures) → IsDark shown t → p.shown ≡ shown → scanned t false None p ≡ p
+dark-pictures t shown p d is =
+    let stays : (p.shown && not (needs_display t)) ≡ p.shown = by_tests p.shown (needs_display t) (ap (λ s. needs_display t && s) is ∙ d.needs) in
+    let window : (follows_window (t + 1) && p.shown) ≡ false = ap (λ s. follows_window (t + 1) && s) is ∙ d.window in
+    rw (d.frame, stays, window) refl
+  where
+    by_tests : (shown needs : Bool) → (needs && shown) ≡ false → (shown && not needs) ≡ shown
+    by_tests true true h = cc
+    by_tests true false h = refl
+    by_tests false needs h = refl
+
+pub dark-ahead : (t n : ℕ) (on cycle_on shown : Bool) → on ≡ false → cycle_on ≡ false → ((k : ℕ) → k < n → IsDark shown (t + k))
+    → AreQuiet on cycle_on shown t (t + n)
+dark-ahead t n false false shown is_off is_cycle_off none u from to =
+    let here : t + (u - t) ≡ u = omega (arith, from) in
+    let dark : IsDark shown u = subst (IsDark shown) here (none (u - t) (omega (arith, from, to))) in
+    record { same = refl; int = refl; dma = refl; pictures = λ p is. dark-pictures u shown p dark is }
+dark-ahead t n false true shown is_off is_cycle_off none u from to = cc
+dark-ahead t n true cycle_on shown is_off is_cycle_off none u from to = cc
 
 -- ---- what holds of a quiet cycle
-
-pub no-int : (t : ℕ) (on cycle_on : Bool) → IsQuiet on cycle_on t → int_at t on ≡ false
-no-int t on cycle_on q = ap (int_at t) q.on ∙ q.requests.int
-
-pub no-dma : (t : ℕ) (on cycle_on : Bool) → IsQuiet on cycle_on t → dma_at t on ≡ false
-no-dma t on cycle_on q = ap (dma_at t) q.on ∙ q.requests.dma
 
 abbrev pub chip : ℕ → Bool → Bool → Pictures → Chip
 chip t on cycle_on p = record { cycles = t; on = on; cycle_on = cycle_on; pictures = p }
@@ -43,17 +61,19 @@ chip t on cycle_on p = record { cycles = t; on = on; cycle_on = cycle_on; pictur
 both : (x : Bool) → x ≡ true → x ≡ false → ⊥
 both x t f = cc
 
-pub quiet-ended : (t : ℕ) (on cycle_on : Bool) (byte : Option ℕ) (p : Pictures) → IsQuiet on cycle_on t → (IsSome byte → IsTrue (dma_at t on))
+pub quiet-ended : (t : ℕ) (on cycle_on : Bool) (byte : Option ℕ) (p : Pictures) → IsQuiet on cycle_on p.shown t → (IsSome byte → IsTrue (dma_at t on))
     → chip (t + 1) on cycle_on p ≡ ended byte (chip t on cycle_on p)
-quiet-ended t true true None p q wanted = ap (chip (t + 1) true true) (sym (q.pictures p))
-quiet-ended t true true (Some byte) p q wanted = absurd (both (dma_at t true) (wanted refl) q.requests.dma)
-quiet-ended t true false byte p q wanted = absurd (both false q.cycle_on refl)
-quiet-ended t false cycle_on byte p q wanted = absurd (both false q.on refl)
+quiet-ended t true true None p q wanted = ap (chip (t + 1) true true) (sym (q.pictures p refl))
+quiet-ended t false false None p q wanted = ap (chip (t + 1) false false) (sym (q.pictures p refl))
+quiet-ended t true true (Some byte) p q wanted = absurd (both (dma_at t true) (wanted refl) q.dma)
+quiet-ended t false false (Some byte) p q wanted = absurd (both (dma_at t false) (wanted refl) q.dma)
+quiet-ended t true false byte p q wanted = absurd (both false q.same refl)
+quiet-ended t false true byte p q wanted = absurd (both true refl q.same)
 
-pub quiet-room : (t : ℕ) (on cycle_on : Bool) (p : Pictures) → IsQuiet on cycle_on t → HasRoom t p.lines → HasRoom (t + 1) p.lines
-quiet-room t on cycle_on p q r = subst (λ (x : Pictures). HasRoom (t + 1) x.lines) (q.pictures p) (room-passed t true None p r (λ s. cc))
+pub quiet-room : (t : ℕ) (on cycle_on : Bool) (p : Pictures) → IsQuiet on cycle_on p.shown t → HasRoom t p.lines → HasRoom (t + 1) p.lines
+quiet-room t on cycle_on p q r = subst (λ (x : Pictures). HasRoom (t + 1) x.lines) (q.pictures p refl) (room-passed t on None p r (λ s. cc))
 
-pub quiet-rooms : (n t : ℕ) (on cycle_on : Bool) (p : Pictures) → ((k : ℕ) → k < n → IsQuiet on cycle_on (t + k)) → HasRoom t p.lines → HasRoom (t + n) p.lines
+pub quiet-rooms : (n t : ℕ) (on cycle_on : Bool) (p : Pictures) → ((k : ℕ) → k < n → IsQuiet on cycle_on p.shown (t + k)) → HasRoom t p.lines → HasRoom (t + n) p.lines
 quiet-rooms zero t on cycle_on p q r = subst (λ u. HasRoom u p.lines) (omega arith) r
 quiet-rooms (suc n) t on cycle_on p q r =
     subst (λ u. HasRoom u p.lines) (omega arith)

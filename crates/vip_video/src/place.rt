@@ -3,7 +3,7 @@
 ghost use Rattle.std.specs.Prelude.{◌≡◌, ◌+◌, ◌≤◌, ◌<◌, ℕ};
 ghost use Rattle.machine.specs.Signals.{window_line, window_end_line, int_at, dma_at, efx_at};
 ghost use Rattle.vip_video.specs.Place.{frame_place};
-ghost use Rattle.vip_video.specs.Quiet.{HasNothing, RequestsDma};
+ghost use Rattle.vip_video.specs.Quiet.{HasNothing, IsDark, RequestsDma};
 ghost use Rattle.vip_video.specs.Chip.{needs_display};
 
 /// The machine cycles of a raster line.
@@ -145,6 +145,21 @@ impl Place {
             0
         } else if line < WINDOW_END_LINE {
             self.quiet_in_window()
+        } else {
+            (FRAME.saturating_sub(line) * LINE).saturating_sub(column + 1)
+        }
+    }
+
+    /// How many cycles from here on change no picture with the display off, where the frame's picture is shown so far or isn't. It may miss some.
+    pub fn dark(&self, shown: bool) -> u16
+        ensures { (t : ℕ) → self.now ≡ frame_place t → (k : ℕ) → k < result → IsDark shown (t + k) }
+    {
+        let line = self.line;
+        let column = u16::from(self.column);
+        if shown && line < INTERRUPT_LINE {
+            ((INTERRUPT_LINE - line) * LINE).saturating_sub(column)
+        } else if shown && line < WINDOW_END_LINE {
+            0
         } else {
             (FRAME.saturating_sub(line) * LINE).saturating_sub(column + 1)
         }

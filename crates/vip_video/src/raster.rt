@@ -51,6 +51,13 @@ impl Raster {
         }
     }
 
+    /// Whether the display was on in each cycle of this frame so far that needs it on.
+    pub fn is_shown(&self) -> bool
+        ensures { result ≡ self.now.shown }
+    {
+        self.shown
+    }
+
     /// A cycle at a place, with its display switch and the byte of its DMA cycle, if it is one. The byte needs a line of the picture
     /// that has fewer than eight.
     pub fn draw(&mut self, place: &Place, on: bool, byte: Option<u8>)

@@ -38,7 +38,7 @@ impl Model for Video {
 
     ghost view = { λ a. record { cycles = a.cycles; on = a.on; cycle_on = a.cycle_on; pictures = a.raster } };
 
-    ghost invariant = { λ a. record { ahead : a.cycles ≤ a.quiet_to; place : a.place ≡ frame_place a.quiet_to; quiet : AreQuiet a.on a.cycle_on a.cycles a.quiet_to; count : a.raster.count ≤ a.cycles; room : HasRoom a.cycles a.raster.lines } };
+    ghost invariant = { λ a. record { ahead : a.cycles ≤ a.quiet_to; place : a.place ≡ frame_place a.quiet_to; quiet : AreQuiet a.on a.cycle_on a.raster.shown a.cycles a.quiet_to; count : a.raster.count ≤ a.cycles; room : HasRoom a.cycles a.raster.lines } };
 }
 
 impl Video {
@@ -115,7 +115,11 @@ impl Video {
     pub fn look_ahead(&mut self)
         ensures { self.new ≡ self.old }
     {
-        if self.cycles < self.quiet_to || !self.on || !self.cycle_on {
+        if self.cycles < self.quiet_to {
+            return;
+        }
+        if !self.on || !self.cycle_on {
+            self.look_ahead_dark();
             return;
         }
         let quiet = self.place.quiet();
@@ -125,10 +129,25 @@ impl Video {
         }
     }
 
+    /// The same where the display is off: apart, since a game has it on.
+    #[inline(never)]
+    fn look_ahead_dark(&mut self)
+        ensures { self.new ≡ self.old }
+    {
+        if self.cycles < self.quiet_to || self.on || self.cycle_on {
+            return;
+        }
+        let dark = self.place.dark(self.raster.is_shown());
+        if let Some(quiet_to) = self.cycles.checked_add(u64::from(dark)) {
+            self.quiet_to = quiet_to;
+            self.place = Place::of(quiet_to);
+        }
+    }
+
     /// How many cycles from the present one on are known to have nothing for the chip to do but count.
     #[inline(always)]
     pub fn quiet_ahead(&self) -> u64
-        ensures { (k : ℕ) → k < result → IsQuiet self.now.on self.now.cycle_on (self.now.cycles + k) }
+        ensures { (k : ℕ) → k < result → IsQuiet self.now.on self.now.cycle_on self.now.pictures.shown (self.now.cycles + k) }
     {
         self.quiet_to - self.cycles
     }
@@ -136,7 +155,7 @@ impl Video {
     /// Ends so many cycles at once, in each of which the chip has nothing to do but count.
     #[inline(always)]
     pub fn pass(&mut self, count: u64)
-        requires quiet { (k : ℕ) → k < count → IsQuiet self.old.on self.old.cycle_on (self.old.cycles + k) }
+        requires quiet { (k : ℕ) → k < count → IsQuiet self.old.on self.old.cycle_on self.old.pictures.shown (self.old.cycles + k) }
         requires fits { self.old.cycles + count < 2 ^ 64 }
         ensures { self.new ≡ record self.old { cycles = self.old.cycles + count } }
     {

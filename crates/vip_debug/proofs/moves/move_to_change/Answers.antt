@@ -1,13 +1,31 @@
-use Rattle.std.proofs.Common.{◌≡◌, ◌+◌, ◌-◌, ◌≤◌, ◌∙◌, ◌∷◌, [], refl, sym, ap, ap₂, subst, arith, not, bytes_eq}
+use Rattle.std.proofs.Common.{◌≡◌, ◌⊎◌, inl, inr, ℕ, ◌+◌, ◌-◌, ◌<◌, ◌≤◌, ◌∙◌, ◌∷◌, [], Bool, true, false, refl, sym, ap, ap₂, subst, arith, not, bytes_eq}
+use Rattle.std.proofs.lemmas.Bool.{cases_lt}
 use Rattle.vip_byte.specs.declared.number.TheConstants.{MOST_CYCLE}
-use Rattle.vip_board.specs.Seen.{Seen}
+use Rattle.vip_board.specs.Seen.{Seen, contents_of}
+use Rattle.vip_board.specs.Moves.{moved_by, StartsInstruction}
 use Rattle.machine.specs.Keys.{held_at}
 use Rattle.vip_debug.specs.TargetRun.{run_from, state_of}
 use Rattle.vip_debug.specs.BoardShown.{stretch, has_changed}
 use Rattle.vip_debug.specs.Commands.{bytes_at}
+use Rattle.vip_debug.specs.Watching.{may_change}
+use Rattle.vip_debug.specs.declared.watched.Watched.{Watched}
 use Rattle.vip_program.specs.Lines.{line_of}
-use Rattle.vip_debug.proofs.TargetMoving.{gone-first, gone-smaller, seeking-first, seeking-next, gone-on, finds, finds-moved, finds-at, finds-none, none-moved, stretch-here, line-here}
+use Rattle.vip_debug.proofs.TargetMoving.{gone-first, gone-smaller, one-move, some-moves, seeking-first, seeking-next, gone-on, same-between, same-now, finds, finds-moved, finds-at, finds-none, none-moved, stretch-here, line-here}
 use Rattle.vip_debug.proofs.moves.move_to_change.Goals as goal
+
+not_both : {x : Bool} → x ≡ true → x ≡ false → ⊥
+not_both t f = let e = sym t ∙ f in cc
+
+-- none of some moves can change a byte, if the first can't and those behind which no stop came can't
+apart-from : {X : Type 0} (seen : X → Seen) (x : X) (w : Watched) (n : ℕ)
+    → ((k : ℕ) → 0 ≡ k → let u = moved_by k (seen x) in may_change w u.machine.regs (contents_of u) ≡ true → ⊥)
+    → ((k : ℕ) → 0 < k → k < n → let u = moved_by k (seen x) in StartsInstruction u.machine → may_change w u.machine.regs (contents_of u) ≡ true → ⊥)
+    → (k : ℕ) → k < n → let u = moved_by k (seen x) in StartsInstruction u.machine → may_change w u.machine.regs (contents_of u) ≡ true → ⊥
+apart-from seen x w n first behind k below starts = by_place (cases_lt 0 k)
+  where
+    by_place : (0 < k) ⊎ (k ≤ 0) → let u = moved_by k (seen x) in may_change w u.machine.regs (contents_of u) ≡ true → ⊥
+    by_place (inl some) = behind k some below starts
+    by_place (inr none) = first k (omega (arith, none))
 
 pub loop-target-init : goal.loop-target-init
 loop-target-init g c =
@@ -18,6 +36,52 @@ loop-target-init g c =
       before = c.read_stretch.ensures ∙ stretch-here r _ gone.going.stands refl _ c.board.ensures c.args.address c.args.count _ c.memory.ensures;
     }
 
+pub move_on-requires-clause-boundary : goal.move_on-requires-clause-boundary
+move_on-requires-clause-boundary g c = c.loop-target.invariant.seeking.gone.going.stands.phase
+
+pub returns-then-move_on-eq0-clause-comes : goal.returns-then-move_on-eq0-clause-comes
+returns-then-move_on-eq0-clause-comes g c =
+    finds-none g.T.Target.seen g.T.Target.ends g.T.Target.leads g.met.T.Target.leads_on c.args.limit _ c.args.target.now c.loop-target.target
+    c.move_on.new.self c.loop-target.invariant.seeking (c.move_on.ensures.kept c.if-move_on-eq0.true) (c.move_on.ensures.end.0 c.if-move_on-eq0.true)
+
+pub returns-then-move_on-eq0-clause-moved : goal.returns-then-move_on-eq0-clause-moved
+returns-then-move_on-eq0-clause-moved g c =
+    none-moved g.T.Target.seen g.T.Target.ends g.T.Target.leads g.met.T.Target.leads_on c.args.limit _ c.args.target.now c.loop-target.target
+    c.move_on.new.self c.loop-target.invariant.seeking (c.move_on.ensures.kept c.if-move_on-eq0.true) (c.move_on.ensures.end.0 c.if-move_on-eq0.true)
+
+pub loop-target-smaller-then-not-may_change_next : goal.loop-target-smaller-then-not-may_change_next
+loop-target-smaller-then-not-may_change_next g c =
+    gone-smaller g.T.Target.seen g.T.Target.ends g.T.Target.leads g.met.T.Target.leads_on c.args.limit c.args.target.now c.loop-target.target
+    c.move_on.new.self _ c.loop-target.invariant.seeking.gone c.move_on.result
+    (some-moves g.T.Target.seen g.T.Target.ends g.T.Target.leads _ c.args.limit c.loop-target.target c.move_on.new.self c.move_on.result c.if-move_on-eq0.false c.move_on.ensures.end.1
+    c.move_on.ensures.moved)
+
+pub loop-target-preserved-then-not-may_change_next : goal.loop-target-preserved-then-not-may_change_next
+loop-target-preserved-then-not-may_change_next g c =
+    let r = run_from (g.T.Target.ends c.args.target.now) (g.T.Target.seen c.args.target.now) in
+    let inv = c.loop-target.invariant.seeking in
+    let m =
+    some-moves g.T.Target.seen g.T.Target.ends g.T.Target.leads _ c.args.limit c.loop-target.target c.move_on.new.self c.move_on.result c.if-move_on-eq0.false c.move_on.ensures.end.1
+    c.move_on.ensures.moved in
+    let watched : Watched = record { address = c.args.address; count = c.args.count } in
+    let first : (k : ℕ) → 0 ≡ k → let u = moved_by k (g.T.Target.seen c.loop-target.target) in
+    may_change watched u.machine.regs (contents_of u) ≡ true → ⊥ =
+    λ k is may.
+    not_both (subst (λ j. let u = moved_by j (g.T.Target.seen c.loop-target.target) in may_change watched u.machine.regs (contents_of u) ≡ true) (sym is) may)
+    (ap (λ (s : Seen). may_change watched s.machine.regs (contents_of s)) (sym c.board-in-loop-target.ensures) ∙ sym c.may_change_next.ensures
+    ∙ c.if-not-may_change_next.true) in
+    let apart = apart-from g.T.Target.seen c.loop-target.target watched c.move_on.result first (c.move_on.ensures.moved m.some).0.apart in
+    let now = same-now g.T.Target.seen g.T.Target.ends g.T.Target.leads c.args.limit c.args.address c.args.count c.args.target.now c.loop-target.target inv in
+    let same = same-between g.T.Target.seen g.T.Target.ends g.T.Target.leads g.met.T.Target.leads_on c.args.limit _ c.args.target.now c.loop-target.target c.move_on.new.self inv c.move_on.result m
+    c.args.address c.args.count apart in
+    record {
+      seeking =
+          seeking-next g.T.Target.seen g.T.Target.ends g.T.Target.leads g.met.T.Target.leads_on c.args.limit
+          (λ k. has_changed c.args.address c.args.count (bytes_at r 0) (bytes_at r k)) c.args.target.now c.loop-target.target c.move_on.new.self inv c.move_on.result m
+          (λ k some below. same k (omega (arith, below)) now) (same c.move_on.result (omega arith) now);
+      before = c.loop-target.invariant.before;
+    }
+
 pub one_move-requires-clause-boundary : goal.one_move-requires-clause-boundary
 one_move-requires-clause-boundary g c = c.loop-target.invariant.seeking.gone.going.stands.phase
 
@@ -25,7 +89,7 @@ pub move_text-requires : goal.move_text-requires
 move_text-requires g c =
     let here = c.loop-target.invariant.seeking.here in
     record {
-      cycle = subst (λ (s : Seen). s.machine.cycle ≤ MOST_CYCLE) (sym c.board-in-loop-target.ensures) (omega (arith, here, c.requires.limit));
+      cycle = subst (λ (s : Seen). s.machine.cycle ≤ MOST_CYCLE) (sym c.board-in-loop-target-2.ensures) (omega (arith, here, c.requires.limit));
       empty = c.clear.ensures;
     }
 
@@ -43,46 +107,56 @@ pub returns-then-ne-clause-comes : goal.returns-then-ne-clause-comes
 returns-then-ne-clause-comes g c =
     let r = run_from (g.T.Target.ends c.args.target.now) (g.T.Target.seen c.args.target.now) in
     let inv = c.loop-target.invariant.seeking in
+    let m =
+    one-move g.T.Target.seen g.T.Target.ends g.T.Target.leads c.args.limit c.loop-target.target c.one_move.new.self (λ rests. let e = c.in_default.ensures.end.1 rests in cc)
+    c.in_default.ensures.moved in
     let on = gone-on g.T.Target.seen g.T.Target.ends g.T.Target.leads g.met.T.Target.leads_on c.args.limit _ c.args.target.now c.loop-target.target
-    c.one_move.new.self inv (λ rests. let e = c.in_default.ensures.end.1 rests in cc) c.in_default.ensures.moved in
-    let after = stretch-here r _ on.going.stands refl _ c.board-in-loop-target-2.ensures c.args.address c.args.count _ c.memory-in-loop-target.ensures in
+    c.one_move.new.self inv 1 m in
+    let after = stretch-here r _ on.going.stands refl _ c.board-in-loop-target-3.ensures c.args.address c.args.count _ c.memory-in-loop-target.ensures in
     let here =
     ap₂ (λ before after. not (bytes_eq before after)) (c.as_slice.ensures.value ∙ c.loop-target.invariant.before)
     (c.as_slice-in-loop-target.ensures.value ∙ c.read_stretch-in-loop-target.ensures ∙ after) in
     finds g.T.Target.seen g.T.Target.ends g.T.Target.leads g.met.T.Target.leads_on c.args.limit
-    (λ k. has_changed c.args.address c.args.count (bytes_at r 0) (bytes_at r k)) c.args.target.now c.loop-target.target c.one_move.new.self inv
-    (λ rests. let e = c.in_default.ensures.end.1 rests in cc) c.in_default.ensures.moved
+    (λ k. has_changed c.args.address c.args.count (bytes_at r 0) (bytes_at r k)) c.args.target.now c.loop-target.target c.one_move.new.self inv 1 m
+    (λ k some below. absurd (omega (arith, some, below)))
     (sym here ∙ sym c.ne.ensures ∙ c.if-ne.true)
 
 pub returns-then-ne-clause-moved : goal.returns-then-ne-clause-moved
 returns-then-ne-clause-moved g c =
     let r = run_from (g.T.Target.ends c.args.target.now) (g.T.Target.seen c.args.target.now) in
     let inv = c.loop-target.invariant.seeking in
+    let m =
+    one-move g.T.Target.seen g.T.Target.ends g.T.Target.leads c.args.limit c.loop-target.target c.one_move.new.self (λ rests. let e = c.in_default.ensures.end.1 rests in cc)
+    c.in_default.ensures.moved in
     let on = gone-on g.T.Target.seen g.T.Target.ends g.T.Target.leads g.met.T.Target.leads_on c.args.limit _ c.args.target.now c.loop-target.target
-    c.one_move.new.self inv (λ rests. let e = c.in_default.ensures.end.1 rests in cc) c.in_default.ensures.moved in
-    let after = stretch-here r _ on.going.stands refl _ c.board-in-loop-target-2.ensures c.args.address c.args.count _ c.memory-in-loop-target.ensures in
+    c.one_move.new.self inv 1 m in
+    let after = stretch-here r _ on.going.stands refl _ c.board-in-loop-target-3.ensures c.args.address c.args.count _ c.memory-in-loop-target.ensures in
     let here =
     ap₂ (λ before after. not (bytes_eq before after)) (c.as_slice.ensures.value ∙ c.loop-target.invariant.before)
     (c.as_slice-in-loop-target.ensures.value ∙ c.read_stretch-in-loop-target.ensures ∙ after) in
     finds-moved g.T.Target.seen g.T.Target.ends g.T.Target.leads g.met.T.Target.leads_on c.args.limit
-    (λ k. has_changed c.args.address c.args.count (bytes_at r 0) (bytes_at r k)) c.args.target.now c.loop-target.target c.one_move.new.self inv
-    (λ rests. let e = c.in_default.ensures.end.1 rests in cc) c.in_default.ensures.moved
+    (λ k. has_changed c.args.address c.args.count (bytes_at r 0) (bytes_at r k)) c.args.target.now c.loop-target.target c.one_move.new.self inv 1 m
+    (λ k some below. absurd (omega (arith, some, below)))
     (sym here ∙ sym c.ne.ensures ∙ c.if-ne.true)
 
 pub returns-then-ne-clause-shown : goal.returns-then-ne-clause-shown
 returns-then-ne-clause-shown g c =
     let r = run_from (g.T.Target.ends c.args.target.now) (g.T.Target.seen c.args.target.now) in
     let inv = c.loop-target.invariant.seeking in
+    let m =
+    one-move g.T.Target.seen g.T.Target.ends g.T.Target.leads c.args.limit c.loop-target.target c.one_move.new.self (λ rests. let e = c.in_default.ensures.end.1 rests in cc)
+    c.in_default.ensures.moved in
     let on = gone-on g.T.Target.seen g.T.Target.ends g.T.Target.leads g.met.T.Target.leads_on c.args.limit _ c.args.target.now c.loop-target.target
-    c.one_move.new.self inv (λ rests. let e = c.in_default.ensures.end.1 rests in cc) c.in_default.ensures.moved in
-    let after = stretch-here r _ on.going.stands refl _ c.board-in-loop-target-2.ensures c.args.address c.args.count _ c.memory-in-loop-target.ensures in
+    c.one_move.new.self inv 1 m in
+    let after = stretch-here r _ on.going.stands refl _ c.board-in-loop-target-3.ensures c.args.address c.args.count _ c.memory-in-loop-target.ensures in
     let here =
     ap₂ (λ before after. not (bytes_eq before after)) (c.as_slice.ensures.value ∙ c.loop-target.invariant.before)
     (c.as_slice-in-loop-target.ensures.value ∙ c.read_stretch-in-loop-target.ensures ∙ after) in
     let at = finds-at g.T.Target.seen g.T.Target.ends g.T.Target.leads g.met.T.Target.leads_on c.args.limit
-    (λ k. has_changed c.args.address c.args.count (bytes_at r 0) (bytes_at r k)) c.args.target.now c.loop-target.target c.one_move.new.self inv
-    (λ rests. let e = c.in_default.ensures.end.1 rests in cc) c.in_default.ensures.moved (sym here ∙ sym c.ne.ensures ∙ c.if-ne.true) in
-    let line = line-here r _ inv.gone.going.stands refl _ c.board-in-loop-target.ensures in
+    (λ k. has_changed c.args.address c.args.count (bytes_at r 0) (bytes_at r k)) c.args.target.now c.loop-target.target c.one_move.new.self inv 1 m
+    (λ k some below. absurd (omega (arith, some, below)))
+    (sym here ∙ sym c.ne.ensures ∙ c.if-ne.true) in
+    let line = line-here r _ inv.gone.going.stands refl _ c.board-in-loop-target-2.ensures in
     let one : inv.moves ≡ inv.moves + 1 - 1 = omega arith in
     λ done. record {
       line = c.move_text.ensures.line ∙ line ∙ ap (λ k. line_of r.rom (held_at r.script) (state_of r k ∷ [])) (one ∙ ap (λ k. k - 1) (sym at));
@@ -93,23 +167,29 @@ returns-then-ne-clause-shown g c =
 pub loop-target-smaller : goal.loop-target-smaller
 loop-target-smaller g c =
     gone-smaller g.T.Target.seen g.T.Target.ends g.T.Target.leads g.met.T.Target.leads_on c.args.limit c.args.target.now c.loop-target.target
-    c.one_move.new.self _ c.loop-target.invariant.seeking.gone (λ rests. let e = c.in_default.ensures.end.1 rests in cc) c.in_default.ensures.moved
+    c.one_move.new.self _ c.loop-target.invariant.seeking.gone 1
+    (one-move g.T.Target.seen g.T.Target.ends g.T.Target.leads c.args.limit c.loop-target.target c.one_move.new.self (λ rests. let e = c.in_default.ensures.end.1 rests in cc)
+    c.in_default.ensures.moved)
 
 pub loop-target-preserved : goal.loop-target-preserved
 loop-target-preserved g c =
     let r = run_from (g.T.Target.ends c.args.target.now) (g.T.Target.seen c.args.target.now) in
     let inv = c.loop-target.invariant.seeking in
+    let m =
+    one-move g.T.Target.seen g.T.Target.ends g.T.Target.leads c.args.limit c.loop-target.target c.one_move.new.self (λ rests. let e = c.in_default.ensures.end.1 rests in cc)
+    c.in_default.ensures.moved in
     let on = gone-on g.T.Target.seen g.T.Target.ends g.T.Target.leads g.met.T.Target.leads_on c.args.limit _ c.args.target.now c.loop-target.target
-    c.one_move.new.self inv (λ rests. let e = c.in_default.ensures.end.1 rests in cc) c.in_default.ensures.moved in
-    let after = stretch-here r _ on.going.stands refl _ c.board-in-loop-target-2.ensures c.args.address c.args.count _ c.memory-in-loop-target.ensures in
+    c.one_move.new.self inv 1 m in
+    let after = stretch-here r _ on.going.stands refl _ c.board-in-loop-target-3.ensures c.args.address c.args.count _ c.memory-in-loop-target.ensures in
     let here =
     ap₂ (λ before after. not (bytes_eq before after)) (c.as_slice.ensures.value ∙ c.loop-target.invariant.before)
     (c.as_slice-in-loop-target.ensures.value ∙ c.read_stretch-in-loop-target.ensures ∙ after) in
+    let misses = sym here ∙ sym c.ne.ensures ∙ c.if-ne.false in
     record {
       seeking =
           seeking-next g.T.Target.seen g.T.Target.ends g.T.Target.leads g.met.T.Target.leads_on c.args.limit
-          (λ k. has_changed c.args.address c.args.count (bytes_at r 0) (bytes_at r k)) c.args.target.now c.loop-target.target c.one_move.new.self inv
-          (λ rests. let e = c.in_default.ensures.end.1 rests in cc) c.in_default.ensures.moved
-          (sym here ∙ sym c.ne.ensures ∙ c.if-ne.false);
+          (λ k. has_changed c.args.address c.args.count (bytes_at r 0) (bytes_at r k)) c.args.target.now c.loop-target.target c.one_move.new.self inv 1 m
+          (λ k some below. absurd (omega (arith, some, below)))
+          misses;
       before = c.loop-target.invariant.before;
     }

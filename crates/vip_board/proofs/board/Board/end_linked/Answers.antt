@@ -1,9 +1,8 @@
-use Rattle.std.proofs.Common.{◌≡◌, ◌∙◌, sym, subst, ap}
+use Rattle.std.proofs.Common.{◌∙◌, ap}
 use Rattle.vip_board.specs.Seen.{Seen}
 use Rattle.vip_board.specs.Wired.{seen_of}
 use Rattle.vip_board.specs.Linked.{incoming_after, outgoing_after}
 use Rattle.vip_board.specs.Joins.{last_cycle, last_cycled}
-use Rattle.vip_board.specs.declared.wires.Wires.{Wires}
 use Rattle.vip_board.proofs.Joins.{MadeLast, made-last, seen-last}
 use Rattle.vip_board.proofs.board.Board.end_linked.Goals as goal
 

@@ -1,7 +1,6 @@
-use Rattle.std.proofs.Common.{◌≡◌, ◌∙◌, sym, subst, ap, None}
+use Rattle.std.proofs.Common.{◌≡◌, ◌∙◌, sym, ap, None}
 use Rattle.vip_cpu.specs.declared.cpu.Phase.TheVariants.{Boundary}
 use Rattle.vip_board.specs.Seen.{Seen, cycled}
-use Rattle.vip_board.specs.Wired.{seen_of}
 use Rattle.vip_board.specs.declared.wires.Wires.{Wires}
 use Rattle.vip_board.proofs.Calls.{made-on, no-byte, seen_after}
 use Rattle.vip_board.proofs.board.Board.go_on.Goals as goal

@@ -1,7 +1,7 @@
-use Rattle.std.proofs.Common.{◌≡◌, ◌+◌, ◌<◌, ◌≤◌, ℕ, true, ◌∙◌, ap, subst, arith}
+use Rattle.std.proofs.Common.{◌≡◌, ◌+◌, ◌<◌, ◌≤◌, ℕ, true, refl, ◌∙◌, ap, subst, arith}
 use Rattle.machine.specs.Signals.{dma_at}
 use Rattle.vip_board.specs.Seen.{Seen}
-use Rattle.vip_board.proofs.Scans.{along, scanned-aside, scan-switch, scan-moved}
+use Rattle.vip_board.proofs.Scans.{along, awake-here, scanned-aside, scan-switch, scan-moved}
 use Rattle.vip_board.proofs.board.Board.scan.Goals as goal
 
 -- what the video chip says of the cycles ahead, said of the board
@@ -33,3 +33,8 @@ returns-clause-within c some =
     scan-moved c.self-2.inside.cpu c.self-2.inside.wires c.scan.new.self c.args.self.now c.min-count.result _
     (c.self-2.view_is ∙ c.take_bytes-bytes.ensures.board) c.self-2.invariant c.take_bytes-bytes.ensures.bytes c.scan.ensures c.requires dma in
     omega (arith, some, ap (λ (x : Seen). x.machine.cycle) is, a.cycle, c.min-count.ensures, c.saturating_sub.ensures, c.now.ensures)
+
+pub returns-clause-awake : goal.returns-clause-awake
+returns-clause-awake c some =
+    awake-here c.args.self.now.machine 0 refl
+    (dma-of _ _ _ c.self.view_is c.dma_ahead.ensures.dma _ (omega (arith, c.min-count.ensures, c.min-ahead.ensures)) 0 some)

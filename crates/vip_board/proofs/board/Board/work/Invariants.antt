@@ -6,10 +6,10 @@ use Rattle.vip_board.proofs.board.Board.work.Given as goal
 
 -- so many instructions are made, and behind the last one the board doesn't have to be looked at
 abbrev pub invariant-loop-stops : goal.invariant-loop-stops
-invariant-loop-stops l =
+invariant-loop-stops g l =
     record {
-      worked : Worked l.most l.stops l.fn.self l.self l.made l.passed;
-      here : 0 < l.made → Passes l.stops l.fn.self (later l.self l.passed);
+      worked : Worked l.most (g.S.Stops.stands l.stops) l.fn.self l.self l.made l.passed;
+      here : 0 < l.made → Passes (g.S.Stops.stands l.stops) l.fn.self (later l.self l.passed);
       boundary : l.self.phase ≡ Boundary;
       awake : l.self.machine.regs.idle ≡ false;
       address : l.address ≡ at l.self.machine.regs l.self.machine.regs.p;
@@ -17,4 +17,4 @@ invariant-loop-stops l =
 
 -- the cycles that are left
 abbrev pub decreases-loop-stops : goal.decreases-loop-stops
-decreases-loop-stops l = l.most - l.passed
+decreases-loop-stops g l = l.most - l.passed

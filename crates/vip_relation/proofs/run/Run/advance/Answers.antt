@@ -1,5 +1,6 @@
-use Rattle.std.proofs.Common.{◌≡◌, ◌<◌, [], false, arith, sym, subst, refl}
+use Rattle.std.proofs.Common.{◌≡◌, ◌<◌, [], false, arith, sym, subst}
 use Rattle.chip8_lang.specs.Events.{is_stop}
+use Rattle.vip_board.proofs.Through.{positive}
 use Rattle.vip_relation.specs.State.{VipState, interpreter, events_left, events_waiting}
 use Rattle.vip_relation.specs.Meets.{MeetsNext, HasStopped}
 use Rattle.vip_relation.specs.Kept.{state_of}
@@ -24,15 +25,15 @@ run-requires-clause-runs c =
     subst (λ (v : VipState). is_stop (interpreter v) v.board.machine ≡ false) (sym c.in_default.ensures.first.1)
     (no-stop c.loop-met.self c.in_default.ensures.first.0 c.loop-met.invariant.goes_on)
 
-pub returns-then-not-run-clause-next : goal.returns-then-not-run-clause-next
-returns-then-not-run-clause-next c running =
+pub returns-then-run-eq0-clause-next : goal.returns-then-run-eq0-clause-next
+returns-then-run-eq0-clause-next c running =
     let v = c.meet.new.self in
     let r = subst (Reaches c.args.limit c.args.self.now) (sym c.in_default.ensures.first.1) c.loop-met.invariant in
-    subst (λ w. MeetsNext c.args.limit c.args.self.now w (events_left c.args.self.now c.args.limit) End) (sym (c.if-not-run.ensures.kept refl))
+    subst (λ w. MeetsNext c.args.limit c.args.self.now w (events_left c.args.self.now c.args.limit) End) (sym (c.run.ensures.kept c.if-run-eq0.true))
     (ends-entry c.args.limit c.args.self.now v r (subst (λ v. events_waiting v ≡ []) (sym c.in_default.ensures.first.1) c.in_default.ensures.first.0)
-    (c.if-not-run.ensures.end refl))
+    (c.run.ensures.end c.if-run-eq0.true))
 
 pub loop-met-preserved : goal.loop-met-preserved
 loop-met-preserved c =
     let r = subst (Reaches c.args.limit c.args.self.now) (sym c.in_default.ensures.first.1) c.loop-met.invariant in
-    reaches-run c.args.limit c.args.self.now c.meet.new.self c.run.new.self r (c.if-not-run.ensures.moved refl) c.run.ensures.follows
+    reaches-run c.args.limit c.args.self.now c.meet.new.self c.run.new.self r (c.run.ensures.moved (positive c.run.result c.if-run-eq0.false)) c.run.ensures.follows

@@ -1,14 +1,12 @@
-use Rattle.std.proofs.Common.{◌≡◌, ◌<◌, ◌+◌, inr, ℕ, true, false, refl, sym, subst}
-use Rattle.machine.specs.Board.{length_of}
+use Rattle.std.proofs.Common.{◌≡◌, true, false, refl, sym, subst}
 use Rattle.vip_board.specs.Moves.{IfDone}
-use Rattle.vip_board.specs.Seen.{Seen}
 use Rattle.vip_board.specs.declared.board.Moved.{Moved}
 use Rattle.vip_board.specs.declared.board.Moved.TheVariants.{Done, End}
 use Rattle.vip_relation.specs.State.{VipState}
 use Rattle.vip_relation.specs.Follows.{Follows}
 use Rattle.vip_relation.specs.Meets.{MovesOn, Rests}
 use Rattle.vip_relation.specs.Parts.{MeetsAll, Steps}
-use Rattle.vip_relation.proofs.Advances.{moves-on}
+use Rattle.vip_relation.proofs.Advances.{moves-on, rests-met}
 use Rattle.vip_relation.proofs.Telling.{tells-moved}
 use Rattle.vip_relation.proofs.vip.Vip.one_move.Goals as goal
 
@@ -16,10 +14,6 @@ moves_by_answer : (u v w x : VipState) (r : Moved) → MeetsAll u v → IfDone r
     → IfDone r (λ name. MovesOn u x name)
 moves_by_answer u v w x (Done name) before step after follows = moves-on u v w x name before step after follows
 moves_by_answer u v w x End before step after follows = tt
-
--- where the events that wait are met, the board rests as before
-late : (limit : ℕ) (u v : VipState) → MeetsAll u v → limit < v.board.machine.cycle + length_of v.board.rom v.board.machine → Rests limit u
-late limit u v all over = inr (subst (λ (b : Seen). limit < b.machine.cycle + length_of b.rom b.machine) all.board over)
 
 pub returns-then-rests-clause-follows : goal.returns-then-rests-clause-follows
 returns-then-rests-clause-follows c = subst Follows c.self.view_is c.self.invariant.follows
@@ -36,7 +30,7 @@ pub returns-clause-end : goal.returns-clause-end
 returns-clause-end c =
     let goes_on : Rests c.args.limit c.args.self.now → ⊥ =
     λ r. not_true c.if-rests.false (c.rests.ensures.rests.1 (subst (Rests c.args.limit) (sym c.self.view_is) r)) in (
-      λ e. late c.args.limit c.args.self.now c.self-2.inside.run
+      λ e. rests-met c.args.limit c.args.self.now c.self-2.inside.run
           (subst (MeetsAll c.args.self.now) (sym c.self-2.view_is) c.meet_all.ensures.all) (c.step-moved.ensures.end.0 e),
       λ r. absurd (goes_on r),
     )

@@ -14,8 +14,8 @@ invariant_of-self c =
       ahead = omega (arith, ahead);
       place = c.of-self-inside.ensures;
       quiet =
-          subst (AreQuiet inner.on inner.cycle_on inner.cycles) ahead
-          (quiet-ahead inner.cycles c.quiet-quiet.result inner.on inner.cycle_on c.if-not-self.false c.if-not-self-2.false
+          subst (AreQuiet inner.on inner.cycle_on inner.raster.shown inner.cycles) ahead
+          (quiet-ahead inner.cycles c.quiet-quiet.result inner.on inner.cycle_on inner.raster.shown c.if-not-self.false c.if-not-self-2.false
           (c.quiet-quiet.ensures inner.cycles here));
       count = c.self.invariant.count;
       room = c.self.invariant.room;

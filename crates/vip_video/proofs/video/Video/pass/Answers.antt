@@ -6,10 +6,10 @@ use Rattle.vip_video.proofs.Quiet.{chip, quiet-rooms}
 use Rattle.vip_video.proofs.video.Video.pass.Goals as goal
 
 -- the lines have room as before
-rooms : (x : Chip) (n t : ℕ) (on cycle_on : Bool) (p : Pictures) → chip t on cycle_on p ≡ x → ((k : ℕ) → k < n → IsQuiet x.on x.cycle_on (x.cycles + k))
+rooms : (x : Chip) (n t : ℕ) (on cycle_on : Bool) (p : Pictures) → chip t on cycle_on p ≡ x → ((k : ℕ) → k < n → IsQuiet x.on x.cycle_on x.pictures.shown (x.cycles + k))
     → HasRoom t p.lines → HasRoom (t + n) p.lines
 rooms x n t on cycle_on p view quiet room =
-    quiet-rooms n t on cycle_on p (subst (λ (y : Chip). (k : ℕ) → k < n → IsQuiet y.on y.cycle_on (y.cycles + k)) (sym view) quiet) room
+    quiet-rooms n t on cycle_on p (subst (λ (y : Chip). (k : ℕ) → k < n → IsQuiet y.on y.cycle_on y.pictures.shown (y.cycles + k)) (sym view) quiet) room
 
 pub invariant_of-self : goal.invariant_of-self
 invariant_of-self c =

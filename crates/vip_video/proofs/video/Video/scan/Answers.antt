@@ -4,7 +4,7 @@ use Rattle.machine.specs.Signals.{line_cycles, window_line, line_of, dma_at}
 use Rattle.vip_video.specs.Chip.{Chip, with_bytes, ended_with}
 use Rattle.vip_video.specs.Place.{frame_place}
 use Rattle.vip_video.specs.declared.place.Place.{Place}
-use Rattle.vip_video.proofs.Quiet.{chip, no-dma}
+use Rattle.vip_video.proofs.Quiet.{chip}
 use Rattle.vip_video.proofs.Scan.{IsScan, scan-place, dma-on, scanned, place-scanned, room-scanned}
 use Rattle.vip_video.proofs.video.Video.scan.Goals as goal
 use Rattle.vip_video.proofs.video.Video.scan.Goals.{After-self, After-add_all}
@@ -34,7 +34,7 @@ begun c =
     let more : 0 < n = some n c.if-is_empty.ensures in
     let scan : IsScan t n = scan-place t n inner.on more dma in
     let here : dma_at t inner.on ≡ true = subst (λ u. dma_at u inner.on ≡ true) (omega arith) (dma 0 more) in
-    let busy : t < inner.quiet_to → ⊥ = λ l. both _ here (no-dma t inner.on inner.cycle_on (c.self.invariant.quiet t (omega arith) l)) in
+    let busy : t < inner.quiet_to → ⊥ = λ l. both _ here (c.self.invariant.quiet t (omega arith) l).dma in
     let settled : inner.quiet_to ≡ t = omega (arith, c.self.invariant.ahead, busy) in
     let is_on : inner.on ≡ true = dma-on t inner.on here in
     record {

@@ -1,0 +1,22 @@
+use Rattle.std.proofs.Common.{◌≡◌, ◌+◌, ◌∙◌, ap, subst, arith}
+use Rattle.vip_video.specs.Place.{frame_place}
+use Rattle.vip_video.specs.Quiet.{AreQuiet, IsDark}
+use Rattle.vip_video.proofs.Quiet.{dark-ahead}
+use Rattle.vip_video.proofs.video.Video.look_ahead_dark.Goals as goal
+
+pub invariant_of-self : goal.invariant_of-self
+invariant_of-self c =
+    let inner = c.self.inside in
+    let settled : inner.quiet_to ≡ inner.cycles = omega (arith, c.self.invariant.ahead, c.if-self.false) in
+    let here : inner.place ≡ frame_place inner.cycles = c.self.invariant.place ∙ ap frame_place settled in
+    let ahead : inner.cycles + c.dark-dark.result ≡ c.in-Some.quiet_to = omega (arith, c.in-Some.ensures, c.from.ensures) in
+    record {
+      ahead = omega (arith, ahead);
+      place = c.of-self-inside.ensures;
+      quiet =
+          subst (AreQuiet inner.on inner.cycle_on inner.raster.shown inner.cycles) ahead
+          (dark-ahead inner.cycles c.dark-dark.result inner.on inner.cycle_on inner.raster.shown c.if-self-2.false c.if-self-3.false
+          (λ k l. subst (λ shown. IsDark shown (inner.cycles + k)) c.is_shown.ensures (c.dark-dark.ensures inner.cycles here k l)));
+      count = c.self.invariant.count;
+      room = c.self.invariant.room;
+    }
