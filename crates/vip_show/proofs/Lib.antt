@@ -2,9 +2,15 @@ pub mod Lists
 pub mod Screens
 pub mod Endings
 pub mod Going
+pub mod Underway
 pub mod Fresh
 pub mod Points
 pub mod RamSizes
 pub mod Files
 pub mod Saving
 pub mod OneAnswer
+pub mod Columns
+pub mod Framing
+pub mod Counting
+pub mod Rows
+pub mod Profiling

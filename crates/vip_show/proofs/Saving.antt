@@ -1,8 +1,9 @@
 -- A run on its way whose last dispatch point is saved.
-use Rattle.std.proofs.Common.{◌≡◌, ℕ, List, [], ◌∷◌, ◌++◌, refl, sym, ap, ◌∙◌, append-nil, append_assoc}
+use Rattle.std.proofs.Common.{◌≡◌, ℕ, List, [], ◌∷◌, ◌++◌, refl, sym, ap, ◌∙◌}
 use Rattle.std.specs.Prelude.{Option, Some, None, unwrap_or, Result, Ok, Err, IsErr}
 use Rattle.std.specs.Option.{option_map}
 use Rattle.machine.specs.Board.{Machine}
+use Rattle.chip8_lang.specs.declared.view.Edition.{Edition}
 use Rattle.chip8_lang.specs.declared.view.StopRecord.{StopRecord}
 use Rattle.chip8_lang.specs.Events.{Event}
 use Rattle.chip8_lang.specs.Events.Event.{Picture, Dispatch, Stopped}
@@ -11,18 +12,14 @@ use Rattle.vip_outside.specs.Sink.{SinkMeaning, PutsWhole, PutFails}
 use Rattle.vip_outside.specs.declared.sink.Failed.{Failed}
 use Rattle.vip_outside.proofs.PiecesLemmas.{PutsAll-nil, PutsAll-one, FailsWithin-snoc}
 use Rattle.vip_relation.specs.Follows.{last_dispatch, last_view}
-use Rattle.vip_relation.specs.Meets.{HasStopped}
 use Rattle.vip_relation.specs.State.Start.{Reset, Saved}
-use Rattle.vip_relation.specs.State.{Start, VipState, events_left, events_to, first_events, first_view, interpreter, machine_of}
-use Rattle.vip_relation.specs.Stops.{pc_of, opcode_of}
+use Rattle.vip_relation.specs.State.{Start, VipState, events_left, events_to, first_events, first_view, machine_of}
 use Rattle.vip_relation.proofs.Meetings.{last-dispatched, last-kept}
 use Rattle.vip_relation.proofs.Nexts.{Dispatched, Pictured, Halted, Ended}
 use Rattle.vip_show.specs.Answers.{IsFresh}
-use Rattle.vip_show.specs.Endings.{ending_after, ending_of}
-use Rattle.vip_show.proofs.Going.{ends-first, first-view, none-first, split-first}
-use Rattle.vip_show.proofs.Endings.{last-told, ends-dispatch, ends-picture}
-use Rattle.vip_show.proofs.Lists.{stop-last}
-use Rattle.vip_text.specs.Endings.Ending.{AtStop}
+use Rattle.vip_show.specs.Endings.{ending_of}
+use Rattle.vip_show.proofs.Going.{none-first}
+use Rattle.vip_show.proofs.Underway.{Underway, Through, under-first, under-dispatch, under-picture, through-end, through-stop}
 use Rattle.vip_text.specs.declared.ending.RunEnd.{RunEnd}
 use Rattle.vip_text.specs.declared.ending.RunEnd.TheVariants as run
 use Rattle.vip_show.specs.StateOutput.{saved_file, Keeps, SavedAnswers}
@@ -30,102 +27,59 @@ use Rattle.vip_show.specs.Written.{file_of}
 
 -- ---- on its way
 
--- From a start up to v: of the events up to the limit some are met, and the last dispatch point among them is saved in these bytes.
+-- of the events met the last dispatch point is saved in these bytes
 pub record Saving (limit : ℕ) (start v : VipState) (bytes : List ℕ) : Type 0 where
-  pub runs : HasStopped v → ⊥
-  pub edition : v.edition ≡ start.edition
   pub done : List Event
-  pub split : events_to start limit ≡ done ++ events_left v limit
-  pub last : v.last ≡ last_view start.edition done
+  pub under : Underway limit start v done
   pub bytes_are : bytes ≡ unwrap_or (saved_file start.edition done) []
-  pub ends : ending_of start.edition (events_to start limit) ≡ ending_after start.edition (pc_of v.last) (opcode_of v.last) (events_left v limit)
+
+-- the last dispatch point among events with one more
+file-with : (e : Edition) (events : List Event) (b : Option Machine) → last_dispatch events ≡ b
+    → unwrap_or (saved_file e events) [] ≡ unwrap_or (option_map (file_of e) b) []
+file-with e events b is = ap (λ b. unwrap_or (option_map (file_of e) b) []) is
 
 module _ (limit : ℕ) (start : VipState) where
   pub saving-first : (bytes : List ℕ) → IsFresh start → bytes ≡ unwrap_or (saved_file start.edition (first_events start.start)) []
       → Saving limit start start bytes
-  saving-first bytes fresh first = record {
-    runs = fresh.runs;
-    edition = refl;
-    done = first_events start.start;
-    split = split-first start limit fresh.met;
-    last = fresh.last ∙ first-view start.edition start.start;
-    bytes_are = first;
-    ends = ends-first start limit fresh;
-  }
+  saving-first bytes fresh first = record { done = first_events start.start; under = under-first limit start fresh; bytes_are = first }
 
   module _ (v v' : VipState) (bytes : List ℕ) (g : Saving limit start v bytes) where
-    -- what is left begins with this event: it is the next of all
-    next : (event : Event) (rest : List Event) → events_left v limit ≡ event ∷ rest → events_to start limit ≡ (g.done ++ event ∷ []) ++ rest
-    next event rest split = g.split ∙ ap (λ left. g.done ++ left) split ∙ sym (append_assoc g.done (event ∷ []) rest)
-
-    last_with : (event : Event) (b : Option Machine) → last_dispatch (g.done ++ event ∷ []) ≡ b
-        → saved_file start.edition (g.done ++ event ∷ []) ≡ option_map (file_of start.edition) b
-    last_with event b is = ap (option_map (file_of start.edition)) is
-
     pub saving-dispatch : (d : Dispatched limit v v' (events_left v limit)) (bytes' : List ℕ) → bytes' ≡ file_of v'.edition v'.board.machine
         → Saving limit start v' bytes'
     saving-dispatch d bytes' is = record {
-      runs = d.meets.goes_on;
-      edition = d.meets.one.same.edition ∙ g.edition;
       done = g.done ++ Dispatch d.b ∷ [];
-      split = next (Dispatch d.b) d.rest d.split ∙ ap (λ left. (g.done ++ Dispatch d.b ∷ []) ++ left) (sym d.meets.one.left);
-      last = last-told start.edition limit v v' g.edition d ∙ sym (ap (λ p. option_map (view_at start.edition) p) (last-dispatched g.done d.b));
+      under = under-dispatch limit start v v' g.done g.under d;
       bytes_are =
           is
-          ∙ ap (λ e. file_of e v'.board.machine) (d.meets.one.same.edition ∙ g.edition)
+          ∙ ap (λ e. file_of e v'.board.machine) (d.meets.one.same.edition ∙ g.under.edition)
           ∙ ap (file_of start.edition) d.meets.machine
-          ∙ sym (ap (λ f. unwrap_or f []) (last_with (Dispatch d.b) (Some d.b) (last-dispatched g.done d.b)));
-      ends = g.ends ∙ ends-dispatch start.edition limit v v' g.edition d;
+          ∙ sym (file-with start.edition (g.done ++ Dispatch d.b ∷ []) (Some d.b) (last-dispatched g.done d.b));
     }
 
     pub saving-picture : (d : Pictured limit v v' (events_left v limit)) → Saving limit start v' bytes
     saving-picture d = record {
-      runs = d.meets.goes_on;
-      edition = d.meets.one.same.edition ∙ g.edition;
       done = g.done ++ Picture d.m ∷ [];
-      split = next (Picture d.m) d.rest d.split ∙ ap (λ left. (g.done ++ Picture d.m ∷ []) ++ left) (sym d.meets.one.left);
-      last = d.meets.told.last ∙ g.last ∙ sym (ap (λ p. option_map (view_at start.edition) p) (last-kept g.done (Picture d.m) refl));
+      under = under-picture limit start v v' g.done g.under d;
       bytes_are =
-          g.bytes_are
-          ∙ sym (ap (λ f. unwrap_or f []) (last_with (Picture d.m) (last_dispatch g.done) (last-kept g.done (Picture d.m) refl)));
-      ends = g.ends ∙ ends-picture start.edition limit v v' d;
+          g.bytes_are ∙ sym (file-with start.edition (g.done ++ Picture d.m ∷ []) (last_dispatch g.done) (last-kept g.done (Picture d.m) refl));
     }
 
-    -- at the limit all events are met
+    -- up to its end
+    kept-through : (done : List Event) (end : RunEnd) → Through limit start v' done end → bytes ≡ unwrap_or (saved_file start.edition done) []
+        → Keeps start limit v' bytes end
+    kept-through done end t is = record {
+      last = t.last ∙ ap (last_view start.edition) (sym t.all);
+      bytes_are = is ∙ ap (λ events. unwrap_or (saved_file start.edition events) []) (sym t.all);
+      ending = t.ending;
+    }
+
     pub kept-end : (e : Ended limit v v' (events_left v limit)) → Keeps start limit v' bytes run.AtLimit
-    kept-end e = record {
-      last = e.ends.told.last ∙ g.last ∙ ap (last_view start.edition) (sym all);
-      bytes_are = g.bytes_are ∙ ap (λ events. unwrap_or (saved_file start.edition events) []) (sym all);
-      ending = sym (g.ends ∙ ap (ending_after start.edition (pc_of v.last) (opcode_of v.last)) e.none ∙ (unfold ending_after in refl));
-    }
-      where
-        all : events_to start limit ≡ g.done
-        all = g.split ∙ ap (λ left. g.done ++ left) e.none ∙ append-nil g.done
+    kept-end e = kept-through g.done run.AtLimit (through-end limit start v v' g.done g.under e) g.bytes_are
 
-    -- and at a stop
     pub kept-stop : (stop : StopRecord) (h : Halted limit v v' (events_left v limit) stop) → Keeps start limit v' bytes (run.AtStop stop)
-    kept-stop stop h = record {
-      last =
-          h.meets.told.last ∙ g.last ∙ sym (ap (λ p. option_map (view_at start.edition) p) (last-kept g.done (Stopped h.b) refl))
-          ∙ ap (last_view start.edition) (sym all);
-      bytes_are =
-          g.bytes_are
-          ∙ sym (ap (λ f. unwrap_or f []) (last_with (Stopped h.b) (last_dispatch g.done) (last-kept g.done (Stopped h.b) refl)))
-          ∙ ap (λ events. unwrap_or (saved_file start.edition events) []) (sym all);
-      ending = sym (g.ends ∙ ap (ending_after start.edition (pc_of v.last) (opcode_of v.last)) h.split ∙ here);
-    }
-      where
-        so_far : events_to start limit ≡ g.done ++ Stopped h.b ∷ h.rest
-        so_far = g.split ∙ ap (λ left. g.done ++ left) h.split
-
-        all : events_to start limit ≡ g.done ++ Stopped h.b ∷ []
-        all =
-            so_far
-            ∙ ap (λ rest. g.done ++ Stopped h.b ∷ rest)
-            (stop-last (interpreter start) start.start start.board.script limit g.done h.b h.rest so_far)
-
-        here : ending_after start.edition (pc_of v.last) (opcode_of v.last) (Stopped h.b ∷ h.rest) ≡ AtStop stop.stop stop.pc stop.opcode
-        here = unfold ending_after in rw h.meets.stop refl
+    kept-stop stop h =
+        kept-through (g.done ++ Stopped h.b ∷ []) (run.AtStop stop) (through-stop limit start v v' g.done g.under stop h)
+        (g.bytes_are ∙ sym (file-with start.edition (g.done ++ Stopped h.b ∷ []) (last_dispatch g.done) (last-kept g.done (Stopped h.b) refl)))
 
 -- ---- the start
 

@@ -5,3 +5,7 @@ pub mod Run
 pub mod Written
 pub mod Points
 pub mod StateOutput
+pub mod Profile
+pub mod Figures
+pub mod Frames
+pub mod Counts

@@ -28,4 +28,4 @@ pub use picture::{PICTURE_SIZE, picture_text};
 pub use screen::{ROW_SIZE, WIDTH, is_lit, screen_text};
 pub use stop::{idle_text, stop_text};
 pub use summary::summary_text;
-pub use trace::trace_text;
+pub use trace::{opcode_digits, trace_text};

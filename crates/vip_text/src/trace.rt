@@ -39,7 +39,7 @@ fn put_place(into: &mut Buffer, view: &StateView)
 }
 
 /// The opcode in four digits, or four hyphens where there is none.
-fn opcode_digits(opcode: Option<u16>) -> [u8; 4]
+pub fn opcode_digits(opcode: Option<u16>) -> [u8; 4]
     ensures { result ≡ opcode_text opcode }
 {
     match opcode {
