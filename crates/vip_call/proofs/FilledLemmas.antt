@@ -34,6 +34,7 @@ module _ {A B : Type 0} (f : A → B) where
   show_mosts show.Pictures = refl
   show_mosts (show.Commands file) = refl
   show_mosts show.State = refl
+  show_mosts show.Profile = refl
   show_mosts (show.Summary number) = refl
 
   script_mosts : (k : Option A) → mosts (script_files (option_map f k)) ≡ mosts (script_files k)
@@ -146,6 +147,7 @@ fill_show (show.Trace with_time with_screen) xs = show.Trace with_time with_scre
 fill_show show.Pictures xs = show.Pictures
 fill_show (show.Commands file) xs = show.Commands (first_file xs)
 fill_show show.State xs = show.State
+fill_show show.Profile xs = show.Profile
 fill_show (show.Summary number) xs = show.Summary number
 
 abbrev behind_show : Show (Unit {0}) → List (List ℕ) → List (List ℕ)
@@ -211,6 +213,7 @@ show_filled (show.Trace with_time with_screen) ns = refl
 show_filled show.Pictures ns = refl
 show_filled (show.Commands file) ns = refl
 show_filled show.State ns = refl
+show_filled show.Profile ns = refl
 show_filled (show.Summary number) ns = refl
 
 show_left : (s : Show (List ℕ)) (ns : List (Needed (List ℕ))) → behind_show (map_show bare s) (files_of (show_files s ++ ns)) ≡ files_of ns
@@ -218,6 +221,7 @@ show_left (show.Trace with_time with_screen) ns = refl
 show_left show.Pictures ns = refl
 show_left (show.Commands file) ns = refl
 show_left show.State ns = refl
+show_left show.Profile ns = refl
 show_left (show.Summary number) ns = refl
 
 program_show_filled : (s : ProgramShow (List ℕ)) (ns : List (Needed (List ℕ)))

@@ -117,6 +117,7 @@ module _ (given : RomsGiven) where
   show_free e s keys limit show.Pictures o x = run_free e keys _ o (λ script. tt) x
   show_free e s keys limit (show.Commands text) o x = debug_free e s keys limit (commands_of Chip8 limit text) o x
   show_free e s keys limit show.State o x = run_free e keys _ o (λ script. saved_free limit _ _) x
+  show_free e s keys limit show.Profile o x = run_free e keys _ o (λ script. tt) x
   show_free e s keys limit (show.Summary number) o x = run_free e keys _ o (λ script. tt) x
 
   begin_free : (start : asked.Start (List ℕ)) (keys : Option (List ℕ)) (limit : ℕ) (shown : Show (List ℕ)) (o : Outcome)

@@ -148,6 +148,7 @@ module _ (law : EveryRun) (from : FromFile) (frames : EveryFrame) (frames_from :
   shows_as e s fits keys limit show.Pictures o comes = shows_run e s fits keys limit show.Pictures _ _ (λ script. refl) o comes
   shows_as e s fits keys limit (show.Commands text) o comes = shows_debug e s fits keys limit text (commands_of Chip8 limit text) o comes
   shows_as e s fits keys limit show.State o comes = shows_saved e s fits keys limit show.State (λ script. refl) o comes
+  shows_as e s fits keys limit show.Profile o comes = shows_run e s fits keys limit show.Profile _ _ (λ script. refl) o comes
   shows_as e s fits keys limit (show.Summary number) o comes = shows_run e s fits keys limit (show.Summary number) _ _ (λ script. refl) o comes
 
   shows :

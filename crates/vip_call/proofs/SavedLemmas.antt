@@ -263,6 +263,7 @@ module _ (joins : SavedJoins) (commands_behind : GoesOnBehind) where
   is_saved e s fits keys limit show.Pictures pieces status report x = tt
   is_saved e s fits keys limit (show.Commands text) pieces status report x = tt
   is_saved e s fits keys limit show.State pieces status report x = saves_one e s fits keys limit pieces status report x
+  is_saved e s fits keys limit show.Profile pieces status report x = tt
   is_saved e s fits keys limit (show.Summary number) pieces status report x = tt
 
   shows : (loaded : Loaded) (pieces : List (List ℕ)) (status : Status) (report : List ℕ) → AreGiven (needed loaded)

@@ -200,6 +200,7 @@ shows_agree d s keys limit (show.Trace with_time with_screen) o p x y = runs_agr
 shows_agree d s keys limit show.Pictures o p x y = runs_agree d keys _ o p x y
 shows_agree d s keys limit (show.Commands text) o p x y = debugs_agree d s keys limit (commands_of Chip8 limit text) o p x y
 shows_agree d s keys limit show.State o p x y = runs_agree d keys _ o p x y
+shows_agree d s keys limit show.Profile o p x y = runs_agree d keys _ o p x y
 shows_agree d s keys limit (show.Summary number) o p x y = runs_agree d keys _ o p x y
 
 -- a file has one edition
@@ -309,6 +310,7 @@ no_show d s keys limit (show.Trace with_time with_screen) report x = no_run d ke
 no_show d s keys limit show.Pictures report x = no_run d keys _ report (λ script h. not_shown _ _ _ report h) x
 no_show d s keys limit (show.Commands text) report x = no_debug d s keys limit (commands_of Chip8 limit text) report x
 no_show d s keys limit show.State report x = no_run d keys _ report (λ script h. not_saved _ _ _ report h) x
+no_show d s keys limit show.Profile report x = no_run d keys _ report (λ script h. not_shown _ _ _ report h) x
 no_show d s keys limit (show.Summary number) report x = no_run d keys _ report (λ script h. not_shown _ _ _ report h) x
 
 no_beginning : (start : asked.Start (List ℕ)) (keys : Option (List ℕ)) (limit : ℕ) (shown : Show (List ℕ)) (report : List ℕ)

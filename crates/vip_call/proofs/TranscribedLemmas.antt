@@ -40,7 +40,7 @@ use Rattle.vip_verbs.specs.Outcome.{DebugComes, HasOutcome, RunTo, ShowComes, de
 use Rattle.vip_verbs.specs.Outcome.RunTo.{FaultyScript, FaultyRom, Runs}
 use Rattle.vip_call.specs.Commands.{AllAnswered}
 use Rattle.vip_call.specs.Transcribed.{IsShown, IsStateOf, RunLaw, Transcribed, TranscribesBy, all_points, first_cycle, in_time, is_run, of_language}
-use Rattle.vip_call.specs.Transcript.{ArePictures, GoesOn, Point, last_point, summary_text, trace_text}
+use Rattle.vip_call.specs.Transcript.{ArePictures, GoesOn, Point, last_point, profile_of, summary_text, trace_text}
 use Rattle.vip_call.specs.Top.{Call, Says, Tells, TellsChip8, TellsTimed, Writes, WritesExactly}
 use Rattle.vip_call.proofs.DebuggedLemmas.{answers, over_at}
 use Rattle.vip_call.proofs.FilledLemmas.{AreGiven, are_given}
@@ -50,7 +50,7 @@ use Rattle.vip_call.proofs.LimitLemmas.{late_limit, nothing_by, same_events, sam
 use Rattle.vip_call.proofs.ResumedLemmas.{FromFile as FromAccepted}
 use Rattle.vip_call.proofs.SavedLemmas.{SavesShown}
 use Rattle.vip_call.proofs.TimedLemmas.{TimeFromFile, timed_pictures, timed_points}
-use Rattle.vip_call.proofs.TranscriptLemmas.{begins, file_point_is, game_pictures, goes_on, last_is_last, late_pictures, later_pictures, point_of, points_of, summed_is, traced_is}
+use Rattle.vip_call.proofs.TranscriptLemmas.{begins, file_point_is, game_pictures, goes_on, last_is_last, late_pictures, later_pictures, point_of, points_of, profiled_is, summed_is, traced_is}
 
 -- the points behind the start, and with the start's they are all
 abbrev points_shown : Edition → Start → List KeyEvent → ℕ → List Point
@@ -264,6 +264,9 @@ module _ (every : EveryRun) (from : FromAccepted) (saves : SavesShown) (law : Ru
   transcribed_as e s fits keys limit (show.Commands text) o comes =
       transcribed_debug e s fits keys limit text (commands_of Chip8 limit text) refl o comes
   transcribed_as e s fits keys limit show.State o comes = transcribed_state e s fits keys limit o comes
+  transcribed_as e s fits keys limit show.Profile o comes =
+      transcribed_run e s fits keys limit show.Profile _ _
+      (λ script. (profiled_is e (events_in e s script limit) ∙ ap (profile_of e) (all_are e s script limit), refl)) o comes
   transcribed_as e s fits keys limit (show.Summary number) o comes =
       transcribed_run e s fits keys limit (show.Summary number) _ _
       (λ script. (

@@ -14,7 +14,7 @@ use Rattle.chip8_lang.specs.declared.view.Edition.{Edition}
 use Rattle.chip8_lang.specs.Events.{Event}
 use Rattle.chip8_lang.specs.Events.Event.{Picture, Dispatch, Stopped}
 use Rattle.chip8_lang.specs.Places.{state_of}
-use Rattle.chip8_lang.specs.View.{view_at}
+use Rattle.chip8_lang.specs.View.{view_at, view_of}
 use Rattle.rom_law.specs.Language.{Begins as BeginsRun, GoesOn as GoesOnRun, end_cycle}
 use Rattle.rom_board.specs.Program.{program}
 use Rattle.vip_relation.specs.Follows.{dispatch_of, last_dispatch}
@@ -23,9 +23,10 @@ use Rattle.vip_text.specs.Screens.{picture_file}
 use Rattle.vip_text.specs.StateFile.{bank_in, shown}
 use Rattle.vip_text.specs.Summaries.{summary_line}
 use Rattle.vip_show.specs.Output.{trace_lines, screen_piece, picture_pieces, lit_at, is_dispatch_event, is_picture_event, count_of}
+use Rattle.vip_show.specs.Profile.{profile_pieces, profile_text, views_of}
 use Rattle.vip_call.specs.Language.{named}
 use Rattle.vip_call.specs.Transcribed.{file_point}
-use Rattle.vip_call.specs.Transcript.{Point, Begins, GoesOn, Ends, IsPicture, ArePictures, last_point, last_screen, line, lit, point_before, summary_text, trace_text}
+use Rattle.vip_call.specs.Transcript.{Point, Begins, GoesOn, Ends, IsPicture, ArePictures, last_point, last_screen, line, lit, point_before, profile_of, summary_text, trace_text}
 
 -- ---- the points among some events
 
@@ -220,6 +221,18 @@ module _ (e : Edition) where
       ap₂ (λ lines last. lines ++ (if with_screen then last else []))
       (lines_are with_time shown)
       (screen_is (last_dispatch all) ∙ ap (last_screen e) (sym (last_is_last all)))
+
+  -- ---- the profile
+
+  views_are : (events : List Event) → views_of e events ≡ map (λ p. view_of e p.state p.cycle) (points_of e events)
+  unfolding view_at
+  views_are [] = refl
+  views_are (Picture m ∷ events) = views_are events
+  views_are (Dispatch b ∷ events) = ap (λ views. view_at e b ∷ views) (views_are events)
+  views_are (Stopped b ∷ events) = views_are events
+
+  pub profiled_is : (events : List Event) → profile_pieces e events ≡ profile_of e (points_of e events)
+  profiled_is events = ap (λ views. profile_text views ∷ []) (views_are events)
 
   -- ---- the counts
 

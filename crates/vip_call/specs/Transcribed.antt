@@ -18,7 +18,7 @@ use Rattle.vip_words.specs.declared.debug_commands.CommandFault.{CommandFault}
 use Rattle.vip_words.specs.declared.debug_commands.Speaks.TheVariants.{Chip8}
 use Rattle.vip_words.specs.declared.request.Request.TheVariants.{Run}
 use Rattle.vip_words.specs.declared.request.Show.{Show}
-use Rattle.vip_words.specs.declared.request.Show.TheVariants.{Commands, Pictures, State, Summary, Trace}
+use Rattle.vip_words.specs.declared.request.Show.TheVariants.{Commands, Pictures, Profile, State, Summary, Trace}
 use Rattle.vip_words.specs.Request.{most_cycles}
 use Rattle.vip_words.specs.declared.request.Start as asked
 use Rattle.vip_words.specs.declared.request.Start.TheVariants as beginning
@@ -29,7 +29,7 @@ use Rattle.vip_tools.specs.Demo.{demo_game}
 use Rattle.vip_tools.specs.Files.{Loaded}
 use Rattle.vip_tools.specs.Outcome.{script_in}
 use Rattle.vip_call.specs.Commands.{AllAnswered}
-use Rattle.vip_call.specs.Transcript.{ArePictures, Begins, GoesOn, Point, Shows, ShowsPictures, last_point, summary_text, trace_text}
+use Rattle.vip_call.specs.Transcript.{ArePictures, Begins, GoesOn, Point, Shows, ShowsPictures, last_point, profile_of, summary_text, trace_text}
 
 -- ---- runs, from a game or from a file
 
@@ -124,6 +124,7 @@ module _ (e : Edition) (s : Start) (points : List Point) where
       ArePictures e all_points (windows_ended (first_cycle e s)) (windows_ended over) pieces × InTime pieces × (reported ≡ ending)
   IsShown limit InTime ending over reported (Commands text) pieces = Debugged limit ending over reported (commands_of Chip8 limit text) pieces
   IsShown limit InTime ending over reported State pieces = (limit ≤ most_cycles → IsStateOf e (last_point all_points) pieces) × (reported ≡ ending)
+  IsShown limit InTime ending over reported Profile pieces = (pieces ≡ profile_of e all_points) × (reported ≡ ending)
   IsShown limit InTime ending over reported (Summary number) pieces =
       (pieces ≡ summary_text e number (windows_ended over - windows_ended (first_cycle e s)) points (last_point all_points)) × (reported ≡ ending)
 

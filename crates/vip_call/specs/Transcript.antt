@@ -23,6 +23,7 @@ use Rattle.vip_text.specs.Stops.{stop_line}
 use Rattle.vip_text.specs.Summaries.{summary_line}
 use Rattle.vip_text.specs.Traces.{trace_line}
 use Rattle.vip_show.specs.Output.{lit_in_rows}
+use Rattle.vip_show.specs.Profile.{profile_text}
 
 -- ---- the transcript
 
@@ -115,6 +116,10 @@ module _ (e : Edition) where
   -- `demo`: the counts of points and of n pictures, and the lit pixels at the last point
   abbrev pub summary_text : ℕ → ℕ → List Point → Option Point → List (List ℕ)
   summary_text number n points last = summary_line number (length points) n (lit last) ∷ []
+
+  -- `profile`: where the time of the points goes, as they are seen
+  abbrev pub profile_of : List Point → List (List ℕ)
+  profile_of points = profile_text (map (λ p. view_of e p.state p.cycle) points) ∷ []
 
   -- `play` in the language's time: the pictures that a run shows, in order
   abbrev pub ShowsPictures : List Shown → List (List ℕ) → Type 0

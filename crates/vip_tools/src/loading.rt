@@ -58,6 +58,7 @@ fn load_show<'a, F: Files>(
         }),
         Show::Pictures => Ok(Show::Pictures),
         Show::State => Ok(Show::State),
+        Show::Profile => Ok(Show::Profile),
         Show::Summary(number) => Ok(Show::Summary(number)),
     }
 }

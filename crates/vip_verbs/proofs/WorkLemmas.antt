@@ -148,6 +148,7 @@ module _ (e : Edition) (s : Start) (keys : Option (List ℕ)) where
     refused-show show.Pictures (Command line cause) answer = absurd answer
     refused-show (show.Commands text) (Command line cause) answer = rw answer refl
     refused-show show.State (Command line cause) answer = absurd answer
+    refused-show show.Profile (Command line cause) answer = absurd answer
     refused-show (show.Summary number) (Command line cause) answer = absurd answer
     refused-show asked (Source line cause) answer = absurd answer
     refused-show asked (State fault) answer = absurd answer
@@ -167,6 +168,7 @@ module _ (e : Edition) (s : Start) (keys : Option (List ℕ)) where
       comes-as show.Pictures is o come = rw is at come
       comes-as (show.Commands text) is o come = rw is.1 (rw is.2 at come)
       comes-as show.State is o come = rw is at come
+      comes-as show.Profile is o come = rw is.1 at come
       comes-as (show.Summary number) is o come = rw is at come
 
       pub run-comes : (asked : Show (List ℕ)) → IsShow limit asked ready → (v : VipState) → BeginAnswers e s keys (Ok v)

@@ -18,6 +18,7 @@ use Rattle.vip_words.specs.declared.request.Show.TheVariants as show
 use Rattle.vip_tools.specs.declared.refusal.Refusal.{Refusal}
 use Rattle.vip_tools.specs.declared.refusal.Refusal.TheVariants.{Script, Command as BadCommand, Rom, NoMemory}
 use Rattle.vip_tools.specs.Outcome.{script_in}
+use Rattle.vip_show.specs.declared.profile.Profile.{Profile}
 use Rattle.vip_verbs.specs.Outcome.{RomIs, IsFault}
 use Rattle.vip_verbs.specs.declared.prepared.ReadyProgramShow.{ReadyProgramShow}
 use Rattle.vip_verbs.specs.declared.prepared.ReadyProgramShow.TheVariants as programs
@@ -57,12 +58,13 @@ BeginAnswers e s keys (Err (Rom fault)) = UnderScript keys (λ script. RomAnswer
 BeginAnswers e s keys (Err NoMemory) = Unit {0}
 BeginAnswers e s keys (Err _) = ⊥
 
--- what is shown of a run up to a limit is ready: its commands are those that their text says
+-- what is shown of a run up to a limit is ready: its commands are those that their text says, and for a profile there is memory
 abbrev pub IsShow : ℕ → Show (List ℕ) → ReadyShow → Type 0
 IsShow limit (show.Trace with_time with_screen) ready = ready ≡ shows.Trace with_time with_screen
 IsShow limit show.Pictures ready = ready ≡ shows.Pictures
 IsShow limit (show.Commands text) ready = (commands : List Command) × (commands_of Chip8 limit text ≡ Ok commands) × (ready ≡ shows.Commands commands)
 IsShow limit show.State ready = ready ≡ shows.State
+IsShow limit show.Profile ready = (memory : Profile) × (ready ≡ shows.Profile memory)
 IsShow limit (show.Summary number) ready = ready ≡ shows.Summary number
 
 -- its commands have this as their first fault

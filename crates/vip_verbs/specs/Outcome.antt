@@ -35,6 +35,7 @@ use Rattle.vip_relation.specs.State.{Start, VipState, begun, events_from, first_
 use Rattle.vip_relation.specs.State.Start.{Reset, Saved}
 use Rattle.vip_show.specs.Endings.{ending_of}
 use Rattle.vip_show.specs.Output.{count_of, is_dispatch_event, is_picture_event, lit_at, picture_pieces, screen_piece, trace_lines}
+use Rattle.vip_show.specs.Profile.{profile_pieces}
 use Rattle.vip_show.specs.StateOutput.{saved_file}
 use Rattle.vip_text.specs.StateFile.{shown as saved_machine, IsAccepted}
 use Rattle.vip_text.specs.Summaries.{summary_line}
@@ -128,6 +129,10 @@ saved_as limit ending (Some file) = Shown (file ∷ []) (end_status ending) (end
 abbrev pub saved : Edition → ℕ → List Event → Outcome
 saved e limit events = saved_as limit (ending_of e events) (saved_file e events)
 
+-- where its time goes
+abbrev pub profiled : Edition → Start → List KeyEvent → ℕ → Outcome
+profiled e s script limit = ran limit (profile_pieces e (events_in e s script limit)) (run_ending e s script limit)
+
 -- one line that counts
 abbrev pub counted : ℕ → Edition → Start → List KeyEvent → ℕ → Outcome
 counted number e s script limit =
@@ -170,6 +175,7 @@ ShowComes e s keys limit (show.Trace with_time with_screen) = RunTo e keys (λ s
 ShowComes e s keys limit show.Pictures = RunTo e keys (λ script. pictured e s script limit)
 ShowComes e s keys limit (show.Commands text) = DebugComes e s keys limit (commands_of Chip8 limit text)
 ShowComes e s keys limit show.State = RunTo e keys (λ script. saved e limit (events_in e s script limit))
+ShowComes e s keys limit show.Profile = RunTo e keys (λ script. profiled e s script limit)
 ShowComes e s keys limit (show.Summary number) = RunTo e keys (λ script. counted number e s script limit)
 
 abbrev pub RunComes : RunRequest (List ℕ) → Outcome → Type 0

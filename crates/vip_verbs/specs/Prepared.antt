@@ -16,6 +16,7 @@ use Rattle.vip_relation.specs.Meets.{HasStopped}
 use Rattle.vip_relation.specs.State.{Start, VipState, begun, events_to}
 use Rattle.vip_show.specs.Answers.{run_trace, run_pictures, run_summary}
 use Rattle.vip_show.specs.Endings.{ending_of}
+use Rattle.vip_show.specs.Profile.{profile_pieces}
 use Rattle.vip_text.specs.Endings.{Ending}
 use Rattle.vip_text.specs.declared.ending.RunEnd.{RunEnd}
 use Rattle.vip_text.specs.declared.ending.RunEnd.TheVariants as end
@@ -55,6 +56,7 @@ shown_as (show.Trace with_time with_screen) v limit = ran limit (run_trace with_
 shown_as show.Pictures v limit = ran limit (run_pictures v limit) (ended_by limit v)
 shown_as (show.Commands commands) v limit = debugged_to limit (limit_from v.start limit) commands v
 shown_as show.State v limit = saved v.edition limit (events_to v limit)
+shown_as (show.Profile memory) v limit = ran limit (profile_pieces v.edition (events_to v limit)) (ended_by limit v)
 shown_as (show.Summary number) v limit = ran limit (run_summary number v limit) (ended_by limit v)
 
 -- a program that is shown so

@@ -18,6 +18,7 @@ use chip8_source::{ImageFault, check_image, check_tall};
 use std::alloc::Global;
 use vip_keypad::Script;
 use vip_relation::{ResumeFault, Run, StartFault};
+use vip_show::Profile;
 use vip_tools::{Refusal, demo_game, game_kind, read_debugging, read_keys};
 use vip_words::{RunRequest, Show, Speaks, Start};
 
@@ -96,7 +97,7 @@ fn begin<'a>(
     }
 }
 
-/// What is shown of a run up to a limit, with its commands read.
+/// What is shown of a run up to a limit, with its commands read and its memory taken.
 fn make_ready<'a>(alloc: Global, show: Show<Vec<u8>>, limit: u64) -> Result<ReadyShow, Refusal<'a>>
     requires { AreFit (show_files (map_show (λ bytes. bytes.items) show)) }
     ensures { ShowReady limit (map_show (λ bytes. bytes.items) show) result }
@@ -115,6 +116,7 @@ fn make_ready<'a>(alloc: Global, show: Show<Vec<u8>>, limit: u64) -> Result<Read
             Ok(ReadyShow::Commands(commands))
         }
         Show::State => Ok(ReadyShow::State),
+        Show::Profile => Ok(ReadyShow::Profile(Profile::new(alloc)?)),
         Show::Summary(number) => Ok(ReadyShow::Summary(number)),
     }
 }

@@ -9,6 +9,7 @@ use vip_board::Board;
 use vip_link::Link;
 use vip_outside::Sink;
 use vip_relation::Run;
+use vip_show::Profile;
 use vip_tools::{Ended, PerformFault};
 use vip_words::Commands;
 
@@ -49,6 +50,8 @@ pub enum ReadyShow {
     Commands(Commands),
     /// The last dispatch point, as a state file.
     State,
+    /// Where its time goes, by its dispatch points, with the memory for it.
+    Profile(Profile),
     /// One line that counts a demonstration game of this number.
     Summary(u32),
 }

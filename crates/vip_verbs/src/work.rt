@@ -9,7 +9,7 @@ use crate::prepared::ReadyShow;
 use vip_debug::{DebugEnd, run_commands};
 use vip_outside::{Failed, Sink};
 use vip_relation::{Run, Vip};
-use vip_show::{show_pictures, show_saved, show_summary, show_trace};
+use vip_show::{show_pictures, show_profile, show_saved, show_summary, show_trace};
 use vip_text::RunEnd;
 use vip_tools::{Ended, PerformFault};
 use vip_words::Commands;
@@ -81,6 +81,9 @@ pub(crate) fn perform_run<O: Sink>(
         ReadyShow::Pictures => ran(limit, show_pictures(&mut run, limit, out)),
         ReadyShow::Commands(commands) => debug(run, limit, commands, out),
         ReadyShow::State => end_of_saving(limit, show_saved(&mut run, limit, out)),
+        ReadyShow::Profile(mut profile) => {
+            ran(limit, show_profile(&mut run, limit, &mut profile, out))
+        }
         ReadyShow::Summary(number) => ran(limit, show_summary(&mut run, limit, number, out)),
     }
 }

@@ -175,6 +175,7 @@ verb-low verb.Trace given asked h = trace-low given.positional given asked h
 verb-low verb.Play given asked h = play-low given.positional given asked h
 verb-low verb.Debug given asked h = debug-low given.positional given asked h
 verb-low verb.Save given asked h = shown-low show.State given.positional given asked h
+verb-low verb.Profile given asked h = shown-low show.Profile given.positional given asked h
 verb-low verb.Resume given asked h = resume-low given.positional given asked h
 verb-low verb.Demo given asked h = demo-low given.positional asked h
 verb-low verb.Link given asked h = link-low given.positional asked h

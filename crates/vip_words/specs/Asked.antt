@@ -162,6 +162,7 @@ asked_of_verb verb.Trace given = trace_by given.positional given
 asked_of_verb verb.Play given = play_by given.positional given
 asked_of_verb verb.Debug given = debug_by given.positional given
 asked_of_verb verb.Save given = shown_by show.State given.positional given
+asked_of_verb verb.Profile given = shown_by show.Profile given.positional given
 asked_of_verb verb.Resume given = resume_by given.positional given
 asked_of_verb verb.Demo given = demo_by given.positional
 asked_of_verb verb.Link given = link_by given.positional

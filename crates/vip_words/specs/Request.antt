@@ -27,6 +27,7 @@ module _ {A B : Type 0} (f : A → B) where
   map_show show.Pictures = show.Pictures
   map_show (show.Commands file) = show.Commands (f file)
   map_show show.State = show.State
+  map_show show.Profile = show.Profile
   map_show (show.Summary number) = show.Summary number
 
   abbrev pub map_run : RunRequest A → RunRequest B

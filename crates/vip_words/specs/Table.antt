@@ -20,6 +20,7 @@ table =
     ∷ (codes "play", row verb.Play 2 (keys_option ∷ tall_option ∷ state_option ∷ rom_option ∷ ram_option ∷ []))
     ∷ (codes "debug", row verb.Debug 3 (keys_option ∷ tall_option ∷ state_option ∷ rom_option ∷ ram_option ∷ []))
     ∷ (codes "save", row verb.Save 2 (keys_option ∷ tall_option ∷ state_option ∷ []))
+    ∷ (codes "profile", row verb.Profile 2 (keys_option ∷ tall_option ∷ state_option ∷ []))
     ∷ (codes "resume", row verb.Resume 2 (keys_option ∷ at_option ∷ []))
     ∷ (codes "demo", row verb.Demo 2 [])
     ∷ (codes "link", row verb.Link 3 [])

@@ -95,6 +95,8 @@ pub enum Show<N> {
     Commands(N),
     /// The last dispatch point, as a state file.
     State,
+    /// Where its time goes, by its dispatch points.
+    Profile,
     /// One line that counts a demonstration game of this number.
     Summary(u32),
 }
@@ -313,6 +315,15 @@ fn save_request<'a>(given: &Given<'a>) -> Option<Request<&'a str>>
     run_request(file, cycles, given, Show::State)
 }
 
+fn profile_request<'a>(given: &Given<'a>) -> Option<Request<&'a str>>
+    ensures { option_map asked_of result ≡ asked_of_verb verb.Profile (seen_given given.now) }
+{
+    let Positional::Two(file, cycles) = given.positional else {
+        return None;
+    };
+    run_request(file, cycles, given, Show::Profile)
+}
+
 /// The trace of a run from a saved state.
 fn resume_request<'a>(given: &Given<'a>) -> Option<Request<&'a str>>
     ensures { option_map asked_of result ≡ asked_of_verb verb.Resume (seen_given given.now) }
@@ -478,6 +489,7 @@ fn request_of<'a>(verb: Verb, given: &Given<'a>) -> Option<Request<&'a str>>
         Verb::Play => play_request(given),
         Verb::Debug => debug_request(given),
         Verb::Save => save_request(given),
+        Verb::Profile => profile_request(given),
         Verb::Resume => resume_request(given),
         Verb::Demo => demo_request(given),
         Verb::Link => link_request(given),

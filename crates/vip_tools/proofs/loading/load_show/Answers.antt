@@ -23,5 +23,8 @@ returns-in-Pictures g c = rw c.in-Pictures.is (refl, loads-none _)
 pub returns-in-State : goal.returns-in-State
 returns-in-State g c = rw c.in-State.is (refl, loads-none _)
 
+pub returns-in-Profile : goal.returns-in-Profile
+returns-in-Profile g c = rw c.in-Profile.is (refl, loads-none _)
+
 pub returns-in-Summary : goal.returns-in-Summary
 returns-in-Summary g c = rw c.in-Summary.is (refl, loads-none _)

@@ -22,6 +22,12 @@ show_saved-requires-clause-fresh g c = fresh-of _ c.requires.0
 pub returns-in-State : goal.returns-in-State
 returns-in-State g c = rw (c.in-State.is, c.end_of_saving.ensures) (save-performs _ _ _ _ _ _ c.show_saved.ensures)
 
+pub show_profile-requires-clause-fresh : goal.show_profile-requires-clause-fresh
+show_profile-requires-clause-fresh g c = fresh-of _ c.requires.0
+
+pub returns-in-Profile : goal.returns-in-Profile
+returns-in-Profile g c = rw (c.in-Profile.is, c.ran-in-Profile.ensures) (show-performs _ _ _ _ _ _ c.show_profile.ensures)
+
 pub show_summary-requires-clause-fresh : goal.show_summary-requires-clause-fresh
 show_summary-requires-clause-fresh g c = fresh-of _ c.requires.0
 
