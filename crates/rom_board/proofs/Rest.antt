@@ -29,6 +29,7 @@ use Rattle.vip_relation.proofs.Past.{state, earlier, before as cycle_before, pas
 use Rattle.vip_show.specs.Endings.{ending_after, ending_of}
 use Rattle.vip_show.specs.Output.{trace_lines, trace_piece}
 use Rattle.vip_text.specs.StateFile.{shown}
+use Rattle.vip_text.specs.declared.trace.TraceColumns.{TraceColumns}
 use Rattle.rom_board.specs.Saved.{IsRest, SavedGoesOn}
 use Rattle.vip_show.specs.Points.{points_of, points_behind}
 use Rattle.vip_show.specs.Written.{file_of}
@@ -43,20 +44,20 @@ use Rattle.vip_show.proofs.Points.{ending_of_points, lines_of_points, no-stop, o
 abbrev pub dispatches : List Event → List Machine
 dispatches = filter_map dispatch_of
 
-record_of : Edition → Bool → Machine → List (List ℕ)
-record_of e with_time b = trace_piece e with_time (Dispatch b)
+record_of : Edition → TraceColumns → Machine → List (List ℕ)
+record_of e columns b = trace_piece e columns (Dispatch b)
 
-lines_by : (e : Edition) (with_time : Bool) (es : List Event) → trace_lines e with_time es ≡ flat_map (record_of e with_time) (dispatches es)
+lines_by : (e : Edition) (columns : TraceColumns) (es : List Event) → trace_lines e columns es ≡ flat_map (record_of e columns) (dispatches es)
 unfolding trace_lines record_of
-lines_by e with_time [] = refl
-lines_by e with_time (Picture m ∷ es) = lines_by e with_time es
-lines_by e with_time (Dispatch b ∷ es) = ap (λ lines. trace_piece e with_time (Dispatch b) ++ lines) (lines_by e with_time es)
-lines_by e with_time (Stopped b ∷ es) = lines_by e with_time es
+lines_by e columns [] = refl
+lines_by e columns (Picture m ∷ es) = lines_by e columns es
+lines_by e columns (Dispatch b ∷ es) = ap (λ lines. trace_piece e columns (Dispatch b) ++ lines) (lines_by e columns es)
+lines_by e columns (Stopped b ∷ es) = lines_by e columns es
 
-lines_append : (e : Edition) (with_time : Bool) (xs ys : List Event)
-    → trace_lines e with_time (xs ++ ys) ≡ trace_lines e with_time xs ++ trace_lines e with_time ys
+lines_append : (e : Edition) (columns : TraceColumns) (xs ys : List Event)
+    → trace_lines e columns (xs ++ ys) ≡ trace_lines e columns xs ++ trace_lines e columns ys
 unfolding trace_lines
-lines_append e with_time xs ys = flat_map-append (trace_piece e with_time) xs ys
+lines_append e columns xs ys = flat_map-append (trace_piece e columns) xs ys
 
 -- the ending behind a dispatch point before which there is no stop
 pub ending_behind : (e : Edition) (pc : ℕ) (opcode : Option ℕ) (xs : List Event) (b : Machine) (ys : List Event) → NoStop xs
@@ -250,22 +251,22 @@ module _ (e : Edition) (game : List ℕ) (small : length game ≤ memory_size e)
       ∙ ap (λ es. points_of es ++ behind later)
       (ap (λ (b : Machine). events_of i game script b.cycle) (shown_is ∙ l.is) ∙ up_to)
 
-  lines_up_to : (with_time : Bool) → trace_lines e with_time (past i (Reset game) script (suc l.n)) ≡ trace_lines e with_time (events_of i game script limit)
-  lines_up_to with_time =
-      lines_by e with_time (past i (Reset game) script (suc l.n))
-      ∙ ap (flat_map (record_of e with_time)) (sym l.none)
-      ∙ sym (lines_by e with_time (past i (Reset game) script (suc r.n)))
-      ∙ ap (trace_lines e with_time) (sym r.events)
+  lines_up_to : (columns : TraceColumns) → trace_lines e columns (past i (Reset game) script (suc l.n)) ≡ trace_lines e columns (events_of i game script limit)
+  lines_up_to columns =
+      lines_by e columns (past i (Reset game) script (suc l.n))
+      ∙ ap (flat_map (record_of e columns)) (sym l.none)
+      ∙ sym (lines_by e columns (past i (Reset game) script (suc r.n)))
+      ∙ ap (trace_lines e columns) (sym r.events)
 
-  records : (with_time : Bool) (later : ℕ) → limit ≤ later
-      → trace_lines e with_time (events_of i game script later)
-      ≡ trace_lines e with_time (events_of i game script limit) ++ trace_lines e with_time (behind later)
-  records with_time later more =
-      sym (lines_of_points e with_time (events_of i game script later))
-      ∙ ap (trace_lines e with_time) (points_are later more)
-      ∙ lines_append e with_time (points_of (past i (Reset game) script (suc l.n))) (behind later)
-      ∙ ap (λ lines. lines ++ trace_lines e with_time (behind later))
-      (lines_of_points e with_time (past i (Reset game) script (suc l.n)) ∙ lines_up_to with_time)
+  records : (columns : TraceColumns) (later : ℕ) → limit ≤ later
+      → trace_lines e columns (events_of i game script later)
+      ≡ trace_lines e columns (events_of i game script limit) ++ trace_lines e columns (behind later)
+  records columns later more =
+      sym (lines_of_points e columns (events_of i game script later))
+      ∙ ap (trace_lines e columns) (points_are later more)
+      ∙ lines_append e columns (points_of (past i (Reset game) script (suc l.n))) (behind later)
+      ∙ ap (λ lines. lines ++ trace_lines e columns (behind later))
+      (lines_of_points e columns (past i (Reset game) script (suc l.n)) ∙ lines_up_to columns)
 
   -- the events before the dispatch point
   abbrev before : List Event

@@ -1,5 +1,5 @@
 -- What holds of accepted files, and of those that are written.
-use Rattle.std.specs.Prelude.{◌≡◌, ℕ, ◌<◌, ◌≤◌, Bool, List, ◌++◌, length, slice_index, Some}
+use Rattle.std.specs.Prelude.{◌≡◌, ℕ, ◌<◌, ◌≤◌, List, ◌++◌, length, slice_index, Some}
 use Rattle.machine.specs.Board.{Machine}
 use Rattle.machine.specs.Keys.{Event as KeyEvent, held_at}
 use Rattle.machine.specs.Run.{run_to}
@@ -14,6 +14,7 @@ use Rattle.vip_relation.specs.State.{Start, events_from, machine_of, most_cycles
 use Rattle.vip_show.specs.Endings.{ending_after, ending_of}
 use Rattle.vip_show.specs.Output.{picture_pieces, trace_lines}
 use Rattle.vip_text.specs.StateFile.{shown, IsAccepted}
+use Rattle.vip_text.specs.declared.trace.TraceColumns.{TraceColumns}
 use Rattle.vip_show.specs.StateOutput.{saved_file}
 use Rattle.vip_show.specs.Points.{points_behind}
 use Rattle.vip_show.specs.Written.{file_of}
@@ -24,11 +25,11 @@ pub record IsRest (e : Edition) (game : List ℕ) (script : List KeyEvent) (limi
   pub accepted : IsAccepted e f
   pub shows : last_dispatch (events_of (interpreter_of e) game script limit) ≡ Some (shown f)
   pub records :
-      (with_time : Bool) (later : ℕ)
+      (columns : TraceColumns) (later : ℕ)
       → limit ≤ later
-      → trace_lines e with_time (events_of (interpreter_of e) game script later)
-      ≡ trace_lines e with_time (events_of (interpreter_of e) game script limit)
-      ++ trace_lines e with_time (points_behind (interpreter_of e) script (shown f) later)
+      → trace_lines e columns (events_of (interpreter_of e) game script later)
+      ≡ trace_lines e columns (events_of (interpreter_of e) game script limit)
+      ++ trace_lines e columns (points_behind (interpreter_of e) script (shown f) later)
   pub ending :
       (later : ℕ)
       → limit ≤ later

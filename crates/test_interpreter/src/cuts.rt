@@ -13,7 +13,7 @@ use vip_keypad::Script;
 use vip_outside::{Failed, MemSink};
 use vip_relation::Run;
 use vip_show::{show_saved, show_trace};
-use vip_text::RunEnd;
+use vip_text::{RunEnd, TIMED};
 
 /// How many games are cut, each in both editions.
 const GAMES: u32 = 200;
@@ -126,7 +126,7 @@ fn trace(alloc: Global, cut: &Cut<'_>, limit: u64) -> Result<Written<RunEnd>, Ru
 {
     let mut out = MemSink::new(alloc, ROOM)?;
     let mut run = start(alloc, cut)?;
-    let end = show_trace(&mut run, limit, true, false, &mut out);
+    let end = show_trace(&mut run, limit, TIMED, false, &mut out);
     Ok(Written { out, end })
 }
 
@@ -148,7 +148,7 @@ fn resume(alloc: Global, cut: &Cut<'_>, file: &[u8]) -> Result<Written<RunEnd>, 
     let Ok(mut run) = Run::resume(alloc, file, cut.script) else {
         return Err(RunFault::NotAState);
     };
-    let end = show_trace(&mut run, cut.last, true, false, &mut out);
+    let end = show_trace(&mut run, cut.last, TIMED, false, &mut out);
     Ok(Written { out, end })
 }
 

@@ -33,7 +33,7 @@ use Rattle.rom_board.proofs.Passed.{NoStop, before_point, no_stop_append, no_sto
 use Rattle.vip_text.specs.Endings.{Ending}
 use Rattle.vip_text.specs.Endings.Ending.{AtLimit}
 use Rattle.vip_text.specs.Screens.{screen_lines}
-use Rattle.vip_text.specs.Traces.{trace_line}
+use Rattle.vip_text.specs.Traces.{plain, timed, trace_line}
 use Rattle.vip_show.specs.Endings.{ending_after}
 use Rattle.vip_words.specs.declared.debug_commands.Command.{Command}
 use Rattle.vip_words.specs.declared.debug_commands.Command.TheVariants as command
@@ -41,7 +41,7 @@ use Rattle.vip_words.specs.declared.debug_commands.Running.{Running}
 use Rattle.vip_words.specs.declared.debug_commands.Running.TheVariants.{At, Step, To, Watch}
 use Rattle.vip_words.specs.declared.debug_commands.Seeking.{Seeking}
 use Rattle.vip_words.specs.declared.debug_commands.Seeking.TheVariants.{Next, Break}
-use Rattle.vip_words.specs.declared.debug_commands.Telling.TheVariants.{State, Screen}
+use Rattle.vip_words.specs.declared.debug_commands.Telling.TheVariants.{Code, State, Screen}
 use Rattle.vip_debug.proofs.TargetRuns.{Reached, all-moves, last-here, until, until-from, until-past}
 use Rattle.vip_debug.specs.Answers.{Arrival, Place, all_met, at_point, events_by, has_pc, lines_at, met_at, moved_on, moves_until, place_after, at_start, place_with, points_ahead, ran, running_lines, seeking_lines, sought, stop_by, stop_text, written}
 use Rattle.vip_debug.specs.Answers.{pieces as pieces_of}
@@ -407,13 +407,13 @@ module _
     answers : Answers e limit points ending over c t to (pieces_of v limit c (place t))
 
   -- a command that looks for a dispatch point
-  found_here : (b : Machine) → Among b (dispatches events) → seeking_lines v (at_point v limit (Some b)) ≡ line e false (point_of e b) ∷ []
+  found_here : (b : Machine) → Among b (dispatches events) → seeking_lines v (at_point v limit (Some b)) ≡ line e plain (point_of e b) ∷ []
   unfolding lines_at view_at
   found_here b a =
       let f = found b a in
-      ap (λ stop. if stop then stop_text (stop_by v (moves_until v b.cycle)) ∷ [] else trace_line false (view_at e (at_state (moves_until v b.cycle)))
+      ap (λ stop. if stop then stop_text (stop_by v (moves_until v b.cycle)) ∷ [] else trace_line plain (view_at e (at_state (moves_until v b.cycle)))
       ∷ []) f.runs
-      ∙ ap (λ (c : Machine). trace_line false (view_at e c) ∷ []) f.there
+      ∙ ap (λ (c : Machine). trace_line plain (view_at e c) ∷ []) f.there
 
   -- or to the end of the run
   end_here : seeking_lines v (at_point v limit None) ≡ end_line ending ∷ []
@@ -567,6 +567,7 @@ module _
     comes (command.Runs (At address)) = running_comes (At address) (λ to a. a)
     comes (command.Runs (Watch address count)) = running_comes (Watch address count) (λ to a. a)
     comes (command.Shows showing) = record { to = t; from = behind_start; within = order; is = refl; answers = refl }
+    comes (command.Tells (Code address count)) = record { to = t; from = behind_start; within = order; is = refl; answers = refl }
     comes (command.Seeks (Next n)) =
         seeks (Next n) (n - 1) (slice_get (points_ahead v limit (place t)) (n - 1)) refl refl
         (ap (λ ps. slice_get ps (n - 1)) (ahead_here t behind_start order) ∙ slice_get-map (point_of e) (points_ahead v limit (place t)) (n - 1))
@@ -585,7 +586,7 @@ module _
           );
         }
       where
-        states : (last : Option Machine) → option_map_or (trace_line true) (option_map (view_at e) last) (codes "none" ++ newline)
+        states : (last : Option Machine) → option_map_or (trace_line timed) (option_map (view_at e) last) (codes "none" ++ newline)
             ≡ state_text e limit points ending over (option_map (point_of e) last)
         states None = refl
         states (Some b) = refl

@@ -113,7 +113,7 @@ module _ (given : RomsGiven) where
 
   show_free : (e : Edition) (s : Start) (keys : Option (List ℕ)) (limit : ℕ) (shown : Show (List ℕ)) (o : Outcome)
       → ShowComes e s keys limit shown o → Free o
-  show_free e s keys limit (show.Trace with_time with_screen) o x = run_free e keys _ o (λ script. tt) x
+  show_free e s keys limit (show.Trace with_time with_words with_screen) o x = run_free e keys _ o (λ script. tt) x
   show_free e s keys limit show.Pictures o x = run_free e keys _ o (λ script. tt) x
   show_free e s keys limit (show.Commands text) o x = debug_free e s keys limit (commands_of Chip8 limit text) o x
   show_free e s keys limit show.State o x = run_free e keys _ o (λ script. saved_free limit _ _) x

@@ -143,8 +143,8 @@ module _ (law : EveryRun) (from : FromFile) (frames : EveryFrame) (frames_from :
   shows_as :
       (e : Edition) (s : Start) (fits : Fits e s) (keys : Option (List ℕ)) (limit : ℕ) (shown_as : Show (List ℕ)) (o : Outcome)
       → ShowComes e s keys limit shown_as o → Of e s fits keys limit shown_as o
-  shows_as e s fits keys limit (show.Trace with_time with_screen) o comes =
-      shows_run e s fits keys limit (show.Trace with_time with_screen) _ _ (λ script. refl) o comes
+  shows_as e s fits keys limit (show.Trace with_time with_words with_screen) o comes =
+      shows_run e s fits keys limit (show.Trace with_time with_words with_screen) _ _ (λ script. refl) o comes
   shows_as e s fits keys limit show.Pictures o comes = shows_run e s fits keys limit show.Pictures _ _ (λ script. refl) o comes
   shows_as e s fits keys limit (show.Commands text) o comes = shows_debug e s fits keys limit text (commands_of Chip8 limit text) o comes
   shows_as e s fits keys limit show.State o comes = shows_saved e s fits keys limit show.State (λ script. refl) o comes

@@ -21,6 +21,7 @@ use Rattle.vip_show.specs.Written.{file_of}
 use Rattle.vip_show.proofs.OneAnswer.{one_edition}
 use Rattle.vip_text.specs.Endings.Ending.{AtLimit}
 use Rattle.vip_text.specs.StateFile.{shown, IsAccepted}
+use Rattle.vip_text.specs.declared.trace.TraceColumns.{TraceColumns}
 use Rattle.vip_debug.specs.Answers.{moves_until, pieces, place_after, at_start, written}
 use Rattle.vip_debug.specs.Behind.{AnswersAs, GoesOnBehind}
 use Rattle.vip_words.specs.Request.{most_cycles}
@@ -57,10 +58,10 @@ saves_shown law e s fits script limit few file saved = let x = law e s fits scri
 
 -- ---- lists
 
-lines_joined : (e : Edition) (with_time : Bool) (xs ys : List Event)
-    → trace_lines e with_time (xs ++ ys) ≡ trace_lines e with_time xs ++ trace_lines e with_time ys
+lines_joined : (e : Edition) (columns : TraceColumns) (xs ys : List Event)
+    → trace_lines e columns (xs ++ ys) ≡ trace_lines e columns xs ++ trace_lines e columns ys
 unfolding trace_lines
-lines_joined e with_time xs ys = flat_map-append (trace_piece e with_time) xs ys
+lines_joined e columns xs ys = flat_map-append (trace_piece e columns) xs ys
 
 last_after_both : (last : Option Machine) (xs ys : List Event) → last_after last (xs ++ ys) ≡ last_after (last_after last xs) ys
 unfolding last_after
@@ -131,7 +132,7 @@ module _ (joins : SavedJoins) (commands_behind : GoesOnBehind) where
 
     goes_on : GoesOn e s file other later
     goes_on = record {
-      lines = λ with_time with_screen. lines with_time with_screen;
+      lines = λ columns with_screen. lines columns with_screen;
       pictures =
           ap₂ (ran later)
           (same_pictures e s other later ∙ j.pictures
@@ -142,25 +143,25 @@ module _ (joins : SavedJoins) (commands_behind : GoesOnBehind) where
     }
       where
         lines :
-            (with_time with_screen : Bool)
+            (columns : TraceColumns) (with_screen : Bool)
             → ran later
-            (trace_lines e with_time (events_shown e s other later)
+            (trace_lines e columns (events_shown e s other later)
             ++ (if with_screen then screen_piece e (last_dispatch (events_in e s other later)) else []))
             (run_ending e s other later)
             ≡ ran later
-            ((trace_lines e with_time (events_shown e s other t) ++ [])
-            ++ (trace_lines e with_time (events_shown e (Saved file) other later)
+            ((trace_lines e columns (events_shown e s other t) ++ [])
+            ++ (trace_lines e columns (events_shown e (Saved file) other later)
             ++ (if with_screen then screen_piece e (last_dispatch (events_in e (Saved file) other later)) else [])))
             (run_ending e (Saved file) other later)
-        lines with_time with_screen =
+        lines columns with_screen =
             let own : List Event = events_behind (interpreter_of e) other (shown file) later in
             ap₂ (ran later)
             (ap₂ (λ ls last. ls ++ (if with_screen then screen_piece e last else []))
-            (ap (trace_lines e with_time) (shown_joined e s other t later own j.events)
-            ∙ lines_joined e with_time (events_shown e s other t) own
-            ∙ ap (λ ls. ls ++ trace_lines e with_time own) (sym (append-nil (trace_lines e with_time (events_shown e s other t)))))
+            (ap (trace_lines e columns) (shown_joined e s other t later own j.events)
+            ∙ lines_joined e columns (events_shown e s other t) own
+            ∙ ap (λ ls. ls ++ trace_lines e columns own) (sym (append-nil (trace_lines e columns (events_shown e s other t)))))
             same_last
-            ∙ append_assoc (trace_lines e with_time (events_shown e s other t) ++ []) (trace_lines e with_time own)
+            ∙ append_assoc (trace_lines e columns (events_shown e s other t) ++ []) (trace_lines e columns own)
             (if with_screen then screen_piece e (last_dispatch (events_in e (Saved file) other later)) else []))
             j.ending
 
@@ -259,7 +260,7 @@ module _ (joins : SavedJoins) (commands_behind : GoesOnBehind) where
   is_saved :
       (e : Edition) (s : Start) → Fits e s → (keys : Option (List ℕ)) (limit : ℕ) (shown_as : Show (List ℕ)) (pieces : List (List ℕ)) (status : Status)
       (report : List ℕ) → ShowComes e s keys limit shown_as (Shown pieces status report) → IsSaved e s keys limit shown_as pieces
-  is_saved e s fits keys limit (show.Trace with_time with_screen) pieces status report x = tt
+  is_saved e s fits keys limit (show.Trace with_time with_words with_screen) pieces status report x = tt
   is_saved e s fits keys limit show.Pictures pieces status report x = tt
   is_saved e s fits keys limit (show.Commands text) pieces status report x = tt
   is_saved e s fits keys limit show.State pieces status report x = saves_one e s fits keys limit pieces status report x

@@ -196,7 +196,7 @@ debugs_agree d s keys limit (Err debug_fault.NoMemory) o p x y = absurd x
 shows_agree :
     (d : Edition) (s : Start) (keys : Option (List ℕ)) (limit : ℕ) (shown : Show (List ℕ)) (o p : Outcome)
     → ShowComes d s keys limit shown o → ShowComes d s keys limit shown p → Agree o p
-shows_agree d s keys limit (show.Trace with_time with_screen) o p x y = runs_agree d keys _ o p x y
+shows_agree d s keys limit (show.Trace with_time with_words with_screen) o p x y = runs_agree d keys _ o p x y
 shows_agree d s keys limit show.Pictures o p x y = runs_agree d keys _ o p x y
 shows_agree d s keys limit (show.Commands text) o p x y = debugs_agree d s keys limit (commands_of Chip8 limit text) o p x y
 shows_agree d s keys limit show.State o p x y = runs_agree d keys _ o p x y
@@ -306,7 +306,7 @@ no_debug d s keys limit (Err debug_fault.NoMemory) report x = x
 
 no_show : (d : Edition) (s : Start) (keys : Option (List ℕ)) (limit : ℕ) (shown : Show (List ℕ)) (report : List ℕ)
     → ShowComes d s keys limit shown (GivenUp report) → ⊥
-no_show d s keys limit (show.Trace with_time with_screen) report x = no_run d keys _ report (λ script h. not_shown _ _ _ report h) x
+no_show d s keys limit (show.Trace with_time with_words with_screen) report x = no_run d keys _ report (λ script h. not_shown _ _ _ report h) x
 no_show d s keys limit show.Pictures report x = no_run d keys _ report (λ script h. not_shown _ _ _ report h) x
 no_show d s keys limit (show.Commands text) report x = no_debug d s keys limit (commands_of Chip8 limit text) report x
 no_show d s keys limit show.State report x = no_run d keys _ report (λ script h. not_saved _ _ _ report h) x

@@ -20,6 +20,7 @@ use Rattle.vip_debug.specs.Answers.{moves_until, at_start, written}
 use Rattle.vip_debug.proofs.Reaching.{last_until}
 use Rattle.vip_text.specs.Endings.{Ending}
 use Rattle.vip_text.specs.StateFile.{shown}
+use Rattle.vip_text.specs.Traces.{columns_of}
 use Rattle.vip_show.specs.Output.{picture_pieces}
 use Rattle.vip_show.specs.StateOutput.{saved_file}
 use Rattle.vip_words.specs.DebugGrammar.{commands_of}
@@ -250,11 +251,11 @@ module _ (every : EveryRun) (from : FromAccepted) (saves : SavesShown) (law : Ru
   transcribed_as :
       (e : Edition) (s : Start) (fits : Fits e s) (keys : Option (List ℕ)) (limit : ℕ) (asked_show : Show (List ℕ)) (o : Outcome)
       → ShowComes e s keys limit asked_show o → Of e s keys limit asked_show o
-  transcribed_as e s fits keys limit (show.Trace with_time with_screen) o comes =
-      transcribed_run e s fits keys limit (show.Trace with_time with_screen) _ _
+  transcribed_as e s fits keys limit (show.Trace with_time with_words with_screen) o comes =
+      transcribed_run e s fits keys limit (show.Trace with_time with_words with_screen) _ _
       (λ script. (
-        traced_is e with_time with_screen (events_shown e s script limit) (events_in e s script limit)
-            ∙ ap (λ ps. trace_text e with_time with_screen (points_shown e s script limit) (last_point ps)) (all_are e s script limit),
+        traced_is e (columns_of with_time with_words) with_screen (events_shown e s script limit) (events_in e s script limit)
+            ∙ ap (λ ps. trace_text e (columns_of with_time with_words) with_screen (points_shown e s script limit) (last_point ps)) (all_are e s script limit),
         refl,
       ))
       o comes

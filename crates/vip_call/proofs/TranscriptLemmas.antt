@@ -22,6 +22,7 @@ use Rattle.vip_text.specs.Endings.{Ending}
 use Rattle.vip_text.specs.Screens.{picture_file}
 use Rattle.vip_text.specs.StateFile.{bank_in, shown}
 use Rattle.vip_text.specs.Summaries.{summary_line}
+use Rattle.vip_text.specs.declared.trace.TraceColumns.{TraceColumns}
 use Rattle.vip_show.specs.Output.{trace_lines, screen_piece, picture_pieces, lit_at, is_dispatch_event, is_picture_event, count_of}
 use Rattle.vip_show.specs.Profile.{profile_pieces, profile_text, views_of}
 use Rattle.vip_call.specs.Language.{named}
@@ -184,12 +185,12 @@ module _ (e : Edition) (script : List KeyEvent) (limit : ℕ) (run : List Machin
 -- ---- the lines
 
 module _ (e : Edition) where
-  pub lines_are : (with_time : Bool) (events : List Event) → trace_lines e with_time events ≡ map (line e with_time) (points_of e events)
+  pub lines_are : (columns : TraceColumns) (events : List Event) → trace_lines e columns events ≡ map (line e columns) (points_of e events)
   unfolding trace_lines view_at
-  lines_are with_time [] = refl
-  lines_are with_time (Picture m ∷ events) = lines_are with_time events
-  lines_are with_time (Dispatch b ∷ events) = ap (λ l. line e with_time (point_of e b) ∷ l) (lines_are with_time events)
-  lines_are with_time (Stopped b ∷ events) = lines_are with_time events
+  lines_are columns [] = refl
+  lines_are columns (Picture m ∷ events) = lines_are columns events
+  lines_are columns (Dispatch b ∷ events) = ap (λ l. line e columns (point_of e b) ∷ l) (lines_are columns events)
+  lines_are columns (Stopped b ∷ events) = lines_are columns events
 
   -- the last of them
   last_of :
@@ -214,12 +215,12 @@ module _ (e : Edition) where
 
   -- the lines of some events, and the screen at the last dispatch point of all
   pub traced_is :
-      (with_time with_screen : Bool) (shown all : List Event)
-      → trace_lines e with_time shown ++ (if with_screen then screen_piece e (last_dispatch all) else [])
-      ≡ trace_text e with_time with_screen (points_of e shown) (last_point (points_of e all))
-  traced_is with_time with_screen shown all =
+      (columns : TraceColumns) (with_screen : Bool) (shown all : List Event)
+      → trace_lines e columns shown ++ (if with_screen then screen_piece e (last_dispatch all) else [])
+      ≡ trace_text e columns with_screen (points_of e shown) (last_point (points_of e all))
+  traced_is columns with_screen shown all =
       ap₂ (λ lines last. lines ++ (if with_screen then last else []))
-      (lines_are with_time shown)
+      (lines_are columns shown)
       (screen_is (last_dispatch all) ∙ ap (last_screen e) (sym (last_is_last all)))
 
   -- ---- the profile

@@ -9,12 +9,13 @@ use Rattle.vip_byte.specs.Text.{newline}
 use Rattle.vip_text.specs.Endings.{Ending}
 use Rattle.vip_text.specs.Endings.Ending.{AtLimit, AtStop}
 use Rattle.vip_text.specs.Screens.{screen_lines}
+use Rattle.vip_text.specs.Traces.{plain, timed}
 use Rattle.vip_words.specs.declared.debug_commands.Command.{Command}
 use Rattle.vip_words.specs.declared.debug_commands.Command.TheVariants.{Runs, Seeks, Shows, Tells}
 use Rattle.vip_words.specs.declared.debug_commands.Running.TheVariants.{To}
 use Rattle.vip_words.specs.declared.debug_commands.Seeking.{Seeking}
 use Rattle.vip_words.specs.declared.debug_commands.Seeking.TheVariants.{Next, Break}
-use Rattle.vip_words.specs.declared.debug_commands.Telling.TheVariants.{Screen, State}
+use Rattle.vip_words.specs.declared.debug_commands.Telling.TheVariants.{Code, Screen, State}
 use Rattle.vip_call.specs.Transcript.{Point, end_line, last_point, line, screen}
 
 -- of the points of a run up to a limit, which ends so in cycle `over`
@@ -42,12 +43,12 @@ module _ (e : Edition) (limit : ℕ) (points : List Point) (ending : Ending) (ov
 
   abbrev pub found_line : Option Point → List ℕ
   found_line None = end_line ending
-  found_line (Some p) = line e false p
+  found_line (Some p) = line e plain p
 
   -- `state` and `screen`, of the last point met
   abbrev pub state_text : Option Point → List ℕ
   state_text None = codes "none" ++ newline
-  state_text (Some p) = line e true p
+  state_text (Some p) = line e timed p
 
   abbrev pub screen_text : Option Point → List ℕ
   screen_text None = screen_lines empty (rows_of e)
@@ -62,6 +63,7 @@ module _ (e : Edition) (limit : ℕ) (points : List Point) (ending : Ending) (ov
   Answers (Seeks seeking) t u pieces = (u ≡ place_at t (sought seeking t)) × (pieces ≡ found_line (sought seeking t) ∷ [])
   Answers (Tells State) t u pieces = (u ≡ t) × (pieces ≡ state_text (last_met t) ∷ [])
   Answers (Tells Screen) t u pieces = (u ≡ t) × (pieces ≡ screen_text (last_met t) ∷ [])
+  Answers (Tells (Code address count)) t u pieces = u ≡ t
   Answers (Runs (To cycle)) t u pieces = (u ≡ max t (min cycle limit)) × NamesStop u pieces
   Answers (Runs running) t u pieces = (t ≤ u) × (u ≤ max t limit) × NamesStop u pieces
   Answers (Shows showing) t u pieces = u ≡ t

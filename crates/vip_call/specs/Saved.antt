@@ -7,6 +7,7 @@ use Rattle.vip_relation.specs.Follows.{last_dispatch}
 use Rattle.vip_relation.specs.State.{Start}
 use Rattle.vip_relation.specs.State.Start.{Saved}
 use Rattle.vip_text.specs.StateFile.{shown, IsAccepted}
+use Rattle.vip_text.specs.declared.trace.TraceColumns.{TraceColumns}
 use Rattle.vip_tools.specs.Files.{Loaded}
 use Rattle.vip_tools.specs.Outcome.{Outcome, script_in}
 use Rattle.vip_tools.specs.Outcome.Outcome.{Shown}
@@ -30,9 +31,9 @@ IsJoined _ _ whole = ⊥
 -- from the file.
 pub record GoesOn (e : Edition) (s : Start) (file : List ℕ) (script : List KeyEvent) (limit : ℕ) : Type 0 where
   pub lines :
-      (with_time with_screen : Bool)
-      → IsJoined (traced with_time false e s script (shown file).cycle) (traced with_time with_screen e (Saved file) script limit)
-      (traced with_time with_screen e s script limit)
+      (columns : TraceColumns) (with_screen : Bool)
+      → IsJoined (traced columns false e s script (shown file).cycle) (traced columns with_screen e (Saved file) script limit)
+      (traced columns with_screen e s script limit)
   pub pictures : IsJoined (pictured e s script (shown file).cycle) (pictured e (Saved file) script limit) (pictured e s script limit)
   pub state : saved e limit (events_in e s script limit) ≡ saved e limit (events_in e (Saved file) script limit)
   pub answers :

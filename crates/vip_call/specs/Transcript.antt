@@ -22,6 +22,7 @@ use Rattle.vip_text.specs.Screens.{picture_file, screen_lines}
 use Rattle.vip_text.specs.Stops.{stop_line}
 use Rattle.vip_text.specs.Summaries.{summary_line}
 use Rattle.vip_text.specs.Traces.{trace_line}
+use Rattle.vip_text.specs.declared.trace.TraceColumns.{TraceColumns}
 use Rattle.vip_show.specs.Output.{lit_in_rows}
 use Rattle.vip_show.specs.Profile.{profile_text}
 
@@ -89,8 +90,8 @@ point_before t points = last_point (filter (λ p. nat_lt p.cycle t) points)
 -- ---- what is written
 
 module _ (e : Edition) where
-  abbrev pub line : Bool → Point → List ℕ
-  line with_time p = trace_line with_time (view_of e p.state p.cycle)
+  abbrev pub line : TraceColumns → Point → List ℕ
+  line columns p = trace_line columns (view_of e p.state p.cycle)
 
   abbrev pub screen : Point → List ℕ
   screen p = screen_lines p.state.screen (rows_of e)
@@ -110,8 +111,8 @@ module _ (e : Edition) where
   lit (Some p) = lit_in_rows p.state.screen (range_with_len 0 (rows_of e))
 
   -- `trace`: the lines of the points, and then the screen at the last one, if there is one
-  abbrev pub trace_text : Bool → Bool → List Point → Option Point → List (List ℕ)
-  trace_text with_time with_screen points last = map (line with_time) points ++ (if with_screen then last_screen last else [])
+  abbrev pub trace_text : TraceColumns → Bool → List Point → Option Point → List (List ℕ)
+  trace_text columns with_screen points last = map (line columns) points ++ (if with_screen then last_screen last else [])
 
   -- `demo`: the counts of points and of n pictures, and the lit pixels at the last point
   abbrev pub summary_text : ℕ → ℕ → List Point → Option Point → List (List ℕ)

@@ -6,13 +6,15 @@ use Rattle.chip8_lang.specs.declared.view.StopRecord.{StopRecord}
 use Rattle.chip8_lang.specs.Events.{is_stop}
 use Rattle.chip8_lang.specs.View.{view_at}
 use Rattle.vip_byte.specs.Text.{newline}
-use Rattle.vip_text.specs.Traces.{trace_line}
+use Rattle.vip_text.specs.Traces.{plain, trace_line}
 use Rattle.vip_relation.specs.State.{VipState, interpreter, events_to, state_after}
 use Rattle.vip_relation.specs.Follows.{Follows, last_view, last_screen}
 use Rattle.vip_relation.specs.Meets.{IsSame}
 use Rattle.vip_relation.specs.Stops.{stop_record}
 use Rattle.vip_relation.proofs.Waits.{last-at-stop}
-use Rattle.vip_words.specs.declared.debug_commands.Telling.TheVariants.{State, Screen}
+use Rattle.vip_words.specs.declared.debug_commands.Telling.TheVariants.{State, Screen, Code}
+use Rattle.vip_debug.specs.BoardParts.{clear_reads}
+use Rattle.vip_debug.specs.Code.{clear_byte, code_lines}
 use Rattle.vip_debug.specs.Shown.{state_line, screen_text}
 use Rattle.vip_debug.specs.Answers.{begun, Place, place_of, Arrival, stop_by, stop_text, lines_at, told, StandsAt}
 use Rattle.vip_debug.proofs.Places.{begun-same, state-same}
@@ -27,6 +29,16 @@ module _ (v : VipState) (f : Follows v) where
   pub screen-told : screen_text v.edition v.shown ∷ [] ≡ told (begun v) Screen (place_of v)
   screen-told =
       ap (λ bytes. screen_text v.edition bytes ∷ []) (f.shown ∙ ap (λ (b : Machine). last_screen v.edition (take v.met (events_to v b.cycle))) f.machine)
+
+-- ---- opcodes
+
+module _ (v : VipState) (f : Follows v) where
+  pub code-told : (address count : ℕ)
+      → code_lines (clear_reads (record { ram = v.board.machine.ram; rom = v.board.rom; latch = v.board.machine.latch })) address count
+      ≡ told (begun v) (Code address count) (place_of v)
+  code-told address count =
+      ap (λ rom. code_lines (clear_byte rom v.board.machine) address count) f.rom
+      ∙ ap (λ (b : Machine). code_lines (clear_byte (interpreter v).rom b) address count) f.machine
 
 -- ---- where the board stands
 
@@ -137,9 +149,9 @@ module _ (old v : VipState) (g : Follows v) (a : Arrival) (completed : Bool) (sa
     writes-end is goes = lines-end v g completed lines is goes ∙ arrived
 
   -- the record of the dispatch point
-  pub point-lines : Follows old → trace_line false (view_at v.edition v.board.machine) ∷ [] ≡ trace_line false
+  pub point-lines : Follows old → trace_line plain (view_at v.edition v.board.machine) ∷ [] ≡ trace_line plain
       (view_at (begun old).edition (state_after (begun old) a.place.moves)) ∷ []
   point-lines f =
-      ap (λ e. trace_line false (view_at e v.board.machine) ∷ []) same.edition
-      ∙ ap (λ b. trace_line false (view_at old.edition b) ∷ [])
+      ap (λ e. trace_line plain (view_at e v.board.machine) ∷ []) same.edition
+      ∙ ap (λ b. trace_line plain (view_at old.edition b) ∷ [])
       (g.machine ∙ state-same old v f g same v.moves ∙ ap (λ (p : Place). state_after old p.moves) place)

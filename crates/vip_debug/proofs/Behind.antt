@@ -29,7 +29,7 @@ use Rattle.vip_relation.specs.declared.point.Point.{Point}
 use Rattle.vip_relation.specs.declared.point.Point.TheVariants.{Dispatch as DispatchPoint, Stop as StopPoint, Other as OtherPoint}
 use Rattle.vip_relation.proofs.Beginning.{begins-running}
 use Rattle.vip_relation.proofs.Past.{state, past, past-first, pictures, point, earlier, before}
-use Rattle.vip_text.specs.Traces.{trace_line}
+use Rattle.vip_text.specs.Traces.{plain, trace_line}
 use Rattle.vip_words.specs.declared.debug_commands.Command.{Command}
 use Rattle.vip_words.specs.declared.debug_commands.Command.TheVariants.{Runs, Shows, Seeks, Tells}
 use Rattle.vip_words.specs.declared.debug_commands.Running.{Running}
@@ -37,12 +37,13 @@ use Rattle.vip_words.specs.declared.debug_commands.Running.TheVariants.{To}
 use Rattle.vip_words.specs.declared.debug_commands.Seeking.{Seeking}
 use Rattle.vip_words.specs.declared.debug_commands.Seeking.TheVariants.{Next, Break}
 use Rattle.vip_words.specs.declared.debug_commands.Telling.{Telling}
-use Rattle.vip_words.specs.declared.debug_commands.Telling.TheVariants.{State, Screen}
+use Rattle.vip_words.specs.declared.debug_commands.Telling.TheVariants.{State, Screen, Code}
 use Rattle.vip_debug.specs.Answered.{completed_lines, shown}
 use Rattle.vip_debug.specs.Answers.{Arrival, Place, all_met, at_point, at_start, events_by, has_pc, lines_at, met_at, moved_on, moves_until, pieces, place_after, place_with, points_ahead, ran, running_lines, seeking_lines, sought, stop_by, stop_text, told, written}
 use Rattle.vip_debug.specs.Behind.{AnswersAs, GoesOnBehind, HoldSame}
 use Rattle.vip_debug.specs.Commands.{Came, came}
 use Rattle.vip_debug.specs.Game.{run_at}
+use Rattle.vip_debug.specs.Code.{clear_byte, code_lines}
 use Rattle.vip_debug.specs.Shown.{screen_text, state_line}
 use Rattle.vip_debug.specs.TargetRun as run
 use Rattle.vip_debug.proofs.Reaching.{all_past, last_until, with_one}
@@ -472,7 +473,7 @@ module _ (e : Edition) (s : Start) (script script' : List KeyEvent) (begins : is
     seeking_same : (seeking : Seeking) → seeking_lines v (sought v limit seeking p) ≡ seeking_lines u (sought u limit seeking q)
     seeking_same seeking =
         lines_on (sought v limit seeking p) (sought u limit seeking q) (sought_both seeking) (by_command (Seeks seeking)) _ _
-        (ap (λ b. trace_line false (view_at e b) ∷ [])
+        (ap (λ b. trace_line plain (view_at e b) ∷ [])
         (machine_there (sought v limit seeking p) (sought u limit seeking q) (sought_both seeking) (by_command (Seeks seeking))))
 
     -- what was met
@@ -483,6 +484,7 @@ module _ (e : Edition) (s : Start) (script script' : List KeyEvent) (begins : is
     told_same : (telling : Telling) → told v telling p ≡ told u telling q
     told_same State = ap (λ last. state_line (option_map (view_at e) last) ∷ []) met_on
     told_same Screen = ap (λ last. screen_text e (option_map_or (screen_bytes e) last (replicate (screen_size e) 0)) ∷ []) met_on
+    told_same (Code address count) = ap (λ b. code_lines (clear_byte i.rom b) address count) (state_on j)
 
     one_same : (c : Command) → SamePieces c p q
     one_same (Runs running) = record { lines = running_same running; places = (ran_both running).places }

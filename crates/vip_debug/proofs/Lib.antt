@@ -13,3 +13,4 @@ pub mod Disassembling
 pub mod TargetFolding
 pub mod SameKeys
 pub mod Behind
+pub mod Clear

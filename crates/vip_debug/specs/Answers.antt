@@ -7,13 +7,14 @@ use Rattle.chip8_lang.specs.Events.{Event, is_stop}
 use Rattle.chip8_lang.specs.View.{view_at}
 use Rattle.vip_text.specs.Stops.{stop_line}
 use Rattle.vip_byte.specs.Text.{newline}
-use Rattle.vip_text.specs.Traces.{trace_line}
+use Rattle.vip_text.specs.Traces.{plain, trace_line}
 use Rattle.vip_outside.specs.Sink.{SinkMeaning}
 use Rattle.vip_outside.specs.Pieces.{PutsAll, FailsWithin}
 use Rattle.vip_relation.specs.State.{VipState, first_events, interpreter, events_to, begun as begun_from, state_after}
 use Rattle.vip_relation.specs.Follows.{dispatch_of, last_view, last_screen}
 use Rattle.vip_relation.specs.Meets.{IsSame}
 use Rattle.vip_relation.specs.Stops.{stop_record}
+use Rattle.vip_debug.specs.Code.{clear_byte, code_lines}
 use Rattle.vip_debug.specs.Shown.{state_line, screen_text}
 use Rattle.vip_debug.specs.Game.{run_at}
 use Rattle.vip_debug.specs.TargetRun as run
@@ -26,7 +27,7 @@ use Rattle.vip_words.specs.declared.debug_commands.Running.{Running}
 use Rattle.vip_words.specs.declared.debug_commands.Seeking.{Seeking}
 use Rattle.vip_words.specs.declared.debug_commands.Seeking.TheVariants.{Next, Break}
 use Rattle.vip_words.specs.declared.debug_commands.Telling.{Telling}
-use Rattle.vip_words.specs.declared.debug_commands.Telling.TheVariants.{State, Screen}
+use Rattle.vip_words.specs.declared.debug_commands.Telling.TheVariants.{State, Screen, Code}
 use Rattle.vip_debug.specs.declared.run.DebugEnd.{DebugEnd}
 use Rattle.vip_debug.specs.declared.run.DebugEnd.TheVariants.{Done, Stopped, WriteFault}
 
@@ -117,12 +118,13 @@ running_lines v limit running p =
 
 -- of a dispatch point its record
 abbrev pub seeking_lines : VipState → Arrival → List (List ℕ)
-seeking_lines v a = lines_at v a (trace_line false (view_at v.edition (state_after v a.place.moves)) ∷ [])
+seeking_lines v a = lines_at v a (trace_line plain (view_at v.edition (state_after v a.place.moves)) ∷ [])
 
--- what was met of the language; a screen is one piece
+-- what was met of the language, or opcodes in words; a screen is one piece
 abbrev pub told : VipState → Telling → Place → List (List ℕ)
 told v State p = state_line (last_view v.edition (met_at v p)) ∷ []
 told v Screen p = screen_text v.edition (last_screen v.edition (met_at v p)) ∷ []
+told v (Code address count) p = code_lines (clear_byte (interpreter v).rom (state_after v p.moves)) address count
 
 -- each line is a piece of its own
 abbrev pub pieces : VipState → ℕ → Command → Place → List (List ℕ)

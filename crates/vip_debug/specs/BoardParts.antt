@@ -1,5 +1,5 @@
 -- What the parts of a command make.
-use Rattle.std.specs.Prelude.{◌≡◌, ◌⊎◌, ℕ, ◌-◌, ◌<◌, ◌≤◌, Bool, List, [], ◌∷◌, ◌++◌, length, Result, Ok, Err}
+use Rattle.std.specs.Prelude.{◌≡◌, ◌⊎◌, ℕ, ◌-◌, ◌<◌, ◌≤◌, Bool, false, List, [], ◌∷◌, ◌++◌, length, Result, Ok, Err}
 use Rattle.machine.specs.Keys.{held_at}
 use Rattle.machine.specs.Memory.{read}
 use Rattle.vip_board.specs.Seen.{Seen}
@@ -59,6 +59,10 @@ Fits running change = Unit {0}
 -- the byte that each address reads
 abbrev pub reads : Contents → ℕ → ℕ
 reads m address = read m.rom m.latch m.ram address
+
+-- and where the boot latch is clear
+abbrev pub clear_reads : Contents → ℕ → ℕ
+clear_reads m address = read m.rom false m.ram address
 
 -- the line of the instruction at an address went out, of which it shows so many bytes
 abbrev pub PutsLine : Layout → (ℕ → ℕ) → ℕ → SinkMeaning → SinkMeaning → Result ℕ Failed → Type 0

@@ -1,3 +1,4 @@
+pub mod Code
 pub mod Shown
 pub mod Game
 pub mod GameLaws

@@ -3,8 +3,8 @@
 //! It stands on the commands that `vip_words` reads, on the board, on the disassembly of `asm_listing`, and on the sinks of `vip_outside`. What
 //! commands ask of any board is said once: a board that goes along a run of its own is a [`Target`], which is moved by number, up to a cycle, to an
 //! address or to a change of memory, and whose registers and bytes are shown. Two boards are such: one that runs a game from event to event
-//! (`vip_relation`), of which the language state and the screen are shown too by the texts of `vip_text`, and one that runs any program
-//! (`vip_program`).
+//! (`vip_relation`), of which the language state and the screen are shown too by the texts of `vip_text`, and opcodes in the words of `chip8_words`, and
+//! one that runs any program (`vip_program`).
 //!
 //! The layer above may rely on this: the moves that a command makes are exactly those of `specs/Commands.antt`, none behind the end of the run or
 //! the limit; `run_commands` puts exactly the pieces of `specs/Answers.antt`, up to the first put that fails, and leaves the board at the place
@@ -18,6 +18,7 @@
 
 mod answer;
 mod bytes;
+mod code;
 mod game;
 mod going;
 pub mod laws;

@@ -5,11 +5,12 @@ ghost use Rattle.vip_outside.specs.Sink.{PutAnswers};
 ghost use Rattle.vip_outside.specs.Pieces.{StreamAnswers};
 ghost use Rattle.chip8_lang.specs.View.{view_at};
 ghost use Rattle.vip_relation.specs.Follows.{Follows};
-ghost use Rattle.vip_text.specs.Traces.{trace_line};
+ghost use Rattle.vip_text.specs.Traces.{plain, trace_line};
 ghost use Rattle.vip_debug.specs.Answers.{DebugAnswers, begun, pieces, place_of, place_with, ran, running_lines, seeking_lines, sought, stop_text, told};
 ghost use Rattle.vip_debug.specs.Parts.{Makes, TellsPresent};
 
 use crate::answer::{put_completed, put_showing};
+use crate::code::put_code;
 use crate::game::run_game;
 use crate::going::seek;
 use crate::moves::Change;
@@ -18,7 +19,7 @@ use chip8_lang::StopRecord;
 use vip_byte::{Buffer, MOST_CYCLE};
 use vip_outside::{Failed, Sink};
 use vip_relation::Vip;
-use vip_text::trace_text;
+use vip_text::{PLAIN, trace_text};
 use vip_words::{Command, Commands, Running, Seeking, Telling};
 
 /// How the commands ended.
@@ -44,11 +45,11 @@ fn put_stop<O: Sink>(stop: &StopRecord, out: &mut O) -> Result<(), Failed>
 /// Puts the record of the dispatch point at which the board is, and which was met last.
 fn put_point<O: Sink>(vip: &Vip, out: &mut O) -> Result<(), Failed>
     requires { TellsPresent vip.now }
-    ensures { PutAnswers (trace_line false (view_at vip.now.edition vip.now.board.machine)) (O.meaning out.old) (O.meaning out.new) result }
+    ensures { PutAnswers (trace_line plain (view_at vip.now.edition vip.now.board.machine)) (O.meaning out.old) (O.meaning out.new) result }
 {
     let mut text = Buffer::new();
     if let Some(view) = vip.last() {
-        trace_text(view, false, &mut text);
+        trace_text(view, PLAIN, &mut text);
     }
     out.put(text.as_slice())
 }
@@ -99,7 +100,7 @@ fn put_seeking<O: Sink>(
     }
 }
 
-/// Puts what was met of the language.
+/// Puts what was met of the language, or its opcodes.
 fn put_telling<O: Sink>(vip: &Vip, telling: Telling, out: &mut O) -> Result<(), Failed>
     requires { Follows vip.now }
     ensures { StreamAnswers (told (begun vip.now) telling (place_of vip.now)) (O.meaning out.old) (O.meaning out.new) result }
@@ -107,6 +108,7 @@ fn put_telling<O: Sink>(vip: &Vip, telling: Telling, out: &mut O) -> Result<(), 
     match telling {
         Telling::State => put_state(vip, out),
         Telling::Screen => put_screen(vip, out),
+        Telling::Code(address, count) => put_code(vip.board().memory(), address, count, out),
     }
 }
 

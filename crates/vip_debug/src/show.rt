@@ -6,7 +6,7 @@ ghost use Rattle.vip_debug.specs.Shown.{screen_text, state_line};
 use vip_byte::{Buffer, put};
 use vip_outside::{Failed, Sink};
 use vip_relation::Vip;
-use vip_text::trace_text;
+use vip_text::{TIMED, trace_text};
 
 /// Puts the language state there, with the count of ticks and the cycle, or that there is none.
 pub fn put_state<O: Sink>(vip: &Vip, out: &mut O) -> Result<(), Failed>
@@ -14,7 +14,7 @@ pub fn put_state<O: Sink>(vip: &Vip, out: &mut O) -> Result<(), Failed>
 {
     let mut text = Buffer::new();
     match vip.last() {
-        Some(view) => trace_text(view, true, &mut text),
+        Some(view) => trace_text(view, TIMED, &mut text),
         None => put(&mut text, b"none\n"),
     }
     out.put(text.as_slice())

@@ -30,6 +30,7 @@ use Rattle.vip_text.specs.Endings.{ending_in}
 use Rattle.vip_text.specs.Endings.Ending.{AtStop}
 use Rattle.vip_text.specs.declared.ending.RunEnd.{RunEnd}
 use Rattle.vip_text.specs.declared.ending.RunEnd.TheVariants as run
+use Rattle.vip_text.specs.declared.trace.TraceColumns.{TraceColumns}
 use Rattle.vip_show.specs.declared.run.Shown.{Shown}
 use Rattle.vip_show.specs.declared.run.Shown.TheVariants.{Lines, Pictures, Nothing}
 use Rattle.vip_show.specs.declared.run.Tally.{Tally}
@@ -277,13 +278,13 @@ puts-piece (Some piece) old new done put = PutsAll-one piece old new put
 module _ (shown : Shown) (limit : ℕ) (start : VipState) (out : SinkMeaning) (v v' : VipState) (out' : SinkMeaning) (dispatches pictures : ℕ) (g : Going shown limit start v out out' dispatches pictures) where
   dispatch_piece : (s : Shown) (d : Dispatched limit v v' (events_left v limit))
       → option_to_list (event_piece s met.Dispatch v') ≡ piece_of s start.edition (interpreter start).rom (run_of start limit) (Dispatch d.b)
-  dispatch_piece (Lines with_time) d = rw (d.meets.machine, d.meets.one.same.edition, g.edition) refl
+  dispatch_piece (Lines columns) d = rw (d.meets.machine, d.meets.one.same.edition, g.edition) refl
   dispatch_piece Pictures d = refl
   dispatch_piece Nothing d = refl
 
   picture_piece_is : (s : Shown) (d : Pictured limit v v' (events_left v limit))
       → option_to_list (event_piece s met.Picture v') ≡ piece_of s start.edition (interpreter start).rom (run_of start limit) (Picture d.m)
-  picture_piece_is (Lines with_time) d = refl
+  picture_piece_is (Lines columns) d = refl
   picture_piece_is Pictures d = rw (picture-lent shown limit start out v v' out' out' dispatches pictures g d) refl
   picture_piece_is Nothing d = refl
 
@@ -370,7 +371,7 @@ module _ (shown : Shown) (limit : ℕ) (start : VipState) (out : SinkMeaning) (v
           g.split_behind ∙ ap (λ left. g.behind ++ left) h.split ∙ ap (λ rest. g.behind ++ Stopped h.b ∷ rest) none_behind
 
       none : (s : Shown) → flat_map (piece_of s start.edition (interpreter start).rom (run_of start limit)) (Stopped h.b ∷ []) ≡ []
-      none (Lines with_time) = refl
+      none (Lines columns) = refl
       none Pictures = refl
       none Nothing = refl
 
@@ -404,10 +405,10 @@ pub pictures-are : (v : VipState) (limit : ℕ) → pieces_of Pictures v limit (
 unfolding picture_pieces
 pictures-are v limit = refl
 
-pub lines-are : (with_time : Bool) (v : VipState) (limit : ℕ)
-    → pieces_of (Lines with_time) v limit (events_left v limit) ≡ trace_lines v.edition with_time (events_left v limit)
+pub lines-are : (columns : TraceColumns) (v : VipState) (limit : ℕ)
+    → pieces_of (Lines columns) v limit (events_left v limit) ≡ trace_lines v.edition columns (events_left v limit)
 unfolding trace_lines
-lines-are with_time v limit = refl
+lines-are columns v limit = refl
 
 -- the screen that is told of is that of the last dispatch point
 screen_of : (e : Edition) (events : List Event) (last : Option Machine) (v : VipState) → v.edition ≡ e → v.last ≡ option_map (view_at e) last
@@ -420,43 +421,43 @@ lit_of : (e : Edition) (last : Option Machine) (v : VipState) → v.edition ≡ 
 lit_of e None v edition told shown = rw told refl
 lit_of e (Some b) v edition told shown = rw (told, edition, shown) (unfold state_of in refl)
 
-module _ (with_time : Bool) (limit : ℕ) (old new : VipState) (out out' out'' : SinkMeaning) (tally : Tally) (ran : Ran (Lines with_time) limit old new out out' tally) where
-  lines_out : PutsAll (trace_lines old.edition with_time (events_left old limit)) out out'
-  lines_out = subst (λ pieces. PutsAll pieces out out') (lines-are with_time old limit) ran.puts
+module _ (columns : TraceColumns) (limit : ℕ) (old new : VipState) (out out' out'' : SinkMeaning) (tally : Tally) (ran : Ran (Lines columns) limit old new out out' tally) where
+  lines_out : PutsAll (trace_lines old.edition columns (events_left old limit)) out out'
+  lines_out = subst (λ pieces. PutsAll pieces out out') (lines-are columns old limit) ran.puts
 
   screen : option_to_list (screen_told new) ≡ screen_piece old.edition (last_dispatch (events_to old limit))
   screen = screen_of old.edition (events_to old limit) (last_dispatch (events_to old limit)) new ran.edition ran.last ran.screen
 
   -- with the screen behind the lines
   pub traced-whole : (done : Unit {0}) → PieceAnswers (screen_told new) out' out'' (Ok done)
-      → ShowsRun old limit (run_trace with_time true old limit) out out'' tally.end
+      → ShowsRun old limit (run_trace columns true old limit) out out'' tally.end
   traced-whole done put = record {
     puts =
-        PutsAll-append (trace_lines old.edition with_time (events_left old limit))
+        PutsAll-append (trace_lines old.edition columns (events_left old limit))
         (screen_piece old.edition (last_dispatch (events_to old limit))) out out' out'' lines_out
         (rw (← screen) (puts-piece (screen_told new) out' out'' done put));
     ending = ran.ending;
   }
 
-  pub traced-lines : ShowsRun old limit (run_trace with_time false old limit) out out' tally.end
+  pub traced-lines : ShowsRun old limit (run_trace columns false old limit) out out' tally.end
   traced-lines = record { puts = rw append-nil lines_out; ending = ran.ending }
 
   fails_at : (piece : Option (List ℕ)) (e : Failed) → option_to_list piece ≡ screen_piece old.edition (last_dispatch (events_to old limit))
-      → PieceAnswers piece out' out'' (Err e) → FailsWithin (run_trace with_time true old limit) out out''
+      → PieceAnswers piece out' out'' (Err e) → FailsWithin (run_trace columns true old limit) out out''
   fails_at None e is fault = let bad = fault.0 in cc
   fails_at (Some piece) e is fault =
-      rw (← is) (FailsWithin-snoc (trace_lines old.edition with_time (events_left old limit)) piece [] out out' out'' lines_out fault)
+      rw (← is) (FailsWithin-snoc (trace_lines old.edition columns (events_left old limit)) piece [] out out' out'' lines_out fault)
 
-  pub traced-fails : (e : Failed) → PieceAnswers (screen_told new) out' out'' (Err e) → FailsWithin (run_trace with_time true old limit) out out''
+  pub traced-fails : (e : Failed) → PieceAnswers (screen_told new) out' out'' (Err e) → FailsWithin (run_trace columns true old limit) out out''
   traced-fails e fault = fails_at (screen_told new) e screen fault
 
 -- a fault among the lines
-pub traced-early : (with_time with_screen : Bool) (v : VipState) (limit : ℕ) (out out' : SinkMeaning)
-    → FailsWithin (pieces_of (Lines with_time) v limit (events_left v limit)) out out' → FailsWithin (run_trace with_time with_screen v limit) out out'
-traced-early with_time with_screen v limit out out' fault =
-    FailsWithin-more (trace_lines v.edition with_time (events_left v limit))
+pub traced-early : (columns : TraceColumns) (with_screen : Bool) (v : VipState) (limit : ℕ) (out out' : SinkMeaning)
+    → FailsWithin (pieces_of (Lines columns) v limit (events_left v limit)) out out' → FailsWithin (run_trace columns with_screen v limit) out out'
+traced-early columns with_screen v limit out out' fault =
+    FailsWithin-more (trace_lines v.edition columns (events_left v limit))
     (if with_screen then screen_piece v.edition (last_dispatch (events_to v limit)) else []) out out'
-    (subst (λ pieces. FailsWithin pieces out out') (lines-are with_time v limit) fault)
+    (subst (λ pieces. FailsWithin pieces out out') (lines-are columns v limit) fault)
 
 -- ---- the line of summary
 

@@ -18,6 +18,7 @@ use Rattle.chip8_lang.specs.View.{view_at}
 use Rattle.vip_show.specs.Endings.{ending_after}
 use Rattle.vip_show.specs.Output.{trace_lines, trace_piece}
 use Rattle.vip_show.specs.Points.{points_at, points_behind, points_of}
+use Rattle.vip_text.specs.declared.trace.TraceColumns.{TraceColumns}
 
 pub points_of-append : (xs ys : List Event) → points_of (xs ++ ys) ≡ points_of xs ++ points_of ys
 points_of-append [] ys = refl
@@ -60,12 +61,12 @@ no-stop i b h = either_point (is_instruction (case_of b)) (at b.regs 4 == i.fetc
 
 -- ---- what is written of events is that of their points
 
-pub lines_of_points : (e : Edition) (with_time : Bool) (es : List Event) → trace_lines e with_time (points_of es) ≡ trace_lines e with_time es
+pub lines_of_points : (e : Edition) (columns : TraceColumns) (es : List Event) → trace_lines e columns (points_of es) ≡ trace_lines e columns es
 unfolding trace_lines
-lines_of_points e with_time [] = refl
-lines_of_points e with_time (Picture m ∷ es) = lines_of_points e with_time es
-lines_of_points e with_time (Dispatch b ∷ es) = ap (λ lines. trace_piece e with_time (Dispatch b) ++ lines) (lines_of_points e with_time es)
-lines_of_points e with_time (Stopped b ∷ es) = lines_of_points e with_time es
+lines_of_points e columns [] = refl
+lines_of_points e columns (Picture m ∷ es) = lines_of_points e columns es
+lines_of_points e columns (Dispatch b ∷ es) = ap (λ lines. trace_piece e columns (Dispatch b) ++ lines) (lines_of_points e columns es)
+lines_of_points e columns (Stopped b ∷ es) = lines_of_points e columns es
 
 pub ending_of_points : (e : Edition) (pc : ℕ) (opcode : Option ℕ) (es : List Event) → ending_after e pc opcode (points_of es) ≡ ending_after e pc opcode es
 unfolding ending_after

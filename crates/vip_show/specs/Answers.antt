@@ -11,6 +11,7 @@ use Rattle.vip_text.specs.Endings.{ending_in}
 use Rattle.vip_text.specs.declared.ending.RunEnd.{RunEnd}
 use Rattle.vip_show.specs.Endings.{ending_of}
 use Rattle.vip_text.specs.Summaries.{summary_line}
+use Rattle.vip_text.specs.declared.trace.TraceColumns.{TraceColumns}
 use Rattle.vip_show.specs.Output.{count_of, is_dispatch_event, is_picture_event, lit_at, picture_pieces, screen_piece, trace_lines}
 
 -- no event was met but those of the start, of which is told
@@ -32,9 +33,9 @@ ShowAnswers v limit pieces old new (Ok end) = ShowsRun v limit pieces old new en
 ShowAnswers v limit pieces old new (Err e) = FailsWithin pieces old new
 
 -- What is written of a run that begins: of its events behind the start. The last dispatch point is the start's where there is no other.
-abbrev pub run_trace : Bool → Bool → VipState → ℕ → List (List ℕ)
-run_trace with_time with_screen v limit =
-    trace_lines v.edition with_time (events_left v limit)
+abbrev pub run_trace : TraceColumns → Bool → VipState → ℕ → List (List ℕ)
+run_trace columns with_screen v limit =
+    trace_lines v.edition columns (events_left v limit)
     ++ (if with_screen then screen_piece v.edition (last_dispatch (events_to v limit)) else [])
 
 abbrev pub run_pictures : VipState → ℕ → List (List ℕ)

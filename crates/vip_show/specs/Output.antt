@@ -13,16 +13,17 @@ use Rattle.chip8_lang.specs.View.{view_at}
 use Rattle.vip_text.specs.Screens.{screen_lines, picture_file}
 use Rattle.vip_text.specs.Summaries.{summary_line}
 use Rattle.vip_text.specs.Traces.{trace_line}
+use Rattle.vip_text.specs.declared.trace.TraceColumns.{TraceColumns}
 use Rattle.vip_relation.specs.Follows.{last_dispatch}
 
 -- ---- a trace: a line for the state read off at each dispatch point
 
-abbrev pub trace_piece : Edition → Bool → Event → List (List ℕ)
-trace_piece e with_time (Dispatch b) = trace_line with_time (view_at e b) ∷ []
-trace_piece e with_time _ = []
+abbrev pub trace_piece : Edition → TraceColumns → Event → List (List ℕ)
+trace_piece e columns (Dispatch b) = trace_line columns (view_at e b) ∷ []
+trace_piece e columns _ = []
 
-unfoldable pub trace_lines : Edition → Bool → List Event → List (List ℕ)
-trace_lines e with_time = flat_map (trace_piece e with_time)
+unfoldable pub trace_lines : Edition → TraceColumns → List Event → List (List ℕ)
+trace_lines e columns = flat_map (trace_piece e columns)
 
 -- the screen at the last dispatch point, and nothing where there is none
 abbrev pub screen_at : Edition → Machine → List ℕ
@@ -32,9 +33,9 @@ abbrev pub screen_piece : Edition → Option Machine → List (List ℕ)
 screen_piece e None = []
 screen_piece e (Some b) = screen_at e b ∷ []
 
-abbrev pub trace_pieces : Edition → Bool → Bool → List Event → List (List ℕ)
-trace_pieces e with_time with_screen events =
-    trace_lines e with_time events ++ (if with_screen then screen_piece e (last_dispatch events) else [])
+abbrev pub trace_pieces : Edition → TraceColumns → Bool → List Event → List (List ℕ)
+trace_pieces e columns with_screen events =
+    trace_lines e columns events ++ (if with_screen then screen_piece e (last_dispatch events) else [])
 
 -- ---- the pictures, each a file of its own
 

@@ -27,7 +27,7 @@ use Rattle.vip_show.specs.Output.{trace_piece, picture_piece, is_dispatch_event,
 
 -- what is written of one event
 abbrev pub piece_of : Shown → Edition → List ℕ → List Machine → Event → List (List ℕ)
-piece_of (Lines with_time) e rom run event = trace_piece e with_time event
+piece_of (Lines columns) e rom run event = trace_piece e columns event
 piece_of Pictures e rom run event = picture_piece rom run event
 piece_of Nothing e rom run event = []
 
@@ -56,7 +56,7 @@ PieceAnswers None old new r = (r ≡ Ok tt) × (new ≡ old)
 
 -- what is put of an event that was just met
 abbrev pub event_piece : Shown → Met → VipState → Option (List ℕ)
-event_piece (Lines with_time) MetDispatch v = Some (trace_line with_time (view_at v.edition v.board.machine))
+event_piece (Lines columns) MetDispatch v = Some (trace_line columns (view_at v.edition v.board.machine))
 event_piece Pictures MetPicture v = option_map picture_file v.board.pictures.finished
 event_piece _ met v = None
 

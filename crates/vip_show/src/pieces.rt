@@ -13,7 +13,7 @@ use crate::run::{Shown, put_events};
 use vip_byte::{Buffer, MOST_CYCLE};
 use vip_outside::{Failed, Sink};
 use vip_relation::Run;
-use vip_text::{RunEnd, screen_text};
+use vip_text::{RunEnd, TraceColumns, screen_text};
 
 /// Puts the screen at the last dispatch point, as one piece, or nothing where there was none.
 fn put_screen<O: Sink>(run: &Run, screen: &[u8], out: &mut O) -> Result<(), Failed>
@@ -29,20 +29,20 @@ fn put_screen<O: Sink>(run: &Run, screen: &[u8], out: &mut O) -> Result<(), Fail
     out.put(text.as_slice())
 }
 
-/// Runs a machine that begins, and puts the line of each dispatch point, and at the end the screen where it is asked for, each as one
+/// Runs a machine that begins, and puts the line of each dispatch point, with these columns, and at the end the screen where it is asked for, each as one
 /// piece. A put that fails ends it.
 pub fn show_trace<O: Sink>(
     run: &mut Run,
     limit: u64,
-    with_time: bool,
+    columns: TraceColumns,
     with_screen: bool,
     out: &mut O,
 ) -> Result<RunEnd, Failed>
     requires fresh { IsFresh run.old }
     requires limit { limit ≤ MOST_CYCLE }
-    ensures { ShowAnswers run.old limit (run_trace with_time with_screen run.old limit) (O.meaning out.old) (O.meaning out.new) result }
+    ensures { ShowAnswers run.old limit (run_trace columns with_screen run.old limit) (O.meaning out.old) (O.meaning out.new) result }
 {
-    let tally = put_events(run, limit, Shown::Lines { with_time }, with_screen, out)?;
+    let tally = put_events(run, limit, Shown::Lines(columns), with_screen, out)?;
     if with_screen {
         put_screen(run, tally.screen.as_slice(), out)?;
     }

@@ -13,13 +13,13 @@ ghost use Rattle.vip_show.specs.Run.{PieceAnswers, event_piece, RunAnswers};
 use vip_byte::{Buffer, MOST_CYCLE};
 use vip_outside::{Failed, Sink};
 use vip_relation::{Met, Run, Screen, dark};
-use vip_text::{RunEnd, picture_text, trace_text};
+use vip_text::{RunEnd, TraceColumns, picture_text, trace_text};
 
 /// What is written of each event.
 #[derive(Clone, Copy)]
 pub enum Shown {
-    /// A line for each dispatch point, with the count of ticks and the cycle where they are asked for.
-    Lines { with_time: bool },
+    /// A line for each dispatch point, with these columns.
+    Lines(TraceColumns),
     /// A file for each picture.
     Pictures,
     Nothing,
@@ -37,14 +37,14 @@ pub struct Tally {
 /// Puts the line of the dispatch point where the board stands. It is written over what `text` has.
 fn put_line<O: Sink>(
     run: &Run,
-    with_time: bool,
+    columns: TraceColumns,
     text: &mut Buffer,
     out: &mut O,
 ) -> Result<(), Failed>
-    ensures { PutAnswers (trace_line with_time (view_at run.now.edition run.now.board.machine)) (O.meaning out.old) (O.meaning out.new) result }
+    ensures { PutAnswers (trace_line columns (view_at run.now.edition run.now.board.machine)) (O.meaning out.old) (O.meaning out.new) result }
 {
     text.clear();
-    trace_text(&run.view(), with_time, text);
+    trace_text(&run.view(), columns, text);
     out.put(text.as_slice())
 }
 
@@ -71,7 +71,7 @@ fn put_event<O: Sink>(
     ensures { PieceAnswers (event_piece shown met.now run.now) (O.meaning out.old) (O.meaning out.new) result }
 {
     match (shown, met) {
-        (Shown::Lines { with_time }, Met::Dispatch) => put_line(run, with_time, text, out),
+        (Shown::Lines(columns), Met::Dispatch) => put_line(run, columns, text, out),
         (Shown::Pictures, Met::Picture) => put_picture(run, text, out),
         _ => Ok(()),
     }

@@ -3,6 +3,8 @@ use Rattle.std.specs.Prelude.{ℕ, Bool, true, false, List, [], ◌++◌, Option
 use Rattle.vip_byte.specs.HexText.{bytes_text, hex2, hex4, words_text}
 use Rattle.vip_byte.specs.Text.{bit_text, newline}
 use Rattle.chip8_lang.specs.View.{View}
+use Rattle.chip8_words.specs.Words.{opcode_words}
+use Rattle.vip_text.specs.declared.trace.TraceColumns.{TraceColumns}
 
 -- four digits, or four hyphens where there is no opcode
 abbrev pub opcode_text : Option ℕ → List ℕ
@@ -18,13 +20,30 @@ abbrev pub time_text : Bool → View → List ℕ
 time_text false view = []
 time_text true view = codes " N " ++ hex4 view.n ++ codes " AT " ++ decimal view.cycle
 
+-- the opcode in words, as a comment, where it is asked for and there is one
+abbrev pub comment_text : Bool → Option ℕ → List ℕ
+comment_text true (Some opcode) = codes "  ; " ++ opcode_words opcode
+comment_text with_words opcode = []
+
+-- whether a line shows its time, and its opcode in words
+abbrev pub columns_of : Bool → Bool → TraceColumns
+columns_of with_time with_words = record { time = with_time; words = with_words }
+
+-- neither, and the time alone
+abbrev pub plain : TraceColumns
+plain = columns_of false false
+
+abbrev pub timed : TraceColumns
+timed = columns_of true false
+
 -- pc, opcode, V0 to VF, I, timers and tone, and the stack with the oldest address first
-unfoldable pub trace_line : Bool → View → List ℕ
-trace_line with_time view =
+unfoldable pub trace_line : TraceColumns → View → List ℕ
+trace_line columns view =
     hex4 view.pc ++ codes " " ++ opcode_text view.opcode
     ++ codes " V" ++ bytes_text view.v
     ++ codes " I " ++ hex4 view.i
     ++ timers_text view
     ++ codes " S" ++ words_text view.stack
-    ++ time_text with_time view
+    ++ time_text columns.time view
+    ++ comment_text columns.words view.opcode
     ++ newline

@@ -5,16 +5,38 @@ ghost use Rattle.arrayvec.specs.ArrayVec.{array_vec_len};
 ghost use Rattle.vip_byte.specs.Room.{HasRoom};
 ghost use Rattle.vip_byte.specs.HexText.{hex4};
 ghost use Rattle.chip8_lang.specs.View.{seen};
-ghost use Rattle.vip_text.specs.Traces.{opcode_text, time_text, timers_text, trace_line};
+ghost use Rattle.vip_text.specs.Traces.{comment_text, opcode_text, time_text, timers_text, trace_line};
 
 use crate::write::{put_bytes, put_words};
 use chip8_lang::StateView;
+use chip8_words::opcode_words;
 use vip_byte::{Buffer, hex2, hex4, put, put_number};
 
-/// Writes the line of a state into an empty buffer, with the count of ticks and the cycle where `with_cycle` asks for them.
-pub fn trace_text(view: &StateView, with_cycle: bool, into: &mut Buffer)
+/// What the line of a trace shows behind the state.
+#[derive(Clone, Copy)]
+pub struct TraceColumns {
+    /// The count of ticks and the cycle.
+    pub time: bool,
+    /// The opcode in words, where there is one.
+    pub words: bool,
+}
+
+/// None of them.
+pub const PLAIN: TraceColumns = TraceColumns {
+    time: false,
+    words: false,
+};
+
+/// The count of ticks and the cycle alone.
+pub const TIMED: TraceColumns = TraceColumns {
+    time: true,
+    words: false,
+};
+
+/// Writes the line of a state into an empty buffer, with these columns behind it.
+pub fn trace_text(view: &StateView, columns: TraceColumns, into: &mut Buffer)
     requires { into.old.items ≡ [] }
-    ensures { into.new.items ≡ trace_line with_cycle (seen view.now) }
+    ensures { into.new.items ≡ trace_line columns (seen view.now) }
 {
     put_place(into, view);
     put_bytes(into, &view.v);
@@ -22,7 +44,8 @@ pub fn trace_text(view: &StateView, with_cycle: bool, into: &mut Buffer)
     put_timers(into, view);
     put(into, b" S");
     put_words(into, view.stack.as_slice());
-    put_time(into, view, with_cycle);
+    put_time(into, view, columns.time);
+    put_comment(into, view.opcode, columns.words);
     put(into, b"\n");
 }
 
@@ -75,16 +98,31 @@ fn put_timers(into: &mut Buffer, view: &StateView)
 }
 
 /// Appends the count of ticks and the cycle where they are asked for.
-fn put_time(into: &mut Buffer, view: &StateView, with_cycle: bool)
+fn put_time(into: &mut Buffer, view: &StateView, with_time: bool)
     requires { HasRoom into.old.items 51 }
-    ensures items { into.new.items ≡ into.old.items ++ time_text with_cycle (seen view.now) }
+    ensures items { into.new.items ≡ into.old.items ++ time_text with_time (seen view.now) }
     ensures len { array_vec_len into.new ≤ array_vec_len into.old + 51 }
 {
-    if !with_cycle {
+    if !with_time {
         return;
     }
     let [n1, n2, n3, n4] = hex4(view.n);
     let text = [b' ', b'N', b' ', n1, n2, n3, n4, b' ', b'A', b'T', b' '];
     put(into, &text);
     put_number(into, view.cycle);
+}
+
+/// Appends the opcode in words, as a comment, where it is asked for and there is one.
+fn put_comment(into: &mut Buffer, opcode: Option<u16>, with_words: bool)
+    requires { HasRoom into.old.items 19 }
+    ensures items { into.new.items ≡ into.old.items ++ comment_text with_words opcode }
+    ensures len { array_vec_len into.new ≤ array_vec_len into.old + 19 }
+{
+    let Some(opcode) = opcode else {
+        return;
+    };
+    if with_words {
+        put(into, b"  ; ");
+        put(into, opcode_words(opcode).as_slice());
+    }
 }

@@ -51,9 +51,11 @@ fn load_show<'a, F: Files>(
         }
         Show::Trace {
             with_time,
+            with_words,
             with_screen,
         } => Ok(Show::Trace {
             with_time,
+            with_words,
             with_screen,
         }),
         Show::Pictures => Ok(Show::Pictures),

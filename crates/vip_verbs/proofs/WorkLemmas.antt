@@ -144,7 +144,7 @@ module _ (e : Edition) (s : Start) (keys : Option (List ℕ)) where
     refused-show asked (Unread name) answer = absurd answer
     refused-show asked (TooLarge kind) answer = absurd answer
     refused-show asked (Script line cause) answer = absurd answer
-    refused-show (show.Trace with_time with_screen) (Command line cause) answer = absurd answer
+    refused-show (show.Trace with_time with_words with_screen) (Command line cause) answer = absurd answer
     refused-show show.Pictures (Command line cause) answer = absurd answer
     refused-show (show.Commands text) (Command line cause) answer = rw answer refl
     refused-show show.State (Command line cause) answer = absurd answer
@@ -164,7 +164,7 @@ module _ (e : Edition) (s : Start) (keys : Option (List ℕ)) where
       Comes = RunTo e keys (λ script. shown_as ready (begun e s script) limit)
 
       comes-as : (asked : Show (List ℕ)) → IsShow limit asked ready → (o : Outcome) → Comes o → ShowComes e s keys limit asked o
-      comes-as (show.Trace with_time with_screen) is o come = rw is at come
+      comes-as (show.Trace with_time with_words with_screen) is o come = rw is at come
       comes-as show.Pictures is o come = rw is at come
       comes-as (show.Commands text) is o come = rw is.1 (rw is.2 at come)
       comes-as show.State is o come = rw is at come

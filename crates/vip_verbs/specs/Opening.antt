@@ -6,6 +6,7 @@ use Rattle.vip_link.specs.Checked.{ComparesLink}
 use Rattle.vip_keypad.specs.declared.script.ScriptFault.TheVariants.{Fault}
 use Rattle.vip_relation.specs.Meets.{HasStopped}
 use Rattle.vip_relation.specs.State.{Start, VipState, begun}
+use Rattle.vip_text.specs.Traces.{columns_of}
 use Rattle.vip_words.specs.DebugGrammar.{commands_of}
 use Rattle.vip_words.specs.declared.debug_commands.Command.{Command}
 use Rattle.vip_words.specs.declared.debug_commands.CommandCause.{CommandCause}
@@ -60,7 +61,7 @@ BeginAnswers e s keys (Err _) = ⊥
 
 -- what is shown of a run up to a limit is ready: its commands are those that their text says, and for a profile there is memory
 abbrev pub IsShow : ℕ → Show (List ℕ) → ReadyShow → Type 0
-IsShow limit (show.Trace with_time with_screen) ready = ready ≡ shows.Trace with_time with_screen
+IsShow limit (show.Trace with_time with_words with_screen) ready = ready ≡ shows.Trace (columns_of with_time with_words) with_screen
 IsShow limit show.Pictures ready = ready ≡ shows.Pictures
 IsShow limit (show.Commands text) ready = (commands : List Command) × (commands_of Chip8 limit text ≡ Ok commands) × (ready ≡ shows.Commands commands)
 IsShow limit show.State ready = ready ≡ shows.State

@@ -41,6 +41,8 @@ use Rattle.vip_text.specs.StateFile.{shown as saved_machine, IsAccepted}
 use Rattle.vip_text.specs.Summaries.{summary_line}
 use Rattle.vip_text.specs.Endings.{Ending}
 use Rattle.vip_text.specs.Endings.Ending.{AtLimit, AtStop}
+use Rattle.vip_text.specs.Traces.{columns_of}
+use Rattle.vip_text.specs.declared.trace.TraceColumns.{TraceColumns}
 use Rattle.vip_link.specs.Roms.{receiver_text, sender_text}
 use Rattle.vip_words.specs.declared.request.BuiltIn.{BuiltIn}
 use Rattle.vip_words.specs.declared.request.BuiltIn.TheVariants.{Interpreter, Receiver, Sender}
@@ -109,10 +111,10 @@ abbrev pub ran : ℕ → List (List ℕ) → Ending → Outcome
 ran limit pieces ending = Shown pieces (end_status ending) (end_report limit ending)
 
 -- the lines behind its start, and the screen at the last dispatch point, which is the saved one where none came
-abbrev pub traced : Bool → Bool → Edition → Start → List KeyEvent → ℕ → Outcome
-traced with_time with_screen e s script limit =
+abbrev pub traced : TraceColumns → Bool → Edition → Start → List KeyEvent → ℕ → Outcome
+traced columns with_screen e s script limit =
     ran limit
-    (trace_lines e with_time (events_shown e s script limit)
+    (trace_lines e columns (events_shown e s script limit)
     ++ (if with_screen then screen_piece e (last_dispatch (events_in e s script limit)) else []))
     (run_ending e s script limit)
 
@@ -171,7 +173,8 @@ DebugComes e s keys limit (Err command.NoMemory) = λ o. ⊥
 
 -- a run from a start under a script file up to a limit that is shown so
 abbrev pub ShowComes : Edition → Start → Option (List ℕ) → ℕ → Show (List ℕ) → Outcome → Type 0
-ShowComes e s keys limit (show.Trace with_time with_screen) = RunTo e keys (λ script. traced with_time with_screen e s script limit)
+ShowComes e s keys limit (show.Trace with_time with_words with_screen) =
+    RunTo e keys (λ script. traced (columns_of with_time with_words) with_screen e s script limit)
 ShowComes e s keys limit show.Pictures = RunTo e keys (λ script. pictured e s script limit)
 ShowComes e s keys limit (show.Commands text) = DebugComes e s keys limit (commands_of Chip8 limit text)
 ShowComes e s keys limit show.State = RunTo e keys (λ script. saved e limit (events_in e s script limit))

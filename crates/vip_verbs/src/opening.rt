@@ -19,6 +19,7 @@ use std::alloc::Global;
 use vip_keypad::Script;
 use vip_relation::{ResumeFault, Run, StartFault};
 use vip_show::Profile;
+use vip_text::TraceColumns;
 use vip_tools::{Refusal, demo_game, game_kind, read_debugging, read_keys};
 use vip_words::{RunRequest, Show, Speaks, Start};
 
@@ -105,9 +106,13 @@ fn make_ready<'a>(alloc: Global, show: Show<Vec<u8>>, limit: u64) -> Result<Read
     match show {
         Show::Trace {
             with_time,
+            with_words,
             with_screen,
         } => Ok(ReadyShow::Trace {
-            with_time,
+            columns: TraceColumns {
+                time: with_time,
+                words: with_words,
+            },
             with_screen,
         }),
         Show::Pictures => Ok(ReadyShow::Pictures),

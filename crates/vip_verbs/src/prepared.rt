@@ -10,6 +10,7 @@ use vip_link::Link;
 use vip_outside::Sink;
 use vip_relation::Run;
 use vip_show::Profile;
+use vip_text::TraceColumns;
 use vip_tools::{Ended, PerformFault};
 use vip_words::Commands;
 
@@ -42,8 +43,11 @@ pub enum Prepared {
 /// What is shown of a run of the language, with what it needs.
 #[derive(Drop)]
 pub enum ReadyShow {
-    /// A line for each dispatch point behind the start; whether it says its cycle; and whether the last screen is shown.
-    Trace { with_time: bool, with_screen: bool },
+    /// A line for each dispatch point behind the start, with these columns; and whether the last screen is shown.
+    Trace {
+        columns: TraceColumns,
+        with_screen: bool,
+    },
     /// Each finished picture.
     Pictures,
     /// The answers to these commands of the debugger.

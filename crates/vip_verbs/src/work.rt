@@ -72,11 +72,11 @@ pub(crate) fn perform_run<O: Sink>(
 {
     match show {
         ReadyShow::Trace {
-            with_time,
+            columns,
             with_screen,
         } => ran(
             limit,
-            show_trace(&mut run, limit, with_time, with_screen, out),
+            show_trace(&mut run, limit, columns, with_screen, out),
         ),
         ReadyShow::Pictures => ran(limit, show_pictures(&mut run, limit, out)),
         ReadyShow::Commands(commands) => debug(run, limit, commands, out),

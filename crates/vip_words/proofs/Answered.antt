@@ -18,7 +18,7 @@ use Rattle.vip_words.proofs.Ends.{EndsGiven, flag_end}
 use Rattle.vip_words.proofs.Known.{known_of_all, strings_known}
 use Rattle.vip_words.proofs.Rows.{Seen, both_true, first_of-look, look, one_of-look}
 use Rattle.vip_words.proofs.Shown.{flag_in, word_seen}
-use Rattle.vip_words.proofs.Flags.{At, Flag, Ram, Raw, Receiver, Rom, Screen, Sender, State, Tall, flag_name}
+use Rattle.vip_words.proofs.Flags.{At, Flag, Ram, Raw, Receiver, Rom, Screen, Sender, State, Tall, Words, flag_name}
 use Rattle.vip_words.proofs.Steps.{First, Second, Third}
 use Rattle.vip_words.proofs.Walks.{Agrees, all_given, command_agrees, is_well_formed}
 
@@ -74,6 +74,7 @@ pub record ReadFrom (found : Found) (given : Given) : Type 0 where
   pub keys : given.keys ≡ first_value found (codes "keys")
   pub at : FlagRead found (codes "at") given.at
   pub screen : FlagRead found (codes "screen") given.screen
+  pub words : FlagRead found (codes "words") given.words
   pub tall : FlagRead found (codes "tall") given.tall
   pub state : FlagRead found (codes "state") given.state
   pub raw : FlagRead found (codes "raw") given.raw
@@ -152,20 +153,24 @@ from_state given given' = record (from_raw given given') { state = given.state }
 abbrev from_tall : Given → Given → Given
 from_tall given given' = record (from_state given given') { tall = given.tall }
 
+abbrev from_words : Given → Given → Given
+from_words given given' = record (from_tall given given') { words = given.words }
+
 same_given : (given given' : Given) → given.positional ≡ given'.positional → given.keys ≡ given'.keys
     → ((flag : Flag) → flag_in given flag ≡ flag_in given' flag) → given ≡ given'
 same_given given given' positional keys flags =
     ap (λ x. record given { positional = x }) positional
     ∙ (ap (λ x. record given { positional = given'.positional; keys = x }) keys
     ∙ (ap (λ x. record given { positional = given'.positional; keys = given'.keys; at = x }) (flags At)
-    ∙ (ap (λ x. record (from_tall given given') { screen = x }) (flags Screen)
+    ∙ (ap (λ x. record (from_words given given') { screen = x }) (flags Screen)
+    ∙ (ap (λ x. record (from_tall given given') { words = x }) (flags Words)
     ∙ (ap (λ x. record (from_state given given') { tall = x }) (flags Tall)
     ∙ (ap (λ x. record (from_raw given given') { state = x }) (flags State)
     ∙ (ap (λ x. record (from_rom given given') { raw = x }) (flags Raw)
     ∙ (ap (λ x. record (from_ram given given') { rom = x }) (flags Rom)
     ∙ (ap (λ x. record (from_sender given given') { ram = x }) (flags Ram)
     ∙ (ap (λ x. record given' { sender = x; receiver = given.receiver }) (flags Sender)
-    ∙ ap (λ x. record given' { receiver = x }) (flags Receiver))))))))))
+    ∙ ap (λ x. record given' { receiver = x }) (flags Receiver)))))))))))
 
 -- what is read is what the rows show
 read_shown : (found : Found) (given given' : Given) → length given.positional ≤ 3 → EndsGiven (rows_of found) given → ReadFrom found given'
@@ -177,6 +182,7 @@ read_shown found given given' few shows reads =
     (λ flag. elim flag as (λ f. flag_in given f ≡ flag_in given' f) [
       | At ↦ flag_read found given At given'.at shows reads.at
       | Screen ↦ flag_read found given Screen given'.screen shows reads.screen
+      | Words ↦ flag_read found given Words given'.words shows reads.words
       | Tall ↦ flag_read found given Tall given'.tall shows reads.tall
       | State ↦ flag_read found given State given'.state shows reads.state
       | Raw ↦ flag_read found given Raw given'.raw shows reads.raw

@@ -8,6 +8,7 @@ use Rattle.vip_words.proofs.Rows.{both_true, same_bytes}
 pub data Flag : Type 0 where
   At : Flag
   Screen : Flag
+  Words : Flag
   Tall : Flag
   State : Flag
   Raw : Flag
@@ -19,6 +20,7 @@ pub data Flag : Type 0 where
 abbrev pub flag_name : Flag → Text
 flag_name At = codes "at"
 flag_name Screen = codes "screen"
+flag_name Words = codes "words"
 flag_name Tall = codes "tall"
 flag_name State = codes "state"
 flag_name Raw = codes "raw"
@@ -30,6 +32,7 @@ flag_name Receiver = codes "receiver"
 abbrev pub flag_word : Flag → Text
 flag_word At = codes "--at"
 flag_word Screen = codes "--screen"
+flag_word Words = codes "--words"
 flag_word Tall = codes "--tall"
 flag_word State = codes "--state"
 flag_word Raw = codes "--raw"
@@ -39,13 +42,14 @@ flag_word Sender = codes "--sender"
 flag_word Receiver = codes "--receiver"
 
 abbrev pub every_flag : List Flag
-every_flag = At ∷ Screen ∷ Tall ∷ State ∷ Raw ∷ Rom ∷ Ram ∷ Sender ∷ Receiver ∷ []
+every_flag = At ∷ Screen ∷ Words ∷ Tall ∷ State ∷ Raw ∷ Rom ∷ Ram ∷ Sender ∷ Receiver ∷ []
 
 -- what holds of every flag in the list holds of each
 pub all_flags : (test : Flag → Bool) → list_all test every_flag ≡ true → (flag : Flag) → test flag ≡ true
 all_flags test all flag =
     let from_screen = both_true (test At) _ all in
-    let from_tall = both_true (test Screen) _ from_screen.1 in
+    let from_words = both_true (test Screen) _ from_screen.1 in
+    let from_tall = both_true (test Words) _ from_words.1 in
     let from_state = both_true (test Tall) _ from_tall.1 in
     let from_raw = both_true (test State) _ from_state.1 in
     let from_rom = both_true (test Raw) _ from_raw.1 in
@@ -55,7 +59,8 @@ all_flags test all flag =
     let from_none = both_true (test Receiver) _ from_receiver.1 in
     elim flag as (λ f. test f ≡ true) [
       | At ↦ from_screen.0
-      | Screen ↦ from_tall.0
+      | Screen ↦ from_words.0
+      | Words ↦ from_tall.0
       | Tall ↦ from_state.0
       | State ↦ from_raw.0
       | Raw ↦ from_rom.0

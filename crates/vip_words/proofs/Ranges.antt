@@ -83,7 +83,7 @@ either-low file cycles given shown program_shown asked h = go (is_program given)
 trace-low : (words : List Word) (given : Given) (asked : Asked) → trace_by words given ≡ Some asked → InRange asked
 trace-low [] given asked h = absurd (cc)
 trace-low (file ∷ []) given asked h = absurd (cc)
-trace-low (file ∷ cycles ∷ []) given asked h = either-low file cycles given (show.Trace given.at given.screen) program.Trace asked h
+trace-low (file ∷ cycles ∷ []) given asked h = either-low file cycles given (show.Trace given.at given.words given.screen) program.Trace asked h
 trace-low (file ∷ cycles ∷ more ∷ words) given asked h = absurd (cc)
 
 play-low : (words : List Word) (given : Given) (asked : Asked) → play_by words given ≡ Some asked → InRange asked

@@ -7,7 +7,7 @@ use Rattle.clap.specs.Walk.{Row, Text, used}
 use Rattle.clap.specs.declared.builder.value_parser.Reading.TheVariants.{AsWritten}
 use Rattle.clap.specs.declared.parser.matches.ValueSource.TheVariants.{CommandLine}
 use Rattle.vip_words.proofs.Rows.{Seen, has_row-look, look, look-other, look-use, new_row, or_first, shown}
-use Rattle.vip_words.proofs.Flags.{At, Flag, Ram, Raw, Receiver, Rom, Screen, Sender, State, Tall, flag_name, is_flag, no_flag}
+use Rattle.vip_words.proofs.Flags.{At, Flag, Ram, Raw, Receiver, Rom, Screen, Sender, State, Tall, Words, flag_name, is_flag, no_flag}
 use Rattle.vip_words.proofs.Steps.{First, Pending, Place, Second, Third, flag_argument, place_at, place_by_id, place_name, settled_after, settles}
 use Rattle.vip_words.specs.Rules.{Given}
 
@@ -15,6 +15,7 @@ use Rattle.vip_words.specs.Rules.{Given}
 abbrev pub flag_in : Given → Flag → Bool
 flag_in given At = given.at
 flag_in given Screen = given.screen
+flag_in given Words = given.words
 flag_in given Tall = given.tall
 flag_in given State = given.state
 flag_in given Raw = given.raw
@@ -27,6 +28,7 @@ abbrev pub with_flag : Flag → Given → Given
 with_flag new given = record given {
   at = is_flag new At || given.at;
   screen = is_flag new Screen || given.screen;
+  words = is_flag new Words || given.words;
   tall = is_flag new Tall || given.tall;
   state = is_flag new State || given.state;
   raw = is_flag new Raw || given.raw;
@@ -40,6 +42,7 @@ with_flag new given = record given {
 flag_in-with : (new flag : Flag) (given : Given) → flag_in (with_flag new given) flag ≡ (is_flag new flag || flag_in given flag)
 flag_in-with new At given = refl
 flag_in-with new Screen given = refl
+flag_in-with new Words given = refl
 flag_in-with new Tall given = refl
 flag_in-with new State given = refl
 flag_in-with new Raw given = refl
@@ -223,6 +226,7 @@ nothing_given = record {
   keys = None;
   at = false;
   screen = false;
+  words = false;
   tall = false;
   state = false;
   raw = false;
@@ -243,6 +247,7 @@ no_rows = record {
   flags_are = λ flag. elim flag as (λ f. look (flag_name f) [] ≡ flag_seen (flag_in nothing_given f)) [
     | At ↦ refl
     | Screen ↦ refl
+    | Words ↦ refl
     | Tall ↦ refl
     | State ↦ refl
     | Raw ↦ refl

@@ -8,7 +8,7 @@ use Rattle.clap.specs.Simple.{Shape, built, filled, with_index}
 use Rattle.clap.specs.Takes.{is_given}
 use Rattle.clap.specs.Walk.{Held, Row, Rule, Text, Waiting, Walk, arg_by_id, arg_by_index, idle, is_pending, option, settled_rows, used, walked}
 use Rattle.vip_words.specs.Command.{command_app, flag_rule, place_rule, place_names}
-use Rattle.vip_words.proofs.Flags.{At, Flag, Ram, Raw, Receiver, Rom, Screen, Sender, State, Tall, flag_name, flag_word}
+use Rattle.vip_words.proofs.Flags.{At, Flag, Ram, Raw, Receiver, Rom, Screen, Sender, State, Tall, Words, flag_name, flag_word}
 use Rattle.vip_words.proofs.Rows.{is_quiet}
 
 -- the places of the positional words
@@ -135,6 +135,7 @@ pub flag_step : (count : ℕ) (flag : Flag) (rows : List Row) (pending : Pending
 unfolding walked
 flag_step count At rows pending position = refl
 flag_step count Screen rows pending position = refl
+flag_step count Words rows pending position = refl
 flag_step count Tall rows pending position = refl
 flag_step count State rows pending position = refl
 flag_step count Raw rows pending position = refl
@@ -148,6 +149,7 @@ pub flag_turn : (name : Text) (count : ℕ) (flag : Flag) (rows : List Row) (pen
     ≡ or_else (or_else (settles count rows pending) (use_fault false (flag_argument flag) [] (settled_after count pending rows))) []
 flag_turn name count At rows pending position = refl
 flag_turn name count Screen rows pending position = refl
+flag_turn name count Words rows pending position = refl
 flag_turn name count Tall rows pending position = refl
 flag_turn name count State rows pending position = refl
 flag_turn name count Raw rows pending position = refl

@@ -9,7 +9,7 @@ use Rattle.clap.specs.Walk.{Row, Text, Waiting, Walk, finished, idle, used, walk
 use Rattle.vip_words.specs.Command.{command_faults, command_rows}
 use Rattle.vip_words.specs.Rules.{every_option, has_values, is_given, is_known, is_once, keys_value, positional_words}
 use Rattle.vip_words.proofs.Rows.{Seen, both_true, look, or_first, or_first-none, same_bytes}
-use Rattle.vip_words.proofs.Flags.{At, Flag, Ram, Raw, Receiver, Rom, Screen, Sender, State, Tall, every_flag, flag_among, flag_word, one_flag_fails}
+use Rattle.vip_words.proofs.Flags.{At, Flag, Ram, Raw, Receiver, Rom, Screen, Sender, State, Tall, Words, every_flag, flag_among, flag_word, one_flag_fails}
 use Rattle.vip_words.proofs.Steps.{and_never, First, Pending, Place, Second, Third, arguments, asked, asking, flag_argument, flag_step, flag_turn, held, keys_step, keys_turn, place_at, place_name, place_step, place_turn, settled_after, settles, shape, stand, stray_turn, value_step, value_turn}
 use Rattle.vip_words.specs.Rules.{Given, Word}
 use Rattle.vip_words.proofs.Ends.{EndsGiven, ends_checked, shows_end}
@@ -38,6 +38,7 @@ then_given given words = record {
   keys = or_first given.keys (keys_value words);
   at = given.at || is_given (codes "--at") words;
   screen = given.screen || is_given (codes "--screen") words;
+  words = given.words || is_given (codes "--words") words;
   tall = given.tall || is_given (codes "--tall") words;
   state = given.state || is_given (codes "--state") words;
   raw = given.raw || is_given (codes "--raw") words;
@@ -54,6 +55,7 @@ then_valued given words = record {
   keys = slice_get words 0;
   at = given.at || is_given (codes "--at") words;
   screen = given.screen || is_given (codes "--screen") words;
+  words = given.words || is_given (codes "--words") words;
   tall = given.tall || is_given (codes "--tall") words;
   state = given.state || is_given (codes "--state") words;
   raw = given.raw || is_given (codes "--raw") words;
@@ -243,6 +245,7 @@ flag_passes : (count before : ℕ) (given : Given) (new : Flag) (words : List Te
     ≡ passes count before false (is_some (with_flag new given).keys) (with_flag new given) words
 flag_passes count before given At words off = rw off refl
 flag_passes count before given Screen words off = rw off refl
+flag_passes count before given Words words off = rw off refl
 flag_passes count before given Tall words off = rw off refl
 flag_passes count before given State words off = rw off refl
 flag_passes count before given Raw words off = rw off refl
@@ -255,6 +258,7 @@ flag_given : (given : Given) (new : Flag) (words : List Text) → flag_in given 
     → then_given given (flag_word new ∷ words) ≡ then_given (with_flag new given) words
 flag_given given At words off = rw off refl
 flag_given given Screen words off = rw off refl
+flag_given given Words words off = rw off refl
 flag_given given Tall words off = rw off refl
 flag_given given State words off = rw off refl
 flag_given given Raw words off = rw off refl
@@ -270,6 +274,7 @@ never_all a b d fails = rw fails (and_never a)
 flag_again_is_twice : (new : Flag) (words : List Text) → once true (flag_word new) (flag_word new ∷ words) ≡ false
 flag_again_is_twice At words = refl
 flag_again_is_twice Screen words = refl
+flag_again_is_twice Words words = refl
 flag_again_is_twice Tall words = refl
 flag_again_is_twice State words = refl
 flag_again_is_twice Raw words = refl
@@ -339,6 +344,7 @@ option_turn : (name : Text) (count : ℕ) (rows : List Row) (position : ℕ) (wo
 option_turn name count rows position word (inl is) = rw is (λ e. cc)
 option_turn name count rows position word (inr (At, is)) = rw is (λ e. cc)
 option_turn name count rows position word (inr (Screen, is)) = rw is (λ e. cc)
+option_turn name count rows position word (inr (Words, is)) = rw is (λ e. cc)
 option_turn name count rows position word (inr (Tall, is)) = rw is (λ e. cc)
 option_turn name count rows position word (inr (State, is)) = rw is (λ e. cc)
 option_turn name count rows position word (inr (Raw, is)) = rw is (λ e. cc)
@@ -352,6 +358,7 @@ option_refused : (count before : ℕ) (given : Given) (word : Text) (words : Lis
 option_refused count before given word words (inl is) = rw is refl
 option_refused count before given word words (inr (At, is)) = rw is refl
 option_refused count before given word words (inr (Screen, is)) = rw is refl
+option_refused count before given word words (inr (Words, is)) = rw is refl
 option_refused count before given word words (inr (Tall, is)) = rw is refl
 option_refused count before given word words (inr (State, is)) = rw is refl
 option_refused count before given word words (inr (Raw, is)) = rw is refl
@@ -420,6 +427,7 @@ none_once keys given =
       same_if keys,
       same_if given.at,
       same_if given.screen,
+      same_if given.words,
       same_if given.tall,
       same_if given.state,
       same_if given.raw,
@@ -444,6 +452,7 @@ no_more_given given =
       or_first-none given.keys,
       or_nothing given.at,
       or_nothing given.screen,
+      or_nothing given.words,
       or_nothing given.tall,
       or_nothing given.state,
       or_nothing given.raw,
@@ -525,6 +534,7 @@ all_given words = record {
   keys = keys_value words;
   at = is_given (codes "--at") words;
   screen = is_given (codes "--screen") words;
+  words = is_given (codes "--words") words;
   tall = is_given (codes "--tall") words;
   state = is_given (codes "--state") words;
   raw = is_given (codes "--raw") words;

@@ -60,9 +60,9 @@ run_by file cycles given shown =
 abbrev pub is_program : Given → Bool
 is_program given = given.rom || given.ram
 
--- Words that are refused for a program: it stands in one memory; and `--state`, `--tall`, `--screen` and `--at` speak of a game.
+-- Words that are refused for a program: it stands in one memory; and `--state`, `--tall`, `--screen`, `--words` and `--at` speak of a game.
 abbrev pub is_mixed : Given → Bool
-is_mixed given = (given.rom && given.ram) || (given.state || (given.tall || (given.screen || given.at)))
+is_mixed given = (given.rom && given.ram) || (given.state || (given.tall || (given.screen || (given.words || given.at))))
 
 -- a run of the program of this name, for as many cycles as a word says, that is shown so
 abbrev pub program_by : Word → Word → Given → ProgramShow Word → Option Asked
@@ -81,7 +81,7 @@ either_by file cycles given shown program_shown =
 
 -- FILE CYCLES, where the file is a game, a saved state or a program
 abbrev pub trace_by : List Word → Given → Option Asked
-trace_by (file ∷ cycles ∷ []) given = either_by file cycles given (show.Trace given.at given.screen) program.Trace
+trace_by (file ∷ cycles ∷ []) given = either_by file cycles given (show.Trace given.at given.words given.screen) program.Trace
 trace_by _ given = None
 
 abbrev pub play_by : List Word → Given → Option Asked
@@ -102,7 +102,7 @@ shown_by shown _ given = None
 abbrev pub resume_by : List Word → Given → Option Asked
 resume_by (file ∷ cycles ∷ []) given =
     option_map
-    (λ n. request.Run (record { start = start.State file; keys = given.keys; limit = n; show = show.Trace given.at false }))
+    (λ n. request.Run (record { start = start.State file; keys = given.keys; limit = n; show = show.Trace given.at false false }))
     (cycles_of cycles)
 resume_by _ given = None
 

@@ -14,7 +14,7 @@ use Rattle.vip_words.specs.declared.debug_commands.Command.TheVariants.{Runs, Sh
 use Rattle.vip_words.specs.declared.debug_commands.Running.TheVariants.{Step, To, At, Watch}
 use Rattle.vip_words.specs.declared.debug_commands.Showing.TheVariants.{Regs, Mem, Dis, List as Listed}
 use Rattle.vip_words.specs.declared.debug_commands.Seeking.TheVariants.{Next, Break}
-use Rattle.vip_words.specs.declared.debug_commands.Telling.TheVariants.{State, Screen}
+use Rattle.vip_words.specs.declared.debug_commands.Telling.TheVariants.{State, Screen, Code}
 use Rattle.vip_words.specs.declared.debug_commands.Speaks.{Speaks}
 use Rattle.vip_words.specs.declared.debug_commands.Speaks.TheVariants.{Chip8, Machine}
 use Rattle.vip_words.specs.declared.debug_commands.CommandCause.{CommandCause}
@@ -92,6 +92,9 @@ unfoldable pub language_command_of : List ℕ → List (List ℕ) → Result Com
 language_command_of word operands =
     if bytes_eq word (codes "screen") then no_operand (Tells Screen) operands
     else if bytes_eq word (codes "state") then no_operand (Tells State) operands
+    else if bytes_eq word (codes "code") then (do
+      span ← span_of operands
+      Ok (Tells (Code span.0 span.1)))
     else if bytes_eq word (codes "next") then (do
       points ← steps_of operands
       Ok (Seeks (Next points)))

@@ -19,6 +19,7 @@ seen_given given = record {
   keys = option_map (λ word. word.now) given.keys;
   at = given.at;
   screen = given.screen;
+  words = given.words;
   tall = given.tall;
   state = given.state;
   raw = given.raw;

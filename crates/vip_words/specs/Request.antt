@@ -23,7 +23,7 @@ module _ {A B : Type 0} (f : A → B) where
   map_start (start.Demo number) = start.Demo number
 
   abbrev pub map_show : Show A → Show B
-  map_show (show.Trace with_time with_screen) = show.Trace with_time with_screen
+  map_show (show.Trace with_time with_words with_screen) = show.Trace with_time with_words with_screen
   map_show show.Pictures = show.Pictures
   map_show (show.Commands file) = show.Commands (f file)
   map_show show.State = show.State

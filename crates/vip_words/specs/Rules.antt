@@ -21,6 +21,9 @@ at_option = codes "--at"
 abbrev pub screen_option : Word
 screen_option = codes "--screen"
 
+abbrev pub words_option : Word
+words_option = codes "--words"
+
 abbrev pub tall_option : Word
 tall_option = codes "--tall"
 
@@ -45,7 +48,8 @@ receiver_option = codes "--receiver"
 -- every option of the program
 abbrev pub every_option : List Word
 every_option =
-    keys_option ∷ at_option ∷ screen_option ∷ tall_option ∷ state_option ∷ raw_option ∷ rom_option ∷ ram_option ∷ sender_option ∷ receiver_option ∷ []
+    keys_option ∷ at_option ∷ screen_option ∷ words_option ∷ tall_option ∷ state_option ∷ raw_option ∷ rom_option ∷ ram_option ∷ sender_option
+    ∷ receiver_option ∷ []
 
 abbrev pub is_option : Word → Bool
 is_option word = list_any (bytes_eq word) every_option
@@ -103,6 +107,7 @@ pub record Given : Type 0 where
   pub keys : Option Word
   pub at : Bool
   pub screen : Bool
+  pub words : Bool
   pub tall : Bool
   pub state : Bool
   pub raw : Bool
@@ -119,6 +124,7 @@ given_by places options words =
       keys = keys_value words;
       at = is_given at_option words;
       screen = is_given screen_option words;
+      words = is_given words_option words;
       tall = is_given tall_option words;
       state = is_given state_option words;
       raw = is_given raw_option words;

@@ -1,6 +1,6 @@
 -- The verbs, and what may follow each.
 use Rattle.std.specs.Prelude.{ℕ, List, [], ◌∷◌, Option, bytes_eq, codes, find, option_map}
-use Rattle.vip_words.specs.Rules.{Word, at_option, keys_option, ram_option, raw_option, receiver_option, rom_option, screen_option, sender_option, state_option, tall_option}
+use Rattle.vip_words.specs.Rules.{Word, at_option, keys_option, ram_option, raw_option, receiver_option, rom_option, screen_option, sender_option, state_option, tall_option, words_option}
 use Rattle.vip_words.specs.declared.table.Verb.{Verb}
 use Rattle.vip_words.specs.declared.table.Verb.TheVariants as verb
 
@@ -16,7 +16,7 @@ row verb places options = record { verb = verb; places = places; options = optio
 -- each verb as it is spelled, with its row
 abbrev pub table : List (Word × Row)
 table =
-    (codes "trace", row verb.Trace 2 (keys_option ∷ at_option ∷ screen_option ∷ tall_option ∷ state_option ∷ rom_option ∷ ram_option ∷ []))
+    (codes "trace", row verb.Trace 2 (keys_option ∷ at_option ∷ screen_option ∷ words_option ∷ tall_option ∷ state_option ∷ rom_option ∷ ram_option ∷ []))
     ∷ (codes "play", row verb.Play 2 (keys_option ∷ tall_option ∷ state_option ∷ rom_option ∷ ram_option ∷ []))
     ∷ (codes "debug", row verb.Debug 3 (keys_option ∷ tall_option ∷ state_option ∷ rom_option ∷ ram_option ∷ []))
     ∷ (codes "save", row verb.Save 2 (keys_option ∷ tall_option ∷ state_option ∷ []))

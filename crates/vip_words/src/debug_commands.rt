@@ -55,13 +55,15 @@ pub enum Seeking {
     Break(u16),
 }
 
-/// A command that tells what was met of the language, and leaves the board.
+/// A command that tells of the language, and leaves the board.
 #[derive(Clone, Copy)]
 pub enum Telling {
     /// The language state at the last dispatch point met.
     State,
     /// The screen there.
     Screen,
+    /// So many opcodes in words from an address on.
+    Code(u16, u32),
 }
 
 /// What a board that is debugged runs, and so which commands there are.
@@ -156,11 +158,11 @@ impl Commands {
 /// | `to C` | C is at most the limit |
 /// | `at A`, `break A` | A is an address |
 /// | `watch A N`, `mem A N` | N is 1 to 4,096, and A + N at most 65536 |
-/// | `dis A N`, `list A N` | N is 1 to 4,096 |
+/// | `dis A N`, `list A N`, `code A N` | N is 1 to 4,096 |
 /// | `regs`, `state`, `screen` | they have no operand |
 ///
 /// Lines and words are those of a key script. N and C are decimal numbers, and A is one to four hexadecimal digits. Where the board doesn't
-/// run a game, `next`, `break`, `state` and `screen` are no commands.
+/// run a game, `next`, `break`, `state`, `screen` and `code` are no commands.
 ///
 /// The answer is the list of the commands, or the first fault, which is the first cause in the first faulty line; or memory was wanting.
 pub fn read_commands(

@@ -93,6 +93,9 @@ fn read_language(word: &[u8], operands: Words) -> Result<Command, CommandCause>
         alone(Command::Tells(Telling::Screen), operands)
     } else if is(word, b"state") {
         alone(Command::Tells(Telling::State), operands)
+    } else if is(word, b"code") {
+        let (address, count) = read_span(operands)?;
+        Ok(Command::Tells(Telling::Code(address, count)))
     } else if is(word, b"next") {
         Ok(Command::Seeks(Seeking::Next(read_steps(operands)?)))
     } else if is(word, b"break") {

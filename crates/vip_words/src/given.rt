@@ -44,6 +44,8 @@ pub struct Given<'a> {
     pub at: bool,
     /// Whether `--screen` is.
     pub screen: bool,
+    /// Whether `--words` is.
+    pub words: bool,
     /// Whether `--tall` is.
     pub tall: bool,
     /// Whether `--state` is.
@@ -157,6 +159,7 @@ pub fn read_given<'a>(
         keys: matches.get_str("keys"),
         at: matches.get_flag("at"),
         screen: matches.get_flag("screen"),
+        words: matches.get_flag("words"),
         tall: matches.get_flag("tall"),
         state: matches.get_flag("state"),
         raw: matches.get_flag("raw"),

@@ -22,7 +22,7 @@
 //! | the number of a demonstration game, or of a schedule of joined boards, is decimal and at most 4,294,967,295 | `vip_byte` |
 //! | a number of moves of joined boards is decimal and at most 10,000,000 | `vip_byte` |
 //! | an address is hexadecimal and at most FFFF | `vip_byte` |
-//! | a program has one of `--rom` and `--ram`, and none of `--tall`, `--state`, `--screen` and `--at` | `src/request.rt` |
+//! | a program has one of `--rom` and `--ram`, and none of `--tall`, `--state`, `--screen`, `--words` and `--at` | `src/request.rt` |
 //! | a saved state, by `--state`, has its own edition: `--tall` is refused with it | `src/request.rt` |
 //! | `source` has at most one of `--tall`, `--sender` and `--receiver` | `src/request.rt` |
 //!

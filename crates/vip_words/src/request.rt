@@ -87,8 +87,12 @@ pub enum Start<N> {
 /// What is shown of a run of the language.
 #[derive(Drop)]
 pub enum Show<N> {
-    /// A line for each dispatch point behind the start; whether it says its cycle; and whether the last screen is shown.
-    Trace { with_time: bool, with_screen: bool },
+    /// A line for each dispatch point behind the start; whether it says its cycle, and its opcode in words; and whether the last screen is shown.
+    Trace {
+        with_time: bool,
+        with_words: bool,
+        with_screen: bool,
+    },
     /// Each finished picture.
     Pictures,
     /// The answers to the debugger's commands.
@@ -230,7 +234,7 @@ fn is_program(given: &Given) -> bool
 fn is_mixed(given: &Given) -> bool
     ensures { result ≡ is_mixed (seen_given given.now) }
 {
-    given.rom && given.ram || given.state || given.tall || given.screen || given.at
+    given.rom && given.ram || given.state || given.tall || given.screen || given.words || given.at
 }
 
 /// A run of the program of this name, for as many cycles as a word says, that is shown so.
@@ -282,6 +286,7 @@ fn trace_request<'a>(given: &Given<'a>) -> Option<Request<&'a str>>
     };
     let show = Show::Trace {
         with_time: given.at,
+        with_words: given.words,
         with_screen: given.screen,
     };
     either_request(file, cycles, given, show, ProgramShow::Trace)
@@ -338,6 +343,7 @@ fn resume_request<'a>(given: &Given<'a>) -> Option<Request<&'a str>>
         limit,
         show: Show::Trace {
             with_time: given.at,
+            with_words: false,
             with_screen: false,
         },
     }))

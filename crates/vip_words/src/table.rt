@@ -63,7 +63,7 @@ impl Usage {
                 Verb::Trace,
                 2,
                 &[
-                    "--keys", "--at", "--screen", "--tall", "--state", "--rom", "--ram",
+                    "--keys", "--at", "--screen", "--words", "--tall", "--state", "--rom", "--ram",
                 ],
             )),
             "play" => Some(Usage::new(

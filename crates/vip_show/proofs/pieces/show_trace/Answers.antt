@@ -4,7 +4,7 @@ use Rattle.vip_show.proofs.pieces.show_trace.Goals as goal
 pub returns-in_err-tally : goal.returns-in_err-tally
 returns-in_err-tally g c =
     show-fails _ _ _ _ _ _ c.from_residual.ensures.0
-    (traced-early c.args.with_time c.args.with_screen c.args.run.now c.args.limit _ _ c.in_err-tally.ensures.answer)
+    (traced-early c.args.columns c.args.with_screen c.args.run.now c.args.limit _ _ c.in_err-tally.ensures.answer)
 
 pub returns-in_err-put_screen : goal.returns-in_err-put_screen
 returns-in_err-put_screen g c =

@@ -25,11 +25,12 @@ returns-clause-ok c =
       keys = c.get_str.ensures;
       at = record { on = c.get_flag.ensures.value; off = c.get_flag.ensures.other };
       screen = record { on = c.get_flag-2.ensures.value; off = c.get_flag-2.ensures.other };
-      tall = record { on = c.get_flag-3.ensures.value; off = c.get_flag-3.ensures.other };
-      state = record { on = c.get_flag-4.ensures.value; off = c.get_flag-4.ensures.other };
-      raw = record { on = c.get_flag-5.ensures.value; off = c.get_flag-5.ensures.other };
-      rom = record { on = c.get_flag-6.ensures.value; off = c.get_flag-6.ensures.other };
-      ram = record { on = c.get_flag-7.ensures.value; off = c.get_flag-7.ensures.other };
-      sender = record { on = c.get_flag-8.ensures.value; off = c.get_flag-8.ensures.other };
-      receiver = record { on = c.get_flag-9.ensures.value; off = c.get_flag-9.ensures.other };
+      words = record { on = c.get_flag-3.ensures.value; off = c.get_flag-3.ensures.other };
+      tall = record { on = c.get_flag-4.ensures.value; off = c.get_flag-4.ensures.other };
+      state = record { on = c.get_flag-5.ensures.value; off = c.get_flag-5.ensures.other };
+      raw = record { on = c.get_flag-6.ensures.value; off = c.get_flag-6.ensures.other };
+      rom = record { on = c.get_flag-7.ensures.value; off = c.get_flag-7.ensures.other };
+      ram = record { on = c.get_flag-8.ensures.value; off = c.get_flag-8.ensures.other };
+      sender = record { on = c.get_flag-9.ensures.value; off = c.get_flag-9.ensures.other };
+      receiver = record { on = c.get_flag-10.ensures.value; off = c.get_flag-10.ensures.other };
     })

@@ -1,0 +1,22 @@
+use Rattle.std.proofs.Common.{◌≡◌, ◌++◌, refl}
+use Rattle.std.specs.Prelude.{codes}
+use Rattle.vip_byte.specs.HexText.{hex4}
+use Rattle.vip_byte.specs.Text.{newline}
+use Rattle.vip_debug.specs.BoardParts.{clear_reads}
+use Rattle.vip_debug.specs.Code.{code_line, code_text}
+use Rattle.vip_debug.proofs.code.put_line.Goals as goal
+
+pub returns : goal.returns
+unfolding code_line
+returns g c =
+    let text : c.as_slice.result.now ≡ hex4 c.args.address ++ codes " " ++ code_text (clear_reads c.args.memory.now) c.args.address ++ newline =
+    rw (
+      c.as_slice.ensures.value,
+      c.put-3.ensures.items,
+      c.put_code_at.ensures.items,
+      c.put-2.ensures.items,
+      c.put.ensures.items,
+      c.hex4.ensures,
+      c.new-text.ensures,
+    ) refl in
+    rw text at c.put-4.ensures.answer

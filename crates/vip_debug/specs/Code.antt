@@ -1,0 +1,33 @@
+-- Opcodes of the language in words, line by line: address, opcode and words, and a last single byte at FFFF as data.
+use Rattle.std.specs.Prelude.{ℕ, ◌+◌, ◌-◌, ◌*◌, ◌/◌, ◌==◌, if◌then◌else◌, min, false, List, ◌++◌, map, codes}
+use Rattle.std.specs.List.{range_with_len}
+use Rattle.machine.specs.Board.{Machine}
+use Rattle.machine.specs.Memory.{read}
+use Rattle.chip8_words.specs.Words.{opcode_words}
+use Rattle.vip_byte.specs.HexText.{hex2, hex4}
+use Rattle.vip_byte.specs.Text.{newline}
+
+-- the byte that each address reads where the boot latch is clear
+abbrev pub clear_byte : List ℕ → Machine → ℕ → ℕ
+clear_byte rom b address = read rom false b.ram address
+
+abbrev pub opcode_text : ℕ → List ℕ
+opcode_text opcode = hex4 opcode ++ codes " " ++ opcode_words opcode
+
+abbrev pub byte_text : ℕ → List ℕ
+byte_text byte = hex2 byte ++ codes "   DB 0x" ++ hex2 byte
+
+module _ (byte : ℕ → ℕ) where
+  abbrev pub code_text : ℕ → List ℕ
+  code_text address = if address == 0xffff then byte_text (byte address) else opcode_text (byte address * 256 + byte (address + 1))
+
+  unfoldable pub code_line : ℕ → List ℕ
+  code_line address = hex4 address ++ codes " " ++ code_text address ++ newline
+
+  -- the k-th line from an address on: a line shows two bytes
+  abbrev pub code_at : ℕ → ℕ → List ℕ
+  code_at address k = code_line (address + 2 * k)
+
+  -- so many lines from an address on, or those up to FFFF
+  abbrev pub code_lines : ℕ → ℕ → List (List ℕ)
+  code_lines address count = map (code_at address) (range_with_len 0 (min count ((0x10001 - address) / 2)))
