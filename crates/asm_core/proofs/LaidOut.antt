@@ -10,34 +10,38 @@ use Rattle.asm_lex.specs.Expressions.{has_large_number}
 use Rattle.asm_lex.specs.Spans.{IsWithin, AreWithin}
 use Rattle.asm_lex.specs.Lines.{Parsed, parsed}
 use Rattle.asm_core.specs.declared.fault.AsmCause.TheVariants.{Duplicate}
-use Rattle.asm_core.specs.Names.{Names}
+use Rattle.asm_lex.specs.declared.shape.Isa.{Isa}
+use Rattle.asm_lex.specs.Names.{Names}
 use Rattle.asm_core.specs.Layout.{cause_of, from_parts, laid_parts, laid_out, label_from, label_in, is_duplicate, judged, placed}
 
-module _ (names : Names) (at : ℕ) (line : List ℕ) where
-  pub laid_out-fault : (fault : LexFault) → parsed line ≡ Err fault → laid_out names at line ≡ Err (cause_of fault)
+module _ (isa : Isa) (names : Names) (at : ℕ) (line : List ℕ) where
+  pub laid_out-fault : (fault : LexFault) → parsed isa names line ≡ Err fault → laid_out isa names at line ≡ Err (cause_of fault)
   unfolding laid_out
-  laid_out-fault fault e = ap (from_parts (laid_parts names at)) e
+  laid_out-fault fault e = ap (from_parts (laid_parts isa names at)) e
 
-  laid_out-parts : (parts : Parsed) → parsed line ≡ Ok parts → laid_out names at line ≡ laid_parts names at parts
+  laid_out-parts : (parts : Parsed) → parsed isa names line ≡ Ok parts → laid_out isa names at line ≡ laid_parts isa names at parts
   unfolding laid_out
-  laid_out-parts parts e = ap (from_parts (laid_parts names at)) e
+  laid_out-parts parts e = ap (from_parts (laid_parts isa names at)) e
 
-  pub laid_out-duplicate : (parts : Parsed) → parsed line ≡ Ok parts → is_duplicate names parts.label ≡ true → laid_out names at line ≡ Err Duplicate
+  pub laid_out-duplicate : (parts : Parsed) → parsed isa names line ≡ Ok parts → is_duplicate names parts.label ≡ true
+      → laid_out isa names at line ≡ Err Duplicate
   unfolding laid_parts
   laid_out-duplicate parts e twice =
       laid_out-parts parts e ∙ cond-true (is_duplicate names parts.label) (Err Duplicate)
-      (judged (is_some parts.label) (list_any has_large_number parts.operands) (placed names at parts.word parts.operands)) twice
+      (judged isa (is_some parts.label) (list_any (has_large_number isa) parts.operands) (placed isa names at parts.word parts.operands)) twice
 
-  pub laid_out-judged : (parts : Parsed) → parsed line ≡ Ok parts → is_duplicate names parts.label ≡ false
-      → laid_out names at line ≡ judged (is_some parts.label) (list_any has_large_number parts.operands) (placed names at parts.word parts.operands)
+  pub laid_out-judged : (parts : Parsed) → parsed isa names line ≡ Ok parts → is_duplicate names parts.label ≡ false
+      → laid_out isa names at line ≡ judged isa (is_some parts.label) (list_any (has_large_number isa) parts.operands)
+      (placed isa names at parts.word parts.operands)
   unfolding laid_parts
   laid_out-judged parts e new =
       laid_out-parts parts e ∙ cond-false (is_duplicate names parts.label) (Err Duplicate)
-      (judged (is_some parts.label) (list_any has_large_number parts.operands) (placed names at parts.word parts.operands)) new
+      (judged isa (is_some parts.label) (list_any (has_large_number isa) parts.operands) (placed isa names at parts.word parts.operands)) new
 
-pub label_in-parts : (line : List ℕ) (parts : Parsed) → parsed line ≡ Ok parts → label_in line ≡ parts.label
+pub label_in-parts : (isa : Isa) (names : Names) (line : List ℕ) (parts : Parsed) → parsed isa names line ≡ Ok parts
+    → label_in isa names line ≡ parts.label
 unfolding label_in
-label_in-parts line parts e = ap label_from e
+label_in-parts isa names line parts e = ap label_from e
 
 -- the spans of a line lie in it
 pub label_within : (line : List ℕ) (label : Option Span) (operands : List Span) → AreWithin line (option_to_list label ++ operands)

@@ -1,4 +1,3 @@
-pub mod Symbols
 pub mod Lines
 pub mod Collected
 pub mod Cells

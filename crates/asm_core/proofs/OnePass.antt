@@ -1,6 +1,7 @@
--- A source is assembled by two passes over its lines, each of which is read once: one for the names, and one for the bytes, which are compared on the way
--- with those of a ROM. Where both pass, the source assembles, its bytes are the ROM's, and it is known which addresses have one. The definitions speak
--- of the state before each line, which they take from the first line on; this takes it from the line before, so that a long source can be computed.
+-- A source of the CDP1802 is assembled by two passes over its lines, each of which is read once: one for the names, and one for the bytes,
+-- which are compared on the way with those of a ROM. Where both pass, the source assembles, its bytes are the ROM's, and it is known which
+-- addresses have one. The definitions speak of the state before each line, which they take from the first line on; this takes it from the
+-- line before, so that a long source can be computed.
 use Rattle.std.proofs.Common.{◌≡◌, ℕ, zero, suc, ◌+◌, ◌-◌, ◌<◌, ◌≤◌, refl, sym, ◌∙◌, ap, subst, arith, inl, inr, Bool, true, false, cond, not, ◌&&◌, ◌||◌, ◌==◌, nat_le, nat_lt, List, [], ◌∷◌, length, drop, map, fold, Option, Some, None, is_some, option_map, slice_get, Result, Ok, Err, below_more}
 use Rattle.std.specs.List.{list_any, range_with_len}
 use Rattle.std.specs.Option.{option_or}
@@ -15,7 +16,9 @@ use Rattle.asm_core.specs.declared.fault.AsmCause.{AsmCause}
 use Rattle.asm_core.specs.declared.fault.AsmCause.TheVariants.{Overlap}
 use Rattle.asm_core.specs.declared.layout.Laid.{Laid}
 use Rattle.asm_core.specs.declared.table.Cell.{Cell}
-use Rattle.asm_core.specs.Names.{Names}
+use Rattle.asm_lex.specs.declared.shape.Isa.TheVariants.{Cdp1802}
+use Rattle.asm_lex.specs.Names.{Names}
+use Rattle.asm_lex.proofs.OneLanguage.{one_language}
 use Rattle.asm_core.specs.Layout.{from_parts, laid_parts, laid_out, label_from, label_in}
 use Rattle.asm_core.specs.Encoding.{encoded_parts, encoded}
 use Rattle.asm_core.specs.Sources.{Known, known_first, known_after, known_next, known_at, address_of, all_names, line_at, fault_1, fault_2, fault_with, overlaps, bytes_of, cell_in, cell_before, NoFault}
@@ -26,15 +29,26 @@ use Rattle.asm_core.proofs.PassOne.{line_here, no_line, known_at-first, known_at
 abbrev pub Read : Type 0
 Read = Result Parsed LexFault
 
+-- a line as it is read, whatever the earlier names are
+abbrev pub read : List ℕ → Read
+read line = parsed Cdp1802 (λ name. None) line
+
 abbrev pub laid_by : Known → Read → Result Laid AsmCause
-laid_by known line = from_parts (laid_parts known.names known.at) line
+laid_by known line = from_parts (laid_parts Cdp1802 known.names known.at) line
 
 abbrev pub bytes_by : Names → ℕ → ℕ → Read → Result (List ℕ) AsmCause
-bytes_by names at next line = from_parts (λ line. encoded_parts names at next line.word line.operands) line
+bytes_by names at next line = from_parts (λ line. encoded_parts Cdp1802 names at next line.word line.operands) line
 
 -- what stands before the next line
 abbrev pub known_by : Known → Read → Known
 known_by known line = known_after known (label_from line) (laid_by known line)
+
+as_read : (names : Names) (line : List ℕ) → parsed Cdp1802 names line ≡ read line
+as_read names line = one_language names (λ name. None) line
+
+known_step : (known : Known) (line : List ℕ) → known_next Cdp1802 known line ≡ known_by known (read line)
+unfolding laid_out label_in
+known_step known line = ap (known_by known) (as_read known.names line)
 
 -- ---- stretches of addresses, each by its first address and its length
 
@@ -92,7 +106,7 @@ stretches_by names rom [] known stretches = Some stretches
 stretches_by names rom (line ∷ lines) known stretches = by_laid names rom known stretches line (stretches_by names rom lines) (laid_by known line)
 
 abbrev pub stretches_of : Rom → List Read → Option Stretches
-stretches_of rom lines = stretches_by (fold known_by known_first lines).names rom lines known_first []
+stretches_of rom lines = stretches_by (fold known_by (known_first Cdp1802) lines).names rom lines (known_first Cdp1802) []
 
 -- ---- stretches
 
@@ -203,10 +217,10 @@ is_some-or (Some x) q = refl
 -- ---- what is known of the lines before a line
 
 pub record SoFar (source : List (List ℕ)) (rom : Rom) (count : ℕ) (stretches : Stretches) : Type 0 where
-  pub pass_1 : NoFault (fault_1 source) count
-  pub pass_2 : NoFault (fault_2 source) count
-  pub marked : (λ a. is_some (cell_before source count a)) ≡ covers stretches
-  pub agrees : (a : ℕ) (cell : Cell) → cell_before source count a ≡ Some cell → rom a ≡ Some cell.byte
+  pub pass_1 : NoFault (fault_1 Cdp1802 source) count
+  pub pass_2 : NoFault (fault_2 Cdp1802 source) count
+  pub marked : (λ a. is_some (cell_before Cdp1802 source count a)) ≡ covers stretches
+  pub agrees : (a : ℕ) (cell : Cell) → cell_before Cdp1802 source count a ≡ Some cell → rom a ≡ Some cell.byte
 
 nothing : (source : List (List ℕ)) (rom : Rom) → SoFar source rom 0 []
 unfolding cell_before
@@ -219,73 +233,83 @@ nothing source rom = record {
 
 module _ (source : List (List ℕ)) (rom : Rom) (number : ℕ) (below : number < length source) (line : List ℕ) (here : line_at source number ≡ line) where
   module _ (laid : Laid) (bytes : List ℕ) (stretches : Stretches)
-      (laid_is : laid_by (known_at source number) (parsed line) ≡ Ok laid)
-      (bytes_is : bytes_by (all_names source) (known_at source number).at laid.next (parsed line) ≡ Ok bytes) where
-    next_known : known_at source (number + 1) ≡ known_after (known_at source number) (label_from (parsed line)) (Ok laid)
+      (laid_is : laid_by (known_at Cdp1802 source number) (read line) ≡ Ok laid)
+      (bytes_is : bytes_by (all_names Cdp1802 source) (known_at Cdp1802 source number).at laid.next (read line) ≡ Ok bytes) where
+    next_known : known_at Cdp1802 source (number + 1) ≡ known_after (known_at Cdp1802 source number) (label_from (read line)) (Ok laid)
     unfolding laid_out label_in
     next_known =
-        known_at-next source number below
-        ∙ ap (known_next (known_at source number)) here
-        ∙ ap (known_after (known_at source number) (label_from (parsed line))) laid_is
+        known_at-next Cdp1802 source number below
+        ∙ ap (known_next Cdp1802 (known_at Cdp1802 source number)) here
+        ∙ known_step (known_at Cdp1802 source number) line
+        ∙ ap (known_after (known_at Cdp1802 source number) (label_from (read line))) laid_is
 
-    no_fault_1 : fault_1 source number ≡ None
+    no_fault_1 : fault_1 Cdp1802 source number ≡ None
     unfolding fault_1 laid_out
-    no_fault_1 = ap (λ l. result_err (laid_by (known_at source number) (parsed l))) here ∙ ap result_err laid_is
+    no_fault_1 =
+        ap (λ l. result_err (laid_by (known_at Cdp1802 source number) (parsed Cdp1802 (known_at Cdp1802 source number).names l))) here
+        ∙ ap (λ r. result_err (laid_by (known_at Cdp1802 source number) r)) (as_read (known_at Cdp1802 source number).names line)
+        ∙ ap result_err laid_is
 
     one_more : suc number ≡ number + 1
     one_more = omega arith
 
-    bytes_are : bytes_of source number ≡ Ok bytes
+    bytes_are : bytes_of Cdp1802 source number ≡ Ok bytes
     unfolding bytes_of encoded
     bytes_are =
-        ap (λ l. bytes_by (all_names source) (address_of source number) (address_of source (suc number)) (parsed l)) here
-        ∙ ap (λ n. bytes_by (all_names source) (address_of source number) n (parsed line))
-        (ap (λ n. address_of source n) one_more ∙ ap (λ (k : Known). k.at) next_known)
+        ap (λ l. bytes_by (all_names Cdp1802 source) (address_of Cdp1802 source number) (address_of Cdp1802 source (suc number))
+        (parsed Cdp1802 (known_at Cdp1802 source number).names l)) here
+        ∙ ap (bytes_by (all_names Cdp1802 source) (address_of Cdp1802 source number) (address_of Cdp1802 source (suc number)))
+        (as_read (known_at Cdp1802 source number).names line)
+        ∙ ap (λ n. bytes_by (all_names Cdp1802 source) (address_of Cdp1802 source number) n (read line))
+        (ap (λ n. address_of Cdp1802 source n) one_more ∙ ap (λ (k : Known). k.at) next_known)
         ∙ bytes_is
 
     cells_are : (a : ℕ)
-        → cell_before source (number + 1) a ≡ option_or (cell_before source number a) (cell_in (number + 1) (address_of source number) bytes a)
+        → cell_before Cdp1802 source (number + 1) a
+        ≡ option_or (cell_before Cdp1802 source number a) (cell_in (number + 1) (address_of Cdp1802 source number) bytes a)
     unfolding cell_before
     cells_are a =
-        sym (ap (λ n. cell_before source n a) one_more)
-        ∙ ap (λ r. option_or (cell_before source number a) (cell_in (number + 1) (address_of source number) (result_unwrap_or r []) a)) bytes_are
+        sym (ap (λ n. cell_before Cdp1802 source n a) one_more)
+        ∙ ap (λ r. option_or (cell_before Cdp1802 source number a)
+        (cell_in (number + 1) (address_of Cdp1802 source number) (result_unwrap_or r []) a)) bytes_are
 
-    module _ (so_far : SoFar source rom number stretches) (fit : fits rom stretches (address_of source number) bytes ≡ true) where
-      free : overlaps (cell_before source number) (address_of source number) (length bytes) ≡ false
+    module _ (so_far : SoFar source rom number stretches) (fit : fits rom stretches (address_of Cdp1802 source number) bytes ≡ true) where
+      free : overlaps (cell_before Cdp1802 source number) (address_of Cdp1802 source number) (length bytes) ≡ false
       free =
-          ap (λ given. list_any (λ offset. given (address_of source number + offset)) (range_with_len 0 (length bytes))) so_far.marked
+          ap (λ given. list_any (λ offset. given (address_of Cdp1802 source number + offset)) (range_with_len 0 (length bytes))) so_far.marked
           ∙ not-true _ (and_parts _ _ fit).0
 
-      no_fault_2 : fault_2 source number ≡ None
+      no_fault_2 : fault_2 Cdp1802 source number ≡ None
       unfolding fault_2
       no_fault_2 =
-          ap (fault_with (cell_before source number) (address_of source number)) bytes_are
-          ∙ cond-false (overlaps (cell_before source number) (address_of source number) (length bytes)) (Some Overlap) None free
+          ap (fault_with (cell_before Cdp1802 source number) (address_of Cdp1802 source number)) bytes_are
+          ∙ cond-false (overlaps (cell_before Cdp1802 source number) (address_of Cdp1802 source number) (length bytes)) (Some Overlap) None free
 
-      marked_more : (a : ℕ) → is_some (cell_before source (number + 1) a) ≡ covers (with_stretch stretches (address_of source number) (length bytes)) a
+      marked_more : (a : ℕ) → is_some (cell_before Cdp1802 source (number + 1) a)
+          ≡ covers (with_stretch stretches (address_of Cdp1802 source number) (length bytes)) a
       marked_more a =
           ap is_some (cells_are a)
-          ∙ is_some-or (cell_before source number a) (cell_in (number + 1) (address_of source number) bytes a)
-          ∙ ap (λ given. given a || is_some (cell_in (number + 1) (address_of source number) bytes a)) so_far.marked
-          ∙ ap (λ b. covers stretches a || b) (cell_there (number + 1) (address_of source number) bytes a)
-          ∙ sym (covers-with stretches (address_of source number) (length bytes) a)
+          ∙ is_some-or (cell_before Cdp1802 source number a) (cell_in (number + 1) (address_of Cdp1802 source number) bytes a)
+          ∙ ap (λ given. given a || is_some (cell_in (number + 1) (address_of Cdp1802 source number) bytes a)) so_far.marked
+          ∙ ap (λ b. covers stretches a || b) (cell_there (number + 1) (address_of Cdp1802 source number) bytes a)
+          ∙ sym (covers-with stretches (address_of Cdp1802 source number) (length bytes) a)
 
-      agrees_more : (a : ℕ) (cell : Cell) → cell_before source (number + 1) a ≡ Some cell → rom a ≡ Some cell.byte
-      agrees_more a cell e = go (cell_before source number a) refl (sym (cells_are a) ∙ e)
+      agrees_more : (a : ℕ) (cell : Cell) → cell_before Cdp1802 source (number + 1) a ≡ Some cell → rom a ≡ Some cell.byte
+      agrees_more a cell e = go (cell_before Cdp1802 source number a) refl (sym (cells_are a) ∙ e)
         where
-          go : (old : Option Cell) → cell_before source number a ≡ old
-              → option_or old (cell_in (number + 1) (address_of source number) bytes a) ≡ Some cell → rom a ≡ Some cell.byte
+          go : (old : Option Cell) → cell_before Cdp1802 source number a ≡ old
+              → option_or old (cell_in (number + 1) (address_of Cdp1802 source number) bytes a) ≡ Some cell → rom a ≡ Some cell.byte
           go (Some c) was is = so_far.agrees a cell (was ∙ is)
           go None was is =
-              let there = cell_byte (number + 1) (address_of source number) bytes a cell is in
-              let place : address_of source number + (a - address_of source number) ≡ a = omega (arith, there.0) in
+              let there = cell_byte (number + 1) (address_of Cdp1802 source number) bytes a cell is in
+              let place : address_of Cdp1802 source number + (a - address_of Cdp1802 source number) ≡ a = omega (arith, there.0) in
               ap rom (sym place)
-              ∙ holds_at rom (address_of source number) bytes (a - address_of source number) cell.byte (and_parts _ _ fit).1 there.1
+              ∙ holds_at rom (address_of Cdp1802 source number) bytes (a - address_of Cdp1802 source number) cell.byte (and_parts _ _ fit).1 there.1
 
-      more : SoFar source rom (number + 1) (with_stretch stretches (address_of source number) (length bytes))
+      more : SoFar source rom (number + 1) (with_stretch stretches (address_of Cdp1802 source number) (length bytes))
       more = record {
-        pass_1 = below_more (λ i. fault_1 source i ≡ None) number so_far.pass_1 no_fault_1;
-        pass_2 = below_more (λ i. fault_2 source i ≡ None) number so_far.pass_2 no_fault_2;
+        pass_1 = below_more (λ i. fault_1 Cdp1802 source i ≡ None) number so_far.pass_1 no_fault_1;
+        pass_2 = below_more (λ i. fault_2 Cdp1802 source i ≡ None) number so_far.pass_2 no_fault_2;
         marked = λ i a. marked_more a i;
         agrees = agrees_more;
       }
@@ -324,39 +348,40 @@ passes names rom known stretches line rest all e = from_laid (laid_by known line
 
 walk : (source : List (List ℕ)) (rom : Rom) (lines : List (List ℕ)) (number : ℕ) (stretches all : Stretches)
     → drop number source ≡ lines → number ≤ length source → SoFar source rom number stretches
-    → stretches_by (all_names source) rom (map parsed lines) (known_at source number) stretches ≡ Some all → SoFar source rom (length source) all
+    → stretches_by (all_names Cdp1802 source) rom (map read lines) (known_at Cdp1802 source number) stretches ≡ Some all → SoFar source rom (length source) all
 walk source rom [] number stretches all left inside so_far e =
     let last : number ≡ length source = no_line source number left inside in
     let same : stretches ≡ all = cc in
     subst (SoFar source rom (length source)) same (subst (λ n. SoFar source rom n stretches) last so_far)
 walk source rom (line ∷ lines) number stretches all left inside so_far e =
     let here = line_here source number line lines left in
-    let p = passes (all_names source) rom (known_at source number) stretches (parsed line) (stretches_by (all_names source) rom (map parsed lines)) all e in
-    let next : Stretches = with_stretch stretches (address_of source number) (length p.bytes) in
+    let p = passes (all_names Cdp1802 source) rom (known_at Cdp1802 source number) stretches (read line)
+    (stretches_by (all_names Cdp1802 source) rom (map read lines)) all e in
+    let next : Stretches = with_stretch stretches (address_of Cdp1802 source number) (length p.bytes) in
     walk source rom lines (number + 1) next all here.2 (omega (arith, here.0))
     (more source rom number here.0 line here.1 p.laid p.bytes stretches p.laid_is p.bytes_is so_far p.fit)
-    (ap (λ known. stretches_by (all_names source) rom (map parsed lines) known next)
+    (ap (λ known. stretches_by (all_names Cdp1802 source) rom (map read lines) known next)
     (next_known source rom number here.0 line here.1 p.laid p.bytes stretches p.laid_is p.bytes_is) ∙ p.on)
 
 -- ---- the first pass
 
-known_read : (lines : List (List ℕ)) (known : Known) → fold known_by known (map parsed lines) ≡ fold known_next known lines
-unfolding laid_out label_in
+known_read : (lines : List (List ℕ)) (known : Known) → fold known_by known (map read lines) ≡ fold (known_next Cdp1802) known lines
 known_read [] known = refl
-known_read (line ∷ lines) known = known_read lines (known_next known line)
+known_read (line ∷ lines) known =
+    ap (λ next. fold known_by next (map read lines)) (sym (known_step known line)) ∙ known_read lines (known_next Cdp1802 known line)
 
-names_read : (source : List (List ℕ)) → (fold known_by known_first (map parsed source)).names ≡ all_names source
+names_read : (source : List (List ℕ)) → (fold known_by (known_first Cdp1802) (map read source)).names ≡ all_names Cdp1802 source
 unfolding known_at
 names_read source =
     ap (λ (k : Known). k.names)
-    (known_read source known_first ∙ ap (fold known_next known_first) (sym (take_all (length source) source (omega arith))))
+    (known_read source (known_first Cdp1802) ∙ ap (fold (known_next Cdp1802) (known_first Cdp1802)) (sym (take_all (length source) source (omega arith))))
 
 -- ---- both
 
 -- where the passes find stretches, no line has a fault, the bytes are the ROM's, and the stretches have exactly the addresses with a byte
 pub all_lines : (source : List (List ℕ)) (rom : Rom) (all : Stretches)
-    → stretches_of rom (map parsed source) ≡ Some all → SoFar source rom (length source) all
+    → stretches_of rom (map read source) ≡ Some all → SoFar source rom (length source) all
 all_lines source rom all e =
     walk source rom source 0 [] all refl (omega arith) (nothing source rom)
-    (ap (λ known. stretches_by (all_names source) rom (map parsed source) known []) (known_at-first source)
-    ∙ ap (λ names. stretches_by names rom (map parsed source) known_first []) (sym (names_read source)) ∙ e)
+    (ap (λ known. stretches_by (all_names Cdp1802 source) rom (map read source) known []) (known_at-first Cdp1802 source)
+    ∙ ap (λ names. stretches_by names rom (map read source) (known_first Cdp1802) []) (sym (names_read source)) ∙ e)

@@ -1,16 +1,22 @@
 -- Pass 2 over one line: its bytes.
-use Rattle.std.specs.Prelude.{◌+◌, ◌-◌, ◌/◌, ◌%◌, ◌==◌, ℕ, Bool, true, false, List, [], ◌∷◌, map, flat_map, replicate, if◌then◌else◌, Option, None, Some, Result, Ok, Err, is_err}
+use Rattle.std.specs.Prelude.{◌+◌, ◌-◌, ◌/◌, ◌%◌, ◌==◌, ℕ, Bool, true, false, List, [], ◌∷◌, nat_lt, map, flat_map, replicate, if◌then◌else◌, Option, None, Some, Result, Ok, Err, is_err}
 use Rattle.std.specs.List.{list_any}
 use Rattle.std.specs.Result.{result_map_both, result_unwrap_or}
 use Rattle.asm_lex.specs.declared.shape.Word.{Word}
-use Rattle.asm_lex.specs.declared.shape.Word.TheVariants.{Code, Org, Equ, Db, Dw, Ds, Page}
+use Rattle.asm_lex.specs.declared.shape.Word.TheVariants.{Code, Instruction, Org, Equ, EquRegister, Db, Dw, Ds, Page}
 use Rattle.asm_lex.specs.declared.shape.ValueFault.{ValueFault}
 use Rattle.asm_lex.specs.declared.shape.ValueFault.TheVariants as value
 use Rattle.asm_lex.specs.Lines.{parsed}
 use Rattle.asm_lex.specs.Words.{size_at}
 use Rattle.asm_core.specs.declared.fault.AsmCause.{AsmCause}
 use Rattle.asm_core.specs.declared.fault.AsmCause.TheVariants.{OffPage}
-use Rattle.asm_core.specs.Names.{Names, operand_value, first_operand}
+use Rattle.asm_lex.specs.declared.shape.Isa.{Isa}
+use Rattle.asm_lex.specs.declared.shape.Isa.TheVariants.{Cdp1802, Chip8}
+use Rattle.asm_lex.specs.Names.{Names}
+use Rattle.asm_lex.specs.Forms.{most_of, last_operand}
+use Rattle.chip8_words.specs.declared.code.Op.{Op}
+use Rattle.chip8_words.specs.Codes.{encoded as opcode_of_parts}
+use Rattle.asm_core.specs.Names.{operand_value, first_operand}
 use Rattle.asm_core.specs.Layout.{value_cause, from_parts}
 
 -- a word's bytes, the high one first
@@ -29,8 +35,8 @@ collected results =
     else if list_any is_err results then Err value.Range
     else Ok (map (λ result. result_unwrap_or result 0) results)
 
-unfoldable pub values_of : Names → ℕ → ℕ → List (List ℕ) → Result (List ℕ) ValueFault
-values_of names here most operands = collected (map (operand_value names here most) operands)
+unfoldable pub values_of : Isa → Names → ℕ → ℕ → List (List ℕ) → Result (List ℕ) ValueFault
+values_of isa names here most operands = collected (map (operand_value isa names here most) operands)
 
 -- a branch or an immediate instruction with the value of its operand: a short branch stays in the page of its second byte
 abbrev pub long_branch : ℕ → Result ℕ ValueFault → Result (List ℕ) AsmCause
@@ -46,25 +52,37 @@ short_branch at opcode (Err fault) = Err (value_cause fault)
 abbrev pub immediate : ℕ → Result ℕ ValueFault → Result (List ℕ) AsmCause
 immediate opcode value = result_map_both (λ byte. opcode ∷ byte ∷ []) value_cause value
 
--- the opcodes 30 to 3F, but for SKP, are short branches
+-- the bytes of an instruction of the CDP1802: the opcodes 30 to 3F, but for SKP, are short branches
 unfoldable pub instruction : Names → ℕ → ℕ → List ℕ → Result (List ℕ) AsmCause
 instruction names at opcode operand =
     if size_at opcode == 1 then Ok (opcode ∷ [])
-    else if size_at opcode == 3 then long_branch opcode (operand_value names at 65535 operand)
-    else if opcode / 16 == 3 then short_branch at opcode (operand_value names at 65535 operand)
-    else immediate opcode (operand_value names at 255 operand)
+    else if size_at opcode == 3 then long_branch opcode (operand_value Cdp1802 names at 65535 operand)
+    else if opcode / 16 == 3 then short_branch at opcode (operand_value Cdp1802 names at 65535 operand)
+    else immediate opcode (operand_value Cdp1802 names at 255 operand)
+
+-- the bytes of an instruction of CHIP-8, whose number is the value of its operand, where it has one
+abbrev pub with_number : Op → ℕ → Op
+with_number op number = record { form = op.form; x = op.x; y = op.y; number = number }
+
+unfoldable pub op_bytes : Names → ℕ → Op → List ℕ → Result (List ℕ) AsmCause
+op_bytes names at op operand =
+    if nat_lt 0 (most_of op.form) then
+    result_map_both (λ number. word_bytes (opcode_of_parts (with_number op number))) value_cause (operand_value Chip8 names at (most_of op.form) operand)
+    else Ok (word_bytes (opcode_of_parts op))
 
 -- the bytes of a line by its parts, which stands from the address `at` up to `next`
-unfoldable pub encoded_parts : Names → ℕ → ℕ → Option Word → List (List ℕ) → Result (List ℕ) AsmCause
-encoded_parts names at next None operands = Ok []
-encoded_parts names at next (Some (Code opcode)) operands = instruction names at opcode (first_operand operands)
-encoded_parts names at next (Some Org) operands = Ok []
-encoded_parts names at next (Some Equ) operands = Ok []
-encoded_parts names at next (Some Db) operands = result_map_both (λ bytes. bytes) value_cause (values_of names at 255 operands)
-encoded_parts names at next (Some Dw) operands = result_map_both (flat_map word_bytes) value_cause (values_of names at 65535 operands)
-encoded_parts names at next (Some Ds) operands = Ok (replicate (next - at) 0)
-encoded_parts names at next (Some Page) operands = Ok []
+unfoldable pub encoded_parts : Isa → Names → ℕ → ℕ → Option Word → List (List ℕ) → Result (List ℕ) AsmCause
+encoded_parts isa names at next None operands = Ok []
+encoded_parts isa names at next (Some (Code opcode)) operands = instruction names at opcode (first_operand operands)
+encoded_parts isa names at next (Some (Instruction op)) operands = op_bytes names at op (last_operand operands)
+encoded_parts isa names at next (Some Org) operands = Ok []
+encoded_parts isa names at next (Some Equ) operands = Ok []
+encoded_parts isa names at next (Some (EquRegister register)) operands = Ok []
+encoded_parts isa names at next (Some Db) operands = result_map_both (λ bytes. bytes) value_cause (values_of isa names at 255 operands)
+encoded_parts isa names at next (Some Dw) operands = result_map_both (flat_map word_bytes) value_cause (values_of isa names at 65535 operands)
+encoded_parts isa names at next (Some Ds) operands = Ok (replicate (next - at) 0)
+encoded_parts isa names at next (Some Page) operands = Ok []
 
--- pass 2 over a line, where `names` are those of all lines
-unfoldable pub encoded : Names → ℕ → ℕ → List ℕ → Result (List ℕ) AsmCause
-encoded names at next line = from_parts (λ line. encoded_parts names at next line.word line.operands) (parsed line)
+-- pass 2 over a line, which is read with the names of the earlier lines, and has its values of those of all lines
+unfoldable pub encoded : Isa → Names → Names → ℕ → ℕ → List ℕ → Result (List ℕ) AsmCause
+encoded isa earlier names at next line = from_parts (λ line. encoded_parts isa names at next line.word line.operands) (parsed isa earlier line)

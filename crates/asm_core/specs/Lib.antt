@@ -1,4 +1,5 @@
 pub mod Names
+pub mod Ranges
 pub mod Layout
 pub mod Limits
 pub mod Encoding

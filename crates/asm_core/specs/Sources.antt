@@ -6,10 +6,15 @@ use Rattle.std.specs.Result.{result_err, result_unwrap_or}
 use Rattle.std.specs.Str.Lines.{lines}
 use Rattle.asm_core.specs.declared.fault.AsmCause.{AsmCause}
 use Rattle.asm_core.specs.declared.fault.AsmCause.TheVariants.{Overlap}
-use Rattle.asm_core.specs.Names.{Names, with_label}
+use Rattle.asm_lex.specs.declared.shape.Isa.{Isa}
+use Rattle.asm_lex.specs.Names.{Names}
+use Rattle.asm_core.specs.declared.layout.LabelValue.{LabelValue}
+use Rattle.asm_core.specs.declared.layout.LabelValue.TheVariants.{Address}
+use Rattle.asm_core.specs.Ranges.{origin_of}
+use Rattle.asm_core.specs.Names.{with_label}
 use Rattle.asm_core.specs.declared.layout.Laid.{Laid}
 use Rattle.asm_core.specs.declared.table.Cell.{Cell}
-use Rattle.asm_core.specs.Layout.{laid_out, label_in}
+use Rattle.asm_core.specs.Layout.{laid_out, label_in, symbol_value}
 use Rattle.asm_core.specs.Encoding.{encoded}
 
 -- The lines of a source: each ends with a newline byte, and a carriage return directly before it is dropped. A last line without a
@@ -26,56 +31,61 @@ pub record Known : Type 0 where
   pub at : ℕ
   pub names : Names
 
-abbrev pub known_first : Known
-known_first = record { at = 0; names = λ name. None }
+abbrev pub known_first : Isa → Known
+known_first isa = record { at = origin_of isa; names = λ name. None }
 
 -- a faulty line defines no name, and the address stays
 abbrev pub known_after : Known → Option (List ℕ) → Result Laid AsmCause → Known
-known_after known label (Ok laid) = record { at = laid.next; names = with_label known.names label laid.value }
+known_after known label (Ok laid) = record { at = laid.next; names = with_label known.names label (symbol_value laid.value) }
 known_after known label (Err cause) = known
 
-abbrev pub known_next : Known → List ℕ → Known
-known_next known line = known_after known (label_in line) (laid_out known.names known.at line)
+-- Below, a source is one of an instruction set.
+abbrev pub known_next : Isa → Known → List ℕ → Known
+known_next isa known line = known_after known (label_in isa known.names line) (laid_out isa known.names known.at line)
 
 -- what stands before line i follows from the lines before it, one after another
-unfoldable pub known_at : List (List ℕ) → ℕ → Known
-known_at source i = fold known_next known_first (take i source)
+unfoldable pub known_at : Isa → List (List ℕ) → ℕ → Known
+known_at isa source i = fold (known_next isa) (known_first isa) (take i source)
 
-abbrev pub address_of : List (List ℕ) → ℕ → ℕ
-address_of source i = (known_at source i).at
+abbrev pub address_of : Isa → List (List ℕ) → ℕ → ℕ
+address_of isa source i = (known_at isa source i).at
+
+abbrev pub names_before : Isa → List (List ℕ) → ℕ → Names
+names_before isa source i = (known_at isa source i).names
 
 -- the values of the names that any line defines
-abbrev pub all_names : List (List ℕ) → Names
-all_names source = (known_at source (length source)).names
+abbrev pub all_names : Isa → List (List ℕ) → Names
+all_names isa source = names_before isa source (length source)
 
 -- the first cause of line i in pass 1
-unfoldable pub fault_1 : List (List ℕ) → ℕ → Option AsmCause
-fault_1 source i = result_err (laid_out (known_at source i).names (address_of source i) (line_at source i))
+unfoldable pub fault_1 : Isa → List (List ℕ) → ℕ → Option AsmCause
+fault_1 isa source i = result_err (laid_out isa (names_before isa source i) (address_of isa source i) (line_at source i))
 
 -- the value that a label of line i has, or would have: that of EQU, the new address for ORG and PAGE, else the line's own address
-abbrev pub value_from : Result Laid AsmCause → ℕ
+abbrev pub value_from : Result Laid AsmCause → LabelValue
 value_from (Ok laid) = laid.value
-value_from (Err cause) = 0
+value_from (Err cause) = Address 0
 
-unfoldable pub label_value : List (List ℕ) → ℕ → ℕ
-label_value source i = value_from (laid_out (known_at source i).names (address_of source i) (line_at source i))
+unfoldable pub label_value : Isa → List (List ℕ) → ℕ → LabelValue
+label_value isa source i = value_from (laid_out isa (names_before isa source i) (address_of isa source i) (line_at source i))
 
 -- the bytes of line i; byte j of it has the address of the line, and j
-unfoldable pub bytes_of : List (List ℕ) → ℕ → Result (List ℕ) AsmCause
-bytes_of source i = encoded (all_names source) (address_of source i) (address_of source (suc i)) (line_at source i)
+unfoldable pub bytes_of : Isa → List (List ℕ) → ℕ → Result (List ℕ) AsmCause
+bytes_of isa source i =
+    encoded isa (names_before isa source i) (all_names isa source) (address_of isa source i) (address_of isa source (suc i)) (line_at source i)
 
 -- the byte at an address among those of one line
 abbrev pub cell_in : ℕ → ℕ → List ℕ → ℕ → Option Cell
 cell_in line at bytes address = if nat_le at address then option_map (λ byte. record { byte = byte; line = line }) (slice_get bytes (address - at)) else None
 
 -- the byte that line i gives an address
-abbrev pub cell_of : List (List ℕ) → ℕ → ℕ → Option Cell
-cell_of source i address = cell_in (i + 1) (address_of source i) (result_unwrap_or (bytes_of source i) []) address
+abbrev pub cell_of : Isa → List (List ℕ) → ℕ → ℕ → Option Cell
+cell_of isa source i address = cell_in (i + 1) (address_of isa source i) (result_unwrap_or (bytes_of isa source i) []) address
 
 -- the byte that some line before line i gives an address
-unfoldable pub cell_before : List (List ℕ) → ℕ → ℕ → Option Cell
-cell_before source zero address = None
-cell_before source (suc i) address = option_or (cell_before source i address) (cell_of source i address)
+unfoldable pub cell_before : Isa → List (List ℕ) → ℕ → ℕ → Option Cell
+cell_before isa source zero address = None
+cell_before isa source (suc i) address = option_or (cell_before isa source i address) (cell_of isa source i address)
 
 -- some byte stands at an address that `given` has
 abbrev pub overlaps : (ℕ → Option Cell) → ℕ → ℕ → Bool
@@ -86,8 +96,8 @@ fault_with given at (Err cause) = Some cause
 fault_with given at (Ok bytes) = if overlaps given at (length bytes) then Some Overlap else None
 
 -- the first cause of line i in pass 2
-unfoldable pub fault_2 : List (List ℕ) → ℕ → Option AsmCause
-fault_2 source i = fault_with (cell_before source i) (address_of source i) (bytes_of source i)
+unfoldable pub fault_2 : Isa → List (List ℕ) → ℕ → Option AsmCause
+fault_2 isa source i = fault_with (cell_before isa source i) (address_of isa source i) (bytes_of isa source i)
 
 -- no line has a fault
 abbrev pub NoFault : (ℕ → Option AsmCause) → ℕ → Type 0
@@ -100,8 +110,8 @@ pub record IsFirstFault (fault : ℕ → Option AsmCause) (count i : ℕ) (cause
   pub earlier : NoFault fault i
 
 -- The first fault of a source is the first of pass 1, or, where pass 1 has none, the first of pass 2. Lines are numbered from 1.
-abbrev pub HasFirstFault : List (List ℕ) → ℕ → AsmCause → Type 0
-HasFirstFault source line cause =
+abbrev pub HasFirstFault : Isa → List (List ℕ) → ℕ → AsmCause → Type 0
+HasFirstFault isa source line cause =
     (i : ℕ) × (line ≡ i + 1)
-    × (IsFirstFault (fault_1 source) (length source) i cause
-    ⊎ (NoFault (fault_1 source) (length source) × IsFirstFault (fault_2 source) (length source) i cause))
+    × (IsFirstFault (fault_1 isa source) (length source) i cause
+    ⊎ (NoFault (fault_1 isa source) (length source) × IsFirstFault (fault_2 isa source) (length source) i cause))

@@ -1,10 +1,11 @@
 //! What a source is assembled to.
 
 ghost use Rattle.std.specs.Prelude.{◌≡◌};
-ghost use Rattle.asm_core.specs.Names.{value_in};
+ghost use Rattle.asm_lex.specs.Names.{value_in, number_named};
 
-use crate::names::{SymbolIter, Symbols};
+use crate::layout::LabelValue;
 use crate::table::Cell;
+use asm_lex::{SymbolIter, Symbols};
 use std::marker::Model;
 
 /// The bytes of a source at their addresses, each with its line, and the names with their values.
@@ -13,14 +14,14 @@ pub struct Assembly {
     cells: Vec<Option<Cell>>,
     names: Symbols,
     addresses: Vec<u32>,
-    values: Vec<u32>,
+    values: Vec<LabelValue>,
 }
 
 /// Where a line of a source stands.
 #[derive(Clone, Copy)]
 pub struct LinePlace {
-    /// The value that a label of the line has or would have: that of EQU, the new address for ORG and PAGE, else `at`.
-    pub value: u32,
+    /// The value that a label of the line has or would have.
+    pub value: LabelValue,
     /// The address at which the line begins, at most 65,536.
     pub at: u32,
     /// The address behind the line, at most 65,536.
@@ -52,7 +53,7 @@ impl Assembly {
         cells: Vec<Option<Cell>>,
         names: Symbols,
         addresses: Vec<u32>,
-        values: Vec<u32>,
+        values: Vec<LabelValue>,
     ) -> Self
         requires cells { length cells.items ≡ 65536 }
         requires lines { length addresses.items ≡ length values.items + 1 }
@@ -86,11 +87,11 @@ impl Assembly {
         }
     }
 
-    /// The value of a name; none exactly where no line defines it.
+    /// The number that a name stands for; none exactly where no line gives it one.
     pub fn symbol(&self, name: &str) -> Option<u16>
-        ensures { result ≡ value_in self.now.names name.now }
+        ensures { result ≡ number_named (value_in self.now.names) name.now }
     {
-        self.names.get(name.as_bytes())
+        self.names.number(name.as_bytes())
     }
 
     /// How many lines the source has.

@@ -1,18 +1,23 @@
 //! Pass 2 over one line.
 
 ghost use Rattle.std.specs.Prelude.{◌≡◌, ◌≤◌, ◌+◌, ◌/◌, ◌%◌, ◌∷◌, [], ◌==◌, ℕ, List, length, map, All, Some, flat_map, IsTrue, IfOk, MatchResult, Ok, Err};
-ghost use Rattle.asm_lex.specs.Words.{HasItsOperands, size_at, is_one_expression};
+ghost use Rattle.asm_lex.specs.Words.{HasItsOperands, size_at, is_one};
+ghost use Rattle.asm_lex.specs.Expressions.{is_expression};
+ghost use Rattle.asm_lex.specs.Forms.{HasItsNumber, last_operand, most_of};
+ghost use Rattle.asm_lex.specs.Lines.{operands_of, Reads};
+ghost use Rattle.asm_lex.specs.Parts.{code_of};
+ghost use Rattle.asm_lex.specs.Names.{Names, value_in};
 ghost use Rattle.asm_lex.specs.Spans.{text_at, AreWithin};
-ghost use Rattle.asm_core.specs.Names.{value_in, first_operand};
-ghost use Rattle.asm_core.specs.Encoding.{word_bytes, to_page, instruction, encoded_parts, encoded};
+ghost use Rattle.asm_core.specs.Names.{first_operand};
+ghost use Rattle.asm_core.specs.Encoding.{word_bytes, to_page, instruction, with_number, op_bytes, encoded_parts, encoded};
 ghost use Rattle.asm_core.specs.Bytes.{bytes_in};
 
-use crate::fault::{AsmCause, cause_of, value_cause};
+use crate::fault::{AsmCause, value_cause};
 use crate::layout::size_at;
-use crate::names::Symbols;
-use crate::values::{one_value, values_of};
+use crate::values::{last_value, one_value, values_of};
 use arrayvec::ArrayVec;
-use asm_lex::{Span, Word, line};
+use asm_lex::{Isa, Span, Symbols, Word, operands};
+use chip8_words::{Form, Op, Operand, encode};
 
 /// The bytes of a line.
 #[derive(Drop)]
@@ -54,6 +59,13 @@ fn two_bytes(opcode: u8, operand: u8) -> Bytes
     Bytes::Given(bytes)
 }
 
+fn word_bytes(word: u16) -> Bytes
+    ensures { bytes_in result ≡ word_bytes word }
+{
+    let (high, low) = halves(word);
+    two_bytes(high, low)
+}
+
 fn three_bytes(opcode: u8, word: u16) -> Bytes
     ensures { bytes_in result ≡ opcode ∷ word_bytes word }
 {
@@ -86,7 +98,7 @@ fn instruction(
     line: &[u8],
     operands: &[Span],
 ) -> Result<Bytes, AsmCause>
-    requires operands { HasItsOperands (Some (Word.Code opcode)) (map (text_at line.now) operands.now) }
+    requires operands { HasItsOperands Isa.Cdp1802 (Some (Word.Code opcode)) (map (text_at line.now) operands.now) }
     requires within { AreWithin line.now operands.now }
     requires short { length line.now ≤ 255 }
     requires at { at ≤ 65536 }
@@ -96,19 +108,70 @@ fn instruction(
 {
     match size_at(opcode) {
         1 => Ok(one_byte(opcode)),
-        3 => match one_value(names, at, u16::MAX, line, operands) {
+        3 => match one_value(Isa::Cdp1802, names, at, u16::MAX, line, operands) {
             Ok(target) => Ok(three_bytes(opcode, target)),
             Err(fault) => Err(value_cause(fault)),
         },
-        _ if opcode / 16 == 3 => match one_value(names, at, u16::MAX, line, operands) {
+        _ if opcode / 16 == 3 => match one_value(
+            Isa::Cdp1802,
+            names,
+            at,
+            u16::MAX,
+            line,
+            operands,
+        ) {
             Ok(target) => to_page(at, opcode, target),
             Err(fault) => Err(value_cause(fault)),
         },
-        _ => match one_value(names, at, 255, line, operands) {
+        _ => match one_value(Isa::Cdp1802, names, at, 255, line, operands) {
             Ok(byte) => Ok(two_bytes(opcode, byte as u8)),
             Err(fault) => Err(value_cause(fault)),
         },
     }
+}
+
+// The greatest number that a form takes, or 0 where it takes none.
+fn most_of(form: Form) -> u16
+    ensures { result ≡ most_of form }
+{
+    match form.operands() {
+        [.., Operand::Byte] => 255,
+        [.., Operand::Address] => 4095,
+        [.., Operand::Nibble] => 15,
+        _ => 0,
+    }
+}
+
+#[tactic(auto, unfolding(crate::specs::Encoding::op_bytes))]
+fn op_bytes(
+    names: &Symbols,
+    at: u32,
+    op: Op,
+    line: &[u8],
+    operands: &[Span],
+) -> Result<Bytes, AsmCause>
+    requires operands { HasItsNumber op (map (text_at line.now) operands.now) }
+    requires within { AreWithin line.now operands.now }
+    requires short { length line.now ≤ 255 }
+    requires at { at ≤ 65536 }
+    ensures { MatchResult result
+        (λ bytes. op_bytes (value_in names.now) at op (last_operand (map (text_at line.now) operands.now)) ≡ Ok (bytes_in bytes))
+        (λ cause. op_bytes (value_in names.now) at op (last_operand (map (text_at line.now) operands.now)) ≡ Err cause) }
+{
+    let most = most_of(op.form);
+    if most == 0 {
+        return Ok(word_bytes(encode(&op)));
+    }
+    match last_value(names, at, most, line, operands) {
+        Ok(number) => Ok(word_bytes(encode(&with_number(op, number)))),
+        Err(fault) => Err(value_cause(fault)),
+    }
+}
+
+fn with_number(op: Op, number: u16) -> Op
+    ensures { result ≡ with_number op number }
+{
+    Op { number, ..op }
 }
 
 fn bytes_from(values: &[u16]) -> Bytes
@@ -139,6 +202,7 @@ fn words_from(values: &[u16]) -> Bytes
 // The bytes of a line by its parts, which stands from the address `at` up to `next`.
 #[tactic(auto, unfolding(crate::specs::Encoding::encoded_parts))]
 fn encode_parts(
+    isa: Isa,
     names: &Symbols,
     at: u32,
     next: u32,
@@ -146,45 +210,50 @@ fn encode_parts(
     word: Option<Word>,
     operands: &[Span],
 ) -> Result<Bytes, AsmCause>
-    requires operands { HasItsOperands word (map (text_at line.now) operands.now) }
+    requires operands { HasItsOperands isa word (map (text_at line.now) operands.now) }
     requires within { AreWithin line.now operands.now }
     requires short { length line.now ≤ 255 }
     requires few { length operands.now ≤ 128 }
     requires at { at ≤ 65536 }
     ensures { MatchResult result
-        (λ bytes. encoded_parts (value_in names.now) at next word (map (text_at line.now) operands.now) ≡ Ok (bytes_in bytes))
-        (λ cause. encoded_parts (value_in names.now) at next word (map (text_at line.now) operands.now) ≡ Err cause) }
+        (λ bytes. encoded_parts isa (value_in names.now) at next word (map (text_at line.now) operands.now) ≡ Ok (bytes_in bytes))
+        (λ cause. encoded_parts isa (value_in names.now) at next word (map (text_at line.now) operands.now) ≡ Err cause) }
 {
     match word {
-        None | Some(Word::Org) | Some(Word::Equ) | Some(Word::Page) => Ok(no_bytes()),
+        None | Some(Word::Org) | Some(Word::Page) => Ok(no_bytes()),
+        Some(Word::Equ) | Some(Word::EquRegister(_)) => Ok(no_bytes()),
         Some(Word::Code(opcode)) => instruction(names, at, opcode, line, operands),
+        Some(Word::Instruction(op)) => op_bytes(names, at, op, line, operands),
         Some(Word::Ds) => Ok(Bytes::Zeros(next.saturating_sub(at))),
-        Some(Word::Db) => match values_of(names, at, 255, line, operands) {
+        Some(Word::Db) => match values_of(isa, names, at, 255, line, operands) {
             Ok(values) => Ok(bytes_from(values.as_slice())),
             Err(fault) => Err(value_cause(fault)),
         },
-        Some(Word::Dw) => match values_of(names, at, u16::MAX, line, operands) {
+        Some(Word::Dw) => match values_of(isa, names, at, u16::MAX, line, operands) {
             Ok(values) => Ok(words_from(values.as_slice())),
             Err(fault) => Err(value_cause(fault)),
         },
     }
 }
 
-/// The bytes of a line that stands from the address `at` up to `next`, where `names` are those of all lines.
+/// The bytes of a line that stands from the address `at` up to `next`, and has this word, where `names` are those of all lines.
 #[tactic(auto, unfolding(crate::specs::Encoding::encoded))]
 pub(crate) fn encode_line(
+    isa: Isa,
     names: &Symbols,
     at: u32,
     next: u32,
+    word: Option<Word>,
     bytes: &[u8],
 ) -> Result<Bytes, AsmCause>
+    requires line { HasItsOperands isa word (operands_of (code_of bytes.now)) }
+    requires short { length bytes.now ≤ 255 }
+    requires few { length (operands_of (code_of bytes.now)) ≤ 128 }
     requires at { at ≤ 65536 }
-    ensures { MatchResult result
-        (λ made. encoded (value_in names.now) at next bytes.now ≡ Ok (bytes_in made))
-        (λ cause. encoded (value_in names.now) at next bytes.now ≡ Err cause) }
+    ensures { (earlier : Names) → Reads isa earlier bytes.now word → MatchResult result
+        (λ made. encoded isa earlier (value_in names.now) at next bytes.now ≡ Ok (bytes_in made))
+        (λ cause. encoded isa earlier (value_in names.now) at next bytes.now ≡ Err cause) }
 {
-    match line(bytes) {
-        Ok(line) => encode_parts(names, at, next, bytes, line.word, line.operands.as_slice()),
-        Err(fault) => Err(cause_of(fault)),
-    }
+    let operands = operands(bytes);
+    encode_parts(isa, names, at, next, bytes, word, operands.as_slice())
 }

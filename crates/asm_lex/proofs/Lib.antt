@@ -5,3 +5,7 @@ pub mod Many
 pub mod Texts
 pub mod Statements
 pub mod Takes
+mod NameTree
+mod Chosen
+mod Binary
+pub mod OneLanguage

@@ -2,18 +2,22 @@
 use Rattle.std.proofs.Common.{◌≡◌, ◌+◌, ◌*◌, ◌<◌, ◌≤◌, ℕ, suc, refl, Bool, List, [], ◌∷◌, length, sym, ◌∙◌, arith, true, false, cond, Some, None}
 use Rattle.std.specs.Prelude.{map, ◌==◌, not}
 use Rattle.std.specs.List.{list_all, slice_split, onto_first}
-use Rattle.std.proofs.lemmas.Bool.{and_parts, and_right, cond-false, ne_eqb, both_ways, false_from_ne_true}
-use Rattle.asm_lex.specs.Bytes.{is_comma, is_name}
+use Rattle.std.proofs.lemmas.Bool.{and_parts, and_from, and_right, cond-false, ne_eqb, both_ways, false_from_ne_true}
+use Rattle.asm_lex.specs.Bytes.{is_comma, is_name, is_reserved, spells}
 use Rattle.asm_lex.specs.Parts.{trimmed, operands_in, without_leading_blanks, without_trailing_blanks}
 use Rattle.asm_lex.specs.Expressions.{is_expression, sum_in, written_value, number_in, is_here}
-use Rattle.asm_lex.specs.Words.{number_written, takes, meaning_of, coded}
+use Rattle.asm_lex.specs.Words.{number_written, takes, register_given, gives_register, meaning_of, coded}
+use Rattle.asm_lex.specs.Names.{Names, is_number}
+use Rattle.asm_lex.specs.declared.shape.Isa.{Isa}
+use Rattle.asm_lex.specs.declared.shape.Isa.TheVariants.{Cdp1802, Chip8}
+use Rattle.asm_lex.proofs.Chosen.{no_op}
 use Rattle.machine.specs.Opcodes.{kind_of}
 use Rattle.asm_lex.specs.declared.shape.Word.{Word}
-use Rattle.asm_lex.specs.declared.shape.Word.TheVariants.{Code, Org, Equ, Db, Dw, Ds, Page}
+use Rattle.asm_lex.specs.declared.shape.Word.TheVariants.{Equ, Db, Dw, Page}
 use Rattle.vip_isa.specs.Rows.{operands_of}
 use Rattle.vip_isa.specs.declared.rows.Operands.{Operands}
 use Rattle.vip_isa.specs.declared.rows.Operands.TheVariants.{Nothing, Register, Port, Data}
-use Rattle.asm_lex.specs.declared.words.Entry.TheVariants.{Directive, Mnemonic}
+use Rattle.asm_lex.specs.declared.words.Entry.TheVariants.{Directive, Mnemonic, Words}
 use Rattle.std.proofs.lemmas.List.Splits.{length-slice_split}
 use Rattle.std.proofs.lemmas.List.Folds.{list_all-map}
 use Rattle.std.proofs.lemmas.List.{length-map}
@@ -64,50 +68,80 @@ few_parts cuts p empty xs all =
     omega (arith, found.1, parts_fit cuts p empty xs found.0)
 
 -- the empty text is no expression, also without its blanks
-no_expression : is_expression (trimmed []) ≡ false
-unfolding is_expression sum_in written_value number_in is_here is_name without_leading_blanks without_trailing_blanks
-no_expression = refl
+no_expression : (isa : Isa) → is_expression isa (trimmed []) ≡ false
+unfolding is_expression sum_in written_value number_in is_here is_name is_reserved spells without_leading_blanks without_trailing_blanks
+no_expression Cdp1802 = refl
+no_expression Chip8 = refl
 
 -- of more than 128 operands some one is no expression
-not_all : (text : List ℕ) → length text ≤ 255 → 128 < length (operands_in text) → list_all is_expression (operands_in text) ≡ false
+not_all : (isa : Isa) (text : List ℕ) → length text ≤ 255 → 128 < length (operands_in text) → list_all (is_expression isa) (operands_in text) ≡ false
 unfolding operands_in
-not_all text short many =
+not_all isa text short many =
     elim (length text == 0) as (λ b. 128 < length (cond b [] (map trimmed (slice_split is_comma text)))
-    → list_all is_expression (cond b [] (map trimmed (slice_split is_comma text))) ≡ false) [
+    → list_all (is_expression isa) (cond b [] (map trimmed (slice_split is_comma text))) ≡ false) [
       | true ↦ λ h. absurd (omega arith)
       | false ↦ λ h. false_from_ne_true _ (λ all.
-          let each : list_all (λ part. is_expression (trimmed part)) (slice_split is_comma text) ≡ true =
-          sym (list_all-map is_expression trimmed (slice_split is_comma text)) ∙ all in
-          let few = few_parts is_comma (λ part. is_expression (trimmed part)) no_expression text each in
+          let each : list_all (λ part. is_expression isa (trimmed part)) (slice_split is_comma text) ≡ true =
+          sym (list_all-map (is_expression isa) trimmed (slice_split is_comma text)) ∙ all in
+          let few = few_parts is_comma (λ part. is_expression isa (trimmed part)) (no_expression isa) text each in
           omega (arith, length-map (slice_split is_comma text) trimmed))
     ] many
 
-none_written : (kind : Operands) (a b : List ℕ) (rest : List (List ℕ)) → number_written kind (a ∷ b ∷ rest) ≡ None
-none_written Register a b rest = refl
-none_written Port a b rest = refl
-none_written Nothing a b rest = cond-false (length (a ∷ b ∷ rest) == 0) (Some 0) None (ne_eqb (length (a ∷ b ∷ rest)) 0 (λ e. omega arith))
-none_written Data a b rest = cond-false (length (a ∷ b ∷ rest) == 0) (Some 0) None (ne_eqb (length (a ∷ b ∷ rest)) 0 (λ e. omega arith))
-none_written _ a b rest = refl
+none_written : (names : Names) (kind : Operands) (a b : List ℕ) (rest : List (List ℕ)) → number_written names kind (a ∷ b ∷ rest) ≡ None
+none_written names Register a b rest = refl
+none_written names Port a b rest = refl
+none_written names Nothing a b rest = cond-false (length (a ∷ b ∷ rest) == 0) (Some 0) None (ne_eqb (length (a ∷ b ∷ rest)) 0 (λ e. omega arith))
+none_written names Data a b rest = cond-false (length (a ∷ b ∷ rest) == 0) (Some 0) None (ne_eqb (length (a ∷ b ∷ rest)) 0 (λ e. omega arith))
+none_written names _ a b rest = refl
 
-not_taken : (directive : Word) (has_label : Bool) (a b : List ℕ) (rest : List (List ℕ)) → list_all is_expression (a ∷ b ∷ rest) ≡ false
-    → takes directive has_label (a ∷ b ∷ rest) ≡ false
-not_taken (Code opcode) has_label a b rest wrong = refl
-not_taken Org has_label a b rest wrong = refl
-not_taken Equ has_label a b rest wrong = and_right has_label false refl
-not_taken Db has_label a b rest wrong = and_right (not (length (a ∷ b ∷ rest) == 0)) (list_all is_expression (a ∷ b ∷ rest)) wrong
-not_taken Dw has_label a b rest wrong = and_right (not (length (a ∷ b ∷ rest) == 0)) (list_all is_expression (a ∷ b ∷ rest)) wrong
-not_taken Ds has_label a b rest wrong = refl
-not_taken Page has_label a b rest wrong = ne_eqb (length (a ∷ b ∷ rest)) 0 (λ e. omega arith)
+-- what is no expression is no number
+no_number : (isa : Isa) (names : Names) (text : List ℕ) → is_number isa names text ≡ true → is_expression isa text ≡ true
+unfolding is_number
+no_number isa names text e = (and_parts _ _ e).0
 
-no_meaning : (entry : Entry) (has_label : Bool) (operands : List (List ℕ)) → 2 ≤ length operands → list_all is_expression operands ≡ false
-    → meaning_of entry has_label operands ≡ None
+all_numbers : (isa : Isa) (names : Names) (texts : List (List ℕ)) → list_all (is_number isa names) texts ≡ true → list_all (is_expression isa) texts ≡ true
+all_numbers isa names [] e = refl
+all_numbers isa names (text ∷ texts) e =
+    let parts = and_parts _ _ e in
+    and_from _ _ (no_number isa names text parts.0) (all_numbers isa names texts parts.1)
+
+none_given : (isa : Isa) (names : Names) (a b : List ℕ) (rest : List (List ℕ)) → register_given isa names (a ∷ b ∷ rest) ≡ None
+unfolding register_given
+none_given Cdp1802 names a b rest = refl
+none_given Chip8 names a b rest = refl
+
+no_given : (isa : Isa) (names : Names) (a b : List ℕ) (rest : List (List ℕ)) (has_label : Bool)
+    → cond has_label (register_given isa names (a ∷ b ∷ rest)) None ≡ None
+no_given isa names a b rest true = none_given isa names a b rest
+no_given isa names a b rest false = refl
+
+module _ (isa : Isa) (names : Names) (has_label : Bool) (a b : List ℕ) (rest : List (List ℕ)) (wrong : list_all (is_expression isa) (a ∷ b ∷ rest) ≡ false) where
+  no_numbers : list_all (is_number isa names) (a ∷ b ∷ rest) ≡ false
+  no_numbers = false_from_ne_true _ (λ all. both_ways _ wrong (all_numbers isa names (a ∷ b ∷ rest) all))
+
+  not_taken : (directive : Word) → takes isa names directive has_label (a ∷ b ∷ rest) ≡ false
+  not_taken Equ = and_right has_label false refl
+  not_taken Db = and_right (not (length (a ∷ b ∷ rest) == 0)) (list_all (is_number isa names) (a ∷ b ∷ rest)) no_numbers
+  not_taken Dw = and_right (not (length (a ∷ b ∷ rest) == 0)) (list_all (is_number isa names) (a ∷ b ∷ rest)) no_numbers
+  not_taken Page = ne_eqb (length (a ∷ b ∷ rest)) 0 (λ e. omega arith)
+  not_taken _ = refl
+
+  no_register : (directive : Word) → gives_register isa names directive has_label (a ∷ b ∷ rest) ≡ None
+  no_register Equ = no_given isa names a b rest has_label
+  no_register _ = refl
+
+no_meaning : (isa : Isa) (names : Names) (entry : Entry) (has_label : Bool) (operands : List (List ℕ)) → 5 ≤ length operands
+    → list_all (is_expression isa) operands ≡ false
+    → meaning_of isa names entry has_label operands ≡ None
 unfolding meaning_of coded
-no_meaning entry has_label [] long wrong = absurd (omega arith)
-no_meaning entry has_label (a ∷ []) long wrong = absurd (omega arith)
-no_meaning (Mnemonic opcode) has_label (a ∷ b ∷ rest) long wrong = rw (none_written (operands_of (kind_of opcode)) a b rest) refl
-no_meaning (Directive directive) has_label (a ∷ b ∷ rest) long wrong = rw (not_taken directive has_label a b rest wrong) refl
+no_meaning isa names entry has_label [] long wrong = absurd (omega arith)
+no_meaning isa names entry has_label (a ∷ []) long wrong = absurd (omega arith)
+no_meaning isa names (Mnemonic opcode) has_label (a ∷ b ∷ rest) long wrong = rw (none_written names (operands_of (kind_of opcode)) a b rest) refl
+no_meaning isa names (Words form) has_label (a ∷ b ∷ rest) long wrong = rw (no_op names form a b rest (omega arith)) refl
+no_meaning isa names (Directive directive) has_label (a ∷ b ∷ rest) long wrong =
+    rw (no_register isa names has_label a b rest wrong directive, not_taken isa names has_label a b rest wrong directive) refl
 
 -- more than 128 operands are wrong for each word
-pub too_many : (entry : Entry) (has_label : Bool) (text : List ℕ) → length text ≤ 255 → 128 < length (operands_in text)
-    → meaning_of entry has_label (operands_in text) ≡ None
-too_many entry has_label text short many = no_meaning entry has_label (operands_in text) (omega arith) (not_all text short many)
+pub too_many : (isa : Isa) (names : Names) (entry : Entry) (has_label : Bool) (text : List ℕ) → length text ≤ 255 → 128 < length (operands_in text)
+    → meaning_of isa names entry has_label (operands_in text) ≡ None
+too_many isa names entry has_label text short many = no_meaning isa names entry has_label (operands_in text) (omega arith) (not_all isa text short many)

@@ -1,7 +1,8 @@
 -- The first opcode that a word names.
 use Rattle.std.proofs.Common.{◌≡◌, ◌+◌, ◌<◌, ℕ, zero, suc, refl, List, length, ◌∙◌, ap, arith, true, false, get_or, Some, None}
 use Rattle.std.specs.List.{range_with_len}
-use Rattle.asm_lex.specs.Words.{opcodes, opcode_named, spells, mnemonic_at}
+use Rattle.asm_lex.specs.Words.{opcodes, opcode_named, mnemonic_at}
+use Rattle.asm_lex.specs.Bytes.{spells}
 use Rattle.asm_lex.proofs.Splits.{find_none, find_first}
 
 length-range : (n a : ℕ) → length (range_with_len a n) ≡ n

@@ -4,43 +4,45 @@ use Rattle.std.specs.Prelude.{◌==◌, is_some}
 use Rattle.std.specs.Option.{option_map, ok_or}
 use Rattle.std.specs.Result.{result_map_both}
 use Rattle.std.proofs.lemmas.Bool.{cond-true, cond-false, eq-eqb, ne_eqb, or_parts, ltb-false}
+use Rattle.asm_lex.specs.declared.shape.Isa.{Isa}
+use Rattle.asm_lex.specs.Names.{Names}
 use Rattle.asm_lex.specs.declared.shape.Word.{Word}
 use Rattle.asm_lex.specs.declared.shape.LexFault.{LexFault}
 use Rattle.asm_lex.specs.declared.shape.LexFault.TheVariants.{BadText, UnknownMnemonic, BadOperand}
 use Rattle.asm_lex.specs.declared.words.Entry.{Entry}
-use Rattle.asm_lex.specs.Parts.{code_of, label_of, statement_of, word_of, behind_word, operands_in}
+use Rattle.asm_lex.specs.Parts.{code_of, label_of, statement_of, word_of, operands_in}
 use Rattle.asm_lex.specs.Words.{entry_of, meaning_of}
-use Rattle.asm_lex.specs.Lines.{Parsed, has_bad_bytes, has_bad_name, entry_meaning, word_meaning, parsed_code, parsed}
+use Rattle.asm_lex.specs.Lines.{Parsed, operands_of, has_bad_bytes, has_bad_name, entry_meaning, word_meaning, parsed_code, parsed}
 use Rattle.asm_lex.proofs.Texts.{operands-empty}
 
-module _ (has_label : Bool) (operands : List (List ℕ)) (word : List ℕ) where
+module _ (isa : Isa) (names : Names) (has_label : Bool) (operands : List (List ℕ)) (word : List ℕ) where
   -- no word
-  pub word_meaning-empty : length word ≡ 0 → word_meaning has_label operands word ≡ Ok None
+  pub word_meaning-empty : length word ≡ 0 → word_meaning isa names has_label operands word ≡ Ok None
   unfolding word_meaning
-  word_meaning-empty e = cond-true (length word == 0) (Ok None) (entry_meaning has_label operands (entry_of word)) (eq-eqb (length word) 0 e)
+  word_meaning-empty e = cond-true (length word == 0) (Ok None) (entry_meaning isa names has_label operands (entry_of isa word)) (eq-eqb (length word) 0 e)
 
-  word_meaning-some : 0 < length word → word_meaning has_label operands word ≡ entry_meaning has_label operands (entry_of word)
+  word_meaning-some : 0 < length word → word_meaning isa names has_label operands word ≡ entry_meaning isa names has_label operands (entry_of isa word)
   unfolding word_meaning
   word_meaning-some there =
-      cond-false (length word == 0) (Ok None) (entry_meaning has_label operands (entry_of word)) (ne_eqb (length word) 0 (λ e. omega arith))
+      cond-false (length word == 0) (Ok None) (entry_meaning isa names has_label operands (entry_of isa word)) (ne_eqb (length word) 0 (λ e. omega arith))
 
   -- a word that isn't in the table
-  pub word_meaning-unknown : 0 < length word → entry_of word ≡ None → word_meaning has_label operands word ≡ Err UnknownMnemonic
+  pub word_meaning-unknown : 0 < length word → entry_of isa word ≡ None → word_meaning isa names has_label operands word ≡ Err UnknownMnemonic
   unfolding entry_meaning
-  word_meaning-unknown there e = word_meaning-some there ∙ ap (entry_meaning has_label operands) e
+  word_meaning-unknown there e = word_meaning-some there ∙ ap (entry_meaning isa names has_label operands) e
 
   -- wrong operands
-  pub word_meaning-wrong : (entry : Entry) → 0 < length word → entry_of word ≡ Some entry → meaning_of entry has_label operands ≡ None
-      → word_meaning has_label operands word ≡ Err BadOperand
+  pub word_meaning-wrong : (entry : Entry) → 0 < length word → entry_of isa word ≡ Some entry → meaning_of isa names entry has_label operands ≡ None
+      → word_meaning isa names has_label operands word ≡ Err BadOperand
   unfolding entry_meaning
   word_meaning-wrong entry there e wrong =
-      word_meaning-some there ∙ ap (entry_meaning has_label operands) e ∙ ap (λ meaning. ok_or (option_map Some meaning) BadOperand) wrong
+      word_meaning-some there ∙ ap (entry_meaning isa names has_label operands) e ∙ ap (λ meaning. ok_or (option_map Some meaning) BadOperand) wrong
 
-  pub word_meaning-known : (entry : Entry) (meaning : Word) → 0 < length word → entry_of word ≡ Some entry
-      → meaning_of entry has_label operands ≡ Some meaning → word_meaning has_label operands word ≡ Ok (Some meaning)
+  pub word_meaning-known : (entry : Entry) (meaning : Word) → 0 < length word → entry_of isa word ≡ Some entry
+      → meaning_of isa names entry has_label operands ≡ Some meaning → word_meaning isa names has_label operands word ≡ Ok (Some meaning)
   unfolding entry_meaning
   word_meaning-known entry meaning there e right =
-      word_meaning-some there ∙ ap (entry_meaning has_label operands) e ∙ ap (λ meaning. ok_or (option_map Some meaning) BadOperand) right
+      word_meaning-some there ∙ ap (entry_meaning isa names has_label operands) e ∙ ap (λ meaning. ok_or (option_map Some meaning) BadOperand) right
 
 -- a text with so many operands has a word before it
 pub word_there : (word text : List ℕ) → (length word ≡ 0 → length text ≡ 0) → 128 < length (operands_in text) → 0 < length word
@@ -51,7 +53,7 @@ word_there word text empty many =
     ] refl
 
 abbrev with_word : List ℕ → Option Word → Parsed
-with_word code word = record { label = label_of code; word = word; operands = operands_in (behind_word (statement_of code)) }
+with_word code word = record { label = label_of code; word = word; operands = operands_of code }
 
 abbrev with_meaning : List ℕ → Result (Option Word) LexFault → Result Parsed LexFault
 with_meaning code meaning = result_map_both (with_word code) (λ fault. fault) meaning
@@ -61,33 +63,33 @@ pub short_line : (line : List ℕ) → has_bad_bytes line ≡ false → length l
 unfolding has_bad_bytes
 short_line line e = ltb-false 255 (length line) (or_parts _ _ e).0
 
-pub parsed-bad_bytes : (line : List ℕ) → has_bad_bytes line ≡ true → parsed line ≡ Err BadText
-unfolding parsed
-parsed-bad_bytes line e = cond-true (has_bad_bytes line) (Err BadText) (parsed_code (code_of line)) e
+module _ (isa : Isa) (names : Names) (line : List ℕ) where
+  pub parsed-bad_bytes : has_bad_bytes line ≡ true → parsed isa names line ≡ Err BadText
+  unfolding parsed
+  parsed-bad_bytes e = cond-true (has_bad_bytes line) (Err BadText) (parsed_code isa names (code_of line)) e
 
-parsed-code : (line : List ℕ) → has_bad_bytes line ≡ false → parsed line ≡ parsed_code (code_of line)
-unfolding parsed
-parsed-code line e = cond-false (has_bad_bytes line) (Err BadText) (parsed_code (code_of line)) e
+  parsed-code : has_bad_bytes line ≡ false → parsed isa names line ≡ parsed_code isa names (code_of line)
+  unfolding parsed
+  parsed-code e = cond-false (has_bad_bytes line) (Err BadText) (parsed_code isa names (code_of line)) e
 
-pub parsed-bad_name : (line : List ℕ) → has_bad_bytes line ≡ false → has_bad_name (code_of line) ≡ true → parsed line ≡ Err BadText
-unfolding parsed_code
-parsed-bad_name line allowed e =
-    parsed-code line allowed ∙ cond-true (has_bad_name (code_of line)) (Err BadText)
-    (with_meaning (code_of line) (word_meaning (is_some (label_of (code_of line))) (operands_in (behind_word (statement_of (code_of line))))
-    (word_of (statement_of (code_of line))))) e
+  pub parsed-bad_name : has_bad_bytes line ≡ false → has_bad_name isa (code_of line) ≡ true → parsed isa names line ≡ Err BadText
+  unfolding parsed_code
+  parsed-bad_name allowed e =
+      parsed-code allowed ∙ cond-true (has_bad_name isa (code_of line)) (Err BadText)
+      (with_meaning (code_of line) (word_meaning isa names (is_some (label_of (code_of line))) (operands_of (code_of line))
+      (word_of (statement_of (code_of line))))) e
 
-pub parsed-statement : (line : List ℕ) → has_bad_bytes line ≡ false → has_bad_name (code_of line) ≡ false → (meaning : Result (Option Word) LexFault)
-    → word_meaning (is_some (label_of (code_of line))) (operands_in (behind_word (statement_of (code_of line))))
-    (word_of (statement_of (code_of line))) ≡ meaning
-    → parsed line ≡ result_map_both
-    (λ word. record { label = label_of (code_of line); word = word; operands = operands_in (behind_word (statement_of (code_of line))) })
-    (λ fault. fault) meaning
-unfolding parsed_code
-parsed-statement line allowed named meaning e =
-    parsed-code line allowed ∙ cond-false (has_bad_name (code_of line)) (Err BadText)
-    (with_meaning (code_of line) (word_meaning (is_some (label_of (code_of line))) (operands_in (behind_word (statement_of (code_of line))))
-    (word_of (statement_of (code_of line))))) named
-    ∙ ap (with_meaning (code_of line)) e
+  pub parsed-statement : has_bad_bytes line ≡ false → has_bad_name isa (code_of line) ≡ false → (meaning : Result (Option Word) LexFault)
+      → word_meaning isa names (is_some (label_of (code_of line))) (operands_of (code_of line)) (word_of (statement_of (code_of line))) ≡ meaning
+      → parsed isa names line ≡ result_map_both
+      (λ word. record { label = label_of (code_of line); word = word; operands = operands_of (code_of line) })
+      (λ fault. fault) meaning
+  unfolding parsed_code
+  parsed-statement allowed named meaning e =
+      parsed-code allowed ∙ cond-false (has_bad_name isa (code_of line)) (Err BadText)
+      (with_meaning (code_of line) (word_meaning isa names (is_some (label_of (code_of line))) (operands_of (code_of line))
+      (word_of (statement_of (code_of line))))) named
+      ∙ ap (with_meaning (code_of line)) e
 
 pub positive : (n : ℕ) → (n == 0) ≡ false → 0 < n
 positive zero e = absurd (cc)

@@ -4,61 +4,64 @@ use Rattle.std.specs.Prelude.{filter, fold, is_none, unwrap_or, ◌==◌, Contai
 use Rattle.std.specs.List.{list_any, list_all}
 use Rattle.std.proofs.lemmas.Int.{ints}
 use Rattle.std.proofs.lemmas.Bool.{or_parts, and_parts}
+use Rattle.asm_lex.specs.declared.shape.Isa.{Isa}
 use Rattle.asm_lex.specs.Bytes.{is_name}
 use Rattle.asm_lex.specs.Expressions.{sum_in, is_term, is_large, has_large_number, term_value, has_undefined, with_term, sum_of, terms_of, signed_terms}
 use Rattle.asm_lex.specs.Left.{left_terms, left_signed}
 
 -- the terms that are left decide about undefined names, and complete the sum where no number is too large
-pub record Completes (names : List ℕ → Option ℕ) (here : ℕ) (text : List ℕ) (sum : ℤ) (rest : Option (ℕ × List ℕ)) : Type 0 where
-  pub undefined : has_undefined names here text ≡ list_any (λ term. is_none (term_value names here term)) (left_terms rest)
-  pub small : has_large_number text ≡ false → list_any is_large (left_terms rest) ≡ false
-  pub total : has_large_number text ≡ false → fold (with_term names here) sum (left_signed rest) ≡ sum_of names here text
+pub record Completes (isa : Isa) (names : List ℕ → Option ℕ) (here : ℕ) (text : List ℕ) (sum : ℤ) (rest : Option (ℕ × List ℕ)) : Type 0 where
+  pub undefined : has_undefined isa names here text ≡ list_any (λ term. is_none (term_value isa names here term)) (left_terms rest)
+  pub small : has_large_number isa text ≡ false → list_any (is_large isa) (left_terms rest) ≡ false
+  pub total : has_large_number isa text ≡ false → fold (with_term isa names here) sum (left_signed rest) ≡ sum_of isa names here text
 
-pub completes_first : (names : List ℕ → Option ℕ) (here : ℕ) (text sum : List ℕ) → sum ≡ sum_in text → Completes names here text (pos 0) (Some (43, sum))
+pub completes_first : (isa : Isa) (names : List ℕ → Option ℕ) (here : ℕ) (text sum : List ℕ) → sum ≡ sum_in text
+    → Completes isa names here text (pos 0) (Some (43, sum))
 unfolding has_large_number sum_of
-completes_first names here text sum e = record {
-  undefined = ap (λ sum. list_any (λ term. is_none (term_value names here term)) (terms_of sum)) (sym e);
-  small = λ h. ap (λ sum. list_any is_large (terms_of sum)) e ∙ h;
-  total = λ h. ap (λ sum. fold (with_term names here) (pos 0) (signed_terms 43 sum)) e;
+completes_first isa names here text sum e = record {
+  undefined = ap (λ sum. list_any (λ term. is_none (term_value isa names here term)) (terms_of sum)) (sym e);
+  small = λ h. ap (λ sum. list_any (is_large isa) (terms_of sum)) e ∙ h;
+  total = λ h. ap (λ sum. fold (with_term isa names here) (pos 0) (signed_terms 43 sum)) e;
 }
 
 -- one more term
-pub completes_next : (names : List ℕ → Option ℕ) (here : ℕ) (text : List ℕ) (sum : ℤ) (sign : ℕ) (terms term : List ℕ) (more : Option (ℕ × List ℕ))
+pub completes_next : (isa : Isa) (names : List ℕ → Option ℕ) (here : ℕ) (text : List ℕ) (sum : ℤ) (sign : ℕ) (terms term : List ℕ) (more : Option (ℕ × List ℕ))
     (value : ℕ) (next : ℤ)
-    → Completes names here text sum (Some (sign, terms))
+    → Completes isa names here text sum (Some (sign, terms))
     → terms_of terms ≡ term ∷ left_terms more
     → signed_terms sign terms ≡ (sign, term) ∷ left_signed more
-    → false ≡ is_none (term_value names here term)
-    → (is_large term ≡ false → Some value ≡ term_value names here term)
+    → false ≡ is_none (term_value isa names here term)
+    → (is_large isa term ≡ false → Some value ≡ term_value isa names here term)
     → next ≡ cond (sign == 45) (sum -ℤ pos value) (sum +ℤ pos value)
-    → Completes names here text next more
-completes_next names here text sum sign terms term more value next so_far parts signed there is step =
-    let undefined_too : list_any (λ term. is_none (term_value names here term)) (terms_of terms)
-    ≡ (is_none (term_value names here term) || list_any (λ term. is_none (term_value names here term)) (left_terms more)) =
-    ap (list_any (λ term. is_none (term_value names here term))) parts in
-    let skips : (is_none (term_value names here term) || list_any (λ term. is_none (term_value names here term)) (left_terms more))
-    ≡ list_any (λ term. is_none (term_value names here term)) (left_terms more) =
-    ap (λ b. b || list_any (λ term. is_none (term_value names here term)) (left_terms more)) (sym there) in
-    let large_parts : has_large_number text ≡ false → (is_large term || list_any is_large (left_terms more)) ≡ false =
-    λ h. sym (ap (list_any is_large) parts) ∙ so_far.small h in
-    let one : has_large_number text ≡ false → with_term names here sum (sign, term) ≡ next =
+    → Completes isa names here text next more
+completes_next isa names here text sum sign terms term more value next so_far parts signed there is step =
+    let undefined_too : list_any (λ term. is_none (term_value isa names here term)) (terms_of terms)
+    ≡ (is_none (term_value isa names here term) || list_any (λ term. is_none (term_value isa names here term)) (left_terms more)) =
+    ap (list_any (λ term. is_none (term_value isa names here term))) parts in
+    let skips : (is_none (term_value isa names here term) || list_any (λ term. is_none (term_value isa names here term)) (left_terms more))
+    ≡ list_any (λ term. is_none (term_value isa names here term)) (left_terms more) =
+    ap (λ b. b || list_any (λ term. is_none (term_value isa names here term)) (left_terms more)) (sym there) in
+    let large_parts : has_large_number isa text ≡ false → (is_large isa term || list_any (is_large isa) (left_terms more)) ≡ false =
+    λ h. sym (ap (list_any (is_large isa)) parts) ∙ so_far.small h in
+    let one : has_large_number isa text ≡ false → with_term isa names here sum (sign, term) ≡ next =
     λ h. ap (λ (v : Option ℕ). cond (sign == 45) (sum -ℤ pos (unwrap_or v 0)) (sum +ℤ pos (unwrap_or v 0)))
     (sym (is (or_parts _ _ (large_parts h)).0)) ∙ sym step in
     record {
       undefined = so_far.undefined ∙ undefined_too ∙ skips;
       small = λ h. (or_parts _ _ (large_parts h)).1;
       total =
-          λ h. ap (λ s. fold (with_term names here) s (left_signed more)) (sym (one h)) ∙ sym (ap (fold (with_term names here) sum) signed)
+          λ h. ap (λ s. fold (with_term isa names here) s (left_signed more)) (sym (one h)) ∙ sym (ap (fold (with_term isa names here) sum) signed)
           ∙ so_far.total h;
     }
 
 -- a term without a value
-pub completes_undefined : (names : List ℕ → Option ℕ) (here : ℕ) (text : List ℕ) (sum : ℤ) (sign : ℕ) (terms term : List ℕ) (more : Option (ℕ × List ℕ))
-    → Completes names here text sum (Some (sign, terms)) → terms_of terms ≡ term ∷ left_terms more → true ≡ is_none (term_value names here term)
-    → true ≡ has_undefined names here text
-completes_undefined names here text sum sign terms term more so_far parts there =
-    sym (so_far.undefined ∙ ap (list_any (λ term. is_none (term_value names here term))) parts
-    ∙ ap (λ b. b || list_any (λ term. is_none (term_value names here term)) (left_terms more)) (sym there))
+pub completes_undefined : (isa : Isa) (names : List ℕ → Option ℕ) (here : ℕ) (text : List ℕ) (sum : ℤ) (sign : ℕ) (terms term : List ℕ)
+    (more : Option (ℕ × List ℕ))
+    → Completes isa names here text sum (Some (sign, terms)) → terms_of terms ≡ term ∷ left_terms more → true ≡ is_none (term_value isa names here term)
+    → true ≡ has_undefined isa names here text
+completes_undefined isa names here text sum sign terms term more so_far parts there =
+    sym (so_far.undefined ∙ ap (list_any (λ term. is_none (term_value isa names here term))) parts
+    ∙ ap (λ b. b || list_any (λ term. is_none (term_value isa names here term)) (left_terms more)) (sym there))
 
 -- a name among the terms that are left
 pub contains_behind : (b : Bool) (x t : List ℕ) (xs : List (List ℕ)) → Contains xs t → Contains (cond b (x ∷ xs) xs) t
@@ -70,21 +73,21 @@ contains_first true t xs e = (0, omega arith, refl)
 contains_first false t xs e = absurd (cc)
 
 -- the first term that is left, and the others
-pub terms_next : (terms term : List ℕ) (more : Option (ℕ × List ℕ)) → terms_of terms ≡ term ∷ left_terms more
-    → list_all is_term (terms_of terms) ≡ true → (is_term term ≡ true) × (list_all is_term (left_terms more) ≡ true)
-terms_next terms term more parts all = and_parts _ _ (sym (ap (list_all is_term) parts) ∙ all)
+pub terms_next : (isa : Isa) (terms term : List ℕ) (more : Option (ℕ × List ℕ)) → terms_of terms ≡ term ∷ left_terms more
+    → list_all (is_term isa) (terms_of terms) ≡ true → (is_term isa term ≡ true) × (list_all (is_term isa) (left_terms more) ≡ true)
+terms_next isa terms term more parts all = and_parts _ _ (sym (ap (list_all (is_term isa)) parts) ∙ all)
 
-pub names_next : (terms term t : List ℕ) (more : Option (ℕ × List ℕ)) → terms_of terms ≡ term ∷ left_terms more
-    → Contains (filter is_name (left_terms more)) t → Contains (filter is_name (terms_of terms)) t
-names_next terms term t more parts h =
-    let P : List (List ℕ) → Type 0 = λ ts. Contains (filter is_name ts) t in
-    subst P (sym parts) (contains_behind (is_name term) term t (filter is_name (left_terms more)) h)
+pub names_next : (isa : Isa) (terms term t : List ℕ) (more : Option (ℕ × List ℕ)) → terms_of terms ≡ term ∷ left_terms more
+    → Contains (filter (is_name isa) (left_terms more)) t → Contains (filter (is_name isa) (terms_of terms)) t
+names_next isa terms term t more parts h =
+    let P : List (List ℕ) → Type 0 = λ ts. Contains (filter (is_name isa) ts) t in
+    subst P (sym parts) (contains_behind (is_name isa term) term t (filter (is_name isa) (left_terms more)) h)
 
-pub name_first : (terms term : List ℕ) (more : Option (ℕ × List ℕ)) → terms_of terms ≡ term ∷ left_terms more
-    → is_name term ≡ true → Contains (filter is_name (terms_of terms)) term
-name_first terms term more parts e =
-    let P : List (List ℕ) → Type 0 = λ ts. Contains (filter is_name ts) term in
-    subst P (sym parts) (contains_first (is_name term) term (filter is_name (left_terms more)) e)
+pub name_first : (isa : Isa) (terms term : List ℕ) (more : Option (ℕ × List ℕ)) → terms_of terms ≡ term ∷ left_terms more
+    → is_name isa term ≡ true → Contains (filter (is_name isa) (terms_of terms)) term
+name_first isa terms term more parts e =
+    let P : List (List ℕ) → Type 0 = λ ts. Contains (filter (is_name isa) ts) term in
+    subst P (sym parts) (contains_first (is_name isa term) term (filter (is_name isa) (left_terms more)) e)
 
 -- the bounds of the sum grow by at most 65536 for each term; `m` bytes are left behind a term of `n` bytes
 pub bound_next : (m n : ℕ) → m ≤ n → n + 1 ≤ 256 → m ≤ 256

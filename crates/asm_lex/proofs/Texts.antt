@@ -149,3 +149,8 @@ in_order-line None word behind operands end order inner =
     in_order-wider operands 0 behind.from behind.to end (omega arith) order.2.2 inner
 in_order-line (Some label) word behind operands end order inner =
     (order.0, order.1, in_order-wider operands label.to behind.from behind.to end (omega (arith, order.2.0, order.2.1, order.2.2.0)) order.2.2.2 inner)
+
+-- what stands behind the word ends in the line
+pub behind-inside : (label : Option Span) (word behind : Span) (end : ℕ) → AreInOrder 0 (option_to_list label ++ word ∷ behind ∷ []) end → behind.to ≤ end
+behind-inside None word behind end order = order.2.2
+behind-inside (Some label) word behind end order = order.2.2.2

@@ -1,9 +1,11 @@
 pub mod Bytes
 pub mod Parts
 pub mod Expressions
+pub mod Names
 pub mod Cuts
 pub mod Looks
 pub mod Left
 pub mod Spans
+pub mod Forms
 pub mod Words
 pub mod Lines

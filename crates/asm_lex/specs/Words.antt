@@ -1,23 +1,22 @@
--- Words: the mnemonics of the CDP1802 and the directives, in letters of either case, and the operands that each one takes.
-use Rattle.std.specs.Prelude.{◌≡◌, ◌-◌, ◌==◌, ◌&&◌, ℕ, Bool, false, not, List, [], ◌∷◌, length, map, find, nat_le, codes, if◌then◌else◌, Option, Some, None, IsTrue, is_some, option_and_then, option_map}
-use Rattle.std.specs.Str.{bytes_eq}
+-- Words: the mnemonics of an instruction set and the directives, in letters of either case, and the operands that each one takes.
+use Rattle.std.specs.Prelude.{◌≡◌, ◌≤◌, ◌-◌, ◌==◌, ◌&&◌, ℕ, Bool, false, not, List, [], ◌∷◌, length, find, nat_le, codes, if◌then◌else◌, Option, Some, None, IsTrue, is_some, option_and_then, option_map}
+use Rattle.std.specs.Option.{option_or}
 use Rattle.std.specs.List.{list_all, range_with_len}
-use Rattle.std.specs.Char.{to_ascii_uppercase}
 use Rattle.machine.specs.declared.Kind.{Kind}
 use Rattle.machine.specs.Opcodes.{kind_of}
 use Rattle.vip_isa.specs.Rows.{operands_of, least_of, greatest_of, opcode_of, size_of, mnemonic_of}
 use Rattle.vip_isa.specs.declared.rows.Operands.{Operands}
 use Rattle.vip_isa.specs.declared.rows.Operands.TheVariants.{Register, Port, Nothing, Data}
 use Rattle.asm_lex.specs.declared.shape.Word.{Word}
-use Rattle.asm_lex.specs.declared.shape.Word.TheVariants.{Code, Org, Equ, Db, Dw, Ds, Page}
+use Rattle.asm_lex.specs.declared.shape.Word.TheVariants.{Code, Instruction, Org, Equ, EquRegister, Db, Dw, Ds, Page}
 use Rattle.asm_lex.specs.declared.words.Entry.{Entry}
-use Rattle.asm_lex.specs.declared.words.Entry.TheVariants.{Directive, Mnemonic}
-use Rattle.asm_lex.specs.Bytes.{register_of}
+use Rattle.asm_lex.specs.declared.words.Entry.TheVariants.{Directive, Mnemonic, Words}
+use Rattle.asm_lex.specs.declared.shape.Isa.{Isa}
+use Rattle.asm_lex.specs.declared.shape.Isa.TheVariants.{Cdp1802, Chip8}
+use Rattle.asm_lex.specs.Bytes.{spells, register_of, register_letter}
 use Rattle.asm_lex.specs.Expressions.{is_expression}
-
--- a text in letters of either case is the name, which is in capitals
-unfoldable pub spells : List ℕ → List ℕ → Bool
-spells text name = bytes_eq (map to_ascii_uppercase text) name
+use Rattle.asm_lex.specs.Names.{Names, is_number}
+use Rattle.asm_lex.specs.Forms.{register_in, form_named, op_meaning, HasItsNumber}
 
 -- the directive of a word
 unfoldable pub directive_of : List ℕ → Option Word
@@ -45,7 +44,7 @@ opcode_named word = find (λ opcode. spells word (mnemonic_at opcode)) opcodes
 -- the number that one operand writes into an opcode: a register
 abbrev pub one_register : List (List ℕ) → Option ℕ
 one_register [] = None
-one_register (operand ∷ []) = register_of operand
+one_register (operand ∷ []) = register_of (register_letter Cdp1802) operand
 one_register (operand ∷ more ∷ rest) = None
 
 -- a port, which is one digit from 1 to 7
@@ -59,27 +58,35 @@ one_port [] = None
 one_port (operand ∷ []) = port_of operand
 one_port (operand ∷ more ∷ rest) = None
 
--- one operand, an expression; it stands behind the opcode and writes nothing into it
-abbrev pub is_one_expression : List (List ℕ) → Bool
-is_one_expression [] = false
-is_one_expression (operand ∷ []) = is_expression operand
-is_one_expression (operand ∷ more ∷ rest) = false
+-- one operand that passes
+abbrev pub is_one : (List ℕ → Bool) → List (List ℕ) → Bool
+is_one passes [] = false
+is_one passes (operand ∷ []) = passes operand
+is_one passes (operand ∷ more ∷ rest) = false
+
+-- one operand, a number; it stands behind the opcode and writes nothing into it
+abbrev pub is_one_number : Isa → Names → List (List ℕ) → Bool
+is_one_number isa names operands = is_one (is_number isa names) operands
 
 -- no operand
 abbrev pub are_none : List (List ℕ) → Bool
 are_none operands = length operands == 0
 
--- one or more operands, each one an expression
-abbrev pub are_expressions : List (List ℕ) → Bool
-are_expressions operands = not (length operands == 0) && list_all is_expression operands
+-- one or more operands, each of which passes
+abbrev pub are_some : (List ℕ → Bool) → List (List ℕ) → Bool
+are_some passes operands = not (length operands == 0) && list_all passes operands
+
+-- one or more operands, each one a number
+abbrev pub are_numbers : Isa → Names → List (List ℕ) → Bool
+are_numbers isa names operands = are_some (is_number isa names) operands
 
 -- the number that the operands write into the opcode; none where they are wrong
-abbrev pub number_written : Operands → List (List ℕ) → Option ℕ
-number_written Register operands = one_register operands
-number_written Port operands = one_port operands
-number_written Nothing operands = if are_none operands then Some 0 else None
-number_written Data operands = if are_none operands then Some 0 else None
-number_written _ operands = if is_one_expression operands then Some 0 else None
+abbrev pub number_written : Names → Operands → List (List ℕ) → Option ℕ
+number_written names Register operands = one_register operands
+number_written names Port operands = one_port operands
+number_written names Nothing operands = if are_none operands then Some 0 else None
+number_written names Data operands = if are_none operands then Some 0 else None
+number_written names _ operands = if is_one_number Cdp1802 names operands then Some 0 else None
 
 -- the opcode of a kind with such a number, where the kind can have it: LDN has no R0
 abbrev pub with_number : Kind → ℕ → Option ℕ
@@ -87,39 +94,68 @@ with_number kind number =
     if nat_le (least_of kind) number && nat_le number (greatest_of kind) then Some (opcode_of (record { kind = kind; n = number })) else None
 
 -- the opcode that a mnemonic means with its operands
-unfoldable pub coded : Kind → List (List ℕ) → Option ℕ
-coded kind operands = option_and_then (with_number kind) (number_written (operands_of kind) operands)
+unfoldable pub coded : Names → Kind → List (List ℕ) → Option ℕ
+coded names kind operands = option_and_then (with_number kind) (number_written names (operands_of kind) operands)
+
+-- the register that EQU gives its label: V0 to VF, or that of an earlier name
+abbrev pub one_register_in : Names → List (List ℕ) → Option ℕ
+one_register_in names [] = None
+one_register_in names (operand ∷ []) = register_in names operand
+one_register_in names (operand ∷ more ∷ rest) = None
+
+unfoldable pub register_given : Isa → Names → List (List ℕ) → Option ℕ
+register_given Cdp1802 names operands = None
+register_given Chip8 names operands = one_register_in names operands
 
 -- a directive has its operands, and EQU a label too
-abbrev pub takes : Word → Bool → List (List ℕ) → Bool
-takes (Code opcode) has_label operands = false
-takes Org has_label operands = is_one_expression operands
-takes Equ has_label operands = has_label && is_one_expression operands
-takes Db has_label operands = are_expressions operands
-takes Dw has_label operands = are_expressions operands
-takes Ds has_label operands = is_one_expression operands
-takes Page has_label operands = are_none operands
+abbrev pub takes : Isa → Names → Word → Bool → List (List ℕ) → Bool
+takes isa names (Code opcode) has_label operands = false
+takes isa names (Instruction op) has_label operands = false
+takes isa names Org has_label operands = is_one_number isa names operands
+takes isa names Equ has_label operands = has_label && is_one_number isa names operands
+takes isa names (EquRegister register) has_label operands = false
+takes isa names Db has_label operands = are_numbers isa names operands
+takes isa names Dw has_label operands = are_numbers isa names operands
+takes isa names Ds has_label operands = is_one_number isa names operands
+takes isa names Page has_label operands = are_none operands
 
--- a word of the table is a directive, or the mnemonic of an opcode
-unfoldable pub entry_of : List ℕ → Option Entry
-entry_of word = if is_some (directive_of word) then option_map Directive (directive_of word) else option_map Mnemonic (opcode_named word)
+-- EQU with a register
+abbrev pub gives_register : Isa → Names → Word → Bool → List (List ℕ) → Option ℕ
+gives_register isa names Equ has_label operands = if has_label then register_given isa names operands else None
+gives_register isa names _ has_label operands = None
+
+abbrev pub directive_meaning : Isa → Names → Word → Bool → List (List ℕ) → Option Word
+directive_meaning isa names directive has_label operands =
+    option_or (option_map EquRegister (gives_register isa names directive has_label operands))
+    (if takes isa names directive has_label operands then Some directive else None)
+
+-- a word of the table is a directive, or a mnemonic: for the CDP1802 the first opcode that has it, for CHIP-8 the first form
+unfoldable pub mnemonic_entry : Isa → List ℕ → Option Entry
+mnemonic_entry Cdp1802 word = option_map Mnemonic (opcode_named word)
+mnemonic_entry Chip8 word = option_map Words (form_named word)
+
+unfoldable pub entry_of : Isa → List ℕ → Option Entry
+entry_of isa word = if is_some (directive_of word) then option_map Directive (directive_of word) else mnemonic_entry isa word
 
 -- what a word of the table means with its operands; none where they are wrong
-unfoldable pub meaning_of : Entry → Bool → List (List ℕ) → Option Word
-meaning_of (Directive directive) has_label operands = if takes directive has_label operands then Some directive else None
-meaning_of (Mnemonic opcode) has_label operands = option_map Code (coded (kind_of opcode) operands)
+unfoldable pub meaning_of : Isa → Names → Entry → Bool → List (List ℕ) → Option Word
+meaning_of isa names (Directive directive) has_label operands = directive_meaning isa names directive has_label operands
+meaning_of isa names (Mnemonic opcode) has_label operands = option_map Code (coded names (kind_of opcode) operands)
+meaning_of isa names (Words form) has_label operands = option_map Instruction (op_meaning names form operands)
 
 -- the size in bytes of an instruction with this opcode
 unfoldable pub size_at : ℕ → ℕ
 size_at opcode = size_of (kind_of opcode)
 
--- the operands that a word has: where bytes stand behind an opcode, they are one expression
-abbrev pub HasItsOperands : Option Word → List (List ℕ) → Type 0
-HasItsOperands None operands = operands ≡ []
-HasItsOperands (Some (Code opcode)) operands = (size_at opcode ≡ 1 → ⊥) → IsTrue (is_one_expression operands)
-HasItsOperands (Some Org) operands = IsTrue (is_one_expression operands)
-HasItsOperands (Some Equ) operands = IsTrue (is_one_expression operands)
-HasItsOperands (Some Db) operands = IsTrue (are_expressions operands)
-HasItsOperands (Some Dw) operands = IsTrue (are_expressions operands)
-HasItsOperands (Some Ds) operands = IsTrue (is_one_expression operands)
-HasItsOperands (Some Page) operands = Unit {0}
+-- The operands that a word has: where bytes stand behind an opcode, they are one expression.
+abbrev pub HasItsOperands : Isa → Option Word → List (List ℕ) → Type 0
+HasItsOperands isa None operands = operands ≡ []
+HasItsOperands isa (Some (Code opcode)) operands = (size_at opcode ≡ 1 → ⊥) → IsTrue (is_one (is_expression Cdp1802) operands)
+HasItsOperands isa (Some (Instruction op)) operands = HasItsNumber op operands
+HasItsOperands isa (Some Org) operands = IsTrue (is_one (is_expression isa) operands)
+HasItsOperands isa (Some Equ) operands = IsTrue (is_one (is_expression isa) operands)
+HasItsOperands isa (Some (EquRegister register)) operands = register ≤ 15
+HasItsOperands isa (Some Db) operands = IsTrue (are_some (is_expression isa) operands)
+HasItsOperands isa (Some Dw) operands = IsTrue (are_some (is_expression isa) operands)
+HasItsOperands isa (Some Ds) operands = IsTrue (is_one (is_expression isa) operands)
+HasItsOperands isa (Some Page) operands = Unit {0}

@@ -1,16 +1,19 @@
 //! Expressions: whether a text is one, and its value.
 
-ghost use Rattle.std.specs.Prelude.{◌≡◌, ◌≤◌, ◌+◌, ◌∷◌, ◌&&◌, ◌==◌, ◌≤ℤ◌, ◌+ℤ◌, ◌-ℤ◌, ℕ, pos, nat_abs, int_le, List, length, min, Option, IsTrue, IfSome, slice_index, is_none, false, if◌then◌else◌, Ok, Err};
+ghost use Rattle.std.specs.Prelude.{◌≡◌, ◌≤◌, ◌<◌, ◌+◌, ◌*◌, ◌∷◌, ◌&&◌, ◌==◌, ◌≤ℤ◌, ◌+ℤ◌, ◌-ℤ◌, ℕ, pos, nat_abs, int_le, List, length, min, Option, IsTrue, IfSome, slice_index, is_none, is_some, false, if◌then◌else◌, Ok, Err};
 ghost use Rattle.std.specs.Option.{option_map};
+ghost use Rattle.std.specs.List.{list_any};
 ghost use Rattle.vip_byte.specs.Number.{number};
 ghost use Rattle.asm_lex.specs.Bytes.{is_name};
-ghost use Rattle.asm_lex.specs.Expressions.{sum_in, number_in, hexadecimal_of, written_value, is_here, is_term, is_expression, is_large, has_large_number, term_value, terms_of, signed_terms, sum_of, value_of, prefixed, has_undefined};
+ghost use Rattle.asm_lex.specs.Expressions.{sum_in, number_in, hexadecimal_of, binary_of, written_value, is_here, is_term, is_expression, is_large, has_large_number, term_value, terms_of, signed_terms, sum_of, value_of, prefixed, has_undefined};
+ghost use Rattle.asm_lex.specs.Names.{value_in, register_named, names_register, is_number};
 ghost use Rattle.asm_lex.specs.Looks.{TakesNames, AnswersAs, TakesTerm, AnswersTermAs};
 ghost use Rattle.asm_lex.specs.Left.{left, left_terms, left_signed, left_length};
 
-use crate::ValueFault;
 use crate::cuts::{Stop, cut, position};
+use crate::names::Symbols;
 use crate::text::is_name;
+use crate::{Isa, ValueFault};
 use vip_byte::{NumFault, read_decimal, read_hex};
 
 /// The greatest number that an expression may hold.
@@ -37,14 +40,52 @@ fn hexadecimal(term: &[u8]) -> Option<u32>
     }
 }
 
+// A number and one binary digit behind it.
+fn with_bit(number: u32, bit: u32) -> u32
+    requires number { number ≤ 65536 }
+    requires bit { bit < 2 }
+    ensures { result ≡ min (number * 2 + bit) 65536 }
+{
+    (number * 2 + bit).min(GREATEST + 1)
+}
+
+fn binary_digits(digits: &[u8]) -> Option<u32>
+    ensures { result ≡ option_map (λ number. min number 65536) (number_in 2 digits.now) }
+{
+    let mut number = 0;
+    for byte in digits {
+        let Some(bit) = char::from(*byte).to_digit(2) else {
+            return None;
+        };
+        number = with_bit(number, bit);
+    }
+    if digits.is_empty() {
+        None
+    } else {
+        Some(number)
+    }
+}
+
+fn binary(isa: Isa, term: &[u8]) -> Option<u32>
+    ensures { result ≡ option_map (λ number. min number 65536) (binary_of isa term.now) }
+{
+    match (isa, term) {
+        (Isa::Chip8, [b'0', b'b', digits @ ..]) => binary_digits(digits),
+        _ => None,
+    }
+}
+
 /// The value of a number, or 65536 for each one above 65535; none where the term is no number.
 #[tactic(auto, unfolding(crate::specs::Expressions::written_value))]
-fn number(term: &[u8]) -> Option<u32>
-    ensures { result ≡ option_map (λ number. min number 65536) (written_value term.now) }
+fn number(isa: Isa, term: &[u8]) -> Option<u32>
+    ensures { result ≡ option_map (λ number. min number 65536) (written_value isa term.now) }
 {
-    match cap(read_decimal(term, u64::from(GREATEST))) {
+    if let Some(number) = cap(read_decimal(term, u64::from(GREATEST))) {
+        return Some(number);
+    }
+    match hexadecimal(term) {
         Some(number) => Some(number),
-        None => hexadecimal(term),
+        None => binary(isa, term),
     }
 }
 
@@ -55,16 +96,16 @@ fn is_here(term: &[u8]) -> bool
     matches!(term, [b'$'])
 }
 
-fn is_term(term: &[u8]) -> bool
-    ensures { result ≡ is_term term.now }
+fn is_term(isa: Isa, term: &[u8]) -> bool
+    ensures { result ≡ is_term isa term.now }
 {
-    number(term).is_some() || is_here(term) || is_name(term)
+    number(isa, term).is_some() || is_here(term) || is_name(isa, term)
 }
 
-fn is_large(term: &[u8]) -> bool
-    ensures { result ≡ is_large term.now }
+fn is_large(isa: Isa, term: &[u8]) -> bool
+    ensures { result ≡ is_large isa term.now }
 {
-    match number(term) {
+    match number(isa, term) {
         Some(number) => number > GREATEST,
         None => false,
     }
@@ -82,13 +123,13 @@ fn without_prefix(text: &[u8]) -> &[u8]
 }
 
 /// Whether a text is an expression.
-pub(crate) fn is_expression(text: &[u8]) -> bool
-    ensures { result ≡ is_expression text.now }
+pub(crate) fn is_expression(isa: Isa, text: &[u8]) -> bool
+    ensures { result ≡ is_expression isa text.now }
 {
     let mut rest = Some(without_prefix(text));
     while let Some(sum) = rest {
         let (term, more) = cut(sum, Stop::Sign);
-        if !is_term(term) {
+        if !is_term(isa, term) {
             return false;
         }
         rest = more;
@@ -96,14 +137,47 @@ pub(crate) fn is_expression(text: &[u8]) -> bool
     true
 }
 
-/// Whether a number above 65535 is written in an expression.
-pub fn has_large_number(text: &[u8]) -> bool
-    ensures { result ≡ has_large_number text.now }
+// Whether a name of a register stands in a text.
+#[tactic(auto, unfolding(crate::specs::Names::names_register))]
+fn names_register(isa: Isa, names: &Symbols, text: &[u8]) -> bool
+    ensures { result ≡ names_register isa (value_in names.now) text.now }
+{
+    match isa {
+        Isa::Cdp1802 => false,
+        Isa::Chip8 => has_register(names, text),
+    }
+}
+
+fn has_register(names: &Symbols, text: &[u8]) -> bool
+    ensures { result ≡ list_any (λ term. is_some (register_named (value_in names.now) term)) (terms_of (sum_in text.now)) }
 {
     let mut rest = Some(without_prefix(text));
     while let Some(sum) = rest {
         let (term, more) = cut(sum, Stop::Sign);
-        if is_large(term) {
+        if names.register(term).is_some() {
+            return true;
+        }
+        rest = more;
+    }
+    false
+}
+
+/// Whether an operand may stand for a number.
+#[tactic(auto, unfolding(crate::specs::Names::is_number))]
+pub(crate) fn is_number(isa: Isa, names: &Symbols, text: &[u8]) -> bool
+    ensures { result ≡ is_number isa (value_in names.now) text.now }
+{
+    is_expression(isa, text) && !names_register(isa, names, text)
+}
+
+/// Whether a number above 65535 is written in an expression.
+pub fn has_large_number(isa: Isa, text: &[u8]) -> bool
+    ensures { result ≡ has_large_number isa text.now }
+{
+    let mut rest = Some(without_prefix(text));
+    while let Some(sum) = rest {
+        let (term, more) = cut(sum, Stop::Sign);
+        if is_large(isa, term) {
             return true;
         }
         rest = more;
@@ -113,17 +187,22 @@ pub fn has_large_number(text: &[u8]) -> bool
 
 // The value of a term that isn't too large a number; none for a name that has no value.
 #[tactic(auto, unfolding(crate::specs::Expressions::term_value))]
-fn term_value<F: Fn(&[u8]) -> Option<u16>>(term: &[u8], here: u32, look: &F) -> Option<u32>
-    requires term { IsTrue (is_term term.now) }
+fn term_value<F: Fn(&[u8]) -> Option<u16>>(
+    isa: Isa,
+    term: &[u8],
+    here: u32,
+    look: &F,
+) -> Option<u32>
+    requires term { IsTrue (is_term isa term.now) }
     requires here { here ≤ 65536 }
-    requires look { TakesTerm F.Fn look.now term.now }
-    ensures variant { (names : List ℕ → Option ℕ) → AnswersTermAs F.Fn look.now term.now names →
-        is_none result ≡ is_none (term_value names here term.now) }
-    ensures value { (names : List ℕ → Option ℕ) → AnswersTermAs F.Fn look.now term.now names →
-        is_large term.now ≡ false → result ≡ term_value names here term.now }
+    requires look { TakesTerm F.Fn look.now isa term.now }
+    ensures variant { (names : List ℕ → Option ℕ) → AnswersTermAs F.Fn look.now isa term.now names →
+        is_none result ≡ is_none (term_value isa names here term.now) }
+    ensures value { (names : List ℕ → Option ℕ) → AnswersTermAs F.Fn look.now isa term.now names →
+        is_large isa term.now ≡ false → result ≡ term_value isa names here term.now }
     ensures within { IfSome result (λ value. value ≤ 65536) }
 {
-    match number(term) {
+    match number(isa, term) {
         Some(number) => Some(number),
         None if is_here(term) => Some(here),
         None => look(term).map(u32::from),
@@ -161,21 +240,21 @@ fn with_term(sum: i64, sign: u8, value: u32) -> i64
 }
 
 // The sum of an expression without a large number; none where a name in it has no value.
-fn sum<F: Fn(&[u8]) -> Option<u16>>(text: &[u8], here: u32, look: &F) -> Option<i64>
-    requires expression { IsTrue (is_expression text.now) }
+fn sum<F: Fn(&[u8]) -> Option<u16>>(isa: Isa, text: &[u8], here: u32, look: &F) -> Option<i64>
+    requires expression { IsTrue (is_expression isa text.now) }
     requires short { length text.now ≤ 255 }
     requires here { here ≤ 65536 }
-    requires look { TakesNames F.Fn look.now text.now }
-    ensures undefined { (names : List ℕ → Option ℕ) → AnswersAs F.Fn look.now text.now names →
-        is_none result ≡ has_undefined names here text.now }
-    ensures value { (names : List ℕ → Option ℕ) → AnswersAs F.Fn look.now text.now names →
-        has_large_number text.now ≡ false → IfSome result (λ sum. sum ≡ sum_of names here text.now) }
+    requires look { TakesNames F.Fn look.now isa text.now }
+    ensures undefined { (names : List ℕ → Option ℕ) → AnswersAs F.Fn look.now isa text.now names →
+        is_none result ≡ has_undefined isa names here text.now }
+    ensures value { (names : List ℕ → Option ℕ) → AnswersAs F.Fn look.now isa text.now names →
+        has_large_number isa text.now ≡ false → IfSome result (λ sum. sum ≡ sum_of isa names here text.now) }
 {
     let mut rest = Some((b'+', without_prefix(text)));
     let mut sum = 0;
     while let Some((sign, terms)) = rest {
         let (term, more) = first_term(terms);
-        let Some(value) = term_value(term, here, look) else {
+        let Some(value) = term_value(isa, term, here, look) else {
             return None;
         };
         sum = with_term(sum, sign, value);
@@ -209,21 +288,22 @@ fn apply_prefix(text: &[u8], sum: i64) -> Result<i64, ValueFault>
 /// `look` answers the value of a name, or nothing where it has none; it must take each name in the expression.
 #[tactic(auto, unfolding(crate::specs::Expressions::value_of))]
 pub fn value<F: Fn(&[u8]) -> Option<u16>>(
+    isa: Isa,
     text: &[u8],
     here: u32,
     look: F,
 ) -> Result<i64, ValueFault>
-    requires expression { IsTrue (is_expression text.now) }
+    requires expression { IsTrue (is_expression isa text.now) }
     requires short { length text.now ≤ 255 }
     requires here { here ≤ 65536 }
-    requires look { TakesNames F.Fn look text.now }
+    requires look { TakesNames F.Fn look isa text.now }
     // Whatever values of names the answers of `look` are.
-    ensures { (names : List ℕ → Option ℕ) → AnswersAs F.Fn look text.now names → result ≡ value_of names here text.now }
+    ensures { (names : List ℕ → Option ℕ) → AnswersAs F.Fn look isa text.now names → result ≡ value_of isa names here text.now }
 {
-    let Some(sum) = sum(text, here, &look) else {
+    let Some(sum) = sum(isa, text, here, &look) else {
         return Err(ValueFault::Undefined);
     };
-    if has_large_number(text) {
+    if has_large_number(isa, text) {
         return Err(ValueFault::Range);
     }
     apply_prefix(text, sum)

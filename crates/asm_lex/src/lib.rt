@@ -1,28 +1,33 @@
-//! One line of CDP1802 assembly: its parts, or its first fault, and the value of an expression. It stands on `vip_isa`, whose table has
-//! the mnemonics of `machine`'s opcodes, and on `vip_byte`, which reads numbers. The layers above may rely on this: `line` answers the
+//! One line of assembly, of the CDP1802 or of CHIP-8: its parts, or its first fault, and the value of an expression. It stands on `vip_isa`,
+//! whose table has the mnemonics of `machine`'s opcodes, on `chip8_words`, whose table has those of CHIP-8, and on `vip_byte`, which reads
+//! numbers. The layers above may rely on this: `line` answers the
 //! parts of a line or its first fault exactly as `parsed` in `specs/Lines.antt` says, and `value` the value of an expression or its first
 //! fault as `value_of` in `specs/Expressions.antt` says. Neither takes memory. The mnemonics are those of RCA's data sheet of the
-//! CDP1802; the language of the lines is this project's profile (`docs/SOURCES.md`).
+//! CDP1802 and of Cowgod's CHIP-8 Technical Reference; the language of the lines is this project's profile (`docs/SOURCES.md`).
 #![tactic(auto)]
 
 ghost use Rattle.std.specs.Prelude.{◌≡◌, ◌≤◌, ◌<◌, ℕ, Bool, List, length, map, IfSome, IfOk, OnOk, MatchResult, Ok, Err};
-ghost use Rattle.asm_lex.specs.Lines.{parsed, shown, spans_of, has_bad_bytes, has_bad_name, word_meaning};
-ghost use Rattle.asm_lex.specs.Parts.{label_of, statement_of, behind_word, operands_in};
-ghost use Rattle.asm_lex.specs.Spans.{text_at, IsWithin, AreInOrder};
+ghost use Rattle.asm_lex.specs.Lines.{parsed, shown, spans_of, operands_of, has_bad_bytes, has_bad_name, word_meaning, Reads};
+ghost use Rattle.asm_lex.specs.Names.{Names, value_in};
+ghost use Rattle.asm_lex.specs.Parts.{code_of, label_of, statement_of, behind_word, operands_in};
+ghost use Rattle.asm_lex.specs.Spans.{text_at, IsWithin, AreWithin, AreInOrder};
 ghost use Rattle.asm_lex.specs.Words.{HasItsOperands};
 ghost use Rattle.std.specs.Option.{option_map};
 
 mod cuts;
 mod expression;
+mod forms;
+mod names;
 mod shape;
 mod spans;
 mod text;
 mod words;
 
 pub use crate::expression::{has_large_number, value};
-pub use crate::shape::{LexFault, Line, Span, ValueFault, Word};
+pub use crate::names::{SymbolIter, Symbols};
+pub use crate::shape::{Isa, LexFault, Line, Span, SymbolValue, ValueFault, Word};
+use crate::spans::parts_of;
 pub use crate::spans::text_at;
-use crate::spans::{operands, parts_of};
 use crate::text::{are_allowed, has_long_name, is_name};
 use crate::words::{entry_of, meaning};
 use arrayvec::ArrayVec;
@@ -39,14 +44,14 @@ fn has_bad_bytes(line: &[u8]) -> bool
 
 // Whether the label isn't a name, or a name behind the word is too long.
 #[tactic(auto, unfolding(crate::specs::Lines::has_bad_name))]
-fn has_bad_name(line: &[u8], label: Option<Span>, operands: Span) -> bool
+fn has_bad_name(isa: Isa, line: &[u8], label: Option<Span>, operands: Span) -> bool
     requires label { IfSome label (IsWithin line.now) }
     requires operands { IsWithin line.now operands }
     ensures { (code : List ℕ) → option_map (text_at line.now) label ≡ label_of code → text_at line.now operands ≡ behind_word (statement_of code) →
-        result ≡ has_bad_name code }
+        result ≡ has_bad_name isa code }
 {
     let bad_label = match label {
-        Some(label) => !is_name(text_at(line, label)),
+        Some(label) => !is_name(isa, text_at(line, label)),
         None => false,
     };
     bad_label || has_long_name(text_at(line, operands))
@@ -60,6 +65,8 @@ struct Statement {
 }
 
 fn read_statement(
+    isa: Isa,
+    names: &Symbols,
     line: &[u8],
     has_label: bool,
     word: Span,
@@ -71,14 +78,15 @@ fn read_statement(
     requires empty { length (text_at line.now word) ≡ 0 → length (text_at line.now behind) ≡ 0 }
     ensures parts { MatchResult result
         (λ statement. (map (text_at line.now) statement.operands.items ≡ operands_in (text_at line.now behind))
-        × (word_meaning has_label (operands_in (text_at line.now behind)) (text_at line.now word) ≡ Ok statement.word))
-        (λ fault. word_meaning has_label (operands_in (text_at line.now behind)) (text_at line.now word) ≡ Err fault) }
+        × (word_meaning isa (value_in names.now) has_label (operands_in (text_at line.now behind)) (text_at line.now word) ≡ Ok statement.word))
+        (λ fault. word_meaning isa (value_in names.now) has_label (operands_in (text_at line.now behind)) (text_at line.now word) ≡ Err fault) }
     ensures order { IfOk result (λ statement. AreInOrder behind.from statement.operands.items behind.to) }
-    ensures operands { IfOk result (λ statement. HasItsOperands statement.word (map (text_at line.now) statement.operands.items)) }
+    ensures few { IfOk result (λ statement. length statement.operands.items ≤ 128) }
+    ensures operands { IfOk result (λ statement. HasItsOperands isa statement.word (map (text_at line.now) statement.operands.items)) }
 {
     let word = text_at(line, word);
-    let Some(operands) = operands(line, behind) else {
-        return Err(fault_of_many(word));
+    let Some(operands) = spans::operands(line, behind) else {
+        return Err(fault_of_many(isa, word));
     };
     if word.is_empty() {
         return Ok(Statement {
@@ -86,10 +94,11 @@ fn read_statement(
             operands,
         });
     }
-    let Some(entry) = entry_of(word) else {
+    let Some(entry) = entry_of(isa, word) else {
         return Err(LexFault::UnknownMnemonic);
     };
-    match meaning(entry, has_label, line, operands.as_slice()) {
+    names.have_values();
+    match meaning(isa, names, entry, has_label, line, operands.as_slice()) {
         Some(word) => Ok(Statement {
             word: Some(word),
             operands,
@@ -99,37 +108,53 @@ fn read_statement(
 }
 
 // The fault of a line with more than 128 operands, which are wrong for each word.
-fn fault_of_many(word: &[u8]) -> LexFault
-    ensures { (has_label : Bool) (text : List ℕ) → length text ≤ 255 → 128 < length (operands_in text) → 0 < length word.now →
-        word_meaning has_label (operands_in text) word.now ≡ Err result }
+fn fault_of_many(isa: Isa, word: &[u8]) -> LexFault
+    ensures { (names : Names) (has_label : Bool) (text : List ℕ) → length text ≤ 255 → 128 < length (operands_in text) → 0 < length word.now →
+        word_meaning isa names has_label (operands_in text) word.now ≡ Err result }
 {
-    match entry_of(word) {
+    match entry_of(isa, word) {
         Some(_) => LexFault::BadOperand,
         None => LexFault::UnknownMnemonic,
     }
 }
 
-/// The parts of a line, which is given without its line end, or its first fault.
-pub fn line(bytes: &[u8]) -> Result<Line, LexFault>
-    ensures parsed { MatchResult result (λ line. parsed bytes.now ≡ Ok (shown bytes.now line)) (λ fault. parsed bytes.now ≡ Err fault) }
+/// The parts of a line in an instruction set, or its first fault. The line is given without its line end, and with the names of the earlier
+/// lines.
+pub fn line(isa: Isa, names: &Symbols, bytes: &[u8]) -> Result<Line, LexFault>
+    ensures parsed { MatchResult result
+        (λ line. parsed isa (value_in names.now) bytes.now ≡ Ok (shown bytes.now line))
+        (λ fault. parsed isa (value_in names.now) bytes.now ≡ Err fault) }
     ensures order { IfOk result (λ line. AreInOrder 0 (spans_of line) (length bytes.now)) }
     // What the layer above may rely on: a line is short, and its operands are those that its word takes.
-    ensures short { OnOk result (length bytes.now ≤ 255) }
-    ensures operands { IfOk result (λ line. HasItsOperands line.word (shown bytes.now line).operands) }
+    ensures reads { IfOk result (λ line. Reads isa (value_in names.now) bytes.now line.word) }
 {
     if has_bad_bytes(bytes) {
         return Err(LexFault::BadText);
     }
     let parts = parts_of(bytes);
-    if has_bad_name(bytes, parts.label, parts.operands) {
+    if has_bad_name(isa, bytes, parts.label, parts.operands) {
         return Err(LexFault::BadText);
     }
-    match read_statement(bytes, parts.label.is_some(), parts.word, parts.operands) {
+    let has_label = parts.label.is_some();
+    match read_statement(isa, names, bytes, has_label, parts.word, parts.operands) {
         Ok(statement) => Ok(Line {
             label: parts.label,
             word: statement.word,
             operands: statement.operands,
         }),
         Err(fault) => Err(fault),
+    }
+}
+
+/// The operands of a line that `line` has read.
+pub fn operands(bytes: &[u8]) -> ArrayVec<Span, 128>
+    requires short { length bytes.now ≤ 255 }
+    requires few { length (operands_of (code_of bytes.now)) ≤ 128 }
+    ensures texts { map (text_at bytes.now) result.items ≡ operands_of (code_of bytes.now) }
+    ensures within { AreWithin bytes.now result.items }
+{
+    match spans::operands(bytes, parts_of(bytes).operands) {
+        Some(operands) => operands,
+        None => ArrayVec::new(),
     }
 }

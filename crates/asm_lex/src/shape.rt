@@ -1,7 +1,26 @@
 //! What a line is taken apart into, and its faults.
 
 use arrayvec::ArrayVec;
+use chip8_words::Op;
 use thiserror::Error;
+
+/// An instruction set, whose words and numbers a source is written in.
+#[derive(Clone, Copy)]
+pub enum Isa {
+    /// The CDP1802, with registers R0 to RF.
+    Cdp1802,
+    /// The language CHIP-8, with registers V0 to VF and binary numbers.
+    Chip8,
+}
+
+/// What a name stands for.
+#[derive(Clone, Copy)]
+pub enum SymbolValue {
+    /// A number.
+    Number(u16),
+    /// The register V0 to VF of this number; CHIP-8 alone has such names.
+    Register(u8),
+}
 
 /// A part of a line: the bytes from the place `from` up to, and without, the place `to`.
 #[derive(Clone, Copy, Default)]
@@ -15,12 +34,16 @@ pub struct Span {
 /// What the word of a line means.
 #[derive(Clone, Copy)]
 pub enum Word {
-    /// A mnemonic: the whole opcode byte, with the register or the port that the operand names.
+    /// A mnemonic of the CDP1802: the whole opcode byte, with the register or the port that the operand names.
     Code(u8),
+    /// An instruction of CHIP-8 with the registers that its operands name. Its number is 0 yet: it is the value of the last operand.
+    Instruction(Op),
     /// The address becomes the operand's value.
     Org,
     /// The line's label has the operand's value.
     Equ,
+    /// The line's label names the register of this number.
+    EquRegister(u8),
     /// The operands' values as bytes.
     Db,
     /// The operands' values as two bytes each, the high one first.
@@ -51,7 +74,8 @@ pub enum LexFault {
     /// A word that is neither a mnemonic nor a directive.
     #[error("UnknownMnemonic")]
     UnknownMnemonic,
-    /// A wrong number or kind of operands, a text that is no expression, a register in an expression, LDN R0, or EQU without a label.
+    /// A wrong number or kind of operands, a text that is no expression, a register or an operand's word in an expression, LDN R0, or EQU
+    /// without a label.
     #[error("BadOperand")]
     BadOperand,
 }

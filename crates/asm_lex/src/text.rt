@@ -1,12 +1,12 @@
 //! Tests of bytes and of names.
 
-ghost use Rattle.std.specs.Prelude.{◌≡◌, ◌≤◌, ◌<◌, ℕ, IsTrue, length, if◌then◌else◌};
+ghost use Rattle.std.specs.Prelude.{◌≡◌, ◌≤◌, ◌<◌, ℕ, IsTrue, IfSome, length, if◌then◌else◌};
 ghost use Rattle.std.specs.Char.{is_ascii_hexdigit, digit_value};
 ghost use Rattle.std.specs.List.{list_all, list_any, position_or_len, prefix_len, suffix_len};
 ghost use Rattle.vip_byte.specs.Text.{is_blank};
-ghost use Rattle.asm_lex.specs.Bytes.{is_allowed, begins_name, is_in_name, is_long_name, ends_name, is_name, register_of, has_long_name};
-ghost use Rattle.asm_lex.specs.Words.{spells};
+ghost use Rattle.asm_lex.specs.Bytes.{is_allowed, begins_name, is_in_name, is_long_name, ends_name, is_name, is_reserved, operand_words, register_letter, register_of, has_long_name, spells};
 
+use crate::Isa;
 use crate::cuts::{Stop, cut};
 
 /// The most characters that a name may have.
@@ -50,17 +50,28 @@ fn are_in_name(text: &[u8]) -> bool
 }
 
 /// The number of the register that a text names, if it names one.
-pub(crate) fn register(text: &[u8]) -> Option<u8>
-    ensures { result ≡ register_of text.now }
+pub(crate) fn register(isa: Isa, text: &[u8]) -> Option<u8>
+    ensures number { result ≡ register_of (register_letter isa) text.now }
+    ensures within { IfSome result (λ number. number ≤ 15) }
 {
     match text {
-        [letter, digit] if letter.to_ascii_uppercase() == b'R' => hex_digit(*digit),
+        [letter, digit] if letter.to_ascii_uppercase() == register_letter(isa) => hex_digit(*digit),
         _ => None,
     }
 }
 
+fn register_letter(isa: Isa) -> u8
+    ensures { result ≡ register_letter isa }
+{
+    match isa {
+        Isa::Cdp1802 => b'R',
+        Isa::Chip8 => b'V',
+    }
+}
+
 fn hex_digit(byte: u8) -> Option<u8>
-    ensures { result ≡ (if is_ascii_hexdigit byte then Some (digit_value byte) else None) }
+    ensures digit { result ≡ (if is_ascii_hexdigit byte then Some (digit_value byte) else None) }
+    ensures within { IfSome result (λ digit. digit ≤ 15) }
 {
     match byte {
         b'0'..=b'9' => Some(byte - b'0'),
@@ -70,16 +81,41 @@ fn hex_digit(byte: u8) -> Option<u8>
     }
 }
 
+// Whether the text is a word that stands as an operand.
+fn is_operand_word(isa: Isa, text: &[u8]) -> bool
+    ensures { result ≡ list_any (spells text.now) (operand_words isa) }
+{
+    match isa {
+        Isa::Cdp1802 => false,
+        Isa::Chip8 => {
+            spells(text, "I")
+                || spells(text, "DT")
+                || spells(text, "ST")
+                || spells(text, "K")
+                || spells(text, "F")
+                || spells(text, "B")
+        }
+    }
+}
+
+// Whether the text is a register or a word that stands as an operand.
+#[tactic(auto, unfolding(crate::specs::Bytes::is_reserved))]
+fn is_reserved(isa: Isa, text: &[u8]) -> bool
+    ensures { result ≡ is_reserved isa text.now }
+{
+    register(isa, text).is_some() || is_operand_word(isa, text)
+}
+
 /// Whether the text is a name.
 #[tactic(auto, unfolding(crate::specs::Bytes::is_name))]
-pub(crate) fn is_name(text: &[u8]) -> bool
-    ensures { result ≡ is_name text.now }
+pub(crate) fn is_name(isa: Isa, text: &[u8]) -> bool
+    ensures { result ≡ is_name isa text.now }
 {
     match text.first() {
         Some(first) => begins_name(*first)
             && are_in_name(text)
             && text.len() <= LONGEST_NAME
-            && register(text).is_none(),
+            && !is_reserved(isa, text),
         None => false,
     }
 }
@@ -110,7 +146,7 @@ pub(crate) fn has_long_name(text: &[u8]) -> bool
 }
 
 /// Whether the text, in letters of either case, is the name, which is in capitals.
-#[tactic(auto, unfolding(crate::specs::Words::spells))]
+#[tactic(auto, unfolding(crate::specs::Bytes::spells))]
 pub(crate) fn spells(text: &[u8], name: &str) -> bool
     ensures { result ≡ spells text.now name.now }
 {

@@ -1,21 +1,27 @@
 //! Words and their operands.
 
 ghost use Rattle.std.specs.Prelude.{◌≡◌, ℕ, List, length, map};
-ghost use Rattle.asm_lex.specs.Words.{directive_of, mnemonic_at, opcode_named, entry_of, one_register, port_of, one_port, is_one_expression, are_none, are_expressions, number_written, with_number, coded, takes, meaning_of};
+ghost use Rattle.asm_lex.specs.Words.{directive_of, mnemonic_at, opcode_named, mnemonic_entry, entry_of, one_register, port_of, one_port, is_one_number, are_none, are_numbers, number_written, with_number, coded, one_register_in, register_given, gives_register, takes, directive_meaning, meaning_of};
+ghost use Rattle.asm_lex.specs.Names.{value_in, is_number};
 ghost use Rattle.machine.specs.Opcodes.{kind_of};
 ghost use Rattle.asm_lex.specs.Spans.{text_at, AreWithin};
 
-use crate::expression::is_expression;
+use crate::expression::is_number;
+use crate::forms::{form_named, op_meaning, register_in};
+use crate::names::Symbols;
 use crate::spans::text_at;
 use crate::text::{register, spells};
-use crate::{Span, Word};
+use crate::{Isa, Span, Word};
+use chip8_words::Form;
 use vip_isa::{Kind, Op, Operands, decode, encode, mnemonic, operands_in};
 
 /// A word of the table.
 #[derive(Clone, Copy)]
 pub(crate) enum Entry {
-    /// A mnemonic, by the first opcode that has it.
+    /// A mnemonic of the CDP1802, by the first opcode that has it.
     Mnemonic(u8),
+    /// A mnemonic of CHIP-8, by the first form that has it.
+    Words(Form),
     /// A directive.
     Directive(Word),
 }
@@ -59,14 +65,24 @@ fn opcode(word: &[u8]) -> Option<u8>
     None
 }
 
-/// The entry of a word in the table, if it has one. `DB` is the directive.
+#[tactic(auto, unfolding(crate::specs::Words::mnemonic_entry))]
+fn mnemonic_entry(isa: Isa, word: &[u8]) -> Option<Entry>
+    ensures { result ≡ mnemonic_entry isa word.now }
+{
+    match isa {
+        Isa::Cdp1802 => opcode(word).map(Entry::Mnemonic),
+        Isa::Chip8 => form_named(word).map(Entry::Words),
+    }
+}
+
+/// The entry of a word in the table of an instruction set, if it has one. `DB` is the directive.
 #[tactic(auto, unfolding(crate::specs::Words::entry_of))]
-pub(crate) fn entry_of(word: &[u8]) -> Option<Entry>
-    ensures { result ≡ entry_of word.now }
+pub(crate) fn entry_of(isa: Isa, word: &[u8]) -> Option<Entry>
+    ensures { result ≡ entry_of isa word.now }
 {
     match directive(word) {
         Some(directive) => Some(Entry::Directive(directive)),
-        None => opcode(word).map(Entry::Mnemonic),
+        None => mnemonic_entry(isa, word),
     }
 }
 
@@ -75,7 +91,7 @@ fn one_register(line: &[u8], operands: &[Span]) -> Option<u8>
     ensures { result ≡ one_register (map (text_at line.now) operands.now) }
 {
     match operands {
-        [operand] => register(text_at(line, *operand)),
+        [operand] => register(Isa::Cdp1802, text_at(line, *operand)),
         _ => None,
     }
 }
@@ -99,38 +115,38 @@ fn one_port(line: &[u8], operands: &[Span]) -> Option<u8>
     }
 }
 
-fn is_one_expression(line: &[u8], operands: &[Span]) -> bool
+fn is_one_number(isa: Isa, names: &Symbols, line: &[u8], operands: &[Span]) -> bool
     requires { AreWithin line.now operands.now }
-    ensures { result ≡ is_one_expression (map (text_at line.now) operands.now) }
+    ensures { result ≡ is_one_number isa (value_in names.now) (map (text_at line.now) operands.now) }
 {
     match operands {
-        [operand] => is_expression(text_at(line, *operand)),
+        [operand] => is_number(isa, names, text_at(line, *operand)),
         _ => false,
     }
 }
 
-fn are_expressions(line: &[u8], operands: &[Span]) -> bool
+fn are_numbers(isa: Isa, names: &Symbols, line: &[u8], operands: &[Span]) -> bool
     requires { AreWithin line.now operands.now }
-    ensures { result ≡ are_expressions (map (text_at line.now) operands.now) }
+    ensures { result ≡ are_numbers isa (value_in names.now) (map (text_at line.now) operands.now) }
 {
     for operand in operands {
-        if !is_expression(text_at(line, *operand)) {
+        if !is_number(isa, names, text_at(line, *operand)) {
             return false;
         }
     }
     !operands.is_empty()
 }
 
-fn number_written(due: Operands, line: &[u8], operands: &[Span]) -> Option<u8>
+fn number_written(names: &Symbols, due: Operands, line: &[u8], operands: &[Span]) -> Option<u8>
     requires { AreWithin line.now operands.now }
-    ensures { result ≡ number_written due (map (text_at line.now) operands.now) }
+    ensures { result ≡ number_written (value_in names.now) due (map (text_at line.now) operands.now) }
 {
     match due {
         Operands::Register => one_register(line, operands),
         Operands::Port => one_port(line, operands),
         Operands::Nothing | Operands::Data if operands.is_empty() => Some(0),
         Operands::Nothing | Operands::Data => None,
-        _ if is_one_expression(line, operands) => Some(0),
+        _ if is_one_number(Isa::Cdp1802, names, line, operands) => Some(0),
         _ => None,
     }
 }
@@ -143,41 +159,113 @@ fn with_number(kind: Kind, number: u8) -> Option<u8>
 }
 
 #[tactic(auto, unfolding(crate::specs::Words::coded))]
-fn opcode_with(opcode: u8, line: &[u8], operands: &[Span]) -> Option<u8>
+fn opcode_with(names: &Symbols, opcode: u8, line: &[u8], operands: &[Span]) -> Option<u8>
     requires { AreWithin line.now operands.now }
-    ensures { result ≡ coded (kind_of opcode) (map (text_at line.now) operands.now) }
+    ensures { result ≡ coded (value_in names.now) (kind_of opcode) (map (text_at line.now) operands.now) }
 {
     let kind = decode(opcode).kind;
-    match number_written(operands_in(kind), line, operands) {
+    match number_written(names, operands_in(kind), line, operands) {
         Some(number) => with_number(kind, number),
         None => None,
     }
 }
 
-fn takes(directive: Word, has_label: bool, line: &[u8], operands: &[Span]) -> bool
+fn takes(
+    isa: Isa,
+    names: &Symbols,
+    directive: Word,
+    has_label: bool,
+    line: &[u8],
+    operands: &[Span],
+) -> bool
     requires { AreWithin line.now operands.now }
-    ensures { result ≡ takes directive has_label (map (text_at line.now) operands.now) }
+    ensures { result ≡ takes isa (value_in names.now) directive has_label (map (text_at line.now) operands.now) }
 {
     match directive {
-        Word::Code(_) => false,
-        Word::Org | Word::Ds => is_one_expression(line, operands),
-        Word::Equ => has_label && is_one_expression(line, operands),
-        Word::Db | Word::Dw => are_expressions(line, operands),
+        Word::Code(_) | Word::Instruction(_) | Word::EquRegister(_) => false,
+        Word::Org | Word::Ds => is_one_number(isa, names, line, operands),
+        Word::Equ => has_label && is_one_number(isa, names, line, operands),
+        Word::Db | Word::Dw => are_numbers(isa, names, line, operands),
         Word::Page => operands.is_empty(),
     }
 }
 
-/// What a word of the table means with its operands, which are spans of the line; none where they are wrong.
-#[tactic(auto, unfolding(crate::specs::Words::meaning_of))]
-pub(crate) fn meaning(entry: Entry, has_label: bool, line: &[u8], operands: &[Span]) -> Option<Word>
+fn one_register_in(names: &Symbols, line: &[u8], operands: &[Span]) -> Option<u8>
     requires { AreWithin line.now operands.now }
-    ensures { result ≡ meaning_of entry has_label (map (text_at line.now) operands.now) }
+    ensures { result ≡ one_register_in (value_in names.now) (map (text_at line.now) operands.now) }
+{
+    match operands {
+        [operand] => register_in(names, text_at(line, *operand)),
+        _ => None,
+    }
+}
+
+#[tactic(auto, unfolding(crate::specs::Words::register_given))]
+fn register_given(isa: Isa, names: &Symbols, line: &[u8], operands: &[Span]) -> Option<u8>
+    requires { AreWithin line.now operands.now }
+    ensures { result ≡ register_given isa (value_in names.now) (map (text_at line.now) operands.now) }
+{
+    match isa {
+        Isa::Cdp1802 => None,
+        Isa::Chip8 => one_register_in(names, line, operands),
+    }
+}
+
+// The register that EQU gives its label, where its operand names one.
+fn gives_register(
+    isa: Isa,
+    names: &Symbols,
+    directive: Word,
+    has_label: bool,
+    line: &[u8],
+    operands: &[Span],
+) -> Option<u8>
+    requires { AreWithin line.now operands.now }
+    ensures { result ≡ gives_register isa (value_in names.now) directive has_label (map (text_at line.now) operands.now) }
+{
+    match directive {
+        Word::Equ if has_label => register_given(isa, names, line, operands),
+        _ => None,
+    }
+}
+
+fn directive_meaning(
+    isa: Isa,
+    names: &Symbols,
+    directive: Word,
+    has_label: bool,
+    line: &[u8],
+    operands: &[Span],
+) -> Option<Word>
+    requires { AreWithin line.now operands.now }
+    ensures { result ≡ directive_meaning isa (value_in names.now) directive has_label (map (text_at line.now) operands.now) }
+{
+    match gives_register(isa, names, directive, has_label, line, operands) {
+        Some(register) => Some(Word::EquRegister(register)),
+        None if takes(isa, names, directive, has_label, line, operands) => Some(directive),
+        None => None,
+    }
+}
+
+/// What a word of the table means with its operands, which are spans of the line; none where they are wrong. `names` are those of the
+/// earlier lines.
+#[tactic(auto, unfolding(crate::specs::Words::meaning_of))]
+pub(crate) fn meaning(
+    isa: Isa,
+    names: &Symbols,
+    entry: Entry,
+    has_label: bool,
+    line: &[u8],
+    operands: &[Span],
+) -> Option<Word>
+    requires { AreWithin line.now operands.now }
+    ensures { result ≡ meaning_of isa (value_in names.now) entry has_label (map (text_at line.now) operands.now) }
 {
     match entry {
-        Entry::Mnemonic(opcode) => opcode_with(opcode, line, operands).map(Word::Code),
-        Entry::Directive(directive) if takes(directive, has_label, line, operands) => Some(
-            directive,
+        Entry::Mnemonic(opcode) => opcode_with(names, opcode, line, operands).map(Word::Code),
+        Entry::Words(form) => op_meaning(names, form, line, operands).map(Word::Instruction),
+        Entry::Directive(directive) => directive_meaning(
+            isa, names, directive, has_label, line, operands,
         ),
-        Entry::Directive(_) => None,
     }
 }

@@ -1,11 +1,14 @@
 pub mod Texts
 pub mod Ranges
 pub mod Dumps
+pub mod Listings
+pub mod Raws
 pub mod Starts
 pub mod Plain
 pub mod Values
+pub mod Makes
 pub mod Written
 pub mod Assembled
+pub mod InWords
+pub mod FirstLines
 pub mod WayBack
-pub mod Listings
-pub mod Raws

@@ -1,5 +1,5 @@
 -- The lines of a listing, read off an assembly.
-use Rattle.std.proofs.Common.{◌≡◌, ◌+◌, ◌-◌, ◌*◌, ◌/◌, ◌%◌, ◌<◌, ◌≤◌, ℕ, zero, suc, refl, Bool, List, [], ◌∷◌, ◌++◌, length, take, get_or, sym, ◌∙◌, ap, arith, true, false, Some, None, Option, Ok, Err, Result, cond, inl, inr, min}
+use Rattle.std.proofs.Common.{◌≡◌, ◌+◌, ◌-◌, ◌*◌, ◌/◌, ◌<◌, ◌≤◌, ℕ, zero, suc, refl, Bool, List, [], ◌∷◌, ◌++◌, length, take, get_or, sym, ◌∙◌, ap, arith, true, false, Some, None, Option, Ok, Err, Result, cond, inl, inr, min}
 use Rattle.std.specs.Prelude.{map, flat_map, nat_le, slice_index, slice_get, is_some, option_map, codes}
 use Rattle.std.specs.Option.{option_or, option_map_or}
 use Rattle.std.specs.Result.{result_unwrap_or}
@@ -8,15 +8,17 @@ use Rattle.std.proofs.lemmas.Bool.{cond-true, le-leb, both_ways, cases_eq}
 use Rattle.std.proofs.lemmas.List.{append_assoc, append-nil, length-map, map-append, take-map, drop-map, get_or-map, get_or_default, flat_map_more, same_lists}
 use Rattle.std.proofs.lemmas.List.Concat.{flat_map-append}
 use Rattle.std.proofs.lemmas.List.Folds.{list_any_at}
+use Rattle.asm_lex.specs.declared.shape.Isa.{Isa}
+use Rattle.asm_core.specs.declared.layout.LabelValue.{LabelValue}
 use Rattle.asm_core.specs.declared.table.Cell.{Cell}
 use Rattle.asm_core.specs.declared.fault.AsmCause.{AsmCause}
 use Rattle.asm_core.specs.declared.fault.AsmCause.TheVariants.{Overlap}
 use Rattle.asm_core.specs.Made.{Made, line_place, IsAssembly}
 use Rattle.asm_core.specs.Sources.{line_at, address_of, label_value, fault_2, fault_with, bytes_of, cell_in, cell_of, cell_before, overlaps}
 use Rattle.asm_core.proofs.PassTwo.{count_between, bytes_count, count_fits}
-use Rattle.vip_byte.specs.HexText.{hex2, hex4}
+use Rattle.vip_byte.specs.HexText.{hex2}
 use Rattle.asm_listing.specs.Dump.{newline}
-use Rattle.asm_listing.specs.Listing.{blanks, digits_of, three_at, further_line, further_lines, first_digits, number_text, line_listing, listed, lines_text}
+use Rattle.asm_listing.specs.Listing.{blanks, label_text, digits_of, three_at, further_line, further_lines, first_digits, number_text, line_listing, listed, lines_text}
 use Rattle.asm_listing.specs.Shown.{byte_count, byte_at, bytes_from}
 use Rattle.asm_listing.proofs.Ranges.{length-range, get_or-range, range_push, take-range, drop-range}
 
@@ -92,26 +94,26 @@ unfolding further_lines
 further-all at bytes text row e = ap (λ n. text ++ flat_map (further_line at bytes) (range_with_len 1 n)) e
 
 -- the parts of a line
-pub line-parts : (number shown at : ℕ) (bytes line : List ℕ)
+pub line-parts : (number : ℕ) (shown : LabelValue) (at : ℕ) (bytes line : List ℕ)
     → number_text number ++ (codes " "
-    ++ (hex4 shown ++ (codes " " ++ (first_digits bytes ++ (codes " " ++ (line ++ (newline ++ further_lines at bytes)))))))
+    ++ (label_text shown ++ (codes " " ++ (first_digits bytes ++ (codes " " ++ (line ++ (newline ++ further_lines at bytes)))))))
     ≡ line_listing number shown at bytes line
 unfolding line_listing
 line-parts number shown at bytes line = refl
 
 -- the lines of the source so far
-pub lines-start : (source : List (List ℕ)) → lines_text source 0 ≡ []
+pub lines-start : (isa : Isa) (source : List (List ℕ)) → lines_text isa source 0 ≡ []
 unfolding lines_text
-lines-start source = refl
+lines-start isa source = refl
 
-pub lines-more : (source : List (List ℕ)) (i : ℕ) → lines_text source (i + 1) ≡ lines_text source i ++ listed source i
+pub lines-more : (isa : Isa) (source : List (List ℕ)) (i : ℕ) → lines_text isa source (i + 1) ≡ lines_text isa source i ++ listed isa source i
 unfolding lines_text
-lines-more source i =
+lines-more isa source i =
     let here : 0 + i ≡ i = omega arith in
-    ap (flat_map (listed source)) (range_push i 0)
-    ∙ flat_map-append (listed source) (range_with_len 0 i) ((0 + i) ∷ [])
-    ∙ ap (λ k. flat_map (listed source) (range_with_len 0 i) ++ flat_map (listed source) (k ∷ [])) here
-    ∙ ap (λ t. flat_map (listed source) (range_with_len 0 i) ++ t) (append-nil (listed source i))
+    ap (flat_map (listed isa source)) (range_push i 0)
+    ∙ flat_map-append (listed isa source) (range_with_len 0 i) ((0 + i) ∷ [])
+    ∙ ap (λ k. flat_map (listed isa source) (range_with_len 0 i) ++ flat_map (listed isa source) (k ∷ [])) here
+    ∙ ap (λ t. flat_map (listed isa source) (range_with_len 0 i) ++ t) (append-nil (listed isa source i))
 
 -- the bytes of a line stand in the table
 some_here : (xs : List ℕ) (k : ℕ) → k < length xs → slice_get xs k ≡ Some (get_or xs k 0)
@@ -138,43 +140,43 @@ free_before given at count j none below = not_some (given (at + j)) (λ some.
     (list_any_at (λ k. is_some (given (at + k))) (range_with_len 0 count) j 0 (omega (arith, length-range count 0))
     (ap (λ k. is_some (given (at + k))) (get_or-range count 0 j 0 below ∙ omega arith) ∙ some)))
 
-module _ (source : List (List ℕ)) where
-  kept : (n i address : ℕ) (cell : Cell) → i < n → cell_before source (suc i) address ≡ Some cell → cell_before source n address ≡ Some cell
+module _ (isa : Isa) (source : List (List ℕ)) where
+  kept : (n i address : ℕ) (cell : Cell) → i < n → cell_before isa source (suc i) address ≡ Some cell → cell_before isa source n address ≡ Some cell
   unfolding cell_before
   kept zero i address cell below e = absurd (omega arith)
   kept (suc n) i address cell below e = elim (cases_eq n i) [
-    | inl same ↦ ap (λ k. cell_before source (suc k) address) same ∙ e
-    | inr other ↦ ap (λ o. option_or o (cell_of source n address)) (kept n i address cell (omega arith) e)
+    | inl same ↦ ap (λ k. cell_before isa source (suc k) address) same ∙ e
+    | inr other ↦ ap (λ o. option_or o (cell_of isa source n address)) (kept n i address cell (omega arith) e)
   ]
 
-  module _ (made : Made) (assembled : IsAssembly source made) (i : ℕ) (below : i < length source) where
+  module _ (made : Made) (assembled : IsAssembly isa source made) (i : ℕ) (below : i < length source) where
     abbrev at : ℕ
-    at = address_of source i
+    at = address_of isa source i
 
-    judged : (bytes : List ℕ) × (bytes_of source i ≡ Ok bytes) × (overlaps (cell_before source i) at (length bytes) ≡ false)
+    judged : (bytes : List ℕ) × (bytes_of isa source i ≡ Ok bytes) × (overlaps (cell_before isa source i) at (length bytes) ≡ false)
     unfolding fault_2
-    judged = no_fault_in (cell_before source i) at (bytes_of source i) (assembled.no_fault_2 i below)
+    judged = no_fault_in (cell_before isa source i) at (bytes_of isa source i) (assembled.no_fault_2 i below)
 
     abbrev bytes : List ℕ
     bytes = judged.0
 
-    counted : length bytes ≡ count_between (label_value source i) at (address_of source (i + 1))
-    counted = bytes_count source assembled.no_fault_1 i below bytes judged.1
+    counted : length bytes ≡ count_between (label_value isa source i) at (address_of isa source (i + 1))
+    counted = bytes_count isa source assembled.no_fault_1 i below bytes judged.1
 
     fits : at + length bytes ≤ 65536
     fits =
         omega (
           arith,
           counted,
-          count_fits (label_value source i) at (address_of source (i + 1)) (assembled.low i (omega arith)) (assembled.low (i + 1)
+          count_fits (label_value isa source i) at (address_of isa source (i + 1)) (assembled.low i (omega arith)) (assembled.low (i + 1)
               (omega arith)),
         )
 
-    cell_here : (j : ℕ) → j < length bytes → cell_before source (suc i) (at + j) ≡ Some (record { byte = get_or bytes j 0; line = i + 1 })
+    cell_here : (j : ℕ) → j < length bytes → cell_before isa source (suc i) (at + j) ≡ Some (record { byte = get_or bytes j 0; line = i + 1 })
     unfolding cell_before
     cell_here j inside =
         let offset : at + j - at ≡ j = omega arith in
-        ap (λ o. option_or o (cell_of source i (at + j))) (free_before (cell_before source i) at (length bytes) j judged.2 inside)
+        ap (λ o. option_or o (cell_of isa source i (at + j))) (free_before (cell_before isa source i) at (length bytes) j judged.2 inside)
         ∙ ap (λ r. cell_in (i + 1) at (result_unwrap_or r []) (at + j)) judged.1
         ∙ cond-true (nat_le at (at + j)) (option_map (λ byte. record { byte = byte; line = i + 1 }) (slice_get bytes (at + j - at))) None
         (le-leb at (at + j) (omega arith))
@@ -205,8 +207,8 @@ module _ (source : List (List ℕ)) where
     place_count : byte_count (line_place made i) ≡ length bytes
     place_count =
         ap (λ v. count_between v (slice_index made.addresses i) (slice_index made.addresses (i + 1))) (assembled.values i below)
-        ∙ ap (λ a. count_between (label_value source i) a (slice_index made.addresses (i + 1))) place_at
-        ∙ ap (count_between (label_value source i) at) (assembled.addresses (i + 1) (omega arith))
+        ∙ ap (λ a. count_between (label_value isa source i) a (slice_index made.addresses (i + 1))) place_at
+        ∙ ap (count_between (label_value isa source i) at) (assembled.addresses (i + 1) (omega arith))
         ∙ sym counted
 
     pub place_fits : (line_place made i).at + byte_count (line_place made i) ≤ 65536
@@ -214,12 +216,12 @@ module _ (source : List (List ℕ)) where
 
     -- the line of the listing
     pub line-listed : (line : List ℕ) → line_at source i ≡ line
-        → line_listing (i + 1) ((line_place made i).value % 65536) (line_place made i).at
-        (bytes_from made (line_place made i).at (byte_count (line_place made i))) line ≡ listed source i
+        → line_listing (i + 1) (line_place made i).value (line_place made i).at
+        (bytes_from made (line_place made i).at (byte_count (line_place made i))) line ≡ listed isa source i
     line-listed line here =
-        ap (λ v. line_listing (i + 1) (v % 65536) (line_place made i).at
+        ap (λ v. line_listing (i + 1) v (line_place made i).at
         (bytes_from made (line_place made i).at (byte_count (line_place made i))) line) (assembled.values i below)
-        ∙ ap (λ a. line_listing (i + 1) (label_value source i % 65536) a (bytes_from made a (byte_count (line_place made i))) line) place_at
-        ∙ ap (λ n. line_listing (i + 1) (label_value source i % 65536) at (bytes_from made at n) line) place_count
-        ∙ ap (λ bs. line_listing (i + 1) (label_value source i % 65536) at bs line) (all_read ∙ sym (ap (λ r. result_unwrap_or r []) judged.1))
-        ∙ ap (line_listing (i + 1) (label_value source i % 65536) at (result_unwrap_or (bytes_of source i) [])) (sym here)
+        ∙ ap (λ a. line_listing (i + 1) (label_value isa source i) a (bytes_from made a (byte_count (line_place made i))) line) place_at
+        ∙ ap (λ n. line_listing (i + 1) (label_value isa source i) at (bytes_from made at n) line) place_count
+        ∙ ap (λ bs. line_listing (i + 1) (label_value isa source i) at bs line) (all_read ∙ sym (ap (λ r. result_unwrap_or r []) judged.1))
+        ∙ ap (line_listing (i + 1) (label_value isa source i) at (result_unwrap_or (bytes_of isa source i) [])) (sym here)

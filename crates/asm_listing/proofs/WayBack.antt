@@ -16,29 +16,37 @@ use Rattle.asm_lex.specs.Parts.{code_of}
 use Rattle.asm_core.specs.declared.table.Cell.{Cell}
 use Rattle.asm_core.specs.declared.fault.AsmCause.TheVariants.{Overlap}
 use Rattle.asm_core.specs.Cuts.{is_newline}
-use Rattle.asm_core.specs.Names.{Names}
+use Rattle.asm_lex.specs.declared.shape.Isa.{Isa}
+use Rattle.asm_lex.specs.Names.{Names}
+use Rattle.asm_core.specs.declared.layout.LabelValue.{LabelValue}
+use Rattle.asm_core.specs.declared.layout.LabelValue.TheVariants.{Address}
+use Rattle.asm_core.specs.Ranges.{origin_of, last_of}
 use Rattle.asm_core.specs.Layout.{laid, laid_out, laid_parts, label_in, from_parts}
 use Rattle.asm_core.specs.Encoding.{encoded}
-use Rattle.asm_core.specs.Sources.{source_lines, Known, known_after, known_at, address_of, all_names, line_at, NoFault, fault_1, fault_2, fault_with, bytes_of, cell_in, cell_of, cell_before, overlaps}
+use Rattle.asm_core.specs.Sources.{source_lines, Known, known_after, known_at, names_before, address_of, all_names, line_at, NoFault, fault_1, fault_2, fault_with, bytes_of, cell_in, cell_of, cell_before, overlaps}
 use Rattle.asm_core.proofs.Lines.{source_lines-empty, source_lines-next}
 use Rattle.asm_core.proofs.PassOne.{line_here, no_line, known_at-first, known_at-next}
 use Rattle.asm_listing.specs.Dump.{newline}
-use Rattle.asm_listing.specs.Disassembly.{taken, first_line, starts, lines_from, origin, disassembly}
+use Rattle.asm_listing.specs.Disassembly.{taken, first_line, starts, lines_from, origin, disassembly, HasPlace}
 use Rattle.asm_listing.specs.WayBack.{byte_in, AssemblesTo}
 use Rattle.asm_listing.proofs.Ranges.{length-range, get_or-range}
 use Rattle.asm_listing.proofs.Starts.{starts-first}
-use Rattle.asm_listing.proofs.Assembled.{AreBytes, Makes, origin_makes, line_makes, taken_some, taken_within}
+use Rattle.asm_listing.proofs.Values.{no_names}
+use Rattle.asm_listing.proofs.Makes.{Makes, origin_makes}
+use Rattle.asm_listing.proofs.Assembled.{AreBytes}
+use Rattle.asm_listing.proofs.FirstLines.{line_makes, taken_some, taken_within}
 
 -- a line that is laid out has no byte that isn't allowed
-allowed_line : (names : Names) (at : ℕ) (line : List ℕ) (value next : ℕ) → laid_out names at line ≡ Ok (laid value next) → list_all is_allowed line ≡ true
+allowed_line : (isa : Isa) (names : Names) (at : ℕ) (line : List ℕ) (value : LabelValue) (next : ℕ) → laid_out isa names at line ≡ Ok (laid value next)
+    → list_all is_allowed line ≡ true
 unfolding laid_out parsed has_bad_bytes
-allowed_line names at line value next e =
+allowed_line isa names at line value next e =
     elim (nat_lt 255 (length line))
-    as (λ b. from_parts (laid_parts names at) (cond (b || not (list_all is_allowed line)) (Err BadText) (parsed_code (code_of line)))
+    as (λ b. from_parts (laid_parts isa names at) (cond (b || not (list_all is_allowed line)) (Err BadText) (parsed_code isa names (code_of line)))
     ≡ Ok (laid value next) → list_all is_allowed line ≡ true) [
       | true ↦ λ h. absurd (cc)
       | false ↦ λ h. elim (list_all is_allowed line)
-          as (λ b. from_parts (laid_parts names at) (cond (not b) (Err BadText) (parsed_code (code_of line))) ≡ Ok (laid value next) → b ≡ true) [
+          as (λ b. from_parts (laid_parts isa names at) (cond (not b) (Err BadText) (parsed_code isa names (code_of line))) ≡ Ok (laid value next) → b ≡ true) [
             | true ↦ λ k. refl
             | false ↦ λ k. absurd (cc)
           ] h
@@ -80,45 +88,44 @@ line_cut line rest all =
     ∙ ap (λ r. line ∷ source_lines r) back
 
 -- the lines of a disassembly, one after another
-abbrev line_of : ℕ × List ℕ → List ℕ
-line_of start = first_line start.0 start.1
+abbrev line_of : Isa → ℕ × List ℕ → List ℕ
+line_of isa start = first_line isa start.0 start.1
 
 -- each line begins where the one before ends
-abbrev IsChain : ℕ → List ℕ → List (ℕ × List ℕ) → Type 0
-IsChain at bytes [] = length bytes ≡ 0
-IsChain at bytes (start ∷ rest) = (start ≡ (at, bytes)) × (0 < length bytes) × IsChain (at + taken bytes) (drop (taken bytes) bytes) rest
+abbrev IsChain : Isa → ℕ → List ℕ → List (ℕ × List ℕ) → Type 0
+IsChain isa at bytes [] = length bytes ≡ 0
+IsChain isa at bytes (start ∷ rest) =
+    (start ≡ (at, bytes)) × (0 < length bytes) × IsChain isa (at + taken isa bytes) (drop (taken isa bytes) bytes) rest
 
-chain : (n : ℕ) (bytes : List ℕ) (at : ℕ) → length bytes ≤ n → IsChain at bytes (starts 0 at bytes)
-chain n [] at few = refl
-chain zero (byte ∷ bytes) at few = absurd (omega arith)
-chain (suc n) (byte ∷ bytes) at few =
+chain : (isa : Isa) (n : ℕ) (bytes : List ℕ) (at : ℕ) → length bytes ≤ n → IsChain isa at bytes (starts isa 0 at bytes)
+chain isa n [] at few = refl
+chain isa zero (byte ∷ bytes) at few = absurd (omega arith)
+chain isa (suc n) (byte ∷ bytes) at few =
     let all : List ℕ = byte ∷ bytes in
-    let some : 1 ≤ taken all = taken_some all in
-    let within : taken all ≤ length all = taken_within all (omega arith) in
-    subst (IsChain at all) (sym (starts-first all at some within))
-    (refl, omega arith, chain n (drop (taken all) all) (at + taken all) (omega (arith, length-drop (taken all) all)))
+    let some : 1 ≤ taken isa all = taken_some isa all in
+    let within : taken isa all ≤ length all = taken_within isa all (omega arith) in
+    subst (IsChain isa at all) (sym (starts-first isa all at some within))
+    (refl, omega arith, chain isa n (drop (taken isa all) all) (at + taken isa all) (omega (arith, length-drop (taken isa all) all)))
 
 low_drop : (n : ℕ) (bytes : List ℕ) → AreBytes bytes → AreBytes (drop n bytes)
 low_drop zero bytes all = all
 low_drop (suc n) [] all = λ k d below. absurd (omega arith)
 low_drop (suc n) (byte ∷ bytes) all = low_drop n bytes (λ k d below. all (suc k) d (omega arith))
 
-no_names : Names
-no_names name = None
-
 -- the source of the lines
-lines_cut : (rest : List (ℕ × List ℕ)) (at : ℕ) (bytes : List ℕ) → AreBytes bytes → at + length bytes ≤ 65536 → IsChain at bytes rest
-    → source_lines (lines_from rest) ≡ map line_of rest
-lines_cut [] at bytes low fits linked = source_lines-empty
-lines_cut (start ∷ rest) at bytes low fits linked =
-    let makes : Makes no_names at (first_line at bytes) at (at + taken bytes) (take (taken bytes) bytes) = line_makes no_names at bytes low linked.1 fits in
-    let within : taken bytes ≤ length bytes = taken_within bytes linked.1 in
-    let allowed : list_all is_allowed (line_of start) ≡ true =
-    ap (λ s. list_all is_allowed (line_of s)) linked.0 ∙ allowed_line no_names at (first_line at bytes) at (at + taken bytes) makes.laid_is in
-    line_cut (line_of start) (lines_from rest) allowed
-    ∙ ap (λ more. line_of start ∷ more)
-    (lines_cut rest (at + taken bytes) (drop (taken bytes) bytes) (low_drop (taken bytes) bytes low)
-    (omega (arith, length-drop (taken bytes) bytes)) linked.2)
+lines_cut : (isa : Isa) (rest : List (ℕ × List ℕ)) (at : ℕ) (bytes : List ℕ) → AreBytes bytes → at + length bytes ≤ last_of isa + 1 → IsChain isa at bytes rest
+    → source_lines (lines_from isa rest) ≡ map (line_of isa) rest
+lines_cut isa [] at bytes low fits linked = source_lines-empty
+lines_cut isa (start ∷ rest) at bytes low fits linked =
+    let makes = line_makes no_names at bytes low isa linked.1 fits in
+    let within : taken isa bytes ≤ length bytes = taken_within isa bytes linked.1 in
+    let allowed : list_all is_allowed (line_of isa start) ≡ true =
+    ap (λ s. list_all is_allowed (line_of isa s)) linked.0
+    ∙ allowed_line isa no_names at (first_line isa at bytes) (Address at) (at + taken isa bytes) makes.laid_is in
+    line_cut (line_of isa start) (lines_from isa rest) allowed
+    ∙ ap (λ more. line_of isa start ∷ more)
+    (lines_cut isa rest (at + taken isa bytes) (drop (taken isa bytes) bytes) (low_drop (taken isa bytes) bytes low)
+    (omega (arith, fits, within, length-drop (taken isa bytes) bytes)) linked.2)
 
 -- the bytes at addresses, some of them and more behind them
 slice_get-append_left : (xs ys : List ℕ) (k : ℕ) → k < length xs → slice_get (xs ++ ys) k ≡ slice_get xs k
@@ -208,156 +215,178 @@ no_cell : (o : Option Cell) → byte_of o ≡ None → is_some o ≡ false
 no_cell None e = refl
 no_cell (Some cell) e = absurd (cc)
 
-module _ (source : List (List ℕ)) (start : ℕ) where
-  -- the lines before line k have no fault, and gave these bytes
+module _ (isa : Isa) (source : List (List ℕ)) (start : ℕ) where
+  -- the lines before line k have no fault and define no name, and gave these bytes
   record Reached (k at : ℕ) (done : List ℕ) : Type 0 where
     inside : k ≤ length source
-    place : address_of source k ≡ at
+    place : address_of isa source k ≡ at
+    unnamed : names_before isa source k ≡ no_names
     bound : at ≡ start + length done
-    no_fault_1 : NoFault (fault_1 source) k
-    no_fault_2 : NoFault (fault_2 source) k
-    bytes : (address : ℕ) → byte_of (cell_before source k address) ≡ byte_in start done address
+    no_fault_1 : NoFault (fault_1 isa source) k
+    no_fault_2 : NoFault (fault_2 isa source) k
+    bytes : (address : ℕ) → byte_of (cell_before isa source k address) ≡ byte_in start done address
 
-  module _ (k at : ℕ) (line : List ℕ) (value next : ℕ) (made : List ℕ) (makes : (names : Names) → Makes names at line value next made)
-      (below : k < length source) (here : line_at source k ≡ line) (place : address_of source k ≡ at) where
-    laid_here : laid_out (known_at source k).names (address_of source k) (line_at source k) ≡ Ok (laid value next)
+  module _ (k at : ℕ) (line : List ℕ) (value : LabelValue) (next : ℕ) (made : List ℕ) (makes : (names : Names) → Makes isa names at line value next made)
+      (below : k < length source) (here : line_at source k ≡ line) (place : address_of isa source k ≡ at) (unnamed : names_before isa source k ≡ no_names) where
+    laid_here : laid_out isa (names_before isa source k) (address_of isa source k) (line_at source k) ≡ Ok (laid value next)
     laid_here =
-        ap (λ a. laid_out (known_at source k).names a (line_at source k)) place
-        ∙ ap (laid_out (known_at source k).names at) here
-        ∙ (makes (known_at source k).names).laid_is
+        ap (λ names. laid_out isa names (address_of isa source k) (line_at source k)) unnamed
+        ∙ ap (λ a. laid_out isa no_names a (line_at source k)) place
+        ∙ ap (laid_out isa no_names at) here
+        ∙ (makes no_names).laid_is
 
-    known_behind : known_at source (k + 1) ≡ known_after (known_at source k) None (Ok (laid value next))
+    label_here : label_in isa (names_before isa source k) (line_at source k) ≡ None
+    label_here =
+        ap (λ names. label_in isa names (line_at source k)) unnamed ∙ ap (label_in isa no_names) here ∙ (makes no_names).unlabelled
+
+    known_behind : known_at isa source (k + 1) ≡ known_after (known_at isa source k) None (Ok (laid value next))
     known_behind =
-        known_at-next source k below
-        ∙ ap (known_after (known_at source k) (label_in (line_at source k))) laid_here
-        ∙ ap (λ l. known_after (known_at source k) (label_in l) (Ok (laid value next))) here
-        ∙ ap (λ label. known_after (known_at source k) label (Ok (laid value next))) (makes (known_at source k).names).unlabelled
+        known_at-next isa source k below
+        ∙ ap (known_after (known_at isa source k) (label_in isa (names_before isa source k) (line_at source k))) laid_here
+        ∙ ap (λ label. known_after (known_at isa source k) label (Ok (laid value next))) label_here
 
-    next_place : address_of source (k + 1) ≡ next
+    next_place : address_of isa source (k + 1) ≡ next
     next_place = ap (λ (known : Known). known.at) known_behind
 
-    no_fault : fault_1 source k ≡ None
+    next_unnamed : names_before isa source (k + 1) ≡ no_names
+    next_unnamed = ap (λ (known : Known). known.names) known_behind ∙ unnamed
+
+    no_fault : fault_1 isa source k ≡ None
     unfolding fault_1
     no_fault = ap result_err laid_here
 
-    bytes_here : bytes_of source k ≡ Ok made
+    bytes_here : bytes_of isa source k ≡ Ok made
     unfolding bytes_of
     bytes_here =
-        let after : address_of source (suc k) ≡ next = ap (λ n. address_of source n) (omega arith) ∙ next_place in
-        ap (λ a. encoded (all_names source) a (address_of source (suc k)) (line_at source k)) place
-        ∙ ap (λ n. encoded (all_names source) at n (line_at source k)) after
-        ∙ ap (encoded (all_names source) at next) here
-        ∙ (makes (all_names source)).encoded_is
+        let after : address_of isa source (suc k) ≡ next = ap (λ n. address_of isa source n) (omega arith) ∙ next_place in
+        let all : Names = all_names isa source in
+        ap (λ names. encoded isa names all (address_of isa source k) (address_of isa source (suc k)) (line_at source k)) unnamed
+        ∙ ap (λ a. encoded isa no_names all a (address_of isa source (suc k)) (line_at source k)) place
+        ∙ ap (λ n. encoded isa no_names all at n (line_at source k)) after
+        ∙ ap (encoded isa no_names all at next) here
+        ∙ (makes all).encoded_is
 
-    cell_here : (address : ℕ) → cell_of source k address ≡ cell_in (k + 1) at made address
+    cell_here : (address : ℕ) → cell_of isa source k address ≡ cell_in (k + 1) at made address
     cell_here address =
-        ap (λ r. cell_in (k + 1) (address_of source k) (result_unwrap_or r []) address) bytes_here
-        ∙ ap (λ a. cell_in (k + 1) a made address) place
+        ap (λ r. cell_in (k + 1) (address_of isa source k) (result_unwrap_or r []) address) bytes_here ∙ ap (λ a. cell_in (k + 1) a made address) place
 
-    bytes_behind : (address : ℕ) → byte_of (cell_before source (k + 1) address) ≡ option_or (byte_of (cell_before source k address)) (byte_in at made address)
+    bytes_behind : (address : ℕ) → byte_of (cell_before isa source (k + 1) address)
+        ≡ option_or (byte_of (cell_before isa source k address)) (byte_in at made address)
     unfolding cell_before
     bytes_behind address =
         let step : k + 1 ≡ suc k = omega arith in
-        ap (λ n. byte_of (cell_before source n address)) step
-        ∙ byte_of-or (cell_before source k address) (cell_of source k address)
-        ∙ ap (λ c. option_or (byte_of (cell_before source k address)) (byte_of c)) (cell_here address)
-        ∙ ap (option_or (byte_of (cell_before source k address))) (byte_of-cell_in (k + 1) at made address)
+        ap (λ n. byte_of (cell_before isa source n address)) step
+        ∙ byte_of-or (cell_before isa source k address) (cell_of isa source k address)
+        ∙ ap (λ c. option_or (byte_of (cell_before isa source k address)) (byte_of c)) (cell_here address)
+        ∙ ap (option_or (byte_of (cell_before isa source k address))) (byte_of-cell_in (k + 1) at made address)
 
-    no_overlap : ((j : ℕ) → j < length made → byte_of (cell_before source k (at + j)) ≡ None) → fault_2 source k ≡ None
+    no_overlap : ((j : ℕ) → j < length made → byte_of (cell_before isa source k (at + j)) ≡ None) → fault_2 isa source k ≡ None
     unfolding fault_2
     no_overlap free =
-        let none : overlaps (cell_before source k) at (length made) ≡ false =
-        list_any_none (λ offset. is_some (cell_before source k (at + offset))) (range_with_len 0 (length made))
-        (λ j d under. ap (λ n. is_some (cell_before source k (at + n))) (get_or-range (length made) 0 j d (omega (arith, length-range (length made) 0)))
-        ∙ no_cell (cell_before source k (at + (0 + j))) (free (0 + j) (omega (arith, length-range (length made) 0)))) in
-        ap (fault_with (cell_before source k) (address_of source k)) bytes_here
-        ∙ ap (λ a. fault_with (cell_before source k) a (Ok made)) place
+        let none : overlaps (cell_before isa source k) at (length made) ≡ false =
+        list_any_none (λ offset. is_some (cell_before isa source k (at + offset))) (range_with_len 0 (length made))
+        (λ j d under. ap (λ n. is_some (cell_before isa source k (at + n))) (get_or-range (length made) 0 j d (omega (arith, length-range (length made) 0)))
+        ∙ no_cell (cell_before isa source k (at + (0 + j))) (free (0 + j) (omega (arith, length-range (length made) 0)))) in
+        ap (fault_with (cell_before isa source k) (address_of isa source k)) bytes_here
+        ∙ ap (λ a. fault_with (cell_before isa source k) a (Ok made)) place
         ∙ ap (λ b. cond b (Some Overlap) None) none
 
   -- one line of bytes more
-  reached_next : (k at : ℕ) (done : List ℕ) (line made : List ℕ) → ((names : Names) → Makes names at line at (at + length made) made)
+  reached_next : (k at : ℕ) (done : List ℕ) (line made : List ℕ)
+      → ((names : Names) → Makes isa names at line (Address at) (at + length made) made)
       → k < length source → line_at source k ≡ line
       → Reached k at done → Reached (k + 1) (at + length made) (done ++ made)
   reached_next k at done line made makes below here so_far =
       let next : ℕ = at + length made in
       record {
         inside = omega arith;
-        place = next_place k at line at next made makes below here so_far.place;
+        place = next_place k at line (Address at) next made makes below here so_far.place so_far.unnamed;
+        unnamed = next_unnamed k at line (Address at) next made makes below here so_far.place so_far.unnamed;
         bound = omega (arith, so_far.bound, length-append done made);
-        no_fault_1 = below_more (λ i. fault_1 source i ≡ None) k so_far.no_fault_1 (no_fault k at line at next made makes below here so_far.place);
-        no_fault_2 = below_more (λ i. fault_2 source i ≡ None) k so_far.no_fault_2
-            (no_overlap k at line at next made makes below here so_far.place
+        no_fault_1 = below_more (λ i. fault_1 isa source i ≡ None) k so_far.no_fault_1
+            (no_fault k at line (Address at) next made makes below here so_far.place so_far.unnamed);
+        no_fault_2 = below_more (λ i. fault_2 isa source i ≡ None) k so_far.no_fault_2
+            (no_overlap k at line (Address at) next made makes below here so_far.place so_far.unnamed
             (λ j under. so_far.bytes (at + j) ∙ byte_in-past start done (at + j) (omega (arith, so_far.bound))));
         bytes = λ address.
-            bytes_behind k at line at next made makes below here so_far.place address
+            bytes_behind k at line (Address at) next made makes below here so_far.place so_far.unnamed address
             ∙ ap (λ o. option_or o (byte_in at made address)) (so_far.bytes address)
             ∙ ap (λ a. option_or (byte_in start done address) (byte_in a made address)) so_far.bound
             ∙ byte_in-append start done made address;
       }
 
   -- all lines
-  reached_all : (rest : List (ℕ × List ℕ)) (k at : ℕ) (done left : List ℕ) → AreBytes left → at + length left ≤ 65536 → IsChain at left rest
-      → drop k source ≡ map line_of rest → Reached k at done
-      → AssemblesTo source start (done ++ left)
+  reached_all : (rest : List (ℕ × List ℕ)) (k at : ℕ) (done left : List ℕ) → AreBytes left → at + length left ≤ last_of isa + 1 → IsChain isa at left rest
+      → drop k source ≡ map (line_of isa) rest → Reached k at done
+      → AssemblesTo isa source start (done ++ left)
   reached_all [] k at done left low fits linked source_is so_far =
       let last : k ≡ length source = no_line source k source_is so_far.inside in
       let whole : done ++ left ≡ done = ap (λ l. done ++ l) (nil_from_length left linked) ∙ append-nil done in
       record {
-        no_fault_1 = subst (NoFault (fault_1 source)) last so_far.no_fault_1;
-        no_fault_2 = subst (NoFault (fault_2 source)) last so_far.no_fault_2;
+        no_fault_1 = subst (NoFault (fault_1 isa source)) last so_far.no_fault_1;
+        no_fault_2 = subst (NoFault (fault_2 isa source)) last so_far.no_fault_2;
         bytes_are =
-            λ address. ap (λ n. byte_of (cell_before source n address)) (sym last) ∙ so_far.bytes address
+            λ address. ap (λ n. byte_of (cell_before isa source n address)) (sym last) ∙ so_far.bytes address
             ∙ ap (λ xs. byte_in start xs address) (sym whole);
       }
   reached_all (s ∷ rest) k at done left low fits linked source_is so_far =
-      let here = line_here source k (line_of s) (map line_of rest) source_is in
-      let within : taken left ≤ length left = taken_within left linked.1 in
-      let made : List ℕ = take (taken left) left in
-      let more : List ℕ = drop (taken left) left in
-      let count : length made ≡ taken left = length-take-le (taken left) left within in
-      let makes : (names : Names) → Makes names at (first_line at left) at (at + length made) made =
-      λ names. subst (λ n. Makes names at (first_line at left) at (at + n) made) (sym count) (line_makes names at left low linked.1 fits) in
+      let here = line_here source k (line_of isa s) (map (line_of isa) rest) source_is in
+      let within : taken isa left ≤ length left = taken_within isa left linked.1 in
+      let made : List ℕ = take (taken isa left) left in
+      let more : List ℕ = drop (taken isa left) left in
+      let count : length made ≡ taken isa left = length-take-le (taken isa left) left within in
+      let makes : (names : Names) → Makes isa names at (first_line isa at left) (Address at) (at + length made) made =
+      λ names. subst (λ n. Makes isa names at (first_line isa at left) (Address at) (at + n) made) (sym count)
+      (line_makes names at left low isa linked.1 fits) in
       let next : Reached (k + 1) (at + length made) (done ++ made) =
-      reached_next k at done (first_line at left) made makes here.0 (here.1 ∙ ap line_of linked.0) so_far in
-      let joined : (done ++ made) ++ more ≡ done ++ left = append_assoc done made more ∙ ap (λ l. done ++ l) (take-append-drop (taken left) left) in
-      subst (AssemblesTo source start) joined
-      (reached_all rest (k + 1) (at + length made) (done ++ made) more (low_drop (taken left) left low) (omega (arith, count, length-drop (taken left) left))
-      (subst (λ n. IsChain (at + n) more rest) (sym count) linked.2) here.2 next)
+      reached_next k at done (first_line isa at left) made makes here.0 (here.1 ∙ ap (line_of isa) linked.0) so_far in
+      let joined : (done ++ made) ++ more ≡ done ++ left = append_assoc done made more ∙ ap (λ l. done ++ l) (take-append-drop (taken isa left) left) in
+      subst (AssemblesTo isa source start) joined
+      (reached_all rest (k + 1) (at + length made) (done ++ made) more (low_drop (taken isa left) left low)
+      (omega (arith, fits, within, count, length-drop (taken isa left) left))
+      (subst (λ n. IsChain isa (at + n) more rest) (sym count) linked.2) here.2 next)
 
 -- the source of a disassembly begins with the line that sets the address
-module _ (start : ℕ) (bytes : List ℕ) (low : AreBytes bytes) (fits : start + length bytes ≤ 65536) (first : start < 65536) where
+module _ (isa : Isa) (start : ℕ) (bytes : List ℕ) (low : AreBytes bytes) (has_place : HasPlace isa start bytes) where
   abbrev source_of : List (List ℕ)
-  source_of = origin start ∷ map line_of (starts 0 start bytes)
+  source_of = origin start ∷ map (line_of isa) (starts isa 0 start bytes)
 
-  source_is : source_lines (disassembly start bytes) ≡ source_of
+  first_makes : (names : Names) → Makes isa names (origin_of isa) (origin start) (Address start) start []
+  first_makes names = origin_makes isa names (origin_of isa) start has_place.least has_place.most
+
+  source_is : source_lines (disassembly isa start bytes) ≡ source_of
   unfolding disassembly
   source_is =
-      line_cut (origin start) (lines_from (starts 0 start bytes))
-      (allowed_line no_names 0 (origin start) start start (origin_makes no_names 0 start first).laid_is)
-      ∙ ap (λ more. origin start ∷ more) (lines_cut (starts 0 start bytes) start bytes low fits (chain (length bytes) bytes start (omega arith)))
+      line_cut (origin start) (lines_from isa (starts isa 0 start bytes))
+      (allowed_line isa no_names (origin_of isa) (origin start) (Address start) start (first_makes no_names).laid_is)
+      ∙ ap (λ more. origin start ∷ more)
+      (lines_cut isa (starts isa 0 start bytes) start bytes low has_place.fits (chain isa (length bytes) bytes start (omega arith)))
 
   -- behind it no address has a byte yet
-  reached_first : Reached source_of start 1 start []
+  reached_first : Reached isa source_of start 1 start []
   unfolding cell_before
   reached_first =
-      let makes : (names : Names) → Makes names 0 (origin start) start start [] = λ names. origin_makes names 0 start first in
-      let place : address_of source_of 0 ≡ 0 = ap (λ (known : Known). known.at) (known_at-first source_of) in
+      let place : address_of isa source_of 0 ≡ origin_of isa = ap (λ (known : Known). known.at) (known_at-first isa source_of) in
+      let unnamed : names_before isa source_of 0 ≡ no_names = ap (λ (known : Known). known.names) (known_at-first isa source_of) in
       let below : 0 < length source_of = omega arith in
       record {
         inside = omega arith;
-        place = next_place source_of start 0 0 (origin start) start start [] makes below refl place;
+        place = next_place isa source_of start 0 (origin_of isa) (origin start) (Address start) start [] first_makes below refl place unnamed;
+        unnamed = next_unnamed isa source_of start 0 (origin_of isa) (origin start) (Address start) start [] first_makes below refl place unnamed;
         bound = omega arith;
         no_fault_1 =
-            below_more (λ i. fault_1 source_of i ≡ None) 0 (λ i under. absurd (omega arith))
-            (no_fault source_of start 0 0 (origin start) start start [] makes below refl place);
-        no_fault_2 = below_more (λ i. fault_2 source_of i ≡ None) 0 (λ i under. absurd (omega arith))
-            (no_overlap source_of start 0 0 (origin start) start start [] makes below refl place (λ j under. absurd (omega arith)));
+            below_more (λ i. fault_1 isa source_of i ≡ None) 0 (λ i under. absurd (omega arith))
+            (no_fault isa source_of start 0 (origin_of isa) (origin start) (Address start) start [] first_makes below refl place unnamed);
+        no_fault_2 = below_more (λ i. fault_2 isa source_of i ≡ None) 0 (λ i under. absurd (omega arith))
+            (no_overlap isa source_of start 0 (origin_of isa) (origin start) (Address start) start [] first_makes below refl place unnamed
+            (λ j under. absurd (omega arith)));
         bytes = λ address.
-            bytes_behind source_of start 0 0 (origin start) start start [] makes below refl place address
-            ∙ byte_in-past 0 [] address (omega arith) ∙ sym (nothing_in start address);
+            bytes_behind isa source_of start 0 (origin_of isa) (origin start) (Address start) start [] first_makes below refl place unnamed address
+            ∙ nothing_in (origin_of isa) address ∙ sym (nothing_in start address);
       }
 
-  pub comes_back : AssemblesTo (source_lines (disassembly start bytes)) start bytes
+  pub comes_back : AssemblesTo isa (source_lines (disassembly isa start bytes)) start bytes
   comes_back =
-      subst (λ source. AssemblesTo source start bytes) (sym source_is)
-      (reached_all source_of start (starts 0 start bytes) 1 start [] bytes low fits (chain (length bytes) bytes start (omega arith)) refl reached_first)
+      subst (λ source. AssemblesTo isa source start bytes) (sym source_is)
+      (reached_all isa source_of start (starts isa 0 start bytes) 1 start [] bytes low has_place.fits (chain isa (length bytes) bytes start (omega arith)) refl
+      reached_first)

@@ -1,13 +1,18 @@
 -- The listing of a source: each line with its address and its bytes, and then the names.
-use Rattle.std.specs.Prelude.{◌≡◌, ◌+◌, ◌-◌, ◌*◌, ◌/◌, ◌%◌, ◌==◌, ℕ, List, [], ◌++◌, length, take, drop, flat_map, replicate, codes, decimal, if◌then◌else◌}
+use Rattle.std.specs.Prelude.{◌≡◌, ◌+◌, ◌-◌, ◌*◌, ◌/◌, ◌%◌, ◌==◌, ℕ, List, [], ◌∷◌, ◌++◌, length, take, drop, flat_map, replicate, codes, decimal, if◌then◌else◌}
 use Rattle.std.specs.List.{range_with_len}
 use Rattle.std.specs.List.Sorted.{IsStrictlySortedBy}
 use Rattle.std.specs.Map.{keys_of}
 use Rattle.std.specs.Ordering.{nat_cmp}
 use Rattle.std.specs.Cmp.Lexicographic.{slice_cmp}
 use Rattle.std.specs.Result.{result_unwrap_or}
-use Rattle.vip_byte.specs.HexText.{hex2, hex4}
-use Rattle.asm_core.specs.Names.{value_in}
+use Rattle.vip_byte.specs.HexText.{hex_digit, hex2, hex4}
+use Rattle.asm_lex.specs.declared.shape.Isa.{Isa}
+use Rattle.asm_lex.specs.declared.shape.SymbolValue.{SymbolValue}
+use Rattle.asm_lex.specs.declared.shape.SymbolValue.TheVariants.{Number, Register}
+use Rattle.asm_core.specs.declared.layout.LabelValue.{LabelValue}
+use Rattle.asm_core.specs.declared.layout.LabelValue.TheVariants.{Address, Given}
+use Rattle.asm_lex.specs.Names.{value_in}
 use Rattle.asm_core.specs.Sources.{line_at, address_of, all_names, label_value, bytes_of}
 use Rattle.asm_listing.specs.Dump.{newline}
 
@@ -36,28 +41,41 @@ further_lines at bytes = flat_map (further_line at bytes) (range_with_len 1 ((le
 abbrev pub first_digits : List ℕ → List ℕ
 first_digits bytes = digits_of (three_at bytes 0) ++ blanks (6 - 2 * length (three_at bytes 0))
 
--- a line of the source: its number, the address that is shown, its bytes, which stand from `at` on, and its text
-unfoldable pub line_listing : ℕ → ℕ → ℕ → List ℕ → List ℕ → List ℕ
+-- a number as four digits, a register as `V` and its digit
+abbrev pub value_text : SymbolValue → List ℕ
+value_text (Number number) = hex4 number
+value_text (Register register) = codes "V" ++ (hex_digit (register % 16) ∷ [])
+
+-- the same in four places
+abbrev pub label_text : LabelValue → List ℕ
+label_text (Address address) = hex4 (address % 65536)
+label_text (Given (Number number)) = value_text (Number number)
+label_text (Given (Register register)) = value_text (Register register) ++ codes "  "
+
+-- a line of the source: its number, the value that is shown, its bytes, which stand from `at` on, and its text
+unfoldable pub line_listing : ℕ → LabelValue → ℕ → List ℕ → List ℕ → List ℕ
 line_listing number shown at bytes line =
-    number_text number ++ (codes " " ++ (hex4 shown ++ (codes " " ++ (first_digits bytes ++ (codes " " ++ (line ++ (newline ++ further_lines at bytes)))))))
+    number_text number ++ (codes " " ++
+    (label_text shown ++ (codes " " ++ (first_digits bytes ++ (codes " " ++ (line ++ (newline ++ further_lines at bytes)))))))
 
 -- line i, counted from 0: EQU shows its value, ORG and PAGE the new address, and each other line the address at which it begins
-abbrev pub listed : List (List ℕ) → ℕ → List ℕ
-listed source i = line_listing (i + 1) (label_value source i % 65536) (address_of source i) (result_unwrap_or (bytes_of source i) []) (line_at source i)
+abbrev pub listed : Isa → List (List ℕ) → ℕ → List ℕ
+listed isa source i =
+    line_listing (i + 1) (label_value isa source i) (address_of isa source i) (result_unwrap_or (bytes_of isa source i) []) (line_at source i)
 
 -- behind an empty line the names with their values, where there are any
-abbrev pub symbol_line : List ℕ × ℕ → List ℕ
-symbol_line symbol = symbol.0 ++ (codes " " ++ (hex4 symbol.1 ++ newline))
+abbrev pub symbol_line : List ℕ × SymbolValue → List ℕ
+symbol_line symbol = symbol.0 ++ (codes " " ++ (value_text symbol.1 ++ newline))
 
-abbrev pub symbols_text : List (List ℕ × ℕ) → List ℕ
+abbrev pub symbols_text : List (List ℕ × SymbolValue) → List ℕ
 symbols_text names = if length names == 0 then [] else newline ++ flat_map symbol_line names
 
-unfoldable pub lines_text : List (List ℕ) → ℕ → List ℕ
-lines_text source count = flat_map (listed source) (range_with_len 0 count)
+unfoldable pub lines_text : Isa → List (List ℕ) → ℕ → List ℕ
+lines_text isa source count = flat_map (listed isa source) (range_with_len 0 count)
 
 -- the text is the listing of a source, whose names stand in the order of their bytes
-pub record IsListing (source : List (List ℕ)) (text : List ℕ) : Type 0 where
-  pub names : List (List ℕ × ℕ)
+pub record IsListing (isa : Isa) (source : List (List ℕ)) (text : List ℕ) : Type 0 where
+  pub names : List (List ℕ × SymbolValue)
   pub in_order : IsStrictlySortedBy (slice_cmp nat_cmp) (keys_of names)
-  pub defined : (name : List ℕ) → value_in names name ≡ all_names source name
-  pub is : text ≡ lines_text source (length source) ++ symbols_text names
+  pub defined : (name : List ℕ) → value_in names name ≡ all_names isa source name
+  pub is : text ≡ lines_text isa source (length source) ++ symbols_text names

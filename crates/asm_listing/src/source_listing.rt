@@ -8,11 +8,12 @@ ghost use Rattle.std.specs.Ordering.{nat_cmp};
 ghost use Rattle.std.specs.Cmp.Lexicographic.{slice_cmp};
 ghost use Rattle.asm_core.specs.Made.{IsAssembly, line_place};
 ghost use Rattle.asm_core.specs.Sources.{source_lines};
-ghost use Rattle.asm_listing.specs.Listing.{blanks, digits_of, first_digits, further_line, further_lines, line_listing, number_text, symbol_line, symbols_text, IsListing};
+ghost use Rattle.asm_listing.specs.Listing.{blanks, digits_of, first_digits, further_line, further_lines, line_listing, number_text, value_text, label_text, symbol_line, symbols_text, IsListing};
 ghost use Rattle.asm_listing.specs.Shown.{byte_at, byte_count, bytes_from};
 
 use crate::write::append;
-use asm_core::{Assembly, LinePlace, SymbolIter, next_line};
+use asm_core::{Assembly, LabelValue, LinePlace, next_line};
+use asm_lex::{Isa, SymbolIter, SymbolValue};
 use itoa::Buffer as Digits;
 use std::alloc::{AllocError, Global};
 use vip_byte::{hex2, hex4};
@@ -41,10 +42,11 @@ fn append_number(list: &mut Vec<u8>, number: usize) -> Result<(), AllocError>
 fn byte_count(place: &LinePlace) -> u32
     ensures { result ≡ byte_count place.now }
 {
-    if place.value == place.at {
-        place.next.saturating_sub(place.at)
-    } else {
-        0
+    match place.value {
+        LabelValue::Address(address) if address == place.at => {
+            place.next.saturating_sub(place.at)
+        }
+        _ => 0,
     }
 }
 
@@ -116,6 +118,29 @@ fn append_further(
     Ok(())
 }
 
+fn append_value(list: &mut Vec<u8>, value: SymbolValue) -> Result<(), AllocError>
+    ensures { OnOk result (list.new.items ≡ list.old.items ++ value_text value) }
+{
+    match value {
+        SymbolValue::Number(number) => append(list, &hex4(number)),
+        SymbolValue::Register(register) => append(list, &[b'V', hex2(register)[1]]),
+    }
+}
+
+// A value in four places.
+fn append_label(list: &mut Vec<u8>, value: LabelValue) -> Result<(), AllocError>
+    ensures { OnOk result (list.new.items ≡ list.old.items ++ label_text value) }
+{
+    match value {
+        LabelValue::Address(address) => append(list, &hex4((address % 65_536) as u16)),
+        LabelValue::Given(SymbolValue::Number(number)) => append(list, &hex4(number)),
+        LabelValue::Given(value) => {
+            append_value(list, value)?;
+            append_blanks(list, 2)
+        }
+    }
+}
+
 // A line of the source with its number and the place at which it stands.
 fn append_line(
     list: &mut Vec<u8>,
@@ -125,12 +150,13 @@ fn append_line(
     line: &[u8],
 ) -> Result<(), AllocError>
     requires { place.now.at + byte_count place.now ≤ 65536 }
-    ensures { OnOk result (list.new.items ≡ list.old.items ++ line_listing number (place.now.value % 65536) place.now.at (bytes_from made.now place.now.at (byte_count place.now)) line.now) }
+    ensures { OnOk result (list.new.items ≡ list.old.items
+        ++ line_listing number place.now.value place.now.at (bytes_from made.now place.now.at (byte_count place.now)) line.now) }
 {
     let count = byte_count(place);
     append_number(list, number)?;
     append(list, b" ")?;
-    append(list, &hex4((place.value % 65_536) as u16))?;
+    append_label(list, place.value)?;
     append(list, b" ")?;
     append_first(list, made, place.at, count)?;
     append(list, b" ")?;
@@ -139,12 +165,12 @@ fn append_line(
     append_further(list, made, place.at, count)
 }
 
-fn append_symbol(list: &mut Vec<u8>, name: &[u8], value: u16) -> Result<(), AllocError>
+fn append_symbol(list: &mut Vec<u8>, name: &[u8], value: SymbolValue) -> Result<(), AllocError>
     ensures { OnOk result (list.new.items ≡ list.old.items ++ symbol_line (name.now, value)) }
 {
     append(list, name)?;
     append(list, b" ")?;
-    append(list, &hex4(value))?;
+    append_value(list, value)?;
     append(list, b"\n")
 }
 
@@ -173,11 +199,11 @@ fn append_symbols(list: &mut Vec<u8>, made: &Assembly) -> Result<(), AllocError>
     }
 }
 
-/// The listing of the text from which an assembly was made: each line with its number, its address and its bytes, and then the names
+/// The listing of the text from which an assembly of an instruction set was made: each line with its number, its address and its bytes, and then the names
 /// with their values, in the order of their bytes. Answers an error where memory is refused.
-pub fn listing(alloc: Global, made: &Assembly, text: &[u8]) -> Result<Vec<u8>, AllocError>
-    requires { IsAssembly (source_lines text.now) made.now }
-    ensures { IfOk result (λ list. IsListing (source_lines text.now) list.items) }
+pub fn listing(alloc: Global, isa: Isa, made: &Assembly, text: &[u8]) -> Result<Vec<u8>, AllocError>
+    requires { IsAssembly isa (source_lines text.now) made.now }
+    ensures { IfOk result (λ list. IsListing isa (source_lines text.now) list.items) }
 {
     let mut list = Vec::new(alloc);
     let mut index = 0;

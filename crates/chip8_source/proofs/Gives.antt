@@ -1,17 +1,19 @@
 -- A source that assembles to a ROM, by two passes over its lines: the bytes of its lines are the ROM's, and the ROM's others are 0.
 use Rattle.std.proofs.Common.{◌≡◌, ℕ, zero, suc, ◌+◌, ◌-◌, ◌≤◌, refl, sym, ◌∙◌, ap, arith, inl, inr, Bool, true, false, cond, ◌&&◌, ◌||◌, ◌==◌, nat_le, List, [], ◌∷◌, length, map, Option, Some, None, is_some, option_map, slice_get, unwrap_or, Ok}
 use Rattle.std.proofs.lemmas.Bool.{and_parts, or_cases, eqb-true, leb-true, both_ways}
-use Rattle.asm_lex.specs.Bytes.{is_name, has_long_name}
+use Rattle.asm_lex.specs.declared.shape.Isa.TheVariants.{Cdp1802}
+use Rattle.asm_lex.specs.Bytes.{spells, is_reserved, is_name, has_long_name}
+use Rattle.asm_lex.specs.Names.{names_register, is_number}
 use Rattle.asm_lex.specs.Expressions.{sum_in, number_in, written_value, is_here, is_expression, has_large_number, term_value, sum_of, value_of}
 use Rattle.asm_lex.specs.Lines.{parsed, has_bad_bytes, has_bad_name, entry_meaning, word_meaning, parsed_code}
 use Rattle.asm_lex.specs.Parts.{without_leading_blanks, without_trailing_blanks, operands_in}
-use Rattle.asm_lex.specs.Words.{spells, directive_of, opcodes, mnemonic_at, opcode_named, coded, entry_of, meaning_of, size_at}
+use Rattle.asm_lex.specs.Words.{directive_of, opcodes, mnemonic_at, opcode_named, coded, register_given, mnemonic_entry, entry_of, meaning_of, size_at}
 use Rattle.asm_core.specs.Encoding.{collected, values_of, instruction, encoded_parts}
 use Rattle.asm_core.specs.Layout.{placed, judged, laid_parts}
 use Rattle.asm_core.specs.Names.{operand_value}
 use Rattle.asm_core.specs.declared.table.Cell.{Cell}
 use Rattle.asm_core.specs.Sources.{cell_before, source_lines}
-use Rattle.asm_core.proofs.OnePass.{Read, Stretches, SoFar, covers, stretches_of, all_lines}
+use Rattle.asm_core.proofs.OnePass.{Read, read, Stretches, SoFar, covers, stretches_of, all_lines}
 use Rattle.chip8_source.specs.Compared.{Compares, AgreesBelow, Differs, source_bytes, rom_bytes, counted_assembled, counted_image}
 
 -- where no stretch is, the bytes from this address on are 0
@@ -43,7 +45,7 @@ in_rom image a b e =
 
 module _ (source : List (List ℕ)) (image : List ℕ) (stretches : Stretches)
     (all : SoFar source (rom_bytes image) (length source) stretches) (zeros : is_zero_outside stretches 0x8000 image ≡ true) where
-  same_here : (a : ℕ) → Differs (source_bytes source) image a → (found : Option Cell) → cell_before source (length source) a ≡ found
+  same_here : (a : ℕ) → Differs (source_bytes source) image a → (found : Option Cell) → cell_before Cdp1802 source (length source) a ≡ found
       → counted_assembled (source_bytes source) a ≡ counted_image image a
   same_here a differs (Some cell) is =
       ap (λ c. unwrap_or (option_map (λ (cell : Cell). cell.byte) c) 0) is
@@ -65,7 +67,7 @@ module _ (source : List (List ℕ)) (image : List ℕ) (stretches : Stretches)
           ∙ sym (ap (λ o. unwrap_or o 0xFF) some)
 
   no_difference : AgreesBelow 65536 (source_bytes source) image
-  no_difference a low differs = differs.unequal (same_here a differs (cell_before source (length source) a) refl)
+  no_difference a low differs = differs.unequal (same_here a differs (cell_before Cdp1802 source (length source) a) refl)
 
 -- these lines assemble to this ROM
 abbrev pub fits_with : List ℕ → Option Stretches → Bool
@@ -75,10 +77,10 @@ fits_with image (Some stretches) = is_zero_outside stretches 0x8000 image
 abbrev pub give_rom : List ℕ → List Read → Bool
 give_rom image lines = fits_with image (stretches_of (rom_bytes image) lines)
 
-gives_rom : (source : List (List ℕ)) (image : List ℕ) → give_rom image (map parsed source) ≡ true → Compares source image (Ok tt)
-gives_rom source image e = go (stretches_of (rom_bytes image) (map parsed source)) refl e
+gives_rom : (source : List (List ℕ)) (image : List ℕ) → give_rom image (map read source) ≡ true → Compares source image (Ok tt)
+gives_rom source image e = go (stretches_of (rom_bytes image) (map read source)) refl e
   where
-    go : (found : Option Stretches) → stretches_of (rom_bytes image) (map parsed source) ≡ found
+    go : (found : Option Stretches) → stretches_of (rom_bytes image) (map read source) ≡ found
         → fits_with image found ≡ true → Compares source image (Ok tt)
     go None is none = absurd (cc)
     go (Some stretches) is zeros =
@@ -88,11 +90,12 @@ gives_rom source image e = go (stretches_of (rom_bytes image) (map parsed source
 -- a text is assembled to a ROM by computing: all that it takes is open here
 unfoldable pub gives_text : List ℕ → List ℕ → Bool
 unfolding
-    source_lines parsed has_bad_bytes has_bad_name parsed_code word_meaning entry_meaning is_name has_long_name
-    without_leading_blanks without_trailing_blanks operands_in spells directive_of opcodes mnemonic_at opcode_named coded entry_of meaning_of size_at
-    sum_in number_in written_value is_here is_expression has_large_number term_value sum_of value_of
+    source_lines parsed has_bad_bytes has_bad_name parsed_code word_meaning entry_meaning is_reserved is_name has_long_name
+    without_leading_blanks without_trailing_blanks operands_in spells directive_of opcodes mnemonic_at opcode_named coded register_given
+    mnemonic_entry entry_of meaning_of size_at
+    sum_in number_in written_value is_here is_expression names_register is_number has_large_number term_value sum_of value_of
     operand_value placed judged laid_parts collected values_of instruction encoded_parts
-gives_text text image = give_rom image (map parsed (source_lines text))
+gives_text text image = give_rom image (map read (source_lines text))
 
 pub text_gives_rom : (text image : List ℕ) → gives_text text image ≡ true → Compares (source_lines text) image (Ok tt)
 unfolding gives_text

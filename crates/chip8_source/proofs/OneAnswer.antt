@@ -2,6 +2,7 @@
 use Rattle.std.proofs.Common.{◌≡◌, ℕ, ◌+◌, ◌<◌, ◌⊎◌, inl, inr, refl, sym, ◌∙◌, ap, List, length, Option, None, Some, Ok, Err}
 use Rattle.std.proofs.lemmas.Bool.{cases_order}
 use Rattle.asm_core.specs.declared.fault.AsmCause.{AsmCause}
+use Rattle.asm_lex.specs.declared.shape.Isa.TheVariants.{Cdp1802}
 use Rattle.asm_core.specs.Sources.{NoFault, IsFirstFault, HasFirstFault, fault_1, fault_2}
 use Rattle.chip8_source.specs.declared.fault.ImageFault.TheVariants.{BadRomSource, RomDiffers, NoMemory}
 use Rattle.chip8_source.specs.Compared.{Bytes, Assembles, IsLeastDifference, OneAnswer, source_bytes, counted_assembled, counted_image}
@@ -23,21 +24,21 @@ first_is_one f n i j c d a b = go (cases_order i j)
     go (inr (inr before)) = absurd (no_fault (a.earlier j before) b.here)
 
 module _ (source : List (List ℕ)) where
-  fault_is_one : (l m : ℕ) (c d : AsmCause) → HasFirstFault source l c → HasFirstFault source m d → BadRomSource l c ≡ BadRomSource m d
+  fault_is_one : (l m : ℕ) (c d : AsmCause) → HasFirstFault Cdp1802 source l c → HasFirstFault Cdp1802 source m d → BadRomSource l c ≡ BadRomSource m d
   fault_is_one l m c d (i, at_i, a) (j, at_j, b) = ap (λ line. BadRomSource line c) at_i ∙ (go a b ∙ ap (λ line. BadRomSource line d) (sym at_j))
     where
       n : ℕ
       n = length source
 
-      go : IsFirstFault (fault_1 source) n i c ⊎ (NoFault (fault_1 source) n × IsFirstFault (fault_2 source) n i c)
-          → IsFirstFault (fault_1 source) n j d ⊎ (NoFault (fault_1 source) n × IsFirstFault (fault_2 source) n j d)
+      go : IsFirstFault (fault_1 Cdp1802 source) n i c ⊎ (NoFault (fault_1 Cdp1802 source) n × IsFirstFault (fault_2 Cdp1802 source) n i c)
+          → IsFirstFault (fault_1 Cdp1802 source) n j d ⊎ (NoFault (fault_1 Cdp1802 source) n × IsFirstFault (fault_2 Cdp1802 source) n j d)
           → BadRomSource (i + 1) c ≡ BadRomSource (j + 1) d
-      go (inl x) (inl y) = first_is_one (fault_1 source) n i j c d x y
+      go (inl x) (inl y) = first_is_one (fault_1 Cdp1802 source) n i j c d x y
       go (inl x) (inr y) = absurd (no_fault (y.0 i x.inside) x.here)
       go (inr x) (inl y) = absurd (no_fault (x.0 j y.inside) y.here)
-      go (inr x) (inr y) = first_is_one (fault_2 source) n i j c d x.1 y.1
+      go (inr x) (inr y) = first_is_one (fault_2 Cdp1802 source) n i j c d x.1 y.1
 
-  fault_or_none : (l : ℕ) (c : AsmCause) → Assembles source → HasFirstFault source l c → ⊥
+  fault_or_none : (l : ℕ) (c : AsmCause) → Assembles source → HasFirstFault Cdp1802 source l c → ⊥
   fault_or_none l c fine (i, at_i, inl x) = no_fault (fine.pass_1 i x.inside) x.here
   fault_or_none l c fine (i, at_i, inr x) = no_fault (fine.pass_2 i x.1.inside) x.1.here
 

@@ -1,5 +1,6 @@
 -- The comparison of a source's assembly with the bytes of a ROM.
 use Rattle.std.specs.Prelude.{◌≡◌, ◌≢◌, ◌-◌, ◌<◌, ◌||◌, ◌⊎◌, ℕ, List, length, nat_le, slice_get, if◌then◌else◌, Option, None, is_some, true, Bool, option_map, unwrap_or, Result, Ok, Err}
+use Rattle.asm_lex.specs.declared.shape.Isa.TheVariants.{Cdp1802}
 use Rattle.asm_core.specs.Sources.{cell_before, source_lines, NoFault, HasFirstFault, fault_1, fault_2}
 use Rattle.chip8_image.specs.declared.image.TheConstants.{IMAGE, TALL}
 use Rattle.chip8_source.specs.Texts.{usual_text, tall_text}
@@ -12,7 +13,7 @@ Bytes = ℕ → Option ℕ
 
 -- the byte that some line of a source gives an address
 abbrev pub source_bytes : List (List ℕ) → Bytes
-source_bytes source address = option_map (λ cell. cell.byte) (cell_before source (length source) address)
+source_bytes source address = option_map (λ cell. cell.byte) (cell_before Cdp1802 source (length source) address)
 
 -- the byte of a ROM at an address; its 2,048 bytes stand from 8000 to 87FF
 abbrev pub rom_bytes : List ℕ → Bytes
@@ -20,8 +21,8 @@ rom_bytes image address = if nat_le 0x8000 address then slice_get image (address
 
 -- neither pass finds a fault in a source
 pub record Assembles (source : List (List ℕ)) : Type 0 where
-  pub pass_1 : NoFault (fault_1 source) (length source)
-  pub pass_2 : NoFault (fault_2 source) (length source)
+  pub pass_1 : NoFault (fault_1 Cdp1802 source) (length source)
+  pub pass_2 : NoFault (fault_2 Cdp1802 source) (length source)
 
 -- an address without a byte counts as 00 in the source, and as FF in the ROM, since no memory reads as FF
 abbrev pub counted_assembled : Bytes → ℕ → ℕ
@@ -53,7 +54,7 @@ pub record IsLeastDifference (given : Bytes) (image : List ℕ) (address assembl
 -- The answer of a comparison: the first fault of the assembly; else the least address that differs; else fine. Want of memory comes
 -- in place of any of them.
 abbrev pub Compares : List (List ℕ) → List ℕ → Result Unit ImageFault → Type 0
-Compares source image (Err (BadRomSource line cause)) = HasFirstFault source line cause
+Compares source image (Err (BadRomSource line cause)) = HasFirstFault Cdp1802 source line cause
 Compares source image (Err (RomDiffers address assembled here)) = Assembles source × IsLeastDifference (source_bytes source) image address assembled here
 Compares source image (Ok _) = Assembles source × AgreesBelow 65536 (source_bytes source) image
 Compares source image (Err NoMemory) = Unit {0}

@@ -11,6 +11,7 @@ ghost use Rattle.chip8_source.specs.Faults.{IsDifferenceAt, IsFirstDifference};
 use crate::fault::ImageFault;
 use crate::text::{source, tall_source};
 use asm_core::{Assembly, assemble};
+use asm_lex::Isa;
 use chip8_image::{IMAGE, TALL};
 use std::alloc::Global;
 
@@ -76,7 +77,7 @@ pub fn compare(alloc: Global, text: &[u8], image: &[u8; 2048]) -> Result<(), Ima
     requires { length text.now ≤ most_bytes }
     ensures { Compares (source_lines text.now) image.now result }
 {
-    let made = assemble(alloc, text)?;
+    let made = assemble(alloc, Isa::Cdp1802, text)?;
     match first_difference(&made, image) {
         Some(fault) => Err(fault),
         None => Ok(()),

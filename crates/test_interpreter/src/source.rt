@@ -4,7 +4,7 @@ ghost use Rattle.std.specs.Prelude.{◌≤◌, IfOk, vec_len};
 
 use crate::watch::KeyTests;
 use asm_core::{AsmFault, Assembly, assemble, next_line};
-use asm_lex::{Word, line};
+use asm_lex::{Isa, Symbols, Word, line};
 use chip8_image::{AREAS, ENTRY, FETCH, HALT, Part, TALL_ENTRY, TALL_FETCH, TALL_HALT};
 use chip8_lang::Edition;
 use chip8_source::{source, tall_source};
@@ -95,8 +95,8 @@ pub struct Form {
 }
 
 /// The word of a line.
-fn word_of(bytes: &[u8]) -> Option<Word> {
-    match line(bytes) {
+fn word_of(alloc: Global, bytes: &[u8]) -> Option<Word> {
+    match line(Isa::Cdp1802, &Symbols::new(alloc), bytes) {
         Ok(line) => line.word,
         Err(_) => None,
     }
@@ -147,7 +147,7 @@ fn text_of(alloc: Global, edition: Edition) -> Result<Vec<u8>, AllocError>
 /// What is found in the source of an edition.
 pub fn form_of(alloc: Global, edition: Edition) -> Result<Form, SourceFault> {
     let source = Source::new(alloc, edition)?;
-    source.form()
+    source.form(alloc)
 }
 
 /// A source and its assembly.
@@ -162,7 +162,7 @@ impl Source {
     /// Those of an edition.
     fn new(alloc: Global, edition: Edition) -> Result<Source, SourceFault> {
         let text = text_of(alloc, edition)?;
-        match assemble(alloc, &text) {
+        match assemble(alloc, Isa::Cdp1802, &text) {
             Ok(made) => Ok(Source {
                 edition,
                 text,
@@ -184,9 +184,9 @@ impl Source {
         })
     }
 
-    fn form(&self) -> Result<Form, SourceFault> {
+    fn form(&self, alloc: Global) -> Result<Form, SourceFault> {
         let table = self.label("table")?;
-        let (instructions, stray) = self.lines(table);
+        let (instructions, stray) = self.lines(alloc, table);
         Ok(Form {
             instructions,
             stray,
@@ -199,7 +199,7 @@ impl Source {
     }
 
     // How many lines have an instruction, and how many give bytes by DB, DW or DS elsewhere.
-    fn lines(&self, table: u16) -> (u32, u32) {
+    fn lines(&self, alloc: Global, table: u16) -> (u32, u32) {
         let mut instructions = 0u32;
         let mut stray = 0u32;
         let mut rest = self.text.as_slice();
@@ -208,7 +208,7 @@ impl Source {
                 break;
             };
             rest = more;
-            match word_of(bytes) {
+            match word_of(alloc, bytes) {
                 Some(Word::Code(_)) => instructions = instructions.saturating_add(1),
                 Some(Word::Db | Word::Dw | Word::Ds) if self.is_stray(number, table) => {
                     stray = stray.saturating_add(1);

@@ -4,6 +4,7 @@ use Rattle.std.specs.FinMap.{get}
 use Rattle.machine.specs.Keys.{Event as KeyEvent}
 use Rattle.chip8_lang.specs.declared.view.Edition.{Edition}
 use Rattle.chip8_lang.specs.declared.view.Edition.TheVariants.{Usual}
+use Rattle.asm_lex.specs.declared.shape.Isa.{Isa}
 use Rattle.asm_core.specs.Made.{Made, IsAssembly}
 use Rattle.asm_core.specs.Sources.{NoFault, IsFirstFault, HasFirstFault, source_lines}
 use Rattle.asm_core.specs.declared.fault.AsmCause.{AsmCause}
@@ -171,15 +172,15 @@ module _ (d : Edition) (keys : Option (List ℕ)) (outcome : List KeyEvent → O
 no_fault : (f : ℕ → Option AsmCause) (n i : ℕ) (c : AsmCause) → NoFault f n → IsFirstFault f n i c → ⊥
 no_fault f n i c none first = let here = none i first.inside in let there = first.here in cc
 
-assembles_or_not : (source : List (List ℕ)) (made : Made) (line : ℕ) (cause : AsmCause) → IsAssembly source made → HasFirstFault source line cause → ⊥
-assembles_or_not source made line cause fine (i, at, inl first) = no_fault _ _ i cause fine.no_fault_1 first
-assembles_or_not source made line cause fine (i, at, inr first) = no_fault _ _ i cause fine.no_fault_2 first.1
+assembles_or_not : (isa : Isa) (source : List (List ℕ)) (made : Made) (line : ℕ) (cause : AsmCause) → IsAssembly isa source made → HasFirstFault isa source line cause → ⊥
+assembles_or_not isa source made line cause fine (i, at, inl first) = no_fault _ _ i cause fine.no_fault_1 first
+assembles_or_not isa source made line cause fine (i, at, inr first) = no_fault _ _ i cause fine.no_fault_2 first.1
 
 module _ (source : List ℕ) (IsText : Made → List ℕ → Type 0) where
   sources_agree : (o p : Outcome) → SourceComes source IsText o → SourceComes source IsText p → Agree o p
   sources_agree _ _ (FaultySource l c a) (FaultySource m d b) = refl
-  sources_agree _ _ (FaultySource l c a) (Assembles made text b is) = assembles_or_not (source_lines source) made l c b a
-  sources_agree _ _ (Assembles made text a is) (FaultySource m d b) = assembles_or_not (source_lines source) made m d a b
+  sources_agree _ _ (FaultySource l c a) (Assembles made text b is) = assembles_or_not _ (source_lines source) made l c b a
+  sources_agree _ _ (Assembles made text a is) (FaultySource m d b) = assembles_or_not _ (source_lines source) made m d a b
   sources_agree _ _ (Assembles made text a is) (Assembles made' text' b is') = refl
 
 -- one outcome alone
@@ -260,12 +261,12 @@ module _ (memory : Memory) (bytes : List ℕ) (keys : Option (List ℕ)) where
 
 cycles_agree : (source text : List ℕ) (o p : Outcome) → CyclesComes source text o → CyclesComes source text p → Agree o p
 cycles_agree source text _ _ (NotAssembled l c a) (NotAssembled m d b) = refl
-cycles_agree source text _ _ (NotAssembled l c a) (FaultyCertificate m d made b) = absurd (assembles_or_not (source_lines source) made.made l c made.is a)
-cycles_agree source text _ _ (NotAssembled l c a) (Leaves bound made b) = absurd (assembles_or_not (source_lines source) made.made l c made.is a)
-cycles_agree source text _ _ (FaultyCertificate l c made a) (NotAssembled m d b) = absurd (assembles_or_not (source_lines source) made.made m d made.is b)
+cycles_agree source text _ _ (NotAssembled l c a) (FaultyCertificate m d made b) = absurd (assembles_or_not _ (source_lines source) made.made l c made.is a)
+cycles_agree source text _ _ (NotAssembled l c a) (Leaves bound made b) = absurd (assembles_or_not _ (source_lines source) made.made l c made.is a)
+cycles_agree source text _ _ (FaultyCertificate l c made a) (NotAssembled m d b) = absurd (assembles_or_not _ (source_lines source) made.made m d made.is b)
 cycles_agree source text _ _ (FaultyCertificate l c made a) (FaultyCertificate m d made' b) = refl
 cycles_agree source text _ _ (FaultyCertificate l c made a) (Leaves bound made' b) = cc
-cycles_agree source text _ _ (Leaves bound made a) (NotAssembled m d b) = absurd (assembles_or_not (source_lines source) made.made m d made.is b)
+cycles_agree source text _ _ (Leaves bound made a) (NotAssembled m d b) = absurd (assembles_or_not _ (source_lines source) made.made m d made.is b)
 cycles_agree source text _ _ (Leaves bound made a) (FaultyCertificate m d made' b) = cc
 cycles_agree source text _ _ (Leaves bound made a) (Leaves bound' made' b) = refl
 

@@ -10,9 +10,10 @@ use Rattle.machine.specs.Opcodes.{kind_of}
 use Rattle.vip_isa.specs.Rows.{size_of}
 use Rattle.vip_isa.specs.Texts.{instruction_text, operand_at}
 use Rattle.asm_lex.specs.Words.{size_at}
-use Rattle.asm_listing.specs.Disassembly.{data_text, opcode_in, is_data, taken, first_line, ended_line, starts}
+use Rattle.asm_lex.specs.declared.shape.Isa.TheVariants.{Cdp1802}
+use Rattle.asm_listing.specs.Disassembly.{data_text, opcode_in, size_in, is_data, taken, first_line, ended_line, starts}
 use Rattle.asm_listing.specs.Dump.{newline}
-use Rattle.asm_listing.proofs.Assembled.{taken_some, taken_within}
+use Rattle.asm_listing.proofs.FirstLines.{taken_some, taken_within}
 use Rattle.asm_listing.proofs.Ranges.{length-range, drop-range}
 use Rattle.asm_listing.proofs.Starts.{starts-first}
 use Rattle.vip_outside.specs.Sink.{SinkMeaning, PutFails}
@@ -43,31 +44,31 @@ module _ (x y z : ℕ) (rest : List ℕ) where
   not_short : (n : ℕ) → 3 ≤ n → nat_lt n (size_at x) ≡ false
   not_short n long = let size = few x in le-ltb n (size_at x) (omega (arith, size, long))
 
-  data_same : is_data all ≡ is_data three
-  unfolding is_data
+  data_same : is_data Cdp1802 all ≡ is_data Cdp1802 three
+  unfolding is_data size_in
   data_same = ap (λ b. (x == 0x68) || b) (not_short (length all) (omega arith) ∙ sym (not_short 3 (omega arith)))
 
   instruction_same : (at : ℕ) → instruction_text at all ≡ instruction_text at three
   unfolding instruction_text operand_at
   instruction_same at = refl
 
-  line_same : (at : ℕ) → ended_line at all ≡ ended_line at three
+  line_same : (at : ℕ) → ended_line Cdp1802 at all ≡ ended_line Cdp1802 at three
   unfolding first_line
   line_same at =
       ap (λ b. (if b then data_text x else codes " " ++ instruction_text at all) ++ newline) data_same
-      ∙ ap (λ text. (if is_data three then data_text x else codes " " ++ text) ++ newline) (instruction_same at)
+      ∙ ap (λ text. (if is_data Cdp1802 three then data_text x else codes " " ++ text) ++ newline) (instruction_same at)
 
-  taken_same : taken all ≡ taken three
-  unfolding taken
+  taken_same : taken Cdp1802 all ≡ taken Cdp1802 three
+  unfolding taken size_in
   taken_same = ap (λ b. if b then 1 else size_at x) data_same
 
-pub line-three : (bytes : List ℕ) (at : ℕ) → ended_line at (take 3 bytes) ≡ ended_line at bytes
+pub line-three : (bytes : List ℕ) (at : ℕ) → ended_line Cdp1802 at (take 3 bytes) ≡ ended_line Cdp1802 at bytes
 line-three [] at = refl
 line-three (x ∷ []) at = refl
 line-three (x ∷ y ∷ []) at = refl
 line-three (x ∷ y ∷ z ∷ rest) at = sym (line_same x y z rest at)
 
-pub taken-three : (bytes : List ℕ) → taken (take 3 bytes) ≡ taken bytes
+pub taken-three : (bytes : List ℕ) → taken Cdp1802 (take 3 bytes) ≡ taken Cdp1802 bytes
 taken-three [] = refl
 taken-three (x ∷ []) = refl
 taken-three (x ∷ y ∷ []) = refl
@@ -93,9 +94,9 @@ first-three byte at (suc (suc (suc n))) p q r some first second third =
 
 -- ---- a line in a layout
 
-pub taken-few : (bytes : List ℕ) → taken bytes ≤ 3
-unfolding taken
-taken-few bytes = by_test (is_data bytes)
+pub taken-few : (bytes : List ℕ) → taken Cdp1802 bytes ≤ 3
+unfolding taken size_in
+taken-few bytes = by_test (is_data Cdp1802 bytes)
   where
     by_test : (alone : Bool) → (if alone then 1 else size_at (opcode_in bytes)) ≤ 3
     by_test true = omega arith
@@ -116,8 +117,8 @@ module _ (byte : ℕ → ℕ) (at have p q r : ℕ) (low : at < 0x10000) (size :
       (λ more. let here : (at + 1) % 0x10000 ≡ at + 1 = omega (arith, more) in second ∙ ap byte here)
       (λ more. let here : (at + 2) % 0x10000 ≡ at + 2 = omega (arith, more) in third ∙ ap byte here)
 
-  pub taken-read : taken (take have read) ≡ taken bytes
-  taken-read = ap taken read_three ∙ taken-three bytes
+  pub taken-read : taken Cdp1802 (take have read) ≡ taken Cdp1802 bytes
+  taken-read = ap (taken Cdp1802) read_three ∙ taken-three bytes
 
   length_read : length (take have read) ≡ have
   length_read = by_case have (omega (arith, size)) (omega (arith, size, low))
@@ -129,32 +130,32 @@ module _ (byte : ℕ → ℕ) (at have p q r : ℕ) (low : at < 0x10000) (size :
       by_case (suc (suc (suc zero))) most some = refl
       by_case (suc (suc (suc (suc n)))) most some = absurd (omega (arith, most))
 
-  pub shown-few : taken (take have read) ≤ have
-  shown-few = omega (arith, length_read, taken_within (take have read) (omega (arith, length_read, size, low)))
+  pub shown-few : taken Cdp1802 (take have read) ≤ have
+  shown-few = omega (arith, length_read, taken_within Cdp1802 (take have read) (omega (arith, length_read, size, low)))
 
-  front_read : take (taken (take have read)) read ≡ take (taken bytes) bytes
+  front_read : take (taken Cdp1802 (take have read)) read ≡ take (taken Cdp1802 bytes) bytes
   front_read =
-      sym (take-take (taken (take have read)) have read shown-few)
-      ∙ ap (take (taken (take have read))) read_three
+      sym (take-take (taken Cdp1802 (take have read)) have read shown-few)
+      ∙ ap (take (taken Cdp1802 (take have read))) read_three
       ∙ ap (λ n. take n (take 3 bytes)) taken-read
-      ∙ take-take (taken bytes) 3 bytes (taken-few bytes)
+      ∙ take-take (taken Cdp1802 bytes) 3 bytes (taken-few bytes)
 
-  pub line-read : (layout : Layout) → front_text layout at (take (taken (take have read)) read) ++ ended_line at (take have read) ≡ line_in layout at bytes
+  pub line-read : (layout : Layout) → front_text layout at (take (taken Cdp1802 (take have read)) read) ++ ended_line Cdp1802 at (take have read) ≡ line_in layout at bytes
   unfolding line_in
   line-read layout =
-      ap (λ front. front_text layout at front ++ ended_line at (take have read)) front_read
-      ∙ ap (λ line. front_text layout at (take (taken bytes) bytes) ++ line) (ap (ended_line at) read_three ∙ line-three bytes at)
+      ap (λ front. front_text layout at front ++ ended_line Cdp1802 at (take have read)) front_read
+      ∙ ap (λ line. front_text layout at (take (taken Cdp1802 bytes) bytes) ++ line) (ap (ended_line Cdp1802 at) read_three ∙ line-three bytes at)
 
 -- the parts of a line in an empty buffer
 pub line-joined : (layout : Layout) (at shown : ℕ) (three part piece whole front empty line : List ℕ) → empty ≡ []
     → front ≡ empty ++ front_text layout at (take shown three)
-    → whole ≡ front ++ line → piece ≡ whole → line ≡ ended_line at part → shown ≡ taken part
-    → piece ≡ front_text layout at (take (taken part) three) ++ ended_line at part
+    → whole ≡ front ++ line → piece ≡ whole → line ≡ ended_line Cdp1802 at part → shown ≡ taken Cdp1802 part
+    → piece ≡ front_text layout at (take (taken Cdp1802 part) three) ++ ended_line Cdp1802 at part
 line-joined layout at shown three part piece whole front empty line none before all is rest size =
     is ∙ all
     ∙ ap (λ xs. xs ++ line) (before ∙ ap (λ xs. xs ++ front_text layout at (take shown three)) none)
     ∙ ap (λ xs. front_text layout at (take shown three) ++ xs) rest
-    ∙ ap (λ n. front_text layout at (take n three) ++ ended_line at part) size
+    ∙ ap (λ n. front_text layout at (take n three) ++ ended_line Cdp1802 at part) size
 
 -- at whatever error is passed on
 pub line-fails : (layout : Layout) (byte : ℕ → ℕ) (at : ℕ) (old new : SinkMeaning) (r : Result ℕ Failed) → IsErr r
@@ -166,7 +167,7 @@ line-fails layout byte at old new (Err e) bad fault = fault
 
 module _ (layout : Layout) (byte : ℕ → ℕ) where
   abbrev pub lines_left : ℕ → ℕ → List (List ℕ)
-  lines_left at count = lines_of layout (take count (starts 0 at (bytes_from byte at (0x10000 - at))))
+  lines_left at count = lines_of layout (take count (starts Cdp1802 0 at (bytes_from byte at (0x10000 - at))))
 
   length_bytes : (at n : ℕ) → length (bytes_from byte at n) ≡ n
   length_bytes at n = length-map (range_with_len at n) byte ∙ length-range n at
@@ -175,12 +176,12 @@ module _ (layout : Layout) (byte : ℕ → ℕ) where
   drop_bytes k at n = drop-map byte k (range_with_len at n) ∙ ap (map byte) (drop-range k n at)
 
   abbrev shown_at : ℕ → ℕ
-  shown_at at = taken (bytes_from byte at (0x10000 - at))
+  shown_at at = taken Cdp1802 (bytes_from byte at (0x10000 - at))
 
   shown_most : (at : ℕ) → at < 0x10000 → shown_at at ≤ 0x10000 - at
   shown_most at low =
       let size : length (bytes_from byte at (0x10000 - at)) ≡ 0x10000 - at = length_bytes at (0x10000 - at) in
-      omega (arith, size, taken_within (bytes_from byte at (0x10000 - at)) (omega (arith, size, low)))
+      omega (arith, size, taken_within Cdp1802 (bytes_from byte at (0x10000 - at)) (omega (arith, size, low)))
 
   left_next : (at count : ℕ) → at < 0x10000
       → lines_left at (suc count) ≡ line_in layout at (bytes_from byte at (0x10000 - at)) ∷ lines_left (at + shown_at at) count
@@ -188,14 +189,14 @@ module _ (layout : Layout) (byte : ℕ → ℕ) where
       let bytes = bytes_from byte at (0x10000 - at) in
       let size : length bytes ≡ 0x10000 - at = length_bytes at (0x10000 - at) in
       let rest : 0x10000 - at - shown_at at ≡ 0x10000 - (at + shown_at at) = omega arith in
-      ap (λ all. lines_of layout (take (suc count) all)) (starts-first bytes at (taken_some bytes) (omega (arith, size, shown_most at low)))
-      ∙ ap (λ more. line_in layout at bytes ∷ lines_of layout (take count (starts 0 (at + shown_at at) more)))
+      ap (λ all. lines_of layout (take (suc count) all)) (starts-first Cdp1802 bytes at (taken_some Cdp1802 bytes) (omega (arith, size, shown_most at low)))
+      ∙ ap (λ more. line_in layout at bytes ∷ lines_of layout (take count (starts Cdp1802 0 (at + shown_at at) more)))
       (drop_bytes (shown_at at) at (0x10000 - at) ∙ ap (bytes_from byte (at + shown_at at)) rest)
 
   left_none : (at count : ℕ) → 0x10000 ≤ at → lines_left at count ≡ []
   left_none at count past =
       let none : 0x10000 - at ≡ 0 = omega (arith, past) in
-      ap (λ n. lines_of layout (take count (starts 0 at (bytes_from byte at n)))) none ∙ nothing count
+      ap (λ n. lines_of layout (take count (starts Cdp1802 0 at (bytes_from byte at n)))) none ∙ nothing count
     where
       nothing : (count : ℕ) → lines_of layout (take count []) ≡ []
       nothing zero = refl

@@ -7,6 +7,7 @@ use Rattle.vip_byte.specs.Text.{newline}
 use Rattle.vip_memory.specs.Contents.{Contents}
 use Rattle.vip_outside.specs.Sink.{SinkMeaning, PutsWhole, PutFails}
 use Rattle.vip_outside.specs.declared.sink.Failed.{Failed}
+use Rattle.asm_lex.specs.declared.shape.Isa.TheVariants.{Cdp1802}
 use Rattle.asm_listing.specs.Disassembly.{taken}
 use Rattle.vip_words.specs.declared.debug_commands.Running.{Running}
 use Rattle.vip_words.specs.declared.debug_commands.Running.TheVariants.{Watch}
@@ -68,5 +69,5 @@ clear_reads m address = read m.rom false m.ram address
 abbrev pub PutsLine : Layout → (ℕ → ℕ) → ℕ → SinkMeaning → SinkMeaning → Result ℕ Failed → Type 0
 PutsLine layout byte address old new (Ok shown) =
     PutsWhole (line_in layout address (bytes_from byte address (0x10000 - address))) old new
-    × (shown ≡ taken (bytes_from byte address (0x10000 - address)))
+    × (shown ≡ taken Cdp1802 (bytes_from byte address (0x10000 - address)))
 PutsLine layout byte address old new (Err e) = PutFails (line_in layout address (bytes_from byte address (0x10000 - address))) old new

@@ -5,6 +5,7 @@ use Rattle.machine.specs.Board.{Machine}
 use Rattle.machine.specs.Instruction.{Regs, at}
 use Rattle.vip_byte.specs.HexText.{bytes_text, hex2, hex4, words_text}
 use Rattle.vip_byte.specs.Text.{bit_text, newline}
+use Rattle.asm_lex.specs.declared.shape.Isa.TheVariants.{Cdp1802}
 use Rattle.asm_listing.specs.Disassembly.{starts, taken, ended_line}
 use Rattle.asm_listing.specs.Listing.{first_digits}
 use Rattle.vip_program.specs.Lines.{selected_text}
@@ -55,7 +56,7 @@ front_text Source address bytes = []
 front_text Listing address bytes = hex4 address ++ codes " " ++ first_digits bytes
 
 unfoldable pub line_in : Layout → ℕ → List ℕ → List ℕ
-line_in layout address bytes = front_text layout address (take (taken bytes) bytes) ++ ended_line address bytes
+line_in layout address bytes = front_text layout address (take (taken Cdp1802 bytes) bytes) ++ ended_line Cdp1802 address bytes
 
 abbrev pub lines_of : Layout → List (ℕ × List ℕ) → List (List ℕ)
 lines_of layout all = map (λ start. line_in layout start.0 start.1) all
@@ -75,7 +76,7 @@ module _ (byte : ℕ → ℕ) where
 
   -- so many lines of the disassembly of all bytes from an address on
   unfoldable pub instruction_lines : Layout → ℕ → ℕ → List (List ℕ)
-  instruction_lines layout address count = lines_of layout (take count (starts 0 address (bytes_from address (0x10000 - address))))
+  instruction_lines layout address count = lines_of layout (take count (starts Cdp1802 0 address (bytes_from address (0x10000 - address))))
 
 -- one of the bytes of a stretch isn't what it was
 abbrev pub has_changed : ℕ → ℕ → (ℕ → ℕ) → (ℕ → ℕ) → Bool

@@ -5,6 +5,7 @@ use Rattle.machine.specs.Ranges.{FitsRom}
 use Rattle.chip8_lang.specs.declared.view.Edition.{Edition}
 use Rattle.vip_byte.specs.HexText.{hex4}
 use Rattle.vip_byte.specs.Text.{newline}
+use Rattle.asm_lex.specs.declared.shape.Isa.TheVariants.{Cdp1802}
 use Rattle.asm_core.specs.Made.{Made, IsAssembly}
 use Rattle.asm_core.specs.Sources.{source_lines, cell_before, HasFirstFault}
 use Rattle.asm_core.specs.declared.fault.AsmCause.{AsmCause}
@@ -35,7 +36,7 @@ rom_with bytes = map (λ offset. unwrap_or (bytes (0x8000 + offset)) 0x00) (rang
 
 -- the byte that some line of a source gives an address, and the ROM of a source
 abbrev pub source_byte : List ℕ → Bytes
-source_byte source address = option_map (λ cell. cell.byte) (cell_before (source_lines source) (length (source_lines source)) address)
+source_byte source address = option_map (λ cell. cell.byte) (cell_before Cdp1802 (source_lines source) (length (source_lines source)) address)
 
 abbrev pub rom_in : List ℕ → List ℕ
 rom_in source = rom_with (source_byte source)
@@ -43,7 +44,7 @@ rom_in source = rom_with (source_byte source)
 -- a source is assembled, and its ROM is one of bytes
 pub record Assembled (source : List ℕ) : Type 0 where
   pub made : Made
-  pub is : IsAssembly (source_lines source) made
+  pub is : IsAssembly Cdp1802 (source_lines source) made
   pub fits : FitsRom (rom_in source)
 
 unfoldable pub within_line : Within → List ℕ
@@ -51,7 +52,7 @@ within_line within = codes "yes " ++ hex4 within.entry ++ codes " within " ++ de
 
 -- The first fault of the source, the first fault of the certificate for its ROM, or the entry and the limit.
 pub data CyclesComes (source text : List ℕ) : Outcome → Type 0 where
-  NotAssembled : (line : ℕ) (cause : AsmCause) → HasFirstFault (source_lines source) line cause
+  NotAssembled : (line : ℕ) (cause : AsmCause) → HasFirstFault Cdp1802 (source_lines source) line cause
       → CyclesComes source text (Refused BadSource (bad_source line cause))
   FaultyCertificate : (line : ℕ) (cause : CertCause) → Assembled source → checked (rom_in source) text ≡ Err (cert.Fault line cause)
       → CyclesComes source text (Refused BadCertificate (bad_certificate line cause))

@@ -1,6 +1,7 @@
 -- What the reading of a source, a script and commands answers.
 use Rattle.std.specs.Prelude.{◌≡◌, ℕ, List, Option, option_map, Result, Ok, Err, Vec}
 use Rattle.machine.specs.Keys.{Event as KeyEvent}
+use Rattle.asm_lex.specs.declared.shape.Isa.TheVariants.{Cdp1802}
 use Rattle.asm_core.specs.Made.{Made, IsAssembly}
 use Rattle.asm_core.specs.Sources.{source_lines, HasFirstFault}
 use Rattle.vip_words.specs.DebugGrammar.{commands_of}
@@ -32,7 +33,7 @@ DebugCommandsAnswer speaks limit text (Err _) = ⊥
 
 -- a source is assembled
 abbrev pub SourceAnswers : List ℕ → Result Made Refusal → Type 0
-SourceAnswers source (Ok made) = IsAssembly (source_lines source) made
-SourceAnswers source (Err (Source line cause)) = HasFirstFault (source_lines source) line cause
+SourceAnswers source (Ok made) = IsAssembly Cdp1802 (source_lines source) made
+SourceAnswers source (Err (Source line cause)) = HasFirstFault Cdp1802 (source_lines source) line cause
 SourceAnswers source (Err NoMemory) = Unit {0}
 SourceAnswers source (Err _) = ⊥

@@ -4,6 +4,7 @@ use Rattle.machine.specs.Keys.{Event as KeyEvent}
 use Rattle.chip8_lang.specs.declared.view.Edition.{Edition}
 use Rattle.chip8_lang.specs.declared.view.Edition.TheVariants.{Usual, Tall}
 use Rattle.chip8_source.specs.Texts.{usual_text, tall_text}
+use Rattle.asm_lex.specs.declared.shape.Isa.TheVariants.{Cdp1802}
 use Rattle.asm_core.specs.Made.{Made, IsAssembly}
 use Rattle.asm_core.specs.Sources.{source_lines, HasFirstFault}
 use Rattle.asm_core.specs.declared.fault.AsmCause.{AsmCause}
@@ -37,25 +38,25 @@ Writes text o = o ≡ Shown (text ∷ []) Done []
 -- ---- a source
 
 pub data SourceComes (source : List ℕ) (IsText : Made → List ℕ → Type 0) : Outcome → Type 0 where
-  FaultySource : (line : ℕ) (cause : AsmCause) → HasFirstFault (source_lines source) line cause
+  FaultySource : (line : ℕ) (cause : AsmCause) → HasFirstFault Cdp1802 (source_lines source) line cause
       → SourceComes source IsText (Refused BadSource (bad_source line cause))
-  Assembles : (made : Made) (text : List ℕ) → IsAssembly (source_lines source) made → IsText made text → SourceComes source IsText (Shown (text ∷ []) Done [])
+  Assembles : (made : Made) (text : List ℕ) → IsAssembly Cdp1802 (source_lines source) made → IsText made text → SourceComes source IsText (Shown (text ∷ []) Done [])
 
 -- its bytes themselves, or their dump
 abbrev pub IsBytes : Bool → Made → List ℕ → Type 0
-IsBytes true made text = IsRaw made text
+IsBytes true made text = IsRaw Cdp1802 made text
 IsBytes false made text = text ≡ dump_text made
 
 abbrev pub AsmComes : Bool → List ℕ → Outcome → Type 0
 AsmComes raw source = SourceComes source (IsBytes raw)
 
 abbrev pub ListComes : List ℕ → Outcome → Type 0
-ListComes source = SourceComes source (λ made text. IsListing (source_lines source) text)
+ListComes source = SourceComes source (λ made text. IsListing Cdp1802 (source_lines source) text)
 
 -- ---- bytes, whose first one lies at this address
 
 abbrev pub DisComes : ℕ → List ℕ → Outcome → Type 0
-DisComes address bytes = Writes (disassembly address bytes)
+DisComes address bytes = Writes (disassembly Cdp1802 address bytes)
 
 -- ---- nothing
 

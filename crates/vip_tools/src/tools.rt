@@ -8,6 +8,7 @@ ghost use Rattle.vip_tools.specs.Work.{TextAnswers};
 
 use crate::Refusal;
 use asm_core::{AsmFault, Assembly, assemble};
+use asm_lex::Isa;
 use asm_listing::{disassemble, dump, listing, raw};
 use chip8_lang::Edition;
 use std::alloc::{AllocError, Global};
@@ -19,7 +20,7 @@ pub(crate) fn make_assembly<'a>(alloc: Global, source: &[u8]) -> Result<Assembly
     requires { length source.now ≤ most_text }
     ensures { SourceAnswers source.now result }
 {
-    match assemble(alloc, source) {
+    match assemble(alloc, Isa::Cdp1802, source) {
         Ok(made) => Ok(made),
         Err(AsmFault::Fault { line, cause }) => Err(Refusal::Source { line, cause }),
         Err(AsmFault::NoMemory) => Err(Refusal::NoMemory),
@@ -31,7 +32,7 @@ fn bytes(alloc: Global, made: &Assembly, themselves: bool) -> Result<Vec<u8>, Al
     ensures { IfOk result (λ text. IsBytes themselves made.now text.items) }
 {
     if themselves {
-        raw(alloc, made)
+        raw(alloc, Isa::Cdp1802, made)
     } else {
         dump(alloc, made)
     }
@@ -53,7 +54,7 @@ pub fn list<'a>(alloc: Global, source: &[u8]) -> Result<Vec<u8>, Refusal<'a>>
     ensures { TextAnswers (ListComes source.now) result }
 {
     let made = make_assembly(alloc, source)?;
-    let text = listing(alloc, &made, source)?;
+    let text = listing(alloc, Isa::Cdp1802, &made, source)?;
     Ok(text)
 }
 
@@ -62,7 +63,7 @@ pub fn dis<'a>(alloc: Global, bytes: &[u8], address: u16) -> Result<Vec<u8>, Ref
     requires { length bytes.now ≤ addresses - address }
     ensures { TextAnswers (DisComes address bytes.now) result }
 {
-    let text = disassemble(alloc, bytes, address)?;
+    let text = disassemble(alloc, Isa::Cdp1802, bytes, address)?;
     Ok(text)
 }
 

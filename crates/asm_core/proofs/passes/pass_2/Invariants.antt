@@ -9,7 +9,7 @@ invariant-loop-line l = record {
   rest : source_lines l.rest ≡ drop l.number (source_lines l.fn.text);
   inside : l.number ≤ length (source_lines l.fn.text);
   count : length l.cells.items ≡ 65536;
-  found : HasBytes (source_lines l.fn.text) l.number l.cells.items;
+  found : HasBytes l.fn.isa (source_lines l.fn.text) l.number l.cells.items;
   few : l.number + length l.rest ≤ length l.fn.text;
 }
 

@@ -5,7 +5,8 @@ use Rattle.std.specs.Prelude.{map, All}
 use Rattle.asm_lex.specs.Expressions.{is_expression}
 use Rattle.asm_lex.specs.Spans.{text_at}
 use Rattle.asm_lex.specs.declared.shape.Span.{Span}
-use Rattle.asm_core.specs.Names.{value_in, operand_value}
+use Rattle.asm_lex.specs.Names.{value_in}
+use Rattle.asm_core.specs.Names.{operand_value}
 use Rattle.asm_core.specs.Encoding.{values_of}
 use Rattle.asm_core.proofs.Collected.{collect_from, collect_none, collect_range, collect_value, drop_next, rest_all}
 use Rattle.asm_core.proofs.values.values_of.Goals as goal
@@ -14,7 +15,7 @@ use Rattle.asm_core.proofs.values.values_of.Goals.{in-Ok, in-Err-Range}
 pub loop-operand-init : goal.loop-operand-init
 unfolding values_of
 loop-operand-init c =
-    let results = map (operand_value (value_in c.args.names.now) c.args.here c.args.most) (map (text_at c.args.line.now) c.args.operands.now) in
+    let results = map (operand_value c.args.isa (value_in c.args.names.now) c.args.here c.args.most) (map (text_at c.args.line.now) c.args.operands.now) in
     let P : List ℕ → Type 0 = λ items. All (λ value. value ≤ c.args.most) items in
     record {
       completes = ap (λ items. collect_from true items results) c.new-values.ensures ∙ collect_none results;
@@ -31,15 +32,15 @@ loop-operand-preserved c =
     let so_far = c.loop-operand.invariant in
     let values = c.loop-operand.values.items in
     let text = text_at c.args.line.now in
-    let value = operand_value (value_in c.args.names.now) c.args.here c.args.most in
+    let value = operand_value c.args.isa (value_in c.args.names.now) c.args.here c.args.most in
     let operand : Span = get_or c.args.operands.now c.loop-operand.operand-index _ in
     let rest = map text (drop (c.loop-operand.operand-index + 1) c.args.operands.now) in
     let next : map text (drop c.loop-operand.operand-index c.args.operands.now) ≡ text operand ∷ rest =
     drop_next text c.args.operands.now c.loop-operand.operand-index _ c.loop-operand-test.true in
-    let expressions : list_all is_expression rest ≡ true =
-    rest_all is_expression (text operand) rest (ap (list_all is_expression) (sym next) ∙ so_far.expressions) in
+    let expressions : list_all (is_expression c.args.isa) rest ≡ true =
+    rest_all (is_expression c.args.isa) (text operand) rest (ap (list_all (is_expression c.args.isa)) (sym next) ∙ so_far.expressions) in
     let completes : collect_from c.loop-operand.in_range values (c.operand_value.result ∷ map value rest)
-    ≡ values_of (value_in c.args.names.now) c.args.here c.args.most (map text c.args.operands.now) =
+    ≡ values_of c.args.isa (value_in c.args.names.now) c.args.here c.args.most (map text c.args.operands.now) =
     ap (λ r. collect_from c.loop-operand.in_range values (r ∷ map value rest)) (c.operand_value.ensures.value ∙ ap value c.text_at.ensures)
     ∙ (ap (λ texts. collect_from c.loop-operand.in_range values (map value texts)) (sym next) ∙ so_far.completes) in
     elim c.match-operand_value.branch [

@@ -3,7 +3,8 @@ use Rattle.std.specs.Prelude.{map, All}
 use Rattle.std.specs.List.{list_all}
 use Rattle.asm_lex.specs.Expressions.{is_expression}
 use Rattle.asm_lex.specs.Spans.{text_at}
-use Rattle.asm_core.specs.Names.{value_in, operand_value}
+use Rattle.asm_lex.specs.Names.{value_in}
+use Rattle.asm_core.specs.Names.{operand_value}
 use Rattle.asm_core.specs.Encoding.{values_of}
 use Rattle.asm_core.proofs.Collected.{collect_from}
 use Rattle.asm_core.proofs.values.values_of.Given as goal
@@ -12,9 +13,9 @@ use Rattle.asm_core.proofs.values.values_of.Given as goal
 abbrev pub invariant-loop-operand : goal.invariant-loop-operand
 invariant-loop-operand l = record {
   completes : collect_from l.in_range l.values.items
-      (map (operand_value (value_in l.names) l.here l.most) (map (text_at l.line) (drop l.operand-index l.operands)))
-      ≡ values_of (value_in l.names) l.here l.most (map (text_at l.line) l.operands);
+      (map (operand_value l.isa (value_in l.names) l.here l.most) (map (text_at l.line) (drop l.operand-index l.operands)))
+      ≡ values_of l.isa (value_in l.names) l.here l.most (map (text_at l.line) l.operands);
   count : length l.values.items ≤ l.operand-index;
   bounds : All (λ value. value ≤ l.most) l.values.items;
-  expressions : list_all is_expression (map (text_at l.line) (drop l.operand-index l.operands)) ≡ true;
+  expressions : list_all (is_expression l.isa) (map (text_at l.line) (drop l.operand-index l.operands)) ≡ true;
 }

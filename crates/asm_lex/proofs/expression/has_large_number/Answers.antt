@@ -5,4 +5,4 @@ use Rattle.asm_lex.proofs.expression.has_large_number.Goals as goal
 
 pub loop-rest-init : goal.loop-rest-init
 unfolding has_large_number
-loop-rest-init c = ap (λ sum. list_any is_large (terms_of sum)) (sym c.without_prefix.ensures.value)
+loop-rest-init c = ap (λ sum. list_any (is_large c.args.isa) (terms_of sum)) (sym c.without_prefix.ensures.value)

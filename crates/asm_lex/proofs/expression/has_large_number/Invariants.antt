@@ -7,7 +7,7 @@ use Rattle.asm_lex.proofs.expression.has_large_number.Given as goal
 
 -- a large number is written in the text exactly where one is left
 abbrev pub invariant-loop-rest : goal.invariant-loop-rest
-invariant-loop-rest l = has_large_number l.text ≡ list_any is_large (parts_of is_sign (option_map (λ rest. rest.now) l.rest))
+invariant-loop-rest l = has_large_number l.isa l.text ≡ list_any (is_large l.isa) (parts_of is_sign (option_map (λ rest. rest.now) l.rest))
 
 abbrev pub decreases-loop-rest : goal.decreases-loop-rest
 decreases-loop-rest l = option_map_or (λ rest. length rest.now + 1) l.rest 0

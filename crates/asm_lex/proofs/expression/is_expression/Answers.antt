@@ -5,4 +5,4 @@ use Rattle.asm_lex.proofs.expression.is_expression.Goals as goal
 
 pub loop-rest-init : goal.loop-rest-init
 unfolding is_expression
-loop-rest-init c = ap (λ sum. list_all is_term (terms_of sum)) (sym c.without_prefix.ensures.value)
+loop-rest-init c = ap (λ sum. list_all (is_term c.args.isa) (terms_of sum)) (sym c.without_prefix.ensures.value)

@@ -7,7 +7,7 @@ use Rattle.asm_lex.proofs.expression.is_expression.Given as goal
 
 -- the text is an expression exactly where each term that is left is one
 abbrev pub invariant-loop-rest : goal.invariant-loop-rest
-invariant-loop-rest l = is_expression l.text ≡ list_all is_term (parts_of is_sign (option_map (λ rest. rest.now) l.rest))
+invariant-loop-rest l = is_expression l.isa l.text ≡ list_all (is_term l.isa) (parts_of is_sign (option_map (λ rest. rest.now) l.rest))
 
 abbrev pub decreases-loop-rest : goal.decreases-loop-rest
 decreases-loop-rest l = option_map_or (λ rest. length rest.now + 1) l.rest 0

@@ -1,5 +1,6 @@
 use Rattle.std.proofs.Common.{arith, sym, ap, ◌∙◌, ◌≡◌, false, below_more}
-use Rattle.asm_lex.specs.Words.{spells, mnemonic_at}
+use Rattle.asm_lex.specs.Words.{mnemonic_at}
+use Rattle.asm_lex.specs.Bytes.{spells}
 use Rattle.asm_lex.proofs.Opcodes.{named_first, named_none}
 use Rattle.asm_lex.proofs.words.opcode.Goals as goal
 

@@ -1,5 +1,6 @@
 use Rattle.std.proofs.Common.{◌≡◌, ◌<◌, ℕ, false}
-use Rattle.asm_lex.specs.Words.{spells, mnemonic_at}
+use Rattle.asm_lex.specs.Words.{mnemonic_at}
+use Rattle.asm_lex.specs.Bytes.{spells}
 use Rattle.asm_lex.proofs.words.opcode.Given as goal
 
 -- the word is the mnemonic of no opcode so far

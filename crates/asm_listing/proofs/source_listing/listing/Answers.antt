@@ -1,4 +1,4 @@
-use Rattle.std.proofs.Common.{◌≤◌, ◌+◌, ◌%◌, ◌++◌, refl, sym, ap, subst, ◌∙◌, arith}
+use Rattle.std.proofs.Common.{◌≤◌, ◌+◌, ◌++◌, refl, sym, ap, subst, ◌∙◌, arith}
 use Rattle.asm_core.specs.Sources.{source_lines}
 use Rattle.asm_core.specs.declared.assembly.LinePlace.{LinePlace}
 use Rattle.asm_core.proofs.PassOne.{line_here, no_line}
@@ -11,7 +11,7 @@ pub loop-line-init : goal.loop-line-init
 loop-line-init c = record {
   rest = refl;
   inside = omega arith;
-  text = c.new-list.ensures.items ∙ sym (lines-start (source_lines c.args.text.now));
+  text = c.new-list.ensures.items ∙ sym (lines-start c.args.isa (source_lines c.args.text.now));
   few = omega arith;
 }
 
@@ -21,7 +21,7 @@ append_line-requires c =
     let index = c.loop-line.index in
     let here = line_here source index c.in-Some.line.now (source_lines c.in-Some.more.now) (sym c.loop-line.invariant.rest ∙ c.in-Some.ensures.lines) in
     subst (λ (place : LinePlace). place.at + byte_count place ≤ 65536) (sym c.line_place-place.ensures)
-    (place_fits source c.args.made.now c.requires index here.0)
+    (place_fits c.args.isa source c.args.made.now c.requires index here.0)
 
 pub loop-line-preserved : goal.loop-line-preserved
 loop-line-preserved c =
@@ -34,11 +34,11 @@ loop-line-preserved c =
       inside = omega (arith, here.0);
       text = c.in_ok-append_line.ensures
           ∙ ap (λ (place : LinePlace). c.loop-line.list.items
-          ++ line_listing (index + 1) (place.value % 65536) place.at (bytes_from made place.at (byte_count place)) c.in-Some.line.now)
+          ++ line_listing (index + 1) place.value place.at (bytes_from made place.at (byte_count place)) c.in-Some.line.now)
           c.line_place-place.ensures
-          ∙ ap (λ t. c.loop-line.list.items ++ t) (line-listed source made c.requires index here.0 c.in-Some.line.now here.1)
-          ∙ ap (λ t. t ++ listed source index) c.loop-line.invariant.text
-          ∙ sym (lines-more source index);
+          ∙ ap (λ t. c.loop-line.list.items ++ t) (line-listed c.args.isa source made c.requires index here.0 c.in-Some.line.now here.1)
+          ∙ ap (λ t. t ++ listed c.args.isa source index) c.loop-line.invariant.text
+          ∙ sym (lines-more c.args.isa source index);
       few = omega (arith, c.in-Some.ensures.shorter, c.loop-line.invariant.few);
     }
 
@@ -52,5 +52,5 @@ returns c =
       in_order = c.in_ok-append_symbols.ensures.in_order;
       defined = c.requires.names;
       is = c.in_ok-append_symbols.ensures.text
-          ∙ ap (λ t. t ++ symbols_text made.names) (c.loop-line.invariant.text ∙ ap (lines_text source) all);
+          ∙ ap (λ t. t ++ symbols_text made.names) (c.loop-line.invariant.text ∙ ap (lines_text c.args.isa source) all);
     }

@@ -8,7 +8,7 @@ abbrev pub invariant-loop-line : goal.invariant-loop-line
 invariant-loop-line l = record {
   rest : source_lines l.rest ≡ drop l.index (source_lines l.fn.text);
   inside : l.index ≤ length (source_lines l.fn.text);
-  text : l.list.items ≡ lines_text (source_lines l.fn.text) l.index;
+  text : l.list.items ≡ lines_text l.fn.isa (source_lines l.fn.text) l.index;
   few : l.index + length l.rest ≤ length l.fn.text;
 }
 

@@ -1,6 +1,6 @@
 -- A tree of names, seen as the list of its entries.
-use Rattle.std.proofs.Common.{◌≡◌, ℕ, refl, Bool, List, [], ◌∷◌, sym, ◌∙◌, ap, true, false, cond, Some, Global}
-use Rattle.std.specs.Prelude.{map, Vec}
+use Rattle.std.proofs.Common.{◌≡◌, ℕ, refl, Bool, List, [], ◌∷◌, sym, ◌∙◌, ap, true, false, cond, Some, Option, subst, Global}
+use Rattle.std.specs.Prelude.{map, Vec, IfSome}
 use Rattle.std.specs.List.{AllByRecursion}
 use Rattle.std.specs.List.Sorted.{IsStrictlySortedBy}
 use Rattle.std.specs.Map.{lookup, keys_of, KeepsOthers}
@@ -11,7 +11,8 @@ use Rattle.std.specs.declared.cmp.Ordering.TheVariants.{Less}
 use Rattle.std.specs.Str.{bytes_eq}
 use Rattle.std.proofs.lemmas.Map.Text.{is_eq-slice_cmp}
 use Rattle.std.proofs.lemmas.Bool.{and_parts, and_from, eqb-true, eq-eqb, false_from_ne_true, both_ways}
-use Rattle.asm_core.specs.Names.{value_in, with_name}
+use Rattle.asm_lex.specs.declared.shape.SymbolValue.{SymbolValue}
+use Rattle.asm_lex.specs.Names.{Names, value_in, with_name, IsValue, HasValues}
 
 pub bytes_same : (xs ys : List ℕ) → bytes_eq xs ys ≡ true → xs ≡ ys
 bytes_same [] [] e = refl
@@ -38,16 +39,16 @@ key_cmp x y = slice_cmp nat_cmp x.items y.items
 abbrev pub has_bytes : List ℕ → Key → Bool
 has_bytes bytes key = is_eq (slice_cmp nat_cmp bytes key.items)
 
-abbrev pub shown : List (Key × ℕ) → List (List ℕ × ℕ)
-shown entries = map {B = List ℕ × ℕ} (λ (entry : Key × ℕ). (entry.0.items, entry.1)) entries
+abbrev pub shown : List (Key × SymbolValue) → List (List ℕ × SymbolValue)
+shown entries = map {B = List ℕ × SymbolValue} (λ (entry : Key × SymbolValue). (entry.0.items, entry.1)) entries
 
-pub value_in-shown : (entries : List (Key × ℕ)) (name : List ℕ) → value_in (shown entries) name ≡ lookup (has_bytes name) entries
+pub value_in-shown : (entries : List (Key × SymbolValue)) (name : List ℕ) → value_in (shown entries) name ≡ lookup (has_bytes name) entries
 value_in-shown [] name = refl
 value_in-shown (e ∷ entries) name =
     ap (λ rest. cond (bytes_eq name e.0.items) (Some e.1) rest) (value_in-shown entries name)
     ∙ ap (λ b. cond b (Some e.1) (lookup (has_bytes name) entries)) (sym (is_eq-slice_cmp name e.0.items))
 
-pub value_in-defined : (old new : List (Key × ℕ)) (key : Key) (value : ℕ) (other : List ℕ)
+pub value_in-defined : (old new : List (Key × SymbolValue)) (key : Key) (value : SymbolValue) (other : List ℕ)
     → lookup (has_bytes key.items) new ≡ Some value
     → KeepsOthers (eq_by_cmp key_cmp) (has_bytes key.items) old new
     → value_in (shown new) other ≡ with_name (value_in (shown old)) key.items value other
@@ -65,13 +66,23 @@ value_in-defined old new key value other here others =
           ∙ sym (value_in-shown old other)
     ] refl
 
-below_all : (key : Key) (entries : List (Key × ℕ)) → AllByRecursion (λ other. key_cmp key other ≡ Less) (keys_of entries)
+below_all : (key : Key) (entries : List (Key × SymbolValue)) → AllByRecursion (λ other. key_cmp key other ≡ Less) (keys_of entries)
     → AllByRecursion (λ other. slice_cmp nat_cmp key.items other ≡ Less) (keys_of (shown entries))
 below_all key [] below = tt
 below_all key (e ∷ entries) below = (below.0, below_all key entries below.1)
 
-pub shown_in_order : (entries : List (Key × ℕ)) → IsStrictlySortedBy key_cmp (keys_of entries)
+pub shown_in_order : (entries : List (Key × SymbolValue)) → IsStrictlySortedBy key_cmp (keys_of entries)
     → IsStrictlySortedBy (slice_cmp nat_cmp) (keys_of (shown entries))
 unfolding IsStrictlySortedBy
 shown_in_order [] order = tt
 shown_in_order (e ∷ entries) order = (below_all e.0 entries order.0, shown_in_order entries order.1)
+
+-- a name more whose value is one
+pub values_with : (names new : Names) (name : List ℕ) (value : SymbolValue) → HasValues names → IsValue value
+    → ((other : List ℕ) → new other ≡ with_name names name value other) → HasValues new
+values_with names new name value before is more other =
+    let P : Option SymbolValue → Type 0 = λ o. IfSome o IsValue in
+    subst P (sym (more other)) (elim (bytes_eq name other) as (λ b. IfSome (cond b (Some value) (names other)) IsValue) [
+      | true ↦ is
+      | false ↦ before other
+    ])
