@@ -6,6 +6,7 @@ use Rattle.cycle_check.specs.declared.fault.CertCause.TheVariants.{BadLine}
 use Rattle.cycle_check.specs.declared.fault.CertFault.{CertFault}
 use Rattle.cycle_check.specs.declared.fault.CertFault.TheVariants.{Fault}
 use Rattle.cycle_check.specs.declared.grammar.Bound.{Bound}
+use Rattle.cycle_check.specs.Exits.{exits_by, exits_in}
 use Rattle.cycle_check.specs.Certificate.{Certificate, certificate_format, numbers_from}
 use Rattle.cycle_check.specs.Closed.{checked, fault_in, unless}
 use Rattle.cycle_check.specs.Reading.{IsRead}
@@ -23,3 +24,7 @@ module _ (rom text : List ℕ) where
       → checked rom text ≡ unless (numbers_from 1 (lines text)) bound (fault_in rom bound draft.lines)
   unfolding checked
   checked-judged draft bound is_read bounded = rw (is_read.says, ← is_read.is, bounded) refl
+
+  pub exits_in-judged : (draft : Certificate) → IsRead text draft → exits_in rom text ≡ exits_by rom draft.lines draft.bound
+  unfolding exits_in
+  exits_in-judged draft is_read = rw (is_read.says, ← is_read.is) refl

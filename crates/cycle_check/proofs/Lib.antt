@@ -6,3 +6,5 @@ pub mod Lookup
 pub mod Numbers
 pub mod Shown
 pub mod Soundness
+pub mod Leading
+pub mod Joined

@@ -52,6 +52,9 @@ line_at lines address = find (λ line. line.address == address) lines
 abbrev pub byte_at : List ℕ → ℕ → ℕ
 byte_at rom address = slice_index rom (address - 0x8000)
 
+abbrev pub bytes_at : List ℕ → ℕ → List ℕ
+bytes_at rom address = byte_at rom address ∷ byte_at rom (address + 1) ∷ byte_at rom (address + 2) ∷ []
+
 unfoldable pub instruction_at : List ℕ → ℕ → Instruction
 instruction_at rom address = record {
   op = decoded (byte_at rom address);
@@ -168,9 +171,17 @@ abbrev pub are_ways_closed : ℕ → List Line → Line → Instruction → Ways
 are_ways_closed k lines line i ways =
     is_way_closed k lines line i ways.first && option_map_or (is_way_closed k lines line i) ways.second true
 
--- the ways of the instruction of a line
+-- the ways of an instruction at an address, and of that of a line
+abbrev pub ways_from : Bound → ℕ → Instruction → Ways
+ways_from bound address i = ways_of (flow_of i.op.kind i.op.n bound.p) i.size address i.next i.after
+
 abbrev pub ways_at : Bound → Line → Instruction → Ways
-ways_at bound line i = ways_of (flow_of i.op.kind i.op.n bound.p) i.size line.address i.next i.after
+ways_at bound line i = ways_from bound line.address i
+
+-- A fact lets a way through that is open at some value of the counter which it allows: what D is under `copy` is any byte.
+abbrev pub lets_through : Fact → When → Bool
+lets_through (Is byte) when = is_open when (Some byte)
+lets_through fact when = true
 
 unfoldable pub is_closed : Bound → List Line → Line → Instruction → Bool
 is_closed bound lines line i = are_ways_closed bound.k lines line i (ways_at bound line i)

@@ -4,3 +4,7 @@ pub mod Table
 pub mod Closed
 pub mod Leaving
 pub mod FaultNames
+pub mod Exits
+pub mod Obstacles
+pub mod Forward
+pub mod Found

@@ -58,10 +58,7 @@ impl Draft {
     fn is_behind(&self, address: u16) -> bool
         ensures { result ≡ is_behind self.now.lines address }
     {
-        match self.lines.last() {
-            Some(last) => last.address < address,
-            None => true,
-        }
+        is_behind(self.lines.as_slice(), address)
     }
 
     // Adds the line of an address behind the others.
@@ -86,6 +83,16 @@ impl Draft {
             None => {}
         }
         Ok(())
+    }
+}
+
+/// Whether an address is above that of the last of some lines.
+pub fn is_behind(lines: &[Line], address: u16) -> bool
+    ensures { result ≡ is_behind lines.now address }
+{
+    match lines.last() {
+        Some(last) => last.address < address,
+        None => true,
     }
 }
 

@@ -2,7 +2,7 @@
 
 ghost use Rattle.std.specs.Prelude.{◌≡◌, ◌+◌, ◌<◌, ◌≤◌, true, false, nat_lt, length};
 ghost use Rattle.std.specs.List.{AllWithin};
-ghost use Rattle.cycle_check.specs.Closed.{admits, are_ways_closed, byte_at, cause_at, counter_after, fault_in, first_from, fits_x, holds_at, instruction_at, is_allowed, is_apart, is_any, is_closed, is_copied, is_entered, is_kept, is_loaded, is_open, is_shown, is_way_closed, known_d, left, line_at, line_behind, loads_not_zero, pays_for, takes_all, was_not_zero};
+ghost use Rattle.cycle_check.specs.Closed.{admits, are_ways_closed, byte_at, bytes_at, cause_at, counter_after, fault_in, first_from, fits_x, holds_at, instruction_at, is_allowed, is_apart, is_any, is_closed, is_copied, is_entered, is_kept, is_loaded, is_open, is_shown, is_way_closed, known_d, left, lets_through, line_at, line_behind, loads_not_zero, pays_for, takes_all, was_not_zero, ways_from};
 ghost use Rattle.cycle_check.specs.Reading.{AreRising};
 
 use crate::fault::CertCause;
@@ -33,8 +33,21 @@ fn byte_at(rom: &[u8], address: u32) -> u8
     }
 }
 
+/// The bytes of the ROM from an address on.
+pub fn bytes_at(rom: &[u8], address: u16) -> [u8; 3]
+    ensures { result ≡ bytes_at rom.now address }
+{
+    let address = u32::from(address);
+    [
+        byte_at(rom, address),
+        byte_at(rom, address + 1),
+        byte_at(rom, address + 2),
+    ]
+}
+
+/// The instruction at an address of the ROM.
 #[tactic(auto, unfolding(crate::specs::Closed::instruction_at))]
-fn instruction_at(rom: &[u8], address: u16) -> Instruction
+pub fn instruction_at(rom: &[u8], address: u16) -> Instruction
     ensures { result ≡ instruction_at rom.now address }
 {
     let address = u32::from(address);
@@ -48,8 +61,8 @@ fn instruction_at(rom: &[u8], address: u16) -> Instruction
     }
 }
 
-// The line with an address.
-fn line_at(lines: &[Line], address: u32) -> Option<Line>
+/// The line with an address.
+pub fn line_at(lines: &[Line], address: u32) -> Option<Line>
     requires { AreRising lines.now }
     ensures { result ≡ line_at lines.now address }
 {
@@ -69,15 +82,15 @@ fn count_below(lines: &[Line], address: u32) -> usize
     lines.partition_point(|line| u32::from(line.address) < address)
 }
 
-// The cycles that are left at a line where the counter is this.
-fn left(line: &Line, counter: u8) -> u64
+/// The cycles that are left at a line where the counter is this.
+pub fn left(line: &Line, counter: u8) -> u64
     ensures { result ≡ left line.now counter }
 {
     u64::from(line.base) + u64::from(line.step) * u64::from(counter)
 }
 
-// D where the fact and the counter tell it.
-fn known_d(fact: Fact, counter: u8) -> Option<u8>
+/// D where the fact and the counter tell it.
+pub fn known_d(fact: Fact, counter: u8) -> Option<u8>
     ensures { result ≡ known_d fact counter }
 {
     match fact {
@@ -97,9 +110,9 @@ fn is_apart(bound: &Bound, x: Option<u8>) -> bool
     }
 }
 
-// Whether an opcode is allowed at a line.
+/// Whether an opcode is allowed at a line.
 #[tactic(auto, unfolding(crate::specs::Closed::is_allowed))]
-fn is_allowed(bound: &Bound, line: &Line, instruction: &Instruction) -> bool
+pub fn is_allowed(bound: &Bound, line: &Line, instruction: &Instruction) -> bool
     ensures { result ≡ is_allowed bound.now line.now instruction.now }
 {
     let Op { kind, n } = instruction.op;
@@ -111,8 +124,8 @@ fn is_allowed(bound: &Bound, line: &Line, instruction: &Instruction) -> bool
         && (!assigns_pointed(kind) || is_apart(bound, line.x))
 }
 
-// Whether a way is open where D, as far as it is known, is this.
-fn is_open(when: When, d: Option<u8>) -> bool
+/// Whether a way is open where D, as far as it is known, is this.
+pub fn is_open(when: When, d: Option<u8>) -> bool
     ensures { result ≡ is_open when d }
 {
     match (when, d) {
@@ -122,8 +135,31 @@ fn is_open(when: When, d: Option<u8>) -> bool
     }
 }
 
-// The counter behind an instruction, where it is known.
-fn counter_after(k: u8, instruction: &Instruction, fact: Fact, counter: u8) -> Option<u8>
+/// The ways of an instruction at an address.
+pub fn ways_from(bound: &Bound, address: u16, instruction: &Instruction) -> Ways
+    ensures { result ≡ ways_from bound.now address instruction.now }
+{
+    ways_of(
+        flow_of(instruction.op, bound.p),
+        instruction.size,
+        address,
+        instruction.next,
+        instruction.after,
+    )
+}
+
+/// Whether a fact lets a way through: what D is under `copy` is any byte, and under `is` that one.
+pub fn lets_through(fact: Fact, when: When) -> bool
+    ensures { result ≡ lets_through fact when }
+{
+    match fact {
+        Fact::Is(byte) => is_open(when, Some(byte)),
+        _ => true,
+    }
+}
+
+/// The counter behind an instruction, where it is known.
+pub fn counter_after(k: u8, instruction: &Instruction, fact: Fact, counter: u8) -> Option<u8>
     ensures { result ≡ counter_after k instruction.now fact counter }
 {
     if instruction.op.n == k {
@@ -133,8 +169,8 @@ fn counter_after(k: u8, instruction: &Instruction, fact: Fact, counter: u8) -> O
     }
 }
 
-// Whether a fact is shown behind the instruction of a line with a fact, on a way under a condition.
-fn is_shown(
+/// Whether a fact is shown behind the instruction of a line with a fact, on a way under a condition.
+pub fn is_shown(
     k: u8,
     instruction: &Instruction,
     fact: Fact,
@@ -258,8 +294,8 @@ fn holds_at(
         || is_kept(k, line, instruction, when, behind, counter)
 }
 
-// Whether a fact allows a value of the counter.
-fn admits(fact: Fact, counter: u8) -> bool
+/// Whether a fact allows a value of the counter.
+pub fn admits(fact: Fact, counter: u8) -> bool
     ensures { result ≡ admits fact counter }
 {
     match fact {
@@ -268,8 +304,8 @@ fn admits(fact: Fact, counter: u8) -> bool
     }
 }
 
-// The line at the end of a way.
-fn line_behind(lines: &[Line], way: Way) -> Option<Line>
+/// The line at the end of a way.
+pub fn line_behind(lines: &[Line], way: Way) -> Option<Line>
     requires { AreRising lines.now }
     ensures { result ≡ line_behind lines.now way }
 {
@@ -292,18 +328,13 @@ fn is_way_closed(k: u8, lines: &[Line], line: &Line, instruction: &Instruction, 
     true
 }
 
+/// Whether what a line says follows from what the lines behind its instruction say.
 #[tactic(auto, unfolding(crate::specs::Closed::is_closed))]
-fn is_closed(bound: &Bound, lines: &[Line], line: &Line, instruction: &Instruction) -> bool
+pub fn is_closed(bound: &Bound, lines: &[Line], line: &Line, instruction: &Instruction) -> bool
     requires { AreRising lines.now }
     ensures { result ≡ is_closed bound.now lines.now line.now instruction.now }
 {
-    let ways = ways_of(
-        flow_of(instruction.op, bound.p),
-        instruction.size,
-        line.address,
-        instruction.next,
-        instruction.after,
-    );
+    let ways = ways_from(bound, line.address, instruction);
     are_ways_closed(bound.k, lines, line, instruction, ways)
 }
 
@@ -340,8 +371,8 @@ fn cause_at(rom: &[u8], bound: &Bound, lines: &[Line], line: &Line) -> Option<Ce
     None
 }
 
-// The first line that can't be relied on, with its place: that of the first line is 1, since the bound's is 0.
-fn first_cause(rom: &[u8], bound: &Bound, lines: &[Line]) -> Option<(usize, CertCause)>
+/// The first line that can't be relied on, with its place: that of the first line is 1, since the bound's is 0.
+pub fn first_cause(rom: &[u8], bound: &Bound, lines: &[Line]) -> Option<(usize, CertCause)>
     requires { AreRising lines.now }
     ensures { result ≡ first_from (cause_at rom.now bound.now lines.now) 1 lines.now }
 {

@@ -1,7 +1,7 @@
 //! The faults of a certificate.
 
 ghost use Rattle.std.specs.Prelude.{◌≡◌};
-ghost use Rattle.cycle_check.specs.FaultNames.{cert_cause_name};
+ghost use Rattle.cycle_check.specs.FaultNames.{cert_cause_name, timing_cause_name};
 
 use std::alloc::AllocError;
 use thiserror::Error;
@@ -62,5 +62,55 @@ impl From<AllocError> for CertFault {
 
     fn from(_error: AllocError) -> CertFault {
         CertFault::NoMemory
+    }
+}
+
+/// Why no certificate of a routine was found.
+#[derive(Clone, Copy, Debug, Error)]
+#[error("{}", self.name())]
+pub enum TimingCause {
+    /// Ways lead to the address, and no line is allowed there with an X that all of them give.
+    Opcode,
+    /// A turn leads from the address back to it that isn't counted: none of its instructions assigns the counter, or one of them may raise it.
+    Loop,
+    /// The least BASE at the address, or its STEP, passes 1,000,000.
+    Most,
+}
+
+impl TimingCause {
+    /// Its name, which its text and the reports show.
+    pub fn name(self) -> &'static str
+        ensures { result.now ≡ timing_cause_name self }
+    {
+        match self {
+            TimingCause::Opcode => "Opcode",
+            TimingCause::Loop => "Loop",
+            TimingCause::Most => "Most",
+        }
+    }
+}
+
+/// Where no certificate of a routine was found.
+#[derive(Clone, Copy)]
+pub struct TimingObstacle {
+    pub cause: TimingCause,
+    pub address: u16,
+}
+
+/// Why no certificate of a routine was found, or no memory was left.
+#[derive(Clone, Copy)]
+pub enum TimingFault {
+    NotFound(TimingObstacle),
+    NoMemory,
+}
+
+impl From<AllocError> for TimingFault {
+    ghost use Rattle.std.specs.Prelude.{◌≡◌};
+    ghost use Rattle.cycle_check.specs.declared.fault.TimingFault.TheVariants.{NoMemory};
+
+    ghost from_gives = { λ _ fault. fault ≡ NoMemory };
+
+    fn from(_error: AllocError) -> TimingFault {
+        TimingFault::NoMemory
     }
 }

@@ -14,18 +14,31 @@
 
 ghost use Rattle.std.specs.Prelude.{◌≡◌, ◌≤◌, ◌⊎◌, length, Ok, Err, IfOk, IfErr};
 ghost use Rattle.cycle_check.specs.Closed.{checked};
+ghost use Rattle.cycle_check.specs.Exits.{exits_in};
 ghost use Rattle.cycle_check.specs.Leaving.{IsWithin};
 
 mod certificate;
 mod closed;
+mod cost;
+mod exits;
 mod fault;
+mod find;
+mod forward;
 mod grammar;
+mod graph;
+mod known;
 pub mod laws;
+mod parts;
 mod table;
+mod turn;
+mod write;
 
 use crate::certificate::{read_certificate, statement_number};
 use crate::closed::fault_in;
-pub use crate::fault::{CertCause, CertFault};
+pub use crate::exits::Exit;
+use crate::exits::exits_of;
+pub use crate::fault::{CertCause, CertFault, TimingCause, TimingFault, TimingObstacle};
+pub use crate::find::find_timing;
 use std::alloc::Global;
 use vip_byte::MOST_TEXT;
 
@@ -75,5 +88,41 @@ pub fn check_cycles(alloc: Global, rom: &[u8; 2048], text: &[u8]) -> Result<With
             entry: bound.entry,
             limit: bound.limit,
         }),
+    }
+}
+
+/// Checks a certificate as `check_cycles` does, and gives its exits with what it promises: for each line and next address without a line that
+/// its fact lets through where the routine is left, by address and next address.
+pub fn check_exits(
+    alloc: Global,
+    rom: &[u8; 2048],
+    text: &[u8],
+) -> Result<(Within, Vec<Exit>), CertFault>
+    requires { length text.now ≤ MOST_TEXT }
+    ensures accepted { IfOk result (λ answer. checked rom.now text.now ≡ Ok answer.0) }
+    ensures exits { IfOk result (λ answer. answer.1.items ≡ exits_in rom.now text.now) }
+    ensures fault { IfErr result
+        (λ fault. (fault ≡ CertFault.NoMemory) ⊎ (checked rom.now text.now ≡ Err fault)) }
+    ensures within { IfOk result (λ answer. IsWithin rom.now text.now answer.0) }
+{
+    let within = check_cycles(alloc, rom, text)?;
+    let exits = read_exits(alloc, rom, text)?;
+    Ok((within, exits))
+}
+
+// The exits of a certificate.
+fn read_exits(alloc: Global, rom: &[u8], text: &[u8]) -> Result<Vec<Exit>, CertFault>
+    requires { length text.now ≤ MOST_TEXT }
+    ensures exits { IfOk result (λ exits. exits.items ≡ exits_in rom.now text.now) }
+    ensures fault { IfErr result
+        (λ fault. (fault ≡ CertFault.NoMemory) ⊎ (checked rom.now text.now ≡ Err fault)) }
+{
+    let certificate = read_certificate(alloc, text)?;
+    match certificate.bound() {
+        Some(bound) => {
+            let exits = exits_of(alloc, rom, &bound, certificate.lines())?;
+            Ok(exits)
+        }
+        None => Ok(Vec::new(alloc)),
     }
 }

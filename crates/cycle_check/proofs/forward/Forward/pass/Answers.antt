@@ -1,0 +1,10 @@
+use Rattle.cycle_check.proofs.Leading.{nothing_known}
+use Rattle.cycle_check.proofs.forward.Forward.pass.Goals as goal
+
+pub follow_with-requires-clause-known : goal.follow_with-requires-clause-known
+follow_with-requires-clause-known c = rw c.nothing-start.ensures (nothing_known c.args.self.now.rom.now c.args.self.now.bound)
+
+pub meet-requires-clause-known : goal.meet-requires-clause-known
+meet-requires-clause-known c =
+    rw (c.nothing-start.ensures, c.from.ensures, c.in_ok-follow_with.ensures.keeps.rom, c.in_ok-follow_with.ensures.keeps.bound)
+    (nothing_known c.args.self.now.rom.now c.args.self.now.bound)

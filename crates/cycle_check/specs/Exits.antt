@@ -1,0 +1,73 @@
+-- The exits of a certificate: where a routine is left, as its lines say.
+use Rattle.std.specs.Prelude.{ℕ, ◌%◌, ◌==◌, ◌&&◌, if◌then◌else◌, nat_lt, is_none, List, [], ◌∷◌, ◌++◌, codes, flat_map, Option, Some, None, option_map, option_and_then, unwrap_or, Result, Ok, Err}
+use Rattle.vip_byte.specs.HexText.{hex4}
+use Rattle.vip_byte.specs.Reading.{read}
+use Rattle.vip_isa.specs.Texts.{instruction_text}
+use Rattle.cycle_check.specs.declared.fault.CertFault.{CertFault}
+use Rattle.cycle_check.specs.declared.grammar.Bound.{Bound}
+use Rattle.cycle_check.specs.declared.grammar.Line.{Line}
+use Rattle.cycle_check.specs.declared.table.Way.{Way}
+use Rattle.cycle_check.specs.declared.table.Ways.{Ways}
+use Rattle.cycle_check.specs.declared.exits.Exit.{Exit}
+use Rattle.cycle_check.specs.Certificate.{certificate_format, certificate_of}
+use Rattle.cycle_check.specs.Closed.{bytes_at, instruction_at, lets_through, line_behind, ways_at}
+
+-- the exit on a way: the fact of its line lets it through, and no line is at its end
+unfoldable pub exit_on : List ℕ → List Line → Line → Way → Option Exit
+exit_on rom lines line way =
+    if lets_through line.fact way.when && is_none (line_behind lines way)
+    then Some (record { address = line.address; bytes = bytes_at rom line.address; to = option_map (λ to. to % 65536) way.to }) else None
+
+-- one or two exits, by their next address, each once
+abbrev pub next_of : Exit → ℕ
+next_of exit = unwrap_or exit.to 0
+
+abbrev pub in_order : Option Exit → Option Exit → List Exit
+in_order None None = []
+in_order None (Some other) = other ∷ []
+in_order (Some one) None = one ∷ []
+in_order (Some one) (Some other) =
+    if next_of one == next_of other then one ∷ []
+    else if nat_lt (next_of one) (next_of other) then one ∷ other ∷ []
+    else other ∷ one ∷ []
+
+-- those of a line
+abbrev pub exits_with : List ℕ → List Line → Line → Ways → List Exit
+exits_with rom lines line ways =
+    in_order (exit_on rom lines line ways.first) (option_and_then (λ way. exit_on rom lines line way) ways.second)
+
+unfoldable pub exits_at : List ℕ → Bound → List Line → Line → List Exit
+exits_at rom bound lines line = exits_with rom lines line (ways_at bound line (instruction_at rom line.address))
+
+-- those of lines whose addresses rise
+abbrev pub exits : List ℕ → Bound → List Line → List Exit
+exits rom bound lines = flat_map (λ line. exits_at rom bound lines line) lines
+
+-- those of a certificate
+abbrev pub exits_by : List ℕ → List Line → Option Bound → List Exit
+exits_by rom lines None = []
+exits_by rom lines (Some bound) = exits rom bound lines
+
+abbrev pub exits_of : List ℕ → Result (List (List (List ℕ))) CertFault → List Exit
+exits_of rom (Err fault) = []
+exits_of rom (Ok statements) = exits_by rom (certificate_of statements).lines (certificate_of statements).bound
+
+unfoldable pub exits_in : List ℕ → List ℕ → List Exit
+exits_in rom text = exits_of rom (read certificate_format text)
+
+-- ---- their texts
+
+-- where an exit leads: to an address, or by an instruction with which another register is the program counter
+abbrev pub end_text : Exit → Option ℕ → List ℕ
+end_text exit None = codes " by " ++ instruction_text exit.address exit.bytes
+end_text exit (Some to) = codes " to " ++ hex4 to
+
+unfoldable pub exit_line : Exit → List ℕ
+exit_line exit = (codes "leaves at " ++ hex4 exit.address) ++ (end_text exit exit.to ++ 10 ∷ [])
+
+abbrev pub exits_text : List Exit → List ℕ
+exits_text exits = flat_map exit_line exits
+
+-- the same as remarks
+abbrev pub remarks_text : List Exit → List ℕ
+remarks_text exits = flat_map (λ exit. codes "# " ++ exit_line exit) exits

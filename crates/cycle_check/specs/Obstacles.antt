@@ -1,0 +1,126 @@
+-- Why no certificate of a routine was found.
+use Rattle.std.specs.Prelude.{◌≡◌, ℕ, ◌+◌, ◌-◌, ◌%◌, ◌<◌, ◌==◌, ◌&&◌, ◌⊎◌, Bool, true, false, List, length, slice_index, Option, Some, None}
+use Rattle.std.specs.List.{All, Any}
+use Rattle.machine.specs.declared.Kind.{Kind}
+use Rattle.machine.specs.declared.Kind.TheVariants.{Inc, Dec, Lda, Plo}
+use Rattle.cycle_check.specs.declared.fault.TimingCause.{TimingCause}
+use Rattle.cycle_check.specs.declared.fault.TimingCause.TheVariants.{Opcode, Loop, Most}
+use Rattle.cycle_check.specs.declared.grammar.Bound.{Bound}
+use Rattle.cycle_check.specs.declared.grammar.Fact.{Fact}
+use Rattle.cycle_check.specs.declared.grammar.Fact.TheVariants as says
+use Rattle.cycle_check.specs.declared.grammar.Line.{Line}
+use Rattle.cycle_check.specs.declared.table.Way.{Way}
+use Rattle.cycle_check.specs.Table.{x_after}
+use Rattle.cycle_check.specs.Certificate.{most_left}
+use Rattle.cycle_check.specs.Closed.{cause_at, first_from, fits_x, instruction_at, is_allowed, is_closed, is_shown, line_at, ways_from}
+
+-- the row assigns R(N).0
+abbrev pub assigns_low : Kind → Bool
+assigns_low Inc = true
+assigns_low Dec = true
+assigns_low Lda = true
+assigns_low Plo = true
+assigns_low _ = false
+
+-- it takes one from it
+abbrev pub takes_one : Kind → Bool
+takes_one Dec = true
+takes_one _ = false
+
+module _ (rom : List ℕ) (bound : Bound) where
+  -- ---- the ways from the entry
+
+  -- one of the ways of the instruction at an address, and that it leads to another address
+  abbrev pub IsOneOf : ℕ → Way → Type 0
+  IsOneOf address way =
+      (way ≡ (ways_from bound address (instruction_at rom address)).first)
+      ⊎ ((ways_from bound address (instruction_at rom address)).second ≡ Some way)
+
+  pub record IsWay (address : ℕ) (way : Way) (to : ℕ) : Type 0 where
+    pub is : IsOneOf address way
+    pub leads : way.to ≡ Some to
+
+  abbrev pub LeadsOn : ℕ → ℕ → Type 0
+  LeadsOn address to = (way : Way) × IsWay address way to
+
+  -- some line allows the instruction at an address
+  pub record MayBeAllowed (address : ℕ) : Type 0 where
+    pub line : Line
+    pub of : line.address ≡ address
+    pub allowed : is_allowed bound line (instruction_at rom address) ≡ true
+
+-- Ways of next addresses lead from the entry to an address, and leave this in X, where it is known. Branches go both ways, and each instruction on the way
+-- is one that some line allows.
+pub data LeadsTo (rom : List ℕ) (bound : Bound) : ℕ → Option ℕ → Type 0 where
+  Enters : LeadsTo rom bound bound.entry None
+  Goes : (address to : ℕ) (x : Option ℕ) (way : Way) → LeadsTo rom bound address x → MayBeAllowed rom bound address → IsWay rom bound address way to
+      → LeadsTo rom bound to (x_after (instruction_at rom address).op.kind (instruction_at rom address).op.n x)
+
+-- A fact is lost at an address: nothing is known at the entry; and some way leads there on which only facts show it that are lost where the way begins.
+-- What is shown at the value 0 of the counter is shown at all of them.
+pub data IsLost (rom : List ℕ) (bound : Bound) : ℕ → Fact → Type 0 where
+  Unknown : (fact : Fact) → (fact ≡ says.Any → ⊥) → IsLost rom bound bound.entry fact
+  Passes : (address to : ℕ) (x : Option ℕ) (way : Way) (fact : Fact) → LeadsTo rom bound address x → MayBeAllowed rom bound address
+      → IsWay rom bound address way to
+      → ((held : Fact) → is_shown bound.k (instruction_at rom address) held way.when 0 fact ≡ true → IsLost rom bound address held)
+      → IsLost rom bound to fact
+
+module _ (rom : List ℕ) (bound : Bound) where
+  -- an X that a line may ask for at an address, whichever way leads there
+  abbrev pub FitsAll : ℕ → Option ℕ → Type 0
+  FitsAll address x = (given : Option ℕ) → LeadsTo rom bound address given → fits_x x given ≡ true
+
+  abbrev pub IsLed : ℕ → Type 0
+  IsLed address = (given : Option ℕ) × LeadsTo rom bound address given
+
+  -- ---- Opcode
+
+  -- ways lead to an address, and no line is allowed there with an X that all of them give
+  pub record IsRefused (address : ℕ) : Type 0 where
+    pub led : IsLed address
+    pub refused : (line : Line) → line.address ≡ address → FitsAll address line.x → is_allowed bound line (instruction_at rom address) ≡ false
+
+  -- ---- Loop
+
+  -- the instruction assigns the counter
+  abbrev pub assigns_counter : ℕ → Bool
+  assigns_counter address =
+      assigns_low (instruction_at rom address).op.kind && (instruction_at rom address).op.n == bound.k
+
+  -- it assigns the counter, and doesn't surely take one from it: it is no DEC, or nothing shows there that the counter isn't 0
+  pub record MayRaise (address : ℕ) : Type 0 where
+    pub assigns : assigns_counter address ≡ true
+    pub how : (takes_one (instruction_at rom address).op.kind ≡ false) ⊎ IsLost rom bound address says.NonZero
+
+  -- A turn leads from an address back to it, each of its addresses to the next one and the last to the first. It isn't counted: no instruction of it
+  -- assigns the counter, or some instruction may raise it.
+  pub record IsUncounted (address : ℕ) : Type 0 where
+    pub led : IsLed address
+    pub turn : List ℕ
+    pub some : 0 < length turn
+    pub begins : slice_index turn 0 ≡ address
+    pub goes : (i : ℕ) → i < length turn → LeadsOn rom bound (slice_index turn i) (slice_index turn ((i + 1) % length turn))
+    pub uncounted : (All (λ a. assigns_counter a ≡ false) turn) ⊎ (Any (λ a. MayRaise a) turn)
+
+  -- ---- Most
+
+  -- A line's BASE can't be less before others.
+  abbrev pub IsLeast : List Line → Line → Type 0
+  IsLeast lines line =
+      (line.base ≡ 0) ⊎ (is_closed bound lines (record line { base = line.base - 1 }) (instruction_at rom line.address) ≡ false)
+
+  -- the line of an address passes what a certificate may say, among lines that are all closed and of which each has the least BASE
+  pub record IsMost (address : ℕ) : Type 0 where
+    pub led : IsLed address
+    pub lines : List Line
+    pub closed : first_from (cause_at rom bound lines) 1 lines ≡ None
+    pub least : All (IsLeast lines) lines
+    pub line : Line
+    pub there : line_at lines address ≡ Some line
+    pub more : (most_left < line.base) ⊎ (most_left < line.step)
+
+  -- what is said of an address is true of the source
+  abbrev pub IsTrueAt : TimingCause → ℕ → Type 0
+  IsTrueAt Opcode address = IsRefused address
+  IsTrueAt Loop address = IsUncounted address
+  IsTrueAt Most address = IsMost address

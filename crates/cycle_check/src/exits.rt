@@ -1,0 +1,184 @@
+//! The exits of a certificate: where its routine is left.
+
+ghost use Rattle.std.specs.Prelude.{◌≡◌, ◌%◌, ◌++◌, OnOk, IfOk, option_map, true};
+ghost use Rattle.std.specs.List.{All};
+ghost use Rattle.std.specs.Option.{option_and_then};
+ghost use Rattle.vip_byte.specs.Room.{HasRoom};
+ghost use Rattle.cycle_check.specs.Closed.{ways_at};
+ghost use Rattle.cycle_check.specs.Exits.{end_text, exit_line, exit_on, exits, exits_at, exits_with, in_order, next_of};
+ghost use Rattle.cycle_check.specs.Found.{leaves_rom};
+ghost use Rattle.cycle_check.specs.Reading.{AreRising};
+
+use crate::closed::{bytes_at, instruction_at, lets_through, line_behind, ways_from};
+use crate::grammar::{Bound, Line};
+use crate::table::{Way, Ways};
+use std::alloc::{AllocError, Global};
+use vip_byte::{Buffer, hex4, put};
+use vip_isa::instruction_text;
+
+/// An exit: an address from which the routine is left, the bytes there, and the next address, which is none where another register is the program
+/// counter then.
+#[derive(Clone, Copy)]
+pub struct Exit {
+    pub address: u16,
+    pub bytes: [u8; 3],
+    pub to: Option<u16>,
+}
+
+impl Exit {
+    /// Appends its line: `leaves at 8007 by SEP R4`, or `leaves at 8002 to 8003`.
+    #[tactic(auto, unfolding(crate::specs::Exits::exit_line))]
+    pub fn put(&self, into: &mut Buffer)
+        requires { HasRoom into.old.items 40 }
+        ensures { into.new.items ≡ into.old.items ++ exit_line self.now }
+    {
+        put(into, b"leaves at ");
+        put(into, &hex4(self.address));
+        self.put_end(into);
+        put(into, b"\n");
+    }
+
+    // Appends where it leads.
+    fn put_end(&self, into: &mut Buffer)
+        requires { HasRoom into.old.items 20 }
+        ensures items { into.new.items ≡ into.old.items ++ end_text self.now self.now.to }
+        ensures room { HasRoom into.new.items 1 }
+    {
+        match self.to {
+            Some(to) => {
+                put(into, b" to ");
+                put(into, &hex4(to));
+            }
+            None => {
+                put(into, b" by ");
+                put(into, instruction_text(self.address, self.bytes).as_slice());
+            }
+        }
+    }
+
+    // Its next address, or 0 without one.
+    fn next(&self) -> u16
+        ensures { result ≡ next_of self.now }
+    {
+        self.to.unwrap_or(0)
+    }
+
+    /// Whether it doesn't lead to an address of the ROM.
+    pub fn leaves_rom(&self) -> bool
+        ensures { result ≡ true → leaves_rom self.now.to }
+    {
+        match self.to {
+            Some(to) => !(0x8000..0x8800).contains(&to),
+            None => true,
+        }
+    }
+}
+
+/// The exits of some lines, by address and next address.
+pub fn exits_of(
+    alloc: Global,
+    rom: &[u8],
+    bound: &Bound,
+    lines: &[Line],
+) -> Result<Vec<Exit>, AllocError>
+    requires { AreRising lines.now }
+    ensures { IfOk result (λ found. found.items ≡ exits rom.now bound.now lines.now) }
+{
+    let mut found = Vec::new(alloc);
+    for line in lines {
+        push_exits(&mut found, rom, bound, lines, line)?;
+    }
+    Ok(found)
+}
+
+// Appends the exits of a line, by next address.
+#[tactic(auto, unfolding(crate::specs::Exits::exits_at))]
+fn push_exits(
+    found: &mut Vec<Exit>,
+    rom: &[u8],
+    bound: &Bound,
+    lines: &[Line],
+    line: &Line,
+) -> Result<(), AllocError>
+    requires { AreRising lines.now }
+    ensures { OnOk result (found.new.items ≡ found.old.items ++ exits_at rom.now bound.now lines.now line.now) }
+{
+    let instruction = instruction_at(rom, line.address);
+    let ways = ways_from(bound, line.address, &instruction);
+    let first = exit_on(rom, lines, line, ways.first);
+    let second = second_exit(rom, lines, line, ways);
+    push_in_order(found, first, second)
+}
+
+fn second_exit(rom: &[u8], lines: &[Line], line: &Line, ways: Ways) -> Option<Exit>
+    requires { AreRising lines.now }
+    ensures { result ≡ option_and_then (λ way. exit_on rom.now lines.now line.now way) ways.second }
+{
+    match ways.second {
+        Some(second) => exit_on(rom, lines, line, second),
+        None => None,
+    }
+}
+
+// Appends one or two exits by their next address, each once.
+fn push_in_order(
+    found: &mut Vec<Exit>,
+    one: Option<Exit>,
+    other: Option<Exit>,
+) -> Result<(), AllocError>
+    ensures { OnOk result (found.new.items ≡ found.old.items ++ in_order one other) }
+{
+    match (one, other) {
+        (None, None) => {}
+        (Some(only), None) | (None, Some(only)) => found.push(only)?,
+        (Some(one), Some(other)) if one.next() == other.next() => found.push(one)?,
+        (Some(one), Some(other)) if one.next() < other.next() => {
+            found.push(one)?;
+            found.push(other)?;
+        }
+        (Some(one), Some(other)) => {
+            found.push(other)?;
+            found.push(one)?;
+        }
+    }
+    Ok(())
+}
+
+// The exit on a way: the fact of its line lets it through, and no line is at its end.
+#[tactic(auto, unfolding(crate::specs::Exits::exit_on))]
+fn exit_on(rom: &[u8], lines: &[Line], line: &Line, way: Way) -> Option<Exit>
+    requires { AreRising lines.now }
+    ensures { result ≡ exit_on rom.now lines.now line.now way }
+{
+    if lets_through(line.fact, way.when) && line_behind(lines, way).is_none() {
+        Some(Exit {
+            address: line.address,
+            bytes: bytes_at(rom, line.address),
+            to: low_word(way.to),
+        })
+    } else {
+        None
+    }
+}
+
+// An address modulo 65,536, which no address passes that a line may lead to.
+fn low_word(to: Option<u32>) -> Option<u16>
+    ensures { result ≡ option_map (λ to. to % 65536) to }
+{
+    match to {
+        Some(to) => Some((to % 65_536) as u16),
+        None => None,
+    }
+}
+
+/// Whether no exit leads to an address of the ROM.
+pub fn all_leave_rom(found: &[Exit]) -> bool
+    ensures { result ≡ true → All (λ exit. leaves_rom exit.to) found.now }
+{
+    for exit in found {
+        if !exit.leaves_rom() {
+            return false;
+        }
+    }
+    true
+}

@@ -1,0 +1,293 @@
+//! A certificate that is found for a routine.
+
+ghost use Rattle.std.specs.Prelude.{◌≡◌, ◌<◌, ◌≤◌, ◌⊎◌, ◌++◌, true, length, IfOk, IfErr, IfSome, OnOk, Some};
+ghost use Rattle.std.specs.List.{All};
+ghost use Rattle.cycle_check.specs.declared.fault.TimingFault.TheVariants.{NoMemory};
+ghost use Rattle.cycle_check.specs.Forward.{IsTrueOf};
+ghost use Rattle.cycle_check.specs.Found.{HasLimit, IsFound, IsTimingFault};
+ghost use Rattle.cycle_check.specs.Obstacles.{IsLeast, IsMost};
+ghost use Rattle.cycle_check.specs.Reading.{AreRising, IsRead};
+
+use crate::certificate::{Draft, is_behind, read_certificate};
+use crate::closed::{fault_in, first_cause, instruction_at, is_closed, left, line_at};
+use crate::cost::find_costs;
+use crate::exits::{all_leave_rom, exits_of};
+use crate::fault::{CertFault, TimingCause, TimingFault, TimingObstacle};
+use crate::forward::{Forward, Halt, explore};
+use crate::grammar::{Bound, Line, MOST_LEFT};
+use crate::graph::{Graph, graph_of};
+use crate::parts::{Found, find_parts};
+use crate::write::text_of;
+use std::alloc::{AllocError, Global};
+use vip_byte::MOST_TEXT;
+
+/// Finds a certificate for the routine that is entered at an address with R(P) as its program counter, which counts by R(K): it is one that
+/// `check_cycles` accepts, written with single blanks, upper-case digits and no leading zeros, and has a remark for each exit behind its lines.
+/// Each exit is by SEP of another register, or leads out of the ROM.
+///
+/// From the entry on the ways are followed that the facts of the lines let through, and a line says a fact and an X that all ways there show. A
+/// loop has the least STEP that pays its turns, and each line the least BASE. Where an address is met whose opcode no line allows, where a
+/// loop isn't counted, or where a BASE passes 1,000,000, the answer is that; or memory was wanting. For which routines one is found is not promised.
+pub fn find_timing(
+    alloc: Global,
+    rom: &[u8; 2048],
+    entry: u16,
+    p: u8,
+    k: u8,
+) -> Result<Vec<u8>, TimingFault>
+    ensures found { IfOk result (λ text. IsFound rom.now entry p k text.items) }
+    ensures fits { IfOk result (λ text. length text.items ≤ MOST_TEXT) }
+    ensures fault { IfErr result (IsTimingFault rom.now (record { entry = entry; p = p; k = k; limit = 0 })) }
+{
+    let start = Bound {
+        entry,
+        p,
+        k,
+        limit: 0,
+    };
+    match explore(alloc, rom, start) {
+        Ok(forward) => find_in(alloc, &forward),
+        Err(Halt::Refused(address)) => Err(TimingFault::NotFound(TimingObstacle {
+            cause: TimingCause::Opcode,
+            address,
+        })),
+        Err(Halt::NoMemory) => Err(TimingFault::NoMemory),
+    }
+}
+
+// Finds a certificate whose lines are those of the addresses that were met.
+fn find_in(alloc: Global, forward: &Forward) -> Result<Vec<u8>, TimingFault>
+    requires { IsTrueOf forward.now }
+    ensures found { IfOk result (λ text. IsFound forward.now.rom.now forward.now.bound.entry forward.now.bound.p forward.now.bound.k text.items) }
+    ensures fits { IfOk result (λ text. length text.items ≤ MOST_TEXT) }
+    ensures fault { IfErr result (IsTimingFault forward.now.rom.now forward.now.bound) }
+{
+    let mut graph = graph_of(alloc, forward)?;
+    match find_parts(alloc, &graph)? {
+        Found::Turn(turn) => Err(loop_fault(forward, turn.as_slice())),
+        Found::Parts(parts) => {
+            find_costs(&mut graph, parts.as_slice());
+            let lines = lines_of(alloc, &graph)?;
+            certify(alloc, forward, lines.as_slice())
+        }
+    }
+}
+
+// What is said of a turn that isn't counted. That the turn which is found is one follows from no clause, so that where it isn't, the answer is want
+// of memory; and so below where what was found is no certificate.
+fn loop_fault(forward: &Forward, turn: &[u16]) -> TimingFault
+    requires { IsTrueOf forward.now }
+    ensures { IsTimingFault forward.now.rom.now forward.now.bound result }
+{
+    match turn {
+        [address, ..] if forward.is_uncounted(turn) => TimingFault::NotFound(TimingObstacle {
+            cause: TimingCause::Loop,
+            address: *address,
+        }),
+        _ => TimingFault::NoMemory,
+    }
+}
+
+// The lines of a graph, whose addresses rise.
+fn lines_of(alloc: Global, graph: &Graph) -> Result<Vec<Line>, AllocError>
+    ensures { IfOk result (λ lines. AreRising lines.items) }
+{
+    let mut lines = Vec::new(alloc);
+    for node in graph.nodes.as_slice() {
+        if let Some(node) = node {
+            push_behind(&mut lines, node.line)?;
+        }
+    }
+    Ok(lines)
+}
+
+// Adds a line whose address is above the others.
+fn push_behind(lines: &mut Vec<Line>, line: Line) -> Result<(), AllocError>
+    requires { AreRising lines.old.items }
+    ensures { OnOk result (AreRising lines.new.items) }
+{
+    if is_behind(lines.as_slice(), line.address) {
+        lines.push(line)?;
+    }
+    Ok(())
+}
+
+// The text of a certificate with these lines, or what stands against one.
+fn certify(alloc: Global, forward: &Forward, lines: &[Line]) -> Result<Vec<u8>, TimingFault>
+    requires true_of { IsTrueOf forward.now }
+    requires rising { AreRising lines.now }
+    ensures found { IfOk result (λ text. IsFound forward.now.rom.now forward.now.bound.entry forward.now.bound.p forward.now.bound.k text.items) }
+    ensures fits { IfOk result (λ text. length text.items ≤ MOST_TEXT) }
+    ensures fault { IfErr result (IsTimingFault forward.now.rom.now forward.now.bound) }
+{
+    for line in lines {
+        if is_over(line) {
+            return Err(most_fault(forward, lines, line.address));
+        }
+    }
+    match write_checked(alloc, forward.rom, &forward.bound, lines)? {
+        Some(text) => Ok(text),
+        None => Err(TimingFault::NoMemory),
+    }
+}
+
+// Whether a line passes what a certificate may say.
+fn is_over(line: &Line) -> bool
+    ensures { result ≡ true → (1000000 < line.now.base) ⊎ (1000000 < line.now.step) }
+{
+    u64::from(line.base) > MOST_LEFT || u64::from(line.step) > MOST_LEFT
+}
+
+// What is said of an address whose line passes what a certificate may say.
+fn most_fault(forward: &Forward, lines: &[Line], address: u16) -> TimingFault
+    requires true_of { IsTrueOf forward.now }
+    requires rising { AreRising lines.now }
+    ensures { IsTimingFault forward.now.rom.now forward.now.bound result }
+{
+    if is_most(forward, lines, address) {
+        TimingFault::NotFound(TimingObstacle {
+            cause: TimingCause::Most,
+            address,
+        })
+    } else {
+        TimingFault::NoMemory
+    }
+}
+
+fn is_most(forward: &Forward, lines: &[Line], address: u16) -> bool
+    requires true_of { IsTrueOf forward.now }
+    requires rising { AreRising lines.now }
+    ensures { result ≡ true → IsMost forward.now.rom.now forward.now.bound address }
+{
+    match line_at(lines, u32::from(address)) {
+        Some(line) if is_over(&line) => {
+            forward.is_led(address)
+                && first_cause(forward.rom, &forward.bound, lines).is_none()
+                && are_least(forward.rom, &forward.bound, lines)
+        }
+        _ => false,
+    }
+}
+
+// Whether no line's BASE can be less.
+fn are_least(rom: &[u8], bound: &Bound, lines: &[Line]) -> bool
+    requires { AreRising lines.now }
+    ensures { result ≡ true → All (IsLeast rom.now bound.now lines.now) lines.now }
+{
+    for line in lines {
+        if !is_least(rom, bound, lines, line) {
+            return false;
+        }
+    }
+    true
+}
+
+fn is_least(rom: &[u8], bound: &Bound, lines: &[Line], line: &Line) -> bool
+    requires { AreRising lines.now }
+    ensures { result ≡ true → IsLeast rom.now bound.now lines.now line.now }
+{
+    if line.base == 0 {
+        return true;
+    }
+    let less = Line {
+        base: line.base - 1,
+        ..*line
+    };
+    !is_closed(bound, lines, &less, &instruction_at(rom, line.address))
+}
+
+// The text of a certificate with these lines, where it is one whose exits lead out of the ROM.
+fn write_checked(
+    alloc: Global,
+    rom: &[u8],
+    start: &Bound,
+    lines: &[Line],
+) -> Result<Option<Vec<u8>>, TimingFault>
+    requires { AreRising lines.now }
+    ensures found { IfOk result (λ found. IfSome found (λ text. IsFound rom.now start.now.entry start.now.p start.now.k text.items)) }
+    ensures fits { IfOk result (λ found. IfSome found (λ text. length text.items ≤ MOST_TEXT)) }
+    ensures fault { IfErr result (λ fault. fault ≡ NoMemory) }
+{
+    let Some(bound) = bound_with(start, lines) else {
+        return Ok(None);
+    };
+    let exits = exits_of(alloc, rom, &bound, lines)?;
+    let text = text_of(alloc, &bound, lines, exits.as_slice())?;
+    if text.len() > MOST_TEXT {
+        return Ok(None);
+    }
+    match read_certificate(alloc, text.as_slice()) {
+        Ok(draft) => {
+            if is_found(alloc, rom, start, &draft, text.as_slice())? {
+                Ok(Some(text))
+            } else {
+                Ok(None)
+            }
+        }
+        Err(CertFault::Fault { .. }) => Ok(None),
+        Err(CertFault::NoMemory) => Err(TimingFault::NoMemory),
+    }
+}
+
+// The bound of some lines: what is left at the entry where the counter is greatest is the limit.
+fn bound_with(start: &Bound, lines: &[Line]) -> Option<Bound>
+    requires { AreRising lines.now }
+{
+    let line = line_at(lines, u32::from(start.entry))?;
+    match u32::try_from(left(&line, 255)) {
+        Ok(limit) => Some(Bound { limit, ..*start }),
+        Err(_) => None,
+    }
+}
+
+// Whether a text that was read is the one of what it says, and is accepted, and its exits lead out of the ROM.
+fn is_found(
+    alloc: Global,
+    rom: &[u8],
+    start: &Bound,
+    draft: &Draft,
+    text: &[u8],
+) -> Result<bool, AllocError>
+    requires { IsRead text.now draft.now }
+    ensures { IfOk result (λ found. found ≡ true → IsFound rom.now start.now.entry start.now.p start.now.k text.now) }
+{
+    let Some(bound) = draft.bound() else {
+        return Ok(false);
+    };
+    let lines = draft.lines();
+    let exits = exits_of(alloc, rom, &bound, lines)?;
+    let again = text_of(alloc, &bound, lines, exits.as_slice())?;
+    if !are_same(again.as_slice(), text)
+        || !all_leave_rom(exits.as_slice())
+        || !is_of(start, &bound)
+        || !has_limit(&bound, lines)
+        || fault_in(rom, &bound, lines).is_some()
+    {
+        return Ok(false);
+    }
+    Ok(true)
+}
+
+fn are_same(one: &[u8], other: &[u8]) -> bool
+    ensures { result ≡ true → one.now ≡ other.now }
+{
+    one == other
+}
+
+// Whether a bound is of this routine.
+fn is_of(start: &Bound, bound: &Bound) -> bool
+    ensures { result ≡ true → (bound.now.entry ≡ start.now.entry) × (bound.now.p ≡ start.now.p) × (bound.now.k ≡ start.now.k) }
+{
+    bound.entry == start.entry && bound.p == start.p && bound.k == start.k
+}
+
+// Whether the limit is what is left at the entry where the counter is greatest.
+fn has_limit(bound: &Bound, lines: &[Line]) -> bool
+    requires { AreRising lines.now }
+    ensures { result ≡ true → HasLimit bound.now lines.now }
+{
+    match line_at(lines, u32::from(bound.entry)) {
+        Some(line) => left(&line, 255) == u64::from(bound.limit),
+        None => false,
+    }
+}

@@ -1,0 +1,454 @@
+//! The way forward from an entry: which addresses it leads to, and what the line of each may say of X, D and the counter.
+//!
+//! That a certificate is right doesn't rest on what is found here, since what is written is checked. What is said where none is found does: so the
+//! contracts say of what is known that it is true of the source (`specs/Forward.antt`), and no more.
+
+ghost use Rattle.std.specs.Prelude.{◌≡◌, ◌+◌, ◌<◌, ◌≤◌, OnOk, IfOk, IfErr, IfSome, MatchOption, None, true};
+ghost use Rattle.cycle_check.specs.declared.grammar.Fact.TheVariants.{NonZero};
+ghost use Rattle.cycle_check.specs.Closed.{instruction_at, ways_from};
+ghost use Rattle.cycle_check.specs.Forward.{IsHalt, IsKnown, IsTrueOf, Keeps};
+ghost use Rattle.cycle_check.specs.Obstacles.{IsLed, IsLost, IsOneOf, MayBeAllowed};
+
+use crate::closed::{Instruction, instruction_at, is_allowed, is_shown, lets_through, ways_from};
+use crate::grammar::{Bound, Fact, Line};
+use crate::known::Known;
+use crate::table::{Way, assigns_d, assigns_named};
+use std::alloc::{AllocError, Global};
+use vip_isa::Kind;
+
+/// The bytes of the ROM.
+pub const ROM_SIZE: usize = 2_048;
+
+/// An address is followed anew where less is known of it: of X, and of three facts.
+const MOST_TURNS: usize = 10_240;
+
+/// Each pass but the last one bars a fact at some address.
+const MOST_PASSES: usize = 6_144;
+
+/// How many instructions are looked at for a use of D.
+const MOST_LOOKED: usize = 8;
+
+/// The facts that the line of an address may not say, since a line that leads there doesn't show them.
+#[derive(Clone, Copy)]
+struct Barred {
+    copy: bool,
+    some: bool,
+    byte: bool,
+}
+
+/// Where a search ends at once.
+#[derive(Drop)]
+pub enum Halt {
+    /// At an address where no line is allowed.
+    Refused(u16),
+    /// No memory was left.
+    NoMemory,
+}
+
+impl From<AllocError> for Halt {
+    ghost use Rattle.std.specs.Prelude.{◌≡◌};
+    ghost use Rattle.cycle_check.specs.declared.forward.Halt.TheVariants.{NoMemory};
+
+    ghost from_gives = { λ _ halt. halt ≡ NoMemory };
+
+    fn from(_error: AllocError) -> Halt {
+        Halt::NoMemory
+    }
+}
+
+/// What an instruction does with what is known of D.
+enum Use {
+    /// It branches on D, or puts it into the counter register.
+    Asks,
+    /// It assigns D, or the counter register otherwise.
+    Ends,
+    /// Neither.
+    None,
+}
+
+/// The addresses to which the entry of a bound leads in a ROM.
+#[derive(Drop)]
+pub struct Forward<'a> {
+    pub rom: &'a [u8],
+    pub bound: Bound,
+    // what is known at each place in the ROM that was met
+    known: Vec<Option<Known>>,
+    barred: Vec<Barred>,
+    // the addresses to be followed, with what is known now
+    waiting: Vec<u16>,
+}
+
+/// The place in the ROM of an address, where it has one.
+pub fn place_of(address: u32) -> Option<usize>
+    ensures { MatchOption result (None ≡ result) (λ place. (0x8000 + place ≡ address) × (place < 2048)) }
+{
+    if (0x8000..0x8800).contains(&address) {
+        Some((address - 0x8000) as usize)
+    } else {
+        None
+    }
+}
+
+/// Follows the ways from the entry of a bound on.
+pub fn explore<'a>(alloc: Global, rom: &'a [u8], bound: Bound) -> Result<Forward<'a>, Halt>
+    ensures rom { IfOk result (λ forward. forward.rom.now ≡ rom.entry.now) }
+    ensures bound { IfOk result (λ forward. forward.bound ≡ bound) }
+    ensures true_of { IfOk result IsTrueOf }
+    ensures fault { IfErr result (IsHalt rom.entry.now bound) }
+{
+    let free = Barred {
+        copy: false,
+        some: false,
+        byte: false,
+    };
+    let mut forward = Forward {
+        rom,
+        bound,
+        known: Vec::new(alloc),
+        barred: vec![in alloc; free; ROM_SIZE]?,
+        waiting: Vec::new(alloc),
+    };
+    forward.settle(alloc)?;
+    Ok(forward)
+}
+
+impl Forward<'_> {
+    // Follows the ways until each line's fact is shown by all lines that lead to it.
+    fn settle(&mut self, alloc: Global) -> Result<(), Halt>
+        requires { IsTrueOf self.now }
+        ensures keeps { OnOk result (Keeps self.old self.new) }
+        ensures fault { IfErr result (IsHalt self.old.rom.now self.old.bound) }
+    {
+        for _ in 0..MOST_PASSES {
+            self.pass(alloc)?;
+            if !self.bar_all() {
+                return Ok(());
+            }
+        }
+        Ok(())
+    }
+
+    // Meets the entry, and all that it leads to, anew.
+    fn pass(&mut self, alloc: Global) -> Result<(), Halt>
+        requires { IsTrueOf self.now }
+        ensures keeps { OnOk result (Keeps self.old self.new) }
+        ensures fault { IfErr result (IsHalt self.old.rom.now self.old.bound) }
+    {
+        self.known = vec![in alloc; None; ROM_SIZE]?;
+        self.waiting.clear();
+        let entry = self.bound.entry;
+        let start = Known::nothing();
+        self.follow_with(entry, &start)?;
+        self.meet(u32::from(entry), start)?;
+        for _ in 0..MOST_TURNS {
+            let Some(address) = self.waiting.pop() else {
+                break;
+            };
+            self.follow(address)?;
+        }
+        Ok(())
+    }
+
+    // What is known at an address that was met.
+    fn known_at(&self, address: u32) -> Option<Known>
+        requires { IsTrueOf self.now }
+        ensures { IfSome result (IsKnown self.now.rom.now self.now.bound address) }
+    {
+        let place = place_of(address)?;
+        match self.known.get(place) {
+            Some(known) => *known,
+            None => None,
+        }
+    }
+
+    // Meets what is behind an address.
+    fn follow(&mut self, address: u16) -> Result<(), Halt>
+        requires { IsTrueOf self.now }
+        ensures keeps { OnOk result (Keeps self.old self.new) }
+        ensures fault { IfErr result (IsHalt self.old.rom.now self.old.bound) }
+    {
+        match self.known_at(u32::from(address)) {
+            Some(known) => self.follow_with(address, &known),
+            None => Ok(()),
+        }
+    }
+
+    // Meets what is behind an address where this is known.
+    fn follow_with(&mut self, address: u16, known: &Known) -> Result<(), Halt>
+        requires true_of { IsTrueOf self.now }
+        requires known { IsKnown self.now.rom.now self.now.bound address known.now }
+        ensures keeps { OnOk result (Keeps self.old self.new) }
+        ensures fault { IfErr result (IsHalt self.old.rom.now self.old.bound) }
+    {
+        let line = self.line_with(address, known);
+        let instruction = instruction_at(self.rom, address);
+        if !is_allowed(&self.bound, &line, &instruction) {
+            return Err(Halt::Refused(address));
+        }
+        let ways = ways_from(&self.bound, address, &instruction);
+        self.go(known, &line, &instruction, ways.first)?;
+        if let Some(second) = ways.second {
+            self.go(known, &line, &instruction, second)?;
+        }
+        Ok(())
+    }
+
+    // Goes a way to an address of the ROM, where the fact of the line lets it through.
+    fn go(
+        &mut self,
+        known: &Known,
+        line: &Line,
+        instruction: &Instruction,
+        way: Way,
+    ) -> Result<(), AllocError>
+        requires true_of { IsTrueOf self.now }
+        requires known { IsKnown self.now.rom.now self.now.bound line.now.address known.now }
+        requires allowed { MayBeAllowed self.now.rom.now self.now.bound line.now.address }
+        requires instruction { instruction.now ≡ instruction_at self.now.rom.now line.now.address }
+        requires way { IsOneOf self.now.rom.now self.now.bound line.now.address way }
+        ensures { OnOk result (Keeps self.old self.new) }
+    {
+        if !lets_through(line.fact, way.when) {
+            return Ok(());
+        }
+        match way.to {
+            Some(to) => {
+                let behind = known.behind(self.bound.k, instruction, way.when);
+                self.meet(to, behind)
+            }
+            None => Ok(()),
+        }
+    }
+
+    // Meets an address where this is known, if it lies in the ROM.
+    fn meet(&mut self, address: u32, known: Known) -> Result<(), AllocError>
+        requires true_of { IsTrueOf self.now }
+        requires known { IsKnown self.now.rom.now self.now.bound address known }
+        ensures { OnOk result (Keeps self.old self.new) }
+    {
+        let before = self.known_at(address);
+        let joined = match before {
+            Some(before) => before.join(&known),
+            None => known,
+        };
+        if before != Some(joined) {
+            self.set(address, joined)?;
+        }
+        Ok(())
+    }
+
+    // What is known at an address of the ROM is this now, and it is to be followed.
+    fn set(&mut self, address: u32, known: Known) -> Result<(), AllocError>
+        requires true_of { IsTrueOf self.now }
+        requires known { IsKnown self.now.rom.now self.now.bound address known }
+        ensures { OnOk result (Keeps self.old self.new) }
+    {
+        let Some(place) = place_of(address) else {
+            return Ok(());
+        };
+        self.put(place, known);
+        self.waiting.push(0x8000 + place as u16)?;
+        Ok(())
+    }
+
+    // What is known at a place is this now.
+    fn put(&mut self, place: usize, known: Known)
+        requires true_of { IsTrueOf self.now }
+        requires known { IsKnown self.now.rom.now self.now.bound (0x8000 + place) known }
+        ensures { Keeps self.old self.new }
+    {
+        if place < self.known.len() {
+            self.known[place] = Some(known);
+        }
+    }
+
+    // The line of an address, which doesn't say yet what is left.
+    fn line_with(&self, address: u16, known: &Known) -> Line
+        ensures address { result.address ≡ address }
+        ensures x { result.x ≡ known.now.x }
+    {
+        Line {
+            address,
+            x: known.x,
+            base: 0,
+            step: 0,
+            fact: self.choose(address, known),
+        }
+    }
+
+    // The fact that the line of an address says, of those that hold and aren't barred: what D is counts where D is asked for soon.
+    fn choose(&self, address: u16, known: &Known) -> Fact {
+        let Some(barred) = self.barred_at(address) else {
+            return Fact::Any;
+        };
+        let asks_d = self.asks_d(address);
+        match known.byte {
+            Some(byte) if asks_d && !barred.byte => Fact::Is(byte),
+            _ if asks_d && known.copy && !barred.copy => Fact::Copy,
+            _ if known.some && !barred.some => Fact::NonZero,
+            _ => Fact::Any,
+        }
+    }
+
+    fn barred_at(&self, address: u16) -> Option<Barred> {
+        let place = place_of(u32::from(address))?;
+        self.barred.get(place).copied()
+    }
+
+    // Whether D is asked for from an address on, before it is assigned.
+    fn asks_d(&self, address: u16) -> bool {
+        let mut at = address;
+        for _ in 0..MOST_LOOKED {
+            let instruction = instruction_at(self.rom, at);
+            match self.use_of(&instruction) {
+                Use::Asks => return true,
+                Use::Ends => return false,
+                Use::None => {}
+            }
+            match self.only_next(at, &instruction) {
+                Some(next) => at = next,
+                None => return false,
+            }
+        }
+        false
+    }
+
+    // The next address of the ROM, where there is only one.
+    fn only_next(&self, address: u16, instruction: &Instruction) -> Option<u16> {
+        let ways = ways_from(&self.bound, address, instruction);
+        if ways.second.is_some() {
+            return None;
+        }
+        let place = place_of(ways.first.to?)?;
+        Some(0x8000 + place as u16)
+    }
+
+    // What an instruction does with what is known of D.
+    fn use_of(&self, instruction: &Instruction) -> Use {
+        let named = instruction.op.n == self.bound.k;
+        match instruction.op.kind {
+            Kind::Bz | Kind::Bnz | Kind::Lbz | Kind::Lbnz => Use::Asks,
+            Kind::Plo if named => Use::Asks,
+            kind if assigns_d(kind) || (assigns_named(kind) && named) => Use::Ends,
+            _ => Use::None,
+        }
+    }
+
+    // Bars each fact of a line that a line which leads there doesn't show. False where there is none.
+    fn bar_all(&mut self) -> bool
+        requires { IsTrueOf self.now }
+        ensures { Keeps self.old self.new }
+    {
+        let mut found = false;
+        for address in 0x8000..0x8800u16 {
+            if self.bar_behind(address) {
+                found = true;
+            }
+        }
+        found
+    }
+
+    // Bars the facts of the lines behind an address that its line doesn't show. False where there is none.
+    fn bar_behind(&mut self, address: u16) -> bool
+        requires { IsTrueOf self.now }
+        ensures { Keeps self.old self.new }
+    {
+        let Some(known) = self.known_at(u32::from(address)) else {
+            return false;
+        };
+        let line = self.line_with(address, &known);
+        let instruction = instruction_at(self.rom, address);
+        let ways = ways_from(&self.bound, address, &instruction);
+        let first = self.bar_at(&known, &line, &instruction, ways.first);
+        match ways.second {
+            Some(second) => self.bar_at(&known, &line, &instruction, second) || first,
+            None => first,
+        }
+    }
+
+    // Bars the fact of the line at the end of a way, where the way doesn't show it. False where it does. Where the line says what D is and could say
+    // that the counter isn't 0, which is asked for, its own fact is barred instead.
+    fn bar_at(&mut self, known: &Known, line: &Line, instruction: &Instruction, way: Way) -> bool
+        requires { IsTrueOf self.now }
+        ensures { Keeps self.old self.new }
+    {
+        let k = self.bound.k;
+        match self.asked_at(way) {
+            Some((place, asked))
+                if lets_through(line.fact, way.when)
+                    && !is_shown(k, instruction, line.fact, way.when, 0, asked) => {
+                let own = place_of(u32::from(line.address));
+                match (asked, own) {
+                    (Fact::NonZero, Some(own))
+                        if self.may_say_some(known, line)
+                            && is_shown(k, instruction, Fact::NonZero, way.when, 0, asked) => {
+                        self.bar(own, line.fact);
+                    }
+                    _ => self.bar(place, asked),
+                }
+                true
+            }
+            _ => false,
+        }
+    }
+
+    // Whether a line that says what D is could say that the counter isn't 0.
+    fn may_say_some(&self, known: &Known, line: &Line) -> bool {
+        match (line.fact, self.barred_at(line.address)) {
+            (Fact::Copy | Fact::Is(_), Some(barred)) => known.some && !barred.some,
+            _ => false,
+        }
+    }
+
+    // The place at the end of a way that was met, and the fact that its line says.
+    fn asked_at(&self, way: Way) -> Option<(usize, Fact)>
+        requires { IsTrueOf self.now }
+    {
+        let to = way.to?;
+        let place = place_of(to)?;
+        let known = self.known_at(to)?;
+        Some((place, self.choose(0x8000 + place as u16, &known)))
+    }
+
+    // Bars a fact at a place.
+    fn bar(&mut self, place: usize, fact: Fact)
+        requires { IsTrueOf self.now }
+        ensures { Keeps self.old self.new }
+    {
+        if let Some(barred) = self.barred.get_mut(place) {
+            match fact {
+                Fact::Any => {}
+                Fact::Copy => barred.copy = true,
+                Fact::NonZero => barred.some = true,
+                Fact::Is(_) => barred.byte = true,
+            }
+        }
+    }
+
+    /// The line of an address, where it was met, which doesn't say yet what is left.
+    pub fn line_at(&self, address: u16) -> Option<Line>
+        requires { IsTrueOf self.now }
+    {
+        let known = self.known_at(u32::from(address))?;
+        Some(self.line_with(address, &known))
+    }
+
+    /// Whether an address was met.
+    pub fn is_led(&self, address: u16) -> bool
+        requires { IsTrueOf self.now }
+        ensures { result ≡ true → IsLed self.now.rom.now self.now.bound address }
+    {
+        self.known_at(u32::from(address)).is_some()
+    }
+
+    /// Whether an address was met, and that the counter isn't 0 is lost there.
+    pub fn is_some_lost(&self, address: u16) -> bool
+        requires { IsTrueOf self.now }
+        ensures { result ≡ true → IsLost self.now.rom.now self.now.bound address NonZero }
+    {
+        match self.known_at(u32::from(address)) {
+            Some(known) => !known.some,
+            None => false,
+        }
+    }
+}
