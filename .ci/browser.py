@@ -3,7 +3,7 @@
     python3 browser.py BROWSER
 """
 
-import base64
+import gzip
 import json
 import os
 import re
@@ -238,30 +238,57 @@ def look_at_program(browser):
     compare("the next OUT 2, by its address", there, (cycles[there] + FRAME - END) // FRAME)
 
 
+def bytes_of(name):
+    with open(name, "rb") as file:
+        return file.read()
+
+
+def look_at_state(browser):
+    """A run from a saved state begins in the frame of its first picture, also where the page is given the files alone."""
+    first, film = (int.from_bytes(bytes_of("pen.state")[6:14], "big") + FRAME - END) // FRAME, bytes_of("state.pbm")
+    for how in ("a page", "files"):
+        browser.open("state.html" if how == "a page" else "share/view.html")
+        if how == "files":
+            browser.give(["state.trace", "state.pbm"], "!document.getElementById('viewer').hidden")
+        browser.ask("document.getElementById('first-frame').click()")
+        shown, least = browser.ask(SHOWN), int(browser.ask("document.getElementById('frame').min"))
+        check(f"{how} of a state: the frames begin at {least} and not at {first}", least == first and shown["frame"] == first)
+        check(f"{how} of a state: the first picture", shown["isWhole"] and shown["dots"] == rows_of(film[:PICTURE]))
+
+
 def refuse_files(browser):
-    """The page without data takes the files of a run, and refuses others in words."""
-    text = lines_of("pen.trace")
-    with open("pen.pbm", "rb") as file:
-        film = file.read()
+    """The page without data takes the files of a run, and refuses others in words, as it does what is left of a page that was cut off."""
+    text, film = lines_of("pen.trace"), bytes_of("pen.pbm")
     made = {
         "column.trace": "\n".join(text[:99] + [text[99].replace(" I ", " J ")] + text[100:]) + "\n",
         "cut.trace": "\n".join(text)[:-3],
         "order.trace": "\n".join([text[5], *text]) + "\n",
         "mixed.trace": "\n".join(text[:9] + lines_of("keypad.trace")) + "\n",
+        "label.trace": "\n".join(lines_of("keypad.trace")[:9] + ["loop:"]) + "\n",
+        "digits.trace": text[0] + "0000000000\n",
+        "return.trace": "\r\n".join(text) + "\r\n",
+        "ended.trace": "\n".join(text + lines_of("pen.report")) + "\n",
         "notes.txt": "to do\n",
         "fault.keys": "100 down 5\n100 down G\n",
     }
     for name, content in made.items():
-        with open(name, "w", encoding="ascii") as file:
+        with open(name, "w", encoding="ascii", newline="") as file:
             file.write(content)
-    for name, content in {"cut.pbm": film[:-1], "short.pbm": film[:PICTURE]}.items():
+    page, packed = bytes_of("pen.html"), gzip.compress(film)[:-9]
+    for name, content in {
+        "cut.pbm": film[:-1], "short.pbm": film[:PICTURE], "long.pbm": film + film[:2 * PICTURE], "film.gz": packed, "cut.html": page[:-len(page) // 5],
+    }.items():
         with open(name, "wb") as file:
             file.write(content)
+    browser.open("cut.html")
+    check("what is left of a page is shown", "This page is cut off" in browser.ask("document.getElementById('fault').textContent"))
     browser.open("share/view.html")
     for names, words in (
-        (["column.trace"], "its line 100 is"), (["cut.trace"], f"its line {len(text):,} is"), (["order.trace"], "line 2 has an earlier cycle"),
-        (["mixed.trace"], "its line 10 is"), (["notes.txt"], "is no trace, film or key script"), (["fault.keys"], "its line 2 is"), (["cut.pbm"], "cut off"),
+        (["column.trace"], "its line 100 is"), (["cut.trace"], f"its line {len(text):,} is cut off"), (["order.trace"], "line 2 has an earlier cycle"),
+        (["mixed.trace"], "its line 10 is"), (["label.trace"], "its last line is a label"), (["digits.trace"], "its line 1 is"), (["return.trace"], "\\x0D”"),
+        (["notes.txt"], "is no trace, film or key script"), (["fault.keys"], "its line 2 is"), (["cut.pbm"], "cut off"), (["film.gz"], "can’t unpack it"),
         (["pen.trace", "short.pbm"], "The film isn’t of this run"), (["keypad.trace", "pen.pbm"], "The film isn’t of this run"),
+        (["ended.trace", "long.pbm"], "The film isn’t of this run"), (["pen.trace", "keypad.trace"], "two files of one kind"),
     ):
         browser.give(names, "document.getElementById('fault').textContent")
         said = browser.ask("document.getElementById('fault').textContent")
@@ -295,7 +322,7 @@ def have_names(browser):
 
 
 def main():
-    for looks in ((look_at_game, look_at_program, refuse_files, have_names), (open_long,)):
+    for looks in ((look_at_game, look_at_program, look_at_state, refuse_files, have_names), (open_long,)):
         browser = Browser(sys.argv[1])
         try:
             for look in looks:
