@@ -112,7 +112,7 @@ class Browser:
         shutil.rmtree(self.profile, ignore_errors=True)
 
 
-KEYS = {"Enter": 13, "ArrowDown": 40, "ArrowUp": 38, "ArrowLeft": 37, "ArrowRight": 39}
+KEYS = {"Enter": 13, " ": 32, "End": 35, "ArrowDown": 40, "ArrowUp": 38, "ArrowLeft": 37, "ArrowRight": 39}
 
 # What the page shows: the line and its number, the fields that are marked, the frame, and the dots, as they are drawn and as text.
 SHOWN = r"""(() => {
@@ -125,7 +125,8 @@ SHOWN = r"""(() => {
     changed: Array.from(document.querySelectorAll('td.changed'), cell => [nameOf(cell), cell.textContent]),
     dots: Array.from({ length: 8192 }, (_, dot) => dots[4 * dot] ? '#' : '.').join('').match(/.{64}/g), text: document.getElementById('as-text').textContent,
     keys: Array.from(document.querySelectorAll('#keypad .down'), key => key.textContent).sort().join(''),
-    isWhole: !document.getElementById('picture').className,
+    isWhole: !document.getElementById('picture').className, frameIs: document.getElementById('frame-is').textContent,
+    plotIs: document.getElementById('plot-is').textContent, end: document.querySelector('#lines .end')?.textContent,
   };
 })()"""
 
@@ -193,6 +194,9 @@ def look_at_game(browser):
         check(f"pen, {place}: the line is {shown['line']} and not {here}", shown["line"] == here and shown["number"] == number)
         check(f"pen, {place}: marked are {shown['changed']}", sorted(shown["changed"]) == changed_between(fields_of_game(before), fields_of_game(here)))
         check(f"pen, {place}: the screen", shown["dots"] == [row for row in screen for _ in range(4)] and shown["text"].split() == screen)
+        frame, points = shown["frame"], [(cycle + FRAME - END) // FRAME for cycle in cycles].count(shown["frame"])
+        check(f"pen, {place}: {shown['frameIs']}", shown["frameIs"].endswith(f" {frame}: cycle {frame * FRAME + BEGIN:,} to {frame * FRAME + END:,}"))
+        check(f"pen, {place}: {shown['plotIs']}", f" {points} here" in shown["plotIs"])
         check(f"pen, {place}: the keys are {shown['keys']}", shown["keys"] == keys_down("examples/pen.keys", cycles[number]))
 
     first = next(at for at, line in enumerate(lines) if line[5] == "D")
@@ -211,6 +215,24 @@ def look_at_game(browser):
     same = next(at for at in range(shown["number"] + 1, len(lines)) if lines[at][:4] == shown["line"][:4])
     browser.ask("document.getElementById('same-on').click()")
     compare("the next line with this pc", same)
+    browser.press("End")
+    shown = browser.ask(SHOWN)
+    check(f"pen: at its end stands {shown['end']}", shown["number"] == len(lines) - 1 and shown["end"] == lines_of("pen.report")[0])
+
+
+def play_film(browser):
+    """The film is played at 60 frames a second, from Space to Space. (A busy machine shows some of them late.)"""
+    browser.open("pen.html")
+    browser.press(" ")
+    moved, due = browser.ask("""new Promise(resolve => {
+      const from = performance.now(), first = place.frame;
+      setTimeout(() => resolve([place.frame - first, (performance.now() - from) * 60 / 1000]), 2000);
+    })""")
+    browser.press(" ")
+    frame = browser.ask("place.frame")
+    time.sleep(0.2)
+    check(f"of the film {moved} frames are played where {due:.0f} are due", abs(moved - due) < 0.3 * due)
+    check("the film goes on behind a pause", browser.ask("place.frame") == frame)
 
 
 def look_at_program(browser):
@@ -322,7 +344,7 @@ def have_names(browser):
 
 
 def main():
-    for looks in ((look_at_game, look_at_program, look_at_state, refuse_files, have_names), (open_long,)):
+    for looks in ((look_at_game, play_film, look_at_program, look_at_state, refuse_files, have_names), (open_long,)):
         browser = Browser(sys.argv[1])
         try:
             for look in looks:
