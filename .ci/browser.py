@@ -124,6 +124,7 @@ SHOWN = r"""(() => {
     line: line.textContent, number: +line.dataset.line, frame: +document.getElementById('frame').value,
     changed: Array.from(document.querySelectorAll('td.changed'), cell => [nameOf(cell), cell.textContent]),
     dots: Array.from({ length: 8192 }, (_, dot) => dots[4 * dot] ? '#' : '.').join('').match(/.{64}/g), text: document.getElementById('as-text').textContent,
+    words: document.querySelector('#line-table tbody tr:last-child td:nth-child(4)')?.textContent,
     keys: Array.from(document.querySelectorAll('#keypad .down'), key => key.textContent).sort().join(''),
     isWhole: !document.getElementById('picture').className, frameIs: document.getElementById('frame-is').textContent,
     plotIs: document.getElementById('plot-is').textContent, end: document.querySelector('#lines .end')?.textContent,
@@ -186,7 +187,7 @@ def rows_of(picture):
 def look_at_game(browser):
     """Three places of a game: by the page's address, by a cycle that is typed, and by keys. The screen is that of `trace --screen` up to the line."""
     lines, words = lines_of("pen.trace"), ("examples/pen.ch8", "--keys", "examples/pen.keys")
-    cycles = [int(line.rsplit(" ", 1)[1]) for line in lines]
+    cycles = [int(re.search(r" AT (\d+)", line)[1]) for line in lines]
 
     def compare(place, number):
         shown, before, here = browser.ask(SHOWN), lines[max(0, number - 1)], lines[number]
@@ -197,6 +198,7 @@ def look_at_game(browser):
         frame, points = shown["frame"], [(cycle + FRAME - END) // FRAME for cycle in cycles].count(shown["frame"])
         check(f"pen, {place}: {shown['frameIs']}", shown["frameIs"].endswith(f" {frame}: cycle {frame * FRAME + BEGIN:,} to {frame * FRAME + END:,}"))
         check(f"pen, {place}: {shown['plotIs']}", f" {points} here" in shown["plotIs"])
+        check(f"pen, {place}: in words it is {shown['words']}", shown["words"] == here.split("  ; ")[1])
         check(f"pen, {place}: the keys are {shown['keys']}", shown["keys"] == keys_down("examples/pen.keys", cycles[number]))
 
     first = next(at for at, line in enumerate(lines) if line[5] == "D")
@@ -249,7 +251,8 @@ def look_at_program(browser):
         check(f"keypad, {place}: marked are {shown['changed']} and not {changed}", sorted(shown["changed"]) == changed)
         check(f"keypad, {place}: the picture", shown["frame"] == frame and shown["isWhole"] and shown["dots"] == rows_of(until[-PICTURE:]))
 
-    cycles = [int(line[:10]) for line in lines]
+    # (a label has the cycle of the line that it stands before)
+    cycles = [int(next(line for line in lines[at:at + 9] if not line.endswith(":"))[:10]) for at in range(len(lines))]
     browser.open("keypad.html", "#frame=3")
     compare("frame 3", max(at for at, cycle in enumerate(cycles) if cycle <= 3 * FRAME + BEGIN), 3)
     browser.write_in("cycle", "30000")
@@ -287,7 +290,7 @@ def refuse_files(browser):
         "order.trace": "\n".join([text[5], *text]) + "\n",
         "mixed.trace": "\n".join(text[:9] + lines_of("keypad.trace")) + "\n",
         "label.trace": "\n".join(lines_of("keypad.trace")[:9] + ["loop:"]) + "\n",
-        "digits.trace": text[0] + "0000000000\n",
+        "digits.trace": text[0].replace(" AT ", " AT 1000000000") + "\n",
         "return.trace": "\r\n".join(text) + "\r\n",
         "ended.trace": "\n".join(text + lines_of("pen.report")) + "\n",
         "notes.txt": "to do\n",
