@@ -105,9 +105,9 @@ module _ (routines : AcceptedIsWithin) (games : CertifiedGames) (law : EveryRun)
   shows (request.Run run) pieces status report given comes = tt
   shows (request.Program run) pieces status report given comes = tt
   shows (request.Link message moves number) pieces status report given comes = tt
-  shows (request.Asm source raw) pieces status report given comes = tt
-  shows (request.List source) pieces status report given comes = tt
-  shows (request.Dis bytes address) pieces status report given comes = tt
+  shows (request.Asm source isa raw) pieces status report given comes = tt
+  shows (request.List source isa) pieces status report given comes = tt
+  shows (request.Dis bytes isa address) pieces status report given comes = tt
   shows (request.Source text) pieces status report given comes = tt
   shows request.Bounds pieces status report given comes = tt
   shows (request.Cycles source certificate) pieces status report given comes = routine source certificate (Shown pieces status report) comes

@@ -70,9 +70,9 @@ same_mosts f (request.Program run) =
     (program_file run.memory run.file ∷ []) (program_show_files run.show) (script_files run.keys)
     (program_mosts f run.memory run.file) (program_show_mosts f run.show) (script_mosts f run.keys)
 same_mosts f (request.Link message moves number) = refl
-same_mosts f (request.Asm source raw) = refl
-same_mosts f (request.List source) = refl
-same_mosts f (request.Dis bytes address) = refl
+same_mosts f (request.Asm source isa raw) = refl
+same_mosts f (request.List source isa) = refl
+same_mosts f (request.Dis bytes isa address) = refl
 same_mosts f (request.Source text) = refl
 same_mosts f request.Bounds = refl
 same_mosts f (request.Cycles source certificate) = refl
@@ -84,17 +84,17 @@ same_mosts f (request.Certify game edition) = refl
 -- they don't hang on the files either
 module _ {A B : Type 0} (f : A → B) where
   pub in_range : (r : Request A) → InRange (map_request f r) → InRange r
-  in_range (request.Run run) x = record { cycles = x.cycles; moves = x.moves }
-  in_range (request.Program run) x = record { cycles = x.cycles; moves = x.moves }
-  in_range (request.Link message moves number) x = record { cycles = x.cycles; moves = x.moves }
-  in_range (request.Asm source raw) x = record { cycles = x.cycles; moves = x.moves }
-  in_range (request.List source) x = record { cycles = x.cycles; moves = x.moves }
-  in_range (request.Dis bytes address) x = record { cycles = x.cycles; moves = x.moves }
-  in_range (request.Source text) x = record { cycles = x.cycles; moves = x.moves }
-  in_range request.Bounds x = record { cycles = x.cycles; moves = x.moves }
-  in_range (request.Cycles source certificate) x = record { cycles = x.cycles; moves = x.moves }
-  in_range (request.Safe game certificate edition) x = record { cycles = x.cycles; moves = x.moves }
-  in_range (request.Certify game edition) x = record { cycles = x.cycles; moves = x.moves }
+  in_range (request.Run run) x = record { cycles = x.cycles; moves = x.moves; start = x.start }
+  in_range (request.Program run) x = record { cycles = x.cycles; moves = x.moves; start = x.start }
+  in_range (request.Link message moves number) x = record { cycles = x.cycles; moves = x.moves; start = x.start }
+  in_range (request.Asm source isa raw) x = record { cycles = x.cycles; moves = x.moves; start = x.start }
+  in_range (request.List source isa) x = record { cycles = x.cycles; moves = x.moves; start = x.start }
+  in_range (request.Dis bytes isa address) x = record { cycles = x.cycles; moves = x.moves; start = x.start }
+  in_range (request.Source text) x = record { cycles = x.cycles; moves = x.moves; start = x.start }
+  in_range request.Bounds x = record { cycles = x.cycles; moves = x.moves; start = x.start }
+  in_range (request.Cycles source certificate) x = record { cycles = x.cycles; moves = x.moves; start = x.start }
+  in_range (request.Safe game certificate edition) x = record { cycles = x.cycles; moves = x.moves; start = x.start }
+  in_range (request.Certify game edition) x = record { cycles = x.cycles; moves = x.moves; start = x.start }
 
 -- ---- the files are small enough, and of bytes
 
@@ -186,9 +186,9 @@ fill (request.Program run) xs =
       show = fill_program_show run.show ys;
     })
 fill (request.Link message moves number) xs = request.Link (first_file xs) moves number
-fill (request.Asm source raw) xs = request.Asm (first_file xs) raw
-fill (request.List source) xs = request.List (first_file xs)
-fill (request.Dis bytes address) xs = request.Dis (first_file xs) address
+fill (request.Asm source isa raw) xs = request.Asm (first_file xs) isa raw
+fill (request.List source isa) xs = request.List (first_file xs) isa
+fill (request.Dis bytes isa address) xs = request.Dis (first_file xs) isa address
 fill (request.Source text) xs = request.Source text
 fill request.Bounds xs = request.Bounds
 fill (request.Cycles source certificate) xs = request.Cycles (first_file xs) (first_file (other_files xs))
@@ -273,9 +273,9 @@ filled (request.Program run) =
       show = program_show_filled run.show (script_files run.keys) i;
     })
 filled (request.Link message moves number) = refl
-filled (request.Asm source raw) = refl
-filled (request.List source) = refl
-filled (request.Dis bytes address) = refl
+filled (request.Asm source isa raw) = refl
+filled (request.List source isa) = refl
+filled (request.Dis bytes isa address) = refl
 filled (request.Source text) = refl
 filled request.Bounds = refl
 filled (request.Cycles source certificate) = refl

@@ -3,6 +3,7 @@ use Rattle.std.proofs.Common.{◌≡◌, ℕ, List, Option, Some, None, sym, sub
 use Rattle.machine.specs.Keys.{Event as KeyEvent}
 use Rattle.chip8_lang.specs.declared.view.Edition.{Edition}
 use Rattle.chip8_lang.specs.declared.view.Edition.TheVariants.{Usual, Tall}
+use Rattle.asm_lex.specs.declared.shape.Isa.{Isa}
 use Rattle.asm_core.specs.Made.{Made}
 use Rattle.chip8_source.specs.Compared.{SourceGivesRom}
 use Rattle.vip_board.specs.Seen.{Seen}
@@ -62,9 +63,9 @@ Free (GivenUp report) = Unit {0}
 alone_free : (q o : Outcome) → Free q → o ≡ q → Free o
 alone_free q o free e = subst Free (sym e) free
 
-source_free : (source : List ℕ) (IsText : Made → List ℕ → Type 0) (o : Outcome) → SourceComes source IsText o → Free o
-source_free source IsText _ (FaultySource line cause is) = λ x. x
-source_free source IsText _ (Assembles made text is says) = tt
+source_free : (isa : Isa) (source : List ℕ) (IsText : Made → List ℕ → Type 0) (o : Outcome) → SourceComes isa source IsText o → Free o
+source_free isa source IsText _ (FaultySource line cause is) = λ x. x
+source_free isa source IsText _ (Assembles made text is says) = tt
 
 cycles_free : (source text : List ℕ) (o : Outcome) → CyclesComes source text o → Free o
 cycles_free source text _ (NotAssembled line cause is) = λ x. x
@@ -135,9 +136,9 @@ module _ (given : RomsGiven) where
   comes_free (request.Run run) o x = begin_free run.start run.keys run.limit run.show o x
   comes_free (request.Program run) o x = program_show_free run.memory run.file run.keys run.limit run.show o x
   comes_free (request.Link message moves number) o x = link_free message moves number o x
-  comes_free (request.Asm source raw) o x = source_free source _ o x
-  comes_free (request.List source) o x = source_free source _ o x
-  comes_free (request.Dis bytes address) o x = alone_free _ o tt x
+  comes_free (request.Asm source isa raw) o x = source_free isa source _ o x
+  comes_free (request.List source isa) o x = source_free isa source _ o x
+  comes_free (request.Dis bytes isa address) o x = alone_free _ o tt x
   comes_free (request.Source text) o x = alone_free _ o tt x
   comes_free request.Bounds o x = alone_free _ o tt x
   comes_free (request.Cycles source certificate) o x = cycles_free source certificate o x

@@ -176,8 +176,8 @@ assembles_or_not : (isa : Isa) (source : List (List ℕ)) (made : Made) (line : 
 assembles_or_not isa source made line cause fine (i, at, inl first) = no_fault _ _ i cause fine.no_fault_1 first
 assembles_or_not isa source made line cause fine (i, at, inr first) = no_fault _ _ i cause fine.no_fault_2 first.1
 
-module _ (source : List ℕ) (IsText : Made → List ℕ → Type 0) where
-  sources_agree : (o p : Outcome) → SourceComes source IsText o → SourceComes source IsText p → Agree o p
+module _ (isa : Isa) (source : List ℕ) (IsText : Made → List ℕ → Type 0) where
+  sources_agree : (o p : Outcome) → SourceComes isa source IsText o → SourceComes isa source IsText p → Agree o p
   sources_agree _ _ (FaultySource l c a) (FaultySource m d b) = refl
   sources_agree _ _ (FaultySource l c a) (Assembles made text b is) = assembles_or_not _ (source_lines source) made l c b a
   sources_agree _ _ (Assembles made text a is) (FaultySource m d b) = assembles_or_not _ (source_lines source) made m d a b
@@ -320,10 +320,10 @@ no_beginning (beginning.Game game edition) keys limit shown report x = no_show e
 no_beginning (beginning.State file) keys limit shown report x = no_show x.edition (Saved file) keys limit shown report x.here
 no_beginning (beginning.Demo number) keys limit shown report x = no_show Usual (Reset (demo_game number)) keys limit shown report x
 
-no_source : (source : List ℕ) (IsText : Made → List ℕ → Type 0) (report : List ℕ) → SourceComes source IsText (GivenUp report) → ⊥
-no_source source IsText report x = go (GivenUp report) refl x
+no_source : (isa : Isa) (source : List ℕ) (IsText : Made → List ℕ → Type 0) (report : List ℕ) → SourceComes isa source IsText (GivenUp report) → ⊥
+no_source isa source IsText report x = go (GivenUp report) refl x
   where
-    go : (o : Outcome) → o ≡ GivenUp report → SourceComes source IsText o → ⊥
+    go : (o : Outcome) → o ≡ GivenUp report → SourceComes isa source IsText o → ⊥
     go _ e (FaultySource l c a) = cc
     go _ e (Assembles made text b is) = cc
 
@@ -347,9 +347,9 @@ agree : (loaded : Loaded) (o p : Outcome) → HasOutcome loaded o → HasOutcome
 agree (request.Run run) o p x y = begin_agree run.start run.keys run.limit run.show o p x y
 agree (request.Program run) o p x y = program_shows_agree run.memory run.file run.keys run.limit run.show o p x y
 agree (request.Link message moves number) o p x y = links_agree message moves number o p x y
-agree (request.Asm source raw) o p x y = sources_agree source _ o p x y
-agree (request.List source) o p x y = sources_agree source _ o p x y
-agree (request.Dis bytes address) o p x y = alone_agree _ o p refl x y
+agree (request.Asm source isa raw) o p x y = sources_agree isa source _ o p x y
+agree (request.List source isa) o p x y = sources_agree isa source _ o p x y
+agree (request.Dis bytes isa address) o p x y = alone_agree _ o p refl x y
 agree (request.Source text) o p x y = alone_agree _ o p refl x y
 agree request.Bounds o p x y = alone_agree _ o p refl x y
 agree (request.Cycles source certificate) o p x y = cycles_agree source certificate o p x y
@@ -361,9 +361,9 @@ given_up : (loaded : Loaded) (report : List ℕ) → HasOutcome loaded (GivenUp 
 given_up (request.Run run) report x = absurd (no_beginning run.start run.keys run.limit run.show report x)
 given_up (request.Program run) report x = absurd (no_program_show run.memory run.file run.keys run.limit run.show report x)
 given_up (request.Link message moves number) report x = absurd (no_link message moves number report x)
-given_up (request.Asm source raw) report x = absurd (no_source source _ report x)
-given_up (request.List source) report x = absurd (no_source source _ report x)
-given_up (request.Dis bytes address) report x = absurd (cc)
+given_up (request.Asm source isa raw) report x = absurd (no_source isa source _ report x)
+given_up (request.List source isa) report x = absurd (no_source isa source _ report x)
+given_up (request.Dis bytes isa address) report x = absurd (cc)
 given_up (request.Source text) report x = absurd (cc)
 given_up request.Bounds report x = absurd (cc)
 given_up (request.Cycles source certificate) report x = absurd (no_routine source certificate report x)
@@ -375,9 +375,9 @@ shape_says : {N : Type 0} (r : Request N) → IsSearch (shape_of r) ≡ IsSearch
 shape_says (request.Run run) = refl
 shape_says (request.Program run) = refl
 shape_says (request.Link message moves number) = refl
-shape_says (request.Asm source raw) = refl
-shape_says (request.List source) = refl
-shape_says (request.Dis bytes address) = refl
+shape_says (request.Asm source isa raw) = refl
+shape_says (request.List source isa) = refl
+shape_says (request.Dis bytes isa address) = refl
 shape_says (request.Source text) = refl
 shape_says request.Bounds = refl
 shape_says (request.Cycles source certificate) = refl

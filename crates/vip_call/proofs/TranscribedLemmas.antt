@@ -292,9 +292,9 @@ module _ (every : EveryRun) (from : FromAccepted) (saves : SavesShown) (law : Ru
       run.start (show_files run.show ++ script_files run.keys) given comes)
   transcribes (request.Program run) pieces status report given comes = tt
   transcribes (request.Link message moves number) pieces status report given comes = tt
-  transcribes (request.Asm source raw) pieces status report given comes = tt
-  transcribes (request.List source) pieces status report given comes = tt
-  transcribes (request.Dis bytes address) pieces status report given comes = tt
+  transcribes (request.Asm source isa raw) pieces status report given comes = tt
+  transcribes (request.List source isa) pieces status report given comes = tt
+  transcribes (request.Dis bytes isa address) pieces status report given comes = tt
   transcribes (request.Source text) pieces status report given comes = tt
   transcribes request.Bounds pieces status report given comes = tt
   transcribes (request.Cycles source certificate) pieces status report given comes = tt

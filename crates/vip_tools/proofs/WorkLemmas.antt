@@ -1,6 +1,7 @@
 -- What a verb answers, from the answers of its parts.
 use Rattle.std.proofs.Common.{◌≡◌, ℕ, List, sym, subst, Result, Ok, Err, IsErrAnd}
 use Rattle.chip8_lang.specs.declared.view.Edition.{Edition}
+use Rattle.asm_lex.specs.declared.shape.Isa.{Isa}
 use Rattle.asm_core.specs.Made.{Made}
 use Rattle.vip_tools.specs.declared.refusal.Refusal.{Refusal}
 use Rattle.vip_tools.specs.declared.refusal.Refusal.TheVariants.{Usage, Unread, TooLarge, Script, Command, Source, State, Rom, Certificate, Proof, NoCertificate, NoMemory}
@@ -22,9 +23,9 @@ passed P refusal (Err e) is holds = subst (λ e. P (Err e)) (sym is) holds
 
 -- ---- a source
 
-module _ (source : List ℕ) (IsText : Made → List ℕ → Type 0) where
+module _ (isa : Isa) (source : List ℕ) (IsText : Made → List ℕ → Type 0) where
   -- it isn't assembled
-  pub refused-source : (refusal : Refusal) → SourceAnswers source (Err refusal) → RefusedBy (SourceComes source IsText) refusal
+  pub refused-source : (refusal : Refusal) → SourceAnswers isa source (Err refusal) → RefusedBy (SourceComes isa source IsText) refusal
   refused-source Usage answer = absurd answer
   refused-source (Unread name) answer = absurd answer
   refused-source (TooLarge kind) answer = absurd answer

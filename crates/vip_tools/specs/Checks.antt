@@ -1,6 +1,7 @@
 -- What the checks of certificates answer.
 use Rattle.std.specs.Prelude.{◌≡◌, ℕ, List, option_map, Result, Ok, Err}
 use Rattle.chip8_lang.specs.declared.view.Edition.{Edition}
+use Rattle.asm_lex.specs.declared.shape.Isa.TheVariants.{Cdp1802}
 use Rattle.asm_core.specs.Made.{Made, cell_at}
 use Rattle.cycle_check.specs.Closed.{checked}
 use Rattle.cycle_check.specs.declared.Within.{Within}
@@ -19,7 +20,7 @@ made_byte made address = option_map (λ cell. cell.byte) (cell_at made address)
 -- a source is assembled into a ROM
 abbrev pub RomAnswers : List ℕ → Result (List ℕ) Refusal → Type 0
 RomAnswers source (Ok rom) = Assembled source × (rom ≡ rom_in source)
-RomAnswers source (Err refusal) = SourceAnswers source (Err refusal)
+RomAnswers source (Err refusal) = SourceAnswers Cdp1802 source (Err refusal)
 
 -- a certificate of cycles is checked for a ROM
 abbrev pub CertificateAnswers : List ℕ → List ℕ → Result Within Refusal → Type 0

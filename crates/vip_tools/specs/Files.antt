@@ -4,6 +4,8 @@ use Rattle.std.specs.FinMap.{get}
 use Rattle.vip_outside.specs.Count.{Rose}
 use Rattle.vip_outside.specs.Files.{Answer, FilesMeaning, Read, and_read, and_reads, with_read}
 use Rattle.vip_outside.specs.Files.Answer.{Whole, Start, Lacked, Faulted}
+use Rattle.asm_core.specs.Ranges.{last_of}
+use Rattle.asm_lex.specs.declared.shape.Isa.{Isa}
 use Rattle.chip8_lang.specs.State.{memory_size}
 use Rattle.chip8_lang.specs.declared.view.Edition.{Edition}
 use Rattle.chip8_lang.specs.declared.view.Edition.TheVariants.{Usual, Tall}
@@ -47,10 +49,6 @@ rom_size = 2_048
 abbrev pub ram_size : ℕ
 ram_size = 4_096
 
--- the addresses of the machine, 0000 to FFFF
-abbrev pub addresses : ℕ
-addresses = 65_536
-
 abbrev pub game_kind : Edition → Kind
 game_kind Usual = Game
 game_kind Tall = TallGame
@@ -91,12 +89,12 @@ module _ {N : Type 0} where
   abbrev pub message_file : N → Needed N
   message_file n = file Message most_message n
 
-  -- a source, bytes to disassemble, which have to end by address FFFF, and a certificate
+  -- a source, bytes to disassemble, which have to end at the highest address of their instruction set's programs at the latest, and a certificate
   abbrev pub source_file : N → Needed N
   source_file n = file Source most_text n
 
-  abbrev pub bytes_file : ℕ → N → Needed N
-  bytes_file address n = file Source (addresses - address) n
+  abbrev pub bytes_file : Isa → ℕ → N → Needed N
+  bytes_file isa address n = file Source (last_of isa + 1 - address) n
 
   abbrev pub certificate_file : N → Needed N
   certificate_file n = file Certificate most_text n
@@ -125,9 +123,9 @@ module _ {N : Type 0} where
   needed (request.Run run) = start_files run.start ++ (show_files run.show ++ script_files run.keys)
   needed (request.Program run) = program_file run.memory run.file ∷ (program_show_files run.show ++ script_files run.keys)
   needed (request.Link message moves number) = message_file message ∷ []
-  needed (request.Asm source raw) = source_file source ∷ []
-  needed (request.List source) = source_file source ∷ []
-  needed (request.Dis bytes address) = bytes_file address bytes ∷ []
+  needed (request.Asm source isa raw) = source_file source ∷ []
+  needed (request.List source isa) = source_file source ∷ []
+  needed (request.Dis bytes isa address) = bytes_file isa address bytes ∷ []
   needed (request.Source text) = []
   needed request.Bounds = []
   needed (request.Cycles source certificate) = source_file source ∷ certificate_file certificate ∷ []

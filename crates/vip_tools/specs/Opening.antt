@@ -1,7 +1,7 @@
 -- What the reading of a source, a script and commands answers.
 use Rattle.std.specs.Prelude.{◌≡◌, ℕ, List, Option, option_map, Result, Ok, Err, Vec}
 use Rattle.machine.specs.Keys.{Event as KeyEvent}
-use Rattle.asm_lex.specs.declared.shape.Isa.TheVariants.{Cdp1802}
+use Rattle.asm_lex.specs.declared.shape.Isa.{Isa}
 use Rattle.asm_core.specs.Made.{Made, IsAssembly}
 use Rattle.asm_core.specs.Sources.{source_lines, HasFirstFault}
 use Rattle.vip_words.specs.DebugGrammar.{commands_of}
@@ -31,9 +31,9 @@ DebugCommandsAnswer speaks limit text (Err (Command line cause)) = commands_of s
 DebugCommandsAnswer speaks limit text (Err NoMemory) = Unit {0}
 DebugCommandsAnswer speaks limit text (Err _) = ⊥
 
--- a source is assembled
-abbrev pub SourceAnswers : List ℕ → Result Made Refusal → Type 0
-SourceAnswers source (Ok made) = IsAssembly Cdp1802 (source_lines source) made
-SourceAnswers source (Err (Source line cause)) = HasFirstFault Cdp1802 (source_lines source) line cause
-SourceAnswers source (Err NoMemory) = Unit {0}
-SourceAnswers source (Err _) = ⊥
+-- a source in the words of an instruction set is assembled
+abbrev pub SourceAnswers : Isa → List ℕ → Result Made Refusal → Type 0
+SourceAnswers isa source (Ok made) = IsAssembly isa (source_lines source) made
+SourceAnswers isa source (Err (Source line cause)) = HasFirstFault isa (source_lines source) line cause
+SourceAnswers isa source (Err NoMemory) = Unit {0}
+SourceAnswers isa source (Err _) = ⊥

@@ -4,7 +4,7 @@ use Rattle.machine.specs.Keys.{Event as KeyEvent}
 use Rattle.chip8_lang.specs.declared.view.Edition.{Edition}
 use Rattle.chip8_lang.specs.declared.view.Edition.TheVariants.{Usual, Tall}
 use Rattle.chip8_source.specs.Texts.{usual_text, tall_text}
-use Rattle.asm_lex.specs.declared.shape.Isa.TheVariants.{Cdp1802}
+use Rattle.asm_lex.specs.declared.shape.Isa.{Isa}
 use Rattle.asm_core.specs.Made.{Made, IsAssembly}
 use Rattle.asm_core.specs.Sources.{source_lines, HasFirstFault}
 use Rattle.asm_core.specs.declared.fault.AsmCause.{AsmCause}
@@ -35,28 +35,28 @@ script_in (Some text) = script_of text
 abbrev pub Writes : List ℕ → Outcome → Type 0
 Writes text o = o ≡ Shown (text ∷ []) Done []
 
--- ---- a source
+-- ---- a source, in the words of an instruction set
 
-pub data SourceComes (source : List ℕ) (IsText : Made → List ℕ → Type 0) : Outcome → Type 0 where
-  FaultySource : (line : ℕ) (cause : AsmCause) → HasFirstFault Cdp1802 (source_lines source) line cause
-      → SourceComes source IsText (Refused BadSource (bad_source line cause))
-  Assembles : (made : Made) (text : List ℕ) → IsAssembly Cdp1802 (source_lines source) made → IsText made text → SourceComes source IsText (Shown (text ∷ []) Done [])
+pub data SourceComes (isa : Isa) (source : List ℕ) (IsText : Made → List ℕ → Type 0) : Outcome → Type 0 where
+  FaultySource : (line : ℕ) (cause : AsmCause) → HasFirstFault isa (source_lines source) line cause
+      → SourceComes isa source IsText (Refused BadSource (bad_source line cause))
+  Assembles : (made : Made) (text : List ℕ) → IsAssembly isa (source_lines source) made → IsText made text → SourceComes isa source IsText (Shown (text ∷ []) Done [])
 
 -- its bytes themselves, or their dump
-abbrev pub IsBytes : Bool → Made → List ℕ → Type 0
-IsBytes true made text = IsRaw Cdp1802 made text
-IsBytes false made text = text ≡ dump_text made
+abbrev pub IsBytes : Isa → Bool → Made → List ℕ → Type 0
+IsBytes isa true made text = IsRaw isa made text
+IsBytes isa false made text = text ≡ dump_text made
 
-abbrev pub AsmComes : Bool → List ℕ → Outcome → Type 0
-AsmComes raw source = SourceComes source (IsBytes raw)
+abbrev pub AsmComes : Isa → Bool → List ℕ → Outcome → Type 0
+AsmComes isa raw source = SourceComes isa source (IsBytes isa raw)
 
-abbrev pub ListComes : List ℕ → Outcome → Type 0
-ListComes source = SourceComes source (λ made text. IsListing Cdp1802 (source_lines source) text)
+abbrev pub ListComes : Isa → List ℕ → Outcome → Type 0
+ListComes isa source = SourceComes isa source (λ made text. IsListing isa (source_lines source) text)
 
 -- ---- bytes, whose first one lies at this address
 
-abbrev pub DisComes : ℕ → List ℕ → Outcome → Type 0
-DisComes address bytes = Writes (disassembly Cdp1802 address bytes)
+abbrev pub DisComes : Isa → ℕ → List ℕ → Outcome → Type 0
+DisComes isa address bytes = Writes (disassembly isa address bytes)
 
 -- ---- nothing
 

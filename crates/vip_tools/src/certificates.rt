@@ -11,6 +11,7 @@ use crate::Refusal;
 use crate::files::are_bytes;
 use crate::tools::make_assembly;
 use asm_core::Assembly;
+use asm_lex::Isa;
 use chip8_lang::Edition;
 use cycle_check::{CertFault, Within, check_cycles};
 use game_check::{FindFault, ProofFault, check_game, find_certificate};
@@ -36,7 +37,7 @@ fn make_rom<'a>(alloc: Global, source: &[u8]) -> Result<[u8; 2048], Refusal<'a>>
     requires { length source.now ≤ most_text }
     ensures { RomAnswers source.now result }
 {
-    let made = make_assembly(alloc, source)?;
+    let made = make_assembly(alloc, Isa::Cdp1802, source)?;
     let rom = lay_out(&made);
     are_bytes(&rom);
     Ok(rom)

@@ -1,9 +1,11 @@
 //! The files that a verb reads, each by its kind, and how one of them is read.
 
-ghost use Rattle.std.specs.Prelude.{◌≡◌, ◌<◌, ℕ, slice_index};
+ghost use Rattle.std.specs.Prelude.{◌≡◌, ◌<◌, ◌+◌, ℕ, slice_index};
+ghost use Rattle.asm_core.specs.Ranges.{last_of};
 ghost use Rattle.vip_tools.specs.Files.{bytes_file, certificate_file, commands_file, game_file, game_kind, message_file, program_file, script_file, seen_wanted, source_file, state_file, FileAnswers, JudgeAnswers};
 
 use crate::{Kind, Refusal};
+use asm_lex::Isa;
 use chip8_lang::Edition;
 use std::alloc::Global;
 use vip_byte::MOST_TEXT;
@@ -11,9 +13,6 @@ use vip_outside::{Files, ReadFail};
 use vip_text::StateFault;
 use vip_text::state_file::{SIZE, check_state};
 use vip_words::Memory;
-
-/// The addresses of the machine, 0000 to FFFF.
-const ADDRESSES: usize = 65_536;
 
 /// The most bytes of a message.
 pub const MOST_MESSAGE: usize = 3_000;
@@ -118,13 +117,23 @@ pub(crate) fn source_file<'a>(name: &'a str) -> Wanted<'a>
     }
 }
 
-/// Bytes to disassemble, the first of which lies at an address.
-pub(crate) fn bytes_file<'a>(address: u16, name: &'a str) -> Wanted<'a>
-    ensures { seen_wanted result ≡ bytes_file address name.now }
+/// What follows the highest address of an instruction set's programs.
+fn end_of(isa: Isa) -> usize
+    ensures { result ≡ last_of isa + 1 }
+{
+    match isa {
+        Isa::Cdp1802 => 0x1_0000,
+        Isa::Chip8 => 0x1000,
+    }
+}
+
+/// Bytes to disassemble, the first of which lies at an address: they have to end at the highest one of the instruction set's programs at the latest.
+pub(crate) fn bytes_file<'a>(isa: Isa, address: u16, name: &'a str) -> Wanted<'a>
+    ensures { seen_wanted result ≡ bytes_file isa address name.now }
 {
     Wanted {
         name,
-        most: ADDRESSES - usize::from(address),
+        most: end_of(isa).saturating_sub(usize::from(address)),
         kind: Kind::Source,
     }
 }

@@ -184,17 +184,25 @@ pub fn load<'a, F: Files>(
                 number,
             })
         }
-        Request::Asm { source, raw } => {
+        Request::Asm { source, isa, raw } => {
             let source = open_file(alloc, files, &source_file(source))?;
-            Ok(Request::Asm { source, raw })
+            Ok(Request::Asm { source, isa, raw })
         }
-        Request::List(source) => {
+        Request::List { source, isa } => {
             let source = open_file(alloc, files, &source_file(source))?;
-            Ok(Request::List(source))
+            Ok(Request::List { source, isa })
         }
-        Request::Dis { bytes, address } => {
-            let bytes = open_file(alloc, files, &bytes_file(address, bytes))?;
-            Ok(Request::Dis { bytes, address })
+        Request::Dis {
+            bytes,
+            isa,
+            address,
+        } => {
+            let bytes = open_file(alloc, files, &bytes_file(isa, address, bytes))?;
+            Ok(Request::Dis {
+                bytes,
+                isa,
+                address,
+            })
         }
         Request::Source(text) => Ok(Request::Source(text)),
         Request::Bounds => Ok(Request::Bounds),

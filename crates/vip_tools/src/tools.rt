@@ -1,7 +1,8 @@
 //! The verbs that run no board.
 
-ghost use Rattle.std.specs.Prelude.{◌-◌, ◌≤◌, length, IfOk};
-ghost use Rattle.vip_tools.specs.Files.{addresses, most_text};
+ghost use Rattle.std.specs.Prelude.{◌≤◌, length, IfOk};
+ghost use Rattle.asm_listing.specs.Disassembly.{HasPlace};
+ghost use Rattle.vip_tools.specs.Files.{most_text};
 ghost use Rattle.vip_tools.specs.Opening.{SourceAnswers};
 ghost use Rattle.vip_tools.specs.Outcome.{AsmComes, BoundsComes, DisComes, IsBytes, ListComes, TextComes};
 ghost use Rattle.vip_tools.specs.Work.{TextAnswers};
@@ -15,12 +16,16 @@ use std::alloc::{AllocError, Global};
 use vip_byte::Buffer;
 use vip_text::bounds_text;
 
-/// The assembly of a source.
-pub(crate) fn make_assembly<'a>(alloc: Global, source: &[u8]) -> Result<Assembly, Refusal<'a>>
+/// The assembly of a source in the words of an instruction set.
+pub(crate) fn make_assembly<'a>(
+    alloc: Global,
+    isa: Isa,
+    source: &[u8],
+) -> Result<Assembly, Refusal<'a>>
     requires { length source.now ≤ most_text }
-    ensures { SourceAnswers source.now result }
+    ensures { SourceAnswers isa source.now result }
 {
-    match assemble(alloc, Isa::Cdp1802, source) {
+    match assemble(alloc, isa, source) {
         Ok(made) => Ok(made),
         Err(AsmFault::Fault { line, cause }) => Err(Refusal::Source { line, cause }),
         Err(AsmFault::NoMemory) => Err(Refusal::NoMemory),
@@ -28,42 +33,42 @@ pub(crate) fn make_assembly<'a>(alloc: Global, source: &[u8]) -> Result<Assembly
 }
 
 /// The bytes of an assembly themselves, or their dump.
-fn bytes(alloc: Global, made: &Assembly, themselves: bool) -> Result<Vec<u8>, AllocError>
-    ensures { IfOk result (λ text. IsBytes themselves made.now text.items) }
+fn bytes(alloc: Global, isa: Isa, made: &Assembly, themselves: bool) -> Result<Vec<u8>, AllocError>
+    ensures { IfOk result (λ text. IsBytes isa themselves made.now text.items) }
 {
     if themselves {
-        raw(alloc, Isa::Cdp1802, made)
+        raw(alloc, isa, made)
     } else {
         dump(alloc, made)
     }
 }
 
 /// Assembles a source of at most 1,048,576 bytes: its bytes themselves, or their dump.
-pub fn asm<'a>(alloc: Global, source: &[u8], raw: bool) -> Result<Vec<u8>, Refusal<'a>>
+pub fn asm<'a>(alloc: Global, isa: Isa, source: &[u8], raw: bool) -> Result<Vec<u8>, Refusal<'a>>
     requires { length source.now ≤ most_text }
-    ensures { TextAnswers (AsmComes raw source.now) result }
+    ensures { TextAnswers (AsmComes isa raw source.now) result }
 {
-    let made = make_assembly(alloc, source)?;
-    let text = bytes(alloc, &made, raw)?;
+    let made = make_assembly(alloc, isa, source)?;
+    let text = bytes(alloc, isa, &made, raw)?;
     Ok(text)
 }
 
 /// Assembles a source of at most 1,048,576 bytes: its listing.
-pub fn list<'a>(alloc: Global, source: &[u8]) -> Result<Vec<u8>, Refusal<'a>>
+pub fn list<'a>(alloc: Global, isa: Isa, source: &[u8]) -> Result<Vec<u8>, Refusal<'a>>
     requires { length source.now ≤ most_text }
-    ensures { TextAnswers (ListComes source.now) result }
+    ensures { TextAnswers (ListComes isa source.now) result }
 {
-    let made = make_assembly(alloc, source)?;
-    let text = listing(alloc, Isa::Cdp1802, &made, source)?;
+    let made = make_assembly(alloc, isa, source)?;
+    let text = listing(alloc, isa, &made, source)?;
     Ok(text)
 }
 
-/// The disassembly of bytes from an address on, which end by address FFFF.
-pub fn dis<'a>(alloc: Global, bytes: &[u8], address: u16) -> Result<Vec<u8>, Refusal<'a>>
-    requires { length bytes.now ≤ addresses - address }
-    ensures { TextAnswers (DisComes address bytes.now) result }
+/// The disassembly of bytes from an address on, all of which lie at addresses of the instruction set's programs.
+pub fn dis<'a>(alloc: Global, isa: Isa, bytes: &[u8], address: u16) -> Result<Vec<u8>, Refusal<'a>>
+    requires { HasPlace isa address bytes.now }
+    ensures { TextAnswers (DisComes isa address bytes.now) result }
 {
-    let text = disassemble(alloc, Isa::Cdp1802, bytes, address)?;
+    let text = disassemble(alloc, isa, bytes, address)?;
     Ok(text)
 }
 

@@ -7,7 +7,7 @@ use Rattle.chip8_lang.specs.declared.view.Edition.{Edition}
 use Rattle.chip8_lang.specs.declared.view.StopRecord.{StopRecord}
 use Rattle.chip8_lang.specs.Events.{is_stop}
 use Rattle.machine.specs.Keys.{Event as KeyEvent}
-use Rattle.vip_words.specs.Request.{Asked, cycles_in, map_request, moves_in}
+use Rattle.vip_words.specs.Request.{Asked, HasStart, cycles_in, map_request, moves_in}
 use Rattle.vip_words.specs.declared.debug_commands.Command.{Command as DebugCommand}
 use Rattle.vip_words.specs.declared.request.Request.{Request}
 use Rattle.vip_words.specs.declared.request.Request.TheVariants as request
@@ -310,15 +310,15 @@ module _ (HasOutcome : Outcome → Type 0) where
   text-answers (Ok text) answers = (tt, answers)
   text-answers (Err refusal) answers = answers
 
--- with the files read, as many cycles and moves are asked for as before
+-- with the files read, as many cycles and moves are asked for as before, and the same address
 module _ {A B : Type 0} (f : A → B) where
   same-cycles : (r : Request A) → cycles_in (map_request f r) ≡ cycles_in r
   same-cycles (request.Run run) = refl
   same-cycles (request.Program run) = refl
   same-cycles (request.Link message moves number) = refl
-  same-cycles (request.Asm source raw) = refl
-  same-cycles (request.List source) = refl
-  same-cycles (request.Dis bytes address) = refl
+  same-cycles (request.Asm source isa raw) = refl
+  same-cycles (request.List source isa) = refl
+  same-cycles (request.Dis bytes isa address) = refl
   same-cycles (request.Source text) = refl
   same-cycles request.Bounds = refl
   same-cycles (request.Cycles source certificate) = refl
@@ -329,14 +329,27 @@ module _ {A B : Type 0} (f : A → B) where
   same-moves (request.Run run) = refl
   same-moves (request.Program run) = refl
   same-moves (request.Link message moves number) = refl
-  same-moves (request.Asm source raw) = refl
-  same-moves (request.List source) = refl
-  same-moves (request.Dis bytes address) = refl
+  same-moves (request.Asm source isa raw) = refl
+  same-moves (request.List source isa) = refl
+  same-moves (request.Dis bytes isa address) = refl
   same-moves (request.Source text) = refl
   same-moves request.Bounds = refl
   same-moves (request.Cycles source certificate) = refl
   same-moves (request.Safe game certificate edition) = refl
   same-moves (request.Certify game edition) = refl
+
+  same-start : (r : Request A) → HasStart (map_request f r) ≡ HasStart r
+  same-start (request.Run run) = refl
+  same-start (request.Program run) = refl
+  same-start (request.Link message moves number) = refl
+  same-start (request.Asm source isa raw) = refl
+  same-start (request.List source isa) = refl
+  same-start (request.Dis bytes isa address) = refl
+  same-start (request.Source text) = refl
+  same-start request.Bounds = refl
+  same-start (request.Cycles source certificate) = refl
+  same-start (request.Safe game certificate edition) = refl
+  same-start (request.Certify game edition) = refl
 
 module _ {A B : Type 0} (f : A → List ℕ) (g : B → List ℕ) (old new : FilesMeaning) (named : Request A) (read : Request B)
     (loaded : IsLoaded old new (map_request f named) (map_request g read)) where
@@ -349,6 +362,11 @@ module _ {A B : Type 0} (f : A → List ℕ) (g : B → List ℕ) (old new : Fil
   moves-loaded =
       sym (same-moves (λ _. tt) (map_request g read) ∙ same-moves g read)
       ∙ ap moves_in (sym loaded.shape) ∙ same-moves (λ _. tt) (map_request f named) ∙ same-moves f named
+
+  pub start-loaded : HasStart read ≡ HasStart named
+  start-loaded =
+      sym (same-start (λ _. tt) (map_request g read) ∙ same-start g read)
+      ∙ ap HasStart (sym loaded.shape) ∙ same-start (λ _. tt) (map_request f named) ∙ same-start f named
 
 module _ (asked : Asked) (old new : FilesMeaning) where
   -- a file is refused

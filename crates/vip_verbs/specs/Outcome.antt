@@ -215,9 +215,9 @@ abbrev pub HasOutcome : Loaded → Outcome → Type 0
 HasOutcome (request.Run run) = RunComes run
 HasOutcome (request.Program run) = ProgramRunComes run
 HasOutcome (request.Link message moves number) = LinkComes message moves number
-HasOutcome (request.Asm source raw) = AsmComes raw source
-HasOutcome (request.List source) = ListComes source
-HasOutcome (request.Dis bytes address) = DisComes address bytes
+HasOutcome (request.Asm source isa raw) = AsmComes isa raw source
+HasOutcome (request.List source isa) = ListComes isa source
+HasOutcome (request.Dis bytes isa address) = DisComes isa address bytes
 HasOutcome (request.Source text) = BuiltInComes text
 HasOutcome request.Bounds = BoundsComes
 HasOutcome (request.Cycles source certificate) = CyclesComes source certificate

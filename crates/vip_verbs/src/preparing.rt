@@ -1,7 +1,7 @@
 //! The opening of a request: its files are read and judged, and all the memory that its work needs is taken.
 
 ghost use Rattle.std.specs.Prelude.{◌≡◌, ◌≤◌};
-ghost use Rattle.vip_words.specs.Request.{asked_of, cycles_in, most_cycles, most_moves, moves_in};
+ghost use Rattle.vip_words.specs.Request.{asked_of, cycles_in, most_cycles, most_moves, moves_in, HasStart};
 ghost use Rattle.vip_tools.specs.Files.{loaded_of, needed, AreFit};
 ghost use Rattle.vip_tools.specs.Outcome.{Writes};
 ghost use Rattle.vip_tools.specs.Work.{TextAnswers};
@@ -51,6 +51,7 @@ fn text<'a>(made: Result<Vec<u8>, Refusal<'a>>) -> Result<Prepared, Refusal<'a>>
 fn prepare<'a>(alloc: Global, request: Request<Vec<u8>>) -> Result<Prepared, Refusal<'a>>
     requires limit { cycles_in request ≤ most_cycles }
     requires moves { moves_in request ≤ most_moves }
+    requires start { HasStart request }
     requires fit { AreFit (needed (loaded_of request)) }
     ensures { PrepareAnswers (HasOutcome (loaded_of request)) result }
 {
@@ -62,9 +63,13 @@ fn prepare<'a>(alloc: Global, request: Request<Vec<u8>>) -> Result<Prepared, Ref
             moves,
             number,
         } => open_link(alloc, message.as_slice(), moves, number),
-        Request::Asm { source, raw } => text(asm(alloc, source.as_slice(), raw)),
-        Request::List(source) => text(list(alloc, source.as_slice())),
-        Request::Dis { bytes, address } => text(dis(alloc, bytes.as_slice(), address)),
+        Request::Asm { source, isa, raw } => text(asm(alloc, isa, source.as_slice(), raw)),
+        Request::List { source, isa } => text(list(alloc, isa, source.as_slice())),
+        Request::Dis {
+            bytes,
+            isa,
+            address,
+        } => text(dis(alloc, isa, bytes.as_slice(), address)),
         Request::Source(source) => text(built_in(alloc, source)),
         Request::Bounds => text(bounds(alloc)),
         Request::Cycles {
@@ -89,6 +94,7 @@ pub fn open<'a, F: Files>(
 ) -> Result<Prepared, Refusal<'a>>
     requires limit { cycles_in request ≤ most_cycles }
     requires moves { moves_in request ≤ most_moves }
+    requires start { HasStart request }
     ensures { OpenAnswers (asked_of request.entry) (F.meaning files.old) (F.meaning files.new) result }
 {
     let request = load(alloc, files, request)?;

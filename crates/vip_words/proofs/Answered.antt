@@ -18,7 +18,7 @@ use Rattle.vip_words.proofs.Ends.{EndsGiven, flag_end}
 use Rattle.vip_words.proofs.Known.{known_of_all, strings_known}
 use Rattle.vip_words.proofs.Rows.{Seen, both_true, first_of-look, look, one_of-look}
 use Rattle.vip_words.proofs.Shown.{flag_in, word_seen}
-use Rattle.vip_words.proofs.Flags.{At, Flag, Ram, Raw, Receiver, Rom, Screen, Sender, State, Tall, Words, flag_name}
+use Rattle.vip_words.proofs.Flags.{At, Chip8, Flag, Ram, Raw, Receiver, Rom, Screen, Sender, State, Tall, Words, flag_name}
 use Rattle.vip_words.proofs.Steps.{First, Second, Third}
 use Rattle.vip_words.proofs.Walks.{Agrees, all_given, command_agrees, is_well_formed}
 
@@ -78,6 +78,7 @@ pub record ReadFrom (found : Found) (given : Given) : Type 0 where
   pub tall : FlagRead found (codes "tall") given.tall
   pub state : FlagRead found (codes "state") given.state
   pub raw : FlagRead found (codes "raw") given.raw
+  pub chip8 : FlagRead found (codes "chip8") given.chip8
   pub rom : FlagRead found (codes "rom") given.rom
   pub ram : FlagRead found (codes "ram") given.ram
   pub sender : FlagRead found (codes "sender") given.sender
@@ -144,8 +145,11 @@ from_ram given given' = record (from_sender given given') { ram = given.ram }
 abbrev from_rom : Given → Given → Given
 from_rom given given' = record (from_ram given given') { rom = given.rom }
 
+abbrev from_chip8 : Given → Given → Given
+from_chip8 given given' = record (from_rom given given') { chip8 = given.chip8 }
+
 abbrev from_raw : Given → Given → Given
-from_raw given given' = record (from_rom given given') { raw = given.raw }
+from_raw given given' = record (from_chip8 given given') { raw = given.raw }
 
 abbrev from_state : Given → Given → Given
 from_state given given' = record (from_raw given given') { state = given.state }
@@ -166,11 +170,12 @@ same_given given given' positional keys flags =
     ∙ (ap (λ x. record (from_tall given given') { words = x }) (flags Words)
     ∙ (ap (λ x. record (from_state given given') { tall = x }) (flags Tall)
     ∙ (ap (λ x. record (from_raw given given') { state = x }) (flags State)
-    ∙ (ap (λ x. record (from_rom given given') { raw = x }) (flags Raw)
+    ∙ (ap (λ x. record (from_chip8 given given') { raw = x }) (flags Raw)
+    ∙ (ap (λ x. record (from_rom given given') { chip8 = x }) (flags Chip8)
     ∙ (ap (λ x. record (from_ram given given') { rom = x }) (flags Rom)
     ∙ (ap (λ x. record (from_sender given given') { ram = x }) (flags Ram)
     ∙ (ap (λ x. record given' { sender = x; receiver = given.receiver }) (flags Sender)
-    ∙ ap (λ x. record given' { receiver = x }) (flags Receiver)))))))))))
+    ∙ ap (λ x. record given' { receiver = x }) (flags Receiver))))))))))))
 
 -- what is read is what the rows show
 read_shown : (found : Found) (given given' : Given) → length given.positional ≤ 3 → EndsGiven (rows_of found) given → ReadFrom found given'
@@ -186,6 +191,7 @@ read_shown found given given' few shows reads =
       | Tall ↦ flag_read found given Tall given'.tall shows reads.tall
       | State ↦ flag_read found given State given'.state shows reads.state
       | Raw ↦ flag_read found given Raw given'.raw shows reads.raw
+      | Chip8 ↦ flag_read found given Chip8 given'.chip8 shows reads.chip8
       | Rom ↦ flag_read found given Rom given'.rom shows reads.rom
       | Ram ↦ flag_read found given Ram given'.ram shows reads.ram
       | Sender ↦ flag_read found given Sender given'.sender shows reads.sender

@@ -33,19 +33,21 @@ pub all_places : (places i : ℕ) (a b c : Bor Text) → places ≤ 3 → length
 all_places places i a b c few from upto = let count = place_count places a b c few in omega arith
 
 -- the argument of the next flag is added to a command that has the flags before it
-pub next_flag : (name : Text) (i : ℕ) (a b c d e f g h k l j : Bor Text) → a.now ≡ codes "at" → b.now ≡ codes "screen" → c.now ≡ codes "words"
-    → d.now ≡ codes "tall" → e.now ≡ codes "state" → f.now ≡ codes "raw" → g.now ≡ codes "rom" → h.now ≡ codes "ram"
-    → k.now ≡ codes "sender" → l.now ≡ codes "receiver" → i < 10
-    → with_rule (app_with name (keys_rule ∷ map flag_rule (take i flag_names))) (flag_rule (get_or (a ∷ b ∷ c ∷ d ∷ e ∷ f ∷ g ∷ h ∷ k ∷ l ∷ []) i j).now)
+pub next_flag : (name : Text) (i : ℕ) (a b c d e f g h k l m j : Bor Text) → a.now ≡ codes "at" → b.now ≡ codes "screen" → c.now ≡ codes "words"
+    → d.now ≡ codes "tall" → e.now ≡ codes "state" → f.now ≡ codes "raw" → g.now ≡ codes "chip8" → h.now ≡ codes "rom" → k.now ≡ codes "ram"
+    → l.now ≡ codes "sender" → m.now ≡ codes "receiver" → i < 11
+    → with_rule (app_with name (keys_rule ∷ map flag_rule (take i flag_names)))
+    (flag_rule (get_or (a ∷ b ∷ c ∷ d ∷ e ∷ f ∷ g ∷ h ∷ k ∷ l ∷ m ∷ []) i j).now)
     ≡ app_with name (keys_rule ∷ map flag_rule (take (i + 1) flag_names))
-next_flag name zero a b c d e f g h k l j at screen words tall state raw rom ram sender receiver few = rw at refl
-next_flag name (suc zero) a b c d e f g h k l j at screen words tall state raw rom ram sender receiver few = rw screen refl
-next_flag name (suc (suc zero)) a b c d e f g h k l j at screen words tall state raw rom ram sender receiver few = rw words refl
-next_flag name (suc (suc (suc zero))) a b c d e f g h k l j at screen words tall state raw rom ram sender receiver few = rw tall refl
-next_flag name (suc (suc (suc (suc zero)))) a b c d e f g h k l j at screen words tall state raw rom ram sender receiver few = rw state refl
-next_flag name (suc (suc (suc (suc (suc zero))))) a b c d e f g h k l j at screen words tall state raw rom ram sender receiver few = rw raw refl
-next_flag name (suc (suc (suc (suc (suc (suc zero)))))) a b c d e f g h k l j at screen words tall state raw rom ram sender receiver few = rw rom refl
-next_flag name (suc (suc (suc (suc (suc (suc (suc zero))))))) a b c d e f g h k l j at screen words tall state raw rom ram sender receiver few = rw ram refl
-next_flag name (suc (suc (suc (suc (suc (suc (suc (suc zero)))))))) a b c d e f g h k l j at screen words tall state raw rom ram sender receiver few = rw sender refl
-next_flag name (suc (suc (suc (suc (suc (suc (suc (suc (suc zero))))))))) a b c d e f g h k l j at screen words tall state raw rom ram sender receiver few = rw receiver refl
-next_flag name (suc (suc (suc (suc (suc (suc (suc (suc (suc (suc i)))))))))) a b c d e f g h k l j at screen words tall state raw rom ram sender receiver few = absurd (omega arith)
+next_flag name zero a b c d e f g h k l m j at screen words tall state raw chip8 rom ram sender receiver few = rw at refl
+next_flag name (suc zero) a b c d e f g h k l m j at screen words tall state raw chip8 rom ram sender receiver few = rw screen refl
+next_flag name (suc (suc zero)) a b c d e f g h k l m j at screen words tall state raw chip8 rom ram sender receiver few = rw words refl
+next_flag name (suc (suc (suc zero))) a b c d e f g h k l m j at screen words tall state raw chip8 rom ram sender receiver few = rw tall refl
+next_flag name (suc (suc (suc (suc zero)))) a b c d e f g h k l m j at screen words tall state raw chip8 rom ram sender receiver few = rw state refl
+next_flag name (suc (suc (suc (suc (suc zero))))) a b c d e f g h k l m j at screen words tall state raw chip8 rom ram sender receiver few = rw raw refl
+next_flag name (suc (suc (suc (suc (suc (suc zero)))))) a b c d e f g h k l m j at screen words tall state raw chip8 rom ram sender receiver few = rw chip8 refl
+next_flag name (suc (suc (suc (suc (suc (suc (suc zero))))))) a b c d e f g h k l m j at screen words tall state raw chip8 rom ram sender receiver few = rw rom refl
+next_flag name (suc (suc (suc (suc (suc (suc (suc (suc zero)))))))) a b c d e f g h k l m j at screen words tall state raw chip8 rom ram sender receiver few = rw ram refl
+next_flag name (suc (suc (suc (suc (suc (suc (suc (suc (suc zero))))))))) a b c d e f g h k l m j at screen words tall state raw chip8 rom ram sender receiver few = rw sender refl
+next_flag name (suc (suc (suc (suc (suc (suc (suc (suc (suc (suc zero)))))))))) a b c d e f g h k l m j at screen words tall state raw chip8 rom ram sender receiver few = rw receiver refl
+next_flag name (suc (suc (suc (suc (suc (suc (suc (suc (suc (suc (suc i))))))))))) a b c d e f g h k l m j at screen words tall state raw chip8 rom ram sender receiver few = absurd (omega arith)

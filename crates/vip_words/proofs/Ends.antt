@@ -10,7 +10,7 @@ use Rattle.clap.specs.Walk.{Row, Rule, Text, finished, with_default}
 use Rattle.clap.specs.declared.builder.value_parser.Reading.TheVariants.{AsWritten}
 use Rattle.vip_words.specs.Command.{place_names, place_rule}
 use Rattle.vip_words.proofs.Rows.{Seen, after_default, defaults-look, is_given-look, is_nil, look, no_default, or_first, or_first-none, quiet_defaults}
-use Rattle.vip_words.proofs.Flags.{At, Flag, Ram, Raw, Receiver, Rom, Screen, Sender, State, Tall, Words, flag_name}
+use Rattle.vip_words.proofs.Flags.{At, Chip8, Flag, Ram, Raw, Receiver, Rom, Screen, Sender, State, Tall, Words, flag_name}
 use Rattle.vip_words.proofs.Steps.{First, Pending, Place, Second, Third, all_quiet, arguments, held, missing_places, place_at, place_name, settled_after}
 use Rattle.vip_words.specs.Rules.{Given}
 use Rattle.vip_words.proofs.Shown.{Facts, Idle, flag_in, flag_seen, word_seen}
@@ -59,7 +59,9 @@ flag_default count State true = no_default (codes "state") (flag_end true) (plac
 flag_default count Tall false = no_default (codes "tall") (flag_end false) (place_arguments count) (no_place_default count)
 flag_default count State false = no_default (codes "state") (flag_end false) (place_arguments count) (no_place_default count)
 flag_default count Raw true = no_default (codes "raw") (flag_end true) (place_arguments count) (no_place_default count)
+flag_default count Chip8 true = no_default (codes "chip8") (flag_end true) (place_arguments count) (no_place_default count)
 flag_default count Raw false = no_default (codes "raw") (flag_end false) (place_arguments count) (no_place_default count)
+flag_default count Chip8 false = no_default (codes "chip8") (flag_end false) (place_arguments count) (no_place_default count)
 flag_default count Rom true = no_default (codes "rom") (flag_end true) (place_arguments count) (no_place_default count)
 flag_default count Rom false = no_default (codes "rom") (flag_end false) (place_arguments count) (no_place_default count)
 flag_default count Ram true = no_default (codes "ram") (flag_end true) (place_arguments count) (no_place_default count)

@@ -12,6 +12,7 @@ pub data Flag : Type 0 where
   Tall : Flag
   State : Flag
   Raw : Flag
+  Chip8 : Flag
   Rom : Flag
   Ram : Flag
   Sender : Flag
@@ -24,6 +25,7 @@ flag_name Words = codes "words"
 flag_name Tall = codes "tall"
 flag_name State = codes "state"
 flag_name Raw = codes "raw"
+flag_name Chip8 = codes "chip8"
 flag_name Rom = codes "rom"
 flag_name Ram = codes "ram"
 flag_name Sender = codes "sender"
@@ -36,13 +38,14 @@ flag_word Words = codes "--words"
 flag_word Tall = codes "--tall"
 flag_word State = codes "--state"
 flag_word Raw = codes "--raw"
+flag_word Chip8 = codes "--chip8"
 flag_word Rom = codes "--rom"
 flag_word Ram = codes "--ram"
 flag_word Sender = codes "--sender"
 flag_word Receiver = codes "--receiver"
 
 abbrev pub every_flag : List Flag
-every_flag = At ∷ Screen ∷ Words ∷ Tall ∷ State ∷ Raw ∷ Rom ∷ Ram ∷ Sender ∷ Receiver ∷ []
+every_flag = At ∷ Screen ∷ Words ∷ Tall ∷ State ∷ Raw ∷ Chip8 ∷ Rom ∷ Ram ∷ Sender ∷ Receiver ∷ []
 
 -- what holds of every flag in the list holds of each
 pub all_flags : (test : Flag → Bool) → list_all test every_flag ≡ true → (flag : Flag) → test flag ≡ true
@@ -52,7 +55,8 @@ all_flags test all flag =
     let from_tall = both_true (test Words) _ from_words.1 in
     let from_state = both_true (test Tall) _ from_tall.1 in
     let from_raw = both_true (test State) _ from_state.1 in
-    let from_rom = both_true (test Raw) _ from_raw.1 in
+    let from_chip8 = both_true (test Raw) _ from_raw.1 in
+    let from_rom = both_true (test Chip8) _ from_chip8.1 in
     let from_ram = both_true (test Rom) _ from_rom.1 in
     let from_sender = both_true (test Ram) _ from_ram.1 in
     let from_receiver = both_true (test Sender) _ from_sender.1 in
@@ -63,7 +67,8 @@ all_flags test all flag =
       | Words ↦ from_tall.0
       | Tall ↦ from_state.0
       | State ↦ from_raw.0
-      | Raw ↦ from_rom.0
+      | Raw ↦ from_chip8.0
+      | Chip8 ↦ from_rom.0
       | Rom ↦ from_ram.0
       | Ram ↦ from_sender.0
       | Sender ↦ from_receiver.0

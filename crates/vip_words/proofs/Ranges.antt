@@ -1,12 +1,14 @@
 -- The machine cycles that the words ask for are at most 4,000,000,000, and the moves of joined boards at most 10,000,000.
 use Rattle.std.proofs.Common.{Bor, ◌≡◌, ℕ, ◌≤◌, List, [], ◌∷◌, Option, Some, None, Ok, Err, Bool, true, false, length, ltb, refl, sym, subst, arith}
-use Rattle.std.specs.Prelude.{IfOk, ok_or, option_map, option_and_then, if◌then◌else◌, ◌==◌, not}
+use Rattle.std.specs.Prelude.{IfOk, nat_lt, ok_or, option_map, option_and_then, if◌then◌else◌, ◌==◌, not}
 use Rattle.std.specs.Result.{result_ok}
 use Rattle.std.specs.Str.Parse.{digits_value}
 use Rattle.std.proofs.lemmas.Bool.{ltb-false}
-use Rattle.vip_byte.specs.Number.{number, are_digits}
+use Rattle.asm_lex.specs.declared.shape.Isa.{Isa}
+use Rattle.asm_core.specs.Ranges.{last_of, origin_of}
+use Rattle.vip_byte.specs.Number.{number, are_digits, hex_number}
 use Rattle.vip_byte.specs.declared.number.NumFault.TheVariants.{Empty, BadDigit, TooLarge}
-use Rattle.vip_words.specs.Asked.{address_of, asked_of_verb, bounds_by, built_in_by, cycles_of, debug_by, demo_by, dis_by, edition_by, either_by, file_by, is_mixed, is_program, link_by, moves_of, play_by, program_by, resume_by, run_by, safe_by, seed_of, shown_by, source_by, start_by, trace_by, within_by}
+use Rattle.vip_words.specs.Asked.{asked_of_verb, bounds_by, built_in_by, cycles_of, debug_by, demo_by, dis_by, edition_by, either_by, file_by, is_mixed, is_program, isa_by, link_by, moves_of, no_less_than, place_of, play_by, program_by, resume_by, run_by, safe_by, seed_of, shown_by, source_by, start_by, trace_by, within_by}
 use Rattle.vip_words.specs.Request.{Asked, InRange, asked_of, most_cycles, most_moves}
 use Rattle.vip_words.specs.Rules.{Word, Given}
 use Rattle.vip_words.specs.declared.given.WordsFail.TheVariants.{Refused}
@@ -59,7 +61,7 @@ run-low file cycles given shown asked h = go (start_by file given) h
         (λ s. option_map (λ n. request.Run (record { start = s; keys = given.keys; limit = n; show = shown })) (cycles_of cycles)) o ≡ Some asked
         → InRange asked
     go None h = absurd (cc)
-    go (Some s) h = by_cycles cycles _ asked (λ n low. record { cycles = low; moves = omega arith }) h
+    go (Some s) h = by_cycles cycles _ asked (λ n low. record { cycles = low; moves = omega arith; start = tt }) h
 
 program-low : (file cycles : Word) (given : Given) (shown : ProgramShow Word) (asked : Asked) → program_by file cycles given shown ≡ Some asked
     → InRange asked
@@ -70,7 +72,7 @@ program-low file cycles given shown asked h = go (is_mixed given) h
 
     go : (b : Bool) → (if b then None else option_map run_with (cycles_of cycles)) ≡ Some asked → InRange asked
     go true h = absurd (cc)
-    go false h = by_cycles cycles run_with asked (λ n low. record { cycles = low; moves = omega arith }) h
+    go false h = by_cycles cycles run_with asked (λ n low. record { cycles = low; moves = omega arith; start = tt }) h
 
 either-low : (file cycles : Word) (given : Given) (shown : Show Word) (program_shown : ProgramShow Word) (asked : Asked)
     → either_by file cycles given shown program_shown ≡ Some asked → InRange asked
@@ -109,7 +111,7 @@ shown-low shown (file ∷ cycles ∷ more ∷ words) given asked h = absurd (cc)
 resume-low : (words : List Word) (given : Given) (asked : Asked) → resume_by words given ≡ Some asked → InRange asked
 resume-low [] given asked h = absurd (cc)
 resume-low (state ∷ []) given asked h = absurd (cc)
-resume-low (state ∷ cycles ∷ []) given asked h = by_cycles cycles _ asked (λ n low. record { cycles = low; moves = omega arith }) h
+resume-low (state ∷ cycles ∷ []) given asked h = by_cycles cycles _ asked (λ n low. record { cycles = low; moves = omega arith; start = tt }) h
 resume-low (state ∷ cycles ∷ more ∷ words) given asked h = absurd (cc)
 
 demo-low : (words : List Word) (asked : Asked) → demo_by words ≡ Some asked → InRange asked
@@ -122,7 +124,7 @@ demo-low (number ∷ cycles ∷ []) asked h = go (seed_of number) h
         (λ n. option_map (λ c. request.Run (record { start = start.Demo n; keys = None; limit = c; show = show.Summary n })) (cycles_of cycles)) o
         ≡ Some asked → InRange asked
     go None h = absurd (cc)
-    go (Some n) h = by_cycles cycles _ asked (λ c low. record { cycles = low; moves = omega arith }) h
+    go (Some n) h = by_cycles cycles _ asked (λ c low. record { cycles = low; moves = omega arith; start = tt }) h
 demo-low (number ∷ cycles ∷ more ∷ words) asked h = absurd (cc)
 
 link-low : (words : List Word) (asked : Asked) → link_by words ≡ Some asked → InRange asked
@@ -134,32 +136,48 @@ link-low (message ∷ moves ∷ number ∷ []) asked h = go (moves_of moves) ref
     go : (o : Option ℕ) → moves_of moves ≡ o
         → option_and_then (λ m. option_map (λ n. request.Link message m n) (seed_of number)) o ≡ Some asked → InRange asked
     go None e h = absurd (cc)
-    go (Some m) e h = by_read (seed_of number) _ asked (λ n _. record { cycles = omega arith; moves = moves-low moves m e }) h
+    go (Some m) e h = by_read (seed_of number) _ asked (λ n _. record { cycles = omega arith; moves = moves-low moves m e; start = tt }) h
 link-low (message ∷ moves ∷ number ∷ more ∷ words) asked h = absurd (cc)
 
-dis-low : (words : List Word) (asked : Asked) → dis_by words ≡ Some asked → InRange asked
-dis-low [] asked h = absurd (cc)
-dis-low (file ∷ []) asked h = absurd (cc)
-dis-low (file ∷ at ∷ []) asked h = by_read (address_of at) _ asked (λ a e. record { cycles = omega arith; moves = omega arith }) h
-dis-low (file ∷ at ∷ more ∷ words) asked h = absurd (cc)
+-- an address that was read is one of the instruction set's programs
+place-low : (isa : Isa) (word : Word) (a : ℕ) → place_of isa word ≡ Some a → (origin_of isa ≤ a) × (a ≤ last_of isa)
+place-low isa word a h = read (result_ok (hex_number word (last_of isa))) refl h
+  where
+    read : (o : Option ℕ) → result_ok (hex_number word (last_of isa)) ≡ o → option_and_then (no_less_than (origin_of isa)) o ≡ Some a
+        → (origin_of isa ≤ a) × (a ≤ last_of isa)
+    read None e h = absurd (cc)
+    read (Some n) e h = least (nat_lt n (origin_of isa)) refl h
+      where
+        least : (b : Bool) → nat_lt n (origin_of isa) ≡ b → (if b then None else Some n) ≡ Some a → (origin_of isa ≤ a) × (a ≤ last_of isa)
+        least true _ h = absurd (cc)
+        least false low h =
+            let same : n ≡ a = cc in
+            rw (← same) (ltb-false n (origin_of isa) low, number-low 16 word (last_of isa) n e)
+
+dis-low : (isa : Isa) (words : List Word) (asked : Asked) → dis_by isa words ≡ Some asked → InRange asked
+dis-low isa [] asked h = absurd (cc)
+dis-low isa (file ∷ []) asked h = absurd (cc)
+dis-low isa (file ∷ at ∷ []) asked h =
+    by_read (place_of isa at) _ asked (λ a e. record { cycles = omega arith; moves = omega arith; start = place-low isa at a e }) h
+dis-low isa (file ∷ at ∷ more ∷ words) asked h = absurd (cc)
 
 -- what is asked for where the words are these, and runs nothing
 this-low : (mine asked : Asked) → InRange mine → Some mine ≡ Some asked → InRange asked
 this-low mine asked low h = let is : mine ≡ asked = cc in subst InRange is low
 
 source-low : (words : List Word) (given : Given) (asked : Asked) → source_by words given ≡ Some asked → InRange asked
-source-low [] given asked h = by_read (built_in_by given) _ asked (λ text _. record { cycles = omega arith; moves = omega arith }) h
+source-low [] given asked h = by_read (built_in_by given) _ asked (λ text _. record { cycles = omega arith; moves = omega arith; start = tt }) h
 source-low (word ∷ words) given asked h = absurd (cc)
 
 bounds-low : (words : List Word) (asked : Asked) → bounds_by words ≡ Some asked → InRange asked
-bounds-low [] asked h = this-low request.Bounds asked (record { cycles = omega arith; moves = omega arith }) h
+bounds-low [] asked h = this-low request.Bounds asked (record { cycles = omega arith; moves = omega arith; start = tt }) h
 bounds-low (word ∷ words) asked h = absurd (cc)
 
 within-low : (words : List Word) (asked : Asked) → within_by words ≡ Some asked → InRange asked
 within-low [] asked h = absurd (cc)
 within-low (file ∷ []) asked h = absurd (cc)
 within-low (file ∷ certificate ∷ []) asked h =
-    this-low (request.Cycles file certificate) asked (record { cycles = omega arith; moves = omega arith }) h
+    this-low (request.Cycles file certificate) asked (record { cycles = omega arith; moves = omega arith; start = tt }) h
 within-low (file ∷ certificate ∷ more ∷ words) asked h = absurd (cc)
 
 safe-low : (words : List Word) (given : Given) (asked : Asked) → safe_by words given ≡ Some asked → InRange asked
@@ -167,7 +185,7 @@ safe-low [] given asked h = absurd (cc)
 safe-low (game ∷ []) given asked h = absurd (cc)
 safe-low (game ∷ certificate ∷ []) given asked h =
     this-low (request.Safe game certificate (edition_by given.tall)) asked
-    (record { cycles = omega arith; moves = omega arith }) h
+    (record { cycles = omega arith; moves = omega arith; start = tt }) h
 safe-low (game ∷ certificate ∷ more ∷ words) given asked h = absurd (cc)
 
 verb-low : (v : Verb) (given : Given) (asked : Asked) → asked_of_verb v given ≡ Some asked → InRange asked
@@ -179,14 +197,14 @@ verb-low verb.Profile given asked h = shown-low show.Profile given.positional gi
 verb-low verb.Resume given asked h = resume-low given.positional given asked h
 verb-low verb.Demo given asked h = demo-low given.positional asked h
 verb-low verb.Link given asked h = link-low given.positional asked h
-verb-low verb.Asm given asked h = by_read (file_by given.positional) _ asked (λ name e. record { cycles = omega arith; moves = omega arith }) h
-verb-low verb.List given asked h = by_read (file_by given.positional) _ asked (λ name e. record { cycles = omega arith; moves = omega arith }) h
-verb-low verb.Dis given asked h = dis-low given.positional asked h
+verb-low verb.Asm given asked h = by_read (file_by given.positional) _ asked (λ name e. record { cycles = omega arith; moves = omega arith; start = tt }) h
+verb-low verb.List given asked h = by_read (file_by given.positional) _ asked (λ name e. record { cycles = omega arith; moves = omega arith; start = tt }) h
+verb-low verb.Dis given asked h = dis-low (isa_by given.chip8) given.positional asked h
 verb-low verb.Source given asked h = source-low given.positional given asked h
 verb-low verb.Bounds given asked h = bounds-low given.positional asked h
 verb-low verb.Cycles given asked h = within-low given.positional asked h
 verb-low verb.Safe given asked h = safe-low given.positional given asked h
-verb-low verb.Certify given asked h = by_read (file_by given.positional) _ asked (λ name e. record { cycles = omega arith; moves = omega arith }) h
+verb-low verb.Certify given asked h = by_read (file_by given.positional) _ asked (λ name e. record { cycles = omega arith; moves = omega arith; start = tt }) h
 
 -- so is what a verb's words are read as
 pub read-low : (v : Verb) (given : Given) (o : Option (Request (Bor Word))) → option_map asked_of o ≡ asked_of_verb v given

@@ -7,7 +7,7 @@ use Rattle.clap.specs.Walk.{Row, Text, used}
 use Rattle.clap.specs.declared.builder.value_parser.Reading.TheVariants.{AsWritten}
 use Rattle.clap.specs.declared.parser.matches.ValueSource.TheVariants.{CommandLine}
 use Rattle.vip_words.proofs.Rows.{Seen, has_row-look, look, look-other, look-use, new_row, or_first, shown}
-use Rattle.vip_words.proofs.Flags.{At, Flag, Ram, Raw, Receiver, Rom, Screen, Sender, State, Tall, Words, flag_name, is_flag, no_flag}
+use Rattle.vip_words.proofs.Flags.{At, Chip8, Flag, Ram, Raw, Receiver, Rom, Screen, Sender, State, Tall, Words, flag_name, is_flag, no_flag}
 use Rattle.vip_words.proofs.Steps.{First, Pending, Place, Second, Third, flag_argument, place_at, place_by_id, place_name, settled_after, settles}
 use Rattle.vip_words.specs.Rules.{Given}
 
@@ -19,6 +19,7 @@ flag_in given Words = given.words
 flag_in given Tall = given.tall
 flag_in given State = given.state
 flag_in given Raw = given.raw
+flag_in given Chip8 = given.chip8
 flag_in given Rom = given.rom
 flag_in given Ram = given.ram
 flag_in given Sender = given.sender
@@ -32,6 +33,7 @@ with_flag new given = record given {
   tall = is_flag new Tall || given.tall;
   state = is_flag new State || given.state;
   raw = is_flag new Raw || given.raw;
+  chip8 = is_flag new Chip8 || given.chip8;
   rom = is_flag new Rom || given.rom;
   ram = is_flag new Ram || given.ram;
   sender = is_flag new Sender || given.sender;
@@ -46,6 +48,7 @@ flag_in-with new Words given = refl
 flag_in-with new Tall given = refl
 flag_in-with new State given = refl
 flag_in-with new Raw given = refl
+flag_in-with new Chip8 given = refl
 flag_in-with new Rom given = refl
 flag_in-with new Ram given = refl
 flag_in-with new Sender given = refl
@@ -230,6 +233,7 @@ nothing_given = record {
   tall = false;
   state = false;
   raw = false;
+  chip8 = false;
   rom = false;
   ram = false;
   sender = false;
@@ -251,6 +255,7 @@ no_rows = record {
     | Tall ↦ refl
     | State ↦ refl
     | Raw ↦ refl
+    | Chip8 ↦ refl
     | Rom ↦ refl
     | Ram ↦ refl
     | Sender ↦ refl

@@ -8,7 +8,7 @@ use Rattle.clap.specs.Simple.{Shape, built, filled, with_index}
 use Rattle.clap.specs.Takes.{is_given}
 use Rattle.clap.specs.Walk.{Held, Row, Rule, Text, Waiting, Walk, arg_by_id, arg_by_index, idle, is_pending, option, settled_rows, used, walked}
 use Rattle.vip_words.specs.Command.{command_app, flag_rule, place_rule, place_names}
-use Rattle.vip_words.proofs.Flags.{At, Flag, Ram, Raw, Receiver, Rom, Screen, Sender, State, Tall, Words, flag_name, flag_word}
+use Rattle.vip_words.proofs.Flags.{At, Chip8, Flag, Ram, Raw, Receiver, Rom, Screen, Sender, State, Tall, Words, flag_name, flag_word}
 use Rattle.vip_words.proofs.Rows.{is_quiet}
 
 -- the places of the positional words
@@ -139,6 +139,7 @@ flag_step count Words rows pending position = refl
 flag_step count Tall rows pending position = refl
 flag_step count State rows pending position = refl
 flag_step count Raw rows pending position = refl
+flag_step count Chip8 rows pending position = refl
 flag_step count Rom rows pending position = refl
 flag_step count Ram rows pending position = refl
 flag_step count Sender rows pending position = refl
@@ -153,6 +154,7 @@ flag_turn name count Words rows pending position = refl
 flag_turn name count Tall rows pending position = refl
 flag_turn name count State rows pending position = refl
 flag_turn name count Raw rows pending position = refl
+flag_turn name count Chip8 rows pending position = refl
 flag_turn name count Rom rows pending position = refl
 flag_turn name count Ram rows pending position = refl
 flag_turn name count Sender rows pending position = refl

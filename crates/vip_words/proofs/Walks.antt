@@ -9,7 +9,7 @@ use Rattle.clap.specs.Walk.{Row, Text, Waiting, Walk, finished, idle, used, walk
 use Rattle.vip_words.specs.Command.{command_faults, command_rows}
 use Rattle.vip_words.specs.Rules.{every_option, has_values, is_given, is_known, is_once, keys_value, positional_words}
 use Rattle.vip_words.proofs.Rows.{Seen, both_true, look, or_first, or_first-none, same_bytes}
-use Rattle.vip_words.proofs.Flags.{At, Flag, Ram, Raw, Receiver, Rom, Screen, Sender, State, Tall, Words, every_flag, flag_among, flag_word, one_flag_fails}
+use Rattle.vip_words.proofs.Flags.{At, Chip8, Flag, Ram, Raw, Receiver, Rom, Screen, Sender, State, Tall, Words, every_flag, flag_among, flag_word, one_flag_fails}
 use Rattle.vip_words.proofs.Steps.{and_never, First, Pending, Place, Second, Third, arguments, asked, asking, flag_argument, flag_step, flag_turn, held, keys_step, keys_turn, place_at, place_name, place_step, place_turn, settled_after, settles, shape, stand, stray_turn, value_step, value_turn}
 use Rattle.vip_words.specs.Rules.{Given, Word}
 use Rattle.vip_words.proofs.Ends.{EndsGiven, ends_checked, shows_end}
@@ -42,6 +42,7 @@ then_given given words = record {
   tall = given.tall || is_given (codes "--tall") words;
   state = given.state || is_given (codes "--state") words;
   raw = given.raw || is_given (codes "--raw") words;
+  chip8 = given.chip8 || is_given (codes "--chip8") words;
   rom = given.rom || is_given (codes "--rom") words;
   ram = given.ram || is_given (codes "--ram") words;
   sender = given.sender || is_given (codes "--sender") words;
@@ -59,6 +60,7 @@ then_valued given words = record {
   tall = given.tall || is_given (codes "--tall") words;
   state = given.state || is_given (codes "--state") words;
   raw = given.raw || is_given (codes "--raw") words;
+  chip8 = given.chip8 || is_given (codes "--chip8") words;
   rom = given.rom || is_given (codes "--rom") words;
   ram = given.ram || is_given (codes "--ram") words;
   sender = given.sender || is_given (codes "--sender") words;
@@ -249,6 +251,7 @@ flag_passes count before given Words words off = rw off refl
 flag_passes count before given Tall words off = rw off refl
 flag_passes count before given State words off = rw off refl
 flag_passes count before given Raw words off = rw off refl
+flag_passes count before given Chip8 words off = rw off refl
 flag_passes count before given Rom words off = rw off refl
 flag_passes count before given Ram words off = rw off refl
 flag_passes count before given Sender words off = rw off refl
@@ -262,6 +265,7 @@ flag_given given Words words off = rw off refl
 flag_given given Tall words off = rw off refl
 flag_given given State words off = rw off refl
 flag_given given Raw words off = rw off refl
+flag_given given Chip8 words off = rw off refl
 flag_given given Rom words off = rw off refl
 flag_given given Ram words off = rw off refl
 flag_given given Sender words off = rw off refl
@@ -278,6 +282,7 @@ flag_again_is_twice Words words = refl
 flag_again_is_twice Tall words = refl
 flag_again_is_twice State words = refl
 flag_again_is_twice Raw words = refl
+flag_again_is_twice Chip8 words = refl
 flag_again_is_twice Rom words = refl
 flag_again_is_twice Ram words = refl
 flag_again_is_twice Sender words = refl
@@ -348,6 +353,7 @@ option_turn name count rows position word (inr (Words, is)) = rw is (λ e. cc)
 option_turn name count rows position word (inr (Tall, is)) = rw is (λ e. cc)
 option_turn name count rows position word (inr (State, is)) = rw is (λ e. cc)
 option_turn name count rows position word (inr (Raw, is)) = rw is (λ e. cc)
+option_turn name count rows position word (inr (Chip8, is)) = rw is (λ e. cc)
 option_turn name count rows position word (inr (Rom, is)) = rw is (λ e. cc)
 option_turn name count rows position word (inr (Ram, is)) = rw is (λ e. cc)
 option_turn name count rows position word (inr (Sender, is)) = rw is (λ e. cc)
@@ -362,6 +368,7 @@ option_refused count before given word words (inr (Words, is)) = rw is refl
 option_refused count before given word words (inr (Tall, is)) = rw is refl
 option_refused count before given word words (inr (State, is)) = rw is refl
 option_refused count before given word words (inr (Raw, is)) = rw is refl
+option_refused count before given word words (inr (Chip8, is)) = rw is refl
 option_refused count before given word words (inr (Rom, is)) = rw is refl
 option_refused count before given word words (inr (Ram, is)) = rw is refl
 option_refused count before given word words (inr (Sender, is)) = rw is refl
@@ -431,6 +438,7 @@ none_once keys given =
       same_if given.tall,
       same_if given.state,
       same_if given.raw,
+      same_if given.chip8,
       same_if given.rom,
       same_if given.ram,
       same_if given.sender,
@@ -456,6 +464,7 @@ no_more_given given =
       or_nothing given.tall,
       or_nothing given.state,
       or_nothing given.raw,
+      or_nothing given.chip8,
       or_nothing given.rom,
       or_nothing given.ram,
       or_nothing given.sender,
@@ -538,6 +547,7 @@ all_given words = record {
   tall = is_given (codes "--tall") words;
   state = is_given (codes "--state") words;
   raw = is_given (codes "--raw") words;
+  chip8 = is_given (codes "--chip8") words;
   rom = is_given (codes "--rom") words;
   ram = is_given (codes "--ram") words;
   sender = is_given (codes "--sender") words;

@@ -1,8 +1,11 @@
 -- What the words of a command line ask for.
-use Rattle.std.specs.Prelude.{ℕ, List, [], ◌∷◌, Bool, false, ◌&&◌, ◌||◌, if◌then◌else◌, Option, None, Some, option_map, option_and_then}
+use Rattle.std.specs.Prelude.{ℕ, List, [], ◌∷◌, Bool, false, ◌&&◌, ◌||◌, if◌then◌else◌, nat_lt, Option, None, Some, option_map, option_and_then}
 use Rattle.std.specs.Result.{result_ok}
 use Rattle.chip8_lang.specs.declared.view.Edition.{Edition}
 use Rattle.chip8_lang.specs.declared.view.Edition.TheVariants.{Usual, Tall}
+use Rattle.asm_lex.specs.declared.shape.Isa.{Isa}
+use Rattle.asm_lex.specs.declared.shape.Isa.TheVariants.{Cdp1802, Chip8}
+use Rattle.asm_core.specs.Ranges.{last_of, origin_of}
 use Rattle.vip_byte.specs.Number.{decimal_number, hex_number}
 use Rattle.vip_words.specs.Request.{Asked, most_cycles, most_moves}
 use Rattle.vip_words.specs.Rules.{Given, Word, given_by}
@@ -34,13 +37,21 @@ seed_of word = result_ok (decimal_number word 4294967295)
 abbrev pub moves_of : Word → Option ℕ
 moves_of word = result_ok (decimal_number word most_moves)
 
--- an address: hexadecimal, from 0 to FFFF
-abbrev pub address_of : Word → Option ℕ
-address_of word = result_ok (hex_number word 65535)
+-- a number that is no less than this one
+abbrev pub no_less_than : ℕ → ℕ → Option ℕ
+no_less_than least number = if nat_lt number least then None else Some number
+
+-- an address of an instruction set's programs: hexadecimal, from 0 to FFFF for the CDP1802, and from 200 to FFF for CHIP-8
+abbrev pub place_of : Isa → Word → Option ℕ
+place_of isa word = option_and_then (no_less_than (origin_of isa)) (result_ok (hex_number word (last_of isa)))
 
 -- the tall edition where it is asked for, and else the usual one
 abbrev pub edition_by : Bool → Edition
 edition_by tall = if tall then Tall else Usual
+
+-- CHIP-8 where it is asked for, and else the processor's
+abbrev pub isa_by : Bool → Isa
+isa_by chip8 = if chip8 then Chip8 else Cdp1802
 
 -- ---- what is run, and what is shown of it
 
@@ -125,9 +136,9 @@ file_by (file ∷ []) = Some file
 file_by _ = None
 
 -- FILE AT
-abbrev pub dis_by : List Word → Option Asked
-dis_by (file ∷ at ∷ []) = option_map (λ a. request.Dis file a) (address_of at)
-dis_by _ = None
+abbrev pub dis_by : Isa → List Word → Option Asked
+dis_by isa (file ∷ at ∷ []) = option_map (λ a. request.Dis file isa a) (place_of isa at)
+dis_by isa _ = None
 
 -- The source of an edition's interpreter, or of one program of two joined boards, which have no editions.
 abbrev pub built_in_by : Given → Option BuiltIn
@@ -166,9 +177,9 @@ asked_of_verb verb.Profile given = shown_by show.Profile given.positional given
 asked_of_verb verb.Resume given = resume_by given.positional given
 asked_of_verb verb.Demo given = demo_by given.positional
 asked_of_verb verb.Link given = link_by given.positional
-asked_of_verb verb.Asm given = option_map (λ file. request.Asm file given.raw) (file_by given.positional)
-asked_of_verb verb.List given = option_map request.List (file_by given.positional)
-asked_of_verb verb.Dis given = dis_by given.positional
+asked_of_verb verb.Asm given = option_map (λ file. request.Asm file (isa_by given.chip8) given.raw) (file_by given.positional)
+asked_of_verb verb.List given = option_map (λ file. request.List file (isa_by given.chip8)) (file_by given.positional)
+asked_of_verb verb.Dis given = dis_by (isa_by given.chip8) given.positional
 asked_of_verb verb.Source given = source_by given.positional given
 asked_of_verb verb.Bounds given = bounds_by given.positional
 asked_of_verb verb.Cycles given = within_by given.positional

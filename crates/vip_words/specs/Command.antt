@@ -21,7 +21,7 @@ flag_rule name = record (new_rule name) { long = Some name; action = Some SetTru
 
 -- the options that take no word, in order
 abbrev pub flag_names : List Text
-flag_names = codes "at" ∷ codes "screen" ∷ codes "words" ∷ codes "tall" ∷ codes "state" ∷ codes "raw" ∷ codes "rom" ∷ codes "ram" ∷ codes "sender" ∷ codes "receiver" ∷ []
+flag_names = codes "at" ∷ codes "screen" ∷ codes "words" ∷ codes "tall" ∷ codes "state" ∷ codes "raw" ∷ codes "chip8" ∷ codes "rom" ∷ codes "ram" ∷ codes "sender" ∷ codes "receiver" ∷ []
 
 -- a command with these arguments: no help flag, no version flag, no subcommand
 abbrev pub app_with : Text → List Rule → App

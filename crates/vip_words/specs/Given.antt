@@ -23,6 +23,7 @@ seen_given given = record {
   tall = given.tall;
   state = given.state;
   raw = given.raw;
+  chip8 = given.chip8;
   rom = given.rom;
   ram = given.ram;
   sender = given.sender;

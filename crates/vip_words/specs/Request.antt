@@ -1,6 +1,7 @@
 -- A request with files of any kind: their names, as the words give them, or what they hold.
 use Rattle.std.specs.Borrow.{Bor}
 use Rattle.std.specs.Prelude.{◌≤◌, ℕ, option_map}
+use Rattle.asm_core.specs.Ranges.{last_of, origin_of}
 pub use Rattle.vip_byte.specs.Number.{most_cycles}
 use Rattle.vip_words.specs.Rules.{Word}
 use Rattle.vip_words.specs.declared.request.ProgramRequest.{ProgramRequest}
@@ -46,9 +47,9 @@ module _ {A B : Type 0} (f : A → B) where
   map_request (Run run) = Run (map_run run)
   map_request (Program run) = Program (map_program run)
   map_request (Link message moves number) = Link (f message) moves number
-  map_request (Asm file raw) = Asm (f file) raw
-  map_request (List file) = List (f file)
-  map_request (Dis file address) = Dis (f file) address
+  map_request (Asm file isa raw) = Asm (f file) isa raw
+  map_request (List file isa) = List (f file) isa
+  map_request (Dis file isa address) = Dis (f file) isa address
   map_request (Source text) = Source text
   map_request Bounds = Bounds
   map_request (Cycles file certificate) = Cycles (f file) (f certificate)
@@ -85,11 +86,17 @@ module _ {N : Type 0} where
   moves_in (Link message moves number) = moves
   moves_in _ = 0
 
+  -- bytes to disassemble begin at an address of their instruction set's programs
+  abbrev pub HasStart : Request N → Type 0
+  HasStart (Dis bytes isa address) = (origin_of isa ≤ address) × (address ≤ last_of isa)
+  HasStart _ = Unit {0}
+
 -- the most moves of joined boards
 abbrev pub most_moves : ℕ
 most_moves = 10_000_000
 
--- so many machine cycles and moves may be asked for
+-- so many machine cycles and moves, and such an address, may be asked for
 pub record InRange {N : Type 0} (request : Request N) : Type 0 where
   pub cycles : cycles_in request ≤ most_cycles
   pub moves : moves_in request ≤ most_moves
+  pub start : HasStart request

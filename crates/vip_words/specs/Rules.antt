@@ -33,6 +33,9 @@ state_option = codes "--state"
 abbrev pub raw_option : Word
 raw_option = codes "--raw"
 
+abbrev pub chip8_option : Word
+chip8_option = codes "--chip8"
+
 abbrev pub rom_option : Word
 rom_option = codes "--rom"
 
@@ -48,8 +51,8 @@ receiver_option = codes "--receiver"
 -- every option of the program
 abbrev pub every_option : List Word
 every_option =
-    keys_option ∷ at_option ∷ screen_option ∷ words_option ∷ tall_option ∷ state_option ∷ raw_option ∷ rom_option ∷ ram_option ∷ sender_option
-    ∷ receiver_option ∷ []
+    keys_option ∷ at_option ∷ screen_option ∷ words_option ∷ tall_option ∷ state_option ∷ raw_option ∷ chip8_option ∷ rom_option ∷ ram_option
+    ∷ sender_option ∷ receiver_option ∷ []
 
 abbrev pub is_option : Word → Bool
 is_option word = list_any (bytes_eq word) every_option
@@ -111,6 +114,7 @@ pub record Given : Type 0 where
   pub tall : Bool
   pub state : Bool
   pub raw : Bool
+  pub chip8 : Bool
   pub rom : Bool
   pub ram : Bool
   pub sender : Bool
@@ -128,6 +132,7 @@ given_by places options words =
       tall = is_given tall_option words;
       state = is_given state_option words;
       raw = is_given raw_option words;
+      chip8 = is_given chip8_option words;
       rom = is_given rom_option words;
       ram = is_given ram_option words;
       sender = is_given sender_option words;

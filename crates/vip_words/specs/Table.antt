@@ -1,6 +1,6 @@
 -- The verbs, and what may follow each.
 use Rattle.std.specs.Prelude.{ℕ, List, [], ◌∷◌, Option, bytes_eq, codes, find, option_map}
-use Rattle.vip_words.specs.Rules.{Word, at_option, keys_option, ram_option, raw_option, receiver_option, rom_option, screen_option, sender_option, state_option, tall_option, words_option}
+use Rattle.vip_words.specs.Rules.{Word, at_option, chip8_option, keys_option, ram_option, raw_option, receiver_option, rom_option, screen_option, sender_option, state_option, tall_option, words_option}
 use Rattle.vip_words.specs.declared.table.Verb.{Verb}
 use Rattle.vip_words.specs.declared.table.Verb.TheVariants as verb
 
@@ -24,9 +24,9 @@ table =
     ∷ (codes "resume", row verb.Resume 2 (keys_option ∷ at_option ∷ []))
     ∷ (codes "demo", row verb.Demo 2 [])
     ∷ (codes "link", row verb.Link 3 [])
-    ∷ (codes "asm", row verb.Asm 1 (raw_option ∷ []))
-    ∷ (codes "list", row verb.List 1 [])
-    ∷ (codes "dis", row verb.Dis 2 [])
+    ∷ (codes "asm", row verb.Asm 1 (raw_option ∷ chip8_option ∷ []))
+    ∷ (codes "list", row verb.List 1 (chip8_option ∷ []))
+    ∷ (codes "dis", row verb.Dis 2 (chip8_option ∷ []))
     ∷ (codes "source", row verb.Source 0 (tall_option ∷ sender_option ∷ receiver_option ∷ []))
     ∷ (codes "bounds", row verb.Bounds 0 [])
     ∷ (codes "cycles", row verb.Cycles 2 [])

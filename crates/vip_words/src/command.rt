@@ -8,8 +8,8 @@ use clap::{Arg, ArgAction, Command};
 use std::alloc::{AllocError, Global};
 
 // The options that take no word, in order.
-const FLAGS: [&str; 10] = [
-    "at", "screen", "words", "tall", "state", "raw", "rom", "ram", "sender", "receiver",
+const FLAGS: [&str; 11] = [
+    "at", "screen", "words", "tall", "state", "raw", "chip8", "rom", "ram", "sender", "receiver",
 ];
 
 /// The names under which `clap` keeps the positional words, in order.

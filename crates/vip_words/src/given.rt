@@ -52,6 +52,8 @@ pub struct Given<'a> {
     pub state: bool,
     /// Whether `--raw` is.
     pub raw: bool,
+    /// Whether `--chip8` is.
+    pub chip8: bool,
     /// Whether `--rom` is.
     pub rom: bool,
     /// Whether `--ram` is.
@@ -163,6 +165,7 @@ pub fn read_given<'a>(
         tall: matches.get_flag("tall"),
         state: matches.get_flag("state"),
         raw: matches.get_flag("raw"),
+        chip8: matches.get_flag("chip8"),
         rom: matches.get_flag("rom"),
         ram: matches.get_flag("ram"),
         sender: matches.get_flag("sender"),

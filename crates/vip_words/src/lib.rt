@@ -1,10 +1,10 @@
 //! What a user asks for: the words of the command line, and the commands of the debugger, read exactly. The crate stands on the kit's `clap`, whose
-//! contracts say which words a simple command takes and what it finds in them, on `vip_byte` for numbers and lines, on `vip_keypad` for the remarks
-//! that commands share with key scripts, and on `chip8_lang` for the name of an edition; it reads no file and knows no board. The layer above may
-//! rely on `read_words`: it answers exactly the request that the rules of `specs/Rules.antt`, `specs/Table.antt` and `specs/Asked.antt` read in the
-//! words, and refuses exactly the words in which they read none. It may rely on `read_commands`: its answer is the list of the commands that a text
-//! says, in order, or its first fault, exactly as `specs/DebugGrammar.antt` says. Want of memory is the one other answer of each. The rules are
-//! this project's profile (`docs/COMMANDS.md`).
+//! contracts say which words a simple command takes and what it finds in them, on `vip_byte` for numbers and lines, on `vip_keypad` for the remarks that
+//! commands share with key scripts, on `chip8_lang` for the name of an edition, and on `asm_lex` and `asm_core` for that of an instruction set and its
+//! addresses; it reads no file and knows no board. The layer above may rely on `read_words`: it answers exactly the request that the rules of
+//! `specs/Rules.antt`, `specs/Table.antt` and `specs/Asked.antt` read in the words, and refuses exactly the words in which they read none. It may rely on
+//! `read_commands`: its answer is the list of the commands that a text says, in order, or its first fault, exactly as `specs/DebugGrammar.antt` says. Want
+//! of memory is the one other answer of each. The rules are this project's profile (`docs/COMMANDS.md`).
 //!
 //! ```text
 //!     words ──▶ the verb's usage ──▶ each word is plain or an option of it ──▶ clap ──▶ its numbers ──▶ Request
@@ -21,7 +21,7 @@
 //! | a number of cycles is decimal and at most 4,000,000,000 | `vip_byte` |
 //! | the number of a demonstration game, or of a schedule of joined boards, is decimal and at most 4,294,967,295 | `vip_byte` |
 //! | a number of moves of joined boards is decimal and at most 10,000,000 | `vip_byte` |
-//! | an address is hexadecimal and at most FFFF | `vip_byte` |
+//! | an address is hexadecimal and at most FFFF, with `--chip8` from 200 to FFF | `vip_byte`, `src/request.rt` |
 //! | a program has one of `--rom` and `--ram`, and none of `--tall`, `--state`, `--screen`, `--words` and `--at` | `src/request.rt` |
 //! | a saved state, by `--state`, has its own edition: `--tall` is refused with it | `src/request.rt` |
 //! | `source` has at most one of `--tall`, `--sender` and `--receiver` | `src/request.rt` |

@@ -1,13 +1,14 @@
 //! What the words of a command line ask for.
 
 ghost use Rattle.std.specs.Prelude.{◌≡◌, IfOk, IsErrOf, None, Some, map, option_map, string_bytes};
-ghost use Rattle.vip_words.specs.Asked.{address_of, asked_by, asked_of_verb, built_in_by, cycles_of, edition_by, either_by, is_mixed, is_program, moves_of, program_by, run_by, seed_of, start_by};
+ghost use Rattle.vip_words.specs.Asked.{asked_by, asked_of_verb, built_in_by, cycles_of, edition_by, either_by, is_mixed, is_program, isa_by, moves_of, place_of, program_by, run_by, seed_of, start_by};
 ghost use Rattle.vip_words.specs.Given.{seen_given};
 ghost use Rattle.vip_words.specs.Request.{asked_of, program_show_of, show_of, start_of, InRange};
 ghost use Rattle.vip_words.specs.declared.table.Verb.TheVariants as verb;
 
 use crate::given::{Given, Positional, WordsFail, read_given};
 use crate::table::{Usage, Verb};
+use asm_lex::Isa;
 use chip8_lang::Edition;
 use std::alloc::Global;
 use vip_byte::{MOST_CYCLE, read_decimal, read_hex};
@@ -31,13 +32,18 @@ pub enum Request<N> {
     /// Assemble a source: the bytes themselves where `raw` is asked for, and else their dump.
     Asm {
         source: N,
+        isa: Isa,
         raw: bool,
     },
     /// List a source with its bytes.
-    List(N),
-    /// Disassemble the bytes of a file from an address on.
+    List {
+        source: N,
+        isa: Isa,
+    },
+    /// Disassemble the bytes of a file from an address on, which is one of the instruction set's programs.
     Dis {
         bytes: N,
+        isa: Isa,
         address: u16,
     },
     /// A source that the program has in it.
@@ -173,10 +179,18 @@ fn read_seed(word: &str) -> Option<u32>
     Some(number as u32)
 }
 
-fn read_address(word: &str) -> Option<u16>
-    ensures { result ≡ address_of word.now }
+/// An address of an instruction set's programs.
+fn read_place(isa: Isa, word: &str) -> Option<u16>
+    ensures { result ≡ place_of isa word.now }
 {
-    let address = read_hex(word.as_bytes(), u16::MAX as u64).ok()?;
+    let (least, most) = match isa {
+        Isa::Cdp1802 => (0x0000, 0xFFFF),
+        Isa::Chip8 => (0x0200, 0x0FFF),
+    };
+    let address = read_hex(word.as_bytes(), most).ok()?;
+    if address < least {
+        return None;
+    }
     Some(address as u16)
 }
 
@@ -185,6 +199,13 @@ fn edition_by(tall: bool) -> Edition
     ensures { result ≡ edition_by tall }
 {
     if tall { Edition::Tall } else { Edition::Usual }
+}
+
+/// The instruction set CHIP-8 where it is asked for, and else that of the processor.
+fn isa_by(chip8: bool) -> Isa
+    ensures { result ≡ isa_by chip8 }
+{
+    if chip8 { Isa::Chip8 } else { Isa::Cdp1802 }
 }
 
 /// Where a run begins whose file has this name: at a saved state, which has its own edition, or at a game's reset.
@@ -386,6 +407,7 @@ fn asm_request<'a>(given: &Given<'a>) -> Option<Request<&'a str>>
     match given.positional {
         Positional::One(source) => Some(Request::Asm {
             source,
+            isa: isa_by(given.chip8),
             raw: given.raw,
         }),
         _ => None,
@@ -396,7 +418,10 @@ fn list_request<'a>(given: &Given<'a>) -> Option<Request<&'a str>>
     ensures { option_map asked_of result ≡ asked_of_verb verb.List (seen_given given.now) }
 {
     match given.positional {
-        Positional::One(source) => Some(Request::List(source)),
+        Positional::One(source) => Some(Request::List {
+            source,
+            isa: isa_by(given.chip8),
+        }),
         _ => None,
     }
 }
@@ -407,8 +432,13 @@ fn dis_request<'a>(given: &Given<'a>) -> Option<Request<&'a str>>
     let Positional::Two(bytes, address) = given.positional else {
         return None;
     };
-    let address = read_address(address)?;
-    Some(Request::Dis { bytes, address })
+    let isa = isa_by(given.chip8);
+    let address = read_place(isa, address)?;
+    Some(Request::Dis {
+        bytes,
+        isa,
+        address,
+    })
 }
 
 /// The source that the options name. The two programs of joined boards have no editions.

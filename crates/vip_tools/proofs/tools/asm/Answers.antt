@@ -6,8 +6,8 @@ use Rattle.vip_tools.proofs.tools.asm.Goals as goal
 
 pub returns-in_err-made : goal.returns-in_err-made
 returns-in_err-made c =
-    passed (TextAnswers (AsmComes c.args.raw c.args.source.now)) _ _ c.from_residual.ensures.1
-    (refused-source c.args.source.now (IsBytes c.args.raw) _ c.in_err-made.ensures)
+    passed (TextAnswers (AsmComes c.args.isa c.args.raw c.args.source.now)) _ _ c.from_residual.ensures.1
+    (refused-source c.args.isa c.args.source.now (IsBytes c.args.isa c.args.raw) _ c.in_err-made.ensures)
 
 pub returns : goal.returns
 returns c = Assembles c.in_ok-made.made c.in_ok-text.text.items c.in_ok-made.ensures c.in_ok-text.ensures

@@ -2,7 +2,7 @@ use Rattle.vip_words.specs.Request.{asked_of}
 use Rattle.vip_tools.specs.Files.{loaded_of}
 use Rattle.vip_tools.proofs.WorkLemmas.{passed}
 use Rattle.vip_verbs.specs.Prepared.{OpenAnswers}
-use Rattle.vip_verbs.proofs.WorkLemmas.{cycles-loaded, files-refused, moves-loaded, open-answers}
+use Rattle.vip_verbs.proofs.WorkLemmas.{cycles-loaded, files-refused, moves-loaded, open-answers, start-loaded}
 use Rattle.vip_verbs.proofs.preparing.open.Goals as goal
 
 pub returns-in_err-request : goal.returns-in_err-request
@@ -15,6 +15,9 @@ prepare-requires-clause-limit g c = rw (cycles-loaded _ _ _ _ _ _ c.in_ok-reques
 
 pub prepare-requires-clause-moves : goal.prepare-requires-clause-moves
 prepare-requires-clause-moves g c = rw (moves-loaded _ _ _ _ _ _ c.in_ok-request.ensures) c.requires.moves
+
+pub prepare-requires-clause-start : goal.prepare-requires-clause-start
+prepare-requires-clause-start g c = rw (start-loaded _ _ _ _ _ _ c.in_ok-request.ensures) c.requires.start
 
 pub prepare-requires-clause-fit : goal.prepare-requires-clause-fit
 prepare-requires-clause-fit g c = c.in_ok-request.ensures.loads.fit

@@ -1,6 +1,7 @@
 use Rattle.vip_tools.specs.Certificates.{CertifyComes, CyclesComes, SafeComes}
 use Rattle.vip_tools.specs.Outcome.{AsmComes, BoundsComes, ListComes}
 use Rattle.vip_verbs.specs.Outcome.{BuiltInComes}
+use Rattle.vip_verbs.proofs.FitLemmas.{bytes-fit}
 use Rattle.vip_verbs.proofs.WorkLemmas.{text-answers}
 use Rattle.vip_verbs.proofs.preparing.prepare.Goals as goal
 
@@ -22,9 +23,14 @@ open_program-requires-clause-limit c = rw c.in-Program.is at c.requires.limit
 pub open_program-requires-clause-fit : goal.open_program-requires-clause-fit
 open_program-requires-clause-fit c = rw c.in-Program.is at c.requires.fit
 
+pub dis-requires : goal.dis-requires
+dis-requires c =
+    rw c.as_slice-in-Dis.ensures.value
+    (bytes-fit c.in-Dis.isa c.in-Dis.address c.in-Dis.bytes.items (rw c.in-Dis.is at c.requires.start) (rw c.in-Dis.is at c.requires.fit))
+
 pub returns-in-Asm : goal.returns-in-Asm
 returns-in-Asm c =
-    rw (c.in-Asm.is, c.text.ensures) (text-answers (AsmComes c.in-Asm.raw c.in-Asm.source.items) _ (rw c.as_slice-in-Asm.ensures.value at c.asm.ensures))
+    rw (c.in-Asm.is, c.text.ensures) (text-answers (AsmComes c.in-Asm.isa c.in-Asm.raw c.in-Asm.source.items) _ (rw c.as_slice-in-Asm.ensures.value at c.asm.ensures))
 
 pub returns-in-Source : goal.returns-in-Source
 returns-in-Source c = rw (c.in-Source.is, c.text-in-Source.ensures) (text-answers (BuiltInComes c.in-Source.source) _ c.built_in.ensures)
@@ -34,7 +40,7 @@ returns-in-Bounds c = rw (c.in-Bounds.is, c.text-in-Bounds.ensures) (text-answer
 
 pub returns-in-List : goal.returns-in-List
 returns-in-List c =
-    rw (c.in-List.is, c.text-in-List.ensures) (text-answers (ListComes c.in-List.source.items) _ (rw c.as_slice-in-List.ensures.value at c.list.ensures))
+    rw (c.in-List.is, c.text-in-List.ensures) (text-answers (ListComes c.in-List.isa c.in-List.source.items) _ (rw c.as_slice-in-List.ensures.value at c.list.ensures))
 
 pub returns-in-Cycles : goal.returns-in-Cycles
 returns-in-Cycles c =
