@@ -1,28 +1,24 @@
 ; The sixteen digits in four rows of four, as they fit on the screen of the tall edition.
 
-        ORG 0x0200
+digit:  EQU V0
+x:      EQU V1                  ; its place
+y:      EQU V2
 
-; V0 is the digit, V1 and V2 are its place.
-digit:  EQU 0x0000
-x:      EQU 0x0100
-y:      EQU 0x0200
-xY:     EQU 0x0120
-
-        DW 0x6000+digit+0
-        DW 0x6000+x+6
-        DW 0x6000+y+5
+        LD digit, 0
+        LD x, 6
+        LD y, 5
 
 ; The next digit, 16 to the right, up to the fourth of its row.
-next:   DW 0xF029+digit
-        DW 0xD005+xY
-        DW 0x7000+digit+1
-        DW 0x7000+x+16
-        DW 0x3000+x+70
-        DW 0x1000+next
+next:   LD F, digit
+        DRW x, y, 5
+        ADD digit, 1
+        ADD x, 16
+        SE x, 70
+        JP next
 
 ; The next row, 16 below, up to the fourth.
-        DW 0x6000+x+6
-        DW 0x7000+y+16
-        DW 0x3000+y+69
-        DW 0x1000+next
-        DW 0x0000
+        LD x, 6
+        ADD y, 16
+        SE y, 69
+        JP next
+        SYS 0                   ; a call of machine code stops the game

@@ -1,46 +1,42 @@
 ; A pen that draws a line while key 2, 4, 6 or 8 is down: up, left, right or down,
 ; a dot in each frame. A dot that was lit is put out. Key 5 stops the game.
 
-        ORG 0x0200
+x:      EQU V0                  ; the place of the pen
+y:      EQU V1
+key2:   EQU V2                  ; the keys
+key4:   EQU V3
+key6:   EQU V4
+key8:   EQU V5
+key5:   EQU V6
 
-; V0 and V1 are the place of the pen, V2 to V6 the keys.
-x:      EQU 0x0000
-y:      EQU 0x0100
-yY:     EQU 0x0010
-key2:   EQU 0x0200
-key4:   EQU 0x0300
-key6:   EQU 0x0400
-key8:   EQU 0x0500
-key5:   EQU 0x0600
+        LD x, 32
+        LD y, 16
+        LD key2, 2
+        LD key4, 4
+        LD key6, 6
+        LD key8, 8
+        LD key5, 5
+        LD I, dot
+draw:   DRW x, y, 1
+keys:   SKNP key2               ; skip where the key is up
+        JP up
+        SKNP key4
+        JP left
+        SKNP key6
+        JP right
+        SKNP key8
+        JP down
+        SKNP key5
+        SYS 0                   ; a call of machine code stops the game
+        JP keys
 
-        DW 0x6000+x+32
-        DW 0x6000+y+16
-        DW 0x6000+key2+2
-        DW 0x6000+key4+4
-        DW 0x6000+key6+6
-        DW 0x6000+key8+8
-        DW 0x6000+key5+5
-        DW 0xA000+dot
-draw:   DW 0xD001+x+yY
-keys:   DW 0xE0A1+key2          ; skip where the key is up
-        DW 0x1000+up
-        DW 0xE0A1+key4
-        DW 0x1000+left
-        DW 0xE0A1+key6
-        DW 0x1000+right
-        DW 0xE0A1+key8
-        DW 0x1000+down
-        DW 0xE0A1+key5
-        DW 0x0000               ; a call of machine code stops the game
-        DW 0x1000+keys
+up:     ADD y, 255              ; y = y - 1
+        JP draw
+left:   ADD x, 255
+        JP draw
+right:  ADD x, 1
+        JP draw
+down:   ADD y, 1
+        JP draw
 
-up:     DW 0x7000+y+255
-        DW 0x1000+draw
-left:   DW 0x7000+x+255
-        DW 0x1000+draw
-right:  DW 0x7000+x+1
-        DW 0x1000+draw
-down:   DW 0x7000+y+1
-        DW 0x1000+draw
-
-dot:    DB 0x80
+dot:    DB 0b10000000

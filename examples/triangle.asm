@@ -2,29 +2,31 @@
 ; triangle. A tile of 8 by 8 dots is the same pattern, and it is drawn in each
 ; place whose column and row have no bit in common either. Then the game stops.
 
-        ORG 0x0200
+x:      EQU V0                  ; the place of a tile
+y:      EQU V1
+both:   EQU V2                  ; their common bits
 
-; V0 and V1 are the place of a tile, V2 their common bits. A name with Y is the
-; variable as the second operand.
-x:      EQU 0x0000
-y:      EQU 0x0100
-yY:     EQU 0x0010
-both:   EQU 0x0200
+        LD I, tile
+        LD y, 0
+row:    LD x, 0
+place:  LD both, x
+        AND both, y
+        SE both, 0              ; skip where it is 0
+        JP next
+        DRW x, y, 8             ; draw the eight rows of the tile
+next:   ADD x, 8
+        SE x, 64
+        JP place
+        ADD y, 8
+        SE y, 32
+        JP row
+        SYS 0                   ; a call of machine code stops the game
 
-        DW 0xA000+tile
-        DW 0x6000+y+0
-row:    DW 0x6000+x+0
-place:  DW 0x8000+both          ; both = x
-        DW 0x8002+both+yY       ; both = both and y
-        DW 0x3000+both+0        ; skip where it is 0
-        DW 0x1000+next
-        DW 0xD008+x+yY          ; draw the eight rows of the tile
-next:   DW 0x7000+x+8
-        DW 0x3000+x+64
-        DW 0x1000+place
-        DW 0x7000+y+8
-        DW 0x3000+y+32
-        DW 0x1000+row
-        DW 0x0000               ; a call of machine code stops the game
-
-tile:   DB 0xFF,0xAA,0xCC,0x88,0xF0,0xA0,0xC0,0x80
+tile:   DB 0b11111111
+        DB 0b10101010
+        DB 0b11001100
+        DB 0b10001000
+        DB 0b11110000
+        DB 0b10100000
+        DB 0b11000000
+        DB 0b10000000
