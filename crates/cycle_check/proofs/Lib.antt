@@ -8,3 +8,4 @@ pub mod Shown
 pub mod Soundness
 pub mod Leading
 pub mod Joined
+mod Tried

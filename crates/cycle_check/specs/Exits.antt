@@ -1,15 +1,17 @@
 -- The exits of a certificate: where a routine is left, as its lines say.
-use Rattle.std.specs.Prelude.{ℕ, ◌%◌, ◌==◌, ◌&&◌, if◌then◌else◌, nat_lt, is_none, List, [], ◌∷◌, ◌++◌, codes, flat_map, Option, Some, None, option_map, option_and_then, unwrap_or, Result, Ok, Err}
+use Rattle.std.specs.Prelude.{ℕ, ◌%◌, ◌==◌, ◌&&◌, if◌then◌else◌, nat_le, nat_lt, is_none, List, [], ◌∷◌, ◌++◌, codes, flat_map, Option, Some, None, option_map, option_and_then, unwrap_or, Result, Ok, Err}
 use Rattle.vip_byte.specs.HexText.{hex4}
 use Rattle.vip_byte.specs.Reading.{read}
 use Rattle.vip_isa.specs.Texts.{instruction_text}
 use Rattle.cycle_check.specs.declared.fault.CertFault.{CertFault}
+use Rattle.cycle_check.specs.declared.fault.TimingObstacle.{TimingObstacle}
 use Rattle.cycle_check.specs.declared.grammar.Bound.{Bound}
 use Rattle.cycle_check.specs.declared.grammar.Line.{Line}
 use Rattle.cycle_check.specs.declared.table.Way.{Way}
 use Rattle.cycle_check.specs.declared.table.Ways.{Ways}
 use Rattle.cycle_check.specs.declared.exits.Exit.{Exit}
 use Rattle.cycle_check.specs.Certificate.{certificate_format, certificate_of}
+use Rattle.cycle_check.specs.FaultNames.{timing_cause_name}
 use Rattle.cycle_check.specs.Closed.{bytes_at, instruction_at, lets_through, line_behind, ways_at}
 
 -- the exit on a way: the fact of its line lets it through, and no line is at its end
@@ -68,6 +70,14 @@ exit_line exit = (codes "leaves at " ++ hex4 exit.address) ++ (end_text exit exi
 abbrev pub exits_text : List Exit → List ℕ
 exits_text exits = flat_map exit_line exits
 
--- the same as remarks
+-- an instruction of the ROM as the disassembly writes it, and nothing outside the ROM
+abbrev pub instruction_part : ℕ → List ℕ → List ℕ
+instruction_part address bytes = if nat_le 0x8000 address && nat_lt address 0x8800 then codes " " ++ instruction_text address bytes else []
+
+-- why no certificate was found, the instruction and its address
+unfoldable pub obstacle_line : TimingObstacle → List ℕ
+obstacle_line o = (timing_cause_name o.cause ++ instruction_part o.address o.bytes) ++ (codes " at " ++ (hex4 o.address ++ 10 ∷ []))
+
+-- the exits as remarks
 abbrev pub remarks_text : List Exit → List ℕ
 remarks_text exits = flat_map (λ exit. codes "# " ++ exit_line exit) exits

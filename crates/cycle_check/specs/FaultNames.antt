@@ -17,3 +17,4 @@ abbrev pub timing_cause_name : TimingCause → List ℕ
 timing_cause_name timing.Opcode = codes "Opcode"
 timing_cause_name timing.Loop = codes "Loop"
 timing_cause_name timing.Most = codes "Most"
+timing_cause_name timing.Fact = codes "Fact"

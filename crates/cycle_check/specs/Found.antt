@@ -1,8 +1,11 @@
 -- A certificate that is found for a routine.
-use Rattle.std.specs.Prelude.{◌≡◌, ℕ, ◌<◌, ◌≤◌, ◌⊎◌, List, [], ◌∷◌, ◌++◌, codes, decimal, drop, flat_map, Option, Some, None, Ok}
+use Rattle.std.specs.Prelude.{◌≡◌, ℕ, ◌<◌, ◌≤◌, ◌⊎◌, true, List, length, [], ◌∷◌, ◌++◌, codes, decimal, drop, flat_map, Option, Some, None, Ok}
 use Rattle.std.specs.List.{All}
 use Rattle.vip_byte.specs.HexText.{hex2, hex4}
 use Rattle.vip_byte.specs.Reading.{read}
+use Rattle.cycle_check.specs.declared.fault.TimingCause.{TimingCause}
+use Rattle.cycle_check.specs.declared.fault.TimingCause.TheVariants.{Opcode, Loop, Most}
+use Rattle.cycle_check.specs.declared.fault.TimingCause.TheVariants as cause
 use Rattle.cycle_check.specs.declared.fault.TimingFault.{TimingFault}
 use Rattle.cycle_check.specs.declared.fault.TimingFault.TheVariants.{NotFound, NoMemory}
 use Rattle.cycle_check.specs.declared.grammar.Bound.{Bound}
@@ -10,9 +13,9 @@ use Rattle.cycle_check.specs.declared.grammar.Fact.{Fact}
 use Rattle.cycle_check.specs.declared.grammar.Fact.TheVariants.{Any, Copy, NonZero, Is}
 use Rattle.cycle_check.specs.declared.grammar.Line.{Line}
 use Rattle.cycle_check.specs.Certificate.{certificate_format, certificate_of}
-use Rattle.cycle_check.specs.Closed.{checked, left, line_at}
+use Rattle.cycle_check.specs.Closed.{bytes_at, checked, fits_x, left, line_at}
 use Rattle.cycle_check.specs.Exits.{exits, remarks_text}
-use Rattle.cycle_check.specs.Obstacles.{IsTrueAt}
+use Rattle.cycle_check.specs.Obstacles.{FitsAll, IsLed, IsMost, IsRefused, IsUncounted}
 
 -- ---- the text of a certificate: single blanks, upper-case digits, no leading zeros
 
@@ -47,6 +50,10 @@ line_text line =
 abbrev pub certificate_text : Bound → List Line → List ℕ
 certificate_text bound lines = bound_text bound ++ flat_map line_text lines
 
+-- a certificate, and behind it a remark for each exit
+abbrev pub timing_text : List ℕ → Bound → List Line → List ℕ
+timing_text rom bound lines = certificate_text bound lines ++ remarks_text (exits rom bound lines)
+
 -- ---- what is found
 
 -- an exit that doesn't lead to an address of the ROM
@@ -67,7 +74,8 @@ pub record IsFound (rom : List ℕ) (entry p k : ℕ) (text : List ℕ) : Type 0
   pub counter : bound.p ≡ p
   pub counts : bound.k ≡ k
   pub lines : List Line
-  pub is : text ≡ certificate_text bound lines ++ remarks_text (exits rom bound lines)
+  pub is : text ≡ timing_text rom bound lines
+  pub fits : length text ≤ 1_048_576
   pub statements : List (List (List ℕ))
   pub says : read certificate_format text ≡ Ok statements
   pub reads : certificate_of statements ≡ record { bound = Some bound; lines = lines }
@@ -75,7 +83,33 @@ pub record IsFound (rom : List ℕ) (entry p k : ℕ) (text : List ℕ) : Type 0
   pub leaves : All (λ exit. leaves_rom exit.to) (exits rom bound lines)
   pub limit : HasLimit bound lines
 
--- why none is found
+-- ---- why none is found
+
+module _ (rom : List ℕ) (bound : Bound) where
+  -- A line of an address to which ways lead: its X is the one that all of them give.
+  pub record IsOfWays (line : Line) : Type 0 where
+    pub led : IsLed rom bound line.address
+    pub x : (asked : Option ℕ) → FitsAll rom bound line.address asked → fits_x asked line.x ≡ true
+
+  -- lines with a limit are no certificate that is found
+  pub record FailsWith (lines : List Line) : Type 0 where
+    pub limit : ℕ
+    pub none : IsFound rom bound.entry bound.p bound.k (timing_text rom (record bound { limit = limit }) lines) → ⊥
+
+  -- Ways lead to the address, and lines of addresses to which ways lead, each with one fact, are no certificate.
+  pub record IsUnfounded (address : ℕ) : Type 0 where
+    pub led : IsLed rom bound address
+    pub lines : List Line
+    pub of_ways : All IsOfWays lines
+    pub fails : FailsWith lines
+
+  -- what is said of an address is true of the source
+  abbrev pub IsTrueAt : TimingCause → ℕ → Type 0
+  IsTrueAt Opcode address = IsRefused rom bound address
+  IsTrueAt Loop address = IsUncounted rom bound address
+  IsTrueAt Most address = IsMost rom bound address
+  IsTrueAt cause.Fact address = IsUnfounded address
+
 abbrev pub IsTimingFault : List ℕ → Bound → TimingFault → Type 0
-IsTimingFault rom bound (NotFound obstacle) = IsTrueAt rom bound obstacle.cause obstacle.address
+IsTimingFault rom bound (NotFound obstacle) = IsTrueAt rom bound obstacle.cause obstacle.address × (obstacle.bytes ≡ bytes_at rom obstacle.address)
 IsTimingFault rom bound NoMemory = Unit {0}

@@ -3,8 +3,6 @@ use Rattle.std.specs.Prelude.{◌≡◌, ℕ, ◌+◌, ◌-◌, ◌%◌, ◌<◌
 use Rattle.std.specs.List.{All, Any}
 use Rattle.machine.specs.declared.Kind.{Kind}
 use Rattle.machine.specs.declared.Kind.TheVariants.{Inc, Dec, Lda, Plo}
-use Rattle.cycle_check.specs.declared.fault.TimingCause.{TimingCause}
-use Rattle.cycle_check.specs.declared.fault.TimingCause.TheVariants.{Opcode, Loop, Most}
 use Rattle.cycle_check.specs.declared.grammar.Bound.{Bound}
 use Rattle.cycle_check.specs.declared.grammar.Fact.{Fact}
 use Rattle.cycle_check.specs.declared.grammar.Fact.TheVariants as says
@@ -118,9 +116,3 @@ module _ (rom : List ℕ) (bound : Bound) where
     pub line : Line
     pub there : line_at lines address ≡ Some line
     pub more : (most_left < line.base) ⊎ (most_left < line.step)
-
-  -- what is said of an address is true of the source
-  abbrev pub IsTrueAt : TimingCause → ℕ → Type 0
-  IsTrueAt Opcode address = IsRefused address
-  IsTrueAt Loop address = IsUncounted address
-  IsTrueAt Most address = IsMost address

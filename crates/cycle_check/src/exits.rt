@@ -1,6 +1,6 @@
 //! The exits of a certificate: where its routine is left.
 
-ghost use Rattle.std.specs.Prelude.{◌≡◌, ◌%◌, ◌++◌, OnOk, IfOk, option_map, true};
+ghost use Rattle.std.specs.Prelude.{◌≡◌, ◌%◌, ◌++◌, OnOk, IfOk, option_map, true, false};
 ghost use Rattle.std.specs.List.{All};
 ghost use Rattle.std.specs.Option.{option_and_then};
 ghost use Rattle.vip_byte.specs.Room.{HasRoom};
@@ -65,7 +65,8 @@ impl Exit {
 
     /// Whether it doesn't lead to an address of the ROM.
     pub fn leaves_rom(&self) -> bool
-        ensures { result ≡ true → leaves_rom self.now.to }
+        ensures leaves { result ≡ true → leaves_rom self.now.to }
+        ensures stays { result ≡ false → leaves_rom self.now.to → ⊥ }
     {
         match self.to {
             Some(to) => !(0x8000..0x8800).contains(&to),
@@ -173,7 +174,8 @@ fn low_word(to: Option<u32>) -> Option<u16>
 
 /// Whether no exit leads to an address of the ROM.
 pub fn all_leave_rom(found: &[Exit]) -> bool
-    ensures { result ≡ true → All (λ exit. leaves_rom exit.to) found.now }
+    ensures leave { result ≡ true → All (λ exit. leaves_rom exit.to) found.now }
+    ensures stays { result ≡ false → All (λ exit. leaves_rom exit.to) found.now → ⊥ }
 {
     for exit in found {
         if !exit.leaves_rom() {

@@ -75,6 +75,8 @@ pub enum TimingCause {
     Loop,
     /// The least BASE at the address, or its STEP, passes 1,000,000.
     Most,
+    /// Ways lead to the address, and the lines that say one fact each of those that are known are no certificate.
+    Fact,
 }
 
 impl TimingCause {
@@ -86,15 +88,17 @@ impl TimingCause {
             TimingCause::Opcode => "Opcode",
             TimingCause::Loop => "Loop",
             TimingCause::Most => "Most",
+            TimingCause::Fact => "Fact",
         }
     }
 }
 
-/// Where no certificate of a routine was found.
+/// Where no certificate of a routine was found: why, at which address, and the bytes of the ROM from there on.
 #[derive(Clone, Copy)]
 pub struct TimingObstacle {
     pub cause: TimingCause,
     pub address: u16,
+    pub bytes: [u8; 3],
 }
 
 /// Why no certificate of a routine was found, or no memory was left.

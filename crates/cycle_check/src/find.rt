@@ -1,15 +1,16 @@
 //! A certificate that is found for a routine.
 
-ghost use Rattle.std.specs.Prelude.{◌≡◌, ◌<◌, ◌≤◌, ◌⊎◌, ◌++◌, true, length, IfOk, IfErr, IfSome, OnOk, Some};
+ghost use Rattle.std.specs.Prelude.{◌≡◌, ◌<◌, ◌≤◌, ◌⊎◌, ◌++◌, ◌∷◌, [], ◌≢◌, true, false, length, IfOk, IfErr, IfSome, OnOk, None, Some};
 ghost use Rattle.std.specs.List.{All};
-ghost use Rattle.cycle_check.specs.declared.fault.TimingFault.TheVariants.{NoMemory};
+ghost use Rattle.cycle_check.specs.declared.fault.TimingFault.TheVariants.{NotFound, NoMemory};
+ghost use Rattle.cycle_check.specs.Closed.{bytes_at};
 ghost use Rattle.cycle_check.specs.Forward.{IsTrueOf};
-ghost use Rattle.cycle_check.specs.Found.{HasLimit, IsFound, IsTimingFault};
-ghost use Rattle.cycle_check.specs.Obstacles.{IsLeast, IsMost};
+ghost use Rattle.cycle_check.specs.Found.{FailsWith, HasLimit, IsFound, IsOfWays, IsTimingFault};
+ghost use Rattle.cycle_check.specs.Obstacles.{IsLeast, IsLed, IsMost, IsUncounted};
 ghost use Rattle.cycle_check.specs.Reading.{AreRising, IsRead};
 
 use crate::certificate::{Draft, is_behind, read_certificate};
-use crate::closed::{fault_in, first_cause, instruction_at, is_closed, left, line_at};
+use crate::closed::{bytes_at, fault_in, first_cause, instruction_at, is_closed, left, line_at};
 use crate::cost::find_costs;
 use crate::exits::{all_leave_rom, exits_of};
 use crate::fault::{CertFault, TimingCause, TimingFault, TimingObstacle};
@@ -27,7 +28,8 @@ use vip_byte::MOST_TEXT;
 ///
 /// From the entry on the ways are followed that the facts of the lines let through, and a line says a fact and an X that all ways there show. A
 /// loop has the least STEP that pays its turns, and each line the least BASE. Where an address is met whose opcode no line allows, where a
-/// loop isn't counted, or where a BASE passes 1,000,000, the answer is that; or memory was wanting. For which routines one is found is not promised.
+/// loop isn't counted, or where a BASE passes 1,000,000, the answer is that; so it is where one fact a line doesn't suffice, and the lines are no
+/// certificate; or memory was wanting. For which routines one is found is not promised.
 pub fn find_timing(
     alloc: Global,
     rom: &[u8; 2048],
@@ -47,10 +49,7 @@ pub fn find_timing(
     };
     match explore(alloc, rom, start) {
         Ok(forward) => find_in(alloc, &forward),
-        Err(Halt::Refused(address)) => Err(TimingFault::NotFound(TimingObstacle {
-            cause: TimingCause::Opcode,
-            address,
-        })),
+        Err(Halt::Refused(address)) => Err(obstacle(rom, TimingCause::Opcode, address)),
         Err(Halt::NoMemory) => Err(TimingFault::NoMemory),
     }
 }
@@ -59,52 +58,86 @@ pub fn find_timing(
 fn find_in(alloc: Global, forward: &Forward) -> Result<Vec<u8>, TimingFault>
     requires { IsTrueOf forward.now }
     ensures found { IfOk result (λ text. IsFound forward.now.rom.now forward.now.bound.entry forward.now.bound.p forward.now.bound.k text.items) }
-    ensures fits { IfOk result (λ text. length text.items ≤ MOST_TEXT) }
     ensures fault { IfErr result (IsTimingFault forward.now.rom.now forward.now.bound) }
 {
     let mut graph = graph_of(alloc, forward)?;
+    let mut last = forward.bound.entry;
     match find_parts(alloc, &graph)? {
-        Found::Turn(turn) => Err(loop_fault(forward, turn.as_slice())),
-        Found::Parts(parts) => {
-            find_costs(&mut graph, parts.as_slice());
-            let lines = lines_of(alloc, &graph)?;
-            certify(alloc, forward, lines.as_slice())
+        Found::Turn(turn) => {
+            if let Some(address) = uncounted_in(forward, turn.as_slice()) {
+                return Err(obstacle(forward.rom, TimingCause::Loop, address));
+            }
+            last = first_of(turn.as_slice(), last);
         }
+        Found::Parts(parts) => find_costs(&mut graph, parts.as_slice()),
     }
+    let lines = lines_of(alloc, forward, &graph)?;
+    certify(alloc, forward, lines.as_slice(), last)
 }
 
-// What is said of a turn that isn't counted. That the turn which is found is one follows from no clause, so that where it isn't, the answer is want
-// of memory; and so below where what was found is no certificate.
-fn loop_fault(forward: &Forward, turn: &[u16]) -> TimingFault
+fn obstacle(rom: &[u8], cause: TimingCause, address: u16) -> TimingFault
+    ensures { result ≡ NotFound (record { cause = cause; address = address; bytes = bytes_at rom.now address }) }
+{
+    TimingFault::NotFound(TimingObstacle {
+        cause,
+        address,
+        bytes: bytes_at(rom, address),
+    })
+}
+
+// The first address of a turn that isn't counted.
+fn uncounted_in(forward: &Forward, turn: &[u16]) -> Option<u16>
     requires { IsTrueOf forward.now }
-    ensures { IsTimingFault forward.now.rom.now forward.now.bound result }
+    ensures { IfSome result (λ address. IsUncounted forward.now.rom.now forward.now.bound address) }
 {
     match turn {
-        [address, ..] if forward.is_uncounted(turn) => TimingFault::NotFound(TimingObstacle {
-            cause: TimingCause::Loop,
-            address: *address,
-        }),
-        _ => TimingFault::NoMemory,
+        [address, ..] if forward.is_uncounted(turn) => Some(*address),
+        _ => None,
     }
 }
 
-// The lines of a graph, whose addresses rise.
-fn lines_of(alloc: Global, graph: &Graph) -> Result<Vec<Line>, AllocError>
-    ensures { IfOk result (λ lines. AreRising lines.items) }
+// The first address of a turn, which assigns the counter where one of them does.
+fn first_of(turn: &[u16], other: u16) -> u16 {
+    match turn {
+        [address, ..] => *address,
+        [] => other,
+    }
+}
+
+// The lines of the addresses that were met, with what is left at them by a graph. Their addresses rise.
+fn lines_of(alloc: Global, forward: &Forward, graph: &Graph) -> Result<Vec<Line>, AllocError>
+    requires { IsTrueOf forward.now }
+    ensures rising { IfOk result (λ lines. AreRising lines.items) }
+    ensures of_ways { IfOk result (λ lines. All (λ line. IsOfWays forward.now.rom.now forward.now.bound line) lines.items) }
 {
     let mut lines = Vec::new(alloc);
-    for node in graph.nodes.as_slice() {
-        if let Some(node) = node {
-            push_behind(&mut lines, node.line)?;
+    for address in 0x8000..0x8800u16 {
+        if let Some(line) = forward.line_at(address) {
+            push_behind(&mut lines, with_costs(graph, line))?;
         }
     }
     Ok(lines)
 }
 
+// A line with what is left at its address by a graph.
+fn with_costs(graph: &Graph, line: Line) -> Line
+    ensures { result ≡ record line { base = result.base; step = result.step } }
+{
+    match graph.node(usize::from(line.address.saturating_sub(0x8000))) {
+        Some(node) => Line {
+            base: node.line.base,
+            step: node.line.step,
+            ..line
+        },
+        None => line,
+    }
+}
+
 // Adds a line whose address is above the others.
 fn push_behind(lines: &mut Vec<Line>, line: Line) -> Result<(), AllocError>
     requires { AreRising lines.old.items }
-    ensures { OnOk result (AreRising lines.new.items) }
+    ensures rising { OnOk result (AreRising lines.new.items) }
+    ensures items { OnOk result ((lines.new.items ≡ lines.old.items) ⊎ (lines.new.items ≡ lines.old.items ++ line ∷ [])) }
 {
     if is_behind(lines.as_slice(), line.address) {
         lines.push(line)?;
@@ -112,22 +145,38 @@ fn push_behind(lines: &mut Vec<Line>, line: Line) -> Result<(), AllocError>
     Ok(())
 }
 
-// The text of a certificate with these lines, or what stands against one.
-fn certify(alloc: Global, forward: &Forward, lines: &[Line]) -> Result<Vec<u8>, TimingFault>
+// The text of a certificate with these lines, or what stands against one. Where a turn takes from the counter, and its line can't say that this isn't
+// 0, since it says what D is or a line before it does, the lines are no certificate: that is said of the last address that was looked at.
+fn certify(
+    alloc: Global,
+    forward: &Forward,
+    lines: &[Line],
+    last: u16,
+) -> Result<Vec<u8>, TimingFault>
     requires true_of { IsTrueOf forward.now }
     requires rising { AreRising lines.now }
+    requires of_ways { All (λ line. IsOfWays forward.now.rom.now forward.now.bound line) lines.now }
     ensures found { IfOk result (λ text. IsFound forward.now.rom.now forward.now.bound.entry forward.now.bound.p forward.now.bound.k text.items) }
-    ensures fits { IfOk result (λ text. length text.items ≤ MOST_TEXT) }
     ensures fault { IfErr result (IsTimingFault forward.now.rom.now forward.now.bound) }
 {
-    for line in lines {
-        if is_over(line) {
-            return Err(most_fault(forward, lines, line.address));
-        }
+    if let Some(address) = most_in(forward, lines) {
+        return Err(obstacle(forward.rom, TimingCause::Most, address));
     }
     match write_checked(alloc, forward.rom, &forward.bound, lines)? {
         Some(text) => Ok(text),
-        None => Err(TimingFault::NoMemory),
+        None => Err(obstacle(forward.rom, TimingCause::Fact, led_of(forward, last))),
+    }
+}
+
+// An address, if ways lead there, and else the entry.
+fn led_of(forward: &Forward, address: u16) -> u16
+    requires { IsTrueOf forward.now }
+    ensures { IsLed forward.now.rom.now forward.now.bound result }
+{
+    if forward.is_led(address) {
+        address
+    } else {
+        forward.bound.entry
     }
 }
 
@@ -138,20 +187,18 @@ fn is_over(line: &Line) -> bool
     u64::from(line.base) > MOST_LEFT || u64::from(line.step) > MOST_LEFT
 }
 
-// What is said of an address whose line passes what a certificate may say.
-fn most_fault(forward: &Forward, lines: &[Line], address: u16) -> TimingFault
+// The first address whose line passes what a certificate may say.
+fn most_in(forward: &Forward, lines: &[Line]) -> Option<u16>
     requires true_of { IsTrueOf forward.now }
     requires rising { AreRising lines.now }
-    ensures { IsTimingFault forward.now.rom.now forward.now.bound result }
+    ensures { IfSome result (λ address. IsMost forward.now.rom.now forward.now.bound address) }
 {
-    if is_most(forward, lines, address) {
-        TimingFault::NotFound(TimingObstacle {
-            cause: TimingCause::Most,
-            address,
-        })
-    } else {
-        TimingFault::NoMemory
+    for line in lines {
+        if is_over(line) && is_most(forward, lines, line.address) {
+            return Some(line.address);
+        }
     }
+    None
 }
 
 fn is_most(forward: &Forward, lines: &[Line], address: u16) -> bool
@@ -205,12 +252,10 @@ fn write_checked(
 ) -> Result<Option<Vec<u8>>, TimingFault>
     requires { AreRising lines.now }
     ensures found { IfOk result (λ found. IfSome found (λ text. IsFound rom.now start.now.entry start.now.p start.now.k text.items)) }
-    ensures fits { IfOk result (λ found. IfSome found (λ text. length text.items ≤ MOST_TEXT)) }
+    ensures none { IfOk result (λ found. found ≡ None → FailsWith rom.now start.now lines.now) }
     ensures fault { IfErr result (λ fault. fault ≡ NoMemory) }
 {
-    let Some(bound) = bound_with(start, lines) else {
-        return Ok(None);
-    };
+    let bound = bound_with(start, lines);
     let exits = exits_of(alloc, rom, &bound, lines)?;
     let text = text_of(alloc, &bound, lines, exits.as_slice())?;
     if text.len() > MOST_TEXT {
@@ -230,13 +275,17 @@ fn write_checked(
 }
 
 // The bound of some lines: what is left at the entry where the counter is greatest is the limit.
-fn bound_with(start: &Bound, lines: &[Line]) -> Option<Bound>
+fn bound_with(start: &Bound, lines: &[Line]) -> Bound
     requires { AreRising lines.now }
+    ensures { result ≡ record start.now { limit = result.limit } }
 {
-    let line = line_at(lines, u32::from(start.entry))?;
-    match u32::try_from(left(&line, 255)) {
-        Ok(limit) => Some(Bound { limit, ..*start }),
-        Err(_) => None,
+    let left = match line_at(lines, u32::from(start.entry)) {
+        Some(line) => left(&line, 255),
+        None => 0,
+    };
+    Bound {
+        limit: left.min(u64::from(u32::MAX)) as u32,
+        ..*start
     }
 }
 
@@ -248,8 +297,10 @@ fn is_found(
     draft: &Draft,
     text: &[u8],
 ) -> Result<bool, AllocError>
-    requires { IsRead text.now draft.now }
-    ensures { IfOk result (λ found. found ≡ true → IsFound rom.now start.now.entry start.now.p start.now.k text.now) }
+    requires read { IsRead text.now draft.now }
+    requires fits { length text.now ≤ MOST_TEXT }
+    ensures found { IfOk result (λ found. found ≡ true → IsFound rom.now start.now.entry start.now.p start.now.k text.now) }
+    ensures none { IfOk result (λ found. found ≡ false → IsFound rom.now start.now.entry start.now.p start.now.k text.now → ⊥) }
 {
     let Some(bound) = draft.bound() else {
         return Ok(false);
@@ -257,26 +308,35 @@ fn is_found(
     let lines = draft.lines();
     let exits = exits_of(alloc, rom, &bound, lines)?;
     let again = text_of(alloc, &bound, lines, exits.as_slice())?;
-    if !are_same(again.as_slice(), text)
-        || !all_leave_rom(exits.as_slice())
-        || !is_of(start, &bound)
-        || !has_limit(&bound, lines)
-        || fault_in(rom, &bound, lines).is_some()
-    {
+    if !are_same(again.as_slice(), text) {
+        return Ok(false);
+    }
+    if !all_leave_rom(exits.as_slice()) {
+        return Ok(false);
+    }
+    if !is_of(start, &bound) {
+        return Ok(false);
+    }
+    if !has_limit(&bound, lines) {
+        return Ok(false);
+    }
+    if fault_in(rom, &bound, lines).is_some() {
         return Ok(false);
     }
     Ok(true)
 }
 
 fn are_same(one: &[u8], other: &[u8]) -> bool
-    ensures { result ≡ true → one.now ≡ other.now }
+    ensures same { result ≡ true → one.now ≡ other.now }
+    ensures other { result ≡ false → one.now ≢ other.now }
 {
     one == other
 }
 
 // Whether a bound is of this routine.
 fn is_of(start: &Bound, bound: &Bound) -> bool
-    ensures { result ≡ true → (bound.now.entry ≡ start.now.entry) × (bound.now.p ≡ start.now.p) × (bound.now.k ≡ start.now.k) }
+    ensures same { result ≡ true → (bound.now.entry ≡ start.now.entry) × (bound.now.p ≡ start.now.p) × (bound.now.k ≡ start.now.k) }
+    ensures other { result ≡ false → ((bound.now.entry ≡ start.now.entry) × (bound.now.p ≡ start.now.p) × (bound.now.k ≡ start.now.k)) → ⊥ }
 {
     bound.entry == start.entry && bound.p == start.p && bound.k == start.k
 }
@@ -284,7 +344,8 @@ fn is_of(start: &Bound, bound: &Bound) -> bool
 // Whether the limit is what is left at the entry where the counter is greatest.
 fn has_limit(bound: &Bound, lines: &[Line]) -> bool
     requires { AreRising lines.now }
-    ensures { result ≡ true → HasLimit bound.now lines.now }
+    ensures same { result ≡ true → HasLimit bound.now lines.now }
+    ensures other { result ≡ false → HasLimit bound.now lines.now → ⊥ }
 {
     match line_at(lines, u32::from(bound.entry)) {
         Some(line) => left(&line, 255) == u64::from(bound.limit),

@@ -6,6 +6,7 @@
 ghost use Rattle.std.specs.Prelude.{◌≡◌, ◌+◌, ◌<◌, ◌≤◌, OnOk, IfOk, IfErr, IfSome, MatchOption, None, true};
 ghost use Rattle.cycle_check.specs.declared.grammar.Fact.TheVariants.{NonZero};
 ghost use Rattle.cycle_check.specs.Closed.{instruction_at, ways_from};
+ghost use Rattle.cycle_check.specs.Found.{IsOfWays};
 ghost use Rattle.cycle_check.specs.Forward.{IsHalt, IsKnown, IsTrueOf, Keeps};
 ghost use Rattle.cycle_check.specs.Obstacles.{IsLed, IsLost, IsOneOf, MayBeAllowed};
 
@@ -428,6 +429,7 @@ impl Forward<'_> {
     /// The line of an address, where it was met, which doesn't say yet what is left.
     pub fn line_at(&self, address: u16) -> Option<Line>
         requires { IsTrueOf self.now }
+        ensures { IfSome result (λ line. (line.address ≡ address) × IsOfWays self.now.rom.now self.now.bound line) }
     {
         let known = self.known_at(u32::from(address))?;
         Some(self.line_with(address, &known))

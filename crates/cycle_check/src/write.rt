@@ -4,13 +4,15 @@ ghost use Rattle.std.specs.Prelude.{◌≡◌, ◌+◌, ◌<◌, ◌≤◌, ◌+
 ghost use Rattle.vip_byte.specs.HexText.{hex2};
 ghost use Rattle.vip_byte.specs.Room.{HasRoom};
 ghost use Rattle.arrayvec.specs.ArrayVec.{array_vec_len};
-ghost use Rattle.cycle_check.specs.Exits.{exit_line, remarks_text};
+ghost use Rattle.cycle_check.specs.Exits.{exit_line, instruction_part, obstacle_line, remarks_text};
 ghost use Rattle.cycle_check.specs.Found.{bound_text, certificate_text, digit_text, fact_text, limit_text, line_text, registers_text, x_text};
 
 use crate::exits::Exit;
+use crate::fault::TimingObstacle;
 use crate::grammar::{Bound, Fact, Line};
 use std::alloc::{AllocError, Global};
 use vip_byte::{Buffer, hex2, hex4, put, put_number};
+use vip_isa::instruction_text;
 
 // Appends the last hexadecimal digit of a byte.
 fn put_digit(into: &mut Buffer, digit: u8)
@@ -119,6 +121,33 @@ fn append_remark(text: &mut Vec<u8>, exit: &Exit) -> Result<(), AllocError>
     exit.put(&mut buffer);
     text.extend_from_slice(buffer.as_slice())?;
     Ok(())
+}
+
+impl TimingObstacle {
+    /// Appends its line: `Loop DEC R2 at 8005`, or `Opcode at 9000` outside the ROM.
+    #[tactic(auto, unfolding(crate::specs::Exits::obstacle_line))]
+    pub fn put(&self, into: &mut Buffer)
+        requires { HasRoom into.old.items 50 }
+        ensures { into.new.items ≡ into.old.items ++ obstacle_line self.now }
+    {
+        put(into, self.cause.name().as_bytes());
+        self.put_instruction(into);
+        put(into, b" at ");
+        put(into, &hex4(self.address));
+        put(into, b"\n");
+    }
+
+    // Appends its instruction behind a blank, where it lies in the ROM.
+    fn put_instruction(&self, into: &mut Buffer)
+        requires { HasRoom into.old.items 40 }
+        ensures items { into.new.items ≡ into.old.items ++ instruction_part self.now.address self.now.bytes }
+        ensures room { HasRoom into.new.items 10 }
+    {
+        if (0x8000..0x8800).contains(&self.address) {
+            put(into, b" ");
+            put(into, instruction_text(self.address, self.bytes).as_slice());
+        }
+    }
 }
 
 // The text of a certificate.

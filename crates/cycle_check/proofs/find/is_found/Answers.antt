@@ -5,20 +5,21 @@ use Rattle.cycle_check.specs.Certificate.{numbers_from}
 use Rattle.cycle_check.specs.Closed.{fault_in, unless}
 use Rattle.cycle_check.specs.Exits.{exits}
 use Rattle.cycle_check.proofs.Answered.{checked-judged}
+use Rattle.cycle_check.proofs.Tried.{is_accepted, not_some}
 use Rattle.cycle_check.proofs.find.is_found.Goals as goal
 
 none-of : {X : Type 0} (o : Option X) → is_some o ≡ false → o ≡ None
 none-of None empty = refl
 none-of (Some x) full = absurd (true≢false full)
 
-pub returns : goal.returns
-returns c accepted =
+pub returns-clause-found : goal.returns-clause-found
+returns-clause-found c accepted =
     let draft = c.args.draft.now in
     let bound = c.in-Some.bound in
     let bounded : draft.bound ≡ Some bound = sym c.bound.ensures ∙ c.in-Some.is in
     let found : c.in_ok-exits.exits.items ≡ exits c.args.rom.now bound draft.lines = rw (← c.lines-lines.ensures.items) c.in_ok-exits.ensures in
-    let of = c.is_of.ensures c.if-not-is_of.false in
-    let same : c.in_ok-again.again.items ≡ c.args.text.now = rw c.as_slice-2.ensures.value at (c.are_same.ensures c.if-not-are_same.false) in
+    let of = c.is_of.ensures.same c.if-not-is_of.false in
+    let same : c.in_ok-again.again.items ≡ c.args.text.now = rw c.as_slice-2.ensures.value at (c.are_same.ensures.same c.if-not-are_same.false) in
     let fine : fault_in c.args.rom.now bound draft.lines ≡ None =
     rw c.lines-lines.ensures.items at (sym c.fault_in.ensures ∙ none-of c.fault_in.result (sym c.is_some.ensures ∙ c.if-is_some.false)) in
     record {
@@ -28,13 +29,20 @@ returns c accepted =
       counts = of.2;
       lines = draft.lines;
       is = sym same ∙ rw (c.as_slice.ensures.value, found, c.lines-lines.ensures.items) at c.in_ok-again.ensures;
-      statements = c.requires.statements;
-      says = c.requires.says;
-      reads = sym c.requires.is ∙ ap (λ b. record { bound = b; lines = draft.lines }) bounded;
+      fits = c.requires.fits;
+      statements = c.requires.read.statements;
+      says = c.requires.read.says;
+      reads = sym c.requires.read.is ∙ ap (λ b. record { bound = b; lines = draft.lines }) bounded;
       accepted =
-          checked-judged c.args.rom.now c.args.text.now draft bound c.requires bounded
+          checked-judged c.args.rom.now c.args.text.now draft bound c.requires.read bounded
           ∙ ap (unless (numbers_from 1 (lines c.args.text.now)) bound) fine
           ∙ ap (λ entry. Ok (record { entry = entry; limit = bound.limit })) of.0;
-      leaves = rw (c.as_slice-else-not-are_same.ensures.value, found) at (c.all_leave_rom.ensures c.if-not-all_leave_rom.false);
-      limit = rw c.lines-lines.ensures.items at (c.has_limit.ensures c.if-not-has_limit.false);
+      leaves = rw (c.as_slice-3.ensures.value, found) at (c.all_leave_rom.ensures.leave c.if-not-all_leave_rom.false);
+      limit = rw c.lines-lines.ensures.items at (c.has_limit.ensures.same c.if-not-has_limit.false);
     }
+
+pub returns-then-is_some-clause-none : goal.returns-then-is_some-clause-none
+returns-then-is_some-clause-none c _ found =
+    let bounded : c.args.draft.now.bound ≡ Some c.in-Some.bound = sym c.bound.ensures ∙ c.in-Some.is in
+    let none = is_accepted c.args.rom.now c.args.text.now _ _ _ c.args.draft.now c.requires.read found c.in-Some.bound bounded in
+    not_some c.fault_in.result (rw c.lines-lines.ensures.items at c.fault_in.ensures ∙ none) (sym c.is_some.ensures ∙ c.if-is_some.true)

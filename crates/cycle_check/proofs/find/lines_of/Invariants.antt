@@ -1,5 +1,10 @@
+use Rattle.std.specs.List.{All}
+use Rattle.cycle_check.specs.Found.{IsOfWays}
 use Rattle.cycle_check.specs.Reading.{AreRising}
 use Rattle.cycle_check.proofs.find.lines_of.Given as goal
 
-abbrev pub invariant-loop-node : goal.invariant-loop-node
-invariant-loop-node l = AreRising l.lines.items
+abbrev pub invariant-loop-address : goal.invariant-loop-address
+invariant-loop-address l = record {
+  rising : AreRising l.lines.items;
+  of_ways : All (λ line. IsOfWays l.forward.rom.now l.forward.bound line) l.lines.items;
+}

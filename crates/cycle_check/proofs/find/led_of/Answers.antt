@@ -1,0 +1,6 @@
+use Rattle.std.proofs.Common.{None}
+use Rattle.cycle_check.specs.Obstacles.LeadsTo.{Enters}
+use Rattle.cycle_check.proofs.find.led_of.Goals as goal
+
+pub returns-else-is_led : goal.returns-else-is_led
+returns-else-is_led c = (None, Enters)
