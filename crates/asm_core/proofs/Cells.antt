@@ -78,7 +78,7 @@ pub record Holds (old cells : List (Option Cell)) (line at : ℕ) (bytes : List 
   pub entries : (address : ℕ) → entry cells address ≡ option_or (entry old address) (cell_in line at (take offset bytes) address)
   pub free : (k : ℕ) → k < offset → entry old (at + k) ≡ None
 
-second_none : (o : Option Cell) → option_or o None ≡ o
+pub second_none : (o : Option Cell) → option_or o None ≡ o
 second_none None = refl
 second_none (Some cell) = refl
 
@@ -112,22 +112,32 @@ holds_more old cells line at bytes offset byte so_far below fits is empty =
       ];
     }
 
-length-range : (n a : ℕ) → length (range_with_len a n) ≡ n
+pub length-range : (n a : ℕ) → length (range_with_len a n) ≡ n
 length-range zero a = refl
 length-range (suc n) a = ap suc (length-range n (a + 1))
 
-get_or-range : (n a k d : ℕ) → k < n → get_or (range_with_len a n) k d ≡ a + k
+pub get_or-range : (n a k d : ℕ) → k < n → get_or (range_with_len a n) k d ≡ a + k
 get_or-range zero a k d below = absurd (omega arith)
 get_or-range (suc n) a zero d below = omega arith
 get_or-range (suc n) a (suc k) d below = get_or-range n (a + 1) k d (omega arith) ∙ omega arith
+
+-- whether a byte stands at one of so many addresses
+pub overlaps-at : (old : List (Option Cell)) (at count k : ℕ) → k < count → is_some (entry old (at + k)) ≡ true → overlaps (entry old) at count ≡ true
+overlaps-at old at count k below taken =
+    list_any_at (λ k. is_some (entry old (at + k))) (range_with_len 0 count) k 0 (omega (arith, length-range count 0))
+    (ap (λ n. is_some (entry old (at + n))) (get_or-range count 0 k 0 below ∙ omega arith) ∙ taken)
+
+pub overlaps-none : (old : List (Option Cell)) (at count : ℕ) → ((k : ℕ) → k < count → entry old (at + k) ≡ None) → overlaps (entry old) at count ≡ false
+overlaps-none old at count free =
+    list_any_none (λ k. is_some (entry old (at + k))) (range_with_len 0 count)
+    (λ k d below. ap (λ n. is_some (entry old (at + n))) (get_or-range count 0 k d (omega (arith, length-range count 0)))
+    ∙ ap is_some (free (0 + k) (omega (arith, length-range count 0))))
 
 -- all bytes were put
 pub holds_all : (old cells : List (Option Cell)) (line at : ℕ) (bytes : List ℕ) (offset : ℕ) → Holds old cells line at bytes offset → length bytes ≤ offset
     → (overlaps (entry old) at (length bytes) ≡ false) × ((address : ℕ) → entry cells address ≡ option_or (entry old address) (cell_in line at bytes address))
 holds_all old cells line at bytes offset so_far past = (
-  list_any_none (λ k. is_some (entry old (at + k))) (range_with_len 0 (length bytes))
-      (λ k d below. ap (λ n. is_some (entry old (at + n))) (get_or-range (length bytes) 0 k d (omega (arith, length-range (length bytes) 0)))
-      ∙ ap is_some (so_far.free (0 + k) (omega (arith, length-range (length bytes) 0)))),
+  overlaps-none old at (length bytes) (λ k below. so_far.free k (omega arith)),
   λ address. so_far.entries address ∙ ap (λ xs. option_or (entry old address) (cell_in line at xs address)) (take_all offset bytes past),
 )
 
@@ -139,5 +149,4 @@ holds_overlap old cells line at bytes offset so_far below taken =
     cell_in-past line at (take offset bytes) (at + offset) (omega (arith, length-take-le offset bytes (omega arith))) in
     let was : is_some (entry old (at + offset)) ≡ true =
     ap is_some (sym (so_far.entries (at + offset) ∙ ap (option_or (entry old (at + offset))) nothing ∙ second_none (entry old (at + offset)))) ∙ taken in
-    list_any_at (λ k. is_some (entry old (at + k))) (range_with_len 0 (length bytes)) offset 0 (omega (arith, length-range (length bytes) 0))
-    (ap (λ n. is_some (entry old (at + n))) (get_or-range (length bytes) 0 offset 0 below ∙ omega arith) ∙ was)
+    overlaps-at old at (length bytes) offset below was

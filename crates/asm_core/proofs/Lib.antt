@@ -5,3 +5,6 @@ pub mod LaidOut
 pub mod PassOne
 pub mod PassTwo
 pub mod OnePass
+pub mod Marking
+pub mod Surveys
+pub mod Agrees

@@ -29,7 +29,7 @@ first_is_origin : (isa : Isa) (i : ℕ) → i ≤ 0 → get_or (first_addresses 
 first_is_origin isa zero below = refl
 first_is_origin isa (suc i) below = absurd (omega arith)
 
-origin_low : (isa : Isa) → origin_of isa ≤ 65536
+pub origin_low : (isa : Isa) → origin_of isa ≤ 65536
 origin_low Cdp1802 = omega arith
 origin_low Chip8 = omega arith
 

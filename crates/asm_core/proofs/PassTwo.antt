@@ -268,7 +268,7 @@ line_fits : (isa : Isa) (before after : Names) (at : ℕ) (line : List ℕ) (fou
 line_fits isa before after at line found bytes low high l e =
     omega (arith, line_count isa before after at line found bytes l e, count_fits found.value at found.next low high)
 
-no_error : {X : Type 0} (r : Result X AsmCause) → result_err r ≡ None → (x : X) × (r ≡ Ok x)
+pub no_error : {X : Type 0} (r : Result X AsmCause) → result_err r ≡ None → (x : X) × (r ≡ Ok x)
 no_error (Ok x) e = (x, refl)
 no_error (Err cause) e = absurd (cc)
 

@@ -9,3 +9,7 @@ pub mod Cuts
 pub mod Bytes
 pub mod Passes
 pub mod FaultNames
+pub mod Labels
+pub mod Culprits
+pub mod Told
+pub mod Surveys

@@ -94,6 +94,26 @@ impl Assembly {
         self.names.number(name.as_bytes())
     }
 
+    /// The names with their values, for those who need nothing else of it.
+    pub fn into_names(self) -> Symbols
+        ensures { result ≡ self.names }
+    {
+        let Assembly {
+            cells: _,
+            names,
+            addresses: _,
+            values: _,
+        } = self;
+        names
+    }
+
+    /// The names with their values, to look one up.
+    pub fn names(&self) -> &Symbols
+        ensures { result.now ≡ self.now.names }
+    {
+        &self.names
+    }
+
     /// How many lines the source has.
     pub fn line_count(&self) -> usize
         ensures { result ≡ length self.now.values }

@@ -28,6 +28,16 @@ pub(crate) enum Bytes {
     Zeros(u32),
 }
 
+/// How many bytes these are.
+pub(crate) fn byte_count(bytes: &Bytes) -> u32
+    ensures { result ≡ length (bytes_in bytes.now) }
+{
+    match bytes {
+        Bytes::Given(bytes) => bytes.len() as u32,
+        Bytes::Zeros(count) => *count,
+    }
+}
+
 fn no_bytes() -> Bytes
     ensures { bytes_in result ≡ [] }
 {

@@ -25,11 +25,11 @@ pub const MOST_BYTES: usize = 1_048_576;
 // The names of all lines, the address at which each line begins, with the address behind the last one, the word of each line, which is read
 // with the names of the earlier lines alone, and the value that its label has or would have.
 #[derive(Drop)]
-struct Plan {
-    names: Symbols,
-    addresses: Vec<u32>,
-    words: Vec<Option<Word>>,
-    values: Vec<LabelValue>,
+pub(crate) struct Plan {
+    pub names: Symbols,
+    pub addresses: Vec<u32>,
+    pub words: Vec<Option<Word>>,
+    pub values: Vec<LabelValue>,
 }
 
 // One line in pass 1.
@@ -61,7 +61,7 @@ fn add_line(
     Ok((placed.word, placed.laid))
 }
 
-fn pass_1(alloc: Global, isa: Isa, text: &[u8]) -> Result<Plan, AsmFault>
+pub(crate) fn pass_1(alloc: Global, isa: Isa, text: &[u8]) -> Result<Plan, AsmFault>
     requires { length text.now ≤ most_bytes }
     ensures ok { IfOk result (λ plan. LaysOut isa (source_lines text.now) (length (source_lines text.now)) (planned plan)) }
     ensures err { IfErr result (λ fault. IsFirstIn (fault_1 isa (source_lines text.now)) (length (source_lines text.now)) fault) }

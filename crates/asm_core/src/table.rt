@@ -81,6 +81,19 @@ fn place_zeros(cells: &mut Vec<Option<Cell>>, line: u32, at: u32, count: u32) ->
     true
 }
 
+/// Whether a byte stands at one of so many addresses.
+pub(crate) fn overlaps(cells: &[Option<Cell>], at: u32, count: u32) -> bool
+    requires { at + count ≤ length cells.now }
+    ensures { result ≡ overlaps (λ address. slice_index_or cells.now address None) at count }
+{
+    for offset in 0..count {
+        if cells[at as usize + offset as usize].is_some() {
+            return true;
+        }
+    }
+    false
+}
+
 /// A table without bytes.
 pub(crate) fn empty_table(alloc: Global) -> Result<Vec<Option<Cell>>, AllocError>
     ensures count { IfOk result (λ cells. length cells.items ≡ 65536) }

@@ -8,4 +8,6 @@ pub mod Takes
 mod NameTree
 mod Chosen
 mod Binary
+mod Places
+mod NumberTerms
 pub mod OneLanguage

@@ -1,6 +1,6 @@
 -- A tree of names, seen as the list of its entries.
-use Rattle.std.proofs.Common.{◌≡◌, ℕ, refl, Bool, List, [], ◌∷◌, sym, ◌∙◌, ap, true, false, cond, Some, Option, subst, Global}
-use Rattle.std.specs.Prelude.{map, Vec, IfSome}
+use Rattle.std.proofs.Common.{◌≡◌, ℕ, refl, Bool, List, [], ◌∷◌, sym, ◌∙◌, ap, true, false, cond, Some, None, Option, subst, Global}
+use Rattle.std.specs.Prelude.{map, Vec, IfSome, is_some}
 use Rattle.std.specs.List.{AllByRecursion}
 use Rattle.std.specs.List.Sorted.{IsStrictlySortedBy}
 use Rattle.std.specs.Map.{lookup, keys_of, KeepsOthers}
@@ -12,7 +12,7 @@ use Rattle.std.specs.Str.{bytes_eq}
 use Rattle.std.proofs.lemmas.Map.Text.{is_eq-slice_cmp}
 use Rattle.std.proofs.lemmas.Bool.{and_parts, and_from, eqb-true, eq-eqb, false_from_ne_true, both_ways}
 use Rattle.asm_lex.specs.declared.shape.SymbolValue.{SymbolValue}
-use Rattle.asm_lex.specs.Names.{Names, value_in, with_name, IsValue, HasValues}
+use Rattle.asm_lex.specs.Names.{Names, value_in, with_name, register_from, IsValue, HasValues, HasRegisters}
 
 pub bytes_same : (xs ys : List ℕ) → bytes_eq xs ys ≡ true → xs ≡ ys
 bytes_same [] [] e = refl
@@ -86,3 +86,34 @@ values_with names new name value before is more other =
       | true ↦ is
       | false ↦ before other
     ])
+
+-- nothing is found where it isn't said that something is
+pub none_of : {X : Type 0} (found : Option X) → is_some found ≡ false → found ≡ None
+none_of None e = refl
+none_of (Some x) e = absurd (cc)
+
+-- a name more that was given a register
+pub given_more : (given new names : Names) (name : List ℕ) (value : SymbolValue) → ((other : List ℕ) → new other ≡ with_name given name value other)
+    → HasRegisters given names → HasRegisters new names
+given_more given new names name value more before other none =
+    before other (elim (bytes_eq name other) as (λ b. cond b (Some value) (given other) ≡ None → given other ≡ None) [
+      | true ↦ λ e. absurd (cc)
+      | false ↦ λ e. e
+    ] (sym (more other) ∙ none))
+
+pub none_given : (given new : Names) (name : List ℕ) (value : SymbolValue) → ((other : List ℕ) → new other ≡ with_name given name value other)
+    → new name ≡ None → register_from (Some value) ≡ None
+none_given given new name value more none =
+    let some : Some value ≡ None = ap (λ b. cond b (Some value) (given name)) (sym (bytes_self name)) ∙ sym (more name) ∙ none in
+    absurd (cc)
+
+-- a name more, which stands for a register only where it was given one
+pub registers_with : (given names new : Names) (name : List ℕ) (value : SymbolValue) → HasRegisters given names
+    → (given name ≡ None → register_from (Some value) ≡ None)
+    → ((other : List ℕ) → new other ≡ with_name names name value other) → HasRegisters given new
+registers_with given names new name value before is more other none =
+    ap register_from (more other) ∙
+    elim (bytes_eq name other) as (λ b. bytes_eq name other ≡ b → register_from (cond b (Some value) (names other)) ≡ None) [
+      | true ↦ λ e. is (ap given (bytes_same name other e) ∙ none)
+      | false ↦ λ e. before other none
+    ] refl

@@ -1,6 +1,6 @@
--- The first opcode that a word names.
-use Rattle.std.proofs.Common.{◌≡◌, ◌+◌, ◌<◌, ℕ, zero, suc, refl, List, length, ◌∙◌, ap, arith, true, false, get_or, Some, None}
-use Rattle.std.specs.List.{range_with_len}
+-- The first number below a limit that passes, and the first opcode that a word names.
+use Rattle.std.proofs.Common.{◌≡◌, ◌+◌, ◌<◌, ℕ, zero, suc, refl, Bool, List, length, ◌∙◌, ap, arith, true, false, get_or, Some, None}
+use Rattle.std.specs.List.{range_with_len, find}
 use Rattle.asm_lex.specs.Words.{opcodes, opcode_named, mnemonic_at}
 use Rattle.asm_lex.specs.Bytes.{spells}
 use Rattle.asm_lex.proofs.Splits.{find_none, find_first}
@@ -14,27 +14,26 @@ get_or-range zero a k below = absurd (omega arith)
 get_or-range (suc n) a zero below = omega arith
 get_or-range (suc n) a (suc k) below = get_or-range n (a + 1) k (omega arith) ∙ omega arith
 
-length-opcodes : length opcodes ≡ 256
-unfolding opcodes
-length-opcodes = length-range 256 0
+range_at : (n k : ℕ) → k < n → get_or (range_with_len 0 n) k 0 ≡ k
+range_at n k below = get_or-range n 0 k below ∙ omega arith
 
-get_or-opcodes : (k : ℕ) → k < 256 → get_or opcodes k 0 ≡ k
-unfolding opcodes
-get_or-opcodes k below = get_or-range 256 0 k below ∙ omega arith
+-- the first number below n that passes
+pub range_first : (p : ℕ → Bool) (n i : ℕ) → i < n → ((k : ℕ) → k < i → p k ≡ false) → p i ≡ true → find p (range_with_len 0 n) ≡ Some i
+range_first p n i below before here =
+    find_first p (range_with_len 0 n) i (omega (arith, length-range n 0))
+    (λ k under. ap p (range_at n k (omega arith)) ∙ before k under) (ap p (range_at n i below) ∙ here)
+    ∙ ap Some (range_at n i below)
 
-spells_at : (word : List ℕ) (k : ℕ) → k < 256 → spells word (mnemonic_at (get_or opcodes k 0)) ≡ spells word (mnemonic_at k)
-spells_at word k below = ap (λ opcode. spells word (mnemonic_at opcode)) (get_or-opcodes k below)
+pub range_none : (p : ℕ → Bool) (n : ℕ) → ((k : ℕ) → k < n → p k ≡ false) → find p (range_with_len 0 n) ≡ None
+range_none p n before =
+    find_none p (range_with_len 0 n)
+    (λ k under. ap p (range_at n k (omega (arith, length-range n 0))) ∙ before k (omega (arith, length-range n 0)))
 
 pub named_first : (word : List ℕ) (i : ℕ) → i < 256 → ((k : ℕ) → k < i → spells word (mnemonic_at k) ≡ false) → spells word (mnemonic_at i) ≡ true
     → opcode_named word ≡ Some i
-unfolding opcode_named
-named_first word i below before here =
-    find_first (λ opcode. spells word (mnemonic_at opcode)) opcodes i (omega (arith, length-opcodes))
-    (λ k under. spells_at word k (omega arith) ∙ before k under) (spells_at word i below ∙ here)
-    ∙ ap Some (get_or-opcodes i below)
+unfolding opcode_named opcodes
+named_first word i below before here = range_first (λ opcode. spells word (mnemonic_at opcode)) 256 i below before here
 
 pub named_none : (word : List ℕ) → ((k : ℕ) → k < 256 → spells word (mnemonic_at k) ≡ false) → opcode_named word ≡ None
-unfolding opcode_named
-named_none word before =
-    find_none (λ opcode. spells word (mnemonic_at opcode)) opcodes
-    (λ k under. spells_at word k (omega (arith, length-opcodes)) ∙ before k (omega (arith, length-opcodes)))
+unfolding opcode_named opcodes
+named_none word before = range_none (λ opcode. spells word (mnemonic_at opcode)) 256 before

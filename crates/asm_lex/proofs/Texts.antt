@@ -137,7 +137,7 @@ in_order-within line [] start end order inside k d below = absurd (omega arith)
 in_order-within line (s ∷ spans) start end order inside zero d below = record { in_order = order.1; inside = omega (arith, in_order-le spans s.to end order.2) }
 in_order-within line (s ∷ spans) start end order inside (suc k) d below = in_order-within line spans s.to end order.2 inside k d (omega arith)
 
-in_order-wider : (spans : List Span) (low start high end : ℕ) → low ≤ start → high ≤ end → AreInOrder start spans high → AreInOrder low spans end
+pub in_order-wider : (spans : List Span) (low start high end : ℕ) → low ≤ start → high ≤ end → AreInOrder start spans high → AreInOrder low spans end
 in_order-wider [] low start high end a b o = omega arith
 in_order-wider (s ∷ spans) low start high end a b o = (omega (arith, o.0), o.1, in_order-wider spans s.to s.to high end (omega arith) b o.2)
 

@@ -10,6 +10,9 @@ use Rattle.asm_lex.specs.declared.shape.Isa.TheVariants.{Cdp1802, Chip8}
 abbrev pub is_allowed : ℕ → Bool
 is_allowed byte = (nat_le 32 byte && nat_le byte 126) || (byte == 9)
 
+abbrev pub is_forbidden : ℕ → Bool
+is_forbidden byte = not (is_allowed byte)
+
 -- a comment begins with `;`, a label ends with `:`, and operands are parted by `,`
 abbrev pub is_semicolon : ℕ → Bool
 is_semicolon byte = byte == 59

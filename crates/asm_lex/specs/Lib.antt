@@ -9,3 +9,6 @@ pub mod Spans
 pub mod Forms
 pub mod Words
 pub mod Lines
+pub mod Places
+pub mod Culprits
+pub mod Notes

@@ -3,9 +3,9 @@
 ghost use Rattle.std.specs.Prelude.{◌≡◌, ◌≤◌, ◌<◌, ◌+◌, ◌-◌, ◌∷◌, ℕ, length, IfSome, take, drop, option_map};
 ghost use Rattle.std.specs.List.{position_or_len, prefix_len, suffix_len, slice_split};
 ghost use Rattle.vip_byte.specs.Text.{is_blank};
-ghost use Rattle.asm_lex.specs.Cuts.{stops, parts_of};
+ghost use Rattle.asm_lex.specs.Cuts.{stops, parts_of, behind_first};
 
-use crate::text::{is_blank, is_in_name};
+use crate::text::{is_allowed, is_blank, is_in_name};
 
 /// The bytes at which a text is cut.
 #[derive(Clone, Copy)]
@@ -22,6 +22,8 @@ pub(crate) enum Stop {
     Sign,
     /// A byte that no name has.
     EndOfName,
+    /// A byte that no line may hold.
+    NotAllowed,
 }
 
 impl Stop {
@@ -35,6 +37,7 @@ impl Stop {
             Stop::Blank => is_blank(byte),
             Stop::Sign => byte == b'+' || byte == b'-',
             Stop::EndOfName => !is_in_name(byte),
+            Stop::NotAllowed => !is_allowed(byte),
         }
     }
 }
@@ -83,6 +86,7 @@ pub(crate) fn cut(text: &[u8], stop: Stop) -> (&[u8], Option<&[u8]>)
     ensures first { result.0.now ≡ take (position_or_len (stops stop) text.now) text.now }
     ensures rest { IfSome result.1 (λ rest. rest.now ≡ drop (length result.0.now + 1) text.now) }
     ensures shorter { IfSome result.1 (λ rest. length result.0.now + 1 + length rest.now ≡ length text.now) }
+    ensures behind { option_map (λ rest. rest.now) result.1 ≡ behind_first (stops stop) text.now }
 {
     let end = position(text, stop);
     if end == text.len() {

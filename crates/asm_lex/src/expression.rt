@@ -1,12 +1,11 @@
 //! Expressions: whether a text is one, and its value.
 
-ghost use Rattle.std.specs.Prelude.{◌≡◌, ◌≤◌, ◌<◌, ◌+◌, ◌*◌, ◌∷◌, ◌&&◌, ◌==◌, ◌≤ℤ◌, ◌+ℤ◌, ◌-ℤ◌, ℕ, pos, nat_abs, int_le, List, length, min, Option, IsTrue, IfSome, slice_index, is_none, is_some, false, if◌then◌else◌, Ok, Err};
+ghost use Rattle.std.specs.Prelude.{◌≡◌, ◌≤◌, ◌<◌, ◌+◌, ◌*◌, ◌∷◌, ◌&&◌, ◌==◌, ◌≤ℤ◌, ◌+ℤ◌, ◌-ℤ◌, ℕ, pos, nat_abs, int_le, List, length, min, Option, IsTrue, IfSome, slice_index, is_none, false, not, if◌then◌else◌, Ok, Err};
 ghost use Rattle.std.specs.Option.{option_map};
-ghost use Rattle.std.specs.List.{list_any};
 ghost use Rattle.vip_byte.specs.Number.{number};
 ghost use Rattle.asm_lex.specs.Bytes.{is_name};
 ghost use Rattle.asm_lex.specs.Expressions.{sum_in, number_in, hexadecimal_of, binary_of, written_value, is_here, is_term, is_expression, is_large, has_large_number, term_value, terms_of, signed_terms, sum_of, value_of, prefixed, has_undefined};
-ghost use Rattle.asm_lex.specs.Names.{value_in, register_named, names_register, is_number};
+ghost use Rattle.asm_lex.specs.Names.{value_in, is_register, is_number};
 ghost use Rattle.asm_lex.specs.Looks.{TakesNames, AnswersAs, TakesTerm, AnswersTermAs};
 ghost use Rattle.asm_lex.specs.Left.{left, left_terms, left_signed, left_length};
 
@@ -102,7 +101,7 @@ fn is_term(isa: Isa, term: &[u8]) -> bool
     number(isa, term).is_some() || is_here(term) || is_name(isa, term)
 }
 
-fn is_large(isa: Isa, term: &[u8]) -> bool
+pub(crate) fn is_large(isa: Isa, term: &[u8]) -> bool
     ensures { result ≡ is_large isa term.now }
 {
     match number(isa, term) {
@@ -112,7 +111,7 @@ fn is_large(isa: Isa, term: &[u8]) -> bool
 }
 
 #[tactic(auto, unfolding(crate::specs::Expressions::sum_in))]
-fn without_prefix(text: &[u8]) -> &[u8]
+pub(crate) fn without_prefix(text: &[u8]) -> &[u8]
     ensures value { result.now ≡ sum_in text.now }
     ensures within { length result.now ≤ length text.now }
 {
@@ -122,52 +121,37 @@ fn without_prefix(text: &[u8]) -> &[u8]
     }
 }
 
-/// Whether a text is an expression.
-pub(crate) fn is_expression(isa: Isa, text: &[u8]) -> bool
-    ensures { result ≡ is_expression isa text.now }
+// Whether a term is a name of a register.
+#[tactic(auto, unfolding(crate::specs::Names::is_register))]
+fn is_register(isa: Isa, names: &Symbols, term: &[u8]) -> bool
+    ensures { result ≡ is_register isa (value_in names.now) term.now }
+{
+    match isa {
+        Isa::Cdp1802 => false,
+        Isa::Chip8 => names.register(term).is_some(),
+    }
+}
+
+// Whether a text is a term of an operand that stands for a number.
+fn is_number_term(isa: Isa, names: &Symbols, term: &[u8]) -> bool
+    ensures { result ≡ (is_term isa term.now && not (is_register isa (value_in names.now) term.now)) }
+{
+    is_term(isa, term) && !is_register(isa, names, term)
+}
+
+/// Whether an operand may stand for a number.
+pub(crate) fn is_number(isa: Isa, names: &Symbols, text: &[u8]) -> bool
+    ensures { result ≡ is_number isa (value_in names.now) text.now }
 {
     let mut rest = Some(without_prefix(text));
     while let Some(sum) = rest {
         let (term, more) = cut(sum, Stop::Sign);
-        if !is_term(isa, term) {
+        if !is_number_term(isa, names, term) {
             return false;
         }
         rest = more;
     }
     true
-}
-
-// Whether a name of a register stands in a text.
-#[tactic(auto, unfolding(crate::specs::Names::names_register))]
-fn names_register(isa: Isa, names: &Symbols, text: &[u8]) -> bool
-    ensures { result ≡ names_register isa (value_in names.now) text.now }
-{
-    match isa {
-        Isa::Cdp1802 => false,
-        Isa::Chip8 => has_register(names, text),
-    }
-}
-
-fn has_register(names: &Symbols, text: &[u8]) -> bool
-    ensures { result ≡ list_any (λ term. is_some (register_named (value_in names.now) term)) (terms_of (sum_in text.now)) }
-{
-    let mut rest = Some(without_prefix(text));
-    while let Some(sum) = rest {
-        let (term, more) = cut(sum, Stop::Sign);
-        if names.register(term).is_some() {
-            return true;
-        }
-        rest = more;
-    }
-    false
-}
-
-/// Whether an operand may stand for a number.
-#[tactic(auto, unfolding(crate::specs::Names::is_number))]
-pub(crate) fn is_number(isa: Isa, names: &Symbols, text: &[u8]) -> bool
-    ensures { result ≡ is_number isa (value_in names.now) text.now }
-{
-    is_expression(isa, text) && !names_register(isa, names, text)
 }
 
 /// Whether a number above 65535 is written in an expression.

@@ -14,7 +14,7 @@ use crate::text::{register, spells};
 use crate::{Isa, Span};
 use chip8_words::{FORMS, Form, Op, Operand};
 
-fn forms() -> &'static [Form]
+pub(crate) fn forms() -> &'static [Form]
     ensures { result.now ≡ forms }
 {
     &FORMS
@@ -48,7 +48,7 @@ pub(crate) fn register_in(names: &Symbols, text: &[u8]) -> Option<u8>
 
 // Whether a text is such an operand.
 #[tactic(auto, unfolding(crate::specs::Forms::is_operand))]
-fn is_operand(names: &Symbols, due: Operand, text: &[u8]) -> bool
+pub(crate) fn is_operand(names: &Symbols, due: Operand, text: &[u8]) -> bool
     ensures { result ≡ is_operand (value_in names.now) due text.now }
 {
     match due {

@@ -2,11 +2,12 @@
 //! whose table has the mnemonics of `machine`'s opcodes, on `chip8_words`, whose table has those of CHIP-8, and on `vip_byte`, which reads
 //! numbers. The layers above may rely on this: `line` answers the
 //! parts of a line or its first fault exactly as `parsed` in `specs/Lines.antt` says, and `value` the value of an expression or its first
-//! fault as `value_of` in `specs/Expressions.antt` says. Neither takes memory. The mnemonics are those of RCA's data sheet of the
+//! fault as `value_of` in `specs/Expressions.antt` says. Where a line isn't read, `lex_culprit` is the place in it of what is wrong, as
+//! `specs/Culprits.antt` says, and `note_in` an instruction in a comment. None of them takes memory. The mnemonics are those of RCA's data sheet of the
 //! CDP1802 and of Cowgod's CHIP-8 Technical Reference; the language of the lines is this project's profile (`docs/SOURCES.md`).
 #![tactic(auto)]
 
-ghost use Rattle.std.specs.Prelude.{◌≡◌, ◌≤◌, ◌<◌, ℕ, Bool, List, length, map, IfSome, IfOk, OnOk, MatchResult, Ok, Err};
+ghost use Rattle.std.specs.Prelude.{◌≡◌, ◌≤◌, ◌<◌, ℕ, Bool, List, length, map, IfSome, IfOk, OnOk, MatchOption, MatchResult, Some, None, Ok, Err};
 ghost use Rattle.asm_lex.specs.Lines.{parsed, shown, spans_of, operands_of, has_bad_bytes, has_bad_name, word_meaning, Reads};
 ghost use Rattle.asm_lex.specs.Names.{Names, value_in};
 ghost use Rattle.asm_lex.specs.Parts.{code_of, label_of, statement_of, behind_word, operands_in};
@@ -14,20 +15,24 @@ ghost use Rattle.asm_lex.specs.Spans.{text_at, IsWithin, AreWithin, AreInOrder};
 ghost use Rattle.asm_lex.specs.Words.{HasItsOperands};
 ghost use Rattle.std.specs.Option.{option_map};
 
+mod culprit;
 mod cuts;
 mod expression;
 mod forms;
 mod names;
+mod note;
 mod shape;
 mod spans;
 mod text;
 mod words;
 
+pub use crate::culprit::{Sought, first_term, is_label, lex_culprit, missing_colon, place_of};
 pub use crate::expression::{has_large_number, value};
 pub use crate::names::{SymbolIter, Symbols};
-pub use crate::shape::{Isa, LexFault, Line, Span, SymbolValue, ValueFault, Word};
+pub use crate::note::note_in;
+pub use crate::shape::{Isa, LexFault, Line, Place, Span, SymbolValue, ValueFault, Word};
 use crate::spans::parts_of;
-pub use crate::spans::text_at;
+pub use crate::spans::{LineSpans, line_spans, text_at};
 use crate::text::{are_allowed, has_long_name, is_name};
 use crate::words::{entry_of, meaning};
 use arrayvec::ArrayVec;
@@ -156,5 +161,16 @@ pub fn operands(bytes: &[u8]) -> ArrayVec<Span, 128>
     match spans::operands(bytes, parts_of(bytes).operands) {
         Some(operands) => operands,
         None => ArrayVec::new(),
+    }
+}
+
+/// The label of a line of at most 255 bytes, if it has one.
+pub fn label(bytes: &[u8]) -> Option<&[u8]>
+    requires { length bytes.now ≤ 255 }
+    ensures { MatchOption result (label_of (code_of bytes.now) ≡ None) (λ label. label_of (code_of bytes.now) ≡ Some label.now) }
+{
+    match parts_of(bytes).label {
+        Some(label) => Some(text_at(bytes, label)),
+        None => None,
     }
 }

@@ -1,12 +1,12 @@
 //! The names that lines define, in the order of their bytes.
 
-ghost use Rattle.std.specs.Prelude.{◌≡◌, ◌≤◌, ℕ, List, [], OnOk, IfSome, if◌then◌else◌, Some};
+ghost use Rattle.std.specs.Prelude.{◌≡◌, ◌≤◌, ℕ, List, [], OnOk, IfSome, if◌then◌else◌, None, Some};
 ghost use Rattle.std.specs.List.Sorted.{IsStrictlySortedBy};
 ghost use Rattle.std.specs.Map.{keys_of};
 ghost use Rattle.std.specs.Ordering.{nat_cmp};
 ghost use Rattle.std.specs.Cmp.Lexicographic.{slice_cmp};
 ghost use Rattle.std.specs.Str.{bytes_eq};
-ghost use Rattle.asm_lex.specs.Names.{Names, value_in, with_name, number_named, register_named, IsValue, HasValues};
+ghost use Rattle.asm_lex.specs.Names.{Names, value_in, value_at, with_name, number_named, register_from, register_named, IsValue, HasValues, HasRegisters};
 
 use crate::SymbolValue;
 use std::alloc::{AllocError, Global};
@@ -18,18 +18,37 @@ use std::marker::Model;
 #[derive(Drop)]
 pub struct Symbols {
     tree: BTreeMap<Vec<u8>, SymbolValue>,
+    // The names that were given a register. They are few, so that a name that stands for none is soon known.
+    registers: BTreeMap<Vec<u8>, SymbolValue>,
 }
 
 impl Model for Symbols {
     ghost use Rattle.std.specs.Prelude.{ℕ, List, map};
     ghost use Rattle.asm_lex.specs.declared.shape.SymbolValue.{SymbolValue};
-    ghost use Rattle.asm_lex.specs.Names.{value_in, HasValues};
+    ghost use Rattle.asm_lex.specs.Names.{value_at, HasValues, HasRegisters};
 
     ghost Value = { List (List ℕ × SymbolValue) };
 
     ghost view = { λ symbols. map {B = List ℕ × SymbolValue} (λ entry. (entry.0.items, entry.1)) symbols.tree.entries };
 
-    ghost invariant = { λ symbols. HasValues (value_in (map {B = List ℕ × SymbolValue} (λ entry. (entry.0.items, entry.1)) symbols.tree.entries)) };
+    ghost invariant = { λ symbols. HasValues (value_at symbols.tree.entries) × HasRegisters (value_at symbols.registers.entries) (value_at symbols.tree.entries) };
+}
+
+// Adds a name to those that were given a register, where its value is one.
+fn note_register(
+    alloc: Global,
+    registers: &mut BTreeMap<Vec<u8>, SymbolValue>,
+    name: &[u8],
+    value: SymbolValue,
+) -> Result<(), AllocError>
+    ensures others { (names : Names) → HasRegisters (value_at registers.old.entries) names → HasRegisters (value_at registers.new.entries) names }
+    ensures name { OnOk result (value_at registers.new.entries name.now ≡ None → register_from (Some value) ≡ None) }
+{
+    if let SymbolValue::Register(_) = value {
+        let key = Vec::from_slice(alloc, name)?;
+        registers.insert(key, value)?;
+    }
+    Ok(())
 }
 
 impl Symbols {
@@ -39,6 +58,7 @@ impl Symbols {
     {
         Symbols {
             tree: BTreeMap::new(alloc),
+            registers: BTreeMap::new(alloc),
         }
     }
 
@@ -65,6 +85,9 @@ impl Symbols {
         ensures number { result ≡ register_named (value_in self.now) name.now }
         ensures within { IfSome result (λ register. register ≤ 15) }
     {
+        if !self.registers.contains_key(name) {
+            return None;
+        }
         match self.get(name) {
             Some(SymbolValue::Register(register)) => Some(register),
             _ => None,
@@ -89,6 +112,7 @@ impl Symbols {
         ensures { OnOk result ((other : List ℕ) → value_in self.new other ≡ with_name (value_in self.old) name.now value other) }
     {
         let key = Vec::from_slice(alloc, name)?;
+        note_register(alloc, &mut self.registers, name, value)?;
         self.tree.insert(key, value)?;
         Ok(())
     }

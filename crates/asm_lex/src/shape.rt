@@ -31,6 +31,15 @@ pub struct Span {
     pub to: u16,
 }
 
+/// A part of a line of any length: the bytes from the place `from` up to, and without, the place `to`.
+#[derive(Clone, Copy)]
+pub struct Place {
+    /// The place of the first byte.
+    pub from: usize,
+    /// The place behind the last byte.
+    pub to: usize,
+}
+
 /// What the word of a line means.
 #[derive(Clone, Copy)]
 pub enum Word {

@@ -1,11 +1,13 @@
 //! Spans of a line: its label, its word and its operands.
 
-ghost use Rattle.std.specs.Prelude.{◌≡◌, ◌≤◌, ◌<◌, ◌+◌, ◌-◌, ◌∷◌, [], ◌++◌, ℕ, List, length, take, drop, map, IfSome, MatchOption, Option, is_some};
+ghost use Rattle.std.specs.Prelude.{◌≡◌, ◌≤◌, ◌<◌, ◌+◌, ◌-◌, ◌∷◌, [], ◌++◌, ℕ, List, length, take, drop, map, IfSome, MatchBool, MatchOption, Option, is_some};
 ghost use Rattle.std.specs.List.{before_first, after_first, list_any, slice_split};
 ghost use Rattle.std.specs.Option.{option_map, option_to_list};
 ghost use Rattle.asm_lex.specs.Cuts.{stops, parts_of};
 ghost use Rattle.asm_lex.specs.Parts.{without_leading_blanks, trimmed, code_of, label_of, statement_of, word_of, behind_word, operands_in};
-ghost use Rattle.asm_lex.specs.Spans.{text_at, IsWithin, AreInOrder};
+ghost use Rattle.asm_lex.specs.Places.{visible_span, label_span, word_span, behind_span, spans_in, operand_spans};
+ghost use Rattle.asm_lex.specs.Lines.{operands_of};
+ghost use Rattle.asm_lex.specs.Spans.{text_at, IsWithin, AreWithin, AreInOrder};
 
 use crate::Span;
 use crate::cuts::{Stop, end_without_blanks, leading_blanks, position};
@@ -52,6 +54,7 @@ fn trim(line: &[u8], span: Span) -> Span
     requires { IsWithin line.now span }
     ensures text { text_at line.now result ≡ trimmed (text_at line.now span) }
     ensures within { (span.from ≤ result.from) × (result.from ≤ result.to) × (result.to ≤ span.to) }
+    ensures place { result ≡ visible_span span.to (text_at line.now span) }
 {
     let span = without_leading_blanks(line, span);
     part(span, 0, end_without_blanks(text_at(line, span)))
@@ -76,6 +79,7 @@ fn cut(line: &[u8], span: Span, stop: Stop) -> (Span, Option<Span>)
     ensures rest { IfSome result.1 (λ rest. text_at line.now rest ≡ after_first (stops stop) (text_at line.now span)) }
     ensures within { (result.0.from ≡ span.from) × (result.0.from ≤ result.0.to) × (result.0.to ≤ span.to) }
     ensures order { IfSome result.1 (λ rest. (result.0.to < rest.from) × (rest.from ≤ rest.to) × (rest.to ≡ span.to)) }
+    ensures next { IfSome result.1 (λ rest. rest.from ≡ result.0.to + 1) }
 {
     let text = text_at(line, span);
     let end = position(text, stop);
@@ -94,6 +98,7 @@ fn split_label(line: &[u8], code: Span) -> (Option<Span>, Span)
     ensures statement { without_leading_blanks (text_at line.now result.1) ≡ statement_of (text_at line.now code) }
     ensures within { (result.1.from ≤ result.1.to) × (result.1.to ≡ code.to) }
     ensures order { AreInOrder code.from (option_to_list result.0) result.1.from }
+    ensures place { code.from ≡ 0 → result.0 ≡ label_span (text_at line.now code) }
 {
     let (first, behind) = cut(line, code, Stop::Colon);
     match behind {
@@ -117,6 +122,9 @@ pub(crate) fn parts_of(line: &[u8]) -> Parts
     ensures word { text_at line.now result.word ≡ word_of (statement_of (code_of line.now)) }
     ensures operands { text_at line.now result.operands ≡ behind_word (statement_of (code_of line.now)) }
     ensures order { AreInOrder 0 (option_to_list result.label ++ result.word ∷ result.operands ∷ []) (length line.now) }
+    ensures label_place { result.label ≡ label_span (code_of line.now) }
+    ensures word_place { result.word ≡ word_span (code_of line.now) }
+    ensures operands_place { result.operands ≡ behind_span (code_of line.now) }
 {
     let whole = Span {
         from: 0,
@@ -138,6 +146,30 @@ pub(crate) fn parts_of(line: &[u8]) -> Parts
     }
 }
 
+// The first 128 operands in what stands behind a word, and whether these are all.
+fn first_operands(line: &[u8], span: Span) -> (ArrayVec<Span, 128>, bool)
+    requires { IsWithin line.now span }
+    ensures texts { MatchBool result.1 (map (text_at line.now) result.0.items ≡ operands_in (text_at line.now span))
+        (128 < length (operands_in (text_at line.now span))) }
+    ensures order { AreInOrder span.from result.0.items span.to }
+    ensures places { result.0.items ≡ take 128 (spans_in span.from (text_at line.now span)) }
+{
+    let mut operands = ArrayVec::new();
+    if span.from == span.to {
+        return (operands, true);
+    }
+    let mut rest = Some(span);
+    while let Some(left) = rest {
+        if operands.is_full() {
+            return (operands, false);
+        }
+        let (operand, more) = cut(line, left, Stop::Comma);
+        operands.push(trim(line, operand));
+        rest = more;
+    }
+    (operands, true)
+}
+
 /// The operands in what stands behind a word; none where there are more than 128.
 pub(crate) fn operands(line: &[u8], span: Span) -> Option<ArrayVec<Span, 128>>
     requires { IsWithin line.now span }
@@ -145,18 +177,39 @@ pub(crate) fn operands(line: &[u8], span: Span) -> Option<ArrayVec<Span, 128>>
         (λ operands. map (text_at line.now) operands.items ≡ operands_in (text_at line.now span)) }
     ensures order { IfSome result (λ operands. AreInOrder span.from operands.items span.to) }
 {
-    let mut operands = ArrayVec::new();
-    if span.from == span.to {
-        return Some(operands);
+    match first_operands(line, span) {
+        (operands, true) => Some(operands),
+        (_, false) => None,
     }
-    let mut rest = Some(span);
-    while let Some(left) = rest {
-        if operands.is_full() {
-            return None;
-        }
-        let (operand, more) = cut(line, left, Stop::Comma);
-        operands.push(trim(line, operand));
-        rest = more;
+}
+
+/// Where the label of a line, its word and its operands, up to 128 of them, stand.
+#[derive(Drop)]
+pub struct LineSpans {
+    /// What stands before the first colon.
+    pub label: Option<Span>,
+    /// The word, which may be empty.
+    pub word: Span,
+    /// The operands without the blanks around them.
+    pub operands: ArrayVec<Span, 128>,
+}
+
+/// The spans of a line of at most 255 bytes, whatever stands in it.
+pub fn line_spans(line: &[u8]) -> LineSpans
+    requires { length line.now ≤ 255 }
+    ensures label { result.label ≡ label_span (code_of line.now) }
+    ensures word { result.word ≡ word_span (code_of line.now) }
+    ensures operands { result.operands.items ≡ operand_spans (code_of line.now) }
+    ensures texts { length (operands_of (code_of line.now)) ≤ 128 → map (text_at line.now) result.operands.items ≡ operands_of (code_of line.now) }
+    ensures label_within { IfSome result.label (IsWithin line.now) }
+    ensures word_within { IsWithin line.now result.word }
+    ensures operands_within { AreWithin line.now result.operands.items }
+{
+    let parts = parts_of(line);
+    let (operands, _) = first_operands(line, parts.operands);
+    LineSpans {
+        label: parts.label,
+        word: parts.word,
+        operands,
     }
-    Some(operands)
 }

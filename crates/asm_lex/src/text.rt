@@ -18,7 +18,7 @@ pub(crate) fn is_blank(byte: u8) -> bool
     byte == b' ' || byte == b'\t'
 }
 
-fn is_allowed(byte: u8) -> bool
+pub(crate) fn is_allowed(byte: u8) -> bool
     ensures { result ≡ is_allowed byte }
 {
     (b' ' <= byte && byte <= b'~') || byte == b'\t'
@@ -121,7 +121,7 @@ pub(crate) fn is_name(isa: Isa, text: &[u8]) -> bool
 }
 
 /// Whether the run of a name's characters is too long for a name.
-fn is_long_name(run: &[u8]) -> bool
+pub(crate) fn is_long_name(run: &[u8]) -> bool
     ensures { result ≡ is_long_name run.now }
 {
     match run.first() {

@@ -1,9 +1,9 @@
 -- The lines of a listing, read off an assembly.
 use Rattle.std.proofs.Common.{◌≡◌, ◌+◌, ◌-◌, ◌*◌, ◌/◌, ◌<◌, ◌≤◌, ℕ, zero, suc, refl, Bool, List, [], ◌∷◌, ◌++◌, length, take, get_or, sym, ◌∙◌, ap, arith, true, false, Some, None, Option, Ok, Err, Result, cond, inl, inr, min}
-use Rattle.std.specs.Prelude.{map, flat_map, nat_le, slice_index, slice_get, is_some, option_map, codes}
+use Rattle.std.specs.Prelude.{◌||◌, map, flat_map, nat_le, slice_index, slice_get, is_some, option_map, codes}
 use Rattle.std.specs.Option.{option_or, option_map_or}
 use Rattle.std.specs.Result.{result_unwrap_or}
-use Rattle.std.specs.List.{range_with_len}
+use Rattle.std.specs.List.{list_any, range_with_len}
 use Rattle.std.proofs.lemmas.Bool.{cond-true, le-leb, both_ways, cases_eq}
 use Rattle.std.proofs.lemmas.List.{append_assoc, append-nil, length-map, map-append, take-map, drop-map, get_or-map, get_or_default, flat_map_more, same_lists}
 use Rattle.std.proofs.lemmas.List.Concat.{flat_map-append}
@@ -106,14 +106,18 @@ pub lines-start : (isa : Isa) (source : List (List ℕ)) → lines_text isa sour
 unfolding lines_text
 lines-start isa source = refl
 
+-- one text more
+pub texts-more : (f : ℕ → List ℕ) (i : ℕ) → flat_map f (range_with_len 0 (i + 1)) ≡ flat_map f (range_with_len 0 i) ++ f i
+texts-more f i =
+    let here : 0 + i ≡ i = omega arith in
+    ap (flat_map f) (range_push i 0)
+    ∙ flat_map-append f (range_with_len 0 i) ((0 + i) ∷ [])
+    ∙ ap (λ k. flat_map f (range_with_len 0 i) ++ flat_map f (k ∷ [])) here
+    ∙ ap (λ t. flat_map f (range_with_len 0 i) ++ t) (append-nil (f i))
+
 pub lines-more : (isa : Isa) (source : List (List ℕ)) (i : ℕ) → lines_text isa source (i + 1) ≡ lines_text isa source i ++ listed isa source i
 unfolding lines_text
-lines-more isa source i =
-    let here : 0 + i ≡ i = omega arith in
-    ap (flat_map (listed isa source)) (range_push i 0)
-    ∙ flat_map-append (listed isa source) (range_with_len 0 i) ((0 + i) ∷ [])
-    ∙ ap (λ k. flat_map (listed isa source) (range_with_len 0 i) ++ flat_map (listed isa source) (k ∷ [])) here
-    ∙ ap (λ t. flat_map (listed isa source) (range_with_len 0 i) ++ t) (append-nil (listed isa source i))
+lines-more isa source i = texts-more (listed isa source) i
 
 -- the bytes of a line stand in the table
 some_here : (xs : List ℕ) (k : ℕ) → k < length xs → slice_get xs k ≡ Some (get_or xs k 0)
@@ -225,3 +229,19 @@ module _ (isa : Isa) (source : List (List ℕ)) where
         ∙ ap (λ n. line_listing (i + 1) (label_value isa source i) at (bytes_from made at n) line) place_count
         ∙ ap (λ bs. line_listing (i + 1) (label_value isa source i) at bs line) (all_read ∙ sym (ap (λ r. result_unwrap_or r []) judged.1))
         ∙ ap (line_listing (i + 1) (label_value isa source i) at (result_unwrap_or (bytes_of isa source i) [])) (sym here)
+
+-- whether one of a function's values is there, by the list of them
+any-from : {X : Type 0} (f : ℕ → Option X) (xs : List (Option X)) (a : ℕ) → ((i : ℕ) → i < length xs → get_or xs i None ≡ f (a + i))
+    → list_any (λ x. is_some x) xs ≡ list_any (λ i. is_some (f i)) (range_with_len a (length xs))
+any-from f [] a each = refl
+any-from f (x ∷ xs) a each =
+    let first : a + 0 ≡ a = omega arith in
+    ap (λ o. is_some o || list_any (λ x. is_some x) xs) (each 0 (omega arith) ∙ ap f first)
+    ∙ ap (λ b. is_some (f a) || b)
+    (any-from f xs (a + 1) (λ i below. let moved : a + suc i ≡ a + 1 + i = omega arith in each (suc i) (omega arith) ∙ ap f moved))
+
+pub any-each : {X : Type 0} (f : ℕ → Option X) (xs : List (Option X)) (n : ℕ) → length xs ≡ n → ((i : ℕ) → i < n → get_or xs i None ≡ f i)
+    → list_any (λ x. is_some x) xs ≡ list_any (λ i. is_some (f i)) (range_with_len 0 n)
+any-each f xs n count each =
+    any-from f xs 0 (λ i below. let here : i ≡ 0 + i = omega arith in each i (omega (arith, count)) ∙ ap f here)
+    ∙ ap (λ n. list_any (λ i. is_some (f i)) (range_with_len 0 n)) count

@@ -5,3 +5,5 @@ pub mod WayBack
 pub mod Listing
 pub mod Shown
 pub mod Raw
+pub mod Remedies
+pub mod Told

@@ -14,4 +14,4 @@ pub returns-clause-within : goal.returns-clause-within
 returns-clause-within c =
     let P : Option SymbolValue → Type 0 = λ value. IfSome value IsValue in
     subst P (sym (c.copied.ensures ∙ c.get.ensures.value ∙ sym (value_in-shown c.self.inside.tree.entries c.args.name.now)))
-    (c.self.invariant c.args.name.now)
+    (c.self.invariant.0 c.args.name.now)

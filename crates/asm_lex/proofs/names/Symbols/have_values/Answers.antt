@@ -6,4 +6,4 @@ use Rattle.asm_lex.proofs.names.Symbols.have_values.Goals as goal
 pub returns : goal.returns
 returns c =
     let P : List (List ℕ × SymbolValue) → Type 0 = λ names. HasValues (value_in names) in
-    subst P c.self.view_is c.self.invariant
+    subst P c.self.view_is c.self.invariant.0

@@ -1,0 +1,270 @@
+//! The text of every fault of a source, in the form that editors read.
+
+ghost use Rattle.std.specs.Prelude.{◌≡◌, ◌++◌, ◌≤◌, ◌<◌, ℕ, List, [], length, slice_index_or, is_some, None, IfOk, IfErr, OnOk};
+ghost use Rattle.std.specs.List.{list_any};
+ghost use Rattle.asm_lex.specs.Notes.{note_in};
+ghost use Rattle.std.specs.Option.{option_map, option_map_or};
+ghost use Rattle.asm_core.specs.Limits.{most_bytes};
+ghost use Rattle.asm_core.specs.Sources.{source_lines};
+ghost use Rattle.asm_core.specs.Told.{AreTold, AgreesWithFaults};
+ghost use Rattle.asm_listing.specs.Told.{shown_byte, shown, line_text, remark_text, start_at, bytes_at, finding_text, note_text, told_text, report_of, has_told};
+
+use crate::remedies::remedy;
+use crate::write::{append, append_each};
+use asm_core::{AsmFault, Finding, check, next_line};
+use asm_lex::{Isa, Place, Symbols, note_in};
+use itoa::Buffer as Digits;
+use std::alloc::{AllocError, Global};
+use vip_byte::hex2;
+
+fn append_byte(text: &mut Vec<u8>, byte: u8) -> Result<(), AllocError>
+    ensures { OnOk result (text.new.items ≡ text.old.items ++ shown_byte byte) }
+{
+    if (b' '..=b'~').contains(&byte) {
+        append(text, &[byte])
+    } else {
+        append_each(text, &[b"\\x", &hex2(byte)])
+    }
+}
+
+// Bytes as they stand, with those that aren't printable in hexadecimal.
+fn shown(alloc: Global, bytes: &[u8]) -> Result<Vec<u8>, AllocError>
+    ensures { IfOk result (λ text. text.items ≡ shown bytes.now) }
+{
+    let mut text = Vec::new(alloc);
+    for byte in bytes {
+        append_byte(&mut text, *byte)?;
+    }
+    Ok(text)
+}
+
+fn remark_of(alloc: Global, remark: Option<&[u8]>) -> Result<Vec<u8>, AllocError>
+    ensures { IfOk result (λ text. text.items ≡ remark_text (option_map (λ remark. remark.now) remark.entry)) }
+{
+    let mut text = Vec::new(alloc);
+    if let Some(remark) = remark {
+        let shown = shown(alloc, remark)?;
+        append_each(&mut text, &[b" (", shown.as_slice(), b")"])?;
+    }
+    Ok(text)
+}
+
+fn append_line(
+    alloc: Global,
+    text: &mut Vec<u8>,
+    name: &[u8],
+    number: u32,
+    column: usize,
+    says: &str,
+    culprit: &[u8],
+    remark: Option<&[u8]>,
+) -> Result<(), AllocError>
+    ensures { OnOk result (text.new.items ≡ text.old.items
+        ++ line_text name.now number column says.now culprit.now (option_map (λ remark. remark.now) remark.entry)) }
+{
+    let mut line_digits = Digits::new();
+    let mut column_digits = Digits::new();
+    let culprit = shown(alloc, culprit)?;
+    let remark = remark_of(alloc, remark)?;
+    append_each(
+        text,
+        &[
+            name,
+            b":",
+            line_digits.format(number).as_bytes(),
+            b":",
+            column_digits.format(column).as_bytes(),
+            b": ",
+            says.as_bytes(),
+            b": ",
+            culprit.as_slice(),
+            remark.as_slice(),
+            b"\n",
+        ],
+    )
+}
+
+fn start_at(line: &[u8], place: Place) -> usize
+    ensures start { result ≡ start_at line.now place }
+    ensures within { result ≤ length line.now }
+{
+    place.from.min(place.to.min(line.len()))
+}
+
+fn bytes_at(line: &[u8], place: Place) -> &[u8]
+    ensures { result.now ≡ bytes_at line.now place }
+{
+    &line[start_at(line, place)..place.to.min(line.len())]
+}
+
+fn append_finding(
+    alloc: Global,
+    text: &mut Vec<u8>,
+    isa: Isa,
+    name: &[u8],
+    number: u32,
+    line: &[u8],
+    finding: Finding,
+) -> Result<(), AllocError>
+    ensures { OnOk result (text.new.items ≡ text.old.items ++ finding_text isa name.now number line.now finding) }
+{
+    let from = start_at(line, finding.place);
+    let culprit = bytes_at(line, finding.place);
+    let says = finding.cause.name();
+    match remedy(alloc, isa, finding.cause, line, from, culprit)? {
+        Some(remedy) => {
+            let remark = Some(remedy.as_slice());
+            append_line(alloc, text, name, number, from + 1, says, culprit, remark)
+        }
+        None => append_line(alloc, text, name, number, from + 1, says, culprit, None),
+    }
+}
+
+fn append_note(
+    alloc: Global,
+    text: &mut Vec<u8>,
+    name: &[u8],
+    number: u32,
+    line: &[u8],
+    place: Place,
+) -> Result<(), AllocError>
+    ensures { OnOk result (text.new.items ≡ text.old.items ++ note_text name.now number line.now place) }
+{
+    let column = start_at(line, place) + 1;
+    let instruction = bytes_at(line, place);
+    let remark = "a comment: an instruction stands on a line of its own";
+    let remark = Some(remark.as_bytes());
+    append_line(
+        alloc,
+        text,
+        name,
+        number,
+        column,
+        "note",
+        instruction,
+        remark,
+    )
+}
+
+fn append_fault(
+    alloc: Global,
+    text: &mut Vec<u8>,
+    isa: Isa,
+    name: &[u8],
+    number: u32,
+    line: &[u8],
+    finding: Option<Finding>,
+) -> Result<(), AllocError>
+    ensures { OnOk result (text.new.items ≡ text.old.items ++ option_map_or (finding_text isa name.now number line.now) finding []) }
+{
+    match finding {
+        Some(finding) => append_finding(alloc, text, isa, name, number, line, finding),
+        None => Ok(()),
+    }
+}
+
+// The note of a line, if it has one.
+fn append_note_of(
+    alloc: Global,
+    text: &mut Vec<u8>,
+    isa: Isa,
+    name: &[u8],
+    number: u32,
+    line: &[u8],
+) -> Result<(), AllocError>
+    ensures { OnOk result (text.new.items ≡ text.old.items
+        ++ option_map_or (note_text name.now number line.now) (note_in isa (λ name. None) line.now) []) }
+{
+    let names = Symbols::new(alloc);
+    match note_in(isa, &names, line) {
+        Some(place) => append_note(alloc, text, name, number, line, place),
+        None => Ok(()),
+    }
+}
+
+// The fault of one line, if it is told, and behind it its note.
+#[tactic(auto, unfolding(crate::specs::Told::told_text))]
+fn append_told(
+    alloc: Global,
+    text: &mut Vec<u8>,
+    isa: Isa,
+    name: &[u8],
+    number: u32,
+    line: &[u8],
+    finding: Option<Finding>,
+) -> Result<(), AllocError>
+    ensures { OnOk result (text.new.items ≡ text.old.items ++ told_text isa name.now number line.now finding) }
+{
+    append_fault(alloc, text, isa, name, number, line, finding)?;
+    append_note_of(alloc, text, isa, name, number, line)
+}
+
+/// What is told of a source.
+#[derive(Drop)]
+pub struct CheckText {
+    /// The text, a line for each fault and each note.
+    pub text: Vec<u8>,
+    /// Whether a fault is told.
+    pub faulty: bool,
+}
+
+fn finding_at(found: &[Option<Finding>], index: usize) -> Option<Finding>
+    requires { index < length found.now }
+    ensures { result ≡ slice_index_or found.now index None }
+{
+    found[index]
+}
+
+fn text_of(
+    alloc: Global,
+    isa: Isa,
+    name: &[u8],
+    text: &[u8],
+    found: &[Option<Finding>],
+) -> Result<Vec<u8>, AllocError>
+    requires text { length text.now ≤ most_bytes }
+    requires found { AreTold isa (source_lines text.now) found.now }
+    ensures { IfOk result (λ report. report.items ≡ report_of isa name.now (source_lines text.now)) }
+{
+    let mut report = Vec::new(alloc);
+    let mut number: u32 = 0;
+    let mut rest = text;
+    while let Some((line, more)) = next_line(rest) {
+        let finding = finding_at(found, number as usize);
+        append_told(alloc, &mut report, isa, name, number + 1, line, finding)?;
+        number += 1;
+        rest = more;
+    }
+    Ok(report)
+}
+
+fn is_any_told(found: &[Option<Finding>]) -> bool
+    ensures { result ≡ list_any (λ finding. is_some finding) found.now }
+{
+    found.iter().any(|finding| finding.is_some())
+}
+
+fn has_told(found: &[Option<Finding>]) -> bool
+    ensures { (isa : Isa) (source : List (List ℕ)) → AreTold isa source found.now → result ≡ has_told isa source }
+{
+    is_any_told(found)
+}
+
+/// Every fault of a source of at most `MOST_BYTES` bytes, as text, where the source's file has this name. It fails only where memory is refused.
+pub fn report(alloc: Global, isa: Isa, name: &[u8], text: &[u8]) -> Result<CheckText, AsmFault>
+    requires { length text.now ≤ most_bytes }
+    ensures text { IfOk result (λ report. report.text.items ≡ report_of isa name.now (source_lines text.now)) }
+    ensures faulty { IfOk result (λ report. report.faulty ≡ has_told isa (source_lines text.now)) }
+    ensures agrees { AgreesWithFaults isa (source_lines text.now) }
+    ensures memory { IfErr result (λ fault. fault ≡ AsmFault.NoMemory) }
+{
+    let found = check(alloc, isa, text)?;
+    let found = found.as_slice();
+    match text_of(alloc, isa, name, text, found) {
+        Ok(report) => Ok(CheckText {
+            text: report,
+            faulty: has_told(found),
+        }),
+        Err(_) => Err(AsmFault::NoMemory),
+    }
+}
