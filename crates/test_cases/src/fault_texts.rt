@@ -4,7 +4,7 @@
 use asm_core::{AsmCause, AsmFault};
 use asm_lex::{LexFault, ValueFault};
 use chip8_source::ImageFault;
-use cycle_check::{CertCause, CertFault};
+use cycle_check::{CertCause, CertFault, TimingCause};
 use game_check::{ProofCause, ProofFault};
 use std::fmt::Display;
 use vip_byte::NumFault;
@@ -158,8 +158,15 @@ fn write_of_certificates(rt: &HostRuntime) -> anyhow::Result<()> {
         ("line 2: NoEntry", CertFault::Fault { line: 2, cause }),
         ("NoMemory", CertFault::NoMemory),
     ];
+    let timing = [
+        ("Opcode", TimingCause::Opcode),
+        ("Loop", TimingCause::Loop),
+        ("Most", TimingCause::Most),
+        ("Fact", TimingCause::Fact),
+    ];
     write(rt, "CertCause", &causes)?;
-    write(rt, "CertFault", &faults)
+    write(rt, "CertFault", &faults)?;
+    write(rt, "TimingCause", &timing)
 }
 
 fn write_of_proofs(rt: &HostRuntime) -> anyhow::Result<()> {

@@ -1,5 +1,5 @@
 -- What an accepted certificate shows: of a routine by its law, of a game by its law and that of every run.
-use Rattle.std.proofs.Common.{◌≡◌, ℕ, ◌+◌, ◌<◌, ◌≤◌, List, [], ◌∷◌, length, slice_index, None, refl, subst, sym}
+use Rattle.std.proofs.Common.{◌≡◌, ℕ, ◌+◌, ◌<◌, ◌≤◌, Bool, List, [], ◌∷◌, length, slice_index, None, refl, subst, sym}
 use Rattle.machine.specs.Board.{Machine}
 use Rattle.machine.specs.Keys.{Event as KeyEvent}
 use Rattle.chip8_lang.specs.declared.view.Edition.{Edition}
@@ -18,17 +18,20 @@ use Rattle.rom_board.specs.Program.{numbered, program}
 use Rattle.chip8_image.specs.Interpreters.{interpreter_of}
 use Rattle.vip_words.specs.declared.request.Request.TheVariants as request
 use Rattle.vip_tools.specs.declared.status.Status.{Status}
-use Rattle.vip_tools.specs.Certificates.{CertifyComes, CyclesComes, SafeComes}
+use Rattle.vip_tools.specs.Certificates.{CertifyComes, CyclesComes, SafeComes, TimingComes}
 use Rattle.vip_tools.specs.Certificates.CertifyComes.{Finds}
 use Rattle.vip_tools.specs.Certificates.CyclesComes.{Leaves}
 use Rattle.vip_tools.specs.Certificates.SafeComes.{Proves}
+use Rattle.vip_tools.specs.Certificates.TimingComes.{Times}
+use Rattle.vip_words.specs.declared.request.Entry.{Entry}
 use Rattle.vip_tools.specs.Files.{Loaded, needed}
 use Rattle.vip_tools.specs.Outcome.{Outcome}
 use Rattle.vip_tools.specs.Outcome.Outcome.{Shown}
 use Rattle.vip_verbs.specs.Outcome.{HasOutcome}
-use Rattle.vip_call.specs.Certified.{Certifies, IsSafe, LeavesInTime, NoneStops, WritesCertificate}
+use Rattle.vip_call.specs.Certified.{Certifies, IsSafe, LeavesInTime, NoneStops, WritesCertificate, WritesTiming}
 use Rattle.vip_call.specs.Top.{Call, ProvesCertified}
 use Rattle.vip_call.proofs.FilledLemmas.{AreGiven, are_given}
+use Rattle.vip_call.proofs.GivenStarts.{game_so}
 
 -- ---- no event of a run is a stop
 
@@ -67,14 +70,31 @@ module _ (routines : AcceptedIsWithin) (games : CertifiedGames) (law : EveryRun)
 
   -- ---- a command
 
-  OfRoutine : List ℕ → List ℕ → Outcome → Type 0
-  OfRoutine source text (Shown pieces status report) = LeavesInTime source text pieces
-  OfRoutine source text _ = Unit {0}
+  OfRoutine : List ℕ → List ℕ → Bool → Outcome → Type 0
+  OfRoutine source text exits (Shown pieces status report) = LeavesInTime source text exits pieces
+  OfRoutine source text exits _ = Unit {0}
 
-  routine : (source text : List ℕ) (o : Outcome) → CyclesComes source text o → OfRoutine source text o
+  routine : (source text : List ℕ) (exits : Bool) (o : Outcome) → CyclesComes source text exits o → OfRoutine source text exits o
   unfolding OfRoutine
-  routine source text _ (Leaves bound made is) = record { bound = bound; named = refl; leaves = routines _ text bound made.fits is }
-  routine source text _ _ = tt
+  routine source text exits _ (Leaves bound made is) = record { bound = bound; named = refl; leaves = routines _ text bound made.fits is }
+  routine source text exits _ _ = tt
+
+  OfTiming : List ℕ → Entry → ℕ → ℕ → Outcome → Type 0
+  OfTiming source entry p k (Shown pieces status report) = WritesTiming source entry p k pieces
+  OfTiming source entry p k _ = Unit {0}
+
+  timing : (source : List ℕ) (entry : Entry) (p k : ℕ) (o : Outcome) → TimingComes source entry p k o → OfTiming source entry p k o
+  unfolding OfTiming
+  timing source entry p k _ (Times made address text entered found fits) = record {
+    text = text;
+    written = refl;
+    made = made;
+    address = address;
+    entered = entered;
+    found = found;
+    leaves = routines _ text (record { entry = address; limit = found.bound.limit }) made.fits found.accepted;
+  }
+  timing source entry p k _ _ = tt
 
   OfGame : Edition → List ℕ → Outcome → Type 0
   OfGame e game (Shown pieces status report) = IsSafe e game
@@ -101,7 +121,7 @@ module _ (routines : AcceptedIsWithin) (games : CertifiedGames) (law : EveryRun)
 
   shows : (loaded : Loaded) (pieces : List (List ℕ)) (status : Status) (report : List ℕ) → AreGiven (needed loaded)
       → HasOutcome loaded (Shown pieces status report) → Certifies loaded pieces
-  unfolding OfRoutine OfGame OfSearch
+  unfolding OfRoutine OfTiming OfGame OfSearch
   shows (request.Run run) pieces status report given comes = tt
   shows (request.Program run) pieces status report given comes = tt
   shows (request.Link message moves number) pieces status report given comes = tt
@@ -110,11 +130,14 @@ module _ (routines : AcceptedIsWithin) (games : CertifiedGames) (law : EveryRun)
   shows (request.Dis bytes isa address) pieces status report given comes = tt
   shows (request.Source text) pieces status report given comes = tt
   shows request.Bounds pieces status report given comes = tt
-  shows (request.Cycles source certificate) pieces status report given comes = routine source certificate (Shown pieces status report) comes
-  shows (request.Safe game certificate edition) pieces status report given comes =
-      proof edition game certificate given.0.fits given.0.bytes (Shown pieces status report) comes
-  shows (request.Certify game edition) pieces status report given comes =
-      search edition game given.0.fits given.0.bytes (Shown pieces status report) comes
+  shows (request.Cycles source certificate exits) pieces status report given comes = routine source certificate exits (Shown pieces status report) comes
+  shows (request.Timing source entry p k) pieces status report given comes = timing source entry p k (Shown pieces status report) comes
+  shows (request.Safe code certificate edition) pieces status report given comes =
+      game_so edition (λ game. SafeComes edition game certificate) (λ game. IsSafe edition game) pieces status report
+      (λ game fits bytes here. proof edition game certificate fits bytes (Shown pieces status report) here) code given.0 comes
+  shows (request.Certify code edition) pieces status report given comes =
+      game_so edition (CertifyComes edition) (λ game. WritesCertificate edition game pieces) pieces status report
+      (λ game fits bytes here. search edition game fits bytes (Shown pieces status report) here) code given.0 comes
 
   pub proves_certified : (call : Call) → ProvesCertified call
   proves_certified call asked loaded pieces status report asks comes =

@@ -18,7 +18,7 @@ use Rattle.rom_board.proofs.Passed.{NoStop, before_point, events_to_stop, last_a
 use Rattle.vip_text.specs.Endings.{Ending}
 use Rattle.vip_text.specs.Endings.Ending.{AtLimit, AtStop}
 use Rattle.vip_show.specs.Endings.{ending_after}
-use Rattle.vip_words.specs.declared.debug_commands.Command.{Command}
+use Rattle.vip_words.specs.Spoken.{Spoken}
 use Rattle.vip_debug.specs.Answers.{stop_by, place_after, at_start}
 use Rattle.vip_debug.proofs.TargetRuns.{Reached}
 use Rattle.vip_debug.specs.Game.{run_at}
@@ -72,7 +72,7 @@ module _ (e : Edition) where
 
     -- A run under the debugger ends as at the limit, or as the whole run: where the commands leave the board at a stop point, no state before it
     -- was one, so its last dispatch point is the run's.
-    pub debug_ends : (commands : List Command) → (debug_ending v limit commands ≡ AtLimit) ⊎ (debug_ending v limit commands ≡ run_ending e s script limit)
+    pub debug_ends : (commands : List Spoken) → (debug_ending v limit commands ≡ AtLimit) ⊎ (debug_ending v limit commands ≡ run_ending e s script limit)
     debug_ends commands = by_test (is_stop i (at_state n)) refl
       where
         n : ℕ

@@ -35,6 +35,7 @@ use Rattle.vip_text.specs.Endings.Ending.{AtLimit}
 use Rattle.vip_text.specs.Screens.{screen_lines}
 use Rattle.vip_text.specs.Traces.{plain, timed, trace_line}
 use Rattle.vip_show.specs.Endings.{ending_after}
+use Rattle.vip_words.specs.Spoken.{Spoken}
 use Rattle.vip_words.specs.declared.debug_commands.Command.{Command}
 use Rattle.vip_words.specs.declared.debug_commands.Command.TheVariants as command
 use Rattle.vip_words.specs.declared.debug_commands.Running.{Running}
@@ -166,7 +167,8 @@ module _
     (late : (machine_of s).cycle ≤ limit) (over : ℕ)
     (over_is :
     is_stop (interpreter_of e) (state (interpreter_of e) s script (moves_until (begun e s script) limit)) ≡ true
-    → over ≡ (state (interpreter_of e) s script (moves_until (begun e s script) limit)).cycle) where
+    → over ≡ (state (interpreter_of e) s script (moves_until (begun e s script) limit)).cycle)
+    (labels : List (ℕ × List ℕ)) where
   abbrev i : Interpreter
   i = interpreter_of e
 
@@ -404,7 +406,7 @@ module _
     from : (machine_of s).cycle ≤ to
     within : to ≤ limit
     is : place_with v limit c (place t) ≡ place to
-    answers : Answers e limit points ending over c t to (pieces_of v limit c (place t))
+    answers : Answers e limit points ending over c t to (pieces_of labels v limit c (place t))
 
   -- a command that looks for a dispatch point
   found_here : (b : Machine) → Among b (dispatches events) → seeking_lines v (at_point v limit (Some b)) ≡ line e plain (point_of e b) ∷ []
@@ -610,20 +612,22 @@ module _
   -- ---- all commands
 
   answered :
-      (commands : List Command) (t : ℕ) → (machine_of s).cycle ≤ t → t ≤ limit
-      → AllAnswered e limit points ending over (ending_where v (place_after v limit commands (place t)).moves) commands t (written v limit commands (place t))
+      (commands : List Spoken) (t : ℕ) → (machine_of s).cycle ≤ t → t ≤ limit
+      → AllAnswered e limit points ending over (ending_where v (place_after v limit commands (place t)).moves) commands t
+      (written labels v limit commands (place t))
   answered [] t behind_start order = (refl, ends_as t behind_start order)
   answered (c ∷ commands) t behind_start order =
-      let a = comes t behind_start order c in
+      let a = comes t behind_start order c.command in
       record {
         place = a.to;
-        here = pieces_of v limit c (place t);
-        rest = written v limit commands (place_with v limit c (place t));
+        here = pieces_of labels v limit c.command (place t);
+        rest = written labels v limit commands (place_with v limit c.command (place t));
         split = refl;
         answers = a.answers;
         others =
             subst
-            (λ p. AllAnswered e limit points ending over (ending_where v (place_after v limit commands p).moves) commands a.to (written v limit commands p))
+            (λ p. AllAnswered e limit points ending over (ending_where v (place_after v limit commands p).moves) commands a.to
+            (written labels v limit commands p))
             (sym a.is) (answered commands a.to a.from a.within);
       }
 
@@ -642,12 +646,12 @@ module _
           all_past e s script begins (machine_of s).cycle (omega arith) ∙ ap (λ k. past_of (suc k)) none ∙ past-first i s script
 
   pub answers :
-      (commands : List Command)
-      → AllAnswered e limit points ending over (debug_ending v limit commands) commands (machine_of s).cycle (written v limit commands (at_start v))
+      (commands : List Spoken)
+      → AllAnswered e limit points ending over (debug_ending v limit commands) commands (machine_of s).cycle (written labels v limit commands (at_start v))
   answers commands =
       subst
       (λ p. AllAnswered e limit points ending over (ending_where v (place_after v limit commands p).moves) commands (machine_of s).cycle
-      (written v limit commands p))
+      (written labels v limit commands p))
       (sym starts) (answered commands (machine_of s).cycle (omega arith) late)
 
 -- ---- the last dispatch point of a run up to a cycle
@@ -662,5 +666,5 @@ module _ (e : Edition) (s : Start) (script : List KeyEvent) (begins : is_stop (i
       → state (interpreter_of e) s script (moves_until (begun e s script) t) ≡ b
   found_point late is here =
       ap (λ c. state (interpreter_of e) s script (moves_until (begun e s script) c)) (sym here)
-      ∙ (found e s script begins t late (state (interpreter_of e) s script (moves_until (begun e s script) t)).cycle (λ stop. refl) b
+      ∙ (found e s script begins t late (state (interpreter_of e) s script (moves_until (begun e s script) t)).cycle (λ stop. refl) [] b
       (last_among (dispatches (events_to (begun e s script) t)) is)).there

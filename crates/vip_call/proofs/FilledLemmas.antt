@@ -3,10 +3,11 @@ use Rattle.std.proofs.Common.{◌≡◌, ℕ, ◌<◌, ◌≤◌, List, [], ◌�
 use Rattle.std.specs.Prelude.{option_map}
 use Rattle.std.proofs.lemmas.List.{map-append}
 use Rattle.vip_outside.specs.Files.{FilesMeaning}
-use Rattle.vip_words.specs.Request.{Asked, InRange, map_program_show, map_request, map_show, map_start}
+use Rattle.vip_words.specs.Request.{Asked, InRange, map_code, map_program_show, map_request, map_show, map_start}
 use Rattle.vip_words.specs.Rules.{Word}
+use Rattle.vip_words.specs.declared.request.Code.{Code}
+use Rattle.vip_words.specs.declared.request.Code.TheVariants as code
 use Rattle.vip_words.specs.declared.request.Memory.{Memory}
-use Rattle.vip_words.specs.declared.request.Memory.TheVariants as memory
 use Rattle.vip_words.specs.declared.request.ProgramShow.{ProgramShow}
 use Rattle.vip_words.specs.declared.request.ProgramShow.TheVariants as program
 use Rattle.vip_words.specs.declared.request.Request.{Request}
@@ -15,7 +16,9 @@ use Rattle.vip_words.specs.declared.request.Show.{Show}
 use Rattle.vip_words.specs.declared.request.Show.TheVariants as show
 use Rattle.vip_words.specs.declared.request.Start.{Start}
 use Rattle.vip_words.specs.declared.request.Start.TheVariants as start
-use Rattle.vip_tools.specs.Files.{HasAll, Loaded, Needed, files_of, needed, program_file, program_show_files, script_files, shape_of, show_files, start_files}
+use Rattle.vip_tools.specs.Files.{HasAll, Loaded, Needed, code_file, files_of, game_kind, most_text, needed, program_code, program_kind, program_show_files, program_size, script_files, shape_of, show_files, start_files, with_file}
+use Rattle.vip_tools.specs.declared.refusal.Kind.{Kind}
+use Rattle.chip8_lang.specs.State.{memory_size}
 
 -- ---- the most bytes of the files
 
@@ -24,15 +27,19 @@ mosts ns = map (λ n. n.most) ns
 
 -- they don't hang on the files themselves
 module _ {A B : Type 0} (f : A → B) where
+  code_most : (kind : Kind) (most : ℕ) (code : Code A) → (code_file kind most (map_code f code)).most ≡ (code_file kind most code).most
+  code_most kind most (code.Bytes file) = refl
+  code_most kind most (code.Source file) = refl
+
   start_mosts : (s : Start A) → mosts (start_files (map_start f s)) ≡ mosts (start_files s)
-  start_mosts (start.Game file edition) = refl
+  start_mosts (start.Game code edition) = ap (λ most. most ∷ []) (code_most (game_kind edition) (memory_size edition) code)
   start_mosts (start.State file) = refl
   start_mosts (start.Demo number) = refl
 
   show_mosts : (s : Show A) → mosts (show_files (map_show f s)) ≡ mosts (show_files s)
   show_mosts (show.Trace with_time with_words with_screen) = refl
   show_mosts show.Pictures = refl
-  show_mosts (show.Commands file) = refl
+  show_mosts (show.Commands file echo) = refl
   show_mosts show.State = refl
   show_mosts show.Profile = refl
   show_mosts (show.Summary number) = refl
@@ -41,14 +48,13 @@ module _ {A B : Type 0} (f : A → B) where
   script_mosts None = refl
   script_mosts (Some file) = refl
 
-  program_mosts : (m : Memory) (file : A) → mosts (program_file m (f file) ∷ []) ≡ mosts (program_file m file ∷ [])
-  program_mosts memory.Rom file = refl
-  program_mosts memory.Ram file = refl
+  program_mosts : (m : Memory) (code : Code A) → mosts (program_code m (map_code f code) ∷ []) ≡ mosts (program_code m code ∷ [])
+  program_mosts m code = ap (λ most. most ∷ []) (code_most (program_kind m) (program_size m) code)
 
   program_show_mosts : (s : ProgramShow A) → mosts (program_show_files (map_program_show f s)) ≡ mosts (program_show_files s)
   program_show_mosts program.Trace = refl
   program_show_mosts program.Pictures = refl
-  program_show_mosts (program.Commands file) = refl
+  program_show_mosts (program.Commands file echo) = refl
 
 both_mosts : {N : Type 0} (xs ys : List (Needed N)) → mosts (xs ++ ys) ≡ mosts xs ++ mosts ys
 both_mosts xs ys = map-append (λ n. n.most) xs ys
@@ -66,18 +72,19 @@ same_mosts f (request.Run run) =
     (start_files run.start) (show_files run.show) (script_files run.keys)
     (start_mosts f run.start) (show_mosts f run.show) (script_mosts f run.keys)
 same_mosts f (request.Program run) =
-    three_mosts (program_file run.memory (f run.file) ∷ []) (program_show_files (map_program_show f run.show)) (script_files (option_map f run.keys))
-    (program_file run.memory run.file ∷ []) (program_show_files run.show) (script_files run.keys)
-    (program_mosts f run.memory run.file) (program_show_mosts f run.show) (script_mosts f run.keys)
+    three_mosts (program_code run.memory (map_code f run.code) ∷ []) (program_show_files (map_program_show f run.show)) (script_files (option_map f run.keys))
+    (program_code run.memory run.code ∷ []) (program_show_files run.show) (script_files run.keys)
+    (program_mosts f run.memory run.code) (program_show_mosts f run.show) (script_mosts f run.keys)
 same_mosts f (request.Link message moves number) = refl
 same_mosts f (request.Asm source isa raw) = refl
 same_mosts f (request.List source isa) = refl
 same_mosts f (request.Dis bytes isa address) = refl
 same_mosts f (request.Source text) = refl
 same_mosts f request.Bounds = refl
-same_mosts f (request.Cycles source certificate) = refl
-same_mosts f (request.Safe game certificate edition) = refl
-same_mosts f (request.Certify game edition) = refl
+same_mosts f (request.Cycles source certificate exits) = refl
+same_mosts f (request.Timing source entry p k) = refl
+same_mosts f (request.Safe game certificate edition) = ap (λ most. most ∷ most_text ∷ []) (code_most f (game_kind edition) (memory_size edition) game)
+same_mosts f (request.Certify game edition) = ap (λ most. most ∷ []) (code_most f (game_kind edition) (memory_size edition) game)
 
 -- ---- the numbers
 
@@ -92,7 +99,8 @@ module _ {A B : Type 0} (f : A → B) where
   in_range (request.Dis bytes isa address) x = record { cycles = x.cycles; moves = x.moves; start = x.start }
   in_range (request.Source text) x = record { cycles = x.cycles; moves = x.moves; start = x.start }
   in_range request.Bounds x = record { cycles = x.cycles; moves = x.moves; start = x.start }
-  in_range (request.Cycles source certificate) x = record { cycles = x.cycles; moves = x.moves; start = x.start }
+  in_range (request.Cycles source certificate exits) x = record { cycles = x.cycles; moves = x.moves; start = x.start }
+  in_range (request.Timing source entry p k) x = record { cycles = x.cycles; moves = x.moves; start = x.start }
   in_range (request.Safe game certificate edition) x = record { cycles = x.cycles; moves = x.moves; start = x.start }
   in_range (request.Certify game edition) x = record { cycles = x.cycles; moves = x.moves; start = x.start }
 
@@ -133,34 +141,34 @@ other_files [] = []
 other_files (x ∷ xs) = xs
 
 abbrev fill_start : Start (Unit {0}) → List (List ℕ) → Start (List ℕ)
-fill_start (start.Game file edition) xs = start.Game (first_file xs) edition
+fill_start (start.Game code edition) xs = start.Game (with_file code (first_file xs)) edition
 fill_start (start.State file) xs = start.State (first_file xs)
 fill_start (start.Demo number) xs = start.Demo number
 
 abbrev behind_start : Start (Unit {0}) → List (List ℕ) → List (List ℕ)
-behind_start (start.Game file edition) xs = other_files xs
+behind_start (start.Game code edition) xs = other_files xs
 behind_start (start.State file) xs = other_files xs
 behind_start (start.Demo number) xs = xs
 
 abbrev fill_show : Show (Unit {0}) → List (List ℕ) → Show (List ℕ)
 fill_show (show.Trace with_time with_words with_screen) xs = show.Trace with_time with_words with_screen
 fill_show show.Pictures xs = show.Pictures
-fill_show (show.Commands file) xs = show.Commands (first_file xs)
+fill_show (show.Commands file echo) xs = show.Commands (first_file xs) echo
 fill_show show.State xs = show.State
 fill_show show.Profile xs = show.Profile
 fill_show (show.Summary number) xs = show.Summary number
 
 abbrev behind_show : Show (Unit {0}) → List (List ℕ) → List (List ℕ)
-behind_show (show.Commands file) xs = other_files xs
+behind_show (show.Commands file echo) xs = other_files xs
 behind_show _ xs = xs
 
 abbrev fill_program_show : ProgramShow (Unit {0}) → List (List ℕ) → ProgramShow (List ℕ)
 fill_program_show program.Trace xs = program.Trace
 fill_program_show program.Pictures xs = program.Pictures
-fill_program_show (program.Commands file) xs = program.Commands (first_file xs)
+fill_program_show (program.Commands file echo) xs = program.Commands (first_file xs) echo
 
 abbrev behind_program_show : ProgramShow (Unit {0}) → List (List ℕ) → List (List ℕ)
-behind_program_show (program.Commands file) xs = other_files xs
+behind_program_show (program.Commands file echo) xs = other_files xs
 behind_program_show _ xs = xs
 
 abbrev fill_keys : Option (Unit {0}) → List (List ℕ) → Option (List ℕ)
@@ -179,7 +187,7 @@ fill (request.Run run) xs =
 fill (request.Program run) xs =
     let ys = other_files xs in
     request.Program (record {
-      file = first_file xs;
+      code = with_file run.code (first_file xs);
       memory = run.memory;
       keys = fill_keys run.keys (behind_program_show run.show ys);
       limit = run.limit;
@@ -191,27 +199,32 @@ fill (request.List source isa) xs = request.List (first_file xs) isa
 fill (request.Dis bytes isa address) xs = request.Dis (first_file xs) isa address
 fill (request.Source text) xs = request.Source text
 fill request.Bounds xs = request.Bounds
-fill (request.Cycles source certificate) xs = request.Cycles (first_file xs) (first_file (other_files xs))
-fill (request.Safe game certificate edition) xs = request.Safe (first_file xs) (first_file (other_files xs)) edition
-fill (request.Certify game edition) xs = request.Certify (first_file xs) edition
+fill (request.Cycles source certificate exits) xs = request.Cycles (first_file xs) (first_file (other_files xs)) exits
+fill (request.Timing source entry p k) xs = request.Timing (first_file xs) entry p k
+fill (request.Safe code certificate edition) xs = request.Safe (with_file code (first_file xs)) (first_file (other_files xs)) edition
+fill (request.Certify code edition) xs = request.Certify (with_file code (first_file xs)) edition
 
 abbrev bare : List ℕ → Unit {0}
 bare x = tt
 
+code_filled : (kind : Kind) (most : ℕ) (code : Code (List ℕ)) → with_file (map_code bare code) (code_file kind most code).file ≡ code
+code_filled kind most (code.Bytes file) = refl
+code_filled kind most (code.Source file) = refl
+
 start_filled : (s : Start (List ℕ)) (ns : List (Needed (List ℕ))) → fill_start (map_start bare s) (files_of (start_files s ++ ns)) ≡ s
-start_filled (start.Game file edition) ns = refl
+start_filled (start.Game code edition) ns = ap (λ code. start.Game code edition) (code_filled (game_kind edition) (memory_size edition) code)
 start_filled (start.State file) ns = refl
 start_filled (start.Demo number) ns = refl
 
 start_left : (s : Start (List ℕ)) (ns : List (Needed (List ℕ))) → behind_start (map_start bare s) (files_of (start_files s ++ ns)) ≡ files_of ns
-start_left (start.Game file edition) ns = refl
+start_left (start.Game code edition) ns = refl
 start_left (start.State file) ns = refl
 start_left (start.Demo number) ns = refl
 
 show_filled : (s : Show (List ℕ)) (ns : List (Needed (List ℕ))) → fill_show (map_show bare s) (files_of (show_files s ++ ns)) ≡ s
 show_filled (show.Trace with_time with_words with_screen) ns = refl
 show_filled show.Pictures ns = refl
-show_filled (show.Commands file) ns = refl
+show_filled (show.Commands file echo) ns = refl
 show_filled show.State ns = refl
 show_filled show.Profile ns = refl
 show_filled (show.Summary number) ns = refl
@@ -219,7 +232,7 @@ show_filled (show.Summary number) ns = refl
 show_left : (s : Show (List ℕ)) (ns : List (Needed (List ℕ))) → behind_show (map_show bare s) (files_of (show_files s ++ ns)) ≡ files_of ns
 show_left (show.Trace with_time with_words with_screen) ns = refl
 show_left show.Pictures ns = refl
-show_left (show.Commands file) ns = refl
+show_left (show.Commands file echo) ns = refl
 show_left show.State ns = refl
 show_left show.Profile ns = refl
 show_left (show.Summary number) ns = refl
@@ -228,21 +241,17 @@ program_show_filled : (s : ProgramShow (List ℕ)) (ns : List (Needed (List ℕ)
     → fill_program_show (map_program_show bare s) (files_of (program_show_files s ++ ns)) ≡ s
 program_show_filled program.Trace ns = refl
 program_show_filled program.Pictures ns = refl
-program_show_filled (program.Commands file) ns = refl
+program_show_filled (program.Commands file echo) ns = refl
 
 program_show_left : (s : ProgramShow (List ℕ)) (ns : List (Needed (List ℕ)))
     → behind_program_show (map_program_show bare s) (files_of (program_show_files s ++ ns)) ≡ files_of ns
 program_show_left program.Trace ns = refl
 program_show_left program.Pictures ns = refl
-program_show_left (program.Commands file) ns = refl
+program_show_left (program.Commands file echo) ns = refl
 
 keys_filled : (k : Option (List ℕ)) → fill_keys (option_map bare k) (files_of (script_files k)) ≡ k
 keys_filled None = refl
 keys_filled (Some file) = refl
-
-program_filled : (m : Memory) (file : List ℕ) → (program_file m file).file ≡ file
-program_filled memory.Rom file = refl
-program_filled memory.Ram file = refl
 
 filled : (r : Loaded) → fill (shape_of r) (files_of (needed r)) ≡ r
 filled (request.Run run) =
@@ -266,7 +275,7 @@ filled (request.Run run) =
         ∙ keys_filled run.keys
 filled (request.Program run) =
     λ i. request.Program (record {
-      file = program_filled run.memory run.file i;
+      code = code_filled (program_kind run.memory) (program_size run.memory) run.code i;
       memory = run.memory;
       keys = (ap (fill_keys (option_map bare run.keys)) (program_show_left run.show (script_files run.keys)) ∙ keys_filled run.keys) i;
       limit = run.limit;
@@ -278,9 +287,11 @@ filled (request.List source isa) = refl
 filled (request.Dis bytes isa address) = refl
 filled (request.Source text) = refl
 filled request.Bounds = refl
-filled (request.Cycles source certificate) = refl
-filled (request.Safe game certificate edition) = refl
-filled (request.Certify game edition) = refl
+filled (request.Cycles source certificate exits) = refl
+filled (request.Timing source entry p k) = refl
+filled (request.Safe code certificate edition) =
+    ap (λ code. request.Safe code certificate edition) (code_filled (game_kind edition) (memory_size edition) code)
+filled (request.Certify code edition) = ap (λ code. request.Certify code edition) (code_filled (game_kind edition) (memory_size edition) code)
 
 -- so there is one with this shape and these files
 pub one_loaded : (a b : Loaded) → shape_of a ≡ shape_of b → files_of (needed a) ≡ files_of (needed b) → a ≡ b

@@ -1,5 +1,5 @@
 -- Each source gives its ROM, so nothing comes to the refusal of a ROM that isn't what its source gives.
-use Rattle.std.proofs.Common.{◌≡◌, ℕ, List, Option, Some, None, sym, subst, Result, Ok, Err}
+use Rattle.std.proofs.Common.{◌≡◌, ℕ, Bool, List, Option, Some, None, sym, subst, Result, Ok, Err}
 use Rattle.machine.specs.Keys.{Event as KeyEvent}
 use Rattle.chip8_lang.specs.declared.view.Edition.{Edition}
 use Rattle.chip8_lang.specs.declared.view.Edition.TheVariants.{Usual, Tall}
@@ -8,7 +8,7 @@ use Rattle.asm_core.specs.Made.{Made}
 use Rattle.chip8_source.specs.Compared.{SourceGivesRom}
 use Rattle.vip_board.specs.Seen.{Seen}
 use Rattle.vip_words.specs.DebugGrammar.{commands_of}
-use Rattle.vip_words.specs.declared.debug_commands.Command.{Command}
+use Rattle.vip_words.specs.Spoken.{Spoken}
 use Rattle.vip_words.specs.declared.debug_commands.Speaks.TheVariants.{Chip8, Machine as Processor}
 use Rattle.vip_words.specs.declared.debug_commands.CommandFault.{CommandFault}
 use Rattle.vip_words.specs.declared.debug_commands.CommandFault.TheVariants as debug_fault
@@ -16,14 +16,22 @@ use Rattle.vip_link.specs.Checked.{ComparesLink}
 use Rattle.vip_text.specs.Endings.{Ending}
 use Rattle.vip_tools.specs.declared.status.Status.{Status}
 use Rattle.vip_tools.specs.declared.status.Status.TheVariants.{BadRomSource, RomDiffers}
-use Rattle.vip_tools.specs.Certificates.{CertifyComes, CyclesComes, SafeComes}
+use Rattle.vip_tools.specs.Certificates.{CertifyComes, CyclesComes, SafeComes, TimingComes}
 use Rattle.vip_tools.specs.Certificates.CertifyComes.{Finds, FindsNone}
 use Rattle.vip_tools.specs.Certificates.CyclesComes.{NotAssembled, FaultyCertificate, Leaves}
 use Rattle.vip_tools.specs.Certificates.SafeComes.{FaultyProof, Proves}
+use Rattle.vip_words.specs.declared.request.Code.{Code}
+use Rattle.vip_words.specs.declared.request.Code.TheVariants.{Bytes, Source}
+use Rattle.vip_tools.specs.Certificates.{rom_in}
+use Rattle.vip_tools.specs.Certificates.TimingComes.{HasNoEntry, Times, TimesNone, Unassembled}
+use Rattle.vip_words.specs.declared.request.Entry.{Entry}
+use Rattle.vip_tools.specs.Code.{Known, GameComes, ImageComes, in_ram, in_rom, ram_in}
+use Rattle.vip_tools.specs.Code.SourceGame.{FaultyGame, LargeGame, FitGame}
+use Rattle.vip_tools.specs.Code.SourceProgram.{FaultyProgram, StrayProgram, FitProgram}
 use Rattle.vip_tools.specs.Outcome.{Outcome, SourceComes}
 use Rattle.vip_tools.specs.Outcome.Outcome.{Refused, Shown, GivenUp}
 use Rattle.vip_tools.specs.Outcome.SourceComes.{FaultySource, Assembles}
-use Rattle.vip_verbs.specs.Outcome.{Begins, DebugComes, HasOutcome, LinkComes, RomIs, RunTo, ShowComes, saved_as}
+use Rattle.vip_verbs.specs.Outcome.{known_in, Begins, DebugComes, HasOutcome, LinkComes, RomIs, RunTo, ShowComes, saved_as}
 use Rattle.vip_verbs.specs.Outcome.RunTo.{FaultyScript, FaultyRom, Runs}
 use Rattle.vip_verbs.specs.Outcome.LinkComes.{FaultyRoms, Links}
 use Rattle.vip_verbs.specs.Programs.{ProgramComes, ProgramDebugComes, ProgramShowComes}
@@ -67,10 +75,16 @@ source_free : (isa : Isa) (source : List ℕ) (IsText : Made → List ℕ → Ty
 source_free isa source IsText _ (FaultySource line cause is) = λ x. x
 source_free isa source IsText _ (Assembles made text is says) = tt
 
-cycles_free : (source text : List ℕ) (o : Outcome) → CyclesComes source text o → Free o
-cycles_free source text _ (NotAssembled line cause is) = λ x. x
-cycles_free source text _ (FaultyCertificate line cause made is) = λ x. x
-cycles_free source text _ (Leaves bound made is) = tt
+cycles_free : (source text : List ℕ) (exits : Bool) (o : Outcome) → CyclesComes source text exits o → Free o
+cycles_free source text exits _ (NotAssembled line cause is) = λ x. x
+cycles_free source text exits _ (FaultyCertificate line cause made is) = λ x. x
+cycles_free source text exits _ (Leaves bound made is) = tt
+
+timing_free : (source : List ℕ) (entry : Entry) (p k : ℕ) (o : Outcome) → TimingComes source entry p k o → Free o
+timing_free source entry p k _ (Unassembled line cause is) = λ x. x
+timing_free source entry p k _ (HasNoEntry made name named none) = tt
+timing_free source entry p k _ (Times made address text entered found fits) = tt
+timing_free source entry p k _ (TimesNone made address obstacle entered is) = tt
 
 proof_free : (e : Edition) (game text : List ℕ) (o : Outcome) → SafeComes e game text o → Free o
 proof_free e game text _ (FaultyProof line cause is) = λ x. x
@@ -80,24 +94,40 @@ search_free : (e : Edition) (game : List ℕ) (o : Outcome) → CertifyComes e g
 search_free e game _ (Finds text is fits) = tt
 search_free e game _ (FindsNone obstacle is) = tt
 
+-- what comes of a source isn't, where nothing is that comes of its bytes
+game_free : (e : Edition) (Here : List ℕ → Outcome → Type 0) → ((game : List ℕ) (o : Outcome) → Here game o → Free o) → (code : Code (List ℕ)) (o : Outcome)
+    → GameComes e code Here o → Free o
+game_free e Here free (Bytes game) o x = free game o x
+game_free e Here free (Source text) _ (FaultyGame line cause is) = λ x. x
+game_free e Here free (Source text) _ (LargeGame bytes gives large) = λ x. x
+game_free e Here free (Source text) o (FitGame bytes _ gives fits x) = free bytes o x
+
+image_free : (Here : List ℕ → List ℕ → Outcome → Type 0) → ((rom ram : List ℕ) (o : Outcome) → Here rom ram o → Free o) → (memory : Memory)
+    (code : Code (List ℕ)) (o : Outcome) → ImageComes memory code Here o → Free o
+image_free Here free memory (Bytes bytes) o x = free (in_rom memory bytes) (in_ram memory bytes) o x
+image_free Here free memory (Source text) _ (FaultyProgram line cause is) = λ x. x
+image_free Here free memory (Source text) _ (StrayProgram address assembles least) = λ x. x
+image_free Here free memory (Source text) o (FitProgram _ gives x) = free (rom_in text) (ram_in text) o x
+
 saved_free : (limit : ℕ) (ending : Ending) (file : Option (List ℕ)) → Free (saved_as limit ending file)
 saved_free limit ending None = λ x. x
 saved_free limit ending (Some file) = tt
 
-module _ (memory : Memory) (bytes : List ℕ) (keys : Option (List ℕ)) where
-  program_free : (outcome : Seen → Outcome) (o : Outcome) → ((board : Seen) → Free (outcome board)) → ProgramComes memory bytes keys outcome o → Free o
+module _ (memory : Memory) (rom ram : List ℕ) (keys : Option (List ℕ)) where
+  program_free : (outcome : Seen → Outcome) (o : Outcome) → ((board : Seen) → Free (outcome board)) → ProgramComes memory rom ram keys outcome o → Free o
   program_free outcome _ free (FaultyKeys line cause is) = λ x. x
   program_free outcome _ free (RunsProgram script is) = free _
 
-  debugged_free : (limit : ℕ) (read : Result (List Command) CommandFault) (o : Outcome) → ProgramDebugComes memory bytes keys limit read o → Free o
-  debugged_free limit (Ok commands) o x = program_free _ o (λ board. tt) x
-  debugged_free limit (Err (debug_fault.Fault line cause)) o x = alone_free _ o (λ y. y) x
-  debugged_free limit (Err debug_fault.NoMemory) o x = absurd x
+  debugged_free : (labels : List (ℕ × List ℕ)) (limit : ℕ) (read : Result (List Spoken) CommandFault) (o : Outcome) → ProgramDebugComes labels memory rom ram keys limit read o
+      → Free o
+  debugged_free labels limit (Ok commands) o x = program_free _ o (λ board. tt) x
+  debugged_free labels limit (Err (debug_fault.Fault line cause)) o x = alone_free _ o (λ y. y) x
+  debugged_free labels limit (Err debug_fault.NoMemory) o x = absurd x
 
-  program_show_free : (limit : ℕ) (shown : ProgramShow (List ℕ)) (o : Outcome) → ProgramShowComes memory bytes keys limit shown o → Free o
-  program_show_free limit program_show.Trace o x = program_free _ o (λ board. tt) x
-  program_show_free limit program_show.Pictures o x = program_free _ o (λ board. tt) x
-  program_show_free limit (program_show.Commands text) o x = debugged_free limit (commands_of Processor limit text) o x
+  program_show_free : (known : Known) (limit : ℕ) (shown : ProgramShow (List ℕ)) (o : Outcome) → ProgramShowComes known memory rom ram keys limit shown o → Free o
+  program_show_free known limit program_show.Trace o x = program_free _ o (λ board. tt) x
+  program_show_free known limit program_show.Pictures o x = program_free _ o (λ board. tt) x
+  program_show_free known limit (program_show.Commands text echo) o x = debugged_free known.labels limit (commands_of Processor known.names echo limit text) o x
 
 module _ (given : RomsGiven) where
   run_free : (e : Edition) (keys : Option (List ℕ)) (outcome : List KeyEvent → Outcome) (o : Outcome)
@@ -106,26 +136,27 @@ module _ (given : RomsGiven) where
   run_free e keys outcome _ free (FaultyRom script fault is faulty differs) = absurd (rom_is_fine_or_not e fault faulty (given.games e) differs)
   run_free e keys outcome _ free (Runs script is fine) = free script
 
-  debug_free : (e : Edition) (s : Start) (keys : Option (List ℕ)) (limit : ℕ) (read : Result (List Command) CommandFault) (o : Outcome)
-      → DebugComes e s keys limit read o → Free o
-  debug_free e s keys limit (Ok commands) o x = run_free e keys _ o (λ script. tt) x
-  debug_free e s keys limit (Err (debug_fault.Fault line cause)) o x = alone_free _ o (λ y. y) x
-  debug_free e s keys limit (Err debug_fault.NoMemory) o x = absurd x
+  debug_free : (labels : List (ℕ × List ℕ)) (e : Edition) (s : Start) (keys : Option (List ℕ)) (limit : ℕ) (read : Result (List Spoken) CommandFault) (o : Outcome)
+      → DebugComes labels e s keys limit read o → Free o
+  debug_free labels e s keys limit (Ok commands) o x = run_free e keys _ o (λ script. tt) x
+  debug_free labels e s keys limit (Err (debug_fault.Fault line cause)) o x = alone_free _ o (λ y. y) x
+  debug_free labels e s keys limit (Err debug_fault.NoMemory) o x = absurd x
 
-  show_free : (e : Edition) (s : Start) (keys : Option (List ℕ)) (limit : ℕ) (shown : Show (List ℕ)) (o : Outcome)
-      → ShowComes e s keys limit shown o → Free o
-  show_free e s keys limit (show.Trace with_time with_words with_screen) o x = run_free e keys _ o (λ script. tt) x
-  show_free e s keys limit show.Pictures o x = run_free e keys _ o (λ script. tt) x
-  show_free e s keys limit (show.Commands text) o x = debug_free e s keys limit (commands_of Chip8 limit text) o x
-  show_free e s keys limit show.State o x = run_free e keys _ o (λ script. saved_free limit _ _) x
-  show_free e s keys limit show.Profile o x = run_free e keys _ o (λ script. tt) x
-  show_free e s keys limit (show.Summary number) o x = run_free e keys _ o (λ script. tt) x
+  show_free : (known : Known) (e : Edition) (s : Start) (keys : Option (List ℕ)) (limit : ℕ) (shown : Show (List ℕ)) (o : Outcome)
+      → ShowComes known e s keys limit shown o → Free o
+  show_free known e s keys limit (show.Trace with_time with_words with_screen) o x = run_free e keys _ o (λ script. tt) x
+  show_free known e s keys limit show.Pictures o x = run_free e keys _ o (λ script. tt) x
+  show_free known e s keys limit (show.Commands text echo) o x = debug_free known.labels e s keys limit (commands_of Chip8 known.names echo limit text) o x
+  show_free known e s keys limit show.State o x = run_free e keys _ o (λ script. saved_free limit _ _) x
+  show_free known e s keys limit show.Profile o x = run_free e keys _ o (λ script. tt) x
+  show_free known e s keys limit (show.Summary number) o x = run_free e keys _ o (λ script. tt) x
 
   begin_free : (start : asked.Start (List ℕ)) (keys : Option (List ℕ)) (limit : ℕ) (shown : Show (List ℕ)) (o : Outcome)
-      → Begins start (λ e s. ShowComes e s keys limit shown o) → Free o
-  begin_free (beginning.Game game edition) keys limit shown o x = show_free edition (Reset game) keys limit shown o x
-  begin_free (beginning.State file) keys limit shown o x = show_free x.edition (Saved file) keys limit shown o x.here
-  begin_free (beginning.Demo number) keys limit shown o x = show_free Usual (Reset (demo_game number)) keys limit shown o x
+      → Begins start (λ e s. ShowComes (known_in start) e s keys limit shown) o → Free o
+  begin_free (beginning.Game code edition) keys limit shown o x =
+      game_free edition _ (λ game o x. show_free _ edition (Reset game) keys limit shown o x) code o x
+  begin_free (beginning.State file) keys limit shown o x = show_free _ x.edition (Saved file) keys limit shown o x.here
+  begin_free (beginning.Demo number) keys limit shown o x = show_free _ Usual (Reset (demo_game number)) keys limit shown o x
 
   link_free : (message : List ℕ) (moves number : ℕ) (o : Outcome) → LinkComes message moves number o → Free o
   link_free message moves number _ (FaultyRoms fault faulty differ) = absurd (links_fine_or_not message moves number fault faulty given.links differ)
@@ -134,16 +165,18 @@ module _ (given : RomsGiven) where
   -- so is what any request comes to
   comes_free : (loaded : Loaded) (o : Outcome) → HasOutcome loaded o → Free o
   comes_free (request.Run run) o x = begin_free run.start run.keys run.limit run.show o x
-  comes_free (request.Program run) o x = program_show_free run.memory run.file run.keys run.limit run.show o x
+  comes_free (request.Program run) o x =
+      image_free _ (λ rom ram o x. program_show_free run.memory rom ram run.keys _ run.limit run.show o x) run.memory run.code o x
   comes_free (request.Link message moves number) o x = link_free message moves number o x
   comes_free (request.Asm source isa raw) o x = source_free isa source _ o x
   comes_free (request.List source isa) o x = source_free isa source _ o x
   comes_free (request.Dis bytes isa address) o x = alone_free _ o tt x
   comes_free (request.Source text) o x = alone_free _ o tt x
   comes_free request.Bounds o x = alone_free _ o tt x
-  comes_free (request.Cycles source certificate) o x = cycles_free source certificate o x
-  comes_free (request.Safe game certificate edition) o x = proof_free edition game certificate o x
-  comes_free (request.Certify game edition) o x = search_free edition game o x
+  comes_free (request.Cycles source certificate exits) o x = cycles_free source certificate exits o x
+  comes_free (request.Timing source entry p k) o x = timing_free source entry p k o x
+  comes_free (request.Safe code certificate edition) o x = game_free edition _ (λ game o x. proof_free edition game certificate o x) code o x
+  comes_free (request.Certify code edition) o x = game_free edition _ (λ game o x. search_free edition game o x) code o x
 
   pub rom_never : (loaded : Loaded) (status : Status) (report : List ℕ) → HasOutcome loaded (Refused status report) → ¬ IsOfRom status
   rom_never loaded status report x = comes_free loaded (Refused status report) x

@@ -1,5 +1,5 @@
 -- The run from a start is a run of CHIP-8 with its ending, by the law of every run.
-use Rattle.std.proofs.Common.{◌≡◌, ◌⊎◌, ℕ, List, [], ◌∷◌, ◌++◌, Option, Some, None, Result, Ok, Err, refl, inl, inr, ◌∙◌}
+use Rattle.std.proofs.Common.{◌≡◌, ◌⊎◌, ℕ, List, [], ◌∷◌, ◌++◌, Bool, Option, Some, None, Result, Ok, Err, refl, inl, inr, ◌∙◌}
 use Rattle.machine.specs.Board.{Machine}
 use Rattle.machine.specs.Keys.{Event as KeyEvent}
 use Rattle.machine.specs.Pictures.{windows_ended}
@@ -21,7 +21,7 @@ use Rattle.vip_text.specs.Endings.{Ending}
 use Rattle.vip_text.specs.Endings.Ending.{AtLimit}
 use Rattle.vip_text.specs.StateFile.{shown}
 use Rattle.vip_words.specs.DebugGrammar.{commands_of}
-use Rattle.vip_words.specs.declared.debug_commands.Command.{Command}
+use Rattle.vip_words.specs.Spoken.{Spoken}
 use Rattle.vip_words.specs.declared.debug_commands.Speaks.TheVariants.{Chip8}
 use Rattle.vip_words.specs.declared.debug_commands.CommandFault.{CommandFault}
 use Rattle.vip_words.specs.declared.debug_commands.CommandFault.TheVariants as fault
@@ -32,7 +32,8 @@ use Rattle.vip_tools.specs.Files.{Loaded, needed, script_files, show_files}
 use Rattle.vip_call.specs.Language.{named, IsChip8, IsEndOf, RunIsChip8, ShowsChip8}
 use Rattle.vip_tools.specs.Outcome.{Outcome}
 use Rattle.vip_tools.specs.Outcome.Outcome.{Refused, Shown, GivenUp}
-use Rattle.vip_verbs.specs.Outcome.{HasOutcome, RunTo, DebugComes, ShowComes, run_of, events_in, ran, run_ending, debug_ending, limit_from, saved_as}
+use Rattle.vip_tools.specs.Code.{Known}
+use Rattle.vip_verbs.specs.Outcome.{known_in, HasOutcome, RunTo, DebugComes, ShowComes, run_of, events_in, ran, run_ending, debug_ending, limit_from, saved_as}
 use Rattle.vip_verbs.specs.Outcome.RunTo.{FaultyScript, FaultyRom, Runs}
 use Rattle.vip_call.specs.Top.{Call, SpeaksChip8}
 use Rattle.vip_tools.specs.declared.status.Status.{Status}
@@ -124,11 +125,12 @@ module _ (law : EveryRun) (from : FromFile) (frames : EveryFrame) (frames_from :
         }
 
   shows_debug :
-      (e : Edition) (s : Start) (fits : Fits e s) (keys : Option (List ℕ)) (limit : ℕ) (text : List ℕ) (read : Result (List Command) CommandFault) (o : Outcome)
-      → DebugComes e s keys limit read o → Of e s fits keys limit (show.Commands text) o
+      (labels : List (ℕ × List ℕ)) (e : Edition) (s : Start) (fits : Fits e s) (keys : Option (List ℕ)) (limit : ℕ) (text : List ℕ) (echo : Bool)
+      (read : Result (List Spoken) CommandFault) (o : Outcome)
+      → DebugComes labels e s keys limit read o → Of e s fits keys limit (show.Commands text echo) o
   unfolding Of
-  shows_debug e s fits keys limit text (Ok commands) o comes =
-      shows_run e s fits keys limit (show.Commands text) _ (λ script. debug_ending (begun e s script) (limit_from s limit) commands)
+  shows_debug labels e s fits keys limit text echo (Ok commands) o comes =
+      shows_run e s fits keys limit (show.Commands text echo) _ (λ script. debug_ending (begun e s script) (limit_from s limit) commands)
       (λ script. ends script (debug_ends e s script (begins-running e s fits) (limit_from s limit) (late_limit s limit) commands)) o comes
     where
       ends :
@@ -137,27 +139,28 @@ module _ (law : EveryRun) (from : FromFile) (frames : EveryFrame) (frames_from :
           (z ≡ AtLimit) ⊎ (z ≡ run_ending e s script (limit_from s limit)) → (z ≡ AtLimit) ⊎ (z ≡ run_ending e s script limit)
       ends script (inl is) = inl is
       ends script (inr is) = inr (is ∙ same_ending e s script limit)
-  shows_debug e s fits keys limit text (Err (fault.Fault line cause)) o comes = rw comes tt
-  shows_debug e s fits keys limit text (Err fault.NoMemory) o comes = absurd comes
+  shows_debug labels e s fits keys limit text echo (Err (fault.Fault line cause)) o comes = rw comes tt
+  shows_debug labels e s fits keys limit text echo (Err fault.NoMemory) o comes = absurd comes
 
   shows_as :
-      (e : Edition) (s : Start) (fits : Fits e s) (keys : Option (List ℕ)) (limit : ℕ) (shown_as : Show (List ℕ)) (o : Outcome)
-      → ShowComes e s keys limit shown_as o → Of e s fits keys limit shown_as o
-  shows_as e s fits keys limit (show.Trace with_time with_words with_screen) o comes =
+      (known : Known) (e : Edition) (s : Start) (fits : Fits e s) (keys : Option (List ℕ)) (limit : ℕ) (shown_as : Show (List ℕ)) (o : Outcome)
+      → ShowComes known e s keys limit shown_as o → Of e s fits keys limit shown_as o
+  shows_as known e s fits keys limit (show.Trace with_time with_words with_screen) o comes =
       shows_run e s fits keys limit (show.Trace with_time with_words with_screen) _ _ (λ script. refl) o comes
-  shows_as e s fits keys limit show.Pictures o comes = shows_run e s fits keys limit show.Pictures _ _ (λ script. refl) o comes
-  shows_as e s fits keys limit (show.Commands text) o comes = shows_debug e s fits keys limit text (commands_of Chip8 limit text) o comes
-  shows_as e s fits keys limit show.State o comes = shows_saved e s fits keys limit show.State (λ script. refl) o comes
-  shows_as e s fits keys limit show.Profile o comes = shows_run e s fits keys limit show.Profile _ _ (λ script. refl) o comes
-  shows_as e s fits keys limit (show.Summary number) o comes = shows_run e s fits keys limit (show.Summary number) _ _ (λ script. refl) o comes
+  shows_as known e s fits keys limit show.Pictures o comes = shows_run e s fits keys limit show.Pictures _ _ (λ script. refl) o comes
+  shows_as known e s fits keys limit (show.Commands text echo) o comes =
+      shows_debug known.labels e s fits keys limit text echo (commands_of Chip8 known.names echo limit text) o comes
+  shows_as known e s fits keys limit show.State o comes = shows_saved e s fits keys limit show.State (λ script. refl) o comes
+  shows_as known e s fits keys limit show.Profile o comes = shows_run e s fits keys limit show.Profile _ _ (λ script. refl) o comes
+  shows_as known e s fits keys limit (show.Summary number) o comes = shows_run e s fits keys limit (show.Summary number) _ _ (λ script. refl) o comes
 
   shows :
       (loaded : Loaded) (pieces : List (List ℕ)) (status : Status) (report : List ℕ) → AreGiven (needed loaded) → HasOutcome loaded (Shown pieces status report)
       → ShowsChip8 loaded status report
   unfolding Of
   shows (request.Run run) pieces status report given comes =
-      begun_so (λ e s. ShowComes e s run.keys run.limit run.show (Shown pieces status report)) (λ e s. RunIsChip8 e s run.keys run.limit run.show status report)
-      (λ e s fits comes. shows_as e s fits run.keys run.limit run.show (Shown pieces status report) comes)
+      begun_so pieces status report (λ e s. ShowComes (known_in run.start) e s run.keys run.limit run.show) (λ e s. RunIsChip8 e s run.keys run.limit run.show status report)
+      (λ e s fits comes. shows_as _ e s fits run.keys run.limit run.show (Shown pieces status report) comes)
       run.start (show_files run.show ++ script_files run.keys) given comes
   shows (request.Program run) pieces status report given comes = tt
   shows (request.Link message moves number) pieces status report given comes = tt
@@ -166,7 +169,8 @@ module _ (law : EveryRun) (from : FromFile) (frames : EveryFrame) (frames_from :
   shows (request.Dis bytes isa address) pieces status report given comes = tt
   shows (request.Source text) pieces status report given comes = tt
   shows request.Bounds pieces status report given comes = tt
-  shows (request.Cycles source certificate) pieces status report given comes = tt
+  shows (request.Cycles source certificate exits) pieces status report given comes = tt
+  shows (request.Timing source entry p k) pieces status report given comes = tt
   shows (request.Safe game certificate edition) pieces status report given comes = tt
   shows (request.Certify game edition) pieces status report given comes = tt
 

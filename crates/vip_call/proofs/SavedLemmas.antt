@@ -23,9 +23,10 @@ use Rattle.vip_text.specs.Endings.Ending.{AtLimit}
 use Rattle.vip_text.specs.StateFile.{shown, IsAccepted}
 use Rattle.vip_text.specs.declared.trace.TraceColumns.{TraceColumns}
 use Rattle.vip_debug.specs.Answers.{moves_until, pieces, place_after, at_start, written}
+use Rattle.vip_debug.specs.Fold.{echoed}
 use Rattle.vip_debug.specs.Behind.{AnswersAs, GoesOnBehind}
 use Rattle.vip_words.specs.Request.{most_cycles}
-use Rattle.vip_words.specs.declared.debug_commands.Command.{Command}
+use Rattle.vip_words.specs.Spoken.{Spoken}
 use Rattle.vip_words.specs.declared.debug_commands.Command.TheVariants.{Runs}
 use Rattle.vip_words.specs.declared.debug_commands.Running.TheVariants.{To}
 use Rattle.vip_words.specs.declared.request.Request.TheVariants as request
@@ -35,7 +36,8 @@ use Rattle.vip_tools.specs.Files.{Loaded, needed, script_files, show_files}
 use Rattle.vip_tools.specs.Outcome.{Outcome}
 use Rattle.vip_tools.specs.Outcome.Outcome.{Shown}
 use Rattle.vip_tools.specs.declared.status.Status.{Status}
-use Rattle.vip_verbs.specs.Outcome.{HasOutcome, RunTo, ShowComes, ending_where, events_in, events_shown, limit_from, ran, run_ending, run_of, saved_as, stopped_by}
+use Rattle.vip_tools.specs.Code.{Known, nothing_known}
+use Rattle.vip_verbs.specs.Outcome.{known_in, HasOutcome, RunTo, ShowComes, ending_where, events_in, events_shown, limit_from, ran, run_ending, run_of, saved_as, stopped_by}
 use Rattle.vip_verbs.specs.Outcome.RunTo.{FaultyScript, FaultyRom, Runs as RunsSo}
 use Rattle.vip_call.specs.Saved.{Continues, GoesOn, GoesOnAsRun, IsSaved, SavesOne}
 use Rattle.vip_call.specs.Top.{Call, ContinuesSaved}
@@ -166,34 +168,37 @@ module _ (joins : SavedJoins) (commands_behind : GoesOnBehind) where
             j.ending
 
         answers :
-            (commands : List Command)
-            → ran later
-            (written (begun e s other) (limit_from s later) (Runs (To t) ∷ commands) (at_start (begun e s other)))
-            (ending_where (begun e s other) (place_after (begun e s other) (limit_from s later) (Runs (To t) ∷ commands) (at_start (begun e s other))).moves)
+            (labels : List (ℕ × List ℕ)) (echo : Option (List ℕ)) (commands : List Spoken)
+            → let to : Spoken = record { command = Runs (To t); echo = echo } in
+            ran later
+            (written labels (begun e s other) (limit_from s later) (to ∷ commands) (at_start (begun e s other)))
+            (ending_where (begun e s other) (place_after (begun e s other) (limit_from s later) (to ∷ commands) (at_start (begun e s other))).moves)
             ≡ ran later
-            (written (begun e s other) (limit_from s later) (Runs (To t) ∷ []) (at_start (begun e s other))
-            ++ written (begun e (Saved file) other) (limit_from (Saved file) later) commands (at_start (begun e (Saved file) other)))
+            (written labels (begun e s other) (limit_from s later) (to ∷ []) (at_start (begun e s other))
+            ++ written labels (begun e (Saved file) other) (limit_from (Saved file) later) commands (at_start (begun e (Saved file) other)))
             (ending_where (begun e (Saved file) other)
             (place_after (begun e (Saved file) other) (limit_from (Saved file) later) commands (at_start (begun e (Saved file) other))).moves)
-        answers commands =
+        answers labels echo commands =
             subst₂
-            (λ last last'. ran later (written v last (to ∷ commands) (at_start v)) (ending_where v (place_after v last (to ∷ commands) (at_start v)).moves)
-            ≡ ran later (written v last (to ∷ []) (at_start v) ++ written u last' commands (at_start u))
+            (λ last last'. ran later (written labels v last (to ∷ commands) (at_start v)) (ending_where v (place_after v last (to ∷ commands) (at_start v)).moves)
+            ≡ ran later (written labels v last (to ∷ []) (at_start v) ++ written labels u last' commands (at_start u))
             (ending_where u (place_after u last' commands (at_start u)).moves))
             (sym limit_is) (sym limit_there)
             (ap₂ (ran later)
-            (ap (λ ps. pieces v later to (at_start v) ++ ps) a.pieces
-            ∙ ap (λ ps. ps ++ written u later commands (at_start u)) (sym (append-nil (pieces v later to (at_start v)))))
+            (ap (λ ps. first ++ ps) a.pieces ∙ ap (λ ps. ps ++ written labels u later commands (at_start u)) (sym (append-nil first)))
             (ap₂ (λ (b : Machine) stop. if is_stop (interpreter_of e) b then stopped_by stop else AtLimit) a.machine a.stop))
           where
-            to : Command
-            to = Runs (To t)
+            to : Spoken
+            to = record { command = Runs (To t); echo = echo }
 
             v : VipState
             v = begun e s other
 
             u : VipState
             u = begun e (Saved file) other
+
+            first : List (List ℕ)
+            first = echoed to (pieces labels v later to.command (at_start v))
 
             early : (machine_of s).cycle ≤ t
             early = starts_early e s other t (shown file) first_last refl
@@ -207,17 +212,17 @@ module _ (joins : SavedJoins) (commands_behind : GoesOnBehind) where
             found : state_after v (moves_until v t) ≡ shown file
             found = found_point e s other (begins-running e s fits) t (shown file) early first_last refl
 
-            a : AnswersAs v u later t commands
+            a : AnswersAs labels v u later t commands
             a =
                 commands_behind e s fits other other t later early behind
-                (ap (is_dispatch (interpreter_of e)) found ∙ file_dispatches e file x.accepted) file (sym found) (λ c l k. refl) commands
+                (ap (is_dispatch (interpreter_of e)) found ∙ file_dispatches e file x.accepted) file (sym found) (λ c l k. refl) labels commands
 
   comes_so :
       (e : Edition) (file : List ℕ) → IsAccepted e file → (other : Option (List ℕ)) (later : ℕ) (shown_as : Show (List ℕ)) (o : Outcome)
       → HasOutcome (request.Run (record { start = beginning.State file; keys = other; limit = later; show = shown_as })) o
-      → ShowComes e (Saved file) other later shown_as o
+      → ShowComes nothing_known e (Saved file) other later shown_as o
   comes_so e file accepted other later shown_as o x =
-      subst (λ d. ShowComes d (Saved file) other later shown_as o) (one_edition x.edition e file x.accepted accepted) x.here
+      subst (λ d. ShowComes nothing_known d (Saved file) other later shown_as o) (one_edition x.edition e file x.accepted accepted) x.here
 
   -- ---- a command
 
@@ -258,20 +263,20 @@ module _ (joins : SavedJoins) (commands_behind : GoesOnBehind) where
                   }
 
   is_saved :
-      (e : Edition) (s : Start) → Fits e s → (keys : Option (List ℕ)) (limit : ℕ) (shown_as : Show (List ℕ)) (pieces : List (List ℕ)) (status : Status)
-      (report : List ℕ) → ShowComes e s keys limit shown_as (Shown pieces status report) → IsSaved e s keys limit shown_as pieces
-  is_saved e s fits keys limit (show.Trace with_time with_words with_screen) pieces status report x = tt
-  is_saved e s fits keys limit show.Pictures pieces status report x = tt
-  is_saved e s fits keys limit (show.Commands text) pieces status report x = tt
-  is_saved e s fits keys limit show.State pieces status report x = saves_one e s fits keys limit pieces status report x
-  is_saved e s fits keys limit show.Profile pieces status report x = tt
-  is_saved e s fits keys limit (show.Summary number) pieces status report x = tt
+      (known : Known) (e : Edition) (s : Start) → Fits e s → (keys : Option (List ℕ)) (limit : ℕ) (shown_as : Show (List ℕ)) (pieces : List (List ℕ)) (status : Status)
+      (report : List ℕ) → ShowComes known e s keys limit shown_as (Shown pieces status report) → IsSaved e s keys limit shown_as pieces
+  is_saved known e s fits keys limit (show.Trace with_time with_words with_screen) pieces status report x = tt
+  is_saved known e s fits keys limit show.Pictures pieces status report x = tt
+  is_saved known e s fits keys limit (show.Commands text echo) pieces status report x = tt
+  is_saved known e s fits keys limit show.State pieces status report x = saves_one e s fits keys limit pieces status report x
+  is_saved known e s fits keys limit show.Profile pieces status report x = tt
+  is_saved known e s fits keys limit (show.Summary number) pieces status report x = tt
 
   shows : (loaded : Loaded) (pieces : List (List ℕ)) (status : Status) (report : List ℕ) → AreGiven (needed loaded)
       → HasOutcome loaded (Shown pieces status report) → Continues loaded pieces
   shows (request.Run run) pieces status report given comes =
-      begun_so (λ e s. ShowComes e s run.keys run.limit run.show (Shown pieces status report)) (λ e s. IsSaved e s run.keys run.limit run.show pieces)
-      (λ e s fits comes. is_saved e s fits run.keys run.limit run.show pieces status report comes)
+      begun_so pieces status report (λ e s. ShowComes (known_in run.start) e s run.keys run.limit run.show) (λ e s. IsSaved e s run.keys run.limit run.show pieces)
+      (λ e s fits comes. is_saved _ e s fits run.keys run.limit run.show pieces status report comes)
       run.start (show_files run.show ++ script_files run.keys) given comes
   shows (request.Program run) pieces status report given comes = tt
   shows (request.Link message moves number) pieces status report given comes = tt
@@ -280,7 +285,8 @@ module _ (joins : SavedJoins) (commands_behind : GoesOnBehind) where
   shows (request.Dis bytes isa address) pieces status report given comes = tt
   shows (request.Source text) pieces status report given comes = tt
   shows request.Bounds pieces status report given comes = tt
-  shows (request.Cycles source certificate) pieces status report given comes = tt
+  shows (request.Cycles source certificate exits) pieces status report given comes = tt
+  shows (request.Timing source entry p k) pieces status report given comes = tt
   shows (request.Safe game certificate edition) pieces status report given comes = tt
   shows (request.Certify game edition) pieces status report given comes = tt
 

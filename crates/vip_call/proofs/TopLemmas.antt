@@ -1,7 +1,8 @@
 -- The laws of the answers, from what each answer says, and what the steps of a call say together.
-use Rattle.std.proofs.Common.{◌≡◌, ℕ, ◌<◌, ◌⊎◌, inl, inr, List, [], ◌∷◌, ◌++◌, Option, Some, None, IsErrAnd, IsSomeAnd, append_assoc, length, refl, sym, ap, subst, ◌∙◌, arith, Result, Ok, Err}
+use Rattle.std.proofs.Common.{◌≡◌, ℕ, ◌≤◌, ◌<◌, ◌⊎◌, inl, inr, List, [], ◌∷◌, ◌++◌, Option, Some, None, IsErrAnd, IsSomeAnd, append_assoc, length, refl, sym, ap, subst, ◌∙◌, arith, Result, Ok, Err, Bool}
 use Rattle.std.specs.FinMap.{get}
 use Rattle.machine.specs.Keys.{Event as KeyEvent}
+use Rattle.chip8_lang.specs.State.{memory_size}
 use Rattle.chip8_lang.specs.declared.view.Edition.{Edition}
 use Rattle.chip8_lang.specs.declared.view.Edition.TheVariants.{Usual}
 use Rattle.asm_lex.specs.declared.shape.Isa.{Isa}
@@ -15,7 +16,7 @@ use Rattle.chip8_source.proofs.OneAnswer.{answers_agree}
 use Rattle.chip8_source.specs.declared.fault.ImageFault.{ImageFault}
 use Rattle.chip8_source.specs.declared.fault.ImageFault.TheVariants as image
 use Rattle.vip_words.specs.DebugGrammar.{commands_of}
-use Rattle.vip_words.specs.declared.debug_commands.Command.{Command}
+use Rattle.vip_words.specs.Spoken.{Spoken}
 use Rattle.vip_words.specs.declared.debug_commands.Speaks.TheVariants.{Chip8, Machine as Processor}
 use Rattle.vip_words.specs.declared.debug_commands.CommandFault.{CommandFault}
 use Rattle.vip_words.specs.declared.debug_commands.CommandFault.TheVariants as debug_fault
@@ -37,11 +38,20 @@ use Rattle.vip_words.specs.declared.request.Show.{Show}
 use Rattle.vip_words.specs.declared.request.Show.TheVariants as show
 use Rattle.vip_words.specs.declared.request.Start as asked
 use Rattle.vip_words.specs.declared.request.Start.TheVariants as beginning
-use Rattle.vip_tools.specs.Certificates.{CertifyComes, CyclesComes, SafeComes}
+use Rattle.vip_words.specs.declared.request.Code.{Code}
+use Rattle.vip_words.specs.declared.request.Code.TheVariants.{Bytes, Source}
+use Rattle.vip_tools.proofs.CodeLemmas.{one_game}
+use Rattle.vip_tools.specs.Certificates.{CertifyComes, CyclesComes, SafeComes, TimingComes, rom_in}
+use Rattle.vip_tools.specs.Code.{nothing_known, Known, GameComes, ImageComes, SourceGame, SourceProgram, in_ram, in_rom, ram_in}
+use Rattle.vip_tools.specs.Code.SourceGame.{FaultyGame, LargeGame, FitGame}
+use Rattle.vip_tools.specs.Code.SourceProgram.{FaultyProgram, StrayProgram, FitProgram}
+use Rattle.vip_tools.specs.declared.refusal.Misfit.TheVariants as misfit
 use Rattle.vip_tools.specs.Demo.{demo_game}
 use Rattle.vip_tools.specs.Certificates.CertifyComes.{Finds, FindsNone}
 use Rattle.vip_tools.specs.Certificates.CyclesComes.{NotAssembled, FaultyCertificate, Leaves}
 use Rattle.vip_tools.specs.Certificates.SafeComes.{FaultyProof, Proves}
+use Rattle.vip_tools.specs.Certificates.TimingComes.{HasNoEntry, Times, TimesNone, Unassembled}
+use Rattle.vip_words.specs.declared.request.Entry.{Entry}
 use Rattle.vip_call.specs.Words.{Faults, FinishAnswers, OfWords, OpensWords, PerformsAnswer, Reports, performed_status}
 use Rattle.vip_text.specs.declared.fault.StateFault.{StateFault}
 use Rattle.vip_tools.specs.Files.{Loaded, Needed, needed, shape_of, HasAll, HasFault, IsRight, ComesTo, IsFaulty, IsLarger, ReadsSome, reads_of, with_reads}
@@ -49,7 +59,7 @@ use Rattle.vip_tools.proofs.FilesLemmas.{reads-all, refused-behind}
 use Rattle.vip_tools.specs.Outcome.{Outcome, SourceComes, rom_text}
 use Rattle.vip_tools.specs.Outcome.Outcome.{Refused, Shown, GivenUp}
 use Rattle.vip_tools.specs.Outcome.SourceComes.{FaultySource, Assembles}
-use Rattle.vip_verbs.specs.Outcome.{Begins, DebugComes, HasOutcome, IsFault, LinkComes, RomIs, RunTo, ShowComes, saved_as}
+use Rattle.vip_verbs.specs.Outcome.{known_in, Begins, DebugComes, HasOutcome, IsFault, LinkComes, RomIs, RunTo, ShowComes, saved_as}
 use Rattle.vip_verbs.specs.Outcome.RunTo.{FaultyScript, FaultyRom, Runs}
 use Rattle.vip_verbs.specs.Outcome.LinkComes.{FaultyRoms, Links}
 use Rattle.vip_verbs.specs.Programs.{ProgramComes, ProgramDebugComes, ProgramShowComes, memory_in}
@@ -70,7 +80,7 @@ use Rattle.vip_tools.specs.declared.ended.Ended.{Ended}
 use Rattle.vip_tools.specs.declared.ended.Ended.TheVariants.{Worked, Ran, Idle, Linked}
 use Rattle.vip_tools.specs.declared.fault.PerformFault.{PerformFault}
 use Rattle.vip_tools.specs.declared.fault.PerformFault.TheVariants as perform
-use Rattle.vip_tools.specs.Report.{cannot_read, ended_report, fault_report, no_certificate, no_dispatch, report_of, report_pieces, too_large_report, write_fault}
+use Rattle.vip_tools.specs.Report.{cannot_read, ended_report, fault_report, no_certificate, no_dispatch, no_timing, report_of, report_pieces, too_large_report, write_fault}
 use Rattle.vip_call.specs.Top.{Call, call_of, contents_of, Asks, Fills, Oversize, Rejects, GivesUp, WritesExactly, Faulty, Says, IsQuiet, Reading, Lacks, Larger, Whole, with_content, Due, Lacking, TooLarge, Refusing, Showing, RefusesWords, Offers, IsSearch, IsFree, GivesDue, IsOfRom, AreRefused, Completes, FaultyState, Faulted, ReadsContent, ReadsOne, Reads, Faulting}
 use Rattle.vip_call.proofs.FilledLemmas.{one_loaded}
 use Rattle.vip_tools.specs.declared.refusal.Kind.{Kind}
@@ -78,7 +88,7 @@ use Rattle.vip_tools.specs.declared.refusal.Kind.TheVariants as kind
 use Rattle.vip_tools.specs.declared.refusal.Refusal.{Refusal}
 use Rattle.vip_tools.specs.declared.refusal.Refusal.TheVariants as refusal
 use Rattle.vip_tools.specs.declared.status.Status.{Status}
-use Rattle.vip_tools.specs.declared.status.Status.TheVariants.{Done, Stopped, Usage, ReadFault, GameTooLarge, ScriptTooLarge, BadScript, BadSource, BadRomSource, RomDiffers, WriteFault, NoMemory, BadCommand, SourceTooLarge, CommandsTooLarge, BadState, NoDispatch, BadCertificate, MessageTooLarge, BadProof, CertificateTooLarge, NoCertificate, RomTooLarge, RamTooLarge}
+use Rattle.vip_tools.specs.declared.status.Status.TheVariants.{Done, Stopped, Usage, ReadFault, GameTooLarge, ScriptTooLarge, BadScript, BadSource, BadRomSource, RomDiffers, WriteFault, NoMemory, BadCommand, SourceTooLarge, CommandsTooLarge, BadState, NoDispatch, BadCertificate, MessageTooLarge, BadProof, CertificateTooLarge, NoCertificate, RomTooLarge, RamTooLarge, StrayByte}
 
 -- ---- one outcome
 
@@ -188,87 +198,137 @@ alone_agree : (q o p : Outcome) → Agree q q → o ≡ q → p ≡ q → Agree 
 alone_agree q o p same a b = rw (a, b) same
 
 debugs_agree :
-    (d : Edition) (s : Start) (keys : Option (List ℕ)) (limit : ℕ) (read : Result (List Command) CommandFault) (o p : Outcome)
-    → DebugComes d s keys limit read o → DebugComes d s keys limit read p → Agree o p
-debugs_agree d s keys limit (Ok commands) o p x y = runs_agree d keys _ o p x y
-debugs_agree d s keys limit (Err (debug_fault.Fault line cause)) o p x y = alone_agree _ o p refl x y
-debugs_agree d s keys limit (Err debug_fault.NoMemory) o p x y = absurd x
+    (labels : List (ℕ × List ℕ)) (d : Edition) (s : Start) (keys : Option (List ℕ)) (limit : ℕ) (read : Result (List Spoken) CommandFault) (o p : Outcome)
+    → DebugComes labels d s keys limit read o → DebugComes labels d s keys limit read p → Agree o p
+debugs_agree labels d s keys limit (Ok commands) o p x y = runs_agree d keys _ o p x y
+debugs_agree labels d s keys limit (Err (debug_fault.Fault line cause)) o p x y = alone_agree _ o p refl x y
+debugs_agree labels d s keys limit (Err debug_fault.NoMemory) o p x y = absurd x
 
 shows_agree :
-    (d : Edition) (s : Start) (keys : Option (List ℕ)) (limit : ℕ) (shown : Show (List ℕ)) (o p : Outcome)
-    → ShowComes d s keys limit shown o → ShowComes d s keys limit shown p → Agree o p
-shows_agree d s keys limit (show.Trace with_time with_words with_screen) o p x y = runs_agree d keys _ o p x y
-shows_agree d s keys limit show.Pictures o p x y = runs_agree d keys _ o p x y
-shows_agree d s keys limit (show.Commands text) o p x y = debugs_agree d s keys limit (commands_of Chip8 limit text) o p x y
-shows_agree d s keys limit show.State o p x y = runs_agree d keys _ o p x y
-shows_agree d s keys limit show.Profile o p x y = runs_agree d keys _ o p x y
-shows_agree d s keys limit (show.Summary number) o p x y = runs_agree d keys _ o p x y
+    (known : Known) (d : Edition) (s : Start) (keys : Option (List ℕ)) (limit : ℕ) (shown : Show (List ℕ)) (o p : Outcome)
+    → ShowComes known d s keys limit shown o → ShowComes known d s keys limit shown p → Agree o p
+shows_agree known d s keys limit (show.Trace with_time with_words with_screen) o p x y = runs_agree d keys _ o p x y
+shows_agree known d s keys limit show.Pictures o p x y = runs_agree d keys _ o p x y
+shows_agree known d s keys limit (show.Commands text echo) o p x y = debugs_agree known.labels d s keys limit (commands_of Chip8 known.names echo limit text) o p x y
+shows_agree known d s keys limit show.State o p x y = runs_agree d keys _ o p x y
+shows_agree known d s keys limit show.Profile o p x y = runs_agree d keys _ o p x y
+shows_agree known d s keys limit (show.Summary number) o p x y = runs_agree d keys _ o p x y
+
+-- a source comes to one outcome, where the bytes that it gives do
+module _ (e : Edition) (Here : List ℕ → Outcome → Type 0) (one : (bytes : List ℕ) (o p : Outcome) → Here bytes o → Here bytes p → Agree o p) where
+  game_agree : (code : Code (List ℕ)) (o p : Outcome) → GameComes e code Here o → GameComes e code Here p → Agree o p
+  game_agree (Bytes bytes) o p x y = one bytes o p x y
+  game_agree (Source text) _ _ (FaultyGame l c a) (FaultyGame m d b) = refl
+  game_agree (Source text) _ _ (FaultyGame l c a) (LargeGame bytes b large) = absurd (assembles_or_not _ (source_lines text) b.made l c b.is a)
+  game_agree (Source text) _ p (FaultyGame l c a) (FitGame bytes _ b fits y) = absurd (assembles_or_not _ (source_lines text) b.made l c b.is a)
+  game_agree (Source text) _ _ (LargeGame bytes a large) (FaultyGame m d b) = absurd (assembles_or_not _ (source_lines text) a.made m d a.is b)
+  game_agree (Source text) _ _ (LargeGame bytes a large) (LargeGame bytes' b large') = refl
+  game_agree (Source text) _ p (LargeGame bytes a large) (FitGame bytes' _ b fits y) =
+      let same = one_game text bytes bytes' a b in let few : length bytes ≤ memory_size e = rw same fits in absurd (omega (arith, large, few))
+  game_agree (Source text) o _ (FitGame bytes _ a fits x) (FaultyGame m d b) = absurd (assembles_or_not _ (source_lines text) a.made m d a.is b)
+  game_agree (Source text) o _ (FitGame bytes _ a fits x) (LargeGame bytes' b large) =
+      let same = one_game text bytes bytes' a b in let few : length bytes' ≤ memory_size e = rw (← same) fits in absurd (omega (arith, large, few))
+  game_agree (Source text) o p (FitGame bytes _ a fits x) (FitGame bytes' _ b fits' y) =
+      one bytes o p x (subst (λ bytes. Here bytes p) (sym (one_game text bytes bytes' a b)) y)
+
+module _ (Here : List ℕ → List ℕ → Outcome → Type 0) (one : (rom ram : List ℕ) (o p : Outcome) → Here rom ram o → Here rom ram p → Agree o p) where
+  image_agree : (memory : Memory) (code : Code (List ℕ)) (o p : Outcome) → ImageComes memory code Here o → ImageComes memory code Here p → Agree o p
+  image_agree memory (Bytes bytes) o p x y = one (in_rom memory bytes) (in_ram memory bytes) o p x y
+  image_agree memory (Source text) _ _ (FaultyProgram l c a) (FaultyProgram m d b) = refl
+  image_agree memory (Source text) _ _ (FaultyProgram l c a) (StrayProgram address b least) =
+      absurd (assembles_or_not _ (source_lines text) b.0 l c b.1 a)
+  image_agree memory (Source text) _ p (FaultyProgram l c a) (FitProgram _ b y) =
+      absurd (assembles_or_not _ (source_lines text) b.assembles.0 l c b.assembles.1 a)
+  image_agree memory (Source text) _ _ (StrayProgram address a least) (FaultyProgram m d b) =
+      absurd (assembles_or_not _ (source_lines text) a.0 m d a.1 b)
+  image_agree memory (Source text) _ _ (StrayProgram address a least) (StrayProgram address' b least') = refl
+  image_agree memory (Source text) _ p (StrayProgram address a least) (FitProgram _ b y) =
+      let none = b.in_memory address least.low in let some = least.is in absurd (cc)
+  image_agree memory (Source text) o _ (FitProgram _ a x) (FaultyProgram m d b) =
+      absurd (assembles_or_not _ (source_lines text) a.assembles.0 m d a.assembles.1 b)
+  image_agree memory (Source text) o _ (FitProgram _ a x) (StrayProgram address b least) =
+      let none = a.in_memory address least.low in let some = least.is in absurd (cc)
+  image_agree memory (Source text) o p (FitProgram _ a x) (FitProgram _ b y) = one (rom_in text) (ram_in text) o p x y
 
 -- a file has one edition
 begin_agree :
     (start : asked.Start (List ℕ)) (keys : Option (List ℕ)) (limit : ℕ) (shown : Show (List ℕ)) (o p : Outcome)
-    → Begins start (λ e s. ShowComes e s keys limit shown o) → Begins start (λ e s. ShowComes e s keys limit shown p) → Agree o p
-begin_agree (beginning.Game game edition) keys limit shown o p x y = shows_agree edition (Reset game) keys limit shown o p x y
+    → Begins start (λ e s. ShowComes (known_in start) e s keys limit shown) o → Begins start (λ e s. ShowComes (known_in start) e s keys limit shown) p → Agree o p
+begin_agree (beginning.Game code edition) keys limit shown o p x y =
+    game_agree edition _ (λ game o p x y. shows_agree _ edition (Reset game) keys limit shown o p x y) code o p x y
 begin_agree (beginning.State file) keys limit shown o p x y =
-    shows_agree x.edition (Saved file) keys limit shown o p x.here
-    (subst (λ e. ShowComes e (Saved file) keys limit shown p) (one_edition y.edition x.edition file y.accepted x.accepted) y.here)
-begin_agree (beginning.Demo number) keys limit shown o p x y = shows_agree Usual (Reset (demo_game number)) keys limit shown o p x y
+    shows_agree _ x.edition (Saved file) keys limit shown o p x.here
+    (subst (λ e. ShowComes nothing_known e (Saved file) keys limit shown p) (one_edition y.edition x.edition file y.accepted x.accepted) y.here)
+begin_agree (beginning.Demo number) keys limit shown o p x y = shows_agree _ Usual (Reset (demo_game number)) keys limit shown o p x y
 
 -- the runs of one program come to one outcome
-module _ (memory : Memory) (bytes : List ℕ) (keys : Option (List ℕ)) where
+module _ (memory : Memory) (rom ram : List ℕ) (keys : Option (List ℕ)) where
   programs_agree :
-      (outcome : Seen → Outcome) (o p : Outcome) → ProgramComes memory bytes keys outcome o → ProgramComes memory bytes keys outcome p → Agree o p
+      (outcome : Seen → Outcome) (o p : Outcome) → ProgramComes memory rom ram keys outcome o → ProgramComes memory rom ram keys outcome p → Agree o p
   programs_agree outcome _ _ (FaultyKeys l c a) (FaultyKeys m k b) = refl
   programs_agree outcome _ _ (FaultyKeys l c a) (RunsProgram t b) = absurd (cc)
   programs_agree outcome _ _ (RunsProgram s a) (FaultyKeys m k b) = absurd (cc)
   programs_agree outcome _ _ (RunsProgram s a) (RunsProgram t b) =
       let same : s ≡ t = cc in
-      subst (λ t. Agree (outcome (started (memory_in memory) bytes s)) (outcome (started (memory_in memory) bytes t))) same
-      (agree_self (outcome (started (memory_in memory) bytes s)))
+      subst (λ t. Agree (outcome (started (memory_in memory) rom ram s)) (outcome (started (memory_in memory) rom ram t))) same
+      (agree_self (outcome (started (memory_in memory) rom ram s)))
 
   debugged_agree :
-      (limit : ℕ) (read : Result (List Command) CommandFault) (o p : Outcome)
-      → ProgramDebugComes memory bytes keys limit read o → ProgramDebugComes memory bytes keys limit read p → Agree o p
-  debugged_agree limit (Ok commands) o p x y = programs_agree _ o p x y
-  debugged_agree limit (Err (debug_fault.Fault line cause)) o p x y = alone_agree _ o p refl x y
-  debugged_agree limit (Err debug_fault.NoMemory) o p x y = absurd x
+      (labels : List (ℕ × List ℕ)) (limit : ℕ) (read : Result (List Spoken) CommandFault) (o p : Outcome)
+      → ProgramDebugComes labels memory rom ram keys limit read o → ProgramDebugComes labels memory rom ram keys limit read p → Agree o p
+  debugged_agree labels limit (Ok commands) o p x y = programs_agree _ o p x y
+  debugged_agree labels limit (Err (debug_fault.Fault line cause)) o p x y = alone_agree _ o p refl x y
+  debugged_agree labels limit (Err debug_fault.NoMemory) o p x y = absurd x
 
   program_shows_agree :
-      (limit : ℕ) (shown : ProgramShow (List ℕ)) (o p : Outcome)
-      → ProgramShowComes memory bytes keys limit shown o → ProgramShowComes memory bytes keys limit shown p → Agree o p
-  program_shows_agree limit program_show.Trace o p x y = programs_agree _ o p x y
-  program_shows_agree limit program_show.Pictures o p x y = programs_agree _ o p x y
-  program_shows_agree limit (program_show.Commands text) o p x y = debugged_agree limit (commands_of Processor limit text) o p x y
+      (known : Known) (limit : ℕ) (shown : ProgramShow (List ℕ)) (o p : Outcome)
+      → ProgramShowComes known memory rom ram keys limit shown o → ProgramShowComes known memory rom ram keys limit shown p → Agree o p
+  program_shows_agree known limit program_show.Trace o p x y = programs_agree _ o p x y
+  program_shows_agree known limit program_show.Pictures o p x y = programs_agree _ o p x y
+  program_shows_agree known limit (program_show.Commands text echo) o p x y = debugged_agree known.labels limit (commands_of Processor known.names echo limit text) o p x y
 
   -- none of them is given up
   no_program : (outcome : Seen → Outcome) (report : List ℕ) → ((board : Seen) → outcome board ≡ GivenUp report → ⊥)
-      → ProgramComes memory bytes keys outcome (GivenUp report) → ⊥
+      → ProgramComes memory rom ram keys outcome (GivenUp report) → ⊥
   no_program outcome report never x = go (GivenUp report) refl x
     where
-      go : (o : Outcome) → o ≡ GivenUp report → ProgramComes memory bytes keys outcome o → ⊥
+      go : (o : Outcome) → o ≡ GivenUp report → ProgramComes memory rom ram keys outcome o → ⊥
       go _ e (FaultyKeys l c a) = cc
       go _ e (RunsProgram s a) = never _ e
 
-  no_debugged : (limit : ℕ) (read : Result (List Command) CommandFault) (report : List ℕ) → ProgramDebugComes memory bytes keys limit read (GivenUp report) → ⊥
-  no_debugged limit (Ok commands) report x = no_program _ report (λ board h. not_shown _ _ _ report h) x
-  no_debugged limit (Err (debug_fault.Fault line cause)) report x = cc
-  no_debugged limit (Err debug_fault.NoMemory) report x = x
+  no_debugged : (labels : List (ℕ × List ℕ)) (limit : ℕ) (read : Result (List Spoken) CommandFault) (report : List ℕ)
+      → ProgramDebugComes labels memory rom ram keys limit read (GivenUp report) → ⊥
+  no_debugged labels limit (Ok commands) report x = no_program _ report (λ board h. not_shown _ _ _ report h) x
+  no_debugged labels limit (Err (debug_fault.Fault line cause)) report x = cc
+  no_debugged labels limit (Err debug_fault.NoMemory) report x = x
 
-  no_program_show : (limit : ℕ) (shown : ProgramShow (List ℕ)) (report : List ℕ) → ProgramShowComes memory bytes keys limit shown (GivenUp report) → ⊥
-  no_program_show limit program_show.Trace report x = no_program _ report (λ board h. not_shown _ _ _ report h) x
-  no_program_show limit program_show.Pictures report x = no_program _ report (λ board h. not_shown _ _ _ report h) x
-  no_program_show limit (program_show.Commands text) report x = no_debugged limit (commands_of Processor limit text) report x
+  no_program_show : (known : Known) (limit : ℕ) (shown : ProgramShow (List ℕ)) (report : List ℕ) → ProgramShowComes known memory rom ram keys limit shown (GivenUp report) → ⊥
+  no_program_show known limit program_show.Trace report x = no_program _ report (λ board h. not_shown _ _ _ report h) x
+  no_program_show known limit program_show.Pictures report x = no_program _ report (λ board h. not_shown _ _ _ report h) x
+  no_program_show known limit (program_show.Commands text echo) report x = no_debugged known.labels limit (commands_of Processor known.names echo limit text) report x
 
-cycles_agree : (source text : List ℕ) (o p : Outcome) → CyclesComes source text o → CyclesComes source text p → Agree o p
-cycles_agree source text _ _ (NotAssembled l c a) (NotAssembled m d b) = refl
-cycles_agree source text _ _ (NotAssembled l c a) (FaultyCertificate m d made b) = absurd (assembles_or_not _ (source_lines source) made.made l c made.is a)
-cycles_agree source text _ _ (NotAssembled l c a) (Leaves bound made b) = absurd (assembles_or_not _ (source_lines source) made.made l c made.is a)
-cycles_agree source text _ _ (FaultyCertificate l c made a) (NotAssembled m d b) = absurd (assembles_or_not _ (source_lines source) made.made m d made.is b)
-cycles_agree source text _ _ (FaultyCertificate l c made a) (FaultyCertificate m d made' b) = refl
-cycles_agree source text _ _ (FaultyCertificate l c made a) (Leaves bound made' b) = cc
-cycles_agree source text _ _ (Leaves bound made a) (NotAssembled m d b) = absurd (assembles_or_not _ (source_lines source) made.made m d made.is b)
-cycles_agree source text _ _ (Leaves bound made a) (FaultyCertificate m d made' b) = cc
-cycles_agree source text _ _ (Leaves bound made a) (Leaves bound' made' b) = refl
+cycles_agree : (source text : List ℕ) (exits : Bool) (o p : Outcome) → CyclesComes source text exits o → CyclesComes source text exits p → Agree o p
+cycles_agree source text exits _ _ (NotAssembled l c a) (NotAssembled m d b) = refl
+cycles_agree source text exits _ _ (NotAssembled l c a) (FaultyCertificate m d made b) = absurd (assembles_or_not _ (source_lines source) made.made l c made.is a)
+cycles_agree source text exits _ _ (NotAssembled l c a) (Leaves bound made b) = absurd (assembles_or_not _ (source_lines source) made.made l c made.is a)
+cycles_agree source text exits _ _ (FaultyCertificate l c made a) (NotAssembled m d b) = absurd (assembles_or_not _ (source_lines source) made.made m d made.is b)
+cycles_agree source text exits _ _ (FaultyCertificate l c made a) (FaultyCertificate m d made' b) = refl
+cycles_agree source text exits _ _ (FaultyCertificate l c made a) (Leaves bound made' b) = cc
+cycles_agree source text exits _ _ (Leaves bound made a) (NotAssembled m d b) = absurd (assembles_or_not _ (source_lines source) made.made m d made.is b)
+cycles_agree source text exits _ _ (Leaves bound made a) (FaultyCertificate m d made' b) = cc
+cycles_agree source text exits _ _ (Leaves bound made a) (Leaves bound' made' b) = refl
+
+timings_agree : (source : List ℕ) (entry : Entry) (a k : ℕ) (o p : Outcome) → TimingComes source entry a k o → TimingComes source entry a k p → Agree o p
+timings_agree source entry a k _ _ (Unassembled l c x) (Unassembled m d y) = refl
+timings_agree source entry a k _ _ (Unassembled l c x) (HasNoEntry made name named none) = absurd (assembles_or_not _ (source_lines source) made.made l c made.is x)
+timings_agree source entry a k _ _ (Unassembled l c x) (Times made address text is found fits) = absurd (assembles_or_not _ (source_lines source) made.made l c made.is x)
+timings_agree source entry a k _ _ (Unassembled l c x) (TimesNone made address obstacle is y) = absurd (assembles_or_not _ (source_lines source) made.made l c made.is x)
+timings_agree source entry a k _ p (HasNoEntry made name named none) y = tt
+timings_agree source entry a k _ _ (Times made address text is found fits) (Unassembled m d y) = absurd (assembles_or_not _ (source_lines source) made.made m d made.is y)
+timings_agree source entry a k _ _ (Times made address text is found fits) (HasNoEntry made' name named none) = tt
+timings_agree source entry a k _ _ (Times made address text is found fits) (Times made' address' text' is' found' fits') = refl
+timings_agree source entry a k _ _ (Times made address text is found fits) (TimesNone made' address' obstacle is' y) = tt
+timings_agree source entry a k _ p (TimesNone made address obstacle is x) y = tt
 
 proofs_agree : (e : Edition) (g text : List ℕ) (o p : Outcome) → SafeComes e g text o → SafeComes e g text p → Agree o p
 proofs_agree e g text _ _ (FaultyProof l c a) (FaultyProof m d b) = refl
@@ -299,26 +359,48 @@ not_saved limit ending None report h = cc
 not_saved limit ending (Some file) report h = cc
 
 no_debug :
-    (d : Edition) (s : Start) (keys : Option (List ℕ)) (limit : ℕ) (read : Result (List Command) CommandFault) (report : List ℕ)
-    → DebugComes d s keys limit read (GivenUp report) → ⊥
-no_debug d s keys limit (Ok commands) report x = no_run d keys _ report (λ script h. not_shown _ _ _ report h) x
-no_debug d s keys limit (Err (debug_fault.Fault line cause)) report x = cc
-no_debug d s keys limit (Err debug_fault.NoMemory) report x = x
+    (labels : List (ℕ × List ℕ)) (d : Edition) (s : Start) (keys : Option (List ℕ)) (limit : ℕ) (read : Result (List Spoken) CommandFault) (report : List ℕ)
+    → DebugComes labels d s keys limit read (GivenUp report) → ⊥
+no_debug labels d s keys limit (Ok commands) report x = no_run d keys _ report (λ script h. not_shown _ _ _ report h) x
+no_debug labels d s keys limit (Err (debug_fault.Fault line cause)) report x = cc
+no_debug labels d s keys limit (Err debug_fault.NoMemory) report x = x
 
-no_show : (d : Edition) (s : Start) (keys : Option (List ℕ)) (limit : ℕ) (shown : Show (List ℕ)) (report : List ℕ)
-    → ShowComes d s keys limit shown (GivenUp report) → ⊥
-no_show d s keys limit (show.Trace with_time with_words with_screen) report x = no_run d keys _ report (λ script h. not_shown _ _ _ report h) x
-no_show d s keys limit show.Pictures report x = no_run d keys _ report (λ script h. not_shown _ _ _ report h) x
-no_show d s keys limit (show.Commands text) report x = no_debug d s keys limit (commands_of Chip8 limit text) report x
-no_show d s keys limit show.State report x = no_run d keys _ report (λ script h. not_saved _ _ _ report h) x
-no_show d s keys limit show.Profile report x = no_run d keys _ report (λ script h. not_shown _ _ _ report h) x
-no_show d s keys limit (show.Summary number) report x = no_run d keys _ report (λ script h. not_shown _ _ _ report h) x
+no_show : (known : Known) (d : Edition) (s : Start) (keys : Option (List ℕ)) (limit : ℕ) (shown : Show (List ℕ)) (report : List ℕ)
+    → ShowComes known d s keys limit shown (GivenUp report) → ⊥
+no_show known d s keys limit (show.Trace with_time with_words with_screen) report x = no_run d keys _ report (λ script h. not_shown _ _ _ report h) x
+no_show known d s keys limit show.Pictures report x = no_run d keys _ report (λ script h. not_shown _ _ _ report h) x
+no_show known d s keys limit (show.Commands text echo) report x = no_debug known.labels d s keys limit (commands_of Chip8 known.names echo limit text) report x
+no_show known d s keys limit show.State report x = no_run d keys _ report (λ script h. not_saved _ _ _ report h) x
+no_show known d s keys limit show.Profile report x = no_run d keys _ report (λ script h. not_shown _ _ _ report h) x
+no_show known d s keys limit (show.Summary number) report x = no_run d keys _ report (λ script h. not_shown _ _ _ report h) x
+
+-- nor is a source, where nothing is that comes of its bytes
+no_game : (e : Edition) (Here : List ℕ → Outcome → Type 0) (code : Code (List ℕ)) (report : List ℕ) → ((bytes : List ℕ) → Here bytes (GivenUp report) → ⊥)
+    → GameComes e code Here (GivenUp report) → ⊥
+no_game e Here (Bytes bytes) report never x = never bytes x
+no_game e Here (Source text) report never x = go (GivenUp report) refl x
+  where
+    go : (o : Outcome) → o ≡ GivenUp report → SourceGame e text Here o → ⊥
+    go _ e (FaultyGame l c a) = cc
+    go _ e (LargeGame bytes a large) = cc
+    go o e (FitGame bytes _ a fits y) = never bytes (subst (Here bytes) e y)
+
+no_image : (Here : List ℕ → List ℕ → Outcome → Type 0) (memory : Memory) (code : Code (List ℕ)) (report : List ℕ)
+    → ((rom ram : List ℕ) → Here rom ram (GivenUp report) → ⊥) → ImageComes memory code Here (GivenUp report) → ⊥
+no_image Here memory (Bytes bytes) report never x = never (in_rom memory bytes) (in_ram memory bytes) x
+no_image Here memory (Source text) report never x = go (GivenUp report) refl x
+  where
+    go : (o : Outcome) → o ≡ GivenUp report → SourceProgram text Here o → ⊥
+    go _ e (FaultyProgram l c a) = cc
+    go _ e (StrayProgram address a least) = cc
+    go o e (FitProgram _ a y) = never (rom_in text) (ram_in text) (subst (Here (rom_in text) (ram_in text)) e y)
 
 no_beginning : (start : asked.Start (List ℕ)) (keys : Option (List ℕ)) (limit : ℕ) (shown : Show (List ℕ)) (report : List ℕ)
-    → Begins start (λ e s. ShowComes e s keys limit shown (GivenUp report)) → ⊥
-no_beginning (beginning.Game game edition) keys limit shown report x = no_show edition (Reset game) keys limit shown report x
-no_beginning (beginning.State file) keys limit shown report x = no_show x.edition (Saved file) keys limit shown report x.here
-no_beginning (beginning.Demo number) keys limit shown report x = no_show Usual (Reset (demo_game number)) keys limit shown report x
+    → Begins start (λ e s. ShowComes (known_in start) e s keys limit shown) (GivenUp report) → ⊥
+no_beginning (beginning.Game code edition) keys limit shown report x =
+    no_game edition _ code report (λ game x. no_show _ edition (Reset game) keys limit shown report x) x
+no_beginning (beginning.State file) keys limit shown report x = no_show _ x.edition (Saved file) keys limit shown report x.here
+no_beginning (beginning.Demo number) keys limit shown report x = no_show _ Usual (Reset (demo_game number)) keys limit shown report x
 
 no_source : (isa : Isa) (source : List ℕ) (IsText : Made → List ℕ → Type 0) (report : List ℕ) → SourceComes isa source IsText (GivenUp report) → ⊥
 no_source isa source IsText report x = go (GivenUp report) refl x
@@ -327,10 +409,10 @@ no_source isa source IsText report x = go (GivenUp report) refl x
     go _ e (FaultySource l c a) = cc
     go _ e (Assembles made text b is) = cc
 
-no_routine : (source text report : List ℕ) → CyclesComes source text (GivenUp report) → ⊥
-no_routine source text report x = go (GivenUp report) refl x
+no_routine : (source text : List ℕ) (exits : Bool) (report : List ℕ) → CyclesComes source text exits (GivenUp report) → ⊥
+no_routine source text exits report x = go (GivenUp report) refl x
   where
-    go : (o : Outcome) → o ≡ GivenUp report → CyclesComes source text o → ⊥
+    go : (o : Outcome) → o ≡ GivenUp report → CyclesComes source text exits o → ⊥
     go _ e (NotAssembled l c a) = cc
     go _ e (FaultyCertificate l c made a) = cc
     go _ e (Leaves bound made a) = cc
@@ -345,29 +427,34 @@ no_proof d g text report x = go (GivenUp report) refl x
 -- a request comes to one outcome
 agree : (loaded : Loaded) (o p : Outcome) → HasOutcome loaded o → HasOutcome loaded p → Agree o p
 agree (request.Run run) o p x y = begin_agree run.start run.keys run.limit run.show o p x y
-agree (request.Program run) o p x y = program_shows_agree run.memory run.file run.keys run.limit run.show o p x y
+agree (request.Program run) o p x y =
+    image_agree _ (λ rom ram o p x y. program_shows_agree run.memory rom ram run.keys _ run.limit run.show o p x y) run.memory run.code o p x y
 agree (request.Link message moves number) o p x y = links_agree message moves number o p x y
 agree (request.Asm source isa raw) o p x y = sources_agree isa source _ o p x y
 agree (request.List source isa) o p x y = sources_agree isa source _ o p x y
 agree (request.Dis bytes isa address) o p x y = alone_agree _ o p refl x y
 agree (request.Source text) o p x y = alone_agree _ o p refl x y
 agree request.Bounds o p x y = alone_agree _ o p refl x y
-agree (request.Cycles source certificate) o p x y = cycles_agree source certificate o p x y
-agree (request.Safe game certificate edition) o p x y = proofs_agree edition game certificate o p x y
-agree (request.Certify game edition) o p x y = searches_agree edition game o p x y
+agree (request.Cycles source certificate exits) o p x y = cycles_agree source certificate exits o p x y
+agree (request.Timing source entry a k) o p x y = timings_agree source entry a k o p x y
+agree (request.Safe code certificate edition) o p x y = game_agree edition _ (λ game o p x y. proofs_agree edition game certificate o p x y) code o p x y
+agree (request.Certify code edition) o p x y = game_agree edition _ (λ game o p x y. searches_agree edition game o p x y) code o p x y
 
 -- only a search is given up
 given_up : (loaded : Loaded) (report : List ℕ) → HasOutcome loaded (GivenUp report) → IsSearch loaded
 given_up (request.Run run) report x = absurd (no_beginning run.start run.keys run.limit run.show report x)
-given_up (request.Program run) report x = absurd (no_program_show run.memory run.file run.keys run.limit run.show report x)
+given_up (request.Program run) report x =
+    absurd (no_image _ run.memory run.code report (λ rom ram x. no_program_show run.memory rom ram run.keys _ run.limit run.show report x) x)
 given_up (request.Link message moves number) report x = absurd (no_link message moves number report x)
 given_up (request.Asm source isa raw) report x = absurd (no_source isa source _ report x)
 given_up (request.List source isa) report x = absurd (no_source isa source _ report x)
 given_up (request.Dis bytes isa address) report x = absurd (cc)
 given_up (request.Source text) report x = absurd (cc)
 given_up request.Bounds report x = absurd (cc)
-given_up (request.Cycles source certificate) report x = absurd (no_routine source certificate report x)
-given_up (request.Safe game certificate edition) report x = absurd (no_proof edition game certificate report x)
+given_up (request.Cycles source certificate exits) report x = absurd (no_routine source certificate exits report x)
+given_up (request.Timing source entry p k) report x = tt
+given_up (request.Safe code certificate edition) report x =
+    absurd (no_game edition _ code report (λ game x. no_proof edition game certificate report x) x)
 given_up (request.Certify game edition) report x = tt
 
 -- whether it is one, its shape says
@@ -380,7 +467,8 @@ shape_says (request.List source isa) = refl
 shape_says (request.Dis bytes isa address) = refl
 shape_says (request.Source text) = refl
 shape_says request.Bounds = refl
-shape_says (request.Cycles source certificate) = refl
+shape_says (request.Cycles source certificate exits) = refl
+shape_says (request.Timing source entry p k) = refl
 shape_says (request.Safe game certificate edition) = refl
 shape_says (request.Certify game edition) = refl
 
@@ -477,7 +565,10 @@ refuses_words Done call says none = absurd (nothing_asked call.words says.asked 
 refuses_words Stopped call says none = absurd (nothing_asked call.words says.asked says.asks.words none)
 refuses_words Usage call says none = inl refl
 refuses_words ReadFault call says none = absurd (nothing_asked call.words says.asked says.words none)
-refuses_words GameTooLarge call says none = absurd (nothing_asked call.words says.asked says.words none)
+refuses_words GameTooLarge call says none = elim says [
+  | inl large ↦ absurd (nothing_asked call.words large.asked large.words none)
+  | inr gives ↦ absurd (nothing_asked call.words gives.asked gives.asks.words none)
+]
 refuses_words ScriptTooLarge call says none = absurd (nothing_asked call.words says.asked says.words none)
 refuses_words BadScript call says none = absurd (nothing_asked call.words says.asked says.asks.words none)
 refuses_words BadSource call says none = absurd (nothing_asked call.words says.asked says.asks.words none)
@@ -500,6 +591,7 @@ refuses_words CertificateTooLarge call says none = absurd (nothing_asked call.wo
 refuses_words NoCertificate call says none = absurd (nothing_asked call.words says.asked says.asks.words none)
 refuses_words RomTooLarge call says none = absurd (nothing_asked call.words says.asked says.words none)
 refuses_words RamTooLarge call says none = absurd (nothing_asked call.words says.asked says.words none)
+refuses_words StrayByte call says none = absurd (nothing_asked call.words says.asked says.asks.words none)
 
 module _ (call : Call) (asked : Asked) (files : FileMap) (offers : Offers call asked files) where
   same : (mine : Asked) → asked_by call.words ≡ Some mine → mine ≡ asked
@@ -652,7 +744,10 @@ module _ (call : Call) (asked : Asked) (files : FileMap) (offers : Offers call a
   due_is Stopped says r read due given = shows_due r read due given Stopped says
   due_is Usage says r read due given = absurd (nothing_asked call.words asked offers.words says.words)
   due_is ReadFault says r read due given = inl (sym (due_lacks r due given (reads_once files (needed asked) r Lacks read (unread_here says))))
-  due_is GameTooLarge says r read due given = oversize_due r read due given GameTooLarge says
+  due_is GameTooLarge says r read due given = elim says [
+    | inl large ↦ oversize_due r read due given GameTooLarge large
+    | inr gives ↦ rejects_due r read due given GameTooLarge gives
+  ]
   due_is ScriptTooLarge says r read due given = oversize_due r read due given ScriptTooLarge says
   due_is BadScript says r read due given = rejects_due r read due given BadScript says
   due_is BadSource says r read due given = rejects_due r read due given BadSource says
@@ -675,6 +770,7 @@ module _ (call : Call) (asked : Asked) (files : FileMap) (offers : Offers call a
   due_is NoCertificate says r read due given = inr (inr (refl, searches says))
   due_is RomTooLarge says r read due given = oversize_due r read due given RomTooLarge says
   due_is RamTooLarge says r read due given = oversize_due r read due given RamTooLarge says
+  due_is StrayByte says r read due given = rejects_due r read due given StrayByte says
 
   module _ (contents : List (List ℕ)) (there : Reads files (needed asked) (Whole contents)) (accepted : ¬ AreRefused asked contents)
       (free : (loaded : Loaded) (status : Status) (report : List ℕ) → HasOutcome loaded (Refused status report) → ¬ IsOfRom status) where
@@ -701,7 +797,10 @@ module _ (call : Call) (asked : Asked) (files : FileMap) (offers : Offers call a
     ends Stopped says out err = inr (inl refl)
     ends Usage says out err = absurd (nothing_asked call.words asked offers.words says.words)
     ends ReadFault says out err = let none = reads_once files (needed asked) _ _ (unread_here says) there in absurd (cc)
-    ends GameTooLarge says out err = absurd (not_larger GameTooLarge says)
+    ends GameTooLarge says out err = elim says [
+      | inl large ↦ absurd (not_larger GameTooLarge large)
+      | inr gives ↦ absurd (not_rejected GameTooLarge gives)
+    ]
     ends ScriptTooLarge says out err = absurd (not_larger ScriptTooLarge says)
     ends BadScript says out err = absurd (not_rejected BadScript says)
     ends BadSource says out err = absurd (not_rejected BadSource says)
@@ -728,6 +827,7 @@ module _ (call : Call) (asked : Asked) (files : FileMap) (offers : Offers call a
     ends NoCertificate says out err = inr (inr (inr (refl, searches says)))
     ends RomTooLarge says out err = absurd (not_larger RomTooLarge says)
     ends RamTooLarge says out err = absurd (not_larger RamTooLarge says)
+    ends StrayByte says out err = absurd (not_rejected StrayByte says)
 
 pub gives_due : (status : Status) (call : Call) → Says status call → GivesDue status call
 gives_due status call says asked files r due offers read given = due_is call asked files offers status says r read due given
@@ -870,8 +970,8 @@ module _ (words : List (List ℕ)) (files files' : FilesMeaning) (out err err' :
         there_too files files' (needed given.asked) _ _ given.here
         (given.here.here.1, record { out = refl; err = subst (λ n. IsPut (cannot_read n) err err') given.here.here.0 report });
   }
-  refused_with (refusal.TooLarge kind.Game) given report = oversize kind.Game given report
-  refused_with (refusal.TooLarge kind.TallGame) given report = oversize kind.TallGame given report
+  refused_with (refusal.TooLarge kind.Game) given report = inl (oversize kind.Game given report)
+  refused_with (refusal.TooLarge kind.TallGame) given report = inl (oversize kind.TallGame given report)
   refused_with (refusal.TooLarge kind.Script) given report = oversize kind.Script given report
   refused_with (refusal.TooLarge kind.Commands) given report = oversize kind.Commands given report
   refused_with (refusal.TooLarge kind.Source) given report = oversize kind.Source given report
@@ -883,6 +983,8 @@ module _ (words : List (List ℕ)) (files files' : FilesMeaning) (out err err' :
   refused_with (refusal.Script line cause) given report = rejected (refusal.Script line cause) given report
   refused_with (refusal.Command line cause) given report = rejected (refusal.Command line cause) given report
   refused_with (refusal.Source line cause) given report = rejected (refusal.Source line cause) given report
+  refused_with (refusal.Misfit (misfit.Stray address)) given report = rejected (refusal.Misfit (misfit.Stray address)) given report
+  refused_with (refusal.Misfit (misfit.Game edition)) given report = inr (rejected (refusal.Misfit (misfit.Game edition)) given report)
   refused_with (refusal.State fault) given report = inr (record {
     asked = given.asked;
     words = given.words_are;
@@ -907,6 +1009,15 @@ module _ (words : List (List ℕ)) (files files' : FilesMeaning) (out err err' :
     comes = given.here.here;
     refused = record { out = refl; err = report };
   }
+  refused_with (refusal.NoTiming why) given report = record {
+    asked = given.asked;
+    loaded = given.here.request;
+    asks = record { words = given.words_are; shape = given.here.loaded.shape; read = given.here.loaded.loads.read };
+    files = given.here.loaded.loads.reads;
+    report = no_timing why;
+    comes = given.here.here;
+    refused = record { out = refl; err = report };
+  }
   refused_with refusal.NoMemory given report = record { files = given; refused = record { out = refl; err = report } }
 
   to_read : {Here : Asked → Needed Word → Answer → Type 0} → OfWords words (λ asked. ComesTo files files' (needed asked) (Here asked)) → ReadSome
@@ -919,11 +1030,13 @@ module _ (words : List (List ℕ)) (files files' : FilesMeaning) (out err err' :
   read_some (refusal.Script line cause) given = all_read given
   read_some (refusal.Command line cause) given = all_read given
   read_some (refusal.Source line cause) given = all_read given
+  read_some (refusal.Misfit misfit) given = all_read given
   read_some (refusal.State fault) given = to_read given
   read_some (refusal.Rom fault) given = all_read given
   read_some (refusal.Certificate line cause) given = all_read given
   read_some (refusal.Proof line cause) given = all_read given
   read_some (refusal.NoCertificate obstacle) given = all_read given
+  read_some (refusal.NoTiming why) given = all_read given
   read_some refusal.NoMemory given = given
 
   says_refusal :

@@ -1,5 +1,5 @@
 -- What a request writes and reports of a run is that of a transcript of CHIP-8.
-use Rattle.std.proofs.Common.{◌≡◌, ◌⊎◌, inl, inr, ℕ, ◌-◌, ◌<◌, ◌≤◌, true, false, List, [], ◌∷◌, ◌++◌, Option, Some, None, Result, Ok, Err, refl, sym, ap, subst, ◌∙◌, arith}
+use Rattle.std.proofs.Common.{◌≡◌, ◌⊎◌, inl, inr, ℕ, ◌-◌, ◌<◌, ◌≤◌, true, false, List, Bool, [], ◌∷◌, ◌++◌, Option, Some, None, Result, Ok, Err, refl, sym, ap, subst, ◌∙◌, arith}
 use Rattle.std.specs.Prelude.{max}
 use Rattle.std.specs.Option.{option_map}
 use Rattle.std.proofs.lemmas.Bool.{cases_lt}
@@ -25,7 +25,7 @@ use Rattle.vip_show.specs.Output.{picture_pieces}
 use Rattle.vip_show.specs.StateOutput.{saved_file}
 use Rattle.vip_words.specs.DebugGrammar.{commands_of}
 use Rattle.vip_words.specs.Request.{most_cycles}
-use Rattle.vip_words.specs.declared.debug_commands.Command.{Command}
+use Rattle.vip_words.specs.Spoken.{Spoken}
 use Rattle.vip_words.specs.declared.debug_commands.CommandFault.{CommandFault}
 use Rattle.vip_words.specs.declared.debug_commands.CommandFault.TheVariants as command
 use Rattle.vip_words.specs.declared.debug_commands.Speaks.TheVariants.{Chip8}
@@ -33,11 +33,12 @@ use Rattle.vip_words.specs.declared.request.Request.TheVariants as request
 use Rattle.vip_words.specs.declared.request.Show.{Show}
 use Rattle.vip_words.specs.declared.request.Show.TheVariants as show
 use Rattle.vip_tools.specs.declared.status.Status.{Status}
-use Rattle.vip_tools.specs.declared.status.Status.TheVariants.{Done, Stopped as Stops, Usage, ReadFault, GameTooLarge, ScriptTooLarge, BadScript, BadSource, BadRomSource, RomDiffers, WriteFault, NoMemory, BadCommand, SourceTooLarge, CommandsTooLarge, BadState, NoDispatch, BadCertificate, MessageTooLarge, BadProof, CertificateTooLarge, NoCertificate, RomTooLarge, RamTooLarge}
+use Rattle.vip_tools.specs.declared.status.Status.TheVariants.{Done, Stopped as Stops, Usage, ReadFault, GameTooLarge, ScriptTooLarge, BadScript, BadSource, BadRomSource, RomDiffers, WriteFault, NoMemory, BadCommand, SourceTooLarge, CommandsTooLarge, BadState, NoDispatch, BadCertificate, MessageTooLarge, BadProof, CertificateTooLarge, NoCertificate, RomTooLarge, RamTooLarge, StrayByte}
 use Rattle.vip_tools.specs.Files.{Loaded, needed, script_files, show_files}
 use Rattle.vip_tools.specs.Outcome.{Outcome}
 use Rattle.vip_tools.specs.Outcome.Outcome.{Refused, Shown, GivenUp}
-use Rattle.vip_verbs.specs.Outcome.{DebugComes, HasOutcome, RunTo, ShowComes, debug_ending, events_in, events_shown, limit_from, ran, run_ending, run_of, saved_as}
+use Rattle.vip_tools.specs.Code.{Known}
+use Rattle.vip_verbs.specs.Outcome.{known_in, DebugComes, HasOutcome, RunTo, ShowComes, debug_ending, events_in, events_shown, limit_from, ran, run_ending, run_of, saved_as}
 use Rattle.vip_verbs.specs.Outcome.RunTo.{FaultyScript, FaultyRom, Runs}
 use Rattle.vip_call.specs.Commands.{AllAnswered}
 use Rattle.vip_call.specs.Transcribed.{IsShown, IsStateOf, RunLaw, Transcribed, TranscribesBy, all_points, first_cycle, in_time, is_run, of_language}
@@ -118,11 +119,11 @@ module _ (every : EveryRun) (from : FromAccepted) (saves : SavesShown) (law : Ru
 
     -- the answers of the debugger's commands
     answered :
-        (script : List KeyEvent) (commands : List Command)
+        (labels : List (ℕ × List ℕ)) (script : List KeyEvent) (commands : List Spoken)
         → AllAnswered e (max limit (first_cycle e s)) (all_points e s (points_shown e s script limit)) (run_ending e s script limit) (over script)
         (debug_ending (begun e s script) (limit_from s limit) commands) commands (first_cycle e s)
-        (written (begun e s script) (limit_from s limit) commands (at_start (begun e s script)))
-    answered script commands =
+        (written labels (begun e s script) (limit_from s limit) commands (at_start (begun e s script)))
+    answered labels script commands =
         subst (λ t. AllAnswered e last (all_points e s (points_shown e s script limit)) (run_ending e s script limit) (over script) told commands t pieces)
         (cycle_is e s)
         (subst (λ t. AllAnswered e t (all_points e s (points_shown e s script limit)) (run_ending e s script limit) (over script) told commands
@@ -131,7 +132,7 @@ module _ (every : EveryRun) (from : FromAccepted) (saves : SavesShown) (law : Ru
         (ap (points_of e) (same_events e s script limit) ∙ all_are e s script limit)
         (subst (λ z. AllAnswered e to (points_of e (events_in e s script to)) z (over script) told commands (machine_of s).cycle pieces)
         (same_ending e s script limit)
-        (answers e s script begins to late (over script) over_is commands))))
+        (answers e s script begins to late (over script) over_is labels commands))))
       where
         begins : is_stop (interpreter_of e) (machine_of s) ≡ false
         begins = begins-running e s fits
@@ -149,7 +150,7 @@ module _ (every : EveryRun) (from : FromAccepted) (saves : SavesShown) (law : Ru
         told = debug_ending (begun e s script) to commands
 
         pieces : List (List ℕ)
-        pieces = written (begun e s script) to commands (at_start (begun e s script))
+        pieces = written labels (begun e s script) to commands (at_start (begun e s script))
 
         limit_is : (s : Start) (limit : ℕ) → limit_from s limit ≡ max limit (first_cycle e s)
         limit_is (Reset game) limit = omega arith
@@ -174,18 +175,18 @@ module _ (every : EveryRun) (from : FromAccepted) (saves : SavesShown) (law : Ru
             (no_stop_before (interpreter_of e) s script made h.runs)
 
   -- what comes to output
-  Of : Edition → Start → Option (List ℕ) → ℕ → Show (List ℕ) → Outcome → Type 0
-  Of e s keys limit asked_show (Refused status report) = Unit {0}
-  Of e s keys limit asked_show (GivenUp report) = Unit {0}
-  Of e s keys limit asked_show (Shown pieces status report) = Transcribed law e s keys limit asked_show pieces status report
+  Of : Known → Edition → Start → Option (List ℕ) → ℕ → Show (List ℕ) → Outcome → Type 0
+  Of known e s keys limit asked_show (Refused status report) = Unit {0}
+  Of known e s keys limit asked_show (GivenUp report) = Unit {0}
+  Of known e s keys limit asked_show (Shown pieces status report) = Transcribed law known e s keys limit asked_show pieces status report
 
-  module _ (e : Edition) (s : Start) (fits : Fits e s) (keys : Option (List ℕ)) (limit : ℕ) (asked_show : Show (List ℕ)) where
+  module _ (known : Known) (e : Edition) (s : Start) (fits : Fits e s) (keys : Option (List ℕ)) (limit : ℕ) (asked_show : Show (List ℕ)) where
     transcribed_run :
         (pieces : List KeyEvent → List (List ℕ)) (told : List KeyEvent → Ending)
         → ((script : List KeyEvent)
-        → IsShown e s (points_shown e s script limit) limit (law.pictures e s script limit) (run_ending e s script limit)
+        → IsShown e s (points_shown e s script limit) known limit (law.pictures e s script limit) (run_ending e s script limit)
         (end_cycle limit (events_shown e s script limit)) (told script) asked_show (pieces script))
-        → (o : Outcome) → RunTo e keys (λ script. ran limit (pieces script) (told script)) o → Of e s keys limit asked_show o
+        → (o : Outcome) → RunTo e keys (λ script. ran limit (pieces script) (told script)) o → Of known e s keys limit asked_show o
     unfolding Of
     transcribed_run pieces told is_shown _ (FaultyScript line cause is) = tt
     transcribed_run pieces told is_shown _ (FaultyRom script fault is fault_is rom) = tt
@@ -203,16 +204,16 @@ module _ (every : EveryRun) (from : FromAccepted) (saves : SavesShown) (law : Ru
     }
 
   transcribed_state :
-      (e : Edition) (s : Start) (fits : Fits e s) (keys : Option (List ℕ)) (limit : ℕ) (o : Outcome)
+      (known : Known) (e : Edition) (s : Start) (fits : Fits e s) (keys : Option (List ℕ)) (limit : ℕ) (o : Outcome)
       → RunTo e keys (λ script. saved_as limit (run_ending e s script limit) (saved_file e (events_in e s script limit))) o
-      → Of e s keys limit show.State o
+      → Of known e s keys limit show.State o
   unfolding Of
-  transcribed_state e s fits keys limit _ (FaultyScript line cause is) = tt
-  transcribed_state e s fits keys limit _ (FaultyRom script fault is fault_is rom) = tt
-  transcribed_state e s fits keys limit _ (Runs script is rom) = go (saved_file e (events_in e s script limit)) refl
+  transcribed_state known e s fits keys limit _ (FaultyScript line cause is) = tt
+  transcribed_state known e s fits keys limit _ (FaultyRom script fault is fault_is rom) = tt
+  transcribed_state known e s fits keys limit _ (Runs script is rom) = go (saved_file e (events_in e s script limit)) refl
     where
       go : (file : Option (List ℕ)) → saved_file e (events_in e s script limit) ≡ file
-          → Of e s keys limit show.State (saved_as limit (run_ending e s script limit) file)
+          → Of known e s keys limit show.State (saved_as limit (run_ending e s script limit) file)
       go None saved = tt
       go (Some file) saved = record {
         script = script;
@@ -240,36 +241,38 @@ module _ (every : EveryRun) (from : FromAccepted) (saves : SavesShown) (law : Ru
               }
 
   transcribed_debug :
-      (e : Edition) (s : Start) (fits : Fits e s) (keys : Option (List ℕ)) (limit : ℕ) (text : List ℕ) (read : Result (List Command) CommandFault)
-      → commands_of Chip8 limit text ≡ read → (o : Outcome) → DebugComes e s keys limit read o → Of e s keys limit (show.Commands text) o
+      (known : Known) (e : Edition) (s : Start) (fits : Fits e s) (keys : Option (List ℕ)) (limit : ℕ) (text : List ℕ) (echo : Bool)
+      (read : Result (List Spoken) CommandFault)
+      → commands_of Chip8 known.names echo limit text ≡ read → (o : Outcome) → DebugComes known.labels e s keys limit read o
+      → Of known e s keys limit (show.Commands text echo) o
   unfolding Of
-  transcribed_debug e s fits keys limit text (Ok commands) says o comes =
-      transcribed_run e s fits keys limit (show.Commands text) _ _ (λ script. rw says (answered e s fits limit script commands)) o comes
-  transcribed_debug e s fits keys limit text (Err (command.Fault line cause)) says o comes = rw comes tt
-  transcribed_debug e s fits keys limit text (Err command.NoMemory) says o comes = absurd comes
+  transcribed_debug known e s fits keys limit text echo (Ok commands) says o comes =
+      transcribed_run known e s fits keys limit (show.Commands text echo) _ _ (λ script. rw says (answered e s fits limit known.labels script commands)) o comes
+  transcribed_debug known e s fits keys limit text echo (Err (command.Fault line cause)) says o comes = rw comes tt
+  transcribed_debug known e s fits keys limit text echo (Err command.NoMemory) says o comes = absurd comes
 
   transcribed_as :
-      (e : Edition) (s : Start) (fits : Fits e s) (keys : Option (List ℕ)) (limit : ℕ) (asked_show : Show (List ℕ)) (o : Outcome)
-      → ShowComes e s keys limit asked_show o → Of e s keys limit asked_show o
-  transcribed_as e s fits keys limit (show.Trace with_time with_words with_screen) o comes =
-      transcribed_run e s fits keys limit (show.Trace with_time with_words with_screen) _ _
+      (known : Known) (e : Edition) (s : Start) (fits : Fits e s) (keys : Option (List ℕ)) (limit : ℕ) (asked_show : Show (List ℕ)) (o : Outcome)
+      → ShowComes known e s keys limit asked_show o → Of known e s keys limit asked_show o
+  transcribed_as known e s fits keys limit (show.Trace with_time with_words with_screen) o comes =
+      transcribed_run known e s fits keys limit (show.Trace with_time with_words with_screen) _ _
       (λ script. (
         traced_is e (columns_of with_time with_words) with_screen (events_shown e s script limit) (events_in e s script limit)
             ∙ ap (λ ps. trace_text e (columns_of with_time with_words) with_screen (points_shown e s script limit) (last_point ps)) (all_are e s script limit),
         refl,
       ))
       o comes
-  transcribed_as e s fits keys limit show.Pictures o comes =
-      transcribed_run e s fits keys limit show.Pictures _ _
+  transcribed_as known e s fits keys limit show.Pictures o comes =
+      transcribed_run known e s fits keys limit show.Pictures _ _
       (λ script. (pictures_are e s fits limit script, runs.pictures e s fits script limit, refl)) o comes
-  transcribed_as e s fits keys limit (show.Commands text) o comes =
-      transcribed_debug e s fits keys limit text (commands_of Chip8 limit text) refl o comes
-  transcribed_as e s fits keys limit show.State o comes = transcribed_state e s fits keys limit o comes
-  transcribed_as e s fits keys limit show.Profile o comes =
-      transcribed_run e s fits keys limit show.Profile _ _
+  transcribed_as known e s fits keys limit (show.Commands text echo) o comes =
+      transcribed_debug known e s fits keys limit text echo (commands_of Chip8 known.names echo limit text) refl o comes
+  transcribed_as known e s fits keys limit show.State o comes = transcribed_state known e s fits keys limit o comes
+  transcribed_as known e s fits keys limit show.Profile o comes =
+      transcribed_run known e s fits keys limit show.Profile _ _
       (λ script. (profiled_is e (events_in e s script limit) ∙ ap (profile_of e) (all_are e s script limit), refl)) o comes
-  transcribed_as e s fits keys limit (show.Summary number) o comes =
-      transcribed_run e s fits keys limit (show.Summary number) _ _
+  transcribed_as known e s fits keys limit (show.Summary number) o comes =
+      transcribed_run known e s fits keys limit (show.Summary number) _ _
       (λ script. (
         summed_is e number (windows_ended (over e s fits limit script) - windows_ended (first_cycle e s)) (interpreter_of e).rom (run_of e s script limit)
             (events_shown e s script limit) (events_in e s script limit) (pictures_are e s fits limit script).count
@@ -285,10 +288,10 @@ module _ (every : EveryRun) (from : FromAccepted) (saves : SavesShown) (law : Ru
       → TranscribesBy law loaded pieces status report
   unfolding Of
   transcribes (request.Run run) pieces status report given comes =
-      from_start (λ e s. Transcribed law e s run.keys run.limit run.show pieces status report) run.start
-      (begun_so (λ e s. ShowComes e s run.keys run.limit run.show (Shown pieces status report))
-      (λ e s. Transcribed law e s run.keys run.limit run.show pieces status report)
-      (λ e s fits comes. transcribed_as e s fits run.keys run.limit run.show (Shown pieces status report) comes)
+      from_start (λ e s. Transcribed law (known_in run.start) e s run.keys run.limit run.show pieces status report) run.start
+      (begun_so pieces status report (λ e s. ShowComes (known_in run.start) e s run.keys run.limit run.show)
+      (λ e s. Transcribed law (known_in run.start) e s run.keys run.limit run.show pieces status report)
+      (λ e s fits comes. transcribed_as _ e s fits run.keys run.limit run.show (Shown pieces status report) comes)
       run.start (show_files run.show ++ script_files run.keys) given comes)
   transcribes (request.Program run) pieces status report given comes = tt
   transcribes (request.Link message moves number) pieces status report given comes = tt
@@ -297,7 +300,8 @@ module _ (every : EveryRun) (from : FromAccepted) (saves : SavesShown) (law : Ru
   transcribes (request.Dis bytes isa address) pieces status report given comes = tt
   transcribes (request.Source text) pieces status report given comes = tt
   transcribes request.Bounds pieces status report given comes = tt
-  transcribes (request.Cycles source certificate) pieces status report given comes = tt
+  transcribes (request.Cycles source certificate exits) pieces status report given comes = tt
+  transcribes (request.Timing source entry p k) pieces status report given comes = tt
   transcribes (request.Safe game certificate edition) pieces status report given comes = tt
   transcribes (request.Certify game edition) pieces status report given comes = tt
 
@@ -353,6 +357,7 @@ module _ (every : EveryRun) (from : FromAccepted) (saves : SavesShown) (law : Ru
   tells NoCertificate call s = tt
   tells RomTooLarge call s = tt
   tells RamTooLarge call s = tt
+  tells StrayByte call s = tt
 
 pub tells_chip8 : EveryRun → FromAccepted → SavesShown → (status : Status) (call : Call) → Says status call → TellsChip8 status call
 tells_chip8 every from saves =

@@ -1,23 +1,37 @@
 -- What certificates show that were accepted, or found.
-use Rattle.std.specs.Prelude.{◌≡◌, ℕ, List, [], ◌∷◌}
+use Rattle.std.specs.Prelude.{◌≡◌, ℕ, Bool, List, [], ◌∷◌, Some}
 use Rattle.machine.specs.Keys.{Event as KeyEvent}
 use Rattle.chip8_lang.specs.declared.view.Edition.{Edition}
 use Rattle.chip8_lang.specs.Events.{Event, events_of}
 use Rattle.chip8_lang.specs.Events.Event.{Picture, Dispatch, Stopped}
+use Rattle.cycle_check.specs.Found.{IsFound}
 use Rattle.cycle_check.specs.Leaving.{IsWithin}
 use Rattle.cycle_check.specs.declared.Within.{Within}
 use Rattle.game_check.specs.Proof.{IsAccepted}
 use Rattle.game_check.specs.States.{NeverStops}
 use Rattle.chip8_image.specs.Interpreters.{interpreter_of}
-use Rattle.vip_words.specs.declared.request.Request.TheVariants.{Certify, Cycles, Safe}
-use Rattle.vip_tools.specs.Certificates.{rom_in, within_line}
+use Rattle.vip_words.specs.declared.request.Request.TheVariants.{Certify, Cycles, Safe, Timing}
+use Rattle.vip_words.specs.declared.request.Entry.{Entry}
+use Rattle.vip_tools.specs.Certificates.{Assembled, entry_in, exits_asked, rom_in, routine_text}
+use Rattle.vip_tools.specs.Code.{OfGame}
 use Rattle.vip_tools.specs.Files.{Loaded}
 
--- The output names the entry and the limit of a certificate, and the code in the ROM of the source leaves as it says.
-pub record LeavesInTime (source text : List ℕ) (pieces : List (List ℕ)) : Type 0 where
+-- The output names the entry and the limit of a certificate, and its exits where they are asked for; and the code in the ROM of the source leaves as it
+-- says.
+pub record LeavesInTime (source text : List ℕ) (exits : Bool) (pieces : List (List ℕ)) : Type 0 where
   pub bound : Within
-  pub named : pieces ≡ within_line bound ∷ []
+  pub named : pieces ≡ routine_text bound (exits_asked exits (rom_in source) text) ∷ []
   pub leaves : IsWithin (rom_in source) text bound
+
+-- All of the output is a certificate of the routine that is entered there, which `cycles` accepts for the same source: its code leaves as it says.
+pub record WritesTiming (source : List ℕ) (entry : Entry) (p k : ℕ) (pieces : List (List ℕ)) : Type 0 where
+  pub text : List ℕ
+  pub written : pieces ≡ text ∷ []
+  pub made : Assembled source
+  pub address : ℕ
+  pub entered : entry_in made.made entry ≡ Some address
+  pub found : IsFound (rom_in source) address p k text
+  pub leaves : IsWithin (rom_in source) text (record { entry = address; limit = found.bound.limit })
 
 -- none of these events is a stop
 abbrev pub NoneStops : List Event → Type 0
@@ -39,9 +53,10 @@ pub record WritesCertificate (e : Edition) (game : List ℕ) (pieces : List (Lis
   pub accepted : IsAccepted e game text
   pub safe : IsSafe e game
 
--- what the output of a verb of certificates says
+-- what the output of a verb of certificates says: of a game, or of the one that a source gives
 abbrev pub Certifies : Loaded → List (List ℕ) → Type 0
-Certifies (Cycles source certificate) pieces = LeavesInTime source certificate pieces
-Certifies (Safe game certificate edition) pieces = IsSafe edition game
-Certifies (Certify game edition) pieces = WritesCertificate edition game pieces
+Certifies (Cycles source certificate exits) pieces = LeavesInTime source certificate exits pieces
+Certifies (Timing source entry p k) pieces = WritesTiming source entry p k pieces
+Certifies (Safe code certificate edition) pieces = OfGame code (λ game. IsSafe edition game)
+Certifies (Certify code edition) pieces = OfGame code (λ game. WritesCertificate edition game pieces)
 Certifies _ pieces = Unit {0}

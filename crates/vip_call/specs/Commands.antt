@@ -10,6 +10,8 @@ use Rattle.vip_text.specs.Endings.{Ending}
 use Rattle.vip_text.specs.Endings.Ending.{AtLimit, AtStop}
 use Rattle.vip_text.specs.Screens.{screen_lines}
 use Rattle.vip_text.specs.Traces.{plain, timed}
+use Rattle.std.specs.Option.{option_to_list}
+use Rattle.vip_words.specs.Spoken.{Spoken}
 use Rattle.vip_words.specs.declared.debug_commands.Command.{Command}
 use Rattle.vip_words.specs.declared.debug_commands.Command.TheVariants.{Runs, Seeks, Shows, Tells}
 use Rattle.vip_words.specs.declared.debug_commands.Running.TheVariants.{To}
@@ -68,16 +70,16 @@ module _ (e : Edition) (limit : ℕ) (points : List Point) (ending : Ending) (ov
   Answers (Runs running) t u pieces = (t ≤ u) × (u ≤ max t limit) × NamesStop u pieces
   Answers (Shows showing) t u pieces = u ≡ t
 
-  -- the pieces of one command come behind those of the other
-  pub record Answered (command : Command) (Rest : ℕ → List (List ℕ) → Type 0) (t : ℕ) (pieces : List (List ℕ)) : Type 0 where
+  -- the echo of a command, if it has one, its pieces, and then those of the others
+  pub record Answered (spoken : Spoken) (Rest : ℕ → List (List ℕ) → Type 0) (t : ℕ) (pieces : List (List ℕ)) : Type 0 where
     pub place : ℕ
     pub here : List (List ℕ)
     pub rest : List (List ℕ)
-    pub split : pieces ≡ here ++ rest
-    pub answers : Answers command t place here
+    pub split : pieces ≡ (option_to_list spoken.echo ++ here) ++ rest
+    pub answers : Answers spoken.command t place here
     pub others : Rest place rest
 
   -- what all of them write from cycle t on; the end that is reported is the stop, where that is met behind them, and else as at the limit
-  abbrev pub AllAnswered : Ending → List Command → ℕ → List (List ℕ) → Type 0
+  abbrev pub AllAnswered : Ending → List Spoken → ℕ → List (List ℕ) → Type 0
   AllAnswered reported [] t pieces = (pieces ≡ []) × (reported ≡ (if stops_by ending t then ending else AtLimit))
-  AllAnswered reported (command ∷ commands) t pieces = Answered command (AllAnswered reported commands) t pieces
+  AllAnswered reported (spoken ∷ commands) t pieces = Answered spoken (AllAnswered reported commands) t pieces

@@ -18,7 +18,7 @@ use Rattle.vip_words.specs.declared.request.Show.TheVariants.{Commands}
 use Rattle.vip_tools.specs.Files.{Loaded}
 use Rattle.vip_tools.specs.Status.{end_status}
 use Rattle.vip_tools.specs.Outcome.{script_in}
-use Rattle.vip_verbs.specs.Outcome.{Begins, run_ending}
+use Rattle.vip_verbs.specs.Outcome.{OfRun, run_ending}
 use Rattle.vip_tools.specs.Report.{end_report}
 use Rattle.vip_tools.specs.declared.status.Status.{Status}
 
@@ -44,7 +44,7 @@ IsChip8 e (Saved file) script limit ending = IsRunBehind e (shown file) script l
 -- The end of which the status and the report are. Under the debugger it is that of where the commands end: with the stop of this run, where that is a
 -- stop point, and else as at the limit.
 abbrev pub IsEndOf : Show (List ℕ) → Ending → Ending → Type 0
-IsEndOf (Commands text) ending reported = (reported ≡ AtLimit) ⊎ (reported ≡ ending)
+IsEndOf (Commands text echo) ending reported = (reported ≡ AtLimit) ⊎ (reported ≡ ending)
 IsEndOf _ ending reported = reported ≡ ending
 
 -- a run that is shown so, whose end has this status and this report
@@ -60,5 +60,5 @@ pub record RunIsChip8 (e : Edition) (s : Start) (keys : Option (List ℕ)) (limi
 
 -- what a request runs, where it runs a game
 abbrev pub ShowsChip8 : Loaded → Status → List ℕ → Type 0
-ShowsChip8 (Run run) status report = Begins run.start (λ e s. RunIsChip8 e s run.keys run.limit run.show status report)
+ShowsChip8 (Run run) status report = OfRun run.start (λ e s. RunIsChip8 e s run.keys run.limit run.show status report)
 ShowsChip8 _ status report = Unit {0}

@@ -8,18 +8,19 @@ use Rattle.vip_relation.specs.State.{Start}
 use Rattle.vip_relation.specs.State.Start.{Saved}
 use Rattle.vip_text.specs.StateFile.{shown, IsAccepted}
 use Rattle.vip_text.specs.declared.trace.TraceColumns.{TraceColumns}
+use Rattle.vip_tools.specs.Code.{nothing_known}
 use Rattle.vip_tools.specs.Files.{Loaded}
 use Rattle.vip_tools.specs.Outcome.{Outcome, script_in}
 use Rattle.vip_tools.specs.Outcome.Outcome.{Shown}
 use Rattle.vip_words.specs.Request.{most_cycles}
-use Rattle.vip_words.specs.declared.debug_commands.Command.{Command}
+use Rattle.vip_words.specs.Spoken.{Spoken}
 use Rattle.vip_words.specs.declared.debug_commands.Command.TheVariants.{Runs}
 use Rattle.vip_words.specs.declared.debug_commands.Running.TheVariants.{To}
 use Rattle.vip_words.specs.declared.request.Request.TheVariants.{Run}
 use Rattle.vip_words.specs.declared.request.Show.{Show}
 use Rattle.vip_words.specs.declared.request.Show.TheVariants.{State}
 use Rattle.vip_words.specs.declared.request.Start.TheVariants as beginning
-use Rattle.vip_verbs.specs.Outcome.{Begins, HasOutcome, ShowComes, debugged, events_in, pictured, saved, traced}
+use Rattle.vip_verbs.specs.Outcome.{HasOutcome, OfRun, ShowComes, debugged, events_in, pictured, saved, traced}
 
 -- one go comes to what came first and then to the rest, and it ends as the rest does
 abbrev pub IsJoined : (first rest whole : Outcome) → Type 0
@@ -37,9 +38,10 @@ pub record GoesOn (e : Edition) (s : Start) (file : List ℕ) (script : List Key
   pub pictures : IsJoined (pictured e s script (shown file).cycle) (pictured e (Saved file) script limit) (pictured e s script limit)
   pub state : saved e limit (events_in e s script limit) ≡ saved e limit (events_in e (Saved file) script limit)
   pub answers :
-      (commands : List Command)
-      → let to = Runs (To (shown file).cycle) in
-      IsJoined (debugged (to ∷ []) e s script limit) (debugged commands e (Saved file) script limit) (debugged (to ∷ commands) e s script limit)
+      (labels : List (ℕ × List ℕ)) (echo : Option (List ℕ)) (commands : List Spoken)
+      → let to : Spoken = record { command = Runs (To (shown file).cycle); echo = echo } in
+      IsJoined (debugged labels (to ∷ []) e s script limit) (debugged labels commands e (Saved file) script limit)
+      (debugged labels (to ∷ commands) e s script limit)
 
 -- The file is accepted, and shows the machine state at the last dispatch point of the run up to its limit. Under every script that holds the same keys
 -- before that point's cycle, and up to every limit from this cycle on, the run goes on as the one from the file. No request for that is refused as one of a
@@ -57,7 +59,7 @@ pub record GoesOnAsRun (e : Edition) (s : Start) (keys : Option (List ℕ)) (lim
   pub comes :
       (other : Option (List ℕ)) (later : ℕ) (show : Show (List ℕ)) (o : Outcome)
       → HasOutcome (Run (record { start = beginning.State file; keys = other; limit = later; show = show })) o
-      → ShowComes e (Saved file) other later show o
+      → ShowComes nothing_known e (Saved file) other later show o
 
 -- what was saved of a run is one file; words ask for at most 4,000,000,000 cycles
 pub record SavesOne (e : Edition) (s : Start) (keys : Option (List ℕ)) (limit : ℕ) (pieces : List (List ℕ)) : Type 0 where
@@ -70,5 +72,5 @@ IsSaved e s keys limit State pieces = SavesOne e s keys limit pieces
 IsSaved e s keys limit _ pieces = Unit {0}
 
 abbrev pub Continues : Loaded → List (List ℕ) → Type 0
-Continues (Run run) pieces = Begins run.start (λ e s. IsSaved e s run.keys run.limit run.show pieces)
+Continues (Run run) pieces = OfRun run.start (λ e s. IsSaved e s run.keys run.limit run.show pieces)
 Continues _ pieces = Unit {0}

@@ -8,11 +8,11 @@ use Rattle.vip_words.specs.Asked.{asked_by}
 use Rattle.vip_words.specs.Request.{Asked}
 use Rattle.vip_words.specs.Rules.{Word}
 use Rattle.vip_words.specs.declared.request.Request.{Request}
-use Rattle.vip_words.specs.declared.request.Request.TheVariants.{Certify, Link}
+use Rattle.vip_words.specs.declared.request.Request.TheVariants.{Certify, Link, Timing}
 use Rattle.vip_tools.specs.declared.refusal.Kind.{Kind}
 use Rattle.vip_tools.specs.declared.refusal.Refusal.{Refusal}
 use Rattle.vip_tools.specs.declared.status.Status.{Status}
-use Rattle.vip_tools.specs.declared.status.Status.TheVariants.{Done, Stopped, Usage, ReadFault, GameTooLarge, ScriptTooLarge, BadScript, BadSource, BadRomSource, RomDiffers, WriteFault, NoMemory, BadCommand, SourceTooLarge, CommandsTooLarge, BadState, NoDispatch, BadCertificate, MessageTooLarge, BadProof, CertificateTooLarge, NoCertificate, RomTooLarge, RamTooLarge}
+use Rattle.vip_tools.specs.declared.status.Status.TheVariants.{Done, Stopped, Usage, ReadFault, GameTooLarge, ScriptTooLarge, BadScript, BadSource, BadRomSource, RomDiffers, WriteFault, NoMemory, BadCommand, SourceTooLarge, CommandsTooLarge, BadState, NoDispatch, BadCertificate, MessageTooLarge, BadProof, CertificateTooLarge, NoCertificate, RomTooLarge, RamTooLarge, StrayByte}
 use Rattle.vip_text.specs.declared.fault.StateFault.{StateFault}
 use Rattle.vip_tools.specs.Files.{Loaded, Needed, files_of, needed, shape_of, HasAll, HasFault, IsRight, ComesTo, IsFaulty, IsLarger, IsUnread, OnlyReads, ReadsSome, reads_of, with_reads}
 use Rattle.vip_call.specs.Certified.{Certifies}
@@ -179,7 +179,7 @@ Says Done call = WritesExactly Done call
 Says Stopped call = WritesExactly Stopped call
 Says Usage call = Misused call
 Says ReadFault call = Unread call
-Says GameTooLarge call = Oversize GameTooLarge call
+Says GameTooLarge call = Oversize GameTooLarge call ⊎ Rejects GameTooLarge call
 Says ScriptTooLarge call = Oversize ScriptTooLarge call
 Says BadScript call = Rejects BadScript call
 Says BadSource call = Rejects BadSource call
@@ -199,6 +199,7 @@ Says CertificateTooLarge call = Oversize CertificateTooLarge call
 Says NoCertificate call = GivesUp call
 Says RomTooLarge call = Oversize RomTooLarge call
 Says RamTooLarge call = Oversize RamTooLarge call
+Says StrayByte call = Rejects StrayByte call
 
 -- ---- when they come
 
@@ -257,8 +258,9 @@ pub record Offers (call : Call) (asked : Asked) (files : FileMap) : Type 0 where
   pub told : call.files.told ≡ Some files
   pub quiet : IsQuiet call.files.faults call.files'.faults
 
--- a search is asked for, which may find nothing: what it then says is true of the game
+-- a search is asked for, which may find nothing: what it then says is true of the game or of the source
 abbrev pub IsSearch : {N : Type 0} → Request N → Type 0
+IsSearch (Timing source entry p k) = Unit {0}
 IsSearch (Certify game edition) = Unit {0}
 IsSearch _ = ⊥
 

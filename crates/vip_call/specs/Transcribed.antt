@@ -14,7 +14,7 @@ use Rattle.vip_text.specs.Traces.{columns_of}
 use Rattle.vip_relation.specs.State.{Start}
 use Rattle.vip_relation.specs.State.Start.{Reset, Saved}
 use Rattle.vip_words.specs.DebugGrammar.{commands_of}
-use Rattle.vip_words.specs.declared.debug_commands.Command.{Command}
+use Rattle.vip_words.specs.Spoken.{Spoken}
 use Rattle.vip_words.specs.declared.debug_commands.CommandFault.{CommandFault}
 use Rattle.vip_words.specs.declared.debug_commands.Speaks.TheVariants.{Chip8}
 use Rattle.vip_words.specs.declared.request.Request.TheVariants.{Run}
@@ -26,9 +26,11 @@ use Rattle.vip_words.specs.declared.request.Start.TheVariants as beginning
 use Rattle.vip_tools.specs.Report.{end_report}
 use Rattle.vip_tools.specs.Status.{end_status}
 use Rattle.vip_tools.specs.declared.status.Status.{Status}
+use Rattle.vip_tools.specs.Code.{Known, OfGame}
 use Rattle.vip_tools.specs.Demo.{demo_game}
 use Rattle.vip_tools.specs.Files.{Loaded}
 use Rattle.vip_tools.specs.Outcome.{script_in}
+use Rattle.vip_verbs.specs.Outcome.{known_in}
 use Rattle.vip_call.specs.Commands.{AllAnswered}
 use Rattle.vip_call.specs.Transcript.{ArePictures, Begins, GoesOn, Point, Shows, ShowsPictures, last_point, profile_of, summary_text, trace_text}
 
@@ -111,29 +113,29 @@ module _ (e : Edition) (s : Start) (points : List Point) where
   all_points = first_points e s ++ points
 
   -- The commands of the debugger, where they have no fault. Where the limit is before the start, it stands there.
-  abbrev pub Debugged : ℕ → Ending → ℕ → Ending → Result (List Command) CommandFault → List (List ℕ) → Type 0
+  abbrev pub Debugged : ℕ → Ending → ℕ → Ending → Result (List Spoken) CommandFault → List (List ℕ) → Type 0
   Debugged limit ending over reported (Ok commands) pieces =
       AllAnswered e (max limit (first_cycle e s)) all_points ending over reported commands (first_cycle e s) pieces
   Debugged limit ending over reported (Err fault) pieces = ⊥
 
-  -- A run up to a limit, which has these points behind its start and is over so in cycle `over`, is shown so: these pieces are written, and this end is
-  -- reported.
-  abbrev pub IsShown : ℕ → (List (List ℕ) → Type 0) → Ending → ℕ → Ending → Show (List ℕ) → List (List ℕ) → Type 0
-  IsShown limit InTime ending over reported (Trace with_time with_words with_screen) pieces =
+  -- A run up to a limit, of whose code this is known, which has these points behind its start and is over so in cycle `over`, is shown so: these pieces are
+  -- written, and this end is reported.
+  abbrev pub IsShown : Known → ℕ → (List (List ℕ) → Type 0) → Ending → ℕ → Ending → Show (List ℕ) → List (List ℕ) → Type 0
+  IsShown known limit InTime ending over reported (Trace with_time with_words with_screen) pieces =
       (pieces ≡ trace_text e (columns_of with_time with_words) with_screen points (last_point all_points)) × (reported ≡ ending)
-  IsShown limit InTime ending over reported Pictures pieces =
+  IsShown known limit InTime ending over reported Pictures pieces =
       ArePictures e all_points (windows_ended (first_cycle e s)) (windows_ended over) pieces × InTime pieces × (reported ≡ ending)
-  IsShown limit InTime ending over reported (Commands text) pieces = Debugged limit ending over reported (commands_of Chip8 limit text) pieces
-  IsShown limit InTime ending over reported State pieces = (limit ≤ most_cycles → IsStateOf e (last_point all_points) pieces) × (reported ≡ ending)
-  IsShown limit InTime ending over reported Profile pieces = (pieces ≡ profile_of e all_points) × (reported ≡ ending)
-  IsShown limit InTime ending over reported (Summary number) pieces =
+  IsShown known limit InTime ending over reported (Commands text echo) pieces = Debugged limit ending over reported (commands_of Chip8 known.names echo limit text) pieces
+  IsShown known limit InTime ending over reported State pieces = (limit ≤ most_cycles → IsStateOf e (last_point all_points) pieces) × (reported ≡ ending)
+  IsShown known limit InTime ending over reported Profile pieces = (pieces ≡ profile_of e all_points) × (reported ≡ ending)
+  IsShown known limit InTime ending over reported (Summary number) pieces =
       (pieces ≡ summary_text e number (windows_ended over - windows_ended (first_cycle e s)) points (last_point all_points)) × (reported ≡ ending)
 
 -- ---- a command
 
 -- A run from a start under the keys of a script up to a limit has a transcript by this law, which is over in cycle `over`. It is shown so, and this status
 -- and this report are those of the end that is reported.
-pub record Transcribed (law : RunLaw) (e : Edition) (s : Start) (keys : Option (List ℕ)) (limit : ℕ) (show : Show (List ℕ)) (pieces : List (List ℕ))
+pub record Transcribed (law : RunLaw) (known : Known) (e : Edition) (s : Start) (keys : Option (List ℕ)) (limit : ℕ) (show : Show (List ℕ)) (pieces : List (List ℕ))
     (status : Status) (report : List ℕ) : Type 0 where
   pub script : List Event
   pub reads : script_in keys ≡ Ok script
@@ -142,7 +144,7 @@ pub record Transcribed (law : RunLaw) (e : Edition) (s : Start) (keys : Option (
   pub over : ℕ
   pub transcript : law.transcript e s script limit points ending over
   pub reported : Ending
-  pub shown : IsShown e s points limit (law.pictures e s script limit) ending over reported show pieces
+  pub shown : IsShown e s points known limit (law.pictures e s script limit) ending over reported show pieces
   pub status_is : status ≡ end_status reported
   pub report_is : report ≡ end_report limit reported
 
@@ -152,16 +154,16 @@ pub record FromFile (f : List ℕ) (Here : Edition → Type 0) : Type 0 where
   pub named : slice_index f 5 ≡ edition_byte edition
   pub here : Here edition
 
--- of the edition and the start of a run this holds
+-- of the edition and the start of a run this holds; that of a source is the run of the game that it gives
 abbrev pub From : asked.Start (List ℕ) → (Edition → Start → Type 0) → Type 0
-From (beginning.Game game edition) Here = Here edition (Reset game)
+From (beginning.Game code edition) Here = OfGame code (λ game. Here edition (Reset game))
 From (beginning.State file) Here = FromFile file (λ e. Here e (Saved file))
 From (beginning.Demo number) Here = Here Usual (Reset (demo_game number))
 
 -- what a request writes and reports, where it runs a game, by a law of runs
 abbrev pub TranscribesBy : RunLaw → Loaded → List (List ℕ) → Status → List ℕ → Type 0
 TranscribesBy law (Run run) pieces status report =
-    From run.start (λ e s. Transcribed law e s run.keys run.limit run.show pieces status report)
+    From run.start (λ e s. Transcribed law (known_in run.start) e s run.keys run.limit run.show pieces status report)
 TranscribesBy law _ pieces status report = Unit {0}
 
 -- that of a run of the language, and that of the run in its time

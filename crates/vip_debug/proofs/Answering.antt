@@ -21,24 +21,24 @@ use Rattle.vip_debug.proofs.Places.{begun-same, state-same}
 
 -- ---- what is told of the events met
 
-module _ (v : VipState) (f : Follows v) where
-  pub state-told : state_line v.last ∷ [] ≡ told (begun v) State (place_of v)
+module _ (labels : List (ℕ × List ℕ)) (v : VipState) (f : Follows v) where
+  pub state-told : state_line v.last ∷ [] ≡ told labels (begun v) State (place_of v)
   state-told =
       ap (λ last. state_line last ∷ []) (f.last ∙ ap (λ (b : Machine). last_view v.edition (take v.met (events_to v b.cycle))) f.machine)
 
-  pub screen-told : screen_text v.edition v.shown ∷ [] ≡ told (begun v) Screen (place_of v)
+  pub screen-told : screen_text v.edition v.shown ∷ [] ≡ told labels (begun v) Screen (place_of v)
   screen-told =
       ap (λ bytes. screen_text v.edition bytes ∷ []) (f.shown ∙ ap (λ (b : Machine). last_screen v.edition (take v.met (events_to v b.cycle))) f.machine)
 
 -- ---- opcodes
 
-module _ (v : VipState) (f : Follows v) where
+module _ (labels : List (ℕ × List ℕ)) (v : VipState) (f : Follows v) where
   pub code-told : (address count : ℕ)
-      → code_lines (clear_reads (record { ram = v.board.machine.ram; rom = v.board.rom; latch = v.board.machine.latch })) address count
-      ≡ told (begun v) (Code address count) (place_of v)
+      → code_lines (clear_reads (record { ram = v.board.machine.ram; rom = v.board.rom; latch = v.board.machine.latch })) labels address count
+      ≡ told labels (begun v) (Code address count) (place_of v)
   code-told address count =
-      ap (λ rom. code_lines (clear_byte rom v.board.machine) address count) f.rom
-      ∙ ap (λ (b : Machine). code_lines (clear_byte (interpreter v).rom b) address count) f.machine
+      ap (λ rom. code_lines (clear_byte rom v.board.machine) labels address count) f.rom
+      ∙ ap (λ (b : Machine). code_lines (clear_byte (interpreter v).rom b) labels address count) f.machine
 
 -- ---- where the board stands
 

@@ -30,6 +30,7 @@ use Rattle.vip_relation.specs.declared.point.Point.TheVariants.{Dispatch as Disp
 use Rattle.vip_relation.proofs.Beginning.{begins-running}
 use Rattle.vip_relation.proofs.Past.{state, past, past-first, pictures, point, earlier, before}
 use Rattle.vip_text.specs.Traces.{plain, trace_line}
+use Rattle.vip_words.specs.Spoken.{Spoken}
 use Rattle.vip_words.specs.declared.debug_commands.Command.{Command}
 use Rattle.vip_words.specs.declared.debug_commands.Command.TheVariants.{Runs, Shows, Seeks, Tells}
 use Rattle.vip_words.specs.declared.debug_commands.Running.{Running}
@@ -42,6 +43,7 @@ use Rattle.vip_debug.specs.Answered.{completed_lines, shown}
 use Rattle.vip_debug.specs.Answers.{Arrival, Place, all_met, at_point, at_start, events_by, has_pc, lines_at, met_at, moved_on, moves_until, pieces, place_after, place_with, points_ahead, ran, running_lines, seeking_lines, sought, stop_by, stop_text, told, written}
 use Rattle.vip_debug.specs.Behind.{AnswersAs, GoesOnBehind, HoldSame}
 use Rattle.vip_debug.specs.Commands.{Came, came}
+use Rattle.vip_debug.specs.Fold.{echoed}
 use Rattle.vip_debug.specs.Game.{run_at}
 use Rattle.vip_debug.specs.Code.{clear_byte, code_lines}
 use Rattle.vip_debug.specs.Shown.{screen_text, state_line}
@@ -257,7 +259,7 @@ module _ (e : Edition) (s : Start) (script script' : List KeyEvent) (begins : is
     (late : (machine_of s).cycle ≤ limit) (comes : By e s script begins limit n)
     (is : machine_of (Saved file) ≡ state (interpreter_of e) s script n)
     (dispatch : is_dispatch (interpreter_of e) (state (interpreter_of e) s script n) ≡ true)
-    (keys : HoldSame (machine_of (Saved file)).cycle script script') where
+    (keys : HoldSame (machine_of (Saved file)).cycle script script') (labels : List (ℕ × List ℕ)) where
   abbrev i : Interpreter
   i = interpreter_of e
 
@@ -399,7 +401,7 @@ module _ (e : Edition) (s : Start) (script script' : List KeyEvent) (begins : is
 
   -- its pieces are the same, and so are the places
   record SamePieces (c : Command) (p q : Place) : Type 0 where
-    pub lines : pieces v limit c p ≡ pieces u limit c q
+    pub lines : pieces labels v limit c p ≡ pieces labels u limit c q
     pub places : Both (place_with v limit c p) (place_with u limit c q)
 
   module _ (j : ℕ) (reached : By e s script begins limit (j + n)) where
@@ -481,36 +483,38 @@ module _ (e : Edition) (s : Start) (script script' : List KeyEvent) (begins : is
     met_on =
         ap last_dispatch (take-length (events_by v (j + n))) ∙ last_on j reached ∙ ap last_dispatch (sym (take-length (events_by u j)))
 
-    told_same : (telling : Telling) → told v telling p ≡ told u telling q
+    told_same : (telling : Telling) → told labels v telling p ≡ told labels u telling q
     told_same State = ap (λ last. state_line (option_map (view_at e) last) ∷ []) met_on
     told_same Screen = ap (λ last. screen_text e (option_map_or (screen_bytes e) last (replicate (screen_size e) 0)) ∷ []) met_on
-    told_same (Code address count) = ap (λ b. code_lines (clear_byte i.rom b) address count) (state_on j)
+    told_same (Code address count) = ap (λ b. code_lines (clear_byte i.rom b) labels address count) (state_on j)
 
     one_same : (c : Command) → SamePieces c p q
     one_same (Runs running) = record { lines = running_same running; places = (ran_both running).places }
     one_same (Shows showing) =
-        record { lines = ap (λ b. shown i.rom b showing) (state_on j); places = record { j = j; left = refl; right = refl } }
+        record { lines = ap (λ b. shown labels i.rom b showing) (state_on j); places = record { j = j; left = refl; right = refl } }
     one_same (Seeks seeking) = record { lines = seeking_same seeking; places = (sought_both seeking).places }
     one_same (Tells telling) = record { lines = told_same telling; places = record { j = j; left = refl; right = refl } }
 
   -- ---- all commands
 
-  record SameAnswers (commands : List Command) (p q : Place) : Type 0 where
-    pub lines : written v limit commands p ≡ written u limit commands q
+  record SameAnswers (commands : List Spoken) (p q : Place) : Type 0 where
+    pub lines : written labels v limit commands p ≡ written labels u limit commands q
     pub places : Both (place_after v limit commands p) (place_after u limit commands q)
     pub reached : By e s script begins limit (place_after v limit commands p).moves
 
-  all_same : (commands : List Command) (p q : Place) → Both p q → By e s script begins limit p.moves → SameAnswers commands p q
+  all_same : (commands : List Spoken) (p q : Place) → Both p q → By e s script begins limit p.moves → SameAnswers commands p q
   all_same [] p q both reached = record { lines = refl; places = both; reached = reached }
   all_same (c ∷ commands) p q both reached =
       let here : By e s script begins limit (both.j + n) = subst (λ (x : Place). By e s script begins limit x.moves) both.left reached in
-      let one : SamePieces c p q =
-      subst (λ x. SamePieces c x q) (sym both.left) (subst (SamePieces c (all_met v (both.j + n))) (sym both.right) (one_same both.j here c)) in
-      let rest = all_same commands (place_with v limit c p) (place_with u limit c q) one.places (with_one e s script begins limit late c p reached) in
+      let one : SamePieces c.command p q =
+      subst (λ x. SamePieces c.command x q) (sym both.left)
+      (subst (SamePieces c.command (all_met v (both.j + n))) (sym both.right) (one_same both.j here c.command)) in
+      let rest = all_same commands (place_with v limit c.command p) (place_with u limit c.command q) one.places
+      (with_one e s script begins limit late c.command p reached) in
       record {
         lines =
-            ap (λ ps. ps ++ written v limit commands (place_with v limit c p)) one.lines
-            ∙ ap (λ ps. pieces u limit c q ++ ps) rest.lines;
+            ap (λ ps. echoed c ps ++ written labels v limit commands (place_with v limit c.command p)) one.lines
+            ∙ ap (λ ps. echoed c (pieces labels u limit c.command q) ++ ps) rest.lines;
         places = rest.places;
         reached = rest.reached;
       }
@@ -540,7 +544,7 @@ module _ (e : Edition) (s : Start) (script script' : List KeyEvent) (begins : is
       right = start_met e (Saved file) script' runs_on limit (reached_on 0 (subst (By e s script begins limit) (sym (zero_sum n)) comes));
     }
 
-    pub answers : (commands : List Command) → AnswersAs v u limit cycle commands
+    pub answers : (commands : List Spoken) → AnswersAs labels v u limit cycle commands
     answers commands =
         let all = all_same commands came_to (at_start u) begins_both (subst (λ (p : Place). By e s script begins limit p.moves) (sym left_by) comes) in
         let a : Arrival = record { place = place_after v limit commands came_to; completed = true } in
@@ -549,8 +553,8 @@ module _ (e : Edition) (s : Start) (script script' : List KeyEvent) (begins : is
         record { pieces = all.lines; machine = machine_there a b arrive all.reached; stop = stop_there a b arrive all.reached }
 
 pub goes-on-behind : GoesOnBehind
-goes-on-behind e s fits script script' cycle limit late order dispatch file is keys commands =
+goes-on-behind e s fits script script' cycle limit late order dispatch file is keys labels commands =
     let begins = begins-running e s fits in
     let last = last_until e s script begins cycle late in
     answers e s script script' begins file (moves_until (begun e s script) cycle) limit (omega (arith, late, order))
-    (record { within = omega (arith, last.within, order); runs = last.runs }) is dispatch keys cycle refl order commands
+    (record { within = omega (arith, last.within, order); runs = last.runs }) is dispatch keys labels cycle refl order commands

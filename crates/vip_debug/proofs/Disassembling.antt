@@ -16,12 +16,12 @@ use Rattle.asm_listing.specs.Dump.{newline}
 use Rattle.asm_listing.proofs.FirstLines.{taken_some, taken_within}
 use Rattle.asm_listing.proofs.Ranges.{length-range, drop-range}
 use Rattle.asm_listing.proofs.Starts.{starts-first}
-use Rattle.vip_outside.specs.Sink.{SinkMeaning, PutFails}
-use Rattle.vip_outside.specs.Pieces.{PutsAll, StreamAnswers}
+use Rattle.vip_outside.specs.Sink.{SinkMeaning}
+use Rattle.vip_outside.specs.Pieces.{PutsAll, FailsWithin, StreamAnswers}
 use Rattle.vip_outside.specs.declared.sink.Failed.{Failed}
-use Rattle.vip_outside.proofs.PiecesLemmas.{PutsAll-nil, PutsAll-snoc, StreamAnswers-fault}
+use Rattle.vip_outside.proofs.PiecesLemmas.{PutsAll-nil, PutsAll-append, FailsWithin-append, FailsWithin-more, StreamAnswers-err}
 use Rattle.vip_debug.specs.declared.bytes.Layout.{Layout}
-use Rattle.vip_debug.specs.BoardShown.{bytes_from, front_text, line_in, lines_of, instruction_lines}
+use Rattle.vip_debug.specs.BoardShown.{bytes_from, front_text, line_in, lines_of, pieces_in, instruction_lines}
 use Rattle.vip_debug.specs.BoardParts.{PutsLine}
 
 -- ---- a line shows three bytes at most
@@ -158,16 +158,16 @@ line-joined layout at shown three part piece whole front empty line none before 
     ∙ ap (λ n. front_text layout at (take n three) ++ ended_line Cdp1802 at part) size
 
 -- at whatever error is passed on
-pub line-fails : (layout : Layout) (byte : ℕ → ℕ) (at : ℕ) (old new : SinkMeaning) (r : Result ℕ Failed) → IsErr r
-    → PutFails (line_in layout at (bytes_from byte at (0x10000 - at))) old new → PutsLine layout byte at old new r
-line-fails layout byte at old new (Ok shown) bad fault = cc
-line-fails layout byte at old new (Err e) bad fault = fault
+pub line-fails : (labels : List (ℕ × List ℕ)) (layout : Layout) (byte : ℕ → ℕ) (at : ℕ) (old new : SinkMeaning) (r : Result ℕ Failed) → IsErr r
+    → FailsWithin (pieces_in labels layout at (bytes_from byte at (0x10000 - at))) old new → PutsLine labels layout byte at old new r
+line-fails labels layout byte at old new (Ok shown) bad fault = cc
+line-fails labels layout byte at old new (Err e) bad fault = fault
 
 -- ---- one line after another
 
-module _ (layout : Layout) (byte : ℕ → ℕ) where
+module _ (labels : List (ℕ × List ℕ)) (layout : Layout) (byte : ℕ → ℕ) where
   abbrev pub lines_left : ℕ → ℕ → List (List ℕ)
-  lines_left at count = lines_of layout (take count (starts Cdp1802 0 at (bytes_from byte at (0x10000 - at))))
+  lines_left at count = lines_of labels layout (take count (starts Cdp1802 0 at (bytes_from byte at (0x10000 - at))))
 
   length_bytes : (at n : ℕ) → length (bytes_from byte at n) ≡ n
   length_bytes at n = length-map (range_with_len at n) byte ∙ length-range n at
@@ -184,21 +184,21 @@ module _ (layout : Layout) (byte : ℕ → ℕ) where
       omega (arith, size, taken_within Cdp1802 (bytes_from byte at (0x10000 - at)) (omega (arith, size, low)))
 
   left_next : (at count : ℕ) → at < 0x10000
-      → lines_left at (suc count) ≡ line_in layout at (bytes_from byte at (0x10000 - at)) ∷ lines_left (at + shown_at at) count
+      → lines_left at (suc count) ≡ pieces_in labels layout at (bytes_from byte at (0x10000 - at)) ++ lines_left (at + shown_at at) count
   left_next at count low =
       let bytes = bytes_from byte at (0x10000 - at) in
       let size : length bytes ≡ 0x10000 - at = length_bytes at (0x10000 - at) in
       let rest : 0x10000 - at - shown_at at ≡ 0x10000 - (at + shown_at at) = omega arith in
-      ap (λ all. lines_of layout (take (suc count) all)) (starts-first Cdp1802 bytes at (taken_some Cdp1802 bytes) (omega (arith, size, shown_most at low)))
-      ∙ ap (λ more. line_in layout at bytes ∷ lines_of layout (take count (starts Cdp1802 0 (at + shown_at at) more)))
+      ap (λ all. lines_of labels layout (take (suc count) all)) (starts-first Cdp1802 bytes at (taken_some Cdp1802 bytes) (omega (arith, size, shown_most at low)))
+      ∙ ap (λ more. pieces_in labels layout at bytes ++ lines_of labels layout (take count (starts Cdp1802 0 (at + shown_at at) more)))
       (drop_bytes (shown_at at) at (0x10000 - at) ∙ ap (bytes_from byte (at + shown_at at)) rest)
 
   left_none : (at count : ℕ) → 0x10000 ≤ at → lines_left at count ≡ []
   left_none at count past =
       let none : 0x10000 - at ≡ 0 = omega (arith, past) in
-      ap (λ n. lines_of layout (take count (starts Cdp1802 0 at (bytes_from byte at n)))) none ∙ nothing count
+      ap (λ n. lines_of labels layout (take count (starts Cdp1802 0 at (bytes_from byte at n)))) none ∙ nothing count
     where
-      nothing : (count : ℕ) → lines_of layout (take count []) ≡ []
+      nothing : (count : ℕ) → lines_of labels layout (take count []) ≡ []
       nothing zero = refl
       nothing (suc count) = refl
 
@@ -206,7 +206,7 @@ module _ (layout : Layout) (byte : ℕ → ℕ) where
   pub record Disassembles (address count : ℕ) (old new : SinkMeaning) (at line : ℕ) : Type 0 where
     pub done : List (List ℕ)
     pub puts : PutsAll done old new
-    pub split : instruction_lines byte layout address count ≡ done ++ lines_left at (count - line)
+    pub split : instruction_lines byte labels layout address count ≡ done ++ lines_left at (count - line)
     pub low : at ≤ 0x10000
 
   pub disassembles-first : (address count : ℕ) (old : SinkMeaning) → address ≤ 0x10000 → Disassembles address count old old address 0
@@ -217,38 +217,41 @@ module _ (layout : Layout) (byte : ℕ → ℕ) where
 
   module _ (address count : ℕ) (old middle new : SinkMeaning) (at line : ℕ) (s : Disassembles address count old middle at line) (low : at < 0x10000)
       (below : line < count) where
-    next_split : instruction_lines byte layout address count ≡ s.done ++ line_in layout at (bytes_from byte at (0x10000 - at)) ∷ lines_left (at + shown_at at)
-        (count - (line + 1))
+    next_split : instruction_lines byte labels layout address count ≡ s.done ++ (pieces_in labels layout at (bytes_from byte at (0x10000 - at)) ++ lines_left (at + shown_at at)
+        (count - (line + 1)))
     next_split =
         let more : count - line ≡ suc (count - (line + 1)) = omega (arith, below) in
         s.split ∙ ap (λ n. s.done ++ lines_left at n) more ∙ ap (λ lines. s.done ++ lines) (left_next at (count - (line + 1)) low)
 
-    pub disassembles-next : (shown : ℕ) → PutsLine layout byte at middle new (Ok shown) → Disassembles address count old new (at + shown) (line + 1)
+    pub disassembles-next : (shown : ℕ) → PutsLine labels layout byte at middle new (Ok shown) → Disassembles address count old new (at + shown) (line + 1)
     disassembles-next shown put =
         record {
-          done = s.done ++ line_in layout at (bytes_from byte at (0x10000 - at)) ∷ [];
-          puts = PutsAll-snoc s.done (line_in layout at (bytes_from byte at (0x10000 - at))) old middle new s.puts put.0;
+          done = s.done ++ pieces_in labels layout at (bytes_from byte at (0x10000 - at));
+          puts = PutsAll-append s.done (pieces_in labels layout at (bytes_from byte at (0x10000 - at))) old middle new s.puts put.0;
           split =
               next_split
-              ∙ sym (append_assoc s.done (line_in layout at (bytes_from byte at (0x10000 - at)) ∷ []) (lines_left (at + shown_at at) (count - (line + 1))))
-              ∙ ap (λ n. (s.done ++ line_in layout at (bytes_from byte at (0x10000 - at)) ∷ []) ++ lines_left (at + n) (count - (line + 1))) (sym put.1);
+              ∙ sym (append_assoc s.done (pieces_in labels layout at (bytes_from byte at (0x10000 - at))) (lines_left (at + shown_at at) (count - (line + 1))))
+              ∙ ap (λ n. (s.done ++ pieces_in labels layout at (bytes_from byte at (0x10000 - at))) ++ lines_left (at + n) (count - (line + 1))) (sym put.1);
           low = omega (arith, put.1, shown_most at low);
         }
 
-    pub disassembles-fail : (e : Failed) (r : Result (Unit {0}) Failed) → IsErr r → PutsLine layout byte at middle new (Err e)
-        → StreamAnswers (instruction_lines byte layout address count) old new r
+    pub disassembles-fail : (e : Failed) (r : Result (Unit {0}) Failed) → IsErr r → PutsLine labels layout byte at middle new (Err e)
+        → StreamAnswers (instruction_lines byte labels layout address count) old new r
     disassembles-fail e r bad fault =
-        StreamAnswers-fault (instruction_lines byte layout address count) s.done (line_in layout at (bytes_from byte at (0x10000 - at)))
-        (lines_left (at + shown_at at) (count - (line + 1))) old middle new r next_split bad s.puts fault
+        let here = pieces_in labels layout at (bytes_from byte at (0x10000 - at)) in
+        let rest = lines_left (at + shown_at at) (count - (line + 1)) in
+        StreamAnswers-err (instruction_lines byte labels layout address count) old new r bad
+        (subst (λ pieces. FailsWithin pieces old new) (sym next_split)
+        (FailsWithin-append s.done (here ++ rest) old middle new s.puts (FailsWithin-more here rest middle new fault)))
 
   module _ (address count : ℕ) (old new : SinkMeaning) (at line : ℕ) (s : Disassembles address count old new at line) where
-    all_done : lines_left at (count - line) ≡ [] → PutsAll (instruction_lines byte layout address count) old new
+    all_done : lines_left at (count - line) ≡ [] → PutsAll (instruction_lines byte labels layout address count) old new
     all_done none = subst (λ lines. PutsAll lines old new) (sym (s.split ∙ ap (λ lines. s.done ++ lines) none ∙ append-nil s.done)) s.puts
 
-    pub disassembles-end : 0x10000 ≤ at → PutsAll (instruction_lines byte layout address count) old new
+    pub disassembles-end : 0x10000 ≤ at → PutsAll (instruction_lines byte labels layout address count) old new
     disassembles-end past = all_done (left_none at (count - line) past)
 
-    pub disassembles-all : count ≤ line → PutsAll (instruction_lines byte layout address count) old new
+    pub disassembles-all : count ≤ line → PutsAll (instruction_lines byte labels layout address count) old new
     disassembles-all past =
         let none : count - line ≡ 0 = omega (arith, past) in
         all_done (ap (lines_left at) none)

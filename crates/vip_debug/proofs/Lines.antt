@@ -1,5 +1,5 @@
 -- The lines of registers and bytes, part by part.
-use Rattle.std.proofs.Common.{◌≡◌, ℕ, suc, ◌+◌, ◌-◌, ◌<◌, List, [], ◌∷◌, ◌++◌, length, map, take, drop, min, slice_range, length-drop, ◌≤◌, refl, sym, ap, ◌∙◌, arith, append_assoc, append-nil, zero-add, Result, IsErr}
+use Rattle.std.proofs.Common.{◌≡◌, ℕ, suc, ◌+◌, ◌-◌, ◌<◌, List, [], ◌∷◌, ◌++◌, length, map, take, drop, min, slice_range, length-drop, ◌≤◌, refl, subst, sym, ap, ◌∙◌, arith, append_assoc, append-nil, zero-add, Result, IsErr}
 use Rattle.std.specs.Prelude.{flat_map}
 use Rattle.std.specs.List.{range_with_len}
 use Rattle.std.proofs.lemmas.Grind.{flat_map-append}
@@ -11,7 +11,7 @@ use Rattle.vip_debug.specs.BoardShown.{registers_text, stretch}
 use Rattle.vip_outside.specs.Sink.{SinkMeaning, PutsWhole, PutFails}
 use Rattle.vip_outside.specs.Pieces.{PutsAll, FailsWithin, StreamAnswers}
 use Rattle.vip_outside.specs.declared.sink.Failed.{Failed}
-use Rattle.vip_outside.proofs.PiecesLemmas.{PutsAll-nil, PutsAll-one, PutsAll-snoc, FailsWithin-more, FailsWithin-append, StreamAnswers-fault, StreamAnswers-err, StreamAnswers-append}
+use Rattle.vip_outside.proofs.PiecesLemmas.{PutsAll-append, PutsAll-nil, PutsAll-one, PutsAll-snoc, FailsWithin-more, FailsWithin-append, StreamAnswers-fault, StreamAnswers-err, StreamAnswers-append}
 use Rattle.vip_byte.proofs.RangeLemmas.{range_with_len-add}
 
 -- one number more, behind a blank
@@ -80,6 +80,35 @@ module _ (f : ℕ → List ℕ) (old middle new : SinkMeaning) where
   pieces-fail k m r below bad so_far fault =
       StreamAnswers-fault (map f (range_with_len 0 m)) (map f (range_with_len 0 k)) (f k) (map f (range_with_len (k + 1) (m - suc k))) old middle new r
       (split f k m below) bad so_far fault
+
+-- ---- groups of pieces
+
+-- all are those before the k-th, the k-th, and others
+group-split : (f : ℕ → List (List ℕ)) (k n : ℕ)
+    → flat_map f (range_with_len 0 (k + suc n)) ≡ flat_map f (range_with_len 0 k) ++ (f k ++ flat_map f (range_with_len (k + 1) n))
+group-split f k n =
+    ap (flat_map f) (range_with_len-add 0 k (suc n))
+    ∙ flat_map-append f (range_with_len 0 k) (range_with_len (0 + k) (suc n))
+    ∙ ap (λ at. flat_map f (range_with_len 0 k) ++ flat_map f (range_with_len at (suc n))) (zero-add k)
+
+module _ (f : ℕ → List (List ℕ)) (old middle new : SinkMeaning) where
+  pub groups-more : (k : ℕ) → PutsAll (flat_map f (range_with_len 0 k)) old middle → PutsAll (f k) middle new
+      → PutsAll (flat_map f (range_with_len 0 (k + 1))) old new
+  groups-more k so_far put =
+      let one : k + 1 ≡ k + suc 0 = omega arith in
+      subst (λ pieces. PutsAll pieces old new)
+      (sym (ap (λ n. flat_map f (range_with_len 0 n)) one ∙ group-split f k 0
+      ∙ ap (λ more. flat_map f (range_with_len 0 k) ++ more) (append-nil (f k))))
+      (PutsAll-append (flat_map f (range_with_len 0 k)) (f k) old middle new so_far put)
+
+  pub groups-fail : (k m : ℕ) (r : Result (Unit {0}) Failed) → k < m → IsErr r → PutsAll (flat_map f (range_with_len 0 k)) old middle
+      → FailsWithin (f k) middle new → StreamAnswers (flat_map f (range_with_len 0 m)) old new r
+  groups-fail k m r below bad so_far fault =
+      let whole : m ≡ k + suc (m - suc k) = omega (arith, below) in
+      let rest = flat_map f (range_with_len (k + 1) (m - suc k)) in
+      StreamAnswers-err (flat_map f (range_with_len 0 m)) old new r bad
+      (subst (λ pieces. FailsWithin pieces old new) (sym (ap (λ n. flat_map f (range_with_len 0 n)) whole ∙ group-split f k (m - suc k)))
+      (FailsWithin-append (flat_map f (range_with_len 0 k)) (f k ++ rest) old middle new so_far (FailsWithin-more (f k) rest middle new fault)))
 
 -- ---- a line, and then two groups of lines
 

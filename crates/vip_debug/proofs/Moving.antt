@@ -1,5 +1,5 @@
 -- Where the board comes to.
-use Rattle.std.proofs.Common.{◌≡◌, inl, inr, ℕ, ◌+◌, ◌-◌, ◌<◌, ◌≤◌, Bool, true, false, refl, sym, ap, ◌∙◌, subst, arith, Some, None, Option}
+use Rattle.std.proofs.Common.{◌≡◌, inl, inr, ℕ, ◌+◌, ◌-◌, ◌<◌, ◌≤◌, Bool, true, false, refl, sym, ap, ◌∙◌, subst, arith, Some, None, Option, List}
 use Rattle.std.specs.Prelude.{◌==◌, if◌then◌else◌, slice_get, find, []}
 use Rattle.std.proofs.lemmas.Bool.Decides.{nat_tests}
 use Rattle.machine.specs.Board.{Machine}
@@ -70,12 +70,12 @@ run-here v f =
     ∙ ap (λ b. record { rom = (interpreter v).rom; script = v.board.script; first = b; ends = is_stop (interpreter v) }) f.machine
 
 -- what is shown of the board
-pub shown-here : (v : VipState) → Follows v → (b : Seen) → b ≡ v.board → (showing : Showing)
-    → shown b.rom b.machine showing ≡ shown (interpreter v).rom (state_after v v.moves) showing
-shown-here v f b is showing =
-    ap (λ (x : Seen). shown x.rom x.machine showing) is
-    ∙ ap (λ rom. shown rom v.board.machine showing) f.rom
-    ∙ ap (λ machine. shown (interpreter v).rom machine showing) f.machine
+pub shown-here : (labels : List (ℕ × List ℕ)) (v : VipState) → Follows v → (b : Seen) → b ≡ v.board → (showing : Showing)
+    → shown labels b.rom b.machine showing ≡ shown labels (interpreter v).rom (state_after v v.moves) showing
+shown-here labels v f b is showing =
+    ap (λ (x : Seen). shown labels x.rom x.machine showing) is
+    ∙ ap (λ rom. shown labels rom v.board.machine showing) f.rom
+    ∙ ap (λ machine. shown labels (interpreter v).rom machine showing) f.machine
 
 -- ---- commands that run the board, whatever runs on it
 

@@ -13,6 +13,7 @@ use Rattle.vip_relation.specs.State.{Start, VipState, begun, events_to, machine_
 use Rattle.vip_board.proofs.Along.{in-turn}
 use Rattle.vip_relation.proofs.Past.{state, past, events-last, events-stop}
 use Rattle.vip_relation.proofs.Waits.{Earlier, earlier-at, earlier-drop, earlier-next}
+use Rattle.vip_words.specs.Spoken.{Spoken}
 use Rattle.vip_words.specs.declared.debug_commands.Command.{Command}
 use Rattle.vip_words.specs.declared.debug_commands.Command.TheVariants as command
 use Rattle.vip_words.specs.declared.debug_commands.Running.{Running}
@@ -154,9 +155,9 @@ module _ (e : Edition) (s : Start) (script : List KeyEvent) (begins : is_stop (i
     with_one (command.Seeks seeking) p old = sought_to seeking p
     with_one (command.Tells telling) p old = old
 
-    after_all : (commands : List Command) (p : Place) → ReachedBy limit p.moves → ReachedBy limit (place_after v limit commands p).moves
+    after_all : (commands : List Spoken) (p : Place) → ReachedBy limit p.moves → ReachedBy limit (place_after v limit commands p).moves
     after_all [] p old = old
-    after_all (command ∷ commands) p old = after_all commands (place_with v limit command p) (with_one command p old)
+    after_all (spoken ∷ commands) p old = after_all commands (place_with v limit spoken.command p) (with_one spoken.command p old)
 
-    pub commands_reach : (commands : List Command) → ReachedBy limit (place_after v limit commands (at_start v)).moves
+    pub commands_reach : (commands : List Spoken) → ReachedBy limit (place_after v limit commands (at_start v)).moves
     commands_reach commands = after_all commands (at_start v) at_begin

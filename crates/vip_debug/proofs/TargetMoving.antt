@@ -23,9 +23,10 @@ use Rattle.vip_byte.specs.Text.{newline}
 use Rattle.vip_debug.specs.declared.moves.Change.{Change}
 use Rattle.vip_debug.specs.Answered.{completed_lines}
 use Rattle.vip_debug.specs.Commands.{Came, after_steps, at_cycle, found_or_last, starts_in, starts_at, bytes_at}
-use Rattle.vip_program.specs.Lines.{line_of}
+use Rattle.vip_program.specs.Lines.{labels_before, line_of}
 use Rattle.vip_debug.specs.BoardShown.{cycle_text, rows, mem_lines, stretch, has_changed}
-use Rattle.vip_debug.specs.BoardParts.{Arrives, HasMoved, IsShown, lines_by, Fits, reads}
+use Rattle.vip_debug.specs.BoardParts.{Arrives, HasMoved, IsShown, labels_by, lines_by, Fits, reads}
+use Rattle.vip_debug.specs.Programs.{changing, comes, run_on}
 use Rattle.vip_debug.specs.Watching.{may_change}
 use Rattle.vip_debug.proofs.Watching.{stretch-stays}
 use Rattle.vip_debug.proofs.Lines.{stretch-short}
@@ -464,6 +465,12 @@ module _ (r : Run) (p : Progress) (s : Stands p) (run : p.run ≡ r) (b : Seen) 
       ∙ ap (λ machine. line_of p.run.rom (held_at p.run.script) (machine ∷ [])) s.machine
       ∙ ap (λ x. line_of x.rom (held_at x.script) (state_of x p.made ∷ [])) run
 
+  pub labels-here : (labels : List (ℕ × List ℕ)) → labels_before labels b.machine ≡ labels_before labels (state_of r p.made)
+  labels-here labels =
+      ap (λ (x : Seen). labels_before labels x.machine) is
+      ∙ ap (labels_before labels) s.machine
+      ∙ ap (λ x. labels_before labels (state_of x p.made)) run
+
 -- ---- so many moves
 
 module _ {X : Type 0} (seen : X → Seen) (ends : X → Machine → Bool) (leads : ℕ → X → X → Type 0) where
@@ -570,6 +577,13 @@ module _ (r : Run) (limit : ℕ) (came : Came) (s : Seen) (answer : Bool) (a : A
       told.after
   lines-completed _ b change is told =
       ap (λ (x : Seen). (cycle_text x.machine ++ newline) ∷ []) is ∙ ap (λ machine. (cycle_text machine ++ newline) ∷ []) a.machine
+
+-- and the labels at the instruction that changed a byte
+pub labels-completed : (labels : List (ℕ × List ℕ)) (rom : List ℕ) (script : List Event) (limit : ℕ) (running : Running) (b : Machine) (change : Change)
+    → IsShown running (run_on rom script limit b) (comes rom script limit running b).moves change
+    → labels_by labels running change ≡ changing rom script limit labels running b
+labels-completed labels rom script limit (Watch address count) b change told = sym (told.place labels)
+labels-completed labels rom script limit _ b change told = refl
 
 pub fits : (running : Running) (r : Run) (k : ℕ) (change : Change) → IsShown running r k change → Fits running change
 fits (Watch address count) r k change told = (

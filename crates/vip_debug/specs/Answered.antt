@@ -23,9 +23,9 @@ abbrev pub completed_lines : Run → Running → ℕ → List (List ℕ)
 completed_lines r (Watch address count) k = change_lines r address count k
 completed_lines r running k = (cycle_text (state_of r k) ++ newline) ∷ []
 
--- a command that shows what a machine holds, with a ROM
-abbrev pub shown : List ℕ → Machine → Showing → List (List ℕ)
-shown rom b Regs = regs_lines b
-shown rom b (Mem address count) = mem_lines (byte_of rom b) address count
-shown rom b (Dis address count) = instruction_lines (byte_of rom b) Source address count
-shown rom b (Listed address count) = instruction_lines (byte_of rom b) Listing address count
+-- a command that shows what a machine holds, with a ROM; a listing shows these labels
+abbrev pub shown : List (ℕ × List ℕ) → List ℕ → Machine → Showing → List (List ℕ)
+shown labels rom b Regs = regs_lines b
+shown labels rom b (Mem address count) = mem_lines (byte_of rom b) address count
+shown labels rom b (Dis address count) = instruction_lines (byte_of rom b) labels Source address count
+shown labels rom b (Listed address count) = instruction_lines (byte_of rom b) labels Listing address count

@@ -1,6 +1,7 @@
 -- What commands write of a run, and where they leave the board: a fold over the commands. Its state is the place of the board in the run: how
 -- many moves were made, which says the machine and its cycle, and how many events were met.
-use Rattle.std.specs.Prelude.{◌≡◌, ℕ, ◌+◌, ◌-◌, ◌==◌, if◌then◌else◌, Bool, true, false, List, [], ◌∷◌, ◌++◌, length, take, drop, find, filter_map, Option, Some, None, codes, slice_get}
+use Rattle.std.specs.Option.{option_to_list}
+use Rattle.std.specs.Prelude.{◌≡◌, ◌⊎◌, ℕ, ◌+◌, ◌-◌, ◌==◌, if◌then◌else◌, Bool, true, false, List, [], ◌∷◌, ◌++◌, length, take, drop, find, filter_map, Option, Some, None, codes, slice_get}
 use Rattle.machine.specs.Board.{Machine}
 use Rattle.chip8_lang.specs.declared.view.StopRecord.{StopRecord}
 use Rattle.chip8_lang.specs.Events.{Event, is_stop}
@@ -21,6 +22,7 @@ use Rattle.vip_debug.specs.TargetRun as run
 use Rattle.vip_debug.specs.Fold.{after_all, all_pieces}
 use Rattle.vip_debug.specs.Commands.{came}
 use Rattle.vip_debug.specs.Answered.{completed_lines, shown}
+use Rattle.vip_words.specs.Spoken.{Spoken}
 use Rattle.vip_words.specs.declared.debug_commands.Command.{Command}
 use Rattle.vip_words.specs.declared.debug_commands.Command.TheVariants.{Runs, Shows, Seeks, Tells}
 use Rattle.vip_words.specs.declared.debug_commands.Running.{Running}
@@ -121,17 +123,17 @@ abbrev pub seeking_lines : VipState → Arrival → List (List ℕ)
 seeking_lines v a = lines_at v a (trace_line plain (view_at v.edition (state_after v a.place.moves)) ∷ [])
 
 -- what was met of the language, or opcodes in words; a screen is one piece
-abbrev pub told : VipState → Telling → Place → List (List ℕ)
-told v State p = state_line (last_view v.edition (met_at v p)) ∷ []
-told v Screen p = screen_text v.edition (last_screen v.edition (met_at v p)) ∷ []
-told v (Code address count) p = code_lines (clear_byte (interpreter v).rom (state_after v p.moves)) address count
+abbrev pub told : List (ℕ × List ℕ) → VipState → Telling → Place → List (List ℕ)
+told labels v State p = state_line (last_view v.edition (met_at v p)) ∷ []
+told labels v Screen p = screen_text v.edition (last_screen v.edition (met_at v p)) ∷ []
+told labels v (Code address count) p = code_lines (clear_byte (interpreter v).rom (state_after v p.moves)) labels address count
 
--- each line is a piece of its own
-abbrev pub pieces : VipState → ℕ → Command → Place → List (List ℕ)
-pieces v limit (Runs running) p = running_lines v limit running p
-pieces v limit (Shows showing) p = shown (interpreter v).rom (state_after v p.moves) showing
-pieces v limit (Seeks seeking) p = seeking_lines v (sought v limit seeking p)
-pieces v limit (Tells telling) p = told v telling p
+-- each line is a piece of its own, that of a label too
+abbrev pub pieces : List (ℕ × List ℕ) → VipState → ℕ → Command → Place → List (List ℕ)
+pieces labels v limit (Runs running) p = running_lines v limit running p
+pieces labels v limit (Shows showing) p = shown labels (interpreter v).rom (state_after v p.moves) showing
+pieces labels v limit (Seeks seeking) p = seeking_lines v (sought v limit seeking p)
+pieces labels v limit (Tells telling) p = told labels v telling p
 
 -- the place after a command
 abbrev pub place_with : VipState → ℕ → Command → Place → Place
@@ -141,11 +143,11 @@ place_with v limit _ p = p
 
 -- ---- all commands
 
-abbrev pub place_after : VipState → ℕ → List Command → Place → Place
+abbrev pub place_after : VipState → ℕ → List Spoken → Place → Place
 place_after v limit = after_all (place_with v limit)
 
-abbrev pub written : VipState → ℕ → List Command → Place → List (List ℕ)
-written v limit = all_pieces (place_with v limit) (pieces v limit)
+abbrev pub written : List (ℕ × List ℕ) → VipState → ℕ → List Spoken → Place → List (List ℕ)
+written labels v limit = all_pieces (place_with v limit) (pieces labels v limit)
 
 -- the board is at a place of the run of `start`
 pub record StandsAt (start : VipState) (p : Place) (v : VipState) : Type 0 where
@@ -154,29 +156,36 @@ pub record StandsAt (start : VipState) (p : Place) (v : VipState) : Type 0 where
   pub met : v.met ≡ p.met
   pub machine : v.board.machine ≡ state_after start p.moves
 
--- the commands before one went out whole, and a put of its pieces failed; the board is where that command leaves it
-pub record Faults (start : VipState) (limit : ℕ) (commands : List Command) (p : Place) (v : VipState) (old new : SinkMeaning) : Type 0 where
-  pub before : List Command
-  pub command : Command
-  pub after : List Command
+-- A put of a command's echo failed, and the board is at the place before it; or the echo went out, a put of its answer failed, and the board is
+-- where the command leaves it.
+abbrev pub Breaks : List (ℕ × List ℕ) → VipState → ℕ → Spoken → Place → VipState → SinkMeaning → SinkMeaning → Type 0
+Breaks labels start limit spoken p v old new =
+    (FailsWithin (option_to_list spoken.echo) old new × StandsAt start p v)
+    ⊎ ((middle : SinkMeaning) × PutsAll (option_to_list spoken.echo) old middle × FailsWithin (pieces labels start limit spoken.command p) middle new
+    × StandsAt start (place_with start limit spoken.command p) v)
+
+-- the commands before one went out whole, and it broke off
+pub record Faults (labels : List (ℕ × List ℕ)) (start : VipState) (limit : ℕ) (commands : List Spoken) (p : Place) (v : VipState) (old new : SinkMeaning) : Type 0 where
+  pub before : List Spoken
+  pub command : Spoken
+  pub after : List Spoken
   pub place : commands ≡ before ++ command ∷ after
   pub middle : SinkMeaning
-  pub whole : PutsAll (written start limit before p) old middle
-  pub fails : FailsWithin (pieces start limit command (place_after start limit before p)) middle new
-  pub stands : StandsAt start (place_after start limit (before ++ command ∷ []) p) v
+  pub whole : PutsAll (written labels start limit before p) old middle
+  pub breaks : Breaks labels start limit command (place_after start limit before p) v middle new
 
 -- all pieces went out whole, and the board is where the commands leave it
-pub record RunsWhole (start : VipState) (limit : ℕ) (commands : List Command) (p : Place) (v : VipState) (old new : SinkMeaning) : Type 0 where
-  pub puts : PutsAll (written start limit commands p) old new
+pub record RunsWhole (labels : List (ℕ × List ℕ)) (start : VipState) (limit : ℕ) (commands : List Spoken) (p : Place) (v : VipState) (old new : SinkMeaning) : Type 0 where
+  pub puts : PutsAll (written labels start limit commands p) old new
   pub stands : StandsAt start (place_after start limit commands p) v
 
 -- what all commands answer, from a place on; it is a stop exactly where the board is at a stop point in the end
-abbrev pub DebugAnswers : VipState → ℕ → List Command → Place → VipState → SinkMeaning → SinkMeaning → DebugEnd → Type 0
-DebugAnswers start limit commands p v old new Done =
-    RunsWhole start limit commands p v old new × (is_stop (interpreter start) v.board.machine ≡ false)
-DebugAnswers start limit commands p v old new (Stopped stop) =
-    RunsWhole start limit commands p v old new
+abbrev pub DebugAnswers : List (ℕ × List ℕ) → VipState → ℕ → List Spoken → Place → VipState → SinkMeaning → SinkMeaning → DebugEnd → Type 0
+DebugAnswers labels start limit commands p v old new Done =
+    RunsWhole labels start limit commands p v old new × (is_stop (interpreter start) v.board.machine ≡ false)
+DebugAnswers labels start limit commands p v old new (Stopped stop) =
+    RunsWhole labels start limit commands p v old new
     × (is_stop (interpreter start) v.board.machine ≡ true)
     × (stop ≡ stop_by start (place_after start limit commands p).moves)
-DebugAnswers start limit commands p v old new WriteFault =
-    FailsWithin (written start limit commands p) old new × Faults start limit commands p v old new
+DebugAnswers labels start limit commands p v old new WriteFault =
+    FailsWithin (written labels start limit commands p) old new × Faults labels start limit commands p v old new

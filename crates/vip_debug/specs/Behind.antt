@@ -1,5 +1,5 @@
 -- What commands write behind a dispatch point of a run, and what they write of the run that begins with a file of its machine.
-use Rattle.std.specs.Prelude.{◌≡◌, ◌≤◌, ◌<◌, ℕ, true, List, ◌∷◌}
+use Rattle.std.specs.Prelude.{◌≡◌, ◌≤◌, ◌<◌, ℕ, true, List}
 use Rattle.machine.specs.Keys.{Event as KeyEvent, held_at}
 use Rattle.chip8_lang.specs.declared.view.Edition.{Edition}
 use Rattle.chip8_lang.specs.Events.{is_dispatch}
@@ -7,7 +7,7 @@ use Rattle.chip8_image.specs.Interpreters.{interpreter_of}
 use Rattle.vip_relation.specs.Follows.{Fits}
 use Rattle.vip_relation.specs.State.{Start, VipState, begun, machine_of, state_after}
 use Rattle.vip_relation.specs.State.Start.{Saved}
-use Rattle.vip_words.specs.declared.debug_commands.Command.{Command}
+use Rattle.vip_words.specs.Spoken.{Spoken}
 use Rattle.vip_words.specs.declared.debug_commands.Command.TheVariants.{Runs}
 use Rattle.vip_words.specs.declared.debug_commands.Running.TheVariants.{To}
 use Rattle.vip_debug.specs.Answers.{at_start, moves_until, place_after, place_with, stop_by, written}
@@ -18,12 +18,14 @@ HoldSame cycle script script' = (t : ℕ) → cycle < t → (k : ℕ) → held_a
 
 -- Behind `to` a cycle commands write of run v what they write of run u from its start on, and leave both boards at the same machine; where that is a
 -- stop point, the stop is the same.
-pub record AnswersAs (v u : VipState) (limit cycle : ℕ) (commands : List Command) : Type 0 where
-  pub pieces : written v limit commands (place_with v limit (Runs (To cycle)) (at_start v)) ≡ written u limit commands (at_start u)
+pub record AnswersAs (labels : List (ℕ × List ℕ)) (v u : VipState) (limit cycle : ℕ) (commands : List Spoken) : Type 0 where
+  pub pieces : written labels v limit commands (place_with v limit (Runs (To cycle)) (at_start v)) ≡ written labels u limit commands (at_start u)
   pub machine :
-      state_after v (place_after v limit (Runs (To cycle) ∷ commands) (at_start v)).moves
+      state_after v (place_after v limit commands (place_with v limit (Runs (To cycle)) (at_start v))).moves
       ≡ state_after u (place_after u limit commands (at_start u)).moves
-  pub stop : stop_by v (place_after v limit (Runs (To cycle) ∷ commands) (at_start v)).moves ≡ stop_by u (place_after u limit commands (at_start u)).moves
+  pub stop :
+      stop_by v (place_after v limit commands (place_with v limit (Runs (To cycle)) (at_start v))).moves
+      ≡ stop_by u (place_after u limit commands (at_start u)).moves
 
 -- A run comes to a dispatch point by a cycle, and another begins with a file of the machine there, under a script that holds the same keys down from there
 -- on.
@@ -38,5 +40,6 @@ GoesOnBehind =
     → (file : List ℕ)
     → machine_of (Saved file) ≡ state_after (begun e s script) (moves_until (begun e s script) cycle)
     → HoldSame (machine_of (Saved file)).cycle script script'
-    → (commands : List Command)
-    → AnswersAs (begun e s script) (begun e (Saved file) script') limit cycle commands
+    → (labels : List (ℕ × List ℕ))
+    → (commands : List Spoken)
+    → AnswersAs labels (begun e s script) (begun e (Saved file) script') limit cycle commands

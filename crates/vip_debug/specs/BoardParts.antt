@@ -5,7 +5,8 @@ use Rattle.machine.specs.Memory.{read}
 use Rattle.vip_board.specs.Seen.{Seen}
 use Rattle.vip_byte.specs.Text.{newline}
 use Rattle.vip_memory.specs.Contents.{Contents}
-use Rattle.vip_outside.specs.Sink.{SinkMeaning, PutsWhole, PutFails}
+use Rattle.vip_outside.specs.Sink.{SinkMeaning}
+use Rattle.vip_outside.specs.Pieces.{PutsAll, FailsWithin}
 use Rattle.vip_outside.specs.declared.sink.Failed.{Failed}
 use Rattle.asm_lex.specs.declared.shape.Isa.TheVariants.{Cdp1802}
 use Rattle.asm_listing.specs.Disassembly.{taken}
@@ -15,9 +16,11 @@ use Rattle.vip_debug.specs.declared.bytes.Layout.{Layout}
 use Rattle.vip_debug.specs.declared.moves.Change.{Change}
 use Rattle.vip_cpu.specs.declared.cpu.Phase.TheVariants.{Boundary}
 use Rattle.vip_debug.specs.TargetRun.{Run, state_of}
-use Rattle.vip_debug.specs.BoardShown.{cycle_text, rows, bytes_from, stretch, line_in}
+use Rattle.vip_debug.specs.BoardShown.{cycle_text, rows, bytes_from, stretch, pieces_in}
 use Rattle.vip_debug.specs.Commands.{Came, bytes_at}
-use Rattle.vip_program.specs.Lines.{line_of}
+use Rattle.vip_program.specs.Lines.{line_of, labels_before}
+use Rattle.asm_core.specs.Labels.{label_lines}
+use Rattle.std.specs.Option.{option_map_or}
 
 -- ---- moves
 
@@ -39,6 +42,7 @@ pub record IsChange (r : Run) (address count k : ℕ) (change : Change) : Type 0
   pub line : change.line.items ≡ line_of r.rom (held_at r.script) (state_of r (k - 1) ∷ [])
   pub before : change.before.items ≡ stretch (bytes_at r 0) address count
   pub after : change.after.items ≡ stretch (bytes_at r k) address count
+  pub place : (labels : List (ℕ × List ℕ)) → labels_before labels (state_of r (k - 1)) ≡ option_map_or (label_lines labels) change.place []
 
 -- what shows a command that is completed: nothing is needed but the board, or what has changed
 abbrev pub IsShown : Running → Run → ℕ → Change → Type 0
@@ -49,6 +53,11 @@ IsShown running r k change = Unit {0}
 abbrev pub lines_by : Running → Seen → Change → List (List ℕ)
 lines_by (Watch address count) s change = change.line.items ∷ rows address change.before.items ++ rows address change.after.items
 lines_by running s change = (cycle_text s.machine ++ newline) ∷ []
+
+-- the labels at the instruction that changed it
+abbrev pub labels_by : List (ℕ × List ℕ) → Running → Change → List (List ℕ)
+labels_by labels (Watch address count) change = option_map_or (label_lines labels) change.place []
+labels_by labels running change = []
 
 -- what has changed ends at FFFF at the latest
 abbrev pub Fits : Running → Change → Type 0
@@ -65,9 +74,9 @@ reads m address = read m.rom m.latch m.ram address
 abbrev pub clear_reads : Contents → ℕ → ℕ
 clear_reads m address = read m.rom false m.ram address
 
--- the line of the instruction at an address went out, of which it shows so many bytes
-abbrev pub PutsLine : Layout → (ℕ → ℕ) → ℕ → SinkMeaning → SinkMeaning → Result ℕ Failed → Type 0
-PutsLine layout byte address old new (Ok shown) =
-    PutsWhole (line_in layout address (bytes_from byte address (0x10000 - address))) old new
+-- the line of the instruction at an address went out behind those of its labels, and it shows so many bytes
+abbrev pub PutsLine : List (ℕ × List ℕ) → Layout → (ℕ → ℕ) → ℕ → SinkMeaning → SinkMeaning → Result ℕ Failed → Type 0
+PutsLine labels layout byte address old new (Ok shown) =
+    PutsAll (pieces_in labels layout address (bytes_from byte address (0x10000 - address))) old new
     × (shown ≡ taken Cdp1802 (bytes_from byte address (0x10000 - address)))
-PutsLine layout byte address old new (Err e) = PutFails (line_in layout address (bytes_from byte address (0x10000 - address))) old new
+PutsLine labels layout byte address old new (Err e) = FailsWithin (pieces_in labels layout address (bytes_from byte address (0x10000 - address))) old new

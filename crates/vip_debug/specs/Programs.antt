@@ -1,17 +1,19 @@
 -- What the commands write on a board that runs any program, and where they leave it: a fold over the commands, whose state is the machine.
-use Rattle.std.specs.Prelude.{◌≡◌, ◌≤◌, ℕ, if◌then◌else◌, Bool, List, [], ◌∷◌, ◌++◌, Result, Ok, Err, codes}
+use Rattle.std.specs.Prelude.{◌≡◌, ◌≤◌, ◌-◌, ℕ, if◌then◌else◌, Bool, List, [], ◌∷◌, ◌++◌, Result, Ok, Err, codes}
 use Rattle.machine.specs.Board.{Machine}
 use Rattle.machine.specs.Keys.{Event, held_at}
 use Rattle.vip_board.specs.Seen.{Seen}
 use Rattle.vip_byte.specs.Text.{newline}
+use Rattle.vip_words.specs.Spoken.{Spoken}
 use Rattle.vip_words.specs.declared.debug_commands.Command.{Command}
 use Rattle.vip_words.specs.declared.debug_commands.Command.TheVariants.{Runs, Shows}
 use Rattle.vip_words.specs.declared.debug_commands.Running.{Running}
-use Rattle.vip_words.specs.declared.debug_commands.Running.TheVariants.{Step}
+use Rattle.vip_words.specs.declared.debug_commands.Running.TheVariants.{Step, Watch}
 use Rattle.vip_cpu.specs.declared.cpu.Phase.TheVariants.{Boundary}
 use Rattle.vip_outside.specs.Sink.{SinkMeaning}
 use Rattle.vip_outside.specs.Pieces.{PutsAll, FailsWithin}
 use Rattle.vip_outside.specs.declared.sink.Failed.{Failed}
+use Rattle.vip_program.specs.Lines.{labels_before}
 use Rattle.vip_program.specs.Trace.{sleeps, idle_address, lines, end_at}
 use Rattle.vip_program.specs.declared.trace.ProgramEnd.{ProgramEnd}
 use Rattle.vip_text.specs.Stops.{idle_line}
@@ -39,22 +41,28 @@ module _ (rom : List ℕ) (script : List Event) (limit : ℕ) where
   abbrev pub comes_to : Running → Machine → Machine
   comes_to running b = state_of (run_on b) (comes running b).moves
 
+  -- the labels at the instruction that changed what a command watches
+  abbrev pub changing : List (ℕ × List ℕ) → Running → Machine → List (List ℕ)
+  changing labels (Watch address count) b = labels_before labels (state_of (run_on b) ((comes (Watch address count) b).moves - 1))
+  changing labels running b = []
+
   -- what a command writes other than `step`
-  abbrev pub gone_lines : Running → Machine → List (List ℕ)
-  gone_lines running b =
-      ended_lines (comes_to running b) (comes running b).completed (completed_lines (run_on b) running (comes running b).moves)
+  abbrev pub gone_lines : List (ℕ × List ℕ) → Running → Machine → List (List ℕ)
+  gone_lines labels running b =
+      ended_lines (comes_to running b) (comes running b).completed
+      (changing labels running b ++ completed_lines (run_on b) running (comes running b).moves)
 
   -- `step` writes the lines of the moves that it makes
-  abbrev pub ran_lines : Running → Machine → List (List ℕ)
-  ran_lines (Step count) b =
-      lines rom (held_at script) b (comes (Step count) b).moves ++ ended_lines (comes_to (Step count) b) (comes (Step count) b).completed []
-  ran_lines running b = gone_lines running b
+  abbrev pub ran_lines : List (ℕ × List ℕ) → Running → Machine → List (List ℕ)
+  ran_lines labels (Step count) b =
+      lines rom (held_at script) labels b (comes (Step count) b).moves ++ ended_lines (comes_to (Step count) b) (comes (Step count) b).completed []
+  ran_lines labels running b = gone_lines labels running b
 
   -- what a command writes, and the machine after it; one that speaks of the language does nothing: no text for a program says it
-  abbrev pub program_pieces : Command → Machine → List (List ℕ)
-  program_pieces (Runs running) b = ran_lines running b
-  program_pieces (Shows showing) b = shown rom b showing
-  program_pieces _ b = []
+  abbrev pub program_pieces : List (ℕ × List ℕ) → Command → Machine → List (List ℕ)
+  program_pieces labels (Runs running) b = ran_lines labels running b
+  program_pieces labels (Shows showing) b = shown labels rom b showing
+  program_pieces labels _ b = []
 
   abbrev pub machine_after : Command → Machine → Machine
   machine_after (Runs running) b = comes_to running b
@@ -63,12 +71,12 @@ module _ (rom : List ℕ) (script : List Event) (limit : ℕ) where
 -- ---- all commands
 
 -- the machine after some commands, and what they write
-abbrev pub machine_with : Seen → ℕ → List Command → Machine
+abbrev pub machine_with : Seen → ℕ → List Spoken → Machine
 machine_with s limit commands = after_all (machine_after s.rom s.script limit) commands s.machine
 
-abbrev pub program_written : Seen → ℕ → List Command → List (List ℕ)
-program_written s limit commands =
-    all_pieces (machine_after s.rom s.script limit) (program_pieces s.rom s.script limit) commands s.machine
+abbrev pub program_written : List (ℕ × List ℕ) → Seen → ℕ → List Spoken → List (List ℕ)
+program_written labels s limit commands =
+    all_pieces (machine_after s.rom s.script limit) (program_pieces s.rom s.script limit labels) commands s.machine
 
 -- the board with another machine, within a limit
 pub record StandsAs (limit : ℕ) (old : Seen) (b : Machine) (new : Seen) : Type 0 where
@@ -79,14 +87,14 @@ pub record StandsAs (limit : ℕ) (old : Seen) (b : Machine) (new : Seen) : Type
   pub within : new.machine.cycle ≤ limit
 
 -- all pieces went out whole; the board is where the commands leave it, and the processor sleeps there or not
-pub record RunsProgram (limit : ℕ) (commands : List Command) (old new : Seen) (out out' : SinkMeaning) (end : ProgramEnd) : Type 0 where
-  pub puts : PutsAll (program_written old limit commands) out out'
+pub record RunsProgram (labels : List (ℕ × List ℕ)) (limit : ℕ) (commands : List Spoken) (old new : Seen) (out out' : SinkMeaning) (end : ProgramEnd) : Type 0 where
+  pub puts : PutsAll (program_written labels old limit commands) out out'
   pub stands : StandsAs limit old (machine_with old limit commands) new
   pub ending : end ≡ end_at (machine_with old limit commands)
 
-abbrev pub ProgramAnswers : ℕ → List Command → Seen → Seen → SinkMeaning → SinkMeaning → Result ProgramEnd Failed → Type 0
-ProgramAnswers limit commands old new out out' (Ok end) = RunsProgram limit commands old new out out' end
-ProgramAnswers limit commands old new out out' (Err e) = FailsWithin (program_written old limit commands) out out'
+abbrev pub ProgramAnswers : List (ℕ × List ℕ) → ℕ → List Spoken → Seen → Seen → SinkMeaning → SinkMeaning → Result ProgramEnd Failed → Type 0
+ProgramAnswers labels limit commands old new out out' (Ok end) = RunsProgram labels limit commands old new out out' end
+ProgramAnswers labels limit commands old new out out' (Err e) = FailsWithin (program_written labels old limit commands) out out'
 
 -- the pieces of one command went out whole, and the board is where it leaves it; or a put of them failed
 abbrev pub OneAnswers : ℕ → (Machine → List (List ℕ)) → (Machine → Machine) → Seen → Seen → SinkMeaning → SinkMeaning → Result (Unit {0}) Failed → Type 0

@@ -1,6 +1,7 @@
 //! What the commands write that speak of the machine, whatever runs on it.
 
 ghost use Rattle.std.specs.Prelude.{◌+◌, ◌≤◌, ◌∷◌, ◌++◌, length};
+ghost use Rattle.std.specs.Option.{option_to_list};
 ghost use Rattle.vip_byte.specs.Text.{newline};
 ghost use Rattle.vip_outside.specs.Sink.{PutAnswers};
 ghost use Rattle.vip_outside.specs.Pieces.{StreamAnswers};
@@ -11,10 +12,11 @@ ghost use Rattle.vip_debug.specs.BoardParts.{Fits, lines_by};
 use crate::bytes::{Layout, put_instructions, put_mem, put_rows};
 use crate::moves::Change;
 use crate::registers::{put_cycle, put_regs};
+use asm_core::Labels;
 use vip_board::Board;
 use vip_byte::{Buffer, put};
 use vip_outside::{Failed, Sink};
-use vip_words::{Running, Showing};
+use vip_words::{Running, Showing, SpokenCommand};
 
 /// Puts the line of the move that made a change, then the bytes before and after it, in lines of at most 16. The first stands at an address.
 fn put_change<O: Sink>(address: u16, change: &Change, out: &mut O) -> Result<(), Failed>
@@ -53,19 +55,34 @@ pub fn put_completed<O: Sink>(
     }
 }
 
-/// Puts what a command shows of a board.
-pub fn put_showing<O: Sink>(board: &Board, showing: Showing, out: &mut O) -> Result<(), Failed>
-    ensures { StreamAnswers (shown board.now.rom board.now.machine showing) (O.meaning out.old) (O.meaning out.new) result }
+/// Puts the line that echoes a command, if it has one.
+pub fn put_echo<O: Sink>(entry: &SpokenCommand, out: &mut O) -> Result<(), Failed>
+    ensures { StreamAnswers (option_to_list entry.now.echo) (O.meaning out.old) (O.meaning out.new) result }
+{
+    match entry.echo() {
+        Some(line) => out.put(line),
+        None => Ok(()),
+    }
+}
+
+/// Puts what a command shows of a board, and in a listing these labels.
+pub fn put_showing<O: Sink>(
+    board: &Board,
+    labels: &Labels,
+    showing: Showing,
+    out: &mut O,
+) -> Result<(), Failed>
+    ensures { StreamAnswers (shown labels.now board.now.rom board.now.machine showing) (O.meaning out.old) (O.meaning out.new) result }
 {
     let memory = board.memory();
     match showing {
         Showing::Regs => put_regs(board, out),
         Showing::Mem(address, count) => put_mem(memory, address, count, out),
         Showing::Dis(address, count) => {
-            put_instructions(memory, address, count, Layout::Source, out)
+            put_instructions(memory, labels, address, count, Layout::Source, out)
         }
         Showing::List(address, count) => {
-            put_instructions(memory, address, count, Layout::Listing, out)
+            put_instructions(memory, labels, address, count, Layout::Listing, out)
         }
     }
 }

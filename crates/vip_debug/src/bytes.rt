@@ -10,13 +10,15 @@ ghost use Rattle.vip_outside.specs.Pieces.{StreamAnswers};
 ghost use Rattle.std.specs.List.{flat_map};
 ghost use Rattle.asm_listing.specs.Listing.{first_digits};
 ghost use Rattle.vip_debug.specs.BoardParts.{PutsLine, reads};
-ghost use Rattle.vip_debug.specs.BoardShown.{front_text, instruction_lines, mem_lines, row, rows, stretch};
+ghost use Rattle.vip_debug.specs.BoardShown.{front_text, instruction_lines, labels_in, mem_lines, row, rows, stretch};
 
 use arrayvec::ArrayVec;
+use asm_core::Labels;
 use asm_listing::one_line;
 use vip_byte::{Buffer, add16, hex2, hex4, put};
 use vip_memory::Memory;
 use vip_outside::{Failed, Sink};
+use vip_program::put_labels_at;
 
 /// One more than the greatest address.
 const END: u32 = 0x10000;
@@ -129,14 +131,30 @@ fn put_before(into: &mut Buffer, layout: Layout, address: u16, bytes: &[u8])
     }
 }
 
-/// Puts the line of the instruction at an address, and answers how many bytes it shows.
+/// Puts the lines of the labels at an address, where a layout shows them.
+fn put_labels_in<O: Sink>(
+    labels: &Labels,
+    layout: Layout,
+    address: u16,
+    out: &mut O,
+) -> Result<(), Failed>
+    ensures { StreamAnswers (labels_in labels.now layout address) (O.meaning out.old) (O.meaning out.new) result }
+{
+    match layout {
+        Layout::Source => Ok(()),
+        Layout::Listing => put_labels_at(labels, address, out),
+    }
+}
+
+/// Puts the line of the instruction at an address, behind those of its labels, and answers how many bytes it shows.
 fn put_instruction<O: Sink>(
     memory: &Memory,
+    labels: &Labels,
     address: u16,
     layout: Layout,
     out: &mut O,
 ) -> Result<u8, Failed>
-    ensures { PutsLine layout (reads memory.now) address (O.meaning out.old) (O.meaning out.new) result }
+    ensures { PutsLine labels.now layout (reads memory.now) address (O.meaning out.old) (O.meaning out.new) result }
 {
     let three = [
         memory.read(address),
@@ -149,26 +167,28 @@ fn put_instruction<O: Sink>(
     let mut text = Buffer::new();
     put_before(&mut text, layout, address, &three[..usize::from(shown)]);
     put(&mut text, line.as_slice());
+    put_labels_in(labels, layout, address, out)?;
     out.put(text.as_slice())?;
     Ok(shown)
 }
 
-/// Puts the lines of so many instructions from an address on, or those up to FFFF.
+/// Puts the lines of so many instructions from an address on, or those up to FFFF, in a listing behind those of their labels.
 pub fn put_instructions<O: Sink>(
     memory: &Memory,
+    labels: &Labels,
     address: u16,
     count: u32,
     layout: Layout,
     out: &mut O,
 ) -> Result<(), Failed>
-    ensures { StreamAnswers (instruction_lines (reads memory.now) layout address count) (O.meaning out.old) (O.meaning out.new) result }
+    ensures { StreamAnswers (instruction_lines (reads memory.now) labels.now layout address count) (O.meaning out.old) (O.meaning out.new) result }
 {
     let mut at = u32::from(address);
     for _line in 0..count {
         if at >= END {
             return Ok(());
         }
-        at += u32::from(put_instruction(memory, at as u16, layout, out)?);
+        at += u32::from(put_instruction(memory, labels, at as u16, layout, out)?);
     }
     Ok(())
 }

@@ -11,7 +11,7 @@ use crate::target::Target;
 use crate::watched::Watched;
 use vip_board::{Board, Moved};
 use vip_byte::{Buffer, MOST_CYCLE};
-use vip_program::move_text;
+use vip_program::{move_text, next_place};
 use vip_words::Running;
 
 /// Makes at least one move, and at most so many, of which there is one. Answers how many; none comes exactly where the run has ended or the next
@@ -95,9 +95,11 @@ fn move_to_address<T: Target>(target: &mut T, address: u16, limit: u64) -> bool
     false
 }
 
-/// What a change of memory is shown by: the line of the move that made it, and the bytes that are watched, before and after.
+/// What a change of memory is shown by: the line of the move that made it, with the address of its instruction, if it is one, and the bytes that
+/// are watched, before and after.
 #[derive(Drop)]
 pub struct Change {
+    pub place: Option<u16>,
     pub line: Buffer,
     pub before: Stretch,
     pub after: Stretch,
@@ -107,6 +109,7 @@ impl Change {
     /// With nothing in it.
     pub fn new() -> Change {
         Change {
+            place: None,
             line: Buffer::new(),
             before: Stretch::new(),
             after: Stretch::new(),
@@ -139,6 +142,7 @@ fn move_to_change<T: Target>(
             }
             continue;
         }
+        change.place = next_place(target.board());
         change.line.clear();
         move_text(target.board(), &mut change.line);
         if let Moved::End = target.one_move(limit) {

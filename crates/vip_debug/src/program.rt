@@ -1,6 +1,6 @@
 //! The debugger's commands on a board that runs any program.
 
-ghost use Rattle.std.specs.Prelude.{◌≡◌, ◌≤◌, [], true};
+ghost use Rattle.std.specs.Prelude.{◌≡◌, ◌≤◌, ◌++◌, [], true};
 ghost use Rattle.vip_cpu.specs.declared.cpu.Phase.{Phase};
 ghost use Rattle.vip_outside.specs.Sink.{PutAnswers};
 ghost use Rattle.vip_outside.specs.Pieces.{StreamAnswers};
@@ -8,17 +8,18 @@ ghost use Rattle.vip_program.specs.Trace.{sleeps};
 ghost use Rattle.vip_text.specs.Stops.{idle_line};
 ghost use Rattle.vip_debug.specs.TargetRun.{run_from};
 ghost use Rattle.vip_debug.specs.Commands.{came};
-ghost use Rattle.vip_debug.specs.BoardParts.{Arrives, IsShown};
+ghost use Rattle.vip_debug.specs.BoardParts.{Arrives, Fits, IsShown, labels_by, lines_by};
 ghost use Rattle.vip_debug.specs.Programs.{OneAnswers, ProgramAnswers, comes_to, ended_lines, gone_lines, machine_after, program_pieces, ran_lines};
 ghost use Rattle.vip_debug.specs.ProgramLaws.{ProgramLeads, program-leads-on};
 
-use crate::answer::{put_completed, put_showing};
+use crate::answer::{put_completed, put_echo, put_showing};
 use crate::moves::{Change, go};
 use crate::target::Target;
+use asm_core::Labels;
 use vip_board::{Board, Moved, Stops};
 use vip_byte::{Buffer, MOST_CYCLE};
 use vip_outside::{Failed, Sink};
-use vip_program::{ProgramEnd, ending, trace_moves};
+use vip_program::{ProgramEnd, ending, put_labels, trace_moves};
 use vip_text::idle_text;
 use vip_words::{Command, Commands, Running};
 
@@ -90,19 +91,46 @@ fn put_end<O: Sink>(board: &Board, completed: bool, out: &mut O) -> Result<(), F
 }
 
 /// Makes so many moves and puts their lines.
-fn put_steps<O: Sink>(board: &mut Board, count: u32, limit: u64, out: &mut O) -> Result<(), Failed>
+fn put_steps<O: Sink>(
+    board: &mut Board,
+    labels: &Labels,
+    count: u32,
+    limit: u64,
+    out: &mut O,
+) -> Result<(), Failed>
     requires boundary { board.old.phase ≡ Phase.Boundary }
     requires limit { limit ≤ MOST_CYCLE }
     requires within { board.old.machine.cycle ≤ limit }
-    ensures { let s = board.old in OneAnswers limit (ran_lines s.rom s.script limit (Running.Step count)) (comes_to s.rom s.script limit (Running.Step count)) s board.new (O.meaning out.old) (O.meaning out.new) result }
+    ensures { let s = board.old in OneAnswers limit (ran_lines s.rom s.script limit labels.now (Running.Step count)) (comes_to s.rom s.script limit (Running.Step count)) s board.new (O.meaning out.old) (O.meaning out.new) result }
 {
-    let made = trace_moves(board, u64::from(count), limit, out)?;
+    let made = trace_moves(board, labels, u64::from(count), limit, out)?;
     put_end(board, made == u64::from(count), out)
+}
+
+/// Puts the lines of a command that ran a board and is completed, that of an instruction behind those of its labels.
+fn put_gone<O: Sink>(
+    board: &Board,
+    labels: &Labels,
+    running: Running,
+    change: &Change,
+    out: &mut O,
+) -> Result<(), Failed>
+    requires { Fits running change.now }
+    ensures { StreamAnswers (labels_by labels.now running change.now ++ lines_by running board.now change.now) (O.meaning out.old) (O.meaning out.new) result }
+{
+    match running {
+        Running::Watch(_, _) => {
+            put_labels(labels, change.place, out)?;
+            put_completed(board, running, change, out)
+        }
+        _ => put_completed(board, running, change, out),
+    }
 }
 
 /// Runs a board as a command says other than by steps, and puts what it writes.
 fn put_going<O: Sink>(
     board: &mut Board,
+    labels: &Labels,
     running: Running,
     limit: u64,
     out: &mut O,
@@ -110,13 +138,13 @@ fn put_going<O: Sink>(
     requires boundary { board.old.phase ≡ Phase.Boundary }
     requires limit { limit ≤ MOST_CYCLE }
     requires within { board.old.machine.cycle ≤ limit }
-    ensures { let s = board.old in OneAnswers limit (gone_lines s.rom s.script limit running) (comes_to s.rom s.script limit running) s board.new (O.meaning out.old) (O.meaning out.new) result }
+    ensures { let s = board.old in OneAnswers limit (gone_lines s.rom s.script limit labels.now running) (comes_to s.rom s.script limit running) s board.new (O.meaning out.old) (O.meaning out.new) result }
 {
     let mut change = Change::new();
     let completed = run_program(board, running, limit, &mut change);
     match ending(board) {
         ProgramEnd::Idle(address) => put_idle(address, out),
-        ProgramEnd::AtLimit if completed => put_completed(board, running, &change, out),
+        ProgramEnd::AtLimit if completed => put_gone(board, labels, running, &change, out),
         ProgramEnd::AtLimit => out.put(b"end\n"),
     }
 }
@@ -124,6 +152,7 @@ fn put_going<O: Sink>(
 /// Runs a board as a command says, and puts what it writes.
 fn put_running<O: Sink>(
     board: &mut Board,
+    labels: &Labels,
     running: Running,
     limit: u64,
     out: &mut O,
@@ -131,17 +160,18 @@ fn put_running<O: Sink>(
     requires boundary { board.old.phase ≡ Phase.Boundary }
     requires limit { limit ≤ MOST_CYCLE }
     requires within { board.old.machine.cycle ≤ limit }
-    ensures { let s = board.old in OneAnswers limit (ran_lines s.rom s.script limit running) (comes_to s.rom s.script limit running) s board.new (O.meaning out.old) (O.meaning out.new) result }
+    ensures { let s = board.old in OneAnswers limit (ran_lines s.rom s.script limit labels.now running) (comes_to s.rom s.script limit running) s board.new (O.meaning out.old) (O.meaning out.new) result }
 {
     match running {
-        Running::Step(count) => put_steps(board, count, limit, out),
-        _ => put_going(board, running, limit, out),
+        Running::Step(count) => put_steps(board, labels, count, limit, out),
+        _ => put_going(board, labels, running, limit, out),
     }
 }
 
 /// Runs one command. One that speaks of the language does nothing.
 fn run_command<O: Sink>(
     board: &mut Board,
+    labels: &Labels,
     command: Command,
     limit: u64,
     out: &mut O,
@@ -149,33 +179,36 @@ fn run_command<O: Sink>(
     requires boundary { board.old.phase ≡ Phase.Boundary }
     requires limit { limit ≤ MOST_CYCLE }
     requires within { board.old.machine.cycle ≤ limit }
-    ensures { let s = board.old in OneAnswers limit (program_pieces s.rom s.script limit command) (machine_after s.rom s.script limit command) s board.new (O.meaning out.old) (O.meaning out.new) result }
+    ensures { let s = board.old in OneAnswers limit (program_pieces s.rom s.script limit labels.now command) (machine_after s.rom s.script limit command) s board.new (O.meaning out.old) (O.meaning out.new) result }
 {
     match command {
-        Command::Runs(running) => put_running(board, running, limit, out),
-        Command::Shows(showing) => put_showing(board, showing, out),
+        Command::Runs(running) => put_running(board, labels, running, limit, out),
+        Command::Shows(showing) => put_showing(board, labels, showing, out),
         Command::Seeks(_) | Command::Tells(_) => Ok(()),
     }
 }
 
-/// Runs commands on a board that runs any program, and puts their answers, each line as one piece. Answers whether the processor sleeps where
-/// they leave the board, and behind which IDL. The board is at a boundary, before and after.
+/// Runs commands on a board that runs any program, and puts their answers, each line as one piece: before an answer the line that echoes its command,
+/// if it has one, and before the line of an instruction those of its labels. Answers whether the processor sleeps where they leave the board, and
+/// behind which IDL. The board is at a boundary, before and after.
 ///
 /// No move ends after the limit, and none is made from where the processor idles with the display off. A put that fails ends the run. No memory
 /// is taken.
 pub fn run_program_commands<O: Sink>(
     board: &mut Board,
     commands: &Commands,
+    labels: &Labels,
     limit: u64,
     out: &mut O,
 ) -> Result<ProgramEnd, Failed>
     requires boundary { board.old.phase ≡ Phase.Boundary }
     requires limit { limit ≤ MOST_CYCLE }
     requires within { board.old.machine.cycle ≤ limit }
-    ensures { ProgramAnswers limit commands.now board.old board.new (O.meaning out.old) (O.meaning out.new) result }
+    ensures { ProgramAnswers labels.now limit commands.now board.old board.new (O.meaning out.old) (O.meaning out.new) result }
 {
-    for command in commands.as_slice() {
-        run_command(board, *command, limit, out)?;
+    for entry in commands.as_slice() {
+        put_echo(entry, out)?;
+        run_command(board, labels, entry.command(), limit, out)?;
     }
     Ok(ending(board))
 }

@@ -9,12 +9,13 @@ ghost use Rattle.vip_text.specs.Traces.{plain, trace_line};
 ghost use Rattle.vip_debug.specs.Answers.{DebugAnswers, begun, pieces, place_of, place_with, ran, running_lines, seeking_lines, sought, stop_text, told};
 ghost use Rattle.vip_debug.specs.Parts.{Makes, TellsPresent};
 
-use crate::answer::{put_completed, put_showing};
+use crate::answer::{put_completed, put_echo, put_showing};
 use crate::code::put_code;
 use crate::game::run_game;
 use crate::going::seek;
 use crate::moves::Change;
 use crate::show::{put_screen, put_state};
+use asm_core::Labels;
 use chip8_lang::StopRecord;
 use vip_byte::{Buffer, MOST_CYCLE};
 use vip_outside::{Failed, Sink};
@@ -101,20 +102,32 @@ fn put_seeking<O: Sink>(
 }
 
 /// Puts what was met of the language, or its opcodes.
-fn put_telling<O: Sink>(vip: &Vip, telling: Telling, out: &mut O) -> Result<(), Failed>
+fn put_telling<O: Sink>(
+    vip: &Vip,
+    labels: &Labels,
+    telling: Telling,
+    out: &mut O,
+) -> Result<(), Failed>
     requires { Follows vip.now }
-    ensures { StreamAnswers (told (begun vip.now) telling (place_of vip.now)) (O.meaning out.old) (O.meaning out.new) result }
+    ensures { StreamAnswers (told labels.now (begun vip.now) telling (place_of vip.now)) (O.meaning out.old) (O.meaning out.new) result }
 {
     match telling {
         Telling::State => put_state(vip, out),
         Telling::Screen => put_screen(vip, out),
-        Telling::Code(address, count) => put_code(vip.board().memory(), address, count, out),
+        Telling::Code(address, count) => put_code(
+            vip.board().memory(),
+            labels,
+            address,
+            count,
+            out,
+        ),
     }
 }
 
 /// Runs one command.
 fn run_command<O: Sink>(
     vip: &mut Vip,
+    labels: &Labels,
     command: Command,
     limit: u64,
     out: &mut O,
@@ -124,17 +137,18 @@ fn run_command<O: Sink>(
     requires within { vip.old.board.machine.cycle ≤ limit }
     ensures follows { Follows vip.new }
     ensures makes { Makes limit vip.old vip.new (place_with (begun vip.old) limit command (place_of vip.old)) }
-    ensures pieces { StreamAnswers (pieces (begun vip.old) limit command (place_of vip.old)) (O.meaning out.old) (O.meaning out.new) result }
+    ensures pieces { StreamAnswers (pieces labels.now (begun vip.old) limit command (place_of vip.old)) (O.meaning out.old) (O.meaning out.new) result }
 {
     match command {
         Command::Runs(running) => put_running(vip, running, limit, out),
-        Command::Shows(showing) => put_showing(vip.board(), showing, out),
+        Command::Shows(showing) => put_showing(vip.board(), labels, showing, out),
         Command::Seeks(seeking) => put_seeking(vip, seeking, limit, out),
-        Command::Tells(telling) => put_telling(vip, telling, out),
+        Command::Tells(telling) => put_telling(vip, labels, telling, out),
     }
 }
 
-/// Runs commands of a machine that runs a game, and puts their answers, each line as one piece, and a screen as one.
+/// Runs commands of a machine that runs a game, and puts their answers, each line as one piece, and a screen as one. Before the answer of a command
+/// comes the line that echoes it, if it has one, and before an instruction or opcode of a listing the lines of its labels.
 ///
 /// No move ends after the limit, nor after the present cycle where that is later. Before the first command nothing is met but a file's own
 /// dispatch point. A command that
@@ -142,20 +156,25 @@ fn run_command<O: Sink>(
 /// present state, and meet every event up to where they come. A command that can't be completed because of the limit leaves the board after
 /// the last move up to it and writes `end`. One that comes to a stop point, or begins at one, stays there and writes the stop.
 ///
-/// A put that fails ends the run: the board is where the command of that line leaves it. No memory is taken.
+/// A put that fails ends the run: the board is where the command of that answer leaves it, and of an echo where the command before it does. No
+/// memory is taken.
 pub fn run_commands<O: Sink>(
     vip: &mut Vip,
     commands: &Commands,
+    labels: &Labels,
     limit: u64,
     out: &mut O,
 ) -> DebugEnd
     requires { limit ≤ MOST_CYCLE }
     ensures follows { Follows vip.new }
-    ensures answer { DebugAnswers (begun vip.old) (max limit vip.old.board.machine.cycle) commands.now (place_of vip.old) vip.new (O.meaning out.old) (O.meaning out.new) result }
+    ensures answer { DebugAnswers labels.now (begun vip.old) (max limit vip.old.board.machine.cycle) commands.now (place_of vip.old) vip.new (O.meaning out.old) (O.meaning out.new) result }
 {
     let limit = limit.max(vip.board().now());
-    for command in commands.as_slice() {
-        if let Err(_) = run_command(vip, *command, limit, out) {
+    for entry in commands.as_slice() {
+        if let Err(_) = put_echo(entry, out) {
+            return DebugEnd::WriteFault;
+        }
+        if let Err(_) = run_command(vip, labels, entry.command(), limit, out) {
             return DebugEnd::WriteFault;
         }
     }

@@ -9,3 +9,4 @@ pub mod Tracing
 pub mod Shows
 pub mod Frames
 pub mod Picturing
+mod Labelled

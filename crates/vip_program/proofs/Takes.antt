@@ -1,12 +1,13 @@
 -- One line of a run, and what is left behind it.
-use Rattle.std.proofs.Common.{◌≡◌, ℕ, zero, suc, ◌+◌, ◌-◌, ◌<◌, ◌≤◌, List, ◌∷◌, Bool, true, false, map, refl, sym, ap, ◌∙◌, subst, arith}
+use Rattle.std.proofs.Common.{◌≡◌, ℕ, zero, suc, ◌+◌, ◌-◌, ◌<◌, ◌≤◌, List, [], ◌∷◌, ◌++◌, Bool, true, false, refl, append_assoc, sym, ap, ◌∙◌, subst, arith}
+use Rattle.std.specs.List.{flat_map}
 use Rattle.machine.specs.Board.{Machine}
 use Rattle.machine.specs.Keys.{Keys, held_at}
 use Rattle.machine.specs.Run.{states, after_moves}
 use Rattle.vip_board.specs.Seen.{Seen, held_by}
-use Rattle.vip_program.specs.Lines.{line_of}
+use Rattle.vip_program.specs.Lines.{line_of, labels_before}
 use Rattle.vip_program.specs.Moves.{goes_on, machine_after, MakesStretch, TakesLine}
-use Rattle.vip_program.specs.Trace.{share, stretches, moves_to, lines, lines_of, moves_ahead}
+use Rattle.vip_program.specs.Trace.{share, stretches, moves_to, labelled, lines, lines_of, moves_ahead}
 use Rattle.vip_program.proofs.Runs.{rom-by, script-by, machine-by, moves-many, moves-rest}
 use Rattle.vip_program.proofs.Stretches.{Apart, states-append, stretch}
 
@@ -21,13 +22,17 @@ module _ (rom : List ℕ) (held : ℕ → Keys) (limit : ℕ) where
   first_line : (n left : ℕ) (b : Machine)
       → ((k : ℕ) → k < n → share (after_moves rom held b k) (after_moves rom held b (suc k)) ≡ true)
       → (0 < left → share (after_moves rom held b n) (after_moves rom held b (suc n)) ≡ false)
-      → lines rom held b (suc n + left) ≡ line_of rom held (states rom held b (suc n)) ∷ lines rom held (after_moves rom held b (suc n)) left
+      → (labels : List (ℕ × List ℕ))
+      → lines rom held labels b (suc n + left)
+      ≡ labels_before labels b ++ line_of rom held (states rom held b (suc n)) ∷ lines rom held labels (after_moves rom held b (suc n)) left
   unfolding lines
-  first_line n left b shared ends =
-      ap (λ moves. map (line_of rom held) (stretches moves)) (states-append rom held (suc n) left b)
-      ∙ ap (map (line_of rom held))
+  first_line n left b shared ends labels =
+      ap (λ moves. flat_map (labelled rom held labels) (stretches moves)) (states-append rom held (suc n) left b)
+      ∙ ap (flat_map (labelled rom held labels))
       (stretch rom held n b (states rom held (after_moves rom held b (suc n)) left) shared
       (apart-left (after_moves rom held b n) (after_moves rom held b (suc n)) left ends))
+      ∙ append_assoc (labels_before labels b) (line_of rom held (states rom held b (suc n)) ∷ [])
+      (lines rom held labels (after_moves rom held b (suc n)) left)
 
   -- where some moves are left, the next is made
   some_left : (c : Machine) → c.cycle ≤ limit → 0 < moves_to rom held c limit → goes_on limit rom c ≡ true
@@ -70,27 +75,33 @@ module _ (count limit : ℕ) (old new : Seen) (made : ℕ) (m : MakesStretch cou
     moved = m.makes.moved;
     within = m.makes.within;
     ahead = ahead_is;
-    first = ap (lines_of old) ahead_is ∙ first;
+    first = λ labels. ap (lines_of labels old) ahead_is ∙ first labels;
   }
     where
       ends_here : 0 < rest → share (machine_after old (made - 1)) (machine_after old made) ≡ false
       ends_here some = subst (λ c. share (machine_after old (made - 1)) c ≡ false) machine_is
           (m.ends (omega (arith, some)) (some_left new.rom (held_by new) limit new.machine m.makes.within (omega (arith, some))))
 
-      behind : lines_of new rest ≡ lines old.rom (held_by old) (machine_after old made) rest
-      behind =
-          ap (λ rom. lines rom (held_by new) new.machine rest) rom_is ∙ ap (λ held. lines old.rom held new.machine rest) held_is
-          ∙ ap (λ c. lines old.rom (held_by old) c rest) machine_is
+      behind : (labels : List (ℕ × List ℕ)) → lines_of labels new rest ≡ lines old.rom (held_by old) labels (machine_after old made) rest
+      behind labels =
+          ap (λ rom. lines rom (held_by new) labels new.machine rest) rom_is ∙ ap (λ held. lines old.rom held labels new.machine rest) held_is
+          ∙ ap (λ c. lines old.rom (held_by old) labels c rest) machine_is
 
-      by_number : (n : ℕ) → made ≡ suc n → lines_of old (made + rest) ≡ line ∷ lines old.rom (held_by old) (machine_after old made) rest
-      by_number n e =
+      by_number : (labels : List (ℕ × List ℕ)) (n : ℕ) → made ≡ suc n
+          → lines_of labels old (made + rest)
+          ≡ labels_before labels old.machine ++ line ∷ lines old.rom (held_by old) labels (machine_after old made) rest
+      by_number labels n e =
           let before : made - 1 ≡ n = omega (arith, e) in
-          subst (λ k. lines_of old (k + rest) ≡ line ∷ lines old.rom (held_by old) (machine_after old k) rest) (sym e)
+          subst (λ k. lines_of labels old (k + rest)
+          ≡ labels_before labels old.machine ++ line ∷ lines old.rom (held_by old) labels (machine_after old k) rest) (sym e)
           (first_line old.rom (held_by old) limit n rest old.machine (λ k l. m.shared k (omega (arith, e, l)))
           (λ some. subst (λ k. share (machine_after old k) (machine_after old (suc n)) ≡ false) before
-          (subst (λ k. share (machine_after old (made - 1)) (machine_after old k) ≡ false) e (ends_here some)))
-          ∙ ap (λ l. l ∷ lines old.rom (held_by old) (machine_after old (suc n)) rest)
+          (subst (λ k. share (machine_after old (made - 1)) (machine_after old k) ≡ false) e (ends_here some))) labels
+          ∙ ap (λ l. labels_before labels old.machine ++ l ∷ lines old.rom (held_by old) labels (machine_after old (suc n)) rest)
           (sym (is ∙ ap (λ k. line_of old.rom (held_by old) (states old.rom (held_by old) old.machine k)) e)))
 
-      first : lines_of old (made + rest) ≡ line ∷ lines_of new rest
-      first = by_number (made - 1) (let some = m.some in omega (arith, some)) ∙ ap (λ tail. line ∷ tail) (sym behind)
+      first : (labels : List (ℕ × List ℕ))
+          → lines_of labels old (made + rest) ≡ labels_before labels old.machine ++ line ∷ lines_of labels new rest
+      first labels =
+          by_number labels (made - 1) (let some = m.some in omega (arith, some))
+          ∙ ap (λ tail. labels_before labels old.machine ++ line ∷ tail) (sym (behind labels))

@@ -9,16 +9,17 @@ use Rattle.vip_cpu.specs.declared.cpu.Phase.TheVariants.{Boundary}
 use Rattle.vip_outside.specs.Sink.{SinkMeaning, PutsWhole, PutFails}
 use Rattle.vip_outside.specs.Pieces.{PutsAll, FailsWithin}
 use Rattle.vip_outside.specs.declared.sink.Failed.{Failed}
-use Rattle.vip_outside.proofs.PiecesLemmas.{PutsAll-snoc, FailsWithin-snoc}
+use Rattle.vip_outside.proofs.PiecesLemmas.{PutsAll-append, PutsAll-snoc, FailsWithin-append, FailsWithin-more, FailsWithin-snoc}
+use Rattle.vip_program.specs.Lines.{labels_before}
 use Rattle.vip_program.specs.Moves.{goes_on, TakesLine}
 use Rattle.vip_program.specs.Trace.{Traces, TraceFails, TraceAnswers, lines, lines_of, moves_ahead, stretches}
 use Rattle.vip_program.proofs.Runs.{moved-more, moves-rest}
 
-lines-none : (rom : List ℕ) (held : ℕ → Keys) (b : Machine) → lines rom held b 0 ≡ []
+lines-none : (rom : List ℕ) (held : ℕ → Keys) (labels : List (ℕ × List ℕ)) (b : Machine) → lines rom held labels b 0 ≡ []
 unfolding lines stretches
-lines-none rom held b = refl
+lines-none rom held labels b = refl
 
-pub record Tracing (count limit : ℕ) (start v : Seen) (out out' : SinkMeaning) (made : ℕ) : Type 0 where
+pub record Tracing (labels : List (ℕ × List ℕ)) (count limit : ℕ) (start v : Seen) (out out' : SinkMeaning) (made : ℕ) : Type 0 where
   pub few : made ≤ count
   pub boundary : v.phase ≡ Boundary
   pub within : v.machine.cycle ≤ limit
@@ -26,16 +27,25 @@ pub record Tracing (count limit : ℕ) (start v : Seen) (out out' : SinkMeaning)
   pub ahead : moves_ahead start limit count ≡ made + moves_ahead v limit (count - made)
   pub written : List (List ℕ)
   pub puts : PutsAll written out out'
-  pub all : lines_of start (moves_ahead start limit count) ≡ written ++ lines_of v (moves_ahead v limit (count - made))
+  pub all : lines_of labels start (moves_ahead start limit count) ≡ written ++ lines_of labels v (moves_ahead v limit (count - made))
 
-module _ (count limit : ℕ) (start : Seen) (out : SinkMeaning) where
-  module _ (v v' : Seen) (out' out'' : SinkMeaning) (made more : ℕ) (t : Tracing count limit start v out out' made) (line : List ℕ)
+module _ (labels : List (ℕ × List ℕ)) (count limit : ℕ) (start : Seen) (out : SinkMeaning) where
+  module _ (v v' : Seen) (out' : SinkMeaning) (made more : ℕ) (t : Tracing labels count limit start v out out' made) (line : List ℕ)
       (l : TakesLine (count - made) limit v v' line more) where
     left_is : count - made - more ≡ count - (made + more)
     left_is = omega arith
 
-    split : lines_of start (moves_ahead start limit count) ≡ t.written ++ line ∷ lines_of v' (moves_ahead v' limit (count - (made + more)))
-    split = t.all ∙ ap (λ tail. t.written ++ tail) (l.first ∙ ap (λ n. line ∷ lines_of v' (moves_ahead v' limit n)) left_is)
+    abbrev before : List (List ℕ)
+    before = labels_before labels v.machine
+
+    abbrev behind : List (List ℕ)
+    behind = lines_of labels v' (moves_ahead v' limit (count - (made + more)))
+
+    split : lines_of labels start (moves_ahead start limit count) ≡ t.written ++ (before ++ line ∷ behind)
+    split = t.all ∙ ap (λ tail. t.written ++ tail) (l.first labels ∙ ap (λ n. before ++ line ∷ lines_of labels v' (moves_ahead v' limit n)) left_is)
+
+    split-behind : lines_of labels start (moves_ahead start limit count) ≡ (t.written ++ before) ++ line ∷ behind
+    split-behind = split ∙ sym (append_assoc t.written before (line ∷ behind))
 
     ahead : moves_ahead start limit count ≡ made + more + moves_ahead v' limit (count - (made + more))
     ahead =
@@ -47,48 +57,59 @@ module _ (count limit : ℕ) (start : Seen) (out : SinkMeaning) where
     moved : v' ≡ moved_by (made + more) start
     moved = l.moved ∙ ap (moved_by more) t.moved ∙ moved-more start made more
 
-    -- the line of the next moves goes out
-    pub tracing-next : v'.phase ≡ Boundary → PutsWhole line out' out'' → Tracing count limit start v' out out'' (made + more)
-    tracing-next boundary put = record {
+    -- the labels before the line of the next moves go out, and then the line
+    pub tracing-next : (middle out'' : SinkMeaning) → v'.phase ≡ Boundary → PutsAll before out' middle → PutsWhole line middle out''
+        → Tracing labels count limit start v' out out'' (made + more)
+    tracing-next middle out'' boundary first put = record {
       few = few_more;
       boundary = boundary;
       within = l.within;
       moved = moved;
       ahead = ahead;
-      written = t.written ++ line ∷ [];
-      puts = PutsAll-snoc t.written line out out' out'' t.puts put;
-      all = split ∙ sym (append_assoc t.written (line ∷ []) (lines_of v' (moves_ahead v' limit (count - (made + more)))));
+      written = (t.written ++ before) ++ line ∷ [];
+      puts = PutsAll-snoc (t.written ++ before) line out middle out'' (PutsAll-append t.written before out out' middle t.puts first) put;
+      all = split-behind ∙ sym (append_assoc (t.written ++ before) (line ∷ []) behind);
     }
       where
         few_more : made + more ≤ count
         few_more = let e = ahead in omega (arith, e)
 
-    -- or it fails
-    tracing-fails : PutFails line out' out'' → TraceFails count limit start v' out out''
-    tracing-fails fault = record {
-      fails =
-          subst (λ pieces. FailsWithin pieces out out'') (sym split)
-          (FailsWithin-snoc t.written line (lines_of v' (moves_ahead v' limit (count - (made + more)))) out out' out'' t.puts fault);
-      made = made + more;
-      few = let e = ahead in omega (arith, e);
-      moved = moved;
-    }
+    -- or one of them fails
+    fails-by : (out'' : SinkMeaning) → FailsWithin (lines_of labels start (moves_ahead start limit count)) out out''
+        → TraceFails labels count limit start v' out out''
+    fails-by out'' fault = record { fails = fault; made = made + more; few = let e = ahead in omega (arith, e); moved = moved }
 
-    pub fails-at : (answer : Result ℕ Failed) → IsErr answer → PutFails line out' out'' → TraceAnswers count limit start v' out out'' answer
-    fails-at (Ok done) bad fault = cc
-    fails-at (Err e) bad fault = tracing-fails fault
+    label-fails : (out'' : SinkMeaning) → FailsWithin before out' out'' → TraceFails labels count limit start v' out out''
+    label-fails out'' fault = fails-by out''
+        (subst (λ pieces. FailsWithin pieces out out'') (sym split)
+        (FailsWithin-append t.written (before ++ line ∷ behind) out out' out'' t.puts (FailsWithin-more before (line ∷ behind) out' out'' fault)))
 
-  module _ (v : Seen) (out' : SinkMeaning) (made : ℕ) (t : Tracing count limit start v out out' made) where
+    line-fails : (middle out'' : SinkMeaning) → PutsAll before out' middle → PutFails line middle out'' → TraceFails labels count limit start v' out out''
+    line-fails middle out'' first fault = fails-by out''
+        (subst (λ pieces. FailsWithin pieces out out'') (sym split-behind)
+        (FailsWithin-snoc (t.written ++ before) line behind out middle out'' (PutsAll-append t.written before out out' middle t.puts first) fault))
+
+    pub fails-at-label : (out'' : SinkMeaning) (answer : Result ℕ Failed) → IsErr answer → FailsWithin before out' out''
+        → TraceAnswers labels count limit start v' out out'' answer
+    fails-at-label out'' (Ok done) bad fault = cc
+    fails-at-label out'' (Err e) bad fault = label-fails out'' fault
+
+    pub fails-at : (middle out'' : SinkMeaning) (answer : Result ℕ Failed) → IsErr answer → PutsAll before out' middle → PutFails line middle out''
+        → TraceAnswers labels count limit start v' out out'' answer
+    fails-at middle out'' (Ok done) bad first fault = cc
+    fails-at middle out'' (Err e) bad first fault = line-fails middle out'' first fault
+
+  module _ (v : Seen) (out' : SinkMeaning) (made : ℕ) (t : Tracing labels count limit start v out out' made) where
     -- no move is left
-    pub traces : moves_ahead v limit (count - made) ≡ 0 → Traces count limit start v out out' made
+    pub traces : moves_ahead v limit (count - made) ≡ 0 → Traces labels count limit start v out out' made
     traces none = record {
       puts = subst (λ pieces. PutsAll pieces out out') (sym all) t.puts;
       all = let e = t.ahead in omega (arith, e, none);
       moved = t.moved;
     }
       where
-        all : lines_of start (moves_ahead start limit count) ≡ t.written
-        all = t.all ∙ ap (λ tail. t.written ++ tail) (ap (lines_of v) none ∙ lines-none v.rom (held_by v) v.machine) ∙ append-nil t.written
+        all : lines_of labels start (moves_ahead start limit count) ≡ t.written
+        all = t.all ∙ ap (λ tail. t.written ++ tail) (ap (lines_of labels v) none ∙ lines-none v.rom (held_by v) labels v.machine) ∙ append-nil t.written
 
     pub none-asked : count ≤ made → moves_ahead v limit (count - made) ≡ 0
     none-asked enough = omega (arith, enough)

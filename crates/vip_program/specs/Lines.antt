@@ -1,5 +1,5 @@
 -- The lines of a trace: what each tells of the machine before its moves. Digits are upper case, and the cycle is decimal.
-use Rattle.std.specs.Prelude.{ℕ, Bool, ◌+◌, ◌*◌, ◌%◌, List, [], ◌∷◌, ◌++◌, length, map, flat_map, take, slice_index, codes, decimal, Option, Some, None}
+use Rattle.std.specs.Prelude.{ℕ, Bool, false, ◌==◌, filter, ◌+◌, ◌*◌, ◌%◌, List, [], ◌∷◌, ◌++◌, length, map, flat_map, take, slice_index, codes, decimal, Option, Some, None}
 use Rattle.machine.specs.Board.{Machine, Case, case_of, byte_of, dma_byte, flags_of}
 use Rattle.machine.specs.Board.Case.{Dma, Interrupt, Idle, Instruction}
 use Rattle.machine.specs.Instruction.{Regs, Effect, Port, at, instruction}
@@ -114,3 +114,14 @@ module _ (rom : List ℕ) (held : ℕ → Keys) where
   abbrev pub line_of : List Machine → List ℕ
   line_of [] = []
   line_of (b ∷ bs) = line_from b (b ∷ bs)
+
+-- ---- labels
+
+-- a line stands at an address: its move is the instruction there
+abbrev pub stands_in : Case → ℕ → Machine → Bool
+stands_in Instruction address b = address == at b.regs b.regs.p
+stands_in _ address b = false
+
+-- the lines that show the labels before the line of a move
+abbrev pub labels_before : List (ℕ × List ℕ) → Machine → List (List ℕ)
+labels_before labels b = map (λ label. label.1) (filter (λ label. stands_in (case_of b) label.0 b) labels)

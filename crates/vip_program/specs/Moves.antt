@@ -1,11 +1,12 @@
 -- What the calls make of a board, move by move.
-use Rattle.std.specs.Prelude.{◌≡◌, ◌<◌, ◌≤◌, ℕ, suc, ◌+◌, ◌-◌, ◌/◌, ◌==◌, ◌&&◌, not, nat_le, Bool, true, false, List, ◌∷◌}
+use Rattle.std.specs.Prelude.{◌≡◌, ◌<◌, ◌≤◌, ℕ, suc, ◌+◌, ◌-◌, ◌/◌, ◌==◌, ◌&&◌, not, nat_le, Bool, true, false, List, ◌∷◌, ◌++◌}
 use Rattle.machine.specs.Board.{Machine, Case, length_of}
 use Rattle.machine.specs.Board.Case.{Dma, Idle}
 use Rattle.machine.specs.Run.{after_moves}
 use Rattle.machine.specs.Signals.{line_cycles}
 use Rattle.vip_board.specs.Moves.{moved_by}
 use Rattle.vip_board.specs.Seen.{Seen, held_by}
+use Rattle.vip_program.specs.Lines.{labels_before}
 use Rattle.vip_program.specs.Trace.{lines_of, moves_ahead, share, sleeps}
 
 -- the next move is made: it ends at or before the limit, and the machine doesn't sleep
@@ -46,10 +47,12 @@ pub record MakesStretch (count limit : ℕ) (old new : Seen) (made : ℕ) : Type
   pub shared : (k : ℕ) → suc k < made → share (machine_after old k) (machine_after old (suc k)) ≡ true
   pub ends : made < count → goes_on limit new.rom new.machine ≡ true → share (machine_after old (made - 1)) new.machine ≡ false
 
--- the line of the next moves, of which there are some, was written
+-- the line of the next moves, of which there are some, was written; before it stand the lines of its labels
 pub record TakesLine (count limit : ℕ) (old new : Seen) (line : List ℕ) (made : ℕ) : Type 0 where
   pub some : 0 < made
   pub moved : new ≡ moved_by made old
   pub within : new.machine.cycle ≤ limit
   pub ahead : moves_ahead old limit count ≡ made + moves_ahead new limit (count - made)
-  pub first : lines_of old (moves_ahead old limit count) ≡ line ∷ lines_of new (moves_ahead new limit (count - made))
+  pub first :
+      (labels : List (ℕ × List ℕ))
+      → lines_of labels old (moves_ahead old limit count) ≡ labels_before labels old.machine ++ line ∷ lines_of labels new (moves_ahead new limit (count - made))

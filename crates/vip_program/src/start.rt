@@ -2,7 +2,7 @@
 
 ghost use Rattle.std.specs.Prelude.{◌≡◌, ◌≤◌, ◌++◌, [], drop, length, IfOk};
 ghost use Rattle.vip_board.specs.Shown.{HasPictures};
-ghost use Rattle.vip_program.specs.Program.{most_bytes, padded, started};
+ghost use Rattle.vip_program.specs.Program.{padded, ram_size, rom_size, started};
 
 use std::alloc::{AllocError, Global};
 use vip_board::Board;
@@ -11,12 +11,12 @@ use vip_keypad::Script;
 /// The bytes of the ROM.
 const ROM_SIZE: usize = 0x800;
 
-/// Where a program lies.
+/// The memory in which a program starts.
 #[derive(Clone, Copy)]
 pub enum Memory {
-    /// In ROM, from address 8000 on.
+    /// In ROM, at address 8000.
     Rom,
-    /// In RAM, from address 0000 on.
+    /// In RAM, at address 0000.
     Ram,
 }
 
@@ -30,33 +30,34 @@ fn put_first(into: &mut [u8], bytes: &[u8])
 
 /// The bytes of a ROM that begins with these, and is 00 behind them.
 fn rom_of(bytes: &[u8]) -> [u8; ROM_SIZE]
-    requires { length bytes.now ≤ 0x800 }
-    ensures { result ≡ padded 0x800 bytes.now }
+    requires { length bytes.now ≤ rom_size }
+    ensures { result ≡ padded rom_size bytes.now }
 {
     let mut rom = [0; ROM_SIZE];
     put_first(&mut rom, bytes);
     rom
 }
 
-/// A board that begins to run a program under a key script, with no move made: at most 2,048 bytes in ROM, where the board is as after reset;
-/// or at most 4,096 in RAM, where every byte of the ROM is 00 and the boot latch is clear, so that the program starts at 0000.
+/// A board that begins to run a program under a key script, with no move made: at most 2,048 bytes from 8000 on in the ROM, at most 4,096 from 0000 on in the
+/// RAM, and 00 behind each. A program that starts in ROM finds the board as after reset; for one that starts in RAM the boot latch is clear, so that it starts
+/// at 0000.
 pub fn start_program(
     alloc: Global,
     memory: Memory,
-    program: &[u8],
+    rom: &[u8],
+    ram: &[u8],
     script: &Script,
 ) -> Result<Board, AllocError>
-    requires { length program.now ≤ most_bytes memory }
-    ensures board { IfOk result (λ b. b ≡ started memory program.now script.now) }
+    requires rom { length rom.now ≤ rom_size }
+    requires ram { length ram.now ≤ ram_size }
+    ensures board { IfOk result (λ b. b ≡ started memory rom.now ram.now script.now) }
     ensures pictures { IfOk result (λ b. HasPictures b.rom [] b.machine.cycle b.pictures) }
 {
+    let mut board = Board::reset(alloc, &rom_of(rom), script)?;
+    board.load(0, ram);
     match memory {
-        Memory::Rom => Board::reset(alloc, &rom_of(program), script),
-        Memory::Ram => {
-            let mut board = Board::reset(alloc, &rom_of(&[]), script)?;
-            board.load(0, program);
-            board.clear_latch();
-            Ok(board)
-        }
+        Memory::Rom => {}
+        Memory::Ram => board.clear_latch(),
     }
+    Ok(board)
 }

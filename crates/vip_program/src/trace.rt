@@ -4,7 +4,9 @@ ghost use Rattle.std.specs.Prelude.{◌≡◌, ◌≤◌};
 ghost use Rattle.vip_cpu.specs.declared.cpu.Phase.TheVariants.{Boundary};
 ghost use Rattle.vip_program.specs.Trace.{ShowAnswers, TraceAnswers, end_at, program_trace};
 
+use crate::labels::{next_place, put_labels};
 use crate::moves::{goes_on, next_line};
+use asm_core::Labels;
 use vip_board::Board;
 use vip_byte::{Buffer, MOST_CYCLE, add16};
 use vip_outside::{Failed, Sink};
@@ -31,11 +33,13 @@ pub fn ending(board: &Board) -> ProgramEnd
 }
 
 /// Makes at most `count` moves, those that end at or before the limit, and none from where the processor idles with the display off. Puts
-/// their lines, each as one piece, and answers how many moves were made. The board is at a boundary, before and after.
+/// their lines, each as one piece, that of an instruction behind those of the labels at its address, and answers how many moves were made. The
+/// board is at a boundary, before and after.
 ///
 /// A put that fails ends it: the board has made the moves of that line, and no others.
 pub fn trace_moves<O: Sink>(
     board: &mut Board,
+    labels: &Labels,
     count: u64,
     limit: u64,
     out: &mut O,
@@ -43,27 +47,34 @@ pub fn trace_moves<O: Sink>(
     requires boundary { board.old.phase ≡ Boundary }
     requires limit { limit ≤ MOST_CYCLE }
     requires within { board.old.machine.cycle ≤ limit }
-    ensures { TraceAnswers count limit board.old board.new (O.meaning out.old) (O.meaning out.new) result }
+    ensures { TraceAnswers labels.now count limit board.old board.new (O.meaning out.old) (O.meaning out.new) result }
 {
     let mut made = 0;
     // one for all lines, since a new one is filled with 00 each time
     let mut line = Buffer::new();
     while made < count && goes_on(board, limit) {
+        let place = next_place(board);
         line.clear();
         made += next_line(board, count - made, limit, &mut line);
+        put_labels(labels, place, out)?;
         out.put(line.as_slice())?;
     }
     Ok(made)
 }
 
-/// Runs a program up to the limit, or up to where the processor idles with the display off, and puts the lines of its moves, each as one
-/// piece. A put that fails ends it. No memory is taken.
-pub fn show_trace<O: Sink>(board: &mut Board, limit: u64, out: &mut O) -> Result<ProgramEnd, Failed>
+/// Runs a program up to the limit, or up to where the processor idles with the display off, and puts the lines of its moves and of the
+/// labels at them, each as one piece. A put that fails ends it. No memory is taken.
+pub fn show_trace<O: Sink>(
+    board: &mut Board,
+    labels: &Labels,
+    limit: u64,
+    out: &mut O,
+) -> Result<ProgramEnd, Failed>
     requires boundary { board.old.phase ≡ Boundary }
     requires limit { limit ≤ MOST_CYCLE }
     requires within { board.old.machine.cycle ≤ limit }
-    ensures { ShowAnswers (program_trace board.old limit) limit board.old (O.meaning out.old) (O.meaning out.new) result }
+    ensures { ShowAnswers (program_trace labels.now board.old limit) limit board.old (O.meaning out.old) (O.meaning out.new) result }
 {
-    trace_moves(board, limit, limit, out)?;
+    trace_moves(board, labels, limit, limit, out)?;
     Ok(ending(board))
 }

@@ -9,7 +9,7 @@ use Rattle.vip_outside.specs.Files.Answer.{Whole, Start, Lacked, Faulted}
 use Rattle.vip_outside.specs.declared.files.Loaded.{Loaded}
 use Rattle.vip_words.specs.Rules.{Word}
 use Rattle.vip_tools.specs.declared.refusal.Refusal.{Refusal}
-use Rattle.vip_tools.specs.declared.refusal.Refusal.TheVariants.{Usage, Unread, TooLarge, Script, Command, Source, State, Rom, Certificate, Proof, NoCertificate, NoMemory}
+use Rattle.vip_tools.specs.declared.refusal.Refusal.TheVariants.{Usage, Unread, TooLarge, Script, Command, Source, Misfit, State, Rom, Certificate, Proof, NoCertificate, NoMemory, NoTiming}
 use Rattle.vip_tools.specs.declared.refusal.Kind.{Kind}
 use Rattle.vip_tools.specs.Files.{Needed, HasAll, HasThat, AreFit, ComesTo, FileAnswers, FilesRefused, IsLarger, IsUnread, Loads, OnlyReads, ReadsSome, files_of, reads_of, with_reads}
 
@@ -122,6 +122,7 @@ module _ (old mid new : FilesMeaning) (ms : List (Needed Word)) (cs : List (List
   refused-behind ns (Script line cause) at = absurd at
   refused-behind ns (Command line cause) at = absurd at
   refused-behind ns (Source line cause) at = absurd at
+  refused-behind ns (Misfit misfit) at = absurd at
   refused-behind ns (State fault) at =
       comes_behind ns _ _
       (λ n answer h. (
@@ -132,6 +133,7 @@ module _ (old mid new : FilesMeaning) (ms : List (Needed Word)) (cs : List (List
   refused-behind ns (Certificate line cause) at = absurd at
   refused-behind ns (Proof line cause) at = absurd at
   refused-behind ns (NoCertificate obstacle) at = absurd at
+  refused-behind ns (NoTiming why) at = absurd at
   refused-behind ns NoMemory at =
       let first : List (Needed Word) = take at.count ns in
       let rest : List (Needed Word) = drop at.count ns in
@@ -184,11 +186,13 @@ module _ (old new : FilesMeaning) (ms ns : List (Needed Word)) where
   refused-before (Script line cause) at = absurd at
   refused-before (Command line cause) at = absurd at
   refused-before (Source line cause) at = absurd at
+  refused-before (Misfit misfit) at = absurd at
   refused-before (State fault) at = comes_before _ at
   refused-before (Rom fault) at = absurd at
   refused-before (Certificate line cause) at = absurd at
   refused-before (Proof line cause) at = absurd at
   refused-before (NoCertificate obstacle) at = absurd at
+  refused-before (NoTiming why) at = absurd at
   refused-before NoMemory at =
       let first : List (Needed Word) = take at.count ms in
       let rest : List (Needed Word) = drop at.count ms in
@@ -228,6 +232,7 @@ module _ (old new : FilesMeaning) (m n : Needed Word) (is : m ≡ n) where
   refused (Script line cause) at = absurd at
   refused (Command line cause) at = absurd at
   refused (Source line cause) at = absurd at
+  refused (Misfit misfit) at = absurd at
   refused (State fault) at = comes_to _ at.0 (ap (λ (m : FilesMeaning). m.reads) at.2) (at.1, only_reads (and_read n.file at.0 old.reads) at.2)
     where
       only_reads : (reads : Option (List Read)) → new ≡ record old { reads = reads } → OnlyReads old new
@@ -236,6 +241,7 @@ module _ (old new : FilesMeaning) (m n : Needed Word) (is : m ≡ n) where
   refused (Certificate line cause) at = absurd at
   refused (Proof line cause) at = absurd at
   refused (NoCertificate obstacle) at = absurd at
+  refused (NoTiming why) at = absurd at
   refused NoMemory (inl none) = record { count = 0; reads = []; names = refl; made = ap (λ (m : FilesMeaning). m.reads) none ∙ no_reads old.reads }
   refused NoMemory (inr one) = record {
     count = 1;

@@ -2,5 +2,6 @@ pub mod DemoLemmas
 pub mod FilesLemmas
 mod LoadingLemmas
 pub mod WorkLemmas
+pub mod CodeLemmas
 mod CertificateLemmas
 mod ReportLemmas

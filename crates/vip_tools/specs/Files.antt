@@ -13,6 +13,8 @@ use Rattle.vip_text.specs.StateFile.{file_size, IsAccepted, Judges}
 use Rattle.vip_text.specs.declared.fault.StateFault.{StateFault}
 use Rattle.vip_words.specs.Request.{Asked, map_request}
 use Rattle.vip_words.specs.Rules.{Word}
+use Rattle.vip_words.specs.declared.request.Code.{Code}
+use Rattle.vip_words.specs.declared.request.Code.TheVariants as code
 use Rattle.vip_words.specs.declared.request.Memory.{Memory}
 use Rattle.vip_words.specs.declared.request.Memory.TheVariants as memory
 use Rattle.vip_words.specs.declared.request.ProgramShow.{ProgramShow}
@@ -66,17 +68,9 @@ module _ {N : Type 0} where
   abbrev pub file : Kind → ℕ → N → Needed N
   file kind most n = record { file = n; most = most; kind = kind }
 
-  -- a game, which has to fit into its edition's game memory
-  abbrev pub game_file : Edition → N → Needed N
-  game_file e n = file (game_kind e) (memory_size e) n
-
   -- a saved state, which has so many bytes
   abbrev pub state_file : N → Needed N
   state_file n = file State file_size n
-
-  -- a program, which has to fit into its memory
-  abbrev pub program_file : Memory → N → Needed N
-  program_file m n = file (program_kind m) (program_size m) n
 
   -- the debugger's commands, and a key script
   abbrev pub commands_file : N → Needed N
@@ -99,20 +93,32 @@ module _ {N : Type 0} where
   abbrev pub certificate_file : N → Needed N
   certificate_file n = file Certificate most_text n
 
+  -- the file of code: bytes of this kind, at most so many, or a source that gives them
+  abbrev pub code_file : Kind → ℕ → Code N → Needed N
+  code_file kind most (code.Bytes n) = file kind most n
+  code_file kind most (code.Source n) = source_file n
+
+  -- a game, which has to fit into its edition's game memory, and a program, which has to fit into its memory, or their sources
+  abbrev pub game_code : Edition → Code N → Needed N
+  game_code e = code_file (game_kind e) (memory_size e)
+
+  abbrev pub program_code : Memory → Code N → Needed N
+  program_code m = code_file (program_kind m) (program_size m)
+
   -- ---- the files of a request, in the order in which they are read
 
   -- of the start of a run, of what is shown of it, and its key script, where one is named
   abbrev pub start_files : Beginning N → List (Needed N)
-  start_files (start.Game game edition) = game_file edition game ∷ []
+  start_files (start.Game game edition) = game_code edition game ∷ []
   start_files (start.State state) = state_file state ∷ []
   start_files (start.Demo number) = []
 
   abbrev pub show_files : Show N → List (Needed N)
-  show_files (show.Commands commands) = commands_file commands ∷ []
+  show_files (show.Commands commands echo) = commands_file commands ∷ []
   show_files _ = []
 
   abbrev pub program_show_files : ProgramShow N → List (Needed N)
-  program_show_files (program.Commands commands) = commands_file commands ∷ []
+  program_show_files (program.Commands commands echo) = commands_file commands ∷ []
   program_show_files _ = []
 
   abbrev pub script_files : Option N → List (Needed N)
@@ -121,19 +127,25 @@ module _ {N : Type 0} where
 
   abbrev pub needed : Request N → List (Needed N)
   needed (request.Run run) = start_files run.start ++ (show_files run.show ++ script_files run.keys)
-  needed (request.Program run) = program_file run.memory run.file ∷ (program_show_files run.show ++ script_files run.keys)
+  needed (request.Program run) = program_code run.memory run.code ∷ (program_show_files run.show ++ script_files run.keys)
   needed (request.Link message moves number) = message_file message ∷ []
   needed (request.Asm source isa raw) = source_file source ∷ []
   needed (request.List source isa) = source_file source ∷ []
   needed (request.Dis bytes isa address) = bytes_file isa address bytes ∷ []
   needed (request.Source text) = []
   needed request.Bounds = []
-  needed (request.Cycles source certificate) = source_file source ∷ certificate_file certificate ∷ []
-  needed (request.Safe game certificate edition) = game_file edition game ∷ certificate_file certificate ∷ []
-  needed (request.Certify game edition) = game_file edition game ∷ []
+  needed (request.Cycles source certificate exits) = source_file source ∷ certificate_file certificate ∷ []
+  needed (request.Timing source entry p k) = source_file source ∷ []
+  needed (request.Safe game certificate edition) = game_code edition game ∷ certificate_file certificate ∷ []
+  needed (request.Certify game edition) = game_code edition game ∷ []
 
   abbrev pub files_of : List (Needed N) → List N
   files_of ns = map (λ n. n.file) ns
+
+-- code with this file
+abbrev pub with_file : {A B : Type 0} → Code A → B → Code B
+with_file (code.Bytes a) b = code.Bytes b
+with_file (code.Source a) b = code.Source b
 
 abbrev pub seen_wanted : Wanted → Needed Word
 seen_wanted w = record { file = w.name.now; most = w.most; kind = w.kind }

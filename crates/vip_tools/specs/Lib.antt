@@ -6,6 +6,7 @@ pub mod Opening
 pub mod Work
 pub mod Certificates
 pub mod Checks
+pub mod Code
 pub mod Status
 pub mod Refusal
 pub mod Report

@@ -1,8 +1,9 @@
 -- What the reading of the parts of a request answers.
 use Rattle.std.specs.Prelude.{◌≡◌, ℕ, [], ◌∷◌, Option, option_map, Result, Vec}
 use Rattle.vip_outside.specs.Files.{FilesMeaning}
-use Rattle.vip_words.specs.Request.{map_program, map_program_show, map_run, map_show, map_start}
+use Rattle.vip_words.specs.Request.{map_code, map_program, map_program_show, map_run, map_show, map_start}
 use Rattle.vip_words.specs.Rules.{Word}
+use Rattle.vip_words.specs.declared.request.Code.{Code}
 use Rattle.vip_words.specs.declared.request.ProgramRequest.{ProgramRequest}
 use Rattle.vip_words.specs.declared.request.ProgramShow.{ProgramShow}
 use Rattle.vip_words.specs.declared.request.Request.TheVariants as request
@@ -14,6 +15,9 @@ use Rattle.vip_tools.specs.declared.refusal.Refusal.{Refusal}
 
 -- a part without its files
 module _ {N : Type 0} where
+  abbrev pub code_shape : Code N → Code (Unit {0})
+  code_shape = map_code (λ _. tt)
+
   abbrev pub start_shape : Start N → Start (Unit {0})
   start_shape = map_start (λ _. tt)
 

@@ -1,11 +1,11 @@
 -- What the reading of a source, a script and commands answers.
-use Rattle.std.specs.Prelude.{◌≡◌, ℕ, List, Option, option_map, Result, Ok, Err, Vec}
+use Rattle.std.specs.Prelude.{◌≡◌, ℕ, Bool, List, Option, option_map, Result, Ok, Err, Vec}
 use Rattle.machine.specs.Keys.{Event as KeyEvent}
 use Rattle.asm_lex.specs.declared.shape.Isa.{Isa}
 use Rattle.asm_core.specs.Made.{Made, IsAssembly}
 use Rattle.asm_core.specs.Sources.{source_lines, HasFirstFault}
 use Rattle.vip_words.specs.DebugGrammar.{commands_of}
-use Rattle.vip_words.specs.declared.debug_commands.Command.{Command as DebugCommand}
+use Rattle.vip_words.specs.Spoken.{Spoken}
 use Rattle.vip_words.specs.declared.debug_commands.CommandFault.TheVariants as command
 use Rattle.vip_words.specs.declared.debug_commands.Speaks.{Speaks}
 use Rattle.vip_keypad.specs.declared.script.ScriptFault.TheVariants.{Fault}
@@ -25,11 +25,11 @@ KeysAnswer keys (Err NoMemory) = Unit {0}
 KeysAnswer keys (Err _) = ⊥
 
 -- the debugger's commands are read
-abbrev pub DebugCommandsAnswer : Speaks → ℕ → List ℕ → Result (List DebugCommand) Refusal → Type 0
-DebugCommandsAnswer speaks limit text (Ok commands) = commands_of speaks limit text ≡ Ok commands
-DebugCommandsAnswer speaks limit text (Err (Command line cause)) = commands_of speaks limit text ≡ Err (command.Fault line cause)
-DebugCommandsAnswer speaks limit text (Err NoMemory) = Unit {0}
-DebugCommandsAnswer speaks limit text (Err _) = ⊥
+abbrev pub DebugCommandsAnswer : Speaks → (List ℕ → Option ℕ) → Bool → ℕ → List ℕ → Result (List Spoken) Refusal → Type 0
+DebugCommandsAnswer speaks names echo limit text (Ok commands) = commands_of speaks names echo limit text ≡ Ok commands
+DebugCommandsAnswer speaks names echo limit text (Err (Command line cause)) = commands_of speaks names echo limit text ≡ Err (command.Fault line cause)
+DebugCommandsAnswer speaks names echo limit text (Err NoMemory) = Unit {0}
+DebugCommandsAnswer speaks names echo limit text (Err _) = ⊥
 
 -- a source in the words of an instruction set is assembled
 abbrev pub SourceAnswers : Isa → List ℕ → Result Made Refusal → Type 0

@@ -2,9 +2,11 @@
 use Rattle.vip_tools.specs.declared.refusal.Kind.{Kind}
 use Rattle.vip_tools.specs.declared.refusal.Kind.TheVariants.{Game, TallGame, Script, Commands, Source, Certificate, State, Message, Rom, Ram}
 use Rattle.vip_tools.specs.declared.refusal.Refusal.{Refusal}
+use Rattle.vip_tools.specs.declared.refusal.Misfit.{Misfit}
+use Rattle.vip_tools.specs.declared.refusal.Misfit.TheVariants as misfit
 use Rattle.vip_tools.specs.declared.refusal.Refusal.TheVariants as refusal
 use Rattle.vip_tools.specs.declared.status.Status.{Status}
-use Rattle.vip_tools.specs.declared.status.Status.TheVariants.{Usage, ReadFault, GameTooLarge, ScriptTooLarge, BadScript, BadSource, BadRomSource, RomDiffers, NoMemory, BadCommand, SourceTooLarge, CommandsTooLarge, BadState, BadCertificate, MessageTooLarge, BadProof, CertificateTooLarge, NoCertificate, RomTooLarge, RamTooLarge}
+use Rattle.vip_tools.specs.declared.status.Status.TheVariants.{Usage, ReadFault, GameTooLarge, ScriptTooLarge, BadScript, BadSource, BadRomSource, RomDiffers, NoMemory, BadCommand, SourceTooLarge, CommandsTooLarge, BadState, BadCertificate, MessageTooLarge, BadProof, CertificateTooLarge, NoCertificate, RomTooLarge, RamTooLarge, StrayByte}
 use Rattle.chip8_source.specs.declared.fault.ImageFault.{ImageFault}
 use Rattle.chip8_source.specs.declared.fault.ImageFault.TheVariants as image
 
@@ -25,6 +27,10 @@ image_status (image.BadRomSource line cause) = BadRomSource
 image_status (image.RomDiffers address assembled here) = RomDiffers
 image_status image.NoMemory = NoMemory
 
+abbrev pub misfit_status : Misfit → Status
+misfit_status (misfit.Stray address) = StrayByte
+misfit_status (misfit.Game edition) = GameTooLarge
+
 abbrev pub status_of : Refusal → Status
 status_of refusal.Usage = Usage
 status_of (refusal.Unread name) = ReadFault
@@ -32,9 +38,11 @@ status_of (refusal.TooLarge kind) = too_large_status kind
 status_of (refusal.Script line cause) = BadScript
 status_of (refusal.Command line cause) = BadCommand
 status_of (refusal.Source line cause) = BadSource
+status_of (refusal.Misfit misfit) = misfit_status misfit
 status_of (refusal.State fault) = BadState
 status_of (refusal.Rom fault) = image_status fault
 status_of (refusal.Certificate line cause) = BadCertificate
 status_of (refusal.Proof line cause) = BadProof
 status_of (refusal.NoCertificate obstacle) = NoCertificate
+status_of (refusal.NoTiming why) = NoCertificate
 status_of refusal.NoMemory = NoMemory

@@ -6,6 +6,7 @@ use Rattle.vip_byte.specs.HexText.{hex2, hex4, words_text}
 use Rattle.asm_core.specs.declared.fault.AsmCause.{AsmCause}
 use Rattle.asm_core.specs.FaultNames.{asm_cause_name}
 use Rattle.cycle_check.specs.declared.fault.CertCause.{CertCause}
+use Rattle.cycle_check.specs.Exits.{obstacle_line}
 use Rattle.cycle_check.specs.FaultNames.{cert_cause_name}
 use Rattle.game_check.specs.declared.fault.Obstacle.{Obstacle}
 use Rattle.game_check.specs.declared.fault.ProofCause.{ProofCause}
@@ -29,7 +30,11 @@ use Rattle.vip_tools.specs.declared.ended.Ended.TheVariants.{Worked, Ran, Idle, 
 use Rattle.vip_tools.specs.declared.fault.PerformFault.{PerformFault}
 use Rattle.vip_tools.specs.declared.fault.PerformFault.TheVariants.{NoDispatch, WriteFault}
 use Rattle.vip_tools.specs.declared.refusal.Kind.{Kind}
+use Rattle.vip_tools.specs.declared.refusal.Misfit.{Misfit}
+use Rattle.vip_tools.specs.declared.refusal.Misfit.TheVariants as misfit
 use Rattle.vip_tools.specs.declared.refusal.Kind.TheVariants.{Game, TallGame, Script, Commands, Source, Certificate, State, Message, Rom, Ram}
+use Rattle.vip_tools.specs.declared.refusal.NoTiming.{NoTiming}
+use Rattle.vip_tools.specs.declared.refusal.NoTiming.TheVariants.{Undefined, Obstacle as Ended_at}
 use Rattle.vip_tools.specs.declared.refusal.Refusal.{Refusal}
 use Rattle.vip_tools.specs.declared.refusal.Refusal.TheVariants as refusal
 
@@ -101,6 +106,11 @@ bad_command line cause = at_line (codes "vip: commands line ") line (command_cau
 abbrev pub bad_source : ℕ → AsmCause → List ℕ
 bad_source line cause = at_line (codes "vip: source line ") line (asm_cause_name cause)
 
+-- the bytes that a source gives can't be run
+abbrev pub misfit_report : Misfit → List ℕ
+misfit_report (misfit.Stray address) = codes "vip: source gives " ++ (hex4 address ++ (codes ", where no memory is" ++ newline))
+misfit_report (misfit.Game e) = larger_than (codes "vip: game larger than ") (memory_size e)
+
 abbrev pub bad_certificate : ℕ → CertCause → List ℕ
 bad_certificate line cause = at_line (codes "vip: certificate line ") line (cert_cause_name cause)
 
@@ -112,6 +122,11 @@ unfoldable pub no_certificate : Obstacle → List ℕ
 no_certificate o =
     codes "vip: no certificate: " ++ proof_cause_name o.cause ++ opcode_part o.opcode ++ codes " at " ++ hex4 o.claim.point.pc ++ codes " with I "
     ++ hex4 o.claim.low ++ codes " to " ++ hex4 o.claim.high ++ codes " stack" ++ words_text o.claim.point.stack.items ++ newline
+
+-- why no certificate of a routine was found: its entry has no number, or where the search ended
+abbrev pub no_timing : NoTiming → List ℕ
+no_timing (Undefined name) = codes "vip: no certificate: Undefined " ++ (name.items ++ newline)
+no_timing (Ended_at obstacle) = codes "vip: no certificate: " ++ obstacle_line obstacle
 
 abbrev pub no_memory : List ℕ
 no_memory = codes "vip: no memory" ++ newline
@@ -145,9 +160,11 @@ report_of (refusal.TooLarge kind) = too_large_report kind
 report_of (refusal.Script line cause) = bad_script line cause
 report_of (refusal.Command line cause) = bad_command line cause
 report_of (refusal.Source line cause) = bad_source line cause
+report_of (refusal.Misfit misfit) = misfit_report misfit
 report_of (refusal.State fault) = bad_state fault
 report_of (refusal.Rom fault) = image_report fault
 report_of (refusal.Certificate line cause) = bad_certificate line cause
 report_of (refusal.Proof line cause) = bad_proof line cause
 report_of (refusal.NoCertificate obstacle) = no_certificate obstacle
+report_of (refusal.NoTiming why) = no_timing why
 report_of refusal.NoMemory = no_memory

@@ -7,7 +7,7 @@ use Rattle.vip_tools.specs.declared.ended.Ended.TheVariants.{Worked, Ran, Idle, 
 use Rattle.vip_tools.specs.declared.fault.PerformFault.{PerformFault}
 use Rattle.vip_tools.specs.declared.fault.PerformFault.TheVariants as fault
 use Rattle.vip_tools.specs.declared.status.Status.{Status}
-use Rattle.vip_tools.specs.declared.status.Status.TheVariants.{Done, Stopped, Usage, ReadFault, GameTooLarge, ScriptTooLarge, BadScript, BadSource, BadRomSource, RomDiffers, WriteFault, NoMemory, BadCommand, SourceTooLarge, CommandsTooLarge, BadState, NoDispatch, BadCertificate, MessageTooLarge, BadProof, CertificateTooLarge, NoCertificate, RomTooLarge, RamTooLarge}
+use Rattle.vip_tools.specs.declared.status.Status.TheVariants.{Done, Stopped, Usage, ReadFault, GameTooLarge, ScriptTooLarge, BadScript, BadSource, BadRomSource, RomDiffers, WriteFault, NoMemory, BadCommand, SourceTooLarge, CommandsTooLarge, BadState, NoDispatch, BadCertificate, MessageTooLarge, BadProof, CertificateTooLarge, NoCertificate, RomTooLarge, RamTooLarge, StrayByte}
 
 abbrev pub status_number : Status → ℕ
 status_number Done = 0
@@ -34,6 +34,7 @@ status_number CertificateTooLarge = 20
 status_number NoCertificate = 21
 status_number RomTooLarge = 22
 status_number RamTooLarge = 23
+status_number StrayByte = 24
 
 -- at the end of a run, and of a verb's work
 abbrev pub end_status : Ending → Status

@@ -1,12 +1,12 @@
 -- What a verb without a board answers, where its request comes to certain outcomes.
 use Rattle.std.specs.Prelude.{ℕ, [], ◌∷◌, Result, Ok, Err, Vec}
 use Rattle.vip_tools.specs.declared.refusal.Refusal.{Refusal}
-use Rattle.vip_tools.specs.declared.refusal.Refusal.TheVariants.{Usage, Unread, TooLarge, State, NoCertificate, NoMemory}
+use Rattle.vip_tools.specs.declared.refusal.Refusal.TheVariants.{Usage, Unread, TooLarge, State, NoCertificate, NoTiming, NoMemory}
 use Rattle.vip_tools.specs.declared.status.Status.TheVariants.{Done}
 use Rattle.vip_tools.specs.Outcome.{Outcome}
 use Rattle.vip_tools.specs.Outcome.Outcome.{Refused, Shown, GivenUp}
 use Rattle.vip_tools.specs.Refusal.{status_of}
-use Rattle.vip_tools.specs.Report.{no_certificate, report_of}
+use Rattle.vip_tools.specs.Report.{no_certificate, no_timing, report_of}
 
 -- A refusal by the contents of files is what the request comes to; of want of memory nothing is said; and none is of words, of a file that isn't
 -- read whole, or of a saved state, which was judged as it was read.
@@ -16,6 +16,7 @@ RefusedBy HasOutcome (Unread name) = ⊥
 RefusedBy HasOutcome (TooLarge kind) = ⊥
 RefusedBy HasOutcome (State fault) = ⊥
 RefusedBy HasOutcome (NoCertificate obstacle) = HasOutcome (GivenUp (no_certificate obstacle))
+RefusedBy HasOutcome (NoTiming why) = HasOutcome (GivenUp (no_timing why))
 RefusedBy HasOutcome NoMemory = Unit {0}
 RefusedBy HasOutcome refusal = HasOutcome (Refused (status_of refusal) (report_of refusal))
 

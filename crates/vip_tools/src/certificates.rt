@@ -1,34 +1,33 @@
 //! The verbs of certificates: how long a routine takes, and that a game never stops.
 
-ghost use Rattle.std.specs.Prelude.{◌≡◌, ◌≤◌, [], length};
+ghost use Rattle.std.specs.Prelude.{◌≡◌, ◌≤◌, ◌⊎◌, [], length, Ok, Err, IfOk, IfErr};
 ghost use Rattle.chip8_lang.specs.State.{memory_size};
-ghost use Rattle.vip_tools.specs.Certificates.{CertifyComes, CyclesComes, SafeComes, count_line, rom_with, within_line};
-ghost use Rattle.vip_tools.specs.Checks.{CertificateAnswers, ProofAnswers, RomAnswers, made_byte};
-ghost use Rattle.vip_tools.specs.Files.{most_text};
+ghost use Rattle.cycle_check.specs.Closed.{checked};
+ghost use Rattle.cycle_check.specs.declared.fault.CertFault.TheVariants.{NoMemory};
+ghost use Rattle.vip_tools.specs.Certificates.{CertifyComes, CyclesComes, SafeComes, TimingComes, bytes_at, count_line, exits_asked, made_byte, routine_text, within_line};
+ghost use Rattle.vip_tools.specs.Checks.{CertificateAnswers, EntryAnswers, ProofAnswers, RomAnswers};
+ghost use Rattle.vip_tools.specs.Files.{most_text, rom_size};
 ghost use Rattle.vip_tools.specs.Work.{TextAnswers};
 
-use crate::Refusal;
-use crate::files::are_bytes;
+use crate::code::{ROM_START, lay_out};
+use crate::files::{ROM, are_bytes};
 use crate::tools::make_assembly;
+use crate::{NoTiming, Refusal};
 use asm_core::Assembly;
 use asm_lex::Isa;
 use chip8_lang::Edition;
-use cycle_check::{CertFault, Within, check_cycles};
+use cycle_check::{CertFault, Exit, TimingFault, Within, check_cycles, check_exits, find_timing};
 use game_check::{FindFault, ProofFault, check_game, find_certificate};
-use std::alloc::Global;
+use std::alloc::{AllocError, Global};
 use vip_byte::{Buffer, hex4, put, put_number};
+use vip_words::Entry;
 
-/// The first address of the ROM.
-const ROM_START: u16 = 0x8000;
-
-/// The assembled bytes from 8000 to 87FF, and 00 where there is none.
-fn lay_out(made: &Assembly) -> [u8; 2048]
-    ensures { result ≡ rom_with (made_byte made.now) }
+/// The assembled bytes of the ROM, and 00 where there is none.
+fn rom_of(made: &Assembly) -> [u8; 2048]
+    ensures { result ≡ bytes_at (made_byte made.now) 0x8000 rom_size }
 {
-    let mut rom = [0; 2048];
-    for offset in 0..2048u16 {
-        rom[usize::from(offset)] = made.byte(ROM_START + offset).unwrap_or(0x00);
-    }
+    let mut rom = [0; ROM];
+    lay_out(made, ROM_START, &mut rom);
     rom
 }
 
@@ -38,22 +37,42 @@ fn make_rom<'a>(alloc: Global, source: &[u8]) -> Result<[u8; 2048], Refusal<'a>>
     ensures { RomAnswers source.now result }
 {
     let made = make_assembly(alloc, Isa::Cdp1802, source)?;
-    let rom = lay_out(&made);
+    let rom = rom_of(&made);
     are_bytes(&rom);
     Ok(rom)
 }
 
-/// What a certificate says of a ROM.
+/// What a certificate says of a ROM, with its exits where they are asked for.
+fn check_routine(
+    alloc: Global,
+    rom: &[u8; 2048],
+    certificate: &[u8],
+    exits: bool,
+) -> Result<(Within, Vec<Exit>), CertFault>
+    requires { length certificate.now ≤ most_text }
+    ensures accepted { IfOk result (λ found. checked rom.now certificate.now ≡ Ok found.0) }
+    ensures exits { IfOk result (λ found. found.1.items ≡ exits_asked exits rom.now certificate.now) }
+    ensures fault { IfErr result (λ fault. (fault ≡ NoMemory) ⊎ (checked rom.now certificate.now ≡ Err fault)) }
+{
+    if exits {
+        return check_exits(alloc, rom, certificate);
+    }
+    let within = check_cycles(alloc, rom, certificate)?;
+    Ok((within, Vec::new(alloc)))
+}
+
+/// The same, or why it is refused.
 fn checked_routine<'a>(
     alloc: Global,
     rom: &[u8; 2048],
     certificate: &[u8],
-) -> Result<Within, Refusal<'a>>
+    exits: bool,
+) -> Result<(Within, Vec<Exit>), Refusal<'a>>
     requires { length certificate.now ≤ most_text }
-    ensures { CertificateAnswers rom.now certificate.now result }
+    ensures { CertificateAnswers rom.now certificate.now exits result }
 {
-    match check_cycles(alloc, rom, certificate) {
-        Ok(within) => Ok(within),
+    match check_routine(alloc, rom, certificate, exits) {
+        Ok(found) => Ok(found),
         Err(CertFault::Fault { line, cause }) => Err(Refusal::Certificate { line, cause }),
         Err(CertFault::NoMemory) => Err(Refusal::NoMemory),
     }
@@ -89,6 +108,21 @@ fn within_text(within: Within, into: &mut Buffer)
     put(into, b"\n");
 }
 
+/// The entry and the limit of a routine, and a line for each exit.
+fn routine_text(alloc: Global, within: Within, exits: &[Exit]) -> Result<Vec<u8>, AllocError>
+    ensures { IfOk result (λ text. text.items ≡ routine_text within exits.now) }
+{
+    let mut line = Buffer::new();
+    within_text(within, &mut line);
+    let mut text = Vec::from_slice(alloc, line.as_slice())?;
+    for exit in exits {
+        let mut line = Buffer::new();
+        exit.put(&mut line);
+        text.extend_from_slice(line.as_slice())?;
+    }
+    Ok(text)
+}
+
 /// Writes the number of the lines into an empty buffer.
 fn count_text(count: u32, into: &mut Buffer)
     requires { into.old.items ≡ [] }
@@ -99,18 +133,60 @@ fn count_text(count: u32, into: &mut Buffer)
     put(into, b"\n");
 }
 
-/// Assembles a source of at most 1,048,576 bytes into a ROM, and checks a certificate of at most as many against it: its entry and limit.
-pub fn cycles<'a>(alloc: Global, source: &[u8], certificate: &[u8]) -> Result<Vec<u8>, Refusal<'a>>
+/// Assembles a source of at most 1,048,576 bytes into a ROM, and checks a certificate of at most as many against it: its entry and limit, and its
+/// exits where they are asked for.
+pub fn cycles<'a>(
+    alloc: Global,
+    source: &[u8],
+    certificate: &[u8],
+    exits: bool,
+) -> Result<Vec<u8>, Refusal<'a>>
     requires source { length source.now ≤ most_text }
     requires certificate { length certificate.now ≤ most_text }
-    ensures { TextAnswers (CyclesComes source.now certificate.now) result }
+    ensures { TextAnswers (CyclesComes source.now certificate.now exits) result }
 {
     let rom = make_rom(alloc, source)?;
-    let within = checked_routine(alloc, &rom, certificate)?;
-    let mut line = Buffer::new();
-    within_text(within, &mut line);
-    let text = Vec::from_slice(alloc, line.as_slice())?;
+    let found = checked_routine(alloc, &rom, certificate, exits)?;
+    let text = routine_text(alloc, found.0, found.1.as_slice())?;
     Ok(text)
+}
+
+/// The address at which a routine of an assembled source is entered.
+fn entry_address<'a>(made: &Assembly, entry: Entry) -> Result<u16, Refusal<'a>>
+    ensures { EntryAnswers made.now entry result }
+{
+    match entry {
+        Entry::Address(address) => Ok(address),
+        Entry::Name(name) => match made.names().number(name.as_slice()) {
+            Some(address) => Ok(address),
+            None => Err(Refusal::NoTiming(NoTiming::Undefined(name))),
+        },
+    }
+}
+
+/// Assembles a source of at most 1,048,576 bytes into a ROM, and searches for a certificate of the routine of it that is entered at an address or a name
+/// with R(P) as its program counter, and counts by R(K).
+pub fn timing<'a>(
+    alloc: Global,
+    source: &[u8],
+    entry: Entry,
+    p: u8,
+    k: u8,
+) -> Result<Vec<u8>, Refusal<'a>>
+    requires { length source.now ≤ most_text }
+    ensures { TextAnswers (TimingComes source.now entry p k) result }
+{
+    let made = make_assembly(alloc, Isa::Cdp1802, source)?;
+    let rom = rom_of(&made);
+    are_bytes(&rom);
+    let address = entry_address(&made, entry)?;
+    match find_timing(alloc, &rom, address, p, k) {
+        Ok(text) => Ok(text),
+        Err(TimingFault::NotFound(obstacle)) => {
+            Err(Refusal::NoTiming(NoTiming::Obstacle(obstacle)))
+        }
+        Err(TimingFault::NoMemory) => Err(Refusal::NoMemory),
+    }
 }
 
 /// Checks a game's certificate of at most 1,048,576 bytes: the number of its lines that say something.

@@ -2,7 +2,8 @@
 
 ghost use Rattle.std.specs.Prelude.{◌≡◌, ◌<◌, ◌+◌, ℕ, slice_index};
 ghost use Rattle.asm_core.specs.Ranges.{last_of};
-ghost use Rattle.vip_tools.specs.Files.{bytes_file, certificate_file, commands_file, game_file, game_kind, message_file, program_file, script_file, seen_wanted, source_file, state_file, FileAnswers, JudgeAnswers};
+ghost use Rattle.vip_words.specs.Request.{code_of};
+ghost use Rattle.vip_tools.specs.Files.{bytes_file, certificate_file, code_file, commands_file, game_code, game_kind, message_file, program_code, script_file, seen_wanted, source_file, state_file, FileAnswers, JudgeAnswers};
 
 use crate::{Kind, Refusal};
 use asm_lex::Isa;
@@ -12,7 +13,7 @@ use vip_byte::MOST_TEXT;
 use vip_outside::{Files, ReadFail};
 use vip_text::StateFault;
 use vip_text::state_file::{SIZE, check_state};
-use vip_words::Memory;
+use vip_words::{Code, Memory};
 
 /// The most bytes of a message.
 pub const MOST_MESSAGE: usize = 3_000;
@@ -40,15 +41,25 @@ pub fn game_kind(edition: Edition) -> Kind
     }
 }
 
-/// A game, which has to fit into its edition's game memory.
-pub(crate) fn game_file<'a>(edition: Edition, name: &'a str) -> Wanted<'a>
-    ensures { seen_wanted result ≡ game_file edition name.now }
+/// The file of code: bytes of this kind, or a source that gives them.
+fn code_file<'a>(kind: Kind, most: usize, code: &Code<&'a str>) -> Wanted<'a>
+    ensures { seen_wanted result ≡ code_file kind most (code_of code.now) }
 {
-    Wanted {
-        name,
-        most: usize::from(edition.memory_size()),
-        kind: game_kind(edition),
+    match code {
+        Code::Bytes(name) => Wanted {
+            name: *name,
+            most,
+            kind,
+        },
+        Code::Source(name) => source_file(*name),
     }
+}
+
+/// A game, which has to fit into its edition's game memory, or its source.
+pub(crate) fn game_code<'a>(edition: Edition, code: &Code<&'a str>) -> Wanted<'a>
+    ensures { seen_wanted result ≡ game_code edition (code_of code.now) }
+{
+    code_file(game_kind(edition), usize::from(edition.memory_size()), code)
 }
 
 /// A saved state.
@@ -73,15 +84,15 @@ pub(crate) fn message_file<'a>(name: &'a str) -> Wanted<'a>
     }
 }
 
-/// A program, which has to fit into its memory.
-pub(crate) fn program_file<'a>(memory: Memory, name: &'a str) -> Wanted<'a>
-    ensures { seen_wanted result ≡ program_file memory name.now }
+/// A program, which has to fit into its memory, or its source.
+pub(crate) fn program_code<'a>(memory: Memory, code: &Code<&'a str>) -> Wanted<'a>
+    ensures { seen_wanted result ≡ program_code memory (code_of code.now) }
 {
     let (most, kind) = match memory {
         Memory::Rom => (ROM, Kind::Rom),
         Memory::Ram => (RAM, Kind::Ram),
     };
-    Wanted { name, most, kind }
+    code_file(kind, most, code)
 }
 
 /// The debugger's commands.

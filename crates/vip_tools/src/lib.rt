@@ -15,6 +15,7 @@
 #![tactic(auto)]
 
 mod certificates;
+mod code;
 mod demo;
 mod ended;
 mod fault;
@@ -27,14 +28,15 @@ mod report;
 mod status;
 mod tools;
 
-pub use certificates::{certify, cycles, safe};
+pub use certificates::{certify, cycles, safe, timing};
+pub use code::{Image, Marks, game, program};
 pub use demo::demo_game;
 pub use ended::Ended;
 pub use fault::PerformFault;
 pub use files::game_kind;
 pub use loading::load;
 pub use reading::{read_debugging, read_keys};
-pub use refusal::{Kind, Refusal};
+pub use refusal::{Kind, Misfit, NoTiming, Refusal};
 pub use report::{put_end, put_fault, put_refusal};
 pub use status::Status;
 pub use tools::{asm, bounds, dis, list, source};

@@ -2,18 +2,28 @@
 
 ghost use Rattle.std.specs.Prelude.{◌≡◌, ◌∷◌, [], ◌++◌, Vec, map, option_map};
 ghost use Rattle.std.specs.declared.alloc.Global.{Global};
-ghost use Rattle.vip_words.specs.Request.{asked_of, map_program, map_program_show, map_run, map_show, map_start, program_show_of, show_of, start_of};
-ghost use Rattle.vip_tools.specs.Files.{file, needed, program_show_files, script_files, seen_wanted, shape_of, show_files, start_files, LoadAnswers, PartAnswers};
+ghost use Rattle.vip_words.specs.Request.{asked_of, code_of, map_code, map_program, map_program_show, map_run, map_show, map_start, program_show_of, show_of, start_of};
+ghost use Rattle.vip_tools.specs.Files.{file, needed, with_file, program_show_files, script_files, seen_wanted, shape_of, show_files, start_files, LoadAnswers, PartAnswers};
 ghost use Rattle.vip_tools.specs.Loading.{KeysLoad, PairLoads, ProgramLoads, ProgramShowLoads, RunLoads, ShowLoads, StartLoads};
 
 use crate::Refusal;
 use crate::files::{
-    Wanted, bytes_file, certificate_file, commands_file, game_file, message_file, open_file,
-    program_file, script_file, source_file, state_file,
+    Wanted, bytes_file, certificate_file, commands_file, game_code, message_file, open_file,
+    program_code, script_file, source_file, state_file,
 };
 use std::alloc::Global;
 use vip_outside::Files;
-use vip_words::{ProgramRequest, ProgramShow, Request, RunRequest, Show, Start};
+use vip_words::{Code, ProgramRequest, ProgramShow, Request, RunRequest, Show, Start};
+
+/// Code with the content of its file in the place of its name.
+fn with_file(code: &Code<&str>, content: Vec<u8>) -> Code<Vec<u8>>
+    ensures { map_code (λ bytes. bytes.items) result ≡ with_file (code_of code.now) content.items }
+{
+    match code {
+        Code::Bytes(_) => Code::Bytes(content),
+        Code::Source(_) => Code::Source(content),
+    }
+}
 
 /// Reads the file at which a run of the language begins.
 fn load_start<'a, F: Files>(
@@ -24,9 +34,12 @@ fn load_start<'a, F: Files>(
     ensures { StartLoads (F.meaning files.old) (F.meaning files.new) (start_of start.entry) result }
 {
     match start {
-        Start::Game { file, edition } => {
-            let file = open_file(alloc, files, &game_file(edition, file))?;
-            Ok(Start::Game { file, edition })
+        Start::Game { code, edition } => {
+            let content = open_file(alloc, files, &game_code(edition, &code))?;
+            Ok(Start::Game {
+                code: with_file(&code, content),
+                edition,
+            })
         }
         Start::State(file) => {
             let file = open_file(alloc, files, &state_file(file))?;
@@ -45,9 +58,9 @@ fn load_show<'a, F: Files>(
     ensures { ShowLoads (F.meaning files.old) (F.meaning files.new) (show_of show.entry) result }
 {
     match show {
-        Show::Commands(file) => {
+        Show::Commands { file, echo } => {
             let file = open_file(alloc, files, &commands_file(file))?;
-            Ok(Show::Commands(file))
+            Ok(Show::Commands { file, echo })
         }
         Show::Trace {
             with_time,
@@ -74,9 +87,9 @@ fn load_program_show<'a, F: Files>(
     ensures { ProgramShowLoads (F.meaning files.old) (F.meaning files.new) (program_show_of show.entry) result }
 {
     match show {
-        ProgramShow::Commands(file) => {
+        ProgramShow::Commands { file, echo } => {
             let file = open_file(alloc, files, &commands_file(file))?;
-            Ok(ProgramShow::Commands(file))
+            Ok(ProgramShow::Commands { file, echo })
         }
         ProgramShow::Trace => Ok(ProgramShow::Trace),
         ProgramShow::Pictures => Ok(ProgramShow::Pictures),
@@ -128,11 +141,11 @@ fn load_program<'a, F: Files>(
     ensures { ProgramLoads (F.meaning files.old) (F.meaning files.new) (map_program (λ name. name.now) run.entry) result }
 {
     let memory = run.memory;
-    let file = open_file(alloc, files, &program_file(memory, run.file))?;
+    let content = open_file(alloc, files, &program_code(memory, &run.code))?;
     let show = load_program_show(alloc, files, run.show)?;
     let keys = load_keys(alloc, files, run.keys)?;
     Ok(ProgramRequest {
-        file,
+        code: with_file(&run.code, content),
         memory,
         keys,
         limit: run.limit,
@@ -209,6 +222,7 @@ pub fn load<'a, F: Files>(
         Request::Cycles {
             source,
             certificate,
+            exits,
         } => {
             let pair = load_pair(
                 alloc,
@@ -219,6 +233,21 @@ pub fn load<'a, F: Files>(
             Ok(Request::Cycles {
                 source: pair.0,
                 certificate: pair.1,
+                exits,
+            })
+        }
+        Request::Timing {
+            source,
+            entry,
+            p,
+            k,
+        } => {
+            let source = open_file(alloc, files, &source_file(source))?;
+            Ok(Request::Timing {
+                source,
+                entry,
+                p,
+                k,
             })
         }
         Request::Safe {
@@ -229,18 +258,21 @@ pub fn load<'a, F: Files>(
             let pair = load_pair(
                 alloc,
                 files,
-                &game_file(edition, game),
+                &game_code(edition, &game),
                 &certificate_file(certificate),
             )?;
             Ok(Request::Safe {
-                game: pair.0,
+                game: with_file(&game, pair.0),
                 certificate: pair.1,
                 edition,
             })
         }
         Request::Certify { game, edition } => {
-            let game = open_file(alloc, files, &game_file(edition, game))?;
-            Ok(Request::Certify { game, edition })
+            let content = open_file(alloc, files, &game_code(edition, &game))?;
+            Ok(Request::Certify {
+                game: with_file(&game, content),
+                edition,
+            })
         }
     }
 }

@@ -1,10 +1,12 @@
 //! The texts that a run reads before it begins.
 
 ghost use Rattle.std.specs.Prelude.{◌≤◌, length};
+ghost use Rattle.asm_lex.specs.Names.{number_named, value_in};
 ghost use Rattle.vip_tools.specs.Files.{most_text, script_files, AreFit};
 ghost use Rattle.vip_tools.specs.Opening.{KeysAnswer, DebugCommandsAnswer, keys_in};
 
 use crate::Refusal;
+use asm_lex::Symbols;
 use std::alloc::Global;
 use vip_keypad::{Script, ScriptFault, read_script};
 use vip_words::{CommandFault, Commands, Speaks, read_commands};
@@ -24,17 +26,19 @@ pub fn read_keys<'a>(alloc: Global, script: Option<Vec<u8>>) -> Result<Script, R
     }
 }
 
-/// The commands of the debugger for a board that runs a game, or any other program, up to a limit.
+/// The commands of the debugger for a board that runs a game, or any other program, up to a limit, with these names, each with its echo or without.
 pub fn read_debugging<'a>(
     alloc: Global,
     speaks: Speaks,
+    names: &Symbols,
+    echo: bool,
     text: &[u8],
     limit: u64,
 ) -> Result<Commands, Refusal<'a>>
     requires { length text.now ≤ most_text }
-    ensures { DebugCommandsAnswer speaks limit text.now result }
+    ensures { DebugCommandsAnswer speaks (number_named (value_in names.now)) echo limit text.now result }
 {
-    match read_commands(alloc, speaks, text, limit) {
+    match read_commands(alloc, speaks, names, echo, text, limit) {
         Ok(commands) => Ok(commands),
         Err(CommandFault::Fault { line, cause }) => Err(Refusal::Command { line, cause }),
         Err(CommandFault::NoMemory) => Err(Refusal::NoMemory),

@@ -5,13 +5,14 @@ ghost use Rattle.vip_tools.specs.Refusal.{status_of};
 
 use crate::status::Status;
 use asm_core::AsmCause;
+use chip8_lang::Edition;
 use chip8_source::ImageFault;
-use cycle_check::CertCause;
+use cycle_check::{CertCause, TimingObstacle};
 use game_check::{Obstacle, ProofCause};
 use std::alloc::AllocError;
 use vip_keypad::ScriptCause;
 use vip_text::StateFault;
-use vip_words::CommandCause;
+use vip_words::{CommandCause, EntryName};
 
 /// Files that are limited in their size.
 #[derive(Clone, Copy, Default)]
@@ -39,6 +40,24 @@ pub enum Kind {
     Ram,
 }
 
+/// Why the bytes that a source gives can't be run.
+#[derive(Clone, Copy)]
+pub enum Misfit {
+    /// No memory has this address, the least such one to which the source gives a byte.
+    Stray(u16),
+    /// The game has more bytes than this edition's game memory.
+    Game(Edition),
+}
+
+/// Why no certificate of a routine was found.
+#[derive(Drop)]
+pub enum NoTiming {
+    /// No line of the source gives the name of its entry a number.
+    Undefined(EntryName),
+    /// The search ended here.
+    Obstacle(TimingObstacle),
+}
+
 /// A refusal: why a command isn't begun. One that only its run shows is a `PerformFault`.
 #[derive(Drop)]
 pub enum Refusal<'a> {
@@ -54,6 +73,8 @@ pub enum Refusal<'a> {
     Command { line: u32, cause: CommandCause },
     /// The first fault of the source, in this line, counted from 1.
     Source { line: u32, cause: AsmCause },
+    /// What the source gives can't be run.
+    Misfit(Misfit),
     /// The first fault of the file of a saved state.
     State(StateFault),
     /// The built-in source doesn't give the ROM.
@@ -64,6 +85,8 @@ pub enum Refusal<'a> {
     Proof { line: u32, cause: ProofCause },
     /// No certificate was found for a game: the search ended here.
     NoCertificate(Obstacle),
+    /// No certificate was found for a routine.
+    NoTiming(NoTiming),
     NoMemory,
 }
 
@@ -75,7 +98,9 @@ impl Refusal<'_> {
         match self {
             Refusal::Usage => Status::Usage,
             Refusal::Unread(_) => Status::ReadFault,
-            Refusal::TooLarge(Kind::Game | Kind::TallGame) => Status::GameTooLarge,
+            Refusal::TooLarge(Kind::Game | Kind::TallGame) | Refusal::Misfit(Misfit::Game(_)) => {
+                Status::GameTooLarge
+            }
             Refusal::TooLarge(Kind::Script) => Status::ScriptTooLarge,
             Refusal::TooLarge(Kind::Commands) => Status::CommandsTooLarge,
             Refusal::TooLarge(Kind::Source) => Status::SourceTooLarge,
@@ -87,11 +112,12 @@ impl Refusal<'_> {
             Refusal::Script { .. } => Status::BadScript,
             Refusal::Command { .. } => Status::BadCommand,
             Refusal::Source { .. } => Status::BadSource,
+            Refusal::Misfit(Misfit::Stray(_)) => Status::StrayByte,
             Refusal::Rom(ImageFault::BadRomSource { .. }) => Status::BadRomSource,
             Refusal::Rom(ImageFault::RomDiffers { .. }) => Status::RomDiffers,
             Refusal::Certificate { .. } => Status::BadCertificate,
             Refusal::Proof { .. } => Status::BadProof,
-            Refusal::NoCertificate(_) => Status::NoCertificate,
+            Refusal::NoCertificate(_) | Refusal::NoTiming(_) => Status::NoCertificate,
             Refusal::NoMemory | Refusal::Rom(ImageFault::NoMemory) => Status::NoMemory,
         }
     }

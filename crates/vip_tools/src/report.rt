@@ -5,17 +5,19 @@ ghost use Rattle.std.specs.List.{flat_map};
 ghost use Rattle.chip8_lang.specs.State.{memory_size};
 ghost use Rattle.vip_outside.specs.Pieces.{StreamAnswers};
 ghost use Rattle.vip_outside.specs.Sink.{PutAnswers};
-ghost use Rattle.vip_tools.specs.Report.{ended_report, fault_report, report_pieces, at_line, bad_state, done, image_report, larger_than, linked_report, no_certificate, report_of, rom_differs, too_large_report};
+ghost use Rattle.vip_tools.specs.Report.{ended_report, fault_report, report_pieces, at_line, bad_state, done, image_report, larger_than, misfit_report, linked_report, no_certificate, report_of, rom_differs, too_large_report, no_timing};
 ghost use Rattle.vip_tools.specs.Reported.{RefusalAnswers};
+ghost use Rattle.vip_tools.specs.declared.refusal.NoTiming.TheVariants as why;
 
 use crate::ended::Ended;
 use crate::fault::PerformFault;
 use crate::files::{MOST_MESSAGE, RAM, ROM};
 use crate::obstacle::obstacle_text;
-use crate::refusal::{Kind, Refusal};
+use crate::refusal::{Kind, Misfit, NoTiming, Refusal};
 use crate::status::Status;
 use chip8_lang::Edition;
 use chip8_source::ImageFault;
+use cycle_check::TimingObstacle;
 use game_check::Obstacle;
 use itoa::Buffer as Digits;
 use std::alloc::{AllocError, Global};
@@ -68,6 +70,22 @@ fn game_larger(alloc: Global, edition: Edition) -> Result<Vec<u8>, AllocError>
         b"vip: game larger than ",
         usize::from(edition.memory_size()),
     )
+}
+
+/// Why the bytes that a source gives can't be run.
+fn misfit_text(alloc: Global, misfit: Misfit) -> Result<Vec<u8>, AllocError>
+    ensures { IfOk result (λ line. line.items ≡ misfit_report misfit) }
+{
+    match misfit {
+        Misfit::Stray(address) => {
+            let address = hex4(address);
+            line(
+                alloc,
+                &[b"vip: source gives ", &address, b", where no memory is\n"],
+            )
+        }
+        Misfit::Game(edition) => game_larger(alloc, edition),
+    }
 }
 
 /// More bytes than a file of this kind may have.
@@ -134,6 +152,28 @@ fn obstacle(alloc: Global, obstacle: &Obstacle) -> Result<Vec<u8>, AllocError>
     line(alloc, &[text.as_slice()])
 }
 
+/// Where the search for a routine's certificate ended.
+fn routine_obstacle(alloc: Global, obstacle: &TimingObstacle) -> Result<Vec<u8>, AllocError>
+    ensures { IfOk result (λ line. line.items ≡ no_timing (why.Obstacle obstacle.now)) }
+{
+    let mut text = Buffer::new();
+    obstacle.put(&mut text);
+    line(alloc, &[b"vip: no certificate: ", text.as_slice()])
+}
+
+/// Why no certificate of a routine was found.
+fn no_timing(alloc: Global, why: &NoTiming) -> Result<Vec<u8>, AllocError>
+    ensures { IfOk result (λ line. line.items ≡ no_timing why.now) }
+{
+    match why {
+        NoTiming::Undefined(name) => line(
+            alloc,
+            &[b"vip: no certificate: Undefined ", name.as_slice(), b"\n"],
+        ),
+        NoTiming::Obstacle(obstacle) => routine_obstacle(alloc, obstacle),
+    }
+}
+
 /// The report of want of memory.
 const NO_MEMORY: &[u8] = b"vip: no memory\n";
 
@@ -157,6 +197,7 @@ fn refusal_line(alloc: Global, refusal: &Refusal<'_>) -> Result<Vec<u8>, AllocEr
         Refusal::Source { line, cause } => {
             at_line(alloc, b"vip: source line ", *line, cause.name())
         }
+        Refusal::Misfit(misfit) => misfit_text(alloc, *misfit),
         Refusal::State(fault) => bad_state(alloc, *fault),
         Refusal::Rom(fault) => image_fault(alloc, *fault),
         Refusal::Certificate { line, cause } => {
@@ -166,6 +207,7 @@ fn refusal_line(alloc: Global, refusal: &Refusal<'_>) -> Result<Vec<u8>, AllocEr
             at_line(alloc, b"vip: proof line ", *line, cause.name())
         }
         Refusal::NoCertificate(found) => obstacle(alloc, found),
+        Refusal::NoTiming(why) => no_timing(alloc, why),
         Refusal::NoMemory => line(alloc, &[NO_MEMORY]),
     }
 }

@@ -47,12 +47,14 @@ pub enum Status {
     BadProof,
     /// A certificate has more than 1,048,576 bytes.
     CertificateTooLarge,
-    /// No certificate was found for a game.
+    /// No certificate was found for a game, or for a routine.
     NoCertificate,
     /// A program in the ROM has more than 2,048 bytes.
     RomTooLarge,
     /// A program in the RAM has more than 4,096 bytes.
     RamTooLarge,
+    /// A source gives a byte where no memory is.
+    StrayByte,
 }
 
 impl Status {
@@ -85,6 +87,7 @@ impl Status {
             Status::NoCertificate => 21,
             Status::RomTooLarge => 22,
             Status::RamTooLarge => 23,
+            Status::StrayByte => 24,
         }
     }
 }

@@ -1,12 +1,12 @@
 -- The files of a request of which all fit.
-use Rattle.std.proofs.Common.{ℕ, ◌≤◌, List, [], ◌∷◌, ◌++◌, arith, length}
+use Rattle.std.proofs.Common.{ℕ, List, [], ◌∷◌, ◌++◌, arith}
 use Rattle.asm_lex.specs.declared.shape.Isa.{Isa}
 use Rattle.asm_listing.specs.Disassembly.{HasPlace}
 use Rattle.vip_words.specs.Request.{HasStart}
 use Rattle.vip_words.specs.declared.request.RunRequest.{RunRequest}
 use Rattle.vip_words.specs.declared.request.Request.TheVariants as request
 use Rattle.vip_words.specs.declared.request.ProgramRequest.{ProgramRequest}
-use Rattle.vip_tools.specs.Files.{Needed, AreFit, needed, program_show_files, program_size, script_files, show_files, start_files}
+use Rattle.vip_tools.specs.Files.{Needed, AreFit, IsFit, needed, program_code, program_show_files, script_files, show_files, start_files}
 
 fit-first : (xs ys : List (Needed (List ℕ))) → AreFit (xs ++ ys) → AreFit xs
 fit-first [] ys fit = tt
@@ -32,8 +32,8 @@ module _ (run : RunRequest (List ℕ)) (fit : AreFit (needed (request.Run run)))
 
 -- a program, what is shown of its run, and its key script
 module _ (run : ProgramRequest (List ℕ)) (fit : AreFit (needed (request.Program run))) where
-  pub program-fits : length run.file ≤ program_size run.memory
-  program-fits = fit.0.fits
+  pub program-fits : IsFit (program_code run.memory run.code)
+  program-fits = fit.0
 
   pub program-show-fits : AreFit (program_show_files run.show)
   program-show-fits = fit-first (program_show_files run.show) _ fit.1

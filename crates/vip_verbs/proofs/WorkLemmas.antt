@@ -8,13 +8,13 @@ use Rattle.chip8_lang.specs.declared.view.StopRecord.{StopRecord}
 use Rattle.chip8_lang.specs.Events.{is_stop}
 use Rattle.machine.specs.Keys.{Event as KeyEvent}
 use Rattle.vip_words.specs.Request.{Asked, HasStart, cycles_in, map_request, moves_in}
-use Rattle.vip_words.specs.declared.debug_commands.Command.{Command as DebugCommand}
+use Rattle.vip_words.specs.Spoken.{Spoken}
 use Rattle.vip_words.specs.declared.request.Request.{Request}
 use Rattle.vip_words.specs.declared.request.Request.TheVariants as request
 use Rattle.vip_words.specs.declared.request.Show.{Show}
 use Rattle.vip_words.specs.declared.request.Show.TheVariants as show
 use Rattle.vip_words.specs.declared.request.Start as asked
-use Rattle.vip_words.specs.declared.request.Start.TheVariants as beginning
+use Rattle.vip_words.specs.declared.request.Start.TheVariants as asking
 use Rattle.vip_debug.specs.Answers.{at_start, begun as begun_there, place_of, place_after, written, DebugAnswers}
 use Rattle.vip_debug.specs.declared.run.DebugEnd.{DebugEnd}
 use Rattle.vip_debug.specs.declared.run.DebugEnd.TheVariants as debugger
@@ -34,20 +34,27 @@ use Rattle.vip_tools.specs.declared.fault.PerformFault.{PerformFault}
 use Rattle.vip_tools.specs.declared.fault.PerformFault.TheVariants.{WriteFault}
 use Rattle.vip_tools.specs.declared.status.Status.{Status}
 use Rattle.vip_tools.specs.declared.refusal.Refusal.{Refusal}
-use Rattle.vip_tools.specs.declared.refusal.Refusal.TheVariants.{Usage, Unread, TooLarge, Script, Command, Source, State, Rom, Certificate, Proof, NoCertificate, NoMemory}
+use Rattle.vip_tools.specs.declared.refusal.Refusal.TheVariants.{Usage, Unread, TooLarge, Script, Command, Source, Misfit, State, Rom, Certificate, Proof, NoCertificate, NoMemory, NoTiming}
 use Rattle.vip_tools.specs.Report.{end_report}
 use Rattle.vip_tools.specs.Status.{end_status}
 use Rattle.vip_text.specs.declared.ending.RunEnd.{RunEnd}
-use Rattle.vip_tools.specs.Files.{AreFit, FilesRefused, IsLoaded, Loaded, files_of, needed, start_files}
+use Rattle.vip_tools.specs.Files.{FilesRefused, IsLoaded, Loaded, files_of, needed}
+use Rattle.vip_tools.proofs.CodeLemmas.{game-comes, refused-game, refused-so, unmarked-game}
 use Rattle.vip_tools.proofs.FilesLemmas.{reads-all}
 use Rattle.vip_tools.specs.Opening.{KeysAnswer}
+use Rattle.asm_lex.specs.declared.shape.Isa.TheVariants.{Chip8 as Chip8Words}
+use Rattle.vip_words.specs.declared.request.Code.{Code}
+use Rattle.vip_tools.specs.declared.code.Marks.{Marks}
+use Rattle.vip_tools.specs.Code.{Known, MarksAnswer}
 use Rattle.vip_tools.specs.Outcome.{Outcome, script_in}
 use Rattle.vip_tools.specs.Outcome.Outcome.{Shown}
 use Rattle.vip_tools.specs.Work.{RefusedBy, TextAnswers}
-use Rattle.vip_verbs.specs.Opening.{BeginAnswers, IsShow, RomAnswers, ShowReady, StartAnswers, Starts}
-use Rattle.vip_verbs.specs.Outcome.{Begins, HasOutcome, RunTo, ShowComes, debug_ending, debugged_to, limit_from, ran, saved_as, stopped_by}
+use Rattle.vip_verbs.specs.Opening.{BeginAnswers, BeginsAt, IsBeginning as IsBegin, IsNoBeginning, IsShow, IsWhole, MarksAtStart, RomAnswers, ShowReady, StartAnswers, Starts}
+use Rattle.vip_verbs.specs.Outcome.{Accepts, Begins, HasOutcome, RunTo, ShowComes, debug_ending, debugged_to, limit_from, ran, saved_as, stopped_by}
 use Rattle.vip_verbs.specs.Outcome.RunTo.{FaultyScript, FaultyRom, Runs}
 use Rattle.vip_verbs.specs.Prepared.{DebugEnds, IsBeginning, OpenAnswers, PerformAnswers, PrepareAnswers, ended_by, run_ended, save_ended, shown_as, texted}
+use Rattle.vip_verbs.specs.declared.opening.Beginning.{Beginning}
+use Rattle.vip_verbs.specs.declared.opening.Beginning.TheVariants as beginning
 use Rattle.vip_verbs.specs.declared.prepared.Prepared.{Prepared}
 use Rattle.vip_verbs.specs.declared.prepared.ReadyShow.{ReadyShow}
 
@@ -64,42 +71,91 @@ begun-of v begins = subst (λ (u : VipState). u ≡ begun u.edition u.start u.bo
 pub fresh-of : (v : VipState) → IsBeginning v → IsFresh v
 fresh-of v begins = fresh-begun v v.edition begins.start begins.script begins.is begins.runs
 
--- what holds of every edition and start holds of those of a run whose file fits, and what follows there follows of the run
+-- what holds of every edition and start holds of those of a run whose bytes are whole, and what follows there follows of the run
 module _ (Q : Edition → Start → Type 0) where
-  pub begins-all : (start : asked.Start (List ℕ)) → AreFit (start_files start) → ((e : Edition) (s : Start) → Q e s) → Begins start Q
-  begins-all (beginning.Game game edition) fit all = all edition (Reset game)
-  begins-all (beginning.State file) fit all = record { edition = fit.0.right.0; accepted = fit.0.right.1; here = all fit.0.right.0 (Saved file) }
-  begins-all (beginning.Demo number) fit all = all _ _
+  pub begins-all : (at : Beginning) → IsWhole at → ((e : Edition) (s : Start) → Q e s) → BeginsAt at Q
+  begins-all (beginning.Reset game edition) whole all = all edition (Reset game.items)
+  begins-all (beginning.Saved file) whole all = record { edition = whole.0; accepted = whole.1; here = all whole.0 (Saved file.items) }
 
-  pub begins-map : (P : Edition → Start → Type 0) (start : asked.Start (List ℕ)) → ((e : Edition) (s : Start) → Q e s → P e s) → Begins start Q
-      → Begins start P
-  begins-map P (beginning.Game game edition) follows here = follows edition (Reset game) here
-  begins-map P (beginning.State file) follows here =
-      record { edition = here.edition; accepted = here.accepted; here = follows here.edition (Saved file) here.here }
-  begins-map P (beginning.Demo number) follows here = follows _ _ here
+  pub begins-map : (P : Edition → Start → Type 0) (at : Beginning) → ((e : Edition) (s : Start) → Q e s → P e s) → BeginsAt at Q → BeginsAt at P
+  begins-map P (beginning.Reset game edition) follows here = follows edition (Reset game.items) here
+  begins-map P (beginning.Saved file) follows here =
+      record { edition = here.edition; accepted = here.accepted; here = follows here.edition (Saved file.items) here.here }
 
-  pub begins-so : (P : Type 0) (start : asked.Start (List ℕ)) → ((e : Edition) (s : Start) → Q e s → P) → Begins start Q → P
-  begins-so P (beginning.Game game edition) follows here = follows edition (Reset game) here
-  begins-so P (beginning.State file) follows here = follows here.edition (Saved file) here.here
-  begins-so P (beginning.Demo number) follows here = follows _ _ here
+  pub begins-so : (P : Type 0) (at : Beginning) → ((e : Edition) (s : Start) → Q e s → P) → BeginsAt at Q → P
+  begins-so P (beginning.Reset game edition) follows here = follows edition (Reset game.items) here
+  begins-so P (beginning.Saved file) follows here = follows here.edition (Saved file.items) here.here
+
+-- ---- the bytes with which a run begins
+
+module _ (Here : Edition → Start → Outcome → Type 0) where
+  -- what comes of them comes of the run
+  pub begun-comes : (start : asked.Start (List ℕ)) (at : Beginning) → IsBegin start at → IsWhole at → (o : Outcome) → BeginsAt at (λ e s. Here e s o)
+      → Begins start Here o
+  begun-comes (asking.Game code edition) (beginning.Reset game e) is whole o here =
+      game-comes edition code (λ game. Here edition (Reset game)) game.items is.1 (rw is.0 at whole) o (rw is.0 at here)
+  begun-comes (asking.Game code edition) (beginning.Saved file) is whole o here = absurd is
+  begun-comes (asking.State file) (beginning.Reset game e) is whole o here = absurd is
+  begun-comes (asking.State file) (beginning.Saved bytes) is whole o here = subst (λ file. Accepts file (λ e. Here e (Saved file) o)) is here
+  begun-comes (asking.Demo number) (beginning.Reset game e) is whole o here = rw (is.0, is.1) at here
+  begun-comes (asking.Demo number) (beginning.Saved file) is whole o here = absurd is
+
+  -- there are none
+  pub refused-beginning : (start : asked.Start (List ℕ)) (refusal : Refusal) → IsNoBeginning start refusal → RefusedBy (Begins start Here) refusal
+  refused-beginning (asking.Game code edition) refusal answer = refused-game edition code (λ game. Here edition (Reset game)) refusal answer
+  refused-beginning (asking.State file) Usage answer = absurd answer
+  refused-beginning (asking.State file) (Unread name) answer = absurd answer
+  refused-beginning (asking.State file) (TooLarge kind) answer = absurd answer
+  refused-beginning (asking.State file) (Script line cause) answer = absurd answer
+  refused-beginning (asking.State file) (Command line cause) answer = absurd answer
+  refused-beginning (asking.State file) (Source line cause) answer = absurd answer
+  refused-beginning (asking.State file) (Misfit misfit) answer = absurd answer
+  refused-beginning (asking.State file) (State fault) answer = absurd answer
+  refused-beginning (asking.State file) (Rom fault) answer = absurd answer
+  refused-beginning (asking.State file) (Certificate line cause) answer = absurd answer
+  refused-beginning (asking.State file) (Proof line cause) answer = absurd answer
+  refused-beginning (asking.State file) (NoCertificate obstacle) answer = absurd answer
+  refused-beginning (asking.State file) (NoTiming why) answer = absurd answer
+  refused-beginning (asking.State file) NoMemory answer = tt
+  refused-beginning (asking.Demo number) Usage answer = absurd answer
+  refused-beginning (asking.Demo number) (Unread name) answer = absurd answer
+  refused-beginning (asking.Demo number) (TooLarge kind) answer = absurd answer
+  refused-beginning (asking.Demo number) (Script line cause) answer = absurd answer
+  refused-beginning (asking.Demo number) (Command line cause) answer = absurd answer
+  refused-beginning (asking.Demo number) (Source line cause) answer = absurd answer
+  refused-beginning (asking.Demo number) (Misfit misfit) answer = absurd answer
+  refused-beginning (asking.Demo number) (State fault) answer = absurd answer
+  refused-beginning (asking.Demo number) (Rom fault) answer = absurd answer
+  refused-beginning (asking.Demo number) (Certificate line cause) answer = absurd answer
+  refused-beginning (asking.Demo number) (Proof line cause) answer = absurd answer
+  refused-beginning (asking.Demo number) (NoCertificate obstacle) answer = absurd answer
+  refused-beginning (asking.Demo number) (NoTiming why) answer = absurd answer
+  refused-beginning (asking.Demo number) NoMemory answer = tt
+
+-- what is known of its code, or that there is none
+pub game-marks : (edition : Edition) (code : Code (List ℕ)) (r : Result Marks Refusal) → MarksAnswer Chip8Words code r → MarksAtStart (asking.Game code edition) r
+game-marks edition code (Ok marks) answer = answer
+game-marks edition code (Err refusal) answer = unmarked-game edition code refusal answer
 
 -- a refusal at the run's edition and start is one of the run
-module _ (start : asked.Start (List ℕ)) (Here : Edition → Start → Outcome → Type 0) where
-  none-begins : Begins start (λ e s. ⊥) → ⊥
-  none-begins = begins-so (λ e s. ⊥) ⊥ start (λ e s no. no)
+module _ (at : Beginning) (Here : Edition → Start → Outcome → Type 0) where
+  none-begins : BeginsAt at (λ e s. ⊥) → ⊥
+  none-begins = begins-so (λ e s. ⊥) ⊥ at (λ e s no. no)
 
-  pub refused-begins : (refusal : Refusal) → Begins start (λ e s. RefusedBy (Here e s) refusal) → RefusedBy (λ o. Begins start (λ e s. Here e s o)) refusal
+  pub refused-begins : (refusal : Refusal) → BeginsAt at (λ e s. RefusedBy (Here e s) refusal) → RefusedBy (λ o. BeginsAt at (λ e s. Here e s o)) refusal
   refused-begins Usage at = none-begins at
   refused-begins (Unread name) at = none-begins at
   refused-begins (TooLarge kind) at = none-begins at
   refused-begins (Script line cause) at = at
   refused-begins (Command line cause) at = at
   refused-begins (Source line cause) at = at
+  refused-begins (Misfit misfit) at = at
   refused-begins (State fault) at = none-begins at
   refused-begins (Rom fault) at = at
   refused-begins (Certificate line cause) at = at
   refused-begins (Proof line cause) at = at
   refused-begins (NoCertificate obstacle) at = at
+  refused-begins (NoTiming why) at = at
   refused-begins NoMemory at = tt
 
 -- ---- its script, and what is shown of it
@@ -113,11 +169,13 @@ module _ (e : Edition) (s : Start) (keys : Option (List ℕ)) where
   refused-keys (Script line cause) answer = answer
   refused-keys (Command line cause) answer = absurd answer
   refused-keys (Source line cause) answer = absurd answer
+  refused-keys (Misfit misfit) answer = absurd answer
   refused-keys (State fault) answer = absurd answer
   refused-keys (Rom fault) answer = absurd answer
   refused-keys (Certificate line cause) answer = absurd answer
   refused-keys (Proof line cause) answer = absurd answer
   refused-keys (NoCertificate obstacle) answer = absurd answer
+  refused-keys (NoTiming why) answer = absurd answer
   refused-keys NoMemory answer = tt
 
   -- it is
@@ -130,32 +188,36 @@ module _ (e : Edition) (s : Start) (keys : Option (List ℕ)) where
     begin-answers (Err (Script line cause)) answer = absurd answer
     begin-answers (Err (Command line cause)) answer = absurd answer
     begin-answers (Err (Source line cause)) answer = absurd answer
+    begin-answers (Err (Misfit misfit)) answer = absurd answer
     begin-answers (Err (State fault)) answer = absurd answer
     begin-answers (Err (Rom fault)) answer = record { script = script; reads = reads; here = answer }
     begin-answers (Err (Certificate line cause)) answer = absurd answer
     begin-answers (Err (Proof line cause)) answer = absurd answer
     begin-answers (Err (NoCertificate obstacle)) answer = absurd answer
+    begin-answers (Err (NoTiming why)) answer = absurd answer
     begin-answers (Err NoMemory) answer = tt
 
-  module _ (limit : ℕ) where
+  module _ (known : Known) (limit : ℕ) where
     -- what is shown of it isn't ready
-    pub refused-show : (asked : Show (List ℕ)) (refusal : Refusal) → ShowReady limit asked (Err refusal) → RefusedBy (ShowComes e s keys limit asked) refusal
+    pub refused-show : (asked : Show (List ℕ)) (refusal : Refusal) → ShowReady known limit asked (Err refusal) → RefusedBy (ShowComes known e s keys limit asked) refusal
     refused-show asked Usage answer = absurd answer
     refused-show asked (Unread name) answer = absurd answer
     refused-show asked (TooLarge kind) answer = absurd answer
     refused-show asked (Script line cause) answer = absurd answer
     refused-show (show.Trace with_time with_words with_screen) (Command line cause) answer = absurd answer
     refused-show show.Pictures (Command line cause) answer = absurd answer
-    refused-show (show.Commands text) (Command line cause) answer = rw answer refl
+    refused-show (show.Commands text echo) (Command line cause) answer = rw answer refl
     refused-show show.State (Command line cause) answer = absurd answer
     refused-show show.Profile (Command line cause) answer = absurd answer
     refused-show (show.Summary number) (Command line cause) answer = absurd answer
     refused-show asked (Source line cause) answer = absurd answer
+    refused-show asked (Misfit misfit) answer = absurd answer
     refused-show asked (State fault) answer = absurd answer
     refused-show asked (Rom fault) answer = absurd answer
     refused-show asked (Certificate line cause) answer = absurd answer
     refused-show asked (Proof line cause) answer = absurd answer
     refused-show asked (NoCertificate obstacle) answer = absurd answer
+    refused-show asked (NoTiming why) answer = absurd answer
     refused-show asked NoMemory answer = tt
 
     -- it is ready, so it comes to what it makes of its script
@@ -163,32 +225,34 @@ module _ (e : Edition) (s : Start) (keys : Option (List ℕ)) where
       abbrev Comes : Outcome → Type 0
       Comes = RunTo e keys (λ script. shown_as ready (begun e s script) limit)
 
-      comes-as : (asked : Show (List ℕ)) → IsShow limit asked ready → (o : Outcome) → Comes o → ShowComes e s keys limit asked o
+      comes-as : (asked : Show (List ℕ)) → IsShow known limit asked ready → (o : Outcome) → Comes o → ShowComes known e s keys limit asked o
       comes-as (show.Trace with_time with_words with_screen) is o come = rw is at come
       comes-as show.Pictures is o come = rw is at come
-      comes-as (show.Commands text) is o come = rw is.1 (rw is.2 at come)
+      comes-as (show.Commands text echo) is o come = rw is.2 (rw (is.4, is.3) at come)
       comes-as show.State is o come = rw is at come
       comes-as show.Profile is o come = rw is.1 at come
       comes-as (show.Summary number) is o come = rw is at come
 
-      pub run-comes : (asked : Show (List ℕ)) → IsShow limit asked ready → (v : VipState) → BeginAnswers e s keys (Ok v)
-          → ShowComes e s keys limit asked (shown_as ready v limit)
+      pub run-comes : (asked : Show (List ℕ)) → IsShow known limit asked ready → (v : VipState) → BeginAnswers e s keys (Ok v)
+          → ShowComes known e s keys limit asked (shown_as ready v limit)
       run-comes asked is v begins =
           comes-as asked is _ (subst (λ w. Comes (shown_as ready w limit)) (sym begins.here.is) (Runs begins.script begins.reads begins.here.rom))
 
-      pub refused-begin : (asked : Show (List ℕ)) → IsShow limit asked ready → (refusal : Refusal) → BeginAnswers e s keys (Err refusal)
-          → RefusedBy (ShowComes e s keys limit asked) refusal
+      pub refused-begin : (asked : Show (List ℕ)) → IsShow known limit asked ready → (refusal : Refusal) → BeginAnswers e s keys (Err refusal)
+          → RefusedBy (ShowComes known e s keys limit asked) refusal
       refused-begin asked is Usage answer = absurd answer
       refused-begin asked is (Unread name) answer = absurd answer
       refused-begin asked is (TooLarge kind) answer = absurd answer
       refused-begin asked is (Script line cause) answer = comes-as asked is _ (FaultyScript line cause answer)
       refused-begin asked is (Command line cause) answer = absurd answer
       refused-begin asked is (Source line cause) answer = absurd answer
+      refused-begin asked is (Misfit misfit) answer = absurd answer
       refused-begin asked is (State fault) answer = absurd answer
       refused-begin asked is (Rom fault) answer = comes-as asked is _ (FaultyRom answer.script fault answer.reads answer.here.0 answer.here.1)
       refused-begin asked is (Certificate line cause) answer = absurd answer
       refused-begin asked is (Proof line cause) answer = absurd answer
       refused-begin asked is (NoCertificate obstacle) answer = absurd answer
+      refused-begin asked is (NoTiming why) answer = absurd answer
       refused-begin asked is NoMemory answer = tt
 
 -- the ROM of an edition is refused
@@ -203,21 +267,23 @@ rom-refused e d s script is refusal answer = at_rom refusal (subst (λ e. RomAns
     at_rom (Script line cause) answer = absurd answer
     at_rom (Command line cause) answer = absurd answer
     at_rom (Source line cause) answer = absurd answer
+    at_rom (Misfit misfit) answer = absurd answer
     at_rom (State fault) answer = absurd answer
     at_rom (Rom fault) answer = answer
     at_rom (Certificate line cause) answer = absurd answer
     at_rom (Proof line cause) answer = absurd answer
     at_rom (NoCertificate obstacle) answer = absurd answer
+    at_rom (NoTiming why) answer = absurd answer
     at_rom NoMemory answer = tt
 
 -- ---- what the debugger answers of a machine that begins
 
-module _ (limit : ℕ) (commands : List DebugCommand) (v w : VipState) (old new : SinkMeaning) (begins : IsBeginning v) where
+module _ (labels : List (ℕ × List ℕ)) (limit : ℕ) (commands : List Spoken) (v w : VipState) (old new : SinkMeaning) (begins : IsBeginning v) where
   abbrev Answered : DebugEnd → Type 0
-  Answered end = DebugAnswers (begun_there v) (max limit v.board.machine.cycle) commands (place_of v) w old new end
+  Answered end = DebugAnswers labels (begun_there v) (max limit v.board.machine.cycle) commands (place_of v) w old new end
 
   abbrev Answers_to : ℕ → VipState → DebugEnd → Type 0
-  Answers_to last u end = DebugAnswers u last commands (at_start u) w old new end
+  Answers_to last u end = DebugAnswers labels u last commands (at_start u) w old new end
 
   -- it begins before the first move, and the limit isn't in its past
   from-begun : (e : Edition) (s : Start) (script : List KeyEvent) (end : DebugEnd)
@@ -228,14 +294,14 @@ module _ (limit : ℕ) (commands : List DebugCommand) (v w : VipState) (old new 
   from-start : (end : DebugEnd) → Answered end → Answers_to (limit_from v.start limit) v end
   from-start end =
       subst
-      (λ u. DebugAnswers (begun_there u) (max limit u.board.machine.cycle) commands (place_of u) w old new end → Answers_to (limit_from u.start limit) u end)
+      (λ u. DebugAnswers labels (begun_there u) (max limit u.board.machine.cycle) commands (place_of u) w old new end → Answers_to (limit_from u.start limit) u end)
       (sym begins.is)
       (from-begun v.edition begins.start begins.script end)
 
   abbrev last : ℕ
   last = limit_from v.start limit
 
-  pub debug-done : Answered debugger.Done → (AtLimit ≡ debug_ending v last commands) × PutsAll (written v last commands (at_start v)) old new
+  pub debug-done : Answered debugger.Done → (AtLimit ≡ debug_ending v last commands) × PutsAll (written labels v last commands (at_start v)) old new
   debug-done answers =
       let here = from-start debugger.Done answers in
       let runs : is_stop (interpreter v) (state_after v (place_after v last commands (at_start v)).moves) ≡ false = rw here.0.stands.machine at here.1 in
@@ -243,13 +309,13 @@ module _ (limit : ℕ) (commands : List DebugCommand) (v w : VipState) (old new 
 
   pub debug-stopped :
       (stop : StopRecord) → Answered (debugger.Stopped stop)
-      → (stopped_by stop ≡ debug_ending v last commands) × PutsAll (written v last commands (at_start v)) old new
+      → (stopped_by stop ≡ debug_ending v last commands) × PutsAll (written labels v last commands (at_start v)) old new
   debug-stopped stop answers =
       let here = from-start (debugger.Stopped stop) answers in
       let stops : is_stop (interpreter v) (state_after v (place_after v last commands (at_start v)).moves) ≡ true = rw here.0.stands.machine at here.1 in
       (rw stops (ap stopped_by here.2), here.0.puts)
 
-  pub debug-fails : Answered debugger.WriteFault → FailsWithin (written v last commands (at_start v)) old new
+  pub debug-fails : Answered debugger.WriteFault → FailsWithin (written labels v last commands (at_start v)) old new
   debug-fails answers = (from-start debugger.WriteFault answers).0
 
 -- ---- the work
@@ -287,21 +353,21 @@ save-performs limit ending (Some file) old new (Ok (Some end)) saves = record {
 }
 save-performs limit ending (Some file) old new (Err failed) fails = fails
 
-module _ (limit : ℕ) (commands : List DebugCommand) (v w : VipState) (old new : SinkMeaning) (begins : IsBeginning v) where
+module _ (labels : List (ℕ × List ℕ)) (limit : ℕ) (commands : List Spoken) (v w : VipState) (old new : SinkMeaning) (begins : IsBeginning v) where
   abbrev Comes-to : Outcome
-  Comes-to = debugged_to limit (limit_from v.start limit) commands v
+  Comes-to = debugged_to labels limit (limit_from v.start limit) commands v
 
   -- commands that were run
   pub debug-performs :
-      (end : DebugEnd) (r : Result Ended PerformFault) → Answered limit commands v w old new begins end → DebugEnds limit end r
+      (end : DebugEnd) (r : Result Ended PerformFault) → Answered labels limit commands v w old new begins end → DebugEnds limit end r
       → PerformAnswers Comes-to old new r
   debug-performs debugger.Done r answers is =
-      let done = debug-done limit commands v w old new begins answers in
+      let done = debug-done labels limit commands v w old new begins answers in
       rw is (record { puts = done.1; status_is = ap end_status (sym done.0); report_is = ap (end_report limit) (sym done.0) })
   debug-performs (debugger.Stopped stop) r answers is =
-      let stopped = debug-stopped limit commands v w old new begins stop answers in
+      let stopped = debug-stopped labels limit commands v w old new begins stop answers in
       rw is (record { puts = stopped.1; status_is = ap end_status (sym stopped.0); report_is = ap (end_report limit) (sym stopped.0) })
-  debug-performs debugger.WriteFault r answers is = rw is (debug-fails limit commands v w old new begins answers)
+  debug-performs debugger.WriteFault r answers is = rw is (debug-fails labels limit commands v w old new begins answers)
 
 -- ---- what is opened
 
@@ -309,6 +375,11 @@ module _ (HasOutcome : Outcome → Type 0) where
   pub text-answers : (r : Result (Vec ℕ Global) Refusal) → TextAnswers HasOutcome r → PrepareAnswers HasOutcome (texted r)
   text-answers (Ok text) answers = (tt, answers)
   text-answers (Err refusal) answers = answers
+
+-- what is ready as a case of something is ready as that
+pub ready-so : (P Q : Outcome → Type 0) → ((o : Outcome) → P o → Q o) → (r : Result Prepared Refusal) → PrepareAnswers P r → PrepareAnswers Q r
+ready-so P Q so (Ok p) answers = (answers.0, so _ answers.1)
+ready-so P Q so (Err refusal) answers = refused-so P Q so refusal answers
 
 -- with the files read, as many cycles and moves are asked for as before, and the same address
 module _ {A B : Type 0} (f : A → B) where
@@ -321,7 +392,8 @@ module _ {A B : Type 0} (f : A → B) where
   same-cycles (request.Dis bytes isa address) = refl
   same-cycles (request.Source text) = refl
   same-cycles request.Bounds = refl
-  same-cycles (request.Cycles source certificate) = refl
+  same-cycles (request.Cycles source certificate exits) = refl
+  same-cycles (request.Timing source entry p k) = refl
   same-cycles (request.Safe game certificate edition) = refl
   same-cycles (request.Certify game edition) = refl
 
@@ -334,7 +406,8 @@ module _ {A B : Type 0} (f : A → B) where
   same-moves (request.Dis bytes isa address) = refl
   same-moves (request.Source text) = refl
   same-moves request.Bounds = refl
-  same-moves (request.Cycles source certificate) = refl
+  same-moves (request.Cycles source certificate exits) = refl
+  same-moves (request.Timing source entry p k) = refl
   same-moves (request.Safe game certificate edition) = refl
   same-moves (request.Certify game edition) = refl
 
@@ -347,7 +420,8 @@ module _ {A B : Type 0} (f : A → B) where
   same-start (request.Dis bytes isa address) = refl
   same-start (request.Source text) = refl
   same-start request.Bounds = refl
-  same-start (request.Cycles source certificate) = refl
+  same-start (request.Cycles source certificate exits) = refl
+  same-start (request.Timing source entry p k) = refl
   same-start (request.Safe game certificate edition) = refl
   same-start (request.Certify game edition) = refl
 
@@ -377,11 +451,13 @@ module _ (asked : Asked) (old new : FilesMeaning) where
   files-refused (Script line cause) answer = absurd answer
   files-refused (Command line cause) answer = absurd answer
   files-refused (Source line cause) answer = absurd answer
+  files-refused (Misfit misfit) answer = absurd answer
   files-refused (State fault) answer = answer
   files-refused (Rom fault) answer = absurd answer
   files-refused (Certificate line cause) answer = absurd answer
   files-refused (Proof line cause) answer = absurd answer
   files-refused (NoCertificate obstacle) answer = absurd answer
+  files-refused (NoTiming why) answer = absurd answer
   files-refused NoMemory answer = answer
 
   -- all were read
@@ -393,11 +469,13 @@ module _ (asked : Asked) (old new : FilesMeaning) where
     refused-loaded (Script line cause) answer = record { request = request; loaded = loaded; here = answer }
     refused-loaded (Command line cause) answer = record { request = request; loaded = loaded; here = answer }
     refused-loaded (Source line cause) answer = record { request = request; loaded = loaded; here = answer }
+    refused-loaded (Misfit misfit) answer = record { request = request; loaded = loaded; here = answer }
     refused-loaded (State fault) answer = absurd answer
     refused-loaded (Rom fault) answer = record { request = request; loaded = loaded; here = answer }
     refused-loaded (Certificate line cause) answer = record { request = request; loaded = loaded; here = answer }
     refused-loaded (Proof line cause) answer = record { request = request; loaded = loaded; here = answer }
     refused-loaded (NoCertificate obstacle) answer = record { request = request; loaded = loaded; here = answer }
+    refused-loaded (NoTiming why) answer = record { request = request; loaded = loaded; here = answer }
     refused-loaded NoMemory answer =
         reads-all old new (needed asked) (files_of (needed request)) loaded.loads.read loaded.loads.reads
 

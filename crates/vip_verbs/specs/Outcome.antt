@@ -16,7 +16,7 @@ use Rattle.vip_link.specs.Laws.{after}
 use Rattle.vip_link.specs.Pair.{Pair}
 use Rattle.vip_link.specs.Schedules.{schedule_by}
 use Rattle.vip_words.specs.DebugGrammar.{commands_of}
-use Rattle.vip_words.specs.declared.debug_commands.Command.{Command}
+use Rattle.vip_words.specs.Spoken.{Spoken}
 use Rattle.vip_words.specs.declared.debug_commands.Speaks.TheVariants.{Chip8}
 use Rattle.vip_words.specs.declared.debug_commands.CommandFault.{CommandFault}
 use Rattle.vip_words.specs.declared.debug_commands.CommandFault.TheVariants as command
@@ -51,7 +51,9 @@ use Rattle.vip_tools.specs.Refusal.{image_status}
 use Rattle.vip_tools.specs.Status.{end_status}
 use Rattle.vip_tools.specs.Report.{bad_command, bad_script, image_report, end_report, no_dispatch, linked_report}
 use Rattle.vip_tools.specs.declared.status.Status.TheVariants.{BadCommand, BadScript, NoDispatch, Done}
-use Rattle.vip_tools.specs.Certificates.{CertifyComes, CyclesComes, SafeComes}
+use Rattle.vip_tools.specs.Certificates.{CertifyComes, CyclesComes, SafeComes, TimingComes}
+use Rattle.asm_lex.specs.declared.shape.Isa.TheVariants.{Chip8 as Chip8Words}
+use Rattle.vip_tools.specs.Code.{GameComes, Known, OfGame, known_of, nothing_known}
 use Rattle.vip_tools.specs.Demo.{demo_game}
 use Rattle.vip_tools.specs.Outcome.{Outcome, AsmComes, BoundsComes, DisComes, ListComes, Writes, rom_text, script_in}
 use Rattle.vip_tools.specs.Outcome.Outcome.{Refused, Shown}
@@ -89,12 +91,23 @@ pub record Accepts (file : List ℕ) (Here : Edition → Type 0) : Type 0 where
   pub accepted : IsAccepted edition file
   pub here : Here edition
 
--- Of the edition and the start of a run this holds: with a game, in the edition that is asked for; from an accepted file of a saved state, in its own;
--- with the demonstration game of a number, in the usual one. A file with a fault was refused when it was read.
-abbrev pub Begins : asked.Start (List ℕ) → (Edition → Start → Type 0) → Type 0
-Begins (beginning.Game game edition) Here = Here edition (Reset game)
-Begins (beginning.State file) Here = Accepts file (λ e. Here e (Saved file))
-Begins (beginning.Demo number) Here = Here Usual (Reset (demo_game number))
+-- What a run comes to, by what comes of its edition and start: with a game, in the edition that is asked for, and what comes of its code; from an accepted
+-- file of a saved state, in its own; with the demonstration game of a number, in the usual one. A file with a fault was refused when it was read.
+abbrev pub Begins : asked.Start (List ℕ) → (Edition → Start → Outcome → Type 0) → Outcome → Type 0
+Begins (beginning.Game code edition) Here o = GameComes edition code (λ game. Here edition (Reset game)) o
+Begins (beginning.State file) Here o = Accepts file (λ e. Here e (Saved file) o)
+Begins (beginning.Demo number) Here o = Here Usual (Reset (demo_game number)) o
+
+-- what is known of the code with which a run begins
+abbrev pub known_in : asked.Start (List ℕ) → Known
+known_in (beginning.Game code edition) = known_of Chip8Words code
+known_in _ = nothing_known
+
+-- of the edition and the start of a run this holds; that of a source is the run of the game that it gives
+abbrev pub OfRun : asked.Start (List ℕ) → (Edition → Start → Type 0) → Type 0
+OfRun (beginning.Game code edition) Here = OfGame code (λ game. Here edition (Reset game))
+OfRun (beginning.State file) Here = Accepts file (λ e. Here e (Saved file))
+OfRun (beginning.Demo number) Here = Here Usual (Reset (demo_game number))
 
 -- A run comes to the first fault of its script, to a ROM that isn't what its source gives, or to what it makes of its script.
 pub data RunTo (e : Edition) (keys : Option (List ℕ)) (outcome : List KeyEvent → Outcome) : Outcome → Type 0 where
@@ -155,34 +168,34 @@ abbrev pub limit_from : Start → ℕ → ℕ
 limit_from (Reset game) limit = limit
 limit_from (Saved file) limit = max limit (saved_machine file).cycle
 
-abbrev pub debug_ending : VipState → ℕ → List Command → Ending
+abbrev pub debug_ending : VipState → ℕ → List Spoken → Ending
 debug_ending v limit commands = ending_where v (place_after v limit commands (at_start v)).moves
 
 -- the answers begin before the first move
-abbrev pub debugged_to : ℕ → ℕ → List Command → VipState → Outcome
-debugged_to limit last commands v = ran limit (written v last commands (at_start v)) (debug_ending v last commands)
+abbrev pub debugged_to : List (ℕ × List ℕ) → ℕ → ℕ → List Spoken → VipState → Outcome
+debugged_to labels limit last commands v = ran limit (written labels v last commands (at_start v)) (debug_ending v last commands)
 
-abbrev pub debugged : List Command → Edition → Start → List KeyEvent → ℕ → Outcome
-debugged commands e s script limit = debugged_to limit (limit_from s limit) commands (begun e s script)
+abbrev pub debugged : List (ℕ × List ℕ) → List Spoken → Edition → Start → List KeyEvent → ℕ → Outcome
+debugged labels commands e s script limit = debugged_to labels limit (limit_from s limit) commands (begun e s script)
 
 -- A run under the debugger comes to the first fault of its commands, or else, as other runs do, to what their answers come to.
-abbrev pub DebugComes : Edition → Start → Option (List ℕ) → ℕ → Result (List Command) CommandFault → Outcome → Type 0
-DebugComes e s keys limit (Ok commands) = RunTo e keys (λ script. debugged commands e s script limit)
-DebugComes e s keys limit (Err (command.Fault line cause)) = λ o. o ≡ Refused BadCommand (bad_command line cause)
-DebugComes e s keys limit (Err command.NoMemory) = λ o. ⊥
+abbrev pub DebugComes : List (ℕ × List ℕ) → Edition → Start → Option (List ℕ) → ℕ → Result (List Spoken) CommandFault → Outcome → Type 0
+DebugComes labels e s keys limit (Ok commands) = RunTo e keys (λ script. debugged labels commands e s script limit)
+DebugComes labels e s keys limit (Err (command.Fault line cause)) = λ o. o ≡ Refused BadCommand (bad_command line cause)
+DebugComes labels e s keys limit (Err command.NoMemory) = λ o. ⊥
 
--- a run from a start under a script file up to a limit that is shown so
-abbrev pub ShowComes : Edition → Start → Option (List ℕ) → ℕ → Show (List ℕ) → Outcome → Type 0
-ShowComes e s keys limit (show.Trace with_time with_words with_screen) =
+-- a run from a start, of whose code this is known, under a script file up to a limit that is shown so
+abbrev pub ShowComes : Known → Edition → Start → Option (List ℕ) → ℕ → Show (List ℕ) → Outcome → Type 0
+ShowComes known e s keys limit (show.Trace with_time with_words with_screen) =
     RunTo e keys (λ script. traced (columns_of with_time with_words) with_screen e s script limit)
-ShowComes e s keys limit show.Pictures = RunTo e keys (λ script. pictured e s script limit)
-ShowComes e s keys limit (show.Commands text) = DebugComes e s keys limit (commands_of Chip8 limit text)
-ShowComes e s keys limit show.State = RunTo e keys (λ script. saved e limit (events_in e s script limit))
-ShowComes e s keys limit show.Profile = RunTo e keys (λ script. profiled e s script limit)
-ShowComes e s keys limit (show.Summary number) = RunTo e keys (λ script. counted number e s script limit)
+ShowComes known e s keys limit show.Pictures = RunTo e keys (λ script. pictured e s script limit)
+ShowComes known e s keys limit (show.Commands text echo) = DebugComes known.labels e s keys limit (commands_of Chip8 known.names echo limit text)
+ShowComes known e s keys limit show.State = RunTo e keys (λ script. saved e limit (events_in e s script limit))
+ShowComes known e s keys limit show.Profile = RunTo e keys (λ script. profiled e s script limit)
+ShowComes known e s keys limit (show.Summary number) = RunTo e keys (λ script. counted number e s script limit)
 
 abbrev pub RunComes : RunRequest (List ℕ) → Outcome → Type 0
-RunComes run o = Begins run.start (λ e s. ShowComes e s run.keys run.limit run.show o)
+RunComes run = Begins run.start (λ e s. ShowComes (known_in run.start) e s run.keys run.limit run.show)
 
 -- ---- two boards that are joined
 
@@ -220,6 +233,7 @@ HasOutcome (request.List source isa) = ListComes isa source
 HasOutcome (request.Dis bytes isa address) = DisComes isa address bytes
 HasOutcome (request.Source text) = BuiltInComes text
 HasOutcome request.Bounds = BoundsComes
-HasOutcome (request.Cycles source certificate) = CyclesComes source certificate
-HasOutcome (request.Safe game certificate edition) = SafeComes edition game certificate
-HasOutcome (request.Certify game edition) = CertifyComes edition game
+HasOutcome (request.Cycles source certificate exits) = CyclesComes source certificate exits
+HasOutcome (request.Timing source entry p k) = TimingComes source entry p k
+HasOutcome (request.Safe code certificate edition) = GameComes edition code (λ game. SafeComes edition game certificate)
+HasOutcome (request.Certify code edition) = GameComes edition code (CertifyComes edition)

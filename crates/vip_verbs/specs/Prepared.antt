@@ -54,16 +54,16 @@ ended_by limit v = ending_of v.edition (events_to v limit)
 abbrev pub shown_as : ReadyShow → VipState → ℕ → Outcome
 shown_as (show.Trace columns with_screen) v limit = ran limit (run_trace columns with_screen v limit) (ended_by limit v)
 shown_as show.Pictures v limit = ran limit (run_pictures v limit) (ended_by limit v)
-shown_as (show.Commands commands) v limit = debugged_to limit (limit_from v.start limit) commands v
+shown_as (show.Commands commands labels) v limit = debugged_to labels limit (limit_from v.start limit) commands v
 shown_as show.State v limit = saved v.edition limit (events_to v limit)
 shown_as (show.Profile memory) v limit = ran limit (profile_pieces v.edition (events_to v limit)) (ended_by limit v)
 shown_as (show.Summary number) v limit = ran limit (run_summary number v limit) (ended_by limit v)
 
 -- a program that is shown so
 abbrev pub program_shown_as : ReadyProgramShow → Seen → ℕ → Outcome
-program_shown_as program.Trace board limit = program_traced limit board
+program_shown_as (program.Trace labels) board limit = program_traced labels limit board
 program_shown_as program.Pictures board limit = program_pictured limit board
-program_shown_as (program.Commands commands) board limit = program_debugged commands limit board
+program_shown_as (program.Commands commands labels) board limit = program_debugged labels commands limit board
 
 -- two boards that are joined, by where they come to
 abbrev pub linked : Pair → Outcome

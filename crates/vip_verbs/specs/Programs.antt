@@ -4,7 +4,7 @@ use Rattle.machine.specs.Keys.{Event as KeyEvent}
 use Rattle.vip_board.specs.Seen.{Seen}
 use Rattle.vip_board.specs.Shown.{HasPictures}
 use Rattle.vip_words.specs.DebugGrammar.{commands_of}
-use Rattle.vip_words.specs.declared.debug_commands.Command.{Command}
+use Rattle.vip_words.specs.Spoken.{Spoken}
 use Rattle.vip_words.specs.declared.debug_commands.Speaks.TheVariants.{Machine as Processor}
 use Rattle.vip_words.specs.declared.debug_commands.CommandFault.{CommandFault}
 use Rattle.vip_words.specs.declared.debug_commands.CommandFault.TheVariants as command
@@ -21,6 +21,8 @@ use Rattle.vip_program.specs.declared.start.Memory.TheVariants.{Rom, Ram}
 use Rattle.vip_program.specs.declared.trace.ProgramEnd.{ProgramEnd}
 use Rattle.vip_program.specs.declared.trace.ProgramEnd.TheVariants as program
 use Rattle.vip_text.specs.Stops.{idle_line}
+use Rattle.asm_lex.specs.declared.shape.Isa.TheVariants.{Cdp1802}
+use Rattle.vip_tools.specs.Code.{ImageComes, Known, known_of}
 use Rattle.vip_tools.specs.Report.{bad_command, bad_script, done}
 use Rattle.vip_tools.specs.declared.ended.Ended.{Ended}
 use Rattle.vip_tools.specs.declared.ended.Ended.TheVariants.{Idle, Ran}
@@ -38,7 +40,7 @@ use Rattle.vip_words.specs.declared.request.ProgramRequest.{ProgramRequest}
 use Rattle.vip_words.specs.declared.request.ProgramShow.{ProgramShow}
 use Rattle.vip_words.specs.declared.request.ProgramShow.TheVariants as show
 
--- where a program lies
+-- where a program starts
 abbrev pub memory_in : AskedMemory → Memory
 memory_in asked.Rom = Rom
 memory_in asked.Ram = Ram
@@ -53,39 +55,41 @@ abbrev pub ended_at : ℕ → Seen → ProgramEnd
 ended_at limit board = end_at (last_machine board limit)
 
 -- A program comes to the first fault of its script, or to its output and its end.
-pub data ProgramComes (memory : AskedMemory) (bytes : List ℕ) (keys : Option (List ℕ)) (outcome : Seen → Outcome) : Outcome → Type 0 where
+pub data ProgramComes (memory : AskedMemory) (rom ram : List ℕ) (keys : Option (List ℕ)) (outcome : Seen → Outcome) : Outcome → Type 0 where
   FaultyScript : (line : ℕ) (cause : ScriptCause) → script_in keys ≡ Err (Fault line cause)
-      → ProgramComes memory bytes keys outcome (Refused BadScript (bad_script line cause))
+      → ProgramComes memory rom ram keys outcome (Refused BadScript (bad_script line cause))
   Runs : (script : List KeyEvent) → script_in keys ≡ Ok script
-      → ProgramComes memory bytes keys outcome (outcome (started (memory_in memory) bytes script))
+      → ProgramComes memory rom ram keys outcome (outcome (started (memory_in memory) rom ram script))
 
 -- it is shown up to a limit, with its end
 abbrev pub program_ran : ℕ → List (List ℕ) → ProgramEnd → Outcome
 program_ran limit pieces end = Shown pieces Done (program_report limit end)
 
-abbrev pub program_traced : ℕ → Seen → Outcome
-program_traced limit board = program_ran limit (program_trace board limit) (ended_at limit board)
+abbrev pub program_traced : List (ℕ × List ℕ) → ℕ → Seen → Outcome
+program_traced labels limit board = program_ran limit (program_trace labels board limit) (ended_at limit board)
 
 abbrev pub program_pictured : ℕ → Seen → Outcome
 program_pictured limit board = program_ran limit (pictured board limit) (ended_at limit board)
 
 -- the answers of the debugger's commands; it ends where they leave the board
-abbrev pub program_debugged : List Command → ℕ → Seen → Outcome
-program_debugged commands limit board = program_ran limit (program_written board limit commands) (end_at (machine_with board limit commands))
+abbrev pub program_debugged : List (ℕ × List ℕ) → List Spoken → ℕ → Seen → Outcome
+program_debugged labels commands limit board = program_ran limit (program_written labels board limit commands) (end_at (machine_with board limit commands))
 
 -- Under the debugger it comes to the first fault of the commands, or else to what their answers come to.
-abbrev pub ProgramDebugComes : AskedMemory → List ℕ → Option (List ℕ) → ℕ → Result (List Command) CommandFault → Outcome → Type 0
-ProgramDebugComes memory bytes keys limit (Ok commands) = ProgramComes memory bytes keys (program_debugged commands limit)
-ProgramDebugComes memory bytes keys limit (Err (command.Fault line cause)) = λ o. o ≡ Refused BadCommand (bad_command line cause)
-ProgramDebugComes memory bytes keys limit (Err command.NoMemory) = λ o. ⊥
+abbrev pub ProgramDebugComes : List (ℕ × List ℕ) → AskedMemory → List ℕ → List ℕ → Option (List ℕ) → ℕ → Result (List Spoken) CommandFault → Outcome → Type 0
+ProgramDebugComes labels memory rom ram keys limit (Ok commands) = ProgramComes memory rom ram keys (program_debugged labels commands limit)
+ProgramDebugComes labels memory rom ram keys limit (Err (command.Fault line cause)) = λ o. o ≡ Refused BadCommand (bad_command line cause)
+ProgramDebugComes labels memory rom ram keys limit (Err command.NoMemory) = λ o. ⊥
 
-abbrev pub ProgramShowComes : AskedMemory → List ℕ → Option (List ℕ) → ℕ → ProgramShow (List ℕ) → Outcome → Type 0
-ProgramShowComes memory bytes keys limit show.Trace = ProgramComes memory bytes keys (program_traced limit)
-ProgramShowComes memory bytes keys limit show.Pictures = ProgramComes memory bytes keys (program_pictured limit)
-ProgramShowComes memory bytes keys limit (show.Commands text) = ProgramDebugComes memory bytes keys limit (commands_of Processor limit text)
+abbrev pub ProgramShowComes : Known → AskedMemory → List ℕ → List ℕ → Option (List ℕ) → ℕ → ProgramShow (List ℕ) → Outcome → Type 0
+ProgramShowComes known memory rom ram keys limit show.Trace = ProgramComes memory rom ram keys (program_traced known.labels limit)
+ProgramShowComes known memory rom ram keys limit show.Pictures = ProgramComes memory rom ram keys (program_pictured limit)
+ProgramShowComes known memory rom ram keys limit (show.Commands text echo) =
+    ProgramDebugComes known.labels memory rom ram keys limit (commands_of Processor known.names echo limit text)
 
+-- its bytes are those that its code gives
 abbrev pub ProgramRunComes : ProgramRequest (List ℕ) → Outcome → Type 0
-ProgramRunComes run = ProgramShowComes run.memory run.file run.keys run.limit run.show
+ProgramRunComes run = ImageComes run.memory run.code (λ rom ram. ProgramShowComes (known_of Cdp1802 run.code) run.memory rom ram run.keys run.limit run.show)
 
 -- ---- what the calls answer
 
@@ -96,17 +100,17 @@ pub record IsBegun (board : Seen) : Type 0 where
   pub pictures : HasPictures board.rom [] board.machine.cycle board.pictures
 
 -- the board of a program under its script
-pub record BeginsProgram (memory : AskedMemory) (bytes : List ℕ) (keys : Option (List ℕ)) (board : Seen) : Type 0 where
+pub record BeginsProgram (memory : AskedMemory) (rom ram : List ℕ) (keys : Option (List ℕ)) (board : Seen) : Type 0 where
   pub script : List KeyEvent
   pub reads : script_in keys ≡ Ok script
-  pub is : board ≡ started (memory_in memory) bytes script
+  pub is : board ≡ started (memory_in memory) rom ram script
   pub pictures : HasPictures board.rom [] board.machine.cycle board.pictures
 
-abbrev pub BoardAnswers : AskedMemory → List ℕ → Option (List ℕ) → Result Seen Refusal → Type 0
-BoardAnswers memory bytes keys (Ok board) = BeginsProgram memory bytes keys board
-BoardAnswers memory bytes keys (Err (Script line cause)) = script_in keys ≡ Err (Fault line cause)
-BoardAnswers memory bytes keys (Err NoMemory) = Unit {0}
-BoardAnswers memory bytes keys (Err _) = ⊥
+abbrev pub BoardAnswers : AskedMemory → List ℕ → List ℕ → Option (List ℕ) → Result Seen Refusal → Type 0
+BoardAnswers memory rom ram keys (Ok board) = BeginsProgram memory rom ram keys board
+BoardAnswers memory rom ram keys (Err (Script line cause)) = script_in keys ≡ Err (Fault line cause)
+BoardAnswers memory rom ram keys (Err NoMemory) = Unit {0}
+BoardAnswers memory rom ram keys (Err _) = ⊥
 
 -- how the run of a program ended
 abbrev pub program_ended : ℕ → Result ProgramEnd Failed → Result Ended PerformFault

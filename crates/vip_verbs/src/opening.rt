@@ -6,13 +6,15 @@ ghost use Rattle.vip_relation.specs.State.Start.{Reset, Saved};
 ghost use Rattle.vip_words.specs.Request.{map_run, map_show, map_start, most_cycles};
 ghost use Rattle.vip_words.specs.declared.request.Request.TheVariants as asked;
 ghost use Rattle.vip_tools.specs.declared.refusal.Kind.TheVariants.{State};
+ghost use Rattle.vip_tools.specs.Code.{marked};
 ghost use Rattle.vip_tools.specs.Files.{needed, script_files, show_files, start_files, AreFit, IsRight};
 ghost use Rattle.vip_tools.specs.Opening.{keys_in};
-ghost use Rattle.vip_verbs.specs.Outcome.{Accepts, Begins, RomIs, RunComes};
-ghost use Rattle.vip_verbs.specs.Opening.{BeginAnswers, RomAnswers, ShowReady, StartAnswers};
+ghost use Rattle.vip_verbs.specs.Outcome.{Accepts, RomIs, RunComes};
+ghost use Rattle.vip_verbs.specs.Opening.{BeginAnswers, BeginningAnswers, BeginsAt, IsWhole, MarksAtStart, RomAnswers, ShowReady, StartAnswers};
 ghost use Rattle.vip_verbs.specs.Prepared.{PrepareAnswers};
 
 use crate::prepared::{Prepared, ReadyShow};
+use asm_lex::Isa;
 use chip8_lang::Edition;
 use chip8_source::{ImageFault, check_image, check_tall};
 use std::alloc::Global;
@@ -20,7 +22,7 @@ use vip_keypad::Script;
 use vip_relation::{ResumeFault, Run, StartFault};
 use vip_show::Profile;
 use vip_text::TraceColumns;
-use vip_tools::{Refusal, demo_game, game_kind, read_debugging, read_keys};
+use vip_tools::{Marks, Refusal, demo_game, game, game_kind, read_debugging, read_keys};
 use vip_words::{RunRequest, Show, Speaks, Start};
 
 /// Compares an edition's ROM with its built-in source.
@@ -77,31 +79,69 @@ fn go_on<'a>(alloc: Global, file: &[u8], script: &Script) -> Result<Run, Refusal
     }
 }
 
-/// A run from its start under its key script, which is read first.
-fn begin<'a>(
-    alloc: Global,
-    start: Start<Vec<u8>>,
-    keys: Option<Vec<u8>>,
-) -> Result<Run, Refusal<'a>>
-    requires start { AreFit (start_files (map_start (λ bytes. bytes.items) start)) }
-    requires keys { AreFit (script_files (keys_in keys)) }
-    ensures { Begins (map_start (λ bytes. bytes.items) start) (λ e s. BeginAnswers e s (keys_in keys) result) }
+/// Where a run begins, with the bytes that it needs.
+#[derive(Drop)]
+enum Beginning {
+    /// At a reset, with a game of an edition.
+    Reset { game: Vec<u8>, edition: Edition },
+    /// At an accepted file of a saved state.
+    Saved(Vec<u8>),
+}
+
+/// The bytes with which a run begins: those that a game's code gives come first.
+fn read_start<'a>(alloc: Global, start: Start<Vec<u8>>) -> Result<Beginning, Refusal<'a>>
+    requires { AreFit (start_files (map_start (λ bytes. bytes.items) start)) }
+    ensures { BeginningAnswers (map_start (λ bytes. bytes.items) start) result }
 {
-    let script = read_keys(alloc, keys)?;
     match start {
-        Start::Game { file, edition } => start_game(alloc, edition, file.as_slice(), &script),
-        Start::State(file) => go_on(alloc, file.as_slice(), &script),
+        Start::Game { code, edition } => {
+            let game = game(alloc, edition, code)?;
+            Ok(Beginning::Reset { game, edition })
+        }
+        Start::State(file) => Ok(Beginning::Saved(file)),
         Start::Demo(number) => {
             let game = demo_game(alloc, number)?;
-            start_game(alloc, Edition::Usual, game.as_slice(), &script)
+            Ok(Beginning::Reset {
+                game,
+                edition: Edition::Usual,
+            })
         }
     }
 }
 
-/// What is shown of a run up to a limit, with its commands read and its memory taken.
-fn make_ready<'a>(alloc: Global, show: Show<Vec<u8>>, limit: u64) -> Result<ReadyShow, Refusal<'a>>
+/// What is known of the code with which a run begins.
+fn start_marks<'a>(alloc: Global, start: &Start<Vec<u8>>) -> Result<Marks, Refusal<'a>>
+    requires { AreFit (start_files (map_start (λ bytes. bytes.items) start.now)) }
+    ensures { MarksAtStart (map_start (λ bytes. bytes.items) start.now) result }
+{
+    match start {
+        Start::Game { code, edition: _ } => Marks::of(alloc, Isa::Chip8, code),
+        Start::State(_) | Start::Demo(_) => Ok(Marks::none(alloc)),
+    }
+}
+
+/// A run from its beginning under its key script, which is read first.
+fn begin<'a>(alloc: Global, beginning: Beginning, keys: Option<Vec<u8>>) -> Result<Run, Refusal<'a>>
+    requires beginning { IsWhole beginning }
+    requires keys { AreFit (script_files (keys_in keys)) }
+    ensures { BeginsAt beginning (λ e s. BeginAnswers e s (keys_in keys) result) }
+{
+    let script = read_keys(alloc, keys)?;
+    match beginning {
+        Beginning::Reset { game, edition } => start_game(alloc, edition, game.as_slice(), &script),
+        Beginning::Saved(file) => go_on(alloc, file.as_slice(), &script),
+    }
+}
+
+/// What is shown of a run up to a limit, with its commands read, by what is known of its code, and its memory taken.
+fn make_ready<'a>(
+    alloc: Global,
+    marks: Marks,
+    show: Show<Vec<u8>>,
+    limit: u64,
+) -> Result<ReadyShow, Refusal<'a>>
     requires { AreFit (show_files (map_show (λ bytes. bytes.items) show)) }
-    ensures { ShowReady limit (map_show (λ bytes. bytes.items) show) result }
+    ensures { ShowReady (marked marks) limit (map_show (λ bytes. bytes.items) show) result }
 {
     match show {
         Show::Trace {
@@ -116,9 +156,17 @@ fn make_ready<'a>(alloc: Global, show: Show<Vec<u8>>, limit: u64) -> Result<Read
             with_screen,
         }),
         Show::Pictures => Ok(ReadyShow::Pictures),
-        Show::Commands(text) => {
-            let commands = read_debugging(alloc, Speaks::Chip8, text.as_slice(), limit)?;
-            Ok(ReadyShow::Commands(commands))
+        Show::Commands { file, echo } => {
+            let Marks { names, labels } = marks;
+            let commands = read_debugging(
+                alloc,
+                Speaks::Chip8,
+                &names,
+                echo,
+                file.as_slice(),
+                limit,
+            )?;
+            Ok(ReadyShow::Commands { commands, labels })
         }
         Show::State => Ok(ReadyShow::State),
         Show::Profile => Ok(ReadyShow::Profile(Profile::new(alloc)?)),
@@ -126,7 +174,8 @@ fn make_ready<'a>(alloc: Global, show: Show<Vec<u8>>, limit: u64) -> Result<Read
     }
 }
 
-/// Prepares a run of the language. Its commands are read before its key script, so that of two faults theirs counts.
+/// Prepares a run of the language. Its code is assembled where it is a source, then its commands are read, and then its key script, so that of two faults the
+/// earlier one counts.
 pub(crate) fn open_run<'a>(
     alloc: Global,
     request: RunRequest<Vec<u8>>,
@@ -136,7 +185,10 @@ pub(crate) fn open_run<'a>(
     ensures { PrepareAnswers (RunComes (map_run (λ bytes. bytes.items) request)) result }
 {
     let limit = request.limit;
-    let show = make_ready(alloc, request.show, limit)?;
-    let run = begin(alloc, request.start, request.keys)?;
+    let keys = request.keys;
+    let marks = start_marks(alloc, &request.start)?;
+    let beginning = read_start(alloc, request.start)?;
+    let show = make_ready(alloc, marks, request.show, limit)?;
+    let run = begin(alloc, beginning, keys)?;
     Ok(Prepared::Run { run, limit, show })
 }

@@ -5,6 +5,7 @@ ghost use Rattle.vip_verbs.specs.Prepared.{IsReady, PerformAnswers, outcome_of};
 use crate::linked::run_link;
 use crate::program::perform_program;
 use crate::work::{perform_run, put_text};
+use asm_core::Labels;
 use vip_board::Board;
 use vip_link::Link;
 use vip_outside::Sink;
@@ -50,8 +51,11 @@ pub enum ReadyShow {
     },
     /// Each finished picture.
     Pictures,
-    /// The answers to these commands of the debugger.
-    Commands(Commands),
+    /// The answers to these commands of the debugger, with these labels.
+    Commands {
+        commands: Commands,
+        labels: Labels,
+    },
     /// The last dispatch point, as a state file.
     State,
     /// Where its time goes, by its dispatch points, with the memory for it.
@@ -63,12 +67,12 @@ pub enum ReadyShow {
 /// What is shown of a run of a program for the processor, with what it needs.
 #[derive(Drop)]
 pub enum ReadyProgramShow {
-    /// A line for each move or stretch of moves.
-    Trace,
+    /// A line for each move or stretch of moves, behind those of these labels.
+    Trace(Labels),
     /// Each finished picture.
     Pictures,
-    /// The answers to these commands of the debugger.
-    Commands(Commands),
+    /// The answers to these commands of the debugger, with these labels.
+    Commands { commands: Commands, labels: Labels },
 }
 
 /// Does the work of a verb that is ready: its output goes out piece by piece, each by one put, up to the first put that fails. A run that is to be

@@ -1,8 +1,10 @@
 //! The opening of a request: its files are read and judged, and all the memory that its work needs is taken.
 
-ghost use Rattle.std.specs.Prelude.{◌≡◌, ◌≤◌};
-ghost use Rattle.vip_words.specs.Request.{asked_of, cycles_in, most_cycles, most_moves, moves_in, HasStart};
-ghost use Rattle.vip_tools.specs.Files.{loaded_of, needed, AreFit};
+ghost use Rattle.std.specs.Prelude.{◌≡◌, ◌≤◌, length};
+ghost use Rattle.vip_words.specs.Request.{asked_of, cycles_in, map_code, most_cycles, most_moves, moves_in, HasStart};
+ghost use Rattle.vip_tools.specs.Certificates.{CertifyComes, SafeComes};
+ghost use Rattle.vip_tools.specs.Code.{GameComes};
+ghost use Rattle.vip_tools.specs.Files.{game_code, loaded_of, most_text, needed, AreFit, IsFit};
 ghost use Rattle.vip_tools.specs.Outcome.{Writes};
 ghost use Rattle.vip_tools.specs.Work.{TextAnswers};
 ghost use Rattle.vip_verbs.specs.Outcome.{BuiltInComes, HasOutcome};
@@ -12,11 +14,14 @@ use crate::linked::open_link;
 use crate::opening::open_run;
 use crate::prepared::Prepared;
 use crate::program::open_program;
+use chip8_lang::Edition;
 use std::alloc::Global;
 use vip_link::{receiver_text, sender_text};
 use vip_outside::Files;
-use vip_tools::{Refusal, asm, bounds, certify, cycles, dis, list, load, safe, source};
-use vip_words::{BuiltIn, Request};
+use vip_tools::{
+    Refusal, asm, bounds, certify, cycles, dis, game, list, load, safe, source, timing,
+};
+use vip_words::{BuiltIn, Code, Request};
 
 /// A text, to be written.
 fn write<'a>(alloc: Global, text: &[u8]) -> Result<Vec<u8>, Refusal<'a>>
@@ -35,6 +40,34 @@ fn built_in<'a>(alloc: Global, text: BuiltIn) -> Result<Vec<u8>, Refusal<'a>>
         BuiltIn::Sender => write(alloc, sender_text()),
         BuiltIn::Receiver => write(alloc, receiver_text()),
     }
+}
+
+/// Checks a certificate of a game by its code, which is assembled first where it is a source.
+fn safe_code<'a>(
+    alloc: Global,
+    edition: Edition,
+    code: Code<Vec<u8>>,
+    certificate: &[u8],
+) -> Result<Vec<u8>, Refusal<'a>>
+    requires game { IsFit (game_code edition (map_code (λ bytes. bytes.items) code)) }
+    requires certificate { length certificate.now ≤ most_text }
+    ensures { TextAnswers (GameComes edition (map_code (λ bytes. bytes.items) code) (λ game. SafeComes edition game certificate.now)) result }
+{
+    let game = game(alloc, edition, code)?;
+    safe(alloc, edition, game.as_slice(), certificate)
+}
+
+/// Searches for a certificate of a game by its code, which is assembled first where it is a source.
+fn certify_code<'a>(
+    alloc: Global,
+    edition: Edition,
+    code: Code<Vec<u8>>,
+) -> Result<Vec<u8>, Refusal<'a>>
+    requires { IsFit (game_code edition (map_code (λ bytes. bytes.items) code)) }
+    ensures { TextAnswers (GameComes edition (map_code (λ bytes. bytes.items) code) (CertifyComes edition)) result }
+{
+    let game = game(alloc, edition, code)?;
+    certify(alloc, edition, game.as_slice())
 }
 
 /// A verb that writes a text alone.
@@ -75,13 +108,20 @@ fn prepare<'a>(alloc: Global, request: Request<Vec<u8>>) -> Result<Prepared, Ref
         Request::Cycles {
             source,
             certificate,
-        } => text(cycles(alloc, source.as_slice(), certificate.as_slice())),
+            exits,
+        } => text(cycles(alloc, source.as_slice(), certificate.as_slice(), exits)),
+        Request::Timing {
+            source,
+            entry,
+            p,
+            k,
+        } => text(timing(alloc, source.as_slice(), entry, p, k)),
         Request::Safe {
             game,
             certificate,
             edition,
-        } => text(safe(alloc, edition, game.as_slice(), certificate.as_slice())),
-        Request::Certify { game, edition } => text(certify(alloc, edition, game.as_slice())),
+        } => text(safe_code(alloc, edition, game, certificate.as_slice())),
+        Request::Certify { game, edition } => text(certify_code(alloc, edition, game)),
     }
 }
 

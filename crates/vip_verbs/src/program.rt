@@ -1,9 +1,9 @@
 //! The verbs that run a program of the user's: its board, and how its run ends.
 
-ghost use Rattle.std.specs.Prelude.{◌≡◌, ◌≤◌, length};
-ghost use Rattle.vip_program.specs.Program.{most_bytes};
+ghost use Rattle.std.specs.Prelude.{◌≡◌, ◌≤◌};
 ghost use Rattle.vip_words.specs.Request.{map_program, map_program_show, most_cycles};
 ghost use Rattle.vip_words.specs.declared.request.Request.TheVariants as asked;
+ghost use Rattle.vip_tools.specs.Code.{FitsMemories, marked};
 ghost use Rattle.vip_tools.specs.Files.{needed, program_show_files, script_files, AreFit};
 ghost use Rattle.vip_tools.specs.Opening.{keys_in};
 ghost use Rattle.vip_verbs.specs.Opening.{ProgramShowReady};
@@ -12,13 +12,14 @@ ghost use Rattle.vip_verbs.specs.Prepared.{IsReady, PerformAnswers, PrepareAnswe
 ghost use Rattle.vip_verbs.specs.declared.prepared.Prepared.TheVariants as ready;
 
 use crate::prepared::{Prepared, ReadyProgramShow};
+use asm_lex::Isa;
 use std::alloc::Global;
 use vip_board::Board;
 use vip_debug::run_program_commands;
 use vip_outside::{Failed, Sink};
 use vip_program::{Memory, ProgramEnd, show_pictures, show_trace, start_program};
 use vip_text::RunEnd;
-use vip_tools::{Ended, PerformFault, Refusal, read_debugging, read_keys};
+use vip_tools::{Ended, Image, Marks, PerformFault, Refusal, program, read_debugging, read_keys};
 use vip_words::{ProgramRequest, ProgramShow, Speaks};
 
 /// Where a program lies, by the words.
@@ -35,38 +36,49 @@ fn memory_in(memory: vip_words::Memory) -> Memory
 fn start_board<'a>(
     alloc: Global,
     memory: vip_words::Memory,
-    bytes: &[u8],
+    image: &Image,
     keys: Option<Vec<u8>>,
 ) -> Result<Board, Refusal<'a>>
-    requires program { length bytes.now ≤ most_bytes (memory_in memory) }
+    requires image { FitsMemories image.now }
     requires keys { AreFit (script_files (keys_in keys)) }
-    ensures { BoardAnswers memory bytes.now (keys_in keys) result }
+    ensures { BoardAnswers memory image.now.rom.items image.now.ram.items (keys_in keys) result }
 {
     let script = read_keys(alloc, keys)?;
-    let board = start_program(alloc, memory_in(memory), bytes, &script)?;
+    let (rom, ram) = (image.rom.as_slice(), image.ram.as_slice());
+    let board = start_program(alloc, memory_in(memory), rom, ram, &script)?;
     Ok(board)
 }
 
-/// What is shown of a program's run up to a limit, with its commands read.
+/// What is shown of a program's run up to a limit, with its commands read, by what is known of its code.
 fn make_ready<'a>(
     alloc: Global,
+    marks: Marks,
     show: ProgramShow<Vec<u8>>,
     limit: u64,
 ) -> Result<ReadyProgramShow, Refusal<'a>>
     requires { AreFit (program_show_files (map_program_show (λ bytes. bytes.items) show)) }
-    ensures { ProgramShowReady limit (map_program_show (λ bytes. bytes.items) show) result }
+    ensures { ProgramShowReady (marked marks) limit (map_program_show (λ bytes. bytes.items) show) result }
 {
     match show {
-        ProgramShow::Trace => Ok(ReadyProgramShow::Trace),
+        ProgramShow::Trace => Ok(ReadyProgramShow::Trace(marks.labels)),
         ProgramShow::Pictures => Ok(ReadyProgramShow::Pictures),
-        ProgramShow::Commands(text) => {
-            let commands = read_debugging(alloc, Speaks::Machine, text.as_slice(), limit)?;
-            Ok(ReadyProgramShow::Commands(commands))
+        ProgramShow::Commands { file, echo } => {
+            let Marks { names, labels } = marks;
+            let commands = read_debugging(
+                alloc,
+                Speaks::Machine,
+                &names,
+                echo,
+                file.as_slice(),
+                limit,
+            )?;
+            Ok(ReadyProgramShow::Commands { commands, labels })
         }
     }
 }
 
-/// Prepares a run of a program. Its commands are read before its key script, so that of two faults theirs counts.
+/// Prepares a run of a program. Its code is assembled where it is a source, then its commands are read, and then its key script, so that of two faults the
+/// earlier one counts.
 pub(crate) fn open_program<'a>(
     alloc: Global,
     request: ProgramRequest<Vec<u8>>,
@@ -77,8 +89,10 @@ pub(crate) fn open_program<'a>(
 {
     let limit = request.limit;
     let keys = request.keys;
-    let show = make_ready(alloc, request.show, limit)?;
-    let board = start_board(alloc, request.memory, request.file.as_slice(), keys)?;
+    let marks = Marks::of(alloc, Isa::Cdp1802, &request.code)?;
+    let image = program(alloc, request.memory, request.code)?;
+    let show = make_ready(alloc, marks, request.show, limit)?;
+    let board = start_board(alloc, request.memory, &image, keys)?;
     Ok(Prepared::Program { board, limit, show })
 }
 
@@ -104,11 +118,13 @@ pub(crate) fn perform_program<O: Sink>(
     ensures { PerformAnswers (outcome_of (ready.Program board limit show)) (O.meaning out.old) (O.meaning out.new) result }
 {
     match show {
-        ReadyProgramShow::Trace => program_ran(limit, show_trace(&mut board, limit, out)),
+        ReadyProgramShow::Trace(labels) => {
+            program_ran(limit, show_trace(&mut board, &labels, limit, out))
+        }
         ReadyProgramShow::Pictures => program_ran(limit, show_pictures(&mut board, limit, out)),
-        ReadyProgramShow::Commands(commands) => program_ran(
+        ReadyProgramShow::Commands { commands, labels } => program_ran(
             limit,
-            run_program_commands(&mut board, &commands, limit, out),
+            run_program_commands(&mut board, &commands, &labels, limit, out),
         ),
     }
 }

@@ -6,6 +6,7 @@ ghost use Rattle.vip_verbs.specs.declared.prepared.Prepared.TheVariants as ready
 ghost use Rattle.vip_verbs.specs.declared.prepared.ReadyShow.TheVariants as show;
 
 use crate::prepared::ReadyShow;
+use asm_core::Labels;
 use vip_debug::{DebugEnd, run_commands};
 use vip_outside::{Failed, Sink};
 use vip_relation::{Run, Vip};
@@ -51,13 +52,17 @@ fn debug<O: Sink>(
     run: Run,
     limit: u64,
     commands: Commands,
+    labels: Labels,
     out: &mut O,
 ) -> Result<Ended, PerformFault>
-    requires { IsReady (ready.Run run limit (show.Commands commands)) }
-    ensures { PerformAnswers (shown_as (show.Commands commands) run limit) (O.meaning out.old) (O.meaning out.new) result }
+    requires { IsReady (ready.Run run limit (show.Commands commands labels)) }
+    ensures { PerformAnswers (shown_as (show.Commands commands labels) run limit) (O.meaning out.old) (O.meaning out.new) result }
 {
     let mut vip = Vip::of(run);
-    end_of_commands(limit, run_commands(&mut vip, &commands, limit, out))
+    end_of_commands(
+        limit,
+        run_commands(&mut vip, &commands, &labels, limit, out),
+    )
 }
 
 /// Makes a run, and puts what is shown of it.
@@ -79,7 +84,7 @@ pub(crate) fn perform_run<O: Sink>(
             show_trace(&mut run, limit, columns, with_screen, out),
         ),
         ReadyShow::Pictures => ran(limit, show_pictures(&mut run, limit, out)),
-        ReadyShow::Commands(commands) => debug(run, limit, commands, out),
+        ReadyShow::Commands { commands, labels } => debug(run, limit, commands, labels, out),
         ReadyShow::State => end_of_saving(limit, show_saved(&mut run, limit, out)),
         ReadyShow::Profile(mut profile) => {
             ran(limit, show_profile(&mut run, limit, &mut profile, out))

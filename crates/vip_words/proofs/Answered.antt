@@ -18,8 +18,8 @@ use Rattle.vip_words.proofs.Ends.{EndsGiven, flag_end}
 use Rattle.vip_words.proofs.Known.{known_of_all, strings_known}
 use Rattle.vip_words.proofs.Rows.{Seen, both_true, first_of-look, look, one_of-look}
 use Rattle.vip_words.proofs.Shown.{flag_in, word_seen}
-use Rattle.vip_words.proofs.Flags.{At, Chip8, Flag, Ram, Raw, Receiver, Rom, Screen, Sender, State, Tall, Words, flag_name}
-use Rattle.vip_words.proofs.Steps.{First, Second, Third}
+use Rattle.vip_words.proofs.Flags.{Asm, At, Chip8, Echo, Exits, Flag, Ram, Raw, Receiver, Rom, Screen, Sender, State, Tall, Words, flag_name}
+use Rattle.vip_words.proofs.Steps.{First, Fourth, Second, Third}
 use Rattle.vip_words.proofs.Walks.{Agrees, all_given, command_agrees, is_well_formed}
 
 -- the options of a usage, and whether it knows the words
@@ -70,7 +70,7 @@ pub record FlagRead (found : Found) (id : Text) (result : Bool) : Type 0 where
 -- what is read from the matches
 pub record ReadFrom (found : Found) (given : Given) : Type 0 where
   pub positional : given.positional
-      ≡ words_in (first_value found (codes "first")) (first_value found (codes "second")) (first_value found (codes "third"))
+      ≡ words_in (first_value found (codes "first")) (first_value found (codes "second")) (first_value found (codes "third")) (first_value found (codes "fourth"))
   pub keys : given.keys ≡ first_value found (codes "keys")
   pub at : FlagRead found (codes "at") given.at
   pub screen : FlagRead found (codes "screen") given.screen
@@ -79,6 +79,9 @@ pub record ReadFrom (found : Found) (given : Given) : Type 0 where
   pub state : FlagRead found (codes "state") given.state
   pub raw : FlagRead found (codes "raw") given.raw
   pub chip8 : FlagRead found (codes "chip8") given.chip8
+  pub asm : FlagRead found (codes "asm") given.asm
+  pub echo : FlagRead found (codes "echo") given.echo
+  pub exits : FlagRead found (codes "exits") given.exits
   pub rom : FlagRead found (codes "rom") given.rom
   pub ram : FlagRead found (codes "ram") given.ram
   pub sender : FlagRead found (codes "sender") given.sender
@@ -118,21 +121,23 @@ flag_read found given flag result shows reads =
     by_flag false text = sym (reads.off text)
 
 -- a few words are the words in their places
-words_in_places : (words : List Text) → length words ≤ 3 → words_in (slice_get words 0) (slice_get words 1) (slice_get words 2) ≡ words
+words_in_places : (words : List Text) → length words ≤ 4 → words_in (slice_get words 0) (slice_get words 1) (slice_get words 2) (slice_get words 3) ≡ words
 words_in_places [] few = refl
 words_in_places (a ∷ []) few = refl
 words_in_places (a ∷ b ∷ []) few = refl
 words_in_places (a ∷ b ∷ d ∷ []) few = refl
-words_in_places (a ∷ b ∷ d ∷ e ∷ words) few = absurd (omega arith)
+words_in_places (a ∷ b ∷ d ∷ e ∷ []) few = refl
+words_in_places (a ∷ b ∷ d ∷ e ∷ f ∷ words) few = absurd (omega arith)
 
-words_read : (found : Found) (given : Given) → length given.positional ≤ 3 → EndsGiven (rows_of found) given
-    → words_in (first_value found (codes "first")) (first_value found (codes "second")) (first_value found (codes "third")) ≡
+words_read : (found : Found) (given : Given) → length given.positional ≤ 4 → EndsGiven (rows_of found) given
+    → words_in (first_value found (codes "first")) (first_value found (codes "second")) (first_value found (codes "third")) (first_value found (codes "fourth")) ≡
     given.positional
 words_read found given few shows =
     rw (
       word_read found (codes "first") (slice_get given.positional 0) (shows.places First),
       word_read found (codes "second") (slice_get given.positional 1) (shows.places Second),
       word_read found (codes "third") (slice_get given.positional 2) (shows.places Third),
+      word_read found (codes "fourth") (slice_get given.positional 3) (shows.places Fourth),
     ) (words_in_places given.positional few)
 
 -- the second, with the flags of the first from one on
@@ -145,8 +150,17 @@ from_ram given given' = record (from_sender given given') { ram = given.ram }
 abbrev from_rom : Given → Given → Given
 from_rom given given' = record (from_ram given given') { rom = given.rom }
 
+abbrev from_exits : Given → Given → Given
+from_exits given given' = record (from_rom given given') { exits = given.exits }
+
+abbrev from_echo : Given → Given → Given
+from_echo given given' = record (from_exits given given') { echo = given.echo }
+
+abbrev from_asm : Given → Given → Given
+from_asm given given' = record (from_echo given given') { asm = given.asm }
+
 abbrev from_chip8 : Given → Given → Given
-from_chip8 given given' = record (from_rom given given') { chip8 = given.chip8 }
+from_chip8 given given' = record (from_asm given given') { chip8 = given.chip8 }
 
 abbrev from_raw : Given → Given → Given
 from_raw given given' = record (from_chip8 given given') { raw = given.raw }
@@ -171,14 +185,17 @@ same_given given given' positional keys flags =
     ∙ (ap (λ x. record (from_state given given') { tall = x }) (flags Tall)
     ∙ (ap (λ x. record (from_raw given given') { state = x }) (flags State)
     ∙ (ap (λ x. record (from_chip8 given given') { raw = x }) (flags Raw)
-    ∙ (ap (λ x. record (from_rom given given') { chip8 = x }) (flags Chip8)
+    ∙ (ap (λ x. record (from_asm given given') { chip8 = x }) (flags Chip8)
+    ∙ (ap (λ x. record (from_echo given given') { asm = x }) (flags Asm)
+    ∙ (ap (λ x. record (from_exits given given') { echo = x }) (flags Echo)
+    ∙ (ap (λ x. record (from_rom given given') { exits = x }) (flags Exits)
     ∙ (ap (λ x. record (from_ram given given') { rom = x }) (flags Rom)
     ∙ (ap (λ x. record (from_sender given given') { ram = x }) (flags Ram)
     ∙ (ap (λ x. record given' { sender = x; receiver = given.receiver }) (flags Sender)
-    ∙ ap (λ x. record given' { receiver = x }) (flags Receiver))))))))))))
+    ∙ ap (λ x. record given' { receiver = x }) (flags Receiver)))))))))))))))
 
 -- what is read is what the rows show
-read_shown : (found : Found) (given given' : Given) → length given.positional ≤ 3 → EndsGiven (rows_of found) given → ReadFrom found given'
+read_shown : (found : Found) (given given' : Given) → length given.positional ≤ 4 → EndsGiven (rows_of found) given → ReadFrom found given'
     → given ≡ given'
 read_shown found given given' few shows reads =
     same_given given given'
@@ -192,6 +209,9 @@ read_shown found given given' few shows reads =
       | State ↦ flag_read found given State given'.state shows reads.state
       | Raw ↦ flag_read found given Raw given'.raw shows reads.raw
       | Chip8 ↦ flag_read found given Chip8 given'.chip8 shows reads.chip8
+      | Asm ↦ flag_read found given Asm given'.asm shows reads.asm
+      | Echo ↦ flag_read found given Echo given'.echo shows reads.echo
+      | Exits ↦ flag_read found given Exits given'.exits shows reads.exits
       | Rom ↦ flag_read found given Rom given'.rom shows reads.rom
       | Ram ↦ flag_read found given Ram given'.ram shows reads.ram
       | Sender ↦ flag_read found given Sender given'.sender shows reads.sender
@@ -218,7 +238,7 @@ taken_give usage name (verb ∷ rest) found given some known quiet rows reads =
     let all = known_of_all usage.options.now usage.known_options words own in
     let taken = taken_test _ _ _ _ (command_agrees name usage.places usage.few_places (string_bytes verb) words all) quiet in
     let shows : EndsGiven (rows_of found) (all_given words) = subst (λ rs. EndsGiven rs (all_given words)) (sym rows) taken.1 in
-    let few : length (positional_words false words) ≤ 3 =
+    let few : length (positional_words false words) ≤ 4 =
     let count = count_of usage.places words taken.0 in let most = usage.few_places in omega arith in
     given_known usage.places (options_of usage) words own
     ∙ (ap (λ b. if b then Some (all_given words) else None) taken.0

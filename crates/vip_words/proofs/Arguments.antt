@@ -1,53 +1,36 @@
 -- The command with one argument more.
-use Rattle.std.proofs.Common.{◌≡◌, refl, arith, ◌<◌, ◌≤◌, ◌+◌, ℕ, zero, suc, [], ◌∷◌, length, get_or, map, take, codes, Bor}
-use Rattle.clap.specs.Words.{Text, with_rule}
-use Rattle.vip_words.specs.Command.{app_with, command_app, flag_names, flag_rule, keys_rule, place_rule}
+use Rattle.std.proofs.Common.{◌≡◌, ◌∙◌, refl, sym, ap, subst, arith, ◌<◌, ◌≤◌, ◌+◌, ℕ, List, [], ◌∷◌, ◌++◌, length, get_or, map, take, Bor}
+use Rattle.std.proofs.lemmas.List.{get_or-map, get_or-take, length-map, length-take, map-append, take_more}
+use Rattle.clap.specs.Words.{Rule, Text, with_rule}
+use Rattle.vip_words.specs.Command.{app_with, command_app, flag_names, flag_rule, keys_rule, place_names, place_rule}
+
+-- the rules of the first names, and that of the next one
+one_more : (rule : Text → Rule) (names : List Text) (words : List (Bor Text)) (i : ℕ) (d : Bor Text) → map (λ word. word.now) words ≡ names → i < length words
+    → map rule (take i names) ++ rule (get_or words i d).now ∷ [] ≡ map rule (take (i + 1) names)
+one_more rule names words i d are within =
+    let named = sym (get_or-map (λ word. word.now) words i d d.now within) ∙ ap (λ all. get_or all i d.now) are in
+    let counted : i < length names = subst (λ n. i < n) (sym (length-map words (λ word. word.now)) ∙ ap length are) within in
+    ap (λ name. map rule (take i names) ++ rule name ∷ []) named
+    ∙ (sym (map-append rule (take i names) (get_or names i d.now ∷ [])) ∙ ap (map rule) (sym (take_more names i d.now counted)))
 
 -- the argument of the next place is added to a command that has the places before it
-pub next_place : (name : Text) (places i : ℕ) (a b c d : Bor Text)
-    → a.now ≡ codes "first" → b.now ≡ codes "second" → c.now ≡ codes "third"
-    → places ≤ 3 → i < length (take places (a ∷ b ∷ c ∷ []))
-    → with_rule (command_app name i) (place_rule (get_or (take places (a ∷ b ∷ c ∷ [])) i d).now) ≡ command_app name (i + 1)
-next_place name zero i a b c d first second third few within = absurd (omega arith)
-next_place name (suc zero) zero a b c d first second third few within = rw first refl
-next_place name (suc zero) (suc i) a b c d first second third few within = absurd (omega arith)
-next_place name (suc (suc zero)) zero a b c d first second third few within = rw first refl
-next_place name (suc (suc zero)) (suc zero) a b c d first second third few within = rw second refl
-next_place name (suc (suc zero)) (suc (suc i)) a b c d first second third few within = absurd (omega arith)
-next_place name (suc (suc (suc zero))) zero a b c d first second third few within = rw first refl
-next_place name (suc (suc (suc zero))) (suc zero) a b c d first second third few within = rw second refl
-next_place name (suc (suc (suc zero))) (suc (suc zero)) a b c d first second third few within = rw third refl
-next_place name (suc (suc (suc zero))) (suc (suc (suc i))) a b c d first second third few within = absurd (omega arith)
-next_place name (suc (suc (suc (suc places)))) i a b c d first second third few within = absurd (omega arith)
-
-place_count : (places : ℕ) (a b c : Bor Text) → places ≤ 3 → length (take places (a ∷ b ∷ c ∷ [])) ≡ places
-place_count zero a b c few = refl
-place_count (suc zero) a b c few = refl
-place_count (suc (suc zero)) a b c few = refl
-place_count (suc (suc (suc zero))) a b c few = refl
-place_count (suc (suc (suc (suc places)))) a b c few = absurd (omega arith)
+pub next_place : (name : Text) (words : List (Bor Text)) (places i : ℕ) (d : Bor Text) → map (λ word. word.now) words ≡ place_names
+    → i < length (take places words)
+    → with_rule (command_app name i) (place_rule (get_or (take places words) i d).now) ≡ command_app name (i + 1)
+next_place name words places i d are within =
+    let counted = length-take places words in
+    let before : i < places = omega (arith, within, counted) in
+    let inside : i < length words = omega (arith, within, counted) in
+    ap (λ word. with_rule (command_app name i) (place_rule word.now)) (get_or-take places words i d before)
+    ∙ ap (λ rules. app_with name (keys_rule ∷ map flag_rule flag_names ++ rules)) (one_more place_rule place_names words i d are inside)
 
 -- all the places were gone through
-pub all_places : (places i : ℕ) (a b c : Bor Text) → places ≤ 3 → length (take places (a ∷ b ∷ c ∷ [])) ≤ i
-    → i ≤ length (take places (a ∷ b ∷ c ∷ [])) → i ≡ places
-all_places places i a b c few from upto = let count = place_count places a b c few in omega arith
+pub all_places : (words : List (Bor Text)) (places i : ℕ) → places ≤ length words → length (take places words) ≤ i → i ≤ length (take places words)
+    → i ≡ places
+all_places words places i few from upto = let counted = length-take places words in omega arith
 
 -- the argument of the next flag is added to a command that has the flags before it
-pub next_flag : (name : Text) (i : ℕ) (a b c d e f g h k l m j : Bor Text) → a.now ≡ codes "at" → b.now ≡ codes "screen" → c.now ≡ codes "words"
-    → d.now ≡ codes "tall" → e.now ≡ codes "state" → f.now ≡ codes "raw" → g.now ≡ codes "chip8" → h.now ≡ codes "rom" → k.now ≡ codes "ram"
-    → l.now ≡ codes "sender" → m.now ≡ codes "receiver" → i < 11
-    → with_rule (app_with name (keys_rule ∷ map flag_rule (take i flag_names)))
-    (flag_rule (get_or (a ∷ b ∷ c ∷ d ∷ e ∷ f ∷ g ∷ h ∷ k ∷ l ∷ m ∷ []) i j).now)
+pub next_flag : (name : Text) (words : List (Bor Text)) (i : ℕ) (d : Bor Text) → map (λ word. word.now) words ≡ flag_names → i < length words
+    → with_rule (app_with name (keys_rule ∷ map flag_rule (take i flag_names))) (flag_rule (get_or words i d).now)
     ≡ app_with name (keys_rule ∷ map flag_rule (take (i + 1) flag_names))
-next_flag name zero a b c d e f g h k l m j at screen words tall state raw chip8 rom ram sender receiver few = rw at refl
-next_flag name (suc zero) a b c d e f g h k l m j at screen words tall state raw chip8 rom ram sender receiver few = rw screen refl
-next_flag name (suc (suc zero)) a b c d e f g h k l m j at screen words tall state raw chip8 rom ram sender receiver few = rw words refl
-next_flag name (suc (suc (suc zero))) a b c d e f g h k l m j at screen words tall state raw chip8 rom ram sender receiver few = rw tall refl
-next_flag name (suc (suc (suc (suc zero)))) a b c d e f g h k l m j at screen words tall state raw chip8 rom ram sender receiver few = rw state refl
-next_flag name (suc (suc (suc (suc (suc zero))))) a b c d e f g h k l m j at screen words tall state raw chip8 rom ram sender receiver few = rw raw refl
-next_flag name (suc (suc (suc (suc (suc (suc zero)))))) a b c d e f g h k l m j at screen words tall state raw chip8 rom ram sender receiver few = rw chip8 refl
-next_flag name (suc (suc (suc (suc (suc (suc (suc zero))))))) a b c d e f g h k l m j at screen words tall state raw chip8 rom ram sender receiver few = rw rom refl
-next_flag name (suc (suc (suc (suc (suc (suc (suc (suc zero)))))))) a b c d e f g h k l m j at screen words tall state raw chip8 rom ram sender receiver few = rw ram refl
-next_flag name (suc (suc (suc (suc (suc (suc (suc (suc (suc zero))))))))) a b c d e f g h k l m j at screen words tall state raw chip8 rom ram sender receiver few = rw sender refl
-next_flag name (suc (suc (suc (suc (suc (suc (suc (suc (suc (suc zero)))))))))) a b c d e f g h k l m j at screen words tall state raw chip8 rom ram sender receiver few = rw receiver refl
-next_flag name (suc (suc (suc (suc (suc (suc (suc (suc (suc (suc (suc i))))))))))) a b c d e f g h k l m j at screen words tall state raw chip8 rom ram sender receiver few = absurd (omega arith)
+next_flag name words i d are within = ap (λ rules. app_with name (keys_rule ∷ rules)) (one_more flag_rule flag_names words i d are within)

@@ -10,8 +10,8 @@ use Rattle.clap.specs.Walk.{Row, Rule, Text, finished, with_default}
 use Rattle.clap.specs.declared.builder.value_parser.Reading.TheVariants.{AsWritten}
 use Rattle.vip_words.specs.Command.{place_names, place_rule}
 use Rattle.vip_words.proofs.Rows.{Seen, after_default, defaults-look, is_given-look, is_nil, look, no_default, or_first, or_first-none, quiet_defaults}
-use Rattle.vip_words.proofs.Flags.{At, Chip8, Flag, Ram, Raw, Receiver, Rom, Screen, Sender, State, Tall, Words, flag_name}
-use Rattle.vip_words.proofs.Steps.{First, Pending, Place, Second, Third, all_quiet, arguments, held, missing_places, place_at, place_name, settled_after}
+use Rattle.vip_words.proofs.Flags.{Asm, At, Chip8, Echo, Exits, Flag, Ram, Raw, Receiver, Rom, Screen, Sender, State, Tall, Words, flag_name}
+use Rattle.vip_words.proofs.Steps.{First, Fourth, Pending, Place, Second, Third, all_quiet, arguments, held, missing_places, place_at, place_name, settled_after}
 use Rattle.vip_words.specs.Rules.{Given}
 use Rattle.vip_words.proofs.Shown.{Facts, Idle, flag_in, flag_seen, word_seen}
 use Rattle.vip_words.proofs.Whole.{ends_with}
@@ -37,12 +37,14 @@ no_place_default zero = refl
 no_place_default (suc zero) = refl
 no_place_default (suc (suc zero)) = refl
 no_place_default (suc (suc (suc zero))) = refl
-no_place_default (suc (suc (suc (suc count)))) = refl
+no_place_default (suc (suc (suc (suc zero)))) = refl
+no_place_default (suc (suc (suc (suc (suc count))))) = refl
 
 place_defaults : (count : ℕ) (place : Place) (o : Option Seen) → fold (after_default (place_name place)) o (arguments count) ≡ o
 place_defaults count First o = no_default (codes "first") o (place_arguments count) (no_place_default count)
 place_defaults count Second o = no_default (codes "second") o (place_arguments count) (no_place_default count)
 place_defaults count Third o = no_default (codes "third") o (place_arguments count) (no_place_default count)
+place_defaults count Fourth o = no_default (codes "fourth") o (place_arguments count) (no_place_default count)
 
 keys_default : (count : ℕ) (o : Option Seen) → fold (after_default (codes "keys")) o (arguments count) ≡ o
 keys_default count o = no_default (codes "keys") (or_first o None) (place_arguments count) (no_place_default count) ∙ or_first-none o
@@ -60,8 +62,14 @@ flag_default count Tall false = no_default (codes "tall") (flag_end false) (plac
 flag_default count State false = no_default (codes "state") (flag_end false) (place_arguments count) (no_place_default count)
 flag_default count Raw true = no_default (codes "raw") (flag_end true) (place_arguments count) (no_place_default count)
 flag_default count Chip8 true = no_default (codes "chip8") (flag_end true) (place_arguments count) (no_place_default count)
+flag_default count Asm true = no_default (codes "asm") (flag_end true) (place_arguments count) (no_place_default count)
+flag_default count Echo true = no_default (codes "echo") (flag_end true) (place_arguments count) (no_place_default count)
+flag_default count Exits true = no_default (codes "exits") (flag_end true) (place_arguments count) (no_place_default count)
 flag_default count Raw false = no_default (codes "raw") (flag_end false) (place_arguments count) (no_place_default count)
 flag_default count Chip8 false = no_default (codes "chip8") (flag_end false) (place_arguments count) (no_place_default count)
+flag_default count Asm false = no_default (codes "asm") (flag_end false) (place_arguments count) (no_place_default count)
+flag_default count Echo false = no_default (codes "echo") (flag_end false) (place_arguments count) (no_place_default count)
+flag_default count Exits false = no_default (codes "exits") (flag_end false) (place_arguments count) (no_place_default count)
 flag_default count Rom true = no_default (codes "rom") (flag_end true) (place_arguments count) (no_place_default count)
 flag_default count Rom false = no_default (codes "rom") (flag_end false) (place_arguments count) (no_place_default count)
 flag_default count Ram true = no_default (codes "ram") (flag_end true) (place_arguments count) (no_place_default count)
@@ -98,7 +106,7 @@ place_empty rows given shows place =
     empty (Some word) = refl
 
 -- a place stands empty exactly where there are fewer words
-places_filled : (count : ℕ) (words : List Text) (rows : List Row) → count ≤ 3 → length words ≤ count
+places_filled : (count : ℕ) (words : List Text) (rows : List Row) → count ≤ 4 → length words ≤ count
     → ((place : Place) → not (is_given_in (place_name place) rows) ≡ is_empty_place words place)
     → list_any (λ id. not (is_given_in id rows)) (take count place_names) ≡ not (length words == count)
 places_filled zero [] rows few within empty = refl
@@ -115,10 +123,16 @@ places_filled (suc (suc (suc zero))) (a ∷ []) rows few within empty = rw (empt
 places_filled (suc (suc (suc zero))) (a ∷ b ∷ []) rows few within empty = rw (empty First, empty Second, empty Third) refl
 places_filled (suc (suc (suc zero))) (a ∷ b ∷ d ∷ []) rows few within empty = rw (empty First, empty Second, empty Third) refl
 places_filled (suc (suc (suc zero))) (a ∷ b ∷ d ∷ e ∷ words) rows few within empty = absurd (omega arith)
-places_filled (suc (suc (suc (suc count)))) words rows few within empty = absurd (omega arith)
+places_filled (suc (suc (suc (suc zero)))) [] rows few within empty = rw (empty First) refl
+places_filled (suc (suc (suc (suc zero)))) (a ∷ []) rows few within empty = rw (empty First, empty Second) refl
+places_filled (suc (suc (suc (suc zero)))) (a ∷ b ∷ []) rows few within empty = rw (empty First, empty Second, empty Third) refl
+places_filled (suc (suc (suc (suc zero)))) (a ∷ b ∷ d ∷ []) rows few within empty = rw (empty First, empty Second, empty Third, empty Fourth) refl
+places_filled (suc (suc (suc (suc zero)))) (a ∷ b ∷ d ∷ e ∷ []) rows few within empty = rw (empty First, empty Second, empty Third, empty Fourth) refl
+places_filled (suc (suc (suc (suc zero)))) (a ∷ b ∷ d ∷ e ∷ f ∷ words) rows few within empty = absurd (omega arith)
+places_filled (suc (suc (suc (suc (suc count))))) words rows few within empty = absurd (omega arith)
 
 -- once the pending word is settled, the one fault left is an argument that is missing
-pub ends_checked : (name : Text) (count : ℕ) → count ≤ 3 → (rows : List Row) (pending : Pending) (given : Given)
+pub ends_checked : (name : Text) (count : ℕ) → count ≤ 4 → (rows : List Row) (pending : Pending) (given : Given)
     → length given.positional ≤ count → Idle count rows pending given
     → ends_with name count (held rows pending) ≡ check_kinds false false (not (length given.positional == count))
 ends_checked name count few rows pending given within idles =

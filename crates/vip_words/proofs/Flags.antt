@@ -13,6 +13,9 @@ pub data Flag : Type 0 where
   State : Flag
   Raw : Flag
   Chip8 : Flag
+  Asm : Flag
+  Echo : Flag
+  Exits : Flag
   Rom : Flag
   Ram : Flag
   Sender : Flag
@@ -26,6 +29,9 @@ flag_name Tall = codes "tall"
 flag_name State = codes "state"
 flag_name Raw = codes "raw"
 flag_name Chip8 = codes "chip8"
+flag_name Asm = codes "asm"
+flag_name Echo = codes "echo"
+flag_name Exits = codes "exits"
 flag_name Rom = codes "rom"
 flag_name Ram = codes "ram"
 flag_name Sender = codes "sender"
@@ -39,13 +45,16 @@ flag_word Tall = codes "--tall"
 flag_word State = codes "--state"
 flag_word Raw = codes "--raw"
 flag_word Chip8 = codes "--chip8"
+flag_word Asm = codes "--asm"
+flag_word Echo = codes "--echo"
+flag_word Exits = codes "--exits"
 flag_word Rom = codes "--rom"
 flag_word Ram = codes "--ram"
 flag_word Sender = codes "--sender"
 flag_word Receiver = codes "--receiver"
 
 abbrev pub every_flag : List Flag
-every_flag = At ∷ Screen ∷ Words ∷ Tall ∷ State ∷ Raw ∷ Chip8 ∷ Rom ∷ Ram ∷ Sender ∷ Receiver ∷ []
+every_flag = At ∷ Screen ∷ Words ∷ Tall ∷ State ∷ Raw ∷ Chip8 ∷ Asm ∷ Echo ∷ Exits ∷ Rom ∷ Ram ∷ Sender ∷ Receiver ∷ []
 
 -- what holds of every flag in the list holds of each
 pub all_flags : (test : Flag → Bool) → list_all test every_flag ≡ true → (flag : Flag) → test flag ≡ true
@@ -56,7 +65,10 @@ all_flags test all flag =
     let from_state = both_true (test Tall) _ from_tall.1 in
     let from_raw = both_true (test State) _ from_state.1 in
     let from_chip8 = both_true (test Raw) _ from_raw.1 in
-    let from_rom = both_true (test Chip8) _ from_chip8.1 in
+    let from_asm = both_true (test Chip8) _ from_chip8.1 in
+    let from_echo = both_true (test Asm) _ from_asm.1 in
+    let from_exits = both_true (test Echo) _ from_echo.1 in
+    let from_rom = both_true (test Exits) _ from_exits.1 in
     let from_ram = both_true (test Rom) _ from_rom.1 in
     let from_sender = both_true (test Ram) _ from_ram.1 in
     let from_receiver = both_true (test Sender) _ from_sender.1 in
@@ -68,7 +80,10 @@ all_flags test all flag =
       | Tall ↦ from_state.0
       | State ↦ from_raw.0
       | Raw ↦ from_chip8.0
-      | Chip8 ↦ from_rom.0
+      | Chip8 ↦ from_asm.0
+      | Asm ↦ from_echo.0
+      | Echo ↦ from_exits.0
+      | Exits ↦ from_rom.0
       | Rom ↦ from_ram.0
       | Ram ↦ from_sender.0
       | Sender ↦ from_receiver.0

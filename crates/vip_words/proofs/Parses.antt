@@ -17,14 +17,16 @@ simple_and_free name zero = refl
 simple_and_free name (suc zero) = refl
 simple_and_free name (suc (suc zero)) = refl
 simple_and_free name (suc (suc (suc zero))) = refl
-simple_and_free name (suc (suc (suc (suc places)))) = refl
+simple_and_free name (suc (suc (suc (suc zero)))) = refl
+simple_and_free name (suc (suc (suc (suc (suc places))))) = refl
 
 simple : (name : Text) (places : ℕ) → is_simple (command_app name places) ≡ true
 simple name zero = refl
 simple name (suc zero) = refl
 simple name (suc (suc zero)) = refl
 simple name (suc (suc (suc zero))) = refl
-simple name (suc (suc (suc (suc places)))) = refl
+simple name (suc (suc (suc (suc zero)))) = refl
+simple name (suc (suc (suc (suc (suc places))))) = refl
 
 -- an `Ok` has no fault
 pub faultless : (m : ArgMatches) (app : App) (name : Text) (places : ℕ) (words : List Text) → app ≡ command_app name places

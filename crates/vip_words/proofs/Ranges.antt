@@ -8,10 +8,11 @@ use Rattle.asm_lex.specs.declared.shape.Isa.{Isa}
 use Rattle.asm_core.specs.Ranges.{last_of, origin_of}
 use Rattle.vip_byte.specs.Number.{number, are_digits, hex_number}
 use Rattle.vip_byte.specs.declared.number.NumFault.TheVariants.{Empty, BadDigit, TooLarge}
-use Rattle.vip_words.specs.Asked.{asked_of_verb, bounds_by, built_in_by, cycles_of, debug_by, demo_by, dis_by, edition_by, either_by, file_by, is_mixed, is_program, isa_by, link_by, moves_of, no_less_than, place_of, play_by, program_by, resume_by, run_by, safe_by, seed_of, shown_by, source_by, start_by, trace_by, within_by}
+use Rattle.vip_words.specs.Asked.{asked_of_verb, bounds_by, built_in_by, cycles_of, debug_by, demo_by, dis_by, edition_by, either_by, file_by, is_mixed, is_program, isa_by, link_by, moves_of, no_less_than, place_of, play_by, program_by, resume_by, run_by, safe_by, seed_of, shown_by, source_by, start_by, timing_by, trace_by, two_registers, within_by, entry_of, register_of, code_by}
 use Rattle.vip_words.specs.Request.{Asked, InRange, asked_of, most_cycles, most_moves}
 use Rattle.vip_words.specs.Rules.{Word, Given}
 use Rattle.vip_words.specs.declared.given.WordsFail.TheVariants.{Refused}
+use Rattle.vip_words.specs.declared.request.Entry.{Entry}
 use Rattle.vip_words.specs.declared.request.Memory.TheVariants.{Rom, Ram}
 use Rattle.vip_words.specs.declared.request.ProgramShow.{ProgramShow}
 use Rattle.vip_words.specs.declared.request.ProgramShow.TheVariants as program
@@ -68,7 +69,7 @@ program-low : (file cycles : Word) (given : Given) (shown : ProgramShow Word) (a
 program-low file cycles given shown asked h = go (is_mixed given) h
   where
     run_with : ℕ → Asked
-    run_with n = request.Program (record { file = file; memory = if given.rom then Rom else Ram; keys = given.keys; limit = n; show = shown })
+    run_with n = request.Program (record { code = code_by given.asm file; memory = if given.rom then Rom else Ram; keys = given.keys; limit = n; show = shown })
 
     go : (b : Bool) → (if b then None else option_map run_with (cycles_of cycles)) ≡ Some asked → InRange asked
     go true h = absurd (cc)
@@ -99,7 +100,7 @@ debug-low [] given asked h = absurd (cc)
 debug-low (file ∷ []) given asked h = absurd (cc)
 debug-low (file ∷ cycles ∷ []) given asked h = absurd (cc)
 debug-low (file ∷ cycles ∷ commands ∷ []) given asked h =
-    either-low file cycles given (show.Commands commands) (program.Commands commands) asked h
+    either-low file cycles given (show.Commands commands given.echo) (program.Commands commands given.echo) asked h
 debug-low (file ∷ cycles ∷ commands ∷ more ∷ words) given asked h = absurd (cc)
 
 shown-low : (shown : Show Word) (words : List Word) (given : Given) (asked : Asked) → shown_by shown words given ≡ Some asked → InRange asked
@@ -173,18 +174,37 @@ bounds-low : (words : List Word) (asked : Asked) → bounds_by words ≡ Some as
 bounds-low [] asked h = this-low request.Bounds asked (record { cycles = omega arith; moves = omega arith; start = tt }) h
 bounds-low (word ∷ words) asked h = absurd (cc)
 
-within-low : (words : List Word) (asked : Asked) → within_by words ≡ Some asked → InRange asked
-within-low [] asked h = absurd (cc)
-within-low (file ∷ []) asked h = absurd (cc)
-within-low (file ∷ certificate ∷ []) asked h =
-    this-low (request.Cycles file certificate) asked (record { cycles = omega arith; moves = omega arith; start = tt }) h
-within-low (file ∷ certificate ∷ more ∷ words) asked h = absurd (cc)
+within-low : (words : List Word) (given : Given) (asked : Asked) → within_by words given ≡ Some asked → InRange asked
+within-low [] given asked h = absurd (cc)
+within-low (file ∷ []) given asked h = absurd (cc)
+within-low (file ∷ certificate ∷ []) given asked h =
+    this-low (request.Cycles file certificate given.exits) asked (record { cycles = omega arith; moves = omega arith; start = tt }) h
+within-low (file ∷ certificate ∷ more ∷ words) given asked h = absurd (cc)
+
+timing-low : (words : List Word) (asked : Asked) → timing_by words ≡ Some asked → InRange asked
+timing-low [] asked h = absurd (cc)
+timing-low (file ∷ []) asked h = absurd (cc)
+timing-low (file ∷ entry ∷ []) asked h = absurd (cc)
+timing-low (file ∷ entry ∷ p ∷ []) asked h = absurd (cc)
+timing-low (file ∷ entry ∷ p ∷ k ∷ []) asked h = go (entry_of entry) (register_of p) (register_of k) h
+  where
+    two : (e : Entry) (m n : ℕ) (b : Bool) → (if b then None else Some (request.Timing file e m n)) ≡ Some asked → InRange asked
+    two e m n true h = absurd (cc)
+    two e m n false h = this-low (request.Timing file e m n) asked (record { cycles = omega arith; moves = omega arith; start = tt }) h
+
+    go : (entry : Option Entry) (p k : Option ℕ)
+        → option_and_then (λ e. option_and_then (λ m. option_and_then (λ n. two_registers file e m n) k) p) entry ≡ Some asked → InRange asked
+    go None p k h = absurd (cc)
+    go (Some e) None k h = absurd (cc)
+    go (Some e) (Some m) None h = absurd (cc)
+    go (Some e) (Some m) (Some n) h = two e m n (m == n) h
+timing-low (file ∷ entry ∷ p ∷ k ∷ more ∷ words) asked h = absurd (cc)
 
 safe-low : (words : List Word) (given : Given) (asked : Asked) → safe_by words given ≡ Some asked → InRange asked
 safe-low [] given asked h = absurd (cc)
 safe-low (game ∷ []) given asked h = absurd (cc)
 safe-low (game ∷ certificate ∷ []) given asked h =
-    this-low (request.Safe game certificate (edition_by given.tall)) asked
+    this-low (request.Safe (code_by given.asm game) certificate (edition_by given.tall)) asked
     (record { cycles = omega arith; moves = omega arith; start = tt }) h
 safe-low (game ∷ certificate ∷ more ∷ words) given asked h = absurd (cc)
 
@@ -202,7 +222,8 @@ verb-low verb.List given asked h = by_read (file_by given.positional) _ asked (�
 verb-low verb.Dis given asked h = dis-low (isa_by given.chip8) given.positional asked h
 verb-low verb.Source given asked h = source-low given.positional given asked h
 verb-low verb.Bounds given asked h = bounds-low given.positional asked h
-verb-low verb.Cycles given asked h = within-low given.positional asked h
+verb-low verb.Cycles given asked h = within-low given.positional given asked h
+verb-low verb.Timing given asked h = timing-low given.positional asked h
 verb-low verb.Safe given asked h = safe-low given.positional given asked h
 verb-low verb.Certify given asked h = by_read (file_by given.positional) _ asked (λ name e. record { cycles = omega arith; moves = omega arith; start = tt }) h
 

@@ -7,8 +7,8 @@ use Rattle.clap.specs.Walk.{Row, Text, used}
 use Rattle.clap.specs.declared.builder.value_parser.Reading.TheVariants.{AsWritten}
 use Rattle.clap.specs.declared.parser.matches.ValueSource.TheVariants.{CommandLine}
 use Rattle.vip_words.proofs.Rows.{Seen, has_row-look, look, look-other, look-use, new_row, or_first, shown}
-use Rattle.vip_words.proofs.Flags.{At, Chip8, Flag, Ram, Raw, Receiver, Rom, Screen, Sender, State, Tall, Words, flag_name, is_flag, no_flag}
-use Rattle.vip_words.proofs.Steps.{First, Pending, Place, Second, Third, flag_argument, place_at, place_by_id, place_name, settled_after, settles}
+use Rattle.vip_words.proofs.Flags.{Asm, At, Chip8, Echo, Exits, Flag, Ram, Raw, Receiver, Rom, Screen, Sender, State, Tall, Words, flag_name, is_flag, no_flag}
+use Rattle.vip_words.proofs.Steps.{First, Fourth, Pending, Place, Second, Third, flag_argument, place_at, place_by_id, place_name, settled_after, settles}
 use Rattle.vip_words.specs.Rules.{Given}
 
 -- the flag is given
@@ -20,6 +20,9 @@ flag_in given Tall = given.tall
 flag_in given State = given.state
 flag_in given Raw = given.raw
 flag_in given Chip8 = given.chip8
+flag_in given Asm = given.asm
+flag_in given Echo = given.echo
+flag_in given Exits = given.exits
 flag_in given Rom = given.rom
 flag_in given Ram = given.ram
 flag_in given Sender = given.sender
@@ -34,6 +37,9 @@ with_flag new given = record given {
   state = is_flag new State || given.state;
   raw = is_flag new Raw || given.raw;
   chip8 = is_flag new Chip8 || given.chip8;
+  asm = is_flag new Asm || given.asm;
+  echo = is_flag new Echo || given.echo;
+  exits = is_flag new Exits || given.exits;
   rom = is_flag new Rom || given.rom;
   ram = is_flag new Ram || given.ram;
   sender = is_flag new Sender || given.sender;
@@ -49,6 +55,9 @@ flag_in-with new Tall given = refl
 flag_in-with new State given = refl
 flag_in-with new Raw given = refl
 flag_in-with new Chip8 given = refl
+flag_in-with new Asm given = refl
+flag_in-with new Echo given = refl
+flag_in-with new Exits given = refl
 flag_in-with new Rom given = refl
 flag_in-with new Ram given = refl
 flag_in-with new Sender given = refl
@@ -87,16 +96,19 @@ place_differs_keys : (place : Place) → bytes_eq (place_name place) (codes "key
 place_differs_keys First = refl
 place_differs_keys Second = refl
 place_differs_keys Third = refl
+place_differs_keys Fourth = refl
 
 place_differs_flag : (place : Place) (flag : Flag) → bytes_eq (place_name place) (flag_name flag) ≡ false
 place_differs_flag First flag = no_flag (λ f. bytes_eq (codes "first") (flag_name f)) refl flag
 place_differs_flag Second flag = no_flag (λ f. bytes_eq (codes "second") (flag_name f)) refl flag
 place_differs_flag Third flag = no_flag (λ f. bytes_eq (codes "third") (flag_name f)) refl flag
+place_differs_flag Fourth flag = no_flag (λ f. bytes_eq (codes "fourth") (flag_name f)) refl flag
 
 keys_differs_place : (place : Place) → bytes_eq (codes "keys") (place_name place) ≡ false
 keys_differs_place First = refl
 keys_differs_place Second = refl
 keys_differs_place Third = refl
+keys_differs_place Fourth = refl
 
 keys_differs_flag : (flag : Flag) → bytes_eq (codes "keys") (flag_name flag) ≡ false
 keys_differs_flag flag = no_flag (λ f. bytes_eq (codes "keys") (flag_name f)) refl flag
@@ -105,6 +117,7 @@ flag_differs_place : (flag : Flag) (place : Place) → bytes_eq (flag_name flag)
 flag_differs_place flag First = no_flag (λ f. bytes_eq (flag_name f) (codes "first")) refl flag
 flag_differs_place flag Second = no_flag (λ f. bytes_eq (flag_name f) (codes "second")) refl flag
 flag_differs_place flag Third = no_flag (λ f. bytes_eq (flag_name f) (codes "third")) refl flag
+flag_differs_place flag Fourth = no_flag (λ f. bytes_eq (flag_name f) (codes "fourth")) refl flag
 
 flag_differs_keys : (flag : Flag) → bytes_eq (flag_name flag) (codes "keys") ≡ false
 flag_differs_keys flag = no_flag (λ f. bytes_eq (flag_name f) (codes "keys")) refl flag
@@ -122,20 +135,31 @@ placed : (place shows : Place) (words : List Text) (word : Text) → length word
 placed First First [] word is = refl
 placed First Second [] word is = refl
 placed First Third [] word is = refl
+placed First Fourth [] word is = refl
 placed First shows (a ∷ rest) word is = absurd (omega arith)
 placed Second shows [] word is = absurd (omega arith)
 placed Second First (a ∷ []) word is = refl
 placed Second Second (a ∷ []) word is = refl
 placed Second Third (a ∷ []) word is = refl
+placed Second Fourth (a ∷ []) word is = refl
 placed Second shows (a ∷ b ∷ rest) word is = absurd (omega arith)
 placed Third shows [] word is = absurd (omega arith)
 placed Third shows (a ∷ []) word is = absurd (omega arith)
 placed Third First (a ∷ b ∷ []) word is = refl
 placed Third Second (a ∷ b ∷ []) word is = refl
 placed Third Third (a ∷ b ∷ []) word is = refl
+placed Third Fourth (a ∷ b ∷ []) word is = refl
 placed Third shows (a ∷ b ∷ d ∷ rest) word is = absurd (omega arith)
+placed Fourth shows [] word is = absurd (omega arith)
+placed Fourth shows (a ∷ []) word is = absurd (omega arith)
+placed Fourth shows (a ∷ b ∷ []) word is = absurd (omega arith)
+placed Fourth First (a ∷ b ∷ d ∷ []) word is = refl
+placed Fourth Second (a ∷ b ∷ d ∷ []) word is = refl
+placed Fourth Third (a ∷ b ∷ d ∷ []) word is = refl
+placed Fourth Fourth (a ∷ b ∷ d ∷ []) word is = refl
+placed Fourth shows (a ∷ b ∷ d ∷ e ∷ rest) word is = absurd (omega arith)
 
-pub place_idle : (count : ℕ) (place : Place) → count ≤ 3 → place_at place < count → (rows : List Row) (given : Given) (word : Text)
+pub place_idle : (count : ℕ) (place : Place) → count ≤ 4 → place_at place < count → (rows : List Row) (given : Given) (word : Text)
     → length given.positional ≡ place_at place → Facts rows given → Idle count rows (one_word (place_name place) word)
     (with_word word given)
 place_idle count place few within rows given word is facts =
@@ -234,6 +258,9 @@ nothing_given = record {
   state = false;
   raw = false;
   chip8 = false;
+  asm = false;
+  echo = false;
+  exits = false;
   rom = false;
   ram = false;
   sender = false;
@@ -246,6 +273,7 @@ no_rows = record {
     | First ↦ refl
     | Second ↦ refl
     | Third ↦ refl
+    | Fourth ↦ refl
   ];
   keys_is = refl;
   flags_are = λ flag. elim flag as (λ f. look (flag_name f) [] ≡ flag_seen (flag_in nothing_given f)) [
@@ -256,6 +284,9 @@ no_rows = record {
     | State ↦ refl
     | Raw ↦ refl
     | Chip8 ↦ refl
+    | Asm ↦ refl
+    | Echo ↦ refl
+    | Exits ↦ refl
     | Rom ↦ refl
     | Ram ↦ refl
     | Sender ↦ refl

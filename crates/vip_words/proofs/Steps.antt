@@ -8,7 +8,7 @@ use Rattle.clap.specs.Simple.{Shape, built, filled, with_index}
 use Rattle.clap.specs.Takes.{is_given}
 use Rattle.clap.specs.Walk.{Held, Row, Rule, Text, Waiting, Walk, arg_by_id, arg_by_index, idle, is_pending, option, settled_rows, used, walked}
 use Rattle.vip_words.specs.Command.{command_app, flag_rule, place_rule, place_names}
-use Rattle.vip_words.proofs.Flags.{At, Chip8, Flag, Ram, Raw, Receiver, Rom, Screen, Sender, State, Tall, Words, flag_name, flag_word}
+use Rattle.vip_words.proofs.Flags.{Asm, At, Chip8, Echo, Exits, Flag, Ram, Raw, Receiver, Rom, Screen, Sender, State, Tall, Words, flag_name, flag_word}
 use Rattle.vip_words.proofs.Rows.{is_quiet}
 
 -- the places of the positional words
@@ -16,16 +16,19 @@ pub data Place : Type 0 where
   First : Place
   Second : Place
   Third : Place
+  Fourth : Place
 
 abbrev pub place_name : Place → Text
 place_name First = codes "first"
 place_name Second = codes "second"
 place_name Third = codes "third"
+place_name Fourth = codes "fourth"
 
 abbrev pub place_at : Place → ℕ
 place_at First = 0
 place_at Second = 1
 place_at Third = 2
+place_at Fourth = 3
 
 -- ---- the arguments of the command
 
@@ -41,47 +44,63 @@ flag_argument flag = filled (flag_rule (flag_name flag))
 abbrev pub place_argument : Place → Rule
 place_argument place = with_index (place_at place + 1) (filled (place_rule (place_name place)))
 
-pub place_by_index : (count : ℕ) (place : Place) → count ≤ 3 → place_at place < count
+pub place_by_index : (count : ℕ) (place : Place) → count ≤ 4 → place_at place < count
     → arg_by_index (arguments count) (place_at place + 1) ≡ Some (place_argument place)
 place_by_index zero place few within = absurd (omega arith)
 place_by_index (suc zero) First few within = refl
 place_by_index (suc zero) Second few within = absurd (omega arith)
 place_by_index (suc zero) Third few within = absurd (omega arith)
+place_by_index (suc zero) Fourth few within = absurd (omega arith)
 place_by_index (suc (suc zero)) First few within = refl
 place_by_index (suc (suc zero)) Second few within = refl
 place_by_index (suc (suc zero)) Third few within = absurd (omega arith)
+place_by_index (suc (suc zero)) Fourth few within = absurd (omega arith)
 place_by_index (suc (suc (suc zero))) First few within = refl
 place_by_index (suc (suc (suc zero))) Second few within = refl
 place_by_index (suc (suc (suc zero))) Third few within = refl
-place_by_index (suc (suc (suc (suc count)))) place few within = absurd (omega arith)
+place_by_index (suc (suc (suc zero))) Fourth few within = absurd (omega arith)
+place_by_index (suc (suc (suc (suc zero)))) First few within = refl
+place_by_index (suc (suc (suc (suc zero)))) Second few within = refl
+place_by_index (suc (suc (suc (suc zero)))) Third few within = refl
+place_by_index (suc (suc (suc (suc zero)))) Fourth few within = refl
+place_by_index (suc (suc (suc (suc (suc count))))) place few within = absurd (omega arith)
 
-pub place_by_id : (count : ℕ) (place : Place) → count ≤ 3 → place_at place < count
+pub place_by_id : (count : ℕ) (place : Place) → count ≤ 4 → place_at place < count
     → arg_by_id (arguments count) (place_name place) ≡ Some (place_argument place)
 place_by_id zero place few within = absurd (omega arith)
 place_by_id (suc zero) First few within = refl
 place_by_id (suc zero) Second few within = absurd (omega arith)
 place_by_id (suc zero) Third few within = absurd (omega arith)
+place_by_id (suc zero) Fourth few within = absurd (omega arith)
 place_by_id (suc (suc zero)) First few within = refl
 place_by_id (suc (suc zero)) Second few within = refl
 place_by_id (suc (suc zero)) Third few within = absurd (omega arith)
+place_by_id (suc (suc zero)) Fourth few within = absurd (omega arith)
 place_by_id (suc (suc (suc zero))) First few within = refl
 place_by_id (suc (suc (suc zero))) Second few within = refl
 place_by_id (suc (suc (suc zero))) Third few within = refl
-place_by_id (suc (suc (suc (suc count)))) place few within = absurd (omega arith)
+place_by_id (suc (suc (suc zero))) Fourth few within = absurd (omega arith)
+place_by_id (suc (suc (suc (suc zero)))) First few within = refl
+place_by_id (suc (suc (suc (suc zero)))) Second few within = refl
+place_by_id (suc (suc (suc (suc zero)))) Third few within = refl
+place_by_id (suc (suc (suc (suc zero)))) Fourth few within = refl
+place_by_id (suc (suc (suc (suc (suc count))))) place few within = absurd (omega arith)
 
-pub no_more_places : (count : ℕ) → count ≤ 3 → arg_by_index (arguments count) (count + 1) ≡ None
+pub no_more_places : (count : ℕ) → count ≤ 4 → arg_by_index (arguments count) (count + 1) ≡ None
 no_more_places zero few = refl
 no_more_places (suc zero) few = refl
 no_more_places (suc (suc zero)) few = refl
 no_more_places (suc (suc (suc zero))) few = refl
-no_more_places (suc (suc (suc (suc count)))) few = absurd (omega arith)
+no_more_places (suc (suc (suc (suc zero)))) few = refl
+no_more_places (suc (suc (suc (suc (suc count))))) few = absurd (omega arith)
 
-pub all_quiet : (count : ℕ) → count ≤ 3 → list_all is_quiet (arguments count) ≡ true
+pub all_quiet : (count : ℕ) → count ≤ 4 → list_all is_quiet (arguments count) ≡ true
 all_quiet zero few = refl
 all_quiet (suc zero) few = refl
 all_quiet (suc (suc zero)) few = refl
 all_quiet (suc (suc (suc zero))) few = refl
-all_quiet (suc (suc (suc (suc count)))) few = absurd (omega arith)
+all_quiet (suc (suc (suc (suc zero)))) few = refl
+all_quiet (suc (suc (suc (suc (suc count))))) few = absurd (omega arith)
 
 -- the argument of a place that stands empty is missing, and no other argument can be
 pub missing_places : (name : Text) (count : ℕ) (rows : List Row)
@@ -91,7 +110,8 @@ missing_places name zero rows = refl
 missing_places name (suc zero) rows = refl
 missing_places name (suc (suc zero)) rows = refl
 missing_places name (suc (suc (suc zero))) rows = refl
-missing_places name (suc (suc (suc (suc count)))) rows = refl
+missing_places name (suc (suc (suc (suc zero)))) rows = refl
+missing_places name (suc (suc (suc (suc (suc count))))) rows = refl
 
 -- ---- the state between two words
 
@@ -140,6 +160,9 @@ flag_step count Tall rows pending position = refl
 flag_step count State rows pending position = refl
 flag_step count Raw rows pending position = refl
 flag_step count Chip8 rows pending position = refl
+flag_step count Asm rows pending position = refl
+flag_step count Echo rows pending position = refl
+flag_step count Exits rows pending position = refl
 flag_step count Rom rows pending position = refl
 flag_step count Ram rows pending position = refl
 flag_step count Sender rows pending position = refl
@@ -155,6 +178,9 @@ flag_turn name count Tall rows pending position = refl
 flag_turn name count State rows pending position = refl
 flag_turn name count Raw rows pending position = refl
 flag_turn name count Chip8 rows pending position = refl
+flag_turn name count Asm rows pending position = refl
+flag_turn name count Echo rows pending position = refl
+flag_turn name count Exits rows pending position = refl
 flag_turn name count Rom rows pending position = refl
 flag_turn name count Ram rows pending position = refl
 flag_turn name count Sender rows pending position = refl
@@ -182,7 +208,7 @@ pub value_turn : (name : Text) (count : ℕ) (rows : List Row) (position c : ℕ
 value_turn name count rows position c cs plain = rw (plain, plain) refl
 
 -- where nothing waits it goes to the next place
-pub place_step : (count : ℕ) (place : Place) → count ≤ 3 → place_at place < count
+pub place_step : (count : ℕ) (place : Place) → count ≤ 4 → place_at place < count
     → (rows : List Row) (pending : Pending) (c : ℕ) (cs : Text) → (c == 45) ≡ false
     → walked (arguments count) [] (stand rows pending idle (place_at place + 1)) (c ∷ cs)
     ≡ stand (settled_after count pending rows) (Some (place_name place, (c ∷ cs) ∷ [])) idle (place_at place + 1 + 1)
@@ -193,15 +219,17 @@ place_step count Second few within rows pending c cs plain =
     rw (plain, plain, place_by_index count Second few within, and_never (is_pending (place_argument Second) pending)) refl
 place_step count Third few within rows pending c cs plain =
     rw (plain, plain, place_by_index count Third few within, and_never (is_pending (place_argument Third) pending)) refl
+place_step count Fourth few within rows pending c cs plain =
+    rw (plain, plain, place_by_index count Fourth few within, and_never (is_pending (place_argument Fourth) pending)) refl
 
-pub place_turn : (name : Text) (count : ℕ) (place : Place) → count ≤ 3 → place_at place < count
+pub place_turn : (name : Text) (count : ℕ) (place : Place) → count ≤ 4 → place_at place < count
     → (rows : List Row) (pending : Pending) (c : ℕ) (cs : Text) → (c == 45) ≡ false
     → turn_fault (shape name count) [] (stand rows pending idle (place_at place + 1)) (c ∷ cs) ≡ settles count rows pending
 place_turn name count place few within rows pending c cs plain =
     rw (plain, plain, place_by_index count place few within, and_never (is_pending (place_argument place) pending)) refl
 
 -- or no place is left for it
-pub stray_turn : (name : Text) (count : ℕ) → count ≤ 3
+pub stray_turn : (name : Text) (count : ℕ) → count ≤ 4
     → (rows : List Row) (pending : Pending) (c : ℕ) (cs : Text) → (c == 45) ≡ false
     → turn_fault (shape name count) [] (stand rows pending idle (count + 1)) (c ∷ cs) ≡ stray_fault (shape name count)
 stray_turn name count few rows pending c cs plain = rw (plain, plain, no_more_places count few) refl

@@ -9,8 +9,8 @@ use Rattle.clap.specs.Walk.{Row, Text, Waiting, Walk, finished, idle, used, walk
 use Rattle.vip_words.specs.Command.{command_faults, command_rows}
 use Rattle.vip_words.specs.Rules.{every_option, has_values, is_given, is_known, is_once, keys_value, positional_words}
 use Rattle.vip_words.proofs.Rows.{Seen, both_true, look, or_first, or_first-none, same_bytes}
-use Rattle.vip_words.proofs.Flags.{At, Chip8, Flag, Ram, Raw, Receiver, Rom, Screen, Sender, State, Tall, Words, every_flag, flag_among, flag_word, one_flag_fails}
-use Rattle.vip_words.proofs.Steps.{and_never, First, Pending, Place, Second, Third, arguments, asked, asking, flag_argument, flag_step, flag_turn, held, keys_step, keys_turn, place_at, place_name, place_step, place_turn, settled_after, settles, shape, stand, stray_turn, value_step, value_turn}
+use Rattle.vip_words.proofs.Flags.{Asm, At, Chip8, Echo, Exits, Flag, Ram, Raw, Receiver, Rom, Screen, Sender, State, Tall, Words, every_flag, flag_among, flag_word, one_flag_fails}
+use Rattle.vip_words.proofs.Steps.{and_never, First, Fourth, Pending, Place, Second, Third, arguments, asked, asking, flag_argument, flag_step, flag_turn, held, keys_step, keys_turn, place_at, place_name, place_step, place_turn, settled_after, settles, shape, stand, stray_turn, value_step, value_turn}
 use Rattle.vip_words.specs.Rules.{Given, Word}
 use Rattle.vip_words.proofs.Ends.{EndsGiven, ends_checked, shows_end}
 use Rattle.vip_words.proofs.Shown.{Facts, Idle, flag_again, flag_idle, flag_in, flag_seen, word_seen, flag_use, keys_again, keys_idle, no_rows, nothing_given, one_word, place_idle, with_flag, with_keys, with_word}
@@ -43,6 +43,9 @@ then_given given words = record {
   state = given.state || is_given (codes "--state") words;
   raw = given.raw || is_given (codes "--raw") words;
   chip8 = given.chip8 || is_given (codes "--chip8") words;
+  asm = given.asm || is_given (codes "--asm") words;
+  echo = given.echo || is_given (codes "--echo") words;
+  exits = given.exits || is_given (codes "--exits") words;
   rom = given.rom || is_given (codes "--rom") words;
   ram = given.ram || is_given (codes "--ram") words;
   sender = given.sender || is_given (codes "--sender") words;
@@ -61,6 +64,9 @@ then_valued given words = record {
   state = given.state || is_given (codes "--state") words;
   raw = given.raw || is_given (codes "--raw") words;
   chip8 = given.chip8 || is_given (codes "--chip8") words;
+  asm = given.asm || is_given (codes "--asm") words;
+  echo = given.echo || is_given (codes "--echo") words;
+  exits = given.exits || is_given (codes "--exits") words;
   rom = given.rom || is_given (codes "--rom") words;
   ram = given.ram || is_given (codes "--ram") words;
   sender = given.sender || is_given (codes "--sender") words;
@@ -161,18 +167,19 @@ kind_of_word (c ∷ cs) known = first_kind c cs (c == 45) refl known
 lt_or_same : (a b : ℕ) → a ≤ b → (a < b) ⊎ (a ≡ b)
 lt_or_same a b h = grind arith
 
-place_of : (before : ℕ) → before < 3 → (place : Place) × (place_at place ≡ before)
+place_of : (before : ℕ) → before < 4 → (place : Place) × (place_at place ≡ before)
 place_of zero few = (First, refl)
 place_of (suc zero) few = (Second, refl)
 place_of (suc (suc zero)) few = (Third, refl)
-place_of (suc (suc (suc before))) few = absurd (omega arith)
+place_of (suc (suc (suc zero))) few = (Fourth, refl)
+place_of (suc (suc (suc (suc before)))) few = absurd (omega arith)
 
 never_and : (a b : Bool) → (a && (b && false)) ≡ false
 never_and true b = and_never b
 never_and false b = refl
 
 -- it goes to the next place
-idle_place : (name : Text) (count : ℕ) → count ≤ 3 → (words : List Text) (c : ℕ) (cs : Text) → (c == 45) ≡ false
+idle_place : (name : Text) (count : ℕ) → count ≤ 4 → (words : List Text) (c : ℕ) (cs : Text) → (c == 45) ≡ false
     → AllAgree name count words → (place : Place) → place_at place < count → (rows : List Row) (pending : Pending) (given : Given)
     → length given.positional ≡ place_at place → Idle count rows pending given
     → AgreesFrom name count (stand rows pending idle (place_at place + 1)) ((c ∷ cs) ∷ words)
@@ -195,7 +202,7 @@ idle_place name count few words c cs plain rest place within rows pending given 
     (place_idle count place few within (settled_after count pending rows) given word is idles.facts))
 
 -- or no place is left
-idle_plain : (name : Text) (count : ℕ) → count ≤ 3 → (words : List Text) (c : ℕ) (cs : Text) → (c == 45) ≡ false
+idle_plain : (name : Text) (count : ℕ) → count ≤ 4 → (words : List Text) (c : ℕ) (cs : Text) → (c == 45) ≡ false
     → AllAgree name count words → IdleAgrees name count ((c ∷ cs) ∷ words)
 idle_plain name count few words c cs plain rest rows pending before given is within idles = elim (lt_or_same before count within) [
   | inl below ↦
@@ -252,6 +259,9 @@ flag_passes count before given Tall words off = rw off refl
 flag_passes count before given State words off = rw off refl
 flag_passes count before given Raw words off = rw off refl
 flag_passes count before given Chip8 words off = rw off refl
+flag_passes count before given Asm words off = rw off refl
+flag_passes count before given Echo words off = rw off refl
+flag_passes count before given Exits words off = rw off refl
 flag_passes count before given Rom words off = rw off refl
 flag_passes count before given Ram words off = rw off refl
 flag_passes count before given Sender words off = rw off refl
@@ -266,6 +276,9 @@ flag_given given Tall words off = rw off refl
 flag_given given State words off = rw off refl
 flag_given given Raw words off = rw off refl
 flag_given given Chip8 words off = rw off refl
+flag_given given Asm words off = rw off refl
+flag_given given Echo words off = rw off refl
+flag_given given Exits words off = rw off refl
 flag_given given Rom words off = rw off refl
 flag_given given Ram words off = rw off refl
 flag_given given Sender words off = rw off refl
@@ -283,6 +296,9 @@ flag_again_is_twice Tall words = refl
 flag_again_is_twice State words = refl
 flag_again_is_twice Raw words = refl
 flag_again_is_twice Chip8 words = refl
+flag_again_is_twice Asm words = refl
+flag_again_is_twice Echo words = refl
+flag_again_is_twice Exits words = refl
 flag_again_is_twice Rom words = refl
 flag_again_is_twice Ram words = refl
 flag_again_is_twice Sender words = refl
@@ -354,6 +370,9 @@ option_turn name count rows position word (inr (Tall, is)) = rw is (λ e. cc)
 option_turn name count rows position word (inr (State, is)) = rw is (λ e. cc)
 option_turn name count rows position word (inr (Raw, is)) = rw is (λ e. cc)
 option_turn name count rows position word (inr (Chip8, is)) = rw is (λ e. cc)
+option_turn name count rows position word (inr (Asm, is)) = rw is (λ e. cc)
+option_turn name count rows position word (inr (Echo, is)) = rw is (λ e. cc)
+option_turn name count rows position word (inr (Exits, is)) = rw is (λ e. cc)
 option_turn name count rows position word (inr (Rom, is)) = rw is (λ e. cc)
 option_turn name count rows position word (inr (Ram, is)) = rw is (λ e. cc)
 option_turn name count rows position word (inr (Sender, is)) = rw is (λ e. cc)
@@ -369,6 +388,9 @@ option_refused count before given word words (inr (Tall, is)) = rw is refl
 option_refused count before given word words (inr (State, is)) = rw is refl
 option_refused count before given word words (inr (Raw, is)) = rw is refl
 option_refused count before given word words (inr (Chip8, is)) = rw is refl
+option_refused count before given word words (inr (Asm, is)) = rw is refl
+option_refused count before given word words (inr (Echo, is)) = rw is refl
+option_refused count before given word words (inr (Exits, is)) = rw is refl
 option_refused count before given word words (inr (Rom, is)) = rw is refl
 option_refused count before given word words (inr (Ram, is)) = rw is refl
 option_refused count before given word words (inr (Sender, is)) = rw is refl
@@ -387,7 +409,7 @@ settle_bad_end name count rows pending waiting position bad =
     rw (faults_end name count rows pending waiting position) (first_fault _ _ bad)
 
 -- where the pending word can't be settled, each word is a fault
-doomed_turn : (name : Text) (count : ℕ) → count ≤ 3 → (rows : List Row) (pending : Pending) (before : ℕ) (word : Text) → before ≤ count
+doomed_turn : (name : Text) (count : ℕ) → count ≤ 4 → (rows : List Row) (pending : Pending) (before : ℕ) (word : Text) → before ≤ count
     → WordKind word → IsFault (settles count rows pending)
     → IsFault (turn_fault (shape name count) [] (stand rows pending idle (before + 1)) word)
 doomed_turn name count few rows pending before word within (plain_word c cs is plain) bad = elim (lt_or_same before count within) [
@@ -402,7 +424,7 @@ doomed_turn name count few rows pending before word within (keys_word is) bad =
 doomed_turn name count few rows pending before word within (one_flag flag is) bad =
     rw (is, flag_turn name count flag rows pending (before + 1)) (first_fault _ _ (first_fault _ _ bad))
 
-doomed_word : (name : Text) (count : ℕ) → count ≤ 3 → (words : List Text) (word : Text) → WordKind word → IsDoomed name count (word ∷ words)
+doomed_word : (name : Text) (count : ℕ) → count ≤ 4 → (words : List Text) (word : Text) → WordKind word → IsDoomed name count (word ∷ words)
 doomed_word name count few words word kind rows pending before within bad =
     rw (faults_step name count (stand rows pending idle (before + 1)) word words)
     (first_fault _ _ (doomed_turn name count few rows pending before word within kind bad))
@@ -439,6 +461,9 @@ none_once keys given =
       same_if given.state,
       same_if given.raw,
       same_if given.chip8,
+      same_if given.asm,
+      same_if given.echo,
+      same_if given.exits,
       same_if given.rom,
       same_if given.ram,
       same_if given.sender,
@@ -465,13 +490,16 @@ no_more_given given =
       or_nothing given.state,
       or_nothing given.raw,
       or_nothing given.chip8,
+      or_nothing given.asm,
+      or_nothing given.echo,
+      or_nothing given.exits,
       or_nothing given.rom,
       or_nothing given.ram,
       or_nothing given.sender,
       or_nothing given.receiver,
     ) refl
 
-idle_end : (name : Text) (count : ℕ) → count ≤ 3 → IdleAgrees name count []
+idle_end : (name : Text) (count : ℕ) → count ≤ 4 → IdleAgrees name count []
 idle_end name count few rows pending before given is within idles =
     rw (
       add-zero,
@@ -497,7 +525,7 @@ asking_end name count rows before given is within none facts =
 
 -- ---- all the words
 
-no_words_agree : (name : Text) (count : ℕ) → count ≤ 3 → AllAgree name count []
+no_words_agree : (name : Text) (count : ℕ) → count ≤ 4 → AllAgree name count []
 no_words_agree name count few = record {
   when_idle = idle_end name count few;
   when_asking = asking_end name count;
@@ -505,7 +533,7 @@ no_words_agree name count few = record {
   twice = λ rows before x within there. settle_bad_end name count rows asked asking (before + 1) (unsettled count rows);
 }
 
-one_more_agrees : (name : Text) (count : ℕ) → count ≤ 3 → (words : List Text) (word : Text) → WordKind word → AllAgree name count words
+one_more_agrees : (name : Text) (count : ℕ) → count ≤ 4 → (words : List Text) (word : Text) → WordKind word → AllAgree name count words
     → AllAgree name count (word ∷ words)
 one_more_agrees name count few words word kind rest = record {
   when_idle = idle_word kind;
@@ -524,7 +552,7 @@ one_more_agrees name count few words word kind rest = record {
     asking_word (keys_word is) = asking_option name count words word (inl is)
     asking_word (one_flag flag is) = asking_option name count words word (inr (flag, is))
 
-all_agree : (name : Text) (count : ℕ) → count ≤ 3 → (words : List Text) → list_all (is_known every_option) words ≡ true
+all_agree : (name : Text) (count : ℕ) → count ≤ 4 → (words : List Text) → list_all (is_known every_option) words ≡ true
     → AllAgree name count words
 all_agree name count few [] known = no_words_agree name count few
 all_agree name count few (word ∷ words) known =
@@ -548,6 +576,9 @@ all_given words = record {
   state = is_given (codes "--state") words;
   raw = is_given (codes "--raw") words;
   chip8 = is_given (codes "--chip8") words;
+  asm = is_given (codes "--asm") words;
+  echo = is_given (codes "--echo") words;
+  exits = is_given (codes "--exits") words;
   rom = is_given (codes "--rom") words;
   ram = is_given (codes "--ram") words;
   sender = is_given (codes "--sender") words;
@@ -555,7 +586,7 @@ all_given words = record {
 }
 
 -- the rules and the command agree on known words
-pub command_agrees : (name : Text) (count : ℕ) → count ≤ 3 → (verb : Text) (words : List Text)
+pub command_agrees : (name : Text) (count : ℕ) → count ≤ 4 → (verb : Text) (words : List Text)
     → list_all (is_known every_option) words ≡ true
     → Agrees (is_well_formed count words) (command_faults name count (verb ∷ words)) (command_rows name count (verb ∷ words))
     (all_given words)

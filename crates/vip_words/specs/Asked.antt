@@ -1,5 +1,5 @@
 -- What the words of a command line ask for.
-use Rattle.std.specs.Prelude.{ℕ, List, [], ◌∷◌, Bool, false, ◌&&◌, ◌||◌, if◌then◌else◌, nat_lt, Option, None, Some, option_map, option_and_then}
+use Rattle.std.specs.Prelude.{ℕ, List, [], ◌∷◌, Bool, false, not, ◌&&◌, ◌||◌, ◌==◌, if◌then◌else◌, nat_le, nat_lt, length, Option, None, Some, option_map, option_and_then}
 use Rattle.std.specs.Result.{result_ok}
 use Rattle.chip8_lang.specs.declared.view.Edition.{Edition}
 use Rattle.chip8_lang.specs.declared.view.Edition.TheVariants.{Usual, Tall}
@@ -11,7 +11,11 @@ use Rattle.vip_words.specs.Request.{Asked, most_cycles, most_moves}
 use Rattle.vip_words.specs.Rules.{Given, Word, given_by}
 use Rattle.vip_words.specs.Table.{usage_of}
 use Rattle.vip_words.specs.declared.request.BuiltIn.{BuiltIn}
+use Rattle.vip_words.specs.declared.request.Code.{Code}
+use Rattle.vip_words.specs.declared.request.Code.TheVariants.{Bytes, Source}
 use Rattle.vip_words.specs.declared.request.BuiltIn.TheVariants.{Interpreter, Sender, Receiver}
+use Rattle.vip_words.specs.declared.request.Entry.{Entry}
+use Rattle.vip_words.specs.declared.request.Entry.TheVariants.{Address, Name}
 use Rattle.vip_words.specs.declared.request.Memory.TheVariants.{Rom, Ram}
 use Rattle.vip_words.specs.declared.request.ProgramShow.{ProgramShow}
 use Rattle.vip_words.specs.declared.request.ProgramShow.TheVariants as program
@@ -45,6 +49,27 @@ no_less_than least number = if nat_lt number least then None else Some number
 abbrev pub place_of : Isa → Word → Option ℕ
 place_of isa word = option_and_then (no_less_than (origin_of isa)) (result_ok (hex_number word (last_of isa)))
 
+-- a name of an address has from 1 to 32 characters
+abbrev pub name_of : Word → Option Entry
+name_of word = if nat_lt 0 (length word) && nat_le (length word) 32 then Some (Name (record { items = word })) else None
+
+-- one to four hexadecimal digits are an address
+abbrev pub number_of : Word → Option ℕ
+number_of word = if nat_le (length word) 4 then result_ok (hex_number word 65535) else None
+
+abbrev pub address_or : Word → Option ℕ → Option Entry
+address_or word None = name_of word
+address_or word (Some address) = Some (Address address)
+
+-- Where a routine is entered: a name behind `:`, which is 58; else an address, and any other word is a name.
+abbrev pub entry_of : Word → Option Entry
+entry_of [] = None
+entry_of (c ∷ cs) = if c == 58 then name_of cs else address_or (c ∷ cs) (number_of (c ∷ cs))
+
+-- a register: one hexadecimal digit
+abbrev pub register_of : Word → Option ℕ
+register_of word = if length word == 1 then result_ok (hex_number word 15) else None
+
 -- the tall edition where it is asked for, and else the usual one
 abbrev pub edition_by : Bool → Edition
 edition_by tall = if tall then Tall else Usual
@@ -55,10 +80,16 @@ isa_by chip8 = if chip8 then Chip8 else Cdp1802
 
 -- ---- what is run, and what is shown of it
 
--- Where a run begins whose file has this name: at a saved state, or at a game's reset. A state has its own edition, so `--tall` is refused with it.
+-- what a file is: a source where that is asked for, and else the bytes themselves
+abbrev pub code_by : Bool → Word → Code Word
+code_by asm file = if asm then Source file else Bytes file
+
+-- Where a run begins whose file has this name: at a saved state, or at a game's reset. A state has its own edition and is no source, so `--tall` and `--asm`
+-- are refused with it.
 abbrev pub start_by : Word → Given → Option (Start Word)
 start_by file given =
-    if given.state then (if given.tall then None else Some (start.State file)) else Some (start.Game file (edition_by given.tall))
+    if given.state then (if given.tall || given.asm then None else Some (start.State file))
+    else Some (start.Game (code_by given.asm file) (edition_by given.tall))
 
 -- a run of the language from there, for as many cycles as a word says, that is shown so
 abbrev pub run_by : Word → Word → Given → Show Word → Option Asked
@@ -80,7 +111,7 @@ abbrev pub program_by : Word → Word → Given → ProgramShow Word → Option 
 program_by file cycles given shown =
     if is_mixed given then None
     else option_map
-    (λ n. request.Program (record { file = file; memory = if given.rom then Rom else Ram; keys = given.keys; limit = n; show = shown }))
+    (λ n. request.Program (record { code = code_by given.asm file; memory = if given.rom then Rom else Ram; keys = given.keys; limit = n; show = shown }))
     (cycles_of cycles)
 
 -- a run of a program where the options ask for one, and else one of the language
@@ -101,7 +132,8 @@ play_by _ given = None
 
 -- FILE CYCLES COMMANDS
 abbrev pub debug_by : List Word → Given → Option Asked
-debug_by (file ∷ cycles ∷ commands ∷ []) given = either_by file cycles given (show.Commands commands) (program.Commands commands)
+debug_by (file ∷ cycles ∷ commands ∷ []) given =
+    either_by file cycles given (show.Commands commands given.echo) (program.Commands commands given.echo)
 debug_by _ given = None
 
 -- FILE CYCLES, where the file is a game or a saved state
@@ -158,13 +190,22 @@ bounds_by [] = Some request.Bounds
 bounds_by _ = None
 
 -- FILE CERT
-abbrev pub within_by : List Word → Option Asked
-within_by (file ∷ certificate ∷ []) = Some (request.Cycles file certificate)
-within_by _ = None
+abbrev pub within_by : List Word → Given → Option Asked
+within_by (file ∷ certificate ∷ []) given = Some (request.Cycles file certificate given.exits)
+within_by _ given = None
+
+-- FILE ENTRY P K, where the program counter and the counter are two registers
+abbrev pub two_registers : Word → Entry → ℕ → ℕ → Option Asked
+two_registers file entry p k = if p == k then None else Some (request.Timing file entry p k)
+
+abbrev pub timing_by : List Word → Option Asked
+timing_by (file ∷ entry ∷ p ∷ k ∷ []) =
+    option_and_then (λ e. option_and_then (λ m. option_and_then (λ n. two_registers file e m n) (register_of k)) (register_of p)) (entry_of entry)
+timing_by _ = None
 
 -- GAME CERT
 abbrev pub safe_by : List Word → Given → Option Asked
-safe_by (game ∷ certificate ∷ []) given = Some (request.Safe game certificate (edition_by given.tall))
+safe_by (game ∷ certificate ∷ []) given = Some (request.Safe (code_by given.asm game) certificate (edition_by given.tall))
 safe_by _ given = None
 
 -- what a verb asks for, where its words give this
@@ -182,9 +223,10 @@ asked_of_verb verb.List given = option_map (λ file. request.List file (isa_by g
 asked_of_verb verb.Dis given = dis_by (isa_by given.chip8) given.positional
 asked_of_verb verb.Source given = source_by given.positional given
 asked_of_verb verb.Bounds given = bounds_by given.positional
-asked_of_verb verb.Cycles given = within_by given.positional
+asked_of_verb verb.Cycles given = within_by given.positional given
+asked_of_verb verb.Timing given = timing_by given.positional
 asked_of_verb verb.Safe given = safe_by given.positional given
-asked_of_verb verb.Certify given = option_map (λ game. request.Certify game (edition_by given.tall)) (file_by given.positional)
+asked_of_verb verb.Certify given = option_map (λ game. request.Certify (code_by given.asm game) (edition_by given.tall)) (file_by given.positional)
 
 -- what the words ask for, the verb first, or nothing where they are refused
 abbrev pub asked_by : List Word → Option Asked

@@ -8,7 +8,7 @@ use Rattle.clap.specs.declared.builder.action.ArgAction.TheVariants.{Set, SetTru
 
 -- the names of the positional words, in order
 abbrev pub place_names : List Text
-place_names = codes "first" ∷ codes "second" ∷ codes "third" ∷ []
+place_names = codes "first" ∷ codes "second" ∷ codes "third" ∷ codes "fourth" ∷ []
 
 abbrev pub place_rule : Text → Rule
 place_rule name = record (new_rule name) { required = true; action = Some Set }
@@ -21,7 +21,7 @@ flag_rule name = record (new_rule name) { long = Some name; action = Some SetTru
 
 -- the options that take no word, in order
 abbrev pub flag_names : List Text
-flag_names = codes "at" ∷ codes "screen" ∷ codes "words" ∷ codes "tall" ∷ codes "state" ∷ codes "raw" ∷ codes "chip8" ∷ codes "rom" ∷ codes "ram" ∷ codes "sender" ∷ codes "receiver" ∷ []
+flag_names = codes "at" ∷ codes "screen" ∷ codes "words" ∷ codes "tall" ∷ codes "state" ∷ codes "raw" ∷ codes "chip8" ∷ codes "asm" ∷ codes "echo" ∷ codes "exits" ∷ codes "rom" ∷ codes "ram" ∷ codes "sender" ∷ codes "receiver" ∷ []
 
 -- a command with these arguments: no help flag, no version flag, no subcommand
 abbrev pub app_with : Text → List Rule → App

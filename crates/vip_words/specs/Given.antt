@@ -4,7 +4,7 @@ use Rattle.vip_words.specs.Rules as rules
 use Rattle.vip_words.specs.Usage.{row_of}
 use Rattle.vip_words.specs.declared.given.Given.{Given}
 use Rattle.vip_words.specs.declared.given.Positional.{Positional}
-use Rattle.vip_words.specs.declared.given.Positional.TheVariants.{Empty, One, Two, Three}
+use Rattle.vip_words.specs.declared.given.Positional.TheVariants.{Empty, One, Two, Three, Four}
 use Rattle.vip_words.specs.declared.table.Usage.{Usage}
 
 abbrev pub positional_of : Positional → List rules.Word
@@ -12,6 +12,7 @@ positional_of Empty = []
 positional_of (One first) = first.now ∷ []
 positional_of (Two first second) = first.now ∷ second.now ∷ []
 positional_of (Three first second third) = first.now ∷ second.now ∷ third.now ∷ []
+positional_of (Four first second third fourth) = first.now ∷ second.now ∷ third.now ∷ fourth.now ∷ []
 
 abbrev pub seen_given : Given → rules.Given
 seen_given given = record {
@@ -24,6 +25,9 @@ seen_given given = record {
   state = given.state;
   raw = given.raw;
   chip8 = given.chip8;
+  asm = given.asm;
+  echo = given.echo;
+  exits = given.exits;
   rom = given.rom;
   ram = given.ram;
   sender = given.sender;
@@ -35,8 +39,9 @@ abbrev pub given_of : Usage → List rules.Word → Option rules.Given
 given_of usage words = rules.given_by (row_of usage).places (row_of usage).options words
 
 -- the words up to the first place that stands empty
-abbrev pub words_in : Option rules.Word → Option rules.Word → Option rules.Word → List rules.Word
-words_in None second third = []
-words_in (Some first) None third = first ∷ []
-words_in (Some first) (Some second) None = first ∷ second ∷ []
-words_in (Some first) (Some second) (Some third) = first ∷ second ∷ third ∷ []
+abbrev pub words_in : Option rules.Word → Option rules.Word → Option rules.Word → Option rules.Word → List rules.Word
+words_in None second third fourth = []
+words_in (Some first) None third fourth = first ∷ []
+words_in (Some first) (Some second) None fourth = first ∷ second ∷ []
+words_in (Some first) (Some second) (Some third) None = first ∷ second ∷ third ∷ []
+words_in (Some first) (Some second) (Some third) (Some fourth) = first ∷ second ∷ third ∷ fourth ∷ []

@@ -7,3 +7,4 @@ pub mod Table
 pub mod Usage
 pub mod DebugGrammar
 pub mod FaultNames
+pub mod Spoken

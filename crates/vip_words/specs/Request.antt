@@ -4,11 +4,13 @@ use Rattle.std.specs.Prelude.{◌≤◌, ℕ, option_map}
 use Rattle.asm_core.specs.Ranges.{last_of, origin_of}
 pub use Rattle.vip_byte.specs.Number.{most_cycles}
 use Rattle.vip_words.specs.Rules.{Word}
+use Rattle.vip_words.specs.declared.request.Code.{Code}
+use Rattle.vip_words.specs.declared.request.Code.TheVariants as code
 use Rattle.vip_words.specs.declared.request.ProgramRequest.{ProgramRequest}
 use Rattle.vip_words.specs.declared.request.ProgramShow.{ProgramShow}
 use Rattle.vip_words.specs.declared.request.ProgramShow.TheVariants as program
 use Rattle.vip_words.specs.declared.request.Request.{Request}
-use Rattle.vip_words.specs.declared.request.Request.TheVariants.{Run, Program, Link, Asm, List, Dis, Source, Bounds, Cycles, Safe, Certify}
+use Rattle.vip_words.specs.declared.request.Request.TheVariants.{Run, Program, Link, Asm, List, Dis, Source, Bounds, Cycles, Timing, Safe, Certify}
 use Rattle.vip_words.specs.declared.request.RunRequest.{RunRequest}
 use Rattle.vip_words.specs.declared.request.Show.{Show}
 use Rattle.vip_words.specs.declared.request.Show.TheVariants as show
@@ -18,15 +20,19 @@ use Rattle.vip_words.specs.declared.request.Start.TheVariants as start
 -- ---- the same request with each file put in its place
 
 module _ {A B : Type 0} (f : A → B) where
+  abbrev pub map_code : Code A → Code B
+  map_code (code.Bytes file) = code.Bytes (f file)
+  map_code (code.Source file) = code.Source (f file)
+
   abbrev pub map_start : Start A → Start B
-  map_start (start.Game file edition) = start.Game (f file) edition
+  map_start (start.Game game edition) = start.Game (map_code game) edition
   map_start (start.State file) = start.State (f file)
   map_start (start.Demo number) = start.Demo number
 
   abbrev pub map_show : Show A → Show B
   map_show (show.Trace with_time with_words with_screen) = show.Trace with_time with_words with_screen
   map_show show.Pictures = show.Pictures
-  map_show (show.Commands file) = show.Commands (f file)
+  map_show (show.Commands file echo) = show.Commands (f file) echo
   map_show show.State = show.State
   map_show show.Profile = show.Profile
   map_show (show.Summary number) = show.Summary number
@@ -37,11 +43,11 @@ module _ {A B : Type 0} (f : A → B) where
   abbrev pub map_program_show : ProgramShow A → ProgramShow B
   map_program_show program.Trace = program.Trace
   map_program_show program.Pictures = program.Pictures
-  map_program_show (program.Commands file) = program.Commands (f file)
+  map_program_show (program.Commands file echo) = program.Commands (f file) echo
 
   abbrev pub map_program : ProgramRequest A → ProgramRequest B
   map_program run =
-      record { file = f run.file; memory = run.memory; keys = option_map f run.keys; limit = run.limit; show = map_program_show run.show }
+      record { code = map_code run.code; memory = run.memory; keys = option_map f run.keys; limit = run.limit; show = map_program_show run.show }
 
   abbrev pub map_request : Request A → Request B
   map_request (Run run) = Run (map_run run)
@@ -52,13 +58,17 @@ module _ {A B : Type 0} (f : A → B) where
   map_request (Dis file isa address) = Dis (f file) isa address
   map_request (Source text) = Source text
   map_request Bounds = Bounds
-  map_request (Cycles file certificate) = Cycles (f file) (f certificate)
-  map_request (Safe game certificate edition) = Safe (f game) (f certificate) edition
-  map_request (Certify game edition) = Certify (f game) edition
+  map_request (Cycles file certificate exits) = Cycles (f file) (f certificate) exits
+  map_request (Timing file entry p k) = Timing (f file) entry p k
+  map_request (Safe game certificate edition) = Safe (map_code game) (f certificate) edition
+  map_request (Certify game edition) = Certify (map_code game) edition
 
 -- what is asked for: each file by its name
 abbrev pub Asked : Type 0
 Asked = Request Word
+
+abbrev pub code_of : Code (Bor Word) → Code Word
+code_of = map_code (λ name. name.now)
 
 abbrev pub start_of : Start (Bor Word) → Start Word
 start_of = map_start (λ name. name.now)

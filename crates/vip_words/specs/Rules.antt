@@ -36,6 +36,15 @@ raw_option = codes "--raw"
 abbrev pub chip8_option : Word
 chip8_option = codes "--chip8"
 
+abbrev pub asm_option : Word
+asm_option = codes "--asm"
+
+abbrev pub echo_option : Word
+echo_option = codes "--echo"
+
+abbrev pub exits_option : Word
+exits_option = codes "--exits"
+
 abbrev pub rom_option : Word
 rom_option = codes "--rom"
 
@@ -51,8 +60,8 @@ receiver_option = codes "--receiver"
 -- every option of the program
 abbrev pub every_option : List Word
 every_option =
-    keys_option ∷ at_option ∷ screen_option ∷ words_option ∷ tall_option ∷ state_option ∷ raw_option ∷ chip8_option ∷ rom_option ∷ ram_option
-    ∷ sender_option ∷ receiver_option ∷ []
+    keys_option ∷ at_option ∷ screen_option ∷ words_option ∷ tall_option ∷ state_option ∷ raw_option ∷ chip8_option ∷ asm_option ∷ echo_option
+    ∷ exits_option ∷ rom_option ∷ ram_option ∷ sender_option ∷ receiver_option ∷ []
 
 abbrev pub is_option : Word → Bool
 is_option word = list_any (bytes_eq word) every_option
@@ -115,6 +124,9 @@ pub record Given : Type 0 where
   pub state : Bool
   pub raw : Bool
   pub chip8 : Bool
+  pub asm : Bool
+  pub echo : Bool
+  pub exits : Bool
   pub rom : Bool
   pub ram : Bool
   pub sender : Bool
@@ -133,6 +145,9 @@ given_by places options words =
       state = is_given state_option words;
       raw = is_given raw_option words;
       chip8 = is_given chip8_option words;
+      asm = is_given asm_option words;
+      echo = is_given echo_option words;
+      exits = is_given exits_option words;
       rom = is_given rom_option words;
       ram = is_given ram_option words;
       sender = is_given sender_option words;

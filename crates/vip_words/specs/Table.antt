@@ -1,6 +1,6 @@
 -- The verbs, and what may follow each.
 use Rattle.std.specs.Prelude.{ℕ, List, [], ◌∷◌, Option, bytes_eq, codes, find, option_map}
-use Rattle.vip_words.specs.Rules.{Word, at_option, chip8_option, keys_option, ram_option, raw_option, receiver_option, rom_option, screen_option, sender_option, state_option, tall_option, words_option}
+use Rattle.vip_words.specs.Rules.{Word, asm_option, at_option, chip8_option, echo_option, exits_option, keys_option, ram_option, raw_option, receiver_option, rom_option, screen_option, sender_option, state_option, tall_option, words_option}
 use Rattle.vip_words.specs.declared.table.Verb.{Verb}
 use Rattle.vip_words.specs.declared.table.Verb.TheVariants as verb
 
@@ -16,11 +16,11 @@ row verb places options = record { verb = verb; places = places; options = optio
 -- each verb as it is spelled, with its row
 abbrev pub table : List (Word × Row)
 table =
-    (codes "trace", row verb.Trace 2 (keys_option ∷ at_option ∷ screen_option ∷ words_option ∷ tall_option ∷ state_option ∷ rom_option ∷ ram_option ∷ []))
-    ∷ (codes "play", row verb.Play 2 (keys_option ∷ tall_option ∷ state_option ∷ rom_option ∷ ram_option ∷ []))
-    ∷ (codes "debug", row verb.Debug 3 (keys_option ∷ tall_option ∷ state_option ∷ rom_option ∷ ram_option ∷ []))
-    ∷ (codes "save", row verb.Save 2 (keys_option ∷ tall_option ∷ state_option ∷ []))
-    ∷ (codes "profile", row verb.Profile 2 (keys_option ∷ tall_option ∷ state_option ∷ []))
+    (codes "trace", row verb.Trace 2 (keys_option ∷ at_option ∷ screen_option ∷ words_option ∷ tall_option ∷ state_option ∷ asm_option ∷ rom_option ∷ ram_option ∷ []))
+    ∷ (codes "play", row verb.Play 2 (keys_option ∷ tall_option ∷ state_option ∷ asm_option ∷ rom_option ∷ ram_option ∷ []))
+    ∷ (codes "debug", row verb.Debug 3 (keys_option ∷ tall_option ∷ state_option ∷ asm_option ∷ echo_option ∷ rom_option ∷ ram_option ∷ []))
+    ∷ (codes "save", row verb.Save 2 (keys_option ∷ tall_option ∷ state_option ∷ asm_option ∷ []))
+    ∷ (codes "profile", row verb.Profile 2 (keys_option ∷ tall_option ∷ state_option ∷ asm_option ∷ []))
     ∷ (codes "resume", row verb.Resume 2 (keys_option ∷ at_option ∷ []))
     ∷ (codes "demo", row verb.Demo 2 [])
     ∷ (codes "link", row verb.Link 3 [])
@@ -29,9 +29,10 @@ table =
     ∷ (codes "dis", row verb.Dis 2 (chip8_option ∷ []))
     ∷ (codes "source", row verb.Source 0 (tall_option ∷ sender_option ∷ receiver_option ∷ []))
     ∷ (codes "bounds", row verb.Bounds 0 [])
-    ∷ (codes "cycles", row verb.Cycles 2 [])
-    ∷ (codes "safe", row verb.Safe 2 (tall_option ∷ []))
-    ∷ (codes "certify", row verb.Certify 1 (tall_option ∷ []))
+    ∷ (codes "cycles", row verb.Cycles 2 (exits_option ∷ []))
+    ∷ (codes "timing", row verb.Timing 4 [])
+    ∷ (codes "safe", row verb.Safe 2 (tall_option ∷ asm_option ∷ []))
+    ∷ (codes "certify", row verb.Certify 1 (tall_option ∷ asm_option ∷ []))
     ∷ []
 
 -- the row of the verb that a word spells

@@ -8,12 +8,13 @@ use clap::{Arg, ArgAction, Command};
 use std::alloc::{AllocError, Global};
 
 // The options that take no word, in order.
-const FLAGS: [&str; 11] = [
-    "at", "screen", "words", "tall", "state", "raw", "chip8", "rom", "ram", "sender", "receiver",
+const FLAGS: [&str; 14] = [
+    "at", "screen", "words", "tall", "state", "raw", "chip8", "asm", "echo", "exits", "rom", "ram",
+    "sender", "receiver",
 ];
 
 /// The names under which `clap` keeps the positional words, in order.
-pub const PLACES: [&str; 3] = ["first", "second", "third"];
+pub const PLACES: [&str; 4] = ["first", "second", "third", "fourth"];
 
 // A positional word, which may not be left out.
 fn make_place<'a>(alloc: Global, name: &'a str) -> Arg<'a>
@@ -67,7 +68,7 @@ pub fn make_command<'a>(
     verb: &'a str,
     places: usize,
 ) -> Result<Command<'a>, AllocError>
-    requires { places ≤ 3 }
+    requires { places ≤ 4 }
     ensures { IfOk result (λ command. app_of command ≡ command_app verb.entry.now places) }
 {
     let mut command = make_options(alloc, verb)?;

@@ -1,11 +1,13 @@
 //! The commands of the debugger, and how a text of them is read.
 
-ghost use Rattle.std.specs.Prelude.{◌≡◌, ◌≤◌, ◌⊎◌, ◌++◌, length, Ok, Err, OnOk, IfOk, IfErr};
+ghost use Rattle.std.specs.Prelude.{◌≡◌, ◌≤◌, ◌⊎◌, ◌++◌, length, option_map, Ok, Err, OnOk, IfOk, IfErr};
 ghost use Rattle.std.specs.Option.{option_to_list};
-ghost use Rattle.vip_words.specs.DebugGrammar.{commands_of};
+ghost use Rattle.asm_lex.specs.Names.{number_named, value_in};
+ghost use Rattle.vip_words.specs.DebugGrammar.{commands_of, echo_line, spoken};
 ghost use Rattle.vip_words.specs.FaultNames.{command_cause_name};
 
 use crate::debug_line::read_line;
+use asm_lex::Symbols;
 use std::alloc::{AllocError, Global};
 use std::marker::Model;
 use thiserror::Error;
@@ -83,7 +85,7 @@ pub enum CommandCause {
     BadWord,
     /// The command has another number of operands.
     BadCount,
-    /// An operand is not of its digits, or an address has more than four.
+    /// An operand is not of its digits, or an address is neither one to four of them nor the name of a number.
     BadNumber,
     /// A number is out of its range.
     Range,
@@ -125,24 +127,89 @@ impl From<AllocError> for CommandFault {
     }
 }
 
+/// A command of a text, and the line that echoes it, if commands are echoed.
+#[derive(Drop)]
+pub struct SpokenCommand {
+    command: Command,
+    echo: Option<Vec<u8>>,
+}
+
+impl Model for SpokenCommand {
+    ghost use Rattle.std.specs.Prelude.{option_map};
+    ghost use Rattle.vip_words.specs.Spoken.{Spoken};
+
+    ghost Value = { Spoken };
+
+    ghost view = { λ entry. record { command = entry.command; echo = option_map (λ line. line.items) entry.echo } };
+}
+
+impl SpokenCommand {
+    ghost use Rattle.std.specs.Prelude.{◌≡◌, IfOk, MatchOption, None, Some};
+    ghost use Rattle.vip_words.specs.DebugGrammar.{spoken};
+
+    // A command that a line says.
+    fn new(
+        alloc: Global,
+        command: Command,
+        line: &[u8],
+        echo: bool,
+    ) -> Result<SpokenCommand, AllocError>
+        ensures { IfOk result (λ entry. entry ≡ spoken echo line.now command) }
+    {
+        let echo = if echo {
+            Some(echo_line(alloc, line)?)
+        } else {
+            None
+        };
+        Ok(SpokenCommand { command, echo })
+    }
+
+    /// The command.
+    pub fn command(&self) -> Command
+        ensures { result ≡ self.now.command }
+    {
+        self.command
+    }
+
+    /// The line that echoes it, which is put before its answer; none where commands aren't echoed.
+    pub fn echo(&self) -> Option<&[u8]>
+        ensures { MatchOption result (self.now.echo ≡ None) (λ line. self.now.echo ≡ Some line.now) }
+    {
+        match &self.echo {
+            Some(line) => Some(line.as_slice()),
+            None => None,
+        }
+    }
+}
+
+// The line that echoes a command, by the line that says it.
+fn echo_line(alloc: Global, line: &[u8]) -> Result<Vec<u8>, AllocError>
+    ensures { IfOk result (λ echo. echo.items ≡ echo_line line.now) }
+{
+    let mut echo = Vec::from_slice(alloc, b"> ")?;
+    echo.extend_from_slice(line)?;
+    echo.push(b'\n')?;
+    Ok(echo)
+}
+
 /// The commands of a text, first to last. A clause sees the list of them.
 #[derive(Drop)]
 pub struct Commands {
-    list: Vec<Command>,
+    list: Vec<SpokenCommand>,
 }
 
 impl Model for Commands {
     ghost use Rattle.std.specs.Prelude.{List};
-    ghost use Rattle.vip_words.specs.declared.debug_commands.Command.{Command};
+    ghost use Rattle.vip_words.specs.Spoken.{Spoken};
 
-    ghost Value = { List Command };
+    ghost Value = { List Spoken };
 
     ghost view = { λ inside. inside.list.items };
 }
 
 impl Commands {
     /// All of them, in order.
-    pub fn as_slice(&self) -> &[Command]
+    pub fn as_slice(&self) -> &[SpokenCommand]
         ensures { result.now ≡ self.now }
     {
         self.list.as_slice()
@@ -161,27 +228,31 @@ impl Commands {
 /// | `dis A N`, `list A N`, `code A N` | N is 1 to 4,096 |
 /// | `regs`, `state`, `screen` | they have no operand |
 ///
-/// Lines and words are those of a key script. N and C are decimal numbers, and A is one to four hexadecimal digits. Where the board doesn't
-/// run a game, `next`, `break`, `state`, `screen` and `code` are no commands.
+/// Lines and words are those of a key script. N and C are decimal numbers, and A is one to four hexadecimal digits, or a name that stands for a
+/// number, which may have a colon before it. Where no source is known there are no names. Where the board doesn't run a game, `next`, `break`,
+/// `state`, `screen` and `code` are no commands. With `echo` each command is echoed: `> ` and its line's bytes as they stand are put before its
+/// answer.
 ///
 /// The answer is the list of the commands, or the first fault, which is the first cause in the first faulty line; or memory was wanting.
 pub fn read_commands(
     alloc: Global,
     speaks: Speaks,
+    names: &Symbols,
+    echo: bool,
     text: &[u8],
     limit: u64,
 ) -> Result<Commands, CommandFault>
     requires { length text.now ≤ MOST_TEXT }
-    ensures commands { IfOk result (λ commands. commands_of speaks limit text.now ≡ Ok commands) }
+    ensures commands { IfOk result (λ commands. commands_of speaks (number_named (value_in names.now)) echo limit text.now ≡ Ok commands) }
     ensures fault { IfErr result
-        (λ fault. (fault ≡ CommandFault.NoMemory) ⊎ (commands_of speaks limit text.now ≡ Err fault)) }
+        (λ fault. (fault ≡ CommandFault.NoMemory) ⊎ (commands_of speaks (number_named (value_in names.now)) echo limit text.now ≡ Err fault)) }
 {
     let mut list = Vec::new(alloc);
     let mut number = 0;
     for line in Lines::new(text) {
         number += 1;
-        match read_line(line, speaks, limit) {
-            Ok(command) => extend(&mut list, command)?,
+        match read_line(line, speaks, names, limit) {
+            Ok(command) => extend(alloc, &mut list, command, line, echo)?,
             Err(cause) => return Err(CommandFault::Fault {
                 line: number,
                 cause,
@@ -192,11 +263,17 @@ pub fn read_commands(
 }
 
 // Adds the command that a line says, if it says one, behind the others.
-fn extend(list: &mut Vec<Command>, command: Option<Command>) -> Result<(), AllocError>
-    ensures { OnOk result (list.new.items ≡ list.old.items ++ option_to_list command) }
+fn extend(
+    alloc: Global,
+    list: &mut Vec<SpokenCommand>,
+    command: Option<Command>,
+    line: &[u8],
+    echo: bool,
+) -> Result<(), AllocError>
+    ensures { OnOk result (list.new.items ≡ list.old.items ++ option_to_list (option_map (spoken echo line.now) command)) }
 {
     if let Some(command) = command {
-        list.push(command)?;
+        list.push(SpokenCommand::new(alloc, command, line, echo)?)?;
     }
     Ok(())
 }

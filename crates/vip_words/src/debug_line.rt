@@ -2,9 +2,11 @@
 
 ghost use Rattle.std.specs.Prelude.{◌≡◌, ◌≤◌, ◌∷◌, [], Ok, Err, IfOk, MatchResult};
 ghost use Rattle.std.specs.Str.{bytes_eq};
-ghost use Rattle.vip_words.specs.DebugGrammar.{address_of, bytes_of, command_of, decimal_within, language_command_of, no_operand, one_operand, said, showing_of, span_of, steps_of, to_of, two_operands};
+ghost use Rattle.asm_lex.specs.Names.{number_named, value_in};
+ghost use Rattle.vip_words.specs.DebugGrammar.{address_of, bytes_of, command_of, decimal_within, digits_of, language_command_of, name_in, no_operand, one_operand, said, showing_of, span_of, steps_of, to_of, two_operands};
 
 use crate::debug_commands::{Command, CommandCause, Running, Seeking, Showing, Speaks, Telling};
+use asm_lex::Symbols;
 use vip_byte::{NumFault, Words, read_decimal, read_hex};
 
 /// The most moves or dispatch points of one command.
@@ -15,8 +17,13 @@ const MOST_SHOWN: u64 = 4_096;
 
 /// What a line says by itself: nothing or a command, or the first cause for which it says neither.
 #[tactic(auto, unfolding(crate::specs::DebugGrammar::said))]
-pub fn read_line(line: &[u8], speaks: Speaks, limit: u64) -> Result<Option<Command>, CommandCause>
-    ensures { result ≡ said speaks limit line.now }
+pub fn read_line(
+    line: &[u8],
+    speaks: Speaks,
+    names: &Symbols,
+    limit: u64,
+) -> Result<Option<Command>, CommandCause>
+    ensures { result ≡ said speaks (number_named (value_in names.now)) limit line.now }
 {
     let mut words = Words::new(line);
     let Some(word) = words.next() else {
@@ -25,7 +32,7 @@ pub fn read_line(line: &[u8], speaks: Speaks, limit: u64) -> Result<Option<Comma
     if let [b'#', ..] = word {
         return Ok(None);
     }
-    let command = read_command(word, words, speaks, limit)?;
+    let command = read_command(word, words, speaks, names, limit)?;
     Ok(Some(command))
 }
 
@@ -42,43 +49,49 @@ fn read_command(
     word: &[u8],
     operands: Words,
     speaks: Speaks,
+    names: &Symbols,
     limit: u64,
 ) -> Result<Command, CommandCause>
-    ensures { result ≡ command_of speaks limit word.now operands.entry }
+    ensures { result ≡ command_of speaks (number_named (value_in names.now)) limit word.now operands.entry }
 {
     if is(word, b"step") {
         Ok(Command::Runs(Running::Step(read_steps(operands)?)))
     } else if is(word, b"to") {
         Ok(Command::Runs(Running::To(read_to(operands, limit)?)))
     } else if is(word, b"at") {
-        Ok(Command::Runs(Running::At(read_address(one(operands)?)?)))
+        Ok(Command::Runs(Running::At(read_address(one(operands)?, names)?)))
     } else if is(word, b"watch") {
-        let (address, count) = read_bytes(operands)?;
+        let (address, count) = read_bytes(operands, names)?;
         Ok(Command::Runs(Running::Watch(address, count)))
     } else {
-        read_showing(word, operands, speaks)
+        read_showing(word, operands, speaks, names)
     }
 }
 
 // The command that a word says with these operands, if it is one that shows, or one of the language.
 #[tactic(auto, unfolding(crate::specs::DebugGrammar::showing_of))]
-fn read_showing(word: &[u8], operands: Words, speaks: Speaks) -> Result<Command, CommandCause>
-    ensures { result ≡ showing_of speaks word.now operands.entry }
+fn read_showing(
+    word: &[u8],
+    operands: Words,
+    speaks: Speaks,
+    names: &Symbols,
+) -> Result<Command, CommandCause>
+    ensures { result ≡ showing_of speaks (number_named (value_in names.now)) word.now operands.entry }
 {
     if is(word, b"regs") {
         alone(Command::Shows(Showing::Regs), operands)
     } else if is(word, b"mem") {
-        let (address, count) = read_bytes(operands)?;
+        let (address, count) = read_bytes(operands, names)?;
         Ok(Command::Shows(Showing::Mem(address, count)))
     } else if is(word, b"dis") {
-        let (address, count) = read_span(operands)?;
+        let (address, count) = read_span(operands, names)?;
         Ok(Command::Shows(Showing::Dis(address, count)))
     } else if is(word, b"list") {
-        let (address, count) = read_span(operands)?;
+        let (address, count) = read_span(operands, names)?;
         Ok(Command::Shows(Showing::List(address, count)))
     } else {
         match speaks {
-            Speaks::Chip8 => read_language(word, operands),
+            Speaks::Chip8 => read_language(word, operands, names),
             Speaks::Machine => Err(CommandCause::BadWord),
         }
     }
@@ -86,20 +99,20 @@ fn read_showing(word: &[u8], operands: Words, speaks: Speaks) -> Result<Command,
 
 // The command that a word says with these operands, if it is one of the language.
 #[tactic(auto, unfolding(crate::specs::DebugGrammar::language_command_of))]
-fn read_language(word: &[u8], operands: Words) -> Result<Command, CommandCause>
-    ensures { result ≡ language_command_of word.now operands.entry }
+fn read_language(word: &[u8], operands: Words, names: &Symbols) -> Result<Command, CommandCause>
+    ensures { result ≡ language_command_of (number_named (value_in names.now)) word.now operands.entry }
 {
     if is(word, b"screen") {
         alone(Command::Tells(Telling::Screen), operands)
     } else if is(word, b"state") {
         alone(Command::Tells(Telling::State), operands)
     } else if is(word, b"code") {
-        let (address, count) = read_span(operands)?;
+        let (address, count) = read_span(operands, names)?;
         Ok(Command::Tells(Telling::Code(address, count)))
     } else if is(word, b"next") {
         Ok(Command::Seeks(Seeking::Next(read_steps(operands)?)))
     } else if is(word, b"break") {
-        Ok(Command::Seeks(Seeking::Break(read_address(one(operands)?)?)))
+        Ok(Command::Seeks(Seeking::Break(read_address(one(operands)?, names)?)))
     } else {
         Err(CommandCause::BadWord)
     }
@@ -124,22 +137,22 @@ fn read_to(operands: Words, limit: u64) -> Result<u64, CommandCause>
 
 // An address and a number of bytes or lines.
 #[tactic(auto, unfolding(crate::specs::DebugGrammar::span_of))]
-fn read_span(operands: Words) -> Result<(u16, u32), CommandCause>
-    ensures value { result ≡ span_of operands.entry }
+fn read_span(operands: Words, names: &Symbols) -> Result<(u16, u32), CommandCause>
+    ensures value { result ≡ span_of (number_named (value_in names.now)) operands.entry }
     ensures within { IfOk result (λ span. span.1 ≤ 4_096) }
 {
     let (first, second) = two(operands)?;
-    let address = read_address(first)?;
+    let address = read_address(first, names)?;
     let count = read_within(second, 1, MOST_SHOWN)?;
     Ok((address, count as u32))
 }
 
 // Bytes that end at FFFF at the latest.
 #[tactic(auto, unfolding(crate::specs::DebugGrammar::bytes_of))]
-fn read_bytes(operands: Words) -> Result<(u16, u32), CommandCause>
-    ensures { result ≡ bytes_of operands.entry }
+fn read_bytes(operands: Words, names: &Symbols) -> Result<(u16, u32), CommandCause>
+    ensures { result ≡ bytes_of (number_named (value_in names.now)) operands.entry }
 {
-    let (address, count) = read_span(operands)?;
+    let (address, count) = read_span(operands, names)?;
     if u32::from(address) + count > 0x10000 {
         return Err(CommandCause::Range);
     }
@@ -196,16 +209,40 @@ fn read_within(word: &[u8], least: u64, most: u64) -> Result<u64, CommandCause>
     }
 }
 
-// One to four hexadecimal digits.
-#[tactic(auto, unfolding(crate::specs::DebugGrammar::address_of))]
-fn read_address(word: &[u8]) -> Result<u16, CommandCause>
-    ensures { result ≡ address_of word.now }
+// One to four hexadecimal digits, if a word is that.
+#[tactic(auto, unfolding(crate::specs::DebugGrammar::digits_of))]
+fn read_digits(word: &[u8]) -> Option<u16>
+    ensures { result ≡ digits_of word.now }
 {
     if word.len() > 4 {
-        return Err(CommandCause::BadNumber);
+        return None;
     }
     match read_hex(word, 0xFFFF) {
-        Ok(address) => Ok(address as u16),
-        Err(_) => Err(CommandCause::BadNumber),
+        Ok(address) => Some(address as u16),
+        Err(_) => None,
+    }
+}
+
+// The name that a word is: what stands behind a colon, or the whole.
+fn name_in(word: &[u8]) -> &[u8]
+    ensures { result.now ≡ name_in word.now }
+{
+    match word {
+        [b':', name @ ..] => name,
+        _ => word,
+    }
+}
+
+// An address: one to four hexadecimal digits, or the name of a number.
+#[tactic(auto, unfolding(crate::specs::DebugGrammar::address_of))]
+fn read_address(word: &[u8], names: &Symbols) -> Result<u16, CommandCause>
+    ensures { result ≡ address_of (number_named (value_in names.now)) word.now }
+{
+    if let Some(address) = read_digits(word) {
+        return Ok(address);
+    }
+    match names.number(name_in(word)) {
+        Some(address) => Ok(address),
+        None => Err(CommandCause::BadNumber),
     }
 }

@@ -32,6 +32,7 @@ pub enum Positional<'a> {
     One(&'a str),
     Two(&'a str, &'a str),
     Three(&'a str, &'a str, &'a str),
+    Four(&'a str, &'a str, &'a str, &'a str),
 }
 
 /// What the words after a verb give.
@@ -54,6 +55,12 @@ pub struct Given<'a> {
     pub raw: bool,
     /// Whether `--chip8` is.
     pub chip8: bool,
+    /// Whether `--asm` is.
+    pub asm: bool,
+    /// Whether `--echo` is.
+    pub echo: bool,
+    /// Whether `--exits` is.
+    pub exits: bool,
     /// Whether `--rom` is.
     pub rom: bool,
     /// Whether `--ram` is.
@@ -96,7 +103,7 @@ fn matches_of<'a>(
     places: usize,
     words: &'a [String],
 ) -> Result<ArgMatches<'a>, WordsFail>
-    requires { places ≤ 3 }
+    requires { places ≤ 4 }
     ensures taken { OnOk result (command_faults verb.entry.now places (map string_bytes words.entry.now) ≡ []) }
     ensures rows { IfOk result (λ matches. rows_of (found_of matches)
         ≡ command_rows verb.entry.now places (map string_bytes words.entry.now)) }
@@ -123,7 +130,8 @@ fn positional_of<'a>(matches: &ArgMatches<'a>) -> Positional<'a>
     ensures { positional_of result ≡ words_in
         (first_value (found_of matches.now) (codes "first"))
         (first_value (found_of matches.now) (codes "second"))
-        (first_value (found_of matches.now) (codes "third")) }
+        (first_value (found_of matches.now) (codes "third"))
+        (first_value (found_of matches.now) (codes "fourth")) }
 {
     let Some(first) = matches.get_str(PLACES[0]) else {
         return Positional::Empty;
@@ -131,9 +139,12 @@ fn positional_of<'a>(matches: &ArgMatches<'a>) -> Positional<'a>
     let Some(second) = matches.get_str(PLACES[1]) else {
         return Positional::One(first);
     };
-    match matches.get_str(PLACES[2]) {
-        None => Positional::Two(first, second),
-        Some(third) => Positional::Three(first, second, third),
+    let Some(third) = matches.get_str(PLACES[2]) else {
+        return Positional::Two(first, second);
+    };
+    match matches.get_str(PLACES[3]) {
+        None => Positional::Three(first, second, third),
+        Some(fourth) => Positional::Four(first, second, third, fourth),
     }
 }
 
@@ -166,6 +177,9 @@ pub fn read_given<'a>(
         state: matches.get_flag("state"),
         raw: matches.get_flag("raw"),
         chip8: matches.get_flag("chip8"),
+        asm: matches.get_flag("asm"),
+        echo: matches.get_flag("echo"),
+        exits: matches.get_flag("exits"),
         rom: matches.get_flag("rom"),
         ram: matches.get_flag("ram"),
         sender: matches.get_flag("sender"),

@@ -22,8 +22,10 @@
 //! | the number of a demonstration game, or of a schedule of joined boards, is decimal and at most 4,294,967,295 | `vip_byte` |
 //! | a number of moves of joined boards is decimal and at most 10,000,000 | `vip_byte` |
 //! | an address is hexadecimal and at most FFFF, with `--chip8` from 200 to FFF | `vip_byte`, `src/request.rt` |
+//! | where a routine is entered is an address of one to four hexadecimal digits, and else a name of at most 32 bytes, always behind `:` | `src/request.rt` |
+//! | the program counter and the counter of a routine are two registers, each one hexadecimal digit | `src/request.rt` |
 //! | a program has one of `--rom` and `--ram`, and none of `--tall`, `--state`, `--screen`, `--words` and `--at` | `src/request.rt` |
-//! | a saved state, by `--state`, has its own edition: `--tall` is refused with it | `src/request.rt` |
+//! | a saved state, by `--state`, has its own edition and is no source: `--tall` and `--asm` are refused with it | `src/request.rt` |
 //! | `source` has at most one of `--tall`, `--sender` and `--receiver` | `src/request.rt` |
 //!
 //! One `clap` command serves all verbs with as many positional words: it has every option, and a word that is an option of another verb doesn't come
@@ -40,10 +42,11 @@ mod request;
 mod table;
 
 pub use debug_commands::{
-    Command, CommandCause, CommandFault, Commands, Running, Seeking, Showing, Speaks, Telling,
-    read_commands,
+    Command, CommandCause, CommandFault, Commands, Running, Seeking, Showing, Speaks,
+    SpokenCommand, Telling, read_commands,
 };
 pub use given::WordsFail;
 pub use request::{
-    BuiltIn, Memory, ProgramRequest, ProgramShow, Request, RunRequest, Show, Start, read_words,
+    BuiltIn, Code, Entry, EntryName, Memory, ProgramRequest, ProgramShow, Request, RunRequest,
+    Show, Start, read_words,
 };

@@ -1,13 +1,14 @@
 //! What the words of a command line ask for.
 
 ghost use Rattle.std.specs.Prelude.{◌≡◌, IfOk, IsErrOf, None, Some, map, option_map, string_bytes};
-ghost use Rattle.vip_words.specs.Asked.{asked_by, asked_of_verb, built_in_by, cycles_of, edition_by, either_by, is_mixed, is_program, isa_by, moves_of, place_of, program_by, run_by, seed_of, start_by};
+ghost use Rattle.vip_words.specs.Asked.{address_or, asked_by, asked_of_verb, built_in_by, code_by, cycles_of, edition_by, either_by, entry_of, is_mixed, is_program, isa_by, moves_of, name_of, number_of, place_of, program_by, register_of, run_by, seed_of, start_by};
 ghost use Rattle.vip_words.specs.Given.{seen_given};
-ghost use Rattle.vip_words.specs.Request.{asked_of, program_show_of, show_of, start_of, InRange};
+ghost use Rattle.vip_words.specs.Request.{asked_of, code_of, program_show_of, show_of, start_of, InRange};
 ghost use Rattle.vip_words.specs.declared.table.Verb.TheVariants as verb;
 
 use crate::given::{Given, Positional, WordsFail, read_given};
 use crate::table::{Usage, Verb};
+use arrayvec::ArrayVec;
 use asm_lex::Isa;
 use chip8_lang::Edition;
 use std::alloc::Global;
@@ -54,18 +55,38 @@ pub enum Request<N> {
     Cycles {
         source: N,
         certificate: N,
+        /// Whether its exits are asked for.
+        exits: bool,
+    },
+    /// Search for a certificate of a routine of a source.
+    Timing {
+        source: N,
+        entry: Entry,
+        /// The number of the register that is the program counter.
+        p: u8,
+        /// The number of the counter register.
+        k: u8,
     },
     /// Check a certificate that an edition's game never stops.
     Safe {
-        game: N,
+        game: Code<N>,
         certificate: N,
         edition: Edition,
     },
     /// Search for a certificate that an edition's game never stops.
     Certify {
-        game: N,
+        game: Code<N>,
         edition: Edition,
     },
+}
+
+/// What is to run, or to be judged.
+#[derive(Drop)]
+pub enum Code<N> {
+    /// The bytes themselves.
+    Bytes(N),
+    /// A source that gives them: a game's in CHIP-8's words, and a program's in those of the processor.
+    Source(N),
 }
 
 /// A run of the language: from where, under which keys, how long, and what is shown of it.
@@ -83,7 +104,7 @@ pub struct RunRequest<N> {
 #[derive(Drop)]
 pub enum Start<N> {
     /// At a reset, with a game of an edition.
-    Game { file: N, edition: Edition },
+    Game { code: Code<N>, edition: Edition },
     /// At a saved state, whose edition counts.
     State(N),
     /// At a reset, with the demonstration game of a number.
@@ -101,8 +122,11 @@ pub enum Show<N> {
     },
     /// Each finished picture.
     Pictures,
-    /// The answers to the debugger's commands.
-    Commands(N),
+    /// The answers to the debugger's commands; and whether each command stands before its answer.
+    Commands {
+        file: N,
+        echo: bool,
+    },
     /// The last dispatch point, as a state file.
     State,
     /// Where its time goes, by its dispatch points.
@@ -114,8 +138,8 @@ pub enum Show<N> {
 /// A run of a program for the processor: which one, under which keys, how long, and what is shown of it.
 #[derive(Drop)]
 pub struct ProgramRequest<N> {
-    pub file: N,
-    /// Where it stands.
+    pub code: Code<N>,
+    /// Where it starts, and where its bytes stand, unless it is a source, which says that itself.
     pub memory: Memory,
     /// The key script, where there is one.
     pub keys: Option<N>,
@@ -131,11 +155,25 @@ pub enum ProgramShow<N> {
     Trace,
     /// Each finished picture.
     Pictures,
-    /// The answers to the debugger's commands.
-    Commands(N),
+    /// The answers to the debugger's commands; and whether each command stands before its answer.
+    Commands { file: N, echo: bool },
 }
 
-/// A memory of the board in which a program stands.
+/// Where a routine is entered.
+#[derive(Drop)]
+pub enum Entry {
+    Address(u16),
+    /// At the address that a name stands for, which has from 1 to 32 bytes.
+    Name(EntryName),
+}
+
+/// The name of an address.
+pub type EntryName = ArrayVec<u8, MOST_NAME>;
+
+/// The most bytes of a name.
+pub const MOST_NAME: usize = 32;
+
+/// A memory of the board in which a program starts.
 #[derive(Clone, Copy)]
 pub enum Memory {
     /// The ROM, from 8000 on, in place of the interpreter.
@@ -194,6 +232,63 @@ fn read_place(isa: Isa, word: &str) -> Option<u16>
     Some(address as u16)
 }
 
+/// The name of an address.
+fn read_name(word: &[u8]) -> Option<Entry>
+    ensures { result ≡ name_of word.now }
+{
+    if word.is_empty() {
+        return None;
+    }
+    let mut name = EntryName::new();
+    match name.try_extend_from_slice(word) {
+        Ok(()) => Some(Entry::Name(name)),
+        Err(_) => None,
+    }
+}
+
+/// One to four hexadecimal digits.
+fn read_number(word: &[u8]) -> Option<u16>
+    ensures { result ≡ number_of word.now }
+{
+    if word.len() > 4 {
+        return None;
+    }
+    let number = read_hex(word, u16::MAX as u64).ok()?;
+    Some(number as u16)
+}
+
+/// An address, or else a name.
+fn read_either(word: &[u8]) -> Option<Entry>
+    ensures { result ≡ address_or word.now (number_of word.now) }
+{
+    match read_number(word) {
+        Some(address) => Some(Entry::Address(address)),
+        None => read_name(word),
+    }
+}
+
+/// Where a routine is entered: an address, or a name, which it always is behind `:`.
+fn read_entry(word: &[u8]) -> Option<Entry>
+    ensures { result ≡ entry_of word.now }
+{
+    match word {
+        [] => None,
+        [b':', name @ ..] => read_name(name),
+        _ => read_either(word),
+    }
+}
+
+/// The number of a register.
+fn read_register(word: &str) -> Option<u8>
+    ensures { result ≡ register_of word.now }
+{
+    if word.len() != 1 {
+        return None;
+    }
+    let number = read_hex(word.as_bytes(), 0xF).ok()?;
+    Some(number as u8)
+}
+
 /// The tall edition where it is asked for, and else the usual one.
 fn edition_by(tall: bool) -> Edition
     ensures { result ≡ edition_by tall }
@@ -208,17 +303,28 @@ fn isa_by(chip8: bool) -> Isa
     if chip8 { Isa::Chip8 } else { Isa::Cdp1802 }
 }
 
-/// Where a run begins whose file has this name: at a saved state, which has its own edition, or at a game's reset.
+/// What the file of this name is: a source where that is asked for, and else the bytes themselves.
+fn code_by<'a>(asm: bool, file: &'a str) -> Code<&'a str>
+    ensures { code_of result ≡ code_by asm file.entry.now }
+{
+    if asm {
+        Code::Source(file)
+    } else {
+        Code::Bytes(file)
+    }
+}
+
+/// Where a run begins whose file has this name: at a saved state, which has its own edition and is no source, or at a game's reset.
 fn read_start<'a>(file: &'a str, given: &Given<'a>) -> Option<Start<&'a str>>
     ensures { option_map start_of result ≡ start_by file.entry.now (seen_given given.now) }
 {
     if !given.state {
         return Some(Start::Game {
-            file,
+            code: code_by(given.asm, file),
             edition: edition_by(given.tall),
         });
     }
-    if given.tall {
+    if given.tall || given.asm {
         None
     } else {
         Some(Start::State(file))
@@ -273,7 +379,7 @@ fn program_request<'a>(
     let limit = read_cycles(cycles)?;
     let memory = if given.rom { Memory::Rom } else { Memory::Ram };
     Some(Request::Program(ProgramRequest {
-        file,
+        code: code_by(given.asm, file),
         memory,
         keys: given.keys,
         limit,
@@ -328,8 +434,15 @@ fn debug_request<'a>(given: &Given<'a>) -> Option<Request<&'a str>>
     let Positional::Three(file, cycles, commands) = given.positional else {
         return None;
     };
-    let show = Show::Commands(commands);
-    either_request(file, cycles, given, show, ProgramShow::Commands(commands))
+    let show = Show::Commands {
+        file: commands,
+        echo: given.echo,
+    };
+    let program_show = ProgramShow::Commands {
+        file: commands,
+        echo: given.echo,
+    };
+    either_request(file, cycles, given, show, program_show)
 }
 
 fn save_request<'a>(given: &Given<'a>) -> Option<Request<&'a str>>
@@ -487,9 +600,30 @@ fn cycles_request<'a>(given: &Given<'a>) -> Option<Request<&'a str>>
         Positional::Two(source, certificate) => Some(Request::Cycles {
             source,
             certificate,
+            exits: given.exits,
         }),
         _ => None,
     }
+}
+
+fn timing_request<'a>(given: &Given<'a>) -> Option<Request<&'a str>>
+    ensures { option_map asked_of result ≡ asked_of_verb verb.Timing (seen_given given.now) }
+{
+    let Positional::Four(source, entry, p, k) = given.positional else {
+        return None;
+    };
+    let entry = read_entry(entry.as_bytes())?;
+    let p = read_register(p)?;
+    let k = read_register(k)?;
+    if p == k {
+        return None;
+    }
+    Some(Request::Timing {
+        source,
+        entry,
+        p,
+        k,
+    })
 }
 
 fn safe_request<'a>(given: &Given<'a>) -> Option<Request<&'a str>>
@@ -497,7 +631,7 @@ fn safe_request<'a>(given: &Given<'a>) -> Option<Request<&'a str>>
 {
     match given.positional {
         Positional::Two(game, certificate) => Some(Request::Safe {
-            game,
+            game: code_by(given.asm, game),
             certificate,
             edition: edition_by(given.tall),
         }),
@@ -510,7 +644,7 @@ fn certify_request<'a>(given: &Given<'a>) -> Option<Request<&'a str>>
 {
     match given.positional {
         Positional::One(game) => Some(Request::Certify {
-            game,
+            game: code_by(given.asm, game),
             edition: edition_by(given.tall),
         }),
         _ => None,
@@ -535,6 +669,7 @@ fn request_of<'a>(verb: Verb, given: &Given<'a>) -> Option<Request<&'a str>>
         Verb::Source => source_request(given),
         Verb::Bounds => bounds_request(given),
         Verb::Cycles => cycles_request(given),
+        Verb::Timing => timing_request(given),
         Verb::Safe => safe_request(given),
         Verb::Certify => certify_request(given),
     }

@@ -21,6 +21,7 @@ pub enum Verb {
     Source,
     Bounds,
     Cycles,
+    Timing,
     Safe,
     Certify,
 }
@@ -33,7 +34,7 @@ pub struct Usage {
     pub places: usize,
     /// Its options, spelled as the user writes them.
     pub options: &'static [&'static str],
-    ghost few_places: { places ≤ 3 },
+    ghost few_places: { places ≤ 4 },
     ghost known_options: { IsTrue (list_all (λ option. is_option option.now) options.now) },
 }
 
@@ -43,7 +44,7 @@ impl Usage {
 
     // A line of the table.
     fn new(verb: Verb, places: usize, options: &'static [&'static str]) -> Usage
-        requires few_places { places ≤ 3 }
+        requires few_places { places ≤ 4 }
         requires known_options { IsTrue (list_all (λ option. is_option option.now) options.now) }
         ensures { row_of result ≡ row verb places (map (λ option. option.now) options.now) }
     {
@@ -63,21 +64,28 @@ impl Usage {
                 Verb::Trace,
                 2,
                 &[
-                    "--keys", "--at", "--screen", "--words", "--tall", "--state", "--rom", "--ram",
+                    "--keys", "--at", "--screen", "--words", "--tall", "--state", "--asm", "--rom",
+                    "--ram",
                 ],
             )),
             "play" => Some(Usage::new(
                 Verb::Play,
                 2,
-                &["--keys", "--tall", "--state", "--rom", "--ram"],
+                &["--keys", "--tall", "--state", "--asm", "--rom", "--ram"],
             )),
             "debug" => Some(Usage::new(
                 Verb::Debug,
                 3,
-                &["--keys", "--tall", "--state", "--rom", "--ram"],
+                &[
+                    "--keys", "--tall", "--state", "--asm", "--echo", "--rom", "--ram",
+                ],
             )),
-            "save" => Some(Usage::new(Verb::Save, 2, &["--keys", "--tall", "--state"])),
-            "profile" => Some(Usage::new(Verb::Profile, 2, &["--keys", "--tall", "--state"])),
+            "save" => Some(Usage::new(Verb::Save, 2, &["--keys", "--tall", "--state", "--asm"])),
+            "profile" => Some(Usage::new(
+                Verb::Profile,
+                2,
+                &["--keys", "--tall", "--state", "--asm"],
+            )),
             "resume" => Some(Usage::new(Verb::Resume, 2, &["--keys", "--at"])),
             "demo" => Some(Usage::new(Verb::Demo, 2, &[])),
             "link" => Some(Usage::new(Verb::Link, 3, &[])),
@@ -86,9 +94,10 @@ impl Usage {
             "dis" => Some(Usage::new(Verb::Dis, 2, &["--chip8"])),
             "source" => Some(Usage::new(Verb::Source, 0, &["--tall", "--sender", "--receiver"])),
             "bounds" => Some(Usage::new(Verb::Bounds, 0, &[])),
-            "cycles" => Some(Usage::new(Verb::Cycles, 2, &[])),
-            "safe" => Some(Usage::new(Verb::Safe, 2, &["--tall"])),
-            "certify" => Some(Usage::new(Verb::Certify, 1, &["--tall"])),
+            "cycles" => Some(Usage::new(Verb::Cycles, 2, &["--exits"])),
+            "timing" => Some(Usage::new(Verb::Timing, 4, &[])),
+            "safe" => Some(Usage::new(Verb::Safe, 2, &["--tall", "--asm"])),
+            "certify" => Some(Usage::new(Verb::Certify, 1, &["--tall", "--asm"])),
             _ => None,
         }
     }

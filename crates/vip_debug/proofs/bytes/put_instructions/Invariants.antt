@@ -3,4 +3,4 @@ use Rattle.vip_debug.proofs.Disassembling.{Disassembles}
 use Rattle.vip_debug.proofs.bytes.put_instructions.Given as goal
 
 abbrev pub invariant-loop-line : goal.invariant-loop-line
-invariant-loop-line g l = Disassembles l.layout (reads l.memory) l.address l.count (g.O.Sink.meaning l.fn.out) (g.O.Sink.meaning l.out) l.at l._line
+invariant-loop-line g l = Disassembles l.labels l.layout (reads l.memory) l.address l.count (g.O.Sink.meaning l.fn.out) (g.O.Sink.meaning l.out) l.at l._line

@@ -9,8 +9,8 @@ use Rattle.vip_debug.specs.BoardShown.{stretch, has_changed}
 use Rattle.vip_debug.specs.Commands.{bytes_at}
 use Rattle.vip_debug.specs.Watching.{may_change}
 use Rattle.vip_debug.specs.declared.watched.Watched.{Watched}
-use Rattle.vip_program.specs.Lines.{line_of}
-use Rattle.vip_debug.proofs.TargetMoving.{gone-first, gone-smaller, one-move, some-moves, seeking-first, seeking-next, gone-on, same-between, same-now, finds, finds-moved, finds-at, finds-none, none-moved, stretch-here, line-here}
+use Rattle.vip_program.specs.Lines.{labels_before, line_of}
+use Rattle.vip_debug.proofs.TargetMoving.{labels-here, gone-first, gone-smaller, one-move, some-moves, seeking-first, seeking-next, gone-on, same-between, same-now, finds, finds-moved, finds-at, finds-none, none-moved, stretch-here, line-here}
 use Rattle.vip_debug.proofs.moves.move_to_change.Goals as goal
 
 not_both : {x : Bool} → x ≡ true → x ≡ false → ⊥
@@ -89,7 +89,7 @@ pub move_text-requires : goal.move_text-requires
 move_text-requires g c =
     let here = c.loop-target.invariant.seeking.here in
     record {
-      cycle = subst (λ (s : Seen). s.machine.cycle ≤ MOST_CYCLE) (sym c.board-in-loop-target-2.ensures) (omega (arith, here, c.requires.limit));
+      cycle = subst (λ (s : Seen). s.machine.cycle ≤ MOST_CYCLE) (sym c.board-in-loop-target-3.ensures) (omega (arith, here, c.requires.limit));
       empty = c.clear.ensures;
     }
 
@@ -112,7 +112,7 @@ returns-then-ne-clause-comes g c =
     c.in_default.ensures.moved in
     let on = gone-on g.T.Target.seen g.T.Target.ends g.T.Target.leads g.met.T.Target.leads_on c.args.limit _ c.args.target.now c.loop-target.target
     c.one_move.new.self inv 1 m in
-    let after = stretch-here r _ on.going.stands refl _ c.board-in-loop-target-3.ensures c.args.address c.args.count _ c.memory-in-loop-target.ensures in
+    let after = stretch-here r _ on.going.stands refl _ c.board-in-loop-target-4.ensures c.args.address c.args.count _ c.memory-in-loop-target.ensures in
     let here =
     ap₂ (λ before after. not (bytes_eq before after)) (c.as_slice.ensures.value ∙ c.loop-target.invariant.before)
     (c.as_slice-in-loop-target.ensures.value ∙ c.read_stretch-in-loop-target.ensures ∙ after) in
@@ -130,7 +130,7 @@ returns-then-ne-clause-moved g c =
     c.in_default.ensures.moved in
     let on = gone-on g.T.Target.seen g.T.Target.ends g.T.Target.leads g.met.T.Target.leads_on c.args.limit _ c.args.target.now c.loop-target.target
     c.one_move.new.self inv 1 m in
-    let after = stretch-here r _ on.going.stands refl _ c.board-in-loop-target-3.ensures c.args.address c.args.count _ c.memory-in-loop-target.ensures in
+    let after = stretch-here r _ on.going.stands refl _ c.board-in-loop-target-4.ensures c.args.address c.args.count _ c.memory-in-loop-target.ensures in
     let here =
     ap₂ (λ before after. not (bytes_eq before after)) (c.as_slice.ensures.value ∙ c.loop-target.invariant.before)
     (c.as_slice-in-loop-target.ensures.value ∙ c.read_stretch-in-loop-target.ensures ∙ after) in
@@ -148,7 +148,7 @@ returns-then-ne-clause-shown g c =
     c.in_default.ensures.moved in
     let on = gone-on g.T.Target.seen g.T.Target.ends g.T.Target.leads g.met.T.Target.leads_on c.args.limit _ c.args.target.now c.loop-target.target
     c.one_move.new.self inv 1 m in
-    let after = stretch-here r _ on.going.stands refl _ c.board-in-loop-target-3.ensures c.args.address c.args.count _ c.memory-in-loop-target.ensures in
+    let after = stretch-here r _ on.going.stands refl _ c.board-in-loop-target-4.ensures c.args.address c.args.count _ c.memory-in-loop-target.ensures in
     let here =
     ap₂ (λ before after. not (bytes_eq before after)) (c.as_slice.ensures.value ∙ c.loop-target.invariant.before)
     (c.as_slice-in-loop-target.ensures.value ∙ c.read_stretch-in-loop-target.ensures ∙ after) in
@@ -156,12 +156,17 @@ returns-then-ne-clause-shown g c =
     (λ k. has_changed c.args.address c.args.count (bytes_at r 0) (bytes_at r k)) c.args.target.now c.loop-target.target c.one_move.new.self inv 1 m
     (λ k some below. absurd (omega (arith, some, below)))
     (sym here ∙ sym c.ne.ensures ∙ c.if-ne.true) in
-    let line = line-here r _ inv.gone.going.stands refl _ c.board-in-loop-target-2.ensures in
+    let line = line-here r _ inv.gone.going.stands refl _ c.board-in-loop-target-3.ensures in
     let one : inv.moves ≡ inv.moves + 1 - 1 = omega arith in
+    let last = one ∙ ap (λ k. k - 1) (sym at) in
     λ done. record {
-      line = c.move_text.ensures.line ∙ line ∙ ap (λ k. line_of r.rom (held_at r.script) (state_of r k ∷ [])) (one ∙ ap (λ k. k - 1) (sym at));
+      line = c.move_text.ensures.line ∙ line ∙ ap (λ k. line_of r.rom (held_at r.script) (state_of r k ∷ [])) last;
       before = c.loop-target.invariant.before;
       after = c.read_stretch-in-loop-target.ensures ∙ after ∙ ap (λ k. stretch (bytes_at r k) c.args.address c.args.count) (sym at);
+      place = λ labels.
+          ap (λ k. labels_before labels (state_of r k)) (sym last)
+          ∙ sym (labels-here r _ inv.gone.going.stands refl _ c.board-in-loop-target-2.ensures labels)
+          ∙ c.next_place-change.ensures labels;
     }
 
 pub loop-target-smaller : goal.loop-target-smaller
@@ -180,7 +185,7 @@ loop-target-preserved g c =
     c.in_default.ensures.moved in
     let on = gone-on g.T.Target.seen g.T.Target.ends g.T.Target.leads g.met.T.Target.leads_on c.args.limit _ c.args.target.now c.loop-target.target
     c.one_move.new.self inv 1 m in
-    let after = stretch-here r _ on.going.stands refl _ c.board-in-loop-target-3.ensures c.args.address c.args.count _ c.memory-in-loop-target.ensures in
+    let after = stretch-here r _ on.going.stands refl _ c.board-in-loop-target-4.ensures c.args.address c.args.count _ c.memory-in-loop-target.ensures in
     let here =
     ap₂ (λ before after. not (bytes_eq before after)) (c.as_slice.ensures.value ∙ c.loop-target.invariant.before)
     (c.as_slice-in-loop-target.ensures.value ∙ c.read_stretch-in-loop-target.ensures ∙ after) in

@@ -1,9 +1,10 @@
 use Rattle.std.proofs.Common.{Err, Global, ap, refl, sym, subst}
-use Rattle.vip_words.specs.Request.{asked_of}
-use Rattle.vip_words.specs.declared.request.Request.TheVariants.{Run, Program}
-use Rattle.vip_tools.specs.Files.{LoadAnswers}
+use Rattle.chip8_lang.specs.State.{memory_size}
+use Rattle.vip_words.specs.Request.{asked_of, code_of}
+use Rattle.vip_words.specs.declared.request.Request.TheVariants.{Run, Program, Safe, Certify}
+use Rattle.vip_tools.specs.Files.{game_kind, LoadAnswers}
 use Rattle.vip_tools.proofs.FilesLemmas.{loads-none, loads-one, refused-one}
-use Rattle.vip_tools.proofs.LoadingLemmas.{loads-pair, refused-pair}
+use Rattle.vip_tools.proofs.LoadingLemmas.{code-shape, loads-code, loads-code-and, loads-pair, refused-pair}
 use Rattle.vip_tools.proofs.WorkLemmas.{passed}
 use Rattle.vip_tools.proofs.loading.load.Goals as goal
 
@@ -52,6 +53,15 @@ returns-in_err-source-in-List g c =
 pub returns-in_ok-source-in-List : goal.returns-in_ok-source-in-List
 returns-in_ok-source-in-List g c = rw c.in-List.is (record { shape = refl; loads = loads-one _ _ _ _ c.source_file-in-List.ensures c.in_ok-source-in-List.source c.in_ok-source-in-List.ensures })
 
+pub returns-in_err-source-in-Timing : goal.returns-in_err-source-in-Timing
+returns-in_err-source-in-Timing g c =
+    passed (LoadAnswers {Z = Global} (g.F.Files.meaning c.args.files.now) (g.F.Files.meaning c.open_file-in-Timing.new.files) (asked_of c.args.request)) _ _ c.from_residual-in_err-source-in-Timing.ensures.1
+    (subst (λ r. LoadAnswers {Z = Global} (g.F.Files.meaning c.args.files.now) (g.F.Files.meaning c.open_file-in-Timing.new.files) (asked_of r) (Err c.in_err-source-in-Timing.field-0.0)) (sym c.in-Timing.is)
+    (refused-one _ _ _ _ c.source_file-in-Timing.ensures c.in_err-source-in-Timing.field-0.0 c.in_err-source-in-Timing.ensures))
+
+pub returns-in_ok-source-in-Timing : goal.returns-in_ok-source-in-Timing
+returns-in_ok-source-in-Timing g c = rw c.in-Timing.is (record { shape = refl; loads = loads-one _ _ _ _ c.source_file-in-Timing.ensures c.in_ok-source-in-Timing.source c.in_ok-source-in-Timing.ensures })
+
 pub returns-in_err-bytes-in-Dis : goal.returns-in_err-bytes-in-Dis
 returns-in_err-bytes-in-Dis g c =
     passed (LoadAnswers {Z = Global} (g.F.Files.meaning c.args.files.now) (g.F.Files.meaning c.open_file-in-Dis.new.files) (asked_of c.args.request)) _ _ c.from_residual-in_err-bytes-in-Dis.ensures.1
@@ -61,14 +71,22 @@ returns-in_err-bytes-in-Dis g c =
 pub returns-in_ok-bytes-in-Dis : goal.returns-in_ok-bytes-in-Dis
 returns-in_ok-bytes-in-Dis g c = rw c.in-Dis.is (record { shape = refl; loads = loads-one _ _ _ _ c.bytes_file.ensures c.in_ok-bytes-in-Dis.bytes c.in_ok-bytes-in-Dis.ensures })
 
-pub returns-in_err-game-in-Certify : goal.returns-in_err-game-in-Certify
-returns-in_err-game-in-Certify g c =
-    passed (LoadAnswers {Z = Global} (g.F.Files.meaning c.args.files.now) (g.F.Files.meaning c.open_file-in-Certify.new.files) (asked_of c.args.request)) _ _ c.from_residual-in_err-game-in-Certify.ensures.1
-    (subst (λ r. LoadAnswers {Z = Global} (g.F.Files.meaning c.args.files.now) (g.F.Files.meaning c.open_file-in-Certify.new.files) (asked_of r) (Err c.in_err-game-in-Certify.field-0.0)) (sym c.in-Certify.is)
-    (refused-one _ _ _ _ c.game_file-in-Certify.ensures c.in_err-game-in-Certify.field-0.0 c.in_err-game-in-Certify.ensures))
+pub returns-in_err-content-in-Certify : goal.returns-in_err-content-in-Certify
+returns-in_err-content-in-Certify g c =
+    passed (LoadAnswers {Z = Global} (g.F.Files.meaning c.args.files.now) (g.F.Files.meaning c.open_file-in-Certify.new.files) (asked_of c.args.request)) _ _ c.from_residual-in_err-content-in-Certify.ensures.1
+    (subst (λ r. LoadAnswers {Z = Global} (g.F.Files.meaning c.args.files.now) (g.F.Files.meaning c.open_file-in-Certify.new.files) (asked_of r) (Err c.in_err-content-in-Certify.field-0.0)) (sym c.in-Certify.is)
+    (refused-one _ _ _ _ c.game_code-in-Certify.ensures c.in_err-content-in-Certify.field-0.0 c.in_err-content-in-Certify.ensures))
 
-pub returns-in_ok-game-in-Certify : goal.returns-in_ok-game-in-Certify
-returns-in_ok-game-in-Certify g c = rw c.in-Certify.is (record { shape = refl; loads = loads-one _ _ _ _ c.game_file-in-Certify.ensures c.in_ok-game-in-Certify.game c.in_ok-game-in-Certify.ensures })
+pub returns-in_ok-content-in-Certify : goal.returns-in_ok-content-in-Certify
+returns-in_ok-content-in-Certify g c =
+    let e = c.in-Certify.edition in
+    let code = code_of c.in-Certify.game in
+    rw c.in-Certify.is (record {
+      shape = ap (λ code. Certify code e) (code-shape code c.in_ok-content-in-Certify.content.items _ c.with_file-in-Certify.ensures);
+      loads =
+          loads-code (game_kind e) (memory_size e) _ _ _ code c.game_code-in-Certify.ensures c.in_ok-content-in-Certify.content
+          c.in_ok-content-in-Certify.ensures _ c.with_file-in-Certify.ensures;
+    })
 
 pub returns-in_err-pair-in-Cycles : goal.returns-in_err-pair-in-Cycles
 returns-in_err-pair-in-Cycles g c =
@@ -85,12 +103,18 @@ pub returns-in_err-pair-in-Safe : goal.returns-in_err-pair-in-Safe
 returns-in_err-pair-in-Safe g c =
     passed (LoadAnswers {Z = Global} (g.F.Files.meaning c.args.files.now) (g.F.Files.meaning c.load_pair-in-Safe.new.files) (asked_of c.args.request)) _ _ c.from_residual-in_err-pair-in-Safe.ensures.1
     (subst (λ r. LoadAnswers {Z = Global} (g.F.Files.meaning c.args.files.now) (g.F.Files.meaning c.load_pair-in-Safe.new.files) (asked_of r) (Err c.in_err-pair-in-Safe.field-0.0)) (sym c.in-Safe.is)
-    (refused-pair _ _ _ _ _ _ c.game_file.ensures c.certificate_file-in-Safe.ensures c.in_err-pair-in-Safe.field-0.0 c.in_err-pair-in-Safe.ensures))
+    (refused-pair _ _ _ _ _ _ c.game_code.ensures c.certificate_file-in-Safe.ensures c.in_err-pair-in-Safe.field-0.0 c.in_err-pair-in-Safe.ensures))
 
 pub returns-in_ok-pair-in-Safe : goal.returns-in_ok-pair-in-Safe
 returns-in_ok-pair-in-Safe g c =
-    rw c.in-Safe.is
-    (record { shape = refl; loads = loads-pair _ _ _ _ _ _ c.game_file.ensures c.certificate_file-in-Safe.ensures c.in_ok-pair-in-Safe.pair c.in_ok-pair-in-Safe.ensures })
+    let e = c.in-Safe.edition in
+    let code = code_of c.in-Safe.game in
+    rw c.in-Safe.is (record {
+      shape = ap (λ code. Safe code tt e) (code-shape code c.in_ok-pair-in-Safe.pair.0.items _ c.with_file.ensures);
+      loads =
+          loads-code-and (game_kind e) (memory_size e) _ _ _ _ _ code c.game_code.ensures c.certificate_file-in-Safe.ensures c.in_ok-pair-in-Safe.pair
+          c.in_ok-pair-in-Safe.ensures _ c.with_file.ensures;
+    })
 
 pub returns-in-Source : goal.returns-in-Source
 returns-in-Source g c = rw c.in-Source.is (record { shape = refl; loads = loads-none _ })

@@ -1,4 +1,6 @@
-use Rattle.vip_tools.specs.Certificates.{CertifyComes, CyclesComes, SafeComes}
+use Rattle.vip_words.specs.Request.{map_code}
+use Rattle.vip_tools.specs.Code.{GameComes}
+use Rattle.vip_tools.specs.Certificates.{CertifyComes, CyclesComes, SafeComes, TimingComes}
 use Rattle.vip_tools.specs.Outcome.{AsmComes, BoundsComes, ListComes}
 use Rattle.vip_verbs.specs.Outcome.{BuiltInComes}
 use Rattle.vip_verbs.proofs.FitLemmas.{bytes-fit}
@@ -45,16 +47,23 @@ returns-in-List c =
 pub returns-in-Cycles : goal.returns-in-Cycles
 returns-in-Cycles c =
     rw (c.in-Cycles.is, c.text-in-Cycles.ensures)
-    (text-answers (CyclesComes c.in-Cycles.source.items c.in-Cycles.certificate.items) _
+    (text-answers (CyclesComes c.in-Cycles.source.items c.in-Cycles.certificate.items c.in-Cycles.exits) _
     (rw (c.as_slice-in-Cycles.ensures.value, c.as_slice-in-Cycles-2.ensures.value) at c.cycles.ensures))
+
+pub returns-in-Timing : goal.returns-in-Timing
+returns-in-Timing c =
+    rw (c.in-Timing.is, c.text-in-Timing.ensures)
+    (text-answers (TimingComes c.in-Timing.source.items c.in-Timing.entry c.in-Timing.p c.in-Timing.k) _
+    (rw c.as_slice-in-Timing.ensures.value at c.timing.ensures))
 
 pub returns-in-Safe : goal.returns-in-Safe
 returns-in-Safe c =
+    let game = map_code (λ bytes. bytes.items) c.in-Safe.game in
     rw (c.in-Safe.is, c.text-in-Safe.ensures)
-    (text-answers (SafeComes c.in-Safe.edition c.in-Safe.game.items c.in-Safe.certificate.items) _
-    (rw (c.as_slice-in-Safe.ensures.value, c.as_slice-in-Safe-2.ensures.value) at c.safe.ensures))
+    (text-answers (GameComes c.in-Safe.edition game (λ game. SafeComes c.in-Safe.edition game c.in-Safe.certificate.items)) _
+    (rw c.as_slice-in-Safe.ensures.value at c.safe_code.ensures))
 
 pub returns-in-Certify : goal.returns-in-Certify
 returns-in-Certify c =
     rw (c.in-Certify.is, c.text-in-Certify.ensures)
-    (text-answers (CertifyComes c.in-Certify.edition c.in-Certify.game.items) _ (rw c.as_slice-in-Certify.ensures.value at c.certify.ensures))
+    (text-answers (GameComes c.in-Certify.edition (map_code (λ bytes. bytes.items) c.in-Certify.game) (CertifyComes c.in-Certify.edition)) _ c.certify_code.ensures)

@@ -1,40 +1,75 @@
-use Rattle.std.proofs.Common.{subst, Err}
+use Rattle.std.proofs.Common.{ℕ, List, Err, Ok, subst}
+use Rattle.vip_tools.specs.Outcome.{Outcome}
+use Rattle.vip_tools.proofs.CodeLemmas.{code-short, image-comes, refused-image, refused-so, unmarked-image}
 use Rattle.vip_tools.proofs.WorkLemmas.{passed}
+use Rattle.asm_lex.specs.declared.shape.Isa.TheVariants.{Cdp1802}
+use Rattle.vip_tools.specs.Code.{known_of}
 use Rattle.vip_words.specs.Request.{map_program}
-use Rattle.vip_verbs.specs.Programs.{BoardAnswers, ProgramRunComes}
+use Rattle.vip_verbs.specs.Opening.{ProgramShowReady}
+use Rattle.vip_verbs.specs.Programs.{ProgramRunComes, ProgramShowComes}
 use Rattle.vip_verbs.specs.Prepared.{PrepareAnswers}
 use Rattle.vip_verbs.proofs.FitLemmas.{program-fits, program-keys-fit, program-show-fits}
-use Rattle.vip_verbs.proofs.ProgramLemmas.{begun-of, fits-memory, program-comes, refused-board, refused-program-show}
+use Rattle.vip_verbs.proofs.ProgramLemmas.{begun-of, program-comes, refused-board, refused-program-show}
 use Rattle.vip_verbs.proofs.program.open_program.Goals as goal
+
+pub of-requires : goal.of-requires
+of-requires c =
+    let asked = map_program (λ bytes. bytes.items) c.args.request in
+    code-short _ _ asked.code (program-fits asked c.requires.fit)
+
+pub program-requires : goal.program-requires
+program-requires c = program-fits (map_program (λ bytes. bytes.items) c.args.request) c.requires.fit
 
 pub make_ready-requires : goal.make_ready-requires
 make_ready-requires c = program-show-fits (map_program (λ bytes. bytes.items) c.args.request) c.requires.fit
 
-pub start_board-requires-clause-program : goal.start_board-requires-clause-program
-start_board-requires-clause-program c =
-    let asked = map_program (λ bytes. bytes.items) c.args.request in
-    rw c.as_slice.ensures.value (fits-memory asked.memory asked.file asked.keys _ (program-fits asked c.requires.fit))
+pub start_board-requires-clause-image : goal.start_board-requires-clause-image
+start_board-requires-clause-image c = c.in_ok-image.ensures.1
 
 pub start_board-requires-clause-keys : goal.start_board-requires-clause-keys
 start_board-requires-clause-keys c = program-keys-fit (map_program (λ bytes. bytes.items) c.args.request) c.requires.fit
 
+pub returns-in_err-marks : goal.returns-in_err-marks
+returns-in_err-marks c =
+    let asked = map_program (λ bytes. bytes.items) c.args.request in
+    passed (PrepareAnswers (ProgramRunComes asked)) _ _ c.from_residual.ensures.1
+    (refused-image asked.memory asked.code (λ rom ram. ProgramShowComes (known_of Cdp1802 asked.code) asked.memory rom ram asked.keys asked.limit asked.show) _
+    (unmarked-image asked.code _ c.in_err-marks.ensures))
+
+pub returns-in_err-image : goal.returns-in_err-image
+returns-in_err-image c =
+    let asked = map_program (λ bytes. bytes.items) c.args.request in
+    passed (PrepareAnswers (ProgramRunComes asked)) _ _ c.from_residual-in_err-image.ensures.1
+    (refused-image asked.memory asked.code (λ rom ram. ProgramShowComes (known_of Cdp1802 asked.code) asked.memory rom ram asked.keys asked.limit asked.show) _ c.in_err-image.ensures)
+
 pub returns-in_err-show : goal.returns-in_err-show
 returns-in_err-show c =
     let asked = map_program (λ bytes. bytes.items) c.args.request in
-    passed (PrepareAnswers (ProgramRunComes asked)) _ _ c.from_residual.ensures.1
-    (refused-program-show asked.memory asked.file asked.keys asked.limit asked.show _ c.in_err-show.ensures)
+    let image = c.in_ok-image.image in
+    let Here : List ℕ → List ℕ → Outcome → Type 0 = λ rom ram. ProgramShowComes (known_of Cdp1802 asked.code) asked.memory rom ram asked.keys asked.limit asked.show in
+    passed (PrepareAnswers (ProgramRunComes asked)) _ _ c.from_residual-in_err-show.ensures.1
+    (refused-so _ _ (image-comes asked.memory asked.code Here image.rom.items image.ram.items c.in_ok-image.ensures.0) _
+    (refused-program-show asked.memory image.rom.items image.ram.items asked.keys (known_of Cdp1802 asked.code) asked.limit asked.show _
+    (subst (λ known. ProgramShowReady known asked.limit asked.show (Err c.in_err-show.field-0.0)) c.in_ok-marks.ensures c.in_err-show.ensures)))
 
 pub returns-in_err-board : goal.returns-in_err-board
 returns-in_err-board c =
     let asked = map_program (λ bytes. bytes.items) c.args.request in
+    let image = c.in_ok-image.image in
+    let Here : List ℕ → List ℕ → Outcome → Type 0 = λ rom ram. ProgramShowComes (known_of Cdp1802 asked.code) asked.memory rom ram asked.keys asked.limit asked.show in
     passed (PrepareAnswers (ProgramRunComes asked)) _ _ c.from_residual-in_err-board.ensures.1
-    (refused-board asked.memory asked.file asked.keys asked.limit c.in_ok-show.show asked.show c.in_ok-show.ensures _
-    (subst (λ bytes. BoardAnswers asked.memory bytes asked.keys (Err c.in_err-board.field-0.0)) c.as_slice.ensures.value c.in_err-board.ensures))
+    (refused-so _ _ (image-comes asked.memory asked.code Here image.rom.items image.ram.items c.in_ok-image.ensures.0) _
+    (refused-board asked.memory image.rom.items image.ram.items asked.keys (known_of Cdp1802 asked.code) asked.limit c.in_ok-show.show asked.show
+    (subst (λ known. ProgramShowReady known asked.limit asked.show (Ok c.in_ok-show.show)) c.in_ok-marks.ensures c.in_ok-show.ensures) _ c.in_err-board.ensures))
 
 pub returns : goal.returns
 returns c =
     let asked = map_program (λ bytes. bytes.items) c.args.request in
-    let begins = rw c.as_slice.ensures.value at c.in_ok-board.ensures in (
-      (begun-of _ _ _ _ begins, c.requires.limit),
-      program-comes asked.memory asked.file asked.keys asked.limit c.in_ok-show.show asked.show c.in_ok-show.ensures _ begins,
+    let image = c.in_ok-image.image in
+    let Here : List ℕ → List ℕ → Outcome → Type 0 = λ rom ram. ProgramShowComes (known_of Cdp1802 asked.code) asked.memory rom ram asked.keys asked.limit asked.show in
+    let begins = c.in_ok-board.ensures in (
+      (begun-of _ _ _ _ _ begins, c.requires.limit),
+      image-comes asked.memory asked.code Here image.rom.items image.ram.items c.in_ok-image.ensures.0 _
+          (program-comes asked.memory image.rom.items image.ram.items asked.keys (known_of Cdp1802 asked.code) asked.limit c.in_ok-show.show asked.show
+          (subst (λ known. ProgramShowReady known asked.limit asked.show (Ok c.in_ok-show.show)) c.in_ok-marks.ensures c.in_ok-show.ensures) _ begins),
     )

@@ -17,4 +17,4 @@ pub returns : goal.returns
 returns g c =
     let s = c.args.board in
     rw (c.in-Commands.is, c.program_ran-in-Commands.ensures)
-    (program-debugs c.args.limit c.in-Commands.commands s _ _ _ _ c.run_program_commands.ensures)
+    (program-debugs c.in-Commands.labels c.args.limit c.in-Commands.commands s _ _ _ _ c.run_program_commands.ensures)

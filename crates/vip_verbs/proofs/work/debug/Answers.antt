@@ -5,4 +5,4 @@ pub of-vip-requires : goal.of-vip-requires
 of-vip-requires g c = begun-of _ c.requires.0
 
 pub returns : goal.returns
-returns g c = debug-performs _ _ _ _ _ _ c.requires.0 _ _ (rw c.of-vip.ensures at c.run_commands.ensures.answer) c.end_of_commands.ensures
+returns g c = debug-performs _ _ _ _ _ _ _ c.requires.0 _ _ (rw c.of-vip.ensures at c.run_commands.ensures.answer) c.end_of_commands.ensures

@@ -8,10 +8,10 @@ pub loop-place-preserved : goal.loop-place-preserved
 loop-place-preserved c =
     c.in_ok-command-2.ensures.shape c.make_place.ensures.own
     ∙ (ap₂ with_rule c.loop-place.invariant c.make_place.ensures.rule
-    ∙ next_place c.args.verb.now c.args.places c.loop-place.place-index _ _ _ _ refl refl refl c.requires (omega arith))
+    ∙ next_place c.args.verb.now _ c.args.places c.loop-place.place-index _ refl c.loop-place-test.true)
 
 pub returns : goal.returns
 returns c =
     c.loop-place.invariant
     ∙ ap (λ n. command_app c.args.verb.now n)
-    (all_places c.args.places c.loop-place.place-index _ _ _ c.requires c.loop-place-test.false c.loop-place.auto.place-index-end)
+    (all_places _ c.args.places c.loop-place.place-index c.requires c.loop-place-test.false c.loop-place.auto.place-index-end)

@@ -30,8 +30,11 @@ returns-clause-ok c =
       state = record { on = c.get_flag-5.ensures.value; off = c.get_flag-5.ensures.other };
       raw = record { on = c.get_flag-6.ensures.value; off = c.get_flag-6.ensures.other };
       chip8 = record { on = c.get_flag-7.ensures.value; off = c.get_flag-7.ensures.other };
-      rom = record { on = c.get_flag-8.ensures.value; off = c.get_flag-8.ensures.other };
-      ram = record { on = c.get_flag-9.ensures.value; off = c.get_flag-9.ensures.other };
-      sender = record { on = c.get_flag-10.ensures.value; off = c.get_flag-10.ensures.other };
-      receiver = record { on = c.get_flag-11.ensures.value; off = c.get_flag-11.ensures.other };
+      asm = record { on = c.get_flag-8.ensures.value; off = c.get_flag-8.ensures.other };
+      echo = record { on = c.get_flag-9.ensures.value; off = c.get_flag-9.ensures.other };
+      exits = record { on = c.get_flag-10.ensures.value; off = c.get_flag-10.ensures.other };
+      rom = record { on = c.get_flag-11.ensures.value; off = c.get_flag-11.ensures.other };
+      ram = record { on = c.get_flag-12.ensures.value; off = c.get_flag-12.ensures.other };
+      sender = record { on = c.get_flag-13.ensures.value; off = c.get_flag-13.ensures.other };
+      receiver = record { on = c.get_flag-14.ensures.value; off = c.get_flag-14.ensures.other };
     })

@@ -1,0 +1,297 @@
+-- What comes of code, by what comes of the bytes that it gives.
+use Rattle.std.proofs.Common.{◌≡◌, ◌≤◌, ◌<◌, ◌+◌, ◌-◌, ◌∙◌, ℕ, List, length, refl, sym, ap, subst, arith, inl, inr, Option, Some, None, Result, Ok, Err, Vec}
+use Rattle.std.specs.Prelude.{◌&&◌, not, is_some, option_map, unwrap_or}
+use Rattle.std.proofs.lemmas.Bool.{cases_lt}
+use Rattle.std.proofs.lemmas.List.FromFn.{fill_by_all, get_or-map-range_with_len, length-map-range_with_len}
+use Rattle.asm_lex.specs.declared.shape.Isa.TheVariants.{Cdp1802, Chip8}
+use Rattle.asm_core.specs.Made.{Made, IsAssembly}
+use Rattle.asm_core.specs.Labels.{labels_of}
+use Rattle.asm_core.specs.Sources.{source_lines, HasFirstFault}
+use Rattle.asm_core.specs.declared.fault.AsmCause.{AsmCause}
+use Rattle.asm_lex.specs.Names.{number_from, value_in}
+use Rattle.asm_lex.specs.declared.shape.Isa.{Isa}
+use Rattle.asm_listing.specs.Raw.{IsRaw, IsSpan, byte_at, bytes_from, span_bytes}
+use Rattle.chip8_lang.specs.State.{memory_size}
+use Rattle.chip8_lang.specs.declared.view.Edition.{Edition}
+use Rattle.vip_words.specs.declared.request.Code.{Code}
+use Rattle.vip_words.specs.declared.request.Code.TheVariants.{Bytes, Source as Text}
+use Rattle.vip_words.specs.declared.request.Memory.{Memory}
+use Rattle.vip_tools.specs.declared.refusal.Misfit.TheVariants.{Game, Stray}
+use Rattle.vip_tools.specs.declared.refusal.Refusal.{Refusal}
+use Rattle.vip_tools.specs.declared.refusal.Refusal.TheVariants.{Usage, Unread, TooLarge, Script, Command, Source, Misfit, State, Rom, Certificate, Proof, NoCertificate, NoTiming, NoMemory}
+use Rattle.vip_tools.specs.Certificates.{made_byte, source_byte}
+use Rattle.vip_tools.specs.Code.{GameComes, GivesGame, ImageAnswers, ImageComes, IsGame, IsImage, IsNoGame, IsNoImage, IsShort, IsUnmarked, MadeImageAnswers, is_memory, is_stray, known_of, marked}
+use Rattle.vip_tools.specs.declared.code.Marks.{Marks}
+use Rattle.vip_tools.specs.declared.refusal.Kind.{Kind}
+use Rattle.vip_tools.specs.Code.SourceGame.{FaultyGame, LargeGame, FitGame}
+use Rattle.vip_tools.specs.Code.SourceProgram.{FaultyProgram, StrayProgram, FitProgram}
+use Rattle.vip_tools.specs.Files.{IsFit, code_file, ram_size, rom_size}
+use Rattle.vip_tools.specs.Outcome.{Outcome}
+use Rattle.vip_tools.specs.Work.{RefusedBy, TextAnswers}
+use Rattle.vip_tools.specs.declared.code.Image.{Image}
+use Rattle.vip_tools.proofs.CertificateLemmas.{length-bytes, same_bytes}
+
+-- a refusal by what is a case of something is one by that
+module _ (P Q : Outcome → Type 0) (so : (o : Outcome) → P o → Q o) where
+  pub refused-so : (refusal : Refusal) → RefusedBy P refusal → RefusedBy Q refusal
+  refused-so Usage answer = absurd answer
+  refused-so (Unread name) answer = absurd answer
+  refused-so (TooLarge kind) answer = absurd answer
+  refused-so (Script line cause) answer = so _ answer
+  refused-so (Command line cause) answer = so _ answer
+  refused-so (Source line cause) answer = so _ answer
+  refused-so (Misfit misfit) answer = so _ answer
+  refused-so (State fault) answer = absurd answer
+  refused-so (Rom fault) answer = so _ answer
+  refused-so (Certificate line cause) answer = so _ answer
+  refused-so (Proof line cause) answer = so _ answer
+  refused-so (NoCertificate obstacle) answer = so _ answer
+  refused-so (NoTiming why) answer = so _ answer
+  refused-so NoMemory answer = tt
+
+  pub text-so : {Z : Type 0} (r : Result (Vec ℕ Z) Refusal) → TextAnswers P r → TextAnswers Q r
+  text-so (Ok text) answer = so _ answer
+  text-so (Err refusal) answer = refused-so refusal answer
+
+-- ---- its marks
+
+-- a source of which they can't be known has its first fault, and there is no code of it
+module _ (isa : Isa) (P : Code (List ℕ) → Refusal → Type 0)
+    (source : (text : List ℕ) (line : ℕ) (cause : AsmCause) → HasFirstFault isa (source_lines text) line cause → P (Text text) (Source line cause))
+    (memory : (code : Code (List ℕ)) → P code NoMemory) where
+  pub unmarked : (code : Code (List ℕ)) (refusal : Refusal) → IsUnmarked isa code refusal → P code refusal
+  unmarked (Bytes file) Usage answer = absurd answer
+  unmarked (Bytes file) (Unread name) answer = absurd answer
+  unmarked (Bytes file) (TooLarge kind) answer = absurd answer
+  unmarked (Bytes file) (Script line cause) answer = absurd answer
+  unmarked (Bytes file) (Command line cause) answer = absurd answer
+  unmarked (Bytes file) (Source line cause) answer = absurd answer
+  unmarked (Bytes file) (Misfit misfit) answer = absurd answer
+  unmarked (Bytes file) (State fault) answer = absurd answer
+  unmarked (Bytes file) (Rom fault) answer = absurd answer
+  unmarked (Bytes file) (Certificate line cause) answer = absurd answer
+  unmarked (Bytes file) (Proof line cause) answer = absurd answer
+  unmarked (Bytes file) (NoCertificate obstacle) answer = absurd answer
+  unmarked (Bytes file) (NoTiming why) answer = absurd answer
+  unmarked (Bytes file) NoMemory answer = memory (Bytes file)
+  unmarked (Text text) Usage answer = absurd answer
+  unmarked (Text text) (Unread name) answer = absurd answer
+  unmarked (Text text) (TooLarge kind) answer = absurd answer
+  unmarked (Text text) (Script line cause) answer = absurd answer
+  unmarked (Text text) (Command line cause) answer = absurd answer
+  unmarked (Text text) (Source line cause) answer = source text line cause answer
+  unmarked (Text text) (Misfit misfit) answer = absurd answer
+  unmarked (Text text) (State fault) answer = absurd answer
+  unmarked (Text text) (Rom fault) answer = absurd answer
+  unmarked (Text text) (Certificate line cause) answer = absurd answer
+  unmarked (Text text) (Proof line cause) answer = absurd answer
+  unmarked (Text text) (NoCertificate obstacle) answer = absurd answer
+  unmarked (Text text) (NoTiming why) answer = absurd answer
+  unmarked (Text text) NoMemory answer = memory (Text text)
+
+pub unmarked-game : (e : Edition) (code : Code (List ℕ)) (refusal : Refusal) → IsUnmarked Chip8 code refusal → IsNoGame e code refusal
+unmarked-game e = unmarked Chip8 (IsNoGame e) (λ text line cause fault. fault) memory
+  where
+    memory : (code : Code (List ℕ)) → IsNoGame e code NoMemory
+    memory (Bytes file) = tt
+    memory (Text text) = tt
+
+pub unmarked-image : (code : Code (List ℕ)) (refusal : Refusal) → IsUnmarked Cdp1802 code refusal → IsNoImage code refusal
+unmarked-image = unmarked Cdp1802 IsNoImage (λ text line cause fault. fault) memory
+  where
+    memory : (code : Code (List ℕ)) → IsNoImage code NoMemory
+    memory (Bytes file) = tt
+    memory (Text text) = tt
+
+-- its source fits where it does
+pub code-short : (kind : Kind) (most : ℕ) (code : Code (List ℕ)) → IsFit (code_file kind most code) → IsShort code
+code-short kind most (Bytes file) fit = tt
+code-short kind most (Text text) fit = fit.fits
+
+-- the marks of an assembly are those of its source
+pub made-marks : (isa : Isa) (text : List ℕ) (made : Made) → IsAssembly isa (source_lines text) made → (marks : Marks) → marks.names ≡ made.names
+    → marks.labels ≡ labels_of isa (source_lines text) → marked marks ≡ known_of isa (Text text)
+made-marks isa text made is marks named labelled = λ i.
+    record { names = λ name. number_from ((ap (λ names. value_in names name) named ∙ is.names name) i); labels = labelled i }
+
+-- ---- a game
+
+pub game-comes : (e : Edition) (code : Code (List ℕ)) (Here : List ℕ → Outcome → Type 0) (bytes : List ℕ) → IsGame e code bytes → length bytes ≤ memory_size e
+    → (o : Outcome) → Here bytes o → GameComes e code Here o
+game-comes e (Bytes file) Here bytes is fits o here = subst (λ bytes. Here bytes o) is here
+game-comes e (Text text) Here bytes is fits o here = FitGame bytes o is fits here
+
+pub refused-game : (e : Edition) (code : Code (List ℕ)) (Here : List ℕ → Outcome → Type 0) (refusal : Refusal) → IsNoGame e code refusal
+    → RefusedBy (GameComes e code Here) refusal
+refused-game e (Bytes file) Here Usage answer = absurd answer
+refused-game e (Bytes file) Here (Unread name) answer = absurd answer
+refused-game e (Bytes file) Here (TooLarge kind) answer = absurd answer
+refused-game e (Bytes file) Here (Script line cause) answer = absurd answer
+refused-game e (Bytes file) Here (Command line cause) answer = absurd answer
+refused-game e (Bytes file) Here (Source line cause) answer = absurd answer
+refused-game e (Bytes file) Here (Misfit misfit) answer = absurd answer
+refused-game e (Bytes file) Here (State fault) answer = absurd answer
+refused-game e (Bytes file) Here (Rom fault) answer = absurd answer
+refused-game e (Bytes file) Here (Certificate line cause) answer = absurd answer
+refused-game e (Bytes file) Here (Proof line cause) answer = absurd answer
+refused-game e (Bytes file) Here (NoCertificate obstacle) answer = absurd answer
+refused-game e (Bytes file) Here (NoTiming why) answer = absurd answer
+refused-game e (Bytes file) Here NoMemory answer = tt
+refused-game e (Text text) Here Usage answer = absurd answer
+refused-game e (Text text) Here (Unread name) answer = absurd answer
+refused-game e (Text text) Here (TooLarge kind) answer = absurd answer
+refused-game e (Text text) Here (Script line cause) answer = absurd answer
+refused-game e (Text text) Here (Command line cause) answer = absurd answer
+refused-game e (Text text) Here (Source line cause) answer = FaultyGame line cause answer
+refused-game e (Text text) Here (Misfit (Stray address)) answer = absurd answer
+refused-game e (Text text) Here (Misfit (Game edition)) answer = rw answer.0 (LargeGame answer.1 answer.2 answer.3)
+refused-game e (Text text) Here (State fault) answer = absurd answer
+refused-game e (Text text) Here (Rom fault) answer = absurd answer
+refused-game e (Text text) Here (Certificate line cause) answer = absurd answer
+refused-game e (Text text) Here (Proof line cause) answer = absurd answer
+refused-game e (Text text) Here (NoCertificate obstacle) answer = absurd answer
+refused-game e (Text text) Here (NoTiming why) answer = absurd answer
+refused-game e (Text text) Here NoMemory answer = tt
+
+-- ---- a program
+
+pub image-comes : (memory : Memory) (code : Code (List ℕ)) (Here : List ℕ → List ℕ → Outcome → Type 0) (rom ram : List ℕ) → IsImage memory code rom ram
+    → (o : Outcome) → Here rom ram o → ImageComes memory code Here o
+image-comes memory (Bytes file) Here rom ram is o here = rw (is.0, is.1) at here
+image-comes memory (Text text) Here rom ram is o here = FitProgram o is.0 (rw (is.1, is.2) at here)
+
+pub refused-image : (memory : Memory) (code : Code (List ℕ)) (Here : List ℕ → List ℕ → Outcome → Type 0) (refusal : Refusal) → IsNoImage code refusal
+    → RefusedBy (ImageComes memory code Here) refusal
+refused-image memory (Bytes file) Here Usage answer = absurd answer
+refused-image memory (Bytes file) Here (Unread name) answer = absurd answer
+refused-image memory (Bytes file) Here (TooLarge kind) answer = absurd answer
+refused-image memory (Bytes file) Here (Script line cause) answer = absurd answer
+refused-image memory (Bytes file) Here (Command line cause) answer = absurd answer
+refused-image memory (Bytes file) Here (Source line cause) answer = absurd answer
+refused-image memory (Bytes file) Here (Misfit misfit) answer = absurd answer
+refused-image memory (Bytes file) Here (State fault) answer = absurd answer
+refused-image memory (Bytes file) Here (Rom fault) answer = absurd answer
+refused-image memory (Bytes file) Here (Certificate line cause) answer = absurd answer
+refused-image memory (Bytes file) Here (Proof line cause) answer = absurd answer
+refused-image memory (Bytes file) Here (NoCertificate obstacle) answer = absurd answer
+refused-image memory (Bytes file) Here (NoTiming why) answer = absurd answer
+refused-image memory (Bytes file) Here NoMemory answer = tt
+refused-image memory (Text text) Here Usage answer = absurd answer
+refused-image memory (Text text) Here (Unread name) answer = absurd answer
+refused-image memory (Text text) Here (TooLarge kind) answer = absurd answer
+refused-image memory (Text text) Here (Script line cause) answer = absurd answer
+refused-image memory (Text text) Here (Command line cause) answer = absurd answer
+refused-image memory (Text text) Here (Source line cause) answer = FaultyProgram line cause answer
+refused-image memory (Text text) Here (Misfit (Stray address)) answer = StrayProgram address answer.0 answer.1
+refused-image memory (Text text) Here (Misfit (Game edition)) answer = absurd answer
+refused-image memory (Text text) Here (State fault) answer = absurd answer
+refused-image memory (Text text) Here (Rom fault) answer = absurd answer
+refused-image memory (Text text) Here (Certificate line cause) answer = absurd answer
+refused-image memory (Text text) Here (Proof line cause) answer = absurd answer
+refused-image memory (Text text) Here (NoCertificate obstacle) answer = absurd answer
+refused-image memory (Text text) Here (NoTiming why) answer = absurd answer
+refused-image memory (Text text) Here NoMemory answer = tt
+
+-- what an assembly gives, its source does
+module _ (memory : Memory) (text : List ℕ) (made : Made) (is : IsAssembly Cdp1802 (source_lines text) made) where
+  same_stray : (a : ℕ) → a < 65536 → is_stray (made_byte made) a ≡ is_stray (source_byte text) a
+  same_stray a low = ap (λ cell. not (is_memory a) && is_some (option_map (λ cell. cell.byte) cell)) (is.cells a low)
+
+  pub made-image : (r : Result Image Refusal) → MadeImageAnswers (made_byte made) r → ImageAnswers memory (Text text) r
+  made-image (Ok image) answer = (
+    (
+      record { assembles = (made, is); in_memory = λ a low. sym (same_stray a low) ∙ answer.0 a low },
+      answer.1 ∙ same_bytes text made 0x8000 rom_size (omega arith) is,
+      answer.2 ∙ same_bytes text made 0 ram_size (omega arith) is,
+    ),
+    record {
+      rom = rw (answer.1, length-bytes (made_byte made) 0x8000 rom_size) (omega arith);
+      ram = rw (answer.2, length-bytes (made_byte made) 0 ram_size) (omega arith);
+    },
+  )
+  made-image (Err Usage) answer = absurd answer
+  made-image (Err (Unread name)) answer = absurd answer
+  made-image (Err (TooLarge kind)) answer = absurd answer
+  made-image (Err (Script line cause)) answer = absurd answer
+  made-image (Err (Command line cause)) answer = absurd answer
+  made-image (Err (Source line cause)) answer = absurd answer
+  made-image (Err (Misfit (Stray address))) answer = (
+    (made, is),
+    record {
+      low = answer.low;
+      is = sym (same_stray address answer.low) ∙ answer.is;
+      least = λ a below. sym (same_stray a (omega (arith, below, answer.low))) ∙ answer.least a below;
+    },
+  )
+  made-image (Err (Misfit (Game edition))) answer = absurd answer
+  made-image (Err (State fault)) answer = absurd answer
+  made-image (Err (Rom fault)) answer = absurd answer
+  made-image (Err (Certificate line cause)) answer = absurd answer
+  made-image (Err (Proof line cause)) answer = absurd answer
+  made-image (Err (NoCertificate obstacle)) answer = absurd answer
+  made-image (Err (NoTiming why)) answer = absurd answer
+  made-image (Err NoMemory) answer = tt
+
+-- ---- the game of a source is one
+
+module _ (made made' : Made) (same : (a : ℕ) → a < 65536 → byte_at made a ≡ byte_at made' a) where
+  one_span : (s t : Option (ℕ × ℕ)) → IsSpan made 65536 s → IsSpan made' 65536 t → s ≡ t
+  one_span None None x y = refl
+  one_span None (Some t) x y = let low : t.0 < 65536 = omega (arith, y.order, y.within) in let none = x t.0 low in let is = same t.0 low in let some = y.first in absurd (cc)
+  one_span (Some s) None x y = let low : s.0 < 65536 = omega (arith, x.order, x.within) in let none = y s.0 low in let is = same s.0 low in let some = x.first in absurd (cc)
+  one_span (Some s) (Some t) x y = λ i. Some (lows i, highs i)
+    where
+      before_t : s.0 < t.0 → ⊥
+      before_t h = let none = y.before s.0 h in let is = same s.0 (omega (arith, x.order, x.within)) in let some = x.first in cc
+
+      before_s : t.0 < s.0 → ⊥
+      before_s h = let none = x.before t.0 h in let is = same t.0 (omega (arith, y.order, y.within)) in let some = y.first in cc
+
+      behind_t : t.1 < s.1 → ⊥
+      behind_t h = let none = y.behind s.1 h x.within in let is = same s.1 x.within in let some = x.last in cc
+
+      behind_s : s.1 < t.1 → ⊥
+      behind_s h = let none = x.behind t.1 h y.within in let is = same t.1 y.within in let some = y.last in cc
+
+      one : (a b : ℕ) → (a < b → ⊥) → (b < a → ⊥) → a ≡ b
+      one a b below above = elim (cases_lt a b) [
+        | inl h ↦ absurd (below h)
+        | inr h ↦ elim (cases_lt b a) [
+          | inl k ↦ absurd (above k)
+          | inr k ↦ omega (arith, h, k)
+        ]
+      ]
+
+      lows : s.0 ≡ t.0
+      lows = one s.0 t.0 before_t before_s
+
+      highs : s.1 ≡ t.1
+      highs = one s.1 t.1 behind_s behind_t
+
+  same_range : (low count : ℕ) → low + count ≤ 65536 → bytes_from made low count ≡ bytes_from made' low count
+  same_range low count within =
+      fill_by_all there (bytes_from made low count) count 0 (length-map-range_with_len byte low count)
+      (λ k few. get_or-map-range_with_len byte low count k (low + k) 0 few refl)
+      ∙ sym (fill_by_all there (bytes_from made' low count) count 0 (length-map-range_with_len byte' low count)
+      (λ k few. get_or-map-range_with_len byte' low count k (low + k) 0 few refl
+      ∙ ap (λ b. unwrap_or b 0x00) (sym (same (low + k) (omega (arith, few, within))))))
+    where
+      byte : ℕ → ℕ
+      byte a = unwrap_or (byte_at made a) 0x00
+
+      byte' : ℕ → ℕ
+      byte' a = unwrap_or (byte_at made' a) 0x00
+
+      there : ℕ → ℕ
+      there k = unwrap_or (byte_at made (low + k)) 0x00
+
+  same_span : (t : Option (ℕ × ℕ)) → IsSpan made' 65536 t → span_bytes Chip8 made t ≡ span_bytes Chip8 made' t
+  same_span None y = refl
+  same_span (Some t) y = same_range 0x200 (t.1 + 1 - 0x200) (omega (arith, y.within))
+
+  one_raw : (a b : List ℕ) → IsRaw Chip8 made a → IsRaw Chip8 made' b → a ≡ b
+  one_raw a b x y = x.are ∙ ap (span_bytes Chip8 made) (one_span x.span y.span x.is_span y.is_span) ∙ same_span y.span y.is_span ∙ sym y.are
+
+pub one_game : (text a b : List ℕ) → GivesGame text a → GivesGame text b → a ≡ b
+one_game text a b x y =
+    one_raw x.made y.made (λ at low. ap (option_map (λ cell. cell.byte)) (x.is.cells at low ∙ sym (y.is.cells at low))) a b x.raw.are y.raw.are

@@ -1,0 +1,8 @@
+use Rattle.vip_tools.proofs.CodeLemmas.{made-image}
+use Rattle.vip_tools.proofs.code.program.Goals as goal
+
+pub returns-in_ok-made-in-Source : goal.returns-in_ok-made-in-Source
+returns-in_ok-made-in-Source c =
+    rw c.in-Source.is
+    (made-image c.args.memory c.in-Source.text.items c.in_ok-made-in-Source.made (rw c.as_slice.ensures.value at c.in_ok-made-in-Source.ensures) _
+    c.lay_out_both.ensures)
