@@ -4,12 +4,12 @@ ghost use Rattle.std.specs.Prelude.{◌≡◌};
 ghost use Rattle.cycle_check.specs.FaultNames.{cert_cause_name, timing_cause_name};
 
 use std::alloc::AllocError;
-use thiserror::Error;
+use std::error::Error;
+use std::fmt;
 
 /// What is wrong with a line of a certificate. The first three are looked for line by line over all lines, in this order in a line; then
 /// `NoEntry`; and then the last two, again line by line.
-#[derive(Clone, Copy, Debug, Error)]
-#[error("{}", self.name())]
+#[derive(Clone, Copy, Debug)]
 pub enum CertCause {
     /// The first line that says something is no `within` line, or a later one is no line of an address; or no line says anything, which is
     /// said of line 1.
@@ -43,8 +43,17 @@ impl CertCause {
     }
 }
 
+// By hand, since a derive writes and has proved an arm for each variant.
+impl fmt::Display for CertCause {
+    fn fmt<W: fmt::Write>(&self, f: &mut fmt::Formatter<W>) -> fmt::Result {
+        f.write_str(self.name())
+    }
+}
+
+impl Error for CertCause {}
+
 /// Why a certificate is not accepted.
-#[derive(Clone, Copy, Debug, Error)]
+#[derive(Clone, Copy, Debug, thiserror::Error)]
 pub enum CertFault {
     /// The first fault, with the number of its line, counted from 1.
     #[error("line {line}: {cause}")]
@@ -66,8 +75,7 @@ impl From<AllocError> for CertFault {
 }
 
 /// Why no certificate of a routine was found.
-#[derive(Clone, Copy, Debug, Error)]
-#[error("{}", self.name())]
+#[derive(Clone, Copy, Debug)]
 pub enum TimingCause {
     /// Ways lead to the address, and no line is allowed there with an X that all of them give.
     Opcode,
@@ -92,6 +100,14 @@ impl TimingCause {
         }
     }
 }
+
+impl fmt::Display for TimingCause {
+    fn fmt<W: fmt::Write>(&self, f: &mut fmt::Formatter<W>) -> fmt::Result {
+        f.write_str(self.name())
+    }
+}
+
+impl Error for TimingCause {}
 
 /// Where no certificate of a routine was found: why, at which address, and the bytes of the ROM from there on.
 #[derive(Clone, Copy)]
