@@ -1,6 +1,6 @@
 //! The exits of a certificate: where its routine is left.
 
-ghost use Rattle.std.specs.Prelude.{◌≡◌, ◌%◌, ◌++◌, OnOk, IfOk, option_map, true, false};
+ghost use Rattle.std.specs.Prelude.{◌≡◌, ◌%◌, ◌++◌, OnOk, IfOk, Some, None, option_map, true, false};
 ghost use Rattle.std.specs.List.{All};
 ghost use Rattle.std.specs.Option.{option_and_then};
 ghost use Rattle.vip_byte.specs.Room.{HasRoom};
@@ -129,18 +129,34 @@ fn push_in_order(
 ) -> Result<(), AllocError>
     ensures { OnOk result (found.new.items ≡ found.old.items ++ in_order one other) }
 {
-    match (one, other) {
-        (None, None) => {}
-        (Some(only), None) | (None, Some(only)) => found.push(only)?,
-        (Some(one), Some(other)) if one.next() == other.next() => found.push(one)?,
-        (Some(one), Some(other)) if one.next() < other.next() => {
-            found.push(one)?;
-            found.push(other)?;
-        }
-        (Some(one), Some(other)) => {
-            found.push(other)?;
-            found.push(one)?;
-        }
+    let Some(first) = one else {
+        return push_some(found, other);
+    };
+    match other {
+        Some(second) => push_both(found, first, second),
+        None => push_some(found, one),
+    }
+}
+
+fn push_some(found: &mut Vec<Exit>, exit: Option<Exit>) -> Result<(), AllocError>
+    ensures { OnOk result (found.new.items ≡ found.old.items ++ in_order None exit) }
+{
+    if let Some(exit) = exit {
+        found.push(exit)?;
+    }
+    Ok(())
+}
+
+fn push_both(found: &mut Vec<Exit>, one: Exit, other: Exit) -> Result<(), AllocError>
+    ensures { OnOk result (found.new.items ≡ found.old.items ++ in_order (Some one) (Some other)) }
+{
+    let (next, behind) = (one.next(), other.next());
+    if next == behind {
+        found.push(one)?;
+    } else if next < behind {
+        found.extend_from_slice(&[one, other])?;
+    } else {
+        found.extend_from_slice(&[other, one])?;
     }
     Ok(())
 }

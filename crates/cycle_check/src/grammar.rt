@@ -1,6 +1,7 @@
 //! What one line of a certificate says.
 
 ghost use Rattle.std.specs.Prelude.{◌≡◌, ◌≤◌, IfOk};
+ghost use Rattle.std.specs.Str.{bytes_eq};
 ghost use Rattle.cycle_check.specs.Certificate.{bound_in, bound_of, byte_of_fact, decimal_of, fact_of, hex_of, line_in, line_of, word_of_fact, x_of};
 
 use crate::fault::CertCause;
@@ -77,10 +78,10 @@ pub fn read_bound(mut words: Words) -> Result<Bound, CertCause>
     if words.next().is_some() {
         return Err(CertCause::BadLine);
     }
-    match word {
-        b"within" => read_bound_in(entry, p, k, limit),
-        _ => Err(CertCause::BadLine),
+    if !is_word(word, b"within") {
+        return Err(CertCause::BadLine);
     }
+    read_bound_in(entry, p, k, limit)
 }
 
 #[tactic(auto, unfolding(crate::specs::Certificate::bound_in))]
@@ -141,6 +142,12 @@ fn read_line_in(
     })
 }
 
+fn is_word(word: &[u8], name: &[u8]) -> bool
+    ensures { result ≡ bytes_eq word.now name.now }
+{
+    word == name
+}
+
 // The fact that the last words of a line say.
 #[tactic(auto, unfolding(crate::specs::Certificate::fact_of))]
 fn read_fact(mut words: Words) -> Result<Fact, CertCause>
@@ -162,32 +169,36 @@ fn read_fact(mut words: Words) -> Result<Fact, CertCause>
 fn read_word_of_fact(word: &[u8]) -> Result<Fact, CertCause>
     ensures { result ≡ word_of_fact word.now }
 {
-    match word {
-        b"any" => Ok(Fact::Any),
-        b"copy" => Ok(Fact::Copy),
-        b"some" => Ok(Fact::NonZero),
-        _ => Err(CertCause::BadLine),
+    if is_word(word, b"any") {
+        return Ok(Fact::Any);
     }
+    if is_word(word, b"copy") {
+        return Ok(Fact::Copy);
+    }
+    if is_word(word, b"some") {
+        return Ok(Fact::NonZero);
+    }
+    Err(CertCause::BadLine)
 }
 
 #[tactic(auto, unfolding(crate::specs::Certificate::byte_of_fact))]
 fn read_byte_of_fact(word: &[u8], number: &[u8]) -> Result<Fact, CertCause>
     ensures { result ≡ byte_of_fact word.now number.now }
 {
-    match word {
-        b"is" => Ok(Fact::Is(read_digits(number, 2, 0xFF)? as u8)),
-        _ => Err(CertCause::BadLine),
+    if !is_word(word, b"is") {
+        return Err(CertCause::BadLine);
     }
+    Ok(Fact::Is(read_digits(number, 2, 0xFF)? as u8))
 }
 
 #[tactic(auto, unfolding(crate::specs::Certificate::x_of))]
 fn read_x(word: &[u8]) -> Result<Option<u8>, CertCause>
     ensures { result ≡ x_of word.now }
 {
-    match word {
-        b"-" => Ok(None),
-        _ => Ok(Some(read_digits(word, 1, 0xF)? as u8)),
+    if is_word(word, b"-") {
+        return Ok(None);
     }
+    Ok(Some(read_digits(word, 1, 0xF)? as u8))
 }
 
 // So many hexadecimal digits.
