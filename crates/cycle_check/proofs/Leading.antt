@@ -1,9 +1,9 @@
 -- What is known at an address to which ways lead, and why a search ends there.
-use Rattle.std.proofs.Common.{◌≡◌, ℕ, ◌+◌, ◌&&◌, ◌||◌, not, Bool, true, false, true≢false, eqb, leb, Option, Some, None, List, get_or, refl, sym, ap, subst, ◌∙◌, arith, inl, inr}
+use Rattle.std.proofs.Common.{◌≡◌, ℕ, ◌+◌, ◌&&◌, ◌||◌, not, Bool, true, false, true≢false, eqb, leb, Option, Some, None, List, get_or, refl, sym, ap, subst, ◌∙◌, arith, inl, inr, replicate, ◌<◌}
 use Rattle.std.specs.Prelude.{slice_set}
 use Rattle.std.proofs.lemmas.Bool.{and_parts, and_from, cases_Bool, cases_eq, eqb-true, eq-eqb, or_cases, or_parts}
 use Rattle.std.proofs.lemmas.Grind.{get_or-set_at}
-use Rattle.std.proofs.lemmas.List.{get_or-set_other, length-set}
+use Rattle.std.proofs.lemmas.List.{get_or-replicate, get_or-set_other, length-replicate, length-set}
 use Rattle.machine.specs.declared.Kind.{Kind}
 use Rattle.machine.specs.declared.Kind.TheVariants.{Ldi, Sex}
 use Rattle.cycle_check.specs.declared.grammar.Bound.{Bound}
@@ -15,7 +15,8 @@ use Rattle.cycle_check.specs.declared.known.Known.{Known}
 use Rattle.cycle_check.specs.declared.table.Way.{Way}
 use Rattle.cycle_check.specs.Table.{assigns_d, assigns_named, assigns_pointed, is_refused, x_after}
 use Rattle.cycle_check.specs.Closed.{fits_x, instruction_at, is_allowed, is_apart, is_loaded, is_shown, stays_loaded}
-use Rattle.cycle_check.specs.Forward.{AllKnown, IsKnown, byte_after, byte_shows, common, is_known_behind, joined, kept_byte, known_behind, some_shows}
+use Rattle.cycle_check.specs.declared.forward.Forward.{Forward}
+use Rattle.cycle_check.specs.Forward.{AllKnown, IsKnown, Keeps, byte_after, byte_shows, common, is_known_behind, joined, kept_byte, known_behind, some_shows}
 use Rattle.cycle_check.specs.Obstacles.{IsLost, IsRefused, IsWay, LeadsTo, MayBeAllowed}
 use Rattle.cycle_check.specs.Obstacles.LeadsTo.{Enters, Goes}
 use Rattle.cycle_check.specs.Obstacles.IsLost.{Passes, Unknown}
@@ -247,6 +248,17 @@ module _ (rom : List ℕ) (bound : Bound) where
   }
 
 -- ---- the places in the ROM
+
+-- what is kept twice is kept
+pub keeps_on : (a b c : Forward) → Keeps a b → Keeps b c → Keeps a c
+keeps_on a b c first second = record { rom = second.rom ∙ first.rom; bound = second.bound ∙ first.bound; true_of = second.true_of }
+
+-- nothing is known where nothing was met
+pub none_met : (rom : List ℕ) (bound : Bound) (places : List (Option Known)) (n : ℕ) → places ≡ replicate n None → AllKnown rom bound places
+none_met rom bound places n is place other known within met =
+    let below : place < n = rw length-replicate at (rw is at within) in
+    let none : get_or places place other ≡ None = rw is (get_or-replicate n place None other below) in
+    absurd (cc)
 
 pub all_set :
     (rom : List ℕ) (bound : Bound) (places : List (Option Known)) (place : ℕ) (known : Known) → AllKnown rom bound places

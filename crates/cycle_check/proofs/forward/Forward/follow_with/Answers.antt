@@ -1,5 +1,7 @@
-use Rattle.std.proofs.Common.{sym, ◌∙◌}
-use Rattle.cycle_check.proofs.Leading.{refused}
+use Rattle.std.proofs.Common.{◌≡◌, inl, inr, refl, sym, ap, ◌∙◌}
+use Rattle.std.proofs.lemmas.Result.{err_from_is_err_and}
+use Rattle.cycle_check.specs.Closed.{instruction_at}
+use Rattle.cycle_check.proofs.Leading.{keeps_on, refused}
 use Rattle.cycle_check.proofs.forward.Forward.follow_with.Goals as goal
 
 pub returns-then-not-is_allowed-clause-fault : goal.returns-then-not-is_allowed-clause-fault
@@ -7,3 +9,67 @@ returns-then-not-is_allowed-clause-fault c =
     refused c.args.self.now.rom.now c.args.self.now.bound c.args.address c.line_with-line.result c.args.known.now c.requires.known
     c.line_with-line.ensures.address c.line_with-line.ensures.x
     (rw (← c.instruction_at-instruction.ensures) (sym c.is_allowed.ensures ∙ c.if-not-is_allowed.true))
+
+-- ---- the first way
+
+pub go-requires-clause-known : goal.go-requires-clause-known
+go-requires-clause-known c = rw c.line_with-line.ensures.address c.requires.known
+
+pub go-requires-clause-allowed : goal.go-requires-clause-allowed
+go-requires-clause-allowed c =
+    let here : c.instruction_at-instruction.result ≡ instruction_at c.args.self.now.rom.now c.line_with-line.result.address =
+    rw c.line_with-line.ensures.address c.instruction_at-instruction.ensures in
+    record {
+      line = c.line_with-line.result;
+      of = refl;
+      allowed = rw (← here) (sym c.is_allowed.ensures ∙ c.if-not-is_allowed.false);
+    }
+
+pub go-requires-clause-instruction : goal.go-requires-clause-instruction
+go-requires-clause-instruction c = rw c.line_with-line.ensures.address c.instruction_at-instruction.ensures
+
+pub go-requires-clause-way : goal.go-requires-clause-way
+go-requires-clause-way c =
+    inl (rw (c.line_with-line.ensures.address, ← c.instruction_at-instruction.ensures) (ap (λ ways. ways.first) c.ways_from-ways.ensures))
+
+pub returns-in_err-go-clause-fault : goal.returns-in_err-go-clause-fault
+returns-in_err-go-clause-fault c =
+    let none = err_from_is_err_and c.from_residual.result c.from_residual.ensures.1 in
+    rw (none.1, none.2) tt
+
+-- ---- the second one
+
+pub go-requires-in-Some-clause-known : goal.go-requires-in-Some-clause-known
+go-requires-in-Some-clause-known c = rw (c.in_ok-go.ensures.rom, c.in_ok-go.ensures.bound, c.line_with-line.ensures.address) c.requires.known
+
+pub go-requires-in-Some-clause-allowed : goal.go-requires-in-Some-clause-allowed
+go-requires-in-Some-clause-allowed c =
+    let here : c.instruction_at-instruction.result ≡ instruction_at c.args.self.now.rom.now c.line_with-line.result.address =
+    rw c.line_with-line.ensures.address c.instruction_at-instruction.ensures in
+    record {
+      line = c.line_with-line.result;
+      of = refl;
+      allowed = rw (c.in_ok-go.ensures.rom, c.in_ok-go.ensures.bound, ← here) (sym c.is_allowed.ensures ∙ c.if-not-is_allowed.false);
+    }
+
+pub go-requires-in-Some-clause-instruction : goal.go-requires-in-Some-clause-instruction
+go-requires-in-Some-clause-instruction c = rw (c.in_ok-go.ensures.rom, c.line_with-line.ensures.address) c.instruction_at-instruction.ensures
+
+pub go-requires-in-Some-clause-way : goal.go-requires-in-Some-clause-way
+go-requires-in-Some-clause-way c =
+    inr (rw (c.in_ok-go.ensures.rom, c.in_ok-go.ensures.bound, c.line_with-line.ensures.address, ← c.instruction_at-instruction.ensures)
+    (ap (λ ways. ways.second) (sym c.ways_from-ways.ensures) ∙ c.in-Some.is))
+
+pub go-requires-in-Some-clause-true_of : goal.go-requires-in-Some-clause-true_of
+go-requires-in-Some-clause-true_of c = c.in_ok-go.ensures.true_of
+
+pub returns-in_err-go-2-clause-fault : goal.returns-in_err-go-2-clause-fault
+returns-in_err-go-2-clause-fault c =
+    let none = err_from_is_err_and c.from_residual-in_err-go-2.result c.from_residual-in_err-go-2.ensures.1 in
+    rw (none.1, none.2) tt
+
+pub returns-in_ok-go-2-clause-keeps : goal.returns-in_ok-go-2-clause-keeps
+returns-in_ok-go-2-clause-keeps c = keeps_on c.args.self.now c.go.new.self c.go-in-Some.new.self c.in_ok-go.ensures c.in_ok-go-2.ensures
+
+pub returns-in_default-clause-keeps : goal.returns-in_default-clause-keeps
+returns-in_default-clause-keeps c = c.in_ok-go.ensures
