@@ -141,10 +141,10 @@ fn push_in_order(
 fn push_some(found: &mut Vec<Exit>, exit: Option<Exit>) -> Result<(), AllocError>
     ensures { OnOk result (found.new.items ≡ found.old.items ++ in_order None exit) }
 {
-    if let Some(exit) = exit {
-        found.push(exit)?;
+    match exit {
+        Some(exit) => found.extend_from_slice(&[exit]),
+        None => Ok(()),
     }
-    Ok(())
 }
 
 fn push_both(found: &mut Vec<Exit>, one: Exit, other: Exit) -> Result<(), AllocError>
@@ -152,13 +152,12 @@ fn push_both(found: &mut Vec<Exit>, one: Exit, other: Exit) -> Result<(), AllocE
 {
     let (next, behind) = (one.next(), other.next());
     if next == behind {
-        found.push(one)?;
+        found.extend_from_slice(&[one])
     } else if next < behind {
-        found.extend_from_slice(&[one, other])?;
+        found.extend_from_slice(&[one, other])
     } else {
-        found.extend_from_slice(&[other, one])?;
+        found.extend_from_slice(&[other, one])
     }
-    Ok(())
 }
 
 // The exit on a way: the fact of its line lets it through, and no line is at its end.

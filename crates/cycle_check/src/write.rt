@@ -108,8 +108,7 @@ fn append_line(text: &mut Vec<u8>, line: &Line) -> Result<(), AllocError>
 {
     let mut buffer = Buffer::new();
     put_line(&mut buffer, line);
-    text.extend_from_slice(buffer.as_slice())?;
-    Ok(())
+    text.extend_from_slice(buffer.as_slice())
 }
 
 // Appends the remark of an exit to a text.
@@ -119,8 +118,7 @@ fn append_remark(text: &mut Vec<u8>, exit: &Exit) -> Result<(), AllocError>
     let mut buffer = Buffer::new();
     put(&mut buffer, b"# ");
     exit.put(&mut buffer);
-    text.extend_from_slice(buffer.as_slice())?;
-    Ok(())
+    text.extend_from_slice(buffer.as_slice())
 }
 
 impl TimingObstacle {
