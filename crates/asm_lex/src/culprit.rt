@@ -126,18 +126,31 @@ fn begin_form(names: &Symbols, named: Form, line: &[u8], operands: &[Span], form
     form.mnemonic() == named.mnemonic() && begin_due(names, form.operands(), line, operands)
 }
 
-// Whether operands may begin those of a mnemonic of CHIP-8.
-fn begin_words(names: &Symbols, named: Form, line: &[u8], operands: &[Span]) -> bool
+// Whether operands may begin those of one of these forms, where it has a certain mnemonic.
+fn begin_one_of(
+    names: &Symbols,
+    named: Form,
+    line: &[u8],
+    operands: &[Span],
+    forms: &[Form],
+) -> bool
     requires { AreWithin line.now operands.now }
-    ensures { result ≡ list_any (begin_form (value_in names.now) named (map (text_at line.now) operands.now)) forms }
+    ensures { result ≡ list_any (begin_form (value_in names.now) named (map (text_at line.now) operands.now)) forms.now }
 {
-    let forms = forms();
     for form in forms {
         if begin_form(names, named, line, operands, *form) {
             return true;
         }
     }
     false
+}
+
+// Whether operands may begin those of a mnemonic of CHIP-8.
+fn begin_words(names: &Symbols, named: Form, line: &[u8], operands: &[Span]) -> bool
+    requires { AreWithin line.now operands.now }
+    ensures { result ≡ list_any (begin_form (value_in names.now) named (map (text_at line.now) operands.now)) forms }
+{
+    begin_one_of(names, named, line, operands, forms())
 }
 
 // Whether operands may begin those of a word.

@@ -1,8 +1,9 @@
 //! The forms of CHIP-8's instructions.
 
-ghost use Rattle.std.specs.Prelude.{◌≡◌, ◌≤◌, ◌==◌, ℕ, List, map, IfSome, Option, None, Some};
+ghost use Rattle.std.specs.Prelude.{◌≡◌, ◌≤◌, ◌==◌, ℕ, List, map, find, IfSome, Option, None, Some, if◌then◌else◌};
+ghost use Rattle.asm_lex.specs.Bytes.{spells};
 ghost use Rattle.std.specs.Str.{bytes_eq};
-ghost use Rattle.asm_lex.specs.Forms.{register_in, is_operand, with_x, with_y, with_operand, with_operands, written_operands, bare, form_meaning, form_named, same_meaning, op_meaning};
+ghost use Rattle.asm_lex.specs.Forms.{register_in, is_operand, with_x, with_y, with_operand, with_operands, written_operands, bare, form_meaning, form_named, same_meaning, first_given, one_twice, op_meaning};
 ghost use Rattle.asm_lex.specs.Spans.{text_at, AreWithin};
 ghost use Rattle.asm_lex.specs.Names.{value_in};
 ghost use Rattle.chip8_words.specs.Table.{forms, mnemonic_of, operands_of};
@@ -20,18 +21,23 @@ pub(crate) fn forms() -> &'static [Form]
     &FORMS
 }
 
-/// The first form whose mnemonic the word is.
-#[tactic(auto, unfolding(crate::specs::Forms::form_named))]
-pub(crate) fn form_named(word: &[u8]) -> Option<Form>
-    ensures { result ≡ form_named word.now }
+// The first of these forms whose mnemonic the word is.
+fn first_named(word: &[u8], forms: &[Form]) -> Option<Form>
+    ensures { result ≡ find (λ form. spells word.now (mnemonic_of form)) forms.now }
 {
-    let forms = forms();
     for form in forms {
         if spells(word, form.mnemonic()) {
             return Some(*form);
         }
     }
     None
+}
+
+/// The first form whose mnemonic the word is.
+pub(crate) fn form_named(word: &[u8]) -> Option<Form>
+    ensures { result ≡ form_named word.now }
+{
+    first_named(word, forms())
 }
 
 /// The number of the register that a text names: V0 to VF, or a name of one.
@@ -132,15 +138,25 @@ fn bare(form: Form) -> Op
     }
 }
 
+// Whether a form is a shift, whose registers may be written as one.
+fn is_shift(form: Form) -> bool
+    ensures { (texts : List (List ℕ)) → written_operands form texts ≡ (if result then one_twice texts else texts) }
+{
+    match form {
+        Form::Right | Form::Left => true,
+        _ => false,
+    }
+}
+
 // What operands mean in a form.
-#[tactic(auto, unfolding(crate::specs::Forms::form_meaning))]
 fn form_meaning(names: &Symbols, form: Form, line: &[u8], operands: &[Span]) -> Option<Op>
     requires { AreWithin line.now operands.now }
     ensures { result ≡ form_meaning (value_in names.now) form (map (text_at line.now) operands.now) }
 {
     let due = form.operands();
-    match (form, operands) {
-        (Form::Right | Form::Left, [register]) => {
+    let is_shift = is_shift(form);
+    match operands {
+        [register] if is_shift => {
             with_operands(names, bare(form), due, line, &[*register, *register])
         }
         _ => with_operands(names, bare(form), due, line, operands),
@@ -165,17 +181,29 @@ fn same_meaning(
     }
 }
 
-/// What operands mean behind the mnemonic of a form; none where they are wrong.
-#[tactic(auto, unfolding(crate::specs::Forms::op_meaning))]
-pub(crate) fn op_meaning(names: &Symbols, named: Form, line: &[u8], operands: &[Span]) -> Option<Op>
+// What operands mean in the first of these forms that has a certain mnemonic and takes them.
+fn first_meaning(
+    names: &Symbols,
+    named: Form,
+    line: &[u8],
+    operands: &[Span],
+    forms: &[Form],
+) -> Option<Op>
     requires { AreWithin line.now operands.now }
-    ensures { result ≡ op_meaning (value_in names.now) named (map (text_at line.now) operands.now) }
+    ensures { result ≡ first_given (same_meaning (value_in names.now) named (map (text_at line.now) operands.now)) forms.now }
 {
-    let forms = forms();
     for form in forms {
         if let Some(op) = same_meaning(names, named, line, operands, *form) {
             return Some(op);
         }
     }
     None
+}
+
+/// What operands mean behind the mnemonic of a form; none where they are wrong.
+pub(crate) fn op_meaning(names: &Symbols, named: Form, line: &[u8], operands: &[Span]) -> Option<Op>
+    requires { AreWithin line.now operands.now }
+    ensures { result ≡ op_meaning (value_in names.now) named (map (text_at line.now) operands.now) }
+{
+    first_meaning(names, named, line, operands, forms())
 }

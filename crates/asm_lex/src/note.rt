@@ -33,7 +33,8 @@ fn has_instruction(isa: Isa, names: &Symbols, labelled: bool, bytes: &[u8]) -> b
 
 fn instruction_end(bytes: &[u8]) -> usize
     requires { length bytes.now ≤ 255 }
-    ensures { result ≡ instruction_end (code_of bytes.now) }
+    ensures end { result ≡ instruction_end (code_of bytes.now) }
+    ensures within { result ≤ 65535 }
 {
     let spans = line_spans(bytes);
     let operands = spans.operands.as_slice();
