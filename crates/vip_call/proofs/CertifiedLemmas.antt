@@ -126,6 +126,7 @@ module _ (routines : AcceptedIsWithin) (games : CertifiedGames) (law : EveryRun)
   shows (request.Program run) pieces status report given comes = tt
   shows (request.Link message moves number) pieces status report given comes = tt
   shows (request.Asm source isa raw) pieces status report given comes = tt
+  shows (request.Check source name isa) pieces status report given comes = tt
   shows (request.List source isa) pieces status report given comes = tt
   shows (request.Dis bytes isa address) pieces status report given comes = tt
   shows (request.Source text) pieces status report given comes = tt
@@ -138,6 +139,8 @@ module _ (routines : AcceptedIsWithin) (games : CertifiedGames) (law : EveryRun)
   shows (request.Certify code edition) pieces status report given comes =
       game_so edition (CertifyComes edition) (λ game. WritesCertificate edition game pieces) pieces status report
       (λ game fits bytes here. search edition game fits bytes (Shown pieces status report) here) code given.0 comes
+  shows (request.Help verb) pieces status report given comes = tt
+  shows request.Version pieces status report given comes = tt
 
   pub proves_certified : (call : Call) → ProvesCertified call
   proves_certified call asked loaded pieces status report asks comes =

@@ -77,6 +77,7 @@ same_mosts f (request.Program run) =
     (program_mosts f run.memory run.code) (program_show_mosts f run.show) (script_mosts f run.keys)
 same_mosts f (request.Link message moves number) = refl
 same_mosts f (request.Asm source isa raw) = refl
+same_mosts f (request.Check source name isa) = refl
 same_mosts f (request.List source isa) = refl
 same_mosts f (request.Dis bytes isa address) = refl
 same_mosts f (request.Source text) = refl
@@ -85,6 +86,8 @@ same_mosts f (request.Cycles source certificate exits) = refl
 same_mosts f (request.Timing source entry p k) = refl
 same_mosts f (request.Safe game certificate edition) = ap (λ most. most ∷ most_text ∷ []) (code_most f (game_kind edition) (memory_size edition) game)
 same_mosts f (request.Certify game edition) = ap (λ most. most ∷ []) (code_most f (game_kind edition) (memory_size edition) game)
+same_mosts f (request.Help verb) = refl
+same_mosts f request.Version = refl
 
 -- ---- the numbers
 
@@ -95,6 +98,7 @@ module _ {A B : Type 0} (f : A → B) where
   in_range (request.Program run) x = record { cycles = x.cycles; moves = x.moves; start = x.start }
   in_range (request.Link message moves number) x = record { cycles = x.cycles; moves = x.moves; start = x.start }
   in_range (request.Asm source isa raw) x = record { cycles = x.cycles; moves = x.moves; start = x.start }
+  in_range (request.Check source name isa) x = record { cycles = x.cycles; moves = x.moves; start = x.start }
   in_range (request.List source isa) x = record { cycles = x.cycles; moves = x.moves; start = x.start }
   in_range (request.Dis bytes isa address) x = record { cycles = x.cycles; moves = x.moves; start = x.start }
   in_range (request.Source text) x = record { cycles = x.cycles; moves = x.moves; start = x.start }
@@ -103,6 +107,8 @@ module _ {A B : Type 0} (f : A → B) where
   in_range (request.Timing source entry p k) x = record { cycles = x.cycles; moves = x.moves; start = x.start }
   in_range (request.Safe game certificate edition) x = record { cycles = x.cycles; moves = x.moves; start = x.start }
   in_range (request.Certify game edition) x = record { cycles = x.cycles; moves = x.moves; start = x.start }
+  in_range (request.Help verb) x = record { cycles = x.cycles; moves = x.moves; start = x.start }
+  in_range request.Version x = record { cycles = x.cycles; moves = x.moves; start = x.start }
 
 -- ---- the files are small enough, and of bytes
 
@@ -195,6 +201,7 @@ fill (request.Program run) xs =
     })
 fill (request.Link message moves number) xs = request.Link (first_file xs) moves number
 fill (request.Asm source isa raw) xs = request.Asm (first_file xs) isa raw
+fill (request.Check source name isa) xs = request.Check (first_file xs) name isa
 fill (request.List source isa) xs = request.List (first_file xs) isa
 fill (request.Dis bytes isa address) xs = request.Dis (first_file xs) isa address
 fill (request.Source text) xs = request.Source text
@@ -203,6 +210,8 @@ fill (request.Cycles source certificate exits) xs = request.Cycles (first_file x
 fill (request.Timing source entry p k) xs = request.Timing (first_file xs) entry p k
 fill (request.Safe code certificate edition) xs = request.Safe (with_file code (first_file xs)) (first_file (other_files xs)) edition
 fill (request.Certify code edition) xs = request.Certify (with_file code (first_file xs)) edition
+fill (request.Help verb) xs = request.Help verb
+fill request.Version xs = request.Version
 
 abbrev bare : List ℕ → Unit {0}
 bare x = tt
@@ -283,6 +292,7 @@ filled (request.Program run) =
     })
 filled (request.Link message moves number) = refl
 filled (request.Asm source isa raw) = refl
+filled (request.Check source name isa) = refl
 filled (request.List source isa) = refl
 filled (request.Dis bytes isa address) = refl
 filled (request.Source text) = refl
@@ -292,6 +302,8 @@ filled (request.Timing source entry p k) = refl
 filled (request.Safe code certificate edition) =
     ap (λ code. request.Safe code certificate edition) (code_filled (game_kind edition) (memory_size edition) code)
 filled (request.Certify code edition) = ap (λ code. request.Certify code edition) (code_filled (game_kind edition) (memory_size edition) code)
+filled (request.Help verb) = refl
+filled request.Version = refl
 
 -- so there is one with this shape and these files
 pub one_loaded : (a b : Loaded) → shape_of a ≡ shape_of b → files_of (needed a) ≡ files_of (needed b) → a ≡ b

@@ -14,8 +14,11 @@ use Rattle.vip_words.specs.declared.debug_commands.CommandFault.{CommandFault}
 use Rattle.vip_words.specs.declared.debug_commands.CommandFault.TheVariants as debug_fault
 use Rattle.vip_link.specs.Checked.{ComparesLink}
 use Rattle.vip_text.specs.Endings.{Ending}
+use Rattle.vip_text.specs.Endings.Ending.{AtLimit, AtStop}
+use Rattle.vip_tools.specs.Status.{end_status}
+use Rattle.vip_relation.specs.State.{begun}
 use Rattle.vip_tools.specs.declared.status.Status.{Status}
-use Rattle.vip_tools.specs.declared.status.Status.TheVariants.{BadRomSource, RomDiffers}
+use Rattle.vip_tools.specs.declared.status.Status.TheVariants.{BadRomSource, BadSource, Done, RomDiffers, Stopped}
 use Rattle.vip_tools.specs.Certificates.{CertifyComes, CyclesComes, SafeComes, TimingComes}
 use Rattle.vip_tools.specs.Certificates.CertifyComes.{Finds, FindsNone}
 use Rattle.vip_tools.specs.Certificates.CyclesComes.{NotAssembled, FaultyCertificate, Leaves}
@@ -31,7 +34,7 @@ use Rattle.vip_tools.specs.Code.SourceProgram.{FaultyProgram, StrayProgram, FitP
 use Rattle.vip_tools.specs.Outcome.{Outcome, SourceComes}
 use Rattle.vip_tools.specs.Outcome.Outcome.{Refused, Shown, GivenUp}
 use Rattle.vip_tools.specs.Outcome.SourceComes.{FaultySource, Assembles}
-use Rattle.vip_verbs.specs.Outcome.{known_in, Begins, DebugComes, HasOutcome, LinkComes, RomIs, RunTo, ShowComes, saved_as}
+use Rattle.vip_verbs.specs.Outcome.{known_in, Begins, DebugComes, HasOutcome, LinkComes, RomIs, RunTo, ShowComes, debug_ending, limit_from, run_ending, saved_as}
 use Rattle.vip_verbs.specs.Outcome.RunTo.{FaultyScript, FaultyRom, Runs}
 use Rattle.vip_verbs.specs.Outcome.LinkComes.{FaultyRoms, Links}
 use Rattle.vip_verbs.specs.Programs.{ProgramComes, ProgramDebugComes, ProgramShowComes}
@@ -48,7 +51,7 @@ use Rattle.vip_relation.specs.State.Start.{Reset, Saved}
 use Rattle.vip_tools.specs.Demo.{demo_game}
 use Rattle.vip_tools.specs.Files.{Loaded}
 use Rattle.vip_words.specs.declared.request.Memory.{Memory}
-use Rattle.vip_call.specs.Top.{Call, Says, IsOfRom}
+use Rattle.vip_call.specs.Top.{Call, Says, IsCheck, IsOfRom}
 use Rattle.vip_call.proofs.TopLemmas.{rom_is_fine_or_not, links_fine_or_not}
 
 pub record RomsGiven : Type 0 where
@@ -62,11 +65,21 @@ roms_given games links = record { games = of; links = links }
     of Usual = games.0
     of Tall = games.1
 
--- the outcome isn't the refusal of a ROM
+-- the status of an end that finds no fault in a source
+abbrev IsPlain : Status → Type 0
+IsPlain Done = Unit {0}
+IsPlain Stopped = Unit {0}
+IsPlain _ = ⊥
+
+-- the outcome isn't the refusal of a ROM, and no output that ends with a fault of a source
 abbrev Free : Outcome → Type 0
 Free (Refused status report) = IsOfRom status → ⊥
-Free (Shown pieces status report) = Unit {0}
+Free (Shown pieces status report) = IsPlain status
 Free (GivenUp report) = Unit {0}
+
+run_ends : (ending : Ending) → IsPlain (end_status ending)
+run_ends AtLimit = tt
+run_ends (AtStop stop pc opcode) = tt
 
 alone_free : (q o : Outcome) → Free q → o ≡ q → Free o
 alone_free q o free e = subst Free (sym e) free
@@ -111,7 +124,7 @@ image_free Here free memory (Source text) o (FitProgram _ gives x) = free (rom_i
 
 saved_free : (limit : ℕ) (ending : Ending) (file : Option (List ℕ)) → Free (saved_as limit ending file)
 saved_free limit ending None = λ x. x
-saved_free limit ending (Some file) = tt
+saved_free limit ending (Some file) = run_ends ending
 
 module _ (memory : Memory) (rom ram : List ℕ) (keys : Option (List ℕ)) where
   program_free : (outcome : Seen → Outcome) (o : Outcome) → ((board : Seen) → Free (outcome board)) → ProgramComes memory rom ram keys outcome o → Free o
@@ -129,6 +142,11 @@ module _ (memory : Memory) (rom ram : List ℕ) (keys : Option (List ℕ)) where
   program_show_free known limit program_show.Pictures o x = program_free _ o (λ board. tt) x
   program_show_free known limit (program_show.Commands text echo) o x = debugged_free known.labels limit (commands_of Processor known.names echo limit text) o x
 
+-- a refusal isn't output
+abbrev NotRefused : Outcome → Type 0
+NotRefused (Refused status report) = ⊥
+NotRefused _ = Unit {0}
+
 module _ (given : RomsGiven) where
   run_free : (e : Edition) (keys : Option (List ℕ)) (outcome : List KeyEvent → Outcome) (o : Outcome)
       → ((script : List KeyEvent) → Free (outcome script)) → RunTo e keys outcome o → Free o
@@ -138,18 +156,18 @@ module _ (given : RomsGiven) where
 
   debug_free : (labels : List (ℕ × List ℕ)) (e : Edition) (s : Start) (keys : Option (List ℕ)) (limit : ℕ) (read : Result (List Spoken) CommandFault) (o : Outcome)
       → DebugComes labels e s keys limit read o → Free o
-  debug_free labels e s keys limit (Ok commands) o x = run_free e keys _ o (λ script. tt) x
+  debug_free labels e s keys limit (Ok commands) o x = run_free e keys _ o (λ script. run_ends (debug_ending (begun e s script) (limit_from s limit) commands)) x
   debug_free labels e s keys limit (Err (debug_fault.Fault line cause)) o x = alone_free _ o (λ y. y) x
   debug_free labels e s keys limit (Err debug_fault.NoMemory) o x = absurd x
 
   show_free : (known : Known) (e : Edition) (s : Start) (keys : Option (List ℕ)) (limit : ℕ) (shown : Show (List ℕ)) (o : Outcome)
       → ShowComes known e s keys limit shown o → Free o
-  show_free known e s keys limit (show.Trace with_time with_words with_screen) o x = run_free e keys _ o (λ script. tt) x
-  show_free known e s keys limit show.Pictures o x = run_free e keys _ o (λ script. tt) x
+  show_free known e s keys limit (show.Trace with_time with_words with_screen) o x = run_free e keys _ o (λ script. run_ends (run_ending e s script limit)) x
+  show_free known e s keys limit show.Pictures o x = run_free e keys _ o (λ script. run_ends (run_ending e s script limit)) x
   show_free known e s keys limit (show.Commands text echo) o x = debug_free known.labels e s keys limit (commands_of Chip8 known.names echo limit text) o x
   show_free known e s keys limit show.State o x = run_free e keys _ o (λ script. saved_free limit _ _) x
-  show_free known e s keys limit show.Profile o x = run_free e keys _ o (λ script. tt) x
-  show_free known e s keys limit (show.Summary number) o x = run_free e keys _ o (λ script. tt) x
+  show_free known e s keys limit show.Profile o x = run_free e keys _ o (λ script. run_ends (run_ending e s script limit)) x
+  show_free known e s keys limit (show.Summary number) o x = run_free e keys _ o (λ script. run_ends (run_ending e s script limit)) x
 
   begin_free : (start : asked.Start (List ℕ)) (keys : Option (List ℕ)) (limit : ℕ) (shown : Show (List ℕ)) (o : Outcome)
       → Begins start (λ e s. ShowComes (known_in start) e s keys limit shown) o → Free o
@@ -162,13 +180,18 @@ module _ (given : RomsGiven) where
   link_free message moves number _ (FaultyRoms fault faulty differ) = absurd (links_fine_or_not message moves number fault faulty given.links differ)
   link_free message moves number _ (Links fine s is) = tt
 
-  -- so is what any request comes to
-  comes_free : (loaded : Loaded) (o : Outcome) → HasOutcome loaded o → Free o
+  -- so is what any request comes to; the check of a source is output, whatever its status is
+  abbrev IsFine : Loaded → Outcome → Type 0
+  IsFine (request.Check source name isa) o = NotRefused o
+  IsFine _ o = Free o
+
+  comes_free : (loaded : Loaded) (o : Outcome) → HasOutcome loaded o → IsFine loaded o
   comes_free (request.Run run) o x = begin_free run.start run.keys run.limit run.show o x
   comes_free (request.Program run) o x =
       image_free _ (λ rom ram o x. program_show_free run.memory rom ram run.keys _ run.limit run.show o x) run.memory run.code o x
   comes_free (request.Link message moves number) o x = link_free message moves number o x
   comes_free (request.Asm source isa raw) o x = source_free isa source _ o x
+  comes_free (request.Check source name isa) o x = subst NotRefused (sym x) tt
   comes_free (request.List source isa) o x = source_free isa source _ o x
   comes_free (request.Dis bytes isa address) o x = alone_free _ o tt x
   comes_free (request.Source text) o x = alone_free _ o tt x
@@ -177,9 +200,49 @@ module _ (given : RomsGiven) where
   comes_free (request.Timing source entry p k) o x = timing_free source entry p k o x
   comes_free (request.Safe code certificate edition) o x = game_free edition _ (λ game o x. proof_free edition game certificate o x) code o x
   comes_free (request.Certify code edition) o x = game_free edition _ (λ game o x. search_free edition game o x) code o x
+  comes_free (request.Help verb) o x = alone_free _ o tt x
+  comes_free request.Version o x = alone_free _ o tt x
+
+  fine_never : (loaded : Loaded) (status : Status) (report : List ℕ) → IsFine loaded (Refused status report) → ¬ IsOfRom status
+  fine_never (request.Run run) status report fine = fine
+  fine_never (request.Program run) status report fine = fine
+  fine_never (request.Link message moves number) status report fine = fine
+  fine_never (request.Asm source isa raw) status report fine = fine
+  fine_never (request.Check source name isa) status report fine = absurd fine
+  fine_never (request.List source isa) status report fine = fine
+  fine_never (request.Dis bytes isa address) status report fine = fine
+  fine_never (request.Source text) status report fine = fine
+  fine_never request.Bounds status report fine = fine
+  fine_never (request.Cycles source certificate exits) status report fine = fine
+  fine_never (request.Timing source entry p k) status report fine = fine
+  fine_never (request.Safe code certificate edition) status report fine = fine
+  fine_never (request.Certify code edition) status report fine = fine
+  fine_never (request.Help verb) status report fine = fine
+  fine_never request.Version status report fine = fine
+
+  fine_check : (loaded : Loaded) (pieces : List (List ℕ)) (report : List ℕ) → IsFine loaded (Shown pieces BadSource report) → IsCheck loaded
+  fine_check (request.Run run) pieces report fine = absurd fine
+  fine_check (request.Program run) pieces report fine = absurd fine
+  fine_check (request.Link message moves number) pieces report fine = absurd fine
+  fine_check (request.Asm source isa raw) pieces report fine = absurd fine
+  fine_check (request.Check source name isa) pieces report fine = tt
+  fine_check (request.List source isa) pieces report fine = absurd fine
+  fine_check (request.Dis bytes isa address) pieces report fine = absurd fine
+  fine_check (request.Source text) pieces report fine = absurd fine
+  fine_check request.Bounds pieces report fine = absurd fine
+  fine_check (request.Cycles source certificate exits) pieces report fine = absurd fine
+  fine_check (request.Timing source entry p k) pieces report fine = absurd fine
+  fine_check (request.Safe code certificate edition) pieces report fine = absurd fine
+  fine_check (request.Certify code edition) pieces report fine = absurd fine
+  fine_check (request.Help verb) pieces report fine = absurd fine
+  fine_check request.Version pieces report fine = absurd fine
 
   pub rom_never : (loaded : Loaded) (status : Status) (report : List ℕ) → HasOutcome loaded (Refused status report) → ¬ IsOfRom status
-  rom_never loaded status report x = comes_free loaded (Refused status report) x
+  rom_never loaded status report x = fine_never loaded status report (comes_free loaded (Refused status report) x)
+
+  -- output ends with a fault of a source only where that is checked
+  pub only_checks : (loaded : Loaded) (pieces : List (List ℕ)) (report : List ℕ) → HasOutcome loaded (Shown pieces BadSource report) → IsCheck loaded
+  only_checks loaded pieces report x = fine_check loaded pieces report (comes_free loaded (Shown pieces BadSource report) x)
 
   pub never_of_rom : (status : Status) (call : Call) → Says status call → ¬ IsOfRom status
   never_of_rom BadRomSource call says = rom_never says.loaded BadRomSource says.report says.comes

@@ -165,6 +165,7 @@ module _ (law : EveryRun) (from : FromFile) (frames : EveryFrame) (frames_from :
   shows (request.Program run) pieces status report given comes = tt
   shows (request.Link message moves number) pieces status report given comes = tt
   shows (request.Asm source isa raw) pieces status report given comes = tt
+  shows (request.Check source name isa) pieces status report given comes = tt
   shows (request.List source isa) pieces status report given comes = tt
   shows (request.Dis bytes isa address) pieces status report given comes = tt
   shows (request.Source text) pieces status report given comes = tt
@@ -173,6 +174,8 @@ module _ (law : EveryRun) (from : FromFile) (frames : EveryFrame) (frames_from :
   shows (request.Timing source entry p k) pieces status report given comes = tt
   shows (request.Safe game certificate edition) pieces status report given comes = tt
   shows (request.Certify game edition) pieces status report given comes = tt
+  shows (request.Help verb) pieces status report given comes = tt
+  shows request.Version pieces status report given comes = tt
 
   pub speaks_chip8 : (call : Call) → SpeaksChip8 call
   speaks_chip8 call asked loaded pieces status report asks comes =

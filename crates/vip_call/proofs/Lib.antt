@@ -13,4 +13,5 @@ mod GivenLemmas
 mod SavedLemmas
 mod ResumedLemmas
 mod CertifiedLemmas
+mod CheckedLemmas
 pub mod LinkedLemmas

@@ -281,6 +281,7 @@ module _ (joins : SavedJoins) (commands_behind : GoesOnBehind) where
   shows (request.Program run) pieces status report given comes = tt
   shows (request.Link message moves number) pieces status report given comes = tt
   shows (request.Asm source isa raw) pieces status report given comes = tt
+  shows (request.Check source name isa) pieces status report given comes = tt
   shows (request.List source isa) pieces status report given comes = tt
   shows (request.Dis bytes isa address) pieces status report given comes = tt
   shows (request.Source text) pieces status report given comes = tt
@@ -289,6 +290,8 @@ module _ (joins : SavedJoins) (commands_behind : GoesOnBehind) where
   shows (request.Timing source entry p k) pieces status report given comes = tt
   shows (request.Safe game certificate edition) pieces status report given comes = tt
   shows (request.Certify game edition) pieces status report given comes = tt
+  shows (request.Help verb) pieces status report given comes = tt
+  shows request.Version pieces status report given comes = tt
 
   pub continues_saved : (call : Call) → ContinuesSaved call
   continues_saved call asked loaded pieces status report asks comes =

@@ -1,5 +1,5 @@
 -- The laws of the answers, from what each answer says, and what the steps of a call say together.
-use Rattle.std.proofs.Common.{◌≡◌, ℕ, ◌≤◌, ◌<◌, ◌⊎◌, inl, inr, List, [], ◌∷◌, ◌++◌, Option, Some, None, IsErrAnd, IsSomeAnd, append_assoc, length, refl, sym, ap, subst, ◌∙◌, arith, Result, Ok, Err, Bool}
+use Rattle.std.proofs.Common.{◌≡◌, ℕ, ◌≤◌, ◌<◌, ◌⊎◌, inl, inr, List, [], ◌∷◌, ◌++◌, Option, Some, None, IsErrAnd, IsSomeAnd, append_assoc, length, refl, sym, ap, subst, ◌∙◌, arith, Result, Ok, Err, Bool, true, false}
 use Rattle.std.specs.FinMap.{get}
 use Rattle.machine.specs.Keys.{Event as KeyEvent}
 use Rattle.chip8_lang.specs.State.{memory_size}
@@ -32,7 +32,6 @@ use Rattle.vip_words.specs.Request.{Asked}
 use Rattle.vip_words.specs.Rules.{Word}
 use Rattle.vip_words.specs.declared.request.ProgramShow.{ProgramShow}
 use Rattle.vip_words.specs.declared.request.ProgramShow.TheVariants as program_show
-use Rattle.vip_words.specs.declared.request.Request.{Request}
 use Rattle.vip_words.specs.declared.request.Request.TheVariants as request
 use Rattle.vip_words.specs.declared.request.Show.{Show}
 use Rattle.vip_words.specs.declared.request.Show.TheVariants as show
@@ -77,11 +76,11 @@ use Rattle.vip_tools.specs.Refusal.{image_status, status_of, too_large_status}
 use Rattle.vip_tools.specs.Reported.{IsPut, RefusalAnswers}
 use Rattle.vip_tools.specs.Status.{ended_status}
 use Rattle.vip_tools.specs.declared.ended.Ended.{Ended}
-use Rattle.vip_tools.specs.declared.ended.Ended.TheVariants.{Worked, Ran, Idle, Linked}
+use Rattle.vip_tools.specs.declared.ended.Ended.TheVariants.{Worked, Checked, Ran, Idle, Linked}
 use Rattle.vip_tools.specs.declared.fault.PerformFault.{PerformFault}
 use Rattle.vip_tools.specs.declared.fault.PerformFault.TheVariants as perform
 use Rattle.vip_tools.specs.Report.{cannot_read, ended_report, fault_report, no_certificate, no_dispatch, no_timing, report_of, report_pieces, too_large_report, write_fault}
-use Rattle.vip_call.specs.Top.{Call, call_of, contents_of, Asks, Fills, Oversize, Rejects, GivesUp, WritesExactly, Faulty, Says, IsQuiet, Reading, Lacks, Larger, Whole, with_content, Due, Lacking, TooLarge, Refusing, Showing, RefusesWords, Offers, IsSearch, IsFree, GivesDue, IsOfRom, AreRefused, Completes, FaultyState, Faulted, ReadsContent, ReadsOne, Reads, Faulting}
+use Rattle.vip_call.specs.Top.{Call, call_of, contents_of, Asks, Fills, Oversize, Rejects, GivesUp, WritesExactly, Faulty, Says, IsQuiet, Reading, Lacks, Larger, Whole, with_content, Due, Lacking, TooLarge, Refusing, Showing, RefusesWords, Offers, IsCheck, IsCheckShape, IsEnd, IsSearch, IsSearchShape, IsFree, GivesDue, IsOfRom, AreRefused, Completes, FaultyState, Faulted, ReadsContent, ReadsOne, Reads, Faulting}
 use Rattle.vip_call.proofs.FilledLemmas.{one_loaded}
 use Rattle.vip_tools.specs.declared.refusal.Kind.{Kind}
 use Rattle.vip_tools.specs.declared.refusal.Kind.TheVariants as kind
@@ -431,6 +430,7 @@ agree (request.Program run) o p x y =
     image_agree _ (λ rom ram o p x y. program_shows_agree run.memory rom ram run.keys _ run.limit run.show o p x y) run.memory run.code o p x y
 agree (request.Link message moves number) o p x y = links_agree message moves number o p x y
 agree (request.Asm source isa raw) o p x y = sources_agree isa source _ o p x y
+agree (request.Check source name isa) o p x y = alone_agree _ o p refl x y
 agree (request.List source isa) o p x y = sources_agree isa source _ o p x y
 agree (request.Dis bytes isa address) o p x y = alone_agree _ o p refl x y
 agree (request.Source text) o p x y = alone_agree _ o p refl x y
@@ -439,6 +439,8 @@ agree (request.Cycles source certificate exits) o p x y = cycles_agree source ce
 agree (request.Timing source entry a k) o p x y = timings_agree source entry a k o p x y
 agree (request.Safe code certificate edition) o p x y = game_agree edition _ (λ game o p x y. proofs_agree edition game certificate o p x y) code o p x y
 agree (request.Certify code edition) o p x y = game_agree edition _ (λ game o p x y. searches_agree edition game o p x y) code o p x y
+agree (request.Help verb) o p x y = alone_agree _ o p refl x y
+agree request.Version o p x y = alone_agree _ o p refl x y
 
 -- only a search is given up
 given_up : (loaded : Loaded) (report : List ℕ) → HasOutcome loaded (GivenUp report) → IsSearch loaded
@@ -447,6 +449,7 @@ given_up (request.Program run) report x =
     absurd (no_image _ run.memory run.code report (λ rom ram x. no_program_show run.memory rom ram run.keys _ run.limit run.show report x) x)
 given_up (request.Link message moves number) report x = absurd (no_link message moves number report x)
 given_up (request.Asm source isa raw) report x = absurd (no_source isa source _ report x)
+given_up (request.Check source name isa) report x = absurd (cc)
 given_up (request.List source isa) report x = absurd (no_source isa source _ report x)
 given_up (request.Dis bytes isa address) report x = absurd (cc)
 given_up (request.Source text) report x = absurd (cc)
@@ -456,24 +459,8 @@ given_up (request.Timing source entry p k) report x = tt
 given_up (request.Safe code certificate edition) report x =
     absurd (no_game edition _ code report (λ game x. no_proof edition game certificate report x) x)
 given_up (request.Certify game edition) report x = tt
-
--- whether it is one, its shape says
-shape_says : {N : Type 0} (r : Request N) → IsSearch (shape_of r) ≡ IsSearch r
-shape_says (request.Run run) = refl
-shape_says (request.Program run) = refl
-shape_says (request.Link message moves number) = refl
-shape_says (request.Asm source isa raw) = refl
-shape_says (request.List source isa) = refl
-shape_says (request.Dis bytes isa address) = refl
-shape_says (request.Source text) = refl
-shape_says request.Bounds = refl
-shape_says (request.Cycles source certificate exits) = refl
-shape_says (request.Timing source entry p k) = refl
-shape_says (request.Safe game certificate edition) = refl
-shape_says (request.Certify game edition) = refl
-
-same_search : (asked : Asked) (loaded : Loaded) → shape_of asked ≡ shape_of loaded → IsSearch loaded → IsSearch asked
-same_search asked loaded shape search = subst (λ X. X) (sym (shape_says loaded) ∙ ap IsSearch (sym shape) ∙ shape_says asked) search
+given_up (request.Help verb) report x = absurd (cc)
+given_up request.Version report x = absurd (cc)
 
 -- ---- one reading
 
@@ -571,7 +558,10 @@ refuses_words GameTooLarge call says none = elim says [
 ]
 refuses_words ScriptTooLarge call says none = absurd (nothing_asked call.words says.asked says.words none)
 refuses_words BadScript call says none = absurd (nothing_asked call.words says.asked says.asks.words none)
-refuses_words BadSource call says none = absurd (nothing_asked call.words says.asked says.asks.words none)
+refuses_words BadSource call says none = elim says [
+  | inl shows ↦ absurd (nothing_asked call.words shows.asked shows.asks.words none)
+  | inr gives ↦ absurd (nothing_asked call.words gives.asked gives.asks.words none)
+]
 refuses_words BadRomSource call says none = absurd (nothing_asked call.words says.asked says.asks.words none)
 refuses_words RomDiffers call says none = absurd (nothing_asked call.words says.asked says.asks.words none)
 refuses_words WriteFault call says none = absurd (nothing_asked call.words says.asked says.asks.words none)
@@ -615,7 +605,7 @@ module _ (call : Call) (asked : Asked) (files : FileMap) (offers : Offers call a
 
   -- what was given up is a search
   searches : GivesUp call → IsSearch asked
-  searches says = same_search asked says.loaded (fills says.asked says.loaded says.asks) (given_up says.loaded says.report says.comes)
+  searches says = subst IsSearchShape (sym (fills says.asked says.loaded says.asks)) (given_up says.loaded says.report says.comes)
 
   -- what was refused at a file
   refused_at :
@@ -750,7 +740,10 @@ module _ (call : Call) (asked : Asked) (files : FileMap) (offers : Offers call a
   ]
   due_is ScriptTooLarge says r read due given = oversize_due r read due given ScriptTooLarge says
   due_is BadScript says r read due given = rejects_due r read due given BadScript says
-  due_is BadSource says r read due given = rejects_due r read due given BadSource says
+  due_is BadSource says r read due given = elim says [
+    | inl shows ↦ shows_due r read due given BadSource shows
+    | inr gives ↦ rejects_due r read due given BadSource gives
+  ]
   due_is BadRomSource says r read due given = rejects_due r read due given BadRomSource says
   due_is RomDiffers says r read due given = rejects_due r read due given RomDiffers says
   due_is WriteFault says r read due given = absurd (faulty_due r read due given says)
@@ -773,7 +766,8 @@ module _ (call : Call) (asked : Asked) (files : FileMap) (offers : Offers call a
   due_is StrayByte says r read due given = rejects_due r read due given StrayByte says
 
   module _ (contents : List (List ℕ)) (there : Reads files (needed asked) (Whole contents)) (accepted : ¬ AreRefused asked contents)
-      (free : (loaded : Loaded) (status : Status) (report : List ℕ) → HasOutcome loaded (Refused status report) → ¬ IsOfRom status) where
+      (free : (loaded : Loaded) (status : Status) (report : List ℕ) → HasOutcome loaded (Refused status report) → ¬ IsOfRom status)
+      (checks : (loaded : Loaded) (pieces : List (List ℕ)) (report : List ℕ) → HasOutcome loaded (Shown pieces BadSource report) → IsCheck loaded) where
     not_rejected : (status : Status) → Rejects status call → ⊥
     not_rejected status says =
         let read = reads_once files (needed asked) _ _ (whole says.asked says.loaded says.asks) there in
@@ -790,11 +784,15 @@ module _ (call : Call) (asked : Asked) (files : FileMap) (offers : Offers call a
     not_larger : (status : Status) → Oversize status call → ⊥
     not_larger status says = let large = reads_once files (needed asked) _ _ (larger_here status says) there in cc
 
+    checks_asked : WritesExactly BadSource call → IsCheck asked
+    checks_asked shows =
+        subst IsCheckShape (sym (fills shows.asked shows.loaded shows.asks)) (checks shows.loaded shows.pieces shows.report shows.comes)
+
     ends :
         (status : Status) → Says status call → IsQuiet call.out.faults call.out'.faults → IsQuiet call.err.faults call.err'.faults
-        → (status ≡ Done) ⊎ (status ≡ Stopped) ⊎ IsFree asked status
-    ends Done says out err = inl refl
-    ends Stopped says out err = inr (inl refl)
+        → IsEnd asked status ⊎ IsFree asked status
+    ends Done says out err = inl tt
+    ends Stopped says out err = inl tt
     ends Usage says out err = absurd (nothing_asked call.words asked offers.words says.words)
     ends ReadFault says out err = let none = reads_once files (needed asked) _ _ (unread_here says) there in absurd (cc)
     ends GameTooLarge says out err = elim says [
@@ -803,7 +801,10 @@ module _ (call : Call) (asked : Asked) (files : FileMap) (offers : Offers call a
     ]
     ends ScriptTooLarge says out err = absurd (not_larger ScriptTooLarge says)
     ends BadScript says out err = absurd (not_rejected BadScript says)
-    ends BadSource says out err = absurd (not_rejected BadSource says)
+    ends BadSource says out err = elim says [
+      | inl shows ↦ inl (checks_asked shows)
+      | inr gives ↦ absurd (not_rejected BadSource gives)
+    ]
     ends BadRomSource says out err = absurd (not_rejected BadRomSource says)
     ends RomDiffers says out err = absurd (not_rejected RomDiffers says)
     ends WriteFault says out err =
@@ -811,7 +812,7 @@ module _ (call : Call) (asked : Asked) (files : FileMap) (offers : Offers call a
           | inl fails ↦ absurd (quiet _ _ fails.out.faults out)
           | inr fails ↦ absurd (quiet _ _ fails.err.faults err)
         ]
-    ends NoMemory says out err = inr (inr (inl refl))
+    ends NoMemory says out err = inr (inl refl)
     ends BadCommand says out err = absurd (not_rejected BadCommand says)
     ends SourceTooLarge says out err = absurd (not_larger SourceTooLarge says)
     ends CommandsTooLarge says out err = absurd (not_larger CommandsTooLarge says)
@@ -824,7 +825,7 @@ module _ (call : Call) (asked : Asked) (files : FileMap) (offers : Offers call a
     ends MessageTooLarge says out err = absurd (not_larger MessageTooLarge says)
     ends BadProof says out err = absurd (not_rejected BadProof says)
     ends CertificateTooLarge says out err = absurd (not_larger CertificateTooLarge says)
-    ends NoCertificate says out err = inr (inr (inr (refl, searches says)))
+    ends NoCertificate says out err = inr (inr (refl, searches says))
     ends RomTooLarge says out err = absurd (not_larger RomTooLarge says)
     ends RamTooLarge says out err = absurd (not_larger RamTooLarge says)
     ends StrayByte says out err = absurd (not_rejected StrayByte says)
@@ -834,9 +835,10 @@ gives_due status call says asked files r due offers read given = due_is call ask
 
 pub completes :
     ((loaded : Loaded) (status : Status) (report : List ℕ) → HasOutcome loaded (Refused status report) → ¬ IsOfRom status)
+    → ((loaded : Loaded) (pieces : List (List ℕ)) (report : List ℕ) → HasOutcome loaded (Shown pieces BadSource report) → IsCheck loaded)
     → (status : Status) (call : Call) → Says status call → Completes status call
-completes free status call says asked files contents offers there accepted out err =
-    ends call asked files offers contents there accepted free status says out err
+completes free checks status call says asked files contents offers there accepted out err =
+    ends call asked files offers contents there accepted free checks status says out err
 
 -- ---- what performing answers, by its work and its report
 
@@ -982,7 +984,7 @@ module _ (words : List (List ℕ)) (files files' : FilesMeaning) (out err err' :
   refused_with (refusal.TooLarge kind.Ram) given report = oversize kind.Ram given report
   refused_with (refusal.Script line cause) given report = rejected (refusal.Script line cause) given report
   refused_with (refusal.Command line cause) given report = rejected (refusal.Command line cause) given report
-  refused_with (refusal.Source line cause) given report = rejected (refusal.Source line cause) given report
+  refused_with (refusal.Source line cause) given report = inr (rejected (refusal.Source line cause) given report)
   refused_with (refusal.Misfit (misfit.Stray address)) given report = rejected (refusal.Misfit (misfit.Stray address)) given report
   refused_with (refusal.Misfit (misfit.Game edition)) given report = inr (rejected (refusal.Misfit (misfit.Game edition)) given report)
   refused_with (refusal.State fault) given report = inr (record {
@@ -1090,6 +1092,8 @@ module _
 
   says_ended : (ended : Ended) → WritesExactly (ended_status ended) performed_call → Says (ended_status ended) performed_call
   says_ended Worked says = says
+  says_ended (Checked true) says = inl says
+  says_ended (Checked false) says = says
   says_ended (Ran limit end.AtLimit) says = says
   says_ended (Ran limit (end.AtStop stop)) says = says
   says_ended (Idle address) says = says

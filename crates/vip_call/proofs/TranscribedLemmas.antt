@@ -296,6 +296,7 @@ module _ (every : EveryRun) (from : FromAccepted) (saves : SavesShown) (law : Ru
   transcribes (request.Program run) pieces status report given comes = tt
   transcribes (request.Link message moves number) pieces status report given comes = tt
   transcribes (request.Asm source isa raw) pieces status report given comes = tt
+  transcribes (request.Check source name isa) pieces status report given comes = tt
   transcribes (request.List source isa) pieces status report given comes = tt
   transcribes (request.Dis bytes isa address) pieces status report given comes = tt
   transcribes (request.Source text) pieces status report given comes = tt
@@ -304,6 +305,8 @@ module _ (every : EveryRun) (from : FromAccepted) (saves : SavesShown) (law : Ru
   transcribes (request.Timing source entry p k) pieces status report given comes = tt
   transcribes (request.Safe game certificate edition) pieces status report given comes = tt
   transcribes (request.Certify game edition) pieces status report given comes = tt
+  transcribes (request.Help verb) pieces status report given comes = tt
+  transcribes request.Version pieces status report given comes = tt
 
   -- ---- a call
 

@@ -1,14 +1,18 @@
 -- What each answer of the program says.
-use Rattle.std.specs.Prelude.{◌≡◌, ℕ, ◌+◌, ◌^◌, ◌<◌, ◌≤◌, ◌⊎◌, List, [], ◌∷◌, Option, Some, None, Result, length}
+use Rattle.std.specs.Prelude.{◌≡◌, ℕ, ◌+◌, ◌^◌, ◌<◌, ◌≤◌, ◌⊎◌, Bool, List, [], ◌∷◌, Option, Some, None, Result, length}
 use Rattle.std.specs.FinMap.{get}
 use Rattle.vip_outside.specs.Files.{FileMap, FilesMeaning}
 use Rattle.vip_outside.specs.Sink.{SinkMeaning}
 use Rattle.vip_outside.specs.Pieces.{PutsAll, FailsWithin}
+use Rattle.asm_lex.specs.declared.shape.Isa.{Isa}
+use Rattle.asm_core.specs.Sources.{source_lines}
+use Rattle.asm_core.specs.Told.{IsFirstTold}
+use Rattle.asm_core.specs.declared.findings.Finding.{Finding}
 use Rattle.vip_words.specs.Asked.{asked_by}
 use Rattle.vip_words.specs.Request.{Asked}
 use Rattle.vip_words.specs.Rules.{Word}
 use Rattle.vip_words.specs.declared.request.Request.{Request}
-use Rattle.vip_words.specs.declared.request.Request.TheVariants.{Certify, Link, Timing}
+use Rattle.vip_words.specs.declared.request.Request.TheVariants.{Asm, Certify, Check, Link, Timing}
 use Rattle.vip_tools.specs.declared.refusal.Kind.{Kind}
 use Rattle.vip_tools.specs.declared.refusal.Refusal.{Refusal}
 use Rattle.vip_tools.specs.declared.status.Status.{Status}
@@ -25,7 +29,7 @@ use Rattle.vip_verbs.specs.declared.prepared.Prepared.{Prepared}
 use Rattle.vip_verbs.specs.Outcome.{HasOutcome}
 use Rattle.vip_tools.specs.Outcome.Outcome.{Refused, Shown, GivenUp}
 use Rattle.vip_tools.specs.Refusal.{too_large_status}
-use Rattle.vip_tools.specs.Report.{usage, bad_state, cannot_read, too_large_report, write_fault, no_memory, report_pieces}
+use Rattle.vip_tools.specs.Report.{usage, bad_source, bad_state, cannot_read, too_large_report, write_fault, no_memory, report_pieces}
 use Rattle.vip_tools.specs.Reported.{IsPut}
 
 -- one call: its words, and what the outside meant before it and after it
@@ -182,7 +186,7 @@ Says ReadFault call = Unread call
 Says GameTooLarge call = Oversize GameTooLarge call ⊎ Rejects GameTooLarge call
 Says ScriptTooLarge call = Oversize ScriptTooLarge call
 Says BadScript call = Rejects BadScript call
-Says BadSource call = Rejects BadSource call
+Says BadSource call = WritesExactly BadSource call ⊎ Rejects BadSource call
 Says BadRomSource call = Rejects BadRomSource call
 Says RomDiffers call = Rejects RomDiffers call
 Says WriteFault call = Faulty call
@@ -259,10 +263,13 @@ pub record Offers (call : Call) (asked : Asked) (files : FileMap) : Type 0 where
   pub quiet : IsQuiet call.files.faults call.files'.faults
 
 -- a search is asked for, which may find nothing: what it then says is true of the game or of the source
+abbrev pub IsSearchShape : Request (Unit {0}) → Type 0
+IsSearchShape (Timing source entry p k) = Unit {0}
+IsSearchShape (Certify game edition) = Unit {0}
+IsSearchShape _ = ⊥
+
 abbrev pub IsSearch : {N : Type 0} → Request N → Type 0
-IsSearch (Timing source entry p k) = Unit {0}
-IsSearch (Certify game edition) = Unit {0}
-IsSearch _ = ⊥
+IsSearch request = IsSearchShape (shape_of request)
 
 -- the answers that may come in place of a due one: want of memory, and that a search found nothing
 abbrev pub IsFree : Asked → Status → Type 0
@@ -290,8 +297,23 @@ AreRefused asked contents =
     (loaded : Loaded) × Fills asked contents loaded × (status : Status) × (report : List ℕ) × HasOutcome loaded (Refused status report)
     × ¬ IsOfRom status
 
--- Where the files are there with their sizes, a saved state is accepted, their contents aren't refused and no fault is counted, the answer is Done or
--- Stopped, or a free one.
+-- a source is asked to be checked
+abbrev pub IsCheckShape : Request (Unit {0}) → Type 0
+IsCheckShape (Check source name isa) = Unit {0}
+IsCheckShape _ = ⊥
+
+abbrev pub IsCheck : {N : Type 0} → Request N → Type 0
+IsCheck request = IsCheckShape (shape_of request)
+
+-- how the work ends that is asked for: with a fault of a source only where that is checked
+abbrev pub IsEnd : Asked → Status → Type 0
+IsEnd asked Done = Unit {0}
+IsEnd asked Stopped = Unit {0}
+IsEnd asked BadSource = IsCheck asked
+IsEnd asked _ = ⊥
+
+-- Where the files are there with their sizes, a saved state is accepted, their contents aren't refused and no fault is counted, the answer is that of an end,
+-- or a free one.
 abbrev pub Completes : Status → Call → Type 0
 Completes status call =
     (asked : Asked) (files : FileMap) (contents : List (List ℕ))
@@ -300,7 +322,7 @@ Completes status call =
     → ¬ AreRefused asked contents
     → IsQuiet call.out.faults call.out'.faults
     → IsQuiet call.err.faults call.err'.faults
-    → (status ≡ Done) ⊎ (status ≡ Stopped) ⊎ IsFree asked status
+    → IsEnd asked status ⊎ IsFree asked status
 
 -- ---- what the output says of the language
 
@@ -351,6 +373,23 @@ ContinuesSaved call =
     → HasOutcome loaded (Shown pieces status report)
     → Continues loaded pieces
 
+-- ---- what is told of a source that is checked
+
+-- Where a source is checked, `asm` of it agrees, of its bytes and of their dump: it isn't refused exactly where no fault is told; and it is refused for the
+-- first fault that is told, by its line and its cause.
+pub record AgreesWithAsm (source : List ℕ) (isa : Isa) (status : Status) : Type 0 where
+  pub clean : status ≡ Done → (raw : Bool) (refused : Status) (report : List ℕ) → HasOutcome (Asm source isa raw) (Refused refused report) → ⊥
+  pub faulty : status ≡ BadSource → (raw : Bool) (pieces : List (List ℕ)) (done : Status) (report : List ℕ) → HasOutcome (Asm source isa raw) (Shown pieces done report) → ⊥
+  pub first : (i : ℕ) (finding : Finding) → IsFirstTold isa (source_lines source) i finding
+      → (raw : Bool) → HasOutcome (Asm source isa raw) (Refused BadSource (bad_source (i + 1) finding.cause))
+
+abbrev pub ChecksSources : Call → Type 0
+ChecksSources call =
+    (asked : Asked) (source name : List ℕ) (isa : Isa) (pieces : List (List ℕ)) (status : Status) (report : List ℕ)
+    → Asks call asked (Check source name isa)
+    → HasOutcome (Check source name isa) (Shown pieces status report)
+    → AgreesWithAsm source isa status
+
 -- ---- what the output says of two boards that are joined
 
 -- Where `link` comes to the output of two boards, what arrived is the beginning of the message, and all of it after enough moves.
@@ -365,7 +404,7 @@ BringsMessages call =
 
 -- What the program promises of each call. The body is held to `says`: what its answer tells of words, files, output and report. What follows for a
 -- reader stands beside it. `words` and `due` follow from `says` alone, `complete` and `rom` as each source gives its ROM, `chip8` by the law of every run,
--- `timed` by that of its time. `language`, `certified`, `saved` and `linked` are laws of what the words and the contents come to, and hold of any body.
+-- `timed` by that of its time. `language`, `certified`, `saved`, `checked` and `linked` are laws of what words and contents come to, and hold of any body.
 pub record Promises (status : Status) (call : Call) : Type 0 where
   -- what the answer says: exact output for Done and Stopped, of `certify` some certificate that is accepted, each refusal's cause, and which reads were made
   pub says : Says status call
@@ -380,6 +419,8 @@ pub record Promises (status : Status) (call : Call) : Type 0 where
   pub certified : ProvesCertified call
   -- a saved state is that of the run's last dispatch point, and what goes on from it is the rest of the run
   pub saved : ContinuesSaved call
+  -- where a source is checked, what is told agrees with what `asm` makes of it
+  pub checked : ChecksSources call
   -- where two boards are joined, what arrived is the beginning of the message, and all of it after enough moves
   pub linked : BringsMessages call
   -- when each answer is due, that there is no other, and that none is that the ROM isn't what its source gives

@@ -12,7 +12,7 @@ use Rattle.game_check.specs.Proof.{proof_of}
 use Rattle.game_check.specs.declared.fault.ProofFault.TheVariants as proof
 use Rattle.vip_tools.specs.declared.refusal.Refusal.{Refusal}
 use Rattle.vip_tools.specs.declared.refusal.Refusal.TheVariants.{Certificate, Proof, NoTiming, NoMemory}
-use Rattle.vip_tools.specs.Certificates.{Assembled, Bytes, entry_in, exits_asked, made_byte, rom_in}
+use Rattle.vip_tools.specs.Certificates.{Assembled, entry_in, exits_asked, rom_in}
 use Rattle.vip_tools.specs.Opening.{SourceAnswers}
 use Rattle.vip_tools.specs.declared.refusal.NoTiming.TheVariants.{Undefined}
 use Rattle.vip_words.specs.declared.request.Entry.{Entry}

@@ -22,7 +22,6 @@ use Rattle.vip_tools.specs.Outcome.Outcome.{Refused}
 use Rattle.vip_tools.specs.Report.{bad_source, misfit_report}
 use Rattle.vip_tools.specs.declared.code.Image.{Image}
 use Rattle.vip_tools.specs.declared.code.Marks.{Marks}
-use Rattle.vip_tools.specs.declared.refusal.Misfit.{Misfit}
 use Rattle.vip_tools.specs.declared.refusal.Misfit.TheVariants.{Game, Stray}
 use Rattle.vip_tools.specs.declared.refusal.Refusal.{Refusal}
 use Rattle.vip_tools.specs.declared.refusal.Refusal.TheVariants as refusal

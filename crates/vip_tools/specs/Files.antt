@@ -130,6 +130,7 @@ module _ {N : Type 0} where
   needed (request.Program run) = program_code run.memory run.code ∷ (program_show_files run.show ++ script_files run.keys)
   needed (request.Link message moves number) = message_file message ∷ []
   needed (request.Asm source isa raw) = source_file source ∷ []
+  needed (request.Check source name isa) = source_file source ∷ []
   needed (request.List source isa) = source_file source ∷ []
   needed (request.Dis bytes isa address) = bytes_file isa address bytes ∷ []
   needed (request.Source text) = []
@@ -138,6 +139,8 @@ module _ {N : Type 0} where
   needed (request.Timing source entry p k) = source_file source ∷ []
   needed (request.Safe game certificate edition) = game_code edition game ∷ certificate_file certificate ∷ []
   needed (request.Certify game edition) = game_code edition game ∷ []
+  needed (request.Help verb) = []
+  needed request.Version = []
 
   abbrev pub files_of : List (Needed N) → List N
   files_of ns = map (λ n. n.file) ns

@@ -11,3 +11,4 @@ pub mod Status
 pub mod Refusal
 pub mod Report
 pub mod Reported
+pub mod Help

@@ -12,10 +12,12 @@ use Rattle.asm_listing.specs.Dump.{dump_text}
 use Rattle.asm_listing.specs.Raw.{IsRaw}
 use Rattle.asm_listing.specs.Listing.{IsListing}
 use Rattle.asm_listing.specs.Disassembly.{disassembly}
+use Rattle.asm_listing.specs.Told.{has_told, report_of}
 use Rattle.vip_text.specs.Bounds.{bounds_table}
 use Rattle.vip_keypad.specs.KeyScript.{script_of}
 use Rattle.vip_keypad.specs.declared.script.ScriptFault.{ScriptFault}
 use Rattle.vip_tools.specs.Report.{bad_source}
+use Rattle.vip_tools.specs.Status.{checked_status}
 use Rattle.vip_tools.specs.declared.status.Status.{Status}
 use Rattle.vip_tools.specs.declared.status.Status.TheVariants.{Done, BadSource}
 
@@ -52,6 +54,11 @@ AsmComes isa raw source = SourceComes isa source (IsBytes isa raw)
 
 abbrev pub ListComes : Isa → List ℕ → Outcome → Type 0
 ListComes isa source = SourceComes isa source (λ made text. IsListing isa (source_lines source) text)
+
+-- every fault that is told of it, by the name of its file: the status says whether there is one
+abbrev pub CheckComes : Isa → List ℕ → List ℕ → Outcome → Type 0
+CheckComes isa name source o =
+    o ≡ Shown (report_of isa name (source_lines source) ∷ []) (checked_status (has_told isa (source_lines source))) []
 
 -- ---- bytes, whose first one lies at this address
 

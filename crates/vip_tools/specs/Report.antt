@@ -26,7 +26,7 @@ use Rattle.vip_text.specs.Endings.{Ending, ending_in}
 use Rattle.vip_text.specs.Endings.Ending.{AtLimit, AtStop}
 use Rattle.vip_tools.specs.Files.{most_message, most_text, ram_size, rom_size}
 use Rattle.vip_tools.specs.declared.ended.Ended.{Ended}
-use Rattle.vip_tools.specs.declared.ended.Ended.TheVariants.{Worked, Ran, Idle, Linked}
+use Rattle.vip_tools.specs.declared.ended.Ended.TheVariants.{Worked, Checked, Ran, Idle, Linked}
 use Rattle.vip_tools.specs.declared.fault.PerformFault.{PerformFault}
 use Rattle.vip_tools.specs.declared.fault.PerformFault.TheVariants.{NoDispatch, WriteFault}
 use Rattle.vip_tools.specs.declared.refusal.Kind.{Kind}
@@ -54,6 +54,7 @@ linked_report sent received = codes "linked sent " ++ (decimal sent ++ (codes " 
 -- a verb whose text alone was written has no report
 abbrev pub ended_report : Ended → List ℕ
 ended_report Worked = []
+ended_report (Checked faulty) = []
 ended_report (Ran limit end) = end_report limit (ending_in end)
 ended_report (Idle address) = idle_line address
 ended_report (Linked sent received) = linked_report sent received

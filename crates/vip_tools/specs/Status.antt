@@ -1,9 +1,9 @@
 -- The numbers of the statuses, and the status of each end, and of what comes to none.
-use Rattle.std.specs.Prelude.{ℕ}
+use Rattle.std.specs.Prelude.{ℕ, Bool, if◌then◌else◌}
 use Rattle.vip_text.specs.Endings.{Ending, ending_in}
 use Rattle.vip_text.specs.Endings.Ending.{AtLimit, AtStop}
 use Rattle.vip_tools.specs.declared.ended.Ended.{Ended}
-use Rattle.vip_tools.specs.declared.ended.Ended.TheVariants.{Worked, Ran, Idle, Linked}
+use Rattle.vip_tools.specs.declared.ended.Ended.TheVariants.{Worked, Checked, Ran, Idle, Linked}
 use Rattle.vip_tools.specs.declared.fault.PerformFault.{PerformFault}
 use Rattle.vip_tools.specs.declared.fault.PerformFault.TheVariants as fault
 use Rattle.vip_tools.specs.declared.status.Status.{Status}
@@ -41,8 +41,13 @@ abbrev pub end_status : Ending → Status
 end_status AtLimit = Done
 end_status (AtStop stop pc opcode) = Stopped
 
+-- of a source that was checked, with a fault or without one
+abbrev pub checked_status : Bool → Status
+checked_status faulty = if faulty then BadSource else Done
+
 abbrev pub ended_status : Ended → Status
 ended_status Worked = Done
+ended_status (Checked faulty) = checked_status faulty
 ended_status (Ran limit end) = end_status (ending_in end)
 ended_status (Idle address) = Done
 ended_status (Linked sent received) = Done

@@ -11,6 +11,8 @@ use vip_text::RunEnd;
 pub enum Ended {
     /// Its text was written.
     Worked,
+    /// What was told of a source was written: whether it has a fault.
+    Checked { faulty: bool },
     /// It ran for so many machine cycles at most.
     Ran(u64, RunEnd),
     /// A program's processor idles at this address, and no signal can wake it.
@@ -25,7 +27,11 @@ impl Ended {
         ensures { result ≡ ended_status self.now }
     {
         match self {
-            Ended::Worked | Ended::Idle(_) | Ended::Linked { .. } => Status::Done,
+            Ended::Checked { faulty: true } => Status::BadSource,
+            Ended::Checked { faulty: false }
+            | Ended::Worked
+            | Ended::Idle(_)
+            | Ended::Linked { .. } => Status::Done,
             Ended::Ran(_, RunEnd::AtLimit) => Status::Done,
             Ended::Ran(_, RunEnd::AtStop(_)) => Status::Stopped,
         }

@@ -1,6 +1,6 @@
 //! What all verbs share, and the work of those that run no board: the files that a request names, the key script and the commands in them; the
-//! statuses, the refusals and the line of report of each; from a source or bytes the dump, the listing and the disassembly, the table of bounds,
-//! and certificates checked and found. The demonstration games are here too, which no file holds.
+//! statuses, the refusals and the line of report of each; from a source or bytes the dump, every fault, the listing and the disassembly, the table of
+//! bounds, and certificates checked and found; the pages of the verbs, and the version. The demonstration games are here too, which no file holds.
 //!
 //! The crate stands on the words and the commands of `vip_words`, on the key scripts of `vip_keypad`, on the judging of saved states and the texts of
 //! `vip_text`, on the assembler and its listings (`asm_core`, `asm_listing`), on the comparison of a source with a ROM (`chip8_source`), on
@@ -22,6 +22,7 @@ mod fault;
 mod files;
 mod loading;
 mod obstacle;
+mod pages;
 mod reading;
 mod refusal;
 mod report;
@@ -35,8 +36,9 @@ pub use ended::Ended;
 pub use fault::PerformFault;
 pub use files::game_kind;
 pub use loading::load;
+pub use pages::{help, version};
 pub use reading::{read_debugging, read_keys};
 pub use refusal::{Kind, Misfit, NoTiming, Refusal};
 pub use report::{put_end, put_fault, put_refusal};
 pub use status::Status;
-pub use tools::{asm, bounds, dis, list, source};
+pub use tools::{asm, bounds, check, dis, list, source};

@@ -201,6 +201,10 @@ pub fn load<'a, F: Files>(
             let source = open_file(alloc, files, &source_file(source))?;
             Ok(Request::Asm { source, isa, raw })
         }
+        Request::Check { source, name, isa } => {
+            let source = open_file(alloc, files, &source_file(source))?;
+            Ok(Request::Check { source, name, isa })
+        }
         Request::List { source, isa } => {
             let source = open_file(alloc, files, &source_file(source))?;
             Ok(Request::List { source, isa })
@@ -274,5 +278,7 @@ pub fn load<'a, F: Files>(
                 edition,
             })
         }
+        Request::Help(verb) => Ok(Request::Help(verb)),
+        Request::Version => Ok(Request::Version),
     }
 }

@@ -26,7 +26,7 @@ use vip_outside::{Failed, Sink};
 use vip_text::{RunEnd, StateFault, idle_text, stop_text};
 
 /// A line of these parts.
-fn line(alloc: Global, parts: &[&[u8]]) -> Result<Vec<u8>, AllocError>
+pub(crate) fn line(alloc: Global, parts: &[&[u8]]) -> Result<Vec<u8>, AllocError>
     ensures { IfOk result (λ line. line.items ≡ flat_map (λ part. part.now) parts.now) }
 {
     let mut line = Vec::new(alloc);
@@ -266,7 +266,7 @@ fn end_text(ended: &Ended, into: &mut Buffer)
     ensures { into.new.items ≡ ended_report ended.now }
 {
     match ended {
-        Ended::Worked => {}
+        Ended::Worked | Ended::Checked { .. } => {}
         Ended::Ran(limit, RunEnd::AtLimit) => done_text(*limit, into),
         Ended::Ran(_, RunEnd::AtStop(stop)) => stop_text(stop, into),
         Ended::Idle(address) => idle_text(*address, into),

@@ -5,12 +5,12 @@ ghost use Rattle.asm_listing.specs.Disassembly.{HasPlace};
 ghost use Rattle.vip_tools.specs.Files.{most_text};
 ghost use Rattle.vip_tools.specs.Opening.{SourceAnswers};
 ghost use Rattle.vip_tools.specs.Outcome.{AsmComes, BoundsComes, DisComes, IsBytes, ListComes, TextComes};
-ghost use Rattle.vip_tools.specs.Work.{TextAnswers};
+ghost use Rattle.vip_tools.specs.Work.{CheckAnswers, TextAnswers};
 
 use crate::Refusal;
 use asm_core::{AsmFault, Assembly, assemble};
 use asm_lex::Isa;
-use asm_listing::{disassemble, dump, listing, raw};
+use asm_listing::{CheckText, disassemble, dump, listing, raw, report};
 use chip8_lang::Edition;
 use std::alloc::{AllocError, Global};
 use vip_byte::Buffer;
@@ -51,6 +51,22 @@ pub fn asm<'a>(alloc: Global, isa: Isa, source: &[u8], raw: bool) -> Result<Vec<
     let made = make_assembly(alloc, isa, source)?;
     let text = bytes(alloc, isa, &made, raw)?;
     Ok(text)
+}
+
+/// Tells every fault of a source of at most 1,048,576 bytes, by the name of its file.
+pub fn check<'a>(
+    alloc: Global,
+    isa: Isa,
+    name: &[u8],
+    source: &[u8],
+) -> Result<CheckText, Refusal<'a>>
+    requires { length source.now ≤ most_text }
+    ensures { CheckAnswers isa name.now source.now result }
+{
+    match report(alloc, isa, name, source) {
+        Ok(told) => Ok(told),
+        Err(_) => Err(Refusal::NoMemory),
+    }
 }
 
 /// Assembles a source of at most 1,048,576 bytes: its listing.

@@ -46,13 +46,15 @@ use Rattle.asm_lex.specs.declared.shape.Isa.TheVariants.{Chip8 as Chip8Words}
 use Rattle.vip_words.specs.declared.request.Code.{Code}
 use Rattle.vip_tools.specs.declared.code.Marks.{Marks}
 use Rattle.vip_tools.specs.Code.{Known, MarksAnswer}
-use Rattle.vip_tools.specs.Outcome.{Outcome, script_in}
+use Rattle.vip_tools.specs.Outcome.{CheckComes, Outcome, script_in}
 use Rattle.vip_tools.specs.Outcome.Outcome.{Shown}
-use Rattle.vip_tools.specs.Work.{RefusedBy, TextAnswers}
+use Rattle.vip_tools.specs.Work.{CheckAnswers, RefusedBy, TextAnswers}
+use Rattle.asm_lex.specs.declared.shape.Isa.{Isa}
+use Rattle.asm_listing.specs.declared.report_text.CheckText.{CheckText}
 use Rattle.vip_verbs.specs.Opening.{BeginAnswers, BeginsAt, IsBeginning as IsBegin, IsNoBeginning, IsShow, IsWhole, MarksAtStart, RomAnswers, ShowReady, StartAnswers, Starts}
 use Rattle.vip_verbs.specs.Outcome.{Accepts, Begins, HasOutcome, RunTo, ShowComes, debug_ending, debugged_to, limit_from, ran, saved_as, stopped_by}
 use Rattle.vip_verbs.specs.Outcome.RunTo.{FaultyScript, FaultyRom, Runs}
-use Rattle.vip_verbs.specs.Prepared.{DebugEnds, IsBeginning, OpenAnswers, PerformAnswers, PrepareAnswers, ended_by, run_ended, save_ended, shown_as, texted}
+use Rattle.vip_verbs.specs.Prepared.{DebugEnds, IsBeginning, OpenAnswers, PerformAnswers, PrepareAnswers, ended_by, checked, run_ended, save_ended, shown_as, texted}
 use Rattle.vip_verbs.specs.declared.opening.Beginning.{Beginning}
 use Rattle.vip_verbs.specs.declared.opening.Beginning.TheVariants as beginning
 use Rattle.vip_verbs.specs.declared.prepared.Prepared.{Prepared}
@@ -376,6 +378,11 @@ module _ (HasOutcome : Outcome → Type 0) where
   text-answers (Ok text) answers = (tt, answers)
   text-answers (Err refusal) answers = answers
 
+pub checked-answers : (isa : Isa) (name source : List ℕ) (r : Result CheckText Refusal) → CheckAnswers isa name source r
+    → PrepareAnswers (CheckComes isa name source) (checked r)
+checked-answers isa name source (Ok told) answers = (tt, answers)
+checked-answers isa name source (Err refusal) answers = answers
+
 -- what is ready as a case of something is ready as that
 pub ready-so : (P Q : Outcome → Type 0) → ((o : Outcome) → P o → Q o) → (r : Result Prepared Refusal) → PrepareAnswers P r → PrepareAnswers Q r
 ready-so P Q so (Ok p) answers = (answers.0, so _ answers.1)
@@ -388,6 +395,7 @@ module _ {A B : Type 0} (f : A → B) where
   same-cycles (request.Program run) = refl
   same-cycles (request.Link message moves number) = refl
   same-cycles (request.Asm source isa raw) = refl
+  same-cycles (request.Check source name isa) = refl
   same-cycles (request.List source isa) = refl
   same-cycles (request.Dis bytes isa address) = refl
   same-cycles (request.Source text) = refl
@@ -396,12 +404,15 @@ module _ {A B : Type 0} (f : A → B) where
   same-cycles (request.Timing source entry p k) = refl
   same-cycles (request.Safe game certificate edition) = refl
   same-cycles (request.Certify game edition) = refl
+  same-cycles (request.Help verb) = refl
+  same-cycles request.Version = refl
 
   same-moves : (r : Request A) → moves_in (map_request f r) ≡ moves_in r
   same-moves (request.Run run) = refl
   same-moves (request.Program run) = refl
   same-moves (request.Link message moves number) = refl
   same-moves (request.Asm source isa raw) = refl
+  same-moves (request.Check source name isa) = refl
   same-moves (request.List source isa) = refl
   same-moves (request.Dis bytes isa address) = refl
   same-moves (request.Source text) = refl
@@ -410,12 +421,15 @@ module _ {A B : Type 0} (f : A → B) where
   same-moves (request.Timing source entry p k) = refl
   same-moves (request.Safe game certificate edition) = refl
   same-moves (request.Certify game edition) = refl
+  same-moves (request.Help verb) = refl
+  same-moves request.Version = refl
 
   same-start : (r : Request A) → HasStart (map_request f r) ≡ HasStart r
   same-start (request.Run run) = refl
   same-start (request.Program run) = refl
   same-start (request.Link message moves number) = refl
   same-start (request.Asm source isa raw) = refl
+  same-start (request.Check source name isa) = refl
   same-start (request.List source isa) = refl
   same-start (request.Dis bytes isa address) = refl
   same-start (request.Source text) = refl
@@ -424,6 +438,8 @@ module _ {A B : Type 0} (f : A → B) where
   same-start (request.Timing source entry p k) = refl
   same-start (request.Safe game certificate edition) = refl
   same-start (request.Certify game edition) = refl
+  same-start (request.Help verb) = refl
+  same-start request.Version = refl
 
 module _ {A B : Type 0} (f : A → List ℕ) (g : B → List ℕ) (old new : FilesMeaning) (named : Request A) (read : Request B)
     (loaded : IsLoaded old new (map_request f named) (map_request g read)) where

@@ -55,7 +55,8 @@ use Rattle.vip_tools.specs.Certificates.{CertifyComes, CyclesComes, SafeComes, T
 use Rattle.asm_lex.specs.declared.shape.Isa.TheVariants.{Chip8 as Chip8Words}
 use Rattle.vip_tools.specs.Code.{GameComes, Known, OfGame, known_of, nothing_known}
 use Rattle.vip_tools.specs.Demo.{demo_game}
-use Rattle.vip_tools.specs.Outcome.{Outcome, AsmComes, BoundsComes, DisComes, ListComes, Writes, rom_text, script_in}
+use Rattle.vip_tools.specs.Help.{HelpComes, VersionComes}
+use Rattle.vip_tools.specs.Outcome.{Outcome, AsmComes, BoundsComes, CheckComes, DisComes, ListComes, Writes, rom_text, script_in}
 use Rattle.vip_tools.specs.Outcome.Outcome.{Refused, Shown}
 use Rattle.vip_verbs.specs.Programs.{ProgramRunComes}
 
@@ -229,6 +230,7 @@ HasOutcome (request.Run run) = RunComes run
 HasOutcome (request.Program run) = ProgramRunComes run
 HasOutcome (request.Link message moves number) = LinkComes message moves number
 HasOutcome (request.Asm source isa raw) = AsmComes isa raw source
+HasOutcome (request.Check source name isa) = CheckComes isa name source
 HasOutcome (request.List source isa) = ListComes isa source
 HasOutcome (request.Dis bytes isa address) = DisComes isa address bytes
 HasOutcome (request.Source text) = BuiltInComes text
@@ -237,3 +239,5 @@ HasOutcome (request.Cycles source certificate exits) = CyclesComes source certif
 HasOutcome (request.Timing source entry p k) = TimingComes source entry p k
 HasOutcome (request.Safe code certificate edition) = GameComes edition code (λ game. SafeComes edition game certificate)
 HasOutcome (request.Certify code edition) = GameComes edition code (CertifyComes edition)
+HasOutcome (request.Help verb) = HelpComes verb
+HasOutcome request.Version = VersionComes

@@ -2,6 +2,7 @@
 use Rattle.std.specs.Prelude.{◌≡◌, ◌≤◌, ℕ, List, [], ◌∷◌, Option, Some, None, Result, Ok, Err, Vec, length}
 use Rattle.std.specs.declared.alloc.Global.{Global}
 use Rattle.machine.specs.Keys.{Event as KeyEvent}
+use Rattle.asm_listing.specs.declared.report_text.CheckText.{CheckText}
 use Rattle.vip_board.specs.Seen.{Seen}
 use Rattle.vip_outside.specs.Files.{FilesMeaning}
 use Rattle.vip_outside.specs.Pieces.{PutsAll, FailsWithin}
@@ -30,7 +31,7 @@ use Rattle.vip_tools.specs.declared.refusal.Refusal.TheVariants.{Usage, Unread, 
 use Rattle.vip_tools.specs.declared.status.Status.{Status}
 use Rattle.vip_tools.specs.declared.status.Status.TheVariants.{Done, NoDispatch as undispatched}
 use Rattle.vip_tools.specs.Report.{ended_report, linked_report, no_dispatch}
-use Rattle.vip_tools.specs.Status.{ended_status}
+use Rattle.vip_tools.specs.Status.{checked_status, ended_status}
 use Rattle.vip_tools.specs.Files.{FilesRefused, IsLoaded, Loaded, needed}
 use Rattle.vip_tools.specs.Outcome.{Outcome}
 use Rattle.vip_tools.specs.Outcome.Outcome.{Refused, Shown}
@@ -38,7 +39,7 @@ use Rattle.vip_tools.specs.Work.{RefusedBy}
 use Rattle.vip_verbs.specs.Outcome.{HasOutcome, debugged_to, limit_from, linked_after, ran, saved}
 use Rattle.vip_verbs.specs.Programs.{IsBegun, program_debugged, program_pictured, program_traced}
 use Rattle.vip_verbs.specs.declared.prepared.Prepared.{Prepared}
-use Rattle.vip_verbs.specs.declared.prepared.Prepared.TheVariants.{Run, Program, Link, Text}
+use Rattle.vip_verbs.specs.declared.prepared.Prepared.TheVariants.{Run, Program, Link, Text, Checked}
 use Rattle.vip_verbs.specs.declared.prepared.ReadyProgramShow.{ReadyProgramShow}
 use Rattle.vip_verbs.specs.declared.prepared.ReadyProgramShow.TheVariants as program
 use Rattle.vip_verbs.specs.declared.prepared.ReadyShow.{ReadyShow}
@@ -75,6 +76,7 @@ outcome_of (Run run limit shown) = shown_as shown run limit
 outcome_of (Program board limit shown) = program_shown_as shown board limit
 outcome_of (Link link number moves) = linked (linked_after number moves link.message)
 outcome_of (Text text) = Shown (text.items ∷ []) Done []
+outcome_of (Checked told) = Shown (told.text.items ∷ []) (checked_status told.faulty) []
 
 -- ---- what it needs to be ready
 
@@ -95,6 +97,7 @@ IsReady (Run run limit shown) = IsBeginning run × (limit ≤ most_cycles)
 IsReady (Program board limit shown) = IsBegun board × (limit ≤ most_cycles)
 IsReady (Link link number moves) = IsJoined link × (moves ≤ most_moves)
 IsReady (Text text) = Unit {0}
+IsReady (Checked told) = Unit {0}
 
 -- ---- the answers
 
@@ -107,6 +110,11 @@ PrepareAnswers HasOutcome (Err refusal) = RefusedBy HasOutcome refusal
 abbrev pub texted : Result (Vec ℕ Global) Refusal → Result Prepared Refusal
 texted (Ok text) = Ok (Text text)
 texted (Err refusal) = Err refusal
+
+-- what is told of a source is ready
+abbrev pub checked : Result CheckText Refusal → Result Prepared Refusal
+checked (Ok told) = Ok (Checked told)
+checked (Err refusal) = Err refusal
 
 -- all files were read, each once and in their order, and no other; and of the request that was so loaded this holds
 pub record OfLoaded (asked : Asked) (old new : FilesMeaning) (Here : Loaded → Type 0) : Type 0 where

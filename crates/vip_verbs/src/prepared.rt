@@ -4,8 +4,9 @@ ghost use Rattle.vip_verbs.specs.Prepared.{IsReady, PerformAnswers, outcome_of};
 
 use crate::linked::run_link;
 use crate::program::perform_program;
-use crate::work::{perform_run, put_text};
+use crate::work::{perform_run, put_text, put_told};
 use asm_core::Labels;
+use asm_listing::CheckText;
 use vip_board::Board;
 use vip_link::Link;
 use vip_outside::Sink;
@@ -39,6 +40,8 @@ pub enum Prepared {
     },
     /// A text, all of the output.
     Text(Vec<u8>),
+    /// What is told of a source, all of the output.
+    Checked(CheckText),
 }
 
 /// What is shown of a run of the language, with what it needs.
@@ -90,5 +93,6 @@ pub fn perform<O: Sink>(prepared: Prepared, out: &mut O) -> Result<Ended, Perfor
             moves,
         } => run_link(link, number, moves, out),
         Prepared::Text(text) => put_text(text, out),
+        Prepared::Checked(told) => put_told(told, out),
     }
 }

@@ -8,18 +8,20 @@ ghost use Rattle.vip_tools.specs.Files.{game_code, loaded_of, most_text, needed,
 ghost use Rattle.vip_tools.specs.Outcome.{Writes};
 ghost use Rattle.vip_tools.specs.Work.{TextAnswers};
 ghost use Rattle.vip_verbs.specs.Outcome.{BuiltInComes, HasOutcome};
-ghost use Rattle.vip_verbs.specs.Prepared.{OpenAnswers, PrepareAnswers, texted};
+ghost use Rattle.vip_verbs.specs.Prepared.{OpenAnswers, PrepareAnswers, checked, texted};
 
 use crate::linked::open_link;
 use crate::opening::open_run;
 use crate::prepared::Prepared;
 use crate::program::open_program;
+use asm_listing::CheckText;
 use chip8_lang::Edition;
 use std::alloc::Global;
 use vip_link::{receiver_text, sender_text};
 use vip_outside::Files;
 use vip_tools::{
-    Refusal, asm, bounds, certify, cycles, dis, game, list, load, safe, source, timing,
+    Refusal, asm, bounds, certify, check, cycles, dis, game, help, list, load, safe, source,
+    timing, version,
 };
 use vip_words::{BuiltIn, Code, Request};
 
@@ -80,6 +82,16 @@ fn text<'a>(made: Result<Vec<u8>, Refusal<'a>>) -> Result<Prepared, Refusal<'a>>
     }
 }
 
+/// A source that was checked.
+fn checked<'a>(told: Result<CheckText, Refusal<'a>>) -> Result<Prepared, Refusal<'a>>
+    ensures { result ≡ checked told.entry }
+{
+    match told {
+        Ok(told) => Ok(Prepared::Checked(told)),
+        Err(refusal) => Err(refusal),
+    }
+}
+
 /// Judges the contents of the files of a request, of which a saved state was judged when it was read.
 fn prepare<'a>(alloc: Global, request: Request<Vec<u8>>) -> Result<Prepared, Refusal<'a>>
     requires limit { cycles_in request ≤ most_cycles }
@@ -97,6 +109,9 @@ fn prepare<'a>(alloc: Global, request: Request<Vec<u8>>) -> Result<Prepared, Ref
             number,
         } => open_link(alloc, message.as_slice(), moves, number),
         Request::Asm { source, isa, raw } => text(asm(alloc, isa, source.as_slice(), raw)),
+        Request::Check { source, name, isa } => {
+            checked(check(alloc, isa, name.as_slice(), source.as_slice()))
+        }
         Request::List { source, isa } => text(list(alloc, isa, source.as_slice())),
         Request::Dis {
             bytes,
@@ -122,6 +137,8 @@ fn prepare<'a>(alloc: Global, request: Request<Vec<u8>>) -> Result<Prepared, Ref
             edition,
         } => text(safe_code(alloc, edition, game, certificate.as_slice())),
         Request::Certify { game, edition } => text(certify_code(alloc, edition, game)),
+        Request::Help(verb) => text(help(alloc, verb)),
+        Request::Version => text(version(alloc)),
     }
 }
 

@@ -7,6 +7,7 @@ ghost use Rattle.vip_verbs.specs.declared.prepared.ReadyShow.TheVariants as show
 
 use crate::prepared::ReadyShow;
 use asm_core::Labels;
+use asm_listing::CheckText;
 use vip_debug::{DebugEnd, run_commands};
 use vip_outside::{Failed, Sink};
 use vip_relation::{Run, Vip};
@@ -100,4 +101,15 @@ pub(crate) fn put_text<O: Sink>(text: Vec<u8>, out: &mut O) -> Result<Ended, Per
 {
     out.put(text.as_slice())?;
     Ok(Ended::Worked)
+}
+
+/// Puts what is told of a source, as one piece.
+pub(crate) fn put_told<O: Sink>(told: CheckText, out: &mut O) -> Result<Ended, PerformFault>
+    requires { IsReady (ready.Checked told) }
+    ensures { PerformAnswers (outcome_of (ready.Checked told)) (O.meaning out.old) (O.meaning out.new) result }
+{
+    out.put(told.text.as_slice())?;
+    Ok(Ended::Checked {
+        faulty: told.faulty,
+    })
 }

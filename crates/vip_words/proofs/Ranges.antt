@@ -8,9 +8,10 @@ use Rattle.asm_lex.specs.declared.shape.Isa.{Isa}
 use Rattle.asm_core.specs.Ranges.{last_of, origin_of}
 use Rattle.vip_byte.specs.Number.{number, are_digits, hex_number}
 use Rattle.vip_byte.specs.declared.number.NumFault.TheVariants.{Empty, BadDigit, TooLarge}
-use Rattle.vip_words.specs.Asked.{asked_of_verb, bounds_by, built_in_by, cycles_of, debug_by, demo_by, dis_by, edition_by, either_by, file_by, is_mixed, is_program, isa_by, link_by, moves_of, no_less_than, place_of, play_by, program_by, resume_by, run_by, safe_by, seed_of, shown_by, source_by, start_by, timing_by, trace_by, two_registers, within_by, entry_of, register_of, code_by}
+use Rattle.vip_words.specs.Asked.{asked_of_verb, bounds_by, built_in_by, check_by, help_by, version_by, cycles_of, debug_by, demo_by, dis_by, edition_by, either_by, file_by, is_mixed, is_program, isa_by, link_by, moves_of, no_less_than, place_of, play_by, program_by, resume_by, run_by, safe_by, seed_of, shown_by, source_by, start_by, timing_by, trace_by, two_registers, within_by, entry_of, register_of, code_by}
 use Rattle.vip_words.specs.Request.{Asked, InRange, asked_of, most_cycles, most_moves}
 use Rattle.vip_words.specs.Rules.{Word, Given}
+use Rattle.vip_words.specs.Table.{verb_of}
 use Rattle.vip_words.specs.declared.given.WordsFail.TheVariants.{Refused}
 use Rattle.vip_words.specs.declared.request.Entry.{Entry}
 use Rattle.vip_words.specs.declared.request.Memory.TheVariants.{Rom, Ram}
@@ -208,6 +209,18 @@ safe-low (game ∷ certificate ∷ []) given asked h =
     (record { cycles = omega arith; moves = omega arith; start = tt }) h
 safe-low (game ∷ certificate ∷ more ∷ words) given asked h = absurd (cc)
 
+check-low : (isa : Isa) (words : List Word) (asked : Asked) → check_by isa words ≡ Some asked → InRange asked
+check-low isa words asked h = by_read (file_by words) _ asked (λ name e. record { cycles = omega arith; moves = omega arith; start = tt }) h
+
+help-low : (words : List Word) (asked : Asked) → help_by words ≡ Some asked → InRange asked
+help-low [] asked h = this-low (request.Help None) asked (record { cycles = omega arith; moves = omega arith; start = tt }) h
+help-low (word ∷ []) asked h = by_read (verb_of word) _ asked (λ v e. record { cycles = omega arith; moves = omega arith; start = tt }) h
+help-low (word ∷ more ∷ words) asked h = absurd (cc)
+
+version-low : (words : List Word) (asked : Asked) → version_by words ≡ Some asked → InRange asked
+version-low [] asked h = this-low request.Version asked (record { cycles = omega arith; moves = omega arith; start = tt }) h
+version-low (word ∷ words) asked h = absurd (cc)
+
 verb-low : (v : Verb) (given : Given) (asked : Asked) → asked_of_verb v given ≡ Some asked → InRange asked
 verb-low verb.Trace given asked h = trace-low given.positional given asked h
 verb-low verb.Play given asked h = play-low given.positional given asked h
@@ -218,6 +231,7 @@ verb-low verb.Resume given asked h = resume-low given.positional given asked h
 verb-low verb.Demo given asked h = demo-low given.positional asked h
 verb-low verb.Link given asked h = link-low given.positional asked h
 verb-low verb.Asm given asked h = by_read (file_by given.positional) _ asked (λ name e. record { cycles = omega arith; moves = omega arith; start = tt }) h
+verb-low verb.Check given asked h = check-low (isa_by given.chip8) given.positional asked h
 verb-low verb.List given asked h = by_read (file_by given.positional) _ asked (λ name e. record { cycles = omega arith; moves = omega arith; start = tt }) h
 verb-low verb.Dis given asked h = dis-low (isa_by given.chip8) given.positional asked h
 verb-low verb.Source given asked h = source-low given.positional given asked h
@@ -226,6 +240,8 @@ verb-low verb.Cycles given asked h = within-low given.positional given asked h
 verb-low verb.Timing given asked h = timing-low given.positional asked h
 verb-low verb.Safe given asked h = safe-low given.positional given asked h
 verb-low verb.Certify given asked h = by_read (file_by given.positional) _ asked (λ name e. record { cycles = omega arith; moves = omega arith; start = tt }) h
+verb-low verb.Help given asked h = help-low given.positional asked h
+verb-low verb.Version given asked h = version-low given.positional asked h
 
 -- so is what a verb's words are read as
 pub read-low : (v : Verb) (given : Given) (o : Option (Request (Bor Word))) → option_map asked_of o ≡ asked_of_verb v given

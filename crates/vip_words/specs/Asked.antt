@@ -1,5 +1,5 @@
 -- What the words of a command line ask for.
-use Rattle.std.specs.Prelude.{ℕ, List, [], ◌∷◌, Bool, false, not, ◌&&◌, ◌||◌, ◌==◌, if◌then◌else◌, nat_le, nat_lt, length, Option, None, Some, option_map, option_and_then}
+use Rattle.std.specs.Prelude.{ℕ, List, [], ◌∷◌, Bool, false, ◌&&◌, ◌||◌, ◌==◌, if◌then◌else◌, nat_le, nat_lt, length, Option, None, Some, option_map, option_and_then}
 use Rattle.std.specs.Result.{result_ok}
 use Rattle.chip8_lang.specs.declared.view.Edition.{Edition}
 use Rattle.chip8_lang.specs.declared.view.Edition.TheVariants.{Usual, Tall}
@@ -9,7 +9,7 @@ use Rattle.asm_core.specs.Ranges.{last_of, origin_of}
 use Rattle.vip_byte.specs.Number.{decimal_number, hex_number}
 use Rattle.vip_words.specs.Request.{Asked, most_cycles, most_moves}
 use Rattle.vip_words.specs.Rules.{Given, Word, given_by}
-use Rattle.vip_words.specs.Table.{usage_of}
+use Rattle.vip_words.specs.Table.{is_alone, places_of, row, verb_of}
 use Rattle.vip_words.specs.declared.request.BuiltIn.{BuiltIn}
 use Rattle.vip_words.specs.declared.request.Code.{Code}
 use Rattle.vip_words.specs.declared.request.Code.TheVariants.{Bytes, Source}
@@ -208,6 +208,21 @@ abbrev pub safe_by : List Word → Given → Option Asked
 safe_by (game ∷ certificate ∷ []) given = Some (request.Safe (code_by given.asm game) certificate (edition_by given.tall))
 safe_by _ given = None
 
+-- FILE, whose name is in the text that is written
+abbrev pub check_by : Isa → List Word → Option Asked
+check_by isa words = option_map (λ file. request.Check file file isa) (file_by words)
+
+-- none, or a verb
+abbrev pub help_by : List Word → Option Asked
+help_by [] = Some (request.Help None)
+help_by (word ∷ []) = option_map (λ v. request.Help (Some v)) (verb_of word)
+help_by _ = None
+
+-- none
+abbrev pub version_by : List Word → Option Asked
+version_by [] = Some request.Version
+version_by _ = None
+
 -- what a verb asks for, where its words give this
 abbrev pub asked_of_verb : Verb → Given → Option Asked
 asked_of_verb verb.Trace given = trace_by given.positional given
@@ -219,6 +234,7 @@ asked_of_verb verb.Resume given = resume_by given.positional given
 asked_of_verb verb.Demo given = demo_by given.positional
 asked_of_verb verb.Link given = link_by given.positional
 asked_of_verb verb.Asm given = option_map (λ file. request.Asm file (isa_by given.chip8) given.raw) (file_by given.positional)
+asked_of_verb verb.Check given = check_by (isa_by given.chip8) given.positional
 asked_of_verb verb.List given = option_map (λ file. request.List file (isa_by given.chip8)) (file_by given.positional)
 asked_of_verb verb.Dis given = dis_by (isa_by given.chip8) given.positional
 asked_of_verb verb.Source given = source_by given.positional given
@@ -227,9 +243,13 @@ asked_of_verb verb.Cycles given = within_by given.positional given
 asked_of_verb verb.Timing given = timing_by given.positional
 asked_of_verb verb.Safe given = safe_by given.positional given
 asked_of_verb verb.Certify given = option_map (λ game. request.Certify (code_by given.asm game) (edition_by given.tall)) (file_by given.positional)
+asked_of_verb verb.Help given = help_by given.positional
+asked_of_verb verb.Version given = version_by given.positional
 
 -- what the words ask for, the verb first, or nothing where they are refused
 abbrev pub asked_by : List Word → Option Asked
 asked_by [] = None
-asked_by (verb ∷ words) =
-    option_and_then (λ row. option_and_then (asked_of_verb row.verb) (given_by row.places row.options words)) (usage_of verb)
+asked_by (word ∷ words) =
+    option_and_then
+    (λ verb. option_and_then (asked_of_verb verb) (given_by (places_of (row verb) (is_alone words)) (row verb).options words))
+    (verb_of word)

@@ -1,7 +1,6 @@
 -- What the program holds of what the words after a verb give.
-use Rattle.std.specs.Prelude.{List, [], ◌∷◌, Option, Some, None, option_map}
+use Rattle.std.specs.Prelude.{List, [], ◌∷◌, Option, Some, None, map, option_map}
 use Rattle.vip_words.specs.Rules as rules
-use Rattle.vip_words.specs.Usage.{row_of}
 use Rattle.vip_words.specs.declared.given.Given.{Given}
 use Rattle.vip_words.specs.declared.given.Positional.{Positional}
 use Rattle.vip_words.specs.declared.given.Positional.TheVariants.{Empty, One, Two, Three, Four}
@@ -36,7 +35,7 @@ seen_given given = record {
 
 -- what the words after a verb with this usage give, or nothing where they are refused
 abbrev pub given_of : Usage → List rules.Word → Option rules.Given
-given_of usage words = rules.given_by (row_of usage).places (row_of usage).options words
+given_of usage words = rules.given_by usage.places (map (λ option. option.now) usage.options.now) words
 
 -- the words up to the first place that stands empty
 abbrev pub words_in : Option rules.Word → Option rules.Word → Option rules.Word → Option rules.Word → List rules.Word

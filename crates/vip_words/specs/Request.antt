@@ -10,7 +10,7 @@ use Rattle.vip_words.specs.declared.request.ProgramRequest.{ProgramRequest}
 use Rattle.vip_words.specs.declared.request.ProgramShow.{ProgramShow}
 use Rattle.vip_words.specs.declared.request.ProgramShow.TheVariants as program
 use Rattle.vip_words.specs.declared.request.Request.{Request}
-use Rattle.vip_words.specs.declared.request.Request.TheVariants.{Run, Program, Link, Asm, List, Dis, Source, Bounds, Cycles, Timing, Safe, Certify}
+use Rattle.vip_words.specs.declared.request.Request.TheVariants.{Run, Program, Link, Asm, Check, List, Dis, Source, Bounds, Cycles, Timing, Safe, Certify, Help, Version}
 use Rattle.vip_words.specs.declared.request.RunRequest.{RunRequest}
 use Rattle.vip_words.specs.declared.request.Show.{Show}
 use Rattle.vip_words.specs.declared.request.Show.TheVariants as show
@@ -54,6 +54,7 @@ module _ {A B : Type 0} (f : A → B) where
   map_request (Program run) = Program (map_program run)
   map_request (Link message moves number) = Link (f message) moves number
   map_request (Asm file isa raw) = Asm (f file) isa raw
+  map_request (Check file name isa) = Check (f file) name isa
   map_request (List file isa) = List (f file) isa
   map_request (Dis file isa address) = Dis (f file) isa address
   map_request (Source text) = Source text
@@ -62,6 +63,8 @@ module _ {A B : Type 0} (f : A → B) where
   map_request (Timing file entry p k) = Timing (f file) entry p k
   map_request (Safe game certificate edition) = Safe (map_code game) (f certificate) edition
   map_request (Certify game edition) = Certify (map_code game) edition
+  map_request (Help verb) = Help verb
+  map_request Version = Version
 
 -- what is asked for: each file by its name
 abbrev pub Asked : Type 0

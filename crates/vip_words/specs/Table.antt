@@ -1,40 +1,135 @@
--- The verbs, and what may follow each.
-use Rattle.std.specs.Prelude.{ℕ, List, [], ◌∷◌, Option, bytes_eq, codes, find, option_map}
-use Rattle.vip_words.specs.Rules.{Word, asm_option, at_option, chip8_option, echo_option, exits_option, keys_option, ram_option, raw_option, receiver_option, rom_option, screen_option, sender_option, state_option, tall_option, words_option}
+-- The verbs, what may follow each, and what is said of it.
+use Rattle.std.specs.Prelude.{ℕ, List, [], ◌∷◌, Bool, true, false, ◌&&◌, if◌then◌else◌, length, Option, bytes_eq, codes, find}
+use Rattle.std.specs.Option.{option_map_or}
+use Rattle.vip_words.specs.Rules.{Word, is_keys, asm_option, at_option, chip8_option, echo_option, exits_option, keys_option, ram_option, raw_option, receiver_option, rom_option, screen_option, sender_option, state_option, tall_option, words_option}
 use Rattle.vip_words.specs.declared.table.Verb.{Verb}
 use Rattle.vip_words.specs.declared.table.Verb.TheVariants as verb
 
--- a verb, how many positional words follow it, and its options
+-- A verb as it is spelled, the names of the positional words that follow it, whether they may be left out, and its options; and what is said of it: what it
+-- writes, an example, and the page and the sections that explain the texts.
 pub record Row : Type 0 where
-  pub verb : Verb
-  pub places : ℕ
+  pub name : Word
+  pub words : List Word
+  pub may_stand_alone : Bool
   pub options : List Word
+  pub writes : List ℕ
+  pub example : List ℕ
+  pub texts : List ℕ
 
-abbrev pub row : Verb → ℕ → List Word → Row
-row verb places options = record { verb = verb; places = places; options = options }
+abbrev pub made_row : Word → List Word → Bool → List Word → List ℕ → List ℕ → List ℕ → Row
+made_row name words may_stand_alone options writes example texts = record {
+  name = name;
+  words = words;
+  may_stand_alone = may_stand_alone;
+  options = options;
+  writes = writes;
+  example = example;
+  texts = texts;
+}
 
--- each verb as it is spelled, with its row
-abbrev pub table : List (Word × Row)
-table =
-    (codes "trace", row verb.Trace 2 (keys_option ∷ at_option ∷ screen_option ∷ words_option ∷ tall_option ∷ state_option ∷ asm_option ∷ rom_option ∷ ram_option ∷ []))
-    ∷ (codes "play", row verb.Play 2 (keys_option ∷ tall_option ∷ state_option ∷ asm_option ∷ rom_option ∷ ram_option ∷ []))
-    ∷ (codes "debug", row verb.Debug 3 (keys_option ∷ tall_option ∷ state_option ∷ asm_option ∷ echo_option ∷ rom_option ∷ ram_option ∷ []))
-    ∷ (codes "save", row verb.Save 2 (keys_option ∷ tall_option ∷ state_option ∷ asm_option ∷ []))
-    ∷ (codes "profile", row verb.Profile 2 (keys_option ∷ tall_option ∷ state_option ∷ asm_option ∷ []))
-    ∷ (codes "resume", row verb.Resume 2 (keys_option ∷ at_option ∷ []))
-    ∷ (codes "demo", row verb.Demo 2 [])
-    ∷ (codes "link", row verb.Link 3 [])
-    ∷ (codes "asm", row verb.Asm 1 (raw_option ∷ chip8_option ∷ []))
-    ∷ (codes "list", row verb.List 1 (chip8_option ∷ []))
-    ∷ (codes "dis", row verb.Dis 2 (chip8_option ∷ []))
-    ∷ (codes "source", row verb.Source 0 (tall_option ∷ sender_option ∷ receiver_option ∷ []))
-    ∷ (codes "bounds", row verb.Bounds 0 [])
-    ∷ (codes "cycles", row verb.Cycles 2 (exits_option ∷ []))
-    ∷ (codes "timing", row verb.Timing 4 [])
-    ∷ (codes "safe", row verb.Safe 2 (tall_option ∷ asm_option ∷ []))
-    ∷ (codes "certify", row verb.Certify 1 (tall_option ∷ asm_option ∷ []))
+abbrev pub row : Verb → Row
+row verb.Trace =
+    made_row (codes "trace") (codes "FILE" ∷ codes "CYCLES" ∷ []) false (keys_option ∷ at_option ∷ screen_option ∷ words_option ∷ tall_option ∷ state_option ∷ asm_option ∷ rom_option ∷ ram_option ∷ [])
+    (codes "each instruction that a run met") (codes "vip trace ball.ch8 600000 --at") (codes "FORMATS.md, A trace; The trace of a program")
+row verb.Play =
+    made_row (codes "play") (codes "FILE" ∷ codes "CYCLES" ∷ []) false (keys_option ∷ tall_option ∷ state_option ∷ asm_option ∷ rom_option ∷ ram_option ∷ [])
+    (codes "each picture of a run") (codes "vip play maze.ch8 600000 > maze.pbm") (codes "FORMATS.md, A screen and a picture")
+row verb.Debug =
+    made_row (codes "debug") (codes "FILE" ∷ codes "CYCLES" ∷ codes "COMMANDS" ∷ []) false (keys_option ∷ tall_option ∷ state_option ∷ asm_option ∷ echo_option ∷ rom_option ∷ ram_option ∷ [])
+    (codes "the answers to commands") (codes "vip debug count.ch8 99999 count.debug") (codes "FORMATS.md, The debugger's commands")
+row verb.Save =
+    made_row (codes "save") (codes "FILE" ∷ codes "CYCLES" ∷ []) false (keys_option ∷ tall_option ∷ state_option ∷ asm_option ∷ [])
+    (codes "the state of the machine as a file") (codes "vip save maze.ch8 300000 > maze.state") (codes "FORMATS.md, A machine state")
+row verb.Profile =
+    made_row (codes "profile") (codes "FILE" ∷ codes "CYCLES" ∷ []) false (keys_option ∷ tall_option ∷ state_option ∷ asm_option ∷ [])
+    (codes "where the time of a run goes") (codes "vip profile maze.ch8 1000000") (codes "FORMATS.md, A profile")
+row verb.Resume =
+    made_row (codes "resume") (codes "STATE" ∷ codes "CYCLES" ∷ []) false (keys_option ∷ at_option ∷ [])
+    (codes "how a saved state goes on") (codes "vip resume maze.state 600000") (codes "FORMATS.md, A trace; A machine state")
+row verb.Demo =
+    made_row (codes "demo") (codes "NUMBER" ∷ codes "CYCLES" ∷ []) false ([])
+    (codes "the run of a random game in one line") (codes "vip demo 0 1000000") (codes "FORMATS.md, A demonstration and its summary")
+row verb.Link =
+    made_row (codes "link") (codes "FILE" ∷ codes "MOVES" ∷ codes "NUMBER" ∷ []) false ([])
+    (codes "a message from one board to another") (codes "vip link sum.keys 500000 7") (codes "FORMATS.md, Two boards")
+row verb.Asm =
+    made_row (codes "asm") (codes "FILE" ∷ []) false (raw_option ∷ chip8_option ∷ [])
+    (codes "the bytes of a source") (codes "vip asm pen.asm --chip8 --raw > mine.ch8") (codes "SOURCES.md, 1802 assembly; CHIP-8 assembly; The dump; The bytes")
+row verb.Check =
+    made_row (codes "check") (codes "FILE" ∷ []) false (chip8_option ∷ [])
+    (codes "every fault of a source") (codes "vip check pen.asm --chip8") (codes "SOURCES.md, The faults; Every fault")
+row verb.List =
+    made_row (codes "list") (codes "FILE" ∷ []) false (chip8_option ∷ [])
+    (codes "the listing of a source") (codes "vip list multiply.asm") (codes "SOURCES.md, The listing")
+row verb.Dis =
+    made_row (codes "dis") (codes "FILE" ∷ codes "AT" ∷ []) false (chip8_option ∷ [])
+    (codes "bytes as a source") (codes "vip dis multiply.bin 0") (codes "SOURCES.md, The disassembly")
+row verb.Source =
+    made_row (codes "source") ([]) false (tall_option ∷ sender_option ∷ receiver_option ∷ [])
+    (codes "the source of the interpreter, or of a program of two joined boards") (codes "vip source") (codes "MACHINE.md, The ROM; Two boards")
+row verb.Bounds =
+    made_row (codes "bounds") ([]) false ([])
+    (codes "the most cycles of each opcode") (codes "vip bounds") (codes "MACHINE.md, Bounds")
+row verb.Cycles =
+    made_row (codes "cycles") (codes "FILE" ∷ codes "CERT" ∷ []) false (exits_option ∷ [])
+    (codes "whether a routine keeps its limit") (codes "vip cycles delay.asm delay.cert") (codes "SOURCES.md, A cycle certificate")
+row verb.Timing =
+    made_row (codes "timing") (codes "FILE" ∷ codes "ENTRY" ∷ codes "P" ∷ codes "K" ∷ []) false ([])
+    (codes "a limit of a routine, with its certificate") (codes "vip timing delay.asm delay 3 7") (codes "SOURCES.md, A cycle certificate")
+row verb.Safe =
+    made_row (codes "safe") (codes "GAME" ∷ codes "CERT" ∷ []) false (tall_option ∷ asm_option ∷ [])
+    (codes "whether a certificate of a game is right") (codes "vip safe maze.ch8 maze.cert") (codes "SOURCES.md, A certificate of a game")
+row verb.Certify =
+    made_row (codes "certify") (codes "GAME" ∷ []) false (tall_option ∷ asm_option ∷ [])
+    (codes "a certificate that a game never stops") (codes "vip certify maze.ch8 > maze.cert") (codes "SOURCES.md, A certificate of a game")
+row verb.Help =
+    made_row (codes "help") (codes "VERB" ∷ []) true ([])
+    (codes "all verbs, or one with its options and an example") (codes "vip help trace") (codes "COMMANDS.md, The words")
+row verb.Version =
+    made_row (codes "version") ([]) false ([])
+    (codes "the name and the version") (codes "vip version") (codes "COMMANDS.md, The words")
+
+-- the verbs, in the order of their page
+abbrev pub every_verb : List Verb
+every_verb =
+    verb.Trace ∷ verb.Play ∷ verb.Debug ∷ verb.Save ∷ verb.Profile ∷ verb.Resume ∷ verb.Demo ∷ verb.Link ∷ verb.Asm ∷ verb.Check ∷ verb.List ∷ verb.Dis ∷ verb.Source ∷ verb.Bounds ∷ verb.Cycles ∷ verb.Timing ∷ verb.Safe ∷ verb.Certify ∷ verb.Help ∷ verb.Version ∷ []
+
+-- the verb that a word spells
+abbrev pub verb_of : Word → Option Verb
+verb_of word = find (λ v. bytes_eq word (row v).name) every_verb
+
+-- how many positional words follow a verb that stands alone or not
+abbrev pub places_of : Row → Bool → ℕ
+places_of r alone = if alone && r.may_stand_alone then 0 else length r.words
+
+abbrev pub is_alone : List Word → Bool
+is_alone [] = true
+is_alone (word ∷ words) = false
+
+-- ---- what is said of each option
+
+abbrev pub about_options : List (Word × List ℕ)
+about_options =
+    (keys_option, codes "a key script")
+    ∷ (at_option, codes "the tick and the machine cycle of each line")
+    ∷ (screen_option, codes "the last screen behind the lines")
+    ∷ (words_option, codes "the opcode of each line in words")
+    ∷ (tall_option, codes "the edition with 64 rows")
+    ∷ (state_option, codes "a saved state instead of a game")
+    ∷ (raw_option, codes "the bytes themselves")
+    ∷ (chip8_option, codes "words of CHIP-8 instead of those of the processor")
+    ∷ (asm_option, codes "a source instead of bytes")
+    ∷ (echo_option, codes "each command before its answer")
+    ∷ (exits_option, codes "where the routine is left")
+    ∷ (rom_option, codes "a program in the ROM instead of a game")
+    ∷ (ram_option, codes "a program in RAM instead of a game")
+    ∷ (sender_option, codes "the program that sends a message")
+    ∷ (receiver_option, codes "the program that receives it")
     ∷ []
 
--- the row of the verb that a word spells
-abbrev pub usage_of : Word → Option Row
-usage_of word = option_map (λ line. line.1) (find (λ line. bytes_eq word line.0) table)
+abbrev pub about : Word → List ℕ
+about option = option_map_or (λ line. line.1) (find (λ line. bytes_eq option line.0) about_options) []
+
+-- the option as a user writes it, with the name of the word that it takes
+abbrev pub with_value : Word → List ℕ
+with_value option = if is_keys option then codes "--keys FILE" else option

@@ -17,7 +17,8 @@
 //! | a word that is empty, or begins with `-` and is no option of the verb spelled exactly, is refused | a test of each word |
 //! | `--keys` takes the next word, which is there and doesn't begin with `-` | `clap` |
 //! | options stand anywhere after the verb, each at most once | `clap` |
-//! | the other words are the positional ones, in order, and as many as the verb takes | `clap` |
+//! | the other words are the positional ones, in order, and as many as the verb takes, or none behind a verb that may stand alone | `clap` |
+//! | behind `help` stands no word, or a verb, spelled exactly | `src/request.rt` |
 //! | a number of cycles is decimal and at most 4,000,000,000 | `vip_byte` |
 //! | the number of a demonstration game, or of a schedule of joined boards, is decimal and at most 4,294,967,295 | `vip_byte` |
 //! | a number of moves of joined boards is decimal and at most 10,000,000 | `vip_byte` |
@@ -29,8 +30,9 @@
 //! | `source` has at most one of `--tall`, `--sender` and `--receiver` | `src/request.rt` |
 //!
 //! One `clap` command serves all verbs with as many positional words: it has every option, and a word that is an option of another verb doesn't come
-//! to it. So a verb is added by its line in the two tables (`src/table.rt`, `specs/Table.antt`), its variant and what its words ask for, which mostly
-//! is a start and a show that are there; an option of a verb, by its name in the verb's lines. A new option that takes no word is one name more among
+//! to it. So a verb is added by its row in the two tables (`src/table.rt`, `specs/Table.antt`), its variant and what its words ask for, which mostly
+//! is a start and a show that are there; an option of a verb, by its name in the verb's rows. The rows also have what is said of a verb, and beside them
+//! stands what is said of an option: the pages of `help` are made of both. A new option that takes no word is one name more among
 //! the flags (`src/command.rt`, `specs/Command.antt`), one field of what is given, and a line in each lemma on flags.
 #![tactic(auto)]
 
@@ -47,6 +49,7 @@ pub use debug_commands::{
 };
 pub use given::WordsFail;
 pub use request::{
-    BuiltIn, Code, Entry, EntryName, Memory, ProgramRequest, ProgramShow, Request, RunRequest,
-    Show, Start, read_words,
+    BuiltIn, Code, Entry, EntryName, FileName, Memory, ProgramRequest, ProgramShow, Request,
+    RunRequest, Show, Start, read_words,
 };
+pub use table::{Row, VERBS, Verb, about, with_value};

@@ -7,11 +7,12 @@ ghost use Rattle.vip_words.specs.Request.{asked_of, code_of, program_show_of, sh
 ghost use Rattle.vip_words.specs.declared.table.Verb.TheVariants as verb;
 
 use crate::given::{Given, Positional, WordsFail, read_given};
-use crate::table::{Usage, Verb};
+use crate::table::Verb;
 use arrayvec::ArrayVec;
 use asm_lex::Isa;
 use chip8_lang::Edition;
-use std::alloc::Global;
+use std::alloc::{AllocError, Global};
+use std::marker::Model;
 use vip_byte::{MOST_CYCLE, read_decimal, read_hex};
 
 /// What the words of a command line ask for. A file is an `N`: its name, which is the word itself, or, once it was read, its content.
@@ -35,6 +36,12 @@ pub enum Request<N> {
         source: N,
         isa: Isa,
         raw: bool,
+    },
+    /// Tell every fault of a source, by the name of its file.
+    Check {
+        source: N,
+        name: FileName,
+        isa: Isa,
     },
     /// List a source with its bytes.
     List {
@@ -78,6 +85,41 @@ pub enum Request<N> {
         game: Code<N>,
         edition: Edition,
     },
+    /// All verbs, or one of them with its options.
+    Help(Option<Verb>),
+    /// The name and the version of the program.
+    Version,
+}
+
+/// The name of a file, which stays beside its content.
+#[derive(Drop)]
+pub struct FileName {
+    bytes: Vec<u8>,
+}
+
+impl Model for FileName {
+    ghost use Rattle.std.specs.Prelude.{ℕ, List};
+
+    ghost Value = { List ℕ };
+
+    ghost view = { λ name. name.bytes.items };
+}
+
+impl FileName {
+    /// A copy of the word that names a file. It fails only where memory is refused.
+    pub fn of(alloc: Global, word: &str) -> Result<FileName, AllocError>
+        ensures { IfOk result (λ name. name ≡ word.now) }
+    {
+        let bytes = Vec::from_slice(alloc, word.as_bytes())?;
+        Ok(FileName { bytes })
+    }
+
+    /// Its bytes.
+    pub fn as_slice(&self) -> &[u8]
+        ensures { result.now ≡ self.now }
+    {
+        self.bytes.as_slice()
+    }
 }
 
 /// What is to run, or to be judged.
@@ -527,6 +569,24 @@ fn asm_request<'a>(given: &Given<'a>) -> Option<Request<&'a str>>
     }
 }
 
+/// The check of a source, with a copy of its file's name.
+fn check_request<'a>(
+    alloc: Global,
+    given: &Given<'a>,
+) -> Result<Option<Request<&'a str>>, AllocError>
+    ensures { IfOk result (λ request. option_map asked_of request ≡ asked_of_verb verb.Check (seen_given given.now)) }
+{
+    let Positional::One(source) = given.positional else {
+        return Ok(None);
+    };
+    let name = FileName::of(alloc, source)?;
+    Ok(Some(Request::Check {
+        source,
+        name,
+        isa: isa_by(given.chip8),
+    }))
+}
+
 fn list_request<'a>(given: &Given<'a>) -> Option<Request<&'a str>>
     ensures { option_map asked_of result ≡ asked_of_verb verb.List (seen_given given.now) }
 {
@@ -651,10 +711,38 @@ fn certify_request<'a>(given: &Given<'a>) -> Option<Request<&'a str>>
     }
 }
 
-fn request_of<'a>(verb: Verb, given: &Given<'a>) -> Option<Request<&'a str>>
-    ensures { option_map asked_of result ≡ asked_of_verb verb (seen_given given.now) }
+fn help_request<'a>(given: &Given<'a>) -> Option<Request<&'a str>>
+    ensures { option_map asked_of result ≡ asked_of_verb verb.Help (seen_given given.now) }
 {
-    match verb {
+    match given.positional {
+        Positional::Empty => Some(Request::Help(None)),
+        Positional::One(word) => {
+            let verb = Verb::of(word)?;
+            Some(Request::Help(Some(verb)))
+        }
+        _ => None,
+    }
+}
+
+fn version_request<'a>(given: &Given<'a>) -> Option<Request<&'a str>>
+    ensures { option_map asked_of result ≡ asked_of_verb verb.Version (seen_given given.now) }
+{
+    match given.positional {
+        Positional::Empty => Some(Request::Version),
+        _ => None,
+    }
+}
+
+/// What a verb asks for, where its words give this, or nothing where they are refused. It fails only where memory is refused.
+fn request_of<'a>(
+    alloc: Global,
+    verb: Verb,
+    given: &Given<'a>,
+) -> Result<Option<Request<&'a str>>, AllocError>
+    ensures { IfOk result (λ request. option_map asked_of request ≡ asked_of_verb verb (seen_given given.now)) }
+{
+    let request = match verb {
+        Verb::Check => return check_request(alloc, given),
         Verb::Trace => trace_request(given),
         Verb::Play => play_request(given),
         Verb::Debug => debug_request(given),
@@ -672,7 +760,10 @@ fn request_of<'a>(verb: Verb, given: &Given<'a>) -> Option<Request<&'a str>>
         Verb::Timing => timing_request(given),
         Verb::Safe => safe_request(given),
         Verb::Certify => certify_request(given),
-    }
+        Verb::Help => help_request(given),
+        Verb::Version => version_request(given),
+    };
+    Ok(request)
 }
 
 /// Reads the words of a command line, without the program's name. The answer is exactly the request that the rules read in them, and
@@ -682,15 +773,19 @@ pub fn read_words<'a>(alloc: Global, words: &'a [String]) -> Result<Request<&'a 
     ensures range { IfOk result (λ request. InRange (asked_of request)) }
     ensures refused { IsErrOf result WordsFail.Refused → asked_by (map string_bytes words.entry.now) ≡ None }
 {
-    let Some(verb) = words.first() else {
+    let Some(word) = words.first() else {
         return Err(WordsFail::Refused);
     };
-    let Some(usage) = Usage::of(verb.as_str()) else {
+    let Some(verb) = Verb::of(word.as_str()) else {
         return Err(WordsFail::Refused);
     };
+    let usage = verb.row().usage(words.len() == 1);
     let given = match read_given(alloc, &usage, words) {
         Ok(given) => given,
         Err(fail) => return Err(fail),
     };
-    request_of(usage.verb, &given).ok_or(WordsFail::Refused)
+    match request_of(alloc, verb, &given) {
+        Ok(request) => request.ok_or(WordsFail::Refused),
+        Err(_) => Err(WordsFail::NoMemory),
+    }
 }

@@ -1,6 +1,7 @@
 use Rattle.vip_text.specs.StateFile.{shown}
 use Rattle.vip_call.proofs.CertifiedLemmas.{proves_certified}
-use Rattle.vip_call.proofs.GivenLemmas.{roms_given, rom_never, never_of_rom}
+use Rattle.vip_call.proofs.CheckedLemmas.{checks_sources}
+use Rattle.vip_call.proofs.GivenLemmas.{roms_given, rom_never, never_of_rom, only_checks}
 use Rattle.vip_call.proofs.LinkedLemmas.{brings_messages}
 use Rattle.vip_call.proofs.LanguageLemmas.{speaks_chip8}
 use Rattle.vip_call.proofs.SavedLemmas.{continues_saved, saves_shown}
@@ -30,9 +31,12 @@ returns c words files files' out out' err err' opened status opens finishes =
           (saves_shown c.saved_joins.ensures) _ _ says;
       certified = proves_certified c.accepted_leaves.ensures c.certified_games.ensures c.every_run.ensures _;
       saved = continues_saved c.saved_joins.ensures c.goes_on_behind.ensures _;
+      checked = checks_sources _;
       linked = brings_messages c.every_schedule.ensures.always c.every_schedule.ensures.numbers _;
       words = refuses_words _ _ says;
       due = gives_due _ _ says;
-      complete = completes (rom_never (roms_given c.source_gives_rom.ensures c.sources_give_roms.ensures)) _ _ says;
+      complete =
+          completes (rom_never (roms_given c.source_gives_rom.ensures c.sources_give_roms.ensures))
+          (only_checks (roms_given c.source_gives_rom.ensures c.sources_give_roms.ensures)) _ _ says;
       rom = never_of_rom (roms_given c.source_gives_rom.ensures c.sources_give_roms.ensures) _ _ says;
     }

@@ -44,6 +44,15 @@ returns-in_err-source-in-Asm g c =
 pub returns-in_ok-source-in-Asm : goal.returns-in_ok-source-in-Asm
 returns-in_ok-source-in-Asm g c = rw c.in-Asm.is (record { shape = refl; loads = loads-one _ _ _ _ c.source_file.ensures c.in_ok-source-in-Asm.source c.in_ok-source-in-Asm.ensures })
 
+pub returns-in_err-source-in-Check : goal.returns-in_err-source-in-Check
+returns-in_err-source-in-Check g c =
+    passed (LoadAnswers {Z = Global} (g.F.Files.meaning c.args.files.now) (g.F.Files.meaning c.open_file-in-Check.new.files) (asked_of c.args.request)) _ _ c.from_residual-in_err-source-in-Check.ensures.1
+    (subst (λ r. LoadAnswers {Z = Global} (g.F.Files.meaning c.args.files.now) (g.F.Files.meaning c.open_file-in-Check.new.files) (asked_of r) (Err c.in_err-source-in-Check.field-0.0)) (sym c.in-Check.is)
+    (refused-one _ _ _ _ c.source_file-in-Check.ensures c.in_err-source-in-Check.field-0.0 c.in_err-source-in-Check.ensures))
+
+pub returns-in_ok-source-in-Check : goal.returns-in_ok-source-in-Check
+returns-in_ok-source-in-Check g c = rw c.in-Check.is (record { shape = refl; loads = loads-one _ _ _ _ c.source_file-in-Check.ensures c.in_ok-source-in-Check.source c.in_ok-source-in-Check.ensures })
+
 pub returns-in_err-source-in-List : goal.returns-in_err-source-in-List
 returns-in_err-source-in-List g c =
     passed (LoadAnswers {Z = Global} (g.F.Files.meaning c.args.files.now) (g.F.Files.meaning c.open_file-in-List.new.files) (asked_of c.args.request)) _ _ c.from_residual-in_err-source-in-List.ensures.1
@@ -121,3 +130,9 @@ returns-in-Source g c = rw c.in-Source.is (record { shape = refl; loads = loads-
 
 pub returns-in-Bounds : goal.returns-in-Bounds
 returns-in-Bounds g c = rw c.in-Bounds.is (record { shape = refl; loads = loads-none _ })
+
+pub returns-in-Help : goal.returns-in-Help
+returns-in-Help g c = rw c.in-Help.is (record { shape = refl; loads = loads-none _ })
+
+pub returns-in-Version : goal.returns-in-Version
+returns-in-Version g c = rw c.in-Version.is (record { shape = refl; loads = loads-none _ })

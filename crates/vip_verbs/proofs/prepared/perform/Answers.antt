@@ -26,3 +26,9 @@ put_text-requires g c = rw c.in-Text.is at c.requires
 
 pub returns-in-Text : goal.returns-in-Text
 returns-in-Text g c = rw c.in-Text.is c.put_text.ensures
+
+pub put_told-requires : goal.put_told-requires
+put_told-requires g c = rw c.in-Checked.is at c.requires
+
+pub returns-in-Checked : goal.returns-in-Checked
+returns-in-Checked g c = rw c.in-Checked.is c.put_told.ensures

@@ -1,10 +1,11 @@
 use Rattle.vip_words.specs.Request.{map_code}
 use Rattle.vip_tools.specs.Code.{GameComes}
 use Rattle.vip_tools.specs.Certificates.{CertifyComes, CyclesComes, SafeComes, TimingComes}
+use Rattle.vip_tools.specs.Help.{HelpComes, VersionComes}
 use Rattle.vip_tools.specs.Outcome.{AsmComes, BoundsComes, ListComes}
 use Rattle.vip_verbs.specs.Outcome.{BuiltInComes}
 use Rattle.vip_verbs.proofs.FitLemmas.{bytes-fit}
-use Rattle.vip_verbs.proofs.WorkLemmas.{text-answers}
+use Rattle.vip_verbs.proofs.WorkLemmas.{checked-answers, text-answers}
 use Rattle.vip_verbs.proofs.preparing.prepare.Goals as goal
 
 pub returns-in-Run : goal.returns-in-Run
@@ -67,3 +68,15 @@ pub returns-in-Certify : goal.returns-in-Certify
 returns-in-Certify c =
     rw (c.in-Certify.is, c.text-in-Certify.ensures)
     (text-answers (GameComes c.in-Certify.edition (map_code (λ bytes. bytes.items) c.in-Certify.game) (CertifyComes c.in-Certify.edition)) _ c.certify_code.ensures)
+
+pub returns-in-Check : goal.returns-in-Check
+returns-in-Check c =
+    rw (c.in-Check.is, c.checked.ensures)
+    (checked-answers c.in-Check.isa c.in-Check.name c.in-Check.source.items _
+    (rw (c.as_slice-in-Check.ensures, c.as_slice-in-Check-2.ensures.value) at c.check.ensures))
+
+pub returns-in-Help : goal.returns-in-Help
+returns-in-Help c = rw (c.in-Help.is, c.text-in-Help.ensures) (text-answers (HelpComes c.in-Help.verb) _ c.help.ensures)
+
+pub returns-in-Version : goal.returns-in-Version
+returns-in-Version c = rw (c.in-Version.is, c.text-in-Version.ensures) (text-answers VersionComes _ c.version.ensures)

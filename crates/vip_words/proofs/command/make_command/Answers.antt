@@ -1,4 +1,4 @@
-use Rattle.std.proofs.Common.{◌∙◌, ap, ap₂, refl, arith}
+use Rattle.std.proofs.Common.{◌∙◌, ap, ap₂, refl}
 use Rattle.clap.specs.Words.{with_rule}
 use Rattle.vip_words.specs.Command.{command_app}
 use Rattle.vip_words.proofs.Arguments.{next_place, all_places}
