@@ -122,15 +122,6 @@ module _ (routines : AcceptedIsWithin) (games : CertifiedGames) (law : EveryRun)
   shows : (loaded : Loaded) (pieces : List (List ℕ)) (status : Status) (report : List ℕ) → AreGiven (needed loaded)
       → HasOutcome loaded (Shown pieces status report) → Certifies loaded pieces
   unfolding OfRoutine OfTiming OfGame OfSearch
-  shows (request.Run run) pieces status report given comes = tt
-  shows (request.Program run) pieces status report given comes = tt
-  shows (request.Link message moves number) pieces status report given comes = tt
-  shows (request.Asm source isa raw) pieces status report given comes = tt
-  shows (request.Check source name isa) pieces status report given comes = tt
-  shows (request.List source isa) pieces status report given comes = tt
-  shows (request.Dis bytes isa address) pieces status report given comes = tt
-  shows (request.Source text) pieces status report given comes = tt
-  shows request.Bounds pieces status report given comes = tt
   shows (request.Cycles source certificate exits) pieces status report given comes = routine source certificate exits (Shown pieces status report) comes
   shows (request.Timing source entry p k) pieces status report given comes = timing source entry p k (Shown pieces status report) comes
   shows (request.Safe code certificate edition) pieces status report given comes =
@@ -139,8 +130,7 @@ module _ (routines : AcceptedIsWithin) (games : CertifiedGames) (law : EveryRun)
   shows (request.Certify code edition) pieces status report given comes =
       game_so edition (CertifyComes edition) (λ game. WritesCertificate edition game pieces) pieces status report
       (λ game fits bytes here. search edition game fits bytes (Shown pieces status report) here) code given.0 comes
-  shows (request.Help verb) pieces status report given comes = tt
-  shows request.Version pieces status report given comes = tt
+  shows _ pieces status report given comes = tt
 
   pub proves_certified : (call : Call) → ProvesCertified call
   proves_certified call asked loaded pieces status report asks comes =

@@ -75,40 +75,17 @@ same_mosts f (request.Program run) =
     three_mosts (program_code run.memory (map_code f run.code) ∷ []) (program_show_files (map_program_show f run.show)) (script_files (option_map f run.keys))
     (program_code run.memory run.code ∷ []) (program_show_files run.show) (script_files run.keys)
     (program_mosts f run.memory run.code) (program_show_mosts f run.show) (script_mosts f run.keys)
-same_mosts f (request.Link message moves number) = refl
-same_mosts f (request.Asm source isa raw) = refl
-same_mosts f (request.Check source name isa) = refl
-same_mosts f (request.List source isa) = refl
-same_mosts f (request.Dis bytes isa address) = refl
-same_mosts f (request.Source text) = refl
-same_mosts f request.Bounds = refl
-same_mosts f (request.Cycles source certificate exits) = refl
-same_mosts f (request.Timing source entry p k) = refl
 same_mosts f (request.Safe game certificate edition) = ap (λ most. most ∷ most_text ∷ []) (code_most f (game_kind edition) (memory_size edition) game)
 same_mosts f (request.Certify game edition) = ap (λ most. most ∷ []) (code_most f (game_kind edition) (memory_size edition) game)
-same_mosts f (request.Help verb) = refl
-same_mosts f request.Version = refl
+same_mosts f _ = refl
 
 -- ---- the numbers
 
 -- they don't hang on the files either
 module _ {A B : Type 0} (f : A → B) where
   pub in_range : (r : Request A) → InRange (map_request f r) → InRange r
-  in_range (request.Run run) x = record { cycles = x.cycles; moves = x.moves; start = x.start }
-  in_range (request.Program run) x = record { cycles = x.cycles; moves = x.moves; start = x.start }
-  in_range (request.Link message moves number) x = record { cycles = x.cycles; moves = x.moves; start = x.start }
-  in_range (request.Asm source isa raw) x = record { cycles = x.cycles; moves = x.moves; start = x.start }
-  in_range (request.Check source name isa) x = record { cycles = x.cycles; moves = x.moves; start = x.start }
-  in_range (request.List source isa) x = record { cycles = x.cycles; moves = x.moves; start = x.start }
   in_range (request.Dis bytes isa address) x = record { cycles = x.cycles; moves = x.moves; start = x.start }
-  in_range (request.Source text) x = record { cycles = x.cycles; moves = x.moves; start = x.start }
-  in_range request.Bounds x = record { cycles = x.cycles; moves = x.moves; start = x.start }
-  in_range (request.Cycles source certificate exits) x = record { cycles = x.cycles; moves = x.moves; start = x.start }
-  in_range (request.Timing source entry p k) x = record { cycles = x.cycles; moves = x.moves; start = x.start }
-  in_range (request.Safe game certificate edition) x = record { cycles = x.cycles; moves = x.moves; start = x.start }
-  in_range (request.Certify game edition) x = record { cycles = x.cycles; moves = x.moves; start = x.start }
-  in_range (request.Help verb) x = record { cycles = x.cycles; moves = x.moves; start = x.start }
-  in_range request.Version x = record { cycles = x.cycles; moves = x.moves; start = x.start }
+  in_range _ x = record { cycles = x.cycles; moves = x.moves; start = x.start }
 
 -- ---- the files are small enough, and of bytes
 
@@ -290,20 +267,10 @@ filled (request.Program run) =
       limit = run.limit;
       show = program_show_filled run.show (script_files run.keys) i;
     })
-filled (request.Link message moves number) = refl
-filled (request.Asm source isa raw) = refl
-filled (request.Check source name isa) = refl
-filled (request.List source isa) = refl
-filled (request.Dis bytes isa address) = refl
-filled (request.Source text) = refl
-filled request.Bounds = refl
-filled (request.Cycles source certificate exits) = refl
-filled (request.Timing source entry p k) = refl
 filled (request.Safe code certificate edition) =
     ap (λ code. request.Safe code certificate edition) (code_filled (game_kind edition) (memory_size edition) code)
 filled (request.Certify code edition) = ap (λ code. request.Certify code edition) (code_filled (game_kind edition) (memory_size edition) code)
-filled (request.Help verb) = refl
-filled request.Version = refl
+filled _ = refl
 
 -- so there is one with this shape and these files
 pub one_loaded : (a b : Loaded) → shape_of a ≡ shape_of b → files_of (needed a) ≡ files_of (needed b) → a ≡ b

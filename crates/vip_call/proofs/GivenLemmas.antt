@@ -1,5 +1,5 @@
 -- Each source gives its ROM, so nothing comes to the refusal of a ROM that isn't what its source gives.
-use Rattle.std.proofs.Common.{◌≡◌, ℕ, Bool, List, Option, Some, None, sym, subst, Result, Ok, Err}
+use Rattle.std.proofs.Common.{◌≡◌, ◌⊎◌, inl, inr, ℕ, Bool, List, Option, Some, None, sym, subst, Result, Ok, Err}
 use Rattle.machine.specs.Keys.{Event as KeyEvent}
 use Rattle.chip8_lang.specs.declared.view.Edition.{Edition}
 use Rattle.chip8_lang.specs.declared.view.Edition.TheVariants.{Usual, Tall}
@@ -180,69 +180,36 @@ module _ (given : RomsGiven) where
   link_free message moves number _ (FaultyRoms fault faulty differ) = absurd (links_fine_or_not message moves number fault faulty given.links differ)
   link_free message moves number _ (Links fine s is) = tt
 
-  -- so is what any request comes to; the check of a source is output, whatever its status is
+  -- so is what any request comes to, but for the check of a source, which is output whatever its status is
   abbrev IsFine : Loaded → Outcome → Type 0
-  IsFine (request.Check source name isa) o = NotRefused o
-  IsFine _ o = Free o
+  IsFine loaded o = (IsCheck loaded × NotRefused o) ⊎ Free o
 
   comes_free : (loaded : Loaded) (o : Outcome) → HasOutcome loaded o → IsFine loaded o
-  comes_free (request.Run run) o x = begin_free run.start run.keys run.limit run.show o x
+  comes_free (request.Run run) o x = inr (begin_free run.start run.keys run.limit run.show o x)
   comes_free (request.Program run) o x =
-      image_free _ (λ rom ram o x. program_show_free run.memory rom ram run.keys _ run.limit run.show o x) run.memory run.code o x
-  comes_free (request.Link message moves number) o x = link_free message moves number o x
-  comes_free (request.Asm source isa raw) o x = source_free isa source _ o x
-  comes_free (request.Check source name isa) o x = subst NotRefused (sym x) tt
-  comes_free (request.List source isa) o x = source_free isa source _ o x
-  comes_free (request.Dis bytes isa address) o x = alone_free _ o tt x
-  comes_free (request.Source text) o x = alone_free _ o tt x
-  comes_free request.Bounds o x = alone_free _ o tt x
-  comes_free (request.Cycles source certificate exits) o x = cycles_free source certificate exits o x
-  comes_free (request.Timing source entry p k) o x = timing_free source entry p k o x
-  comes_free (request.Safe code certificate edition) o x = game_free edition _ (λ game o x. proof_free edition game certificate o x) code o x
-  comes_free (request.Certify code edition) o x = game_free edition _ (λ game o x. search_free edition game o x) code o x
-  comes_free (request.Help verb) o x = alone_free _ o tt x
-  comes_free request.Version o x = alone_free _ o tt x
-
-  fine_never : (loaded : Loaded) (status : Status) (report : List ℕ) → IsFine loaded (Refused status report) → ¬ IsOfRom status
-  fine_never (request.Run run) status report fine = fine
-  fine_never (request.Program run) status report fine = fine
-  fine_never (request.Link message moves number) status report fine = fine
-  fine_never (request.Asm source isa raw) status report fine = fine
-  fine_never (request.Check source name isa) status report fine = absurd fine
-  fine_never (request.List source isa) status report fine = fine
-  fine_never (request.Dis bytes isa address) status report fine = fine
-  fine_never (request.Source text) status report fine = fine
-  fine_never request.Bounds status report fine = fine
-  fine_never (request.Cycles source certificate exits) status report fine = fine
-  fine_never (request.Timing source entry p k) status report fine = fine
-  fine_never (request.Safe code certificate edition) status report fine = fine
-  fine_never (request.Certify code edition) status report fine = fine
-  fine_never (request.Help verb) status report fine = fine
-  fine_never request.Version status report fine = fine
-
-  fine_check : (loaded : Loaded) (pieces : List (List ℕ)) (report : List ℕ) → IsFine loaded (Shown pieces BadSource report) → IsCheck loaded
-  fine_check (request.Run run) pieces report fine = absurd fine
-  fine_check (request.Program run) pieces report fine = absurd fine
-  fine_check (request.Link message moves number) pieces report fine = absurd fine
-  fine_check (request.Asm source isa raw) pieces report fine = absurd fine
-  fine_check (request.Check source name isa) pieces report fine = tt
-  fine_check (request.List source isa) pieces report fine = absurd fine
-  fine_check (request.Dis bytes isa address) pieces report fine = absurd fine
-  fine_check (request.Source text) pieces report fine = absurd fine
-  fine_check request.Bounds pieces report fine = absurd fine
-  fine_check (request.Cycles source certificate exits) pieces report fine = absurd fine
-  fine_check (request.Timing source entry p k) pieces report fine = absurd fine
-  fine_check (request.Safe code certificate edition) pieces report fine = absurd fine
-  fine_check (request.Certify code edition) pieces report fine = absurd fine
-  fine_check (request.Help verb) pieces report fine = absurd fine
-  fine_check request.Version pieces report fine = absurd fine
+      inr (image_free _ (λ rom ram o x. program_show_free run.memory rom ram run.keys _ run.limit run.show o x) run.memory run.code o x)
+  comes_free (request.Link message moves number) o x = inr (link_free message moves number o x)
+  comes_free (request.Asm source isa raw) o x = inr (source_free isa source _ o x)
+  comes_free (request.Check source name isa) o x = inl (tt, subst NotRefused (sym x) tt)
+  comes_free (request.List source isa) o x = inr (source_free isa source _ o x)
+  comes_free (request.Cycles source certificate exits) o x = inr (cycles_free source certificate exits o x)
+  comes_free (request.Timing source entry p k) o x = inr (timing_free source entry p k o x)
+  comes_free (request.Safe code certificate edition) o x = inr (game_free edition _ (λ game o x. proof_free edition game certificate o x) code o x)
+  comes_free (request.Certify code edition) o x = inr (game_free edition _ (λ game o x. search_free edition game o x) code o x)
+  comes_free _ o x = inr (alone_free _ o tt x)
 
   pub rom_never : (loaded : Loaded) (status : Status) (report : List ℕ) → HasOutcome loaded (Refused status report) → ¬ IsOfRom status
-  rom_never loaded status report x = fine_never loaded status report (comes_free loaded (Refused status report) x)
+  rom_never loaded status report x = elim (comes_free loaded (Refused status report) x) [
+    | inl check ↦ absurd check.1
+    | inr free ↦ free
+  ]
 
   -- output ends with a fault of a source only where that is checked
   pub only_checks : (loaded : Loaded) (pieces : List (List ℕ)) (report : List ℕ) → HasOutcome loaded (Shown pieces BadSource report) → IsCheck loaded
-  only_checks loaded pieces report x = fine_check loaded pieces report (comes_free loaded (Shown pieces BadSource report) x)
+  only_checks loaded pieces report x = elim (comes_free loaded (Shown pieces BadSource report) x) [
+    | inl check ↦ check.0
+    | inr free ↦ absurd free
+  ]
 
   pub never_of_rom : (status : Status) (call : Call) → Says status call → ¬ IsOfRom status
   never_of_rom BadRomSource call says = rom_never says.loaded BadRomSource says.report says.comes

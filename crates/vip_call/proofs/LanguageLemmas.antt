@@ -162,20 +162,7 @@ module _ (law : EveryRun) (from : FromFile) (frames : EveryFrame) (frames_from :
       begun_so pieces status report (λ e s. ShowComes (known_in run.start) e s run.keys run.limit run.show) (λ e s. RunIsChip8 e s run.keys run.limit run.show status report)
       (λ e s fits comes. shows_as _ e s fits run.keys run.limit run.show (Shown pieces status report) comes)
       run.start (show_files run.show ++ script_files run.keys) given comes
-  shows (request.Program run) pieces status report given comes = tt
-  shows (request.Link message moves number) pieces status report given comes = tt
-  shows (request.Asm source isa raw) pieces status report given comes = tt
-  shows (request.Check source name isa) pieces status report given comes = tt
-  shows (request.List source isa) pieces status report given comes = tt
-  shows (request.Dis bytes isa address) pieces status report given comes = tt
-  shows (request.Source text) pieces status report given comes = tt
-  shows request.Bounds pieces status report given comes = tt
-  shows (request.Cycles source certificate exits) pieces status report given comes = tt
-  shows (request.Timing source entry p k) pieces status report given comes = tt
-  shows (request.Safe game certificate edition) pieces status report given comes = tt
-  shows (request.Certify game edition) pieces status report given comes = tt
-  shows (request.Help verb) pieces status report given comes = tt
-  shows request.Version pieces status report given comes = tt
+  shows _ pieces status report given comes = tt
 
   pub speaks_chip8 : (call : Call) → SpeaksChip8 call
   speaks_chip8 call asked loaded pieces status report asks comes =

@@ -87,7 +87,7 @@ use Rattle.vip_tools.specs.declared.refusal.Kind.TheVariants as kind
 use Rattle.vip_tools.specs.declared.refusal.Refusal.{Refusal}
 use Rattle.vip_tools.specs.declared.refusal.Refusal.TheVariants as refusal
 use Rattle.vip_tools.specs.declared.status.Status.{Status}
-use Rattle.vip_tools.specs.declared.status.Status.TheVariants.{Done, Stopped, Usage, ReadFault, GameTooLarge, ScriptTooLarge, BadScript, BadSource, BadRomSource, RomDiffers, WriteFault, NoMemory, BadCommand, SourceTooLarge, CommandsTooLarge, BadState, NoDispatch, BadCertificate, MessageTooLarge, BadProof, CertificateTooLarge, NoCertificate, RomTooLarge, RamTooLarge, StrayByte}
+use Rattle.vip_tools.specs.declared.status.Status.TheVariants.{Done, Stopped, Usage, ReadFault, GameTooLarge, ScriptTooLarge, BadSource, WriteFault, NoMemory, SourceTooLarge, CommandsTooLarge, BadState, NoDispatch, MessageTooLarge, CertificateTooLarge, NoCertificate, RomTooLarge, RamTooLarge}
 
 -- ---- one outcome
 
@@ -430,17 +430,12 @@ agree (request.Program run) o p x y =
     image_agree _ (λ rom ram o p x y. program_shows_agree run.memory rom ram run.keys _ run.limit run.show o p x y) run.memory run.code o p x y
 agree (request.Link message moves number) o p x y = links_agree message moves number o p x y
 agree (request.Asm source isa raw) o p x y = sources_agree isa source _ o p x y
-agree (request.Check source name isa) o p x y = alone_agree _ o p refl x y
 agree (request.List source isa) o p x y = sources_agree isa source _ o p x y
-agree (request.Dis bytes isa address) o p x y = alone_agree _ o p refl x y
-agree (request.Source text) o p x y = alone_agree _ o p refl x y
-agree request.Bounds o p x y = alone_agree _ o p refl x y
 agree (request.Cycles source certificate exits) o p x y = cycles_agree source certificate exits o p x y
 agree (request.Timing source entry a k) o p x y = timings_agree source entry a k o p x y
 agree (request.Safe code certificate edition) o p x y = game_agree edition _ (λ game o p x y. proofs_agree edition game certificate o p x y) code o p x y
 agree (request.Certify code edition) o p x y = game_agree edition _ (λ game o p x y. searches_agree edition game o p x y) code o p x y
-agree (request.Help verb) o p x y = alone_agree _ o p refl x y
-agree request.Version o p x y = alone_agree _ o p refl x y
+agree _ o p x y = alone_agree _ o p refl x y
 
 -- only a search is given up
 given_up : (loaded : Loaded) (report : List ℕ) → HasOutcome loaded (GivenUp report) → IsSearch loaded
@@ -449,18 +444,13 @@ given_up (request.Program run) report x =
     absurd (no_image _ run.memory run.code report (λ rom ram x. no_program_show run.memory rom ram run.keys _ run.limit run.show report x) x)
 given_up (request.Link message moves number) report x = absurd (no_link message moves number report x)
 given_up (request.Asm source isa raw) report x = absurd (no_source isa source _ report x)
-given_up (request.Check source name isa) report x = absurd (cc)
 given_up (request.List source isa) report x = absurd (no_source isa source _ report x)
-given_up (request.Dis bytes isa address) report x = absurd (cc)
-given_up (request.Source text) report x = absurd (cc)
-given_up request.Bounds report x = absurd (cc)
 given_up (request.Cycles source certificate exits) report x = absurd (no_routine source certificate exits report x)
 given_up (request.Timing source entry p k) report x = tt
 given_up (request.Safe code certificate edition) report x =
     absurd (no_game edition _ code report (λ game x. no_proof edition game certificate report x) x)
 given_up (request.Certify game edition) report x = tt
-given_up (request.Help verb) report x = absurd (cc)
-given_up request.Version report x = absurd (cc)
+given_up _ report x = absurd (cc)
 
 -- ---- one reading
 
@@ -548,8 +538,6 @@ nothing_asked : (words : List (List ℕ)) (asked : Asked) → asked_by words ≡
 nothing_asked words asked some none = cc
 
 pub refuses_words : (status : Status) (call : Call) → Says status call → RefusesWords status call
-refuses_words Done call says none = absurd (nothing_asked call.words says.asked says.asks.words none)
-refuses_words Stopped call says none = absurd (nothing_asked call.words says.asked says.asks.words none)
 refuses_words Usage call says none = inl refl
 refuses_words ReadFault call says none = absurd (nothing_asked call.words says.asked says.words none)
 refuses_words GameTooLarge call says none = elim says [
@@ -557,31 +545,22 @@ refuses_words GameTooLarge call says none = elim says [
   | inr gives ↦ absurd (nothing_asked call.words gives.asked gives.asks.words none)
 ]
 refuses_words ScriptTooLarge call says none = absurd (nothing_asked call.words says.asked says.words none)
-refuses_words BadScript call says none = absurd (nothing_asked call.words says.asked says.asks.words none)
 refuses_words BadSource call says none = elim says [
   | inl shows ↦ absurd (nothing_asked call.words shows.asked shows.asks.words none)
   | inr gives ↦ absurd (nothing_asked call.words gives.asked gives.asks.words none)
 ]
-refuses_words BadRomSource call says none = absurd (nothing_asked call.words says.asked says.asks.words none)
-refuses_words RomDiffers call says none = absurd (nothing_asked call.words says.asked says.asks.words none)
-refuses_words WriteFault call says none = absurd (nothing_asked call.words says.asked says.asks.words none)
 refuses_words NoMemory call says none = inr refl
-refuses_words BadCommand call says none = absurd (nothing_asked call.words says.asked says.asks.words none)
 refuses_words SourceTooLarge call says none = absurd (nothing_asked call.words says.asked says.words none)
 refuses_words CommandsTooLarge call says none = absurd (nothing_asked call.words says.asked says.words none)
 refuses_words BadState call says none = elim says [
   | inl large ↦ absurd (nothing_asked call.words large.asked large.words none)
   | inr bad ↦ absurd (nothing_asked call.words bad.asked bad.words none)
 ]
-refuses_words NoDispatch call says none = absurd (nothing_asked call.words says.asked says.asks.words none)
-refuses_words BadCertificate call says none = absurd (nothing_asked call.words says.asked says.asks.words none)
 refuses_words MessageTooLarge call says none = absurd (nothing_asked call.words says.asked says.words none)
-refuses_words BadProof call says none = absurd (nothing_asked call.words says.asked says.asks.words none)
 refuses_words CertificateTooLarge call says none = absurd (nothing_asked call.words says.asked says.words none)
-refuses_words NoCertificate call says none = absurd (nothing_asked call.words says.asked says.asks.words none)
 refuses_words RomTooLarge call says none = absurd (nothing_asked call.words says.asked says.words none)
 refuses_words RamTooLarge call says none = absurd (nothing_asked call.words says.asked says.words none)
-refuses_words StrayByte call says none = absurd (nothing_asked call.words says.asked says.asks.words none)
+refuses_words _ call says none = absurd (nothing_asked call.words says.asked says.asks.words none)
 
 module _ (call : Call) (asked : Asked) (files : FileMap) (offers : Offers call asked files) where
   same : (mine : Asked) → asked_by call.words ≡ Some mine → mine ≡ asked
@@ -739,31 +718,24 @@ module _ (call : Call) (asked : Asked) (files : FileMap) (offers : Offers call a
     | inr gives ↦ rejects_due r read due given GameTooLarge gives
   ]
   due_is ScriptTooLarge says r read due given = oversize_due r read due given ScriptTooLarge says
-  due_is BadScript says r read due given = rejects_due r read due given BadScript says
   due_is BadSource says r read due given = elim says [
     | inl shows ↦ shows_due r read due given BadSource shows
     | inr gives ↦ rejects_due r read due given BadSource gives
   ]
-  due_is BadRomSource says r read due given = rejects_due r read due given BadRomSource says
-  due_is RomDiffers says r read due given = rejects_due r read due given RomDiffers says
   due_is WriteFault says r read due given = absurd (faulty_due r read due given says)
   due_is NoMemory says r read due given = inr (inl refl)
-  due_is BadCommand says r read due given = rejects_due r read due given BadCommand says
   due_is SourceTooLarge says r read due given = oversize_due r read due given SourceTooLarge says
   due_is CommandsTooLarge says r read due given = oversize_due r read due given CommandsTooLarge says
   due_is BadState says r read due given = elim says [
     | inl large ↦ oversize_due r read due given BadState large
     | inr bad ↦ inl (sym (due_faulted r due given (reads_once files (needed asked) r Faulted read (faulted_here bad))))
   ]
-  due_is NoDispatch says r read due given = rejects_due r read due given NoDispatch says
-  due_is BadCertificate says r read due given = rejects_due r read due given BadCertificate says
   due_is MessageTooLarge says r read due given = oversize_due r read due given MessageTooLarge says
-  due_is BadProof says r read due given = rejects_due r read due given BadProof says
   due_is CertificateTooLarge says r read due given = oversize_due r read due given CertificateTooLarge says
   due_is NoCertificate says r read due given = inr (inr (refl, searches says))
   due_is RomTooLarge says r read due given = oversize_due r read due given RomTooLarge says
   due_is RamTooLarge says r read due given = oversize_due r read due given RamTooLarge says
-  due_is StrayByte says r read due given = rejects_due r read due given StrayByte says
+  due_is status says r read due given = rejects_due r read due given status says
 
   module _ (contents : List (List ℕ)) (there : Reads files (needed asked) (Whole contents)) (accepted : ¬ AreRefused asked contents)
       (free : (loaded : Loaded) (status : Status) (report : List ℕ) → HasOutcome loaded (Refused status report) → ¬ IsOfRom status)
@@ -800,35 +772,28 @@ module _ (call : Call) (asked : Asked) (files : FileMap) (offers : Offers call a
       | inr gives ↦ absurd (not_rejected GameTooLarge gives)
     ]
     ends ScriptTooLarge says out err = absurd (not_larger ScriptTooLarge says)
-    ends BadScript says out err = absurd (not_rejected BadScript says)
     ends BadSource says out err = elim says [
       | inl shows ↦ inl (checks_asked shows)
       | inr gives ↦ absurd (not_rejected BadSource gives)
     ]
-    ends BadRomSource says out err = absurd (not_rejected BadRomSource says)
-    ends RomDiffers says out err = absurd (not_rejected RomDiffers says)
     ends WriteFault says out err =
         elim says.fault [
           | inl fails ↦ absurd (quiet _ _ fails.out.faults out)
           | inr fails ↦ absurd (quiet _ _ fails.err.faults err)
         ]
     ends NoMemory says out err = inr (inl refl)
-    ends BadCommand says out err = absurd (not_rejected BadCommand says)
     ends SourceTooLarge says out err = absurd (not_larger SourceTooLarge says)
     ends CommandsTooLarge says out err = absurd (not_larger CommandsTooLarge says)
     ends BadState says out err = elim says [
       | inl large ↦ absurd (not_larger BadState large)
       | inr bad ↦ let fault = reads_once files (needed asked) _ _ (faulted_here bad) there in absurd (cc)
     ]
-    ends NoDispatch says out err = absurd (not_rejected NoDispatch says)
-    ends BadCertificate says out err = absurd (not_rejected BadCertificate says)
     ends MessageTooLarge says out err = absurd (not_larger MessageTooLarge says)
-    ends BadProof says out err = absurd (not_rejected BadProof says)
     ends CertificateTooLarge says out err = absurd (not_larger CertificateTooLarge says)
     ends NoCertificate says out err = inr (inr (refl, searches says))
     ends RomTooLarge says out err = absurd (not_larger RomTooLarge says)
     ends RamTooLarge says out err = absurd (not_larger RamTooLarge says)
-    ends StrayByte says out err = absurd (not_rejected StrayByte says)
+    ends status says out err = absurd (not_rejected status says)
 
 pub gives_due : (status : Status) (call : Call) → Says status call → GivesDue status call
 gives_due status call says asked files r due offers read given = due_is call asked files offers status says r read due given

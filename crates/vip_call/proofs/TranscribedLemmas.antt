@@ -33,7 +33,7 @@ use Rattle.vip_words.specs.declared.request.Request.TheVariants as request
 use Rattle.vip_words.specs.declared.request.Show.{Show}
 use Rattle.vip_words.specs.declared.request.Show.TheVariants as show
 use Rattle.vip_tools.specs.declared.status.Status.{Status}
-use Rattle.vip_tools.specs.declared.status.Status.TheVariants.{Done, Stopped as Stops, Usage, ReadFault, GameTooLarge, ScriptTooLarge, BadScript, BadSource, BadRomSource, RomDiffers, WriteFault, NoMemory, BadCommand, SourceTooLarge, CommandsTooLarge, BadState, NoDispatch, BadCertificate, MessageTooLarge, BadProof, CertificateTooLarge, NoCertificate, RomTooLarge, RamTooLarge, StrayByte}
+use Rattle.vip_tools.specs.declared.status.Status.TheVariants.{Done, Stopped as Stops, WriteFault}
 use Rattle.vip_tools.specs.Files.{Loaded, needed, script_files, show_files}
 use Rattle.vip_tools.specs.Outcome.{Outcome}
 use Rattle.vip_tools.specs.Outcome.Outcome.{Refused, Shown, GivenUp}
@@ -293,20 +293,7 @@ module _ (every : EveryRun) (from : FromAccepted) (saves : SavesShown) (law : Ru
       (λ e s. Transcribed law (known_in run.start) e s run.keys run.limit run.show pieces status report)
       (λ e s fits comes. transcribed_as _ e s fits run.keys run.limit run.show (Shown pieces status report) comes)
       run.start (show_files run.show ++ script_files run.keys) given comes)
-  transcribes (request.Program run) pieces status report given comes = tt
-  transcribes (request.Link message moves number) pieces status report given comes = tt
-  transcribes (request.Asm source isa raw) pieces status report given comes = tt
-  transcribes (request.Check source name isa) pieces status report given comes = tt
-  transcribes (request.List source isa) pieces status report given comes = tt
-  transcribes (request.Dis bytes isa address) pieces status report given comes = tt
-  transcribes (request.Source text) pieces status report given comes = tt
-  transcribes request.Bounds pieces status report given comes = tt
-  transcribes (request.Cycles source certificate exits) pieces status report given comes = tt
-  transcribes (request.Timing source entry p k) pieces status report given comes = tt
-  transcribes (request.Safe game certificate edition) pieces status report given comes = tt
-  transcribes (request.Certify game edition) pieces status report given comes = tt
-  transcribes (request.Help verb) pieces status report given comes = tt
-  transcribes request.Version pieces status report given comes = tt
+  transcribes _ pieces status report given comes = tt
 
   -- ---- a call
 
@@ -339,28 +326,7 @@ module _ (every : EveryRun) (from : FromAccepted) (saves : SavesShown) (law : Ru
         comes = transcribes s.loaded s.pieces s.status s.report (are_given call.files s.asked s.loaded s.asks.shape s.asks.read) s.comes;
         fault = s.fault;
       }
-  tells Usage call s = tt
-  tells ReadFault call s = tt
-  tells GameTooLarge call s = tt
-  tells ScriptTooLarge call s = tt
-  tells BadScript call s = tt
-  tells BadSource call s = tt
-  tells BadRomSource call s = tt
-  tells RomDiffers call s = tt
-  tells NoMemory call s = tt
-  tells BadCommand call s = tt
-  tells SourceTooLarge call s = tt
-  tells CommandsTooLarge call s = tt
-  tells BadState call s = tt
-  tells NoDispatch call s = tt
-  tells BadCertificate call s = tt
-  tells MessageTooLarge call s = tt
-  tells BadProof call s = tt
-  tells CertificateTooLarge call s = tt
-  tells NoCertificate call s = tt
-  tells RomTooLarge call s = tt
-  tells RamTooLarge call s = tt
-  tells StrayByte call s = tt
+  tells _ call s = tt
 
 pub tells_chip8 : EveryRun → FromAccepted → SavesShown → (status : Status) (call : Call) → Says status call → TellsChip8 status call
 tells_chip8 every from saves =

@@ -12,7 +12,7 @@ use Rattle.vip_outside.specs.Pieces.{PutsAll}
 use Rattle.vip_tools.specs.Report.{linked_report}
 use Rattle.vip_tools.specs.declared.ended.Ended.TheVariants.{Linked}
 use Rattle.vip_tools.specs.declared.refusal.Refusal.{Refusal}
-use Rattle.vip_tools.specs.declared.refusal.Refusal.TheVariants.{Usage, Unread, TooLarge, Script, Command, Source, Misfit, State, Rom, Certificate, Proof, NoCertificate, NoMemory, NoTiming}
+use Rattle.vip_tools.specs.declared.refusal.Refusal.TheVariants.{Rom, NoMemory}
 use Rattle.vip_tools.specs.Work.{RefusedBy}
 use Rattle.vip_verbs.specs.Outcome.{LinkComes, linked_after}
 use Rattle.vip_verbs.specs.Opening.{LinkRomsAnswer}
@@ -23,20 +23,9 @@ use Rattle.vip_verbs.specs.Prepared.{IsJoined, Performs, linked}
 module _ (message : List ℕ) (moves number : ℕ) where
   -- a ROM isn't what its source gives
   pub refused-roms : (refusal : Refusal) → LinkRomsAnswer (Err refusal) → RefusedBy (LinkComes message moves number) refusal
-  refused-roms Usage answer = absurd answer
-  refused-roms (Unread name) answer = absurd answer
-  refused-roms (TooLarge kind) answer = absurd answer
-  refused-roms (Script line cause) answer = absurd answer
-  refused-roms (Command line cause) answer = absurd answer
-  refused-roms (Source line cause) answer = absurd answer
-  refused-roms (Misfit misfit) answer = absurd answer
-  refused-roms (State fault) answer = absurd answer
   refused-roms (Rom fault) answer = FaultyRoms fault answer.0 answer.1
-  refused-roms (Certificate line cause) answer = absurd answer
-  refused-roms (Proof line cause) answer = absurd answer
-  refused-roms (NoCertificate obstacle) answer = absurd answer
-  refused-roms (NoTiming why) answer = absurd answer
   refused-roms NoMemory answer = tt
+  refused-roms _ answer = absurd answer
 
   -- both boards are joined, so their output is settled
   pub link-comes : (l : Linking) → l ≡ started message → ComparesLink (Ok tt)

@@ -9,7 +9,7 @@ use Rattle.vip_program.specs.Trace.{ShowAnswers}
 use Rattle.vip_program.specs.declared.trace.ProgramEnd.{ProgramEnd}
 use Rattle.vip_program.specs.declared.trace.ProgramEnd.TheVariants as program
 use Rattle.vip_tools.specs.declared.refusal.Refusal.{Refusal}
-use Rattle.vip_tools.specs.declared.refusal.Refusal.TheVariants.{Usage, Unread, TooLarge, Script, Command, Source, Misfit, State, Rom, Certificate, Proof, NoCertificate, NoMemory, NoTiming}
+use Rattle.vip_tools.specs.declared.refusal.Refusal.TheVariants.{Script, Command, NoMemory}
 use Rattle.vip_tools.specs.Code.{Known}
 use Rattle.vip_tools.specs.Outcome.{Outcome}
 use Rattle.vip_tools.specs.Work.{RefusedBy}
@@ -35,22 +35,11 @@ module _ (memory : Memory) (rom ram : List ℕ) (keys : Option (List ℕ)) where
     -- what is shown of it isn't ready
     pub refused-program-show : (asked : ProgramShow (List ℕ)) (refusal : Refusal) → ProgramShowReady known limit asked (Err refusal)
         → RefusedBy (ProgramShowComes known memory rom ram keys limit asked) refusal
-    refused-program-show asked Usage answer = absurd answer
-    refused-program-show asked (Unread name) answer = absurd answer
-    refused-program-show asked (TooLarge kind) answer = absurd answer
-    refused-program-show asked (Script line cause) answer = absurd answer
     refused-program-show show.Trace (Command line cause) answer = absurd answer
     refused-program-show show.Pictures (Command line cause) answer = absurd answer
     refused-program-show (show.Commands text echo) (Command line cause) answer = rw answer refl
-    refused-program-show asked (Source line cause) answer = absurd answer
-    refused-program-show asked (Misfit misfit) answer = absurd answer
-    refused-program-show asked (State fault) answer = absurd answer
-    refused-program-show asked (Rom fault) answer = absurd answer
-    refused-program-show asked (Certificate line cause) answer = absurd answer
-    refused-program-show asked (Proof line cause) answer = absurd answer
-    refused-program-show asked (NoCertificate obstacle) answer = absurd answer
-    refused-program-show asked (NoTiming why) answer = absurd answer
     refused-program-show asked NoMemory answer = tt
+    refused-program-show asked _ answer = absurd answer
 
     -- it is ready, so it comes to what it makes of its board
     module _ (ready : ReadyProgramShow) where
@@ -69,20 +58,9 @@ module _ (memory : Memory) (rom ram : List ℕ) (keys : Option (List ℕ)) where
 
       pub refused-board : (asked : ProgramShow (List ℕ)) → IsProgramShow known limit asked ready → (refusal : Refusal) → BoardAnswers memory rom ram keys (Err refusal)
           → RefusedBy (ProgramShowComes known memory rom ram keys limit asked) refusal
-      refused-board asked is Usage answer = absurd answer
-      refused-board asked is (Unread name) answer = absurd answer
-      refused-board asked is (TooLarge kind) answer = absurd answer
       refused-board asked is (Script line cause) answer = comes-as asked is _ (FaultyScript line cause answer)
-      refused-board asked is (Command line cause) answer = absurd answer
-      refused-board asked is (Source line cause) answer = absurd answer
-      refused-board asked is (Misfit misfit) answer = absurd answer
-      refused-board asked is (State fault) answer = absurd answer
-      refused-board asked is (Rom fault) answer = absurd answer
-      refused-board asked is (Certificate line cause) answer = absurd answer
-      refused-board asked is (Proof line cause) answer = absurd answer
-      refused-board asked is (NoCertificate obstacle) answer = absurd answer
-      refused-board asked is (NoTiming why) answer = absurd answer
       refused-board asked is NoMemory answer = tt
+      refused-board asked is _ answer = absurd answer
 
 -- what was shown of a run
 pub program-performs :

@@ -105,34 +105,10 @@ module _ (Here : Edition → Start → Outcome → Type 0) where
   -- there are none
   pub refused-beginning : (start : asked.Start (List ℕ)) (refusal : Refusal) → IsNoBeginning start refusal → RefusedBy (Begins start Here) refusal
   refused-beginning (asking.Game code edition) refusal answer = refused-game edition code (λ game. Here edition (Reset game)) refusal answer
-  refused-beginning (asking.State file) Usage answer = absurd answer
-  refused-beginning (asking.State file) (Unread name) answer = absurd answer
-  refused-beginning (asking.State file) (TooLarge kind) answer = absurd answer
-  refused-beginning (asking.State file) (Script line cause) answer = absurd answer
-  refused-beginning (asking.State file) (Command line cause) answer = absurd answer
-  refused-beginning (asking.State file) (Source line cause) answer = absurd answer
-  refused-beginning (asking.State file) (Misfit misfit) answer = absurd answer
-  refused-beginning (asking.State file) (State fault) answer = absurd answer
-  refused-beginning (asking.State file) (Rom fault) answer = absurd answer
-  refused-beginning (asking.State file) (Certificate line cause) answer = absurd answer
-  refused-beginning (asking.State file) (Proof line cause) answer = absurd answer
-  refused-beginning (asking.State file) (NoCertificate obstacle) answer = absurd answer
-  refused-beginning (asking.State file) (NoTiming why) answer = absurd answer
   refused-beginning (asking.State file) NoMemory answer = tt
-  refused-beginning (asking.Demo number) Usage answer = absurd answer
-  refused-beginning (asking.Demo number) (Unread name) answer = absurd answer
-  refused-beginning (asking.Demo number) (TooLarge kind) answer = absurd answer
-  refused-beginning (asking.Demo number) (Script line cause) answer = absurd answer
-  refused-beginning (asking.Demo number) (Command line cause) answer = absurd answer
-  refused-beginning (asking.Demo number) (Source line cause) answer = absurd answer
-  refused-beginning (asking.Demo number) (Misfit misfit) answer = absurd answer
-  refused-beginning (asking.Demo number) (State fault) answer = absurd answer
-  refused-beginning (asking.Demo number) (Rom fault) answer = absurd answer
-  refused-beginning (asking.Demo number) (Certificate line cause) answer = absurd answer
-  refused-beginning (asking.Demo number) (Proof line cause) answer = absurd answer
-  refused-beginning (asking.Demo number) (NoCertificate obstacle) answer = absurd answer
-  refused-beginning (asking.Demo number) (NoTiming why) answer = absurd answer
+  refused-beginning (asking.State file) _ answer = absurd answer
   refused-beginning (asking.Demo number) NoMemory answer = tt
+  refused-beginning (asking.Demo number) _ answer = absurd answer
 
 -- what is known of its code, or that there is none
 pub game-marks : (edition : Edition) (code : Code (List ℕ)) (r : Result Marks Refusal) → MarksAnswer Chip8Words code r → MarksAtStart (asking.Game code edition) r
@@ -165,62 +141,29 @@ module _ (at : Beginning) (Here : Edition → Start → Outcome → Type 0) wher
 module _ (e : Edition) (s : Start) (keys : Option (List ℕ)) where
   -- its script isn't read
   pub refused-keys : (refusal : Refusal) → KeysAnswer keys (Err refusal) → BeginAnswers e s keys (Err refusal)
-  refused-keys Usage answer = absurd answer
-  refused-keys (Unread name) answer = absurd answer
-  refused-keys (TooLarge kind) answer = absurd answer
   refused-keys (Script line cause) answer = answer
-  refused-keys (Command line cause) answer = absurd answer
-  refused-keys (Source line cause) answer = absurd answer
-  refused-keys (Misfit misfit) answer = absurd answer
-  refused-keys (State fault) answer = absurd answer
-  refused-keys (Rom fault) answer = absurd answer
-  refused-keys (Certificate line cause) answer = absurd answer
-  refused-keys (Proof line cause) answer = absurd answer
-  refused-keys (NoCertificate obstacle) answer = absurd answer
-  refused-keys (NoTiming why) answer = absurd answer
   refused-keys NoMemory answer = tt
+  refused-keys _ answer = absurd answer
 
   -- it is
   module _ (script : List KeyEvent) (reads : script_in keys ≡ Ok script) where
     pub begin-answers : (r : Result VipState Refusal) → StartAnswers e s script r → BeginAnswers e s keys r
     begin-answers (Ok v) answer = record { script = script; reads = reads; here = answer }
-    begin-answers (Err Usage) answer = absurd answer
-    begin-answers (Err (Unread name)) answer = absurd answer
-    begin-answers (Err (TooLarge kind)) answer = absurd answer
-    begin-answers (Err (Script line cause)) answer = absurd answer
-    begin-answers (Err (Command line cause)) answer = absurd answer
-    begin-answers (Err (Source line cause)) answer = absurd answer
-    begin-answers (Err (Misfit misfit)) answer = absurd answer
-    begin-answers (Err (State fault)) answer = absurd answer
     begin-answers (Err (Rom fault)) answer = record { script = script; reads = reads; here = answer }
-    begin-answers (Err (Certificate line cause)) answer = absurd answer
-    begin-answers (Err (Proof line cause)) answer = absurd answer
-    begin-answers (Err (NoCertificate obstacle)) answer = absurd answer
-    begin-answers (Err (NoTiming why)) answer = absurd answer
     begin-answers (Err NoMemory) answer = tt
+    begin-answers (Err _) answer = absurd answer
 
   module _ (known : Known) (limit : ℕ) where
     -- what is shown of it isn't ready
     pub refused-show : (asked : Show (List ℕ)) (refusal : Refusal) → ShowReady known limit asked (Err refusal) → RefusedBy (ShowComes known e s keys limit asked) refusal
-    refused-show asked Usage answer = absurd answer
-    refused-show asked (Unread name) answer = absurd answer
-    refused-show asked (TooLarge kind) answer = absurd answer
-    refused-show asked (Script line cause) answer = absurd answer
     refused-show (show.Trace with_time with_words with_screen) (Command line cause) answer = absurd answer
     refused-show show.Pictures (Command line cause) answer = absurd answer
     refused-show (show.Commands text echo) (Command line cause) answer = rw answer refl
     refused-show show.State (Command line cause) answer = absurd answer
     refused-show show.Profile (Command line cause) answer = absurd answer
     refused-show (show.Summary number) (Command line cause) answer = absurd answer
-    refused-show asked (Source line cause) answer = absurd answer
-    refused-show asked (Misfit misfit) answer = absurd answer
-    refused-show asked (State fault) answer = absurd answer
-    refused-show asked (Rom fault) answer = absurd answer
-    refused-show asked (Certificate line cause) answer = absurd answer
-    refused-show asked (Proof line cause) answer = absurd answer
-    refused-show asked (NoCertificate obstacle) answer = absurd answer
-    refused-show asked (NoTiming why) answer = absurd answer
     refused-show asked NoMemory answer = tt
+    refused-show asked _ answer = absurd answer
 
     -- it is ready, so it comes to what it makes of its script
     module _ (ready : ReadyShow) where
@@ -242,20 +185,10 @@ module _ (e : Edition) (s : Start) (keys : Option (List ℕ)) where
 
       pub refused-begin : (asked : Show (List ℕ)) → IsShow known limit asked ready → (refusal : Refusal) → BeginAnswers e s keys (Err refusal)
           → RefusedBy (ShowComes known e s keys limit asked) refusal
-      refused-begin asked is Usage answer = absurd answer
-      refused-begin asked is (Unread name) answer = absurd answer
-      refused-begin asked is (TooLarge kind) answer = absurd answer
       refused-begin asked is (Script line cause) answer = comes-as asked is _ (FaultyScript line cause answer)
-      refused-begin asked is (Command line cause) answer = absurd answer
-      refused-begin asked is (Source line cause) answer = absurd answer
-      refused-begin asked is (Misfit misfit) answer = absurd answer
-      refused-begin asked is (State fault) answer = absurd answer
       refused-begin asked is (Rom fault) answer = comes-as asked is _ (FaultyRom answer.script fault answer.reads answer.here.0 answer.here.1)
-      refused-begin asked is (Certificate line cause) answer = absurd answer
-      refused-begin asked is (Proof line cause) answer = absurd answer
-      refused-begin asked is (NoCertificate obstacle) answer = absurd answer
-      refused-begin asked is (NoTiming why) answer = absurd answer
       refused-begin asked is NoMemory answer = tt
+      refused-begin asked is _ answer = absurd answer
 
 -- the ROM of an edition is refused
 pub rom-refused : (e d : Edition) (s : Start) (script : List KeyEvent) → e ≡ d → (refusal : Refusal) → RomAnswers e (Err refusal)
@@ -263,20 +196,9 @@ pub rom-refused : (e d : Edition) (s : Start) (script : List KeyEvent) → e ≡
 rom-refused e d s script is refusal answer = at_rom refusal (subst (λ e. RomAnswers e (Err refusal)) is answer)
   where
     at_rom : (refusal : Refusal) → RomAnswers d (Err refusal) → StartAnswers d s script (Err refusal)
-    at_rom Usage answer = absurd answer
-    at_rom (Unread name) answer = absurd answer
-    at_rom (TooLarge kind) answer = absurd answer
-    at_rom (Script line cause) answer = absurd answer
-    at_rom (Command line cause) answer = absurd answer
-    at_rom (Source line cause) answer = absurd answer
-    at_rom (Misfit misfit) answer = absurd answer
-    at_rom (State fault) answer = absurd answer
     at_rom (Rom fault) answer = answer
-    at_rom (Certificate line cause) answer = absurd answer
-    at_rom (Proof line cause) answer = absurd answer
-    at_rom (NoCertificate obstacle) answer = absurd answer
-    at_rom (NoTiming why) answer = absurd answer
     at_rom NoMemory answer = tt
+    at_rom _ answer = absurd answer
 
 -- ---- what the debugger answers of a machine that begins
 
@@ -393,53 +315,15 @@ module _ {A B : Type 0} (f : A → B) where
   same-cycles : (r : Request A) → cycles_in (map_request f r) ≡ cycles_in r
   same-cycles (request.Run run) = refl
   same-cycles (request.Program run) = refl
-  same-cycles (request.Link message moves number) = refl
-  same-cycles (request.Asm source isa raw) = refl
-  same-cycles (request.Check source name isa) = refl
-  same-cycles (request.List source isa) = refl
-  same-cycles (request.Dis bytes isa address) = refl
-  same-cycles (request.Source text) = refl
-  same-cycles request.Bounds = refl
-  same-cycles (request.Cycles source certificate exits) = refl
-  same-cycles (request.Timing source entry p k) = refl
-  same-cycles (request.Safe game certificate edition) = refl
-  same-cycles (request.Certify game edition) = refl
-  same-cycles (request.Help verb) = refl
-  same-cycles request.Version = refl
+  same-cycles _ = refl
 
   same-moves : (r : Request A) → moves_in (map_request f r) ≡ moves_in r
-  same-moves (request.Run run) = refl
-  same-moves (request.Program run) = refl
   same-moves (request.Link message moves number) = refl
-  same-moves (request.Asm source isa raw) = refl
-  same-moves (request.Check source name isa) = refl
-  same-moves (request.List source isa) = refl
-  same-moves (request.Dis bytes isa address) = refl
-  same-moves (request.Source text) = refl
-  same-moves request.Bounds = refl
-  same-moves (request.Cycles source certificate exits) = refl
-  same-moves (request.Timing source entry p k) = refl
-  same-moves (request.Safe game certificate edition) = refl
-  same-moves (request.Certify game edition) = refl
-  same-moves (request.Help verb) = refl
-  same-moves request.Version = refl
+  same-moves _ = refl
 
   same-start : (r : Request A) → HasStart (map_request f r) ≡ HasStart r
-  same-start (request.Run run) = refl
-  same-start (request.Program run) = refl
-  same-start (request.Link message moves number) = refl
-  same-start (request.Asm source isa raw) = refl
-  same-start (request.Check source name isa) = refl
-  same-start (request.List source isa) = refl
   same-start (request.Dis bytes isa address) = refl
-  same-start (request.Source text) = refl
-  same-start request.Bounds = refl
-  same-start (request.Cycles source certificate exits) = refl
-  same-start (request.Timing source entry p k) = refl
-  same-start (request.Safe game certificate edition) = refl
-  same-start (request.Certify game edition) = refl
-  same-start (request.Help verb) = refl
-  same-start request.Version = refl
+  same-start _ = refl
 
 module _ {A B : Type 0} (f : A → List ℕ) (g : B → List ℕ) (old new : FilesMeaning) (named : Request A) (read : Request B)
     (loaded : IsLoaded old new (map_request f named) (map_request g read)) where
@@ -461,32 +345,19 @@ module _ {A B : Type 0} (f : A → List ℕ) (g : B → List ℕ) (old new : Fil
 module _ (asked : Asked) (old new : FilesMeaning) where
   -- a file is refused
   pub files-refused : (refusal : Refusal) → FilesRefused old new (needed asked) refusal → OpenAnswers asked old new (Err refusal)
-  files-refused Usage answer = absurd answer
   files-refused (Unread name) answer = answer
   files-refused (TooLarge kind) answer = answer
-  files-refused (Script line cause) answer = absurd answer
-  files-refused (Command line cause) answer = absurd answer
-  files-refused (Source line cause) answer = absurd answer
-  files-refused (Misfit misfit) answer = absurd answer
   files-refused (State fault) answer = answer
-  files-refused (Rom fault) answer = absurd answer
-  files-refused (Certificate line cause) answer = absurd answer
-  files-refused (Proof line cause) answer = absurd answer
-  files-refused (NoCertificate obstacle) answer = absurd answer
-  files-refused (NoTiming why) answer = absurd answer
   files-refused NoMemory answer = answer
+  files-refused _ answer = absurd answer
 
   -- all were read
   module _ (request : Loaded) (loaded : IsLoaded old new asked request) where
     refused-loaded : (refusal : Refusal) → RefusedBy (HasOutcome request) refusal → OpenAnswers asked old new (Err refusal)
-    refused-loaded Usage answer = absurd answer
-    refused-loaded (Unread name) answer = absurd answer
-    refused-loaded (TooLarge kind) answer = absurd answer
     refused-loaded (Script line cause) answer = record { request = request; loaded = loaded; here = answer }
     refused-loaded (Command line cause) answer = record { request = request; loaded = loaded; here = answer }
     refused-loaded (Source line cause) answer = record { request = request; loaded = loaded; here = answer }
     refused-loaded (Misfit misfit) answer = record { request = request; loaded = loaded; here = answer }
-    refused-loaded (State fault) answer = absurd answer
     refused-loaded (Rom fault) answer = record { request = request; loaded = loaded; here = answer }
     refused-loaded (Certificate line cause) answer = record { request = request; loaded = loaded; here = answer }
     refused-loaded (Proof line cause) answer = record { request = request; loaded = loaded; here = answer }
@@ -494,6 +365,7 @@ module _ (asked : Asked) (old new : FilesMeaning) where
     refused-loaded (NoTiming why) answer = record { request = request; loaded = loaded; here = answer }
     refused-loaded NoMemory answer =
         reads-all old new (needed asked) (files_of (needed request)) loaded.loads.read loaded.loads.reads
+    refused-loaded _ answer = absurd answer
 
     pub open-answers : (r : Result Prepared Refusal) → PrepareAnswers (HasOutcome request) r → OpenAnswers asked old new r
     open-answers (Ok p) answers = (answers.0, record { request = request; loaded = loaded; here = answers.1 })
