@@ -13,7 +13,7 @@ use Rattle.asm_lex.specs.declared.shape.Word.{Word}
 use Rattle.asm_lex.specs.Lines.{Reads}
 use Rattle.asm_lex.specs.Names.{Names, value_in}
 use Rattle.asm_core.specs.declared.layout.LabelValue.TheVariants.{Address}
-use Rattle.asm_core.specs.Ranges.{origin_of}
+use Rattle.asm_lex.specs.Ranges.{origin_of}
 use Rattle.asm_core.specs.Names.{with_label}
 use Rattle.asm_core.specs.Layout.{laid_out, label_in, symbol_value}
 use Rattle.asm_core.specs.Sources.{Known, known_first, known_after, known_next, known_at, names_before, address_of, line_at, fault_1, value_from, label_value, IsFirstFault}

@@ -21,7 +21,7 @@ use Rattle.asm_core.specs.declared.fault.AsmCause.TheVariants.{Overlap}
 use Rattle.asm_core.specs.Surveys.{Table, known, seen, Learnt, Guesses, Looks, IsEachOf, Tells}
 use Rattle.asm_core.specs.Told.{Seen, guessed_from, seen_after, finding_from, seen_first, seen_next, seen_at, finding_1, told_1, kept_before, cause_2, finding_2, word_from, told_2}
 use Rattle.asm_core.proofs.Cells.{entry, second_none}
-use Rattle.asm_core.specs.Ranges.{origin_of}
+use Rattle.asm_lex.specs.Ranges.{origin_of}
 use Rattle.asm_core.proofs.PassOne.{origin_low}
 use Rattle.asm_core.proofs.PassTwo.{bytes_here}
 

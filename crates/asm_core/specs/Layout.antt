@@ -21,7 +21,7 @@ use Rattle.asm_lex.specs.declared.shape.SymbolValue.TheVariants.{Number, Registe
 use Rattle.asm_lex.specs.Names.{Names, IsValue}
 use Rattle.asm_core.specs.declared.layout.LabelValue.{LabelValue}
 use Rattle.asm_core.specs.declared.layout.LabelValue.TheVariants.{Address, Given}
-use Rattle.asm_core.specs.Ranges.{origin_of, last_of}
+use Rattle.asm_lex.specs.Ranges.{origin_of, last_of}
 use Rattle.asm_core.specs.Names.{operand_value, first_operand}
 
 -- the causes of a line by itself, and of an expression's value

@@ -1,5 +1,4 @@
 pub mod Names
-pub mod Ranges
 pub mod Layout
 pub mod Limits
 pub mod Encoding

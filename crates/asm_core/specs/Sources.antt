@@ -10,7 +10,7 @@ use Rattle.asm_lex.specs.declared.shape.Isa.{Isa}
 use Rattle.asm_lex.specs.Names.{Names}
 use Rattle.asm_core.specs.declared.layout.LabelValue.{LabelValue}
 use Rattle.asm_core.specs.declared.layout.LabelValue.TheVariants.{Address}
-use Rattle.asm_core.specs.Ranges.{origin_of}
+use Rattle.asm_lex.specs.Ranges.{origin_of}
 use Rattle.asm_core.specs.Names.{with_label}
 use Rattle.asm_core.specs.declared.layout.Laid.{Laid}
 use Rattle.asm_core.specs.declared.table.Cell.{Cell}

@@ -7,7 +7,7 @@ ghost use Rattle.asm_lex.specs.Spans.{text_at, AreWithin, IsWithin};
 ghost use Rattle.asm_lex.specs.Expressions.{is_expression};
 ghost use Rattle.asm_lex.specs.Lines.{Reads};
 ghost use Rattle.asm_lex.specs.Names.{value_in, IsValue};
-ghost use Rattle.asm_core.specs.Ranges.{origin_of, last_of};
+ghost use Rattle.asm_lex.specs.Ranges.{origin_of, last_of};
 ghost use Rattle.asm_core.specs.Names.{first_operand};
 ghost use Rattle.asm_core.specs.Layout.{laid, symbol_value, HasItsValue, page_above, org_address, placed, is_past, is_too_large, judged, laid_out, label_in, is_duplicate};
 

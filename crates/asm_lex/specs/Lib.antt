@@ -1,3 +1,4 @@
+pub mod Ranges
 pub mod Bytes
 pub mod Parts
 pub mod Expressions

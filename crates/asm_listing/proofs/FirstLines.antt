@@ -12,7 +12,7 @@ use Rattle.asm_lex.specs.declared.shape.Isa.TheVariants.{Cdp1802, Chip8}
 use Rattle.asm_lex.specs.Names.{Names}
 use Rattle.asm_lex.specs.Words.{size_at}
 use Rattle.asm_core.specs.declared.layout.LabelValue.TheVariants.{Address}
-use Rattle.asm_core.specs.Ranges.{last_of}
+use Rattle.asm_lex.specs.Ranges.{last_of}
 use Rattle.asm_listing.specs.Disassembly.{opcode_in, word_in, size_in, is_undefined, is_data, taken, data_text, text_in, first_line}
 use Rattle.asm_listing.proofs.Makes.{Makes, data_makes}
 use Rattle.asm_listing.proofs.Assembled.{AreBytes, byte_low, take_1, take_2, instruction_makes}

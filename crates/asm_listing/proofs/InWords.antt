@@ -33,7 +33,7 @@ use Rattle.asm_lex.specs.Names.{Names, names_register, is_number}
 use Rattle.asm_lex.specs.Words.{directive_of, mnemonic_entry, entry_of, meaning_of}
 use Rattle.asm_core.specs.declared.layout.LabelValue.TheVariants.{Address as Place}
 use Rattle.asm_core.specs.Names.{operand_value}
-use Rattle.asm_core.specs.Ranges.{last_of}
+use Rattle.asm_lex.specs.Ranges.{last_of}
 use Rattle.asm_core.specs.Layout.{placed, value_cause}
 use Rattle.asm_core.specs.Encoding.{word_bytes, with_number, op_bytes, encoded_parts}
 use Rattle.asm_listing.specs.Disassembly.{word_in}

@@ -21,7 +21,7 @@ use Rattle.asm_core.specs.declared.fault.AsmCause.TheVariants.{TooLarge}
 use Rattle.asm_core.specs.declared.layout.LabelValue.{LabelValue}
 use Rattle.asm_core.specs.declared.layout.LabelValue.TheVariants.{Address}
 use Rattle.asm_core.specs.Names.{operand_value}
-use Rattle.asm_core.specs.Ranges.{origin_of, last_of}
+use Rattle.asm_lex.specs.Ranges.{origin_of, last_of}
 use Rattle.asm_core.specs.Layout.{laid, laid_out, laid_parts, placed, judged, is_too_large, label_in, label_from, from_parts, at_least, value_cause}
 use Rattle.asm_core.specs.Encoding.{word_bytes, encoded, encoded_parts, values_of, collected, is_undefined}
 use Rattle.asm_listing.specs.Disassembly.{data_text, origin}

@@ -20,7 +20,7 @@ use Rattle.asm_lex.specs.declared.shape.Isa.{Isa}
 use Rattle.asm_lex.specs.Names.{Names}
 use Rattle.asm_core.specs.declared.layout.LabelValue.{LabelValue}
 use Rattle.asm_core.specs.declared.layout.LabelValue.TheVariants.{Address}
-use Rattle.asm_core.specs.Ranges.{origin_of, last_of}
+use Rattle.asm_lex.specs.Ranges.{origin_of, last_of}
 use Rattle.asm_core.specs.Layout.{laid, laid_out, laid_parts, label_in, from_parts}
 use Rattle.asm_core.specs.Encoding.{encoded}
 use Rattle.asm_core.specs.Sources.{source_lines, Known, known_after, known_at, names_before, address_of, all_names, line_at, NoFault, fault_1, fault_2, fault_with, bytes_of, cell_in, cell_of, cell_before, overlaps}

@@ -5,7 +5,7 @@ use Rattle.vip_isa.specs.Texts.{instruction_text}
 use Rattle.asm_lex.specs.declared.shape.Isa.{Isa}
 use Rattle.asm_lex.specs.declared.shape.Isa.TheVariants.{Cdp1802, Chip8}
 use Rattle.asm_lex.specs.Words.{size_at}
-use Rattle.asm_core.specs.Ranges.{origin_of, last_of}
+use Rattle.asm_lex.specs.Ranges.{origin_of, last_of}
 use Rattle.chip8_words.specs.Words.{opcode_words}
 use Rattle.asm_listing.specs.Dump.{newline}
 

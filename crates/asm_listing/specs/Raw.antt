@@ -4,7 +4,7 @@ use Rattle.std.specs.Prelude.{◌≡◌, ◌+◌, ◌-◌, ◌<◌, ◌≤◌, �
 use Rattle.std.specs.List.{range_with_len}
 use Rattle.asm_lex.specs.declared.shape.Isa.{Isa}
 use Rattle.asm_lex.specs.declared.shape.Isa.TheVariants.{Cdp1802, Chip8}
-use Rattle.asm_core.specs.Ranges.{origin_of}
+use Rattle.asm_lex.specs.Ranges.{origin_of}
 use Rattle.asm_core.specs.Made.{Made, cell_at}
 
 -- the byte at an address, where some line gives it one

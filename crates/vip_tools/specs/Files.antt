@@ -4,7 +4,7 @@ use Rattle.std.specs.FinMap.{get}
 use Rattle.vip_outside.specs.Count.{Rose}
 use Rattle.vip_outside.specs.Files.{Answer, FilesMeaning, Read, and_read, and_reads, with_read}
 use Rattle.vip_outside.specs.Files.Answer.{Whole, Start, Lacked, Faulted}
-use Rattle.asm_core.specs.Ranges.{last_of}
+use Rattle.asm_lex.specs.Ranges.{last_of}
 use Rattle.asm_lex.specs.declared.shape.Isa.{Isa}
 use Rattle.chip8_lang.specs.State.{memory_size}
 use Rattle.chip8_lang.specs.declared.view.Edition.{Edition}

@@ -1,7 +1,7 @@
 //! The files that a verb reads, each by its kind, and how one of them is read.
 
 ghost use Rattle.std.specs.Prelude.{◌≡◌, ◌<◌, ◌+◌, ℕ, slice_index};
-ghost use Rattle.asm_core.specs.Ranges.{last_of};
+ghost use Rattle.asm_lex.specs.Ranges.{last_of};
 ghost use Rattle.vip_words.specs.Request.{code_of};
 ghost use Rattle.vip_tools.specs.Files.{bytes_file, certificate_file, code_file, commands_file, game_code, game_kind, message_file, program_code, script_file, seen_wanted, source_file, state_file, FileAnswers, JudgeAnswers};
 

@@ -5,7 +5,7 @@ use Rattle.std.specs.Result.{result_ok}
 use Rattle.std.specs.Str.Parse.{digits_value}
 use Rattle.std.proofs.lemmas.Bool.{ltb-false}
 use Rattle.asm_lex.specs.declared.shape.Isa.{Isa}
-use Rattle.asm_core.specs.Ranges.{last_of, origin_of}
+use Rattle.asm_lex.specs.Ranges.{last_of, origin_of}
 use Rattle.vip_byte.specs.Number.{number, are_digits, hex_number}
 use Rattle.vip_byte.specs.declared.number.NumFault.TheVariants.{Empty, BadDigit, TooLarge}
 use Rattle.vip_words.specs.Asked.{asked_of_verb, bounds_by, built_in_by, check_by, help_by, version_by, cycles_of, debug_by, demo_by, dis_by, edition_by, either_by, file_by, is_mixed, is_program, isa_by, link_by, moves_of, no_less_than, place_of, play_by, program_by, resume_by, run_by, safe_by, seed_of, shown_by, source_by, start_by, timing_by, trace_by, two_registers, within_by, entry_of, register_of, code_by}

@@ -5,7 +5,7 @@ use Rattle.chip8_lang.specs.declared.view.Edition.{Edition}
 use Rattle.chip8_lang.specs.declared.view.Edition.TheVariants.{Usual, Tall}
 use Rattle.asm_lex.specs.declared.shape.Isa.{Isa}
 use Rattle.asm_lex.specs.declared.shape.Isa.TheVariants.{Cdp1802, Chip8}
-use Rattle.asm_core.specs.Ranges.{last_of, origin_of}
+use Rattle.asm_lex.specs.Ranges.{last_of, origin_of}
 use Rattle.vip_byte.specs.Number.{decimal_number, hex_number}
 use Rattle.vip_words.specs.Request.{Asked, most_cycles, most_moves}
 use Rattle.vip_words.specs.Rules.{Given, Word, given_by}

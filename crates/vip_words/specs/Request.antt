@@ -1,7 +1,7 @@
 -- A request with files of any kind: their names, as the words give them, or what they hold.
 use Rattle.std.specs.Borrow.{Bor}
 use Rattle.std.specs.Prelude.{◌≤◌, ℕ, option_map}
-use Rattle.asm_core.specs.Ranges.{last_of, origin_of}
+use Rattle.asm_lex.specs.Ranges.{last_of, origin_of}
 pub use Rattle.vip_byte.specs.Number.{most_cycles}
 use Rattle.vip_words.specs.Rules.{Word}
 use Rattle.vip_words.specs.declared.request.Code.{Code}

@@ -1,5 +1,5 @@
 use Rattle.std.proofs.Common.{◌≡◌, ◌≤◌, ◌+◌, ◌++◌, length}
-use Rattle.asm_core.specs.Ranges.{last_of}
+use Rattle.asm_lex.specs.Ranges.{last_of}
 use Rattle.asm_listing.specs.Disassembly.{starts, disassembly, lines_from}
 use Rattle.asm_listing.proofs.instruction.disassemble.Given as goal
 
