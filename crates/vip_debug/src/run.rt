@@ -151,10 +151,10 @@ fn run_command<O: Sink>(
 /// comes the line that echoes it, if it has one, and before an instruction or opcode of a listing the lines of its labels.
 ///
 /// No move ends after the limit, nor after the present cycle where that is later. Before the first command nothing is met but a file's own
-/// dispatch point. A command that
-/// makes a move meets every event up to its new cycle; `next` and `break` look for a dispatch point that isn't met yet, which may wait at the
-/// present state, and meet every event up to where they come. A command that can't be completed because of the limit leaves the board after
-/// the last move up to it and writes `end`. One that comes to a stop point, or begins at one, stays there and writes the stop.
+/// dispatch point. A command that makes a move meets every event up to its new cycle; `next` and `break` look for a dispatch point that isn't met
+/// yet, which may wait at the present state, and meet every event up to where they come. A command that can't be completed because of the limit
+/// leaves the board after the last move up to it and writes `end`. One that comes to a stop point, or begins at one, stays there and writes the
+/// stop.
 ///
 /// A put that fails ends the run: the board is where the command of that answer leaves it, and of an echo where the command before it does. No
 /// memory is taken.

@@ -1,5 +1,5 @@
 -- What is asked for, from the row of a verb and what the words after it give.
-use Rattle.std.proofs.Common.{Bor, ◌≡◌, ◌∙◌, ap, ap₂, sym, refl, List, [], ◌∷◌, Bool, Option, Some, None, String, arith, drop, length, map, string_bytes}
+use Rattle.std.proofs.Common.{Bor, ◌≡◌, ◌∙◌, ap, ap₂, sym, refl, List, [], ◌∷◌, Option, Some, None, String, arith, drop, length, map, string_bytes}
 use Rattle.std.specs.Prelude.{IfOk, IsErrOf, ok_or, option_and_then, option_map, slice_get, ◌==◌}
 use Rattle.vip_words.specs.Asked.{asked_by, asked_of_verb}
 use Rattle.vip_words.specs.Given.{given_of}

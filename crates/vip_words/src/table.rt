@@ -1,6 +1,6 @@
 //! The table of the verbs.
 
-ghost use Rattle.std.specs.Prelude.{◌≡◌, ◌≤◌, IsTrue, length, map};
+ghost use Rattle.std.specs.Prelude.{◌≡◌, ◌≤◌, IsTrue, bytes_eq, find, length, map};
 ghost use Rattle.std.specs.List.{list_all};
 ghost use Rattle.vip_words.specs.Rules.{is_option};
 ghost use Rattle.vip_words.specs.Table.{about, places_of, row, verb_of, with_value};
@@ -337,27 +337,45 @@ impl Verb {
     }
 }
 
-/// What is said of an option.
+// Each option, and what is said of it.
+const ABOUT: [(&str, &str); 15] = [
+    ("--keys", "a key script"),
+    ("--at", "the tick and the machine cycle of each line"),
+    ("--screen", "the last screen behind the lines"),
+    ("--words", "the opcode of each line in words"),
+    ("--tall", "the edition with 64 rows"),
+    ("--state", "a saved state instead of a game"),
+    ("--raw", "the bytes themselves"),
+    (
+        "--chip8",
+        "words of CHIP-8 instead of those of the processor",
+    ),
+    ("--asm", "a source instead of bytes"),
+    ("--echo", "each command before its answer"),
+    ("--exits", "where the routine is left"),
+    ("--rom", "a program in the ROM instead of a game"),
+    ("--ram", "a program in RAM instead of a game"),
+    ("--sender", "the program that sends a message"),
+    ("--receiver", "the program that receives it"),
+];
+
+// The first of some lines about options that is about this one.
+fn line_about(
+    option: &str,
+    lines: &[(&'static str, &'static str)],
+) -> Option<(&'static str, &'static str)>
+    ensures { result ≡ find (λ line. bytes_eq option.now line.0.now) lines.now }
+{
+    lines.iter().copied().find(|line| option == line.0)
+}
+
+/// What is said of an option; of any other word nothing.
 pub fn about(option: &str) -> &'static str
     ensures { result.now ≡ about option.now }
 {
-    match option {
-        "--keys" => "a key script",
-        "--at" => "the tick and the machine cycle of each line",
-        "--screen" => "the last screen behind the lines",
-        "--words" => "the opcode of each line in words",
-        "--tall" => "the edition with 64 rows",
-        "--state" => "a saved state instead of a game",
-        "--raw" => "the bytes themselves",
-        "--chip8" => "words of CHIP-8 instead of those of the processor",
-        "--asm" => "a source instead of bytes",
-        "--echo" => "each command before its answer",
-        "--exits" => "where the routine is left",
-        "--rom" => "a program in the ROM instead of a game",
-        "--ram" => "a program in RAM instead of a game",
-        "--sender" => "the program that sends a message",
-        "--receiver" => "the program that receives it",
-        _ => "",
+    match line_about(option, &ABOUT) {
+        Some((_, text)) => text,
+        None => "",
     }
 }
 
