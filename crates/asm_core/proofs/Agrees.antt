@@ -2,10 +2,8 @@
 use Rattle.std.proofs.Common.{◌≡◌, ◌+◌, ◌<◌, ◌≤◌, ℕ, zero, suc, refl, List, length, sym, ◌∙◌, ap, arith, true, false, cond, Some, None, Option, Ok, Err, Result, inl, inr, below_more}
 use Rattle.std.specs.Prelude.{is_some, option_map}
 use Rattle.std.specs.Option.{option_or}
-use Rattle.std.specs.List.{range_with_len}
 use Rattle.std.specs.Result.{result_err}
 use Rattle.std.proofs.lemmas.Bool.{cond-true, cond-false, both_ways}
-use Rattle.std.proofs.lemmas.List.Folds.{list_any_none, list_any_at}
 use Rattle.asm_lex.specs.declared.shape.Isa.{Isa}
 use Rattle.asm_core.specs.declared.findings.Finding.{Finding}
 use Rattle.asm_core.specs.declared.fault.AsmCause.{AsmCause}
@@ -13,9 +11,8 @@ use Rattle.asm_core.specs.declared.layout.Laid.{Laid}
 use Rattle.asm_lex.specs.Names.{Names}
 use Rattle.asm_core.specs.Layout.{laid_out, label_in}
 use Rattle.asm_core.specs.Sources.{Known, known_after, known_at, line_at, names_before, address_of, fault_1, fault_2, fault_with, bytes_of, cell_of, cell_before, NoFault, IsFirstFault}
-use Rattle.asm_core.specs.Told.{Seen, seen_after, seen_at, finding_from, finding_1, told_1, kept_before, cause_2, told_2, has_fault_1, told, AreTold, AgreesWithFaults}
-use Rattle.asm_core.specs.Surveys.{IsEachOf}
-use Rattle.asm_core.proofs.Cells.{length-range, get_or-range}
+use Rattle.asm_core.specs.Told.{Seen, seen_after, seen_at, finding_from, finding_1, told_1, kept_before, cause_2, told_2, has_fault_1, told, IsEachOf, AreTold, AgreesWithFaults}
+use Rattle.asm_core.proofs.Cells.{each_none-any, any-each_none}
 use Rattle.asm_core.proofs.PassOne.{known_at-next}
 use Rattle.asm_core.proofs.PassTwo.{no_error}
 use Rattle.asm_core.proofs.Surveys.{seen_at-next}
@@ -104,20 +101,10 @@ module _ (isa : Isa) (source : List (List ℕ)) where
 
   -- whether pass 1 has a fault
   clean_1 : NoFault (fault_1 isa source) (length source) → has_fault_1 isa source ≡ false
-  clean_1 none =
-      list_any_none (λ i. is_some (fault_1 isa source i)) (range_with_len 0 (length source))
-      (λ k d below. ap (λ n. is_some (fault_1 isa source n)) (get_or-range (length source) 0 k d (omega (arith, length-range (length source) 0)))
-      ∙ ap is_some (none (0 + k) (omega (arith, length-range (length source) 0))))
+  clean_1 none = each_none-any (fault_1 isa source) (length source) none
 
   no_fault_1 : has_fault_1 isa source ≡ false → NoFault (fault_1 isa source) (length source)
-  no_fault_1 e = λ i below. by_case i below (fault_1 isa source i) refl
-    where
-      by_case : (i : ℕ) → i < length source → (found : Option AsmCause) → fault_1 isa source i ≡ found → found ≡ None
-      by_case i below None is = refl
-      by_case i below (Some cause) is =
-          absurd (both_ways (has_fault_1 isa source) e (list_any_at (λ k. is_some (fault_1 isa source k)) (range_with_len 0 (length source)) i 0
-          (omega (arith, length-range (length source) 0))
-          (ap (λ n. is_some (fault_1 isa source n)) (get_or-range (length source) 0 i 0 below ∙ omega arith) ∙ ap is_some is)))
+  no_fault_1 e = any-each_none (fault_1 isa source) (length source) e
 
   told-1 : has_fault_1 isa source ≡ true → (i : ℕ) → told isa source i ≡ told_1 isa source i
   unfolding told
@@ -171,9 +158,9 @@ module _ (isa : Isa) (source : List (List ℕ)) where
   pub told-faulty : (i : ℕ) (cause : AsmCause) → IsFirstFault (fault_1 isa source) (length source) i cause → (found : List (Option Finding))
       → IsEachOf (told_1 isa source) (length source) found → AreTold isa source found
   told-faulty i cause first found each = by_pass
-      (λ e. record { count = each.count_is; each = λ k below. each.each k below ∙ sym (told-1 e k) })
+      (λ e. record { count = each.count; each = λ k below. each.each k below ∙ sym (told-1 e k) })
       (λ e. let both : None ≡ Some cause = sym (no_fault_1 e i first.inside) ∙ first.here in absurd (cc))
 
   pub told-clean : NoFault (fault_1 isa source) (length source) → (found : List (Option Finding))
       → IsEachOf (told_2 isa source) (length source) found → AreTold isa source found
-  told-clean none found each = record { count = each.count_is; each = λ k below. each.each k below ∙ sym (told-2 (clean_1 none) k) }
+  told-clean none found each = record { count = each.count; each = λ k below. each.each k below ∙ sym (told-2 (clean_1 none) k) }

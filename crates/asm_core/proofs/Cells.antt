@@ -2,8 +2,8 @@
 use Rattle.std.proofs.Common.{◌≡◌, ◌+◌, ◌-◌, ◌<◌, ◌≤◌, ℕ, zero, suc, refl, List, [], ◌∷◌, ◌++◌, length, take, set, get_or, sym, ◌∙◌, ap, arith, true, false, Some, None, Option, inl, inr}
 use Rattle.std.specs.Prelude.{nat_le, slice_get, is_some, option_map}
 use Rattle.std.specs.Option.{option_or}
-use Rattle.std.specs.List.{range_with_len}
-use Rattle.std.proofs.lemmas.Bool.{cases_eq, cases_lt, cond-true, cond-false, le-leb, lt-leb}
+use Rattle.std.specs.List.{list_any, range_with_len}
+use Rattle.std.proofs.lemmas.Bool.{both_ways, cases_eq, cases_lt, cond-true, cond-false, le-leb, lt-leb}
 use Rattle.std.proofs.lemmas.List.{take_more, take_all, length-take-le, length-set, get_or-set_same, get_or-set_other}
 use Rattle.std.proofs.lemmas.List.Folds.{list_any_none, list_any_at}
 use Rattle.asm_core.specs.declared.table.Cell.{Cell}
@@ -120,6 +120,22 @@ pub get_or-range : (n a k d : ℕ) → k < n → get_or (range_with_len a n) k d
 get_or-range zero a k d below = absurd (omega arith)
 get_or-range (suc n) a zero d below = omega arith
 get_or-range (suc n) a (suc k) d below = get_or-range n (a + 1) k d (omega arith) ∙ omega arith
+
+-- no one of a function's values is there, where each is none, and the other way round
+pub each_none-any : {X : Type 0} (f : ℕ → Option X) (n : ℕ) → ((i : ℕ) → i < n → f i ≡ None) → list_any (λ i. is_some (f i)) (range_with_len 0 n) ≡ false
+each_none-any f n none =
+    list_any_none (λ i. is_some (f i)) (range_with_len 0 n)
+    (λ k d below. ap (λ i. is_some (f i)) (get_or-range n 0 k d (omega (arith, length-range n 0)))
+    ∙ ap is_some (none (0 + k) (omega (arith, length-range n 0))))
+
+pub any-each_none : {X : Type 0} (f : ℕ → Option X) (n : ℕ) → list_any (λ i. is_some (f i)) (range_with_len 0 n) ≡ false → (i : ℕ) → i < n → f i ≡ None
+any-each_none {X} f n e i below = by_case (f i) refl
+  where
+    by_case : (found : Option X) → f i ≡ found → found ≡ None
+    by_case None is = refl
+    by_case (Some x) is =
+        absurd (both_ways (list_any (λ k. is_some (f k)) (range_with_len 0 n)) e (list_any_at (λ k. is_some (f k)) (range_with_len 0 n) i 0
+        (omega (arith, length-range n 0)) (ap (λ k. is_some (f k)) (get_or-range n 0 i 0 below ∙ omega arith) ∙ ap is_some is)))
 
 -- whether a byte stands at one of so many addresses
 pub overlaps-at : (old : List (Option Cell)) (at count k : ℕ) → k < count → is_some (entry old (at + k)) ≡ true → overlaps (entry old) at count ≡ true

@@ -10,6 +10,7 @@ use Rattle.asm_lex.specs.declared.shape.Isa.{Isa}
 use Rattle.asm_lex.specs.declared.shape.Word.{Word}
 use Rattle.asm_lex.specs.Lines.{parsed, Reads}
 use Rattle.asm_lex.specs.Names.{Names, value_in}
+use Rattle.asm_lex.specs.Notes.{note_in}
 use Rattle.asm_core.specs.declared.findings.Finding.{Finding}
 use Rattle.asm_core.specs.declared.findings.Looked.{Looked}
 use Rattle.asm_core.specs.declared.fault.AsmCause.{AsmCause}
@@ -18,8 +19,8 @@ use Rattle.asm_core.specs.Encoding.{encoded}
 use Rattle.asm_core.specs.Passes.{Planned, LaysOut}
 use Rattle.asm_core.specs.Sources.{line_at, names_before, address_of, all_names, fault_with, overlaps, bytes_of, cell_in}
 use Rattle.asm_core.specs.declared.fault.AsmCause.TheVariants.{Overlap}
-use Rattle.asm_core.specs.Surveys.{Table, known, seen, Learnt, Guesses, Looks, IsEachOf, Tells}
-use Rattle.asm_core.specs.Told.{Seen, guessed_from, seen_after, finding_from, seen_first, seen_next, seen_at, finding_1, told_1, kept_before, cause_2, finding_2, word_from, told_2}
+use Rattle.asm_core.specs.Surveys.{Table, known, seen, Learnt, Guesses, Looks, Tells}
+use Rattle.asm_core.specs.Told.{Seen, guessed_from, seen_after, finding_from, seen_first, seen_next, seen_at, finding_1, told_1, note_at, kept_before, cause_2, finding_2, word_from, told_2, IsEachOf}
 use Rattle.asm_core.proofs.Cells.{entry, second_none}
 use Rattle.asm_lex.specs.Ranges.{origin_of}
 use Rattle.asm_core.proofs.PassOne.{origin_low}
@@ -27,17 +28,17 @@ use Rattle.asm_core.proofs.PassTwo.{bytes_here}
 
 -- one value more
 pub each-none : {X : Type 0} (f : ℕ → Option X) (xs : List (Option X)) → xs ≡ [] → IsEachOf f 0 xs
-each-none f xs e = record { count_is = ap length e; each = λ i below. absurd (omega arith) }
+each-none f xs e = record { count = ap length e; each = λ i below. absurd (omega arith) }
 
 pub each-more : {X : Type 0} (f : ℕ → Option X) (count : ℕ) (xs : List (Option X)) (x : Option X) → IsEachOf f count xs → x ≡ f count
     → IsEachOf f (count + 1) (xs ++ x ∷ [])
 each-more f count xs x so_far same = record {
-  count_is = length_push xs x ∙ ap (λ n. n + 1) so_far.count_is;
+  count = length_push xs x ∙ ap (λ n. n + 1) so_far.count;
   each = λ i below. elim (cases_lt i count) [
-    | inl lower ↦ get_or_append_left xs (x ∷ []) None i (omega (arith, so_far.count_is)) ∙ so_far.each i lower
+    | inl lower ↦ get_or_append_left xs (x ∷ []) None i (omega (arith, so_far.count)) ∙ so_far.each i lower
     | inr last ↦
         let here : i ≡ count = omega arith in
-        get_or_push xs x None i (omega (arith, so_far.count_is)) ∙ same ∙ ap f (sym here)
+        get_or_push xs x None i (omega (arith, so_far.count)) ∙ same ∙ ap f (sym here)
   ];
 }
 
@@ -57,6 +58,12 @@ module _ (isa : Isa) (source : List (List ℕ)) where
     is = ap (λ names. seen names at false) none ∙ ap (λ a. record { known = record { at = a; names = λ name. None }; faulty = false }) place;
     low = omega (arith, place, origin_low isa);
   }
+
+  pub note_here : (number : ℕ) (names : Table) (at : ℕ) (faulty : Bool) (line : List ℕ) → IsSeen number names at faulty → line_at source number ≡ line
+      → note_in isa (value_in names) line ≡ note_at isa source number
+  unfolding note_at
+  note_here number names at faulty line so_far here =
+      ap (λ (s : Seen). note_in isa s.known.names line) so_far.is ∙ ap (note_in isa (seen_at isa source number).known.names) (sym here)
 
   module _ (number : ℕ) (old : Table) (at : ℕ) (faulty : Bool) (line : List ℕ) (new : Table) (looked : Looked) (so_far : IsSeen number old at faulty) (below : number < length source) (here : line_at source number ≡ line) (looks : Looks isa old at faulty line new looked) where
     seen_same : seen new looked.next looked.faulty ≡ seen_next isa (seen old at faulty) line

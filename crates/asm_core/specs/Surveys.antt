@@ -1,5 +1,5 @@
 -- What is found of the lines before a line while every fault of a source is looked for.
-use Rattle.std.specs.Prelude.{◌≡◌, ◌<◌, ◌≤◌, ℕ, Bool, List, [], length, slice_index_or, if◌then◌else◌, Option, None, is_some, option_map, Result, Ok, Err}
+use Rattle.std.specs.Prelude.{◌≡◌, ◌≤◌, ℕ, Bool, List, [], slice_index_or, if◌then◌else◌, Option, None, is_some, option_map, Result, Ok, Err}
 use Rattle.std.specs.Option.{option_or}
 use Rattle.std.specs.Result.{result_unwrap_or}
 use Rattle.asm_lex.specs.declared.shape.Isa.{Isa}
@@ -51,11 +51,6 @@ pub record Looks (isa : Isa) (old : Table) (at : ℕ) (faulty : Bool) (line : Li
   pub faulty_is : looked.faulty ≡ (seen_next isa (seen old at faulty) line).faulty
   pub told : looked.finding ≡ finding_1 isa (seen old at faulty) line
   pub low : looked.next ≤ 65536
-
--- a list has a function's values
-pub record IsEachOf {X : Type 0} (f : ℕ → Option X) (count : ℕ) (xs : List (Option X)) : Type 0 where
-  pub count_is : length xs ≡ count
-  pub each : (i : ℕ) → i < count → slice_index_or xs i None ≡ f i
 
 -- in pass 2 the bytes of a line without a fault are put, and a faulty one is told
 pub record Tells (finding : AsmCause → Finding) (old new : List (Option Cell)) (number at : ℕ) (made : Result (List ℕ) AsmCause) (told : Option Finding)

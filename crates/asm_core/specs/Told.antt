@@ -3,6 +3,7 @@ use Rattle.std.specs.Prelude.{◌≡◌, ◌+◌, ◌<◌, ℕ, zero, suc, Bool,
 use Rattle.std.specs.List.{list_any, range_with_len}
 use Rattle.std.specs.Option.{option_or, option_map_or}
 use Rattle.asm_lex.specs.declared.shape.Isa.{Isa}
+use Rattle.asm_lex.specs.declared.shape.Place.{Place}
 use Rattle.asm_lex.specs.declared.shape.SymbolValue.TheVariants.{Number}
 use Rattle.asm_lex.specs.declared.shape.Word.{Word}
 use Rattle.asm_lex.specs.declared.shape.LexFault.{LexFault}
@@ -10,6 +11,7 @@ use Rattle.asm_lex.specs.Bytes.{is_name}
 use Rattle.asm_lex.specs.Culprits.{missing_colon}
 use Rattle.asm_lex.specs.Lines.{Parsed, parsed}
 use Rattle.asm_lex.specs.Names.{Names}
+use Rattle.asm_lex.specs.Notes.{note_in}
 use Rattle.asm_lex.specs.Parts.{code_of}
 use Rattle.asm_lex.specs.Places.{label_span}
 use Rattle.asm_lex.specs.Spans.{text_at}
@@ -129,10 +131,21 @@ has_fault_1 isa source = list_any (λ i. is_some (fault_1 isa source i)) (range_
 unfoldable pub told : Isa → List (List ℕ) → ℕ → Option Finding
 told isa source i = if has_fault_1 isa source then told_1 isa source i else told_2 isa source i
 
+-- an instruction in the comment of line i, read with the names that are known before it
+unfoldable pub note_at : Isa → List (List ℕ) → ℕ → Option Place
+note_at isa source i = note_in isa (seen_at isa source i).known.names (line_at source i)
+
+-- a list has a function's values
+pub record IsEachOf {X : Type 0} (f : ℕ → Option X) (n : ℕ) (xs : List (Option X)) : Type 0 where
+  pub count : length xs ≡ n
+  pub each : (i : ℕ) → i < n → slice_index_or xs i None ≡ f i
+
 -- what is told of each line
-pub record AreTold (isa : Isa) (source : List (List ℕ)) (found : List (Option Finding)) : Type 0 where
-  pub count : length found ≡ length source
-  pub each : (i : ℕ) → i < length source → slice_index_or found i None ≡ told isa source i
+abbrev pub AreTold : Isa → List (List ℕ) → List (Option Finding) → Type 0
+AreTold isa source findings = IsEachOf (told isa source) (length source) findings
+
+abbrev pub AreNoted : Isa → List (List ℕ) → List (Option Place) → Type 0
+AreNoted isa source notes = IsEachOf (note_at isa source) (length source) notes
 
 -- line i is the first of which a fault is told
 pub record IsFirstTold (isa : Isa) (source : List (List ℕ)) (i : ℕ) (finding : Finding) : Type 0 where

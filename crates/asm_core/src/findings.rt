@@ -9,8 +9,8 @@ ghost use Rattle.asm_core.specs.Encoding.{encoded};
 ghost use Rattle.asm_core.specs.Limits.{most_bytes};
 ghost use Rattle.asm_core.specs.Passes.{LaysOut, planned};
 ghost use Rattle.asm_core.specs.Sources.{source_lines};
-ghost use Rattle.asm_core.specs.Told.{label_if_name, guessed_label, mended, is_sure, sure_finding, finding_2, told_1, told_2, AreTold, AgreesWithFaults};
-ghost use Rattle.asm_core.specs.Surveys.{Learns, Guesses, Looks, IsEachOf, Tells};
+ghost use Rattle.asm_core.specs.Told.{label_if_name, guessed_label, mended, is_sure, sure_finding, finding_2, told_1, told_2, note_at, IsEachOf, AreTold, AreNoted, AgreesWithFaults};
+ghost use Rattle.asm_core.specs.Surveys.{Learns, Guesses, Looks, Tells};
 
 use crate::culprit::{culprit_1, culprit_2, large_number};
 use crate::encode::{Bytes, byte_count, encode_line};
@@ -20,7 +20,7 @@ use crate::passes::{Plan, pass_1};
 use crate::source::next_line;
 use crate::table::{Cell, empty_table, overlaps, place};
 use asm_lex::{
-    Isa, Place, SymbolValue, Symbols, Word, is_label, line_spans, missing_colon, text_at,
+    Isa, Place, SymbolValue, Symbols, Word, is_label, line_spans, missing_colon, note_in, text_at,
 };
 use std::alloc::{AllocError, Global};
 
@@ -31,6 +31,15 @@ pub struct Finding {
     pub cause: AsmCause,
     /// The culprit.
     pub place: Place,
+}
+
+/// What is told of each line of a source.
+#[derive(Drop)]
+pub struct Told {
+    /// Its fault, if it has one that is told.
+    pub findings: Vec<Option<Finding>>,
+    /// Where its comment is an instruction behind an instruction, if it is.
+    pub notes: Vec<Option<Place>>,
 }
 
 // A line in pass 1, whose label is added to the names: the address behind it, or its first cause.
@@ -180,23 +189,26 @@ fn look_at(
     }
 }
 
-// What is told of each line of a source that has a fault in pass 1.
-fn survey_1(alloc: Global, isa: Isa, text: &[u8]) -> Result<Vec<Option<Finding>>, AllocError>
-    ensures { IfOk result (λ found. IsEachOf (told_1 isa (source_lines text.now)) (length (source_lines text.now)) found.items) }
+// What is told of each line of a source by pass 1, which alone tells notes.
+fn survey_1(alloc: Global, isa: Isa, text: &[u8]) -> Result<Told, AllocError>
+    ensures told { IfOk result (λ told. IsEachOf (told_1 isa (source_lines text.now)) (length (source_lines text.now)) told.findings.items) }
+    ensures noted { IfOk result (λ told. AreNoted isa (source_lines text.now) told.notes.items) }
 {
     let mut names = Symbols::new(alloc);
-    let mut found = Vec::new(alloc);
+    let mut findings = Vec::new(alloc);
+    let mut notes = Vec::new(alloc);
     let mut at = origin_of(isa);
     let mut faulty = false;
     let mut rest = text;
     while let Some((line, more)) = next_line(rest) {
+        notes.push(note_in(isa, &names, line))?;
         let looked = look_at(alloc, isa, &mut names, at, faulty, line)?;
-        found.push(looked.finding)?;
+        findings.push(looked.finding)?;
         at = looked.next;
         faulty = looked.faulty;
         rest = more;
     }
-    Ok(found)
+    Ok(Told { findings, notes })
 }
 
 fn finding_2(
@@ -284,24 +296,28 @@ fn survey_2(
     Ok(found)
 }
 
-/// What is told of each line of a source of an instruction set of at most `MOST_BYTES` bytes: its first fault, or nothing. It fails only where
-/// memory is refused.
-pub fn check(alloc: Global, isa: Isa, text: &[u8]) -> Result<Vec<Option<Finding>>, AsmFault>
+/// What is told of each line of a source of an instruction set of at most `MOST_BYTES` bytes: its first fault, or nothing, and an instruction in its
+/// comment. It fails only where memory is refused.
+pub fn check(alloc: Global, isa: Isa, text: &[u8]) -> Result<Told, AsmFault>
     requires { length text.now ≤ most_bytes }
-    ensures told { IfOk result (λ found. AreTold isa (source_lines text.now) found.items) }
+    ensures told { IfOk result (λ told. AreTold isa (source_lines text.now) told.findings.items) }
+    ensures noted { IfOk result (λ told. AreNoted isa (source_lines text.now) told.notes.items) }
     ensures agrees { AgreesWithFaults isa (source_lines text.now) }
     ensures memory { IfErr result (λ fault. fault ≡ AsmFault.NoMemory) }
 {
+    let Ok(mut told) = survey_1(alloc, isa, text) else {
+        return Err(AsmFault::NoMemory);
+    };
     let plan = match pass_1(alloc, isa, text) {
         Ok(plan) => plan,
         Err(AsmFault::NoMemory) => return Err(AsmFault::NoMemory),
-        Err(AsmFault::Fault { line: _, cause: _ }) => return match survey_1(alloc, isa, text) {
-            Ok(found) => Ok(found),
-            Err(_) => Err(AsmFault::NoMemory),
-        },
+        Err(AsmFault::Fault { line: _, cause: _ }) => return Ok(told),
     };
     match survey_2(alloc, isa, text, &plan) {
-        Ok(found) => Ok(found),
+        Ok(findings) => {
+            told.findings = findings;
+            Ok(told)
+        }
         Err(_) => Err(AsmFault::NoMemory),
     }
 }

@@ -22,7 +22,7 @@ mod values;
 
 pub use crate::assembly::{Assembly, LinePlace};
 pub use crate::fault::{AsmCause, AsmFault};
-pub use crate::findings::{Finding, check};
+pub use crate::findings::{Finding, Told, check};
 pub use crate::labels::{Labels, LinesAt};
 pub use crate::layout::LabelValue;
 pub use crate::passes::{MOST_BYTES, assemble};

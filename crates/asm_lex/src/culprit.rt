@@ -280,7 +280,7 @@ pub fn lex_culprit(isa: Isa, names: &Symbols, line: &[u8]) -> Place
 }
 
 // Whether a line of at most 255 bytes lacks the colon behind its label.
-fn lacks_colon(isa: Isa, line: &[u8]) -> bool
+pub(crate) fn lacks_colon(isa: Isa, line: &[u8]) -> bool
     requires { length line.now ≤ 255 }
     ensures { result ≡ lacks_colon isa (code_of line.now) }
 {

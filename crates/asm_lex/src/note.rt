@@ -4,13 +4,39 @@ ghost use Rattle.std.specs.Prelude.{◌≡◌, ◌≤◌, ◌+◌, ◌-◌, leng
 ghost use Rattle.std.specs.Option.{option_map_or};
 ghost use Rattle.asm_lex.specs.Lines.{parsed};
 ghost use Rattle.asm_lex.specs.Names.{value_in};
-ghost use Rattle.asm_lex.specs.Notes.{is_instruction, has_instruction, instruction_end, instruction_place, note_from, comment_of, note_in};
-ghost use Rattle.asm_lex.specs.Parts.{code_of};
+ghost use Rattle.asm_lex.specs.Notes.{is_mnemonic, begins_instruction, is_instruction, is_bare_instruction, instruction_end, instruction_place, note_from, comment_of, note_in};
+ghost use Rattle.asm_lex.specs.Parts.{code_of, statement_of, word_of, behind_word};
+ghost use Rattle.asm_lex.specs.Words.{entry_of};
 
+use crate::culprit::lacks_colon;
 use crate::cuts::{Stop, cut};
 use crate::names::Symbols;
-use crate::spans::line_spans;
+use crate::spans::{line_spans, parts_of, text_at};
+use crate::words::{Entry, entry_of};
 use crate::{Isa, Place, Word, line};
+
+fn is_mnemonic(isa: Isa, word: &[u8]) -> bool
+    ensures { result ≡ is_mnemonic (entry_of isa word.now) }
+{
+    match entry_of(isa, word) {
+        Some(Entry::Mnemonic(_)) | Some(Entry::Words(_)) => true,
+        _ => false,
+    }
+}
+
+// Whether a line begins an instruction, whatever is wrong in it.
+fn begins_instruction(isa: Isa, line: &[u8]) -> bool
+    requires { length line.now ≤ 255 }
+    ensures { result ≡ begins_instruction isa (code_of line.now) }
+{
+    let parts = parts_of(line);
+    if lacks_colon(isa, line) {
+        let (word, _) = cut(text_at(line, parts.operands), Stop::Blank);
+        is_mnemonic(isa, word)
+    } else {
+        is_mnemonic(isa, text_at(line, parts.word))
+    }
+}
 
 fn is_instruction(word: Option<Word>) -> bool
     ensures { result ≡ is_instruction word }
@@ -21,12 +47,12 @@ fn is_instruction(word: Option<Word>) -> bool
     }
 }
 
-// Whether a line is read as an instruction, where it may have a label or not.
-fn has_instruction(isa: Isa, names: &Symbols, labelled: bool, bytes: &[u8]) -> bool
-    ensures { result ≡ has_instruction labelled (parsed isa (value_in names.now) bytes.now) }
+// Whether a line is read as an instruction without a label.
+fn is_bare_instruction(isa: Isa, names: &Symbols, bytes: &[u8]) -> bool
+    ensures { result ≡ is_bare_instruction (parsed isa (value_in names.now) bytes.now) }
 {
     match line(isa, names, bytes) {
-        Ok(line) => is_instruction(line.word) && (labelled || line.label.is_none()),
+        Ok(line) => is_instruction(line.word) && line.label.is_none(),
         Err(_) => false,
     }
 }
@@ -49,7 +75,7 @@ fn note_from(isa: Isa, names: &Symbols, start: usize, comment: &[u8]) -> Option<
     requires { start + length comment.now ≤ 255 }
     ensures { result ≡ note_from isa (value_in names.now) start comment.now }
 {
-    if comment.len() <= 255 && has_instruction(isa, names, false, comment) {
+    if is_bare_instruction(isa, names, comment) {
         let from = start + usize::from(line_spans(comment).word.from);
         let to = start + instruction_end(comment);
         Some(Place { from, to })
@@ -71,12 +97,12 @@ fn comment_of(line: &[u8]) -> Option<(usize, &[u8])>
     }
 }
 
-/// Where a comment of a line with an instruction is itself one.
+/// Where a comment is itself an instruction, read with these names, in a line that begins with one, right or wrong. A line of more than 255 bytes has none.
 #[tactic(auto, unfolding(crate::specs::Notes::note_in))]
 pub fn note_in(isa: Isa, names: &Symbols, line: &[u8]) -> Option<Place>
     ensures { result ≡ note_in isa (value_in names.now) line.now }
 {
-    if line.len() > 255 || !has_instruction(isa, names, true, line) {
+    if line.len() > 255 || !begins_instruction(isa, line) {
         return None;
     }
     match comment_of(line) {

@@ -10,7 +10,7 @@ use Rattle.asm_core.specs.Made.{Made, cell_at}
 use Rattle.asm_listing.specs.Dump.{Place, addresses, place_at, places_of, has_no_byte, is_some_run, runs, piece, pieces, byte_text, line_text, dump_of, dump_text, newline}
 use Rattle.asm_listing.specs.Row.{bytes_text, row_before, row_text}
 use Rattle.vip_byte.specs.HexText.{hex2, hex4}
-use Rattle.asm_listing.proofs.Ranges.{length-range, get_or-range}
+use Rattle.asm_core.proofs.Cells.{length-range, get_or-range}
 
 length-addresses : length addresses ≡ 65536
 unfolding addresses

@@ -20,7 +20,8 @@ use Rattle.vip_byte.specs.HexText.{hex2}
 use Rattle.asm_listing.specs.Dump.{newline}
 use Rattle.asm_listing.specs.Listing.{blanks, label_text, digits_of, three_at, further_line, further_lines, first_digits, number_text, line_listing, listed, lines_text}
 use Rattle.asm_listing.specs.Shown.{byte_count, byte_at, bytes_from}
-use Rattle.asm_listing.proofs.Ranges.{length-range, get_or-range, range_push, take-range, drop-range}
+use Rattle.asm_core.proofs.Cells.{length-range, get_or-range}
+use Rattle.asm_listing.proofs.Ranges.{range_push, take-range, drop-range}
 
 module _ (made : Made) where
   -- no bytes, and one more

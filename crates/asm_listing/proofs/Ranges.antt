@@ -1,15 +1,6 @@
 -- Numbers in a row.
-use Rattle.std.proofs.Common.{◌≡◌, ◌+◌, ◌-◌, ◌<◌, ℕ, zero, suc, refl, [], ◌∷◌, ◌++◌, length, take, drop, get_or, ◌∙◌, ap, arith, min}
+use Rattle.std.proofs.Common.{◌≡◌, ◌+◌, ◌-◌, ℕ, zero, suc, [], ◌∷◌, ◌++◌, take, drop, ◌∙◌, ap, arith, min}
 use Rattle.std.specs.List.{range_with_len}
-
-pub length-range : (n a : ℕ) → length (range_with_len a n) ≡ n
-length-range zero a = refl
-length-range (suc n) a = ap suc (length-range n (a + 1))
-
-pub get_or-range : (n a k d : ℕ) → k < n → get_or (range_with_len a n) k d ≡ a + k
-get_or-range zero a k d below = absurd (omega arith)
-get_or-range (suc n) a zero d below = omega arith
-get_or-range (suc n) a (suc k) d below = get_or-range n (a + 1) k d (omega arith) ∙ omega arith
 
 pub range_push : (n a : ℕ) → range_with_len a (n + 1) ≡ range_with_len a n ++ (a + n) ∷ []
 range_push zero a = ap (λ x. x ∷ []) (omega arith)

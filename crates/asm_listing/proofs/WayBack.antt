@@ -29,7 +29,7 @@ use Rattle.asm_core.proofs.PassOne.{line_here, no_line, known_at-first, known_at
 use Rattle.asm_listing.specs.Dump.{newline}
 use Rattle.asm_listing.specs.Disassembly.{taken, first_line, starts, lines_from, origin, disassembly, HasPlace}
 use Rattle.asm_listing.specs.WayBack.{byte_in, AssemblesTo}
-use Rattle.asm_listing.proofs.Ranges.{length-range, get_or-range}
+use Rattle.asm_core.proofs.Cells.{length-range, get_or-range}
 use Rattle.asm_listing.proofs.Starts.{starts-first}
 use Rattle.asm_listing.proofs.Values.{no_names}
 use Rattle.asm_listing.proofs.Makes.{Makes, origin_makes}

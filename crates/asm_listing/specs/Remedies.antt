@@ -1,5 +1,5 @@
 -- What to write in place of a culprit that is a habit of other assemblers.
-use Rattle.std.specs.Prelude.{◌==◌, ◌&&◌, ◌||◌, ◌-◌, ℕ, Bool, List, [], ◌∷◌, ◌++◌, length, take, drop, codes, slice_index, min, nat_lt, if◌then◌else◌, Option, None, Some, is_ok, option_map}
+use Rattle.std.specs.Prelude.{◌==◌, ◌&&◌, ◌||◌, ℕ, Bool, List, [], ◌∷◌, ◌++◌, length, take, drop, codes, slice_index, min, nat_lt, if◌then◌else◌, Option, None, Some, is_ok, option_map}
 use Rattle.std.specs.List.{list_all}
 use Rattle.std.specs.Map.{lookup}
 use Rattle.std.specs.Option.{option_or}

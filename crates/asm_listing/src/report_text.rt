@@ -2,17 +2,16 @@
 
 ghost use Rattle.std.specs.Prelude.{◌≡◌, ◌++◌, ◌≤◌, ◌<◌, ℕ, List, [], length, slice_index_or, is_some, None, IfOk, IfErr, OnOk};
 ghost use Rattle.std.specs.List.{list_any};
-ghost use Rattle.asm_lex.specs.Notes.{note_in};
 ghost use Rattle.std.specs.Option.{option_map, option_map_or};
 ghost use Rattle.asm_core.specs.Limits.{most_bytes};
 ghost use Rattle.asm_core.specs.Sources.{source_lines};
-ghost use Rattle.asm_core.specs.Told.{AreTold, AgreesWithFaults};
+ghost use Rattle.asm_core.specs.Told.{AreTold, AreNoted, AgreesWithFaults};
 ghost use Rattle.asm_listing.specs.Told.{shown_byte, shown, line_text, remark_text, start_at, bytes_at, finding_text, note_text, told_text, report_of, has_told};
 
 use crate::remedies::remedy;
 use crate::write::{append, append_each};
-use asm_core::{AsmFault, Finding, check, next_line};
-use asm_lex::{Isa, Place, Symbols, note_in};
+use asm_core::{AsmFault, Finding, Told, check, next_line};
+use asm_lex::{Isa, Place};
 use itoa::Buffer as Digits;
 use std::alloc::{AllocError, Global};
 use vip_byte::hex2;
@@ -163,20 +162,17 @@ fn append_fault(
     }
 }
 
-// The note of a line, if it has one.
 fn append_note_of(
     alloc: Global,
     text: &mut Vec<u8>,
-    isa: Isa,
     name: &[u8],
     number: u32,
     line: &[u8],
+    note: Option<Place>,
 ) -> Result<(), AllocError>
-    ensures { OnOk result (text.new.items ≡ text.old.items
-        ++ option_map_or (note_text name.now number line.now) (note_in isa (λ name. None) line.now) []) }
+    ensures { OnOk result (text.new.items ≡ text.old.items ++ option_map_or (note_text name.now number line.now) note []) }
 {
-    let names = Symbols::new(alloc);
-    match note_in(isa, &names, line) {
+    match note {
         Some(place) => append_note(alloc, text, name, number, line, place),
         None => Ok(()),
     }
@@ -192,11 +188,12 @@ fn append_told(
     number: u32,
     line: &[u8],
     finding: Option<Finding>,
+    note: Option<Place>,
 ) -> Result<(), AllocError>
-    ensures { OnOk result (text.new.items ≡ text.old.items ++ told_text isa name.now number line.now finding) }
+    ensures { OnOk result (text.new.items ≡ text.old.items ++ told_text isa name.now number line.now finding note) }
 {
     append_fault(alloc, text, isa, name, number, line, finding)?;
-    append_note_of(alloc, text, isa, name, number, line)
+    append_note_of(alloc, text, name, number, line, note)
 }
 
 /// What is told of a source.
@@ -208,11 +205,12 @@ pub struct CheckText {
     pub faulty: bool,
 }
 
-fn finding_at(found: &[Option<Finding>], index: usize) -> Option<Finding>
-    requires { index < length found.now }
-    ensures { result ≡ slice_index_or found.now index None }
+// What is told of the line at a place, where it is a fault or a note.
+fn told_at<T: Copy>(told: &[Option<T>], index: usize) -> Option<T>
+    requires { index < length told.now }
+    ensures { result ≡ slice_index_or told.now index None }
 {
-    found[index]
+    told[index]
 }
 
 fn text_of(
@@ -220,18 +218,31 @@ fn text_of(
     isa: Isa,
     name: &[u8],
     text: &[u8],
-    found: &[Option<Finding>],
+    told: &Told,
 ) -> Result<Vec<u8>, AllocError>
     requires text { length text.now ≤ most_bytes }
-    requires found { AreTold isa (source_lines text.now) found.now }
+    requires told { AreTold isa (source_lines text.now) told.now.findings.items }
+    requires noted { AreNoted isa (source_lines text.now) told.now.notes.items }
     ensures { IfOk result (λ report. report.items ≡ report_of isa name.now (source_lines text.now)) }
 {
+    let findings = told.findings.as_slice();
+    let notes = told.notes.as_slice();
     let mut report = Vec::new(alloc);
     let mut number: u32 = 0;
     let mut rest = text;
     while let Some((line, more)) = next_line(rest) {
-        let finding = finding_at(found, number as usize);
-        append_told(alloc, &mut report, isa, name, number + 1, line, finding)?;
+        let finding = told_at(findings, number as usize);
+        let note = told_at(notes, number as usize);
+        append_told(
+            alloc,
+            &mut report,
+            isa,
+            name,
+            number + 1,
+            line,
+            finding,
+            note,
+        )?;
         number += 1;
         rest = more;
     }
@@ -258,12 +269,11 @@ pub fn report(alloc: Global, isa: Isa, name: &[u8], text: &[u8]) -> Result<Check
     ensures agrees { AgreesWithFaults isa (source_lines text.now) }
     ensures memory { IfErr result (λ fault. fault ≡ AsmFault.NoMemory) }
 {
-    let found = check(alloc, isa, text)?;
-    let found = found.as_slice();
-    match text_of(alloc, isa, name, text, found) {
-        Ok(report) => Ok(CheckText {
-            text: report,
-            faulty: has_told(found),
+    let told = check(alloc, isa, text)?;
+    match text_of(alloc, isa, name, text, &told) {
+        Ok(text) => Ok(CheckText {
+            text,
+            faulty: has_told(told.findings.as_slice()),
         }),
         Err(_) => Err(AsmFault::NoMemory),
     }

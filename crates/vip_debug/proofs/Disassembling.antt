@@ -14,7 +14,8 @@ use Rattle.asm_lex.specs.declared.shape.Isa.TheVariants.{Cdp1802}
 use Rattle.asm_listing.specs.Disassembly.{data_text, opcode_in, size_in, is_data, taken, first_line, ended_line, starts}
 use Rattle.asm_listing.specs.Dump.{newline}
 use Rattle.asm_listing.proofs.FirstLines.{taken_some, taken_within}
-use Rattle.asm_listing.proofs.Ranges.{length-range, drop-range}
+use Rattle.asm_core.proofs.Cells.{length-range}
+use Rattle.asm_listing.proofs.Ranges.{drop-range}
 use Rattle.asm_listing.proofs.Starts.{starts-first}
 use Rattle.vip_outside.specs.Sink.{SinkMeaning}
 use Rattle.vip_outside.specs.Pieces.{PutsAll, FailsWithin, StreamAnswers}

@@ -6,8 +6,7 @@ use Rattle.asm_lex.specs.Names.{value_in}
 use Rattle.asm_core.specs.Encoding.{encoded}
 use Rattle.asm_core.specs.Sources.{source_lines, line_at, names_before, address_of}
 use Rattle.asm_core.specs.Passes.{planned, word_at}
-use Rattle.asm_core.specs.Surveys.{IsEachOf}
-use Rattle.asm_core.specs.Told.{told_2}
+use Rattle.asm_core.specs.Told.{told_2, IsEachOf}
 use Rattle.asm_core.proofs.PassOne.{line_here, no_line}
 use Rattle.asm_core.proofs.PassTwo.{bytes_fit}
 use Rattle.asm_core.proofs.Surveys.{told_there, kept_more, kept_none, each-none, each-more}

@@ -1,7 +1,6 @@
 use Rattle.std.proofs.Common.{◌≡◌, ◌≤◌, ◌+◌, ℕ, length, drop}
 use Rattle.asm_core.specs.Sources.{source_lines}
-use Rattle.asm_core.specs.Surveys.{IsEachOf}
-use Rattle.asm_core.specs.Told.{kept_before, told_2}
+use Rattle.asm_core.specs.Told.{kept_before, told_2, IsEachOf}
 use Rattle.asm_core.proofs.Cells.{entry}
 use Rattle.asm_core.proofs.findings.survey_2.Given as goal
 

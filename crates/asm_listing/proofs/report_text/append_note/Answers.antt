@@ -1,4 +1,4 @@
-use Rattle.std.proofs.Common.{◌≡◌, ◌+◌, ◌++◌, ◌∙◌, ℕ, List, Some, ap}
+use Rattle.std.proofs.Common.{◌+◌, ◌++◌, ◌∙◌, ℕ, List, Some, ap}
 use Rattle.std.specs.Prelude.{codes}
 use Rattle.asm_listing.specs.Told.{line_text, start_at, bytes_at}
 use Rattle.asm_listing.proofs.Texts.{on_ok}
